@@ -160,14 +160,14 @@ def words_rt(groups, single, alone):
     for name, row in single.items():
         if "words" in row:
             lines += [f"pub const {low(name).upper()}: &str = {string(row['words'])};", ""]
-    lines += ["/// What stands behind the front of a content that has words alone.", "#[derive(Clone, Copy, PartialEq, Eq)]", "pub enum Behind {",
+    lines += ["/// What stands behind the front of a content that has words alone.", "#[derive(Clone, Copy, PartialEq, Eq)]", "pub enum ContentTail {",
               "    /// Nothing.", "    Bare,", "    /// `;` and a text.", "    OneText,", "    /// Nothing, or `;` and a text.", "    Several,",
               "    /// Nothing, or `=` and a text.", "    Value,", "    /// A text at once.", "    Rest,",
               "    /// A text at once, which is all that is behind the number.", "    Whole,", "}", "",
               "/// What a content begins with that has words alone, what stands behind that, and the words. The first that fits is told.",
-              f"pub static ALONE: [(&[u8], Behind, &str); {len(alone)}] = ["]
+              f"pub static ALONE: [(&[u8], ContentTail, &str); {len(alone)}] = ["]
     for begins, row in alone.items():
-        cells = [f"b{string(begins)}", f"Behind::{row['form']}", string(row["words"])]
+        cells = [f"b{string(begins)}", f"ContentTail::{row['form']}", string(row["words"])]
         lines += pair(*cells)
     return "\n".join([*lines, "];"]) + "\n"
 

@@ -68,8 +68,8 @@ SECTIONS = {
     10228: "What keyboards, mice and what is pasted send.",
 }
 ARRAYS = (
-    ("FORMS", "Form", "form", "The form of each row."),
-    ("SLOTS", "[Slot; MOST]", "numbers", "The slots of each row, at the same place."),
+    ("FORMS", "SequenceForm", "form", "The form of each row."),
+    ("SLOTS", "[NumberSlot; MOST]", "numbers", "The slots of each row, at the same place."),
     ("NAMES", "&str", "name", "The name of each row, at the same place."),
     ("MEANINGS", "&str", "meaning", "What each row means, at the same place."),
     ("SOURCES", "&str", "source", "The source of each row, at the same place."),
@@ -100,7 +100,7 @@ def row_text(row):
 def rows_text(rows, start, about):
     head = f"""{first_line(TABLE)}//! {about}
 
-use crate::row::{{Form, MOST, Slot}};
+use crate::row::{{MOST, NumberSlot, SequenceForm}};
 use crate::rows::END;
 
 /// The rows, of each of which a macro makes its part.
@@ -124,7 +124,7 @@ PAGE = """# Control sequences without an action
 This page is for you if you look up a control sequence that is no action of the codec. [SPECIFICATION](SPECIFICATION.md#forms-by-final)
 has the others, and [MODES](MODES.md) and [SGR](SGR.md) the numbers before `h`, `l` and `m`.
 
-These are the rows that `Known` of csicodec_sequences reads. `tools/table` writes them from `table/sequences.toml`. The form is what stands
+These are the rows that `KnownSequence` of csicodec_sequences reads. `tools/table` writes them from `table/sequences.toml`. The form is what stands
 behind `CSI`. In it `..` is a number that may follow again, up to 12 in all.
 
 Two kinds of list aren't among them. These are kitty's keys with parts behind colons or with text, and modes from 65536 on, whose lists are

@@ -86,7 +86,7 @@ ALONE = """\
 
 /// What a number sets alone: the kind of its struct (`enum csicodec_kind`), 0 where it sets nothing, and the two numbers of that.
 #[derive(Clone, Copy)]
-pub(crate) struct Alone(pub u8, pub u8, pub u8);
+pub(crate) struct StyleRow(pub u8, pub u8, pub u8);
 
 """
 
@@ -240,8 +240,8 @@ def attributes(table):
 
 
 def alone(table):
-    rows = [["    Alone(%d, %d, %d)," % (table.sets[place].struct() if place in table.sets else (0, 0, 0))] for place in table.places]
-    return ALONE + array(f"What each number from 0 to {table.places[-1]} sets, where no `:` is behind it.", "STYLES", "Alone", rows)
+    rows = [["    StyleRow(%d, %d, %d)," % (table.sets[place].struct() if place in table.sets else (0, 0, 0))] for place in table.places]
+    return ALONE + array(f"What each number from 0 to {table.places[-1]} sets, where no `:` is behind it.", "STYLES", "StyleRow", rows)
 
 
 def arms(table):

@@ -16,8 +16,8 @@ use Rattle.csicodec_base.specs.declared.sgr.Sgr.{Sgr}
 use Rattle.csicodec_base.specs.declared.sgr.Sgr.TheVariants as sgr
 use Rattle.csicodec_structs.specs.Rows.{sgr_struct}
 use Rattle.csicodec_structs.specs.Structs.{row}
-use Rattle.csicodec_c.specs.declared.by_number.Alone.{Alone}
-use Rattle.csicodec_c.specs.declared.attributes.Style.{Style}
+use Rattle.csicodec_c.specs.declared.by_number.StyleRow.{StyleRow}
+use Rattle.csicodec_c.specs.declared.attributes.AttributeParts.{AttributeParts}
 use Rattle.csicodec_c.specs.declared.by_number.TheConstants.{STYLES}
 use Rattle.csicodec_c.specs.Private.Short.{Ends, SetsAlone, nothing, plain, style_struct}
 
@@ -66,14 +66,14 @@ sets c (t ∷ more) end = rw end (sets_ended c more)
 -- ---- by its number
 
 -- each row that sets something has the number of a code
-abbrev coded : ℕ → List Alone → Bool
+abbrev coded : ℕ → List StyleRow → Bool
 coded n [] = true
 coded n (r ∷ rows) = (r.0 == 0 || is_some (with_number number_of all_codes (pos n))) && coded (n + 1) rows
 
 all_coded : coded 0 STYLES ≡ true
 all_coded = refl
 
-one_coded : (r : Alone) (b : Bool) → (r.0 == 0 || b) ≡ true → r.0 ≢ 0 → b ≡ true
+one_coded : (r : StyleRow) (b : Bool) → (r.0 == 0 || b) ≡ true → r.0 ≢ 0 → b ≡ true
 one_coded r true e some = refl
 one_coded r false e some = absurd (some (eqb-true _ _ (go (r.0 == 0) e)))
   where
@@ -81,7 +81,7 @@ one_coded r false e some = absurd (some (eqb-true _ _ (go (r.0 == 0) e)))
     go true e = refl
     go false e = cc
 
-coded_at : (n k : ℕ) (rows : List Alone) → coded n rows ≡ true → (get_or rows k nothing).0 ≢ 0 → is_some (with_number number_of all_codes (pos (n + k))) ≡ true
+coded_at : (n k : ℕ) (rows : List StyleRow) → coded n rows ≡ true → (get_or rows k nothing).0 ≢ 0 → is_some (with_number number_of all_codes (pos (n + k))) ≡ true
 coded_at n k [] e some = absurd (some refl)
 coded_at n zero (r ∷ rows) e some =
     let same : n + 0 ≡ n = omega arith in
@@ -90,12 +90,12 @@ coded_at n (suc k) (r ∷ rows) e some =
     let same : n + suc k ≡ n + 1 + k = omega arith in
     rw same (coded_at (n + 1) k rows (and_parts _ (coded (n + 1) rows) e).1 some)
 
-by_code : (c : SgrCode) (n : ℕ) (o : Option Sgr) → set_by c ≡ o → n ≡ number_of c → (get_or STYLES n nothing).0 ≢ 0 → (style : Style)
+by_code : (c : SgrCode) (n : ℕ) (o : Option Sgr) → set_by c ≡ o → n ≡ number_of c → (get_or STYLES n nothing).0 ≢ 0 → (style : AttributeParts)
     → style_struct style ≡ row (get_or STYLES n nothing).0 (pos (get_or STYLES n nothing).1) (pos (get_or STYLES n nothing).2) → SetsAlone n style
 by_code c n None e is some style made = absurd (some (rw is (rw e at (has_row c))))
 by_code c n (Some s) e is some style made = (s, λ more end. rw is (rw e at (sets c more end)), made ∙ rw is (rw e at (has_row c)))
 
-by_number : (n : ℕ) (o : Option SgrCode) → with_number number_of all_codes (pos n) ≡ o → is_some o ≡ true → (get_or STYLES n nothing).0 ≢ 0 → (style : Style)
+by_number : (n : ℕ) (o : Option SgrCode) → with_number number_of all_codes (pos n) ≡ o → is_some o ≡ true → (get_or STYLES n nothing).0 ≢ 0 → (style : AttributeParts)
     → style_struct style ≡ row (get_or STYLES n nothing).0 (pos (get_or STYLES n nothing).1) (pos (get_or STYLES n nothing).2) → SetsAlone n style
 by_number n None e is some style made = cc
 by_number n (Some c) e is some style made = by_code c n (set_by c) refl (number_is n c (listed-number number_of all_codes (pos n) c e)) some style made
@@ -103,7 +103,7 @@ by_number n (Some c) e is some style made = by_code c n (set_by c) refl (number_
     number_is : (n : ℕ) (c : SgrCode) → pos n ≡ pos (number_of c) → n ≡ number_of c
     number_is n c e = cc
 
-pub sets_alone : (n : ℕ) → (get_or STYLES n nothing).0 ≢ 0 → (style : Style)
+pub sets_alone : (n : ℕ) → (get_or STYLES n nothing).0 ≢ 0 → (style : AttributeParts)
     → style ≡ plain (get_or STYLES n nothing).0 (get_or STYLES n nothing).1 (get_or STYLES n nothing).2
     → SetsAlone n style
 sets_alone n some style is =

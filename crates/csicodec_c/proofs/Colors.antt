@@ -15,7 +15,7 @@ use Rattle.csicodec_base.specs.Shapes.{Plane, color_shapes, painted}
 use Rattle.csicodec_base.specs.declared.sgr.Sgr.{Sgr}
 use Rattle.csicodec_base.proofs.CodePieces.{paint}
 use Rattle.csicodec_c.specs.Private.Short.{Ends, IsAttribute, IsColor, IsMark, IsStyled, ReadsOn, SetsAlone}
-use Rattle.csicodec_c.specs.declared.attributes.Style.{Style}
+use Rattle.csicodec_c.specs.declared.attributes.AttributeParts.{AttributeParts}
 
 -- ---- tokens in turn
 
@@ -91,5 +91,5 @@ painted_by plane code front text mid behind n c is first colored = record {
 alone : (text behind : List ℕ) (n : ℕ) (s : Sgr) → IsFirstToken text (Integer (pos n)) behind → ((more : List CsiParam) → Ends more → piece (Integer (pos n) ∷ more) ≡ Some (s, 1)) → IsAttribute text s behind
 alone text behind n s first gives = record { number = n; others = []; reads = one_token text behind (Integer (pos n)) first; gives = gives; even = refl }
 
-pub alone_styled : (text behind : List ℕ) (n : ℕ) (style : Style) → IsFirstToken text (Integer (pos n)) behind → SetsAlone n style → IsStyled text style behind
+pub alone_styled : (text behind : List ℕ) (n : ℕ) (style : AttributeParts) → IsFirstToken text (Integer (pos n)) behind → SetsAlone n style → IsStyled text style behind
 alone_styled text behind n style first (s, gives, same) = (s, alone text behind n s first gives, same)

@@ -28,7 +28,7 @@ use Rattle.csicodec_structs.specs.declared.status.Status.TheVariants as status
 use Rattle.csicodec_structs.proofs.Fronts.{front_answer}
 use Rattle.csicodec_structs.proofs.Laid.{laid_none, lays_more, lays_none}
 use Rattle.csicodec_c.specs.Private.Short.{AreStyles, HasLaid, HasOne, IsRow, ReadsOn, style_struct}
-use Rattle.csicodec_c.specs.declared.attributes.Style.{Style}
+use Rattle.csicodec_c.specs.declared.attributes.AttributeParts.{AttributeParts}
 use Rattle.csicodec_c.proofs.Colors.{has_read_on, one_token, reads_then}
 
 -- ---- rows
@@ -108,7 +108,7 @@ sgr_params : (all : List Sgr) → all_params (map Styled all) ≡ []
 sgr_params [] = refl
 sgr_params (s ∷ all) = sgr_params all
 
-pub styles_laid : (body after : List ℕ) (ao an : List Struct) (styles : List Style) (count : ℕ) → AreStyles body styles after → count ≡ length styles → an ≡ laid ao (map style_struct styles)
+pub styles_laid : (body after : List ℕ) (ao an : List Struct) (styles : List AttributeParts) (count : ℕ) → AreStyles body styles after → count ≡ length styles → an ≡ laid ao (map style_struct styles)
     → HasLaid body ao an count after
 styles_laid body after ao an styles count (all, are, same) long puts = record {
   list = are.list;

@@ -19,7 +19,7 @@ use Rattle.csicodec_parser.specs.declared.group.Group.TheVariants.{Styles}
 use Rattle.csicodec_parser.proofs.Fronts.{front_empty, front_stuck}
 use Rattle.csicodec_structs.specs.Rows.{sgr_struct}
 use Rattle.csicodec_c.specs.Private.Short.{AreAttributes, AreStyles, HasStyled, HasStyles, IsAttribute, IsStyled, ReadsOn, SetsAlone, style_struct}
-use Rattle.csicodec_c.specs.declared.attributes.Style.{Style}
+use Rattle.csicodec_c.specs.declared.attributes.AttributeParts.{AttributeParts}
 use Rattle.csicodec_c.proofs.Colors.{alone_styled, byte_token, has_read_on}
 
 -- ---- blocks
@@ -97,23 +97,23 @@ pub styles_none : (body : List ℕ) → HasStyles body [] body
 styles_none body = ([], styled_none body, refl)
 
 -- one struct more
-both_more : (styles : List Style) (all : List Sgr) (style : Style) (s : Sgr) → map style_struct styles ≡ map sgr_struct all → style_struct style ≡ sgr_struct s
+both_more : (styles : List AttributeParts) (all : List Sgr) (style : AttributeParts) (s : Sgr) → map style_struct styles ≡ map sgr_struct all → style_struct style ≡ sgr_struct s
     → map style_struct (styles ++ style ∷ []) ≡ map sgr_struct (all ++ s ∷ [])
 both_more styles all style s same one = rw (map-append style_struct styles (style ∷ []), map-append sgr_struct all (s ∷ []), same, one) refl
 
-pub styles_more : (body rest behind others : List ℕ) (styles : List Style) (style : Style) → HasStyles body styles rest → IsStyled rest style behind → behind ≡ 59 ∷ others
+pub styles_more : (body rest behind others : List ℕ) (styles : List AttributeParts) (style : AttributeParts) → HasStyles body styles rest → IsStyled rest style behind → behind ≡ 59 ∷ others
     → HasStyles body (styles ++ style ∷ []) others
 styles_more body rest behind others styles style (all, has, same) (s, one, made) e = (all ++ s ∷ [], styled_more body rest behind others all s has one e, both_more styles all style s same made)
 
-pub styles_all : (body rest behind after : List ℕ) (styles : List Style) (style : Style) → HasStyles body styles rest → IsStyled rest style behind → behind ≡ 109 ∷ after
+pub styles_all : (body rest behind after : List ℕ) (styles : List AttributeParts) (style : AttributeParts) → HasStyles body styles rest → IsStyled rest style behind → behind ≡ 109 ∷ after
     → AreStyles body (styles ++ style ∷ []) after
 styles_all body rest behind after styles style (all, has, same) (s, one, made) e = (all ++ s ∷ [], styled_all body rest behind after all s has one e, both_more styles all style s same made)
 
 -- in place of an attribute that isn't there
-abbrev pub no_style : Style
+abbrev pub no_style : AttributeParts
 no_style = record { kind = 0; first = 0; second = 0; red = 0; green = 0; blue = 0; alpha = 0 }
 
-pub two_styles : (body text behind after : List ℕ) (a b : ℕ) (one two : Style) → ReadsOn body (Integer (pos a) ∷ P 59 ∷ []) text → IsFirstToken text (Integer (pos b)) behind
+pub two_styles : (body text behind after : List ℕ) (a b : ℕ) (one two : AttributeParts) → ReadsOn body (Integer (pos a) ∷ P 59 ∷ []) text → IsFirstToken text (Integer (pos b)) behind
     → SetsAlone a one → SetsAlone b two → behind ≡ 109 ∷ after → AreStyles body (one ∷ two ∷ []) after
 two_styles body text behind after a b one two (mid, first, (next, mark, last)) second sets also e =
     styles_all body text behind after (one ∷ []) two

@@ -14,7 +14,7 @@ use Rattle.csicodec_events.specs.declared.event.Event.TheVariants as event
 use Rattle.csicodec_events.specs.declared.event.Events.{Events}
 use Rattle.csicodec_events.specs.Events.{BeginsCsi, onward, without_controls}
 use Rattle.csicodec_events.proofs.Sequences.{at_once}
-use Rattle.csicodec_structs.specs.declared.next.Front.{Front}
+use Rattle.csicodec_structs.specs.declared.next.NextSequence.{NextSequence}
 use Rattle.csicodec_structs.specs.declared.structs.Param.{Param}
 use Rattle.csicodec_structs.specs.declared.structs.Struct.{Struct}
 use Rattle.csicodec_structs.specs.Next.{IsDone as IsLaid, IsRefused as IsUnlaid, refusal}
@@ -32,21 +32,21 @@ no_done (reading.Truncated at) e = omega (arith, e)
 no_done reading.Memory e = omega (arith, e)
 
 -- it was laid where the status says so
-pub laid : (bytes : List ℕ) (a b : List Struct) (p q : List Param) (front : Front) → (IsLaid bytes a b p q front ⊎ IsUnlaid bytes a b p q front) → front.status ≡ 0 → IsLaid bytes a b p q front
+pub laid : (bytes : List ℕ) (a b : List Struct) (p q : List Param) (front : NextSequence) → (IsLaid bytes a b p q front ⊎ IsUnlaid bytes a b p q front) → front.status ≡ 0 → IsLaid bytes a b p q front
 laid bytes a b p q front (inl d) ok = d
-laid bytes a b p q front (inr r) ok = absurd (no_done r.error (ap (λ (f : Front). f.status) (sym r.tells) ∙ ok))
+laid bytes a b p q front (inr r) ok = absurd (no_done r.error (ap (λ (f : NextSequence). f.status) (sym r.tells) ∙ ok))
 
 -- and nothing was where it says neither this nor that memory ran out
-pub unlaid : (bytes : List ℕ) (a b : List Struct) (p q : List Param) (front : Front) → (IsLaid bytes a b p q front ⊎ IsUnlaid bytes a b p q front) → (front.status ≡ 0 → ⊥) → (front.status ≡ 5 → ⊥)
+pub unlaid : (bytes : List ℕ) (a b : List Struct) (p q : List Param) (front : NextSequence) → (IsLaid bytes a b p q front ⊎ IsUnlaid bytes a b p q front) → (front.status ≡ 0 → ⊥) → (front.status ≡ 5 → ⊥)
     → (b ≡ a) × (q ≡ p)
 unlaid bytes a b p q front (inl d) done memory = absurd (done d.ok)
 unlaid bytes a b p q front (inr r) done memory =
-    let other : r.error ≡ reading.Memory → ⊥ = λ m. memory (ap (λ (f : Front). f.status) r.tells ∙ ap (λ (x : ReadError). (refusal x).status) m) in
+    let other : r.error ≡ reading.Memory → ⊥ = λ m. memory (ap (λ (f : NextSequence). f.status) r.tells ∙ ap (λ (x : ReadError). (refusal x).status) m) in
     (r.actions_stay other, r.params_stay other)
 
 -- ---- a sequence whose controls were left out
 
-pub put_read : (read bytes : List ℕ) (list : List CsiParam) (final : ℕ) (a b : List Struct) (p q : List Param) (front : Front) → read ≡ without_controls bytes → Seq (without_controls bytes) list final
+pub put_read : (read bytes : List ℕ) (list : List CsiParam) (final : ℕ) (a b : List Struct) (p q : List Param) (front : NextSequence) → read ≡ without_controls bytes → Seq (without_controls bytes) list final
     → IsLaid read a b p q front → HasPut list final a b p q front.actions front.params
 put_read read bytes list final a b p q front is s d =
     let f = d.front in
@@ -57,7 +57,7 @@ put_read read bytes list final a b p q front is s d =
 
 -- ---- a sequence that is read at once
 
-pub read_done : (number limit looked : ℕ) (bytes near : List ℕ) (m : Mode) (a b : List Struct) (p q : List Param) (front : Front) (answer : Evented) → number ≡ mode_number m → looked ≡ 0 → BeginsCsi bytes
+pub read_done : (number limit looked : ℕ) (bytes near : List ℕ) (m : Mode) (a b : List Struct) (p q : List Param) (front : NextSequence) (answer : Evented) → number ≡ mode_number m → looked ≡ 0 → BeginsCsi bytes
     → near ≡ take limit bytes → IsLaid near a b p q front → answer ≡ read_at_once front → IsDone number limit looked bytes a b p q answer
 read_done number limit looked bytes near m a b p q front answer began none begins is laid e =
     let d = subst (λ (x : List ℕ). IsLaid x a b p q front) is laid in

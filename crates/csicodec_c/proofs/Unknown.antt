@@ -7,7 +7,7 @@ use Rattle.std.proofs.lemmas.List.Elements.{All-get_or, All-push}
 use Rattle.csicodec_tokens.specs.declared.param.CsiParam.{CsiParam}
 use Rattle.csicodec_tokens.specs.declared.param.CsiParam.TheVariants.{Integer, P}
 use Rattle.csicodec_actions.specs.Actions.{Unspecified}
-use Rattle.csicodec_sequences.specs.declared.row.Form.{Form}
+use Rattle.csicodec_sequences.specs.declared.row.SequenceForm.{SequenceForm}
 use Rattle.csicodec_sequences.specs.Known.{reading}
 use Rattle.csicodec_sequences.proofs.Longest.{longest}
 use Rattle.csicodec_structs.specs.declared.structs.Param.{Param}
@@ -74,7 +74,7 @@ one-reading given params xs ys final other s t =
 pub too-long : (list : List CsiParam) (final : ℕ) → 26 < length list → reading list final ≡ None
 too-long list final long = go (reading list final) refl
   where
-    go : (o : Option (Form × List ℕ)) → reading list final ≡ o → o ≡ None
+    go : (o : Option (SequenceForm × List ℕ)) → reading list final ≡ o → o ≡ None
     go None e = refl
     go (Some known) e = (let few = longest list final known e in absurd (omega (arith, long, few)))
 

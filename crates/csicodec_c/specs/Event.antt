@@ -8,7 +8,7 @@ use Rattle.csicodec_events.specs.declared.event.Event.{Event}
 use Rattle.csicodec_events.specs.declared.event.Event.TheVariants as event
 use Rattle.csicodec_events.specs.declared.event.Events.{Events}
 use Rattle.csicodec_events.specs.Events.{IsMet, IsTold, Waits}
-use Rattle.csicodec_structs.specs.declared.next.Front.{Front}
+use Rattle.csicodec_structs.specs.declared.next.NextSequence.{NextSequence}
 use Rattle.csicodec_structs.specs.declared.structs.Param.{Param}
 use Rattle.csicodec_structs.specs.declared.structs.Struct.{Struct}
 use Rattle.csicodec_structs.specs.Next.{Lays}
@@ -39,7 +39,7 @@ answered why kind after used =
     record { status = status_number why; kind = kind; mode = mode_number after.mode; looked = after.looked; used = used; actions = 0; params = 0 }
 
 -- a sequence behind which nothing is open
-abbrev pub read_at_once : Front → Evented
+abbrev pub read_at_once : NextSequence → Evented
 read_at_once front =
     record { status = status_number status.Done; kind = 2; mode = 0; looked = 0; used = front.used; actions = front.actions; params = front.params }
 

@@ -11,7 +11,7 @@ use Rattle.csicodec_overwrite.specs.Paint.{as_text}
 use Rattle.csicodec_overwrite.specs.Reading.{Paints, Shows}
 use Rattle.csicodec_structs.specs.Room.{Fills}
 use Rattle.csicodec_structs.specs.declared.status.Status.TheVariants as status
-use Rattle.csicodec_c.specs.declared.html.Asked.{Asked}
+use Rattle.csicodec_c.specs.declared.html.PageSettings.{PageSettings}
 use Rattle.csicodec_c.specs.declared.html.Choices.{Choices}
 use Rattle.csicodec_c.specs.declared.strip.Stripped.{Stripped}
 use Rattle.csicodec_c.specs.Strip.{bit, refused, stripped}
@@ -26,7 +26,7 @@ palette_of numbers =
     if length numbers == 0 then Some simple.palette else given_palette (map color_of numbers)
 
 -- what is asked for, by its numbers
-abbrev pub IsAsked : Choices → Palette → Asked → Type 0
+abbrev pub IsAsked : Choices → Palette → PageSettings → Type 0
 IsAsked choices palette asked = (choices.links ≡ bit asked.markup.links)
     × (choices.classes ≡ bit asked.markup.classes) × (choices.fragment ≡ bit asked.fragment)
     × (choices.no_overwrite ≡ bit asked.no_overwrite) × (palette ≡ asked.markup.palette)
@@ -37,7 +37,7 @@ IsPiece true m bytes piece = PageWith m bytes piece
 IsPiece false m bytes piece = (painted : List ℕ) × Paints bytes painted × PageWith m painted piece
 
 -- links are kept by the first alone
-abbrev pub IsPieceOf : Asked → List ℕ → List ℕ → Type 0
+abbrev pub IsPieceOf : PageSettings → List ℕ → List ℕ → Type 0
 IsPieceOf asked bytes piece =
     IsPiece (asked.no_overwrite || asked.markup.links) asked.markup bytes piece
 
@@ -53,7 +53,7 @@ IsFramed true Whole piece page = page ≡ piece
 IsFramed false Whole piece page = Whole piece page
 
 -- the length of the page, which is put where it fits; its piece has text that is shown, escaped, and tags in pairs
-pub record IsPut (Whole : List ℕ → List ℕ → Type 0) (asked : Asked) (bytes old new : List ℕ)
+pub record IsPut (Whole : List ℕ → List ℕ → Type 0) (asked : PageSettings) (bytes old new : List ℕ)
     (answer : Stripped) : Type 0 where
   pub piece : List ℕ
   pub page : List ℕ
@@ -67,14 +67,14 @@ pub record IsPut (Whole : List ℕ → List ℕ → Type 0) (asked : Asked) (byt
 abbrev pub IsHtml : (Markup → List ℕ → List ℕ → Type 0) → Choices → List ℕ → List ℕ → List ℕ
     → List ℕ → Stripped → Type 0
 IsHtml Whole choices colors bytes old new answer =
-    (palette : Palette) × (asked : Asked) × (palette_of colors ≡ Some palette)
+    (palette : Palette) × (asked : PageSettings) × (palette_of colors ≡ Some palette)
     × IsAsked choices palette asked × IsPut (Whole asked.markup) asked bytes old new answer
 
 -- or memory ran out, or nothing is asked for by them, and then nothing is put
 pub record IsHtmlRefused (choices : Choices) (colors old new : List ℕ) (answer : Stripped) : Type 0 where
   pub why : (answer ≡ refused status.Memory)
       ⊎ ((answer ≡ refused status.BadState)
-      × ((palette : Palette) (asked : Asked) → palette_of colors ≡ Some palette → IsAsked choices palette asked → ⊥))
+      × ((palette : Palette) (asked : PageSettings) → palette_of colors ≡ Some palette → IsAsked choices palette asked → ⊥))
   pub same : new ≡ old
 
 -- the length of the lines, each as it stands when it ends, as plain text or painted, which are put where they fit

@@ -20,7 +20,7 @@ use Rattle.csicodec_structs.specs.Room.{Fills}
 use Rattle.csicodec_structs.specs.Status.{status_number}
 use Rattle.csicodec_structs.specs.declared.status.Status.{Status}
 use Rattle.csicodec_structs.specs.declared.status.Status.TheVariants as status
-use Rattle.csicodec_c.specs.declared.key.Keyed.{Keyed}
+use Rattle.csicodec_c.specs.declared.key.FrontKey.{FrontKey}
 
 -- the numbers of `enum csicodec_key_event`
 abbrev pub happens : KeyEvent → ℕ
@@ -48,7 +48,7 @@ abbrev pub used_by : InputEvent → List ℕ → ℕ
 used_by (input.Output event.Text) bytes = (decoded bytes).size
 used_by sent bytes = length bytes
 
-abbrev pub told : Encoding → Stroke → ℕ → Keyed
+abbrev pub told : Encoding → Stroke → ℕ → FrontKey
 told e s used = record {
   status = status_number status.Done;
   code = code_tag s.code;
@@ -61,7 +61,7 @@ told e s used = record {
 }
 
 -- without a key
-abbrev pub without : Status → ℕ → Keyed
+abbrev pub without : Status → ℕ → FrontKey
 without why used = record { status = status_number why; code = 0; value = 0; modifiers = 0; event = 0; encoding = 0; typed = 0; used = used }
 
 -- a stream of which nothing came before
@@ -77,17 +77,17 @@ IsFirst more limit bytes sent text list looked = (rest : List ℕ) × (after : E
     ⊎ ((more ≡ 0) × IsSentBy (paused bytes) (fresh limit) bytes sent text rest list after))
 
 -- its key, and the characters that it types, which are put where they fit; or it is none, and nothing is put
-abbrev pub IsRead : Option (Encoding × Stroke) → ℕ → List ℕ → List ℕ → Keyed → Type 0
+abbrev pub IsRead : Option (Encoding × Stroke) → ℕ → List ℕ → List ℕ → FrontKey → Type 0
 IsRead (Some (e, s)) used old new answer = (answer ≡ told e s used) × Fills old new s.text
 IsRead None used old new answer = (answer ≡ without status.NoAction used) × (new ≡ old)
 
 -- the same of an event; one that has no bytes is a control within a sequence that isn't over, and up to that control they are no key
-abbrev pub Answers : InputEvent → List CsiParam → List ℕ → ℕ → List ℕ → List ℕ → Keyed → Type 0
+abbrev pub Answers : InputEvent → List CsiParam → List ℕ → ℕ → List ℕ → List ℕ → FrontKey → Type 0
 Answers sent list [] looked old new answer = IsRead None looked old new answer
 Answers sent list (b ∷ text) looked old new answer =
     IsRead (key_of sent list (b ∷ text)) (used_by sent (b ∷ text)) old new answer
 
-pub record IsKey (more limit : ℕ) (bytes old new : List ℕ) (answer : Keyed) : Type 0 where
+pub record IsKey (more limit : ℕ) (bytes old new : List ℕ) (answer : FrontKey) : Type 0 where
   pub sent : InputEvent
   pub text : List ℕ
   pub list : List CsiParam
@@ -103,7 +103,7 @@ pub record IsOpen (more limit : ℕ) (bytes : List ℕ) : Type 0 where
       → IsSentBy (paused bytes) (fresh limit) bytes sent text rest [] last → ⊥
 
 -- or memory ran out, or it is open, and nothing is put
-pub record IsNoKey (more limit : ℕ) (bytes old new : List ℕ) (answer : Keyed) : Type 0 where
+pub record IsNoKey (more limit : ℕ) (bytes old new : List ℕ) (answer : FrontKey) : Type 0 where
   pub why : (answer ≡ without status.Memory 0)
       ⊎ ((answer ≡ without status.Truncated 0) × IsOpen more limit bytes)
   pub same : new ≡ old

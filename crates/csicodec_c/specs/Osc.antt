@@ -4,7 +4,7 @@ use Rattle.csicodec_osc.specs.declared.osc.Osc.{Osc}
 use Rattle.csicodec_osc.specs.declared.osc.Osc.TheVariants as osc
 use Rattle.csicodec_osc.specs.Osc.{Says, asked_text, list_text, said, value_of}
 use Rattle.csicodec_c.specs.declared.osc.Commanded.{Commanded}
-use Rattle.csicodec_c.specs.OscKinds.{clipboard_kind, dynamic_kind, dynamic_reset_kind, editor_mark_kind, folder_kind, kitty_notice_kind, link_kind, mark_kind, notice_kind, palette_kind, palette_reset_kind, pointer_kind, progress_kind, title_kind, titled_notice_kind}
+use Rattle.csicodec_c.specs.OscKinds.{clipboard_kind, dynamic_kind, dynamic_reset_kind, editor_mark_kind, folder_kind, kitty_notice_kind, link_kind, mark_kind, notice_kind, color_table_kind, color_table_reset_kind, pointer_kind, progress_kind, title_kind, titled_notice_kind}
 
 -- a command with a text that ends the content, which has so many bytes
 abbrev pub one : ℕ → ℕ → List ℕ → Commanded
@@ -21,9 +21,9 @@ with_fields len kind None = record { kind = kind; texts = 0; first = len; second
 
 abbrev pub told : ℕ → Osc → Commanded
 told len (osc.Title t text) = one len (title_kind t) text.now
-told len (osc.Colors p list) = with_fields len (palette_kind p) (list_text list)
+told len (osc.Colors p list) = with_fields len (color_table_kind p) (list_text list)
 told len (osc.Color d list) = with_fields len (dynamic_kind d) (list_text list)
-told len (osc.ResetColors p list) = with_fields len (palette_reset_kind p) (list_text list)
+told len (osc.ResetColors p list) = with_fields len (color_table_reset_kind p) (list_text list)
 told len (osc.ResetColor d list) = with_fields len (dynamic_reset_kind d) (list_text list)
 told len (osc.Link params address) = two len link_kind params.now address.now
 told len (osc.Clipboard selection content) = two len clipboard_kind selection.now (asked_text (value_of content))

@@ -3,8 +3,8 @@
 use Rattle.std.specs.Prelude.{ℕ}
 use Rattle.csicodec_osc.specs.declared.command.Title.{Title}
 use Rattle.csicodec_osc.specs.declared.command.Title.TheVariants as title
-use Rattle.csicodec_osc.specs.declared.command.Palette.{Palette}
-use Rattle.csicodec_osc.specs.declared.command.Palette.TheVariants as palette
+use Rattle.csicodec_osc.specs.declared.command.ColorTable.{ColorTable}
+use Rattle.csicodec_osc.specs.declared.command.ColorTable.TheVariants as color_table
 use Rattle.csicodec_osc.specs.declared.command.Dynamic.{Dynamic}
 use Rattle.csicodec_osc.specs.declared.command.Dynamic.TheVariants as dynamic
 use Rattle.csicodec_osc.specs.declared.command.Folder.{Folder}
@@ -21,13 +21,13 @@ title_kind title.Both = 16
 title_kind title.Icon = 17
 title_kind title.Window = 18
 
-abbrev pub palette_kind : Palette → ℕ
-palette_kind palette.Indexed = 32
-palette_kind palette.Special = 33
+abbrev pub color_table_kind : ColorTable → ℕ
+color_table_kind color_table.Indexed = 32
+color_table_kind color_table.Special = 33
 
-abbrev pub palette_reset_kind : Palette → ℕ
-palette_reset_kind palette.Indexed = 48
-palette_reset_kind palette.Special = 49
+abbrev pub color_table_reset_kind : ColorTable → ℕ
+color_table_reset_kind color_table.Indexed = 48
+color_table_reset_kind color_table.Special = 49
 
 abbrev pub dynamic_kind : Dynamic → ℕ
 dynamic_kind dynamic.Foreground = 64

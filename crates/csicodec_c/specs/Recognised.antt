@@ -3,7 +3,7 @@ use Rattle.std.specs.Prelude.{ℕ, ◌≡◌, ◌-◌, ◌++◌, false, List, []
 use Rattle.std.specs.List.{All}
 use Rattle.csicodec_tokens.specs.declared.param.CsiParam.{CsiParam}
 use Rattle.csicodec_actions.specs.Actions.{Unspecified}
-use Rattle.csicodec_sequences.specs.declared.row.Form.{Form}
+use Rattle.csicodec_sequences.specs.declared.row.SequenceForm.{SequenceForm}
 use Rattle.csicodec_sequences.specs.Known.{reading}
 use Rattle.csicodec_structs.specs.declared.structs.Param.{Param}
 use Rattle.csicodec_structs.specs.declared.structs.Struct.{Struct}
@@ -21,7 +21,7 @@ recognised kind values =
 pub record IsKnown (given : Struct) (params : List Param) (answer : Recognised) : Type 0 where
   pub list : List CsiParam
   pub final : ℕ
-  pub form : Form
+  pub form : SequenceForm
   pub values : List ℕ
   pub stands : Stands given params (Unspecified list false final)
   pub reads : reading list final ≡ Some (form, values)

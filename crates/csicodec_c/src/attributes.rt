@@ -5,7 +5,7 @@ ghost use Rattle.csicodec_tokens.specs.Private.Reading.{IsFirstToken};
 ghost use Rattle.csicodec_c.specs.Private.Short.{IsMark, IsPainted, IsStyled, ReadsOn, SetsAlone, nothing, plain, style_struct};
 ghost use Rattle.csicodec_c.specs.declared.by_number.TheConstants.{STYLES};
 
-use crate::by_number::{Alone, STYLES};
+use crate::by_number::{STYLES, StyleRow};
 use crate::numbers::number_front;
 use csicodec_structs::{Struct, row};
 
@@ -20,7 +20,7 @@ const LINE: u8 = 4;
 
 /// An attribute as its struct has it: its kind, two numbers, and the parts of a true colour.
 #[derive(Clone, Copy)]
-pub(crate) struct Style {
+pub(crate) struct AttributeParts {
     pub kind: u8,
     pub first: u8,
     pub second: u8,
@@ -32,7 +32,7 @@ pub(crate) struct Style {
 
 /// The struct of an attribute.
 #[inline(always)]
-pub(crate) fn style_struct(style: &Style) -> Struct
+pub(crate) fn style_struct(style: &AttributeParts) -> Struct
     ensures { result ≡ style_struct style.now }
 {
     Struct {
@@ -49,7 +49,7 @@ pub(crate) fn style_struct(style: &Style) -> Struct
 }
 
 #[inline(always)]
-fn alone_at(place: usize) -> Alone
+fn alone_at(place: usize) -> StyleRow
     requires { place < 108 }
     ensures { result ≡ get_or STYLES place nothing }
 {
@@ -58,10 +58,10 @@ fn alone_at(place: usize) -> Alone
 
 /// With no true colour.
 #[inline(always)]
-pub(crate) fn plain(kind: u8, first: u8, second: u8) -> Style
+pub(crate) fn plain(kind: u8, first: u8, second: u8) -> AttributeParts
     ensures { result ≡ plain kind first second }
 {
-    Style {
+    AttributeParts {
         kind,
         first,
         second,
@@ -75,13 +75,13 @@ pub(crate) fn plain(kind: u8, first: u8, second: u8) -> Style
 /// The attribute that a number sets, where a `;` or nothing is behind it.
 #[inline(always)]
 #[tactic(auto, using(crate::proofs::Alone::sets_alone))]
-pub(crate) fn style_alone(number: u32) -> Option<Style>
+pub(crate) fn style_alone(number: u32) -> Option<AttributeParts>
     ensures { IfSome result (λ style. SetsAlone number style) }
 {
     if number > 107 {
         return None;
     }
-    let Alone(kind, first, second) = alone_at(number as usize);
+    let StyleRow(kind, first, second) = alone_at(number as usize);
     if kind == 0 {
         return None;
     }
@@ -127,7 +127,7 @@ fn part_front(mark: u8, text: &[u8]) -> Option<(u8, &[u8])>
 
 /// The colour behind its code, with a mark ahead of each part, as an attribute of this kind, and what is behind it.
 #[inline(always)]
-fn color_front(kind: u8, text: &[u8]) -> Option<(Style, &[u8])>
+fn color_front(kind: u8, text: &[u8]) -> Option<(AttributeParts, &[u8])>
     ensures { IfSome result (λ x. IsPainted kind text.now x.0 x.1.now) }
 {
     let mark = mark_front(text)?;
@@ -138,7 +138,7 @@ fn color_front(kind: u8, text: &[u8]) -> Option<(Style, &[u8])>
         2 => {
             let (green, behind) = part_front(mark, behind)?;
             let (blue, behind) = part_front(mark, behind)?;
-            let style = Style {
+            let style = AttributeParts {
                 red: first,
                 green,
                 blue,
@@ -158,7 +158,7 @@ pub(crate) fn style_front<'a>(
     text: &[u8],
     number: u32,
     behind: &'a [u8],
-) -> Option<(Style, &'a [u8])>
+) -> Option<(AttributeParts, &'a [u8])>
     requires { IsFirstToken text.now (Integer (pos number)) behind.now }
     ensures { IfSome result (λ x. IsStyled text.now x.0 x.1.now) }
 {

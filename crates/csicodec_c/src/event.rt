@@ -9,7 +9,7 @@ ghost use Rattle.csicodec_c.specs.Event.{HasPut, IsDone, IsRefused, IsWaiting, a
 use crate::filter::{mode_at, number_of};
 use crate::front::lay_front;
 use csicodec_events::{Event, Events, append_read, begins_csi};
-use csicodec_structs::{Front, Param, Status, Struct};
+use csicodec_structs::{NextSequence, Param, Status, Struct};
 use std::alloc::Global;
 
 /// What comes next in a stream.
@@ -63,7 +63,7 @@ fn answer(status: Status, kind: u32, after: Events, used: usize) -> Evented
 }
 
 /// A sequence that was read at once.
-fn sequence(front: Front) -> Evented
+fn sequence(front: NextSequence) -> Evented
     ensures { result ≡ read_at_once front }
 {
     Evented {
@@ -104,7 +104,7 @@ pub(crate) fn lay_read(
     bytes: &[u8],
     actions: &mut [Struct],
     params: &mut [Param],
-) -> Option<Front>
+) -> Option<NextSequence>
     ensures { (list : List CsiParam) (final : ℕ) → Seq (without_controls bytes.now) list final
         → IfSome result (λ front. HasPut list final actions.old actions.new params.old params.new front.actions front.params) }
 {

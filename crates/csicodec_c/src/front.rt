@@ -11,7 +11,7 @@ use crate::numbers::number_front;
 use crate::row::{lay_row, lay_two};
 use crate::styles::{lay_style, lay_styles, lay_two_styles};
 use csicodec_base::Sgr;
-use csicodec_structs::{Front, Param, Status, Struct, lay_by_tokens, put, sgr_struct};
+use csicodec_structs::{NextSequence, Param, Status, Struct, lay_by_tokens, put, sgr_struct};
 use std::alloc::Global;
 
 /// Puts what a number that was read and the next one, with a `;` between them, do before a final.
@@ -119,7 +119,7 @@ fn lay_long(
     bytes: &[u8],
     actions: &mut [Struct],
     params: &mut [Param],
-    answer: &mut Front,
+    answer: &mut NextSequence,
 )
     ensures { IsDone bytes.now actions.old actions.new params.old params.new answer.new
         ⊎ IsRefused bytes.now actions.old actions.new params.old params.new answer.new }
@@ -129,14 +129,19 @@ fn lay_long(
 
 /// Puts the actions of the sequence at the front, and their tokens, as many as there is room for. Up to 32 tokens take no memory.
 #[inline(always)]
-pub fn lay_front(alloc: Global, bytes: &[u8], actions: &mut [Struct], params: &mut [Param]) -> Front
+pub fn lay_front(
+    alloc: Global,
+    bytes: &[u8],
+    actions: &mut [Struct],
+    params: &mut [Param],
+) -> NextSequence
     ensures { IsDone bytes.now actions.old actions.new params.old params.new result
         ⊎ IsRefused bytes.now actions.old actions.new params.old params.new result }
 {
     if let [0x1b, b'[', body @ ..] = bytes
         && let Some((count, after)) = lay_short(body, actions)
     {
-        return Front {
+        return NextSequence {
             status: Status::Done.number(),
             at: 0,
             used: bytes.len() - after.len(),
@@ -144,7 +149,7 @@ pub fn lay_front(alloc: Global, bytes: &[u8], actions: &mut [Struct], params: &m
             params: 0,
         };
     }
-    let mut answer = Front {
+    let mut answer = NextSequence {
         status: 0,
         at: 0,
         used: 0,

@@ -3,7 +3,7 @@ ghost use Rattle.std.specs.Prelude.{◌≡◌, ◌++◌, ◌⊎◌, List, ℕ, f
 ghost use Rattle.csicodec_html.specs.Page.{IsPageWith};
 ghost use Rattle.csicodec_overwrite.specs.Paint.{as_text};
 ghost use Rattle.csicodec_overwrite.specs.Reading.{Shows};
-ghost use Rattle.csicodec_c.specs.declared.html.Asked.{Asked};
+ghost use Rattle.csicodec_c.specs.declared.html.PageSettings.{PageSettings};
 ghost use Rattle.csicodec_c.specs.Strip.{IsRefused};
 ghost use Rattle.csicodec_c.specs.Html.{IsAsked, IsHtml, IsHtmlRefused, IsLined, IsLinesRefused, IsFramed, IsPiece, IsPieceOf, IsPut, IsWhole, color_of, palette_of};
 
@@ -32,7 +32,7 @@ pub struct Choices {
 
 /// The same with its meaning.
 #[derive(Clone, Copy, Debug, PartialEq, Eq)]
-pub struct Asked {
+pub struct PageSettings {
     /// What becomes markup.
     pub markup: Markup,
     /// Whether it is a piece alone.
@@ -78,9 +78,9 @@ fn palette_of(alloc: Global, numbers: &[u32]) -> Result<Option<Palette>, AllocEr
 }
 
 /// What is asked for, if the numbers ask for anything.
-fn choices_of(choices: &Choices, palette: Palette) -> Option<Asked>
+fn choices_of(choices: &Choices, palette: Palette) -> Option<PageSettings>
     ensures some { IfSome result (λ asked. IsAsked choices.now palette asked) }
-    ensures none { IfNone result ((asked : Asked) → IsAsked choices.now palette asked → ⊥) }
+    ensures none { IfNone result ((asked : PageSettings) → IsAsked choices.now palette asked → ⊥) }
 {
     let Some(links) = bit_at(choices.links) else {
         return None;
@@ -99,7 +99,7 @@ fn choices_of(choices: &Choices, palette: Palette) -> Option<Asked>
         classes,
         palette,
     };
-    Some(Asked {
+    Some(PageSettings {
         markup,
         fragment,
         no_overwrite,
@@ -137,7 +137,7 @@ fn piece_of_lines(alloc: Global, markup: Markup, bytes: &[u8]) -> Result<Vec<u8>
 }
 
 /// The piece of a page that the bytes become.
-fn piece_of(alloc: Global, asked: Asked, bytes: &[u8]) -> Result<Vec<u8>, AllocError>
+fn piece_of(alloc: Global, asked: PageSettings, bytes: &[u8]) -> Result<Vec<u8>, AllocError>
     ensures piece { IfOk result (λ piece. IsPieceOf asked bytes.now piece.items) }
     ensures safe { IfOk result (λ piece. IsPageWith asked.markup piece.items) }
 {
@@ -159,7 +159,7 @@ fn whole_page(alloc: Global, markup: Markup, piece: Vec<u8>) -> Result<Vec<u8>, 
 }
 
 /// A piece alone, or with what stands around it on a page.
-fn around(alloc: Global, asked: Asked, piece: Vec<u8>) -> Result<Vec<u8>, AllocError>
+fn around(alloc: Global, asked: PageSettings, piece: Vec<u8>) -> Result<Vec<u8>, AllocError>
     ensures { IfOk result (λ page. IsFramed asked.fragment
         (IsWhole UNNAMED.now HEAD.now STYLE.now BODY.now BEHIND.now asked.markup) piece.items page.items) }
 {
@@ -170,7 +170,7 @@ fn around(alloc: Global, asked: Asked, piece: Vec<u8>) -> Result<Vec<u8>, AllocE
 }
 
 /// Puts the page that the bytes become, where it fits.
-fn put_page(alloc: Global, asked: Asked, bytes: &[u8], out: &mut [u8]) -> Stripped
+fn put_page(alloc: Global, asked: PageSettings, bytes: &[u8], out: &mut [u8]) -> Stripped
     ensures { IsPut (IsWhole UNNAMED.now HEAD.now STYLE.now BODY.now BEHIND.now asked.markup) asked
         bytes.now out.old out.new result ⊎ IsRefused out.old out.new result }
 {

@@ -19,7 +19,7 @@ use std::alloc::{AllocError, Global};
 /// The key in front of bytes.
 #[repr(C)]
 #[derive(Clone, Copy, Debug, PartialEq, Eq)]
-pub struct Keyed {
+pub struct FrontKey {
     /// The number of a `Status`: `Done`, `NoAction` where it is no key, `Truncated` where that depends on later bytes, or `Memory`.
     pub status: u32,
     /// Which key.
@@ -38,10 +38,10 @@ pub struct Keyed {
     pub used: usize,
 }
 
-fn without(why: Status, used: usize) -> Keyed
+fn without(why: Status, used: usize) -> FrontKey
     ensures { result ≡ without why used }
 {
-    Keyed {
+    FrontKey {
         status: why.number(),
         code: 0,
         value: 0,
@@ -76,10 +76,10 @@ fn encoding_number(encoding: Encoding) -> u32
     }
 }
 
-fn told(encoding: Encoding, key: &Key, used: usize) -> Keyed
+fn told(encoding: Encoding, key: &Key, used: usize) -> FrontKey
     ensures { result ≡ told encoding (stroke_of key.now) used }
 {
-    Keyed {
+    FrontKey {
         status: Status::Done.number(),
         code: u32::from(key.code.tag()),
         value: key.code.value(),
@@ -142,7 +142,7 @@ fn put_key(
     params: &[CsiParam],
     looked: usize,
     text: &mut [u32],
-) -> Keyed
+) -> FrontKey
     ensures { Answers sent.entry.event params.now sent.entry.bytes.now looked text.old text.new result
         ⊎ ((result ≡ without status.Memory 0) × (text.new ≡ text.old)) }
 {
@@ -163,7 +163,7 @@ fn put_key(
 /// The key in front of bytes of input, of which nothing came before, and the characters that it types, where they fit. Where the bytes
 /// could go on, as ESC alone, and no more of them come for now, which a `more` of 0 says, it is what they are.
 #[unsafe(no_mangle)]
-pub extern "C" fn csicodec_key(alloc: Global, more: u32, bytes: &[u8], text: &mut [u32]) -> Keyed
+pub extern "C" fn csicodec_key(alloc: Global, more: u32, bytes: &[u8], text: &mut [u32]) -> FrontKey
     ensures { IsKey more LIMIT bytes.now text.old text.new result
         ⊎ IsNoKey more LIMIT bytes.now text.old text.new result }
 {

@@ -32,7 +32,7 @@ pub use event::{Evented, csicodec_event};
 pub use filter::{Filtered, csicodec_filter};
 pub use html::{Choices, csicodec_html, csicodec_overwrite};
 pub use input::{Received, csicodec_input, csicodec_pause};
-pub use key::{Keyed, csicodec_key};
+pub use key::{FrontKey, csicodec_key};
 pub use known::csicodec_known;
 pub use osc::{Commanded, csicodec_osc};
 pub use sequences::{

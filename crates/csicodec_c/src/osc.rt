@@ -4,11 +4,11 @@ ghost use Rattle.csicodec_osc.specs.Osc.{list_text};
 ghost use Rattle.csicodec_c.specs.Osc.{IsCommanded, one, told, two, with_fields};
 
 use crate::osc_kinds::{
-    CLIPBOARD, KITTY_NOTICE, LINK, NOTICE, POINTER, TITLED_NOTICE, dynamic_kind,
-    dynamic_reset_kind, editor_mark_kind, folder_kind, mark_kind, palette_kind, palette_reset_kind,
-    progress_kind, title_kind,
+    CLIPBOARD, KITTY_NOTICE, LINK, NOTICE, POINTER, TITLED_NOTICE, color_table_kind,
+    color_table_reset_kind, dynamic_kind, dynamic_reset_kind, editor_mark_kind, folder_kind,
+    mark_kind, progress_kind, title_kind,
 };
-use csicodec_osc::{Fields, Osc};
+use csicodec_osc::{Osc, OscFields};
 
 /// What an OSC says, and where its texts stand.
 #[repr(C)]
@@ -50,7 +50,7 @@ fn two(len: usize, kind: u32, first: &[u8], second: &[u8]) -> Commanded
 }
 
 /// A command with fields, if there are any.
-fn with_fields(len: usize, kind: u32, list: Fields<'_>) -> Commanded
+fn with_fields(len: usize, kind: u32, list: OscFields<'_>) -> Commanded
     ensures { result ≡ with_fields len kind (list_text list.entry) }
 {
     match list.text {
@@ -70,9 +70,9 @@ fn told(len: usize, osc: Osc<'_>) -> Commanded
 {
     match osc {
         Osc::Title(title, text) => one(len, title_kind(title), text),
-        Osc::Colors(palette, list) => with_fields(len, palette_kind(palette), list),
+        Osc::Colors(palette, list) => with_fields(len, color_table_kind(palette), list),
         Osc::Color(color, list) => with_fields(len, dynamic_kind(color), list),
-        Osc::ResetColors(palette, list) => with_fields(len, palette_reset_kind(palette), list),
+        Osc::ResetColors(palette, list) => with_fields(len, color_table_reset_kind(palette), list),
         Osc::ResetColor(color, list) => with_fields(len, dynamic_reset_kind(color), list),
         Osc::Link { params, address } => two(len, LINK, params, address),
         Osc::Clipboard { selection, content } => two(len, CLIPBOARD, selection, content.as_bytes()),

@@ -1,9 +1,9 @@
 // Written by tools/table from table/osc.toml: change that, and run python3 tools/table.
 //! The numbers of the commands of OSC.
 ghost use Rattle.std.specs.Prelude.{◌≡◌};
-ghost use Rattle.csicodec_c.specs.OscKinds.{dynamic_kind, dynamic_reset_kind, editor_mark_kind, folder_kind, mark_kind, palette_kind, palette_reset_kind, progress_kind, title_kind};
+ghost use Rattle.csicodec_c.specs.OscKinds.{color_table_kind, color_table_reset_kind, dynamic_kind, dynamic_reset_kind, editor_mark_kind, folder_kind, mark_kind, progress_kind, title_kind};
 
-use csicodec_osc::{Dynamic, EditorMark, Folder, Mark, Palette, Progress, Title};
+use csicodec_osc::{ColorTable, Dynamic, EditorMark, Folder, Mark, Progress, Title};
 
 /// The number of a command.
 pub(crate) fn title_kind(title: Title) -> u32
@@ -17,22 +17,22 @@ pub(crate) fn title_kind(title: Title) -> u32
 }
 
 /// The number of a command.
-pub(crate) fn palette_kind(palette: Palette) -> u32
-    ensures { result ≡ palette_kind palette }
+pub(crate) fn color_table_kind(color_table: ColorTable) -> u32
+    ensures { result ≡ color_table_kind color_table }
 {
-    match palette {
-        Palette::Indexed => 32,
-        Palette::Special => 33,
+    match color_table {
+        ColorTable::Indexed => 32,
+        ColorTable::Special => 33,
     }
 }
 
 /// The number of a command that sets it back.
-pub(crate) fn palette_reset_kind(palette: Palette) -> u32
-    ensures { result ≡ palette_reset_kind palette }
+pub(crate) fn color_table_reset_kind(color_table: ColorTable) -> u32
+    ensures { result ≡ color_table_reset_kind color_table }
 {
-    match palette {
-        Palette::Indexed => 48,
-        Palette::Special => 49,
+    match color_table {
+        ColorTable::Indexed => 48,
+        ColorTable::Special => 49,
     }
 }
 

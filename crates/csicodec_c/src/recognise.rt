@@ -9,7 +9,7 @@ ghost use Rattle.csicodec_structs.specs.Values.{TokenInRange};
 ghost use Rattle.csicodec_c.specs.Recognised.{AreTokens, IsKnown, IsUnknown, recognised};
 
 use csicodec_base::CsiParam;
-use csicodec_sequences::{Known, LONGEST, MOST};
+use csicodec_sequences::{KnownSequence, LONGEST, MOST};
 use csicodec_structs::{Param, Struct, fill};
 
 /// Which row of the table reads a list, and the values. It has 56 bytes, and no gaps.
@@ -131,7 +131,7 @@ pub fn recognise(given: &Struct, params: &[Param]) -> Recognised
     let Some(control) = put_list(given, params, &mut room) else {
         return answer(0, &[]);
     };
-    match Known::read(&room[..given.len], control) {
+    match KnownSequence::read(&room[..given.len], control) {
         Some(known) => answer(known.form().kind, known.values()),
         None => answer(0, &[]),
     }

@@ -10,7 +10,7 @@ ghost use Rattle.csicodec_structs.specs.declared.status.Status.TheVariants as st
 use crate::front::lay_front;
 use csicodec_events::append_read;
 use csicodec_structs::{
-    Encoded, Front, Judged, Normalised, Param, Status, Struct, judge, lay_as_terminals,
+    Encoded, Judged, NextSequence, Normalised, Param, Status, Struct, judge, lay_as_terminals,
     put_normal_form, put_texts,
 };
 use std::alloc::Global;
@@ -31,7 +31,7 @@ pub extern "C" fn csicodec_next(
     bytes: &[u8],
     actions: &mut [Struct],
     params: &mut [Param],
-) -> Front
+) -> NextSequence
     ensures { IsLaid bytes.now actions.old actions.new params.old params.new result
         ⊎ RefusesToLay bytes.now actions.old actions.new params.old params.new result }
 {
@@ -46,7 +46,7 @@ pub extern "C" fn csicodec_terminal_actions(
     bytes: &[u8],
     actions: &mut [Struct],
     params: &mut [Param],
-) -> Front
+) -> NextSequence
     ensures { (IsTaken (without_controls bytes.now) actions.old actions.new params.old params.new result
         ⊎ RefusesToLay (without_controls bytes.now) actions.old actions.new params.old params.new result)
         ⊎ (result ≡ refused status.Memory 0) }
@@ -54,7 +54,7 @@ pub extern "C" fn csicodec_terminal_actions(
     let mut read = Vec::new(alloc);
     match append_read(bytes, &mut read) {
         Ok(()) => lay_as_terminals(alloc, &read, actions, params),
-        Err(_) => Front {
+        Err(_) => NextSequence {
             status: Status::Memory.number(),
             at: 0,
             used: 0,

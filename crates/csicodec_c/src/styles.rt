@@ -5,7 +5,7 @@ ghost use Rattle.csicodec_tokens.specs.Private.Reading.{IsFirstToken};
 ghost use Rattle.csicodec_structs.specs.Room.{laid};
 ghost use Rattle.csicodec_c.specs.Private.Short.{AreStyles, HasLaid, ReadsOn, style_struct};
 
-use crate::attributes::{Style, plain, style_alone, style_front, style_struct};
+use crate::attributes::{AttributeParts, plain, style_alone, style_front, style_struct};
 use crate::numbers::number_front;
 use csicodec_structs::{Struct, put};
 
@@ -13,7 +13,7 @@ use csicodec_structs::{Struct, put};
 /// There are no more than there is room for.
 #[inline(always)]
 fn styles_front<'a>(
-    room: &mut [Style],
+    room: &mut [AttributeParts],
     body: &'a [u8],
     first: u32,
     behind: &'a [u8],
@@ -46,7 +46,7 @@ fn styles_front<'a>(
 
 /// Puts attributes.
 #[inline(always)]
-fn put_styles(styles: &[Style], actions: &mut [Struct])
+fn put_styles(styles: &[AttributeParts], actions: &mut [Struct])
     ensures { actions.new ≡ laid actions.old (map style_struct styles.now) }
 {
     for (place, style) in styles.iter().enumerate() {

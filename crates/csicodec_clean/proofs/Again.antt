@@ -33,7 +33,7 @@ use Rattle.csicodec_spans.proofs.Once.{whole_once}
 use Rattle.csicodec_clean.specs.Shown.{shown, shown_text, IsShown}
 use Rattle.csicodec_clean.specs.Titles.{title_open, with_titles}
 use Rattle.csicodec_clean.specs.declared.styles.Passing.{Passing}
-use Rattle.csicodec_clean.specs.declared.links.Place.TheVariants as place
+use Rattle.csicodec_clean.specs.declared.links.LinkState.TheVariants as place
 use Rattle.csicodec_clean.specs.Links.{Address, Begun, IsLink, admitted, all_behind, begun, is_linked, is_param, is_visible, link_body, link_text, links_at, links_in, next, start}
 use Rattle.csicodec_clean.specs.Palette.{reduced}
 use Rattle.csicodec_clean.specs.Cleaned.{Strips, stripped, is_text, longest}

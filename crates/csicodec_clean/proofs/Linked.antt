@@ -5,8 +5,8 @@ use Rattle.std.specs.List.{AllByRecursion}
 use Rattle.std.proofs.lemmas.Bool.{and_from, and_parts}
 use Rattle.std.proofs.lemmas.Grind.{flat_map-append}
 use Rattle.std.proofs.lemmas.Bool.Decides.{nat_tests}
-use Rattle.csicodec_clean.specs.declared.links.Place.{Place}
-use Rattle.csicodec_clean.specs.declared.links.Place.TheVariants as place
+use Rattle.csicodec_clean.specs.declared.links.LinkState.{LinkState}
+use Rattle.csicodec_clean.specs.declared.links.LinkState.TheVariants as place
 use Rattle.csicodec_clean.specs.Links.{Address, Begun, IsLink, IsWithin, admitted, all_behind, anew, begun, behind, behind_at, ends_at, is_linked, is_param, is_visible, link_body, link_text, link_texts, links_at, links_in, longest_params, longest_url, next}
 use Rattle.csicodec_clean.proofs.Hosts.{led_all, led_few, led_twice}
 
@@ -74,7 +74,7 @@ fine_url params url c h e =
     let both = and_parts (is_visible c) (nat_lt (length url) longest_url) e in
     record { params = h.params; few = h.few; url = all_more (λ b. is_visible b ≡ true) url c h.url both.0; short = one_longer url c longest_url both.1 }
 
-fine_at : (p : Place) (params url : List ℕ) (c : ℕ) → IsFine (begun p params url) → IsFine (behind_at p params url c)
+fine_at : (p : LinkState) (params url : List ℕ) (c : ℕ) → IsFine (begun p params url) → IsFine (behind_at p params url c)
 fine_at place.Eight params url c h =
     choose IsFine (c == 59) (begun place.Params [] url) (begun (anew c) params url) (λ e. record { params = tt; few = omega arith; url = h.url; short = h.short }) (λ e. h)
 fine_at place.Params params url c h =

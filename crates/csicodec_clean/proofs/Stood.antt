@@ -14,8 +14,8 @@ use Rattle.csicodec_spans.specs.Parts.{Part, part, bytes_of, AreFirstParts, IsFi
 use Rattle.csicodec_spans.proofs.Fronts.{IsPiece, in_string, is_str}
 use Rattle.csicodec_spans.proofs.Missed.{fit}
 use Rattle.csicodec_clean.specs.declared.colors.Depth.{Depth}
-use Rattle.csicodec_clean.specs.declared.links.Place.{Place}
-use Rattle.csicodec_clean.specs.declared.links.Place.TheVariants as place
+use Rattle.csicodec_clean.specs.declared.links.LinkState.{LinkState}
+use Rattle.csicodec_clean.specs.declared.links.LinkState.TheVariants as place
 use Rattle.csicodec_clean.specs.declared.styles.Passing.{Passing}
 use Rattle.csicodec_clean.specs.Cleaned.{longest}
 use Rattle.csicodec_clean.specs.Links.{Address, Begun, IsAdmitted, IsWithin, Spells, Stood, StoodIn, admitted, all_behind, anew, begun, behind, behind_at, ends_at, is_linked, is_param, is_visible, link_body, links_in, longest_params, longest_url, opened, start}
@@ -32,7 +32,7 @@ either P t x y f g = cond_both t x y P f g
 
 -- ---- what of a link has been read
 
-abbrev read_of : Place → List ℕ → List ℕ → List ℕ
+abbrev read_of : LinkState → List ℕ → List ℕ → List ℕ
 read_of place.Outside params url = []
 read_of place.Escape params url = 27 ∷ []
 read_of place.Opened params url = 27 ∷ 93 ∷ []
@@ -48,7 +48,7 @@ abbrev address : List ℕ → List ℕ → Address
 address params url = record { params = params; url = url }
 
 -- with the byte that ends it, it is the link
-over_at : (p : Place) (params url : List ℕ) (c : ℕ) → ends_at p c ≡ true → Spells (read_of p params url ++ c ∷ []) (address params url)
+over_at : (p : LinkState) (params url : List ℕ) (c : ℕ) → ends_at p c ≡ true → Spells (read_of p params url ++ c ∷ []) (address params url)
 over_at place.Url params url c e = inl (ap (λ (x : ℕ). 27 ∷ 93 ∷ (link_body (address params url) ++ x ∷ [])) (eqb-true c 7 e))
 over_at place.Ending params url c e =
     let body = link_body (address params url) in
@@ -63,21 +63,21 @@ EndsWith bytes b = (before : List ℕ) × (bytes ≡ before ++ read b)
 
 begins_anew : (bytes params url : List ℕ) (c : ℕ) → EndsWith (bytes ++ c ∷ []) (begun (anew c) params url)
 begins_anew bytes params url c =
-    either (λ (p : Place). EndsWith (bytes ++ c ∷ []) (begun p params url)) (c == 27) place.Escape place.Outside (λ e. (bytes, ap (λ (x : ℕ). bytes ++ x ∷ []) (eqb-true c 27 e)))
+    either (λ (p : LinkState). EndsWith (bytes ++ c ∷ []) (begun p params url)) (c == 27) place.Escape place.Outside (λ e. (bytes, ap (λ (x : ℕ). bytes ++ x ∷ []) (eqb-true c 27 e)))
     (λ e. (bytes ++ c ∷ [], sym (append-nil (bytes ++ c ∷ []))))
 
 opens_one : (bytes params url : List ℕ) (c : ℕ) → EndsWith ((bytes ++ 27 ∷ []) ++ c ∷ []) (begun (opened c) params url)
 opens_one bytes params url c =
     let all = (bytes ++ 27 ∷ []) ++ c ∷ [] in
-    either (λ (p : Place). EndsWith all (begun p params url)) (c == 93) place.Opened place.Outside (λ e. (bytes, append_assoc bytes (27 ∷ []) (c ∷ []) ∙ ap (λ (x : ℕ). bytes ++ 27 ∷ x ∷ []) (eqb-true c 93 e)))
+    either (λ (p : LinkState). EndsWith all (begun p params url)) (c == 93) place.Opened place.Outside (λ e. (bytes, append_assoc bytes (27 ∷ []) (c ∷ []) ∙ ap (λ (x : ℕ). bytes ++ 27 ∷ x ∷ []) (eqb-true c 93 e)))
     (λ e. (all, sym (append-nil all)))
 
-byte_at : (p : Place) (params url : List ℕ) (c : ℕ) → EndsWith (read_of p params url ++ c ∷ []) (behind_at p params url c)
+byte_at : (p : LinkState) (params url : List ℕ) (c : ℕ) → EndsWith (read_of p params url ++ c ∷ []) (behind_at p params url c)
 byte_at place.Outside params url c = begins_anew [] params url c
 byte_at place.Escape params url c = opens_one [] params url c
 byte_at place.Opened params url c =
     let all = 27 ∷ 93 ∷ c ∷ [] in
-    either (λ (p : Place). EndsWith all (begun p params url)) (c == 56) place.Eight (anew c) (λ e. ([], ap (λ (x : ℕ). 27 ∷ 93 ∷ x ∷ []) (eqb-true c 56 e))) (λ e. begins_anew (27 ∷ 93 ∷ []) params url c)
+    either (λ (p : LinkState). EndsWith all (begun p params url)) (c == 56) place.Eight (anew c) (λ e. ([], ap (λ (x : ℕ). 27 ∷ 93 ∷ x ∷ []) (eqb-true c 56 e))) (λ e. begins_anew (27 ∷ 93 ∷ []) params url c)
 byte_at place.Eight params url c =
     let all = 27 ∷ 93 ∷ 56 ∷ c ∷ [] in
     either (EndsWith all) (c == 59) (begun place.Params [] url) (begun (anew c) params url) (λ e. ([], ap (λ (x : ℕ). 27 ∷ 93 ∷ 56 ∷ x ∷ []) (eqb-true c 59 e))) (λ e. begins_anew (27 ∷ 93 ∷ 56 ∷ []) params url c)
@@ -93,7 +93,7 @@ byte_at place.Url params url c =
     let all = front ++ c ∷ [] in
     either (EndsWith all) (is_visible c && nat_lt (length url) longest_url) (begun place.Url params (url ++ c ∷ [])) (begun (if c == 27 then place.Ending else place.Outside) params url)
     (λ e. ([], ap (λ (t : List ℕ). 27 ∷ 93 ∷ 56 ∷ 59 ∷ t) (append_assoc params (59 ∷ url) (c ∷ []))))
-    (λ e. either (λ (p : Place). EndsWith all (begun p params url)) (c == 27) place.Ending place.Outside (λ f. ([], ap (λ (x : ℕ). front ++ x ∷ []) (eqb-true c 27 f))) (λ f. (all, sym (append-nil all))))
+    (λ e. either (λ (p : LinkState). EndsWith all (begun p params url)) (c == 27) place.Ending place.Outside (λ f. ([], ap (λ (x : ℕ). front ++ x ∷ []) (eqb-true c 27 f))) (λ f. (all, sym (append-nil all))))
 byte_at place.Ending params url c = opens_one (27 ∷ 93 ∷ 56 ∷ 59 ∷ (params ++ 59 ∷ url)) params url c
 
 byte_more : (bytes : List ℕ) (b : Begun) (c : ℕ) → EndsWith bytes b → EndsWith (bytes ++ c ∷ []) (behind b c)
@@ -125,7 +125,7 @@ in_bytes bytes = stood_in bytes [] bytes start refl ([], refl)
 -- ---- what a piece makes of what was read
 
 -- behind whole pieces it doesn't end in ESC
-abbrev IsAtRest : Place → Type 0
+abbrev IsAtRest : LinkState → Type 0
 IsAtRest place.Escape = ⊥
 IsAtRest place.Ending = ⊥
 IsAtRest _ = Unit {0}
@@ -137,10 +137,10 @@ GoesOnBy old bytes after = IsAtRest after.place × ((read after ≡ old ++ bytes
 none_on : (old params url : List ℕ) (c : ℕ) → (c == 27) ≡ false → GoesOnBy old (c ∷ []) (begun (anew c) params url)
 none_on old params url c e = rw e (tt, inr refl)
 
-on_at : (p : Place) (params url : List ℕ) (c : ℕ) → IsAtRest p → (c == 27) ≡ false → GoesOnBy (read_of p params url) (c ∷ []) (behind_at p params url c)
+on_at : (p : LinkState) (params url : List ℕ) (c : ℕ) → IsAtRest p → (c == 27) ≡ false → GoesOnBy (read_of p params url) (c ∷ []) (behind_at p params url c)
 on_at place.Outside params url c rest e = none_on [] params url c e
 on_at place.Opened params url c rest e =
-    either (λ (p : Place). GoesOnBy (27 ∷ 93 ∷ []) (c ∷ []) (begun p params url)) (c == 56) place.Eight (anew c) (λ f. (tt, inl (ap (λ (x : ℕ). 27 ∷ 93 ∷ x ∷ []) (sym (eqb-true c 56 f))))) (λ f. none_on (27 ∷ 93 ∷ []) params url c e)
+    either (λ (p : LinkState). GoesOnBy (27 ∷ 93 ∷ []) (c ∷ []) (begun p params url)) (c == 56) place.Eight (anew c) (λ f. (tt, inl (ap (λ (x : ℕ). 27 ∷ 93 ∷ x ∷ []) (sym (eqb-true c 56 f))))) (λ f. none_on (27 ∷ 93 ∷ []) params url c e)
 on_at place.Eight params url c rest e =
     let old = 27 ∷ 93 ∷ 56 ∷ [] in
     either (GoesOnBy old (c ∷ [])) (c == 59) (begun place.Params [] url) (begun (anew c) params url) (λ f. (tt, inl (ap (λ (x : ℕ). 27 ∷ 93 ∷ 56 ∷ x ∷ []) (sym (eqb-true c 59 f))))) (λ f. none_on old params url c e)
@@ -158,14 +158,14 @@ on_at place.Url params url c rest e =
 on_at _ params url c rest e = absurd rest
 
 -- ESC and a byte begin anew
-anew_at : (p : Place) (params url : List ℕ) (c : ℕ) → IsAtRest p → all_behind true (begun p params url) (27 ∷ c ∷ []) ≡ begun (opened c) params url
+anew_at : (p : LinkState) (params url : List ℕ) (c : ℕ) → IsAtRest p → all_behind true (begun p params url) (27 ∷ c ∷ []) ≡ begun (opened c) params url
 anew_at place.Escape params url c rest = absurd rest
 anew_at place.Ending params url c rest = absurd rest
 anew_at _ params url c rest = refl
 
 opened_rest : (params url : List ℕ) (c : ℕ) → GoesOnBy [] (27 ∷ c ∷ []) (begun (opened c) params url)
 opened_rest params url c =
-    either (λ (p : Place). GoesOnBy [] (27 ∷ c ∷ []) (begun p params url)) (c == 93) place.Opened place.Outside (λ e. (tt, inl (ap (λ (x : ℕ). 27 ∷ x ∷ []) (sym (eqb-true c 93 e))))) (λ e. (tt, inr refl))
+    either (λ (p : LinkState). GoesOnBy [] (27 ∷ c ∷ []) (begun p params url)) (c == 93) place.Opened place.Outside (λ e. (tt, inl (ap (λ (x : ℕ). 27 ∷ x ∷ []) (sym (eqb-true c 93 e))))) (λ e. (tt, inr refl))
 
 rest_behind : (m : Mode) (b : Begun) (bytes : List ℕ) → IsPiece m bytes → IsAtRest b.place → IsAtRest (all_behind true b bytes).place
 rest_behind m b bytes (inl (c, e, other, string)) rest =
@@ -179,7 +179,7 @@ if_over : (P : Address → Type 0) (over : Bool) (a : Address) → (over ≡ tru
 if_over P true a f = ((a, f refl, refl), tt)
 if_over P false a f = tt
 
-over_two : (P : Address → Type 0) (p : Place) (params url : List ℕ) (c : ℕ) → IsAtRest p → ((c == 92) ≡ true → Spells (read_of p params url ++ 27 ∷ c ∷ []) (address params url) → P (address params url))
+over_two : (P : Address → Type 0) (p : LinkState) (params url : List ℕ) (c : ℕ) → IsAtRest p → ((c == 92) ≡ true → Spells (read_of p params url ++ 27 ∷ c ∷ []) (address params url) → P (address params url))
     → AllByRecursion (IsAdmitted P) (links_in true (begun p params url) (27 ∷ c ∷ []))
 over_two P place.Escape params url c rest f = absurd rest
 over_two P place.Ending params url c rest f = absurd rest
@@ -358,7 +358,7 @@ part_rests d kind.Str text m a bytes rest b t first h = rest_behind m b text (fi
 part_rests d _ text m a bytes rest b t first h = h
 
 -- `ESC ]` begins anew, whatever was read
-opens_any : (p : Place) (params url bytes : List ℕ) → IsAtRest p → links_in true (begun p params url) (27 ∷ 93 ∷ bytes) ≡ links_in true (begun place.Opened params url) bytes
+opens_any : (p : LinkState) (params url bytes : List ℕ) → IsAtRest p → links_in true (begun p params url) (27 ∷ 93 ∷ bytes) ≡ links_in true (begun place.Opened params url) bytes
 opens_any place.Escape params url bytes rest = absurd rest
 opens_any place.Ending params url bytes rest = absurd rest
 opens_any _ params url bytes rest = refl

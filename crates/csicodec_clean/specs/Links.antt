@@ -5,8 +5,8 @@ use Rattle.std.specs.List.{AllByRecursion, flat_map}
 use Rattle.csicodec_spans.specs.declared.table.Kind.TheVariants as kind
 use Rattle.csicodec_spans.specs.Parts.{Part, IsSpan}
 use Rattle.csicodec_clean.specs.Addresses.{led}
-use Rattle.csicodec_clean.specs.declared.links.Place.{Place}
-use Rattle.csicodec_clean.specs.declared.links.Place.TheVariants as place
+use Rattle.csicodec_clean.specs.declared.links.LinkState.{LinkState}
+use Rattle.csicodec_clean.specs.declared.links.LinkState.TheVariants as place
 
 -- what a link says: its parameters, as `id=1`, by which lines of one link are joined, and where it leads
 pub record Address : Type 0 where
@@ -94,10 +94,10 @@ is_linked linked (a ∷ links) = is_linked (not (length a.url == 0)) links
 
 -- how far a string is that of a link, and what has come of it
 pub record Begun : Type 0 where
-  pub place : Place
+  pub place : LinkState
   pub address : Address
 
-abbrev pub begun : Place → List ℕ → List ℕ → Begun
+abbrev pub begun : LinkState → List ℕ → List ℕ → Begun
 begun p params url = record { place = p; address = record { params = params; url = url } }
 
 -- where no control string is open
@@ -105,15 +105,15 @@ abbrev pub start : Begun
 start = begun place.Outside [] []
 
 -- ESC begins anew
-abbrev pub anew : ℕ → Place
+abbrev pub anew : ℕ → LinkState
 anew c = if c == 27 then place.Escape else place.Outside
 
 -- behind ESC: `]` opens an OSC, and any other byte something else, a second ESC too, which stands for a byte of a DCS
-abbrev pub opened : ℕ → Place
+abbrev pub opened : ℕ → LinkState
 opened c = if c == 93 then place.Opened else place.Outside
 
 -- a byte more of a control string, from the ESC on that opens it
-abbrev pub behind_at : Place → List ℕ → List ℕ → ℕ → Begun
+abbrev pub behind_at : LinkState → List ℕ → List ℕ → ℕ → Begun
 behind_at place.Outside params url c = begun (anew c) params url
 behind_at place.Escape params url c = begun (opened c) params url
 behind_at place.Opened params url c = begun (if c == 56 then place.Eight else anew c) params url
@@ -132,7 +132,7 @@ abbrev pub behind : Begun → ℕ → Begun
 behind b c = behind_at b.place b.address.params b.address.url c
 
 -- BEL, or the `\` of ST, ends a link
-abbrev pub ends_at : Place → ℕ → Bool
+abbrev pub ends_at : LinkState → ℕ → Bool
 ends_at place.Outside c = false
 ends_at place.Escape c = false
 ends_at place.Opened c = false

@@ -3,7 +3,7 @@ ghost use Rattle.std.specs.Prelude.{◌≡◌, ◌≢◌, ◌∷◌, ◌++◌, [
 ghost use Rattle.std.specs.List.{AllByRecursion, Contains, concat};
 ghost use Rattle.csicodec_clean.specs.Addresses.{ends_host, is_web, led};
 ghost use Rattle.csicodec_clean.specs.Links.{Address, IsAdmitted, IsLink, IsWithin, Stood, StoodIn, admitted, begun, link_body, links_in, start};
-ghost use Rattle.csicodec_clean.specs.declared.links.Place.TheVariants.{Outside};
+ghost use Rattle.csicodec_clean.specs.declared.links.LinkState.TheVariants.{Outside};
 ghost use Rattle.csicodec_names.specs.declared.color.SrgbaTuple.{SrgbaTuple};
 ghost use Rattle.csicodec_clean.specs.Cleaned.{Ends, Strips, drops, ends_bare, longest};
 ghost use Rattle.csicodec_clean.specs.Palette.{IsNearest, nearest_of_16, nearest_of_256};

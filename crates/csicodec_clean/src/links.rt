@@ -1,6 +1,6 @@
 //! Links, read byte by byte.
 ghost use Rattle.std.specs.Prelude.{◌≡◌, ◌++◌, ℕ, List, Bool, true, [], OnOk, IfOk};
-ghost use Rattle.csicodec_clean.specs.declared.links.Place.TheVariants.{Params as InParams, Url as InUrl};
+ghost use Rattle.csicodec_clean.specs.declared.links.LinkState.TheVariants.{Params as InParams, Url as InUrl};
 ghost use Rattle.csicodec_clean.specs.Links.{admitted, all_behind, anew, begun, behind, ends_at, is_linked, is_param, is_visible, link_text, link_texts, links_at, links_in, no_address, opened, start};
 
 use crate::addresses::led;
@@ -8,7 +8,7 @@ use std::alloc::{AllocError, Global};
 
 /// How far a control string is that of a link, `ESC ] 8 ; PARAMS ; URL` and then ST or BEL.
 #[derive(Clone, Copy, PartialEq, Eq, Debug)]
-pub enum Place {
+pub enum LinkState {
     /// It is none.
     Outside,
     /// Behind an ESC that may open it.
@@ -46,35 +46,39 @@ fn is_param(byte: u8) -> bool
 }
 
 /// ESC begins anew.
-fn anew(byte: u8) -> Place
+fn anew(byte: u8) -> LinkState
     ensures { result ≡ anew byte }
 {
     if byte == 0x1b {
-        Place::Escape
+        LinkState::Escape
     } else {
-        Place::Outside
+        LinkState::Outside
     }
 }
 
 /// Behind ESC.
-fn opened(byte: u8) -> Place
+fn opened(byte: u8) -> LinkState
     ensures { result ≡ opened byte }
 {
     if byte == b']' {
-        Place::Opened
+        LinkState::Opened
     } else {
-        Place::Outside
+        LinkState::Outside
     }
 }
 
 /// Whether the byte ends a link, which is then what has come of it.
-pub fn ends_link(place: Place, byte: u8) -> bool
+pub fn ends_link(place: LinkState, byte: u8) -> bool
     ensures { result ≡ ends_at place byte }
 {
     match place {
-        Place::Outside | Place::Escape | Place::Opened | Place::Eight | Place::Params => false,
-        Place::Url => byte == 0x07,
-        Place::Ending => byte == b'\\',
+        LinkState::Outside
+        | LinkState::Escape
+        | LinkState::Opened
+        | LinkState::Eight
+        | LinkState::Params => false,
+        LinkState::Url => byte == 0x07,
+        LinkState::Ending => byte == b'\\',
     }
 }
 
@@ -89,7 +93,7 @@ pub(crate) fn append_end(out: &mut Vec<u8>) -> Result<(), AllocError>
 #[derive(Drop)]
 pub struct LinkReader {
     /// How far the control string that is open is that of a link.
-    pub place: Place,
+    pub place: LinkState,
     /// What has come of its parameters.
     pub params: Vec<u8>,
     /// What has come of its URL.
@@ -102,7 +106,7 @@ impl LinkReader {
         ensures { begun result.place result.params.items result.url.items ≡ start }
     {
         LinkReader {
-            place: Place::Outside,
+            place: LinkState::Outside,
             params: Vec::new(alloc),
             url: Vec::new(alloc),
         }
@@ -112,7 +116,7 @@ impl LinkReader {
     pub(crate) fn clear(&mut self)
         ensures { begun self.new.place self.new.params.items self.new.url.items ≡ start }
     {
-        self.place = Place::Outside;
+        self.place = LinkState::Outside;
         self.params.clear();
         self.url.clear();
     }
@@ -126,7 +130,7 @@ impl LinkReader {
     {
         if byte == b';' {
             self.url.clear();
-            self.place = Place::Url;
+            self.place = LinkState::Url;
         } else if is_param(byte) && self.params.len() < LONGEST_PARAMS {
             self.params.push(byte)?;
         } else {
@@ -145,9 +149,9 @@ impl LinkReader {
         if is_visible(byte) && self.url.len() < LONGEST_URL {
             self.url.push(byte)?;
         } else if byte == 0x1b {
-            self.place = Place::Ending;
+            self.place = LinkState::Ending;
         } else {
-            self.place = Place::Outside;
+            self.place = LinkState::Outside;
         }
         Ok(())
     }
@@ -159,23 +163,23 @@ impl LinkReader {
             ≡ behind (begun self.old.place self.old.params.items self.old.url.items) byte) }
     {
         match self.place {
-            Place::Outside => self.place = anew(byte),
-            Place::Escape | Place::Ending => self.place = opened(byte),
-            Place::Opened => self.place = if byte == b'8' {
-                Place::Eight
+            LinkState::Outside => self.place = anew(byte),
+            LinkState::Escape | LinkState::Ending => self.place = opened(byte),
+            LinkState::Opened => self.place = if byte == b'8' {
+                LinkState::Eight
             } else {
                 anew(byte)
             },
-            Place::Eight => {
+            LinkState::Eight => {
                 if byte == b';' {
                     self.params.clear();
-                    self.place = Place::Params;
+                    self.place = LinkState::Params;
                 } else {
                     self.place = anew(byte);
                 }
             }
-            Place::Params => return self.take_param(byte),
-            Place::Url => return self.take_url(byte),
+            LinkState::Params => return self.take_param(byte),
+            LinkState::Url => return self.take_url(byte),
         }
         Ok(())
     }

@@ -127,16 +127,16 @@ fn take_color(
 
 /// Places that are kept for a sequence that is read: its actions, and its note.
 #[derive(Drop)]
-pub(crate) struct Room {
+pub(crate) struct SequenceBuffers {
     pub(crate) alloc: Global,
     pub(crate) actions: Vec<CSI>,
     pub(crate) note: Vec<u8>,
 }
 
-impl Room {
+impl SequenceBuffers {
     /// With nothing in them.
-    pub(crate) fn new(alloc: Global) -> Room {
-        Room {
+    pub(crate) fn new(alloc: Global) -> SequenceBuffers {
+        SequenceBuffers {
             alloc,
             actions: Vec::new(alloc),
             note: Vec::new(alloc),

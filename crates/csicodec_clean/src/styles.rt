@@ -10,7 +10,7 @@ ghost use Rattle.csicodec_clean.specs.Styled.{Styles, StylesIn, IsStyled, IsStyl
 
 use crate::colors::{Depth, reduced};
 use crate::links::{LinkReader, append_end};
-use crate::notes::{Room, StyleNote, append_noted};
+use crate::notes::{SequenceBuffers, StyleNote, append_noted};
 use crate::rule::{Anew, Rule};
 use crate::whole::clean_whole;
 use csicodec::{CSI, encode};
@@ -114,7 +114,7 @@ pub struct Kept {
     link: LinkReader,
     /// What is noted of sequences that came before.
     known: Known<StyleNote>,
-    room: Room,
+    room: SequenceBuffers,
     /// A place that is kept for the tokens of a sequence.
     params: Vec<CsiParam>,
 }
@@ -170,7 +170,7 @@ impl Kept {
             linked: false,
             link: LinkReader::new(alloc),
             known: Known::new(alloc),
-            room: Room::new(alloc),
+            room: SequenceBuffers::new(alloc),
             params: Vec::new(alloc),
         }
     }

@@ -10,7 +10,9 @@ mod recorded;
 mod recording;
 mod run;
 
-pub use command::{ColorWhen, Colors, Command, Request, Task, Wanted, Wrong, command_of, nearest};
+pub use command::{
+    ColorWhen, Colors, Invocation, Request, Task, Wanted, Wrong, command_of, nearest,
+};
 pub use failure::{Failure, Found};
 pub use options::{USAGE, VERSION};
 pub use recorded::Recorded;

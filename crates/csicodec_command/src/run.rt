@@ -7,9 +7,9 @@ ghost use Rattle.csicodec_command.specs.Failure.{status};
 ghost use Rattle.csicodec_command.specs.declared.failure.Failure.TheVariants.{Run as Ran};
 ghost use Rattle.csicodec_command.specs.Runs.{Asked, Closes, GoesOf, HasTurn, IsReadBy, IsRun, IsTold, MayBeRecording, StepsOf, Through, failure_of, first_of, names_of};
 
-use crate::command::{Command, Request, UNREADABLE, Wrong, command_of};
+use crate::command::{Invocation, Request, UNREADABLE, Wrong, command_of};
 use crate::failure::{Failure, GONE};
-use crate::note::{Refusal, advice_of};
+use crate::note::{UsageError, advice_of};
 use crate::options::{VERSION, WAITS};
 use crate::recording::is_recording;
 use csicodec_streams::{CHUNK, RunError, receive};
@@ -531,7 +531,7 @@ pub fn refused(rt: &HostRuntime, wrong: Wrong<'_>) -> u8 {
         Wrong::NoCommand(word, _) => is_file(rt, word),
         _ => false,
     };
-    let refusal = Refusal::new(wrong, is_file);
+    let refusal = UsageError::new(wrong, is_file);
     let _told = match advice_of(wrong) {
         Some(advice) => eprintln!(rt; "{failure}{refusal}\n{advice}"),
         None => eprintln!(rt; "{failure}"),
@@ -598,12 +598,12 @@ pub fn words_of(rt: &HostRuntime) -> Result<Vec<String>, u8> {
 /// The work that these words ask for, or none where what they ask was told; the status, if that failed.
 pub fn asked<'a>(rt: &HostRuntime, words: &'a [String]) -> Result<Option<Request<'a>>, u8> {
     match command_of(rt.alloc(), words) {
-        Ok(Command::Run(run)) => Ok(Some(run)),
-        Ok(Command::Help(text)) => {
+        Ok(Invocation::Run(run)) => Ok(Some(run)),
+        Ok(Invocation::Help(text)) => {
             say(rt, text)?;
             Ok(None)
         }
-        Ok(Command::Version) => {
+        Ok(Invocation::Version) => {
             say(rt, VERSION)?;
             Ok(None)
         }

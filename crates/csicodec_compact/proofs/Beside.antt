@@ -28,8 +28,8 @@ use Rattle.csicodec_filter.specs.Transform.{Begins as BeginsWith, Sends, Transfo
 use Rattle.csicodec_filter.proofs.Written.{appends, made, makes, one_first}
 use Rattle.csicodec_compact.specs.Compacts.{Compacts, ReadsAlike}
 use Rattle.csicodec_compact.specs.Runs.{IsStaying, NoneStays, Shortens, AreRuns, IsShortened, PassesShort, CompactsAll}
-use Rattle.csicodec_compact.specs.declared.form.Form.{Form}
-use Rattle.csicodec_compact.specs.declared.form.Form.TheVariants as forms
+use Rattle.csicodec_compact.specs.declared.form.TextEnding.{TextEnding}
+use Rattle.csicodec_compact.specs.declared.form.TextEnding.TheVariants as forms
 use Rattle.csicodec_compact.specs.declared.shortener.Shortener.{Shortener}
 use Rattle.csicodec_compact.specs.Private.Run.{Holds}
 use Rattle.csicodec_compact.specs.Private.Steps.{Begins, form_of, closing, is_semicolon, joint, behind, is_joined, may_join, opened, list_of, IsTail, IsListed, IsOwn, IsNotedList, IsNoted, IsNote, GoesOnFrom, IsHeld, Extends, GoesOnBy}
@@ -141,7 +141,7 @@ held_whole : (run : List Part) (held : List ℕ) → IsShortened run held → Is
 held_whole run held h = record { front = run; left = []; text = held; tail = []; parts = sym (append-nil run); whole = sym (append-nil held); written = h; end = (refl, refl) }
 
 module _ (run front left : List Part) (held text list : List ℕ) (xs : List Action) (parts : run ≡ front ++ left) (whole : held ≡ text ++ 27 ∷ 91 ∷ list) (written : IsShortened front text) where
-  goes_from : (form : Form) → IsTail form list xs → Shortens left (27 ∷ 91 ∷ (list ++ closing form)) → NoneStays left → GoesOnFrom form left (27 ∷ 91 ∷ list)
+  goes_from : (form : TextEnding) → IsTail form list xs → Shortens left (27 ∷ 91 ∷ (list ++ closing form)) → NoneStays left → GoesOnFrom form left (27 ∷ 91 ∷ list)
   goes_from form tail short free = record { list = list; actions = xs; whole = refl; tail = tail; shorter = short; free = free }
 
   held_last : Shortens left (27 ∷ 91 ∷ (list ++ [])) → IsHeld run held forms.Last
@@ -160,21 +160,21 @@ module _ (run front left : List Part) (held text list : List ℕ) (xs : List Act
       }
 
   -- a list that is held behind others
-  held_list : (form : Form) → IsTail form list xs → Shortens left (27 ∷ 91 ∷ (list ++ closing form)) → NoneStays left → IsHeld run held form
+  held_list : (form : TextEnding) → IsTail form list xs → Shortens left (27 ∷ 91 ∷ (list ++ closing form)) → NoneStays left → IsHeld run held form
   held_list forms.Whole tail short free = absurd tail
   held_list forms.Last tail short free = held_last short
   held_list forms.Open tail short free = record { front = front; left = left; text = text; tail = 27 ∷ 91 ∷ list; parts = parts; whole = whole; written = written; end = goes_from forms.Open tail short free }
   held_list forms.Blank tail short free = record { front = front; left = left; text = text; tail = 27 ∷ 91 ∷ list; parts = parts; whole = whole; written = written; end = goes_from forms.Blank tail short free }
   held_list forms.Bare tail short free = record { front = front; left = left; text = text; tail = 27 ∷ 91 ∷ list; parts = parts; whole = whole; written = written; end = goes_from forms.Bare tail short free }
 
-closed_whole : (run : List Part) (held : List ℕ) (form : Form) → (h : IsHeld run held form) → (h.left ≡ []) × (h.tail ≡ []) → closing form ≡ [] → IsShortened run (held ++ closing form)
+closed_whole : (run : List Part) (held : List ℕ) (form : TextEnding) → (h : IsHeld run held form) → (h.left ≡ []) × (h.tail ≡ []) → closing form ≡ [] → IsShortened run (held ++ closing form)
 closed_whole run held form h none empty =
     let ps : h.front ≡ run = sym (append-nil h.front) ∙ ap (λ (l : List Part). h.front ++ l) (sym none.0) ∙ sym h.parts in
     let text : h.text ≡ held ++ closing form =
     sym (append-nil h.text) ∙ ap (λ (l : List ℕ). h.text ++ l) (sym none.1) ∙ sym h.whole ∙ sym (append-nil held) ∙ ap (λ (l : List ℕ). held ++ l) (sym empty) in
     subst (λ (l : List ℕ). IsShortened run l) text (subst (λ (l : List Part). IsShortened l h.text) ps h.written)
 
-closed_list : (run : List Part) (held : List ℕ) (form : Form) → (h : IsHeld run held form) → GoesOnFrom form h.left h.tail → IsShortened run (held ++ closing form)
+closed_list : (run : List Part) (held : List ℕ) (form : TextEnding) → (h : IsHeld run held form) → GoesOnFrom form h.left h.tail → IsShortened run (held ++ closing form)
 closed_list run held form h g =
     let shut = 27 ∷ 91 ∷ (g.list ++ closing form) in
     let all : IsShortened (h.front ++ h.left) (h.text ++ shut) = shortened_on h.front h.left h.text shut h.written (shortened_run h.left shut g.shorter) in
@@ -183,7 +183,7 @@ closed_list run held form h g =
     subst (λ (l : List ℕ). IsShortened run l) text (subst (λ (l : List Part). IsShortened l (h.text ++ shut)) (sym h.parts) all)
 
 -- what is held, closed
-pub closed : (run : List Part) (held : List ℕ) (form : Form) → IsHeld run held form → IsShortened run (held ++ closing form)
+pub closed : (run : List Part) (held : List ℕ) (form : TextEnding) → IsHeld run held form → IsShortened run (held ++ closing form)
 closed run held forms.Whole h = closed_whole run held forms.Whole h h.end refl
 closed run held forms.Last h = closed_whole run held forms.Last h h.end refl
 closed run held forms.Open h = closed_list run held forms.Open h h.end
@@ -193,23 +193,23 @@ closed run held forms.Bare h = closed_list run held forms.Bare h h.end
 one_of : (bytes own : List ℕ) → IsOne bytes → Compacts bytes own → Shortens (part kind.Csi bytes ∷ []) own
 one_of bytes own one h = one_short bytes own one.0 one.1 one.2 h
 
-module _ (run : List Part) (bytes held text : List ℕ) (st : Form) (h : IsHeld run held st) (one : IsOne bytes) where
+module _ (run : List Part) (bytes held text : List ℕ) (st : TextEnding) (h : IsHeld run held st) (one : IsOne bytes) where
   -- a list begins behind it
-  begun_list : (form : Form) → (n : IsNotedList form bytes text) → IsHeld (run ++ part kind.Csi bytes ∷ []) ((held ++ closing st) ++ 27 ∷ 91 ∷ drop 1 text) form
+  begun_list : (form : TextEnding) → (n : IsNotedList form bytes text) → IsHeld (run ++ part kind.Csi bytes ∷ []) ((held ++ closing st) ++ 27 ∷ 91 ∷ drop 1 text) form
   begun_list form n =
       let same : 27 ∷ 91 ∷ drop 1 text ≡ 27 ∷ 91 ∷ n.list = ap (λ (l : List ℕ). 27 ∷ 91 ∷ drop 1 l) n.whole in
       held_list (run ++ part kind.Csi bytes ∷ []) run (part kind.Csi bytes ∷ []) ((held ++ closing st) ++ 27 ∷ 91 ∷ drop 1 text) (held ++ closing st) n.list n.actions refl
       (ap (λ (l : List ℕ). (held ++ closing st) ++ l) same) (closed run held st h) form n.tail (one_of bytes (27 ∷ 91 ∷ (n.list ++ closing form)) one n.compacts) (n.free, tt)
 
   -- a sequence that stands by itself
-  pub begun : (form : Form) → IsNoted form bytes text → IsHeld (run ++ part kind.Csi bytes ∷ []) ((held ++ closing st) ++ opened form text) form
+  pub begun : (form : TextEnding) → IsNoted form bytes text → IsHeld (run ++ part kind.Csi bytes ∷ []) ((held ++ closing st) ++ opened form text) form
   begun forms.Whole n =
       held_whole (run ++ part kind.Csi bytes ∷ []) ((held ++ closing st) ++ text)
       (shortened_on run (part kind.Csi bytes ∷ []) (held ++ closing st) text (closed run held st h) (shortened_run (part kind.Csi bytes ∷ []) text (one_of bytes text one n)))
   begun form n = begun_list form n
 
   -- a list in the same sequence
-  list_joined : (form : Form) → (n : IsNotedList form bytes text) → GoesOnFrom st h.left h.tail → may_join st form text ≡ true
+  list_joined : (form : TextEnding) → (n : IsNotedList form bytes text) → GoesOnFrom st h.left h.tail → may_join st form text ≡ true
       → IsHeld (run ++ part kind.Csi bytes ∷ []) (held ++ joint st form text) (behind st form)
   list_joined form n g may =
       let p = part kind.Csi bytes ∷ [] in
@@ -229,12 +229,12 @@ module _ (run : List Part) (bytes held text : List ℕ) (st : Form) (h : IsHeld 
       held_list (run ++ p) h.front (h.left ++ p) (held ++ joint st form text) h.text list (g.actions ++ n.actions) (ap (λ (l : List Part). l ++ p) h.parts ∙ append_assoc h.front h.left p) text' h.written
       (behind st form) tail short (all_on (λ (q : Part). ¬ IsStaying q.bytes) h.left p g.free (n.free, tt))
 
-  joined_by : (form : Form) → IsNoted form bytes text → GoesOnFrom st h.left h.tail → may_join st form text ≡ true → (is_joined form ≡ false → may_join st form text ≡ false)
+  joined_by : (form : TextEnding) → IsNoted form bytes text → GoesOnFrom st h.left h.tail → may_join st form text ≡ true → (is_joined form ≡ false → may_join st form text ≡ false)
       → IsHeld (run ++ part kind.Csi bytes ∷ []) (held ++ joint st form text) (behind st form)
   joined_by forms.Whole n g may none = absurd (true≢false (sym may ∙ none refl))
   joined_by form n g may none = list_joined form n g may
 
-pub joined : (run : List Part) (bytes held text : List ℕ) (st form : Form) → IsHeld run held st → IsOne bytes → IsNoted form bytes text → may_join st form text ≡ true
+pub joined : (run : List Part) (bytes held text : List ℕ) (st form : TextEnding) → IsHeld run held st → IsOne bytes → IsNoted form bytes text → may_join st form text ≡ true
     → IsHeld (run ++ part kind.Csi bytes ∷ []) (held ++ joint st form text) (behind st form)
 joined run bytes held text forms.Whole form h one n may = absurd (true≢false (sym may))
 joined run bytes held text forms.Last form h one n may = absurd (true≢false (sym may))
@@ -243,7 +243,7 @@ joined run bytes held text forms.Blank form h one n may = joined_by run bytes he
 joined run bytes held text forms.Bare form h one n may = joined_by run bytes held text forms.Bare h one form n h.end may (λ e. ap (λ (b : Bool). b && not (is_semicolon (slice_get text 1))) e)
 
 -- what is noted of a sequence
-pub noted : (bytes text : List ℕ) (form : Form) → ¬ IsStaying bytes → Compacts bytes text → IsListed form text → IsNotedList form bytes (59 ∷ list_of form text)
+pub noted : (bytes text : List ℕ) (form : TextEnding) → ¬ IsStaying bytes → Compacts bytes text → IsListed form text → IsNotedList form bytes (59 ∷ list_of form text)
 noted bytes text form free made h =
     let long : length (h.bytes ++ closing form) - length (closing form) ≡ length h.bytes = omega (arith, length-append h.bytes (closing form)) in
     let same : list_of form text ≡ h.bytes = ap (list_of form) h.whole ∙ ap (λ (n : ℕ). take n (h.bytes ++ closing form)) long ∙ take-append_seam h.bytes (closing form) in
@@ -256,26 +256,26 @@ noted bytes text form free made h =
       free = free;
     }
 
-listed_long : (form : Form) (text : List ℕ) → IsListed form text → 2 + length (closing form) ≤ length text
+listed_long : (form : TextEnding) (text : List ℕ) → IsListed form text → 2 + length (closing form) ≤ length text
 listed_long form text h = omega (arith, ap length h.whole, length-append h.bytes (closing form))
 
 -- a text that is a list is long enough
-pub own_long : (form : Form) (text : List ℕ) → IsOwn form text → is_joined form ≡ true → 2 + length (closing form) ≤ length text
+pub own_long : (form : TextEnding) (text : List ℕ) → IsOwn form text → is_joined form ≡ true → 2 + length (closing form) ≤ length text
 own_long forms.Whole text own is = absurd (true≢false (sym is))
 own_long form text own is = listed_long form text own
 
-pub note_of : (bytes text note : List ℕ) (form : Form) → IsOne bytes → Compacts bytes text → IsOwn form text → (is_joined form ≡ true → ¬ IsStaying bytes)
+pub note_of : (bytes text note : List ℕ) (form : TextEnding) → IsOne bytes → Compacts bytes text → IsOwn form text → (is_joined form ≡ true → ¬ IsStaying bytes)
     → (is_joined form ≡ false → (mark : ℕ) × (count : ℕ) × (form_of mark ≡ form) × (note ≡ mark ∷ count ∷ text))
     → (is_joined form ≡ true → (mark : ℕ) × (count : ℕ) × (form_of mark ≡ form) × (note ≡ mark ∷ count ∷ 59 ∷ list_of form text)) → IsNote bytes note
 note_of bytes text note form one made own free whole list = by_form form own free whole list
   where
-    by_list : (form : Form) → IsNoted form bytes (59 ∷ list_of form text) → (mark : ℕ) × (count : ℕ) × (form_of mark ≡ form) × (note ≡ mark ∷ count ∷ 59 ∷ list_of form text) → IsNote bytes note
-    by_list form n (mark, count, is, e) = (mark, count, 59 ∷ list_of form text, e, one, subst (λ (f : Form). IsNoted f bytes (59 ∷ list_of form text)) (sym is) n)
+    by_list : (form : TextEnding) → IsNoted form bytes (59 ∷ list_of form text) → (mark : ℕ) × (count : ℕ) × (form_of mark ≡ form) × (note ≡ mark ∷ count ∷ 59 ∷ list_of form text) → IsNote bytes note
+    by_list form n (mark, count, is, e) = (mark, count, 59 ∷ list_of form text, e, one, subst (λ (f : TextEnding). IsNoted f bytes (59 ∷ list_of form text)) (sym is) n)
 
     by_whole : (mark : ℕ) × (count : ℕ) × (form_of mark ≡ forms.Whole) × (note ≡ mark ∷ count ∷ text) → IsNote bytes note
-    by_whole (mark, count, is, e) = (mark, count, text, e, one, subst (λ (f : Form). IsNoted f bytes text) (sym is) made)
+    by_whole (mark, count, is, e) = (mark, count, text, e, one, subst (λ (f : TextEnding). IsNoted f bytes text) (sym is) made)
 
-    by_form : (form : Form) → IsOwn form text → (is_joined form ≡ true → ¬ IsStaying bytes)
+    by_form : (form : TextEnding) → IsOwn form text → (is_joined form ≡ true → ¬ IsStaying bytes)
         → (is_joined form ≡ false → (mark : ℕ) × (count : ℕ) × (form_of mark ≡ form) × (note ≡ mark ∷ count ∷ text))
         → (is_joined form ≡ true → (mark : ℕ) × (count : ℕ) × (form_of mark ≡ form) × (note ≡ mark ∷ count ∷ 59 ∷ list_of form text)) → IsNote bytes note
     by_form forms.Whole own free whole list = by_whole (whole refl)
@@ -287,7 +287,7 @@ note_long bytes note n = omega (arith, ap length n.3)
 -- ---- what is written for more parts
 
 -- a text that stands by itself
-pub extends_one : (st form : Form) (bytes text : List ℕ) → IsOne bytes → IsNoted form bytes text → Extends st (part kind.Csi bytes ∷ []) (closing st ++ opened form text) form
+pub extends_one : (st form : TextEnding) (bytes text : List ℕ) → IsOne bytes → IsNoted form bytes text → Extends st (part kind.Csi bytes ∷ []) (closing st ++ opened form text) form
 extends_one st form bytes text one n run before h =
     subst (λ (l : List ℕ). IsHeld (run ++ part kind.Csi bytes ∷ []) l form) (append_assoc before (closing st) (opened form text)) (begun run bytes before text st h one form n)
 
@@ -299,17 +299,17 @@ pub shortened_one : (bytes : List ℕ) → IsOne bytes → IsShortened (part kin
 shortened_one bytes one = shortened_run (part kind.Csi bytes ∷ []) bytes (one_of bytes bytes one (as_it_came bytes))
 
 -- one in the same list
-pub extends_joined : (st form : Form) (bytes text : List ℕ) → IsOne bytes → IsNoted form bytes text → may_join st form text ≡ true → Extends st (part kind.Csi bytes ∷ []) (joint st form text) (behind st form)
+pub extends_joined : (st form : TextEnding) (bytes text : List ℕ) → IsOne bytes → IsNoted form bytes text → may_join st form text ≡ true → Extends st (part kind.Csi bytes ∷ []) (joint st form text) (behind st form)
 extends_joined st form bytes text one n may run before h = joined run bytes before text st form h one n may
 
 -- what stands as it came
-pub extends_own : (st : Form) (bytes : List ℕ) (parts : List Part) → IsShortened parts bytes → Extends st parts (closing st ++ bytes) forms.Whole
+pub extends_own : (st : TextEnding) (bytes : List ℕ) (parts : List Part) → IsShortened parts bytes → Extends st parts (closing st ++ bytes) forms.Whole
 extends_own st bytes parts short run before h =
     subst (λ (l : List ℕ). IsHeld (run ++ parts) l forms.Whole) (append_assoc before (closing st) bytes)
     (held_whole (run ++ parts) ((before ++ closing st) ++ bytes) (shortened_on run parts (before ++ closing st) bytes (closed run before st h) short))
 
 -- no more parts, where the list is closed
-pub extends_close : (st : Form) → Extends st [] (closing st) forms.Whole
+pub extends_close : (st : TextEnding) → Extends st [] (closing st) forms.Whole
 extends_close st run before h = rw (append-nil run) (held_whole run (before ++ closing st) (closed run before st h))
 
 -- ---- the front of a piece
@@ -338,7 +338,7 @@ front_known limit len bytes old new before after one short within goes =
 -- ---- a stream
 
 -- what is held, where nothing goes on
-over : (run : List Part) (held : List ℕ) (form : Form) → IsHeld run held form → form ≡ forms.Whole → IsShortened run held
+over : (run : List Part) (held : List ℕ) (form : TextEnding) → IsHeld run held form → form ≡ forms.Whole → IsShortened run held
 over run held form h whole = rw (append-nil held) at (closed run held forms.Whole (rw whole at h))
 
 -- what has passed at the end of a push, where the list is over

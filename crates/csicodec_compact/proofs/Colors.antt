@@ -12,7 +12,7 @@ use Rattle.csicodec_streams.specs.Colors.{IsColored, IsOpaque, color_list, plane
 use Rattle.csicodec_streams.proofs.Colors.{color_means, color_short, listed, listed_spellable, listed_spelled}
 use Rattle.csicodec_filter.specs.Faithful.{stays}
 use Rattle.csicodec.specs.Compose.{EndsInSemicolon, IsStyleList}
-use Rattle.csicodec_compact.specs.declared.form.Form.TheVariants as forms
+use Rattle.csicodec_compact.specs.declared.form.TextEnding.TheVariants as forms
 use Rattle.csicodec_compact.specs.Private.Steps.{IsListed, closing, form_of, IsNote, list_of}
 use Rattle.csicodec_compact.proofs.Beside.{as_it_came, free_by, note_of}
 use Rattle.csicodec_compact.proofs.JoinedLists.{number-last, open_listed}

@@ -27,8 +27,8 @@ use Rattle.csicodec_streams.specs.Decoding.{Decodes}
 use Rattle.csicodec_streams.proofs.OneReading.{one_sequence}
 use Rattle.csicodec.specs.Compose.{EndsInSemicolon, IsStyleList}
 use Rattle.csicodec.proofs.Compose.{sgr_compose_lem}
-use Rattle.csicodec_compact.specs.declared.form.Form.{Form}
-use Rattle.csicodec_compact.specs.declared.form.Form.TheVariants as forms
+use Rattle.csicodec_compact.specs.declared.form.TextEnding.{TextEnding}
+use Rattle.csicodec_compact.specs.declared.form.TextEnding.TheVariants as forms
 use Rattle.csicodec_compact.specs.Private.Steps.{is_mark, is_other, is_semicolon, closing, may_join, joint, behind, IsList, IsOpenList, IsTail, IsListed}
 
 -- ---- texts and tokens
@@ -178,7 +178,7 @@ behind_reset b m ys none k = record {
 }
 
 -- what may stand behind a tail of a form: any list, or one that doesn't begin with `;`
-abbrev Fits : Form → List CsiParam → Type 0
+abbrev Fits : TextEnding → List CsiParam → Type 0
 Fits forms.Whole list = Unit {0}
 Fits forms.Last list = Unit {0}
 Fits forms.Open list = Unit {0}
@@ -186,7 +186,7 @@ Fits forms.Blank list = NoSemicolon list
 Fits forms.Bare list = NoSemicolon list
 
 -- a tail that goes on
-record Goes (form : Form) (bytes : List ℕ) (xs : List Action) : Type 0 where
+record Goes (form : TextEnding) (bytes : List ℕ) (xs : List Action) : Type 0 where
   styles : List sgr_type.Sgr
   are : xs ≡ map Sgr styles
   on : (b : List ℕ) (m : List CsiParam) (ys : List Action) → Fits form m → IsList b m ys → Behind (bytes ++ 59 ∷ b) m (map Sgr styles ++ ys)
@@ -227,7 +227,7 @@ goes_bare bytes xs (is, are) = record {
 
 -- ---- the tail that comes of two
 
-module _ (st : Form) (bytes : List ℕ) (xs : List Action) (g : Goes st bytes xs) where
+module _ (st : TextEnding) (bytes : List ℕ) (xs : List Action) (g : Goes st bytes xs) where
   tail_last : (b : List ℕ) (ys : List Action) → (t : IsTail forms.Last b ys) → Fits st t.1 → IsTail forms.Last (bytes ++ 59 ∷ b) (xs ++ ys)
   tail_last b ys (front, list, is, k) fits =
       let h = g.on front list ys fits k in
@@ -286,7 +286,7 @@ unfolding zero-list
 zero-fits rest e = cc
 
 -- the tail that is held then
-pub tail_joined : (st form : Form) (bytes b : List ℕ) (xs ys : List Action) → IsTail st bytes xs → IsTail form b ys → may_join st form (59 ∷ b) ≡ true
+pub tail_joined : (st form : TextEnding) (bytes b : List ℕ) (xs ys : List Action) → IsTail st bytes xs → IsTail form b ys → may_join st form (59 ∷ b) ≡ true
     → IsTail (behind st form) (bytes ++ joint st form (59 ∷ b)) (xs ++ ys)
 tail_joined forms.Whole form bytes b xs ys h k may = absurd h
 tail_joined forms.Last form bytes b xs ys h k may = absurd (true≢false (sym may))
@@ -318,7 +318,7 @@ reset_decodes =
     let s : Seq (27 ∷ 91 ∷ 109 ∷ []) [] 109 = record { spellable = tt; ends = (omega arith, omega arith); body = []; spelled = refl; whole = refl } in
     one_sequence (27 ∷ 91 ∷ 109 ∷ []) [] 109 (Sgr sgr.Reset ∷ []) s refl
 
-pub tail_decodes : (form : Form) (bytes : List ℕ) (ys : List Action) → IsTail form bytes ys → Decodes (27 ∷ 91 ∷ (bytes ++ closing form)) false ys
+pub tail_decodes : (form : TextEnding) (bytes : List ℕ) (ys : List Action) → IsTail form bytes ys → Decodes (27 ∷ 91 ∷ (bytes ++ closing form)) false ys
 tail_decodes forms.Whole bytes ys h = absurd h
 tail_decodes forms.Last bytes ys (front, list, is, k) =
     let text : 27 ∷ 91 ∷ (front ++ 109 ∷ []) ≡ 27 ∷ 91 ∷ (bytes ++ []) = ap (λ (l : List ℕ). 27 ∷ 91 ∷ l) (sym is ∙ sym (append-nil bytes)) in
@@ -334,7 +334,7 @@ tail_decodes forms.Bare bytes ys (is, are) =
     let text : 27 ∷ 91 ∷ 109 ∷ [] ≡ 27 ∷ 91 ∷ (bytes ++ 109 ∷ []) = ap (λ (l : List ℕ). 27 ∷ 91 ∷ (l ++ 109 ∷ [])) (sym is) in
     subst (λ (l : List ℕ). Decodes l false ys) text (subst (Decodes (27 ∷ 91 ∷ 109 ∷ []) false) (sym are) reset_decodes)
 
-joint_few : (st form : Form) (b : List ℕ) → may_join st form (59 ∷ b) ≡ true
+joint_few : (st form : TextEnding) (b : List ℕ) → may_join st form (59 ∷ b) ≡ true
     → length (joint st form (59 ∷ b)) + length (closing (behind st form)) ≤ length (closing st) + (2 + (length b + length (closing form)))
 joint_few forms.Whole form b may = absurd (true≢false (sym may))
 joint_few forms.Last form b may = absurd (true≢false (sym may))
@@ -346,7 +346,7 @@ joint_few forms.Bare forms.Whole b may = absurd (true≢false (sym may))
 joint_few forms.Bare _ b may = omega arith
 
 -- and is no longer than both
-pub joint_short : (st form : Form) (bytes b : List ℕ) → may_join st form (59 ∷ b) ≡ true
+pub joint_short : (st form : TextEnding) (bytes b : List ℕ) → may_join st form (59 ∷ b) ≡ true
     → length (27 ∷ 91 ∷ ((bytes ++ joint st form (59 ∷ b)) ++ closing (behind st form))) ≤ length ((27 ∷ 91 ∷ (bytes ++ closing st)) ++ 27 ∷ 91 ∷ (b ++ closing form))
 joint_short st form bytes b may =
     let few = joint_few st form b may in

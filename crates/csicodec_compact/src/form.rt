@@ -4,7 +4,7 @@ ghost use Rattle.csicodec_compact.specs.Private.Steps.{closing, form_of, is_bare
 
 /// How a text that is held ends.
 #[derive(Clone, Copy, Debug, PartialEq, Eq)]
-pub(crate) enum Form {
+pub(crate) enum TextEnding {
     /// A sequence, to which nothing is joined, and which is joined to none.
     Whole,
     /// A list of attributes with its `m`: it may be joined to another, and nothing to it.
@@ -17,18 +17,18 @@ pub(crate) enum Form {
     Bare,
 }
 
-impl Form {
+impl TextEnding {
     /// The form of this number.
     #[inline(always)]
-    pub(crate) fn of(mark: u8) -> Form
+    pub(crate) fn of(mark: u8) -> TextEnding
         ensures { result ≡ form_of mark }
     {
         match mark {
-            1 => Form::Last,
-            2 => Form::Open,
-            3 => Form::Blank,
-            4 => Form::Bare,
-            _ => Form::Whole,
+            1 => TextEnding::Last,
+            2 => TextEnding::Open,
+            3 => TextEnding::Blank,
+            4 => TextEnding::Bare,
+            _ => TextEnding::Whole,
         }
     }
 
@@ -37,11 +37,11 @@ impl Form {
         ensures { form_of result ≡ self }
     {
         match self {
-            Form::Whole => 0,
-            Form::Last => 1,
-            Form::Open => 2,
-            Form::Blank => 3,
-            Form::Bare => 4,
+            TextEnding::Whole => 0,
+            TextEnding::Last => 1,
+            TextEnding::Open => 2,
+            TextEnding::Blank => 3,
+            TextEnding::Bare => 4,
         }
     }
 
@@ -50,21 +50,21 @@ impl Form {
     pub(crate) fn is_joined(self) -> bool
         ensures { result ≡ is_joined self }
     {
-        !matches!(self, Form::Whole)
+        !matches!(self, TextEnding::Whole)
     }
 
     #[inline(always)]
     pub(crate) fn is_bare(self) -> bool
         ensures { result ≡ is_bare self }
     {
-        matches!(self, Form::Bare)
+        matches!(self, TextEnding::Bare)
     }
 
     #[inline(always)]
     pub(crate) fn is_open(self) -> bool
         ensures { result ≡ is_open self }
     {
-        matches!(self, Form::Open)
+        matches!(self, TextEnding::Open)
     }
 
     /// What closes it.
@@ -72,11 +72,11 @@ impl Form {
         ensures { result.now ≡ closing self }
     {
         match self {
-            Form::Whole => b"",
-            Form::Last => b"",
-            Form::Open => b"m",
-            Form::Blank => b"0m",
-            Form::Bare => b"m",
+            TextEnding::Whole => b"",
+            TextEnding::Last => b"",
+            TextEnding::Open => b"m",
+            TextEnding::Blank => b"0m",
+            TextEnding::Bare => b"m",
         }
     }
 }

@@ -9,7 +9,7 @@ ghost use Rattle.csicodec.specs.Compose.{EndsInSemicolon, IsStyleList};
 ghost use Rattle.csicodec_compact.specs.Private.Steps.{IsListed, IsOwn, is_mark, is_other};
 
 use crate::encode::NUMBERS;
-use crate::form::Form;
+use crate::form::TextEnding;
 use csicodec_base::{CsiParam, ReadError, read_csi_into};
 use csicodec_parser::CSI;
 use csicodec_streams::parse_into;
@@ -183,7 +183,7 @@ impl Lists {
 
     /// Whether a text of a list that ends in `;0` is one of known attributes without that.
     fn is_blank(&mut self, text: &[u8]) -> Result<bool, AllocError>
-        ensures { IfOk result (λ yes. yes ≡ true → IsListed Form.Blank text.now) }
+        ensures { IfOk result (λ yes. yes ≡ true → IsListed TextEnding.Blank text.now) }
     {
         let Some(front) = without_end(text, b";0m") else {
             return Ok(false);
@@ -206,32 +206,32 @@ impl Lists {
         text: &[u8],
         bytes: &[u8],
         params: &[CsiParam],
-    ) -> Result<Form, AllocError>
+    ) -> Result<TextEnding, AllocError>
         requires { Seq bytes.now params.now 109 }
         ensures { IfOk result (λ form. IsOwn form text.now) }
     {
         if is_reset(text) {
-            return Ok(Form::Bare);
+            return Ok(TextEnding::Bare);
         }
         if usize::from(numbers(text)) > NUMBERS {
-            return Ok(Form::Whole);
+            return Ok(TextEnding::Whole);
         }
         if self.is_blank(text)? {
-            return Ok(Form::Blank);
+            return Ok(TextEnding::Blank);
         }
         if !self.is_list_as(text, bytes, params)? {
-            return Ok(Form::Whole);
+            return Ok(TextEnding::Whole);
         }
         if self.is_unclosed()? {
-            return Ok(Form::Open);
+            return Ok(TextEnding::Open);
         }
-        Ok(Form::Last)
+        Ok(TextEnding::Last)
     }
 }
 
 /// Whether a text is a sequence with an empty list before `m`.
 fn is_reset(text: &[u8]) -> bool
-    ensures { result ≡ true → IsListed Form.Bare text.now }
+    ensures { result ≡ true → IsListed TextEnding.Bare text.now }
 {
     text == b"\x1b[m".as_slice()
 }

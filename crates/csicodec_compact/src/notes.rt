@@ -5,7 +5,7 @@ ghost use Rattle.csicodec_filter.specs.Faithful.{stays};
 ghost use Rattle.csicodec_compact.specs.Private.Steps.{IsNote, IsOwn, closing, form_of, is_joined, list_of};
 
 use crate::compact::Compact;
-use crate::form::Form;
+use crate::form::TextEnding;
 use crate::lists::{Lists, numbers};
 use csicodec_base::{CsiParam, TextBuffer};
 use csicodec_filter::{Rewrite, stays};
@@ -32,7 +32,7 @@ fn are_attributes(params: &[CsiParam], control: char) -> bool
 }
 
 /// The list of a text, without what closes it.
-fn list_of(text: &[u8], form: Form) -> &[u8]
+fn list_of(text: &[u8], form: TextEnding) -> &[u8]
     requires { 2 + length (closing form) ≤ length text.now }
     ensures { result.now ≡ list_of form text.now }
 {
@@ -42,7 +42,7 @@ fn list_of(text: &[u8], form: Form) -> &[u8]
 }
 
 /// Writes a note.
-fn write_note(note: &mut TextBuffer, form: Form, text: &[u8]) -> Result<(), AllocError>
+fn write_note(note: &mut TextBuffer, form: TextEnding, text: &[u8]) -> Result<(), AllocError>
     requires { is_joined form ≡ true → 2 + length (closing form) ≤ length text.now }
     ensures whole { OnOk result
         (is_joined form ≡ false
@@ -68,11 +68,11 @@ fn write_note(note: &mut TextBuffer, form: Form, text: &[u8]) -> Result<(), Allo
 #[inline(always)]
 pub(crate) fn open_note(numbers: u8, bytes: &[u8]) -> [u8; 32]
     requires { 31 ≤ length bytes.now }
-    ensures { (mark : ℕ) × (form_of mark ≡ Form.Open)
+    ensures { (mark : ℕ) × (form_of mark ≡ TextEnding.Open)
         × (result ≡ mark ∷ numbers ∷ 59 ∷ take 29 (drop 2 bytes.now)) }
 {
     let mut note = [0; 32];
-    note[..3].copy_from_slice(&[Form::Open.mark(), numbers, b';']);
+    note[..3].copy_from_slice(&[TextEnding::Open.mark(), numbers, b';']);
     note[3..].copy_from_slice(bytes.split_at(2).1.split_at(29).0);
     note
 }
@@ -98,7 +98,12 @@ impl Notes {
     }
 
     /// The form of the text.
-    fn form(&mut self, bytes: &[u8], params: &[CsiParam], control: char) -> Result<Form, AllocError>
+    fn form(
+        &mut self,
+        bytes: &[u8],
+        params: &[CsiParam],
+        control: char,
+    ) -> Result<TextEnding, AllocError>
         requires { Seq bytes.now params.now control }
         ensures own { IfOk result (λ form. IsOwn form self.old.text.items) }
         ensures free { IfOk result
@@ -108,7 +113,7 @@ impl Notes {
         if are_attributes(params, control) {
             self.lists.form(&self.text, bytes, params)
         } else {
-            Ok(Form::Whole)
+            Ok(TextEnding::Whole)
         }
     }
 

@@ -6,7 +6,7 @@ ghost use Rattle.csicodec_compact.specs.Runs.{IsShortened};
 ghost use Rattle.csicodec_compact.specs.Private.Steps.{Begins, GoesOnBy, IsNote, behind, closing, is_semicolon, joint, may_join, opened};
 
 use crate::encode::NUMBERS;
-use crate::form::Form;
+use crate::form::TextEnding;
 use csicodec_base::TextBuffer;
 use csicodec_streams::append_front;
 use std::alloc::AllocError;
@@ -36,15 +36,15 @@ fn behind_mark(text: &[u8]) -> &[u8]
 /// Whether a text of this form may be joined to what is held. Behind a list that ends in `;` a further one ahead of a `;` would be no
 /// 0 of its own.
 #[inline(always)]
-fn may_join(held: Form, form: Form, text: &[u8]) -> bool
+fn may_join(held: TextEnding, form: TextEnding, text: &[u8]) -> bool
     ensures { result ≡ true → may_join held form text.now ≡ true }
 {
     match held {
-        Form::Whole => false,
-        Form::Last => false,
-        Form::Open => form.is_joined(),
-        Form::Blank => form.is_joined() && !begins_blank(text),
-        Form::Bare => form.is_joined() && !begins_blank(text),
+        TextEnding::Whole => false,
+        TextEnding::Last => false,
+        TextEnding::Open => form.is_joined(),
+        TextEnding::Blank => form.is_joined() && !begins_blank(text),
+        TextEnding::Bare => form.is_joined() && !begins_blank(text),
     }
 }
 
@@ -63,7 +63,7 @@ fn append_text(text: &[u8], wide: &[u8], out: &mut TextBuffer) -> Result<(), All
 /// How what was written ends: the last of it may be a list of attributes that goes on.
 #[derive(Drop)]
 pub(crate) struct Written {
-    form: Form,
+    form: TextEnding,
     /// How many numbers may still be joined; none where nothing goes on.
     room: usize,
 }
@@ -71,10 +71,10 @@ pub(crate) struct Written {
 impl Written {
     /// Nothing goes on.
     pub(crate) fn new() -> Written
-        ensures { result.form ≡ Form.Whole }
+        ensures { result.form ≡ TextEnding.Whole }
     {
         Written {
-            form: Form::Whole,
+            form: TextEnding::Whole,
             room: 0,
         }
     }
@@ -83,27 +83,27 @@ impl Written {
     #[inline(always)]
     pub(crate) fn close(&mut self, out: &mut TextBuffer) -> Result<(), AllocError>
         ensures text { OnOk result (out.new ≡ out.old ++ closing self.old.form) }
-        ensures form { self.new.form ≡ Form.Whole }
+        ensures form { self.new.form ≡ TextEnding.Whole }
     {
         let form = self.form;
-        self.form = Form::Whole;
+        self.form = TextEnding::Whole;
         self.room = 0;
         match form {
-            Form::Whole => Ok(()),
-            Form::Last => Ok(()),
-            Form::Open => out.push_front(b"m", 1),
-            Form::Blank => out.push_front(b"0m", 2),
-            Form::Bare => out.push_front(b"m", 1),
+            TextEnding::Whole => Ok(()),
+            TextEnding::Last => Ok(()),
+            TextEnding::Open => out.push_front(b"m", 1),
+            TextEnding::Blank => out.push_front(b"0m", 2),
+            TextEnding::Bare => out.push_front(b"m", 1),
         }
     }
 
     /// Ends the open list in a vector.
     pub(crate) fn close_into(&mut self, out: &mut Vec<u8>) -> Result<(), AllocError>
         ensures text { OnOk result (out.new.items ≡ out.old.items ++ closing self.old.form) }
-        ensures form { self.new.form ≡ Form.Whole }
+        ensures form { self.new.form ≡ TextEnding.Whole }
     {
         let form = self.form;
-        self.form = Form::Whole;
+        self.form = TextEnding::Whole;
         self.room = 0;
         out.extend_from_slice(form.closing())
     }
@@ -112,7 +112,7 @@ impl Written {
     #[inline(always)]
     fn start(
         &mut self,
-        form: Form,
+        form: TextEnding,
         text: &[u8],
         wide: &[u8],
         out: &mut TextBuffer,
@@ -137,7 +137,7 @@ impl Written {
     #[inline(always)]
     fn join(
         &mut self,
-        form: Form,
+        form: TextEnding,
         text: &[u8],
         wide: &[u8],
         out: &mut TextBuffer,
@@ -152,11 +152,11 @@ impl Written {
             return Ok(());
         }
         if self.form.is_open() {
-            self.form = Form::Blank;
+            self.form = TextEnding::Blank;
             append_text(text, wide, out)?;
             return Ok(());
         }
-        self.form = Form::Open;
+        self.form = TextEnding::Open;
         out.push_front(b";0", 2)?;
         Ok(())
     }
@@ -176,7 +176,7 @@ impl Written {
     {
         let (marks, text) = note.split_at(2);
         let (_, wide) = wide.split_at(2);
-        let form = Form::of(marks[0]);
+        let form = TextEnding::of(marks[0]);
         let numbers = usize::from(marks[1]);
         if numbers <= self.room && may_join(self.form, form, text) {
             self.room -= numbers;

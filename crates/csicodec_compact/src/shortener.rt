@@ -5,7 +5,7 @@ ghost use Rattle.csicodec_filter.specs.Written.{Appends, open_at};
 ghost use Rattle.csicodec_compact.specs.Private.Run.{Holds};
 
 use crate::compact::Compact;
-use crate::form::Form;
+use crate::form::TextEnding;
 use crate::lists::numbers;
 use crate::notes::{Notes, Short, open_note};
 use crate::runs::Written;
@@ -25,7 +25,7 @@ pub(crate) struct Shortener {
 impl Shortener {
     /// Where nothing goes on.
     pub(crate) fn new(alloc: Global, compact: Compact) -> Shortener
-        ensures { result.written.form ≡ Form.Whole }
+        ensures { result.written.form ≡ TextEnding.Whole }
     {
         Shortener {
             notes: Notes::new(alloc, compact),
@@ -35,7 +35,7 @@ impl Shortener {
 
     /// Nothing goes on from here.
     pub(crate) fn restart(&mut self)
-        ensures { self.new.written.form ≡ Form.Whole }
+        ensures { self.new.written.form ≡ TextEnding.Whole }
     {
         self.written = Written::new();
     }
@@ -76,12 +76,12 @@ impl Shortener {
 
 impl WriteSpans<Short> for Shortener {
     ghost use Rattle.std.specs.Prelude.{◌≡◌};
-    ghost use Rattle.csicodec_compact.specs.declared.form.Form.TheVariants as Form;
+    ghost use Rattle.csicodec_compact.specs.declared.form.TextEnding.TheVariants as TextEnding;
     ghost use Rattle.csicodec_compact.specs.Private.Run.{Holds};
 
     ghost written = { Holds };
 
-    ghost rests = { λ s. s.written.form ≡ Form.Whole };
+    ghost rests = { λ s. s.written.form ≡ TextEnding.Whole };
 
     /// Text, an escape sequence, a control sequence that is known, a position and a colour pass.
     #[inline(always)]

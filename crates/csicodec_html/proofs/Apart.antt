@@ -5,8 +5,8 @@ use Rattle.std.specs.Str.Parse.{digits_value}
 use Rattle.std.proofs.lemmas.Fmt.{decimal_is_IsNumeral, length-decimal-le}
 use Rattle.csicodec_html.specs.declared.classes.Class.{Class}
 use Rattle.csicodec_html.specs.declared.classes.Class.TheVariants as kind
-use Rattle.csicodec_html.specs.declared.classes.Part.{Part}
-use Rattle.csicodec_html.specs.declared.classes.Part.TheVariants as part
+use Rattle.csicodec_html.specs.declared.classes.Layer.{Layer}
+use Rattle.csicodec_html.specs.declared.classes.Layer.TheVariants as part
 use Rattle.csicodec_html.specs.Classes.{IsClass, class_name}
 
 -- lines below by a letter of their kind, what is behind `fg-` or `bg-`, and any other name by its first letter
@@ -46,7 +46,7 @@ past (x ∷ xs) (suc n) h = past xs n (omega (arith, h))
 short : (i : ℕ) → i < 256 → get_or (decimal i) 3 0 ≡ 0
 short i h = past (decimal i) 3 (length-decimal-le 3 i (omega arith) (omega (arith, h)) (omega (arith, h)))
 
-of_place : (p : Part) (i : ℕ) → i < 256 → known (class_name (kind.Color p i)) ≡ kind.Color p i
+of_place : (p : Layer) (i : ℕ) → i < 256 → known (class_name (kind.Color p i)) ≡ kind.Color p i
 of_place part.Text i h = rw (short i h, value i h) refl
 of_place part.Ground i h = rw (short i h, value i h) refl
 of_place _ i h = rw (value i h) refl

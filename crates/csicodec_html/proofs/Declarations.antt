@@ -11,8 +11,8 @@ use Rattle.csicodec_names.specs.declared.color.Intensity.TheVariants as intensit
 use Rattle.csicodec_names.specs.declared.color.SrgbaTuple.{SrgbaTuple}
 use Rattle.csicodec_names.specs.declared.color.Underline.{Underline}
 use Rattle.csicodec_names.specs.declared.color.Underline.TheVariants as underline
-use Rattle.csicodec_html.specs.declared.classes.Part.{Part}
-use Rattle.csicodec_html.specs.declared.classes.Part.TheVariants as part
+use Rattle.csicodec_html.specs.declared.classes.Layer.{Layer}
+use Rattle.csicodec_html.specs.declared.classes.Layer.TheVariants as part
 use Rattle.csicodec_html.specs.declared.look.Look.{Look}
 use Rattle.csicodec_html.specs.declared.palette.Palette.{Palette}
 use Rattle.csicodec_html.specs.Look.{color_text, colored, colors, css, has_line, hex_color, hex_digit, inverse_colors, is_none, line_color, line_kind, line_places, line_style, lines, own_name, place_text, property, property_of, slant, some_lines, straight_colors, weight}
@@ -57,14 +57,14 @@ hex c = (refl, (digit (c.0 / 16), (digit (c.0 % 16), (digit (c.1 / 16), (digit (
 
 -- what a colour is of, the page's own, and pairs
 
-pub of_property : (of : Part) → Fine (property_of of)
+pub of_property : (of : Layer) → Fine (property_of of)
 of_property part.Text = checked (codes "color:") refl
 of_property part.Ground = checked (codes "background-color:") refl
 of_property part.Line = checked (codes "text-decoration-color:") refl
 of_property part.TextAsGround = checked (codes "color:") refl
 of_property part.GroundAsText = checked (codes "background-color:") refl
 
-of_own : (of : Part) → Fine (own_name of)
+of_own : (of : Layer) → Fine (own_name of)
 of_own part.Text = tt
 of_own part.Ground = tt
 of_own part.Line = tt
@@ -80,18 +80,18 @@ one_checked [] h i = tt
 one_checked (bytes ∷ lists) h zero = checked bytes (and_parts (all_harmless bytes) (lists_harmless lists) h).0
 one_checked (bytes ∷ lists) h (suc i) = one_checked lists (and_parts (all_harmless bytes) (lists_harmless lists) h).1 i
 
-pair : (of : Part) (i : ℕ) → Fine (pair_of of i)
+pair : (of : Layer) (i : ℕ) → Fine (pair_of of i)
 pair part.Text i = one_checked text_pairs refl i
 pair part.Ground i = one_checked ground_pairs refl i
 pair part.Line i = one_checked text_pairs refl i
 pair part.TextAsGround i = one_checked ground_pairs refl i
 pair part.GroundAsText i = one_checked text_pairs refl i
 
-at_place : (of : Part) (i : ℕ) (c : Option SrgbaTuple) → Fine (place_text of i c)
+at_place : (of : Layer) (i : ℕ) (c : Option SrgbaTuple) → Fine (place_text of i c)
 at_place of i None = pair of i
 at_place of i (Some c) = hex c
 
-colour : (p : Palette) (of : Part) (c : ColorSpec) → Fine (color_text p of c)
+colour : (p : Palette) (of : Layer) (c : ColorSpec) → Fine (color_text p of c)
 colour p of color.Default = of_own of
 colour p of (color.PaletteIndex i) = at_place of i (color_at p i)
 colour p of (color.TrueColor c) = hex c
@@ -138,11 +138,11 @@ all_lines p l = by (has_line l)
     by true = both (codes "text-decoration:") (line_places l ++ (line_style p l ++ 59 ∷ [])) (checked (codes "text-decoration:") refl)
         (both (line_places l) (line_style p l ++ 59 ∷ []) (places l) (both (line_style p l) (59 ∷ []) (style p l) (refl, tt)))
 
-of_one : (p : Palette) (of : Part) (c : ColorSpec) → Fine (property p of c)
+of_one : (p : Palette) (of : Layer) (c : ColorSpec) → Fine (property p of c)
 unfolding property
 of_one p of c = both (property_of of) (color_text p of c ++ 59 ∷ []) (of_property of) (both (color_text p of c) (59 ∷ []) (colour p of c) (refl, tt))
 
-one : (p : Palette) (of : Part) (c : ColorSpec) → Fine (colored p of c)
+one : (p : Palette) (of : Layer) (c : ColorSpec) → Fine (colored p of c)
 unfolding colored
 one p of color.Default = tt
 one p of (color.PaletteIndex i) = of_one p of (color.PaletteIndex i)

@@ -7,8 +7,8 @@ use Rattle.csicodec_names.specs.declared.color.ColorSpec.{ColorSpec}
 use Rattle.csicodec_names.specs.declared.color.ColorSpec.TheVariants as color
 use Rattle.csicodec_html.specs.declared.classes.Class.{Class}
 use Rattle.csicodec_html.specs.declared.classes.Class.TheVariants as kind
-use Rattle.csicodec_html.specs.declared.classes.Part.{Part}
-use Rattle.csicodec_html.specs.declared.classes.Part.TheVariants as part
+use Rattle.csicodec_html.specs.declared.classes.Layer.{Layer}
+use Rattle.csicodec_html.specs.declared.classes.Layer.TheVariants as part
 use Rattle.csicodec_html.specs.declared.look.Look.{Look}
 use Rattle.csicodec_html.specs.Classes.{class_name, ground_color, lines_color, part_name, text_color, true_color, true_colors}
 use Rattle.csicodec_html.specs.Look.{hex_color, property_of}
@@ -38,7 +38,7 @@ number : (n : ℕ) → Fine (decimal n)
 unfolding digits
 number n = onto 64 n [] tt
 
-of_part : (p : Part) → Fine (part_name p)
+of_part : (p : Layer) → Fine (part_name p)
 of_part part.Text = checked (codes "fg-") refl
 of_part part.Ground = checked (codes "bg-") refl
 of_part part.Line = checked (codes "line-") refl
@@ -60,7 +60,7 @@ name_fine kind.TextAsGround = checked (codes "fg-background") refl
 name_fine kind.GroundAsText = checked (codes "bg-foreground") refl
 name_fine (kind.Color p i) = both (part_name p) (decimal i) (of_part p) (number i)
 
-one : (p : Part) (c : ColorSpec) → Fine (true_color p c)
+one : (p : Layer) (c : ColorSpec) → Fine (true_color p c)
 one p color.Default = tt
 one p (color.PaletteIndex i) = tt
 one p (color.TrueColor c) = both (property_of p) (hex_color c ++ 59 ∷ []) (of_property p) (both (hex_color c) (59 ∷ []) (hex c) (refl, tt))

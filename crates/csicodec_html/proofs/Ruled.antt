@@ -6,8 +6,8 @@ use Rattle.std.proofs.lemmas.Bool.{cases_lt}
 use Rattle.csicodec_names.specs.declared.color.Underline.TheVariants as underline
 use Rattle.csicodec_html.specs.declared.classes.Class.{Class}
 use Rattle.csicodec_html.specs.declared.classes.Class.TheVariants as kind
-use Rattle.csicodec_html.specs.declared.classes.Part.{Part}
-use Rattle.csicodec_html.specs.declared.classes.Part.TheVariants as part
+use Rattle.csicodec_html.specs.declared.classes.Layer.{Layer}
+use Rattle.csicodec_html.specs.declared.classes.Layer.TheVariants as part
 use Rattle.csicodec_html.specs.declared.look.Look.{Look}
 use Rattle.csicodec_html.specs.declared.palette.Palette.{Palette}
 use Rattle.csicodec_html.specs.Classes.{IsClass}
@@ -89,7 +89,7 @@ of_behind : (p : Palette) (x : List ℕ) → IsIn x (behind_fixed p) → IsIn x 
 unfolding class_rules behind_fixed
 of_behind p x h = later x (fixed_rules p) (behind_fixed p) h
 
-of_place : (p : Palette) (of : Part) (i n : ℕ) → i < n → IsIn (class_rule p (kind.Color of i)) (color_rules p of n)
+of_place : (p : Palette) (of : Layer) (i n : ℕ) → i < n → IsIn (class_rule p (kind.Color of i)) (color_rules p of n)
 unfolding color_rules
 of_place p of i zero h = absurd (omega (arith, h))
 of_place p of i (suc n) h =
@@ -130,7 +130,7 @@ behind_grounds p x h = behind_texts p x (later x (color_rules p part.Ground 256)
 behind_lines : (p : Palette) (x : List ℕ) → IsIn x (swapped p) → IsIn x (behind_fixed p)
 behind_lines p x h = behind_grounds p x (later x (color_rules p part.Line 256) (swapped p) h)
 
-of_color : (p : Palette) (of : Part) (i : ℕ) → i < 256 → IsIn (class_rule p (kind.Color of i)) (behind_fixed p)
+of_color : (p : Palette) (of : Layer) (i : ℕ) → i < 256 → IsIn (class_rule p (kind.Color of i)) (behind_fixed p)
 of_color p part.Text i h =
     let x = class_rule p (kind.Color part.Text i) in
     behind_ground p x (ahead x (color_rules p part.Text 256) (from_grounds p) (of_place p part.Text i 256 h))

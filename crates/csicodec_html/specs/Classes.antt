@@ -9,8 +9,8 @@ use Rattle.csicodec_names.specs.declared.color.Underline.{Underline}
 use Rattle.csicodec_names.specs.declared.color.Underline.TheVariants as underline
 use Rattle.csicodec_html.specs.declared.classes.Class.{Class}
 use Rattle.csicodec_html.specs.declared.classes.Class.TheVariants as kind
-use Rattle.csicodec_html.specs.declared.classes.Part.{Part}
-use Rattle.csicodec_html.specs.declared.classes.Part.TheVariants as part
+use Rattle.csicodec_html.specs.declared.classes.Layer.{Layer}
+use Rattle.csicodec_html.specs.declared.classes.Layer.TheVariants as part
 use Rattle.csicodec_html.specs.declared.look.Look.{Look}
 use Rattle.csicodec_html.specs.declared.markup.Markup.{Markup}
 use Rattle.csicodec_html.specs.Look.{css, has_line, hex_color, is_none, property_of, settled}
@@ -18,7 +18,7 @@ use Rattle.csicodec_html.specs.Look.{css, has_line, hex_color, is_none, property
 -- ---- the names
 
 -- what a colour is of
-abbrev pub part_name : Part → List ℕ
+abbrev pub part_name : Layer → List ℕ
 part_name part.Text = codes "fg-"
 part_name part.Ground = codes "bg-"
 part_name part.Line = codes "line-"
@@ -66,16 +66,16 @@ lines_class underline.Dotted = Some kind.Dotted
 lines_class underline.Dashed = Some kind.Dashed
 
 -- a colour by its number, and the class for the page's own, if there is one; a colour by its parts has none
-abbrev pub color_class : Part → Option Class → ColorSpec → Option Class
+abbrev pub color_class : Layer → Option Class → ColorSpec → Option Class
 color_class p own color.Default = own
 color_class p own (color.PaletteIndex i) = Some (kind.Color p i)
 color_class p own (color.TrueColor c) = None
 
 -- what the colours of text and background are of, which may have changed places
-abbrev pub text_part : Look → Part
+abbrev pub text_part : Look → Layer
 text_part l = if l.inverse then part.TextAsGround else part.Text
 
-abbrev pub ground_part : Look → Part
+abbrev pub ground_part : Look → Layer
 ground_part l = if l.inverse then part.GroundAsText else part.Ground
 
 -- the colours that they have, and that of lines, where there are any
@@ -122,7 +122,7 @@ is_true (color.PaletteIndex i) = false
 is_true (color.TrueColor c) = true
 
 -- a colour by its parts
-abbrev pub true_color : Part → ColorSpec → List ℕ
+abbrev pub true_color : Layer → ColorSpec → List ℕ
 true_color p color.Default = []
 true_color p (color.PaletteIndex i) = []
 true_color p (color.TrueColor c) = property_of p ++ (hex_color c ++ 59 ∷ [])

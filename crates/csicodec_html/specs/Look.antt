@@ -12,8 +12,8 @@ use Rattle.csicodec_base.specs.declared.sgr.Sgr.TheVariants as sgr
 use Rattle.csicodec_actions.specs.Actions.{Action}
 use Rattle.csicodec_actions.specs.Actions as action
 use Rattle.csicodec_clean.specs.Palette.{palette}
-use Rattle.csicodec_html.specs.declared.classes.Part.{Part}
-use Rattle.csicodec_html.specs.declared.classes.Part.TheVariants as part
+use Rattle.csicodec_html.specs.declared.classes.Layer.{Layer}
+use Rattle.csicodec_html.specs.declared.classes.Layer.TheVariants as part
 use Rattle.csicodec_html.specs.declared.look.Look.{Look}
 use Rattle.csicodec_html.specs.declared.palette.Palette.{Palette}
 use Rattle.csicodec_html.specs.Palette.{color_at, has_pairs, or_own, pair_of}
@@ -131,7 +131,7 @@ abbrev pub hex_color : SrgbaTuple → List ℕ
 hex_color c = 35 ∷ (two_digits c.0 ++ (two_digits c.1 ++ two_digits c.2))
 
 -- what a colour is of
-abbrev pub property_of : Part → List ℕ
+abbrev pub property_of : Layer → List ℕ
 property_of part.Text = codes "color:"
 property_of part.Ground = codes "background-color:"
 property_of part.Line = codes "text-decoration-color:"
@@ -139,7 +139,7 @@ property_of part.TextAsGround = codes "color:"
 property_of part.GroundAsText = codes "background-color:"
 
 -- the page's own colour that a part has where text and background change places
-abbrev pub own_name : Part → List ℕ
+abbrev pub own_name : Layer → List ℕ
 own_name part.Text = []
 own_name part.Ground = []
 own_name part.Line = []
@@ -147,12 +147,12 @@ own_name part.TextAsGround = codes "Canvas"
 own_name part.GroundAsText = codes "CanvasText"
 
 -- the colour of a place, or its pair where it has none
-abbrev pub place_text : Part → ℕ → Option SrgbaTuple → List ℕ
+abbrev pub place_text : Layer → ℕ → Option SrgbaTuple → List ℕ
 place_text of i None = pair_of of i
 place_text of i (Some c) = hex_color c
 
 -- a colour, with a name for the page's own
-abbrev pub color_text : Palette → Part → ColorSpec → List ℕ
+abbrev pub color_text : Palette → Layer → ColorSpec → List ℕ
 color_text p of color.Default = own_name of
 color_text p of (color.PaletteIndex i) = place_text of i (color_at p i)
 color_text p of (color.TrueColor c) = hex_color c
@@ -194,11 +194,11 @@ unfoldable pub lines : Palette → Look → List ℕ
 lines p l = if has_line l then some_lines p l else []
 
 -- what a colour is of, and the colour
-unfoldable pub property : Palette → Part → ColorSpec → List ℕ
+unfoldable pub property : Palette → Layer → ColorSpec → List ℕ
 property p of c = property_of of ++ (color_text p of c ++ 59 ∷ [])
 
 -- of one that isn't the page's own
-unfoldable pub colored : Palette → Part → ColorSpec → List ℕ
+unfoldable pub colored : Palette → Layer → ColorSpec → List ℕ
 colored p of c = if is_default c then [] else property p of c
 
 -- text and background where they change places: the page's own colours that aren't given have names then

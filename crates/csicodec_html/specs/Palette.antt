@@ -4,8 +4,8 @@ use Rattle.csicodec_names.specs.declared.color.ColorSpec.{ColorSpec}
 use Rattle.csicodec_names.specs.declared.color.ColorSpec.TheVariants as color
 use Rattle.csicodec_names.specs.declared.color.SrgbaTuple.{SrgbaTuple}
 use Rattle.csicodec_clean.specs.Palette.{first_places, palette, rgb}
-use Rattle.csicodec_html.specs.declared.classes.Part.{Part}
-use Rattle.csicodec_html.specs.declared.classes.Part.TheVariants as part
+use Rattle.csicodec_html.specs.declared.classes.Layer.{Layer}
+use Rattle.csicodec_html.specs.declared.classes.Layer.TheVariants as part
 use Rattle.csicodec_html.specs.declared.palette.Palette.{Palette}
 
 -- where nobody chose: the first 16 colours are pairs, and the page's own colours are the browser's
@@ -76,7 +76,7 @@ ground_pairs =
     ∷ codes "light-dark(#aef6fe,#00434a)"
     ∷ codes "light-dark(#ffffff,#3a4148)" ∷ []
 
-abbrev pub pair_of : Part → ℕ → List ℕ
+abbrev pub pair_of : Layer → ℕ → List ℕ
 pair_of part.Text i = get_or text_pairs i []
 pair_of part.Ground i = get_or ground_pairs i []
 pair_of part.Line i = get_or text_pairs i []

@@ -11,8 +11,8 @@ use Rattle.csicodec_clean.specs.Cleaned.{Strips, longest}
 use Rattle.csicodec_clean.specs.Shown.{IsShown}
 use Rattle.csicodec_html.specs.declared.classes.Class.{Class}
 use Rattle.csicodec_html.specs.declared.classes.Class.TheVariants as kind
-use Rattle.csicodec_html.specs.declared.classes.Part.{Part}
-use Rattle.csicodec_html.specs.declared.classes.Part.TheVariants as part
+use Rattle.csicodec_html.specs.declared.classes.Layer.{Layer}
+use Rattle.csicodec_html.specs.declared.classes.Layer.TheVariants as part
 use Rattle.csicodec_html.specs.declared.look.Look.{Look}
 use Rattle.csicodec_html.specs.declared.markup.Markup.{Markup}
 use Rattle.csicodec_html.specs.declared.palette.Palette.{Palette}
@@ -97,7 +97,7 @@ fixed_rules p =
     ++ flat_map (class_rule p) (kind.Double ∷ kind.Curly ∷ kind.Dotted ∷ kind.Dashed ∷ []))
 
 -- the colours of so many places from 0 on
-unfoldable pub color_rules : Palette → Part → ℕ → List ℕ
+unfoldable pub color_rules : Palette → Layer → ℕ → List ℕ
 color_rules p of zero = []
 color_rules p of (suc i) = color_rules p of i ++ class_rule p (kind.Color of i)
 
@@ -122,7 +122,7 @@ declares p None = []
 declares p (Some c) = declaration p c
 
 -- of a colour: its class, or the style beside the classes
-abbrev pub said : Palette → Part → Option Class → ColorSpec → List ℕ
+abbrev pub said : Palette → Layer → Option Class → ColorSpec → List ℕ
 said p of own c = declares p (color_class of own c) ++ true_color of c
 
 -- what stands somewhere in it

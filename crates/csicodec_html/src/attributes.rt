@@ -5,7 +5,7 @@ ghost use Rattle.csicodec_html.specs.Look.{is_exact, is_mixed, settled, settled_
 ghost use Rattle.csicodec_html.specs.Page.{Begin};
 ghost use Rattle.csicodec_html.specs.Private.Marked.{classed_mark, marked, styled_mark};
 
-use crate::classes::{Part, append_classes};
+use crate::classes::{Layer, append_classes};
 use crate::colors::{append_parts, append_property_of};
 use crate::css::append_css;
 use crate::look::Look;
@@ -30,7 +30,7 @@ fn has_true(look: Look) -> bool
 }
 
 /// Appends the declaration of a colour by its parts.
-fn append_true(part: Part, color: ColorSpec, out: &mut Vec<u8>) -> Result<(), AllocError>
+fn append_true(part: Layer, color: ColorSpec, out: &mut Vec<u8>) -> Result<(), AllocError>
     ensures { OnOk result (out.new.items ≡ out.old.items ++ true_color part color) }
 {
     let ColorSpec::TrueColor(color) = color else {
@@ -46,9 +46,9 @@ fn append_true(part: Part, color: ColorSpec, out: &mut Vec<u8>) -> Result<(), Al
 fn append_true_colors(look: Look, out: &mut Vec<u8>) -> Result<(), AllocError>
     ensures { OnOk result (out.new.items ≡ out.old.items ++ true_colors look) }
 {
-    append_true(Part::Text, look.text_color(), out)?;
-    append_true(Part::Ground, look.ground_color(), out)?;
-    append_true(Part::Line, look.lines_color(), out)
+    append_true(Layer::Text, look.text_color(), out)?;
+    append_true(Layer::Ground, look.ground_color(), out)?;
+    append_true(Layer::Line, look.lines_color(), out)
 }
 
 /// Appends the style of what no class says, if there is anything. `quote` stands for a quotation mark.

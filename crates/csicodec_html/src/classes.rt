@@ -9,7 +9,7 @@ use std::alloc::AllocError;
 
 /// What a colour is of.
 #[derive(Clone, Copy, PartialEq, Eq, Debug)]
-pub enum Part {
+pub enum Layer {
     Text,
     Ground,
     /// The lines below, above and through text.
@@ -39,7 +39,7 @@ pub enum Class {
     /// The background has the page's own colour of text.
     GroundAsText,
     /// The colour of a place of the palette, from 0 to 255.
-    Color(Part, u8),
+    Color(Layer, u8),
 }
 
 /// The class, if it is there.
@@ -74,7 +74,7 @@ fn lines_class(underline: Underline) -> Option<Class>
 }
 
 /// A colour by its number, and `own` for the page's own.
-fn color_class(part: Part, own: Option<Class>, color: ColorSpec) -> Option<Class>
+fn color_class(part: Layer, own: Option<Class>, color: ColorSpec) -> Option<Class>
     ensures { result ≡ color_class part own color }
 {
     match color {
@@ -86,24 +86,24 @@ fn color_class(part: Part, own: Option<Class>, color: ColorSpec) -> Option<Class
 
 impl Look {
     /// What the colour of its text is of.
-    pub(crate) fn text_part(self) -> Part
+    pub(crate) fn text_part(self) -> Layer
         ensures { result ≡ text_part self }
     {
         if self.inverse {
-            Part::TextAsGround
+            Layer::TextAsGround
         } else {
-            Part::Text
+            Layer::Text
         }
     }
 
     /// What the colour behind it is of.
-    pub(crate) fn ground_part(self) -> Part
+    pub(crate) fn ground_part(self) -> Layer
         ensures { result ≡ ground_part self }
     {
         if self.inverse {
-            Part::GroundAsText
+            Layer::GroundAsText
         } else {
-            Part::Ground
+            Layer::Ground
         }
     }
 
@@ -155,26 +155,26 @@ impl Look {
             class_if(self.strike, Class::Strike),
             color_class(self.text_part(), text, self.text_color()),
             color_class(self.ground_part(), ground, self.ground_color()),
-            color_class(Part::Line, None, self.lines_color()),
+            color_class(Layer::Line, None, self.lines_color()),
         ]
     }
 }
 
 /// Appends the begin of the name of a colour.
-fn append_part(part: Part, out: &mut Vec<u8>) -> Result<(), AllocError>
+fn append_part(part: Layer, out: &mut Vec<u8>) -> Result<(), AllocError>
     ensures { OnOk result (out.new.items ≡ out.old.items ++ part_name part) }
 {
     match part {
-        Part::Text => out.extend_from_slice(b"fg-"),
-        Part::Ground => out.extend_from_slice(b"bg-"),
-        Part::Line => out.extend_from_slice(b"line-"),
-        Part::TextAsGround => out.extend_from_slice(b"fg-background-"),
-        Part::GroundAsText => out.extend_from_slice(b"bg-foreground-"),
+        Layer::Text => out.extend_from_slice(b"fg-"),
+        Layer::Ground => out.extend_from_slice(b"bg-"),
+        Layer::Line => out.extend_from_slice(b"line-"),
+        Layer::TextAsGround => out.extend_from_slice(b"fg-background-"),
+        Layer::GroundAsText => out.extend_from_slice(b"bg-foreground-"),
     }
 }
 
 /// Appends the name of a colour by its number.
-fn append_color_name(part: Part, place: u8, out: &mut Vec<u8>) -> Result<(), AllocError>
+fn append_color_name(part: Layer, place: u8, out: &mut Vec<u8>) -> Result<(), AllocError>
     ensures { OnOk result (out.new.items ≡ out.old.items ++ class_name (Class.Color part place)) }
 {
     append_part(part, out)?;

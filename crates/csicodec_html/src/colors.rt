@@ -3,7 +3,7 @@ ghost use Rattle.std.specs.Prelude.{◌≡◌, ◌<◌, ◌++◌, OnOk};
 ghost use Rattle.csicodec_html.specs.Look.{color_text, hex_color, hex_digit, own_name, place_text, property_of, two_digits};
 ghost use Rattle.csicodec_html.specs.Palette.{color_at};
 
-use crate::classes::Part;
+use crate::classes::Layer;
 use crate::pairs::append_pair;
 use crate::palette::Palette;
 use csicodec_base::{ColorSpec, SrgbaTuple};
@@ -36,31 +36,31 @@ pub(crate) fn append_parts(color: SrgbaTuple, out: &mut Vec<u8>) -> Result<(), A
 }
 
 /// Appends the name of the property of a colour.
-pub(crate) fn append_property_of(part: Part, out: &mut Vec<u8>) -> Result<(), AllocError>
+pub(crate) fn append_property_of(part: Layer, out: &mut Vec<u8>) -> Result<(), AllocError>
     ensures { OnOk result (out.new.items ≡ out.old.items ++ property_of part) }
 {
     match part {
-        Part::Text | Part::TextAsGround => out.extend_from_slice(b"color:"),
-        Part::Ground | Part::GroundAsText => out.extend_from_slice(b"background-color:"),
-        Part::Line => out.extend_from_slice(b"text-decoration-color:"),
+        Layer::Text | Layer::TextAsGround => out.extend_from_slice(b"color:"),
+        Layer::Ground | Layer::GroundAsText => out.extend_from_slice(b"background-color:"),
+        Layer::Line => out.extend_from_slice(b"text-decoration-color:"),
     }
 }
 
 /// Appends the name of the page's own colour that a part has where text and what is behind it change places.
-fn append_own_name(part: Part, out: &mut Vec<u8>) -> Result<(), AllocError>
+fn append_own_name(part: Layer, out: &mut Vec<u8>) -> Result<(), AllocError>
     ensures { OnOk result (out.new.items ≡ out.old.items ++ own_name part) }
 {
     match part {
-        Part::TextAsGround => out.extend_from_slice(b"Canvas"),
-        Part::GroundAsText => out.extend_from_slice(b"CanvasText"),
-        Part::Text | Part::Ground | Part::Line => Ok(()),
+        Layer::TextAsGround => out.extend_from_slice(b"Canvas"),
+        Layer::GroundAsText => out.extend_from_slice(b"CanvasText"),
+        Layer::Text | Layer::Ground | Layer::Line => Ok(()),
     }
 }
 
 /// Appends the colour of a place.
 fn append_place(
     palette: &Palette,
-    part: Part,
+    part: Layer,
     place: u8,
     out: &mut Vec<u8>,
 ) -> Result<(), AllocError>
@@ -78,7 +78,7 @@ fn append_place(
 /// Appends a colour, or the name of the page's own.
 pub(crate) fn append_color(
     palette: &Palette,
-    part: Part,
+    part: Layer,
     color: ColorSpec,
     out: &mut Vec<u8>,
 ) -> Result<(), AllocError>

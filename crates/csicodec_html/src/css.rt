@@ -2,7 +2,7 @@
 ghost use Rattle.std.specs.Prelude.{◌≡◌, ◌++◌, [], OnOk, codes, if◌then◌else◌};
 ghost use Rattle.csicodec_html.specs.Look.{colored, colors, css, inverse_colors, line_color, line_kind, line_places, line_style, lines, property, slant, some_lines, straight_colors, weight};
 
-use crate::classes::Part;
+use crate::classes::Layer;
 use crate::colors::{append_color, append_property_of};
 use crate::look::{Look, is_default, is_none};
 use crate::palette::{Palette, or_own};
@@ -58,7 +58,7 @@ fn append_line_color(
         return Ok(());
     }
     out.push(b' ')?;
-    append_color(palette, Part::Line, color, out)
+    append_color(palette, Layer::Line, color, out)
 }
 
 /// Appends where there are lines.
@@ -106,7 +106,7 @@ fn append_lines(palette: &Palette, look: Look, out: &mut Vec<u8>) -> Result<(), 
 #[tactic(auto, unfolding(crate::specs::Look::property))]
 pub(crate) fn append_property(
     palette: &Palette,
-    part: Part,
+    part: Layer,
     color: ColorSpec,
     out: &mut Vec<u8>,
 ) -> Result<(), AllocError>
@@ -121,7 +121,7 @@ pub(crate) fn append_property(
 #[tactic(auto, unfolding(crate::specs::Look::colored))]
 fn append_colored(
     palette: &Palette,
-    part: Part,
+    part: Layer,
     color: ColorSpec,
     out: &mut Vec<u8>,
 ) -> Result<(), AllocError>
@@ -140,8 +140,8 @@ fn append_inverse(palette: &Palette, look: Look, out: &mut Vec<u8>) -> Result<()
 {
     let text = or_own(palette.background, look.background);
     let ground = or_own(palette.foreground, look.foreground);
-    append_property(palette, Part::TextAsGround, text, out)?;
-    append_property(palette, Part::GroundAsText, ground, out)
+    append_property(palette, Layer::TextAsGround, text, out)?;
+    append_property(palette, Layer::GroundAsText, ground, out)
 }
 
 /// Appends them where they don't.
@@ -149,8 +149,8 @@ fn append_inverse(palette: &Palette, look: Look, out: &mut Vec<u8>) -> Result<()
 fn append_straight(palette: &Palette, look: Look, out: &mut Vec<u8>) -> Result<(), AllocError>
     ensures { OnOk result (out.new.items ≡ out.old.items ++ straight_colors palette.now look) }
 {
-    append_colored(palette, Part::Text, look.foreground, out)?;
-    append_colored(palette, Part::Ground, look.background, out)
+    append_colored(palette, Layer::Text, look.foreground, out)?;
+    append_colored(palette, Layer::Ground, look.background, out)
 }
 
 /// Appends the colours of text and background.

@@ -15,7 +15,7 @@ ghost use Rattle.csicodec_html.specs.Palette.{color_at, xterm};
 ghost use Rattle.csicodec_html.specs.Sheet.{IsIn, class_rule, class_rules, color_of_lines, declares, in_pre, kind_of_lines, line_rule, said};
 ghost use Rattle.csicodec_html.specs.declared.classes.Class.{Class};
 ghost use Rattle.csicodec_html.specs.declared.classes.Class.TheVariants as class;
-ghost use Rattle.csicodec_html.specs.declared.classes.Part.TheVariants as part;
+ghost use Rattle.csicodec_html.specs.declared.classes.Layer.TheVariants as part;
 ghost use Rattle.csicodec_html.specs.declared.look.Look.{Look};
 ghost use Rattle.csicodec_html.specs.declared.markup.Markup.{Markup};
 ghost use Rattle.csicodec_html.specs.declared.palette.Palette.{Palette};

@@ -5,7 +5,7 @@ ghost use Rattle.csicodec_html.specs.Page.{IsPage, IsPageWith, PageOf, PageWith}
 ghost use Rattle.csicodec_html.specs.Private.Marked.{page_byte, page_bytes};
 
 use crate::markup::Markup;
-use crate::rule::Spans;
+use crate::rule::SpanWriter;
 use crate::standing::Standing;
 use csicodec_clean::{Cleaner, split_front};
 use std::alloc::{AllocError, Global};
@@ -77,7 +77,7 @@ pub fn html_with(alloc: Global, markup: Markup, bytes: &[u8]) -> Result<Vec<u8>,
     ensures safe { IfOk result (λ out. IsPageWith markup out.items) }
     ensures tags { IfOk result (λ out. IsMarkup markup.links out.items) }
 {
-    let mut cleaner = Cleaner::new(alloc, Spans::new(alloc, markup));
+    let mut cleaner = Cleaner::new(alloc, SpanWriter::new(alloc, markup));
     let mut marked = Vec::new(alloc);
     cleaner.push(bytes, &mut marked)?;
     cleaner.finish(&mut marked)?;

@@ -2,7 +2,7 @@
 ghost use Rattle.std.specs.Prelude.{◌≡◌, ◌<◌, ◌++◌, [], OnOk, get_or};
 ghost use Rattle.csicodec_html.specs.Palette.{ground_pairs, pair_of, text_pairs};
 
-use crate::classes::Part;
+use crate::classes::Layer;
 use std::alloc::AllocError;
 
 /// The colours of text.
@@ -56,12 +56,12 @@ fn ground_pair(place: u8) -> &'static [u8]
 }
 
 /// Appends the colours of a place: those of text for what text has, also where it changed places with what is behind it.
-pub(crate) fn append_pair(part: Part, place: u8, out: &mut Vec<u8>) -> Result<(), AllocError>
+pub(crate) fn append_pair(part: Layer, place: u8, out: &mut Vec<u8>) -> Result<(), AllocError>
     requires { place < 16 }
     ensures { OnOk result (out.new.items ≡ out.old.items ++ pair_of part place) }
 {
     match part {
-        Part::Text | Part::Line | Part::GroundAsText => out.extend_from_slice(text_pair(place)),
-        Part::Ground | Part::TextAsGround => out.extend_from_slice(ground_pair(place)),
+        Layer::Text | Layer::Line | Layer::GroundAsText => out.extend_from_slice(text_pair(place)),
+        Layer::Ground | Layer::TextAsGround => out.extend_from_slice(ground_pair(place)),
     }
 }

@@ -86,7 +86,7 @@ fn append_turn(
 
 /// The rule that turns attributes into spans, and links, where they pass, into links of the page.
 #[derive(Drop)]
-pub(crate) struct Spans {
+pub(crate) struct SpanWriter {
     alloc: Global,
     markup: Markup,
     look: Look,
@@ -97,7 +97,7 @@ pub(crate) struct Spans {
     turns: Turns,
 }
 
-impl Model for Spans {
+impl Model for SpanWriter {
     ghost use Rattle.csicodec_clean.specs.Links.{begun};
     ghost use Rattle.csicodec_html.specs.Page.{Setting, setting};
 
@@ -111,12 +111,12 @@ impl Model for Spans {
     ghost invariant = { λ s. AreTurns s.markup s.turns.kept.items };
 }
 
-impl Spans {
+impl SpanWriter {
     /// At the beginning of a stream.
-    pub(crate) fn new(alloc: Global, markup: Markup) -> Spans
+    pub(crate) fn new(alloc: Global, markup: Markup) -> SpanWriter
         ensures { result ≡ first_set markup }
     {
-        Spans {
+        SpanWriter {
             alloc,
             markup,
             look: Look::plain(),
@@ -127,7 +127,7 @@ impl Spans {
     }
 }
 
-impl Rule for Spans {
+impl Rule for SpanWriter {
     ghost use Rattle.csicodec_html.specs.Private.Marked.{closes, turns};
 
     ghost gives = { turns };

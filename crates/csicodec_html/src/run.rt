@@ -6,7 +6,7 @@ ghost use Rattle.csicodec_clean.specs.Streams.{Streams};
 
 use crate::markup::Markup;
 use crate::page::append_page;
-use crate::rule::Spans;
+use crate::rule::SpanWriter;
 use csicodec_clean::Cleaner;
 use csicodec_filter::{Transform, transform_all};
 use csicodec_streams::RunError;
@@ -17,7 +17,7 @@ use std::marker::Model;
 /// A stream that becomes a page as it comes.
 #[derive(Drop)]
 struct Page {
-    cleaner: Cleaner<Spans>,
+    cleaner: Cleaner<SpanWriter>,
     /// A place that is kept for what a chunk leaves.
     marked: Vec<u8>,
 }
@@ -37,7 +37,7 @@ impl Page {
         ensures { result ≡ start_of (first_set markup) }
     {
         Page {
-            cleaner: Cleaner::new(alloc, Spans::new(alloc, markup)),
+            cleaner: Cleaner::new(alloc, SpanWriter::new(alloc, markup)),
             marked: Vec::new(alloc),
         }
     }

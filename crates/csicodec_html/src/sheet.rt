@@ -2,7 +2,7 @@
 ghost use Rattle.std.specs.Prelude.{◌≡◌, ◌<◌, ◌++◌, [], ℕ, IfOk, List, OnOk};
 ghost use Rattle.csicodec_html.specs.Sheet.{IsTitle, class_rule, class_rules, color_rules, own_color, own_colors, rules_of_classes, sheet};
 
-use crate::classes::{Class, Part, append_name};
+use crate::classes::{Class, Layer, append_name};
 use crate::colors::append_parts;
 use crate::css::append_property;
 use crate::markup::Markup;
@@ -95,7 +95,7 @@ fn append_own_colors(palette: &Palette, out: &mut Vec<u8>) -> Result<(), AllocEr
 /// Appends what the class of a colour means.
 fn append_color_rule(
     palette: &Palette,
-    part: Part,
+    part: Layer,
     place: u8,
     out: &mut Vec<u8>,
 ) -> Result<(), AllocError>
@@ -111,7 +111,7 @@ fn append_color_rule(
 }
 
 /// Appends what the classes of all colours of a part mean.
-fn append_color_rules(palette: &Palette, part: Part, out: &mut Vec<u8>) -> Result<(), AllocError>
+fn append_color_rules(palette: &Palette, part: Layer, out: &mut Vec<u8>) -> Result<(), AllocError>
     ensures { OnOk result (out.new.items ≡ out.old.items ++ color_rules palette.now part 256) }
 {
     for place in 0..256u16 {
@@ -127,7 +127,7 @@ fn append_text_rule(palette: &Palette, out: &mut Vec<u8>) -> Result<(), AllocErr
 {
     let color = or_own(palette.background, ColorSpec::Default);
     out.extend_from_slice(b".fg-background{")?;
-    append_property(palette, Part::TextAsGround, color, out)?;
+    append_property(palette, Layer::TextAsGround, color, out)?;
     out.extend_from_slice(b"}\n")?;
     Ok(())
 }
@@ -139,7 +139,7 @@ fn append_ground_rule(palette: &Palette, out: &mut Vec<u8>) -> Result<(), AllocE
 {
     let color = or_own(palette.foreground, ColorSpec::Default);
     out.extend_from_slice(b".bg-foreground{")?;
-    append_property(palette, Part::GroundAsText, color, out)?;
+    append_property(palette, Layer::GroundAsText, color, out)?;
     out.extend_from_slice(b"}\n")?;
     Ok(())
 }
@@ -151,11 +151,11 @@ fn append_class_rules(palette: &Palette, out: &mut Vec<u8>) -> Result<(), AllocE
     append_text(RULES, out)?;
     append_text_rule(palette, out)?;
     append_ground_rule(palette, out)?;
-    append_color_rules(palette, Part::Text, out)?;
-    append_color_rules(palette, Part::Ground, out)?;
-    append_color_rules(palette, Part::Line, out)?;
-    append_color_rules(palette, Part::TextAsGround, out)?;
-    append_color_rules(palette, Part::GroundAsText, out)
+    append_color_rules(palette, Layer::Text, out)?;
+    append_color_rules(palette, Layer::Ground, out)?;
+    append_color_rules(palette, Layer::Line, out)?;
+    append_color_rules(palette, Layer::TextAsGround, out)?;
+    append_color_rules(palette, Layer::GroundAsText, out)
 }
 
 /// Appends that, where there are classes.

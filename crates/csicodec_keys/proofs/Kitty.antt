@@ -12,8 +12,8 @@ use Rattle.csicodec_keys.specs.declared.key.Encoding.TheVariants as encoding
 use Rattle.csicodec_keys.specs.declared.key.Encoding.{Encoding}
 use Rattle.csicodec_keys.specs.declared.tables.Row.{Row}
 use Rattle.csicodec_keys.specs.Tables.{csi_keys, kitty_keys, rxvt_keys}
-use Rattle.csicodec_keys.specs.declared.writing.Form.{Form}
-use Rattle.csicodec_keys.specs.declared.writing.Form.TheVariants as form
+use Rattle.csicodec_keys.specs.declared.writing.KeySpelling.{KeySpelling}
+use Rattle.csicodec_keys.specs.declared.writing.KeySpelling.TheVariants as form
 use Rattle.csicodec_keys.specs.Characters.{is_typed}
 use Rattle.csicodec_keys.specs.Fields.{Says, read_list, written_list}
 use Rattle.csicodec_keys.specs.Forms.{by, csi_row, form_of, key_alone, key_by, kitty_char, kitty_row, other_key, read_csi, read_form, read_listed, row_key, said_key, told_by}
@@ -105,25 +105,25 @@ char-said c s i same typed none =
     (ap (key_by (record { number = c; held = s.held; event = s.event; text = s.text }) 117) none
     ∙ (ap (λ (b : Bool). if b then Some (said_as s (code.Char c)) else None) typed ∙ ap (λ (k : KeyCode). Some (said_as s k)) (sym same)))
 
-kitty-char : (s : Stroke) (c : KeyCode) (f : Form) → InRange s → s.code ≡ c → kitty_char s c ≡ Some f → read_form f s.text ≡ Some s
+kitty-char : (s : Stroke) (c : KeyCode) (f : KeySpelling) → InRange s → s.code ≡ c → kitty_char s c ≡ Some f → read_form f s.text ≡ Some s
 kitty-char s (code.Char c) f i same e =
     let g = guarded (is_typed c && is_none (csi_row c 117)) (Some (form.Typed c s.held s.event 117)) f e in
     let p = and_parts (is_typed c) (is_none (csi_row c 117)) g.0 in
-    subst (λ (x : Form). read_form x s.text ≡ Some s) (same_Some _ _ g.1) (char-said c s i same p.0 (none-is (csi_row c 117) p.1))
+    subst (λ (x : KeySpelling). read_form x s.text ≡ Some s) (same_Some _ _ g.1) (char-said c s i same p.0 (none-is (csi_row c 117) p.1))
 kitty-char s _ f i same e = cc
 
-pub kitty-trip : (s : Stroke) (f : Form) → is_stroke s ≡ true → form_of encoding.Kitty s ≡ Some f → read_form f s.text ≡ Some s
+pub kitty-trip : (s : Stroke) (f : KeySpelling) → is_stroke s ≡ true → form_of encoding.Kitty s ≡ Some f → read_form f s.text ≡ Some s
 kitty-trip s f h e =
     let i = in-range s h in
     elim (one-of (option_map (kitty_row s) (row_of kitty_keys s.code 0)) _ f e) [
       | inl own ↦
           let m = map-some (kitty_row s) (row_of kitty_keys s.code 0) f own in
-          subst (λ (x : Form). read_form x s.text ≡ Some s) m.2 (kitty-row m.0 s i m.1)
+          subst (λ (x : KeySpelling). read_form x s.text ≡ Some s) m.2 (kitty-row m.0 s i m.1)
       | inr more ↦
           elim (one-of (option_map (kitty_row s) (row_of csi_keys s.code 0)) (kitty_char s s.code) f more) [
             | inl shared ↦
                 let m = map-some (kitty_row s) (row_of csi_keys s.code 0) f shared in
-                subst (λ (x : Form). read_form x s.text ≡ Some s) m.2 (csi-row m.0 s i m.1)
+                subst (λ (x : KeySpelling). read_form x s.text ≡ Some s) m.2 (csi-row m.0 s i m.1)
             | inr char ↦ kitty-char s s.code f i refl char
           ]
     ]

@@ -12,8 +12,8 @@ use Rattle.csicodec_keys.specs.declared.key.KeyEvent.{KeyEvent}
 use Rattle.csicodec_keys.specs.declared.key.KeyEvent.TheVariants as event
 use Rattle.csicodec_keys.specs.declared.tables.Row.{Row}
 use Rattle.csicodec_keys.specs.Tables.{controls, csi_keys, ss3_keys}
-use Rattle.csicodec_keys.specs.declared.writing.Form.{Form}
-use Rattle.csicodec_keys.specs.declared.writing.Form.TheVariants as form
+use Rattle.csicodec_keys.specs.declared.writing.KeySpelling.{KeySpelling}
+use Rattle.csicodec_keys.specs.declared.writing.KeySpelling.TheVariants as form
 use Rattle.csicodec_keys.specs.Characters.{is_alt, is_typed}
 use Rattle.csicodec_keys.specs.Fields.{written_list}
 use Rattle.csicodec_keys.specs.Forms.{alt_control, but_release, by, char_form, control_form, csi_form, form_of, held_by, key_alone, legacy_form, legacy_said, pressed, pressed_row, read_alt, read_char, read_form, read_ss3, said, ss3_by, ss3_form, text_form, text_of, typed_or, typing, with_alt, xterm_held}
@@ -44,14 +44,14 @@ control-at c held r e =
     let p = and_parts (r.number == 0) (not (is_typed r.control)) (row-all is_control_row controls c held r controls-all e) in
     (not-true (is_typed r.control) p.1, subst (λ n. row_at controls n r.control ≡ Some r) (eqb-true r.number 0 p.0) (any-row controls c held r controls-apart e))
 
-control-read : (c : KeyCode) (held : ℕ) (text : List ℕ) (f : Form) → control_form c held ≡ Some f → read_form f text ≡ Some (legacy_said c held text)
+control-read : (c : KeyCode) (held : ℕ) (text : List ℕ) (f : KeySpelling) → control_form c held ≡ Some f → read_form f text ≡ Some (legacy_said c held text)
 control-read c held text f e =
     let m = map-some (λ (r : Row). form.Text r.control) (row_of controls c held) f e in
     let r = m.0 in
     let at = control-at c held r m.1 in
     let has = row-has controls c held r m.1 in
     let told : read_char r.control ≡ Some (pressed_row r) = rw (at.0, at.1) refl in
-    subst (λ (x : Form). read_form x text ≡ Some (legacy_said c held text)) m.2
+    subst (λ (x : KeySpelling). read_form x text ≡ Some (legacy_said c held text)) m.2
     (told ∙ (ap Some (pressed-has r c held has.code_is has.held_is) ∙ ap Some (sym (row-pressed r c held text (row-all is_no_text controls c held r controls-no-text m.1) has.code_is has.held_is))))
 
 with-alt : (held n : ℕ) → 2 ≤ held → held < 8 → n ≡ held - 2 → with_alt n ≡ held
@@ -66,7 +66,7 @@ two-held c held text h = said-pressed c held text (none (is_char c))
     none : (b : Bool) → (b && nat_lt held 2) ≡ false
     none b = grind arith
 
-alt-read : (c : KeyCode) (held : ℕ) (text : List ℕ) (f : Form) → held < 8 → alt_control c held ≡ Some f → read_form f text ≡ Some (legacy_said c held text)
+alt-read : (c : KeyCode) (held : ℕ) (text : List ℕ) (f : KeySpelling) → held < 8 → alt_control c held ≡ Some f → read_form f text ≡ Some (legacy_said c held text)
 alt-read c held text f high e =
     let u = unless (nat_lt held 2) (option_map (λ (r : Row). form.Alt r.control) (row_of controls c (held - 2))) f e in
     let low : 2 ≤ held = ltb-false held 2 u.0 in
@@ -75,10 +75,10 @@ alt-read c held text f high e =
     let at = control-at c (held - 2) r m.1 in
     let has = row-has controls c (held - 2) r m.1 in
     let told : key_alone (by encoding.Legacy (read_alt r.control)) ≡ Some (pressed r.code (with_alt r.held)) = key-alone encoding.Legacy (read_alt r.control) ∙ rw (at.0, at.1) refl in
-    subst (λ (x : Form). read_form x text ≡ Some (legacy_said c held text)) m.2
+    subst (λ (x : KeySpelling). read_form x text ≡ Some (legacy_said c held text)) m.2
     (told ∙ (ap (λ (k : KeyCode). Some (pressed k (with_alt r.held))) has.code_is ∙ (ap (λ (n : ℕ). Some (pressed c n)) (with-alt held r.held low high has.held_is) ∙ ap Some (sym (two-held c held text low)))))
 
-ss3-read : (c : KeyCode) (held : ℕ) (text : List ℕ) (f : Form) → ss3_form c held ≡ Some f → read_form f text ≡ Some (legacy_said c held text)
+ss3-read : (c : KeyCode) (held : ℕ) (text : List ℕ) (f : KeySpelling) → ss3_form c held ≡ Some f → read_form f text ≡ Some (legacy_said c held text)
 ss3-read c held text f e =
     let m = map-some (λ (r : Row). form.Ss3 r.control) (row_of ss3_keys c held) f e in
     let r = m.0 in
@@ -87,7 +87,7 @@ ss3-read c held text f e =
     subst (λ n. row_at ss3_keys n r.control ≡ Some r) (eqb-true r.number 0 (row-all is_alone ss3_keys c held r ss3-all m.1)) (any-row ss3_keys c held r ss3-apart m.1)
     in
     let told : key_alone (by (ss3_by r.control) (read_ss3 r.control)) ≡ Some (pressed_row r) = key-alone (ss3_by r.control) (read_ss3 r.control) ∙ rw at refl in
-    subst (λ (x : Form). read_form x text ≡ Some (legacy_said c held text)) m.2
+    subst (λ (x : KeySpelling). read_form x text ≡ Some (legacy_said c held text)) m.2
     (told ∙ (ap Some (pressed-has r c held has.code_is has.held_is) ∙ ap Some (sym (row-pressed r c held text (row-all is_no_text ss3_keys c held r ss3-no-text m.1) has.code_is has.held_is))))
 
 -- text is what a key types
@@ -96,11 +96,11 @@ text-is c held d [] e = same_Some c d (guarded (held == 0) (Some c) d e).1
 text-is c held d (x ∷ []) e = same_Some x d e
 text-is c held d (x ∷ y ∷ ys) e = cc
 
-text-read : (o : Option ℕ) (text : List ℕ) (f : Form) → text_form o ≡ Some f → (d : ℕ) × (o ≡ Some d) × (read_form f text ≡ Some (typing d))
+text-read : (o : Option ℕ) (text : List ℕ) (f : KeySpelling) → text_form o ≡ Some f → (d : ℕ) × (o ≡ Some d) × (read_form f text ≡ Some (typing d))
 text-read None text f e = cc
 text-read (Some d) text f e =
     let g = guarded (is_typed d) (Some (form.Text d)) f e in
-    (d, refl, subst (λ (x : Form). read_form x text ≡ Some (typing d)) (same_Some _ _ g.1) (rw g.0 refl))
+    (d, refl, subst (λ (x : KeySpelling). read_form x text ≡ Some (typing d)) (same_Some _ _ g.1) (rw g.0 refl))
 
 alt-typed : (c : ℕ) → is_alt c ≡ true → is_typed c ≡ true
 alt-typed c h =
@@ -110,7 +110,7 @@ alt-typed c h =
     let last : not (nat_le 127 c && nat_lt c 160) ≡ true = rw (lt-leb 127 c high) refl in
     and_from (scalar c && not (nat_lt c 32)) (not (nat_le 127 c && nat_lt c 160)) (and_from (scalar c) (not (nat_lt c 32)) (low_scalar c (omega (arith, high))) q.0) last
 
-char-read : (c : KeyCode) (held : ℕ) (text : List ℕ) (f : Form) → char_form c held text ≡ Some f → read_form f text ≡ Some (legacy_said c held text)
+char-read : (c : KeyCode) (held : ℕ) (text : List ℕ) (f : KeySpelling) → char_form c held text ≡ Some f → read_form f text ≡ Some (legacy_said c held text)
 char-read (code.Char c) held text f e = elim (cases_Bool (nat_lt held 2)) [
   | inl low ↦
       let t = text-read (text_of c held text) text f (rw low at e) in
@@ -118,12 +118,12 @@ char-read (code.Char c) held text f e = elim (cases_Bool (nat_lt held 2)) [
   | inr high ↦
       let g = guarded ((held == 2) && is_alt c) (Some (form.Alt c)) f (rw high at e) in
       let p = and_parts (held == 2) (is_alt c) g.0 in
-      subst (λ (x : Form). read_form x text ≡ Some (legacy_said (code.Char c) held text)) (same_Some _ _ g.1)
+      subst (λ (x : KeySpelling). read_form x text ≡ Some (legacy_said (code.Char c) held text)) (same_Some _ _ g.1)
       (rw (alt-typed c p.1, eqb-true held 2 p.0) refl)
 ]
 char-read code.Escape held text f e =
     let g = guarded (held == 0) (Some form.Escape) f e in
-    subst (λ (x : Form). read_form x text ≡ Some (legacy_said code.Escape held text)) (same_Some _ _ g.1) (rw (eqb-true held 0 g.0) refl)
+    subst (λ (x : KeySpelling). read_form x text ≡ Some (legacy_said code.Escape held text)) (same_Some _ _ g.1) (rw (eqb-true held 0 g.0) refl)
 char-read _ held text f e = cc
 
 held-own : (h : ℕ) → held_by h 0 ≡ Some h
@@ -150,19 +150,19 @@ csi-named r c own held text e =
     still true h = cc
     still false h = refl
 
-csi-read : (c : KeyCode) (held : ℕ) (text : List ℕ) (f : Form) → held < 8 → csi_form c held ≡ Some f → read_form f text ≡ Some (legacy_said c held text)
+csi-read : (c : KeyCode) (held : ℕ) (text : List ℕ) (f : KeySpelling) → held < 8 → csi_form c held ≡ Some f → read_form f text ≡ Some (legacy_said c held text)
 csi-read c held text f h e = elim (one-of (option_map (λ (r : Row). form.Csi r.number 0 r.control) (row_of csi_keys c held)) _ f e) [
   | inl own ↦
       let m = map-some (λ (r : Row). form.Csi r.number 0 r.control) (row_of csi_keys c held) f own in
-      subst (λ (x : Form). read_form x text ≡ Some (legacy_said c held text)) m.2
+      subst (λ (x : KeySpelling). read_form x text ≡ Some (legacy_said c held text)) m.2
       (csi-said m.0 c held 0 held text m.1 (omega arith) (held-own held) ∙ ap Some (sym (csi-named m.0 c held held text m.1)))
   | inr list ↦
       let m = map-some (λ (r : Row). form.Csi r.number held r.control) (row_of csi_keys c 0) f list in
-      subst (λ (x : Form). read_form x text ≡ Some (legacy_said c held text)) m.2
+      subst (λ (x : KeySpelling). read_form x text ≡ Some (legacy_said c held text)) m.2
       (csi-said m.0 c 0 held held text m.1 (omega arith) refl ∙ ap Some (sym (csi-named m.0 c 0 held text m.1)))
 ]
 
-forms-read : (s : Stroke) (held : ℕ) (f : Form) → held < 8 → legacy_form s held ≡ Some f → read_form f s.text ≡ Some (legacy_said s.code held s.text)
+forms-read : (s : Stroke) (held : ℕ) (f : KeySpelling) → held < 8 → legacy_form s held ≡ Some f → read_form f s.text ≡ Some (legacy_said s.code held s.text)
 forms-read s held f h e = elim (one-of (control_form s.code held) _ f e) [
   | inl found ↦ control-read s.code held s.text f found
   | inr more ↦ elim (one-of (alt_control s.code held) _ f more) [
@@ -181,15 +181,15 @@ pub below-eight : (n : ℕ) → n % 8 < 8
 below-eight n = omega arith
 
 -- a form that isn't left out
-pub released : (e : KeyEvent) (o : Option Form) (f : Form) → but_release e o ≡ Some f → o ≡ Some f
+pub released : (e : KeyEvent) (o : Option KeySpelling) (f : KeySpelling) → but_release e o ≡ Some f → o ≡ Some f
 released event.Press o f e = e
 released event.Repeat o f e = e
 released event.Release o f e = cc
 
-pub nothing : (f : Form) → ◌≡◌ {A = Option Form} None (Some f) → ⊥
+pub nothing : (f : KeySpelling) → ◌≡◌ {A = Option KeySpelling} None (Some f) → ⊥
 nothing f e = cc
 
-pub legacy-trip : (s : Stroke) (f : Form) → form_of encoding.Legacy s ≡ Some f → read_form f s.text ≡ Some (said encoding.Legacy s)
+pub legacy-trip : (s : Stroke) (f : KeySpelling) → form_of encoding.Legacy s ≡ Some f → read_form f s.text ≡ Some (said encoding.Legacy s)
 legacy-trip s f e =
     let u = released s.event (option_and_then (legacy_form s) (xterm_held s.held)) f e in
     elim (cases_Bool (nat_lt (s.held % 64) 8)) [

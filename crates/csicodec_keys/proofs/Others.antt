@@ -12,8 +12,8 @@ use Rattle.csicodec_keys.specs.declared.key.Encoding.TheVariants as encoding
 use Rattle.csicodec_keys.specs.declared.key.KeyEvent.TheVariants as event
 use Rattle.csicodec_keys.specs.declared.tables.Row.{Row}
 use Rattle.csicodec_keys.specs.Tables.{csi_keys, kitty_keys, linux_keys, other_keys, rxvt_keys, rxvt_ss3, ss3_cursor, ss3_keys}
-use Rattle.csicodec_keys.specs.declared.writing.Form.{Form}
-use Rattle.csicodec_keys.specs.declared.writing.Form.TheVariants as form
+use Rattle.csicodec_keys.specs.declared.writing.KeySpelling.{KeySpelling}
+use Rattle.csicodec_keys.specs.declared.writing.KeySpelling.TheVariants as form
 use Rattle.csicodec_keys.specs.Characters.{is_typed}
 use Rattle.csicodec_keys.specs.SameKeys.{same_code}
 use Rattle.csicodec_keys.specs.Fields.{Says, written_list}
@@ -86,7 +86,7 @@ other-apart = refl
 
 -- ---- Linux' console
 
-linux-trip : (k : KeyCode) (held : ℕ) (text : List ℕ) (f : Form) → linux_form k held ≡ Some f → read_form f text ≡ Some (pressed k held)
+linux-trip : (k : KeyCode) (held : ℕ) (text : List ℕ) (f : KeySpelling) → linux_form k held ≡ Some f → read_form f text ≡ Some (pressed k held)
 linux-trip k held text f e =
     let m = map-some (λ (r : Row). form.Linux r.control) (row_of linux_keys k held) f e in
     let r = m.0 in
@@ -94,7 +94,7 @@ linux-trip k held text f e =
     let at : row_at linux_keys 0 r.control ≡ Some r =
     subst (λ n. row_at linux_keys n r.control ≡ Some r) (eqb-true r.number 0 (row-all is_zero linux_keys k held r linux-zero m.1)) (any-row linux_keys k held r linux-apart m.1)
     in
-    subst (λ (x : Form). read_form x text ≡ Some (pressed k held)) m.2
+    subst (λ (x : KeySpelling). read_form x text ≡ Some (pressed k held)) m.2
     (key-alone encoding.Linux (option_map pressed_row (row_at linux_keys 0 r.control)) ∙ (ap (option_map pressed_row) at ∙ ap Some (pressed-has r k held has.code_is has.held_is)))
 
 -- ---- rxvt
@@ -144,14 +144,14 @@ row-trip k held text r e = elim (cases_Bool (r.control == 36)) [
   | inr other ↦ rw other (csi-trip k held text r e (rw other at (row-all is_read_or_dollar rxvt_keys k held r rxvt-read e)))
 ]
 
-rxvt-trip : (k : KeyCode) (held : ℕ) (text : List ℕ) (f : Form) → rxvt_form k held ≡ Some f → read_form f text ≡ Some (pressed k held)
+rxvt-trip : (k : KeyCode) (held : ℕ) (text : List ℕ) (f : KeySpelling) → rxvt_form k held ≡ Some f → read_form f text ≡ Some (pressed k held)
 rxvt-trip k held text f e = elim (one-of (option_map rxvt_row (row_of rxvt_keys k held)) _ f e) [
   | inl row ↦
       let m = map-some rxvt_row (row_of rxvt_keys k held) f row in
-      subst (λ (x : Form). read_form x text ≡ Some (pressed k held)) m.2 (row-trip k held text m.0 m.1)
+      subst (λ (x : KeySpelling). read_form x text ≡ Some (pressed k held)) m.2 (row-trip k held text m.0 m.1)
   | inr ss3 ↦
       let m = map-some (λ (r : Row). form.Ss3 r.control) (row_of rxvt_ss3 k held) f ss3 in
-      subst (λ (x : Form). read_form x text ≡ Some (pressed k held)) m.2 (ss3-trip k held text m.0 m.1)
+      subst (λ (x : KeySpelling). read_form x text ≡ Some (pressed k held)) m.2 (ss3-trip k held text m.0 m.1)
 ]
 
 -- ---- modifyOtherKeys
@@ -191,7 +191,7 @@ none-said : (held : ℕ) (text : List ℕ) → said_key (record { number = 27; h
 unfolding row_at kitty_keys csi_keys rxvt_keys
 none-said held text = refl
 
-other-trip : (k : KeyCode) (held : ℕ) (text : List ℕ) (f : Form) → held < 8 → other_form k held ≡ Some f → read_form f text ≡ Some (pressed k held)
+other-trip : (k : KeyCode) (held : ℕ) (text : List ℕ) (f : KeySpelling) → held < 8 → other_form k held ≡ Some f → read_form f text ≡ Some (pressed k held)
 other-trip k held text f h e =
     let u = unless (held == 0) (option_map (λ n. form.Other n held) (other_number k)) f e in
     let m = map-some (λ n. form.Other n held) (other_number k) f u.1 in
@@ -199,7 +199,7 @@ other-trip k held text f h e =
     let is = other-numbered k n m.1 in
     let says : Says = record { number = 27; held = held; event = event.Press; text = n ∷ [] } in
     let list = list-read 27 held event.Press (n ∷ []) refl (omega (arith, h)) (and_from (scalar n) true is.character refl) (omega arith) in
-    subst (λ (x : Form). read_form x text ≡ Some (pressed k held)) m.2
+    subst (λ (x : KeySpelling). read_form x text ≡ Some (pressed k held)) m.2
     (first-read (read_listed (written_list 27 held event.Press (n ∷ [])) 126) (by encoding.Win32 (read_win32 (written_list 27 held event.Press (n ∷ [])) 126)) (pressed k held)
     (ap (λ o. key_alone (option_and_then (λ (x : Says). option_or (by (told_by x 126) (said_key x 126)) (by encoding.ModifyOtherKeys (other_key x 126 x.text))) o)) list
     ∙ (ap (λ o. key_alone (option_or (by (told_by says 126) o) (by encoding.ModifyOtherKeys (other_key says 126 (n ∷ []))))) (none-said held (n ∷ []))
@@ -207,7 +207,7 @@ other-trip k held text f h e =
 
 -- ---- all of them
 
-pub eight-trip : (s : Stroke) (f : Form) (g : KeyCode → ℕ → Option Form) → ((k : KeyCode) (held : ℕ) (f : Form) → held < 8 → g k held ≡ Some f → read_form f s.text ≡ Some (pressed k held))
+pub eight-trip : (s : Stroke) (f : KeySpelling) (g : KeyCode → ℕ → Option KeySpelling) → ((k : KeyCode) (held : ℕ) (f : KeySpelling) → held < 8 → g k held ≡ Some f → read_form f s.text ≡ Some (pressed k held))
     → but_release s.event (option_and_then (g s.code) (xterm_held s.held)) ≡ Some f → read_form f s.text ≡ Some (pressed s.code (s.held % 8))
 eight-trip s f g trip e =
     let u = released s.event (option_and_then (g s.code) (xterm_held s.held)) f e in
@@ -216,11 +216,11 @@ eight-trip s f g trip e =
       | inr none ↦ absurd (nothing f (rw none at u))
     ]
 
-pub rxvt-said : (s : Stroke) (f : Form) → form_of encoding.Rxvt s ≡ Some f → read_form f s.text ≡ Some (said encoding.Rxvt s)
+pub rxvt-said : (s : Stroke) (f : KeySpelling) → form_of encoding.Rxvt s ≡ Some f → read_form f s.text ≡ Some (said encoding.Rxvt s)
 rxvt-said s f e = eight-trip s f rxvt_form (λ k held g h made. rxvt-trip k held s.text g made) e
 
-pub linux-said : (s : Stroke) (f : Form) → form_of encoding.Linux s ≡ Some f → read_form f s.text ≡ Some (said encoding.Linux s)
+pub linux-said : (s : Stroke) (f : KeySpelling) → form_of encoding.Linux s ≡ Some f → read_form f s.text ≡ Some (said encoding.Linux s)
 linux-said s f e = eight-trip s f linux_form (λ k held g h made. linux-trip k held s.text g made) e
 
-pub other-said : (s : Stroke) (f : Form) → form_of encoding.ModifyOtherKeys s ≡ Some f → read_form f s.text ≡ Some (said encoding.ModifyOtherKeys s)
+pub other-said : (s : Stroke) (f : KeySpelling) → form_of encoding.ModifyOtherKeys s ≡ Some f → read_form f s.text ≡ Some (said encoding.ModifyOtherKeys s)
 other-said s f e = eight-trip s f other_form (λ k held g h made. other-trip k held s.text g h made) e

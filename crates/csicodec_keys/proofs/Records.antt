@@ -14,8 +14,8 @@ use Rattle.csicodec_keys.specs.declared.key.KeyEvent.{KeyEvent}
 use Rattle.csicodec_keys.specs.declared.key.KeyEvent.TheVariants as event
 use Rattle.csicodec_keys.specs.declared.tables.Row.{Row}
 use Rattle.csicodec_keys.specs.declared.win32.Record.{Record}
-use Rattle.csicodec_keys.specs.declared.writing.Form.{Form}
-use Rattle.csicodec_keys.specs.declared.writing.Form.TheVariants as form
+use Rattle.csicodec_keys.specs.declared.writing.KeySpelling.{KeySpelling}
+use Rattle.csicodec_keys.specs.declared.writing.KeySpelling.TheVariants as form
 use Rattle.csicodec_keys.specs.Characters.{is_typed}
 use Rattle.csicodec_keys.specs.Fields.{Says, number_of, read_list}
 use Rattle.csicodec_keys.specs.Forms.{by, form_of, key_alone, other_key, read_csi, read_form, said, said_key, told_by}
@@ -236,7 +236,7 @@ record-both s r h e =
         subst (Both s) m.2 (row-both s row m.0 low none at m.1)
     by_row low none None at made = char-both s s.code s.text r low none refl refl made
 
-pub win32-trip : (s : Stroke) (f : Form) → is_stroke s ≡ true → form_of encoding.Win32 s ≡ Some f → read_form f s.text ≡ Some (said encoding.Win32 s)
+pub win32-trip : (s : Stroke) (f : KeySpelling) → is_stroke s ≡ true → form_of encoding.Win32 s ≡ Some f → read_form f s.text ≡ Some (said encoding.Win32 s)
 win32-trip s f h e =
     let m = map-some (λ r. form.Win32 r) (record_of s) f e in
-    subst (λ (x : Form). read_form x s.text ≡ Some (said encoding.Win32 s)) m.2 (record-both s m.0 h m.1).1
+    subst (λ (x : KeySpelling). read_form x s.text ≡ Some (said encoding.Win32 s)) m.2 (record-both s m.0 h m.1).1

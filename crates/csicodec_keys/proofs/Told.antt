@@ -16,8 +16,8 @@ use Rattle.csicodec_keys.specs.declared.key.Encoding.{Encoding}
 use Rattle.csicodec_keys.specs.declared.key.Encoding.TheVariants as encoding
 use Rattle.csicodec_keys.specs.declared.key.KeyEvent.TheVariants as event
 use Rattle.csicodec_keys.specs.declared.tables.Row.{Row}
-use Rattle.csicodec_keys.specs.declared.writing.Form.{Form}
-use Rattle.csicodec_keys.specs.declared.writing.Form.TheVariants as form
+use Rattle.csicodec_keys.specs.declared.writing.KeySpelling.{KeySpelling}
+use Rattle.csicodec_keys.specs.declared.writing.KeySpelling.TheVariants as form
 use Rattle.csicodec_keys.specs.Characters.{is_alt, is_typed}
 use Rattle.csicodec_keys.specs.Fields.{written_list}
 use Rattle.csicodec_keys.specs.Forms.{alt_control, but_release, char_form, control_form, csi_form, csi_row, form_bytes, form_of, kitty_char, kitty_row, legacy_form, linux_form, other_form, other_number, rxvt_form, rxvt_row, ss3_form, text_form, text_of, xterm_held}
@@ -38,7 +38,7 @@ use Rattle.csicodec_keys.proofs.Typed.{text-front}
 
 -- ---- the ranges of a form
 
-abbrev Sound : Form → Type 0
+abbrev Sound : KeySpelling → Type 0
 Sound (form.Text c) = (scalar c ≡ true) × (c ≢ 27)
 Sound (form.Alt c) = is_free c ≡ true
 Sound (form.Ss3 c) = is_printable c ≡ true
@@ -50,7 +50,7 @@ Sound (form.Other n held) = (scalar n ≡ true) × (held < 256)
 Sound (form.Typed n held e control) = (n < 4294967296) × (held < 256) × (is_end control ≡ true)
 Sound (form.Win32 r) = Small r
 
-told : (f : Form) (text : List ℕ) → scalars text ≡ true → Sound f → IsToldAs f text (form_bytes f text)
+told : (f : KeySpelling) (text : List ℕ) → scalars text ≡ true → Sound f → IsToldAs f text (form_bytes f text)
 told (form.Text c) text s h = text-front c h.0 h.1
 told (form.Alt c) text s h = alt-front c h
 told (form.Ss3 c) text s h = ss3-front c h
@@ -127,30 +127,30 @@ typed-text c h =
     let high : 32 ≤ c = ltb-false c 32 (not-true (nat_lt c 32) q.1) in
     (q.0, λ e. absurd (omega (arith, e, high)))
 
-control-sound : (k : KeyCode) (held : ℕ) (f : Form) → control_form k held ≡ Some f → Sound f
+control-sound : (k : KeyCode) (held : ℕ) (f : KeySpelling) → control_form k held ≡ Some f → Sound f
 control-sound k held f e =
     let m = map-some (λ (r : Row). form.Text r.control) (row_of controls k held) f e in
     subst Sound m.2 (free-text m.0.control (row-all free_row controls k held m.0 controls-free m.1))
 
-alt-sound : (k : KeyCode) (held : ℕ) (f : Form) → alt_control k held ≡ Some f → Sound f
+alt-sound : (k : KeyCode) (held : ℕ) (f : KeySpelling) → alt_control k held ≡ Some f → Sound f
 alt-sound k held f e =
     let u = unless (nat_lt held 2) (option_map (λ (r : Row). form.Alt r.control) (row_of controls k (held - 2))) f e in
     let m = map-some (λ (r : Row). form.Alt r.control) (row_of controls k (held - 2)) f u.1 in
     subst Sound m.2 (row-all free_row controls k (held - 2) m.0 controls-free m.1)
 
-ss3-sound : (k : KeyCode) (held : ℕ) (f : Form) → ss3_form k held ≡ Some f → Sound f
+ss3-sound : (k : KeyCode) (held : ℕ) (f : KeySpelling) → ss3_form k held ≡ Some f → Sound f
 ss3-sound k held f e =
     let m = map-some (λ (r : Row). form.Ss3 r.control) (row_of ss3_keys k held) f e in
     subst Sound m.2 (row-all printable_row ss3_keys k held m.0 ss3-printable m.1)
 
-text-sound : (o : Option ℕ) (f : Form) → text_form o ≡ Some f → Sound f
+text-sound : (o : Option ℕ) (f : KeySpelling) → text_form o ≡ Some f → Sound f
 text-sound None f e = cc
 text-sound (Some d) f e = let g = guarded (is_typed d) (Some (form.Text d)) f e in subst Sound (same_Some _ _ g.1) (typed-text d g.0)
 
 alt-free : (c : ℕ) → is_alt c ≡ true → is_free c ≡ true
 alt-free c h = grind arith
 
-char-sound : (k : KeyCode) (held : ℕ) (text : List ℕ) (f : Form) → char_form k held text ≡ Some f → Sound f
+char-sound : (k : KeyCode) (held : ℕ) (text : List ℕ) (f : KeySpelling) → char_form k held text ≡ Some f → Sound f
 char-sound (code.Char c) held text f e = elim (cases_Bool (nat_lt held 2)) [
   | inl low ↦ text-sound (text_of c held text) f (rw low at e)
   | inr high ↦
@@ -160,7 +160,7 @@ char-sound (code.Char c) held text f e = elim (cases_Bool (nat_lt held 2)) [
 char-sound code.Escape held text f e = subst Sound (same_Some _ _ (guarded (held == 0) (Some form.Escape) f e).1) tt
 char-sound _ held text f e = cc
 
-csi-sound : (k : KeyCode) (held : ℕ) (f : Form) → held < 256 → csi_form k held ≡ Some f → Sound f
+csi-sound : (k : KeyCode) (held : ℕ) (f : KeySpelling) → held < 256 → csi_form k held ≡ Some f → Sound f
 csi-sound k held f h e = elim (one-of (option_map (λ (r : Row). form.Csi r.number 0 r.control) (row_of csi_keys k held)) _ f e) [
   | inl own ↦
       let m = map-some (λ (r : Row). form.Csi r.number 0 r.control) (row_of csi_keys k held) f own in
@@ -172,7 +172,7 @@ csi-sound k held f h e = elim (one-of (option_map (λ (r : Row). form.Csi r.numb
       subst Sound m.2 (p.0, h, p.1)
 ]
 
-legacy-sound : (s : Stroke) (held : ℕ) (f : Form) → held < 256 → legacy_form s held ≡ Some f → Sound f
+legacy-sound : (s : Stroke) (held : ℕ) (f : KeySpelling) → held < 256 → legacy_form s held ≡ Some f → Sound f
 legacy-sound s held f h e = elim (one-of (control_form s.code held) _ f e) [
   | inl found ↦ control-sound s.code held f found
   | inr more ↦ elim (one-of (alt_control s.code held) _ f more) [
@@ -187,7 +187,7 @@ legacy-sound s held f h e = elim (one-of (control_form s.code held) _ f e) [
   ]
 ]
 
-other-sound : (k : KeyCode) (held : ℕ) (f : Form) → held < 256 → other_form k held ≡ Some f → Sound f
+other-sound : (k : KeyCode) (held : ℕ) (f : KeySpelling) → held < 256 → other_form k held ≡ Some f → Sound f
 other-sound k held f h e =
     let u = unless (held == 0) (option_map (λ n. form.Other n held) (other_number k)) f e in
     let m = map-some (λ n. form.Other n held) (other_number k) f u.1 in
@@ -199,7 +199,7 @@ row-sound r h = elim (cases_Bool (r.control == 36)) [
   | inr other ↦ let p = list-row r (rw other at h) in rw other (p.0, omega arith, p.1)
 ]
 
-rxvt-sound : (k : KeyCode) (held : ℕ) (f : Form) → rxvt_form k held ≡ Some f → Sound f
+rxvt-sound : (k : KeyCode) (held : ℕ) (f : KeySpelling) → rxvt_form k held ≡ Some f → Sound f
 rxvt-sound k held f e = elim (one-of (option_map rxvt_row (row_of rxvt_keys k held)) _ f e) [
   | inl row ↦
       let m = map-some rxvt_row (row_of rxvt_keys k held) f row in
@@ -209,12 +209,12 @@ rxvt-sound k held f e = elim (one-of (option_map rxvt_row (row_of rxvt_keys k he
       subst Sound m.2 (row-all printable_row rxvt_ss3 k held m.0 rxvt-printable m.1)
 ]
 
-linux-sound : (k : KeyCode) (held : ℕ) (f : Form) → linux_form k held ≡ Some f → Sound f
+linux-sound : (k : KeyCode) (held : ℕ) (f : KeySpelling) → linux_form k held ≡ Some f → Sound f
 linux-sound k held f e =
     let m = map-some (λ (r : Row). form.Linux r.control) (row_of linux_keys k held) f e in
     subst Sound m.2 (row-all printable_row linux_keys k held m.0 linux-printable m.1)
 
-kitty-char-sound : (s : Stroke) (k : KeyCode) (f : Form) → s.held < 256 → kitty_char s k ≡ Some f → Sound f
+kitty-char-sound : (s : Stroke) (k : KeyCode) (f : KeySpelling) → s.held < 256 → kitty_char s k ≡ Some f → Sound f
 kitty-char-sound s (code.Char c) f h e =
     let g = guarded (is_typed c && is_none (csi_row c 117)) (Some (form.Typed c s.held s.event 117)) f e in
     let p = and_parts (is_typed c) (is_none (csi_row c 117)) g.0 in
@@ -222,7 +222,7 @@ kitty-char-sound s (code.Char c) f h e =
     subst Sound (same_Some _ _ g.1) (scalar_fits c (and_parts (scalar c) (not (nat_lt c 32)) t.0).0, h, refl)
 kitty-char-sound s _ f h e = cc
 
-kitty-sound : (s : Stroke) (f : Form) → s.held < 256 → form_of encoding.Kitty s ≡ Some f → Sound f
+kitty-sound : (s : Stroke) (f : KeySpelling) → s.held < 256 → form_of encoding.Kitty s ≡ Some f → Sound f
 kitty-sound s f h e = elim (one-of (option_map (kitty_row s) (row_of kitty_keys s.code 0)) _ f e) [
   | inl own ↦
       let m = map-some (kitty_row s) (row_of kitty_keys s.code 0) f own in
@@ -239,7 +239,7 @@ kitty-sound s f h e = elim (one-of (option_map (kitty_row s) (row_of kitty_keys 
 
 -- ---- all of them
 
-eight-sound : (s : Stroke) (f : Form) (g : ℕ → Option Form) → ((held : ℕ) → held < 256 → g held ≡ Some f → Sound f)
+eight-sound : (s : Stroke) (f : KeySpelling) (g : ℕ → Option KeySpelling) → ((held : ℕ) → held < 256 → g held ≡ Some f → Sound f)
     → but_release s.event (option_and_then g (xterm_held s.held)) ≡ Some f → Sound f
 eight-sound s f g sound e =
     let u = released s.event (option_and_then g (xterm_held s.held)) f e in
@@ -248,7 +248,7 @@ eight-sound s f g sound e =
       | inr none ↦ absurd (nothing f (rw none at u))
     ]
 
-sound : (e : Encoding) (s : Stroke) (f : Form) → is_stroke s ≡ true → form_of e s ≡ Some f → Sound f
+sound : (e : Encoding) (s : Stroke) (f : KeySpelling) → is_stroke s ≡ true → form_of e s ≡ Some f → Sound f
 sound encoding.Legacy s f h e = eight-sound s f (legacy_form s) (λ held g made. legacy-sound s held f g made) e
 sound encoding.ModifyOtherKeys s f h e = eight-sound s f (other_form s.code) (λ held g made. other-sound s.code held f g made) e
 sound encoding.Kitty s f h e = kitty-sound s f (in-range s h).held e
@@ -258,5 +258,5 @@ sound encoding.Win32 s f h e =
 sound encoding.Rxvt s f h e = eight-sound s f (rxvt_form s.code) (λ held g made. rxvt-sound s.code held f made) e
 sound encoding.Linux s f h e = eight-sound s f (linux_form s.code) (λ held g made. linux-sound s.code held f made) e
 
-pub written_told : (e : Encoding) (s : Stroke) (f : Form) → is_stroke s ≡ true → form_of e s ≡ Some f → IsToldAs f s.text (form_bytes f s.text)
+pub written_told : (e : Encoding) (s : Stroke) (f : KeySpelling) → is_stroke s ≡ true → form_of e s ≡ Some f → IsToldAs f s.text (form_bytes f s.text)
 written_told e s f h made = told f s.text (in-range s h).text (sound e s f h made)

@@ -8,7 +8,7 @@ use Rattle.std.specs.Prelude.{ℕ, ℤ, pos, negsuc, ◌+◌, ◌-◌, ◌==◌,
 use Rattle.std.specs.Option.{option_map}
 use Rattle.csicodec_tokens.specs.declared.param.CsiParam.{CsiParam}
 use Rattle.csicodec_tokens.specs.declared.param.CsiParam.TheVariants.{Integer, P}
-use Rattle.csicodec_keys.specs.declared.fields.Fields.{Fields}
+use Rattle.csicodec_keys.specs.declared.fields.KeyReport.{KeyReport}
 use Rattle.csicodec_keys.specs.declared.key.KeyEvent.{KeyEvent}
 use Rattle.csicodec_keys.specs.declared.key.KeyEvent.TheVariants as event
 use Rattle.csicodec_keys.specs.Keys.{is_press}
@@ -21,7 +21,7 @@ pub record Says : Type 0 where
   pub event : KeyEvent
   pub text : List ℕ
 
-abbrev pub says_of : Fields → Says
+abbrev pub says_of : KeyReport → Says
 says_of f = record { number = f.number; held = f.held; event = f.event; text = f.text.items }
 
 -- ---- numbers

@@ -17,8 +17,8 @@ use Rattle.csicodec_keys.specs.declared.key.KeyEvent.TheVariants as event
 use Rattle.csicodec_keys.specs.declared.tables.Row.{Row}
 use Rattle.csicodec_keys.specs.Win32.{down_of, read_win32, record_list, record_of, went}
 use Rattle.csicodec_keys.specs.Tables.{controls, csi_keys, kitty_keys, linux_keys, other_keys, rxvt_keys, rxvt_ss3, ss3_cursor, ss3_keys}
-use Rattle.csicodec_keys.specs.declared.writing.Form.{Form}
-use Rattle.csicodec_keys.specs.declared.writing.Form.TheVariants as form
+use Rattle.csicodec_keys.specs.declared.writing.KeySpelling.{KeySpelling}
+use Rattle.csicodec_keys.specs.declared.writing.KeySpelling.TheVariants as form
 use Rattle.csicodec_keys.specs.Characters.{is_alt, is_typed}
 use Rattle.csicodec_keys.specs.Fields.{Says, is_empty, read_list, written_list}
 use Rattle.csicodec_keys.specs.Keys.{Stroke, is_press, is_release}
@@ -149,16 +149,16 @@ read_event sent.Escape list = by encoding.Legacy (Some (pressed code.Escape 0))
 -- ---- what is written
 
 -- the control of a key with what is held down
-abbrev pub control_form : KeyCode → ℕ → Option Form
+abbrev pub control_form : KeyCode → ℕ → Option KeySpelling
 control_form k held = option_map (λ (r : Row). form.Text r.control) (row_of controls k held)
 
 -- the same behind ESC, where alt is held down too
-abbrev pub alt_control : KeyCode → ℕ → Option Form
+abbrev pub alt_control : KeyCode → ℕ → Option KeySpelling
 alt_control k held =
     if nat_lt held 2 then None
     else option_map (λ (r : Row). form.Alt r.control) (row_of controls k (held - 2))
 
-abbrev pub ss3_form : KeyCode → ℕ → Option Form
+abbrev pub ss3_form : KeyCode → ℕ → Option KeySpelling
 ss3_form k held = option_map (λ (r : Row). form.Ss3 r.control) (row_of ss3_keys k held)
 
 -- what a key of a character types: what it says, if that is one character, or the character itself where shift isn't held down
@@ -167,11 +167,11 @@ text_of c held [] = if held == 0 then Some c else None
 text_of c held (d ∷ []) = Some d
 text_of c held (d ∷ e ∷ ds) = None
 
-abbrev pub text_form : Option ℕ → Option Form
+abbrev pub text_form : Option ℕ → Option KeySpelling
 text_form None = None
 text_form (Some d) = if is_typed d then Some (form.Text d) else None
 
-abbrev pub char_form : KeyCode → ℕ → List ℕ → Option Form
+abbrev pub char_form : KeyCode → ℕ → List ℕ → Option KeySpelling
 char_form (code.Char c) held text =
     if nat_lt held 2 then text_form (text_of c held text) else
     if (held == 2) && is_alt c then Some (form.Alt c) else None
@@ -179,12 +179,12 @@ char_form code.Escape held text = if held == 0 then Some form.Escape else None
 char_form _ held text = None
 
 -- a row whose modifiers are its own, or one with modifiers in its list
-abbrev pub csi_form : KeyCode → ℕ → Option Form
+abbrev pub csi_form : KeyCode → ℕ → Option KeySpelling
 csi_form k held = option_or
     (option_map (λ (r : Row). form.Csi r.number 0 r.control) (row_of csi_keys k held))
     (option_map (λ (r : Row). form.Csi r.number held r.control) (row_of csi_keys k 0))
 
-abbrev pub legacy_form : Stroke → ℕ → Option Form
+abbrev pub legacy_form : Stroke → ℕ → Option KeySpelling
 legacy_form s held =
     option_or (control_form s.code held)
     (option_or (alt_control s.code held)
@@ -196,12 +196,12 @@ abbrev pub xterm_held : ℕ → Option ℕ
 xterm_held held = if nat_lt (held % 64) 8 then Some (held % 8) else None
 
 -- a character that no row has, before `u`
-abbrev pub kitty_char : Stroke → KeyCode → Option Form
+abbrev pub kitty_char : Stroke → KeyCode → Option KeySpelling
 kitty_char s (code.Char c) =
     if is_typed c && is_none (csi_row c 117) then Some (form.Typed c s.held s.event 117) else None
 kitty_char s _ = None
 
-abbrev pub kitty_row : Stroke → Row → Form
+abbrev pub kitty_row : Stroke → Row → KeySpelling
 kitty_row s r = form.Typed r.number s.held s.event r.control
 
 -- a character that no row has
@@ -214,32 +214,32 @@ abbrev pub other_number : KeyCode → Option ℕ
 other_number k =
     option_or (option_map (λ (r : Row). r.number) (row_of other_keys k 0)) (char_number k)
 
-abbrev pub other_form : KeyCode → ℕ → Option Form
+abbrev pub other_form : KeyCode → ℕ → Option KeySpelling
 other_form k held =
     if held == 0 then None else option_map (λ n. form.Other n held) (other_number k)
 
 -- rxvt's `$` is no final character
-abbrev pub rxvt_row : Row → Form
+abbrev pub rxvt_row : Row → KeySpelling
 rxvt_row r = if r.control == 36 then form.Rxvt r.number else form.Csi r.number 0 r.control
 
-abbrev pub rxvt_form : KeyCode → ℕ → Option Form
+abbrev pub rxvt_form : KeyCode → ℕ → Option KeySpelling
 rxvt_form k held =
     option_or (option_map rxvt_row (row_of rxvt_keys k held))
     (option_map (λ (r : Row). form.Ss3 r.control) (row_of rxvt_ss3 k held))
 
-abbrev pub linux_form : KeyCode → ℕ → Option Form
+abbrev pub linux_form : KeyCode → ℕ → Option KeySpelling
 linux_form k held = option_map (λ (r : Row). form.Linux r.control) (row_of linux_keys k held)
 
 -- what is said of a press and of a repeat alone
-abbrev pub but_release : KeyEvent → Option Form → Option Form
+abbrev pub but_release : KeyEvent → Option KeySpelling → Option KeySpelling
 but_release e f = if is_release e then None else f
 
 -- by what xterm's encoding says of modifiers
-abbrev pub xterm_form : Stroke → (ℕ → Option Form) → Option Form
+abbrev pub xterm_form : Stroke → (ℕ → Option KeySpelling) → Option KeySpelling
 xterm_form s made = but_release s.event (option_and_then made (xterm_held s.held))
 
 -- the form of a key in an encoding
-abbrev pub form_of : Encoding → Stroke → Option Form
+abbrev pub form_of : Encoding → Stroke → Option KeySpelling
 form_of encoding.Legacy s = xterm_form s (legacy_form s)
 form_of encoding.ModifyOtherKeys s = xterm_form s (other_form s.code)
 form_of encoding.Kitty s =
@@ -261,7 +261,7 @@ are_written_with e held rows = list_all (λ (r : Row). is_some (form_of e (press
 abbrev pub key_alone : Option (Encoding × Stroke) → Option Stroke
 key_alone read = option_map (λ r. r.1) read
 
-abbrev pub event_of : Form → InputEvent
+abbrev pub event_of : KeySpelling → InputEvent
 event_of (form.Text c) = sent.Output told.Text
 event_of (form.Alt c) = sent.Alt c
 event_of (form.Ss3 c) = sent.Ss3 c
@@ -273,7 +273,7 @@ event_of (form.Other n held) = sent.Output (told.Csi 126)
 event_of (form.Typed n held e control) = sent.Output (told.Csi control)
 event_of (form.Win32 r) = sent.Output (told.Csi 95)
 
-abbrev pub list_of : Form → List ℕ → List CsiParam
+abbrev pub list_of : KeySpelling → List ℕ → List CsiParam
 list_of (form.Csi n held control) text = written_list n held event.Press []
 list_of (form.Other n held) text = written_list 27 held event.Press (n ∷ [])
 list_of (form.Typed n held e control) text = written_list n held e text
@@ -281,11 +281,11 @@ list_of (form.Win32 r) text = record_list r
 list_of _ text = []
 
 -- the key that is read of a form, by its event and its list; that of text is by its character
-abbrev pub read_form : Form → List ℕ → Option Stroke
+abbrev pub read_form : KeySpelling → List ℕ → Option Stroke
 read_form (form.Text c) text = read_char c
 read_form f text = key_alone (read_event (event_of f) (list_of f text))
 
-abbrev pub form_bytes : Form → List ℕ → List ℕ
+abbrev pub form_bytes : KeySpelling → List ℕ → List ℕ
 form_bytes (form.Text c) text = encode_utf8 c
 form_bytes (form.Alt c) text = 27 ∷ encode_utf8 c
 form_bytes (form.Ss3 c) text = 27 ∷ 79 ∷ encode_utf8 c

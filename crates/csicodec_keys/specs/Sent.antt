@@ -8,8 +8,8 @@ use Rattle.csicodec_events.specs.declared.input.Dialect.TheVariants as dialect
 use Rattle.csicodec_events.specs.declared.input.InputEvent.{InputEvent}
 use Rattle.csicodec_events.specs.declared.input.InputEvent.TheVariants as sent
 use Rattle.csicodec_events.specs.Input.{Awaits, IsSent, IsSentBy, paused}
-use Rattle.csicodec_keys.specs.declared.writing.Form.{Form}
-use Rattle.csicodec_keys.specs.declared.writing.Form.TheVariants as form
+use Rattle.csicodec_keys.specs.declared.writing.KeySpelling.{KeySpelling}
+use Rattle.csicodec_keys.specs.declared.writing.KeySpelling.TheVariants as form
 use Rattle.csicodec_keys.specs.Forms.{event_of, list_of}
 
 -- a stream in which nothing is open
@@ -35,7 +35,7 @@ pub record IsTextFront (bytes : List ℕ) : Type 0 where
       → Awaits dialect.Input (fresh limit) (bytes ++ more) after → ⊥
 
 -- A character is read of the text that begins with it, and ESC alone is a key where no more comes.
-abbrev pub IsToldAs : Form → List ℕ → List ℕ → Type 0
+abbrev pub IsToldAs : KeySpelling → List ℕ → List ℕ → Type 0
 IsToldAs (form.Text c) text bytes = IsTextFront bytes
 IsToldAs form.Escape text bytes = IsPaused bytes sent.Escape
 IsToldAs f text bytes = IsFront bytes (event_of f) (list_of f text)

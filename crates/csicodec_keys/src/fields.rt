@@ -8,7 +8,7 @@ use csicodec_tokens::CsiParam;
 
 /// What a list says.
 #[derive(Drop)]
-pub(crate) struct Fields {
+pub(crate) struct KeyReport {
     /// The number of the key.
     pub(crate) number: u32,
     /// The bits of the modifiers.
@@ -188,13 +188,13 @@ fn text_front(tokens: &[CsiParam]) -> Option<Typed>
 }
 
 /// What a list says.
-pub(crate) fn read_list(params: &[CsiParam]) -> Option<Fields>
+pub(crate) fn read_list(params: &[CsiParam]) -> Option<KeyReport>
     ensures { option_map says_of result ≡ read_list params.now }
 {
     let (number, behind) = number_front(params)?;
     let (held, event, behind) = held_front(behind)?;
     let text = text_front(behind)?;
-    Some(Fields {
+    Some(KeyReport {
         number,
         held,
         event,

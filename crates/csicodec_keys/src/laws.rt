@@ -2,7 +2,7 @@
 ghost use Rattle.std.specs.Prelude.{◌≡◌, Some, true};
 ghost use Rattle.csicodec_keys.specs.declared.key.Encoding.TheVariants as encoding;
 ghost use Rattle.csicodec_keys.specs.declared.key.Encoding.{Encoding};
-ghost use Rattle.csicodec_keys.specs.declared.writing.Form.{Form};
+ghost use Rattle.csicodec_keys.specs.declared.writing.KeySpelling.{KeySpelling};
 ghost use Rattle.csicodec_keys.specs.Forms.{are_written, are_written_with, form_bytes, form_of, read_form, said};
 ghost use Rattle.csicodec_keys.specs.Keys.{Stroke, is_stroke};
 ghost use Rattle.csicodec_keys.specs.Sent.{IsToldAs};
@@ -10,7 +10,7 @@ ghost use Rattle.csicodec_keys.specs.Tables.{controls, csi_keys, kitty_keys, lin
 
 /// What is written of a key in an encoding is read as what that encoding can say of it.
 pub fn round_trip()
-    ensures { (encoding : Encoding) (key : Stroke) (form : Form) → is_stroke key ≡ true →
+    ensures { (encoding : Encoding) (key : Stroke) (form : KeySpelling) → is_stroke key ≡ true →
         form_of encoding key ≡ Some form
         → read_form form key.text ≡ Some (said encoding key) }
 {}
@@ -18,7 +18,7 @@ pub fn round_trip()
 /// The bytes that are written of a key are told by `csicodec_events` as the event and the list that `round_trip` reads, whatever
 /// follows: a character, Enter, Tab, Backspace, or ctrl and a letter, as text that begins with it, and ESC alone where no more comes.
 pub fn told()
-    ensures { (encoding : Encoding) (key : Stroke) (form : Form) → is_stroke key ≡ true →
+    ensures { (encoding : Encoding) (key : Stroke) (form : KeySpelling) → is_stroke key ≡ true →
         form_of encoding key ≡ Some form → IsToldAs form key.text (form_bytes form key.text) }
 {}
 

@@ -8,7 +8,7 @@ ghost use Rattle.csicodec_keys.specs.Keys.{stroke_of};
 ghost use Rattle.csicodec_keys.specs.Win32.{read_win32};
 
 use crate::code::KeyCode;
-use crate::fields::{Fields, read_list};
+use crate::fields::{KeyReport, read_list};
 use crate::key::{Encoding, Key, KeyEvent, Typed};
 use crate::modifiers::KeyModifiers;
 use crate::rows::{
@@ -120,7 +120,7 @@ fn held_by(row: u8, list: u8) -> Option<u8>
 }
 
 /// The key of a row, with what its list says.
-fn row_key(fields: Fields, row: Row) -> Option<Key>
+fn row_key(fields: KeyReport, row: Row) -> Option<Key>
     ensures { option_map stroke_of result ≡ row_key (says_of fields) row }
 {
     let held = held_by(row.held, fields.held)?;
@@ -133,7 +133,7 @@ fn row_key(fields: Fields, row: Row) -> Option<Key>
 }
 
 /// A number that no row has is a character, before `u`.
-fn char_key(fields: Fields, control: char) -> Option<Key>
+fn char_key(fields: KeyReport, control: char) -> Option<Key>
     ensures { option_map stroke_of result ≡ char_key (says_of fields) control }
 {
     let character = char::from_u32(fields.number)?;
@@ -149,7 +149,7 @@ fn char_key(fields: Fields, control: char) -> Option<Key>
 }
 
 /// The key of a list and its final character.
-fn said_key(fields: Fields, control: char) -> Option<Key>
+fn said_key(fields: KeyReport, control: char) -> Option<Key>
     ensures { option_map stroke_of result ≡ said_key (says_of fields) control }
 {
     match csi_row(fields.number, control) {
@@ -177,7 +177,7 @@ fn ss3_by(character: char) -> Encoding
 }
 
 /// Which encoding has such a list.
-fn told_by(fields: &Fields, control: char) -> Encoding
+fn told_by(fields: &KeyReport, control: char) -> Encoding
     ensures { result ≡ told_by (says_of fields.now) control }
 {
     if is_rxvt(control) {
@@ -200,7 +200,7 @@ fn numbered(character: char) -> Option<KeyCode>
 }
 
 /// 27 before `~`, and the number of a character in the place of a text (modifyOtherKeys).
-fn other_key(fields: &Fields, control: char) -> Option<Key>
+fn other_key(fields: &KeyReport, control: char) -> Option<Key>
     ensures { option_map stroke_of result
         ≡ other_key (says_of fields.now) control (says_of fields.now).text }
 {

@@ -22,7 +22,7 @@ use std::alloc::AllocError;
 
 /// How a key stands in a stream.
 #[derive(Clone, Copy)]
-pub(crate) enum Form {
+pub(crate) enum KeySpelling {
     /// This character, or this control.
     Text(char),
     /// ESC and this character.
@@ -41,7 +41,7 @@ pub(crate) enum Form {
     Other(u32, u8),
     /// A record of Win32-input-mode.
     Win32(Record),
-    /// A control sequence as [`Csi`](Form::Csi), with an event, and with what the key types.
+    /// A control sequence as [`Csi`](KeySpelling::Csi), with an event, and with what the key types.
     Typed(u32, u8, KeyEvent, char),
 }
 
@@ -52,29 +52,29 @@ fn is_alt(character: char) -> bool
     matches!(character, ' '..='N' | 'Q'..='W' | 'Y' | 'Z' | '\\' | '`'..='~')
 }
 
-fn control_form(code: KeyCode, held: u8) -> Option<Form>
+fn control_form(code: KeyCode, held: u8) -> Option<KeySpelling>
     ensures { result ≡ control_form code held }
 {
     let row = row_of(controls(), code, held)?;
-    Some(Form::Text(row.control))
+    Some(KeySpelling::Text(row.control))
 }
 
 /// A control behind ESC, where alt is held down too.
-fn alt_control(code: KeyCode, held: u8) -> Option<Form>
+fn alt_control(code: KeyCode, held: u8) -> Option<KeySpelling>
     ensures { result ≡ alt_control code held }
 {
     if held < 2 {
         return None;
     }
     let row = row_of(controls(), code, held - 2)?;
-    Some(Form::Alt(row.control))
+    Some(KeySpelling::Alt(row.control))
 }
 
-fn ss3_form(code: KeyCode, held: u8) -> Option<Form>
+fn ss3_form(code: KeyCode, held: u8) -> Option<KeySpelling>
     ensures { result ≡ ss3_form code held }
 {
     let row = row_of(ss3_keys(), code, held)?;
-    Some(Form::Ss3(row.control))
+    Some(KeySpelling::Ss3(row.control))
 }
 
 /// What a key of a character types.
@@ -88,17 +88,17 @@ fn text_of(character: char, held: u8, text: &[char]) -> Option<char>
     }
 }
 
-fn text_form(character: Option<char>) -> Option<Form>
+fn text_form(character: Option<char>) -> Option<KeySpelling>
     ensures { result ≡ text_form character }
 {
     match character {
         None => None,
-        Some(character) => is_typed(character).then_some(Form::Text(character)),
+        Some(character) => is_typed(character).then_some(KeySpelling::Text(character)),
     }
 }
 
 /// The form of a key of a character, and of Escape.
-fn char_form(code: KeyCode, held: u8, text: &[char]) -> Option<Form>
+fn char_form(code: KeyCode, held: u8, text: &[char]) -> Option<KeySpelling>
     ensures { result ≡ char_form code held text.now }
 {
     match code {
@@ -106,28 +106,28 @@ fn char_form(code: KeyCode, held: u8, text: &[char]) -> Option<Form>
             if held < 2 {
                 text_form(text_of(character, held, text))
             } else if held == 2 && is_alt(character) {
-                Some(Form::Alt(character))
+                Some(KeySpelling::Alt(character))
             } else {
                 None
             }
         }
-        KeyCode::Escape => (held == 0).then_some(Form::Escape),
+        KeyCode::Escape => (held == 0).then_some(KeySpelling::Escape),
         _ => None,
     }
 }
 
 /// A row whose modifiers are its own, or one with modifiers in its list.
-fn csi_form(code: KeyCode, held: u8) -> Option<Form>
+fn csi_form(code: KeyCode, held: u8) -> Option<KeySpelling>
     ensures { result ≡ csi_form code held }
 {
     if let Some(row) = row_of(csi_keys(), code, held) {
-        return Some(Form::Csi(row.number, 0, row.control));
+        return Some(KeySpelling::Csi(row.number, 0, row.control));
     }
     let row = row_of(csi_keys(), code, 0)?;
-    Some(Form::Csi(row.number, held, row.control))
+    Some(KeySpelling::Csi(row.number, held, row.control))
 }
 
-fn legacy_form(key: &Key, held: u8) -> Option<Form>
+fn legacy_form(key: &Key, held: u8) -> Option<KeySpelling>
     ensures { result ≡ legacy_form (stroke_of key.now) held }
 {
     let text = key.text.as_slice();
@@ -146,28 +146,28 @@ fn xterm_held(held: u8) -> Option<u8>
 }
 
 /// A character that no row has, before `u`.
-fn kitty_char(key: &Key) -> Option<Form>
+fn kitty_char(key: &Key) -> Option<KeySpelling>
     ensures { result ≡ kitty_char (stroke_of key.now) key.now.code }
 {
     match key.code {
         KeyCode::Char(character) => {
             let number = character as u32;
             let is_free = is_typed(character) && csi_row(number, 'u').is_none();
-            is_free.then_some(Form::Typed(number, key.modifiers.bits, key.event, 'u'))
+            is_free.then_some(KeySpelling::Typed(number, key.modifiers.bits, key.event, 'u'))
         }
         _ => None,
     }
 }
 
-fn kitty_form(key: &Key) -> Option<Form>
+fn kitty_form(key: &Key) -> Option<KeySpelling>
     ensures { result ≡ form_of Encoding.Kitty (stroke_of key.now) }
 {
     let held = key.modifiers.bits;
     if let Some(row) = row_of(kitty_keys(), key.code, 0) {
-        return Some(Form::Typed(row.number, held, key.event, row.control));
+        return Some(KeySpelling::Typed(row.number, held, key.event, row.control));
     }
     if let Some(row) = row_of(csi_keys(), key.code, 0) {
-        return Some(Form::Typed(row.number, held, key.event, row.control));
+        return Some(KeySpelling::Typed(row.number, held, key.event, row.control));
     }
     kitty_char(key)
 }
@@ -195,51 +195,51 @@ fn other_number(code: KeyCode) -> Option<u32>
     }
 }
 
-fn other_form(code: KeyCode, held: u8) -> Option<Form>
+fn other_form(code: KeyCode, held: u8) -> Option<KeySpelling>
     ensures { result ≡ other_form code held }
 {
     if held == 0 {
         return None;
     }
-    Some(Form::Other(other_number(code)?, held))
+    Some(KeySpelling::Other(other_number(code)?, held))
 }
 
-fn rxvt_row(row: Row) -> Form
+fn rxvt_row(row: Row) -> KeySpelling
     ensures { result ≡ rxvt_row row }
 {
     if row.control == '$' {
-        Form::Rxvt(row.number)
+        KeySpelling::Rxvt(row.number)
     } else {
-        Form::Csi(row.number, 0, row.control)
+        KeySpelling::Csi(row.number, 0, row.control)
     }
 }
 
-fn rxvt_form(code: KeyCode, held: u8) -> Option<Form>
+fn rxvt_form(code: KeyCode, held: u8) -> Option<KeySpelling>
     ensures { result ≡ rxvt_form code held }
 {
     if let Some(row) = row_of(rxvt_keys(), code, held) {
         return Some(rxvt_row(row));
     }
     let row = row_of(rxvt_ss3(), code, held)?;
-    Some(Form::Ss3(row.control))
+    Some(KeySpelling::Ss3(row.control))
 }
 
-fn linux_form(code: KeyCode, held: u8) -> Option<Form>
+fn linux_form(code: KeyCode, held: u8) -> Option<KeySpelling>
     ensures { result ≡ linux_form code held }
 {
     let row = row_of(linux_keys(), code, held)?;
-    Some(Form::Linux(row.control))
+    Some(KeySpelling::Linux(row.control))
 }
 
 /// Only kitty's encoding says that a key is released.
-fn but_release(event: KeyEvent, form: Option<Form>) -> Option<Form>
+fn but_release(event: KeyEvent, form: Option<KeySpelling>) -> Option<KeySpelling>
     ensures { result ≡ but_release event form }
 {
     if event.is_release() { None } else { form }
 }
 
 /// The form of a key in an encoding; none where it has none.
-fn form_of(encoding: Encoding, key: &Key) -> Option<Form>
+fn form_of(encoding: Encoding, key: &Key) -> Option<KeySpelling>
     ensures { result ≡ form_of encoding (stroke_of key.now) }
 {
     let (code, event) = (key.code, key.event);
@@ -248,7 +248,7 @@ fn form_of(encoding: Encoding, key: &Key) -> Option<Form>
         Encoding::Legacy => but_release(event, legacy_form(key, held?)),
         Encoding::ModifyOtherKeys => but_release(event, other_form(code, held?)),
         Encoding::Kitty => kitty_form(key),
-        Encoding::Win32 => Some(Form::Win32(record_of(key)?)),
+        Encoding::Win32 => Some(KeySpelling::Win32(record_of(key)?)),
         Encoding::Rxvt => but_release(event, rxvt_form(code, held?)),
         Encoding::Linux => but_release(event, linux_form(code, held?)),
     }
@@ -399,42 +399,42 @@ fn append_record(told: Record, out: &mut Vec<u8>) -> Result<(), AllocError>
     append_char('_', out)
 }
 
-impl Form {
+impl KeySpelling {
     /// Appends its bytes; `text` is what the key types.
     fn append_to(self, text: &[char], out: &mut Vec<u8>) -> Result<(), AllocError>
         ensures { IfOk result (λ _. out.new.items ≡ out.old.items ++ form_bytes self text.now) }
     {
         match self {
-            Form::Text(character) => append_char(character, out),
-            Form::Alt(character) => {
+            KeySpelling::Text(character) => append_char(character, out),
+            KeySpelling::Alt(character) => {
                 out.extend_from_slice(b"\x1b")?;
                 append_char(character, out)
             }
-            Form::Ss3(character) => {
+            KeySpelling::Ss3(character) => {
                 out.extend_from_slice(b"\x1bO")?;
                 append_char(character, out)
             }
-            Form::Linux(character) => {
+            KeySpelling::Linux(character) => {
                 out.extend_from_slice(b"\x1b[[")?;
                 append_char(character, out)
             }
-            Form::Rxvt(number) => {
+            KeySpelling::Rxvt(number) => {
                 out.extend_from_slice(b"\x1b[")?;
                 append_tokens(&[Integer(i64::from(number)), P(b'$')], out)
             }
-            Form::Escape => out.extend_from_slice(b"\x1b"),
-            Form::Csi(number, held, control) => {
+            KeySpelling::Escape => out.extend_from_slice(b"\x1b"),
+            KeySpelling::Csi(number, held, control) => {
                 append_csi(number, held, KeyEvent::Press, &[], control, out)
             }
-            Form::Other(number, held) => {
+            KeySpelling::Other(number, held) => {
                 out.extend_from_slice(b"\x1b[")?;
                 append_tokens(&[Integer(27)], out)?;
                 append_held(held, KeyEvent::Press, false, out)?;
                 append_tokens(&[P(b';'), Integer(i64::from(number))], out)?;
                 append_char('~', out)
             }
-            Form::Win32(told) => append_record(told, out),
-            Form::Typed(number, held, event, control) => {
+            KeySpelling::Win32(told) => append_record(told, out),
+            KeySpelling::Typed(number, held, event, control) => {
                 append_csi(number, held, event, text, control, out)
             }
         }

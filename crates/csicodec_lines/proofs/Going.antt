@@ -13,18 +13,18 @@ use Rattle.csicodec_clean.specs.Stream.{IsFrontOf}
 use Rattle.csicodec_clean.specs.Titles.{read_as, title_behind, title_open, with_titles}
 use Rattle.csicodec_clean.proofs.Titles.{open_on, titled, titles_on}
 use Rattle.csicodec_lines.specs.declared.finder.Finder.{Finder}
-use Rattle.csicodec_lines.specs.declared.search.Search.{Search}
+use Rattle.csicodec_lines.specs.declared.search.CutSearch.{CutSearch}
 use Rattle.csicodec_lines.specs.Cuts.{Found, Tells, behind, cuts, first as start, told}
 use Rattle.csicodec_lines.specs.Private.Search.{FindsAt, IsAt}
 use Rattle.csicodec_lines.specs.Private.Finder.{Goes, IsBegun, Passes}
 use Rattle.csicodec_lines.proofs.Parts.{behind_on, cuts_on, spanned, told_on}
 
 -- nothing more
-pub goes_none : (m : Mode) (t : Bool) (old : Search) (bytes : List ℕ) → Goes m t old bytes [] bytes m t old
+pub goes_none : (m : Mode) (t : Bool) (old : CutSearch) (bytes : List ℕ) → Goes m t old bytes [] bytes m t old
 goes_none m t old bytes = record { parts = []; first = (refl, refl); titles = refl; finds = λ s h. (h, refl) }
 
 -- the parts behind those that were searched
-pub goes_on : (m n a : Mode) (t u v : Bool) (old mid new : Search) (bytes text rest more later : List ℕ)
+pub goes_on : (m n a : Mode) (t u v : Bool) (old mid new : CutSearch) (bytes text rest more later : List ℕ)
     → Goes m t old bytes text rest n u mid → Goes n u mid rest more later a v new
     → Goes m t old bytes (text ++ more) later a v new
 goes_on m n a t u v old mid new bytes text rest more later g k =
@@ -48,7 +48,7 @@ goes_on m n a t u v old mid new bytes text rest more later g k =
     }
 
 -- a span
-pub goes_span : (n a : Mode) (u : Bool) (mid new : Search) (k : Kind) (rest span later more : List ℕ)
+pub goes_span : (n a : Mode) (u : Bool) (mid new : CutSearch) (k : Kind) (rest span later more : List ℕ)
     → Cuts longest n rest k span later a → FindsAt mid (part (read_as k u) span) more new
     → Goes n u mid rest more later a (title_behind u k span) new
 goes_span n a u mid new k rest span later more c finds =

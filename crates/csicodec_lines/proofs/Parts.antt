@@ -9,7 +9,7 @@ use Rattle.csicodec_spans.specs.declared.table.Kind.TheVariants as kind
 use Rattle.csicodec_spans.specs.Parts.{Part, part, bytes_of, IsSpan}
 use Rattle.csicodec_clean.specs.Check.{counted}
 use Rattle.csicodec_clean.specs.Cleaned.{is_text}
-use Rattle.csicodec_lines.specs.declared.search.Search.{Search}
+use Rattle.csicodec_lines.specs.declared.search.CutSearch.{CutSearch}
 use Rattle.csicodec_lines.specs.Cuts.{Found, behind, behind_byte, behind_part, behind_text, cuts, cuts_at, cuts_in, is_cut, line_of, passed, told}
 use Rattle.csicodec_lines.specs.Private.Search.{IsAt}
 
@@ -133,7 +133,7 @@ spanned s kind.Str bytes ps h = rw (← h.joined) (others s kind.Str ps refl h.a
 spanned s kind.Other bytes ps h = rw (← h.joined) (others s kind.Other ps refl h.all)
 
 -- what is no text, where the search is told apart from it
-pub other_kind : (s : Found) (k : Kind) (bytes : List ℕ) (new : Search) → k ≢ kind.Text → IsAt new (passed (length bytes) s)
+pub other_kind : (s : Found) (k : Kind) (bytes : List ℕ) (new : CutSearch) → k ≢ kind.Text → IsAt new (passed (length bytes) s)
     → IsAt new (behind_part s (part k bytes)) × ([] ≡ told (cuts_at s (part k bytes)))
 other_kind s kind.Text bytes new other h = absurd (other refl)
 other_kind s kind.Csi bytes new other h = (h, refl)

@@ -4,7 +4,7 @@ ghost use Rattle.csicodec_spans.specs.Parts.{IsUnsure};
 ghost use Rattle.csicodec_clean.specs.Cleaned.{longest};
 ghost use Rattle.csicodec_lines.specs.Private.Finder.{Goes, IsBegun};
 
-use crate::search::Search;
+use crate::search::CutSearch;
 use csicodec_clean::{read_as, title_behind};
 use csicodec_filter::Transform;
 use csicodec_spans::{LIMIT, Mode, Waiting, next_span};
@@ -12,7 +12,7 @@ use std::alloc::{AllocError, Global};
 
 /// Appends the places in all spans of the bytes that are sure, and answers the bytes that aren't, and the mode there.
 fn append_places<'a>(
-    search: &mut Search,
+    search: &mut CutSearch,
     titled: &mut bool,
     mode: Mode,
     bytes: &'a [u8],
@@ -38,7 +38,7 @@ fn append_places<'a>(
 /// A stream whose places are told as it comes. It holds a control sequence that isn't over, of fewer than 65536 bytes.
 #[derive(Drop)]
 pub(crate) struct Finder {
-    search: Search,
+    search: CutSearch,
     titled: bool,
     waiting: Waiting,
 }
@@ -49,7 +49,7 @@ impl Finder {
         ensures { IsBegun every result }
     {
         Finder {
-            search: Search::new(every),
+            search: CutSearch::new(every),
             titled: false,
             waiting: Waiting::new(alloc, LIMIT),
         }

@@ -31,7 +31,7 @@ fn append_line(place: u64, out: &mut Vec<u8>) -> Result<(), AllocError>
 
 /// A search for the next place.
 #[derive(Clone, Copy)]
-pub(crate) struct Search {
+pub(crate) struct CutSearch {
     /// How many bytes at least stand between two.
     every: u64,
     /// How many bytes have come.
@@ -42,12 +42,12 @@ pub(crate) struct Search {
     wait: u64,
 }
 
-impl Search {
+impl CutSearch {
     /// Where nothing has come.
-    pub(crate) fn new(every: u64) -> Search
+    pub(crate) fn new(every: u64) -> CutSearch
         ensures { IsAt result (first every) }
     {
-        Search {
+        CutSearch {
             every,
             at: 0,
             near: every,

@@ -6,7 +6,7 @@ use Rattle.std.specs.Str.{bytes_eq}
 use Rattle.csicodec_osc.specs.declared.command.Command.{Command}
 use Rattle.csicodec_osc.specs.declared.command.Command.TheVariants as command
 use Rattle.csicodec_osc.specs.declared.command.Title.TheVariants as title
-use Rattle.csicodec_osc.specs.declared.command.Palette.TheVariants as palette
+use Rattle.csicodec_osc.specs.declared.command.ColorTable.TheVariants as color_table
 use Rattle.csicodec_osc.specs.declared.command.Dynamic.TheVariants as dynamic
 use Rattle.csicodec_osc.specs.declared.command.Folder.TheVariants as folder
 use Rattle.csicodec_osc.specs.declared.command.Mark.TheVariants as mark
@@ -21,8 +21,8 @@ place_in (k ∷ commands) n = if bytes_eq (number k) n then 0 else suc (place_in
 
 pub lies-at : (k : Command) → slice_get COMMANDS (place_in COMMANDS (number k)) ≡ Some k
 lies-at (command.Title title.Both) = refl
-lies-at (command.Colors palette.Indexed) = refl
-lies-at (command.ResetColors palette.Indexed) = refl
+lies-at (command.Colors color_table.Indexed) = refl
+lies-at (command.ResetColors color_table.Indexed) = refl
 lies-at (command.Color dynamic.Foreground) = refl
 lies-at (command.ResetColor dynamic.Foreground) = refl
 lies-at (command.Folder folder.Address) = refl

@@ -6,8 +6,8 @@ use Rattle.csicodec_osc.specs.declared.command.Command.{Command}
 use Rattle.csicodec_osc.specs.declared.command.Command.TheVariants as command
 use Rattle.csicodec_osc.specs.declared.command.Title.{Title}
 use Rattle.csicodec_osc.specs.declared.command.Title.TheVariants as title
-use Rattle.csicodec_osc.specs.declared.command.Palette.{Palette}
-use Rattle.csicodec_osc.specs.declared.command.Palette.TheVariants as palette
+use Rattle.csicodec_osc.specs.declared.command.ColorTable.{ColorTable}
+use Rattle.csicodec_osc.specs.declared.command.ColorTable.TheVariants as color_table
 use Rattle.csicodec_osc.specs.declared.command.Dynamic.{Dynamic}
 use Rattle.csicodec_osc.specs.declared.command.Dynamic.TheVariants as dynamic
 use Rattle.csicodec_osc.specs.declared.command.Folder.{Folder}
@@ -24,13 +24,13 @@ title_number title.Both = codes "0"  -- xterm ctlseqs, Operating System Commands
 title_number title.Icon = codes "1"  -- xterm ctlseqs, Operating System Commands
 title_number title.Window = codes "2"  -- xterm ctlseqs, Operating System Commands
 
-abbrev pub palette_number : Palette → List ℕ
-palette_number palette.Indexed = codes "4"  -- xterm ctlseqs, Operating System Commands
-palette_number palette.Special = codes "5"  -- xterm ctlseqs, Operating System Commands
+abbrev pub color_table_number : ColorTable → List ℕ
+color_table_number color_table.Indexed = codes "4"  -- xterm ctlseqs, Operating System Commands
+color_table_number color_table.Special = codes "5"  -- xterm ctlseqs, Operating System Commands
 
-abbrev pub palette_reset_number : Palette → List ℕ
-palette_reset_number palette.Indexed = codes "104"  -- xterm ctlseqs, Operating System Commands
-palette_reset_number palette.Special = codes "105"  -- xterm ctlseqs, Operating System Commands
+abbrev pub color_table_reset_number : ColorTable → List ℕ
+color_table_reset_number color_table.Indexed = codes "104"  -- xterm ctlseqs, Operating System Commands
+color_table_reset_number color_table.Special = codes "105"  -- xterm ctlseqs, Operating System Commands
 
 abbrev pub dynamic_number : Dynamic → List ℕ
 dynamic_number dynamic.Foreground = codes "10"  -- xterm ctlseqs, Operating System Commands
@@ -92,8 +92,8 @@ progress_number progress.Paused = codes "9;4;4"  -- ConEmu, ANSI and xterm codes
 -- What a command begins with: its number, and a letter, a word or a further number where it has one.
 abbrev pub number : Command → List ℕ
 number (command.Title v) = title_number v
-number (command.Colors v) = palette_number v
-number (command.ResetColors v) = palette_reset_number v
+number (command.Colors v) = color_table_number v
+number (command.ResetColors v) = color_table_reset_number v
 number (command.Color v) = dynamic_number v
 number (command.ResetColor v) = dynamic_reset_number v
 number (command.Folder v) = folder_number v

@@ -5,7 +5,7 @@ use Rattle.csicodec_osc.specs.declared.asked.Asked.{Asked}
 use Rattle.csicodec_osc.specs.declared.asked.Asked.TheVariants as ask
 use Rattle.csicodec_osc.specs.declared.command.Command.{Command}
 use Rattle.csicodec_osc.specs.declared.command.Command.TheVariants as command
-use Rattle.csicodec_osc.specs.declared.fields.Fields.{Fields as FieldsType}
+use Rattle.csicodec_osc.specs.declared.fields.OscFields.{OscFields as FieldsType}
 use Rattle.csicodec_osc.specs.declared.osc.Osc.{Osc}
 use Rattle.csicodec_osc.specs.declared.osc.Osc.TheVariants as osc
 use Rattle.csicodec_osc.specs.Commands.{form, number}

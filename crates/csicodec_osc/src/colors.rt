@@ -2,8 +2,8 @@
 
 use crate::asked::Asked;
 use crate::body::{is_semicolon, number, write_comma};
-use crate::command::Palette;
-use crate::fields::Fields;
+use crate::command::ColorTable;
+use crate::fields::OscFields;
 use crate::osc_words::DYNAMIC;
 use crate::shown::Shown;
 use std::fmt;
@@ -29,14 +29,14 @@ fn dynamic_name(place: usize) -> &'static str {
 /// Which colour an index means; behind the 256 of the palette stand the special ones (xterm).
 fn write_indexed<W: fmt::Write>(
     f: &mut fmt::Formatter<W>,
-    palette: Palette,
+    palette: ColorTable,
     index: &[u8],
 ) -> fmt::Result {
     let place = number(index);
     let (kind, name) = match (palette, place.and_then(|place| place.checked_sub(256))) {
-        (Palette::Special, _) => ("colour of ", special_name(place)),
-        (Palette::Indexed, Some(place)) => ("special colour of ", special_name(Some(place))),
-        (Palette::Indexed, None) => {
+        (ColorTable::Special, _) => ("colour of ", special_name(place)),
+        (ColorTable::Indexed, Some(place)) => ("special colour of ", special_name(Some(place))),
+        (ColorTable::Indexed, None) => {
             let index = Shown(index);
             return write!(f, "colour {index} of the palette");
         }
@@ -48,8 +48,8 @@ fn write_indexed<W: fmt::Write>(
 /// OSC 4, and OSC 5 with special colours: pairs of an index and a colour, or a question for it.
 pub fn pairs<W: fmt::Write>(
     f: &mut fmt::Formatter<W>,
-    palette: Palette,
-    list: Fields<'_>,
+    palette: ColorTable,
+    list: OscFields<'_>,
 ) -> fmt::Result {
     let mut index: &[u8] = &[];
     for (place, field) in list.text.unwrap_or(&[]).split(is_semicolon).enumerate() {
@@ -61,8 +61,8 @@ pub fn pairs<W: fmt::Write>(
         match Asked::of(field) {
             Asked::Query => {
                 f.write_str(match palette {
-                    Palette::Special => "ask for the ",
-                    Palette::Indexed => "ask for ",
+                    ColorTable::Special => "ask for the ",
+                    ColorTable::Indexed => "ask for ",
                 })?;
                 write_indexed(f, palette, index)?;
             }
@@ -80,7 +80,7 @@ pub fn pairs<W: fmt::Write>(
 pub fn dynamic<W: fmt::Write>(
     f: &mut fmt::Formatter<W>,
     code: u32,
-    list: Fields<'_>,
+    list: OscFields<'_>,
 ) -> fmt::Result {
     let first = code.saturating_sub(10) as usize;
     for (place, field) in list.text.unwrap_or(&[]).split(is_semicolon).enumerate() {
@@ -100,13 +100,13 @@ pub fn dynamic<W: fmt::Write>(
 /// OSC 104 and 105: the colours that are set back, or all.
 pub fn resets<W: fmt::Write>(
     f: &mut fmt::Formatter<W>,
-    palette: Palette,
-    list: Fields<'_>,
+    palette: ColorTable,
+    list: OscFields<'_>,
 ) -> fmt::Result {
     let indices = list.text.unwrap_or(&[]);
     let (all, some) = match palette {
-        Palette::Indexed => ("reset the palette", "reset colour "),
-        Palette::Special => ("reset the special colours", "reset the colour of "),
+        ColorTable::Indexed => ("reset the palette", "reset colour "),
+        ColorTable::Special => ("reset the special colours", "reset the colour of "),
     };
     if indices.is_empty() {
         return f.write_str(all);
@@ -115,16 +115,16 @@ pub fn resets<W: fmt::Write>(
     for (place, index) in indices.split(is_semicolon).enumerate() {
         write_comma(f, place)?;
         match palette {
-            Palette::Special => f.write_str(special_name(number(index)))?,
-            Palette::Indexed => {
+            ColorTable::Special => f.write_str(special_name(number(index)))?,
+            ColorTable::Indexed => {
                 let index = Shown(index);
                 write!(f, "{index}")?;
             }
         }
     }
     match palette {
-        Palette::Indexed => f.write_str(" of the palette"),
-        Palette::Special => Ok(()),
+        ColorTable::Indexed => f.write_str(" of the palette"),
+        ColorTable::Special => Ok(()),
     }
 }
 

@@ -1,7 +1,7 @@
 // Written by tools/table from table/osc.toml: change that, and run python3 tools/table.
 //! Commands: what each begins with.
 ghost use Rattle.std.specs.Prelude.{◌≡◌};
-ghost use Rattle.csicodec_osc.specs.Commands.{dynamic_number, dynamic_reset_number, editor_mark_number, folder_number, mark_number, number, palette_number, palette_reset_number, progress_number, title_number};
+ghost use Rattle.csicodec_osc.specs.Commands.{color_table_number, color_table_reset_number, dynamic_number, dynamic_reset_number, editor_mark_number, folder_number, mark_number, number, progress_number, title_number};
 
 /// Which title.
 #[derive(Clone, Copy, Debug, PartialEq, Eq)]
@@ -29,31 +29,31 @@ impl Title {
 
 /// Colours that have an index.
 #[derive(Clone, Copy, Debug, PartialEq, Eq)]
-pub enum Palette {
+pub enum ColorTable {
     /// The palette, from 0 to 255; xterm takes 256 and more for the special ones.
     Indexed,
     /// Those of text that is bold (0), underlined (1), blinking (2), inverse (3) or italic (4).
     Special,
 }
 
-impl Palette {
+impl ColorTable {
     /// What a command begins with.
     pub(crate) fn number(self) -> &'static [u8]
-        ensures { result.now ≡ palette_number self }
+        ensures { result.now ≡ color_table_number self }
     {
         match self {
-            Palette::Indexed => b"4",
-            Palette::Special => b"5",
+            ColorTable::Indexed => b"4",
+            ColorTable::Special => b"5",
         }
     }
 
     /// What a command begins with that sets it back.
     pub(crate) fn reset_number(self) -> &'static [u8]
-        ensures { result.now ≡ palette_reset_number self }
+        ensures { result.now ≡ color_table_reset_number self }
     {
         match self {
-            Palette::Indexed => b"104",
-            Palette::Special => b"105",
+            ColorTable::Indexed => b"104",
+            ColorTable::Special => b"105",
         }
     }
 }
@@ -260,8 +260,8 @@ impl Progress {
 #[derive(Clone, Copy)]
 pub(crate) enum Command {
     Title(Title),
-    Colors(Palette),
-    ResetColors(Palette),
+    Colors(ColorTable),
+    ResetColors(ColorTable),
     Color(Dynamic),
     ResetColor(Dynamic),
     Folder(Folder),
@@ -283,8 +283,8 @@ impl Command {
     {
         match self {
             Command::Title(title) => title.number(),
-            Command::Colors(palette) => palette.number(),
-            Command::ResetColors(palette) => palette.reset_number(),
+            Command::Colors(color_table) => color_table.number(),
+            Command::ResetColors(color_table) => color_table.reset_number(),
             Command::Color(dynamic) => dynamic.number(),
             Command::ResetColor(dynamic) => dynamic.reset_number(),
             Command::Folder(folder) => folder.number(),
@@ -304,9 +304,9 @@ impl Command {
 /// All of them. The last one has the number that others go on with, and so is tried when none of them is meant.
 pub(crate) static COMMANDS: [Command; 58] = pieces! {
     Command::Title(Title::Both), Command::Title(Title::Icon), Command::Title(Title::Window),
-    Command::Colors(Palette::Indexed), Command::Colors(Palette::Special), Command::ResetColors(Palette::Indexed),
-    Command::ResetColors(Palette::Special), Command::Color(Dynamic::Foreground),
-    Command::Color(Dynamic::Background), Command::Color(Dynamic::Cursor),
+    Command::Colors(ColorTable::Indexed), Command::Colors(ColorTable::Special),
+    Command::ResetColors(ColorTable::Indexed), Command::ResetColors(ColorTable::Special),
+    Command::Color(Dynamic::Foreground), Command::Color(Dynamic::Background), Command::Color(Dynamic::Cursor),
     Command::Color(Dynamic::PointerForeground), Command::Color(Dynamic::PointerBackground),
     Command::Color(Dynamic::TektronixForeground), Command::Color(Dynamic::TektronixBackground),
     Command::Color(Dynamic::HighlightBackground), Command::Color(Dynamic::TektronixCursor),

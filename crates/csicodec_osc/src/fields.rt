@@ -6,17 +6,17 @@ ghost use Rattle.csicodec_osc.specs.Private.Reading.{halves};
 /// Fields, each behind a `;`.
 ///
 /// ```text
-/// let mut fields = Fields { text: Some(b"1;?;7;red") };
+/// let mut fields = OscFields { text: Some(b"1;?;7;red") };
 /// fields.next()                // Some("1")
 /// fields.next()                // Some("?"), a question: `Asked::of` tells
 /// ```
 #[derive(Clone, Copy, Debug)]
-pub struct Fields<'a> {
+pub struct OscFields<'a> {
     /// The fields with the `;` between them; none where no `;` stands behind the number. The empty text is one empty field.
     pub text: Option<&'a [u8]>,
 }
 
-impl<'a> Fields<'a> {
+impl<'a> OscFields<'a> {
     /// Takes the field in front; none is left behind the last one.
     pub fn next(&mut self) -> Option<&'a [u8]>
         ensures { IsNext (list_text self.old) (option_map (λ f. f.now) result) (list_text self.new) }

@@ -40,9 +40,9 @@ mod shown;
 mod string_rows;
 
 pub use asked::Asked;
-pub use command::{Dynamic, EditorMark, Folder, Mark, Palette, Progress, Title};
+pub use command::{ColorTable, Dynamic, EditorMark, Folder, Mark, Progress, Title};
 pub use control_string::{ControlString, FRONT};
 pub use escape::append_escaped;
-pub use fields::Fields;
+pub use fields::OscFields;
 pub use osc::Osc;
 pub use shown::{Quoted, Shown, are_plain, is_seen, plain_len, text_len};

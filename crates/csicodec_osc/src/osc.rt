@@ -6,9 +6,9 @@ ghost use Rattle.csicodec_osc.specs.Private.Reading.{behind, read_body, read_by}
 
 use crate::asked::Asked;
 use crate::command::{
-    COMMANDS, Command, Dynamic, EditorMark, Folder, Mark, Palette, Progress, Title,
+    COMMANDS, ColorTable, Command, Dynamic, EditorMark, Folder, Mark, Progress, Title,
 };
-use crate::fields::{Fields, halves};
+use crate::fields::{OscFields, halves};
 use std::alloc::AllocError;
 
 /// What the content of an OSC says. It borrows the texts, as they stand there: nothing is decoded, and no byte is checked but the
@@ -18,13 +18,13 @@ pub enum Osc<'a> {
     /// A title.
     Title(Title, &'a [u8]),
     /// Colours by their indices: fields in pairs, an index and a colour, or a question for it.
-    Colors(Palette, Fields<'a>),
+    Colors(ColorTable, OscFields<'a>),
     /// A colour, or a question for it; each further field is the next one's of [`Dynamic`].
-    Color(Dynamic, Fields<'a>),
+    Color(Dynamic, OscFields<'a>),
     /// The colours of these indices as they were at first, or all.
-    ResetColors(Palette, Fields<'a>),
+    ResetColors(ColorTable, OscFields<'a>),
     /// A colour as it was at first; it has no field that means something.
-    ResetColor(Dynamic, Fields<'a>),
+    ResetColor(Dynamic, OscFields<'a>),
     /// What is printed from now on leads to the address; with none the link ends.
     Link {
         /// Without `;`: `name=value`, with `:` between two. Parts of one link have the same `id`.
@@ -42,11 +42,11 @@ pub enum Osc<'a> {
     /// The current folder.
     Folder(Folder, &'a [u8]),
     /// A mark of a shell.
-    Prompt(Mark, Fields<'a>),
+    Prompt(Mark, OscFields<'a>),
     /// A mark of a shell for VS Code.
-    Editor(EditorMark, Fields<'a>),
-    /// Progress; its first field is how much is done ([`Fields::percent`]), and may be empty.
-    Progress(Progress, Fields<'a>),
+    Editor(EditorMark, OscFields<'a>),
+    /// Progress; its first field is how much is done ([`OscFields::percent`]), and may be empty.
+    Progress(Progress, OscFields<'a>),
     /// The shape of the pointer.
     Pointer(&'a [u8]),
     /// A notification of kitty's.
@@ -125,10 +125,13 @@ impl Command {
     {
         match self {
             Command::Title(title) => Some(Osc::Title(title, tail?)),
-            Command::Colors(palette) => Some(Osc::Colors(palette, Fields { text: tail })),
-            Command::Color(color) => Some(Osc::Color(color, Fields { text: tail })),
-            Command::ResetColors(palette) => Some(Osc::ResetColors(palette, Fields { text: tail })),
-            Command::ResetColor(color) => Some(Osc::ResetColor(color, Fields { text: tail })),
+            Command::Colors(palette) => Some(Osc::Colors(palette, OscFields { text: tail })),
+            Command::Color(color) => Some(Osc::Color(color, OscFields { text: tail })),
+            Command::ResetColors(palette) => Some(Osc::ResetColors(
+                palette,
+                OscFields { text: tail },
+            )),
+            Command::ResetColor(color) => Some(Osc::ResetColor(color, OscFields { text: tail })),
             Command::Link => {
                 let (params, address) = halves(tail?)?;
                 Some(Osc::Link { params, address })
@@ -139,9 +142,9 @@ impl Command {
                 Some(Osc::Clipboard { selection, content })
             }
             Command::Folder(folder) => Some(Osc::Folder(folder, tail?)),
-            Command::Prompt(mark) => Some(Osc::Prompt(mark, Fields { text: tail })),
-            Command::Editor(mark) => Some(Osc::Editor(mark, Fields { text: tail })),
-            Command::Progress(progress) => Some(Osc::Progress(progress, Fields { text: tail })),
+            Command::Prompt(mark) => Some(Osc::Prompt(mark, OscFields { text: tail })),
+            Command::Editor(mark) => Some(Osc::Editor(mark, OscFields { text: tail })),
+            Command::Progress(progress) => Some(Osc::Progress(progress, OscFields { text: tail })),
             Command::Pointer => Some(Osc::Pointer(tail?)),
             Command::KittyNotice => {
                 let (metadata, payload) = halves(tail?)?;

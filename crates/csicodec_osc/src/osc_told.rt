@@ -4,10 +4,10 @@ use crate::body::{Body, number, split_at, tell};
 use crate::clipboard::clipboard;
 use crate::colors::{dynamic, dynamic_reset, pairs, resets};
 use crate::command::{EditorMark, Progress};
-use crate::fields::Fields;
+use crate::fields::OscFields;
 use crate::osc::Osc;
 use crate::osc_words::{
-    ALONE, Behind, KITTY_NOTICE, POINTER, editor_mark_words, folder_words, mark_words,
+    ALONE, ContentTail, KITTY_NOTICE, POINTER, editor_mark_words, folder_words, mark_words,
     progress_words, title_words,
 };
 use crate::shown::Quoted;
@@ -78,13 +78,14 @@ fn plain<W: fmt::Write>(f: &mut fmt::Formatter<W>, words: &str, text: Body<'_>) 
 }
 
 /// The text of what has words alone and begins so.
-fn behind<'a>(body: Body<'a>, rest: Body<'a>, front: &[u8], form: Behind) -> Option<Body<'a>> {
+fn behind<'a>(body: Body<'a>, rest: Body<'a>, front: &[u8], form: ContentTail) -> Option<Body<'a>> {
     let text = body.behind(front)?;
     match (form, text.bytes) {
-        (Behind::Whole, _) => Some(rest),
-        (Behind::Rest, _) | (Behind::Bare | Behind::Several | Behind::Value, []) => Some(text),
-        (Behind::OneText | Behind::Several, [b';', bytes @ ..])
-        | (Behind::Value, [b'=', bytes @ ..]) => Some(text.with(bytes)),
+        (ContentTail::Whole, _) => Some(rest),
+        (ContentTail::Rest, _)
+        | (ContentTail::Bare | ContentTail::Several | ContentTail::Value, []) => Some(text),
+        (ContentTail::OneText | ContentTail::Several, [b';', bytes @ ..])
+        | (ContentTail::Value, [b'=', bytes @ ..]) => Some(text.with(bytes)),
         _ => None,
     }
 }
@@ -103,7 +104,7 @@ fn alone<'a>(body: Body<'a>, rest: Body<'a>) -> Option<(&'static str, Body<'a>)>
 fn marked<W: fmt::Write>(
     f: &mut fmt::Formatter<W>,
     words: &str,
-    list: Fields<'_>,
+    list: OscFields<'_>,
     more: u64,
 ) -> fmt::Result {
     f.write_str(words)?;
@@ -125,7 +126,7 @@ fn marked<W: fmt::Write>(
 fn edited<W: fmt::Write>(
     f: &mut fmt::Formatter<W>,
     mark: EditorMark,
-    list: Fields<'_>,
+    list: OscFields<'_>,
     body: Body<'_>,
 ) -> fmt::Result {
     let words = editor_mark_words(mark);
@@ -141,7 +142,7 @@ fn edited<W: fmt::Write>(
 fn done<W: fmt::Write>(
     f: &mut fmt::Formatter<W>,
     progress: Progress,
-    list: Fields<'_>,
+    list: OscFields<'_>,
     rest: Body<'_>,
 ) -> fmt::Result {
     let percent = match (list.percent(), list.text) {

@@ -66,7 +66,7 @@ fn look_behind_bytes(
 
 /// The front of a line that is written.
 #[derive(Clone, Copy)]
-pub(crate) struct Front<'a> {
+pub(crate) struct LineFront<'a> {
     /// What is behind it.
     pub(crate) rest: &'a [u8],
     /// How the character looks that was written last.
@@ -110,7 +110,7 @@ pub(crate) fn append_front<'a>(
     marking: &Marking,
     bytes: &'a [u8],
     out: &mut Vec<u8>,
-) -> Result<Front<'a>, AllocError>
+) -> Result<LineFront<'a>, AllocError>
     requires bare { reader.old ≡ none_held }
     requires over { pen.inserts ≡ false }
     ensures written { IfOk result (λ f. (front : List ℕ) × (text : List ℕ) × (bytes.now ≡ front ++ f.rest.now)
@@ -122,13 +122,13 @@ pub(crate) fn append_front<'a>(
     loop {
         let (run, behind) = split_front::<InLine>(rest);
         if LIMIT / 8 < bytes.len().saturating_sub(behind.len()) {
-            return Ok(Front { rest, last, now });
+            return Ok(LineFront { rest, last, now });
         }
         last = append_run(last, now, run, marking, out)?;
         rest = behind;
         let (sequence, others) = rest.split_at(style_len(rest));
         let Some(after) = look_behind_bytes(reader, steps, now, sequence)? else {
-            return Ok(Front { rest, last, now });
+            return Ok(LineFront { rest, last, now });
         };
         now = after;
         rest = others;

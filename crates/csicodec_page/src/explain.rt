@@ -2,7 +2,7 @@
 ghost use Rattle.std.specs.Prelude.{◌≤◌, IfOk, length};
 
 use crate::input::Sending;
-use crate::page::{Modes, Page};
+use crate::page::{Listing, Modes};
 use crate::sheet::text_of;
 use crate::stats::stats_of;
 use crate::style::Style;
@@ -19,7 +19,7 @@ fn no_memory(_: AllocError) -> RunError {
 }
 
 /// Adds the lines of all spans that are sure; how many bytes they are, and the mode behind them.
-fn add_spans(page: &mut Page<'_>, mode: Mode, bytes: &[u8]) -> Result<(usize, Mode), AllocError>
+fn add_spans(page: &mut Listing<'_>, mode: Mode, bytes: &[u8]) -> Result<(usize, Mode), AllocError>
     ensures { IfOk result (λ (used, after). used ≤ length bytes.now) }
 {
     let (mut mode, mut rest) = (mode, bytes);
@@ -44,7 +44,7 @@ fn add_spans(page: &mut Page<'_>, mode: Mode, bytes: &[u8]) -> Result<(usize, Mo
 
 /// Adds what is sure of these bytes, by the spans of a stream or the events of a dialect; how many bytes it has, and the mode behind it.
 fn add_sure(
-    page: &mut Page<'_>,
+    page: &mut Listing<'_>,
     sending: &mut Sending,
     dialect: Option<Dialect>,
     mode: Mode,
@@ -66,7 +66,7 @@ pub struct Explainer<'a> {
     mode: Mode,
     pending: Vec<u8>,
     sending: Sending,
-    page: Page<'a>,
+    page: Listing<'a>,
 }
 
 impl<'a> Explainer<'a> {
@@ -78,7 +78,7 @@ impl<'a> Explainer<'a> {
             mode: Mode::Text,
             pending: Vec::new(alloc),
             sending: Sending::new(alloc),
-            page: Page::new(alloc, style),
+            page: Listing::new(alloc, style),
         }
     }
 

@@ -3,7 +3,7 @@ ghost use Rattle.std.specs.Prelude.{◌≡◌, ◌<◌, ◌≤◌, IfOk, length}
 ghost use Rattle.csicodec_events.specs.Events.{IsMet};
 
 use crate::line::Sort;
-use crate::page::{Modes, Page};
+use crate::page::{Listing, Modes};
 use csicodec_base::CsiParam;
 use csicodec_events::{Dialect, Event, Events, InputEvent, Sent};
 use csicodec_spans::{Kind, LIMIT, Mode};
@@ -47,7 +47,7 @@ fn resumed(mode: Mode, looked: usize, bytes: &[u8]) -> Events
 
 /// Tells what output has too: text is over where ESC follows.
 fn tell_output(
-    page: &mut Page<'_>,
+    page: &mut Listing<'_>,
     modes: Modes,
     event: Event,
     sent: Sent<'_>,
@@ -67,7 +67,7 @@ fn tell_output(
 
 /// Tells an event; of a control sequence these are the tokens. A control within a sequence has no bytes of its own.
 fn tell(
-    page: &mut Page<'_>,
+    page: &mut Listing<'_>,
     modes: Modes,
     sent: Sent<'_>,
     params: &[CsiParam],
@@ -91,7 +91,7 @@ fn tell(
 
 /// Tells the events that are sure; how many bytes they have.
 fn tell_all(
-    page: &mut Page<'_>,
+    page: &mut Listing<'_>,
     dialect: Dialect,
     events: &mut Events,
     params: &mut Vec<CsiParam>,
@@ -126,7 +126,7 @@ impl Sending {
     /// behind them.
     pub fn add(
         &mut self,
-        page: &mut Page<'_>,
+        page: &mut Listing<'_>,
         dialect: Dialect,
         mode: Mode,
         bytes: &[u8],
@@ -149,7 +149,7 @@ impl Sending {
     /// Tells bytes that wait, in this mode, where nothing came in time, and they are ESC alone or with one character; whether they are.
     pub fn pause(
         &mut self,
-        page: &mut Page<'_>,
+        page: &mut Listing<'_>,
         mode: Mode,
         bytes: &[u8],
     ) -> Result<bool, AllocError> {
@@ -164,7 +164,12 @@ impl Sending {
     }
 
     /// Tells bytes that wait, in this mode, where nothing comes any more: text of which a character isn't whole, or what is malformed.
-    pub fn end(&mut self, page: &mut Page<'_>, mode: Mode, bytes: &[u8]) -> Result<(), AllocError> {
+    pub fn end(
+        &mut self,
+        page: &mut Listing<'_>,
+        mode: Mode,
+        bytes: &[u8],
+    ) -> Result<(), AllocError> {
         self.time = 0;
         if bytes.is_empty() || self.pause(page, mode, bytes)? {
             return Ok(());

@@ -52,7 +52,7 @@ pub enum Sort {
 
 /// A span of which the first bytes are there.
 #[derive(Clone, Copy)]
-pub struct Told<'a> {
+pub struct ToldSpan<'a> {
     /// What it is.
     pub sort: Sort,
     /// The place of its first byte in the stream, counted from 0.
@@ -335,7 +335,7 @@ fn append_front(
 /// and how many bytes of what was appended take no column.
 fn append_most(
     text: &mut Vec<u8>,
-    span: &Told<'_>,
+    span: &ToldSpan<'_>,
     columns: usize,
 ) -> Result<(usize, usize), AllocError> {
     let quoted = span.sort == Sort::Text;
@@ -360,7 +360,7 @@ fn append_most(
 /// The bytes of a span as a line shows them in so many columns, the first of them where not all have room; how many columns they take.
 pub fn append_shown(
     text: &mut Vec<u8>,
-    span: &Told<'_>,
+    span: &ToldSpan<'_>,
     columns: usize,
 ) -> Result<usize, AllocError> {
     let (begin, bytes) = (text.len(), span.bytes);
@@ -409,7 +409,7 @@ pub fn append_margin(text: &mut Vec<u8>, style: &Style<'_>) -> Result<(), AllocE
 /// The columns of few bytes with no end of a line behind them: a text of ASCII characters that stand for themselves, or ESC and such
 /// characters behind it.
 #[inline(always)]
-fn short_columns(span: &Told<'_>) -> Option<[u8; BYTES]> {
+fn short_columns(span: &ToldSpan<'_>) -> Option<[u8; BYTES]> {
     let (quoted, shown) = match (span.sort, span.bytes) {
         (Sort::Text, bytes) => (true, bytes),
         (_, [0x1b, behind @ ..]) => (false, behind),
@@ -436,7 +436,7 @@ fn short_columns(span: &Told<'_>) -> Option<[u8; BYTES]> {
 pub fn append_bytes(
     text: &mut Vec<u8>,
     style: &Style<'_>,
-    span: &Told<'_>,
+    span: &ToldSpan<'_>,
 ) -> Result<(), AllocError> {
     if !style.color && span.len == span.bytes.len() as u64 {
         if let Some(columns) = short_columns(span) {
@@ -477,7 +477,7 @@ fn behind_number(len: u64, end: &[u8]) -> &'static [u8] {
 pub fn append_text_words(
     text: &mut Vec<u8>,
     style: &Style<'_>,
-    span: &Told<'_>,
+    span: &ToldSpan<'_>,
 ) -> Result<(), AllocError> {
     let len = span.len;
     if style.color {

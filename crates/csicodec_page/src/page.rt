@@ -5,7 +5,7 @@ use crate::controls::{is_control, text_front, words_of};
 use crate::counts::Names;
 use crate::decode::clipboard_bytes;
 use crate::keyed::{Keyed, sequence_front};
-use crate::line::{Sort, Told, whole_characters};
+use crate::line::{Sort, ToldSpan, whole_characters};
 use crate::sheet::Sheet;
 use crate::style::Style;
 use crate::taken::words_with_taken;
@@ -41,8 +41,8 @@ struct Open {
 
 impl Open {
     /// What isn't told of it yet.
-    fn rest(&self) -> Told<'_> {
-        Told {
+    fn rest(&self) -> ToldSpan<'_> {
+        ToldSpan {
             sort: sort_of(self.kind),
             place: self.place.saturating_add(self.told),
             time: self.time,
@@ -85,7 +85,7 @@ pub struct Modes {
 /// The lines of the spans that came, and the span of which more may come. It doesn't grow with that span, but where all
 /// its bytes are to be shown at once.
 #[derive(Drop)]
-pub struct Page<'a> {
+pub struct Listing<'a> {
     alloc: Global,
     sheet: Sheet<'a>,
     /// The tokens of a control sequence.
@@ -156,7 +156,7 @@ fn sort_of(kind: Kind) -> Sort {
 /// A span of these words.
 fn tell_words<T: Display>(
     sheet: &mut Sheet<'_>,
-    span: &Told<'_>,
+    span: &ToldSpan<'_>,
     words: &T,
 ) -> Result<(), AllocError> {
     sheet.begin(span)?;
@@ -168,7 +168,7 @@ fn tell_words<T: Display>(
 fn tell_string(
     alloc: Global,
     sheet: &mut Sheet<'_>,
-    span: &Told<'_>,
+    span: &ToldSpan<'_>,
     string: ControlString<'_>,
 ) -> Result<(), AllocError> {
     sheet.begin(span)?;
@@ -186,14 +186,14 @@ fn tell_wrong(
     sheet: &mut Sheet<'_>,
     totals: &mut Totals,
     kind: Kind,
-    span: &Told<'_>,
+    span: &ToldSpan<'_>,
 ) -> Result<(), AllocError> {
     let Some(reading) = long_escape(kind, span.bytes, span.len) else {
         return tell_words(sheet, span, &Malformed(span.len));
     };
     totals.add_long_escape(span.len);
     let sort = Sort::Escape;
-    tell_words(sheet, &Told { sort, ..*span }, &Described(&reading))
+    tell_words(sheet, &ToldSpan { sort, ..*span }, &Described(&reading))
 }
 
 /// A line for an action that no table has, behind so many others of its sequence.
@@ -201,7 +201,7 @@ fn tell_wrong(
 fn tell_unknown(
     alloc: Global,
     sheet: &mut Sheet<'_>,
-    span: &Told<'_>,
+    span: &ToldSpan<'_>,
     reading: Reading<'_>,
     read: usize,
 ) -> Result<(), AllocError> {
@@ -213,7 +213,7 @@ fn tell_unknown(
 fn tell_actions(
     alloc: Global,
     sheet: &mut Sheet<'_>,
-    span: &Told<'_>,
+    span: &ToldSpan<'_>,
     params: &[CsiParam],
     control: char,
 ) -> Result<u64, AllocError> {
@@ -239,10 +239,10 @@ fn tell_actions(
     Ok(count)
 }
 
-impl<'a> Page<'a> {
+impl<'a> Listing<'a> {
     /// No line.
-    pub fn new(alloc: Global, style: Style<'a>) -> Page<'a> {
-        Page {
+    pub fn new(alloc: Global, style: Style<'a>) -> Listing<'a> {
+        Listing {
             alloc,
             sheet: Sheet::new(alloc, style),
             params: Vec::new(alloc),
@@ -355,7 +355,7 @@ impl<'a> Page<'a> {
     fn close_open(&mut self, end: &[u8]) -> Result<(), AllocError> {
         let (kind, len) = (self.open.kind, self.open.len);
         let (closed, bell) = (self.open.closed, self.open.bell);
-        let span = Told {
+        let span = ToldSpan {
             end,
             ..self.open.rest()
         };
@@ -386,8 +386,8 @@ impl<'a> Page<'a> {
     }
 
     /// What stands at this place, whole.
-    fn span_here<'b>(&self, sort: Sort, bytes: &'b [u8]) -> Told<'b> {
-        Told {
+    fn span_here<'b>(&self, sort: Sort, bytes: &'b [u8]) -> ToldSpan<'b> {
+        ToldSpan {
             sort,
             place: self.place,
             time: self.time,
@@ -503,7 +503,7 @@ impl<'a> Page<'a> {
     /// What a recording has beside bytes.
     pub fn add_event<T: Display>(&mut self, time: u64, words: &T) -> Result<(), AllocError> {
         self.close()?;
-        let span = Told {
+        let span = ToldSpan {
             sort: Sort::Event,
             place: self.place,
             time,
@@ -520,7 +520,7 @@ impl<'a> Page<'a> {
         if self.sheet.recall(time, place, control)?.is_some() {
             return Ok(());
         }
-        let span = Told {
+        let span = ToldSpan {
             sort: Sort::Control,
             place,
             time,

@@ -1,6 +1,6 @@
 //! A text that is looked for: in the bytes of a span, in these as a line shows them, and in the words.
 
-use crate::line::{Told, append_shown};
+use crate::line::{ToldSpan, append_shown};
 use crate::style::Style;
 use bstr::ByteSlice;
 use memchr::memmem::find;
@@ -63,7 +63,7 @@ impl Search {
     pub fn finds(
         &mut self,
         style: &Style<'_>,
-        span: &Told<'_>,
+        span: &ToldSpan<'_>,
         words: &str,
     ) -> Result<bool, AllocError> {
         let Some(text) = style.grep else {

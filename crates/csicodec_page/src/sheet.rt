@@ -10,8 +10,8 @@ use crate::json::{
 };
 use crate::keyed::Keyed;
 use crate::line::{
-    Offset, Sort, Told, append_begin, append_bytes, append_margin, append_name, append_text_words,
-    whole_characters,
+    Offset, Sort, ToldSpan, append_begin, append_bytes, append_margin, append_name,
+    append_text_words, whole_characters,
 };
 use crate::search::Search;
 use crate::style::{Style, name_of};
@@ -189,7 +189,7 @@ impl<'a> Sheet<'a> {
     }
 
     /// When and where a span begins.
-    fn begin_span(&mut self, span: &Told<'_>) -> Result<(), AllocError> {
+    fn begin_span(&mut self, span: &ToldSpan<'_>) -> Result<(), AllocError> {
         self.place.go_to(span.place);
         begin_at(
             &mut self.text,
@@ -201,7 +201,7 @@ impl<'a> Sheet<'a> {
     }
 
     /// Tells the first piece of a span that is too long for one object; how many bytes it has, 0 where the span isn't.
-    pub fn tell_piece(&mut self, span: &Told<'_>) -> Result<usize, AllocError> {
+    pub fn tell_piece(&mut self, span: &ToldSpan<'_>) -> Result<usize, AllocError> {
         let Some(bytes) = piece_of(span.bytes) else {
             return Ok(0);
         };
@@ -212,7 +212,7 @@ impl<'a> Sheet<'a> {
     }
 
     /// The begin of a span's object: ahead of it stands one for each piece of a long span, but for the last.
-    fn begin_object(&mut self, span: &Told<'_>) -> Result<(), AllocError> {
+    fn begin_object(&mut self, span: &ToldSpan<'_>) -> Result<(), AllocError> {
         let mut rest = *span;
         for _ in 0..span.bytes.len() {
             let told = self.tell_piece(&rest)?;
@@ -228,7 +228,7 @@ impl<'a> Sheet<'a> {
     }
 
     /// A text.
-    pub fn tell_text(&mut self, span: &Told<'_>) -> Result<(), AllocError> {
+    pub fn tell_text(&mut self, span: &ToldSpan<'_>) -> Result<(), AllocError> {
         if !self.style.is_plain() && !self.counts_text(span)? {
             return Ok(());
         }
@@ -243,7 +243,7 @@ impl<'a> Sheet<'a> {
 
     /// Whether the words that are there are told of the span.
     #[inline(always)]
-    fn is_wanted(&mut self, span: &Told<'_>) -> Result<bool, AllocError> {
+    fn is_wanted(&mut self, span: &ToldSpan<'_>) -> Result<bool, AllocError> {
         if self.style.tells_all() {
             Ok(true)
         } else {
@@ -253,7 +253,7 @@ impl<'a> Sheet<'a> {
 
     /// Whether they are where only some spans are told.
     #[inline(never)]
-    fn is_looked_for(&mut self, span: &Told<'_>) -> Result<bool, AllocError> {
+    fn is_looked_for(&mut self, span: &ToldSpan<'_>) -> Result<bool, AllocError> {
         if !self.style.tells(&self.words, span.place, span.len) {
             return Ok(false);
         }
@@ -261,7 +261,7 @@ impl<'a> Sheet<'a> {
     }
 
     /// Counts a text where it is one that is asked for; whether it is then told. In JSON it has no actions.
-    fn counts_text(&mut self, span: &Told<'_>) -> Result<bool, AllocError> {
+    fn counts_text(&mut self, span: &ToldSpan<'_>) -> Result<bool, AllocError> {
         let len = span.len;
         self.words.clear();
         let unit = if len == 1 { "byte" } else { "bytes" };
@@ -278,7 +278,7 @@ impl<'a> Sheet<'a> {
     }
 
     /// A span begins.
-    pub fn begin(&mut self, span: &Told<'_>) -> Result<(), AllocError> {
+    pub fn begin(&mut self, span: &ToldSpan<'_>) -> Result<(), AllocError> {
         self.begin = self.text.len();
         self.actions = 0;
         if self.style.is_silent() {
@@ -293,7 +293,7 @@ impl<'a> Sheet<'a> {
     }
 
     /// The words of the span.
-    pub fn add<T: Display>(&mut self, span: &Told<'_>, value: &T) -> Result<(), AllocError> {
+    pub fn add<T: Display>(&mut self, span: &ToldSpan<'_>, value: &T) -> Result<(), AllocError> {
         self.fields.clear();
         self.add_words(span, value)
     }
@@ -301,7 +301,7 @@ impl<'a> Sheet<'a> {
     /// The words of an action of the span, which has fields.
     pub fn add_action<T: Display, A: Debug>(
         &mut self,
-        span: &Told<'_>,
+        span: &ToldSpan<'_>,
         value: &T,
         action: &A,
     ) -> Result<(), AllocError> {
@@ -314,7 +314,7 @@ impl<'a> Sheet<'a> {
     }
 
     /// What stands in the span, decoded: a line of its own, or a member of its first action.
-    pub fn add_decoded(&mut self, span: &Told<'_>, bytes: &[u8]) -> Result<(), AllocError> {
+    pub fn add_decoded(&mut self, span: &ToldSpan<'_>, bytes: &[u8]) -> Result<(), AllocError> {
         if self.style.is_silent() {
             return Ok(());
         }
@@ -328,7 +328,7 @@ impl<'a> Sheet<'a> {
         Ok(())
     }
 
-    fn add_words<T: Display>(&mut self, span: &Told<'_>, value: &T) -> Result<(), AllocError> {
+    fn add_words<T: Display>(&mut self, span: &ToldSpan<'_>, value: &T) -> Result<(), AllocError> {
         self.words.clear();
         write!(self.words, "{value}")?;
         if !self.is_wanted(span)? {
@@ -368,7 +368,7 @@ impl<'a> Sheet<'a> {
     }
 
     /// The span is over. One of which nothing was wanted is taken back.
-    pub fn end(&mut self, span: &Told<'_>) -> Result<(), AllocError> {
+    pub fn end(&mut self, span: &ToldSpan<'_>) -> Result<(), AllocError> {
         let (some, tells_all) = (self.actions > 0, self.style.tells_all());
         if some && !tells_all {
             self.totals.add_told(span.sort, span.len, self.actions);

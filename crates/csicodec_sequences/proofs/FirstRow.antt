@@ -5,8 +5,8 @@ use Rattle.std.proofs.lemmas.Bool.{and_parts}
 use Rattle.std.specs.Option.{option_map, option_or}
 use Rattle.csicodec_tokens.specs.declared.param.CsiParam.{CsiParam}
 use Rattle.std.proofs.lemmas.Option.{same_Some}
-use Rattle.csicodec_sequences.specs.declared.row.Form.{Form}
-use Rattle.csicodec_sequences.specs.declared.row.Slot.{Slot}
+use Rattle.csicodec_sequences.specs.declared.row.SequenceForm.{SequenceForm}
+use Rattle.csicodec_sequences.specs.declared.row.NumberSlot.{NumberSlot}
 use Rattle.csicodec_sequences.specs.Known.{dec_rows, first_reading, other_rows, reading, report_rows, rows_of, table}
 use Rattle.csicodec_sequences.specs.Rows.{Row, read_row}
 use Rattle.csicodec_actions.proofs.AllFieldRows.{option_or-assoc}
@@ -14,7 +14,7 @@ use Rattle.csicodec_sequences.proofs.OneRow.{all_apart, apart-from, apart_from}
 use Rattle.csicodec_sequences.proofs.Table.{is-apart}
 
 -- what stands at a place, and behind it
-pub rows-at : (forms : List Form) (all : List (List Slot)) (k : ℕ) (f : Form) (ss : List Slot) → slice_get forms k ≡ Some f → slice_get all k ≡ Some ss
+pub rows-at : (forms : List SequenceForm) (all : List (List NumberSlot)) (k : ℕ) (f : SequenceForm) (ss : List NumberSlot) → slice_get forms k ≡ Some f → slice_get all k ≡ Some ss
     → rows_of (drop k forms) (drop k all) ≡ record { form = f; slots = ss } ∷ rows_of (drop (suc k) forms) (drop (suc k) all)
 unfolding rows_of
 rows-at [] all zero f ss e g = cc
@@ -22,12 +22,12 @@ rows-at [] all (suc k) f ss e g = cc
 rows-at (x ∷ forms) [] zero f ss e g = cc
 rows-at (x ∷ forms) [] (suc k) f ss e g = cc
 rows-at (x ∷ forms) (y ∷ all) zero f ss e g =
-    subst (λ (h : Form). record { form = x; slots = y } ∷ rows_of forms all ≡ record { form = h; slots = ss } ∷ rows_of forms all) (same_Some x f e)
+    subst (λ (h : SequenceForm). record { form = x; slots = y } ∷ rows_of forms all ≡ record { form = h; slots = ss } ∷ rows_of forms all) (same_Some x f e)
     (ap (λ zs. record { form = x; slots = zs } ∷ rows_of forms all) (same_Some y ss g))
 rows-at (x ∷ forms) (y ∷ all) (suc k) f ss e g = rows-at forms all k f ss e g
 
 -- the row at a place reads the list
-pub found-at : (forms : List Form) (all : List (List Slot)) (k : ℕ) (f : Form) (ss : List Slot) (params : List CsiParam) (control : ℕ) (values : List ℕ) → slice_get forms k ≡ Some f → slice_get all k ≡ Some ss
+pub found-at : (forms : List SequenceForm) (all : List (List NumberSlot)) (k : ℕ) (f : SequenceForm) (ss : List NumberSlot) (params : List CsiParam) (control : ℕ) (values : List ℕ) → slice_get forms k ≡ Some f → slice_get all k ≡ Some ss
     → Some values ≡ read_row (record { form = f; slots = ss }) params control → Some (f, values) ≡ first_reading (rows_of (drop k forms) (drop k all)) params control
 found-at forms all k f ss params control values e g read =
     sym
@@ -35,7 +35,7 @@ found-at forms all k f ss params control values e g read =
     ∙ ap (λ o. option_or (option_map (λ vs. (f, vs)) o) (first_reading (rows_of (drop (suc k) forms) (drop (suc k) all)) params control)) (sym read))
 
 -- it doesn't
-pub passed-at : (forms : List Form) (all : List (List Slot)) (k : ℕ) (f : Form) (ss : List Slot) (params : List CsiParam) (control : ℕ) → slice_get forms k ≡ Some f → slice_get all k ≡ Some ss
+pub passed-at : (forms : List SequenceForm) (all : List (List NumberSlot)) (k : ℕ) (f : SequenceForm) (ss : List NumberSlot) (params : List CsiParam) (control : ℕ) → slice_get forms k ≡ Some f → slice_get all k ≡ Some ss
     → None ≡ read_row (record { form = f; slots = ss }) params control
     → first_reading (rows_of (drop k forms) (drop k all)) params control ≡ first_reading (rows_of (drop (k + 1) forms) (drop (k + 1) all)) params control
 passed-at forms all k f ss params control e g read =
@@ -45,7 +45,7 @@ passed-at forms all k f ss params control e g read =
     ∙ ap (λ (n : ℕ). first_reading (rows_of (drop n forms) (drop n all)) params control) one)
 
 -- no row is left
-pub none-left : (forms : List Form) (others : List (List Slot)) (k : ℕ) (params : List CsiParam) (control : ℕ) → length forms ≤ k → None ≡ first_reading (rows_of (drop k forms) others) params control
+pub none-left : (forms : List SequenceForm) (others : List (List NumberSlot)) (k : ℕ) (params : List CsiParam) (control : ℕ) → length forms ≤ k → None ≡ first_reading (rows_of (drop k forms) others) params control
 unfolding rows_of
 none-left [] others zero params control h = refl
 none-left [] others (suc k) params control h = refl

@@ -7,8 +7,8 @@ use Rattle.std.proofs.lemmas.Option.{same_Some}
 use Rattle.csicodec_tokens.specs.declared.param.CsiParam.{CsiParam}
 use Rattle.csicodec_tokens.specs.declared.param.CsiParam.TheVariants.{Integer, P}
 use Rattle.csicodec_actions.proofs.Found.{guarded, map-some}
-use Rattle.csicodec_sequences.specs.declared.row.Form.{Form}
-use Rattle.csicodec_sequences.specs.declared.row.Slot.{Slot}
+use Rattle.csicodec_sequences.specs.declared.row.SequenceForm.{SequenceForm}
+use Rattle.csicodec_sequences.specs.declared.row.NumberSlot.{NumberSlot}
 use Rattle.csicodec_sequences.specs.Known.{first_reading, reading, rows_of, table}
 use Rattle.csicodec_sequences.specs.Parts.{behind_separator, is_intermediate, is_marker, parts_of, split_field, without_intermediate, without_marker}
 use Rattle.csicodec_sequences.specs.Rows.{Row, read_row, slot_values}
@@ -33,7 +33,7 @@ field-length (Integer z ∷ ts) number rest e =
     let more = behind-length ts m.0 m.1 in
     let same = ap (λ (f : Option ℤ × List CsiParam). length f.1) m.2 in omega (arith, more, same)
 
-slots-length : (ss : List Slot) (list : List CsiParam) (vs : List ℕ) → slot_values ss list ≡ Some vs → length list ≤ 2 * length ss
+slots-length : (ss : List NumberSlot) (list : List CsiParam) (vs : List ℕ) → slot_values ss list ≡ Some vs → length list ≤ 2 * length ss
 slots-length [] [] vs e = omega arith
 slots-length [] (t ∷ ts) vs e = cc
 slots-length (s ∷ ss) [] vs e = omega arith
@@ -72,7 +72,7 @@ row-length r list final vs few e =
     let back = intermediate-length (without_marker list).1 in
     let slots = ltb-true (length r.slots) 13 few in omega (arith, body, front, back, slots)
 
-first-length : (rows : List Row) (list : List CsiParam) (final : ℕ) (known : Form × List ℕ) → have_few rows ≡ true → first_reading rows list final ≡ Some known → length list ≤ 26
+first-length : (rows : List Row) (list : List CsiParam) (final : ℕ) (known : SequenceForm × List ℕ) → have_few rows ≡ true → first_reading rows list final ≡ Some known → length list ≤ 26
 first-length [] list final known h e = cc
 first-length (r ∷ rows) list final known h e =
     let p = and_parts (nat_lt (length r.slots) 13) (have_few rows) h in go (read_row r list final) refl p.0 (first-length rows list final known p.1) e
@@ -82,5 +82,5 @@ first-length (r ∷ rows) list final known h e =
     go None none few later f = later f
     go (Some vs) gave few later f = row-length r list final vs few gave
 
-pub longest : (list : List CsiParam) (final : ℕ) (known : Form × List ℕ) → reading list final ≡ Some known → length list ≤ 26
+pub longest : (list : List CsiParam) (final : ℕ) (known : SequenceForm × List ℕ) → reading list final ≡ Some known → length list ≤ 26
 longest list final known e = first-length table list final known table-few (sym (reading-table list final) ∙ e)

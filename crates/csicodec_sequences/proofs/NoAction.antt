@@ -12,7 +12,7 @@ use Rattle.csicodec_actions.specs.Actions.{Action}
 use Rattle.csicodec_actions.specs.Rows as actions
 use Rattle.csicodec_actions.specs.Rows.{Byte, Number, One, can_end, given, gives, has_shape}
 use Rattle.csicodec_actions.proofs.Found.{guarded, map-some}
-use Rattle.csicodec_sequences.specs.declared.row.Slot.{Slot}
+use Rattle.csicodec_sequences.specs.declared.row.NumberSlot.{NumberSlot}
 use Rattle.csicodec_sequences.specs.Parts.{behind_separator, is_intermediate, is_marker, without_intermediate, without_marker}
 use Rattle.csicodec_sequences.specs.Rows.{Row, counted, is_within, read_row, slot_value, slot_values}
 use Rattle.csicodec_sequences.proofs.OneRow.{has-read, or-either, slots-apart, slots_apart}
@@ -22,33 +22,33 @@ use Rattle.csicodec_sequences.proofs.Values.{taken}
 -- ---- the test
 
 -- nothing is left, and these slots read no list that is ended, or want an intermediate byte
-abbrev ends_apart : ℕ → List Slot → Bool → Bool
+abbrev ends_apart : ℕ → List NumberSlot → Bool → Bool
 ends_apart i ss tail = not tail && (not (i == 0) || slots_apart [] ss)
 
 -- the byte is no intermediate byte at the end of what these slots read
-abbrev byte_apart : ℕ → List Slot → ℕ → Bool → List actions.Slot → Bool
+abbrev byte_apart : ℕ → List NumberSlot → ℕ → Bool → List actions.Slot → Bool
 byte_apart i ss b tail [] = not (b == i) || (not tail && slots_apart [] ss)
 byte_apart i ss b tail (s ∷ shape) = true
 
 -- no slot is left that an empty field is a value of, that the number is in the range of, or at all
-abbrev no_empty : List Slot → Bool
+abbrev no_empty : List NumberSlot → Bool
 no_empty [] = true
 no_empty (s ∷ ss) = not (is_some s.missing)
 
-abbrev no_number : List Slot → ℕ → Bool
+abbrev no_number : List NumberSlot → ℕ → Bool
 no_number [] n = true
 no_number (s ∷ ss) n = not (is_within s n)
 
-abbrev none_left : List Slot → Bool
+abbrev none_left : List NumberSlot → Bool
 none_left [] = true
 none_left (s ∷ ss) = false
 
-abbrev after : List Slot → List Slot
+abbrev after : List NumberSlot → List NumberSlot
 after [] = []
 after (s ∷ ss) = ss
 
 -- no list of this shape, from the beginning of a field on or from behind a number, is read by these slots with this intermediate byte behind it
-abbrev walk : Bool → ℕ → List Slot → Bool → List actions.Slot → Bool
+abbrev walk : Bool → ℕ → List NumberSlot → Bool → List actions.Slot → Bool
 walk behind i ss tail [] = ends_apart i ss tail
 walk false i ss tail (Byte b ∷ shape) = if b == 59 then no_empty ss || walk false i (after ss) tail shape else byte_apart i ss b tail shape
 walk false i ss tail (Number n ∷ shape) = no_number ss n || walk true i (after ss) tail shape
@@ -58,7 +58,7 @@ walk true i ss tail (Number n ∷ shape) = true
 walk true i ss tail (One k ∷ shape) = true
 
 -- the same of a list with its marker
-abbrev marked_apart : ℕ → ℕ → List Slot → Bool → List actions.Slot → Bool
+abbrev marked_apart : ℕ → ℕ → List NumberSlot → Bool → List actions.Slot → Bool
 marked_apart m i ss tail [] = not tail && (not (m == 0) || walk false i ss false [])
 marked_apart m i ss tail (Byte b ∷ shape) =
     if is_marker b then not (m == b) || walk false i ss tail shape else not (m == 0) || walk false i ss tail (Byte b ∷ shape)
@@ -75,19 +75,19 @@ apart_from_all q (r ∷ rows) = row_apart q r && apart_from_all q rows
 -- ---- what the test says
 
 -- what is read from the beginning of a field on, or from behind a number
-abbrev ReadsAt : Bool → List Slot → List CsiParam → List ℕ → Type 0
+abbrev ReadsAt : Bool → List NumberSlot → List CsiParam → List ℕ → Type 0
 ReadsAt false ss body vs = slot_values ss body ≡ Some vs
 ReadsAt true ss body vs = option_and_then (slot_values ss) (behind_separator body) ≡ Some vs
 
-at-nothing : (behind : Bool) (ss : List Slot) (vs : List ℕ) → ReadsAt behind ss [] vs → slot_values ss [] ≡ Some vs
+at-nothing : (behind : Bool) (ss : List NumberSlot) (vs : List ℕ) → ReadsAt behind ss [] vs → slot_values ss [] ≡ Some vs
 at-nothing false ss vs e = e
 at-nothing true ss vs e = e
 
-nothing-read : (behind : Bool) (ss : List Slot) (vs : List ℕ) → slots_apart [] ss ≡ true → ReadsAt behind ss [] vs → ⊥
+nothing-read : (behind : Bool) (ss : List NumberSlot) (vs : List ℕ) → slots_apart [] ss ≡ true → ReadsAt behind ss [] vs → ⊥
 nothing-read behind ss vs h e = slots-apart [] ss [] [] vs h refl (at-nothing behind ss vs e)
 
 -- a byte other than `;` is read by no slot
-other-byte : (behind : Bool) (ss : List Slot) (b : ℕ) (body : List CsiParam) (vs : List ℕ) → (b == 59) ≡ false → ReadsAt behind ss (P b ∷ body) vs → ⊥
+other-byte : (behind : Bool) (ss : List NumberSlot) (b : ℕ) (body : List CsiParam) (vs : List ℕ) → (b == 59) ≡ false → ReadsAt behind ss (P b ∷ body) vs → ⊥
 other-byte false [] b body vs other e = cc
 other-byte false (s ∷ ss) b body vs other e =
     let t = taken s ss (P b ∷ body) vs refl e in
@@ -97,7 +97,7 @@ other-byte true ss b body vs other e =
     let none : None ≡ Some vs = rw other at e in
     cc
 
-byte-read : (behind : Bool) (i : ℕ) (ss : List Slot) (b : ℕ) (tail : Bool) (shape : List actions.Slot) (ts : List CsiParam) (vs : List ℕ) → (b == 59) ≡ false → byte_apart i ss b tail shape ≡ true
+byte-read : (behind : Bool) (i : ℕ) (ss : List NumberSlot) (b : ℕ) (tail : Bool) (shape : List actions.Slot) (ts : List CsiParam) (vs : List ℕ) → (b == 59) ≡ false → byte_apart i ss b tail shape ≡ true
     → has_shape tail shape ts ≡ true → (without_intermediate (P b ∷ ts)).0 ≡ i → ReadsAt behind ss (without_intermediate (P b ∷ ts)).1 vs → ⊥
 byte-read behind i ss b tail shape (u ∷ us) vs other h shaped ends e = other-byte behind ss b _ vs other e
 byte-read behind i ss b tail (s ∷ shape) [] vs other h shaped ends e = cc
@@ -113,20 +113,20 @@ byte-read behind i ss b tail [] [] vs other h shaped ends e = elim (cases_Bool (
     not_same : (m n : ℕ) → m ≡ n → not (m == n) ≡ false
     not_same m n same = ap not (eq-eqb m n same)
 
-ended-read : (behind : Bool) (i : ℕ) (ss : List Slot) (tail : Bool) (ts : List CsiParam) (vs : List ℕ) → ends_apart i ss tail ≡ true → can_end tail ts ≡ true → (without_intermediate ts).0 ≡ i
+ended-read : (behind : Bool) (i : ℕ) (ss : List NumberSlot) (tail : Bool) (ts : List CsiParam) (vs : List ℕ) → ends_apart i ss tail ≡ true → can_end tail ts ≡ true → (without_intermediate ts).0 ≡ i
     → ReadsAt behind ss (without_intermediate ts).1 vs → ⊥
 ended-read behind i ss true ts vs h shaped ends e = cc
 ended-read behind i ss false (t ∷ ts) vs h shaped ends e = cc
 ended-read behind i ss false [] vs h shaped ends e = nothing-read behind ss vs (or-either (not (i == 0)) (slots_apart [] ss) h (ap not (eq-eqb i 0 (sym ends)))) e
 
 -- what a number at the front leaves
-pub record NumberRead (z : ℤ) (s : Slot) (ss : List Slot) (body : List CsiParam) : Type 0 where
+pub record NumberRead (z : ℤ) (s : NumberSlot) (ss : List NumberSlot) (body : List CsiParam) : Type 0 where
   pub first : ℕ
   pub others : List ℕ
   pub value : counted s z ≡ Some first
   pub later : option_and_then (slot_values ss) (behind_separator body) ≡ Some others
 
-number-read : (z : ℤ) (s : Slot) (ss : List Slot) (body : List CsiParam) (vs : List ℕ) → slot_values (s ∷ ss) (Integer z ∷ body) ≡ Some vs → NumberRead z s ss body
+number-read : (z : ℤ) (s : NumberSlot) (ss : List NumberSlot) (body : List CsiParam) (vs : List ℕ) → slot_values (s ∷ ss) (Integer z ∷ body) ≡ Some vs → NumberRead z s ss body
 number-read z s ss body vs e =
     let t = taken s ss (Integer z ∷ body) vs refl e in
     let m = map-some (λ rest. (Some z, rest)) (behind_separator body) (t.number, t.rest) t.front in
@@ -139,7 +139,7 @@ number-read z s ss body vs e =
     }
 
 -- what an empty field at the front leaves
-empty-read : (s : Slot) (ss : List Slot) (body : List CsiParam) (vs : List ℕ) → slot_values (s ∷ ss) (P 59 ∷ body) ≡ Some vs → (v : ℕ) × (others : List ℕ) × (s.missing ≡ Some v) × (slot_values ss body ≡ Some others)
+empty-read : (s : NumberSlot) (ss : List NumberSlot) (body : List CsiParam) (vs : List ℕ) → slot_values (s ∷ ss) (P 59 ∷ body) ≡ Some vs → (v : ℕ) × (others : List ℕ) × (s.missing ≡ Some v) × (slot_values ss body ≡ Some others)
 empty-read s ss body vs e =
     let t = taken s ss (P 59 ∷ body) vs refl e in
     let same = sym (same_Some _ _ t.front) in
@@ -150,9 +150,9 @@ missing-some None v e = cc
 missing-some (Some n) v e = refl
 
 -- a byte at the front: the intermediate byte, or a `;`, behind which these slots read on
-byte-front : (behind : Bool) (i : ℕ) (ss : List Slot) (tail : Bool) (shape : List actions.Slot) (b : ℕ) (ts : List CsiParam) (vs : List ℕ) → walk behind i ss tail (Byte b ∷ shape) ≡ true
+byte-front : (behind : Bool) (i : ℕ) (ss : List NumberSlot) (tail : Bool) (shape : List actions.Slot) (b : ℕ) (ts : List CsiParam) (vs : List ℕ) → walk behind i ss tail (Byte b ∷ shape) ≡ true
     → has_shape tail shape ts ≡ true → (without_intermediate (P b ∷ ts)).0 ≡ i → ReadsAt behind ss (without_intermediate (P b ∷ ts)).1 vs
-    → ((rest : List Slot) (us : List ℕ) → walk false i rest tail shape ≡ true → (without_intermediate ts).0 ≡ i → slot_values rest (without_intermediate ts).1 ≡ Some us → ⊥) → ⊥
+    → ((rest : List NumberSlot) (us : List ℕ) → walk false i rest tail shape ≡ true → (without_intermediate ts).0 ≡ i → slot_values rest (without_intermediate ts).1 ≡ Some us → ⊥) → ⊥
 byte-front true i ss tail shape b ts vs h shaped ends e goes = elim (cases_Bool (b == 59)) [
   | inr other ↦ byte-read true i ss b tail shape ts vs other (rw other at h) shaped ends e
   | inl is ↦
@@ -184,7 +184,7 @@ byte-front false i (s ∷ ss) tail shape b ts vs h shaped ends e goes = elim (ca
       (subst (λ (w : ℕ × List CsiParam). w.0 ≡ i) cut (subst (λ x. (without_intermediate (P x ∷ ts)).0 ≡ i) same ends)) r.3
 ]
 
-walk-apart : (behind : Bool) (i : ℕ) (ss : List Slot) (tail : Bool) (shape : List actions.Slot) (ts : List CsiParam) (vs : List ℕ) → walk behind i ss tail shape ≡ true → has_shape tail shape ts ≡ true
+walk-apart : (behind : Bool) (i : ℕ) (ss : List NumberSlot) (tail : Bool) (shape : List actions.Slot) (ts : List CsiParam) (vs : List ℕ) → walk behind i ss tail shape ≡ true → has_shape tail shape ts ≡ true
     → (without_intermediate ts).0 ≡ i → ReadsAt behind ss (without_intermediate ts).1 vs → ⊥
 walk-apart behind i ss tail [] ts vs h shaped ends e = ended-read behind i ss tail ts vs h shaped ends e
 walk-apart behind i ss tail (Byte b ∷ shape) [] vs h shaped ends e = cc
@@ -228,7 +228,7 @@ walk-apart behind i ss tail (Byte b ∷ shape) (P c ∷ ts) vs h shaped ends e =
     (λ rest us apart ending_is read. walk-apart false i rest tail shape ts us apart p.0 ending_is read)
 
 -- the same with the marker
-marked-read : (m i : ℕ) (ss : List Slot) (tail : Bool) (shape : List actions.Slot) (list : List CsiParam) (vs : List ℕ) → marked_apart m i ss tail shape ≡ true → has_shape tail shape list ≡ true
+marked-read : (m i : ℕ) (ss : List NumberSlot) (tail : Bool) (shape : List actions.Slot) (list : List CsiParam) (vs : List ℕ) → marked_apart m i ss tail shape ≡ true → has_shape tail shape list ≡ true
     → (without_marker list).0 ≡ m → (without_intermediate (without_marker list).1).0 ≡ i → slot_values ss (without_intermediate (without_marker list).1).1 ≡ Some vs → ⊥
 marked-read m i ss true [] list vs h shaped begins ends e = cc
 marked-read m i ss false [] (t ∷ ts) vs h shaped begins ends e = cc

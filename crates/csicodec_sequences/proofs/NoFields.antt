@@ -12,7 +12,7 @@ use Rattle.csicodec_actions.specs.Actions.{Action}
 use Rattle.csicodec_actions.specs.FieldRows as fields
 use Rattle.csicodec_actions.specs.FieldRows.{This, Empty, End, There, Must, FieldRow, ahead_of_byte, behind, behind_byte, first, fits, given, gives, have_shape, is_there}
 use Rattle.csicodec_actions.proofs.Found.{guarded}
-use Rattle.csicodec_sequences.specs.declared.row.Slot.{Slot}
+use Rattle.csicodec_sequences.specs.declared.row.NumberSlot.{NumberSlot}
 use Rattle.csicodec_sequences.specs.Parts.{is_marker, split_field, with_front, without_intermediate, without_marker}
 use Rattle.csicodec_sequences.specs.Rows.{counted, is_within, slot_value, slot_values, stops}
 use Rattle.csicodec_sequences.proofs.OneRow.{goes-on, must, must-value, or-either}
@@ -29,18 +29,18 @@ wants (Must k) = true
 wants _ = false
 
 -- no field is a value of one and fits the other
-abbrev field_differs : Slot → fields.Slot → Bool
+abbrev field_differs : NumberSlot → fields.Slot → Bool
 field_differs s (This n) = not (is_within s n)
 field_differs s Empty = must s
 field_differs s End = must s
 field_differs s _ = false
 
-abbrev fields_apart : List Slot → List fields.Slot → Bool
+abbrev fields_apart : List NumberSlot → List fields.Slot → Bool
 fields_apart ss [] = false
 fields_apart [] (t ∷ row) = wants t || fields_apart [] row
 fields_apart (s ∷ ss) (t ∷ row) = field_differs s t || (not s.optional && fields_apart ss row)
 
-abbrev pub apart_from_fields : List Slot → List (FieldRow Action) → Bool
+abbrev pub apart_from_fields : List NumberSlot → List (FieldRow Action) → Bool
 apart_from_fields ss [] = true
 apart_from_fields ss (r ∷ rows) = fields_apart ss r.slots && apart_from_fields ss rows
 
@@ -97,7 +97,7 @@ ended-fields [] vs fs e f = same_Some _ _ f
 ended-fields (t ∷ ts) vs fs e f = cc
 
 -- at the number of a slot
-this-number : (s : Slot) (n : ℕ) (o : Option ℤ) (v : ℕ) → not (is_within s n) ≡ true → fields.is_this n o ≡ true → slot_value s o ≡ Some v → ⊥
+this-number : (s : NumberSlot) (n : ℕ) (o : Option ℤ) (v : ℕ) → not (is_within s n) ≡ true → fields.is_this n o ≡ true → slot_value s o ≡ Some v → ⊥
 this-number s n None v h f e = cc
 this-number s n (Some z) v h f e =
     let value : counted s (pos n) ≡ Some v = subst (λ y. counted s y ≡ Some v) (is_number-pos n z f) e in
@@ -107,7 +107,7 @@ this-number s n (Some z) v h f e =
     not_both true e h = cc
     not_both false e h = cc
 
-no-number : (s : Slot) (o : Option ℤ) (v : ℕ) → must s ≡ true → not (is_some o) ≡ true → slot_value s o ≡ Some v → ⊥
+no-number : (s : NumberSlot) (o : Option ℤ) (v : ℕ) → must s ≡ true → not (is_some o) ≡ true → slot_value s o ≡ Some v → ⊥
 no-number s None v h f e = must-value s v h e
 no-number s (Some z) v h f e = cc
 
@@ -115,11 +115,11 @@ no-field : (fs : List (Option ℤ)) → not (is_there fs) ≡ true → not (is_s
 no-field [] h = refl
 no-field (f ∷ fs) h = cc
 
-nothing-there : (s : Slot) (list : List CsiParam) (fs : List (Option ℤ)) → stops s list ≡ true → fields_of list ≡ Some fs → [] ≡ fs
+nothing-there : (s : NumberSlot) (list : List CsiParam) (fs : List (Option ℤ)) → stops s list ≡ true → fields_of list ≡ Some fs → [] ≡ fs
 nothing-there s [] fs h f = same_Some _ _ f
 nothing-there s (t ∷ ts) fs h f = cc
 
-field-read : (s : Slot) (ss : List Slot) (t : fields.Slot) (list : List CsiParam) (fs : List (Option ℤ)) (vs : List ℕ) → field_differs s t ≡ true → slot_values (s ∷ ss) list ≡ Some vs → fields_of list ≡ Some fs → fits t fs ≡ true
+field-read : (s : NumberSlot) (ss : List NumberSlot) (t : fields.Slot) (list : List CsiParam) (fs : List (Option ℤ)) (vs : List ℕ) → field_differs s t ≡ true → slot_values (s ∷ ss) list ≡ Some vs → fields_of list ≡ Some fs → fits t fs ≡ true
     → ⊥
 field-read s ss (This n) list fs vs h e f shaped = elim (cases_Bool (stops s list)) [
   | inl ends ↦ (let no_it : false ≡ true = subst (λ (hs : List (Option ℤ)). fits (This n) hs ≡ true) (sym (nothing-there s list fs ends f)) shaped in cc)
@@ -138,7 +138,7 @@ field-read s ss End list fs vs h e f shaped =
     no-number s t.number t.first h (subst (λ o. not (is_some o) ≡ true) both.number_is (no-field fs shaped)) t.value
 field-read s ss _ list fs vs h e f shaped = cc
 
-fields-read : (ss : List Slot) (row : List fields.Slot) (list : List CsiParam) (fs : List (Option ℤ)) (vs : List ℕ) → fields_apart ss row ≡ true → slot_values ss list ≡ Some vs → fields_of list ≡ Some fs → have_shape row fs ≡ true
+fields-read : (ss : List NumberSlot) (row : List fields.Slot) (list : List CsiParam) (fs : List (Option ℤ)) (vs : List ℕ) → fields_apart ss row ≡ true → slot_values ss list ≡ Some vs → fields_of list ≡ Some fs → have_shape row fs ≡ true
     → ⊥
 fields-read ss [] list fs vs h e f shaped = cc
 fields-read [] (t ∷ row) list fs vs h e f shaped =
@@ -154,7 +154,7 @@ fields-read (s ∷ ss) (t ∷ row) list fs vs h e f shaped =
           fields-read ss row taken_it.rest (behind fs) taken_it.others q.1 taken_it.later both.rest_has p.1
     ]
 
-pub fields-unread : (ss : List Slot) (rows : List (FieldRow Action)) (list : List CsiParam) (fs : List (Option ℤ)) (vs : List ℕ) → apart_from_fields ss rows ≡ true → slot_values ss list ≡ Some vs → fields_of list ≡ Some fs
+pub fields-unread : (ss : List NumberSlot) (rows : List (FieldRow Action)) (list : List CsiParam) (fs : List (Option ℤ)) (vs : List ℕ) → apart_from_fields ss rows ≡ true → slot_values ss list ≡ Some vs → fields_of list ≡ Some fs
     → given rows fs ≡ None
 fields-unread ss [] list fs vs h e f = refl
 fields-unread ss (r ∷ rows) list fs vs h e f =

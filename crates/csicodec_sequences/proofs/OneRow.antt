@@ -5,7 +5,7 @@ use Rattle.std.proofs.lemmas.Bool.{and_parts, cases_Bool, eqb-true}
 use Rattle.std.proofs.lemmas.Option.{same_Some}
 use Rattle.csicodec_tokens.specs.declared.param.CsiParam.{CsiParam}
 use Rattle.csicodec_actions.proofs.Found.{guarded}
-use Rattle.csicodec_sequences.specs.declared.row.Slot.{Slot}
+use Rattle.csicodec_sequences.specs.declared.row.NumberSlot.{NumberSlot}
 use Rattle.csicodec_sequences.specs.Parts.{parts_of}
 use Rattle.csicodec_sequences.specs.Rows.{Row, counted, has_bytes, is_within, read_row, slot_value, slot_values, stops}
 use Rattle.csicodec_sequences.proofs.Values.{taken}
@@ -13,18 +13,18 @@ use Rattle.csicodec_sequences.proofs.Values.{taken}
 -- ---- slots
 
 -- the number has to stand there
-abbrev pub must : Slot → Bool
+abbrev pub must : NumberSlot → Bool
 must s = not (is_some s.missing) && not s.optional
 
 -- one of the ranges is empty, or they don't meet
-abbrev ranges_apart : Slot → Slot → Bool
+abbrev ranges_apart : NumberSlot → NumberSlot → Bool
 ranges_apart s t = nat_lt s.last s.first || (nat_lt t.last t.first || (nat_lt s.last t.first || nat_lt t.last s.first))
 
 -- no field is a value of both, and not both may be missing
-abbrev differ : Slot → Slot → Bool
+abbrev differ : NumberSlot → NumberSlot → Bool
 differ s t = ranges_apart s t && (must s || must t)
 
-abbrev pub slots_apart : List Slot → List Slot → Bool
+abbrev pub slots_apart : List NumberSlot → List NumberSlot → Bool
 slots_apart [] [] = false
 slots_apart [] (t ∷ ts) = must t || (not t.optional && slots_apart [] ts)
 slots_apart (s ∷ ss) [] = must s || (not s.optional && slots_apart ss [])
@@ -56,15 +56,15 @@ must-missing (Some n) v h e = cc
 ranges : (n a b c d : ℕ) → (not (nat_lt n a) && not (nat_lt b n)) ≡ true → (not (nat_lt n c) && not (nat_lt d n)) ≡ true → (nat_lt b a || (nat_lt d c || (nat_lt b c || nat_lt d a))) ≡ true → ⊥
 ranges n a b c d h k m = grind arith
 
-differ-counted : (s t : Slot) (z : ℤ) (v w : ℕ) → ranges_apart s t ≡ true → counted s z ≡ Some v → counted t z ≡ Some w → ⊥
+differ-counted : (s t : NumberSlot) (z : ℤ) (v w : ℕ) → ranges_apart s t ≡ true → counted s z ≡ Some v → counted t z ≡ Some w → ⊥
 differ-counted s t (pos n) v w h e f =
     ranges n s.first s.last t.first t.last (guarded (is_within s n) (Some n) v e).0 (guarded (is_within t n) (Some n) w f).0 h
 differ-counted s t (negsuc n) v w h e f = cc
 
-pub must-value : (s : Slot) (v : ℕ) → must s ≡ true → slot_value s None ≡ Some v → ⊥
+pub must-value : (s : NumberSlot) (v : ℕ) → must s ≡ true → slot_value s None ≡ Some v → ⊥
 must-value s v h e = must-missing s.missing v (and_parts (not (is_some s.missing)) (not s.optional) h).0 e
 
-differ-values : (s t : Slot) (o : Option ℤ) (v w : ℕ) → differ s t ≡ true → slot_value s o ≡ Some v → slot_value t o ≡ Some w → ⊥
+differ-values : (s t : NumberSlot) (o : Option ℤ) (v w : ℕ) → differ s t ≡ true → slot_value s o ≡ Some v → slot_value t o ≡ Some w → ⊥
 differ-values s t None v w h e f =
     let p = and_parts (ranges_apart s t) (must s || must t) h in
     elim (cases_Bool (must s)) [
@@ -79,26 +79,26 @@ not-false : (b : Bool) → not b ≡ true → b ≡ false
 not-false true h = cc
 not-false false h = refl
 
-pub goes-on : (s : Slot) (list : List CsiParam) → not s.optional ≡ true → stops s list ≡ false
+pub goes-on : (s : NumberSlot) (list : List CsiParam) → not s.optional ≡ true → stops s list ≡ false
 goes-on s [] h = not-false s.optional h
 goes-on s (t ∷ ts) h = refl
 
 -- what a slot reads at the end of a list
-at-end : (s : Slot) (ss : List Slot) (vs : List ℕ) → not s.optional ≡ true → slot_values (s ∷ ss) [] ≡ Some vs → (v : ℕ) × (ws : List ℕ) × (slot_value s None ≡ Some v) × (slot_values ss [] ≡ Some ws)
+at-end : (s : NumberSlot) (ss : List NumberSlot) (vs : List ℕ) → not s.optional ≡ true → slot_values (s ∷ ss) [] ≡ Some vs → (v : ℕ) × (ws : List ℕ) × (slot_value s None ≡ Some v) × (slot_values ss [] ≡ Some ws)
 at-end s ss vs h e =
     let t = taken s ss [] vs (goes-on s [] h) e in
     let same = sym (same_Some _ _ t.front) in
     (t.first, t.others, subst (λ (f : Option ℤ × List CsiParam). slot_value s f.0 ≡ Some t.first) same t.value, subst (λ (f : Option ℤ × List CsiParam). slot_values ss f.1 ≡ Some t.others) same t.later)
 
 -- a slot that has to stand there reads no empty list
-pub must-nothing : (s : Slot) (ss : List Slot) (vs : List ℕ) → must s ≡ true → slot_values (s ∷ ss) [] ≡ Some vs → ⊥
+pub must-nothing : (s : NumberSlot) (ss : List NumberSlot) (vs : List ℕ) → must s ≡ true → slot_values (s ∷ ss) [] ≡ Some vs → ⊥
 must-nothing s ss vs h e =
     let p = and_parts (not (is_some s.missing)) (not s.optional) h in
     let r = at-end s ss vs p.1 e in
     must-value s r.0 h r.2
 
 -- no list that is ended is read by these
-nothing-apart : (t : Slot) (ts : List Slot) (ws : List ℕ) (other : Bool) → ((us : List ℕ) → other ≡ true → slot_values ts [] ≡ Some us → ⊥) → (must t || (not t.optional && other)) ≡ true
+nothing-apart : (t : NumberSlot) (ts : List NumberSlot) (ws : List ℕ) (other : Bool) → ((us : List ℕ) → other ≡ true → slot_values ts [] ≡ Some us → ⊥) → (must t || (not t.optional && other)) ≡ true
     → slot_values (t ∷ ts) [] ≡ Some ws → ⊥
 nothing-apart t ts ws other later h f = elim (cases_Bool (must t)) [
   | inl here ↦ must-nothing t ts ws here f
@@ -108,7 +108,7 @@ nothing-apart t ts ws other later h f = elim (cases_Bool (must t)) [
       later r.1 p.1 r.3
 ]
 
-pub slots-apart : (ss ts : List Slot) (list : List CsiParam) (vs ws : List ℕ) → slots_apart ss ts ≡ true → slot_values ss list ≡ Some vs → slot_values ts list ≡ Some ws → ⊥
+pub slots-apart : (ss ts : List NumberSlot) (list : List CsiParam) (vs ws : List ℕ) → slots_apart ss ts ≡ true → slot_values ss list ≡ Some vs → slot_values ts list ≡ Some ws → ⊥
 slots-apart [] [] list vs ws h e f = cc
 slots-apart [] (t ∷ ts) (x ∷ list) vs ws h e f = cc
 slots-apart [] (t ∷ ts) [] vs ws h e f = nothing-apart t ts ws (slots_apart [] ts) (λ us apart read. slots-apart [] ts [] vs us apart e read) h f

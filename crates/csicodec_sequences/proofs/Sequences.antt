@@ -7,7 +7,7 @@ use Rattle.std.proofs.lemmas.Option.{same_Some}
 use Rattle.csicodec_tokens.specs.declared.param.CsiParam.{CsiParam}
 use Rattle.csicodec_tokens.specs.declared.param.CsiParam.TheVariants.{Integer, P}
 use Rattle.csicodec_tokens.specs.Sequence.{Apart, IsFinal, IsSpellable, Spellable}
-use Rattle.csicodec_sequences.specs.declared.row.Slot.{Slot}
+use Rattle.csicodec_sequences.specs.declared.row.NumberSlot.{NumberSlot}
 use Rattle.csicodec_sequences.specs.Known.{are_rows, rows_of, table}
 use Rattle.csicodec_sequences.specs.Parts.{is_intermediate, is_marker}
 use Rattle.csicodec_sequences.specs.Rows.{Row, are_missing_within, byte_tokens, each_behind, fit, has_its_bytes, is_final, is_row, is_within, joined, row_list}
@@ -16,7 +16,7 @@ use Rattle.csicodec_sequences.proofs.Table.{are_all}
 -- ---- numbers
 
 -- no slot has a larger number
-abbrev are_small : List Slot → Bool
+abbrev are_small : List NumberSlot → Bool
 are_small [] = true
 are_small (s ∷ ss) = nat_lt s.last 4294967296 && are_small ss
 
@@ -36,14 +36,14 @@ not-true : (b : Bool) → not b ≡ true → b ≡ false
 not-true true h = cc
 not-true false h = refl
 
-value-small : (s : Slot) (v : ℕ) → nat_lt s.last 4294967296 ≡ true → is_within s v ≡ true → v ≤ 4294967295
+value-small : (s : NumberSlot) (v : ℕ) → nat_lt s.last 4294967296 ≡ true → is_within s v ≡ true → v ≤ 4294967295
 value-small s v h w =
     let p = and_parts (not (nat_lt v s.first)) (not (nat_lt s.last v)) w in
     let low = ltb-true s.last 4294967296 h in
     let high = ltb-false s.last v (not-true (nat_lt s.last v) p.1) in
     omega (arith, low, high)
 
-values-small : (ss : List Slot) (vs : List ℕ) → are_small ss ≡ true → fit ss vs ≡ true → AllSmall vs
+values-small : (ss : List NumberSlot) (vs : List ℕ) → are_small ss ≡ true → fit ss vs ≡ true → AllSmall vs
 values-small ss [] h f = tt
 values-small [] (v ∷ vs) h f = cc
 values-small (s ∷ ss) (v ∷ vs) h f =

@@ -2,16 +2,16 @@
 use Rattle.std.specs.Prelude.{◌&&◌, ◌++◌, ℕ, Bool, true, List, [], ◌∷◌, Option, None}
 use Rattle.std.specs.Option.{option_map, option_or}
 use Rattle.csicodec_tokens.specs.declared.param.CsiParam.{CsiParam}
-use Rattle.csicodec_sequences.specs.declared.known.Known as known_type
-use Rattle.csicodec_sequences.specs.declared.row.Form.{Form}
-use Rattle.csicodec_sequences.specs.declared.row.Slot.{Slot}
+use Rattle.csicodec_sequences.specs.declared.known.KnownSequence as known_type
+use Rattle.csicodec_sequences.specs.declared.row.SequenceForm.{SequenceForm}
+use Rattle.csicodec_sequences.specs.declared.row.NumberSlot.{NumberSlot}
 use Rattle.csicodec_sequences.specs.declared.rows.dec.TheConstants.{DEC_FORMS, DEC_SLOTS}
 use Rattle.csicodec_sequences.specs.declared.rows.others.TheConstants.{OTHER_FORMS, OTHER_SLOTS}
 use Rattle.csicodec_sequences.specs.declared.rows.reports.TheConstants.{REPORT_FORMS, REPORT_SLOTS}
 use Rattle.csicodec_sequences.specs.Rows.{Row, is_row, read_row}
 
 -- a row of each form and its slots
-unfoldable pub rows_of : List Form → List (List Slot) → List Row
+unfoldable pub rows_of : List SequenceForm → List (List NumberSlot) → List Row
 rows_of [] all = []
 rows_of (form ∷ forms) [] = []
 rows_of (form ∷ forms) (slots ∷ all) = record { form = form; slots = slots } ∷ rows_of forms all
@@ -35,16 +35,16 @@ are_rows [] = true
 are_rows (r ∷ rows) = is_row r && are_rows rows
 
 -- the form and the values of the first row that reads the list
-abbrev pub first_reading : List Row → List CsiParam → ℕ → Option (Form × List ℕ)
+abbrev pub first_reading : List Row → List CsiParam → ℕ → Option (SequenceForm × List ℕ)
 first_reading [] list final = None
 first_reading (r ∷ rows) list final = option_or
     (option_map (λ values. (r.form, values)) (read_row r list final))
     (first_reading rows list final)
 
 -- the same of all rows; the order doesn't matter (law `any_row`)
-abbrev pub reading : List CsiParam → ℕ → Option (Form × List ℕ)
+abbrev pub reading : List CsiParam → ℕ → Option (SequenceForm × List ℕ)
 reading list final = option_or (first_reading dec_rows list final)
     (option_or (first_reading other_rows list final) (first_reading report_rows list final))
 
-abbrev pub reading_of : known_type.Known → Form × List ℕ
+abbrev pub reading_of : known_type.KnownSequence → SequenceForm × List ℕ
 reading_of known = (known.form, known.values.items)

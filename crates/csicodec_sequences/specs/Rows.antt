@@ -5,33 +5,33 @@ use Rattle.std.specs.List.{flat_map}
 use Rattle.std.specs.Option.{option_map}
 use Rattle.csicodec_tokens.specs.declared.param.CsiParam.{CsiParam}
 use Rattle.csicodec_tokens.specs.declared.param.CsiParam.TheVariants.{Integer, P}
-use Rattle.csicodec_sequences.specs.declared.row.Form.{Form}
-use Rattle.csicodec_sequences.specs.declared.row.Slot.{Slot}
+use Rattle.csicodec_sequences.specs.declared.row.SequenceForm.{SequenceForm}
+use Rattle.csicodec_sequences.specs.declared.row.NumberSlot.{NumberSlot}
 use Rattle.csicodec_sequences.specs.Parts.{Parts, is_intermediate, is_marker, parts_of, split_field}
 
 -- a row: the bytes around its numbers, and which numbers it has
 pub record Row : Type 0 where
-  pub form : Form
-  pub slots : List Slot
+  pub form : SequenceForm
+  pub slots : List NumberSlot
 
 -- ---- values
 
 -- the number is in the range of the slot
-abbrev pub is_within : Slot → ℕ → Bool
+abbrev pub is_within : NumberSlot → ℕ → Bool
 is_within s n = not (nat_lt n s.first) && not (nat_lt s.last n)
 
 -- a number in the range is itself
-abbrev pub counted : Slot → ℤ → Option ℕ
+abbrev pub counted : NumberSlot → ℤ → Option ℕ
 counted s (pos n) = if is_within s n then Some n else None
 counted s (negsuc n) = None
 
 -- the value of a field, be it empty or missing
-abbrev pub slot_value : Slot → Option ℤ → Option ℕ
+abbrev pub slot_value : NumberSlot → Option ℤ → Option ℕ
 slot_value s None = s.missing
 slot_value s (Some z) = counted s z
 
 -- there is a value for each slot, in its range; those from an optional one on may be missing
-abbrev pub fit : List Slot → List ℕ → Bool
+abbrev pub fit : List NumberSlot → List ℕ → Bool
 fit [] [] = true
 fit [] (v ∷ vs) = false
 fit (s ∷ ss) [] = s.optional
@@ -45,12 +45,12 @@ ended [] = Some []
 ended (t ∷ ts) = None
 
 -- the list ends ahead of the slot, as it may
-abbrev pub stops : Slot → List CsiParam → Bool
+abbrev pub stops : NumberSlot → List CsiParam → Bool
 stops s [] = s.optional
 stops s (t ∷ ts) = false
 
 -- the values of fields, one for each slot, and nothing behind them
-abbrev pub slot_values : List Slot → List CsiParam → Option (List ℕ)
+abbrev pub slot_values : List NumberSlot → List CsiParam → Option (List ℕ)
 slot_values [] list = ended list
 slot_values (s ∷ ss) list =
     if stops s list then Some []
@@ -103,18 +103,18 @@ abbrev pub byte_text : ℕ → List ℕ
 byte_text b = if b == 0 then [] else encode_utf8 b
 
 -- what is written: the text of the list, and the final character (law `text`)
-abbrev pub form_text : Form → List ℕ → List ℕ
+abbrev pub form_text : SequenceForm → List ℕ → List ℕ
 form_text form values = byte_text form.marker
     ++ (numbers_text values ++ (byte_text form.intermediate ++ encode_utf8 form.control))
 
 -- ---- rows as they should be
 
 -- what stands for a number that is left out is in the range
-abbrev pub is_missing_within : Slot → Option ℕ → Bool
+abbrev pub is_missing_within : NumberSlot → Option ℕ → Bool
 is_missing_within s None = true
 is_missing_within s (Some n) = is_within s n
 
-abbrev pub are_missing_within : List Slot → Bool
+abbrev pub are_missing_within : List NumberSlot → Bool
 are_missing_within [] = true
 are_missing_within (s ∷ ss) = is_missing_within s s.missing && are_missing_within ss
 

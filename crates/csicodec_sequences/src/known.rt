@@ -5,7 +5,7 @@ ghost use Rattle.std.specs.Option.{option_map};
 ghost use Rattle.csicodec_sequences.specs.Known.{first_reading, reading, reading_of, rows_of};
 ghost use Rattle.csicodec_sequences.specs.Rows.{behind_text, byte_text, form_text, numbers_text};
 
-use crate::row::{Form, MOST, Slot, Values};
+use crate::row::{MOST, NumberSlot, SequenceForm, SlotValues};
 use crate::rows::dec::{DEC_FORMS, DEC_MEANINGS, DEC_NAMES, DEC_NUMBERS, DEC_SLOTS, DEC_SOURCES};
 use crate::rows::others::{
     OTHER_FORMS, OTHER_MEANINGS, OTHER_NAMES, OTHER_NUMBERS, OTHER_SLOTS, OTHER_SOURCES,
@@ -27,12 +27,12 @@ enum Table {
 
 /// Where a row stands: its place in its file, from 0 on.
 #[derive(Clone, Copy)]
-struct Place {
+struct RowPlace {
     table: Table,
     index: usize,
 }
 
-impl Place {
+impl RowPlace {
     /// What stands at the same place of the texts of its file.
     fn text(
         self,
@@ -59,32 +59,32 @@ impl Place {
 /// "\x1b['}"          the row DECIC, with the value 1; prints "1'}"
 /// ```
 #[derive(Drop)]
-pub struct Known {
-    form: Form,
-    place: Place,
-    values: Values,
+pub struct KnownSequence {
+    form: SequenceForm,
+    place: RowPlace,
+    values: SlotValues,
 }
 
-impl Known {
+impl KnownSequence {
     /// The row and the values of a list without an action; none where no row reads it. It takes no memory.
-    pub fn of(unknown: &Unspecified) -> Option<Known>
+    pub fn of(unknown: &Unspecified) -> Option<KnownSequence>
         ensures { option_map reading_of result
             ≡ reading unknown.now.params.items unknown.now.control }
     {
-        Known::read(&unknown.params, unknown.control)
+        KnownSequence::read(&unknown.params, unknown.control)
     }
 
     /// The row and the values of a list before a final character; none where no row reads it. No row reads a list that an
     /// action has (law `no_action`), and no two read one list (law `one_row`).
-    pub fn read(params: &[CsiParam], control: char) -> Option<Known>
+    pub fn read(params: &[CsiParam], control: char) -> Option<KnownSequence>
         ensures { option_map reading_of result ≡ reading params.now control }
     {
         if let Some((index, form, values)) = first_known(&DEC_FORMS, &DEC_SLOTS, params, control) {
-            let place = Place {
+            let place = RowPlace {
                 table: Table::Dec,
                 index,
             };
-            return Some(Known {
+            return Some(KnownSequence {
                 form,
                 place,
                 values,
@@ -96,11 +96,11 @@ impl Known {
             params,
             control,
         ) {
-            let place = Place {
+            let place = RowPlace {
                 table: Table::Others,
                 index,
             };
-            return Some(Known {
+            return Some(KnownSequence {
                 form,
                 place,
                 values,
@@ -112,11 +112,11 @@ impl Known {
             params,
             control,
         ) {
-            let place = Place {
+            let place = RowPlace {
                 table: Table::Reports,
                 index,
             };
-            return Some(Known {
+            return Some(KnownSequence {
                 form,
                 place,
                 values,
@@ -126,7 +126,7 @@ impl Known {
     }
 
     /// The form.
-    pub fn form(&self) -> &Form
+    pub fn form(&self) -> &SequenceForm
         ensures { result.now ≡ self.now.form }
     {
         &self.form
@@ -174,11 +174,11 @@ impl Known {
 
 /// The first row of these that reads a list: its place, its form and the values.
 fn first_known(
-    forms: &[Form],
-    slots: &[[Slot; MOST]],
+    forms: &[SequenceForm],
+    slots: &[[NumberSlot; MOST]],
     params: &[CsiParam],
     control: char,
-) -> Option<(usize, Form, Values)>
+) -> Option<(usize, SequenceForm, SlotValues)>
     requires { length forms.now ≡ length slots.now }
     ensures first { option_map (λ known. (known.1, known.2.items)) result
         ≡ first_reading (rows_of forms.now slots.now) params.now control }
@@ -193,7 +193,7 @@ fn first_known(
     None
 }
 
-impl fmt::Display for Known {
+impl fmt::Display for KnownSequence {
     ghost output = { λ known. Some (form_text known.form known.values.items) };
 
     fn fmt<W: fmt::Write>(&self, f: &mut fmt::Formatter<W>) -> fmt::Result {

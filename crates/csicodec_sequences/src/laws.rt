@@ -5,7 +5,7 @@ ghost use Rattle.csicodec_tokens.specs.Param.{spells};
 ghost use Rattle.csicodec_tokens.specs.Sequence.{IsFinal, Spellable};
 ghost use Rattle.csicodec_actions.specs.Table.{whole};
 ghost use Rattle.csicodec_sequences.specs.Known.{are_rows, reading, table};
-ghost use Rattle.csicodec_sequences.specs.declared.row.Form.{Form};
+ghost use Rattle.csicodec_sequences.specs.declared.row.SequenceForm.{SequenceForm};
 ghost use Rattle.csicodec_sequences.specs.Rows.{Row, fit, is_row, read_row, row_list, form_text};
 
 /// Of any row: the values that it reads back of the list that it writes of them are those that fit its slots, and no others.
@@ -54,7 +54,7 @@ pub fn kinds()
 /// No row of the table reads a list of more than 26 tokens.
 #[tactic(auto, using(crate::proofs::Longest::longest))]
 pub fn longest()
-    ensures { (list : List CsiParam) (final : ℕ) (known : Form × List ℕ) →
+    ensures { (list : List CsiParam) (final : ℕ) (known : SequenceForm × List ℕ) →
         reading list final ≡ Some known → length list ≤ 26 }
 {}
 

@@ -8,9 +8,9 @@ mod parts;
 mod row;
 mod rows;
 
-pub use known::Known;
+pub use known::KnownSequence;
 pub use parts::Parts;
-pub use row::{Form, LONGEST, MOST, Slot, Values};
+pub use row::{LONGEST, MOST, NumberSlot, SequenceForm, SlotValues};
 pub use rows::dec::{DEC_FORMS, DEC_MEANINGS, DEC_NAMES, DEC_NUMBERS, DEC_SLOTS, DEC_SOURCES};
 pub use rows::others::{
     OTHER_FORMS, OTHER_MEANINGS, OTHER_NAMES, OTHER_NUMBERS, OTHER_SLOTS, OTHER_SOURCES,

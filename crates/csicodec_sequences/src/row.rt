@@ -14,11 +14,11 @@ pub const MOST: usize = 12;
 pub const LONGEST: usize = 26;
 
 /// The values of a row, one for each of its slots, but for those at the end that may be missing.
-pub type Values = ArrayVec<u32, MOST>;
+pub type SlotValues = ArrayVec<u32, MOST>;
 
 /// One number of a control sequence: which numbers count, and what it is where it is left out.
 #[derive(Clone, Copy)]
-pub struct Slot {
+pub struct NumberSlot {
     /// The least number that counts.
     pub first: u32,
     /// The largest number that counts.
@@ -29,7 +29,7 @@ pub struct Slot {
     pub optional: bool,
 }
 
-impl Slot {
+impl NumberSlot {
     /// The value of a field: the number, where it counts, and where the field is empty or missing what the slot says.
     pub fn value(&self, number: Option<i64>) -> Option<u32>
         ensures { result ≡ slot_value self.now number }
@@ -63,7 +63,7 @@ impl Slot {
 
 /// The form of a control sequence: the bytes around its numbers.
 #[derive(Clone, Copy)]
-pub struct Form {
+pub struct SequenceForm {
     /// Which row it is of: a number above 10000 that no other row has, and that never changes.
     pub kind: u32,
     /// The byte at the front that makes it private, one of `<` `=` `>` `?`; 0 where there is none.
@@ -74,9 +74,14 @@ pub struct Form {
     pub control: char,
 }
 
-impl Form {
+impl SequenceForm {
     /// The values of a list before a final character, where it has this form, and numbers as these slots say.
-    pub fn read(&self, slots: &[Slot], params: &[CsiParam], control: char) -> Option<Values>
+    pub fn read(
+        &self,
+        slots: &[NumberSlot],
+        params: &[CsiParam],
+        control: char,
+    ) -> Option<SlotValues>
         requires { length slots.now ≤ 12 }
         ensures { option_map (λ v. v.items) result
             ≡ read_row (record { form = self.now; slots = slots.now }) params.now control }
@@ -93,11 +98,11 @@ impl Form {
 }
 
 /// The values of fields, one for each slot.
-fn read_slots(slots: &[Slot], tokens: &[CsiParam]) -> Option<Values>
+fn read_slots(slots: &[NumberSlot], tokens: &[CsiParam]) -> Option<SlotValues>
     requires { length slots.now ≤ 12 }
     ensures { option_map (λ v. v.items) result ≡ slot_values slots.now tokens.now }
 {
-    let mut values = Values::new();
+    let mut values = SlotValues::new();
     let mut rest = tokens;
     for slot in slots {
         if slot.stops(rest) {

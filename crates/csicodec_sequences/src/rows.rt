@@ -6,10 +6,10 @@
 //! last what it is where it is left out, `needed!` has to stand there, and `further!` behind a `;` may stand there as often as there
 //! is room for: a row has up to 12 numbers.
 
-use crate::row::Slot;
+use crate::row::NumberSlot;
 
 /// No number: a list ends ahead of it.
-pub(crate) const END: Slot = Slot {
+pub(crate) const END: NumberSlot = NumberSlot {
     first: 1,
     last: 0,
     missing: None,
@@ -18,19 +18,19 @@ pub(crate) const END: Slot = Slot {
 
 macro_rules! needed {
     ($name:literal, $first:literal, $last:literal) => {
-        Slot { first: $first, last: $last, missing: None, optional: false }
+        NumberSlot { first: $first, last: $last, missing: None, optional: false }
     };
 }
 
 macro_rules! number {
     ($name:literal, $first:literal, $last:literal, $missing:literal) => {
-        Slot { first: $first, last: $last, missing: Some($missing), optional: false }
+        NumberSlot { first: $first, last: $last, missing: Some($missing), optional: false }
     };
 }
 
 macro_rules! further {
     ($name:literal, $first:literal, $last:literal) => {
-        Slot { first: $first, last: $last, missing: None, optional: true }
+        NumberSlot { first: $first, last: $last, missing: None, optional: true }
     };
 }
 
@@ -58,7 +58,7 @@ macro_rules! slots {
 /// The form of a row.
 macro_rules! form {
     ($kind:literal, $name:literal, $marker:expr, [$($slots:tt)*], $intermediate:expr, $control:literal, $meaning:literal, $source:literal) => {
-        Form { kind: $kind, marker: $marker, intermediate: $intermediate, control: $control }
+        SequenceForm { kind: $kind, marker: $marker, intermediate: $intermediate, control: $control }
     };
 }
 

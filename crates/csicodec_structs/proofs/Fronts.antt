@@ -4,7 +4,7 @@ use Rattle.std.proofs.lemmas.List.{length-append}
 use Rattle.csicodec_tokens.specs.declared.param.CsiParam.{CsiParam}
 use Rattle.csicodec_tokens.specs.declared.reader.ReadError.TheVariants as reading
 use Rattle.csicodec_tokens.specs.Sequence.{Reads}
-use Rattle.csicodec_structs.specs.declared.next.Front.{Front}
+use Rattle.csicodec_structs.specs.declared.next.NextSequence.{NextSequence}
 use Rattle.csicodec_structs.specs.declared.structs.Param.{Param}
 use Rattle.csicodec_structs.specs.declared.structs.Struct.{Struct}
 use Rattle.csicodec_parser.specs.Segments.{Actions}
@@ -15,7 +15,7 @@ use Rattle.csicodec_terminal.specs.Terminal.{Terminal}
 use Rattle.csicodec_structs.specs.Private.Fronts.{IsAnswer}
 use Rattle.csicodec_structs.proofs.Kept.{read_kept}
 
-refuses_memory : (bytes rest : List ℕ) (list : List CsiParam) (final : ℕ) (ao an : List Struct) (po pn : List Param) (answer : Front)
+refuses_memory : (bytes rest : List ℕ) (list : List CsiParam) (final : ℕ) (ao an : List Struct) (po pn : List Param) (answer : NextSequence)
     → Reads bytes list final rest → answer ≡ refused status.Memory 0 → IsRefused bytes ao an po pn answer
 refuses_memory bytes rest list final ao an po pn answer reads memory = record {
   error = reading.Memory;
@@ -28,7 +28,7 @@ refuses_memory bytes rest list final ao an po pn answer reads memory = record {
 used_before : (bytes rest : List ℕ) (list : List CsiParam) (final used : ℕ) → Reads bytes list final rest → used ≡ length bytes - length rest → used + length rest ≡ length bytes
 used_before bytes rest list final used reads is = omega (arith, is, ap length reads.2, length-append reads.0 rest)
 
-pub front_answer : (bytes rest : List ℕ) (list : List CsiParam) (final : ℕ) (ao an : List Struct) (po pn : List Param) (answer : Front)
+pub front_answer : (bytes rest : List ℕ) (list : List CsiParam) (final : ℕ) (ao an : List Struct) (po pn : List Param) (answer : NextSequence)
     → Reads bytes list final rest → IsAnswer Actions list final (length bytes - length rest) ao an po pn answer → IsDone bytes ao an po pn answer ⊎ IsRefused bytes ao an po pn answer
 front_answer bytes rest list final ao an po pn answer reads (inl laid) = inl (record {
   actions = laid.all;
@@ -47,7 +47,7 @@ front_answer bytes rest list final ao an po pn answer reads (inl laid) = inl (re
 front_answer bytes rest list final ao an po pn answer reads (inr memory) = inr (refuses_memory bytes rest list final ao an po pn answer reads memory)
 
 -- and as terminals take it
-pub front_taken : (bytes rest : List ℕ) (list : List CsiParam) (final : ℕ) (ao an : List Struct) (po pn : List Param) (answer : Front)
+pub front_taken : (bytes rest : List ℕ) (list : List CsiParam) (final : ℕ) (ao an : List Struct) (po pn : List Param) (answer : NextSequence)
     → Reads bytes list final rest → IsAnswer Terminal list final (length bytes - length rest) ao an po pn answer → IsTaken bytes ao an po pn answer ⊎ IsRefused bytes ao an po pn answer
 front_taken bytes rest list final ao an po pn answer reads (inl laid) = inl (record {
   list = list;

@@ -9,7 +9,7 @@ use Rattle.csicodec_tokens.specs.Sequence.{Reads}
 use Rattle.csicodec_actions.specs.Actions.{Action}
 use Rattle.csicodec_parser.specs.Segments.{Actions}
 use Rattle.csicodec_structs.specs.declared.lay.Counts.{Counts}
-use Rattle.csicodec_structs.specs.declared.next.Front.{Front}
+use Rattle.csicodec_structs.specs.declared.next.NextSequence.{NextSequence}
 use Rattle.csicodec_structs.specs.declared.structs.Param.{Param}
 use Rattle.csicodec_structs.specs.declared.structs.Struct.{Struct}
 use Rattle.csicodec_structs.specs.Named.{IsNamed}
@@ -20,11 +20,11 @@ use Rattle.csicodec_structs.specs.Status.{fault_of, status_number}
 use Rattle.csicodec_structs.specs.declared.status.Status.{Status}
 use Rattle.csicodec_structs.specs.declared.status.Status.TheVariants as status
 
-abbrev pub refused : Status → ℕ → Front
+abbrev pub refused : Status → ℕ → NextSequence
 refused why at = record { status = status_number why; at = at; used = 0; actions = 0; params = 0 }
 
 -- the answer of each refusal
-abbrev pub refusal : ReadError → Front
+abbrev pub refusal : ReadError → NextSequence
 refusal error = refused (fault_of error).0 (fault_of error).1
 
 -- why bytes may be refused so: their own fault; out of memory only for a sequence
@@ -59,7 +59,7 @@ pub record Lays (actions_old actions_new : List Struct) (params_old params_new :
 
 -- the actions of the sequence at the front and their tokens, as many as there is room for, how many they are, and its length
 pub record IsDone (bytes : List ℕ) (actions_old actions_new : List Struct)
-    (params_old params_new : List Param) (answer : Front) : Type 0 where
+    (params_old params_new : List Param) (answer : NextSequence) : Type 0 where
   pub actions : List Action
   pub rest : List ℕ
   pub front : IsFront bytes actions rest
@@ -75,7 +75,7 @@ pub record IsDone (bytes : List ℕ) (actions_old actions_new : List Struct)
 
 -- or the refusal of the bytes, and then nothing is put, unless memory is refused
 pub record IsRefused (bytes : List ℕ) (actions_old actions_new : List Struct)
-    (params_old params_new : List Param) (answer : Front) : Type 0 where
+    (params_old params_new : List Param) (answer : NextSequence) : Type 0 where
   pub error : ReadError
   pub why : IsWhy bytes error
   pub tells : answer ≡ refusal error

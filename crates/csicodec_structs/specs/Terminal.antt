@@ -4,7 +4,7 @@ use Rattle.csicodec_tokens.specs.declared.param.CsiParam.{CsiParam}
 use Rattle.csicodec_tokens.specs.Sequence.{Reads}
 use Rattle.csicodec_actions.specs.Actions.{Action}
 use Rattle.csicodec_terminal.specs.Terminal.{Terminal}
-use Rattle.csicodec_structs.specs.declared.next.Front.{Front}
+use Rattle.csicodec_structs.specs.declared.next.NextSequence.{NextSequence}
 use Rattle.csicodec_structs.specs.declared.structs.Param.{Param}
 use Rattle.csicodec_structs.specs.declared.structs.Struct.{Struct}
 use Rattle.csicodec_structs.specs.Next.{Lays}
@@ -13,7 +13,7 @@ use Rattle.csicodec_structs.specs.declared.status.Status.TheVariants as status
 
 -- the actions of the sequence at the front as terminals take it, and their tokens, as many as there is room for, how many they are, and its length
 pub record IsTaken (bytes : List ℕ) (actions_old actions_new : List Struct)
-    (params_old params_new : List Param) (answer : Front) : Type 0 where
+    (params_old params_new : List Param) (answer : NextSequence) : Type 0 where
   pub list : List CsiParam
   pub final : ℕ
   pub rest : List ℕ

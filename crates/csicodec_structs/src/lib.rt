@@ -19,7 +19,7 @@ mod token;
 
 pub use canonical::{Judged, judge};
 pub use encode::{Encoded, actions_of, put_text, put_texts, refused};
-pub use next::{Front, lay_by_tokens};
+pub use next::{NextSequence, lay_by_tokens};
 pub use normalise::{Normalised, put_normal_form};
 pub use room::{fill, put};
 pub use rows::{cursor_struct, edit_struct, mode_struct, sgr_struct};

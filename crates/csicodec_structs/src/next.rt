@@ -13,7 +13,7 @@ use std::alloc::Global;
 /// What stands at the front of some bytes, or why no sequence does.
 #[repr(C)]
 #[derive(Clone, Copy, Debug, PartialEq, Eq)]
-pub struct Front {
+pub struct NextSequence {
     /// The number of a `Status`: `Done` where a sequence stands there, else as in `Normalised`.
     pub status: u32,
     /// Of a refusal, the place of the fault; else 0.
@@ -26,10 +26,10 @@ pub struct Front {
     pub params: usize,
 }
 
-pub(crate) fn refused(why: Status, at: usize) -> Front
+pub(crate) fn refused(why: Status, at: usize) -> NextSequence
     ensures { result ≡ refused why at }
 {
-    Front {
+    NextSequence {
         status: why.number(),
         at,
         used: 0,
@@ -38,7 +38,7 @@ pub(crate) fn refused(why: Status, at: usize) -> Front
     }
 }
 
-pub(crate) fn refusal(error: ReadError) -> Front
+pub(crate) fn refusal(error: ReadError) -> NextSequence
     ensures { result ≡ refusal error }
 {
     let (why, at) = fault_of(error);
@@ -47,10 +47,10 @@ pub(crate) fn refusal(error: ReadError) -> Front
 
 /// Of a sequence of so many bytes, whose actions were put.
 #[inline(always)]
-pub(crate) fn done(used: usize, count: Counts) -> Front
+pub(crate) fn done(used: usize, count: Counts) -> NextSequence
     ensures { result ≡ done used count }
 {
-    Front {
+    NextSequence {
         status: Status::Done.number(),
         at: 0,
         used,
@@ -68,7 +68,7 @@ fn answer(
     used: usize,
     actions: &mut [Struct],
     params: &mut [Param],
-) -> Front
+) -> NextSequence
     ensures { IsAnswer Actions list.now control used actions.old actions.new params.old params.new result }
 {
     match lay_list(alloc, list, control, actions, params) {
@@ -80,7 +80,12 @@ fn answer(
 /// Puts the actions of the sequence at the front, however many tokens it has: they take memory here.
 #[cold]
 #[inline(never)]
-fn next_long(alloc: Global, bytes: &[u8], actions: &mut [Struct], params: &mut [Param]) -> Front
+fn next_long(
+    alloc: Global,
+    bytes: &[u8],
+    actions: &mut [Struct],
+    params: &mut [Param],
+) -> NextSequence
     ensures { IsDone bytes.now actions.old actions.new params.old params.new result
         ⊎ IsRefused bytes.now actions.old actions.new params.old params.new result }
 {
@@ -95,7 +100,12 @@ fn next_long(alloc: Global, bytes: &[u8], actions: &mut [Struct], params: &mut [
 
 /// Puts the actions of the sequence at the front, whose tokens are read into a room of 32, or into memory.
 #[inline(never)]
-fn lay_within(alloc: Global, bytes: &[u8], actions: &mut [Struct], params: &mut [Param]) -> Front
+fn lay_within(
+    alloc: Global,
+    bytes: &[u8],
+    actions: &mut [Struct],
+    params: &mut [Param],
+) -> NextSequence
     ensures { IsDone bytes.now actions.old actions.new params.old params.new result
         ⊎ IsRefused bytes.now actions.old actions.new params.old params.new result }
 {
@@ -123,7 +133,7 @@ pub fn lay_by_tokens(
     bytes: &[u8],
     actions: &mut [Struct],
     params: &mut [Param],
-) -> Front
+) -> NextSequence
     ensures { IsDone bytes.now actions.old actions.new params.old params.new result
         ⊎ IsRefused bytes.now actions.old actions.new params.old params.new result }
 {

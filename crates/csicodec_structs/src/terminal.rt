@@ -7,7 +7,7 @@ ghost use Rattle.csicodec_structs.specs.Terminal.{IsTaken};
 ghost use Rattle.csicodec_terminal.specs.Terminal.{Terminal};
 
 use crate::lay::{Counts, lay_one};
-use crate::next::{Front, done, refusal, refused};
+use crate::next::{NextSequence, done, refusal, refused};
 use crate::status::Status;
 use crate::structs::{Param, Struct};
 use csicodec::{CSI, CsiParam, read_csi};
@@ -37,7 +37,7 @@ fn taken(
     used: usize,
     actions: &mut [Struct],
     params: &mut [Param],
-) -> Front
+) -> NextSequence
     ensures { IsAnswer Terminal list.now control used actions.old actions.new params.old params.new result }
 {
     let Ok(all) = terminal_actions(alloc, list, false, control) else {
@@ -55,7 +55,7 @@ pub fn lay_as_terminals(
     bytes: &[u8],
     actions: &mut [Struct],
     params: &mut [Param],
-) -> Front
+) -> NextSequence
     ensures { IsTaken bytes.now actions.old actions.new params.old params.new result
         ⊎ IsRefused bytes.now actions.old actions.new params.old params.new result }
 {

@@ -4,7 +4,7 @@ use crate::list::{count_fields, intermediate, marker};
 use crate::sequence_rows::{INSTEAD, parts};
 use crate::values::Values;
 use csicodec_base::CsiParam;
-use csicodec_sequences::Known;
+use csicodec_sequences::KnownSequence;
 
 /// From a number to another one.
 pub type Range = (i64, i64);
@@ -66,7 +66,7 @@ fn of_kind(rows: &'static [WordsRow], kind: u32, first: i64, second: i64) -> Opt
 
 /// The words of a list that a row of csicodec_sequences reads; none of a key.
 fn of_row(params: &[CsiParam], control: char) -> Option<&'static str> {
-    let known = Known::read(params, control)?;
+    let known = KnownSequence::read(params, control)?;
     let kind = known.form().kind;
     let first = i64::from(known.value(0).unwrap_or(0));
     let second = i64::from(known.value(1).unwrap_or(0));

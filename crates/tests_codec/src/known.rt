@@ -1,7 +1,7 @@
 //! What is known of control sequences without an action: the sequences of `.ci/sequences`, by the rules of docs/SEQUENCES.md.
 
 use csicodec::read_csi;
-use csicodec_sequences::Known;
+use csicodec_sequences::KnownSequence;
 use std::alloc::{AllocError, Global};
 
 /// `known SEQUENCE`, by what stands behind `ESC [`: the name of the row that reads it, the names of its numbers, the values, how
@@ -11,7 +11,7 @@ pub fn known(alloc: Global, line: &str) -> Result<String, AllocError> {
     let Ok(read) = read_csi(alloc, text.as_bytes()) else {
         return format!(in alloc; "no sequence");
     };
-    match Known::read(&read.params, read.control) {
+    match KnownSequence::read(&read.params, read.control) {
         Some(known) => {
             let (name, meaning, source) = (known.name(), known.meaning(), known.source());
             let (numbers, values) = (known.numbers(), known.values());

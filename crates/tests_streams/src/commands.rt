@@ -1,6 +1,6 @@
 //! What the words of a command line ask for.
 
-use csicodec_command::{Command, Request, USAGE, command_of};
+use csicodec_command::{Invocation, Request, USAGE, command_of};
 use std::alloc::{AllocError, Global};
 
 /// The options without a value that came.
@@ -74,10 +74,10 @@ pub(crate) fn command(alloc: Global, line: &str) -> Result<String, AllocError> {
         words.push(String::from_str(alloc, word)?)?;
     }
     match command_of(alloc, &words) {
-        Ok(Command::Run(run)) => told(alloc, &run),
-        Ok(Command::Help(USAGE)) => String::from_str(alloc, "help"),
-        Ok(Command::Help(_)) => String::from_str(alloc, "help of a word"),
-        Ok(Command::Version) => String::from_str(alloc, "version"),
+        Ok(Invocation::Run(run)) => told(alloc, &run),
+        Ok(Invocation::Help(USAGE)) => String::from_str(alloc, "help"),
+        Ok(Invocation::Help(_)) => String::from_str(alloc, "help of a word"),
+        Ok(Invocation::Version) => String::from_str(alloc, "version"),
         Err(wrong) => format!(in alloc; "{wrong:?}"),
     }
 }

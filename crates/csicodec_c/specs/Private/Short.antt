@@ -20,8 +20,8 @@ use Rattle.csicodec_structs.specs.Rows.{params_of, sgr_struct, struct_of}
 use Rattle.csicodec_structs.specs.Structs.{color_row, row}
 use Rattle.csicodec_structs.specs.declared.structs.Param.{Param}
 use Rattle.csicodec_structs.specs.declared.structs.Struct.{Struct}
-use Rattle.csicodec_c.specs.declared.by_number.Alone.{Alone}
-use Rattle.csicodec_c.specs.declared.attributes.Style.{Style}
+use Rattle.csicodec_c.specs.declared.by_number.StyleRow.{StyleRow}
+use Rattle.csicodec_c.specs.declared.attributes.AttributeParts.{AttributeParts}
 
 -- ---- tokens in turn
 
@@ -52,19 +52,19 @@ IsTwo a b list = (list ≡ Integer (pos a) ∷ P 59 ∷ Integer (pos b) ∷ []) 
 -- ---- attributes
 
 -- nothing is set
-abbrev pub nothing : Alone
+abbrev pub nothing : StyleRow
 nothing = record { 0 = 0; 1 = 0; 2 = 0 }
 
 -- an attribute with no true colour
-abbrev pub plain : ℕ → ℕ → ℕ → Style
+abbrev pub plain : ℕ → ℕ → ℕ → AttributeParts
 plain kind first second = record { kind = kind; first = first; second = second; red = 0; green = 0; blue = 0; alpha = 0 }
 
 -- the struct of an attribute
-abbrev pub style_struct : Style → Struct
+abbrev pub style_struct : AttributeParts → Struct
 style_struct s = record (row s.kind (pos s.first) (pos s.second)) { red = s.red; green = s.green; blue = s.blue; alpha = s.alpha }
 
 -- the number sets this attribute, where it ends there
-abbrev pub SetsAlone : ℕ → Style → Type 0
+abbrev pub SetsAlone : ℕ → AttributeParts → Type 0
 SetsAlone number style = (s : Sgr) × ((more : List CsiParam) → Ends more → piece (Integer (pos number) ∷ more) ≡ Some (s, 1)) × (style_struct style ≡ sgr_struct s)
 
 -- the tokens of a colour behind its code, where it ends there
@@ -75,7 +75,7 @@ pub record IsColor (text : List ℕ) (c : ColorSpec) (behind : List ℕ) : Type 
   pub even : has_odd Styles tokens ≡ false
 
 -- such a colour, as an attribute of this kind
-abbrev pub IsPainted : ℕ → List ℕ → Style → List ℕ → Type 0
+abbrev pub IsPainted : ℕ → List ℕ → AttributeParts → List ℕ → Type 0
 IsPainted kind text style behind = (c : ColorSpec) × IsColor text c behind × (style_struct style ≡ color_row kind c)
 
 -- the tokens of an attribute, a number and others, where it ends there
@@ -87,7 +87,7 @@ pub record IsAttribute (text : List ℕ) (s : Sgr) (behind : List ℕ) : Type 0 
   pub even : has_odd Styles others ≡ false
 
 -- an attribute as its struct has it
-abbrev pub IsStyled : List ℕ → Style → List ℕ → Type 0
+abbrev pub IsStyled : List ℕ → AttributeParts → List ℕ → Type 0
 IsStyled text style behind = (s : Sgr) × IsAttribute text s behind × (style_struct style ≡ sgr_struct s)
 
 -- attributes that were read, with a `;` behind each
@@ -105,10 +105,10 @@ pub record AreAttributes (body : List ℕ) (styles : List Sgr) (after : List ℕ
   pub are : Actions list false 109 (map Styled styles)
 
 -- both, with attributes as their structs have them
-abbrev pub HasStyles : List ℕ → List Style → List ℕ → Type 0
+abbrev pub HasStyles : List ℕ → List AttributeParts → List ℕ → Type 0
 HasStyles body styles rest = (all : List Sgr) × HasStyled body all rest × (map style_struct styles ≡ map sgr_struct all)
 
-abbrev pub AreStyles : List ℕ → List Style → List ℕ → Type 0
+abbrev pub AreStyles : List ℕ → List AttributeParts → List ℕ → Type 0
 AreStyles body styles after = (all : List Sgr) × AreAttributes body all after × (map style_struct styles ≡ map sgr_struct all)
 
 -- ---- what is laid

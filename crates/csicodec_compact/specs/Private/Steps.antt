@@ -13,8 +13,8 @@ use Rattle.csicodec_parser.specs.Segments.{Actions}
 use Rattle.csicodec_spans.specs.Parts.{Part}
 use Rattle.csicodec_streams.specs.Known.{IsOne}
 use Rattle.csicodec.specs.Compose.{EndsInSemicolon, IsStyleList}
-use Rattle.csicodec_compact.specs.declared.form.Form.{Form}
-use Rattle.csicodec_compact.specs.declared.form.Form.TheVariants as forms
+use Rattle.csicodec_compact.specs.declared.form.TextEnding.{TextEnding}
+use Rattle.csicodec_compact.specs.declared.form.TextEnding.TheVariants as forms
 use Rattle.csicodec_compact.specs.Compacts.{Compacts}
 use Rattle.csicodec_compact.specs.Runs.{IsStaying, NoneStays, Shortens, IsShortened}
 
@@ -53,25 +53,25 @@ Begins bytes wide = (more : List ℕ) × (wide ≡ bytes ++ more)
 
 -- ---- forms
 
-abbrev pub form_of : ℕ → Form
+abbrev pub form_of : ℕ → TextEnding
 form_of mark = if mark == 1 then forms.Last else if mark == 2 then forms.Open
     else if mark == 3 then forms.Blank else if mark == 4 then forms.Bare else forms.Whole
 
-abbrev pub is_joined : Form → Bool
+abbrev pub is_joined : TextEnding → Bool
 is_joined forms.Whole = false
 is_joined forms.Last = true
 is_joined forms.Open = true
 is_joined forms.Blank = true
 is_joined forms.Bare = true
 
-abbrev pub is_bare : Form → Bool
+abbrev pub is_bare : TextEnding → Bool
 is_bare forms.Whole = false
 is_bare forms.Last = false
 is_bare forms.Open = false
 is_bare forms.Blank = false
 is_bare forms.Bare = true
 
-abbrev pub is_open : Form → Bool
+abbrev pub is_open : TextEnding → Bool
 is_open forms.Whole = false
 is_open forms.Last = false
 is_open forms.Open = true
@@ -79,7 +79,7 @@ is_open forms.Blank = false
 is_open forms.Bare = false
 
 -- what closes a text of the form
-abbrev pub closing : Form → List ℕ
+abbrev pub closing : TextEnding → List ℕ
 closing forms.Whole = []
 closing forms.Last = []
 closing forms.Open = 109 ∷ []
@@ -87,7 +87,7 @@ closing forms.Blank = 48 ∷ 109 ∷ []
 closing forms.Bare = 109 ∷ []
 
 -- a text of this form may be joined to what is held
-abbrev pub may_join : Form → Form → List ℕ → Bool
+abbrev pub may_join : TextEnding → TextEnding → List ℕ → Bool
 may_join forms.Whole form text = false
 may_join forms.Last form text = false
 may_join forms.Open form text = is_joined form
@@ -95,19 +95,19 @@ may_join forms.Blank form text = is_joined form && not (is_semicolon (slice_get 
 may_join forms.Bare form text = is_joined form && not (is_semicolon (slice_get text 1))
 
 -- what is appended for it then
-abbrev pub joint : Form → Form → List ℕ → List ℕ
+abbrev pub joint : TextEnding → TextEnding → List ℕ → List ℕ
 joint held form text = if is_bare form then (if is_open held then text else 59 ∷ 48 ∷ []) else text
 
 -- and how it ends
-abbrev pub behind : Form → Form → Form
+abbrev pub behind : TextEnding → TextEnding → TextEnding
 behind held form = if is_bare form then (if is_open held then forms.Blank else forms.Open) else form
 
 -- what is appended for a text that stands by itself
-abbrev pub opened : Form → List ℕ → List ℕ
+abbrev pub opened : TextEnding → List ℕ → List ℕ
 opened form text = if is_joined form then 27 ∷ 91 ∷ drop 1 text else text
 
 -- the list of a text
-abbrev pub list_of : Form → List ℕ → List ℕ
+abbrev pub list_of : TextEnding → List ℕ → List ℕ
 list_of form text = take (length (drop 2 text) - length (closing form)) (drop 2 text)
 
 -- ---- lists of attributes
@@ -126,7 +126,7 @@ pub record IsOpenList (bytes : List ℕ) (styles : List sgr_type.Sgr) : Type 0 w
   pub unclosed : ¬ EndsInSemicolon list
 
 -- what stands behind `ESC [` in a text of this form, and its actions
-abbrev pub IsTail : Form → List ℕ → List Action → Type 0
+abbrev pub IsTail : TextEnding → List ℕ → List Action → Type 0
 IsTail forms.Whole bytes actions = ⊥
 IsTail forms.Last bytes actions = (front : List ℕ) × (list : List CsiParam)
     × (bytes ≡ front ++ 109 ∷ []) × IsList front list actions
@@ -138,14 +138,14 @@ IsTail forms.Blank bytes actions =
 IsTail forms.Bare bytes actions = (bytes ≡ []) × (actions ≡ map Sgr (sgr.Reset ∷ []))
 
 -- a text that is such a list behind `ESC [`, and is closed
-pub record IsListed (form : Form) (text : List ℕ) : Type 0 where
+pub record IsListed (form : TextEnding) (text : List ℕ) : Type 0 where
   pub bytes : List ℕ
   pub actions : List Action
   pub whole : text ≡ 27 ∷ 91 ∷ (bytes ++ closing form)
   pub tail : IsTail form bytes actions
 
 -- the text is of the form
-abbrev pub IsOwn : Form → List ℕ → Type 0
+abbrev pub IsOwn : TextEnding → List ℕ → Type 0
 IsOwn forms.Whole text = Unit {0}
 IsOwn forms.Last text = IsListed forms.Last text
 IsOwn forms.Open text = IsListed forms.Open text
@@ -155,7 +155,7 @@ IsOwn forms.Bare text = IsListed forms.Bare text
 -- ---- notes
 
 -- the list of a sequence that doesn't stay, behind a `;`
-pub record IsNotedList (form : Form) (bytes text : List ℕ) : Type 0 where
+pub record IsNotedList (form : TextEnding) (bytes text : List ℕ) : Type 0 where
   pub list : List ℕ
   pub actions : List Action
   pub whole : text ≡ 59 ∷ list
@@ -163,7 +163,7 @@ pub record IsNotedList (form : Form) (bytes text : List ℕ) : Type 0 where
   pub compacts : Compacts bytes (27 ∷ 91 ∷ (list ++ closing form))
   pub free : ¬ IsStaying bytes
 
-abbrev pub IsNoted : Form → List ℕ → List ℕ → Type 0
+abbrev pub IsNoted : TextEnding → List ℕ → List ℕ → Type 0
 IsNoted forms.Whole bytes text = Compacts bytes text
 IsNoted forms.Last bytes text = IsNotedList forms.Last bytes text
 IsNoted forms.Open bytes text = IsNotedList forms.Open bytes text
@@ -178,7 +178,7 @@ IsNote bytes note = (mark : ℕ) × (count : ℕ) × (text : List ℕ) × (note 
 -- ---- what is held
 
 -- a list that goes on, for some sequences side by side
-pub record GoesOnFrom (form : Form) (run : List Part) (text : List ℕ) : Type 0 where
+pub record GoesOnFrom (form : TextEnding) (run : List Part) (text : List ℕ) : Type 0 where
   pub list : List ℕ
   pub actions : List Action
   pub whole : text ≡ 27 ∷ 91 ∷ list
@@ -187,7 +187,7 @@ pub record GoesOnFrom (form : Form) (run : List Part) (text : List ℕ) : Type 0
   pub free : NoneStays run
 
 -- how what is held ends
-abbrev pub IsEnd : Form → List Part → List ℕ → Type 0
+abbrev pub IsEnd : TextEnding → List Part → List ℕ → Type 0
 IsEnd forms.Whole run text = (run ≡ []) × (text ≡ [])
 IsEnd forms.Last run text = (run ≡ []) × (text ≡ [])
 IsEnd forms.Open run text = GoesOnFrom forms.Open run text
@@ -195,7 +195,7 @@ IsEnd forms.Blank run text = GoesOnFrom forms.Blank run text
 IsEnd forms.Bare run text = GoesOnFrom forms.Bare run text
 
 -- what is held of some parts: the text of those in front, and of the others a list that goes on
-pub record IsHeld (run : List Part) (held : List ℕ) (form : Form) : Type 0 where
+pub record IsHeld (run : List Part) (held : List ℕ) (form : TextEnding) : Type 0 where
   pub front : List Part
   pub left : List Part
   pub text : List ℕ
@@ -206,11 +206,11 @@ pub record IsHeld (run : List Part) (held : List ℕ) (form : Form) : Type 0 whe
   pub end : IsEnd form left tail
 
 -- What is written for more parts goes on with what was: whatever was written before them, and for which parts, so far this text is held.
-abbrev pub Extends : Form → List Part → List ℕ → Form → Type 0
+abbrev pub Extends : TextEnding → List Part → List ℕ → TextEnding → Type 0
 Extends form parts text after = (run : List Part) (before : List ℕ) → IsHeld run before form
     → IsHeld (run ++ parts) (before ++ text) after
 
 -- and this was appended
-abbrev pub GoesOnBy : Form → List Part → List ℕ → List ℕ → Form → Type 0
+abbrev pub GoesOnBy : TextEnding → List Part → List ℕ → List ℕ → TextEnding → Type 0
 GoesOnBy form parts old new after = (text : List ℕ) × (new ≡ old ++ text)
     × Extends form parts text after

@@ -6,13 +6,13 @@ use Rattle.csicodec_spans.specs.Parts.{Part, AreFirstParts, IsUnsure}
 use Rattle.csicodec_clean.specs.Cleaned.{longest}
 use Rattle.csicodec_clean.specs.Titles.{title_open, with_titles}
 use Rattle.csicodec_lines.specs.declared.finder.Finder.{Finder}
-use Rattle.csicodec_lines.specs.declared.search.Search.{Search}
+use Rattle.csicodec_lines.specs.declared.search.CutSearch.{CutSearch}
 use Rattle.csicodec_lines.specs.Cuts.{Found, behind, cuts, first, told}
 use Rattle.csicodec_lines.specs.Private.Search.{IsAt}
 
 -- The parts in front of the bytes were searched: what is left, and what was told, wherever the search was.
-pub record Goes (m : Mode) (titled : Bool) (old : Search) (bytes text rest : List ℕ) (a : Mode)
-    (later : Bool) (new : Search) : Type 0 where
+pub record Goes (m : Mode) (titled : Bool) (old : CutSearch) (bytes text rest : List ℕ) (a : Mode)
+    (later : Bool) (new : CutSearch) : Type 0 where
   pub parts : List Part
   pub first : AreFirstParts longest m bytes parts rest a
   pub titles : later ≡ title_open titled parts

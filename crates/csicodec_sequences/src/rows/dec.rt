@@ -1,7 +1,7 @@
 // Written by tools/table from table/sequences.toml: change that, and run python3 tools/table.
 //! Functions of DEC's terminals.
 
-use crate::row::{Form, MOST, Slot};
+use crate::row::{MOST, NumberSlot, SequenceForm};
 use crate::rows::END;
 
 /// The rows, of each of which a macro makes its part.
@@ -83,10 +83,10 @@ macro_rules! rows {
 }
 
 /// The form of each row.
-pub static DEC_FORMS: [Form; 70] = rows!(form);
+pub static DEC_FORMS: [SequenceForm; 70] = rows!(form);
 
 /// The slots of each row, at the same place.
-pub static DEC_SLOTS: [[Slot; MOST]; 70] = rows!(numbers);
+pub static DEC_SLOTS: [[NumberSlot; MOST]; 70] = rows!(numbers);
 
 /// The name of each row, at the same place.
 pub static DEC_NAMES: [&str; 70] = rows!(name);

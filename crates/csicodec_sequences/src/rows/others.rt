@@ -1,7 +1,7 @@
 // Written by tools/table from table/sequences.toml: change that, and run python3 tools/table.
 //! Functions of ECMA-48, of xterm and kitty, and of the Linux console.
 
-use crate::row::{Form, MOST, Slot};
+use crate::row::{MOST, NumberSlot, SequenceForm};
 use crate::rows::END;
 
 /// The rows, of each of which a macro makes its part.
@@ -117,10 +117,10 @@ macro_rules! rows {
 }
 
 /// The form of each row.
-pub static OTHER_FORMS: [Form; 101] = rows!(form);
+pub static OTHER_FORMS: [SequenceForm; 101] = rows!(form);
 
 /// The slots of each row, at the same place.
-pub static OTHER_SLOTS: [[Slot; MOST]; 101] = rows!(numbers);
+pub static OTHER_SLOTS: [[NumberSlot; MOST]; 101] = rows!(numbers);
 
 /// The name of each row, at the same place.
 pub static OTHER_NAMES: [&str; 101] = rows!(name);

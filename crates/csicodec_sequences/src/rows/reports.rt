@@ -1,7 +1,7 @@
 // Written by tools/table from table/sequences.toml: change that, and run python3 tools/table.
 //! What terminals are asked for, what they answer, and what keyboards, mice and pastes send.
 
-use crate::row::{Form, MOST, Slot};
+use crate::row::{MOST, NumberSlot, SequenceForm};
 use crate::rows::END;
 
 /// The rows, of each of which a macro makes its part.
@@ -118,10 +118,10 @@ macro_rules! rows {
 }
 
 /// The form of each row.
-pub static REPORT_FORMS: [Form; 100] = rows!(form);
+pub static REPORT_FORMS: [SequenceForm; 100] = rows!(form);
 
 /// The slots of each row, at the same place.
-pub static REPORT_SLOTS: [[Slot; MOST]; 100] = rows!(numbers);
+pub static REPORT_SLOTS: [[NumberSlot; MOST]; 100] = rows!(numbers);
 
 /// The name of each row, at the same place.
 pub static REPORT_NAMES: [&str; 100] = rows!(name);

@@ -12,7 +12,7 @@ use Rattle.csicodec_structs.specs.declared.lay.Head.{Head}
 use Rattle.csicodec_structs.specs.declared.lay.Head.TheVariants as head
 use Rattle.csicodec_structs.specs.declared.lay.Large.{Large}
 use Rattle.csicodec_structs.specs.declared.lay.Large.TheVariants as large
-use Rattle.csicodec_structs.specs.declared.next.Front.{Front}
+use Rattle.csicodec_structs.specs.declared.next.NextSequence.{NextSequence}
 use Rattle.csicodec_structs.specs.declared.structs.Param.{Param}
 use Rattle.csicodec_structs.specs.declared.structs.Struct.{Struct}
 use Rattle.csicodec_structs.specs.Room.{laid}
@@ -53,7 +53,7 @@ large_of (large.Listed h list) = headed h list.now
 large_of (large.Unknown list final) = action.Unspecified list.now false final
 
 -- the answer of a sequence of so many bytes and actions
-abbrev pub done : ℕ → Counts → Front
+abbrev pub done : ℕ → Counts → NextSequence
 done used count = record { status = status_number status.Done; at = 0; used = used; actions = count.actions; params = count.params }
 
 -- the actions of a list by a reading of lists
@@ -62,7 +62,7 @@ Reading = List CsiParam → Bool → ℕ → List Action → Type 0
 
 -- its actions are put
 pub record IsLaid (reading : Reading) (list : List CsiParam) (final used : ℕ) (actions_old actions_new : List Struct)
-    (params_old params_new : List Param) (answer : Front) : Type 0 where
+    (params_old params_new : List Param) (answer : NextSequence) : Type 0 where
   pub all : List Action
   pub are : reading list false final all
   pub ok : answer.status ≡ status_number status.Done
@@ -72,7 +72,7 @@ pub record IsLaid (reading : Reading) (list : List CsiParam) (final used : ℕ) 
 
 -- so, or out of memory
 abbrev pub IsAnswer : Reading → List CsiParam → ℕ → ℕ → List Struct → List Struct → List Param
-    → List Param → Front → Type 0
+    → List Param → NextSequence → Type 0
 IsAnswer reading list final used actions_old actions_new params_old params_new answer =
     IsLaid reading list final used actions_old actions_new params_old params_new answer
     ⊎ (answer ≡ refused status.Memory 0)

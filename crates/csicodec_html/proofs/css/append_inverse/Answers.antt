@@ -1,5 +1,5 @@
 use Rattle.std.proofs.lemmas.Result.{on_ok_weaker}
-use Rattle.csicodec_html.specs.declared.classes.Part.TheVariants as part
+use Rattle.csicodec_html.specs.declared.classes.Layer.TheVariants as part
 use Rattle.csicodec_html.specs.Look.{inverse_colors, property}
 use Rattle.csicodec_html.specs.Palette.{or_own}
 use Rattle.csicodec_html.proofs.Joined.{two}

@@ -1,5 +1,5 @@
 use Rattle.std.proofs.lemmas.Result.{on_ok_weaker}
-use Rattle.csicodec_html.specs.declared.classes.Part.TheVariants as part
+use Rattle.csicodec_html.specs.declared.classes.Layer.TheVariants as part
 use Rattle.csicodec_html.specs.Look.{colored, straight_colors}
 use Rattle.csicodec_html.proofs.Joined.{two}
 use Rattle.csicodec_html.proofs.css.append_straight.Goals as goal

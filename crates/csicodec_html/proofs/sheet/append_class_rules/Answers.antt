@@ -1,7 +1,7 @@
 use Rattle.std.proofs.Common.{List, ℕ, ◌++◌, ◌∙◌, ap}
 use Rattle.std.proofs.lemmas.Result.{on_ok_weaker}
 use Rattle.csicodec_html.specs.declared.classes.Class.TheVariants as kind
-use Rattle.csicodec_html.specs.declared.classes.Part.TheVariants as part
+use Rattle.csicodec_html.specs.declared.classes.Layer.TheVariants as part
 use Rattle.csicodec_html.specs.Sheet.{class_rule, class_rules, color_rules, fixed_rules}
 use Rattle.csicodec_html.proofs.Joined.{eight}
 use Rattle.csicodec_html.proofs.Rules.{fixed}

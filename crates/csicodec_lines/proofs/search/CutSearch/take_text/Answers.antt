@@ -3,7 +3,7 @@ use Rattle.std.proofs.lemmas.Result.{on_ok_weaker}
 use Rattle.csicodec_lines.specs.Cuts.{passed, told}
 use Rattle.csicodec_lines.specs.Private.Search.{IsAt}
 use Rattle.csicodec_lines.proofs.Parts.{skip, skipped}
-use Rattle.csicodec_lines.proofs.search.Search.take_text.Goals as goal
+use Rattle.csicodec_lines.proofs.search.CutSearch.take_text.Goals as goal
 
 pub returns : goal.returns
 returns c =

@@ -5,7 +5,7 @@ use Rattle.csicodec_html.specs.Look.{behind_all, sets_any}
 use Rattle.csicodec_html.specs.Page.{Setting, setting, turn}
 use Rattle.csicodec_html.specs.Private.Marked.{all_marked, turns}
 use Rattle.csicodec_html.proofs.Recalled.{appended, given, read}
-use Rattle.csicodec_html.proofs.rule.SpansRule.rewrite.Goals as goal
+use Rattle.csicodec_html.proofs.rule.SpanWriterRule.rewrite.Goals as goal
 
 pub keep-requires-clause-turn : goal.keep-requires-clause-turn
 keep-requires-clause-turn c =

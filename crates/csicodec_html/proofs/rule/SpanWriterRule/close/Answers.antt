@@ -4,7 +4,7 @@ use Rattle.std.proofs.lemmas.Result.{on_ok_weaker}
 use Rattle.csicodec_html.specs.Page.{Setting, closing, ends, shuts}
 use Rattle.csicodec_html.specs.Private.Marked.{all_marked, marked}
 use Rattle.csicodec_html.proofs.Joined.{two}
-use Rattle.csicodec_html.proofs.rule.SpansRule.close.Goals as goal
+use Rattle.csicodec_html.proofs.rule.SpanWriterRule.close.Goals as goal
 
 pub returns : goal.returns
 returns c =

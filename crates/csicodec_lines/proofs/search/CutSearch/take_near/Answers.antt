@@ -1,7 +1,7 @@
 use Rattle.std.proofs.Common.{◌++◌, ◌∙◌, ap, sym, append_assoc}
 use Rattle.csicodec_lines.specs.Cuts.{behind_byte, behind_text, cuts_in, line_of, told}
 use Rattle.csicodec_lines.proofs.Parts.{one_told}
-use Rattle.csicodec_lines.proofs.search.Search.take_near.Goals as goal
+use Rattle.csicodec_lines.proofs.search.CutSearch.take_near.Goals as goal
 
 pub loop-byte-preserved-in_ok-append_line : goal.loop-byte-preserved-in_ok-append_line
 loop-byte-preserved-in_ok-append_line c =

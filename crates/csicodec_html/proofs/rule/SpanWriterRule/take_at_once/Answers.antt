@@ -3,7 +3,7 @@ use Rattle.csicodec_clean.specs.Links.{begun}
 use Rattle.csicodec_html.specs.Page.{Setting, setting}
 use Rattle.csicodec_html.specs.Private.Marked.{turns}
 use Rattle.csicodec_html.proofs.Recalled.{given}
-use Rattle.csicodec_html.proofs.rule.SpansRule.take_at_once.Goals as goal
+use Rattle.csicodec_html.proofs.rule.SpanWriterRule.take_at_once.Goals as goal
 
 pub returns-in-Some-clause-within : goal.returns-in-Some-clause-within
 returns-in-Some-clause-within c =

@@ -1,7 +1,7 @@
 use Rattle.std.proofs.Common.{◌≡◌, ◌++◌, ℕ, List, length}
 use Rattle.csicodec_lines.specs.Cuts.{Found, behind_text, cuts_in, told}
 use Rattle.csicodec_lines.specs.Private.Search.{IsAt}
-use Rattle.csicodec_lines.proofs.search.Search.take_near.Given as goal
+use Rattle.csicodec_lines.proofs.search.CutSearch.take_near.Given as goal
 
 -- what was told, and what is to be told of the rest, is what is told of all
 abbrev pub invariant-loop-byte : goal.invariant-loop-byte

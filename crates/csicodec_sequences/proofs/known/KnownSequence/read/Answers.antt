@@ -1,5 +1,5 @@
 use Rattle.csicodec_sequences.proofs.FirstRow.{or-first, or-later}
-use Rattle.csicodec_sequences.proofs.known.Known.read.Goals as goal
+use Rattle.csicodec_sequences.proofs.known.KnownSequence.read.Goals as goal
 
 pub returns-in-Some : goal.returns-in-Some
 returns-in-Some c = or-first _ _ _ c.in-Some.ensures.first

@@ -2,7 +2,7 @@ use Rattle.std.proofs.Common.{[], length, ap, refl, ◌-◌}
 use Rattle.csicodec_clean.proofs.Coded.{color_closed}
 use Rattle.csicodec_clean.proofs.Glances.{front_read}
 use Rattle.csicodec_clean.proofs.Noted.{closed_taken}
-use Rattle.csicodec_clean.proofs.notes.Room.read.Goals as goal
+use Rattle.csicodec_clean.proofs.notes.SequenceBuffers.read.Goals as goal
 
 pub returns-in-Some-clause-read : goal.returns-in-Some-clause-read
 returns-in-Some-clause-read c = λ some.

@@ -4,7 +4,7 @@ use Rattle.csicodec_clean.specs.Links.{Begun, all_behind, begun, links_in}
 use Rattle.csicodec_html.specs.Page.{Setting, led_by, setting, switches}
 use Rattle.csicodec_html.specs.Private.Marked.{all_marked, turns}
 use Rattle.csicodec_html.proofs.Leads.{gives_links, gives_none}
-use Rattle.csicodec_html.proofs.rule.SpansRule.string.Goals as goal
+use Rattle.csicodec_html.proofs.rule.SpanWriterRule.string.Goals as goal
 
 pub returns-then-not-self : goal.returns-then-not-self
 returns-then-not-self c =

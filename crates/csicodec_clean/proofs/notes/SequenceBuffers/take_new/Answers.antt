@@ -7,7 +7,7 @@ use Rattle.csicodec_actions.specs.Table.{texts}
 use Rattle.csicodec_parser.specs.ActionOf.{action_of}
 use Rattle.csicodec_clean.specs.Styled.{is_open, kept}
 use Rattle.csicodec_clean.proofs.Noted.{move_taken}
-use Rattle.csicodec_clean.proofs.notes.Room.take_new.Goals as goal
+use Rattle.csicodec_clean.proofs.notes.SequenceBuffers.take_new.Goals as goal
 
 pub returns-then-moved-gt0-clause-within : goal.returns-then-moved-gt0-clause-within
 returns-then-moved-gt0-clause-within c =

@@ -1,6 +1,6 @@
 use Rattle.std.proofs.Common.{[], rules, sym, append-nil}
 use Rattle.csicodec_lines.proofs.Parts.{other_kind}
-use Rattle.csicodec_lines.proofs.search.Search.take.Goals as goal
+use Rattle.csicodec_lines.proofs.search.CutSearch.take.Goals as goal
 
 pub returns : goal.returns
 returns c = (

@@ -1,5 +1,6 @@
 -- Lines one after the other, and what they stand for.
-use Rattle.std.proofs.Common.{◌≡◌, ℕ, ◌+◌, ◌-◌, ◌^◌, ◌<◌, ◌≤◌, ◌==◌, zero, suc, min, Bool, true, false, not, List, [], ◌∷◌, ◌++◌, take, length, Result, Ok, Err, cond, refl, sym, ap, subst, ◌∙◌, append_assoc, append-nil, length-append, arith}
+use Rattle.std.proofs.Common.{◌≡◌, ℕ, ◌+◌, ◌-◌, ◌^◌, ◌<◌, ◌≤◌, ◌==◌, zero, suc, min, Bool, true, false, not, List, [], ◌∷◌, ◌++◌, take}
+use Rattle.std.proofs.Common.{length, Result, Ok, Err, cond, refl, sym, ap, subst, ◌∙◌, append_assoc, append-nil, length-append, arith}
 use Rattle.std.specs.Result.{result_unwrap_or}
 use Rattle.std.specs.List.{concat, list_all}
 use Rattle.std.proofs.lemmas.Bool.{and_parts, le-ltb, lt-ltb}

@@ -115,7 +115,8 @@ pub says_text : (text : Option (List ℕ)) (s : List ℕ) (found : Members) → 
 says_text text s found says = (
   get_member-put (codes "text") (string s) found,
   get_member-put_other (codes "hex") (codes "text") (string s) found (apart (codes "hex") (codes "text") (λ e. omega (arith, e))) ∙ says.1,
-  ap (λ (k : Option Data). is_totals (option_and_then as_str k)) (get_member-put_other (codes "kind") (codes "text") (string s) found (apart (codes "kind") (codes "text") (λ e. omega (arith, e)))) ∙ says.2,
+  ap (λ (k : Option Data). is_totals (option_and_then as_str k))
+      (get_member-put_other (codes "kind") (codes "text") (string s) found (apart (codes "kind") (codes "text") (λ e. omega (arith, e)))) ∙ says.2,
 )
 
 pub says_kind : (text : Option (List ℕ)) (s : List ℕ) (found : Members) → is_totals (Some s) ≡ false → Says text found → Says text (put (codes "kind") (string s) found)

@@ -68,7 +68,8 @@ shows old new made n fills e low =
 -- ---- calls in turn are steps in turn
 
 module _ {S : Type 0} (Gives : RuleOf S) (rule : Bool → S) (IsCall : Cleaning → List ℕ → List ℕ → List ℕ → Cleaned → Type 0) where
-  calls_stepped : ((s : Cleaning) (b o n : List ℕ) (a : Cleaned) → IsCall s b o n a → IsStep Gives rule s b o n a) → (chunks : List (List ℕ)) (state : Cleaning) (p : Pause) (again all : List ℕ) (last : Cleaning) (left : List ℕ)
+  calls_stepped : ((s : Cleaning) (b o n : List ℕ) (a : Cleaned) → IsCall s b o n a → IsStep Gives rule s b o n a)
+      → (chunks : List (List ℕ)) (state : Cleaning) (p : Pause) (again all : List ℕ) (last : Cleaning) (left : List ℕ)
       → state ≡ numbers p → AreCalls IsCall state again chunks all last left → (q : Pause) × (last ≡ numbers q) × AreStepped Gives rule p again chunks all q left
   calls_stepped f [] state p again all last left is (none, same, e) = (p, same ∙ is, (none, refl, e))
   calls_stepped f (chunk ∷ chunks) state p again all last left is (answer, old, new, others, call, room, e, rest) =
@@ -80,8 +81,19 @@ module _ {S : Type 0} (Gives : RuleOf S) (rule : Bool → S) (IsCall : Cleaning 
       let from : Steps Gives (rule p.styled) p bytes s.text (rule s.after.styled) s.after (drop s.used bytes) =
       subst (λ (x : Pause). Steps Gives (rule x.styled) x bytes s.text (rule s.after.styled) s.after (drop s.used bytes)) one s.steps in
       let step : Steps Gives (rule p.styled) p bytes s.text (rule s.after.styled) s.after (drop answer.used bytes) =
-      subst (λ (i : ℕ). Steps Gives (rule p.styled) p bytes s.text (rule s.after.styled) s.after (drop i bytes)) used from in
-      (q, ends, (s.after, drop answer.used bytes, s.text, others, step, e ∙ ap (λ (t : List ℕ). t ++ others) (shows old new s.text answer.needed s.fills (ap (λ (a : Cleaned). a.needed) s.tells) room), stepped))
+      subst (λ (i : ℕ). Steps Gives (rule p.styled) p bytes s.text (rule s.after.styled) s.after (drop i bytes)) used from in (
+        q,
+        ends,
+        (
+          s.after,
+          drop answer.used bytes,
+          s.text,
+          others,
+          step,
+          e ∙ ap (λ (t : List ℕ). t ++ others) (shows old new s.text answer.needed s.fills (ap (λ (a : Cleaned). a.needed) s.tells) room),
+          stepped,
+        ),
+      )
 
 none_styled : (chunks : List (List ℕ)) (state : Cleaning) (again all : List ℕ) (last : Cleaning) (left : List ℕ) → AreCalls IsStripStep state again chunks all last left → last.styled ≡ state.styled
 none_styled [] state again all last left (none, same, e) = ap (λ (s : Cleaning). s.styled) same
@@ -89,11 +101,13 @@ none_styled (chunk ∷ chunks) state again all last left (answer, old, new, othe
     none_styled chunks answer.state (drop answer.used (again ++ chunk)) others last left rest ∙ call.1
 
 -- what is put at the end
-ended : (last : Cleaning) (left old new : List ℕ) (answer : Stripped) (q : Pause) → last ≡ numbers q → IsEnd last left old new answer → answer.needed ≤ length old → take answer.needed new ≡ ending q left
+ended : (last : Cleaning) (left old new : List ℕ) (answer : Stripped) (q : Pause) → last ≡ numbers q → IsEnd last left old new answer
+    → answer.needed ≤ length old → take answer.needed new ≡ ending q left
 ended last left old new answer q is end room =
     shows old new (ending end.pause left) answer.needed end.fills (ap (λ (a : Stripped). a.needed) end.tells) room ∙ ap (λ (p : Pause). ending p left) (same_pause last end.pause q end.is is)
 
-pub stripped_calls : (chunks : List (List ℕ)) (all left old new : List ℕ) (last : Cleaning) (answer : Stripped) → AreCalls IsStripStep zeros [] chunks all last left → IsEnd last left old new answer → answer.needed ≤ length old
+pub stripped_calls : (chunks : List (List ℕ)) (all left old new : List ℕ) (last : Cleaning) (answer : Stripped)
+    → AreCalls IsStripStep zeros [] chunks all last left → IsEnd last left old new answer → answer.needed ≤ length old
     → Strips longest (concat chunks) (all ++ take answer.needed new)
 stripped_calls chunks all left old new last answer calls end room =
     let (q, is, stepped) = calls_stepped drops (λ _. bare) IsStripStep (λ s b o n a h. h.0) chunks zeros beginning [] all last left refl calls in
@@ -105,7 +119,8 @@ in_depth d s b o n a (other, same, step) =
     let one : other ≡ d = sym (depth_back other) ∙ ap depth_of (sym same) ∙ depth_back d in
     subst (λ (x : Depth). IsStep (keeps (λ (k : Keeping). k)) (resumed x) s b o n a) one step
 
-pub cleaned_calls : (d : Depth) (chunks : List (List ℕ)) (all left old new : List ℕ) (last : Cleaning) (answer : Stripped) → AreCalls (IsCleanStep (depth_number d)) zeros [] chunks all last left → IsEnd last left old new answer
+pub cleaned_calls : (d : Depth) (chunks : List (List ℕ)) (all left old new : List ℕ) (last : Cleaning) (answer : Stripped)
+    → AreCalls (IsCleanStep (depth_number d)) zeros [] chunks all last left → IsEnd last left old new answer
     → answer.needed ≤ length old → StylesIn (without_links d) (concat chunks) (all ++ take answer.needed new)
 cleaned_calls d chunks all left old new last answer calls end room =
     let (q, is, stepped) = calls_stepped (keeps (λ (k : Keeping). k)) (resumed d) (IsCleanStep (depth_number d)) (in_depth d) chunks zeros beginning [] all last left refl calls in

@@ -57,7 +57,9 @@ changed_one body behind after ao an n c given r e low made puts =
     record {
       list = P 63 ∷ Integer (pos n) ∷ [];
       final = change_final c;
-      reads = read_all (27 ∷ 91 ∷ body) behind after (P 63 ∷ Integer (pos n) ∷ []) (change_final c) (has_read_on (27 ∷ 91 ∷ body) body behind [] (P 63 ∷ Integer (pos n) ∷ []) (read_none (27 ∷ 91 ∷ body) body refl) r) (is_final c) e;
+      reads =
+          read_all (27 ∷ 91 ∷ body) behind after (P 63 ∷ Integer (pos n) ∷ []) (change_final c)
+          (has_read_on (27 ∷ 91 ∷ body) body behind [] (P 63 ∷ Integer (pos n) ∷ []) (read_none (27 ∷ 91 ∷ body) body refl) r) (is_final c) e;
       all = action.Mode (changed c m) ∷ [];
       are = change_alone c n m found;
       lays = puts_one ao an given (action.Mode (changed c m)) (made ∙ same_struct c m n is) refl puts;

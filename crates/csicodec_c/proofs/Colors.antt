@@ -88,7 +88,8 @@ painted_by plane code front text mid behind n c is first colored = record {
   even = colored.even;
 }
 
-alone : (text behind : List ℕ) (n : ℕ) (s : Sgr) → IsFirstToken text (Integer (pos n)) behind → ((more : List CsiParam) → Ends more → piece (Integer (pos n) ∷ more) ≡ Some (s, 1)) → IsAttribute text s behind
+alone : (text behind : List ℕ) (n : ℕ) (s : Sgr) → IsFirstToken text (Integer (pos n)) behind
+    → ((more : List CsiParam) → Ends more → piece (Integer (pos n) ∷ more) ≡ Some (s, 1)) → IsAttribute text s behind
 alone text behind n s first gives = record { number = n; others = []; reads = one_token text behind (Integer (pos n)) first; gives = gives; even = refl }
 
 pub alone_styled : (text behind : List ℕ) (n : ℕ) (style : AttributeParts) → IsFirstToken text (Integer (pos n)) behind → SetsAlone n style → IsStyled text style behind

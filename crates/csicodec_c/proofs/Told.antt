@@ -37,7 +37,8 @@ laid bytes a b p q front (inl d) ok = d
 laid bytes a b p q front (inr r) ok = absurd (no_done r.error (ap (λ (f : NextSequence). f.status) (sym r.tells) ∙ ok))
 
 -- and nothing was where it says neither this nor that memory ran out
-pub unlaid : (bytes : List ℕ) (a b : List Struct) (p q : List Param) (front : NextSequence) → (IsLaid bytes a b p q front ⊎ IsUnlaid bytes a b p q front) → (front.status ≡ 0 → ⊥) → (front.status ≡ 5 → ⊥)
+pub unlaid : (bytes : List ℕ) (a b : List Struct) (p q : List Param) (front : NextSequence)
+    → (IsLaid bytes a b p q front ⊎ IsUnlaid bytes a b p q front) → (front.status ≡ 0 → ⊥) → (front.status ≡ 5 → ⊥)
     → (b ≡ a) × (q ≡ p)
 unlaid bytes a b p q front (inl d) done memory = absurd (done d.ok)
 unlaid bytes a b p q front (inr r) done memory =
@@ -46,7 +47,8 @@ unlaid bytes a b p q front (inr r) done memory =
 
 -- ---- a sequence whose controls were left out
 
-pub put_read : (read bytes : List ℕ) (list : List CsiParam) (final : ℕ) (a b : List Struct) (p q : List Param) (front : NextSequence) → read ≡ without_controls bytes → Seq (without_controls bytes) list final
+pub put_read : (read bytes : List ℕ) (list : List CsiParam) (final : ℕ) (a b : List Struct) (p q : List Param) (front : NextSequence)
+    → read ≡ without_controls bytes → Seq (without_controls bytes) list final
     → IsLaid read a b p q front → HasPut list final a b p q front.actions front.params
 put_read read bytes list final a b p q front is s d =
     let f = d.front in
@@ -57,7 +59,8 @@ put_read read bytes list final a b p q front is s d =
 
 -- ---- a sequence that is read at once
 
-pub read_done : (number limit looked : ℕ) (bytes near : List ℕ) (m : Mode) (a b : List Struct) (p q : List Param) (front : NextSequence) (answer : Evented) → number ≡ mode_number m → looked ≡ 0 → BeginsCsi bytes
+pub read_done : (number limit looked : ℕ) (bytes near : List ℕ) (m : Mode) (a b : List Struct) (p q : List Param) (front : NextSequence) (answer : Evented)
+    → number ≡ mode_number m → looked ≡ 0 → BeginsCsi bytes
     → near ≡ take limit bytes → IsLaid near a b p q front → answer ≡ read_at_once front → IsDone number limit looked bytes a b p q answer
 read_done number limit looked bytes near m a b p q front answer began none begins is laid e =
     let d = subst (λ (x : List ℕ). IsLaid x a b p q front) is laid in

@@ -18,7 +18,8 @@ use Rattle.csicodec_structs.specs.Structs.{param_of, unknown_row}
 use Rattle.csicodec_structs.specs.Values.{TokenInRange}
 use Rattle.csicodec_c.specs.Recognised.{AreTokens}
 
-pub zeros : (g : Struct) → g.kind ≡ 0 → g.first ≡ pos 0 → g.second ≡ pos 0 → g.top ≡ 0 → g.left ≡ 0 → g.bottom ≡ 0 → g.right ≡ 0 → g.red ≡ 0 → g.green ≡ 0 → g.blue ≡ 0 → g.alpha ≡ 0 → g.modifiers ≡ 0 → g.button ≡ 0 → g.absent ≡ 0
+pub zeros : (g : Struct) → g.kind ≡ 0 → g.first ≡ pos 0 → g.second ≡ pos 0 → g.top ≡ 0 → g.left ≡ 0 → g.bottom ≡ 0 → g.right ≡ 0 → g.red ≡ 0
+    → g.green ≡ 0 → g.blue ≡ 0 → g.alpha ≡ 0 → g.modifiers ≡ 0 → g.button ≡ 0 → g.absent ≡ 0
     → g ≡ unknown_row g.final_char g.place g.len
 zeros g kind first second top left bottom right red green blue alpha modifiers button absent =
     ap (λ (x : ℕ). record g { kind = x }) kind
@@ -34,7 +35,8 @@ zeros g kind first second top left bottom right red green blue alpha modifiers b
     ∙ ap (λ (x : ℕ). record g { kind = 0; first = pos 0; second = pos 0; top = 0; left = 0; bottom = 0; right = 0; red = 0; green = 0; blue = 0; alpha = x }) alpha
     ∙ ap (λ (x : ℕ). record g { kind = 0; first = pos 0; second = pos 0; top = 0; left = 0; bottom = 0; right = 0; red = 0; green = 0; blue = 0; alpha = 0; modifiers = x }) modifiers
     ∙ ap (λ (x : ℕ). record g { kind = 0; first = pos 0; second = pos 0; top = 0; left = 0; bottom = 0; right = 0; red = 0; green = 0; blue = 0; alpha = 0; modifiers = 0; button = x }) button
-    ∙ ap (λ (x : ℕ). record g { kind = 0; first = pos 0; second = pos 0; top = 0; left = 0; bottom = 0; right = 0; red = 0; green = 0; blue = 0; alpha = 0; modifiers = 0; button = 0; absent = x }) absent
+    ∙ ap (λ (x : ℕ).
+    record g { kind = 0; first = pos 0; second = pos 0; top = 0; left = 0; bottom = 0; right = 0; red = 0; green = 0; blue = 0; alpha = 0; modifiers = 0; button = 0; absent = x }) absent
 
 -- values in room of 12 zeros
 pub padded : (values new : List ℕ) → length values ≤ 12 → Fills (replicate 12 0) new values → new ≡ values ++ replicate (12 - length values) 0
@@ -79,10 +81,12 @@ too-long list final long = go (reading list final) refl
     go (Some known) e = (let few = longest list final known e in absurd (omega (arith, long, few)))
 
 -- a token more
-pub one_more : (room : List CsiParam) (params : List Param) (i : ℕ) (d : Param) (t : CsiParam) → i < length room → i < length params → AreTokens (take i room) (take i params) → TokenInRange t → param_of t ≡ slice_index_or params i d
+pub one_more : (room : List CsiParam) (params : List Param) (i : ℕ) (d : Param) (t : CsiParam) → i < length room → i < length params
+    → AreTokens (take i room) (take i params) → TokenInRange t → param_of t ≡ slice_index_or params i d
     → AreTokens (take (i + 1) (set room i t)) (take (i + 1) params)
 one_more room params i d t low few are in_range same =
     let list = sym (take_more_set room i t low) in (
       subst (λ (l : List CsiParam). All TokenInRange l) list (All-push TokenInRange (take i room) t are.0 in_range),
-      ap (map param_of) (sym list) ∙ map-append param_of (take i room) (t ∷ []) ∙ ap (λ (l : List Param). l ++ param_of t ∷ []) are.1 ∙ ap (λ (p : Param). take i params ++ p ∷ []) same ∙ sym (take_more params i d few),
+      ap (map param_of) (sym list) ∙ map-append param_of (take i room) (t ∷ []) ∙ ap (λ (l : List Param). l ++ param_of t ∷ []) are.1
+          ∙ ap (λ (p : Param). take i params ++ p ∷ []) same ∙ sym (take_more params i d few),
     )

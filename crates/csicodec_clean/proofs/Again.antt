@@ -37,7 +37,8 @@ use Rattle.csicodec_clean.specs.declared.links.LinkState.TheVariants as place
 use Rattle.csicodec_clean.specs.Links.{Address, Begun, IsLink, admitted, all_behind, begun, is_linked, is_param, is_visible, link_body, link_text, links_at, links_in, next, start}
 use Rattle.csicodec_clean.specs.Palette.{reduced}
 use Rattle.csicodec_clean.specs.Cleaned.{Strips, stripped, is_text, longest}
-use Rattle.csicodec_clean.specs.Styled.{kept, Item, Shown, Style, Link, item_texts, shown_items, hides, Leaves, begun_behind, run_behind, items_behind, AreLeft, is_open, styles_of, links_of, ends_of, closed, StylesIn, IsSafe, IsStyledIn}
+use Rattle.csicodec_clean.specs.Styled.{kept, Item, Shown, Style, Link, item_texts, shown_items, hides, Leaves, begun_behind, run_behind}
+use Rattle.csicodec_clean.specs.Styled.{items_behind, AreLeft, is_open, styles_of, links_of, ends_of, closed, StylesIn, IsSafe, IsStyledIn}
 use Rattle.csicodec_clean.proofs.Shows.{encoded_on, shown_none}
 use Rattle.csicodec_clean.proofs.Linked.{body_read, itself}
 use Rattle.csicodec_clean.proofs.Pieces.{piece}
@@ -57,7 +58,8 @@ parts_of (Shown c ∷ items) = singles kind.Text (encode_utf8 c) ++ parts_of ite
 parts_of (Style s ∷ items) = part kind.Csi (text (action.Sgr s)) ∷ parts_of items
 parts_of (Link a ∷ items) = part kind.Str (27 ∷ 93 ∷ []) ∷ (singles kind.Str (link_body a) ++ part kind.Str (27 ∷ 92 ∷ []) ∷ parts_of items)
 
-style_first : (s : Sgr) (more : List ℕ) → ReadsAlone (action.Sgr s) false → hides s ≡ false → IsFirstPart longest mode.Text (text (action.Sgr s) ++ more) (part kind.Csi (text (action.Sgr s))) more mode.Text
+style_first : (s : Sgr) (more : List ℕ) → ReadsAlone (action.Sgr s) false → hides s ≡ false
+    → IsFirstPart longest mode.Text (text (action.Sgr s) ++ more) (part kind.Csi (text (action.Sgr s))) more mode.Text
 style_first s more r shown =
     let t = text (action.Sgr s) in
     let p = piece s r shown in
@@ -137,7 +139,8 @@ untitled (Shown c ∷ items) =
 untitled (Style s ∷ items) = ap (λ (ps : List Part). part kind.Csi (text (action.Sgr s)) ∷ ps) (untitled items)
 untitled (Link a ∷ items) =
     let end = part kind.Str (27 ∷ 92 ∷ []) in
-    ap (λ (ps : List Part). part kind.Str (27 ∷ 93 ∷ []) ∷ ps) (untitled_string (link_body a) (end ∷ parts_of items) ∙ ap (λ (ps : List Part). singles kind.Str (link_body a) ++ end ∷ ps) (untitled items))
+    ap (λ (ps : List Part). part kind.Str (27 ∷ 93 ∷ []) ∷ ps)
+    (untitled_string (link_body a) (end ∷ parts_of items) ∙ ap (λ (ps : List Part). singles kind.Str (link_body a) ++ end ∷ ps) (untitled items))
 
 -- ---- characters that are shown
 
@@ -191,7 +194,9 @@ chars_part run own others none =
     ∙ ap (λ (t : List ℕ). filter shown (lossy_chars run) ++ t) (chars_both own others ∙ ap (λ (t : List ℕ). t ++ chars_of others) none)
 
 chars_closed : (items : List Item) → chars_of (closed items) ≡ chars_of items
-chars_closed items = chars_both items (ends_of (is_linked false (links_of items)) (is_open false (styles_of items))) ∙ ap (λ (t : List ℕ). chars_of items ++ t) (by (is_linked false (links_of items)) (is_open false (styles_of items))) ∙ append-nil (chars_of items)
+chars_closed items =
+    chars_both items (ends_of (is_linked false (links_of items)) (is_open false (styles_of items)))
+    ∙ ap (λ (t : List ℕ). chars_of items ++ t) (by (is_linked false (links_of items)) (is_open false (styles_of items))) ∙ append-nil (chars_of items)
   where
     by : (linked styled : Bool) → chars_of (ends_of linked styled) ≡ []
     by true true = refl
@@ -247,10 +252,12 @@ pub strip_cleaned : (d : Passing) (bytes styles plain other : List ℕ) → Styl
 strip_cleaned d bytes styles plain other s p t =
     let items = closed s.items in
     let safe = safe_closed d bytes styles s in
-    let again : t.parts ≡ parts_of items = whole_once longest mode.Text styles t.parts (parts_of items) t.whole (subst (λ (x : List ℕ). IsWhole longest mode.Text x (parts_of items)) (sym s.all) (whole_items d items safe)) in
+    let again : t.parts ≡ parts_of items =
+    whole_once longest mode.Text styles t.parts (parts_of items) t.whole (subst (λ (x : List ℕ). IsWhole longest mode.Text x (parts_of items)) (sym s.all) (whole_items d items safe)) in
     let same : p.parts ≡ s.parts = whole_once longest mode.Text bytes p.parts s.parts p.whole s.whole in
     t.left ∙ ap (λ (ps : List Part). stripped [] (with_titles false ps)) again ∙ ap (stripped []) (untitled items) ∙ stripped_items d items [] refl tt safe
-    ∙ ap encode_utf8_all (chars_closed s.items) ∙ left_stripped d start (with_titles false s.parts) [] s.items s.left ∙ ap (λ (ps : List Part). stripped [] (with_titles false ps)) (sym same) ∙ sym p.left
+    ∙ ap encode_utf8_all (chars_closed s.items) ∙ left_stripped d start (with_titles false s.parts) [] s.items s.left
+    ∙ ap (λ (ps : List Part). stripped [] (with_titles false ps)) (sym same) ∙ sym p.left
 
 -- ---- cleaned
 
@@ -299,7 +306,9 @@ left_bytes d b (c ∷ bs) ps out h =
     let later = links_in d.links (next d.links b c) bs in
     record {
       others = r.others;
-      links = e ∙ ap (λ (x : List Item). x ++ (map Link (here ++ []) ++ others)) none_items ∙ ap (λ (x : List Address). map Link x ++ others) (append-nil here) ∙ ap (λ (x : List Item). map Link here ++ x) r.links
+      links =
+          e ∙ ap (λ (x : List Item). x ++ (map Link (here ++ []) ++ others)) none_items
+          ∙ ap (λ (x : List Address). map Link x ++ others) (append-nil here) ∙ ap (λ (x : List Item). map Link here ++ x) r.links
           ∙ sym (append_assoc (map Link here) (map Link later) r.others) ∙ ap (λ (x : List Item). x ++ r.others) (sym (map-append Link here later));
       left = r.left;
     }
@@ -317,7 +326,8 @@ record LeftLink (d : Passing) (a : Address) (cs : List ℕ) (ps : List Part) (ou
   left : AreLeft d (begun place.Outside a.params a.url) [] ps others
 
 left_link : (d : Depth) (a : Address) (params url cs : List ℕ) (ps : List Part) (out : List Item) → IsLink a
-    → AreLeft (with_links d) (begun place.Outside params url) (encode_utf8_all cs) (part kind.Str (27 ∷ 93 ∷ []) ∷ (singles kind.Str (link_body a) ++ part kind.Str (27 ∷ 92 ∷ []) ∷ ps)) out → LeftLink (with_links d) a cs ps out
+    → AreLeft (with_links d) (begun place.Outside params url) (encode_utf8_all cs) (part kind.Str (27 ∷ 93 ∷ []) ∷ (singles kind.Str (link_body a) ++ part kind.Str (27 ∷ 92 ∷ []) ∷ ps)) out
+    → LeftLink (with_links d) a cs ps out
 left_link d a params url cs ps out fine h =
     let p = with_links d in
     let body = link_body a in
@@ -344,12 +354,14 @@ left_again d (Shown c ∷ items) params url cs out a h safe l =
     let b = begun place.Outside params url in
     let moved = left_on d b (encode_utf8 c) (encode_utf8_all cs) (parts_of items) out l in
     let grown : AreLeft d b (encode_utf8_all (cs ++ c ∷ [])) (parts_of items) out = subst (λ (r : List ℕ). AreLeft d b r (parts_of items) out) (sym (more_encoded cs c)) moved in
-    left_again d items params url (cs ++ c ∷ []) out (more_scalars cs c a one) (all_both IsShown cs (c ∷ []) h (here, tt)) safe.1 grown ∙ ap (λ (x : List Item). x ++ items) (map-append Shown cs (c ∷ []))
+    left_again d items params url (cs ++ c ∷ []) out (more_scalars cs c a one) (all_both IsShown cs (c ∷ []) h (here, tt)) safe.1 grown
+    ∙ ap (λ (x : List Item). x ++ items) (map-append Shown cs (c ∷ []))
     ∙ append_assoc (map Shown cs) (Shown c ∷ []) items
 left_again d (Style s ∷ items) params url cs out a h safe (own, others, (actions, is, k), e, rest) =
     let (stays, alone, same_color) = safe.0 in
     let same : actions ≡ action.Sgr s ∷ [] = style_taken s actions alone stays is in
-    let one : own ≡ Style s ∷ [] = k ∙ ap (λ (x : List Action). map Style (kept d.depth x)) same ∙ ap (λ (b : Bool). map Style (cond b [] (reduced d.depth s ∷ []))) stays ∙ ap (λ (x : Sgr). Style x ∷ []) same_color in
+    let one : own ≡ Style s ∷ [] =
+    k ∙ ap (λ (x : List Action). map Style (kept d.depth x)) same ∙ ap (λ (b : Bool). map Style (cond b [] (reduced d.depth s ∷ []))) stays ∙ ap (λ (x : Sgr). Style x ∷ []) same_color in
     e ∙ ap (λ (x : List ℕ). map Shown x ++ (own ++ others)) (read_back cs a h) ∙ ap (λ (x : List Item). map Shown cs ++ (x ++ others)) one
     ∙ ap (λ (x : List Item). map Shown cs ++ (Style s ∷ x)) (left_again d items params url [] others refl tt safe.1 rest)
 left_again d (Link x ∷ items) params url cs out a h safe l =
@@ -357,12 +369,15 @@ left_again d (Link x ∷ items) params url cs out a h safe l =
     let same : d ≡ with_links d.depth = ap (letting d.depth) passes in
     let ps = part kind.Str (27 ∷ 93 ∷ []) ∷ (singles kind.Str (link_body x) ++ part kind.Str (27 ∷ 92 ∷ []) ∷ parts_of items) in
     let r = left_link d.depth x params url cs (parts_of items) out fine (subst (λ (p : Passing). AreLeft p (begun place.Outside params url) (encode_utf8_all cs) ps out) same l) in
-    let rest : AreLeft d (begun place.Outside x.params x.url) [] (parts_of items) r.others = subst (λ (p : Passing). AreLeft p (begun place.Outside x.params x.url) [] (parts_of items) r.others) (sym same) r.left in
-    r.link ∙ ap (λ (t : List ℕ). map Shown t ++ (Link x ∷ r.others)) (read_back cs a h) ∙ ap (λ (t : List Item). map Shown cs ++ (Link x ∷ t)) (left_again d items x.params x.url [] r.others refl tt safe.1 rest)
+    let rest : AreLeft d (begun place.Outside x.params x.url) [] (parts_of items) r.others =
+    subst (λ (p : Passing). AreLeft p (begun place.Outside x.params x.url) [] (parts_of items) r.others) (sym same) r.left in
+    r.link ∙ ap (λ (t : List ℕ). map Shown t ++ (Link x ∷ r.others)) (read_back cs a h)
+    ∙ ap (λ (t : List Item). map Shown cs ++ (Link x ∷ t)) (left_again d items x.params x.url [] r.others refl tt safe.1 rest)
 
 pub styled_stays : (d : Passing) (text other : List ℕ) → IsStyledIn d text → StylesIn d text other → other ≡ text
 styled_stays d text other i s =
-    let parts : s.parts ≡ parts_of i.items = whole_once longest mode.Text text s.parts (parts_of i.items) s.whole (subst (λ (t : List ℕ). IsWhole longest mode.Text t (parts_of i.items)) (sym i.texts) (whole_items d i.items i.safe)) in
+    let parts : s.parts ≡ parts_of i.items =
+    whole_once longest mode.Text text s.parts (parts_of i.items) s.whole (subst (λ (t : List ℕ). IsWhole longest mode.Text t (parts_of i.items)) (sym i.texts) (whole_items d i.items i.safe)) in
     let left : AreLeft d start [] (parts_of i.items) s.items = subst (λ (ps : List Part). AreLeft d start [] ps s.items) (ap (with_titles false) parts ∙ untitled i.items) s.left in
     let same : s.items ≡ i.items = left_again d i.items [] [] [] s.items refl tt i.safe left in
     s.all ∙ ap (λ (x : List Item). item_texts (closed x)) same ∙ ap (λ (b : Bool). item_texts (i.items ++ ends_of b (is_open false (styles_of i.items)))) i.none_linked

@@ -35,7 +35,8 @@ module _ {S : Type 0} (Gives : RuleOf S) where
 
   -- the bytes of a push behind those that waited
   pub takes_from : (old new : Between S) (bytes text all rest : List ℕ) → all ≡ old.bytes ++ bytes → new.bytes ≡ rest → IsUnsure longest new.mode rest
-      → ((run chars : List ℕ) → IsRead run chars old.held → Goes Gives longest old.mode old.titled old.rule run chars all text rest new.mode new.titled new.rule new.held) → Takes Gives old bytes text new
+      → ((run chars : List ℕ) → IsRead run chars old.held → Goes Gives longest old.mode old.titled old.rule run chars all text rest new.mode new.titled new.rule new.held)
+      → Takes Gives old bytes text new
   takes_from old new bytes text all rest e f unsure goes = record { unsure = rw f unsure; goes = λ run chars read. rw (← e, f) (goes run chars read) }
 
   -- nothing came yet
@@ -48,7 +49,9 @@ module _ {S : Type 0} (Gives : RuleOf S) where
     unsure = k.unsure;
     goes = λ run chars read.
         let g = h.goes run chars read in
-        let all = goes_then Gives longest old.mode mid.mode new.mode old.titled mid.titled new.titled old.rule mid.rule new.rule run chars ((old.bytes ++ first) ++ second) one (mid.bytes ++ second) mid.held two new.bytes new.held
+        let all =
+        goes_then Gives longest old.mode mid.mode new.mode old.titled mid.titled new.titled old.rule mid.rule new.rule run chars
+        ((old.bytes ++ first) ++ second) one (mid.bytes ++ second) mid.held two new.bytes new.held
         (goes_more longest old.mode mid.mode old.titled mid.titled old.rule mid.rule run chars (old.bytes ++ first) one mid.bytes mid.held second g) (k.goes g.left g.read g.is_read) in
         subst (λ (bs : List ℕ). Goes Gives longest old.mode old.titled old.rule run chars bs (one ++ two) new.bytes new.mode new.titled new.rule new.held) (append_assoc old.bytes first second) all;
   }

@@ -1,5 +1,6 @@
 -- The text of a style is digits and `:`, 60 at most, in front of `m`.
-use Rattle.std.proofs.Common.{◌≡◌, ◌≤◌, ◌<◌, ◌+◌, ◌-◌, ◌^◌, ◌⊎◌, ℕ, suc, Bool, true, false, cond, List, [], ◌∷◌, ◌++◌, length, length-append, take, drop, inl, inr, refl, sym, ap, subst, ◌∙◌, append_assoc, append-nil, arith, rules}
+use Rattle.std.proofs.Common.{◌≡◌, ◌≤◌, ◌<◌, ◌+◌, ◌-◌, ◌^◌, ◌⊎◌, ℕ, suc, Bool, true, false, cond, List, [], ◌∷◌, ◌++◌, length}
+use Rattle.std.proofs.Common.{length-append, take, drop, inl, inr, refl, sym, ap, subst, ◌∙◌, append_assoc, append-nil, arith, rules}
 use Rattle.std.specs.Prelude.{◌==◌, ◌&&◌, codes, nat_le, nat_lt, if◌then◌else◌, slice_get}
 use Rattle.std.specs.Fmt.{decimal}
 use Rattle.std.specs.List.{AllByRecursion}
@@ -111,7 +112,8 @@ color_coded code c f (r, g, b, a) =
     let alpha = decimal c.2 ++ (codes ":" ++ (decimal c.3 ++ codes "m")) in
     let opaque = decimal c.0 ++ (codes ":" ++ (decimal c.1 ++ (codes ":" ++ blue))) in
     let clear = decimal c.0 ++ (codes ":" ++ (decimal c.1 ++ (codes ":" ++ alpha))) in
-    let three : IsCoded 17 opaque = then_coded c.0 11 (codes ":") (decimal c.1 ++ (codes ":" ++ blue)) (omega (arith, r)) colon (then_coded c.1 5 (codes ":") blue (omega (arith, g)) colon (number_coded c.2 (omega (arith, b)))) in
+    let three : IsCoded 17 opaque =
+    then_coded c.0 11 (codes ":") (decimal c.1 ++ (codes ":" ++ blue)) (omega (arith, r)) colon (then_coded c.1 5 (codes ":") blue (omega (arith, g)) colon (number_coded c.2 (omega (arith, b)))) in
     let four : IsCoded 23 clear = then_coded c.0 17 (codes ":") (decimal c.1 ++ (codes ":" ++ alpha)) (omega (arith, r)) colon
     (then_coded c.1 11 (codes ":") alpha (omega (arith, g)) colon (then_coded c.2 5 (codes ":") (decimal c.3 ++ codes "m") (omega (arith, b)) colon (number_coded c.3 (omega (arith, a))))) in
     let first = decimal code ++ (codes ":2::" ++ opaque) in

@@ -19,7 +19,8 @@ use Rattle.csicodec_clean.specs.Shown.{shown, shown_chars, shown_text, IsRead}
 use Rattle.csicodec_clean.specs.Titles.{title_open, with_titles}
 use Rattle.csicodec_clean.specs.Cleaned.{RuleOf, IsStep, AreSteps, Ends, Strips, stripped, drops, ends_bare, is_text, longest}
 use Rattle.csicodec_clean.specs.Stream.{Begins, Between, Goes, IsFrontOf, Takes, start_of}
-use Rattle.csicodec_clean.specs.Styled.{kept, Item, Style, item_texts, shown_items, Leaves, begun_behind, run_behind, items_behind, AreLeft, is_open, styles_of, links_of, ends_of, StylesIn, Keeping, first_kept, keeps, resets}
+use Rattle.csicodec_clean.specs.Styled.{kept, Item, Style, item_texts, shown_items, Leaves, begun_behind, run_behind, items_behind}
+use Rattle.csicodec_clean.specs.Styled.{AreLeft, is_open, styles_of, links_of, ends_of, StylesIn, Keeping, first_kept, keeps, resets}
 use Rattle.csicodec_clean.proofs.Again.{one_styled}
 use Rattle.csicodec_clean.proofs.Plain.{steps_stripped, strips}
 use Rattle.csicodec_clean.proofs.Shows.{shown_read}
@@ -52,7 +53,8 @@ run_begins run chars rest h = (shown_text rest, shown_read run chars rest h)
 stripped_begins : (ps : List Part) (run chars rest : List ℕ) → IsRead run chars rest → GoesOnFrom (stripped run ps) (shown_chars chars)
 stripped_begins [] run chars rest h = run_begins run chars rest h
 stripped_begins (p ∷ ps) run chars rest h =
-    by (is_text p.kind) (stripped_begins ps (run ++ p.bytes) chars (rest ++ p.bytes) (read_longer run chars rest p.bytes h)) (further (shown_text run) (shown_chars chars) (stripped [] ps) (run_begins run chars rest h))
+    by (is_text p.kind) (stripped_begins ps (run ++ p.bytes) chars (rest ++ p.bytes) (read_longer run chars rest p.bytes h))
+    (further (shown_text run) (shown_chars chars) (stripped [] ps) (run_begins run chars rest h))
   where
     by : (b : Bool) → GoesOnFrom (stripped (run ++ p.bytes) ps) (shown_chars chars) → GoesOnFrom (shown_text run ++ stripped [] ps) (shown_chars chars)
         → GoesOnFrom (cond b (stripped (run ++ p.bytes) ps) (shown_text run ++ stripped [] ps)) (shown_chars chars)
@@ -65,16 +67,20 @@ record Behind (limit : ℕ) (parts all : List Part) : Type 0 where
   later : List Part
   whole : with_titles false all ≡ with_titles false parts ++ later
 
-behind : {S : Type 0} (Gives : RuleOf S) (s : S) (read more text : List ℕ) (last : Between S) (all : List Part) (g : Goes Gives longest mode.Text false s [] [] read text last.bytes last.mode last.titled last.rule last.held)
+behind : {S : Type 0} (Gives : RuleOf S) (s : S) (read more text : List ℕ) (last : Between S) (all : List Part)
+    (g : Goes Gives longest mode.Text false s [] [] read text last.bytes last.mode last.titled last.rule last.held)
     → IsWhole longest mode.Text (read ++ more) all → Behind longest g.parts all
 behind Gives s read more text last all g w =
-    let (others, e) = parts_front longest g.parts w.sure mode.Text (read ++ more) (last.bytes ++ more) w.rest last.mode w.after (parts_more longest g.parts mode.Text read more last.bytes last.mode g.first) w.first w.unsure in
+    let (others, e) =
+    parts_front longest g.parts w.sure mode.Text (read ++ more) (last.bytes ++ more) w.rest last.mode w.after
+    (parts_more longest g.parts mode.Text read more last.bytes last.mode g.first) w.first w.unsure in
     let qs = others ++ left_over w.rest in
     let parts : all ≡ g.parts ++ qs = w.whole ∙ ap (λ (x : List Part). x ++ left_over w.rest) e ∙ append_assoc g.parts others (left_over w.rest) in
     record { later = with_titles (title_open false g.parts) qs; whole = ap (with_titles false) parts ∙ titles_on false g.parts qs }
 
 -- what was appended, and the characters of the run that were read, are those of the parts
-goes_front : {S : Type 0} (Gives : RuleOf S) (s : S) (read text : List ℕ) (last : Between S) (rest whole : List ℕ) (g : Goes Gives longest mode.Text false s [] [] read text last.bytes last.mode last.titled last.rule last.held)
+goes_front : {S : Type 0} (Gives : RuleOf S) (s : S) (read text : List ℕ) (last : Between S) (rest whole : List ℕ)
+    (g : Goes Gives longest mode.Text false s [] [] read text last.bytes last.mode last.titled last.rule last.held)
     → whole ≡ g.text ++ rest → GoesOnFrom rest (shown_chars g.read) → GoesOnFrom whole text
 goes_front Gives s read text last rest whole g e (more, f) =
     (more, e ∙ ap (λ (t : List ℕ). g.text ++ t) f ∙ sym (append_assoc g.text (shown_chars g.read) more) ∙ ap (λ (t : List ℕ). t ++ more) (sym g.same))
@@ -91,14 +97,16 @@ module _ {S : Type 0} where
 
 ended_begins : (run chars rest : List ℕ) (own others : List Item) → IsRead run chars rest → GoesOnFrom (item_texts (shown_items run ++ (own ++ others))) (shown_chars chars)
 ended_begins run chars rest own others h =
-    subst (λ (t : List ℕ). GoesOnFrom t (shown_chars chars)) (sym (part_texts run own others)) (further (shown_text run) (shown_chars chars) (item_texts own ++ item_texts others) (run_begins run chars rest h))
+    subst (λ (t : List ℕ). GoesOnFrom t (shown_chars chars)) (sym (part_texts run own others))
+    (further (shown_text run) (shown_chars chars) (item_texts own ++ item_texts others) (run_begins run chars rest h))
 
 part_begins : (d : Passing) (b : Begun) (k : Kind) (run bytes chars rest : List ℕ) (own others : List Item) → Leaves d b k bytes own → IsRead run chars rest
     → ((cs r : List ℕ) → IsRead (run_behind k run bytes) cs r → GoesOnFrom (item_texts others) (shown_chars cs)) → GoesOnFrom (item_texts (items_behind k run ++ (own ++ others))) (shown_chars chars)
 part_begins d b kind.Text run bytes chars rest own others none h later = rw none (later chars (rest ++ bytes) (read_longer run chars rest bytes h))
 part_begins d b _ run bytes chars rest own others l h later = ended_begins run chars rest own others h
 
-left_begins : (d : Passing) (b : Begun) (ps : List Part) (run chars rest : List ℕ) (items : List Item) → IsRead run chars rest → AreLeft d b run ps items → GoesOnFrom (item_texts items) (shown_chars chars)
+left_begins : (d : Passing) (b : Begun) (ps : List Part) (run chars rest : List ℕ) (items : List Item) → IsRead run chars rest
+    → AreLeft d b run ps items → GoesOnFrom (item_texts items) (shown_chars chars)
 left_begins d b [] run chars rest items h e =
     subst (λ (t : List ℕ). GoesOnFrom t (shown_chars chars)) (sym (ap item_texts e ∙ texts_chars (filter shown (lossy_chars run)))) (run_begins run chars rest h)
 left_begins d b (p ∷ ps) run chars rest items h (own, others, leaves, e, left) =
@@ -114,14 +122,17 @@ module _ {S : Type 0} (of : S → Keeping) where
     begun : (of mid).begun ≡ begun_behind (of s).passing (of s).begun k bytes
 
   -- where a part ends the run
-  ended : (run first own_text : List ℕ) (own others : List Item) → first ≡ shown_text run ++ own_text → item_texts own ≡ own_text → item_texts (shown_items run ++ (own ++ others)) ≡ first ++ item_texts others
+  ended : (run first own_text : List ℕ) (own others : List Item) → first ≡ shown_text run ++ own_text → item_texts own ≡ own_text
+      → item_texts (shown_items run ++ (own ++ others)) ≡ first ++ item_texts others
   ended run first own_text own others e same =
-      part_texts run own others ∙ ap (λ (t : List ℕ). shown_text run ++ (t ++ item_texts others)) same ∙ sym (append_assoc (shown_text run) own_text (item_texts others)) ∙ ap (λ (t : List ℕ). t ++ item_texts others) (sym e)
+      part_texts run own others ∙ ap (λ (t : List ℕ). shown_text run ++ (t ++ item_texts others)) same
+      ∙ sym (append_assoc (shown_text run) own_text (item_texts others)) ∙ ap (λ (t : List ℕ). t ++ item_texts others) (sym e)
 
   bare : (run first : List ℕ) (own others : List Item) → first ≡ shown_text run → own ≡ [] → item_texts (shown_items run ++ (own ++ others)) ≡ first ++ item_texts others
   bare run first own others e none = ended run first [] own others (e ∙ sym (append-nil (shown_text run))) (ap item_texts none)
 
-  step_left : (k : Kind) (s mid : S) (run bytes first next : List ℕ) (own others : List Item) → IsStep (keeps of) k s run bytes first mid next → Leaves (of s).passing (of s).begun k bytes own → OneStep k s mid run bytes first next own others
+  step_left : (k : Kind) (s mid : S) (run bytes first next : List ℕ) (own others : List Item) → IsStep (keeps of) k s run bytes first mid next
+      → Leaves (of s).passing (of s).begun k bytes own → OneStep k s mid run bytes first next own others
   step_left kind.Text s mid run bytes first next own others (none, same, on) l =
       record { text = rw (none, l) refl; next_run = on; passing = ap (λ (x : S). (of x).passing) same; begun = ap (λ (x : S). (of x).begun) same }
   step_left kind.Csi s mid run bytes first next own others (given, (actions, one, same, state), e, left) (more, other, l) =
@@ -141,7 +152,8 @@ module _ {S : Type 0} (of : S → Keeping) where
     left : AreLeft d begun last qs others
     all : item_texts items ≡ text ++ item_texts others
 
-  steps_left : (ps qs : List Part) (s after : S) (run text last : List ℕ) (items : List Item) → AreSteps (keeps of) s run ps text after last → AreLeft (of s).passing (of s).begun run (ps ++ qs) items → Later (of s).passing qs last text items
+  steps_left : (ps qs : List Part) (s after : S) (run text last : List ℕ) (items : List Item) → AreSteps (keeps of) s run ps text after last
+      → AreLeft (of s).passing (of s).begun run (ps ++ qs) items → Later (of s).passing qs last text items
   steps_left [] qs s after run text last items (none, same, e) l = record { others = items; begun = (of s).begun; left = rw e l; all = rw none refl }
   steps_left (p ∷ ps) qs s after run text last items (first, mid, next, more, step, e, rest) (own, others, leaves, f, l) =
       let one = step_left p.kind s mid run p.bytes first next own others step leaves in
@@ -160,7 +172,8 @@ module _ {S : Type 0} (of : S → Keeping) where
       let left : AreLeft (of s).passing start [] (with_titles false g.parts ++ b.later) k.items = subst (λ (ps : List Part). AreLeft (of s).passing start [] ps k.items) b.whole k.left in
       let r = steps_left (with_titles false g.parts) b.later s last.rule [] g.text g.left k.items g.steps (rw first left) in
       let end : List Item = ends_of (is_linked false (links_of k.items)) (is_open false (styles_of k.items)) in
-      let parts : whole ≡ g.text ++ (item_texts r.others ++ item_texts end) = k.all ∙ texts_both k.items end ∙ ap (λ (t : List ℕ). t ++ item_texts end) r.all ∙ append_assoc g.text (item_texts r.others) (item_texts end) in
+      let parts : whole ≡ g.text ++ (item_texts r.others ++ item_texts end) =
+      k.all ∙ texts_both k.items end ∙ ap (λ (t : List ℕ). t ++ item_texts end) r.all ∙ append_assoc g.text (item_texts r.others) (item_texts end) in
       goes_front (keeps of) s read text last (item_texts r.others ++ item_texts end) whole g parts
       (further (item_texts r.others) (shown_chars g.read) (item_texts end) (left_begins (of s).passing r.begun b.later g.left g.read last.held r.others g.is_read r.left))
 
@@ -172,9 +185,12 @@ shorter Out bytes sent unsent h whole k = let (more, e) = h whole k in (unsent +
 same_front : (Out : List ℕ → List ℕ → Type 0) (bytes text : List ℕ) → ((other : List ℕ) → Out bytes other → other ≡ text) → IsFrontOf Out bytes text
 same_front Out bytes text one whole k = ([], one whole k ∙ sym (append-nil text))
 
-pub strip_sent : {S : Type 0} (s : S) (bytes more sent : List ℕ) (i k w y : Option (List ℕ)) → Consumes i k (bytes ++ more) → Begins drops ends_bare s ((more ≡ []) × IsAtEnd k) bytes sent → Appends w y sent
+pub strip_sent : {S : Type 0} (s : S) (bytes more sent : List ℕ) (i k w y : Option (List ℕ)) → Consumes i k (bytes ++ more)
+    → Begins drops ends_bare s ((more ≡ []) × IsAtEnd k) bytes sent → Appends w y sent
     → SentFront (Strips longest) i w y
-strip_sent s = whole_front (Sends (Takes drops) (start_of s)) (Ends drops ends_bare longest s) (IsFrontOf (Strips longest)) (shorter (Strips longest)) (λ read more text (last, h). strip_front s read more text last h)
+strip_sent s =
+    whole_front (Sends (Takes drops) (start_of s)) (Ends drops ends_bare longest s) (IsFrontOf (Strips longest)) (shorter (Strips longest))
+    (λ read more text (last, h). strip_front s read more text last h)
     (λ bytes text e. same_front (Strips longest) bytes text (λ other k. one_text longest bytes other text k (strips longest s bytes text e)))
 
 pub clean_sent : {S : Type 0} (of : S → Keeping) (d : Passing) (s : S) → of s ≡ first_kept d → (bytes more sent : List ℕ) (i k w y : Option (List ℕ)) → Consumes i k (bytes ++ more)

@@ -1,5 +1,6 @@
 -- What is taken at a glance, step by step.
-use Rattle.std.proofs.Common.{◌≡◌, ◌-◌, ◌<◌, ◌≤◌, ℕ, zero, suc, Bool, true, false, List, [], ◌∷◌, ◌++◌, length, length-append, length-take, take, drop, get_or, refl, sym, ap, subst, ◌∙◌, append_assoc, append-nil, take-append-drop, arith}
+use Rattle.std.proofs.Common.{◌≡◌, ◌-◌, ◌<◌, ◌≤◌, ℕ, zero, suc, Bool, true, false, List, [], ◌∷◌, ◌++◌, length, length-append}
+use Rattle.std.proofs.Common.{length-take, take, drop, get_or, refl, sym, ap, subst, ◌∙◌, append_assoc, append-nil, take-append-drop, arith}
 use Rattle.std.specs.List.{AllByRecursion}
 use Rattle.std.proofs.Math.Seq.{take-append_seam, drop-append_seam}
 use Rattle.std.proofs.lemmas.Bool.Decides.{nat_tests}
@@ -107,22 +108,26 @@ module _ {S : Type 0} (Gives : RuleOf S) (limit : ℕ) where
     λ run chars read. let g = goes run chars read in goes_then Gives limit m n a t u v s mid after run chars bytes one behind between two rest left g (further g.left g.read g.is_read),
   )
 
-  pub to_span : (m a : Mode) (t : Bool) (k : Kind) (held left : List ℕ) (s after : S) (bytes span rest more old new : List ℕ) → Cuts limit m bytes k span rest a → IsAppended Gives (read_as k t) s held span more after left
+  pub to_span : (m a : Mode) (t : Bool) (k : Kind) (held left : List ℕ) (s after : S) (bytes span rest more old new : List ℕ)
+      → Cuts limit m bytes k span rest a → IsAppended Gives (read_as k t) s held span more after left
       → new ≡ old ++ more → GoesTo Gives limit m t held s bytes rest a (title_behind t k span) left after old new
-  to_span m a t k held left s after bytes span rest more old new cut h longer = (more, longer, λ run chars read. goes_span Gives limit m a t k s after run chars bytes held span rest more left read cut h)
+  to_span m a t k held left s after bytes span rest more old new cut h longer =
+      (more, longer, λ run chars read. goes_span Gives limit m a t k s after run chars bytes held span rest more left read cut h)
 
   pub over_on : (s mid after : S) (bytes behind rest old now new : List ℕ) → GoesOver Gives limit mode.Text false [] s bytes behind mid old now
       → GoesOver Gives limit mode.Text false [] mid behind rest after now new → GoesOver Gives limit mode.Text false [] s bytes rest after old new
   over_on s mid after bytes behind rest old now new = to_on mode.Text mode.Text mode.Text false false false [] [] [] s mid after bytes behind rest old now new
 
   -- a span that leaves nothing open
-  over_span : (k : Kind) (s after : S) (bytes span rest more old : List ℕ) → Cuts limit mode.Text bytes k span rest mode.Text → title_behind false k span ≡ false → IsAppended Gives (read_as k false) s [] span more after []
+  over_span : (k : Kind) (s after : S) (bytes span rest more old : List ℕ) → Cuts limit mode.Text bytes k span rest mode.Text
+      → title_behind false k span ≡ false → IsAppended Gives (read_as k false) s [] span more after []
       → GoesOver Gives limit mode.Text false [] s bytes rest after old (old ++ more)
   over_span k s after bytes span rest more old cut none h =
       subst (λ (b : Bool). GoesTo Gives limit mode.Text false [] s bytes rest mode.Text b [] after old (old ++ more)) none
       (to_span mode.Text mode.Text false k [] [] s after bytes span rest more old (old ++ more) cut h refl)
 
-  told_over : (text chars rest old : List ℕ) (s : S) → AllByRecursion IsOther text → IsRead text chars [] → GoesOver Gives limit mode.Text false [] s (text ++ rest) rest s old (old ++ shown_chars chars)
+  told_over : (text chars rest old : List ℕ) (s : S) → AllByRecursion IsOther text → IsRead text chars []
+      → GoesOver Gives limit mode.Text false [] s (text ++ rest) rest s old (old ++ shown_chars chars)
   told_over [] chars rest old s other read = rw (no_chars chars read, append-nil old) (over_none mode.Text false [] s rest old)
   told_over (b ∷ text) chars rest old s other read =
       over_span kind.Text s s ((b ∷ text) ++ rest) (b ∷ text) rest (shown_chars chars) old (told_cut limit (b ∷ text) rest (omega arith) other) refl (chars, read, refl, refl)
@@ -149,7 +154,8 @@ module _ {S : Type 0} (Gives : RuleOf S) (limit : ℕ) where
       over_span kind.Csi s after bytes (take len bytes) (drop len bytes) text old (sequence_cut limit len bytes one short) refl (text, gives, ap (λ t. t ++ text) (sym shown_none), refl)
 
   -- a sequence that a rule took at once, or none
-  pub over_taken : (len : ℕ) (s after : S) (bytes old new : List ℕ) → len ≤ limit → (0 < len → (text : List ℕ) × IsSequence (take len bytes) × Gives.sequence s (take len bytes) text after × (new ≡ old ++ text))
+  pub over_taken : (len : ℕ) (s after : S) (bytes old new : List ℕ) → len ≤ limit
+      → (0 < len → (text : List ℕ) × IsSequence (take len bytes) × Gives.sequence s (take len bytes) text after × (new ≡ old ++ text))
       → (len ≡ 0 → (after ≡ s) × (new ≡ old)) → GoesOver Gives limit mode.Text false [] s bytes (drop len bytes) after old new
   over_taken zero s after bytes old new short taken none = let h = none refl in rw (h.0, h.1) (over_none mode.Text false [] s bytes old)
   over_taken (suc n) s after bytes old new short taken none =

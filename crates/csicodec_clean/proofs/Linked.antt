@@ -7,7 +7,8 @@ use Rattle.std.proofs.lemmas.Grind.{flat_map-append}
 use Rattle.std.proofs.lemmas.Bool.Decides.{nat_tests}
 use Rattle.csicodec_clean.specs.declared.links.LinkState.{LinkState}
 use Rattle.csicodec_clean.specs.declared.links.LinkState.TheVariants as place
-use Rattle.csicodec_clean.specs.Links.{Address, Begun, IsLink, IsWithin, admitted, all_behind, anew, begun, behind, behind_at, ends_at, is_linked, is_param, is_visible, link_body, link_text, link_texts, links_at, links_in, longest_params, longest_url, next}
+use Rattle.csicodec_clean.specs.Links.{Address, Begun, IsLink, IsWithin, admitted, all_behind, anew, begun, behind, behind_at, ends_at, is_linked}
+use Rattle.csicodec_clean.specs.Links.{is_param, is_visible, link_body, link_text, link_texts, links_at, links_in, longest_params, longest_url, next}
 use Rattle.csicodec_clean.proofs.Hosts.{led_all, led_few, led_twice}
 
 -- ---- bytes behind bytes
@@ -33,15 +34,19 @@ links_none (c ∷ bytes) b = links_none bytes b
 
 -- a byte more
 pub links_more : (b old : Begun) (xs : List ℕ) (c : ℕ) → old ≡ all_behind true b xs → links_in true b (xs ++ c ∷ []) ≡ links_in true b xs ++ links_at true old c
-links_more b old xs c here = links_on true xs (c ∷ []) b ∙ ap (λ (t : List Address). links_in true b xs ++ t) (append-nil (links_at true (all_behind true b xs) c)) ∙ ap (λ (t : Begun). links_in true b xs ++ links_at true t c) (sym here)
+links_more b old xs c here =
+    links_on true xs (c ∷ []) b ∙ ap (λ (t : List Address). links_in true b xs ++ t) (append-nil (links_at true (all_behind true b xs) c))
+    ∙ ap (λ (t : Begun). links_in true b xs ++ links_at true t c) (sym here)
 
-pub texts_more : (b old : Begun) (xs : List ℕ) (c : ℕ) (first out text : List ℕ) → old ≡ all_behind true b xs → out ≡ first ++ link_texts (links_in true b xs) → text ≡ out ++ link_texts (links_at true old c)
+pub texts_more : (b old : Begun) (xs : List ℕ) (c : ℕ) (first out text : List ℕ) → old ≡ all_behind true b xs
+    → out ≡ first ++ link_texts (links_in true b xs) → text ≡ out ++ link_texts (links_at true old c)
     → text ≡ first ++ link_texts (links_in true b (xs ++ c ∷ []))
 texts_more b old xs c first out text here was now =
     now ∙ ap (λ (t : List ℕ). t ++ link_texts (links_at true old c)) was ∙ append_assoc first (link_texts (links_in true b xs)) (link_texts (links_at true old c))
     ∙ ap (λ (t : List ℕ). first ++ t) (sym (flat_map-append link_text (links_in true b xs) (links_at true old c))) ∙ ap (λ (t : List Address). first ++ link_texts t) (sym (links_more b old xs c here))
 
-pub linked_more : (b old : Begun) (xs : List ℕ) (c : ℕ) (first was now : Bool) → old ≡ all_behind true b xs → was ≡ is_linked first (links_in true b xs) → now ≡ is_linked was (links_at true old c) → now ≡ is_linked first (links_in true b (xs ++ c ∷ []))
+pub linked_more : (b old : Begun) (xs : List ℕ) (c : ℕ) (first was now : Bool) → old ≡ all_behind true b xs
+    → was ≡ is_linked first (links_in true b xs) → now ≡ is_linked was (links_at true old c) → now ≡ is_linked first (links_in true b (xs ++ c ∷ []))
 linked_more b old xs c first was now here e f =
     f ∙ ap (λ (t : Bool). is_linked t (links_at true old c)) e ∙ sym (linked_on first (links_in true b xs) (links_at true old c)) ∙ ap (is_linked first) (sym (links_more b old xs c here))
 
@@ -84,7 +89,8 @@ fine_at place.Params params url c h =
     choose IsFine (c == 59) (begun place.Url params []) (if test then more else other) (λ e. record { params = h.params; few = h.few; url = tt; short = omega arith })
     (λ e. choose IsFine test more other (λ f. fine_param params url c h f) (λ f. h))
 fine_at place.Url params url c h =
-    choose IsFine (is_visible c && nat_lt (length url) longest_url) (begun place.Url params (url ++ c ∷ [])) (begun (if c == 27 then place.Ending else place.Outside) params url) (λ e. fine_url params url c h e) (λ e. h)
+    choose IsFine (is_visible c && nat_lt (length url) longest_url) (begun place.Url params (url ++ c ∷ []))
+    (begun (if c == 27 then place.Ending else place.Outside) params url) (λ e. fine_url params url c h e) (λ e. h)
 fine_at _ params url c h = h
 
 fine_next : (passing : Bool) (b : Begun) (c : ℕ) → IsFine b → IsFine (next passing b c)
@@ -105,7 +111,8 @@ pub fine_links : (passing : Bool) (bytes : List ℕ) (b : Begun) → IsWithin b.
 fine_links passing [] b h = tt
 fine_links passing (c ∷ bytes) b h = by (passing && ends_at b.place c) (fine_links passing bytes (next passing b c) (fine_next passing b c h))
   where
-    by : (over : Bool) → AllByRecursion IsLink (links_in passing (next passing b c) bytes) → AllByRecursion IsLink ((if over then admitted b.address ∷ [] else []) ++ links_in passing (next passing b c) bytes)
+    by : (over : Bool) → AllByRecursion IsLink (links_in passing (next passing b c) bytes)
+        → AllByRecursion IsLink ((if over then admitted b.address ∷ [] else []) ++ links_in passing (next passing b c) bytes)
     by true rest = (fine_admitted b.address h, rest)
     by false rest = rest
 
@@ -134,7 +141,8 @@ one_param params url c h room =
     let more = begun place.Params (params ++ c ∷ []) url in
     let other = begun (anew c) params url in
     let test = is_param c && nat_lt (length params) longest_params in
-    skip (c == 59) (begun place.Url params []) (if test then more else other) (no_semicolon c h) ∙ pick test more other (and_from (is_param c) (nat_lt (length params) longest_params) h (lt-ltb (length params) longest_params room))
+    skip (c == 59) (begun place.Url params []) (if test then more else other) (no_semicolon c h)
+    ∙ pick test more other (and_from (is_param c) (nat_lt (length params) longest_params) h (lt-ltb (length params) longest_params room))
 
 one_url : (params url : List ℕ) (c : ℕ) → is_visible c ≡ true → length url < longest_url → behind_at place.Url params url c ≡ begun place.Url params (url ++ c ∷ [])
 one_url params url c h room =
@@ -151,7 +159,8 @@ reads_on b mid after xs ys h k = (
   behind_on true xs ys b ∙ ap (λ (t : Begun). all_behind true t ys) h.1 ∙ k.1,
 )
 
-params_read : (ps params url : List ℕ) → AllByRecursion (λ b. is_param b ≡ true) ps → length params + length ps ≤ longest_params → Reads (begun place.Params params url) ps (begun place.Params (params ++ ps) url)
+params_read : (ps params url : List ℕ) → AllByRecursion (λ b. is_param b ≡ true) ps → length params + length ps ≤ longest_params
+    → Reads (begun place.Params params url) ps (begun place.Params (params ++ ps) url)
 params_read [] params url h room = (refl, ap (λ (t : List ℕ). begun place.Params t url) (sym (append-nil params)))
 params_read (c ∷ ps) params url h room =
     let one = one_param params url c h.0 (omega (arith, room)) in
@@ -166,7 +175,8 @@ url_read (c ∷ us) params url h room =
     let one = one_url params url c h.0 (omega (arith, room)) in
     let later = url_read us params (url ++ c ∷ []) h.1 (omega (arith, room, length-append url (c ∷ []))) in
     let here : Begun = behind_at place.Url params url c in (
-      ap (λ (t : List Address). t ++ links_in true here us) (no_link (c == 7) (admitted (record { params = params; url = url }) ∷ []) (no_bell c h.0)) ∙ ap (λ (t : Begun). links_in true t us) one ∙ later.0,
+      ap (λ (t : List Address). t ++ links_in true here us) (no_link (c == 7) (admitted (record { params = params; url = url }) ∷ []) (no_bell c h.0))
+          ∙ ap (λ (t : Begun). links_in true t us) one ∙ later.0,
       ap (λ (t : Begun). all_behind true t us) one ∙ later.1 ∙ ap (λ (t : List ℕ). begun place.Url params t) (append_assoc url (c ∷ []) us),
     )
 
@@ -183,7 +193,8 @@ body_read a params url h =
     (reads_on (begun place.Params [] url) (begun place.Params a.params url) end a.params (59 ∷ a.url) named later)
 
 -- what passes of a link does, whatever link came before
-pub passes : (a : Address) (params url end : List ℕ) → IsWithin a → links_in true (begun place.Url a.params a.url) end ≡ admitted a ∷ [] → links_in true (begun place.Outside params url) (27 ∷ 93 ∷ (link_body a ++ end)) ≡ admitted a ∷ []
+pub passes : (a : Address) (params url end : List ℕ) → IsWithin a → links_in true (begun place.Url a.params a.url) end ≡ admitted a ∷ []
+    → links_in true (begun place.Outside params url) (27 ∷ 93 ∷ (link_body a ++ end)) ≡ admitted a ∷ []
 passes a params url end h over =
     let body = body_read a params url h in
     links_on true (link_body a) end (begun place.Opened params url) ∙ ap (λ (t : List Address). t ++ links_in true (all_behind true (begun place.Opened params url) (link_body a)) end) body.0

@@ -1,5 +1,6 @@
 -- What `clean` leaves is safe by its bytes alone.
-use Rattle.std.proofs.Common.{◌≡◌, ◌≢◌, ◌<◌, ◌≤◌, ◌+◌, ◌/◌, ◌%◌, ℕ, Bool, true, false, cond, List, [], ◌∷◌, ◌++◌, ◌⊎◌, inl, inr, length, refl, sym, ap, subst, ◌∙◌, append_assoc, arith, ⊎_elim, lt-ltb, le-ltb}
+use Rattle.std.proofs.Common.{◌≡◌, ◌≢◌, ◌<◌, ◌≤◌, ◌+◌, ◌/◌, ◌%◌, ℕ, Bool, true, false, cond, List, [], ◌∷◌, ◌++◌, ◌⊎◌}
+use Rattle.std.proofs.Common.{inl, inr, length, refl, sym, ap, subst, ◌∙◌, append_assoc, arith, ⊎_elim, lt-ltb, le-ltb}
 use Rattle.std.specs.Prelude.{codes, nat_lt, not, ◌==◌, ◌&&◌, if◌then◌else◌}
 use Rattle.std.specs.Char.{encode_utf8}
 use Rattle.std.specs.List.{AllByRecursion}
@@ -55,7 +56,8 @@ spells c h =
     (λ (b : c < 2048). rw (le-ltb c 128 a, lt-ltb c 2048 b) (two_bytes c (shown_from c a h) b))
     (λ (b : 2048 ≤ c). ⊎_elim
     (λ (d : c < 65536). rw (le-ltb c 128 a, le-ltb c 2048 b, lt-ltb c 65536 d) (inr (inr (within (224 + c / 4096) 224 (omega arith) (omega arith), (next_byte (c / 64), (next_byte c, tt))))))
-    (λ (d : 65536 ≤ c). rw (le-ltb c 128 a, le-ltb c 2048 b, le-ltb c 65536 d) (inr (inr (within (240 + c / 262144) 240 (omega arith) (omega arith), (next_byte (c / 4096), (next_byte (c / 64), (next_byte c, tt)))))))
+    (λ (d : 65536 ≤ c).
+    rw (le-ltb c 128 a, le-ltb c 2048 b, le-ltb c 65536 d) (inr (inr (within (240 + c / 262144) 240 (omega arith) (omega arith), (next_byte (c / 4096), (next_byte (c / 64), (next_byte c, tt)))))))
     (cases_lt c 65536))
     (cases_lt c 2048))
     (cases_lt c 128)
@@ -102,7 +104,8 @@ no_final : (b : ℕ) → IsCode b → b ≢ 109
 no_final b (inl digit) = λ e. absurd (omega (arith, e, digit.1))
 no_final b (inr colon) = λ e. absurd (omega (arith, e, colon))
 
-on_number : (links zeros styled linked : Bool) (b : ℕ) (more : List ℕ) → IsCode b → is_marked links (Numbers zeros) styled linked (b ∷ more) ≡ is_marked links (Numbers (zeros && b == 48)) styled linked more
+on_number : (links zeros styled linked : Bool) (b : ℕ) (more : List ℕ) → IsCode b
+    → is_marked links (Numbers zeros) styled linked (b ∷ more) ≡ is_marked links (Numbers (zeros && b == 48)) styled linked more
 on_number links zeros styled linked b more h = rw (ne_eqb b 109 (no_final b h), number_byte b h) refl
 
 numbers_marked : (links zeros styled linked : Bool) (body more : List ℕ) → AreCodes body → Behind links (Numbers zeros) styled linked (body ++ 109 ∷ []) more
@@ -146,11 +149,13 @@ url_stays some b h =
     let other : (b == 27) ≡ false = ne_eqb b 27 (λ same. absurd (grind (arith, nat_tests))) in
     rw (other, h) refl
 
-url_marked : (styled linked : Bool) (us more : List ℕ) → AllByRecursion (λ b. is_visible b ≡ true) us → is_marked true (Url true) styled linked (us ++ 27 ∷ 92 ∷ more) ≡ is_marked true Text styled true more
+url_marked : (styled linked : Bool) (us more : List ℕ) → AllByRecursion (λ b. is_visible b ≡ true) us
+    → is_marked true (Url true) styled linked (us ++ 27 ∷ 92 ∷ more) ≡ is_marked true Text styled true more
 url_marked styled linked [] more h = refl
 url_marked styled linked (b ∷ us) more h = ap (λ (s : Stand). is_marked true s styled linked (us ++ 27 ∷ 92 ∷ more)) (url_stays true b h.0) ∙ url_marked styled linked us more h.1
 
-address_marked : (styled linked : Bool) (us more : List ℕ) → AllByRecursion (λ b. is_visible b ≡ true) us → is_marked true (Url false) styled linked (us ++ 27 ∷ 92 ∷ more) ≡ is_marked true Text styled (not (length us == 0)) more
+address_marked : (styled linked : Bool) (us more : List ℕ) → AllByRecursion (λ b. is_visible b ≡ true) us
+    → is_marked true (Url false) styled linked (us ++ 27 ∷ 92 ∷ more) ≡ is_marked true Text styled (not (length us == 0)) more
 address_marked styled linked [] more h = refl
 address_marked styled linked (b ∷ us) more h =
     ap (λ (s : Stand). is_marked true s styled linked (us ++ 27 ∷ 92 ∷ more)) (url_stays false b h.0) ∙ url_marked styled linked us more h.1
@@ -165,7 +170,8 @@ link_marked styled linked a more h =
 
 -- ---- all of it
 
-items_marked : (d : Passing) (styled opened linked : Bool) (items : List Item) → AllByRecursion (IsSafe d) items → (opened ≡ false → styled ≡ false) → is_open opened (styles_of items) ≡ false → is_linked linked (links_of items) ≡ false
+items_marked : (d : Passing) (styled opened linked : Bool) (items : List Item) → AllByRecursion (IsSafe d) items → (opened ≡ false → styled ≡ false)
+    → is_open opened (styles_of items) ≡ false → is_linked linked (links_of items) ≡ false
     → is_marked d.links Text styled linked (item_texts items) ≡ true
 items_marked d styled opened linked [] h f o k = rw (f o, k) refl
 items_marked d styled opened linked (Shown c ∷ items) h f o k = char_marked d.links styled linked c (item_texts items) h.0.0 ∙ items_marked d styled opened linked items h.1 f o k

@@ -40,7 +40,8 @@ flag_is true styles now e = ap (λ n. n == 1) e ∙ byte_is (is_open true styles
 flag_is false styles now e = ap (λ n. n == 1) e ∙ byte_is (is_open false styles)
 
 -- from the note, and what was appended of it
-pub recalled : (d : Depth) (styled : Bool) (bytes note wide more old new : List ℕ) (now : ℕ) → IsNoted bytes note → get_or note 0 0 ≡ depth_byte d → now ≡ cond styled (get_or note 2 0) (get_or note 1 0) → wide ≡ note ++ more
+pub recalled : (d : Depth) (styled : Bool) (bytes note wide more old new : List ℕ) (now : ℕ) → IsNoted bytes note → get_or note 0 0 ≡ depth_byte d
+    → now ≡ cond styled (get_or note 2 0) (get_or note 1 0) → wide ≡ note ++ more
     → new ≡ old ++ take (length note - 3) (drop 3 wide) → IsLeft d styled bytes (now == 1) old new
 recalled d styled bytes note wide more old new now (e, actions, is, noted) byte opened w longer =
     let same : e ≡ d = same_depth e d (sym (ap (λ l. get_or l 0 0) noted) ∙ byte) in
@@ -69,7 +70,8 @@ color_note Back color = ap (λ l. 0 ∷ 1 ∷ 1 ∷ l) (append-nil (27 ∷ 91 �
 color_note Line color = ap (λ l. 0 ∷ 1 ∷ 1 ∷ l) (append-nil (27 ∷ 91 ∷ sgr_text (painted Line color)))
 
 -- what is noted of it, by what begins with its text
-pub color_noted : (bytes rest own text note : List ℕ) (style : Sgr) (len : ℕ) → IsColored bytes style rest → IsTakenFor own (SgrAction style ∷ []) → take (len + 1) text ≡ 27 ∷ 91 ∷ sgr_text style → note ≡ take (len + 4) (0 ∷ 1 ∷ 1 ∷ text)
+pub color_noted : (bytes rest own text note : List ℕ) (style : Sgr) (len : ℕ) → IsColored bytes style rest → IsTakenFor own (SgrAction style ∷ [])
+    → take (len + 1) text ≡ 27 ∷ 91 ∷ sgr_text style → note ≡ take (len + 4) (0 ∷ 1 ∷ 1 ∷ text)
     → IsNoted own note
 color_noted bytes rest own text note style len (plane, color, opaque, paints, stands) is told noted =
     let longer : len + 4 ≡ suc (suc (suc (len + 1))) = omega arith in
@@ -82,7 +84,8 @@ color_open Back color styled = refl
 color_open Line color styled = refl
 
 -- and what is left of it
-pub color_left : (bytes rest own old new : List ℕ) (style : Sgr) (styled : Bool) → IsColored bytes style rest → IsTakenFor own (SgrAction style ∷ []) → new ≡ old ++ 27 ∷ 91 ∷ sgr_text style → IsLeft depth.Full styled own true old new
+pub color_left : (bytes rest own old new : List ℕ) (style : Sgr) (styled : Bool) → IsColored bytes style rest → IsTakenFor own (SgrAction style ∷ [])
+    → new ≡ old ++ 27 ∷ 91 ∷ sgr_text style → IsLeft depth.Full styled own true old new
 color_left bytes rest own old new style styled (plane, color, opaque, paints, stands) is longer =
     let text : 27 ∷ 91 ∷ sgr_text style ≡ texts (map SgrAction (kept depth.Full (SgrAction style ∷ []))) =
     subst (λ (s : Sgr). 27 ∷ 91 ∷ sgr_text s ≡ texts (map SgrAction (kept depth.Full (SgrAction s ∷ [])))) (sym paints) (ap (drop 3) (sym (color_note plane color))) in
@@ -92,7 +95,8 @@ color_left bytes rest own old new style styled (plane, color, opaque, paints, st
 
 -- ---- what the table reads of it, as terminals take it
 
-pub closed_taken : (bytes : List ℕ) (list : List CsiParam) (final : ℕ) (actions : List Action) → Seq bytes list final → Actions list false final actions → has_unknown actions ≡ false → leaves_out (group list final) list ≡ false → IsTakenFor bytes actions
+pub closed_taken : (bytes : List ℕ) (list : List CsiParam) (final : ℕ) (actions : List Action) → Seq bytes list final
+    → Actions list false final actions → has_unknown actions ≡ false → leaves_out (group list final) list ≡ false → IsTakenFor bytes actions
 closed_taken bytes list final actions seq are known closed = (list, final, seq, (actions, are, rw (known, closed) refl))
 
 no_style : (pieces : List Action) (body rest : List CsiParam) (final : ℕ) (to : Cursor) → Cut Styles body pieces rest → Move to ∷ [] ≡ pieces ++ remainder Styles rest false final → ⊥

@@ -62,7 +62,8 @@ module _ {S : Type 0} (Gives : RuleOf S) where
             subst (λ (x : List ℕ). Goes Gives longest p.mode p.titled s run chars (drop p.held again ++ more) text (drop q.held (left ++ rest)) q.mode q.titled t x) (sym now) g2;
       }
 
-  pub stepped : (s t : S) (p q : Pause) (bytes held behind text before left rest : List ℕ) (used : ℕ) → held ≡ take p.held bytes → behind ≡ drop p.held bytes → held ++ behind ≡ before ++ (left ++ rest)
+  pub stepped : (s t : S) (p q : Pause) (bytes held behind text before left rest : List ℕ) (used : ℕ) → held ≡ take p.held bytes
+      → behind ≡ drop p.held bytes → held ++ behind ≡ before ++ (left ++ rest)
       → p.held ≤ length bytes → q.held ≡ length left → used ≡ length bytes - (length left + length rest) → (length held ≤ 3 → length left ≤ 3) → IsUnsure longest q.mode rest
       → ((run chars : List ℕ) → IsRead run chars held → Goes Gives longest p.mode p.titled s run chars behind text rest q.mode q.titled t left)
       → Steps Gives s p bytes text t q (drop used bytes)
@@ -94,19 +95,22 @@ same_behind [] d t text after h = h.1
 same_behind (b ∷ bytes) d t text after (first, mid, others, byte, e, rest) =
     same_behind bytes d t others after (subst (λ (k : Keeping). AreGiven (keeps (λ (x : Keeping). x)) k bytes others after) byte.1 rest)
 
-resumed_step : (k : Kind) (d : Depth) (t : Bool) (run bytes text : List ℕ) (after : Keeping) (left : List ℕ) → IsStep (keeps (λ (x : Keeping). x)) k (resumed d t) run bytes text after left → (u : Bool) × (after ≡ resumed d u)
+resumed_step : (k : Kind) (d : Depth) (t : Bool) (run bytes text : List ℕ) (after : Keeping) (left : List ℕ)
+    → IsStep (keeps (λ (x : Keeping). x)) k (resumed d t) run bytes text after left → (u : Bool) × (after ≡ resumed d u)
 resumed_step kind.Csi d t run bytes text after left (own, (actions, is, out, same), e, none) = (_, same)
 resumed_step kind.Str d t run bytes text after left (own, given, e, none) = (t, same_behind bytes d t own after given)
 resumed_step _ d t run bytes text after left h = (t, h.1)
 
-resumed_steps : (ps : List Part) (d : Depth) (t : Bool) (run text : List ℕ) (after : Keeping) (left : List ℕ) → AreSteps (keeps (λ (x : Keeping). x)) (resumed d t) run ps text after left → (u : Bool) × (after ≡ resumed d u)
+resumed_steps : (ps : List Part) (d : Depth) (t : Bool) (run text : List ℕ) (after : Keeping) (left : List ℕ)
+    → AreSteps (keeps (λ (x : Keeping). x)) (resumed d t) run ps text after left → (u : Bool) × (after ≡ resumed d u)
 resumed_steps [] d t run text after left h = (t, h.1)
 resumed_steps (p ∷ ps) d t run text after left (first, mid, next, others, step, e, rest) =
     let (u, same) = resumed_step p.kind d t run p.bytes first mid next step in
     resumed_steps ps d u next others after left (subst (λ (k : Keeping). AreSteps (keeps (λ (x : Keeping). x)) k next ps others after left) same rest)
 
 -- so the state behind a step is plain data, too
-pub styled_steps : (d : Depth) (t u : Bool) (s k : Keeping) (p q : Pause) (bytes made rest : List ℕ) → s ≡ resumed d t → u ≡ k.styled → p.held ≤ length bytes → Steps (keeps (λ (x : Keeping). x)) s p bytes made k q rest
+pub styled_steps : (d : Depth) (t u : Bool) (s k : Keeping) (p q : Pause) (bytes made rest : List ℕ) → s ≡ resumed d t → u ≡ k.styled
+    → p.held ≤ length bytes → Steps (keeps (λ (x : Keeping). x)) s p bytes made k q rest
     → Steps (keeps (λ (x : Keeping). x)) (resumed d t) p bytes made (resumed d u) (record { mode = q.mode; titled = q.titled; styled = u; held = q.held }) rest
 styled_steps d t u s k p q bytes made rest is same_styled low h =
     let began : Steps (keeps (λ (z : Keeping). z)) (resumed d t) p bytes made k q rest = subst (λ (x : Keeping). Steps (keeps (λ (z : Keeping). z)) x p bytes made k q rest) is h in
@@ -130,7 +134,8 @@ pub stripped_steps : (chunks : List (List ℕ)) (made rest : List ℕ) (last : P
     → Strips longest (concat chunks) (made ++ ending last rest)
 stripped_steps chunks made rest last stepped none =
     let taken = stepped_taken {S = Dropped} drops (λ (b : Bool). bare) beginning last [] chunks made rest (omega arith) stepped in
-    let all = strips longest bare (concat chunks) (made ++ (shown_text (take last.held rest) ++ [])) (any_chunks {S = Dropped} drops ends_bare bare chunks made [] (between bare last rest) taken refl) in
+    let all =
+    strips longest bare (concat chunks) (made ++ (shown_text (take last.held rest) ++ [])) (any_chunks {S = Dropped} drops ends_bare bare chunks made [] (between bare last rest) taken refl) in
     subst (λ (x : List ℕ). Strips longest (concat chunks) (made ++ x)) (bare_end last.styled (shown_text (take last.held rest)) none) all
 
 pub cleaned_steps : (d : Depth) (chunks : List (List ℕ)) (made rest : List ℕ) (last : Pause) → AreStepped (keeps (λ (k : Keeping). k)) (resumed d) beginning [] chunks made last rest

@@ -1,5 +1,6 @@
 -- What is shown is plain.
-use Rattle.std.proofs.Common.{◌≡◌, ◌≤◌, ℕ, zero, suc, Bool, true, false, cond, Option, None, Some, List, [], ◌∷◌, ◌++◌, length, length-drop, drop, encode_utf8_all, refl, sym, ap, subst, ◌∙◌, append_assoc, append-nil, arith}
+use Rattle.std.proofs.Common.{◌≡◌, ◌≤◌, ℕ, zero, suc, Bool, true, false, cond, Option, None, Some, List, [], ◌∷◌, ◌++◌}
+use Rattle.std.proofs.Common.{length, length-drop, drop, encode_utf8_all, refl, sym, ap, subst, ◌∙◌, append_assoc, append-nil, arith}
 use Rattle.std.specs.Prelude.{filter}
 use Rattle.std.specs.List.{AllByRecursion}
 use Rattle.std.specs.Str.{all_scalars}
@@ -87,7 +88,8 @@ module _ {S : Type 0} where
   steps_stripped (p ∷ ps) qs s after run text last (first, mid, next, others, step, e, rest) =
       by p.kind step ∙ ap (λ t. first ++ t) (steps_stripped ps qs mid after next others last rest) ∙ sym (append_assoc first others (stripped last qs)) ∙ ap (λ t. t ++ stripped last qs) (sym e)
     where
-      by : (k : Kind) → IsStep {S = S} drops k s run p.bytes first mid next → cond (is_text k) (stripped (run ++ p.bytes) (ps ++ qs)) (shown_text run ++ stripped [] (ps ++ qs)) ≡ first ++ stripped next (ps ++ qs)
+      by : (k : Kind) → IsStep {S = S} drops k s run p.bytes first mid next
+          → cond (is_text k) (stripped (run ++ p.bytes) (ps ++ qs)) (shown_text run ++ stripped [] (ps ++ qs)) ≡ first ++ stripped next (ps ++ qs)
       by kind.Text (a, b, c) = rw (a, c) refl
       by kind.Csi (own, none, a, b) = rw (a, b, none, append-nil (shown_text run)) refl
       by kind.Esc (a, b, c) = rw (a, c) refl

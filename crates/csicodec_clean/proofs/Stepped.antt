@@ -17,7 +17,8 @@ use Rattle.csicodec_clean.proofs.Titles.{open_on, titled, titles_on}
 use Rattle.csicodec_clean.proofs.Shows.{shown_none, shown_on, shown_read}
 
 module _ {S : Type 0} (Gives : RuleOf S) where
-  pub steps_on : (ps qs : List Part) (s mid after : S) (run between left t u : List ℕ) → AreSteps Gives s run ps t mid between → AreSteps Gives mid between qs u after left → AreSteps Gives s run (ps ++ qs) (t ++ u) after left
+  pub steps_on : (ps qs : List Part) (s mid after : S) (run between left t u : List ℕ) → AreSteps Gives s run ps t mid between
+      → AreSteps Gives mid between qs u after left → AreSteps Gives s run (ps ++ qs) (t ++ u) after left
   steps_on [] qs s mid after run between left t u h k = rw (h.0, ← h.1, ← h.2) k
   steps_on (p ∷ ps) qs s mid after run between left t u h k =
       (h.0, h.1, h.2, h.3 ++ u, h.4, ap (λ (x : List ℕ). x ++ u) h.5 ∙ append_assoc h.0 h.3 u, steps_on ps qs h.1 mid after h.2 between left h.3 u h.6 k)
@@ -30,13 +31,15 @@ module _ {S : Type 0} (Gives : RuleOf S) where
       ([], s, run ++ p.bytes, [], step, refl, others)
 
   -- parts of a kind that ends a run and is dropped
-  dropped : (k : Kind) (ps : List Part) (s : S) → ((run bytes : List ℕ) → IsStep Gives k s run bytes (shown_text run) s []) → AllByRecursion (λ (p : Part). p.kind ≡ k) ps → AreSteps Gives s [] ps [] s []
+  dropped : (k : Kind) (ps : List Part) (s : S) → ((run bytes : List ℕ) → IsStep Gives k s run bytes (shown_text run) s [])
+      → AllByRecursion (λ (p : Part). p.kind ≡ k) ps → AreSteps Gives s [] ps [] s []
   dropped k [] s f h = (refl, refl, refl)
   dropped k (p ∷ ps) s f h =
       let step : IsStep Gives p.kind s [] p.bytes (shown_text []) s [] = rw h.0 (f [] p.bytes) in
       (shown_text [], s, [], [], step, sym (append-nil (shown_text []) ∙ shown_none), dropped k ps s f h.1)
 
-  drops : (k : Kind) (bytes : List ℕ) (ps : List Part) (s : S) (run : List ℕ) → ((run bytes : List ℕ) → IsStep Gives k s run bytes (shown_text run) s []) → AreAll k bytes ps → AreSteps Gives s run ps (shown_text run) s []
+  drops : (k : Kind) (bytes : List ℕ) (ps : List Part) (s : S) (run : List ℕ)
+      → ((run bytes : List ℕ) → IsStep Gives k s run bytes (shown_text run) s []) → AreAll k bytes ps → AreSteps Gives s run ps (shown_text run) s []
   drops k bytes [] s run f h = absurd (omega (arith, h.some))
   drops k bytes (p ∷ ps) s run f h =
       let step : IsStep Gives p.kind s run p.bytes (shown_text run) s [] = rw h.all.0 (f run p.bytes) in
@@ -67,7 +70,8 @@ module _ {S : Type 0} (Gives : RuleOf S) where
         all = e ∙ ap (λ (t : List ℕ). head ++ t) r.all ∙ sym (append_assoc head r.first r.others);
       }
 
-  later_strings : (ps : List Part) (s after : S) (own : List ℕ) → AllByRecursion (λ (p : Part). p.kind ≡ kind.Str) ps → AreGiven Gives s (flat_map bytes_of ps) own after → AreSteps Gives s [] ps own after []
+  later_strings : (ps : List Part) (s after : S) (own : List ℕ) → AllByRecursion (λ (p : Part). p.kind ≡ kind.Str) ps
+      → AreGiven Gives s (flat_map bytes_of ps) own after → AreSteps Gives s [] ps own after []
   later_strings [] s after own h g = (g.0, g.1, refl)
   later_strings (p ∷ ps) s after own h g =
       let r = parted p.bytes (flat_map bytes_of ps) s after own g in
@@ -101,7 +105,9 @@ module _ {S : Type 0} (Gives : RuleOf S) where
     read = [];
     steps = steps;
     is_read = rw none (read_none []);
-    same = ap (λ t. shown_chars chars ++ t) e ∙ sym (append_assoc (shown_chars chars) (shown_text held) own) ∙ ap (λ t. t ++ own) (sym (shown_read run chars held read)) ∙ sym (append-nil (shown_text run ++ own));
+    same =
+        ap (λ t. shown_chars chars ++ t) e ∙ sym (append_assoc (shown_chars chars) (shown_text held) own)
+        ∙ ap (λ t. t ++ own) (sym (shown_read run chars held read)) ∙ sym (append-nil (shown_text run ++ own));
   }
 
   no_own : (s : S) (run chars held : List ℕ) (ps : List Part) (more : List ℕ) (after : S) (left : List ℕ) → IsRead run chars held → (more ≡ shown_text held) × (after ≡ s) × (left ≡ [])
@@ -109,7 +115,8 @@ module _ {S : Type 0} (Gives : RuleOf S) where
   no_own s run chars held ps more after left read h steps =
       ended s run chars held ps [] more after left read (h.0 ∙ sym (append-nil (shown_text held))) h.2 (rw (h.1, append-nil (shown_text run)) steps)
 
-  pub spanned : (k : Kind) (s : S) (run chars held bytes more : List ℕ) (ps : List Part) (after : S) (left : List ℕ) → IsSpan k bytes ps → IsRead run chars held → IsAppended Gives k s held bytes more after left
+  pub spanned : (k : Kind) (s : S) (run chars held bytes more : List ℕ) (ps : List Part) (after : S) (left : List ℕ) → IsSpan k bytes ps
+      → IsRead run chars held → IsAppended Gives k s held bytes more after left
       → Spanned s run chars ps more after left
   spanned kind.Text s run chars held bytes more ps after left span read (now, later, e, same) = record {
     text = [];
@@ -133,7 +140,8 @@ module _ {S : Type 0} (Gives : RuleOf S) where
       record { parts = []; text = []; left = run; read = chars; first = (refl, refl); titles = refl; steps = (refl, refl, refl); is_read = read; same = append-nil (shown_chars chars) }
 
   -- and then more
-  pub goes_then : (limit : ℕ) (m n a : Mode) (t u v : Bool) (s mid after : S) (run chars bytes one behind held two rest last : List ℕ) → (g : Goes Gives limit m t s run chars bytes one behind n u mid held)
+  pub goes_then : (limit : ℕ) (m n a : Mode) (t u v : Bool) (s mid after : S) (run chars bytes one behind held two rest last : List ℕ)
+      → (g : Goes Gives limit m t s run chars bytes one behind n u mid held)
       → Goes Gives limit n u mid g.left g.read behind two rest a v after last → Goes Gives limit m t s run chars bytes (one ++ two) rest a v after last
   goes_then limit m n a t u v s mid after run chars bytes one behind held two rest last g k =
       let all : with_titles t (g.parts ++ k.parts) ≡ with_titles t g.parts ++ with_titles u k.parts =

@@ -18,7 +18,8 @@ use Rattle.csicodec_clean.specs.declared.links.LinkState.{LinkState}
 use Rattle.csicodec_clean.specs.declared.links.LinkState.TheVariants as place
 use Rattle.csicodec_clean.specs.declared.styles.Passing.{Passing}
 use Rattle.csicodec_clean.specs.Cleaned.{longest}
-use Rattle.csicodec_clean.specs.Links.{Address, Begun, IsAdmitted, IsWithin, Spells, Stood, StoodIn, admitted, all_behind, anew, begun, behind, behind_at, ends_at, is_linked, is_param, is_visible, link_body, links_in, longest_params, longest_url, opened, start}
+use Rattle.csicodec_clean.specs.Links.{Address, Begun, IsAdmitted, IsWithin, Spells, Stood, StoodIn, admitted, all_behind, anew, begun, behind}
+use Rattle.csicodec_clean.specs.Links.{behind_at, ends_at, is_linked, is_param, is_visible, link_body, links_in, longest_params, longest_url, opened, start}
 use Rattle.csicodec_clean.specs.Shown.{shown}
 use Rattle.csicodec_clean.specs.Styled.{kept, Item, Link, shown_items, Leaves, begun_behind, run_behind, items_behind, AreLeft, links_of, ends_of, is_open, styles_of, IsSafe, StylesIn}
 use Rattle.csicodec_clean.specs.Titles.{read_as, title_behind, with_titles}
@@ -69,7 +70,8 @@ begins_anew bytes params url c =
 opens_one : (bytes params url : List ℕ) (c : ℕ) → EndsWith ((bytes ++ 27 ∷ []) ++ c ∷ []) (begun (opened c) params url)
 opens_one bytes params url c =
     let all = (bytes ++ 27 ∷ []) ++ c ∷ [] in
-    either (λ (p : LinkState). EndsWith all (begun p params url)) (c == 93) place.Opened place.Outside (λ e. (bytes, append_assoc bytes (27 ∷ []) (c ∷ []) ∙ ap (λ (x : ℕ). bytes ++ 27 ∷ x ∷ []) (eqb-true c 93 e)))
+    either (λ (p : LinkState). EndsWith all (begun p params url)) (c == 93) place.Opened place.Outside
+    (λ e. (bytes, append_assoc bytes (27 ∷ []) (c ∷ []) ∙ ap (λ (x : ℕ). bytes ++ 27 ∷ x ∷ []) (eqb-true c 93 e)))
     (λ e. (all, sym (append-nil all)))
 
 byte_at : (p : LinkState) (params url : List ℕ) (c : ℕ) → EndsWith (read_of p params url ++ c ∷ []) (behind_at p params url c)
@@ -77,10 +79,12 @@ byte_at place.Outside params url c = begins_anew [] params url c
 byte_at place.Escape params url c = opens_one [] params url c
 byte_at place.Opened params url c =
     let all = 27 ∷ 93 ∷ c ∷ [] in
-    either (λ (p : LinkState). EndsWith all (begun p params url)) (c == 56) place.Eight (anew c) (λ e. ([], ap (λ (x : ℕ). 27 ∷ 93 ∷ x ∷ []) (eqb-true c 56 e))) (λ e. begins_anew (27 ∷ 93 ∷ []) params url c)
+    either (λ (p : LinkState). EndsWith all (begun p params url)) (c == 56) place.Eight (anew c)
+    (λ e. ([], ap (λ (x : ℕ). 27 ∷ 93 ∷ x ∷ []) (eqb-true c 56 e))) (λ e. begins_anew (27 ∷ 93 ∷ []) params url c)
 byte_at place.Eight params url c =
     let all = 27 ∷ 93 ∷ 56 ∷ c ∷ [] in
-    either (EndsWith all) (c == 59) (begun place.Params [] url) (begun (anew c) params url) (λ e. ([], ap (λ (x : ℕ). 27 ∷ 93 ∷ 56 ∷ x ∷ []) (eqb-true c 59 e))) (λ e. begins_anew (27 ∷ 93 ∷ 56 ∷ []) params url c)
+    either (EndsWith all) (c == 59) (begun place.Params [] url) (begun (anew c) params url)
+    (λ e. ([], ap (λ (x : ℕ). 27 ∷ 93 ∷ 56 ∷ x ∷ []) (eqb-true c 59 e))) (λ e. begins_anew (27 ∷ 93 ∷ 56 ∷ []) params url c)
 byte_at place.Params params url c =
     let front = 27 ∷ 93 ∷ 56 ∷ 59 ∷ params in
     let more = begun place.Params (params ++ c ∷ []) url in
@@ -93,7 +97,8 @@ byte_at place.Url params url c =
     let all = front ++ c ∷ [] in
     either (EndsWith all) (is_visible c && nat_lt (length url) longest_url) (begun place.Url params (url ++ c ∷ [])) (begun (if c == 27 then place.Ending else place.Outside) params url)
     (λ e. ([], ap (λ (t : List ℕ). 27 ∷ 93 ∷ 56 ∷ 59 ∷ t) (append_assoc params (59 ∷ url) (c ∷ []))))
-    (λ e. either (λ (p : LinkState). EndsWith all (begun p params url)) (c == 27) place.Ending place.Outside (λ f. ([], ap (λ (x : ℕ). front ++ x ∷ []) (eqb-true c 27 f))) (λ f. (all, sym (append-nil all))))
+    (λ e. either (λ (p : LinkState). EndsWith all (begun p params url)) (c == 27) place.Ending place.Outside
+    (λ f. ([], ap (λ (x : ℕ). front ++ x ∷ []) (eqb-true c 27 f))) (λ f. (all, sym (append-nil all))))
 byte_at place.Ending params url c = opens_one (27 ∷ 93 ∷ 56 ∷ 59 ∷ (params ++ 59 ∷ url)) params url c
 
 byte_more : (bytes : List ℕ) (b : Begun) (c : ℕ) → EndsWith bytes b → EndsWith (bytes ++ c ∷ []) (behind b c)
@@ -115,7 +120,8 @@ stood_in [] done all b whole h = tt
 stood_in (c ∷ bytes) done all b whole h =
     by (ends_at b.place c) (stood_at done bytes all b c whole h) (stood_in bytes (done ++ c ∷ []) all (behind b c) (whole ∙ sym (append_assoc done (c ∷ []) bytes)) (byte_more done b c h))
   where
-    by : (over : Bool) → (over ≡ true → Stood all b.address) → AllByRecursion (IsAdmitted (Stood all)) (links_in true (behind b c) bytes) → AllByRecursion (IsAdmitted (Stood all)) ((if over then admitted b.address ∷ [] else []) ++ links_in true (behind b c) bytes)
+    by : (over : Bool) → (over ≡ true → Stood all b.address) → AllByRecursion (IsAdmitted (Stood all)) (links_in true (behind b c) bytes)
+        → AllByRecursion (IsAdmitted (Stood all)) ((if over then admitted b.address ∷ [] else []) ++ links_in true (behind b c) bytes)
     by true f rest = ((b.address, f refl, refl), rest)
     by false f rest = rest
 
@@ -140,10 +146,12 @@ none_on old params url c e = rw e (tt, inr refl)
 on_at : (p : LinkState) (params url : List ℕ) (c : ℕ) → IsAtRest p → (c == 27) ≡ false → GoesOnBy (read_of p params url) (c ∷ []) (behind_at p params url c)
 on_at place.Outside params url c rest e = none_on [] params url c e
 on_at place.Opened params url c rest e =
-    either (λ (p : LinkState). GoesOnBy (27 ∷ 93 ∷ []) (c ∷ []) (begun p params url)) (c == 56) place.Eight (anew c) (λ f. (tt, inl (ap (λ (x : ℕ). 27 ∷ 93 ∷ x ∷ []) (sym (eqb-true c 56 f))))) (λ f. none_on (27 ∷ 93 ∷ []) params url c e)
+    either (λ (p : LinkState). GoesOnBy (27 ∷ 93 ∷ []) (c ∷ []) (begun p params url)) (c == 56) place.Eight (anew c)
+    (λ f. (tt, inl (ap (λ (x : ℕ). 27 ∷ 93 ∷ x ∷ []) (sym (eqb-true c 56 f))))) (λ f. none_on (27 ∷ 93 ∷ []) params url c e)
 on_at place.Eight params url c rest e =
     let old = 27 ∷ 93 ∷ 56 ∷ [] in
-    either (GoesOnBy old (c ∷ [])) (c == 59) (begun place.Params [] url) (begun (anew c) params url) (λ f. (tt, inl (ap (λ (x : ℕ). 27 ∷ 93 ∷ 56 ∷ x ∷ []) (sym (eqb-true c 59 f))))) (λ f. none_on old params url c e)
+    either (GoesOnBy old (c ∷ [])) (c == 59) (begun place.Params [] url) (begun (anew c) params url)
+    (λ f. (tt, inl (ap (λ (x : ℕ). 27 ∷ 93 ∷ 56 ∷ x ∷ []) (sym (eqb-true c 59 f))))) (λ f. none_on old params url c e)
 on_at place.Params params url c rest e =
     let old = 27 ∷ 93 ∷ 56 ∷ 59 ∷ params in
     let more = begun place.Params (params ++ c ∷ []) url in
@@ -165,7 +173,8 @@ anew_at _ params url c rest = refl
 
 opened_rest : (params url : List ℕ) (c : ℕ) → GoesOnBy [] (27 ∷ c ∷ []) (begun (opened c) params url)
 opened_rest params url c =
-    either (λ (p : LinkState). GoesOnBy [] (27 ∷ c ∷ []) (begun p params url)) (c == 93) place.Opened place.Outside (λ e. (tt, inl (ap (λ (x : ℕ). 27 ∷ x ∷ []) (sym (eqb-true c 93 e))))) (λ e. (tt, inr refl))
+    either (λ (p : LinkState). GoesOnBy [] (27 ∷ c ∷ []) (begun p params url)) (c == 93) place.Opened place.Outside
+    (λ e. (tt, inl (ap (λ (x : ℕ). 27 ∷ x ∷ []) (sym (eqb-true c 93 e))))) (λ e. (tt, inr refl))
 
 rest_behind : (m : Mode) (b : Begun) (bytes : List ℕ) → IsPiece m bytes → IsAtRest b.place → IsAtRest (all_behind true b bytes).place
 rest_behind m b bytes (inl (c, e, other, string)) rest =
@@ -179,7 +188,8 @@ if_over : (P : Address → Type 0) (over : Bool) (a : Address) → (over ≡ tru
 if_over P true a f = ((a, f refl, refl), tt)
 if_over P false a f = tt
 
-over_two : (P : Address → Type 0) (p : LinkState) (params url : List ℕ) (c : ℕ) → IsAtRest p → ((c == 92) ≡ true → Spells (read_of p params url ++ 27 ∷ c ∷ []) (address params url) → P (address params url))
+over_two : (P : Address → Type 0) (p : LinkState) (params url : List ℕ) (c : ℕ) → IsAtRest p
+    → ((c == 92) ≡ true → Spells (read_of p params url ++ 27 ∷ c ∷ []) (address params url) → P (address params url))
     → AllByRecursion (IsAdmitted P) (links_in true (begun p params url) (27 ∷ c ∷ []))
 over_two P place.Escape params url c rest f = absurd rest
 over_two P place.Ending params url c rest f = absurd rest
@@ -254,7 +264,8 @@ after_one whole done later b c split rest o other =
       opens = open_on done b (behind b c) (c ∷ []) o on.1;
     }
 
-after_two : (whole done later : List Part) (m : Mode) (b : Begun) (c : ℕ) → whole ≡ done ++ (part kind.Str (27 ∷ c ∷ []) ∷ later) → Held m done b → (in_string m ≡ false → (c == 92) ≡ false) → After whole done b (27 ∷ c ∷ [])
+after_two : (whole done later : List Part) (m : Mode) (b : Begun) (c : ℕ) → whole ≡ done ++ (part kind.Str (27 ∷ c ∷ []) ∷ later) → Held m done b
+    → (in_string m ≡ false → (c == 92) ≡ false) → After whole done b (27 ∷ c ∷ [])
 after_two whole done later m b c split h other =
     let new = opened_rest b.address.params b.address.url c in
     let same = anew_at b.place b.address.params b.address.url c h.at_rest in
@@ -286,7 +297,8 @@ run_links : (run : List ℕ) → links_of (shown_items run) ≡ []
 run_links run = links_chars (filter shown (lossy_chars run))
 
 -- a part that is no control string leaves no link
-none_left : (d : Depth) (b : Begun) (k : Kind) (run bytes : List ℕ) (own others : List Item) → is_str k ≡ false → Leaves (with_links d) b k bytes own → links_of (items_behind k run ++ (own ++ others)) ≡ links_of others
+none_left : (d : Depth) (b : Begun) (k : Kind) (run bytes : List ℕ) (own others : List Item) → is_str k ≡ false → Leaves (with_links d) b k bytes own
+    → links_of (items_behind k run ++ (own ++ others)) ≡ links_of others
 none_left d b kind.Str run bytes own others e l = absurd cc
 none_left d b kind.Text run bytes own others e l = rw l refl
 none_left d b kind.Csi run bytes own others e (actions, is, l) =
@@ -294,24 +306,32 @@ none_left d b kind.Csi run bytes own others e (actions, is, l) =
 none_left d b _ run bytes own others e l = part_links run own others ∙ ap (λ (t : List Item). links_of t ++ links_of others) l
 
 -- and one that is one those that are over in it
-string_left : (d : Depth) (b : Begun) (run bytes : List ℕ) (own others items : List Item) → Leaves (with_links d) b kind.Str bytes own → items ≡ items_behind kind.Str run ++ (own ++ others) → links_of items ≡ links_in true b bytes ++ links_of others
+string_left : (d : Depth) (b : Begun) (run bytes : List ℕ) (own others items : List Item) → Leaves (with_links d) b kind.Str bytes own
+    → items ≡ items_behind kind.Str run ++ (own ++ others) → links_of items ≡ links_in true b bytes ++ links_of others
 string_left d b run bytes own others items leaves e =
     ap links_of e ∙ part_links run own others ∙ ap (λ (x : List Address). x ++ links_of others) (ap links_of leaves ∙ links_links (links_in true b bytes))
 
 -- one part, and then the others
-one_part : (d : Depth) (k : Kind) (text : List ℕ) (m a : Mode) (bytes rest : List ℕ) (b : Begun) (t : Bool) (run : List ℕ) (done later whole : List Part) (items own others : List Item) → IsFirstPart longest m bytes (part k text) rest a → Held m done b
+one_part : (d : Depth) (k : Kind) (text : List ℕ) (m a : Mode) (bytes rest : List ℕ) (b : Begun) (t : Bool) (run : List ℕ) (done later whole : List Part) (items own others : List Item)
+    → IsFirstPart longest m bytes (part k text) rest a → Held m done b
     → whole ≡ done ++ (part k text ∷ later) → Leaves (with_links d) b (read_as k t) text own → items ≡ items_behind (read_as k t) run ++ (own ++ others)
-    → (Held a (done ++ part k text ∷ []) (begun_behind (with_links d) b (read_as k t) text) → AllByRecursion (IsAdmitted (StoodIn whole)) (links_of others)) → AllByRecursion (IsAdmitted (StoodIn whole)) (links_of items)
+    → (Held a (done ++ part k text ∷ []) (begun_behind (with_links d) b (read_as k t) text) → AllByRecursion (IsAdmitted (StoodIn whole)) (links_of others))
+    → AllByRecursion (IsAdmitted (StoodIn whole)) (links_of items)
 one_part d kind.Text text m a bytes rest b true run done later whole items own others first h split leaves e f =
-    subst (AllByRecursion (IsAdmitted (StoodIn whole))) (sym (ap links_of e ∙ none_left d b kind.Other run text own others refl leaves)) (f record { at_rest = h.at_rest; open_or_shut = inr (fit longest m bytes kind.Text text rest a first).0 })
+    subst (AllByRecursion (IsAdmitted (StoodIn whole))) (sym (ap links_of e ∙ none_left d b kind.Other run text own others refl leaves))
+    (f record { at_rest = h.at_rest; open_or_shut = inr (fit longest m bytes kind.Text text rest a first).0 })
 one_part d kind.Text text m a bytes rest b false run done later whole items own others first h split leaves e f =
-    subst (AllByRecursion (IsAdmitted (StoodIn whole))) (sym (ap links_of e ∙ none_left d b kind.Text run text own others refl leaves)) (f record { at_rest = h.at_rest; open_or_shut = inr (fit longest m bytes kind.Text text rest a first).0 })
+    subst (AllByRecursion (IsAdmitted (StoodIn whole))) (sym (ap links_of e ∙ none_left d b kind.Text run text own others refl leaves))
+    (f record { at_rest = h.at_rest; open_or_shut = inr (fit longest m bytes kind.Text text rest a first).0 })
 one_part d kind.Csi text m a bytes rest b t run done later whole items own others first h split leaves e f =
-    subst (AllByRecursion (IsAdmitted (StoodIn whole))) (sym (ap links_of e ∙ none_left d b kind.Csi run text own others refl leaves)) (f record { at_rest = h.at_rest; open_or_shut = inr (fit longest m bytes kind.Csi text rest a first) })
+    subst (AllByRecursion (IsAdmitted (StoodIn whole))) (sym (ap links_of e ∙ none_left d b kind.Csi run text own others refl leaves))
+    (f record { at_rest = h.at_rest; open_or_shut = inr (fit longest m bytes kind.Csi text rest a first) })
 one_part d kind.Esc text m a bytes rest b t run done later whole items own others first h split leaves e f =
-    subst (AllByRecursion (IsAdmitted (StoodIn whole))) (sym (ap links_of e ∙ none_left d b kind.Esc run text own others refl leaves)) (f record { at_rest = h.at_rest; open_or_shut = inr (fit longest m bytes kind.Esc text rest a first).0 })
+    subst (AllByRecursion (IsAdmitted (StoodIn whole))) (sym (ap links_of e ∙ none_left d b kind.Esc run text own others refl leaves))
+    (f record { at_rest = h.at_rest; open_or_shut = inr (fit longest m bytes kind.Esc text rest a first).0 })
 one_part d kind.Other text m a bytes rest b t run done later whole items own others first h split leaves e f =
-    subst (AllByRecursion (IsAdmitted (StoodIn whole))) (sym (ap links_of e ∙ none_left d b kind.Other run text own others refl leaves)) (f record { at_rest = h.at_rest; open_or_shut = inr (fit longest m bytes kind.Other text rest a first) })
+    subst (AllByRecursion (IsAdmitted (StoodIn whole))) (sym (ap links_of e ∙ none_left d b kind.Other run text own others refl leaves))
+    (f record { at_rest = h.at_rest; open_or_shut = inr (fit longest m bytes kind.Other text rest a first) })
 one_part d kind.Str text m a bytes rest b t run done later whole items own others first h split leaves e f =
     let fits = fit longest m bytes kind.Str text rest a first in
     let now = after_piece whole done later m b text split h fits in
@@ -323,12 +343,14 @@ end_links : (d : Depth) (rest : List ℕ) (b : Begun) (t : Bool) (run : List ℕ
 end_links d [] b t run items e = ap links_of e ∙ run_links run
 end_links d (c ∷ rest) b t run items (own, others, leaves, e, last) = ap links_of e ∙ none_left d b kind.Other run (c ∷ rest) own others refl leaves ∙ ap links_of last ∙ run_links []
 
-all_parts : (d : Depth) (sure : List Part) (m a : Mode) (bytes rest : List ℕ) (b : Begun) (t : Bool) (run : List ℕ) (done whole : List Part) (items : List Item) → AreFirstParts longest m bytes sure rest a → Held m done b
+all_parts : (d : Depth) (sure : List Part) (m a : Mode) (bytes rest : List ℕ) (b : Begun) (t : Bool) (run : List ℕ) (done whole : List Part) (items : List Item)
+    → AreFirstParts longest m bytes sure rest a → Held m done b
     → whole ≡ done ++ (sure ++ left_over rest) → AreLeft (with_links d) b run (with_titles t (sure ++ left_over rest)) items → AllByRecursion (IsAdmitted (StoodIn whole)) (links_of items)
 all_parts d [] m a bytes rest b t run done whole items first h split left = rw (end_links d rest b t run items left) tt
 all_parts d (p ∷ sure) m a bytes rest b t run done whole items (behind, mid, one, later) h split (own, others, leaves, e, left) =
     one_part d p.kind p.bytes m mid bytes behind b t run done (sure ++ left_over rest) whole items own others one h split leaves e
-    (λ (k : Held mid (done ++ p ∷ []) (begun_behind (with_links d) b (read_as p.kind t) p.bytes)). all_parts d sure mid a behind rest (begun_behind (with_links d) b (read_as p.kind t) p.bytes) (title_behind t p.kind p.bytes) (run_behind (read_as p.kind t) run p.bytes)
+    (λ (k : Held mid (done ++ p ∷ []) (begun_behind (with_links d) b (read_as p.kind t) p.bytes)).
+    all_parts d sure mid a behind rest (begun_behind (with_links d) b (read_as p.kind t) p.bytes) (title_behind t p.kind p.bytes) (run_behind (read_as p.kind t) run p.bytes)
     (done ++ p ∷ []) whole others later k (split ∙ sym (append_assoc done (p ∷ []) (sure ++ left_over rest))) left)
 
 -- where no links pass
@@ -351,7 +373,8 @@ in_stream d bytes text s = stream d.depth d.links bytes text s
 
 -- ---- and each that stood there and may pass does
 
-part_rests : (d : Depth) (k : Kind) (text : List ℕ) (m a : Mode) (bytes rest : List ℕ) (b : Begun) (t : Bool) → IsFirstPart longest m bytes (part k text) rest a → IsAtRest b.place → IsAtRest (begun_behind (with_links d) b (read_as k t) text).place
+part_rests : (d : Depth) (k : Kind) (text : List ℕ) (m a : Mode) (bytes rest : List ℕ) (b : Begun) (t : Bool)
+    → IsFirstPart longest m bytes (part k text) rest a → IsAtRest b.place → IsAtRest (begun_behind (with_links d) b (read_as k t) text).place
 part_rests d kind.Text text m a bytes rest b true first h = h
 part_rests d kind.Text text m a bytes rest b false first h = h
 part_rests d kind.Str text m a bytes rest b t first h = rest_behind m b text (fit longest m bytes kind.Str text rest a first) h
@@ -363,7 +386,8 @@ opens_any place.Escape params url bytes rest = absurd rest
 opens_any place.Ending params url bytes rest = absurd rest
 opens_any _ params url bytes rest = refl
 
-passes_any : (b : Begun) (a : Address) (end : List ℕ) → IsAtRest b.place → IsWithin a → links_in true (begun place.Url a.params a.url) end ≡ admitted a ∷ [] → links_in true b (27 ∷ 93 ∷ (link_body a ++ end)) ≡ admitted a ∷ []
+passes_any : (b : Begun) (a : Address) (end : List ℕ) → IsAtRest b.place → IsWithin a
+    → links_in true (begun place.Url a.params a.url) end ≡ admitted a ∷ [] → links_in true b (27 ∷ 93 ∷ (link_body a ++ end)) ≡ admitted a ∷ []
 passes_any b a end rest h over =
     opens_any b.place b.address.params b.address.url (link_body a ++ end) rest ∙ passes a b.address.params b.address.url end h over
 
@@ -375,12 +399,14 @@ spelled b a text rest h (inr e) = ap (links_in true b) e ∙ passes_any b a (27 
 abbrev BeginsBy : List Address → List Address → Type 0
 BeginsBy links first = (more : List Address) × (links ≡ first ++ more)
 
-one_string : (d : Depth) (k : Kind) (text : List ℕ) (b : Begun) (t : Bool) (run : List ℕ) (items own others : List Item) → k ≡ kind.Str → Leaves (with_links d) b (read_as k t) text own → items ≡ items_behind (read_as k t) run ++ (own ++ others)
+one_string : (d : Depth) (k : Kind) (text : List ℕ) (b : Begun) (t : Bool) (run : List ℕ) (items own others : List Item) → k ≡ kind.Str
+    → Leaves (with_links d) b (read_as k t) text own → items ≡ items_behind (read_as k t) run ++ (own ++ others)
     → (links_of items ≡ links_in true b text ++ links_of others) × (begun_behind (with_links d) b (read_as k t) text ≡ all_behind true b text)
 one_string d kind.Str text b t run items own others is leaves e = (string_left d b run text own others items leaves e, refl)
 one_string d _ text b t run items own others is leaves e = absurd cc
 
-strings : (d : Depth) (ps later : List Part) (b : Begun) (t : Bool) (run : List ℕ) (items : List Item) → AllByRecursion IsStr ps → AreLeft (with_links d) b run (with_titles t (ps ++ later)) items → BeginsBy (links_of items) (links_in true b (flat_map bytes_of ps))
+strings : (d : Depth) (ps later : List Part) (b : Begun) (t : Bool) (run : List ℕ) (items : List Item) → AllByRecursion IsStr ps
+    → AreLeft (with_links d) b run (with_titles t (ps ++ later)) items → BeginsBy (links_of items) (links_in true b (flat_map bytes_of ps))
 strings d [] later b t run items h left = (links_of items, refl)
 strings d (p ∷ ps) later b t run items h (own, others, leaves, e, left) =
     let here = one_string d p.kind p.bytes b t run items own others h.0 leaves e in
@@ -389,7 +415,8 @@ strings d (p ∷ ps) later b t run items h (own, others, leaves, e, left) =
     let bytes = flat_map bytes_of ps in
     let behind = links_in true (all_behind true b p.bytes) bytes in (
       more,
-      here.0 ∙ ap (λ (x : List Address). first ++ x) (f ∙ ap (λ (x : Begun). links_in true x bytes ++ more) here.1) ∙ sym (append_assoc first behind more) ∙ ap (λ (x : List Address). x ++ more) (sym (links_on true p.bytes bytes b)),
+      here.0 ∙ ap (λ (x : List Address). first ++ x) (f ∙ ap (λ (x : Begun). links_in true x bytes ++ more) here.1)
+          ∙ sym (append_assoc first behind more) ∙ ap (λ (x : List Address). x ++ more) (sym (links_on true p.bytes bytes b)),
     )
 
 found_first : (links : List Address) (a : Address) → BeginsBy links (a ∷ []) → Contains links a
@@ -417,18 +444,22 @@ none_over rest q before own later e some =
     let none = one_over rest q (before ++ (own ++ later)) e in
     omega (arith, ap length none, length-append before (own ++ later), length-append own later)
 
-found_among : (d : Depth) (before sure own later : List Part) (m a : Mode) (bytes rest : List ℕ) (b : Begun) (t : Bool) (run text : List ℕ) (items : List Item) (link : Address) → AreFirstParts longest m bytes sure rest a → IsAtRest b.place
-    → sure ++ left_over rest ≡ before ++ (own ++ later) → IsSpan kind.Str text own → Spells text link → IsWithin link → AreLeft (with_links d) b run (with_titles t (sure ++ left_over rest)) items → Contains (links_of items) (admitted link)
+found_among : (d : Depth) (before sure own later : List Part) (m a : Mode) (bytes rest : List ℕ) (b : Begun) (t : Bool) (run text : List ℕ) (items : List Item) (link : Address)
+    → AreFirstParts longest m bytes sure rest a → IsAtRest b.place
+    → sure ++ left_over rest ≡ before ++ (own ++ later) → IsSpan kind.Str text own → Spells text link → IsWithin link
+    → AreLeft (with_links d) b run (with_titles t (sure ++ left_over rest)) items → Contains (links_of items) (admitted link)
 found_among d [] sure own later m a bytes rest b t run text items link first h e span spells fine left =
     found_here d own later b t run text items link h span spells fine (subst (λ (ps : List Part). AreLeft (with_links d) b run (with_titles t ps) items) e left)
 found_among d (q ∷ before) [] own later m a bytes rest b t run text items link first h e span spells fine left = absurd (none_over rest q before own later e span.some)
 found_among d (q ∷ before) (p ∷ sure) own later m a bytes rest b t run text items link (behind, mid, one, next) h e span spells fine (mine, others, leaves, split, left) =
     let tail : sure ++ left_over rest ≡ before ++ (own ++ later) = cc in
     found_later (read_as p.kind t) run mine others items (admitted link) split
-    (found_among d before sure own later mid a behind rest (begun_behind (with_links d) b (read_as p.kind t) p.bytes) (title_behind t p.kind p.bytes) (run_behind (read_as p.kind t) run p.bytes) text others link next
+    (found_among d before sure own later mid a behind rest (begun_behind (with_links d) b (read_as p.kind t) p.bytes) (title_behind t p.kind p.bytes)
+    (run_behind (read_as p.kind t) run p.bytes) text others link next
     (part_rests d p.kind p.bytes m mid bytes behind b t one h) tail span spells fine left)
 
-found_in : (depth : Depth) (links : Bool) (bytes text : List ℕ) (s : StylesIn (record { depth = depth; links = links }) bytes text) (a : Address) → links ≡ true → StoodIn s.parts a → IsWithin a → Contains (links_of s.items) (admitted a)
+found_in : (depth : Depth) (links : Bool) (bytes text : List ℕ) (s : StylesIn (record { depth = depth; links = links }) bytes text) (a : Address)
+    → links ≡ true → StoodIn s.parts a → IsWithin a → Contains (links_of s.items) (admitted a)
 found_in depth true bytes text s a e stood h =
     let w = s.whole in
     found_among depth stood.before w.sure stood.own stood.rest mode.Text w.after bytes w.rest start false [] stood.text s.items a w.first tt (sym w.whole ∙ stood.whole) stood.string stood.link h

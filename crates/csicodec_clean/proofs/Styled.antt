@@ -24,7 +24,9 @@ use Rattle.csicodec_clean.specs.declared.colors.Depth.{Depth}
 use Rattle.csicodec_clean.specs.Palette.{reduced}
 use Rattle.csicodec_clean.specs.declared.styles.Passing.{Passing}
 use Rattle.csicodec_clean.specs.Links.{Address, Begun, IsLink, IsWithin, all_behind, is_linked, link_text, link_texts, links_at, links_in, next, no_address, start}
-use Rattle.csicodec_clean.specs.Styled.{hides, is_reset, kept, Item, Shown, Style, Link, item_text, item_texts, shown_items, Leaves, begun_behind, run_behind, items_behind, AreLeft, is_open, styles_of, links_of, ends_of, closed, StylesIn, IsSafe, IsStyledIn, Keeping, keeping, first_kept, behind_styles, behind_byte, keeps, resets}
+use Rattle.csicodec_clean.specs.Styled.{hides, is_reset, kept, Item, Shown, Style, Link, item_text, item_texts, shown_items, Leaves}
+use Rattle.csicodec_clean.specs.Styled.{begun_behind, run_behind, items_behind, AreLeft, is_open, styles_of, links_of, ends_of, closed}
+use Rattle.csicodec_clean.specs.Styled.{StylesIn, IsSafe, IsStyledIn, Keeping, keeping, first_kept, behind_styles, behind_byte, keeps, resets}
 use Rattle.csicodec_clean.proofs.Linked.{fine_behind, fine_links, linked_on, links_none}
 use Rattle.csicodec_clean.proofs.Reduced.{reduced_alone, reduced_hides, reduced_twice}
 use Rattle.csicodec_clean.proofs.Plain.{kept_shown, scalars_lossy}
@@ -105,7 +107,8 @@ links_links (a ∷ links) = ap (λ (t : List Address). a ∷ t) (links_links lin
 -- what a part leaves, and then the others
 pub part_texts : (run : List ℕ) (own others : List Item) → item_texts (shown_items run ++ (own ++ others)) ≡ shown_text run ++ (item_texts own ++ item_texts others)
 part_texts run own others =
-    texts_both (shown_items run) (own ++ others) ∙ ap (λ (t : List ℕ). t ++ item_texts (own ++ others)) (texts_chars (filter shown (lossy_chars run))) ∙ ap (λ (t : List ℕ). shown_text run ++ t) (texts_both own others)
+    texts_both (shown_items run) (own ++ others)
+    ∙ ap (λ (t : List ℕ). t ++ item_texts (own ++ others)) (texts_chars (filter shown (lossy_chars run))) ∙ ap (λ (t : List ℕ). shown_text run ++ t) (texts_both own others)
 
 part_styles : (run : List ℕ) (own others : List Item) → styles_of (shown_items run ++ (own ++ others)) ≡ styles_of own ++ styles_of others
 part_styles run own others =
@@ -134,7 +137,8 @@ behind_one k c bytes =
     let l = k.passing.links in
     ap (λ (x : Bool). keeping k.passing k.styled x (all_behind l (next l k.begun c) bytes)) (sym (linked_on k.linked (links_at l k.begun c) (links_in l (next l k.begun c) bytes)))
 
-links_texts_on : (k : Keeping) (c : ℕ) (bytes : List ℕ) → link_texts (links_in k.passing.links k.begun (c ∷ bytes)) ≡ link_texts (links_at k.passing.links k.begun c) ++ link_texts (links_in k.passing.links (next k.passing.links k.begun c) bytes)
+links_texts_on : (k : Keeping) (c : ℕ) (bytes : List ℕ)
+    → link_texts (links_in k.passing.links k.begun (c ∷ bytes)) ≡ link_texts (links_at k.passing.links k.begun c) ++ link_texts (links_in k.passing.links (next k.passing.links k.begun c) bytes)
 links_texts_on k c bytes = flat_map-append link_text (links_at k.passing.links k.begun c) (links_in k.passing.links (next k.passing.links k.begun c) bytes)
 
 -- the rule that keeps, on bytes of a control string
@@ -147,9 +151,12 @@ gives_string (c ∷ bytes) k =
 
 -- where links pass, and where they don't
 pub gives_links : (bytes : List ℕ) (k : Keeping) → k.passing.links ≡ true
-    → AreGiven (keeps (λ (x : Keeping). x)) k bytes (link_texts (links_in true k.begun bytes)) (keeping k.passing k.styled (is_linked k.linked (links_in true k.begun bytes)) (all_behind true k.begun bytes))
+    → AreGiven (keeps (λ (x : Keeping). x)) k bytes (link_texts (links_in true k.begun bytes))
+    (keeping k.passing k.styled (is_linked k.linked (links_in true k.begun bytes)) (all_behind true k.begun bytes))
 gives_links bytes k e =
-    subst (λ (l : Bool). AreGiven (keeps (λ (x : Keeping). x)) k bytes (link_texts (links_in l k.begun bytes)) (keeping k.passing k.styled (is_linked k.linked (links_in l k.begun bytes)) (all_behind l k.begun bytes))) e (gives_string bytes k)
+    subst (λ (l : Bool).
+    AreGiven (keeps (λ (x : Keeping). x)) k bytes (link_texts (links_in l k.begun bytes))
+    (keeping k.passing k.styled (is_linked k.linked (links_in l k.begun bytes)) (all_behind l k.begun bytes))) e (gives_string bytes k)
 
 pub gives_none : (bytes : List ℕ) (k : Keeping) → k.passing.links ≡ false → AreGiven (keeps (λ (x : Keeping). x)) k bytes [] k
 gives_none [] k e = (refl, refl)
@@ -186,7 +193,8 @@ module _ {S : Type 0} (of : S → Keeping) where
   behind_part s k bytes own = keeping (of s).passing (is_open (of s).styled (styles_of own)) (is_linked (of s).linked (links_of own)) (begun_behind (of s).passing (of s).begun k bytes)
 
   -- a part that ends the run
-  ends : (p : Part) (parts : List Part) (s mid after : S) (run first others text last : List ℕ) (own : List Item) → Leaves (of s).passing (of s).begun p.kind p.bytes own → items_behind p.kind run ≡ shown_items run
+  ends : (p : Part) (parts : List Part) (s mid after : S) (run first others text last : List ℕ) (own : List Item)
+      → Leaves (of s).passing (of s).begun p.kind p.bytes own → items_behind p.kind run ≡ shown_items run
       → run_behind p.kind run p.bytes ≡ [] → first ≡ shown_text run ++ item_texts own → of mid ≡ behind_part s p.kind p.bytes own → text ≡ first ++ others
       → Left parts mid [] others after last → Left (p ∷ parts) s run text after last
   ends p parts s mid after run first others text last own leaves before behind e state all r = record {
@@ -194,8 +202,12 @@ module _ {S : Type 0} (of : S → Keeping) where
     left = (own, r.items, leaves, ap (λ t. t ++ (own ++ r.items)) (sym before), rw behind (subst (λ (x : Keeping). AreLeft x.passing x.begun [] parts r.items) state r.left));
     all = ap (λ t. t ++ shown_text last) (all ∙ ap (λ t. t ++ others) e) ∙ append_assoc (shown_text run ++ item_texts own) others (shown_text last)
         ∙ ap (λ t. (shown_text run ++ item_texts own) ++ t) r.all ∙ append_assoc (shown_text run) (item_texts own) (item_texts r.items) ∙ sym (part_texts run own r.items);
-    styled = r.styled ∙ ap (λ (x : Keeping). is_open x.styled (styles_of r.items)) state ∙ sym (open_on (of s).styled (styles_of own) (styles_of r.items)) ∙ ap (is_open (of s).styled) (sym (part_styles run own r.items));
-    linked = r.linked ∙ ap (λ (x : Keeping). is_linked x.linked (links_of r.items)) state ∙ sym (linked_on (of s).linked (links_of own) (links_of r.items)) ∙ ap (is_linked (of s).linked) (sym (part_links run own r.items));
+    styled =
+        r.styled ∙ ap (λ (x : Keeping). is_open x.styled (styles_of r.items)) state ∙ sym (open_on (of s).styled (styles_of own) (styles_of r.items))
+        ∙ ap (is_open (of s).styled) (sym (part_styles run own r.items));
+    linked =
+        r.linked ∙ ap (λ (x : Keeping). is_linked x.linked (links_of r.items)) state
+        ∙ sym (linked_on (of s).linked (links_of own) (links_of r.items)) ∙ ap (is_linked (of s).linked) (sym (part_links run own r.items));
   }
 
   -- the state behind styles, behind links, and behind neither
@@ -366,7 +378,8 @@ styled d bytes text s =
 
 -- ---- an action more
 
-pub more_text : (d : Depth) (xs : List Action) (x : Action) (old out new : List ℕ) → out ≡ old ++ texts (map action.Sgr (kept d xs)) → new ≡ out ++ texts (map action.Sgr (kept d (x ∷ []))) → new ≡ old ++ texts (map action.Sgr (kept d (xs ++ x ∷ [])))
+pub more_text : (d : Depth) (xs : List Action) (x : Action) (old out new : List ℕ) → out ≡ old ++ texts (map action.Sgr (kept d xs))
+    → new ≡ out ++ texts (map action.Sgr (kept d (x ∷ []))) → new ≡ old ++ texts (map action.Sgr (kept d (xs ++ x ∷ [])))
 more_text d xs x old out new e f =
     f ∙ ap (λ t. t ++ texts (map action.Sgr (kept d (x ∷ [])))) e ∙ append_assoc old (texts (map action.Sgr (kept d xs))) (texts (map action.Sgr (kept d (x ∷ []))))
     ∙ ap (λ t. old ++ t) (sym (texts_on (kept d xs) (kept d (x ∷ []))) ∙ ap (λ (ss : List Sgr). texts (map action.Sgr ss)) (sym (kept_on d xs (x ∷ []))))

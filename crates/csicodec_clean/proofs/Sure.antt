@@ -117,12 +117,19 @@ cut_short bs cut = ⊎_elim
 pub read_char : (bs : List ℕ) (c size : ℕ) → 0 < length bs → Some c ≡ (decoded bs).char → size ≡ (decoded bs).size → IsRead bs (c ∷ []) (drop size bs) × (0 < size) × (size ≤ length bs)
 read_char bs c size some char same =
     let bounds = piece-bounds bs some in
-    let read = read_piece bs some (λ none. absurd (let e = char ∙ none in cc)) in
-    (subst (λ n. IsRead bs (c ∷ []) (drop n bs)) (sym same) (subst (λ o. IsRead bs (or_replacement o ∷ []) (drop (decoded bs).size bs)) (sym char) read), omega (arith, bounds.0), omega (arith, bounds.2))
+    let read = read_piece bs some (λ none. absurd (let e = char ∙ none in cc)) in (
+      subst (λ n. IsRead bs (c ∷ []) (drop n bs)) (sym same) (subst (λ o. IsRead bs (or_replacement o ∷ []) (drop (decoded bs).size bs)) (sym char) read),
+      omega (arith, bounds.0),
+      omega (arith, bounds.2),
+    )
 
 -- a piece in front that is none, with bytes behind it
-pub read_bad : (bs : List ℕ) (size : ℕ) → 0 < length bs → None ≡ (decoded bs).char → size ≡ (decoded bs).size → size ≢ length bs → IsRead bs (replacement ∷ []) (drop size bs) × (0 < size) × (size ≤ length bs)
+pub read_bad : (bs : List ℕ) (size : ℕ) → 0 < length bs → None ≡ (decoded bs).char → size ≡ (decoded bs).size → size ≢ length bs
+    → IsRead bs (replacement ∷ []) (drop size bs) × (0 < size) × (size ≤ length bs)
 read_bad bs size some char same other =
     let bounds = piece-bounds bs some in
-    let read = read_piece bs some (λ none. omega (arith, bounds.2, same, other)) in
-    (subst (λ n. IsRead bs (replacement ∷ []) (drop n bs)) (sym same) (subst (λ o. IsRead bs (or_replacement o ∷ []) (drop (decoded bs).size bs)) (sym char) read), omega (arith, bounds.0), omega (arith, bounds.2))
+    let read = read_piece bs some (λ none. omega (arith, bounds.2, same, other)) in (
+      subst (λ n. IsRead bs (replacement ∷ []) (drop n bs)) (sym same) (subst (λ o. IsRead bs (or_replacement o ∷ []) (drop (decoded bs).size bs)) (sym char) read),
+      omega (arith, bounds.0),
+      omega (arith, bounds.2),
+    )

@@ -124,14 +124,16 @@ known_all : (Each : Action → Type 0) (h : Holds Each) (unknown : Bool) (list :
 known_all Each h true list final actions all = (h.unknown list final, tt)
 known_all Each h false list final actions all = all
 
-anew_all : (Each : Action → Type 0) (h : Holds Each) (g : Group) (list : List CsiParam) (final : ℕ) (actions : List Action) → Spellable list → IsFinal final → Anew g list false final actions → AllByRecursion Each actions
+anew_all : (Each : Action → Type 0) (h : Holds Each) (g : Group) (list : List CsiParam) (final : ℕ) (actions : List Action) → Spellable list
+    → IsFinal final → Anew g list false final actions → AllByRecursion Each actions
 anew_all Each h Whole list final actions ok ends (second, are, e) =
     rw e (known_all Each h (has_unknown second) list final second (h.table (regular list final) final second (regular_spellable list final ok) ends are))
 anew_all Each h Styles list final actions ok ends s = cut_all Each h _ Styles list _ final actions s
 anew_all Each h (Modes m) list final actions ok ends s = cut_all Each h _ (Modes m) list _ final actions s
 anew_all Each h (DecModes c) list final actions ok ends s = cut_all Each h _ (DecModes c) list _ final actions s
 
-either_all : (Each : Action → Type 0) (h : Holds Each) (less : Bool) (g : Group) (list : List CsiParam) (final : ℕ) (known actions : List Action) → Spellable list → IsFinal final → AllByRecursion Each known
+either_all : (Each : Action → Type 0) (h : Holds Each) (less : Bool) (g : Group) (list : List CsiParam) (final : ℕ) (known actions : List Action)
+    → Spellable list → IsFinal final → AllByRecursion Each known
     → MatchBool less (Anew g list false final actions) (actions ≡ known) → AllByRecursion Each actions
 either_all Each h true g list final known actions ok ends all s = anew_all Each h g list final actions ok ends s
 either_all Each h false g list final known actions ok ends all s = rw s all

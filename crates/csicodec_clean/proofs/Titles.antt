@@ -28,7 +28,8 @@ same_open k t (p ∷ ps) f h =
     let step : title_behind t p.kind p.bytes ≡ t = ap (λ (x : Kind). title_behind t x p.bytes) h.0 ∙ f p.bytes in
     ap (λ (b : Bool). title_open b ps) step ∙ same_open k t ps f h.1
 
-same_kind : (k : Kind) (t : Bool) (ps : List Part) → ((b : List ℕ) → title_behind t k b ≡ t) → AllByRecursion (λ (p : Part). p.kind ≡ k) ps → AllByRecursion (λ (p : Part). p.kind ≡ read_as k t) (with_titles t ps)
+same_kind : (k : Kind) (t : Bool) (ps : List Part) → ((b : List ℕ) → title_behind t k b ≡ t) → AllByRecursion (λ (p : Part). p.kind ≡ k) ps
+    → AllByRecursion (λ (p : Part). p.kind ≡ read_as k t) (with_titles t ps)
 same_kind k t [] f h = tt
 same_kind k t (p ∷ ps) f h =
     let step : title_behind t p.kind p.bytes ≡ t = ap (λ (x : Kind). title_behind t x p.bytes) h.0 ∙ f p.bytes in
@@ -61,7 +62,8 @@ ended : (k : Kind) (t : Bool) (bytes : List ℕ) (ps : List Part) → ((x : Bool
 ended k t bytes [] f g a = absurd (omega (arith, a.some))
 ended k t bytes (p ∷ ps) f g a =
     let step : title_behind t p.kind p.bytes ≡ false = ap (λ (x : Kind). title_behind t x p.bytes) a.all.0 ∙ g t p.bytes in
-    let later : AllByRecursion (λ (q : Part). q.kind ≡ k) (with_titles false ps) = subst (λ (x : Kind). AllByRecursion (λ (q : Part). q.kind ≡ x) (with_titles false ps)) (f false) (same_kind k false ps (g false) a.all.1) in (
+    let later : AllByRecursion (λ (q : Part). q.kind ≡ k) (with_titles false ps) =
+    subst (λ (x : Kind). AllByRecursion (λ (q : Part). q.kind ≡ x) (with_titles false ps)) (f false) (same_kind k false ps (g false) a.all.1) in (
       record { some = omega arith; all = (ap (λ (x : Kind). read_as x t) a.all.0 ∙ f t, rw step later); joined = same_bytes t (p ∷ ps) ∙ a.joined },
       ap (λ (b : Bool). title_open b ps) step ∙ same_open k false ps (g false) a.all.1,
     )

@@ -1,5 +1,6 @@
 -- Text that is told by its bytes.
-use Rattle.std.proofs.Common.{◌≡◌, ◌+◌, ◌-◌, ◌<◌, ◌≤◌, ℕ, true, false, cond, List, [], ◌∷◌, ◌++◌, length, length-append, drop, take, slice_index, encode_utf8_all, refl, sym, ap, ◌∙◌, arith, lt-ltb, append_assoc, append-nil, take-append-drop, zero, suc}
+use Rattle.std.proofs.Common.{◌≡◌, ◌+◌, ◌-◌, ◌<◌, ◌≤◌, ℕ, true, false, cond, List, [], ◌∷◌, ◌++◌, length, length-append, drop, take}
+use Rattle.std.proofs.Common.{slice_index, encode_utf8_all, refl, sym, ap, ◌∙◌, arith, lt-ltb, append_assoc, append-nil, take-append-drop, zero, suc}
 use Rattle.std.specs.List.{AllByRecursion, prefix_len}
 use Rattle.std.specs.Str.{all_scalars}
 use Rattle.std.specs.Char.{encode_utf8}
@@ -193,6 +194,7 @@ char_front bs len many (char, from, found) =
     (omega (arith, width, short), (char ∷ [], and_from (scalar char) true spelled.scalar refl, (from_shown char from, tt), front ∙ sym (append-nil text)))
 
 -- the character in front is within the bytes, and shown
-pub wide_front : (bs : List ℕ) (len : ℕ) → 4 ≤ length bs → (0 < len → IsWide (slice_index bs 0) (slice_index bs 1) (slice_index bs 2) (slice_index bs 3) len) → (len ≤ length bs) × IsPlain (take len bs)
+pub wide_front : (bs : List ℕ) (len : ℕ) → 4 ≤ length bs
+    → (0 < len → IsWide (slice_index bs 0) (slice_index bs 1) (slice_index bs 2) (slice_index bs 3) len) → (len ≤ length bs) × IsPlain (take len bs)
 wide_front bs zero many h = (omega arith, none_shown bs)
 wide_front bs (suc n) many h = char_front bs (suc n) many (h (omega arith))

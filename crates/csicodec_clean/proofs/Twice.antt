@@ -48,7 +48,8 @@ pub plain_stays : (limit : ℕ) (text other : List ℕ) → IsPlain text → Str
 plain_stays limit text other p s =
     let (cs, scalars, all, e) = p in
     let parts = whole_once limit mode.Text text s.parts (singles kind.Text text) s.whole (whole_text limit text (plain_bytes text p)) in
-    s.left ∙ ap (λ ps. stripped [] (with_titles false ps)) parts ∙ ap (stripped []) (single_texts text) ∙ stripped_text text [] ∙ ap shown_text e ∙ ap shown_chars (lossy_chars-encode cs scalars) ∙ ap encode_utf8_all (all_kept cs all) ∙ sym e
+    s.left ∙ ap (λ ps. stripped [] (with_titles false ps)) parts ∙ ap (stripped []) (single_texts text) ∙ stripped_text text [] ∙ ap shown_text e
+    ∙ ap shown_chars (lossy_chars-encode cs scalars) ∙ ap encode_utf8_all (all_kept cs all) ∙ sym e
 
 pub twice : (limit : ℕ) (bytes text other : List ℕ) → Strips limit bytes text → Strips limit text other → other ≡ text
 twice limit bytes text other s t = plain_stays limit text other (strips_plain limit bytes text s) t

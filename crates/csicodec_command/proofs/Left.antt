@@ -1,5 +1,6 @@
 -- What is left of a recording while its lines are read.
-use Rattle.std.proofs.Common.{◌≡◌, ◌≢◌, ◌==◌, ◌<◌, ◌-◌, ◌++◌, suc, ◌∷◌, ◌∙◌, ℕ, Bool, true, false, cond, List, [], Option, None, Some, length, take, not, refl, sym, ap, subst, append_assoc, append-nil, arith}
+use Rattle.std.proofs.Common.{◌≡◌, ◌≢◌, ◌==◌, ◌<◌, ◌-◌, ◌++◌, suc, ◌∷◌, ◌∙◌, ℕ, Bool, true, false, cond, List, []}
+use Rattle.std.proofs.Common.{Option, None, Some, length, take, not, refl, sym, ap, subst, append_assoc, append-nil, arith}
 use Rattle.std.specs.Prelude.{IfSome, IsUtf8, option_map}
 use Rattle.std.specs.Str.{is_utf8, trim}
 use Rattle.std.proofs.lemmas.Str.{IsUtf8-from_is_utf8, is_utf8-from_IsUtf8}

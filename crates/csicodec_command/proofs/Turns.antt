@@ -1,5 +1,6 @@
 -- Turns one after the other, and what an input has behind its first bytes.
-use Rattle.std.proofs.Common.{Bor, Bool, true, false, if◌then◌else◌, ◌==◌, inl, inr, ◌⊎◌, ◌≡◌, ◌∷◌, ◌++◌, ℕ, List, [], Option, None, Some, Result, Ok, Err, ap, drop, length, get_or, arith, refl, sym, subst, append_assoc, append-nil, ◌≤◌, ◌+◌, ◌<◌, ◌≢◌, ◌∙◌}
+use Rattle.std.proofs.Common.{Bor, Bool, true, false, if◌then◌else◌, ◌==◌, inl, inr, ◌⊎◌, ◌≡◌, ◌∷◌, ◌++◌, ℕ, List, [], Option, None, Some}
+use Rattle.std.proofs.Common.{Result, Ok, Err, ap, drop, length, get_or, arith, refl, sym, subst, append_assoc, append-nil, ◌≤◌, ◌+◌, ◌<◌, ◌≢◌, ◌∙◌}
 use Rattle.std.specs.Prelude.{map, codes, IfSome}
 use Rattle.std.specs.Fmt.{option_append}
 use Rattle.std.specs.Option.{option_or}

@@ -1,5 +1,6 @@
 -- Runs of parts, one after the other.
-use Rattle.std.proofs.Common.{◌≡◌, ◌≢◌, ◌≤◌, ◌+◌, ◌-◌, ℕ, Bool, true, false, not, Option, None, Some, IfSome, List, [], ◌∷◌, ◌++◌, MatchOption, inl, inr, ⊎_elim, length, take, drop, refl, sym, ap, subst, ◌∙◌, append_assoc, append-nil, arith}
+use Rattle.std.proofs.Common.{◌≡◌, ◌≢◌, ◌≤◌, ◌+◌, ◌-◌, ℕ, Bool, true, false, not, Option, None, Some, IfSome, List, [], ◌∷◌, ◌++◌}
+use Rattle.std.proofs.Common.{MatchOption, inl, inr, ⊎_elim, length, take, drop, refl, sym, ap, subst, ◌∙◌, append_assoc, append-nil, arith}
 use Rattle.std.specs.Prelude.{◌&&◌, slice_get}
 use Rattle.std.proofs.lemmas.Bool.{cases_Bool, true≢false}
 use Rattle.std.proofs.lemmas.Grind.{flat_map-append}
@@ -32,7 +33,8 @@ use Rattle.csicodec_compact.specs.declared.form.TextEnding.{TextEnding}
 use Rattle.csicodec_compact.specs.declared.form.TextEnding.TheVariants as forms
 use Rattle.csicodec_compact.specs.declared.shortener.Shortener.{Shortener}
 use Rattle.csicodec_compact.specs.Private.Run.{Holds}
-use Rattle.csicodec_compact.specs.Private.Steps.{Begins, form_of, closing, is_semicolon, joint, behind, is_joined, may_join, opened, list_of, IsTail, IsListed, IsOwn, IsNotedList, IsNoted, IsNote, GoesOnFrom, IsHeld, Extends, GoesOnBy}
+use Rattle.csicodec_compact.specs.Private.Steps.{Begins, form_of, closing, is_semicolon, joint, behind, is_joined, may_join, opened, list_of}
+use Rattle.csicodec_compact.specs.Private.Steps.{IsTail, IsListed, IsOwn, IsNotedList, IsNoted, IsNote, GoesOnFrom, IsHeld, Extends, GoesOnBy}
 use Rattle.csicodec_compact.proofs.JoinedLists.{tail_joined, tail_decodes, joint_short}
 
 -- ---- bytes in front of others
@@ -117,7 +119,8 @@ all_on : (P : Part → Type 0) (ps qs : List Part) → AllByRecursion P ps → A
 all_on P [] qs h k = k
 all_on P (p ∷ ps) qs h k = (h.0, all_on P ps qs h.1 k)
 
-pub joined_short : (run more : List Part) (held own joined : List ℕ) → Shortens run held → Shortens more own → NoneStays run → NoneStays more → length joined ≤ length (held ++ own) → ReadsAlike (held ++ own) joined
+pub joined_short : (run more : List Part) (held own joined : List ℕ) → Shortens run held → Shortens more own → NoneStays run → NoneStays more
+    → length joined ≤ length (held ++ own) → ReadsAlike (held ++ own) joined
     → Shortens (run ++ more) joined
 joined_short run more held own joined h k free others short alike =
     let bytes = flat_map-append bytes_of run more in
@@ -163,9 +166,12 @@ module _ (run front left : List Part) (held text list : List ℕ) (xs : List Act
   held_list : (form : TextEnding) → IsTail form list xs → Shortens left (27 ∷ 91 ∷ (list ++ closing form)) → NoneStays left → IsHeld run held form
   held_list forms.Whole tail short free = absurd tail
   held_list forms.Last tail short free = held_last short
-  held_list forms.Open tail short free = record { front = front; left = left; text = text; tail = 27 ∷ 91 ∷ list; parts = parts; whole = whole; written = written; end = goes_from forms.Open tail short free }
-  held_list forms.Blank tail short free = record { front = front; left = left; text = text; tail = 27 ∷ 91 ∷ list; parts = parts; whole = whole; written = written; end = goes_from forms.Blank tail short free }
-  held_list forms.Bare tail short free = record { front = front; left = left; text = text; tail = 27 ∷ 91 ∷ list; parts = parts; whole = whole; written = written; end = goes_from forms.Bare tail short free }
+  held_list forms.Open tail short free =
+      record { front = front; left = left; text = text; tail = 27 ∷ 91 ∷ list; parts = parts; whole = whole; written = written; end = goes_from forms.Open tail short free }
+  held_list forms.Blank tail short free =
+      record { front = front; left = left; text = text; tail = 27 ∷ 91 ∷ list; parts = parts; whole = whole; written = written; end = goes_from forms.Blank tail short free }
+  held_list forms.Bare tail short free =
+      record { front = front; left = left; text = text; tail = 27 ∷ 91 ∷ list; parts = parts; whole = whole; written = written; end = goes_from forms.Bare tail short free }
 
 closed_whole : (run : List Part) (held : List ℕ) (form : TextEnding) → (h : IsHeld run held form) → (h.left ≡ []) × (h.tail ≡ []) → closing form ≡ [] → IsShortened run (held ++ closing form)
 closed_whole run held form h none empty =
@@ -225,8 +231,10 @@ module _ (run : List Part) (bytes held text : List ℕ) (st : TextEnding) (h : I
       λ actions d. subst (Decodes all false) (one_decoding (first ++ second) false (g.actions ++ n.actions) actions apart d) (tail_decodes (behind st form) list (g.actions ++ n.actions) tail) in
       let short = joined_short h.left p first second all g.shorter (one_of bytes second one n.compacts) g.free (n.free, tt) (joint_short st form g.list n.list may') alike in
       let text' : held ++ joint st form text ≡ h.text ++ 27 ∷ 91 ∷ list =
-      ap (λ (l : List ℕ). held ++ joint st form l) n.whole ∙ ap (λ (l : List ℕ). l ++ joint st form (59 ∷ n.list)) (h.whole ∙ ap (λ (l : List ℕ). h.text ++ l) g.whole) ∙ append_assoc h.text (27 ∷ 91 ∷ g.list) (joint st form (59 ∷ n.list)) in
-      held_list (run ++ p) h.front (h.left ++ p) (held ++ joint st form text) h.text list (g.actions ++ n.actions) (ap (λ (l : List Part). l ++ p) h.parts ∙ append_assoc h.front h.left p) text' h.written
+      ap (λ (l : List ℕ). held ++ joint st form l) n.whole
+      ∙ ap (λ (l : List ℕ). l ++ joint st form (59 ∷ n.list)) (h.whole ∙ ap (λ (l : List ℕ). h.text ++ l) g.whole) ∙ append_assoc h.text (27 ∷ 91 ∷ g.list) (joint st form (59 ∷ n.list)) in
+      held_list (run ++ p) h.front (h.left ++ p) (held ++ joint st form text) h.text list (g.actions ++ n.actions)
+      (ap (λ (l : List Part). l ++ p) h.parts ∙ append_assoc h.front h.left p) text' h.written
       (behind st form) tail short (all_on (λ (q : Part). ¬ IsStaying q.bytes) h.left p g.free (n.free, tt))
 
   joined_by : (form : TextEnding) → IsNoted form bytes text → GoesOnFrom st h.left h.tail → may_join st form text ≡ true → (is_joined form ≡ false → may_join st form text ≡ false)
@@ -299,7 +307,8 @@ pub shortened_one : (bytes : List ℕ) → IsOne bytes → IsShortened (part kin
 shortened_one bytes one = shortened_run (part kind.Csi bytes ∷ []) bytes (one_of bytes bytes one (as_it_came bytes))
 
 -- one in the same list
-pub extends_joined : (st form : TextEnding) (bytes text : List ℕ) → IsOne bytes → IsNoted form bytes text → may_join st form text ≡ true → Extends st (part kind.Csi bytes ∷ []) (joint st form text) (behind st form)
+pub extends_joined : (st form : TextEnding) (bytes text : List ℕ) → IsOne bytes → IsNoted form bytes text → may_join st form text ≡ true
+    → Extends st (part kind.Csi bytes ∷ []) (joint st form text) (behind st form)
 extends_joined st form bytes text one n may run before h = joined run bytes before text st form h one n may
 
 -- what stands as it came
@@ -379,7 +388,8 @@ module _ (first : Held Shortener) where
       let close = closing last.rewrite.written.form in
       let passed : PassesShort first.limit mode.Text bytes ((sent ++ unsent) ++ close) last.bytes last.mode =
       record { parts = since.parts; first = since.cut; unsure = since.unsure; written = closed since.parts (sent ++ unsent) last.rewrite.written.form since.written } in
-      let same : ((sent ++ unsent) ++ close) ++ last.bytes ≡ sent ++ (unsent ++ (close ++ last.bytes)) = append_assoc (sent ++ unsent) close last.bytes ∙ append_assoc sent unsent (close ++ last.bytes) in
+      let same : ((sent ++ unsent) ++ close) ++ last.bytes ≡ sent ++ (unsent ++ (close ++ last.bytes)) =
+      append_assoc (sent ++ unsent) close last.bytes ∙ append_assoc sent unsent (close ++ last.bytes) in
       (unsent ++ (close ++ last.bytes), rw same at (compacts_all first.limit mode.Text last.mode bytes ((sent ++ unsent) ++ close) last.bytes passed)))
       (λ (k : AreAll × Transforms (Since Holds) (Leaves Holds Rested) first bytes (sent ++ unsent)). (unsent, compacted bytes (sent ++ unsent) k.1))
       h

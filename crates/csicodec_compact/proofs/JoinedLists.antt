@@ -153,7 +153,8 @@ record Behind (bytes : List ℕ) (last : List CsiParam) (actions : List Action) 
   is : IsList bytes list actions
   ends : EndsInSemicolon list → EndsInSemicolon last
 
-behind_list : (a b : List ℕ) (l m : List CsiParam) (xs : List sgr_type.Sgr) (ys : List Action) → IsList a l (map Sgr xs) → ¬ EndsInSemicolon l → IsList b m ys → Behind (a ++ 59 ∷ b) m (map Sgr xs ++ ys)
+behind_list : (a b : List ℕ) (l m : List CsiParam) (xs : List sgr_type.Sgr) (ys : List Action) → IsList a l (map Sgr xs) → ¬ EndsInSemicolon l
+    → IsList b m ys → Behind (a ++ 59 ∷ b) m (map Sgr xs ++ ys)
 behind_list a b l m xs ys h unclosed k = record {
   list = l ++ semicolon ∷ m;
   is = record {
@@ -378,7 +379,8 @@ styles_by [] e = ([], refl)
 styles_by (csi.Sgr s ∷ more) e = let h = styles_by more e in (s ∷ h.0, ap (λ (l : List Action). Sgr s ∷ l) h.1)
 styles_by (_ ∷ more) e = absurd (true≢false e)
 
-pub open_listed : (text : List ℕ) (list : List CsiParam) (styles : List sgr_type.Sgr) → Seq text list 109 → IsStyleList list → ¬ EndsInSemicolon list → Actions list false 109 (map Sgr styles) → IsListed forms.Open text
+pub open_listed : (text : List ℕ) (list : List CsiParam) (styles : List sgr_type.Sgr) → Seq text list 109 → IsStyleList list → ¬ EndsInSemicolon list
+    → Actions list false 109 (map Sgr styles) → IsListed forms.Open text
 open_listed text list styles s plain unclosed means = record {
   bytes = s.body;
   actions = map Sgr styles;

@@ -24,7 +24,8 @@ are_meant limit (run ∷ runs) parts text short r =
         | inl h ↦ inl (record { all = h.all; actions = h.actions; came = h.came; written = h.written }, omega (arith, h.short, short [] run behind parts_are h.all))
         | inr h ↦ inr h
       ],
-      are_meant limit runs behind later (λ before row rest e all. short (run ++ before) row rest (parts_are ∙ ap (λ (ps : List Part). run ++ ps) e ∙ sym (append_assoc run before (row ++ rest))) all) others,
+      are_meant limit runs behind later
+          (λ before row rest e all. short (run ++ before) row rest (parts_are ∙ ap (λ (ps : List Part). run ++ ps) e ∙ sym (append_assoc run before (row ++ rest))) all) others,
     )
 
 run_short : (run : List Part) (text : List ℕ) → IsRun run text → length text ≤ length (flat_map bytes_of run)
@@ -35,7 +36,8 @@ runs_short : (runs : List (List Part)) (parts : List Part) (text : List ℕ) →
 runs_short [] parts text r = rw (r.0, r.1) (omega arith)
 runs_short (run ∷ runs) parts text r =
     let (behind, first, later, parts_are, text_is, own, others) = r in
-    let all : length (flat_map bytes_of parts) ≡ length (flat_map bytes_of run ++ flat_map bytes_of behind) = ap (λ (ps : List Part). length (flat_map bytes_of ps)) parts_are ∙ ap length (flat_map-append bytes_of run behind) in
+    let all : length (flat_map bytes_of parts) ≡ length (flat_map bytes_of run ++ flat_map bytes_of behind) =
+    ap (λ (ps : List Part). length (flat_map bytes_of ps)) parts_are ∙ ap length (flat_map-append bytes_of run behind) in
     omega (arith, run_short run first own, runs_short runs behind later others, all, length-append (flat_map bytes_of run) (flat_map bytes_of behind), ap length text_is, length-append first later)
 
 pub no_longer : (limit : ℕ) (m : Mode) (bytes text : List ℕ) → CompactsAll limit m bytes text → length text ≤ length bytes

@@ -15,7 +15,9 @@ use Rattle.csicodec_html.specs.declared.classes.Layer.{Layer}
 use Rattle.csicodec_html.specs.declared.classes.Layer.TheVariants as part
 use Rattle.csicodec_html.specs.declared.look.Look.{Look}
 use Rattle.csicodec_html.specs.declared.palette.Palette.{Palette}
-use Rattle.csicodec_html.specs.Look.{color_text, colored, colors, css, has_line, hex_color, hex_digit, inverse_colors, is_none, line_color, line_kind, line_places, line_style, lines, own_name, place_text, property, property_of, slant, some_lines, straight_colors, weight}
+use Rattle.csicodec_html.specs.Look.{color_text, colored, colors, css, has_line, hex_color, hex_digit}
+use Rattle.csicodec_html.specs.Look.{inverse_colors, is_none, line_color, line_kind, line_places, line_style}
+use Rattle.csicodec_html.specs.Look.{lines, own_name, place_text, property, property_of, slant, some_lines, straight_colors, weight}
 use Rattle.csicodec_html.specs.Palette.{color_at, ground_pairs, or_own, pair_of, text_pairs}
 use Rattle.csicodec_html.specs.Page.{IsHarmless, is_harmless}
 
@@ -25,7 +27,14 @@ apart b k h = ⊎_elim (λ t. absurd (h t.1)) (λ f. f.0) (eqb_tells b k)
 -- bytes that aren't among those that are escaped
 pub fine : (b : ℕ) → 40 ≤ b → b ≢ 60 → b ≢ 62 → is_harmless b ≡ true
 fine b least less greater =
-    rw (le-ltb b 32 (omega (arith, least)), apart b 34 (λ e. absurd (omega (arith, least, e))), apart b 38 (λ e. absurd (omega (arith, least, e))), apart b 39 (λ e. absurd (omega (arith, least, e))), apart b 60 less, apart b 62 greater) refl
+    rw (
+      le-ltb b 32 (omega (arith, least)),
+      apart b 34 (λ e. absurd (omega (arith, least, e))),
+      apart b 38 (λ e. absurd (omega (arith, least, e))),
+      apart b 39 (λ e. absurd (omega (arith, least, e))),
+      apart b 60 less,
+      apart b 62 greater,
+    ) refl
 
 abbrev pub Fine : List ℕ → Type 0
 Fine bytes = AllByRecursion IsHarmless bytes
@@ -160,4 +169,5 @@ all_colors p l = by l.inverse
 pub css_fine : (p : Palette) (l : Look) → Fine (css p l)
 css_fine p l =
     both (weight l.intensity) (slant l.italic ++ (lines p l ++ colors p l)) (strokes l.intensity)
-    (both (slant l.italic) (lines p l ++ colors p l) (when l.italic (codes "font-style:italic;") (checked (codes "font-style:italic;") refl)) (both (lines p l) (colors p l) (all_lines p l) (all_colors p l)))
+    (both (slant l.italic) (lines p l ++ colors p l) (when l.italic (codes "font-style:italic;") (checked (codes "font-style:italic;") refl))
+    (both (lines p l) (colors p l) (all_lines p l) (all_colors p l)))

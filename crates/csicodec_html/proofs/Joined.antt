@@ -17,10 +17,12 @@ three old one mid new a b c h k l = two old one new a (b ++ c) h (two one mid ne
 pub four : (old first second third new a b c d : List ℕ) → first ≡ old ++ a → second ≡ first ++ b → third ≡ second ++ c → new ≡ third ++ d → new ≡ old ++ (a ++ (b ++ (c ++ d)))
 four old first second third new a b c d h k l m = two old first new a (b ++ (c ++ d)) h (three first second third new b c d k l m)
 
-pub five : (old one two' three' four' new a b c d e : List ℕ) → one ≡ old ++ a → two' ≡ one ++ b → three' ≡ two' ++ c → four' ≡ three' ++ d → new ≡ four' ++ e → new ≡ old ++ (a ++ (b ++ (c ++ (d ++ e))))
+pub five : (old one two' three' four' new a b c d e : List ℕ) → one ≡ old ++ a → two' ≡ one ++ b → three' ≡ two' ++ c → four' ≡ three' ++ d
+    → new ≡ four' ++ e → new ≡ old ++ (a ++ (b ++ (c ++ (d ++ e))))
 five old one two' three' four' new a b c d e h i j k l = two old one new a (b ++ (c ++ (d ++ e))) h (four one two' three' four' new b c d e i j k l)
 
-pub eight : (old one two' three' four' five' six' seven' new a b c d e f g h : List ℕ) → one ≡ old ++ a → two' ≡ one ++ b → three' ≡ two' ++ c → four' ≡ three' ++ d → five' ≡ four' ++ e → six' ≡ five' ++ f → seven' ≡ six' ++ g → new ≡ seven' ++ h
+pub eight : (old one two' three' four' five' six' seven' new a b c d e f g h : List ℕ) → one ≡ old ++ a → two' ≡ one ++ b → three' ≡ two' ++ c
+    → four' ≡ three' ++ d → five' ≡ four' ++ e → six' ≡ five' ++ f → seven' ≡ six' ++ g → new ≡ seven' ++ h
     → new ≡ old ++ (a ++ (b ++ (c ++ (d ++ (e ++ (f ++ (g ++ h)))))))
 eight old one two' three' four' five' six' seven' new a b c d e f g h i j k l m n o p =
     four old one two' three' new a b c (d ++ (e ++ (f ++ (g ++ h)))) i j k (five three' four' five' six' seven' new d e f g h l m n o p)
@@ -29,7 +31,8 @@ eight old one two' three' four' five' six' seven' new a b c d e f g h i j k l m 
 pub begun : (m : Markup) (l : Look) → is_plain l ≡ false → all_marked (begins m l) ≡ marked (Begin m l)
 begun m l h = rw h (append-nil _)
 
-pub turned : (m : Markup) (old new : Look) (before mid after : List ℕ) → mid ≡ before ++ all_marked (ends old) → after ≡ mid ++ all_marked (begins m new) → after ≡ before ++ all_marked (ends old ++ begins m new)
+pub turned : (m : Markup) (old new : Look) (before mid after : List ℕ) → mid ≡ before ++ all_marked (ends old)
+    → after ≡ mid ++ all_marked (begins m new) → after ≡ before ++ all_marked (ends old ++ begins m new)
 turned m old new before mid after h k =
     two before mid after (all_marked (ends old)) (all_marked (begins m new)) h k ∙ ap (λ (t : List ℕ). before ++ t) (sym (flat_map-append marked (ends old) (begins m new)))
 
@@ -41,7 +44,8 @@ marked_four : (w x y z : List Piece) → all_marked (w ++ (x ++ (y ++ z))) ≡ a
 marked_four w x y z =
     flat_map-append marked w (x ++ (y ++ z)) ∙ ap (λ (t : List ℕ). all_marked w ++ t) (flat_map-append marked x (y ++ z) ∙ ap (λ (t : List ℕ). all_marked x ++ t) (flat_map-append marked y z))
 
-pub switched : (m : Markup) (l : Look) (old new before first second third after : List ℕ) → (leads old || leads new) ≡ true → first ≡ before ++ all_marked (ends l) → second ≡ first ++ all_marked (shuts old)
+pub switched : (m : Markup) (l : Look) (old new before first second third after : List ℕ) → (leads old || leads new) ≡ true
+    → first ≡ before ++ all_marked (ends l) → second ≡ first ++ all_marked (shuts old)
     → third ≡ second ++ all_marked (opens new) → after ≡ third ++ all_marked (begins m l) → after ≡ before ++ all_marked (switch m l old new)
 switched m l old new before first second third after comes h i j k =
     let all = ends l ++ (shuts old ++ (opens new ++ begins m l)) in

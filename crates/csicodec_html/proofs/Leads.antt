@@ -27,7 +27,8 @@ marked_on m l to xs ys = ap all_marked (switches_on m l to xs ys) ∙ flat_map-a
 -- ---- a byte of a control string
 
 -- the link that is over with it
-pub over_text : (m : Markup) (l : Look) (to : List ℕ) (b : Begun) (c : ℕ) → all_marked (if ends_at b.place c then switch m l to (led b.address.url) else []) ≡ all_marked (switches m l to (links_at true b c))
+pub over_text : (m : Markup) (l : Look) (to : List ℕ) (b : Begun) (c : ℕ)
+    → all_marked (if ends_at b.place c then switch m l to (led b.address.url) else []) ≡ all_marked (switches m l to (links_at true b c))
 over_text m l to b c = by (ends_at b.place c)
   where
     by : (t : Bool) → all_marked (if t then switch m l to (led b.address.url) else []) ≡ all_marked (switches m l to (if t then admitted b.address ∷ [] else []))
@@ -42,7 +43,8 @@ over_to to b c = by (ends_at b.place c)
     by false = refl
 
 -- a byte more
-pub text_more : (m : Markup) (l : Look) (b old : Begun) (xs first to mid out text : List ℕ) (c : ℕ) → old ≡ all_behind true b xs → mid ≡ led_by to (links_in true b xs) → out ≡ first ++ all_marked (switches m l to (links_in true b xs))
+pub text_more : (m : Markup) (l : Look) (b old : Begun) (xs first to mid out text : List ℕ) (c : ℕ) → old ≡ all_behind true b xs
+    → mid ≡ led_by to (links_in true b xs) → out ≡ first ++ all_marked (switches m l to (links_in true b xs))
     → text ≡ out ++ all_marked (switches m l mid (links_at true old c)) → text ≡ first ++ all_marked (switches m l to (links_in true b (xs ++ c ∷ [])))
 text_more m l b old xs first to mid out text c here led was now =
     let links = links_in true b xs in
@@ -51,14 +53,16 @@ text_more m l b old xs first to mid out text c here led was now =
     ∙ ap (λ (t : List ℕ). first ++ (all_marked (switches m l to links) ++ all_marked (switches m l t more))) led ∙ ap (λ t. first ++ t) (sym (marked_on m l to links more))
     ∙ ap (λ (t : List Address). first ++ all_marked (switches m l to t)) (sym (links_more b old xs c here))
 
-pub to_more : (b old : Begun) (xs to mid after : List ℕ) (c : ℕ) → old ≡ all_behind true b xs → mid ≡ led_by to (links_in true b xs) → after ≡ led_by mid (links_at true old c) → after ≡ led_by to (links_in true b (xs ++ c ∷ []))
+pub to_more : (b old : Begun) (xs to mid after : List ℕ) (c : ℕ) → old ≡ all_behind true b xs → mid ≡ led_by to (links_in true b xs)
+    → after ≡ led_by mid (links_at true old c) → after ≡ led_by to (links_in true b (xs ++ c ∷ []))
 to_more b old xs to mid after c here was now =
     now ∙ ap (λ (t : List ℕ). led_by t (links_at true old c)) was ∙ sym (led_on to (links_in true b xs) (links_at true old c)) ∙ ap (led_by to) (sym (links_more b old xs c here))
 
 -- ---- a control string
 
 -- what the rule gives for it, byte by byte
-pub given : (bytes : List ℕ) (s after : Setting) (text : List ℕ) → AreGiven turns s bytes text after → (text ≡ all_marked (switches s.markup s.look s.to (links_in s.markup.links s.begun bytes))) × (after ≡ behind_string s bytes)
+pub given : (bytes : List ℕ) (s after : Setting) (text : List ℕ) → AreGiven turns s bytes text after
+    → (text ≡ all_marked (switches s.markup s.look s.to (links_in s.markup.links s.begun bytes))) × (after ≡ behind_string s bytes)
 given [] s after text h = h
 given (c ∷ bytes) s after text (first, mid, others, here, e, rest) =
     let behind = behind_byte s c in
@@ -81,13 +85,17 @@ gives (c ∷ bytes) s =
       others,
       (refl, refl),
       marked_on s.markup s.look s.to links more,
-      subst (λ (t : List ℕ). AreGiven turns mid bytes others (setting s.markup s.look t (all_behind s.markup.links (next s.markup.links s.begun c) bytes))) (sym (led_on s.to links more)) (gives bytes mid),
+      subst (λ (t : List ℕ). AreGiven turns mid bytes others (setting s.markup s.look t (all_behind s.markup.links (next s.markup.links s.begun c) bytes)))
+          (sym (led_on s.to links more)) (gives bytes mid),
     )
 
 -- where links pass, and where they don't
-pub gives_links : (bytes : List ℕ) (s : Setting) → s.markup.links ≡ true → AreGiven turns s bytes (all_marked (switches s.markup s.look s.to (links_in true s.begun bytes))) (setting s.markup s.look (led_by s.to (links_in true s.begun bytes)) (all_behind true s.begun bytes))
+pub gives_links : (bytes : List ℕ) (s : Setting) → s.markup.links ≡ true
+    → AreGiven turns s bytes (all_marked (switches s.markup s.look s.to (links_in true s.begun bytes)))
+    (setting s.markup s.look (led_by s.to (links_in true s.begun bytes)) (all_behind true s.begun bytes))
 gives_links bytes s e = subst
-    (λ (b : Bool). AreGiven turns s bytes (all_marked (switches s.markup s.look s.to (links_in b s.begun bytes))) (setting s.markup s.look (led_by s.to (links_in b s.begun bytes)) (all_behind b s.begun bytes)))
+    (λ (b : Bool).
+    AreGiven turns s bytes (all_marked (switches s.markup s.look s.to (links_in b s.begun bytes))) (setting s.markup s.look (led_by s.to (links_in b s.begun bytes)) (all_behind b s.begun bytes)))
     e
     (gives bytes s)
 

@@ -20,7 +20,9 @@ use Rattle.csicodec_clean.proofs.Plain.{kept_shown, scalars_lossy}
 use Rattle.csicodec_html.specs.declared.look.Look.{Look}
 use Rattle.csicodec_html.specs.declared.markup.Markup.{Markup}
 use Rattle.csicodec_html.specs.Look.{behind_all, is_plain, sets_any}
-use Rattle.csicodec_html.specs.Page.{AreLeft, Begin, Char, End, IsSafe, Leaves, Open, PageWith, Piece, Setting, Shut, begins, behind_actions, behind_string, closing, ends, first_set, leads, opens, pieces_behind, run_behind, shown_pieces, shuts, switch, switches, turn}
+use Rattle.csicodec_html.specs.Page.{AreLeft, Begin, Char, End, IsSafe, Leaves, Open, PageWith, Piece, Setting}
+use Rattle.csicodec_html.specs.Page.{Shut, begins, behind_actions, behind_string, closing, ends, first_set, leads}
+use Rattle.csicodec_html.specs.Page.{opens, pieces_behind, run_behind, shown_pieces, shuts, switch, switches, turn}
 use Rattle.csicodec_html.specs.Private.Marked.{all_marked, closes, marked, page_bytes, turns}
 use Rattle.csicodec_html.proofs.Leads.{given}
 use Rattle.csicodec_html.proofs.Marks.{pieces}

@@ -61,7 +61,8 @@ high c a = ⊎_elim
 
 char : (c : ℕ) → IsShown c → page_bytes (encode_utf8 c) ≡ escaped c
 char c h = ⊎_elim
-    (λ (a : c < 128). rw (ascii c a, differs shown c 1 h refl, differs shown c 2 h refl, differs shown c 3 h refl, differs shown c 4 h refl, differs shown c 5 h refl, differs shown c 6 h refl) (append-nil _))
+    (λ (a : c < 128).
+    rw (ascii c a, differs shown c 1 h refl, differs shown c 2 h refl, differs shown c 3 h refl, differs shown c 4 h refl, differs shown c 5 h refl, differs shown c 6 h refl) (append-nil _))
     (λ (a : 128 ≤ c). rw (far a 38 (omega arith), far a 60 (omega arith), far a 62 (omega arith), far a 34 (omega arith), far a 39 (omega arith)) (all_fine (encode_utf8 c) (high c a)))
     (cases_lt c 128)
   where
@@ -70,7 +71,8 @@ char c h = ⊎_elim
 
 pub chars : (cs : List ℕ) → AllByRecursion IsShown cs → page_bytes (encode_utf8_all cs) ≡ flat_map escaped cs
 chars [] h = refl
-chars (c ∷ cs) h = flat_map-append page_byte (encode_utf8 c) (encode_utf8_all cs) ∙ ap (λ (t : List ℕ). t ++ page_bytes (encode_utf8_all cs)) (char c h.0) ∙ ap (λ (t : List ℕ). escaped c ++ t) (chars cs h.1)
+chars (c ∷ cs) h =
+    flat_map-append page_byte (encode_utf8 c) (encode_utf8_all cs) ∙ ap (λ (t : List ℕ). t ++ page_bytes (encode_utf8_all cs)) (char c h.0) ∙ ap (λ (t : List ℕ). escaped c ++ t) (chars cs h.1)
 
 quoted : (style : List ℕ) → Fine style → page_bytes (style_attribute 3 style) ≡ style_attribute 34 style
 quoted style h = ap (λ (t : List ℕ). codes " style=" ++ (34 ∷ t)) (flat_map-append page_byte style (3 ∷ []) ∙ ap (λ (t : List ℕ). t ++ 34 ∷ []) (all_fine style h))
@@ -82,7 +84,8 @@ of_ahead false = refl
 of_slot : (came : Bool) (slot : Option Class) → page_bytes (slot_text 3 came slot) ≡ slot_text 34 came slot
 of_slot came None = refl
 of_slot came (Some c) =
-    flat_map-append page_byte (ahead 3 came) (class_name c) ∙ ap (λ (t : List ℕ). t ++ page_bytes (class_name c)) (of_ahead came) ∙ ap (λ (t : List ℕ). ahead 34 came ++ t) (all_fine (class_name c) (name_fine c))
+    flat_map-append page_byte (ahead 3 came) (class_name c) ∙ ap (λ (t : List ℕ). t ++ page_bytes (class_name c)) (of_ahead came)
+    ∙ ap (λ (t : List ℕ). ahead 34 came ++ t) (all_fine (class_name c) (name_fine c))
 
 of_names : (came : Bool) (slots : List (Option Class)) → page_bytes (names 3 came slots) ≡ names 34 came slots
 of_names true [] = refl
@@ -136,7 +139,8 @@ address [] h = refl
 address (c ∷ url) h = ap (λ (t : List ℕ). t ++ page_bytes url) (visible c h.0) ∙ ap (λ (t : List ℕ). escaped c ++ t) (address url h.1)
 
 open_link : (url : List ℕ) → AllByRecursion IsVisible url → page_bytes (marked (Open url)) ≡ piece_text (Open url)
-open_link url h = ap (λ (t : List ℕ). codes "<a rel=\"nofollow noopener noreferrer\" href=\"" ++ t) (flat_map-append page_byte url (3 ∷ 2 ∷ []) ∙ ap (λ (t : List ℕ). t ++ 34 ∷ 62 ∷ []) (address url h))
+open_link url h =
+    ap (λ (t : List ℕ). codes "<a rel=\"nofollow noopener noreferrer\" href=\"" ++ t) (flat_map-append page_byte url (3 ∷ 2 ∷ []) ∙ ap (λ (t : List ℕ). t ++ 34 ∷ 62 ∷ []) (address url h))
 
 piece : (m : Markup) (p : Piece) → IsSafe m p → page_bytes (marked p) ≡ piece_text p
 piece m (Char c) h = char c h.0

@@ -27,7 +27,8 @@ chosen x y z w a b c d e f g h i = rw (f, g, h, i) refl
 second : (x w : Bool) (a b c : Spot) → x ≡ false → w ≡ true → (if x then a else if w then b else c) ≡ b
 second x w a b c f g = rw (f, g) refl
 
-on_text : (links linked spanned : Bool) (b : ℕ) (more : List ℕ) → b ≢ 60 → b ≢ 38 → b ≢ 194 → is_text_byte b ≡ true → is_markup links Inside linked spanned (b ∷ more) ≡ is_markup links Inside linked spanned more
+on_text : (links linked spanned : Bool) (b : ℕ) (more : List ℕ) → b ≢ 60 → b ≢ 38 → b ≢ 194 → is_text_byte b ≡ true
+    → is_markup links Inside linked spanned (b ∷ more) ≡ is_markup links Inside linked spanned more
 on_text links linked spanned b more less and l t =
     ap (λ (s : Spot). is_markup links s linked spanned more)
     (chosen (b == 60) (b == 38) (b == 194) (is_text_byte b) (Tag false []) (Reference []) Lead Inside Nowhere (ne_eqb b 60 less) (ne_eqb b 38 and) (ne_eqb b 194 l) t)
@@ -41,12 +42,14 @@ low_byte c h s quote and apostrophe less greater = rw (ne_eqb c 34 quote, ne_eqb
 high_markup : (links linked spanned : Bool) (bytes more : List ℕ) → AllByRecursion IsHigh bytes → is_markup links Inside linked spanned (bytes ++ more) ≡ is_markup links Inside linked spanned more
 high_markup links linked spanned [] more h = refl
 high_markup links linked spanned (b ∷ bytes) more h =
-    on_text links linked spanned b (bytes ++ more) (λ e. absurd (omega (arith, e, h.0.0))) (λ e. absurd (omega (arith, e, h.0.0))) h.0.1 (high_byte b h.0.0) ∙ high_markup links linked spanned bytes more h.1
+    on_text links linked spanned b (bytes ++ more) (λ e. absurd (omega (arith, e, h.0.0))) (λ e. absurd (omega (arith, e, h.0.0))) h.0.1 (high_byte b h.0.0)
+    ∙ high_markup links linked spanned bytes more h.1
 
 lead : (links linked spanned : Bool) (b : ℕ) → 160 ≤ b → spot_behind links linked spanned Lead b ≡ Inside
 lead links linked spanned b from = rw (le-leb 160 b from) refl
 
-itself : (links linked spanned : Bool) (c : ℕ) (more : List ℕ) → IsShown c → c ≢ 34 → c ≢ 38 → c ≢ 39 → c ≢ 60 → c ≢ 62 → is_markup links Inside linked spanned (encode_utf8 c ++ more) ≡ is_markup links Inside linked spanned more
+itself : (links linked spanned : Bool) (c : ℕ) (more : List ℕ) → IsShown c → c ≢ 34 → c ≢ 38 → c ≢ 39 → c ≢ 60 → c ≢ 62
+    → is_markup links Inside linked spanned (encode_utf8 c ++ more) ≡ is_markup links Inside linked spanned more
 itself links linked spanned c more h quote and apostrophe less greater = by (spells c h)
   where
     by : Spells c (encode_utf8 c) → is_markup links Inside linked spanned (encode_utf8 c ++ more) ≡ is_markup links Inside linked spanned more
@@ -94,10 +97,12 @@ values : (P : ℕ → Type 0) (bytes : List ℕ) → ((b : ℕ) → P b → IsVa
 values P [] f h = tt
 values P (b ∷ bytes) f h = (f b h.0, values P bytes f h.1)
 
-value_markup : (links linked spanned : Bool) (tag bytes more : List ℕ) → AllByRecursion IsValue bytes → is_markup links (Tag true tag) linked spanned (bytes ++ more) ≡ is_markup links (Tag true tag) linked spanned more
+value_markup : (links linked spanned : Bool) (tag bytes more : List ℕ) → AllByRecursion IsValue bytes
+    → is_markup links (Tag true tag) linked spanned (bytes ++ more) ≡ is_markup links (Tag true tag) linked spanned more
 value_markup links linked spanned tag [] more h = refl
 value_markup links linked spanned tag (b ∷ bytes) more h =
-    let step : spot_behind links linked spanned (Tag true tag) b ≡ Tag true tag = second (b == 34) (is_value_byte b) (Tag false (tag ++ 34 ∷ [])) (Tag true tag) Nowhere (ne_eqb b 34 (value_stays b h.0)) h.0 in
+    let step : spot_behind links linked spanned (Tag true tag) b ≡ Tag true tag =
+    second (b == 34) (is_value_byte b) (Tag false (tag ++ 34 ∷ [])) (Tag true tag) Nowhere (ne_eqb b 34 (value_stays b h.0)) h.0 in
     ap (λ (s : Spot). is_markup links s linked spanned (bytes ++ more)) step ∙ value_markup links linked spanned tag bytes more h.1
 
 fine_markup : (links linked spanned : Bool) (tag bytes more : List ℕ) → Fine bytes → is_markup links (Tag true tag) linked spanned (bytes ++ more) ≡ is_markup links (Tag true tag) linked spanned more
@@ -149,10 +154,12 @@ names_markup links linked spanned came (Some c ∷ slots) more =
     let r = names_markup links linked spanned true slots more in
     let parts : (class_name c ++ later) ++ more ≡ class_name c ++ (later ++ more) = append_assoc (class_name c) later more in
     let named : is_markup links (named_at true) linked spanned ((class_name c ++ later) ++ more) ≡ is_markup links (Tag false (span_tag r.0 false)) linked spanned more =
-    ap (λ (t : List ℕ). is_markup links (named_at true) linked spanned t) parts ∙ fine_markup links linked spanned (codes "span class=" ++ 34 ∷ []) (class_name c) (later ++ more) (name_fine c) ∙ r.1 in
+    ap (λ (t : List ℕ). is_markup links (named_at true) linked spanned t) parts
+    ∙ fine_markup links linked spanned (codes "span class=" ++ 34 ∷ []) (class_name c) (later ++ more) (name_fine c) ∙ r.1 in
     (r.0, by came named)
   where
-    by : {X : Bool} (b : Bool) → is_markup links (named_at true) linked spanned ((class_name c ++ names 34 true slots) ++ more) ≡ X → is_markup links (named_at b) linked spanned (names 34 b (Some c ∷ slots) ++ more) ≡ X
+    by : {X : Bool} (b : Bool) → is_markup links (named_at true) linked spanned ((class_name c ++ names 34 true slots) ++ more) ≡ X
+        → is_markup links (named_at b) linked spanned (names 34 b (Some c ∷ slots) ++ more) ≡ X
     by true e = e
     by false e = e
 
@@ -196,14 +203,16 @@ open_markup : (url more : List ℕ) → AllByRecursion IsQuoted (flat_map escape
 open_markup url more h =
     let own = flat_map escaped url in
     let tag = codes "a rel=\"\" href=\"" in
-    ap (λ (t : List ℕ). is_markup true (Tag true tag) false false t) (append_assoc own (34 ∷ 62 ∷ []) more) ∙ value_markup true false false tag own (34 ∷ 62 ∷ more) (values IsQuoted own quoted_value h)
+    ap (λ (t : List ℕ). is_markup true (Tag true tag) false false t) (append_assoc own (34 ∷ 62 ∷ []) more)
+    ∙ value_markup true false false tag own (34 ∷ 62 ∷ more) (values IsQuoted own quoted_value h)
 
 shut_markup : (links : Bool) (more : List ℕ) → is_markup links Inside true false (piece_text Shut ++ more) ≡ is_markup links Inside false false more
 shut_markup links more = refl
 
 -- ---- the page
 
-pieces_markup : (m : Markup) (linked spanned : Bool) (pieces : List Piece) → AllByRecursion (IsSafe m) pieces → are_paired linked spanned pieces ≡ true → is_markup m.links Inside linked spanned (piece_texts pieces) ≡ true
+pieces_markup : (m : Markup) (linked spanned : Bool) (pieces : List Piece) → AllByRecursion (IsSafe m) pieces
+    → are_paired linked spanned pieces ≡ true → is_markup m.links Inside linked spanned (piece_texts pieces) ≡ true
 pieces_markup m linked spanned [] h p = p
 pieces_markup m linked spanned (Char c ∷ pieces) h p = char_markup m.links linked spanned c (piece_texts pieces) h.0.0 ∙ pieces_markup m linked spanned pieces h.1 p
 pieces_markup m linked true (Begin n l ∷ pieces) h p = absurd cc
@@ -214,7 +223,8 @@ pieces_markup m true spanned (Open url ∷ pieces) h p = absurd cc
 pieces_markup m false true (Open url ∷ pieces) h p = absurd cc
 pieces_markup m false false (Open url ∷ pieces) h p =
     let more = piece_texts pieces in
-    subst (λ (links : Bool). is_markup links Inside false false (piece_text (Open url) ++ more) ≡ is_markup links Inside true false more) (sym h.0.0) (open_markup url more (all_quoted url h.0.1.visible))
+    subst (λ (links : Bool). is_markup links Inside false false (piece_text (Open url) ++ more) ≡ is_markup links Inside true false more) (sym h.0.0)
+    (open_markup url more (all_quoted url h.0.1.visible))
     ∙ pieces_markup m true false pieces h.1 p
 pieces_markup m false spanned (Shut ∷ pieces) h p = absurd cc
 pieces_markup m true true (Shut ∷ pieces) h p = absurd cc

@@ -17,7 +17,9 @@ use Rattle.csicodec_clean.proofs.Shows.{encoded_on}
 use Rattle.csicodec_html.specs.declared.look.Look.{Look}
 use Rattle.csicodec_html.specs.declared.markup.Markup.{Markup}
 use Rattle.csicodec_html.specs.Look.{behind_all, is_plain, sets_any}
-use Rattle.csicodec_html.specs.Page.{AreLeft, Begin, Char, End, IsPageWith, Leaves, Open, PageWith, Piece, Setting, Shut, are_paired, begins, behind_actions, chars_of, closing, ends, first_set, leads, led_by, opens, piece_texts, pieces_behind, run_behind, shown_pieces, shuts, switch, switches, turn}
+use Rattle.csicodec_html.specs.Page.{AreLeft, Begin, Char, End, IsPageWith, Leaves, Open, PageWith, Piece, Setting, Shut}
+use Rattle.csicodec_html.specs.Page.{are_paired, begins, behind_actions, chars_of, closing, ends, first_set, leads, led_by}
+use Rattle.csicodec_html.specs.Page.{opens, piece_texts, pieces_behind, run_behind, shown_pieces, shuts, switch, switches, turn}
 use Rattle.csicodec_html.proofs.Left.{none_begun, safe_left}
 use Rattle.csicodec_html.proofs.Turned.{unset}
 
@@ -57,11 +59,14 @@ paired_opens to ps = by (leads to)
     by true = refl
     by false = refl
 
-paired_turn : (m : Markup) (a : Bool) (old : Look) (actions : List Action) (ps : List Piece) → are_paired a (inside old) (turn m (sets_any actions) old (behind_all old actions) ++ ps) ≡ are_paired a (inside (behind_all old actions)) ps
+paired_turn : (m : Markup) (a : Bool) (old : Look) (actions : List Action) (ps : List Piece)
+    → are_paired a (inside old) (turn m (sets_any actions) old (behind_all old actions) ++ ps) ≡ are_paired a (inside (behind_all old actions)) ps
 paired_turn m a old actions ps = by (sets_any actions) refl
   where
     by : (b : Bool) → sets_any actions ≡ b → are_paired a (inside old) (turn m b old (behind_all old actions) ++ ps) ≡ are_paired a (inside (behind_all old actions)) ps
-    by true e = ap (are_paired a (inside old)) (append_assoc (ends old) (begins m (behind_all old actions)) ps) ∙ paired_ends a old (begins m (behind_all old actions) ++ ps) ∙ paired_begins m a (behind_all old actions) ps
+    by true e =
+        ap (are_paired a (inside old)) (append_assoc (ends old) (begins m (behind_all old actions)) ps)
+        ∙ paired_ends a old (begins m (behind_all old actions) ++ ps) ∙ paired_begins m a (behind_all old actions) ps
     by false e = ap (λ (l : Look). are_paired a (inside l) ps) (sym (unset old actions e))
 
 -- where neither of two links leads anywhere
@@ -83,7 +88,8 @@ paired_switch m l old new ps = by (leads old || leads new) refl
         ∙ paired_shuts old (opens new ++ (begins m l ++ ps)) ∙ paired_opens new (begins m l ++ ps) ∙ paired_begins m (leads new) l ps
     by false e = ap (λ (b : Bool). are_paired b (inside l) ps) (neither (leads old) (leads new) e)
 
-paired_switches : (m : Markup) (l : Look) (to : List ℕ) (links : List Address) (ps : List Piece) → are_paired (leads to) (inside l) (switches m l to links ++ ps) ≡ are_paired (leads (led_by to links)) (inside l) ps
+paired_switches : (m : Markup) (l : Look) (to : List ℕ) (links : List Address) (ps : List Piece)
+    → are_paired (leads to) (inside l) (switches m l to links ++ ps) ≡ are_paired (leads (led_by to links)) (inside l) ps
 paired_switches m l to [] ps = refl
 paired_switches m l to (a ∷ links) ps =
     let mid = a.url in
@@ -107,9 +113,11 @@ paired_closing s = ap (paired_in s) (append_assoc (ends s.look) (shuts s.to) [])
 
 paired_left : (parts : List Part) (s : Setting) (run : List ℕ) (ps : List Piece) → AreLeft s run parts ps → paired_in s ps ≡ true
 paired_left [] s run ps h =
-    ap (paired_in s) (h ∙ ap (λ (t : List Piece). shown_pieces run ++ t) (sym (append-nil (closing s)))) ∙ paired_chars (leads s.to) (inside s.look) (filter shown (lossy_chars run)) (closing s ++ []) ∙ paired_closing s
+    ap (paired_in s) (h ∙ ap (λ (t : List Piece). shown_pieces run ++ t) (sym (append-nil (closing s))))
+    ∙ paired_chars (leads s.to) (inside s.look) (filter shown (lossy_chars run)) (closing s ++ []) ∙ paired_closing s
 paired_left (p ∷ parts) s run ps (own, after, others, leaves, e, rest) =
-    ap (paired_in s) e ∙ paired_behind (leads s.to) (inside s.look) p.kind run (own ++ others) ∙ paired_leaves s after p.kind p.bytes own others leaves ∙ paired_left parts after (run_behind p.kind run p.bytes) others rest
+    ap (paired_in s) e ∙ paired_behind (leads s.to) (inside s.look) p.kind run (own ++ others)
+    ∙ paired_leaves s after p.kind p.bytes own others leaves ∙ paired_left parts after (run_behind p.kind run p.bytes) others rest
 
 pub is_page : (m : Markup) (bytes page : List ℕ) → PageWith m bytes page → IsPageWith m page
 is_page m bytes page p = record {
@@ -179,7 +187,8 @@ abbrev text_of : List Piece → List ℕ
 text_of ps = encode_utf8_all (chars_of ps)
 
 -- a run of text, what a part leaves, and the others
-text_part : (s after : Setting) (k : Kind) (run bytes : List ℕ) (own others : List Piece) → Leaves s k bytes own after → text_of (shown_pieces run ++ (own ++ others)) ≡ shown_text run ++ text_of others
+text_part : (s after : Setting) (k : Kind) (run bytes : List ℕ) (own others : List Piece) → Leaves s k bytes own after
+    → text_of (shown_pieces run ++ (own ++ others)) ≡ shown_text run ++ text_of others
 text_part s after k run bytes own others leaves =
     let cs = filter shown (lossy_chars run) in
     ap encode_utf8_all (chars_both (shown_pieces run) (own ++ others) ∙ ap (λ (t : List ℕ). t ++ chars_of (own ++ others)) (chars_chars cs)
@@ -203,7 +212,8 @@ text_left (p ∷ parts) s run ps (own, after, others, leaves, e, rest) =
 
 pub text_stays : (m : Markup) (bytes page text : List ℕ) (p : PageWith m bytes page) → Strips longest bytes text → text ≡ text_of p.pieces
 text_stays m bytes page text p s =
-    s.left ∙ ap (λ (ps : List Part). stripped [] (with_titles false ps)) (whole_once longest mode.Text bytes s.parts p.parts s.whole p.whole) ∙ sym (text_left (with_titles false p.parts) (first_set m) [] p.pieces p.left)
+    s.left ∙ ap (λ (ps : List Part). stripped [] (with_titles false ps)) (whole_once longest mode.Text bytes s.parts p.parts s.whole p.whole)
+    ∙ sym (text_left (with_titles false p.parts) (first_set m) [] p.pieces p.left)
 
 -- ---- one page
 
@@ -224,7 +234,8 @@ left_once (p ∷ parts) s run xs ys (own, after, others, leaves, e, rest) (own',
     let same = leaves_once s after after' p.kind p.bytes own own' leaves leaves' in
     let next = run_behind p.kind run p.bytes in
     e ∙ ap (λ (t : List Piece). pieces_behind p.kind run ++ (t ++ others)) same.pieces
-    ∙ ap (λ (t : List Piece). pieces_behind p.kind run ++ (own' ++ t)) (left_once parts after' next others others' (subst (λ (x : Setting). AreLeft x next parts others) same.settings rest) rest') ∙ sym f
+    ∙ ap (λ (t : List Piece). pieces_behind p.kind run ++ (own' ++ t))
+    (left_once parts after' next others others' (subst (λ (x : Setting). AreLeft x next parts others) same.settings rest) rest') ∙ sym f
 
 pub one_page : (m : Markup) (bytes page other : List ℕ) → PageWith m bytes page → PageWith m bytes other → page ≡ other
 one_page m bytes page other p q =

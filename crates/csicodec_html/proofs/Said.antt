@@ -66,12 +66,17 @@ straight_ground p (color.TrueColor c) = refl
 both : (a b c d : List ℕ) → a ≡ c → b ≡ d → a ++ b ≡ c ++ d
 both a b c d e f = ap (λ (t : List ℕ). t ++ b) e ∙ ap (λ (t : List ℕ). c ++ t) f
 
-pub of_colors : (p : Palette) (l : Look) → said p (text_part l) (class_if l.inverse kind.TextAsGround) (text_color l) ++ said p (ground_part l) (class_if l.inverse kind.GroundAsText) (ground_color l) ≡ colors p l
+pub of_colors : (p : Palette) (l : Look)
+    → said p (text_part l) (class_if l.inverse kind.TextAsGround) (text_color l) ++ said p (ground_part l) (class_if l.inverse kind.GroundAsText) (ground_color l) ≡ colors p l
 unfolding colors inverse_colors straight_colors
 of_colors p l = by l.inverse
   where
-    by : (b : Bool) → said p (if b then part.TextAsGround else part.Text) (class_if b kind.TextAsGround) (if b then l.background else l.foreground) ++ said p (if b then part.GroundAsText else part.Ground) (class_if b kind.GroundAsText) (if b then l.foreground else l.background)
+    by : (b : Bool)
+        → said p (if b then part.TextAsGround else part.Text) (class_if b kind.TextAsGround) (if b then l.background else l.foreground)
+        ++ said p (if b then part.GroundAsText else part.Ground) (class_if b kind.GroundAsText) (if b then l.foreground else l.background)
         ≡ (if b then inverse_colors p l else straight_colors p l)
     by true = both (said p part.TextAsGround (Some kind.TextAsGround) l.background) (said p part.GroundAsText (Some kind.GroundAsText) l.foreground)
         (property p part.TextAsGround (or_own p.background l.background)) (property p part.GroundAsText (or_own p.foreground l.foreground)) (text p l.background) (ground p l.foreground)
-    by false = both (said p part.Text None l.foreground) (said p part.Ground None l.background) (colored p part.Text l.foreground) (colored p part.Ground l.background) (straight_text p l.foreground) (straight_ground p l.background)
+    by false =
+        both (said p part.Text None l.foreground) (said p part.Ground None l.background) (colored p part.Text l.foreground)
+        (colored p part.Ground l.background) (straight_text p l.foreground) (straight_ground p l.background)

@@ -25,6 +25,7 @@ begin_is m l = by m.classes
 pub begun : (m : Markup) (l : Look) → is_plain l ≡ false → piece_texts (begins m l) ≡ begin_tag m l
 begun m l h = rw h (append-nil _ ∙ sym (begin_is m l))
 
-pub turned : (m : Markup) (old new : Look) (before mid after : List ℕ) → mid ≡ before ++ piece_texts (ends old) → after ≡ mid ++ piece_texts (begins m new) → after ≡ before ++ piece_texts (turn m true old new)
+pub turned : (m : Markup) (old new : Look) (before mid after : List ℕ) → mid ≡ before ++ piece_texts (ends old)
+    → after ≡ mid ++ piece_texts (begins m new) → after ≡ before ++ piece_texts (turn m true old new)
 turned m old new before mid after h k =
     two before mid after (piece_texts (ends old)) (piece_texts (begins m new)) h k ∙ ap (λ (t : List ℕ). before ++ t) (sym (flat_map-append piece_text (ends old) (begins m new)))

@@ -16,14 +16,17 @@ use Rattle.csicodec_keys.specs.declared.writing.KeySpelling.{KeySpelling}
 use Rattle.csicodec_keys.specs.declared.writing.KeySpelling.TheVariants as form
 use Rattle.csicodec_keys.specs.Characters.{is_alt, is_typed}
 use Rattle.csicodec_keys.specs.Fields.{written_list}
-use Rattle.csicodec_keys.specs.Forms.{alt_control, but_release, by, char_form, control_form, csi_form, form_of, held_by, key_alone, legacy_form, legacy_said, pressed, pressed_row, read_alt, read_char, read_form, read_ss3, said, ss3_by, ss3_form, text_form, text_of, typed_or, typing, with_alt, xterm_held}
+use Rattle.csicodec_keys.specs.Forms.{alt_control, but_release, by, char_form, control_form, csi_form, form_of, held_by}
+use Rattle.csicodec_keys.specs.Forms.{key_alone, legacy_form, legacy_said, pressed, pressed_row, read_alt, read_char}
+use Rattle.csicodec_keys.specs.Forms.{read_form, read_ss3, said, ss3_by, ss3_form, text_form, text_of, typed_or, typing, with_alt, xterm_held}
 use Rattle.csicodec_keys.specs.Keys.{Stroke}
 use Rattle.csicodec_keys.specs.Rows.{row_at, row_of}
 use Rattle.csicodec_keys.proofs.Kitty.{csi-at, key-alone, row-said, said-read}
 use Rattle.csicodec_keys.proofs.Lists.{list-read}
 use Rattle.csicodec_keys.proofs.Options.{guarded, map-some, one-of, unless}
 use Rattle.csicodec_keys.proofs.AnyTable.{any-row, row-all, row-has}
-use Rattle.csicodec_keys.proofs.EachTable.{controls-all, controls-apart, controls-no-text, csi-all, csi-named-all, is_alone, is_char, is_control_row, is_named, is_no_text, is_shared, ss3-all, ss3-apart, ss3-no-text}
+use Rattle.csicodec_keys.proofs.EachTable.{controls-all, controls-apart, controls-no-text, csi-all, csi-named-all, is_alone}
+use Rattle.csicodec_keys.proofs.EachTable.{is_char, is_control_row, is_named, is_no_text, is_shared, ss3-all, ss3-apart, ss3-no-text}
 
 -- but for a character with no more than shift, it says the key and what is held down
 said-pressed : (c : KeyCode) (held : ℕ) (text : List ℕ) → (is_char c && nat_lt held 2) ≡ false → legacy_said c held text ≡ pressed c held
@@ -36,7 +39,8 @@ pressed-has r k held same down = ap (λ (c : KeyCode). pressed c r.held) same �
 
 -- of a row that is no text
 row-pressed : (r : Row) (c : KeyCode) (held : ℕ) (text : List ℕ) → is_no_text r ≡ true → r.code ≡ c → r.held ≡ held → legacy_said c held text ≡ pressed c held
-row-pressed r c held text h same down = said-pressed c held text (not-true (is_char c && nat_lt held 2) (subst (λ x. not (is_char x && nat_lt held 2) ≡ true) same (subst (λ n. not (is_char r.code && nat_lt n 2) ≡ true) down h)))
+row-pressed r c held text h same down =
+    said-pressed c held text (not-true (is_char c && nat_lt held 2) (subst (λ x. not (is_char x && nat_lt held 2) ≡ true) same (subst (λ n. not (is_char r.code && nat_lt n 2) ≡ true) down h)))
 
 -- a control is found by its character
 control-at : (c : KeyCode) (held : ℕ) (r : Row) → row_of controls c held ≡ Some r → (is_typed r.control ≡ false) × (row_at controls 0 r.control ≡ Some r)
@@ -76,7 +80,8 @@ alt-read c held text f high e =
     let has = row-has controls c (held - 2) r m.1 in
     let told : key_alone (by encoding.Legacy (read_alt r.control)) ≡ Some (pressed r.code (with_alt r.held)) = key-alone encoding.Legacy (read_alt r.control) ∙ rw (at.0, at.1) refl in
     subst (λ (x : KeySpelling). read_form x text ≡ Some (legacy_said c held text)) m.2
-    (told ∙ (ap (λ (k : KeyCode). Some (pressed k (with_alt r.held))) has.code_is ∙ (ap (λ (n : ℕ). Some (pressed c n)) (with-alt held r.held low high has.held_is) ∙ ap Some (sym (two-held c held text low)))))
+    (told ∙ (ap (λ (k : KeyCode). Some (pressed k (with_alt r.held))) has.code_is
+    ∙ (ap (λ (n : ℕ). Some (pressed c n)) (with-alt held r.held low high has.held_is) ∙ ap Some (sym (two-held c held text low)))))
 
 ss3-read : (c : KeyCode) (held : ℕ) (text : List ℕ) (f : KeySpelling) → ss3_form c held ≡ Some f → read_form f text ≡ Some (legacy_said c held text)
 ss3-read c held text f e =

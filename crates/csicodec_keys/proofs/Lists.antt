@@ -7,7 +7,8 @@ use lib.Utf8.{scalar, scalars}
 use Rattle.csicodec_tokens.specs.declared.param.CsiParam.TheVariants.{Integer}
 use Rattle.csicodec_keys.specs.declared.key.KeyEvent.{KeyEvent}
 use Rattle.csicodec_keys.specs.declared.key.KeyEvent.TheVariants as event
-use Rattle.csicodec_keys.specs.Fields.{char_of, characters, colon_list, from_separator, held_front, held_list, held_of, is_empty, is_plain, number_of, read_list, text_front, text_list, with_char, written_list}
+use Rattle.csicodec_keys.specs.Fields.{char_of, characters, colon_list, from_separator, held_front, held_list, held_of}
+use Rattle.csicodec_keys.specs.Fields.{is_empty, is_plain, number_of, read_list, text_front, text_list, with_char, written_list}
 
 held-of : (held : ℕ) → held < 256 → held_of (pos (held + 1)) ≡ Some held
 held-of held h =

@@ -17,7 +17,9 @@ use Rattle.csicodec_keys.specs.declared.writing.KeySpelling.TheVariants as form
 use Rattle.csicodec_keys.specs.Characters.{is_typed}
 use Rattle.csicodec_keys.specs.SameKeys.{same_code}
 use Rattle.csicodec_keys.specs.Fields.{Says, written_list}
-use Rattle.csicodec_keys.specs.Forms.{but_release, by, char_number, csi_row, form_of, key_alone, linux_form, numbered, other_form, other_key, other_number, pressed, pressed_row, read_form, read_listed, read_ss3, row_key, rxvt_form, rxvt_row, said, said_key, ss3_by, told_by, xterm_held}
+use Rattle.csicodec_keys.specs.Forms.{but_release, by, char_number, csi_row, form_of, key_alone, linux_form, numbered}
+use Rattle.csicodec_keys.specs.Forms.{other_form, other_key, other_number, pressed, pressed_row, read_form, read_listed}
+use Rattle.csicodec_keys.specs.Forms.{read_ss3, row_key, rxvt_form, rxvt_row, said, said_key, ss3_by, told_by, xterm_held}
 use Rattle.csicodec_keys.specs.Win32.{read_win32}
 use Rattle.csicodec_keys.specs.Keys.{Stroke}
 use Rattle.csicodec_keys.specs.Rows.{row_at, row_of}
@@ -207,7 +209,8 @@ other-trip k held text f h e =
 
 -- ---- all of them
 
-pub eight-trip : (s : Stroke) (f : KeySpelling) (g : KeyCode → ℕ → Option KeySpelling) → ((k : KeyCode) (held : ℕ) (f : KeySpelling) → held < 8 → g k held ≡ Some f → read_form f s.text ≡ Some (pressed k held))
+pub eight-trip : (s : Stroke) (f : KeySpelling) (g : KeyCode → ℕ → Option KeySpelling)
+    → ((k : KeyCode) (held : ℕ) (f : KeySpelling) → held < 8 → g k held ≡ Some f → read_form f s.text ≡ Some (pressed k held))
     → but_release s.event (option_and_then (g s.code) (xterm_held s.held)) ≡ Some f → read_form f s.text ≡ Some (pressed s.code (s.held % 8))
 eight-trip s f g trip e =
     let u = released s.event (option_and_then (g s.code) (xterm_held s.held)) f e in

@@ -22,7 +22,9 @@ use Rattle.csicodec_keys.specs.Forms.{by, form_of, key_alone, other_key, read_cs
 use Rattle.csicodec_keys.specs.Keys.{Stroke, is_stroke}
 use Rattle.csicodec_keys.specs.Rows.{row_at, row_of}
 use Rattle.csicodec_keys.specs.Tables.{win32_keys}
-use Rattle.csicodec_keys.specs.Win32.{char_record, control_unit, ctrl_unit, down_of, held_in, is_enhanced, key_record, read_record, read_win32, record_list, record_of, row_record, state_of, typed_key, typed_unit, unit_of, unit_text, win32_code, win32_key, win32_row}
+use Rattle.csicodec_keys.specs.Win32.{char_record, control_unit, ctrl_unit, down_of, held_in, is_enhanced}
+use Rattle.csicodec_keys.specs.Win32.{key_record, read_record, read_win32, record_list, record_of, row_record}
+use Rattle.csicodec_keys.specs.Win32.{state_of, typed_key, typed_unit, unit_of, unit_text, win32_code, win32_key, win32_row}
 use Rattle.csicodec_keys.proofs.AnyTable.{are_apart, any-row, row-all, row-has}
 use Rattle.csicodec_keys.proofs.Kitty.{in-range}
 use Rattle.csicodec_keys.proofs.Options.{guarded, map-some}
@@ -193,7 +195,8 @@ row-both s r uc low none found unit =
     let cs : ℕ = state_of s.held + 256 * (r.number / 256 % 2) in
     let is : is_enhanced cs ≡ (r.number / 256 % 2 == 1) = ap (λ n. n == 1) bit in
     let there : win32_row (r.number % 256) (is_enhanced cs) ≡ Some r = ap (win32_row (r.number % 256)) is ∙ row-there r.number r number at in
-    let coded : win32_code (win32_row (r.number % 256) (is_enhanced cs)) (typed_unit uc) ≡ Some s.code = ap (λ o. win32_code o (typed_unit uc)) there ∙ ap Some (row-has win32_keys s.code 0 r found).code_is in
+    let coded : win32_code (win32_row (r.number % 256) (is_enhanced cs)) (typed_unit uc) ≡ Some s.code =
+    ap (λ o. win32_code o (typed_unit uc)) there ∙ ap Some (row-has win32_keys s.code 0 r found).code_is in
     let small : Small (row_record r.number (down_of s.event) (state_of s.held) uc) = (omega arith, omega (arith, unit_small), omega (arith, down), omega (arith, state, two)) in (
       small,
       told-read (r.number % 256) uc (down_of s.event) cs s.code small coded
@@ -202,7 +205,8 @@ row-both s r uc low none found unit =
 
 -- ---- a key that has no row
 
-char-both : (s : Stroke) (k : KeyCode) (text : List ℕ) (r : Record) → s.held < 256 → s.held / 8 % 8 ≡ 0 → s.code ≡ k → s.text ≡ text → char_record k (down_of s.event) (state_of s.held) text ≡ Some r → Both s r
+char-both : (s : Stroke) (k : KeyCode) (text : List ℕ) (r : Record) → s.held < 256 → s.held / 8 % 8 ≡ 0 → s.code ≡ k → s.text ≡ text
+    → char_record k (down_of s.event) (state_of s.held) text ≡ Some r → Both s r
 char-both s (code.Char c) [] r low none same is e = cc
 char-both s (code.Char c) (d ∷ []) r low none same is e =
     let g = guarded ((c == d) && is_typed c && nat_lt c 65536) (Some (record { vk = 0; uc = c; kd = down_of s.event; cs = state_of s.held })) r e in
@@ -214,7 +218,8 @@ char-both s (code.Char c) (d ∷ []) r low none same is e =
     let unit : typed_unit c ≡ Some c = rw q.1 refl in
     let coded : win32_code (win32_row 0 (is_enhanced (state_of s.held))) (typed_unit c) ≡ Some s.code =
     ap (λ o. win32_code o (typed_unit c)) (no-row (is_enhanced (state_of s.held))) ∙ (ap (option_map (λ x. code.Char x)) unit ∙ ap Some (sym same)) in
-    let back : held_in (state_of s.held) ≡ s.held = subst (λ n. held_in n ≡ s.held) (none-more (state_of s.held)) (came-back 0 s.held none (agree_below_at (comes_back 0) (λ n. true) 256 s.held back-plain low)) in
+    let back : held_in (state_of s.held) ≡ s.held =
+    subst (λ n. held_in n ≡ s.held) (none-more (state_of s.held)) (came-back 0 s.held none (agree_below_at (comes_back 0) (λ n. true) 256 s.held back-plain low)) in
     let text : unit_text (typed_unit c) ≡ s.text = ap unit_text unit ∙ (ap (λ n. n ∷ []) (eqb-true c d q.0) ∙ sym is) in
     let small : Small (record { vk = 0; uc = c; kd = down_of s.event; cs = state_of s.held }) = (omega arith, omega (arith, high), omega (arith, down), omega (arith, state)) in
     subst (Both s) (same_Some _ _ g.1)

@@ -20,7 +20,9 @@ use Rattle.csicodec_keys.specs.declared.writing.KeySpelling.{KeySpelling}
 use Rattle.csicodec_keys.specs.declared.writing.KeySpelling.TheVariants as form
 use Rattle.csicodec_keys.specs.Characters.{is_alt, is_typed}
 use Rattle.csicodec_keys.specs.Fields.{written_list}
-use Rattle.csicodec_keys.specs.Forms.{alt_control, but_release, char_form, control_form, csi_form, csi_row, form_bytes, form_of, kitty_char, kitty_row, legacy_form, linux_form, other_form, other_number, rxvt_form, rxvt_row, ss3_form, text_form, text_of, xterm_held}
+use Rattle.csicodec_keys.specs.Forms.{alt_control, but_release, char_form, control_form, csi_form, csi_row}
+use Rattle.csicodec_keys.specs.Forms.{form_bytes, form_of, kitty_char, kitty_row, legacy_form, linux_form}
+use Rattle.csicodec_keys.specs.Forms.{other_form, other_number, rxvt_form, rxvt_row, ss3_form, text_form, text_of, xterm_held}
 use Rattle.csicodec_keys.specs.Keys.{Stroke, is_stroke}
 use Rattle.csicodec_keys.specs.Rows.{row_of}
 use Rattle.csicodec_keys.specs.Win32.{record_list, record_of}

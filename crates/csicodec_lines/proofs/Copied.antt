@@ -73,7 +73,10 @@ module _ {S P : Type 0} (Begins : P → S) (Gives : RuleOf S) (Closes : EndOf S)
   takes_shown s bytes plain =
       let whole = sym (append-nil bytes) in
       let (appended, out, goes) = over_told Gives longest s bytes [] [] bytes (tells_shown bytes [] [] bytes (bytes, whole, plain) (sym (front_taken bytes bytes [] whole))) in
-      record { unsure = (takes_none Gives s).unsure; goes = λ run chars read. subst (λ (t : List ℕ). Goes Gives longest (start_of s).mode false s run chars bytes t [] (start_of s).mode false s []) (sym out) (goes run chars read) }
+      record {
+        unsure = (takes_none Gives s).unsure;
+        goes = λ run chars read. subst (λ (t : List ℕ). Goes Gives longest (start_of s).mode false s run chars bytes t [] (start_of s).mode false s []) (sym out) (goes run chars read);
+      }
 
   -- a line begins, and its rule ends it without a byte
   pub record IsBlank (it : Lines S P) : Type 0 where
@@ -82,14 +85,16 @@ module _ {S P : Type 0} (Begins : P → S) (Gives : RuleOf S) (Closes : EndOf S)
     pub closes : Closes (Begins it.by) []
 
   -- so it is where what ended the line wrote nothing
-  pub is_blank : (it : Lines S P) (close before after : List ℕ) → it.line ≡ start_of (Begins it.by) → it.returned ≡ false → Closes it.line.rule close → after ≡ before ++ (shown_text it.line.held ++ close)
+  pub is_blank : (it : Lines S P) (close before after : List ℕ) → it.line ≡ start_of (Begins it.by) → it.returned ≡ false → Closes it.line.rule close
+      → after ≡ before ++ (shown_text it.line.held ++ close)
       → length after ≤ length before → IsBlank it
   is_blank it close before after line returned closes out few =
       let more = shown_text it.line.held ++ close in
       let none : close ≡ [] = empty close (omega (arith, ap length out, length-append before more, length-append (shown_text it.line.held) close, few)) in
       record { line = line; returned = returned; closes = subst (λ (l : Between S). Closes l.rule []) line (subst (Closes it.line.rule) none closes) }
 
-  one_shown : (old new : Lines S P) (c : ℕ) (ends : Bool) → ends_line c ≡ ends → IsShown c → scalar c ≡ true → IsBlank old → IsBlank new → new.by ≡ old.by → GoesOn Step old (encode_utf8 c) (encode_utf8 c) new
+  one_shown : (old new : Lines S P) (c : ℕ) (ends : Bool) → ends_line c ≡ ends → IsShown c → scalar c ≡ true → IsBlank old → IsBlank new
+      → new.by ≡ old.by → GoesOn Step old (encode_utf8 c) (encode_utf8 c) new
   one_shown old new c true ends shown is old_blank new_blank by =
       let line : new.line ≡ start_of (Begins old.by) = new_blank.line ∙ ap (λ (p : P). start_of (Begins p)) by in
       let none : Ending Closes old [] = rw old_blank.line ([], old_blank.closes, sym (append-nil _ ∙ shown_none)) in

@@ -51,7 +51,8 @@ pub all_within_on : (returned : Bool) (bs line more : List ℕ) → 0 < length b
 all_within_on returned [] line more some h = absurd (omega (arith, some))
 all_within_on returned (b ∷ []) line more some h = one_within returned b line more h.0
 all_within_on returned (b ∷ c ∷ bs) line more some h =
-    one_within returned b line (c ∷ (bs ++ more)) h.0 ∙ all_within_on false (c ∷ bs) (line ++ b ∷ []) more (omega arith) h.1 ∙ ap (λ (l : List ℕ). lines_from false l more) (append_assoc line (b ∷ []) (c ∷ bs))
+    one_within returned b line (c ∷ (bs ++ more)) h.0 ∙ all_within_on false (c ∷ bs) (line ++ b ∷ []) more (omega arith) h.1
+    ∙ ap (λ (l : List ℕ). lines_from false l more) (append_assoc line (b ∷ []) (c ∷ bs))
 
 -- one that ends it
 pub one_end : (returned : Bool) (b : ℕ) (line more : List ℕ) → joins returned b ≡ false → ends_line b ≡ true → lines_from returned line (b ∷ more) ≡ line ∷ lines_from (b == 13) [] more

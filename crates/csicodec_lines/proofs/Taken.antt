@@ -82,7 +82,8 @@ module _ {S P : Type 0} (Begins : P → S) (Gives : RuleOf S) (Closes : EndOf S)
             ∙ sym (append_assoc p.over (p.line ∷ []) (lines_from new.returned [] later));
         each = of_on (Ends Gives Closes longest (Begins first.by)) p.over p.texts p.line own p.each one;
         takes = rw (line, p.by) (takes_none Gives (Begins first.by));
-        all = ap (λ (t : List ℕ). t ++ (rest ++ 10 ∷ [])) p.all ∙ append_assoc (ended p.texts) p.own (rest ++ 10 ∷ []) ∙ ap (λ (t : List ℕ). ended p.texts ++ t) (sym (append_assoc p.own rest (10 ∷ [])))
+        all =
+            ap (λ (t : List ℕ). t ++ (rest ++ 10 ∷ [])) p.all ∙ append_assoc (ended p.texts) p.own (rest ++ 10 ∷ []) ∙ ap (λ (t : List ℕ). ended p.texts ++ t) (sym (append_assoc p.own rest (10 ∷ [])))
             ∙ sym (ended_on p.texts own) ∙ sym (append-nil (ended (p.texts ++ own ∷ [])));
       }
 
@@ -102,7 +103,8 @@ module _ {S P : Type 0} (Begins : P → S) (Gives : RuleOf S) (Closes : EndOf S)
         all = ap (λ (t : List ℕ). t ++ rest) p.all ∙ append_assoc (ended p.texts) p.own rest ∙ sym (joined_on p.texts own);
       }
 
-  pub transformed : (first : Lines S P) (bytes text : List ℕ) → first.returned ≡ false → Transforms Step (Ending Closes) first bytes text → ByLines (Ends Gives Closes longest (Begins first.by)) bytes text
+  pub transformed : (first : Lines S P) (bytes text : List ℕ) → first.returned ≡ false → Transforms Step (Ending Closes) first bytes text
+      → ByLines (Ends Gives Closes longest (Begins first.by)) bytes text
   transformed first bytes text fresh (last, sure, rest, passed, ending, split) = rw split (by_lines first last bytes sure rest fresh passed ending)
 
   -- with what a rule writes at any end, the front is one of a whole text
@@ -112,8 +114,10 @@ module _ {S P : Type 0} (Begins : P → S) (Gives : RuleOf S) (Closes : EndOf S)
       (λ (k : Sends Step first bytes (sent ++ unsent)).
       let (last, passed) = k in
       let (close, closes) = always last.line.rule in
-      let rest = shown_text last.line.held ++ close in
-      (unsent ++ rest, subst (ByLines (Ends Gives Closes longest (Begins first.by)) bytes) (append_assoc sent unsent rest) (by_lines first last bytes (sent ++ unsent) rest fresh passed (close, closes, refl))))
+      let rest = shown_text last.line.held ++ close in (
+        unsent ++ rest,
+        subst (ByLines (Ends Gives Closes longest (Begins first.by)) bytes) (append_assoc sent unsent rest) (by_lines first last bytes (sent ++ unsent) rest fresh passed (close, closes, refl)),
+      ))
       (λ (k : AreAll × Transforms Step (Ending Closes) first bytes (sent ++ unsent)). (unsent, transformed first bytes (sent ++ unsent) fresh k.1))
       h
 

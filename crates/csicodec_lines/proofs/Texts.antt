@@ -103,7 +103,8 @@ styled_both d s t h k =
       safe = all_both (IsSafe d) h.items later h.safe ((refl, refl), k.safe);
       texts = ap (λ (x : List ℕ). x ++ 10 ∷ t) h.texts ∙ ap (λ (x : List ℕ). item_texts h.items ++ 10 ∷ x) k.texts ∙ sym (texts_both h.items later);
       none_open = ap (is_open false) (styles_both h.items later) ∙ open_on false (styles_of h.items) (styles_of k.items) ∙ ap (λ (b : Bool). is_open b (styles_of k.items)) h.none_open ∙ k.none_open;
-      none_linked = ap (is_linked false) (links_both h.items later) ∙ linked_on false (links_of h.items) (links_of k.items) ∙ ap (λ (b : Bool). is_linked b (links_of k.items)) h.none_linked ∙ k.none_linked;
+      none_linked =
+          ap (is_linked false) (links_both h.items later) ∙ linked_on false (links_of h.items) (links_of k.items) ∙ ap (λ (b : Bool). is_linked b (links_of k.items)) h.none_linked ∙ k.none_linked;
     }
 
 pub each_styled : (d : Passing) (lines texts : List (List ℕ)) → AreOf (StylesIn d) lines texts → AreOf (λ (line t : List ℕ). IsStyledIn d t) lines texts

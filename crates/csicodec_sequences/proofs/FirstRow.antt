@@ -27,7 +27,8 @@ rows-at (x ∷ forms) (y ∷ all) zero f ss e g =
 rows-at (x ∷ forms) (y ∷ all) (suc k) f ss e g = rows-at forms all k f ss e g
 
 -- the row at a place reads the list
-pub found-at : (forms : List SequenceForm) (all : List (List NumberSlot)) (k : ℕ) (f : SequenceForm) (ss : List NumberSlot) (params : List CsiParam) (control : ℕ) (values : List ℕ) → slice_get forms k ≡ Some f → slice_get all k ≡ Some ss
+pub found-at : (forms : List SequenceForm) (all : List (List NumberSlot)) (k : ℕ) (f : SequenceForm) (ss : List NumberSlot) (params : List CsiParam) (control : ℕ) (values : List ℕ)
+    → slice_get forms k ≡ Some f → slice_get all k ≡ Some ss
     → Some values ≡ read_row (record { form = f; slots = ss }) params control → Some (f, values) ≡ first_reading (rows_of (drop k forms) (drop k all)) params control
 found-at forms all k f ss params control values e g read =
     sym
@@ -35,7 +36,8 @@ found-at forms all k f ss params control values e g read =
     ∙ ap (λ o. option_or (option_map (λ vs. (f, vs)) o) (first_reading (rows_of (drop (suc k) forms) (drop (suc k) all)) params control)) (sym read))
 
 -- it doesn't
-pub passed-at : (forms : List SequenceForm) (all : List (List NumberSlot)) (k : ℕ) (f : SequenceForm) (ss : List NumberSlot) (params : List CsiParam) (control : ℕ) → slice_get forms k ≡ Some f → slice_get all k ≡ Some ss
+pub passed-at : (forms : List SequenceForm) (all : List (List NumberSlot)) (k : ℕ) (f : SequenceForm) (ss : List NumberSlot) (params : List CsiParam) (control : ℕ)
+    → slice_get forms k ≡ Some f → slice_get all k ≡ Some ss
     → None ≡ read_row (record { form = f; slots = ss }) params control
     → first_reading (rows_of (drop k forms) (drop k all)) params control ≡ first_reading (rows_of (drop (k + 1) forms) (drop (k + 1) all)) params control
 passed-at forms all k f ss params control e g read =
@@ -45,7 +47,8 @@ passed-at forms all k f ss params control e g read =
     ∙ ap (λ (n : ℕ). first_reading (rows_of (drop n forms) (drop n all)) params control) one)
 
 -- no row is left
-pub none-left : (forms : List SequenceForm) (others : List (List NumberSlot)) (k : ℕ) (params : List CsiParam) (control : ℕ) → length forms ≤ k → None ≡ first_reading (rows_of (drop k forms) others) params control
+pub none-left : (forms : List SequenceForm) (others : List (List NumberSlot)) (k : ℕ) (params : List CsiParam) (control : ℕ) → length forms ≤ k
+    → None ≡ first_reading (rows_of (drop k forms) others) params control
 unfolding rows_of
 none-left [] others zero params control h = refl
 none-left [] others (suc k) params control h = refl

@@ -97,7 +97,8 @@ other-byte true ss b body vs other e =
     let none : None ≡ Some vs = rw other at e in
     cc
 
-byte-read : (behind : Bool) (i : ℕ) (ss : List NumberSlot) (b : ℕ) (tail : Bool) (shape : List actions.Slot) (ts : List CsiParam) (vs : List ℕ) → (b == 59) ≡ false → byte_apart i ss b tail shape ≡ true
+byte-read : (behind : Bool) (i : ℕ) (ss : List NumberSlot) (b : ℕ) (tail : Bool) (shape : List actions.Slot) (ts : List CsiParam) (vs : List ℕ)
+    → (b == 59) ≡ false → byte_apart i ss b tail shape ≡ true
     → has_shape tail shape ts ≡ true → (without_intermediate (P b ∷ ts)).0 ≡ i → ReadsAt behind ss (without_intermediate (P b ∷ ts)).1 vs → ⊥
 byte-read behind i ss b tail shape (u ∷ us) vs other h shaped ends e = other-byte behind ss b _ vs other e
 byte-read behind i ss b tail (s ∷ shape) [] vs other h shaped ends e = cc
@@ -139,11 +140,16 @@ number-read z s ss body vs e =
     }
 
 -- what an empty field at the front leaves
-empty-read : (s : NumberSlot) (ss : List NumberSlot) (body : List CsiParam) (vs : List ℕ) → slot_values (s ∷ ss) (P 59 ∷ body) ≡ Some vs → (v : ℕ) × (others : List ℕ) × (s.missing ≡ Some v) × (slot_values ss body ≡ Some others)
+empty-read : (s : NumberSlot) (ss : List NumberSlot) (body : List CsiParam) (vs : List ℕ) → slot_values (s ∷ ss) (P 59 ∷ body) ≡ Some vs
+    → (v : ℕ) × (others : List ℕ) × (s.missing ≡ Some v) × (slot_values ss body ≡ Some others)
 empty-read s ss body vs e =
     let t = taken s ss (P 59 ∷ body) vs refl e in
-    let same = sym (same_Some _ _ t.front) in
-    (t.first, t.others, subst (λ (f : Option ℤ × List CsiParam). slot_value s f.0 ≡ Some t.first) same t.value, subst (λ (f : Option ℤ × List CsiParam). slot_values ss f.1 ≡ Some t.others) same t.later)
+    let same = sym (same_Some _ _ t.front) in (
+      t.first,
+      t.others,
+      subst (λ (f : Option ℤ × List CsiParam). slot_value s f.0 ≡ Some t.first) same t.value,
+      subst (λ (f : Option ℤ × List CsiParam). slot_values ss f.1 ≡ Some t.others) same t.later,
+    )
 
 missing-some : (o : Option ℕ) (v : ℕ) → o ≡ Some v → not (is_some o) ≡ false
 missing-some None v e = cc
@@ -184,7 +190,8 @@ byte-front false i (s ∷ ss) tail shape b ts vs h shaped ends e goes = elim (ca
       (subst (λ (w : ℕ × List CsiParam). w.0 ≡ i) cut (subst (λ x. (without_intermediate (P x ∷ ts)).0 ≡ i) same ends)) r.3
 ]
 
-walk-apart : (behind : Bool) (i : ℕ) (ss : List NumberSlot) (tail : Bool) (shape : List actions.Slot) (ts : List CsiParam) (vs : List ℕ) → walk behind i ss tail shape ≡ true → has_shape tail shape ts ≡ true
+walk-apart : (behind : Bool) (i : ℕ) (ss : List NumberSlot) (tail : Bool) (shape : List actions.Slot) (ts : List CsiParam) (vs : List ℕ)
+    → walk behind i ss tail shape ≡ true → has_shape tail shape ts ≡ true
     → (without_intermediate ts).0 ≡ i → ReadsAt behind ss (without_intermediate ts).1 vs → ⊥
 walk-apart behind i ss tail [] ts vs h shaped ends e = ended-read behind i ss tail ts vs h shaped ends e
 walk-apart behind i ss tail (Byte b ∷ shape) [] vs h shaped ends e = cc
@@ -257,11 +264,13 @@ marked-read m i ss tail (Byte b ∷ shape) (P c ∷ ts) vs h shaped begins ends 
           let other_b : is_marker b ≡ false = subst (λ x. is_marker x ≡ false) same other in
           let apart : (not (m == 0) || walk false i ss tail (Byte b ∷ shape)) ≡ true = rw other_b at h in
           let begin_is : 0 ≡ m = rw other at begins in
-          walk-apart false i ss tail (Byte b ∷ shape) (P c ∷ ts) vs (or-either (not (m == 0)) (walk false i ss tail (Byte b ∷ shape)) apart (ap not (eq-eqb m 0 (sym begin_is)))) shaped (rw other at ends) (rw other at e)
+          walk-apart false i ss tail (Byte b ∷ shape) (P c ∷ ts) vs
+          (or-either (not (m == 0)) (walk false i ss tail (Byte b ∷ shape)) apart (ap not (eq-eqb m 0 (sym begin_is)))) shaped (rw other at ends) (rw other at e)
     ]
 
 -- what a row reads is read by no row of actions that it is apart from
-pub tokens-unread : (q : Row) (rows : List (actions.Row Action)) (list : List CsiParam) (final : ℕ) (vs : List ℕ) → apart_from_all q rows ≡ true → read_row q list final ≡ Some vs → given rows list ≡ None
+pub tokens-unread : (q : Row) (rows : List (actions.Row Action)) (list : List CsiParam) (final : ℕ) (vs : List ℕ) → apart_from_all q rows ≡ true
+    → read_row q list final ≡ Some vs → given rows list ≡ None
 tokens-unread q [] list final vs h e = refl
 tokens-unread q (r ∷ rows) list final vs h e =
     let p = and_parts (row_apart q r) (apart_from_all q rows) h in go (gives r list) refl (tokens-unread q rows list final vs p.1 e) p.0

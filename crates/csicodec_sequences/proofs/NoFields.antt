@@ -57,14 +57,16 @@ pub record SameField (number : Option ℤ) (rest : List CsiParam) (fs : List (Op
 same : (number : Option ℤ) (rest : List CsiParam) (x : Option ℤ) (gs fs : List (Option ℤ)) → x ≡ number → fields_of rest ≡ Some gs → x ∷ gs ≡ fs → SameField number rest fs
 same number rest x gs fs e f g = subst (λ (hs : List (Option ℤ)). SameField number rest hs) g (record { number_is = e; rest_has = f })
 
-same-parts : (x : Option ℤ) (ts : List CsiParam) (number : Option ℤ) (rest : List CsiParam) (fs : List (Option ℤ)) → ◌≡◌ {A = Option (Option ℤ × List CsiParam)} (Some (x, ts)) (Some (number, rest)) → with_field x (fields_of ts) ≡ Some fs → SameField number rest fs
+same-parts : (x : Option ℤ) (ts : List CsiParam) (number : Option ℤ) (rest : List CsiParam) (fs : List (Option ℤ))
+    → ◌≡◌ {A = Option (Option ℤ × List CsiParam)} (Some (x, ts)) (Some (number, rest)) → with_field x (fields_of ts) ≡ Some fs → SameField number rest fs
 same-parts x ts number rest fs e f =
     let w = with-some x (fields_of ts) fs f in
     subst (λ (c : Option ℤ × List CsiParam). SameField c.0 c.1 fs) (same_Some _ _ e) (same x ts x w.0 fs refl w.1 w.2)
 
 same-field : (list : List CsiParam) (number : Option ℤ) (rest : List CsiParam) (fs : List (Option ℤ)) → split_field list ≡ Some (number, rest) → fields_of list ≡ Some fs → SameField number rest fs
 same-field [] number rest fs e f =
-    subst (λ (c : Option ℤ × List CsiParam). SameField c.0 c.1 fs) (same_Some _ _ e) (subst (λ (hs : List (Option ℤ)). SameField None [] hs) (same_Some _ _ f) (record { number_is = refl; rest_has = refl }))
+    subst (λ (c : Option ℤ × List CsiParam). SameField c.0 c.1 fs) (same_Some _ _ e)
+    (subst (λ (hs : List (Option ℤ)). SameField None [] hs) (same_Some _ _ f) (record { number_is = refl; rest_has = refl }))
 same-field (P b ∷ ts) number rest fs e f = elim (cases_Bool (b == 59)) [
   | inl is ↦ same-parts None ts number rest fs (rw is at e) (rw is at f)
   | inr other ↦ (let none : None ≡ Some (number, rest) = rw other at e in cc)
@@ -119,7 +121,8 @@ nothing-there : (s : NumberSlot) (list : List CsiParam) (fs : List (Option ℤ))
 nothing-there s [] fs h f = same_Some _ _ f
 nothing-there s (t ∷ ts) fs h f = cc
 
-field-read : (s : NumberSlot) (ss : List NumberSlot) (t : fields.Slot) (list : List CsiParam) (fs : List (Option ℤ)) (vs : List ℕ) → field_differs s t ≡ true → slot_values (s ∷ ss) list ≡ Some vs → fields_of list ≡ Some fs → fits t fs ≡ true
+field-read : (s : NumberSlot) (ss : List NumberSlot) (t : fields.Slot) (list : List CsiParam) (fs : List (Option ℤ)) (vs : List ℕ)
+    → field_differs s t ≡ true → slot_values (s ∷ ss) list ≡ Some vs → fields_of list ≡ Some fs → fits t fs ≡ true
     → ⊥
 field-read s ss (This n) list fs vs h e f shaped = elim (cases_Bool (stops s list)) [
   | inl ends ↦ (let no_it : false ≡ true = subst (λ (hs : List (Option ℤ)). fits (This n) hs ≡ true) (sym (nothing-there s list fs ends f)) shaped in cc)
@@ -138,7 +141,8 @@ field-read s ss End list fs vs h e f shaped =
     no-number s t.number t.first h (subst (λ o. not (is_some o) ≡ true) both.number_is (no-field fs shaped)) t.value
 field-read s ss _ list fs vs h e f shaped = cc
 
-fields-read : (ss : List NumberSlot) (row : List fields.Slot) (list : List CsiParam) (fs : List (Option ℤ)) (vs : List ℕ) → fields_apart ss row ≡ true → slot_values ss list ≡ Some vs → fields_of list ≡ Some fs → have_shape row fs ≡ true
+fields-read : (ss : List NumberSlot) (row : List fields.Slot) (list : List CsiParam) (fs : List (Option ℤ)) (vs : List ℕ)
+    → fields_apart ss row ≡ true → slot_values ss list ≡ Some vs → fields_of list ≡ Some fs → have_shape row fs ≡ true
     → ⊥
 fields-read ss [] list fs vs h e f shaped = cc
 fields-read [] (t ∷ row) list fs vs h e f shaped =
@@ -154,7 +158,8 @@ fields-read (s ∷ ss) (t ∷ row) list fs vs h e f shaped =
           fields-read ss row taken_it.rest (behind fs) taken_it.others q.1 taken_it.later both.rest_has p.1
     ]
 
-pub fields-unread : (ss : List NumberSlot) (rows : List (FieldRow Action)) (list : List CsiParam) (fs : List (Option ℤ)) (vs : List ℕ) → apart_from_fields ss rows ≡ true → slot_values ss list ≡ Some vs → fields_of list ≡ Some fs
+pub fields-unread : (ss : List NumberSlot) (rows : List (FieldRow Action)) (list : List CsiParam) (fs : List (Option ℤ)) (vs : List ℕ)
+    → apart_from_fields ss rows ≡ true → slot_values ss list ≡ Some vs → fields_of list ≡ Some fs
     → given rows fs ≡ None
 fields-unread ss [] list fs vs h e f = refl
 fields-unread ss (r ∷ rows) list fs vs h e f =
@@ -175,7 +180,8 @@ fields-begin (P b ∷ ts) fs f = elim (cases_Bool (b == 59)) [
   | inr other ↦ (let none : None ≡ Some fs = rw other at f in cc)
 ]
 
-separated : (b : ℕ) (ts : List CsiParam) (x : Option ℤ) (fs : List (Option ℤ)) → (if b == 59 then with_field x (fields_of ts) else None) ≡ Some fs → ((gs : List (Option ℤ)) → fields_of ts ≡ Some gs → without_intermediate ts ≡ (0, ts))
+separated : (b : ℕ) (ts : List CsiParam) (x : Option ℤ) (fs : List (Option ℤ)) → (if b == 59 then with_field x (fields_of ts) else None) ≡ Some fs
+    → ((gs : List (Option ℤ)) → fields_of ts ≡ Some gs → without_intermediate ts ≡ (0, ts))
     → without_intermediate (P b ∷ ts) ≡ (0, P b ∷ ts)
 separated b ts x fs f later = elim (cases_Bool (b == 59)) [
   | inl is ↦

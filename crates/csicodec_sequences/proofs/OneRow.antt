@@ -84,11 +84,16 @@ goes-on s [] h = not-false s.optional h
 goes-on s (t ∷ ts) h = refl
 
 -- what a slot reads at the end of a list
-at-end : (s : NumberSlot) (ss : List NumberSlot) (vs : List ℕ) → not s.optional ≡ true → slot_values (s ∷ ss) [] ≡ Some vs → (v : ℕ) × (ws : List ℕ) × (slot_value s None ≡ Some v) × (slot_values ss [] ≡ Some ws)
+at-end : (s : NumberSlot) (ss : List NumberSlot) (vs : List ℕ) → not s.optional ≡ true → slot_values (s ∷ ss) [] ≡ Some vs
+    → (v : ℕ) × (ws : List ℕ) × (slot_value s None ≡ Some v) × (slot_values ss [] ≡ Some ws)
 at-end s ss vs h e =
     let t = taken s ss [] vs (goes-on s [] h) e in
-    let same = sym (same_Some _ _ t.front) in
-    (t.first, t.others, subst (λ (f : Option ℤ × List CsiParam). slot_value s f.0 ≡ Some t.first) same t.value, subst (λ (f : Option ℤ × List CsiParam). slot_values ss f.1 ≡ Some t.others) same t.later)
+    let same = sym (same_Some _ _ t.front) in (
+      t.first,
+      t.others,
+      subst (λ (f : Option ℤ × List CsiParam). slot_value s f.0 ≡ Some t.first) same t.value,
+      subst (λ (f : Option ℤ × List CsiParam). slot_values ss f.1 ≡ Some t.others) same t.later,
+    )
 
 -- a slot that has to stand there reads no empty list
 pub must-nothing : (s : NumberSlot) (ss : List NumberSlot) (vs : List ℕ) → must s ≡ true → slot_values (s ∷ ss) [] ≡ Some vs → ⊥
@@ -182,7 +187,8 @@ apart-rows q r list final vs ws h e f =
           ]
     ]
 
-pub apart-from : (q : Row) (rows : List Row) (i : ℕ) (r : Row) (list : List CsiParam) (final : ℕ) (vs ws : List ℕ) → apart_from q rows ≡ true → slice_get rows i ≡ Some r → read_row q list final ≡ Some vs
+pub apart-from : (q : Row) (rows : List Row) (i : ℕ) (r : Row) (list : List CsiParam) (final : ℕ) (vs ws : List ℕ) → apart_from q rows ≡ true
+    → slice_get rows i ≡ Some r → read_row q list final ≡ Some vs
     → read_row r list final ≡ Some ws → ⊥
 apart-from q [] zero r list final vs ws h at e f = cc
 apart-from q [] (suc i) r list final vs ws h at e f = cc

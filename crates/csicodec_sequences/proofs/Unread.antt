@@ -59,7 +59,8 @@ none-from (Some x) h = absurd (h x refl)
 
 -- what is cut off ahead of the fields of an entry
 over-some : (o : Over Action) (list : List CsiParam) (a : Action) {P : Type 0} → read_over o list ≡ Some a
-    → ((rest front : List CsiParam) (fs : List (Option ℤ)) → behind_byte o.ahead list ≡ Some rest → ahead_of_byte o.end rest ≡ Some front → fields_of front ≡ Some fs → given o.rows fs ≡ Some a → P) → P
+    → ((rest front : List CsiParam) (fs : List (Option ℤ)) → behind_byte o.ahead list ≡ Some rest → ahead_of_byte o.end rest ≡ Some front
+    → fields_of front ≡ Some fs → given o.rows fs ≡ Some a → P) → P
 over-some o list a e goes =
     option_and_then_some (given o.rows) (fields_over o list) a e
     (λ fs are gave.
@@ -97,7 +98,8 @@ areas-unread q list final vs r h =
         let here : ahead_of_byte (Some 42) list ≡ Some front = ap (ahead_of_byte (Some 42)) (same_Some list rest ahead) ∙ ends in
         no-both (q.form.intermediate == 42) (eq-eqb q.form.intermediate 42 (sym r.intermediate ∙ star-behind list front here)) h
 
-graphics-unread : (q : Row) (list : List CsiParam) (final : ℕ) (vs : List ℕ) → HasRead q list final vs → not (q.form.marker == 63) ≡ true → read_over (over (byte "?") no_byte "S" graphics_rows) list ≡ None
+graphics-unread : (q : Row) (list : List CsiParam) (final : ℕ) (vs : List ℕ) → HasRead q list final vs → not (q.form.marker == 63) ≡ true
+    → read_over (over (byte "?") no_byte "S" graphics_rows) list ≡ None
 graphics-unread q list final vs r h =
     none-from (read_over (over (byte "?") no_byte "S" graphics_rows) list)
     (λ a e. over-some (over (byte "?") no_byte "S" graphics_rows) list a e (λ rest front fs ahead ends fields gave. go rest ahead))

@@ -181,7 +181,8 @@ kept : (a : Action) → Kept false a → InRange a × IsNamed a
 kept a k = elim k.canonical [ inl special ↦ special-kept a special | inr canonical ↦ canonical-kept a k.range canonical ]
 
 -- the actions of a sequence
-pub read_kept : (bytes : List ℕ) (list : List CsiParam) (final : ℕ) (rest : List ℕ) (actions : List Action) → Reads bytes list final rest → Actions list false final actions → All InRange actions × All IsNamed actions
+pub read_kept : (bytes : List ℕ) (list : List CsiParam) (final : ℕ) (rest : List ℕ) (actions : List Action) → Reads bytes list final rest
+    → Actions list false final actions → All InRange actions × All IsNamed actions
 read_kept bytes list final rest actions reads are =
     let all = All-from_recursion (Kept false) actions (parsed-kept list false final actions reads.1.spellable reads.1.ends are) in
     (All-weaker (Kept false) InRange (λ a k. (kept a k).0) actions all, All-weaker (Kept false) IsNamed (λ a k. (kept a k).1) actions all)

@@ -65,7 +65,8 @@ places place xs ys = let e : length (xs ++ ys) ≡ length xs + length ys = lengt
 structs_snoc : (place : ℕ) (xs : List Action) (a : Action) → structs place (xs ++ a ∷ []) ≡ structs place xs ++ struct_of (place + length (all_params xs)) a ∷ []
 structs_snoc place [] a = ap (λ n. struct_of n a ∷ []) (omega arith)
 structs_snoc place (x ∷ xs) a =
-    ap (λ l. struct_of place x ∷ l) (structs_snoc (place + length (params_of x)) xs a ∙ ap (λ n. structs (place + length (params_of x)) xs ++ struct_of n a ∷ []) (places place (params_of x) (all_params xs)))
+    ap (λ l. struct_of place x ∷ l)
+    (structs_snoc (place + length (params_of x)) xs a ∙ ap (λ n. structs (place + length (params_of x)) xs ++ struct_of n a ∷ []) (places place (params_of x) (all_params xs)))
 
 from_zero : (n : ℕ) → 0 + n ≡ n
 from_zero n = omega arith
@@ -88,7 +89,8 @@ lays_more oa ma na op mp np count next end p before a lays made puts_action toke
     record {
       actions = more ∙ (ap (λ n. n + 1) lays.actions ∙ sym (length_snoc before a));
       params = omega (arith, tokens.ends, lays.params, length-append (all_params before) (params_of a), ap length (params_snoc before a));
-      lays_actions = action ∙ ap (laid oa) (ap (λ q. structs 0 before ++ q ∷ []) (made ∙ ap (λ n. struct_of n a) (lays.params ∙ sym (from_zero (length (all_params before))))) ∙ sym (structs_snoc 0 before a));
+      lays_actions =
+          action ∙ ap (laid oa) (ap (λ q. structs 0 before ++ q ∷ []) (made ∙ ap (λ n. struct_of n a) (lays.params ∙ sym (from_zero (length (all_params before))))) ∙ sym (structs_snoc 0 before a));
       lays_params = tokens.puts op (all_params before) lays.lays_params lays.params ∙ ap (laid op) (sym (params_snoc before a));
     }
 
@@ -113,7 +115,8 @@ pub ref_laid : (o : Option Counts) (r : Result Counts AllocError) (e : AllocErro
     → r ≡ ok_or o e → ((a : Action) → IsRef lent false final a → b ≡ a) → IfSome o (LaysOne count ao an po pn b)
     → IfOk r (λ next. (a : Action) → IsRef lent false final a → LaysOne count ao an po pn a next)
 ref_laid o r e count ao an po pn b lent final answers same =
-    or_failed o r e (LaysOne count ao an po pn b) (λ next. (a : Action) → IsRef lent false final a → LaysOne count ao an po pn a next) answers (λ n held a is. lays_same count ao an po pn a b n (same a is) held)
+    or_failed o r e (LaysOne count ao an po pn b) (λ next. (a : Action) → IsRef lent false final a → LaysOne count ao an po pn a next) answers
+    (λ n held a is. lays_same count ao an po pn a b n (same a is) held)
 
 pub ref_whole : (r : Result Counts AllocError) (count : Counts) (ao an : List Struct) (po pn : List Param) (b : Action) (lent : ActionRef) (final : ℕ)
     → ((a : Action) → IsRef lent false final a → b ≡ a) → IfOk r (LaysOne count ao an po pn b)

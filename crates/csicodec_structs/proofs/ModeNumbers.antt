@@ -31,11 +31,13 @@ short-reads (negsuc n) = λ fits. fits
 
 -- by its code, and by itself
 code-reads : {C M : Type 0} (code_number : C → ℕ) (all : List C) → Coded code_number all → (coded : C → M) (own : ℕ → M) (number : M → ℕ) (Named : M → Type 0) (z : ℤ)
-    → ((c : C) → number (coded c) ≡ code_number c) → ((n : ℕ) → number (own n) ≡ n) → ((c : C) → code_number c < 65536) → ((c : C) → Named (coded c)) → ((n : ℕ) → ((c : C) → n ≡ code_number c → ⊥) → Named (own n))
+    → ((c : C) → number (coded c) ≡ code_number c) → ((n : ℕ) → number (own n) ≡ n) → ((c : C) → code_number c < 65536) → ((c : C) → Named (coded c))
+    → ((n : ℕ) → ((c : C) → n ≡ code_number c → ⊥) → Named (own n))
     → ReadsNamed number Named (FitsUnsignedBits 16) z (code_or coded own (with_number code_number all z) (short z))
 code-reads code_number all is coded own number Named z by_code by_self fits named_code named_own = go (with_number code_number all z) (short z) refl (short-reads z)
   where
-    go : (found : Option _) (n : Option ℕ) → with_number code_number all z ≡ found → Reads (λ n. n) (FitsUnsignedBits 16) z n → ReadsNamed number Named (FitsUnsignedBits 16) z (code_or coded own found n)
+    go : (found : Option _) (n : Option ℕ) → with_number code_number all z ≡ found → Reads (λ n. n) (FitsUnsignedBits 16) z n
+        → ReadsNamed number Named (FitsUnsignedBits 16) z (code_or coded own found n)
     go (Some c) n found short = rw (by_code c) (listed-number code_number all z c found, fits c, named_code c)
     go None (Some n) none short = rw (by_self n) (short.0, short.1, named_own n (λ c same. none-has code_number all is z none c (short.0 ∙ ap pos same)))
     go None None none short = short
@@ -48,8 +50,12 @@ terminal-fits c = omega (arith, small terminal_mode_number terminal_codes termin
 
 pub dec_reads : (z : ℤ) (o : Option DecPrivateMode) → SFits w64 z → o ≡ read Dec (to_z w64 (of_z w64 z)) → ReadsNamed dec_number IsNamedDec (FitsUnsignedBits 16) z o
 unfolding read
-dec_reads z o fits is = rw (is, to_z-of_z w64 z fits) (code-reads dec_mode_number dec_codes decs (λ c. dec.Code c) (λ n. dec.Unspecified n) dec_number IsNamedDec z (λ c. refl) (λ n. refl) dec-fits (λ c. tt) (λ n h. h))
+dec_reads z o fits is =
+    rw (is, to_z-of_z w64 z fits) (code-reads dec_mode_number dec_codes decs (λ c. dec.Code c) (λ n. dec.Unspecified n) dec_number IsNamedDec z (λ c. refl) (λ n. refl) dec-fits (λ c. tt) (λ n h. h))
 
 pub terminal_reads : (z : ℤ) (o : Option TerminalMode) → SFits w64 z → o ≡ read Terminal (to_z w64 (of_z w64 z)) → ReadsNamed terminal_number IsNamedTerminal (FitsUnsignedBits 16) z o
 unfolding read
-terminal_reads z o fits is = rw (is, to_z-of_z w64 z fits) (code-reads terminal_mode_number terminal_codes terminals (λ c. terminal.Code c) (λ n. terminal.Unspecified n) terminal_number IsNamedTerminal z (λ c. refl) (λ n. refl) terminal-fits (λ c. tt) (λ n h. h))
+terminal_reads z o fits is =
+    rw (is, to_z-of_z w64 z fits)
+    (code-reads terminal_mode_number terminal_codes terminals (λ c. terminal.Code c) (λ n. terminal.Unspecified n) terminal_number IsNamedTerminal z
+    (λ c. refl) (λ n. refl) terminal-fits (λ c. tt) (λ n h. h))

@@ -106,7 +106,9 @@ pub dec-named : (m : DecPrivateMode) → IsNamedDec (dec_at (pos (dec_number m))
 dec-named m = at-named dec_mode_number dec_codes (λ c. dec.Code c) (λ n. dec.Unspecified n) dec_number IsNamedDec decs (λ c. refl) (λ k. refl) (λ c. tt) (λ k h. h) (dec_number m)
 
 pub terminal-named : (m : TerminalMode) → IsNamedTerminal (terminal_at (pos (terminal_number m))) × (terminal_number (terminal_at (pos (terminal_number m))) ≡ terminal_number m)
-terminal-named m = at-named terminal_mode_number terminal_codes (λ c. terminal.Code c) (λ n. terminal.Unspecified n) terminal_number IsNamedTerminal terminals (λ c. refl) (λ k. refl) (λ c. tt) (λ k h. h) (terminal_number m)
+terminal-named m =
+    at-named terminal_mode_number terminal_codes (λ c. terminal.Code c) (λ n. terminal.Unspecified n) terminal_number IsNamedTerminal terminals
+    (λ c. refl) (λ k. refl) (λ c. tt) (λ k h. h) (terminal_number m)
 
 -- ---- items of graphics
 

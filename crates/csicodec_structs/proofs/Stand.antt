@@ -15,7 +15,8 @@ use Rattle.csicodec_structs.specs.Ranges.{InRange}
 use Rattle.csicodec_structs.specs.Rows.{params_of, struct_of}
 use Rattle.csicodec_structs.proofs.OneAction.{action-named, same-action}
 
-stand_snoc : (structs : List Struct) (params : List Param) (actions : List Action) (p : Struct) (a : Action) → AllStand structs params actions → Stands p params a → AllStand (structs ++ p ∷ []) params (actions ++ a ∷ [])
+stand_snoc : (structs : List Struct) (params : List Param) (actions : List Action) (p : Struct) (a : Action) → AllStand structs params actions
+    → Stands p params a → AllStand (structs ++ p ∷ []) params (actions ++ a ∷ [])
 stand_snoc [] params [] p a all one = (one, tt)
 stand_snoc [] params (b ∷ actions) p a all one = absurd all
 stand_snoc (q ∷ structs) params [] p a all one = absurd all

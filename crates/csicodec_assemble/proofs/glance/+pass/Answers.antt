@@ -40,7 +40,8 @@ pass-returns-in-BeginArray-clause-value t c =
     let first : c.args.reader.now ≡ token_of c.in_ok-token.token ∷ c.next.new.self = grind arith in
     let is : c.args.reader.now ≡ Token.begin_array ∷ c.next.new.self = grind (arith, first) in
     let rest = c.next.new.self in
-    let opened = ap (converted of_json) (ap (value c.args.depth) is ∙ value-begin_array c.args.depth rest c.if-depth-gt0.true) ∙ converted-array (items (value (c.args.depth - 1)) (length rest) rest) in
+    let opened =
+    ap (converted of_json) (ap (value c.args.depth) is ∙ value-begin_array c.args.depth rest c.if-depth-gt0.true) ∙ converted-array (items (value (c.args.depth - 1)) (length rest) rest) in
     on_ok_weaker c.pass_items.result (λ found. (array found.0, opened ∙ ap (parse_map array) found.1)) c.pass_items.ensures.value
 
 pub pass-returns-in-BeginObject-clause-value : goal.pass-returns-in-BeginObject-clause-value
@@ -48,7 +49,8 @@ pass-returns-in-BeginObject-clause-value t c =
     let first : c.args.reader.now ≡ token_of c.in_ok-token.token ∷ c.next.new.self = grind arith in
     let is : c.args.reader.now ≡ Token.begin_object ∷ c.next.new.self = grind (arith, first) in
     let rest = c.next.new.self in
-    let opened = ap (converted of_json) (ap (value c.args.depth) is ∙ value-begin_object c.args.depth rest c.if-depth-gt0-2.true) ∙ converted-object (members (value (c.args.depth - 1)) (length rest) rest) in
+    let opened =
+    ap (converted of_json) (ap (value c.args.depth) is ∙ value-begin_object c.args.depth rest c.if-depth-gt0-2.true) ∙ converted-object (members (value (c.args.depth - 1)) (length rest) rest) in
     on_ok_weaker c.pass_members.result (λ found. (object found.0, opened ∙ ap (parse_map object) found.1)) c.pass_members.ensures.value
 
 pub pass_items-items-init : goal.pass_items-items-init

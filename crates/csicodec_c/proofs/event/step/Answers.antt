@@ -24,5 +24,7 @@ returns c =
       mode = ap (λ (x : Evented). x.mode) e;
       looks = ap (λ (x : Evented). x.looked) e;
       used = ap (λ (x : Evented). x.used) e;
-      puts = puts_none told.event c.next.new.params.items c.args.actions.now c.args.params.now c.answer-answer.result c.in_default.not-Csi (ap (λ (x : Evented). x.actions) e) (ap (λ (x : Evented). x.params) e);
+      puts =
+          puts_none told.event c.next.new.params.items c.args.actions.now c.args.params.now c.answer-answer.result c.in_default.not-Csi
+          (ap (λ (x : Evented). x.actions) e) (ap (λ (x : Evented). x.params) e);
     })

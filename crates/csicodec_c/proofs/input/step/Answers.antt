@@ -61,7 +61,8 @@ returns-in-Output c =
     let list = c.next_in.new.params.items in
     let sends = rw c.in-Ok-Some.field-0-is at c.in-Ok-Some.ensures.sends in
     let parts = rw c.in-Ok-Some.field-0-is at c.in-Ok-Some.ensures.parts in
-    let none = puts_told c.in-Output.told list c.args.actions.now c.args.params.now c.answer-answer.result c.in_default-told.not-Csi (ap (λ (x : Received). x.actions) e) (ap (λ (x : Received). x.params) e) in
+    let none =
+    puts_told c.in-Output.told list c.args.actions.now c.args.params.now c.answer-answer.result c.in_default-told.not-Csi (ap (λ (x : Received). x.actions) e) (ap (λ (x : Received). x.params) e) in
     inl (record {
       who = c.args.dialect;
       before = c.args.events.mode;

@@ -21,6 +21,7 @@ loop-count-preserved c =
     record {
       within = omega (arith, c.loop-count-test.true, length-set at.room at.count found.style);
       read = rw (take_more_set at.room at.count found.style c.loop-count-test.true)
-          (styles_more c.args.body.now at.text.now found.behind.now _ (take at.count at.room) found.style at.invariant.read found.ensures (byte_cut found.behind.now 59 c.in-59.len_at_least (omega arith)));
+          (styles_more c.args.body.now at.text.now found.behind.now _ (take at.count at.room) found.style at.invariant.read found.ensures
+          (byte_cut found.behind.now 59 c.in-59.len_at_least (omega arith)));
       next = c.in_ok-next-in-59.ensures;
     }

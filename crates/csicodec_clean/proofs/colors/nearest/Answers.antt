@@ -11,7 +11,9 @@ loop-place-preserved-then-here-least c =
     record {
       within = omega (arith, c.loop-place-test.true);
       least = here;
-      same = nearer_step c.args.color l.best (l.place + 1) (l.place + 1 + 1) (c.args.last - l.place) (c.args.last - (l.place + 1)) l.least c.distance-here.result l.invariant.least here c.if-here-least.true left (omega arith) ∙ l.invariant.same;
+      same =
+          nearer_step c.args.color l.best (l.place + 1) (l.place + 1 + 1) (c.args.last - l.place) (c.args.last - (l.place + 1)) l.least
+          c.distance-here.result l.invariant.least here c.if-here-least.true left (omega arith) ∙ l.invariant.same;
     }
 
 pub loop-place-preserved : goal.loop-place-preserved
@@ -22,7 +24,9 @@ loop-place-preserved c =
     record {
       within = omega (arith, c.loop-place-test.true);
       least = l.invariant.least;
-      same = further_step c.args.color l.best (l.place + 1) (l.place + 1 + 1) (c.args.last - l.place) (c.args.last - (l.place + 1)) l.least c.distance-here.result l.invariant.least here c.if-here-least.false left (omega arith) ∙ l.invariant.same;
+      same =
+          further_step c.args.color l.best (l.place + 1) (l.place + 1 + 1) (c.args.last - l.place) (c.args.last - (l.place + 1)) l.least
+          c.distance-here.result l.invariant.least here c.if-here-least.false left (omega arith) ∙ l.invariant.same;
     }
 
 pub returns : goal.returns

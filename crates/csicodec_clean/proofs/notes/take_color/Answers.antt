@@ -16,7 +16,9 @@ keep-requires-clause-noted c =
     let (list, reads, are) = c.in-Some.ensures.read in
     let read = front_read c.args.limit _ bytes rest list 109 (rw c.near-front.ensures at reads) (ap (λ l. length l - length rest) c.near-front.ensures) in
     let text = c.in-Some-color_text.ensures c.in-Some.field-0-0 rest c.in-Some.ensures.spelled in
-    color_noted front rest _ c.in-Some-color_text.text _ c.in-Some.field-0-0 _ c.in-Some.ensures.spelled (closed_taken _ list 109 _ read.1 are refl (color_closed _ rest _ list c.in-Some.ensures.spelled reads)) text (c.split_at.ensures.front ∙ ap (take (length front - length rest + 4)) c.color_note.ensures)
+    color_noted front rest _ c.in-Some-color_text.text _ c.in-Some.field-0-0 _ c.in-Some.ensures.spelled
+    (closed_taken _ list 109 _ read.1 are refl (color_closed _ rest _ list c.in-Some.ensures.spelled reads)) text
+    (c.split_at.ensures.front ∙ ap (take (length front - length rest + 4)) c.color_note.ensures)
 
 pub returns-clause-within : goal.returns-clause-within
 returns-clause-within c =
@@ -33,4 +35,6 @@ returns-clause-left c = λ some styled.
     let read = front_read c.args.limit _ bytes rest list 109 (rw c.near-front.ensures at reads) (ap (λ l. length l - length rest) c.near-front.ensures) in
     let text = c.in-Some-color_text.ensures c.in-Some.field-0-0 rest c.in-Some.ensures.spelled in
     let own = take (length front - length rest) bytes in
-    subst (λ (d : Depth). IsLeft d styled own true c.args.out.now.items c.append_front.new.out.items) (sym c.in-Full.is) (color_left front rest own c.args.out.now.items c.append_front.new.out.items c.in-Some.field-0-0 styled c.in-Some.ensures.spelled (closed_taken _ list 109 _ read.1 are refl (color_closed _ rest _ list c.in-Some.ensures.spelled reads)) (c.in_ok-append_front.ensures ∙ ap (λ l. c.args.out.now.items ++ l) text))
+    subst (λ (d : Depth). IsLeft d styled own true c.args.out.now.items c.append_front.new.out.items) (sym c.in-Full.is)
+    (color_left front rest own c.args.out.now.items c.append_front.new.out.items c.in-Some.field-0-0 styled c.in-Some.ensures.spelled
+    (closed_taken _ list 109 _ read.1 are refl (color_closed _ rest _ list c.in-Some.ensures.spelled reads)) (c.in_ok-append_front.ensures ∙ ap (λ l. c.args.out.now.items ++ l) text))

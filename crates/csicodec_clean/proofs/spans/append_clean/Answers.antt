@@ -31,13 +31,18 @@ loop-rest-preserved g c =
     let (passed, still) = rw c.deref.ensures.value at c.in_ok-rest.ensures.last in
     let (gone, now) = c.in_ok-append_span.ensures.last in
     let (front, parts) = behind_both bytes l.invariant.parts.0 behind c.in_ok-rest.ensures.parts.0 rest l.invariant.parts.1 c.in_ok-rest.ensures.parts.1 in
-    let glance = to_on gives limit c.args.mode l.cutter.mode l.cutter.mode c.args.titled.now l.titled l.titled first held held c.args.rule.now l.rule c.append_front.new.rule bytes behind rest old l.out.items
+    let glance =
+    to_on gives limit c.args.mode l.cutter.mode l.cutter.mode c.args.titled.now l.titled l.titled first held held c.args.rule.now l.rule c.append_front.new.rule bytes behind rest old l.out.items
     c.append_front.new.out.items l.invariant.goes (rw c.deref.ensures.value at c.in_ok-rest.ensures.goes) in
-    let one = to_span gives limit l.cutter.mode left.mode l.titled span.kind held c.append_span.new.held.items c.append_front.new.rule c.append_span.new.rule rest span.bytes.now left.rest.now more c.append_front.new.out.items
+    let one =
+    to_span gives limit l.cutter.mode left.mode l.titled span.kind held c.append_span.new.held.items c.append_front.new.rule c.append_span.new.rule
+    rest span.bytes.now left.rest.now more c.append_front.new.out.items
     c.append_span.new.out.items found (rw c.read_as-kind.ensures at made) longer in
     rw c.title_behind.ensures (record {
       parts = behind_both bytes front rest span.bytes.now left.rest.now parts split;
-      goes = to_on gives limit c.args.mode l.cutter.mode left.mode c.args.titled.now l.titled _ first held c.append_span.new.held.items c.args.rule.now c.append_front.new.rule c.append_span.new.rule bytes rest left.rest.now old
+      goes =
+          to_on gives limit c.args.mode l.cutter.mode left.mode c.args.titled.now l.titled _ first held c.append_span.new.held.items c.args.rule.now
+          c.append_front.new.rule c.append_span.new.rule bytes rest left.rest.now old
           c.append_front.new.out.items c.append_span.new.out.items glance one;
       last = (
         (before ++ passed) ++ gone,
@@ -56,7 +61,8 @@ pub returns-in_default-clause-goes : goal.returns-in_default-clause-goes
 returns-in_default-clause-goes g c =
     let l = c.loop-rest in
     let held = l.held.items in
-    to_on g.T.Rule.gives c.args.limit c.args.mode l.cutter.mode l.cutter.mode c.args.titled.now l.titled l.titled c.args.held.now.items held held c.args.rule.now l.rule c.append_front.new.rule c.args.bytes.now l.cutter.rest.now
+    to_on g.T.Rule.gives c.args.limit c.args.mode l.cutter.mode l.cutter.mode c.args.titled.now l.titled l.titled c.args.held.now.items held held
+    c.args.rule.now l.rule c.append_front.new.rule c.args.bytes.now l.cutter.rest.now
     c.in_ok-rest.rest.now c.args.out.now.items l.out.items c.append_front.new.out.items l.invariant.goes (rw c.deref.ensures.value at c.in_ok-rest.ensures.goes)
 
 pub returns-in_default-clause-last : goal.returns-in_default-clause-last

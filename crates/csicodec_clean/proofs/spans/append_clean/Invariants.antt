@@ -6,7 +6,8 @@ use Rattle.csicodec_clean.proofs.spans.append_clean.Given as goal
 abbrev pub invariant-loop-rest : goal.invariant-loop-rest
 invariant-loop-rest g l = record {
   parts : (front : List ℕ) × (l.bytes ≡ front ++ l.cutter.rest.now);
-  goes : GoesTo g.T.Rule.gives l.limit l.fn.mode l.initial.titled l.initial.held.items l.initial.rule l.bytes l.cutter.rest.now l.cutter.mode l.titled l.held.items l.rule l.initial.out.items l.out.items;
+  goes : GoesTo g.T.Rule.gives l.limit l.fn.mode l.initial.titled l.initial.held.items l.initial.rule l.bytes l.cutter.rest.now l.cutter.mode
+      l.titled l.held.items l.rule l.initial.out.items l.out.items;
   last : (front : List ℕ) × (l.initial.held.items ++ l.bytes ≡ front ++ (l.held.items ++ l.cutter.rest.now));
   short : length l.initial.held.items ≤ 3 → length l.held.items ≤ 3;
 }

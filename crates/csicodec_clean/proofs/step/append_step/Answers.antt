@@ -10,7 +10,8 @@ returns-clause-steps g c =
     let bytes = c.args.bytes.now in
     let left = c.append_clean.new.held.items in
     let rest = c.in_ok-rest.rest.now in
-    let first : c.extend_from_slice.new.self.items ≡ take c.args.pause.held bytes = c.in_ok-extend_from_slice.ensures.items ∙ ap (λ t. t ++ c.split_at.result.0.now) c.new-held.ensures.items ∙ c.split_at.ensures.front in
+    let first : c.extend_from_slice.new.self.items ≡ take c.args.pause.held bytes =
+    c.in_ok-extend_from_slice.ensures.items ∙ ap (λ t. t ++ c.split_at.result.0.now) c.new-held.ensures.items ∙ c.split_at.ensures.front in
     let one : c.len.result ≡ length left = grind (arith, common_steps, c.len.ensures) in
     let other : c.len-2.result ≡ length left = grind (arith, common_steps, c.len-2.ensures) in
     let size : length bytes - (c.len.result + length rest) ≡ length bytes - (length left + length rest) = ap (λ n. length bytes - (n + length rest)) one in (

@@ -21,4 +21,5 @@ returns-else-not-is_empty c =
     let old = c.args.out.now.items in
     let rest = c.in_ok-rest.rest.now in
     let none : length rest ≡ 0 = search rules in
-    out ∙ ap (λ t. old ++ t) (sym (append-nil (shown_chars chars))) ∙ ap (λ t. old ++ (shown_chars chars ++ t)) (sym (shown_empty rest none)) ∙ ap (λ t. old ++ t) (sym (shown_read c.args.bytes.now chars rest read))
+    out ∙ ap (λ t. old ++ t) (sym (append-nil (shown_chars chars))) ∙ ap (λ t. old ++ (shown_chars chars ++ t)) (sym (shown_empty rest none))
+    ∙ ap (λ t. old ++ t) (sym (shown_read c.args.bytes.now chars rest read))

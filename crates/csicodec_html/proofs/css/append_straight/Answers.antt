@@ -9,5 +9,6 @@ unfolding straight_colors
 returns c =
     let p = c.args.palette.now in
     on_ok_weaker c.append_colored-2.result
-    (λ e. two c.args.out.now.items c.append_colored.new.out.items c.append_colored-2.new.out.items (colored p part.Text c.args.look.foreground) (colored p part.Ground c.args.look.background) c.in_ok-append_colored.ensures e)
+    (λ e. two c.args.out.now.items c.append_colored.new.out.items c.append_colored-2.new.out.items (colored p part.Text c.args.look.foreground)
+    (colored p part.Ground c.args.look.background) c.in_ok-append_colored.ensures e)
     c.append_colored-2.ensures

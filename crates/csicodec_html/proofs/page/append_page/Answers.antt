@@ -16,4 +16,5 @@ loop-byte-preserved c =
     let split = c.in-Some.ensures.cases.0 ∙ ap (λ t. byte ∷ t) (sym (take-append-drop len behind)) in
     rw c.split_front.ensures.rest
     (page_on (c.args.out.now.items ++ page_bytes c.args.bytes.now) l.out.items c.append_byte.new.out.items c.extend_from_slice.new.self.items byte front others (front_in stands behind)
-    (ap (λ t. l.out.items ++ page_bytes t) (sym split) ∙ l.invariant) c.in_ok-append_byte.ensures (c.in_ok-extend_from_slice.ensures.items ∙ ap (λ t. c.append_byte.new.out.items ++ t) c.split_front.ensures.front))
+    (ap (λ t. l.out.items ++ page_bytes t) (sym split) ∙ l.invariant) c.in_ok-append_byte.ensures
+    (c.in_ok-extend_from_slice.ensures.items ∙ ap (λ t. c.append_byte.new.out.items ++ t) c.split_front.ensures.front))

@@ -12,5 +12,6 @@ returns c =
     let p = c.args.palette.now in
     let old = c.args.out.now.items in
     three old c.extend_from_slice.new.self.items c.append_property.new.out.items c.extend_from_slice-2.new.self.items
-    (codes ".bg-foreground{") (property p part.GroundAsText (or_own p.foreground color.Default)) (codes "}\n") c.in_ok-extend_from_slice.ensures.items (rw c.or_own-color.ensures at c.in_ok-append_property.ensures) c.in_ok-extend_from_slice-2.ensures.items
+    (codes ".bg-foreground{") (property p part.GroundAsText (or_own p.foreground color.Default)) (codes "}\n")
+    c.in_ok-extend_from_slice.ensures.items (rw c.or_own-color.ensures at c.in_ok-append_property.ensures) c.in_ok-extend_from_slice-2.ensures.items
     ∙ ap (λ (t : List ℕ). old ++ t) (of_ground p)

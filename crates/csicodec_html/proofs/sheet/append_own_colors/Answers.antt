@@ -8,4 +8,5 @@ unfolding own_colors
 returns c =
     let p = c.args.palette.now in
     three c.args.out.now.items c.append_own.new.out.items c.append_own-2.new.out.items c.extend_from_slice.new.self.items
-    (own_color (codes "color:") p.foreground) (own_color (codes "background-color:") p.background) (codes "}\n") c.in_ok-append_own.ensures c.in_ok-append_own-2.ensures c.in_ok-extend_from_slice.ensures.items
+    (own_color (codes "color:") p.foreground) (own_color (codes "background-color:") p.background) (codes "}\n") c.in_ok-append_own.ensures
+    c.in_ok-append_own-2.ensures c.in_ok-extend_from_slice.ensures.items

@@ -12,5 +12,6 @@ returns c =
     let p = c.args.palette.now in
     let old = c.args.out.now.items in
     three old c.extend_from_slice.new.self.items c.append_property.new.out.items c.extend_from_slice-2.new.self.items
-    (codes ".fg-background{") (property p part.TextAsGround (or_own p.background color.Default)) (codes "}\n") c.in_ok-extend_from_slice.ensures.items (rw c.or_own-color.ensures at c.in_ok-append_property.ensures) c.in_ok-extend_from_slice-2.ensures.items
+    (codes ".fg-background{") (property p part.TextAsGround (or_own p.background color.Default)) (codes "}\n")
+    c.in_ok-extend_from_slice.ensures.items (rw c.or_own-color.ensures at c.in_ok-append_property.ensures) c.in_ok-extend_from_slice-2.ensures.items
     ∙ ap (λ (t : List ℕ). old ++ t) (of_text p)

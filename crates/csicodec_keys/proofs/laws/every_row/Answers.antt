@@ -1,4 +1,5 @@
-use Rattle.csicodec_keys.proofs.Written.{legacy-controls-written, legacy-ss3-written, legacy-csi-written, other-written, kitty-written, shared-written, win32-written, rxvt-written, rxvt-ss3-written, linux-written}
+use Rattle.csicodec_keys.proofs.Written.{legacy-controls-written, legacy-ss3-written, legacy-csi-written, other-written}
+use Rattle.csicodec_keys.proofs.Written.{kitty-written, shared-written, win32-written, rxvt-written, rxvt-ss3-written, linux-written}
 use Rattle.csicodec_keys.proofs.laws.every_row.Goals as goal
 
 pub returns-clause-legacy : goal.returns-clause-legacy

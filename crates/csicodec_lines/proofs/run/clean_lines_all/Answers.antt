@@ -28,7 +28,8 @@ returns g c =
     let d = c.args.passing in
     let first = begun first_kept d in
     let styled = by_lines_as (Ends (keeps own) (resets own) longest (first_kept d)) (StylesIn d) (means d) in
-    let texts : Texts (Sends (Passes first_kept (keeps own) (resets own)) first) (Transforms (Passes first_kept (keeps own) (resets own)) (Ending (resets own)) first) (ByLines (StylesIn d)) (IsStyledIn d) = record {
+    let texts : Texts (Sends (Passes first_kept (keeps own) (resets own)) first)
+    (Transforms (Passes first_kept (keeps own) (resets own)) (Ending (resets own)) first) (ByLines (StylesIn d)) (IsStyledIn d) = record {
       whole = λ bytes text h. styled bytes text (transformed first_kept (keeps own) (resets own) first bytes text refl h);
       begins = λ all bytes sent h.
           let (unsent, ends) = begins first_kept (keeps own) (resets own) first all bytes sent refl (λ after. (_, refl)) h in

@@ -22,7 +22,8 @@ pub returns : goal.returns
 returns g c =
     let first = begun (λ (_ : ⊤). bare) tt in
     let stripped = by_lines_as (Ends drops ends_bare longest bare) (Strips longest) (strips longest bare) in
-    let texts : Texts (Sends (Passes (λ (_ : ⊤). bare) drops ends_bare) first) (Transforms (Passes (λ (_ : ⊤). bare) drops ends_bare) (Ending ends_bare) first) (ByLines (Strips longest)) IsPlain = record {
+    let texts : Texts (Sends (Passes (λ (_ : ⊤). bare) drops ends_bare) first)
+    (Transforms (Passes (λ (_ : ⊤). bare) drops ends_bare) (Ending ends_bare) first) (ByLines (Strips longest)) IsPlain = record {
       whole = λ bytes text h. stripped bytes text (transformed (λ (_ : ⊤). bare) drops ends_bare first bytes text refl h);
       begins = λ all bytes sent h.
           let (unsent, ends) = begins (λ (_ : ⊤). bare) drops ends_bare first all bytes sent refl (λ after. ([], refl)) h in

@@ -12,7 +12,8 @@ returns-in_default-clause-takes g c =
     let now = c.self.inside in (
       [],
       rw (← c.self.view_is, same)
-          (takes_nothing g.R.Rule.gives (record { rule = now.rule; mode = now.waiting.mode; titled = now.titled; bytes = now.waiting.bytes; held = now.held.items }) c.args.bytes.now (rw c.self.invariant at unsure)),
+          (takes_nothing g.R.Rule.gives
+          (record { rule = now.rule; mode = now.waiting.mode; titled = now.titled; bytes = now.waiting.bytes; held = now.held.items }) c.args.bytes.now (rw c.self.invariant at unsure)),
       sym (append-nil c.args.out.now.items),
     )
 
@@ -40,7 +41,8 @@ returns-clause-takes g c =
       text,
       rw (← c.self.view_is)
           (takes_from g.R.Rule.gives (record { rule = now.rule; mode = now.waiting.mode; titled = now.titled; bytes = now.waiting.bytes; held = now.held.items })
-          (record { rule = c.append_clean.new.rule; mode = c.keep.new.self.mode; titled = c.append_clean.new.titled; bytes = c.keep.new.self.bytes; held = c.append_clean.new.held.items }) c.args.bytes.now text c.deref.result.now rest
+          (record { rule = c.append_clean.new.rule; mode = c.keep.new.self.mode; titled = c.append_clean.new.titled; bytes = c.keep.new.self.bytes; held = c.append_clean.new.held.items })
+          c.args.bytes.now text c.deref.result.now rest
           (c.deref.ensures.value ∙ whole) same (rw c.keep.ensures c.in_ok-rest.ensures.unsure) (rw (c.keep.ensures) (rw (c.mode.ensures, taken) at goes))),
       out,
     )

@@ -16,5 +16,7 @@ loop-byte-preserved c =
     rw taken (record {
       text = texts_more first old front x c.args.out.now.items c.loop-byte.out.items c.append_byte.new.out.items c.loop-byte.invariant.begun c.loop-byte.invariant.text c.in_ok-leads.ensures.text;
       linked = linked_more first old front x c.args.linked c.loop-byte.leads c.in_ok-leads.leads c.loop-byte.invariant.begun c.loop-byte.invariant.linked c.in_ok-leads.ensures.linked;
-      begun = begun_more first old (begun c.append_byte.new.self.place c.append_byte.new.self.params.items c.append_byte.new.self.url.items) front x c.loop-byte.invariant.begun c.in_ok-leads.ensures.begun;
+      begun =
+          begun_more first old (begun c.append_byte.new.self.place c.append_byte.new.self.params.items c.append_byte.new.self.url.items) front x
+          c.loop-byte.invariant.begun c.in_ok-leads.ensures.begun;
     })

@@ -15,10 +15,12 @@ returns-in_ok-self-inside c =
     let view : old ≡ now = c.self.view_is in
     let links = links_in true come bytes in
     let after = keeping inside.passing inside.styled (is_linked inside.linked links) (all_behind true come bytes) in
-    let given : AreGiven (keeps (λ (k : Keeping). k)) now bytes (link_texts links) after = subst (λ (k : Keeping). AreGiven (keeps (λ (x : Keeping). x)) k bytes (link_texts links) after) view (gives_links bytes old c.if-self.true) in
+    let given : AreGiven (keeps (λ (k : Keeping). k)) now bytes (link_texts links) after =
+    subst (λ (k : Keeping). AreGiven (keeps (λ (x : Keeping). x)) k bytes (link_texts links) after) view (gives_links bytes old c.if-self.true) in
     let new = begun c.append_links.new.self.place c.append_links.new.self.params.items c.append_links.new.self.url.items in
     let state : keeping inside.passing inside.styled c.in_ok-self-inside.field-0 new ≡ after =
-    ap (λ (b : Bool). keeping inside.passing inside.styled b new) c.in_ok-self-inside.ensures.linked ∙ ap (λ (b : Begun). keeping inside.passing inside.styled (is_linked inside.linked links) b) c.in_ok-self-inside.ensures.begun in
+    ap (λ (b : Bool). keeping inside.passing inside.styled b new) c.in_ok-self-inside.ensures.linked
+    ∙ ap (λ (b : Begun). keeping inside.passing inside.styled (is_linked inside.linked links) b) c.in_ok-self-inside.ensures.begun in
     (link_texts links, subst (λ (k : Keeping). AreGiven (keeps (λ (x : Keeping). x)) now bytes (link_texts links) k) (sym state) given, c.in_ok-self-inside.ensures.text)
 
 pub returns-else-self : goal.returns-else-self

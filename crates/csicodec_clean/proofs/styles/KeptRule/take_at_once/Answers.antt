@@ -15,4 +15,5 @@ returns-in-Some-clause-taken c = λ some.
     let first = keeping inside.passing inside.styled inside.linked come in
     let after = keeping inside.passing c.in-Some.styled inside.linked come in
     let left = (rw c.in-Some.is at c.in_ok-styled.ensures.left) own (c.look-known.ensures.noted some) in
-    subst (λ (k : Keeping). (text : List ℕ) × IsSequence own × (keeps (λ (x : Keeping). x)).sequence k own text after × (new ≡ old ++ text)) c.self.view_is (left_given first own c.in-Some.styled old new left)
+    subst (λ (k : Keeping). (text : List ℕ) × IsSequence own × (keeps (λ (x : Keeping). x)).sequence k own text after × (new ≡ old ++ text))
+    c.self.view_is (left_given first own c.in-Some.styled old new left)

@@ -11,5 +11,7 @@ returns-then-branch c = λ yes.
 pub returns : goal.returns
 returns c =
     IfOk-weaker c.serves-2.result _ _
-    (λ yes served true. compacts c.args.bytes.now c.serves-2.new.self.spelling c.args.params.now c.args.control c.requires (sym c.stays.ensures ∙ c.if-stays.false) ((served true).1 c.args.bytes.now c.requires) (served true).0)
+    (λ yes served true.
+    compacts c.args.bytes.now c.serves-2.new.self.spelling c.args.params.now c.args.control c.requires (sym c.stays.ensures ∙ c.if-stays.false)
+    ((served true).1 c.args.bytes.now c.requires) (served true).0)
     c.serves-2.ensures

@@ -18,4 +18,7 @@ pub keep-requires-clause-noted : goal.keep-requires-clause-noted
 keep-requires-clause-noted c = rw (c.split_at.ensures.front) at (rw (← c.note-3.ensures) at c.in_ok-find.ensures)
 
 pub returns : goal.returns
-returns c = rw c.split_at.ensures.front at (adds c.args.self.now (record { notes = c.find.new.self; written = c.take.new.self }) (part Csi c.split_at.result.0.now ∷ []) c.args.out.now c.take.new.out (c.in_ok-take.ensures c.split_at.result.0.now (rw (← c.note.ensures) at c.in_ok-find.ensures)))
+returns c =
+    rw c.split_at.ensures.front at
+    (adds c.args.self.now (record { notes = c.find.new.self; written = c.take.new.self }) (part Csi c.split_at.result.0.now ∷ []) c.args.out.now
+    c.take.new.out (c.in_ok-take.ensures c.split_at.result.0.now (rw (← c.note.ensures) at c.in_ok-find.ensures)))

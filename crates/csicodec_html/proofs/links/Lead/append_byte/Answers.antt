@@ -27,6 +27,7 @@ returns-clause-to c =
     let to = lead.to.items in
     let old = begun lead.next.place lead.next.params.items lead.next.url.items in
     on_ok_weaker c.take.result
-    (λ _. c.in_ok-follow.ensures.to ∙ ap (λ (u : List ℕ). if c.ends_link-over.result then led u else to) c.deref.ensures.value ∙ ap (λ (b : Bool). if b then led old.address.url else to) c.ends_link-over.ensures
+    (λ _. c.in_ok-follow.ensures.to ∙ ap (λ (u : List ℕ). if c.ends_link-over.result then led u else to) c.deref.ensures.value
+    ∙ ap (λ (b : Bool). if b then led old.address.url else to) c.ends_link-over.ensures
     ∙ over_to to old c.args.byte)
     c.take.ensures

@@ -19,7 +19,9 @@ loop-byte-preserved c =
     let known = c.loop-byte.invariant in
     let taken : take (i + 1) bytes ≡ front ++ x ∷ [] = search (rules, take_more) in
     rw taken (record {
-      text = text_more c.args.markup.now c.args.look first old front c.args.out.now.items lead.to.items here.to.items c.loop-byte.out.items c.append_byte.new.out.items x known.next known.to known.text c.in_ok-append_byte.ensures.text;
+      text =
+          text_more c.args.markup.now c.args.look first old front c.args.out.now.items lead.to.items here.to.items c.loop-byte.out.items
+          c.append_byte.new.out.items x known.next known.to known.text c.in_ok-append_byte.ensures.text;
       to = to_more first old front lead.to.items here.to.items new.to.items x known.next known.to c.in_ok-append_byte.ensures.to;
       next = begun_more first old (begun new.next.place new.next.params.items new.next.url.items) front x known.next c.in_ok-append_byte.ensures.next;
     })

@@ -31,6 +31,7 @@ returns g c =
       front,
       front,
       c.split_shown.ensures.whole,
-      goes_shown g.R.Anew.begins g.R.Rule.gives g.R.Rule.closes old _ front some c.split_shown.ensures.shown blank (record { line = c.begin.ensures; returned = c.if-self.false; closes = blank.closes }) refl,
+      goes_shown g.R.Anew.begins g.R.Rule.gives g.R.Rule.closes old _ front some c.split_shown.ensures.shown blank
+          (record { line = c.begin.ensures; returned = c.if-self.false; closes = blank.closes }) refl,
       c.in_ok-extend_from_slice.ensures.items ∙ ap (λ t. t ++ front) same,
     )

@@ -23,6 +23,7 @@ pub returns-clause-passes : goal.returns-clause-passes
 returns-clause-passes g c =
     let (taken, more, parts, goes, out) = c.loop-rest.invariant in (
       more,
-      subst (λ t. GoesOn (Passes g.R.Anew.begins g.R.Rule.gives g.R.Rule.closes) c.args.self.now t more c.loop-rest.self) (none_left c.args.bytes.now taken c.loop-rest.rest.now parts (search rules)) goes,
+      subst (λ t. GoesOn (Passes g.R.Anew.begins g.R.Rule.gives g.R.Rule.closes) c.args.self.now t more c.loop-rest.self)
+          (none_left c.args.bytes.now taken c.loop-rest.rest.now parts (search rules)) goes,
       out,
     )

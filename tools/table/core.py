@@ -131,6 +131,11 @@ def ruleset(called, names):
     return f"pub ruleset {called} = ({', '.join(names)})"
 
 
+def long_ruleset(called, names):
+    """The same, a line for each."""
+    return "\n".join([f"pub ruleset {called} = (", *(f"  {name}," for name in names), ")"])
+
+
 def front_arms(actions):
     for action in actions:
         final = byte(action.row["final"])
@@ -233,7 +238,7 @@ def of_cursor(actions):
     yield "crates/csicodec_actions/proofs/Finals.antt", Part("\n".join(counts).split("\n"), (lists, ""), None)
     types, makes = ("OneMove", "TwoMoves"), ("one_count", "two_counts")
     named = lambda actions: [name(action, "_") for action in actions]
-    moves = [*proofs(one, "_", types, makes, "Moves"), ruleset("counted", named(one)) + "\n", *proofs(two, "_", types, makes, "Moves")]
+    moves = [*proofs(one, "_", types, makes, "Moves"), long_ruleset("counted", named(one)) + "\n", *proofs(two, "_", types, makes, "Moves")]
     margins = "pub margins : (a b j k : ℕ) → j ≡ or_default 1 a → k ≡ or_default most b → a < 2 ^ 32 → b < 2 ^ 32 → (list : List CsiParam) → IsTwo a b list"
     last = "margins a b j k one two low least list (inr (z, inr none)) = rw (none.1, one, two, z, none.0) refl"
     yield rows, Part("\n".join(moves).split("\n"), ("    → as_cursor list final ≡ Some (Moves (make j k))", ""), margins)
@@ -244,7 +249,7 @@ def of_edit(actions):
     rows, others = "crates/csicodec_c/proofs/Rows.antt", ["erase_in_display", "erase_in_line"]
     yield "crates/csicodec_c/src/row.rt", Part(list(front_arms(actions)), ("fn edited(number: u32, control: u8) -> Option<Edit>", "    match control {"), "        b'J' => Some(Edit::EraseInDisplay(EraseInDisplay::from_i64(i64::from(number))?)),")
     head = "OneEdit final make = (n k : ℕ) → k ≡ or_default 1 n → n < 2 ^ 32 → (list : List CsiParam) → IsOne n list → as_edit list final ≡ Some (Edits (make k))"
-    behind = "pub erase_in_display : (n : ℕ) (v : EraseInDisplay) → Some v ≡ with_number erase_in_display_number erases_in_display (pos n) → (list : List CsiParam) → IsOne n list → as_edit list 74 ≡ Some (Edits (edit.EraseInDisplay v))"
+    behind = "pub erase_in_display : (n : ℕ) (v : EraseInDisplay) → Some v ≡ with_number erase_in_display_number erases_in_display (pos n) → (list : List CsiParam)"
     last = "erase_in_line n v is list (inr none) = rw (none.1, same_Some _ _ (rw none.0 at is)) refl"
     yield rows, Part("\n".join(proofs(actions, "_", ("OneEdit",), ("one_count",), "Edits")).split("\n"), (head, ""), behind)
     yield rows, Part([ruleset("edited", [name(action, "_") for action in actions] + others)], (last, ""), None)

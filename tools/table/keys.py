@@ -3,7 +3,7 @@ import re
 import sys
 
 from faults import refuse
-from layout import packed, string
+from layout import folded, packed, string
 from read import first_line
 
 TABLE = "keys.toml"
@@ -135,8 +135,8 @@ def same_keys_antt(named):
 def named_antt(named):
     """proofs/Named.antt of csicodec_keys."""
     lines = ["-- All keys with a name alone, in the order of their tags.", "use Rattle.std.proofs.Common.{List, [], ◌∷◌}", "use Rattle.csicodec_keys.specs.declared.code.KeyCode.{KeyCode}",
-             "use Rattle.csicodec_keys.specs.declared.code.KeyCode.TheVariants as code", "", "unfoldable pub named : List KeyCode", "named ="]
-    return "\n".join([*lines, "    " + " ∷ ".join([*(f"code.{name}" for name in named), "[]"])]) + "\n"
+             "use Rattle.csicodec_keys.specs.declared.code.KeyCode.TheVariants as code", "", "unfoldable pub named : List KeyCode"]
+    return "\n".join([*lines, folded("named", [*(f"code.{name}" for name in named), "[]"], "∷")]) + "\n"
 
 
 def words_rt(named):

@@ -19,6 +19,17 @@ def string(text):
     return f'"{escaped}"'
 
 
+def folded(head, parts, sign):
+    """A definition whose body has this sign between its parts, in further lines where one would be too long."""
+    line = f"{head} = {f' {sign} '.join(parts)}"
+    if len(line) <= 200:
+        return line
+    rows = [parts[0]]
+    for part in parts[1:]:
+        rows = [*rows[:-1], f"{rows[-1]} {sign} {part}"] if len(rows[-1]) + len(part) < 140 else [*rows, f"{sign} {part}"]
+    return "\n".join([f"{head} =", *(f"    {row}" for row in rows)])
+
+
 def byte(character):
     """A literal of this byte, and 0 for none."""
     return {"": "0", "'": r"b'\''", "\\": r"b'\\'"}.get(character, f"b'{character}'")

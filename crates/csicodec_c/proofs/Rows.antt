@@ -111,7 +111,24 @@ pub line_position_backward : OneMove 107 cursor.LinePositionBackward
 unfolding as_cursor
 line_position_backward = one_count (λ n. Moves (cursor.LinePositionBackward n))
 
-pub ruleset counted = (up, down, right, left, next_line, preceding_line, character_absolute, character_position_absolute, forward_tabulation, backward_tabulation, line_tabulation, character_position_forward, character_position_backward, line_position_absolute, line_position_forward, line_position_backward)
+pub ruleset counted = (
+  up,
+  down,
+  right,
+  left,
+  next_line,
+  preceding_line,
+  character_absolute,
+  character_position_absolute,
+  forward_tabulation,
+  backward_tabulation,
+  line_tabulation,
+  character_position_forward,
+  character_position_backward,
+  line_position_absolute,
+  line_position_forward,
+  line_position_backward,
+)
 
 pub position : TwoMoves 72 cursor.Position
 unfolding as_cursor
@@ -171,12 +188,14 @@ pub repeat : OneEdit 98 edit.Repeat
 unfolding as_edit
 repeat = one_count (λ n. Edits (edit.Repeat n))
 
-pub erase_in_display : (n : ℕ) (v : EraseInDisplay) → Some v ≡ with_number erase_in_display_number erases_in_display (pos n) → (list : List CsiParam) → IsOne n list → as_edit list 74 ≡ Some (Edits (edit.EraseInDisplay v))
+pub erase_in_display : (n : ℕ) (v : EraseInDisplay) → Some v ≡ with_number erase_in_display_number erases_in_display (pos n) → (list : List CsiParam)
+    → IsOne n list → as_edit list 74 ≡ Some (Edits (edit.EraseInDisplay v))
 unfolding as_edit read
 erase_in_display n v is list (inl one) = rw (one, ← is) refl
 erase_in_display n v is list (inr none) = rw (none.1, same_Some _ _ (rw none.0 at is)) refl
 
-pub erase_in_line : (n : ℕ) (v : EraseInLine) → Some v ≡ with_number erase_in_line_number erases_in_line (pos n) → (list : List CsiParam) → IsOne n list → as_edit list 75 ≡ Some (Edits (edit.EraseInLine v))
+pub erase_in_line : (n : ℕ) (v : EraseInLine) → Some v ≡ with_number erase_in_line_number erases_in_line (pos n) → (list : List CsiParam)
+    → IsOne n list → as_edit list 75 ≡ Some (Edits (edit.EraseInLine v))
 unfolding as_edit read
 erase_in_line n v is list (inl one) = rw (one, ← is) refl
 erase_in_line n v is list (inr none) = rw (none.1, same_Some _ _ (rw none.0 at is)) refl

@@ -27,7 +27,8 @@ halves-is (b ∷ text) cut e = elim (cases_Bool (b == 59)) [
   | inr other ↦ go (halves text) (λ c is. halves-is text c is) (rw other at e) other
 ]
   where
-    go : (o : Option (List ℕ × List ℕ)) → ((c : List ℕ × List ℕ) → o ≡ Some c → IsCut text c) → option_map (λ (c : List ℕ × List ℕ). (b ∷ c.0, c.1)) o ≡ Some cut → (b == 59) ≡ false → IsCut (b ∷ text) cut
+    go : (o : Option (List ℕ × List ℕ)) → ((c : List ℕ × List ℕ) → o ≡ Some c → IsCut text c)
+        → option_map (λ (c : List ℕ × List ℕ). (b ∷ c.0, c.1)) o ≡ Some cut → (b == 59) ≡ false → IsCut (b ∷ text) cut
     go None cuts f other = cc
     go (Some c) cuts f other =
         let d = cuts c refl in
@@ -78,14 +79,16 @@ body-is Several o body e = subst (λ b. IsBody Several o b) (same_Some (Tail o) 
 body-is TwoTexts None body e = cc
 body-is TwoTexts (Some text) body e = go (halves text) (λ c is. halves-is text c is) e
   where
-    go : (o : Option (List ℕ × List ℕ)) → ((c : List ℕ × List ℕ) → o ≡ Some c → IsCut text c) → option_map (λ (cut : List ℕ × List ℕ). Both cut.0 cut.1) o ≡ Some body → IsBody TwoTexts (Some text) body
+    go : (o : Option (List ℕ × List ℕ)) → ((c : List ℕ × List ℕ) → o ≡ Some c → IsCut text c)
+        → option_map (λ (cut : List ℕ × List ℕ). Both cut.0 cut.1) o ≡ Some body → IsBody TwoTexts (Some text) body
     go None cuts f = cc
     go (Some c) cuts f =
         let d = cuts c refl in subst (λ b. IsBody TwoTexts (Some text) b) (same_Some (Both c.0 c.1) body f) (record { tail_is = ap Some d.whole; has_form = d.field })
 body-is TextAsked None body e = cc
 body-is TextAsked (Some text) body e = go (halves text) (λ c is. halves-is text c is) e
   where
-    go : (o : Option (List ℕ × List ℕ)) → ((c : List ℕ × List ℕ) → o ≡ Some c → IsCut text c) → option_map (λ (cut : List ℕ × List ℕ). Ask cut.0 (asked cut.1)) o ≡ Some body → IsBody TextAsked (Some text) body
+    go : (o : Option (List ℕ × List ℕ)) → ((c : List ℕ × List ℕ) → o ≡ Some c → IsCut text c)
+        → option_map (λ (cut : List ℕ × List ℕ). Ask cut.0 (asked cut.1)) o ≡ Some body → IsBody TextAsked (Some text) body
     go None cuts f = cc
     go (Some c) cuts f =
         let d = cuts c refl in

@@ -87,7 +87,8 @@ first-says : (commands : List Command) (content : List ℕ) (s : Said) → first
 first-says [] content s e = cc
 first-says (k ∷ commands) content s e = go (read_by k content) (λ t f. says k content t f) (λ f. first-says commands content s f) e
   where
-    go : (o : Option Body) → ((t : Said) → Some t ≡ option_map (Known k) o → Says content t) → (first_read commands content ≡ Some s → Says content s) → option_or (option_map (Known k) o) (first_read commands content) ≡ Some s → Says content s
+    go : (o : Option Body) → ((t : Said) → Some t ≡ option_map (Known k) o → Says content t)
+        → (first_read commands content ≡ Some s → Says content s) → option_or (option_map (Known k) o) (first_read commands content) ≡ Some s → Says content s
     go None here later f = later f
     go (Some body) here later f = here s (sym f)
 

@@ -61,7 +61,8 @@ use Rattle.csicodec_structs.specs.Structs.{align_number, blink_number, button_nu
 use Rattle.csicodec_structs.specs.Ranges.{CursorInRange, DeviceInRange, EditInRange, InRange, KeyboardInRange, ModeInRange, MouseInRange, SgrInRange, WindowInRange}
 use Rattle.csicodec_structs.specs.Rows.{cursor_struct, device_struct, edit_struct, keyboard_struct, mode_struct, mouse_struct, params_of, sgr_struct, struct_of, window_struct}
 use Rattle.csicodec_structs.specs.Values.{AttributeInRange, IsNamedAttribute}
-use Rattle.csicodec_structs.proofs.OneValue.{ByName, attribute_at, attributes-back, attributes-named, color_at, dec-back, dec-named, dec_at, first_at, flag-back, flag_at, font-back, font_at, item-back, item-named, second_at, terminal-back, terminal-named, terminal_at, token_at, tokens-back, value_at, values-back}
+use Rattle.csicodec_structs.proofs.OneValue.{ByName, attribute_at, attributes-back, attributes-named, color_at, dec-back, dec-named, dec_at, first_at, flag-back, flag_at}
+use Rattle.csicodec_structs.proofs.OneValue.{font-back, font_at, item-back, item-named, second_at, terminal-back, terminal-named, terminal_at, token_at, tokens-back, value_at, values-back}
 
 abbrev blink_all : List Blink
 blink_all = blink.None ∷ blink.Slow ∷ blink.Rapid ∷ []
@@ -78,14 +79,20 @@ character_path-found character_path.ImplementationDefault = refl
 character_path-found other = refl
 
 abbrev cursor_style_all : List CursorStyle
-cursor_style_all = cursor_style.Default ∷ cursor_style.BlinkingBlock ∷ cursor_style.SteadyBlock ∷ cursor_style.BlinkingUnderline ∷ cursor_style.SteadyUnderline ∷ cursor_style.BlinkingBar ∷ cursor_style.SteadyBar ∷ []
+cursor_style_all =
+    cursor_style.Default ∷ cursor_style.BlinkingBlock ∷ cursor_style.SteadyBlock ∷ cursor_style.BlinkingUnderline ∷ cursor_style.SteadyUnderline
+    ∷ cursor_style.BlinkingBar ∷ cursor_style.SteadyBar ∷ []
 
 cursor_style-found : (v : CursorStyle) → with_number cursor_style_number cursor_style_all (pos (cursor_style_number v)) ≡ Some v
 cursor_style-found cursor_style.Default = refl
 cursor_style-found other = refl
 
 abbrev cursor_tabulation_control_all : List CursorTabulationControl
-cursor_tabulation_control_all = cursor_tabulation_control.SetCharacterTabStopAtActivePosition ∷ cursor_tabulation_control.SetLineTabStopAtActiveLine ∷ cursor_tabulation_control.ClearCharacterTabStopAtActivePosition ∷ cursor_tabulation_control.ClearLineTabstopAtActiveLine ∷ cursor_tabulation_control.ClearAllCharacterTabStopsAtActiveLine ∷ cursor_tabulation_control.ClearAllCharacterTabStops ∷ cursor_tabulation_control.ClearAllLineTabStops ∷ []
+cursor_tabulation_control_all =
+    cursor_tabulation_control.SetCharacterTabStopAtActivePosition ∷ cursor_tabulation_control.SetLineTabStopAtActiveLine
+    ∷ cursor_tabulation_control.ClearCharacterTabStopAtActivePosition ∷ cursor_tabulation_control.ClearLineTabstopAtActiveLine
+    ∷ cursor_tabulation_control.ClearAllCharacterTabStopsAtActiveLine ∷ cursor_tabulation_control.ClearAllCharacterTabStops
+    ∷ cursor_tabulation_control.ClearAllLineTabStops ∷ []
 
 cursor_tabulation_control-found : (v : CursorTabulationControl) → with_number tabulation_control_number cursor_tabulation_control_all (pos (tabulation_control_number v)) ≡ Some v
 cursor_tabulation_control-found cursor_tabulation_control.SetCharacterTabStopAtActivePosition = refl
@@ -120,14 +127,21 @@ kitty_keyboard_mode-found kitty_keyboard_mode.AssignAll = refl
 kitty_keyboard_mode-found other = refl
 
 abbrev mouse_button_all : List MouseButton
-mouse_button_all = mouse_button.Button1Press ∷ mouse_button.Button2Press ∷ mouse_button.Button3Press ∷ mouse_button.Button4Press ∷ mouse_button.Button5Press ∷ mouse_button.Button6Press ∷ mouse_button.Button7Press ∷ mouse_button.Button1Release ∷ mouse_button.Button2Release ∷ mouse_button.Button3Release ∷ mouse_button.Button4Release ∷ mouse_button.Button5Release ∷ mouse_button.Button6Release ∷ mouse_button.Button7Release ∷ mouse_button.Button1Drag ∷ mouse_button.Button2Drag ∷ mouse_button.Button3Drag ∷ mouse_button.None ∷ []
+mouse_button_all =
+    mouse_button.Button1Press ∷ mouse_button.Button2Press ∷ mouse_button.Button3Press ∷ mouse_button.Button4Press ∷ mouse_button.Button5Press
+    ∷ mouse_button.Button6Press ∷ mouse_button.Button7Press ∷ mouse_button.Button1Release ∷ mouse_button.Button2Release
+    ∷ mouse_button.Button3Release ∷ mouse_button.Button4Release ∷ mouse_button.Button5Release ∷ mouse_button.Button6Release
+    ∷ mouse_button.Button7Release ∷ mouse_button.Button1Drag ∷ mouse_button.Button2Drag ∷ mouse_button.Button3Drag ∷ mouse_button.None ∷ []
 
 mouse_button-found : (v : MouseButton) → with_number button_number mouse_button_all (pos (button_number v)) ≡ Some v
 mouse_button-found mouse_button.Button1Press = refl
 mouse_button-found other = refl
 
 abbrev tabulation_clear_all : List TabulationClear
-tabulation_clear_all = tabulation_clear.ClearCharacterTabStopAtActivePosition ∷ tabulation_clear.ClearLineTabStopAtActiveLine ∷ tabulation_clear.ClearCharacterTabStopsAtActiveLine ∷ tabulation_clear.ClearAllCharacterTabStops ∷ tabulation_clear.ClearAllLineTabStops ∷ tabulation_clear.ClearAllTabStops ∷ []
+tabulation_clear_all =
+    tabulation_clear.ClearCharacterTabStopAtActivePosition ∷ tabulation_clear.ClearLineTabStopAtActiveLine
+    ∷ tabulation_clear.ClearCharacterTabStopsAtActiveLine ∷ tabulation_clear.ClearAllCharacterTabStops ∷ tabulation_clear.ClearAllLineTabStops
+    ∷ tabulation_clear.ClearAllTabStops ∷ []
 
 tabulation_clear-found : (v : TabulationClear) → with_number tabulation_clear_number tabulation_clear_all (pos (tabulation_clear_number v)) ≡ Some v
 tabulation_clear-found tabulation_clear.ClearCharacterTabStopAtActivePosition = refl
@@ -232,8 +246,10 @@ action_at given params =
     if given.kind == 412 then Some (action.Device (device.RequestTerminalParameters given.first)) else
     if given.kind == 413 then Some (action.Device device.StatusReport) else
     if given.kind == 414 then Some (action.Device (device.XtSmGraphics (item_of given.first) given.second (map value_at params))) else
-    if given.kind == 501 then option_map (λ v. action.Mouse (mouse.SGR1006 (nat_abs given.first) (nat_abs given.second) v (record { bits = given.modifiers }))) (with_number button_number mouse_button_all (pos given.button)) else
-    if given.kind == 502 then option_map (λ v. action.Mouse (mouse.SGR1016 (nat_abs given.first) (nat_abs given.second) v (record { bits = given.modifiers }))) (with_number button_number mouse_button_all (pos given.button)) else
+    if given.kind == 501 then option_map (λ v. action.Mouse (mouse.SGR1006 (nat_abs given.first) (nat_abs given.second) v (record { bits = given.modifiers })))
+    (with_number button_number mouse_button_all (pos given.button)) else
+    if given.kind == 502 then option_map (λ v. action.Mouse (mouse.SGR1016 (nat_abs given.first) (nat_abs given.second) v (record { bits = given.modifiers })))
+    (with_number button_number mouse_button_all (pos given.button)) else
     if given.kind == 601 then Some (action.Window window.DeIconify) else
     if given.kind == 602 then Some (action.Window window.Iconify) else
     if given.kind == 603 then Some (action.Window (window.MoveWindow given.first given.second)) else
@@ -268,8 +284,10 @@ action_at given params =
     if given.kind == 632 then Some (action.Window window.PopIconTitle) else
     if given.kind == 633 then Some (action.Window window.PopWindowTitle) else
     if given.kind == 634 then Some (action.Window (window.ChecksumRectangularArea given.first given.second given.top given.left given.bottom given.right)) else
-    if given.kind == 701 then option_map (λ v. action.Keyboard (keyboard.SetKittyState (record { bits = (nat_abs given.first) }) v)) (with_number kitty_mode_number kitty_keyboard_mode_all given.second) else
-    if given.kind == 702 then option_map (λ v. action.Keyboard (keyboard.PushKittyState (record { bits = (nat_abs given.first) }) v)) (with_number kitty_mode_number kitty_keyboard_mode_all given.second) else
+    if given.kind == 701 then option_map (λ v. action.Keyboard (keyboard.SetKittyState (record { bits = (nat_abs given.first) }) v))
+    (with_number kitty_mode_number kitty_keyboard_mode_all given.second) else
+    if given.kind == 702 then option_map (λ v. action.Keyboard (keyboard.PushKittyState (record { bits = (nat_abs given.first) }) v))
+    (with_number kitty_mode_number kitty_keyboard_mode_all given.second) else
     if given.kind == 703 then Some (action.Keyboard (keyboard.PopKittyState (nat_abs given.first))) else
     if given.kind == 704 then Some (action.Keyboard keyboard.QueryKittySupport) else
     if given.kind == 705 then Some (action.Keyboard (keyboard.ReportKittyState (record { bits = (nat_abs given.first) }))) else
@@ -368,21 +386,117 @@ same-action place a b in_a named_a in_b named_b given params =
     same_Some a b (sym (action-back place a in_a named_a) ∙ same ∙ action-back place b in_b named_b)
 
 mode-named : (place : ℕ) (a : Mode) → ModeInRange a → ByName place (action.Mode a)
-mode-named place (mode.SetDecPrivateMode v) range = let h = dec-named v in record { one = action.Mode (mode.SetDecPrivateMode (dec_at (pos (dec_number v)))); in_range = subst (λ n. n < 65536) (sym h.1) range; named = h.0; given = ap (λ n. row 301 (pos n) (pos 0)) h.1; params = refl }
-mode-named place (mode.ResetDecPrivateMode v) range = let h = dec-named v in record { one = action.Mode (mode.ResetDecPrivateMode (dec_at (pos (dec_number v)))); in_range = subst (λ n. n < 65536) (sym h.1) range; named = h.0; given = ap (λ n. row 302 (pos n) (pos 0)) h.1; params = refl }
-mode-named place (mode.SaveDecPrivateMode v) range = let h = dec-named v in record { one = action.Mode (mode.SaveDecPrivateMode (dec_at (pos (dec_number v)))); in_range = subst (λ n. n < 65536) (sym h.1) range; named = h.0; given = ap (λ n. row 303 (pos n) (pos 0)) h.1; params = refl }
-mode-named place (mode.RestoreDecPrivateMode v) range = let h = dec-named v in record { one = action.Mode (mode.RestoreDecPrivateMode (dec_at (pos (dec_number v)))); in_range = subst (λ n. n < 65536) (sym h.1) range; named = h.0; given = ap (λ n. row 304 (pos n) (pos 0)) h.1; params = refl }
-mode-named place (mode.QueryDecPrivateMode v) range = let h = dec-named v in record { one = action.Mode (mode.QueryDecPrivateMode (dec_at (pos (dec_number v)))); in_range = subst (λ n. n < 65536) (sym h.1) range; named = h.0; given = ap (λ n. row 305 (pos n) (pos 0)) h.1; params = refl }
-mode-named place (mode.SetMode v) range = let h = terminal-named v in record { one = action.Mode (mode.SetMode (terminal_at (pos (terminal_number v)))); in_range = subst (λ n. n < 65536) (sym h.1) range; named = h.0; given = ap (λ n. row 306 (pos n) (pos 0)) h.1; params = refl }
-mode-named place (mode.ResetMode v) range = let h = terminal-named v in record { one = action.Mode (mode.ResetMode (terminal_at (pos (terminal_number v)))); in_range = subst (λ n. n < 65536) (sym h.1) range; named = h.0; given = ap (λ n. row 307 (pos n) (pos 0)) h.1; params = refl }
-mode-named place (mode.QueryMode v) range = let h = terminal-named v in record { one = action.Mode (mode.QueryMode (terminal_at (pos (terminal_number v)))); in_range = subst (λ n. n < 65536) (sym h.1) range; named = h.0; given = ap (λ n. row 308 (pos n) (pos 0)) h.1; params = refl }
+mode-named place (mode.SetDecPrivateMode v) range =
+    let h = dec-named v in
+    record {
+      one = action.Mode (mode.SetDecPrivateMode (dec_at (pos (dec_number v))));
+      in_range = subst (λ n. n < 65536) (sym h.1) range;
+      named = h.0;
+      given = ap (λ n. row 301 (pos n) (pos 0)) h.1;
+      params = refl;
+    }
+mode-named place (mode.ResetDecPrivateMode v) range =
+    let h = dec-named v in
+    record {
+      one = action.Mode (mode.ResetDecPrivateMode (dec_at (pos (dec_number v))));
+      in_range = subst (λ n. n < 65536) (sym h.1) range;
+      named = h.0;
+      given = ap (λ n. row 302 (pos n) (pos 0)) h.1;
+      params = refl;
+    }
+mode-named place (mode.SaveDecPrivateMode v) range =
+    let h = dec-named v in
+    record {
+      one = action.Mode (mode.SaveDecPrivateMode (dec_at (pos (dec_number v))));
+      in_range = subst (λ n. n < 65536) (sym h.1) range;
+      named = h.0;
+      given = ap (λ n. row 303 (pos n) (pos 0)) h.1;
+      params = refl;
+    }
+mode-named place (mode.RestoreDecPrivateMode v) range =
+    let h = dec-named v in
+    record {
+      one = action.Mode (mode.RestoreDecPrivateMode (dec_at (pos (dec_number v))));
+      in_range = subst (λ n. n < 65536) (sym h.1) range;
+      named = h.0;
+      given = ap (λ n. row 304 (pos n) (pos 0)) h.1;
+      params = refl;
+    }
+mode-named place (mode.QueryDecPrivateMode v) range =
+    let h = dec-named v in
+    record {
+      one = action.Mode (mode.QueryDecPrivateMode (dec_at (pos (dec_number v))));
+      in_range = subst (λ n. n < 65536) (sym h.1) range;
+      named = h.0;
+      given = ap (λ n. row 305 (pos n) (pos 0)) h.1;
+      params = refl;
+    }
+mode-named place (mode.SetMode v) range =
+    let h = terminal-named v in
+    record {
+      one = action.Mode (mode.SetMode (terminal_at (pos (terminal_number v))));
+      in_range = subst (λ n. n < 65536) (sym h.1) range;
+      named = h.0;
+      given = ap (λ n. row 306 (pos n) (pos 0)) h.1;
+      params = refl;
+    }
+mode-named place (mode.ResetMode v) range =
+    let h = terminal-named v in
+    record {
+      one = action.Mode (mode.ResetMode (terminal_at (pos (terminal_number v))));
+      in_range = subst (λ n. n < 65536) (sym h.1) range;
+      named = h.0;
+      given = ap (λ n. row 307 (pos n) (pos 0)) h.1;
+      params = refl;
+    }
+mode-named place (mode.QueryMode v) range =
+    let h = terminal-named v in
+    record {
+      one = action.Mode (mode.QueryMode (terminal_at (pos (terminal_number v))));
+      in_range = subst (λ n. n < 65536) (sym h.1) range;
+      named = h.0;
+      given = ap (λ n. row 308 (pos n) (pos 0)) h.1;
+      params = refl;
+    }
 mode-named place other range = record { one = action.Mode other; in_range = range; named = tt; given = refl; params = refl }
 
 device-named : (place : ℕ) (a : Device) → DeviceInRange a → ByName place (action.Device a)
-device-named place (device.DeviceAttributes (device.Vt220 list)) range = let l = attributes-named list (recursion_from_All AttributeInRange list range) in record { one = action.Device (device.DeviceAttributes (device.Vt220 l.others)); in_range = All-from_recursion AttributeInRange l.others l.in_range; named = All-from_recursion IsNamedAttribute l.others l.named; given = ap (λ n. list_row 404 (pos 0) (pos 0) place n) l.long; params = l.same }
-device-named place (device.DeviceAttributes (device.Vt320 list)) range = let l = attributes-named list (recursion_from_All AttributeInRange list range) in record { one = action.Device (device.DeviceAttributes (device.Vt320 l.others)); in_range = All-from_recursion AttributeInRange l.others l.in_range; named = All-from_recursion IsNamedAttribute l.others l.named; given = ap (λ n. list_row 405 (pos 0) (pos 0) place n) l.long; params = l.same }
-device-named place (device.DeviceAttributes (device.Vt420 list)) range = let l = attributes-named list (recursion_from_All AttributeInRange list range) in record { one = action.Device (device.DeviceAttributes (device.Vt420 l.others)); in_range = All-from_recursion AttributeInRange l.others l.in_range; named = All-from_recursion IsNamedAttribute l.others l.named; given = ap (λ n. list_row 406 (pos 0) (pos 0) place n) l.long; params = l.same }
-device-named place (device.XtSmGraphics item action_or_status list) range = let h = item-named (item_number item) in record { one = action.Device (device.XtSmGraphics (item_of (item_number item)) action_or_status list); in_range = range; named = h.0; given = ap (λ z. list_row 414 z action_or_status place (length list)) h.1; params = refl }
+device-named place (device.DeviceAttributes (device.Vt220 list)) range =
+    let l = attributes-named list (recursion_from_All AttributeInRange list range) in
+    record {
+      one = action.Device (device.DeviceAttributes (device.Vt220 l.others));
+      in_range = All-from_recursion AttributeInRange l.others l.in_range;
+      named = All-from_recursion IsNamedAttribute l.others l.named;
+      given = ap (λ n. list_row 404 (pos 0) (pos 0) place n) l.long;
+      params = l.same;
+    }
+device-named place (device.DeviceAttributes (device.Vt320 list)) range =
+    let l = attributes-named list (recursion_from_All AttributeInRange list range) in
+    record {
+      one = action.Device (device.DeviceAttributes (device.Vt320 l.others));
+      in_range = All-from_recursion AttributeInRange l.others l.in_range;
+      named = All-from_recursion IsNamedAttribute l.others l.named;
+      given = ap (λ n. list_row 405 (pos 0) (pos 0) place n) l.long;
+      params = l.same;
+    }
+device-named place (device.DeviceAttributes (device.Vt420 list)) range =
+    let l = attributes-named list (recursion_from_All AttributeInRange list range) in
+    record {
+      one = action.Device (device.DeviceAttributes (device.Vt420 l.others));
+      in_range = All-from_recursion AttributeInRange l.others l.in_range;
+      named = All-from_recursion IsNamedAttribute l.others l.named;
+      given = ap (λ n. list_row 406 (pos 0) (pos 0) place n) l.long;
+      params = l.same;
+    }
+device-named place (device.XtSmGraphics item action_or_status list) range =
+    let h = item-named (item_number item) in
+    record {
+      one = action.Device (device.XtSmGraphics (item_of (item_number item)) action_or_status list);
+      in_range = range;
+      named = h.0;
+      given = ap (λ z. list_row 414 z action_or_status place (length list)) h.1;
+      params = refl;
+    }
 device-named place other range = record { one = action.Device other; in_range = range; named = tt; given = refl; params = refl }
 
 pub action-named : (place : ℕ) (a : Action) → InRange a → ByName place a

@@ -3,6 +3,7 @@ import re
 
 from bindings.library import BY_NUMBER, PATH, has_tokens, kinds, low, module, number_of, of, text_of, type_of, types, used
 from bindings.specs import can_be_named, named_row, names_in, own_use, spec_row, spec_use, type_uses, value
+from layout import folded
 
 # The enumerations of these forms, how the specs give their numbers, and the number that is one.
 HIDDEN = {
@@ -38,7 +39,7 @@ def lists():
     out = ""
     for name, number in enumerations():
         all_ = [f"{low(name)}.{variant.name}" for variant in types()[name].variants]
-        out += f"\nabbrev {low(name)}_all : List {name}\n{low(name)}_all = {' ∷ '.join(all_)} ∷ []\n"
+        out += f"\nabbrev {low(name)}_all : List {name}\n{folded(f'{low(name)}_all', [*all_, '[]'], '∷')}\n"
         out += f"\n{low(name)}-found : (v : {name}) → with_number {number} {low(name)}_all (pos ({number} v)) ≡ Some v\n{low(name)}-found {all_[0]} = refl\n{low(name)}-found other = refl\n"
     return out
 
@@ -68,7 +69,8 @@ def found_row(number, group, variant, form, names):
     one = action(group, variant, left)
     if coded(form, names):
         name, number_, place = coded(form, names)
-        return f"option_map (λ v. {one}) (with_number {number_} {low(name)}_all {place})"
+        found = f"option_map (λ v. {one})", f"(with_number {number_} {low(name)}_all {place})"
+        return ("\n    " if len(" ".join(found)) > 160 else " ").join(found)
     return f"Some ({one})"
 
 
@@ -121,10 +123,10 @@ def like_row(number, group, variant, form, names):
     if form == "enum":
         at, back = FOUND[names[0]]
         by, has = at.replace("_at", "-named"), at.replace("_at", "_number")
-        return " v", f"let h = {by} v in record {{ one = {action(group, variant, f' ({at} (pos ({has} v)))')}; in_range = subst (λ n. n < 65536) (sym h.1) range; named = h.0; given = ap (λ n. row {number} (pos n) (pos 0)) h.1; params = refl }}"
+        return " v", f"\n    let h = {by} v in\n    record {{\n      one = {action(group, variant, f' ({at} (pos ({has} v)))')};\n      in_range = subst (λ n. n < 65536) (sym h.1) range;\n      named = h.0;\n      given = ap (λ n. row {number} (pos n) (pos 0)) h.1;\n      params = refl;\n    }}"
     if form == "extensions":
-        return " list", f"let l = attributes-named list (recursion_from_All AttributeInRange list range) in record {{ one = {action(group, variant, ' l.others')}; in_range = All-from_recursion AttributeInRange l.others l.in_range; named = All-from_recursion IsNamedAttribute l.others l.named; given = ap (λ n. list_row {number} (pos 0) (pos 0) place n) l.long; params = l.same }}"
-    return " item action_or_status list", f"let h = item-named (item_number item) in record {{ one = {action(group, variant, ' (item_of (item_number item)) action_or_status list')}; in_range = range; named = h.0; given = ap (λ z. list_row {number} z action_or_status place (length list)) h.1; params = refl }}"
+        return " list", f"\n    let l = attributes-named list (recursion_from_All AttributeInRange list range) in\n    record {{\n      one = {action(group, variant, ' l.others')};\n      in_range = All-from_recursion AttributeInRange l.others l.in_range;\n      named = All-from_recursion IsNamedAttribute l.others l.named;\n      given = ap (λ n. list_row {number} (pos 0) (pos 0) place n) l.long;\n      params = l.same;\n    }}"
+    return " item action_or_status list", f"\n    let h = item-named (item_number item) in\n    record {{\n      one = {action(group, variant, ' (item_of (item_number item)) action_or_status list')};\n      in_range = range;\n      named = h.0;\n      given = ap (λ z. list_row {number} z action_or_status place (length list)) h.1;\n      params = refl;\n    }}"
 
 
 def likes():
@@ -135,7 +137,7 @@ def likes():
         for kind in of(group):
             if named_row(*kind):
                 left, right = like_row(*kind)
-                out += f"{low(group)}-named place ({value(group, kind[2], left)}) range = {right}\n"
+                out += f"{low(group)}-named place ({value(group, kind[2], left)}) range ={right}\n"
         out += f"{low(group)}-named place other range = record {{ one = action.{group} other; in_range = range; named = tt; given = refl; params = refl }}\n"
     out += "\npub action-named : (place : ℕ) (a : Action) → InRange a → ByName place a\n"
     out += "".join(f"action-named place (action.{group} a) range = {low(group)}-named place a range\n" for group in filter(can_be_named, BY_NUMBER))
@@ -143,6 +145,13 @@ def likes():
 action-named place other range = record { one = other; in_range = range; named = tt; given = refl; params = refl }
 """
     return out
+
+
+def value_uses(values, body):
+    """What the body says of OneValue, in two lines."""
+    names = used(values, body).split(", ")
+    half = len(names) // 2
+    return "".join(f"use Rattle.csicodec_structs.proofs.OneValue.{{{', '.join(some)}}}\n" for some in (names[:half], names[half:]))
 
 
 def proof():
@@ -170,5 +179,4 @@ use Rattle.csicodec_names.specs.declared.color.ColorSpec.TheVariants as color
 use Rattle.csicodec_structs.specs.declared.structs.Param.{{Param}}
 use Rattle.csicodec_structs.specs.declared.structs.Struct.{{Struct}}
 {own_use("Named", body)}{spec_use("csicodec_structs", "Structs", body)}{own_use("Ranges", body)}{own_use("Rows", body)}{spec_use("csicodec_structs", "Values", body)}\
-use Rattle.csicodec_structs.proofs.OneValue.{{{used(values, body)}}}
-""" + body
+{value_uses(values, body)}""" + body

@@ -7,3 +7,4 @@ pub mod NextLemmas
 pub mod Taken
 pub mod Odd
 pub mod Unread
+pub mod Attributes

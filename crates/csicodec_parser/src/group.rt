@@ -30,10 +30,14 @@ impl Group {
     pub fn of(first: Option<CsiParam>, control: char) -> Group
         ensures { result ≡ group_by first control }
     {
+        if control == 'm' {
+            return match first {
+                Some(CsiParam::P(b'>' | b'<')) => Group::Whole,
+                _ => Group::Styles,
+            };
+        }
         let private = matches!(first, Some(CsiParam::P(b'?')));
         match control {
-            'm' if matches!(first, Some(CsiParam::P(b'>' | b'<'))) => Group::Whole,
-            'm' => Group::Styles,
             'h' if private => Group::DecModes(Change::Set),
             'l' if private => Group::DecModes(Change::Reset),
             's' if private => Group::DecModes(Change::Save),

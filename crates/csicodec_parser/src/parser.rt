@@ -1,5 +1,5 @@
 //! The parser: an iterator over the actions of one parameter list, for any `Look`.
-ghost use Rattle.std.specs.Prelude.{◌≡◌, ◌↔◌, ℕ, ◌+◌, ◌-◌, ◌*◌, ◌<◌, ◌≤◌, Bool, List, [], ◌∷◌, Some, None, length, drop, map, IfOk, OnErr, OnOk, IfSome, IfNone, IsNone};
+ghost use Rattle.std.specs.Prelude.{true, false, slice_get, ◌≡◌, ◌↔◌, ℕ, ◌+◌, ◌-◌, ◌*◌, ◌<◌, ◌≤◌, Bool, List, [], ◌∷◌, Some, None, length, drop, map, IfOk, OnErr, OnOk, IfSome, IfNone, IsNone};
 ghost use Rattle.csicodec_tokens.specs.declared.param.CsiParam.{CsiParam};
 ghost use Rattle.csicodec_actions.specs.Actions.{Unspecified as Unknown};
 ghost use Rattle.csicodec_parser.specs.ActionOf.{action_of};
@@ -7,13 +7,15 @@ ghost use Rattle.csicodec_parser.specs.Groups.{group as group_of_list, has_odd, 
 ghost use Rattle.csicodec_parser.specs.Next.{IsRef};
 ghost use Rattle.csicodec_parser.specs.Segments.{Actions};
 ghost use Rattle.csicodec_actions.specs.Table.{unboxed, whole};
-ghost use Rattle.csicodec_parser.specs.Private.Steps.{with_semicolon, block, rest_action, left_at, fresh_cost, from_at, GoesBy, CanGo, CutsOn};
+ghost use Rattle.csicodec_parser.specs.Private.Steps.{with_semicolon, block, rest_action, left_at, fresh_cost, from_at, held, GoesBy, CanGo, CutsOn};
+ghost use Rattle.csicodec_parser.specs.declared.group.Group.TheVariants.{Styles};
 ghost use Rattle.csicodec_parser.specs.Private.Steps.{BeginsAs, IsRestAlone, BodyBeginsAs, BodyIsRestAlone, LeftBeginsAs, LeftIsRestAlone, PaysRest, PaysBlock, PaysAll};
 
 use crate::actions::{CSI, Unspecified, boxed_action, unboxed_action};
 use crate::group::{Group, front};
 use crate::look::Look;
 use crate::tokens::Tokens;
+use csicodec_actions::{Device, Window};
 use csicodec_base::{CsiParam, Sgr};
 use csicodec_tokens::Count;
 use std::alloc::{AllocError, Global};
@@ -125,6 +127,29 @@ pub(crate) fn with_semicolon(len: usize, next: Option<CsiParam>) -> usize
     }
 }
 
+/// Passes over a piece of `len` tokens, and the `;` directly after it.
+#[inline(always)]
+fn pass_piece<L: Look>(look: &mut L, len: usize)
+    requires short { len < usize.MAX }
+    requires there { L.passed look.old
+        + with_semicolon len (slice_get (drop (L.passed look.old) (L.tokens look.old)) len)
+        ≤ length (L.tokens look.old) }
+    ensures list { L.tokens look.new ≡ L.tokens look.old }
+    ensures passes { L.passed look.new ≡ L.passed look.old
+        + with_semicolon len (slice_get (drop (L.passed look.old) (L.tokens look.old)) len) }
+    ensures costs { L.looks look.new + L.passed look.old ≡ L.looks look.old + 1 + L.passed look.new }
+{
+    // most pieces are one token, and a pass over a number that is known costs less
+    if len == 1 {
+        return match look.get(1) {
+            Some(CsiParam::P(b';')) => look.pass(2),
+            _ => look.pass(1),
+        };
+    }
+    let next = look.get(len);
+    look.pass(with_semicolon(len, next));
+}
+
 /// Passes over the block at the front, and answers its action. Without one nothing is passed.
 #[inline(always)]
 fn cut_block<L: Look>(group: Group, look: &mut L) -> Option<CSI>
@@ -145,8 +170,7 @@ fn cut_block<L: Look>(group: Group, look: &mut L) -> Option<CSI>
     let Some((action, len)) = front(group, look.lend(0, width)) else {
         return None;
     };
-    let next = look.get(len);
-    look.pass(with_semicolon(len, next));
+    pass_piece(look, len);
     Some(action)
 }
 
@@ -187,9 +211,7 @@ fn unspecified<L: Look>(
 
 /// The action of all unread tokens, where it takes memory: that of a row of lists that are read whole, or an unknown one.
 /// They are passed, unless memory is refused.
-#[cold]
-#[inline(never)]
-fn rest_action<L: Look>(
+fn left_action<L: Look>(
     group: Group,
     look: &mut L,
     alloc: Global,
@@ -218,6 +240,75 @@ fn rest_action<L: Look>(
         };
     }
     unspecified(group, look, alloc, truncated, control)
+}
+
+/// An action that takes memory, in its box. A call answers it in registers, so that a caller whose other actions take none
+/// keeps no room for it.
+#[derive(Drop)]
+enum Boxed {
+    Device(Box<Device>),
+    Window(Box<Window>),
+    Unspecified(Box<Unspecified>),
+    /// Memory was refused.
+    Refused,
+}
+
+/// The same in its box.
+#[cold]
+#[inline(never)]
+fn boxed_rest<L: Look>(
+    group: Group,
+    look: &mut L,
+    alloc: Global,
+    truncated: bool,
+    control: char,
+) -> Boxed
+    requires { L.passed look.old ≤ length (L.tokens look.old) }
+    ensures ok { IfSome (held result) (λ action.
+        action
+        ≡ rest_action group (drop (L.passed look.old) (L.tokens look.old)) truncated control) }
+    ensures all { IfSome (held result) (λ _. L.passed look.new ≡ length (L.tokens look.new)) }
+    ensures list { L.tokens look.new ≡ L.tokens look.old }
+    ensures within { L.passed look.new ≤ length (L.tokens look.new) }
+    ensures counted { L.looks look.old ≤ L.looks look.new }
+    ensures costs { L.looks look.new + 10 * L.passed look.old
+        ≤ L.looks look.old + 10 * length (L.tokens look.old) }
+{
+    match left_action(group, look, alloc, truncated, control) {
+        Ok(CSI::Device(device)) => Boxed::Device(device),
+        Ok(CSI::Window(window)) => Boxed::Window(window),
+        Ok(CSI::Unspecified(unspecified)) => Boxed::Unspecified(unspecified),
+        // no other action takes memory
+        Ok(_) | Err(_) => Boxed::Refused,
+    }
+}
+
+/// The same, where what takes memory is out of the caller's way.
+#[inline(always)]
+fn rest_action<L: Look>(
+    group: Group,
+    look: &mut L,
+    alloc: Global,
+    truncated: bool,
+    control: char,
+) -> Result<CSI, AllocError>
+    requires { L.passed look.old ≤ length (L.tokens look.old) }
+    ensures ok { IfOk result (λ action.
+        action_of action
+        ≡ rest_action group (drop (L.passed look.old) (L.tokens look.old)) truncated control) }
+    ensures all { OnOk result (L.passed look.new ≡ length (L.tokens look.new)) }
+    ensures list { L.tokens look.new ≡ L.tokens look.old }
+    ensures within { L.passed look.new ≤ length (L.tokens look.new) }
+    ensures counted { L.looks look.old ≤ L.looks look.new }
+    ensures costs { L.looks look.new + 10 * L.passed look.old
+        ≤ L.looks look.old + 10 * length (L.tokens look.old) }
+{
+    match boxed_rest(group, look, alloc, truncated, control) {
+        Boxed::Device(device) => Ok(CSI::Device(device)),
+        Boxed::Window(window) => Ok(CSI::Window(window)),
+        Boxed::Unspecified(unspecified) => Ok(CSI::Unspecified(unspecified)),
+        Boxed::Refused => Err(AllocError),
+    }
 }
 
 /// The action of all unread tokens, with these lent. They are passed.
@@ -372,6 +463,90 @@ fn action_at<L: Look>(stage: Stage, group: Group, look: &mut L, control: char) -
     }
 }
 
+/// Whether a byte makes the whole list unknown. It is looked for once, where nothing was read.
+#[inline(always)]
+fn begins_odd<L: Look>(stage: Stage, group: Group, look: &mut L) -> bool
+    requires fresh { stage ≡ Stage.Fresh → L.passed look.old ≡ 0 }
+    ensures odd { result ≡ true
+        → (stage ≡ Stage.Fresh) × (has_odd group (L.tokens look.old) ≡ true) }
+    ensures plain { result ≡ false → stage ≡ Stage.Fresh
+        → has_odd group (L.tokens look.old) ≡ false }
+    ensures list { L.tokens look.new ≡ L.tokens look.old }
+    ensures passes { L.passed look.new ≡ L.passed look.old }
+    ensures counted { L.looks look.old ≤ L.looks look.new }
+    ensures costs { L.looks look.new
+        ≤ L.looks look.old + fresh_cost stage * length (L.tokens look.old) }
+{
+    match stage {
+        Stage::Fresh => has_odd(group, look),
+        Stage::Going(_) | Stage::Failed => false,
+    }
+}
+
+/// The next attribute, where a rule reads it. It is one body for the first and for all others, so that it is compiled for
+/// attributes alone, and once.
+#[inline(always)]
+fn style_action<L: Look>(stage: Stage, look: &mut L, control: char) -> Option<CSI>
+    requires fresh { stage ≡ Stage.Fresh → L.passed look.old ≡ 0 }
+    requires can { CanGo stage (L.passed look.old) (length (L.tokens look.old)) }
+    requires group { GoesBy stage (L.tokens look.old) control Styles }
+    ensures some { IfSome result (λ action.
+        LeftBeginsAs stage Styles (L.tokens look.old) control (L.passed look.old) (L.passed look.new) (action_of action)) }
+    ensures none { IfNone result
+        (LeftIsRestAlone stage Styles (L.tokens look.old) control (L.passed look.old)
+        (L.passed look.new)) }
+    ensures list { L.tokens look.new ≡ L.tokens look.old }
+    ensures cut { IfSome result (λ _. L.passed look.new < length (L.tokens look.new) →
+        CutsOn Styles (L.tokens look.old) (from_at stage Styles (L.passed look.old)) (L.passed look.new)) }
+    ensures forward { IfSome result (λ _. L.passed look.old < length (L.tokens look.old)
+        → L.passed look.old < L.passed look.new) }
+    ensures within { L.passed look.new ≤ length (L.tokens look.new) }
+    ensures counted { L.looks look.old ≤ L.looks look.new }
+    ensures going { IfSome result (λ _.
+        PaysBlock (fresh_cost stage) (length (L.tokens look.old)) (L.passed look.old) (L.passed look.new) (L.looks look.old) (L.looks look.new)) }
+    ensures left { IfNone result (
+        PaysAll (fresh_cost stage) (length (L.tokens look.old)) (L.passed look.old) (L.passed look.new) (L.looks look.old) (L.looks look.new)) }
+{
+    if begins_odd(stage, Group::Styles, look) {
+        return None;
+    }
+    if look.len() == 0 {
+        return Some(CSI::Sgr(Sgr::Reset));
+    }
+    cut_block(Group::Styles, look)
+}
+
+/// The next action, by a body of its own for attributes.
+#[inline(always)]
+fn next_action<L: Look>(stage: Stage, group: Group, look: &mut L, control: char) -> Option<CSI>
+    requires fresh { stage ≡ Stage.Fresh → L.passed look.old ≡ 0 }
+    requires can { CanGo stage (L.passed look.old) (length (L.tokens look.old)) }
+    requires group { GoesBy stage (L.tokens look.old) control group }
+    ensures some { IfSome result (λ action.
+        LeftBeginsAs stage group (L.tokens look.old) control (L.passed look.old) (L.passed look.new) (action_of action)) }
+    ensures none { IfNone result
+        (LeftIsRestAlone stage group (L.tokens look.old) control (L.passed look.old)
+        (L.passed look.new)) }
+    ensures list { L.tokens look.new ≡ L.tokens look.old }
+    ensures cut { IfSome result (λ _. L.passed look.new < length (L.tokens look.new) →
+        CutsOn group (L.tokens look.old) (from_at stage group (L.passed look.old)) (L.passed look.new)) }
+    ensures forward { IfSome result (λ _. L.passed look.old < length (L.tokens look.old)
+        → L.passed look.old < L.passed look.new) }
+    ensures within { L.passed look.new ≤ length (L.tokens look.new) }
+    ensures counted { L.looks look.old ≤ L.looks look.new }
+    ensures going { IfSome result (λ _.
+        PaysBlock (fresh_cost stage) (length (L.tokens look.old)) (L.passed look.old) (L.passed look.new) (L.looks look.old) (L.looks look.new)) }
+    ensures left { IfNone result (
+        PaysAll (fresh_cost stage) (length (L.tokens look.old)) (L.passed look.old) (L.passed look.new) (L.looks look.old) (L.looks look.new)) }
+{
+    match group {
+        Group::Styles => style_action(stage, look, control),
+        Group::Whole | Group::Modes(_) | Group::DecModes(_) => {
+            action_at(stage, group, look, control)
+        }
+    }
+}
+
 impl<L: Look> Run<L> {
     ghost use Rattle.csicodec_parser.specs.Progress.{begun};
 
@@ -422,7 +597,7 @@ impl<L: Look> Iterator for Run<L> {
         let Some(group) = group_at(self.stage, &mut self.look, self.control) else {
             return None;
         };
-        match action_at(self.stage, group, &mut self.look, self.control) {
+        match next_action(self.stage, group, &mut self.look, self.control) {
             Some(action) => {
                 self.stage = Stage::Going(group);
                 self.given.charge(1, 1);

@@ -9,9 +9,12 @@ use Rattle.csicodec_parser.specs.declared.group.Group.{Group}
 use Rattle.csicodec_parser.specs.declared.group.Group.TheVariants.{Whole, Styles, Modes, DecModes}
 use Rattle.csicodec_parser.specs.declared.parser.Stage.{Stage}
 use Rattle.csicodec_parser.specs.declared.parser.Stage.TheVariants.{Fresh, Going, Failed}
+use Rattle.csicodec_parser.specs.declared.parser.Boxed.{Boxed}
+use Rattle.csicodec_parser.specs.declared.parser.Boxed.TheVariants as box
 use Rattle.csicodec_parser.specs.declared.actions.CSI.{CSI}
-use Rattle.csicodec_actions.specs.Actions.{Action, Sgr, Mode, Unspecified}
-use Rattle.csicodec_parser.specs.ActionOf.{action_of}
+use Rattle.csicodec_actions.specs.Actions.{Action, Sgr, Mode, Device, Window, Unspecified}
+use Rattle.csicodec_actions.specs.Devices.{device_of}
+use Rattle.csicodec_parser.specs.ActionOf.{action_of, unspecified_of}
 use Rattle.csicodec_parser.specs.Groups.{group, start, marked, is_odd, has_odd}
 use Rattle.csicodec_parser.specs.Cut.{body, IsRestAfter}
 use Rattle.csicodec_actions.specs.Modes.{changed, switched}
@@ -85,6 +88,13 @@ rest_action Whole rest flag final =
 rest_action Styles rest flag final = Unspecified (marked Styles rest) flag final
 rest_action (Modes s) rest flag final = Unspecified (marked (Modes s) rest) flag final
 rest_action (DecModes c) rest flag final = Unspecified (marked (DecModes c) rest) flag final
+
+-- the action in a box, if memory wasn't refused
+abbrev pub held : Boxed → Option Action
+held (box.Device d) = Some (Device (device_of d.value))
+held (box.Window w) = Some (Window w.value)
+held (box.Unspecified u) = Some (unspecified_of u.value)
+held box.Refused = None
 
 -- the actions of what is left of a list that is cut
 abbrev pub actions_after : Group → Bool → ℕ → List CsiParam → List Action

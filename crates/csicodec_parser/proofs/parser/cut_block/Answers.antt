@@ -1,5 +1,4 @@
 use Rattle.std.proofs.Common.{◌≡◌, drop, arith, sym, ap, ◌∙◌, length-drop}
-use Rattle.std.specs.Prelude.{slice_get}
 use Rattle.csicodec_parser.specs.Private.Steps.{found, block_of, with_semicolon}
 use Rattle.csicodec_parser.proofs.Fronts.{lent_front, front_fits}
 use Rattle.csicodec_parser.proofs.Blocks.{cut_some, at_same, semicolon_within}
@@ -12,18 +11,15 @@ returns-in_default-clause-none g c =
     let same = lent_front tokens c.lend.result.now passed c.len.result c.min-width.result c.len.ensures (omega arith) c.lend.ensures.lent in
     ap (block_of (drop passed tokens)) (sym (c.front.ensures.answer (drop passed tokens) same) ∙ ap found c.in_default.is)
 
-pub pass-requires : goal.pass-requires
-pass-requires g c =
+pub pass_piece-requires-clause-there : goal.pass_piece-requires-clause-there
+pass_piece-requires-clause-there g c =
     let tokens = g.L.Look.tokens c.args.look.now in
     let passed = g.L.Look.passed c.args.look.now in
     let same = lent_front tokens c.lend.result.now passed c.len.result c.min-width.result c.len.ensures (omega arith) c.lend.ensures.lent in
     let fits = front_fits c.args.group (drop passed tokens) _ c.in-Some.len (sym (c.front.ensures.answer (drop passed tokens) same) ∙ ap found c.in-Some.is) in
     let left = c.lend.follows.holds-at-none in
-    let next : c.get-next.result ≡ slice_get (drop passed tokens) c.in-Some.len =
-    c.get-next.ensures.token ∙ at_same tokens _ passed _ c.in-Some.len left.list left.passes in
-    let taken : c.with_semicolon.result ≡ with_semicolon c.in-Some.len (slice_get (drop passed tokens) c.in-Some.len) = c.with_semicolon.ensures ∙ ap (with_semicolon c.in-Some.len) next in
     let there = semicolon_within (drop passed tokens) c.in-Some.len fits.within in
-    rw (c.get-next.ensures.list, left.list, c.get-next.ensures.passes, left.passes) (omega (arith, taken, there, length-drop passed tokens))
+    rw (left.list, left.passes) (omega (arith, there, length-drop passed tokens))
 
 pub returns-clause-some : goal.returns-clause-some
 returns-clause-some g c =
@@ -31,7 +27,6 @@ returns-clause-some g c =
     let passed = g.L.Look.passed c.args.look.now in
     let same = lent_front tokens c.lend.result.now passed c.len.result c.min-width.result c.len.ensures (omega arith) c.lend.ensures.lent in
     let left = c.lend.follows.holds-at-none in
-    let next : c.get-next.result ≡ slice_get (drop passed tokens) c.in-Some.len =
-    c.get-next.ensures.token ∙ at_same tokens _ passed _ c.in-Some.len left.list left.passes in
-    cut_some c.args.group (drop passed tokens) _ c.in-Some.len c.with_semicolon.result passed (g.L.Look.passed c.pass.new.self)
-    (sym (c.front.ensures.answer (drop passed tokens) same) ∙ ap found c.in-Some.is) (c.with_semicolon.ensures ∙ ap (with_semicolon c.in-Some.len) next) (omega arith)
+    let next = at_same tokens _ passed _ c.in-Some.len left.list left.passes in
+    cut_some c.args.group (drop passed tokens) _ c.in-Some.len _ passed (g.L.Look.passed c.pass_piece.new.look)
+    (sym (c.front.ensures.answer (drop passed tokens) same) ∙ ap found c.in-Some.is) (ap (with_semicolon c.in-Some.len) next) (omega (arith, c.pass_piece.ensures.passes, left.passes))

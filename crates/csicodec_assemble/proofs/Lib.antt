@@ -1,3 +1,4 @@
 pub mod Shown
 pub mod Joined
 pub mod Member
+pub mod Place

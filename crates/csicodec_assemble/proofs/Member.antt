@@ -92,7 +92,7 @@ none_mapped (Some p) = refl
 
 -- ---- what the members say
 
-apart : (a b : List ℕ) → ¬ (get_or a 0 0 ≡ get_or b 0 0) → a ≡ b → ⊥
+pub apart : (a b : List ℕ) → ¬ (get_or a 0 0 ≡ get_or b 0 0) → a ≡ b → ⊥
 apart a b other e = other (ap (λ (l : List ℕ). get_or l 0 0) e)
 
 ne_true : (t : Bool) → t ≡ false → t ≡ true → ⊥

@@ -1,15 +1,18 @@
 //! A line in the form that `explain --json` gives it, of which the text is read and nothing else kept.
 ghost use Rattle.std.specs.Prelude.{◌≡◌, ◌<◌, ◌++◌, [], ◌∷◌, ℕ, List, length, IfOk, IfSome, IsFalse, IsSome, IsTrue, OnErr, OnOk, Ok, Some, option_map};
+ghost use Rattle.json.specs.Print.{IsNumber};
 ghost use Rattle.json.specs.Token as token;
 ghost use Rattle.json.specs.Json.{items, members, value};
 ghost use Rattle.serde_json.specs.Data.{Data, Items, Members, no_members, put};
-ghost use Rattle.serde_json.specs.Read.{converted, number_of, of_items, of_json, of_members};
+ghost use Rattle.serde_json.specs.Read.{converted, number_of, of_items, of_json, of_members, read};
 ghost use Rattle.csicodec_assemble.specs.Object.{of_line, of_object};
-ghost use Rattle.csicodec_assemble.specs.Private.Glance.{Says};
+ghost use Rattle.csicodec_assemble.specs.Private.Glance.{Follow, IsPlaced, Says, Stands};
 
+use crate::seen::Seen;
 use fast_float::Numeral;
-use json::{Invalid, Reader, Scratch, Token};
-use std::alloc::AllocError;
+use json::{Invalid, Reader, Scratch, Token, is_number};
+use memchr::memchr;
+use std::alloc::{AllocError, Global};
 
 /// How deep arrays and objects may nest in the object of a line: as deep as serde_json reads them.
 const DEPTH: usize = 126;
@@ -113,12 +116,10 @@ fn take_member<'a>(
     Ok(text)
 }
 
-/// Passes the members of an object: its text, if it has one. It has no `hex`, and isn't of the kind `totals`.
+/// Passes the members of an object that follow others, which have no text: the text, if these have one. They have no `hex`, and aren't of
+/// the kind `totals`.
 fn text_member<'a>(reader: &mut Reader<'a>) -> Result<Option<&'a str>, Invalid>
-    ensures { IfOk result (λ text. (found : Members)
-        × (converted (λ ms. of_members ms no_members)
-        (members (value 126) (length reader.old) reader.old) ≡ Some (found, reader.new))
-        × Says (option_map (λ s. s.now) text) found) }
+    ensures { IfOk result (λ text. Follow reader.old reader.new (option_map (λ s. s.now) text)) }
 {
     let mut text = None;
     'members: while let Some(name) = reader.next_key()? {
@@ -127,14 +128,10 @@ fn text_member<'a>(reader: &mut Reader<'a>) -> Result<Option<&'a str>, Invalid>
     Ok(text)
 }
 
-/// The text of an object that is all that comes, where it has that form.
-fn text_of<'a>(reader: &mut Reader<'a>) -> Option<&'a str>
-    ensures { IfSome result (λ s. (d : Data)
-        × (converted of_json (value 127 reader.old) ≡ Some (d, [])) × (of_object d ≡ Ok s.now)) }
+/// The text of the members that are all that comes, and the object's end.
+fn text_at_end<'a>(reader: &mut Reader<'a>) -> Option<&'a str>
+    ensures { IfSome result (λ s. Follow reader.old [] (Some s.now)) }
 {
-    let Some(Token::BeginObject) = reader.next() else {
-        return None;
-    };
     let Ok(text) = text_member(reader) else {
         return None;
     };
@@ -144,24 +141,133 @@ fn text_of<'a>(reader: &mut Reader<'a>) -> Option<&'a str>
     text
 }
 
-/// Appends the text of a line's object, where it has that form; whether it does.
-pub(crate) fn append_text(
-    scratch: &mut Scratch,
-    line: &[u8],
-    out: &mut Vec<u8>,
-) -> Result<bool, AllocError>
-    ensures bytes { IfOk result (λ told. IsTrue told → (text : List ℕ)
-        × (of_line line.now ≡ Ok text) × (out.new.items ≡ out.old.items ++ text)) }
-    ensures none { IfOk result (λ told. IsFalse told → out.new.items ≡ out.old.items) }
-    ensures kept { OnErr result (out.new.items ≡ out.old.items) }
+/// The text of an object that is all that comes, where it has that form.
+fn text_of<'a>(reader: &mut Reader<'a>) -> Option<&'a str>
+    ensures { IfSome result (λ s. (d : Data)
+        × (converted of_json (value 127 reader.old) ≡ Some (d, [])) × (of_object d ≡ Ok s.now)) }
 {
-    let Ok(line) = std::str::from_utf8(line) else {
-        return Ok(false);
+    match reader.next() {
+        Some(Token::BeginObject) => text_at_end(reader),
+        _ => None,
+    }
+}
+
+/// What stands ahead of the first comma, and behind it.
+fn split_comma(bytes: &[u8]) -> Option<(&[u8], &[u8])>
+    ensures { IfSome result (λ (front, behind). bytes.now ≡ front.now ++ 44 ∷ behind.now) }
+{
+    match memchr(b',', bytes) {
+        Some(end) => Some((&bytes[..end], &bytes[end + 1..])),
+        None => None,
+    }
+}
+
+/// Whether bytes are a number of JSON that is less than 2^64, in digits alone.
+fn is_place(digits: &[u8]) -> bool
+    ensures { IsTrue result → IsNumber digits.now × IsSome (number_of digits.now) }
+{
+    match std::str::from_utf8(digits) {
+        Ok(number) => is_number(number) && is_small(number),
+        Err(_) => false,
+    }
+}
+
+/// What follows the place of a line, which is a number ahead of all other members, where it begins so.
+fn behind_place(line: &[u8]) -> Option<&[u8]>
+    ensures { IfSome result (λ rest. IsPlaced line.now rest.now) }
+{
+    let [b'{', b'"', b'a', b't', b'"', b':', behind @ ..] = line else {
+        return None;
     };
-    let mut reader = Reader::new(line, scratch)?;
-    let Some(text) = text_of(&mut reader) else {
-        return Ok(false);
+    let (digits, rest) = split_comma(behind)?;
+    let [b'"', ..] = rest else {
+        return None;
     };
-    out.extend_from_slice(text.as_bytes())?;
-    Ok(true)
+    if is_place(digits) { Some(rest) } else { None }
+}
+
+/// Reads lines, and holds what it knows of the last ones.
+#[derive(Drop)]
+pub(crate) struct Glance {
+    /// Where a line is read.
+    scratch: Scratch,
+    seen: Seen,
+}
+
+impl Glance {
+    /// At no line.
+    pub(crate) fn new(alloc: Global) -> Glance {
+        Glance {
+            scratch: Scratch::new(alloc),
+            seen: Seen::new(alloc),
+        }
+    }
+
+    /// Appends the text of what follows a line's place, and holds it; whether it has that form.
+    fn append_read(&mut self, rest: &[u8], out: &mut Vec<u8>) -> Result<bool, AllocError>
+        ensures bytes { IfOk result (λ told. IsTrue told → (text : List ℕ)
+            × Stands rest.now text × (out.new.items ≡ out.old.items ++ text)) }
+        ensures none { IfOk result (λ told. IsFalse told → out.new.items ≡ out.old.items) }
+        ensures kept { OnErr result (out.new.items ≡ out.old.items) }
+    {
+        let Ok(line) = std::str::from_utf8(rest) else {
+            return Ok(false);
+        };
+        let mut reader = Reader::new(line, &mut self.scratch)?;
+        let Some(text) = text_at_end(&mut reader) else {
+            return Ok(false);
+        };
+        let bytes = text.as_bytes();
+        self.seen.hold(rest, bytes)?;
+        out.extend_from_slice(bytes)?;
+        Ok(true)
+    }
+
+    /// Appends the text of what follows a line's place; whether it has that form.
+    fn append_rest(&mut self, rest: &[u8], out: &mut Vec<u8>) -> Result<bool, AllocError>
+        ensures bytes { IfOk result (λ told. IsTrue told → (text : List ℕ)
+            × Stands rest.now text × (out.new.items ≡ out.old.items ++ text)) }
+        ensures none { IfOk result (λ told. IsFalse told → out.new.items ≡ out.old.items) }
+        ensures kept { OnErr result (out.new.items ≡ out.old.items) }
+    {
+        match self.seen.text_of(rest) {
+            Some(text) => {
+                out.extend_from_slice(text)?;
+                Ok(true)
+            }
+            None => self.append_read(rest, out),
+        }
+    }
+
+    /// Appends the text of an object that doesn't begin with a place; whether it has that form.
+    fn append_whole(&mut self, line: &str, out: &mut Vec<u8>) -> Result<bool, AllocError>
+        ensures bytes { IfOk result (λ told. IsTrue told → (d : Data) × (text : List ℕ)
+            × (read line.now ≡ Some d) × (of_object d ≡ Ok text)
+            × (out.new.items ≡ out.old.items ++ text)) }
+        ensures none { IfOk result (λ told. IsFalse told → out.new.items ≡ out.old.items) }
+        ensures kept { OnErr result (out.new.items ≡ out.old.items) }
+    {
+        let mut reader = Reader::new(line, &mut self.scratch)?;
+        let Some(text) = text_of(&mut reader) else {
+            return Ok(false);
+        };
+        out.extend_from_slice(text.as_bytes())?;
+        Ok(true)
+    }
+
+    /// Appends the text of a line's object, where it has that form; whether it does.
+    pub(crate) fn append_text(&mut self, line: &[u8], out: &mut Vec<u8>) -> Result<bool, AllocError>
+        ensures bytes { IfOk result (λ told. IsTrue told → (text : List ℕ)
+            × (of_line line.now ≡ Ok text) × (out.new.items ≡ out.old.items ++ text)) }
+        ensures none { IfOk result (λ told. IsFalse told → out.new.items ≡ out.old.items) }
+        ensures kept { OnErr result (out.new.items ≡ out.old.items) }
+    {
+        let Ok(text) = std::str::from_utf8(line) else {
+            return Ok(false);
+        };
+        match behind_place(line) {
+            Some(rest) => self.append_rest(rest, out),
+            None => self.append_whole(text, out),
+        }
+    }
 }

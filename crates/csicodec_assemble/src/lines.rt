@@ -4,8 +4,8 @@ ghost use Rattle.std.specs.List.{list_all};
 ghost use Rattle.csicodec_assemble.specs.Lines.{IsRefused, Passes, counted, last_line, most, of_lines, one_more};
 ghost use Rattle.csicodec_assemble.specs.Object.{IsTold, of_line};
 
+use crate::glance::Glance;
 use crate::object::{Fault, Refusal, append_bytes};
-use json::Scratch;
 use memchr::memchr;
 use std::alloc::Global;
 
@@ -24,12 +24,13 @@ pub fn split_line(bytes: &[u8]) -> Option<(&[u8], &[u8])>
     }
 }
 
-/// Lines of which some have come. It holds no more than the line that has begun, and as much room to read it.
+/// Lines of which some have come. It holds no more than the line that has begun, as much room to read it, and what it knows of some
+/// lines that were short.
 #[derive(Drop)]
 pub struct Assembler {
     alloc: Global,
-    /// Where a line is read.
-    scratch: Scratch,
+    /// Reads a line.
+    glance: Glance,
     /// What has come of the line.
     line: Vec<u8>,
     /// How many lines are over.
@@ -45,7 +46,7 @@ impl Assembler {
     {
         Assembler {
             alloc,
-            scratch: Scratch::new(alloc),
+            glance: Glance::new(alloc),
             line: Vec::new(alloc),
             over: 0,
         }
@@ -69,7 +70,7 @@ impl Assembler {
         ensures told { IfErr result (λ e. IsTold e (of_line self.old.line.items)) }
         ensures kept { OnErr result (out.new.items ≡ out.old.items) }
     {
-        append_bytes(self.alloc, &mut self.scratch, &self.line, out)?;
+        append_bytes(self.alloc, &mut self.glance, &self.line, out)?;
         self.line.clear();
         self.over = self.over.saturating_add(1);
         Ok(())

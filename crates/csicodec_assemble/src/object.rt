@@ -5,9 +5,8 @@ ghost use Rattle.serde_json.specs.View.{view};
 ghost use Rattle.csicodec_assemble.specs.Object.{IsTold, fault_text, of_hex, of_line, of_object, of_text};
 ghost use Rattle.csicodec_assemble.specs.declared.object.Refusal.TheVariants.{Memory};
 
-use crate::glance::append_text;
+use crate::glance::Glance;
 use hex::FromHexError;
-use json::Scratch;
 use serde_json::Value;
 use std::alloc::{AllocError, Global};
 use std::fmt;
@@ -128,7 +127,7 @@ pub fn bytes_of_line(alloc: Global, line: &[u8]) -> Result<Vec<u8>, Refusal>
 /// Appends the bytes that a line stands for.
 pub(crate) fn append_bytes(
     alloc: Global,
-    scratch: &mut Scratch,
+    glance: &mut Glance,
     line: &[u8],
     out: &mut Vec<u8>,
 ) -> Result<(), Refusal>
@@ -137,7 +136,7 @@ pub(crate) fn append_bytes(
     ensures told { IfErr result (λ e. IsTold e (of_line line.now)) }
     ensures kept { OnErr result (out.new.items ≡ out.old.items) }
 {
-    if !append_text(scratch, line, out)? {
+    if !glance.append_text(line, out)? {
         out.extend_from_slice(&bytes_of_line(alloc, line)?)?;
     }
     Ok(())

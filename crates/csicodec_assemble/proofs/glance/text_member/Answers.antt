@@ -1,18 +1,18 @@
-use Rattle.std.proofs.Common.{◌≡◌, ◌-◌, length, Some, refl, ◌∙◌, arith}
+use Rattle.std.proofs.Common.{◌≡◌, ◌-◌, Some, refl, ◌∙◌, arith}
 use Rattle.json.specs.Json.{read_key, value}
 use Rattle.json.proofs.Grammar.{read_key-shorter}
-use Rattle.serde_json.specs.Data.{no_members, put}
+use Rattle.serde_json.specs.Data.{put}
 use Rattle.csicodec_assemble.proofs.Member.{member_read, members_over}
 use Rattle.csicodec_assemble.proofs.glance.text_member.Goals as goal
 
 pub members-init : goal.members-init
-members-init c = (length c.args.reader.now, omega arith, no_members, refl, (refl, refl, refl))
+members-init c = λ m first enough says. (m, enough, first, refl, says)
 
 pub members-preserved : goal.members-preserved
-members-preserved c =
+members-preserved c = λ m first all none.
     let p = value 126 in
     let l = c.members in
-    let (n, enough, old, same, says) = l.invariant in
+    let (n, enough, old, same, says) = l.invariant m first all none in
     let k = c.in-Some.name.now in
     let s = c.next_key.new.self in
     let named : read_key l.reader ≡ Some (Some k, s) = grind arith in
@@ -22,6 +22,6 @@ members-preserved c =
     (n - 1, omega (arith, enough, less, lesser), put k d old, same ∙ member_read p old n k l.reader s c.take_member.new.reader d (omega (arith, enough, less)) named read, now old says)
 
 pub returns : goal.returns
-returns c =
-    let (n, enough, old, same, says) = c.members.invariant in
+returns c = λ m first all none.
+    let (n, enough, old, same, says) = c.members.invariant m first all none in
     (old, same ∙ members_over (value 126) old n c.members.reader c.next_key.new.self enough (grind arith), says)

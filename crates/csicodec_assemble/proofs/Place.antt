@@ -1,0 +1,130 @@
+-- A line whose object begins with a place: what follows that place says what the line stands for.
+use Rattle.std.proofs.Common.{◌≡◌, ℕ, ◌-◌, ◌≤◌, Bool, true, false, List, [], ◌∷◌, ◌++◌, length, get_or, take, drop, Option, Some, None, Ok, IsSome, refl, sym, ap, ◌∙◌, subst, arith, Bor, IfSome}
+use Rattle.std.specs.Prelude.{IsUtf8, codes, option_map}
+use Rattle.std.proofs.lemmas.List.{take_all}
+use Rattle.json.specs.Token.{Token, begin_object, key, number}
+use Rattle.json.specs.Text.{content, plain}
+use Rattle.json.specs.Lex.{Lexeme, token, comma, colon, string_token, Place, fresh, after_comma, place_token, punctuate, between, in_string, lex, tokens, begins_colon}
+use Rattle.json.specs.Json.{members, parse_map, value}
+use Rattle.json.specs.Print.{IsNumber}
+use Rattle.json.proofs.Grammar.{value-begin_object, value_is}
+use Rattle.json.proofs.Printed.Numbers.{lex-number}
+use Rattle.serde_json.specs.Data as values
+use Rattle.serde_json.specs.Data.{Data, Members, Num, no_members, put, object}
+use Rattle.serde_json.specs.Read.{converted, number_of, of_json, read}
+use Rattle.csicodec_assemble.specs.Object.{of_line}
+use Rattle.csicodec_assemble.specs.Private.Glance.{Follow, Says, Stands}
+use Rattle.csicodec_assemble.proofs.Member.{apart, converted-object, is_there, line_is, member_read, says_object, says_other, whole_read}
+
+-- ---- the lexemes
+
+opened : (xs : List ℕ) → lex between (123 ∷ 34 ∷ 97 ∷ 116 ∷ 34 ∷ 58 ∷ xs) ≡ token begin_object ∷ token (Token.string (97 ∷ 116 ∷ [])) ∷ colon ∷ lex between xs
+unfolding lex content
+opened xs = refl
+
+at_comma : (xs : List ℕ) → lex between (44 ∷ xs) ≡ comma ∷ lex between xs
+unfolding lex
+at_comma xs = refl
+
+at_quote : (xs : List ℕ) → lex between (34 ∷ xs) ≡ token (string_token (content plain xs)) ∷ lex in_string xs
+unfolding lex
+at_quote xs = refl
+
+abbrev line_of : List ℕ → List ℕ → List ℕ
+line_of ds more = 123 ∷ 34 ∷ 97 ∷ 116 ∷ 34 ∷ 58 ∷ (ds ++ 44 ∷ 34 ∷ more)
+
+lexemes : (ds more : List ℕ) → IsNumber ds
+    → lex between (line_of ds more) ≡ token begin_object ∷ token (Token.string (97 ∷ 116 ∷ [])) ∷ colon ∷ token (number ds) ∷ comma ∷ lex between (34 ∷ more)
+lexemes ds more is =
+    opened (ds ++ 44 ∷ 34 ∷ more)
+    ∙ ap (λ (ls : List Lexeme). token begin_object ∷ token (Token.string (97 ∷ 116 ∷ [])) ∷ colon ∷ ls)
+    (lex-number ds (44 ∷ 34 ∷ more) is refl ∙ ap (λ (ls : List Lexeme). token (number ds) ∷ ls) (at_comma (34 ∷ more)))
+
+-- ---- the tokens
+
+begun : (ds : List ℕ) (ls : List Lexeme) → punctuate fresh (token begin_object ∷ token (Token.string (97 ∷ 116 ∷ [])) ∷ colon ∷ token (number ds) ∷ comma ∷ ls)
+    ≡ begin_object ∷ key (97 ∷ 116 ∷ []) ∷ number ds ∷ punctuate after_comma ls
+unfolding punctuate
+begun ds ls = refl
+
+same_place : (o : Option (List ℕ)) (b : Bool) (k : Place → List Token) → place_token after_comma (string_token o) b k ≡ place_token fresh (string_token o) b k
+same_place None b k = refl
+same_place (Some s) true k = refl
+same_place (Some s) false k = refl
+
+same_string : (o : Option (List ℕ)) (ls : List Lexeme) → punctuate after_comma (token (string_token o) ∷ ls) ≡ punctuate fresh (token (string_token o) ∷ ls)
+unfolding punctuate
+same_string o ls = same_place o (begins_colon ls) (λ next. punctuate next ls)
+
+-- a string stands behind a comma as it does at the front
+same_quote : (more : List ℕ) → punctuate after_comma (lex between (34 ∷ more)) ≡ tokens (34 ∷ more)
+same_quote more =
+    ap (punctuate after_comma) (at_quote more) ∙ same_string (content plain more) (lex in_string more) ∙ ap (punctuate fresh) (sym (at_quote more))
+
+tokens_of : (ds more : List ℕ) → IsNumber ds → tokens (line_of ds more) ≡ begin_object ∷ key (97 ∷ 116 ∷ []) ∷ number ds ∷ tokens (34 ∷ more)
+tokens_of ds more is =
+    ap (punctuate fresh) (lexemes ds more is) ∙ begun ds (lex between (34 ∷ more))
+    ∙ ap (λ (ts : List Token). begin_object ∷ key (97 ∷ 116 ∷ []) ∷ number ds ∷ ts) (same_quote more)
+
+-- ---- what they are
+
+a_number : (ds : List ℕ) (r : List Token) (n : Num) → number_of ds ≡ Some n → converted of_json (value 126 (number ds ∷ r)) ≡ Some (values.number n, r)
+a_number ds r n is = ap (converted of_json) (value_is 126 (number ds ∷ r)) ∙ ap (λ (o : Option Num). option_map (λ b. (b, r)) (option_map values.number o)) is
+
+placed : (ds text : List ℕ) (r : List Token) (n : Num) → number_of ds ≡ Some n → Follow r [] (Some text)
+    → (found : Members) × (converted of_json (value 127 (begin_object ∷ key (97 ∷ 116 ∷ []) ∷ number ds ∷ r)) ≡ Some (object found, [])) × Says (Some text) found
+placed ds text r n is follow =
+    let p = value 126 in
+    let k : List ℕ = 97 ∷ 116 ∷ [] in
+    let ts : List Token = key k ∷ number ds ∷ r in
+    let first : Members = put k (values.number n) no_members in
+    let says : Says None first =
+    says_other k (values.number n) None no_members (apart (codes "text") k (λ e. omega (arith, e))) (apart (codes "hex") k (λ e. omega (arith, e))) (apart (codes "kind") k (λ e. omega (arith, e))) (refl, refl, refl) in
+    let (found, members_are, now) = follow (length ts - 1) first (omega arith) says in
+    let turn = member_read p no_members (length ts) k ts (number ds ∷ r) r (values.number n) (omega arith) refl (a_number ds r n is) in
+    let opens = ap (converted of_json) (value-begin_object 127 ts (omega arith)) ∙ converted-object (members p (length ts) ts) in
+    (found, opens ∙ ap (parse_map object) (turn ∙ members_are), now)
+
+of_placed : (ds more text : List ℕ) → IsUtf8 (line_of ds more) → IsNumber ds → IsSome (number_of ds) → Follow (tokens (34 ∷ more)) [] (Some text) → of_line (line_of ds more) ≡ Ok text
+of_placed ds more text utf8 is some follow =
+    let line = line_of ds more in
+    let (n, small) = is_there (number_of ds) some in
+    let (found, all, says) = placed ds text (tokens (34 ∷ more)) n small follow in
+    let whole : read line ≡ Some (object found) = whole_read (value 127 (tokens line)) (object found) (ap (λ (ts : List Token). converted of_json (value 127 ts)) (tokens_of ds more is) ∙ all) in
+    line_is line line (object found) utf8 refl whole ∙ says_object text found says
+
+-- the text that was found stands alone where nothing follows
+pub text_last : (text : Option (Bor (List ℕ))) (ts rest : List Token) → rest ≡ [] → Follow ts rest (option_map (λ s. s.now) text) → IfSome text (λ s. Follow ts [] (Some s.now))
+text_last None ts rest none follow = tt
+text_last (Some s) ts rest none follow = subst (λ (r : List Token). Follow ts r (Some s.now)) none follow
+
+pub stands : (rest text : List ℕ) → Follow (tokens rest) [] (Some text) → Stands rest text
+stands rest text follow = λ line utf8 placed.
+    let (ds, more, is, quoted, num, some) = placed in
+    let same : line ≡ line_of ds more = is ∙ ap (λ (r : List ℕ). codes "{\"at\":" ++ ds ++ 44 ∷ r) quoted in
+    subst (λ (l : List ℕ). of_line l ≡ Ok text) (sym same)
+    (of_placed ds more text (subst IsUtf8 same utf8) num some (subst (λ (r : List ℕ). Follow (tokens r) [] (Some text)) quoted follow))
+
+-- what was read of the rest
+pub stands_read : (rest line text given : List ℕ) (ts : List Token) → ts ≡ tokens line → line ≡ rest → given ≡ text → Follow ts [] (Some text) → Stands rest given
+stands_read rest line text given ts read_of same is follow =
+    let of_rest : ts ≡ tokens rest = read_of ∙ ap tokens same in
+    subst (λ (t : List ℕ). Stands rest t) (sym is) (stands rest text (subst (λ (l : List Token). Follow l [] (Some text)) of_rest follow))
+
+-- ---- the bytes at the front of a line
+
+pub first_cut : (xs : List ℕ) → 1 ≤ length xs → get_or xs 0 0 ≡ 34 → xs ≡ 34 ∷ take (length xs - 1) (drop 1 xs)
+first_cut [] some first = absurd (omega arith)
+first_cut (x ∷ xs) some first = ap (λ (c : ℕ). c ∷ xs) first ∙ ap (λ (l : List ℕ). 34 ∷ l) (sym (take_all (length (x ∷ xs) - 1) xs (omega arith)))
+
+pub six_cut : (xs : List ℕ) → 6 ≤ length xs → get_or xs 0 0 ≡ 123 → get_or xs 1 0 ≡ 34 → get_or xs 2 0 ≡ 97 → get_or xs 3 0 ≡ 116 → get_or xs 4 0 ≡ 34 → get_or xs 5 0 ≡ 58
+    → xs ≡ 123 ∷ 34 ∷ 97 ∷ 116 ∷ 34 ∷ 58 ∷ take (length xs - 6) (drop 6 xs)
+six_cut [] some p q r s t u = absurd (omega arith)
+six_cut (a ∷ []) some p q r s t u = absurd (omega (arith, some))
+six_cut (a ∷ b ∷ []) some p q r s t u = absurd (omega (arith, some))
+six_cut (a ∷ b ∷ c ∷ []) some p q r s t u = absurd (omega (arith, some))
+six_cut (a ∷ b ∷ c ∷ d ∷ []) some p q r s t u = absurd (omega (arith, some))
+six_cut (a ∷ b ∷ c ∷ d ∷ e ∷ []) some p q r s t u = absurd (omega (arith, some))
+six_cut (a ∷ b ∷ c ∷ d ∷ e ∷ f ∷ xs) some p q r s t u =
+    let whole : take (length (a ∷ b ∷ c ∷ d ∷ e ∷ f ∷ xs) - 6) xs ≡ xs = take_all (length (a ∷ b ∷ c ∷ d ∷ e ∷ f ∷ xs) - 6) xs (omega arith) in
+    rw (p, q, r, s, t, u) (ap (λ (l : List ℕ). 123 ∷ 34 ∷ 97 ∷ 116 ∷ 34 ∷ 58 ∷ l) (sym whole))

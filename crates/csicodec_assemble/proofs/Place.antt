@@ -1,7 +1,8 @@
 -- A line whose object begins with a place: what follows that place says what the line stands for.
-use Rattle.std.proofs.Common.{◌≡◌, ℕ, ◌-◌, ◌≤◌, Bool, true, false, List, [], ◌∷◌, ◌++◌, length, get_or, take, drop, Option, Some, None, Ok, IsSome, refl, sym, ap, ◌∙◌, subst, arith, Bor, IfSome}
+use Rattle.std.proofs.Common.{◌≡◌, ℕ, ◌-◌, ◌≤◌, Bool, true, false, List, [], ◌∷◌, ◌++◌, length, get_or, take, drop, Option, Some, None, Ok, IsSome, refl, sym, ap, ◌∙◌, subst, arith, rules, Bor, IfSome}
 use Rattle.std.specs.Prelude.{IsUtf8, codes, option_map}
 use Rattle.std.proofs.lemmas.List.{take_all}
+use Rattle.std.proofs.lemmas.Str.{IsUtf8-append, IsUtf8-from_ascii}
 use Rattle.json.specs.Token.{Token, begin_object, key, number}
 use Rattle.json.specs.Text.{content, plain}
 use Rattle.json.specs.Lex.{Lexeme, token, comma, colon, string_token, Place, fresh, after_comma, place_token, punctuate, between, in_string, lex, tokens, begins_colon}
@@ -85,6 +86,12 @@ placed ds text r n is follow =
     let opens = ap (converted of_json) (value-begin_object 127 ts (omega arith)) ∙ converted-object (members p (length ts) ts) in
     (found, opens ∙ ap (parse_map object) (turn ∙ members_are), now)
 
+-- the line is UTF-8 where its number and its rest are
+line_utf8 : (ds more : List ℕ) → IsUtf8 ds → IsUtf8 (34 ∷ more) → IsUtf8 (line_of ds more)
+line_utf8 ds more digits rest =
+    IsUtf8-append (123 ∷ 34 ∷ 97 ∷ 116 ∷ 34 ∷ 58 ∷ []) (ds ++ 44 ∷ 34 ∷ more) (IsUtf8-from_ascii (123 ∷ 34 ∷ 97 ∷ 116 ∷ 34 ∷ 58 ∷ []) (search rules))
+    (IsUtf8-append ds (44 ∷ 34 ∷ more) digits (IsUtf8-append (44 ∷ []) (34 ∷ more) (IsUtf8-from_ascii (44 ∷ []) (search rules)) rest))
+
 of_placed : (ds more text : List ℕ) → IsUtf8 (line_of ds more) → IsNumber ds → IsSome (number_of ds) → Follow (tokens (34 ∷ more)) [] (Some text) → of_line (line_of ds more) ≡ Ok text
 of_placed ds more text utf8 is some follow =
     let line = line_of ds more in
@@ -98,18 +105,18 @@ pub text_last : (text : Option (Bor (List ℕ))) (ts rest : List Token) → rest
 text_last None ts rest none follow = tt
 text_last (Some s) ts rest none follow = subst (λ (r : List Token). Follow ts r (Some s.now)) none follow
 
-pub stands : (rest text : List ℕ) → Follow (tokens rest) [] (Some text) → Stands rest text
-stands rest text follow = λ line utf8 placed.
-    let (ds, more, is, quoted, num, some) = placed in
+pub stands : (rest text : List ℕ) → IsUtf8 rest → Follow (tokens rest) [] (Some text) → Stands rest text
+stands rest text utf8 follow = λ line placed.
+    let (ds, more, is, quoted, num, some, digits) = placed in
     let same : line ≡ line_of ds more = is ∙ ap (λ (r : List ℕ). codes "{\"at\":" ++ ds ++ 44 ∷ r) quoted in
     subst (λ (l : List ℕ). of_line l ≡ Ok text) (sym same)
-    (of_placed ds more text (subst IsUtf8 same utf8) num some (subst (λ (r : List ℕ). Follow (tokens r) [] (Some text)) quoted follow))
+    (of_placed ds more text (line_utf8 ds more digits (subst IsUtf8 quoted utf8)) num some (subst (λ (r : List ℕ). Follow (tokens r) [] (Some text)) quoted follow))
 
 -- what was read of the rest
-pub stands_read : (rest line text given : List ℕ) (ts : List Token) → ts ≡ tokens line → line ≡ rest → given ≡ text → Follow ts [] (Some text) → Stands rest given
-stands_read rest line text given ts read_of same is follow =
+pub stands_read : (rest line text given : List ℕ) (ts : List Token) → IsUtf8 rest → ts ≡ tokens line → line ≡ rest → given ≡ text → Follow ts [] (Some text) → Stands rest given
+stands_read rest line text given ts utf8 read_of same is follow =
     let of_rest : ts ≡ tokens rest = read_of ∙ ap tokens same in
-    subst (λ (t : List ℕ). Stands rest t) (sym is) (stands rest text (subst (λ (l : List Token). Follow l [] (Some text)) of_rest follow))
+    subst (λ (t : List ℕ). Stands rest t) (sym is) (stands rest text utf8 (subst (λ (l : List Token). Follow l [] (Some text)) of_rest follow))
 
 -- ---- the bytes at the front of a line
 

@@ -1,10 +1,10 @@
 //! A line in the form that `explain --json` gives it, of which the text is read and nothing else kept.
-ghost use Rattle.std.specs.Prelude.{◌≡◌, ◌<◌, ◌++◌, [], ◌∷◌, ℕ, List, length, IfOk, IfSome, IsFalse, IsSome, IsTrue, OnErr, OnOk, Ok, Some, option_map};
+ghost use Rattle.std.specs.Prelude.{◌≡◌, ◌<◌, ◌++◌, [], ◌∷◌, ℕ, List, length, IfOk, IfSome, IsFalse, IsSome, IsTrue, IsUtf8, OnErr, OnOk, Ok, Some, option_map};
 ghost use Rattle.json.specs.Print.{IsNumber};
 ghost use Rattle.json.specs.Token as token;
 ghost use Rattle.json.specs.Json.{items, members, value};
 ghost use Rattle.serde_json.specs.Data.{Data, Items, Members, no_members, put};
-ghost use Rattle.serde_json.specs.Read.{converted, number_of, of_items, of_json, of_members, read};
+ghost use Rattle.serde_json.specs.Read.{converted, number_of, of_items, of_json, of_members};
 ghost use Rattle.csicodec_assemble.specs.Object.{of_line, of_object};
 ghost use Rattle.csicodec_assemble.specs.Private.Glance.{Follow, IsPlaced, Says, Stands};
 
@@ -164,7 +164,8 @@ fn split_comma(bytes: &[u8]) -> Option<(&[u8], &[u8])>
 
 /// Whether bytes are a number of JSON that is less than 2^64, in digits alone.
 fn is_place(digits: &[u8]) -> bool
-    ensures { IsTrue result → IsNumber digits.now × IsSome (number_of digits.now) }
+    ensures { IsTrue result → IsNumber digits.now × IsSome (number_of digits.now)
+        × IsUtf8 digits.now }
 {
     match std::str::from_utf8(digits) {
         Ok(number) => is_number(number) && is_small(number),
@@ -240,13 +241,15 @@ impl Glance {
     }
 
     /// Appends the text of an object that doesn't begin with a place; whether it has that form.
-    fn append_whole(&mut self, line: &str, out: &mut Vec<u8>) -> Result<bool, AllocError>
-        ensures bytes { IfOk result (λ told. IsTrue told → (d : Data) × (text : List ℕ)
-            × (read line.now ≡ Some d) × (of_object d ≡ Ok text)
-            × (out.new.items ≡ out.old.items ++ text)) }
+    fn append_whole(&mut self, line: &[u8], out: &mut Vec<u8>) -> Result<bool, AllocError>
+        ensures bytes { IfOk result (λ told. IsTrue told → (text : List ℕ)
+            × (of_line line.now ≡ Ok text) × (out.new.items ≡ out.old.items ++ text)) }
         ensures none { IfOk result (λ told. IsFalse told → out.new.items ≡ out.old.items) }
         ensures kept { OnErr result (out.new.items ≡ out.old.items) }
     {
+        let Ok(line) = std::str::from_utf8(line) else {
+            return Ok(false);
+        };
         let mut reader = Reader::new(line, &mut self.scratch)?;
         let Some(text) = text_of(&mut reader) else {
             return Ok(false);
@@ -262,12 +265,9 @@ impl Glance {
         ensures none { IfOk result (λ told. IsFalse told → out.new.items ≡ out.old.items) }
         ensures kept { OnErr result (out.new.items ≡ out.old.items) }
     {
-        let Ok(text) = std::str::from_utf8(line) else {
-            return Ok(false);
-        };
         match behind_place(line) {
             Some(rest) => self.append_rest(rest, out),
-            None => self.append_whole(text, out),
+            None => self.append_whole(line, out),
         }
     }
 }

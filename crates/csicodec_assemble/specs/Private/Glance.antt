@@ -20,8 +20,8 @@ Follow ts rest text = (n : ℕ) (old : Members) → length ts ≤ n → Says Non
 
 -- a line that begins with a place, a number, and goes on with a key
 abbrev pub IsPlaced : List ℕ → List ℕ → Type 0
-IsPlaced line rest = (ds more : List ℕ) × (line ≡ codes "{\"at\":" ++ ds ++ 44 ∷ rest) × (rest ≡ 34 ∷ more) × IsNumber ds × IsSome (number_of ds)
+IsPlaced line rest = (ds more : List ℕ) × (line ≡ codes "{\"at\":" ++ ds ++ 44 ∷ rest) × (rest ≡ 34 ∷ more) × IsNumber ds × IsSome (number_of ds) × IsUtf8 ds
 
 -- each line that has this rest behind its place stands for the text
 abbrev pub Stands : List ℕ → List ℕ → Type 0
-Stands rest text = (line : List ℕ) → IsUtf8 line → IsPlaced line rest → of_line line ≡ Ok text
+Stands rest text = (line : List ℕ) → IsPlaced line rest → of_line line ≡ Ok text

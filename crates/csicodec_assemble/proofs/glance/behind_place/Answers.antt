@@ -5,7 +5,7 @@ use Rattle.csicodec_assemble.proofs.glance.behind_place.Goals as goal
 pub returns-then-is_place : goal.returns-then-is_place
 returns-then-is_place c =
     let rest = c.in_ok-digits.rest.now in
-    let (number, small) = c.if-is_place.ensures refl in
+    let (number, small, digits) = c.if-is_place.ensures refl in
     let front = six_cut c.args.line.now c.in-123.len_at_least (omega arith) (omega arith) (omega arith) (omega arith) (omega arith) (omega arith) in (
       c.in_ok-digits.digits.now,
       _,
@@ -13,4 +13,5 @@ returns-then-is_place c =
       first_cut rest c.in-34.len_at_least (omega arith),
       number,
       small,
+      digits,
     )

@@ -8,7 +8,7 @@ ghost use Rattle.serde_json.specs.Read.{converted, number_of, of_items, of_json,
 ghost use Rattle.csicodec_assemble.specs.Object.{of_line, of_object};
 ghost use Rattle.csicodec_assemble.specs.Private.Glance.{Follow, IsPlaced, Says, Stands};
 
-use crate::seen::Seen;
+use crate::rests::Rests;
 use fast_float::Numeral;
 use json::{Invalid, Reader, Scratch, Token, is_number};
 use memchr::memchr;
@@ -192,7 +192,7 @@ fn behind_place(line: &[u8]) -> Option<&[u8]>
 pub(crate) struct Glance {
     /// Where a line is read.
     scratch: Scratch,
-    seen: Seen,
+    rests: Rests,
 }
 
 impl Glance {
@@ -200,7 +200,7 @@ impl Glance {
     pub(crate) fn new(alloc: Global) -> Glance {
         Glance {
             scratch: Scratch::new(alloc),
-            seen: Seen::new(alloc),
+            rests: Rests::new(alloc),
         }
     }
 
@@ -219,7 +219,7 @@ impl Glance {
             return Ok(false);
         };
         let bytes = text.as_bytes();
-        self.seen.hold(rest, bytes)?;
+        self.rests.hold(rest, bytes)?;
         out.extend_from_slice(bytes)?;
         Ok(true)
     }
@@ -231,7 +231,7 @@ impl Glance {
         ensures none { IfOk result (λ told. IsFalse told → out.new.items ≡ out.old.items) }
         ensures kept { OnErr result (out.new.items ≡ out.old.items) }
     {
-        match self.seen.text_of(rest) {
+        match self.rests.text_of(rest) {
             Some(text) => {
                 out.extend_from_slice(text)?;
                 Ok(true)

@@ -13,7 +13,7 @@ mod glance;
 pub mod laws;
 mod lines;
 mod object;
-mod seen;
+mod rests;
 
 pub use lines::{Assembler, split_line};
 pub use object::{Fault, Refusal, bytes_of, bytes_of_line};

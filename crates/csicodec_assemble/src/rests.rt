@@ -20,7 +20,7 @@ struct Rest {
 
 /// The rests that came last, each at the place that its first bytes give. All are below 600 KB.
 #[derive(Drop)]
-pub(crate) struct Seen {
+pub(crate) struct Rests {
     alloc: Global,
     rests: Vec<Option<Rest>>,
 }
@@ -40,10 +40,10 @@ fn place_of(rest: &[u8]) -> usize {
     (sum % PLACES as u64) as usize
 }
 
-impl Seen {
+impl Rests {
     /// Of which nothing was held.
-    pub(crate) fn new(alloc: Global) -> Seen {
-        Seen {
+    pub(crate) fn new(alloc: Global) -> Rests {
+        Rests {
             alloc,
             rests: Vec::new(alloc),
         }

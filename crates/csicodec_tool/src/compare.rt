@@ -2,7 +2,9 @@
 ghost use Rattle.std.specs.Prelude.{⊤};
 
 use crate::diff::{DiffLine, Origin, lines_of};
+use crate::explain::explainer_of;
 use crate::explained_cast::explain_cast;
+use crate::rewritten_cast::no_memory;
 use csicodec_command::{Failure, Recordings, Worker, work_through};
 use csicodec_page::{Explainer, Style};
 use csicodec_streams::{RunError, send};
@@ -120,7 +122,7 @@ impl<'a> Worker for Compared<'a> {
         input: &mut R,
         _output: &mut W,
     ) -> Result<(), Failure> {
-        let mut explainer = Explainer::new(alloc, self.style);
+        let mut explainer = explainer_of(alloc, self.style).map_err(no_memory)?;
         let mut text = Vec::new(alloc);
         explainer.read(input, &mut text)?;
         self.keep(&mut explainer, text)
@@ -132,7 +134,7 @@ impl<'a> Worker for Compared<'a> {
         input: &mut R,
         _output: &mut W,
     ) -> Result<(), Failure> {
-        let mut explainer = Explainer::new(alloc, self.style);
+        let mut explainer = explainer_of(alloc, self.style).map_err(no_memory)?;
         let mut text = Vec::new(alloc);
         explain_cast(alloc, &mut explainer, input, &mut text)?;
         self.keep(&mut explainer, text)

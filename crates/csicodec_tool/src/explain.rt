@@ -6,12 +6,12 @@ use crate::explained_cast::explain_cast;
 use crate::names::are_known;
 use crate::timing::Timing;
 use csicodec_command::{
-    ColorWhen, Failure, Recordings, Request, Wanted, Worker, failed, is_cast, refused, text_of,
-    work_through,
+    ColorWhen, Failure, Recordings, Request, Wanted, Worker, Wrong, failed, is_cast, refused,
+    text_of, work_through,
 };
 use csicodec_events::Dialect;
 use csicodec_page::{Explainer, Style};
-use std::alloc::Global;
+use std::alloc::{AllocError, Global};
 use std::env;
 use std::io::{self, BufRead, IsTerminal, Read, Write};
 
@@ -47,7 +47,7 @@ impl<'a, W: Write> Write for Watched<'a, W> {
 /// Streams in words, and the times of their pieces, where they are given.
 #[derive(Drop)]
 struct Explained<'a> {
-    explainer: Explainer<'a>,
+    explainer: Box<Explainer<'a>>,
     timing: Option<Timing>,
     /// Whether there are several inputs, each with its name ahead of what is told of it.
     named: bool,
@@ -171,18 +171,29 @@ fn times_of(rt: &HostRuntime, name: &str, typed: bool) -> Result<Timing, u8> {
     }
 }
 
-/// Tells what is wanted; the status, which is 1 where something is looked for and isn't there.
-fn explain(rt: &HostRuntime, run: &Request<'_>) -> Result<(), u8> {
-    let style = style_of(rt, run);
-    if run.wanted.diff {
-        return explain_diff(rt, style, &run.files);
-    }
+/// What explains streams, to which nothing came yet.
+pub(crate) fn explainer_of<'a>(
+    alloc: Global,
+    style: Style<'a>,
+) -> Result<Box<Explainer<'a>>, AllocError> {
+    Ok(Box::new(alloc, Explainer::new(alloc, style))?)
+}
+
+/// What a run works with; the status, if that failed.
+fn explained_of<'a>(
+    rt: &HostRuntime,
+    run: &Request<'a>,
+    style: Style<'a>,
+) -> Result<Explained<'a>, u8> {
     let timing = match run.timing {
         Some(name) => Some(times_of(rt, name, style.dialect.is_some())?),
         None => None,
     };
-    let mut work = Explained {
-        explainer: Explainer::new(rt.alloc(), style),
+    let Ok(explainer) = explainer_of(rt.alloc(), style) else {
+        return Err(refused(rt, Wrong::Memory));
+    };
+    Ok(Explained {
+        explainer,
         timing,
         named: run.files.len() > 1,
         timed: false,
@@ -190,7 +201,16 @@ fn explain(rt: &HostRuntime, run: &Request<'_>) -> Result<(), u8> {
             quiet: run.wanted.quiet,
             any: false,
         },
-    };
+    })
+}
+
+/// Tells what is wanted; the status, which is 1 where something is looked for and isn't there.
+fn explain(rt: &HostRuntime, run: &Request<'_>) -> Result<(), u8> {
+    let style = style_of(rt, run);
+    if run.wanted.diff {
+        return explain_diff(rt, style, &run.files);
+    }
+    let mut work = explained_of(rt, run, style)?;
     work_through(rt, &mut work, &run.files)?;
     let asks = run.wanted.quiet || run.wanted.unknown || run.wanted.grep.is_some();
     if asks && !work.answer.any {

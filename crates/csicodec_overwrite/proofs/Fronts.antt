@@ -89,6 +89,20 @@ wide c column h = by (c == 9) refl
     by true e = (to_tab_stop column - 1, ap (λ (t : Bool). cond t (to_tab_stop column) (narrowed (unwrap_or (char_width false c) 0))) e ∙ omega arith)
     by false e = (0, narrow c column (grind (arith, nat_tests)) (grind (arith, nat_tests)))
 
+-- no text, and some
+pub last_nothing : (last now : Look) (cs : List ℕ) → (length cs == 0) ≡ true → last ≡ last_of_run last now cs
+last_nothing last now [] none = refl
+last_nothing last now (c ∷ cs) none = absurd (omega (arith, eqb-true (length (c ∷ cs)) 0 none))
+
+pub run_nothing : (marking : Marking) (last now : Look) (cs old : List ℕ) → (length cs == 0) ≡ true → old ≡ old ++ run_text marking last now cs
+run_nothing marking last now [] old none =
+    sym (ap (λ (t : List ℕ). old ++ (t ++ written marking [])) (turn_same marking last) ∙ ap (λ (t : List ℕ). old ++ t) (written_none marking) ∙ append-nil old)
+run_nothing marking last now (c ∷ cs) old none = absurd (omega (arith, eqb-true (length (c ∷ cs)) 0 none))
+
+pub run_some : (last now : Look) (cs : List ℕ) → (length cs == 0) ≡ false → last_of_run last now cs ≡ now
+run_some last now [] some = cc
+run_some last now (c ∷ cs) some = refl
+
 -- behind some cells, a run of it
 record Runs (limit : ℕ) (marking : Marking) (pen : Pen) (cs : List ℕ) (left : List Cell) : Type 0 where
   more : List Cell

@@ -1,5 +1,5 @@
 //! The front of a line that is written as it comes: text of ASCII, and sequences that do no more than to set how it looks.
-ghost use Rattle.std.specs.Prelude.{◌≡◌, ◌<◌, ◌++◌, ℕ, List, false, length, IfOk, IfSome, OnOk};
+ghost use Rattle.std.specs.Prelude.{◌≡◌, ◌<◌, ◌++◌, ℕ, List, false, true, length, IfOk, OnOk};
 ghost use Rattle.std.specs.List.{AllByRecursion};
 ghost use Rattle.csicodec_overwrite.specs.Private.Front.{AreLooks, IsFront, IsLook, Sets, last_of_run, run_text};
 ghost use Rattle.csicodec_overwrite.specs.Private.Plain.{IsLineByte};
@@ -8,7 +8,7 @@ ghost use Rattle.csicodec_overwrite.specs.Stream.{none_held};
 use crate::ascii::{InLine, style_len};
 use crate::marking::Marking;
 use crate::paint::{append_ascii, append_turn};
-use crate::pen::Pen;
+use crate::pen::{Pen, set_look};
 use crate::reader::Reader;
 use crate::step::Step;
 use csicodec_clean::split_front;
@@ -16,52 +16,65 @@ use csicodec_html::Look;
 use csicodec_spans::LIMIT;
 use std::alloc::AllocError;
 
-/// How characters look behind a step that does no more than to set that, where nothing stands right of the cursor.
-fn look_behind(look: Look, step: Step) -> Option<Look>
-    ensures { IfSome result (λ after. IsLook look step after) }
+/// Whether a step does no more than to set how characters look, where nothing stands right of the cursor; they look so then.
+#[inline(always)]
+fn turn_look(look: &mut Look, step: &Step) -> bool
+    ensures { result ≡ true → IsLook look.old step.now look.new }
 {
-    match step {
-        Step::Attribute(attribute) => Some(look.behind(&attribute)),
-        Step::EraseRight | Step::Other => Some(look),
-        _ => None,
+    match *step {
+        Step::Attribute(attribute) => {
+            set_look(look, &attribute);
+            true
+        }
+        Step::EraseRight | Step::Other => true,
+        _ => false,
     }
 }
 
-/// The same of steps in turn.
-fn look_behind_all(look: Look, steps: &[Step]) -> Option<Look>
-    ensures { IfSome result (λ after. AreLooks look steps.now after) }
+/// The same of steps in turn. Where one does more, characters look as before.
+#[inline(never)]
+fn turn_all(look: &mut Look, steps: &[Step]) -> bool
+    ensures looks { result ≡ true → AreLooks look.old steps.now look.new }
+    ensures kept { result ≡ false → look.new ≡ look.old }
 {
-    let mut now = look;
+    let before = *look;
     let mut rest = steps;
     while let Some((step, behind)) = rest.split_first() {
-        now = look_behind(now, *step)?;
+        if !turn_look(look, step) {
+            *look = before;
+            return false;
+        }
         rest = behind;
     }
-    Some(now)
+    true
 }
 
-/// How characters look behind these bytes, if there are some, and all that they do is to set that. `steps` is a place for their steps.
-fn look_behind_bytes(
+/// The same of bytes, if there are some. `steps` is a place for their steps.
+fn turn_bytes(
     reader: &mut Reader,
     steps: &mut Vec<Step>,
-    look: Look,
+    look: &mut Look,
     bytes: &[u8],
-) -> Result<Option<Look>, AllocError>
+) -> Result<bool, AllocError>
     requires { reader.old ≡ none_held }
-    ensures sets { IfOk result (λ o. IfSome o (λ after. Sets bytes.now look after)) }
-    ensures some { IfOk result (λ o. IfSome o (λ after. 0 < length bytes.now)) }
+    ensures sets { IfOk result (λ turned. turned ≡ true → Sets bytes.now look.old look.new) }
+    ensures some { IfOk result (λ turned. turned ≡ true → 0 < length bytes.now) }
+    ensures kept { IfOk result (λ turned. turned ≡ false → look.new ≡ look.old) }
     ensures bare { OnOk result (reader.new ≡ none_held) }
 {
     if bytes.is_empty() {
-        return Ok(None);
+        return Ok(false);
+    }
+    if let Some(known) = reader.recall(bytes) {
+        return Ok(turn_all(look, known));
     }
     steps.clear();
     reader.push(bytes, steps)?;
     if !reader.is_bare() {
         reader.clear();
-        return Ok(None);
+        return Ok(false);
     }
-    Ok(look_behind_all(look, steps))
+    Ok(turn_all(look, steps))
 }
 
 /// The front of a line that is written.
@@ -75,30 +88,25 @@ pub(crate) struct LineFront<'a> {
     pub(crate) now: Look,
 }
 
-/// How the last character looks, where text of one look comes behind a character of another.
-#[inline(always)]
-fn last_of_run(last: Look, now: Look, run: &[u8]) -> Look
-    ensures { result ≡ last_of_run last now run.now }
-{
-    if run.is_empty() { last } else { now }
-}
-
-/// Appends text that looks so, and answers how the last character looks then.
+/// Appends text that looks as `now`, behind a character that looks as `last`, which is how the last character looks then.
+#[inline(never)]
 fn append_run(
-    last: Look,
-    now: Look,
+    last: &mut Look,
+    now: &Look,
     run: &[u8],
     marking: &Marking,
     out: &mut Vec<u8>,
-) -> Result<Look, AllocError>
-    ensures { IfOk result (λ look. (look ≡ last_of_run last now run.now)
-        × (AllByRecursion IsLineByte run.now
-        → out.new.items ≡ out.old.items ++ run_text marking.now last now run.now)) }
+) -> Result<(), AllocError>
+    ensures looks { OnOk result (last.new ≡ last_of_run last.old now.now run.now) }
+    ensures text { OnOk result (AllByRecursion IsLineByte run.now
+        → out.new.items ≡ out.old.items ++ run_text marking.now last.old now.now run.now) }
 {
-    let next = last_of_run(last, now, run);
-    append_turn(marking, &last, &next, out)?;
-    append_ascii(marking, run, out)?;
-    Ok(next)
+    if run.is_empty() {
+        return Ok(());
+    }
+    append_turn(marking, last, now, out)?;
+    *last = *now;
+    append_ascii(marking, run, out)
 }
 
 /// Appends the front of a line that was blank, up to the first byte that is no text of ASCII, nor of a sequence that sets how it looks.
@@ -124,13 +132,12 @@ pub(crate) fn append_front<'a>(
         if LIMIT / 8 < bytes.len().saturating_sub(behind.len()) {
             return Ok(LineFront { rest, last, now });
         }
-        last = append_run(last, now, run, marking, out)?;
+        append_run(&mut last, &now, run, marking, out)?;
         rest = behind;
         let (sequence, others) = rest.split_at(style_len(rest));
-        let Some(after) = look_behind_bytes(reader, steps, now, sequence)? else {
-            return Ok(LineFront { rest, last, now });
-        };
-        now = after;
+        if !turn_bytes(reader, steps, &mut now, sequence)? {
+            return Ok(Front { rest, last, now });
+        }
         rest = others;
     }
 }

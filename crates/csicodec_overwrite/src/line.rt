@@ -12,7 +12,7 @@ use crate::ascii::{next_char, plain_step};
 use crate::cells::{Cell, Glyph, Side};
 use crate::marking::Marking;
 use crate::paint::append_cells;
-use crate::pen::Pen;
+use crate::pen::{Pen, set_look};
 use crate::sides::{delete_columns, erase_columns, loosen, move_all, undo, width};
 use crate::step::Step;
 use std::alloc::{AllocError, Global};
@@ -450,7 +450,7 @@ impl Line {
             Step::Other => pen.last = None,
             Step::Attribute(attribute) => {
                 pen.last = None;
-                pen.look = pen.look.behind(&attribute);
+                set_look(&mut pen.look, &attribute);
             }
             _ => {
                 let column = self.left.columns();

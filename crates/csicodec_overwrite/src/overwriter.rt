@@ -119,6 +119,13 @@ impl Overwriter {
         ensures held { OnOk result
             (length self.old.reader.held ≤ 3 → length self.new.reader.held ≤ 3) }
     {
+        if self.reader.is_bare()
+            && let Some(known) = self.reader.recall(bytes)
+        {
+            self.line
+                .take_all(LIMIT, &mut self.pen, known, &self.marking, out)?;
+            return Ok(());
+        }
         self.steps.clear();
         self.reader.push(bytes, &mut self.steps)?;
         self.line

@@ -1,10 +1,12 @@
 //! How characters are put, and what is saved.
 ghost use Rattle.std.specs.Prelude.{◌≡◌, true};
+ghost use Rattle.csicodec_html.specs.Look.{behind};
 ghost use Rattle.csicodec_overwrite.specs.Line.{fresh, is_row, last_behind, pen_behind};
 ghost use Rattle.csicodec_overwrite.specs.Private.Plain.{PutsPlain};
 
 use crate::sides::width;
 use crate::step::Step;
+use csicodec_base::Sgr;
 use csicodec_html::Look;
 
 /// How characters are put that come now, and the place that is saved.
@@ -22,6 +24,26 @@ pub struct Pen {
     pub here: bool,
     /// The row that was given last (CUP, HVP, VPA), if it wasn't left since.
     pub row: Option<u32>,
+}
+
+/// Characters look so behind one more attribute.
+#[inline(always)]
+pub(crate) fn set_look(look: &mut Look, attribute: &Sgr)
+    ensures { look.new ≡ behind look.old attribute.now }
+{
+    match *attribute {
+        Sgr::Reset => *look = Look::plain(),
+        Sgr::Intensity(intensity) => look.intensity = intensity,
+        Sgr::Underline(underline) => look.underline = underline,
+        Sgr::UnderlineColor(line) => look.line = line,
+        Sgr::Italic(italic) => look.italic = italic,
+        Sgr::Inverse(inverse) => look.inverse = inverse,
+        Sgr::StrikeThrough(strike) => look.strike = strike,
+        Sgr::Foreground(foreground) => look.foreground = foreground,
+        Sgr::Background(background) => look.background = background,
+        Sgr::Overline(overline) => look.overline = overline,
+        Sgr::Blink(_) | Sgr::Invisible(_) | Sgr::Font(_) | Sgr::VerticalAlign(_) => (),
+    }
 }
 
 /// What REP repeats behind one more character: a mark isn't repeated.
@@ -81,7 +103,7 @@ impl Pen {
         self.last = None;
         match step {
             Step::Put(char) => self.last = last_behind(last, char),
-            Step::Attribute(attribute) => self.look = self.look.behind(&attribute),
+            Step::Attribute(attribute) => set_look(&mut self.look, &attribute),
             Step::Inserts(inserts) => self.inserts = inserts,
             Step::Save => {
                 self.saved = column;

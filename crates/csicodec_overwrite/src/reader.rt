@@ -1,5 +1,5 @@
 //! The steps of a stream, as it comes.
-ghost use Rattle.std.specs.Prelude.{◌≡◌, ◌≢◌, ◌≤◌, ◌++◌, ℕ, List, false, true, length, MatchOption, OnOk, IfOk};
+ghost use Rattle.std.specs.Prelude.{◌≡◌, ◌≢◌, ◌≤◌, ◌++◌, ℕ, List, false, true, length, MatchOption, OnOk, IfOk, IfSome};
 ghost use Rattle.csicodec_tokens.specs.Sequence.{Seq};
 ghost use Rattle.csicodec_spans.specs.declared.table.Kind.TheVariants.{Csi as Sequence};
 ghost use Rattle.csicodec_spans.specs.Parts.{IsUnsure};
@@ -195,6 +195,14 @@ impl Reader {
         Ok(())
     }
 
+    /// The steps of bytes before which nothing is open or held, if they came before.
+    #[inline(always)]
+    pub(crate) fn recall(&self, bytes: &[u8]) -> Option<&[Step]>
+        ensures { IfSome result (λ steps. Reads none_held bytes.now steps.now none_held) }
+    {
+        self.seen.recall(bytes)
+    }
+
     /// Takes the next bytes, and appends the steps of all that is sure now.
     pub(crate) fn push(&mut self, bytes: &[u8], steps: &mut Vec<Step>) -> Result<(), AllocError>
         ensures reads { OnOk result ((more : _) × Reads self.old bytes.now more self.new
@@ -203,9 +211,6 @@ impl Reader {
         ensures held { OnOk result (length self.old.held ≤ 3 → length self.new.held ≤ 3) }
     {
         let is_bare = self.is_bare();
-        if is_bare && self.seen.recall(bytes, steps)? {
-            return Ok(());
-        }
         let before = steps.len();
         self.read(bytes, steps)?;
         if is_bare && self.is_bare() {

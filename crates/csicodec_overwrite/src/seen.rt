@@ -1,5 +1,5 @@
 //! Slices that came before, and their steps: one that comes again is looked up, and not read again.
-ghost use Rattle.std.specs.Prelude.{◌≡◌, ◌++◌, false, true, IfOk};
+ghost use Rattle.std.specs.Prelude.{IfSome};
 ghost use Rattle.csicodec_overwrite.specs.Private.Seen.{AreSlices, IsSlice};
 ghost use Rattle.csicodec_overwrite.specs.Stream.{Reads, none_held};
 
@@ -89,25 +89,20 @@ impl Seen {
         }
     }
 
-    /// Appends the steps of a slice, if it is kept, and answers whether it is.
-    pub(crate) fn recall(&self, bytes: &[u8], steps: &mut Vec<Step>) -> Result<bool, AllocError>
+    /// The steps of a slice, if it is kept.
+    pub(crate) fn recall(&self, bytes: &[u8]) -> Option<&[Step]>
         requires { AreSlices self.now.kept.items }
-        ensures known { IfOk result (λ known. known ≡ true
-            → (more : _) × Reads none_held bytes.now more none_held
-            × (steps.new.items ≡ steps.old.items ++ more)) }
-        ensures none { IfOk result
-            (λ known. known ≡ false → steps.new.items ≡ steps.old.items) }
+        ensures { IfSome result (λ steps. Reads none_held bytes.now steps.now none_held) }
     {
         let at = self.at(place(bytes));
         if at >= self.kept.len() {
-            return Ok(false);
+            return None;
         }
         let slice = &self.kept[at];
         if slice.bytes.as_slice() != bytes {
-            return Ok(false);
+            return None;
         }
-        steps.extend_from_slice(&slice.steps)?;
-        Ok(true)
+        Some(&slice.steps)
     }
 
     /// Keeps a slice and its steps, unless it is long.

@@ -1,17 +1,14 @@
-use Rattle.std.proofs.Common.{◌≡◌, ◌++◌, ◌<◌, ◌∙◌, length, rules, sym, ap, subst, arith}
+use Rattle.std.proofs.Common.{◌≡◌, ◌<◌, length, rules, sym, subst, arith}
 use Rattle.std.proofs.lemmas.List.Elements.{All-get_or}
 use Rattle.csicodec_overwrite.specs.Stream.{Reads, none_held}
 use Rattle.csicodec_overwrite.specs.Private.Seen.{IsSlice}
 use Rattle.csicodec_overwrite.proofs.seen.Seen.recall.Goals as goal
 
-pub returns-clause-known : goal.returns-clause-known
-returns-clause-known c = λ known.
+pub returns : goal.returns
+returns c =
     let kept = c.args.self.now.kept.items in
     let slice = c.index-slice.result.now in
     let within : c.at-at.result < length kept = omega (arith, c.if-at-len.false, c.len.ensures) in
     let is : IsSlice slice = subst IsSlice (sym c.index-slice.ensures) (All-get_or IsSlice kept c.at-at.result slice within c.requires) in
-    let same : slice.bytes.items ≡ c.args.bytes.now = search rules in (
-      slice.steps.items,
-      subst (λ b. Reads none_held b slice.steps.items none_held) same is,
-      c.in_ok-extend_from_slice.ensures.items ∙ ap (λ t. c.args.steps.now.items ++ t) c.deref.ensures.value,
-    )
+    let same : slice.bytes.items ≡ c.args.bytes.now = search rules in
+    subst (λ s. Reads none_held c.args.bytes.now s none_held) (sym c.deref.ensures.value) (subst (λ b. Reads none_held b slice.steps.items none_held) same is)

@@ -1,11 +1,11 @@
 use Rattle.std.proofs.Common.{length}
 use Rattle.csicodec_html.specs.declared.look.Look.{Look}
 use Rattle.csicodec_overwrite.specs.Private.Front.{AreLooks}
-use Rattle.csicodec_overwrite.proofs.front.look_behind_all.Given as goal
+use Rattle.csicodec_overwrite.proofs.front.turn_all.Given as goal
 
 -- the steps up to here are told
 abbrev pub invariant-loop-step : goal.invariant-loop-step
-invariant-loop-step l = record { looks : (after : Look) → AreLooks l.now l.rest after → AreLooks l.fn.look l.steps after }
+invariant-loop-step l = record { looks : (after : Look) → AreLooks l.look l.rest after → AreLooks l.fn.look l.steps after }
 
 abbrev pub decreases-loop-step : goal.decreases-loop-step
 decreases-loop-step l = length l.rest

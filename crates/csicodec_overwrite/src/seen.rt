@@ -5,6 +5,7 @@ ghost use Rattle.csicodec_overwrite.specs.Stream.{Reads, none_held};
 
 use crate::step::Step;
 use std::alloc::{AllocError, Global};
+use std::mem::swap;
 
 /// How many places there are for slices.
 const PLACES: usize = 1024;
@@ -43,7 +44,8 @@ fn place(bytes: &[u8]) -> usize {
 #[inline(always)]
 fn number(bytes: &[u8]) -> u64 {
     if let Some(end) = bytes.last_chunk::<8>() {
-        return long_number(bytes, u64::from_le_bytes(*end));
+        // Of eight bytes the front is the end.
+        return long_number(bytes, u64::from_le_bytes(*end).wrapping_mul(SPREAD));
     }
     if let (Some(front), Some(end)) = (bytes.first_chunk::<4>(), bytes.last_chunk::<4>()) {
         return u64::from(u32::from_le_bytes(*front)) << 32 ^ u64::from(u32::from_le_bytes(*end));
@@ -55,7 +57,7 @@ fn number(bytes: &[u8]) -> u64 {
     number
 }
 
-/// The same of one of more bytes, of which `end` are the last.
+/// The same of one of more bytes, of which `end` is made of the last.
 #[inline(always)]
 fn long_number(bytes: &[u8], end: u64) -> u64 {
     let mut number = end;
@@ -115,15 +117,30 @@ impl Seen {
         if place >= PLACES {
             return Ok(());
         }
+        let mut slice = self.take(place);
+        slice.bytes.clear();
+        slice.steps.clear();
+        slice.bytes.extend_from_slice(bytes)?;
+        slice.steps.extend_from_slice(steps)?;
+        self.places.resize(PLACES, u16::MAX)?;
+        self.put(place, slice)
+    }
+
+    /// Takes out the slice that a place has, whose memory is of use again: one of no bytes is left there. It is such a one, if there is none.
+    fn take(&mut self, place: usize) -> Slice
+        requires { AreSlices self.old.kept.items }
+        ensures { AreSlices self.new.kept.items }
+    {
         let alloc = *self.places.allocator();
         let mut slice = Slice {
             bytes: Vec::new(alloc),
             steps: Vec::new(alloc),
         };
-        slice.bytes.extend_from_slice(bytes)?;
-        slice.steps.extend_from_slice(steps)?;
-        self.places.resize(PLACES, u16::MAX)?;
-        self.put(place, slice)
+        let at = self.at(place);
+        if at < self.kept.len() {
+            swap(&mut self.kept[at], &mut slice);
+        }
+        slice
     }
 
     /// Puts a slice into its place.

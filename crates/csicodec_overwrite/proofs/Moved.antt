@@ -7,7 +7,9 @@ use Rattle.csicodec_overwrite.specs.declared.cells.Cell.TheVariants.{Behind, Cha
 use Rattle.csicodec_overwrite.specs.declared.cells.Glyph.{Glyph}
 use Rattle.csicodec_overwrite.specs.declared.line.Line.{Line}
 use Rattle.csicodec_overwrite.specs.declared.marking.Marking.{Marking}
-use Rattle.csicodec_overwrite.specs.Cells.{columns, narrowed, onto, takes, without}
+use Rattle.std.specs.Prelude.{◌&&◌}
+use Rattle.std.specs.List.{list_all}
+use Rattle.csicodec_overwrite.specs.Cells.{columns, is_blank, narrowed, onto, takes, without}
 use Rattle.csicodec_overwrite.specs.Line.{back, before, behind_columns, forward, line, over, padded, put, repeat}
 use Rattle.csicodec_overwrite.specs.Paint.{texts_of}
 use Rattle.csicodec_overwrite.proofs.Texts.{texts_on}
@@ -189,3 +191,15 @@ step_text marking now new first later whole e f =
 pub repeat_on : (limit : ℕ) (inserts : Bool) (g : Glyph) (n : ℕ) (l : Line) → 0 < n → repeat limit inserts g n l ≡ before (put limit inserts g l).lines (repeat limit inserts g (n - 1) (put limit inserts g l).line)
 repeat_on limit inserts g zero l h = absurd (omega (arith, h))
 repeat_on limit inserts g (suc n) l h = let less : suc n - 1 ≡ n = omega arith in ap (λ (k : ℕ). before (put limit inserts g l).lines (repeat limit inserts g k (put limit inserts g l).line)) (sym less)
+
+and_false : (b : Bool) → b && false ≡ false
+and_false true = refl
+and_false false = refl
+
+-- what stands nearest is no blank
+not_blank : (xs right : List Cell) → list_all is_blank right ≡ false → list_all is_blank (onto xs right) ≡ false
+not_blank [] right h = h
+not_blank (x ∷ xs) right h = not_blank xs (x ∷ right) (rw h (and_false (is_blank x)))
+
+pub nearest_shows : (all xs : List Cell) (x : Cell) → all ≡ x ∷ xs → is_blank x ≡ false → list_all is_blank (onto all []) ≡ false
+nearest_shows all xs x e h = ap (λ (t : List Cell). list_all is_blank (onto t [])) e ∙ not_blank xs (x ∷ []) (rw h refl)

@@ -145,6 +145,12 @@ impl Side {
     pub(crate) fn shows_nothing(&self) -> bool
         ensures { result ≡ list_all is_blank (onto self.now []) }
     {
+        // The nearest mostly isn't one.
+        if let Some(cell) = self.nearest()
+            && !cell.is_blank()
+        {
+            return false;
+        }
         self.from_farthest().iter().all(|cell| cell.is_blank())
     }
 

@@ -81,7 +81,8 @@ module _ (c : ℕ) where
         not_shown k e f = ap (λ (t : Bool). times c (cond t (d ∷ []) [])) (ap shown (eqb-true d k e) ∙ f)
 
         by : (line return back tab shows : Bool) → (d == 10) ≡ line → (d == 13) ≡ return → (d == 8) ≡ back → (d == 9) ≡ tab → shown d ≡ shows
-            → times c (cond shows (d ∷ []) []) ≤ times c (puts (cond line (step.NewLine ∷ []) (cond return (step.Column 1 ∷ []) (cond back (step.Left 1 ∷ []) (cond tab (step.Tab ∷ []) (cond shows (step.Put d ∷ []) (of_control d)))))))
+            → times c (cond shows (d ∷ []) [])
+            ≤ times c (puts (cond line (step.NewLine ∷ []) (cond return (step.Column 1 ∷ []) (cond back (step.Left 1 ∷ []) (cond tab (step.Tab ∷ []) (cond shows (step.Put d ∷ []) (of_control d)))))))
         by true return back tab shows e f g i k = omega (arith, none_shown d 10 shows e no_newline)
         by false true back tab shows e f g i k = omega (arith, not_shown 13 f refl, ap (λ (t : Bool). times c (cond t (d ∷ []) [])) k)
         by false false true tab shows e f g i k = omega (arith, not_shown 8 g refl, ap (λ (t : Bool). times c (cond t (d ∷ []) [])) k)
@@ -109,12 +110,23 @@ module _ (c : ℕ) where
           let here = filter shown (lossy_chars run) in (
             here ++ chars,
             scalars_on here chars (kept_shown (lossy_chars run) (scalars_lossy run)).0 scalars,
-            λ qs. ap (λ (t : List ℕ). shown_text run ++ t) (ap (λ (r : List ℕ). stripped r (ps ++ qs)) (sym none) ∙ same qs) ∙ sym (append_assoc (encode_utf8_all here) (encode_utf8_all chars) (stripped left qs))
+            λ qs. ap (λ (t : List ℕ). shown_text run ++ t) (ap (λ (r : List ℕ). stripped r (ps ++ qs)) (sym none) ∙ same qs)
+                ∙ sym (append_assoc (encode_utf8_all here) (encode_utf8_all chars) (stripped left qs))
                 ∙ ap (λ (t : List ℕ). t ++ stripped left qs) (sym (encoded_on here chars)),
-            omega (arith, both here chars, chars_put (lossy_chars run), put, puts_on (of_run run) own, puts_on first later, ap (λ (x : List Step). times c (puts x)) f, ap (λ (x : List Step). times c (puts x)) e),
+            omega (
+              arith,
+              both here chars,
+              chars_put (lossy_chars run),
+              put,
+              puts_on (of_run run) own,
+              puts_on first later,
+              ap (λ (x : List Step). times c (puts x)) f,
+              ap (λ (x : List Step). times c (puts x)) e,
+            ),
           )
 
-      one_part : (k : Kind) (bytes : List ℕ) → IsOfPart k run bytes first next → Keeps steps (λ qs. cond (is_text k) (stripped (run ++ bytes) (ps ++ qs)) (shown_text run ++ stripped [] (ps ++ qs))) left
+      one_part : (k : Kind) (bytes : List ℕ) → IsOfPart k run bytes first next
+          → Keeps steps (λ qs. cond (is_text k) (stripped (run ++ bytes) (ps ++ qs)) (shown_text run ++ stripped [] (ps ++ qs))) left
       one_part kind.Text bytes (none, on) =
           let (chars, scalars, same, put) = others in (
             chars,
@@ -150,7 +162,8 @@ module _ (c : ℕ) where
         let text : kept ≡ encode_utf8_all (chars ++ last) =
         one_text longest bytes kept (stripped [] (with_titles false parts)) k own ∙ ap (stripped []) (titles_on false s.parts (left_over s.rest)) ∙ same (with_titles t (left_over s.rest))
         ∙ ap (λ (x : List ℕ). encode_utf8_all chars ++ x) (none_over t s.run s.rest) ∙ sym (encoded_on chars last) in
-        let read : lossy_chars kept ≡ chars ++ last = ap lossy_chars text ∙ lossy_chars-encode (chars ++ last) (scalars_on chars last scalars (kept_shown (lossy_chars s.run) (scalars_lossy s.run)).0) in
+        let read : lossy_chars kept ≡ chars ++ last =
+        ap lossy_chars text ∙ lossy_chars-encode (chars ++ last) (scalars_on chars last scalars (kept_shown (lossy_chars s.run) (scalars_lossy s.run)).0) in
         omega (arith, ap (times c) read, both chars last, put, chars_put (lossy_chars s.run), puts_on s.before (of_run s.run), ap (λ (x : List Step). times c (puts x)) s.all)
 
 -- ---- what is written
@@ -176,7 +189,15 @@ left_chars painted bytes out text s k =
 
 pub nothing_lost : NothingLost
 nothing_lost painted bytes kept out text s c k l no_tab no_newline =
-    omega (arith, kept_put c no_tab no_newline bytes kept s.steps s.read k, all_puts c most fresh s.steps blank, balances c most fresh s.steps, text_has c (do_all most fresh s.steps blank), ap (times c) (left_chars painted bytes out text s l))
+    omega (
+      arith,
+      kept_put c no_tab no_newline bytes kept s.steps s.read k,
+      all_puts c most fresh s.steps blank,
+      balances c most fresh s.steps,
+      text_has c (do_all most fresh s.steps blank),
+      ap (times c) (left_chars painted bytes out text s l),
+    )
 
 pub nothing_made : NothingMade
-nothing_made painted bytes out text s c l no_blank no_newline = omega (arith, balances c most fresh s.steps, text_is c (do_all most fresh s.steps blank) no_blank no_newline, ap (times c) (left_chars painted bytes out text s l))
+nothing_made painted bytes out text s c l no_blank no_newline =
+    omega (arith, balances c most fresh s.steps, text_is c (do_all most fresh s.steps blank) no_blank no_newline, ap (times c) (left_chars painted bytes out text s l))

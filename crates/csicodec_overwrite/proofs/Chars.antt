@@ -27,7 +27,8 @@ more old own others now new e f = f ∙ ap (λ (t : List Step). t ++ others) e �
 -- a character more
 pub char_on : (c : ℕ) (chars : List ℕ) (old now new : List Step) → now ≡ old ++ of_chars chars → new ≡ now ++ of_char c → new ≡ old ++ of_chars (chars ++ c ∷ [])
 char_on c chars old now new e f =
-    more old (of_chars chars) (of_char c) now new e f ∙ ap (λ (t : List Step). old ++ (of_chars chars ++ t)) (sym (append-nil (of_char c))) ∙ ap (λ (t : List Step). old ++ t) (sym (chars_on chars (c ∷ [])))
+    more old (of_chars chars) (of_char c) now new e f ∙ ap (λ (t : List Step). old ++ (of_chars chars ++ t)) (sym (append-nil (of_char c)))
+    ∙ ap (λ (t : List Step). old ++ t) (sym (chars_on chars (c ∷ [])))
 
 -- an action more
 pub action_on : (a : Action) (front : List Action) (old now new : List Step) → now ≡ old ++ of_actions front → new ≡ now ++ of_action a → new ≡ old ++ of_actions (front ++ a ∷ [])
@@ -54,10 +55,12 @@ run_empty (b ∷ run) none = absurd (omega (arith, none))
 -- a run that is over, of which all was read
 pub run_all : (run chars rest : List ℕ) (old new : List Step) → IsRead run chars rest → length rest ≡ 0 → new ≡ old ++ of_chars chars → new ≡ old ++ of_run run
 run_all run chars rest old new h none e =
-    e ∙ ap (λ (t : List Step). old ++ t) (sym (append-nil (of_chars chars))) ∙ ap (λ (t : List Step). old ++ (of_chars chars ++ t)) (sym (run_empty rest none)) ∙ ap (λ (t : List Step). old ++ t) (sym (run_read run chars rest h))
+    e ∙ ap (λ (t : List Step). old ++ t) (sym (append-nil (of_chars chars)))
+    ∙ ap (λ (t : List Step). old ++ (of_chars chars ++ t)) (sym (run_empty rest none)) ∙ ap (λ (t : List Step). old ++ t) (sym (run_read run chars rest h))
 
 -- or all but a piece that is no character
-pub run_cut : (run chars rest : List ℕ) (old now new : List Step) → IsRead run chars rest → lossy_chars rest ≡ replacement ∷ [] → now ≡ old ++ of_chars chars → new ≡ now ++ of_char replacement → new ≡ old ++ of_run run
+pub run_cut : (run chars rest : List ℕ) (old now new : List Step) → IsRead run chars rest → lossy_chars rest ≡ replacement ∷ []
+    → now ≡ old ++ of_chars chars → new ≡ now ++ of_char replacement → new ≡ old ++ of_run run
 run_cut run chars rest old now new h cut e f =
     char_on replacement chars old now new e f ∙ ap (λ (t : List Step). old ++ t) (chars_on chars (replacement ∷ [])) ∙ ap (λ (t : List ℕ). old ++ (of_chars chars ++ of_chars t)) (sym cut)
     ∙ ap (λ (t : List Step). old ++ t) (sym (run_read run chars rest h))

@@ -13,7 +13,9 @@ use Rattle.csicodec_overwrite.specs.declared.pen.Pen.{Pen}
 use Rattle.csicodec_overwrite.specs.declared.step.Step.{Step}
 use Rattle.csicodec_overwrite.specs.declared.step.Step.TheVariants as step
 use Rattle.csicodec_overwrite.specs.Cells.{begins_behind, belongs, chars_of, columns, emptied, erased, glyph, gone, is_empty, onto, outside, takes, to_tab_stop, trimmed, width, without}
-use Rattle.csicodec_overwrite.specs.Line.{Done, back, behind_columns, blank, cells_of, do_all, does, done, fits, forward, fresh, from_stop, in_row, is_row, last_behind, leave, line, lines_of, over, padded, parted, pen_behind, placed, placed_in, put, repeat, repeated, restored, shows_nothing, size, standing, target, to_stop, widest}
+use Rattle.csicodec_overwrite.specs.Line.{Done, back, behind_columns, blank, cells_of, do_all, does, done, fits, forward, fresh, from_stop}
+use Rattle.csicodec_overwrite.specs.Line.{in_row, is_row, last_behind, leave, line, lines_of, over, padded, parted, pen_behind, placed}
+use Rattle.csicodec_overwrite.specs.Line.{placed_in, put, repeat, repeated, restored, shows_nothing, size, standing, target, to_stop, widest}
 use Rattle.csicodec_overwrite.proofs.Texts.{chars_by, line_chars}
 
 -- either way of a test
@@ -147,7 +149,8 @@ module _ (P : ℕ → Type 0) (Q : Look → Type 0) (R : Sgr → Type 0) where
     of_over_lines l h = either (AllByRecursion OfCells) (shows_nothing l) [] (cells_of l ∷ []) tt (of_line l h, tt)
 
     of_restored : (limit : ℕ) (pen : Pen) (l : Line) → OfLine l → OfDone (restored limit pen l)
-    of_restored limit pen l h = either OfDone pen.here (done [] (behind_columns limit pen.saved l)) (done (lines_of l) (forward limit (min pen.saved (widest - 1)) blank)) (tt, of_behind limit pen.saved l h)
+    of_restored limit pen l h =
+        either OfDone pen.here (done [] (behind_columns limit pen.saved l)) (done (lines_of l) (forward limit (min pen.saved (widest - 1)) blank)) (tt, of_behind limit pen.saved l h)
         (of_over_lines l h, of_forward limit (min pen.saved (widest - 1)) blank (tt, tt))
 
     of_leave : (limit : ℕ) (to : Option ℕ) (l : Line) → OfLine l → OfDone (leave limit to l)
@@ -163,7 +166,9 @@ module _ (P : ℕ → Type 0) (Q : Look → Type 0) (R : Sgr → Type 0) where
     of_does : (limit : ℕ) (pen : Pen) (s : Step) (l : Line) → OfPen pen → OfStep s → OfLine l → OfDone (does limit pen s l)
     of_does limit pen (step.Put c) l q p h = of_put limit pen.inserts (glyph c pen.look) l (p, q.0) h
     of_does limit pen (step.Repeat n) l q p h = of_repeated limit pen pen.last n l q.0 q.1 h
-    of_does limit pen step.Tab l q p h = either OfDone (length l.right == 0) (put limit pen.inserts (glyph 9 pen.look) l) (done [] (forward limit (to_tab_stop (columns l.left)) l)) (of_put limit pen.inserts (glyph 9 pen.look) l (tab, q.0) h)
+    of_does limit pen step.Tab l q p h =
+        either OfDone (length l.right == 0) (put limit pen.inserts (glyph 9 pen.look) l) (done [] (forward limit (to_tab_stop (columns l.left)) l))
+        (of_put limit pen.inserts (glyph 9 pen.look) l (tab, q.0) h)
         (tt, of_forward limit (to_tab_stop (columns l.left)) l h)
     of_does limit pen (step.Tabs n) l q p h = (tt, of_forward limit (to_stop n (columns l.left)) l h)
     of_does limit pen (step.TabsBack n) l q p h = (tt, of_back (from_stop n (columns l.left)) l.left l.right h.0 h.1)
@@ -227,7 +232,8 @@ module _ (P : ℕ → Type 0) (Q : Look → Type 0) (R : Sgr → Type 0) where
         (all_both (does limit pen s l).lines later.lines one.0 others.0, others.1)
 
     -- the cells of all that is shown
-    pub of_done : (limit : ℕ) (steps : List Step) → AllByRecursion OfStep steps → AllByRecursion OfCells (do_all limit fresh steps blank).lines × OfCells (cells_of (do_all limit fresh steps blank).line)
+    pub of_done : (limit : ℕ) (steps : List Step) → AllByRecursion OfStep steps
+        → AllByRecursion OfCells (do_all limit fresh steps blank).lines × OfCells (cells_of (do_all limit fresh steps blank).line)
     of_done limit steps p =
         let all = of_all limit fresh steps blank (plain_kept, tt) p (tt, tt) in
         (all.0, of_line (do_all limit fresh steps blank).line all.1)

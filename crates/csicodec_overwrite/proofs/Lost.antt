@@ -13,7 +13,9 @@ use Rattle.csicodec_overwrite.specs.declared.pen.Pen.{Pen}
 use Rattle.csicodec_overwrite.specs.declared.step.Step.{Step}
 use Rattle.csicodec_overwrite.specs.declared.step.Step.TheVariants as step
 use Rattle.csicodec_overwrite.specs.Cells.{begins_behind, belongs, chars_of, columns, emptied, erased, glyph, gone, is_empty, onto, outside, takes, to_tab_stop, trimmed, width, without}
-use Rattle.csicodec_overwrite.specs.Line.{Done, back, behind_columns, blank, cells_of, do_all, does, done, fits, forward, from_stop, in_row, is_row, leave, line, lines_of, over, parted, pen_behind, placed, placed_in, put, repeat, repeated, restored, shows_nothing, size, standing, target, to_stop, widest}
+use Rattle.csicodec_overwrite.specs.Line.{Done, back, behind_columns, blank, cells_of, do_all, does, done, fits, forward}
+use Rattle.csicodec_overwrite.specs.Line.{from_stop, in_row, is_row, leave, line, lines_of, over, parted, pen_behind, placed}
+use Rattle.csicodec_overwrite.specs.Line.{placed_in, put, repeat, repeated, restored, shows_nothing, size, standing, target, to_stop, widest}
 use Rattle.csicodec_overwrite.specs.Lost.{again, all_came, all_taken, belonging, came, covered, left_out, taken, taken_again, taken_by, taken_by_all, times, touched, under, whole, within, written}
 use Rattle.csicodec_overwrite.proofs.Texts.{chars_by, line_chars}
 
@@ -114,11 +116,15 @@ module _ (c : ℕ) where
 
   of_back : (n : ℕ) (left right : List Cell) → in_line (back n left right) ≡ count left + count right
   of_back n [] right = refl
-  of_back n (x ∷ left) right = either (λ (m : Line). in_line m ≡ (in_cell x + count left) + count right) (n == 0) (line (x ∷ left) right) (back (n - takes x) left (x ∷ right)) (λ e. refl) (λ e. omega (arith, of_back (n - takes x) left (x ∷ right)))
+  of_back n (x ∷ left) right =
+      either (λ (m : Line). in_line m ≡ (in_cell x + count left) + count right) (n == 0) (line (x ∷ left) right)
+      (back (n - takes x) left (x ∷ right)) (λ e. refl) (λ e. omega (arith, of_back (n - takes x) left (x ∷ right)))
 
   of_over : (n : ℕ) (left right : List Cell) → in_line (over n left right) ≡ count left + count right
   of_over n left [] = refl
-  of_over n left (x ∷ right) = either (λ (m : Line). in_line m ≡ count left + (in_cell x + count right)) (nat_lt n (takes x)) (line left (x ∷ right)) (over (n - takes x) (x ∷ left) right) (λ e. refl) (λ e. omega (arith, of_over (n - takes x) (x ∷ left) right))
+  of_over n left (x ∷ right) =
+      either (λ (m : Line). in_line m ≡ count left + (in_cell x + count right)) (nat_lt n (takes x)) (line left (x ∷ right))
+      (over (n - takes x) (x ∷ left) right) (λ e. refl) (λ e. omega (arith, of_over (n - takes x) (x ∷ left) right))
 
   of_forward : (limit n : ℕ) (l : Line) → in_line (forward limit n l) ≡ in_line l
   of_forward limit n l =
@@ -132,8 +138,18 @@ module _ (c : ℕ) where
   of_under l =
       let left = without 1 (outside l.left) in
       let right = outside l.right in
-      both_ways (λ (a : List Cell) (m : Line). count a + in_line m ≡ in_line l) (begins_behind l.right) (belonging l.left ++ (within 1 (outside l.left) ++ belonging l.right)) [] (line (emptied l.left left) (emptied l.right right)) l
-      (λ e. omega (arith, joined (belonging l.left) (within 1 (outside l.left) ++ belonging l.right), joined (within 1 (outside l.left)) (belonging l.right), of_belonging l.left, of_belonging l.right, of_within 1 (outside l.left), of_emptied l.left left, of_emptied l.right right))
+      both_ways (λ (a : List Cell) (m : Line). count a + in_line m ≡ in_line l) (begins_behind l.right)
+      (belonging l.left ++ (within 1 (outside l.left) ++ belonging l.right)) [] (line (emptied l.left left) (emptied l.right right)) l
+      (λ e. omega (
+        arith,
+        joined (belonging l.left) (within 1 (outside l.left) ++ belonging l.right),
+        joined (within 1 (outside l.left)) (belonging l.right),
+        of_belonging l.left,
+        of_belonging l.right,
+        of_within 1 (outside l.left),
+        of_emptied l.left left,
+        of_emptied l.right right,
+      ))
       (λ e. omega arith)
 
   of_touched : (n : ℕ) (l : Line) → count (touched n l) + (count (parted l).left + count (gone n (parted l).right)) ≡ in_line l
@@ -158,7 +174,8 @@ module _ (c : ℕ) where
       both_ways (λ (m : Line) (a : List Cell). in_line m + count a ≡ in_line l + times c (g.char ∷ [])) (n == 0)
       (line (Mark g.char ∷ l.left) l.right) (line (replicate (n - 1) Behind ++ (Char g ∷ p.left)) (cond inserts p.right (gone n p.right))) [] (cond inserts (under l) (touched n l))
       (λ e. omega arith)
-      (λ e. both_ways (λ (right a : List Cell). count (replicate (n - 1) Behind ++ (Char g ∷ p.left)) + count right + count a ≡ in_line l + times c (g.char ∷ [])) inserts p.right (gone n p.right) (under l) (touched n l)
+      (λ e. both_ways (λ (right a : List Cell). count (replicate (n - 1) Behind ++ (Char g ∷ p.left)) + count right + count a ≡ in_line l + times c (g.char ∷ []))
+      inserts p.right (gone n p.right) (under l) (touched n l)
       (λ f. omega (arith, behinds (n - 1) (Char g ∷ p.left), of_under l)) (λ f. omega (arith, behinds (n - 1) (Char g ∷ p.left), of_touched n l)))
 
   -- where nothing stands on the right, nothing is taken
@@ -186,7 +203,14 @@ module _ (c : ℕ) where
   of_repeat limit inserts g (suc n) l =
       let d = put limit inserts g l in
       let others = taken_by_all limit inserts g n d.line in
-      omega (arith, of_put limit inserts g l, of_repeat limit inserts g n d.line, lines_joined d.lines (repeat limit inserts g n d.line).lines, joined (taken_by limit inserts g l) others, again_suc n g.char)
+      omega (
+        arith,
+        of_put limit inserts g l,
+        of_repeat limit inserts g n d.line,
+        lines_joined d.lines (repeat limit inserts g n d.line).lines,
+        joined (taken_by limit inserts g l) others,
+        again_suc n g.char,
+      )
 
   of_repeated : (limit : ℕ) (pen : Pen) (last : Option ℕ) (n : ℕ) (l : Line) → in_all (repeated limit pen last n l) + count (taken_again limit pen last n l) ≡ in_line l + times c (again last n)
   of_repeated limit pen None n l = omega arith
@@ -194,7 +218,9 @@ module _ (c : ℕ) where
 
   -- a tab takes nothing: nothing stands on its right
   of_tab : (limit : ℕ) (pen : Pen) (l : Line) → in_all (does limit pen step.Tab l) ≡ in_line l + times c (came pen step.Tab l)
-  of_tab limit pen l = both_ways (λ (d : Done) (cs : List ℕ). in_all d ≡ in_line l + times c cs) (length l.right == 0) (put limit pen.inserts (glyph 9 pen.look) l) (done [] (forward limit (to_tab_stop (columns l.left)) l)) (9 ∷ []) []
+  of_tab limit pen l =
+      both_ways (λ (d : Done) (cs : List ℕ). in_all d ≡ in_line l + times c cs) (length l.right == 0) (put limit pen.inserts (glyph 9 pen.look) l)
+      (done [] (forward limit (to_tab_stop (columns l.left)) l)) (9 ∷ []) []
       (λ e. omega (arith, of_put limit pen.inserts (glyph 9 pen.look) l, none_taken l (no_cells l.right e))) (λ e. omega (arith, of_forward limit (to_tab_stop (columns l.left)) l))
     where
       none_taken : (l : Line) → l.right ≡ [] → count (taken_by limit pen.inserts (glyph 9 pen.look) l) ≡ 0
@@ -206,7 +232,9 @@ module _ (c : ℕ) where
   -- ---- steps
 
   of_restored : (limit : ℕ) (pen : Pen) (l : Line) → in_all (restored limit pen l) + count (taken limit pen step.Restore l) ≡ in_line l
-  of_restored limit pen l = both_ways (λ (d : Done) (a : List Cell). in_all d + count a ≡ in_line l) pen.here (done [] (behind_columns limit pen.saved l)) (done (lines_of l) (forward limit (min pen.saved (widest - 1)) blank)) [] (left_out l)
+  of_restored limit pen l =
+      both_ways (λ (d : Done) (a : List Cell). in_all d + count a ≡ in_line l) pen.here (done [] (behind_columns limit pen.saved l))
+      (done (lines_of l) (forward limit (min pen.saved (widest - 1)) blank)) [] (left_out l)
       (λ e. omega (arith, of_behind limit pen.saved l)) (λ e. omega (arith, of_lines l, of_forward limit (min pen.saved (widest - 1)) blank))
 
   of_in_row : (limit : ℕ) (to : Option ℕ) (l : Line) → in_line (in_row limit to l) ≡ in_line l

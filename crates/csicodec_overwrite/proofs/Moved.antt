@@ -1,5 +1,6 @@
 -- Cells that are moved or taken, one after the other.
-use Rattle.std.proofs.Common.{◌≡◌, ℕ, zero, suc, ◌-◌, ◌+◌, ◌<◌, ◌≤◌, Bool, true, false, cond, ◌==◌, nat_le, nat_lt, List, [], ◌∷◌, ◌++◌, length, length-take, drop, replicate, reverse, take, take-append-drop, refl, sym, ap, ◌∙◌, arith, append_assoc, append-nil}
+use Rattle.std.proofs.Common.{◌≡◌, ℕ, zero, suc, ◌-◌, ◌+◌, ◌<◌, ◌≤◌, Bool, true, false, cond, ◌==◌, nat_le, nat_lt, List, [], ◌∷◌, ◌++◌, length}
+use Rattle.std.proofs.Common.{length-take, drop, replicate, reverse, take, take-append-drop, refl, sym, ap, ◌∙◌, arith, append_assoc, append-nil}
 use Rattle.std.proofs.lemmas.Bool.Decides.{nat_tests}
 use Rattle.std.proofs.lemmas.List.{length-replicate, replicate-append-replicate, reverse-append, reverse-reverse, take-append-le, take-replicate, take_all}
 use Rattle.csicodec_overwrite.specs.declared.cells.Cell.{Cell}
@@ -69,7 +70,9 @@ over_back : (n : ℕ) (left right : List Cell) → n < columns left → within (
 over_back n [] right h = absurd (omega (arith, h))
 over_back n (cell ∷ left) right h = ap within (back_on (columns (cell ∷ left) - n) cell left right (omega (arith, h))) ∙ by (nat_lt n (columns left)) refl (over_back n left (cell ∷ right))
   where
-    by : (t : Bool) → nat_lt n (columns left) ≡ t → (n < columns left → within (back (columns left - n) left (cell ∷ right)) ≡ over n [] (onto left (cell ∷ right))) → within (back (columns (cell ∷ left) - n - takes cell) left (cell ∷ right)) ≡ over n [] (onto left (cell ∷ right))
+    by : (t : Bool) → nat_lt n (columns left) ≡ t
+        → (n < columns left → within (back (columns left - n) left (cell ∷ right)) ≡ over n [] (onto left (cell ∷ right)))
+        → within (back (columns (cell ∷ left) - n - takes cell) left (cell ∷ right)) ≡ over n [] (onto left (cell ∷ right))
     by true is same =
         let less : n < columns left = grind (arith, nat_tests) in
         ap (λ (m : ℕ). within (back m left (cell ∷ right))) (omega (arith, less)) ∙ same less
@@ -90,7 +93,8 @@ module _ (limit n : ℕ) (left right : List Cell) where
       let few : columns left ≤ n = grind (arith, nat_tests) in
       let none : columns left - n ≡ 0 = omega (arith, few) in
       let more : n - columns left - columns right ≡ n - columns (onto left right) = omega (arith, few, columns_onto left right) in
-      ap (λ (m : ℕ). forward limit (n - columns left) (back m left right)) none ∙ ap (forward limit (n - columns left)) (back_zero left right) ∙ ap (λ (m : ℕ). padded limit m (over (n - columns left) left right)) more
+      ap (λ (m : ℕ). forward limit (n - columns left) (back m left right)) none ∙ ap (forward limit (n - columns left)) (back_zero left right)
+      ∙ ap (λ (m : ℕ). padded limit m (over (n - columns left) left right)) more
       ∙ ap (padded limit (n - columns (onto left right))) (sym (over_onto n left right few))
 
   pub by_back : forward limit (n - columns left) (back (columns left - n) left right) ≡ behind_columns limit n (line left right)
@@ -139,7 +143,8 @@ pub whole_bare : (n : ℕ) (cells : List Cell) → reverse cells ≡ replicate n
 whole_bare n cells e = (bare_kept n cells (sym (reverse-reverse cells) ∙ ap reverse e ∙ reverse_empty n)).1
 
 -- they stay, and all others are emptied
-pub emptied_all : (n count : ℕ) (cells front side : List Cell) → count ≡ columns (reverse cells) → take n cells ≡ replicate n Empty → front ≡ take n cells → side ≡ replicate (count - n) Empty ++ reverse front → side ≡ replicate count Empty
+pub emptied_all : (n count : ℕ) (cells front side : List Cell) → count ≡ columns (reverse cells) → take n cells ≡ replicate n Empty
+    → front ≡ take n cells → side ≡ replicate (count - n) Empty ++ reverse front → side ≡ replicate count Empty
 emptied_all n count cells front side is bare same e =
     let rest = drop n cells in
     let split : reverse cells ≡ reverse rest ++ reverse (take n cells) = ap reverse (sym (take-append-drop n cells)) ∙ reverse-append (take n cells) rest in
@@ -188,9 +193,11 @@ step_text marking now new first later whole e f =
 
 -- ---- so many times
 
-pub repeat_on : (limit : ℕ) (inserts : Bool) (g : Glyph) (n : ℕ) (l : Line) → 0 < n → repeat limit inserts g n l ≡ before (put limit inserts g l).lines (repeat limit inserts g (n - 1) (put limit inserts g l).line)
+pub repeat_on : (limit : ℕ) (inserts : Bool) (g : Glyph) (n : ℕ) (l : Line) → 0 < n
+    → repeat limit inserts g n l ≡ before (put limit inserts g l).lines (repeat limit inserts g (n - 1) (put limit inserts g l).line)
 repeat_on limit inserts g zero l h = absurd (omega (arith, h))
-repeat_on limit inserts g (suc n) l h = let less : suc n - 1 ≡ n = omega arith in ap (λ (k : ℕ). before (put limit inserts g l).lines (repeat limit inserts g k (put limit inserts g l).line)) (sym less)
+repeat_on limit inserts g (suc n) l h =
+    let less : suc n - 1 ≡ n = omega arith in ap (λ (k : ℕ). before (put limit inserts g l).lines (repeat limit inserts g k (put limit inserts g l).line)) (sym less)
 
 and_false : (b : Bool) → b && false ≡ false
 and_false true = refl

@@ -55,14 +55,17 @@ parted run (p ∷ ps) qs x y a b (first, next, others, is, e, rest) (one, after,
     record {
       later = later.later;
       others = later.others;
-      all = f ∙ ap (λ (t : List Step). t ++ more) (sym same.steps) ∙ ap (λ (t : List Step). first ++ t) later.all ∙ sym (append_assoc first others later.later) ∙ ap (λ (t : List Step). t ++ later.later) (sym e);
+      all =
+          f ∙ ap (λ (t : List Step). t ++ more) (sym same.steps) ∙ ap (λ (t : List Step). first ++ t) later.all
+          ∙ sym (append_assoc first others later.later) ∙ ap (λ (t : List Step). t ++ later.later) (sym e);
     }
 
 pub one_reading : (bytes : List ℕ) (steps others : List Step) → Steps bytes steps → Steps bytes others → steps ≡ others
 one_reading bytes steps others s t =
     let parts = (parts_once longest s.parts t.parts mode.Text bytes s.rest t.rest s.after t.after s.first s.unsure t.first t.unsure).parts in
     let other = subst (λ (ps : List Part). AreOfParts [] (with_titles false ps) t.before t.run) (sym parts) t.read in
-    let r = parted [] (with_titles false s.parts) [] s.before t.before s.run t.run s.read (subst (λ (ps : List Part). AreOfParts [] ps t.before t.run) (sym (append-nil (with_titles false s.parts))) other) in
+    let r =
+    parted [] (with_titles false s.parts) [] s.before t.before s.run t.run s.read (subst (λ (ps : List Part). AreOfParts [] ps t.before t.run) (sym (append-nil (with_titles false s.parts))) other) in
     let before : t.before ≡ s.before = r.all ∙ ap (λ (x : List Step). s.before ++ x) r.others.0 ∙ append-nil s.before in
     s.all ∙ ap (λ (x : List Step). x ++ of_run s.run) (sym before) ∙ ap (λ (run : List ℕ). t.before ++ of_run run) (sym r.others.1) ∙ sym t.all
 
@@ -84,31 +87,40 @@ run_begins run chars rest h = (of_run rest, run_read run chars rest h)
 further : (x y front : List Step) → GoesOnFrom x front → GoesOnFrom (x ++ y) front
 further x y front (more, e) = (more ++ y, ap (λ (t : List Step). t ++ y) e ∙ append_assoc front more y)
 
-ends_run : (run chars rest : List ℕ) (own first others more last : List Step) → IsRead run chars rest → first ≡ of_run run ++ own → others ≡ first ++ more → GoesOnFrom (others ++ last) (of_chars chars)
+ends_run : (run chars rest : List ℕ) (own first others more last : List Step) → IsRead run chars rest → first ≡ of_run run ++ own
+    → others ≡ first ++ more → GoesOnFrom (others ++ last) (of_chars chars)
 ends_run run chars rest own first others more last h e f =
-    subst (λ (t : List Step). GoesOnFrom (t ++ last) (of_chars chars)) (sym (f ∙ ap (λ (t : List Step). t ++ more) e)) (further ((of_run run ++ own) ++ more) last (of_chars chars) (further (of_run run ++ own) more (of_chars chars) (further (of_run run) own (of_chars chars) (run_begins run chars rest h))))
+    subst (λ (t : List Step). GoesOnFrom (t ++ last) (of_chars chars)) (sym (f ∙ ap (λ (t : List Step). t ++ more) e))
+    (further ((of_run run ++ own) ++ more) last (of_chars chars) (further (of_run run ++ own) more (of_chars chars) (further (of_run run) own (of_chars chars) (run_begins run chars rest h))))
 
 part_begins : (k : Kind) (run bytes chars rest next : List ℕ) (first others more last : List Step) → IsRead run chars rest → IsOfPart k run bytes first next → others ≡ first ++ more
     → ((cs r : List ℕ) → IsRead next cs r → GoesOnFrom (more ++ last) (of_chars cs)) → GoesOnFrom (others ++ last) (of_chars chars)
 part_begins kind.Text run bytes chars rest next first others more last h (none, left) f later =
     let same : others ≡ more = f ∙ ap (λ (t : List Step). t ++ more) none in
-    subst (λ (t : List Step). GoesOnFrom (t ++ last) (of_chars chars)) (sym same) (later chars (rest ++ bytes) (subst (λ (r : List ℕ). IsRead r chars (rest ++ bytes)) (sym left) (read_longer run chars rest bytes h)))
+    subst (λ (t : List Step). GoesOnFrom (t ++ last) (of_chars chars)) (sym same)
+    (later chars (rest ++ bytes) (subst (λ (r : List ℕ). IsRead r chars (rest ++ bytes)) (sym left) (read_longer run chars rest bytes h)))
 part_begins kind.Csi run bytes chars rest next first others more last h (actions, of, e, none) f later = ends_run run chars rest (of_sequence actions) first others more last h e f
 part_begins kind.Esc run bytes chars rest next first others more last h i f later = ends_run run chars rest (of_escape bytes) first others more last h i.0 f
 part_begins kind.Str run bytes chars rest next first others more last h i f later = ends_run run chars rest (of_string bytes) first others more last h i.0 f
 part_begins kind.Other run bytes chars rest next first others more last h i f later = ends_run run chars rest (of_wrong bytes) first others more last h i.0 f
 
 parts_begin : (run chars rest : List ℕ) (qs : List Part) (later : List Step) (last : List ℕ) → IsRead run chars rest → AreOfParts run qs later last → GoesOnFrom (later ++ of_run last) (of_chars chars)
-parts_begin run chars rest [] later last h (none, same) = subst (λ (t : List Step). GoesOnFrom t (of_chars chars)) (sym (ap (λ (t : List Step). t ++ of_run last) none ∙ ap of_run same)) (run_begins run chars rest h)
+parts_begin run chars rest [] later last h (none, same) =
+    subst (λ (t : List Step). GoesOnFrom t (of_chars chars)) (sym (ap (λ (t : List Step). t ++ of_run last) none ∙ ap of_run same)) (run_begins run chars rest h)
 parts_begin run chars rest (q ∷ qs) later last h (first, next, others, is, e, k) =
     part_begins q.kind run q.bytes chars rest next first later others (of_run last) h is e (λ cs r i. parts_begin next cs r qs others last i k)
 
 -- the steps that came for a front of some bytes begin those of all
-goes_front : (read more : List ℕ) (steps all : List Step) (last : Held) → (g : Goes mode.Text false [] [] read steps last.bytes last.mode last.titled last.held) → Steps (read ++ more) all → GoesOnFrom all steps
+goes_front : (read more : List ℕ) (steps all : List Step) (last : Held)
+    → (g : Goes mode.Text false [] [] read steps last.bytes last.mode last.titled last.held) → Steps (read ++ more) all → GoesOnFrom all steps
 goes_front read more steps all last g s =
-    let (qs, parts) = parts_front longest g.parts s.parts mode.Text (read ++ more) (last.bytes ++ more) s.rest last.mode s.after (parts_more longest g.parts mode.Text read more last.bytes last.mode g.first) s.first s.unsure in
+    let (qs, parts) =
+    parts_front longest g.parts s.parts mode.Text (read ++ more) (last.bytes ++ more) s.rest last.mode s.after
+    (parts_more longest g.parts mode.Text read more last.bytes last.mode g.first) s.first s.unsure in
     let titled : with_titles false s.parts ≡ with_titles false g.parts ++ with_titles (title_open false g.parts) qs = ap (with_titles false) parts ∙ titles_on false g.parts qs in
-    let r = parted [] (with_titles false g.parts) (with_titles (title_open false g.parts) qs) g.before s.before g.left s.run g.are (subst (λ (ps : List Part). AreOfParts [] ps s.before s.run) titled s.read) in
+    let r =
+    parted [] (with_titles false g.parts) (with_titles (title_open false g.parts) qs) g.before s.before g.left s.run g.are
+    (subst (λ (ps : List Part). AreOfParts [] ps s.before s.run) titled s.read) in
     let (later, f) = parts_begin g.left g.read last.held (with_titles (title_open false g.parts) qs) r.later s.run g.is_read r.others in (
       later,
       s.all ∙ ap (λ (x : List Step). x ++ of_run s.run) r.all ∙ append_assoc g.before r.later (of_run s.run) ∙ ap (λ (x : List Step). g.before ++ x) f
@@ -134,4 +146,6 @@ module _ (marking : Marking) where
   pub shown_sent : (bytes more sent : List ℕ) (i k w y : Option (List ℕ)) → Consumes i k (bytes ++ more)
       → BeginsWith (Sends Passes (begun_as marking)) (Transforms Passes Ending (begun_as marking)) ((more ≡ []) × IsAtEnd k) bytes sent → Appends w y sent
       → IfSome i (λ all. (out : List ℕ) × IsFrontOf (Shows marking) all out × Appends w y out)
-  shown_sent = whole_front (Sends Passes (begun_as marking)) (Transforms Passes Ending (begun_as marking)) (IsFrontOf (Shows marking)) shorter (λ read more text (last, p). passes_front marking read more text last p) all_front
+  shown_sent =
+      whole_front (Sends Passes (begun_as marking)) (Transforms Passes Ending (begun_as marking)) (IsFrontOf (Shows marking)) shorter
+      (λ read more text (last, p). passes_front marking read more text last p) all_front

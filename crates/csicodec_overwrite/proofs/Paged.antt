@@ -33,7 +33,8 @@ use Rattle.csicodec_overwrite.specs.Reading.{Pages, Paints, most, shown_by}
 use Rattle.csicodec_overwrite.proofs.Alike.{look_one, newline_written}
 use Rattle.csicodec_overwrite.proofs.Looks.{looks_back}
 use Rattle.csicodec_overwrite.proofs.Once.{one_text}
-use Rattle.csicodec_overwrite.proofs.Same.{AreSafe, One, Piece, Turn, all_painted, all_safe, more_encoded, more_scalars, of_all, of_cells, of_line, parts_of, pieces_text, turned, untitled, whole_pieces}
+use Rattle.csicodec_overwrite.proofs.Same.{AreSafe, One, Piece, Turn, all_painted, all_safe, more_encoded, more_scalars}
+use Rattle.csicodec_overwrite.proofs.Same.{of_all, of_cells, of_line, parts_of, pieces_text, turned, untitled, whole_pieces}
 use Rattle.csicodec_overwrite.proofs.Spelled.{look_taken}
 
 -- ---- what is left of them on a page
@@ -93,7 +94,8 @@ module _ (m : Markup) where
   both_marks (Turn new ∷ xs) ys l =
       let tags = html.turn m true l new in
       let later = piece_texts (marks (look_behind new xs) ys) in
-      flat_map-append mark_text tags (marks new (xs ++ ys)) ∙ ap (λ (t : List ℕ). piece_texts tags ++ t) (both_marks xs ys new) ∙ sym (append_assoc (piece_texts tags) (piece_texts (marks new xs)) later)
+      flat_map-append mark_text tags (marks new (xs ++ ys)) ∙ ap (λ (t : List ℕ). piece_texts tags ++ t) (both_marks xs ys new)
+      ∙ sym (append_assoc (piece_texts tags) (piece_texts (marks new xs)) later)
       ∙ ap (λ (t : List ℕ). t ++ later) (sym (flat_map-append mark_text tags (marks new xs)))
 
   both_behind : (xs ys : List Piece) (l : Look) → look_behind l (xs ++ ys) ≡ look_behind (look_behind l xs) ys

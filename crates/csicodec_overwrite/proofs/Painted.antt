@@ -35,11 +35,13 @@ look_begins look old new e =
     ap (λ (t : List ℕ). t ++ (flat_map further (attributes look) ++ 109 ∷ [])) e ∙ append_assoc old (27 ∷ 91 ∷ 48 ∷ []) (flat_map further (attributes look) ++ 109 ∷ [])
 
 -- some attributes, and then the others
-pub given_on : (xs ys : List Sgr) (old new whole : List ℕ) → old ++ (flat_map further (xs ++ ys) ++ 109 ∷ []) ≡ whole → new ≡ old ++ flat_map further xs → new ++ (flat_map further ys ++ 109 ∷ []) ≡ whole
+pub given_on : (xs ys : List Sgr) (old new whole : List ℕ) → old ++ (flat_map further (xs ++ ys) ++ 109 ∷ []) ≡ whole
+    → new ≡ old ++ flat_map further xs → new ++ (flat_map further ys ++ 109 ∷ []) ≡ whole
 given_on xs ys old new whole h e =
     let first = flat_map further xs in
     let later = flat_map further ys ++ 109 ∷ [] in
-    ap (λ (t : List ℕ). t ++ later) e ∙ append_assoc old first later ∙ ap (λ (t : List ℕ). old ++ t) (sym (append_assoc first (flat_map further ys) (109 ∷ []))) ∙ ap (λ (t : List ℕ). old ++ (t ++ 109 ∷ [])) (sym (flat_map-append further xs ys))
+    ap (λ (t : List ℕ). t ++ later) e ∙ append_assoc old first later
+    ∙ ap (λ (t : List ℕ). old ++ t) (sym (append_assoc first (flat_map further ys) (109 ∷ []))) ∙ ap (λ (t : List ℕ). old ++ (t ++ 109 ∷ [])) (sym (flat_map-append further xs ys))
     ∙ h
 
 -- the last of them, and the final byte

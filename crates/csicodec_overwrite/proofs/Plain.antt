@@ -44,7 +44,9 @@ use Rattle.csicodec_overwrite.specs.declared.step.Step.{Step}
 use Rattle.csicodec_overwrite.specs.declared.step.Step.TheVariants as step
 use Rattle.csicodec_overwrite.specs.Line.{blank, do_all, fresh}
 use Rattle.csicodec_overwrite.specs.Paint.{IsInRange}
-use Rattle.csicodec_overwrite.specs.Steps.{by_code, may_move, of_action, of_actions, of_char, of_chars, of_code, of_control, of_cursor, of_device, of_display, of_edit, of_escape, of_final, of_mode, of_part, of_reset, of_run, of_sequence, of_set, of_string, of_string_byte, of_terminal_code, of_terminal_mode, of_wrong, of_wrong_byte}
+use Rattle.csicodec_overwrite.specs.Steps.{by_code, may_move, of_action, of_actions, of_char, of_chars, of_code, of_control, of_cursor}
+use Rattle.csicodec_overwrite.specs.Steps.{of_device, of_display, of_edit, of_escape, of_final, of_mode, of_part, of_reset, of_run}
+use Rattle.csicodec_overwrite.specs.Steps.{of_sequence, of_set, of_string, of_string_byte, of_terminal_code, of_terminal_mode, of_wrong, of_wrong_byte}
 use Rattle.csicodec_overwrite.specs.Reading.{AreOfParts, IsOfPart, Overwrites, Steps, most}
 use Rattle.csicodec_overwrite.proofs.Kept.{OfStep, of_shown}
 use Rattle.csicodec_clean.proofs.Taken.{taken_range}
@@ -68,7 +70,9 @@ pick true x y h k = h
 pick false x y h k = k
 
 control_good : (c : ℕ) → AreGood (of_control c)
-control_good c = pick (c == 11 || (c == 12 || (c == 132 || (c == 141 || c == 155)))) (step.Leave None ∷ []) (cond (c == 133) (step.Leave (Some 1) ∷ []) (step.Other ∷ [])) (tt, tt) (pick (c == 133) (step.Leave (Some 1) ∷ []) (step.Other ∷ []) (tt, tt) (tt, tt))
+control_good c =
+    pick (c == 11 || (c == 12 || (c == 132 || (c == 141 || c == 155)))) (step.Leave None ∷ [])
+    (cond (c == 133) (step.Leave (Some 1) ∷ []) (step.Other ∷ [])) (tt, tt) (pick (c == 133) (step.Leave (Some 1) ∷ []) (step.Other ∷ []) (tt, tt) (tt, tt))
 
 char_good : (c : ℕ) → scalar c ≡ true → AreGood (of_char c)
 char_good c h = by (c == 10) (c == 13) (c == 8) (c == 9) (shown c) (λ e. (e, h))
@@ -95,7 +99,8 @@ final_good : (c : ℕ) → AreGood (of_final c)
 final_good c = by (c == 68 || c == 77) (c == 69) (c == 55) (c == 56) (c == 99)
   where
     by : (same first saves restores reset : Bool)
-        → AreGood (cond same (step.Leave None ∷ []) (cond first (step.Leave (Some 1) ∷ []) (cond saves (step.Save ∷ []) (cond restores (step.Restore ∷ []) (cond reset (step.Leave (Some 1) ∷ (step.Reset ∷ [])) (step.Other ∷ []))))))
+        → AreGood (cond same (step.Leave None ∷ [])
+        (cond first (step.Leave (Some 1) ∷ []) (cond saves (step.Save ∷ []) (cond restores (step.Restore ∷ []) (cond reset (step.Leave (Some 1) ∷ (step.Reset ∷ [])) (step.Other ∷ []))))))
     by true first saves restores reset = (tt, tt)
     by false true saves restores reset = (tt, tt)
     by false false true restores reset = (tt, tt)

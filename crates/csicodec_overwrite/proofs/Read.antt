@@ -53,7 +53,8 @@ module _ (k : Kind) (of_byte : ℕ → List Step) (ends : (run bytes : List ℕ)
       let others = flat_map bytes_of ps in
       let step : IsOfPart p.kind run p.bytes (of_run run ++ own) [] = rw h.all.0 (ends run p.bytes) in
       let whole : of_run run ++ flat_map of_byte bytes ≡ (of_run run ++ own) ++ flat_map of_byte others =
-      ap (λ (b : List ℕ). of_run run ++ flat_map of_byte b) (sym h.joined) ∙ ap (λ (t : List Step). of_run run ++ t) (flat_map-append of_byte p.bytes others) ∙ sym (append_assoc (of_run run) own (flat_map of_byte others)) in
+      ap (λ (b : List ℕ). of_run run ++ flat_map of_byte b) (sym h.joined)
+      ∙ ap (λ (t : List Step). of_run run ++ t) (flat_map-append of_byte p.bytes others) ∙ sym (append_assoc (of_run run) own (flat_map of_byte others)) in
       (of_run run ++ own, [], flat_map of_byte others, step, whole, others_by ps h.all.1)
 
 only : (k : Kind) (bytes : List ℕ) (steps : List Step) (ps : List Part) (run : List ℕ) → ps ≡ part k bytes ∷ [] → IsOfPart k run bytes steps [] → AreOfParts run ps steps []
@@ -78,10 +79,13 @@ ended run chars held ps own more left read e none are = record {
   read = [];
   are = are;
   is_read = rw none (read_none []);
-  same = ap (λ (t : List Step). of_chars chars ++ t) e ∙ sym (append_assoc (of_chars chars) (of_run held) own) ∙ ap (λ (t : List Step). t ++ own) (sym (run_read run chars held read)) ∙ sym (append-nil (of_run run ++ own));
+  same =
+      ap (λ (t : List Step). of_chars chars ++ t) e ∙ sym (append_assoc (of_chars chars) (of_run held) own)
+      ∙ ap (λ (t : List Step). t ++ own) (sym (run_read run chars held read)) ∙ sym (append-nil (of_run run ++ own));
 }
 
-spanned : (k : Kind) (run chars held bytes : List ℕ) (more : List Step) (ps : List Part) (left : List ℕ) → IsSpan k bytes ps → IsRead run chars held → IsGiven k held bytes more left → Spanned run chars ps more left
+spanned : (k : Kind) (run chars held bytes : List ℕ) (more : List Step) (ps : List Part) (left : List ℕ) → IsSpan k bytes ps → IsRead run chars held
+    → IsGiven k held bytes more left → Spanned run chars ps more left
 spanned kind.Text run chars held bytes more ps left span read (now, later, e) = record {
   before = [];
   left = run ++ bytes;
@@ -94,8 +98,10 @@ spanned kind.Csi run chars held bytes more ps left span read (actions, of, e, no
     ended run chars held ps (of_sequence actions) more left read e none (only kind.Csi bytes (of_run run ++ of_sequence actions) ps run span (actions, of, refl, refl))
 spanned kind.Esc run chars held bytes more ps left span read h =
     ended run chars held ps (of_escape bytes) more left read h.0 h.1 (only kind.Esc bytes (of_run run ++ of_escape bytes) ps run span (refl, refl))
-spanned kind.Str run chars held bytes more ps left span read h = ended run chars held ps (of_string bytes) more left read h.0 h.1 (by_bytes kind.Str of_string_byte (λ r b. (refl, refl)) bytes ps run span)
-spanned kind.Other run chars held bytes more ps left span read h = ended run chars held ps (of_wrong bytes) more left read h.0 h.1 (by_bytes kind.Other of_wrong_byte (λ r b. (refl, refl)) bytes ps run span)
+spanned kind.Str run chars held bytes more ps left span read h =
+    ended run chars held ps (of_string bytes) more left read h.0 h.1 (by_bytes kind.Str of_string_byte (λ r b. (refl, refl)) bytes ps run span)
+spanned kind.Other run chars held bytes more ps left span read h =
+    ended run chars held ps (of_wrong bytes) more left read h.0 h.1 (by_bytes kind.Other of_wrong_byte (λ r b. (refl, refl)) bytes ps run span)
 
 -- ---- one behind the other
 
@@ -147,7 +153,8 @@ to_span m n a t u k held between left bytes behind span rest old now new more (s
 )
 
 -- with other bytes behind
-goes_more : (m n : Mode) (t u : Bool) (run chars first left held second : List ℕ) (one : List Step) → Goes m t run chars first one left n u held → Goes m t run chars (first ++ second) one (left ++ second) n u held
+goes_more : (m n : Mode) (t u : Bool) (run chars first left held second : List ℕ) (one : List Step) → Goes m t run chars first one left n u held
+    → Goes m t run chars (first ++ second) one (left ++ second) n u held
 goes_more m n t u run chars first left held second one g = record {
   parts = g.parts;
   before = g.before;

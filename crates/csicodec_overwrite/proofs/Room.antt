@@ -12,7 +12,9 @@ use Rattle.csicodec_overwrite.specs.declared.pen.Pen.{Pen}
 use Rattle.csicodec_overwrite.specs.declared.step.Step.{Step}
 use Rattle.csicodec_overwrite.specs.declared.step.Step.TheVariants as step
 use Rattle.csicodec_overwrite.specs.Cells.{begins_behind, belongs, columns, emptied, erased, glyph, gone, narrowed, onto, outside, takes, to_tab_stop, width, without}
-use Rattle.csicodec_overwrite.specs.Line.{Done, back, behind_columns, blank, cells_of, do_all, does, done, fits, forward, from_stop, in_row, is_row, leave, line, lines_of, over, padded, parted, pen_behind, placed, placed_in, put, repeat, repeated, restored, size, target, to_stop, widest}
+use Rattle.csicodec_overwrite.specs.Line.{Done, back, behind_columns, blank, cells_of, do_all, does, done, fits, forward}
+use Rattle.csicodec_overwrite.specs.Line.{from_stop, in_row, is_row, leave, line, lines_of, over, padded, parted}
+use Rattle.csicodec_overwrite.specs.Line.{pen_behind, placed, placed_in, put, repeat, repeated, restored, size, target, to_stop, widest}
 use Rattle.csicodec_overwrite.proofs.Moved.{narrow_few, takes_few}
 
 -- either way of a test
@@ -91,11 +93,15 @@ parted_less l =
 
 back_size : (n : ℕ) (left right : List Cell) → size (back n left right) ≡ length left + length right
 back_size n [] right = omega arith
-back_size n (x ∷ left) right = always (λ (m : Line). size m ≡ suc (length left) + length right) (n == 0) (line (x ∷ left) right) (back (n - takes x) left (x ∷ right)) (omega arith) (omega (arith, back_size (n - takes x) left (x ∷ right)))
+back_size n (x ∷ left) right =
+    always (λ (m : Line). size m ≡ suc (length left) + length right) (n == 0) (line (x ∷ left) right) (back (n - takes x) left (x ∷ right))
+    (omega arith) (omega (arith, back_size (n - takes x) left (x ∷ right)))
 
 over_size : (n : ℕ) (left right : List Cell) → size (over n left right) ≡ length left + length right
 over_size n left [] = omega arith
-over_size n left (x ∷ right) = always (λ (m : Line). size m ≡ length left + suc (length right)) (nat_lt n (takes x)) (line left (x ∷ right)) (over (n - takes x) (x ∷ left) right) (omega arith) (omega (arith, over_size (n - takes x) (x ∷ left) right))
+over_size n left (x ∷ right) =
+    always (λ (m : Line). size m ≡ length left + suc (length right)) (nat_lt n (takes x)) (line left (x ∷ right))
+    (over (n - takes x) (x ∷ left) right) (omega arith) (omega (arith, over_size (n - takes x) (x ∷ left) right))
 
 module _ (limit : ℕ) (enough : 8 ≤ limit) where
   padded_size : (n : ℕ) (l : Line) → size l ≤ limit → size (padded limit n l) ≤ limit
@@ -125,7 +131,8 @@ module _ (limit : ℕ) (enough : 8 ≤ limit) where
   put_size : (inserts : Bool) (g : Glyph) (l : Line) → size (put limit inserts g l).line ≤ limit
   put_size inserts g l =
       let w = width g.char (columns l.left) in
-      either (λ (d : Done). size d.line ≤ limit) (fits limit w l) (done [] (placed inserts g w l)) (done (cells_of l ∷ []) (placed inserts g (width g.char 0) blank)) (λ e. omega (arith, placed_size inserts g w l, fits_size w l e))
+      either (λ (d : Done). size d.line ≤ limit) (fits limit w l) (done [] (placed inserts g w l))
+      (done (cells_of l ∷ []) (placed inserts g (width g.char 0) blank)) (λ e. omega (arith, placed_size inserts g w l, fits_size w l e))
       (λ e. omega (arith, placed_size inserts g (width g.char 0) blank, first_width g.char, enough))
 
   repeat_size : (inserts : Bool) (g : Glyph) (n : ℕ) (l : Line) → size l ≤ limit → size (repeat limit inserts g n l).line ≤ limit
@@ -140,7 +147,9 @@ module _ (limit : ℕ) (enough : 8 ≤ limit) where
   behind_size n l h = forward_size n (line [] (onto l.left l.right)) (omega (arith, moved l.left l.right, h))
 
   restored_size : (pen : Pen) (l : Line) → size l ≤ limit → size (restored limit pen l).line ≤ limit
-  restored_size pen l h = always (λ (d : Done). size d.line ≤ limit) pen.here (done [] (behind_columns limit pen.saved l)) (done (lines_of l) (forward limit (min pen.saved (widest - 1)) blank)) (behind_size pen.saved l h)
+  restored_size pen l h =
+      always (λ (d : Done). size d.line ≤ limit) pen.here (done [] (behind_columns limit pen.saved l))
+      (done (lines_of l) (forward limit (min pen.saved (widest - 1)) blank)) (behind_size pen.saved l h)
       (forward_size (min pen.saved (widest - 1)) blank (omega arith))
 
   in_row_size : (to : Option ℕ) (l : Line) → size l ≤ limit → size (in_row limit to l) ≤ limit
@@ -148,12 +157,15 @@ module _ (limit : ℕ) (enough : 8 ≤ limit) where
   in_row_size (Some n) l h = behind_size (n - 1) l h
 
   placed_in_size : (pen : Pen) (row : ℕ) (to : Option ℕ) (l : Line) → size l ≤ limit → size (placed_in limit pen row to l).line ≤ limit
-  placed_in_size pen row to l h = always (λ (d : Done). size d.line ≤ limit) (is_row pen.row row) (done [] (in_row limit to l)) (leave limit to l) (in_row_size to l h) (forward_size (target to l) blank (omega arith))
+  placed_in_size pen row to l h =
+      always (λ (d : Done). size d.line ≤ limit) (is_row pen.row row) (done [] (in_row limit to l)) (leave limit to l) (in_row_size to l h) (forward_size (target to l) blank (omega arith))
 
   does_size : (pen : Pen) (s : Step) (l : Line) → size l ≤ limit → size (does limit pen s l).line ≤ limit
   does_size pen (step.Put c) l h = put_size pen.inserts (glyph c pen.look) l
   does_size pen (step.Repeat n) l h = repeated_size pen pen.last n l h
-  does_size pen step.Tab l h = always (λ (d : Done). size d.line ≤ limit) (length l.right == 0) (put limit pen.inserts (glyph 9 pen.look) l) (done [] (forward limit (to_tab_stop (columns l.left)) l)) (put_size pen.inserts (glyph 9 pen.look) l)
+  does_size pen step.Tab l h =
+      always (λ (d : Done). size d.line ≤ limit) (length l.right == 0) (put limit pen.inserts (glyph 9 pen.look) l)
+      (done [] (forward limit (to_tab_stop (columns l.left)) l)) (put_size pen.inserts (glyph 9 pen.look) l)
       (forward_size (to_tab_stop (columns l.left)) l h)
   does_size pen (step.Tabs n) l h = forward_size (to_stop n (columns l.left)) l h
   does_size pen (step.TabsBack n) l h = omega (arith, back_size (from_stop n (columns l.left)) l.left l.right)

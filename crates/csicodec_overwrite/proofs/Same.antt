@@ -79,8 +79,11 @@ look_first : (l : Look) (more : List ℕ) → IsInRange l → IsFirstPart longes
 unfolding look_text
 look_first l more h =
     let t = look_text l in
-    let o = look_of_one l h in
-    (refl, subst (λ (f : Answer). Allows f longest (t ++ more) kind.Csi t mode.Text) (sym (opens mode.Text (48 ∷ ((flat_map further (attributes l) ++ 109 ∷ []) ++ more)))) ((o.0, o.1, o.2), look_fits l h, refl))
+    let o = look_of_one l h in (
+      refl,
+      subst (λ (f : Answer). Allows f longest (t ++ more) kind.Csi t mode.Text)
+          (sym (opens mode.Text (48 ∷ ((flat_map further (attributes l) ++ 109 ∷ []) ++ more)))) ((o.0, o.1, o.2), look_fits l h, refl),
+    )
 
 first_parts : (ps : List Piece) → AreSafe ps → AreFirstParts longest mode.Text (pieces_text ps) (parts_of ps) [] mode.Text
 first_parts [] h = (refl, refl)
@@ -178,10 +181,12 @@ cells_text (cell ∷ cells) look =
     let ones = map One (chars_of cell) in
     let later = of_cells next cells in
     both_text (turned look next) (ones ++ later) ∙ ap (λ (t : List ℕ). t ++ pieces_text (ones ++ later)) (turned_text look next)
-    ∙ ap (λ (t : List ℕ). turn Styled look next ++ t) (both_text ones later ∙ ap (λ (t : List ℕ). t ++ pieces_text later) (ones_text (chars_of cell)) ∙ ap (λ (t : List ℕ). encode_utf8_all (chars_of cell) ++ t) (cells_text cells next))
+    ∙ ap (λ (t : List ℕ). turn Styled look next ++ t)
+    (both_text ones later ∙ ap (λ (t : List ℕ). t ++ pieces_text later) (ones_text (chars_of cell)) ∙ ap (λ (t : List ℕ). encode_utf8_all (chars_of cell) ++ t) (cells_text cells next))
 
 line_text : (cells : List Cell) → pieces_text (of_line cells) ≡ ended Styled cells
-line_text cells = both_text (of_cells plain cells) (One 10 ∷ []) ∙ ap (λ (t : List ℕ). t ++ pieces_text (One 10 ∷ [])) (cells_text cells plain) ∙ ap (λ (t : List ℕ). paint Styled plain cells ++ t) newline
+line_text cells =
+    both_text (of_cells plain cells) (One 10 ∷ []) ∙ ap (λ (t : List ℕ). t ++ pieces_text (One 10 ∷ [])) (cells_text cells plain) ∙ ap (λ (t : List ℕ). paint Styled plain cells ++ t) newline
 
 lines_text : (lines : List (List Cell)) → pieces_text (flat_map of_line lines) ≡ texts_of Styled lines
 lines_text [] = refl
@@ -222,13 +227,15 @@ cells_chars (cell ∷ cells) look =
 lines_chars : (lines : List (List Cell)) → chars_in (flat_map of_line lines) ≡ flat_map line_chars lines
 lines_chars [] = refl
 lines_chars (x ∷ xs) =
-    both_chars (of_line x) (flat_map of_line xs) ∙ ap (λ (t : List ℕ). t ++ chars_in (flat_map of_line xs)) (both_chars (of_cells plain x) (One 10 ∷ []) ∙ ap (λ (t : List ℕ). t ++ 10 ∷ []) (cells_chars x plain))
+    both_chars (of_line x) (flat_map of_line xs)
+    ∙ ap (λ (t : List ℕ). t ++ chars_in (flat_map of_line xs)) (both_chars (of_cells plain x) (One 10 ∷ []) ∙ ap (λ (t : List ℕ). t ++ 10 ∷ []) (cells_chars x plain))
     ∙ ap (λ (t : List ℕ). line_chars x ++ t) (lines_chars xs)
 
 all_chars : (d : Done) → chars_in (of_all d) ≡ chars_by d
 all_chars d =
     let last = of_cells plain (cells_of d.line) in
-    both_chars (flat_map of_line d.lines) last ∙ ap (λ (t : List ℕ). t ++ chars_in last) (lines_chars d.lines) ∙ ap (λ (t : List ℕ). flat_map line_chars d.lines ++ t) (cells_chars (cells_of d.line) plain)
+    both_chars (flat_map of_line d.lines) last ∙ ap (λ (t : List ℕ). t ++ chars_in last) (lines_chars d.lines)
+    ∙ ap (λ (t : List ℕ). flat_map line_chars d.lines ++ t) (cells_chars (cells_of d.line) plain)
 
 -- ---- they are safe
 

@@ -1,5 +1,6 @@
 -- Plain text of which each line has room stays as it is.
-use Rattle.std.proofs.Common.{◌≡◌, ◌≤◌, ◌⊎◌, ℕ, ◌+◌, ◌-◌, zero, suc, Bool, true, false, cond, List, [], ◌∷◌, ◌++◌, length, replicate, encode_utf8_all, refl, sym, ap, subst, ◌∙◌, inl, inr, ⊎_elim, append_assoc, append-nil, arith}
+use Rattle.std.proofs.Common.{◌≡◌, ◌≤◌, ◌⊎◌, ℕ, ◌+◌, ◌-◌, zero, suc, Bool, true, false, cond, List, [], ◌∷◌, ◌++◌, length}
+use Rattle.std.proofs.Common.{replicate, encode_utf8_all, refl, sym, ap, subst, ◌∙◌, inl, inr, ⊎_elim, append_assoc, append-nil, arith}
 use Rattle.std.specs.Prelude.{◌==◌, max, nat_le}
 use Rattle.std.specs.List.{AllByRecursion, flat_map}
 use Rattle.std.proofs.lemmas.Bool.{eqb-true}
@@ -112,7 +113,8 @@ put_cells limit g left h =
     by (nat_le ((length left + 0) + max w 1) limit) (has_room (length left) (max w 1) limit h) ∙ ap (done []) (placed_cells g w left)
   where
     by : (t : Bool) → t ≡ true
-        → cond t (done [] (placed false g (width g.char (columns left)) (line left []))) (done (cells_of (line left []) ∷ []) (placed false g (width g.char 0) blank)) ≡ done [] (placed false g (width g.char (columns left)) (line left []))
+        → cond t (done [] (placed false g (width g.char (columns left)) (line left []))) (done (cells_of (line left []) ∷ []) (placed false g (width g.char 0) blank))
+        ≡ done [] (placed false g (width g.char (columns left)) (line left []))
     by t e = rw e refl
 
 -- ---- the steps of plain text
@@ -145,7 +147,8 @@ puts pen c h = by (c == 10) (c == 13) (c == 8) (c == 9) (shown c) refl refl refl
     by true return back tab shows e f g i k = inl (e, rw e refl)
     by false true back tab shows e f g i k = absurd (not_shown c 13 (eqb-true c 13 f) refl h)
     by false false true tab shows e f g i k = absurd (not_shown c 8 (eqb-true c 8 g) refl h)
-    by false false false true shows e f g i k = inr (e, (step.Tab, rw (e, f, g, i) refl, λ column. refl, λ limit left. ap (λ (d : ℕ). put limit pen.inserts (glyph d pen.look) (line left [])) (sym (eqb-true c 9 i))))
+    by false false false true shows e f g i k =
+        inr (e, (step.Tab, rw (e, f, g, i) refl, λ column. refl, λ limit left. ap (λ (d : ℕ). put limit pen.inserts (glyph d pen.look) (line left [])) (sym (eqb-true c 9 i))))
     by false false false false true e f g i k = inr (e, (step.Put c, put_of c e f g i k, λ column. refl, λ limit left. refl))
     by false false false false false e f g i k = absurd (let j : shown c ≡ true = h in cc)
 
@@ -193,7 +196,8 @@ stays limit pen (c ∷ cs) left over full all room = ⊎_elim
 
 pub of_singles : (bs run : List ℕ) → AreOfParts run (singles kind.Text bs) [] (run ++ bs)
 of_singles [] run = (refl, append-nil run)
-of_singles (b ∷ bs) run = ([], run ++ b ∷ [], [], (refl, refl), refl, subst (λ (r : List ℕ). AreOfParts (run ++ b ∷ []) (singles kind.Text bs) [] r) (append_assoc run (b ∷ []) bs) (of_singles bs (run ++ b ∷ [])))
+of_singles (b ∷ bs) run =
+    ([], run ++ b ∷ [], [], (refl, refl), refl, subst (λ (r : List ℕ). AreOfParts (run ++ b ∷ []) (singles kind.Text bs) [] r) (append_assoc run (b ∷ []) bs) (of_singles bs (run ++ b ∷ [])))
 
 plain_steps : (text : List ℕ) → IsPlain text → Steps text (of_run text)
 plain_steps text p = record {
@@ -212,7 +216,8 @@ plain_overwritten : (text : List ℕ) (p : IsPlain text) → HasRoom most 0 0 p.
 plain_overwritten text (cs, scalars, all, e) room = record {
   steps = of_run text;
   read = plain_steps text (cs, scalars, all, e);
-  all = e ∙ ap encode_utf8_all (sym (ap (λ (xs : List ℕ). chars_by (do_all most fresh (of_chars xs) blank)) (ap lossy_chars e ∙ lossy_chars-encode cs scalars) ∙ stays most fresh cs [] refl tt all room))
+  all =
+      e ∙ ap encode_utf8_all (sym (ap (λ (xs : List ℕ). chars_by (do_all most fresh (of_chars xs) blank)) (ap lossy_chars e ∙ lossy_chars-encode cs scalars) ∙ stays most fresh cs [] refl tt all room))
       ∙ sym (shown_plain (do_all most fresh (of_run text) blank));
 }
 

@@ -105,14 +105,16 @@ pub narrow : (c column : ℕ) → 32 ≤ c → c < 127 → width c column ≡ 1
 unfolding char_width
 narrow c column low high = by (c == 9) (nat_lt c 127) (nat_le 32 c) (grind (arith, nat_tests)) (grind (arith, nat_tests)) (grind (arith, nat_tests))
   where
-    by : (t u v : Bool) → t ≡ false → u ≡ true → v ≡ true → cond t (to_tab_stop column) (narrowed (unwrap_or (cond u (cond v (Some 1) None) (cond (nat_le 160 c) (Some (char_alone false c).0) None)) 0)) ≡ 1
+    by : (t u v : Bool) → t ≡ false → u ≡ true → v ≡ true
+        → cond t (to_tab_stop column) (narrowed (unwrap_or (cond u (cond v (Some 1) None) (cond (nat_le 160 c) (Some (char_alone false c).0) None)) 0)) ≡ 1
     by t u v e f g = rw (e, f, g) refl
 
 goes : (limit : ℕ) (pen : Pen) (c : ℕ) (l : Line) → GoesBehind limit pen c l → put limit pen.inserts (glyph c pen.look) l ≡ done [] (line (Char (glyph c pen.look) ∷ l.left) [])
 goes limit pen c l (low, high, over, none, few) =
     let g = glyph c pen.look in
     let one = narrow c (columns l.left) low high in
-    ap (λ (b : Bool). put limit b g l) over ∙ ap (λ (right : List Cell). put limit false g (line l.left right)) none ∙ put_cells limit g l.left (omega (arith, one, few)) ∙ ap (λ (n : ℕ). done [] (line (cells g n l.left) [])) one
+    ap (λ (b : Bool). put limit b g l) over ∙ ap (λ (right : List Cell). put limit false g (line l.left right)) none
+    ∙ put_cells limit g l.left (omega (arith, one, few)) ∙ ap (λ (n : ℕ). done [] (line (cells g n l.left) [])) one
 
 goes_pen : (limit : ℕ) (pen : Pen) (c : ℕ) (l : Line) → GoesBehind limit pen c l → record pen { last = Some c } ≡ pen_behind pen (step.Put c) (columns l.left)
 goes_pen limit pen c l (low, high, over, none, few) = ap (λ (n : ℕ). record pen { last = cond (n == 0) pen.last (Some c) }) (sym (narrow c 0 low high))
@@ -131,7 +133,8 @@ module _ (limit : ℕ) (first : Pen) (blank : Line) (text : List ℕ) (pen : Pen
       let behind : GoesBehind limit pen c l = (grind (arith, nat_tests), grind (arith, nat_tests), over, none, few) in
       let of = put_step c is (λ tab. absurd (let yes : (9 == 9) ≡ false = subst (λ (x : ℕ). (x == 9) ≡ false) tab other in cc)) in
       let next = pen_behind pen (step.Put c) (columns l.left) in
-      let one : put limit pen.inserts (glyph c pen.look) l ≡ done [] m = goes limit pen c l behind ∙ ap (λ (right : List Cell). done [] (line (Char (glyph c pen.look) ∷ l.left) right)) (sym none) ∙ ap (done []) (sym e) in
+      let one : put limit pen.inserts (glyph c pen.look) l ≡ done [] m =
+      goes limit pen c l behind ∙ ap (λ (right : List Cell). done [] (line (Char (glyph c pen.look) ∷ l.left) right)) (sym none) ∙ ap (done []) (sym e) in
       record {
         plain = run.plain.1;
         fewer = omega (arith, run.fewer);

@@ -38,7 +38,8 @@ lines_on limit (x ∷ xs) ys pen l =
 
 -- all that they show
 pub shown_on : (marking : Marking) (limit : ℕ) (xs ys : List Step) (pen : Pen) (l : Line)
-    → shown_by marking (do_all limit pen (xs ++ ys) l) ≡ texts_of marking (do_all limit pen xs l).lines ++ shown_by marking (do_all limit (pen_behind_all limit pen xs l) ys (do_all limit pen xs l).line)
+    → shown_by marking (do_all limit pen (xs ++ ys) l)
+    ≡ texts_of marking (do_all limit pen xs l).lines ++ shown_by marking (do_all limit (pen_behind_all limit pen xs l) ys (do_all limit pen xs l).line)
 shown_on marking limit xs ys pen l =
     let first = (do_all limit pen xs l).lines in
     let later = do_all limit (pen_behind_all limit pen xs l) ys (do_all limit pen xs l).line in
@@ -66,9 +67,13 @@ passes_on old mid new first second one two p q =
     record {
       steps = steps;
       reads = reads_on old.reader mid.reader new.reader first second p.steps q.steps p.reads q.reads;
-      pen = q.pen ∙ ap (λ (pen : Pen). pen_behind_all most pen q.steps mid.line) p.pen ∙ ap (λ (l : Line). pen_behind_all most behind q.steps l) p.line ∙ sym (pen_on most p.steps q.steps old.pen old.line);
+      pen =
+          q.pen ∙ ap (λ (pen : Pen). pen_behind_all most pen q.steps mid.line) p.pen ∙ ap (λ (l : Line). pen_behind_all most behind q.steps l) p.line
+          ∙ sym (pen_on most p.steps q.steps old.pen old.line);
       marking = q.marking ∙ p.marking;
-      line = q.line ∙ ap (λ (pen : Pen). (do_all most pen q.steps mid.line).line) p.pen ∙ ap (λ (l : Line). (do_all most behind q.steps l).line) p.line ∙ sym (line_on most p.steps q.steps old.pen old.line);
+      line =
+          q.line ∙ ap (λ (pen : Pen). (do_all most pen q.steps mid.line).line) p.pen ∙ ap (λ (l : Line). (do_all most behind q.steps l).line) p.line
+          ∙ sym (line_on most p.steps q.steps old.pen old.line);
       all = ap (λ (t : List ℕ). t ++ two) p.all ∙ ap (λ (t : List ℕ). texts_of old.marking now.lines ++ t) text ∙ sym (texts_on old.marking now.lines later.lines)
           ∙ ap (texts_of old.marking) (sym (lines_on most p.steps q.steps old.pen old.line));
     }
@@ -77,7 +82,8 @@ pub goes : (old new : Now) (bytes text : List ℕ) → Passes old bytes text new
 goes old new bytes text q first read written p = passes_on first old new read bytes written text p q
 
 -- what is taken in front, and then of the rest
-pub front_on : (old mid new : Now) (bytes between rest before now after : List ℕ) → PassesFront old bytes between mid before now → PassesFront mid between rest new now after → PassesFront old bytes rest new before after
+pub front_on : (old mid new : Now) (bytes between rest before now after : List ℕ) → PassesFront old bytes between mid before now
+    → PassesFront mid between rest new now after → PassesFront old bytes rest new before after
 front_on old mid new bytes between rest before now after (front, text, split, passes, out) (here, more, next, then, longer) = (
   front ++ here,
   text ++ more,
@@ -117,13 +123,16 @@ begins marking AreAll bytes sent (unsent, h) = ⊎_elim
 
 -- ---- what is appended
 
-pub pushed : (old new : Now) (bytes : List ℕ) (steps : List Step) (before after : List ℕ) → Reads old.reader bytes steps new.reader → new.pen ≡ pen_behind_all most old.pen steps old.line → new.marking ≡ old.marking
-    → new.line ≡ (do_all most old.pen steps old.line).line → after ≡ before ++ texts_of old.marking (do_all most old.pen steps old.line).lines → (text : List ℕ) × Passes old bytes text new × (after ≡ before ++ text)
+pub pushed : (old new : Now) (bytes : List ℕ) (steps : List Step) (before after : List ℕ) → Reads old.reader bytes steps new.reader
+    → new.pen ≡ pen_behind_all most old.pen steps old.line → new.marking ≡ old.marking
+    → new.line ≡ (do_all most old.pen steps old.line).line → after ≡ before ++ texts_of old.marking (do_all most old.pen steps old.line).lines
+    → (text : List ℕ) × Passes old bytes text new × (after ≡ before ++ text)
 pushed old new bytes steps before after reads pen marking line out =
     (texts_of old.marking (do_all most old.pen steps old.line).lines, record { steps = steps; reads = reads; pen = pen; marking = marking; line = line; all = refl }, out)
 
 pub finished : (last : Now) (steps : List Step) (line : Line) (before now after : List ℕ) → steps ≡ of_run last.reader.held → line ≡ (do_all most last.pen steps last.line).line
-    → now ≡ before ++ texts_of last.marking (do_all most last.pen steps last.line).lines → after ≡ now ++ text_of last.marking (cells_of line) → (rest : List ℕ) × Ending last rest × (after ≡ before ++ rest)
+    → now ≡ before ++ texts_of last.marking (do_all most last.pen steps last.line).lines → after ≡ now ++ text_of last.marking (cells_of line)
+    → (rest : List ℕ) × Ending last rest × (after ≡ before ++ rest)
 finished last steps line before now after held same out shown =
     let d = do_all most last.pen steps last.line in
     let over = texts_of last.marking d.lines in (
@@ -135,11 +144,14 @@ finished last steps line before now after held same out shown =
 
 -- ---- chunks in turn
 
-taken_on : (first old last : Now) (bytes text : List ℕ) (chunks : List (List ℕ)) (more : List ℕ) → Passes first bytes text old → AreTaken old chunks more last → Passes first (bytes ++ concat chunks) (text ++ more) last
+taken_on : (first old last : Now) (bytes text : List ℕ) (chunks : List (List ℕ)) (more : List ℕ) → Passes first bytes text old
+    → AreTaken old chunks more last → Passes first (bytes ++ concat chunks) (text ++ more) last
 taken_on first old last bytes text [] more p (none, same) = rw (none, same, append-nil bytes, append-nil text) p
 taken_on first old last bytes text (chunk ∷ chunks) more p (mid, one, others, goes, e, rest) =
     let all = taken_on first mid last (bytes ++ chunk) (text ++ one) chunks others (goes first bytes text p) rest in
     rw (← append_assoc bytes chunk (concat chunks), e, ← append_assoc text one others) all
 
-pub any_chunks : (marking : Marking) (chunks : List (List ℕ)) (text rest : List ℕ) (last : Now) → AreTaken (begun_as marking) chunks text last → Ending last rest → Shows marking (concat chunks) (text ++ rest)
-any_chunks marking chunks text rest last taken ending = shows marking (concat chunks) text rest last (taken_on (begun_as marking) (begun_as marking) last [] [] chunks text (passes_none (begun_as marking) refl) taken) ending
+pub any_chunks : (marking : Marking) (chunks : List (List ℕ)) (text rest : List ℕ) (last : Now) → AreTaken (begun_as marking) chunks text last
+    → Ending last rest → Shows marking (concat chunks) (text ++ rest)
+any_chunks marking chunks text rest last taken ending =
+    shows marking (concat chunks) text rest last (taken_on (begun_as marking) (begun_as marking) last [] [] chunks text (passes_none (begun_as marking) refl) taken) ending

@@ -136,7 +136,7 @@ pub(crate) fn append_front<'a>(
         rest = behind;
         let (sequence, others) = rest.split_at(style_len(rest));
         if !turn_bytes(reader, steps, &mut now, sequence)? {
-            return Ok(Front { rest, last, now });
+            return Ok(LineFront { rest, last, now });
         }
         rest = others;
     }

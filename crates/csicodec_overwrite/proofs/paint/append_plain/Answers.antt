@@ -11,5 +11,6 @@ loop-cell-preserved c =
     let others = flat_map chars_of c.in-Some.behind.now in
     record {
       text = ap (λ t. t ++ encode_utf8_all others) c.in_ok-append_cell.ensures ∙ append_assoc l.out.items (encode_utf8_all (chars_of cell)) (encode_utf8_all others)
-          ∙ ap (λ t. l.out.items ++ t) (sym (encoded_on (chars_of cell) others)) ∙ ap (λ cells. l.out.items ++ encode_utf8_all (flat_map chars_of cells)) (sym c.in-Some.ensures.cases.0) ∙ l.invariant.text;
+          ∙ ap (λ t. l.out.items ++ t) (sym (encoded_on (chars_of cell) others))
+          ∙ ap (λ cells. l.out.items ++ encode_utf8_all (flat_map chars_of cells)) (sym c.in-Some.ensures.cases.0) ∙ l.invariant.text;
     }

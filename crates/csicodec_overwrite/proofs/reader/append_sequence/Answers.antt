@@ -8,5 +8,8 @@ pub returns : goal.returns
 returns c =
     let actions = map action_of c.terminal_actions_into.new.actions.items in
     let told : map action_of c.deref.result.now ≡ actions = ap (map action_of) c.deref.ensures.value in
-    let old = c.args.steps.now.items in
-    (actions, c.in_ok-terminal_actions_into.ensures, c.in_ok-push.ensures.items ∙ ap (λ t. t ++ step.Other ∷ []) (c.in_ok-append_actions.ensures ∙ ap (λ all. old ++ of_actions all) told) ∙ append_assoc old (of_actions actions) (step.Other ∷ []))
+    let old = c.args.steps.now.items in (
+      actions,
+      c.in_ok-terminal_actions_into.ensures,
+      c.in_ok-push.ensures.items ∙ ap (λ t. t ++ step.Other ∷ []) (c.in_ok-append_actions.ensures ∙ ap (λ all. old ++ of_actions all) told) ∙ append_assoc old (of_actions actions) (step.Other ∷ []),
+    )

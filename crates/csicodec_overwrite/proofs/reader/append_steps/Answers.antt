@@ -17,7 +17,9 @@ loop-span-preserved c =
     let (more, given, longer) = c.in_ok-append_span.ensures.given in
     rw c.title_behind.ensures (record {
       parts = behind_both c.args.bytes.now l.invariant.parts.0 behind span.bytes.now left.rest.now l.invariant.parts.1 split;
-      goes = to_span c.args.mode l.cutter.mode left.mode c.args.titled.now l.titled span.kind c.args.held.now.items l.held.items c.append_span.new.held.items c.args.bytes.now behind span.bytes.now left.rest.now c.args.steps.now.items
+      goes =
+          to_span c.args.mode l.cutter.mode left.mode c.args.titled.now l.titled span.kind c.args.held.now.items l.held.items
+          c.append_span.new.held.items c.args.bytes.now behind span.bytes.now left.rest.now c.args.steps.now.items
           l.steps.items c.append_span.new.steps.items more l.invariant.goes found (rw c.read_as-kind.ensures at given) longer;
       short = λ _. c.in_ok-append_span.ensures.short;
     })

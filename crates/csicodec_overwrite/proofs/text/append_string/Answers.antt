@@ -9,4 +9,7 @@ loop-byte-preserved c =
     let bytes = c.args.bytes.now in
     let b = get_or bytes i 0 in
     let taken : take (i + 1) bytes ≡ take i bytes ++ b ∷ [] = search (rules, take_more) in
-    rw taken (record { steps = string_on b (take i bytes) c.args.steps.now.items c.loop-byte.steps.items c.append_string_byte.new.steps.items c.loop-byte.invariant.steps c.in_ok-append_string_byte.ensures })
+    rw taken (record {
+      steps = string_on b (take i bytes) c.args.steps.now.items c.loop-byte.steps.items c.append_string_byte.new.steps.items
+          c.loop-byte.invariant.steps c.in_ok-append_string_byte.ensures;
+    })

@@ -10,7 +10,8 @@ invariant_of-self c = bare_kept c.self.inside.bare c.truncate.new.self.items (c.
 pub invariant_of-self-2 : goal.invariant_of-self-2
 invariant_of-self-2 c =
     let less : c.saturating_sub-others.result ≡ c.self.inside.width - c.self.inside.bare = search rules in
-    let e : reverse c.self-2.inside.cells.items ≡ replicate c.self.inside.width Empty = emptied_all c.self.inside.bare c.self.inside.width c.self.inside.cells.items c.truncate.new.self.items _ c.self.invariant.0 c.self.invariant.1 c.truncate.ensures.items
+    let e : reverse c.self-2.inside.cells.items ≡ replicate c.self.inside.width Empty =
+    emptied_all c.self.inside.bare c.self.inside.width c.self.inside.cells.items c.truncate.new.self.items _ c.self.invariant.0 c.self.invariant.1 c.truncate.ensures.items
     (c.self-2.view_is ∙ c.in_ok-push_empty.ensures ∙ ap (λ n. replicate n Empty ++ reverse c.truncate.new.self.items) less) in
     (c.self-2.invariant.0, whole_bare c.self.inside.width c.self-2.inside.cells.items e)
 
@@ -18,4 +19,5 @@ pub returns : goal.returns
 returns c =
     let less : c.saturating_sub-others.result ≡ c.self.inside.width - c.self.inside.bare = search rules in
     emptied_all c.self.inside.bare c.self.inside.width c.self.inside.cells.items c.truncate.new.self.items _ c.self.invariant.0 c.self.invariant.1 c.truncate.ensures.items
-    (c.self-2.view_is ∙ c.in_ok-push_empty.ensures ∙ ap (λ n. replicate n Empty ++ reverse c.truncate.new.self.items) less) ∙ ap (λ n. replicate n Empty) (c.self.invariant.0 ∙ ap columns c.self.view_is)
+    (c.self-2.view_is ∙ c.in_ok-push_empty.ensures ∙ ap (λ n. replicate n Empty ++ reverse c.truncate.new.self.items) less)
+    ∙ ap (λ n. replicate n Empty) (c.self.invariant.0 ∙ ap columns c.self.view_is)

@@ -13,5 +13,6 @@ returns c =
     let less : c.saturating_sub.result ≡ columns old.left - c.args.count = search rules in
     let more : c.saturating_sub-2.result ≡ c.args.count - columns old.left = search rules in
     subst (λ (l : Line). OnOk c.forward.result (c.forward.new.self ≡ l))
-    (ap (λ n. forward limit n c.back.new.self) more ∙ ap (forward limit (c.args.count - columns old.left)) (c.in_ok-back.ensures ∙ ap (λ n. back n old.left old.right) less) ∙ by_back limit c.args.count old.left old.right)
+    (ap (λ n. forward limit n c.back.new.self) more
+    ∙ ap (forward limit (c.args.count - columns old.left)) (c.in_ok-back.ensures ∙ ap (λ n. back n old.left old.right) less) ∙ by_back limit c.args.count old.left old.right)
     c.forward.ensures

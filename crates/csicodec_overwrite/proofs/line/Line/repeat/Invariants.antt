@@ -8,7 +8,8 @@ use Rattle.csicodec_overwrite.proofs.line.Line.repeat.Given as goal
 abbrev pub invariant-loop-left : goal.invariant-loop-left
 invariant-loop-left l = record {
   line : (repeat l.limit l.pen.inserts (glyph l.char l.pen.look) l.left l.self).line ≡ (repeat l.limit l.pen.inserts (glyph l.char l.pen.look) l.fn.count l.initial.self).line;
-  text : l.out.items ++ texts_of l.marking (repeat l.limit l.pen.inserts (glyph l.char l.pen.look) l.left l.self).lines ≡ l.initial.out.items ++ texts_of l.marking (repeat l.limit l.pen.inserts (glyph l.char l.pen.look) l.fn.count l.initial.self).lines;
+  text : l.out.items ++ texts_of l.marking (repeat l.limit l.pen.inserts (glyph l.char l.pen.look) l.left l.self).lines
+      ≡ l.initial.out.items ++ texts_of l.marking (repeat l.limit l.pen.inserts (glyph l.char l.pen.look) l.fn.count l.initial.self).lines;
 }
 
 abbrev pub decreases-loop-left : goal.decreases-loop-left

@@ -17,5 +17,6 @@ returns-2-clause-passes c =
     let same : c.deref.result.now ≡ steps = c.deref.ensures.value ∙ more ∙ ap (λ x. x ++ steps) c.clear.ensures.items in
     rw (← c.self.view_is)
     (pushed (record { reader = c.self.inside.reader; pen = c.self.inside.pen; marking = c.self.inside.marking; line = c.self.inside.line })
-    (record { reader = c.push.new.self; pen = c.take_all-2.new.pen; marking = c.self.inside.marking; line = c.take_all-2.new.self }) c.args.bytes.now steps c.args.out.now.items c.take_all-2.new.out.items reads
+    (record { reader = c.push.new.self; pen = c.take_all-2.new.pen; marking = c.self.inside.marking; line = c.take_all-2.new.self }) c.args.bytes.now
+    steps c.args.out.now.items c.take_all-2.new.out.items reads
     (rw same at c.in_ok-take_all-2.ensures.pen) refl (rw same at c.in_ok-take_all-2.ensures.line) (rw same at c.in_ok-take_all-2.ensures.text))

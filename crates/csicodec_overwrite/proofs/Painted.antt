@@ -1,15 +1,21 @@
 -- Cells that are painted, one after the other, and the sequence of a look, attribute by attribute.
-use Rattle.std.proofs.Common.{◌≡◌, ℕ, true, List, [], ◌∷◌, ◌++◌, refl, sym, ap, ◌∙◌, append_assoc}
+use Rattle.std.proofs.Common.{◌≡◌, ℕ, zero, suc, Bool, true, false, List, [], ◌∷◌, ◌++◌, ◌-◌, arith, length, take, ◌≤◌, encode_utf8_all, replicate, refl, sym, ap, subst, ◌∙◌, append_assoc, append-nil}
 use Rattle.std.specs.List.{flat_map}
 use Rattle.std.proofs.lemmas.Grind.{flat_map-append}
+use Rattle.std.proofs.lemmas.List.{take_all}
 use Rattle.csicodec_base.specs.declared.sgr.Sgr.{Sgr}
 use Rattle.csicodec_html.specs.declared.look.Look.{Look}
 use Rattle.csicodec_html.specs.Look.{plain}
 use Rattle.csicodec_overwrite.specs.declared.cells.Cell.{Cell}
 use Rattle.csicodec_overwrite.specs.declared.cells.Cell.TheVariants.{Behind, Char, Empty, Mark}
+use Rattle.csicodec_overwrite.specs.declared.cells.Glyph.{Glyph}
 use Rattle.csicodec_overwrite.specs.declared.marking.Marking.{Marking}
-use Rattle.csicodec_overwrite.specs.Cells.{chars_of, is_empty}
-use Rattle.csicodec_overwrite.specs.Paint.{attributes, further, look_of, look_text, paint, turn, written}
+use Rattle.csicodec_overwrite.specs.declared.marking.Marking.TheVariants.{Page, Plain, Styled}
+use Rattle.csicodec_overwrite.specs.Cells.{chars_of, glyph, is_empty}
+use Rattle.csicodec_clean.proofs.Shows.{encoded_on}
+use Rattle.csicodec_overwrite.specs.Private.Alike.{IsAlike}
+use Rattle.csicodec_overwrite.proofs.Alike.{look_one, turn_same, written_none, written_on}
+use Rattle.csicodec_overwrite.specs.Paint.{attributes, further, look_of, look_text, paint, same, turn, written}
 
 -- a cell, and then the others
 pub painted_on : (marking : Marking) (look : Look) (cell : Cell) (cells : List Cell) (old mid new whole : List ℕ) → mid ≡ old ++ turn marking look (look_of look cell)
@@ -26,6 +32,126 @@ none_set look Empty e = refl
 none_set look (Char g) e = cc
 none_set look Behind e = cc
 none_set look (Mark c) e = cc
+
+-- ---- empty cells at once
+
+empty_is : (cell : Cell) → is_empty cell ≡ true → cell ≡ Empty
+empty_is Empty e = refl
+empty_is (Char g) e = cc
+empty_is Behind e = cc
+empty_is (Mark c) e = cc
+
+pub empty_chars : (cell : Cell) → is_empty cell ≡ true → chars_of cell ≡ 32 ∷ []
+empty_chars cell e = ap chars_of (empty_is cell e)
+
+pub empty_more : (n : ℕ) (cells : List Cell) → replicate n Empty ++ (Empty ∷ cells) ≡ replicate (suc n) Empty ++ cells
+empty_more zero cells = refl
+empty_more (suc n) cells = ap (λ (t : List Cell). Empty ∷ t) (empty_more n cells)
+
+pub empty_none : (cells : List Cell) → cells ≡ replicate (length cells - length cells) Empty ++ cells
+empty_none cells = let none : 0 ≡ length cells - length cells = omega arith in ap (λ (n : ℕ). replicate n Empty ++ cells) none
+
+-- one more that is empty in front of the rest
+pub empty_on : (all rest behind : List Cell) (cell : Cell) (n m : ℕ) → all ≡ replicate n Empty ++ rest → rest ≡ cell ∷ behind → is_empty cell ≡ true → m ≡ suc n
+    → all ≡ replicate m Empty ++ behind
+empty_on all rest behind cell n m split first e more =
+    split ∙ ap (λ (t : List Cell). replicate n Empty ++ t) (first ∙ ap (λ (x : Cell). x ∷ behind) (empty_is cell e)) ∙ empty_more n behind
+    ∙ ap (λ (k : ℕ). replicate k Empty ++ behind) (sym more)
+
+pub blanks_more : (n m k : ℕ) (items new : List ℕ) → new ≡ take m items ++ replicate k 32 → length items ≤ m → k ≡ n → new ≡ items ++ replicate n 32
+blanks_more n m k items new e few some =
+    e ∙ ap (λ (t : List ℕ). t ++ replicate k 32) (take_all m items few) ∙ ap (λ (j : ℕ). items ++ replicate j 32) some
+
+space_written : (marking : Marking) → written marking (32 ∷ []) ≡ 32 ∷ []
+unfolding lib.Utf8.encode
+space_written Plain = refl
+space_written Styled = refl
+space_written (Page m) = refl
+
+pub blanks_written : (marking : Marking) (n : ℕ) → written marking (replicate n 32) ≡ replicate n 32
+blanks_written marking zero = written_none marking
+blanks_written marking (suc n) =
+    written_on marking (32 ∷ []) (replicate n 32) ∙ ap (λ (t : List ℕ). t ++ written marking (replicate n 32)) (space_written marking)
+    ∙ ap (λ (t : List ℕ). 32 ∷ t) (blanks_written marking n)
+
+-- those of one, and of those behind it
+pub blanks_alike : (marking : Marking) (cell : Cell) (k n : ℕ) (old new : List ℕ) → is_empty cell ≡ true → k ≡ suc n → new ≡ old ++ replicate k 32
+    → new ≡ old ++ written marking (chars_of cell ++ replicate n 32)
+blanks_alike marking cell k n old new empty some e =
+    e ∙ ap (λ (j : ℕ). old ++ replicate j 32) some
+    ∙ ap (λ (t : List ℕ). old ++ t) (sym (ap (λ (t : List ℕ). written marking (t ++ replicate n 32)) (empty_chars cell empty) ∙ blanks_written marking (suc n)))
+
+blanks_paint : (marking : Marking) (n : ℕ) (rest : List Cell)
+    → paint marking plain (replicate n Empty ++ rest) ≡ written marking (replicate n 32) ++ paint marking plain rest
+blanks_paint marking zero rest = ap (λ (t : List ℕ). t ++ paint marking plain rest) (sym (written_none marking))
+blanks_paint marking (suc n) rest =
+    let one = written marking (32 ∷ []) in
+    let later = paint marking plain rest in
+    ap (λ (t : List ℕ). t ++ (one ++ paint marking plain (replicate n Empty ++ rest))) (turn_same marking plain)
+    ∙ ap (λ (t : List ℕ). one ++ t) (blanks_paint marking n rest)
+    ∙ sym (append_assoc one (written marking (replicate n 32)) later)
+    ∙ ap (λ (t : List ℕ). t ++ later) (sym (written_on marking (32 ∷ []) (replicate n 32)))
+
+alike_paint : (marking : Marking) (look : Look) (cell : Cell) (rest : List Cell) (n : ℕ) (t : Bool) → is_empty cell ≡ t → (t ≡ false → n ≡ 0)
+    → paint marking (look_of look cell) (replicate n Empty ++ rest) ≡ written marking (replicate n 32) ++ paint marking (look_of look cell) rest
+alike_paint marking look cell rest n true e none =
+    subst (λ (l : Look). paint marking l (replicate n Empty ++ rest) ≡ written marking (replicate n 32) ++ paint marking l rest) (sym (none_set look cell e))
+    (blanks_paint marking n rest)
+alike_paint marking look cell rest n false e none =
+    subst (λ (k : ℕ). paint marking (look_of look cell) (replicate k Empty ++ rest) ≡ written marking (replicate k 32) ++ paint marking (look_of look cell) rest) (sym (none refl))
+    (ap (λ (t : List ℕ). t ++ paint marking (look_of look cell) rest) (sym (written_none marking)))
+
+-- a cell with the empty ones that go with it, and then the others
+pub alike_on : (marking : Marking) (look : Look) (cell : Cell) (behind rest : List Cell) (text old mid new whole : List ℕ) → IsAlike marking cell behind text rest
+    → mid ≡ old ++ turn marking look (look_of look cell) → new ≡ mid ++ text → old ++ paint marking look (cell ∷ behind) ≡ whole
+    → new ++ paint marking (look_of look cell) rest ≡ whole
+alike_on marking look cell behind rest text old mid new whole (n, split, none, is) e f h =
+    let next = look_of look cell in
+    let one = written marking (chars_of cell) in
+    let blanks = written marking (replicate n 32) in
+    let later = paint marking next rest in
+    ap (λ (t : List ℕ). t ++ later) (f ∙ ap (λ (t : List ℕ). mid ++ t) (is ∙ written_on marking (chars_of cell) (replicate n 32))
+    ∙ sym (append_assoc mid one blanks)) ∙ append_assoc (mid ++ one) blanks later
+    ∙ ap (λ (t : List ℕ). (mid ++ one) ++ t) (sym (ap (paint marking next) split ∙ alike_paint marking look cell rest n (is_empty cell) refl none))
+    ∙ painted_on marking look cell behind old mid (mid ++ one) whole e refl h
+
+pub same_glyph : (look : Look) (g : Glyph) → same look g.look ≡ true → Char g ≡ Char (glyph g.char look)
+same_glyph look g is = ap (λ (l : Look). Char (glyph g.char l)) (sym (look_one look g.look is))
+
+-- one more that looks the same
+pub same_on : (marking : Marking) (look : Look) (all cells behind : List Cell) (cell : Cell) (c : ℕ) (text old mid new : List ℕ)
+    → paint marking look all ≡ text ++ paint marking look cells → cells ≡ cell ∷ behind → cell ≡ Char (glyph c look) → mid ≡ old ++ text
+    → new ≡ mid ++ written marking (c ∷ [])
+    → (more : List ℕ) × (paint marking look all ≡ more ++ paint marking look behind) × (new ≡ old ++ more)
+same_on marking look all cells behind cell c text old mid new split first is e f =
+    let one = written marking (c ∷ []) in
+    let later = paint marking look behind in
+    let next : paint marking look cells ≡ one ++ later =
+    ap (paint marking look) first
+    ∙ ap (λ (x : Cell). paint marking look (x ∷ behind)) is
+    ∙ ap (λ (t : List ℕ). t ++ (one ++ later)) (turn_same marking look) in (
+      text ++ one,
+      split ∙ ap (λ (t : List ℕ). text ++ t) next ∙ sym (append_assoc text one later),
+      f ∙ ap (λ (t : List ℕ). t ++ one) e ∙ append_assoc old text one,
+    )
+
+pub looks_on : (marking : Marking) (look : Look) (others rest : List Cell) (text mid new whole : List ℕ) → paint marking look others ≡ text ++ paint marking look rest
+    → new ≡ mid ++ text → mid ++ paint marking look others ≡ whole → new ++ paint marking look rest ≡ whole
+looks_on marking look others rest text mid new whole split e h =
+    ap (λ (t : List ℕ). t ++ paint marking look rest) e ∙ append_assoc mid text (paint marking look rest)
+    ∙ ap (λ (t : List ℕ). mid ++ t) (sym split) ∙ h
+
+plain_paint : (look : Look) (cells : List Cell) → paint Plain look cells ≡ encode_utf8_all (flat_map chars_of cells)
+plain_paint look [] = refl
+plain_paint look (cell ∷ cells) =
+    ap (λ (t : List ℕ). encode_utf8_all (chars_of cell) ++ t) (plain_paint (look_of look cell) cells) ∙ sym (encoded_on (chars_of cell) (flat_map chars_of cells))
+
+-- the same without looks
+pub alike_plain : (cell : Cell) (behind rest : List Cell) (text old new whole : List ℕ) → IsAlike Plain cell behind text rest → new ≡ old ++ text
+    → old ++ encode_utf8_all (flat_map chars_of (cell ∷ behind)) ≡ whole → new ++ encode_utf8_all (flat_map chars_of rest) ≡ whole
+alike_plain cell behind rest text old new whole is f h =
+    ap (λ (t : List ℕ). new ++ t) (sym (plain_paint (look_of plain cell) rest))
+    ∙ alike_on Plain plain cell behind rest text old old new whole is (sym (append-nil old)) f (ap (λ (t : List ℕ). old ++ t) (plain_paint plain (cell ∷ behind)) ∙ h)
 
 -- ---- the sequence of a look
 

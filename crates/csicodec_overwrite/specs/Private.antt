@@ -3,3 +3,4 @@ pub mod Spans
 pub mod Seen
 pub mod Plain
 pub mod Front
+pub mod Alike

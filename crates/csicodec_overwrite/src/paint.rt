@@ -1,10 +1,12 @@
 //! A line as it is written: its characters alone, or with what says how they look.
-ghost use Rattle.std.specs.Prelude.{◌≡◌, ◌∷◌, ◌++◌, [], OnOk, encode_utf8_all, not, true};
+ghost use Rattle.std.specs.Prelude.{◌≡◌, ◌≤◌, ◌-◌, ◌∷◌, ◌++◌, [], ℕ, List, IfOk, IfSome, OnOk, encode_utf8, encode_utf8_all, false, length, not, replicate};
 ghost use Rattle.std.specs.List.{AllByRecursion, flat_map};
 ghost use Rattle.csicodec_clean.specs.Bytes.{IsPlainByte};
 ghost use Rattle.csicodec_html.specs.Look.{is_default, is_none, is_normal, plain};
 ghost use Rattle.csicodec_html.specs.Page.{escaped};
-ghost use Rattle.csicodec_overwrite.specs.Cells.{chars_of, is_empty};
+ghost use Rattle.csicodec_overwrite.specs.Cells.{chars_of, glyph};
+ghost use Rattle.csicodec_overwrite.specs.Private.Alike.{IsAlike};
+ghost use Rattle.csicodec_overwrite.specs.declared.cells.Cell.TheVariants.{Char, Empty};
 ghost use Rattle.csicodec_overwrite.specs.Paint.{further, given, look_of, look_text, paint, same, same_color, same_flag, same_intensity, same_underline, text_of, turn, written};
 ghost use Rattle.csicodec_overwrite.specs.declared.marking.Marking.TheVariants.{Page, Styled};
 
@@ -172,24 +174,6 @@ pub(crate) fn append_turn(
     }
 }
 
-/// The same where it may be known that they are one.
-#[inline(always)]
-fn append_turn_unless(
-    is_one: bool,
-    marking: &Marking,
-    old: &Look,
-    new: &Look,
-    out: &mut Vec<u8>,
-) -> Result<(), AllocError>
-    requires { is_one ≡ true → old.now ≡ new.now }
-    ensures { OnOk result (out.new.items ≡ out.old.items ++ turn marking.now old.now new.now) }
-{
-    if is_one {
-        return Ok(());
-    }
-    append_turn(marking, old, new, out)
-}
-
 /// How a cell looks behind others that look so; an empty one looks as `none`.
 #[inline(always)]
 fn look_of<'a>(look: &'a Look, none: &'a Look, cell: &'a Cell) -> &'a Look
@@ -201,14 +185,6 @@ fn look_of<'a>(look: &'a Look, none: &'a Look, cell: &'a Cell) -> &'a Look
         Cell::Char(glyph) => &glyph.look,
         Cell::Behind | Cell::Mark(_) => look,
     }
-}
-
-/// Whether a cell is empty, and so is the one before it.
-#[inline(always)]
-fn are_blank(is_blank: bool, cell: &Cell) -> bool
-    ensures { result ≡ true → (is_blank ≡ true) × (is_empty cell.now ≡ true) }
-{
-    is_blank && cell.is_empty()
 }
 
 /// Appends text of ASCII as it is.
@@ -254,12 +230,23 @@ fn append_char(char: char, out: &mut Vec<u8>) -> Result<(), AllocError>
     out.push_char(char)
 }
 
+/// Whether it stands on a page as a reference.
+#[inline(always)]
+fn is_marked(char: char) -> bool
+    ensures { result ≡ false → escaped char ≡ encode_utf8 char }
+{
+    matches!(char, '&' | '<' | '>' | '"' | '\'')
+}
+
 /// Appends a character as it stands on a page.
 #[inline(always)]
 fn append_reference(char: char, out: &mut Vec<u8>) -> Result<(), AllocError>
     ensures { OnOk result (out.new.items ≡ out.old.items ++ flat_map escaped (char ∷ [])) }
 {
-    csicodec_html::append_char(char, out)
+    if is_marked(char) {
+        return csicodec_html::append_char(char, out);
+    }
+    append_char(char, out)
 }
 
 /// Appends a character.
@@ -287,6 +274,53 @@ fn append_cell(marking: &Marking, cell: Cell, out: &mut Vec<u8>) -> Result<(), A
     }
 }
 
+/// What is behind the empty cells in front.
+fn behind_empty(cells: &[Cell]) -> &[Cell]
+    ensures split { cells.now ≡ replicate (length cells.now - length result.now) Empty ++ result.now }
+    ensures fewer { length result.now ≤ length cells.now }
+{
+    let mut rest = cells;
+    while let Some((cell, behind)) = rest.split_first() {
+        if !cell.is_empty() {
+            return rest;
+        }
+        rest = behind;
+    }
+    rest
+}
+
+/// Appends so many blanks.
+fn append_blanks(count: usize, out: &mut Vec<u8>) -> Result<(), AllocError>
+    ensures { OnOk result (out.new.items ≡ out.old.items ++ replicate count 32) }
+{
+    let Some(len) = out.len().checked_add(count) else {
+        return Err(AllocError);
+    };
+    out.resize(len, b' ')?;
+    Ok(())
+}
+
+/// Appends the characters of a cell, and with those of an empty one the blanks of the empty ones behind it, and answers the others.
+#[inline(always)]
+fn append_alike<'a>(
+    marking: &Marking,
+    cell: Cell,
+    behind: &'a [Cell],
+    out: &mut Vec<u8>,
+) -> Result<&'a [Cell], AllocError>
+    ensures text { IfOk result (λ rest. (text : List ℕ) × IsAlike marking.now cell behind.now text rest.now
+        × (out.new.items ≡ out.old.items ++ text)) }
+    ensures fewer { IfOk result (λ rest. length rest.now ≤ length behind.now) }
+{
+    if cell.is_empty() {
+        let rest = behind_empty(behind);
+        append_blanks(1 + (behind.len() - rest.len()), out)?;
+        return Ok(rest);
+    }
+    append_cell(marking, cell, out)?;
+    Ok(behind)
+}
+
 /// Appends the characters of cells.
 fn append_plain(cells: &[Cell], out: &mut Vec<u8>) -> Result<(), AllocError>
     ensures { OnOk result
@@ -294,27 +328,60 @@ fn append_plain(cells: &[Cell], out: &mut Vec<u8>) -> Result<(), AllocError>
 {
     let mut rest = cells;
     while let Some((cell, behind)) = rest.split_first() {
-        append_cell(&Marking::Plain, *cell, out)?;
-        rest = behind;
+        rest = append_alike(&Marking::Plain, *cell, behind, out)?;
     }
     Ok(())
 }
 
-/// The same, painted: at the end nothing is set.
+/// The character of a cell, if it has one that looks so.
+#[inline(always)]
+#[tactic(auto, using(crate::proofs::Painted::same_glyph))]
+fn char_alike(look: &Look, cell: &Cell) -> Option<char>
+    ensures { IfSome result (λ char. cell.now ≡ Char (glyph char look.now)) }
+{
+    match cell {
+        Cell::Char(glyph) if same(look, &glyph.look) => Some(glyph.char),
+        _ => None,
+    }
+}
+
+/// Appends the characters in front that look so, and answers the cells behind them.
+#[inline(never)]
+fn append_same_look<'a>(
+    marking: &Marking,
+    look: &Look,
+    cells: &'a [Cell],
+    out: &mut Vec<u8>,
+) -> Result<&'a [Cell], AllocError>
+    ensures text { IfOk result (λ rest. (text : List ℕ)
+        × (paint marking.now look.now cells.now ≡ text ++ paint marking.now look.now rest.now)
+        × (out.new.items ≡ out.old.items ++ text)) }
+    ensures fewer { IfOk result (λ rest. length rest.now ≤ length cells.now) }
+{
+    let mut rest = cells;
+    while let Some((cell, behind)) = rest.split_first() {
+        let Some(char) = char_alike(look, cell) else {
+            return Ok(rest);
+        };
+        append_written(marking, char, out)?;
+        rest = behind;
+    }
+    Ok(rest)
+}
+
+/// Appends the characters of cells, painted: at the end nothing is set.
 fn append_painted(cells: &[Cell], marking: &Marking, out: &mut Vec<u8>) -> Result<(), AllocError>
     ensures { OnOk result (out.new.items ≡ out.old.items ++ paint marking.now plain cells.now) }
 {
     let none = Look::plain();
-    let (mut now, mut is_blank) = (&none, false);
+    let mut now = &none;
     let mut rest = cells;
     while let Some((cell, behind)) = rest.split_first() {
         let next = look_of(now, &none, cell);
-        let is_one = are_blank(is_blank, cell);
-        append_turn_unless(is_one, marking, now, next, out)?;
-        append_cell(marking, *cell, out)?;
+        append_turn(marking, now, next, out)?;
+        let others = append_alike(marking, *cell, behind, out)?;
+        rest = append_same_look(marking, next, others, out)?;
         now = next;
-        is_blank = cell.is_empty();
-        rest = behind;
     }
     append_turn(marking, now, &none, out)
 }

@@ -1,25 +1,20 @@
 use Rattle.std.proofs.Common.{◌++◌, sym, ap, ◌∙◌}
 use Rattle.csicodec_html.specs.Look.{plain}
 use Rattle.csicodec_overwrite.specs.Paint.{paint}
-use Rattle.csicodec_overwrite.proofs.Painted.{none_set, painted_on}
+use Rattle.csicodec_overwrite.proofs.Painted.{alike_on, looks_on}
 use Rattle.csicodec_overwrite.proofs.paint.append_painted.Goals as goal
-
-pub append_turn_unless-requires : goal.append_turn_unless-requires
-append_turn_unless-requires c = λ one.
-    let l = c.loop-cell in
-    let (blank, empty) = c.are_blank-is_one.ensures one in
-    l.invariant.blank blank ∙ sym (c.look_of-next.ensures ∙ none_set l.now.now c.in-Some.cell.now empty)
 
 pub loop-cell-preserved : goal.loop-cell-preserved
 loop-cell-preserved c =
     let l = c.loop-cell in
     let marking = c.args.marking.now in
     let cell = c.in-Some.cell.now in
-    let behind = c.in-Some.behind.now in
-    let old = c.args.out.now.items ++ paint marking plain c.args.cells.now in
+    let whole = c.args.out.now.items ++ paint marking plain c.args.cells.now in
+    let (text, alike, out) = c.in_ok-others.ensures.text in
+    let (more, looks, then) = rw c.look_of-next.ensures at c.in_ok-rest.ensures.text in
     rw c.look_of-next.ensures (record {
-      text = painted_on marking l.now.now cell behind l.out.items c.append_turn_unless.new.out.items c.append_cell.new.out.items old
-          (rw c.look_of-next.ensures at c.in_ok-append_turn_unless.ensures) c.in_ok-append_cell.ensures
-          (ap (λ cells. l.out.items ++ paint marking l.now.now cells) (sym c.in-Some.ensures.cases.0) ∙ l.invariant.text);
-      blank = λ empty. none_set l.now.now cell (sym c.is_empty-is_blank.ensures ∙ empty);
+      text = looks_on marking _ c.in_ok-others.others.now c.in_ok-rest.rest.now more c.append_alike.new.out.items c.append_same_look.new.out.items whole looks then
+          (alike_on marking l.now.now cell c.in-Some.behind.now c.in_ok-others.others.now text l.out.items c.append_turn.new.out.items c.append_alike.new.out.items whole alike
+          (rw c.look_of-next.ensures at c.in_ok-append_turn.ensures) out
+          (ap (λ cells. l.out.items ++ paint marking l.now.now cells) (sym c.in-Some.ensures.cases.0) ∙ l.invariant.text));
     })

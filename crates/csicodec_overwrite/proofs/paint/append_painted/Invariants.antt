@@ -1,14 +1,11 @@
-use Rattle.std.proofs.Common.{◌≡◌, ◌++◌, length, true}
+use Rattle.std.proofs.Common.{◌≡◌, ◌++◌, length}
 use Rattle.csicodec_html.specs.Look.{plain}
 use Rattle.csicodec_overwrite.specs.Paint.{paint}
 use Rattle.csicodec_overwrite.proofs.paint.append_painted.Given as goal
 
 -- some are painted
 abbrev pub invariant-loop-cell : goal.invariant-loop-cell
-invariant-loop-cell l = record {
-  text : l.out.items ++ paint l.marking l.now l.rest ≡ l.initial.out.items ++ paint l.marking plain l.cells;
-  blank : l.is_blank ≡ true → l.now ≡ plain;
-}
+invariant-loop-cell l = record { text : l.out.items ++ paint l.marking l.now l.rest ≡ l.initial.out.items ++ paint l.marking plain l.cells }
 
 abbrev pub decreases-loop-cell : goal.decreases-loop-cell
 decreases-loop-cell l = length l.rest

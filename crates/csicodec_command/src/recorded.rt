@@ -1,6 +1,8 @@
 //! What the programs of a recording wrote, as a stream.
-ghost use Rattle.std.specs.Prelude.{◌≡◌, ◌∷◌, [], false, true, IfOk, IfSome, OnOk, if◌then◌else◌, option_map};
+ghost use Rattle.std.specs.Prelude.{◌≡◌, ◌≢◌, ◌∷◌, [], false, true, Err, IfErr, IfOk, IfSome, IsErr, OnErr, OnOk, if◌then◌else◌, option_map, unwrap_or};
 ghost use Rattle.std.specs.Io.KnownBytes.{Keeps};
+ghost use Rattle.csicodec_streams.specs.declared.error.RunError.{RunError};
+ghost use Rattle.csicodec_command.specs.declared.failure.Failure.TheVariants.{Run as Ran};
 ghost use Rattle.csicodec_command.specs.Recorded.{is_over, left, lines_from, lines_left, recorded, to_come};
 
 use crate::failure::Failure;
@@ -117,7 +119,13 @@ impl<R: BufRead> Recorded<R> {
     }
 
     /// How a run ended that read from here: where a read failed, with what failed it.
-    pub fn outcome(&self, ended: Result<(), Failure>) -> Result<(), Failure> {
+    pub fn outcome(&self, ended: Result<(), Failure>) -> Result<(), Failure>
+        ensures ok { OnOk ended (result ≡ ended) }
+        ensures err { OnErr ended (IsErr result) }
+        ensures read { ended ≡ Err (Ran RunError.Read)
+            → result ≡ Err (unwrap_or self.now.fault (Ran RunError.Read)) }
+        ensures other { IfErr ended (λ f. f ≢ Ran RunError.Read → result ≡ ended) }
+    {
         match (ended, self.fault) {
             (Err(Failure::Run(RunError::Read)), Some(fault)) => Err(fault),
             _ => ended,

@@ -176,7 +176,7 @@ impl Recording {
             Ok(0) => Ok(None),
             Ok(_) => match std::str::from_utf8(line.as_slice()) {
                 Ok(text) => Ok(Some(text)),
-                Err(_) => Err(self.refusal()),
+                Err(_) => Err(Failure::Recording(self.lines.saturating_add(1))),
             },
             Err(_) => Err(Failure::Run(RunError::Read)),
         }

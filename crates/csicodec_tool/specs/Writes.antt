@@ -1,5 +1,5 @@
 -- What `filter`, `compact`, `strip`, `clean` and `html` write of an input.
-use Rattle.std.specs.Prelude.{ℕ, ◌≡◌, ◌⊎◌, true, false, List, [], ◌++◌, Option, Result, Ok, OnOk, OnErr, IfSome, IsErr}
+use Rattle.std.specs.Prelude.{ℕ, ◌≡◌, ◌⊎◌, Bool, true, false, ◌||◌, List, [], ◌++◌, Option, Result, Ok, OnOk, OnErr, IfSome, IsErr, option_map}
 use Rattle.std.specs.Io.KnownBytes.{Appends}
 use Rattle.csicodec_spans.specs.declared.table.Mode.TheVariants.{Text as Plain}
 use Rattle.csicodec_streams.specs.declared.error.RunError.{RunError}
@@ -15,6 +15,7 @@ use Rattle.csicodec_html.specs.declared.markup.Markup.{Markup}
 use Rattle.csicodec_html.specs.declared.sheet.TheConstants.{BEHIND, BODY, HEAD, STYLE}
 use Rattle.csicodec_html.specs.Page.{PageWith}
 use Rattle.csicodec_html.specs.Sheet.{IsTitle, sheet}
+use Rattle.csicodec_command.specs.Recorded.{recorded}
 use Rattle.csicodec_command.specs.Runs.{StepsOf, Next, Stream, Recording, End}
 use Rattle.csicodec_tool.specs.Log.{IsLogged, IsLoggedFront, Logs, LogsSome}
 use Rattle.csicodec_tool.specs.declared.rewrite.Job.{Job}
@@ -114,11 +115,24 @@ pub record WroteBehind {A E : Type 0} (w : Work) (result : Result A E) (new : Wo
   pub wrote : OnOk headed (Wrote new result known ahead out)
   pub failed : OnErr headed (IsErr result × (out ≡ ahead))
 
+-- a page has no recordings, and where it is only checked what is plain text, none is written
+abbrev pub makes_none : Work → Bool
+makes_none work.Check = true
+makes_none (work.Html name markup overwrite fragment begun) = true
+makes_none w = false
+
+-- whether of a recording comes what becomes of its data, and no recording
+abbrev pub writes_data : Job → Bool
+writes_data job = job.text || makes_none job.work
+
 -- How the steps of a job go: nothing is done ahead of an input, a stream is written behind what stands ahead of it, and behind the last
--- input stands what ends a page. Of what is written of a recording nothing is said, but that a page has begun with it.
+-- input stands what ends a page. A recording of which no recording is made is written as the stream of its data. Where one of its lines is
+-- refused, 256 stands there, which is no byte: so nobody reads on, or to its end. Of what else is written of a recording nothing is said.
 abbrev pub JobSteps : StepsOf Job
 JobSteps (Next name) start result end = (result ≡ Ok tt) × (end ≡ start)
-JobSteps (Stream known) start result end = WroteBehind start.0.work result end.0.work known start.1 end.1
-JobSteps (Recording known) start result end = end.0.work ≡ begun_of start.0.work
+JobSteps (Stream known) start result end = (end.0.text ≡ start.0.text)
+    × WroteBehind start.0.work result end.0.work known start.1 end.1
+JobSteps (Recording known) start result end = (end.0.text ≡ start.0.text) × (end.0.work ≡ begun_of start.0.work)
+    × (writes_data start.0 ≡ true → WroteBehind start.0.work result end.0.work (option_map recorded known) start.1 end.1)
 JobSteps End start result end = (end.0 ≡ start.0) × OnOk result (IsAppended (Tails start.0.work) start.1 end.1)
     × OnErr result (IsAppended (BeginsWith (Tails start.0.work)) start.1 end.1)

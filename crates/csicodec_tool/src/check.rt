@@ -1,8 +1,8 @@
 //! Where a stream is plain text no more.
 
-use crate::rewritten_cast::{no_memory, written_of};
+use crate::rewritten_cast::no_memory;
 use csicodec_clean::{Checked, check_all};
-use csicodec_command::{Failure, Found};
+use csicodec_command::{Failure, Found, Recording};
 use std::alloc::{AllocError, Global};
 use std::io::{BufRead, Read};
 
@@ -46,6 +46,25 @@ fn push_line(checked: &mut Checked, line: &[u8]) -> Result<bool, AllocError> {
     }
     checked.at = checked.at.saturating_add(1);
     checked.push(b"\n")
+}
+
+/// What the programs of a recording wrote. All of it is held.
+fn written_of<R: BufRead>(alloc: Global, input: &mut R) -> Result<Vec<u8>, Failure> {
+    let mut reading = Recording::new(alloc);
+    let mut line = Vec::new(alloc);
+    let mut written = Vec::new(alloc);
+    for _ in 0..u64::MAX {
+        let Some(text) = reading.next_line(input, &mut line)? else {
+            break;
+        };
+        if let Some(data) = reading.take(text.as_bytes())? {
+            written
+                .extend_from_slice(data.as_bytes())
+                .map_err(no_memory)?;
+        }
+    }
+    reading.end()?;
+    Ok(written)
 }
 
 /// Checks what the programs of a recording wrote; the places are those in it.

@@ -1,15 +1,16 @@
 //! What `csicodec filter`, `compact`, `strip`, `clean` and `html` make of a stream: with `filter` each control sequence in its normal
 //! form and all else as it came, with `compact` in a shorter spelling; with `strip` the plain text alone, with `clean` that and
 //! its styles; with `html` those as a page.
-ghost use Rattle.std.specs.Prelude.{◌≡◌, IfErr, IfOk, IfSome};
-ghost use Rattle.csicodec_tool.specs.Writes.{IsHeaded, JobSteps, Wrote, WroteBehind, begun_of};
+ghost use Rattle.std.specs.Prelude.{◌≡◌, false, IfOk, IfSome, OnErr, option_map};
+ghost use Rattle.csicodec_command.specs.Recorded.{recorded};
+ghost use Rattle.csicodec_tool.specs.Writes.{IsHeaded, JobSteps, Wrote, WroteBehind, makes_none};
 
 use crate::check::{check_cast, check_stream};
 use crate::log::{Log, Overwritten, log_all, overwritten_all};
 use crate::palette::palette_of;
-use crate::rewritten_cast::{Rewriter, html_cast, no_memory, write_staged};
+use crate::rewritten_cast::{Rewriter, no_memory, rewrite_cast};
 use csicodec_clean::{Cleaner, Depth, Dropped, Kept, Passing, clean_all_with, strip_all};
-use csicodec_command::{Colors, Failure, Recordings, Request, Worker, Wrong};
+use csicodec_command::{Colors, Failure, Recorded, Recordings, Request, Worker, Wrong};
 use csicodec_compact::{Compact, Compactor, compact_all};
 use csicodec_filter::{Faithful, Filter, NormalForm, filter_all};
 use csicodec_html::{BEHIND, Markup, Palette, UNNAMED, front, html_all_with};
@@ -139,8 +140,8 @@ impl<'a> Work<'a> {
 
     /// What the data of a recording go through, if a recording is made of it.
     fn stage(&self, alloc: Global) -> Result<Option<Box<Rewriter>>, AllocError>
-        ensures staged { IfOk result (λ stage. IfSome stage (λ _. self.now ≡ begun_of self.now)) }
-        ensures failed { IfErr result (λ _. self.now ≡ begun_of self.now) }
+        ensures staged { IfOk result (λ stage. IfSome stage (λ _. makes_none self.now ≡ false)) }
+        ensures failed { OnErr result (makes_none self.now ≡ false) }
     {
         let stage = match self {
             Work::Filter { faithful: true } => {
@@ -250,24 +251,22 @@ impl<'a> Work<'a> {
         }
     }
 
-    /// Writes what becomes of a recording of which no recording is made.
+    /// Writes what becomes of the data of a recording, and no recording.
     fn write_cast<R: BufRead, W: Write>(
         &mut self,
         alloc: Global,
         input: &mut R,
         output: &mut W,
     ) -> Result<(), Failure>
-        ensures { self.new ≡ begun_of self.old }
+        ensures { WroteBehind self.old result self.new (option_map recorded (R.remaining input.old))
+            (W.contents output.old) (W.contents output.new) }
     {
-        self.begin(alloc, output)?;
-        match self {
-            Work::Html {
-                markup,
-                overwrite,
-                ..
-            } => html_cast(alloc, *markup, *overwrite, input, output),
-            _ => check_cast(alloc, input),
+        if let Work::Check = self {
+            return check_cast(alloc, input);
         }
+        let mut written = Recorded::new(alloc, input);
+        let ended = self.write(alloc, &mut written, output);
+        written.outcome(ended)
     }
 }
 
@@ -308,8 +307,11 @@ impl<'a> Worker for Job<'a> {
         input: &mut R,
         output: &mut W,
     ) -> Result<(), Failure> {
+        if self.text {
+            return self.work.write_cast(alloc, input, output);
+        }
         match self.work.stage(alloc).map_err(no_memory)? {
-            Some(stage) => write_staged(alloc, stage, self.text, input, output),
+            Some(mut stage) => rewrite_cast(alloc, &mut stage, input, output),
             None => self.work.write_cast(alloc, input, output),
         }
     }

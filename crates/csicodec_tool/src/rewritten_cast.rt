@@ -5,9 +5,7 @@ use csicodec_clean::{Cleaner, Dropped, Kept, Passing, strip};
 use csicodec_command::{Failure, Recording, time_of};
 use csicodec_compact::Compactor;
 use csicodec_filter::{Faithful, Filter, NormalForm, Transform};
-use csicodec_html::{Markup, html_with};
 use csicodec_lines::Lines;
-use csicodec_overwrite::Overwriter;
 use csicodec_streams::{RunError, send};
 use serde_json::Value;
 use std::alloc::{AllocError, Global};
@@ -138,7 +136,7 @@ fn send_event<W: Write>(
 
 /// Writes a recording whose events have what becomes of their data, at the same times; all else stays as it is, but for controls
 /// where the data are made safe. What isn't over at the last event stands in one more, at its time.
-fn rewrite_cast<R: BufRead, W: Write>(
+pub fn rewrite_cast<R: BufRead, W: Write>(
     alloc: Global,
     stage: &mut Rewriter,
     input: &mut R,
@@ -173,88 +171,4 @@ fn rewrite_cast<R: BufRead, W: Write>(
         send_event(alloc, stage, &last, &out, output)?;
     }
     reading.end()
-}
-
-/// Writes what becomes of what the programs of a recording wrote, and no recording.
-fn unwrap_cast<R: BufRead, W: Write>(
-    alloc: Global,
-    stage: &mut Rewriter,
-    input: &mut R,
-    output: &mut W,
-) -> Result<(), Failure> {
-    let mut reading = Recording::new(alloc);
-    let (mut line, mut out) = (Vec::new(alloc), Vec::new(alloc));
-    for _ in 0..u64::MAX {
-        let Some(text) = reading.next_line(input, &mut line)? else {
-            break;
-        };
-        if let Some(data) = reading.take(text.as_bytes())? {
-            out.clear();
-            stage.push(data.as_bytes(), &mut out).map_err(no_memory)?;
-            send(output, &out)?;
-        }
-    }
-    out.clear();
-    stage.finish(&mut out).map_err(no_memory)?;
-    send(output, &out)?;
-    reading.end()
-}
-
-/// What the programs of a recording wrote. All of it is held.
-pub(crate) fn written_of<R: BufRead>(alloc: Global, input: &mut R) -> Result<Vec<u8>, Failure> {
-    let mut reading = Recording::new(alloc);
-    let mut line = Vec::new(alloc);
-    let mut written = Vec::new(alloc);
-    for _ in 0..u64::MAX {
-        let Some(text) = reading.next_line(input, &mut line)? else {
-            break;
-        };
-        if let Some(data) = reading.take(text.as_bytes())? {
-            written
-                .extend_from_slice(data.as_bytes())
-                .map_err(no_memory)?;
-        }
-    }
-    reading.end()?;
-    Ok(written)
-}
-
-/// Each line as it stands when it ends, with how it looks.
-fn painted(alloc: Global, written: &[u8]) -> Result<Vec<u8>, AllocError> {
-    let mut lines = Overwriter::painting(alloc);
-    let mut out = Vec::new(alloc);
-    lines.push(written, &mut out)?;
-    lines.finish(&mut out)?;
-    Ok(out)
-}
-
-/// Writes what the programs of a recording wrote as a piece of a page, each line as it stands when it ends or not.
-pub fn html_cast<R: BufRead, W: Write>(
-    alloc: Global,
-    markup: Markup,
-    overwrite: bool,
-    input: &mut R,
-    output: &mut W,
-) -> Result<(), Failure> {
-    let mut written = written_of(alloc, input)?;
-    if overwrite {
-        written = painted(alloc, &written).map_err(no_memory)?;
-    }
-    let page = html_with(alloc, markup, &written).map_err(no_memory)?;
-    Ok(send(output, &page)?)
-}
-
-/// Writes what a stage makes of a recording: a recording again, or the text alone.
-pub fn write_staged<R: BufRead, W: Write>(
-    alloc: Global,
-    mut stage: Box<Rewriter>,
-    text: bool,
-    input: &mut R,
-    output: &mut W,
-) -> Result<(), Failure> {
-    if text {
-        unwrap_cast(alloc, &mut stage, input, output)
-    } else {
-        rewrite_cast(alloc, &mut stage, input, output)
-    }
 }

@@ -6,7 +6,7 @@ from dataclasses import dataclass
 
 import core
 from declared import Type, Variant, declaration
-from faults import check_columns, check_once, refuse
+from checks import check_columns, check_once, refuse
 from layout import array, pair, string
 from read import first_line, rows_of
 from values import types as value_types

@@ -1,7 +1,7 @@
 """Parts of the core and of the package for Rust that have a line for each attribute of text, or for each value of one."""
 import actions
 from core import either
-from faults import refuse
+from checks import refuse
 from layout import low
 from parts import Part
 

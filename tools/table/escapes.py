@@ -1,7 +1,7 @@
 """table/escapes.toml: escape sequences and character sets. Those with a name become the enumeration EscCode with its numbers, the others arrays of
 words."""
 from declared import Type, Variant
-from faults import check_columns, check_once, refuse
+from checks import check_columns, check_once, refuse
 from layout import array, byte, code, page_line, page_table, pair, string
 from read import first_line, rows_of
 

@@ -2,7 +2,7 @@
 They are typed by hand."""
 import pathlib
 
-from faults import refuse
+from checks import refuse
 from read import TOP, rows_of
 
 

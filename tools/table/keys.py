@@ -2,7 +2,7 @@
 import re
 import sys
 
-from faults import refuse
+from checks import refuse
 from layout import folded, packed, string
 from read import first_line
 

@@ -1,6 +1,6 @@
 """table/modes.toml: what modes are called. Their names become two enumerations with their numbers, their words two arrays."""
 from declared import Type, Variant, in_turn
-from faults import check_columns, check_once
+from checks import check_columns, check_once
 from layout import array, page_line, page_table, pair, string
 from read import first_line, rows_of
 

@@ -1,6 +1,6 @@
 """The names that things are told by, as `--only` takes them: those of table/names.toml, of actions, of control sequences and of escape sequences."""
 from actions import subjects
-from faults import refuse
+from checks import refuse
 from read import first_line, rows_of
 from told import section
 

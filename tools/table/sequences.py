@@ -6,7 +6,7 @@ from dataclasses import dataclass
 from actions import subjects
 from core import TESTS
 from examples import all_examples
-from faults import refuse
+from checks import refuse
 from forms import Form, form_of
 from layout import byte, string
 from parts import Part

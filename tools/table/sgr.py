@@ -4,7 +4,7 @@ import re
 
 import actions
 from attributes import Attributes, all_attributes, parts as line_parts
-from faults import check_columns, check_once, refuse
+from checks import check_columns, check_once, refuse
 from declared import Variant
 from layout import arm, array, comment, packed, page_line, page_table, pair, string
 from read import first_line

@@ -2,7 +2,7 @@
 import re
 
 from examples import all_examples
-from faults import refuse
+from checks import refuse
 from layout import array, byte, pair, string
 from read import first_line
 

@@ -1,6 +1,6 @@
 """What explain says of control sequences without an action, by table/sequences.toml: the rows' words, those beyond them, and those in the place of an
 action's."""
-from faults import check_columns, refuse
+from checks import check_columns, refuse
 from forms import LARGEST, form_of
 from layout import array, byte, string
 from read import first_line

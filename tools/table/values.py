@@ -1,6 +1,6 @@
 """table/values.toml: enumerations that actions have. The core declares them, and C and the packages have their numbers."""
 from declared import Type, Variant, declaration, in_turn
-from faults import check_columns, refuse
+from checks import check_columns, refuse
 from parts import Part
 from read import rows_of
 

@@ -234,7 +234,7 @@ def of_cursor(actions):
     yield front, Part(list(front_arms(one)), ("fn moved_by(number: u32, control: u8) -> Option<Cursor>", "    match control {"), "        _ => None,")
     yield front, Part(list(front_arms(two)), ("fn moved_to(first: u32, second: u32, control: u8) -> Option<Cursor>", "    match control {"), "        b'r' => Some(Cursor::SetTopAndBottomMargins {")
     lists = "TwoCounts final make = (list : List CsiParam) → as_cursor list final ≡ option_map (λ (p : ℕ × ℕ). Cursor (make p.0 p.1)) (given (paired (λ a b. (a, b))) list)"
-    counts = [*proofs(one + two, "-", ("Counts", "TwoCounts"), ("one-count", "two-counts"), "Cursor"), ruleset("finals", map(name, one + two))]
+    counts = [*proofs(one + two, "-", ("Counts", "TwoCounts"), ("one-count", "two-counts"), "Cursor"), long_ruleset("finals", map(name, one + two))]
     yield "crates/csicodec_actions/proofs/Finals.antt", Part("\n".join(counts).split("\n"), (lists, ""), None)
     types, makes = ("OneMove", "TwoMoves"), ("one_count", "two_counts")
     named = lambda actions: [name(action, "_") for action in actions]

@@ -116,7 +116,8 @@ of-shape tail (One k ∷ shape) K (P c ∷ ts) all e = absurd (never (and_parts 
 abbrev AllChoose : (Rules → Bool) → List (Before Action) → Type 0
 AllChoose kind rows = AllRows (λ final row. OfShape row.tail row.shape (λ list. kind (rules_of list final) ≡ true)) rows
 
-chosen : (kind : Rules → Bool) (rows : List (Before Action)) (list : List CsiParam) (final : ℕ) → AllChoose kind rows → (a : Action) → read_by rows list final ≡ Some a → kind (rules_of list final) ≡ true
+chosen : (kind : Rules → Bool) (rows : List (Before Action)) (list : List CsiParam) (final : ℕ) →
+    AllChoose kind rows → (a : Action) → read_by rows list final ≡ Some a → kind (rules_of list final) ≡ true
 chosen kind rows list final all a e =
     let r = row-in (λ final row. OfShape row.tail row.shape (λ list. kind (rules_of list final) ≡ true)) rows list final a all e in
     of-shape r.row.tail r.row.shape (λ list. kind (rules_of list final) ≡ true) list r.holds (guarded (has_shape r.row.tail r.row.shape list) _ a r.gave).0
@@ -275,23 +276,155 @@ first-plain : (c : Option Action) → option_or (option_or c None) None ≡ c
 first-plain None = refl
 first-plain (Some a) = refl
 
-picked : (r : Rules) (c e m o k p d w g : Option Action) → ((a : Action) → c ≡ Some a → of_cursor r ≡ true) → ((a : Action) → e ≡ Some a → of_edit r ≡ true) → ((a : Action) → m ≡ Some a → of_mode r ≡ true) → ((a : Action) → o ≡ Some a → of_mouse r ≡ true) → ((a : Action) → k ≡ Some a → of_keyboard r ≡ true) → ((a : Action) → p ≡ Some a → of_path r ≡ true) → ((a : Action) → d ≡ Some a → of_device r ≡ true) → ((a : Action) → w ≡ Some a → of_window r ≡ true) → ((a : Action) → g ≡ Some a → of_graphics r ≡ true)
+picked : (r : Rules) (c e m o k p d w g : Option Action) →
+    ((a : Action) → c ≡ Some a → of_cursor r ≡ true) →
+    ((a : Action) → e ≡ Some a → of_edit r ≡ true) →
+    ((a : Action) → m ≡ Some a → of_mode r ≡ true) →
+    ((a : Action) → o ≡ Some a → of_mouse r ≡ true) →
+    ((a : Action) → k ≡ Some a → of_keyboard r ≡ true) →
+    ((a : Action) → p ≡ Some a → of_path r ≡ true) →
+    ((a : Action) → d ≡ Some a → of_device r ≡ true) →
+    ((a : Action) → w ≡ Some a → of_window r ≡ true) → ((a : Action) → g ≡ Some a → of_graphics r ≡ true)
     → first-of c e m o k p d w g ≡ pick r c e m o k p d w g
-picked rule.CharacterPath c e m o k p d w g fc fe fm fo fk fp fd fw fg = rw (none-of c _ fc refl, none-of e _ fe refl, none-of m _ fm refl, none-of o _ fo refl, none-of k _ fk refl, none-of d _ fd refl, none-of w _ fw refl, none-of g _ fg refl) (or-none p)
-picked rule.CursorStyle c e m o k p d w g fc fe fm fo fk fp fd fw fg = rw (none-of e _ fe refl, none-of m _ fm refl, none-of o _ fo refl, none-of k _ fk refl, none-of p _ fp refl, none-of d _ fd refl, none-of w _ fw refl, none-of g _ fg refl) (first-plain c)
-picked rule.Checksum c e m o k p d w g fc fe fm fo fk fp fd fw fg = rw (none-of c _ fc refl, none-of e _ fe refl, none-of m _ fm refl, none-of o _ fo refl, none-of k _ fk refl, none-of p _ fp refl, none-of d _ fd refl, none-of g _ fg refl) (or-none w)
-picked rule.Attributes c e m o k p d w g fc fe fm fo fk fp fd fw fg = rw (none-of c _ fc refl, none-of e _ fe refl, none-of m _ fm refl, none-of o _ fo refl, none-of k _ fk refl, none-of p _ fp refl, none-of w _ fw refl, none-of g _ fg refl) (or-none d)
-picked rule.MouseReport c e m o k p d w g fc fe fm fo fk fp fd fw fg = rw (none-of c _ fc refl, none-of e _ fe refl, none-of m _ fm refl, none-of k _ fk refl, none-of p _ fp refl, none-of d _ fd refl, none-of w _ fw refl, none-of g _ fg refl) (first-plain o)
-picked rule.Graphics c e m o k p d w g fc fe fm fo fk fp fd fw fg = rw (none-of c _ fc refl, none-of e _ fe refl, none-of m _ fm refl, none-of o _ fo refl, none-of k _ fk refl, none-of p _ fp refl, none-of d _ fd refl, none-of w _ fw refl) (refl)
-picked rule.Query c e m o k p d w g fc fe fm fo fk fp fd fw fg = rw (none-of c _ fc refl, none-of e _ fe refl, none-of o _ fo refl, none-of k _ fk refl, none-of p _ fp refl, none-of d _ fd refl, none-of w _ fw refl, none-of g _ fg refl) (first-plain m)
-picked rule.SoftReset c e m o k p d w g fc fe fm fo fk fp fd fw fg = rw (none-of c _ fc refl, none-of e _ fe refl, none-of m _ fm refl, none-of o _ fo refl, none-of k _ fk refl, none-of p _ fp refl, none-of w _ fw refl, none-of g _ fg refl) (or-none d)
-picked rule.PrivateModes c e m o k p d w g fc fe fm fo fk fp fd fw fg = rw (none-of c _ fc refl, none-of e _ fe refl, none-of m _ fm refl, none-of o _ fo refl, none-of k _ fk refl, none-of p _ fp refl, none-of d _ fd refl, none-of w _ fw refl, none-of g _ fg refl) (refl)
-picked rule.NameAndVersion c e m o k p d w g fc fe fm fo fk fp fd fw fg = rw (none-of c _ fc refl, none-of e _ fe refl, none-of m _ fm refl, none-of o _ fo refl, none-of k _ fk refl, none-of p _ fp refl, none-of w _ fw refl, none-of g _ fg refl) (or-none d)
-picked rule.KeyModes c e m o k p d w g fc fe fm fo fk fp fd fw fg = rw (none-of c _ fc refl, none-of e _ fe refl, none-of o _ fo refl, none-of k _ fk refl, none-of p _ fp refl, none-of d _ fd refl, none-of w _ fw refl, none-of g _ fg refl) (first-plain m)
-picked rule.Keyboard c e m o k p d w g fc fe fm fo fk fp fd fw fg = rw (none-of c _ fc refl, none-of e _ fe refl, none-of m _ fm refl, none-of o _ fo refl, none-of p _ fp refl, none-of d _ fd refl, none-of w _ fw refl, none-of g _ fg refl) (first-plain k)
+picked rule.CharacterPath c e m o k p d w g fc fe fm fo fk fp fd fw fg =
+    rw (
+      none-of c _ fc refl,
+      none-of e _ fe refl,
+      none-of m _ fm refl,
+      none-of o _ fo refl,
+      none-of k _ fk refl,
+      none-of d _ fd refl,
+      none-of w _ fw refl,
+      none-of g _ fg refl,
+    ) (or-none p)
+picked rule.CursorStyle c e m o k p d w g fc fe fm fo fk fp fd fw fg =
+    rw (
+      none-of e _ fe refl,
+      none-of m _ fm refl,
+      none-of o _ fo refl,
+      none-of k _ fk refl,
+      none-of p _ fp refl,
+      none-of d _ fd refl,
+      none-of w _ fw refl,
+      none-of g _ fg refl,
+    ) (first-plain c)
+picked rule.Checksum c e m o k p d w g fc fe fm fo fk fp fd fw fg =
+    rw (
+      none-of c _ fc refl,
+      none-of e _ fe refl,
+      none-of m _ fm refl,
+      none-of o _ fo refl,
+      none-of k _ fk refl,
+      none-of p _ fp refl,
+      none-of d _ fd refl,
+      none-of g _ fg refl,
+    ) (or-none w)
+picked rule.Attributes c e m o k p d w g fc fe fm fo fk fp fd fw fg =
+    rw (
+      none-of c _ fc refl,
+      none-of e _ fe refl,
+      none-of m _ fm refl,
+      none-of o _ fo refl,
+      none-of k _ fk refl,
+      none-of p _ fp refl,
+      none-of w _ fw refl,
+      none-of g _ fg refl,
+    ) (or-none d)
+picked rule.MouseReport c e m o k p d w g fc fe fm fo fk fp fd fw fg =
+    rw (
+      none-of c _ fc refl,
+      none-of e _ fe refl,
+      none-of m _ fm refl,
+      none-of k _ fk refl,
+      none-of p _ fp refl,
+      none-of d _ fd refl,
+      none-of w _ fw refl,
+      none-of g _ fg refl,
+    ) (first-plain o)
+picked rule.Graphics c e m o k p d w g fc fe fm fo fk fp fd fw fg =
+    rw (
+      none-of c _ fc refl,
+      none-of e _ fe refl,
+      none-of m _ fm refl,
+      none-of o _ fo refl,
+      none-of k _ fk refl,
+      none-of p _ fp refl,
+      none-of d _ fd refl,
+      none-of w _ fw refl,
+    ) (refl)
+picked rule.Query c e m o k p d w g fc fe fm fo fk fp fd fw fg =
+    rw (
+      none-of c _ fc refl,
+      none-of e _ fe refl,
+      none-of o _ fo refl,
+      none-of k _ fk refl,
+      none-of p _ fp refl,
+      none-of d _ fd refl,
+      none-of w _ fw refl,
+      none-of g _ fg refl,
+    ) (first-plain m)
+picked rule.SoftReset c e m o k p d w g fc fe fm fo fk fp fd fw fg =
+    rw (
+      none-of c _ fc refl,
+      none-of e _ fe refl,
+      none-of m _ fm refl,
+      none-of o _ fo refl,
+      none-of k _ fk refl,
+      none-of p _ fp refl,
+      none-of w _ fw refl,
+      none-of g _ fg refl,
+    ) (or-none d)
+picked rule.PrivateModes c e m o k p d w g fc fe fm fo fk fp fd fw fg =
+    rw (
+      none-of c _ fc refl,
+      none-of e _ fe refl,
+      none-of m _ fm refl,
+      none-of o _ fo refl,
+      none-of k _ fk refl,
+      none-of p _ fp refl,
+      none-of d _ fd refl,
+      none-of w _ fw refl,
+      none-of g _ fg refl,
+    ) (refl)
+picked rule.NameAndVersion c e m o k p d w g fc fe fm fo fk fp fd fw fg =
+    rw (
+      none-of c _ fc refl,
+      none-of e _ fe refl,
+      none-of m _ fm refl,
+      none-of o _ fo refl,
+      none-of k _ fk refl,
+      none-of p _ fp refl,
+      none-of w _ fw refl,
+      none-of g _ fg refl,
+    ) (or-none d)
+picked rule.KeyModes c e m o k p d w g fc fe fm fo fk fp fd fw fg =
+    rw (
+      none-of c _ fc refl,
+      none-of e _ fe refl,
+      none-of o _ fo refl,
+      none-of k _ fk refl,
+      none-of p _ fp refl,
+      none-of d _ fd refl,
+      none-of w _ fw refl,
+      none-of g _ fg refl,
+    ) (first-plain m)
+picked rule.Keyboard c e m o k p d w g fc fe fm fo fk fp fd fw fg =
+    rw (
+      none-of c _ fc refl,
+      none-of e _ fe refl,
+      none-of m _ fm refl,
+      none-of o _ fo refl,
+      none-of p _ fp refl,
+      none-of d _ fd refl,
+      none-of w _ fw refl,
+      none-of g _ fg refl,
+    ) (first-plain k)
 picked rule.Plain c e m o k p d w g fc fe fm fo fk fp fd fw fg = rw (none-of m _ fm refl, none-of o _ fo refl, none-of k _ fk refl, none-of p _ fp refl, none-of g _ fg refl) (plain-order c e d w)
 
-read-picks : (r : Rules) (list : List CsiParam) (final : ℕ) → read_by_rules r list final ≡ pick r (as_cursor list final) (as_edit list final) (as_mode list final) (as_mouse list final) (as_keyboard list final) (as_path list final) (as_device list final) (as_window list final) (as_graphics list final)
+read-picks : (r : Rules) (list : List CsiParam) (final : ℕ) →
+    read_by_rules r list final ≡ pick r (as_cursor list final) (as_edit list final)
+    (as_mode list final) (as_mouse list final) (as_keyboard list final) (as_path list final)
+    (as_device list final) (as_window list final) (as_graphics list final)
 read-picks rule.CharacterPath list final = refl
 read-picks rule.CursorStyle list final = refl
 read-picks rule.Checksum list final = refl
@@ -309,7 +442,9 @@ read-picks rule.Plain list final = refl
 rows-agree : (list : List CsiParam) (final : ℕ) → whole list final ≡ read_by_rules (rules_of list final) list final
 unfolding all_subjects
 rows-agree list final =
-    picked (rules_of list final) (as_cursor list final) (as_edit list final) (as_mode list final) (as_mouse list final) (as_keyboard list final) (as_path list final) (as_device list final) (as_window list final) (as_graphics list final)
+    picked (rules_of list final) (as_cursor list final) (as_edit list final) (as_mode list final)
+    (as_mouse list final) (as_keyboard list final) (as_path list final) (as_device list final)
+    (as_window list final) (as_graphics list final)
     (chosen of_cursor cursor_rows list final cursor-rows) (chosen of_edit edit_rows list final edit-rows) (chosen of_mode mode_rows list final mode-rows)
     (chosen of_mouse mouse_rows list final mouse-rows) (chosen of_keyboard keyboard_rows list final keyboard-rows) (chosen of_path path_rows list final path-rows)
     (chosen of_device device_rows list final device-rows) (window-chosen list final) (graphics-chosen list final)

@@ -78,13 +78,17 @@ others-fine : AreFine (drop 30 table)
 others-fine = search rules depth 60
 
 table-fine : AreFine table
-table-fine = all-append (λ (b : Before Action). AllByRecursion (λ (r : Row Action). Keeps AnyToken AnyValue (IsFine b.final) r.tail r.shape r.make) b.rows) (take 30 table) (drop 30 table) first-fine others-fine
+table-fine = all-append (λ (b : Before Action). AllByRecursion
+    (λ (r : Row Action). Keeps AnyToken AnyValue (IsFine b.final) r.tail r.shape r.make) b.rows)
+    (take 30 table) (drop 30 table) first-fine others-fine
 
 fields-plain : FieldRowsKeep AnyValue (λ a. may_be a ≡ false) field_table
 fields-plain = search rules depth 60
 
 -- a row read by itself
-row-alone : (final n : ℕ) (row : Row Action) (list : List CsiParam) (a : Action) → (final == n) ≡ true → gives row list ≡ Some a → read_by (record { final = n; rows = row ∷ [] } ∷ []) list final ≡ Some a
+row-alone : (final n : ℕ) (row : Row Action) (list : List CsiParam) (a : Action) →
+    (final == n) ≡ true → gives row list ≡ Some a →
+    read_by (record { final = n; rows = row ∷ [] } ∷ []) list final ≡ Some a
 row-alone final n row list a same gave = rw (same, gave) refl
 
 row-plain : (list : List CsiParam) (final : ℕ) (a : Action) → read_by table list final ≡ Some a → is_staying final ≡ false → IsPlain a
@@ -187,7 +191,8 @@ faithful_means bytes text (list, final, seq, kept, other) =
 abbrev Again : ℕ → Mode → List Part → List ℕ → Type 0
 Again limit m parts text = (others : List Part) × IsWhole limit m text others × StandInPlace (singles parts) parts others
 
-pub faithful_again : (limit : ℕ) (m : Mode) (bytes text : List ℕ) (parts : List Part) → 0 < limit → IsWhole limit m bytes parts → AreWritten (Within limit IsFaithful) parts text → Again limit m parts text
+pub faithful_again : (limit : ℕ) (m : Mode) (bytes text : List ℕ) (parts : List Part) → 0 < limit →
+    IsWhole limit m bytes parts → AreWritten (Within limit IsFaithful) parts text → Again limit m parts text
 faithful_again limit m bytes text parts l w r = filter_stream_lem limit m bytes text parts IsFaithful l faithful_means w r
 
 short : (limit : ℕ) (k : PartKind) (bytes text : List ℕ) → IsWritten IsFaithful k bytes text → length text ≤ limit → IsWritten (Within limit IsFaithful) k bytes text
@@ -219,7 +224,9 @@ written-short limit bytes text most fits (list, final, seq, kept, other) = elim 
   | inr none ↦ form-short limit bytes text most fits (other none)
 ]
 
-part-short : (limit : ℕ) (k : PartKind) (m a : Mode) (bytes own rest text : List ℕ) → longest ≤ limit → IsFirstPart limit m bytes (part k own) rest a → IsWritten IsFaithful k own text → IsWritten (Within limit IsFaithful) k own text
+part-short : (limit : ℕ) (k : PartKind) (m a : Mode) (bytes own rest text : List ℕ) →
+    longest ≤ limit → IsFirstPart limit m bytes (part k own) rest a →
+    IsWritten IsFaithful k own text → IsWritten (Within limit IsFaithful) k own text
 part-short limit kind.Csi m a bytes own rest text most f w = (w, written-short limit own text most (allows_whole (ahead m bytes) limit m bytes own a (sound m bytes) f.1).1 w)
 part-short limit kind.Text m a bytes own rest text most f w = w
 part-short limit kind.Esc m a bytes own rest text most f w = w

@@ -52,7 +52,9 @@ pub any-whole : (final : ℕ) (first : Option CsiParam) → IsWholeFinal final �
 any-whole final first is = elim (cases_Bool (is_byte 63 first)) [ inl here ↦ rw (is.other, here) is.dec | inr none ↦ rw (is.other, none) is.plain ]
 
 fields-whole : (list : List CsiParam) (final : ℕ) (a : Action) → read_fields field_table list final ≡ Some a → group list final ≡ groups.Whole
-fields-whole list final a e = let o = over-in (λ o row. IsWholeFinal o.final) field_table list final a (search rules depth 60) e in rw o.here (any-whole o.entry.final (slice_get list 0) (o.found.holds))
+fields-whole list final a e = let o =
+    over-in (λ o row. IsWholeFinal o.final) field_table list final a (search rules depth 60) e in rw
+    o.here (any-whole o.entry.final (slice_get list 0) (o.found.holds))
 
 -- ---- all rows
 

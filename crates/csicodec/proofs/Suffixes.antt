@@ -103,7 +103,9 @@ empty-ends groups.Styles list flag final = tt
 empty-ends (groups.Modes s) list flag final = unknown-ends list flag final _ refl
 empty-ends _ list flag final = unknown-ends list flag final _ refl
 
-body-ends : (g : Group) (list t : List CsiParam) (flag : Bool) (final : ℕ) (xs : List Action) → IsSuffix list t → marked g t ≡ list → BodyActions g list t flag final xs → EndsUnknown false list flag final xs
+body-ends : (g : Group) (list t : List CsiParam) (flag : Bool) (final : ℕ) (xs : List Action) →
+    IsSuffix list t → marked g t ≡ list → BodyActions g list t flag final xs →
+    EndsUnknown false list flag final xs
 body-ends g list [] flag final xs suffix same e = rw e (empty-ends g list flag final)
 body-ends g list (t ∷ ts) flag final xs suffix same s = rw s.all (segmented-ends g list (t ∷ ts) flag final s.pieces s.rest suffix (omega arith) same s.cut)
 

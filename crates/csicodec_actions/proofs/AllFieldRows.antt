@@ -9,7 +9,8 @@ use Rattle.csicodec_tokens.specs.declared.param.CsiParam.{CsiParam}
 use Rattle.csicodec_tokens.specs.declared.param.CsiParam.TheVariants.{Integer, P}
 use Rattle.csicodec_tokens.specs.Fields.{fields_of, with_field}
 use Rattle.csicodec_actions.specs.Actions.{Action}
-use Rattle.csicodec_actions.specs.FieldRows.{Slot, This, Empty, End, Maybe, There, Must, Or, Rest, Makes, first, behind, numbers, value_or, have_shape, made, FieldRow, gives, given, Over, ahead_of_byte, behind_byte, fields_over, read_over, read_fields}
+use Rattle.csicodec_actions.specs.FieldRows.{Slot, This, Empty, End, Maybe, There, Must, Or, Rest, Makes, first, behind, numbers, value_or, have_shape}
+use Rattle.csicodec_actions.specs.FieldRows.{made, FieldRow, gives, given, Over, ahead_of_byte, behind_byte, fields_over, read_over, read_fields}
 use Rattle.csicodec_actions.specs.Kinds.{Kind, Any, Value, read}
 use Rattle.csicodec_actions.proofs.Found.{guarded, map-some}
 use Rattle.csicodec_actions.proofs.Values.{read_any}
@@ -73,7 +74,9 @@ over-row Q o list final a all here e =
     option_and_then_some (given o.rows) (fields_over o list) a e
     (λ fs are is. record { entry = o; here = here; fields = fs; are = are; found = given-row (Q o) o.rows fs a all is })
 
-pub over-in : (Q : Over Action → FieldRow Action → Type 0) (entries : List (Over Action)) (list : List CsiParam) (final : ℕ) (a : Action) → AllFieldRows Q entries → read_fields entries list final ≡ Some a
+pub over-in : (Q : Over Action → FieldRow Action → Type 0) (entries : List (Over Action))
+    (list : List CsiParam) (final : ℕ) (a : Action) → AllFieldRows Q entries →
+    read_fields entries list final ≡ Some a
     → OverOf Q list final a
 over-in Q [] list final a all e = cc
 over-in Q (o ∷ others) list final a all e = elim (cases_Bool (final == o.final)) [
@@ -81,7 +84,9 @@ over-in Q (o ∷ others) list final a all e = elim (cases_Bool (final == o.final
   | inr later ↦ over-in Q others list final a all.1 (rw later at e)
 ]
   where
-    go : (r : Option Action) → read_over o list ≡ r → option_or r (read_fields others list final) ≡ Some a → final ≡ o.final → (read_fields others list final ≡ Some a → OverOf Q list final a) → OverOf Q list final a
+    go : (r : Option Action) → read_over o list ≡ r →
+        option_or r (read_fields others list final) ≡ Some a → final ≡ o.final →
+        (read_fields others list final ≡ Some a → OverOf Q list final a) → OverOf Q list final a
     go (Some x) gave e here later = over-row Q o list final a all.0 here (gave ∙ e)
     go None gave e here later = later e
 
@@ -123,7 +128,9 @@ behind-has : (T : CsiParam → Type 0) (fs : List (Option ℤ)) → AllByRecursi
 behind-has T [] all = tt
 behind-has T (f ∷ fs) all = all.1
 
-value-counts : (T : CsiParam → Type 0) (G : (k : Kind) → Value k → Type 0) → NumbersCount T G → (k : Kind) (missing v : Value k) (o : Option ℤ) → G k missing → Has T o → value_or k missing o ≡ Some v → G k v
+value-counts : (T : CsiParam → Type 0) (G : (k : Kind) → Value k → Type 0) → NumbersCount T G →
+    (k : Kind) (missing v : Value k) (o : Option ℤ) → G k missing → Has T o →
+    value_or k missing o ≡ Some v → G k v
 value-counts T G counts k missing v None good has e = subst (G k) (same_Some _ _ e) good
 value-counts T G counts k missing v (Some z) good has e = counts k z v has e
 
@@ -162,7 +169,9 @@ made-keeps T G Q counts (Rest ∷ row) make fs a keeps all e =
 
 -- ---- the tokens of the fields
 
-with-has : (T : CsiParam → Type 0) (x : Option ℤ) (o : Option (List (Option ℤ))) (fs : List (Option ℤ)) → Has T x → ((g : List (Option ℤ)) → o ≡ Some g → AllByRecursion (Has T) g) → with_field x o ≡ Some fs
+with-has : (T : CsiParam → Type 0) (x : Option ℤ) (o : Option (List (Option ℤ)))
+    (fs : List (Option ℤ)) → Has T x →
+    ((g : List (Option ℤ)) → o ≡ Some g → AllByRecursion (Has T) g) → with_field x o ≡ Some fs
     → AllByRecursion (Has T) fs
 with-has T x None fs has others e = cc
 with-has T x (Some g) fs has others e = rw (← same_Some _ _ e) (has, others g refl)
@@ -195,7 +204,9 @@ over-have T o list fs all e =
     (λ front cut are. option_and_then_some (ahead_of_byte o.end) (behind_byte o.ahead list) front cut
     (λ rest begun ended. fields-have T front fs (ahead-tokens T o.end rest front (behind-tokens T o.ahead list rest all begun) ended) are))
 
-pub fields-keep : (T : CsiParam → Type 0) (G : (k : Kind) → Value k → Type 0) (Q : Action → Type 0) → NumbersCount T G → (entries : List (Over Action)) → FieldRowsKeep G Q entries → (list : List CsiParam)
+pub fields-keep : (T : CsiParam → Type 0) (G : (k : Kind) → Value k → Type 0) (Q : Action →
+    Type 0) → NumbersCount T G → (entries : List (Over Action)) → FieldRowsKeep G Q entries →
+    (list : List CsiParam)
     (final : ℕ) (a : Action) → AllByRecursion T list → read_fields entries list final ≡ Some a → Q a
 fields-keep T G Q counts entries keep list final a all e =
     let o = over-in (λ o row. FieldsKeep G Q row.slots row.make) entries list final a keep e in

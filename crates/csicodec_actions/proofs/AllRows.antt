@@ -28,7 +28,9 @@ given-append (r ∷ rows) ys list =
 before-append : {R : Type 0} (xs ys : List (Before R)) (final : ℕ) → rows_before (xs ++ ys) final ≡ rows_before xs final ++ rows_before ys final
 before-append [] ys final = refl
 before-append (b ∷ others) ys final =
-    ap (λ rows. (if final == b.final then b.rows else []) ++ rows) (before-append others ys final) ∙ sym (append_assoc (if final == b.final then b.rows else []) (rows_before others final) (rows_before ys final))
+    ap (λ rows. (if final == b.final then b.rows else []) ++ rows) (before-append others ys final)
+    ∙ sym (append_assoc (if final == b.final then b.rows else []) (rows_before others final)
+    (rows_before ys final))
 
 read-append : {R : Type 0} (xs ys : List (Before R)) (list : List CsiParam) (final : ℕ) → read_by (xs ++ ys) list final ≡ option_or (read_by xs list final) (read_by ys list final)
 read-append xs ys list final = ap (λ rows. given rows list) (before-append xs ys final) ∙ given-append (rows_before xs final) (rows_before ys final) list
@@ -117,16 +119,21 @@ made-keeps T G Q reads tail _ make _ a keeps all e = cc
 abbrev pub TableKeeps : (CsiParam → Type 0) → ((k : Kind) → Value k → Type 0) → (Action → Type 0) → List (Before Action) → Type 0
 TableKeeps T G Q rows = AllRows (λ final row. Keeps T G Q row.tail row.shape row.make) rows
 
-pub table-append : (T : CsiParam → Type 0) (G : (k : Kind) → Value k → Type 0) (Q : Action → Type 0) (xs ys : List (Before Action)) → TableKeeps T G Q xs → TableKeeps T G Q ys → TableKeeps T G Q (xs ++ ys)
+pub table-append : (T : CsiParam → Type 0) (G : (k : Kind) → Value k → Type 0) (Q : Action → Type 0)
+    (xs ys : List (Before Action)) → TableKeeps T G Q xs → TableKeeps T G Q ys → TableKeeps T G Q (xs ++ ys)
 table-append T G Q xs ys keep more = all-append (λ (b : Before Action). AllByRecursion (λ (r : Row Action). Keeps T G Q r.tail r.shape r.make) b.rows) xs ys keep more
 
-pub table-keeps : (T : CsiParam → Type 0) (G : (k : Kind) → Value k → Type 0) (Q : Action → Type 0) → ReadsAs T G → (rows : List (Before Action)) → TableKeeps T G Q rows → (list : List CsiParam) (final : ℕ)
+pub table-keeps : (T : CsiParam → Type 0) (G : (k : Kind) → Value k → Type 0) (Q : Action →
+    Type 0) → ReadsAs T G → (rows : List (Before Action)) → TableKeeps T G Q rows →
+    (list : List CsiParam) (final : ℕ)
     (a : Action) → AllByRecursion T list → read_by rows list final ≡ Some a → Q a
 table-keeps T G Q reads rows keep list final a all e =
     let r = row-in (λ final row. Keeps T G Q row.tail row.shape row.make) rows list final a keep e in
     made-keeps T G Q reads r.row.tail r.row.shape r.row.make list a r.holds all (guarded (has_shape r.row.tail r.row.shape list) _ a r.gave).1
 
-pub whole-keeps : (T : CsiParam → Type 0) (G : (k : Kind) → Value k → Type 0) (Q : Action → Type 0) → ReadsAs T G → TableKeeps T G Q table → FieldRowsKeep G Q field_table → (list : List CsiParam) (final : ℕ)
+pub whole-keeps : (T : CsiParam → Type 0) (G : (k : Kind) → Value k → Type 0) (Q : Action →
+    Type 0) → ReadsAs T G → TableKeeps T G Q table → FieldRowsKeep G Q field_table →
+    (list : List CsiParam) (final : ℕ)
     (a : Action) → AllByRecursion T list → whole list final ≡ Some a → Q a
 whole-keeps T G Q reads keep keep-fields list final a all e = elim (one-of (read_by table list final) (read_fields field_table list final) a (sym (whole-table list final) ∙ e)) [
   | inl row ↦ table-keeps T G Q reads table keep list final a all row

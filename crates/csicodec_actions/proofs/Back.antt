@@ -125,8 +125,12 @@ cursor-back cursor.SaveCursor good ok = refl
 cursor-back cursor.RestoreCursor good ok = refl
 cursor-back cursor.RequestActivePositionReport good ok = refl
 cursor-back (cursor.CursorStyle c) good ok = search (rules, read-good)
-cursor-back (cursor.TabulationControl c) good ok = unless-back (written_cursor (cursor.TabulationControl c)) (Cursor (cursor.TabulationControl c)) _ _ c refl (search (rules, no-control)) (search (rules, read-good))
-cursor-back (cursor.TabulationClear c) good ok = unless-back (written_cursor (cursor.TabulationClear c)) (Cursor (cursor.TabulationClear c)) _ _ c refl (search (rules, no-clear)) (search (rules, read-good))
+cursor-back (cursor.TabulationControl c) good ok =
+    unless-back (written_cursor (cursor.TabulationControl c)) (Cursor (cursor.TabulationControl c))
+    _ _ c refl (search (rules, no-control)) (search (rules, read-good))
+cursor-back (cursor.TabulationClear c) good ok =
+    unless-back (written_cursor (cursor.TabulationClear c)) (Cursor (cursor.TabulationClear c)) _ _
+    c refl (search (rules, no-clear)) (search (rules, read-good))
 cursor-back c good ok = unless-back (written_cursor c) (Cursor c) _ _ _ refl (search (rules, no-count)) (search (rules, read-good))
 
 rows-sound : (a b : ℕ) → is_sound (written_cursor (cursor.SetTopAndBottomMargins a b)) ≡ true

@@ -75,7 +75,8 @@ differ-slots (One k) (Byte b) (Integer z) d e f = cc
 differ-slots (One k) (Number n) (Integer z) d e f = cc
 differ-slots (One k) (One j) (Integer z) d e f = cc
 
-apart-shapes : (tail : Bool) (s : List Slot) (other : Bool) (t : List Slot) (list : List CsiParam) → shapes_apart tail s other t ≡ true → has_shape tail s list ≡ true → has_shape other t list ≡ true → ⊥
+apart-shapes : (tail : Bool) (s : List Slot) (other : Bool) (t : List Slot) (list : List CsiParam) →
+    shapes_apart tail s other t ≡ true → has_shape tail s list ≡ true → has_shape other t list ≡ true → ⊥
 apart-shapes tail [] other [] list d e f = cc
 apart-shapes true [] other (t ∷ ts) list d e f = cc
 apart-shapes false [] other (t ∷ ts) [] d e f = cc

@@ -10,7 +10,8 @@ use Rattle.csicodec_tokens.specs.declared.param.CsiParam.TheVariants.{Integer, P
 use Rattle.csicodec_tokens.specs.Fields.{fields_of}
 use Rattle.csicodec_names.proofs.Coded.{is_number-pos}
 use Rattle.csicodec_actions.specs.Actions.{Action}
-use Rattle.csicodec_actions.specs.FieldRows.{Slot, This, Empty, End, Maybe, There, Must, Or, Rest, behind, ahead_of_byte, behind_byte, fits, have_shape, FieldRow, gives, given, Over, over, no_byte, byte, fields_over, read_over, read_fields}
+use Rattle.csicodec_actions.specs.FieldRows.{Slot, This, Empty, End, Maybe, There, Must, Or, Rest, behind, ahead_of_byte, behind_byte, fits, have_shape}
+use Rattle.csicodec_actions.specs.FieldRows.{FieldRow, gives, given, Over, over, no_byte, byte, fields_over, read_over, read_fields}
 use Rattle.csicodec_actions.specs.Rows.{Row, Byte, open_row, rows_before, read_by}
 use Rattle.csicodec_actions.specs.Table.XtSmGraphics.{graphics_rows}
 use Rattle.csicodec_actions.specs.Table.Window.{areas, windows}
@@ -50,7 +51,9 @@ apart-one apart fit give are x (z ∷ zs) zero y d at f g =
 apart-one apart fit give are x (z ∷ zs) (suc i) y d at f g = apart-one apart fit give are x zs i y (and_parts (apart x z) (apart_from apart x zs) d).1 at f g
 
 -- what gives something is picked, wherever it stands
-picked : {A R : Type 0} (apart : A → A → Bool) (fit : A → Bool) (give : A → Option R) → AreApart apart fit give → (xs : List A) (i : ℕ) (x : A) (r : R) → all_apart apart xs ≡ true → slice_get xs i ≡ Some x
+picked : {A R : Type 0} (apart : A → A → Bool) (fit : A → Bool) (give : A → Option R) →
+    AreApart apart fit give → (xs : List A) (i : ℕ) (x : A) (r : R) → all_apart apart xs ≡ true →
+    slice_get xs i ≡ Some x
     → give x ≡ Some r → picks give xs ≡ Some r
 picked apart fit give are [] zero x r d at e = cc
 picked apart fit give are [] (suc i) x r d at e = cc

@@ -161,4 +161,24 @@ pub character-and-line-position : TwoCounts 102 cursor.CharacterAndLinePosition
 unfolding as_cursor
 character-and-line-position = two-counts (λ a b. Cursor (cursor.CharacterAndLinePosition a b))
 
-pub ruleset finals = (up, down, right, left, next-line, preceding-line, character-absolute, character-position-absolute, forward-tabulation, backward-tabulation, line-tabulation, character-position-forward, character-position-backward, line-position-absolute, line-position-forward, line-position-backward, position, active-position-report, character-and-line-position)
+pub ruleset finals = (
+  up,
+  down,
+  right,
+  left,
+  next-line,
+  preceding-line,
+  character-absolute,
+  character-position-absolute,
+  forward-tabulation,
+  backward-tabulation,
+  line-tabulation,
+  character-position-forward,
+  character-position-backward,
+  line-position-absolute,
+  line-position-forward,
+  line-position-backward,
+  position,
+  active-position-report,
+  character-and-line-position,
+)

@@ -23,7 +23,9 @@ use Rattle.csicodec_actions.specs.declared.mode.DecPrivateMode.TheVariants as de
 use Rattle.csicodec_actions.specs.declared.mode.TerminalMode.{TerminalMode}
 use Rattle.csicodec_actions.specs.declared.mode.TerminalMode.TheVariants as terminal
 use Rattle.csicodec_actions.specs.declared.mode.XtermKeyModifierResource.TheVariants as resource
-use Rattle.csicodec_actions.specs.Kinds.{Kind, Count, Last, Any, Style, Control, Clear, InDisplay, InLine, Dec, Terminal, Resource, Flags, Way, Path, Pops, Word, Pressed, Released, GraphicsItem, Value, read, number, below, short, code_or, IsOneBased, IsSaid, IsOwn, GoodDec, GoodItem, GoodTerminal, Good, kitty_mode_number, kitty_modes, path_number, paths}
+use Rattle.csicodec_actions.specs.Kinds.{Kind, Count, Last, Any, Style, Control, Clear, InDisplay, InLine, Dec, Terminal}
+use Rattle.csicodec_actions.specs.Kinds.{Resource, Flags, Way, Path, Pops, Word, Pressed, Released, GraphicsItem, Value}
+use Rattle.csicodec_actions.specs.Kinds.{read, number, below, short, code_or, IsOneBased, IsSaid, IsOwn, GoodDec, GoodItem, GoodTerminal, Good, kitty_mode_number, kitty_modes, path_number, paths}
 use Rattle.csicodec_names.specs.Numbered.{is_number, with_number}
 use Rattle.csicodec_actions.specs.declared.path.CharacterPath.TheVariants as path
 use Rattle.csicodec_actions.specs.declared.keyboard.KittyKeyboardMode.TheVariants as way
@@ -102,7 +104,9 @@ pub own-number : {C M : Type 0} (number : C → ℕ) (all : List C) (coded : C �
 own-number number all coded own n fits none = rw (none, lt-ltb n 65536 fits) refl
 
 -- the mode of any number of 16 bits, by a code or by itself, is written as this number
-numbered : {C M : Type 0} (number : C → ℕ) (all : List C) (coded : C → M) (own : ℕ → M) (written : M → ℕ) → ((c : C) → written (coded c) ≡ number c) → ((k : ℕ) → written (own k) ≡ k) → (n : ℕ) → n < 65536
+numbered : {C M : Type 0} (number : C → ℕ) (all : List C) (coded : C → M) (own : ℕ → M)
+    (written : M → ℕ) → ((c : C) → written (coded c) ≡ number c) → ((k : ℕ) → written (own k) ≡ k) →
+    (n : ℕ) → n < 65536
     → (m : M) × (code_or coded own (with_number number all (pos n)) (short (pos n)) ≡ Some m) × (written m ≡ n)
 numbered number all coded own written by_code by_number n fits = go (with_number number all (pos n)) refl
   where

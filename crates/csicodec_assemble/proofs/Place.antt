@@ -1,5 +1,6 @@
 -- A line whose object begins with a place: what follows that place says what the line stands for.
-use Rattle.std.proofs.Common.{◌≡◌, ℕ, ◌-◌, ◌≤◌, Bool, true, false, List, [], ◌∷◌, ◌++◌, length, get_or, take, drop, Option, Some, None, Ok, IsSome, refl, sym, ap, ◌∙◌, subst, arith, rules, Bor, IfSome}
+use Rattle.std.proofs.Common.{◌≡◌, ℕ, ◌-◌, ◌≤◌, Bool, true, false, List, [], ◌∷◌, ◌++◌, length, get_or, take, drop, Option}
+use Rattle.std.proofs.Common.{Some, None, Ok, IsSome, refl, sym, ap, ◌∙◌, subst, arith, rules, Bor, IfSome}
 use Rattle.std.specs.Prelude.{IsUtf8, codes, option_map}
 use Rattle.std.proofs.lemmas.List.{take_all}
 use Rattle.std.proofs.lemmas.Str.{IsUtf8-append, IsUtf8-from_ascii}
@@ -80,7 +81,9 @@ placed ds text r n is follow =
     let ts : List Token = key k ∷ number ds ∷ r in
     let first : Members = put k (values.number n) no_members in
     let says : Says None first =
-    says_other k (values.number n) None no_members (apart (codes "text") k (λ e. omega (arith, e))) (apart (codes "hex") k (λ e. omega (arith, e))) (apart (codes "kind") k (λ e. omega (arith, e))) (refl, refl, refl) in
+    says_other k (values.number n) None no_members (apart (codes "text") k (λ e. omega (arith, e)))
+    (apart (codes "hex") k (λ e. omega (arith, e)))
+    (apart (codes "kind") k (λ e. omega (arith, e))) (refl, refl, refl) in
     let (found, members_are, now) = follow (length ts - 1) first (omega arith) says in
     let turn = member_read p no_members (length ts) k ts (number ds ∷ r) r (values.number n) (omega arith) refl (a_number ds r n is) in
     let opens = ap (converted of_json) (value-begin_object 127 ts (omega arith)) ∙ converted-object (members p (length ts) ts) in

@@ -106,7 +106,9 @@ unknown-row (Byte b ∷ ss) z after h no_code = refl
 unknown-row (AnyNumber ∷ ss) z after h no_code = cc
 unknown-row (Any ∷ ss) z after h no_code = cc
 
-unknown-rows : (rows : List Row) (z : ℤ) (after : List CsiParam) → list_all (λ (r : Row). codes_head r.shape) rows ≡ true → ((c : SgrCode) → z ≢ pos (number_of c)) → front_by 0 rows (Integer z ∷ after) ≡ None
+unknown-rows : (rows : List Row) (z : ℤ) (after : List CsiParam) →
+    list_all (λ (r : Row). codes_head r.shape) rows ≡ true →
+    ((c : SgrCode) → z ≢ pos (number_of c)) → front_by 0 rows (Integer z ∷ after) ≡ None
 unknown-rows [] z after h no_code = refl
 unknown-rows (r ∷ rs) z after h no_code =
     let p = and_parts (codes_head r.shape) (list_all (λ (x : Row). codes_head x.shape) rs) h in

@@ -61,7 +61,9 @@ inside_divides : (e : Events) (xs rest : List ℕ) → AreInside xs
 inside_divides e [] rest h = none_divides (at e mode.BadCsi) rest
 inside_divides e (b ∷ xs) rest h =
     let here = bad_byte e b (xs ++ rest) mode.BadCsi (inside_no_esc b h.0) (inside_goes b (xs ++ rest) h.0) in
-    move_divides (at e mode.BadCsi) (at e mode.BadCsi) (at e mode.BadCsi) (b ∷ (xs ++ rest)) (xs ++ rest) rest (piece event.Other (b ∷ []) ∷ []) (byte_by_byte event.Other xs) (inl here) (inside_divides e xs rest h.1)
+    move_divides (at e mode.BadCsi) (at e mode.BadCsi) (at e mode.BadCsi) (b ∷ (xs ++ rest))
+    (xs ++ rest) rest (piece event.Other (b ∷ []) ∷ []) (byte_by_byte event.Other xs) (inl here)
+    (inside_divides e xs rest h.1)
 
 -- up to where it goes wrong, and with a final byte there
 goes_divides : (e : Events) (xs behind text rest : List ℕ) (m : Mode) → AreInside xs

@@ -1,5 +1,6 @@
 -- Of the forms of input: how far they go, that later bytes change nothing, and the bytes joined.
-use Rattle.std.proofs.Common.{◌≡◌, ℕ, suc, ◌+◌, ◌*◌, ◌-◌, ◌==◌, ◌<◌, ◌≤◌, ◌&&◌, ◌||◌, Bool, true, false, nat_le, if◌then◌else◌, List, [], ◌∷◌, ◌++◌, length, drop, refl, sym, ap, subst, ◌∙◌, append_assoc, append-nil, arith}
+use Rattle.std.proofs.Common.{◌≡◌, ℕ, suc, ◌+◌, ◌*◌, ◌-◌, ◌==◌, ◌<◌, ◌≤◌, ◌&&◌, ◌||◌, Bool, true, false, nat_le, if◌then◌else◌}
+use Rattle.std.proofs.Common.{List, [], ◌∷◌, ◌++◌, length, drop, refl, sym, ap, subst, ◌∙◌, append_assoc, append-nil, arith}
 use Rattle.std.specs.List.{concat, flat_map}
 use Rattle.std.proofs.lemmas.Bool.Decides.{nat_tests}
 use Rattle.std.proofs.lemmas.List.{length-drop, take-append-drop, drop-append-le}
@@ -19,7 +20,8 @@ use Rattle.csicodec_events.specs.declared.input.Width.{Width}
 use Rattle.csicodec_events.specs.declared.input.Width.TheVariants as width
 use Rattle.csicodec_events.specs.Characters.{is_from}
 use Rattle.csicodec_events.specs.Events.{IsTold}
-use Rattle.csicodec_events.specs.Input.{AreSent, InputChunks, IsSent, IsSentBy, IsSure, ahead, behind_escape, bytes_of, char_width, csi, escape, escape_in_string, in_input, is_digit, is_opener, is_printable, is_wide, last, last_three, last_two, linux, mouse, rxvt, second, ss3, string, two_digits}
+use Rattle.csicodec_events.specs.Input.{AreSent, InputChunks, IsSent, IsSentBy, IsSure, ahead, behind_escape, bytes_of, char_width, csi, escape, escape_in_string, in_input}
+use Rattle.csicodec_events.specs.Input.{is_digit, is_opener, is_printable, is_wide, last, last_three, last_two, linux, mouse, rxvt, second, ss3, string, two_digits}
 use Rattle.csicodec_events.proofs.Run.{parts_of}
 
 -- ---- two answers for bytes, and for the same and more: the form is none of output and no longer than the bytes, and it stays
@@ -101,7 +103,9 @@ second_good a [] (b ∷ more) = by (is_from 194 223 a)
     by true = record { fits = tt; stays = tt }
     by false = record { fits = tt; stays = refl }
 second_good a (b ∷ bytes) more =
-    either_width (suc (suc (length bytes))) (is_from 194 223 a && is_from 128 191 b) width.Two width.Wrong width.Two width.Wrong (record { fits = omega arith; stays = refl }) (record { fits = tt; stays = refl })
+    either_width (suc (suc (length bytes))) (is_from 194 223 a && is_from 128 191 b) width.Two
+    width.Wrong width.Two width.Wrong (record { fits = omega arith; stays = refl })
+    (record { fits = tt; stays = refl })
 
 char_good : (d : Dialect) (bytes more : List ℕ)
     → GoodWidth (length bytes) (char_width d bytes) (char_width d (bytes ++ more))
@@ -153,7 +157,9 @@ mouse_good d bytes more =
 
 ss3_good : (bytes more : List ℕ) → Good (suc (suc (length bytes))) (ss3 bytes) (ss3 (bytes ++ more))
 ss3_good [] more = unsure _ _
-ss3_good (b ∷ bytes) more = let k = suc (suc (suc (length bytes))) in either k (is_printable b) _ _ _ _ (whole k 3 (input.Ss3 b) tt (omega arith) (omega arith)) (whole k 2 (input.Alt 79) tt (omega arith) (omega arith))
+ss3_good (b ∷ bytes) more = let k = suc (suc (suc (length bytes))) in either k (is_printable b) _ _
+    _ _ (whole k 3 (input.Ss3 b) tt (omega arith) (omega arith))
+    (whole k 2 (input.Alt 79) tt (omega arith) (omega arith))
 
 linux_good : (bytes more : List ℕ)
     → Good (suc (suc (suc (length bytes)))) (linux bytes) (linux (bytes ++ more))
@@ -274,7 +280,9 @@ front d m looked bytes f i n found is =
 
 -- ---- what output has too is told as in output
 
-by_output : (k : ℕ) (f : Form) (e : Events) (bytes : List ℕ) (told : Event) (text rest : List ℕ) (list : List CsiParam) (after : Events) → Fits k f → IsSentBy f e bytes (input.Output told) text rest list after
+by_output : (k : ℕ) (f : Form) (e : Events) (bytes : List ℕ) (told : Event) (text rest : List ℕ)
+    (list : List CsiParam) (after : Events) → Fits k f →
+    IsSentBy f e bytes (input.Output told) text rest list after
     → IsTold told e bytes text rest list after
 by_output k (form.Whole i n) e bytes told text rest list after fits s = absurd (subst IsOwn (sym s.0) fits.0)
 by_output k form.AsOutput e bytes told text rest list after fits s =
@@ -318,5 +326,7 @@ sent_joined d e after held rest (chunk ∷ chunks) sent c =
     let there : kept ++ concat chunks ≡ flat_map bytes_of later ++ rest = sent_joined d waiting after kept rest chunks later others in
     let front = flat_map bytes_of now in
     let back = flat_map bytes_of later in
-    sym (append_assoc held chunk (concat chunks)) ∙ ap (λ (x : List ℕ). x ++ concat chunks) here ∙ append_assoc front kept (concat chunks) ∙ ap (λ (x : List ℕ). front ++ x) there ∙ sym (append_assoc front back rest)
+    sym (append_assoc held chunk (concat chunks)) ∙ ap (λ (x : List ℕ). x ++ concat chunks) here
+    ∙ append_assoc front kept (concat chunks) ∙ ap (λ (x : List ℕ). front ++ x) there
+    ∙ sym (append_assoc front back rest)
     ∙ ap (λ (x : List ℕ). x ++ rest) (sym (both now later)) ∙ ap (λ (x : List Sent). flat_map bytes_of x ++ rest) (sym is)

@@ -35,7 +35,9 @@ same_stop e bytes more rest b stands =
     let cut = length-drop n bytes in
     let left = length-drop start bytes in
     let low : n < length bytes = omega (arith, some, cut) in
-    let longer : prefix_len is_passed (drop start (bytes ++ more)) ≡ prefix_len is_passed d = ap (prefix_len is_passed) (drop-append-le start bytes more (omega (arith, low))) ∙ stopped d more (omega (arith, low, left)) in
+    let longer : prefix_len is_passed (drop start (bytes ++ more)) ≡ prefix_len is_passed d =
+    ap (prefix_len is_passed) (drop-append-le start bytes more (omega (arith, low)))
+    ∙ stopped d more (omega (arith, low, left)) in
     let same : stop e.looked (bytes ++ more) ≡ n = ap (λ (k : ℕ). start + k) longer in
     record {
       over = ap (λ (k : ℕ). take k (bytes ++ more)) same ∙ take-append-le n bytes more (omega (arith, low));

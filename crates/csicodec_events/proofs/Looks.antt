@@ -22,7 +22,9 @@ pub stops_behind : (looked : ℕ) (front other bytes : List ℕ) → 2 ≤ looke
     → length other ≡ looked → stop looked (front ++ bytes) ≡ stop looked (other ++ bytes)
 stops_behind looked front other bytes two a b =
     let start : max 2 looked ≡ looked = omega (arith, two) in
-    let same : drop (max 2 looked) (front ++ bytes) ≡ drop (max 2 looked) (other ++ bytes) = drop_at front bytes (max 2 looked) (a ∙ sym start) ∙ sym (drop_at other bytes (max 2 looked) (b ∙ sym start)) in
+    let same : drop (max 2 looked) (front ++ bytes) ≡ drop (max 2 looked) (other ++ bytes) =
+    drop_at front bytes (max 2 looked) (a ∙ sym start)
+    ∙ sym (drop_at other bytes (max 2 looked) (b ∙ sym start)) in
     ap (λ (x : List ℕ). max 2 looked + prefix_len is_passed x) same
 
 -- ---- one event
@@ -191,7 +193,9 @@ chunks_counted (chunk ∷ chunks) e after held rest told l (now, later, kept, mi
     let a = all_counted now e mid (held ++ chunk) kept (looked_more e held chunk l) first in
     let w = wait_counted mid waiting kept a.looked waits in
     let r = chunks_counted chunks waiting after kept rest later (waits_looked mid waiting kept a.looked waits) others in
-    let size : length (flat_map bytes_of told) ≡ length (flat_map bytes_of now) + length (flat_map bytes_of later) = ap (λ (x : List Told). length (flat_map bytes_of x)) whole ∙ ap length (both now later) ∙ length-append (flat_map bytes_of now) (flat_map bytes_of later) in
+    let size : length (flat_map bytes_of told) ≡ length (flat_map bytes_of now) + length
+    (flat_map bytes_of later) = ap (λ (x : List Told). length (flat_map bytes_of x)) whole
+    ∙ ap length (both now later) ∙ length-append (flat_map bytes_of now) (flat_map bytes_of later) in
     record { count = let x = a.count in let y = r.count in omega (arith, x, w, y, size); looked = r.looked }
 
 pub looks_once : (e after : Events) (chunks : List (List ℕ)) (told : List Told) (rest : List ℕ)

@@ -64,7 +64,9 @@ chunks_joined e after held rest (chunk ∷ chunks) told c =
     let back = flat_map bytes_of later in
     let here : held ++ chunk ≡ front ++ kept = told_joined now e (held ++ chunk) kept mid first in
     let there : kept ++ concat chunks ≡ back ++ rest = chunks_joined waiting after kept rest chunks later others in
-    sym (append_assoc held chunk (concat chunks)) ∙ ap (λ (x : List ℕ). x ++ concat chunks) here ∙ append_assoc front kept (concat chunks) ∙ ap (λ (x : List ℕ). front ++ x) there ∙ sym (append_assoc front back rest)
+    sym (append_assoc held chunk (concat chunks)) ∙ ap (λ (x : List ℕ). x ++ concat chunks) here
+    ∙ append_assoc front kept (concat chunks) ∙ ap (λ (x : List ℕ). front ++ x) there
+    ∙ sym (append_assoc front back rest)
     ∙ ap (λ (x : List ℕ). x ++ rest) (sym (both now later)) ∙ ap (λ (x : List Told). flat_map bytes_of x ++ rest) (sym whole)
 
 -- ---- a sequence that waited
@@ -103,10 +105,14 @@ stop_on looked bytes more le two none =
     let end = ap length none in
     let cut = length-drop (stop looked bytes) bytes in
     let full : prefix_len is_passed d ≡ length d = omega (arith, left, most, end, cut, le, two) in
-    let there : prefix_len is_passed (drop start (bytes ++ more)) ≡ length d + prefix_len is_passed more = ap (prefix_len is_passed) (front_dropped start bytes more (omega (arith, le, two))) ∙ all_passed d more full in
+    let there : prefix_len is_passed (drop start (bytes ++ more)) ≡ length d + prefix_len is_passed
+    more = ap (prefix_len is_passed) (front_dropped start bytes more (omega (arith, le, two)))
+    ∙ all_passed d more full in
     let len : length (take (stop looked bytes) bytes) ≡ length bytes = omega (arith, length-take (stop looked bytes) bytes, full, left, le, two) in
     let big : max 2 (length bytes) ≡ length bytes = omega (arith, two) in
-    let here : prefix_len is_passed (drop (max 2 (length bytes)) (bytes ++ more)) ≡ prefix_len is_passed more = ap (λ (k : ℕ). prefix_len is_passed (drop k (bytes ++ more))) big ∙ ap (prefix_len is_passed) (drop-append_seam bytes more) in
+    let here : prefix_len is_passed (drop (max 2 (length bytes)) (bytes ++ more)) ≡ prefix_len
+    is_passed more = ap (λ (k : ℕ). prefix_len is_passed (drop k (bytes ++ more))) big
+    ∙ ap (prefix_len is_passed) (drop-append_seam bytes more) in
     ap (λ (k : ℕ). stop k (bytes ++ more)) len ∙ omega (arith, here, there, big, full, left, le, two)
 
 span_back : (e : Events) (n : ℕ) (k : Kind) (bytes text rest : List ℕ) (after : Events)

@@ -1,5 +1,6 @@
 -- What is told where a sequence stops, by the byte there.
-use Rattle.std.proofs.Common.{◌≡◌, ℕ, ◌+◌, ◌-◌, ◌<◌, ◌≤◌, Bool, true, false, cond, filter, inl, inr, List, [], ◌∷◌, ◌++◌, length, take, drop, refl, sym, ap, subst, ◌∙◌, append_assoc, append-nil, slice_index_or, arith}
+use Rattle.std.proofs.Common.{◌≡◌, ℕ, ◌+◌, ◌-◌, ◌<◌, ◌≤◌, Bool, true, false, cond, filter, inl, inr, List, [], ◌∷◌, ◌++◌, length}
+use Rattle.std.proofs.Common.{take, drop, refl, sym, ap, subst, ◌∙◌, append_assoc, append-nil, slice_index_or, arith}
 use Rattle.std.proofs.Math.Seq.{take-append_seam, drop-append_seam}
 use Rattle.std.proofs.lemmas.List.{length-append, length-take, length-drop, take-append-drop}
 use Rattle.csicodec_tokens.specs.declared.param.CsiParam.{CsiParam}
@@ -136,6 +137,8 @@ pub no_final : (over : List ℕ) (b : ℕ) → is_control b ≡ false → is_pas
     → is_final b ≡ false → (list : List CsiParam) (final : ℕ)
     → Seq (without_controls (over ++ b ∷ [])) list final → ⊥
 no_final over b control passed none list final s =
-    let split : without_controls (over ++ b ∷ []) ≡ filter is_read over ++ b ∷ [] = filter-append is_read over (b ∷ []) ∙ ap (λ (t : Bool). filter is_read over ++ cond t (b ∷ []) []) (read_byte b control passed) in
+    let split : without_controls (over ++ b ∷ []) ≡ filter is_read over ++ b ∷ [] =
+    filter-append is_read over (b ∷ [])
+    ∙ ap (λ (t : Bool). filter is_read over ++ cond t (b ∷ []) []) (read_byte b control passed) in
     let last = last_same (filter is_read over) (27 ∷ 91 ∷ s.body) b final (sym split ∙ s.whole) in
     final_byte b (subst IsFinal (sym last) s.ends) none

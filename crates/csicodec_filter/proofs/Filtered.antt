@@ -153,7 +153,9 @@ module _ {R : Type 0} (Rule : R → List ℕ → List ℕ → Type 0) where
 
     -- all bytes, and what was held
     pub filtered : (bytes text : List ℕ) → Transforms (Since (ByRule Rule)) (Leaves (ByRule Rule) Rested) first bytes text → Filters (Rule first.rewrite) first.limit mode.Text bytes text
-    filtered bytes text = made (AreWritten (Rule first.rewrite)) (written_on (Rule first.rewrite)) (written_left (Rule first.rewrite)) (ByRule Rule) Rested first bytes text (λ parts own last b rests. b.written)
+    filtered bytes text = made (AreWritten (Rule first.rewrite)) (written_on (Rule first.rewrite))
+        (written_left (Rule first.rewrite)) (ByRule Rule) Rested first bytes text
+        (λ parts own last b rests. b.written)
 
     -- what went out is a front of what the filter makes of the whole input
     pub sent_front : (bytes more sent : List ℕ) (i k w y : Option (List ℕ)) → Consumes i k (bytes ++ more)

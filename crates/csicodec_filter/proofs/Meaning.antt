@@ -107,7 +107,9 @@ part_behind limit m p s y a h =
     let one : IsFirstPart limit m all p (s ++ y) a = subst (λ (t : List ℕ). IsFirstPart limit m all p t a) (sym ends.0) here in
     subst (λ (t : List ℕ). IsFirstPart limit m t p (s ++ y) a) (append_assoc p.bytes s y) one
 
-part_beside : (limit : ℕ) (m : Mode) (p : Part) (bytes text : List ℕ) (a : Mode) → 0 < limit → Beside bytes text → IsFirstPart limit m (p.bytes ++ bytes) p bytes a → IsFirstPart limit m (p.bytes ++ text) p text a
+part_beside : (limit : ℕ) (m : Mode) (p : Part) (bytes text : List ℕ) (a : Mode) → 0 < limit →
+    Beside bytes text → IsFirstPart limit m (p.bytes ++ bytes) p bytes a →
+    IsFirstPart limit m (p.bytes ++ text) p text a
 part_beside limit m p bytes text a l b h = by b.ends
   where
     by : (b.one ≡ b.other) ⊎ (OpensCsi b.one × OpensCsi b.other) → IsFirstPart limit m (p.bytes ++ text) p text a
@@ -147,7 +149,9 @@ IsLeftOver bytes p behind = (p.kind ≡ kind.Other) × (p.bytes ≡ bytes) × (b
 whole_first : (limit : ℕ) (m : Mode) (bytes : List ℕ) (p : Part) (behind : List Part) → IsWhole limit m bytes (p ∷ behind) → IsSureFirst limit m bytes p behind ⊎ IsLeftOver bytes p behind
 whole_first limit m bytes p behind w = by w.sure w.rest w.first w.whole w.unsure
   where
-    by : (sure : List Part) (rest : List ℕ) → AreFirstParts limit m bytes sure rest w.after → p ∷ behind ≡ sure ++ left_over rest → IsUnsure limit w.after rest → IsSureFirst limit m bytes p behind ⊎ IsLeftOver bytes p behind
+    by : (sure : List Part) (rest : List ℕ) → AreFirstParts limit m bytes sure rest w.after →
+        p ∷ behind ≡ sure ++ left_over rest → IsUnsure limit w.after rest →
+        IsSureFirst limit m bytes p behind ⊎ IsLeftOver bytes p behind
     by [] [] f e u = absurd cc
     by [] (b ∷ rest) f e u =
         let same : p ≡ part kind.Other (b ∷ rest) = cc in
@@ -188,7 +192,8 @@ first_csi limit m text rest s short =
     let is : ahead m (text ++ rest) ≡ Sequence = ap (λ (t : List ℕ). ahead m (t ++ rest)) s.2.whole ∙ opens m ((s.2.body ++ s.1 ∷ []) ++ rest) in
     (refl, subst (λ (f : Answer). Allows f limit (text ++ rest) kind.Csi text mode.Text) (sym is) (s, short, refl))
 
-first_csis : (limit : ℕ) (ss : Sequences) (m : Mode) (bytes more : List ℕ) (j : Joins bytes ss) → length bytes ≤ limit → AreFirstParts limit m (bytes ++ more) (csi_parts ss bytes j) more (behind_csi m ss)
+first_csis : (limit : ℕ) (ss : Sequences) (m : Mode) (bytes more : List ℕ) (j : Joins bytes ss) →
+    length bytes ≤ limit → AreFirstParts limit m (bytes ++ more) (csi_parts ss bytes j) more (behind_csi m ss)
 first_csis limit [] m bytes more j within = (sym (ap (λ (t : List ℕ). t ++ more) j), refl)
 first_csis limit (s ∷ ss) m bytes more j within =
     let long : length bytes ≡ length j.0 + length j.1 = ap length j.2 ∙ length-append j.0 j.1 in
@@ -387,13 +392,17 @@ again limit (run ∷ runs) m bytes text parts l w r =
 
 -- ---- by a rule that keeps the meaning
 
-written_meant : (limit : ℕ) (Writes : List ℕ → List ℕ → Type 0) (k : Kind) (bytes text : List ℕ) → KeepsMeaning Writes → IsWritten (Within limit Writes) k bytes text → IsMeant limit (part k bytes ∷ []) text
+written_meant : (limit : ℕ) (Writes : List ℕ → List ℕ → Type 0) (k : Kind) (bytes text : List ℕ) →
+    KeepsMeaning Writes → IsWritten (Within limit Writes) k bytes text →
+    IsMeant limit (part k bytes ∷ []) text
 written_meant limit Writes kind.Csi bytes text keeps w =
     let h = keeps bytes text w.0 in
     inl (record { all = (refl, tt); actions = h.0; came = rw (append-nil bytes) h.1; written = h.2 }, w.1)
 written_meant limit Writes k bytes text keeps w = inr (part k bytes, refl, (λ e. absurd cc), w)
 
-are_meant : (limit : ℕ) (Writes : List ℕ → List ℕ → Type 0) (parts : List Part) (text : List ℕ) → KeepsMeaning Writes → AreWritten (Within limit Writes) parts text → AreMeant limit (singles parts) parts text
+are_meant : (limit : ℕ) (Writes : List ℕ → List ℕ → Type 0) (parts : List Part) (text : List ℕ) →
+    KeepsMeaning Writes → AreWritten (Within limit Writes) parts text →
+    AreMeant limit (singles parts) parts text
 are_meant limit Writes [] text keeps w = (refl, w)
 are_meant limit Writes (p ∷ parts) text keeps w =
     (parts, w.0, w.1, refl, w.2, written_meant limit Writes p.kind p.bytes w.0 keeps w.3, are_meant limit Writes parts w.1 keeps w.4)

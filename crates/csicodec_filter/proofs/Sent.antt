@@ -20,8 +20,12 @@ pub goes_none : {S X : Type 0} (P : S → List X → List ℕ → S → Type 0) 
 goes_none P s first bytes text passed = rw (append-nil bytes, append-nil text) passed
 
 -- one chunk, and then another
-pub goes_on : {S X : Type 0} (P : S → List X → List ℕ → S → Type 0) (s t u : S) (chunk next : List X) (more later : List ℕ) → GoesOn P s chunk more t → GoesOn P t next later u → GoesOn P s (chunk ++ next) (more ++ later) u
-goes_on P s t u chunk next more later h k first bytes text passed = rw (← append_assoc bytes chunk next, ← append_assoc text more later) (k first (bytes ++ chunk) (text ++ more) (h first bytes text passed))
+pub goes_on : {S X : Type 0} (P : S → List X → List ℕ → S → Type 0) (s t u : S)
+    (chunk next : List X) (more later : List ℕ) → GoesOn P s chunk more t →
+    GoesOn P t next later u → GoesOn P s (chunk ++ next) (more ++ later) u
+goes_on P s t u chunk next more later h k first bytes text passed =
+    rw (← append_assoc bytes chunk next, ← append_assoc text more later)
+    (k first (bytes ++ chunk) (text ++ more) (h first bytes text passed))
 
 -- a chunk that is over
 pub goes_over : {S : Type 0} (P : PassesOf S) (s t u : S) (chunk more later : List ℕ) → GoesOn P s chunk more t → GoesOn P t [] later u → GoesOn P s chunk (more ++ later) u

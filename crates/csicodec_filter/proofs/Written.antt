@@ -18,7 +18,9 @@ use Rattle.csicodec_filter.specs.Transform.{Transforms}
 use Rattle.csicodec_filter.proofs.Sent.{goes_none, goes_on}
 
 -- a sequence in front is a part, in any mode
-pub one_first : (limit : ℕ) (n : Mode) (rest : List ℕ) (len : ℕ) → IsOne (take len rest) → len ≤ limit → len ≤ length rest → AreFirstParts limit n rest (part kind.Csi (take len rest) ∷ []) (drop len rest) mode.Text
+pub one_first : (limit : ℕ) (n : Mode) (rest : List ℕ) (len : ℕ) → IsOne (take len rest) →
+    len ≤ limit → len ≤ length rest →
+    AreFirstParts limit n rest (part kind.Csi (take len rest) ∷ []) (drop len rest) mode.Text
 one_first limit n rest len one short within =
     let front = take len rest in
     let long : length front ≤ limit = omega (arith, length-take len rest, short) in
@@ -86,7 +88,9 @@ module _ {S : Type 0} (Own : WrittenOf S) where
 
 -- ---- the end
 
-module _ (Made : List Part → List ℕ → Type 0) (joins : (ps qs : List Part) (s t : List ℕ) → Made ps s → Made qs t → Made (ps ++ qs) (s ++ t)) (left : (rest : List ℕ) → Made (left_over rest) rest) where
+module _ (Made : List Part → List ℕ → Type 0) (joins : (ps qs : List Part) (s t : List ℕ) →
+    Made ps s → Made qs t → Made (ps ++ qs) (s ++ t)) (left : (rest : List ℕ) →
+    Made (left_over rest) rest) where
   -- what is held passes as it is
   pub makes : (limit : ℕ) (m a : Mode) (bytes text rest : List ℕ) → PassesBy Made limit m bytes text rest a → MakesBy Made limit m bytes (text ++ rest)
   makes limit m a bytes text rest h = record {

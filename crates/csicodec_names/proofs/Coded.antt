@@ -15,7 +15,8 @@ use Rattle.csicodec_names.specs.declared.enums.TabulationClear.TheVariants as cl
 use Rattle.csicodec_names.specs.declared.modes.DecPrivateModeCode.TheVariants as dec
 use Rattle.csicodec_names.specs.declared.modes.TerminalModeCode.TheVariants as terminal
 use Rattle.csicodec_names.specs.DeviceNumbers.{device_attribute_codes, device_attribute_number}
-use Rattle.csicodec_names.specs.EnumNumbers.{cursor_style_number, cursor_styles, erase_in_display_number, erases_in_display, erase_in_line_number, erases_in_line, tabulation_clear_number, tabulation_clears, tabulation_control_number, tabulation_controls}
+use Rattle.csicodec_names.specs.EnumNumbers.{cursor_style_number, cursor_styles, erase_in_display_number, erases_in_display, erase_in_line_number, erases_in_line}
+use Rattle.csicodec_names.specs.EnumNumbers.{tabulation_clear_number, tabulation_clears, tabulation_control_number, tabulation_controls}
 use Rattle.csicodec_names.specs.ModeNumbers.{dec_mode_number, dec_codes, terminal_mode_number, terminal_codes}
 use Rattle.csicodec_names.specs.Numbered.{is_number, with_number}
 

@@ -18,7 +18,8 @@ use Rattle.csicodec_parser.specs.Groups.{group, marked, start, has_odd}
 use Rattle.csicodec_parser.specs.Cut.{body}
 use Rattle.csicodec_parser.specs.Segments.{empty_action}
 use Rattle.csicodec_actions.specs.Table.{unboxed, whole}
-use Rattle.csicodec_parser.specs.Private.Steps.{front, block, block_of, is_semicolon, with_semicolon, segments, segments_at, rest_action, actions_after, body_actions, actions_in, left_at, from_at, GoesBy, CanGo, CutsOn}
+use Rattle.csicodec_parser.specs.Private.Steps.{front, block, block_of, is_semicolon, with_semicolon, segments, segments_at, rest_action}
+use Rattle.csicodec_parser.specs.Private.Steps.{actions_after, body_actions, actions_in, left_at, from_at, GoesBy, CanGo, CutsOn}
 use Rattle.csicodec_parser.proofs.Fronts.{front_empty, front_fits}
 use Rattle.csicodec_parser.proofs.GroupOf.{marked-body}
 use Rattle.csicodec_actions.proofs.Boxed.{unboxed_whole, boxed_whole}
@@ -38,7 +39,9 @@ pub semicolon_from : (len : ℕ) (o : Option CsiParam) → len ≤ with_semicolo
 semicolon_from len None = omega arith
 semicolon_from len (Some t) = elim (is_semicolon t) as (λ b. len ≤ cond b (len + 1) len) [ true ↦ omega arith | false ↦ omega arith ]
 
-pub cut_some : (g : Group) (rest : List CsiParam) (x : Action) (len taken p p' : ℕ) → front g rest ≡ Some (x, len) → taken ≡ with_semicolon len (slice_get rest len) → p' ≡ p + taken → block g rest ≡ Some (x, p' - p)
+pub cut_some : (g : Group) (rest : List CsiParam) (x : Action) (len taken p p' : ℕ) →
+    front g rest ≡ Some (x, len) → taken ≡ with_semicolon len (slice_get rest len) →
+    p' ≡ p + taken → block g rest ≡ Some (x, p' - p)
 cut_some g rest x len taken p p' f t e =
     let n : with_semicolon len (slice_get rest len) ≡ p' - p = sym t ∙ omega arith in
     ap (block_of rest) f ∙ ap (λ k. Some (x, k)) n
@@ -73,19 +76,25 @@ pub block_taken : (tokens us : List CsiParam) (p q len k : ℕ) (next : Option C
     → k ≡ with_semicolon len (slice_get (drop p tokens) len)
 block_taken tokens us p q len k next e h look taken = taken ∙ ap (with_semicolon len) (look ∙ at_same tokens us p q len e h)
 
-pub block_within : (g : Group) (tokens : List CsiParam) (p len k : ℕ) (a : Action) → front g (drop p tokens) ≡ Some (a, len) → k ≡ with_semicolon len (slice_get (drop p tokens) len) → p + k ≤ length tokens
+pub block_within : (g : Group) (tokens : List CsiParam) (p len k : ℕ) (a : Action) →
+    front g (drop p tokens) ≡ Some (a, len) →
+    k ≡ with_semicolon len (slice_get (drop p tokens) len) → p + k ≤ length tokens
 block_within g tokens p len k a at taken =
     let fits = front_fits g (drop p tokens) a len at in
     omega (arith, taken, fits.some, semicolon_within (drop p tokens) len fits.within, length-drop p tokens)
 
 -- the actions after p tokens, where a block stands there
-pub after_block : (g : Group) (flag : Bool) (final : ℕ) (tokens : List CsiParam) (p q : ℕ) (x : Action) → block g (drop p tokens) ≡ Some (x, q - p) → p < q → actions_after g flag final (drop p tokens) ≡ x ∷ actions_after g flag final (drop q tokens)
+pub after_block : (g : Group) (flag : Bool) (final : ℕ) (tokens : List CsiParam) (p q : ℕ)
+    (x : Action) → block g (drop p tokens) ≡ Some (x, q - p) → p < q →
+    actions_after g flag final (drop p tokens) ≡ x ∷ actions_after g flag final (drop q tokens)
 after_block g flag final tokens p q x e h =
     let n : p + (q - p) ≡ q = omega arith in
     segments_block g (λ l. rest_action g l flag final) (drop p tokens) x (q - p) e (omega arith)
     ∙ ap (λ l. x ∷ actions_after g flag final l) (drop-drop (q - p) p tokens ∙ ap (λ k. drop k tokens) n)
 
-pub after_unknown : (g : Group) (flag : Bool) (final : ℕ) (tokens : List CsiParam) (p : ℕ) → block g (drop p tokens) ≡ None → p < length tokens → actions_after g flag final (drop p tokens) ≡ rest_action g (drop p tokens) flag final ∷ []
+pub after_unknown : (g : Group) (flag : Bool) (final : ℕ) (tokens : List CsiParam) (p : ℕ) →
+    block g (drop p tokens) ≡ None → p < length tokens →
+    actions_after g flag final (drop p tokens) ≡ rest_action g (drop p tokens) flag final ∷ []
 after_unknown g flag final tokens p e h = segments_unknown g (λ l. rest_action g l flag final) (drop p tokens) e (omega (arith, length-drop p tokens))
 
 -- a rest with tokens has an action
@@ -103,7 +112,9 @@ some_cuts None g tokens p q n b h = tt
 some_cuts (Some x) g tokens p q n b h = λ w. (action_of x, b, h)
 
 -- all that is unread as one action
-pub unknown_left : (g : Group) (flag : Bool) (final : ℕ) (tokens now after : List CsiParam) (p q : ℕ) (x : CSI) (xs : List Action) → now ≡ tokens → after ≡ now → xs ≡ rest_action g (drop p tokens) flag final ∷ []
+pub unknown_left : (g : Group) (flag : Bool) (final : ℕ) (tokens now after : List CsiParam)
+    (p q : ℕ) (x : CSI) (xs : List Action) → now ≡ tokens → after ≡ now →
+    xs ≡ rest_action g (drop p tokens) flag final ∷ []
     → action_of x ≡ rest_action g (drop p now) flag final → q ≡ length after → xs ≡ action_of x ∷ actions_after g flag final (drop q tokens)
 unknown_left g flag final tokens now after p q x xs same still is told all =
     let d : drop q tokens ≡ [] = drop_all q tokens (omega (arith, all, ap length same, ap length still)) in
@@ -130,7 +141,9 @@ odd_marked _ list e = refl
 pub odd_unknown : (g : Group) (list : List CsiParam) (flag : Bool) (final : ℕ) → (g ≡ Whole → ⊥) → has_odd g list ≡ true → actions_in g list flag final ≡ Unspecified (marked g list) flag final ∷ []
 odd_unknown g list flag final cut odd = first_odd g list flag final cut odd ∙ ap (λ (l : List CsiParam). Unspecified l flag final ∷ []) (sym (odd_marked g list odd))
 
-pub none_odd : (g : Group) (list : List CsiParam) (final p : ℕ) → p ≡ 0 → (g ≡ Whole → ⊥) → has_odd g list ≡ true → (flag : Bool) → actions_in g list flag final ≡ rest_action g (drop p list) flag final ∷ []
+pub none_odd : (g : Group) (list : List CsiParam) (final p : ℕ) → p ≡ 0 → (g ≡ Whole → ⊥) →
+    has_odd g list ≡ true → (flag : Bool) →
+    actions_in g list flag final ≡ rest_action g (drop p list) flag final ∷ []
 none_odd g list final p z cut odd = λ flag.
     odd_unknown g list flag final cut odd
     ∙ ap (λ (a : Action). a ∷ []) (sym (rest_unknown g list flag final cut) ∙ ap (λ (k : ℕ). rest_action g (drop k list) flag final) (sym z))
@@ -208,7 +221,9 @@ lent_all tokens lent p len z h l =
 pub lent_none : (tokens lent : List CsiParam) (final : ℕ) (r : Option CSI) → lent ≡ tokens → option_map action_of r ≡ unboxed lent final → r ≡ None → unboxed tokens final ≡ None
 lent_none tokens lent final r all told none = ap (λ (l : List CsiParam). unboxed l final) (sym all) ∙ sym told ∙ ap (option_map action_of) none
 
-pub lent_some : (tokens lent : List CsiParam) (final : ℕ) (r : Option CSI) (x : CSI) → lent ≡ tokens → option_map action_of r ≡ unboxed lent final → r ≡ Some x → whole tokens final ≡ Some (action_of x)
+pub lent_some : (tokens lent : List CsiParam) (final : ℕ) (r : Option CSI) (x : CSI) →
+    lent ≡ tokens → option_map action_of r ≡ unboxed lent final → r ≡ Some x →
+    whole tokens final ≡ Some (action_of x)
 lent_some tokens lent final r x all told some =
     unboxed_whole tokens final (action_of x) (ap (λ (l : List CsiParam). unboxed l final) (sym all) ∙ sym told ∙ ap (option_map action_of) some)
 

@@ -1,6 +1,7 @@
 -- Every list has one cut that can't be continued, and the computed actions are those of that cut.
 use Rattle.std.specs.Prelude.{slice_get, unwrap_or, max}
-use Rattle.std.proofs.Common.{◌≡◌, ◌⊎◌, ℕ, zero, suc, ◌+◌, ◌-◌, ◌<◌, ◌≤◌, Bool, true, List, [], ◌∷◌, ◌++◌, length, take, drop, Option, Some, None, refl, sym, ap, subst, ◌∙◌, inl, inr, arith, add-one, length-append, length-drop, append_assoc}
+use Rattle.std.proofs.Common.{◌≡◌, ◌⊎◌, ℕ, zero, suc, ◌+◌, ◌-◌, ◌<◌, ◌≤◌, Bool, true, List, [], ◌∷◌, ◌++◌, length, take, drop, Option, Some}
+use Rattle.std.proofs.Common.{None, refl, sym, ap, subst, ◌∙◌, inl, inr, arith, add-one, length-append, length-drop, append_assoc}
 use Rattle.std.proofs.Math.Seq.{drop-append_seam}
 use Rattle.std.proofs.lemmas.Bool.{cases_Bool, eqb-true}
 use Rattle.std.proofs.lemmas.List.{take-append-drop, length-take-le, drop-drop}
@@ -239,7 +240,9 @@ remainder_count : (g : Group) (rest : List CsiParam) (flag : Bool) (final : ℕ)
 remainder_count g [] flag final = omega arith
 remainder_count g (t ∷ ts) flag final = omega arith
 
-cut_some_action : (g : Group) (t : CsiParam) (ts : List CsiParam) (flag : Bool) (final : ℕ) (xs : List Action) (rest : List CsiParam) → Cut g (t ∷ ts) xs rest → 0 < length (xs ++ remainder g rest flag final)
+cut_some_action : (g : Group) (t : CsiParam) (ts : List CsiParam) (flag : Bool) (final : ℕ)
+    (xs : List Action) (rest : List CsiParam) → Cut g (t ∷ ts) xs rest →
+    0 < length (xs ++ remainder g rest flag final)
 cut_some_action g t ts flag final (x ∷ xs) rest c = omega arith
 cut_some_action g t ts flag final [] [] c = cc
 cut_some_action g t ts flag final [] (r ∷ rest) c = omega arith
@@ -277,7 +280,9 @@ actions_count list flag final xs h = in_count (group list final) list flag final
 
 -- ---- one more block
 
-front_of : (g : Group) (body : List CsiParam) (o : Option (Action × ℕ)) (x : Action) (m : ℕ) → front g body ≡ o → block_of body o ≡ Some (x, m) → (k : ℕ) × (front g body ≡ Some (x, k)) × (m ≡ with_semicolon k (slice_get body k))
+front_of : (g : Group) (body : List CsiParam) (o : Option (Action × ℕ)) (x : Action) (m : ℕ) →
+    front g body ≡ o → block_of body o ≡ Some (x, m) →
+    (k : ℕ) × (front g body ≡ Some (x, k)) × (m ≡ with_semicolon k (slice_get body k))
 front_of g body None x m e h = cc
 front_of g body (Some p) x m e h =
     let y : Action × ℕ = (p.0, with_semicolon p.1 (slice_get body p.1)) in
@@ -285,7 +290,9 @@ front_of g body (Some p) x m e h =
     let same : y ≡ z = cc in
     (p.1, e ∙ ap (λ (q : Action × ℕ). Some (q.0, p.1)) same, sym (ap (λ (q : Action × ℕ). q.1) same))
 
-cut_more : (g : Group) (body : List CsiParam) (xs : List Action) (mid : List CsiParam) (b more : List CsiParam) (x : Action) → Cut g body xs mid → mid ≡ b ++ more → IsBlock g b more x → Cut g body (xs ++ x ∷ []) more
+cut_more : (g : Group) (body : List CsiParam) (xs : List Action) (mid : List CsiParam)
+    (b more : List CsiParam) (x : Action) → Cut g body xs mid → mid ≡ b ++ more →
+    IsBlock g b more x → Cut g body (xs ++ x ∷ []) more
 cut_more g body [] mid b more x c e h = (b, more, c ∙ e, h, refl)
 cut_more g body (y ∷ xs) mid b more x c e h = (c.0, c.1, c.2, c.3, cut_more g c.1 xs mid b more x c.4 e h)
 
@@ -303,7 +310,9 @@ cut_on g list xs p q x c e h =
 pub first_rest : (g : Group) (list : List CsiParam) (final q i : ℕ) → g ≡ group list final → CutsOn g list (start g) q → i ≡ 0 → IsRestAfter list final (suc i) (drop q list)
 first_rest g list final q i same on z = rw (z, ← same) (on.0 ∷ [], cut_on g list [] (start g) q on.0 refl on.1 on.2, refl)
 
-pub more_rest : (g : Group) (list : List CsiParam) (final p q i : ℕ) → g ≡ group list final → 0 < i → IsRestAfter list final i (drop p list) → CutsOn g list p q → IsRestAfter list final (suc i) (drop q list)
+pub more_rest : (g : Group) (list : List CsiParam) (final p q i : ℕ) → g ≡ group list final →
+    0 < i → IsRestAfter list final i (drop p list) → CutsOn g list p q →
+    IsRestAfter list final (suc i) (drop q list)
 more_rest g list final p q zero same low r on = absurd (omega arith)
 more_rest g list final p q (suc i) same low r on =
     let c : Cut g (body g list) r.0 (drop p list) = rw same r.1 in

@@ -1,6 +1,7 @@
 -- One call of `next`, over plain variables.
 use Rattle.std.specs.Prelude.{Ok, Err, slice_get}
-use Rattle.std.proofs.Common.{◌≡◌, ℕ, zero, suc, ◌+◌, ◌*◌, ◌<◌, ◌≤◌, ◌==◌, Bool, true, false, List, [], ◌∷◌, length, drop, Some, None, refl, sym, ap, ◌∙◌, arith, inl, inr, length-drop, add-one, ◌++◌, append_assoc, append-nil, subst}
+use Rattle.std.proofs.Common.{◌≡◌, ℕ, zero, suc, ◌+◌, ◌*◌, ◌<◌, ◌≤◌, ◌==◌, Bool, true, false, List, [], ◌∷◌, length, drop, Some, None}
+use Rattle.std.proofs.Common.{refl, sym, ap, ◌∙◌, arith, inl, inr, length-drop, add-one, ◌++◌, append_assoc, append-nil, subst}
 use Rattle.std.proofs.lemmas.Bool.{ne_eqb}
 use Rattle.std.proofs.lemmas.List.{drop-drop, drop_more, drop_all}
 use Rattle.std.proofs.lemmas.Option.{slice_get_within, get_or_from_slice_get}
@@ -47,7 +48,9 @@ left_now Fresh p f h n = ap (λ k. drop k (all_of p)) h.stands.0
 left_now (Going g) p f h n = h.stands.1
 left_now Failed p f h n = cc
 
-budget : (s : Stage) (p : Progress) (q l : ℕ) → Sound s p → q ≤ length p.list → l + 115 * p.passed ≤ p.looks + (1 + length p.list) * fresh_cost s + 115 * q → p.failed ≡ false → p.failed ≡ has_failed s → l ≤ 1 + length p.list + 115 * q
+budget : (s : Stage) (p : Progress) (q l : ℕ) → Sound s p → q ≤ length p.list →
+    l + 115 * p.passed ≤ p.looks + (1 + length p.list) * fresh_cost s + 115 * q → p.failed ≡ false →
+    p.failed ≡ has_failed s → l ≤ 1 + length p.list + 115 * q
 budget Fresh p q l h w c n f = let a = h.stands in omega arith
 budget (Going g) p q l h w c n f = let a = h.stands.2 in omega arith
 budget Failed p q l h w c n f = cc
@@ -62,7 +65,9 @@ group_now Fresh p g h b = b
 group_now (Going k) p g h b = b ∙ h.stands.0
 group_now Failed p g h b = absurd b
 
-rest_next : (s : Stage) (p : Progress) (g : Group) (q : ℕ) → Sound s p → GoesBy s p.list p.final g → CutsOn g p.list (from_at s g p.passed) q → q ≤ length p.list → IsRestAfter p.list p.final (p.given + 1) (drop q p.list)
+rest_next : (s : Stage) (p : Progress) (g : Group) (q : ℕ) → Sound s p → GoesBy s p.list p.final g →
+    CutsOn g p.list (from_at s g p.passed) q → q ≤ length p.list →
+    IsRestAfter p.list p.final (p.given + 1) (drop q p.list)
 rest_next Fresh p g q h b on w =
     rw (add-one p.given) (first_rest g p.list p.final q p.given b on h.stands.0)
 rest_next (Going k) p g q h b on w =
@@ -139,7 +144,16 @@ next_err s p q x g rest f h m e c i nf l =
       list = m.list;
       flag = m.flag;
       final = m.final;
-      answers = by_actions p (λ xs. Answers xs p (Some (Err x)) q) (n, (rest_action g rest p.flag p.final, at_drop (all_of p) p.given _ _ (left_now s p f h n ∙ e), rest_takes g rest p.flag p.final), i, nf);
+      answers = by_actions p (λ xs. Answers xs p (Some (Err x)) q) (
+        n,
+        (
+          rest_action g rest p.flag p.final,
+          at_drop (all_of p) p.given _ _ (left_now s p f h n ∙ e),
+          rest_takes g rest p.flag p.final,
+        ),
+        i,
+        nf,
+      );
       counted = l;
       cheap = rw m.list (omega arith);
     }

@@ -17,12 +17,16 @@ has_odd_step g xs i h = ap (has_odd g) (drop_more xs i (P 0) h) ∙ ap (λ o. is
 shown : (xs ts : List CsiParam) (p i : ℕ) (o : Option CsiParam) → p ≡ 0 → ts ≡ xs → o ≡ slice_get (drop p ts) i → slice_get xs i ≡ o
 shown xs ts p i o s e t = sym (t ∙ ap (λ q. slice_get (drop q ts) i) s ∙ ap (λ l. slice_get l i) e)
 
-pub odd_here : (g : Group) (xs ts : List CsiParam) (p i : ℕ) (o : Option CsiParam) → p ≡ 0 → ts ≡ xs → o ≡ slice_get (drop p ts) i → i < length xs → has_odd g (drop i xs) ≡ has_odd g xs → true ≡ is_odd_at g o → true ≡ has_odd g xs
+pub odd_here : (g : Group) (xs ts : List CsiParam) (p i : ℕ) (o : Option CsiParam) → p ≡ 0 →
+    ts ≡ xs → o ≡ slice_get (drop p ts) i → i < length xs → has_odd g (drop i xs) ≡ has_odd g xs →
+    true ≡ is_odd_at g o → true ≡ has_odd g xs
 odd_here g xs ts p i o s e t h n b =
     let here : is_odd_at g (slice_get xs i) ≡ true = ap (is_odd_at g) (shown xs ts p i o s e t) ∙ sym b in
     sym (sym n ∙ has_odd_step g xs i h ∙ ap (λ x. x || has_odd g (drop (i + 1) xs)) here)
 
-pub odd_later : (g : Group) (xs ts : List CsiParam) (p i : ℕ) (o : Option CsiParam) → p ≡ 0 → ts ≡ xs → o ≡ slice_get (drop p ts) i → i < length xs → has_odd g (drop i xs) ≡ has_odd g xs → false ≡ is_odd_at g o → has_odd g (drop (i + 1) xs) ≡ has_odd g xs
+pub odd_later : (g : Group) (xs ts : List CsiParam) (p i : ℕ) (o : Option CsiParam) → p ≡ 0 →
+    ts ≡ xs → o ≡ slice_get (drop p ts) i → i < length xs → has_odd g (drop i xs) ≡ has_odd g xs →
+    false ≡ is_odd_at g o → has_odd g (drop (i + 1) xs) ≡ has_odd g xs
 odd_later g xs ts p i o s e t h n b =
     let here : is_odd_at g (slice_get xs i) ≡ false = ap (is_odd_at g) (shown xs ts p i o s e t) ∙ sym b in
     sym (sym n ∙ has_odd_step g xs i h ∙ ap (λ x. x || has_odd g (drop (i + 1) xs)) here)

@@ -51,7 +51,9 @@ all_taken holds old new r list flag final h = on_ok r (λ put. (actions list fla
 
 -- ---- the actions of a list that is cut
 
-pub actions_odd : (g : Group) (list : List CsiParam) (flag : Bool) (final : ℕ) → g ≡ group list final → (g ≡ Whole → ⊥) → has_odd g list ≡ true → Unspecified (marked g list) flag final ∷ [] ≡ actions list flag final
+pub actions_odd : (g : Group) (list : List CsiParam) (flag : Bool) (final : ℕ) →
+    g ≡ group list final → (g ≡ Whole → ⊥) → has_odd g list ≡ true →
+    Unspecified (marked g list) flag final ∷ [] ≡ actions list flag final
 actions_odd g list flag final same cut odd = sym (ap (λ (k : Group). actions_in k list flag final) (sym same) ∙ odd_unknown g list flag final cut odd)
 
 actions_body : (g : Group) (list rest : List CsiParam) (flag : Bool) (final : ℕ) → g ≡ group list final → (g ≡ Whole → ⊥) → has_odd g list ≡ false → rest ≡ body g list
@@ -112,7 +114,9 @@ terminal_first s n end fits ends =
     record { action = Mode (switched s m); fronts = λ others. ap (one_token (λ x. Mode (switched s x))) found; says = terminal_text s m end (ends m) ∙ ap (λ k. 27 ∷ 91 ∷ (decimal k ++ end ∷ [])) is }
 
 -- such a token has gone in where its text is appended
-pub first_taken : (g : Group) (t : CsiParam) (said old new : List ℕ) (f : First g t said) → new ≡ old ++ 27 ∷ 91 ∷ said → (before : List Action) → old ≡ texts before → new ≡ texts (before ++ f.action ∷ [])
+pub first_taken : (g : Group) (t : CsiParam) (said old new : List ℕ) (f : First g t said) →
+    new ≡ old ++ 27 ∷ 91 ∷ said → (before : List Action) → old ≡ texts before →
+    new ≡ texts (before ++ f.action ∷ [])
 first_taken g t said old new f appended before held = appended ∙ ap (λ (l : List ℕ). l ++ 27 ∷ 91 ∷ said) held ∙ ap (λ (l : List ℕ). texts before ++ l) (sym f.says) ∙ sym (texts_last before f.action)
 
 -- ---- a list that is read whole

@@ -22,7 +22,9 @@ pub read-unboxed : (list : List CsiParam) (final : ℕ) (o : Option CSI) → opt
 read-unboxed list final None e some = cc
 read-unboxed list final (Some x) e some = (λ t. cc, λ unread. absurd (unread (action_of x) (unboxed_whole list final (action_of x) (sym e))))
 
-pub read-boxed : (list : List CsiParam) (final : ℕ) (o p : Option CSI) (b : Bool) → option_map action_of o ≡ unboxed list final → is_some o ≡ false → option_map action_of p ≡ boxed list final → is_some p ≡ not b
+pub read-boxed : (list : List CsiParam) (final : ℕ) (o p : Option CSI) (b : Bool) →
+    option_map action_of o ≡ unboxed list final → is_some o ≡ false →
+    option_map action_of p ≡ boxed list final → is_some p ≡ not b
     → IsTrue b ↔ IsUnread list final
 read-boxed list final (Some x) p b e none f some = cc
 read-boxed list final None None true e none f some = (λ t. λ a w. (let same = boxed_whole list final (sym e) in cc), λ unread. refl)

@@ -36,7 +36,9 @@ in_every mode.Text = refl
 in_every _ = refl
 
 -- a row that holds in every mode
-by_any : (i : ℕ) (r : ModeRow) (m : Mode) (bytes : List ℕ) (f : Ahead) → slice_get mode_table i ≡ Some r → r.modes ≡ every_mode → begin_with r.spots bytes ≡ true → r.answer ≡ meant m f → IsNoText m f → Agrees m bytes f
+by_any : (i : ℕ) (r : ModeRow) (m : Mode) (bytes : List ℕ) (f : Ahead) →
+    slice_get mode_table i ≡ Some r → r.modes ≡ every_mode → begin_with r.spots bytes ≡ true →
+    r.answer ≡ meant m f → IsNoText m f → Agrees m bytes f
 by_any i r m bytes f at modes fit same ends = by_row i r m bytes f at (and_from (holds_in r.modes m) (begin_with r.spots bytes) (rw modes (in_every m)) fit) same ends
 
 -- ---- the first byte
@@ -92,7 +94,9 @@ agrees_opened m b bytes st quote =
     (λ final. t (is_within 32 47 b) (intermediate bytes) (New 1 mode.BadEsc) (λ e. agrees_intermediate m b bytes e)
     (λ e. agrees_wrong m b bytes quote final e))))))
   where
-    plain : (m : Mode) (b : ℕ) (bytes : List ℕ) → (b == 91) ≡ false → (b == 93) ≡ false → (b == 80) ≡ false → opens_string b ≡ false → is_within 48 126 b ≡ true → (b == 92) ≡ false → Agrees m (27 ∷ b ∷ bytes) (Esc 2)
+    plain : (m : Mode) (b : ℕ) (bytes : List ℕ) → (b == 91) ≡ false → (b == 93) ≡ false →
+        (b == 80) ≡ false → opens_string b ≡ false → is_within 48 126 b ≡ true → (b == 92) ≡ false →
+        Agrees m (27 ∷ b ∷ bytes) (Esc 2)
     plain m b bytes csi osc dcs str e st = by_any 17 _ m (27 ∷ b ∷ bytes) (Esc 2) refl refl (grind (arith, nat_tests)) refl tt
 
     closes : (m : Mode) (b : ℕ) (bytes : List ℕ) → (is_string m && b == 92) ≡ false → (b == 92) ≡ true → Agrees m (27 ∷ b ∷ bytes) (Esc 2)
@@ -101,7 +105,9 @@ agrees_opened m b bytes st quote =
     closes mode.Str b bytes st e = cc
     closes m b bytes st e = by_row 16 _ m (27 ∷ b ∷ bytes) (Esc 2) refl (grind (arith, nat_tests)) refl tt
 
-    agrees_final : (m : Mode) (b : ℕ) (bytes : List ℕ) → (is_string m && b == 92) ≡ false → (b == 91) ≡ false → (b == 93) ≡ false → (b == 80) ≡ false → opens_string b ≡ false → is_within 48 126 b ≡ true
+    agrees_final : (m : Mode) (b : ℕ) (bytes : List ℕ) → (is_string m && b == 92) ≡ false →
+        (b == 91) ≡ false → (b == 93) ≡ false → (b == 80) ≡ false → opens_string b ≡ false →
+        is_within 48 126 b ≡ true
         → Agrees m (27 ∷ b ∷ bytes) (Esc 2)
     agrees_final m b bytes st csi osc dcs str e = elim (cases_Bool (b == 92)) [ inl is ↦ closes m b bytes st is | inr other ↦ plain m b bytes csi osc dcs str e other ]
 

@@ -146,7 +146,9 @@ none_beside r (s ∷ rows) m bytes d e =
     let p = and_parts (not (share r.modes s.modes) || are_apart r.spots s.spots) (apart_from r rows) d in
     elim (cases_Bool (fits_front m bytes s)) [ inl both ↦ absurd (apart_rows r s m bytes p.0 e both) | inr other ↦ rw other (none_beside r rows m bytes p.1 e) ]
 
-none_before : (r s : ModeRow) (rows : List ModeRow) (i : ℕ) (m : Mode) (bytes : List ℕ) → apart_from r rows ≡ true → slice_get rows i ≡ Some s → fits_front m bytes s ≡ true → fits_front m bytes r ≡ false
+none_before : (r s : ModeRow) (rows : List ModeRow) (i : ℕ) (m : Mode) (bytes : List ℕ) →
+    apart_from r rows ≡ true → slice_get rows i ≡ Some s → fits_front m bytes s ≡ true →
+    fits_front m bytes r ≡ false
 none_before r s [] i m bytes d at e = cc
 none_before r s (q ∷ rows) zero m bytes d at e =
     let p = and_parts (not (share r.modes q.modes) || are_apart r.spots q.spots) (apart_from r rows) d in

@@ -15,7 +15,9 @@ pub one_none : (limit : ℕ) (m : Mode) (bytes : List ℕ) (before : List Part) 
 one_none limit m bytes before some more rest a e first second s = absurd (omega (arith, ap length e, length-append some more))
 
 -- parts that are one, and more of them
-pub one_on : (limit : ℕ) (ps qs : List Part) (m n : Mode) (bytes mid : List ℕ) → AreFirstParts limit m bytes ps mid n → AreOne limit m bytes [] ps → AreOne limit n mid [] qs → (0 < length qs → IsMore (ahead n mid))
+pub one_on : (limit : ℕ) (ps qs : List Part) (m n : Mode) (bytes mid : List ℕ) →
+    AreFirstParts limit m bytes ps mid n → AreOne limit m bytes [] ps → AreOne limit n mid [] qs →
+    (0 < length qs → IsMore (ahead n mid))
     → AreOne limit m bytes [] (ps ++ qs)
 one_on limit ps qs m n bytes mid s g h seam some more rest a e first second t =
     elim (cuts some ps more qs (sym e)) [
@@ -34,6 +36,10 @@ one_on limit ps qs m n bytes mid s g h seam some more rest a e first second t =
     behind (c ∷ k) split = h (c ∷ k) more rest a (there (c ∷ k) split) (omega arith) second (off (c ∷ k) split)
 
 -- counted from farther in front
-pub one_farther : (limit : ℕ) (m n : Mode) (bytes mid : List ℕ) (front before parts : List Part) → AreFirstParts limit m bytes front mid n → AreOne limit n mid before parts → AreOne limit m bytes (front ++ before) parts
+pub one_farther : (limit : ℕ) (m n : Mode) (bytes mid : List ℕ) (front before parts : List Part) →
+    AreFirstParts limit m bytes front mid n → AreOne limit n mid before parts →
+    AreOne limit m bytes (front ++ before) parts
 one_farther limit m n bytes mid front before parts s h some more rest a e first second t =
-    h some more rest a e first second (parts_off limit front (before ++ some) m bytes mid rest n a s (subst (λ (x : List Part). AreFirstParts limit m bytes x rest a) (append_assoc front before some) t))
+    h some more rest a e first second
+    (parts_off limit front (before ++ some) m bytes mid rest n a s
+    (subst (λ (x : List Part). AreFirstParts limit m bytes x rest a) (append_assoc front before some) t))

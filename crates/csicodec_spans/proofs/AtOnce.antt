@@ -1,5 +1,6 @@
 -- Bytes before the first ESC, found many at once.
-use Rattle.std.proofs.Common.{◌≡◌, ◌<◌, ◌≤◌, ◌+◌, ◌-◌, ◌%◌, ◌^◌, ◌∙◌, ℕ, zero, suc, Bool, true, false, not, cond, eqb, w8, map, List, [], ◌∷◌, length, take, drop, get_or, replicate, inl, inr, ◌⊎◌, refl, sym, ap, subst, arith}
+use Rattle.std.proofs.Common.{◌≡◌, ◌<◌, ◌≤◌, ◌+◌, ◌-◌, ◌%◌, ◌^◌, ◌∙◌, ℕ, zero, suc, Bool, true, false, not, cond, eqb, w8, map, List}
+use Rattle.std.proofs.Common.{[], ◌∷◌, length, take, drop, get_or, replicate, inl, inr, ◌⊎◌, refl, sym, ap, subst, arith}
 use Rattle.std.specs.Prelude.{nat_lt}
 use Rattle.std.proofs.lemmas.Bool.Decides.{nat_tests}
 use Rattle.std.proofs.lemmas.List.{get_or-drop, get_or-take, length-replicate, map-id}
@@ -92,7 +93,9 @@ all_stay bytes near far more some many front back behind k within = by (nat_lt k
         let at : 48 + i ≡ k = omega (arith, high) in
         subst (λ (n : ℕ). stays mode.Text n ≡ true) (get_or-drop 48 bytes i 0 ∙ ap (λ (n : ℕ). get_or bytes n 0) at) (behind i (omega (arith, within, high)))
 
-pub near_stays : (bytes : List ℕ) (near : ℕ) → near < 16 → ((k : ℕ) → k < near → k < 16 → stays mode.Text (get_or (take 16 bytes) k 0) ≡ true) → (k : ℕ) → k < near → stays mode.Text (get_or bytes k 0) ≡ true
+pub near_stays : (bytes : List ℕ) (near : ℕ) → near < 16 →
+    ((k : ℕ) → k < near → k < 16 → stays mode.Text (get_or (take 16 bytes) k 0) ≡ true) → (k : ℕ) →
+    k < near → stays mode.Text (get_or bytes k 0) ≡ true
 near_stays bytes near few front k within =
     let low : k < 16 = omega (arith, few, within) in
     subst (λ (n : ℕ). stays mode.Text n ≡ true) (get_or-take 16 bytes k 0 low) (front k within low)

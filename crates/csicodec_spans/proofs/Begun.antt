@@ -53,14 +53,18 @@ begun_step (Some n) limit m body h o = (body, refl, h.on [] none_begun)
 pub few_begun : (bytes : List ℕ) → length bytes < 3 → (limit : ℕ) (m : Mode) → IsUnsure limit m bytes → IsBegun bytes None
 few_begun bytes few limit m o = few
 
-pub long_begun : (r : Option ℕ) (bytes rest : List ℕ) → 3 ≤ length bytes → rest ≡ drop 2 bytes → MatchOption r (Stops 0 rest) (Adds 0 rest) → (limit : ℕ) (m : Mode) → IsUnsure limit m bytes → IsBegun bytes r
+pub long_begun : (r : Option ℕ) (bytes rest : List ℕ) → 3 ≤ length bytes → rest ≡ drop 2 bytes →
+    MatchOption r (Stops 0 rest) (Adds 0 rest) → (limit : ℕ) (m : Mode) → IsUnsure limit m bytes →
+    IsBegun bytes r
 long_begun r bytes rest some behind h limit m o =
     let (body, parts) = begins_by (ahead m bytes) limit m bytes some (sound m bytes) o in
     let same : rest ≡ body = behind ∙ ap (drop 2) parts in
     rw parts (begun_step r limit m body (subst (λ (t : List ℕ). MatchOption r (Stops 0 t) (Adds 0 t)) same h) (subst (IsUnsure limit m) parts o))
 
 -- they wait too
-pub waits_on : (number r : Option ℕ) (limit last : ℕ) (m : Mode) (waiting bytes : List ℕ) → IsBegun waiting number → MatchOption number (r ≡ None) (Tells (limit - length waiting) bytes r) → r ≡ Some last
+pub waits_on : (number r : Option ℕ) (limit last : ℕ) (m : Mode) (waiting bytes : List ℕ) →
+    IsBegun waiting number → MatchOption number (r ≡ None)
+    (Tells (limit - length waiting) bytes r) → r ≡ Some last
     → IsUnsure limit m (waiting ++ bytes) × IsBegun (waiting ++ bytes) (Some last)
 waits_on None r limit last m waiting bytes begun tells is = absurd cc
 waits_on (Some n) r limit last m waiting bytes (body, parts, e) tells is =
@@ -70,7 +74,9 @@ waits_on (Some n) r limit last m waiting bytes (body, parts, e) tells is =
     (rw whole (body_unsure limit m (body ++ bytes) longer.is (omega (arith, fits, ap length parts, length-append body bytes))), (body ++ bytes, whole, longer))
 
 -- something can be cut of them, or two bytes at most waited
-pub waits_once : (number r : Option ℕ) (limit : ℕ) (m : Mode) (waiting bytes : List ℕ) → IsBegun waiting number → MatchOption number (r ≡ None) (Tells (limit - length waiting) bytes r) → r ≡ None → IsUnsure limit m (waiting ++ bytes)
+pub waits_once : (number r : Option ℕ) (limit : ℕ) (m : Mode) (waiting bytes : List ℕ) →
+    IsBegun waiting number → MatchOption number (r ≡ None)
+    (Tells (limit - length waiting) bytes r) → r ≡ None → IsUnsure limit m (waiting ++ bytes)
     → length waiting < 3
 waits_once None r limit m waiting bytes begun tells is o = begun
 waits_once (Some n) r limit m waiting bytes (body, parts, e) tells is o =

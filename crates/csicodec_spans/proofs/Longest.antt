@@ -28,20 +28,32 @@ more_longer : (bytes first rest : List ℕ) (k : Kind) (m a : Mode) (n : ℕ) �
 more_longer bytes first rest k m a n e goes h more = record {
   split = parts_drop bytes rest n h.split;
   cut = λ limit start text c.
-      let (longer, d) = h.cut limit start text c in
-      (longer ++ take n rest, join_cuts limit start m a bytes longer rest (take n rest) (drop n rest) k e goes d (subst (λ (x : Kind). Cuts limit m rest x (take n rest) (drop n rest) a) (sym e) (more limit)));
+      let (longer, d) = h.cut limit start text c in (
+        longer ++ take n rest,
+        join_cuts limit start m a bytes longer rest (take n rest)
+            (drop n rest) k e goes d
+            (subst (λ (x : Kind). Cuts limit m rest x (take n rest) (drop n rest) a) (sym e) (more limit)),
+      );
 }
 
 pub stays_longer : (bytes first rest : List ℕ) (k : Kind) (m : Mode) (n : ℕ) → k ≡ kind_in m → ((i : ℕ) → i < n → stays m (get_or rest i 0) ≡ true) → n ≤ length rest → IsLonger bytes first rest k m m
     → IsLonger bytes first (drop n rest) k m m
 stays_longer bytes first rest k m zero e stay le h = h
-stays_longer bytes first rest k m (suc n) e stay le h = more_longer bytes first rest k m m (suc n) e (more_stays m rest (omega arith) (stay 0 (omega arith))) h (λ limit. run_cut limit (suc n) m rest stay le (omega arith))
+stays_longer bytes first rest k m (suc n) e stay le h =
+    more_longer bytes first rest k m m (suc n) e
+    (more_stays m rest (omega arith) (stay 0 (omega arith))) h
+    (λ limit. run_cut limit (suc n) m rest stay le (omega arith))
 
 pub goes_longer : (bytes first rest : List ℕ) (k : Kind) (m : Mode) (n : ℕ) → k ≡ kind_in m → look m rest ≡ GoesOn n → IsLonger bytes first rest k m m → IsLonger bytes first (drop n rest) k m m
-goes_longer bytes first rest k m n e is h = more_longer bytes first rest k m m n e (subst IsMore (sym (found m rest (GoesOn n) is)) tt) h (λ limit. taken_cut limit m rest (GoesOn n) (kind_in m) n m is (inl refl))
+goes_longer bytes first rest k m n e is h =
+    more_longer bytes first rest k m m n e (subst IsMore (sym (found m rest (GoesOn n) is)) tt) h
+    (λ limit. taken_cut limit m rest (GoesOn n) (kind_in m) n m is (inl refl))
 
 pub ends_longer : (bytes first rest : List ℕ) (k : Kind) (m : Mode) (n : ℕ) → k ≡ kind_in m → look m rest ≡ Ends n → IsLonger bytes first rest k m m → IsLonger bytes first (drop n rest) k m mode.Text
-ends_longer bytes first rest k m n e is h = more_longer bytes first rest k m mode.Text n e (subst IsMore (sym (found m rest (Ends n) is)) tt) h (λ limit. taken_cut limit m rest (Ends n) (kind_in m) n mode.Text is (inl refl))
+ends_longer bytes first rest k m n e is h =
+    more_longer bytes first rest k m mode.Text n e
+    (subst IsMore (sym (found m rest (Ends n) is)) tt) h
+    (λ limit. taken_cut limit m rest (Ends n) (kind_in m) n mode.Text is (inl refl))
 
 not_text : (m : Mode) → m ≢ mode.Text → kind_in m ≢ kind.Text
 not_text mode.Text other e = other refl

@@ -37,7 +37,9 @@ csi_begins limit bytes text rest body _ a l is e s = absurd s
 front_begins : (bytes text rest : List ℕ) (k l : Kind) (n : ℕ) → bytes ≡ text ++ rest → length text ≡ n → l ≡ k → BeginsAs k (take n bytes) → BeginsAs l text
 front_begins bytes text rest k l n e len is h = subst (λ (x : Kind). BeginsAs x text) (sym is) (subst (BeginsAs k) (front_is bytes text rest n e len) h)
 
-allows_begins : (f : Answer) (limit : ℕ) (m : Mode) (bytes text rest : List ℕ) (k : Kind) (a : Mode) → 0 < limit → bytes ≡ text ++ rest → Sound m bytes f → IsAnew m f → Allows f limit bytes k text a → BeginsAs k text
+allows_begins : (f : Answer) (limit : ℕ) (m : Mode) (bytes text rest : List ℕ) (k : Kind)
+    (a : Mode) → 0 < limit → bytes ≡ text ++ rest → Sound m bytes f → IsAnew m f →
+    Allows f limit bytes k text a → BeginsAs k text
 allows_begins (More j n b) limit m bytes text rest k a l e h (inl is) s = front_begins bytes text rest j k n e s.1 s.0 (h.2 is)
 allows_begins (More j n b) limit m bytes text rest k a l e h (inr none) s = absurd (none tt)
 allows_begins (Anew j n b) limit m bytes text rest k a l e h anew s = front_begins bytes text rest j k n e s.1 s.0 h.2
@@ -90,7 +92,9 @@ allows_text Sequence limit m bytes text kind.Other a e h s = absurd cc
 allows_text Sequence limit m bytes text kind.Text a e h s = absurd s
 allows_text _ limit m bytes text _ a e h s = absurd s
 
-parts_text : (limit : ℕ) (ps : List Part) (m : Mode) (bytes rest : List ℕ) (a : Mode) → 0 < length ps → AllByRecursion (λ (p : Part). p.kind ≡ kind.Text) ps → AreFirstParts limit m bytes ps rest a → a ≡ mode.Text
+parts_text : (limit : ℕ) (ps : List Part) (m : Mode) (bytes rest : List ℕ) (a : Mode) →
+    0 < length ps → AllByRecursion (λ (p : Part). p.kind ≡ kind.Text) ps →
+    AreFirstParts limit m bytes ps rest a → a ≡ mode.Text
 parts_text limit [] m bytes rest a some h s = absurd (omega arith)
 parts_text limit (p ∷ []) m bytes rest a some h s = s.3.1 ∙ allows_text (ahead m bytes) limit m bytes p.bytes p.kind s.1 h.0 (sound m bytes) s.2.1
 parts_text limit (p ∷ q ∷ ps) m bytes rest a some h s = parts_text limit (q ∷ ps) s.1 s.0 rest a (omega arith) h.1 s.3

@@ -79,7 +79,9 @@ run_one limit (suc n) m [] h le = absurd (omega arith)
 run_one limit (suc n) m (b ∷ bs) h le =
     let p = part (kind_in m) (b ∷ []) in
     let others = run_one limit n m bs (λ k lt. h (suc k) (omega arith)) (omega arith) in
-    one_on limit (p ∷ []) (singles (kind_in m) (take n bs)) m m (b ∷ bs) bs (bs, m, stays_part limit m b bs (h 0 (omega arith)), (refl, refl)) (one_alone limit m (b ∷ bs) [] p) others (λ some. next n some h le)
+    one_on limit (p ∷ []) (singles (kind_in m) (take n bs)) m m (b ∷ bs) bs
+    (bs, m, stays_part limit m b bs (h 0 (omega arith)), (refl, refl))
+    (one_alone limit m (b ∷ bs) [] p) others (λ some. next n some h le)
   where
     next : (n : ℕ) → 0 < length (singles (kind_in m) (take n bs)) → ((k : ℕ) → k < suc n → stays m (get_or (b ∷ bs) k 0) ≡ true) → suc n ≤ length (b ∷ bs) → IsMore (ahead m bs)
     next zero some h le = absurd (omega arith)
@@ -106,7 +108,9 @@ pub taken_within : (m : Mode) (bytes : List ℕ) (f : Ahead) (k : Kind) (n : ℕ
 taken_within m bytes f k n a e (inl is) = let h = (subst (Sound m bytes) (found m bytes f e ∙ is) (sound m bytes)).0 in (h.some, h.within)
 taken_within m bytes f k n a e (inr is) = let h = (subst (Sound m bytes) (found m bytes f e ∙ is) (sound m bytes)).0 in (h.some, h.within)
 
-allowed_cut : (limit : ℕ) (m a : Mode) (bytes : List ℕ) (k : Kind) (n : ℕ) (f : Answer) → ahead m bytes ≡ f → Allows f limit bytes k (take n bytes) a → Cuts limit m bytes k (take n bytes) (drop n bytes) a
+allowed_cut : (limit : ℕ) (m a : Mode) (bytes : List ℕ) (k : Kind) (n : ℕ) (f : Answer) →
+    ahead m bytes ≡ f → Allows f limit bytes k (take n bytes) a →
+    Cuts limit m bytes k (take n bytes) (drop n bytes) a
 allowed_cut limit m a bytes k n f e s = record {
   parts = part k (take n bytes) ∷ [];
   span = one_span k (take n bytes);

@@ -28,7 +28,9 @@ malformed_long limit waiting more n b lt (inl (e, fault, at, low)) =
     ]
 malformed_long limit waiting more n b lt (inr (begins, long, is)) = omega (arith, is)
 
-csi_long : (limit : ℕ) (waiting more text rest : List ℕ) (k : Kind) (a : Mode) → Begins waiting → length waiting < limit → waiting ++ more ≡ text ++ rest → AllowsCsi limit (waiting ++ more) k text a → length waiting ≤ length text
+csi_long : (limit : ℕ) (waiting more text rest : List ℕ) (k : Kind) (a : Mode) → Begins waiting →
+    length waiting < limit → waiting ++ more ≡ text ++ rest →
+    AllowsCsi limit (waiting ++ more) k text a → length waiting ≤ length text
 csi_long limit waiting more text rest kind.Csi a b lt e h = elim (cuts waiting text more rest e) [
   | inl k ↦ absurd (not_begun text k.0 h.0 (subst Begins k.1 b))
   | inr k ↦ omega (arith, ap length k.2, length-append waiting (k.0 ∷ k.1))
@@ -36,7 +38,9 @@ csi_long limit waiting more text rest kind.Csi a b lt e h = elim (cuts waiting t
 csi_long limit waiting more text rest kind.Other a b lt e h = malformed_long limit waiting more (length text) b lt h.0
 csi_long limit waiting more text rest _ a b lt e h = absurd h
 
-long_by : (f g : Answer) (limit : ℕ) (m : Mode) (waiting more text rest : List ℕ) (k : Kind) (a : Mode) → 3 ≤ length waiting → Sound m waiting f → IsUnsureBy f limit waiting → (f ≡ Undecided) ⊎ (g ≡ f)
+long_by : (f g : Answer) (limit : ℕ) (m : Mode) (waiting more text rest : List ℕ) (k : Kind)
+    (a : Mode) → 3 ≤ length waiting → Sound m waiting f → IsUnsureBy f limit waiting →
+    (f ≡ Undecided) ⊎ (g ≡ f)
     → waiting ++ more ≡ text ++ rest → Allows g limit (waiting ++ more) k text a → length waiting ≤ length text
 long_by Sequence g limit m waiting more text rest k a some s o (inl none) e h = absurd cc
 long_by Sequence g limit m waiting more text rest k a some s o (inr same) e h =
@@ -45,7 +49,9 @@ long_by Undecided g limit m waiting more text rest k a some s o same e h = absur
 long_by _ g limit m waiting more text rest k a some s o same e h = absurd o
 
 -- the first part has all of what waited
-part_long : (limit : ℕ) (m : Mode) (waiting more rest : List ℕ) (p : Part) (a : Mode) → 3 ≤ length waiting → IsUnsure limit m waiting → IsFirstPart limit m (waiting ++ more) p rest a → length waiting ≤ length p.bytes
+part_long : (limit : ℕ) (m : Mode) (waiting more rest : List ℕ) (p : Part) (a : Mode) →
+    3 ≤ length waiting → IsUnsure limit m waiting → IsFirstPart limit m (waiting ++ more) p rest a →
+    length waiting ≤ length p.bytes
 part_long limit m waiting more rest p a some o h =
     long_by (ahead m waiting) (ahead m (waiting ++ more)) limit m waiting more p.bytes rest p.kind a some (sound m waiting) o (kept m waiting more) h.0 h.1
 
@@ -55,19 +61,25 @@ parts_short limit [] m bytes rest a h = omega (arith, ap length h.0)
 parts_short limit (p ∷ ps) m bytes rest a h = omega (arith, parts_short limit ps h.1 h.0 rest a h.3, ap length h.2.0, length-append p.bytes h.0)
 
 -- what waits again came last
-none_again : (limit : ℕ) (ps : List Part) (m : Mode) (waiting more rest : List ℕ) (a : Mode) → 3 ≤ length waiting → IsUnsure limit m waiting → (IsUnsure limit m (waiting ++ more) → ⊥) → IsUnsure limit a rest
+none_again : (limit : ℕ) (ps : List Part) (m : Mode) (waiting more rest : List ℕ) (a : Mode) →
+    3 ≤ length waiting → IsUnsure limit m waiting → (IsUnsure limit m (waiting ++ more) → ⊥) →
+    IsUnsure limit a rest
     → AreFirstParts limit m (waiting ++ more) ps rest a → length rest ≤ length more
 none_again limit [] m waiting more rest a some o sure left h = absurd (sure (rw (sym h.0, sym h.1) left))
 none_again limit (p ∷ ps) m waiting more rest a some o sure left h =
     omega (arith, parts_short limit ps h.1 h.0 rest a h.3, part_long limit m waiting more h.0 p h.1 some o h.2, ap length h.2.0, length-append p.bytes h.0, length-append waiting more)
 
-cut_short : (limit : ℕ) (m a : Mode) (waiting more rest : List ℕ) → IsUnsure limit m waiting → IsUnsure limit a rest → IsCut limit m waiting more rest a → length rest + length waiting ≤ length waiting + length more + 2
+cut_short : (limit : ℕ) (m a : Mode) (waiting more rest : List ℕ) → IsUnsure limit m waiting →
+    IsUnsure limit a rest → IsCut limit m waiting more rest a →
+    length rest + length waiting ≤ length waiting + length more + 2
 cut_short limit m a waiting more rest o left c = elim (cases_lt (length waiting) 3) [
   | inl few ↦ omega (arith, parts_short limit c.parts m (waiting ++ more) rest a c.first, length-append waiting more)
   | inr some ↦ omega (arith, none_again limit c.parts m waiting more rest a some o (λ u. omega (arith, some, c.once u)) left c.first)
 ]
 
-handed : (limit again : ℕ) (chunks : List (List ℕ)) (m : Mode) (waiting : List ℕ) → IsUnsure limit m waiting → HandsOut limit m waiting chunks again → again ≤ length waiting + (length (concat chunks) + 2 * length chunks)
+handed : (limit again : ℕ) (chunks : List (List ℕ)) (m : Mode) (waiting : List ℕ) →
+    IsUnsure limit m waiting → HandsOut limit m waiting chunks again →
+    again ≤ length waiting + (length (concat chunks) + 2 * length chunks)
 handed limit again [] m waiting o h = omega (arith, h)
 handed limit again (chunk ∷ chunks) m waiting o (rest, after, later, left, more, inl (waits, same)) =
     omega (arith, same, handed limit later chunks after rest left more, ap length waits.0, length-append waiting chunk, length-append chunk (concat chunks))

@@ -1,5 +1,6 @@
 -- Colours with semicolons are read as the attributes that their normal forms are.
-use Rattle.std.proofs.Common.{◌≡◌, ℕ, zero, suc, ◌≤◌, ◌<◌, ◌+◌, ◌*◌, ◌-◌, ◌/◌, ◌%◌, ◌^◌, pos, Bool, cond, w8, List, [], ◌∷◌, ◌++◌, false, Some, eqb, get_or, length, map, take, drop, refl, sym, ap, subst, ◌∙◌, append_assoc, append-nil, length-append, arith}
+use Rattle.std.proofs.Common.{◌≡◌, ℕ, zero, suc, ◌≤◌, ◌<◌, ◌+◌, ◌*◌, ◌-◌, ◌/◌, ◌%◌, ◌^◌, pos, Bool, cond, w8, List, [], ◌∷◌, ◌++◌, false, Some}
+use Rattle.std.proofs.Common.{eqb, get_or, length, map, take, drop, refl, sym, ap, subst, ◌∙◌, append_assoc, append-nil, length-append, arith}
 use Rattle.std.proofs.Math.Seq.{take-append-add, take-append_seam}
 use Rattle.std.proofs.lemmas.Bool.{lt-ltb, ne_eqb}
 use Rattle.std.proofs.lemmas.Fmt.{decimal_digit, decimal_nonempty, digits_decimal, digits_value-decimal, length-decimal-le}
@@ -239,7 +240,9 @@ two_actions p q (PaletteIndex i) (TrueColor d) flag o more = rw (first_piece p (
 two_actions p q (TrueColor c) (PaletteIndex j) flag o more = rw (first_piece p (TrueColor c) (listed q (PaletteIndex j)) o, color_piece q (PaletteIndex j) more) refl
 two_actions p q (TrueColor c) (TrueColor d) flag o more = rw (first_piece p (TrueColor c) (listed q (TrueColor d)) o, color_piece q (TrueColor d) more) refl
 
-pub colors_read : (bytes behind mid more last rest : List ℕ) (first second : sgr_type.Sgr) → bytes ≡ 27 ∷ 91 ∷ behind → IsPainted behind first mid → mid ≡ 59 ∷ more → IsPainted more second last → last ≡ 109 ∷ rest
+pub colors_read : (bytes behind mid more last rest : List ℕ) (first second : sgr_type.Sgr) →
+    bytes ≡ 27 ∷ 91 ∷ behind → IsPainted behind first mid → mid ≡ 59 ∷ more →
+    IsPainted more second last → last ≡ 109 ∷ rest
     → GivesStyles bytes rest first (Some second)
 colors_read bytes behind mid more last rest first second begins (p, c, o, is, e) then (q, d, u, same, f) ends =
     let x : List ℕ = plane_byte p ∷ 56 ∷ 59 ∷ color_list c in
@@ -265,7 +268,9 @@ colors_read bytes behind mid more last rest first second begins (p, c, o, is, e)
     )
 
 -- its normal form is the text of the attribute
-pub color_normal : (bytes rest said : List ℕ) (sgr : sgr_type.Sgr) (len : ℕ) → ((list : List CsiParam) × Reads bytes list 109 rest × Actions list false 109 (Sgr sgr ∷ [])) → len ≡ length bytes - length rest
+pub color_normal : (bytes rest said : List ℕ) (sgr : sgr_type.Sgr) (len : ℕ) →
+    ((list : List CsiParam) × Reads bytes list 109 rest × Actions list false 109 (Sgr sgr ∷ [])) →
+    len ≡ length bytes - length rest
     → said ≡ 27 ∷ 91 ∷ sgr_text sgr → IsNormal (take len bytes) said
 color_normal bytes rest said sgr len (list, reads, are) long is =
     ((Sgr sgr ∷ [], read_known bytes rest list 109 (Sgr sgr ∷ []) len reads are long, is ∙ sym (append-nil (27 ∷ 91 ∷ sgr_text sgr))), read_one bytes rest list 109 len reads long)

@@ -1,5 +1,6 @@
 -- Normal forms that are known.
-use Rattle.std.proofs.Common.{◌≡◌, ℕ, zero, suc, ◌+◌, ◌-◌, ◌%◌, ◌^◌, ◌<◌, ◌≤◌, Bool, true, false, not, cond, eqb, w8, map, List, [], ◌∷◌, ◌++◌, length, take, drop, refl, sym, ap, subst, ◌∙◌, append_assoc, arith}
+use Rattle.std.proofs.Common.{◌≡◌, ℕ, zero, suc, ◌+◌, ◌-◌, ◌%◌, ◌^◌, ◌<◌, ◌≤◌, Bool, true, false, not, cond, eqb, w8, map}
+use Rattle.std.proofs.Common.{List, [], ◌∷◌, ◌++◌, length, take, drop, refl, sym, ap, subst, ◌∙◌, append_assoc, arith}
 use Rattle.std.proofs.Math.Seq.{take-append_seam, take-append-add, drop-append_seam}
 use Rattle.std.proofs.lemmas.List.{map-id, take-append-drop, take-take, take_all, length-append, length-drop, length-take}
 use Rattle.std.proofs.lemmas.Bool.{eqb-true}
@@ -62,7 +63,9 @@ read_front rest behind list final len r is =
     ap (λ (l : List ℕ). take len l) r.2 ∙ ap (λ (n : ℕ). take n (r.0 ++ behind)) long ∙ take-append_seam r.0 behind
 
 -- the bytes of a sequence that was read decode to its actions
-pub read_known : (rest behind : List ℕ) (list : List CsiParam) (final : ℕ) (ys : List Action) (len : ℕ) → Reads rest list final behind → Actions list false final ys → len ≡ length rest - length behind → Decodes (take len rest) false ys
+pub read_known : (rest behind : List ℕ) (list : List CsiParam) (final : ℕ) (ys : List Action)
+    (len : ℕ) → Reads rest list final behind → Actions list false final ys →
+    len ≡ length rest - length behind → Decodes (take len rest) false ys
 read_known rest behind list final ys len r a is = subst (λ (l : List ℕ). Decodes l false ys) (sym (read_front rest behind list final len r is)) (one_sequence r.0 list final ys r.1 a)
 
 -- and are one sequence

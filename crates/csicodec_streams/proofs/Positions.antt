@@ -1,5 +1,6 @@
 -- A position whose numbers are written as a codec writes them is its own normal form.
-use Rattle.std.proofs.Common.{◌≡◌, ℕ, zero, ◌<◌, ◌≤◌, ◌+◌, ◌-◌, ◌^◌, false, List, [], ◌∷◌, ◌++◌, suc, get_or, length, take, drop, refl, sym, ap, subst, ◌∙◌, append_assoc, append-nil, inl, arith, rules}
+use Rattle.std.proofs.Common.{◌≡◌, ℕ, zero, ◌<◌, ◌≤◌, ◌+◌, ◌-◌, ◌^◌, false, List, [], ◌∷◌, ◌++◌, suc, get_or, length}
+use Rattle.std.proofs.Common.{take, drop, refl, sym, ap, subst, ◌∙◌, append_assoc, append-nil, inl, arith, rules}
 use Rattle.std.proofs.Math.Seq.{take-append_seam}
 use Rattle.std.proofs.lemmas.Fmt.{decimal-digits_value, decimal_digit}
 use Rattle.std.proofs.lemmas.List.{length-append, length-take, take-append-drop, take_all}
@@ -61,13 +62,25 @@ byte_cut xs b some is = first_cut xs some ∙ ap (λ (x : ℕ). x ∷ take (leng
 pub two_cut : (xs : List ℕ) (a b : ℕ) → 2 ≤ length xs → get_or xs 0 0 ≡ a → get_or xs 1 0 ≡ b → xs ≡ a ∷ b ∷ take (length xs - 2) (drop 2 xs)
 two_cut [] a b some first second = absurd (omega arith)
 two_cut (x ∷ []) a b some first second = absurd (omega (arith, some))
-two_cut (x ∷ y ∷ xs) a b some first second = ap (λ (c : ℕ). c ∷ y ∷ xs) first ∙ ap (λ (c : ℕ). a ∷ c ∷ xs) second ∙ ap (λ (l : List ℕ). a ∷ b ∷ l) (sym (take_all (length (x ∷ y ∷ xs) - 2) xs (omega arith)))
+two_cut (x ∷ y ∷ xs) a b some first second = ap (λ (c : ℕ). c ∷ y ∷ xs) first
+    ∙ ap (λ (c : ℕ). a ∷ c ∷ xs) second ∙ ap (λ (l : List ℕ). a ∷ b ∷ l)
+    (sym (take_all (length (x ∷ y ∷ xs) - 2) xs (omega arith)))
 
 -- ---- positions
 
-own_text : (c : Cursor) (w : Written) → Sound w → Actions (tokens w.items) false w.final (action.Cursor c ∷ []) → text (action.Cursor c) ≡ 27 ∷ 91 ∷ written_text w → IsPosition (text (action.Cursor c))
+own_text : (c : Cursor) (w : Written) → Sound w →
+    Actions (tokens w.items) false w.final (action.Cursor c ∷ []) →
+    text (action.Cursor c) ≡ 27 ∷ 91 ∷ written_text w → IsPosition (text (action.Cursor c))
 own_text c w s acts is =
-    let seq : Seq (27 ∷ 91 ∷ (spells (tokens w.items) ++ w.final ∷ [])) (tokens w.items) w.final = record { spellable = s.spellable; ends = s.ends; body = spells (tokens w.items); spelled = printed (tokens w.items) s.spellable; whole = refl } in
+    let seq : Seq (27 ∷ 91 ∷ (spells (tokens w.items) ++ w.final ∷ [])) (tokens w.items) w.final =
+    record {
+      spellable = s.spellable;
+      ends = s.ends;
+      body = spells (tokens w.items);
+      spelled =
+          printed (tokens w.items) s.spellable;
+      whole = refl;
+    } in
     let same : text (action.Cursor c) ≡ 27 ∷ 91 ∷ (spells (tokens w.items) ++ w.final ∷ []) = is ∙ ap (λ (l : List ℕ). 27 ∷ 91 ∷ l) s.text in
     (tokens w.items, w.final, c, subst (λ (l : List ℕ). Seq l (tokens w.items) w.final) (sym same) seq, acts, refl)
 
@@ -100,7 +113,9 @@ hvp a b first second =
 
 -- ---- in front of others
 
-pub front_placed : (final : ℕ) (bytes list behind more : List ℕ) (line column : ℕ) → ArePositions final → bytes ≡ 27 ∷ 91 ∷ list → line ≤ length list → IsNumber (take line list) → drop line list ≡ 59 ∷ behind
+pub front_placed : (final : ℕ) (bytes list behind more : List ℕ) (line column : ℕ) →
+    ArePositions final → bytes ≡ 27 ∷ 91 ∷ list → line ≤ length list → IsNumber (take line list) →
+    drop line list ≡ 59 ∷ behind
     → column ≤ length behind → IsNumber (take column behind) → drop column behind ≡ final ∷ more → IsPosition (take (line + column + 4) bytes)
 front_placed final bytes list behind more line column own begins within first then inside second ends =
     let (a, good, lines) = first in
@@ -109,9 +124,22 @@ front_placed final bytes list behind more line column own begins within first th
     let all : list ≡ decimal a ++ 59 ∷ (decimal b ++ final ∷ more) =
     sym (take-append-drop line list) ∙ ap (λ (l : List ℕ). l ++ drop line list) lines ∙ ap (λ (l : List ℕ). decimal a ++ l) (then ∙ ap (λ (l : List ℕ). 59 ∷ l) back) in
     let parts : bytes ≡ placed a b final ++ more =
-    begins ∙ ap (λ (l : List ℕ). 27 ∷ 91 ∷ l) (all ∙ ap (λ (l : List ℕ). decimal a ++ 59 ∷ l) (sym (append_assoc (decimal b) (final ∷ []) more)) ∙ sym (append_assoc (decimal a) (59 ∷ (decimal b ++ final ∷ [])) more)) in
+    begins ∙ ap (λ (l : List ℕ). 27 ∷ 91 ∷ l)
+    (all ∙ ap (λ (l : List ℕ). decimal a ++ 59 ∷ l)
+    (sym (append_assoc (decimal b) (final ∷ []) more))
+    ∙ sym (append_assoc (decimal a) (59 ∷ (decimal b ++ final ∷ [])) more)) in
     let long : line + column + 4 ≡ length (placed a b final) =
-    omega (arith, length-append (decimal a) (59 ∷ (decimal b ++ final ∷ [])), length-append (decimal b) (final ∷ []), ap length lines, ap length columns, length-take line list, length-take column behind, within, inside) in
+    omega (
+      arith,
+      length-append (decimal a) (59 ∷ (decimal b ++ final ∷ [])),
+      length-append (decimal b) (final ∷ []),
+      ap length lines,
+      ap length columns,
+      length-take line list,
+      length-take column behind,
+      within,
+      inside,
+    ) in
     let front : take (line + column + 4) bytes ≡ placed a b final =
     ap (λ (n : ℕ). take n bytes) long ∙ ap (λ (l : List ℕ). take (length (placed a b final)) l) parts ∙ take-append_seam (placed a b final) more in
     subst IsPosition (sym front) (own a b good right)

@@ -26,7 +26,9 @@ pub record IsSplit (bytes : List ℕ) (flag : Bool) (rest : List ℕ) (actions :
 pub split_none : (bytes : List ℕ) (flag : Bool) → IsSplit bytes flag bytes []
 split_none bytes flag = record { front = []; parts = refl; sequences = []; join = refl; each = refl }
 
-pub split_more : (bytes rest behind : List ℕ) (flag : Bool) (xs ys : List Action) (list : List CsiParam) (final : ℕ) → IsSplit bytes flag rest xs → Reads rest list final behind → Actions list flag final ys
+pub split_more : (bytes rest behind : List ℕ) (flag : Bool) (xs ys : List Action)
+    (list : List CsiParam) (final : ℕ) → IsSplit bytes flag rest xs → Reads rest list final behind →
+    Actions list flag final ys
     → IsSplit bytes flag behind (xs ++ ys)
 split_more bytes rest behind flag xs ys list final s r a = record {
   front = s.front ++ r.0;
@@ -52,7 +54,9 @@ fault_there bytes rest flag xs e s some r =
     (at, λ actions d. fault_apart bytes flag (length bytes - length rest) e actions at d)
 
 -- behind sequences that stand before a sequence, the bytes begin with one
-pub begins : (bytes rest : List ℕ) (flag : Bool) (xs : List Action) → IsSplit bytes flag rest xs → (list : List CsiParam) (final : ℕ) (behind : List ℕ) → Reads rest list final behind → RefusesDecode bytes flag decode_errors.Memory
+pub begins : (bytes rest : List ℕ) (flag : Bool) (xs : List Action) → IsSplit bytes flag rest xs →
+    (list : List CsiParam) (final : ℕ) (behind : List ℕ) → Reads rest list final behind →
+    RefusesDecode bytes flag decode_errors.Memory
 begins bytes rest flag xs s list final behind r = go s.sequences s.join
   where
     go : (ss : List (List CsiParam × ℕ)) → Joins s.front ss → RefusesDecode bytes flag decode_errors.Memory
@@ -60,7 +64,9 @@ begins bytes rest flag xs s list final behind r = go s.sequences s.join
     go (t ∷ ts) join = (t.0, t.1, join.1 ++ rest, (join.0, join.3, s.parts ∙ ap (λ (l : List ℕ). l ++ rest) join.2 ∙ append_assoc join.0 join.1 rest))
 
 -- behind the sequences stands what is refused
-pub refuses_at : (bytes rest : List ℕ) (flag : Bool) (xs : List Action) (room : ℕ) (e : ReadError) → IsSplit bytes flag rest xs → 0 < length rest → Refuses rest room e → RefusesDecode bytes flag (refusal_of (length bytes - length rest) e)
+pub refuses_at : (bytes rest : List ℕ) (flag : Bool) (xs : List Action) (room : ℕ) (e : ReadError) →
+    IsSplit bytes flag rest xs → 0 < length rest → Refuses rest room e →
+    RefusesDecode bytes flag (refusal_of (length bytes - length rest) e)
 refuses_at bytes rest flag xs room errors.Memory s some r = begins bytes rest flag xs s r.0 r.1 r.2 r.3
 refuses_at bytes rest flag xs room e s some r = fault_there bytes rest flag xs e s some r
 

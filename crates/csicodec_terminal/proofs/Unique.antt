@@ -37,7 +37,10 @@ steps_one g flag final rest (x ∷ xs) (y ∷ ys) s t =
     let others = steps_one g flag final (behind t.0 rest) xs ys (subst (λ n. Steps g flag final (behind n rest) xs) same.0 s.2) t.2 in
     rw (same.1, others) refl
 
-cut_one : (g : Group) (flag : Bool) (final : ℕ) (foreign : Bool) (one : List Action) (rest : List CsiParam) (xs ys : List Action) → MatchBool foreign (xs ≡ one) (Steps g flag final rest xs) → MatchBool foreign (ys ≡ one) (Steps g flag final rest ys) → xs ≡ ys
+cut_one : (g : Group) (flag : Bool) (final : ℕ) (foreign : Bool) (one : List Action)
+    (rest : List CsiParam) (xs ys : List Action) →
+    MatchBool foreign (xs ≡ one) (Steps g flag final rest xs) →
+    MatchBool foreign (ys ≡ one) (Steps g flag final rest ys) → xs ≡ ys
 cut_one g flag final true one rest xs ys s t = s ∙ sym t
 cut_one g flag final false one rest xs ys s t = steps_one g flag final rest xs ys s t
 
@@ -47,7 +50,9 @@ anew_one Styles list flag final xs ys s t = cut_one Styles flag final _ _ _ xs y
 anew_one (Modes m) list flag final xs ys s t = cut_one (Modes m) flag final _ _ _ xs ys s t
 anew_one (DecModes c) list flag final xs ys s t = cut_one (DecModes c) flag final _ _ _ xs ys s t
 
-either_one : (less : Bool) (g : Group) (list : List CsiParam) (flag : Bool) (final : ℕ) (first xs ys : List Action) → MatchBool less (Anew g list flag final xs) (xs ≡ first) → MatchBool less (Anew g list flag final ys) (ys ≡ first) → xs ≡ ys
+either_one : (less : Bool) (g : Group) (list : List CsiParam) (flag : Bool) (final : ℕ)
+    (first xs ys : List Action) → MatchBool less (Anew g list flag final xs) (xs ≡ first) →
+    MatchBool less (Anew g list flag final ys) (ys ≡ first) → xs ≡ ys
 either_one true g list flag final first xs ys s t = anew_one g list flag final xs ys s t
 either_one false g list flag final first xs ys s t = s ∙ sym t
 
@@ -64,7 +69,9 @@ taken_once bytes xs ys (l, f, s, a) (m, g, t, b) =
     let same = one_seq bytes bytes [] [] l m f g s t refl in
     one_reading l false f xs ys a (rw (same.1, same.2) b)
 
-pub agree : (list : List CsiParam) (flag : Bool) (final : ℕ) (first xs : List Action) → Actions list flag final first → has_unknown first ≡ false → is_open (group list final) list ≡ false → Terminal list flag final xs → xs ≡ first
+pub agree : (list : List CsiParam) (flag : Bool) (final : ℕ) (first xs : List Action) →
+    Actions list flag final first → has_unknown first ≡ false →
+    is_open (group list final) list ≡ false → Terminal list flag final xs → xs ≡ first
 agree list flag final first xs are known closed t =
     let same = one_segmentation list flag final t.0 first t.1 are in
     let all : has_unknown first || is_open (group list final) list ≡ false = rw (known, closed) refl in

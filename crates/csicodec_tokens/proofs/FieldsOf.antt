@@ -87,7 +87,9 @@ one_fields list f g h i = same_Some _ _ (sym (fields-computed f list h) ∙ fiel
 
 -- ---- which lists have fields
 
-block_tokens : (block : List CsiParam) (x : Option ℤ) (next : List (Option ℤ)) (rest : List CsiParam) → IsBlock block x next → list_all is_field_token rest ≡ true → list_all is_field_token (block ++ rest) ≡ true
+block_tokens : (block : List CsiParam) (x : Option ℤ) (next : List (Option ℤ))
+    (rest : List CsiParam) → IsBlock block x next → list_all is_field_token rest ≡ true →
+    list_all is_field_token (block ++ rest) ≡ true
 block_tokens block None next rest k h = rw k h
 block_tokens block (Some z) next rest (inl k) h = rw k h
 block_tokens block (Some z) next rest (inr k) h = rw k.0 h

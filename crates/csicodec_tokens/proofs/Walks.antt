@@ -1,5 +1,6 @@
 -- A walk over the body of a control sequence, byte by byte and sixteen at once.
-use Rattle.std.proofs.Common.{true, false, Option, Some, None, MatchOption, ◌≡◌, ℕ, zero, suc, ◌+◌, ◌-◌, ◌*◌, ◌<◌, ◌≤◌, List, [], ◌∷◌, ◌++◌, length, take, drop, get_or, refl, sym, ap, subst, ◌∙◌, inl, inr, append_assoc, arith}
+use Rattle.std.proofs.Common.{true, false, Option, Some, None, MatchOption, ◌≡◌, ℕ, zero, suc, ◌+◌, ◌-◌, ◌*◌, ◌<◌, ◌≤◌, List, []}
+use Rattle.std.proofs.Common.{◌∷◌, ◌++◌, length, take, drop, get_or, refl, sym, ap, subst, ◌∙◌, inl, inr, append_assoc, arith}
 use Rattle.std.specs.List.{AllByRecursion, prefix_len}
 use Rattle.std.proofs.lemmas.Bool.{cases_lt}
 use Rattle.std.proofs.lemmas.Bool.Decides.{nat_tests}
@@ -150,7 +151,9 @@ module _ (bytes : List ℕ) (r : ℕ) (room : 16 ≤ length bytes) (found : r �
   front_few = omega (arith, found, length-take-le 16 bytes room, prefix_len-le-length body_byte (take 16 bytes))
 
   front_is : (n : ℕ) → n ≤ r → AllByRecursion IsBodyByte (take n bytes)
-  front_is n le = recursion_from_All IsBodyByte (take n bytes) (All-from_get_or IsBodyByte (take n bytes) 0 (λ i lt. at i (omega (arith, lt, le, length-take-le n bytes (omega (arith, le, front_few, room))))))
+  front_is n le = recursion_from_All IsBodyByte (take n bytes)
+      (All-from_get_or IsBodyByte (take n bytes) 0
+      (λ i lt. at i (omega (arith, lt, le, length-take-le n bytes (omega (arith, le, front_few, room))))))
     where
       at : (i : ℕ) → i < n → IsBodyByte (get_or (take n bytes) i 0)
       at i lt = subst IsBodyByte (get_or-take 16 bytes i 0 (omega (arith, lt, le, front_few)) ∙ sym (get_or-take n bytes i 0 lt))

@@ -3,7 +3,7 @@ ghost use Rattle.std.specs.Prelude.{⊤};
 
 use csicodec_assemble::{Assembler, Refusal};
 use csicodec_command::{Alone, Failure};
-use csicodec_page::Remaker;
+use csicodec_explain::Remaker;
 use csicodec_streams::{CHUNK, RunError, receive, send};
 use std::alloc::Global;
 use std::io::{Read, Write};

@@ -6,7 +6,7 @@ use crate::explain::explainer_of;
 use crate::explained_cast::explain_cast;
 use crate::rewritten_cast::no_memory;
 use csicodec_command::{Failure, Recordings, Worker, work_through};
-use csicodec_page::{Explainer, Style};
+use csicodec_explain::{Explainer, Style};
 use csicodec_streams::{RunError, send};
 use std::alloc::{AllocError, Global};
 use std::io::{BufRead, Read, Write};

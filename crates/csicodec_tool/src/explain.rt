@@ -10,7 +10,7 @@ use csicodec_command::{
     text_of, work_through,
 };
 use csicodec_events::Dialect;
-use csicodec_page::{Explainer, Style};
+use csicodec_explain::{Explainer, Style};
 use std::alloc::{AllocError, Global};
 use std::env;
 use std::io::{self, BufRead, IsTerminal, Read, Write};

@@ -1,8 +1,8 @@
 //! Recordings of asciinema in words.
 
 use csicodec_command::{Failure, Recording};
+use csicodec_explain::Explainer;
 use csicodec_osc::Quoted;
-use csicodec_page::Explainer;
 use csicodec_streams::RunError;
 use std::alloc::Global;
 use std::fmt;

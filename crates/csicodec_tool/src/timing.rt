@@ -2,7 +2,7 @@
 //! bytes it has; in the newer form a letter stands ahead of both, `O` for what was written, `I` for what was typed.
 
 use csicodec_command::{Failure, line_front, micros};
-use csicodec_page::Explainer;
+use csicodec_explain::Explainer;
 use csicodec_streams::{CHUNK, RunError, receive};
 use std::alloc::Global;
 use std::io::{Read, Write};

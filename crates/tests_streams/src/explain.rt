@@ -2,7 +2,7 @@
 
 use crate::spelling::{bytes_of, law};
 use csicodec_events::Dialect;
-use csicodec_page::{Explainer, Style};
+use csicodec_explain::{Explainer, Style};
 use std::alloc::{AllocError, Global};
 
 /// What is told of a stream that comes in these two pieces; nothing where that fails.

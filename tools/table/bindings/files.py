@@ -1,4 +1,4 @@
-"""Which files follow from the actions, from the values that they have, and from the other tables: whole files of csicodec_structs, of csicodec_words, of csicodec_page, of include/, of c/,
+"""Which files follow from the actions, from the values that they have, and from the other tables: whole files of csicodec_structs, of csicodec_words, of csicodec_explain, of include/, of c/,
 of python/, of web/ and of rust/ (FILES), in which nothing else stands, and the numbers of new names in include/numbers.txt. A number that was given
 isn't changed."""
 import functools
@@ -32,7 +32,7 @@ FILES = {
     "crates/csicodec_structs/src/candidates.rt": candidates,
     "crates/csicodec_words/src/action_words.rt": words,
     **{f"crates/csicodec_words/src/action_words/{low(group)}.rt": functools.partial(subject_words, group) for group in WORDED},
-    "crates/csicodec_page/src/patterns.rt": patterns,
+    "crates/csicodec_explain/src/patterns.rt": patterns,
     HEADER: header,
     "include/csicodec_names.h": header_names,
     "rust/src/types.rs": lambda: rust_types("The attributes, and what has a name", NAMED),

@@ -1,4 +1,4 @@
-"""The patterns of csicodec_page: which texts have an action of a name, and the numbers of the names that stand for one in it."""
+"""The patterns of csicodec_explain: which texts have an action of a name, and the numbers of the names that stand for one in it."""
 import re
 import sys
 
@@ -82,7 +82,7 @@ def codes():
         if kind.name in CODED:
             for variant, number, _ in numbers_of(kind):
                 if found.setdefault(variant, number) != number:
-                    sys.exit(f"table: two numbers of {variant}: csicodec_page knows names by themselves")
+                    sys.exit(f"table: two numbers of {variant}: csicodec_explain knows names by themselves")
     return sorted(found.items())
 
 

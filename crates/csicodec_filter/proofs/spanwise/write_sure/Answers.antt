@@ -11,12 +11,24 @@ returns-in_default-clause-written g c = appends_on g.T.WriteSpans.written _ _ _ 
 pub loop-to-smaller-in_ok-sequence-in-Some-control : goal.loop-to-smaller-in_ok-sequence-in-Some-control
 loop-to-smaller-in_ok-sequence-in-Some-control g c =
     let parts = rw c.in-Some.is at c.in_ok-span.ensures.parts in
-    omega (arith, left_within g.T.WriteSpans.written _ _ _ _ c.in_ok-to.ensures, ap length parts, length-append c.in-Some.span.bytes.now c.next.new.self.rest.now, rw c.in-Some.is at c.in_ok-span.ensures.some)
+    omega (
+      arith,
+      left_within g.T.WriteSpans.written _ _ _ _ c.in_ok-to.ensures,
+      ap length parts,
+      length-append c.in-Some.span.bytes.now c.next.new.self.rest.now,
+      rw c.in-Some.is at c.in_ok-span.ensures.some,
+    )
 
 pub loop-to-smaller : goal.loop-to-smaller
 loop-to-smaller g c =
     let parts = rw c.in-Some.is at c.in_ok-span.ensures.parts in
-    omega (arith, left_within g.T.WriteSpans.written _ _ _ _ c.in_ok-to.ensures, ap length parts, length-append c.in-Some.span.bytes.now c.next.new.self.rest.now, rw c.in-Some.is at c.in_ok-span.ensures.some)
+    omega (
+      arith,
+      left_within g.T.WriteSpans.written _ _ _ _ c.in_ok-to.ensures,
+      ap length parts,
+      length-append c.in-Some.span.bytes.now c.next.new.self.rest.now,
+      rw c.in-Some.is at c.in_ok-span.ensures.some,
+    )
 
 pub loop-to-preserved-in_ok-sequence-in-Some-control : goal.loop-to-preserved-in_ok-sequence-in-Some-control
 loop-to-preserved-in_ok-sequence-in-Some-control g c =

@@ -14,14 +14,30 @@ pub returns-in_default-clause-failed : goal.returns-in_default-clause-failed
 returns-in_default-clause-failed g c = λ e.
     let (read, text, consumed, passed, appended) = c.loop.invariant.passed in
     let (more, goes, rests, some) = c.fail.ensures.read e in
-    let kept = Consumes-kept _ _ _ read consumed c.in_default.ensures.err.1 in
-    (read, text ++ more, c.fail.new.transform, kept, goes_behind g.T.Transform.passes c.loop.now c.fail.new.transform c.args.transform read text more goes passed, rests, Appends-trans _ _ _ text more appended some)
+    let kept = Consumes-kept _ _ _ read consumed c.in_default.ensures.err.1 in (
+      read,
+      text ++ more,
+      c.fail.new.transform,
+      kept,
+      goes_behind g.T.Transform.passes c.loop.now c.fail.new.transform c.args.transform read text
+          more goes passed,
+      rests,
+      Appends-trans _ _ _ text more appended some,
+    )
 
 pub returns-clause-failed : goal.returns-clause-failed
 returns-clause-failed g c = λ e.
     let (read, text, consumed, passed, appended) = c.loop.invariant.passed in
-    let (more, goes, rests, some) = c.fail-2.ensures.read e in
-    (read, text ++ more, c.fail-2.new.transform, consumed, goes_behind g.T.Transform.passes c.loop.now c.fail-2.new.transform c.args.transform read text more goes passed, rests, Appends-trans _ _ _ text more appended some)
+    let (more, goes, rests, some) = c.fail-2.ensures.read e in (
+      read,
+      text ++ more,
+      c.fail-2.new.transform,
+      consumed,
+      goes_behind g.T.Transform.passes c.loop.now c.fail-2.new.transform c.args.transform read
+          text more goes passed,
+      rests,
+      Appends-trans _ _ _ text more appended some,
+    )
 
 pub returns-in_default-clause-front : goal.returns-in_default-clause-front
 returns-in_default-clause-front g c =
@@ -65,7 +81,9 @@ returns-then-count-eq0-clause-front g c =
     let room : 0 < length c.receive.new.chunk = omega (arith, c.receive.auto.chunk) in
     let out = c.deref.ensures.value ∙ made ∙ ap (λ t. t ++ rest) c.clear.ensures.items in
     on_err_weaker c.send.result
-    (λ some. went_end g.T.Transform.passes g.T.Transform.ends c.args.transform read text rest some.0 some.1 c.loop.now _ _ _ _ _ all passed ends appended (sym out ∙ some.2) some.3 (c.in-Ok.ensures.read.1 c.if-count-eq0.true room))
+    (λ some. went_end g.T.Transform.passes g.T.Transform.ends c.args.transform read text rest some.0
+    some.1 c.loop.now _ _ _ _ _ all passed ends appended (sym out ∙ some.2) some.3
+    (c.in-Ok.ensures.read.1 c.if-count-eq0.true room))
     c.send.ensures.front
 
 pub returns-in_default-send-clause-front : goal.returns-in_default-send-clause-front

@@ -8,6 +8,11 @@ returns-in-Some-clause-some g c =
     let rest = drop (g.L.Look.passed c.args.look.now) (g.L.Look.tokens c.args.look.now) in
     if_ok c.take_first.result
     (λ known taken yes.
-    let (action, pieces, put) = taken yes in
-    (action, front_first c.args.group rest c.in-Some.first action (sym c.get.ensures.token ∙ c.in-Some.is) (λ others. piece_front c.args.group (c.in-Some.first ∷ others) 1 action (pieces others)), put))
+    let (action, pieces, put) = taken yes in (
+      action,
+      front_first c.args.group rest c.in-Some.first action
+          (sym c.get.ensures.token ∙ c.in-Some.is)
+          (λ others. piece_front c.args.group (c.in-Some.first ∷ others) 1 action (pieces others)),
+      put,
+    ))
     c.take_first.ensures.some

@@ -27,7 +27,9 @@ cut-init g c =
       costs = omega arith;
       taken = (
         [],
-        actions_begin c.args.group tokens (drop (g.L.Look.passed c.pass.new.self) tokens) c.args.end.truncated c.args.end.control c.requires.group c.requires.cut plain (ap (λ n. drop n tokens) at) some,
+        actions_begin c.args.group tokens (drop (g.L.Look.passed c.pass.new.self) tokens)
+            c.args.end.truncated c.args.end.control c.requires.group c.requires.cut plain
+            (ap (λ n. drop n tokens) at) some,
         none_taken g.S.Sink.holds c.args.sink.now,
       );
     }

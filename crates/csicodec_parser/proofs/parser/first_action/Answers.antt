@@ -17,10 +17,14 @@ pub returns-in_default-2-clause-some : goal.returns-in_default-2-clause-some
 returns-in_default-2-clause-some g c =
     let tokens = g.L.Look.tokens c.args.look.now in
     let plain : has_odd c.args.group tokens ≡ false = sym c.has_odd.ensures.odd ∙ c.if-has_odd.false in
-    some_first c.body_action.result c.args.group (g.L.Look.tokens c.has_odd.new.look) tokens c.args.control _ c.has_odd.ensures.list c.in_default.not-Whole (sym c.requires.group) plain c.body_action.ensures.some
+    some_first c.body_action.result c.args.group (g.L.Look.tokens c.has_odd.new.look) tokens
+    c.args.control _ c.has_odd.ensures.list c.in_default.not-Whole (sym c.requires.group) plain
+    c.body_action.ensures.some
 
 pub returns-in_default-2-clause-none : goal.returns-in_default-2-clause-none
 returns-in_default-2-clause-none g c =
     let tokens = g.L.Look.tokens c.args.look.now in
     let plain : has_odd c.args.group tokens ≡ false = sym c.has_odd.ensures.odd ∙ c.if-has_odd.false in
-    none_first c.body_action.result c.args.group (g.L.Look.tokens c.has_odd.new.look) tokens c.args.control _ c.has_odd.ensures.list c.in_default.not-Whole (sym c.requires.group) plain c.body_action.ensures.none
+    none_first c.body_action.result c.args.group (g.L.Look.tokens c.has_odd.new.look) tokens
+    c.args.control _ c.has_odd.ensures.list c.in_default.not-Whole (sym c.requires.group) plain
+    c.body_action.ensures.none

@@ -28,7 +28,9 @@ returns-in-GoesOn c =
     let kind = e.kind ∙ c.kind.ensures in
     record {
       kind = λ csi. no_csi c.args.mode (sym kind ∙ csi);
-      cut = λ limit. rw e.kind (e.cut limit c.args.mode (take c.in-GoesOn.len c.args.bytes.now) (rw (c.kind.ensures, c.split_at.ensures.back) (taken_cut limit c.args.mode c.args.bytes.now (GoesOn c.in-GoesOn.len) _ _ _ is (inl refl))));
+      cut = λ limit. rw e.kind (e.cut limit c.args.mode (take c.in-GoesOn.len c.args.bytes.now)
+          (rw (c.kind.ensures, c.split_at.ensures.back)
+          (taken_cut limit c.args.mode c.args.bytes.now (GoesOn c.in-GoesOn.len) _ _ _ is (inl refl))));
       maximal = rw e.kind e.maximal;
     }
 
@@ -50,7 +52,10 @@ returns-in-New c =
     let kind = e.kind ∙ c.kind-in-New.ensures in
     record {
       kind = λ csi. no_csi c.in-New.next (sym kind ∙ csi);
-      cut = λ limit. rw e.kind (e.cut limit c.args.mode (take c.in-New.len c.args.bytes.now) (rw (c.kind-in-New.ensures, c.split_at-in-New.ensures.back) (taken_cut limit c.args.mode c.args.bytes.now (New c.in-New.len c.in-New.next) _ _ _ is (inr refl))));
+      cut = λ limit. rw e.kind (e.cut limit c.args.mode (take c.in-New.len c.args.bytes.now)
+          (rw (c.kind-in-New.ensures, c.split_at-in-New.ensures.back)
+          (taken_cut limit c.args.mode c.args.bytes.now (New c.in-New.len c.in-New.next) _ _ _ is
+          (inr refl))));
       maximal = rw e.kind e.maximal;
     }
 

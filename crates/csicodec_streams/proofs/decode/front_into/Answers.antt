@@ -55,4 +55,6 @@ pub returns-in_err-long_into-in-Ok-read_csi_into-clause-err : goal.returns-in_er
 returns-in_err-long_into-in-Ok-read_csi_into-clause-err g c =
     let (told, split, held) = c.loop-alloc.invariant in
     let tail = c.in-Ok-read_csi_into.tail in
-    errs c.from_residual-in_err-long_into-in-Ok-read_csi_into.result (begins c.args.bytes.now c.loop-alloc.rest.now c.args.parameters_truncated told split _ tail.control tail.rest.now c.in-Ok-read_csi_into.ensures.found)
+    errs c.from_residual-in_err-long_into-in-Ok-read_csi_into.result
+    (begins c.args.bytes.now c.loop-alloc.rest.now c.args.parameters_truncated told split _
+    tail.control tail.rest.now c.in-Ok-read_csi_into.ensures.found)

@@ -9,5 +9,7 @@ is_front_behind-requires-clause-near c =
 pub returns : goal.returns
 returns c = λ _. (
   omega (arith, c.if-len-eq0.false),
-  same_in_front c.args.bytes.now c.args.known.now 16 c.same_16-near.result c.args.len (omega (arith, c.if-min-len.false, c.min.ensures)) (omega (arith, c.if-min-len.false, c.min.ensures)) c.same_16-near.ensures.same,
+  same_in_front c.args.bytes.now c.args.known.now 16 c.same_16-near.result c.args.len
+      (omega (arith, c.if-min-len.false, c.min.ensures))
+      (omega (arith, c.if-min-len.false, c.min.ensures)) c.same_16-near.ensures.same,
 )

@@ -6,8 +6,15 @@ use Rattle.csicodec_streams.proofs.Streamed.{front_all, front_on, front_read, ke
 use Rattle.csicodec_streams.proofs.stream.stream_into.Goals as goal
 
 pub chunks-init : goal.chunks-init
-chunks-init g c =
-    ([], [], Consumes-nil (g.R.Read.remaining c.args.input.now), ([], append-nil c.args.read.items, record { sequences = []; join = refl; each = refl }), c.requires, omega (arith, ap length (append-nil c.args.read.items)), c.new-memo.ensures)
+chunks-init g c = (
+  [],
+  [],
+  Consumes-nil (g.R.Read.remaining c.args.input.now),
+  ([], append-nil c.args.read.items, record { sequences = []; join = refl; each = refl }),
+  c.requires,
+  omega (arith, ap length (append-nil c.args.read.items)),
+  c.new-memo.ensures,
+)
 
 pub chunks-preserved-then-len-enough : goal.chunks-preserved-then-len-enough
 chunks-preserved-then-len-enough g c =
@@ -32,7 +39,9 @@ returns-in-None-clause-ok g c = λ given whole.
     let rest = c.in-Ok.behind.rest.now in
     let all = front_on (read ++ (more ++ bytes)) held false rest xs ys (front_read read more c.chunks.held.items bytes held xs front kept) (rw c.deref.ensures.value at part) in
     let none : rest ≡ [] = rw c.in-None.is at c.in-Ok.ensures.behind in
-    whole_given given _ (read ++ (more ++ bytes)) (xs ++ ys) _ (Consumes-trans _ _ _ read (more ++ bytes) whole (Consumes-trans _ _ _ more bytes consumed now)) (c.in_ok-count.ensures.end c.if-count-eq0.true)
+    whole_given given _ (read ++ (more ++ bytes)) (xs ++ ys) _
+    (Consumes-trans _ _ _ read (more ++ bytes) whole
+    (Consumes-trans _ _ _ more bytes consumed now)) (c.in_ok-count.ensures.end c.if-count-eq0.true)
     (front_all (read ++ (more ++ bytes)) false rest (xs ++ ys) all none) (put xs out)
 
 pub returns-in-Some-error-clause-refused : goal.returns-in-Some-error-clause-refused
@@ -46,7 +55,15 @@ returns-in-Some-error-clause-refused g c = λ given whole.
     let all = front_on (read ++ (more ++ bytes)) held false rest xs ys (front_read read more c.chunks.held.items bytes held xs front kept) (rw c.deref.ensures.value at part) in
     let stop = rw c.in-Some-error.is at c.in-Ok.ensures.behind in
     let longer = length_read read more c.chunks.held.items bytes held c.chunks.start len kept in
-    let place : c.in-Some.place ≡ length (read ++ (more ++ bytes)) - length rest = omega (arith, longer, c.in-Some.ensures, c.deref.ensures.len, ap length c.deref.ensures.value, c.in-Ok.ensures.within) in
+    let place : c.in-Some.place ≡ length (read ++ (more ++ bytes)) - length rest =
+    omega (
+      arith,
+      longer,
+      c.in-Some.ensures,
+      c.deref.ensures.len,
+      ap length c.deref.ensures.value,
+      c.in-Ok.ensures.within,
+    ) in
     rw (c.from.ensures, c.refusal_at.ensures, place)
     (refused_end given _ (read ++ (more ++ bytes)) _ (Consumes-trans _ _ _ read (more ++ bytes) whole (Consumes-trans _ _ _ more bytes consumed now)) (c.in_ok-count.ensures.end c.if-count-eq0-2.true)
     (refuses_at (read ++ (more ++ bytes)) rest false (xs ++ ys) stop.1.0 c.in-Some-error.error (split_of (read ++ (more ++ bytes)) false rest (xs ++ ys) all) stop.0 stop.1.1))
@@ -62,9 +79,19 @@ returns-in-Some-2-clause-refused g c = λ given whole.
     let all = front_on (read ++ (more ++ bytes)) held false rest xs ys (front_read read more c.chunks.held.items bytes held xs front kept) (rw c.deref.ensures.value at part) in
     let stop = rw c.in-Some-2.is at c.in-Ok.ensures.behind in
     let longer = length_read read more c.chunks.held.items bytes held c.chunks.start len kept in
-    let place : c.in-Some.place ≡ length (read ++ (more ++ bytes)) - length rest = omega (arith, longer, c.in-Some.ensures, c.deref.ensures.len, ap length c.deref.ensures.value, c.in-Ok.ensures.within) in
+    let place : c.in-Some.place ≡ length (read ++ (more ++ bytes)) - length rest =
+    omega (
+      arith,
+      longer,
+      c.in-Some.ensures,
+      c.deref.ensures.len,
+      ap length c.deref.ensures.value,
+      c.in-Ok.ensures.within,
+    ) in
     c.refused.ensures.refused given (read ++ (more ++ bytes)) (Consumes-trans _ _ _ read (more ++ bytes) whole (Consumes-trans _ _ _ more bytes consumed now))
-    (λ after. rw (c.refusal_at-in-Some-2.ensures, place) (stays_refused (read ++ (more ++ bytes)) rest after false (xs ++ ys) stop.1.0 c.in-Some-2.error all stop.0 stop.1.1 (sym c.stays.ensures ∙ c.if-stays.true)))
+    (λ after. rw (c.refusal_at-in-Some-2.ensures, place)
+    (stays_refused (read ++ (more ++ bytes)) rest after false (xs ++ ys) stop.1.0
+    c.in-Some-2.error all stop.0 stop.1.1 (sym c.stays.ensures ∙ c.if-stays.true)))
 
 pub chunks-preserved : goal.chunks-preserved
 chunks-preserved g c =

@@ -5,7 +5,9 @@ use Rattle.csicodec_tokens.proofs.text.put.Goals as goal
 use Rattle.csicodec_tokens.proofs.text.put.Goals.{then-len-lt-ROOM+in_ok-widen, else-len-lt-ROOM}
 
 -- a part behind a front, and of it the first bytes
-part_front : (front part behind after : List ℕ) (n count : ℕ) → length front + count ≤ n → count ≤ length part → take (length front + count) (take n ((front ++ (part ++ behind)) ++ after)) ≡ front ++ take count part
+part_front : (front part behind after : List ℕ) (n count : ℕ) → length front + count ≤ n →
+    count ≤ length part → take (length front + count)
+    (take n ((front ++ (part ++ behind)) ++ after)) ≡ front ++ take count part
 part_front front part behind after n count within short =
     take-take (length front + count) n _ within ∙ ap (λ (l : List ℕ). take (length front + count) l) (append_assoc front (part ++ behind) after)
     ∙ take-append-add front ((part ++ behind) ++ after) count

@@ -16,11 +16,13 @@ pub returns-in_ok-ok-in-None : goal.returns-in_ok-ok-in-None
 unfolding read
 returns-in_ok-ok-in-None c =
     ap (option_map (λ n. terminal.Unspecified n)) (sym c.in_ok-ok-in-None.was ∙ c.ok.ensures.value)
-    ∙ unnamed terminal_mode_number terminal_codes (λ x. terminal.Code x) _ terminals c.args.number c.ranges.number c.from_i64.result c.try_from.result c.from_i64.ensures c.in-None.is c.try_from.ensures
+    ∙ unnamed terminal_mode_number terminal_codes (λ x. terminal.Code x) _ terminals c.args.number
+    c.ranges.number c.from_i64.result c.try_from.result c.from_i64.ensures c.in-None.is c.try_from.ensures
 
 pub returns-in_err-ok-in-None : goal.returns-in_err-ok-in-None
 unfolding read
 returns-in_err-ok-in-None c =
     c.from_residual.ensures
     ∙ ap (option_map (λ n. terminal.Unspecified n)) (sym c.in_err-ok-in-None.was ∙ c.ok.ensures.value)
-    ∙ unnamed terminal_mode_number terminal_codes (λ x. terminal.Code x) _ terminals c.args.number c.ranges.number c.from_i64.result c.try_from.result c.from_i64.ensures c.in-None.is c.try_from.ensures
+    ∙ unnamed terminal_mode_number terminal_codes (λ x. terminal.Code x) _ terminals c.args.number
+    c.ranges.number c.from_i64.result c.try_from.result c.from_i64.ensures c.in-None.is c.try_from.ensures

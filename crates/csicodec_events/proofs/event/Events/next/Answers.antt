@@ -7,7 +7,9 @@ use Rattle.csicodec_events.proofs.event.Events.next.Goals as goal
 
 pub returns-then-not-begins_csi-clause-tells : goal.returns-then-not-begins_csi-clause-tells
 returns-then-not-begins_csi-clause-tells c =
-    match_both (HasWaited c.args.self.now c.args.bytes.now c.span.new.self) (λ (t : Told). HasTold c.args.self.now c.args.bytes.now t.event t.bytes.now t.rest.now _ c.span.new.self) _ _ c.span.result (c.span.ensures _) (λ w. w.waits) (λ t h. h.tells)
+    match_both (HasWaited c.args.self.now c.args.bytes.now c.span.new.self)
+    (λ (t : Told). HasTold c.args.self.now c.args.bytes.now t.event t.bytes.now t.rest.now _
+    c.span.new.self) _ _ c.span.result (c.span.ensures _) (λ w. w.waits) (λ t h. h.tells)
 
 pub returns-then-not-begins_csi-clause-parts : goal.returns-then-not-begins_csi-clause-parts
 returns-then-not-begins_csi-clause-parts c =

@@ -13,7 +13,9 @@ returns-in-Esc c = λ list.
     let t = c.tell.ensures in
     let cuts = subst (λ (k : Kind). Cuts e.limit e.mode c.args.bytes.now k cut.span.bytes.now cut.rest.now cut.mode) c.in-Esc.is c.in-Some.ensures.cut in
     let most = subst (λ (k : Kind). IsMaximal k cut.mode cut.rest.now) c.in-Esc.is c.in-Some.ensures.maximal in
-    span_told e c.args.bytes.now c.tell.result list c.tell.new.self cut.mode kind.Esc event.Esc cut.span.bytes.now cut.rest.now c.requires.limit c.requires.looked t.event t.bytes t.rest t.onward cuts most (λ s. s)
+    span_told e c.args.bytes.now c.tell.result list c.tell.new.self cut.mode kind.Esc event.Esc
+    cut.span.bytes.now cut.rest.now c.requires.limit c.requires.looked t.event t.bytes t.rest
+    t.onward cuts most (λ s. s)
 
 pub returns-in-Csi : goal.returns-in-Csi
 returns-in-Csi c = λ list.
@@ -26,5 +28,7 @@ returns-in-Csi c = λ list.
     ] in
     let cuts = subst (λ (k : Kind). Cuts e.limit e.mode c.args.bytes.now k cut.span.bytes.now cut.rest.now cut.mode) other c.in-Some.ensures.cut in
     let most = subst (λ (k : Kind). IsMaximal k cut.mode cut.rest.now) other c.in-Some.ensures.maximal in
-    span_told e c.args.bytes.now c.tell-in-Csi.result list c.tell-in-Csi.new.self cut.mode kind.Other event.Other cut.span.bytes.now cut.rest.now c.requires.limit c.requires.looked t.event t.bytes t.rest t.onward
+    span_told e c.args.bytes.now c.tell-in-Csi.result list c.tell-in-Csi.new.self cut.mode
+    kind.Other event.Other cut.span.bytes.now cut.rest.now c.requires.limit c.requires.looked
+    t.event t.bytes t.rest t.onward
     cuts most (λ s. inl (c.requires.other, s))

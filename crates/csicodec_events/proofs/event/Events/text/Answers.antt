@@ -23,5 +23,7 @@ returns c = λ list.
     let e = c.args.self.now in
     let cut = c.args.cut in
     let t = c.tell.ensures in
-    text_told e c.args.bytes.now c.tell.result list c.tell.new.self cut.mode (length cut.span.bytes.now - c.held_len.result) cut.span.bytes.now cut.rest.now c.requires.looked t.event t.bytes t.rest t.onward
+    text_told e c.args.bytes.now c.tell.result list c.tell.new.self cut.mode
+    (length cut.span.bytes.now - c.held_len.result) cut.span.bytes.now cut.rest.now
+    c.requires.looked t.event t.bytes t.rest t.onward
     c.requires.cut c.requires.maximal (omega arith) (omega (arith, c.if-len-eq0.false)) c.held_len.ensures.holds

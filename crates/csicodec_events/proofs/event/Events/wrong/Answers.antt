@@ -10,5 +10,9 @@ returns-then-is_final c = λ list.
     let bytes = c.args._front.now.bytes in
     let stands = subst (λ (o : Option ℕ). StandsAt o (drop c.args.at bytes)) c.in-Some.is c.requires.stands in
     let len = ap (λ (x : Event × ℕ). x.1) c.found.ensures.event in
-    wrong_told e bytes c.args.at c.in-Some.byte stands.1.0 c.found.result.0 (take c.found.result.1 bytes) (drop c.found.result.1 bytes) list c.found.new.self c.requires.begins c.requires.place stands.1.1
-    (sym c.is_final.ensures ∙ c.if-is_final.true) c.requires.why (ap (λ (x : Event × ℕ). x.0) c.found.ensures.event) (ap (λ (k : ℕ). take k bytes) len) (ap (λ (k : ℕ). drop k bytes) len) c.found.ensures.onward
+    wrong_told e bytes c.args.at c.in-Some.byte stands.1.0 c.found.result.0
+    (take c.found.result.1 bytes) (drop c.found.result.1 bytes) list c.found.new.self
+    c.requires.begins c.requires.place stands.1.1
+    (sym c.is_final.ensures ∙ c.if-is_final.true) c.requires.why
+    (ap (λ (x : Event × ℕ). x.0) c.found.ensures.event) (ap (λ (k : ℕ). take k bytes) len)
+    (ap (λ (k : ℕ). drop k bytes) len) c.found.ensures.onward

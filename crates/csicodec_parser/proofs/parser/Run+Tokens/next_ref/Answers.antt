@@ -45,7 +45,9 @@ returns-in-Some-action_at-clause-fewer c =
     let list = c.group_at.ensures.list in
     let passed = c.group_at.ensures.passes in
     let on = rw (list, passed) at c.in-Some-action_at.ensures.forward in
-    rw (sym c.self.view_is) (goes_ok c.self.inside.stage _ after refl c.self.invariant (record { list = c.action_at.ensures.list ∙ list; flag = refl; final = refl }) c.in-Some.ensures.some refl c.charge.ensures
+    rw (sym c.self.view_is) (goes_ok c.self.inside.stage _ after refl c.self.invariant
+    (record { list = c.action_at.ensures.list ∙ list; flag = refl; final = refl })
+    c.in-Some.ensures.some refl c.charge.ensures
     on c.action_at.ensures.within)
 
 pub invariant_of-self-in-None : goal.invariant_of-self-in-None
@@ -59,7 +61,9 @@ invariant_of-self-in-None c =
     let is = c.rest_ref-rest.ensures.list in
     let long : length c.self.inside.look.list ≤ c.rest_ref-rest.new.look.passed = omega (arith, all, ap length is, ap length now) in
     sound_ok c.self.inside.stage _ _ c.in-Some.group _ refl c.self.invariant (record { list = is ∙ now; flag = refl; final = refl })
-    c.in-Some.ensures.group (rest_alone c.in-Some.group c.self.inside.truncated c.self.inside.control c.self.inside.look.list c.action_at.new.look.passed c.rest_ref-rest.new.look.passed _ told long) (omega (arith, all))
+    c.in-Some.ensures.group (rest_alone c.in-Some.group c.self.inside.truncated
+    c.self.inside.control c.self.inside.look.list c.action_at.new.look.passed
+    c.rest_ref-rest.new.look.passed _ told long) (omega (arith, all))
     (omega (arith, left, c.group_at.ensures.costs, c.rest_ref-rest.ensures.costs, all, ap length is, ap length now, c.action_at.ensures.within)) c.charge-in-None.ensures
     (λ w. absurd (omega (arith, w, all)))
 

@@ -55,10 +55,21 @@ invariant_of-self-in-Ok g c =
     let left = rw (list, passed) at c.in-None.ensures.left in
     let now = c.next_action.ensures.list ∙ list in
     let all = c.in-Ok.ensures.all in
-    let more = unknown_left c.in-Some.group c.self.inside.truncated c.self.inside.control (g.L.Look.tokens c.self.inside.look) (g.L.Look.tokens c.next_action.new.look) (g.L.Look.tokens c.rest_action.new.look)
+    let more = unknown_left c.in-Some.group c.self.inside.truncated c.self.inside.control
+    (g.L.Look.tokens c.self.inside.look) (g.L.Look.tokens c.next_action.new.look)
+    (g.L.Look.tokens c.rest_action.new.look)
     (g.L.Look.passed c.next_action.new.look) (g.L.Look.passed c.rest_action.new.look) c.in-Ok.action _ now c.rest_action.ensures.list told c.in-Ok.ensures.ok all in
     sound_ok c.self.inside.stage _ _ c.in-Some.group (action_of c.in-Ok.action) refl c.self.invariant (record { list = c.rest_action.ensures.list ∙ now; flag = refl; final = refl })
-    c.in-Some.ensures.group more c.rest_action.ensures.within (omega (arith, left, c.group_at.ensures.costs, c.rest_action.ensures.costs, all, ap length c.rest_action.ensures.list, ap length now)) c.charge-in-Ok.ensures
+    c.in-Some.ensures.group more c.rest_action.ensures.within
+    (omega (
+      arith,
+      left,
+      c.group_at.ensures.costs,
+      c.rest_action.ensures.costs,
+      all,
+      ap length c.rest_action.ensures.list,
+      ap length now,
+    )) c.charge-in-Ok.ensures
     (λ w. absurd (omega (arith, w, all)))
 
 pub returns-in-Ok-clause-steps : goal.returns-in-Ok-clause-steps
@@ -69,7 +80,9 @@ returns-in-Ok-clause-steps g c =
     let left = rw (list, passed) at c.in-None.ensures.left in
     let now = c.next_action.ensures.list ∙ list in
     let all = c.in-Ok.ensures.all in
-    let more = unknown_left c.in-Some.group c.self.inside.truncated c.self.inside.control (g.L.Look.tokens c.self.inside.look) (g.L.Look.tokens c.next_action.new.look) (g.L.Look.tokens c.rest_action.new.look)
+    let more = unknown_left c.in-Some.group c.self.inside.truncated c.self.inside.control
+    (g.L.Look.tokens c.self.inside.look) (g.L.Look.tokens c.next_action.new.look)
+    (g.L.Look.tokens c.rest_action.new.look)
     (g.L.Look.passed c.next_action.new.look) (g.L.Look.passed c.rest_action.new.look) c.in-Ok.action _ now c.rest_action.ensures.list told c.in-Ok.ensures.ok all in
     rw (sym c.self.view_is)
     (next_ok c.self.inside.stage _ _ c.in-Some.group c.in-Ok.action refl c.self.invariant (record { list = c.rest_action.ensures.list ∙ now; flag = refl; final = refl })

@@ -9,7 +9,8 @@ pub wrong_span-requires : goal.wrong_span-requires
 wrong_span-requires c = subst (λ t. FaultOf t c.in-Err.error) c.near.ensures (refused _ _ c.in-Err.error c.in_default-error.not-Memory c.in-Err.ensures.refused)
 
 pub returns-in-Ok-clause-some : goal.returns-in-Ok-clause-some
-returns-in-Ok-clause-some c = cut_some c.args.limit c.args.self.now.mode c.args.self.now.rest.now _ _ _ _ c.requires (c.sequence_span-cut.ensures.cut c.args.self.now.mode (sym c.look.ensures ∙ c.in-Csi.is))
+returns-in-Ok-clause-some c = cut_some c.args.limit c.args.self.now.mode c.args.self.now.rest.now _
+    _ _ _ c.requires (c.sequence_span-cut.ensures.cut c.args.self.now.mode (sym c.look.ensures ∙ c.in-Csi.is))
 
 pub returns-in-Some : goal.returns-in-Some
 returns-in-Some c =

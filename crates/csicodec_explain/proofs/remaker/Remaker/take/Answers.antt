@@ -1,7 +1,7 @@
 use Rattle.std.proofs.Common.{◌∙◌}
 use Rattle.std.proofs.lemmas.Result.{on_ok_weaker}
-use Rattle.csicodec_page.proofs.Kept.{one_more}
-use Rattle.csicodec_page.proofs.remaker.Remaker.take.Goals as goal
+use Rattle.csicodec_explain.proofs.Kept.{one_more}
+use Rattle.csicodec_explain.proofs.remaker.Remaker.take.Goals as goal
 
 pub loop-preserved : goal.loop-preserved
 loop-preserved c =

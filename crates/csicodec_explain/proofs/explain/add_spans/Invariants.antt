@@ -1,5 +1,5 @@
 use Rattle.std.proofs.Common.{◌≤◌, length}
-use Rattle.csicodec_page.proofs.explain.add_spans.Given as goal
+use Rattle.csicodec_explain.proofs.explain.add_spans.Given as goal
 
 -- what is left is a part of the bytes
 abbrev pub invariant-loop-known : goal.invariant-loop-known

@@ -5,7 +5,7 @@ use Rattle.std.specs.List.{list_all}
 use Rattle.std.proofs.lemmas.Bool.{and_parts}
 use Rattle.csicodec_assemble.specs.declared.object.Fault.TheVariants.{NoSequence}
 use Rattle.csicodec_assemble.specs.Object.{of_line}
-use Rattle.csicodec_page.specs.Kept.{AreKept, lines_over}
+use Rattle.csicodec_explain.specs.Kept.{AreKept, lines_over}
 
 is_false : (t : Bool) → not t ≡ true → t ≡ false
 is_false true e = cc e

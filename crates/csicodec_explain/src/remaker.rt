@@ -9,7 +9,7 @@
 ghost use Rattle.std.specs.Prelude.{◌≡◌, ◌≢◌, ◌++◌, ◌∷◌, [], Err, IfOk, IsSome, IsTrue, OnOk};
 ghost use Rattle.csicodec_assemble.specs.declared.object.Fault.TheVariants.{NoSequence};
 ghost use Rattle.csicodec_assemble.specs.Object.{of_line};
-ghost use Rattle.csicodec_page.specs.Kept.{AreKept, lines_over};
+ghost use Rattle.csicodec_explain.specs.Kept.{AreKept, lines_over};
 
 use crate::made::Maker;
 use csicodec_assemble::{Fault, Refusal, bytes_of_line, split_line};

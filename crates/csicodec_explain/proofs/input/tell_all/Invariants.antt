@@ -1,6 +1,6 @@
 use Rattle.std.proofs.Common.{◌<◌, ◌≤◌, length}
 use Rattle.csicodec_events.specs.Events.{IsMet, left}
-use Rattle.csicodec_page.proofs.input.tell_all.Given as goal
+use Rattle.csicodec_explain.proofs.input.tell_all.Given as goal
 
 -- what is left is a part of the bytes
 abbrev pub invariant-loop-sent : goal.invariant-loop-sent

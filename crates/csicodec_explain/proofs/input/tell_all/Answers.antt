@@ -1,5 +1,5 @@
 use Rattle.std.proofs.Common.{ap, ◌∙◌, length, length-append, arith}
-use Rattle.csicodec_page.proofs.input.tell_all.Goals as goal
+use Rattle.csicodec_explain.proofs.input.tell_all.Goals as goal
 
 pub loop-sent-preserved : goal.loop-sent-preserved
 loop-sent-preserved c =

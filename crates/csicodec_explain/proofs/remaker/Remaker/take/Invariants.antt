@@ -1,5 +1,5 @@
-use Rattle.csicodec_page.proofs.Kept.{Goes}
-use Rattle.csicodec_page.proofs.remaker.Remaker.take.Given as goal
+use Rattle.csicodec_explain.proofs.Kept.{Goes}
+use Rattle.csicodec_explain.proofs.remaker.Remaker.take.Given as goal
 
 -- the lines that are over passed, if each stays
 abbrev pub invariant-loop : goal.invariant-loop

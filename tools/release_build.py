@@ -251,7 +251,7 @@ def join_sections(kit, path):
 
 def link_library(kit, place, made, folder, room):
     """The archive, one object with the calls of the heap in it, whose names are its own; and the shared library, which exports the calls of
-    the header and of system/events.c, and nothing else."""
+    the header and of system/python.c, and nothing else."""
     target, major = TARGETS[place][0], version().split(".")[0]
     own = tempfile.mkdtemp(dir=room)
     kit.tool("llvm-ar", "x", made[place, LIBRARY], cwd=own)
@@ -271,12 +271,12 @@ def link_library(kit, place, made, folder, room):
         file.write(f"GLIBC_{GLIBC[place]} {{ global: {'; '.join(older)}; local: *; }};\n{newer}")
     run(kit.clang, f"--target={target}", "-ffreestanding", "-fPIC", "-fno-builtin", "-w", "-c", f"{own}/calls.c", "-o", f"{own}/calls.o")
     kit.tool("ld.lld", "-shared", "-soname", "libc.so.6", "--version-script", f"{own}/versions", "-o", f"{own}/libc.so.6", f"{own}/calls.o")
-    kit.c_object(target, "events", f"{own}/events.o", "-fPIC", f"-I{TOP}/system/headers", f"-I{TOP}/include")
+    kit.c_object(target, "python", f"{own}/python.o", "-fPIC", f"-I{TOP}/system/headers", f"-I{TOP}/include")
     with open(f"{own}/names", "w", encoding="utf-8") as file:
         file.write(f"CSICODEC_{major} {{ global: {'; '.join([*calls(), *MANY_EVENTS])}; local: *; }};\n")
     how = ["-shared", "-soname", f"libcsicodec.so.{major}", "--version-script", f"{own}/names", "-z", "relro", "-z", "now", "-z", "defs", "-z", "noexecstack"]
     how += ["--gc-sections", "--icf=safe", "--build-id=none", "--hash-style=gnu", "-s"]
-    kit.tool("ld.lld", *how, "-o", f"{folder}/libcsicodec.so", f"{own}/{parts[0]}", f"{own}/heap.o", f"{own}/events.o", f"{own}/libc.so.6")
+    kit.tool("ld.lld", *how, "-o", f"{folder}/libcsicodec.so", f"{own}/{parts[0]}", f"{own}/heap.o", f"{own}/python.o", f"{own}/libc.so.6")
 
 
 def calls():

@@ -155,7 +155,7 @@ def link_windows(kit, made, folder, room):
     how = ["-static-libgcc", "-Wl,--no-insert-timestamp", "-Wl,--gc-sections", "-s"]
     c_flags = ["-O2", "-Wall", "-Wextra", "-Werror", "-ffunction-sections", f"-I{TOP}/include"]
     run(MINGW, *c_flags, "-fno-builtin", *words(), "-c", f"{TOP}/system/program.c", "-o", f"{own}/program.o")
-    for name in ("windows", "events"):
+    for name in ("windows", "python"):
         run(MINGW, *c_flags, "-c", f"{TOP}/system/{name}.c", "-o", f"{own}/{name}.o")
     program = object_of(kit, made, WINDOWS, PROGRAM, room)
     # As much stack as a program has on Linux.
@@ -164,7 +164,7 @@ def link_windows(kit, made, folder, room):
     with open(f"{folder}/csicodec.def", "w", encoding="utf-8") as file:
         file.write("LIBRARY csicodec.dll\nEXPORTS\n" + "".join(f"    {name}\n" for name in [*calls(), *MANY_EVENTS]))
     # mingw's linker would make the address of the name of the folder.
-    run(MINGW, *how, "-shared", "-Wl,--image-base,0x180000000", "-o", f"{folder}/csicodec.dll", library, f"{own}/events.o", f"{folder}/csicodec.def")
+    run(MINGW, *how, "-shared", "-Wl,--image-base,0x180000000", "-o", f"{folder}/csicodec.dll", library, f"{own}/python.o", f"{folder}/csicodec.def")
     run(MINGW.replace("gcc", "dlltool"), "--deterministic-libraries", "-d", "csicodec.def", "-l", "libcsicodec.dll.a", cwd=folder)
     shutil.copy(library, f"{own}/csicodec.o")
     kit.tool("llvm-ar", "rcsD", f"{folder}/libcsicodec.a", "csicodec.o", cwd=own)
@@ -182,7 +182,7 @@ def link_macos(kit, made, place, folder, room):
                    f"exports:\n  - targets: [ {arch}-macos ]\n    symbols: [ {', '.join(f'_{name}' for name in SYSTEM_CALLS)}, dyld_stub_binder ]\n...\n")
     parts = {name: kit.c_object(target, name, f"{own}/{name}.o", "-fno-stack-protector", *more) for name, more in {
         "program": ["-fno-builtin", *words()], "macos": ["-fno-builtin"], "wide": [],
-        "events": [f"-I{TOP}/system/headers", f"-I{TOP}/include"]}.items()}
+        "python": [f"-I{TOP}/system/headers", f"-I{TOP}/include"]}.items()}
     library = object_of(kit, made, place, LIBRARY, room)
     how = ["-arch", arch, "-platform_version", "macos", "11.0", "11.0", "-dead_strip", "-adhoc_codesign", "-no_uuid"]
     objects = [parts["program"], parts["macos"], parts["wide"], object_of(kit, made, place, PROGRAM, room)]
@@ -191,7 +191,7 @@ def link_macos(kit, made, place, folder, room):
         file.writelines(f"_{name}\n" for name in [*calls(), *MANY_EVENTS])
     major = version().split(".")[0]
     names = ["-dylib", "-install_name", f"@rpath/libcsicodec.{major}.dylib", "-exported_symbols_list", f"{own}/names"]
-    kit.tool("ld64.lld", *how, *names, "-o", f"{folder}/libcsicodec.dylib", library, parts["events"], parts["wide"], f"{own}/libSystem.tbd")
+    kit.tool("ld64.lld", *how, *names, "-o", f"{folder}/libcsicodec.dylib", library, parts["python"], parts["wide"], f"{own}/libSystem.tbd")
     shutil.copy(library, f"{own}/csicodec.o")
     kit.tool("llvm-ar", "rcsD", "--format=darwin", f"{folder}/libcsicodec.a", "csicodec.o", cwd=own)
 

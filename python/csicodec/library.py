@@ -37,7 +37,7 @@ class Known(Structure):
 
 
 class Desk(Structure):
-    """What is to be left of texts, and room (csicodec_desk of system/events.c)."""
+    """What is to be left of texts, and room (csicodec_desk of system/python.c)."""
 
     _fields_ = [("styles", c_uint32), ("depth", c_uint32), ("links", c_uint32), ("room", c_char * _KEPT)]
 
@@ -47,7 +47,7 @@ class Stream(Structure):
 
 
 class Telling(Structure):
-    """A stream, bytes, and room for their events (csicodec_telling of system/events.c)."""
+    """A stream, bytes, and room for their events (csicodec_telling of system/python.c)."""
 
     _fields_ = [
         ("stream", Stream),

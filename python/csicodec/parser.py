@@ -12,7 +12,7 @@ from .enums import EscCode
 from .event import STRINGS, ControlString, Esc, Event, Malformed, Text, UnknownEsc
 from .library import Data, Room, bytes_of
 
-# The struct csicodec_listed of system/events.c, and where the bytes stand that say which event it is.
+# The struct csicodec_listed of system/python.c, and where the bytes stand that say which event it is.
 _TOLD = struct.Struct("=IIQQIIIIII")
 _KEY = struct.Struct("=40xII")
 _TEXT, _ACTIONS, _ESC, _STRING = 1, 2, 3, 4

@@ -24,6 +24,7 @@ mod events;
 #[cfg(feature = "std")]
 mod explain;
 mod filter;
+mod grid;
 mod html;
 mod input;
 #[cfg(feature = "std")]
@@ -36,7 +37,6 @@ mod lines;
 mod numbers;
 mod osc;
 mod osc_kinds;
-mod page;
 mod parser;
 mod pen;
 mod pending;

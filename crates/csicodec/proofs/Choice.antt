@@ -241,10 +241,19 @@ or-none : (o : Option Action) → option_or o None ≡ o
 or-none None = refl
 or-none (Some a) = refl
 
--- what gives something only with other rules gives nothing
-none-of : (o : Option Action) (mine : Bool) → ((a : Action) → o ≡ Some a → mine ≡ true) → mine ≡ false → o ≡ None
-none-of None mine only not = refl
-none-of (Some a) mine only not = let is = only a refl in cc
+-- what one subject reads, where these are its rules
+abbrev only : Bool → Option Action → Option Action
+only true o = o
+only false o = None
+
+-- something is read only with such rules
+abbrev IsOwn : Bool → Option Action → Type 0
+IsOwn mine o = (a : Action) → o ≡ Some a → mine ≡ true
+
+all-its-own : (o : Option Action) (mine : Bool) → IsOwn mine o → only mine o ≡ o
+all-its-own o true gives = refl
+all-its-own None false gives = refl
+all-its-own (Some a) false gives = let is = gives a refl in cc
 
 -- what these rules pick of what each subject reads
 abbrev pick : Rules → (c e m o k p d w g : Option Action) → Option Action
@@ -276,150 +285,39 @@ first-plain : (c : Option Action) → option_or (option_or c None) None ≡ c
 first-plain None = refl
 first-plain (Some a) = refl
 
-picked : (r : Rules) (c e m o k p d w g : Option Action) →
-    ((a : Action) → c ≡ Some a → of_cursor r ≡ true) →
-    ((a : Action) → e ≡ Some a → of_edit r ≡ true) →
-    ((a : Action) → m ≡ Some a → of_mode r ≡ true) →
-    ((a : Action) → o ≡ Some a → of_mouse r ≡ true) →
-    ((a : Action) → k ≡ Some a → of_keyboard r ≡ true) →
-    ((a : Action) → p ≡ Some a → of_path r ≡ true) →
-    ((a : Action) → d ≡ Some a → of_device r ≡ true) →
-    ((a : Action) → w ≡ Some a → of_window r ≡ true) → ((a : Action) → g ≡ Some a → of_graphics r ≡ true)
-    → first-of c e m o k p d w g ≡ pick r c e m o k p d w g
-picked rule.CharacterPath c e m o k p d w g fc fe fm fo fk fp fd fw fg =
+-- the first that reads anything, of those that the rules leave, is what they pick
+first-left : (r : Rules) (c e m o k p d w g : Option Action) →
+    first-of (only (of_cursor r) c) (only (of_edit r) e) (only (of_mode r) m) (only (of_mouse r) o) (only (of_keyboard r) k)
+    (only (of_path r) p) (only (of_device r) d) (only (of_window r) w) (only (of_graphics r) g) ≡ pick r c e m o k p d w g
+first-left rule.CharacterPath c e m o k p d w g = or-none p
+first-left rule.CursorStyle c e m o k p d w g = first-plain c
+first-left rule.Checksum c e m o k p d w g = or-none w
+first-left rule.Attributes c e m o k p d w g = or-none d
+first-left rule.MouseReport c e m o k p d w g = first-plain o
+first-left rule.Graphics c e m o k p d w g = refl
+first-left rule.Query c e m o k p d w g = first-plain m
+first-left rule.SoftReset c e m o k p d w g = or-none d
+first-left rule.PrivateModes c e m o k p d w g = refl
+first-left rule.NameAndVersion c e m o k p d w g = or-none d
+first-left rule.KeyModes c e m o k p d w g = first-plain m
+first-left rule.Keyboard c e m o k p d w g = first-plain k
+first-left rule.Plain c e m o k p d w g = plain-order c e d w
+
+picked : (r : Rules) (c e m o k p d w g : Option Action) → IsOwn (of_cursor r) c → IsOwn (of_edit r) e → IsOwn (of_mode r) m
+    → IsOwn (of_mouse r) o → IsOwn (of_keyboard r) k → IsOwn (of_path r) p → IsOwn (of_device r) d → IsOwn (of_window r) w
+    → IsOwn (of_graphics r) g → first-of c e m o k p d w g ≡ pick r c e m o k p d w g
+picked r c e m o k p d w g fc fe fm fo fk fp fd fw fg =
     rw (
-      none-of c _ fc refl,
-      none-of e _ fe refl,
-      none-of m _ fm refl,
-      none-of o _ fo refl,
-      none-of k _ fk refl,
-      none-of d _ fd refl,
-      none-of w _ fw refl,
-      none-of g _ fg refl,
-    ) (or-none p)
-picked rule.CursorStyle c e m o k p d w g fc fe fm fo fk fp fd fw fg =
-    rw (
-      none-of e _ fe refl,
-      none-of m _ fm refl,
-      none-of o _ fo refl,
-      none-of k _ fk refl,
-      none-of p _ fp refl,
-      none-of d _ fd refl,
-      none-of w _ fw refl,
-      none-of g _ fg refl,
-    ) (first-plain c)
-picked rule.Checksum c e m o k p d w g fc fe fm fo fk fp fd fw fg =
-    rw (
-      none-of c _ fc refl,
-      none-of e _ fe refl,
-      none-of m _ fm refl,
-      none-of o _ fo refl,
-      none-of k _ fk refl,
-      none-of p _ fp refl,
-      none-of d _ fd refl,
-      none-of g _ fg refl,
-    ) (or-none w)
-picked rule.Attributes c e m o k p d w g fc fe fm fo fk fp fd fw fg =
-    rw (
-      none-of c _ fc refl,
-      none-of e _ fe refl,
-      none-of m _ fm refl,
-      none-of o _ fo refl,
-      none-of k _ fk refl,
-      none-of p _ fp refl,
-      none-of w _ fw refl,
-      none-of g _ fg refl,
-    ) (or-none d)
-picked rule.MouseReport c e m o k p d w g fc fe fm fo fk fp fd fw fg =
-    rw (
-      none-of c _ fc refl,
-      none-of e _ fe refl,
-      none-of m _ fm refl,
-      none-of k _ fk refl,
-      none-of p _ fp refl,
-      none-of d _ fd refl,
-      none-of w _ fw refl,
-      none-of g _ fg refl,
-    ) (first-plain o)
-picked rule.Graphics c e m o k p d w g fc fe fm fo fk fp fd fw fg =
-    rw (
-      none-of c _ fc refl,
-      none-of e _ fe refl,
-      none-of m _ fm refl,
-      none-of o _ fo refl,
-      none-of k _ fk refl,
-      none-of p _ fp refl,
-      none-of d _ fd refl,
-      none-of w _ fw refl,
-    ) (refl)
-picked rule.Query c e m o k p d w g fc fe fm fo fk fp fd fw fg =
-    rw (
-      none-of c _ fc refl,
-      none-of e _ fe refl,
-      none-of o _ fo refl,
-      none-of k _ fk refl,
-      none-of p _ fp refl,
-      none-of d _ fd refl,
-      none-of w _ fw refl,
-      none-of g _ fg refl,
-    ) (first-plain m)
-picked rule.SoftReset c e m o k p d w g fc fe fm fo fk fp fd fw fg =
-    rw (
-      none-of c _ fc refl,
-      none-of e _ fe refl,
-      none-of m _ fm refl,
-      none-of o _ fo refl,
-      none-of k _ fk refl,
-      none-of p _ fp refl,
-      none-of w _ fw refl,
-      none-of g _ fg refl,
-    ) (or-none d)
-picked rule.PrivateModes c e m o k p d w g fc fe fm fo fk fp fd fw fg =
-    rw (
-      none-of c _ fc refl,
-      none-of e _ fe refl,
-      none-of m _ fm refl,
-      none-of o _ fo refl,
-      none-of k _ fk refl,
-      none-of p _ fp refl,
-      none-of d _ fd refl,
-      none-of w _ fw refl,
-      none-of g _ fg refl,
-    ) (refl)
-picked rule.NameAndVersion c e m o k p d w g fc fe fm fo fk fp fd fw fg =
-    rw (
-      none-of c _ fc refl,
-      none-of e _ fe refl,
-      none-of m _ fm refl,
-      none-of o _ fo refl,
-      none-of k _ fk refl,
-      none-of p _ fp refl,
-      none-of w _ fw refl,
-      none-of g _ fg refl,
-    ) (or-none d)
-picked rule.KeyModes c e m o k p d w g fc fe fm fo fk fp fd fw fg =
-    rw (
-      none-of c _ fc refl,
-      none-of e _ fe refl,
-      none-of o _ fo refl,
-      none-of k _ fk refl,
-      none-of p _ fp refl,
-      none-of d _ fd refl,
-      none-of w _ fw refl,
-      none-of g _ fg refl,
-    ) (first-plain m)
-picked rule.Keyboard c e m o k p d w g fc fe fm fo fk fp fd fw fg =
-    rw (
-      none-of c _ fc refl,
-      none-of e _ fe refl,
-      none-of m _ fm refl,
-      none-of o _ fo refl,
-      none-of p _ fp refl,
-      none-of d _ fd refl,
-      none-of w _ fw refl,
-      none-of g _ fg refl,
-    ) (first-plain k)
-picked rule.Plain c e m o k p d w g fc fe fm fo fk fp fd fw fg = rw (none-of m _ fm refl, none-of o _ fo refl, none-of k _ fk refl, none-of p _ fp refl, none-of g _ fg refl) (plain-order c e d w)
+      all-its-own c (of_cursor r) fc,
+      all-its-own e (of_edit r) fe,
+      all-its-own m (of_mode r) fm,
+      all-its-own o (of_mouse r) fo,
+      all-its-own k (of_keyboard r) fk,
+      all-its-own p (of_path r) fp,
+      all-its-own d (of_device r) fd,
+      all-its-own w (of_window r) fw,
+      all-its-own g (of_graphics r) fg,
+    ) at (first-left r c e m o k p d w g)
 
 read-picks : (r : Rules) (list : List CsiParam) (final : ℕ) →
     read_by_rules r list final ≡ pick r (as_cursor list final) (as_edit list final)

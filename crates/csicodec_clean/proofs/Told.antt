@@ -5,13 +5,12 @@ use Rattle.std.specs.List.{AllByRecursion, prefix_len}
 use Rattle.std.specs.Str.{all_scalars}
 use Rattle.std.specs.Char.{encode_utf8}
 use Rattle.std.proofs.lemmas.Bool.{and_from, and_parts}
-use Rattle.std.proofs.lemmas.List.{take-take}
 use Rattle.std.proofs.lemmas.Bool.Decides.{nat_tests}
 use lib.Utf8.{scalar, low_scalar}
 use Rattle.bstr.specs.Utf8.{Decoded, decoded, good, or_replacement, lossy_chars, continues, second, code_of_2, code_of_3, code_of_4}
 use Rattle.bstr.proofs.lemmas.EncodeLemmas.{decoded-encode}
 use Rattle.bstr.proofs.lemmas.PieceLemmas.{lossy_chars-step, value-1, value-6, value-9, value-12}
-use Rattle.std.proofs.Math.Seq.{take-append_seam, take-append-add, drop-append_seam}
+use Rattle.std.proofs.Math.Seq.{take-append_seam, drop-append_seam}
 use Rattle.csicodec_clean.specs.Shown.{shown, shown_chars, IsPlain, IsRead, IsShown}
 use Rattle.csicodec_clean.specs.Bytes.{IsPlainByte, behind, plain_byte}
 use Rattle.csicodec_clean.specs.Private.Steps.{IsBehindShown, IsOther, IsTold, Tells, dropped_byte, IsWide}
@@ -142,10 +141,6 @@ tells_dropped b bytes rest old e d = (
 -- what is told is read in front of the rest
 pub read_front : (text rest chars : List ℕ) → IsRead text chars [] → IsRead (text ++ rest) chars rest
 read_front text rest chars read more = ap lossy_chars (append_assoc text rest more) ∙ read (rest ++ more)
-
--- a copy of sixteen bytes, of which the first ones stay
-pub copied : (old bytes : List ℕ) (len : ℕ) → len ≤ 16 → take (length old + len) (old ++ take 16 bytes) ≡ old ++ take len bytes
-copied old bytes len few = take-append-add old (take 16 bytes) len ∙ ap (λ t. old ++ t) (take-take len 16 bytes few)
 
 -- where nothing was held
 pub none_held : (held bytes chars rest new : List ℕ) → length held ≡ 0 → IsRead bytes chars rest → new ≡ held ++ rest → IsRead (held ++ bytes) chars new

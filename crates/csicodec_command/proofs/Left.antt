@@ -1,5 +1,5 @@
 -- What is left of a recording while its lines are read.
-use Rattle.std.proofs.Common.{◌≡◌, ◌≢◌, ◌==◌, ◌<◌, ◌-◌, ◌++◌, suc, ◌∷◌, ◌∙◌, ℕ, Bool, true, false, cond, List, []}
+use Rattle.std.proofs.Common.{◌≡◌, ◌≢◌, ◌==◌, ◌-◌, ◌++◌, suc, ◌∷◌, ◌∙◌, ℕ, Bool, true, false, cond, List, []}
 use Rattle.std.proofs.Common.{Option, None, Some, length, take, not, refl, sym, ap, subst, append_assoc, append-nil, arith}
 use Rattle.std.specs.Prelude.{IfSome, IsUtf8, option_map}
 use Rattle.std.specs.Str.{is_utf8, trim}
@@ -11,10 +11,10 @@ use Rattle.std.proofs.lemmas.List.{take-append-drop}
 use Rattle.std.proofs.lemmas.List.Elements.{All-head, All-tail}
 use Rattle.std.proofs.KnownBytes.{Keeps-refl, Keeps-trans}
 use Rattle.std.specs.Io.{StartsWith, StopsAt, appended_bytes}
-use Rattle.std.specs.Io.KnownBytes.{Consumes, IsAtEnd, Keeps}
+use Rattle.std.specs.Io.KnownBytes.{Consumes, Keeps}
 use Rattle.std.specs.Io.BufRead.{drop_through, take_through}
 use Rattle.csicodec_assemble.specs.Lines.{last_line}
-use Rattle.csicodec_command.specs.Recorded.{Event, data_behind, data_from, is_over, line_says, lines_from, lines_left, says, written}
+use Rattle.csicodec_command.specs.Recorded.{Event, data_from, is_over, line_says, lines_from, lines_left, says, written}
 
 -- a byte behind a line ends it if it is LF
 pub over_behind : (line : List ℕ) (b : ℕ) → is_over (line ++ b ∷ []) ≡ (b == 10)
@@ -75,16 +75,6 @@ whole_line line (b ∷ bytes) unended = by (b == 10) refl (λ e. whole_line (lin
         subst (λ (l : List ℕ). lines_left l (drop_through 10 bytes) ≡ heads l (drop_through 10 bytes))
         (append_assoc line (b ∷ []) (take_through 10 bytes)) (more e)
 
--- a line that says something
-pub says_on : (said : Option (Option Event)) (text others : List ℕ) → option_map written said ≡ Some text
-    → data_behind said others ≡ text ++ others
-says_on None text others e = absurd (subst (λ (o : Option (List ℕ)). IfSome o (λ _. ⊥)) e tt)
-says_on (Some said) text others e = ap (λ (o : Option (List ℕ)). or_none o ++ others) e
-  where
-    or_none : Option (List ℕ) → List ℕ
-    or_none None = []
-    or_none (Some t) = t
-
 -- what is no UTF-8 is refused
 pub no_text : (line : List ℕ) (said : Option (Option Event)) (t : Bool) → is_utf8 line ≡ t → (IsUtf8 line → ⊥) → cond t said None ≡ None
 no_text line said true e other = absurd (other (IsUtf8-from_is_utf8 line e))
@@ -133,24 +123,3 @@ kept_first a = Keeps-refl a
 
 pub kept_more : (a b c : Option (List ℕ)) → Keeps a b → Keeps b c → Keeps a c
 kept_more a b c h k = Keeps-trans a b c h k
-
--- some of an event's data was read
-pub event_read : (a known : Option (List ℕ)) (over : Bool) (event next buf : List ℕ) (rest : List ℕ → List ℕ) (n : ℕ)
-    → Keeps a (cond over (Some event) (option_map (λ bytes. event ++ rest bytes) known)) → (event ≡ [] → over ≡ true)
-    → event ≡ take n buf ++ next → (n ≡ 0 → 0 < length buf → next ≡ [])
-    → Consumes a (cond over (Some next) (option_map (λ bytes. next ++ rest bytes) known)) (take n buf)
-    × (n ≡ 0 → 0 < length buf → IsAtEnd (cond over (Some next) (option_map (λ bytes. next ++ rest bytes) known)))
-event_read a known over event next buf rest n kept end same none = (consumed a known over kept, at_end)
-  where
-    consumed : (a known : Option (List ℕ)) (over : Bool) → Keeps a (cond over (Some event) (option_map (λ bytes. event ++ rest bytes) known))
-        → Consumes a (cond over (Some next) (option_map (λ bytes. next ++ rest bytes) known)) (take n buf)
-    consumed None known over kept = tt
-    consumed (Some all) known true kept = sym kept ∙ same
-    consumed (Some all) None false kept = absurd kept
-    consumed (Some all) (Some bytes) false kept = sym kept ∙ ap (λ (t : List ℕ). t ++ rest bytes) same ∙ append_assoc (take n buf) next (rest bytes)
-
-    at_end : n ≡ 0 → 0 < length buf → IsAtEnd (cond over (Some next) (option_map (λ bytes. next ++ rest bytes) known))
-    at_end zero room =
-        let gone : next ≡ [] = none zero room in
-        let nothing : event ≡ [] = same ∙ ap (λ (k : ℕ). take k buf ++ next) zero ∙ gone in
-        rw (end nothing, gone) refl

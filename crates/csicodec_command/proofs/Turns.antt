@@ -1,7 +1,7 @@
 -- Turns one after the other, and what an input has behind its first bytes.
 use Rattle.std.proofs.Common.{Bor, Bool, true, false, if◌then◌else◌, ◌==◌, inl, inr, ◌⊎◌, ◌≡◌, ◌∷◌, ◌++◌, ℕ, List, [], Option, None, Some}
 use Rattle.std.proofs.Common.{Result, Ok, Err, ap, drop, length, get_or, arith, refl, sym, subst, append_assoc, append-nil, ◌≤◌, ◌+◌, ◌<◌, ◌≢◌, ◌∙◌}
-use Rattle.std.specs.Prelude.{map, codes, IfSome}
+use Rattle.std.specs.Prelude.{map, codes}
 use Rattle.std.specs.Fmt.{option_append}
 use Rattle.std.specs.Option.{option_or}
 use Rattle.std.proofs.lemmas.List.{at_drop_more, length-map}
@@ -15,7 +15,7 @@ use Rattle.csicodec_command.specs.declared.failure.Failure.TheVariants as failur
 use Rattle.std.proofs.KnownBytes.{Consumes-nil, Consumes-trans, Keeps-refl}
 use Rattle.csicodec_command.specs.declared.failure.Failure.{Failure}
 use Rattle.csicodec_command.specs.Runs.{At, Closes, Ends, HasTurn, IsReadBy, IsRun, IsTold, IsUnread, MayBeRecording, Next, Recording, StepsOf, Stream, Through}
-use Rattle.csicodec_command.specs.Runs.{ends_run, first_of, names_of}
+use Rattle.csicodec_command.specs.Runs.{ends_run, first_of}
 
 abbrev pub named : List (Bor (List ℕ)) → List (List ℕ)
 named names = map (λ n. n.now) names
@@ -72,19 +72,6 @@ pub read_more : (before mid after : Option (List ℕ)) (front piece all : List �
     → all ≡ front ++ piece → Consumes before after all
 read_more before mid after front piece all first next is =
     subst (λ (a : List ℕ). Consumes before after a) (sym is) (Consumes-trans before mid after front piece first next)
-
--- what begins an input begins all of it
-pub begins_all : (before after : Option (List ℕ)) (front rest : List ℕ) → Consumes before after front → front ≡ 123 ∷ rest
-    → IfSome before (λ bytes. (behind : List ℕ) × (bytes ≡ 123 ∷ behind))
-begins_all None after front rest h e = tt
-begins_all (Some all) None front rest h e = absurd h
-begins_all (Some all) (Some left) front rest h e =
-    (rest ++ left, subst (λ (f : List ℕ). all ≡ f ++ left) e h)
-
--- the names of a command line that has some
-pub names_named : (files : List (Bor (List ℕ))) → 0 < length files → names_of files ≡ named files
-names_named [] h = absurd (omega (arith, h))
-names_named (file ∷ files) h = refl
 
 -- what stands behind the inputs is asked for where none failed
 pub none_failed : {S : Type 0} (Steps : StepsOf S) (names : List (List ℕ)) (start : At S) (result : Result (Unit {0}) ℕ) (end : At S)

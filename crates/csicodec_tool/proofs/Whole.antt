@@ -23,37 +23,19 @@ use Rattle.csicodec_tool.specs.Whole.{AreKnown, AreTaken, IsTaken, WholeRuns}
 begun_twice : (w : Work) → begun_of (begun_of w) ≡ begun_of w
 begun_twice (work.Html name markup overwrite false begun) = refl
 begun_twice (work.Html name markup overwrite true begun) = refl
-begun_twice (work.Filter faithful) = refl
-begun_twice (work.Compact semicolons) = refl
-begun_twice (work.Strip lines) = refl
-begun_twice (work.Overwrite styles) = refl
-begun_twice (work.Log styles) = refl
-begun_twice work.Check = refl
-begun_twice (work.Clean passing lines) = refl
+begun_twice other = refl
 
 none_ahead : (w : Work) (text : List ℕ) → Heads (begun_of w) text → text ≡ []
 none_ahead (work.Html name markup overwrite false begun) text h = h
 none_ahead (work.Html name markup overwrite true false) text h = h
 none_ahead (work.Html name markup overwrite true true) text h = h
-none_ahead (work.Filter faithful) text h = h
-none_ahead (work.Compact semicolons) text h = h
-none_ahead (work.Strip lines) text h = h
-none_ahead (work.Overwrite styles) text h = h
-none_ahead (work.Log styles) text h = h
-none_ahead work.Check text h = h
-none_ahead (work.Clean passing lines) text h = h
+none_ahead other text h = h
 
 as_begun : (w : Work) (bytes text : List ℕ) → Writes (begun_of w) bytes text → Writes w bytes text
 as_begun (work.Html name markup true false begun) bytes text h = h
 as_begun (work.Html name markup false false begun) bytes text h = h
 as_begun (work.Html name markup overwrite true begun) bytes text h = h
-as_begun (work.Filter faithful) bytes text h = h
-as_begun (work.Compact semicolons) bytes text h = h
-as_begun (work.Strip lines) bytes text h = h
-as_begun (work.Overwrite styles) bytes text h = h
-as_begun (work.Log styles) bytes text h = h
-as_begun work.Check bytes text h = h
-as_begun (work.Clean passing lines) bytes text h = h
+as_begun other bytes text h = h
 
 -- ---- one input
 
@@ -144,13 +126,7 @@ turn_written holds name bytes unwraps at next is of_data may (inr r) = read r.ah
 none_twice : (w : Work) → makes_none (begun_of w) ≡ makes_none w
 none_twice (work.Html name markup overwrite false begun) = refl
 none_twice (work.Html name markup overwrite true begun) = refl
-none_twice (work.Filter faithful) = refl
-none_twice (work.Compact semicolons) = refl
-none_twice (work.Strip lines) = refl
-none_twice (work.Overwrite styles) = refl
-none_twice (work.Log styles) = refl
-none_twice work.Check = refl
-none_twice (work.Clean passing lines) = refl
+none_twice other = refl
 
 -- so behind it the next is taken as it was
 still_of_data : (first next : Job) → next.text ≡ first.text → next.work ≡ begun_of first.work → writes_data next ≡ writes_data first

@@ -27,11 +27,7 @@ mode_of n = cond (n == 0) modes.Text (cond (n == 1) modes.Osc (cond (n == 2) mod
 
 mode_back : (m : Mode) → mode_of (mode_number m) ≡ m
 mode_back modes.Text = refl
-mode_back modes.Osc = refl
-mode_back modes.Dcs = refl
-mode_back modes.Str = refl
-mode_back modes.BadCsi = refl
-mode_back modes.BadEsc = refl
+mode_back other = refl
 
 bit_back : (b : Bool) → (bit b == 1) ≡ b
 bit_back true = refl

@@ -24,15 +24,11 @@ use Rattle.csicodec_c.proofs.Laid.{PutsAt, puts_one}
 
 is_final : (c : Change) → IsFinal (change_final c)
 is_final change.Set = (omega arith, omega arith)
-is_final change.Reset = (omega arith, omega arith)
-is_final change.Save = (omega arith, omega arith)
-is_final change.Restore = (omega arith, omega arith)
+is_final other = (omega arith, omega arith)
 
 changes : (c : Change) (z : ℤ) → group (P 63 ∷ Integer z ∷ []) (change_final c) ≡ DecModes c
 changes change.Set z = refl
-changes change.Reset z = refl
-changes change.Save z = refl
-changes change.Restore z = refl
+changes other z = refl
 
 change_alone : (c : Change) (n : ℕ) (m : DecPrivateMode) → read Dec (pos n) ≡ Some m → Actions (P 63 ∷ Integer (pos n) ∷ []) false (change_final c) (action.Mode (changed c m) ∷ [])
 change_alone c n m found = rw (changes c (pos n)) (record {
@@ -46,9 +42,7 @@ change_alone c n m found = rw (changes c (pos n)) (record {
 -- a mode's struct has its number, by whatever name
 same_struct : (c : Change) (m : DecPrivateMode) (n : ℕ) → dec_number m ≡ n → mode_struct (changed c (dec.Unspecified n)) ≡ mode_struct (changed c m)
 same_struct change.Set m n is = rw is refl
-same_struct change.Reset m n is = rw is refl
-same_struct change.Save m n is = rw is refl
-same_struct change.Restore m n is = rw is refl
+same_struct other m n is = rw is refl
 
 pub changed_one : (body behind after : List ℕ) (ao an : List Struct) (n : ℕ) (c : Change) (given : Struct) → ReadsOn body (P 63 ∷ Integer (pos n) ∷ []) behind → behind ≡ change_final c ∷ after
     → n < 65536 → given ≡ mode_struct (changed c (dec.Unspecified n)) → PutsAt 0 given ao an → HasLaid body ao an 1 after

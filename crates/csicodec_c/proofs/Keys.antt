@@ -15,18 +15,9 @@ use Rattle.csicodec_c.specs.Input.{Puts}
 pub puts_told : (x : Event) (list : List CsiParam) (a : List Struct) (p : List Param) (answer : Received) → ((final : ℕ) → x ≡ event.Csi final → ⊥) → answer.actions ≡ 0 → answer.params ≡ 0
     → Puts (input.Output x) list a a p p answer
 puts_told (event.Csi final) list a p answer other actions params = absurd (other final refl)
-puts_told event.Text list a p answer other actions params = (actions, params, refl, refl)
-puts_told (event.Control b) list a p answer other actions params = (actions, params, refl, refl)
-puts_told event.Esc list a p answer other actions params = (actions, params, refl, refl)
-puts_told event.Str list a p answer other actions params = (actions, params, refl, refl)
-puts_told event.Other list a p answer other actions params = (actions, params, refl, refl)
+puts_told _ list a p answer other actions params = (actions, params, refl, refl)
 
 pub puts_key : (x : InputEvent) (list : List CsiParam) (a : List Struct) (p : List Param) (answer : Received) → ((told : Event) → x ≡ input.Output told → ⊥) → answer.actions ≡ 0 → answer.params ≡ 0
     → Puts x list a a p p answer
 puts_key (input.Output told) list a p answer other actions params = absurd (other told refl)
-puts_key (input.Ss3 b) list a p answer other actions params = (actions, params, refl, refl)
-puts_key (input.Linux b) list a p answer other actions params = (actions, params, refl, refl)
-puts_key (input.Rxvt n) list a p answer other actions params = (actions, params, refl, refl)
-puts_key input.Mouse list a p answer other actions params = (actions, params, refl, refl)
-puts_key (input.Alt b) list a p answer other actions params = (actions, params, refl, refl)
-puts_key input.Escape list a p answer other actions params = (actions, params, refl, refl)
+puts_key _ list a p answer other actions params = (actions, params, refl, refl)

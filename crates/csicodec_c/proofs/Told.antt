@@ -26,10 +26,7 @@ use Rattle.csicodec_c.specs.Event.{HasPut, IsDone, IsRefused, IsWaiting, Puts, r
 
 no_done : (error : ReadError) → (refusal error).status ≡ 0 → ⊥
 no_done (reading.NotCsi at) e = omega (arith, e)
-no_done (reading.BadByte at) e = omega (arith, e)
-no_done (reading.NumberTooLarge at) e = omega (arith, e)
-no_done (reading.Truncated at) e = omega (arith, e)
-no_done reading.Memory e = omega (arith, e)
+no_done other e = omega (arith, e)
 
 -- it was laid where the status says so
 pub laid : (bytes : List ℕ) (a b : List Struct) (p q : List Param) (front : NextSequence) → (IsLaid bytes a b p q front ⊎ IsUnlaid bytes a b p q front) → front.status ≡ 0 → IsLaid bytes a b p q front
@@ -92,11 +89,7 @@ read_done number limit looked bytes near m a b p q front answer began none begin
 pub puts_none : (x : Event) (list : List CsiParam) (a : List Struct) (p : List Param) (answer : Evented) → ((final : ℕ) → x ≡ event.Csi final → ⊥) → answer.actions ≡ 0 → answer.params ≡ 0
     → Puts x list a a p p answer
 puts_none (event.Csi final) list a p answer other actions params = absurd (other final refl)
-puts_none event.Text list a p answer other actions params = (actions, params, refl, refl)
-puts_none (event.Control b) list a p answer other actions params = (actions, params, refl, refl)
-puts_none event.Esc list a p answer other actions params = (actions, params, refl, refl)
-puts_none event.Str list a p answer other actions params = (actions, params, refl, refl)
-puts_none event.Other list a p answer other actions params = (actions, params, refl, refl)
+puts_none _ list a p answer other actions params = (actions, params, refl, refl)
 
 -- how the call for an event ends
 abbrev pub Ends : ℕ → ℕ → ℕ → List ℕ → List Struct → List Struct → List Param → List Param → Evented → Type 0

@@ -185,42 +185,19 @@ module _ (P : ℕ → Type 0) (Q : Look → Type 0) (R : Sgr → Type 0) where
         let k = of_parted l h in
         let some = min n (limit - size (parted l)) in
         (tt, (k.0, both (replicate some Empty) (parted l).right (empties some) k.1))
-    of_does limit pen (step.Attribute s) l q p h = (tt, h)
-    of_does limit pen (step.Inserts inserts) l q p h = (tt, h)
-    of_does limit pen step.Save l q p h = (tt, h)
     of_does limit pen step.Restore l q p h = of_restored limit pen l h
-    of_does limit pen step.Reset l q p h = (tt, h)
     of_does limit pen (step.Leave to) l q p h = of_leave limit to l h
     of_does limit pen (step.Row row to) l q p h = of_placed_in limit pen row to l h
-    of_does limit pen step.Other l q p h = (tt, h)
+    of_does limit pen other l q p h = (tt, h)
 
     last_kept : (last : Option ℕ) (c : ℕ) → OfLast last → P c → OfLast (last_behind last c)
     last_kept last c h p = either OfLast (width c 0 == 0) last (Some c) h p
 
     pen_kept : (pen : Pen) (s : Step) (column : ℕ) → OfPen pen → OfStep s → OfPen (pen_behind pen s column)
     pen_kept pen (step.Put c) column q p = (q.0, last_kept pen.last c q.1 p)
-    pen_kept pen (step.Repeat n) column q p = (q.0, tt)
-    pen_kept pen step.Tab column q p = (q.0, tt)
-    pen_kept pen (step.Tabs n) column q p = (q.0, tt)
-    pen_kept pen (step.TabsBack n) column q p = (q.0, tt)
-    pen_kept pen step.NewLine column q p = (q.0, tt)
-    pen_kept pen (step.Right n) column q p = (q.0, tt)
-    pen_kept pen (step.Left n) column q p = (q.0, tt)
-    pen_kept pen (step.Column n) column q p = (q.0, tt)
-    pen_kept pen step.EraseRight column q p = (q.0, tt)
-    pen_kept pen step.EraseLeft column q p = (q.0, tt)
-    pen_kept pen step.EraseAll column q p = (q.0, tt)
-    pen_kept pen (step.Erase n) column q p = (q.0, tt)
-    pen_kept pen (step.Delete n) column q p = (q.0, tt)
-    pen_kept pen (step.Insert n) column q p = (q.0, tt)
     pen_kept pen (step.Attribute s) column q p = (kept pen.look s q.0 p, tt)
-    pen_kept pen (step.Inserts inserts) column q p = (q.0, tt)
-    pen_kept pen step.Save column q p = (q.0, tt)
-    pen_kept pen step.Restore column q p = (q.0, tt)
     pen_kept pen step.Reset column q p = (plain_kept, tt)
-    pen_kept pen (step.Leave to) column q p = (q.0, tt)
-    pen_kept pen (step.Row row to) column q p = (q.0, tt)
-    pen_kept pen step.Other column q p = (q.0, tt)
+    pen_kept pen other column q p = (q.0, tt)
 
     pub of_all : (limit : ℕ) (pen : Pen) (steps : List Step) (l : Line) → OfPen pen → AllByRecursion OfStep steps → OfLine l → OfDone (do_all limit pen steps l)
     of_all limit pen [] l q p h = (tt, h)

@@ -159,16 +159,9 @@ display_good display.EraseDisplay = (tt, tt)
 display_good display.EraseScrollback = tt
 
 edit_good : (e : Edit) → AreGood (of_edit e)
-edit_good (edit.EraseCharacter n) = (tt, tt)
-edit_good (edit.DeleteCharacter n) = (tt, tt)
-edit_good (edit.InsertCharacter n) = (tt, tt)
-edit_good (edit.Repeat n) = (tt, tt)
-edit_good (edit.ScrollUp n) = (tt, tt)
-edit_good (edit.ScrollDown n) = (tt, tt)
-edit_good (edit.InsertLine n) = (tt, tt)
-edit_good (edit.DeleteLine n) = (tt, tt)
 edit_good (edit.EraseInLine p) = part_good p
 edit_good (edit.EraseInDisplay p) = display_good p
+edit_good other = (tt, tt)
 
 code_good : (c : DecPrivateModeCode) → AreGood (of_code c)
 code_good code.Select132Columns = (tt, tt)
@@ -250,19 +243,10 @@ plain_kept = (tt, tt, tt)
 
 pub kept : (l : Look) (s : Sgr) → IsInRange l → SgrInRange s → IsInRange (behind l s)
 kept l sgr.Reset h k = plain_kept
-kept l (sgr.Intensity x) h k = h
-kept l (sgr.Underline x) h k = h
 kept l (sgr.UnderlineColor x) h k = (k, h.1, h.2)
-kept l (sgr.Blink x) h k = h
-kept l (sgr.Italic x) h k = h
-kept l (sgr.Inverse x) h k = h
-kept l (sgr.Invisible x) h k = h
-kept l (sgr.StrikeThrough x) h k = h
-kept l (sgr.Font x) h k = h
 kept l (sgr.Foreground x) h k = (h.0, k, h.2)
 kept l (sgr.Background x) h k = (h.0, h.1, k)
-kept l (sgr.Overline x) h k = h
-kept l (sgr.VerticalAlign x) h k = h
+kept l other h k = h
 
 -- ---- and so what is written
 

@@ -179,14 +179,10 @@ module _ (limit : ℕ) (enough : 8 ≤ limit) where
   does_size pen (step.Erase n) l h = omega (arith, parted_less l, erased_less n (parted l).right)
   does_size pen (step.Delete n) l h = omega (arith, parted_less l, gone_less n (parted l).right, without_less n (parted l).right)
   does_size pen (step.Insert n) l h = omega (arith, parted_less l, joined (min n (limit - size (parted l))) Empty (parted l).right)
-  does_size pen (step.Attribute s) l h = h
-  does_size pen (step.Inserts inserts) l h = h
-  does_size pen step.Save l h = h
   does_size pen step.Restore l h = restored_size pen l h
-  does_size pen step.Reset l h = h
   does_size pen (step.Leave to) l h = forward_size (target to l) blank (omega arith)
   does_size pen (step.Row row to) l h = placed_in_size pen row to l h
-  does_size pen step.Other l h = h
+  does_size pen other l h = h
 
   pub all_size : (pen : Pen) (steps : List Step) (l : Line) → size l ≤ limit → size (do_all limit pen steps l).line ≤ limit
   all_size pen [] l h = h

@@ -1,16 +1,16 @@
 # Completions of csicodec for bash, written by tools/completions.
 _csicodec() {
-    local word=${COMP_WORDS[COMP_CWORD]} before=${COMP_WORDS[COMP_CWORD-1]} task= of= it
+    local word=${COMP_WORDS[COMP_CWORD]} before=${COMP_WORDS[COMP_CWORD-1]} equals= task= of= it
     # An option and its value are three words where = is between them.
-    [ "$word" != = ] || word=
-    [ "$before" != = ] || before=${COMP_WORDS[COMP_CWORD-2]}
-    [ "${COMP_WORDS[COMP_CWORD]}" != = ] || before=${COMP_WORDS[COMP_CWORD-1]}
+    [ "$word" != = ] || { word= equals=1; }
+    [ "$before" != = ] || { before=${COMP_WORDS[COMP_CWORD-2]} equals=1; }
     for it in "${COMP_WORDS[@]:1:COMP_CWORD-1}"; do
         case $it in filter|compact|strip|clean|html|explain|assemble|cuts|help) task=$it; break ;; esac
     done
     COMPREPLY=()
     case $before in
         --at) COMPREPLY=(); return ;;
+        --check) if [ "$equals" ]; then COMPREPLY=($(compgen -W "visible" -- "$word")); return; fi ;;
         --color) COMPREPLY=($(compgen -W "always never auto" -- "$word")); return ;;
         --colors) COMPREPLY=($(compgen -W "256 16" -- "$word")); return ;;
         --every) COMPREPLY=(); return ;;
@@ -22,7 +22,7 @@ _csicodec() {
     case $task in
         filter) of="--faithful --text --help" ;;
         compact) of="--semicolons --text --help" ;;
-        strip) of="--check --lines --log --overwrite --text --help" ;;
+        strip) of="--check --check=visible --lines --log --overwrite --text --help" ;;
         clean) of="--colors --lines --links --log --overwrite --text --help" ;;
         html) of="--classes --fragment --links --no-overwrite --overwrite --palette --help" ;;
         explain) of="--at --color --count --decode --diff --full --grep --ignore-case --input --json --only --quiet --stats --timing --unknown --utf8-mouse --help" ;;

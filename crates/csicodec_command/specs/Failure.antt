@@ -1,6 +1,6 @@
 -- What a program tells of a run that failed.
-use Rattle.std.specs.Prelude.{ℕ, List, ◌++◌, codes}
-use Rattle.std.specs.Fmt.{decimal}
+use Rattle.std.specs.Prelude.{ℕ, ◌-◌, ◌^◌, true, false, List, [], ◌++◌, codes}
+use Rattle.std.specs.Fmt.{decimal, digits, format_spec, padded_integral}
 use Rattle.csicodec_assemble.specs.Object.{fault_text}
 use Rattle.csicodec_streams.specs.Words.{run_error_text, run_status}
 use Rattle.csicodec_command.specs.declared.failure.Failure.{Failure}
@@ -8,13 +8,20 @@ use Rattle.csicodec_command.specs.declared.failure.Failure.TheVariants as failur
 use Rattle.csicodec_command.specs.declared.failure.Found.{Found}
 use Rattle.csicodec_command.specs.declared.failure.Found.TheVariants as found
 
--- what stands where plain text ends
+-- the number of a character, as Unicode writes it: in capital digits of base 16, of which there are four at least
+abbrev pub code_text : ℕ → List ℕ
+code_text n = codes "U+" ++ padded_integral (format_spec 32 0 4 4 (2 ^ 64 - 1)) false [] (digits 16 true n)
+
+-- what stands where plain text ends, or text that is all seen
 abbrev pub found_text : Found → List ℕ
 found_text found.Sequence = codes "a control sequence"
 found_text found.String = codes "a control string"
 found_text found.Escape = codes "an escape sequence"
 found_text (found.Control n) = codes "the control character " ++ decimal n
 found_text found.NotUtf8 = codes "bytes that are no UTF-8"
+found_text (found.Turning n) = code_text n ++ codes ", which changes the order of text"
+found_text (found.Tag n) = code_text n ++ codes ", a tag"
+found_text (found.Unseen n) = code_text n ++ codes ", which isn't seen"
 
 -- the text of each failure, without the line's end
 abbrev pub line : Failure → List ℕ

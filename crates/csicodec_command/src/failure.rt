@@ -25,6 +25,12 @@ pub enum Found {
     Control(u8),
     /// What is no UTF-8.
     NotUtf8,
+    /// A character that changes the order of text, by its number.
+    Turning(u32),
+    /// A tag.
+    Tag(u32),
+    /// Another character that isn't seen.
+    Unseen(u32),
 }
 
 impl fmt::Display for Found {
@@ -37,6 +43,9 @@ impl fmt::Display for Found {
             Found::Escape => f.write_str("an escape sequence"),
             Found::Control(code) => write!(f, "the control character {code}"),
             Found::NotUtf8 => f.write_str("bytes that are no UTF-8"),
+            Found::Turning(code) => write!(f, "U+{code:04X}, which changes the order of text"),
+            Found::Tag(code) => write!(f, "U+{code:04X}, a tag"),
+            Found::Unseen(code) => write!(f, "U+{code:04X}, which isn't seen"),
         }
     }
 }
@@ -66,7 +75,7 @@ pub enum Failure {
     Times(u64),
     /// The line of this number, counted from 1, stands for no bytes.
     Object(u64, Fault),
-    /// At this byte of the input, counted from 0, and in this line, counted from 1, it is plain text no more.
+    /// At this byte of the input, counted from 0, and in this line, counted from 1, it is plain text no more, or one that is all seen.
     NotPlain(u64, u64, Found),
     /// The stream wasn't read or written to its end.
     Run(RunError),

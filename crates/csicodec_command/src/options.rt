@@ -23,7 +23,7 @@ pub(crate) static OPTIONS: [(&str, &str, &str); 32] = [
         "explain",
         "offsets such as 120, 120-180 or 120-, separated by commas",
     ),
-    ("--check", "strip", ""),
+    ("--check", "strip", "visible"),
     ("--classes", "html", ""),
     ("--color", "explain", "always, never or auto"),
     ("--colors", "clean", "256 or 16"),
@@ -59,6 +59,9 @@ pub(crate) static OPTIONS: [(&str, &str, &str); 32] = [
     ("--utf8-mouse", "explain", ""),
     ("--version", "", ""),
 ];
+
+/// Those that also stand without their value, so that it only stands behind `=`.
+pub(crate) static ALONE: [&str; 1] = ["--check"];
 
 /// How the program is used.
 pub const USAGE: &str = "\
@@ -131,6 +134,8 @@ written as a recording with the same times. A FILE is one if its name ends in
   --check        Write nothing. Exit 0 if every FILE is already plain text,
                  without colours. Otherwise print the first place that isn't,
                  and exit 1.
+  --check=visible  Do the same, but also print the first character that isn't
+                 seen or that changes the order of the text.
   --lines        Strip each line by itself, as logs need it. A sequence or
                  string that a line leaves open ends with the line. A carriage
                  return also ends a line.

@@ -1,3 +1,4 @@
 pub mod Logged
 pub mod Whole
 pub mod Written
+pub mod Seen

@@ -192,9 +192,10 @@ ran_well E Out Front before after old new (bytes, text, consumed, end, out, appe
 )
 
 -- where it is only checked what is plain text, nothing is written
-pub check_wrote : {A E : Type 0} (w : Work) (result : Result A E) (known out : Option (List ℕ)) → w ≡ work.Check
+pub check_wrote : {A E : Type 0} (w : Work) (result : Result A E) (known out : Option (List ℕ)) (visible : Bool)
+    → w ≡ work.Check visible
     → WroteBehind w result w known out out
-check_wrote w result known out is = rw is (record {
+check_wrote w result known out visible is = rw is (record {
   headed = Ok tt;
   ahead = out;
   heads = (refl, ([], refl, Appends-nil out), tt);

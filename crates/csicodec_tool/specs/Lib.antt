@@ -1,5 +1,6 @@
 pub mod Alone
 pub mod Log
 pub mod Stream
+pub mod Visible
 pub mod Whole
 pub mod Writes

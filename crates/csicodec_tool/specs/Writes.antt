@@ -35,7 +35,7 @@ Writes (work.Strip true) bytes text = ByLines (Strips longest) bytes text
 Writes (work.Strip false) bytes text = Strips longest bytes text
 Writes (work.Overwrite styles) bytes text = IsLogged styles bytes text
 Writes (work.Log styles) bytes text = Logs styles bytes text
-Writes work.Check bytes text = text ≡ []
+Writes (work.Check visible) bytes text = text ≡ []
 Writes (work.Clean passing true) bytes text = ByLines (StylesIn passing) bytes text
 Writes (work.Clean passing false) bytes text = StylesIn passing bytes text
 Writes (work.Html name markup true fragment begun) bytes text = PaintedPage markup bytes text
@@ -117,7 +117,7 @@ pub record WroteBehind {A E : Type 0} (w : Work) (result : Result A E) (new : Wo
 
 -- a page has no recordings, and where it is only checked what is plain text, none is written
 abbrev pub makes_none : Work → Bool
-makes_none work.Check = true
+makes_none (work.Check visible) = true
 makes_none (work.Html name markup overwrite fragment begun) = true
 makes_none w = false
 

@@ -1,6 +1,8 @@
-//! Where a stream is plain text no more.
+//! Where a stream is plain text no more, or plain text that is all seen.
 
 use crate::rewritten_cast::no_memory;
+use crate::visible::{check_seen, is_tag, push_seen, turns};
+use bstr::decode_utf8;
 use csicodec_clean::{Checked, check_all};
 use csicodec_command::{Failure, Found, Recording};
 use std::alloc::{AllocError, Global};
@@ -8,7 +10,17 @@ use std::io::{BufRead, Read};
 
 const ESC: u8 = 0x1b;
 
-/// What stands in front, where that is no plain text.
+/// What stands in front, where that is a character that isn't seen, or no UTF-8.
+fn unseen(bytes: &[u8]) -> Found {
+    match decode_utf8(bytes).0 {
+        Some(char) if turns(char) => Found::Turning(u32::from(char)),
+        Some(char) if is_tag(char) => Found::Tag(u32::from(char)),
+        Some(char) => Found::Unseen(u32::from(char)),
+        None => Found::NotUtf8,
+    }
+}
+
+/// What stands in front, where that is no plain text, or none that is seen.
 fn found(bytes: &[u8]) -> Found {
     match bytes {
         [ESC, b'[', ..] => Found::Sequence,
@@ -16,11 +28,11 @@ fn found(bytes: &[u8]) -> Found {
         [ESC, ..] => Found::Escape,
         [0xc2, code, ..] if 0x80 <= *code && *code < 0xa0 => Found::Control(*code),
         [code, ..] if *code < b' ' || *code == 0x7f => Found::Control(*code),
-        _ => Found::NotUtf8,
+        _ => unseen(bytes),
     }
 }
 
-/// Whether the stream that was read is plain text, or where it is no more.
+/// Whether the stream that was read is as it is to be, or where it is so no more.
 fn outcome(checked: &Checked) -> Result<(), Failure> {
     if checked.rest.is_empty() {
         return Ok(());
@@ -29,23 +41,37 @@ fn outcome(checked: &Checked) -> Result<(), Failure> {
     Err(Failure::NotPlain(checked.at, checked.line, found))
 }
 
-/// Reads up to the first place where the input is plain text no more, which is the error, or to its end.
-pub fn check_stream<R: Read>(alloc: Global, input: &mut R) -> Result<(), Failure> {
-    let checked = check_all(alloc, input)?;
+/// Reads up to the first place where the input is plain text no more, or where a character isn't seen if it is to be visible, which is the
+/// error; or to its end.
+pub fn check_stream<R: Read>(alloc: Global, visible: bool, input: &mut R) -> Result<(), Failure> {
+    let checked = if visible {
+        check_seen(alloc, input)?
+    } else {
+        check_all(alloc, input)?
+    };
     outcome(&checked)
 }
 
+/// Takes the next bytes.
+fn push_next(checked: &mut Checked, visible: bool, bytes: &[u8]) -> Result<bool, AllocError> {
+    if visible {
+        push_seen(checked, bytes)
+    } else {
+        checked.push(bytes)
+    }
+}
+
 /// Takes a line that a program wrote. In a recording CR LF ends one, and its CR passes as what it is for.
-fn push_line(checked: &mut Checked, line: &[u8]) -> Result<bool, AllocError> {
+fn push_line(checked: &mut Checked, visible: bool, line: &[u8]) -> Result<bool, AllocError> {
     let Some(text) = line.strip_suffix(b"\r\n".as_slice()) else {
-        return checked.push(line);
+        return push_next(checked, visible, line);
     };
-    checked.push(text)?;
+    push_next(checked, visible, text)?;
     if !checked.rest.is_empty() {
         return Ok(false);
     }
     checked.at = checked.at.saturating_add(1);
-    checked.push(b"\n")
+    push_next(checked, visible, b"\n")
 }
 
 /// What the programs of a recording wrote. All of it is held.
@@ -68,11 +94,11 @@ fn written_of<R: BufRead>(alloc: Global, input: &mut R) -> Result<Vec<u8>, Failu
 }
 
 /// Checks what the programs of a recording wrote; the places are those in it.
-pub fn check_cast<R: BufRead>(alloc: Global, input: &mut R) -> Result<(), Failure> {
+pub fn check_cast<R: BufRead>(alloc: Global, visible: bool, input: &mut R) -> Result<(), Failure> {
     let written = written_of(alloc, input)?;
     let mut checked = Checked::new(alloc);
     for line in written.split_inclusive(|byte| *byte == b'\n') {
-        if !push_line(&mut checked, line).map_err(no_memory)? {
+        if !push_line(&mut checked, visible, line).map_err(no_memory)? {
             break;
         }
     }

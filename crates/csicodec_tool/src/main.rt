@@ -18,6 +18,7 @@ mod palette;
 mod rewrite;
 mod rewritten_cast;
 mod timing;
+mod visible;
 
 use assemble::Assembly;
 use csicodec_command::{Request, Task, asked, refused, words_of, work_through};

@@ -41,8 +41,10 @@ pub enum Work<'a> {
     Log {
         styles: Option<Passing>,
     },
-    /// Nothing: it is told where an input is plain text no more.
-    Check,
+    /// Nothing: it is told where an input is plain text no more, or plain text that is all seen.
+    Check {
+        visible: bool,
+    },
     Clean {
         passing: Passing,
         lines: bool,
@@ -100,7 +102,9 @@ impl<'a> Work<'a> {
     /// Plain text, as the options of `strip` want it.
     pub fn strip(run: &Request<'a>) -> Work<'a> {
         if run.check {
-            Work::Check
+            Work::Check {
+                visible: run.visible,
+            }
         } else if run.overwrites() {
             Work::Overwrite { styles: None }
         } else if run.log {
@@ -168,7 +172,7 @@ impl<'a> Work<'a> {
                 let rule = Kept::letting(alloc, *passing);
                 Rewriter::Styled(Cleaner::new(alloc, rule))
             }
-            Work::Check | Work::Html { .. } => return Ok(None),
+            Work::Check { .. } | Work::Html { .. } => return Ok(None),
         };
         Ok(Some(Box::new(alloc, stage)?))
     }
@@ -215,7 +219,7 @@ impl<'a> Work<'a> {
             Work::Compact { semicolons } => {
                 compact_all(alloc, LIMIT, compact(alloc, semicolons), input, output)
             }
-            Work::Check => Ok(()),
+            Work::Check { .. } => Ok(()),
             Work::Strip { lines: true } => strip_lines_all(alloc, input, output),
             Work::Strip { .. } => strip_all(alloc, input, output),
             Work::Overwrite { styles } => transform_all(
@@ -251,7 +255,7 @@ impl<'a> Work<'a> {
     {
         self.begin(alloc, output)?;
         match self {
-            Work::Check => check_stream(alloc, input),
+            Work::Check { visible } => check_stream(alloc, *visible, input),
             _ => Ok(self.write_stream(alloc, input, output)?),
         }
     }
@@ -266,8 +270,8 @@ impl<'a> Work<'a> {
         ensures { WroteBehind self.old result self.new (option_map recorded (R.remaining input.old))
             (W.contents output.old) (W.contents output.new) }
     {
-        if let Work::Check = self {
-            return check_cast(alloc, input);
+        if let Work::Check { visible } = self {
+            return check_cast(alloc, *visible, input);
         }
         let mut written = Recorded::new(alloc, input);
         let ended = self.write(alloc, &mut written, output);

@@ -15,6 +15,7 @@ fn append_flags(all: &mut String, run: &Request<'_>) -> Result<(), AllocError> {
         (run.log, " log"),
         (run.text, " text"),
         (run.check, " check"),
+        (run.visible, " visible"),
         (run.fragment, " fragment"),
         (run.classes, " classes"),
         (wanted.full, " full"),

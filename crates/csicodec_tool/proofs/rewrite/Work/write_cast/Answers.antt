@@ -2,4 +2,4 @@ use Rattle.csicodec_tool.proofs.Written.{check_wrote}
 use Rattle.csicodec_tool.proofs.rewrite.Work.write_cast.Goals as goal
 
 pub returns-in-Check : goal.returns-in-Check
-returns-in-Check g c = check_wrote _ c.check_cast.result _ _ c.in-Check.is
+returns-in-Check g c = check_wrote _ c.check_cast.result _ _ _ c.in-Check.is

@@ -13,6 +13,7 @@ pub mod Recalled
 pub mod Ruled
 pub mod Rules
 pub mod Said
+pub mod Settled
 pub mod Streamed
 pub mod Tagged
 pub mod Turned

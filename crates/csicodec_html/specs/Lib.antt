@@ -1,4 +1,5 @@
 pub mod Classes
+pub mod Contrast
 pub mod Given
 pub mod Look
 pub mod MarkupBytes

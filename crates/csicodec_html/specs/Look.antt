@@ -16,6 +16,7 @@ use Rattle.csicodec_html.specs.declared.classes.Layer.{Layer}
 use Rattle.csicodec_html.specs.declared.classes.Layer.TheVariants as part
 use Rattle.csicodec_html.specs.declared.look.Look.{Look}
 use Rattle.csicodec_html.specs.declared.palette.Palette.{Palette}
+use Rattle.csicodec_html.specs.Contrast.{legible}
 use Rattle.csicodec_html.specs.Palette.{color_at, has_pairs, or_own, pair_of}
 
 -- where nothing is set
@@ -107,14 +108,20 @@ settled_color (color.TrueColor c) = color.TrueColor c
 abbrev pub is_mixed : Palette → Look → Bool
 is_mixed p l = has_pairs p && (is_exact l.foreground || is_exact l.background)
 
+-- where text and background change places, what is behind text has the text's colour
+abbrev pub legible_look : Look → Look
+legible_look l =
+    if l.inverse then record l { background = legible l.foreground l.background }
+    else record l { foreground = legible l.background l.foreground }
+
 -- A pair can be read beside another one, and beside the page's own colour. Where text or background has another colour, both have
--- xterm's.
+-- xterm's, and text that can't be read so gets a colour in which it can.
 abbrev pub settled : Palette → Look → Look
 settled p l =
-    if is_mixed p l then record l {
+    if is_mixed p l then legible_look (record l {
       foreground = settled_color l.foreground;
       background = settled_color l.background;
-    }
+    })
     else l
 
 -- ---- CSS

@@ -1,12 +1,13 @@
 //! The tag that begins a span, with controls in place of its markup.
 ghost use Rattle.std.specs.Prelude.{◌≡◌, ◌++◌, [], ◌∷◌, OnOk};
 ghost use Rattle.csicodec_html.specs.Classes.{has_true, is_true, rest_attribute, true_color, true_colors};
-ghost use Rattle.csicodec_html.specs.Look.{is_exact, is_mixed, settled, settled_color};
+ghost use Rattle.csicodec_html.specs.Look.{is_exact, is_mixed, legible_look, settled, settled_color};
 ghost use Rattle.csicodec_html.specs.Page.{Begin};
 ghost use Rattle.csicodec_html.specs.Private.Marked.{classed_mark, marked, styled_mark};
 
 use crate::classes::{Layer, append_classes};
 use crate::colors::{append_parts, append_property_of};
+use crate::contrast::legible;
 use crate::css::append_css;
 use crate::look::Look;
 use crate::markup::Markup;
@@ -98,16 +99,34 @@ fn is_mixed(palette: &Palette, look: Look) -> bool
     palette.has_pairs() && (is_exact(look.foreground) || is_exact(look.background))
 }
 
-/// The look with colours that can be read beside each other: where one of them is the same on a light and on a dark page, both are.
+/// The look with text that can be read on its ground, with which it may have changed places.
+fn legible_look(look: Look) -> Look
+    ensures { result ≡ legible_look look }
+{
+    if look.inverse {
+        Look {
+            background: legible(look.foreground, look.background),
+            ..look
+        }
+    } else {
+        Look {
+            foreground: legible(look.background, look.foreground),
+            ..look
+        }
+    }
+}
+
+/// The look with colours that can be read beside each other: where one of them is the same on a light and on a dark page, both are,
+/// and text that would be too near to its ground has another one.
 pub(crate) fn settled(palette: &Palette, look: Look) -> Look
     ensures { result ≡ settled palette.now look }
 {
     if is_mixed(palette, look) {
-        return Look {
+        return legible_look(Look {
             foreground: settled_color(look.foreground),
             background: settled_color(look.background),
             ..look
-        };
+        });
     }
     look
 }

@@ -1,17 +1,19 @@
 //! Laws of the definitions. Each is the contract of a function that does nothing.
-ghost use Rattle.std.specs.Prelude.{◌≡◌, ◌<◌, ◌++◌, ℕ, Bool, List, None, Some, codes, encode_utf8_all, true};
+ghost use Rattle.std.specs.Prelude.{◌≡◌, ◌<◌, ◌++◌, ℕ, Bool, List, None, Some, codes, encode_utf8_all, false, true};
 ghost use Rattle.std.specs.List.{AllByRecursion, flat_map};
 ghost use Rattle.csicodec_clean.specs.Cleaned.{Strips, longest};
 ghost use Rattle.csicodec_clean.specs.Links.{is_visible};
 ghost use Rattle.csicodec_clean.specs.Palette.{palette, rgb};
 ghost use Rattle.csicodec_names.specs.declared.color.Intensity.{Intensity};
+ghost use Rattle.csicodec_names.specs.declared.color.SrgbaTuple.{SrgbaTuple};
 ghost use Rattle.csicodec_names.specs.declared.color.Underline.{Underline};
 ghost use Rattle.csicodec_html.specs.Classes.{IsClass, class_if, class_name, ground_color, ground_part, lines_class, lines_color, text_color, text_part, true_colors, weight_class};
+ghost use Rattle.csicodec_html.specs.Contrast.{dark, is_near, known, white};
 ghost use Rattle.csicodec_html.specs.Given.{given_color};
-ghost use Rattle.csicodec_html.specs.Look.{colors, css, has_line, hex_color, slant, weight};
+ghost use Rattle.csicodec_html.specs.Look.{colors, css, has_line, hex_color, settled, slant, weight};
 ghost use Rattle.csicodec_html.specs.MarkupBytes.{IsMarkup};
 ghost use Rattle.csicodec_html.specs.Page.{IsHarmless, IsPageWith, IsQuoted, PageWith, chars_of, escaped};
-ghost use Rattle.csicodec_html.specs.Palette.{color_at, xterm};
+ghost use Rattle.csicodec_html.specs.Palette.{color_at, has_pairs, xterm};
 ghost use Rattle.csicodec_html.specs.Sheet.{IsIn, class_rule, class_rules, color_of_lines, declares, in_pre, kind_of_lines, line_rule, said};
 ghost use Rattle.csicodec_html.specs.declared.classes.Class.{Class};
 ghost use Rattle.csicodec_html.specs.declared.classes.Class.TheVariants as class;
@@ -89,4 +91,23 @@ pub fn xterm_colors()
 pub fn newline_stays()
     ensures { (page : List ℕ) → (front : List ℕ) × (inside : List ℕ)
         × (BODY.now ++ page ≡ front ++ (codes "<pre>" ++ inside)) × (in_pre inside ≡ page) }
+{}
+
+/// Where nobody chose colours, text on a known ground is known and isn't near to it, and known text on the page's own ground isn't near to
+/// that of a light page, nor to that of a dark one.
+pub fn text_stands_out()
+    ensures known { (p : Palette) (l : Look) (below : SrgbaTuple) → has_pairs p ≡ true
+        → known (ground_color (settled p l)) ≡ Some below → (text : SrgbaTuple)
+        × (known (text_color (settled p l)) ≡ Some text) × (is_near text below ≡ false) }
+    ensures own { (p : Palette) (l : Look) (text : SrgbaTuple) → has_pairs p ≡ true
+        → known (ground_color (settled p l)) ≡ None → known (text_color (settled p l)) ≡ Some text
+        → (is_near text white ≡ false) × (is_near text dark ≡ false) }
+{}
+
+/// Only the colours of text and of its ground are settled, those that somebody chose aren't, and once is enough.
+pub fn colors_settle()
+    ensures others { (p : Palette) (l : Look) → settled p l
+        ≡ record l { foreground = (settled p l).foreground; background = (settled p l).background } }
+    ensures chosen { (p : Palette) (l : Look) → has_pairs p ≡ false → settled p l ≡ l }
+    ensures again { (p : Palette) (l : Look) → settled p (settled p l) ≡ settled p l }
 {}

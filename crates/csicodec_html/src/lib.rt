@@ -4,6 +4,7 @@
 mod attributes;
 mod classes;
 mod colors;
+mod contrast;
 mod css;
 mod given;
 pub mod laws;

@@ -3,9 +3,9 @@
 #![tactic(auto)]
 
 mod cache;
+mod clipboard;
 mod controls;
 mod counts;
-mod decode;
 mod explain;
 mod fields;
 mod fill;

@@ -1,9 +1,9 @@
 //! The spans of a stream, each told when it is over.
 ghost use Rattle.std.specs.Prelude.{◌≤◌, IfOk, length};
 
+use crate::clipboard::clipboard_bytes;
 use crate::controls::{is_control, text_front, words_of};
 use crate::counts::Names;
-use crate::decode::clipboard_bytes;
 use crate::keyed::{Keyed, sequence_front};
 use crate::line::{Sort, ToldSpan, whole_characters};
 use crate::sheet::Sheet;

@@ -1,8 +1,8 @@
 //! The lines of spans: each with its place and its bytes, and a line for each of its actions; or an object of JSON.
 
 use crate::cache::Remembered;
+use crate::clipboard::Clipboard;
 use crate::counts::Names;
-use crate::decode::Clipboard;
 use crate::fields::JsonFields;
 use crate::json::{
     append_action, append_begin_object, append_decoded, append_end, append_more, append_object,

@@ -4,7 +4,7 @@ ghost use Rattle.csicodec_html.specs.Look.{color_text, hex_color, hex_digit, own
 ghost use Rattle.csicodec_html.specs.Palette.{color_at};
 
 use crate::classes::Layer;
-use crate::pairs::append_pair;
+use crate::light_dark::append_pair;
 use crate::palette::Palette;
 use csicodec_base::{ColorSpec, SrgbaTuple};
 use csicodec_clean::palette as xterm_color;

@@ -17,6 +17,7 @@ mod seen;
 mod sides;
 mod step;
 mod text;
+mod width;
 
 pub use marking::Marking;
 pub use overwriter::Overwriter;

@@ -13,8 +13,9 @@ use crate::cells::{Cell, Glyph, Side};
 use crate::marking::Marking;
 use crate::paint::append_cells;
 use crate::pen::{Pen, set_look};
-use crate::sides::{delete_columns, erase_columns, loosen, move_all, undo, width};
+use crate::sides::{delete_columns, erase_columns, loosen, move_all, undo};
 use crate::step::Step;
+use crate::width::width;
 use std::alloc::{AllocError, Global};
 
 /// The most columns that a movement or an edit goes.

@@ -4,8 +4,8 @@ ghost use Rattle.csicodec_html.specs.Look.{behind};
 ghost use Rattle.csicodec_overwrite.specs.Line.{fresh, is_row, last_behind, pen_behind};
 ghost use Rattle.csicodec_overwrite.specs.Private.Plain.{PutsPlain};
 
-use crate::sides::width;
 use crate::step::Step;
+use crate::width::width;
 use csicodec_base::Sgr;
 use csicodec_html::Look;
 

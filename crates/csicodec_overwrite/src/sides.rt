@@ -1,10 +1,9 @@
 //! What is erased on one side of the cursor.
 ghost use Rattle.std.specs.Prelude.{◌≡◌, [], OnOk};
-ghost use Rattle.csicodec_overwrite.specs.Cells.{emptied, erased, gone, narrowed, onto, outside, width, without};
+ghost use Rattle.csicodec_overwrite.specs.Cells.{emptied, erased, gone, onto, outside, without};
 
 use crate::cells::{Cell, Side};
 use std::alloc::AllocError;
-use unicode_width::UnicodeWidthChar;
 
 /// Empties the columns of a character that goes on here.
 pub(crate) fn loosen(side: &mut Side) -> Result<(), AllocError>
@@ -51,21 +50,4 @@ pub(crate) fn move_all(from: &mut Side, to: &mut Side) -> Result<(), AllocError>
         to.push(cell)?;
     }
     Ok(())
-}
-
-/// The columns that terminals give a character of which the table gives so many: two at most.
-fn narrowed(columns: usize) -> usize
-    ensures { result ≡ narrowed columns }
-{
-    if columns <= 2 { columns } else { 1 }
-}
-
-/// The columns that a character takes behind so many.
-pub(crate) fn width(char: char, column: usize) -> usize
-    ensures { result ≡ width char column }
-{
-    if char == '\t' {
-        return 8 - column % 8;
-    }
-    narrowed(char.width().unwrap_or(0))
 }

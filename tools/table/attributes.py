@@ -106,19 +106,13 @@ def look_arms(them):
     yield from either([f"Sgr::{variant}(_)" for variant, look in shown if not look], "self")
 
 
-def looks(them, ahead, reset, made, same):
-    """A line for each attribute: what is behind it, and why that holds."""
-    colors = [action.variant[0] for action in them.actions if action.form == "color"]
+def looks(them):
+    """A line for each attribute: what is behind it."""
     for action in them.actions:
         variant = action.variant[0]
-        pattern = f"sgr.{variant}" if action.form == "unit" else f"(sgr.{variant} x)"
         look = them.looks.get(variant)
-        yield f"{ahead} l {pattern}" + (reset if action.form == "unit" else made(look, colors.index(variant) if variant in colors else None) if look else same)
-
-
-def kept(_, place):
-    """The ranges of a look's three colours, with that of another one in its place."""
-    return " h k = h" if place is None else f" h k = ({', '.join('k' if at == place else f'h.{at}' for at in range(3))})"
+        shown = "plain" if action.form == "unit" else f"record l {{ {look} = x }}" if look else "l"
+        yield f"behind l {f'sgr.{variant}' if action.form == 'unit' else f'(sgr.{variant} x)'} = {shown}"
 
 
 def pen(them):
@@ -140,7 +134,6 @@ def parts(them):
         "crates/csicodec/proofs/SgrSpelling.antt": [Part(list(them.each(SPELLINGS)), (spelling, "unfolding digits piece"))],
         "crates/csicodec_clean/proofs/Coded.antt": [Part([f"coded {value} h k = fixed _ refl (omega arith) (omega arith)" for value in them.firsts()], ("coded (sgr.Font (font.Alternate n)) h k = absurd cc",), "coded s h k = fixed (sgr_text s) refl (omega arith) (omega arith)")],
         "crates/csicodec_html/src/look.rt": [Part(list(look_arms(them)), (behind, "        match *attribute {"), "        }")],
-        "crates/csicodec_html/specs/Look.antt": [Part(list(looks(them, "behind", " = plain", lambda look, _: f" = record l {{ {look} = x }}", " = l")), ("abbrev pub behind : Look → Sgr → Look",), "")],
-        "crates/csicodec_overwrite/proofs/Plain.antt": [Part(list(looks(them, "kept", " h k = plain_kept", kept, " h k = h")), ("pub kept : (l : Look) (s : Sgr) → IsInRange l → SgrInRange s → IsInRange (behind l s)",), "")],
+        "crates/csicodec_html/specs/Look.antt": [Part(list(looks(them)), ("abbrev pub behind : Look → Sgr → Look",), "")],
         "rust/src/pen.rs": [Part(list(pen(them)), ("pen! {",), "}")],
     }

@@ -256,7 +256,7 @@ def of_edit(actions):
 
 
 # Where csicodec_overwrite says what acts within a line, and by which name.
-OVERWRITE = {"src/text.rt": rust, "specs/Steps.antt": value, "proofs/Plain.antt": value}
+OVERWRITE = {"src/text.rt": rust, "specs/Steps.antt": value}
 
 
 def faults(subjects):

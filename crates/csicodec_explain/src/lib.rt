@@ -5,7 +5,9 @@
 mod cache;
 mod clipboard;
 mod controls;
+mod copied;
 mod counts;
+mod digits;
 mod explain;
 mod fields;
 mod fill;

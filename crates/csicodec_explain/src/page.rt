@@ -397,19 +397,33 @@ impl<'a> Listing<'a> {
         }
     }
 
-    /// A line for each action of a control sequence; how many they are, none where it isn't one.
+    /// A line for each action of a control sequence, of its tokens; how many they are, none where it isn't one.
     #[inline(never)]
-    fn tell_sequence(&mut self, front: Keyed<'_>) -> Result<Option<u64>, AllocError> {
-        let tail = match read_csi_into(&mut self.params, front.bytes) {
+    fn tell_tokens(&mut self, span: &ToldSpan<'_>) -> Result<Option<u64>, AllocError> {
+        let tail = match read_csi_into(&mut self.params, span.bytes) {
             Ok(tail) => tail,
             Err(ReadError::Memory) => return Err(AllocError),
             Err(_) => return Ok(None),
         };
-        let span = self.span_here(Sort::Sequence, front.bytes);
         let params = self.params.as_slice();
-        let count = tell_actions(self.alloc, &mut self.sheet, &span, params, tail.control)?;
-        self.sheet.keep(front, count)?;
+        let count = tell_actions(self.alloc, &mut self.sheet, span, params, tail.control)?;
         Ok(Some(count))
+    }
+
+    /// A line for each action of a control sequence; how many they are, none where it isn't one.
+    #[inline(never)]
+    fn tell_sequence(&mut self, front: Keyed<'_>) -> Result<Option<u64>, AllocError> {
+        let span = self.span_here(Sort::Sequence, front.bytes);
+        let copied = self.sheet.tell_copied(&span)?;
+        let told = if copied.is_some() {
+            copied
+        } else {
+            self.tell_tokens(&span)?
+        };
+        if let Some(actions) = told {
+            self.sheet.keep(front, actions)?;
+        }
+        Ok(told)
     }
 
     /// A control sequence of these tokens, which may have controls in it.

@@ -2,6 +2,7 @@
 
 use crate::cache::Remembered;
 use crate::clipboard::Clipboard;
+use crate::copied::Copied;
 use crate::counts::Names;
 use crate::fields::JsonFields;
 use crate::json::{
@@ -225,6 +226,38 @@ impl<'a> Sheet<'a> {
         self.begin_span(&rest)?;
         self.behind = self.text.len();
         append_object(&mut self.text, rest.sort, rest.bytes)
+    }
+
+    /// The lines of a control sequence whose words have its own digits, where that is all that a line has; how many, none where others
+    /// are to be told.
+    pub fn tell_copied(&mut self, span: &ToldSpan<'_>) -> Result<Option<u64>, AllocError> {
+        let [0x1b, b'[', list @ .., control] = span.bytes else {
+            return Ok(None);
+        };
+        if !self.style.copies() {
+            return Ok(None);
+        }
+        let (begin, mut rest) = (self.text.len(), list);
+        for count in 0..list.len() {
+            let Some((words, behind)) = Copied::front(rest, *control) else {
+                break;
+            };
+            if count == 0 {
+                self.begin_span(span)?;
+                self.behind = self.text.len();
+                append_bytes(&mut self.text, &self.style, span)?;
+            } else {
+                append_margin(&mut self.text, &self.style)?;
+            }
+            words.append_to(&mut self.text)?;
+            self.text.push(b'\n')?;
+            if behind.is_empty() {
+                return Ok(Some((count as u64).saturating_add(1)));
+            }
+            rest = behind;
+        }
+        self.text.truncate(begin);
+        Ok(None)
     }
 
     /// A text.

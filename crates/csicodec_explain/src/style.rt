@@ -86,6 +86,11 @@ impl<'a> Style<'a> {
         self.tells_all() && !self.is_silent()
     }
 
+    /// Whether a line is a span's bytes and words as they are, of what is written to a terminal.
+    pub fn copies(&self) -> bool {
+        !self.json && !self.color && self.dialect.is_none() && self.is_plain()
+    }
+
     /// Whether what was told of a span once is what is told of one with the same bytes.
     pub fn recalls(&self) -> bool {
         self.at.is_empty() && !self.counts()

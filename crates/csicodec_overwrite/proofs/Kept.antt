@@ -188,7 +188,7 @@ module _ (P : ℕ → Type 0) (Q : Look → Type 0) (R : Sgr → Type 0) where
     of_does limit pen step.Restore l q p h = of_restored limit pen l h
     of_does limit pen (step.Leave to) l q p h = of_leave limit to l h
     of_does limit pen (step.Row row to) l q p h = of_placed_in limit pen row to l h
-    of_does limit pen other l q p h = (tt, h)
+    of_does limit pen _ l q p h = (tt, h)
 
     last_kept : (last : Option ℕ) (c : ℕ) → OfLast last → P c → OfLast (last_behind last c)
     last_kept last c h p = either OfLast (width c 0 == 0) last (Some c) h p
@@ -197,7 +197,7 @@ module _ (P : ℕ → Type 0) (Q : Look → Type 0) (R : Sgr → Type 0) where
     pen_kept pen (step.Put c) column q p = (q.0, last_kept pen.last c q.1 p)
     pen_kept pen (step.Attribute s) column q p = (kept pen.look s q.0 p, tt)
     pen_kept pen step.Reset column q p = (plain_kept, tt)
-    pen_kept pen other column q p = (q.0, tt)
+    pen_kept pen _ column q p = (q.0, tt)
 
     pub of_all : (limit : ℕ) (pen : Pen) (steps : List Step) (l : Line) → OfPen pen → AllByRecursion OfStep steps → OfLine l → OfDone (do_all limit pen steps l)
     of_all limit pen [] l q p h = (tt, h)

@@ -264,7 +264,7 @@ module _ (c : ℕ) where
   of_does limit pen step.Restore l = omega (arith, of_restored limit pen l)
   of_does limit pen (step.Leave to) l = omega (arith, of_lines l, of_forward limit (target to l) blank)
   of_does limit pen (step.Row row to) l = omega (arith, of_placed_in limit pen row to l)
-  of_does limit pen other l = omega arith
+  of_does limit pen _ l = omega arith
 
   of_all : (limit : ℕ) (pen : Pen) (steps : List Step) (l : Line) → in_all (do_all limit pen steps l) + times c (all_taken limit pen steps l) ≡ in_line l + times c (all_came limit pen steps l)
   of_all limit pen [] l = omega arith

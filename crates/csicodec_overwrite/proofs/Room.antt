@@ -182,7 +182,7 @@ module _ (limit : ℕ) (enough : 8 ≤ limit) where
   does_size pen step.Restore l h = restored_size pen l h
   does_size pen (step.Leave to) l h = forward_size (target to l) blank (omega arith)
   does_size pen (step.Row row to) l h = placed_in_size pen row to l h
-  does_size pen other l h = h
+  does_size pen _ l h = h
 
   pub all_size : (pen : Pen) (steps : List Step) (l : Line) → size l ≤ limit → size (do_all limit pen steps l).line ≤ limit
   all_size pen [] l h = h

@@ -7,6 +7,7 @@ import subprocess
 import sys
 import tempfile
 
+from bindings.digits import digits
 from bindings.examples import c_examples, rust_examples
 from bindings.header import header, header_names, meaning
 from bindings.javascript import javascript_actions, javascript_types
@@ -33,6 +34,7 @@ FILES = {
     "crates/csicodec_words/src/action_words.rt": words,
     **{f"crates/csicodec_words/src/action_words/{low(group)}.rt": functools.partial(subject_words, group) for group in WORDED},
     "crates/csicodec_explain/src/patterns.rt": patterns,
+    "crates/csicodec_explain/src/digits.rt": digits,
     HEADER: header,
     "include/csicodec_names.h": header_names,
     "rust/src/types.rs": lambda: rust_types("The attributes, and what has a name", NAMED),

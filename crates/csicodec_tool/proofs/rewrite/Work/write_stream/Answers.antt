@@ -41,25 +41,25 @@ returns-in-Strip g c =
     rw (a.is, ← a.lines-is, a.lines-test) (streams_written _ _ c.strip_all.result _ _ _ _ c.strip_all.ensures.streams)
 
 pub transform_all-requires-clause-begun : goal.transform_all-requires-clause-begun
-transform_all-requires-clause-begun g c = (refl, c.new.ensures.begun)
+transform_all-requires-clause-begun g c = (refl, c.new-in-Overwrite.ensures.begun)
 
 pub returns-in-Overwrite : goal.returns-in-Overwrite
 returns-in-Overwrite g c =
     let a = c.in-Overwrite in
     let run = c.transform_all in
-    let first = c.new in
+    let first = c.new-in-Overwrite in
     rw a.is
     (by_same (λ s. IsLogged s) (λ s. FrontsOf (IsLoggedFront s)) _ a.styles run.result _ _ _ (first.ensures.passing ∙ a.styles-is)
     (transform_written _ _ first.result _ _ run.result _ _ _ _ (overwritten first.result) (overwritten_begins first.result) run.ensures.ok run.ensures.front))
 
-pub transform_all-in-Log-requires-clause-begun : goal.transform_all-in-Log-requires-clause-begun
-transform_all-in-Log-requires-clause-begun g c = log_begun c.new.result c.new.ensures.begun
+pub transform_all-requires-in-Log-clause-begun : goal.transform_all-requires-in-Log-clause-begun
+transform_all-requires-in-Log-clause-begun g c = log_begun c.new-in-Log.result c.new-in-Log.ensures.begun
 
 pub returns-in-Log : goal.returns-in-Log
 returns-in-Log g c =
     let a = c.in-Log in
-    let run = c.transform_all in
-    let first = c.new in
+    let run = c.transform_all-in-Log in
+    let first = c.new-in-Log in
     rw a.is
     (by_same (λ s. Logs s) (λ s. FrontsOf (LogsSome s)) _ a.styles run.result _ _ _ (first.ensures.passing ∙ a.styles-is)
     (transform_written _ _ first.result _ _ run.result _ _ _ _ (logged first.result) (log_begins first.result) run.ensures.ok run.ensures.front))

@@ -1,0 +1,42 @@
+"""The words of csicodec_explain that have the digits of a sequence: those of places, and of true colours."""
+import re
+
+from bindings.library import SUBJECTS
+from layout import byte, string
+from read import rows_of
+
+
+def places():
+    """Each action that a line and a column say before a final byte, with words that have only these: the final byte, and what is ahead of each."""
+    for action in SUBJECTS["Cursor"].actions:
+        row = action.row
+        texts = re.split(r"\{\w+\}", f"{row.get('shown', row['name'])}  {row['words']}") if "words" in row else []
+        if action.form == "places" and "final" in row and len(texts) == 3 and not texts[2]:
+            yield row["final"], texts[0], texts[1]
+
+
+def colors():
+    """Each attribute that has a colour: the code ahead of its parts, and what is ahead of their words."""
+    table = rows_of("sgr.toml")
+    for code, row in table["code"].items():
+        if row.get("further") in table["attribute"]:
+            yield code, f"SGR  {table['attribute'][row['further']]['words']} rgb "
+
+
+def digits():
+    return """//! Words that have the digits of a sequence. Written by tools/table.
+
+/// What stands ahead of a line, and of a column behind it, where a list has these and ends in this byte.
+pub(crate) fn words_of_place(control: u8) -> Option<(&'static str, &'static str)> {
+    match control {
+""" + "".join(f"        {byte(final)} => Some(({string(line)}, {string(column)})),\n" for final, line, column in places()) + """        _ => None,
+    }
+}
+
+/// What stands ahead of red, green and blue, and these in front of a list.
+pub(crate) fn words_of_color(list: &[u8]) -> Option<(&'static str, &[u8])> {
+    match list {
+""" + "".join(f"        [{', '.join(byte(character) for character in code + ';2;')}, parts @ ..] => Some(({string(words)}, parts)),\n" for code, words in colors()) + """        _ => None,
+    }
+}
+"""

@@ -1,8 +1,7 @@
 -- How far characters are seen.
-use Rattle.std.proofs.Common.{◌≡◌, ◌<◌, ◌≤◌, ◌-◌, ◌+◌, ◌^◌, ◌==◌, ℕ, zero, suc, true, cond, min, Some, List, [], ◌∷◌, ◌++◌, length, length-append, length-take-le, take, drop}
-use Rattle.std.proofs.Common.{encode_utf8, encode_utf8_all, refl, sym, ap, subst, ◌∙◌, arith, append_assoc, append-nil, take-append-drop}
+use Rattle.std.proofs.Common.{◌≡◌, ◌≤◌, ◌-◌, ◌+◌, ◌^◌, ◌==◌, ℕ, suc, true, cond, min, Some, List, [], ◌∷◌, ◌++◌, length, length-append, length-take-le, take, drop}
+use Rattle.std.proofs.Common.{encode_utf8, encode_utf8_all, refl, sym, ap, ◌∙◌, arith, append_assoc, append-nil, take-append-drop}
 use Rattle.std.specs.List.{AllByRecursion, prefix_len}
-use Rattle.std.specs.Str.{all_scalars}
 use Rattle.std.proofs.lemmas.Bool.{and_from}
 use Rattle.std.proofs.lemmas.Bool.Decides.{nat_tests}
 use Rattle.std.proofs.lemmas.List.Sums.{sum_by-append}
@@ -24,9 +23,6 @@ abbrev pub IsBehindSeen : List ℕ → List ℕ → Type 0
 IsBehindSeen bytes rest = (front : List ℕ) × (bytes ≡ front ++ rest) × IsVisible front
 
 -- ---- what is seen
-
-pub none_visible : IsVisible []
-none_visible = ([], refl, tt, refl)
 
 pub visible_on : (s t : List ℕ) → IsVisible s → IsVisible t → IsVisible (s ++ t)
 visible_on s t (xs, a, b, c) (ys, d, e, f) =

@@ -1,5 +1,5 @@
 -- Which characters a reader sees, each in its place, and the first of a stream that he doesn't.
-use Rattle.std.specs.Prelude.{ℕ, ◌≡◌, ◌==◌, ◌<◌, suc, Bool, true, false, not, ◌&&◌, ◌||◌, nat_le, List, ◌++◌, length, Some, encode_utf8_all}
+use Rattle.std.specs.Prelude.{ℕ, ◌≡◌, ◌<◌, suc, Bool, true, false, not, ◌&&◌, ◌||◌, nat_le, List, ◌++◌, length, Some, encode_utf8_all}
 use Rattle.std.specs.List.{AllByRecursion}
 use Rattle.std.specs.Str.{all_scalars}
 use Rattle.bstr.specs.Utf8.{decoded}

@@ -1,6 +1,6 @@
 use Rattle.std.proofs.Common.{sym, ◌∙◌, arith}
 use Rattle.csicodec_clean.proofs.Checks.{char_within}
-use Rattle.csicodec_tool.proofs.Seen.{none_visible, one_visible}
+use Rattle.csicodec_tool.proofs.Seen.{one_visible}
 use Rattle.csicodec_tool.proofs.visible.seen_len.Goals as goal
 
 pub returns-then-is_seen-clause-within : goal.returns-then-is_seen-clause-within

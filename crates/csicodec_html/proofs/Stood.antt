@@ -20,6 +20,11 @@ pub run_stands : (front rest : List ℕ) → AllByRecursion Stands front → pag
 run_stands [] rest h = refl
 run_stands (b ∷ front) rest h = ap (λ (t : List ℕ). t ++ page_bytes (front ++ rest)) (one b h.0) ∙ ap (λ (t : List ℕ). b ∷ t) (run_stands front rest h.1)
 
+-- such a run in front
+pub run_on : (old new bytes front rest : List ℕ) → AllByRecursion Stands front → bytes ≡ front ++ rest → new ≡ old ++ front → new ++ page_bytes rest ≡ old ++ page_bytes bytes
+run_on old new bytes front rest h e f =
+    ap (λ (t : List ℕ). t ++ page_bytes rest) f ∙ append_assoc old front (page_bytes rest) ∙ ap (λ (t : List ℕ). old ++ t) (sym (run_stands front rest h) ∙ ap page_bytes (sym e))
+
 -- a byte more, and then such a run
 pub page_on : (whole old mid new : List ℕ) (byte : ℕ) (front rest : List ℕ) → AllByRecursion Stands front
     → old ++ page_bytes (byte ∷ (front ++ rest)) ≡ whole → mid ≡ old ++ page_byte byte → new ≡ mid ++ front

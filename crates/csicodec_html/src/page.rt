@@ -34,7 +34,8 @@ fn append_byte(byte: u8, out: &mut Vec<u8>) -> Result<(), AllocError>
 pub(crate) fn append_page(bytes: &[u8], out: &mut Vec<u8>) -> Result<(), AllocError>
     ensures { OnOk result (out.new.items ≡ out.old.items ++ page_bytes bytes.now) }
 {
-    let mut rest = bytes;
+    let (standing, mut rest) = split_front::<Standing>(bytes);
+    out.extend_from_slice(standing)?;
     while let Some((byte, behind)) = rest.split_first() {
         append_byte(*byte, out)?;
         let (front, others) = split_front::<Standing>(behind);

@@ -2,8 +2,18 @@ use Rattle.std.proofs.Common.{◌++◌, ◌∷◌, ◌∙◌, ap, drop, sym, tak
 use Rattle.std.specs.List.{prefix_len}
 use Rattle.csicodec_clean.proofs.Bytes.{front_in}
 use Rattle.csicodec_html.specs.Private.Marked.{page_bytes, stands}
-use Rattle.csicodec_html.proofs.Stood.{page_on}
+use Rattle.csicodec_html.proofs.Stood.{page_on, run_on}
 use Rattle.csicodec_html.proofs.page.append_page.Goals as goal
+
+pub loop-byte-init : goal.loop-byte-init
+loop-byte-init c =
+    let bytes = c.args.bytes.now in
+    let len = prefix_len stands bytes in
+    let front = take len bytes in
+    let rest = drop len bytes in
+    rw c.split_front.ensures.rest
+    (run_on c.args.out.now.items c.extend_from_slice.new.self.items bytes front rest (front_in stands bytes) (sym (take-append-drop len bytes))
+    (c.in_ok-extend_from_slice.ensures.items ∙ ap (λ t. c.args.out.now.items ++ t) c.split_front.ensures.front))
 
 pub loop-byte-preserved : goal.loop-byte-preserved
 loop-byte-preserved c =
@@ -14,7 +24,7 @@ loop-byte-preserved c =
     let front = take len behind in
     let others = drop len behind in
     let split = c.in-Some.ensures.cases.0 ∙ ap (λ t. byte ∷ t) (sym (take-append-drop len behind)) in
-    rw c.split_front.ensures.rest
-    (page_on (c.args.out.now.items ++ page_bytes c.args.bytes.now) l.out.items c.append_byte.new.out.items c.extend_from_slice.new.self.items byte front others (front_in stands behind)
+    rw c.split_front-in-Some.ensures.rest
+    (page_on (c.args.out.now.items ++ page_bytes c.args.bytes.now) l.out.items c.append_byte.new.out.items c.extend_from_slice-in-Some.new.self.items byte front others (front_in stands behind)
     (ap (λ t. l.out.items ++ page_bytes t) (sym split) ∙ l.invariant) c.in_ok-append_byte.ensures
-    (c.in_ok-extend_from_slice.ensures.items ∙ ap (λ t. c.append_byte.new.out.items ++ t) c.split_front.ensures.front))
+    (c.in_ok-extend_from_slice-2.ensures.items ∙ ap (λ t. c.append_byte.new.out.items ++ t) c.split_front-in-Some.ensures.front))

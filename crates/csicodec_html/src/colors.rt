@@ -1,6 +1,6 @@
 //! Colours as CSS has them.
-ghost use Rattle.std.specs.Prelude.{◌≡◌, ◌<◌, ◌++◌, OnOk};
-ghost use Rattle.csicodec_html.specs.Look.{color_text, hex_color, hex_digit, own_name, place_text, property_of, two_digits};
+ghost use Rattle.std.specs.Prelude.{◌≡◌, ◌<◌, ◌/◌, ◌%◌, ◌++◌, OnOk};
+ghost use Rattle.csicodec_html.specs.Look.{color_text, hex_color, hex_digit, own_name, place_text, property_of};
 ghost use Rattle.csicodec_html.specs.Palette.{color_at};
 
 use crate::classes::Layer;
@@ -18,21 +18,33 @@ fn hex_digit(value: u8) -> u8
     if value < 10 { value + 48 } else { value + 87 }
 }
 
-/// Appends the two digits of a part of a colour.
-fn append_two_digits(part: u8, out: &mut Vec<u8>) -> Result<(), AllocError>
-    ensures { OnOk result (out.new.items ≡ out.old.items ++ two_digits part) }
+/// The first of the two digits of a part of a colour.
+fn high_digit(part: u8) -> u8
+    ensures { result ≡ hex_digit (part / 16) }
 {
-    out.extend_from_slice(&[hex_digit(part / 16), hex_digit(part % 16)])
+    hex_digit(part / 16)
+}
+
+/// And the second.
+fn low_digit(part: u8) -> u8
+    ensures { result ≡ hex_digit (part % 16) }
+{
+    hex_digit(part % 16)
 }
 
 /// Appends a colour by its parts. Its alpha isn't looked at.
 pub(crate) fn append_parts(color: SrgbaTuple, out: &mut Vec<u8>) -> Result<(), AllocError>
     ensures { OnOk result (out.new.items ≡ out.old.items ++ hex_color color) }
 {
-    out.push(b'#')?;
-    append_two_digits(color.0, out)?;
-    append_two_digits(color.1, out)?;
-    append_two_digits(color.2, out)
+    out.extend_from_slice(&[
+        b'#',
+        high_digit(color.0),
+        low_digit(color.0),
+        high_digit(color.1),
+        low_digit(color.1),
+        high_digit(color.2),
+        low_digit(color.2),
+    ])
 }
 
 /// Appends the name of the property of a colour.

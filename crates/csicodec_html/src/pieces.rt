@@ -36,6 +36,7 @@ fn append_styled(palette: &Palette, look: Look, out: &mut Vec<u8>) -> Result<(),
 }
 
 /// Appends the tag that begins a span that looks so, with colours that can be read beside each other.
+#[inline(never)]
 fn append_span(markup: &Markup, look: Look, out: &mut Vec<u8>) -> Result<(), AllocError>
     ensures { OnOk result (out.new.items ≡ out.old.items ++ begin_tag markup.now look) }
 {

@@ -6,15 +6,16 @@ use Rattle.std.proofs.KnownBytes.{Appends-nil}
 use Rattle.std.specs.Io.KnownBytes.{Appends, Consumes, IsAtEnd}
 use Rattle.csicodec_streams.specs.declared.error.RunError.{RunError}
 use Rattle.csicodec_streams.proofs.Streamed.{given_all}
-use Rattle.csicodec_filter.specs.Transform.{Begins, EndsOf, PassesOf, Sends, Transforms}
 use Rattle.csicodec_clean.specs.Streams.{Streams}
 use Rattle.std.proofs.lemmas.Result.{on_ok_weaker}
+use Rattle.csicodec_clean.specs.declared.styles.Passing.{Passing}
 use Rattle.csicodec_overwrite.specs.Reading.{Paints}
 use Rattle.csicodec_html.specs.Page.{IsPageWith, PageWith}
 use Rattle.csicodec_html.specs.declared.markup.Markup.{Markup}
+use Rattle.csicodec_tool.specs.Log.{IsLogged, IsLoggedFront}
 use Rattle.csicodec_tool.specs.declared.rewrite.Work.{Work}
 use Rattle.csicodec_tool.specs.declared.rewrite.Work.TheVariants as work
-use Rattle.csicodec_tool.specs.Writes.{BeginsWith, FrontsOf, FrontsOfPainted, IsHeaded, IsPageFront, IsWrittenBy}
+use Rattle.csicodec_tool.specs.Writes.{FrontsOf, FrontsOfPainted, IsHeaded, IsPageFront, IsWrittenBy}
 use Rattle.csicodec_tool.specs.Writes.{PaintedPage, Wrote, WroteBehind}
 
 pub known_so : {X : Type 0} {P Q : X → Type 0} (known : Option X) → ((x : X) → P x → Q x)
@@ -44,6 +45,19 @@ fronts_known Out before after bytes more sent unsent consumed out =
     known_so before (λ all (rest, same). (bytes, more ++ rest, unsent, same ∙ append_assoc bytes more rest, out))
     (consumed_front before after (bytes ++ more) consumed)
 
+pub streams_written : {A E : Type 0} (Out : List ℕ → List ℕ → Type 0) (Safe : List ℕ → Type 0) (result : Result A E)
+    (before after old new : Option (List ℕ)) → Streams Out Safe result before after old new
+    → IsWrittenBy Out (FrontsOf Out) result before old new
+streams_written Out Safe result before after old new s = (
+  on_ok_both result s.ok s.end (λ (bytes, text, consumed, out, safe, appended) end.
+      known_so before (λ all same. (text, subst (λ (b : List ℕ). Out b text) same out, appended))
+      (given_all before after bytes consumed end)),
+  on_err_so result s.front (λ (bytes, more, sent, unsent, consumed, out, safe, appended).
+      known_so before (λ all fronts. (sent, fronts, appended))
+      (fronts_known Out before after bytes more sent unsent consumed out)),
+)
+
+-- the same of a run whose promises stand by themselves
 pub run_written : {A E : Type 0} (Out Front : List ℕ → List ℕ → Type 0) (result : Result A E)
     (before after old new : Option (List ℕ))
     → OnOk result ((bytes : List ℕ) × (text : List ℕ) × Consumes before after bytes × Out bytes text × Appends old new text)
@@ -60,32 +74,18 @@ run_written Out Front result before after old new ok end front = (
       (fronts_known Front before after bytes more sent unsent consumed out)),
 )
 
--- the same by the one promise of a run
-pub streams_written : {A E : Type 0} (Out : List ℕ → List ℕ → Type 0) (Safe : List ℕ → Type 0) (result : Result A E)
-    (before after old new : Option (List ℕ)) → Streams Out Safe result before after old new
-    → IsWrittenBy Out (FrontsOf Out) result before old new
-streams_written Out Safe result before after old new s =
-    run_written Out Out result before after old new
-    (on_ok_weaker result (λ (bytes, text, consumed, out, safe, appended). (bytes, text, consumed, out, appended)) s.ok) s.end
-    (on_err_so result s.front (λ (bytes, more, sent, unsent, consumed, out, safe, appended). (bytes, more, sent, unsent, consumed, out, appended)))
-
--- the same of what has just begun
-pub transform_written : {A E S : Type 0} (Passes : PassesOf S) (Ends : EndsOf S) (first : S) (Out Front : List ℕ → List ℕ → Type 0)
-    (result : Result A E) (before after old new : Option (List ℕ))
-    → ((bytes text : List ℕ) → Transforms Passes Ends first bytes text → Out bytes text)
-    → ((AreAll : Type 0) (bytes sent : List ℕ) → Begins (Sends Passes first) (Transforms Passes Ends first) AreAll bytes sent
-    → BeginsWith (Front bytes) sent)
-    → OnOk result ((bytes : List ℕ) × (text : List ℕ) × Consumes before after bytes × IsAtEnd after
-    × Transforms Passes Ends first bytes text × Appends old new text)
-    → OnErr result ((bytes : List ℕ) × (more : List ℕ) × (sent : List ℕ) × Consumes before after (bytes ++ more)
-    × Begins (Sends Passes first) (Transforms Passes Ends first) ((more ≡ []) × IsAtEnd after) bytes sent × Appends old new sent)
-    → IsWrittenBy Out (FrontsOf Front) result before old new
-transform_written Passes Ends first Out Front result before after old new whole begins ok front =
-    run_written Out Front result before after old new
-    (on_ok_weaker result (λ (bytes, text, consumed, end, is, appended). (bytes, text, consumed, whole bytes text is, appended)) ok)
-    (on_ok_weaker result (λ (bytes, text, consumed, end, is, appended). end) ok)
-    (on_err_so result front (λ (bytes, more, sent, consumed, is, appended).
-    let (unsent, out) = begins _ bytes sent is in (bytes, more, sent, unsent, consumed, out, appended)))
+-- the same of a stream whose lines are written as they stand when they end
+pub logged_written : {A E : Type 0} (styles same : Option Passing) (result : Result A E)
+    (before after old new : Option (List ℕ)) → same ≡ styles
+    → OnOk result ((bytes : List ℕ) × (text : List ℕ) × Consumes before after bytes × IsLogged same bytes text
+    × Appends old new text)
+    → OnOk result (IsAtEnd after)
+    → OnErr result ((bytes : List ℕ) × (more : List ℕ) × (sent : List ℕ) × (unsent : List ℕ)
+    × Consumes before after (bytes ++ more) × IsLoggedFront same bytes (sent ++ unsent) × Appends old new sent)
+    → IsWrittenBy (IsLogged styles) (FrontsOf (IsLoggedFront styles)) result before old new
+logged_written styles same result before after old new is ok end front =
+    subst (λ (s : Option Passing). IsWrittenBy (IsLogged s) (FrontsOf (IsLoggedFront s)) result before old new) is
+    (run_written (IsLogged same) (IsLoggedFront same) result before after old new ok end front)
 
 pub known_all : {X : Type 0} {P : X → Type 0} (known : Option X) → ((x : X) → P x) → IfSome known P
 known_all None each = tt

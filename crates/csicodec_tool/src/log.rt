@@ -1,14 +1,17 @@
 //! Logs: each line by itself, as it stands when it ends, as plain text or with its styles.
-ghost use Rattle.std.specs.Prelude.{◌≡◌, ◌==◌, ◌++◌, ◌∷◌, [], ℕ, List, IfNone, IfSome, OnOk, not, true};
+ghost use Rattle.std.specs.Prelude.{◌≡◌, ◌==◌, ◌++◌, ◌∷◌, [], ℕ, List, IfNone, IfSome, OnErr, OnOk, not, true};
+ghost use Rattle.std.specs.Io.KnownBytes.{Appends, Consumes, IsAtEnd};
 ghost use Rattle.csicodec_filter.specs.Transform.{GoesOn};
-ghost use Rattle.csicodec_tool.specs.Log.{IsLine};
+ghost use Rattle.csicodec_tool.specs.Log.{IsLine, IsLogged, IsLoggedFront, Logs, LogsSome};
 ghost use Rattle.csicodec_tool.specs.Stream.{EndsLog, GoesIn, IsIn, PassesLog, passing_of};
 
 use csicodec_assemble::split_line;
 use csicodec_clean::{Cleaner, Kept, Passing};
-use csicodec_filter::Transform;
+use csicodec_filter::{Transform, transform_all};
 use csicodec_overwrite::Overwriter;
+use csicodec_streams::RunError;
 use std::alloc::{AllocError, Global};
+use std::io::{Read, Write};
 
 /// What of the styles of a line passes, and what has come of them.
 #[derive(Drop)]
@@ -136,6 +139,26 @@ impl Transform for Log {
     }
 }
 
+/// Writes a log to its end. After each read the lines that are over are written.
+pub fn log_all<R: Read, W: Write>(
+    alloc: Global,
+    styles: Option<Passing>,
+    input: &mut R,
+    output: &mut W,
+) -> Result<(), RunError>
+    ensures ok { OnOk result ((bytes : List ℕ) × (text : List ℕ)
+        × Consumes (R.remaining input.old) (R.remaining input.new) bytes
+        × Logs styles bytes text
+        × Appends (W.contents output.old) (W.contents output.new) text) }
+    ensures end { OnOk result (IsAtEnd (R.remaining input.new)) }
+    ensures front { OnErr result ((bytes : List ℕ) × (more : List ℕ) × (sent : List ℕ) × (unsent : List ℕ)
+        × Consumes (R.remaining input.old) (R.remaining input.new) (bytes ++ more)
+        × LogsSome styles bytes (sent ++ unsent)
+        × Appends (W.contents output.old) (W.contents output.new) sent) }
+{
+    transform_all(alloc, Log::new(alloc, styles), input, output)
+}
+
 /// A stream of which some has come, and of which each line is written as it stands when it ends.
 #[derive(Drop)]
 pub struct Overwritten {
@@ -177,4 +200,24 @@ impl Transform for Overwritten {
     fn end(&mut self, out: &mut Vec<u8>) -> Result<(), AllocError> {
         self.log.end_line(out)
     }
+}
+
+/// Writes a stream to its end, each of its lines as it stands when it ends. After each read the lines that are over are written.
+pub fn overwritten_all<R: Read, W: Write>(
+    alloc: Global,
+    styles: Option<Passing>,
+    input: &mut R,
+    output: &mut W,
+) -> Result<(), RunError>
+    ensures ok { OnOk result ((bytes : List ℕ) × (text : List ℕ)
+        × Consumes (R.remaining input.old) (R.remaining input.new) bytes
+        × IsLogged styles bytes text
+        × Appends (W.contents output.old) (W.contents output.new) text) }
+    ensures end { OnOk result (IsAtEnd (R.remaining input.new)) }
+    ensures front { OnErr result ((bytes : List ℕ) × (more : List ℕ) × (sent : List ℕ) × (unsent : List ℕ)
+        × Consumes (R.remaining input.old) (R.remaining input.new) (bytes ++ more)
+        × IsLoggedFront styles bytes (sent ++ unsent)
+        × Appends (W.contents output.old) (W.contents output.new) sent) }
+{
+    transform_all(alloc, Overwritten::new(alloc, styles), input, output)
 }

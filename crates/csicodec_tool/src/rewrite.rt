@@ -6,13 +6,13 @@ ghost use Rattle.csicodec_command.specs.Recorded.{recorded};
 ghost use Rattle.csicodec_tool.specs.Writes.{IsHeaded, JobSteps, Wrote, WroteBehind, makes_none};
 
 use crate::check::{check_cast, check_stream};
-use crate::log::{Log, Overwritten};
+use crate::log::{Log, Overwritten, log_all, overwritten_all};
 use crate::palette::palette_of;
 use crate::rewritten_cast::{Rewriter, no_memory, rewrite_cast};
 use csicodec_clean::{Cleaner, Depth, Dropped, Kept, Passing, clean_all_with, strip_all};
 use csicodec_command::{Colors, Failure, Recorded, Recordings, Request, Worker, Wrong};
 use csicodec_compact::{Compact, Compactor, compact_all};
-use csicodec_filter::{Faithful, Filter, NormalForm, filter_all, transform_all};
+use csicodec_filter::{Faithful, Filter, NormalForm, filter_all};
 use csicodec_html::{BEHIND, Markup, Palette, UNNAMED, front, html_all_with};
 use csicodec_lines::{Lines, clean_lines_all, strip_lines_all};
 use csicodec_overwrite::html_overwritten_all;
@@ -222,13 +222,8 @@ impl<'a> Work<'a> {
             Work::Check { .. } => Ok(()),
             Work::Strip { lines: true } => strip_lines_all(alloc, input, output),
             Work::Strip { .. } => strip_all(alloc, input, output),
-            Work::Overwrite { styles } => transform_all(
-                alloc,
-                Overwritten::new(alloc, styles),
-                input,
-                output,
-            ),
-            Work::Log { styles } => transform_all(alloc, Log::new(alloc, styles), input, output),
+            Work::Overwrite { styles } => overwritten_all(alloc, styles, input, output),
+            Work::Log { styles } => log_all(alloc, styles, input, output),
             Work::Clean {
                 passing,
                 lines: true,
@@ -254,8 +249,8 @@ impl<'a> Work<'a> {
             (R.remaining input.old) (W.contents output.old) (W.contents output.new) }
     {
         self.begin(alloc, output)?;
-        match self {
-            Work::Check { visible } => check_stream(alloc, *visible, input),
+        match *self {
+            Work::Check { visible } => check_stream(alloc, visible, input),
             _ => Ok(self.write_stream(alloc, input, output)?),
         }
     }
@@ -270,8 +265,8 @@ impl<'a> Work<'a> {
         ensures { WroteBehind self.old result self.new (option_map recorded (R.remaining input.old))
             (W.contents output.old) (W.contents output.new) }
     {
-        if let Work::Check { visible } = self {
-            return check_cast(alloc, *visible, input);
+        if let Work::Check { visible } = *self {
+            return check_cast(alloc, visible, input);
         }
         let mut written = Recorded::new(alloc, input);
         let ended = self.write(alloc, &mut written, output);

@@ -1,14 +1,12 @@
-use Rattle.std.proofs.Common.{refl, ◌∙◌}
 use Rattle.csicodec_spans.specs.declared.table.Mode.TheVariants.{Text as Plain}
 use Rattle.csicodec_compact.specs.Runs.{CompactsAll}
 use Rattle.csicodec_clean.specs.Cleaned.{longest}
 use Rattle.csicodec_clean.specs.Styled.{StylesIn}
 use Rattle.csicodec_lines.specs.Lines.{ByLines}
 use Rattle.csicodec_html.specs.Page.{PageWith}
-use Rattle.csicodec_tool.specs.Log.{IsLogged, IsLoggedFront, Logs, LogsSome}
+use Rattle.csicodec_tool.specs.Log.{Logs, LogsSome}
 use Rattle.csicodec_tool.specs.Writes.{FrontsOf, FrontsOfPainted, PaintedPage}
-use Rattle.csicodec_tool.proofs.Logged.{log_begins, log_begun, logged, overwritten, overwritten_begins}
-use Rattle.csicodec_tool.proofs.Written.{by_same, painted_written, run_written, streams_written, transform_written}
+use Rattle.csicodec_tool.proofs.Written.{by_same, logged_written, painted_written, run_written, streams_written}
 use Rattle.csicodec_tool.proofs.rewrite.Work.write_stream.Goals as goal
 
 pub returns-in-Filter-true : goal.returns-in-Filter-true
@@ -40,29 +38,20 @@ returns-in-Strip g c =
     let a = c.in-Strip in
     rw (a.is, ← a.lines-is, a.lines-test) (streams_written _ _ c.strip_all.result _ _ _ _ c.strip_all.ensures.streams)
 
-pub transform_all-requires-clause-begun : goal.transform_all-requires-clause-begun
-transform_all-requires-clause-begun g c = (refl, c.new-in-Overwrite.ensures.begun)
-
 pub returns-in-Overwrite : goal.returns-in-Overwrite
 returns-in-Overwrite g c =
     let a = c.in-Overwrite in
-    let run = c.transform_all in
-    let first = c.new-in-Overwrite in
+    let run = c.overwritten_all in
     rw a.is
-    (by_same (λ s. IsLogged s) (λ s. FrontsOf (IsLoggedFront s)) _ a.styles run.result _ _ _ (first.ensures.passing ∙ a.styles-is)
-    (transform_written _ _ first.result _ _ run.result _ _ _ _ (overwritten first.result) (overwritten_begins first.result) run.ensures.ok run.ensures.front))
-
-pub transform_all-requires-in-Log-clause-begun : goal.transform_all-requires-in-Log-clause-begun
-transform_all-requires-in-Log-clause-begun g c = log_begun c.new-in-Log.result c.new-in-Log.ensures.begun
+    (logged_written a.styles _ run.result _ _ _ _ a.styles-is run.ensures.ok run.ensures.end run.ensures.front)
 
 pub returns-in-Log : goal.returns-in-Log
 returns-in-Log g c =
     let a = c.in-Log in
-    let run = c.transform_all-in-Log in
-    let first = c.new-in-Log in
+    let run = c.log_all in
     rw a.is
-    (by_same (λ s. Logs s) (λ s. FrontsOf (LogsSome s)) _ a.styles run.result _ _ _ (first.ensures.passing ∙ a.styles-is)
-    (transform_written _ _ first.result _ _ run.result _ _ _ _ (logged first.result) (log_begins first.result) run.ensures.ok run.ensures.front))
+    (by_same (λ s. Logs s) (λ s. FrontsOf (LogsSome s)) _ a.styles run.result _ _ _ a.styles-is
+    (run_written (Logs _) (LogsSome _) run.result _ _ _ _ run.ensures.ok run.ensures.end run.ensures.front))
 
 pub returns-in-Clean-default-true : goal.returns-in-Clean-default-true
 returns-in-Clean-default-true g c =

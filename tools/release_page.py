@@ -98,7 +98,8 @@ def source(text):
 
 def page(program):
     """The page, with the program as a module of WebAssembly."""
-    style, script = read("web/page/page.css"), bundle("web/page.mjs")
+    # Blanks beside these three say nothing in a style sheet, and no string of it has one of them.
+    style, script = re.sub(r"\s*([{};])\s*", r"\1", read("web/page/page.css")), bundle("web/page.mjs")
     parts = {
         "script": source(script),
         "style": source(style),

@@ -69,7 +69,7 @@ async function markupStaysText(browser) {
 }
 
 async function seenAndBack(browser) {
-    await browser.open(page, spell({ text: String.raw`one \e[31mred\e[0m\r\n10%\r\e[1m20%\e[0m\r\n\e[38;2;1;2;3mtrue` }));
+    await browser.open(page, spell({ text: String.raw`one \e[31mred\e[0m\r\n10%\r\e[1m20%\e[0m\r\n\e[38;2;10;120;200mtrue` }));
     equals(await browser.run(() => document.querySelector('[role=tab][aria-selected=true]').textContent), 'Seen', 'the first view');
     equals((await lines(browser)).map(it => it.text).join('|'), 'one red|20%|true', 'each line at its end');
     wants((await lines(browser))[0].parts.some(([look, , text]) => /\bfg-1\b/.test(look) && text === 'red'), 'red is not red');

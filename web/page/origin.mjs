@@ -43,7 +43,8 @@ export class Origins {
         this.#engine = engine;
         this.#blob = blob;
         this.#index = index;
-        this.#words = wordsOf('seen', all);
+        // A colour is a number here, so each stays as it is.
+        this.#words = [...wordsOf('seen', all), '--palette', 'xterm'];
     }
 
     /** Of each line that is seen, the line of the stream it came from. */

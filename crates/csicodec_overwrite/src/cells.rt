@@ -186,24 +186,6 @@ impl Side {
         self.bare = 0;
     }
 
-    /// Puts all cells of another side nearest, its nearest first, and takes them from there.
-    pub(crate) fn push_side(&mut self, from: &mut Side) -> Result<(), AllocError>
-        ensures cells { OnOk result (self.new ≡ onto from.old self.old) }
-        ensures none { OnOk result (from.new ≡ []) }
-    {
-        let Some(width) = self.width.checked_add(from.width) else {
-            return Err(AllocError);
-        };
-        from.cells.reverse();
-        let moved = self.cells.append(&mut from.cells);
-        from.cells.clear();
-        from.width = 0;
-        from.bare = 0;
-        moved?;
-        self.width = width;
-        Ok(())
-    }
-
     /// Puts so many of the same cell nearest.
     pub(crate) fn push_many(&mut self, cell: Cell, count: usize) -> Result<(), AllocError>
         ensures { OnOk result (self.new ≡ replicate count cell ++ self.old) }

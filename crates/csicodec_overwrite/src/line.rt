@@ -109,10 +109,6 @@ impl Line {
     fn behind_columns(&mut self, limit: usize, count: usize) -> Result<(), AllocError>
         ensures { OnOk result (self.new ≡ behind_columns limit count self.old) }
     {
-        if count == 0 {
-            move_all(&mut self.left, &mut self.right)?;
-            return self.forward(limit, 0);
-        }
         let column = self.left.columns();
         self.back(column.saturating_sub(count))?;
         self.forward(limit, count.saturating_sub(column))

@@ -1,5 +1,5 @@
--- Where plain text ends.
-use Rattle.std.proofs.Common.{◌≡◌, ◌≢◌, ◌<◌, ◌≤◌, ◌-◌, ◌+◌, ◌^◌, ◌==◌, ℕ, true, false, None, Some, cond, min, nat_eq, List, [], ◌∷◌, ◌++◌, length}
+-- Where text of a class of characters ends.
+use Rattle.std.proofs.Common.{◌≡◌, ◌≢◌, ◌<◌, ◌≤◌, ◌-◌, ◌+◌, ◌^◌, ◌==◌, ℕ, Bool, true, false, None, Some, cond, min, nat_eq, List, [], ◌∷◌, ◌++◌, length}
 use Rattle.std.proofs.Common.{length-append, take, drop, encode_utf8, encode_utf8_all, refl, sym, ap, subst, ◌∙◌, arith, append_assoc, append-nil}
 use Rattle.std.specs.Prelude.{suc}
 use Rattle.std.specs.List.{AllByRecursion}
@@ -15,10 +15,9 @@ use Rattle.bstr.proofs.lemmas.EncodeLemmas.{decoded-encode, lossy_chars-encode}
 use Rattle.bstr.proofs.lemmas.PieceLemmas.{piece-bounds}
 use Rattle.bstr.proofs.lemmas.SoundLemmas.{SpellsChar-decoded}
 use Rattle.csicodec_clean.specs.Cleaned.{Strips}
-use Rattle.csicodec_clean.specs.Check.{IsFault, IsHidden, Stands, counted, line_ends}
-use Rattle.csicodec_clean.specs.Shown.{IsPlain, IsShown, shown}
-use Rattle.csicodec_clean.specs.Private.Steps.{IsBehindShown}
-use Rattle.csicodec_clean.proofs.Plain.{plain_on, scalars_lossy, strips_plain}
+use Rattle.csicodec_clean.specs.Check.{IsFault, IsOutside, Stands, counted, line_ends}
+use Rattle.csicodec_clean.specs.Shown.{IsBehind, IsPlain, IsShown, IsTextOf, shown}
+use Rattle.csicodec_clean.proofs.Plain.{scalars_lossy, strips_plain, text_on}
 use Rattle.csicodec_clean.proofs.Shows.{encoded_on}
 use Rattle.csicodec_clean.proofs.Sure.{sure_piece}
 use Rattle.csicodec_clean.proofs.Told.{read_encoded}
@@ -30,14 +29,15 @@ char_within (b ∷ bytes) c size char same =
     let bounds = piece-bounds (b ∷ bytes) (omega arith) in
     (omega (arith, same, bounds.0), omega (arith, same, bounds.2))
 
--- one that is shown is plain text
-pub one_plain : (bytes : List ℕ) (c size : ℕ) → Some c ≡ (decoded bytes).char → size ≡ (decoded bytes).size → shown c ≡ true → IsPlain (take size bytes)
-one_plain bytes c size char same shows =
+-- one of a class is text of it
+pub one_text : (class : ℕ → Bool) (bytes : List ℕ) (c size : ℕ) → Some c ≡ (decoded bytes).char → size ≡ (decoded bytes).size → class c ≡ true
+    → IsTextOf class (take size bytes)
+one_text class bytes c size char same has =
     let s = SpellsChar-decoded bytes c (sym char) in
     let own = encode_utf8 c in
     let text : take size bytes ≡ own =
     ap (λ (i : ℕ). take i bytes) (same ∙ sym s.width) ∙ ap (λ (t : List ℕ). take (length own) t) s.bytes ∙ take-append_seam own (drop (decoded bytes).size bytes) in
-    (c ∷ [], and_from (scalar c) true s.scalar refl, (shows, tt), text ∙ sym (append-nil own))
+    (c ∷ [], and_from (scalar c) true s.scalar refl, (has, tt), text ∙ sym (append-nil own))
 
 -- what decodes so whatever follows
 pub sure_char : (bytes : List ℕ) (c : ℕ) → 0 < length bytes → Some c ≡ (decoded bytes).char → (more : List ℕ) → decoded (bytes ++ more) ≡ decoded bytes
@@ -53,15 +53,15 @@ sure_bad bytes size some same other more =
 counted_on : (n m k : ℕ) → n ≡ counted m → min (n + k) (2 ^ 64 - 1) ≡ counted (m + k)
 counted_on n m k e = omega (arith, e)
 
--- the plain text in front is passed, and the rest is kept
-pub kept_rest : (held rest kept : List ℕ) (len : ℕ) → IsBehindShown held rest → len ≡ length held - length rest → kept ≡ drop len held → kept ≡ rest
-kept_rest held rest kept len (front, e, plain) long own =
+-- the text in front is passed, and the rest is kept
+pub kept_rest : (class : ℕ → Bool) (held rest kept : List ℕ) (len : ℕ) → IsBehind class held rest → len ≡ length held - length rest → kept ≡ drop len held → kept ≡ rest
+kept_rest class held rest kept len (front, e, text) long own =
     let n : len ≡ length front = omega (arith, long, ap length e, length-append front rest) in
     own ∙ ap (λ (i : ℕ). drop i held) n ∙ ap (λ (t : List ℕ). drop (length front) t) e ∙ drop-append_seam front rest
 
-pub passed : (bytes held rest kept : List ℕ) (at line len ends a l : ℕ) → Stands bytes held at line → IsBehindShown held rest → len ≡ length held - length rest → kept ≡ drop len held
-    → ends ≡ line_ends (take len held) → a ≡ min (at + len) (2 ^ 64 - 1) → l ≡ min (line + ends) (2 ^ 64 - 1) → Stands bytes kept a l
-passed bytes held rest kept at line len ends a l s (front, e, plain) long left own there here =
+pub passed : (class : ℕ → Bool) (bytes held rest kept : List ℕ) (at line len ends a l : ℕ) → Stands class bytes held at line → IsBehind class held rest → len ≡ length held - length rest → kept ≡ drop len held
+    → ends ≡ line_ends (take len held) → a ≡ min (at + len) (2 ^ 64 - 1) → l ≡ min (line + ends) (2 ^ 64 - 1) → Stands class bytes kept a l
+passed class bytes held rest kept at line len ends a l s (front, e, has) long left own there here =
     let n : len ≡ length front = omega (arith, long, ap length e, length-append front rest) in
     let text : take len held ≡ front = ap (λ (i : ℕ). take i held) n ∙ ap (λ (t : List ℕ). take (length front) t) e ∙ take-append_seam front rest in
     let m : ends ≡ line_ends front = own ∙ ap line_ends text in
@@ -69,18 +69,18 @@ passed bytes held rest kept at line len ends a l s (front, e, plain) long left o
     let lines = sum_by-append (λ (b : ℕ). cond (b == 10) 1 0) s.front front in
     record {
       front = s.front ++ front;
-      whole = s.whole ∙ ap (λ t. s.front ++ t) e ∙ sym (append_assoc s.front front rest) ∙ ap (λ t. (s.front ++ front) ++ t) (sym (kept_rest held rest kept len (front, e, plain) long left));
-      plain = plain_on s.front front s.plain plain;
+      whole = s.whole ∙ ap (λ t. s.front ++ t) e ∙ sym (append_assoc s.front front rest) ∙ ap (λ t. (s.front ++ front) ++ t) (sym (kept_rest class held rest kept len (front, e, has) long left));
+      text = text_on class s.front front s.text has;
       place = there ∙ counted_on at (length s.front) len s.place ∙ ap counted (omega (arith, n, size));
       number = here ∙ counted_on line (suc (line_ends s.front)) ends s.number ∙ ap counted (omega (arith, m, lines));
     }
 
 -- more came
-pub more_came : (bytes held more : List ℕ) (at line : ℕ) → Stands bytes held at line → Stands (bytes ++ more) (held ++ more) at line
-more_came bytes held more at line s = record {
+pub more_came : (class : ℕ → Bool) (bytes held more : List ℕ) (at line : ℕ) → Stands class bytes held at line → Stands class (bytes ++ more) (held ++ more) at line
+more_came class bytes held more at line s = record {
   front = s.front;
   whole = ap (λ t. t ++ more) s.whole ∙ append_assoc s.front held more;
-  plain = s.plain;
+  text = s.text;
   place = s.place;
   number = s.number;
 }
@@ -101,15 +101,15 @@ plain_behind front rest (cs, scalars, all, e) (ds, s, h, f) =
     (later, scalars_lossy rest, behind_all IsShown cs later (subst (AllByRecursion IsShown) same h), append_cancel_left front rest (encode_utf8_all later) bytes)
 
 -- and begins with a character that is shown
-plain_seen : (text : List ℕ) → 0 < length text → IsHidden text → ¬ IsPlain text
+plain_seen : (text : List ℕ) → 0 < length text → IsOutside shown text → ¬ IsPlain text
 plain_seen text some hidden ([], scalars, all, e) = absurd (omega (arith, some, ap length e))
 plain_seen text some hidden (c ∷ cs, scalars, all, e) =
     let both = and_parts (scalar c) (all_scalars cs) scalars in
     let char = ap (λ (t : List ℕ). (decoded t).char) e ∙ ap (λ (p : Decoded). p.char) (decoded-encode c (encode_utf8_all cs) both.0) in
     false≢true (sym (hidden c char) ∙ all.0)
 
-pub not_plain : (bytes rest : List ℕ) (at line : ℕ) → IsFault bytes rest at line → ¬ IsPlain bytes
-not_plain bytes rest at line (s, some, hidden) plain = plain_seen rest some hidden (plain_behind s.front rest s.plain (subst IsPlain s.whole plain))
+pub not_plain : (bytes rest : List ℕ) (at line : ℕ) → IsFault shown bytes rest at line → ¬ IsPlain bytes
+not_plain bytes rest at line (s, some, hidden) plain = plain_seen rest some hidden (plain_behind s.front rest s.text (subst IsPlain s.whole plain))
 
-pub not_left : (limit : ℕ) (bytes rest text : List ℕ) (at line : ℕ) → IsFault bytes rest at line → Strips limit bytes text → text ≢ bytes
+pub not_left : (limit : ℕ) (bytes rest text : List ℕ) (at line : ℕ) → IsFault shown bytes rest at line → Strips limit bytes text → text ≢ bytes
 not_left limit bytes rest text at line fault strips = λ same. not_plain bytes rest at line fault (subst IsPlain same (strips_plain limit bytes text strips))

@@ -13,7 +13,7 @@ use Rattle.bstr.proofs.lemmas.SoundLemmas.{SpellsChar-decoded}
 use Rattle.csicodec_spans.specs.declared.table.Kind.{Kind}
 use Rattle.csicodec_spans.specs.declared.table.Kind.TheVariants as kind
 use Rattle.csicodec_spans.specs.Parts.{Part}
-use Rattle.csicodec_clean.specs.Shown.{shown, shown_text, IsShown, IsPlain}
+use Rattle.csicodec_clean.specs.Shown.{shown, shown_text, IsShown, IsPlain, IsTextOf}
 use Rattle.csicodec_clean.specs.Titles.{with_titles}
 use Rattle.csicodec_clean.specs.Cleaned.{AreGiven, IsStep, AreSteps, Ends, Strips, stripped, drops, ends_bare, is_text}
 use Rattle.csicodec_clean.proofs.PlainBytes.{all_both}
@@ -57,8 +57,8 @@ pub scalars_on : (xs ys : List ℕ) → all_scalars xs ≡ true → all_scalars 
 scalars_on [] ys h k = k
 scalars_on (x ∷ xs) ys h k = let both = and_parts _ _ h in and_from _ _ both.0 (scalars_on xs ys both.1 k)
 
-pub plain_on : (s t : List ℕ) → IsPlain s → IsPlain t → IsPlain (s ++ t)
-plain_on s t (xs, a, b, c) (ys, d, e, f) = (xs ++ ys, scalars_on xs ys a d, all_both IsShown xs ys b e, ap (λ u. u ++ t) c ∙ ap (λ u. encode_utf8_all xs ++ u) f ∙ sym (encoded_on xs ys))
+pub text_on : (class : ℕ → Bool) (s t : List ℕ) → IsTextOf class s → IsTextOf class t → IsTextOf class (s ++ t)
+text_on class s t (xs, a, b, c) (ys, d, e, f) = (xs ++ ys, scalars_on xs ys a d, all_both (λ c. class c ≡ true) xs ys b e, ap (λ u. u ++ t) c ∙ ap (λ u. encode_utf8_all xs ++ u) f ∙ sym (encoded_on xs ys))
 
 -- ---- stripped
 
@@ -70,7 +70,7 @@ pub plain_stripped : (parts : List Part) (run : List ℕ) → IsPlain (stripped 
 plain_stripped [] run = plain_shown run
 plain_stripped (p ∷ parts) run =
     either (is_text p.kind) (stripped (run ++ p.bytes) parts) (shown_text run ++ stripped [] parts) (plain_stripped parts (run ++ p.bytes))
-    (plain_on (shown_text run) (stripped [] parts) (plain_shown run) (plain_stripped parts []))
+    (text_on shown (shown_text run) (stripped [] parts) (plain_shown run) (plain_stripped parts []))
 
 module _ {S : Type 0} where
   -- the rule that drops gives nothing for a string

@@ -1,5 +1,5 @@
 -- Text that is told by its bytes.
-use Rattle.std.proofs.Common.{◌≡◌, ◌+◌, ◌-◌, ◌<◌, ◌≤◌, ℕ, true, false, cond, List, [], ◌∷◌, ◌++◌, length, length-append, drop, take}
+use Rattle.std.proofs.Common.{◌≡◌, ◌+◌, ◌-◌, ◌<◌, ◌≤◌, ℕ, Bool, true, false, cond, List, [], ◌∷◌, ◌++◌, length, length-append, drop, take}
 use Rattle.std.proofs.Common.{slice_index, encode_utf8_all, refl, sym, ap, ◌∙◌, arith, lt-ltb, append_assoc, append-nil, take-append-drop, zero, suc}
 use Rattle.std.specs.List.{AllByRecursion, prefix_len}
 use Rattle.std.specs.Str.{all_scalars}
@@ -11,11 +11,11 @@ use Rattle.bstr.specs.Utf8.{Decoded, decoded, good, or_replacement, lossy_chars,
 use Rattle.bstr.proofs.lemmas.EncodeLemmas.{decoded-encode}
 use Rattle.bstr.proofs.lemmas.PieceLemmas.{lossy_chars-step, value-1, value-6, value-9, value-12}
 use Rattle.std.proofs.Math.Seq.{take-append_seam, drop-append_seam}
-use Rattle.csicodec_clean.specs.Shown.{shown, shown_chars, IsPlain, IsRead, IsShown}
+use Rattle.csicodec_clean.specs.Shown.{shown, shown_chars, IsBehind, IsPlain, IsRead, IsShown, IsTextOf}
 use Rattle.csicodec_clean.specs.Bytes.{IsPlainByte, behind, plain_byte}
-use Rattle.csicodec_clean.specs.Private.Steps.{IsBehindShown, IsOther, IsTold, Tells, dropped_byte, IsWide}
+use Rattle.csicodec_clean.specs.Private.Steps.{IsOther, IsTold, Tells, dropped_byte, IsWide}
 use Rattle.csicodec_clean.proofs.Bytes.{front_in}
-use Rattle.csicodec_clean.proofs.Plain.{plain_on}
+use Rattle.csicodec_clean.proofs.Plain.{text_on}
 use Rattle.csicodec_clean.proofs.PlainBytes.{all_both, plain_bytes}
 use Rattle.csicodec_clean.proofs.Shows.{shown_on}
 use Rattle.csicodec_clean.proofs.Sure.{read_more, read_none}
@@ -38,32 +38,42 @@ pub scalars : (bs : List ℕ) → AllByRecursion IsPlainByte bs → all_scalars 
 scalars [] h = refl
 scalars (b ∷ bs) h = and_from (scalar b) (all_scalars bs) (low_scalar b (omega (arith, low b h.0))) (scalars bs h.1)
 
-pub all_shown : (bs : List ℕ) → AllByRecursion IsPlainByte bs → AllByRecursion IsShown bs
-all_shown [] h = tt
-all_shown (b ∷ bs) h = (is_shown b h.0, all_shown bs h.1)
-
 pub encoded : (bs : List ℕ) → AllByRecursion IsPlainByte bs → bs ≡ encode_utf8_all bs
 encoded [] h = refl
 encoded (b ∷ bs) h = ap (λ t. b ∷ t) (encoded bs h.1) ∙ ap (λ t. t ++ encode_utf8_all bs) (sym (alone b (low b h.0)))
 
+all_in : (class : ℕ → Bool) → ((b : ℕ) → IsPlainByte b → class b ≡ true) → (bs : List ℕ) → AllByRecursion IsPlainByte bs
+    → AllByRecursion (λ c. class c ≡ true) bs
+all_in class has [] h = tt
+all_in class has (b ∷ bs) h = (has b h.0, all_in class has bs h.1)
+
+ascii_in : (class : ℕ → Bool) → ((b : ℕ) → IsPlainByte b → class b ≡ true) → (bs : List ℕ) → AllByRecursion IsPlainByte bs
+    → IsTextOf class bs
+ascii_in class has bs h = (bs, scalars bs h, all_in class has bs h, encoded bs h)
+
 pub ascii_shown : (bs : List ℕ) → AllByRecursion IsPlainByte bs → IsPlain bs
-ascii_shown bs h = (bs, scalars bs h, all_shown bs h, encoded bs h)
+ascii_shown = ascii_in shown is_shown
 
--- ---- behind them, and behind characters that are shown
+-- ---- behind them, and behind characters of a class
 
-pub plain_behind : (bytes : List ℕ) → IsBehindShown bytes (behind plain_byte bytes)
-plain_behind bytes =
+pub behind_ascii : (class : ℕ → Bool) → ((b : ℕ) → IsPlainByte b → class b ≡ true) → (bytes : List ℕ)
+    → IsBehind class bytes (behind plain_byte bytes)
+behind_ascii class has bytes =
     let front = take (prefix_len plain_byte bytes) bytes in
-    (front, sym (take-append-drop (prefix_len plain_byte bytes) bytes), ascii_shown front (front_in plain_byte bytes))
+    (front, sym (take-append-drop (prefix_len plain_byte bytes) bytes), ascii_in class has front (front_in plain_byte bytes))
 
-pub none_behind : (bytes : List ℕ) → IsBehindShown bytes bytes
-none_behind bytes = ([], refl, ascii_shown [] tt)
+pub plain_behind : (bytes : List ℕ) → IsBehind shown bytes (behind plain_byte bytes)
+plain_behind = behind_ascii shown is_shown
 
-pub shown_further : (bytes mid rest : List ℕ) → IsBehindShown bytes mid → IsBehindShown mid rest → IsBehindShown bytes rest
-shown_further bytes mid rest (xs, e, h) (ys, f, k) = (xs ++ ys, e ∙ ap (λ t. xs ++ t) f ∙ sym (append_assoc xs ys rest), plain_on xs ys h k)
+pub none_behind : (bytes : List ℕ) → IsBehind shown bytes bytes
+none_behind bytes = ([], refl, ([], refl, tt, refl))
 
-pub front_shown : (bytes : List ℕ) (n : ℕ) → IsPlain (take n bytes) → IsBehindShown bytes (drop n bytes)
-front_shown bytes n h = (take n bytes, sym (take-append-drop n bytes), h)
+pub further : (class : ℕ → Bool) (bytes mid rest : List ℕ) → IsBehind class bytes mid → IsBehind class mid rest → IsBehind class bytes rest
+further class bytes mid rest (xs, e, h) (ys, f, k) =
+    (xs ++ ys, e ∙ ap (λ t. xs ++ t) f ∙ sym (append_assoc xs ys rest), text_on class xs ys h k)
+
+pub behind_front : (class : ℕ → Bool) (bytes : List ℕ) (n : ℕ) → IsTextOf class (take n bytes) → IsBehind class bytes (drop n bytes)
+behind_front class bytes n h = (take n bytes, sym (take-append-drop n bytes), h)
 
 -- ---- what is read of them
 
@@ -124,7 +134,7 @@ front_taken bytes front rest e =
     let n : length bytes - length rest ≡ length front = omega (arith, ap length e, length-append front rest) in
     ap (λ (i : ℕ). take i bytes) n ∙ ap (λ (t : List ℕ). take (length front) t) e ∙ take-append_seam front rest
 
-pub tells_shown : (bytes rest old new : List ℕ) → IsBehindShown bytes rest → new ≡ old ++ take (length bytes - length rest) bytes → Tells bytes rest old new
+pub tells_shown : (bytes rest old new : List ℕ) → IsBehind shown bytes rest → new ≡ old ++ take (length bytes - length rest) bytes → Tells bytes rest old new
 tells_shown bytes rest old new (text, e, p) n =
     let told = plain_told text p in
     (text, p.0, e, told.0, n ∙ ap (λ t. old ++ t) (front_taken bytes text rest e ∙ sym told.1))

@@ -1,10 +1,9 @@
-//! Whether a stream is plain text, and where it is no more.
-ghost use Rattle.std.specs.Prelude.{◌≡◌, ◌⊎◌, ◌<◌, ◌≤◌, ◌++◌, ℕ, List, [], length, take, true, false, OnOk, IfOk, IfErr};
+//! Whether a stream is text of one class of characters, as plain text is, and where it is so no more.
+ghost use Rattle.std.specs.Prelude.{◌≡◌, ◌⊎◌, ◌<◌, ◌≤◌, ◌++◌, ℕ, Bool, List, [], length, take, true, false, OnOk, IfOk, IfErr};
 ghost use Rattle.std.specs.Io.KnownBytes.{Consumes, IsAtEnd};
 ghost use Rattle.bstr.specs.Utf8.{decoded};
-ghost use Rattle.csicodec_clean.specs.Check.{IsFault, IsHidden, Stands, line_ends};
-ghost use Rattle.csicodec_clean.specs.Private.Steps.{IsBehindShown};
-ghost use Rattle.csicodec_clean.specs.Shown.{IsPlain};
+ghost use Rattle.csicodec_clean.specs.Check.{IsFault, IsOutside, Stands, line_ends};
+ghost use Rattle.csicodec_clean.specs.Shown.{IsBehind, IsTextOf};
 
 use crate::text::is_shown;
 use crate::wide::behind_shown;
@@ -15,31 +14,61 @@ use std::io::Read;
 
 const ESC: u8 = 0x1b;
 
-/// How many bytes the character in front has, if it is shown; 0 where none is.
-fn shown_len(bytes: &[u8]) -> usize
+/// A class of characters.
+pub trait CharClass {
+    /// Whether a character is of the class.
+    ghost class: { ℕ → Bool };
+
+    fn has(char: char) -> bool
+        ensures { result ≡ class char };
+
+    /// What is behind characters of the class in front: as many as are told at a glance.
+    fn behind<'a>(bytes: &'a [u8]) -> &'a [u8]
+        ensures { IsBehind class bytes.now result.now };
+}
+
+/// The characters of plain text: a newline, a tab, and all that are no controls.
+pub struct PlainText;
+
+impl CharClass for PlainText {
+    ghost use Rattle.csicodec_clean.specs.Shown.{shown};
+
+    ghost class = { shown };
+
+    fn has(char: char) -> bool {
+        is_shown(char)
+    }
+
+    fn behind<'a>(bytes: &'a [u8]) -> &'a [u8] {
+        behind_shown(bytes)
+    }
+}
+
+/// How many bytes the character in front has, if it is of the class; 0 where none is.
+fn member_len<C: CharClass>(bytes: &[u8]) -> usize
     ensures within { result ≤ length bytes.now }
-    ensures plain { IsPlain (take result bytes.now) }
-    ensures none { result ≡ 0 → IsHidden bytes.now }
+    ensures text { IsTextOf C.class (take result bytes.now) }
+    ensures none { result ≡ 0 → IsOutside C.class bytes.now }
 {
     let (found, size) = decode_utf8(bytes);
     match found {
-        Some(char) => { if is_shown(char) { size } else { 0 } }
+        Some(char) => { if C::has(char) { size } else { 0 } }
         None => 0,
     }
 }
 
-/// What is behind the plain text in front.
-fn behind_text<'a>(bytes: &'a [u8]) -> &'a [u8]
-    ensures behind { IsBehindShown bytes.now result.now }
-    ensures hidden { IsHidden result.now }
+/// What is behind the characters of the class in front.
+fn behind_text<'a, C: CharClass>(bytes: &'a [u8]) -> &'a [u8]
+    ensures behind { IsBehind C.class bytes.now result.now }
+    ensures outside { IsOutside C.class result.now }
 {
-    let mut rest = behind_shown(bytes);
+    let mut rest = C::behind(bytes);
     loop {
-        let len = shown_len(rest);
+        let len = member_len::<C>(rest);
         if len == 0 {
             return rest;
         }
-        rest = behind_shown(rest.split_at(len).1);
+        rest = C::behind(rest.split_at(len).1);
     }
 }
 
@@ -66,21 +95,22 @@ fn line_ends(text: &[u8]) -> usize
     text.iter().filter(|byte| **byte == b'\n').count()
 }
 
-/// A stream as far as it is plain text.
+/// A stream as far as it is text of a class of characters.
 #[derive(Drop)]
 pub struct Checked {
     /// How many bytes of it are.
     pub at: u64,
     /// The line that goes on behind them, counted from 1.
     pub line: u64,
-    /// What came behind them: if nothing more comes, it is no plain text.
+    /// What came behind them: if nothing more comes, it is no such text.
     pub rest: Vec<u8>,
 }
 
 impl Checked {
     /// Of which nothing has come.
     pub fn new(alloc: Global) -> Checked
-        ensures { Stands [] result.rest.items result.at result.line × (result.rest.items ≡ []) }
+        ensures { ((class : ℕ → Bool) → Stands class [] result.rest.items result.at result.line)
+            × (result.rest.items ≡ []) }
     {
         Checked {
             at: 0,
@@ -89,13 +119,14 @@ impl Checked {
         }
     }
 
-    /// Takes the plain text in front of the rest.
-    fn pass(&mut self)
-        ensures stands { (bytes : List ℕ) → Stands bytes self.old.rest.items self.old.at self.old.line
-            → Stands bytes self.new.rest.items self.new.at self.new.line }
-        ensures hidden { IsHidden self.new.rest.items }
+    /// Takes the characters of the class in front of the rest.
+    fn pass<C: CharClass>(&mut self)
+        ensures stands { (bytes : List ℕ)
+            → Stands C.class bytes self.old.rest.items self.old.at self.old.line
+            → Stands C.class bytes self.new.rest.items self.new.at self.new.line }
+        ensures outside { IsOutside C.class self.new.rest.items }
     {
-        let behind = behind_text(&self.rest).len();
+        let behind = behind_text::<C>(&self.rest).len();
         let len = self.rest.len() - behind;
         let ends = line_ends(&self.rest[..len]);
         self.at = self.at.saturating_add(len as u64);
@@ -103,41 +134,41 @@ impl Checked {
         keep_from(&mut self.rest, len);
     }
 
-    /// Takes the next bytes. Whether more may follow: of plain text, of a character that isn't over, or of an ESC alone, which tells
+    /// Takes the next bytes. Whether more may follow: of such text, of a character that isn't over, or of an ESC alone, which tells
     /// what that begins.
-    pub fn push(&mut self, bytes: &[u8]) -> Result<bool, AllocError>
+    pub fn push<C: CharClass>(&mut self, bytes: &[u8]) -> Result<bool, AllocError>
         ensures stands { OnOk result ((before : List ℕ)
-            → Stands before self.old.rest.items self.old.at self.old.line
-            → Stands (before ++ bytes.now) self.new.rest.items self.new.at self.new.line) }
-        ensures hidden { OnOk result (IsHidden self.new.rest.items) }
+            → Stands C.class before self.old.rest.items self.old.at self.old.line
+            → Stands C.class (before ++ bytes.now) self.new.rest.items self.new.at self.new.line) }
+        ensures outside { OnOk result (IsOutside C.class self.new.rest.items) }
         ensures short { IfOk result (λ waits. waits ≡ true → length self.new.rest.items ≤ 3) }
-        // Whatever follows, no character that is shown stands there.
+        // Whatever follows, no character of the class stands there.
         ensures over { IfOk result (λ waits. waits ≡ false → (0 < length self.new.rest.items)
-            × ((more : List ℕ) → IsHidden (self.new.rest.items ++ more))) }
+            × ((more : List ℕ) → IsOutside C.class (self.new.rest.items ++ more))) }
     {
         self.rest.extend_from_slice(bytes)?;
-        self.pass();
+        self.pass::<C>();
         Ok(is_cut(&self.rest) || self.rest.as_slice() == [ESC].as_slice())
     }
 }
 
-/// Reads up to the first place where the input is plain text no more, or to its end, and keeps of it what stands there.
+/// Reads up to the first character that isn't of the class, or to the end of the input, and keeps of it what stands there.
 ///
 /// A read that answers `Interrupted` is tried again; any other error of a read is `RunError::Read`.
 ///
 /// ```text
-/// check_all(alloc, &mut input)?;      // reads "a\nb\x1b[m": at 3, in line 2; the rest begins with "\x1b[m"
+/// check_all::<PlainText, _>(alloc, &mut input)?;      // reads "a\nb\x1b[m": at 3, in line 2; the rest begins with "\x1b[m"
 /// ```
-pub fn check_all<R: Read>(alloc: Global, input: &mut R) -> Result<Checked, RunError>
-    // Where no rest is left, all is plain text, to its end.
-    ensures plain { IfOk result (λ found. found.rest.items ≡ [] → (bytes : List ℕ)
+pub fn check_all<C: CharClass, R: Read>(alloc: Global, input: &mut R) -> Result<Checked, RunError>
+    // Where no rest is left, all is such text, to its end.
+    ensures text { IfOk result (λ found. found.rest.items ≡ [] → (bytes : List ℕ)
         × Consumes (R.remaining input.old) (R.remaining input.new) bytes
-        × IsAtEnd (R.remaining input.new) × IsPlain bytes) }
-    // Else this is the place where it is no more: whatever follows, or at its end, with nothing behind.
+        × IsAtEnd (R.remaining input.new) × IsTextOf C.class bytes) }
+    // Else this is the place of the first that isn't: whatever follows, or at its end, with nothing behind.
     ensures fault { IfOk result (λ found. 0 < length found.rest.items → (bytes : List ℕ)
         × Consumes (R.remaining input.old) (R.remaining input.new) bytes
-        × (((more : List ℕ) → IsFault (bytes ++ more) (found.rest.items ++ more) found.at found.line)
-        ⊎ (IsAtEnd (R.remaining input.new) × IsFault bytes found.rest.items found.at found.line))) }
+        × (((more : List ℕ) → IsFault C.class (bytes ++ more) (found.rest.items ++ more) found.at found.line)
+        ⊎ (IsAtEnd (R.remaining input.new) × IsFault C.class bytes found.rest.items found.at found.line))) }
     ensures err { IfErr result (λ e. (e ≡ RunError.Read) ⊎ (e ≡ RunError.Memory)) }
 {
     let mut checked = Checked::new(alloc);
@@ -147,7 +178,7 @@ pub fn check_all<R: Read>(alloc: Global, input: &mut R) -> Result<Checked, RunEr
         if count == 0 {
             return Ok(checked);
         }
-        match checked.push(&chunk[..count]) {
+        match checked.push::<C>(&chunk[..count]) {
             Ok(true) => {}
             Ok(false) => return Ok(checked),
             Err(_) => return Err(RunError::Memory),

@@ -13,7 +13,7 @@ ghost use Rattle.csicodec_clean.specs.declared.styles.Passing.{Passing};
 ghost use Rattle.csicodec_clean.specs.declared.whole.Dropped.{Dropped};
 ghost use Rattle.csicodec_clean.specs.Check.{IsFault};
 ghost use Rattle.csicodec_clean.specs.Marked.{IsMarked};
-ghost use Rattle.csicodec_clean.specs.Shown.{IsPlain};
+ghost use Rattle.csicodec_clean.specs.Shown.{IsPlain, shown};
 ghost use Rattle.csicodec_clean.specs.Titles.{InTitle, IsText, with_titles};
 ghost use Rattle.csicodec_spans.specs.Parts.{IsWhole, Part, part};
 ghost use Rattle.csicodec_spans.specs.declared.table.Kind.TheVariants.{Other};
@@ -67,8 +67,8 @@ pub fn plain_stays()
 
 /// Bytes with a fault are no plain text, and `strip` makes something else of them.
 pub fn faults()
-    ensures plain { (bytes rest : List ℕ) (at line : ℕ) → IsFault bytes rest at line → ¬ IsPlain bytes }
-    ensures stripped { (bytes rest text : List ℕ) (at line : ℕ) → IsFault bytes rest at line
+    ensures plain { (bytes rest : List ℕ) (at line : ℕ) → IsFault shown bytes rest at line → ¬ IsPlain bytes }
+    ensures stripped { (bytes rest text : List ℕ) (at line : ℕ) → IsFault shown bytes rest at line
         → Strips longest bytes text → text ≢ bytes }
 {}
 

@@ -9,7 +9,7 @@ use bstr::{ByteVec, decode_utf8};
 use std::alloc::AllocError;
 
 /// Whether the character is a newline, a tab, or no control.
-pub(crate) fn is_shown(char: char) -> bool
+pub fn is_shown(char: char) -> bool
     ensures { result ≡ shown char }
 {
     char == '\n' || char == '\t' || ' ' <= char && (char < '\u{7f}' || '\u{a0}' <= char)

@@ -1,8 +1,8 @@
 //! Characters from U+00A0 on, told by their bytes.
 ghost use Rattle.std.specs.Prelude.{◌≡◌, ◌≤◌, ◌<◌, ◌++◌, length, take, true};
 ghost use Rattle.bstr.specs.Utf8.{continues, second};
-ghost use Rattle.csicodec_clean.specs.Shown.{IsPlain};
-ghost use Rattle.csicodec_clean.specs.Private.Steps.{IsBehindShown, IsWide};
+ghost use Rattle.csicodec_clean.specs.Shown.{IsBehind, IsPlain, shown};
+ghost use Rattle.csicodec_clean.specs.Private.Steps.{IsWide};
 
 use crate::class::{PlainAscii, behind};
 
@@ -71,7 +71,7 @@ fn front_len(bytes: &[u8]) -> usize
 /// What is behind the characters from U+00A0 on that stand in front.
 #[inline(always)]
 fn behind_wide<'a>(bytes: &'a [u8]) -> &'a [u8]
-    ensures { IsBehindShown bytes.now result.now }
+    ensures { IsBehind shown bytes.now result.now }
 {
     let mut rest = bytes;
     loop {
@@ -86,7 +86,7 @@ fn behind_wide<'a>(bytes: &'a [u8]) -> &'a [u8]
 /// What is behind the bytes in front that are shown as they are.
 #[inline(always)]
 pub(crate) fn behind_shown<'a>(bytes: &'a [u8]) -> &'a [u8]
-    ensures { IsBehindShown bytes.now result.now }
+    ensures { IsBehind shown bytes.now result.now }
 {
     let mut rest = behind::<PlainAscii>(bytes);
     loop {

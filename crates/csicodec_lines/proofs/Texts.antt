@@ -1,12 +1,12 @@
 -- Texts of lines, joined.
 use Rattle.std.proofs.Common.{◌≡◌, ℕ, Bool, false, List, [], ◌∷◌, ◌++◌, refl, sym, ap, ◌∙◌, append_assoc, append-nil}
-use Rattle.csicodec_clean.specs.Shown.{IsPlain}
+use Rattle.csicodec_clean.specs.Shown.{IsPlain, shown}
 use Rattle.csicodec_clean.specs.Cleaned.{Strips, longest}
 use Rattle.csicodec_clean.specs.Links.{is_linked}
 use Rattle.csicodec_clean.specs.Styled.{IsSafe, IsStyledIn, Shown, StylesIn, is_open, item_texts, links_of, styles_of}
 use Rattle.csicodec_clean.specs.declared.styles.Passing.{Passing}
 use Rattle.csicodec_clean.proofs.Linked.{linked_on}
-use Rattle.csicodec_clean.proofs.Plain.{plain_on, strips_plain}
+use Rattle.csicodec_clean.proofs.Plain.{strips_plain, text_on}
 use Rattle.csicodec_clean.proofs.PlainBytes.{all_both}
 use Rattle.csicodec_clean.proofs.Styled.{links_both, open_on, styled, styles_both, texts_both}
 use Rattle.csicodec_lines.specs.Lines.{AreOf, ByLines, joined}
@@ -88,7 +88,7 @@ newline = (10 ∷ [], refl, (refl, tt), refl)
 pub plain_lines : (bytes text : List ℕ) → ByLines (Strips longest) bytes text → IsPlain text
 plain_lines bytes text l =
     rw l.all
-    (joined_is IsPlain ([], refl, tt, refl) (λ s t h k. plain_on s (10 ∷ t) h (plain_on (10 ∷ []) t newline k)) _ l.texts
+    (joined_is IsPlain ([], refl, tt, refl) (λ s t h k. text_on shown s (10 ∷ t) h (text_on shown (10 ∷ []) t newline k)) _ l.texts
     (of_as (Strips longest) (λ (line t : List ℕ). IsPlain t) (strips_plain longest) _ l.texts l.each))
 
 styled_none : (d : Passing) → IsStyledIn d []

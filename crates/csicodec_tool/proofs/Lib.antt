@@ -1,4 +1,3 @@
 pub mod Logged
 pub mod Whole
 pub mod Written
-pub mod Seen

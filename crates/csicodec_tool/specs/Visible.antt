@@ -1,9 +1,5 @@
--- Which characters a reader sees, each in its place, and the first of a stream that he doesn't.
-use Rattle.std.specs.Prelude.{ℕ, ◌≡◌, ◌<◌, suc, Bool, true, false, not, ◌&&◌, ◌||◌, nat_le, List, ◌++◌, length, Some, encode_utf8_all}
-use Rattle.std.specs.List.{AllByRecursion}
-use Rattle.std.specs.Str.{all_scalars}
-use Rattle.bstr.specs.Utf8.{decoded}
-use Rattle.csicodec_clean.specs.Check.{counted, line_ends}
+-- Which characters a reader sees, each in its place.
+use Rattle.std.specs.Prelude.{ℕ, Bool, true, false, not, ◌&&◌, ◌||◌, nat_le}
 use Rattle.csicodec_clean.specs.Shown.{shown}
 
 -- from the first to the last
@@ -32,26 +28,7 @@ hides_high c = within 0x3164 0x3164 c || within 0xFE00 0xFE0F c || within 0xFEFF
 abbrev pub seen : ℕ → Bool
 seen c = shown c && not (turns c || is_tag c || hides_low c || hides_high c)
 
-abbrev pub IsSeen : ℕ → Type 0
-IsSeen c = seen c ≡ true
-
--- UTF-8 of characters that are all seen
-abbrev pub IsVisible : List ℕ → Type 0
-IsVisible text = (chars : List ℕ) × (all_scalars chars ≡ true) × AllByRecursion IsSeen chars
-    × (text ≡ encode_utf8_all chars)
-
--- no character that is seen stands in front: none at all, or another
-abbrev pub IsUnseen : List ℕ → Type 0
-IsUnseen bytes = (c : ℕ) → (decoded bytes).char ≡ Some c → seen c ≡ false
-
--- The rest of the bytes stands at this place, counted from 0, and in this line, counted from 1, and each character in front of it is seen.
-pub record Reaches (bytes rest : List ℕ) (at line : ℕ) : Type 0 where
-  pub front : List ℕ
-  pub whole : bytes ≡ front ++ rest
-  pub visible : IsVisible front
-  pub place : at ≡ counted (length front)
-  pub number : line ≡ counted (suc (line_ends front))
-
--- there stands the first that isn't
-abbrev pub IsFirstUnseen : List ℕ → List ℕ → ℕ → ℕ → Type 0
-IsFirstUnseen bytes rest at line = Reaches bytes rest at line × (0 < length rest) × IsUnseen rest
+-- the characters that `strip --check` lets pass: those that are seen, or those of plain text
+abbrev pub class_of : Bool → ℕ → Bool
+class_of true = seen
+class_of false = shown

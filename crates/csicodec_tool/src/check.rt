@@ -1,9 +1,16 @@
 //! Where a stream is plain text no more, or plain text that is all seen.
+ghost use Rattle.std.specs.Prelude.{◌≡◌, ◌⊎◌, ◌<◌, ◌++◌, ℕ, List, [], length, IfOk, IfErr};
+ghost use Rattle.std.specs.Io.KnownBytes.{Consumes, IsAtEnd};
+ghost use Rattle.csicodec_clean.specs.Check.{IsFault};
+ghost use Rattle.csicodec_clean.specs.Shown.{IsTextOf};
+ghost use Rattle.csicodec_command.specs.declared.failure.Failure.TheVariants.{NotPlain};
+ghost use Rattle.csicodec_command.specs.declared.failure.Found.{Found as FoundOf};
+ghost use Rattle.csicodec_tool.specs.Visible.{class_of};
 
 use crate::rewritten_cast::no_memory;
-use crate::visible::{check_seen, is_tag, push_seen, turns};
+use crate::visible::{VisibleText, is_tag, turns};
 use bstr::decode_utf8;
-use csicodec_clean::{Checked, check_all};
+use csicodec_clean::{Checked, PlainText, check_all};
 use csicodec_command::{Failure, Found, Recording};
 use std::alloc::{AllocError, Global};
 use std::io::{BufRead, Read};
@@ -33,7 +40,12 @@ fn found(bytes: &[u8]) -> Found {
 }
 
 /// Whether the stream that was read is as it is to be, or where it is so no more.
-fn outcome(checked: &Checked) -> Result<(), Failure> {
+fn outcome(checked: &Checked) -> Result<(), Failure>
+    ensures ok { IfOk result (λ _. checked.now.rest.items ≡ []) }
+    ensures err { IfErr result (λ e. (found : FoundOf)
+        × (e ≡ NotPlain checked.now.at checked.now.line found)
+        × (0 < length checked.now.rest.items)) }
+{
     if checked.rest.is_empty() {
         return Ok(());
     }
@@ -43,11 +55,20 @@ fn outcome(checked: &Checked) -> Result<(), Failure> {
 
 /// Reads up to the first place where the input is plain text no more, or where a character isn't seen if it is to be visible, which is the
 /// error; or to its end.
-pub fn check_stream<R: Read>(alloc: Global, visible: bool, input: &mut R) -> Result<(), Failure> {
+pub fn check_stream<R: Read>(alloc: Global, visible: bool, input: &mut R) -> Result<(), Failure>
+    ensures ok { IfOk result (λ _. (bytes : List ℕ)
+        × Consumes (R.remaining input.old) (R.remaining input.new) bytes
+        × IsAtEnd (R.remaining input.new) × IsTextOf (class_of visible) bytes) }
+    // The place that is told is that of the first character which isn't as it is to be, whatever follows.
+    ensures fault { IfErr result (λ e. (at line : ℕ) (found : FoundOf) → e ≡ NotPlain at line found
+        → (bytes rest : List ℕ) × Consumes (R.remaining input.old) (R.remaining input.new) bytes
+        × (((more : List ℕ) → IsFault (class_of visible) (bytes ++ more) (rest ++ more) at line)
+        ⊎ (IsAtEnd (R.remaining input.new) × IsFault (class_of visible) bytes rest at line))) }
+{
     let checked = if visible {
-        check_seen(alloc, input)?
+        check_all::<VisibleText, _>(alloc, input)?
     } else {
-        check_all(alloc, input)?
+        check_all::<PlainText, _>(alloc, input)?
     };
     outcome(&checked)
 }
@@ -55,9 +76,9 @@ pub fn check_stream<R: Read>(alloc: Global, visible: bool, input: &mut R) -> Res
 /// Takes the next bytes.
 fn push_next(checked: &mut Checked, visible: bool, bytes: &[u8]) -> Result<bool, AllocError> {
     if visible {
-        push_seen(checked, bytes)
+        checked.push::<VisibleText>(bytes)
     } else {
-        checked.push(bytes)
+        checked.push::<PlainText>(bytes)
     }
 }
 

@@ -2,8 +2,8 @@
 
 use crate::spelling::{both, bytes_of, judged, law};
 use csicodec_clean::{
-    Anew, Checked, Cleaner, Depth, Dropped, Kept, Passing, Rule, check_all, clean, clean_in,
-    clean_with, strip,
+    Anew, Checked, Cleaner, Depth, Dropped, Kept, Passing, PlainText, Rule, check_all, clean,
+    clean_in, clean_with, strip,
 };
 use csicodec_filter::Transform;
 use csicodec_html::html_all;
@@ -124,11 +124,11 @@ pub(crate) fn check(alloc: Global, word: &str) -> Result<String, AllocError> {
     let bytes = bytes_of(alloc, word)?;
     let mut pieces = Checked::new(alloc);
     for byte in bytes.iter() {
-        if !pieces.push(&[*byte])? {
+        if !pieces.push::<PlainText>(&[*byte])? {
             break;
         }
     }
-    let Ok(whole) = check_all(alloc, &mut bytes.as_slice()) else {
+    let Ok(whole) = check_all::<PlainText, _>(alloc, &mut bytes.as_slice()) else {
         return format!(in alloc; "not read");
     };
     let (at, line, plain) = (whole.at, whole.line, whole.rest.is_empty());

@@ -20,10 +20,6 @@ abbrev pub IsWide : ℕ → ℕ → ℕ → ℕ → ℕ → Type 0
 IsWide b c d e len = (char : ℕ) × (160 ≤ char)
     × ((n : ℕ) → 4 ≤ n → decoded_by n b c d e ≡ good char len)
 
--- behind UTF-8 of characters that are shown
-abbrev pub IsBehindShown : List ℕ → List ℕ → Type 0
-IsBehindShown bytes rest = (front : List ℕ) × (bytes ≡ front ++ rest) × IsPlain front
-
 abbrev pub IsOther : ℕ → Type 0
 IsOther b = b ≢ 27
 

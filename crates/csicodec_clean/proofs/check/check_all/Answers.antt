@@ -1,5 +1,6 @@
-use Rattle.std.proofs.Common.{◌++◌, take, inl, length-append, arith}
+use Rattle.std.proofs.Common.{◌<◌, ◌++◌, take, length, inl, inr, length-append, arith}
 use Rattle.std.proofs.KnownBytes.{Consumes-trans}
+use Rattle.csicodec_filter.proofs.Sent.{none_more}
 use Rattle.csicodec_clean.proofs.Checks.{more_came}
 use Rattle.csicodec_clean.proofs.check.check_all.Goals as goal
 
@@ -12,8 +13,15 @@ returns-in-Ok-false-clause-fault g c = λ some.
     let now = c.in-Ok-false.ensures.stands read stands in (
       read ++ chunk,
       Consumes-trans _ _ _ read chunk consumed c.in_ok-count.ensures.read.0,
-      inl (λ more. (more_came (read ++ chunk) rest more c.push.new.self.at c.push.new.self.line now, omega (arith, some, length-append rest more), over.1 more)),
+      inl (λ more. (more_came g.C.CharClass.class (read ++ chunk) rest more c.push.new.self.at c.push.new.self.line now, omega (arith, some, length-append rest more), over.1 more)),
     )
+
+pub returns-then-count-eq0-clause-fault : goal.returns-then-count-eq0-clause-fault
+returns-then-count-eq0-clause-fault g c = λ some.
+    let (read, consumed, stands) = c.loop.invariant.stands in
+    let all = none_more read c.receive.new.chunk c.in_ok-count.count _ _ _ consumed c.in_ok-count.ensures.read.0 c.if-count-eq0.true in
+    let room : 0 < length c.receive.new.chunk = omega (arith, c.receive.auto.chunk) in
+    (read, all, inr (c.in_ok-count.ensures.read.1 c.if-count-eq0.true room, (stands, some, c.loop.invariant.outside)))
 
 pub loop-preserved : goal.loop-preserved
 loop-preserved g c =
@@ -21,5 +29,5 @@ loop-preserved g c =
     let chunk = take c.in_ok-count.count c.receive.new.chunk in
     record {
       stands = (read ++ chunk, Consumes-trans _ _ _ read chunk consumed c.in_ok-count.ensures.read.0, c.in-Ok-true.ensures.stands read stands);
-      hidden = c.in-Ok-true.ensures.hidden;
+      outside = c.in-Ok-true.ensures.outside;
     }

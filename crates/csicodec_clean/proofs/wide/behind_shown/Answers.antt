@@ -1,4 +1,5 @@
-use Rattle.csicodec_clean.proofs.Told.{plain_behind, shown_further}
+use Rattle.csicodec_clean.proofs.Told.{further, plain_behind}
+use Rattle.csicodec_clean.specs.Shown.{shown}
 use Rattle.csicodec_clean.proofs.wide.behind_shown.Goals as goal
 
 pub loop-rest-init : goal.loop-rest-init
@@ -8,6 +9,6 @@ pub loop-rest-preserved : goal.loop-rest-preserved
 loop-rest-preserved c =
     let bytes = c.args.bytes.now in
     let rest = c.loop-rest.rest.now in
-    let further = c.behind_wide-further.result.now in
-    let passed = shown_further bytes rest further c.loop-rest.invariant.shown c.behind_wide-further.ensures in
-    rw c.behind-rest-in-loop-rest.ensures (record { shown = shown_further bytes further _ passed (plain_behind further) })
+    let mid = c.behind_wide-further.result.now in
+    let passed = further shown bytes rest mid c.loop-rest.invariant.shown c.behind_wide-further.ensures in
+    rw c.behind-rest-in-loop-rest.ensures (record { shown = further shown bytes mid _ passed (plain_behind mid) })

@@ -134,8 +134,8 @@ written as a recording with the same times. A FILE is one if its name ends in
   --check        Write nothing. Exit 0 if every FILE is already plain text,
                  without colours. Otherwise print the first place that isn't,
                  and exit 1.
-  --check=visible  Do the same, but also print the first character that isn't
-                 seen or that changes the order of the text.
+  --check=visible  Do the same, but take a character that isn't seen, or that
+                 changes the order of the text, for such a place too.
   --lines        Strip each line by itself, as logs need it. A sequence or
                  string that a line leaves open ends with the line. A carriage
                  return also ends a line.

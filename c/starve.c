@@ -99,7 +99,7 @@ static uint32_t filter(const uint8_t *text, size_t len) {
     return csicodec_filter(CSICODEC_FILTER_TEXT, 64, text, len, out, sizeof out).status;
 }
 
-/* How many allocations a call makes. csicodec_next: none for up to 32 tokens; csicodec_normalise and csicodec_encode: none for one short sequence with one action that has no tokens. */
+/* How many allocations a call makes. csicodec_next: none for up to 31 tokens; csicodec_normalise and csicodec_encode: none for one short sequence with one action that has no tokens. */
 static const struct {
     uint32_t (*call)(const uint8_t *, size_t);
     const char *text;

@@ -127,7 +127,7 @@ fn lay_long(
     *answer = lay_by_tokens(alloc, bytes, actions, params);
 }
 
-/// Puts the actions of the sequence at the front, and their tokens, as many as there is room for. Up to 32 tokens take no memory.
+/// Puts the actions of the sequence at the front, and their tokens, as many as there is room for. Up to 31 tokens take no memory.
 #[inline(always)]
 pub fn lay_front(
     alloc: Global,

@@ -126,7 +126,7 @@ fn lay_within(
     )
 }
 
-/// Puts the actions of the sequence at the front, and their tokens, as many as there is room for. Up to 32 tokens take no memory.
+/// Puts the actions of the sequence at the front, and their tokens, as many as there is room for. Up to 31 tokens take no memory.
 #[inline(never)]
 pub fn lay_by_tokens(
     alloc: Global,

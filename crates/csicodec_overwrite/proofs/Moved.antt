@@ -168,6 +168,19 @@ module _ (n m k : ℕ) (cells new : List Cell) (e : new ≡ take m cells ++ repl
       let within : bare ≤ length cells = omega (arith, length-take bare cells, ap length same, length-replicate bare Empty) in
       ap (take bare) longer ∙ take-append-le bare cells (replicate n Empty) within ∙ same
 
+-- cells behind others, of which the last comes to stand nearest
+module _ (items more new : List Cell) (e : new ≡ items ++ more) where
+  pub side_more : reverse new ≡ onto more (reverse items)
+  side_more = ap reverse e ∙ reverse-append items more ∙ sym (onto_is more (reverse items))
+
+  pub side_columns : columns (reverse new) ≡ columns more + columns (reverse items)
+  side_columns = ap columns side_more ∙ columns_onto more (reverse items)
+
+  pub side_bare : (bare : ℕ) → take bare items ≡ replicate bare Empty → take bare new ≡ replicate bare Empty
+  side_bare bare same =
+      let within : bare ≤ length items = omega (arith, length-take bare items, ap length same, length-replicate bare Empty) in
+      ap (take bare) e ∙ take-append-le bare items more within ∙ same
+
 -- ---- room
 
 pub fits_within : (s k limit : ℕ) → 1 ≤ k → nat_le (s + k) limit ≡ nat_le k (limit - s)

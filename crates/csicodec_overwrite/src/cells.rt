@@ -126,6 +126,14 @@ impl Side {
         matches!(self.cells.last(), Some(Cell::Behind))
     }
 
+    /// Whether a column is farthest, and no mark.
+    pub(crate) fn begins_with_column(&self) -> bool {
+        match self.cells.first() {
+            Some(cell) => cell.takes() > 0,
+            None => false,
+        }
+    }
+
     /// The nearest cell, which stays.
     pub(crate) fn nearest(&self) -> Option<Cell>
         ensures { MatchOption result (self.now ≡ [])
@@ -184,6 +192,24 @@ impl Side {
         self.cells.clear();
         self.width = 0;
         self.bare = 0;
+    }
+
+    /// Puts all cells of another side nearest, its nearest first, and takes them from there.
+    pub(crate) fn push_side(&mut self, from: &mut Side) -> Result<(), AllocError>
+        ensures cells { OnOk result (self.new ≡ onto from.old self.old) }
+        ensures none { OnOk result (from.new ≡ []) }
+    {
+        let Some(width) = self.width.checked_add(from.width) else {
+            return Err(AllocError);
+        };
+        from.cells.reverse();
+        let moved = self.cells.append(&mut from.cells);
+        from.cells.clear();
+        from.width = 0;
+        from.bare = 0;
+        moved?;
+        self.width = width;
+        Ok(())
     }
 
     /// Puts so many of the same cell nearest.

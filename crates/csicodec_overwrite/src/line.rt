@@ -109,6 +109,11 @@ impl Line {
     fn behind_columns(&mut self, limit: usize, count: usize) -> Result<(), AllocError>
         ensures { OnOk result (self.new ≡ behind_columns limit count self.old) }
     {
+        // Marks stay in front of the first column.
+        if count == 0 && self.left.begins_with_column() {
+            move_all(&mut self.left, &mut self.right)?;
+            return self.forward(limit, 0);
+        }
         let column = self.left.columns();
         self.back(column.saturating_sub(count))?;
         self.forward(limit, count.saturating_sub(column))

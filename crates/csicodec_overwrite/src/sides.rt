@@ -46,8 +46,5 @@ pub(crate) fn move_all(from: &mut Side, to: &mut Side) -> Result<(), AllocError>
     ensures cells { OnOk result (to.new ≡ onto from.old to.old) }
     ensures none { OnOk result (from.new ≡ []) }
 {
-    while let Some(cell) = from.pop() {
-        to.push(cell)?;
-    }
-    Ok(())
+    to.push_side(from)
 }

@@ -70,6 +70,12 @@ pub(crate) fn behind_end(bytes: &[u8]) -> Option<&[u8]>
     }
 }
 
+/// Whether a control sequence or an escape sequence is introduced in front.
+#[inline(always)]
+pub(crate) fn begins_sequence(bytes: &[u8]) -> bool {
+    matches!(bytes, [0x1b, ..])
+}
+
 /// What such a byte does.
 pub(crate) fn plain_step(byte: u8) -> Step
     ensures { IsLineByte byte → of_char byte ≡ result ∷ [] }

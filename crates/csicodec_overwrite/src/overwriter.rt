@@ -7,7 +7,7 @@ ghost use Rattle.csicodec_overwrite.specs.Private.Seen.{PassesFront};
 ghost use Rattle.csicodec_overwrite.specs.Stream.{Ending, Passes, begun, begun_as, none_held};
 ghost use Rattle.csicodec_overwrite.specs.declared.marking.Marking.TheVariants.{Styled};
 
-use crate::ascii::{InLine, behind_end, odd_len, split_lines};
+use crate::ascii::{InLine, begins_sequence, behind_end, odd_len, split_lines};
 use crate::front::append_front;
 use crate::line::Line;
 use crate::marking::Marking;
@@ -106,6 +106,10 @@ impl Overwriter {
             out.old.items out.new.items) }
         ensures reader { OnOk result (self.new.reader ≡ none_held) }
     {
+        // No text stands in front of a sequence.
+        if begins_sequence(bytes) {
+            return Ok(bytes);
+        }
         let (text, rest) = split_front::<InLine>(bytes);
         self.line
             .put_text(LIMIT, &mut self.pen, text, &self.marking, out)?;

@@ -1,12 +1,15 @@
-use Rattle.std.proofs.Common.{refl}
+use Rattle.std.proofs.Common.{[], append-nil, refl, sym}
 use Rattle.csicodec_overwrite.specs.Steps.{of_chars}
 use Rattle.csicodec_overwrite.proofs.Straight.{lines_plain, reads_plain, split_line}
-use Rattle.csicodec_overwrite.proofs.Written.{pushed}
+use Rattle.csicodec_overwrite.proofs.Written.{passes_none, pushed}
 use Rattle.csicodec_overwrite.proofs.overwriter.Overwriter.take_text.Goals as goal
 
 pub put_text-requires : goal.put_text-requires
 put_text-requires c =
     (split_line c.args.bytes.now c.split_front.result.0.now c.split_front.result.1.now c.split_front.ensures.front c.split_front.ensures.rest).1
+
+pub returns-then-begins_sequence-clause-passes : goal.returns-then-begins_sequence-clause-passes
+returns-then-begins_sequence-clause-passes c = ([], [], refl, passes_none c.args.self.now c.requires, sym (append-nil c.args.out.now.items))
 
 pub returns-clause-passes : goal.returns-clause-passes
 returns-clause-passes c =

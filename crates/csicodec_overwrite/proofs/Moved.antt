@@ -3,6 +3,7 @@ use Rattle.std.proofs.Common.{◌≡◌, ℕ, zero, suc, ◌-◌, ◌+◌, ◌<�
 use Rattle.std.proofs.Common.{length-take, drop, replicate, reverse, take, take-append-drop, refl, sym, ap, ◌∙◌, arith, append_assoc, append-nil}
 use Rattle.std.proofs.lemmas.Bool.Decides.{nat_tests}
 use Rattle.std.proofs.lemmas.List.{length-replicate, replicate-append-replicate, reverse-append, reverse-reverse, take-append-le, take-replicate, take_all}
+use Rattle.csicodec_html.specs.declared.look.Look.{Look}
 use Rattle.csicodec_overwrite.specs.declared.cells.Cell.{Cell}
 use Rattle.csicodec_overwrite.specs.declared.cells.Cell.TheVariants.{Behind, Char, Empty, Mark}
 use Rattle.csicodec_overwrite.specs.declared.cells.Glyph.{Glyph}
@@ -13,6 +14,7 @@ use Rattle.std.specs.List.{list_all}
 use Rattle.csicodec_overwrite.specs.Cells.{columns, is_blank, narrowed, onto, takes, without}
 use Rattle.csicodec_overwrite.specs.Line.{back, before, behind_columns, forward, line, over, padded, put, repeat}
 use Rattle.csicodec_overwrite.specs.Paint.{texts_of}
+use Rattle.csicodec_overwrite.specs.Private.Plain.{glyphs}
 use Rattle.csicodec_overwrite.proofs.Texts.{texts_on}
 
 -- a test that fails
@@ -180,6 +182,10 @@ module _ (items more new : List Cell) (e : new ≡ items ++ more) where
   side_bare bare same =
       let within : bare ≤ length items = omega (arith, length-take bare items, ap length same, length-replicate bare Empty) in
       ap (take bare) e ∙ take-append-le bare items more within ∙ same
+
+pub columns_glyphs : (look : Look) (cs : List ℕ) → columns (glyphs look cs) ≡ length cs
+columns_glyphs look [] = refl
+columns_glyphs look (c ∷ cs) = omega (arith, columns_glyphs look cs)
 
 -- ---- room
 

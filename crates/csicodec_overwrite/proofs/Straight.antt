@@ -1,6 +1,6 @@
 -- Text of ASCII, which takes no reading.
 use Rattle.std.proofs.Common.{drop, take, take-append-drop, ◌≡◌, ◌≢◌, ◌<◌, ◌≤◌, ℕ, Bool, true, false, cond, List, [], ◌∷◌, ◌++◌, length, encode_utf8_all, refl, sym, ap, subst, ◌∙◌, arith, ne_eqb}
-use Rattle.std.specs.Prelude.{◌==◌, ◌&&◌, ◌||◌, nat_le, nat_lt, max, unwrap_or, Some, None}
+use Rattle.std.specs.Prelude.{◌==◌, ◌+◌, ◌&&◌, ◌||◌, nat_le, nat_lt, max, not, unwrap_or, Option, Some, None}
 use Rattle.std.specs.Char.{encode_utf8}
 use Rattle.std.specs.List.{AllByRecursion, prefix_len}
 use Rattle.std.specs.Str.{all_scalars}
@@ -27,12 +27,12 @@ use Rattle.csicodec_overwrite.specs.declared.line.Line.{Line}
 use Rattle.csicodec_overwrite.specs.declared.pen.Pen.{Pen}
 use Rattle.csicodec_overwrite.specs.declared.step.Step.{Step}
 use Rattle.csicodec_overwrite.specs.declared.step.Step.TheVariants as step
-use Rattle.csicodec_overwrite.specs.Cells.{columns, glyph, narrowed, to_tab_stop, width}
+use Rattle.csicodec_overwrite.specs.Cells.{columns, glyph, narrowed, onto, to_tab_stop, width}
 use Rattle.csicodec_overwrite.specs.Line.{Done, before, do_all, done, line, pen_behind, pen_behind_all, put}
 use Rattle.csicodec_overwrite.specs.Steps.{of_char, of_chars}
 use Rattle.csicodec_overwrite.specs.Reading.{AreOfParts}
 use Rattle.csicodec_overwrite.specs.Stream.{Reads, none_held}
-use Rattle.csicodec_overwrite.specs.Private.Plain.{IsLineByte, PutsRun, end_of, line_byte}
+use Rattle.csicodec_overwrite.specs.Private.Plain.{IsLineByte, IsUntabbed, PutsRun, end_of, glyphs, last_of, line_byte}
 use Rattle.csicodec_overwrite.proofs.Chars.{chars_on}
 use Rattle.csicodec_overwrite.proofs.Moved.{narrow_few}
 use Rattle.csicodec_overwrite.proofs.Same.{not_titled}
@@ -145,3 +145,22 @@ module _ (limit : ℕ) (first : Pen) (blank : Line) (text : List ℕ) (pen : Pen
             ∙ ap (λ (d : Done). pen_behind_all limit next (of_chars cs) d.line) one
             ∙ ap (λ (p : Pen). pen_behind_all limit p (of_chars cs) m) (sym (goes_pen limit pen c l behind));
       }
+
+-- and so are all characters of a run that takes one cell each
+module _ (limit : ℕ) (first : Pen) (blank : Line) (text rest : List ℕ) where
+  pub run_all : (cs : List ℕ) (pen : Pen) (l : Line) → PutsRun limit first blank text (cs ++ rest) pen l → AllByRecursion IsUntabbed cs → pen.inserts ≡ false → l.right ≡ []
+      → length l.left + length cs ≤ limit → PutsRun limit first blank text rest (record pen { last = last_of pen.last cs }) (line (onto (glyphs pen.look cs) l.left) l.right)
+  run_all [] pen l run h over none few = run
+  run_all (c ∷ cs) pen l run h over none few =
+      run_all cs (record pen { last = Some c }) (line (Char (glyph c pen.look) ∷ l.left) l.right)
+      (run_on limit first blank text pen c (cs ++ rest) l (line (Char (glyph c pen.look) ∷ l.left) l.right) run (no_tab (c == 9) h.0) over none (omega (arith, few)) refl)
+      h.1 over none (omega (arith, few))
+    where
+      no_tab : (t : Bool) → not t ≡ true → t ≡ false
+      no_tab false e = refl
+      no_tab true e = sym e
+
+-- the last of some characters
+pub last_is : (last : Option ℕ) (cs : List ℕ) (c : ℕ) → last_of last (cs ++ c ∷ []) ≡ Some c
+last_is last [] c = refl
+last_is last (d ∷ cs) c = last_is (Some d) cs c

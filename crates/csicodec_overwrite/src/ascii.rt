@@ -1,6 +1,7 @@
 //! Text of ASCII, which takes no reading.
 ghost use Rattle.std.specs.Prelude.{◌≡◌, ◌==◌, ◌∷◌, ◌++◌, [], ◌≤◌, ◌<◌, length, min, false, IfSome};
-ghost use Rattle.csicodec_overwrite.specs.Private.Plain.{AreLines, IsLineByte, end_of};
+ghost use Rattle.std.specs.List.{AllByRecursion};
+ghost use Rattle.csicodec_overwrite.specs.Private.Plain.{AreLines, IsLineByte, IsUntabbed, end_of};
 ghost use Rattle.csicodec_overwrite.specs.Steps.{of_char};
 
 use crate::step::Step;
@@ -32,6 +33,26 @@ impl ByteClass for InLine {
         let control = lanes.simd_lt(u8x16::splat(b' ')) & lanes.simd_ne(u8x16::splat(b'\t'));
         let odd = control | lanes.simd_ge(u8x16::splat(0x7f));
         first_set(odd.to_bitmask())
+    }
+}
+
+/// All bytes but a tab.
+pub(crate) struct Untabbed;
+
+impl ByteClass for Untabbed {
+    ghost use Rattle.csicodec_overwrite.specs.Private.Plain.{untabbed_byte};
+
+    ghost class = { untabbed_byte };
+
+    #[inline(always)]
+    fn has(byte: u8) -> bool {
+        byte != b'\t'
+    }
+
+    #[inline(always)]
+    fn lanes(bytes: &[u8]) -> usize {
+        let lanes = u8x16::from_slice(bytes);
+        first_set(lanes.simd_eq(u8x16::splat(b'\t')).to_bitmask())
     }
 }
 
@@ -86,18 +107,16 @@ pub(crate) fn plain_step(byte: u8) -> Step
     Step::Put(byte as char)
 }
 
-/// The character of such text in front that takes one cell, if there is room for it, and what is behind it.
+/// The bytes in front that are no tabs, so many at most, and what is behind them.
 #[inline(always)]
-pub(crate) fn next_char(text: &[u8], room: usize) -> Option<(char, &[u8])>
-    ensures text { IfSome result (λ (char, behind). text.now ≡ char ∷ behind.now) }
-    ensures tab { IfSome result (λ (char, behind). (char == 9) ≡ false) }
-    ensures room { IfSome result (λ (char, behind). 0 < room) }
+pub(crate) fn split_run(text: &[u8], room: usize) -> (&[u8], &[u8])
+    ensures parts { text.now ≡ result.0.now ++ result.1.now }
+    ensures untabbed { AllByRecursion IsUntabbed result.0.now }
+    ensures room { length result.0.now ≤ room }
 {
-    let (byte, behind) = text.split_first()?;
-    if *byte == b'\t' || room == 0 {
-        return None;
-    }
-    Some((char::from(*byte), behind))
+    let near = text.split_at(room.min(text.len())).0;
+    let run = split_front::<Untabbed>(near).0;
+    (run, text.split_at(run.len()).1)
 }
 
 /// What is behind the bytes in front from `low` to `high`.

@@ -1,7 +1,8 @@
 //! What stands in a line, cell by cell.
-ghost use Rattle.std.specs.Prelude.{◌≡◌, ◌++◌, ◌∷◌, [], ℕ, List, OnOk, MatchOption, length, replicate, reverse};
+ghost use Rattle.std.specs.Prelude.{◌≡◌, ◌≤◌, ◌+◌, ◌++◌, ◌∷◌, [], ℕ, List, OnOk, MatchOption, length, replicate, reverse, vec_capacity, vec_len};
 ghost use Rattle.std.specs.List.{list_all};
 ghost use Rattle.csicodec_overwrite.specs.Cells.{begins_behind, belongs, columns, emptied, is_blank, is_empty, onto, outside, takes, trimmed, without};
+ghost use Rattle.csicodec_overwrite.specs.Private.Plain.{glyphs};
 ghost use Rattle.csicodec_overwrite.specs.declared.cells.Cell.TheVariants.{Empty};
 
 use csicodec_html::Look;
@@ -65,6 +66,19 @@ impl Cell {
             Cell::Behind | Cell::Mark(_) => true,
             Cell::Empty | Cell::Char(_) => false,
         }
+    }
+}
+
+/// Appends characters, in turn, which look so. There is room for them.
+fn append_glyphs(cells: &mut Vec<Cell>, run: &[u8], look: Look)
+    requires { vec_len cells.old + length run.now ≤ vec_capacity cells.old }
+    ensures { cells.new.items ≡ cells.old.items ++ glyphs look run.now }
+{
+    let mut rest = run;
+    while let Some((byte, behind)) = rest.split_first() {
+        let char = char::from(*byte);
+        cells.push_reserved(Cell::Char(Glyph { char, look }));
+        rest = behind;
     }
 }
 
@@ -208,6 +222,19 @@ impl Side {
         from.width = 0;
         from.bare = 0;
         moved?;
+        self.width = width;
+        Ok(())
+    }
+
+    /// Puts a run of characters nearest, which look so, in turn.
+    pub(crate) fn push_run(&mut self, run: &[u8], look: Look) -> Result<(), AllocError>
+        ensures { OnOk result (self.new ≡ onto (glyphs look run.now) self.old) }
+    {
+        let Some(width) = self.width.checked_add(run.len()) else {
+            return Err(AllocError);
+        };
+        self.cells.reserve(run.len())?;
+        append_glyphs(&mut self.cells, run, look);
         self.width = width;
         Ok(())
     }

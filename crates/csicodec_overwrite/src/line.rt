@@ -8,7 +8,7 @@ ghost use Rattle.csicodec_overwrite.specs.Private.Plain.{IsLineByte, PutsRun};
 ghost use Rattle.csicodec_overwrite.specs.Steps.{of_chars};
 ghost use Rattle.csicodec_overwrite.specs.declared.step.Step.TheVariants.{Tab};
 
-use crate::ascii::{next_char, plain_step};
+use crate::ascii::{plain_step, split_run};
 use crate::cells::{Cell, Glyph, Side};
 use crate::marking::Marking;
 use crate::paint::append_cells;
@@ -520,14 +520,12 @@ impl Line {
         if !self.goes_behind(pen) {
             return Ok(text);
         }
-        let (look, mut room) = (pen.look, self.room(limit));
-        let mut rest = text;
-        while let Some((char, behind)) = next_char(rest, room) {
-            self.left.push(Cell::Char(Glyph { char, look }))?;
-            pen.last = Some(char);
-            room -= 1;
-            rest = behind;
-        }
+        let (run, rest) = split_run(text, self.room(limit));
+        let Some((last, _front)) = run.split_last() else {
+            return Ok(text);
+        };
+        self.left.push_run(run, pen.look)?;
+        pen.last = Some(char::from(*last));
         Ok(rest)
     }
 

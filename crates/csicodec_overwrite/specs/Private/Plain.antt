@@ -1,12 +1,14 @@
 -- Text of ASCII that is put at once. No promise rests on this file.
-use Rattle.std.specs.Prelude.{ℕ, ◌≡◌, ◌≤◌, ◌==◌, ◌&&◌, ◌||◌, nat_le, nat_lt, Bool, true, false, List, [], ◌∷◌, ◌++◌, length, None}
+use Rattle.std.specs.Prelude.{ℕ, ◌≡◌, ◌≤◌, ◌==◌, ◌&&◌, ◌||◌, nat_le, nat_lt, Bool, true, false, not, List, [], ◌∷◌, ◌++◌, length, Option, Some, None}
 use Rattle.std.specs.List.{AllByRecursion}
 use Rattle.csicodec_clean.specs.Bytes.{IsPlainByte}
 use Rattle.csicodec_html.specs.Look.{plain}
+use Rattle.csicodec_html.specs.declared.look.Look.{Look}
 use Rattle.csicodec_overwrite.specs.declared.cells.Cell.{Cell}
+use Rattle.csicodec_overwrite.specs.declared.cells.Cell.TheVariants.{Char}
 use Rattle.csicodec_overwrite.specs.declared.line.Line.{Line}
 use Rattle.csicodec_overwrite.specs.declared.pen.Pen.{Pen}
-use Rattle.csicodec_overwrite.specs.Cells.{is_empty}
+use Rattle.csicodec_overwrite.specs.Cells.{glyph, is_empty}
 use Rattle.csicodec_overwrite.specs.Line.{do_all, pen_behind_all}
 use Rattle.csicodec_overwrite.specs.Steps.{of_chars}
 
@@ -32,6 +34,23 @@ pub record PutsRun (limit : ℕ) (pen : Pen) (l : Line) (text rest : List ℕ) (
   pub fewer : length rest ≤ length text
   pub same : do_all limit pen (of_chars text) l ≡ do_all limit then (of_chars rest) m
   pub pens : pen_behind_all limit pen (of_chars text) l ≡ pen_behind_all limit then (of_chars rest) m
+
+-- a byte that is no tab
+abbrev pub untabbed_byte : ℕ → Bool
+untabbed_byte b = not (b == 9)
+
+abbrev pub IsUntabbed : ℕ → Type 0
+IsUntabbed b = untabbed_byte b ≡ true
+
+-- characters of one cell each, which look so
+abbrev pub glyphs : Look → List ℕ → List Cell
+glyphs look [] = []
+glyphs look (c ∷ cs) = Char (glyph c look) ∷ glyphs look cs
+
+-- the last of them, or else of what came before
+abbrev pub last_of : Option ℕ → List ℕ → Option ℕ
+last_of last [] = last
+last_of last (c ∷ cs) = last_of (Some c) cs
 
 -- none of the cells is empty
 abbrev pub IsFull : Cell → Type 0

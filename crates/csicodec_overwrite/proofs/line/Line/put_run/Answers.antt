@@ -1,37 +1,32 @@
-use Rattle.std.proofs.Common.{◌∷◌, ◌∙◌, List, ℕ, ap, arith, length, refl, subst, sym}
-use Rattle.csicodec_html.specs.declared.look.Look.{Look}
+use Rattle.std.proofs.Common.{[], ◌∷◌, ◌≡◌, ◌++◌, ◌∙◌, List, ℕ, ap, arith, length, length-append, subst, sym}
+use Rattle.std.specs.Prelude.{Option, Some}
 use Rattle.csicodec_overwrite.specs.declared.cells.Cell.{Cell}
-use Rattle.csicodec_overwrite.specs.declared.cells.Cell.TheVariants.{Char}
-use Rattle.csicodec_overwrite.specs.Cells.{glyph}
+use Rattle.csicodec_overwrite.specs.declared.line.Line.{Line}
+use Rattle.csicodec_overwrite.specs.Cells.{onto}
 use Rattle.csicodec_overwrite.specs.Line.{line}
-use Rattle.csicodec_overwrite.specs.Private.Plain.{PutsRun}
-use Rattle.csicodec_overwrite.proofs.Straight.{run_none, run_on}
+use Rattle.csicodec_overwrite.specs.Private.Plain.{PutsRun, glyphs, last_of}
+use Rattle.csicodec_overwrite.proofs.Straight.{last_is, run_all, run_none}
 use Rattle.csicodec_overwrite.proofs.line.Line.put_run.Goals as goal
 
-pub loop-char-init : goal.loop-char-init
-loop-char-init c =
+pub returns : goal.returns
+returns c =
+    let limit = c.args.limit in
+    let pen = c.args.pen.now in
+    let l = c.args.self.now in
+    let text = c.args.text.now in
+    let run = c.split_run.result.0.now in
+    let rest = c.split_run.result.1.now in
     let goes = c.goes_behind.ensures c.if-not-goes_behind.false in
-    record {
-      over = goes.0;
-      looks = refl;
-      none = goes.1;
-      few = omega (arith, c.room-room.ensures);
-      run = run_none c.args.limit c.args.pen.now c.args.self.now c.args.text.now c.requires;
-    }
-
-pub loop-char-preserved : goal.loop-char-preserved
-loop-char-preserved c =
-    let l = c.loop-char in
-    let char = c.in-Some.char in
-    let told = c.in-Some.ensures in
-    let is = c.in_ok-push.ensures in
-    record {
-      over = l.invariant.over;
-      looks = l.invariant.looks;
-      none = l.invariant.none;
-      few = omega (arith, ap length is, l.invariant.few);
-      run = run_on c.args.limit c.args.pen.now c.args.self.now c.args.text.now l.pen char c.in-Some.behind.now l.self _
-          (subst (λ (t : List ℕ). PutsRun c.args.limit c.args.pen.now c.args.self.now c.args.text.now t l.pen l.self) told.text l.invariant.run)
-          told.tab l.invariant.over l.invariant.none (omega (arith, told.room, l.invariant.few))
-          (ap (λ (t : List Cell). line t l.self.right) (is ∙ ap (λ (k : Look). Char (glyph char k) ∷ l.self.left) (sym l.invariant.looks)));
-    }
+    let none = run_none limit pen l text c.requires in
+    let all = run_all limit pen l text rest run pen l (subst (λ (t : List ℕ). PutsRun limit pen l text t pen l) c.split_run.ensures.parts none)
+    c.split_run.ensures.untabbed goes.0 goes.1
+    (omega (
+      arith,
+      c.split_run.ensures.room,
+      c.room.ensures,
+      ap length c.in-Some.ensures.cases.0,
+      length-append c.in-Some._front.now (c.in-Some.last.now ∷ []),
+    )) in
+    let last = ap (last_of pen.last) c.in-Some.ensures.cases.0 ∙ last_is pen.last c.in-Some._front.now c.in-Some.last.now ∙ ap Some (sym c.from.ensures) in
+    subst (λ (t : Option ℕ). PutsRun limit pen l text rest (record pen { last = t }) (line c.push_run.new.self l.right)) last
+    (subst (λ (t : List Cell). PutsRun limit pen l text rest (record pen { last = last_of pen.last run }) (line t l.right)) (sym c.in_ok-push_run.ensures) all)

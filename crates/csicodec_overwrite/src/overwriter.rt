@@ -100,6 +100,7 @@ impl Overwriter {
     }
 
     /// Takes the text of ASCII in front, and answers what is behind it.
+    #[inline(always)]
     fn take_text<'a>(&mut self, bytes: &'a [u8], out: &mut Vec<u8>) -> Result<&'a [u8], AllocError>
         requires { self.old.reader ≡ none_held }
         ensures passes { IfOk result (λ rest. PassesFront self.old bytes.now rest.now self.new
@@ -123,18 +124,65 @@ impl Overwriter {
         ensures held { OnOk result
             (length self.old.reader.held ≤ 3 → length self.new.reader.held ≤ 3) }
     {
-        if self.reader.is_bare()
-            && let Some(known) = self.reader.recall(bytes)
-        {
-            self.line
-                .take_all(LIMIT, &mut self.pen, known, &self.marking, out)?;
-            return Ok(());
-        }
         self.steps.clear();
         self.reader.push(bytes, &mut self.steps)?;
         self.line
             .take_all(LIMIT, &mut self.pen, &self.steps, &self.marking, out)?;
         Ok(())
+    }
+
+    /// Takes a slice in front that came before, and answers what is behind it. It takes nothing where the end of a line stands.
+    #[inline(always)]
+    fn take_known<'a>(
+        &mut self,
+        bytes: &'a [u8],
+        out: &mut Vec<u8>,
+    ) -> Result<Option<&'a [u8]>, AllocError>
+        requires { self.old.reader ≡ none_held }
+        ensures passes { IfOk result (λ o. IfSome o
+            (λ rest. PassesFront self.old bytes.now rest.now self.new out.old.items out.new.items)) }
+        ensures fewer { IfOk result (λ o. IfSome o (λ rest. length rest.now < length bytes.now)) }
+        ensures none { IfOk result
+            (λ o. IfNone o ((self.new ≡ self.old) × (out.new.items ≡ out.old.items))) }
+        ensures reader { OnOk result (self.new.reader ≡ none_held) }
+    {
+        if bytes.is_empty() {
+            return Ok(None);
+        }
+        if behind_end(bytes).is_some() {
+            return Ok(None);
+        }
+        let (front, rest) = bytes.split_at(odd_len(bytes, false));
+        let Some(known) = self.reader.recall(front) else {
+            return Ok(None);
+        };
+        self.line
+            .take_all(LIMIT, &mut self.pen, known, &self.marking, out)?;
+        Ok(Some(rest))
+    }
+
+    /// Takes the text of ASCII in front, and slices that came before, up to where a line may begin, and answers what is behind them.
+    fn take_pieces<'a>(
+        &mut self,
+        bytes: &'a [u8],
+        out: &mut Vec<u8>,
+    ) -> Result<&'a [u8], AllocError>
+        requires { self.old.reader ≡ none_held }
+        ensures passes { IfOk result (λ rest. PassesFront self.old bytes.now rest.now self.new
+            out.old.items out.new.items) }
+        ensures reader { OnOk result (self.new.reader ≡ none_held) }
+    {
+        let mut rest = bytes;
+        loop {
+            let odd = self.take_text(rest, out)?;
+            let Some(behind) = self.take_known(odd, out)? else {
+                return Ok(odd);
+            };
+            if self.begins_line(behind) {
+                return Ok(behind);
+            }
+            rest = behind;
+        }
     }
 
     /// Takes some bytes in front step by step, and answers the others.
@@ -239,7 +287,7 @@ impl Overwriter {
         Ok(bytes)
     }
 
-    /// Takes the end of the line in front, or a line, or the text of ASCII.
+    /// Takes the end of the line in front, or a line, or text of ASCII and slices that came before.
     fn take_ready<'a>(&mut self, bytes: &'a [u8], out: &mut Vec<u8>) -> Result<&'a [u8], AllocError>
         requires { self.old.reader ≡ none_held }
         ensures passes { IfOk result (λ rest. PassesFront self.old bytes.now rest.now self.new
@@ -260,7 +308,7 @@ impl Overwriter {
             let far = self.take_lines(is_likely, rest, out)?;
             return Ok(far);
         }
-        let rest = self.take_text(bytes, out)?;
+        let rest = self.take_pieces(bytes, out)?;
         Ok(rest)
     }
 

@@ -1,0 +1,14 @@
+use Rattle.std.proofs.Common.{◌≡◌, length}
+use Rattle.csicodec_overwrite.specs.Private.Seen.{PassesFront}
+use Rattle.csicodec_overwrite.specs.Stream.{none_held}
+use Rattle.csicodec_overwrite.proofs.overwriter.Overwriter.take_pieces.Given as goal
+
+-- some bytes have passed
+abbrev pub invariant-loop-odd : goal.invariant-loop-odd
+invariant-loop-odd l = record {
+  passes : PassesFront l.fn.self l.bytes l.rest l.self l.fn.out.items l.out.items;
+  reader : l.self.reader ≡ none_held;
+}
+
+abbrev pub decreases-loop-odd : goal.decreases-loop-odd
+decreases-loop-odd l = length l.rest

@@ -147,8 +147,16 @@ fn list_len(bytes: &[u8]) -> usize
     bytes.len() - behind_range(bytes, b' ', b'?').len()
 }
 
+/// How many bytes in front are from 20 to 2f, as those between an ESC and the final byte of its sequence.
+fn marks_len(bytes: &[u8]) -> usize
+    ensures { result ≤ length bytes.now }
+{
+    bytes.len() - behind_range(bytes, b' ', b'/').len()
+}
+
 /// How many bytes are read at once where no such text stands in front: a sequence that is introduced there, or characters that aren't of
 /// ASCII; behind what is open, up to the next control.
+#[inline(always)]
 pub(crate) fn odd_len(bytes: &[u8], open: bool) -> usize
     ensures within { result ≤ length bytes.now }
     ensures some { min 1 (length bytes.now) ≤ result }
@@ -159,7 +167,7 @@ pub(crate) fn odd_len(bytes: &[u8], open: bool) -> usize
     }
     match bytes {
         [0x1b, b'[', rest @ ..] => (3 + list_len(rest)).min(bytes.len()),
-        [0x1b, rest @ ..] => (2 + list_len(rest)).min(bytes.len()),
+        [0x1b, rest @ ..] => (2 + marks_len(rest)).min(bytes.len()),
         [_, rest @ ..] => bytes.len() - behind_range(rest, 0x80, 0xff).len(),
         [] => 0,
     }

@@ -8,7 +8,7 @@ use std::alloc::{AllocError, Global};
 use std::mem::swap;
 
 /// How many places there are for slices.
-const PLACES: usize = 1024;
+const PLACES: usize = 4096;
 
 /// Of how many bytes one that is kept is at most.
 const LONGEST: usize = 32;
@@ -37,7 +37,7 @@ fn place(bytes: &[u8]) -> usize {
     if bytes.len() > LONGEST {
         return PLACES;
     }
-    (number(bytes).wrapping_mul(SPREAD) >> 54) as usize
+    (number(bytes).wrapping_mul(SPREAD) >> 52) as usize
 }
 
 /// A number for a slice, by all of its bytes.

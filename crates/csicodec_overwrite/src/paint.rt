@@ -321,6 +321,35 @@ fn append_alike<'a>(
     Ok(behind)
 }
 
+/// The byte of a cell, if a character of ASCII stands there.
+#[inline(always)]
+fn ascii_of(cell: &Cell) -> Option<u8>
+    ensures { IfSome result (λ byte. encode_utf8_all (chars_of cell.now) ≡ byte ∷ []) }
+{
+    match cell {
+        Cell::Char(glyph) if glyph.char < '\u{80}' => Some(glyph.char as u8),
+        _ => None,
+    }
+}
+
+/// Appends the characters of ASCII in front, and answers the cells behind them.
+fn append_ascii_front<'a>(cells: &'a [Cell], out: &mut Vec<u8>) -> Result<&'a [Cell], AllocError>
+    ensures text { IfOk result (λ rest. out.new.items ++ encode_utf8_all (flat_map chars_of rest.now)
+        ≡ out.old.items ++ encode_utf8_all (flat_map chars_of cells.now)) }
+    ensures fewer { IfOk result (λ rest. length rest.now ≤ length cells.now) }
+{
+    out.reserve(cells.len())?;
+    let mut rest = cells;
+    while let Some((cell, behind)) = rest.split_first() {
+        let Some(byte) = ascii_of(cell) else {
+            return Ok(rest);
+        };
+        out.push_reserved(byte);
+        rest = behind;
+    }
+    Ok(rest)
+}
+
 /// Appends the characters of cells.
 fn append_plain(cells: &[Cell], out: &mut Vec<u8>) -> Result<(), AllocError>
     ensures { OnOk result
@@ -328,7 +357,8 @@ fn append_plain(cells: &[Cell], out: &mut Vec<u8>) -> Result<(), AllocError>
 {
     let mut rest = cells;
     while let Some((cell, behind)) = rest.split_first() {
-        rest = append_alike(&Marking::Plain, *cell, behind, out)?;
+        let others = append_alike(&Marking::Plain, *cell, behind, out)?;
+        rest = append_ascii_front(others, out)?;
     }
     Ok(())
 }

@@ -215,6 +215,9 @@ impl Line {
         self.part()?;
         self.left.push(Cell::Char(glyph))?;
         self.left.push_many(Cell::Behind, columns - 1)?;
+        if self.right.len() == 0 {
+            return Ok(());
+        }
         if inserts {
             return Ok(());
         }
@@ -468,6 +471,7 @@ impl Line {
     }
 
     /// Does the steps in turn.
+    #[inline(always)]
     pub fn take_all(
         &mut self,
         limit: usize,

@@ -5,7 +5,7 @@ use Rattle.csicodec_overwrite.proofs.paint.append_same_look.Given as goal
 -- some that look so are painted
 abbrev pub invariant-loop-cell : goal.invariant-loop-cell
 invariant-loop-cell l = record {
-  some : (text : List ℕ) × (paint l.marking l.look l.cells ≡ text ++ paint l.marking l.look l.rest) × (l.out.items ≡ l.initial.out.items ++ text);
+  some : (text : List ℕ) × (paint l.marking l.look l.cells ≡ text ++ paint l.marking l.look l.rest) × (l.out.items ≡ l.fn.out.items ++ text);
   fewer : length l.rest ≤ length l.cells;
 }
 

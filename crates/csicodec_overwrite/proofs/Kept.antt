@@ -15,7 +15,7 @@ use Rattle.csicodec_overwrite.specs.declared.step.Step.TheVariants as step
 use Rattle.csicodec_overwrite.specs.Cells.{begins_behind, belongs, chars_of, columns, emptied, erased, glyph, gone, is_empty, onto, outside, takes, to_tab_stop, trimmed, width, without}
 use Rattle.csicodec_overwrite.specs.Line.{Done, back, behind_columns, blank, cells_of, do_all, does, done, fits, forward, fresh, from_stop}
 use Rattle.csicodec_overwrite.specs.Line.{in_row, is_row, last_behind, leave, line, lines_of, over, padded, parted, pen_behind, placed}
-use Rattle.csicodec_overwrite.specs.Line.{placed_in, put, repeat, repeated, restored, shows_nothing, size, standing, target, to_stop, widest}
+use Rattle.csicodec_overwrite.specs.Line.{placed_in, put, repeat, repeated, restored, shows_nothing, size, standing, target, to_stop}
 use Rattle.csicodec_overwrite.proofs.Texts.{chars_by, line_chars}
 
 -- either way of a test
@@ -150,8 +150,8 @@ module _ (P : ℕ → Type 0) (Q : Look → Type 0) (R : Sgr → Type 0) where
 
     of_restored : (limit : ℕ) (pen : Pen) (l : Line) → OfLine l → OfDone (restored limit pen l)
     of_restored limit pen l h =
-        either OfDone pen.here (done [] (behind_columns limit pen.saved l)) (done (lines_of l) (forward limit (min pen.saved (widest - 1)) blank)) (tt, of_behind limit pen.saved l h)
-        (of_over_lines l h, of_forward limit (min pen.saved (widest - 1)) blank (tt, tt))
+        either OfDone pen.here (done [] (behind_columns limit pen.saved l)) (done (lines_of l) (forward limit pen.saved blank)) (tt, of_behind limit pen.saved l h)
+        (of_over_lines l h, of_forward limit pen.saved blank (tt, tt))
 
     of_leave : (limit : ℕ) (to : Option ℕ) (l : Line) → OfLine l → OfDone (leave limit to l)
     of_leave limit to l h = (of_over_lines l h, of_forward limit (target to l) blank (tt, tt))

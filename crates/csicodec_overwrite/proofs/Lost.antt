@@ -15,7 +15,7 @@ use Rattle.csicodec_overwrite.specs.declared.step.Step.TheVariants as step
 use Rattle.csicodec_overwrite.specs.Cells.{begins_behind, belongs, chars_of, columns, emptied, erased, glyph, gone, is_empty, onto, outside, takes, to_tab_stop, trimmed, width, without}
 use Rattle.csicodec_overwrite.specs.Line.{Done, back, behind_columns, blank, cells_of, do_all, does, done, fits, forward}
 use Rattle.csicodec_overwrite.specs.Line.{from_stop, in_row, is_row, leave, line, lines_of, over, parted, pen_behind, placed}
-use Rattle.csicodec_overwrite.specs.Line.{placed_in, put, repeat, repeated, restored, shows_nothing, size, standing, target, to_stop, widest}
+use Rattle.csicodec_overwrite.specs.Line.{placed_in, put, repeat, repeated, restored, shows_nothing, size, standing, target, to_stop}
 use Rattle.csicodec_overwrite.specs.Lost.{again, all_came, all_taken, belonging, came, covered, left_out, taken, taken_again, taken_by, taken_by_all, times, touched, under, whole, within, written}
 use Rattle.csicodec_overwrite.proofs.Texts.{chars_by, line_chars}
 
@@ -234,8 +234,8 @@ module _ (c : ℕ) where
   of_restored : (limit : ℕ) (pen : Pen) (l : Line) → in_all (restored limit pen l) + count (taken limit pen step.Restore l) ≡ in_line l
   of_restored limit pen l =
       both_ways (λ (d : Done) (a : List Cell). in_all d + count a ≡ in_line l) pen.here (done [] (behind_columns limit pen.saved l))
-      (done (lines_of l) (forward limit (min pen.saved (widest - 1)) blank)) [] (left_out l)
-      (λ e. omega (arith, of_behind limit pen.saved l)) (λ e. omega (arith, of_lines l, of_forward limit (min pen.saved (widest - 1)) blank))
+      (done (lines_of l) (forward limit pen.saved blank)) [] (left_out l)
+      (λ e. omega (arith, of_behind limit pen.saved l)) (λ e. omega (arith, of_lines l, of_forward limit pen.saved blank))
 
   of_in_row : (limit : ℕ) (to : Option ℕ) (l : Line) → in_line (in_row limit to l) ≡ in_line l
   of_in_row limit None l = refl

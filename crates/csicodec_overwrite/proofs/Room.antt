@@ -14,7 +14,7 @@ use Rattle.csicodec_overwrite.specs.declared.step.Step.TheVariants as step
 use Rattle.csicodec_overwrite.specs.Cells.{begins_behind, belongs, columns, emptied, erased, glyph, gone, narrowed, onto, outside, takes, to_tab_stop, width, without}
 use Rattle.csicodec_overwrite.specs.Line.{Done, back, behind_columns, blank, cells_of, do_all, does, done, fits, forward}
 use Rattle.csicodec_overwrite.specs.Line.{from_stop, in_row, is_row, leave, line, lines_of, over, padded, parted}
-use Rattle.csicodec_overwrite.specs.Line.{pen_behind, placed, placed_in, put, repeat, repeated, restored, size, target, to_stop, widest}
+use Rattle.csicodec_overwrite.specs.Line.{pen_behind, placed, placed_in, put, repeat, repeated, restored, size, target, to_stop}
 use Rattle.csicodec_overwrite.proofs.Moved.{narrow_few, takes_few}
 
 -- either way of a test
@@ -149,8 +149,8 @@ module _ (limit : ℕ) (enough : 8 ≤ limit) where
   restored_size : (pen : Pen) (l : Line) → size l ≤ limit → size (restored limit pen l).line ≤ limit
   restored_size pen l h =
       always (λ (d : Done). size d.line ≤ limit) pen.here (done [] (behind_columns limit pen.saved l))
-      (done (lines_of l) (forward limit (min pen.saved (widest - 1)) blank)) (behind_size pen.saved l h)
-      (forward_size (min pen.saved (widest - 1)) blank (omega arith))
+      (done (lines_of l) (forward limit pen.saved blank)) (behind_size pen.saved l h)
+      (forward_size pen.saved blank (omega arith))
 
   in_row_size : (to : Option ℕ) (l : Line) → size l ≤ limit → size (in_row limit to l) ≤ limit
   in_row_size None l h = h

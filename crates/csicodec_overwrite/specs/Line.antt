@@ -181,12 +181,12 @@ fresh = record { look = plain; inserts = false; last = None; saved = 0; here = f
 abbrev pub last_behind : Option ℕ → ℕ → Option ℕ
 last_behind last c = if width c 0 == 0 then last else Some c
 
--- behind a step that is done in this column: but for characters nothing is repeated
+-- behind a step that is done in this column: but for characters nothing is repeated, and a column that no terminal's row has is in another
 abbrev pub pen_behind : Pen → Step → ℕ → Pen
 pen_behind pen (step.Put c) column = record pen { last = last_behind pen.last c }
 pen_behind pen (step.Attribute s) column = record pen { look = behind pen.look s; last = None }
 pen_behind pen (step.Inserts inserts) column = record pen { inserts = inserts; last = None }
-pen_behind pen step.Save column = record pen { last = None; saved = column; here = true }
+pen_behind pen step.Save column = record pen { last = None; saved = min column (widest - 1); here = nat_lt column widest }
 pen_behind pen step.Restore column = record pen { last = None; here = true; row = None }
 pen_behind pen step.NewLine column = record pen { last = None; here = false; row = None }
 pen_behind pen (step.Leave to) column = record pen { last = None; here = false; row = None }
@@ -204,7 +204,7 @@ repeated limit pen (Some c) n l = repeat limit pen.inserts (glyph c pen.look) n 
 -- to the saved place, and where that isn't in this row, to a line of its own
 abbrev pub restored : ℕ → Pen → Line → Done
 restored limit pen l = if pen.here then done [] (behind_columns limit pen.saved l)
-    else done (lines_of l) (forward limit (min pen.saved (widest - 1)) blank)
+    else done (lines_of l) (forward limit pen.saved blank)
 
 abbrev pub does : ℕ → Pen → Step → Line → Done
 does limit pen (step.Put c) l = put limit pen.inserts (glyph c pen.look) l

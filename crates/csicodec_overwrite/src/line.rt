@@ -14,12 +14,9 @@ use crate::marking::Marking;
 use crate::paint::append_cells;
 use crate::pen::{Pen, set_look};
 use crate::sides::{delete_columns, erase_columns, loosen, move_all, undo};
-use crate::step::Step;
+use crate::step::{Step, WIDEST};
 use crate::width::width;
 use std::alloc::{AllocError, Global};
-
-/// The most columns that a movement or an edit goes.
-pub(crate) const WIDEST: u32 = 1024;
 
 /// A line and its cursor, between two of its cells.
 #[derive(Drop)]
@@ -330,7 +327,7 @@ impl Line {
             return self.behind_columns(limit, pen.saved);
         }
         self.end_some(marking, out)?;
-        self.forward(limit, pen.saved.min(WIDEST as usize - 1))
+        self.forward(limit, pen.saved)
     }
 
     /// Puts a character, on a line of its own where this has no room for it.

@@ -4,7 +4,7 @@ ghost use Rattle.csicodec_html.specs.Look.{behind};
 ghost use Rattle.csicodec_overwrite.specs.Line.{fresh, is_row, last_behind, pen_behind};
 ghost use Rattle.csicodec_overwrite.specs.Private.Plain.{PutsPlain};
 
-use crate::step::Step;
+use crate::step::{Step, WIDEST};
 use crate::width::width;
 use csicodec_base::Sgr;
 use csicodec_html::Look;
@@ -18,7 +18,7 @@ pub struct Pen {
     pub inserts: bool,
     /// The character that was put last, if nothing came behind it but marks: REP repeats it.
     pub last: Option<char>,
-    /// The columns left of the saved place; 0 where none is saved.
+    /// The columns left of the saved place, at most 1,023; 0 where none is saved.
     pub saved: usize,
     /// Whether that place is in this row.
     pub here: bool,
@@ -106,8 +106,8 @@ impl Pen {
             Step::Attribute(attribute) => set_look(&mut self.look, &attribute),
             Step::Inserts(inserts) => self.inserts = inserts,
             Step::Save => {
-                self.saved = column;
-                self.here = true;
+                self.saved = column.min(WIDEST as usize - 1);
+                self.here = column < WIDEST as usize;
             }
             Step::Restore => {
                 self.here = true;

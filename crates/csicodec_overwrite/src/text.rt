@@ -6,8 +6,7 @@ ghost use Rattle.csicodec_parser.specs.ActionOf.{action_of};
 ghost use Rattle.csicodec_clean.specs.Shown.{IsCut, IsRead};
 ghost use Rattle.csicodec_overwrite.specs.Steps.{as_far, by_code, is_mark, may_move, of_action, of_actions, of_char, of_chars, of_code, of_control, of_cursor, of_device, of_edit, of_escape, of_final, of_mode, of_reset, of_run, of_set, of_string, of_string_byte, of_terminal_mode, of_unread, of_wrong, of_wrong_byte, stops};
 
-use crate::line::WIDEST;
-use crate::step::Step;
+use crate::step::{Step, WIDEST};
 use csicodec::{
     CSI, Cursor, DecPrivateMode, DecPrivateModeCode, Device, Edit, EraseInDisplay, EraseInLine,
     Mode, TerminalMode, TerminalModeCode,

@@ -12,7 +12,7 @@ use Rattle.csicodec_overwrite.specs.declared.line.Line.{Line}
 use Rattle.csicodec_overwrite.specs.declared.pen.Pen.{Pen}
 use Rattle.csicodec_overwrite.specs.declared.step.Step.{Step}
 use Rattle.csicodec_overwrite.specs.declared.step.Step.TheVariants as step
-use Rattle.csicodec_overwrite.specs.Cells.{begins_behind, belongs, chars_of, columns, emptied, erased, glyph, gone, is_empty, onto, outside, takes, to_tab_stop, trimmed, width, without}
+use Rattle.csicodec_overwrite.specs.Cells.{begins_behind, belongs, chars_of, columns, emptied, erased, glyph, gone, is_empty, of_tab, onto, outside, shifted, takes, to_tab_stop, trimmed, untabbed, width, without}
 use Rattle.csicodec_overwrite.specs.Line.{Done, back, behind_columns, blank, cells_of, do_all, does, done, fits, forward, fresh, from_stop}
 use Rattle.csicodec_overwrite.specs.Line.{in_row, is_row, last_behind, leave, line, lines_of, over, padded, parted, pen_behind, placed}
 use Rattle.csicodec_overwrite.specs.Line.{placed_in, put, repeat, repeated, restored, shows_nothing, size, standing, target, to_stop}
@@ -72,6 +72,18 @@ module _ (P : ℕ → Type 0) (Q : Look → Type 0) (R : Sgr → Type 0) where
   of_outside [] h = tt
   of_outside (x ∷ xs) h = either OfCells (belongs x) (outside xs) (x ∷ xs) (of_outside xs h.1) h
 
+  of_untabbed : (t : Bool) (x : Cell) → OfCell x → OfCell (untabbed t x)
+  of_untabbed t Empty h = tt
+  of_untabbed true (Char g) h = tt
+  of_untabbed false (Char g) h = h
+  of_untabbed true Behind h = tt
+  of_untabbed false Behind h = tt
+  of_untabbed t (Mark c) h = h
+
+  of_shifted : (t : Bool) (xs : List Cell) → OfCells xs → OfCells (shifted t xs)
+  of_shifted t [] h = tt
+  of_shifted t (x ∷ xs) h = (of_untabbed (of_tab t x) x h.0, of_shifted (of_tab t x) xs h.1)
+
   of_trimmed : (xs : List Cell) → OfCells xs → OfCells (trimmed xs)
   of_trimmed [] h = tt
   of_trimmed (x ∷ xs) h = either OfCells (is_empty x) (trimmed xs) (x ∷ xs) (of_trimmed xs h.1) h
@@ -106,9 +118,9 @@ module _ (P : ℕ → Type 0) (Q : Look → Type 0) (R : Sgr → Type 0) where
   of_placed : (inserts : Bool) (g : Glyph) (n : ℕ) (l : Line) → OfCell (Char g) → OfLine l → OfLine (placed inserts g n l)
   of_placed inserts g n l p h =
       let k = of_parted l h in
-      let right = cond inserts (parted l).right (gone n (parted l).right) in
+      let right = cond inserts (shifted false (parted l).right) (gone n (parted l).right) in
       either OfLine (n == 0) (line (Mark g.char ∷ l.left) l.right) (line (replicate (n - 1) Behind ++ (Char g ∷ (parted l).left)) right) ((p.0, h.0), h.1)
-      (both (replicate (n - 1) Behind) (Char g ∷ (parted l).left) (behinds (n - 1)) (p, k.0), either OfCells inserts (parted l).right (gone n (parted l).right) k.1 (of_gone n (parted l).right k.1))
+      (both (replicate (n - 1) Behind) (Char g ∷ (parted l).left) (behinds (n - 1)) (p, k.0), either OfCells inserts (shifted false (parted l).right) (gone n (parted l).right) (of_shifted false (parted l).right k.1) (of_gone n (parted l).right k.1))
 
   -- the cells of a line
   pub of_line : (l : Line) → OfLine l → OfCells (cells_of l)
@@ -180,11 +192,13 @@ module _ (P : ℕ → Type 0) (Q : Look → Type 0) (R : Sgr → Type 0) where
     of_does limit pen step.EraseLeft l q p h = (tt, (empties (columns l.left), of_erased 1 l.right h.1))
     of_does limit pen step.EraseAll l q p h = (tt, (empties (columns l.left), tt))
     of_does limit pen (step.Erase n) l q p h = let k = of_parted l h in (tt, (k.0, of_erased n (parted l).right k.1))
-    of_does limit pen (step.Delete n) l q p h = let k = of_parted l h in (tt, (k.0, of_gone n (parted l).right k.1))
+    of_does limit pen (step.Delete n) l q p h =
+        let k = of_parted l h in
+        (tt, (k.0, of_shifted false (gone n (parted l).right) (of_gone n (parted l).right k.1)))
     of_does limit pen (step.Insert n) l q p h =
         let k = of_parted l h in
         let some = min n (limit - size (parted l)) in
-        (tt, (k.0, both (replicate some Empty) (parted l).right (empties some) k.1))
+        (tt, (k.0, both (replicate some Empty) (shifted false (parted l).right) (empties some) (of_shifted false (parted l).right k.1)))
     of_does limit pen step.Restore l q p h = of_restored limit pen l h
     of_does limit pen (step.Leave to) l q p h = of_leave limit to l h
     of_does limit pen (step.Row row to) l q p h = of_placed_in limit pen row to l h

@@ -1,6 +1,7 @@
 pub mod Texts
 pub mod Alike
 pub mod Moved
+pub mod Shifted
 pub mod Painted
 pub mod Looks
 pub mod Spelled

@@ -12,11 +12,11 @@ use Rattle.csicodec_overwrite.specs.declared.line.Line.{Line}
 use Rattle.csicodec_overwrite.specs.declared.pen.Pen.{Pen}
 use Rattle.csicodec_overwrite.specs.declared.step.Step.{Step}
 use Rattle.csicodec_overwrite.specs.declared.step.Step.TheVariants as step
-use Rattle.csicodec_overwrite.specs.Cells.{begins_behind, belongs, chars_of, columns, emptied, erased, glyph, gone, is_empty, onto, outside, takes, to_tab_stop, trimmed, width, without}
+use Rattle.csicodec_overwrite.specs.Cells.{begins_behind, belongs, chars_of, columns, emptied, erased, glyph, gone, is_empty, onto, outside, shifted, takes, to_tab_stop, trimmed, untabbed, width, without}
 use Rattle.csicodec_overwrite.specs.Line.{Done, back, behind_columns, blank, cells_of, do_all, does, done, fits, forward}
 use Rattle.csicodec_overwrite.specs.Line.{from_stop, in_row, is_row, leave, line, lines_of, over, parted, pen_behind, placed}
 use Rattle.csicodec_overwrite.specs.Line.{placed_in, put, repeat, repeated, restored, shows_nothing, size, standing, target, to_stop}
-use Rattle.csicodec_overwrite.specs.Lost.{again, all_came, all_taken, belonging, came, covered, left_out, taken, taken_again, taken_by, taken_by_all, times, touched, under, whole, within, written}
+use Rattle.csicodec_overwrite.specs.Lost.{again, all_came, all_taken, belonging, came, covered, left_out, taken, taken_again, taken_by, taken_by_all, tabs, times, touched, under, whole, within, written}
 use Rattle.csicodec_overwrite.proofs.Texts.{chars_by, line_chars}
 
 -- either way of a test
@@ -109,6 +109,19 @@ module _ (c : ℕ) where
       let rest = without n xs in
       omega (arith, joined (within n xs) (belonging rest), of_emptied rest (outside rest), of_belonging rest, of_within n xs)
 
+  of_shifted : (t : Bool) (xs : List Cell) → count (shifted t xs) + count (tabs xs) ≡ count xs
+  of_shifted t [] = refl
+  of_shifted t (Empty ∷ xs) = omega (arith, of_shifted false xs)
+  of_shifted t (Char g ∷ xs) = by (g.char == 9) (of_shifted (g.char == 9) xs)
+    where
+      by : (u : Bool) → count (shifted u xs) + count (tabs xs) ≡ count xs
+          → count (untabbed u (Char g) ∷ shifted u xs) + count (cond u (Char g ∷ tabs xs) (tabs xs)) ≡ in_cell (Char g) + count xs
+      by true e = omega (arith, e)
+      by false e = omega (arith, e)
+  of_shifted true (Behind ∷ xs) = omega (arith, of_shifted true xs)
+  of_shifted false (Behind ∷ xs) = omega (arith, of_shifted false xs)
+  of_shifted t (Mark d ∷ xs) = omega (arith, of_shifted t xs)
+
   of_erased : (n : ℕ) (xs : List Cell) → count (erased n xs) ≡ count (gone n xs)
   of_erased n xs = empties (min n (columns xs)) (gone n xs)
 
@@ -172,17 +185,18 @@ module _ (c : ℕ) where
   of_placed inserts g n l =
       let p = parted l in
       both_ways (λ (m : Line) (a : List Cell). in_line m + count a ≡ in_line l + times c (g.char ∷ [])) (n == 0)
-      (line (Mark g.char ∷ l.left) l.right) (line (replicate (n - 1) Behind ++ (Char g ∷ p.left)) (cond inserts p.right (gone n p.right))) [] (cond inserts (under l) (touched n l))
+      (line (Mark g.char ∷ l.left) l.right) (line (replicate (n - 1) Behind ++ (Char g ∷ p.left)) (cond inserts (shifted false p.right) (gone n p.right))) []
+      (cond inserts (under l ++ tabs p.right) (touched n l))
       (λ e. omega arith)
       (λ e. both_ways (λ (right a : List Cell). count (replicate (n - 1) Behind ++ (Char g ∷ p.left)) + count right + count a ≡ in_line l + times c (g.char ∷ []))
-      inserts p.right (gone n p.right) (under l) (touched n l)
-      (λ f. omega (arith, behinds (n - 1) (Char g ∷ p.left), of_under l)) (λ f. omega (arith, behinds (n - 1) (Char g ∷ p.left), of_touched n l)))
+      inserts (shifted false p.right) (gone n p.right) (under l ++ tabs p.right) (touched n l)
+      (λ f. omega (arith, behinds (n - 1) (Char g ∷ p.left), of_under l, of_shifted false p.right, joined (under l) (tabs p.right))) (λ f. omega (arith, behinds (n - 1) (Char g ∷ p.left), of_touched n l)))
 
   -- where nothing stands on the right, nothing is taken
   none_covered : (inserts : Bool) (n : ℕ) (left : List Cell) → count (covered inserts n (line left [])) ≡ 0
   none_covered inserts n left = by (n == 0) inserts
     where
-      by : (mark inserting : Bool) → count (cond mark [] (cond inserting (under (line left [])) (touched n (line left [])))) ≡ 0
+      by : (mark inserting : Bool) → count (cond mark [] (cond inserting (under (line left []) ++ tabs []) (touched n (line left [])))) ≡ 0
       by true inserting = refl
       by false true = refl
       by false false = refl
@@ -259,8 +273,12 @@ module _ (c : ℕ) where
   of_does limit pen step.EraseLeft l = omega (arith, all_empty (columns l.left), of_erased 1 l.right, of_whole 1 l.right, joined l.left (whole 1 l.right))
   of_does limit pen step.EraseAll l = omega (arith, all_empty (columns l.left), joined l.left l.right)
   of_does limit pen (step.Erase n) l = omega (arith, of_touched n l, of_erased n (parted l).right)
-  of_does limit pen (step.Delete n) l = omega (arith, of_touched n l)
-  of_does limit pen (step.Insert n) l = omega (arith, of_under l, empties (min n (limit - size (parted l))) (parted l).right)
+  of_does limit pen (step.Delete n) l =
+      let rest = gone n (parted l).right in
+      omega (arith, of_touched n l, of_shifted false rest, joined (touched n l) (tabs rest))
+  of_does limit pen (step.Insert n) l =
+      let right = (parted l).right in
+      omega (arith, of_under l, empties (min n (limit - size (parted l))) (shifted false right), of_shifted false right, joined (under l) (tabs right))
   of_does limit pen step.Restore l = omega (arith, of_restored limit pen l)
   of_does limit pen (step.Leave to) l = omega (arith, of_lines l, of_forward limit (target to l) blank)
   of_does limit pen (step.Row row to) l = omega (arith, of_placed_in limit pen row to l)

@@ -128,7 +128,7 @@ columns_empty : (n : ℕ) → columns (replicate n Empty) ≡ n
 columns_empty zero = refl
 columns_empty (suc n) = omega (arith, columns_empty n)
 
-reverse_empty : (n : ℕ) → reverse (replicate n Empty) ≡ replicate n Empty
+pub reverse_empty : (n : ℕ) → reverse (replicate n Empty) ≡ replicate n Empty
 reverse_empty zero = refl
 reverse_empty (suc n) =
     let one : 1 + n ≡ suc n = omega arith in
@@ -156,7 +156,7 @@ emptied_all n count cells front side is bare same e =
 
 -- so many empty ones behind others
 module _ (n m k : ℕ) (cells new : List Cell) (e : new ≡ take m cells ++ replicate k Empty) (few : length cells ≤ m) (some : k ≡ n) where
-  longer : new ≡ cells ++ replicate n Empty
+  pub longer : new ≡ cells ++ replicate n Empty
   longer = e ∙ ap (λ (t : List Cell). t ++ replicate k Empty) (take_all m cells few) ∙ ap (λ (j : ℕ). cells ++ replicate j Empty) some
 
   pub reverse_more : reverse new ≡ replicate n Empty ++ reverse cells

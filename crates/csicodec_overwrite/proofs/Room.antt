@@ -11,11 +11,12 @@ use Rattle.csicodec_overwrite.specs.declared.line.Line.{Line}
 use Rattle.csicodec_overwrite.specs.declared.pen.Pen.{Pen}
 use Rattle.csicodec_overwrite.specs.declared.step.Step.{Step}
 use Rattle.csicodec_overwrite.specs.declared.step.Step.TheVariants as step
-use Rattle.csicodec_overwrite.specs.Cells.{begins_behind, belongs, columns, emptied, erased, glyph, gone, narrowed, onto, outside, takes, to_tab_stop, width, without}
+use Rattle.csicodec_overwrite.specs.Cells.{begins_behind, belongs, columns, emptied, erased, glyph, gone, narrowed, onto, outside, shifted, takes, to_tab_stop, width, without}
 use Rattle.csicodec_overwrite.specs.Line.{Done, back, behind_columns, blank, cells_of, do_all, does, done, fits, forward}
 use Rattle.csicodec_overwrite.specs.Line.{from_stop, in_row, is_row, leave, line, lines_of, over, padded, parted}
 use Rattle.csicodec_overwrite.specs.Line.{pen_behind, placed, placed_in, put, repeat, repeated, restored, size, target, to_stop}
 use Rattle.csicodec_overwrite.proofs.Moved.{narrow_few, takes_few}
+use Rattle.csicodec_overwrite.proofs.Shifted.{length_shifted}
 
 -- either way of a test
 either : {T : Type 0} (P : T → Type 0) (t : Bool) (x y : T) → (t ≡ true → P x) → (t ≡ false → P y) → P (cond t x y)
@@ -117,8 +118,8 @@ module _ (limit : ℕ) (enough : 8 ≤ limit) where
   placed_size inserts g n l =
       let p = parted l in
       let less = parted_less l in
-      let right = cond inserts p.right (gone n p.right) in
-      let few = always (λ (xs : List Cell). length xs ≤ length p.right) inserts p.right (gone n p.right) (omega arith) (omega (arith, gone_less n p.right, without_less n p.right)) in
+      let right = cond inserts (shifted false p.right) (gone n p.right) in
+      let few = always (λ (xs : List Cell). length xs ≤ length p.right) inserts (shifted false p.right) (gone n p.right) (omega (arith, length_shifted false p.right)) (omega (arith, gone_less n p.right, without_less n p.right)) in
       either (λ (m : Line). size m ≤ size l + max n 1) (n == 0) (line (Mark g.char ∷ l.left) l.right) (line (replicate (n - 1) Behind ++ (Char g ∷ p.left)) right) (λ e. omega arith)
       (λ e. omega (arith, some_left n e, joined (n - 1) Behind (Char g ∷ p.left), less, few))
 
@@ -177,8 +178,9 @@ module _ (limit : ℕ) (enough : 8 ≤ limit) where
   does_size pen step.EraseLeft l h = omega (arith, empties (columns l.left), few_columns l.left, erased_less 1 l.right)
   does_size pen step.EraseAll l h = omega (arith, empties (columns l.left), few_columns l.left)
   does_size pen (step.Erase n) l h = omega (arith, parted_less l, erased_less n (parted l).right)
-  does_size pen (step.Delete n) l h = omega (arith, parted_less l, gone_less n (parted l).right, without_less n (parted l).right)
-  does_size pen (step.Insert n) l h = omega (arith, parted_less l, joined (min n (limit - size (parted l))) Empty (parted l).right)
+  does_size pen (step.Delete n) l h = omega (arith, parted_less l, gone_less n (parted l).right, without_less n (parted l).right, length_shifted false (gone n (parted l).right))
+  does_size pen (step.Insert n) l h =
+      omega (arith, parted_less l, joined (min n (limit - size (parted l))) Empty (shifted false (parted l).right), length_shifted false (parted l).right)
   does_size pen step.Restore l h = restored_size pen l h
   does_size pen (step.Leave to) l h = forward_size (target to l) blank (omega arith)
   does_size pen (step.Row row to) l h = placed_in_size pen row to l h

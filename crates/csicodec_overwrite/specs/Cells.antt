@@ -84,6 +84,25 @@ gone n right = emptied (without n right) (outside (without n right))
 abbrev pub erased : ℕ → List Cell → List Cell
 erased n right = replicate (min n (columns right)) Empty ++ gone n right
 
+-- whether it is a tab or belongs to one, behind a cell that is or does so, or behind another
+abbrev pub of_tab : Bool → Cell → Bool
+of_tab behind Empty = false
+of_tab behind (Char g) = g.char == 9
+of_tab behind Behind = behind
+of_tab behind (Mark c) = behind
+
+-- a column of a tab is empty, and a mark stays
+abbrev pub untabbed : Bool → Cell → Cell
+untabbed tab Empty = Empty
+untabbed tab (Char g) = if tab then Empty else Char g
+untabbed tab Behind = if tab then Empty else Behind
+untabbed tab (Mark c) = Mark c
+
+-- cells that are shifted, behind a tab or not: in a terminal a tab was a movement, and the columns that it left are empty
+abbrev pub shifted : Bool → List Cell → List Cell
+shifted tab [] = []
+shifted tab (cell ∷ cells) = untabbed (of_tab tab cell) cell ∷ shifted (of_tab tab cell) cells
+
 -- from a column, the columns up to the next tab stop: there is one at every eighth
 abbrev pub to_tab_stop : ℕ → ℕ
 to_tab_stop column = 8 - column % 8

@@ -9,7 +9,7 @@ use Rattle.csicodec_overwrite.specs.declared.line.Line.{Line}
 use Rattle.csicodec_overwrite.specs.declared.pen.Pen.{Pen}
 use Rattle.csicodec_overwrite.specs.declared.step.Step.{Step}
 use Rattle.csicodec_overwrite.specs.declared.step.Step.TheVariants as step
-use Rattle.csicodec_overwrite.specs.Cells.{begins_behind, columns, emptied, erased, glyph, gone, is_blank, onto, outside, takes, to_tab_stop, trimmed, width, without}
+use Rattle.csicodec_overwrite.specs.Cells.{begins_behind, columns, emptied, erased, glyph, gone, is_blank, onto, outside, shifted, takes, to_tab_stop, trimmed, width, without}
 
 -- the cells left of the cursor and those right of it, on either side the nearest first
 abbrev pub line : List Cell → List Cell → Line
@@ -78,12 +78,12 @@ abbrev pub erase : ℕ → Line → Line
 erase n l = line (parted l).left (erased n (parted l).right)
 
 abbrev pub delete : ℕ → Line → Line
-delete n l = line (parted l).left (gone n (parted l).right)
+delete n l = line (parted l).left (shifted false (gone n (parted l).right))
 
 -- so many empty columns come, as far as the line has room
 abbrev pub insert : ℕ → ℕ → Line → Line
 insert limit n l = line (parted l).left
-    (replicate (min n (limit - size (parted l))) Empty ++ (parted l).right)
+    (replicate (min n (limit - size (parted l))) Empty ++ shifted false (parted l).right)
 
 -- ---- characters
 
@@ -92,7 +92,7 @@ insert limit n l = line (parted l).left
 abbrev pub placed : Bool → Glyph → ℕ → Line → Line
 placed inserts g columns l = if columns == 0 then line (Mark g.char ∷ l.left) l.right
     else line (replicate (columns - 1) Behind ++ (Char g ∷ (parted l).left))
-    (if inserts then (parted l).right else gone columns (parted l).right)
+    (if inserts then shifted false (parted l).right else gone columns (parted l).right)
 
 -- what stands in the line, up to the last cell that isn't empty, from the last on
 abbrev pub standing : Line → List Cell

@@ -1,6 +1,6 @@
 -- Which characters come, and which a step takes out of the line that it is done in. No step takes one out of another line, and one that
--- leaves the row takes none but blanks of a line in which nothing else stands.
-use Rattle.std.specs.Prelude.{ℕ, zero, suc, ◌≡◌, ◌≢◌, ◌≤◌, ◌-◌, ◌+◌, ◌==◌, Bool, List, [], ◌∷◌, ◌++◌, length, replicate, Option, Some, None, if◌then◌else◌}
+-- leaves the row takes none but blanks of a line in which nothing else stands. Of what a step shifts in the line it takes the tabs alone.
+use Rattle.std.specs.Prelude.{ℕ, zero, suc, ◌≡◌, ◌≢◌, ◌≤◌, ◌-◌, ◌+◌, ◌==◌, Bool, false, filter, List, [], ◌∷◌, ◌++◌, length, replicate, Option, Some, None, if◌then◌else◌}
 use Rattle.std.specs.List.{count_by, flat_map}
 use Rattle.bstr.specs.Utf8.{lossy_chars}
 use Rattle.csicodec_clean.specs.Cleaned.{Strips, longest}
@@ -10,7 +10,7 @@ use Rattle.csicodec_overwrite.specs.declared.line.Line.{Line}
 use Rattle.csicodec_overwrite.specs.declared.pen.Pen.{Pen}
 use Rattle.csicodec_overwrite.specs.declared.step.Step.{Step}
 use Rattle.csicodec_overwrite.specs.declared.step.Step.TheVariants as step
-use Rattle.csicodec_overwrite.specs.Cells.{begins_behind, belongs, chars_of, columns, glyph, is_empty, outside, takes, width, without}
+use Rattle.csicodec_overwrite.specs.Cells.{begins_behind, belongs, chars_of, columns, glyph, gone, is_empty, of_tab, outside, takes, width, without}
 use Rattle.csicodec_overwrite.specs.Line.{blank, cells_of, does, fits, fresh, is_row, parted, pen_behind, put, shows_nothing}
 use Rattle.csicodec_overwrite.specs.Paint.{as_text}
 use Rattle.csicodec_overwrite.specs.Reading.{Shows, most}
@@ -40,12 +40,17 @@ under l = if begins_behind l.right
 abbrev pub touched : ℕ → Line → List Cell
 touched n l = under l ++ whole n (parted l).right
 
+-- the tabs among cells that are shifted: empty columns come in place of each, as many as it had
+abbrev pub tabs : List Cell → List Cell
+tabs cells = filter (of_tab false) cells
+
 -- ---- what a step takes
 
--- a character of so many columns takes those that stand there, in insert mode only the one that it parts, and a mark takes none
+-- a character of so many columns takes those that stand there, in insert mode only the one that it parts and the tabs that it shifts, and a
+-- mark takes none
 abbrev pub covered : Bool → ℕ → Line → List Cell
 covered inserts columns l = if columns == 0 then []
-    else if inserts then under l else touched columns l
+    else if inserts then under l ++ tabs (parted l).right else touched columns l
 
 -- where the line has no room for it, it stands in a new one, and takes none
 abbrev pub taken_by : ℕ → Bool → Glyph → Line → List Cell
@@ -66,7 +71,7 @@ taken_again limit pen (Some c) n l = taken_by_all limit pen.inserts (glyph c pen
 abbrev pub left_out : Line → List Cell
 left_out l = if shows_nothing l then cells_of l else []
 
--- what is overwritten, erased, deleted, parted or left out: no other step takes anything
+-- what is overwritten, erased, deleted, parted or left out, and each tab that is shifted: no other step takes anything
 abbrev pub taken : ℕ → Pen → Step → Line → List Cell
 taken limit pen (step.Put c) l = taken_by limit pen.inserts (glyph c pen.look) l
 taken limit pen (step.Repeat n) l = taken_again limit pen pen.last n l
@@ -74,8 +79,8 @@ taken limit pen step.EraseRight l = under l ++ (parted l).right
 taken limit pen step.EraseLeft l = l.left ++ whole 1 l.right
 taken limit pen step.EraseAll l = l.left ++ l.right
 taken limit pen (step.Erase n) l = touched n l
-taken limit pen (step.Delete n) l = touched n l
-taken limit pen (step.Insert n) l = under l
+taken limit pen (step.Delete n) l = touched n l ++ tabs (gone n (parted l).right)
+taken limit pen (step.Insert n) l = under l ++ tabs (parted l).right
 taken limit pen step.Restore l = if pen.here then [] else left_out l
 taken limit pen (step.Leave to) l = left_out l
 taken limit pen (step.Row row to) l = if is_row pen.row row then [] else left_out l

@@ -4,3 +4,4 @@ pub mod Seen
 pub mod Plain
 pub mod Front
 pub mod Alike
+pub mod Shifted

@@ -1,8 +1,9 @@
 //! What stands in a line, cell by cell.
-ghost use Rattle.std.specs.Prelude.{◌≡◌, ◌≤◌, ◌+◌, ◌++◌, ◌∷◌, [], ℕ, List, OnOk, MatchOption, length, replicate, reverse, vec_capacity, vec_len};
+ghost use Rattle.std.specs.Prelude.{◌≡◌, ◌≤◌, ◌+◌, ◌++◌, ◌∷◌, [], false, ℕ, List, OnOk, MatchOption, length, replicate, reverse, vec_capacity, vec_len};
 ghost use Rattle.std.specs.List.{list_all};
-ghost use Rattle.csicodec_overwrite.specs.Cells.{begins_behind, belongs, columns, emptied, is_blank, is_empty, onto, outside, takes, trimmed, without};
+ghost use Rattle.csicodec_overwrite.specs.Cells.{begins_behind, belongs, columns, emptied, is_blank, is_empty, of_tab, onto, outside, shifted, takes, trimmed, untabbed, without};
 ghost use Rattle.csicodec_overwrite.specs.Private.Plain.{glyphs};
+ghost use Rattle.csicodec_overwrite.specs.Private.Shifted.{IsSettled};
 ghost use Rattle.csicodec_overwrite.specs.declared.cells.Cell.TheVariants.{Empty};
 
 use csicodec_html::Look;
@@ -58,6 +59,27 @@ impl Cell {
         }
     }
 
+    /// Whether it is a tab or belongs to one, behind a cell that is or does so, or behind another.
+    fn is_of_tab(self, behind: bool) -> bool
+        ensures { result ≡ of_tab behind self }
+    {
+        match self {
+            Cell::Empty => false,
+            Cell::Char(glyph) => glyph.char == '\t',
+            Cell::Behind | Cell::Mark(_) => behind,
+        }
+    }
+
+    /// An empty column in place of one of a tab.
+    fn untabbed(self, tab: bool) -> Cell
+        ensures { result ≡ untabbed tab self }
+    {
+        match self {
+            Cell::Char(_) | Cell::Behind if tab => Cell::Empty,
+            _ => self,
+        }
+    }
+
     /// Whether it belongs to the character before it.
     pub(crate) fn belongs(self) -> bool
         ensures { result ≡ belongs self }
@@ -82,6 +104,20 @@ fn append_glyphs(cells: &mut Vec<Cell>, run: &[u8], look: Look)
     }
 }
 
+/// Empties the columns of tabs, of which none is among so many of the farthest cells.
+fn empty_tabs(cells: &mut Vec<Cell>, settled: usize)
+    requires { IsSettled settled cells.old.items }
+    ensures { reverse cells.new.items ≡ shifted false (reverse cells.old.items) }
+{
+    let mut at = cells.len();
+    let mut tab = false;
+    while at > settled || tab && at > 0 {
+        at -= 1;
+        tab = cells[at].is_of_tab(tab);
+        cells[at] = cells[at].untabbed(tab);
+    }
+}
+
 /// The cells on one side of the cursor. Contracts see them with the nearest first.
 #[derive(Drop)]
 pub(crate) struct Side {
@@ -91,11 +127,14 @@ pub(crate) struct Side {
     width: usize,
     /// So many of the farthest are empty.
     bare: usize,
+    /// No tab is among so many of the farthest.
+    settled: usize,
 }
 
 impl Model for Side {
     ghost use Rattle.std.specs.Prelude.{◌≡◌, List, replicate, reverse, take};
     ghost use Rattle.csicodec_overwrite.specs.Cells.{columns};
+    ghost use Rattle.csicodec_overwrite.specs.Private.Shifted.{IsSettled};
     ghost use Rattle.csicodec_overwrite.specs.declared.cells.Cell.{Cell as CellOf};
     ghost use Rattle.csicodec_overwrite.specs.declared.cells.Cell.TheVariants.{Empty};
 
@@ -104,7 +143,8 @@ impl Model for Side {
     ghost view = { λ s. reverse s.cells.items };
 
     ghost invariant = { λ s. (s.width ≡ columns (reverse s.cells.items))
-        × (take s.bare s.cells.items ≡ replicate s.bare Empty) };
+        × (take s.bare s.cells.items ≡ replicate s.bare Empty)
+        × IsSettled s.settled s.cells.items };
 }
 
 impl Side {
@@ -116,6 +156,7 @@ impl Side {
             cells: Vec::new(alloc),
             width: 0,
             bare: 0,
+            settled: 0,
         }
     }
 
@@ -196,6 +237,7 @@ impl Side {
         let cell = self.cells.pop()?;
         self.width -= cell.takes();
         self.bare = self.bare.min(self.cells.len());
+        self.settled = self.settled.min(self.cells.len());
         Some(cell)
     }
 
@@ -206,6 +248,7 @@ impl Side {
         self.cells.clear();
         self.width = 0;
         self.bare = 0;
+        self.settled = 0;
     }
 
     /// Puts all cells of another side nearest, its nearest first, and takes them from there.
@@ -221,6 +264,7 @@ impl Side {
         from.cells.clear();
         from.width = 0;
         from.bare = 0;
+        from.settled = 0;
         moved?;
         self.width = width;
         Ok(())
@@ -272,9 +316,18 @@ impl Side {
         let others = count.saturating_sub(self.bare);
         self.cells.truncate(self.bare);
         self.width = self.bare;
+        self.settled = 0;
         self.push_empty(others)?;
         self.bare = count;
         Ok(())
+    }
+
+    /// Empties the columns of tabs, since the cells move without the cursor. It passes over none that it passed over before.
+    pub(crate) fn shift(&mut self)
+        ensures { self.new ≡ shifted false self.old }
+    {
+        empty_tabs(&mut self.cells, self.settled);
+        self.settled = self.cells.len();
     }
 
     /// Takes so many columns, as far as there are some.

@@ -190,7 +190,9 @@ impl Line {
         ensures { OnOk result (self.new ≡ delete count self.old) }
     {
         self.part()?;
-        delete_columns(&mut self.right, count as usize)
+        delete_columns(&mut self.right, count as usize)?;
+        self.right.shift();
+        Ok(())
     }
 
     /// Inserts so many empty columns.
@@ -199,6 +201,7 @@ impl Line {
     {
         self.part()?;
         let some = (count as usize).min(self.room(limit));
+        self.right.shift();
         self.right.push_empty(some)
     }
 
@@ -216,6 +219,7 @@ impl Line {
             return Ok(());
         }
         if inserts {
+            self.right.shift();
             return Ok(());
         }
         delete_columns(&mut self.right, columns)

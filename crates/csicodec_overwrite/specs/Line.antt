@@ -181,12 +181,12 @@ fresh = record { look = plain; inserts = false; last = None; saved = 0; here = f
 abbrev pub last_behind : Option ℕ → ℕ → Option ℕ
 last_behind last c = if width c 0 == 0 then last else Some c
 
--- behind a step that is done in this column: but for characters nothing is repeated, and a column that no terminal's row has is in another
+-- behind a step that is done in this column: but for characters nothing is repeated, and no column is saved that no terminal's row has
 abbrev pub pen_behind : Pen → Step → ℕ → Pen
 pen_behind pen (step.Put c) column = record pen { last = last_behind pen.last c }
 pen_behind pen (step.Attribute s) column = record pen { look = behind pen.look s; last = None }
 pen_behind pen (step.Inserts inserts) column = record pen { inserts = inserts; last = None }
-pen_behind pen step.Save column = record pen { last = None; saved = min column (widest - 1); here = nat_lt column widest }
+pen_behind pen step.Save column = record pen { last = None; saved = if nat_lt column widest then column else 0; here = nat_lt column widest }
 pen_behind pen step.Restore column = record pen { last = None; here = true; row = None }
 pen_behind pen step.NewLine column = record pen { last = None; here = false; row = None }
 pen_behind pen (step.Leave to) column = record pen { last = None; here = false; row = None }

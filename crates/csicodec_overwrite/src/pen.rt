@@ -106,8 +106,8 @@ impl Pen {
             Step::Attribute(attribute) => set_look(&mut self.look, &attribute),
             Step::Inserts(inserts) => self.inserts = inserts,
             Step::Save => {
-                self.saved = column.min(WIDEST as usize - 1);
                 self.here = column < WIDEST as usize;
+                self.saved = if self.here { column } else { 0 };
             }
             Step::Restore => {
                 self.here = true;

@@ -1,11 +1,11 @@
 -- Runs of parts, one after the other.
-use Rattle.std.proofs.Common.{◌≡◌, ◌≢◌, ◌≤◌, ◌+◌, ◌-◌, ℕ, Bool, true, false, not, Option, None, Some, IfSome, List, [], ◌∷◌, ◌++◌}
-use Rattle.std.proofs.Common.{MatchOption, inl, inr, ⊎_elim, length, take, drop, refl, sym, ap, subst, ◌∙◌, append_assoc, append-nil, arith}
+use Rattle.std.proofs.Common.{◌≡◌, ◌≢◌, ◌≤◌, ◌+◌, ◌*◌, ◌-◌, ℕ, Bool, true, false, not, Option, None, Some, IfSome, List, [], ◌∷◌, ◌++◌}
+use Rattle.std.proofs.Common.{MatchOption, inl, inr, ⊎_elim, cond, length, take, drop, refl, sym, ap, subst, ◌∙◌, append_assoc, append-nil, arith}
 use Rattle.std.specs.Prelude.{◌&&◌, slice_get}
 use Rattle.std.proofs.lemmas.Bool.{cases_Bool, true≢false}
 use Rattle.std.proofs.lemmas.Grind.{flat_map-append}
 use Rattle.std.proofs.Math.Seq.{take-append_seam}
-use Rattle.std.proofs.lemmas.List.{drop-append-le, length-append, take-take}
+use Rattle.std.proofs.lemmas.List.{drop-append-le, length-append, length-drop, length-take-le, take-take}
 use Rattle.std.specs.List.{AllByRecursion, flat_map}
 use Rattle.csicodec_tokens.specs.declared.param.CsiParam.{CsiParam}
 use Rattle.csicodec_tokens.specs.Sequence.{Seq}
@@ -28,13 +28,13 @@ use Rattle.csicodec_filter.specs.Written.{Adds, Appends, Leaves, Since, open_at}
 use Rattle.csicodec_filter.specs.Transform.{Begins as BeginsWith, Sends, Transforms}
 use Rattle.csicodec_filter.proofs.Written.{appends, made, makes, one_first}
 use Rattle.csicodec_compact.specs.Compacts.{Compacts, ReadsAlike}
-use Rattle.csicodec_compact.specs.Runs.{IsStaying, NoneStays, Shortens, AreRuns, IsShortened, PassesShort, CompactsAll}
+use Rattle.csicodec_compact.specs.Runs.{IsStaying, NoneStays, Shortens, AreRuns, IsShortened, PassesShort, CompactsAll, most_joined}
 use Rattle.csicodec_compact.specs.declared.form.TextEnding.{TextEnding}
 use Rattle.csicodec_compact.specs.declared.form.TextEnding.TheVariants as forms
 use Rattle.csicodec_compact.specs.declared.shortener.Shortener.{Shortener}
 use Rattle.csicodec_compact.specs.Private.Run.{Holds}
-use Rattle.csicodec_compact.specs.Private.Steps.{Begins, form_of, closing, is_semicolon, joint, behind, is_joined, may_join, opened, list_of}
-use Rattle.csicodec_compact.specs.Private.Steps.{IsTail, IsListed, IsOwn, IsNotedList, IsNoted, IsNote, GoesOnFrom, IsHeld, Extends, GoesOnBy}
+use Rattle.csicodec_compact.specs.Private.Steps.{Begins, form_of, closing, is_semicolon, joint, behind, is_joined, may_join, opened, list_of, is_bare, is_open}
+use Rattle.csicodec_compact.specs.Private.Steps.{IsTail, IsListed, IsOwn, IsNotedList, IsNoted, IsNote, HasFew, LeavesRoom, GoesOnFrom, IsHeld, Extends, GoesOnBy}
 use Rattle.csicodec_compact.proofs.JoinedLists.{tail_joined, tail_decodes, joint_short}
 
 -- ---- bytes in front of others
@@ -109,20 +109,21 @@ one_short bytes own list final s h =
       came = rw (append-nil bytes) came;
       written = h.alike xs came;
       short = rw (append-nil bytes) h.short;
+      within = inr (part kind.Csi bytes, refl);
       kept = elim (cases_Bool (stays list final)) [
         | inl stay ↦ inr (part kind.Csi bytes, refl, h.kept list final s stay)
         | inr free ↦ inl (free_by bytes list final s free, tt)
       ];
     }
 
-all_on : (P : Part → Type 0) (ps qs : List Part) → AllByRecursion P ps → AllByRecursion P qs → AllByRecursion P (ps ++ qs)
+pub all_on : (P : Part → Type 0) (ps qs : List Part) → AllByRecursion P ps → AllByRecursion P qs → AllByRecursion P (ps ++ qs)
 all_on P [] qs h k = k
 all_on P (p ∷ ps) qs h k = (h.0, all_on P ps qs h.1 k)
 
 pub joined_short : (run more : List Part) (held own joined : List ℕ) → Shortens run held → Shortens more own → NoneStays run → NoneStays more
-    → length joined ≤ length (held ++ own) → ReadsAlike (held ++ own) joined
+    → length joined ≤ length (held ++ own) → ReadsAlike (held ++ own) joined → length joined ≤ most_joined
     → Shortens (run ++ more) joined
-joined_short run more held own joined h k free others short alike =
+joined_short run more held own joined h k free others short alike within =
     let bytes = flat_map-append bytes_of run more in
     record {
       all = all_on (λ (p : Part). p.kind ≡ kind.Csi) run more h.all k.all;
@@ -130,24 +131,25 @@ joined_short run more held own joined h k free others short alike =
       came = rw bytes (decodes-append (flat_map bytes_of run) (flat_map bytes_of more) false h.actions k.actions h.came k.came);
       written = alike (h.actions ++ k.actions) (decodes-append held own false h.actions k.actions h.written k.written);
       short = omega (arith, short, h.short, k.short, length-append held own, length-append (flat_map bytes_of run) (flat_map bytes_of more), ap length bytes);
+      within = inl within;
       kept = inl (all_on (λ (p : Part). ¬ IsStaying p.bytes) run more free others);
     }
 
 -- ---- what is held
 
 -- nothing
-pub none_held : IsHeld [] [] forms.Whole
-none_held = record { front = []; left = []; text = []; tail = []; parts = refl; whole = refl; written = shortened_none; end = (refl, refl) }
+pub none_held : (room : ℕ) → IsHeld [] [] forms.Whole room
+none_held room = record { front = []; left = []; text = []; tail = []; parts = refl; whole = refl; written = shortened_none; end = (refl, refl) }
 
 -- nothing goes on
-held_whole : (run : List Part) (held : List ℕ) → IsShortened run held → IsHeld run held forms.Whole
-held_whole run held h = record { front = run; left = []; text = held; tail = []; parts = sym (append-nil run); whole = sym (append-nil held); written = h; end = (refl, refl) }
+held_whole : (run : List Part) (held : List ℕ) (room : ℕ) → IsShortened run held → IsHeld run held forms.Whole room
+held_whole run held room h = record { front = run; left = []; text = held; tail = []; parts = sym (append-nil run); whole = sym (append-nil held); written = h; end = (refl, refl) }
 
-module _ (run front left : List Part) (held text list : List ℕ) (xs : List Action) (parts : run ≡ front ++ left) (whole : held ≡ text ++ 27 ∷ 91 ∷ list) (written : IsShortened front text) where
-  goes_from : (form : TextEnding) → IsTail form list xs → Shortens left (27 ∷ 91 ∷ (list ++ closing form)) → NoneStays left → GoesOnFrom form left (27 ∷ 91 ∷ list)
-  goes_from form tail short free = record { list = list; actions = xs; whole = refl; tail = tail; shorter = short; free = free }
+module _ (run front left : List Part) (held text list : List ℕ) (xs : List Action) (room : ℕ) (parts : run ≡ front ++ left) (whole : held ≡ text ++ 27 ∷ 91 ∷ list) (written : IsShortened front text) (few : LeavesRoom room list) where
+  goes_from : (form : TextEnding) → IsTail form list xs → Shortens left (27 ∷ 91 ∷ (list ++ closing form)) → NoneStays left → GoesOnFrom form room left (27 ∷ 91 ∷ list)
+  goes_from form tail short free = record { list = list; actions = xs; whole = refl; tail = tail; shorter = short; free = free; few = few }
 
-  held_last : Shortens left (27 ∷ 91 ∷ (list ++ [])) → IsHeld run held forms.Last
+  held_last : Shortens left (27 ∷ 91 ∷ (list ++ [])) → IsHeld run held forms.Last room
   held_last short =
       let all : IsShortened (front ++ left) (text ++ 27 ∷ 91 ∷ (list ++ [])) = shortened_on front left text (27 ∷ 91 ∷ (list ++ [])) written (shortened_run left (27 ∷ 91 ∷ (list ++ [])) short) in
       let same : text ++ 27 ∷ 91 ∷ (list ++ []) ≡ held = ap (λ (l : List ℕ). text ++ 27 ∷ 91 ∷ l) (append-nil list) ∙ sym whole in
@@ -163,7 +165,7 @@ module _ (run front left : List Part) (held text list : List ℕ) (xs : List Act
       }
 
   -- a list that is held behind others
-  held_list : (form : TextEnding) → IsTail form list xs → Shortens left (27 ∷ 91 ∷ (list ++ closing form)) → NoneStays left → IsHeld run held form
+  held_list : (form : TextEnding) → IsTail form list xs → Shortens left (27 ∷ 91 ∷ (list ++ closing form)) → NoneStays left → IsHeld run held form room
   held_list forms.Whole tail short free = absurd tail
   held_list forms.Last tail short free = held_last short
   held_list forms.Open tail short free =
@@ -173,15 +175,15 @@ module _ (run front left : List Part) (held text list : List ℕ) (xs : List Act
   held_list forms.Bare tail short free =
       record { front = front; left = left; text = text; tail = 27 ∷ 91 ∷ list; parts = parts; whole = whole; written = written; end = goes_from forms.Bare tail short free }
 
-closed_whole : (run : List Part) (held : List ℕ) (form : TextEnding) → (h : IsHeld run held form) → (h.left ≡ []) × (h.tail ≡ []) → closing form ≡ [] → IsShortened run (held ++ closing form)
-closed_whole run held form h none empty =
+closed_whole : (run : List Part) (held : List ℕ) (form : TextEnding) (room : ℕ) → (h : IsHeld run held form room) → (h.left ≡ []) × (h.tail ≡ []) → closing form ≡ [] → IsShortened run (held ++ closing form)
+closed_whole run held form room h none empty =
     let ps : h.front ≡ run = sym (append-nil h.front) ∙ ap (λ (l : List Part). h.front ++ l) (sym none.0) ∙ sym h.parts in
     let text : h.text ≡ held ++ closing form =
     sym (append-nil h.text) ∙ ap (λ (l : List ℕ). h.text ++ l) (sym none.1) ∙ sym h.whole ∙ sym (append-nil held) ∙ ap (λ (l : List ℕ). held ++ l) (sym empty) in
     subst (λ (l : List ℕ). IsShortened run l) text (subst (λ (l : List Part). IsShortened l h.text) ps h.written)
 
-closed_list : (run : List Part) (held : List ℕ) (form : TextEnding) → (h : IsHeld run held form) → GoesOnFrom form h.left h.tail → IsShortened run (held ++ closing form)
-closed_list run held form h g =
+closed_list : (run : List Part) (held : List ℕ) (form : TextEnding) (room : ℕ) → (h : IsHeld run held form room) → GoesOnFrom form room h.left h.tail → IsShortened run (held ++ closing form)
+closed_list run held form room h g =
     let shut = 27 ∷ 91 ∷ (g.list ++ closing form) in
     let all : IsShortened (h.front ++ h.left) (h.text ++ shut) = shortened_on h.front h.left h.text shut h.written (shortened_run h.left shut g.shorter) in
     let text : h.text ++ shut ≡ held ++ closing form =
@@ -189,35 +191,52 @@ closed_list run held form h g =
     subst (λ (l : List ℕ). IsShortened run l) text (subst (λ (l : List Part). IsShortened l (h.text ++ shut)) (sym h.parts) all)
 
 -- what is held, closed
-pub closed : (run : List Part) (held : List ℕ) (form : TextEnding) → IsHeld run held form → IsShortened run (held ++ closing form)
-closed run held forms.Whole h = closed_whole run held forms.Whole h h.end refl
-closed run held forms.Last h = closed_whole run held forms.Last h h.end refl
-closed run held forms.Open h = closed_list run held forms.Open h h.end
-closed run held forms.Blank h = closed_list run held forms.Blank h h.end
-closed run held forms.Bare h = closed_list run held forms.Bare h h.end
+pub closed : (run : List Part) (held : List ℕ) (form : TextEnding) (room : ℕ) → IsHeld run held form room → IsShortened run (held ++ closing form)
+closed run held forms.Whole room h = closed_whole run held forms.Whole room h h.end refl
+closed run held forms.Last room h = closed_whole run held forms.Last room h h.end refl
+closed run held forms.Open room h = closed_list run held forms.Open room h h.end
+closed run held forms.Blank room h = closed_list run held forms.Blank room h h.end
+closed run held forms.Bare room h = closed_list run held forms.Bare room h h.end
+
+-- what is joined is short
+joint-if : (a b : Bool) (text : List ℕ) → 2 ≤ 255 → length text ≤ 255 → length (cond a (cond b text (59 ∷ 48 ∷ [])) text) ≤ 255
+joint-if true true text two few = few
+joint-if true false text two few = two
+joint-if false b text two few = few
+
+joint_few : (st form : TextEnding) (text : List ℕ) → length text ≤ 255 → length (joint st form text) ≤ 255
+joint_few st form text few = joint-if (is_bare form) (is_open st) text (omega arith) few
+
+closing_few : (form : TextEnding) → length (closing form) ≤ 2
+closing_few forms.Whole = omega arith
+closing_few forms.Last = omega arith
+closing_few forms.Open = omega arith
+closing_few forms.Blank = omega arith
+closing_few forms.Bare = omega arith
 
 one_of : (bytes own : List ℕ) → IsOne bytes → Compacts bytes own → Shortens (part kind.Csi bytes ∷ []) own
 one_of bytes own one h = one_short bytes own one.0 one.1 one.2 h
 
-module _ (run : List Part) (bytes held text : List ℕ) (st : TextEnding) (h : IsHeld run held st) (one : IsOne bytes) where
+module _ (run : List Part) (bytes held text : List ℕ) (st : TextEnding) (room left : ℕ) (h : IsHeld run held st room) (one : IsOne bytes) where
   -- a list begins behind it
-  begun_list : (form : TextEnding) → (n : IsNotedList form bytes text) → IsHeld (run ++ part kind.Csi bytes ∷ []) ((held ++ closing st) ++ 27 ∷ 91 ∷ drop 1 text) form
-  begun_list form n =
+  begun_list : (form : TextEnding) → (n : IsNotedList form bytes text) → (left ≤ 15) × (length text ≤ 255) → IsHeld (run ++ part kind.Csi bytes ∷ []) ((held ++ closing st) ++ 27 ∷ 91 ∷ drop 1 text) form left
+  begun_list form n few =
       let same : 27 ∷ 91 ∷ drop 1 text ≡ 27 ∷ 91 ∷ n.list = ap (λ (l : List ℕ). 27 ∷ 91 ∷ drop 1 l) n.whole in
-      held_list (run ++ part kind.Csi bytes ∷ []) run (part kind.Csi bytes ∷ []) ((held ++ closing st) ++ 27 ∷ 91 ∷ drop 1 text) (held ++ closing st) n.list n.actions refl
-      (ap (λ (l : List ℕ). (held ++ closing st) ++ l) same) (closed run held st h) form n.tail (one_of bytes (27 ∷ 91 ∷ (n.list ++ closing form)) one n.compacts) (n.free, tt)
+      held_list (run ++ part kind.Csi bytes ∷ []) run (part kind.Csi bytes ∷ []) ((held ++ closing st) ++ 27 ∷ 91 ∷ drop 1 text) (held ++ closing st) n.list n.actions left refl
+      (ap (λ (l : List ℕ). (held ++ closing st) ++ l) same) (closed run held st room h) (omega (arith, few.0, few.1, ap length n.whole)) form n.tail (one_of bytes (27 ∷ 91 ∷ (n.list ++ closing form)) one n.compacts) (n.free, tt)
 
   -- a sequence that stands by itself
-  pub begun : (form : TextEnding) → IsNoted form bytes text → IsHeld (run ++ part kind.Csi bytes ∷ []) ((held ++ closing st) ++ opened form text) form
-  begun forms.Whole n =
-      held_whole (run ++ part kind.Csi bytes ∷ []) ((held ++ closing st) ++ text)
-      (shortened_on run (part kind.Csi bytes ∷ []) (held ++ closing st) text (closed run held st h) (shortened_run (part kind.Csi bytes ∷ []) text (one_of bytes text one n)))
-  begun form n = begun_list form n
+  pub begun : (form : TextEnding) → IsNoted form bytes text → (is_joined form ≡ true → (left ≤ 15) × (length text ≤ 255))
+      → IsHeld (run ++ part kind.Csi bytes ∷ []) ((held ++ closing st) ++ opened form text) form left
+  begun forms.Whole n few =
+      held_whole (run ++ part kind.Csi bytes ∷ []) ((held ++ closing st) ++ text) left
+      (shortened_on run (part kind.Csi bytes ∷ []) (held ++ closing st) text (closed run held st room h) (shortened_run (part kind.Csi bytes ∷ []) text (one_of bytes text one n)))
+  begun form n few = begun_list form n (few refl)
 
   -- a list in the same sequence
-  list_joined : (form : TextEnding) → (n : IsNotedList form bytes text) → GoesOnFrom st h.left h.tail → may_join st form text ≡ true
-      → IsHeld (run ++ part kind.Csi bytes ∷ []) (held ++ joint st form text) (behind st form)
-  list_joined form n g may =
+  list_joined : (form : TextEnding) → (n : IsNotedList form bytes text) → GoesOnFrom st room h.left h.tail → may_join st form text ≡ true → (left + 1 ≤ room) × (length text ≤ 255)
+      → IsHeld (run ++ part kind.Csi bytes ∷ []) (held ++ joint st form text) (behind st form) left
+  list_joined form n g may few =
       let p = part kind.Csi bytes ∷ [] in
       let may' : may_join st form (59 ∷ n.list) ≡ true = subst (λ (l : List ℕ). may_join st form l ≡ true) n.whole may in
       let list = g.list ++ joint st form (59 ∷ n.list) in
@@ -229,26 +248,32 @@ module _ (run : List Part) (bytes held text : List ℕ) (st : TextEnding) (h : I
       decodes-append first second false g.actions n.actions (tail_decodes st g.list g.actions g.tail) (tail_decodes form n.list n.actions n.tail) in
       let alike : ReadsAlike (first ++ second) all =
       λ actions d. subst (Decodes all false) (one_decoding (first ++ second) false (g.actions ++ n.actions) actions apart d) (tail_decodes (behind st form) list (g.actions ++ n.actions) tail) in
-      let short = joined_short h.left p first second all g.shorter (one_of bytes second one n.compacts) g.free (n.free, tt) (joint_short st form g.list n.list may') alike in
+      let longer : length list ≡ length g.list + length (joint st form (59 ∷ n.list)) = length-append g.list (joint st form (59 ∷ n.list)) in
+      let more : length (joint st form (59 ∷ n.list)) ≤ 255 = joint_few st form (59 ∷ n.list) (subst (λ (l : List ℕ). length l ≤ 255) n.whole few.1) in
+      let leaves : LeavesRoom left list = omega (arith, g.few, longer, more, few.0) in
+      let within : length all ≤ most_joined = omega (arith, leaves, closing_few (behind st form), length-append list (closing (behind st form))) in
+      let short = joined_short h.left p first second all g.shorter (one_of bytes second one n.compacts) g.free (n.free, tt) (joint_short st form g.list n.list may') alike within in
       let text' : held ++ joint st form text ≡ h.text ++ 27 ∷ 91 ∷ list =
       ap (λ (l : List ℕ). held ++ joint st form l) n.whole
       ∙ ap (λ (l : List ℕ). l ++ joint st form (59 ∷ n.list)) (h.whole ∙ ap (λ (l : List ℕ). h.text ++ l) g.whole) ∙ append_assoc h.text (27 ∷ 91 ∷ g.list) (joint st form (59 ∷ n.list)) in
-      held_list (run ++ p) h.front (h.left ++ p) (held ++ joint st form text) h.text list (g.actions ++ n.actions)
-      (ap (λ (l : List Part). l ++ p) h.parts ∙ append_assoc h.front h.left p) text' h.written
+      held_list (run ++ p) h.front (h.left ++ p) (held ++ joint st form text) h.text list (g.actions ++ n.actions) left
+      (ap (λ (l : List Part). l ++ p) h.parts ∙ append_assoc h.front h.left p) text' h.written leaves
       (behind st form) tail short (all_on (λ (q : Part). ¬ IsStaying q.bytes) h.left p g.free (n.free, tt))
 
-  joined_by : (form : TextEnding) → IsNoted form bytes text → GoesOnFrom st h.left h.tail → may_join st form text ≡ true → (is_joined form ≡ false → may_join st form text ≡ false)
-      → IsHeld (run ++ part kind.Csi bytes ∷ []) (held ++ joint st form text) (behind st form)
-  joined_by forms.Whole n g may none = absurd (true≢false (sym may ∙ none refl))
-  joined_by form n g may none = list_joined form n g may
+  joined_by : (form : TextEnding) → IsNoted form bytes text → GoesOnFrom st room h.left h.tail → may_join st form text ≡ true → (is_joined form ≡ false → may_join st form text ≡ false)
+      → (is_joined form ≡ true → (left + 1 ≤ room) × (length text ≤ 255))
+      → IsHeld (run ++ part kind.Csi bytes ∷ []) (held ++ joint st form text) (behind st form) left
+  joined_by forms.Whole n g may none few = absurd (true≢false (sym may ∙ none refl))
+  joined_by form n g may none few = list_joined form n g may (few refl)
 
-pub joined : (run : List Part) (bytes held text : List ℕ) (st form : TextEnding) → IsHeld run held st → IsOne bytes → IsNoted form bytes text → may_join st form text ≡ true
-    → IsHeld (run ++ part kind.Csi bytes ∷ []) (held ++ joint st form text) (behind st form)
-joined run bytes held text forms.Whole form h one n may = absurd (true≢false (sym may))
-joined run bytes held text forms.Last form h one n may = absurd (true≢false (sym may))
-joined run bytes held text forms.Open form h one n may = joined_by run bytes held text forms.Open h one form n h.end may (λ e. e)
-joined run bytes held text forms.Blank form h one n may = joined_by run bytes held text forms.Blank h one form n h.end may (λ e. ap (λ (b : Bool). b && not (is_semicolon (slice_get text 1))) e)
-joined run bytes held text forms.Bare form h one n may = joined_by run bytes held text forms.Bare h one form n h.end may (λ e. ap (λ (b : Bool). b && not (is_semicolon (slice_get text 1))) e)
+pub joined : (run : List Part) (bytes held text : List ℕ) (st form : TextEnding) (room left : ℕ) → IsHeld run held st room → IsOne bytes → IsNoted form bytes text → may_join st form text ≡ true
+    → (is_joined form ≡ true → (left + 1 ≤ room) × (length text ≤ 255))
+    → IsHeld (run ++ part kind.Csi bytes ∷ []) (held ++ joint st form text) (behind st form) left
+joined run bytes held text forms.Whole form room left h one n may few = absurd (true≢false (sym may))
+joined run bytes held text forms.Last form room left h one n may few = absurd (true≢false (sym may))
+joined run bytes held text forms.Open form room left h one n may few = joined_by run bytes held text forms.Open room left h one form n h.end may (λ e. e) few
+joined run bytes held text forms.Blank form room left h one n may few = joined_by run bytes held text forms.Blank room left h one form n h.end may (λ e. ap (λ (b : Bool). b && not (is_semicolon (slice_get text 1))) e) few
+joined run bytes held text forms.Bare form room left h one n may few = joined_by run bytes held text forms.Bare room left h one form n h.end may (λ e. ap (λ (b : Bool). b && not (is_semicolon (slice_get text 1))) e) few
 
 -- what is noted of a sequence
 pub noted : (bytes text : List ℕ) (form : TextEnding) → ¬ IsStaying bytes → Compacts bytes text → IsListed form text → IsNotedList form bytes (59 ∷ list_of form text)
@@ -267,27 +292,45 @@ noted bytes text form free made h =
 listed_long : (form : TextEnding) (text : List ℕ) → IsListed form text → 2 + length (closing form) ≤ length text
 listed_long form text h = omega (arith, ap length h.whole, length-append h.bytes (closing form))
 
+-- and not too long
+list_short : (form : TextEnding) (text : List ℕ) → 2 + length (closing form) ≤ length text → length text ≤ 256 → length (59 ∷ list_of form text) ≤ 255
+list_short form text long few =
+    let behind : length (drop 2 text) ≡ length text - 2 = length-drop 2 text in
+    let taken : length (list_of form text) ≡ length (drop 2 text) - length (closing form) = length-take-le (length (drop 2 text) - length (closing form)) (drop 2 text) (omega arith) in
+    omega (arith, behind, taken, long, few)
+
 -- a text that is a list is long enough
 pub own_long : (form : TextEnding) (text : List ℕ) → IsOwn form text → is_joined form ≡ true → 2 + length (closing form) ≤ length text
 own_long forms.Whole text own is = absurd (true≢false (sym is))
 own_long form text own is = listed_long form text own
 
 pub note_of : (bytes text note : List ℕ) (form : TextEnding) → IsOne bytes → Compacts bytes text → IsOwn form text → (is_joined form ≡ true → ¬ IsStaying bytes)
+    → (is_joined form ≡ true → length text ≤ 256)
     → (is_joined form ≡ false → (mark : ℕ) × (count : ℕ) × (form_of mark ≡ form) × (note ≡ mark ∷ count ∷ text))
-    → (is_joined form ≡ true → (mark : ℕ) × (count : ℕ) × (form_of mark ≡ form) × (note ≡ mark ∷ count ∷ 59 ∷ list_of form text)) → IsNote bytes note
-note_of bytes text note form one made own free whole list = by_form form own free whole list
+    → (is_joined form ≡ true → (mark : ℕ) × (count : ℕ) × (form_of mark ≡ form) × (1 ≤ count) × (note ≡ mark ∷ count ∷ 59 ∷ list_of form text)) → IsNote bytes note
+note_of bytes text note form one made own free few whole list = by_form form own free few whole list
   where
-    by_list : (form : TextEnding) → IsNoted form bytes (59 ∷ list_of form text) → (mark : ℕ) × (count : ℕ) × (form_of mark ≡ form) × (note ≡ mark ∷ count ∷ 59 ∷ list_of form text) → IsNote bytes note
-    by_list form n (mark, count, is, e) = (mark, count, 59 ∷ list_of form text, e, one, subst (λ (f : TextEnding). IsNoted f bytes (59 ∷ list_of form text)) (sym is) n)
+    by_list : (form : TextEnding) → IsNoted form bytes (59 ∷ list_of form text) → 2 + length (closing form) ≤ length text → length text ≤ 256
+        → (mark : ℕ) × (count : ℕ) × (form_of mark ≡ form) × (1 ≤ count) × (note ≡ mark ∷ count ∷ 59 ∷ list_of form text) → IsNote bytes note
+    by_list form n long few (mark, count, is, some, e) =
+        (mark, count, 59 ∷ list_of form text, e, one, subst (λ (f : TextEnding). IsNoted f bytes (59 ∷ list_of form text)) (sym is) n, λ _. (some, list_short form text long few))
 
     by_whole : (mark : ℕ) × (count : ℕ) × (form_of mark ≡ forms.Whole) × (note ≡ mark ∷ count ∷ text) → IsNote bytes note
-    by_whole (mark, count, is, e) = (mark, count, text, e, one, subst (λ (f : TextEnding). IsNoted f bytes text) (sym is) made)
+    by_whole (mark, count, is, e) = (
+      mark,
+      count,
+      text,
+      e,
+      one,
+      subst (λ (f : TextEnding). IsNoted f bytes text) (sym is) made,
+      λ joined. absurd (true≢false (sym joined ∙ ap is_joined is)),
+    )
 
-    by_form : (form : TextEnding) → IsOwn form text → (is_joined form ≡ true → ¬ IsStaying bytes)
+    by_form : (form : TextEnding) → IsOwn form text → (is_joined form ≡ true → ¬ IsStaying bytes) → (is_joined form ≡ true → length text ≤ 256)
         → (is_joined form ≡ false → (mark : ℕ) × (count : ℕ) × (form_of mark ≡ form) × (note ≡ mark ∷ count ∷ text))
-        → (is_joined form ≡ true → (mark : ℕ) × (count : ℕ) × (form_of mark ≡ form) × (note ≡ mark ∷ count ∷ 59 ∷ list_of form text)) → IsNote bytes note
-    by_form forms.Whole own free whole list = by_whole (whole refl)
-    by_form form own free whole list = by_list form (noted bytes text form (free refl) made own) (list refl)
+        → (is_joined form ≡ true → (mark : ℕ) × (count : ℕ) × (form_of mark ≡ form) × (1 ≤ count) × (note ≡ mark ∷ count ∷ 59 ∷ list_of form text)) → IsNote bytes note
+    by_form forms.Whole own free few whole list = by_whole (whole refl)
+    by_form form own free few whole list = by_list form (noted bytes text form (free refl) made own) (listed_long form text own) (few refl) (list refl)
 
 pub note_long : (bytes note : List ℕ) → IsNote bytes note → 2 ≤ length note
 note_long bytes note n = omega (arith, ap length n.3)
@@ -295,9 +338,11 @@ note_long bytes note n = omega (arith, ap length n.3)
 -- ---- what is written for more parts
 
 -- a text that stands by itself
-pub extends_one : (st form : TextEnding) (bytes text : List ℕ) → IsOne bytes → IsNoted form bytes text → Extends st (part kind.Csi bytes ∷ []) (closing st ++ opened form text) form
-extends_one st form bytes text one n run before h =
-    subst (λ (l : List ℕ). IsHeld (run ++ part kind.Csi bytes ∷ []) l form) (append_assoc before (closing st) (opened form text)) (begun run bytes before text st h one form n)
+pub extends_one : (st form : TextEnding) (room left count : ℕ) (bytes text : List ℕ) → IsOne bytes → IsNoted form bytes text → HasFew form count text → left ≤ 16 - count
+    → Extends st room (part kind.Csi bytes ∷ []) (closing st ++ opened form text) form left
+extends_one st form room left count bytes text one n few leaves run before h =
+    subst (λ (l : List ℕ). IsHeld (run ++ part kind.Csi bytes ∷ []) l form left) (append_assoc before (closing st) (opened form text))
+    (begun run bytes before text st room left h one form n (λ joined. (omega (arith, (few joined).0, leaves), (few joined).1)))
 
 -- a sequence can be written as it came
 pub as_it_came : (bytes : List ℕ) → Compacts bytes bytes
@@ -307,29 +352,30 @@ pub shortened_one : (bytes : List ℕ) → IsOne bytes → IsShortened (part kin
 shortened_one bytes one = shortened_run (part kind.Csi bytes ∷ []) bytes (one_of bytes bytes one (as_it_came bytes))
 
 -- one in the same list
-pub extends_joined : (st form : TextEnding) (bytes text : List ℕ) → IsOne bytes → IsNoted form bytes text → may_join st form text ≡ true
-    → Extends st (part kind.Csi bytes ∷ []) (joint st form text) (behind st form)
-extends_joined st form bytes text one n may run before h = joined run bytes before text st form h one n may
+pub extends_joined : (st form : TextEnding) (room left count : ℕ) (bytes text : List ℕ) → IsOne bytes → IsNoted form bytes text → may_join st form text ≡ true → HasFew form count text
+    → left + count ≤ room → Extends st room (part kind.Csi bytes ∷ []) (joint st form text) (behind st form) left
+extends_joined st form room left count bytes text one n may few leaves run before h =
+    joined run bytes before text st form room left h one n may (λ is. (omega (arith, (few is).0, leaves), (few is).1))
 
 -- what stands as it came
-pub extends_own : (st : TextEnding) (bytes : List ℕ) (parts : List Part) → IsShortened parts bytes → Extends st parts (closing st ++ bytes) forms.Whole
-extends_own st bytes parts short run before h =
-    subst (λ (l : List ℕ). IsHeld (run ++ parts) l forms.Whole) (append_assoc before (closing st) bytes)
-    (held_whole (run ++ parts) ((before ++ closing st) ++ bytes) (shortened_on run parts (before ++ closing st) bytes (closed run before st h) short))
+pub extends_own : (st : TextEnding) (room left : ℕ) (bytes : List ℕ) (parts : List Part) → IsShortened parts bytes → Extends st room parts (closing st ++ bytes) forms.Whole left
+extends_own st room left bytes parts short run before h =
+    subst (λ (l : List ℕ). IsHeld (run ++ parts) l forms.Whole left) (append_assoc before (closing st) bytes)
+    (held_whole (run ++ parts) ((before ++ closing st) ++ bytes) left (shortened_on run parts (before ++ closing st) bytes (closed run before st room h) short))
 
 -- no more parts, where the list is closed
-pub extends_close : (st : TextEnding) → Extends st [] (closing st) forms.Whole
-extends_close st run before h = rw (append-nil run) (held_whole run (before ++ closing st) (closed run before st h))
+pub extends_close : (st : TextEnding) (room left : ℕ) → Extends st room [] (closing st) forms.Whole left
+extends_close st room left run before h = rw (append-nil run) (held_whole run (before ++ closing st) left (closed run before st room h))
 
 -- ---- the front of a piece
 
 -- by the states of what writes
-pub adds : (old new : Shortener) (parts : List Part) (before after : List ℕ) → GoesOnBy old.written.form parts before after new.written.form → Adds Holds old parts before after new
+pub adds : (old new : Shortener) (parts : List Part) (before after : List ℕ) → GoesOnBy old.written.form old.written.room parts before after new.written.form new.written.room → Adds Holds old parts before after new
 adds old new parts before after (text, is, goes) = (text, (λ first run held h. goes run held h), is)
 
 -- text, or an escape sequence
 pub front_plain : (limit n : ℕ) (bytes : List ℕ) (old new : Shortener) (before after : List ℕ) → IsPlainFront bytes n
-    → ((parts : List Part) → IsShortened parts (take n bytes) → GoesOnBy old.written.form parts before after new.written.form)
+    → ((parts : List Part) → IsShortened parts (take n bytes) → GoesOnBy old.written.form old.written.room parts before after new.written.form new.written.room)
     → Appends Holds (open_at old limit mode.Text bytes) before after (open_at new limit mode.Text (drop n bytes))
 front_plain limit n bytes old new before after (k, other, cuts) goes =
     let found = cuts limit in
@@ -338,7 +384,7 @@ front_plain limit n bytes old new before after (k, other, cuts) goes =
 
 -- a sequence that is known
 pub front_known : (limit len : ℕ) (bytes : List ℕ) (old new : Shortener) (before after : List ℕ) → IsOne (take len bytes) → len ≤ limit → len ≤ length bytes
-    → GoesOnBy old.written.form (part kind.Csi (take len bytes) ∷ []) before after new.written.form
+    → GoesOnBy old.written.form old.written.room (part kind.Csi (take len bytes) ∷ []) before after new.written.form new.written.room
     → Appends Holds (open_at old limit mode.Text bytes) before after (open_at new limit mode.Text (drop len bytes))
 front_known limit len bytes old new before after one short within goes =
     let p = part kind.Csi (take len bytes) ∷ [] in
@@ -347,18 +393,18 @@ front_known limit len bytes old new before after one short within goes =
 -- ---- a stream
 
 -- what is held, where nothing goes on
-over : (run : List Part) (held : List ℕ) (form : TextEnding) → IsHeld run held form → form ≡ forms.Whole → IsShortened run held
-over run held form h whole = rw (append-nil held) at (closed run held forms.Whole (rw whole at h))
+over : (run : List Part) (held : List ℕ) (form : TextEnding) (room : ℕ) → IsHeld run held form room → form ≡ forms.Whole → IsShortened run held
+over run held form room h whole = rw (append-nil held) at (closed run held forms.Whole room (rw whole at h))
 
 -- what has passed at the end of a push, where the list is over
 pub passes_over : (old mid : Held Shortener) (new : Shortener) (before between after : List ℕ) → old.rewrite.written.form ≡ forms.Whole → Appends Holds old before between mid
     → IsUnsure old.limit mid.mode mid.bytes → Adds Holds mid.rewrite [] between after new → new.written.form ≡ forms.Whole
     → (text : List ℕ) × PassesShort old.limit old.mode old.bytes text mid.bytes mid.mode × (after ≡ before ++ text)
 passes_over old mid new before between after whole (text, x, is) unsure (more, goes, end) rests =
-    let held : IsHeld x.parts text mid.rewrite.written.form = x.goes old.rewrite [] [] (rw whole none_held) in
-    let all : IsHeld x.parts (text ++ more) new.written.form = rw (append-nil x.parts) at (goes old.rewrite x.parts text held) in (
+    let held : IsHeld x.parts text mid.rewrite.written.form mid.rewrite.written.room = x.goes old.rewrite [] [] (rw whole (none_held old.rewrite.written.room)) in
+    let all : IsHeld x.parts (text ++ more) new.written.form new.written.room = rw (append-nil x.parts) at (goes old.rewrite x.parts text held) in (
       text ++ more,
-      record { parts = x.parts; first = x.first; unsure = unsure; written = over x.parts (text ++ more) new.written.form all rests },
+      record { parts = x.parts; first = x.first; unsure = unsure; written = over x.parts (text ++ more) new.written.form new.written.room all rests },
       end ∙ ap (λ (l : List ℕ). l ++ more) is ∙ append_assoc before text more,
     )
 
@@ -373,11 +419,11 @@ module _ (first : Held Shortener) where
   -- what passed, where nothing goes on
   pub since_rests : (last : Held Shortener) (bytes text : List ℕ) → Since Holds first bytes text last → Rested last.rewrite → PassesShort first.limit mode.Text bytes text last.bytes last.mode
   since_rests last bytes text since rests =
-      record { parts = since.parts; first = since.cut; unsure = since.unsure; written = over since.parts text last.rewrite.written.form since.written rests }
+      record { parts = since.parts; first = since.cut; unsure = since.unsure; written = over since.parts text last.rewrite.written.form last.rewrite.written.room since.written rests }
 
   -- all bytes, and what was held
   pub compacted : (bytes text : List ℕ) → Transforms (Since Holds) (Leaves Holds Rested) first bytes text → CompactsAll first.limit mode.Text bytes text
-  compacted bytes text = made IsShortened shortened_on shortened_left Holds Rested first bytes text (λ parts own last h rests. over parts own last.written.form h rests)
+  compacted bytes text = made IsShortened shortened_on shortened_left Holds Rested first bytes text (λ parts own last h rests. over parts own last.written.form last.written.room h rests)
 
   -- what went out is a front of what is made of the bytes
   pub begun_compacts : (AreAll : Type 0) (bytes sent : List ℕ) → BeginsWith (Sends (Since Holds) first) (Transforms (Since Holds) (Leaves Holds Rested) first) AreAll bytes sent
@@ -387,7 +433,7 @@ module _ (first : Held Shortener) where
       let (last, since) = k in
       let close = closing last.rewrite.written.form in
       let passed : PassesShort first.limit mode.Text bytes ((sent ++ unsent) ++ close) last.bytes last.mode =
-      record { parts = since.parts; first = since.cut; unsure = since.unsure; written = closed since.parts (sent ++ unsent) last.rewrite.written.form since.written } in
+      record { parts = since.parts; first = since.cut; unsure = since.unsure; written = closed since.parts (sent ++ unsent) last.rewrite.written.form last.rewrite.written.room since.written } in
       let same : ((sent ++ unsent) ++ close) ++ last.bytes ≡ sent ++ (unsent ++ (close ++ last.bytes)) =
       append_assoc (sent ++ unsent) close last.bytes ∙ append_assoc sent unsent (close ++ last.bytes) in
       (unsent ++ (close ++ last.bytes), rw same at (compacts_all first.limit mode.Text last.mode bytes ((sent ++ unsent) ++ close) last.bytes passed)))

@@ -45,9 +45,9 @@ color_seq plane color o = record {
 }
 
 -- the note of a colour in front
-pub color_note : (bytes rest wide : List ℕ) (sgr : Sgr) (count len : ℕ) → IsColored bytes sgr rest → len ≡ length bytes - length rest
+pub color_note : (bytes rest wide : List ℕ) (sgr : Sgr) (count len : ℕ) → 1 ≤ count → IsColored bytes sgr rest → len ≡ length bytes - length rest
     → (mark : ℕ) × (form_of mark ≡ forms.Open) × (wide ≡ mark ∷ count ∷ 59 ∷ take 29 (drop 2 bytes)) → IsNote (take len bytes) (take len wide)
-color_note bytes rest wide sgr count len (plane, color, o, is, e) long (mark, form, same) =
+color_note bytes rest wide sgr count len some (plane, color, o, is, e) long (mark, form, same) =
     let list : List ℕ = list_text plane color in
     let own : List ℕ = 27 ∷ 91 ∷ (list ++ 109 ∷ []) in
     let begins : bytes ≡ own ++ rest = e ∙ ap (λ (l : List ℕ). 27 ∷ 91 ∷ l) (sym (append_assoc list (109 ∷ []) rest)) in
@@ -72,5 +72,6 @@ color_note bytes rest wide sgr count len (plane, color, o, is, e) long (mark, fo
     ap (λ (n : ℕ). take n (list ++ 109 ∷ [])) less ∙ take-append_seam list (109 ∷ []) in
     subst (λ (l : List ℕ). IsNote l (take len wide)) (sym front)
     (note_of own own (take len wide) forms.Open (listed plane color, 109, seq) (as_it_came own) is_listed
-    (λ _. free_by own (listed plane color) 109 seq (color_free plane color o)) (λ none. absurd (true≢false none))
-    (λ _. (mark, count, form, noted ∙ ap (λ (l : List ℕ). mark ∷ count ∷ 59 ∷ l) (sym whole))))
+    (λ _. free_by own (listed plane color) 109 seq (color_free plane color o)) (λ _. omega (arith, few, length-append list (109 ∷ [])))
+    (λ none. absurd (true≢false none))
+    (λ _. (mark, count, form, some, noted ∙ ap (λ (l : List ℕ). mark ∷ count ∷ 59 ∷ l) (sym whole))))

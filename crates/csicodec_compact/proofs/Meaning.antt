@@ -1,17 +1,69 @@
 -- What `compact` writes, cut as a stream once more.
-use Rattle.std.proofs.Common.{◌≡◌, ℕ, ◌<◌, ◌≤◌, List, [], ◌∷◌, ◌++◌, length, sym, ap, ◌∙◌, append_assoc, inl, inr, arith}
+use Rattle.std.proofs.Common.{◌≡◌, ℕ, ◌<◌, ◌≤◌, ◌⊎◌, List, [], ◌∷◌, ◌++◌, length, sym, ap, subst, ◌∙◌, append-nil, inl, inr, arith}
 use Rattle.std.proofs.lemmas.Grind.{flat_map-append}
 use Rattle.std.proofs.lemmas.List.{length-append}
-use Rattle.std.specs.List.{flat_map}
+use Rattle.std.specs.List.{AllByRecursion, flat_map}
+use Rattle.csicodec_spans.specs.declared.table.Kind.{Kind}
+use Rattle.csicodec_spans.specs.declared.table.Kind.TheVariants as kind
 use Rattle.csicodec_spans.specs.declared.table.Mode.{Mode}
-use Rattle.csicodec_spans.specs.Parts.{Part, bytes_of, IsWhole}
+use Rattle.csicodec_spans.specs.Table.{ahead}
+use Rattle.csicodec_spans.specs.Parts.{Part, Allows, AreFirstParts, IsWhole, bytes_of, left_over}
+use Rattle.csicodec_spans.proofs.Agrees.{sound}
+use Rattle.csicodec_spans.proofs.Missed.{allows_whole}
 use Rattle.csicodec_spans.proofs.Spanned.{whole_joined}
 use Rattle.csicodec_filter.proofs.Meaning.{AreMeant, again}
-use Rattle.csicodec_compact.specs.Runs.{AreRuns, IsRun, CompactsAll}
-use Rattle.csicodec_compact.specs.Meaning.{HasAgain, HasShortRows}
+use Rattle.csicodec_compact.specs.Runs.{AreRuns, IsRun, Shortens, CompactsAll, most_joined}
+use Rattle.csicodec_compact.specs.Meaning.{HasAgain}
+use Rattle.csicodec_compact.proofs.Beside.{all_on}
 
--- what is written for a run is no longer than its row
-are_meant : (limit : ℕ) (runs : List (List Part)) (parts : List Part) (text : List ℕ) → HasShortRows limit parts → AreRuns runs parts text → AreMeant limit runs parts text
+-- ---- a control sequence of the stream has no more than `limit` bytes
+
+abbrev IsWithin : ℕ → Part → Type 0
+IsWithin limit p = p.kind ≡ kind.Csi → length p.bytes ≤ limit
+
+firsts_within : (limit : ℕ) (m a : Mode) (bytes rest : List ℕ) (parts : List Part) → AreFirstParts limit m bytes parts rest a → AllByRecursion (IsWithin limit) parts
+firsts_within limit m a bytes rest [] first = tt
+firsts_within limit m a bytes rest (p ∷ parts) (behind, mid, first, others) = (
+  λ e. (allows_whole (ahead m bytes) limit m bytes p.bytes mid (sound m bytes) (subst (λ (k : Kind). Allows (ahead m bytes) limit bytes k p.bytes mid) e first.1)).1,
+  firsts_within limit mid a behind rest parts others,
+)
+
+left_within : (limit : ℕ) (rest : List ℕ) → AllByRecursion (IsWithin limit) (left_over rest)
+left_within limit [] = tt
+left_within limit (b ∷ rest) = ((λ e. absurd cc), tt)
+
+whole_within : (limit : ℕ) (m : Mode) (bytes : List ℕ) (parts : List Part) → IsWhole limit m bytes parts → AllByRecursion (IsWithin limit) parts
+whole_within limit m bytes parts w =
+    subst (AllByRecursion (IsWithin limit)) (sym w.whole)
+    (all_on (IsWithin limit) w.sure (left_over w.rest) (firsts_within limit m w.after bytes w.rest w.sure w.first) (left_within limit w.rest))
+
+all_parts : (P : Part → Type 0) (ps qs : List Part) → AllByRecursion P (ps ++ qs) → AllByRecursion P ps × AllByRecursion P qs
+all_parts P [] qs h = (tt, h)
+all_parts P (p ∷ ps) qs h = let others = all_parts P ps qs h.1 in ((h.0, others.0), others.1)
+
+-- ---- nor has what is written for some
+
+run_short : (run : List Part) (text : List ℕ) → IsRun run text → length text ≤ length (flat_map bytes_of run)
+run_short run text (inl h) = h.short
+run_short run text (inr h) = rw (h.1, h.3) (omega (arith, length-append h.0.bytes []))
+
+one_within : (limit : ℕ) (run : List Part) (text : List ℕ) (p : Part) → run ≡ p ∷ [] → AllByRecursion (IsWithin limit) run → Shortens run text → length text ≤ limit
+one_within limit run text p e within h =
+    let own : length p.bytes ≤ limit = (subst (AllByRecursion (IsWithin limit)) e within).0 (subst (AllByRecursion (λ (q : Part). q.kind ≡ kind.Csi)) e h.all).0 in
+    let all : flat_map bytes_of run ≡ p.bytes = ap (flat_map bytes_of) e ∙ append-nil p.bytes in
+    omega (arith, h.short, ap length all, own)
+
+run_within : (limit : ℕ) (run : List Part) (text : List ℕ) → most_joined ≤ limit → AllByRecursion (IsWithin limit) run → Shortens run text → length text ≤ limit
+run_within limit run text most within h = elim h.within [
+  | inl few ↦ omega (arith, few, most)
+  | inr (p, e) ↦ one_within limit run text p e within h
+]
+
+-- where each run has a text of at most `limit` bytes
+abbrev AreShort : ℕ → List (List Part) → List Part → List ℕ → Type 0
+AreShort limit runs parts text = (most_joined ≤ limit) × AllByRecursion (IsWithin limit) parts ⊎ (length text ≤ limit)
+
+are_meant : (limit : ℕ) (runs : List (List Part)) (parts : List Part) (text : List ℕ) → AreShort limit runs parts text → AreRuns runs parts text → AreMeant limit runs parts text
 are_meant limit [] parts text short r = r
 are_meant limit (run ∷ runs) parts text short r =
     let (behind, first, later, parts_are, text_is, own, others) = r in (
@@ -21,16 +73,21 @@ are_meant limit (run ∷ runs) parts text short r =
       parts_are,
       text_is,
       elim own [
-        | inl h ↦ inl (record { all = h.all; actions = h.actions; came = h.came; written = h.written }, omega (arith, h.short, short [] run behind parts_are h.all))
+        | inl h ↦ inl (record { all = h.all; actions = h.actions; came = h.came; written = h.written }, first_short run behind first later h parts_are text_is short)
         | inr h ↦ inr h
       ],
-      are_meant limit runs behind later
-          (λ before row rest e all. short (run ++ before) row rest (parts_are ∙ ap (λ (ps : List Part). run ++ ps) e ∙ sym (append_assoc run before (row ++ rest))) all) others,
+      are_meant limit runs behind later (later_short run behind first later parts_are text_is short) others,
     )
+  where
+    first_short : (run behind : List Part) (first later : List ℕ) → Shortens run first → parts ≡ run ++ behind → text ≡ first ++ later → AreShort limit (run ∷ runs) parts text → length first ≤ limit
+    first_short run behind first later h e is (inl (most, within)) =
+        run_within limit run first most (all_parts (IsWithin limit) run behind (subst (AllByRecursion (IsWithin limit)) e within)).0 h
+    first_short run behind first later h e is (inr few) = omega (arith, few, ap length is, length-append first later)
 
-run_short : (run : List Part) (text : List ℕ) → IsRun run text → length text ≤ length (flat_map bytes_of run)
-run_short run text (inl h) = h.short
-run_short run text (inr h) = rw (h.1, h.3) (omega (arith, length-append h.0.bytes []))
+    later_short : (run behind : List Part) (first later : List ℕ) → parts ≡ run ++ behind → text ≡ first ++ later → AreShort limit (run ∷ runs) parts text → AreShort limit runs behind later
+    later_short run behind first later e is (inl (most, within)) =
+        inl (most, (all_parts (IsWithin limit) run behind (subst (AllByRecursion (IsWithin limit)) e within)).1)
+    later_short run behind first later e is (inr few) = inr (omega (arith, few, ap length is, length-append first later))
 
 runs_short : (runs : List (List Part)) (parts : List Part) (text : List ℕ) → AreRuns runs parts text → length text ≤ length (flat_map bytes_of parts)
 runs_short [] parts text r = rw (r.0, r.1) (omega arith)
@@ -44,21 +101,15 @@ pub no_longer : (limit : ℕ) (m : Mode) (bytes text : List ℕ) → CompactsAll
 no_longer limit m bytes text c =
     omega (arith, runs_short c.written.0 c.parts text c.written.1, ap length (whole_joined limit m bytes c.parts c.whole))
 
-pub has_again : (limit : ℕ) (m : Mode) (bytes text : List ℕ) (c : CompactsAll limit m bytes text) → 0 < limit → HasShortRows limit c.parts → HasAgain c
+-- ---- so it is cut again
+
+has_again : (limit : ℕ) (m : Mode) (bytes text : List ℕ) (c : CompactsAll limit m bytes text) → 0 < limit → AreShort limit c.written.0 c.parts text → HasAgain c
 has_again limit m bytes text c l short =
     let a = again limit c.written.0 m bytes text c.parts l c.whole (are_meant limit c.written.0 c.parts text short c.written.1) in
     record { others = a.others; whole = a.whole; placed = a.placed }
 
--- ---- a stream that is short enough
+pub again_whole : (limit : ℕ) (m : Mode) (bytes text : List ℕ) (c : CompactsAll limit m bytes text) → most_joined ≤ limit → HasAgain c
+again_whole limit m bytes text c most = has_again limit m bytes text c (omega (arith, most)) (inl (most, whole_within limit m bytes c.parts c.whole))
 
-pub rows_short : (limit : ℕ) (m : Mode) (bytes : List ℕ) (parts : List Part) → IsWhole limit m bytes parts → length bytes ≤ limit → HasShortRows limit parts
-rows_short limit m bytes parts w within before row behind e all =
-    let own = flat_map bytes_of row in
-    let front = flat_map bytes_of before in
-    let rest = flat_map bytes_of behind in
-    let is : flat_map bytes_of parts ≡ front ++ (own ++ rest) =
-    ap (λ (ps : List Part). flat_map bytes_of ps) e ∙ flat_map-append bytes_of before (row ++ behind) ∙ ap (λ (t : List ℕ). front ++ t) (flat_map-append bytes_of row behind) in
-    omega (arith, within, ap length (whole_joined limit m bytes parts w), ap length is, length-append front (own ++ rest), length-append own rest)
-
-pub again_alone : (limit : ℕ) (m : Mode) (bytes text : List ℕ) (c : CompactsAll limit m bytes text) → 0 < limit → length bytes ≤ limit → HasAgain c
-again_alone limit m bytes text c l within = has_again limit m bytes text c l (rows_short limit m bytes c.parts c.whole within)
+pub again_alone : (limit : ℕ) (m : Mode) (bytes text : List ℕ) (c : CompactsAll limit m bytes text) → 0 < limit → length text ≤ limit → HasAgain c
+again_alone limit m bytes text c l few = has_again limit m bytes text c l (inr few)

@@ -19,6 +19,10 @@ IsStaying bytes = (list : List CsiParam) × (final : ℕ) × Seq bytes list fina
 abbrev pub NoneStays : List Part → Type 0
 NoneStays run = AllByRecursion (λ (p : Part). ¬ IsStaying p.bytes) run
 
+-- the most bytes of one sequence in the place of several
+abbrev pub most_joined : ℕ
+most_joined = 4096
+
 -- Control sequences side by side, and a text in their place: it is read as exactly their actions, in order, and is no longer. One that stays
 -- stands alone, as it came.
 pub record Shortens (run : List Part) (text : List ℕ) : Type 0 where
@@ -27,6 +31,7 @@ pub record Shortens (run : List Part) (text : List ℕ) : Type 0 where
   pub came : Decodes (flat_map bytes_of run) false actions
   pub written : Decodes text false actions
   pub short : length text ≤ length (flat_map bytes_of run)
+  pub within : (length text ≤ most_joined) ⊎ ((p : Part) × (run ≡ p ∷ []))
   pub kept : NoneStays run ⊎ ((p : Part) × (run ≡ p ∷ []) × (text ≡ p.bytes))
 
 -- such a run, or one part that is no control sequence, as it came

@@ -1,12 +1,12 @@
 //! Which texts are lists of attributes that may be joined.
-ghost use Rattle.std.specs.Prelude.{◌≡◌, ◌++◌, List, true, false, map, IfOk, IfSome};
+ghost use Rattle.std.specs.Prelude.{◌≡◌, ◌≤◌, ◌++◌, List, true, false, length, map, IfOk, IfSome};
 ghost use Rattle.std.specs.List.{list_any};
 ghost use Rattle.csicodec_tokens.specs.Sequence.{Seq};
 ghost use Rattle.csicodec_base.specs.declared.sgr.Sgr.{Sgr};
 ghost use Rattle.csicodec_actions.specs.Actions.{Sgr as Style};
 ghost use Rattle.csicodec_parser.specs.Segments.{Actions};
 ghost use Rattle.csicodec.specs.Compose.{EndsInSemicolon, IsStyleList};
-ghost use Rattle.csicodec_compact.specs.Private.Steps.{IsListed, IsOwn, is_mark, is_other};
+ghost use Rattle.csicodec_compact.specs.Private.Steps.{IsListed, IsOwn, is_joined, is_mark, is_other};
 
 use crate::encode::NUMBERS;
 use crate::form::TextEnding;
@@ -69,15 +69,20 @@ fn any_other(actions: &[CSI]) -> bool
     actions.iter().any(is_other)
 }
 
+/// The most bytes of a sequence to which others are joined.
+const LONGEST: usize = 256;
+
 /// How many numbers a list has.
-pub(crate) fn numbers(text: &[u8]) -> u8 {
-    let mut count = 1u8;
+pub(crate) fn numbers(text: &[u8]) -> u8
+    ensures { 1 ≤ result }
+{
+    let mut marks = 0u8;
     for byte in text {
         if *byte == b';' {
-            count = count.saturating_add(1);
+            marks = marks.saturating_add(1);
         }
     }
-    count
+    marks.saturating_add(1)
 }
 
 /// A text without its end, where it ends so.
@@ -208,8 +213,12 @@ impl Lists {
         params: &[CsiParam],
     ) -> Result<TextEnding, AllocError>
         requires { Seq bytes.now params.now 109 }
-        ensures { IfOk result (λ form. IsOwn form text.now) }
+        ensures own { IfOk result (λ form. IsOwn form text.now) }
+        ensures few { IfOk result (λ form. is_joined form ≡ true → length text.now ≤ 256) }
     {
+        if text.len() > LONGEST {
+            return Ok(TextEnding::Whole);
+        }
         if is_reset(text) {
             return Ok(TextEnding::Bare);
         }

@@ -49,7 +49,7 @@ fn write_note(note: &mut TextBuffer, form: TextEnding, text: &[u8]) -> Result<()
         → (mark : ℕ) × (count : ℕ) × (form_of mark ≡ form) × (note.new ≡ mark ∷ count ∷ text.now)) }
     ensures list { OnOk result
         (is_joined form ≡ true
-        → (mark : ℕ) × (count : ℕ) × (form_of mark ≡ form)
+        → (mark : ℕ) × (count : ℕ) × (form_of mark ≡ form) × (1 ≤ count)
         × (note.new ≡ mark ∷ count ∷ 59 ∷ list_of form text.now)) }
 {
     note.clear();
@@ -108,6 +108,8 @@ impl Notes {
         ensures own { IfOk result (λ form. IsOwn form self.old.text.items) }
         ensures free { IfOk result
             (λ form. is_joined form ≡ true → stays params.now control ≡ false) }
+        ensures few { IfOk result
+            (λ form. is_joined form ≡ true → length self.old.text.items ≤ 256) }
         ensures text { self.new.text.items ≡ self.old.text.items }
     {
         if are_attributes(params, control) {

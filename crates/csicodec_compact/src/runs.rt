@@ -145,6 +145,7 @@ impl Written {
         requires { Begins text.now wide.now }
         ensures text { OnOk result (out.new ≡ out.old ++ joint self.old.form form text.now) }
         ensures form { OnOk result (self.new.form ≡ behind self.old.form form) }
+        ensures room { self.new.room ≡ self.old.room }
     {
         if !form.is_bare() {
             self.form = form;
@@ -172,7 +173,8 @@ impl Written {
         requires long { 2 ≤ length note.now }
         requires wide { Begins note.now wide.now }
         ensures { OnOk result ((bytes : List ℕ) → IsNote bytes note.now
-            → GoesOnBy self.old.form (part Sequence bytes ∷ []) out.old out.new self.new.form) }
+            → GoesOnBy self.old.form self.old.room (part Sequence bytes ∷ []) out.old out.new
+            self.new.form self.new.room) }
     {
         let (marks, text) = note.split_at(2);
         let (_, wide) = wide.split_at(2);
@@ -198,7 +200,8 @@ impl Written {
     ) -> Result<(), AllocError>
         requires { len ≤ length bytes.now }
         ensures { OnOk result ((parts : List Part) → IsShortened parts (take len bytes.now)
-            → GoesOnBy self.old.form parts out.old out.new self.new.form) }
+            → GoesOnBy self.old.form self.old.room parts out.old out.new self.new.form
+            self.new.room) }
     {
         self.close(out)?;
         append_front(bytes, len, out)

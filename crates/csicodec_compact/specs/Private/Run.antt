@@ -5,4 +5,4 @@ use Rattle.csicodec_compact.specs.Private.Steps.{IsHeld}
 
 -- so far this text is held for the parts, and its end is that of the last state
 abbrev pub Holds : WrittenOf Shortener
-Holds first parts held last = IsHeld parts held last.written.form
+Holds first parts held last = IsHeld parts held last.written.form last.written.room

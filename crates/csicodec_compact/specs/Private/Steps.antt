@@ -1,5 +1,5 @@
 -- What the private steps say to each other.
-use Rattle.std.specs.Prelude.{ℕ, ◌≡◌, ◌==◌, ◌-◌, ◌&&◌, Bool, true, List, [], ◌∷◌, ◌++◌, false, not, Option, Some, None, if◌then◌else◌, length, drop, map, slice_get, take}
+use Rattle.std.specs.Prelude.{ℕ, ◌≡◌, ◌≤◌, ◌==◌, ◌+◌, ◌*◌, ◌-◌, ◌&&◌, Bool, true, List, [], ◌∷◌, ◌++◌, false, not, Option, Some, None, if◌then◌else◌, length, drop, map, slice_get, take}
 use Rattle.csicodec_tokens.specs.declared.param.CsiParam.{CsiParam}
 use Rattle.csicodec_tokens.specs.declared.param.CsiParam.TheVariants.{Integer, P}
 use Rattle.csicodec_tokens.specs.Sequence.{Seq, Spellable, Spells}
@@ -170,32 +170,41 @@ IsNoted forms.Open bytes text = IsNotedList forms.Open bytes text
 IsNoted forms.Blank bytes text = IsNotedList forms.Blank bytes text
 IsNoted forms.Bare bytes text = IsNotedList forms.Bare bytes text
 
+-- a list that may be joined has a number, and its text is short
+abbrev pub HasFew : TextEnding → ℕ → List ℕ → Type 0
+HasFew form count text = is_joined form ≡ true → (1 ≤ count) × (length text ≤ 255)
+
 -- what is noted of a sequence: a number for the form of its text, how many numbers that has, and the text
 abbrev pub IsNote : List ℕ → List ℕ → Type 0
 IsNote bytes note = (mark : ℕ) × (count : ℕ) × (text : List ℕ) × (note ≡ mark ∷ count ∷ text)
-    × IsOne bytes × IsNoted (form_of mark) bytes text
+    × IsOne bytes × IsNoted (form_of mark) bytes text × HasFew (form_of mark) count text
 
 -- ---- what is held
 
+-- a list to which so many numbers may be joined, of at most 255 bytes each, is short
+abbrev pub LeavesRoom : ℕ → List ℕ → Type 0
+LeavesRoom room list = length list + 255 * room ≤ 4080
+
 -- a list that goes on, for some sequences side by side
-pub record GoesOnFrom (form : TextEnding) (run : List Part) (text : List ℕ) : Type 0 where
+pub record GoesOnFrom (form : TextEnding) (room : ℕ) (run : List Part) (text : List ℕ) : Type 0 where
   pub list : List ℕ
   pub actions : List Action
   pub whole : text ≡ 27 ∷ 91 ∷ list
   pub tail : IsTail form list actions
   pub shorter : Shortens run (27 ∷ 91 ∷ (list ++ closing form))
   pub free : NoneStays run
+  pub few : LeavesRoom room list
 
 -- how what is held ends
-abbrev pub IsEnd : TextEnding → List Part → List ℕ → Type 0
-IsEnd forms.Whole run text = (run ≡ []) × (text ≡ [])
-IsEnd forms.Last run text = (run ≡ []) × (text ≡ [])
-IsEnd forms.Open run text = GoesOnFrom forms.Open run text
-IsEnd forms.Blank run text = GoesOnFrom forms.Blank run text
-IsEnd forms.Bare run text = GoesOnFrom forms.Bare run text
+abbrev pub IsEnd : TextEnding → ℕ → List Part → List ℕ → Type 0
+IsEnd forms.Whole room run text = (run ≡ []) × (text ≡ [])
+IsEnd forms.Last room run text = (run ≡ []) × (text ≡ [])
+IsEnd forms.Open room run text = GoesOnFrom forms.Open room run text
+IsEnd forms.Blank room run text = GoesOnFrom forms.Blank room run text
+IsEnd forms.Bare room run text = GoesOnFrom forms.Bare room run text
 
--- what is held of some parts: the text of those in front, and of the others a list that goes on
-pub record IsHeld (run : List Part) (held : List ℕ) (form : TextEnding) : Type 0 where
+-- What is held of some parts: the text of those in front, and of the others a list that goes on, to which so many numbers may be joined.
+pub record IsHeld (run : List Part) (held : List ℕ) (form : TextEnding) (room : ℕ) : Type 0 where
   pub front : List Part
   pub left : List Part
   pub text : List ℕ
@@ -203,14 +212,14 @@ pub record IsHeld (run : List Part) (held : List ℕ) (form : TextEnding) : Type
   pub parts : run ≡ front ++ left
   pub whole : held ≡ text ++ tail
   pub written : IsShortened front text
-  pub end : IsEnd form left tail
+  pub end : IsEnd form room left tail
 
 -- What is written for more parts goes on with what was: whatever was written before them, and for which parts, so far this text is held.
-abbrev pub Extends : TextEnding → List Part → List ℕ → TextEnding → Type 0
-Extends form parts text after = (run : List Part) (before : List ℕ) → IsHeld run before form
-    → IsHeld (run ++ parts) (before ++ text) after
+abbrev pub Extends : TextEnding → ℕ → List Part → List ℕ → TextEnding → ℕ → Type 0
+Extends form room parts text after left = (run : List Part) (before : List ℕ)
+    → IsHeld run before form room → IsHeld (run ++ parts) (before ++ text) after left
 
 -- and this was appended
-abbrev pub GoesOnBy : TextEnding → List Part → List ℕ → List ℕ → TextEnding → Type 0
-GoesOnBy form parts old new after = (text : List ℕ) × (new ≡ old ++ text)
-    × Extends form parts text after
+abbrev pub GoesOnBy : TextEnding → ℕ → List Part → List ℕ → List ℕ → TextEnding → ℕ → Type 0
+GoesOnBy form room parts old new after left = (text : List ℕ) × (new ≡ old ++ text)
+    × Extends form room parts text after left

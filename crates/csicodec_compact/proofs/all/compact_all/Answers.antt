@@ -5,7 +5,7 @@ use Rattle.csicodec_compact.proofs.Beside.{begun_compacts, compacted, none_held,
 use Rattle.csicodec_compact.proofs.all.compact_all.Goals as goal
 
 pub transform_all-requires-clause-begun : goal.transform_all-requires-clause-begun
-transform_all-requires-clause-begun g c = rw c.new-stream.ensures (since_none Holds c.new.result c.args.limit (rw c.new.ensures none_held))
+transform_all-requires-clause-begun g c = rw c.new-stream.ensures (since_none Holds c.new.result c.args.limit (rw c.new.ensures (none_held c.new.result.written.room)))
 
 pub returns-clause-ok : goal.returns-clause-ok
 returns-clause-ok g c = on_ok_weaker c.transform_all.result

@@ -1,5 +1,5 @@
-use Rattle.csicodec_compact.proofs.Meaning.{again_alone, has_again, no_longer, rows_short}
+use Rattle.csicodec_compact.proofs.Meaning.{again_alone, again_whole, no_longer}
 use Rattle.csicodec_compact.proofs.laws.compact_stream.Goals as goal
 
 pub returns : goal.returns
-returns c = record { short = no_longer; again = has_again; rows = rows_short; alone = again_alone }
+returns c = record { short = no_longer; whole = again_whole; alone = again_alone }

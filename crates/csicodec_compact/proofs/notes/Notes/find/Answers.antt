@@ -1,4 +1,4 @@
-use Rattle.std.proofs.Common.{◌++◌, subst, ap, sym, ◌∙◌}
+use Rattle.std.proofs.Common.{◌++◌, ◌≤◌, ℕ, List, length, subst, ap, sym, ◌∙◌}
 use Rattle.csicodec_compact.specs.Compacts.{Compacts}
 use Rattle.csicodec_compact.specs.Private.Steps.{IsOwn}
 use Rattle.csicodec_compact.proofs.Beside.{free_by, note_of, own_long}
@@ -16,4 +16,5 @@ returns c =
     let all = same ∙ out ∙ ap (λ t. t ++ text) c.clear.ensures.items in
     note_of c.args.bytes.now c.deref.result.now c.write_note.new.note c.in_ok-form.form (c.args.params.now, c.args.control, c.requires) (subst (Compacts c.args.bytes.now) (sym all) made)
     (subst (IsOwn c.in_ok-form.form) (sym same) c.in_ok-form.ensures.own)
-    (λ joined. free_by c.args.bytes.now c.args.params.now c.args.control c.requires (c.in_ok-form.ensures.free joined)) c.in_ok-write_note.ensures.whole c.in_ok-write_note.ensures.list
+    (λ joined. free_by c.args.bytes.now c.args.params.now c.args.control c.requires (c.in_ok-form.ensures.free joined))
+    (λ joined. subst (λ (l : List ℕ). length l ≤ 256) (sym same) (c.in_ok-form.ensures.few joined)) c.in_ok-write_note.ensures.whole c.in_ok-write_note.ensures.list

@@ -13,6 +13,6 @@ returns c =
     (λ e parts short. (
       closing st ++ bytes,
       e ∙ ap (λ t. t ++ bytes) c.in_ok-close.ensures.text ∙ append_assoc old (closing st) bytes,
-      rw c.close.ensures.form (extends_own st bytes parts short),
+      rw c.close.ensures.form (extends_own st c.args.self.now.room c.close.new.self.room bytes parts short),
     ))
     c.append_front.ensures.ok

@@ -14,7 +14,7 @@ returns-then-len-limit-clause-written c = appends_none Holds _ c.args.out.now
 
 pub take-requires-clause-long : goal.take-requires-clause-long
 take-requires-clause-long c =
-    note_long _ _ (color_note c.args.bytes.now c.in-Some.rest.now c.open_note-wide.result c.in-Some.field-0-0 c.numbers.result _
+    note_long _ _ (color_note c.args.bytes.now c.in-Some.rest.now c.open_note-wide.result c.in-Some.field-0-0 c.numbers.result _ c.numbers.ensures
     c.in-Some.ensures.spelled refl c.open_note-wide.ensures)
 
 pub take-requires-clause-wide : goal.take-requires-clause-wide
@@ -24,14 +24,14 @@ take-requires-clause-wide c =
 
 pub keep-requires-clause-noted : goal.keep-requires-clause-noted
 keep-requires-clause-noted c =
-    color_note c.args.bytes.now c.in-Some.rest.now c.open_note-wide.result c.in-Some.field-0-0 c.numbers.result _ c.in-Some.ensures.spelled refl
+    color_note c.args.bytes.now c.in-Some.rest.now c.open_note-wide.result c.in-Some.field-0-0 c.numbers.result _ c.numbers.ensures c.in-Some.ensures.spelled refl
     c.open_note-wide.ensures
 
 pub returns-clause-written : goal.returns-clause-written
 returns-clause-written c =
     let bytes = c.args.bytes.now in
     let len = length bytes - length c.in-Some.rest.now in
-    let note = color_note bytes c.in-Some.rest.now c.open_note-wide.result c.in-Some.field-0-0 c.numbers.result len c.in-Some.ensures.spelled
+    let note = color_note bytes c.in-Some.rest.now c.open_note-wide.result c.in-Some.field-0-0 c.numbers.result len c.numbers.ensures c.in-Some.ensures.spelled
     refl c.open_note-wide.ensures in
     front_known c.args.limit len bytes c.args.self.now _ c.args.out.now c.take.new.out note.4
     (omega (arith, c.if-len-limit.false)) (omega arith) (c.in_ok-take.ensures (take len bytes) note)

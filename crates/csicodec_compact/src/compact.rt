@@ -1,5 +1,5 @@
 //! What is written in the place of a control sequence.
-ghost use Rattle.std.specs.Prelude.{◌≡◌, ◌≤◌, ℕ, List, true, length, IfOk};
+ghost use Rattle.std.specs.Prelude.{◌≡◌, ◌≤◌, ℕ, List, false, true, length, IfOk};
 ghost use Rattle.csicodec_tokens.specs.Sequence.{Seq};
 ghost use Rattle.csicodec_compact.specs.Compacts.{Compacts, ReadsAlike};
 
@@ -25,7 +25,9 @@ pub struct Compact {
 
 impl Compact {
     /// With buffers of its own, which are kept from sequence to sequence.
-    pub fn new(alloc: Global) -> Compact {
+    pub fn new(alloc: Global) -> Compact
+        ensures { result.semicolons ≡ false }
+    {
         Compact {
             reader: Comparer::new(alloc),
             spelling: TextBuffer::new(alloc),
@@ -35,7 +37,9 @@ impl Compact {
 
     /// The same, with semicolons in the colours of the character and the ground, also where that is no shorter. An alpha (`38:6:`)
     /// has no such spelling.
-    pub fn with_semicolons(alloc: Global) -> Compact {
+    pub fn with_semicolons(alloc: Global) -> Compact
+        ensures { result.semicolons ≡ true }
+    {
         Compact {
             semicolons: true,
             ..Compact::new(alloc)

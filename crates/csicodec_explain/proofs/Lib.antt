@@ -1,1 +1,1 @@
-mod Kept
+pub mod Remade

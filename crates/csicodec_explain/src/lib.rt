@@ -14,6 +14,7 @@ mod fill;
 mod input;
 mod json;
 mod keyed;
+pub mod laws;
 mod line;
 mod made;
 mod page;

@@ -6,10 +6,10 @@
 //! {"text":"hi","actions":[]}                                  as it is
 //! {"actions":[{"action":"Cursor::Up","value":"seven"}]}      as it is, which csicodec_assemble refuses
 //! ```
-ghost use Rattle.std.specs.Prelude.{◌≡◌, ◌≢◌, ◌++◌, ◌∷◌, [], Err, IfOk, IsSome, IsTrue, OnOk};
+ghost use Rattle.std.specs.Prelude.{◌≡◌, ◌≤◌, ◌++◌, ◌∷◌, [], ℕ, List, Err, IfOk, IsSome, IsTrue, OnOk, length};
 ghost use Rattle.csicodec_assemble.specs.declared.object.Fault.TheVariants.{NoSequence};
 ghost use Rattle.csicodec_assemble.specs.Object.{of_line};
-ghost use Rattle.csicodec_explain.specs.Kept.{AreKept, lines_over};
+ghost use Rattle.csicodec_explain.specs.Remade.{Ends, HasBegun, IsRemade, Remakes, line_behind, most, passed};
 
 use crate::made::Maker;
 use csicodec_assemble::{Fault, Refusal, bytes_of_line, split_line};
@@ -61,9 +61,10 @@ fn lacks_bytes(alloc: Global, line: &[u8]) -> Result<bool, AllocError>
 
 /// The bytes of a line that has actions alone, if each of those has a text.
 fn bytes_made(alloc: Global, maker: &mut Maker, line: &[u8]) -> Result<Option<Vec<u8>>, AllocError>
-    ensures { IfOk result (λ bytes. IsSome bytes → of_line line.now ≡ Err NoSequence) }
+    ensures { IfOk result (λ bytes. IsSome bytes
+        → (length line.now ≤ most) × (of_line line.now ≡ Err NoSequence)) }
 {
-    if has_bytes(line) || !lacks_bytes(alloc, line)? {
+    if line.len() > MOST || has_bytes(line) || !lacks_bytes(alloc, line)? {
         return Ok(None);
     }
     maker.bytes_of_line(line)
@@ -76,8 +77,8 @@ fn append_line(
     line: &[u8],
     out: &mut Vec<u8>,
 ) -> Result<(), AllocError>
-    ensures stays { OnOk result (of_line line.now ≢ Err NoSequence
-        → out.new.items ≡ out.old.items ++ line.now) }
+    ensures { OnOk result ((text : List ℕ) × IsRemade line.now text
+        × (out.new.items ≡ out.old.items ++ text)) }
 {
     match bytes_made(alloc, maker, line)? {
         Some(bytes) => {
@@ -92,7 +93,7 @@ fn append_line(
 impl Remaker {
     /// Of which nothing has come.
     pub fn new(alloc: Global) -> Remaker
-        ensures { result.line.items ≡ [] }
+        ensures { HasBegun [] result.long result.line.items }
     {
         Remaker {
             alloc,
@@ -102,25 +103,39 @@ impl Remaker {
         }
     }
 
-    /// The line ends with these bytes.
-    fn end_line(&mut self, bytes: &[u8], out: &mut Vec<u8>) -> Result<(), AllocError>
-        ensures begins { OnOk result (self.new.line.items ≡ []) }
-        ensures stays { OnOk result (of_line (self.old.line.items ++ bytes.now) ≢ Err NoSequence
-            → out.new.items ≡ out.old.items ++ self.old.line.items ++ bytes.now ++ 10 ∷ []) }
+    /// The line ends with these bytes: appends what isn't written of it.
+    fn end_with(&mut self, bytes: &[u8], out: &mut Vec<u8>) -> Result<(), AllocError>
+        ensures begins { OnOk result (HasBegun [] self.new.long self.new.line.items) }
+        ensures written { OnOk result ((begun : List ℕ)
+            → HasBegun begun self.old.long self.old.line.items → (sent : List ℕ)
+            × IsRemade (begun ++ bytes.now) (passed begun ++ sent)
+            × (out.new.items ≡ out.old.items ++ sent)) }
     {
         if self.line.is_empty() && !self.long {
-            append_line(self.alloc, &mut self.maker, bytes, out)?;
-        } else {
-            self.line.extend_from_slice(bytes)?;
-            self.end(out)?;
+            return append_line(self.alloc, &mut self.maker, bytes, out);
         }
+        self.hold(bytes, out)?;
+        self.end(out)
+    }
+
+    /// The same, and its LF.
+    fn end_line(&mut self, bytes: &[u8], out: &mut Vec<u8>) -> Result<(), AllocError>
+        ensures begins { OnOk result (HasBegun [] self.new.long self.new.line.items) }
+        ensures written { OnOk result ((begun : List ℕ)
+            → HasBegun begun self.old.long self.old.line.items → (sent : List ℕ)
+            × IsRemade (begun ++ bytes.now) (passed begun ++ sent)
+            × (out.new.items ≡ out.old.items ++ sent ++ 10 ∷ [])) }
+    {
+        self.end_with(bytes, out)?;
         Ok(out.push(b'\n')?)
     }
 
     /// The line goes on with these bytes.
     fn hold(&mut self, bytes: &[u8], out: &mut Vec<u8>) -> Result<(), AllocError>
-        ensures { OnOk result (out.new.items ++ self.new.line.items
-            ≡ out.old.items ++ self.old.line.items ++ bytes.now) }
+        ensures { OnOk result ((begun : List ℕ) → HasBegun begun self.old.long self.old.line.items
+            → (sent : List ℕ) × HasBegun (begun ++ bytes.now) self.new.long self.new.line.items
+            × (passed begun ++ sent ≡ passed (begun ++ bytes.now))
+            × (out.new.items ≡ out.old.items ++ sent)) }
     {
         self.line.extend_from_slice(bytes)?;
         if self.long || self.line.len() > MOST {
@@ -133,15 +148,13 @@ impl Remaker {
 
     /// Takes bytes, and appends the lines that end in them: each as it is, unless the assembler refuses it for its actions.
     pub fn take(&mut self, bytes: &[u8], out: &mut Vec<u8>) -> Result<(), AllocError>
-        ensures stays { OnOk result (AreKept (lines_over self.old.line.items bytes.now)
-            → out.new.items ++ self.new.line.items
-            ≡ out.old.items ++ self.old.line.items ++ bytes.now) }
+        ensures { OnOk result ((begun : List ℕ) → HasBegun begun self.old.long self.old.line.items
+            → (sent : List ℕ) × Remakes begun bytes.now sent
+            × HasBegun (line_behind begun bytes.now) self.new.long self.new.line.items
+            × (out.new.items ≡ out.old.items ++ sent)) }
     {
         let mut rest = bytes;
-        for _ in 0..bytes.len() {
-            let Some((line, behind)) = split_line(rest) else {
-                break;
-            };
+        while let Some((line, behind)) = split_line(rest) {
             self.end_line(line, out)?;
             rest = behind;
         }
@@ -150,13 +163,12 @@ impl Remaker {
 
     /// Nothing comes any more: appends the line that has begun.
     pub fn end(&mut self, out: &mut Vec<u8>) -> Result<(), AllocError>
-        ensures begins { OnOk result (self.new.line.items ≡ []) }
-        ensures stays { OnOk result (of_line self.old.line.items ≢ Err NoSequence
-            → out.new.items ≡ out.old.items ++ self.old.line.items) }
+        ensures begins { OnOk result (HasBegun [] self.new.long self.new.line.items) }
+        ensures written { OnOk result ((begun : List ℕ)
+            → HasBegun begun self.old.long self.old.line.items → (sent : List ℕ) × Ends begun sent
+            × (out.new.items ≡ out.old.items ++ sent)) }
     {
-        if self.long {
-            out.extend_from_slice(&self.line)?;
-        } else {
+        if !self.long {
             append_line(self.alloc, &mut self.maker, &self.line, out)?;
         }
         self.long = false;

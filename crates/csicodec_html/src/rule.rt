@@ -160,7 +160,7 @@ impl Rule for SpanWriter {
     ) -> Result<usize, AllocError> {
         let told = self
             .turns
-            .recall(&self.markup, self.look, limit, bytes, out)?;
+            .recall(&self.markup, &self.look, limit, bytes, out)?;
         match told {
             Some((len, new)) => {
                 self.look = new;

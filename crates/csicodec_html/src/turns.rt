@@ -40,14 +40,14 @@ pub(crate) struct Turn {
 impl Turn {
     /// Whether it is of the sequence in front, and from this look.
     #[inline(always)]
-    fn fits(&self, look: Look, limit: usize, bytes: &[u8]) -> bool
-        ensures { result ≡ true → Fits self.now look limit bytes.now }
+    fn fits(&self, look: &Look, limit: usize, bytes: &[u8]) -> bool
+        ensures { result ≡ true → Fits self.now look.now limit bytes.now }
     {
         let len = self.bytes.len();
         if len == 0 || len > limit || !bytes.starts_with(&self.bytes) {
             return false;
         }
-        self.old == look
+        self.old == *look
     }
 }
 
@@ -85,12 +85,12 @@ impl Turns {
         &self,
         number: u16,
         _markup: &Markup,
-        look: Look,
+        look: &Look,
         limit: usize,
         bytes: &[u8],
     ) -> Option<&Turn>
         requires { AreTurns _markup.now self.now.kept.items }
-        ensures { IfSome result (λ turn. IsTurn _markup.now turn.now × Fits turn.now look limit bytes.now) }
+        ensures { IfSome result (λ turn. IsTurn _markup.now turn.now × Fits turn.now look.now limit bytes.now) }
     {
         let at = usize::from(number);
         if at >= self.kept.len() {
@@ -105,9 +105,9 @@ impl Turns {
 
     /// The turn of the sequence in front, from this look, if the place has it.
     #[inline(always)]
-    fn find(&self, markup: &Markup, look: Look, limit: usize, bytes: &[u8]) -> Option<&Turn>
+    fn find(&self, markup: &Markup, look: &Look, limit: usize, bytes: &[u8]) -> Option<&Turn>
         requires { AreTurns markup.now self.now.kept.items }
-        ensures { IfSome result (λ turn. IsTurn markup.now turn.now × Fits turn.now look limit bytes.now) }
+        ensures { IfSome result (λ turn. IsTurn markup.now turn.now × Fits turn.now look.now limit bytes.now) }
     {
         let Some([newer, older]) = self.places.get(self.place) else {
             return None;
@@ -123,13 +123,13 @@ impl Turns {
     pub(crate) fn recall(
         &mut self,
         markup: &Markup,
-        look: Look,
+        look: &Look,
         limit: usize,
         bytes: &[u8],
         out: &mut Vec<u8>,
     ) -> Result<Option<(usize, Look)>, AllocError>
         requires { AreTurns markup.now self.old.kept.items }
-        ensures told { IfOk result (λ o. IfSome o (λ (len, new). IsTold markup.now look limit
+        ensures told { IfOk result (λ o. IfSome o (λ (len, new). IsTold markup.now look.now limit
             bytes.now len new out.old.items out.new.items)) }
         ensures none { IfOk result (λ o. IfNone o (out.new.items ≡ out.old.items)) }
         ensures kept { AreTurns markup.now self.new.kept.items }

@@ -12,5 +12,5 @@ returns-clause-told c =
     let turn = c.in-Some.turn.now in
     let all = c.extend_from_slice.new.self.items in
     let size : c.len-len.result ≡ length turn.bytes.items = omega (arith, c.len-len.ensures) in
-    subst (λ (n : ℕ). IsTold m c.args.look c.args.limit bytes n turn.new old all) (sym size)
-    (told m turn c.args.look c.args.limit bytes old all is fits (c.in_ok-extend_from_slice.ensures.items ∙ ap (λ (l : List ℕ). old ++ l) c.deref.ensures.value))
+    subst (λ (n : ℕ). IsTold m c.args.look.now c.args.limit bytes n turn.new old all) (sym size)
+    (told m turn c.args.look.now c.args.limit bytes old all is fits (c.in_ok-extend_from_slice.ensures.items ∙ ap (λ (l : List ℕ). old ++ l) c.deref.ensures.value))

@@ -18,3 +18,4 @@ pub mod Streamed
 pub mod Tagged
 pub mod Turned
 pub mod Stood
+pub mod Short

@@ -9,7 +9,7 @@ use Rattle.csicodec_clean.specs.Palette.{palette}
 use Rattle.csicodec_html.specs.declared.look.Look.{Look}
 use Rattle.csicodec_html.specs.declared.palette.Palette.{Palette}
 use Rattle.csicodec_html.specs.Classes.{ground_color, text_color}
-use Rattle.csicodec_html.specs.Contrast.{are_near, black, black_or_white, dark, is_near, is_there, known, legible, luminance, legible_on, on_ground, on_page, place_like, white}
+use Rattle.csicodec_html.specs.Contrast.{are_near, black, black_or_white, dark, is_near, known, legible, luminance, legible_on, on_ground, on_page, place_like, white}
 use Rattle.csicodec_html.specs.Look.{is_exact, is_mixed, legible_look, settled, settled_color}
 use Rattle.csicodec_html.specs.Palette.{has_pairs}
 

@@ -93,7 +93,7 @@ fn settled_color(color: ColorSpec) -> ColorSpec
 }
 
 /// Whether text or what is behind it has such a colour, and pairs could stand beside that.
-fn is_mixed(palette: &Palette, look: Look) -> bool
+pub(crate) fn is_mixed(palette: &Palette, look: Look) -> bool
     ensures { result ≡ is_mixed palette.now look }
 {
     palette.has_pairs() && (is_exact(look.foreground) || is_exact(look.background))

@@ -1,4 +1,4 @@
-use Rattle.std.proofs.Common.{◌≡◌, ◌<◌, ◌≤◌, false, arith, rules, refl}
+use Rattle.std.proofs.Common.{◌≡◌, ◌<◌, ◌≤◌, false, rules}
 use Rattle.csicodec_overwrite.proofs.Shifted.{all_shifted}
 use Rattle.csicodec_overwrite.proofs.cells.empty_tabs.Goals as goal
 

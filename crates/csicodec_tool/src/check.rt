@@ -3,14 +3,15 @@ ghost use Rattle.std.specs.Prelude.{◌≡◌, ◌⊎◌, ◌<◌, ◌++◌, ℕ
 ghost use Rattle.std.specs.Io.KnownBytes.{Consumes, IsAtEnd};
 ghost use Rattle.csicodec_clean.specs.Check.{IsFault};
 ghost use Rattle.csicodec_clean.specs.Shown.{IsTextOf};
-ghost use Rattle.csicodec_command.specs.declared.failure.Failure.TheVariants.{NotPlain};
+ghost use Rattle.csicodec_command.specs.declared.failure.Failure.TheVariants.{NotPlain, Run as Ran};
 ghost use Rattle.csicodec_command.specs.declared.failure.Found.{Found as FoundOf};
+ghost use Rattle.csicodec_streams.specs.declared.error.RunError.{RunError as RunErrorOf};
 ghost use Rattle.csicodec_tool.specs.Visible.{class_of};
 
 use crate::rewritten_cast::no_memory;
 use crate::visible::{VisibleText, is_tag, turns};
 use bstr::decode_utf8;
-use csicodec_clean::{Checked, PlainText, check_all};
+use csicodec_clean::{CharClass, Checked, PlainText, check_all};
 use csicodec_command::{Failure, Found, Recording};
 use std::alloc::{AllocError, Global};
 use std::io::{BufRead, Read};
@@ -53,24 +54,39 @@ fn outcome(checked: &Checked) -> Result<(), Failure>
     Err(Failure::NotPlain(checked.at, checked.line, found))
 }
 
+/// Reads up to the first character that isn't of the class, which is the error; or to the end.
+fn check_class<C: CharClass, R: Read>(alloc: Global, input: &mut R) -> Result<(), Failure>
+    ensures ok { IfOk result (λ _. (bytes : List ℕ)
+        × Consumes (R.remaining input.old) (R.remaining input.new) bytes
+        × IsAtEnd (R.remaining input.new) × IsTextOf C.class bytes) }
+    ensures fault { IfErr result (λ e. ((error : RunErrorOf) × (e ≡ Ran error))
+        ⊎ ((at line : ℕ) × (found : FoundOf) × (bytes rest : List ℕ) × (e ≡ NotPlain at line found)
+        × Consumes (R.remaining input.old) (R.remaining input.new) bytes
+        × (((more : List ℕ) → IsFault C.class (bytes ++ more) (rest ++ more) at line)
+        ⊎ (IsAtEnd (R.remaining input.new) × IsFault C.class bytes rest at line)))) }
+{
+    let checked = check_all::<C, R>(alloc, input)?;
+    outcome(&checked)
+}
+
 /// Reads up to the first place where the input is plain text no more, or where a character isn't seen if it is to be visible, which is the
 /// error; or to its end.
 pub fn check_stream<R: Read>(alloc: Global, visible: bool, input: &mut R) -> Result<(), Failure>
     ensures ok { IfOk result (λ _. (bytes : List ℕ)
         × Consumes (R.remaining input.old) (R.remaining input.new) bytes
         × IsAtEnd (R.remaining input.new) × IsTextOf (class_of visible) bytes) }
-    // The place that is told is that of the first character which isn't as it is to be, whatever follows.
-    ensures fault { IfErr result (λ e. (at line : ℕ) (found : FoundOf) → e ≡ NotPlain at line found
-        → (bytes rest : List ℕ) × Consumes (R.remaining input.old) (R.remaining input.new) bytes
+    // A place that is told is that of the first character which isn't as it is to be, whatever follows.
+    ensures fault { IfErr result (λ e. ((error : RunErrorOf) × (e ≡ Ran error))
+        ⊎ ((at line : ℕ) × (found : FoundOf) × (bytes rest : List ℕ) × (e ≡ NotPlain at line found)
+        × Consumes (R.remaining input.old) (R.remaining input.new) bytes
         × (((more : List ℕ) → IsFault (class_of visible) (bytes ++ more) (rest ++ more) at line)
-        ⊎ (IsAtEnd (R.remaining input.new) × IsFault (class_of visible) bytes rest at line))) }
+        ⊎ (IsAtEnd (R.remaining input.new) × IsFault (class_of visible) bytes rest at line)))) }
 {
-    let checked = if visible {
-        check_all::<VisibleText, _>(alloc, input)?
+    if visible {
+        check_class::<VisibleText, R>(alloc, input)
     } else {
-        check_all::<PlainText, _>(alloc, input)?
-    };
-    outcome(&checked)
+        check_class::<PlainText, R>(alloc, input)
+    }
 }
 
 /// Takes the next bytes.

@@ -30,7 +30,8 @@ def read(path):
 
 def packed(held):
     """A file of gzip (RFC 1952), with no time. The head is written here, since the one of Python's gzip differs between its versions."""
-    deflate = zlib.compressobj(9, zlib.DEFLATED, -15)
+    # With less memory than zlib takes by itself its blocks are shorter, and the program half a percent smaller.
+    deflate = zlib.compressobj(9, zlib.DEFLATED, -15, 6)
     body = deflate.compress(held) + deflate.flush()
     return b"\x1f\x8b\x08\0\0\0\0\0\x02\x03" + body + struct.pack("<II", zlib.crc32(held), len(held) % 2**32)
 

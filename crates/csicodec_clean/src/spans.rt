@@ -14,6 +14,7 @@ use crate::title::{read_as, title_behind};
 use csicodec_base::CsiParam;
 use csicodec_spans::{Cutter, Kind, Mode};
 use csicodec_streams::keep_from;
+use csicodec_tokens::Count;
 use std::alloc::AllocError;
 
 /// Appends what is shown of the text, as far as it is sure; `held` are the bytes before it that aren't, and then those at its
@@ -96,12 +97,13 @@ pub(crate) fn append_clean<'a, T: Rule>(
         (λ (rest, after). (front : List ℕ)
         × (held.old.items ++ bytes.now ≡ front ++ (held.new.items ++ rest.now))) }
 {
+    let mut looks = Count::new();
     let mut cutter = Cutter { mode, rest: bytes };
     loop {
         let open = cutter.mode;
         let rest = append_front(rule, limit, open, *titled, held, cutter.rest, out)?;
         cutter.rest = rest;
-        let Some((span, control)) = cutter.next(limit, params)? else {
+        let Some((span, control)) = cutter.next(limit, params, &mut looks)? else {
             return Ok((rest, open));
         };
         let kind = read_as(span.kind, *titled);

@@ -12,6 +12,7 @@ use crate::transform::Transform;
 use csicodec_base::{CsiParam, TextBuffer};
 use csicodec_spans::{Cutter, Mode, Waiting};
 use csicodec_streams::Note;
+use csicodec_tokens::Count;
 use std::alloc::{AllocError, Global};
 use std::marker::Model;
 use std::mem;
@@ -136,11 +137,12 @@ fn write_sure<'a, T: WriteSpans<N>, N: Note>(
     ensures written { IfOk result (λ to. Appends T.written (open_at writer.old limit bytes.entry.mode bytes.entry.rest.now)
         out.old out.new (open_at writer.new limit to.mode to.rest.now)) }
 {
+    let mut looks = Count::new();
     let mut left = bytes;
     loop {
         let to = pass_front(writer, room, limit, left, out)?;
         let mut cutter = to;
-        let Some((span, control)) = cutter.next(limit, &mut room.params)? else {
+        let Some((span, control)) = cutter.next(limit, &mut room.params, &mut looks)? else {
             return Ok(to);
         };
         match control {

@@ -20,6 +20,7 @@ use csicodec_base::CsiParam;
 use csicodec_clean::{read_as, title_behind};
 use csicodec_spans::{Cutter, Kind, LIMIT, Mode, Waiting};
 use csicodec_terminal::terminal_actions_into;
+use csicodec_tokens::Count;
 use std::alloc::{AllocError, Global};
 use std::marker::Model;
 
@@ -120,10 +121,11 @@ fn append_steps<'a>(
         (λ (rest, after). GoesTo mode titled.old held.old.items bytes.now rest.now after titled.new held.new.items steps.old.items steps.new.items) }
     ensures short { OnOk result (length held.old.items ≤ 3 → length held.new.items ≤ 3) }
 {
+    let mut looks = Count::new();
     let mut cutter = Cutter { mode, rest: bytes };
     loop {
         let Cutter { mode: open, rest } = cutter;
-        let Some((span, control)) = cutter.next(LIMIT, params)? else {
+        let Some((span, control)) = cutter.next(LIMIT, params, &mut looks)? else {
             return Ok((rest, open));
         };
         let kind = read_as(span.kind, *titled);

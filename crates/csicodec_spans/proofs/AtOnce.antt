@@ -1,12 +1,13 @@
 -- Bytes before the first ESC, found many at once.
-use Rattle.std.proofs.Common.{◌≡◌, ◌<◌, ◌≤◌, ◌+◌, ◌-◌, ◌%◌, ◌^◌, ◌∙◌, ℕ, zero, suc, Bool, true, false, not, cond, eqb, w8, map, List}
+use Rattle.std.proofs.Common.{◌≡◌, ◌<◌, ◌≤◌, ◌+◌, ◌-◌, ◌%◌, ◌^◌, ◌∙◌, ℕ, zero, suc, Bool, true, false, not, ◌||◌, cond, eqb, Fits, w8, map, List}
 use Rattle.std.proofs.Common.{[], ◌∷◌, length, take, drop, get_or, replicate, inl, inr, ◌⊎◌, refl, sym, ap, subst, arith}
 use Rattle.std.specs.Prelude.{nat_lt}
+use Rattle.std.proofs.lemmas.Bool.{agree_below, agree_below_at, cases_lt}
 use Rattle.std.proofs.lemmas.Bool.Decides.{nat_tests}
-use Rattle.std.proofs.lemmas.List.{get_or-drop, get_or-take, length-replicate, map-id}
-use Rattle.std.proofs.lemmas.Simd.{get_or-replicate, get_or-zip2, leading_from_mask_l, length-zip2, mask_l-mod, tops_compared, trailing_mask_l}
+use Rattle.std.proofs.lemmas.List.{get_or-drop, get_or-map, get_or-take, length-map, length-replicate, map-id}
+use Rattle.std.proofs.lemmas.Simd.{Each1-get_or, get_or-replicate, get_or-zip2, leading_from_mask_l, length-zip2, map-map, mask_l-mod, tops_compared, trailing_mask_l}
 use Rattle.std.specs.List.{prefix_len}
-use Rattle.std.specs.Simd.Lanes.{mask_l, top, zip2}
+use Rattle.std.specs.Simd.Lanes.{Each1, mask_l, top, zip2}
 use lib.Count.{count_trailing_zeros}
 use Rattle.csicodec_spans.specs.declared.table.Ahead.{Ahead}
 use Rattle.csicodec_spans.specs.declared.table.Ahead.TheVariants.{GoesOn, Ends, New, Esc, Csi, Unsure}
@@ -59,6 +60,47 @@ pub esc_mask : (xs : List ℕ) (w : ℕ) → w < 64 → length xs ≡ w
 esc_mask xs w few long =
     ap (λ (ms : List Bool). count_trailing_zeros 64 (mask_l ms % 2 ^ 64)) (tops_compared w8 eqb xs (replicate w 27))
     ∙ ap (count_trailing_zeros 64) (mask_l-mod (are_esc xs w) 64 (omega (arith, length-zip2 eqb xs (replicate w 27) (long ∙ sym (length-replicate {A = ℕ} w 27)), long, few)))
+
+-- lanes at none of which a test is met, where that is met at each byte that ends an OSC
+pub osc_lanes : (xs z : List ℕ) (f : ℕ → ℕ) → length xs ≡ 32 → Each1 (Fits w8) xs → z ≡ map f xs
+    → agree_below (λ x. top 7 (f x) || stays mode.Osc x) (λ _. true) 256 ≡ true
+    → (k : ℕ) → k < count_trailing_zeros 64 (mask_l (map (top 7) z) % 2 ^ 64) → k < 32
+    → stays mode.Osc (get_or xs k 0) ≡ true
+osc_lanes xs z f long fits lanes all k before within =
+    let ends : List Bool = map (λ x. top 7 (f x)) xs in
+    let many : length ends ≡ 32 = length-map xs (λ x. top 7 (f x)) ∙ long in
+    let mask : mask_l (map (top 7) z) % 2 ^ 64 ≡ mask_l ends =
+    ap (λ l. mask_l l % 2 ^ 64) (ap (map (top 7)) lanes ∙ map-map (top 7) f xs)
+    ∙ mask_l-mod ends 64 (omega (arith, many)) in
+    let unset = unset_lanes ends 32 (omega arith) many _ (ap (count_trailing_zeros 64) mask) k before within in
+    let at = get_or-map (λ x. top 7 (f x)) xs k 0 true (omega (arith, long, within)) in
+    let byte = (Each1-get_or (Fits w8) xs k 0 (omega (arith, long, within)) fits).fits in
+    sym (ap (λ b. b || stays mode.Osc (get_or xs k 0)) (sym at ∙ unset))
+    ∙ agree_below_at (λ x. top 7 (f x) || stays mode.Osc x) (λ _. true) 256 (get_or xs k 0) all byte
+
+-- the bytes before a place stay, and so many behind it
+pub stays_on : (m : Mode) (bytes : List ℕ) (at n : ℕ)
+    → ((k : ℕ) → k < at → stays m (get_or bytes k 0) ≡ true)
+    → ((k : ℕ) → k < n → stays m (get_or (drop at bytes) k 0) ≡ true)
+    → (k : ℕ) → k < at + n → stays m (get_or bytes k 0) ≡ true
+stays_on m bytes at n front behind k within = elim (cases_lt k at) [
+  | inl low ↦ front k low
+  | inr high ↦
+      let i = k - at in
+      let same : at + i ≡ k = omega (arith, high) in
+      subst (λ (b : ℕ). stays m b ≡ true) (get_or-drop at bytes i 0 ∙ ap (λ (j : ℕ). get_or bytes j 0) same)
+      (behind i (omega (arith, within, high)))
+]
+
+-- the same of 32 behind it at most
+pub lanes_stay : (m : Mode) (bytes : List ℕ) (at near n : ℕ) → n ≤ near → n ≤ 32
+    → ((k : ℕ) → k < at → stays m (get_or bytes k 0) ≡ true)
+    → ((k : ℕ) → k < near → k < 32 → stays m (get_or (take 32 (drop at bytes)) k 0) ≡ true)
+    → (k : ℕ) → k < at + n → stays m (get_or bytes k 0) ≡ true
+lanes_stay m bytes at near n few fit front lanes = stays_on m bytes at n front (λ k within.
+    let low : k < 32 = omega (arith, within, fit) in
+    subst (λ (b : ℕ). stays m b ≡ true) (get_or-take 32 (drop at bytes) k 0 low)
+    (lanes k (omega (arith, within, few)) low))
 
 -- of 48 bytes, where the first 16 stay, and so many behind them
 pub far_stays : (bytes : List ℕ) (near far : ℕ) → 16 ≤ near → ((k : ℕ) → k < near → k < 16 → stays mode.Text (get_or (take 16 bytes) k 0) ≡ true)

@@ -1,8 +1,7 @@
 -- A span grows as far as what is open behind it goes on.
-use Rattle.std.proofs.Common.{◌≡◌, ◌≢◌, ◌⊎◌, ℕ, zero, suc, ◌<◌, ◌≤◌, true, List, ◌++◌, length, get_or, take, drop, refl, sym, ap, subst, ◌∙◌, inl, inr, append_assoc, arith}
+use Rattle.std.proofs.Common.{◌≡◌, ◌⊎◌, ℕ, zero, suc, ◌<◌, ◌≤◌, true, List, ◌++◌, length, get_or, take, drop, refl, sym, ap, subst, ◌∙◌, inl, inr, append_assoc, arith}
 use Rattle.std.proofs.lemmas.List.{take-append-drop}
 use Rattle.csicodec_spans.specs.declared.table.Kind.{Kind}
-use Rattle.csicodec_spans.specs.declared.table.Kind.TheVariants as kind
 use Rattle.csicodec_spans.specs.declared.table.Mode.{Mode}
 use Rattle.csicodec_spans.specs.declared.table.Mode.TheVariants as mode
 use Rattle.csicodec_spans.specs.declared.table.Ahead.{Ahead}
@@ -11,7 +10,7 @@ use Rattle.csicodec_spans.specs.Private.TableBy.{kind_in, stays, look, meant}
 use Rattle.csicodec_spans.specs.Parts.{Cuts, IsMore, IsMaximal}
 use Rattle.csicodec_spans.specs.Table.{ahead}
 use Rattle.csicodec_spans.proofs.OneSpan.{more_stays, run_cut, taken_cut}
-use Rattle.csicodec_spans.proofs.Agrees.{Agrees, agrees, found}
+use Rattle.csicodec_spans.proofs.Agrees.{found}
 use Rattle.csicodec_spans.proofs.Spanned.{join_cuts}
 
 -- the rest is behind some bytes, and where the first rest was behind a span, this one is behind a longer one
@@ -54,21 +53,6 @@ ends_longer bytes first rest k m n e is h =
     more_longer bytes first rest k m mode.Text n e
     (subst IsMore (sym (found m rest (Ends n) is)) tt) h
     (λ limit. taken_cut limit m rest (Ends n) (kind_in m) n mode.Text is (inl refl))
-
-not_text : (m : Mode) → m ≢ mode.Text → kind_in m ≢ kind.Text
-not_text mode.Text other e = other refl
-not_text _ other e = absurd cc
-
--- a span of another kind that leaves nothing open is as long as it can be
-pub closed_maximal : (k : Kind) (rest : List ℕ) → k ≢ kind.Text → IsMaximal k mode.Text rest
-closed_maximal k rest other (inl e) more = other e
-closed_maximal k rest other (inr e) more = e refl
-
--- what ended isn't text
-pub ends_maximal : (m : Mode) (k : Kind) (bytes rest : List ℕ) (n : ℕ) → k ≡ kind_in m → look m bytes ≡ Ends n → IsMaximal k mode.Text rest
-ends_maximal m k bytes rest n e is =
-    let other = (subst (Agrees m bytes) is (agrees m bytes)).ends in
-    closed_maximal k rest (λ text. not_text m other (sym e ∙ text))
 
 abbrev pub IsOther : Ahead → Type 0
 IsOther f = ((n : ℕ) × (a : Mode) × (f ≡ New n a)) ⊎ (((n : ℕ) × (f ≡ Esc n)) ⊎ ((f ≡ Csi) ⊎ (f ≡ Unsure)))

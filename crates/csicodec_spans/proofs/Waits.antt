@@ -6,15 +6,17 @@ use Rattle.std.proofs.lemmas.List.{length-append}
 use Rattle.std.proofs.lemmas.Bool.{cases_lt}
 use Rattle.csicodec_tokens.specs.Fault.{Begins}
 use Rattle.csicodec_tokens.proofs.Longer.{cuts}
+use Rattle.csicodec_spans.specs.declared.cut.Span.{Span}
 use Rattle.csicodec_spans.specs.declared.table.Kind.{Kind}
 use Rattle.csicodec_spans.specs.declared.table.Kind.TheVariants as kind
 use Rattle.csicodec_spans.specs.declared.table.Mode.{Mode}
 use Rattle.csicodec_spans.specs.Table.{Answer, Sequence, Undecided, ahead}
 use Rattle.csicodec_spans.specs.Parts.{Part, IsMalformed, AllowsCsi, Allows, IsFirstPart, AreFirstParts, IsUnsureBy, IsUnsure}
-use Rattle.csicodec_spans.specs.Waits.{IsCut, HandsOut, looks_in}
+use Rattle.csicodec_spans.specs.Waits.{AreCut, IsCut, HandsOut, cut_looks, looks_in}
 use Rattle.csicodec_spans.proofs.Fronts.{Sound}
 use Rattle.csicodec_spans.proofs.Agrees.{kept, sound}
 use Rattle.csicodec_spans.proofs.OneSpan.{none_unsure}
+use Rattle.csicodec_spans.proofs.Spanned.{cut_parts, cut_some}
 use Rattle.csicodec_spans.proofs.Once.{not_begun, least_of, begins_less}
 
 -- a place where the beginning of a sequence goes wrong is behind it
@@ -99,3 +101,17 @@ looked limit again (chunk ∷ chunks) m waiting o (rest, after, later, left, mor
 
 pub looked_few : (limit again : ℕ) (m : Mode) (chunks : List (List ℕ)) → (h : HandsOut limit m [] chunks again) → looks_in limit m [] chunks again h ≤ 3 * length (concat chunks) + 6 * length chunks
 looked_few limit again m chunks h = omega (arith, looked limit again chunks m [] (none_unsure limit m) h)
+
+-- each span has a byte
+pub cut_few : (limit : ℕ) (spans : List Span) (m : Mode) (bytes rest : List ℕ) (after : Mode)
+    → 0 < limit → AreCut limit m bytes spans rest after
+    → cut_looks spans rest ≤ 12 * length bytes + 3
+cut_few limit [] m bytes rest after some h = omega (arith, ap length h.0)
+cut_few limit (s ∷ spans) m bytes rest after some (behind, mid, cut, others) =
+    omega (
+      arith,
+      cut_few limit spans mid behind rest after some others,
+      cut_some limit m bytes s.kind s.bytes.now behind mid some cut,
+      ap length (cut_parts limit m bytes s.kind s.bytes.now behind mid cut),
+      length-append s.bytes.now behind,
+    )

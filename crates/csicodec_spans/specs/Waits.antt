@@ -1,8 +1,9 @@
--- How often the bytes of a stream that wait are handed out, and looked at.
+-- How often the bytes of a stream are looked at: those that wait, which are handed out, and those that are cut.
 use Rattle.std.specs.Prelude.{ℕ, ◌≡◌, ◌+◌, ◌*◌, ◌<◌, ◌⊎◌, List, [], ◌∷◌, ◌++◌, length}
 use mathlib.Core.Logic.{inl, inr}
 use Rattle.csicodec_spans.specs.declared.table.Mode.{Mode}
-use Rattle.csicodec_spans.specs.Parts.{Part, AreFirstParts, IsUnsure}
+use Rattle.csicodec_spans.specs.declared.cut.Span.{Span}
+use Rattle.csicodec_spans.specs.Parts.{Part, AreFirstParts, Cuts, IsUnsure}
 
 -- the bytes that wait, and how many looks at them were taken
 pub record Seen : Type 0 where
@@ -48,3 +49,15 @@ looks_in limit m waiting (chunk ∷ chunks) again (rest, after, later, unsure, o
     length chunk + looks_in limit after rest chunks later others
 looks_in limit m waiting (chunk ∷ chunks) again (rest, after, later, unsure, others, inr cut) =
     length waiting + 2 * length rest + looks_in limit after rest chunks later others
+
+-- bytes that are cut into spans, and what is left, of which nothing is sure
+abbrev pub AreCut : ℕ → Mode → List ℕ → List Span → List ℕ → Mode → Type 0
+AreCut limit m bytes [] rest after = (rest ≡ bytes) × (after ≡ m) × IsUnsure limit after rest
+AreCut limit m bytes (s ∷ spans) rest after =
+    (behind : List ℕ) × (mid : Mode) × Cuts limit m bytes s.kind s.bytes.now behind mid
+    × AreCut limit mid behind spans rest after
+
+-- as many looks as they may take: four at each byte of a span and eight more, and in the end one at each byte that is left and three more
+abbrev pub cut_looks : List Span → List ℕ → ℕ
+cut_looks [] rest = length rest + 3
+cut_looks (s ∷ spans) rest = 4 * length s.bytes.now + 8 + cut_looks spans rest

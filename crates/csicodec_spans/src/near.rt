@@ -4,7 +4,7 @@ ghost use Rattle.csicodec_spans.specs.Private.TableBy.{stays};
 ghost use Rattle.csicodec_spans.specs.Parts.{IsPlain, IsPlainFront};
 ghost use Rattle.csicodec_spans.specs.Table.{ahead};
 
-use crate::cut::staying;
+use crate::staying::staying;
 use crate::table::{Ahead, Mode, look};
 use std::simd::prelude::*;
 

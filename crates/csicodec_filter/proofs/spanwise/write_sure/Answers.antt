@@ -2,8 +2,11 @@ use Rattle.std.proofs.Common.{◌≡◌, ◌∷◌, ◌∙◌, [], length, lengt
 use Rattle.std.proofs.Math.Seq.{take-append_seam}
 use Rattle.csicodec_spans.specs.declared.table.Kind.TheVariants as kind
 use Rattle.csicodec_spans.specs.Parts.{part}
-use Rattle.csicodec_filter.proofs.Written.{appends, appends_on, left_within}
+use Rattle.csicodec_filter.proofs.Written.{appends, appends_none, appends_on, left_within}
 use Rattle.csicodec_filter.proofs.spanwise.write_sure.Goals as goal
+
+pub loop-to-init : goal.loop-to-init
+loop-to-init g c = appends_none g.T.WriteSpans.written _ _
 
 pub returns-in_default-clause-written : goal.returns-in_default-clause-written
 returns-in_default-clause-written g c = appends_on g.T.WriteSpans.written _ _ _ _ _ _ c.loop-to.invariant c.in_ok-to.ensures

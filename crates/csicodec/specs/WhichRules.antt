@@ -1,5 +1,5 @@
--- Which rules a list falls under, by its final character, its first token and its last: another way to say which group it is in, and which rows
--- of the table read it.
+-- Which rules a list falls under, by its final character, its first token or its last, or in three of them its shape as a whole: another way to say
+-- which group it is in, and which rows of the table read it.
 use Prim.Native.Char.{Char, code}
 use Rattle.std.specs.Prelude.{ℕ, ◌≡◌, ◌==◌, ◌||◌, ◌&&◌, Bool, false, List, [], ◌∷◌, Option, None, Some, if◌then◌else◌, slice_get}
 use Rattle.std.specs.List.{list_any}

@@ -107,8 +107,9 @@ pub const COMPACT: &str = "\
 usage: csicodec compact [OPTION ..] [FILE ..]
 
 Write each FILE in fewer bytes with the same actions. A control sequence gets a
-shorter spelling if one is found, and SGR sequences that stand side by side are
-joined. All other bytes pass unchanged.
+shorter spelling if one is found. Most SGR sequences that stand side by side and
+come together are joined, up to 16 numbers in one. All other bytes pass
+unchanged.
 
 With no FILE, or when FILE is -, read standard input. An asciinema recording is
 written as a recording with the same times. A FILE is one if its name ends in
@@ -264,7 +265,8 @@ or of the kind totals, nothing is written.
 
 With no FILE, or when FILE is -, read standard input. A line is refused if it
 isn't such an object, if it is over 16 MiB long, or if no sequence has its
-actions.
+actions. With actions alone it is also refused if it is over 8 MiB long, and may
+be if a value in it has a key text or hex.
 
   -h, --help     Show this text.";
 

@@ -46,8 +46,8 @@ abbrev pub group_by : Option CsiParam → ℕ → Group
 group_by first final = if final == 109 then style_group first
     else if is_byte 63 first then dec_group final else plain_group final
 
--- Styles and modes are cut into pieces, and every other list is read whole. A table of rules by the final, the first and the last token chooses
--- the same (law `which_rules` of csicodec).
+-- Styles and modes are cut into pieces, and every other list is read whole. A table of rules by the final, the first or the last token, or the
+-- shape of the list, chooses the same (law `which_rules` of csicodec).
 abbrev pub group : List CsiParam → ℕ → Group
 group list final = group_by (slice_get list 0) final
 

@@ -1,11 +1,15 @@
 -- Whether all characters of a stream are of a class, as those of plain text are, and where the first stands that isn't.
-use Rattle.std.specs.Prelude.{ℕ, ◌≡◌, ◌==◌, ◌<◌, ◌-◌, ◌^◌, suc, min, Bool, false, List, ◌++◌, length, count_by, Some}
+use Rattle.std.specs.Prelude.{ℕ, ◌≡◌, ◌≢◌, ◌==◌, ◌<◌, ◌-◌, ◌^◌, suc, min, Bool, false, List, [], ◌∷◌, ◌++◌, length, count_by, Some}
 use Rattle.bstr.specs.Utf8.{decoded}
 use Rattle.csicodec_clean.specs.Shown.{IsTextOf}
 
 -- no character of the class stands in front: none at all, another, or what is no UTF-8
 abbrev pub IsOutside : (ℕ → Bool) → List ℕ → Type 0
 IsOutside class bytes = (c : ℕ) → (decoded bytes).char ≡ Some c → class c ≡ false
+
+-- The same stands in front, whatever follows: the same character, or none. It is no ESC alone, of which the next byte tells what it begins.
+abbrev pub IsSure : List ℕ → Type 0
+IsSure bytes = (bytes ≢ 27 ∷ []) × ((more : List ℕ) → decoded (bytes ++ more) ≡ decoded bytes)
 
 -- how many lines end in the text
 abbrev pub line_ends : List ℕ → ℕ

@@ -2,7 +2,7 @@
 ghost use Rattle.std.specs.Prelude.{◌≡◌, ◌⊎◌, ◌<◌, ◌≤◌, ◌++◌, ℕ, Bool, List, [], length, take, true, false, OnOk, IfOk, IfErr};
 ghost use Rattle.std.specs.Io.KnownBytes.{Consumes, IsAtEnd};
 ghost use Rattle.bstr.specs.Utf8.{decoded};
-ghost use Rattle.csicodec_clean.specs.Check.{IsFault, IsOutside, Stands, line_ends};
+ghost use Rattle.csicodec_clean.specs.Check.{IsFault, IsOutside, IsSure, Stands, line_ends};
 ghost use Rattle.csicodec_clean.specs.Shown.{IsBehind, IsTextOf};
 
 use crate::text::is_shown;
@@ -145,6 +145,7 @@ impl Checked {
         // Whatever follows, no character of the class stands there.
         ensures over { IfOk result (λ waits. waits ≡ false → (0 < length self.new.rest.items)
             × ((more : List ℕ) → IsOutside C.class (self.new.rest.items ++ more))) }
+        ensures sure { IfOk result (λ waits. waits ≡ false → IsSure self.new.rest.items) }
     {
         self.rest.extend_from_slice(bytes)?;
         self.pass::<C>();
@@ -167,7 +168,8 @@ pub fn check_all<C: CharClass, R: Read>(alloc: Global, input: &mut R) -> Result<
     // Else this is the place of the first that isn't: whatever follows, or at its end, with nothing behind.
     ensures fault { IfOk result (λ found. 0 < length found.rest.items → (bytes : List ℕ)
         × Consumes (R.remaining input.old) (R.remaining input.new) bytes
-        × (((more : List ℕ) → IsFault C.class (bytes ++ more) (found.rest.items ++ more) found.at found.line)
+        × ((IsSure found.rest.items
+        × ((more : List ℕ) → IsFault C.class (bytes ++ more) (found.rest.items ++ more) found.at found.line))
         ⊎ (IsAtEnd (R.remaining input.new) × IsFault C.class bytes found.rest.items found.at found.line))) }
     ensures err { IfErr result (λ e. (e ≡ RunError.Read) ⊎ (e ≡ RunError.Memory)) }
 {

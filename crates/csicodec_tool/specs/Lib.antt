@@ -1,4 +1,5 @@
 pub mod Alone
+pub mod Found
 pub mod Log
 pub mod Stream
 pub mod Visible

@@ -1,26 +1,29 @@
 //! Where a stream is plain text no more, or plain text that is all seen.
 ghost use Rattle.std.specs.Prelude.{◌≡◌, ◌⊎◌, ◌<◌, ◌++◌, ℕ, List, [], length, IfOk, IfErr};
 ghost use Rattle.std.specs.Io.KnownBytes.{Consumes, IsAtEnd};
-ghost use Rattle.csicodec_clean.specs.Check.{IsFault};
 ghost use Rattle.csicodec_clean.specs.Shown.{IsTextOf};
 ghost use Rattle.csicodec_command.specs.declared.failure.Failure.TheVariants.{NotPlain, Run as Ran};
 ghost use Rattle.csicodec_command.specs.declared.failure.Found.{Found as FoundOf};
 ghost use Rattle.csicodec_streams.specs.declared.error.RunError.{RunError as RunErrorOf};
+ghost use Rattle.csicodec_tool.specs.Found.{IsFound, by_char, found_at};
 ghost use Rattle.csicodec_tool.specs.Visible.{class_of};
 
 use crate::rewritten_cast::no_memory;
 use crate::visible::{VisibleText, is_tag, turns};
 use bstr::decode_utf8;
-use csicodec_clean::{CharClass, Checked, PlainText, check_all};
+use csicodec_clean::{CharClass, Checked, PlainText, check_all, is_shown};
 use csicodec_command::{Failure, Found, Recording};
 use std::alloc::{AllocError, Global};
 use std::io::{BufRead, Read};
 
 const ESC: u8 = 0x1b;
 
-/// What stands in front, where that is a character that isn't seen, or no UTF-8.
-fn unseen(bytes: &[u8]) -> Found {
-    match decode_utf8(bytes).0 {
+/// What the character in front is told as, if there is one.
+fn by_char(front: Option<char>) -> Found
+    ensures { result ≡ by_char front }
+{
+    match front {
+        Some(char) if !is_shown(char) => Found::Control(char as u8),
         Some(char) if turns(char) => Found::Turning(u32::from(char)),
         Some(char) if is_tag(char) => Found::Tag(u32::from(char)),
         Some(char) => Found::Unseen(u32::from(char)),
@@ -29,23 +32,22 @@ fn unseen(bytes: &[u8]) -> Found {
 }
 
 /// What stands in front, where that is no plain text, or none that is seen.
-fn found(bytes: &[u8]) -> Found {
+fn found(bytes: &[u8]) -> Found
+    ensures { result ≡ found_at bytes.now }
+{
     match bytes {
         [ESC, b'[', ..] => Found::Sequence,
         [ESC, b']' | b'P' | b'X' | b'^' | b'_', ..] => Found::String,
         [ESC, ..] => Found::Escape,
-        [0xc2, code, ..] if 0x80 <= *code && *code < 0xa0 => Found::Control(*code),
-        [code, ..] if *code < b' ' || *code == 0x7f => Found::Control(*code),
-        _ => unseen(bytes),
+        _ => by_char(decode_utf8(bytes).0),
     }
 }
 
 /// Whether the stream that was read is as it is to be, or where it is so no more.
 fn outcome(checked: &Checked) -> Result<(), Failure>
     ensures ok { IfOk result (λ _. checked.now.rest.items ≡ []) }
-    ensures err { IfErr result (λ e. (found : FoundOf)
-        × (e ≡ NotPlain checked.now.at checked.now.line found)
-        × (0 < length checked.now.rest.items)) }
+    ensures err { IfErr result (λ e. (0 < length checked.now.rest.items)
+        × (e ≡ NotPlain checked.now.at checked.now.line (found_at checked.now.rest.items))) }
 {
     if checked.rest.is_empty() {
         return Ok(());
@@ -62,8 +64,8 @@ fn check_class<C: CharClass, R: Read>(alloc: Global, input: &mut R) -> Result<()
     ensures fault { IfErr result (λ e. ((error : RunErrorOf) × (e ≡ Ran error))
         ⊎ ((at line : ℕ) × (found : FoundOf) × (bytes rest : List ℕ) × (e ≡ NotPlain at line found)
         × Consumes (R.remaining input.old) (R.remaining input.new) bytes
-        × (((more : List ℕ) → IsFault C.class (bytes ++ more) (rest ++ more) at line)
-        ⊎ (IsAtEnd (R.remaining input.new) × IsFault C.class bytes rest at line)))) }
+        × (((more : List ℕ) → IsFound C.class (bytes ++ more) (rest ++ more) at line found)
+        ⊎ (IsAtEnd (R.remaining input.new) × IsFound C.class bytes rest at line found)))) }
 {
     let checked = check_all::<C, R>(alloc, input)?;
     outcome(&checked)
@@ -75,12 +77,12 @@ pub fn check_stream<R: Read>(alloc: Global, visible: bool, input: &mut R) -> Res
     ensures ok { IfOk result (λ _. (bytes : List ℕ)
         × Consumes (R.remaining input.old) (R.remaining input.new) bytes
         × IsAtEnd (R.remaining input.new) × IsTextOf (class_of visible) bytes) }
-    // A place that is told is that of the first character which isn't as it is to be, whatever follows.
+    // A place that is told is that of the first character which isn't as it is to be, and what is told of it holds, whatever follows.
     ensures fault { IfErr result (λ e. ((error : RunErrorOf) × (e ≡ Ran error))
         ⊎ ((at line : ℕ) × (found : FoundOf) × (bytes rest : List ℕ) × (e ≡ NotPlain at line found)
         × Consumes (R.remaining input.old) (R.remaining input.new) bytes
-        × (((more : List ℕ) → IsFault (class_of visible) (bytes ++ more) (rest ++ more) at line)
-        ⊎ (IsAtEnd (R.remaining input.new) × IsFault (class_of visible) bytes rest at line)))) }
+        × (((more : List ℕ) → IsFound (class_of visible) (bytes ++ more) (rest ++ more) at line found)
+        ⊎ (IsAtEnd (R.remaining input.new) × IsFound (class_of visible) bytes rest at line found)))) }
 {
     if visible {
         check_class::<VisibleText, R>(alloc, input)

@@ -13,7 +13,14 @@ returns-in-Ok-false-clause-fault g c = λ some.
     let now = c.in-Ok-false.ensures.stands read stands in (
       read ++ chunk,
       Consumes-trans _ _ _ read chunk consumed c.in_ok-count.ensures.read.0,
-      inl (λ more. (more_came g.C.CharClass.class (read ++ chunk) rest more c.push.new.self.at c.push.new.self.line now, omega (arith, some, length-append rest more), over.1 more)),
+      inl (
+        c.in-Ok-false.ensures.sure c.in-Ok-false.field-0-test,
+        λ more. (
+          more_came g.C.CharClass.class (read ++ chunk) rest more c.push.new.self.at c.push.new.self.line now,
+          omega (arith, some, length-append rest more),
+          over.1 more,
+        ),
+      ),
     )
 
 pub returns-then-count-eq0-clause-fault : goal.returns-then-count-eq0-clause-fault

@@ -13,7 +13,6 @@ ghost use Rattle.csicodec_explain.specs.Remade.{Ends, HasBegun, IsRemade, Remake
 
 use crate::made::Maker;
 use csicodec_assemble::{Fault, Refusal, bytes_of_line, split_line};
-use memchr::memmem::find;
 use std::alloc::{AllocError, Global};
 
 /// The most bytes of a line that is held, 8 MiB: all actions of the longest control sequence are less. Longer ones stay as they are.
@@ -30,22 +29,29 @@ pub struct Remaker {
     long: bool,
 }
 
-/// Whether `"text":` stands near the front of a line, as `explain` mostly writes it.
-fn has_text_near(line: &[u8]) -> bool {
-    let mut rest = line;
-    for _ in 0..64 {
+/// Whether what follows begins with the name `text` or `hex`, and a colon.
+fn begins_bytes(rest: &[u8]) -> bool {
+    rest.starts_with(b"\"text\":") || rest.starts_with(b"\"hex\":")
+}
+
+/// Whether a line of JSON has bytes as `explain` writes it: `text` or `hex` of its own, ahead of the arrays and objects in it. Quotation
+/// marks within a string are escaped, so where one stands behind a comma it begins a name.
+fn has_bytes(line: &[u8]) -> bool {
+    let [_, members @ ..] = line else {
+        return false;
+    };
+    let mut rest = members;
+    if begins_bytes(rest) {
+        return true;
+    }
+    for _ in 0..members.len() {
         match rest {
-            [b'"', b't', b'e', b'x', b't', b'"', b':', ..] => return true,
+            [b',', behind @ ..] if begins_bytes(behind) => return true,
+            [b'{' | b'[', ..] | [] => return false,
             [_, behind @ ..] => rest = behind,
-            [] => return false,
         }
     }
     false
-}
-
-/// Whether a line has bytes as `explain` writes it.
-fn has_bytes(line: &[u8]) -> bool {
-    has_text_near(line) || find(line, b"\"text\":").is_some() || find(line, b"\"hex\":").is_some()
 }
 
 /// Whether a line is an object with actions, and neither `text` nor `hex`.

@@ -1,7 +1,8 @@
 -- A line whose object begins with a place: what follows that place says what the line stands for.
 use Rattle.std.proofs.Common.{◌≡◌, ℕ, ◌-◌, ◌≤◌, Bool, true, false, List, [], ◌∷◌, ◌++◌, length, get_or, take, drop, Option}
-use Rattle.std.proofs.Common.{Some, None, Ok, IsSome, refl, sym, ap, ◌∙◌, subst, arith, rules, Bor, IfSome}
+use Rattle.std.proofs.Common.{Some, None, Ok, Err, IsSome, cond, refl, sym, ap, ◌∙◌, subst, arith, rules, Bor, IfSome}
 use Rattle.std.specs.Prelude.{IsUtf8, codes, option_map}
+use Rattle.std.specs.Str.{is_utf8}
 use Rattle.std.proofs.lemmas.List.{take_all}
 use Rattle.std.proofs.lemmas.Str.{IsUtf8-append, IsUtf8-from_ascii}
 use Rattle.json.specs.Token.{Token, begin_object, key, number}
@@ -14,7 +15,8 @@ use Rattle.json.proofs.Printed.Numbers.{lex-number}
 use Rattle.serde_json.specs.Data as values
 use Rattle.serde_json.specs.Data.{Data, Members, Num, no_members, put, object}
 use Rattle.serde_json.specs.Read.{converted, number_of, of_json, read}
-use Rattle.csicodec_assemble.specs.Object.{of_line}
+use Rattle.csicodec_assemble.specs.declared.object.Fault.TheVariants.{NoObject}
+use Rattle.csicodec_assemble.specs.Object.{of_line, of_read}
 use Rattle.csicodec_assemble.specs.Private.Glance.{Follow, Says, Stands}
 use Rattle.csicodec_assemble.proofs.Member.{apart, converted-object, is_there, line_is, member_read, says_object, says_other, whole_read}
 
@@ -138,3 +140,13 @@ six_cut (a ∷ b ∷ c ∷ d ∷ e ∷ []) some p q r s t u = absurd (omega (ari
 six_cut (a ∷ b ∷ c ∷ d ∷ e ∷ f ∷ xs) some p q r s t u =
     let whole : take (length (a ∷ b ∷ c ∷ d ∷ e ∷ f ∷ xs) - 6) xs ≡ xs = take_all (length (a ∷ b ∷ c ∷ d ∷ e ∷ f ∷ xs) - 6) xs (omega arith) in
     rw (p, q, r, s, t, u) (ap (λ (l : List ℕ). 123 ∷ 34 ∷ 97 ∷ 116 ∷ 34 ∷ 58 ∷ l) (sym whole))
+
+-- ---- no line
+
+read_empty : (t : Bool) → of_read (cond t (read []) None) ≡ Err NoObject
+unfolding lex punctuate value
+read_empty true = refl
+read_empty false = refl
+
+pub of_empty : of_line [] ≡ Err NoObject
+of_empty = read_empty (is_utf8 [])

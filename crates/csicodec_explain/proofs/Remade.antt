@@ -1,11 +1,14 @@
 -- Lines one after the other, and what is written of them.
-use Rattle.std.proofs.Common.{◌≡◌, ◌≢◌, inl, inr, ℕ, ◌==◌, Bool, true, false, not, List, [], ◌∷◌, ◌++◌, Err, cond, refl, sym, ap, subst, ◌∙◌, append_assoc, append-nil}
+use Rattle.std.specs.Prelude.{slice_index}
+use Rattle.std.proofs.Common.{◌≡◌, ◌≢◌, inl, inr, ℕ, ◌/◌, ◌%◌, zero, suc, ◌==◌, Bool, true, false, not, List, [], ◌∷◌, ◌++◌, Err, cond, refl, sym, ap, subst, ◌∙◌, append_assoc, append-nil}
 use Rattle.std.specs.List.{list_all}
 use Rattle.std.proofs.lemmas.Bool.{and_parts, eqb-true}
+use Rattle.std.proofs.lemmas.List.Folds.{list_all-append}
+use Rattle.hex.specs.Hex.{encode_lower, encode_with, lower_digits}
 use Rattle.csicodec_assemble.specs.declared.object.Fault.TheVariants.{NoSequence}
 use Rattle.csicodec_assemble.specs.Lines.{ended}
 use Rattle.csicodec_assemble.specs.Object.{of_line}
-use Rattle.csicodec_explain.specs.Remade.{AreKept, AreRemade, Ends, HasBegun, IsRemade, Remakes, RemakesAll, line_behind, lines_over, passed}
+use Rattle.csicodec_explain.specs.Remade.{AreKept, AreRemade, Ends, HasBegun, IsRemade, Remakes, RemakesAll, line_behind, lines_over, object_of, passed}
 
 -- ---- lines
 
@@ -14,7 +17,7 @@ over-if : (t : Bool) (line a b other : List ℕ) (p q x y : List (List ℕ)) →
 over-if true line a b other p q x y e f = ap (λ (s : List (List ℕ)). line ∷ s) e
 over-if false line a b other p q x y e f = f
 
-over_then : (begun one other : List ℕ) → lines_over begun (one ++ other) ≡ lines_over begun one ++ lines_over (line_behind begun one) other
+pub over_then : (begun one other : List ℕ) → lines_over begun (one ++ other) ≡ lines_over begun one ++ lines_over (line_behind begun one) other
 over_then begun [] other = refl
 over_then begun (b ∷ one) other =
     over-if (b == 10) begun (line_behind [] one) (line_behind (begun ++ b ∷ []) one) other (lines_over [] (one ++ other))
@@ -44,23 +47,45 @@ over_on b begun more other = rw other refl
 behind_on : (b : ℕ) (begun more : List ℕ) → (b == 10) ≡ false → line_behind begun (b ∷ more) ≡ line_behind (begun ++ b ∷ []) more
 behind_on b begun more other = rw other refl
 
-over_run : (run begun more : List ℕ) → Runs run → lines_over begun (run ++ more) ≡ lines_over (begun ++ run) more
+pub over_run : (run begun more : List ℕ) → Runs run → lines_over begun (run ++ more) ≡ lines_over (begun ++ run) more
 over_run [] begun more h = ap (λ (s : List ℕ). lines_over s more) (sym (append-nil begun))
 over_run (b ∷ run) begun more h =
     let parts = and_parts (not (b == 10)) (list_all (λ c. not (c == 10)) run) h in
     over_on b begun (run ++ more) (is_false (b == 10) parts.0) ∙ over_run run (begun ++ b ∷ []) more parts.1
     ∙ ap (λ (s : List ℕ). lines_over s more) (append_assoc begun (b ∷ []) run)
 
-behind_run : (run begun more : List ℕ) → Runs run → line_behind begun (run ++ more) ≡ line_behind (begun ++ run) more
+pub behind_run : (run begun more : List ℕ) → Runs run → line_behind begun (run ++ more) ≡ line_behind (begun ++ run) more
 behind_run [] begun more h = ap (λ (s : List ℕ). line_behind s more) (sym (append-nil begun))
 behind_run (b ∷ run) begun more h =
     let parts = and_parts (not (b == 10)) (list_all (λ c. not (c == 10)) run) h in
     behind_on b begun (run ++ more) (is_false (b == 10) parts.0) ∙ behind_run run (begun ++ b ∷ []) more parts.1
     ∙ ap (λ (s : List ℕ). line_behind s more) (append_assoc begun (b ∷ []) run)
 
+-- ---- what is written of a line has no LF either
+
+no_lf : (digits : List ℕ) (n : ℕ) → Runs digits → not (slice_index digits n == 10) ≡ true
+no_lf [] n h = refl
+no_lf (d ∷ digits) zero h = (and_parts (not (d == 10)) (list_all (λ c. not (c == 10)) digits) h).0
+no_lf (d ∷ digits) (suc n) h =
+    no_lf digits n (and_parts (not (d == 10)) (list_all (λ c. not (c == 10)) digits) h).1
+
+digits_line : (bytes : List ℕ) → Runs (encode_lower bytes)
+unfolding encode_with
+digits_line [] = refl
+digits_line (b ∷ bytes) = rw (no_lf lower_digits (b / 16) refl, no_lf lower_digits (b % 16) refl) (digits_line bytes)
+
+object_line : (bytes : List ℕ) → Runs (object_of bytes)
+object_line bytes =
+    list_all-append (λ (c : ℕ). not (c == 10)) (encode_lower bytes) (34 ∷ 125 ∷ [])
+    ∙ rw (digits_line bytes) refl
+
+pub remade_line : (line text : List ℕ) → Runs line → IsRemade line text → Runs text
+remade_line line text is (inl e) = rw e is
+remade_line line text is (inr (short, refused, (bytes, e))) = rw e (object_line bytes)
+
 -- ---- what is written of them
 
-remade_then : (lines more : List (List ℕ)) (text other : List ℕ) → AreRemade lines text → AreRemade more other → AreRemade (lines ++ more) (text ++ other)
+pub remade_then : (lines more : List (List ℕ)) (text other : List ℕ) → AreRemade lines text → AreRemade more other → AreRemade (lines ++ more) (text ++ other)
 remade_then [] more text other none h = rw none h
 remade_then (line ∷ lines) more text other remade h =
     let (first, others, e, is, later) = remade in
@@ -104,7 +129,7 @@ ended-if true begun b bytes x y xs ys is e f =
     append_assoc begun (10 ∷ ended xs) x ∙ ap (λ (s : List ℕ). begun ++ 10 ∷ s) e ∙ ap (λ (c : ℕ). begun ++ c ∷ bytes) (sym (is refl))
 ended-if false begun b bytes x y xs ys is e f = f ∙ append_assoc begun (b ∷ []) bytes
 
-whole_lines : (bytes begun : List ℕ) → ended (lines_over begun bytes) ++ line_behind begun bytes ≡ begun ++ bytes
+pub whole_lines : (bytes begun : List ℕ) → ended (lines_over begun bytes) ++ line_behind begun bytes ≡ begun ++ bytes
 whole_lines [] begun = sym (append-nil begun)
 whole_lines (b ∷ bytes) begun =
     ended-if (b == 10) begun b bytes (line_behind [] bytes) (line_behind (begun ++ b ∷ []) bytes) (lines_over [] bytes) (lines_over (begun ++ b ∷ []) bytes)

@@ -1,3 +1,4 @@
+pub mod Assembled
 pub mod Logged
 pub mod Whole
 pub mod Written

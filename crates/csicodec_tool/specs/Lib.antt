@@ -1,4 +1,5 @@
 pub mod Alone
+pub mod Assembled
 pub mod Found
 pub mod Log
 pub mod Stream

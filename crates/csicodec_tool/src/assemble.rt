@@ -1,5 +1,10 @@
 //! What lines of JSON stand for, as they come.
-ghost use Rattle.std.specs.Prelude.{⊤};
+ghost use Rattle.std.specs.Prelude.{◌≡◌, ◌++◌, [], ℕ, List};
+ghost use Rattle.csicodec_tool.specs.Alone.{AssemblesLines};
+ghost use Rattle.csicodec_tool.specs.Assembled.{Stands, Takes};
+ghost use Rattle.csicodec_assemble.specs.declared.object.Fault.{Fault};
+ghost use Rattle.csicodec_assemble.specs.declared.object.Refusal.TheVariants.{Line};
+ghost use Rattle.csicodec_command.specs.declared.failure.Failure.TheVariants.{Object};
 
 use csicodec_assemble::{Assembler, Refusal};
 use csicodec_command::{Alone, Failure};
@@ -22,7 +27,9 @@ struct ObjectLines {
 }
 
 impl ObjectLines {
-    fn new(alloc: Global) -> ObjectLines {
+    fn new(alloc: Global) -> ObjectLines
+        ensures { Stands [] [] result }
+    {
         ObjectLines {
             remaker: Remaker::new(alloc),
             assembler: Assembler::new(alloc),
@@ -31,20 +38,29 @@ impl ObjectLines {
     }
 
     /// Takes bytes, none where the input is over, and appends what the lines stand for that end there.
-    fn take(&mut self, bytes: &[u8], out: &mut Vec<u8>) -> Result<(), Refusal> {
+    fn take(&mut self, bytes: &[u8], out: &mut Vec<u8>) -> Result<(), Refusal>
+        ensures { (read sure : List ℕ) → Stands read sure self.old → (more : List ℕ)
+            × Takes result read bytes.now (sure ++ more) self.new
+            × (out.new.items ≡ out.old.items ++ more) }
+    {
         self.made.clear();
         if !bytes.is_empty() {
             self.remaker.take(bytes, &mut self.made)?;
             return self.assembler.take(&self.made, out);
         }
         self.remaker.end(&mut self.made)?;
-        self.assembler.take(&self.made, out)?;
-        self.assembler.end(out)
+        match self.assembler.take(&self.made, out) {
+            Ok(()) => self.assembler.end(out),
+            Err(refusal) => Err(refusal),
+        }
     }
 }
 
 /// What fails where a line is refused.
-fn failure_of(refusal: Refusal, line: u64) -> Failure {
+fn failure_of(refusal: Refusal, line: u64) -> Failure
+    ensures { (number : ℕ) (fault : Fault) → result ≡ Object number fault
+        → (refusal ≡ Line fault) × (number ≡ line) }
+{
     match refusal {
         Refusal::Line(fault) => Failure::Object(line, fault),
         Refusal::Memory => Failure::Run(RunError::Memory),
@@ -52,7 +68,7 @@ fn failure_of(refusal: Refusal, line: u64) -> Failure {
 }
 
 impl Alone for Assembly {
-    ghost goes = { λ _ _ _ _. ⊤ };
+    ghost goes = { AssemblesLines };
 
     fn gives_reasons(&self) -> bool {
         true
@@ -72,7 +88,9 @@ impl Alone for Assembly {
             let taken = lines.take(&chunk[..len], &mut out);
             send(output, &out)?;
             out.clear();
-            taken.map_err(|refusal| failure_of(refusal, lines.assembler.number()))?;
+            if let Err(refusal) = taken {
+                return Err(failure_of(refusal, lines.assembler.number()));
+            }
             if len == 0 {
                 return Ok(());
             }

@@ -15,6 +15,7 @@ pub mod Stays
 pub mod Same
 pub mod Paged
 pub mod Room
+pub mod Rows
 pub mod Lost
 pub mod Came
 pub mod Straight

@@ -56,7 +56,7 @@ narrow_few n = by (nat_le n 2) refl
     by true e = grind (arith, nat_tests)
     by false e = omega arith
 
-columns_onto : (left right : List Cell) → columns (onto left right) ≡ columns left + columns right
+pub columns_onto : (left right : List Cell) → columns (onto left right) ≡ columns left + columns right
 columns_onto [] right = omega arith
 columns_onto (cell ∷ left) right = columns_onto left (cell ∷ right) ∙ omega arith
 
@@ -120,11 +120,11 @@ empty_line l h k = ap (λ (side : List Cell). line side l.right) (no_cells l.lef
 
 -- ---- cells of which the farthest are empty
 
-columns_both : (xs ys : List Cell) → columns (xs ++ ys) ≡ columns xs + columns ys
+pub columns_both : (xs ys : List Cell) → columns (xs ++ ys) ≡ columns xs + columns ys
 columns_both [] ys = omega arith
 columns_both (x ∷ xs) ys = omega (arith, columns_both xs ys)
 
-columns_empty : (n : ℕ) → columns (replicate n Empty) ≡ n
+pub columns_empty : (n : ℕ) → columns (replicate n Empty) ≡ n
 columns_empty zero = refl
 columns_empty (suc n) = omega (arith, columns_empty n)
 

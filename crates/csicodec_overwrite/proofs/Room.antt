@@ -36,7 +36,7 @@ joined n x xs = omega (arith, length-append (replicate n x) xs, length-replicate
 empties : (n : ℕ) → length (replicate n Empty) ≡ n
 empties n = length-replicate n Empty
 
-moved : (xs ys : List Cell) → length (onto xs ys) ≡ length xs + length ys
+pub moved : (xs ys : List Cell) → length (onto xs ys) ≡ length xs + length ys
 moved [] ys = omega arith
 moved (x ∷ xs) ys = omega (arith, moved xs (x ∷ ys))
 
@@ -98,7 +98,7 @@ back_size n (x ∷ left) right =
     always (λ (m : Line). size m ≡ suc (length left) + length right) (n == 0) (line (x ∷ left) right) (back (n - takes x) left (x ∷ right))
     (omega arith) (omega (arith, back_size (n - takes x) left (x ∷ right)))
 
-over_size : (n : ℕ) (left right : List Cell) → size (over n left right) ≡ length left + length right
+pub over_size : (n : ℕ) (left right : List Cell) → size (over n left right) ≡ length left + length right
 over_size n left [] = omega arith
 over_size n left (x ∷ right) =
     always (λ (m : Line). size m ≡ length left + suc (length right)) (nat_lt n (takes x)) (line left (x ∷ right))

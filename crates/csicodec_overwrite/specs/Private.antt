@@ -5,3 +5,4 @@ pub mod Plain
 pub mod Front
 pub mod Alike
 pub mod Shifted
+pub mod Row

@@ -2,6 +2,7 @@
 ghost use Rattle.std.specs.Prelude.{◌≡◌, ◌==◌, ◌∷◌, ◌++◌, [], ◌≤◌, ◌<◌, length, min, false, IfSome};
 ghost use Rattle.std.specs.List.{AllByRecursion};
 ghost use Rattle.csicodec_overwrite.specs.Private.Plain.{AreLines, IsLineByte, IsUntabbed, end_of};
+ghost use Rattle.csicodec_overwrite.specs.Private.Row.{IsHere};
 ghost use Rattle.csicodec_overwrite.specs.Steps.{of_char};
 
 use crate::step::Step;
@@ -99,7 +100,8 @@ pub(crate) fn begins_sequence(bytes: &[u8]) -> bool {
 
 /// What such a byte does.
 pub(crate) fn plain_step(byte: u8) -> Step
-    ensures { IsLineByte byte → of_char byte ≡ result ∷ [] }
+    ensures step { IsLineByte byte → of_char byte ≡ result ∷ [] }
+    ensures here { IsHere result }
 {
     if byte == b'\t' {
         return Step::Tab;

@@ -12,6 +12,7 @@ mod page;
 mod paint;
 mod pen;
 mod reader;
+mod row;
 mod run;
 mod seen;
 mod sides;

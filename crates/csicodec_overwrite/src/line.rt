@@ -1,10 +1,11 @@
 //! A line and its cursor.
-ghost use Rattle.std.specs.Prelude.{◌≡◌, ◌-◌, ◌++◌, [], false, true, IfOk, OnOk};
+ghost use Rattle.std.specs.Prelude.{◌≡◌, ◌-◌, ◌++◌, ◌+◌, [], false, nat_le, true, IfOk, OnOk};
 ghost use Rattle.std.specs.List.{AllByRecursion};
 ghost use Rattle.csicodec_overwrite.specs.Cells.{columns, glyph, onto};
-ghost use Rattle.csicodec_overwrite.specs.Line.{at_column, back, behind_columns, blank, cells_of, delete, do_all, does, erase, erase_all, erase_left, erase_right, fits, forward, from_stop, in_row, insert, leave, line, lines_of, over, parted, pen_behind, pen_behind_all, placed, put, repeated, restored, size, target, to_stop};
+ghost use Rattle.csicodec_overwrite.specs.Line.{back, behind_columns, blank, cells_of, delete, do_all, does, erase, erase_all, erase_left, erase_right, fits, forward, insert, line, lines_of, over, parted, pen_behind_all, placed, put, repeated, size};
 ghost use Rattle.csicodec_overwrite.specs.Paint.{ended, text_of, texts_of};
 ghost use Rattle.csicodec_overwrite.specs.Private.Plain.{IsLineByte, PutsRun};
+ghost use Rattle.csicodec_overwrite.specs.Private.Row.{IsHere, settled};
 ghost use Rattle.csicodec_overwrite.specs.Steps.{of_chars};
 ghost use Rattle.csicodec_overwrite.specs.declared.step.Step.TheVariants.{Tab};
 
@@ -12,9 +13,9 @@ use crate::ascii::{plain_step, split_run};
 use crate::cells::{Cell, Glyph, Side};
 use crate::marking::Marking;
 use crate::paint::append_cells;
-use crate::pen::{Pen, set_look};
+use crate::pen::Pen;
 use crate::sides::{delete_columns, erase_columns, loosen, move_all, undo};
-use crate::step::{Step, WIDEST};
+use crate::step::Step;
 use crate::width::width;
 use std::alloc::{AllocError, Global};
 
@@ -62,7 +63,7 @@ impl Line {
     }
 
     /// So many columns to the left.
-    fn back(&mut self, count: usize) -> Result<(), AllocError>
+    pub(crate) fn back(&mut self, count: usize) -> Result<(), AllocError>
         ensures { OnOk result (self.new ≡ back count self.old.left self.old.right) }
     {
         let mut left = count;
@@ -102,6 +103,32 @@ impl Line {
         self.left.push_empty(some)
     }
 
+    /// Whether it has so many columns.
+    fn has_columns(&self, count: usize) -> bool
+        ensures { result ≡ nat_le count (columns self.now.left + columns self.now.right) }
+    {
+        count.saturating_sub(self.left.columns()) <= self.right.columns()
+    }
+
+    /// The columns left of the cursor, where it is to go behind so many.
+    fn reached(&self, limit: usize, count: usize) -> usize
+        ensures { result ≡ columns (behind_columns limit count self.now).left }
+    {
+        let missing = count.saturating_sub(self.left.columns());
+        let missing = missing.saturating_sub(self.right.columns());
+        count.saturating_sub(missing.saturating_sub(self.room(limit)))
+    }
+
+    /// The columns left of the cursor, where it stands or is to go.
+    pub(crate) fn column(&self, limit: usize, to: Option<usize>) -> usize
+        ensures { result ≡ columns (settled limit to self.now).left }
+    {
+        match to {
+            Some(count) => self.reached(limit, count),
+            None => self.left.columns(),
+        }
+    }
+
     /// Behind so many columns.
     fn behind_columns(&mut self, limit: usize, count: usize) -> Result<(), AllocError>
         ensures { OnOk result (self.new ≡ behind_columns limit count self.old) }
@@ -116,29 +143,29 @@ impl Line {
         self.forward(limit, count.saturating_sub(column))
     }
 
-    /// To this column.
-    fn to_column(&mut self, limit: usize, column: u32) -> Result<(), AllocError>
-        ensures { OnOk result (self.new ≡ at_column limit column self.old) }
+    /// Puts the columns that it lacks where the cursor is to go, which then goes elsewhere.
+    pub(crate) fn pad(&mut self, limit: usize, to: Option<usize>) -> Result<(), AllocError>
+        ensures { OnOk result ((n : _)
+            → behind_columns limit n self.new ≡ behind_columns limit n (settled limit to self.old)) }
     {
-        self.behind_columns(limit, column.saturating_sub(1) as usize)
+        let Some(at) = to else {
+            return Ok(());
+        };
+        if self.has_columns(at) {
+            return Ok(());
+        }
+        self.behind_columns(limit, at)
     }
 
-    /// So many tab stops to the right.
-    fn tabs(&mut self, limit: usize, count: u32) -> Result<(), AllocError>
-        ensures { OnOk result (self.new ≡ forward limit (to_stop count (columns self.old.left)) self.old) }
+    /// To where the cursor is to go, if it doesn't stand there.
+    #[inline(always)]
+    pub(crate) fn settle(&mut self, limit: usize, to: Option<usize>) -> Result<(), AllocError>
+        ensures { OnOk result (self.new ≡ settled limit to self.old) }
     {
-        let column = self.left.columns();
-        self.forward(limit, (8 * (count as usize)).saturating_sub(column % 8))
-    }
-
-    /// So many tab stops to the left.
-    fn tabs_back(&mut self, count: u32) -> Result<(), AllocError>
-        ensures { OnOk result
-            (self.new ≡ back (from_stop count (columns self.old.left)) self.old.left self.old.right) }
-    {
-        let column = self.left.columns();
-        let stops = (8 * (count as usize)).saturating_sub(7);
-        self.back(column.saturating_sub(1) % 8 + stops)
+        match to {
+            Some(count) => self.behind_columns(limit, count),
+            None => Ok(()),
+        }
     }
 
     /// Empties the columns of a character in which the cursor stands.
@@ -226,7 +253,11 @@ impl Line {
     }
 
     /// Takes all that stands there, and appends its text.
-    pub fn take_text(&mut self, marking: &Marking, out: &mut Vec<u8>) -> Result<(), AllocError>
+    pub(crate) fn take_text(
+        &mut self,
+        marking: &Marking,
+        out: &mut Vec<u8>,
+    ) -> Result<(), AllocError>
         ensures text { OnOk result
             (out.new.items ≡ out.old.items ++ text_of marking.now (cells_of self.old)) }
         ensures none { OnOk result (self.new ≡ blank) }
@@ -249,17 +280,6 @@ impl Line {
         Ok(())
     }
 
-    /// The columns left of a column, of which the first is 1, or of the cursor: at most 1,023.
-    fn target(&self, to: Option<u32>) -> usize
-        ensures { result ≡ target to self.now }
-    {
-        let column = match to {
-            Some(column) => column.saturating_sub(1) as usize,
-            None => self.left.columns(),
-        };
-        column.min(WIDEST as usize - 1)
-    }
-
     /// Appends what stands on the left, the farthest first, and a newline.
     fn end_left(&mut self, marking: &Marking, out: &mut Vec<u8>) -> Result<(), AllocError>
         requires { self.old.right ≡ [] }
@@ -274,7 +294,11 @@ impl Line {
     }
 
     /// Ends the line, if more than blanks stands in it.
-    fn end_some(&mut self, marking: &Marking, out: &mut Vec<u8>) -> Result<(), AllocError>
+    pub(crate) fn end_some(
+        &mut self,
+        marking: &Marking,
+        out: &mut Vec<u8>,
+    ) -> Result<(), AllocError>
         ensures text { OnOk result
             (out.new.items ≡ out.old.items ++ texts_of marking.now (lines_of self.old)) }
         ensures none { OnOk result (self.new ≡ blank) }
@@ -286,52 +310,6 @@ impl Line {
             return Ok(());
         }
         self.end_left(marking, out)
-    }
-
-    /// To another row, or maybe so: to this column, or to the same.
-    fn leave(
-        &mut self,
-        limit: usize,
-        to: Option<u32>,
-        marking: &Marking,
-        out: &mut Vec<u8>,
-    ) -> Result<(), AllocError>
-        ensures line { OnOk result (self.new ≡ (leave limit to self.old).line) }
-        ensures text { OnOk result
-            (out.new.items ≡ out.old.items ++ texts_of marking.now (leave limit to self.old).lines) }
-    {
-        let column = self.target(to);
-        self.end_some(marking, out)?;
-        self.forward(limit, column)
-    }
-
-    /// To this column of the same row, or to the same column.
-    fn in_row(&mut self, limit: usize, to: Option<u32>) -> Result<(), AllocError>
-        ensures { OnOk result (self.new ≡ in_row limit to self.old) }
-    {
-        match to {
-            Some(column) => self.to_column(limit, column),
-            None => Ok(()),
-        }
-    }
-
-    /// To the saved place, or to another row.
-    fn restore(
-        &mut self,
-        limit: usize,
-        pen: &Pen,
-        marking: &Marking,
-        out: &mut Vec<u8>,
-    ) -> Result<(), AllocError>
-        ensures line { OnOk result (self.new ≡ (restored limit pen.now self.old).line) }
-        ensures text { OnOk result
-            (out.new.items ≡ out.old.items ++ texts_of marking.now (restored limit pen.now self.old).lines) }
-    {
-        if pen.here {
-            return self.behind_columns(limit, pen.saved);
-        }
-        self.end_some(marking, out)?;
-        self.forward(limit, pen.saved)
     }
 
     /// Puts a character, on a line of its own where this has no room for it.
@@ -404,8 +382,8 @@ impl Line {
         self.forward(limit, count)
     }
 
-    /// Does a step where characters are put so, and appends the lines that are over with it.
-    fn act(
+    /// Does a step where the cursor stands, and appends the lines that are over with it.
+    pub(crate) fn act(
         &mut self,
         limit: usize,
         pen: &Pen,
@@ -413,6 +391,7 @@ impl Line {
         marking: &Marking,
         out: &mut Vec<u8>,
     ) -> Result<(), AllocError>
+        requires { IsHere step.now }
         ensures line { OnOk result (self.new ≡ (does limit pen.now step.now self.old).line) }
         ensures text { OnOk result
             (out.new.items ≡ out.old.items ++ texts_of marking.now (does limit pen.now step.now self.old).lines) }
@@ -421,78 +400,14 @@ impl Line {
             Step::Put(char) => self.put(limit, pen, char, marking, out),
             Step::Repeat(count) => self.repeat(limit, pen, count, marking, out),
             Step::Tab => self.tab(limit, pen, marking, out),
-            Step::Tabs(count) => self.tabs(limit, count),
-            Step::TabsBack(count) => self.tabs_back(count),
-            Step::NewLine => self.end(marking, out),
-            Step::Right(count) => self.forward(limit, count as usize),
-            Step::Left(count) => self.back(count as usize),
-            Step::Column(column) => self.to_column(limit, column),
             Step::EraseRight => self.erase_right(),
             Step::EraseLeft => self.erase_left(),
             Step::EraseAll => self.erase_all(),
             Step::Erase(count) => self.erase(count),
             Step::Delete(count) => self.delete(count),
             Step::Insert(count) => self.insert(limit, count),
-            Step::Restore => self.restore(limit, pen, marking, out),
-            Step::Row(row, to) if pen.is_in(row) => self.in_row(limit, to),
-            Step::Row(_, to) | Step::Leave(to) => self.leave(limit, to, marking, out),
-            Step::Attribute(_) | Step::Inserts(_) => Ok(()),
-            Step::Save | Step::Reset | Step::Other => Ok(()),
+            _ => Ok(()),
         }
-    }
-
-    /// Does a step, and behind it characters are put as `pen` says then.
-    #[inline(always)]
-    fn take(
-        &mut self,
-        limit: usize,
-        pen: &mut Pen,
-        step: &Step,
-        marking: &Marking,
-        out: &mut Vec<u8>,
-    ) -> Result<(), AllocError>
-        ensures line { OnOk result (self.new ≡ (does limit pen.old step.now self.old).line) }
-        ensures pen { OnOk result (pen.new ≡ pen_behind pen.old step.now (columns self.old.left)) }
-        ensures text { OnOk result
-            (out.new.items ≡ out.old.items ++ texts_of marking.now (does limit pen.old step.now self.old).lines) }
-    {
-        match *step {
-            Step::Other => pen.last = None,
-            Step::Attribute(attribute) => {
-                pen.last = None;
-                set_look(&mut pen.look, &attribute);
-            }
-            _ => {
-                let column = self.left.columns();
-                self.act(limit, pen, step, marking, out)?;
-                pen.take(*step, column);
-            }
-        }
-        Ok(())
-    }
-
-    /// Does the steps in turn.
-    #[inline(always)]
-    pub fn take_all(
-        &mut self,
-        limit: usize,
-        pen: &mut Pen,
-        steps: &[Step],
-        marking: &Marking,
-        out: &mut Vec<u8>,
-    ) -> Result<(), AllocError>
-        ensures line { OnOk result
-            (self.new ≡ (do_all limit pen.old steps.now self.old).line) }
-        ensures pen { OnOk result (pen.new ≡ pen_behind_all limit pen.old steps.now self.old) }
-        ensures text { OnOk result (out.new.items
-            ≡ out.old.items ++ texts_of marking.now (do_all limit pen.old steps.now self.old).lines) }
-    {
-        let mut rest = steps;
-        while let Some((step, behind)) = rest.split_first() {
-            self.take(limit, pen, step, marking, out)?;
-            rest = behind;
-        }
-        Ok(())
     }
 
     /// Whether characters go behind all that stands there.
@@ -553,7 +468,10 @@ impl Line {
     {
         let mut rest = self.put_run(limit, pen, text)?;
         while let Some((byte, behind)) = rest.split_first() {
-            self.take(limit, pen, &plain_step(*byte), marking, out)?;
+            let step = plain_step(*byte);
+            let column = self.left.columns();
+            self.act(limit, pen, &step, marking, out)?;
+            pen.take(step, column);
             rest = self.put_run(limit, pen, behind)?;
         }
         Ok(())

@@ -9,11 +9,11 @@ ghost use Rattle.csicodec_overwrite.specs.declared.marking.Marking.TheVariants.{
 
 use crate::ascii::{InLine, begins_sequence, behind_end, odd_len, split_lines};
 use crate::front::append_front;
-use crate::line::Line;
 use crate::marking::Marking;
 use crate::paint::{append_ascii, append_turn};
 use crate::pen::Pen;
 use crate::reader::Reader;
+use crate::row::Row;
 use crate::step::Step;
 use csicodec_clean::split_front;
 use csicodec_filter::Transform;
@@ -38,7 +38,7 @@ pub struct Overwriter {
     pen: Pen,
     /// As what lines are written.
     marking: Marking,
-    line: Line,
+    line: Row,
     /// A place that is kept for the steps of a slice.
     steps: Vec<Step>,
     /// Where more bytes than so many are left, the line can't be written as it comes.
@@ -78,7 +78,7 @@ impl Overwriter {
             reader: Reader::new(alloc),
             pen: Pen::new(),
             marking,
-            line: Line::new(alloc),
+            line: Row::new(alloc),
             steps: Vec::new(alloc),
             crooked: usize::MAX,
             missed: 0,
@@ -112,8 +112,7 @@ impl Overwriter {
             return Ok(bytes);
         }
         let (text, rest) = split_front::<InLine>(bytes);
-        self.line
-            .put_text(LIMIT, &mut self.pen, text, &self.marking, out)?;
+        self.line.put_text(&mut self.pen, text, &self.marking, out)?;
         Ok(rest)
     }
 
@@ -127,7 +126,7 @@ impl Overwriter {
         self.steps.clear();
         self.reader.push(bytes, &mut self.steps)?;
         self.line
-            .take_all(LIMIT, &mut self.pen, &self.steps, &self.marking, out)?;
+            .take_all(&mut self.pen, &self.steps, &self.marking, out)?;
         Ok(())
     }
 
@@ -157,7 +156,7 @@ impl Overwriter {
             return Ok(None);
         };
         self.line
-            .take_all(LIMIT, &mut self.pen, known, &self.marking, out)?;
+            .take_all(&mut self.pen, known, &self.marking, out)?;
         Ok(Some(rest))
     }
 
@@ -356,7 +355,7 @@ impl Overwriter {
         self.steps.clear();
         self.reader.finish(&mut self.steps)?;
         self.line
-            .take_all(LIMIT, &mut self.pen, &self.steps, &self.marking, out)?;
+            .take_all(&mut self.pen, &self.steps, &self.marking, out)?;
         self.line.take_text(&self.marking, out)?;
         Ok(())
     }

@@ -20,18 +20,19 @@ pub loop-byte-preserved : goal.loop-byte-preserved
 loop-byte-preserved c =
     let l = c.loop-byte in
     let limit = c.args.limit in
-    let step = c.plain_step.result in
+    let step = c.plain_step-step.result in
     let steps = of_chars c.in-Some.behind.now in
     let d = does limit l.pen step l.self in
     let later = do_all limit (pen_behind l.pen step (columns l.self.left)) steps d.line in
-    let e = c.in_ok-take.ensures in
+    let e = c.in_ok-act.ensures in
+    let pen = c.take.ensures ∙ ap (pen_behind l.pen step) c.columns-column.ensures in
     let run = c.in_ok-rest-2.ensures in
     let all = rw c.in-Some.ensures.cases.0 at l.invariant.plain in
-    let split : of_chars l.rest.now ≡ step ∷ steps = ap of_chars c.in-Some.ensures.cases.0 ∙ ap (λ xs. xs ++ steps) (c.plain_step.ensures all.0) in
+    let split : of_chars l.rest.now ≡ step ∷ steps = ap of_chars c.in-Some.ensures.cases.0 ∙ ap (λ xs. xs ++ steps) (c.plain_step-step.ensures.step all.0) in
     record {
       plain = run.plain;
-      line = ap (λ (x : Done). x.line) (sym run.same) ∙ rw (e.line, e.pen) (rw split at l.invariant.line);
-      pen = sym run.pens ∙ rw (e.line, e.pen) (rw split at l.invariant.pen);
-      text = ap (λ (x : Done). c.take.new.out.items ++ texts_of c.args.marking.now x.lines) (sym run.same)
-          ∙ rw (e.line, e.pen) (step_text c.args.marking.now l.out.items c.take.new.out.items d.lines later.lines _ e.text (rw split at l.invariant.text));
+      line = ap (λ (x : Done). x.line) (sym run.same) ∙ rw (e.line, pen) (rw split at l.invariant.line);
+      pen = sym run.pens ∙ rw (e.line, pen) (rw split at l.invariant.pen);
+      text = ap (λ (x : Done). c.act.new.out.items ++ texts_of c.args.marking.now x.lines) (sym run.same)
+          ∙ rw (e.line, pen) (step_text c.args.marking.now l.out.items c.act.new.out.items d.lines later.lines _ e.text (rw split at l.invariant.text));
     }

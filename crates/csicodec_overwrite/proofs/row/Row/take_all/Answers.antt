@@ -1,15 +1,15 @@
 use Rattle.csicodec_overwrite.specs.Cells.{columns}
 use Rattle.csicodec_overwrite.specs.Line.{do_all, does, pen_behind}
+use Rattle.csicodec_overwrite.specs.Reading.{most}
 use Rattle.csicodec_overwrite.proofs.Moved.{step_text}
-use Rattle.csicodec_overwrite.proofs.line.Line.take_all.Goals as goal
+use Rattle.csicodec_overwrite.proofs.row.Row.take_all.Goals as goal
 
 pub loop-step-preserved : goal.loop-step-preserved
 loop-step-preserved c =
     let l = c.loop-step in
-    let limit = c.args.limit in
     let step = c.in-Some.step.now in
-    let d = does limit l.pen step l.self in
-    let later = do_all limit (pen_behind l.pen step (columns l.self.left)) c.in-Some.behind.now d.line in
+    let d = does most l.pen step l.self in
+    let later = do_all most (pen_behind l.pen step (columns l.self.left)) c.in-Some.behind.now d.line in
     let e = c.in_ok-take.ensures in
     let invariant = rw c.in-Some.ensures.cases.0 at l.invariant in
     record {

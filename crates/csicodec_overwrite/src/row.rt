@@ -1,0 +1,325 @@
+//! A line whose cursor goes to a column only where something is done there, so that going to and fro costs nothing.
+ghost use Rattle.std.specs.Prelude.{◌≡◌, ◌++◌, true, OnOk};
+ghost use Rattle.std.specs.List.{AllByRecursion};
+ghost use Rattle.csicodec_overwrite.specs.Cells.{columns};
+ghost use Rattle.csicodec_overwrite.specs.Line.{back, behind_columns, blank, cells_of, do_all, does, forward, from_stop, in_row, leave, lines_of, pen_behind, pen_behind_all, restored, target, to_stop};
+ghost use Rattle.csicodec_overwrite.specs.Paint.{ended, text_of, texts_of};
+ghost use Rattle.csicodec_overwrite.specs.Private.Plain.{IsLineByte};
+ghost use Rattle.csicodec_overwrite.specs.Private.Row.{IsHere};
+ghost use Rattle.csicodec_overwrite.specs.Reading.{most};
+ghost use Rattle.csicodec_overwrite.specs.Steps.{of_chars};
+
+use crate::line::Line;
+use crate::marking::Marking;
+use crate::pen::{Pen, set_look};
+use crate::step::{Step, WIDEST};
+use csicodec_spans::LIMIT;
+use std::alloc::{AllocError, Global};
+use std::marker::Model;
+
+/// A line, and a column to which its cursor is still to go.
+#[derive(Drop)]
+pub(crate) struct Row {
+    line: Line,
+    /// Behind so many columns, if it isn't there.
+    to: Option<usize>,
+}
+
+impl Model for Row {
+    ghost use Rattle.csicodec_overwrite.specs.declared.line.Line.{Line as LineOf};
+    ghost use Rattle.csicodec_overwrite.specs.Private.Row.{settled};
+    ghost use Rattle.csicodec_overwrite.specs.Reading.{most};
+
+    ghost Value = { LineOf };
+
+    ghost view = { λ r. settled most r.to r.line };
+}
+
+impl Row {
+    /// In which nothing stands.
+    pub(crate) fn new(alloc: Global) -> Row
+        ensures { result ≡ blank }
+    {
+        Row {
+            line: Line::new(alloc),
+            to: None,
+        }
+    }
+
+    /// Whether nothing stands in it, and the cursor is at its start.
+    pub(crate) fn is_blank(&self) -> bool
+        ensures { result ≡ true → self.now ≡ blank }
+    {
+        match self.to {
+            None | Some(0) => self.line.is_blank(),
+            Some(_) => false,
+        }
+    }
+
+    /// The columns left of the cursor.
+    fn column(&self) -> usize
+        ensures { result ≡ columns self.now.left }
+    {
+        self.line.column(LIMIT, self.to)
+    }
+
+    /// Behind so many columns.
+    fn go(&mut self, count: usize) -> Result<(), AllocError>
+        ensures { OnOk result (self.new ≡ behind_columns most count self.old) }
+    {
+        self.line.pad(LIMIT, self.to)?;
+        self.to = Some(count);
+        Ok(())
+    }
+
+    /// So many columns to the right.
+    fn forward(&mut self, count: usize) -> Result<(), AllocError>
+        ensures { OnOk result (self.new ≡ forward most count self.old) }
+    {
+        let Some(column) = self.column().checked_add(count) else {
+            return Err(AllocError);
+        };
+        self.go(column)
+    }
+
+    /// So many columns to the left.
+    fn back(&mut self, count: usize) -> Result<(), AllocError>
+        ensures { OnOk result (self.new ≡ back count self.old.left self.old.right) }
+    {
+        let column = self.column();
+        if 0 < count && count <= column {
+            return self.go(column - count);
+        }
+        self.line.settle(LIMIT, self.to)?;
+        self.to = None;
+        self.line.back(count)
+    }
+
+    /// So many tab stops to the right.
+    fn tabs(&mut self, count: u32) -> Result<(), AllocError>
+        ensures { OnOk result (self.new ≡ forward most (to_stop count (columns self.old.left)) self.old) }
+    {
+        let column = self.column();
+        self.forward((8 * (count as usize)).saturating_sub(column % 8))
+    }
+
+    /// So many tab stops to the left.
+    fn tabs_back(&mut self, count: u32) -> Result<(), AllocError>
+        ensures { OnOk result
+            (self.new ≡ back (from_stop count (columns self.old.left)) self.old.left self.old.right) }
+    {
+        let column = self.column();
+        let stops = (8 * (count as usize)).saturating_sub(7);
+        self.back(column.saturating_sub(1) % 8 + stops)
+    }
+
+    /// Ends the line, if more than blanks stands in it, and goes behind so many columns of another.
+    fn go_on(
+        &mut self,
+        count: usize,
+        marking: &Marking,
+        out: &mut Vec<u8>,
+    ) -> Result<(), AllocError>
+        ensures line { OnOk result (self.new ≡ forward most count blank) }
+        ensures text { OnOk result
+            (out.new.items ≡ out.old.items ++ texts_of marking.now (lines_of self.old)) }
+    {
+        self.line.end_some(marking, out)?;
+        self.to = Some(count);
+        Ok(())
+    }
+
+    /// The columns left of a column, of which the first is 1, or of the cursor: at most 1,023.
+    fn target(&self, to: Option<u32>) -> usize
+        ensures { result ≡ target to self.now }
+    {
+        let column = match to {
+            Some(column) => column.saturating_sub(1) as usize,
+            None => self.column(),
+        };
+        column.min(WIDEST as usize - 1)
+    }
+
+    /// To another row, or maybe so: to this column, or to the same.
+    fn leave(
+        &mut self,
+        to: Option<u32>,
+        marking: &Marking,
+        out: &mut Vec<u8>,
+    ) -> Result<(), AllocError>
+        ensures line { OnOk result (self.new ≡ (leave most to self.old).line) }
+        ensures text { OnOk result
+            (out.new.items ≡ out.old.items ++ texts_of marking.now (leave most to self.old).lines) }
+    {
+        let column = self.target(to);
+        self.go_on(column, marking, out)
+    }
+
+    /// To this column of the same row, or to the same column.
+    fn in_row(&mut self, to: Option<u32>) -> Result<(), AllocError>
+        ensures { OnOk result (self.new ≡ in_row most to self.old) }
+    {
+        match to {
+            Some(column) => self.go(column.saturating_sub(1) as usize),
+            None => Ok(()),
+        }
+    }
+
+    /// To the saved place, or to another row.
+    fn restore(&mut self, pen: &Pen, marking: &Marking, out: &mut Vec<u8>) -> Result<(), AllocError>
+        ensures line { OnOk result (self.new ≡ (restored most pen.now self.old).line) }
+        ensures text { OnOk result
+            (out.new.items ≡ out.old.items ++ texts_of marking.now (restored most pen.now self.old).lines) }
+    {
+        if pen.here {
+            return self.go(pen.saved);
+        }
+        self.go_on(pen.saved, marking, out)
+    }
+
+    /// Takes all that stands there, and appends its text.
+    pub(crate) fn take_text(
+        &mut self,
+        marking: &Marking,
+        out: &mut Vec<u8>,
+    ) -> Result<(), AllocError>
+        ensures text { OnOk result
+            (out.new.items ≡ out.old.items ++ text_of marking.now (cells_of self.old)) }
+        ensures none { OnOk result (self.new ≡ blank) }
+    {
+        self.line.take_text(marking, out)?;
+        self.to = None;
+        Ok(())
+    }
+
+    /// Ends the line.
+    pub(crate) fn end(&mut self, marking: &Marking, out: &mut Vec<u8>) -> Result<(), AllocError>
+        ensures text { OnOk result
+            (out.new.items ≡ out.old.items ++ ended marking.now (cells_of self.old)) }
+        ensures none { OnOk result (self.new ≡ blank) }
+    {
+        self.line.end(marking, out)?;
+        self.to = None;
+        Ok(())
+    }
+
+    /// Does a step where the cursor is, and appends the lines that are over with it.
+    fn act_here(
+        &mut self,
+        pen: &Pen,
+        step: &Step,
+        marking: &Marking,
+        out: &mut Vec<u8>,
+    ) -> Result<(), AllocError>
+        requires { IsHere step.now }
+        ensures line { OnOk result (self.new ≡ (does most pen.now step.now self.old).line) }
+        ensures text { OnOk result
+            (out.new.items ≡ out.old.items ++ texts_of marking.now (does most pen.now step.now self.old).lines) }
+    {
+        self.line.settle(LIMIT, self.to)?;
+        self.to = None;
+        self.line.act(LIMIT, pen, step, marking, out)
+    }
+
+    /// Does a step where characters are put so, and appends the lines that are over with it.
+    fn act(
+        &mut self,
+        pen: &Pen,
+        step: &Step,
+        marking: &Marking,
+        out: &mut Vec<u8>,
+    ) -> Result<(), AllocError>
+        ensures line { OnOk result (self.new ≡ (does most pen.now step.now self.old).line) }
+        ensures text { OnOk result
+            (out.new.items ≡ out.old.items ++ texts_of marking.now (does most pen.now step.now self.old).lines) }
+    {
+        match *step {
+            Step::Column(column) => self.go(column.saturating_sub(1) as usize),
+            Step::Right(count) => self.forward(count as usize),
+            Step::Left(count) => self.back(count as usize),
+            Step::Tabs(count) => self.tabs(count),
+            Step::TabsBack(count) => self.tabs_back(count),
+            Step::Restore => self.restore(pen, marking, out),
+            Step::Row(row, to) if pen.is_in(row) => self.in_row(to),
+            Step::Row(_, to) | Step::Leave(to) => self.leave(to, marking, out),
+            Step::NewLine => self.end(marking, out),
+            _ => self.act_here(pen, step, marking, out),
+        }
+    }
+
+    /// Does a step, and behind it characters are put as `pen` says then.
+    #[inline(always)]
+    fn take(
+        &mut self,
+        pen: &mut Pen,
+        step: &Step,
+        marking: &Marking,
+        out: &mut Vec<u8>,
+    ) -> Result<(), AllocError>
+        ensures line { OnOk result (self.new ≡ (does most pen.old step.now self.old).line) }
+        ensures pen { OnOk result (pen.new ≡ pen_behind pen.old step.now (columns self.old.left)) }
+        ensures text { OnOk result
+            (out.new.items ≡ out.old.items ++ texts_of marking.now (does most pen.old step.now self.old).lines) }
+    {
+        match *step {
+            Step::Other => pen.last = None,
+            Step::Attribute(attribute) => {
+                pen.last = None;
+                set_look(&mut pen.look, &attribute);
+            }
+            _ => {
+                let column = self.column();
+                self.act(pen, step, marking, out)?;
+                pen.take(*step, column);
+            }
+        }
+        Ok(())
+    }
+
+    /// Does the steps in turn.
+    #[inline(always)]
+    pub(crate) fn take_all(
+        &mut self,
+        pen: &mut Pen,
+        steps: &[Step],
+        marking: &Marking,
+        out: &mut Vec<u8>,
+    ) -> Result<(), AllocError>
+        ensures line { OnOk result
+            (self.new ≡ (do_all most pen.old steps.now self.old).line) }
+        ensures pen { OnOk result (pen.new ≡ pen_behind_all most pen.old steps.now self.old) }
+        ensures text { OnOk result (out.new.items
+            ≡ out.old.items ++ texts_of marking.now (do_all most pen.old steps.now self.old).lines) }
+    {
+        let mut rest = steps;
+        while let Some((step, behind)) = rest.split_first() {
+            self.take(pen, step, marking, out)?;
+            rest = behind;
+        }
+        Ok(())
+    }
+
+    /// Does the steps of text of ASCII without a control but tabs.
+    pub(crate) fn put_text(
+        &mut self,
+        pen: &mut Pen,
+        text: &[u8],
+        marking: &Marking,
+        out: &mut Vec<u8>,
+    ) -> Result<(), AllocError>
+        requires { AllByRecursion IsLineByte text.now }
+        ensures line { OnOk result
+            (self.new ≡ (do_all most pen.old (of_chars text.now) self.old).line) }
+        ensures pen { OnOk result
+            (pen.new ≡ pen_behind_all most pen.old (of_chars text.now) self.old) }
+        ensures text { OnOk result (out.new.items ≡ out.old.items
+            ++ texts_of marking.now (do_all most pen.old (of_chars text.now) self.old).lines) }
+    {
+        if text.is_empty() {
+            return Ok(());
+        }
+        self.line.settle(LIMIT, self.to)?;
+        self.to = None;
+        self.line.put_text(LIMIT, pen, text, marking, out)
+    }
+}

@@ -2,3 +2,4 @@ pub mod Shown
 pub mod Joined
 pub mod Member
 pub mod Place
+pub mod Made

@@ -81,7 +81,7 @@ object_line bytes =
 
 pub remade_line : (line text : List ℕ) → Runs line → IsRemade line text → Runs text
 remade_line line text is (inl e) = rw e is
-remade_line line text is (inr (short, refused, (bytes, e))) = rw e (object_line bytes)
+remade_line line text is (inr (short, refused, (bytes, e, stands))) = rw e (object_line bytes)
 
 -- ---- what is written of them
 

@@ -1,5 +1,5 @@
 -- What is written of lines of JSON: each as it is, but for those that have actions alone.
-use Rattle.std.specs.Prelude.{ℕ, ◌≡◌, ◌≢◌, ◌<◌, ◌≤◌, ◌==◌, ◌⊎◌, Bool, true, false, List, [], ◌∷◌, ◌++◌, Err, codes, if◌then◌else◌, length, nat_lt}
+use Rattle.std.specs.Prelude.{ℕ, ◌≡◌, ◌≢◌, ◌<◌, ◌≤◌, ◌==◌, ◌⊎◌, Bool, true, false, List, [], ◌∷◌, ◌++◌, Ok, Err, codes, if◌then◌else◌, length, nat_lt}
 use Rattle.hex.specs.Hex.{encode_lower}
 use Rattle.csicodec_assemble.specs.declared.object.Fault.TheVariants.{NoSequence}
 use Rattle.csicodec_assemble.specs.Object.{of_line}
@@ -27,10 +27,12 @@ AreKept (line ∷ lines) = (of_line line ≢ Err NoSequence) × AreKept lines
 abbrev pub object_of : List ℕ → List ℕ
 object_of bytes = codes "{\"hex\":\"" ++ encode_lower bytes ++ codes "\"}"
 
--- What is written of a line: it is as it came, or, where it isn't too long and is refused for its actions, an object that has bytes.
+-- What is written of a line: it is as it came, or, where it isn't too long and is refused for its actions, an object that has bytes, and
+-- stands for them.
 abbrev pub IsRemade : List ℕ → List ℕ → Type 0
 IsRemade line text = (text ≡ line)
-    ⊎ ((length line ≤ most) × (of_line line ≡ Err NoSequence) × ((bytes : List ℕ) × (text ≡ object_of bytes)))
+    ⊎ ((length line ≤ most) × (of_line line ≡ Err NoSequence)
+    × ((bytes : List ℕ) × (text ≡ object_of bytes) × (of_line text ≡ Ok bytes)))
 
 -- what is written of lines that are over, an LF behind each
 abbrev pub AreRemade : List (List ℕ) → List ℕ → Type 0

@@ -6,10 +6,10 @@
 //! {"text":"hi","actions":[]}                                  as it is
 //! {"actions":[{"action":"Cursor::Up","value":"seven"}]}      as it is, which csicodec_assemble refuses
 //! ```
-ghost use Rattle.std.specs.Prelude.{◌≡◌, ◌≤◌, ◌++◌, ◌∷◌, [], ℕ, List, Err, IfOk, IsSome, IsTrue, OnOk, length};
+ghost use Rattle.std.specs.Prelude.{◌≡◌, ◌≤◌, ◌++◌, ◌∷◌, [], ℕ, List, Err, Ok, IfOk, IsSome, IsTrue, OnOk, length};
 ghost use Rattle.csicodec_assemble.specs.declared.object.Fault.TheVariants.{NoSequence};
 ghost use Rattle.csicodec_assemble.specs.Object.{of_line};
-ghost use Rattle.csicodec_explain.specs.Remade.{Ends, HasBegun, IsRemade, Remakes, line_behind, most, passed};
+ghost use Rattle.csicodec_explain.specs.Remade.{Ends, HasBegun, IsRemade, Remakes, line_behind, most, object_of, passed};
 
 use crate::made::Maker;
 use csicodec_assemble::{Fault, Refusal, bytes_of_line, split_line};
@@ -76,6 +76,16 @@ fn bytes_made(alloc: Global, maker: &mut Maker, line: &[u8]) -> Result<Option<Ve
     maker.bytes_of_line(line)
 }
 
+/// Appends an object with these bytes.
+fn append_object(alloc: Global, bytes: &[u8], out: &mut Vec<u8>) -> Result<(), AllocError>
+    ensures stands { OnOk result (of_line (object_of bytes.now) ≡ Ok bytes.now) }
+    ensures appends { OnOk result (out.new.items ≡ out.old.items ++ object_of bytes.now) }
+{
+    out.extend_from_slice(b"{\"hex\":\"")?;
+    out.extend_from_slice(hex::encode(alloc, bytes)?.as_bytes())?;
+    out.extend_from_slice(b"\"}")
+}
+
 /// Appends a line without its end, or an object with its bytes.
 fn append_line(
     alloc: Global,
@@ -87,11 +97,7 @@ fn append_line(
         × (out.new.items ≡ out.old.items ++ text)) }
 {
     match bytes_made(alloc, maker, line)? {
-        Some(bytes) => {
-            out.extend_from_slice(b"{\"hex\":\"")?;
-            out.extend_from_slice(hex::encode(alloc, &bytes)?.as_bytes())?;
-            out.extend_from_slice(b"\"}")
-        }
+        Some(bytes) => append_object(alloc, &bytes, out),
         None => out.extend_from_slice(line),
     }
 }

@@ -138,7 +138,7 @@ of_last [] [] is = refl
 of_last [] (t ∷ text) (inl e) = cc e
 of_last [] (t ∷ text) (inr (short, refused, made)) = cc (of_empty, refused)
 of_last (l ∷ line) [] (inl e) = cc e
-of_last (l ∷ line) [] (inr (short, refused, (bytes, e))) = cc e
+of_last (l ∷ line) [] (inr (short, refused, (bytes, e, stands))) = cc e
 of_last (l ∷ line) (t ∷ text) is = (t ∷ text, [], refl, is, refl)
 
 of_over : (lines : Lines) (text last : List ℕ) → AllByRecursion IsLine lines → AreRemade lines text

@@ -18,6 +18,7 @@ use Rattle.csicodec_spans.specs.Parts.{IsSequence}
 use Rattle.csicodec_html.specs.contracts.look.LookPartialEq.TheImpl as look_eq
 use Rattle.csicodec_html.specs.declared.look.Look.{Look}
 use Rattle.csicodec_html.specs.declared.markup.Markup.{Markup}
+use Rattle.csicodec_html.specs.declared.turns.InFront.{InFront}
 use Rattle.csicodec_html.specs.declared.turns.Turn.{Turn}
 use Rattle.csicodec_html.specs.Look.{behind_all, sets_any}
 use Rattle.csicodec_html.specs.Page.{Setting, setting, turn}
@@ -60,19 +61,25 @@ same_look a b h =
       background = color a.background b.background g x;
     }
 
--- bytes that begin with others
-pub in_front : (bytes own rest : List ℕ) → bytes ≡ own ++ rest → (length own ≤ length bytes) × (take (length own) bytes ≡ own)
-in_front bytes own rest e = (omega (arith, ap length e, length-append own rest), ap (take (length own)) e ∙ take-append_seam own rest)
+-- of a turn that fits what is written is that of the sequence in front
+pub told : (Turned : List ℕ → Look → Look → List ℕ → Type 0) (t : Turn) (look : Look) (f : InFront) (old new : List ℕ)
+    → IsTurn Turned t → Fits t look f → new ≡ old ++ take t.tags_len t.tags → IsTold Turned look f t.len t.new old new
+told Turned t look f old new (short, few, is) (least, most, within, front, same) longer =
+    let tags = take t.tags_len t.tags in
+    let own = take t.len f.bytes.now in
+    let here : Turned own t.old t.new tags = subst (λ (b : List ℕ). Turned b t.old t.new tags) (sym front) is in
+    (least, most, within, tags, subst (λ (l : Look). Turned own l t.new tags) same here, longer)
 
--- of a turn that fits the tags are those of the sequence in front
-pub told : (m : Markup) (t : Turn) (look : Look) (limit : ℕ) (bytes old new : List ℕ) → IsTurn m t
-    → Fits t look limit bytes → new ≡ old ++ t.tags.items
-    → IsTold m look limit bytes (length t.bytes.items) t.new old new
-told m t look limit bytes old new is (some, short, within, front, same) longer =
-    let tags = t.tags.items in
-    let own = take (length t.bytes.items) bytes in
-    let here : IsTurned m own t.old t.new tags = subst (λ (b : List ℕ). IsTurned m b t.old t.new tags) (sym front) is in
-    (some, short, within, tags, subst (λ (l : Look). IsTurned m own l t.new tags) same here, longer)
+-- of what is kept the fronts are what was copied there
+pub kept : (Turned : List ℕ → Look → Look → List ℕ → Type 0) (bytes tags copied told behind after : List ℕ) (old new : Look)
+    → copied ≡ bytes → told ≡ tags → length bytes ≤ 32 → length tags ≤ 128 → Turned bytes old new tags
+    → (length bytes ≤ 32) × (length tags ≤ 128)
+    × Turned (take (length bytes) (copied ++ behind)) old new (take (length tags) (told ++ after))
+kept Turned bytes tags copied told behind after old new same one short few is =
+    let front = ap (λ (l : List ℕ). take (length bytes) (l ++ behind)) same ∙ take-append_seam bytes behind in
+    let text = ap (λ (l : List ℕ). take (length tags) (l ++ after)) one ∙ take-append_seam tags after in
+    (short, few, subst (λ (l : List ℕ). Turned l old new (take (length tags) (told ++ after))) (sym front)
+    (subst (Turned bytes old new) (sym text) is))
 
 -- what the rule gives for it
 pub given : (s : Setting) (bytes tags : List ℕ) (new : Look) → IsTurned s.markup bytes s.look new tags

@@ -30,3 +30,4 @@ pub use palette::Palette;
 pub use pieces::{append_char, append_text, append_turn};
 pub use run::{html_all, html_all_with};
 pub use sheet::{BEHIND, BODY, HEAD, RULES, STYLE, UNNAMED, front};
+pub use turns::{InFront, Turning, Turns};

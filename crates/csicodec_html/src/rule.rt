@@ -9,7 +9,7 @@ use crate::links::Lead;
 use crate::look::Look;
 use crate::markup::Markup;
 use crate::tags::{append_begin, append_end, append_shut};
-use crate::turns::Turns;
+use crate::turns::{InFront, Turning, Turns};
 use csicodec::CSI;
 use csicodec_base::CsiParam;
 use csicodec_clean::Rule;
@@ -84,6 +84,12 @@ fn append_turn(
     append_begin(markup, new, out)
 }
 
+impl Turning for Markup {
+    ghost use Rattle.csicodec_html.specs.Private.Turns.{IsTurned};
+
+    ghost turns = { IsTurned };
+}
+
 /// The rule that turns attributes into spans, and links, where they pass, into links of the page.
 #[derive(Drop)]
 pub(crate) struct SpanWriter {
@@ -103,12 +109,12 @@ impl Model for SpanWriter {
 
     ghost Value = { Setting };
 
-    ghost use Rattle.csicodec_html.specs.Private.Turns.{AreTurns};
+    ghost use Rattle.csicodec_html.specs.Private.Turns.{AreTurns, IsTurned};
 
     ghost view = { λ s. setting s.markup s.look s.lead.to.items
         (begun s.lead.next.place s.lead.next.params.items s.lead.next.url.items) };
 
-    ghost invariant = { λ s. AreTurns s.markup s.turns.kept.items };
+    ghost invariant = { λ s. AreTurns (IsTurned s.markup) s.turns.kept.items };
 }
 
 impl SpanWriter {
@@ -122,7 +128,7 @@ impl SpanWriter {
             look: Look::plain(),
             lead: Lead::new(alloc),
             actions: Vec::new(alloc),
-            turns: Turns::new(alloc),
+            turns: Turns::new(alloc, &markup),
         }
     }
 }
@@ -158,16 +164,15 @@ impl Rule for SpanWriter {
         bytes: &[u8],
         out: &mut Vec<u8>,
     ) -> Result<usize, AllocError> {
-        let told = self
+        let front = InFront {
+            bytes,
+            least: 1,
+            most: limit,
+        };
+        let len = self
             .turns
-            .recall(&self.markup, &self.look, limit, bytes, out)?;
-        match told {
-            Some((len, new)) => {
-                self.look = new;
-                Ok(len)
-            }
-            None => Ok(0),
-        }
+            .recall(&self.markup, &mut self.look, front, out)?;
+        Ok(len)
     }
 
     fn string(&mut self, bytes: &[u8], out: &mut Vec<u8>) -> Result<(), AllocError> {

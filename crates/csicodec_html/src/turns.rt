@@ -1,19 +1,19 @@
 //! Control sequences that came before: one that comes again where text looks the same is looked up, and not read again.
-ghost use Rattle.std.specs.Prelude.{◌≡◌, ◌<◌, ◌≤◌, ◌++◌, length, true, IfOk, IfNone, IfSome};
-ghost use Rattle.csicodec_html.specs.Private.Turns.{AreTurns, Fits, IsTold, IsTurn, IsTurned};
+ghost use Rattle.std.specs.Prelude.{◌≡◌, ◌<◌, ◌≤◌, ◌++◌, List, ℕ, length, take, true, IfOk, IfSome, OnOk};
+ghost use Rattle.csicodec_html.specs.Private.Turns.{AreTurns, Fits, IsTold, IsTurn};
 
 use crate::look::Look;
-use crate::markup::Markup;
 use csicodec_base::{ColorSpec, SrgbaTuple};
 use std::alloc::{AllocError, Global};
+use std::simd::prelude::*;
 
 /// How many places there are, each for two sequences.
-const PLACES: usize = 512;
+const PLACES: usize = 2048;
 
 /// Of how many bytes a sequence that is kept is at most, and its tags.
 const LONGEST: usize = 32;
 
-const WIDEST: usize = 512;
+const WIDEST: usize = 128;
 
 /// After so many new sequences in a row, only each `STEP`th is kept.
 const PATIENCE: u32 = 256;
@@ -26,13 +26,34 @@ const SPREAD: u64 = 0x9e37_79b9_7f4a_7c15;
 /// The bit that a final byte has, and none of those before it.
 const FINAL: u64 = 0x4040_4040_4040_4040;
 
-/// A control sequence, how text looks before it and behind it, and the tags between.
-#[derive(Drop)]
-pub(crate) struct Turn {
-    bytes: Vec<u8>,
+/// What control sequences turn.
+pub trait Turning {
+    ghost use Rattle.csicodec_html.specs.declared.look.Look.{Look};
+
+    /// These bytes turn text of the first look into text of the second, and that is written for them.
+    ghost turns: { Self → List ℕ → Look → Look → List ℕ → Type 0 };
+}
+
+/// A sequence that is looked for in front of some bytes.
+#[derive(Clone, Copy)]
+pub struct InFront<'a> {
+    /// The bytes in front of which it is to stand.
+    pub bytes: &'a [u8],
+    /// How many bytes it has at least, of which there is one.
+    pub least: usize,
+    /// How many it has at most.
+    pub most: usize,
+}
+
+/// A control sequence, how text looks before it and behind it, and what is written for it.
+#[derive(Clone, Copy)]
+pub struct Turn {
+    bytes: [u8; LONGEST],
+    len: usize,
     old: Look,
     new: Look,
-    tags: Vec<u8>,
+    tags: [u8; WIDEST],
+    tags_len: usize,
     /// A number for the look behind it.
     mark: u64,
 }
@@ -40,20 +61,41 @@ pub(crate) struct Turn {
 impl Turn {
     /// Whether it is of the sequence in front, and from this look.
     #[inline(always)]
-    fn fits(&self, look: &Look, limit: usize, bytes: &[u8]) -> bool
-        ensures { result ≡ true → Fits self.now look.now limit bytes.now }
+    fn fits(&self, look: &Look, front: InFront<'_>) -> bool
+        ensures { result ≡ true → Fits self.now look.now front.entry }
     {
-        let len = self.bytes.len();
-        if len == 0 || len > limit || !bytes.starts_with(&self.bytes) {
+        if self.len < front.least || self.len > front.most || front.bytes.len() < LONGEST {
             return false;
         }
-        self.old == *look
+        let same = same_32(u8x32::from_slice(front.bytes), u8x32::from_slice(&self.bytes));
+        self.len <= same.min(LONGEST) && self.old == *look
     }
+
+    /// Appends what is written for it.
+    #[inline(always)]
+    fn append_to(&self, out: &mut Vec<u8>) -> Result<(), AllocError>
+        requires { self.now.tags_len ≤ 128 }
+        ensures { OnOk result (out.new.items ≡ out.old.items ++ take self.now.tags_len self.now.tags) }
+    {
+        let end = out.len() + self.tags_len;
+        out.extend_from_slice(&self.tags)?;
+        out.truncate(end);
+        Ok(())
+    }
+}
+
+/// As many of 32 bytes are the same in front.
+#[inline(always)]
+fn same_32(a: u8x32, b: u8x32) -> usize
+    ensures same { take result a ≡ take result b }
+    ensures few { result ≤ 64 }
+{
+    a.simd_ne(b).to_bitmask().trailing_zeros() as usize
 }
 
 /// A table of control sequences that came before. It takes no memory until one comes.
 #[derive(Drop)]
-pub(crate) struct Turns {
+pub struct Turns {
     kept: Vec<Turn>,
     /// Which two of them each place has, the newer one first; where it has fewer, a number beyond them.
     places: Vec<[u16; 2]>,
@@ -67,8 +109,8 @@ pub(crate) struct Turns {
 
 impl Turns {
     /// With nothing kept.
-    pub(crate) fn new(alloc: Global) -> Turns
-        ensures { (m : Markup) → AreTurns m result.kept.items }
+    pub fn new<T: Turning>(alloc: Global, _by: &T) -> Turns
+        ensures { AreTurns (T.turns _by.now) result.kept.items }
     {
         Turns {
             kept: Vec::new(alloc),
@@ -81,23 +123,16 @@ impl Turns {
 
     /// The turn of this number, if it is the one of the sequence in front, from this look.
     #[inline(always)]
-    fn at(
-        &self,
-        number: u16,
-        _markup: &Markup,
-        look: &Look,
-        limit: usize,
-        bytes: &[u8],
-    ) -> Option<&Turn>
-        requires { AreTurns _markup.now self.now.kept.items }
-        ensures { IfSome result (λ turn. IsTurn _markup.now turn.now × Fits turn.now look.now limit bytes.now) }
+    fn numbered<T: Turning>(&self, number: u16, _by: &T, look: &Look, front: InFront<'_>) -> Option<&Turn>
+        requires { AreTurns (T.turns _by.now) self.now.kept.items }
+        ensures { IfSome result (λ turn. IsTurn (T.turns _by.now) turn.now × Fits turn.now look.now front.entry) }
     {
         let at = usize::from(number);
         if at >= self.kept.len() {
             return None;
         }
         let turn = &self.kept[at];
-        if turn.fits(look, limit, bytes) {
+        if turn.fits(look, front) {
             return Some(turn);
         }
         None
@@ -105,81 +140,94 @@ impl Turns {
 
     /// The turn of the sequence in front, from this look, if the place has it.
     #[inline(always)]
-    fn find(&self, markup: &Markup, look: &Look, limit: usize, bytes: &[u8]) -> Option<&Turn>
-        requires { AreTurns markup.now self.now.kept.items }
-        ensures { IfSome result (λ turn. IsTurn markup.now turn.now × Fits turn.now look.now limit bytes.now) }
+    fn fitting<T: Turning>(&self, by: &T, look: &Look, front: InFront<'_>) -> Option<&Turn>
+        requires { AreTurns (T.turns by.now) self.now.kept.items }
+        ensures { IfSome result (λ turn. IsTurn (T.turns by.now) turn.now × Fits turn.now look.now front.entry) }
     {
         let Some([newer, older]) = self.places.get(self.place) else {
             return None;
         };
-        if let Some(turn) = self.at(*newer, markup, look, limit, bytes) {
+        if let Some(turn) = self.numbered(*newer, by, look, front) {
             return Some(turn);
         }
-        self.at(*older, markup, look, limit, bytes)
+        self.numbered(*older, by, look, front)
     }
 
-    /// Appends the tags of the sequence in front, if it is kept, and answers how many bytes it has, and the look behind it.
+    /// Appends what is written for the sequence in front, if it is kept, and answers how many bytes it has; text looks as behind it then.
+    /// It answers 0 where it isn't kept.
     #[inline(always)]
-    pub(crate) fn recall(
+    pub fn recall<T: Turning>(
         &mut self,
-        markup: &Markup,
-        look: &Look,
-        limit: usize,
-        bytes: &[u8],
+        by: &T,
+        look: &mut Look,
+        front: InFront<'_>,
         out: &mut Vec<u8>,
-    ) -> Result<Option<(usize, Look)>, AllocError>
-        requires { AreTurns markup.now self.old.kept.items }
-        ensures told { IfOk result (λ o. IfSome o (λ (len, new). IsTold markup.now look.now limit
-            bytes.now len new out.old.items out.new.items)) }
-        ensures none { IfOk result (λ o. IfNone o (out.new.items ≡ out.old.items)) }
-        ensures kept { AreTurns markup.now self.new.kept.items }
+    ) -> Result<usize, AllocError>
+        requires kept { AreTurns (T.turns by.now) self.old.kept.items }
+        requires some { 0 < front.least }
+        ensures within { IfOk result (λ len. (len ≤ front.entry.most) × (len ≤ length front.entry.bytes.now)) }
+        ensures told { IfOk result (λ len. 0 < len → IsTold (T.turns by.now) look.old front.entry len look.new out.old.items out.new.items) }
+        ensures none { IfOk result (λ len. len ≡ 0 → (look.new ≡ look.old) × (out.new.items ≡ out.old.items)) }
+        ensures kept { AreTurns (T.turns by.now) self.new.kept.items }
     {
-        self.place = place(self.mark, bytes);
-        let Some(turn) = self.find(markup, look, limit, bytes) else {
-            return Ok(None);
+        self.place = place(self.mark, front.bytes);
+        let Some(turn) = self.fitting(by, look, front) else {
+            return Ok(0);
         };
-        out.extend_from_slice(&turn.tags)?;
-        let (len, new, mark) = (turn.bytes.len(), turn.new, turn.mark);
+        turn.append_to(out)?;
+        *look = turn.new;
+        let (len, mark) = (turn.len, turn.mark);
         self.mark = mark;
         self.missed = 0;
-        Ok(Some((len, new)))
+        Ok(len)
+    }
+
+    /// Text looks so from now on, as it doesn't by a sequence that was looked for.
+    pub fn stand(&mut self, look: &Look)
+        ensures { self.new.kept.items ≡ self.old.kept.items }
+    {
+        self.mark = mark(look);
     }
 
     /// Keeps the sequence that was looked for last, unless it is long, or such are passed over: most of many in a row are.
     #[inline(never)]
-    pub(crate) fn keep(
+    pub fn keep<T: Turning>(
         &mut self,
-        _markup: &Markup,
+        _by: &T,
         bytes: &[u8],
         old: Look,
         new: Look,
         tags: &[u8],
     ) -> Result<(), AllocError>
-        requires known { AreTurns _markup.now self.old.kept.items }
-        requires turn { IsTurned _markup.now bytes.now old new tags.now }
-        ensures { AreTurns _markup.now self.new.kept.items }
+        requires known { AreTurns (T.turns _by.now) self.old.kept.items }
+        requires turn { T.turns _by.now bytes.now old new tags.now }
+        ensures { AreTurns (T.turns _by.now) self.new.kept.items }
     {
-        self.mark = mark(new);
+        self.mark = mark(&new);
         self.missed = self.missed.wrapping_add(1);
         let passes = self.missed > PATIENCE && self.missed % STEP != 0;
         if passes || bytes.len() > LONGEST || tags.len() > WIDEST {
             return Ok(());
         }
-        let alloc = *self.places.allocator();
+        let (mut front, mut text) = ([0; LONGEST], [0; WIDEST]);
+        front[..bytes.len()].copy_from_slice(bytes);
+        text[..tags.len()].copy_from_slice(tags);
         let turn = Turn {
-            bytes: Vec::from_slice(alloc, bytes)?,
+            bytes: front,
+            len: bytes.len(),
             old,
             new,
-            tags: Vec::from_slice(alloc, tags)?,
+            tags: text,
+            tags_len: tags.len(),
             mark: self.mark,
         };
-        self.put(_markup, turn)
+        self.put(_by, turn)
     }
 
     /// Makes the places, if there are none.
-    fn make_places(&mut self, _markup: &Markup) -> Result<(), AllocError>
-        requires { AreTurns _markup.now self.old.kept.items }
-        ensures { AreTurns _markup.now self.new.kept.items }
+    fn make_places<T: Turning>(&mut self, _by: &T) -> Result<(), AllocError>
+        requires { AreTurns (T.turns _by.now) self.old.kept.items }
+        ensures { AreTurns (T.turns _by.now) self.new.kept.items }
     {
         if self.places.is_empty() {
             let alloc = *self.places.allocator();
@@ -189,12 +237,12 @@ impl Turns {
     }
 
     /// Puts a turn into the place that was looked at last, for the older one of two.
-    fn put(&mut self, _markup: &Markup, turn: Turn) -> Result<(), AllocError>
-        requires known { AreTurns _markup.now self.old.kept.items }
-        requires turn { IsTurn _markup.now turn }
-        ensures { AreTurns _markup.now self.new.kept.items }
+    fn put<T: Turning>(&mut self, _by: &T, turn: Turn) -> Result<(), AllocError>
+        requires known { AreTurns (T.turns _by.now) self.old.kept.items }
+        requires turn { IsTurn (T.turns _by.now) turn }
+        ensures { AreTurns (T.turns _by.now) self.new.kept.items }
     {
-        self.make_places(_markup)?;
+        self.make_places(_by)?;
         let Some(place) = self.places.get_mut(self.place) else {
             return Ok(());
         };
@@ -215,7 +263,7 @@ impl Turns {
 #[inline(always)]
 fn place(mark: u64, bytes: &[u8]) -> usize {
     match number(bytes) {
-        Some(number) => ((number ^ mark).wrapping_mul(SPREAD) >> 55) as usize,
+        Some(number) => ((number ^ mark).wrapping_mul(SPREAD) >> 53) as usize,
         None => PLACES,
     }
 }
@@ -268,7 +316,7 @@ fn color_mark(color: ColorSpec) -> u64 {
 }
 
 /// A number for a look.
-fn mark(look: Look) -> u64 {
+fn mark(look: &Look) -> u64 {
     let flags = look.intensity as u64
         | (look.underline as u64) << 2
         | u64::from(look.italic) << 5

@@ -12,9 +12,11 @@ use Rattle.csicodec_clean.proofs.Shows.{encoded_on}
 use Rattle.csicodec_clean.proofs.Told.{is_shown}
 use Rattle.csicodec_html.specs.declared.look.Look.{Look}
 use Rattle.csicodec_html.specs.Look.{plain}
+use Rattle.csicodec_html.specs.Private.Turns.{IsTold}
 use Rattle.csicodec_overwrite.specs.declared.cells.Cell.{Cell}
 use Rattle.csicodec_overwrite.specs.declared.cells.Cell.TheVariants.{Behind, Char}
 use Rattle.csicodec_overwrite.specs.declared.cells.Glyph.{Glyph}
+use Rattle.csicodec_overwrite.specs.declared.front.LineFront.{LineFront}
 use Rattle.csicodec_overwrite.specs.declared.line.Line.{Line}
 use Rattle.csicodec_overwrite.specs.declared.marking.Marking.{Marking}
 use Rattle.csicodec_overwrite.specs.declared.marking.Marking.TheVariants.{Page, Plain, Styled}
@@ -27,7 +29,7 @@ use Rattle.csicodec_overwrite.specs.Paint.{ended, look_of, paint, shows_looks, t
 use Rattle.csicodec_overwrite.specs.Steps.{of_char, of_chars}
 use Rattle.csicodec_overwrite.specs.Reading.{most}
 use Rattle.csicodec_overwrite.specs.Stream.{Now, Passes, Reads, none_held}
-use Rattle.csicodec_overwrite.specs.Private.Front.{AreLooks, IsFront, IsLook, Sets, drawn, last_look, last_of_run, run_text}
+use Rattle.csicodec_overwrite.specs.Private.Front.{AreLooks, IsFront, IsLook, IsStyled, IsWritten, Sets, Turned, drawn, last_look, last_of_run, run_text}
 use Rattle.csicodec_overwrite.specs.Private.Plain.{AreFull, AreLines, IsLineByte, PutsPlain, closed, end_of, line_byte}
 use Rattle.csicodec_overwrite.proofs.Alike.{newline_written, turn_same, written_none, written_on}
 use Rattle.csicodec_overwrite.proofs.Ends.{end_passes}
@@ -276,6 +278,44 @@ module _ (marking : Marking) (pen : Pen) (bytes text : List ℕ) (last now : Loo
       let (lines, is, pens) = still most steps after then f.cells (subst (λ (l : Look). AreLooks l steps after) (sym look_is) looks) in
       on sequence steps f.cells text last after reads lines is (pens ∙ ap (λ (p : Pen). record p { look = after }) f.pens) f.full
       (omega arith) f.looks f.drawn
+
+-- what is known to turn text, of all the bytes that it may have
+pub known_turned : (marking : Marking) (old : LineFront) (len told : ℕ) (new : Look) (before after : List ℕ)
+    → IsTold (Turned marking) old.now (record { bytes = old.rest; least = len; most = len }) told new before after
+    → Sets (take len old.rest.now) old.now new × (after ≡ before ++ turn marking old.now new)
+known_turned marking old len told new before after (least, most, within, tags, (sets, same), longer) =
+    let is : told ≡ len = omega (arith, least, most) in
+    (subst (λ (n : ℕ). Sets (take n old.rest.now) old.now new) is sets, longer ∙ ap (λ (t : List ℕ). before ++ t) same)
+
+-- some text in front
+pub first_written : (marking : Marking) (pen : Pen) (bytes before after run : List ℕ) (f : LineFront) → pen.inserts ≡ false
+    → run ≡ take (prefix_len line_byte bytes) bytes → f.rest.now ≡ drop (prefix_len line_byte bytes) bytes
+    → length bytes - length f.rest.now ≤ most / 8 → after ≡ before ++ run_text marking plain pen.look run
+    → f.last ≡ last_of_run plain pen.look run → f.now ≡ pen.look → IsWritten marking pen bytes before f after
+first_written marking pen bytes before after run f over front behind few longer last now =
+    let (whole, is) =
+    front_more marking pen [] [] plain pen.look (front_none marking pen) bytes bytes run f.rest.now over refl front behind few in
+    (run, run_text marking plain pen.look run, whole, rw (last, now) is, longer)
+
+-- and a sequence more, with the text behind it
+pub styled_written : (marking : Marking) (pen : Pen) (bytes before mid after text : List ℕ) (old new : LineFront) → pen.inserts ≡ false
+    → new.least ≡ length bytes - most / 8 → IsWritten marking pen bytes before old mid → IsStyled marking old text new
+    → after ≡ mid ++ text → IsWritten marking pen bytes before new after
+styled_written marking pen bytes before mid after text old new over least (front, all, split, f, out) s longer =
+    let run = take (prefix_len line_byte s.others) s.others in
+    let told = run_text marking old.last new.now run in
+    let parts : bytes ≡ (front ++ s.sequence) ++ s.others =
+    split ∙ ap (λ (t : List ℕ). front ++ t) s.parts ∙ sym (append_assoc front s.sequence s.others) in
+    let (whole, is) =
+    front_more marking pen (front ++ s.sequence) all old.last new.now
+    (sets_on marking pen front all old.last old.now f s.sequence new.now s.sets)
+    bytes s.others run new.rest.now over parts refl s.rest (omega (arith, least, s.room)) in (
+      (front ++ s.sequence) ++ run,
+      all ++ told,
+      whole,
+      subst (λ (l : Look). IsFront marking pen ((front ++ s.sequence) ++ run) (all ++ told) l new.now) (sym s.looks) is,
+      longer ∙ ap (λ (t : List ℕ). mid ++ t) s.text ∙ ap (λ (t : List ℕ). t ++ told) out ∙ append_assoc before all told,
+    )
 
 -- ---- the end of the line
 

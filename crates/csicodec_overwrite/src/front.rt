@@ -1,7 +1,9 @@
 //! The front of a line that is written as it comes: text of ASCII, and sequences that do no more than to set how it looks.
 ghost use Rattle.std.specs.Prelude.{◌≡◌, ◌<◌, ◌++◌, ℕ, List, false, true, length, IfOk, OnOk};
 ghost use Rattle.std.specs.List.{AllByRecursion};
-ghost use Rattle.csicodec_overwrite.specs.Private.Front.{AreLooks, IsFront, IsLook, Sets, last_of_run, run_text};
+ghost use Rattle.csicodec_html.specs.Private.Turns.{AreTurns};
+ghost use Rattle.csicodec_overwrite.specs.Paint.{turn};
+ghost use Rattle.csicodec_overwrite.specs.Private.Front.{AreLooks, IsLook, IsStyled, IsTurned, IsWritten, Sets, Turned, last_of_run, run_text};
 ghost use Rattle.csicodec_overwrite.specs.Private.Plain.{IsLineByte};
 ghost use Rattle.csicodec_overwrite.specs.Stream.{none_held};
 
@@ -12,7 +14,7 @@ use crate::pen::{Pen, set_look};
 use crate::reader::Reader;
 use crate::step::Step;
 use csicodec_clean::split_front;
-use csicodec_html::Look;
+use csicodec_html::{InFront, Look, Turns};
 use csicodec_spans::LIMIT;
 use std::alloc::AllocError;
 
@@ -50,6 +52,7 @@ fn turn_all(look: &mut Look, steps: &[Step]) -> bool
 }
 
 /// The same of bytes, if there are some. `steps` is a place for their steps.
+#[inline(always)]
 fn turn_bytes(
     reader: &mut Reader,
     steps: &mut Vec<Step>,
@@ -86,6 +89,10 @@ pub(crate) struct LineFront<'a> {
     pub(crate) last: Look,
     /// How those look that come.
     pub(crate) now: Look,
+    /// Whether those look as that one.
+    even: bool,
+    /// A line has room while no fewer bytes are left.
+    least: usize,
 }
 
 /// Appends text that looks as `now`, behind a character that looks as `last`, which is how the last character looks then.
@@ -109,6 +116,91 @@ fn append_run(
     append_ascii(marking, run, out)
 }
 
+/// Appends the turn of the sequence in front, of `len` bytes, if that sets how characters look, and answers whether it does. One that isn't
+/// known is read, and kept.
+#[inline(always)]
+fn append_even(
+    reader: &mut Reader,
+    steps: &mut Vec<Step>,
+    turns: &mut Turns,
+    marking: &Marking,
+    front: &mut LineFront<'_>,
+    len: usize,
+    out: &mut Vec<u8>,
+) -> Result<bool, AllocError>
+    requires bare { reader.old ≡ none_held }
+    requires known { AreTurns (Turned marking.now) turns.old.kept.items }
+    requires some { (0 < len) × (len ≤ length front.old.rest.now) }
+    requires even { front.old.last ≡ front.old.now }
+    ensures turned { IfOk result (λ is. is ≡ true → IsTurned marking.now front.old len front.new
+        × (out.new.items ≡ out.old.items ++ turn marking.now front.old.last front.new.now)) }
+    ensures none { IfOk result (λ is. is ≡ false → (front.new ≡ front.old) × (out.new.items ≡ out.old.items)) }
+    ensures bare { OnOk result (reader.new ≡ none_held) }
+    ensures known { OnOk result (AreTurns (Turned marking.now) turns.new.kept.items) }
+{
+    let bytes = front.rest;
+    let known = InFront {
+        bytes,
+        least: len,
+        most: len,
+    };
+    if turns.recall(marking, &mut front.now, known, out)? == 0 {
+        let (sequence, before) = (bytes.split_at(len).0, out.len());
+        if !turn_bytes(reader, steps, &mut front.now, sequence)? {
+            return Ok(false);
+        }
+        append_turn(marking, &front.last, &front.now, out)?;
+        turns.keep(marking, sequence, front.last, front.now, out.split_at(before).1)?;
+    }
+    front.last = front.now;
+    Ok(true)
+}
+
+/// Appends the turn of a sequence in front that sets how characters look, and the text behind it, if the line has room for that. It answers
+/// whether it did; where it didn't, nothing changes.
+fn append_styled<'a>(
+    reader: &mut Reader,
+    steps: &mut Vec<Step>,
+    turns: &mut Turns,
+    marking: &Marking,
+    front: &mut LineFront<'a>,
+    out: &mut Vec<u8>,
+) -> Result<bool, AllocError>
+    requires bare { reader.old ≡ none_held }
+    requires known { AreTurns (Turned marking.now) turns.old.kept.items }
+    requires even { front.old.even ≡ true → front.old.last ≡ front.old.now }
+    ensures styled { IfOk result (λ is. is ≡ true → (text : List ℕ) × IsStyled marking.now front.old text front.new
+        × (out.new.items ≡ out.old.items ++ text)) }
+    ensures fewer { IfOk result (λ is. is ≡ true → length front.new.rest.now < length front.old.rest.now) }
+    ensures none { IfOk result (λ is. is ≡ false → (front.new ≡ front.old) × (out.new.items ≡ out.old.items)) }
+    ensures bare { OnOk result (reader.new ≡ none_held) }
+    ensures known { OnOk result (AreTurns (Turned marking.now) turns.new.kept.items) }
+    ensures even { OnOk result (front.new.even ≡ true → front.new.last ≡ front.new.now) }
+{
+    let len = style_len(front.rest);
+    let (sequence, others) = front.rest.split_at(len);
+    let (run, behind) = split_front::<InLine>(others);
+    if len == 0 || behind.len() < front.least {
+        return Ok(false);
+    }
+    if front.even && !run.is_empty() {
+        if !append_even(reader, steps, turns, marking, front, len, out)? {
+            return Ok(false);
+        }
+        front.rest = behind;
+        append_ascii(marking, run, out)?;
+        return Ok(true);
+    }
+    if !turn_bytes(reader, steps, &mut front.now, sequence)? {
+        return Ok(false);
+    }
+    front.rest = behind;
+    append_run(&mut front.last, &front.now, run, marking, out)?;
+    front.even = !run.is_empty();
+    turns.stand(&front.now);
+    Ok(true)
+}
+
 /// Appends the front of a line that was blank, up to the first byte that is no text of ASCII, nor of a sequence that sets how it looks.
 /// A line has room for it.
 pub(crate) fn append_front<'a>(
@@ -121,23 +213,64 @@ pub(crate) fn append_front<'a>(
 ) -> Result<LineFront<'a>, AllocError>
     requires bare { reader.old ≡ none_held }
     requires over { pen.inserts ≡ false }
-    ensures written { IfOk result (λ f. (front : List ℕ) × (text : List ℕ) × (bytes.now ≡ front ++ f.rest.now)
-        × IsFront marking.now pen front text f.last f.now
-        × (out.new.items ≡ out.old.items ++ text)) }
+    ensures written { IfOk result (λ f. IsWritten marking.now pen bytes.now out.old.items f out.new.items) }
     ensures bare { OnOk result (reader.new ≡ none_held) }
 {
-    let (mut rest, mut last, mut now) = (bytes, Look::plain(), pen.look);
+    let start = LineFront {
+        rest: bytes,
+        last: Look::plain(),
+        now: pen.look,
+        even: false,
+        least: 0,
+    };
+    let (mut rest, mut last, mut now) = (bytes, start.last, start.now);
     loop {
         let (run, behind) = split_front::<InLine>(rest);
         if LIMIT / 8 < bytes.len().saturating_sub(behind.len()) {
-            return Ok(LineFront { rest, last, now });
+            return Ok(LineFront { rest, last, now, ..start });
         }
         append_run(&mut last, &now, run, marking, out)?;
         rest = behind;
         let (sequence, others) = rest.split_at(style_len(rest));
         if !turn_bytes(reader, steps, &mut now, sequence)? {
-            return Ok(LineFront { rest, last, now });
+            return Ok(LineFront { rest, last, now, ..start });
         }
         rest = others;
     }
+}
+
+/// The same where lines show how characters look: what sequences turn is looked up in `turns`, and kept there.
+pub(crate) fn append_shown<'a>(
+    reader: &mut Reader,
+    steps: &mut Vec<Step>,
+    turns: &mut Turns,
+    pen: Pen,
+    marking: &Marking,
+    bytes: &'a [u8],
+    out: &mut Vec<u8>,
+) -> Result<LineFront<'a>, AllocError>
+    requires bare { reader.old ≡ none_held }
+    requires over { pen.inserts ≡ false }
+    requires known { AreTurns (Turned marking.now) turns.old.kept.items }
+    ensures written { IfOk result (λ f. IsWritten marking.now pen bytes.now out.old.items f out.new.items) }
+    ensures bare { OnOk result (reader.new ≡ none_held) }
+    ensures known { OnOk result (AreTurns (Turned marking.now) turns.new.kept.items) }
+{
+    let (run, behind) = split_front::<InLine>(bytes);
+    let mut front = LineFront {
+        rest: bytes,
+        last: Look::plain(),
+        now: pen.look,
+        even: false,
+        least: bytes.len().saturating_sub(LIMIT / 8),
+    };
+    if behind.len() < front.least {
+        return Ok(front);
+    }
+    append_run(&mut front.last, &pen.look, run, marking, out)?;
+    front.rest = behind;
+    front.even = front.last == front.now;
+    turns.stand(&pen.look);
+    while append_styled(reader, steps, turns, marking, &mut front, out)? {}
+    Ok(front)
 }

@@ -2,7 +2,7 @@
 ghost use Rattle.std.specs.Prelude.{◌≡◌};
 ghost use Rattle.csicodec_overwrite.specs.Paint.{shows_looks};
 
-use csicodec_html::Markup;
+use csicodec_html::{Markup, Turning};
 
 /// As what lines are written.
 #[derive(Clone, Copy, PartialEq, Eq, Debug)]
@@ -13,6 +13,12 @@ pub enum Marking {
     Styled,
     /// As a piece of a page, with tags between characters that look otherwise. No links pass.
     Page(Markup),
+}
+
+impl Turning for Marking {
+    ghost use Rattle.csicodec_overwrite.specs.Private.Front.{Turned};
+
+    ghost turns = { Turned };
 }
 
 impl Marking {

@@ -8,7 +8,7 @@ ghost use Rattle.csicodec_overwrite.specs.Stream.{Ending, Passes, begun, begun_a
 ghost use Rattle.csicodec_overwrite.specs.declared.marking.Marking.TheVariants.{Styled};
 
 use crate::ascii::{InLine, begins_sequence, behind_end, odd_len, split_lines};
-use crate::front::append_front;
+use crate::front::{append_front, append_shown};
 use crate::marking::Marking;
 use crate::paint::{append_ascii, append_turn};
 use crate::pen::Pen;
@@ -17,7 +17,7 @@ use crate::row::Row;
 use crate::step::Step;
 use csicodec_clean::split_front;
 use csicodec_filter::Transform;
-use csicodec_html::Look;
+use csicodec_html::{Look, Turns};
 use csicodec_spans::LIMIT;
 use std::alloc::{AllocError, Global};
 use std::marker::Model;
@@ -45,14 +45,21 @@ pub struct Overwriter {
     crooked: usize,
     /// How many lines couldn't be, one after the other.
     missed: u32,
+    /// Sequences that came before where text looked so, and what was written for them.
+    turns: Turns,
 }
 
 impl Model for Overwriter {
     ghost use Rattle.csicodec_overwrite.specs.Stream.{Now};
 
+    ghost use Rattle.csicodec_html.specs.Private.Turns.{AreTurns};
+    ghost use Rattle.csicodec_overwrite.specs.Private.Front.{Turned};
+
     ghost Value = { Now };
 
     ghost view = { λ o. record { reader = o.reader; pen = o.pen; marking = o.marking; line = o.line } };
+
+    ghost invariant = { λ o. AreTurns (Turned o.marking) o.turns.kept.items };
 }
 
 impl Overwriter {
@@ -82,6 +89,7 @@ impl Overwriter {
             steps: Vec::new(alloc),
             crooked: usize::MAX,
             missed: 0,
+            turns: Turns::new(alloc, &marking),
         }
     }
 
@@ -240,7 +248,12 @@ impl Overwriter {
     {
         let before = out.len();
         let (pen, marking) = (self.pen, &self.marking);
-        let front = append_front(&mut self.reader, &mut self.steps, pen, marking, bytes, out)?;
+        let (reader, steps) = (&mut self.reader, &mut self.steps);
+        let front = if marking.shows_looks() {
+            append_shown(reader, steps, &mut self.turns, pen, marking, bytes, out)?
+        } else {
+            append_front(reader, steps, pen, marking, bytes, out)?
+        };
         let Some(rest) = behind_end(front.rest) else {
             out.truncate(before);
             self.crooked = front.rest.len();
@@ -301,9 +314,10 @@ impl Overwriter {
         if self.begins_line(bytes)
             && let Some(rest) = self.take_line(bytes, out)?
         {
-            // Behind a line of which all was written, others are likely that are text alone.
+            // Behind a line of which all was written, and little more, others are likely that are text alone.
             let taken = bytes.len().saturating_sub(rest.len());
-            let is_likely = out.len().saturating_sub(before) >= taken;
+            let more = out.len().saturating_sub(before).checked_sub(taken);
+            let is_likely = more.is_some_and(|more| more <= taken / 4);
             let far = self.take_lines(is_likely, rest, out)?;
             return Ok(far);
         }

@@ -5,6 +5,7 @@ use Rattle.csicodec_actions.specs.Actions.{Action}
 use Rattle.csicodec_terminal.specs.Terminal.{IsTakenFor}
 use Rattle.csicodec_html.specs.declared.look.Look.{Look}
 use Rattle.csicodec_html.specs.declared.markup.Markup.{Markup}
+use Rattle.csicodec_html.specs.declared.turns.InFront.{InFront}
 use Rattle.csicodec_html.specs.declared.turns.Turn.{Turn}
 use Rattle.csicodec_html.specs.Look.{behind_all, sets_any}
 use Rattle.csicodec_html.specs.Page.{turn}
@@ -16,22 +17,21 @@ IsTurned m bytes old new tags = (actions : List Action) × IsTakenFor bytes acti
     × (new ≡ behind_all old actions)
     × (tags ≡ all_marked (turn m (sets_any actions) old (behind_all old actions)))
 
-abbrev pub IsTurn : Markup → Turn → Type 0
-IsTurn m t = IsTurned m t.bytes.items t.old t.new t.tags.items
+-- it turns text of one look into text of another, and that is written for it
+abbrev pub IsTurn : (List ℕ → Look → Look → List ℕ → Type 0) → Turn → Type 0
+IsTurn Turned t = (t.len ≤ 32) × (t.tags_len ≤ 128) × Turned (take t.len t.bytes) t.old t.new (take t.tags_len t.tags)
 
--- each that is kept is one
-abbrev pub AreTurns : Markup → List Turn → Type 0
-AreTurns m kept = All (IsTurn m) kept
+-- each that is kept does
+abbrev pub AreTurns : (List ℕ → Look → Look → List ℕ → Type 0) → List Turn → Type 0
+AreTurns Turned kept = All (IsTurn Turned) kept
 
 -- it is of the sequence in front, and from this look
-abbrev pub Fits : Turn → Look → ℕ → List ℕ → Type 0
-Fits t look limit bytes =
-    (0 < length t.bytes.items) × (length t.bytes.items ≤ limit)
-    × (length t.bytes.items ≤ length bytes)
-    × (take (length t.bytes.items) bytes ≡ t.bytes.items) × (t.old ≡ look)
+abbrev pub Fits : Turn → Look → InFront → Type 0
+Fits t look f =
+    (f.least ≤ t.len) × (t.len ≤ f.most) × (t.len ≤ length f.bytes.now) × (take t.len f.bytes.now ≡ take t.len t.bytes) × (t.old ≡ look)
 
--- the tags of the sequence in front, of so many bytes, are appended
-abbrev pub IsTold : Markup → Look → ℕ → List ℕ → ℕ → Look → List ℕ → List ℕ → Type 0
-IsTold m look limit bytes len new old out =
-    (0 < len) × (len ≤ limit) × (len ≤ length bytes)
-    × (tags : List ℕ) × IsTurned m (take len bytes) look new tags × (out ≡ old ++ tags)
+-- what is written for the sequence in front, of so many bytes, is appended
+abbrev pub IsTold : (List ℕ → Look → Look → List ℕ → Type 0) → Look → InFront → ℕ → Look → List ℕ → List ℕ → Type 0
+IsTold Turned look f len new old out =
+    (f.least ≤ len) × (len ≤ f.most) × (len ≤ length f.bytes.now)
+    × (tags : List ℕ) × Turned (take len f.bytes.now) look new tags × (out ≡ old ++ tags)

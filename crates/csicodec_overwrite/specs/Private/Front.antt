@@ -1,8 +1,10 @@
 -- The front of a line that is written as it comes. No promise rests on this file.
-use Rattle.std.specs.Prelude.{ℕ, ◌≡◌, ◌≤◌, ◌*◌, List, [], ◌∷◌, ◌++◌, length}
+use Rattle.std.specs.Prelude.{ℕ, ◌≡◌, ◌≤◌, ◌*◌, List, [], ◌∷◌, ◌++◌, drop, length, take}
+use Rattle.std.specs.List.{prefix_len}
 use Rattle.csicodec_html.specs.declared.look.Look.{Look}
 use Rattle.csicodec_html.specs.Look.{behind, plain}
 use Rattle.csicodec_overwrite.specs.declared.cells.Cell.{Cell}
+use Rattle.csicodec_overwrite.specs.declared.front.LineFront.{LineFront}
 use Rattle.csicodec_overwrite.specs.declared.marking.Marking.{Marking}
 use Rattle.csicodec_overwrite.specs.declared.pen.Pen.{Pen}
 use Rattle.csicodec_overwrite.specs.declared.step.Step.{Step}
@@ -12,7 +14,7 @@ use Rattle.csicodec_overwrite.specs.Line.{blank, do_all, line, pen_behind_all}
 use Rattle.csicodec_overwrite.specs.Paint.{look_of, turn, written}
 use Rattle.csicodec_overwrite.specs.Reading.{most}
 use Rattle.csicodec_overwrite.specs.Stream.{Reads, none_held}
-use Rattle.csicodec_overwrite.specs.Private.Plain.{AreFull, closed}
+use Rattle.csicodec_overwrite.specs.Private.Plain.{AreFull, closed, line_byte}
 
 -- how the last character looks, where text of one look comes behind a character of another
 abbrev pub last_of_run : Look → Look → List ℕ → Look
@@ -49,6 +51,10 @@ AreLooks look (s ∷ steps) after = (mid : Look) × IsLook look s mid × AreLook
 abbrev pub Sets : List ℕ → Look → Look → Type 0
 Sets bytes look after = (steps : List Step) × Reads none_held bytes steps none_held × AreLooks look steps after
 
+-- they turn text of one look into text of another, and this is written for it
+abbrev pub Turned : Marking → List ℕ → Look → Look → List ℕ → Type 0
+Turned marking bytes old new tags = Sets bytes old new × (tags ≡ turn marking old new)
+
 -- With the pen the bytes put cells into a blank line, of which none is empty, and the text is what is written of them: the last looks as
 -- `last`, and those that come as `now`.
 pub record IsFront (marking : Marking) (pen : Pen) (bytes text : List ℕ) (last now : Look) : Type 0 where
@@ -62,3 +68,24 @@ pub record IsFront (marking : Marking) (pen : Pen) (bytes text : List ℕ) (last
   pub few : length cells ≤ 8 * length bytes
   pub looks : last ≡ last_look cells
   pub drawn : text ≡ drawn marking cells
+
+-- the sequence in front, of so many bytes, turns characters that come and the last one alike
+abbrev pub IsTurned : Marking → LineFront → ℕ → LineFront → Type 0
+IsTurned marking old len new = Sets (take len old.rest.now) old.now new.now × (new ≡ record old { last = new.now; now = new.now })
+
+-- a sequence in front that sets how text looks is written, and the text behind it
+pub record IsStyled (marking : Marking) (old : LineFront) (text : List ℕ) (new : LineFront) : Type 0 where
+  pub sequence : List ℕ
+  pub others : List ℕ
+  pub parts : old.rest.now ≡ sequence ++ others
+  pub sets : Sets sequence old.now new.now
+  pub rest : new.rest.now ≡ drop (prefix_len line_byte others) others
+  pub room : new.least ≤ length new.rest.now
+  pub least : new.least ≡ old.least
+  pub looks : new.last ≡ last_of_run old.last new.now (take (prefix_len line_byte others) others)
+  pub text : text ≡ run_text marking old.last new.now (take (prefix_len line_byte others) others)
+
+-- the bytes up to the rest are a front, and its text is appended
+abbrev pub IsWritten : Marking → Pen → List ℕ → List ℕ → LineFront → List ℕ → Type 0
+IsWritten marking pen bytes before f after = (front : List ℕ) × (text : List ℕ) × (bytes ≡ front ++ f.rest.now)
+    × IsFront marking pen front text f.last f.now × (after ≡ before ++ text)

@@ -1,18 +1,14 @@
-use Rattle.std.proofs.Common.{length, drop, arith}
-use Rattle.std.proofs.lemmas.Bool.Decides.{Decides-eqb}
-use Rattle.std.proofs.lemmas.Slice.Eq.{starts_is}
-use Rattle.csicodec_html.proofs.Recalled.{in_front, same_look}
+use Rattle.std.proofs.Common.{arith}
+use Rattle.csicodec_streams.proofs.Known.{same_in_front}
+use Rattle.csicodec_html.proofs.Recalled.{same_look}
 use Rattle.csicodec_html.proofs.turns.Turn.fits.Goals as goal
 
-pub returns : goal.returns
-returns c = λ same.
-    let bytes = c.args.bytes.now in
-    let own = c.deref.result.now in
-    let split = (starts_is Decides-eqb bytes own c.starts_with.result c.starts_with.ensures.value).0 c.if-not-starts_with.false in
-    let front = rw c.deref.ensures.value at (in_front bytes own (drop (length own) bytes) split) in (
-      omega (arith, c.if-len-eq0.false, c.len-len.ensures),
-      omega (arith, c.if-len-limit.false, c.len-len.ensures),
-      front.0,
-      front.1,
-      same_look _ _ (rw c.eq.ensures at same),
-    )
+pub returns-then-self-min : goal.returns-then-self-min
+returns-then-self-min c = λ same. (
+  omega (arith, c.if-self-front.false),
+  omega (arith, c.if-self-front-2.false),
+  omega (arith, c.if-front-lt-LONGEST.false, c.if-self-min.true, c.min.ensures),
+  same_in_front c.args.front.bytes.now c.args.self.now.bytes 32 c.same_32-same.result c.args.self.now.len
+      (omega (arith, c.if-self-min.true, c.min.ensures)) (omega (arith, c.if-self-min.true, c.min.ensures)) c.same_32-same.ensures.same,
+  same_look _ _ (rw c.eq.ensures at same),
+)

@@ -3,14 +3,14 @@ use Rattle.csicodec_html.specs.Private.Turns.{IsTurn}
 use Rattle.csicodec_html.proofs.turns.Turns.put.Goals as goal
 
 pub returns-then-at-len : goal.returns-then-at-len
-returns-then-at-len c =
+returns-then-at-len g c =
     let items = c.make_places.new.self.kept.items in
-    All-set (IsTurn c.args._markup.now) items c.from-at.result c.args.turn c.requires.turn c.in_ok-make_places.ensures
+    All-set (IsTurn (g.T.Turning.turns c.args._by.now)) items c.from-at.result c.args.turn c.requires.turn c.in_ok-make_places.ensures
 
 pub returns-in_err-push : goal.returns-in_err-push
-returns-in_err-push c = rw c.in_err-push.ensures.items c.in_ok-make_places.ensures
+returns-in_err-push g c = rw c.in_err-push.ensures.items c.in_ok-make_places.ensures
 
 pub returns : goal.returns
-returns c =
+returns g c =
     let items = c.make_places.new.self.kept.items in
-    rw c.in_ok-push.ensures.items (All-push (IsTurn c.args._markup.now) items c.args.turn c.in_ok-make_places.ensures c.requires.turn)
+    rw c.in_ok-push.ensures.items (All-push (IsTurn (g.T.Turning.turns c.args._by.now)) items c.args.turn c.in_ok-make_places.ensures c.requires.turn)

@@ -1,12 +1,12 @@
 use Rattle.std.proofs.Common.{◌<◌, length, sym, subst, arith}
 use Rattle.std.proofs.lemmas.List.Elements.{All-get_or}
 use Rattle.csicodec_html.specs.Private.Turns.{IsTurn}
-use Rattle.csicodec_html.proofs.turns.Turns.at.Goals as goal
+use Rattle.csicodec_html.proofs.turns.Turns.numbered.Goals as goal
 
 pub returns-then-fits : goal.returns-then-fits
-returns-then-fits c =
+returns-then-fits g c =
     let turn = c.index-turn.result.now in
     let items = c.args.self.now.kept.items in
     let place = c.from-at.result in
     let within : place < length items = omega (arith, c.if-at-len.false, c.len.ensures) in
-    (subst (IsTurn c.args._markup.now) (sym c.index-turn.ensures) (All-get_or (IsTurn c.args._markup.now) items place turn within c.requires), c.fits.ensures c.if-fits.true)
+    (subst (IsTurn (g.T.Turning.turns c.args._by.now)) (sym c.index-turn.ensures) (All-get_or (IsTurn (g.T.Turning.turns c.args._by.now)) items place turn within c.requires), c.fits.ensures c.if-fits.true)

@@ -75,7 +75,7 @@ impl Transform for Page {
 /// Reads to the end, and writes the stream as [`html`](crate::html) makes it of all its bytes, as it comes: after each read all that is
 /// sure is written and flushed.
 ///
-/// It holds a control sequence that isn't over, of fewer than 65536 bytes, three bytes of a character at most, two addresses, and 1024
+/// It holds a control sequence that isn't over, of fewer than 65536 bytes, three bytes of a character at most, two addresses, and 4,096
 /// short sequences that came before, with their tags. The errors are those of `csicodec_clean::clean_run`.
 ///
 /// ```text

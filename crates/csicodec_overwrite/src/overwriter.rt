@@ -29,8 +29,9 @@ const EVERY: usize = 8;
 
 /// A stream as it comes, of which each line is written as it stands when it ends, as plain text, painted or as a page.
 ///
-/// It holds the line that isn't over, of at most 65,536 cells, a control sequence that isn't, of fewer than 65,536 bytes, and at most
-/// 4,096 slices of 32 bytes that came before, with their steps. After an `Err` it and what was appended are of no more use.
+/// It holds the line that isn't over, of at most 65,536 cells, a control sequence that isn't, of fewer than 65,536 bytes, at most 4,096
+/// slices of 32 bytes that came before, with their steps, and as many sequences with their tags. After an `Err` it and what was appended
+/// are of no more use.
 #[derive(Drop)]
 pub struct Overwriter {
     reader: Reader,

@@ -77,9 +77,12 @@ pub kept : (Turned : List ℕ → Look → Look → List ℕ → Type 0) (bytes 
     × Turned (take (length bytes) (copied ++ behind)) old new (take (length tags) (told ++ after))
 kept Turned bytes tags copied told behind after old new same one short few is =
     let front = ap (λ (l : List ℕ). take (length bytes) (l ++ behind)) same ∙ take-append_seam bytes behind in
-    let text = ap (λ (l : List ℕ). take (length tags) (l ++ after)) one ∙ take-append_seam tags after in
-    (short, few, subst (λ (l : List ℕ). Turned l old new (take (length tags) (told ++ after))) (sym front)
-    (subst (Turned bytes old new) (sym text) is))
+    let text = ap (λ (l : List ℕ). take (length tags) (l ++ after)) one ∙ take-append_seam tags after in (
+      short,
+      few,
+      subst (λ (l : List ℕ). Turned l old new (take (length tags) (told ++ after))) (sym front)
+          (subst (Turned bytes old new) (sym text) is),
+    )
 
 -- what the rule gives for it
 pub given : (s : Setting) (bytes tags : List ℕ) (new : Look) → IsTurned s.markup bytes s.look new tags

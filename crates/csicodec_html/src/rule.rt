@@ -169,9 +169,7 @@ impl Rule for SpanWriter {
             least: 1,
             most: limit,
         };
-        let len = self
-            .turns
-            .recall(&self.markup, &mut self.look, front, out)?;
+        let len = self.turns.recall(&self.markup, &mut self.look, front, out)?;
         Ok(len)
     }
 

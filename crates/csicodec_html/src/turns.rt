@@ -67,7 +67,10 @@ impl Turn {
         if self.len < front.least || self.len > front.most || front.bytes.len() < LONGEST {
             return false;
         }
-        let same = same_32(u8x32::from_slice(front.bytes), u8x32::from_slice(&self.bytes));
+        let same = same_32(
+            u8x32::from_slice(front.bytes),
+            u8x32::from_slice(&self.bytes),
+        );
         self.len <= same.min(LONGEST) && self.old == *look
     }
 
@@ -123,7 +126,13 @@ impl Turns {
 
     /// The turn of this number, if it is the one of the sequence in front, from this look.
     #[inline(always)]
-    fn numbered<T: Turning>(&self, number: u16, _by: &T, look: &Look, front: InFront<'_>) -> Option<&Turn>
+    fn numbered<T: Turning>(
+        &self,
+        number: u16,
+        _by: &T,
+        look: &Look,
+        front: InFront<'_>,
+    ) -> Option<&Turn>
         requires { AreTurns (T.turns _by.now) self.now.kept.items }
         ensures { IfSome result (λ turn. IsTurn (T.turns _by.now) turn.now × Fits turn.now look.now front.entry) }
     {

@@ -150,7 +150,13 @@ fn append_even(
             return Ok(false);
         }
         append_turn(marking, &front.last, &front.now, out)?;
-        turns.keep(marking, sequence, front.last, front.now, out.split_at(before).1)?;
+        turns.keep(
+            marking,
+            sequence,
+            front.last,
+            front.now,
+            out.split_at(before).1,
+        )?;
     }
     front.last = front.now;
     Ok(true)
@@ -227,13 +233,23 @@ pub(crate) fn append_front<'a>(
     loop {
         let (run, behind) = split_front::<InLine>(rest);
         if LIMIT / 8 < bytes.len().saturating_sub(behind.len()) {
-            return Ok(LineFront { rest, last, now, ..start });
+            return Ok(LineFront {
+                rest,
+                last,
+                now,
+                ..start
+            });
         }
         append_run(&mut last, &now, run, marking, out)?;
         rest = behind;
         let (sequence, others) = rest.split_at(style_len(rest));
         if !turn_bytes(reader, steps, &mut now, sequence)? {
-            return Ok(LineFront { rest, last, now, ..start });
+            return Ok(LineFront {
+                rest,
+                last,
+                now,
+                ..start
+            });
         }
         rest = others;
     }

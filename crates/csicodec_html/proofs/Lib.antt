@@ -18,4 +18,3 @@ pub mod Streamed
 pub mod Tagged
 pub mod Turned
 pub mod Stood
-pub mod Short

@@ -1,5 +1,5 @@
 //! The tag that begins a span, with controls in place of its markup.
-ghost use Rattle.std.specs.Prelude.{◌≡◌, ◌++◌, [], ◌∷◌, OnOk};
+ghost use Rattle.std.specs.Prelude.{◌≡◌, ◌++◌, OnOk};
 ghost use Rattle.csicodec_html.specs.Classes.{has_true, is_true, rest_attribute, true_color, true_colors};
 ghost use Rattle.csicodec_html.specs.Look.{is_exact, is_mixed, legible_look, settled, settled_color};
 ghost use Rattle.csicodec_html.specs.Page.{Begin};
@@ -93,7 +93,7 @@ fn settled_color(color: ColorSpec) -> ColorSpec
 }
 
 /// Whether text or what is behind it has such a colour, and pairs could stand beside that.
-pub(crate) fn is_mixed(palette: &Palette, look: Look) -> bool
+fn is_mixed(palette: &Palette, look: Look) -> bool
     ensures { result ≡ is_mixed palette.now look }
 {
     palette.has_pairs() && (is_exact(look.foreground) || is_exact(look.background))

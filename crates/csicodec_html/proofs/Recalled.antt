@@ -23,7 +23,8 @@ use Rattle.csicodec_html.specs.declared.turns.Turn.{Turn}
 use Rattle.csicodec_html.specs.Look.{behind_all, sets_any}
 use Rattle.csicodec_html.specs.Page.{Setting, setting, turn}
 use Rattle.csicodec_html.specs.Private.Marked.{all_marked, turns}
-use Rattle.csicodec_html.specs.Private.Turns.{Fits, IsTold, IsTurn, IsTurned}
+use Rattle.csicodec_html.specs.Private.Turns.{IsTurned}
+use Rattle.csicodec_html.specs.Turns.{Fits, IsTold, IsTurn}
 
 -- weights, lines and colours that are equal are one
 weight : (a b : Intensity) → (intensity_eq.ghosts).eq a b ≡ true → a ≡ b

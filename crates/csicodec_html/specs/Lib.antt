@@ -7,3 +7,4 @@ pub mod Page
 pub mod Palette
 pub mod Private
 pub mod Sheet
+pub mod Turns

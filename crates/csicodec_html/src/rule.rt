@@ -84,17 +84,23 @@ fn append_turn(
     append_begin(markup, new, out)
 }
 
-impl Turning for Markup {
+/// What becomes markup, as tags that are marked.
+#[derive(Clone, Copy)]
+struct Marks {
+    markup: Markup,
+}
+
+impl Turning for Marks {
     ghost use Rattle.csicodec_html.specs.Private.Turns.{IsTurned};
 
-    ghost turns = { IsTurned };
+    ghost turns = { λ marks. IsTurned marks.markup };
 }
 
 /// The rule that turns attributes into spans, and links, where they pass, into links of the page.
 #[derive(Drop)]
 pub(crate) struct SpanWriter {
     alloc: Global,
-    markup: Markup,
+    marks: Marks,
     look: Look,
     lead: Lead,
     /// A place that is kept for the actions of a sequence.
@@ -109,12 +115,13 @@ impl Model for SpanWriter {
 
     ghost Value = { Setting };
 
-    ghost use Rattle.csicodec_html.specs.Private.Turns.{AreTurns, IsTurned};
+    ghost use Rattle.csicodec_html.specs.Private.Turns.{IsTurned};
+    ghost use Rattle.csicodec_html.specs.Turns.{AreTurns};
 
-    ghost view = { λ s. setting s.markup s.look s.lead.to.items
+    ghost view = { λ s. setting s.marks.markup s.look s.lead.to.items
         (begun s.lead.next.place s.lead.next.params.items s.lead.next.url.items) };
 
-    ghost invariant = { λ s. AreTurns (IsTurned s.markup) s.turns.kept.items };
+    ghost invariant = { λ s. AreTurns (IsTurned s.marks.markup) s.turns.kept.items };
 }
 
 impl SpanWriter {
@@ -122,13 +129,14 @@ impl SpanWriter {
     pub(crate) fn new(alloc: Global, markup: Markup) -> SpanWriter
         ensures { result ≡ first_set markup }
     {
+        let marks = Marks { markup };
         SpanWriter {
             alloc,
-            markup,
+            marks,
             look: Look::plain(),
             lead: Lead::new(alloc),
             actions: Vec::new(alloc),
-            turns: Turns::new(alloc, &markup),
+            turns: Turns::new(alloc, &marks),
         }
     }
 }
@@ -150,9 +158,15 @@ impl Rule for SpanWriter {
         terminal_actions_into(self.alloc, params, false, control, &mut self.actions)?;
         let new = behind_each(self.look, &self.actions);
         let before = out.len();
-        append_turn(&self.markup, sets_any(&self.actions), self.look, new, out)?;
+        append_turn(
+            &self.marks.markup,
+            sets_any(&self.actions),
+            self.look,
+            new,
+            out,
+        )?;
         let tags = out.split_at(before).1;
-        self.turns.keep(&self.markup, bytes, self.look, new, tags)?;
+        self.turns.keep(&self.marks, bytes, self.look, new, tags)?;
         self.look = new;
         Ok(())
     }
@@ -169,15 +183,16 @@ impl Rule for SpanWriter {
             least: 1,
             most: limit,
         };
-        let len = self.turns.recall(&self.markup, &mut self.look, front, out)?;
+        let len = self.turns.recall(&self.marks, &mut self.look, front, out)?;
         Ok(len)
     }
 
     fn string(&mut self, bytes: &[u8], out: &mut Vec<u8>) -> Result<(), AllocError> {
-        if !self.markup.links {
+        if !self.marks.markup.links {
             return Ok(());
         }
-        self.lead.append_links(&self.markup, self.look, bytes, out)?;
+        self.lead
+            .append_links(&self.marks.markup, self.look, bytes, out)?;
         Ok(())
     }
 

@@ -1,6 +1,6 @@
 //! Control sequences that came before: one that comes again where text looks the same is looked up, and not read again.
 ghost use Rattle.std.specs.Prelude.{◌≡◌, ◌<◌, ◌≤◌, ◌++◌, List, ℕ, length, take, true, IfOk, IfSome, OnOk};
-ghost use Rattle.csicodec_html.specs.Private.Turns.{AreTurns, Fits, IsTold, IsTurn};
+ghost use Rattle.csicodec_html.specs.Turns.{AreTurns, Fits, IsTold, IsTurn};
 
 use crate::look::Look;
 use csicodec_base::{ColorSpec, SrgbaTuple};

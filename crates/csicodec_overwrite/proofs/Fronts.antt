@@ -12,7 +12,7 @@ use Rattle.csicodec_clean.proofs.Shows.{encoded_on}
 use Rattle.csicodec_clean.proofs.Told.{is_shown}
 use Rattle.csicodec_html.specs.declared.look.Look.{Look}
 use Rattle.csicodec_html.specs.Look.{plain}
-use Rattle.csicodec_html.specs.Private.Turns.{IsTold}
+use Rattle.csicodec_html.specs.Turns.{IsTold}
 use Rattle.csicodec_overwrite.specs.declared.cells.Cell.{Cell}
 use Rattle.csicodec_overwrite.specs.declared.cells.Cell.TheVariants.{Behind, Char}
 use Rattle.csicodec_overwrite.specs.declared.cells.Glyph.{Glyph}

@@ -1,7 +1,7 @@
 //! The front of a line that is written as it comes: text of ASCII, and sequences that do no more than to set how it looks.
 ghost use Rattle.std.specs.Prelude.{◌≡◌, ◌<◌, ◌++◌, ℕ, List, false, true, length, IfOk, OnOk};
 ghost use Rattle.std.specs.List.{AllByRecursion};
-ghost use Rattle.csicodec_html.specs.Private.Turns.{AreTurns};
+ghost use Rattle.csicodec_html.specs.Turns.{AreTurns};
 ghost use Rattle.csicodec_overwrite.specs.Paint.{turn};
 ghost use Rattle.csicodec_overwrite.specs.Private.Front.{AreLooks, IsLook, IsStyled, IsTurned, IsWritten, Sets, Turned, last_of_run, run_text};
 ghost use Rattle.csicodec_overwrite.specs.Private.Plain.{IsLineByte};

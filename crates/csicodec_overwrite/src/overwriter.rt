@@ -52,7 +52,7 @@ pub struct Overwriter {
 
 impl Model for Overwriter {
     ghost use Rattle.csicodec_overwrite.specs.Stream.{Now};
-    ghost use Rattle.csicodec_html.specs.Private.Turns.{AreTurns};
+    ghost use Rattle.csicodec_html.specs.Turns.{AreTurns};
     ghost use Rattle.csicodec_overwrite.specs.Private.Front.{Turned};
 
     ghost Value = { Now };

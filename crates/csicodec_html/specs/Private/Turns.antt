@@ -1,12 +1,9 @@
--- What a table of control sequences that came before holds. No promise rests on this file.
-use Rattle.std.specs.Prelude.{ℕ, ◌≡◌, ◌<◌, ◌≤◌, List, ◌++◌, length, take}
-use Rattle.std.specs.List.{All}
+-- What a table of control sequences that came before holds of marked text. No promise rests on this file.
+use Rattle.std.specs.Prelude.{ℕ, ◌≡◌, List}
 use Rattle.csicodec_actions.specs.Actions.{Action}
 use Rattle.csicodec_terminal.specs.Terminal.{IsTakenFor}
 use Rattle.csicodec_html.specs.declared.look.Look.{Look}
 use Rattle.csicodec_html.specs.declared.markup.Markup.{Markup}
-use Rattle.csicodec_html.specs.declared.turns.InFront.{InFront}
-use Rattle.csicodec_html.specs.declared.turns.Turn.{Turn}
 use Rattle.csicodec_html.specs.Look.{behind_all, sets_any}
 use Rattle.csicodec_html.specs.Page.{turn}
 use Rattle.csicodec_html.specs.Private.Marked.{all_marked}
@@ -16,22 +13,3 @@ abbrev pub IsTurned : Markup → List ℕ → Look → Look → List ℕ → Typ
 IsTurned m bytes old new tags = (actions : List Action) × IsTakenFor bytes actions
     × (new ≡ behind_all old actions)
     × (tags ≡ all_marked (turn m (sets_any actions) old (behind_all old actions)))
-
--- it turns text of one look into text of another, and that is written for it
-abbrev pub IsTurn : (List ℕ → Look → Look → List ℕ → Type 0) → Turn → Type 0
-IsTurn Turned t = (t.len ≤ 32) × (t.tags_len ≤ 128) × Turned (take t.len t.bytes) t.old t.new (take t.tags_len t.tags)
-
--- each that is kept does
-abbrev pub AreTurns : (List ℕ → Look → Look → List ℕ → Type 0) → List Turn → Type 0
-AreTurns Turned kept = All (IsTurn Turned) kept
-
--- it is of the sequence in front, and from this look
-abbrev pub Fits : Turn → Look → InFront → Type 0
-Fits t look f =
-    (f.least ≤ t.len) × (t.len ≤ f.most) × (t.len ≤ length f.bytes.now) × (take t.len f.bytes.now ≡ take t.len t.bytes) × (t.old ≡ look)
-
--- what is written for the sequence in front, of so many bytes, is appended
-abbrev pub IsTold : (List ℕ → Look → Look → List ℕ → Type 0) → Look → InFront → ℕ → Look → List ℕ → List ℕ → Type 0
-IsTold Turned look f len new old out =
-    (f.least ≤ len) × (len ≤ f.most) × (len ≤ length f.bytes.now)
-    × (tags : List ℕ) × Turned (take len f.bytes.now) look new tags × (out ≡ old ++ tags)

@@ -18,14 +18,14 @@ returns c =
     let inside = c.self.inside in
     let to = inside.lead.to.items in
     let come = begun inside.lead.next.place inside.lead.next.params.items inside.lead.next.url.items in
-    let old = setting inside.markup inside.look to come in
+    let old = setting inside.marks.markup inside.look to come in
     let links = links_in true come bytes in
-    let text = all_marked (switches inside.markup inside.look to links) in
-    let after = setting inside.markup inside.look (led_by to links) (all_behind true come bytes) in
+    let text = all_marked (switches inside.marks.markup inside.look to links) in
+    let after = setting inside.marks.markup inside.look (led_by to links) (all_behind true come bytes) in
     let given : AreGiven turns now bytes text after = subst (λ (s : Setting). AreGiven turns s bytes text after) c.self.view_is (gives_links bytes old c.if-not-self.false) in
     let new = c.append_links.new.self in
     let next = begun new.next.place new.next.params.items new.next.url.items in
     let told = c.in_ok-append_links.ensures in
-    let state : setting inside.markup inside.look new.to.items next ≡ after =
-    ap (λ (t : List ℕ). setting inside.markup inside.look t next) told.to ∙ ap (λ (b : Begun). setting inside.markup inside.look (led_by to links) b) told.next in
+    let state : setting inside.marks.markup inside.look new.to.items next ≡ after =
+    ap (λ (t : List ℕ). setting inside.marks.markup inside.look t next) told.to ∙ ap (λ (b : Begun). setting inside.marks.markup inside.look (led_by to links) b) told.next in
     (text, subst (λ (s : Setting). AreGiven turns now bytes text s) (sym state) given, told.text)

@@ -1,6 +1,6 @@
 use Rattle.std.proofs.Common.{◌<◌, length, sym, subst, arith}
 use Rattle.std.proofs.lemmas.List.Elements.{All-get_or}
-use Rattle.csicodec_html.specs.Private.Turns.{IsTurn}
+use Rattle.csicodec_html.specs.Turns.{IsTurn}
 use Rattle.csicodec_html.proofs.turns.Turns.numbered.Goals as goal
 
 pub returns-then-fits : goal.returns-then-fits

@@ -29,7 +29,8 @@ use Rattle.csicodec_overwrite.specs.Paint.{ended, look_of, paint, shows_looks, t
 use Rattle.csicodec_overwrite.specs.Steps.{of_char, of_chars}
 use Rattle.csicodec_overwrite.specs.Reading.{most}
 use Rattle.csicodec_overwrite.specs.Stream.{Now, Passes, Reads, none_held}
-use Rattle.csicodec_overwrite.specs.Private.Front.{AreLooks, IsFront, IsLook, IsStyled, IsWritten, Sets, Turned, drawn, last_look, last_of_run, run_text}
+use Rattle.csicodec_overwrite.specs.Private.Front.{IsFront, IsStyled, IsWritten, drawn, last_look, last_of_run, run_text}
+use Rattle.csicodec_overwrite.specs.Turned.{AreLooks, IsLook, Sets, Turned}
 use Rattle.csicodec_overwrite.specs.Private.Plain.{AreFull, AreLines, IsLineByte, PutsPlain, closed, end_of, line_byte}
 use Rattle.csicodec_overwrite.proofs.Alike.{newline_written, turn_same, written_none, written_on}
 use Rattle.csicodec_overwrite.proofs.Ends.{end_passes}

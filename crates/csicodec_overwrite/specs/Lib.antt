@@ -6,3 +6,4 @@ pub mod Reading
 pub mod Stream
 pub mod Lost
 pub mod Private
+pub mod Turned

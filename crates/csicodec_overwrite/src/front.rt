@@ -1,9 +1,10 @@
 //! The front of a line that is written as it comes: text of ASCII, and sequences that do no more than to set how it looks.
-ghost use Rattle.std.specs.Prelude.{◌≡◌, ◌<◌, ◌++◌, ℕ, List, false, true, length, IfOk, OnOk};
+ghost use Rattle.std.specs.Prelude.{◌≡◌, ◌<◌, ◌≤◌, ◌++◌, ℕ, List, false, true, length, IfOk, OnOk};
 ghost use Rattle.std.specs.List.{AllByRecursion};
 ghost use Rattle.csicodec_html.specs.Turns.{AreTurns};
 ghost use Rattle.csicodec_overwrite.specs.Paint.{turn};
-ghost use Rattle.csicodec_overwrite.specs.Private.Front.{AreLooks, IsLook, IsStyled, IsTurned, IsWritten, Sets, Turned, last_of_run, run_text};
+ghost use Rattle.csicodec_overwrite.specs.Private.Front.{IsStyled, IsTurned, IsWritten, last_of_run, run_text};
+ghost use Rattle.csicodec_overwrite.specs.Turned.{AreLooks, IsLook, Sets, Turned};
 ghost use Rattle.csicodec_overwrite.specs.Private.Plain.{IsLineByte};
 ghost use Rattle.csicodec_overwrite.specs.Stream.{none_held};
 
@@ -136,7 +137,7 @@ fn append_even(
         × (out.new.items ≡ out.old.items ++ turn marking.now front.old.last front.new.now)) }
     ensures none { IfOk result (λ is. is ≡ false → (front.new ≡ front.old) × (out.new.items ≡ out.old.items)) }
     ensures bare { OnOk result (reader.new ≡ none_held) }
-    ensures known { OnOk result (AreTurns (Turned marking.now) turns.new.kept.items) }
+    ensures known { AreTurns (Turned marking.now) turns.new.kept.items }
 {
     let bytes = front.rest;
     let known = InFront {
@@ -144,20 +145,17 @@ fn append_even(
         least: len,
         most: len,
     };
-    if turns.recall(marking, &mut front.now, known, out)? == 0 {
-        let (sequence, before) = (bytes.split_at(len).0, out.len());
-        if !turn_bytes(reader, steps, &mut front.now, sequence)? {
-            return Ok(false);
-        }
-        append_turn(marking, &front.last, &front.now, out)?;
-        turns.keep(
-            marking,
-            sequence,
-            front.last,
-            front.now,
-            out.split_at(before).1,
-        )?;
+    if turns.recall(marking, &mut front.now, known, out)? > 0 {
+        front.last = front.now;
+        return Ok(true);
     }
+    let (sequence, before) = (bytes.split_at(len).0, out.len());
+    if !turn_bytes(reader, steps, &mut front.now, sequence)? {
+        return Ok(false);
+    }
+    append_turn(marking, &front.last, &front.now, out)?;
+    let tags = out.split_at(before).1;
+    turns.keep(marking, sequence, front.last, front.now, tags)?;
     front.last = front.now;
     Ok(true)
 }
@@ -180,7 +178,7 @@ fn append_styled<'a>(
     ensures fewer { IfOk result (λ is. is ≡ true → length front.new.rest.now < length front.old.rest.now) }
     ensures none { IfOk result (λ is. is ≡ false → (front.new ≡ front.old) × (out.new.items ≡ out.old.items)) }
     ensures bare { OnOk result (reader.new ≡ none_held) }
-    ensures known { OnOk result (AreTurns (Turned marking.now) turns.new.kept.items) }
+    ensures known { AreTurns (Turned marking.now) turns.new.kept.items }
     ensures even { OnOk result (front.new.even ≡ true → front.new.last ≡ front.new.now) }
 {
     let len = style_len(front.rest);
@@ -270,7 +268,7 @@ pub(crate) fn append_shown<'a>(
     requires known { AreTurns (Turned marking.now) turns.old.kept.items }
     ensures written { IfOk result (λ f. IsWritten marking.now pen bytes.now out.old.items f out.new.items) }
     ensures bare { OnOk result (reader.new ≡ none_held) }
-    ensures known { OnOk result (AreTurns (Turned marking.now) turns.new.kept.items) }
+    ensures known { AreTurns (Turned marking.now) turns.new.kept.items }
 {
     let (run, behind) = split_front::<InLine>(bytes);
     let mut front = LineFront {

@@ -16,7 +16,7 @@ pub enum Marking {
 }
 
 impl Turning for Marking {
-    ghost use Rattle.csicodec_overwrite.specs.Private.Front.{Turned};
+    ghost use Rattle.csicodec_overwrite.specs.Turned.{Turned};
 
     ghost turns = { Turned };
 }

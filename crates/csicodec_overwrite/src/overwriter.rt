@@ -2,13 +2,14 @@
 ghost use Rattle.std.specs.Prelude.{◌≡◌, ◌≤◌, ◌<◌, ◌++◌, ℕ, List, OnOk, IfNone, IfOk, IfSome, false, length, true};
 ghost use Rattle.csicodec_overwrite.specs.Line.{blank};
 ghost use Rattle.csicodec_overwrite.specs.Paint.{shows_looks};
+ghost use Rattle.csicodec_overwrite.specs.Private.Front.{IsWritten};
 ghost use Rattle.csicodec_overwrite.specs.Private.Plain.{PutsPlain, end_of};
 ghost use Rattle.csicodec_overwrite.specs.Private.Seen.{PassesFront};
 ghost use Rattle.csicodec_overwrite.specs.Stream.{Ending, Passes, begun, begun_as, none_held};
 ghost use Rattle.csicodec_overwrite.specs.declared.marking.Marking.TheVariants.{Styled};
 
 use crate::ascii::{InLine, begins_sequence, behind_end, odd_len, split_lines};
-use crate::front::{append_front, append_shown};
+use crate::front::{LineFront, append_front, append_shown};
 use crate::marking::Marking;
 use crate::paint::{append_ascii, append_turn};
 use crate::pen::Pen;
@@ -53,7 +54,7 @@ pub struct Overwriter {
 impl Model for Overwriter {
     ghost use Rattle.csicodec_overwrite.specs.Stream.{Now};
     ghost use Rattle.csicodec_html.specs.Turns.{AreTurns};
-    ghost use Rattle.csicodec_overwrite.specs.Private.Front.{Turned};
+    ghost use Rattle.csicodec_overwrite.specs.Turned.{Turned};
 
     ghost Value = { Now };
 
@@ -231,6 +232,25 @@ impl Overwriter {
         Ok(())
     }
 
+    /// Appends the front of the line in front that is written as it comes.
+    fn append_front<'a>(
+        &mut self,
+        bytes: &'a [u8],
+        out: &mut Vec<u8>,
+    ) -> Result<LineFront<'a>, AllocError>
+        requires bare { self.old.reader ≡ none_held }
+        requires over { self.old.pen.inserts ≡ false }
+        ensures written { IfOk result (λ f. IsWritten self.old.marking self.old.pen bytes.now out.old.items f out.new.items) }
+        ensures same { OnOk result (self.new ≡ self.old) }
+    {
+        let (reader, steps) = (&mut self.reader, &mut self.steps);
+        let (pen, marking) = (self.pen, &self.marking);
+        if marking.shows_looks() {
+            return append_shown(reader, steps, &mut self.turns, pen, marking, bytes, out);
+        }
+        append_front(reader, steps, pen, marking, bytes, out)
+    }
+
     /// Takes the line in front, written as it comes, and answers what is behind it. Where it can't be, it takes nothing.
     fn take_line<'a>(
         &mut self,
@@ -247,13 +267,7 @@ impl Overwriter {
         ensures reader { OnOk result (self.new.reader ≡ none_held) }
     {
         let before = out.len();
-        let (pen, marking) = (self.pen, &self.marking);
-        let (reader, steps) = (&mut self.reader, &mut self.steps);
-        let front = if marking.shows_looks() {
-            append_shown(reader, steps, &mut self.turns, pen, marking, bytes, out)?
-        } else {
-            append_front(reader, steps, pen, marking, bytes, out)?
-        };
+        let front = self.append_front(bytes, out)?;
         let Some(rest) = behind_end(front.rest) else {
             out.truncate(before);
             self.crooked = front.rest.len();

@@ -14,6 +14,7 @@ use Rattle.csicodec_overwrite.specs.Line.{blank, do_all, line, pen_behind_all}
 use Rattle.csicodec_overwrite.specs.Paint.{look_of, turn, written}
 use Rattle.csicodec_overwrite.specs.Reading.{most}
 use Rattle.csicodec_overwrite.specs.Stream.{Reads, none_held}
+use Rattle.csicodec_overwrite.specs.Turned.{Sets}
 use Rattle.csicodec_overwrite.specs.Private.Plain.{AreFull, closed, line_byte}
 
 -- how the last character looks, where text of one look comes behind a character of another
@@ -36,25 +37,6 @@ drawn marking [] = []
 drawn marking (cell ∷ cells) =
     drawn marking cells ++ (turn marking (last_look cells) (look_of (last_look cells) cell) ++ written marking (chars_of cell))
 
--- a step that does no more than to set how characters look, where nothing stands right of the cursor
-abbrev pub IsLook : Look → Step → Look → Type 0
-IsLook look (step.Attribute s) after = after ≡ behind look s
-IsLook look step.EraseRight after = after ≡ look
-IsLook look step.Other after = after ≡ look
-IsLook look s after = ⊥
-
-abbrev pub AreLooks : Look → List Step → Look → Type 0
-AreLooks look [] after = after ≡ look
-AreLooks look (s ∷ steps) after = (mid : Look) × IsLook look s mid × AreLooks mid steps after
-
--- bytes that are read by themselves, and do no more than that
-abbrev pub Sets : List ℕ → Look → Look → Type 0
-Sets bytes look after = (steps : List Step) × Reads none_held bytes steps none_held × AreLooks look steps after
-
--- they turn text of one look into text of another, and this is written for it
-abbrev pub Turned : Marking → List ℕ → Look → Look → List ℕ → Type 0
-Turned marking bytes old new tags = Sets bytes old new × (tags ≡ turn marking old new)
-
 -- With the pen the bytes put cells into a blank line, of which none is empty, and the text is what is written of them: the last looks as
 -- `last`, and those that come as `now`.
 pub record IsFront (marking : Marking) (pen : Pen) (bytes text : List ℕ) (last now : Look) : Type 0 where
@@ -74,7 +56,7 @@ abbrev pub IsTurned : Marking → LineFront → ℕ → LineFront → Type 0
 IsTurned marking old len new = Sets (take len old.rest.now) old.now new.now × (new ≡ record old { last = new.now; now = new.now })
 
 -- a sequence in front that sets how text looks is written, and the text behind it
-pub record IsStyled (marking : Marking) (old : LineFront) (text : List ℕ) (new : LineFront) : Type 0 where
+pub record IsStyled (marking : Marking) (old : LineFront) (told : List ℕ) (new : LineFront) : Type 0 where
   pub sequence : List ℕ
   pub others : List ℕ
   pub parts : old.rest.now ≡ sequence ++ others
@@ -83,7 +65,7 @@ pub record IsStyled (marking : Marking) (old : LineFront) (text : List ℕ) (new
   pub room : new.least ≤ length new.rest.now
   pub least : new.least ≡ old.least
   pub looks : new.last ≡ last_of_run old.last new.now (take (prefix_len line_byte others) others)
-  pub text : text ≡ run_text marking old.last new.now (take (prefix_len line_byte others) others)
+  pub text : told ≡ run_text marking old.last new.now (take (prefix_len line_byte others) others)
 
 -- the bytes up to the rest are a front, and its text is appended
 abbrev pub IsWritten : Marking → Pen → List ℕ → List ℕ → LineFront → List ℕ → Type 0

@@ -8,7 +8,7 @@ use Rattle.csicodec_overwrite.proofs.front.append_front.Goals as goal
 pub loop-run-init : goal.loop-run-init
 loop-run-init c = record {
   front =
-      ([], [], refl, rw c.plain-last.ensures (front_none c.args.marking.now c.args.pen), sym (append-nil c.args.out.now.items));
+      ([], [], refl, rw c.plain.ensures (front_none c.args.marking.now c.args.pen), sym (append-nil c.args.out.now.items));
   bare = c.requires.bare;
 }
 

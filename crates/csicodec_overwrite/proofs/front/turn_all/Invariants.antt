@@ -1,6 +1,6 @@
 use Rattle.std.proofs.Common.{length}
 use Rattle.csicodec_html.specs.declared.look.Look.{Look}
-use Rattle.csicodec_overwrite.specs.Private.Front.{AreLooks}
+use Rattle.csicodec_overwrite.specs.Turned.{AreLooks}
 use Rattle.csicodec_overwrite.proofs.front.turn_all.Given as goal
 
 -- the steps up to here are told

@@ -8,21 +8,22 @@ use Rattle.csicodec_overwrite.proofs.overwriter.Overwriter.take_line.Goals as go
 
 pub returns-clause-passes : goal.returns-clause-passes
 returns-clause-passes c =
-    let (front, text, split, f, out) = c.in_ok-front.ensures.written in
+    let is = c.self.view_is ∙ c.in_ok-front.ensures.same in
+    let (front, text, split, f, out) = rw (← is) at c.in_ok-front.ensures.written in
     let (returned, ends) = c.in-Some.ensures in
     let line = c.in_ok-front.front in
     let marking = c.self.inside.marking in
     let end = turn marking line.last plain in
     let before = c.args.out.now.items in
-    let bare = rw (← c.self.view_is) at c.requires.bare in
-    let blank = rw (← c.self.view_is) at c.requires.blank in
-    rw (← c.self.view_is) (
+    let bare = rw (← is) at c.requires.bare in
+    let blank = rw (← is) at c.requires.blank in
+    rw (← is) (
       front ++ end_of returned,
       text ++ (end ++ 10 ∷ []),
       split ∙ ap (λ t. front ++ t) ends ∙ sym (append_assoc front (end_of returned) c.in-Some.rest.now),
       line_passes (record { reader = c.self.inside.reader; pen = c.self.inside.pen; marking = marking; line = c.self.inside.line })
-          (record { reader = c.append_front.new.reader; pen = c.take.new.self; marking = marking; line = c.self.inside.line }) front
-          text line.last line.now returned bare (c.in_ok-front.ensures.bare ∙ sym bare) blank refl refl c.take.ensures f,
+          (record { reader = c.self.inside.reader; pen = c.take.new.self; marking = marking; line = c.self.inside.line }) front
+          text line.last line.now returned bare refl blank refl refl c.take.ensures f,
       c.in_ok-push.ensures.items ∙ ap (λ t. t ++ 10 ∷ [])
           (c.in_ok-append_turn.ensures ∙ ap (λ l. c.append_front.new.out.items ++ turn marking line.last l) c.plain.ensures
           ∙ ap (λ t. t ++ end) out)
@@ -33,9 +34,8 @@ pub returns-in_default-clause-none : goal.returns-in_default-clause-none
 returns-in_default-clause-none c =
     let (front, text, split, f, out) = c.in_ok-front.ensures.written in
     let before = c.args.out.now.items in
-    let bare = rw (← c.self.view_is) at c.requires.bare in
-    let all : c.len-before.result ≡ length before = search rules in
-    rw (← c.self.view_is) (
-      rw (c.in_ok-front.ensures.bare, bare) refl,
-      c.truncate.ensures.items ∙ ap (λ (n : ℕ). take n c.append_front.new.out.items) all ∙ ap (take (length before)) out ∙ take-append_seam before text,
+    let all : c.len-before.result ≡ length before = search rules in (
+      c.self.view_is ∙ c.in_ok-front.ensures.same,
+      c.truncate.ensures.items ∙ ap (λ (n : ℕ). take n c.append_front.new.out.items) all ∙ ap (take (length before)) out
+          ∙ take-append_seam before text,
     )

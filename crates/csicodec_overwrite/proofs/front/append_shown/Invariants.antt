@@ -1,0 +1,20 @@
+use Rattle.std.proofs.Common.{◌≡◌, ◌-◌, ◌/◌, true, length}
+use Rattle.csicodec_html.specs.Turns.{AreTurns}
+use Rattle.csicodec_overwrite.specs.Private.Front.{IsWritten}
+use Rattle.csicodec_overwrite.specs.Turned.{Turned}
+use Rattle.csicodec_overwrite.specs.Reading.{most}
+use Rattle.csicodec_overwrite.specs.Stream.{none_held}
+use Rattle.csicodec_overwrite.proofs.front.append_shown.Given as goal
+
+-- a front is written
+abbrev pub invariant-loop : goal.invariant-loop
+invariant-loop l = record {
+  bare : l.reader ≡ none_held;
+  known : AreTurns (Turned l.fn.marking) l.turns.kept.items;
+  even : l.front.even ≡ true → l.front.last ≡ l.front.now;
+  least : l.front.least ≡ length l.fn.bytes - most / 8;
+  written : IsWritten l.fn.marking l.fn.pen l.fn.bytes l.fn.out.items l.front l.out.items;
+}
+
+abbrev pub decreases-loop : goal.decreases-loop
+decreases-loop l = length l.front.rest.now

@@ -1,0 +1,28 @@
+-- Control sequences that do no more than to set how characters look, and what is written for them between characters.
+use Rattle.std.specs.Prelude.{ℕ, ◌≡◌, List, [], ◌∷◌}
+use Rattle.csicodec_html.specs.declared.look.Look.{Look}
+use Rattle.csicodec_html.specs.Look.{behind}
+use Rattle.csicodec_overwrite.specs.declared.marking.Marking.{Marking}
+use Rattle.csicodec_overwrite.specs.declared.step.Step.{Step}
+use Rattle.csicodec_overwrite.specs.declared.step.Step.TheVariants as step
+use Rattle.csicodec_overwrite.specs.Paint.{turn}
+use Rattle.csicodec_overwrite.specs.Stream.{Reads, none_held}
+
+-- a step that does no more than to set how characters look, where nothing stands right of the cursor
+abbrev pub IsLook : Look → Step → Look → Type 0
+IsLook look (step.Attribute s) after = after ≡ behind look s
+IsLook look step.EraseRight after = after ≡ look
+IsLook look step.Other after = after ≡ look
+IsLook look s after = ⊥
+
+abbrev pub AreLooks : Look → List Step → Look → Type 0
+AreLooks look [] after = after ≡ look
+AreLooks look (s ∷ steps) after = (mid : Look) × IsLook look s mid × AreLooks mid steps after
+
+-- bytes that are read by themselves, and do no more than that
+abbrev pub Sets : List ℕ → Look → Look → Type 0
+Sets bytes look after = (steps : List Step) × Reads none_held bytes steps none_held × AreLooks look steps after
+
+-- they turn text of one look into text of another, and this is written for it
+abbrev pub Turned : Marking → List ℕ → Look → Look → List ℕ → Type 0
+Turned marking bytes old new tags = Sets bytes old new × (tags ≡ turn marking old new)

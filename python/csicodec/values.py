@@ -53,9 +53,12 @@ class Value(metaclass=Slotted):
         self._set(field, value)
 
     def _set_member(self, field: str, value: int, kind: Type[int]) -> None:
-        """Sets a field to the member of an enumeration with this number, which it mostly is itself."""
+        """Sets a field to the member of an enumeration with this number, which it mostly is itself. Flags may be any, of 16 bits."""
         try:
-            self._set(field, kind(value))
+            member = kind(value)
+            if not 0 <= member < 1 << 16:
+                raise ValueError(value)
+            self._set(field, member)
         except (TypeError, ValueError):
             raise FieldError(f"{type(self).__qualname__}: {field} must be {kind.__name__}, not {value!r}") from None
 

@@ -15,7 +15,7 @@ import unittest
 
 import csicodec
 from csicodec import Cleaner, ControlString, Cursor, CursorAction, FieldError, Filter, Input, InputParser, Malformed, PaletteColor, Parser, Sgr
-from csicodec import Text, UnknownEsc, Unspecified, library
+from csicodec import MouseButton, MouseReport, Text, UnknownEsc, Unspecified, library
 
 REPOSITORY = pathlib.Path(sys.argv.pop(1) if len(sys.argv) > 1 else os.path.join(os.path.dirname(os.path.abspath(__file__)), "../.."))
 STREAMS = [pathlib.Path(name).read_bytes() for name in sorted(glob.glob(str(REPOSITORY / "examples/*.stream")))]
@@ -85,6 +85,7 @@ class Codec(unittest.TestCase):
             (lambda: PaletteColor(300), "PaletteColor: index must be 0 to 255, not 300"),
             (lambda: Sgr.Foreground(1), "Sgr.Foreground: color must be DefaultColor or PaletteColor or TrueColor, not int"),
             (lambda: Sgr.Underline("x"), "Sgr.Underline: value must be Underline, not 'x'"),
+            (lambda: MouseReport.SGR1006(1, 2, MouseButton.Button1Press, 70000), "MouseReport.SGR1006: modifiers must be Modifiers, not 70000"),
             (lambda: Text(1), "Text: text must be str, not int"),
             (lambda: Unspecified([None], "z"), "Unspecified: params must be int, not NoneType"),
         ]:

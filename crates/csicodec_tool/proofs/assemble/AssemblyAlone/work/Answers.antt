@@ -1,6 +1,6 @@
 use Rattle.std.proofs.Common.{◌≡◌, ◌++◌, ◌∙◌, ℕ, List, Result, [], take, ap, subst, sym, arith}
 use Rattle.std.specs.Io.KnownBytes.{Appends}
-use Rattle.std.proofs.KnownBytes.{Consumes-trans}
+use Rattle.std.proofs.KnownBytes.{Appends-nil, Consumes-nil, Consumes-trans}
 use Rattle.csicodec_assemble.specs.declared.object.Refusal.{Refusal}
 use Rattle.csicodec_tool.specs.Assembled.{Takes}
 use Rattle.csicodec_tool.proofs.Assembled.{all_over, failed_run, goes_on, none_came, none_read}
@@ -10,6 +10,16 @@ use Rattle.csicodec_tool.proofs.assemble.AssemblyAlone.work.Goals as goal
 -- what was appended to nothing
 all_of : (out old more grown : List ℕ) → out ≡ grown → grown ≡ old ++ more → old ≡ [] → out ≡ more
 all_of out old more grown value grows empty = value ∙ grows ∙ ap (λ (s : List ℕ). s ++ more) empty
+
+pub loop-init : goal.loop-init
+loop-init g c = (
+  [],
+  [],
+  Consumes-nil (g.R.Read.remaining c.args.input.now),
+  c.new-lines.ensures,
+  Appends-nil (g.W.Write.contents c.args.output.now),
+  c.new-out.ensures.items,
+)
 
 pub returns-in_err-len : goal.returns-in_err-len
 returns-in_err-len g c =

@@ -154,6 +154,7 @@ for (const [said, call] of [
     ['await Codec.load()', () => new Codec()],
     ['made of a Codec', () => new Parser()],
     ['Cursor.Up: count must be a whole number, not x', () => codec.encode([{ type: 'Cursor.Up', count: 'x' }])],
+    ['Unspecified: params must be of numbers of 64 bits and characters', () => codec.encode([{ type: 'Unspecified', params: [2n ** 64n + 5n], control: 'm' }])],
     ['Sgr.Underline: value must be a name of Underline', () => codec.encode([{ type: 'Sgr.Underline', value: 'Odd' }])],
     ['16 or 18 colours', () => codec.html('a', { palette: ['#000000'] })],
     ["as '#rrggbb', not red", () => codec.html('a', { palette: Array(16).fill('red') })],

@@ -4,6 +4,7 @@ import { KINDS, NAMES } from './actions.mjs';
 export const ACTION_SIZE = 64, PARAM_SIZE = 16;
 const FIRST = 8, SECOND = 16, TOP = 24, PLACE = 40, LEN = 48, RED = 56, MODIFIERS = 60, BUTTON = 62, ABSENT = 63;
 const LARGEST_32 = 2 ** 32 - 1, LARGEST_64 = 2n ** 63n - 1n;
+const isInt64 = value => (typeof value === 'bigint' || Number.isInteger(value)) && value >= -LARGEST_64 - 1n && value <= LARGEST_64;
 
 /** The numbers of the names of each enumeration, and of the types of actions. */
 const NUMBERS = Object.fromEntries(Object.entries(NAMES).map(([name, names]) => [name, new Map(Object.entries(names).map(([number, it]) => [it, Number(number)]))]));
@@ -129,8 +130,8 @@ class Writer {
             const number = names && NUMBERS[names].get(token);
             if (number !== undefined) this.tokens.push([0n, BigInt(number)]);
             else if (typeof token === 'string' && /^[\x00-\xff]$/.test(token)) this.tokens.push([1n, BigInt(token.charCodeAt(0))]);
-            else if (typeof token === 'bigint' || Number.isInteger(token)) this.tokens.push([0n, BigInt(token)]);
-            else throw this.wrong(field, 'of numbers and characters');
+            else if (isInt64(token)) this.tokens.push([0n, BigInt(token)]);
+            else throw this.wrong(field, 'of numbers of 64 bits and characters');
         }
     }
 }

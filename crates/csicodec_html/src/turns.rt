@@ -15,6 +15,9 @@ const LONGEST: usize = 32;
 
 const WIDEST: usize = 128;
 
+/// Tags of so many bytes at most are appended by a copy of so many, and others by one of the most.
+const SHORT: usize = 32;
+
 /// After so many new sequences in a row, only each `STEP`th is kept.
 const PATIENCE: u32 = 256;
 
@@ -81,7 +84,11 @@ impl Turn {
         ensures { OnOk result (out.new.items ≡ out.old.items ++ take self.now.tags_len self.now.tags) }
     {
         let end = out.len() + self.tags_len;
-        out.extend_from_slice(&self.tags)?;
+        if self.tags_len > SHORT {
+            out.extend_from_slice(&self.tags)?;
+        } else {
+            out.extend_from_slice(self.tags.split_at(SHORT).0)?;
+        }
         out.truncate(end);
         Ok(())
     }
@@ -277,37 +284,46 @@ fn place(mark: u64, bytes: &[u8]) -> usize {
     }
 }
 
+/// The bytes of a word up to the final one of a sequence; none where that isn't among them.
+#[inline(always)]
+fn up_to_final(word: u64) -> Option<u64> {
+    let finals = word & FINAL;
+    if finals == 0 {
+        return None;
+    }
+    Some(word & (finals ^ finals.wrapping_sub(1)))
+}
+
 /// A number for the sequence in front, by its bytes up to the final one; none where it isn't short, or the bytes end soon.
 #[inline(always)]
 fn number(bytes: &[u8]) -> Option<u64> {
     let Some((_, behind)) = bytes.split_first_chunk::<2>() else {
         return None;
     };
-    let Some(front) = behind.first_chunk::<8>() else {
+    let Some((front, others)) = behind.split_first_chunk::<8>() else {
         return None;
     };
     let word = u64::from_le_bytes(*front);
-    let finals = word & FINAL;
-    if finals == 0 {
-        return long_number(behind);
+    match up_to_final(word) {
+        Some(number) => Some(number),
+        None => long_number(word, others),
     }
-    Some(word & (finals ^ finals.wrapping_sub(1)))
 }
 
-/// The same of one of more bytes.
-fn long_number(bytes: &[u8]) -> Option<u64> {
-    let mut number = 0u64;
+/// The same of one that goes on behind its first eight bytes.
+fn long_number(first: u64, bytes: &[u8]) -> Option<u64> {
+    let mut number = first;
     let mut rest = bytes;
-    for _ in 0..LONGEST {
-        let Some((byte, others)) = rest.split_first() else {
+    for _ in 0..LONGEST / 8 {
+        let Some((front, others)) = rest.split_first_chunk::<8>() else {
             return None;
         };
-        number = (number ^ u64::from(*byte))
-            .wrapping_mul(SPREAD)
-            .rotate_left(9);
-        if *byte & 0x40 != 0 {
-            return Some(number);
+        let word = u64::from_le_bytes(*front);
+        number = number.wrapping_mul(SPREAD).rotate_left(9);
+        if let Some(last) = up_to_final(word) {
+            return Some(number ^ last);
         }
+        number = number ^ word;
         rest = others;
     }
     None
@@ -324,11 +340,11 @@ fn color_mark(color: ColorSpec) -> u64 {
     }
 }
 
-/// A number for a look.
+/// A number for a look. All but its colours is at the top, since the digits of a short sequence are at the bottom of its number.
 fn mark(look: &Look) -> u64 {
     let flags = look.intensity as u64
         | (look.underline as u64) << 2
         | u64::from(look.italic) << 5
         | u64::from(look.inverse) << 6;
-    flags ^ color_mark(look.foreground) << 8 ^ color_mark(look.background).rotate_left(34)
+    flags << 57 ^ color_mark(look.foreground) << 8 ^ color_mark(look.background) << 33
 }

@@ -1,13 +1,15 @@
 //! Bytes that are all there, as a piece of a page.
-ghost use Rattle.std.specs.Prelude.{◌≡◌, ◌++◌, ◌∷◌, [], ℕ, List, OnOk, IfOk, false};
+ghost use Rattle.std.specs.Prelude.{◌≡◌, ◌++◌, ◌∷◌, [], ℕ, List, take, OnOk, IfOk, false};
+ghost use Rattle.std.specs.List.{prefix_len};
+ghost use Rattle.csicodec_clean.specs.Bytes.{behind};
 ghost use Rattle.csicodec_html.specs.MarkupBytes.{IsMarkup};
 ghost use Rattle.csicodec_html.specs.Page.{IsPage, IsPageWith, PageOf, PageWith};
-ghost use Rattle.csicodec_html.specs.Private.Marked.{page_byte, page_bytes};
+ghost use Rattle.csicodec_html.specs.Private.Marked.{page_byte, page_bytes, stands};
 
 use crate::markup::Markup;
 use crate::rule::SpanWriter;
 use crate::standing::Standing;
-use csicodec_clean::{Cleaner, split_front};
+use csicodec_clean::{Cleaner, LANES, split_front};
 use std::alloc::{AllocError, Global};
 
 /// Appends a byte as it stands on the page.
@@ -30,6 +32,24 @@ fn append_byte(byte: u8, out: &mut Vec<u8>) -> Result<(), AllocError>
     }
 }
 
+/// Appends the bytes in front that stand on the page as they are, few of them by one copy of as many as are told at once, and answers the
+/// others.
+#[inline(always)]
+fn append_standing<'a>(bytes: &'a [u8], out: &mut Vec<u8>) -> Result<&'a [u8], AllocError>
+    ensures front { OnOk result (out.new.items ≡ out.old.items ++ take (prefix_len stands bytes.now) bytes.now) }
+    ensures rest { IfOk result (λ rest. rest.now ≡ behind stands bytes.now) }
+{
+    let (front, rest) = split_front::<Standing>(bytes);
+    if front.len() > LANES || bytes.len() < LANES {
+        out.extend_from_slice(front)?;
+        return Ok(rest);
+    }
+    let end = out.len() + front.len();
+    out.extend_from_slice(bytes.split_at(LANES).0)?;
+    out.truncate(end);
+    Ok(rest)
+}
+
 /// Appends bytes as they stand on the page.
 pub(crate) fn append_page(bytes: &[u8], out: &mut Vec<u8>) -> Result<(), AllocError>
     ensures { OnOk result (out.new.items ≡ out.old.items ++ page_bytes bytes.now) }
@@ -38,9 +58,7 @@ pub(crate) fn append_page(bytes: &[u8], out: &mut Vec<u8>) -> Result<(), AllocEr
     out.extend_from_slice(standing)?;
     while let Some((byte, behind)) = rest.split_first() {
         append_byte(*byte, out)?;
-        let (front, others) = split_front::<Standing>(behind);
-        out.extend_from_slice(front)?;
-        rest = others;
+        rest = append_standing(behind, out)?;
     }
     Ok(())
 }

@@ -18,10 +18,11 @@ impl ByteClass for Standing {
     #[inline(always)]
     fn lanes(bytes: &[u8]) -> usize {
         let lanes = u8x16::from_slice(bytes);
-        let quotes = lanes.simd_eq(u8x16::splat(b'"')) | lanes.simd_eq(u8x16::splat(b'\''));
+        // (the two of each pair differ in one bit, and are told by one comparison)
         let brackets = lanes.simd_eq(u8x16::splat(b'<')) | lanes.simd_eq(u8x16::splat(b'>'));
-        let others = lanes.simd_lt(u8x16::splat(7)) | lanes.simd_eq(u8x16::splat(b'&'));
-        let odd = quotes | brackets | others;
+        let neighbours = lanes.simd_eq(u8x16::splat(b'&')) | lanes.simd_eq(u8x16::splat(b'\''));
+        let others = lanes.simd_lt(u8x16::splat(7)) | lanes.simd_eq(u8x16::splat(b'"'));
+        let odd = brackets | neighbours | others;
         first_set(odd.to_bitmask())
     }
 }

@@ -24,7 +24,7 @@ loop-byte-preserved c =
     let front = take len behind in
     let others = drop len behind in
     let split = c.in-Some.ensures.cases.0 ∙ ap (λ t. byte ∷ t) (sym (take-append-drop len behind)) in
-    rw c.split_front-in-Some.ensures.rest
-    (page_on (c.args.out.now.items ++ page_bytes c.args.bytes.now) l.out.items c.append_byte.new.out.items c.extend_from_slice-in-Some.new.self.items byte front others (front_in stands behind)
+    rw c.in_ok-rest.ensures.rest
+    (page_on (c.args.out.now.items ++ page_bytes c.args.bytes.now) l.out.items c.append_byte.new.out.items c.append_standing.new.out.items byte front others (front_in stands behind)
     (ap (λ t. l.out.items ++ page_bytes t) (sym split) ∙ l.invariant) c.in_ok-append_byte.ensures
-    (c.in_ok-extend_from_slice-2.ensures.items ∙ ap (λ t. c.append_byte.new.out.items ++ t) c.split_front-in-Some.ensures.front))
+    c.in_ok-rest.ensures.front)

@@ -9,7 +9,7 @@ returns c =
     let d = c.args.bytes.now in
     let v = take 16 d in
     let long : length v ≡ 16 = length-take-le 16 d c.requires in
-    let quotes = zip2_of_maps _ _ _ v (zip2_splat _ v 16 34 long) (zip2_splat _ v 16 39 long) in
     let brackets = zip2_of_maps _ _ _ v (zip2_splat _ v 16 60 long) (zip2_splat _ v 16 62 long) in
-    let others = zip2_of_maps _ _ _ v (zip2_splat _ v 16 7 long) (zip2_splat _ v 16 38 long) in
-    counted stands d _ _ c.requires c.type_inv.bytes c.first_set.ensures _ (zip2_of_maps _ _ _ v (zip2_of_maps _ _ _ v quotes brackets) others) refl
+    let neighbours = zip2_of_maps _ _ _ v (zip2_splat _ v 16 38 long) (zip2_splat _ v 16 39 long) in
+    let others = zip2_of_maps _ _ _ v (zip2_splat _ v 16 7 long) (zip2_splat _ v 16 34 long) in
+    counted stands d _ _ c.requires c.type_inv.bytes c.first_set.ensures _ (zip2_of_maps _ _ _ v (zip2_of_maps _ _ _ v brackets neighbours) others) refl

@@ -388,8 +388,8 @@ struct csicodec_cleaned {
 struct csicodec_cleaned csicodec_strip_step(const struct csicodec_cleaning *state, const uint8_t *bytes, size_t len, uint8_t *out,
                                             size_t room);
 
-/* A step of csicodec_clean_with without links, as csicodec_strip_step. Pass the same depth in each step; for an unknown depth the
- * status is CSICODEC_BAD_STATE. There are no steps with links, whose addresses would have to be kept between two steps. */
+/* A step of csicodec_clean_with without links, as csicodec_strip_step, but its text may be longer. Pass the same depth in each step; for
+ * an unknown depth the status is CSICODEC_BAD_STATE. There are no steps with links, whose addresses would have to be kept between two steps. */
 struct csicodec_cleaned csicodec_clean_step(uint32_t depth, const struct csicodec_cleaning *state, const uint8_t *bytes, size_t len,
                                             uint8_t *out, size_t room);
 

@@ -264,7 +264,8 @@ static inline int csicodec_next_event(struct csicodec_stream *stream, const uint
 }
 
 /* A stream that is pushed: bytes go in as they come, and events come out. The room is the caller's, and no call takes memory but for a
- * sequence of more than 31 tokens, or one that terminals may take for other actions, where the stream is told to ask. */
+ * sequence of more than 31 tokens, one that csicodec_next doesn't read at once, as with a control in it or in pieces, or one that terminals
+ * may take for other actions, where the stream is told to ask. */
 struct csicodec_parser {
     /* Its actions and params are those of the event that is told, as many as there is room for. */
     struct csicodec_stream stream;

@@ -15,7 +15,7 @@ pub fn strip(bytes: impl AsRef<[u8]>) -> Result<String, Error> {
     left(raw::strip, bytes.as_ref())
 }
 
-/// The text of untrusted bytes as [`strip`], with the known attributes (SGR) but concealed text and fonts, in their normal form. If the last of them
+/// The text of untrusted bytes as [`strip`], with the known attributes (SGR) but concealed text and other fonts, in their normal form. If the last of them
 /// isn't a reset, a reset ends the text, so that it doesn't colour later output.
 ///
 /// ```

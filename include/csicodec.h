@@ -287,7 +287,7 @@ struct csicodec_stripped {
  * UTF-8 become U+FFFD. It is written to out if needed <= room; otherwise nothing is written. */
 struct csicodec_stripped csicodec_strip(const uint8_t *bytes, size_t len, uint8_t *out, size_t room);
 
-/* As csicodec_strip, with the known attributes (SGR) but concealed text and fonts, in their normal form; if the last of them isn't a reset, a reset
+/* As csicodec_strip, with the known attributes (SGR) but concealed text and other fonts, in their normal form; if the last of them isn't a reset, a reset
  * ends the text. */
 struct csicodec_stripped csicodec_clean(const uint8_t *bytes, size_t len, uint8_t *out, size_t room);
 

@@ -135,15 +135,6 @@ same_on marking look all cells behind cell c text old mid new split first is e f
       f ∙ ap (λ (t : List ℕ). t ++ one) e ∙ append_assoc old text one,
     )
 
--- some, and then others
-pub more_on : (all mid rest text more old now new : List ℕ) → all ≡ text ++ mid → mid ≡ more ++ rest → now ≡ old ++ text → new ≡ now ++ more
-    → (both : List ℕ) × (all ≡ both ++ rest) × (new ≡ old ++ both)
-more_on all mid rest text more old now new e f g h = (
-  text ++ more,
-  e ∙ ap (λ (t : List ℕ). text ++ t) f ∙ sym (append_assoc text more rest),
-  h ∙ ap (λ (t : List ℕ). t ++ more) g ∙ append_assoc old text more,
-)
-
 pub looks_on : (marking : Marking) (look : Look) (others rest : List Cell) (text mid new whole : List ℕ) → paint marking look others ≡ text ++ paint marking look rest
     → new ≡ mid ++ text → mid ++ paint marking look others ≡ whole → new ++ paint marking look rest ≡ whole
 looks_on marking look others rest text mid new whole split e h =

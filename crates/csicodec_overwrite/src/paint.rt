@@ -375,70 +375,6 @@ fn char_alike(look: &Look, cell: &Cell) -> Option<char>
     }
 }
 
-/// The byte of a character of ASCII.
-#[inline(always)]
-fn byte_of(char: char) -> Option<u8>
-    ensures { IfSome result (λ byte. encode_utf8_all (char ∷ []) ≡ byte ∷ []) }
-{
-    if char < '\u{80}' {
-        return Some(char as u8);
-    }
-    None
-}
-
-/// The byte of a character of ASCII that stands on a page as it is.
-#[inline(always)]
-fn letter_of(char: char) -> Option<u8>
-    ensures { IfSome result (λ byte. flat_map escaped (char ∷ []) ≡ byte ∷ []) }
-{
-    let Some(byte) = byte_of(char) else {
-        return None;
-    };
-    if is_marked(char) {
-        return None;
-    }
-    Some(byte)
-}
-
-/// The byte as which a character is written, if it is one.
-#[inline(always)]
-fn written_byte(marking: &Marking, char: char) -> Option<u8>
-    ensures { IfSome result (λ byte. written marking.now (char ∷ []) ≡ byte ∷ []) }
-{
-    match marking {
-        Marking::Plain | Marking::Styled => byte_of(char),
-        Marking::Page(_) => letter_of(char),
-    }
-}
-
-/// Appends the characters in front that look so and are written as one byte each, and answers the cells behind them.
-#[inline(always)]
-fn append_letters<'a>(
-    marking: &Marking,
-    look: &Look,
-    cells: &'a [Cell],
-    out: &mut Vec<u8>,
-) -> Result<&'a [Cell], AllocError>
-    ensures text { IfOk result (λ rest. (text : List ℕ)
-        × (paint marking.now look.now cells.now ≡ text ++ paint marking.now look.now rest.now)
-        × (out.new.items ≡ out.old.items ++ text)) }
-    ensures fewer { IfOk result (λ rest. length rest.now ≤ length cells.now) }
-{
-    out.reserve(cells.len())?;
-    let mut rest = cells;
-    while let Some((cell, behind)) = rest.split_first() {
-        let Some(char) = char_alike(look, cell) else {
-            return Ok(rest);
-        };
-        let Some(byte) = written_byte(marking, char) else {
-            return Ok(rest);
-        };
-        out.push_reserved(byte);
-        rest = behind;
-    }
-    Ok(rest)
-}
-
 /// Appends the characters in front that look so, and answers the cells behind them.
 #[inline(never)]
 fn append_same_look<'a>(
@@ -452,13 +388,13 @@ fn append_same_look<'a>(
         × (out.new.items ≡ out.old.items ++ text)) }
     ensures fewer { IfOk result (λ rest. length rest.now ≤ length cells.now) }
 {
-    let mut rest = append_letters(marking, look, cells, out)?;
+    let mut rest = cells;
     while let Some((cell, behind)) = rest.split_first() {
         let Some(char) = char_alike(look, cell) else {
             return Ok(rest);
         };
         append_written(marking, char, out)?;
-        rest = append_letters(marking, look, behind, out)?;
+        rest = behind;
     }
     Ok(rest)
 }

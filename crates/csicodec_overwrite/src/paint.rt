@@ -187,23 +187,6 @@ fn look_of<'a>(look: &'a Look, none: &'a Look, cell: &'a Cell) -> &'a Look
     }
 }
 
-/// Appends text of ASCII as it is.
-fn append_same(text: &[u8], out: &mut Vec<u8>) -> Result<(), AllocError>
-    ensures { OnOk result (AllByRecursion IsPlainByte text.now
-        → out.new.items ≡ out.old.items ++ encode_utf8_all text.now) }
-{
-    out.extend_from_slice(text)?;
-    Ok(())
-}
-
-/// Appends text of ASCII as it stands on a page.
-fn append_escaped(text: &[u8], out: &mut Vec<u8>) -> Result<(), AllocError>
-    ensures { OnOk result (AllByRecursion IsPlainByte text.now
-        → out.new.items ≡ out.old.items ++ flat_map escaped text.now) }
-{
-    append_text(text, out)
-}
-
 /// Appends text of ASCII.
 pub(crate) fn append_ascii(
     marking: &Marking,
@@ -214,8 +197,8 @@ pub(crate) fn append_ascii(
         → out.new.items ≡ out.old.items ++ written marking.now text.now) }
 {
     match marking {
-        Marking::Plain | Marking::Styled => append_same(text, out),
-        Marking::Page(_) => append_escaped(text, out),
+        Marking::Plain | Marking::Styled => Ok(out.extend_from_slice(text)?),
+        Marking::Page(_) => append_text(text, out),
     }
 }
 

@@ -1,0 +1,27 @@
+use Rattle.std.proofs.Common.{◌≡◌, ◌++◌, ◌∙◌, List, ℕ, [], ◌∷◌, ⊎_elim, ap, encode_utf8_all, sym}
+use Rattle.std.specs.List.{AllByRecursion}
+use Rattle.std.proofs.lemmas.Result.{on_ok_weaker}
+use Rattle.csicodec_clean.specs.Bytes.{IsPlainByte}
+use Rattle.csicodec_clean.specs.Shown.{IsShown}
+use Rattle.csicodec_clean.proofs.Told.{encoded, is_shown}
+use Rattle.csicodec_overwrite.specs.declared.marking.Marking.{Marking}
+use Rattle.csicodec_overwrite.specs.declared.marking.Marking.TheVariants.{Plain, Styled}
+use Rattle.csicodec_overwrite.specs.Paint.{written}
+use Rattle.csicodec_overwrite.proofs.paint.append_ascii.Goals as goal
+
+all_shown : (bs : List ℕ) → AllByRecursion IsPlainByte bs → AllByRecursion IsShown bs
+all_shown [] h = tt
+all_shown (b ∷ bs) h = (is_shown b h.0, all_shown bs h.1)
+
+pub returns-in-Page : goal.returns-in-Page
+returns-in-Page c = rw c.in-Page.is (on_ok_weaker c.append_text.result
+    (λ e plain. e c.args.text.now (all_shown c.args.text.now plain) (encoded c.args.text.now plain))
+    c.append_text.ensures)
+
+pub returns-in_ok-extend_from_slice-in-Plain : goal.returns-in_ok-extend_from_slice-in-Plain
+returns-in_ok-extend_from_slice-in-Plain c = λ plain.
+    let text = c.args.text.now in
+    let same : written c.args.marking.now text ≡ encode_utf8_all text =
+    ⊎_elim (λ (is : c.args.marking.now ≡ Plain). ap (λ (m : Marking). written m text) is)
+    (λ (is : c.args.marking.now ≡ Styled). ap (λ (m : Marking). written m text) is) c.in-Plain.is in
+    c.in_ok-extend_from_slice-in-Plain.ensures.items ∙ ap (λ (t : List ℕ). c.args.out.now.items ++ t) (encoded text plain ∙ sym same)

@@ -1,5 +1,5 @@
 //! Text of ASCII, which takes no reading.
-ghost use Rattle.std.specs.Prelude.{◌≡◌, ◌==◌, ◌∷◌, ◌++◌, [], ◌≤◌, ◌<◌, length, min, false, IfSome};
+ghost use Rattle.std.specs.Prelude.{◌≡◌, ◌∷◌, ◌++◌, [], ◌≤◌, length, min, IfSome};
 ghost use Rattle.std.specs.List.{AllByRecursion};
 ghost use Rattle.csicodec_overwrite.specs.Private.Plain.{AreLines, IsLineByte, IsUntabbed, end_of};
 ghost use Rattle.csicodec_overwrite.specs.Private.Row.{IsHere};

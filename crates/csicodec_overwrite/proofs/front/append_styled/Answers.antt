@@ -1,5 +1,4 @@
-use Rattle.std.proofs.Common.{◌≡◌, ◌++◌, ◌∙◌, ℕ, List, true, false, length, refl, sym, ap, subst, append_assoc, rules, arith}
-use Rattle.std.specs.Prelude.{◌==◌}
+use Rattle.std.proofs.Common.{◌≡◌, ◌++◌, ◌∙◌, ℕ, List, true, false, refl, sym, ap, subst, append_assoc, rules, arith}
 use Rattle.csicodec_html.specs.declared.look.Look.{Look}
 use Rattle.csicodec_html.specs.Turns.{AreTurns}
 use Rattle.csicodec_overwrite.specs.declared.front.LineFront.{LineFront}

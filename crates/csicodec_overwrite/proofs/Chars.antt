@@ -1,13 +1,13 @@
--- The steps of characters, of actions and of what went wrong, one behind the other.
+-- The steps of characters, of actions and of what else comes, one behind the other.
 use Rattle.std.proofs.Common.{◌≡◌, ℕ, List, [], ◌∷◌, ◌++◌, length, sym, ap, ◌∙◌, append_assoc, append-nil, arith}
+use Rattle.std.specs.List.{flat_map}
 use Rattle.std.proofs.lemmas.Grind.{flat_map-append}
 use Rattle.bstr.specs.Utf8.{lossy_chars, replacement}
 use Rattle.bstr.proofs.lemmas.PieceLemmas.{lossy_chars-nil}
-use Rattle.csicodec_actions.specs.Actions.{Action}
 use Rattle.csicodec_clean.specs.Shown.{IsRead}
 use Rattle.csicodec_clean.proofs.Sure.{read_all}
 use Rattle.csicodec_overwrite.specs.declared.step.Step.{Step}
-use Rattle.csicodec_overwrite.specs.Steps.{of_action, of_actions, of_char, of_chars, of_run, of_string, of_string_byte, of_wrong, of_wrong_byte}
+use Rattle.csicodec_overwrite.specs.Steps.{of_char, of_chars, of_run}
 
 pub chars_on : (xs ys : List ℕ) → of_chars (xs ++ ys) ≡ of_chars xs ++ of_chars ys
 chars_on xs ys = flat_map-append of_char xs ys
@@ -21,32 +21,12 @@ run_read run chars rest h = ap of_chars (read_all run chars rest h) ∙ chars_on
 
 -- ---- appended
 
-more : (old own others now new : List Step) → now ≡ old ++ own → new ≡ now ++ others → new ≡ old ++ (own ++ others)
-more old own others now new e f = f ∙ ap (λ (t : List Step). t ++ others) e ∙ append_assoc old own others
-
--- a character more
-pub char_on : (c : ℕ) (chars : List ℕ) (old now new : List Step) → now ≡ old ++ of_chars chars → new ≡ now ++ of_char c → new ≡ old ++ of_chars (chars ++ c ∷ [])
-char_on c chars old now new e f =
-    more old (of_chars chars) (of_char c) now new e f ∙ ap (λ (t : List Step). old ++ (of_chars chars ++ t)) (sym (append-nil (of_char c)))
-    ∙ ap (λ (t : List Step). old ++ t) (sym (chars_on chars (c ∷ [])))
-
--- an action more
-pub action_on : (a : Action) (front : List Action) (old now new : List Step) → now ≡ old ++ of_actions front → new ≡ now ++ of_action a → new ≡ old ++ of_actions (front ++ a ∷ [])
-action_on a front old now new e f =
-    more old (of_actions front) (of_action a) now new e f ∙ ap (λ (t : List Step). old ++ (of_actions front ++ t)) (sym (append-nil (of_action a)))
-    ∙ ap (λ (t : List Step). old ++ t) (sym (flat_map-append of_action front (a ∷ [])))
-
--- a byte more of what went wrong
-pub wrong_on : (b : ℕ) (front : List ℕ) (old now new : List Step) → now ≡ old ++ of_wrong front → new ≡ now ++ of_wrong_byte b → new ≡ old ++ of_wrong (front ++ b ∷ [])
-wrong_on b front old now new e f =
-    more old (of_wrong front) (of_wrong_byte b) now new e f ∙ ap (λ (t : List Step). old ++ (of_wrong front ++ t)) (sym (append-nil (of_wrong_byte b)))
-    ∙ ap (λ (t : List Step). old ++ t) (sym (flat_map-append of_wrong_byte front (b ∷ [])))
-
--- and of control strings
-pub string_on : (b : ℕ) (front : List ℕ) (old now new : List Step) → now ≡ old ++ of_string front → new ≡ now ++ of_string_byte b → new ≡ old ++ of_string (front ++ b ∷ [])
-string_on b front old now new e f =
-    more old (of_string front) (of_string_byte b) now new e f ∙ ap (λ (t : List Step). old ++ (of_string front ++ t)) (sym (append-nil (of_string_byte b)))
-    ∙ ap (λ (t : List Step). old ++ t) (sym (flat_map-append of_string_byte front (b ∷ [])))
+-- what one more does, behind what those before it do
+pub one_on : {A : Type 0} (does : A → List Step) (x : A) (front : List A) (old now new : List Step) → now ≡ old ++ flat_map does front → new ≡ now ++ does x
+    → new ≡ old ++ flat_map does (front ++ x ∷ [])
+one_on does x front old now new e f =
+    f ∙ ap (λ (t : List Step). t ++ does x) e ∙ append_assoc old (flat_map does front) (does x)
+    ∙ ap (λ (t : List Step). old ++ (flat_map does front ++ t)) (sym (append-nil (does x))) ∙ ap (λ (t : List Step). old ++ t) (sym (flat_map-append does front (x ∷ [])))
 
 run_empty : (run : List ℕ) → length run ≡ 0 → of_run run ≡ []
 run_empty [] none = run_none
@@ -62,5 +42,5 @@ run_all run chars rest old new h none e =
 pub run_cut : (run chars rest : List ℕ) (old now new : List Step) → IsRead run chars rest → lossy_chars rest ≡ replacement ∷ []
     → now ≡ old ++ of_chars chars → new ≡ now ++ of_char replacement → new ≡ old ++ of_run run
 run_cut run chars rest old now new h cut e f =
-    char_on replacement chars old now new e f ∙ ap (λ (t : List Step). old ++ t) (chars_on chars (replacement ∷ [])) ∙ ap (λ (t : List ℕ). old ++ (of_chars chars ++ of_chars t)) (sym cut)
+    one_on of_char replacement chars old now new e f ∙ ap (λ (t : List Step). old ++ t) (chars_on chars (replacement ∷ [])) ∙ ap (λ (t : List ℕ). old ++ (of_chars chars ++ of_chars t)) (sym cut)
     ∙ ap (λ (t : List Step). old ++ t) (sym (run_read run chars rest h))

@@ -1,7 +1,8 @@
 use Rattle.std.proofs.Common.{◌++◌, ◌∷◌, [], take, drop, refl, sym, ap, subst, ◌∙◌, append_assoc, append-nil, take-append-drop}
 use Rattle.csicodec_clean.specs.Shown.{IsRead}
 use Rattle.csicodec_clean.proofs.Sure.{cut_short, read_none, read_on}
-use Rattle.csicodec_overwrite.proofs.Chars.{char_on}
+use Rattle.csicodec_overwrite.specs.Steps.{of_char}
+use Rattle.csicodec_overwrite.proofs.Chars.{one_on}
 use Rattle.csicodec_overwrite.proofs.text.append_sure.Goals as goal
 
 pub loop-char-init : goal.loop-char-init
@@ -26,7 +27,7 @@ loop-char-preserved c =
       chars = (
         chars ++ one,
         subst (λ t. IsRead bytes (chars ++ one) t) (sym behind) here,
-        char_on c.in-Some.char chars old c.loop-char.steps.items c.append_char.new.steps.items out c.in_ok-append_char.ensures,
+        one_on of_char c.in-Some.char chars old c.loop-char.steps.items c.append_char.new.steps.items out c.in_ok-append_char.ensures,
       );
     }
 

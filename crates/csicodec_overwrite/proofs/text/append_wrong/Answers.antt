@@ -1,6 +1,7 @@
 use Rattle.std.proofs.Common.{◌≡◌, ◌+◌, ◌++◌, ◌∷◌, [], get_or, take, rules}
 use Rattle.std.proofs.lemmas.List.{take_more}
-use Rattle.csicodec_overwrite.proofs.Chars.{wrong_on}
+use Rattle.csicodec_overwrite.specs.Steps.{of_wrong_byte}
+use Rattle.csicodec_overwrite.proofs.Chars.{one_on}
 use Rattle.csicodec_overwrite.proofs.text.append_wrong.Goals as goal
 
 pub loop-byte-preserved : goal.loop-byte-preserved
@@ -10,6 +11,6 @@ loop-byte-preserved c =
     let b = get_or bytes i 0 in
     let taken : take (i + 1) bytes ≡ take i bytes ++ b ∷ [] = search (rules, take_more) in
     rw taken (record {
-      steps = wrong_on b (take i bytes) c.args.steps.now.items c.loop-byte.steps.items c.append_wrong_byte.new.steps.items
+      steps = one_on of_wrong_byte b (take i bytes) c.args.steps.now.items c.loop-byte.steps.items c.append_wrong_byte.new.steps.items
           c.loop-byte.invariant.steps c.in_ok-append_wrong_byte.ensures;
     })

@@ -13,8 +13,8 @@ use Rattle.csicodec_overwrite.specs.declared.pen.Pen.{Pen}
 use Rattle.csicodec_overwrite.specs.declared.step.Step.{Step}
 use Rattle.csicodec_overwrite.specs.declared.step.Step.TheVariants as step
 use Rattle.csicodec_overwrite.specs.Cells.{begins_behind, belongs, chars_of, columns, emptied, erased, glyph, gone, is_empty, of_tab, onto, outside, shifted, takes, to_tab_stop, trimmed, untabbed, width, without}
-use Rattle.csicodec_overwrite.specs.Line.{Done, back, behind_columns, blank, cells_of, do_all, does, done, fits, forward, fresh, from_stop}
-use Rattle.csicodec_overwrite.specs.Line.{in_row, is_row, last_behind, leave, line, lines_of, over, padded, parted, pen_behind, placed}
+use Rattle.csicodec_overwrite.specs.Line.{Done, behind_columns, blank, cells_of, do_all, does, does_here, done, entered, fits, forward, fresh, from_stop}
+use Rattle.csicodec_overwrite.specs.Line.{in_row, is_row, last_behind, leave, leaves_long, line, lines_of, over, padded, parted, pen_behind, placed}
 use Rattle.csicodec_overwrite.specs.Line.{placed_in, put, repeat, repeated, restored, shows_nothing, size, target, to_stop}
 use Rattle.csicodec_overwrite.proofs.Texts.{chars_by, line_chars}
 
@@ -97,10 +97,6 @@ module _ (P : ℕ → Type 0) (Q : Look → Type 0) (R : Sgr → Type 0) where
   of_erased : (n : ℕ) (xs : List Cell) → OfCells xs → OfCells (erased n xs)
   of_erased n xs h = both (replicate (min n (columns xs)) Empty) (gone n xs) (empties (min n (columns xs))) (of_gone n xs h)
 
-  of_back : (n : ℕ) (left right : List Cell) → OfCells left → OfCells right → OfLine (back n left right)
-  of_back n [] right h k = (tt, k)
-  of_back n (x ∷ left) right h k = either OfLine (n == 0) (line (x ∷ left) right) (back (n - takes x) left (x ∷ right)) (h, k) (of_back (n - takes x) left (x ∷ right) h.1 (h.0, k))
-
   of_over : (n : ℕ) (left right : List Cell) → OfCells left → OfCells right → OfLine (over n left right)
   of_over n left [] h k = (h, tt)
   of_over n left (x ∷ right) h k = either OfLine (nat_lt n (takes x)) (line left (x ∷ right)) (over (n - takes x) (x ∷ left) right) (h, k) (of_over (n - takes x) (x ∷ left) right (k.0, h) k.1)
@@ -175,34 +171,44 @@ module _ (P : ℕ → Type 0) (Q : Look → Type 0) (R : Sgr → Type 0) where
     of_placed_in : (limit : ℕ) (pen : Pen) (row : ℕ) (to : Option ℕ) (l : Line) → OfLine l → OfDone (placed_in limit pen row to l)
     of_placed_in limit pen row to l h = either OfDone (is_row pen.row row) (done [] (in_row limit to l)) (leave limit to l) (tt, of_in_row limit to l h) (of_leave limit to l h)
 
-    of_does : (limit : ℕ) (pen : Pen) (s : Step) (l : Line) → OfPen pen → OfStep s → OfLine l → OfDone (does limit pen s l)
-    of_does limit pen (step.Put c) l q p h = of_put limit pen.inserts (glyph c pen.look) l (p, q.0) h
-    of_does limit pen (step.Repeat n) l q p h = of_repeated limit pen pen.last n l q.0 q.1 h
-    of_does limit pen step.Tab l q p h =
+    of_here : (limit : ℕ) (pen : Pen) (s : Step) (l : Line) → OfPen pen → OfStep s → OfLine l → OfDone (does_here limit pen s l)
+    of_here limit pen (step.Put c) l q p h = of_put limit pen.inserts (glyph c pen.look) l (p, q.0) h
+    of_here limit pen (step.Repeat n) l q p h = of_repeated limit pen pen.last n l q.0 q.1 h
+    of_here limit pen step.Tab l q p h =
         either OfDone (length l.right == 0) (put limit pen.inserts (glyph 9 pen.look) l) (done [] (forward limit (to_tab_stop (columns l.left)) l))
         (of_put limit pen.inserts (glyph 9 pen.look) l (tab, q.0) h)
         (tt, of_forward limit (to_tab_stop (columns l.left)) l h)
-    of_does limit pen (step.Tabs n) l q p h = (tt, of_forward limit (to_stop n (columns l.left)) l h)
-    of_does limit pen (step.TabsBack n) l q p h = (tt, of_back (from_stop n (columns l.left)) l.left l.right h.0 h.1)
-    of_does limit pen step.NewLine l q p h = ((of_line l h, tt), (tt, tt))
-    of_does limit pen (step.Right n) l q p h = (tt, of_forward limit n l h)
-    of_does limit pen (step.Left n) l q p h = (tt, of_back n l.left l.right h.0 h.1)
-    of_does limit pen (step.Column n) l q p h = (tt, of_behind limit (n - 1) l h)
-    of_does limit pen step.EraseRight l q p h = (tt, ((of_parted l h).0, tt))
-    of_does limit pen step.EraseLeft l q p h = (tt, (empties (columns l.left), of_erased 1 l.right h.1))
-    of_does limit pen step.EraseAll l q p h = (tt, (empties (columns l.left), tt))
-    of_does limit pen (step.Erase n) l q p h = let k = of_parted l h in (tt, (k.0, of_erased n (parted l).right k.1))
-    of_does limit pen (step.Delete n) l q p h =
+    of_here limit pen (step.Tabs n) l q p h = (tt, of_forward limit (to_stop n (columns l.left)) l h)
+    of_here limit pen (step.TabsBack n) l q p h = (tt, of_behind limit (columns l.left - from_stop n (columns l.left)) l h)
+    of_here limit pen step.NewLine l q p h = ((of_line l h, tt), (tt, tt))
+    of_here limit pen (step.Right n) l q p h = (tt, of_forward limit n l h)
+    of_here limit pen (step.Left n) l q p h = (tt, of_behind limit (columns l.left - n) l h)
+    of_here limit pen (step.Column n) l q p h = (tt, of_behind limit (n - 1) l h)
+    of_here limit pen step.EraseRight l q p h = (tt, ((of_parted l h).0, tt))
+    of_here limit pen step.EraseLeft l q p h = (tt, (empties (columns l.left), of_erased 1 l.right h.1))
+    of_here limit pen step.EraseAll l q p h = (tt, (empties (columns l.left), tt))
+    of_here limit pen (step.Erase n) l q p h = let k = of_parted l h in (tt, (k.0, of_erased n (parted l).right k.1))
+    of_here limit pen (step.Delete n) l q p h =
         let k = of_parted l h in
         (tt, (k.0, of_shifted false (gone n (parted l).right) (of_gone n (parted l).right k.1)))
-    of_does limit pen (step.Insert n) l q p h =
+    of_here limit pen (step.Insert n) l q p h =
         let k = of_parted l h in
         let some = min n (limit - size (parted l)) in
         (tt, (k.0, both (replicate some Empty) (shifted false (parted l).right) (empties some) (of_shifted false (parted l).right k.1)))
-    of_does limit pen step.Restore l q p h = of_restored limit pen l h
-    of_does limit pen (step.Leave to) l q p h = of_leave limit to l h
-    of_does limit pen (step.Row row to) l q p h = of_placed_in limit pen row to l h
-    of_does limit pen _ l q p h = (tt, h)
+    of_here limit pen step.Restore l q p h = of_restored limit pen l h
+    of_here limit pen (step.Leave to) l q p h = of_leave limit to l h
+    of_here limit pen (step.Row row to) l q p h = of_placed_in limit pen row to l h
+    of_here limit pen _ l q p h = (tt, h)
+
+    of_entered : (limit : ℕ) (s : Step) (l : Line) → OfLine l → OfDone (entered limit s l)
+    of_entered limit s l h = either OfDone (leaves_long s l) (leave limit None l) (done [] l) (of_leave limit None l h) (tt, h)
+
+    of_does : (limit : ℕ) (pen : Pen) (s : Step) (l : Line) → OfPen pen → OfStep s → OfLine l → OfDone (does limit pen s l)
+    of_does limit pen s l q p h =
+        let e = entered limit s l in
+        let first = of_entered limit s l h in
+        let here = of_here limit pen s e.line q p first.1 in
+        (all_both e.lines (does_here limit pen s e.line).lines first.0 here.0, here.1)
 
     last_kept : (last : Option ℕ) (c : ℕ) → OfLast last → P c → OfLast (last_behind last c)
     last_kept last c h p = either OfLast (width c 0 == 0) last (Some c) h p

@@ -13,10 +13,10 @@ use Rattle.csicodec_overwrite.specs.declared.pen.Pen.{Pen}
 use Rattle.csicodec_overwrite.specs.declared.step.Step.{Step}
 use Rattle.csicodec_overwrite.specs.declared.step.Step.TheVariants as step
 use Rattle.csicodec_overwrite.specs.Cells.{begins_behind, belongs, chars_of, columns, emptied, erased, glyph, gone, is_empty, onto, outside, shifted, takes, to_tab_stop, trimmed, untabbed, width, without}
-use Rattle.csicodec_overwrite.specs.Line.{Done, back, behind_columns, blank, cells_of, do_all, does, done, fits, forward}
-use Rattle.csicodec_overwrite.specs.Line.{from_stop, in_row, is_row, leave, line, lines_of, over, parted, pen_behind, placed}
+use Rattle.csicodec_overwrite.specs.Line.{Done, behind_columns, blank, cells_of, do_all, does, does_here, done, entered, fits, forward}
+use Rattle.csicodec_overwrite.specs.Line.{from_stop, in_row, is_row, leave, leaves_long, line, lines_of, over, parted, pen_behind, placed}
 use Rattle.csicodec_overwrite.specs.Line.{placed_in, put, repeat, repeated, restored, shows_nothing, size, standing, target, to_stop}
-use Rattle.csicodec_overwrite.specs.Lost.{again, all_came, all_taken, belonging, came, covered, left_out, taken, taken_again, taken_by, taken_by_all, tabs, times, touched, under, whole, within, written}
+use Rattle.csicodec_overwrite.specs.Lost.{again, all_came, all_taken, belonging, came, covered, left_out, taken, taken_again, taken_here, taken_by, taken_by_all, tabs, times, touched, under, whole, within, written}
 use Rattle.csicodec_overwrite.proofs.Texts.{chars_by, line_chars}
 
 -- either way of a test
@@ -127,12 +127,6 @@ module _ (c : ℕ) where
 
   -- ---- lines
 
-  of_back : (n : ℕ) (left right : List Cell) → in_line (back n left right) ≡ count left + count right
-  of_back n [] right = refl
-  of_back n (x ∷ left) right =
-      either (λ (m : Line). in_line m ≡ (in_cell x + count left) + count right) (n == 0) (line (x ∷ left) right)
-      (back (n - takes x) left (x ∷ right)) (λ e. refl) (λ e. omega (arith, of_back (n - takes x) left (x ∷ right)))
-
   of_over : (n : ℕ) (left right : List Cell) → in_line (over n left right) ≡ count left + count right
   of_over n left [] = refl
   of_over n left (x ∷ right) =
@@ -231,7 +225,7 @@ module _ (c : ℕ) where
   of_repeated limit pen (Some d) n l = of_repeat limit pen.inserts (glyph d pen.look) n l
 
   -- a tab takes nothing: nothing stands on its right
-  of_tab : (limit : ℕ) (pen : Pen) (l : Line) → in_all (does limit pen step.Tab l) ≡ in_line l + times c (came pen step.Tab l)
+  of_tab : (limit : ℕ) (pen : Pen) (l : Line) → in_all (does_here limit pen step.Tab l) ≡ in_line l + times c (came pen step.Tab l)
   of_tab limit pen l =
       both_ways (λ (d : Done) (cs : List ℕ). in_all d ≡ in_line l + times c cs) (length l.right == 0) (put limit pen.inserts (glyph 9 pen.look) l)
       (done [] (forward limit (to_tab_stop (columns l.left)) l)) (9 ∷ []) []
@@ -245,7 +239,7 @@ module _ (c : ℕ) where
 
   -- ---- steps
 
-  of_restored : (limit : ℕ) (pen : Pen) (l : Line) → in_all (restored limit pen l) + count (taken limit pen step.Restore l) ≡ in_line l
+  of_restored : (limit : ℕ) (pen : Pen) (l : Line) → in_all (restored limit pen l) + count (taken_here limit pen step.Restore l) ≡ in_line l
   of_restored limit pen l =
       both_ways (λ (d : Done) (a : List Cell). in_all d + count a ≡ in_line l) pen.here (done [] (behind_columns limit pen.saved l))
       (done (lines_of l) (forward limit pen.saved blank)) [] (left_out l)
@@ -255,34 +249,57 @@ module _ (c : ℕ) where
   of_in_row limit None l = refl
   of_in_row limit (Some n) l = of_behind limit (n - 1) l
 
-  of_placed_in : (limit : ℕ) (pen : Pen) (row : ℕ) (to : Option ℕ) (l : Line) → in_all (placed_in limit pen row to l) + count (taken limit pen (step.Row row to) l) ≡ in_line l
+  of_placed_in : (limit : ℕ) (pen : Pen) (row : ℕ) (to : Option ℕ) (l : Line) → in_all (placed_in limit pen row to l) + count (taken_here limit pen (step.Row row to) l) ≡ in_line l
   of_placed_in limit pen row to l = both_ways (λ (d : Done) (a : List Cell). in_all d + count a ≡ in_line l) (is_row pen.row row) (done [] (in_row limit to l)) (leave limit to l) [] (left_out l)
       (λ e. omega (arith, of_in_row limit to l)) (λ e. omega (arith, of_lines l, of_forward limit (target to l) blank))
 
-  of_does : (limit : ℕ) (pen : Pen) (s : Step) (l : Line) → in_all (does limit pen s l) + count (taken limit pen s l) ≡ in_line l + times c (came pen s l)
-  of_does limit pen (step.Put d) l = of_put limit pen.inserts (glyph d pen.look) l
-  of_does limit pen (step.Repeat n) l = of_repeated limit pen pen.last n l
-  of_does limit pen step.Tab l = omega (arith, of_tab limit pen l)
-  of_does limit pen (step.Tabs n) l = omega (arith, of_forward limit (to_stop n (columns l.left)) l)
-  of_does limit pen (step.TabsBack n) l = omega (arith, of_back (from_stop n (columns l.left)) l.left l.right)
-  of_does limit pen step.NewLine l = omega (arith, of_cells l)
-  of_does limit pen (step.Right n) l = omega (arith, of_forward limit n l)
-  of_does limit pen (step.Left n) l = omega (arith, of_back n l.left l.right)
-  of_does limit pen (step.Column n) l = omega (arith, of_behind limit (n - 1) l)
-  of_does limit pen step.EraseRight l = omega (arith, of_under l, joined (under l) (parted l).right)
-  of_does limit pen step.EraseLeft l = omega (arith, all_empty (columns l.left), of_erased 1 l.right, of_whole 1 l.right, joined l.left (whole 1 l.right))
-  of_does limit pen step.EraseAll l = omega (arith, all_empty (columns l.left), joined l.left l.right)
-  of_does limit pen (step.Erase n) l = omega (arith, of_touched n l, of_erased n (parted l).right)
-  of_does limit pen (step.Delete n) l =
+  of_here : (limit : ℕ) (pen : Pen) (s : Step) (l : Line) → in_all (does_here limit pen s l) + count (taken_here limit pen s l) ≡ in_line l + times c (came pen s l)
+  of_here limit pen (step.Put d) l = of_put limit pen.inserts (glyph d pen.look) l
+  of_here limit pen (step.Repeat n) l = of_repeated limit pen pen.last n l
+  of_here limit pen step.Tab l = omega (arith, of_tab limit pen l)
+  of_here limit pen (step.Tabs n) l = omega (arith, of_forward limit (to_stop n (columns l.left)) l)
+  of_here limit pen (step.TabsBack n) l = omega (arith, of_behind limit (columns l.left - from_stop n (columns l.left)) l)
+  of_here limit pen step.NewLine l = omega (arith, of_cells l)
+  of_here limit pen (step.Right n) l = omega (arith, of_forward limit n l)
+  of_here limit pen (step.Left n) l = omega (arith, of_behind limit (columns l.left - n) l)
+  of_here limit pen (step.Column n) l = omega (arith, of_behind limit (n - 1) l)
+  of_here limit pen step.EraseRight l = omega (arith, of_under l, joined (under l) (parted l).right)
+  of_here limit pen step.EraseLeft l = omega (arith, all_empty (columns l.left), of_erased 1 l.right, of_whole 1 l.right, joined l.left (whole 1 l.right))
+  of_here limit pen step.EraseAll l = omega (arith, all_empty (columns l.left), joined l.left l.right)
+  of_here limit pen (step.Erase n) l = omega (arith, of_touched n l, of_erased n (parted l).right)
+  of_here limit pen (step.Delete n) l =
       let rest = gone n (parted l).right in
       omega (arith, of_touched n l, of_shifted false rest, joined (touched n l) (tabs rest))
-  of_does limit pen (step.Insert n) l =
+  of_here limit pen (step.Insert n) l =
       let right = (parted l).right in
       omega (arith, of_under l, empties (min n (limit - size (parted l))) (shifted false right), of_shifted false right, joined (under l) (tabs right))
-  of_does limit pen step.Restore l = omega (arith, of_restored limit pen l)
-  of_does limit pen (step.Leave to) l = omega (arith, of_lines l, of_forward limit (target to l) blank)
-  of_does limit pen (step.Row row to) l = omega (arith, of_placed_in limit pen row to l)
-  of_does limit pen _ l = omega arith
+  of_here limit pen step.Restore l = omega (arith, of_restored limit pen l)
+  of_here limit pen (step.Leave to) l = omega (arith, of_lines l, of_forward limit (target to l) blank)
+  of_here limit pen (step.Row row to) l = omega (arith, of_placed_in limit pen row to l)
+  of_here limit pen _ l = omega arith
+
+  of_entered : (limit : ℕ) (s : Step) (l : Line) → in_all (entered limit s l) + count (cond (leaves_long s l) (left_out l) []) ≡ in_line l
+  of_entered limit s l =
+      both_ways (λ (d : Done) (a : List Cell). in_all d + count a ≡ in_line l) (leaves_long s l) (leave limit None l) (done [] l) (left_out l) []
+      (λ e. omega (arith, of_lines l, of_forward limit (target None l) blank)) (λ e. omega arith)
+
+  -- what comes is the same in the line that is entered
+  came_there : (limit : ℕ) (pen : Pen) (s : Step) (l : Line) → came pen s (entered limit s l).line ≡ came pen s l
+  came_there limit pen step.Tab l = refl
+  came_there limit pen _ l = refl
+
+  of_does : (limit : ℕ) (pen : Pen) (s : Step) (l : Line) → in_all (does limit pen s l) + count (taken limit pen s l) ≡ in_line l + times c (came pen s l)
+  of_does limit pen s l =
+      let e = entered limit s l in
+      let d = does_here limit pen s e.line in
+      omega (
+        arith,
+        of_entered limit s l,
+        of_here limit pen s e.line,
+        ap (times c) (came_there limit pen s l),
+        lines_joined e.lines d.lines,
+        joined (cond (leaves_long s l) (left_out l) []) (taken_here limit pen s e.line),
+      )
 
   of_all : (limit : ℕ) (pen : Pen) (steps : List Step) (l : Line) → in_all (do_all limit pen steps l) + times c (all_taken limit pen steps l) ≡ in_line l + times c (all_came limit pen steps l)
   of_all limit pen [] l = omega arith

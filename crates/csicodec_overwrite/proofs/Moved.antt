@@ -1,8 +1,8 @@
 -- Cells that are moved or taken, one after the other.
 use Rattle.std.proofs.Common.{◌≡◌, ℕ, zero, suc, ◌-◌, ◌+◌, ◌<◌, ◌≤◌, Bool, true, false, cond, ◌==◌, nat_le, nat_lt, List, [], ◌∷◌, ◌++◌, length}
-use Rattle.std.proofs.Common.{length-take, drop, replicate, reverse, take, take-append-drop, refl, sym, ap, ◌∙◌, arith, append_assoc, append-nil}
+use Rattle.std.proofs.Common.{drop, get_or, replicate, reverse, take, take-append-drop, refl, sym, ap, ◌∙◌, arith, append_assoc, append-nil}
 use Rattle.std.proofs.lemmas.Bool.Decides.{nat_tests}
-use Rattle.std.proofs.lemmas.List.{length-replicate, replicate-append-replicate, reverse-append, reverse-reverse, take-append-le, take-replicate, take_all}
+use Rattle.std.proofs.lemmas.List.{length-drop, length-replicate, replicate-append-replicate, drop_at, reverse-append, reverse-reverse, take_all, take_at}
 use Rattle.csicodec_html.specs.declared.look.Look.{Look}
 use Rattle.csicodec_overwrite.specs.declared.cells.Cell.{Cell}
 use Rattle.csicodec_overwrite.specs.declared.cells.Cell.TheVariants.{Behind, Char, Empty, Mark}
@@ -12,12 +12,17 @@ use Rattle.csicodec_overwrite.specs.declared.marking.Marking.{Marking}
 use Rattle.std.specs.Prelude.{◌&&◌}
 use Rattle.std.specs.List.{list_all}
 use Rattle.csicodec_overwrite.specs.Cells.{columns, is_blank, narrowed, onto, takes, without}
-use Rattle.csicodec_overwrite.specs.Line.{back, before, behind_columns, forward, line, over, padded, put, repeat}
+use Rattle.csicodec_overwrite.specs.Line.{before, behind_columns, forward, line, over, padded, put, repeat}
 use Rattle.csicodec_overwrite.specs.Paint.{texts_of}
 use Rattle.csicodec_overwrite.specs.Private.Plain.{glyphs}
+use Rattle.csicodec_overwrite.specs.Private.Row.{back}
+use Rattle.csicodec_overwrite.specs.Private.Sides.{PassesBack, PassesOver}
 use Rattle.csicodec_overwrite.proofs.Texts.{texts_on}
 
--- a test that fails
+-- a test that holds, and one that fails
+holds : {A : Type 0} (t : Bool) (x y : A) → t ≡ true → cond t x y ≡ x
+holds t x y e = rw e refl
+
 fails : {A : Type 0} (t : Bool) (x y : A) → t ≡ false → cond t x y ≡ y
 fails t x y e = rw e refl
 
@@ -104,7 +109,7 @@ module _ (limit n : ℕ) (left right : List Cell) where
 
 -- ---- all of them, the farthest first
 
-onto_is : (side cells : List Cell) → onto side cells ≡ reverse side ++ cells
+pub onto_is : (side cells : List Cell) → onto side cells ≡ reverse side ++ cells
 onto_is [] cells = refl
 onto_is (cell ∷ side) cells = onto_is side (cell ∷ cells) ∙ sym (append_assoc (reverse side) (cell ∷ []) cells) ∙ ap (λ (t : List Cell). t ++ cells) (sym (reverse-append (cell ∷ []) side))
 
@@ -135,25 +140,6 @@ reverse_empty (suc n) =
     let more : n + 1 ≡ suc n = omega arith in
     reverse-append (Empty ∷ []) (replicate n Empty) ∙ ap (λ (t : List Cell). t ++ Empty ∷ []) (reverse_empty n) ∙ replicate-append-replicate n 1 Empty ∙ ap (λ (m : ℕ). replicate m Empty) more
 
-pub bare_kept : (n : ℕ) (cells : List Cell) → cells ≡ replicate n Empty → (n ≡ columns (reverse cells)) × (take n cells ≡ replicate n Empty)
-bare_kept n cells e = (
-  sym (ap (λ (t : List Cell). columns (reverse t)) e ∙ ap columns (reverse_empty n) ∙ columns_empty n),
-  ap (take n) e ∙ take-replicate n n Empty (omega arith),
-)
-
-pub whole_bare : (n : ℕ) (cells : List Cell) → reverse cells ≡ replicate n Empty → take n cells ≡ replicate n Empty
-whole_bare n cells e = (bare_kept n cells (sym (reverse-reverse cells) ∙ ap reverse e ∙ reverse_empty n)).1
-
--- they stay, and all others are emptied
-pub emptied_all : (n count : ℕ) (cells front side : List Cell) → count ≡ columns (reverse cells) → take n cells ≡ replicate n Empty
-    → front ≡ take n cells → side ≡ replicate (count - n) Empty ++ reverse front → side ≡ replicate count Empty
-emptied_all n count cells front side is bare same e =
-    let rest = drop n cells in
-    let split : reverse cells ≡ reverse rest ++ reverse (take n cells) = ap reverse (sym (take-append-drop n cells)) ∙ reverse-append (take n cells) rest in
-    let some : n ≡ columns (reverse (take n cells)) = (bare_kept n (take n cells) bare).0 in
-    let whole : count - n + n ≡ count = omega (arith, is, ap columns split, columns_both (reverse rest) (reverse (take n cells)), some) in
-    e ∙ ap (λ (t : List Cell). replicate (count - n) Empty ++ t) (ap reverse (same ∙ bare) ∙ reverse_empty n) ∙ replicate-append-replicate (count - n) n Empty ∙ ap (λ (m : ℕ). replicate m Empty) whole
-
 -- so many empty ones behind others
 module _ (n m k : ℕ) (cells new : List Cell) (e : new ≡ take m cells ++ replicate k Empty) (few : length cells ≤ m) (some : k ≡ n) where
   pub longer : new ≡ cells ++ replicate n Empty
@@ -165,11 +151,6 @@ module _ (n m k : ℕ) (cells new : List Cell) (e : new ≡ take m cells ++ repl
   pub columns_more : columns (reverse new) ≡ columns (reverse cells) + n
   columns_more = ap columns reverse_more ∙ columns_both (replicate n Empty) (reverse cells) ∙ omega (arith, columns_empty n)
 
-  pub bare_more : (bare : ℕ) → take bare cells ≡ replicate bare Empty → take bare new ≡ replicate bare Empty
-  bare_more bare same =
-      let within : bare ≤ length cells = omega (arith, length-take bare cells, ap length same, length-replicate bare Empty) in
-      ap (take bare) longer ∙ take-append-le bare cells (replicate n Empty) within ∙ same
-
 -- cells behind others, of which the last comes to stand nearest
 module _ (items more new : List Cell) (e : new ≡ items ++ more) where
   pub side_more : reverse new ≡ onto more (reverse items)
@@ -178,10 +159,145 @@ module _ (items more new : List Cell) (e : new ≡ items ++ more) where
   pub side_columns : columns (reverse new) ≡ columns more + columns (reverse items)
   side_columns = ap columns side_more ∙ columns_onto more (reverse items)
 
-  pub side_bare : (bare : ℕ) → take bare items ≡ replicate bare Empty → take bare new ≡ replicate bare Empty
-  side_bare bare same =
-      let within : bare ≤ length items = omega (arith, length-take bare items, ap length same, length-replicate bare Empty) in
-      ap (take bare) e ∙ take-append-le bare items more within ∙ same
+-- ---- cells that are given from one side to the other
+
+pub columns_back : (xs : List Cell) → columns (reverse xs) ≡ columns xs
+columns_back xs = ap columns (sym (append-nil (reverse xs))) ∙ ap columns (sym (onto_is xs [])) ∙ columns_onto xs [] ∙ omega arith
+
+last_first : (rest front : List Cell) (cell : Cell) → rest ≡ front ++ cell ∷ [] → reverse rest ≡ cell ∷ reverse front
+last_first rest front cell e = ap reverse e ∙ reverse-append front (cell ∷ [])
+
+-- some are passed, and what is left is to do over the rest
+abbrev pub PassingBack : List Cell → ℕ → List Cell → ℕ → Type 0
+PassingBack cells count rest left = (near : List Cell) × (cells ≡ rest ++ near) × (columns near + left ≡ count)
+    × ((right : List Cell) → back left (reverse rest) (near ++ right) ≡ back count (reverse cells) right)
+
+abbrev pub PassingOver : List Cell → ℕ → List Cell → ℕ → Type 0
+PassingOver cells count rest left = (near : List Cell) × (cells ≡ rest ++ near) × (columns near + left ≡ count)
+    × ((side : List Cell) → over left (near ++ side) (reverse rest) ≡ over count side (reverse cells))
+
+pub first_back : (cells : List Cell) (count : ℕ) → PassingBack cells count cells count
+first_back cells count = ([], sym (append-nil cells), omega arith, λ right. refl)
+
+pub first_over : (cells : List Cell) (count : ℕ) → PassingOver cells count cells count
+first_over cells count = ([], sym (append-nil cells), omega arith, λ side. refl)
+
+module _ (cells : List Cell) (count : ℕ) (rest : List Cell) (left : ℕ) where
+  -- the columns of those that are passed
+  passed : (near : List Cell) → cells ≡ rest ++ near → columns cells ≡ columns rest + columns near
+  passed near e = ap columns e ∙ columns_both rest near
+
+  module _ (h : PassingBack cells count rest left) where
+    pub next_back : (front : List Cell) (cell : Cell) → rest ≡ front ++ cell ∷ [] → 0 < left → PassingBack cells count front (left - takes cell)
+    next_back front cell e some = (
+      cell ∷ h.0,
+      h.1 ∙ ap (λ (t : List Cell). t ++ h.0) e ∙ append_assoc front (cell ∷ []) h.0,
+      omega (arith, h.2, takes_few cell, some),
+      λ right. sym (back_on left cell (reverse front) (h.0 ++ right) some) ∙ ap (λ (t : List Cell). back left t (h.0 ++ right)) (sym (last_first rest front cell e)) ∙ h.3 right,
+    )
+
+    pub last_back : left ≡ 0 → PassesBack cells count (length rest)
+    last_back none = (
+      rest,
+      h.0,
+      h.1,
+      refl,
+      omega (arith, h.2, none, passed h.0 h.1),
+      λ right. sym (h.3 right) ∙ ap (λ (n : ℕ). back n (reverse rest) (h.0 ++ right)) none ∙ back_zero (reverse rest) (h.0 ++ right),
+    )
+
+    pub all_back : rest ≡ [] → PassesBack cells count 0
+    all_back none = (
+      [],
+      h.0,
+      h.1 ∙ ap (λ (t : List Cell). t ++ h.0) none,
+      refl,
+      omega (arith, h.2, ap columns none, passed h.0 h.1),
+      λ right. sym (h.3 right) ∙ ap (λ (t : List Cell). back left (reverse t) (h.0 ++ right)) none,
+    )
+
+  module _ (h : PassingOver cells count rest left) where
+    pub next_over : (front : List Cell) (cell : Cell) → rest ≡ front ++ cell ∷ [] → takes cell ≤ left → PassingOver cells count front (left - takes cell)
+    next_over front cell e some = (
+      cell ∷ h.0,
+      h.1 ∙ ap (λ (t : List Cell). t ++ h.0) e ∙ append_assoc front (cell ∷ []) h.0,
+      omega (arith, h.2, some),
+      λ side. sym (over_on left cell (h.0 ++ side) (reverse front) some) ∙ ap (λ (t : List Cell). over left (h.0 ++ side) t) (sym (last_first rest front cell e)) ∙ h.3 side,
+    )
+
+    pub last_over : (front : List Cell) (cell : Cell) → rest ≡ front ++ cell ∷ [] → left < takes cell → PassesOver cells count (length rest)
+    last_over front cell e few = (
+      rest,
+      h.0,
+      h.1,
+      refl,
+      omega (arith, h.2, few, takes_few cell, passed h.0 h.1, ap columns e, columns_both front (cell ∷ [])),
+      λ side. sym (h.3 side) ∙ ap (λ (t : List Cell). over left (h.0 ++ side) t) (last_first rest front cell e)
+          ∙ holds (nat_lt left (takes cell)) (line (h.0 ++ side) (cell ∷ reverse front)) (over (left - takes cell) (cell ∷ (h.0 ++ side)) (reverse front)) (grind (arith, nat_tests))
+          ∙ ap (λ (t : List Cell). line (h.0 ++ side) t) (sym (last_first rest front cell e)),
+    )
+
+    pub all_over : rest ≡ [] → PassesOver cells count 0
+    all_over none = (
+      [],
+      h.0,
+      h.1 ∙ ap (λ (t : List Cell). t ++ h.0) none,
+      refl,
+      omega (arith, h.2, ap columns none, passed h.0 h.1),
+      λ side. sym (h.3 side) ∙ ap (λ (t : List Cell). over left (h.0 ++ side) (reverse t)) none,
+    )
+
+-- four cells behind others, the last first
+four_more : (cells front rest : List Cell) (a b c d : Cell) → rest ≡ front ++ (a ∷ (b ∷ (c ∷ (d ∷ []))))
+    → ((((cells ++ (d ∷ [])) ++ (c ∷ [])) ++ (b ∷ [])) ++ (a ∷ [])) ++ reverse front ≡ cells ++ reverse rest
+four_more cells front rest a b c d e =
+    append_assoc (((cells ++ (d ∷ [])) ++ (c ∷ [])) ++ (b ∷ [])) (a ∷ []) (reverse front)
+    ∙ append_assoc ((cells ++ (d ∷ [])) ++ (c ∷ [])) (b ∷ []) (a ∷ reverse front)
+    ∙ append_assoc (cells ++ (d ∷ [])) (c ∷ []) (b ∷ (a ∷ reverse front))
+    ∙ append_assoc cells (d ∷ []) (c ∷ (b ∷ (a ∷ reverse front)))
+    ∙ ap (λ (t : List Cell). cells ++ t) (sym (ap reverse e ∙ reverse-append front (a ∷ (b ∷ (c ∷ (d ∷ []))))))
+
+four_are : (xs : List Cell) (d : Cell) → length xs ≡ 4 → xs ≡ get_or xs 0 d ∷ (get_or xs 1 d ∷ (get_or xs 2 d ∷ (get_or xs 3 d ∷ [])))
+four_are [] d e = absurd (omega (arith, e))
+four_are (a ∷ []) d e = absurd (omega (arith, e))
+four_are (a ∷ (b ∷ [])) d e = absurd (omega (arith, e))
+four_are (a ∷ (b ∷ (c ∷ []))) d e = absurd (omega (arith, e))
+four_are (a ∷ (b ∷ (c ∷ (f ∷ [])))) d e = refl
+four_are (a ∷ (b ∷ (c ∷ (f ∷ (g ∷ xs))))) d e = absurd (omega (arith, e))
+
+-- the last four behind others
+four_parts : (rest front four : List Cell) (d : Cell)
+    → (front ≡ take (length rest - 4) rest) × (four ≡ drop (length rest - 4) rest) × (length front + 4 ≡ length rest)
+    → rest ≡ front ++ (get_or four 0 d ∷ (get_or four 1 d ∷ (get_or four 2 d ∷ (get_or four 3 d ∷ []))))
+four_parts rest front four d e =
+    let some : length four ≡ 4 = omega (arith, ap length e.1, length-drop (length rest - 4) rest, e.2) in
+    sym (take-append-drop (length rest - 4) rest) ∙ ap (λ (t : List Cell). t ++ drop (length rest - 4) rest) (sym e.0) ∙ ap (λ (t : List Cell). front ++ t) (sym e.1 ∙ four_are four d some)
+
+pub four_come : (cells one two three all front rest four whole : List Cell) (d : Cell)
+    → one ≡ cells ++ (get_or four 3 d ∷ []) → two ≡ one ++ (get_or four 2 d ∷ []) → three ≡ two ++ (get_or four 1 d ∷ []) → all ≡ three ++ (get_or four 0 d ∷ [])
+    → (front ≡ take (length rest - 4) rest) × (four ≡ drop (length rest - 4) rest) × (length front + 4 ≡ length rest)
+    → cells ++ reverse rest ≡ whole → all ++ reverse front ≡ whole
+four_come cells one two three all front rest four whole d e f g h parts before =
+    let ends : all ≡ (((cells ++ (get_or four 3 d ∷ [])) ++ (get_or four 2 d ∷ [])) ++ (get_or four 1 d ∷ [])) ++ (get_or four 0 d ∷ []) =
+    h ∙ ap (λ (t : List Cell). t ++ (get_or four 0 d ∷ [])) (g ∙ ap (λ (t : List Cell). t ++ (get_or four 1 d ∷ [])) (f ∙ ap (λ (t : List Cell). t ++ (get_or four 2 d ∷ [])) e)) in
+    ap (λ (t : List Cell). t ++ reverse front) ends ∙ four_more cells front rest (get_or four 0 d) (get_or four 1 d) (get_or four 2 d) (get_or four 3 d) (four_parts rest front four d parts) ∙ before
+
+-- a side of which so many cells stay
+module _ (items far near : List Cell) (kept : ℕ) (e : reverse items ≡ reverse (far ++ near)) (k : length far ≡ kept) where
+  parts_are : items ≡ far ++ near
+  parts_are = sym (reverse-reverse items) ∙ ap reverse e ∙ reverse-reverse (far ++ near)
+
+  pub far_is : take kept items ≡ far
+  far_is = ap (take kept) parts_are ∙ take_at far near kept k
+
+  pub near_is : drop kept items ≡ near
+  near_is = ap (drop kept) parts_are ∙ drop_at far near kept k
+
+  pub columns_split : columns (reverse items) ≡ columns (reverse far) + columns near
+  columns_split = omega (arith, ap columns e, columns_back (far ++ near), columns_both far near, columns_back far)
+
+pub given_more : (items near new : List Cell) → new ≡ items ++ reverse near → reverse new ≡ near ++ reverse items
+given_more items near new e = ap reverse e ∙ reverse-append items (reverse near) ∙ ap (λ (t : List Cell). t ++ reverse items) (reverse-reverse near)
 
 pub columns_glyphs : (look : Look) (cs : List ℕ) → columns (glyphs look cs) ≡ length cs
 columns_glyphs look [] = refl
@@ -209,6 +325,12 @@ pub step_text : (marking : Marking) (now new : List ℕ) (first later : List (Li
     → new ++ texts_of marking later ≡ whole
 step_text marking now new first later whole e f =
     ap (λ (t : List ℕ). t ++ texts_of marking later) e ∙ append_assoc now (texts_of marking first) (texts_of marking later) ∙ ap (λ (t : List ℕ). now ++ t) (sym (texts_on marking first later)) ∙ f
+
+-- the lines of two steps, one after the other
+pub both_texts : (marking : Marking) (now mid new : List ℕ) (first later : List (List Cell)) → mid ≡ now ++ texts_of marking first → new ≡ mid ++ texts_of marking later
+    → new ≡ now ++ texts_of marking (first ++ later)
+both_texts marking now mid new first later e f =
+    f ∙ ap (λ (t : List ℕ). t ++ texts_of marking later) e ∙ append_assoc now (texts_of marking first) (texts_of marking later) ∙ ap (λ (t : List ℕ). now ++ t) (sym (texts_on marking first later))
 
 -- ---- so many times
 

@@ -12,8 +12,8 @@ use Rattle.csicodec_overwrite.specs.declared.pen.Pen.{Pen}
 use Rattle.csicodec_overwrite.specs.declared.step.Step.{Step}
 use Rattle.csicodec_overwrite.specs.declared.step.Step.TheVariants as step
 use Rattle.csicodec_overwrite.specs.Cells.{begins_behind, belongs, columns, emptied, erased, glyph, gone, narrowed, onto, outside, shifted, takes, to_tab_stop, width, without}
-use Rattle.csicodec_overwrite.specs.Line.{Done, back, behind_columns, blank, cells_of, do_all, does, done, fits, forward}
-use Rattle.csicodec_overwrite.specs.Line.{from_stop, in_row, is_row, leave, line, lines_of, over, padded, parted}
+use Rattle.csicodec_overwrite.specs.Line.{Done, behind_columns, blank, cells_of, do_all, does, does_here, done, entered, fits, forward}
+use Rattle.csicodec_overwrite.specs.Line.{from_stop, in_row, is_row, leave, leaves_long, line, lines_of, over, padded, parted}
 use Rattle.csicodec_overwrite.specs.Line.{pen_behind, placed, placed_in, put, repeat, repeated, restored, size, target, to_stop}
 use Rattle.csicodec_overwrite.proofs.Moved.{narrow_few, takes_few}
 use Rattle.csicodec_overwrite.proofs.Shifted.{length_shifted}
@@ -92,12 +92,6 @@ parted_less l =
     let right = refilled l.right (outside l.right) (part_outside l.right) in
     always (λ (m : Line). size m ≤ size l) (begins_behind l.right) (line (emptied l.left (without 1 (outside l.left))) (emptied l.right (outside l.right))) l (omega (arith, left, right)) (omega arith)
 
-back_size : (n : ℕ) (left right : List Cell) → size (back n left right) ≡ length left + length right
-back_size n [] right = omega arith
-back_size n (x ∷ left) right =
-    always (λ (m : Line). size m ≡ suc (length left) + length right) (n == 0) (line (x ∷ left) right) (back (n - takes x) left (x ∷ right))
-    (omega arith) (omega (arith, back_size (n - takes x) left (x ∷ right)))
-
 pub over_size : (n : ℕ) (left right : List Cell) → size (over n left right) ≡ length left + length right
 over_size n left [] = omega arith
 over_size n left (x ∷ right) =
@@ -161,30 +155,38 @@ module _ (limit : ℕ) (enough : 8 ≤ limit) where
   placed_in_size pen row to l h =
       always (λ (d : Done). size d.line ≤ limit) (is_row pen.row row) (done [] (in_row limit to l)) (leave limit to l) (in_row_size to l h) (forward_size (target to l) blank (omega arith))
 
-  does_size : (pen : Pen) (s : Step) (l : Line) → size l ≤ limit → size (does limit pen s l).line ≤ limit
-  does_size pen (step.Put c) l h = put_size pen.inserts (glyph c pen.look) l
-  does_size pen (step.Repeat n) l h = repeated_size pen pen.last n l h
-  does_size pen step.Tab l h =
+  here_size : (pen : Pen) (s : Step) (l : Line) → size l ≤ limit → size (does_here limit pen s l).line ≤ limit
+  here_size pen (step.Put c) l h = put_size pen.inserts (glyph c pen.look) l
+  here_size pen (step.Repeat n) l h = repeated_size pen pen.last n l h
+  here_size pen step.Tab l h =
       always (λ (d : Done). size d.line ≤ limit) (length l.right == 0) (put limit pen.inserts (glyph 9 pen.look) l)
       (done [] (forward limit (to_tab_stop (columns l.left)) l)) (put_size pen.inserts (glyph 9 pen.look) l)
       (forward_size (to_tab_stop (columns l.left)) l h)
-  does_size pen (step.Tabs n) l h = forward_size (to_stop n (columns l.left)) l h
-  does_size pen (step.TabsBack n) l h = omega (arith, back_size (from_stop n (columns l.left)) l.left l.right)
-  does_size pen step.NewLine l h = omega arith
-  does_size pen (step.Right n) l h = forward_size n l h
-  does_size pen (step.Left n) l h = omega (arith, back_size n l.left l.right)
-  does_size pen (step.Column n) l h = behind_size (n - 1) l h
-  does_size pen step.EraseRight l h = omega (arith, parted_less l)
-  does_size pen step.EraseLeft l h = omega (arith, empties (columns l.left), few_columns l.left, erased_less 1 l.right)
-  does_size pen step.EraseAll l h = omega (arith, empties (columns l.left), few_columns l.left)
-  does_size pen (step.Erase n) l h = omega (arith, parted_less l, erased_less n (parted l).right)
-  does_size pen (step.Delete n) l h = omega (arith, parted_less l, gone_less n (parted l).right, without_less n (parted l).right, length_shifted false (gone n (parted l).right))
-  does_size pen (step.Insert n) l h =
+  here_size pen (step.Tabs n) l h = forward_size (to_stop n (columns l.left)) l h
+  here_size pen (step.TabsBack n) l h = behind_size (columns l.left - from_stop n (columns l.left)) l h
+  here_size pen step.NewLine l h = omega arith
+  here_size pen (step.Right n) l h = forward_size n l h
+  here_size pen (step.Left n) l h = behind_size (columns l.left - n) l h
+  here_size pen (step.Column n) l h = behind_size (n - 1) l h
+  here_size pen step.EraseRight l h = omega (arith, parted_less l)
+  here_size pen step.EraseLeft l h = omega (arith, empties (columns l.left), few_columns l.left, erased_less 1 l.right)
+  here_size pen step.EraseAll l h = omega (arith, empties (columns l.left), few_columns l.left)
+  here_size pen (step.Erase n) l h = omega (arith, parted_less l, erased_less n (parted l).right)
+  here_size pen (step.Delete n) l h = omega (arith, parted_less l, gone_less n (parted l).right, without_less n (parted l).right, length_shifted false (gone n (parted l).right))
+  here_size pen (step.Insert n) l h =
       omega (arith, parted_less l, joined (min n (limit - size (parted l))) Empty (shifted false (parted l).right), length_shifted false (parted l).right)
-  does_size pen step.Restore l h = restored_size pen l h
-  does_size pen (step.Leave to) l h = forward_size (target to l) blank (omega arith)
-  does_size pen (step.Row row to) l h = placed_in_size pen row to l h
-  does_size pen _ l h = h
+  here_size pen step.Restore l h = restored_size pen l h
+  here_size pen (step.Leave to) l h = forward_size (target to l) blank (omega arith)
+  here_size pen (step.Row row to) l h = placed_in_size pen row to l h
+  here_size pen _ l h = h
+
+  entered_size : (s : Step) (l : Line) → size l ≤ limit → size (entered limit s l).line ≤ limit
+  entered_size s l h =
+      always (λ (d : Done). size d.line ≤ limit) (leaves_long s l) (leave limit None l) (done [] l)
+      (forward_size (target None l) blank (omega arith)) h
+
+  does_size : (pen : Pen) (s : Step) (l : Line) → size l ≤ limit → size (does limit pen s l).line ≤ limit
+  does_size pen s l h = here_size pen s (entered limit s l).line (entered_size s l h)
 
   pub all_size : (pen : Pen) (steps : List Step) (l : Line) → size l ≤ limit → size (do_all limit pen steps l).line ≤ limit
   all_size pen [] l h = h

@@ -1,17 +1,43 @@
 -- A line whose cursor is still to go to its column.
 use Rattle.std.proofs.Common.{◌≡◌, ◌<◌, ◌≤◌, ℕ, zero, suc, ◌+◌, ◌-◌, Bool, true, false, cond, min}
 use Rattle.std.proofs.Common.{List, [], ◌∷◌, ◌++◌, length, replicate, refl, sym, subst, ap, ◌∙◌, arith}
-use Rattle.std.specs.Prelude.{nat_lt, Option, Some, None}
+use Rattle.std.specs.Prelude.{◌&&◌, nat_lt, Option, Some, None}
 use Rattle.std.proofs.lemmas.Bool.Decides.{nat_tests}
+use Rattle.std.proofs.lemmas.List.{length-append, length-replicate}
 use Rattle.csicodec_overwrite.specs.declared.cells.Cell.{Cell}
 use Rattle.csicodec_overwrite.specs.declared.cells.Cell.TheVariants.{Empty}
 use Rattle.csicodec_overwrite.specs.declared.line.Line.{Line}
+use Rattle.csicodec_overwrite.specs.declared.step.Step.{Step}
 use Rattle.csicodec_overwrite.specs.Cells.{columns, onto, takes, trimmed}
-use Rattle.csicodec_overwrite.specs.Line.{back, behind_columns, forward, line, over, size, standing}
-use Rattle.csicodec_overwrite.specs.Private.Row.{settled}
-use Rattle.csicodec_overwrite.proofs.Moved.{back_on, back_zero, by_back, columns_both}
+use Rattle.csicodec_overwrite.specs.Line.{alters, behind_columns, done, entered, forward, leave, line, over, size, standing, widest}
+use Rattle.csicodec_overwrite.specs.Private.Row.{back, settled}
+use Rattle.csicodec_overwrite.proofs.Moved.{back_zero, by_back, columns_both}
 use Rattle.csicodec_overwrite.proofs.Moved.{columns_empty, columns_onto, takes_few}
 use Rattle.csicodec_overwrite.proofs.Room.{moved, over_size}
+
+-- ---- tests
+
+less_is : (n k : ℕ) → n < k → nat_lt n k ≡ true
+less_is n k h = grind (arith, nat_tests)
+
+-- a sum that is cut off far behind a row
+pub long_same : (n k : ℕ) → n ≡ min k 18446744073709551615 → nat_lt 1024 n ≡ nat_lt 1024 k
+long_same n k e = by (nat_lt 1024 n) (nat_lt 1024 k) refl refl
+  where
+    by : (a b : Bool) → nat_lt 1024 n ≡ a → nat_lt 1024 k ≡ b → a ≡ b
+    by true true f g = refl
+    by false false f g = refl
+    by true false f g = absurd (grind (arith, nat_tests, e))
+    by false true f g = absurd (grind (arith, nat_tests, e))
+
+less_on : (n k m : ℕ) → k ≤ n → nat_lt (n - k) m ≡ nat_lt n (k + m)
+less_on n k m some = by (nat_lt (n - k) m) (nat_lt n (k + m)) refl refl
+  where
+    by : (a b : Bool) → nat_lt (n - k) m ≡ a → nat_lt n (k + m) ≡ b → a ≡ b
+    by true true e f = refl
+    by false false e f = refl
+    by true false e f = absurd (grind (arith, nat_tests))
+    by false true e f = absurd (grind (arith, nat_tests))
 
 -- ---- all that stands in a line stands there wherever the cursor is
 
@@ -130,46 +156,68 @@ ahead limit k l =
     (sym (back_zero l.left l.right) ∙ ap (λ (m : ℕ). back m l.left l.right) none)
     ∙ by_back limit n l.left l.right
 
--- nothing that takes no column is right of the cursor
-abbrev Stands : Line → Type 0
-Stands l = over 0 l.left l.right ≡ l
+-- ---- what stands right of the cursor then, and how many cells there are
 
-back_stands : (k : ℕ) (left right : List Cell) → 0 < k → k ≤ columns left
-    → Stands (back k left right)
-back_stands k [] right some few = absurd (omega (arith, some, few))
-back_stands k (x ∷ left) right some few =
-    let on : back k (x ∷ left) right ≡ back (k - takes x) left (x ∷ right) =
-    back_on k x left right some in
-    subst Stands (sym on) (by (k - takes x) refl (back_stands (k - takes x) left (x ∷ right)))
+over_right : (n : ℕ) (left right : List Cell)
+    → nat_lt 0 (length (over n left right).right) ≡ nat_lt n (columns right)
+over_right n left [] = by (nat_lt n 0) refl
   where
-    then : Line
-    then = back (k - takes x) left (x ∷ right)
+    by : (t : Bool) → nat_lt n 0 ≡ t → nat_lt 0 0 ≡ t
+    by true e = absurd (grind (arith, nat_tests))
+    by false e = refl
+over_right n left (x ∷ right) =
+    by (nat_lt n (takes x)) refl (over_right (n - takes x) (x ∷ left) right)
+  where
+    now : Bool → Line
+    now t = cond t (line left (x ∷ right)) (over (n - takes x) (x ∷ left) right)
 
-    stops : takes x ≡ 1 → Stands (line left (x ∷ right))
-    stops one = rw one refl
+    by : (t : Bool) → nat_lt n (takes x) ≡ t
+        → nat_lt 0 (length (now false).right) ≡ nat_lt (n - takes x) (columns right)
+        → nat_lt 0 (length (now t).right) ≡ nat_lt n (takes x + columns right)
+    by true e h =
+        less_is 0 (suc (length right)) (omega arith)
+        ∙ sym (less_is n (takes x + columns right) (grind (arith, nat_tests)))
+    by false e h =
+        let some : takes x ≤ n = grind (arith, nat_tests) in
+        h ∙ less_on n (takes x) (columns right) some
 
-    by : (m : ℕ) → m ≡ k - takes x → (0 < k - takes x → k - takes x ≤ columns left → Stands then)
-        → Stands then
-    by (suc m) e same = same (omega (arith, e)) (omega (arith, few))
-    by zero e same =
-        let one : takes x ≡ 1 = omega (arith, e, some, takes_few x) in
-        let is : then ≡ line left (x ∷ right) =
-        ap (λ (n : ℕ). back n left (x ∷ right)) (sym e) ∙ back_zero left (x ∷ right) in
-        subst Stands (sym is) (stops one)
+settled_right : (limit n : ℕ) (l : Line)
+    → nat_lt 0 (length (behind_columns limit n l).right) ≡ nat_lt n (columns l.left + columns l.right)
+settled_right limit n l =
+    over_right n [] (onto l.left l.right)
+    ∙ ap (nat_lt n) (columns_onto l.left l.right)
 
-pub behind : (limit k : ℕ) (l : Line) → 0 < k → k ≤ columns l.left
-    → back k l.left l.right ≡ behind_columns limit (columns l.left - k) l
-behind limit k l some few =
-    let column = columns l.left - k in
-    let b = back k l.left l.right in
-    let now = over 0 b.left b.right in
-    let count : k ≡ columns l.left - column = omega (arith, few) in
-    let none : 0 ≡ column - columns l.left = omega arith in
-    let pads : min (0 - columns b.right) (limit - size now) ≡ 0 = omega arith in
-    sym (
-    ap (λ (n : ℕ). line (replicate n Empty ++ now.left) now.right) pads
-    ∙ back_stands k l.left l.right some few
+pub right_near : (limit n : ℕ) (l : Line) → n < columns l.right
+    → nat_lt n (columns l.right) ≡ nat_lt 0 (length (behind_columns limit n l).right)
+right_near limit n l some =
+    less_is n (columns l.right) some
+    ∙ sym (settled_right limit n l ∙ less_is n (columns l.left + columns l.right) (omega (arith, some)))
+
+pub right_far : (limit n : ℕ) (l : Line) → columns l.right ≤ n
+    → nat_lt (n - columns l.right) (columns l.left) ≡ nat_lt 0 (length (behind_columns limit n l).right)
+right_far limit n l few =
+    less_on n (columns l.right) (columns l.left) few ∙ ap (nat_lt n) (omega arith)
+    ∙ sym (settled_right limit n l)
+
+pub settled_size : (limit n : ℕ) (l : Line)
+    → size (behind_columns limit n l)
+    ≡ length l.left + length l.right + min (n - columns l.left - columns l.right) (limit - size l)
+settled_size limit n l =
+    let all = onto l.left l.right in
+    let now = over n [] all in
+    omega (
+      arith,
+      length-append (replicate (min (n - columns all) (limit - size now)) Empty) now.left,
+      length-replicate (min (n - columns all) (limit - size now)) Empty,
+      columns_onto l.left l.right,
+      over_size n [] all,
+      moved l.left l.right,
     )
-    ∙ ap (λ (n : ℕ). forward limit n b) none
-    ∙ ap (λ (n : ℕ). forward limit (column - columns l.left) (back n l.left l.right)) count
-    ∙ by_back limit column l.left l.right
+
+-- ---- a line that is too long for a step
+
+pub entered_long : (limit : ℕ) (s : Step) (l : Line) → alters s l ≡ true → nat_lt widest (size l) ≡ true
+    → entered limit s l ≡ leave limit None l
+entered_long limit s l e f =
+    ap (λ (t : Bool). cond (t && nat_lt widest (size l)) (leave limit None l) (done [] l)) e
+    ∙ ap (λ (t : Bool). cond (true && t) (leave limit None l) (done [] l)) f

@@ -1,57 +1,17 @@
 -- Cells that are shifted, from the nearest on.
 use Rattle.std.proofs.Common.{◌≡◌, ℕ, zero, suc, ◌+◌, ◌<◌, ◌≤◌, Bool, true, false, cond, ◌==◌, List, [], ◌∷◌, ◌++◌, length}
-use Rattle.std.proofs.Common.{drop, get_or, replicate, reverse, set, take, refl, sym, ap, ◌∙◌, arith, append_assoc}
+use Rattle.std.proofs.Common.{drop, get_or, reverse, set, take, refl, sym, ap, ◌∙◌, arith, append_assoc, append-nil}
 use Rattle.std.proofs.lemmas.Grind.{drop-set_at}
-use Rattle.std.proofs.lemmas.List.{length-append, length-replicate, length-set, reverse-append, reverse-reverse, take-append-drop, take-append-le, take-set-le, take-take, take_all, take_at, take_more}
+use Rattle.std.proofs.lemmas.List.{length-set, reverse-append, set-get_or, take-set-le, take-take, take_all, take_more}
 use Rattle.csicodec_overwrite.specs.declared.cells.Cell.{Cell}
 use Rattle.csicodec_overwrite.specs.declared.cells.Cell.TheVariants.{Behind, Char, Empty, Mark}
 use Rattle.csicodec_overwrite.specs.Cells.{columns, of_tab, shifted, takes, untabbed}
-use Rattle.csicodec_overwrite.specs.Private.Shifted.{IsSettled}
-use Rattle.csicodec_overwrite.proofs.Moved.{reverse_empty}
-
--- a cell that stays as it is is no tab
-no_tab : (x : Cell) → untabbed (of_tab false x) x ≡ x → of_tab false x ≡ false
-no_tab Empty e = refl
-no_tab (Char g) e = by (g.char == 9) e
-  where
-    by : (t : Bool) → cond t Empty (Char g) ≡ Char g → t ≡ false
-    by true e = cc
-    by false e = refl
-no_tab Behind e = refl
-no_tab (Mark c) e = refl
-
--- the cells behind others that stay
-pub later_stays : (xs ys : List Cell) → shifted false (xs ++ ys) ≡ xs ++ ys → shifted false ys ≡ ys
-later_stays [] ys e = e
-later_stays (x ∷ xs) ys e =
-    let same : shifted (of_tab false x) (xs ++ ys) ≡ xs ++ ys = cc in
-    let is : untabbed (of_tab false x) x ≡ x = cc in
-    later_stays xs ys (rw (no_tab x is) at same)
 
 stays : (x : Cell) → untabbed false x ≡ x
 stays Empty = refl
 stays (Char g) = refl
 stays Behind = refl
 stays (Mark c) = refl
-
-no_more : (t : Bool) (x : Cell) → of_tab false (untabbed (of_tab t x) x) ≡ false
-no_more t Empty = refl
-no_more t (Char g) = by (g.char == 9) refl
-  where
-    by : (u : Bool) → (g.char == 9) ≡ u → of_tab false (cond u Empty (Char g)) ≡ false
-    by true e = refl
-    by false e = e
-no_more true Behind = refl
-no_more false Behind = refl
-no_more t (Mark c) = refl
-
--- those that were shifted stay
-pub shifted_stays : (t : Bool) (xs : List Cell) → shifted false (shifted t xs) ≡ shifted t xs
-shifted_stays t [] = refl
-shifted_stays t (x ∷ xs) =
-    let y = untabbed (of_tab t x) x in
-    let ys = shifted (of_tab t x) xs in
-    ap (λ (u : Bool). untabbed u y ∷ shifted u ys) (no_more t x) ∙ ap (λ (z : Cell). z ∷ shifted false ys) (stays y) ∙ ap (λ (zs : List Cell). y ∷ zs) (shifted_stays (of_tab t x) xs)
 
 -- ---- the loop
 
@@ -93,54 +53,17 @@ one_shifted old cells at n tab d e h =
           ∙ ap (λ (zs : List Cell). reverse (drop n new) ++ shifted t (reverse zs)) (sym front),
     )
 
--- nothing changes up to there
-pub all_shifted : (old cells : List Cell) (settled at : ℕ) (tab : Bool) → IsSettled settled old → at ≤ settled → (0 < at → tab ≡ false) → Shifts old at tab cells
-    → reverse cells ≡ shifted false (reverse old)
-all_shifted old cells settled at tab is few none h =
-    let front = reverse (take at cells) in
-    let own : reverse (take settled old) ≡ reverse (drop at (take settled old)) ++ reverse (take at old) =
-    ap reverse (sym (take-append-drop at (take settled old))) ∙ reverse-append (take at (take settled old)) (drop at (take settled old))
-    ∙ ap (λ (zs : List Cell). reverse (drop at (take settled old)) ++ reverse zs) (take-take at settled old few) in
-    let same : shifted false (reverse (take at old)) ≡ reverse (take at old) = later_stays (reverse (drop at (take settled old))) (reverse (take at old)) (rw own at is.1) in
-    let stay : shifted tab front ≡ front = by at refl same in
-    ap reverse (sym (take-append-drop at cells)) ∙ reverse-append (take at cells) (drop at cells)
-    ∙ ap (λ (zs : List Cell). reverse (drop at cells) ++ zs) (sym stay) ∙ sym h.3
-  where
-    by : (n : ℕ) → at ≡ n → shifted false (reverse (take at old)) ≡ reverse (take at old) → shifted tab (reverse (take at cells)) ≡ reverse (take at cells)
-    by zero e same = rw e refl
-    by (suc n) e same = rw (none (omega (arith, e))) (rw h.2 same)
+pub one_kept : (old cells : List Cell) (at n : ℕ) (tab : Bool) (d : Cell) → at ≡ n + 1 → Shifts old at tab cells
+    → of_tab tab (get_or cells n d) ≡ false → Shifts old n false cells
+one_kept old cells at n tab d e h none =
+    let x = get_or cells n d in
+    let same : set cells n (untabbed false x) ≡ cells = ap (set cells n) (stays x) ∙ set-get_or cells n d in
+    rw (← same) (rw none at (one_shifted old cells at n tab d e h))
 
--- ---- what is settled
-
-pub settled_all : (n : ℕ) (old cells : List Cell) → n ≡ length cells → reverse cells ≡ shifted false (reverse old) → IsSettled n cells
-settled_all n old cells whole e =
-    let all : take n cells ≡ cells = take_all n cells (omega (arith, whole)) in
-    let stay : shifted false (reverse cells) ≡ reverse cells = ap (shifted false) e ∙ shifted_stays false (reverse old) ∙ sym e in
-    (omega (arith, whole), rw all stay)
-
-pub settled_more : (n : ℕ) (cells new : List Cell) → IsSettled n cells → IsSettled n (cells ++ new)
-settled_more n cells new h = (omega (arith, h.0, length-append cells new), rw (take-append-le n cells new h.0) h.1)
+pub all_shifted : (old cells : List Cell) (tab : Bool) → Shifts old 0 tab cells → reverse cells ≡ shifted false (reverse old)
+all_shifted old cells tab h = sym (h.3 ∙ append-nil (reverse cells))
 
 -- ---- what stays as it is
-
-empties_shifted : (n : ℕ) (t : Bool) → shifted t (replicate n Empty) ≡ replicate n Empty
-empties_shifted zero t = refl
-empties_shifted (suc n) t = ap (λ (xs : List Cell). Empty ∷ xs) (empties_shifted n false)
-
-before_empty : (t : Bool) (xs : List Cell) (n : ℕ) → shifted t (xs ++ replicate n Empty) ≡ shifted t xs ++ replicate n Empty
-before_empty t [] n = empties_shifted n t
-before_empty t (x ∷ xs) n = ap (λ (ys : List Cell). untabbed (of_tab t x) x ∷ ys) (before_empty (of_tab t x) xs n)
-
-pub bare_shifted : (n : ℕ) (old new : List Cell) → take n old ≡ replicate n Empty → reverse new ≡ shifted false (reverse old) → take n new ≡ replicate n Empty
-bare_shifted n old new bare e =
-    let some = replicate n Empty in
-    let others = reverse (drop n old) in
-    let split : reverse old ≡ others ++ some =
-    ap reverse (sym (take-append-drop n old)) ∙ reverse-append (take n old) (drop n old) ∙ ap (λ (xs : List Cell). others ++ reverse xs) bare ∙ ap (λ (xs : List Cell). others ++ xs) (reverse_empty n) in
-    let is : reverse new ≡ shifted false others ++ some = e ∙ ap (shifted false) split ∙ before_empty false others n in
-    let own : new ≡ some ++ reverse (shifted false others) =
-    sym (reverse-reverse new) ∙ ap reverse is ∙ reverse-append (shifted false others) some ∙ ap (λ (xs : List Cell). xs ++ reverse (shifted false others)) (reverse_empty n) in
-    ap (take n) own ∙ take_at some (reverse (shifted false others)) n (length-replicate n Empty)
 
 one_column : (t : Bool) (x : Cell) → takes (untabbed t x) ≡ takes x
 one_column t Empty = refl

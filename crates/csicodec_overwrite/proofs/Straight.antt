@@ -28,7 +28,7 @@ use Rattle.csicodec_overwrite.specs.declared.pen.Pen.{Pen}
 use Rattle.csicodec_overwrite.specs.declared.step.Step.{Step}
 use Rattle.csicodec_overwrite.specs.declared.step.Step.TheVariants as step
 use Rattle.csicodec_overwrite.specs.Cells.{columns, glyph, narrowed, onto, to_tab_stop, width}
-use Rattle.csicodec_overwrite.specs.Line.{Done, before, do_all, done, line, pen_behind, pen_behind_all, put}
+use Rattle.csicodec_overwrite.specs.Line.{Done, before, do_all, does, done, line, pen_behind, pen_behind_all, put}
 use Rattle.csicodec_overwrite.specs.Steps.{of_char, of_chars}
 use Rattle.csicodec_overwrite.specs.Reading.{AreOfParts}
 use Rattle.csicodec_overwrite.specs.Stream.{Reads, none_held}
@@ -116,6 +116,12 @@ goes limit pen c l (low, high, over, none, few) =
     ap (λ (b : Bool). put limit b g l) over ∙ ap (λ (right : List Cell). put limit false g (line l.left right)) none
     ∙ put_cells limit g l.left (omega (arith, one, few)) ∙ ap (λ (n : ℕ). done [] (line (cells g n l.left) [])) one
 
+-- where nothing stands on the right, the line isn't left
+puts_here : (limit : ℕ) (pen : Pen) (c : ℕ) (l : Line) → l.right ≡ [] → does limit pen (step.Put c) l ≡ put limit pen.inserts (glyph c pen.look) l
+puts_here limit pen c l none =
+    ap (λ (right : List Cell). does limit pen (step.Put c) (line l.left right)) none
+    ∙ ap (λ (right : List Cell). put limit pen.inserts (glyph c pen.look) (line l.left right)) (sym none)
+
 goes_pen : (limit : ℕ) (pen : Pen) (c : ℕ) (l : Line) → GoesBehind limit pen c l → record pen { last = Some c } ≡ pen_behind pen (step.Put c) (columns l.left)
 goes_pen limit pen c l (low, high, over, none, few) = ap (λ (n : ℕ). record pen { last = cond (n == 0) pen.last (Some c) }) (sym (narrow c 0 low high))
 
@@ -133,8 +139,8 @@ module _ (limit : ℕ) (first : Pen) (blank : Line) (text : List ℕ) (pen : Pen
       let behind : GoesBehind limit pen c l = (grind (arith, nat_tests), grind (arith, nat_tests), over, none, few) in
       let of = put_step c is (λ tab. absurd (let yes : (9 == 9) ≡ false = subst (λ (x : ℕ). (x == 9) ≡ false) tab other in cc)) in
       let next = pen_behind pen (step.Put c) (columns l.left) in
-      let one : put limit pen.inserts (glyph c pen.look) l ≡ done [] m =
-      goes limit pen c l behind ∙ ap (λ (right : List Cell). done [] (line (Char (glyph c pen.look) ∷ l.left) right)) (sym none) ∙ ap (done []) (sym e) in
+      let one : does limit pen (step.Put c) l ≡ done [] m =
+      puts_here limit pen c l none ∙ goes limit pen c l behind ∙ ap (λ (right : List Cell). done [] (line (Char (glyph c pen.look) ∷ l.left) right)) (sym none) ∙ ap (done []) (sym e) in
       record {
         plain = run.plain.1;
         fewer = omega (arith, run.fewer);

@@ -24,12 +24,6 @@ size l = length l.left + length l.right
 
 -- ---- moving
 
--- so many columns to the left, and no further than the first
-abbrev pub back : ℕ → List Cell → List Cell → Line
-back n [] right = line [] right
-back n (cell ∷ left) right = if n == 0 then line (cell ∷ left) right
-    else back (n - takes cell) left (cell ∷ right)
-
 -- so many columns to the right, as far as there are cells, and over what belongs to the last of them
 abbrev pub over : ℕ → List Cell → List Cell → Line
 over n left [] = line left []
@@ -46,6 +40,10 @@ forward limit n l = padded limit (n - columns l.right) (over n l.left l.right)
 -- behind so many columns
 abbrev pub behind_columns : ℕ → ℕ → Line → Line
 behind_columns limit n l = forward limit n (line [] (onto l.left l.right))
+
+-- so many columns to the left, and no further than the first
+abbrev pub backward : ℕ → ℕ → Line → Line
+backward limit n l = behind_columns limit (columns l.left - n) l
 
 -- to a column, of which the first is 1
 abbrev pub at_column : ℕ → ℕ → Line → Line
@@ -206,31 +204,55 @@ abbrev pub restored : ℕ → Pen → Line → Done
 restored limit pen l = if pen.here then done [] (behind_columns limit pen.saved l)
     else done (lines_of l) (forward limit pen.saved blank)
 
-abbrev pub does : ℕ → Pen → Step → Line → Done
-does limit pen (step.Put c) l = put limit pen.inserts (glyph c pen.look) l
-does limit pen (step.Repeat n) l = repeated limit pen pen.last n l
-does limit pen step.Tab l = if length l.right == 0 then put limit pen.inserts (glyph 9 pen.look) l
+-- in this line
+abbrev pub does_here : ℕ → Pen → Step → Line → Done
+does_here limit pen (step.Put c) l = put limit pen.inserts (glyph c pen.look) l
+does_here limit pen (step.Repeat n) l = repeated limit pen pen.last n l
+does_here limit pen step.Tab l = if length l.right == 0 then put limit pen.inserts (glyph 9 pen.look) l
     else done [] (forward limit (to_tab_stop (columns l.left)) l)
-does limit pen (step.Tabs n) l = done [] (forward limit (to_stop n (columns l.left)) l)
-does limit pen (step.TabsBack n) l = done [] (back (from_stop n (columns l.left)) l.left l.right)
-does limit pen step.NewLine l = done (cells_of l ∷ []) blank
-does limit pen (step.Right n) l = done [] (forward limit n l)
-does limit pen (step.Left n) l = done [] (back n l.left l.right)
-does limit pen (step.Column n) l = done [] (at_column limit n l)
-does limit pen step.EraseRight l = done [] (erase_right l)
-does limit pen step.EraseLeft l = done [] (erase_left l)
-does limit pen step.EraseAll l = done [] (erase_all l)
-does limit pen (step.Erase n) l = done [] (erase n l)
-does limit pen (step.Delete n) l = done [] (delete n l)
-does limit pen (step.Insert n) l = done [] (insert limit n l)
-does limit pen (step.Attribute s) l = done [] l
-does limit pen (step.Inserts inserts) l = done [] l
-does limit pen step.Save l = done [] l
-does limit pen step.Restore l = restored limit pen l
-does limit pen step.Reset l = done [] l
-does limit pen (step.Leave to) l = leave limit to l
-does limit pen (step.Row row to) l = placed_in limit pen row to l
-does limit pen step.Other l = done [] l
+does_here limit pen (step.Tabs n) l = done [] (forward limit (to_stop n (columns l.left)) l)
+does_here limit pen (step.TabsBack n) l = done [] (backward limit (from_stop n (columns l.left)) l)
+does_here limit pen step.NewLine l = done (cells_of l ∷ []) blank
+does_here limit pen (step.Right n) l = done [] (forward limit n l)
+does_here limit pen (step.Left n) l = done [] (backward limit n l)
+does_here limit pen (step.Column n) l = done [] (at_column limit n l)
+does_here limit pen step.EraseRight l = done [] (erase_right l)
+does_here limit pen step.EraseLeft l = done [] (erase_left l)
+does_here limit pen step.EraseAll l = done [] (erase_all l)
+does_here limit pen (step.Erase n) l = done [] (erase n l)
+does_here limit pen (step.Delete n) l = done [] (delete n l)
+does_here limit pen (step.Insert n) l = done [] (insert limit n l)
+does_here limit pen (step.Attribute s) l = done [] l
+does_here limit pen (step.Inserts inserts) l = done [] l
+does_here limit pen step.Save l = done [] l
+does_here limit pen step.Restore l = restored limit pen l
+does_here limit pen step.Reset l = done [] l
+does_here limit pen (step.Leave to) l = leave limit to l
+does_here limit pen (step.Row row to) l = placed_in limit pen row to l
+does_here limit pen step.Other l = done [] l
+
+-- what stands in the line is overwritten, erased or shifted with the step
+abbrev pub alters : Step → Line → Bool
+alters (step.Put c) l = nat_lt 0 (length l.right)
+alters (step.Repeat n) l = nat_lt 0 (length l.right)
+alters step.EraseRight l = nat_lt 0 (length l.right)
+alters step.EraseLeft l = true
+alters step.EraseAll l = true
+alters (step.Erase n) l = nat_lt 0 (length l.right)
+alters (step.Delete n) l = nat_lt 0 (length l.right)
+alters (step.Insert n) l = nat_lt 0 (length l.right)
+alters s l = false
+
+-- in a line that is longer than a terminal's row the cursor isn't in the row of all that stands there
+abbrev pub leaves_long : Step → Line → Bool
+leaves_long s l = alters s l && nat_lt widest (size l)
+
+-- so a step that alters such a line is done in a new one
+abbrev pub entered : ℕ → Step → Line → Done
+entered limit s l = if leaves_long s l then leave limit None l else done [] l
+
+abbrev pub does : ℕ → Pen → Step → Line → Done
+does limit pen s l = before (entered limit s l).lines (does_here limit pen s (entered limit s l).line)
 
 -- one after the other
 abbrev pub do_all : ℕ → Pen → List Step → Line → Done

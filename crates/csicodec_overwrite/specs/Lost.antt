@@ -11,7 +11,7 @@ use Rattle.csicodec_overwrite.specs.declared.pen.Pen.{Pen}
 use Rattle.csicodec_overwrite.specs.declared.step.Step.{Step}
 use Rattle.csicodec_overwrite.specs.declared.step.Step.TheVariants as step
 use Rattle.csicodec_overwrite.specs.Cells.{begins_behind, belongs, chars_of, columns, glyph, gone, is_empty, of_tab, outside, takes, width, without}
-use Rattle.csicodec_overwrite.specs.Line.{blank, cells_of, does, fits, fresh, is_row, parted, pen_behind, put, shows_nothing}
+use Rattle.csicodec_overwrite.specs.Line.{blank, cells_of, does, entered, fits, fresh, is_row, leaves_long, parted, pen_behind, put, shows_nothing}
 use Rattle.csicodec_overwrite.specs.Paint.{as_text}
 use Rattle.csicodec_overwrite.specs.Reading.{Shows, most}
 
@@ -71,20 +71,24 @@ taken_again limit pen (Some c) n l = taken_by_all limit pen.inserts (glyph c pen
 abbrev pub left_out : Line → List Cell
 left_out l = if shows_nothing l then cells_of l else []
 
--- what is overwritten, erased, deleted, parted or left out, and each tab that is shifted: no other step takes anything
+-- in this line what is overwritten, erased, deleted, parted or left out, and each tab that is shifted: no other step takes anything
+abbrev pub taken_here : ℕ → Pen → Step → Line → List Cell
+taken_here limit pen (step.Put c) l = taken_by limit pen.inserts (glyph c pen.look) l
+taken_here limit pen (step.Repeat n) l = taken_again limit pen pen.last n l
+taken_here limit pen step.EraseRight l = under l ++ (parted l).right
+taken_here limit pen step.EraseLeft l = l.left ++ whole 1 l.right
+taken_here limit pen step.EraseAll l = l.left ++ l.right
+taken_here limit pen (step.Erase n) l = touched n l
+taken_here limit pen (step.Delete n) l = touched n l ++ tabs (gone n (parted l).right)
+taken_here limit pen (step.Insert n) l = under l ++ tabs (parted l).right
+taken_here limit pen step.Restore l = if pen.here then [] else left_out l
+taken_here limit pen (step.Leave to) l = left_out l
+taken_here limit pen (step.Row row to) l = if is_row pen.row row then [] else left_out l
+taken_here limit pen s l = []
+
+-- and the blanks of a line that is longer than a row, where nothing else stands in it
 abbrev pub taken : ℕ → Pen → Step → Line → List Cell
-taken limit pen (step.Put c) l = taken_by limit pen.inserts (glyph c pen.look) l
-taken limit pen (step.Repeat n) l = taken_again limit pen pen.last n l
-taken limit pen step.EraseRight l = under l ++ (parted l).right
-taken limit pen step.EraseLeft l = l.left ++ whole 1 l.right
-taken limit pen step.EraseAll l = l.left ++ l.right
-taken limit pen (step.Erase n) l = touched n l
-taken limit pen (step.Delete n) l = touched n l ++ tabs (gone n (parted l).right)
-taken limit pen (step.Insert n) l = under l ++ tabs (parted l).right
-taken limit pen step.Restore l = if pen.here then [] else left_out l
-taken limit pen (step.Leave to) l = left_out l
-taken limit pen (step.Row row to) l = if is_row pen.row row then [] else left_out l
-taken limit pen s l = []
+taken limit pen s l = (if leaves_long s l then left_out l else []) ++ taken_here limit pen s (entered limit s l).line
 
 -- ---- what comes
 

@@ -4,5 +4,5 @@ pub mod Seen
 pub mod Plain
 pub mod Front
 pub mod Alike
-pub mod Shifted
 pub mod Row
+pub mod Sides

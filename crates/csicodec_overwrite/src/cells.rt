@@ -1,9 +1,11 @@
 //! What stands in a line, cell by cell.
-ghost use Rattle.std.specs.Prelude.{◌≡◌, ◌≤◌, ◌+◌, ◌++◌, ◌∷◌, [], false, ℕ, List, OnOk, MatchOption, length, replicate, reverse, vec_capacity, vec_len};
+ghost use Rattle.std.specs.Prelude.{◌≡◌, ◌≤◌, ◌+◌, ◌++◌, ◌∷◌, [], false, OnOk, MatchOption, length, replicate, reverse, vec_capacity, vec_len};
 ghost use Rattle.std.specs.List.{list_all};
 ghost use Rattle.csicodec_overwrite.specs.Cells.{begins_behind, belongs, columns, emptied, is_blank, is_empty, of_tab, onto, outside, shifted, takes, trimmed, untabbed, without};
+ghost use Rattle.csicodec_overwrite.specs.Line.{line, over};
 ghost use Rattle.csicodec_overwrite.specs.Private.Plain.{glyphs};
-ghost use Rattle.csicodec_overwrite.specs.Private.Shifted.{IsSettled};
+ghost use Rattle.csicodec_overwrite.specs.Private.Row.{back};
+ghost use Rattle.csicodec_overwrite.specs.Private.Sides.{Gives, IsKept, PassesBack, PassesOver};
 ghost use Rattle.csicodec_overwrite.specs.declared.cells.Cell.TheVariants.{Empty};
 
 use csicodec_html::Look;
@@ -104,17 +106,79 @@ fn append_glyphs(cells: &mut Vec<Cell>, run: &[u8], look: Look)
     }
 }
 
-/// Empties the columns of tabs, of which none is among so many of the farthest cells.
-fn empty_tabs(cells: &mut Vec<Cell>, settled: usize)
-    requires { IsSettled settled cells.old.items }
+/// Appends cells, the last of them first, four at once, and answers those in front that are fewer. There is room for all.
+fn append_fours<'a>(cells: &mut Vec<Cell>, near: &'a [Cell]) -> &'a [Cell]
+    requires { vec_len cells.old + length near.now ≤ vec_capacity cells.old }
+    ensures come { cells.new.items ++ reverse result.now ≡ cells.old.items ++ reverse near.now }
+    ensures room { vec_len cells.new + length result.now ≤ vec_capacity cells.new }
+{
+    let mut rest = near;
+    // A processor that reads a cell where it wrote it waits, and so it waits once for four.
+    while let Some((front, [first, second, third, last])) = rest.split_last_chunk::<4>() {
+        let (first, second, third, last) = (*first, *second, *third, *last);
+        cells.push_reserved(last);
+        cells.push_reserved(third);
+        cells.push_reserved(second);
+        cells.push_reserved(first);
+        rest = front;
+    }
+    rest
+}
+
+/// Appends cells, the last of them first. There is room for them.
+fn append_back(cells: &mut Vec<Cell>, near: &[Cell])
+    requires { vec_len cells.old + length near.now ≤ vec_capacity cells.old }
+    ensures { cells.new.items ≡ cells.old.items ++ reverse near.now }
+{
+    let mut rest = append_fours(cells, near);
+    while let Some((cell, front)) = rest.split_last() {
+        cells.push_reserved(*cell);
+        rest = front;
+    }
+}
+
+/// How many cells stay where the last are passed by so many columns, but for marks behind those that stay.
+fn len_before(cells: &[Cell], count: usize) -> usize
+    ensures { PassesBack cells.now count result }
+{
+    let (mut rest, mut left) = (cells, count);
+    while left > 0 {
+        let Some((cell, front)) = rest.split_last() else {
+            return 0;
+        };
+        left = left.saturating_sub(cell.takes());
+        rest = front;
+    }
+    rest.len()
+}
+
+/// How many cells stay where the last are passed by so many columns, with the marks behind those.
+fn len_behind(cells: &[Cell], count: usize) -> usize
+    ensures { PassesOver cells.now count result }
+{
+    let (mut rest, mut left) = (cells, count);
+    while let Some((cell, front)) = rest.split_last() {
+        if left < cell.takes() {
+            return rest.len();
+        }
+        left = left.saturating_sub(cell.takes());
+        rest = front;
+    }
+    0
+}
+
+/// Empties the columns of tabs.
+fn empty_tabs(cells: &mut Vec<Cell>)
     ensures { reverse cells.new.items ≡ shifted false (reverse cells.old.items) }
 {
     let mut at = cells.len();
     let mut tab = false;
-    while at > settled || tab && at > 0 {
+    while at > 0 {
         at -= 1;
         tab = cells[at].is_of_tab(tab);
-        cells[at] = cells[at].untabbed(tab);
+        if tab {
+            cells[at] = cells[at].untabbed(true);
+        }
     }
 }
 
@@ -125,26 +189,18 @@ pub(crate) struct Side {
     cells: Vec<Cell>,
     /// How many columns they take.
     width: usize,
-    /// So many of the farthest are empty.
-    bare: usize,
-    /// No tab is among so many of the farthest.
-    settled: usize,
 }
 
 impl Model for Side {
-    ghost use Rattle.std.specs.Prelude.{◌≡◌, List, replicate, reverse, take};
+    ghost use Rattle.std.specs.Prelude.{◌≡◌, List, reverse};
     ghost use Rattle.csicodec_overwrite.specs.Cells.{columns};
-    ghost use Rattle.csicodec_overwrite.specs.Private.Shifted.{IsSettled};
     ghost use Rattle.csicodec_overwrite.specs.declared.cells.Cell.{Cell as CellOf};
-    ghost use Rattle.csicodec_overwrite.specs.declared.cells.Cell.TheVariants.{Empty};
 
     ghost Value = { List CellOf };
 
     ghost view = { λ s. reverse s.cells.items };
 
-    ghost invariant = { λ s. (s.width ≡ columns (reverse s.cells.items))
-        × (take s.bare s.cells.items ≡ replicate s.bare Empty)
-        × IsSettled s.settled s.cells.items };
+    ghost invariant = { λ s. s.width ≡ columns (reverse s.cells.items) };
 }
 
 impl Side {
@@ -155,8 +211,6 @@ impl Side {
         Side {
             cells: Vec::new(alloc),
             width: 0,
-            bare: 0,
-            settled: 0,
         }
     }
 
@@ -179,14 +233,6 @@ impl Side {
         ensures { result ≡ begins_behind self.now }
     {
         matches!(self.cells.last(), Some(Cell::Behind))
-    }
-
-    /// Whether a column is farthest, and no mark.
-    pub(crate) fn begins_with_column(&self) -> bool {
-        match self.cells.first() {
-            Some(cell) => cell.takes() > 0,
-            None => false,
-        }
     }
 
     /// The nearest cell, which stays.
@@ -236,8 +282,6 @@ impl Side {
     {
         let cell = self.cells.pop()?;
         self.width -= cell.takes();
-        self.bare = self.bare.min(self.cells.len());
-        self.settled = self.settled.min(self.cells.len());
         Some(cell)
     }
 
@@ -247,27 +291,51 @@ impl Side {
     {
         self.cells.clear();
         self.width = 0;
-        self.bare = 0;
-        self.settled = 0;
     }
 
-    /// Puts all cells of another side nearest, its nearest first, and takes them from there.
-    pub(crate) fn push_side(&mut self, from: &mut Side) -> Result<(), AllocError>
-        ensures cells { OnOk result (self.new ≡ onto from.old self.old) }
-        ensures none { OnOk result (from.new ≡ []) }
+    /// Gives the nearest cells, which take so many columns, to another side, and keeps so many of the farthest.
+    fn give(&mut self, to: &mut Side, kept: usize, columns: usize) -> Result<(), AllocError>
+        requires { IsKept self.old kept columns }
+        ensures { OnOk result (Gives self.old to.old kept self.new to.new) }
     {
-        let Some(width) = self.width.checked_add(from.width) else {
+        let Some(width) = to.width.checked_add(columns) else {
             return Err(AllocError);
         };
-        from.cells.reverse();
-        let moved = self.cells.append(&mut from.cells);
-        from.cells.clear();
-        from.width = 0;
-        from.bare = 0;
-        from.settled = 0;
-        moved?;
-        self.width = width;
+        let near = self.cells.split_at(kept).1;
+        to.cells.reserve(near.len())?;
+        append_back(&mut to.cells, near);
+        to.width = width;
+        self.cells.truncate(kept);
+        self.width -= columns;
         Ok(())
+    }
+
+    /// Gives all cells to another side.
+    pub(crate) fn give_all(&mut self, to: &mut Side) -> Result<(), AllocError>
+        ensures cells { OnOk result (to.new ≡ onto self.old to.old) }
+        ensures none { OnOk result (self.new ≡ []) }
+    {
+        let columns = self.width;
+        self.give(to, 0, columns)?;
+        Ok(())
+    }
+
+    /// Gives so many columns to the right side, of which this is the left.
+    pub(crate) fn give_back(&mut self, to: &mut Side, count: usize) -> Result<(), AllocError>
+        ensures { OnOk result (line self.new to.new ≡ back count self.old to.old) }
+    {
+        let kept = len_before(&self.cells, count);
+        let columns = count.min(self.width);
+        self.give(to, kept, columns)
+    }
+
+    /// Gives so many columns to the left side, of which this is the right.
+    pub(crate) fn give_over(&mut self, to: &mut Side, count: usize) -> Result<(), AllocError>
+        ensures { OnOk result (line to.new self.new ≡ over count to.old self.old) }
+    {
+        let kept = len_behind(&self.cells, count);
+        let columns = count.min(self.width);
+        self.give(to, kept, columns)
     }
 
     /// Puts a run of characters nearest, which look so, in turn.
@@ -308,26 +376,20 @@ impl Side {
         Ok(())
     }
 
-    /// Empties all columns: those that are empty stay.
+    /// Empties all columns.
     pub(crate) fn empty(&mut self) -> Result<(), AllocError>
         ensures { OnOk result (self.new ≡ replicate (columns self.old) Empty) }
     {
         let count = self.width;
-        let others = count.saturating_sub(self.bare);
-        self.cells.truncate(self.bare);
-        self.width = self.bare;
-        self.settled = 0;
-        self.push_empty(others)?;
-        self.bare = count;
-        Ok(())
+        self.clear();
+        self.push_empty(count)
     }
 
-    /// Empties the columns of tabs, since the cells move without the cursor. It passes over none that it passed over before.
+    /// Empties the columns of tabs, since the cells move without the cursor.
     pub(crate) fn shift(&mut self)
         ensures { self.new ≡ shifted false self.old }
     {
-        empty_tabs(&mut self.cells, self.settled);
-        self.settled = self.cells.len();
+        empty_tabs(&mut self.cells);
     }
 
     /// Takes so many columns, as far as there are some.

@@ -1,8 +1,8 @@
 //! A line and its cursor.
-ghost use Rattle.std.specs.Prelude.{◌≡◌, ◌-◌, ◌++◌, ◌+◌, [], false, nat_le, true, IfOk, OnOk};
+ghost use Rattle.std.specs.Prelude.{◌≡◌, ◌-◌, ◌++◌, ◌+◌, [], ℕ, false, length, nat_le, nat_lt, true, IfOk, OnOk};
 ghost use Rattle.std.specs.List.{AllByRecursion};
 ghost use Rattle.csicodec_overwrite.specs.Cells.{columns, glyph, onto};
-ghost use Rattle.csicodec_overwrite.specs.Line.{back, behind_columns, blank, cells_of, delete, do_all, does, erase, erase_all, erase_left, erase_right, fits, forward, insert, line, lines_of, over, parted, pen_behind_all, placed, put, repeated, size};
+ghost use Rattle.csicodec_overwrite.specs.Line.{alters, behind_columns, blank, cells_of, delete, do_all, does_here, entered, erase, erase_all, erase_left, erase_right, fits, forward, insert, line, lines_of, parted, pen_behind_all, placed, put, repeated, size, widest};
 ghost use Rattle.csicodec_overwrite.specs.Paint.{ended, text_of, texts_of};
 ghost use Rattle.csicodec_overwrite.specs.Private.Plain.{IsLineByte, PutsRun};
 ghost use Rattle.csicodec_overwrite.specs.Private.Row.{IsHere, settled};
@@ -14,8 +14,8 @@ use crate::cells::{Cell, Glyph, Side};
 use crate::marking::Marking;
 use crate::paint::append_cells;
 use crate::pen::Pen;
-use crate::sides::{delete_columns, erase_columns, loosen, move_all, undo};
-use crate::step::Step;
+use crate::sides::{delete_columns, erase_columns, loosen, undo};
+use crate::step::{Step, WIDEST};
 use crate::width::width;
 use std::alloc::{AllocError, Global};
 
@@ -62,43 +62,12 @@ impl Line {
         columns.max(1) <= self.room(limit)
     }
 
-    /// So many columns to the left.
-    pub(crate) fn back(&mut self, count: usize) -> Result<(), AllocError>
-        ensures { OnOk result (self.new ≡ back count self.old.left self.old.right) }
-    {
-        let mut left = count;
-        while left > 0 {
-            let Some(cell) = self.left.pop() else {
-                return Ok(());
-            };
-            self.right.push(cell)?;
-            left = left.saturating_sub(cell.takes());
-        }
-        Ok(())
-    }
-
-    /// So many columns to the right, as far as there are cells.
-    fn pass(&mut self, count: usize) -> Result<(), AllocError>
-        ensures { OnOk result (self.new ≡ over count self.old.left self.old.right) }
-    {
-        let mut left = count;
-        while let Some(cell) = self.right.nearest() {
-            if left < cell.takes() {
-                return Ok(());
-            }
-            let _passed = self.right.pop();
-            self.left.push(cell)?;
-            left = left.saturating_sub(cell.takes());
-        }
-        Ok(())
-    }
-
     /// So many columns to the right.
     fn forward(&mut self, limit: usize, count: usize) -> Result<(), AllocError>
         ensures { OnOk result (self.new ≡ forward limit count self.old) }
     {
         let missing = count.saturating_sub(self.right.columns());
-        self.pass(count)?;
+        self.right.give_over(&mut self.left, count)?;
         let some = missing.min(self.room(limit));
         self.left.push_empty(some)
     }
@@ -133,13 +102,9 @@ impl Line {
     fn behind_columns(&mut self, limit: usize, count: usize) -> Result<(), AllocError>
         ensures { OnOk result (self.new ≡ behind_columns limit count self.old) }
     {
-        // Marks stay in front of the first column.
-        if count == 0 && self.left.begins_with_column() {
-            move_all(&mut self.left, &mut self.right)?;
-            return self.forward(limit, 0);
-        }
         let column = self.left.columns();
-        self.back(column.saturating_sub(count))?;
+        self.left
+            .give_back(&mut self.right, column.saturating_sub(count))?;
         self.forward(limit, count.saturating_sub(column))
     }
 
@@ -166,6 +131,72 @@ impl Line {
             Some(count) => self.behind_columns(limit, count),
             None => Ok(()),
         }
+    }
+
+    /// Whether it is longer than a terminal's row, with the cursor where it stands or is to go.
+    fn is_long(&self, limit: usize, to: Option<usize>) -> bool
+        ensures { result ≡ nat_lt widest (size (settled limit to self.now)) }
+    {
+        let len = self.left.len().saturating_add(self.right.len());
+        let Some(count) = to else {
+            return (WIDEST as usize) < len;
+        };
+        let missing = count.saturating_sub(self.left.columns());
+        let missing = missing.saturating_sub(self.right.columns());
+        (WIDEST as usize) < len.saturating_add(missing.min(self.room(limit)))
+    }
+
+    /// Whether something stands right of the cursor where it stands or is to go.
+    pub(crate) fn has_right(&self, to: Option<usize>) -> bool
+        ensures { (limit : ℕ) → result ≡ nat_lt 0 (length (settled limit to self.now).right) }
+    {
+        match to {
+            Some(count) => {
+                let right = self.right.columns();
+                count < right || count - right < self.left.columns()
+            }
+            None => self.right.len() > 0,
+        }
+    }
+
+    /// Whether the step alters what stands in the line, done where the cursor stands or is to go.
+    fn alters(&self, to: Option<usize>, step: &Step) -> bool
+        ensures { (limit : ℕ) → result ≡ alters step.now (settled limit to self.now) }
+    {
+        match *step {
+            Step::EraseLeft | Step::EraseAll => true,
+            Step::Put(_)
+            | Step::Repeat(_)
+            | Step::EraseRight
+            | Step::Erase(_)
+            | Step::Delete(_)
+            | Step::Insert(_) => self.has_right(to),
+            _ => false,
+        }
+    }
+
+    /// Goes where the cursor is to go, or to a new line, where the step is done.
+    #[inline(always)]
+    pub(crate) fn enter(
+        &mut self,
+        limit: usize,
+        to: Option<usize>,
+        step: &Step,
+        marking: &Marking,
+        out: &mut Vec<u8>,
+    ) -> Result<(), AllocError>
+        ensures line { OnOk result
+            (self.new ≡ (entered limit step.now (settled limit to self.old)).line) }
+        ensures text { OnOk result (out.new.items ≡ out.old.items
+            ++ texts_of marking.now (entered limit step.now (settled limit to self.old)).lines) }
+    {
+        if self.alters(to, step) && self.is_long(limit, to) {
+            let column = self.column(limit, to).min(WIDEST as usize - 1);
+            self.end_some(marking, out)?;
+            self.forward(limit, column)?;
+            return Ok(());
+        }
+        self.settle(limit, to)
     }
 
     /// Empties the columns of a character in which the cursor stands.
@@ -262,7 +293,7 @@ impl Line {
             (out.new.items ≡ out.old.items ++ text_of marking.now (cells_of self.old)) }
         ensures none { OnOk result (self.new ≡ blank) }
     {
-        move_all(&mut self.right, &mut self.left)?;
+        self.right.give_all(&mut self.left)?;
         self.left.trim();
         append_cells(self.left.from_farthest(), marking, out)?;
         self.left.clear();
@@ -303,7 +334,7 @@ impl Line {
             (out.new.items ≡ out.old.items ++ texts_of marking.now (lines_of self.old)) }
         ensures none { OnOk result (self.new ≡ blank) }
     {
-        move_all(&mut self.right, &mut self.left)?;
+        self.right.give_all(&mut self.left)?;
         self.left.trim();
         if self.left.shows_nothing() {
             self.left.clear();
@@ -371,9 +402,9 @@ impl Line {
         marking: &Marking,
         out: &mut Vec<u8>,
     ) -> Result<(), AllocError>
-        ensures line { OnOk result (self.new ≡ (does limit pen.now Tab self.old).line) }
+        ensures line { OnOk result (self.new ≡ (does_here limit pen.now Tab self.old).line) }
         ensures text { OnOk result
-            (out.new.items ≡ out.old.items ++ texts_of marking.now (does limit pen.now Tab self.old).lines) }
+            (out.new.items ≡ out.old.items ++ texts_of marking.now (does_here limit pen.now Tab self.old).lines) }
     {
         if self.right.len() == 0 {
             return self.put(limit, pen, '\t', marking, out);
@@ -392,9 +423,9 @@ impl Line {
         out: &mut Vec<u8>,
     ) -> Result<(), AllocError>
         requires { IsHere step.now }
-        ensures line { OnOk result (self.new ≡ (does limit pen.now step.now self.old).line) }
+        ensures line { OnOk result (self.new ≡ (does_here limit pen.now step.now self.old).line) }
         ensures text { OnOk result
-            (out.new.items ≡ out.old.items ++ texts_of marking.now (does limit pen.now step.now self.old).lines) }
+            (out.new.items ≡ out.old.items ++ texts_of marking.now (does_here limit pen.now step.now self.old).lines) }
     {
         match *step {
             Step::Put(char) => self.put(limit, pen, char, marking, out),
@@ -470,6 +501,7 @@ impl Line {
         while let Some((byte, behind)) = rest.split_first() {
             let step = plain_step(*byte);
             let column = self.left.columns();
+            self.enter(limit, None, &step, marking, out)?;
             self.act(limit, pen, &step, marking, out)?;
             pen.take(step, column);
             rest = self.put_run(limit, pen, behind)?;

@@ -2,17 +2,20 @@
 ghost use Rattle.std.specs.Prelude.{◌≡◌, ◌++◌, true, OnOk};
 ghost use Rattle.std.specs.List.{AllByRecursion};
 ghost use Rattle.csicodec_overwrite.specs.Cells.{columns};
-ghost use Rattle.csicodec_overwrite.specs.Line.{back, behind_columns, blank, cells_of, do_all, does, forward, from_stop, in_row, leave, lines_of, pen_behind, pen_behind_all, restored, target, to_stop};
+ghost use Rattle.csicodec_overwrite.specs.Line.{backward, behind_columns, blank, cells_of, do_all, does, forward, from_stop, in_row, leave, lines_of, pen_behind, pen_behind_all, restored, target, to_stop};
 ghost use Rattle.csicodec_overwrite.specs.Paint.{ended, text_of, texts_of};
 ghost use Rattle.csicodec_overwrite.specs.Private.Plain.{IsLineByte};
 ghost use Rattle.csicodec_overwrite.specs.Private.Row.{IsHere};
 ghost use Rattle.csicodec_overwrite.specs.Reading.{most};
 ghost use Rattle.csicodec_overwrite.specs.Steps.{of_chars};
+ghost use Rattle.csicodec_overwrite.specs.declared.step.Step.TheVariants.{Tab};
 
+use crate::ascii::plain_step;
 use crate::line::Line;
 use crate::marking::Marking;
 use crate::pen::{Pen, set_look};
 use crate::step::{Step, WIDEST};
+use crate::width::width;
 use csicodec_spans::LIMIT;
 use std::alloc::{AllocError, Global};
 use std::marker::Model;
@@ -84,15 +87,10 @@ impl Row {
 
     /// So many columns to the left.
     fn back(&mut self, count: usize) -> Result<(), AllocError>
-        ensures { OnOk result (self.new ≡ back count self.old.left self.old.right) }
+        ensures { OnOk result (self.new ≡ backward most count self.old) }
     {
-        let column = self.column();
-        if 0 < count && count <= column {
-            return self.go(column - count);
-        }
-        self.line.settle(LIMIT, self.to)?;
-        self.to = None;
-        self.line.back(count)
+        let column = self.column().saturating_sub(count);
+        self.go(column)
     }
 
     /// So many tab stops to the right.
@@ -106,7 +104,7 @@ impl Row {
     /// So many tab stops to the left.
     fn tabs_back(&mut self, count: u32) -> Result<(), AllocError>
         ensures { OnOk result
-            (self.new ≡ back (from_stop count (columns self.old.left)) self.old.left self.old.right) }
+            (self.new ≡ backward most (from_stop count (columns self.old.left)) self.old) }
     {
         let column = self.column();
         let stops = (8 * (count as usize)).saturating_sub(7);
@@ -216,9 +214,21 @@ impl Row {
         ensures text { OnOk result
             (out.new.items ≡ out.old.items ++ texts_of marking.now (does most pen.now step.now self.old).lines) }
     {
-        self.line.settle(LIMIT, self.to)?;
+        self.line.enter(LIMIT, self.to, step, marking, out)?;
         self.to = None;
         self.line.act(LIMIT, pen, step, marking, out)
+    }
+
+    /// On to the next tab stop.
+    fn tab(&mut self, pen: &Pen, marking: &Marking, out: &mut Vec<u8>) -> Result<(), AllocError>
+        ensures line { OnOk result (self.new ≡ (does most pen.now Tab self.old).line) }
+        ensures text { OnOk result
+            (out.new.items ≡ out.old.items ++ texts_of marking.now (does most pen.now Tab self.old).lines) }
+    {
+        if self.line.has_right(self.to) {
+            return self.forward(width('\t', self.column()));
+        }
+        self.act_here(pen, &Step::Tab, marking, out)
     }
 
     /// Does a step where characters are put so, and appends the lines that are over with it.
@@ -243,6 +253,8 @@ impl Row {
             Step::Row(row, to) if pen.is_in(row) => self.in_row(to),
             Step::Row(_, to) | Step::Leave(to) => self.leave(to, marking, out),
             Step::NewLine => self.end(marking, out),
+            Step::Tab => self.tab(pen, marking, out),
+            Step::Save | Step::Inserts(_) | Step::Reset => Ok(()),
             _ => self.act_here(pen, step, marking, out),
         }
     }
@@ -315,10 +327,11 @@ impl Row {
         ensures text { OnOk result (out.new.items ≡ out.old.items
             ++ texts_of marking.now (do_all most pen.old (of_chars text.now) self.old).lines) }
     {
-        if text.is_empty() {
+        let Some(first) = text.first() else {
             return Ok(());
-        }
-        self.line.settle(LIMIT, self.to)?;
+        };
+        self.line
+            .enter(LIMIT, self.to, &plain_step(*first), marking, out)?;
         self.to = None;
         self.line.put_text(LIMIT, pen, text, marking, out)
     }

@@ -1,6 +1,6 @@
 //! What is erased on one side of the cursor.
-ghost use Rattle.std.specs.Prelude.{◌≡◌, [], OnOk};
-ghost use Rattle.csicodec_overwrite.specs.Cells.{emptied, erased, gone, onto, outside, without};
+ghost use Rattle.std.specs.Prelude.{◌≡◌, OnOk};
+ghost use Rattle.csicodec_overwrite.specs.Cells.{emptied, erased, gone, outside, without};
 
 use crate::cells::{Cell, Side};
 use std::alloc::AllocError;
@@ -39,12 +39,4 @@ pub(crate) fn erase_columns(side: &mut Side, count: usize) -> Result<(), AllocEr
     let some = count.min(side.columns());
     delete_columns(side, count)?;
     side.push_empty(some)
-}
-
-/// Moves all cells of one side to the other.
-pub(crate) fn move_all(from: &mut Side, to: &mut Side) -> Result<(), AllocError>
-    ensures cells { OnOk result (to.new ≡ onto from.old to.old) }
-    ensures none { OnOk result (from.new ≡ []) }
-{
-    to.push_side(from)
 }

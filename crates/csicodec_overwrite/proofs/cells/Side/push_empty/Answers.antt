@@ -1,8 +1,7 @@
 use Rattle.std.proofs.Common.{◌≡◌, ◌≤◌, ◌+◌, ◌++◌, ◌∙◌, ℕ, List, ap, length, replicate, sym, arith}
 use Rattle.csicodec_overwrite.specs.declared.cells.Cell.{Cell}
 use Rattle.csicodec_overwrite.specs.declared.cells.Cell.TheVariants.{Empty}
-use Rattle.csicodec_overwrite.proofs.Moved.{bare_more, columns_more, longer, reverse_more}
-use Rattle.csicodec_overwrite.proofs.Shifted.{settled_more}
+use Rattle.csicodec_overwrite.proofs.Moved.{columns_more, reverse_more}
 use Rattle.csicodec_overwrite.proofs.cells.Side.push_empty.Goals as goal
 
 pub invariant_of-self-2 : goal.invariant_of-self-2
@@ -12,11 +11,8 @@ invariant_of-self-2 c =
     let items = c.self.inside.cells.items in
     let new = c.resize.new.self.items in
     let few : length items ≤ m = grind arith in
-    let wide : c.in-Some-checked_add.width ≡ c.self.inside.width + n = grind arith in (
-      wide ∙ ap (λ (w : ℕ). w + n) c.self.invariant.0 ∙ sym (columns_more n m _ items new c.in_ok-resize.ensures.items few (grind arith)),
-      bare_more n m _ items new c.in_ok-resize.ensures.items few (grind arith) c.self.inside.bare c.self.invariant.1,
-      rw (longer n m _ items new c.in_ok-resize.ensures.items few (grind arith)) (settled_more c.self.inside.settled items (replicate n Empty) c.self.invariant.2),
-    )
+    let wide : c.in-Some-checked_add.width ≡ c.self.inside.width + n = grind arith in
+    wide ∙ ap (λ (w : ℕ). w + n) c.self.invariant ∙ sym (columns_more n m _ items new c.in_ok-resize.ensures.items few (grind arith))
 
 pub returns : goal.returns
 returns c =

@@ -2,8 +2,7 @@ use Rattle.std.proofs.Common.{◌≡◌, ◌++◌, ◌∙◌, List, ap, reverse,
 use Rattle.csicodec_overwrite.specs.declared.cells.Cell.{Cell}
 use Rattle.csicodec_overwrite.specs.Cells.{columns, onto}
 use Rattle.csicodec_overwrite.specs.Private.Plain.{glyphs}
-use Rattle.csicodec_overwrite.proofs.Moved.{columns_glyphs, side_bare, side_columns, side_more}
-use Rattle.csicodec_overwrite.proofs.Shifted.{settled_more}
+use Rattle.csicodec_overwrite.proofs.Moved.{columns_glyphs, side_columns, side_more}
 use Rattle.csicodec_overwrite.proofs.cells.Side.push_run.Goals as goal
 
 pub invariant_of-self-2 : goal.invariant_of-self-2
@@ -12,7 +11,7 @@ invariant_of-self-2 c =
     let more = glyphs c.args.look c.args.run.now in
     let new = c.append_glyphs.new.cells.items in
     let e : new ≡ items ++ more = c.append_glyphs.ensures ∙ ap (λ (t : List Cell). t ++ more) c.in_ok-reserve.ensures.items in
-    (omega (arith, c.self.invariant.0, columns_glyphs c.args.look c.args.run.now, side_columns items more new e), side_bare items more new e c.self.inside.bare c.self.invariant.1, rw e (settled_more c.self.inside.settled items more c.self.invariant.2))
+    omega (arith, c.self.invariant, columns_glyphs c.args.look c.args.run.now, side_columns items more new e)
 
 pub returns : goal.returns
 returns c =

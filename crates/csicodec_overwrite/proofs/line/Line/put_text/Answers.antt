@@ -1,9 +1,10 @@
 use Rattle.std.proofs.Common.{◌≡◌, ◌++◌, ◌∷◌, ap, sym, ◌∙◌}
+use Rattle.csicodec_overwrite.specs.declared.line.Line.{Line}
 use Rattle.csicodec_overwrite.specs.Cells.{columns}
-use Rattle.csicodec_overwrite.specs.Line.{Done, do_all, does, pen_behind}
+use Rattle.csicodec_overwrite.specs.Line.{Done, do_all, does, does_here, entered, pen_behind}
 use Rattle.csicodec_overwrite.specs.Paint.{texts_of}
 use Rattle.csicodec_overwrite.specs.Steps.{of_chars}
-use Rattle.csicodec_overwrite.proofs.Moved.{step_text}
+use Rattle.csicodec_overwrite.proofs.Moved.{both_texts, step_text}
 use Rattle.csicodec_overwrite.proofs.line.Line.put_text.Goals as goal
 
 pub loop-byte-init : goal.loop-byte-init
@@ -24,15 +25,21 @@ loop-byte-preserved c =
     let steps = of_chars c.in-Some.behind.now in
     let d = does limit l.pen step l.self in
     let later = do_all limit (pen_behind l.pen step (columns l.self.left)) steps d.line in
+    let entry = c.in_ok-enter.ensures in
     let e = c.in_ok-act.ensures in
+    let is : c.act.new.self ≡ d.line = e.line ∙ ap (λ (m : Line). (does_here limit l.pen step m).line) entry.line in
+    let ends = entered limit step l.self in
+    let told : c.act.new.out.items ≡ l.out.items ++ texts_of c.args.marking.now d.lines =
+    both_texts c.args.marking.now l.out.items c.enter.new.out.items c.act.new.out.items ends.lines (does_here limit l.pen step ends.line).lines entry.text
+    (e.text ∙ ap (λ (m : Line). c.enter.new.out.items ++ texts_of c.args.marking.now (does_here limit l.pen step m).lines) entry.line) in
     let pen = c.take.ensures ∙ ap (pen_behind l.pen step) c.columns-column.ensures in
     let run = c.in_ok-rest-2.ensures in
     let all = rw c.in-Some.ensures.cases.0 at l.invariant.plain in
     let split : of_chars l.rest.now ≡ step ∷ steps = ap of_chars c.in-Some.ensures.cases.0 ∙ ap (λ xs. xs ++ steps) (c.plain_step-step.ensures.step all.0) in
     record {
       plain = run.plain;
-      line = ap (λ (x : Done). x.line) (sym run.same) ∙ rw (e.line, pen) (rw split at l.invariant.line);
-      pen = sym run.pens ∙ rw (e.line, pen) (rw split at l.invariant.pen);
+      line = ap (λ (x : Done). x.line) (sym run.same) ∙ rw (is, pen) (rw split at l.invariant.line);
+      pen = sym run.pens ∙ rw (is, pen) (rw split at l.invariant.pen);
       text = ap (λ (x : Done). c.act.new.out.items ++ texts_of c.args.marking.now x.lines) (sym run.same)
-          ∙ rw (e.line, pen) (step_text c.args.marking.now l.out.items c.act.new.out.items d.lines later.lines _ e.text (rw split at l.invariant.text));
+          ∙ rw (is, pen) (step_text c.args.marking.now l.out.items c.act.new.out.items d.lines later.lines _ told (rw split at l.invariant.text));
     }

@@ -1,0 +1,27 @@
+-- Cells that go from one side of the cursor to the other. No promise rests on this file.
+use Rattle.std.specs.Prelude.{ℕ, ◌≡◌, min, List, ◌++◌, length, reverse}
+use Rattle.csicodec_overwrite.specs.declared.cells.Cell.{Cell}
+use Rattle.csicodec_overwrite.specs.Cells.{columns}
+use Rattle.csicodec_overwrite.specs.Line.{line, over}
+use Rattle.csicodec_overwrite.specs.Private.Row.{back}
+
+-- of the cells left of the cursor, the farthest first, so many stay where it goes so many columns to the left
+abbrev pub PassesBack : List Cell → ℕ → ℕ → Type 0
+PassesBack cells count kept = (far : List Cell) × (near : List Cell) × (cells ≡ far ++ near) × (length far ≡ kept)
+    × (columns near ≡ min count (columns cells))
+    × ((right : List Cell) → back count (reverse cells) right ≡ line (reverse far) (near ++ right))
+
+-- and of those right of it, where it goes to the right
+abbrev pub PassesOver : List Cell → ℕ → ℕ → Type 0
+PassesOver cells count kept = (far : List Cell) × (near : List Cell) × (cells ≡ far ++ near) × (length far ≡ kept)
+    × (columns near ≡ min count (columns cells))
+    × ((left : List Cell) → over count left (reverse cells) ≡ line (near ++ left) (reverse far))
+
+-- a side has so many cells, and in front of them others of so many columns
+abbrev pub IsKept : List Cell → ℕ → ℕ → Type 0
+IsKept side kept taken = (far : List Cell) × (near : List Cell) × (side ≡ reverse (far ++ near)) × (length far ≡ kept) × (columns near ≡ taken)
+
+-- it keeps so many, and the others stand nearest on another side
+abbrev pub Gives : List Cell → List Cell → ℕ → List Cell → List Cell → Type 0
+Gives old to kept new more = (far : List Cell) → (near : List Cell) → old ≡ reverse (far ++ near) → length far ≡ kept
+    → (new ≡ reverse far) × (more ≡ near ++ to)

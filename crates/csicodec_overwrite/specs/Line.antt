@@ -243,9 +243,13 @@ alters (step.Delete n) l = nat_lt 0 (length l.right)
 alters (step.Insert n) l = nat_lt 0 (length l.right)
 alters s l = false
 
--- in a line that is longer than a terminal's row the cursor isn't in the row of all that stands there
+-- the rows of terminals have no more cells, marks among them
+abbrev pub longest_row : ℕ
+longest_row = 512
+
+-- in a line that is longer than a row, the cursor isn't in the row of all that stands there
 abbrev pub leaves_long : Step → Line → Bool
-leaves_long s l = alters s l && nat_lt widest (size l)
+leaves_long s l = alters s l && nat_lt longest_row (size l)
 
 -- so a step that alters such a line is done in a new one
 abbrev pub entered : ℕ → Step → Line → Done

@@ -13,4 +13,4 @@ returns c =
     let n = c.in-Some.count in
     let len : c.saturating_add-len.result ≡ min (length l.left + length l.right) 18446744073709551615 = search rules in
     let some : c.min.result ≡ min (n - columns l.left - columns l.right) (limit - size l) = search rules in
-    long_same _ _ (omega (arith, c.saturating_add.ensures, len, some, settled_size limit n l)) ∙ ap (λ to. nat_lt 1024 (size (settled limit to l))) (sym c.in-Some.is)
+    long_same _ _ (omega (arith, c.saturating_add.ensures, len, some, settled_size limit n l)) ∙ ap (λ to. nat_lt 512 (size (settled limit to l))) (sym c.in-Some.is)

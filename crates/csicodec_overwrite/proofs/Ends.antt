@@ -1,5 +1,5 @@
 -- The end of a line, behind a return or none.
-use Rattle.std.proofs.Common.{◌≡◌, ◌∙◌, ℕ, Bool, true, false, List, [], ◌∷◌, ◌++◌, refl, sym, ap, append-nil}
+use Rattle.std.proofs.Common.{◌≡◌, ◌∙◌, Bool, true, false, List, [], sym, ap, append-nil}
 use Rattle.csicodec_overwrite.specs.declared.cells.Cell.{Cell}
 use Rattle.csicodec_overwrite.specs.Cells.{onto}
 use Rattle.csicodec_overwrite.specs.Line.{at_column, blank, cells_of}

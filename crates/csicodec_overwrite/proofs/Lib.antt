@@ -16,6 +16,7 @@ pub mod Same
 pub mod Paged
 pub mod Room
 pub mod Rows
+pub mod Repeated
 pub mod Lost
 pub mod Came
 pub mod Straight

@@ -2,7 +2,7 @@
 use Rattle.std.proofs.Common.{◌≡◌, ℕ, zero, suc, ◌-◌, ◌+◌, ◌<◌, ◌≤◌, Bool, true, false, cond, ◌==◌, nat_le, nat_lt, List, [], ◌∷◌, ◌++◌, length}
 use Rattle.std.proofs.Common.{drop, get_or, replicate, reverse, take, take-append-drop, refl, sym, ap, ◌∙◌, arith, append_assoc, append-nil}
 use Rattle.std.proofs.lemmas.Bool.Decides.{nat_tests}
-use Rattle.std.proofs.lemmas.List.{length-drop, length-replicate, replicate-append-replicate, drop_at, reverse-append, reverse-reverse, take_all, take_at}
+use Rattle.std.proofs.lemmas.List.{length-drop, replicate-append-replicate, drop_at, reverse-append, reverse-reverse, take_all, take_at}
 use Rattle.csicodec_html.specs.declared.look.Look.{Look}
 use Rattle.csicodec_overwrite.specs.declared.cells.Cell.{Cell}
 use Rattle.csicodec_overwrite.specs.declared.cells.Cell.TheVariants.{Behind, Char, Empty, Mark}
@@ -129,27 +129,30 @@ pub columns_both : (xs ys : List Cell) → columns (xs ++ ys) ≡ columns xs + c
 columns_both [] ys = omega arith
 columns_both (x ∷ xs) ys = omega (arith, columns_both xs ys)
 
-pub columns_empty : (n : ℕ) → columns (replicate n Empty) ≡ n
-columns_empty zero = refl
-columns_empty (suc n) = omega (arith, columns_empty n)
+pub columns_same : (x : Cell) → takes x ≡ 1 → (n : ℕ) → columns (replicate n x) ≡ n
+columns_same x one zero = refl
+columns_same x one (suc n) = omega (arith, one, columns_same x one n)
 
-pub reverse_empty : (n : ℕ) → reverse (replicate n Empty) ≡ replicate n Empty
-reverse_empty zero = refl
-reverse_empty (suc n) =
+pub columns_empty : (n : ℕ) → columns (replicate n Empty) ≡ n
+columns_empty n = columns_same Empty refl n
+
+reverse_same : (x : Cell) (n : ℕ) → reverse (replicate n x) ≡ replicate n x
+reverse_same x zero = refl
+reverse_same x (suc n) =
     let one : 1 + n ≡ suc n = omega arith in
     let more : n + 1 ≡ suc n = omega arith in
-    reverse-append (Empty ∷ []) (replicate n Empty) ∙ ap (λ (t : List Cell). t ++ Empty ∷ []) (reverse_empty n) ∙ replicate-append-replicate n 1 Empty ∙ ap (λ (m : ℕ). replicate m Empty) more
+    reverse-append (x ∷ []) (replicate n x) ∙ ap (λ (t : List Cell). t ++ x ∷ []) (reverse_same x n) ∙ replicate-append-replicate n 1 x ∙ ap (λ (m : ℕ). replicate m x) more
 
--- so many empty ones behind others
-module _ (n m k : ℕ) (cells new : List Cell) (e : new ≡ take m cells ++ replicate k Empty) (few : length cells ≤ m) (some : k ≡ n) where
-  pub longer : new ≡ cells ++ replicate n Empty
-  longer = e ∙ ap (λ (t : List Cell). t ++ replicate k Empty) (take_all m cells few) ∙ ap (λ (j : ℕ). cells ++ replicate j Empty) some
+-- so many of one kind behind others
+module _ (x : Cell) (n m k : ℕ) (cells new : List Cell) (e : new ≡ take m cells ++ replicate k x) (few : length cells ≤ m) (some : k ≡ n) where
+  longer : new ≡ cells ++ replicate n x
+  longer = e ∙ ap (λ (t : List Cell). t ++ replicate k x) (take_all m cells few) ∙ ap (λ (j : ℕ). cells ++ replicate j x) some
 
-  pub reverse_more : reverse new ≡ replicate n Empty ++ reverse cells
-  reverse_more = ap reverse longer ∙ reverse-append cells (replicate n Empty) ∙ ap (λ (t : List Cell). t ++ reverse cells) (reverse_empty n)
+  pub reverse_more : reverse new ≡ replicate n x ++ reverse cells
+  reverse_more = ap reverse longer ∙ reverse-append cells (replicate n x) ∙ ap (λ (t : List Cell). t ++ reverse cells) (reverse_same x n)
 
-  pub columns_more : columns (reverse new) ≡ columns (reverse cells) + n
-  columns_more = ap columns reverse_more ∙ columns_both (replicate n Empty) (reverse cells) ∙ omega (arith, columns_empty n)
+  pub columns_more : takes x ≡ 1 → columns (reverse new) ≡ columns (reverse cells) + n
+  columns_more one = ap columns reverse_more ∙ columns_both (replicate n x) (reverse cells) ∙ omega (arith, columns_same x one n)
 
 -- cells behind others, of which the last comes to stand nearest
 module _ (items more new : List Cell) (e : new ≡ items ++ more) where

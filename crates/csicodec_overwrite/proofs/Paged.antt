@@ -5,7 +5,6 @@ use Rattle.std.specs.Prelude.{filter}
 use Rattle.std.specs.List.{AllByRecursion, flat_map}
 use Rattle.std.specs.Str.{all_scalars}
 use Rattle.std.proofs.lemmas.Grind.{flat_map-append}
-use Rattle.bstr.specs.Utf8.{lossy_chars}
 use Rattle.bstr.proofs.lemmas.EncodeLemmas.{lossy_chars-encode}
 use Rattle.csicodec_base.specs.declared.sgr.Sgr.TheVariants as sgr
 use Rattle.csicodec_actions.specs.Actions as action
@@ -25,7 +24,6 @@ use Rattle.csicodec_html.specs.Page.{piece_text as mark_text}
 use Rattle.csicodec_html.specs.Page as html
 use Rattle.csicodec_overwrite.specs.declared.cells.Cell.{Cell}
 use Rattle.csicodec_overwrite.specs.declared.marking.Marking.TheVariants.{Page, Styled}
-use Rattle.csicodec_overwrite.specs.declared.step.Step.{Step}
 use Rattle.csicodec_overwrite.specs.Cells.{chars_of}
 use Rattle.csicodec_overwrite.specs.Line.{Done, blank, cells_of, do_all, fresh}
 use Rattle.csicodec_overwrite.specs.Paint.{attributes, ended, look_of, paint, same, texts_of, turn}

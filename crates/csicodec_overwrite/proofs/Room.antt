@@ -98,6 +98,15 @@ over_size n left (x ∷ right) =
     always (λ (m : Line). size m ≡ length left + suc (length right)) (nat_lt n (takes x)) (line left (x ∷ right))
     (over (n - takes x) (x ∷ left) right) (omega arith) (omega (arith, over_size (n - takes x) (x ∷ left) right))
 
+pub placed_size : (inserts : Bool) (g : Glyph) (n : ℕ) (l : Line) → size (placed inserts g n l) ≤ size l + max n 1
+placed_size inserts g n l =
+    let p = parted l in
+    let less = parted_less l in
+    let right = cond inserts (shifted false p.right) (gone n p.right) in
+    let few = always (λ (xs : List Cell). length xs ≤ length p.right) inserts (shifted false p.right) (gone n p.right) (omega (arith, length_shifted false p.right)) (omega (arith, gone_less n p.right, without_less n p.right)) in
+    either (λ (m : Line). size m ≤ size l + max n 1) (n == 0) (line (Mark g.char ∷ l.left) l.right) (line (replicate (n - 1) Behind ++ (Char g ∷ p.left)) right) (λ e. omega arith)
+    (λ e. omega (arith, some_left n e, joined (n - 1) Behind (Char g ∷ p.left), less, few))
+
 module _ (limit : ℕ) (enough : 8 ≤ limit) where
   padded_size : (n : ℕ) (l : Line) → size l ≤ limit → size (padded limit n l) ≤ limit
   padded_size n l h = omega (arith, joined (min n (limit - size l)) Empty l.left)
@@ -107,15 +116,6 @@ module _ (limit : ℕ) (enough : 8 ≤ limit) where
       let same = over_size n l.left l.right in
       let few : size (over n l.left l.right) ≤ limit = omega (arith, same, h) in
       padded_size (n - columns l.right) (over n l.left l.right) few
-
-  placed_size : (inserts : Bool) (g : Glyph) (n : ℕ) (l : Line) → size (placed inserts g n l) ≤ size l + max n 1
-  placed_size inserts g n l =
-      let p = parted l in
-      let less = parted_less l in
-      let right = cond inserts (shifted false p.right) (gone n p.right) in
-      let few = always (λ (xs : List Cell). length xs ≤ length p.right) inserts (shifted false p.right) (gone n p.right) (omega (arith, length_shifted false p.right)) (omega (arith, gone_less n p.right, without_less n p.right)) in
-      either (λ (m : Line). size m ≤ size l + max n 1) (n == 0) (line (Mark g.char ∷ l.left) l.right) (line (replicate (n - 1) Behind ++ (Char g ∷ p.left)) right) (λ e. omega arith)
-      (λ e. omega (arith, some_left n e, joined (n - 1) Behind (Char g ∷ p.left), less, few))
 
   first_width : (c : ℕ) → width c 0 ≤ 8
   first_width c = always (λ (w : ℕ). w ≤ 8) (c == 9) (to_tab_stop 0) (narrowed (unwrap_or (char_width false c) 0)) (omega arith) (omega (arith, narrow_few (unwrap_or (char_width false c) 0)))

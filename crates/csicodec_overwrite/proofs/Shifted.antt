@@ -1,5 +1,5 @@
 -- Cells that are shifted, from the nearest on.
-use Rattle.std.proofs.Common.{◌≡◌, ℕ, zero, suc, ◌+◌, ◌<◌, ◌≤◌, Bool, true, false, cond, ◌==◌, List, [], ◌∷◌, ◌++◌, length}
+use Rattle.std.proofs.Common.{◌≡◌, ℕ, ◌+◌, ◌<◌, ◌≤◌, Bool, true, false, cond, ◌==◌, List, [], ◌∷◌, ◌++◌, length}
 use Rattle.std.proofs.Common.{drop, get_or, reverse, set, take, refl, sym, ap, ◌∙◌, arith, append_assoc, append-nil}
 use Rattle.std.proofs.lemmas.Grind.{drop-set_at}
 use Rattle.std.proofs.lemmas.List.{length-set, reverse-append, set-get_or, take-set-le, take-take, take_all, take_more}
@@ -12,6 +12,25 @@ stays Empty = refl
 stays (Char g) = refl
 stays Behind = refl
 stays (Mark c) = refl
+
+no_more : (t : Bool) (x : Cell) → of_tab false (untabbed (of_tab t x) x) ≡ false
+no_more t Empty = refl
+no_more t (Char g) = by (g.char == 9) refl
+  where
+    by : (u : Bool) → (g.char == 9) ≡ u → of_tab false (cond u Empty (Char g)) ≡ false
+    by true e = refl
+    by false e = e
+no_more true Behind = refl
+no_more false Behind = refl
+no_more t (Mark c) = refl
+
+-- those that were shifted stay
+pub shifted_stays : (t : Bool) (xs : List Cell) → shifted false (shifted t xs) ≡ shifted t xs
+shifted_stays t [] = refl
+shifted_stays t (x ∷ xs) =
+    let y = untabbed (of_tab t x) x in
+    let ys = shifted (of_tab t x) xs in
+    ap (λ (u : Bool). untabbed u y ∷ shifted u ys) (no_more t x) ∙ ap (λ (z : Cell). z ∷ shifted false ys) (stays y) ∙ ap (λ (zs : List Cell). y ∷ zs) (shifted_stays (of_tab t x) xs)
 
 -- ---- the loop
 

@@ -1,46 +1,36 @@
 -- The sequence of a look is one control sequence, and is read as a reset and its attributes.
-use Rattle.std.proofs.Common.{◌≡◌, ◌≤◌, ◌<◌, ◌+◌, ◌*◌, ◌-◌, ◌^◌, ◌⊎◌, ℕ, suc, Bool, true, false, cond, List, [], ◌∷◌, ◌++◌, length}
-use Rattle.std.proofs.Common.{length-append, take, drop, map, inl, inr, ⊎_elim, refl, sym, ap, subst, ◌∙◌, append_assoc, append-nil, arith, rules}
-use Rattle.std.specs.Prelude.{◌==◌, codes, nat_lt, not, slice_get}
-use Rattle.std.specs.Fmt.{decimal}
+use Rattle.std.proofs.Common.{◌≡◌, ◌≤◌, ◌<◌, ◌+◌, ◌*◌, ◌-◌, ℕ, Bool, true, false, List, [], ◌∷◌, ◌++◌, length}
+use Rattle.std.proofs.Common.{length-append, take, drop, map, ⊎_elim, refl, sym, ap, subst, ◌∙◌, append_assoc, append-nil, arith}
+use Rattle.std.specs.Prelude.{codes, not}
 use Rattle.std.specs.List.{AllByRecursion, flat_map}
 use Rattle.std.proofs.Math.Seq.{take-append_seam}
-use Rattle.std.proofs.lemmas.Bool.{cases_Bool, eqb-true}
-use Rattle.std.proofs.lemmas.Fmt.{digits_decimal, decimal_nonempty}
 use Rattle.std.proofs.lemmas.List.{map-append}
-use Rattle.std.proofs.lemmas.Str.Parse.{IsNumeralModel, numerals_by_fold}
 use Rattle.csicodec_tokens.specs.declared.param.CsiParam.{CsiParam}
 use Rattle.csicodec_tokens.specs.declared.param.CsiParam.TheVariants.{Integer, P}
-use Rattle.csicodec_tokens.specs.Digits.{AreDigits, IsDigit, value, value_after}
+use Rattle.csicodec_tokens.specs.Digits.{IsDigit}
 use Rattle.csicodec_tokens.specs.Param.{spells}
-use Rattle.csicodec_tokens.specs.Sequence.{Apart, IsSpellable, Seq, Spellable, Spells}
-use Rattle.csicodec_tokens.proofs.Decimal.{length-decimal_u16}
+use Rattle.csicodec_tokens.specs.Sequence.{Apart, Seq, Spellable, Spells}
 use Rattle.csicodec_tokens.proofs.Printed.{printed}
 use Rattle.csicodec_names.specs.declared.color.ColorSpec.{ColorSpec}
-use Rattle.csicodec_names.specs.declared.color.ColorSpec.TheVariants as color
 use Rattle.csicodec_names.specs.declared.color.Intensity.{Intensity}
-use Rattle.csicodec_names.specs.declared.color.Intensity.TheVariants as intensity
-use Rattle.csicodec_names.specs.declared.color.SrgbaTuple.{SrgbaTuple}
 use Rattle.csicodec_names.specs.declared.color.Underline.{Underline}
-use Rattle.csicodec_names.specs.declared.color.Underline.TheVariants as underline
 use Rattle.csicodec_base.specs.declared.sgr.Sgr.{Sgr}
 use Rattle.csicodec_base.specs.declared.sgr.Sgr.TheVariants as sgr
-use Rattle.csicodec_base.specs.SgrText.{palette_text, sgr_text, true_color_text}
+use Rattle.csicodec_base.specs.SgrText.{sgr_text}
 use Rattle.csicodec_actions.specs.Actions as action
 use Rattle.csicodec_actions.specs.Ranges.{ColorInRange, SgrInRange}
 use Rattle.csicodec_parser.specs.Canonical.{IsCanonicalSgr}
 use Rattle.csicodec_parser.specs.Cut.{semicolon}
-use Rattle.csicodec_parser.specs.Groups.{group, has_odd, is_byte, is_odd}
+use Rattle.csicodec_parser.specs.Groups.{group, has_odd, is_odd}
 use Rattle.csicodec_parser.specs.Segments.{Actions}
-use Rattle.csicodec_parser.specs.declared.group.Group.{Group}
 use Rattle.csicodec_parser.specs.declared.group.Group.TheVariants.{Styles}
 use Rattle.csicodec_parser.proofs.GroupOf.{or-parts}
 use Rattle.csicodec.specs.Compose.{EndsInSemicolon, IsStyleList}
 use Rattle.csicodec.proofs.Compose.{sgr_compose_lem}
 use Rattle.csicodec.proofs.SgrSpelling.{sgr-spelling}
-use Rattle.csicodec_terminal.specs.Terminal.{IsTakenFor, has_unknown, is_open}
+use Rattle.csicodec_terminal.specs.Terminal.{IsTakenFor, has_unknown}
 use Rattle.csicodec_clean.specs.Styled.{IsOf, hides}
-use Rattle.csicodec_clean.proofs.Coded.{AreCodes, IsCode, coded, codes_parts, none_open, same_ends, unended}
+use Rattle.csicodec_clean.proofs.Coded.{AreCodes, coded, codes_parts, none_open, same_ends, unended}
 use Rattle.csicodec_clean.proofs.Taken.{semicolon-spellable}
 use Rattle.csicodec_html.specs.declared.look.Look.{Look}
 use Rattle.csicodec_html.specs.Look.{is_default, is_none, is_normal}

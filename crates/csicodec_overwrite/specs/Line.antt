@@ -243,7 +243,7 @@ alters (step.Delete n) l = nat_lt 0 (length l.right)
 alters (step.Insert n) l = nat_lt 0 (length l.right)
 alters s l = false
 
--- the rows of terminals have no more cells, marks among them
+-- the rows of terminals that people use have no more cells, marks among them
 abbrev pub longest_row : ℕ
 longest_row = 512
 

@@ -5,7 +5,7 @@ ghost use Rattle.csicodec_overwrite.specs.Cells.{begins_behind, belongs, columns
 ghost use Rattle.csicodec_overwrite.specs.Line.{line, over};
 ghost use Rattle.csicodec_overwrite.specs.Private.Plain.{glyphs};
 ghost use Rattle.csicodec_overwrite.specs.Private.Row.{back};
-ghost use Rattle.csicodec_overwrite.specs.Private.Sides.{Gives, IsKept, PassesBack, PassesOver};
+ghost use Rattle.csicodec_overwrite.specs.Private.Sides.{Gives, IsKept, PassesBack, PassesOver, put_many};
 ghost use Rattle.csicodec_overwrite.specs.declared.cells.Cell.TheVariants.{Empty};
 
 use csicodec_html::Look;
@@ -351,19 +351,10 @@ impl Side {
         Ok(())
     }
 
-    /// Puts so many of the same cell nearest.
+    /// Puts so many of the same cell nearest, which is no mark.
     pub(crate) fn push_many(&mut self, cell: Cell, count: usize) -> Result<(), AllocError>
+        requires { takes cell ≡ 1 }
         ensures { OnOk result (self.new ≡ replicate count cell ++ self.old) }
-    {
-        for _i in 0..count {
-            self.push(cell)?;
-        }
-        Ok(())
-    }
-
-    /// Puts so many empty columns nearest.
-    pub(crate) fn push_empty(&mut self, count: usize) -> Result<(), AllocError>
-        ensures { OnOk result (self.new ≡ replicate count Empty ++ self.old) }
     {
         let Some(len) = self.cells.len().checked_add(count) else {
             return Err(AllocError);
@@ -371,8 +362,34 @@ impl Side {
         let Some(width) = self.width.checked_add(count) else {
             return Err(AllocError);
         };
-        self.cells.resize(len, Cell::Empty)?;
+        self.cells.resize(len, cell)?;
         self.width = width;
+        Ok(())
+    }
+
+    /// Puts so many empty columns nearest.
+    pub(crate) fn push_empty(&mut self, count: usize) -> Result<(), AllocError>
+        ensures { OnOk result (self.new ≡ replicate count Empty ++ self.old) }
+    {
+        self.push_many(Cell::Empty, count)
+    }
+
+    /// Puts a character of some columns nearest, so many times.
+    pub(crate) fn push_glyphs(
+        &mut self,
+        glyph: Glyph,
+        columns: usize,
+        count: usize,
+    ) -> Result<(), AllocError>
+        ensures { OnOk result (self.new ≡ put_many glyph columns count self.old) }
+    {
+        if columns == 1 {
+            return self.push_many(Cell::Char(glyph), count);
+        }
+        for _i in 0..count {
+            self.push(Cell::Char(glyph))?;
+            self.push_many(Cell::Behind, columns.saturating_sub(1))?;
+        }
         Ok(())
     }
 

@@ -1,11 +1,12 @@
 //! A line and its cursor.
-ghost use Rattle.std.specs.Prelude.{◌≡◌, ◌-◌, ◌++◌, ◌+◌, [], ℕ, false, length, nat_le, nat_lt, true, IfOk, OnOk};
+ghost use Rattle.std.specs.Prelude.{◌≡◌, ◌<◌, ◌≤◌, ◌*◌, ◌-◌, ◌++◌, ◌+◌, [], ℕ, false, length, nat_le, nat_lt, true, IfOk, OnOk};
 ghost use Rattle.std.specs.List.{AllByRecursion};
 ghost use Rattle.csicodec_overwrite.specs.Cells.{columns, glyph, onto};
 ghost use Rattle.csicodec_overwrite.specs.Line.{alters, behind_columns, blank, cells_of, delete, do_all, does_here, entered, erase, erase_all, erase_left, erase_right, fits, forward, insert, line, lines_of, longest_row, parted, pen_behind_all, placed, put, repeated, size};
 ghost use Rattle.csicodec_overwrite.specs.Paint.{ended, text_of, texts_of};
 ghost use Rattle.csicodec_overwrite.specs.Private.Plain.{IsLineByte, PutsRun};
 ghost use Rattle.csicodec_overwrite.specs.Private.Row.{IsHere, settled};
+ghost use Rattle.csicodec_overwrite.specs.Private.Sides.{placed_many};
 ghost use Rattle.csicodec_overwrite.specs.Steps.{of_chars};
 ghost use Rattle.csicodec_overwrite.specs.declared.step.Step.TheVariants.{Tab};
 
@@ -270,9 +271,21 @@ impl Line {
         if columns == 0 {
             return self.left.push(Cell::Mark(glyph.char));
         }
+        self.place_many(inserts, glyph, columns, 1)
+    }
+
+    /// The same so many times, of a character that has columns.
+    fn place_many(
+        &mut self,
+        inserts: bool,
+        glyph: Glyph,
+        columns: usize,
+        count: usize,
+    ) -> Result<(), AllocError>
+        ensures { OnOk result (self.new ≡ placed_many inserts glyph columns count self.old) }
+    {
         self.part()?;
-        self.left.push(Cell::Char(glyph))?;
-        self.left.push_many(Cell::Behind, columns - 1)?;
+        self.left.push_glyphs(glyph, columns, count)?;
         if self.right.len() == 0 {
             return Ok(());
         }
@@ -280,7 +293,10 @@ impl Line {
             self.right.shift();
             return Ok(());
         }
-        delete_columns(&mut self.right, columns)
+        let Some(all) = count.checked_mul(columns) else {
+            return Err(AllocError);
+        };
+        delete_columns(&mut self.right, all)
     }
 
     /// Takes all that stands there, and appends its text.
@@ -369,6 +385,16 @@ impl Line {
         self.place(pen.inserts, glyph, width(char, 0))
     }
 
+    /// Whether it has room for so many characters of so many columns, one or more.
+    fn has_room(&self, limit: usize, columns: usize, count: usize) -> bool
+        ensures { result ≡ true → (0 < count) × (size self.now + count * columns ≤ limit) }
+    {
+        match count.checked_mul(columns) {
+            Some(all) => 0 < count && 0 < all && all <= self.room(limit),
+            None => false,
+        }
+    }
+
     /// Puts the character again that was put last, so many times, if there is one.
     fn repeat(
         &mut self,
@@ -386,6 +412,15 @@ impl Line {
         let Some(char) = pen.last else {
             return Ok(());
         };
+        let columns = width(char, 0);
+        if char != '\t' && columns > 0 && self.has_room(limit, columns, count as usize) {
+            let glyph = Glyph {
+                char,
+                look: pen.look,
+            };
+            self.place_many(pen.inserts, glyph, columns, count as usize)?;
+            return Ok(());
+        }
         let mut left = count;
         while left > 0 {
             self.put(limit, pen, char, marking, out)?;

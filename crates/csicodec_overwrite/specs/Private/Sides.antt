@@ -1,8 +1,11 @@
 -- Cells that go from one side of the cursor to the other. No promise rests on this file.
-use Rattle.std.specs.Prelude.{ℕ, ◌≡◌, min, List, ◌++◌, length, reverse}
+use Rattle.std.specs.Prelude.{ℕ, zero, suc, ◌≡◌, ◌-◌, ◌*◌, min, Bool, false, List, ◌∷◌, ◌++◌, length, replicate, reverse, if◌then◌else◌}
 use Rattle.csicodec_overwrite.specs.declared.cells.Cell.{Cell}
-use Rattle.csicodec_overwrite.specs.Cells.{columns}
-use Rattle.csicodec_overwrite.specs.Line.{line, over}
+use Rattle.csicodec_overwrite.specs.declared.cells.Cell.TheVariants.{Behind, Char}
+use Rattle.csicodec_overwrite.specs.declared.cells.Glyph.{Glyph}
+use Rattle.csicodec_overwrite.specs.declared.line.Line.{Line}
+use Rattle.csicodec_overwrite.specs.Cells.{columns, gone, shifted}
+use Rattle.csicodec_overwrite.specs.Line.{line, over, parted}
 use Rattle.csicodec_overwrite.specs.Private.Row.{back}
 
 -- of the cells left of the cursor, the farthest first, so many stay where it goes so many columns to the left
@@ -25,3 +28,13 @@ IsKept side kept taken = (far : List Cell) × (near : List Cell) × (side ≡ re
 abbrev pub Gives : List Cell → List Cell → ℕ → List Cell → List Cell → Type 0
 Gives old to kept new more = (far : List Cell) → (near : List Cell) → old ≡ reverse (far ++ near) → length far ≡ kept
     → (new ≡ reverse far) × (more ≡ near ++ to)
+
+-- a character of some columns so many times in front of cells
+abbrev pub put_many : Glyph → ℕ → ℕ → List Cell → List Cell
+put_many g columns zero left = left
+put_many g columns (suc n) left = replicate (columns - 1) Behind ++ (Char g ∷ put_many g columns n left)
+
+-- and so put at the cursor
+abbrev pub placed_many : Bool → Glyph → ℕ → ℕ → Line → Line
+placed_many inserts g columns n l = line (put_many g columns n (parted l).left)
+    (if inserts then shifted false (parted l).right else gone (n * columns) (parted l).right)

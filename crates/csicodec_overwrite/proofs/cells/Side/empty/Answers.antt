@@ -1,2 +1,0 @@
-use Rattle.std.proofs.Common.{◌∙◌}
-use Rattle.csicodec_overwrite.proofs.cells.Side.empty.Goals as goal

@@ -1,4 +1,4 @@
-use Rattle.std.proofs.Common.{◌≡◌, ◌∙◌, ap, arith, reverse, sym}
+use Rattle.std.proofs.Common.{◌∙◌, ap, arith, reverse, sym}
 use Rattle.csicodec_overwrite.specs.Cells.{columns}
 use Rattle.csicodec_overwrite.proofs.Moved.{columns_back}
 use Rattle.csicodec_overwrite.proofs.cells.Side.give_back.Goals as goal

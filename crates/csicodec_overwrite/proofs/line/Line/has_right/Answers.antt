@@ -1,4 +1,4 @@
-use Rattle.std.proofs.Common.{◌≡◌, ◌<◌, ◌≤◌, ◌-◌, ◌∙◌, ap, length, nat_lt, rules, sym}
+use Rattle.std.proofs.Common.{◌<◌, ◌≤◌, ◌-◌, ◌∙◌, ap, length, nat_lt, rules, sym}
 use Rattle.csicodec_overwrite.specs.Cells.{columns}
 use Rattle.csicodec_overwrite.specs.Private.Row.{settled}
 use Rattle.csicodec_overwrite.proofs.Rows.{right_far, right_near}

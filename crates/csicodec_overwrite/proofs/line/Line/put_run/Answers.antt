@@ -1,10 +1,8 @@
-use Rattle.std.proofs.Common.{[], ◌∷◌, ◌≡◌, ◌++◌, ◌∙◌, List, ℕ, ap, arith, length, length-append, subst, sym}
+use Rattle.std.proofs.Common.{[], ◌∷◌, ◌∙◌, List, ℕ, ap, arith, length, length-append, subst, sym}
 use Rattle.std.specs.Prelude.{Option, Some}
 use Rattle.csicodec_overwrite.specs.declared.cells.Cell.{Cell}
-use Rattle.csicodec_overwrite.specs.declared.line.Line.{Line}
-use Rattle.csicodec_overwrite.specs.Cells.{onto}
 use Rattle.csicodec_overwrite.specs.Line.{line}
-use Rattle.csicodec_overwrite.specs.Private.Plain.{PutsRun, glyphs, last_of}
+use Rattle.csicodec_overwrite.specs.Private.Plain.{PutsRun, last_of}
 use Rattle.csicodec_overwrite.proofs.Straight.{last_is, run_all, run_none}
 use Rattle.csicodec_overwrite.proofs.line.Line.put_run.Goals as goal
 

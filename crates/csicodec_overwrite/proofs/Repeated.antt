@@ -1,0 +1,230 @@
+-- A character that comes many times at once.
+use Rattle.std.proofs.Common.{◌≡◌, ◌≤◌, ◌<◌, ℕ, zero, suc, ◌+◌, ◌-◌, ◌*◌, Bool, true, false, cond, List, [], ◌∷◌, ◌++◌, length, replicate, refl, sym, ap, ◌∙◌, arith}
+use Rattle.std.specs.Prelude.{◌==◌}
+use Rattle.std.proofs.lemmas.Bool.Decides.{nat_tests}
+use Rattle.csicodec_overwrite.specs.declared.cells.Cell.{Cell}
+use Rattle.csicodec_overwrite.specs.declared.cells.Cell.TheVariants.{Behind, Char, Empty, Mark}
+use Rattle.csicodec_overwrite.specs.declared.cells.Glyph.{Glyph}
+use Rattle.csicodec_overwrite.specs.declared.line.Line.{Line}
+use Rattle.csicodec_overwrite.specs.Cells.{begins_behind, belongs, columns, emptied, gone, is_behind, outside, shifted, takes, untabbed, width, without}
+use Rattle.csicodec_overwrite.specs.Line.{Done, before, blank, cells_of, done, fits, line, parted, placed, put, repeat, size}
+use Rattle.csicodec_overwrite.specs.Private.Sides.{placed_many, put_many}
+use Rattle.csicodec_overwrite.proofs.Moved.{without_zero}
+use Rattle.csicodec_overwrite.proofs.Room.{placed_size}
+use Rattle.csicodec_overwrite.proofs.Shifted.{shifted_stays}
+
+-- a test that fails
+fails : {A : Type 0} (t : Bool) (x y : A) → t ≡ false → cond t x y ≡ y
+fails t x y e = rw e refl
+
+some_left : (n : ℕ) → 0 < n → (n == 0) ≡ false
+some_left n h = grind (arith, nat_tests)
+
+-- ---- what is gone
+
+-- so many columns, and then more
+few : (x : Cell) (n m : ℕ) → 0 < n → n - takes x + m ≡ n + m - takes x
+few Empty n m some = omega (arith, some)
+few (Char g) n m some = omega (arith, some)
+few Behind n m some = omega (arith, some)
+few (Mark c) n m some = omega arith
+
+without_on : (n m : ℕ) (xs : List Cell) → without m (without n xs) ≡ without (n + m) xs
+without_on n m [] = refl
+without_on n m (x ∷ xs) = by (n == 0) refl (without_on (n - takes x) m xs)
+  where
+    now : Bool → List Cell
+    now t = cond t (x ∷ xs) (without (n - takes x) xs)
+
+    by : (t : Bool) → (n == 0) ≡ t → without m (now false) ≡ without (n - takes x + m) xs → without m (now t) ≡ without (n + m) (x ∷ xs)
+    by true e h =
+        let none : n ≡ 0 = grind (arith, nat_tests) in ap (λ (k : ℕ). without k (x ∷ xs)) (omega (arith, none))
+    by false e h =
+        let some : 0 < n = grind (arith, nat_tests) in
+        h ∙ ap (λ (k : ℕ). without k xs) (few x n m some)
+        ∙ sym (fails (n + m == 0) (x ∷ xs) (without (n + m - takes x) xs) (some_left (n + m) (omega (arith, some))))
+
+columns_outside : (xs : List Cell) → columns (outside xs) ≤ columns xs
+columns_outside [] = omega arith
+columns_outside (x ∷ xs) = by (belongs x) (columns_outside xs)
+  where
+    by : (t : Bool) → columns (outside xs) ≤ columns xs → columns (cond t (outside xs) (x ∷ xs)) ≤ takes x + columns xs
+    by true h = omega (arith, h)
+    by false h = omega arith
+
+outside_twice : (xs : List Cell) → outside (outside xs) ≡ outside xs
+outside_twice [] = refl
+outside_twice (x ∷ xs) = by (belongs x) refl (outside_twice xs)
+  where
+    by : (t : Bool) → belongs x ≡ t → outside (outside xs) ≡ outside xs → outside (cond t (outside xs) (x ∷ xs)) ≡ cond t (outside xs) (x ∷ xs)
+    by true e h = h
+    by false e h = fails (belongs x) (outside xs) (x ∷ xs) e
+
+-- nothing belongs to a character before the cells
+abbrev Apart : List Cell → Type 0
+Apart xs = outside xs ≡ xs
+
+emptied_apart : (k : ℕ) (xs : List Cell) → Apart xs → Apart (replicate k Empty ++ xs)
+emptied_apart zero xs h = h
+emptied_apart (suc k) xs h = refl
+
+whole : (xs : List Cell) → emptied xs xs ≡ xs
+whole xs =
+    let none : columns xs - columns xs ≡ 0 = omega arith in ap (λ (k : ℕ). replicate k Empty ++ xs) none
+
+-- what is gone with a column in front
+gone_next : (x : Cell) (n : ℕ) (xs : List Cell) → takes x ≡ 1 → gone (suc n) (x ∷ xs) ≡ gone n xs
+gone_next x n xs one =
+    let less : suc n - takes x ≡ n = omega (arith, one) in
+    ap (λ (ys : List Cell). emptied ys (outside ys))
+    (fails (suc n == 0) (x ∷ xs) (without (suc n - takes x) xs) (some_left (suc n) (omega arith)) ∙ ap (λ (m : ℕ). without m xs) less)
+
+gone_mark : (c n : ℕ) (xs : List Cell) → 0 < n → gone n (Mark c ∷ xs) ≡ gone n xs
+gone_mark c n xs some =
+    let same : n - takes (Mark c) ≡ n = omega arith in
+    ap (λ (ys : List Cell). emptied ys (outside ys))
+    (fails (n == 0) (Mark c ∷ xs) (without (n - takes (Mark c)) xs) (some_left n some) ∙ ap (λ (m : ℕ). without m xs) same)
+
+-- what is gone from cells of which the front is emptied
+gone_emptied : (n : ℕ) (xs : List Cell) → gone n (emptied xs (outside xs)) ≡ gone n xs
+gone_emptied zero xs =
+    let e = emptied xs (outside xs) in
+    ap (λ (ys : List Cell). emptied ys (outside ys)) (without_zero e)
+    ∙ ap (emptied e) (emptied_apart (columns xs - columns (outside xs)) (outside xs) (outside_twice xs)) ∙ whole e
+    ∙ sym (ap (λ (ys : List Cell). emptied ys (outside ys)) (without_zero xs))
+gone_emptied (suc n) [] = refl
+gone_emptied (suc n) (Empty ∷ xs) = ap (gone (suc n)) (whole (Empty ∷ xs))
+gone_emptied (suc n) (Char g ∷ xs) = ap (gone (suc n)) (whole (Char g ∷ xs))
+gone_emptied (suc n) (Behind ∷ xs) =
+    let k = columns xs - columns (outside xs) in
+    let more : 1 + columns xs - columns (outside xs) ≡ suc k = omega (arith, columns_outside xs) in
+    let less : suc n - 1 ≡ n = omega arith in
+    ap (λ (m : ℕ). gone (suc n) (replicate m Empty ++ outside xs)) more ∙ gone_next Empty n (replicate k Empty ++ outside xs) refl
+    ∙ gone_emptied n xs ∙ sym (gone_next Behind n xs refl)
+gone_emptied (suc n) (Mark c ∷ xs) =
+    let same : columns (Mark c ∷ xs) ≡ columns xs = omega arith in
+    ap (λ (m : ℕ). gone (suc n) (replicate (m - columns (outside xs)) Empty ++ outside xs)) same ∙ gone_emptied (suc n) xs ∙ sym (gone_mark c (suc n) xs (omega arith))
+
+gone_on : (n m : ℕ) (xs : List Cell) → gone m (gone n xs) ≡ gone (n + m) xs
+gone_on n m xs = gone_emptied m (without n xs) ∙ ap (λ (ys : List Cell). emptied ys (outside ys)) (without_on n m xs)
+
+-- ---- no character goes on behind the cursor
+
+shorter : (xs : List Cell) → length (outside xs) ≤ length xs
+shorter [] = omega arith
+shorter (x ∷ xs) = by (belongs x) (shorter xs)
+  where
+    by : (t : Bool) → length (outside xs) ≤ length xs → length (cond t (outside xs) (x ∷ xs)) ≤ suc (length xs)
+    by true h = omega (arith, h)
+    by false h = omega arith
+
+apart_begins : (xs : List Cell) → Apart xs → begins_behind xs ≡ false
+apart_begins [] h = refl
+apart_begins (Empty ∷ xs) h = refl
+apart_begins (Char g ∷ xs) h = refl
+apart_begins (Behind ∷ xs) h = absurd (omega (arith, ap length h, shorter xs))
+apart_begins (Mark c ∷ xs) h = refl
+
+gone_begins : (n : ℕ) (xs : List Cell) → begins_behind (gone n xs) ≡ false
+gone_begins n xs =
+    let rest = without n xs in
+    apart_begins (gone n xs) (emptied_apart (columns rest - columns (outside rest)) (outside rest) (outside_twice rest))
+
+shifted_begins : (xs : List Cell) → begins_behind xs ≡ false → begins_behind (shifted false xs) ≡ false
+shifted_begins [] h = refl
+shifted_begins (Empty ∷ xs) h = refl
+shifted_begins (Char g ∷ xs) h = by (g.char == 9)
+  where
+    by : (t : Bool) → is_behind (untabbed t (Char g)) ≡ false
+    by true = refl
+    by false = refl
+shifted_begins (Behind ∷ xs) h = h
+shifted_begins (Mark c ∷ xs) h = refl
+
+parted_begins : (l : Line) → begins_behind (parted l).right ≡ false
+parted_begins l = by (begins_behind l.right) refl
+  where
+    now : Bool → Line
+    now t = cond t (line (emptied l.left (without 1 (outside l.left))) (emptied l.right (outside l.right))) l
+
+    by : (t : Bool) → begins_behind l.right ≡ t → begins_behind (now t).right ≡ false
+    by true e = apart_begins (emptied l.right (outside l.right)) (emptied_apart (columns l.right - columns (outside l.right)) (outside l.right) (outside_twice l.right))
+    by false e = e
+
+parted_same : (l : Line) → begins_behind l.right ≡ false → parted l ≡ l
+parted_same l e = fails (begins_behind l.right) (line (emptied l.left (without 1 (outside l.left))) (emptied l.right (outside l.right))) l e
+
+-- ---- one and then others
+
+many_on : (g : Glyph) (w n : ℕ) (left : List Cell) → put_many g w n (replicate (w - 1) Behind ++ (Char g ∷ left)) ≡ put_many g w (suc n) left
+many_on g w zero left = refl
+many_on g w (suc n) left = ap (λ (xs : List Cell). replicate (w - 1) Behind ++ (Char g ∷ xs)) (many_on g w n left)
+
+pub many_single : (g : Glyph) (n : ℕ) (left : List Cell) → put_many g 1 n left ≡ replicate n (Char g) ++ left
+many_single g zero left = refl
+many_single g (suc n) left = ap (λ (xs : List Cell). Char g ∷ xs) (many_single g n left)
+
+module _ (inserts : Bool) (g : Glyph) (w : ℕ) (some : 0 < w) where
+  -- right of the cursor
+  abbrev then : ℕ → List Cell → List Cell
+  then n xs = cond inserts (shifted false xs) (gone (n * w) xs)
+
+  pub placed_once : (l : Line) → placed inserts g w l ≡ placed_many inserts g w 1 l
+  placed_once l =
+      let one : w ≡ 1 * w = omega arith in
+      fails (w == 0) (line (Mark g.char ∷ l.left) l.right)
+      (line (replicate (w - 1) Behind ++ (Char g ∷ (parted l).left)) (cond inserts (shifted false (parted l).right) (gone w (parted l).right))) (some_left w some)
+      ∙ ap (λ (n : ℕ). line (replicate (w - 1) Behind ++ (Char g ∷ (parted l).left)) (cond inserts (shifted false (parted l).right) (gone n (parted l).right))) one
+
+  then_begins : (l : Line) → begins_behind (then 1 (parted l).right) ≡ false
+  then_begins l = by inserts
+    where
+      by : (t : Bool) → begins_behind (cond t (shifted false (parted l).right) (gone (1 * w) (parted l).right)) ≡ false
+      by true = shifted_begins (parted l).right (parted_begins l)
+      by false = gone_begins (1 * w) (parted l).right
+
+  then_on : (n : ℕ) (xs : List Cell) → then n (then 1 xs) ≡ then (suc n) xs
+  then_on n xs = by inserts
+    where
+      sum : 1 * w + n * w ≡ suc n * w
+      sum = omega arith
+
+      by : (t : Bool) → cond t (shifted false (cond t (shifted false xs) (gone (1 * w) xs))) (gone (n * w) (cond t (shifted false xs) (gone (1 * w) xs)))
+          ≡ cond t (shifted false xs) (gone (suc n * w) xs)
+      by true = shifted_stays false xs
+      by false = gone_on (1 * w) (n * w) xs ∙ ap (λ (k : ℕ). gone k xs) sum
+
+  many_placed : (n : ℕ) (l : Line) → placed_many inserts g w n (placed_many inserts g w 1 l) ≡ placed_many inserts g w (suc n) l
+  many_placed n l =
+      let p = parted l in
+      let m = placed_many inserts g w 1 l in
+      ap (λ (k : Line). line (put_many g w n k.left) (then n k.right)) (parted_same m (then_begins l))
+      ∙ ap (λ (xs : List Cell). line xs (then n (then 1 p.right))) (many_on g w n p.left) ∙ ap (line (put_many g w (suc n) p.left)) (then_on n p.right)
+
+  -- in a line that has room for all
+  module _ (limit : ℕ) (wide : (column : ℕ) → width g.char column ≡ w) where
+    put_once : (l : Line) → size l + w ≤ limit → put limit inserts g l ≡ done [] (placed inserts g w l)
+    put_once l room =
+        ap (λ (k : ℕ). cond (fits limit k l) (done [] (placed inserts g k l)) (done (cells_of l ∷ []) (placed inserts g (width g.char 0) blank))) (wide (columns l.left))
+        ∙ by (fits limit w l) (grind (arith, nat_tests))
+      where
+        by : (t : Bool) → t ≡ true → cond t (done [] (placed inserts g w l)) (done (cells_of l ∷ []) (placed inserts g (width g.char 0) blank)) ≡ done [] (placed inserts g w l)
+        by t e = rw e refl
+
+    repeat_many : (n : ℕ) (l : Line) → size l + suc n * w ≤ limit → repeat limit inserts g (suc n) l ≡ done [] (placed_many inserts g w (suc n) l)
+    repeat_many zero l room =
+        ap (λ (d : Done). before d.lines (done [] d.line)) (put_once l (omega (arith, room))) ∙ ap (done []) (placed_once l)
+    repeat_many (suc n) l room =
+        let m = placed inserts g w l in
+        let less : size m + suc n * w ≤ limit = omega (arith, room, some, placed_size inserts g w l) in
+        ap (λ (d : Done). before d.lines (repeat limit inserts g (suc n) d.line)) (put_once l (omega (arith, room)))
+        ∙ ap (before []) (repeat_many n m less) ∙ ap (λ (k : Line). done [] (placed_many inserts g w (suc n) k)) (placed_once l)
+        ∙ ap (done []) (many_placed (suc n) l)
+
+    pub repeat_some : (n : ℕ) (l : Line) → 0 < n → size l + n * w ≤ limit → repeat limit inserts g n l ≡ done [] (placed_many inserts g w n l)
+    repeat_some zero l more room = absurd (omega (arith, more))
+    repeat_some (suc n) l more room = repeat_many n l room
+
+-- but for a tab, the columns of a character are the same everywhere
+pub width_same : (c a b : ℕ) → (c == 9) ≡ false → width c a ≡ width c b
+width_same c a b e = rw e refl

@@ -164,6 +164,10 @@ pub many_single : (g : Glyph) (n : ℕ) (left : List Cell) → put_many g 1 n le
 many_single g zero left = refl
 many_single g (suc n) left = ap (λ (xs : List Cell). Char g ∷ xs) (many_single g n left)
 
+pub many_wide : (g : Glyph) (n : ℕ) (left : List Cell) → columns (put_many g 2 n left) ≡ columns left + n * 2
+many_wide g zero left = omega arith
+many_wide g (suc n) left = omega (arith, many_wide g n left)
+
 module _ (inserts : Bool) (g : Glyph) (w : ℕ) (some : 0 < w) where
   -- right of the cursor
   abbrev then : ℕ → List Cell → List Cell

@@ -27,7 +27,7 @@ use Rattle.csicodec_actions.specs.Devices as device
 use Rattle.csicodec_actions.specs.Actions.{Action}
 use Rattle.csicodec_actions.specs.Actions as action
 use Rattle.csicodec_clean.specs.Shown.{shown}
-use Rattle.csicodec_overwrite.specs.Line.{widest}
+use Rattle.csicodec_overwrite.specs.Line.{longest_row, widest}
 use Rattle.csicodec_overwrite.specs.declared.step.Step.{Step}
 use Rattle.csicodec_overwrite.specs.declared.step.Step.TheVariants as step
 
@@ -125,7 +125,7 @@ abbrev pub of_edit : Edit → List Step
 of_edit (edit.EraseCharacter n) = step.Erase (as_far n) ∷ []
 of_edit (edit.DeleteCharacter n) = step.Delete (as_far n) ∷ []
 of_edit (edit.InsertCharacter n) = step.Insert (as_far n) ∷ []
-of_edit (edit.Repeat n) = step.Repeat (as_far n) ∷ []
+of_edit (edit.Repeat n) = step.Repeat (min n longest_row) ∷ []
 of_edit (edit.ScrollUp n) = step.Leave None ∷ []
 of_edit (edit.ScrollDown n) = step.Leave None ∷ []
 of_edit (edit.InsertLine n) = step.Leave (Some 1) ∷ []

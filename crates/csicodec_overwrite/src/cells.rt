@@ -1,5 +1,5 @@
 //! What stands in a line, cell by cell.
-ghost use Rattle.std.specs.Prelude.{◌≡◌, ◌≤◌, ◌+◌, ◌++◌, ◌∷◌, [], false, OnOk, MatchOption, length, replicate, reverse, vec_capacity, vec_len};
+ghost use Rattle.std.specs.Prelude.{◌≡◌, ◌≤◌, ◌*◌, ◌+◌, ◌++◌, ◌∷◌, [], false, OnOk, MatchOption, length, replicate, reverse, vec_capacity, vec_len};
 ghost use Rattle.std.specs.List.{list_all};
 ghost use Rattle.csicodec_overwrite.specs.Cells.{begins_behind, belongs, columns, emptied, is_blank, is_empty, of_tab, onto, outside, shifted, takes, trimmed, untabbed, without};
 ghost use Rattle.csicodec_overwrite.specs.Line.{line, over};
@@ -134,6 +134,17 @@ fn append_back(cells: &mut Vec<Cell>, near: &[Cell])
     while let Some((cell, front)) = rest.split_last() {
         cells.push_reserved(*cell);
         rest = front;
+    }
+}
+
+/// Appends a character of two columns, so many times. There is room for all.
+fn append_wide(cells: &mut Vec<Cell>, glyph: Glyph, count: usize)
+    requires { vec_len cells.old + 2 * count ≤ vec_capacity cells.old }
+    ensures { reverse cells.new.items ≡ put_many glyph 2 count (reverse cells.old.items) }
+{
+    for _i in 0..count {
+        cells.push_reserved(Cell::Char(glyph));
+        cells.push_reserved(Cell::Behind);
     }
 }
 
@@ -374,6 +385,22 @@ impl Side {
         self.push_many(Cell::Empty, count)
     }
 
+    /// Puts a character of two columns nearest, so many times.
+    fn push_wide(&mut self, glyph: Glyph, count: usize) -> Result<(), AllocError>
+        ensures { OnOk result (self.new ≡ put_many glyph 2 count self.old) }
+    {
+        let Some(more) = count.checked_mul(2) else {
+            return Err(AllocError);
+        };
+        let Some(width) = self.width.checked_add(more) else {
+            return Err(AllocError);
+        };
+        self.cells.reserve(more)?;
+        append_wide(&mut self.cells, glyph, count);
+        self.width = width;
+        Ok(())
+    }
+
     /// Puts a character of some columns nearest, so many times.
     pub(crate) fn push_glyphs(
         &mut self,
@@ -385,6 +412,9 @@ impl Side {
     {
         if columns == 1 {
             return self.push_many(Cell::Char(glyph), count);
+        }
+        if columns == 2 {
+            return self.push_wide(glyph, count);
         }
         for _i in 0..count {
             self.push(Cell::Char(glyph))?;

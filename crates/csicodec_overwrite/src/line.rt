@@ -140,11 +140,11 @@ impl Line {
     {
         let len = self.left.len().saturating_add(self.right.len());
         let Some(count) = to else {
-            return LONGEST_ROW < len;
+            return (LONGEST_ROW as usize) < len;
         };
         let missing = count.saturating_sub(self.left.columns());
         let missing = missing.saturating_sub(self.right.columns());
-        LONGEST_ROW < len.saturating_add(missing.min(self.room(limit)))
+        (LONGEST_ROW as usize) < len.saturating_add(missing.min(self.room(limit)))
     }
 
     /// Whether something stands right of the cursor where it stands or is to go.

@@ -311,7 +311,31 @@ impl Row {
         Ok(())
     }
 
-    /// Does the steps of text of ASCII without a control but tabs.
+    /// Does the steps of text of ASCII without a control but tabs, one by one.
+    fn put_bytes(
+        &mut self,
+        pen: &mut Pen,
+        text: &[u8],
+        marking: &Marking,
+        out: &mut Vec<u8>,
+    ) -> Result<(), AllocError>
+        requires { AllByRecursion IsLineByte text.now }
+        ensures line { OnOk result
+            (self.new ≡ (do_all most pen.old (of_chars text.now) self.old).line) }
+        ensures pen { OnOk result
+            (pen.new ≡ pen_behind_all most pen.old (of_chars text.now) self.old) }
+        ensures text { OnOk result (out.new.items ≡ out.old.items
+            ++ texts_of marking.now (do_all most pen.old (of_chars text.now) self.old).lines) }
+    {
+        let mut rest = text;
+        while let Some((byte, behind)) = rest.split_first() {
+            self.take(pen, &plain_step(*byte), marking, out)?;
+            rest = behind;
+        }
+        Ok(())
+    }
+
+    /// The same, at once where that can be.
     pub(crate) fn put_text(
         &mut self,
         pen: &mut Pen,
@@ -330,6 +354,10 @@ impl Row {
         let Some(first) = text.first() else {
             return Ok(());
         };
+        // A tab over what stands there moves the cursor alone.
+        if *first == b'\t' && self.line.has_right(self.to) {
+            return self.put_bytes(pen, text, marking, out);
+        }
         self.line
             .enter(LIMIT, self.to, &plain_step(*first), marking, out)?;
         self.to = None;

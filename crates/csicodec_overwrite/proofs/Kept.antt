@@ -15,7 +15,7 @@ use Rattle.csicodec_overwrite.specs.declared.step.Step.TheVariants as step
 use Rattle.csicodec_overwrite.specs.Cells.{begins_behind, belongs, chars_of, columns, emptied, erased, glyph, gone, is_empty, of_tab, onto, outside, shifted, takes, to_tab_stop, trimmed, untabbed, width, without}
 use Rattle.csicodec_overwrite.specs.Line.{Done, behind_columns, blank, cells_of, do_all, does, does_here, done, entered, fits, forward, fresh, from_stop}
 use Rattle.csicodec_overwrite.specs.Line.{in_row, is_row, last_behind, leave, leaves_long, line, lines_of, over, padded, parted, pen_behind, placed}
-use Rattle.csicodec_overwrite.specs.Line.{placed_in, put, repeat, repeated, restored, shows_nothing, size, target, to_stop}
+use Rattle.csicodec_overwrite.specs.Line.{placed_in, put, repeat, repeated, restored, shows_nothing, size, target, to_stop, widest}
 use Rattle.csicodec_overwrite.proofs.Texts.{chars_by, line_chars}
 
 -- either way of a test
@@ -178,10 +178,10 @@ module _ (P : ℕ → Type 0) (Q : Look → Type 0) (R : Sgr → Type 0) where
         either OfDone (length l.right == 0) (put limit pen.inserts (glyph 9 pen.look) l) (done [] (forward limit (to_tab_stop (columns l.left)) l))
         (of_put limit pen.inserts (glyph 9 pen.look) l (tab, q.0) h)
         (tt, of_forward limit (to_tab_stop (columns l.left)) l h)
-    of_here limit pen (step.Tabs n) l q p h = (tt, of_forward limit (to_stop n (columns l.left)) l h)
+    of_here limit pen (step.Tabs n) l q p h = (tt, of_forward limit (min (to_stop n (columns l.left)) (widest - 1 - columns l.left)) l h)
     of_here limit pen (step.TabsBack n) l q p h = (tt, of_behind limit (columns l.left - from_stop n (columns l.left)) l h)
     of_here limit pen step.NewLine l q p h = ((of_line l h, tt), (tt, tt))
-    of_here limit pen (step.Right n) l q p h = (tt, of_forward limit n l h)
+    of_here limit pen (step.Right n) l q p h = (tt, of_forward limit (min n (widest - 1 - columns l.left)) l h)
     of_here limit pen (step.Left n) l q p h = (tt, of_behind limit (columns l.left - n) l h)
     of_here limit pen (step.Column n) l q p h = (tt, of_behind limit (n - 1) l h)
     of_here limit pen step.EraseRight l q p h = (tt, ((of_parted l h).0, tt))

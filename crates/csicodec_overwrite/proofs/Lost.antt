@@ -15,7 +15,7 @@ use Rattle.csicodec_overwrite.specs.declared.step.Step.TheVariants as step
 use Rattle.csicodec_overwrite.specs.Cells.{begins_behind, belongs, chars_of, columns, emptied, erased, glyph, gone, is_empty, onto, outside, shifted, takes, to_tab_stop, trimmed, untabbed, width, without}
 use Rattle.csicodec_overwrite.specs.Line.{Done, behind_columns, blank, cells_of, do_all, does, does_here, done, entered, fits, forward}
 use Rattle.csicodec_overwrite.specs.Line.{from_stop, in_row, is_row, leave, leaves_long, line, lines_of, over, parted, pen_behind, placed}
-use Rattle.csicodec_overwrite.specs.Line.{placed_in, put, repeat, repeated, restored, shows_nothing, size, standing, target, to_stop}
+use Rattle.csicodec_overwrite.specs.Line.{placed_in, put, repeat, repeated, restored, shows_nothing, size, standing, target, to_stop, widest}
 use Rattle.csicodec_overwrite.specs.Lost.{again, all_came, all_taken, belonging, came, covered, left_out, taken, taken_again, taken_here, taken_by, taken_by_all, tabs, times, touched, under, whole, within, written}
 use Rattle.csicodec_overwrite.proofs.Texts.{chars_by, line_chars}
 
@@ -257,10 +257,10 @@ module _ (c : ℕ) where
   of_here limit pen (step.Put d) l = of_put limit pen.inserts (glyph d pen.look) l
   of_here limit pen (step.Repeat n) l = of_repeated limit pen pen.last n l
   of_here limit pen step.Tab l = omega (arith, of_tab limit pen l)
-  of_here limit pen (step.Tabs n) l = omega (arith, of_forward limit (to_stop n (columns l.left)) l)
+  of_here limit pen (step.Tabs n) l = omega (arith, of_forward limit (min (to_stop n (columns l.left)) (widest - 1 - columns l.left)) l)
   of_here limit pen (step.TabsBack n) l = omega (arith, of_behind limit (columns l.left - from_stop n (columns l.left)) l)
   of_here limit pen step.NewLine l = omega (arith, of_cells l)
-  of_here limit pen (step.Right n) l = omega (arith, of_forward limit n l)
+  of_here limit pen (step.Right n) l = omega (arith, of_forward limit (min n (widest - 1 - columns l.left)) l)
   of_here limit pen (step.Left n) l = omega (arith, of_behind limit (columns l.left - n) l)
   of_here limit pen (step.Column n) l = omega (arith, of_behind limit (n - 1) l)
   of_here limit pen step.EraseRight l = omega (arith, of_under l, joined (under l) (parted l).right)

@@ -14,7 +14,7 @@ use Rattle.csicodec_overwrite.specs.declared.step.Step.TheVariants as step
 use Rattle.csicodec_overwrite.specs.Cells.{begins_behind, belongs, columns, emptied, erased, glyph, gone, narrowed, onto, outside, shifted, takes, to_tab_stop, width, without}
 use Rattle.csicodec_overwrite.specs.Line.{Done, behind_columns, blank, cells_of, do_all, does, does_here, done, entered, fits, forward}
 use Rattle.csicodec_overwrite.specs.Line.{from_stop, in_row, is_row, leave, leaves_long, line, lines_of, over, padded, parted}
-use Rattle.csicodec_overwrite.specs.Line.{pen_behind, placed, placed_in, put, repeat, repeated, restored, size, target, to_stop}
+use Rattle.csicodec_overwrite.specs.Line.{pen_behind, placed, placed_in, put, repeat, repeated, restored, size, target, to_stop, widest}
 use Rattle.csicodec_overwrite.proofs.Moved.{narrow_few, takes_few}
 use Rattle.csicodec_overwrite.proofs.Shifted.{length_shifted}
 
@@ -162,10 +162,10 @@ module _ (limit : ℕ) (enough : 8 ≤ limit) where
       always (λ (d : Done). size d.line ≤ limit) (length l.right == 0) (put limit pen.inserts (glyph 9 pen.look) l)
       (done [] (forward limit (to_tab_stop (columns l.left)) l)) (put_size pen.inserts (glyph 9 pen.look) l)
       (forward_size (to_tab_stop (columns l.left)) l h)
-  here_size pen (step.Tabs n) l h = forward_size (to_stop n (columns l.left)) l h
+  here_size pen (step.Tabs n) l h = forward_size (min (to_stop n (columns l.left)) (widest - 1 - columns l.left)) l h
   here_size pen (step.TabsBack n) l h = behind_size (columns l.left - from_stop n (columns l.left)) l h
   here_size pen step.NewLine l h = omega arith
-  here_size pen (step.Right n) l h = forward_size n l h
+  here_size pen (step.Right n) l h = forward_size (min n (widest - 1 - columns l.left)) l h
   here_size pen (step.Left n) l h = behind_size (columns l.left - n) l h
   here_size pen (step.Column n) l h = behind_size (n - 1) l h
   here_size pen step.EraseRight l h = omega (arith, parted_less l)

@@ -9,7 +9,7 @@ use Rattle.csicodec_overwrite.specs.declared.cells.Cell.TheVariants.{Empty}
 use Rattle.csicodec_overwrite.specs.declared.line.Line.{Line}
 use Rattle.csicodec_overwrite.specs.declared.step.Step.{Step}
 use Rattle.csicodec_overwrite.specs.Cells.{columns, onto, takes, trimmed}
-use Rattle.csicodec_overwrite.specs.Line.{alters, behind_columns, done, entered, forward, leave, line, longest_row, over, size, standing}
+use Rattle.csicodec_overwrite.specs.Line.{alters, behind_columns, done, entered, forward, leave, line, over, size, standing, widest}
 use Rattle.csicodec_overwrite.specs.Private.Row.{back, settled}
 use Rattle.csicodec_overwrite.proofs.Moved.{back_zero, by_back, columns_both}
 use Rattle.csicodec_overwrite.proofs.Moved.{columns_empty, columns_onto, takes_few}
@@ -216,8 +216,8 @@ settled_size limit n l =
 
 -- ---- a line that is too long for a step
 
-pub entered_long : (limit : ℕ) (s : Step) (l : Line) → alters s l ≡ true → nat_lt longest_row (size l) ≡ true
+pub entered_long : (limit : ℕ) (s : Step) (l : Line) → alters s l ≡ true → nat_lt widest (size l) ≡ true
     → entered limit s l ≡ leave limit None l
 entered_long limit s l e f =
-    ap (λ (t : Bool). cond (t && nat_lt longest_row (size l)) (leave limit None l) (done [] l)) e
+    ap (λ (t : Bool). cond (t && nat_lt widest (size l)) (leave limit None l) (done [] l)) e
     ∙ ap (λ (t : Bool). cond (true && t) (leave limit None l) (done [] l)) f

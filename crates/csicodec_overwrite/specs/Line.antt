@@ -24,6 +24,10 @@ size l = length l.left + length l.right
 
 -- ---- moving
 
+-- the rows of terminals that people use have no more columns
+abbrev pub widest : ℕ
+widest = 512
+
 -- so many columns to the right, as far as there are cells, and over what belongs to the last of them
 abbrev pub over : ℕ → List Cell → List Cell → Line
 over n left [] = line left []
@@ -36,6 +40,10 @@ padded limit n l = line (replicate (min n (limit - size l)) Empty ++ l.left) l.r
 
 abbrev pub forward : ℕ → ℕ → Line → Line
 forward limit n l = padded limit (n - columns l.right) (over n l.left l.right)
+
+-- and no further than the last column of a row
+abbrev pub rightward : ℕ → ℕ → Line → Line
+rightward limit n l = forward limit (min n (widest - 1 - columns l.left)) l
 
 -- behind so many columns
 abbrev pub behind_columns : ℕ → ℕ → Line → Line
@@ -127,10 +135,6 @@ repeat limit inserts g (suc n) l = before (put limit inserts g l).lines (repeat 
 
 -- ---- another row
 
--- no terminal has more columns, so a few bytes make no long line
-abbrev pub widest : ℕ
-widest = 1024
-
 -- the columns left of a column, of which the first is 1, or of the cursor
 abbrev pub target : Option ℕ → Line → ℕ
 target None l = min (columns l.left) (widest - 1)
@@ -210,10 +214,10 @@ does_here limit pen (step.Put c) l = put limit pen.inserts (glyph c pen.look) l
 does_here limit pen (step.Repeat n) l = repeated limit pen pen.last n l
 does_here limit pen step.Tab l = if length l.right == 0 then put limit pen.inserts (glyph 9 pen.look) l
     else done [] (forward limit (to_tab_stop (columns l.left)) l)
-does_here limit pen (step.Tabs n) l = done [] (forward limit (to_stop n (columns l.left)) l)
+does_here limit pen (step.Tabs n) l = done [] (rightward limit (to_stop n (columns l.left)) l)
 does_here limit pen (step.TabsBack n) l = done [] (backward limit (from_stop n (columns l.left)) l)
 does_here limit pen step.NewLine l = done (cells_of l ∷ []) blank
-does_here limit pen (step.Right n) l = done [] (forward limit n l)
+does_here limit pen (step.Right n) l = done [] (rightward limit n l)
 does_here limit pen (step.Left n) l = done [] (backward limit n l)
 does_here limit pen (step.Column n) l = done [] (at_column limit n l)
 does_here limit pen step.EraseRight l = done [] (erase_right l)
@@ -243,13 +247,9 @@ alters (step.Delete n) l = nat_lt 0 (length l.right)
 alters (step.Insert n) l = nat_lt 0 (length l.right)
 alters s l = false
 
--- the rows of terminals that people use have no more cells, marks among them
-abbrev pub longest_row : ℕ
-longest_row = 512
-
--- in a line that is longer than a row, the cursor isn't in the row of all that stands there
+-- in a line of more cells, marks among them, the cursor isn't in the row of all that stands there
 abbrev pub leaves_long : Step → Line → Bool
-leaves_long s l = alters s l && nat_lt longest_row (size l)
+leaves_long s l = alters s l && nat_lt widest (size l)
 
 -- so a step that alters such a line is done in a new one
 abbrev pub entered : ℕ → Step → Line → Done

@@ -27,7 +27,7 @@ use Rattle.csicodec_actions.specs.Devices as device
 use Rattle.csicodec_actions.specs.Actions.{Action}
 use Rattle.csicodec_actions.specs.Actions as action
 use Rattle.csicodec_clean.specs.Shown.{shown}
-use Rattle.csicodec_overwrite.specs.Line.{longest_row, widest}
+use Rattle.csicodec_overwrite.specs.Line.{widest}
 use Rattle.csicodec_overwrite.specs.declared.step.Step.{Step}
 use Rattle.csicodec_overwrite.specs.declared.step.Step.TheVariants as step
 
@@ -72,13 +72,13 @@ of_wrong_byte b = if b == 27 then step.Leave None ∷ [] else []
 abbrev pub of_wrong : List ℕ → List Step
 of_wrong bytes = flat_map of_wrong_byte bytes
 
--- a count or a column goes no further than the widest terminal
+-- a count or a column goes no further than the widest row
 abbrev pub as_far : ℕ → ℕ
 as_far n = min n widest
 
 -- so many tab stops there are in the widest
 abbrev pub stops : ℕ → ℕ
-stops n = min n 128
+stops n = min n 64
 
 -- In the line are CUF (8.3.20), CUB (8.3.18), CHA (8.3.9), HPA (8.3.57), HPR (8.3.59), HPB (8.3.58), CHT (8.3.10) and CBT (8.3.7), and
 -- SCOSC and SCORC are as DECSC and DECRC. CUP (8.3.21) and HVP (8.3.63) go to a column of a row, and VPA (8.3.158) to the same column.
@@ -125,7 +125,7 @@ abbrev pub of_edit : Edit → List Step
 of_edit (edit.EraseCharacter n) = step.Erase (as_far n) ∷ []
 of_edit (edit.DeleteCharacter n) = step.Delete (as_far n) ∷ []
 of_edit (edit.InsertCharacter n) = step.Insert (as_far n) ∷ []
-of_edit (edit.Repeat n) = step.Repeat (min n longest_row) ∷ []
+of_edit (edit.Repeat n) = step.Repeat (as_far n) ∷ []
 of_edit (edit.ScrollUp n) = step.Leave None ∷ []
 of_edit (edit.ScrollDown n) = step.Leave None ∷ []
 of_edit (edit.InsertLine n) = step.Leave (Some 1) ∷ []

@@ -2,7 +2,7 @@
 ghost use Rattle.std.specs.Prelude.{◌≡◌, ◌<◌, ◌≤◌, ◌*◌, ◌-◌, ◌++◌, ◌+◌, [], ℕ, false, length, nat_le, nat_lt, true, IfOk, OnOk};
 ghost use Rattle.std.specs.List.{AllByRecursion};
 ghost use Rattle.csicodec_overwrite.specs.Cells.{columns, glyph, onto};
-ghost use Rattle.csicodec_overwrite.specs.Line.{alters, behind_columns, blank, cells_of, delete, do_all, does_here, entered, erase, erase_all, erase_left, erase_right, fits, forward, insert, line, lines_of, longest_row, parted, pen_behind_all, placed, put, repeated, size};
+ghost use Rattle.csicodec_overwrite.specs.Line.{alters, behind_columns, blank, cells_of, delete, do_all, does_here, entered, erase, erase_all, erase_left, erase_right, fits, forward, insert, line, lines_of, parted, pen_behind_all, placed, put, repeated, size, widest};
 ghost use Rattle.csicodec_overwrite.specs.Paint.{ended, text_of, texts_of};
 ghost use Rattle.csicodec_overwrite.specs.Private.Plain.{IsLineByte, PutsRun};
 ghost use Rattle.csicodec_overwrite.specs.Private.Row.{IsHere, settled};
@@ -16,7 +16,7 @@ use crate::marking::Marking;
 use crate::paint::append_cells;
 use crate::pen::Pen;
 use crate::sides::{delete_columns, erase_columns, loosen, undo};
-use crate::step::{LONGEST_ROW, Step, WIDEST};
+use crate::step::{Step, WIDEST};
 use crate::width::width;
 use std::alloc::{AllocError, Global};
 
@@ -136,15 +136,15 @@ impl Line {
 
     /// Whether it is longer than a terminal's row, with the cursor where it stands or is to go.
     fn is_long(&self, limit: usize, to: Option<usize>) -> bool
-        ensures { result ≡ nat_lt longest_row (size (settled limit to self.now)) }
+        ensures { result ≡ nat_lt widest (size (settled limit to self.now)) }
     {
         let len = self.left.len().saturating_add(self.right.len());
         let Some(count) = to else {
-            return (LONGEST_ROW as usize) < len;
+            return (WIDEST as usize) < len;
         };
         let missing = count.saturating_sub(self.left.columns());
         let missing = missing.saturating_sub(self.right.columns());
-        (LONGEST_ROW as usize) < len.saturating_add(missing.min(self.room(limit)))
+        (WIDEST as usize) < len.saturating_add(missing.min(self.room(limit)))
     }
 
     /// Whether something stands right of the cursor where it stands or is to go.

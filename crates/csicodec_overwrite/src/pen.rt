@@ -18,7 +18,7 @@ pub struct Pen {
     pub inserts: bool,
     /// The character that was put last, if nothing came behind it but marks: REP repeats it.
     pub last: Option<char>,
-    /// The columns left of the saved place, at most 1,023; 0 where none is saved.
+    /// The columns left of the saved place, at most 511; 0 where none is saved.
     pub saved: usize,
     /// Whether that place is in this row.
     pub here: bool,

@@ -2,7 +2,7 @@
 ghost use Rattle.std.specs.Prelude.{◌≡◌, ◌++◌, true, OnOk};
 ghost use Rattle.std.specs.List.{AllByRecursion};
 ghost use Rattle.csicodec_overwrite.specs.Cells.{columns};
-ghost use Rattle.csicodec_overwrite.specs.Line.{backward, behind_columns, blank, cells_of, do_all, does, forward, from_stop, in_row, leave, lines_of, pen_behind, pen_behind_all, restored, target, to_stop};
+ghost use Rattle.csicodec_overwrite.specs.Line.{backward, behind_columns, blank, cells_of, do_all, does, forward, from_stop, in_row, leave, lines_of, pen_behind, pen_behind_all, restored, rightward, target, to_stop};
 ghost use Rattle.csicodec_overwrite.specs.Paint.{ended, text_of, texts_of};
 ghost use Rattle.csicodec_overwrite.specs.Private.Plain.{IsLineByte};
 ghost use Rattle.csicodec_overwrite.specs.Private.Row.{IsHere};
@@ -85,6 +85,14 @@ impl Row {
         self.go(column)
     }
 
+    /// So many columns to the right, and no further than the last of a row.
+    fn right(&mut self, count: usize) -> Result<(), AllocError>
+        ensures { OnOk result (self.new ≡ rightward most count self.old) }
+    {
+        let room = (WIDEST as usize - 1).saturating_sub(self.column());
+        self.forward(count.min(room))
+    }
+
     /// So many columns to the left.
     fn back(&mut self, count: usize) -> Result<(), AllocError>
         ensures { OnOk result (self.new ≡ backward most count self.old) }
@@ -95,10 +103,10 @@ impl Row {
 
     /// So many tab stops to the right.
     fn tabs(&mut self, count: u32) -> Result<(), AllocError>
-        ensures { OnOk result (self.new ≡ forward most (to_stop count (columns self.old.left)) self.old) }
+        ensures { OnOk result (self.new ≡ rightward most (to_stop count (columns self.old.left)) self.old) }
     {
         let column = self.column();
-        self.forward((8 * (count as usize)).saturating_sub(column % 8))
+        self.right((8 * (count as usize)).saturating_sub(column % 8))
     }
 
     /// So many tab stops to the left.
@@ -127,7 +135,7 @@ impl Row {
         Ok(())
     }
 
-    /// The columns left of a column, of which the first is 1, or of the cursor: at most 1,023.
+    /// The columns left of a column, of which the first is 1, or of the cursor: at most 511.
     fn target(&self, to: Option<u32>) -> usize
         ensures { result ≡ target to self.now }
     {
@@ -245,7 +253,7 @@ impl Row {
     {
         match *step {
             Step::Column(column) => self.go(column.saturating_sub(1) as usize),
-            Step::Right(count) => self.forward(count as usize),
+            Step::Right(count) => self.right(count as usize),
             Step::Left(count) => self.back(count as usize),
             Step::Tabs(count) => self.tabs(count),
             Step::TabsBack(count) => self.tabs_back(count),

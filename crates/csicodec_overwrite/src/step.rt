@@ -2,11 +2,9 @@
 
 use csicodec_base::Sgr;
 
-/// The most columns that a movement or an edit goes: no terminal's row has more.
-pub(crate) const WIDEST: u32 = 1024;
-
-/// The most cells of a line in which something is altered: the rows of terminals that people use have no more, marks among them.
-pub(crate) const LONGEST_ROW: u32 = 512;
+/// The most columns that a movement or an edit goes, and the most cells of a line in which something is altered: the rows of terminals that
+/// people use have no more.
+pub(crate) const WIDEST: u32 = 512;
 
 /// What a character or an action does in a line. Counts are 1 or more where they were read.
 #[derive(Clone, Copy, PartialEq, Eq, Debug)]

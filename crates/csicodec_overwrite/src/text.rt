@@ -6,7 +6,7 @@ ghost use Rattle.csicodec_parser.specs.ActionOf.{action_of};
 ghost use Rattle.csicodec_clean.specs.Shown.{IsCut, IsRead};
 ghost use Rattle.csicodec_overwrite.specs.Steps.{as_far, by_code, is_mark, may_move, of_action, of_actions, of_char, of_chars, of_code, of_control, of_cursor, of_device, of_edit, of_escape, of_final, of_mode, of_reset, of_run, of_set, of_string, of_string_byte, of_terminal_mode, of_unread, of_wrong, of_wrong_byte, stops};
 
-use crate::step::{LONGEST_ROW, Step, WIDEST};
+use crate::step::{Step, WIDEST};
 use csicodec::{
     CSI, Cursor, DecPrivateMode, DecPrivateModeCode, Device, Edit, EraseInDisplay, EraseInLine,
     Mode, TerminalMode, TerminalModeCode,
@@ -172,7 +172,7 @@ fn append_edit(edit: &Edit, steps: &mut Vec<Step>) -> Result<(), AllocError>
         Edit::EraseCharacter(count) => steps.push(Step::Erase(as_far(*count)))?,
         Edit::DeleteCharacter(count) => steps.push(Step::Delete(as_far(*count)))?,
         Edit::InsertCharacter(count) => steps.push(Step::Insert(as_far(*count)))?,
-        Edit::Repeat(count) => steps.push(Step::Repeat((*count).min(LONGEST_ROW)))?,
+        Edit::Repeat(count) => steps.push(Step::Repeat(as_far(*count)))?,
         Edit::EraseInLine(EraseInLine::EraseToEndOfLine)
         | Edit::EraseInDisplay(EraseInDisplay::EraseToEndOfDisplay) => {
             steps.push(Step::EraseRight)?;

@@ -149,7 +149,7 @@ export interface HtmlOptions {
 /** Which colours stay: all, or the nearest of 256 or of 16. */
 export type Colors = 'all' | 256 | 16;
 
-/** A wrong type, or an option that there isn't, is a TypeError. */
+/** A wrong type, or an option that a call with options doesn't have, is a TypeError. */
 export class Codec {
     private constructor();
     /** Loads the modules: from beside this file, or from what is passed. */

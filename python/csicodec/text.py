@@ -55,8 +55,9 @@ def strip(text: AnyStr) -> AnyStr:
 def clean(text: AnyStr, *, colors: Optional[int] = None, links: bool = False) -> AnyStr:
     """The visible text with its styles, but none that hides text, and none left open at the end.
 
-    `colors=256` and `colors=16` make each colour the nearest of the first so many; `links` keeps links (OSC 8) to a host by
-    http or https whose address is at most 2,083 visible ASCII characters, without a user's name.
+    `colors=256` makes each true colour the nearest of places 16 to 255, and `colors=16` each colour the nearest of the first 16;
+    `links` keeps links (OSC 8) to a host by http or https whose address is at most 2,083 visible ASCII characters, without a
+    user's name.
 
     >>> clean("\\x1b[1;8mbold\\x1b[5;7H")
     '\\x1b[1mbold\\x1b[0m'

@@ -53,7 +53,8 @@ def strip(text: AnyStr) -> AnyStr:
 
 
 def clean(text: AnyStr, *, colors: Optional[int] = None, links: bool = False) -> AnyStr:
-    """The visible text with its styles, but none that hides text, and none left open at the end.
+    """The visible text with its known styles (SGR), except the one that conceals text (8), other fonts (11 to 20), and 26, 50 to 52, 54 and
+    60 to 65. None is left open at the end.
 
     `colors=256` makes each true colour the nearest of places 16 to 255, and `colors=16` each colour the nearest of the first 16;
     `links` keeps links (OSC 8) to a host by http or https whose address is at most 2,083 visible ASCII characters, without a
@@ -97,8 +98,8 @@ def html(text: AnyStr, *, links: bool = False, classes: bool = False, fragment: 
 
 
 def overwrite(text: AnyStr, *, styles: bool = False) -> AnyStr:
-    """Each line as it stands when it ends: what a carriage return, a backspace or an erase hides is gone. It is plain text, with `styles`
-    the sequences (SGR) too that set how characters look.
+    """Each line as it stands when it ends: what a carriage return, a backspace or an erase hides in it is gone, but not in a line of more than
+    512 columns. It is plain text, with `styles` the sequences (SGR) too that set how characters look.
 
     >>> overwrite("10%\\r20%\\r\\x1b[Kdone\\n")
     'done\\n'

@@ -287,8 +287,8 @@ struct csicodec_stripped {
  * UTF-8 become U+FFFD. It is written to out if needed <= room; otherwise nothing is written. */
 struct csicodec_stripped csicodec_strip(const uint8_t *bytes, size_t len, uint8_t *out, size_t room);
 
-/* As csicodec_strip, with the known attributes (SGR) but concealed text and other fonts, in their normal form; if the last of them isn't a reset, a reset
- * ends the text. */
+/* As csicodec_strip, with the known attributes (SGR), except the one that conceals text (8), other fonts (11 to 20), and 26, 50 to 52, 54 and 60 to 65,
+ * in their normal form; if the last of them isn't a reset, a reset ends the text. */
 struct csicodec_stripped csicodec_clean(const uint8_t *bytes, size_t len, uint8_t *out, size_t room);
 
 /* Which colours stay. */
@@ -328,9 +328,9 @@ struct csicodec_stripped csicodec_html(const struct csicodec_markup *markup, con
                                        size_t len, uint8_t *out, size_t room);
 
 /* Writes each line of len untrusted bytes, which are a whole text, as it stands when it ends: what a carriage return, a backspace or an
- * erase hides is gone. It is plain text as csicodec_strip's or, if `styles` is 1, has the sequences (SGR) that set how characters look, and at
- * the end of each line none is set. It is written to out if needed <= room; otherwise nothing is written. For styles above 1 the status is
- * CSICODEC_BAD_STATE. */
+ * erase hides in it is gone, but not in a line of more than 512 columns. It is plain text as csicodec_strip's or, if `styles` is 1, has the
+ * sequences (SGR) that set how characters look, and at the end of each line none is set. It is written to out if needed <= room; otherwise
+ * nothing is written. For styles above 1 the status is CSICODEC_BAD_STATE. */
 struct csicodec_stripped csicodec_overwrite(uint32_t styles, const uint8_t *bytes, size_t len, uint8_t *out, size_t room);
 
 /* Writes a whole stream of len bytes in fewer, as `csicodec compact` does, with semicolons if `semicolons` is 1 (csicodec_compact_semicolons):

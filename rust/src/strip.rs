@@ -15,8 +15,8 @@ pub fn strip(bytes: impl AsRef<[u8]>) -> Result<String, Error> {
     left(raw::strip, bytes.as_ref())
 }
 
-/// The text of untrusted bytes as [`strip`], with the known attributes (SGR) but concealed text and other fonts, in their normal form. If the last of them
-/// isn't a reset, a reset ends the text, so that it doesn't colour later output.
+/// The text of untrusted bytes as [`strip`], with the known attributes (SGR), except the one that conceals text (8), other fonts (11 to 20), and 26,
+/// 50 to 52, 54 and 60 to 65, in their normal form. If the last of them isn't a reset, a reset ends the text, so that it doesn't colour later output.
 ///
 /// ```
 /// assert_eq!(csicodec::clean(b"\x1b[01;31mred\x1b[2Jtext")?, "\x1b[1m\x1b[31mredtext\x1b[0m");

@@ -434,7 +434,8 @@ export class Codec {
         return this.#written(input, 8, stripCall);
     }
 
-    /** The visible text with its styles. `colors` is 'all', 256 or 16; `links` keeps links to hosts by http or https. */
+    /** The visible text with its known styles (SGR), except the one that conceals text (8), other fonts (11 to 20), and 26, 50 to 52, 54 and 60 to 65.
+     * `colors` is 'all', 256 or 16; `links` keeps links to hosts by http or https. */
     clean(input, options) {
         const { colors, links } = optionsOf(options, { colors: 'all', links: false }), depth = depthOf(colors);
         if (typeof input === 'string' && plainEnd(input) === input.length) return input;
@@ -490,7 +491,7 @@ export class Codec {
     compactStream(options) { return streamOf(new Filter(this, optionsOf(options, { semicolons: false }).semicolons ? 'csicodec_compact_semicolons' : 'csicodec_compact')); }
 
     /** The spans of a stream in words, as objects: at, kind, text or hex, and actions with name, words and action. `name` is a file's:
-     * one that ends in .cast is a recording of asciinema, and its spans have their time. */
+     * one that ends in .cast is a recording of asciinema, as any is whose first line is that of one, and its spans have their time. */
     explain(input, options) {
         const spans = [];
         this.explainEach(input, options, lines => { for (const line of lines) spans.push(JSON.parse(line)); });

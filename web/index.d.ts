@@ -158,7 +158,8 @@ export class Codec {
     readonly modules: { library: Module; explain: Module };
     /** The visible text: no control but newline and tab. Of a string a string, of bytes bytes. */
     strip<T extends Input>(input: T): T extends string ? string : Uint8Array;
-    /** The visible text with its styles; with `links` also links to hosts by http or https. */
+    /** The visible text with its known styles (SGR), except the one that conceals text (8), other fonts (11 to 20), and 26, 50 to 52, 54 and 60 to 65;
+     * with `links` also links to hosts by http or https. */
     clean<T extends Input>(input: T, options?: { colors?: Colors; links?: boolean }): T extends string ? string : Uint8Array;
     /** A page of HTML with the text, its colours and styles, each line as it stands when it ends. */
     html<T extends Input>(input: T, options?: HtmlOptions): T extends string ? string : Uint8Array;
@@ -194,7 +195,7 @@ export class Codec {
     encode(actions: Iterable<Action>): Uint8Array;
     /** The same actions in a text that is no longer, if each is read back from its own text. */
     encodeCompact(actions: Iterable<Action>): Uint8Array;
-    /** The spans of a stream, in words. */
+    /** The spans of a stream, in words. One whose first line is that of an asciicast is read as the recording. */
     explain(input: Input, options?: ExplainOptions): Span[];
     /** The same as lines of JSON, which `each` is called with as they come. */
     explainEach(input: Input, options: ExplainOptions | undefined, each: (lines: string[]) => void): void;

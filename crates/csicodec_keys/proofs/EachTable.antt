@@ -1,14 +1,19 @@
 -- What is computed of the tables.
-use Rattle.std.proofs.Common.{◌≡◌, refl}
-use Rattle.std.specs.Prelude.{Bool, true, false, not, is_none, nat_lt, ◌==◌, ◌&&◌}
-use Rattle.std.specs.List.{list_all}
+use Rattle.std.proofs.Common.{Option, None, Some, refl}
+use Rattle.std.specs.Prelude.{Bool, true, false, not, ◌==◌, ◌&&◌, nat_lt, is_none, if◌then◌else◌}
+use Rattle.std.specs.Fmt.{decimal, digits}
+use lib.Utf8.{scalar}
+use Rattle.csicodec_events.specs.Input.{is_printable}
 use Rattle.csicodec_keys.specs.declared.code.KeyCode.{KeyCode}
 use Rattle.csicodec_keys.specs.declared.code.KeyCode.TheVariants as code
 use Rattle.csicodec_keys.specs.declared.tables.Row.{Row}
-use Rattle.csicodec_keys.specs.Tables.{controls, csi_keys, kitty_keys, ss3_keys}
+use Rattle.csicodec_keys.specs.Tables.{controls, csi_keys, kitty_keys, linux_keys, other_keys, rxvt_keys, rxvt_ss3, ss3_cursor, ss3_keys, win32_keys}
+use Rattle.csicodec_keys.specs.SameKeys.{same_code}
 use Rattle.csicodec_keys.specs.Characters.{is_typed}
 use Rattle.csicodec_keys.specs.Rows.{row_at}
-use Rattle.csicodec_keys.proofs.AnyTable.{are_apart}
+use Rattle.csicodec_keys.specs.Forms.{csi_row}
+use Rattle.csicodec_keys.proofs.Fronts.{is_end, is_free, is_shift}
+use Rattle.csicodec_keys.proofs.AnyTable.{Table}
 
 abbrev pub is_char : KeyCode → Bool
 is_char (code.Char c) = true
@@ -18,63 +23,78 @@ is_char _ = false
 abbrev pub is_no_text : Row → Bool
 is_no_text r = not (is_char r.code && nat_lt r.held 2)
 
-pub controls-apart : are_apart controls ≡ true
-unfolding controls
-controls-apart = refl
-
 -- a character alone, which isn't text
-abbrev pub is_control_row : Row → Bool
-is_control_row r = (r.number == 0) && not (is_typed r.control)
+abbrev pub is_control : Row → Bool
+is_control r = (r.number == 0) && (not (is_typed r.control) && (is_free r.control && is_no_text r))
 
-pub controls-all : list_all is_control_row controls ≡ true
+pub controls-table : Table is_control controls
 unfolding controls
-controls-all = refl
+controls-table = record { apart = refl; all = refl }
 
-pub controls-no-text : list_all is_no_text controls ≡ true
-unfolding controls
-controls-no-text = refl
+abbrev pub is_ss3 : Row → Bool
+is_ss3 r = (r.number == 0) && (is_printable r.control && is_no_text r)
 
-pub ss3-apart : are_apart ss3_keys ≡ true
+pub ss3-table : Table is_ss3 ss3_keys
 unfolding ss3_keys
-ss3-apart = refl
+ss3-table = record { apart = refl; all = refl }
 
-abbrev pub is_alone : Row → Bool
-is_alone r = r.number == 0
+-- a number and a final character
+abbrev pub is_listed : Row → Bool
+is_listed r = nat_lt r.number 4294967296 && is_end r.control
 
-pub ss3-all : list_all is_alone ss3_keys ≡ true
-unfolding ss3_keys
-ss3-all = refl
+pub kitty-table : Table is_listed kitty_keys
+unfolding kitty_keys
+kitty-table = record { apart = refl; all = refl }
 
-pub ss3-no-text : list_all is_no_text ss3_keys ≡ true
-unfolding ss3_keys
-ss3-no-text = refl
+-- no row of kitty's own has them
+abbrev pub is_csi : Row → Bool
+is_csi r = is_listed r && (is_none (row_at kitty_keys r.number r.control) && not (is_char r.code))
 
-pub csi-apart : are_apart csi_keys ≡ true
-unfolding csi_keys
-csi-apart = refl
-
--- no row of kitty's own has its number and final character
-abbrev pub is_shared : Row → Bool
-is_shared r = nat_lt r.number 4294967296 && is_none (row_at kitty_keys r.number r.control)
-
-pub csi-all : list_all is_shared csi_keys ≡ true
+pub csi-table : Table is_csi csi_keys
 unfolding row_at csi_keys kitty_keys
-csi-all = refl
+csi-table = record { apart = refl; all = refl }
 
-abbrev pub is_named : Row → Bool
-is_named r = not (is_char r.code)
+-- a row is found as one of the same key
+abbrev pub is_same : Option Row → Row → Bool
+is_same None r = false
+is_same (Some q) r = same_code q.code r.code && (q.held == r.held)
 
-pub csi-named-all : list_all is_named csi_keys ≡ true
-unfolding csi_keys
-csi-named-all = refl
+abbrev pub is_read : Row → Bool
+is_read r = is_listed r && is_same (csi_row r.number r.control) r
 
-pub kitty-apart : are_apart kitty_keys ≡ true
-unfolding kitty_keys
-kitty-apart = refl
+abbrev pub is_rxvt : Row → Bool
+is_rxvt r = if r.control == 36 then is_shift (decimal r.number) r.number else is_read r
 
-abbrev pub is_small : Row → Bool
-is_small r = nat_lt r.number 4294967296
+pub rxvt-table : Table is_rxvt rxvt_keys
+unfolding row_at kitty_keys csi_keys rxvt_keys digits
+rxvt-table = record { apart = refl; all = refl }
 
-pub kitty-all : list_all is_small kitty_keys ≡ true
-unfolding kitty_keys
-kitty-all = refl
+-- a character alone, of no other table behind SS3
+abbrev pub is_rxvt_ss3 : Row → Bool
+is_rxvt_ss3 r = (r.number == 0) && (is_printable r.control && (is_none (row_at ss3_keys 0 r.control) && is_none (row_at ss3_cursor 0 r.control)))
+
+pub rxvt-ss3-table : Table is_rxvt_ss3 rxvt_ss3
+unfolding row_at ss3_keys ss3_cursor rxvt_ss3
+rxvt-ss3-table = record { apart = refl; all = refl }
+
+abbrev pub is_linux : Row → Bool
+is_linux r = (r.number == 0) && is_printable r.control
+
+pub linux-table : Table is_linux linux_keys
+unfolding linux_keys
+linux-table = record { apart = refl; all = refl }
+
+-- a number that is a character
+abbrev pub is_other : Row → Bool
+is_other r = scalar r.number && (r.control == 126)
+
+pub other-table : Table is_other other_keys
+unfolding other_keys
+other-table = record { apart = refl; all = refl }
+
+abbrev pub is_win32 : Row → Bool
+is_win32 r = nat_lt r.number 512 && (r.control == 95)
+
+pub win32-table : Table is_win32 win32_keys
+unfolding win32_keys
+win32-table = record { apart = refl; all = refl }

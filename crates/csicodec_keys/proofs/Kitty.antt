@@ -1,29 +1,32 @@
 -- What kitty's encoding writes of a key is read as that key.
-use Rattle.std.proofs.Common.{◌≡◌, ℕ, ◌<◌, ◌≤◌, List, length, Option, None, Some, refl, sym, ap, ◌∙◌, inl, inr, subst}
-use Rattle.std.specs.Prelude.{Bool, true, not, ◌&&◌, nat_lt, nat_le, is_none, if◌then◌else◌, option_and_then}
+use Rattle.std.proofs.Common.{◌≡◌, ℕ, ◌<◌, ◌≤◌, List, length, Option, None, Some, refl, sym, ap, ◌∙◌}
+use Rattle.std.specs.Prelude.{Bool, true, not, ◌&&◌, nat_le, nat_lt, is_none, if◌then◌else◌, option_and_then}
 use Rattle.std.specs.Option.{option_map, option_or}
 use Rattle.std.proofs.lemmas.Bool.{and_parts, ltb-true, leb-true, lt-ltb}
-use Rattle.std.proofs.lemmas.Option.{same_Some}
-use lib.Utf8.{scalar, scalar_fits, scalars}
-use Rattle.csicodec_tokens.specs.declared.param.CsiParam.{CsiParam}
+use lib.Utf8.{scalar_fits, scalars}
 use Rattle.csicodec_keys.specs.declared.code.KeyCode.{KeyCode}
 use Rattle.csicodec_keys.specs.declared.code.KeyCode.TheVariants as code
-use Rattle.csicodec_keys.specs.declared.key.Encoding.TheVariants as encoding
 use Rattle.csicodec_keys.specs.declared.key.Encoding.{Encoding}
+use Rattle.csicodec_keys.specs.declared.key.Encoding.TheVariants as encoding
 use Rattle.csicodec_keys.specs.declared.tables.Row.{Row}
-use Rattle.csicodec_keys.specs.Tables.{csi_keys, kitty_keys, rxvt_keys}
 use Rattle.csicodec_keys.specs.declared.writing.KeySpelling.{KeySpelling}
 use Rattle.csicodec_keys.specs.declared.writing.KeySpelling.TheVariants as form
+use Rattle.csicodec_keys.specs.Tables.{csi_keys, kitty_keys}
 use Rattle.csicodec_keys.specs.Characters.{is_typed}
+use Rattle.csicodec_tokens.specs.declared.param.CsiParam.{CsiParam}
 use Rattle.csicodec_keys.specs.Fields.{Says, read_list, written_list}
-use Rattle.csicodec_keys.specs.Forms.{by, csi_row, form_of, key_alone, key_by, kitty_char, kitty_row, other_key, read_csi, read_form, read_listed, row_key, said_key, told_by}
-use Rattle.csicodec_keys.specs.Win32.{read_win32}
 use Rattle.csicodec_keys.specs.Keys.{Stroke, is_code, is_stroke}
 use Rattle.csicodec_keys.specs.Rows.{row_at, row_of}
+use Rattle.csicodec_keys.specs.Win32.{read_win32}
+use Rattle.csicodec_keys.specs.Forms.{by, csi_row, form_of, key_alone, key_by, kitty_char, kitty_row}
+use Rattle.csicodec_keys.specs.Forms.{other_key, read_csi, read_listed, row_key, said_key}
+use Rattle.csicodec_keys.specs.Forms.{told_by}
+use Rattle.csicodec_keys.proofs.AnyTable.{found}
+use Rattle.csicodec_keys.proofs.Options.{allowed, either, made, none-is, three}
+use Rattle.csicodec_keys.proofs.Sound.{Fine, typed-scalar}
 use Rattle.csicodec_keys.proofs.Lists.{list-read}
-use Rattle.csicodec_keys.proofs.Options.{guarded, map-some, none-is, one-of}
-use Rattle.csicodec_keys.proofs.AnyTable.{any-row, row-all, row-has}
-use Rattle.csicodec_keys.proofs.EachTable.{csi-all, csi-apart, is_shared, is_small, kitty-all, kitty-apart}
+use Rattle.csicodec_keys.proofs.Fronts.{is_end}
+use Rattle.csicodec_keys.proofs.EachTable.{csi-table, is_char, is_csi, is_listed, kitty-table}
 
 -- the ranges of a key
 pub record InRange (s : Stroke) : Type 0 where
@@ -54,76 +57,50 @@ said-read list control says k e said =
     (ap (λ o. key_alone (option_and_then (λ (x : Says). option_or (by (told_by x control) (said_key x control)) (by encoding.ModifyOtherKeys (other_key x control x.text))) o)) e
     ∙ ap (λ o. key_alone (option_or (by (told_by says control) o) (by encoding.ModifyOtherKeys (other_key says control says.text)))) said)
 
--- the rows of both tables are read
-pub kitty-at : (c : KeyCode) (held : ℕ) (r : Row) → row_of kitty_keys c held ≡ Some r → csi_row r.number r.control ≡ Some r
-kitty-at c held r e = ap (λ o. option_or o (option_or (row_at csi_keys r.number r.control) (row_at rxvt_keys r.number r.control))) (any-row kitty_keys c held r kitty-apart e)
-
-pub csi-at : (c : KeyCode) (held : ℕ) (r : Row) → row_of csi_keys c held ≡ Some r → csi_row r.number r.control ≡ Some r
-csi-at c held r e =
-    let shared = and_parts (nat_lt r.number 4294967296) (is_none (row_at kitty_keys r.number r.control)) (row-all is_shared csi_keys c held r csi-all e) in
-    ap (λ o. option_or o (option_or (row_at csi_keys r.number r.control) (row_at rxvt_keys r.number r.control))) (none-is (row_at kitty_keys r.number r.control) shared.1)
-    ∙ ap (λ o. option_or o (row_at rxvt_keys r.number r.control)) (any-row csi_keys c held r csi-apart e)
+-- a row of xterm's is read, as kitty has no other
+pub csi-at : (r : Row) → is_none (row_at kitty_keys r.number r.control) ≡ true → row_at csi_keys r.number r.control ≡ Some r → csi_row r.number r.control ≡ Some r
+csi-at r none at = rw (none-is (row_at kitty_keys r.number r.control) none, at) refl
 
 -- the key of a row
 pub row-said : (r : Row) (x : Says) (control : ℕ) → csi_row x.number control ≡ Some r → (k : Stroke) → row_key x r ≡ Some k → said_key x control ≡ Some k
 row-said r x control at k e = ap (key_by x control) at ∙ e
 
 -- a row without modifiers of its own, with those of the list
-row-with : (r : Row) (s : Stroke) → InRange s → nat_lt r.number 4294967296 ≡ true → csi_row r.number r.control ≡ Some r → r.code ≡ s.code → r.held ≡ 0
-    → read_form (kitty_row s r) s.text ≡ Some s
-row-with r s i small at c h =
-    said-read (written_list r.number s.held s.event s.text) r.control (record { number = r.number; held = s.held; event = s.event; text = s.text }) s
-    (list-read r.number s.held s.event s.text small i.held i.text i.short)
-    (row-said r (record { number = r.number; held = s.held; event = s.event; text = s.text }) r.control at s
-    (rw (h, c) refl))
-
-kitty-row : (r : Row) (s : Stroke) → InRange s → row_of kitty_keys s.code 0 ≡ Some r → read_form (kitty_row s r) s.text ≡ Some s
-kitty-row r s i e =
-    let has = row-has kitty_keys s.code 0 r e in
-    row-with r s i (row-all is_small kitty_keys s.code 0 r kitty-all e) (kitty-at s.code 0 r e) has.code_is has.held_is
-
-csi-row : (r : Row) (s : Stroke) → InRange s → row_of csi_keys s.code 0 ≡ Some r → read_form (kitty_row s r) s.text ≡ Some s
-csi-row r s i e =
-    let has = row-has csi_keys s.code 0 r e in
-    let shared = and_parts (nat_lt r.number 4294967296) (is_none (row_at kitty_keys r.number r.control)) (row-all is_shared csi_keys s.code 0 r csi-all e) in
-    row-with r s i shared.0 (csi-at s.code 0 r e) has.code_is has.held_is
-
-scalar-small : (c : ℕ) → scalar c ≡ true → nat_lt c 4294967296 ≡ true
-scalar-small c h = lt-ltb c 4294967296 (scalar_fits c h)
+row-with : (r : Row) (s : Stroke) → InRange s → is_listed r ≡ true → csi_row r.number r.control ≡ Some r → r.code ≡ s.code → r.held ≡ 0 → Fine s.text s (kitty_row s r)
+row-with r s i h at c none =
+    let p = and_parts (nat_lt r.number 4294967296) (is_end r.control) h in
+    let x : Says = record { number = r.number; held = s.held; event = s.event; text = s.text } in
+    record {
+      read = said-read (written_list r.number s.held s.event s.text) r.control x s (list-read r.number s.held s.event s.text p.0 i.held i.text i.short)
+          (row-said r x r.control at s (rw (none, c) refl));
+      sound = (ltb-true r.number 4294967296 p.0, i.held, p.1);
+    }
 
 -- the same of another key
 abbrev said_as : Stroke → KeyCode → Stroke
 said_as s k = record { code = k; held = s.held; event = s.event; text = s.text }
 
-char-said : (c : ℕ) (s : Stroke) → InRange s → s.code ≡ code.Char c → is_typed c ≡ true → csi_row c 117 ≡ None
-    → read_form (form.Typed c s.held s.event 117) s.text ≡ Some s
-char-said c s i same typed none =
-    let t = and_parts (scalar c && not (nat_lt c 32)) (not (nat_le 127 c && nat_lt c 160)) typed in
-    let scalar_c = and_parts (scalar c) (not (nat_lt c 32)) t.0 in
-    said-read (written_list c s.held s.event s.text) 117 (record { number = c; held = s.held; event = s.event; text = s.text }) s
-    (list-read c s.held s.event s.text (scalar-small c scalar_c.0) i.held i.text i.short)
-    (ap (key_by (record { number = c; held = s.held; event = s.event; text = s.text }) 117) none
-    ∙ (ap (λ (b : Bool). if b then Some (said_as s (code.Char c)) else None) typed ∙ ap (λ (k : KeyCode). Some (said_as s k)) (sym same)))
+char-fine : (s : Stroke) (c : KeyCode) (f : KeySpelling) → InRange s → s.code ≡ c → kitty_char s c ≡ Some f → Fine s.text s f
+char-fine s (code.Char c) f i same e = allowed (Fine s.text s) (is_typed c && is_none (csi_row c 117)) (form.Typed c s.held s.event 117) f e (λ h.
+    let p = and_parts (is_typed c) (is_none (csi_row c 117)) h in
+    let fits : c < 4294967296 = scalar_fits c (typed-scalar c p.0) in
+    let x : Says = record { number = c; held = s.held; event = s.event; text = s.text } in
+    record {
+      read = said-read (written_list c s.held s.event s.text) 117 x s (list-read c s.held s.event s.text (lt-ltb c 4294967296 fits) i.held i.text i.short)
+          (ap (key_by x 117) (none-is (csi_row c 117) p.1) ∙ (ap (λ (b : Bool). if b then Some (said_as s (code.Char c)) else None) p.0 ∙ ap (λ (k : KeyCode). Some (said_as s k)) (sym same)));
+      sound = (fits, i.held, refl);
+    })
+char-fine s _ f i same e = cc
 
-kitty-char : (s : Stroke) (c : KeyCode) (f : KeySpelling) → InRange s → s.code ≡ c → kitty_char s c ≡ Some f → read_form f s.text ≡ Some s
-kitty-char s (code.Char c) f i same e =
-    let g = guarded (is_typed c && is_none (csi_row c 117)) (Some (form.Typed c s.held s.event 117)) f e in
-    let p = and_parts (is_typed c) (is_none (csi_row c 117)) g.0 in
-    subst (λ (x : KeySpelling). read_form x s.text ≡ Some s) (same_Some _ _ g.1) (char-said c s i same p.0 (none-is (csi_row c 117) p.1))
-kitty-char s _ f i same e = cc
-
-pub kitty-trip : (s : Stroke) (f : KeySpelling) → is_stroke s ≡ true → form_of encoding.Kitty s ≡ Some f → read_form f s.text ≡ Some s
-kitty-trip s f h e =
-    let i = in-range s h in
-    elim (one-of (option_map (kitty_row s) (row_of kitty_keys s.code 0)) _ f e) [
-      | inl own ↦
-          let m = map-some (kitty_row s) (row_of kitty_keys s.code 0) f own in
-          subst (λ (x : KeySpelling). read_form x s.text ≡ Some s) m.2 (kitty-row m.0 s i m.1)
-      | inr more ↦
-          elim (one-of (option_map (kitty_row s) (row_of csi_keys s.code 0)) (kitty_char s s.code) f more) [
-            | inl shared ↦
-                let m = map-some (kitty_row s) (row_of csi_keys s.code 0) f shared in
-                subst (λ (x : KeySpelling). read_form x s.text ≡ Some s) m.2 (csi-row m.0 s i m.1)
-            | inr char ↦ kitty-char s s.code f i refl char
-          ]
-    ]
+pub kitty-fine : (s : Stroke) (f : KeySpelling) → InRange s → form_of encoding.Kitty s ≡ Some f → Fine s.text s f
+kitty-fine s f i e =
+    let P = Fine s.text s in
+    either (P f) (option_map (kitty_row s) (row_of kitty_keys s.code 0)) _ f e
+    (λ own. made P (kitty_row s) (row_of kitty_keys s.code 0) f own (λ r is.
+    let t = found is_listed kitty_keys s.code 0 r kitty-table is in
+    row-with r s i t.passes (rw t.at refl) t.code_is t.held_is))
+    (λ more. either (P f) (option_map (kitty_row s) (row_of csi_keys s.code 0)) (kitty_char s s.code) f more
+    (λ shared. made P (kitty_row s) (row_of csi_keys s.code 0) f shared (λ r is.
+    let t = found is_csi csi_keys s.code 0 r csi-table is in
+    let p = three (is_listed r) (is_none (row_at kitty_keys r.number r.control)) (not (is_char r.code)) t.passes in
+    row-with r s i p.0 (csi-at r p.1 t.at) t.code_is t.held_is)) (char-fine s s.code f i refl))

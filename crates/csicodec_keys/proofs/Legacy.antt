@@ -1,62 +1,53 @@
 -- What xterm's encoding writes of a key is read as what it says of it.
-use Rattle.std.proofs.Common.{◌≡◌, ℕ, ◌+◌, ◌-◌, ◌%◌, ◌<◌, ◌≤◌, List, [], ◌∷◌, Option, None, Some, refl, sym, ap, ◌∙◌, inl, inr, arith, subst}
-use Rattle.std.specs.Prelude.{Bool, true, false, not, ◌==◌, ◌&&◌, nat_le, nat_lt, option_and_then}
+use Rattle.std.proofs.Common.{◌≡◌, ℕ, ◌+◌, ◌-◌, ◌<◌, ◌≤◌, List, [], ◌∷◌, Option, None, Some, refl, sym, ap, ◌∙◌, inl, inr, arith, subst}
+use Rattle.std.specs.Prelude.{Bool, true, false, not, ◌==◌, ◌&&◌, nat_lt, is_none}
 use Rattle.std.specs.Option.{option_map}
-use Rattle.std.proofs.lemmas.Bool.{and_parts, and_from, cases_Bool, eqb-true, ltb-true, ltb-false, lt-leb, lt-ltb, not-true}
+use Rattle.std.proofs.lemmas.Bool.{and_parts, cases_Bool, eqb-true, ltb-true, ltb-false, lt-ltb, not-true, and_left}
 use Rattle.std.proofs.lemmas.Option.{same_Some}
-use lib.Utf8.{low_scalar, scalar}
+use Rattle.csicodec_events.specs.Input.{is_printable}
 use Rattle.csicodec_keys.specs.declared.code.KeyCode.{KeyCode}
 use Rattle.csicodec_keys.specs.declared.code.KeyCode.TheVariants as code
 use Rattle.csicodec_keys.specs.declared.key.Encoding.TheVariants as encoding
-use Rattle.csicodec_keys.specs.declared.key.KeyEvent.{KeyEvent}
 use Rattle.csicodec_keys.specs.declared.key.KeyEvent.TheVariants as event
 use Rattle.csicodec_keys.specs.declared.tables.Row.{Row}
-use Rattle.csicodec_keys.specs.Tables.{controls, csi_keys, ss3_keys}
 use Rattle.csicodec_keys.specs.declared.writing.KeySpelling.{KeySpelling}
 use Rattle.csicodec_keys.specs.declared.writing.KeySpelling.TheVariants as form
+use Rattle.csicodec_keys.specs.Tables.{controls, csi_keys, kitty_keys, ss3_keys}
 use Rattle.csicodec_keys.specs.Characters.{is_alt, is_typed}
-use Rattle.csicodec_keys.specs.Fields.{written_list}
-use Rattle.csicodec_keys.specs.Forms.{alt_control, but_release, by, char_form, control_form, csi_form, form_of, held_by}
-use Rattle.csicodec_keys.specs.Forms.{key_alone, legacy_form, legacy_said, pressed, pressed_row, read_alt, read_char}
-use Rattle.csicodec_keys.specs.Forms.{read_form, read_ss3, said, ss3_by, ss3_form, text_form, text_of, typed_or, typing, with_alt, xterm_held}
+use Rattle.csicodec_keys.specs.Fields.{Says, written_list}
 use Rattle.csicodec_keys.specs.Keys.{Stroke}
 use Rattle.csicodec_keys.specs.Rows.{row_at, row_of}
-use Rattle.csicodec_keys.proofs.Kitty.{csi-at, key-alone, row-said, said-read}
+use Rattle.csicodec_keys.specs.Forms.{alt_control, char_form, control_form, csi_form, held_by, legacy_form, legacy_said}
+use Rattle.csicodec_keys.specs.Forms.{pressed, pressed_row, read_alt, read_ss3}
+use Rattle.csicodec_keys.specs.Forms.{ss3_by, ss3_form, text_form, text_of, typed_or, typing, with_alt}
+use Rattle.csicodec_keys.proofs.AnyTable.{Found, alone-at, found, pressed-row}
+use Rattle.csicodec_keys.proofs.Options.{allowed, either, four, made, three, unless}
+use Rattle.csicodec_keys.proofs.Sound.{Fine, alt-free, alt-typed, free-scalar, typed-text}
 use Rattle.csicodec_keys.proofs.Lists.{list-read}
-use Rattle.csicodec_keys.proofs.Options.{guarded, map-some, one-of, unless}
-use Rattle.csicodec_keys.proofs.AnyTable.{any-row, row-all, row-has}
-use Rattle.csicodec_keys.proofs.EachTable.{controls-all, controls-apart, controls-no-text, csi-all, csi-named-all, is_alone}
-use Rattle.csicodec_keys.proofs.EachTable.{is_char, is_control_row, is_named, is_no_text, is_shared, ss3-all, ss3-apart, ss3-no-text}
+use Rattle.csicodec_keys.proofs.Fronts.{is_end, is_free}
+use Rattle.csicodec_keys.proofs.EachTable.{controls-table, csi-table, is_char, is_control, is_csi, is_listed, is_no_text, is_ss3, ss3-table}
+use Rattle.csicodec_keys.proofs.Kitty.{csi-at, key-alone, row-said, said-read}
 
 -- but for a character with no more than shift, it says the key and what is held down
 said-pressed : (c : KeyCode) (held : ℕ) (text : List ℕ) → (is_char c && nat_lt held 2) ≡ false → legacy_said c held text ≡ pressed c held
 said-pressed (code.Char c) held text h = rw h refl
 said-pressed _ held text h = refl
 
--- of a row that is found
-pub pressed-has : (r : Row) (k : KeyCode) (held : ℕ) → r.code ≡ k → r.held ≡ held → pressed_row r ≡ pressed k held
-pressed-has r k held same down = ap (λ (c : KeyCode). pressed c r.held) same ∙ ap (pressed k) down
-
 -- of a row that is no text
-row-pressed : (r : Row) (c : KeyCode) (held : ℕ) (text : List ℕ) → is_no_text r ≡ true → r.code ≡ c → r.held ≡ held → legacy_said c held text ≡ pressed c held
-row-pressed r c held text h same down =
-    said-pressed c held text (not-true (is_char c && nat_lt held 2) (subst (λ x. not (is_char x && nat_lt held 2) ≡ true) same (subst (λ n. not (is_char r.code && nat_lt n 2) ≡ true) down h)))
+row-pressed : {test : Row → Bool} {rows : List Row} (r : Row) (c : KeyCode) (held : ℕ) (text : List ℕ) → Found test rows c held r → is_no_text r ≡ true
+    → pressed_row r ≡ legacy_said c held text
+row-pressed r c held text t h =
+    let other = subst (λ n. (is_char r.code && nat_lt n 2) ≡ false) t.held_is (not-true (is_char r.code && nat_lt r.held 2) h) in
+    pressed-row c held r t ∙ sym (said-pressed c held text (subst (λ x. (is_char x && nat_lt held 2) ≡ false) t.code_is other))
 
--- a control is found by its character
-control-at : (c : KeyCode) (held : ℕ) (r : Row) → row_of controls c held ≡ Some r → (is_typed r.control ≡ false) × (row_at controls 0 r.control ≡ Some r)
-control-at c held r e =
-    let p = and_parts (r.number == 0) (not (is_typed r.control)) (row-all is_control_row controls c held r controls-all e) in
-    (not-true (is_typed r.control) p.1, subst (λ n. row_at controls n r.control ≡ Some r) (eqb-true r.number 0 p.0) (any-row controls c held r controls-apart e))
-
-control-read : (c : KeyCode) (held : ℕ) (text : List ℕ) (f : KeySpelling) → control_form c held ≡ Some f → read_form f text ≡ Some (legacy_said c held text)
-control-read c held text f e =
-    let m = map-some (λ (r : Row). form.Text r.control) (row_of controls c held) f e in
-    let r = m.0 in
-    let at = control-at c held r m.1 in
-    let has = row-has controls c held r m.1 in
-    let told : read_char r.control ≡ Some (pressed_row r) = rw (at.0, at.1) refl in
-    subst (λ (x : KeySpelling). read_form x text ≡ Some (legacy_said c held text)) m.2
-    (told ∙ (ap Some (pressed-has r c held has.code_is has.held_is) ∙ ap Some (sym (row-pressed r c held text (row-all is_no_text controls c held r controls-no-text m.1) has.code_is has.held_is))))
+control-fine : (c : KeyCode) (held : ℕ) (text : List ℕ) (f : KeySpelling) → control_form c held ≡ Some f → Fine text (legacy_said c held text) f
+control-fine c held text f e = made (Fine text (legacy_said c held text)) (λ (r : Row). form.Text r.control) (row_of controls c held) f e (λ r is.
+    let t = found is_control controls c held r controls-table is in
+    let p = four (r.number == 0) (not (is_typed r.control)) (is_free r.control) (is_no_text r) t.passes in
+    record {
+      read = rw (not-true (is_typed r.control) p.1, alone-at controls r p.0 t.at) (ap Some (row-pressed r c held text t p.3));
+      sound = free-scalar r.control p.2;
+    })
 
 with-alt : (held n : ℕ) → 2 ≤ held → held < 8 → n ≡ held - 2 → with_alt n ≡ held
 with-alt held n low high e =
@@ -70,134 +61,85 @@ two-held c held text h = said-pressed c held text (none (is_char c))
     none : (b : Bool) → (b && nat_lt held 2) ≡ false
     none b = grind arith
 
-alt-read : (c : KeyCode) (held : ℕ) (text : List ℕ) (f : KeySpelling) → held < 8 → alt_control c held ≡ Some f → read_form f text ≡ Some (legacy_said c held text)
-alt-read c held text f high e =
+alt-fine : (c : KeyCode) (held : ℕ) (text : List ℕ) (f : KeySpelling) → held < 8 → alt_control c held ≡ Some f → Fine text (legacy_said c held text) f
+alt-fine c held text f high e =
     let u = unless (nat_lt held 2) (option_map (λ (r : Row). form.Alt r.control) (row_of controls c (held - 2))) f e in
     let low : 2 ≤ held = ltb-false held 2 u.0 in
-    let m = map-some (λ (r : Row). form.Alt r.control) (row_of controls c (held - 2)) f u.1 in
-    let r = m.0 in
-    let at = control-at c (held - 2) r m.1 in
-    let has = row-has controls c (held - 2) r m.1 in
-    let told : key_alone (by encoding.Legacy (read_alt r.control)) ≡ Some (pressed r.code (with_alt r.held)) = key-alone encoding.Legacy (read_alt r.control) ∙ rw (at.0, at.1) refl in
-    subst (λ (x : KeySpelling). read_form x text ≡ Some (legacy_said c held text)) m.2
-    (told ∙ (ap (λ (k : KeyCode). Some (pressed k (with_alt r.held))) has.code_is
-    ∙ (ap (λ (n : ℕ). Some (pressed c n)) (with-alt held r.held low high has.held_is) ∙ ap Some (sym (two-held c held text low)))))
+    made (Fine text (legacy_said c held text)) (λ (r : Row). form.Alt r.control) (row_of controls c (held - 2)) f u.1 (λ r is.
+    let t = found is_control controls c (held - 2) r controls-table is in
+    let p = four (r.number == 0) (not (is_typed r.control)) (is_free r.control) (is_no_text r) t.passes in
+    record {
+      read =
+          key-alone encoding.Legacy (read_alt r.control) ∙ (rw (not-true (is_typed r.control) p.1, alone-at controls r p.0 t.at) refl
+          ∙ (ap (λ (k : KeyCode). Some (pressed k (with_alt r.held))) t.code_is
+          ∙ (ap (λ (n : ℕ). Some (pressed c n)) (with-alt held r.held low high t.held_is) ∙ ap Some (sym (two-held c held text low)))));
+      sound = p.2;
+    })
 
-ss3-read : (c : KeyCode) (held : ℕ) (text : List ℕ) (f : KeySpelling) → ss3_form c held ≡ Some f → read_form f text ≡ Some (legacy_said c held text)
-ss3-read c held text f e =
-    let m = map-some (λ (r : Row). form.Ss3 r.control) (row_of ss3_keys c held) f e in
-    let r = m.0 in
-    let has = row-has ss3_keys c held r m.1 in
-    let at : row_at ss3_keys 0 r.control ≡ Some r =
-    subst (λ n. row_at ss3_keys n r.control ≡ Some r) (eqb-true r.number 0 (row-all is_alone ss3_keys c held r ss3-all m.1)) (any-row ss3_keys c held r ss3-apart m.1)
-    in
-    let told : key_alone (by (ss3_by r.control) (read_ss3 r.control)) ≡ Some (pressed_row r) = key-alone (ss3_by r.control) (read_ss3 r.control) ∙ rw at refl in
-    subst (λ (x : KeySpelling). read_form x text ≡ Some (legacy_said c held text)) m.2
-    (told ∙ (ap Some (pressed-has r c held has.code_is has.held_is) ∙ ap Some (sym (row-pressed r c held text (row-all is_no_text ss3_keys c held r ss3-no-text m.1) has.code_is has.held_is))))
+ss3-fine : (c : KeyCode) (held : ℕ) (text : List ℕ) (f : KeySpelling) → ss3_form c held ≡ Some f → Fine text (legacy_said c held text) f
+ss3-fine c held text f e = made (Fine text (legacy_said c held text)) (λ (r : Row). form.Ss3 r.control) (row_of ss3_keys c held) f e (λ r is.
+    let t = found is_ss3 ss3_keys c held r ss3-table is in
+    let p = three (r.number == 0) (is_printable r.control) (is_no_text r) t.passes in
+    record {
+      read = key-alone (ss3_by r.control) (read_ss3 r.control) ∙ rw (alone-at ss3_keys r p.0 t.at) (ap Some (row-pressed r c held text t p.2));
+      sound = p.1;
+    })
 
 -- text is what a key types
 text-is : (c held d : ℕ) (text : List ℕ) → text_of c held text ≡ Some d → typed_or c text ≡ d
-text-is c held d [] e = same_Some c d (guarded (held == 0) (Some c) d e).1
+text-is c held d [] e = allowed (λ x. c ≡ x) (held == 0) c d e (λ none. refl)
 text-is c held d (x ∷ []) e = same_Some x d e
 text-is c held d (x ∷ y ∷ ys) e = cc
 
-text-read : (o : Option ℕ) (text : List ℕ) (f : KeySpelling) → text_form o ≡ Some f → (d : ℕ) × (o ≡ Some d) × (read_form f text ≡ Some (typing d))
-text-read None text f e = cc
-text-read (Some d) text f e =
-    let g = guarded (is_typed d) (Some (form.Text d)) f e in
-    (d, refl, subst (λ (x : KeySpelling). read_form x text ≡ Some (typing d)) (same_Some _ _ g.1) (rw g.0 refl))
+text-fine : (o : Option ℕ) (c : ℕ) (text : List ℕ) (f : KeySpelling) → ((d : ℕ) → o ≡ Some d → c ≡ d) → text_form o ≡ Some f → Fine text (typing c) f
+text-fine None c text f same e = cc
+text-fine (Some d) c text f same e =
+    allowed (Fine text (typing c)) (is_typed d) (form.Text d) f e (λ h. record { read = rw (same d refl, h) refl; sound = typed-text d h })
 
-alt-typed : (c : ℕ) → is_alt c ≡ true → is_typed c ≡ true
-alt-typed c h =
-    let p = and_parts (not (nat_lt c 32) && nat_lt c 127) _ h in
-    let q = and_parts (not (nat_lt c 32)) (nat_lt c 127) p.0 in
-    let high = ltb-true c 127 q.1 in
-    let last : not (nat_le 127 c && nat_lt c 160) ≡ true = rw (lt-leb 127 c high) refl in
-    and_from (scalar c && not (nat_lt c 32)) (not (nat_le 127 c && nat_lt c 160)) (and_from (scalar c) (not (nat_lt c 32)) (low_scalar c (omega (arith, high))) q.0) last
-
-char-read : (c : KeyCode) (held : ℕ) (text : List ℕ) (f : KeySpelling) → char_form c held text ≡ Some f → read_form f text ≡ Some (legacy_said c held text)
-char-read (code.Char c) held text f e = elim (cases_Bool (nat_lt held 2)) [
-  | inl low ↦
-      let t = text-read (text_of c held text) text f (rw low at e) in
-      t.2 ∙ rw (low, text-is c held t.0 text t.1) refl
-  | inr high ↦
-      let g = guarded ((held == 2) && is_alt c) (Some (form.Alt c)) f (rw high at e) in
-      let p = and_parts (held == 2) (is_alt c) g.0 in
-      subst (λ (x : KeySpelling). read_form x text ≡ Some (legacy_said (code.Char c) held text)) (same_Some _ _ g.1)
-      (rw (alt-typed c p.1, eqb-true held 2 p.0) refl)
+char-fine : (c : KeyCode) (held : ℕ) (text : List ℕ) (f : KeySpelling) → char_form c held text ≡ Some f → Fine text (legacy_said c held text) f
+char-fine (code.Char c) held text f e = elim (cases_Bool (nat_lt held 2)) [
+  | inl low ↦ rw low (text-fine (text_of c held text) (typed_or c text) text f (λ d is. text-is c held d text is) (rw low at e))
+  | inr high ↦ allowed (Fine text (legacy_said (code.Char c) held text)) ((held == 2) && is_alt c) (form.Alt c) f (rw high at e) (λ h.
+      let p = and_parts (held == 2) (is_alt c) h in
+      record { read = rw (alt-typed c p.1, eqb-true held 2 p.0) refl; sound = alt-free c p.1 })
 ]
-char-read code.Escape held text f e =
-    let g = guarded (held == 0) (Some form.Escape) f e in
-    subst (λ (x : KeySpelling). read_form x text ≡ Some (legacy_said code.Escape held text)) (same_Some _ _ g.1) (rw (eqb-true held 0 g.0) refl)
-char-read _ held text f e = cc
+char-fine code.Escape held text f e =
+    allowed (Fine text (legacy_said code.Escape held text)) (held == 0) form.Escape f e (λ h. record { read = rw (eqb-true held 0 h) refl; sound = tt })
+char-fine _ held text f e = cc
 
 held-own : (h : ℕ) → held_by h 0 ≡ Some h
 held-own h = elim (cases_Bool (h == 0)) [ inl none ↦ rw (none, eqb-true h 0 none) refl | inr some ↦ rw some refl ]
 
--- a control sequence of a row
-csi-said : (r : Row) (c : KeyCode) (own held all : ℕ) (text : List ℕ) → row_of csi_keys c own ≡ Some r → held < 256 → held_by own held ≡ Some all
-    → read_form (form.Csi r.number held r.control) text ≡ Some (pressed c all)
-csi-said r c own held all text e h says =
-    let has = row-has csi_keys c own r e in
-    let shared = and_parts (nat_lt r.number 4294967296) _ (row-all is_shared csi_keys c own r csi-all e) in
-    said-read (written_list r.number held event.Press []) r.control (record { number = r.number; held = held; event = event.Press; text = [] }) (pressed c all)
-    (list-read r.number held event.Press [] shared.0 h refl (omega arith))
-    (row-said r (record { number = r.number; held = held; event = event.Press; text = [] }) r.control (csi-at c own r e) (pressed c all)
-    (rw (has.held_is, says, has.code_is) refl))
+no-char : (c : KeyCode) (held : ℕ) → not (is_char c) ≡ true → (is_char c && nat_lt held 2) ≡ false
+no-char c held h = and_left (is_char c) (nat_lt held 2) (not-true (is_char c) h)
 
--- no key of a character has a row there
-csi-named : (r : Row) (c : KeyCode) (own held : ℕ) (text : List ℕ) → row_of csi_keys c own ≡ Some r → legacy_said c held text ≡ pressed c held
-csi-named r c own held text e =
-    let has = row-has csi_keys c own r e in
-    said-pressed c held text (still (is_char c) (subst (λ x. not (is_char x) ≡ true) has.code_is (row-all is_named csi_keys c own r csi-named-all e)))
-  where
-    still : (b : Bool) → not b ≡ true → (b && nat_lt held 2) ≡ false
-    still true h = cc
-    still false h = refl
+-- a control sequence of a row, with these modifiers in its list
+csi-row : (r : Row) (c : KeyCode) (own held all : ℕ) (text : List ℕ) → row_of csi_keys c own ≡ Some r → held < 256 → held_by own held ≡ Some all
+    → Fine text (legacy_said c all text) (form.Csi r.number held r.control)
+csi-row r c own held all text e h says =
+    let t = found is_csi csi_keys c own r csi-table e in
+    let p = three (is_listed r) (is_none (row_at kitty_keys r.number r.control)) (not (is_char r.code)) t.passes in
+    let q = and_parts (nat_lt r.number 4294967296) (is_end r.control) p.0 in
+    let x : Says = record { number = r.number; held = held; event = event.Press; text = [] } in
+    let named = said-pressed c all text (no-char c all (subst (λ k. not (is_char k) ≡ true) t.code_is p.2)) in
+    record {
+      read = said-read (written_list r.number held event.Press []) r.control x (pressed c all) (list-read r.number held event.Press [] q.0 h refl (omega arith))
+          (row-said r x r.control (csi-at r p.1 t.at) (pressed c all) (rw (t.held_is, says, t.code_is) refl))
+          ∙ ap Some (sym named);
+      sound = (ltb-true r.number 4294967296 q.0, h, q.1);
+    }
 
-csi-read : (c : KeyCode) (held : ℕ) (text : List ℕ) (f : KeySpelling) → held < 8 → csi_form c held ≡ Some f → read_form f text ≡ Some (legacy_said c held text)
-csi-read c held text f h e = elim (one-of (option_map (λ (r : Row). form.Csi r.number 0 r.control) (row_of csi_keys c held)) _ f e) [
-  | inl own ↦
-      let m = map-some (λ (r : Row). form.Csi r.number 0 r.control) (row_of csi_keys c held) f own in
-      subst (λ (x : KeySpelling). read_form x text ≡ Some (legacy_said c held text)) m.2
-      (csi-said m.0 c held 0 held text m.1 (omega arith) (held-own held) ∙ ap Some (sym (csi-named m.0 c held held text m.1)))
-  | inr list ↦
-      let m = map-some (λ (r : Row). form.Csi r.number held r.control) (row_of csi_keys c 0) f list in
-      subst (λ (x : KeySpelling). read_form x text ≡ Some (legacy_said c held text)) m.2
-      (csi-said m.0 c 0 held held text m.1 (omega arith) refl ∙ ap Some (sym (csi-named m.0 c 0 held text m.1)))
-]
+csi-fine : (c : KeyCode) (held : ℕ) (text : List ℕ) (f : KeySpelling) → held < 8 → csi_form c held ≡ Some f → Fine text (legacy_said c held text) f
+csi-fine c held text f h e =
+    let P = Fine text (legacy_said c held text) in
+    either (P f) (option_map (λ (r : Row). form.Csi r.number 0 r.control) (row_of csi_keys c held)) _ f e
+    (λ own. made P (λ (r : Row). form.Csi r.number 0 r.control) (row_of csi_keys c held) f own (λ r is. csi-row r c held 0 held text is (omega arith) (held-own held)))
+    (λ list. made P (λ (r : Row). form.Csi r.number held r.control) (row_of csi_keys c 0) f list (λ r is. csi-row r c 0 held held text is (omega arith) refl))
 
-forms-read : (s : Stroke) (held : ℕ) (f : KeySpelling) → held < 8 → legacy_form s held ≡ Some f → read_form f s.text ≡ Some (legacy_said s.code held s.text)
-forms-read s held f h e = elim (one-of (control_form s.code held) _ f e) [
-  | inl found ↦ control-read s.code held s.text f found
-  | inr more ↦ elim (one-of (alt_control s.code held) _ f more) [
-    | inl found ↦ alt-read s.code held s.text f h found
-    | inr more ↦ elim (one-of (ss3_form s.code held) _ f more) [
-      | inl found ↦ ss3-read s.code held s.text f found
-      | inr more ↦ elim (one-of (char_form s.code held s.text) (csi_form s.code held) f more) [
-        | inl found ↦ char-read s.code held s.text f found
-        | inr found ↦ csi-read s.code held s.text f h found
-      ]
-    ]
-  ]
-]
-
-pub below-eight : (n : ℕ) → n % 8 < 8
-below-eight n = omega arith
-
--- a form that isn't left out
-pub released : (e : KeyEvent) (o : Option KeySpelling) (f : KeySpelling) → but_release e o ≡ Some f → o ≡ Some f
-released event.Press o f e = e
-released event.Repeat o f e = e
-released event.Release o f e = cc
-
-pub nothing : (f : KeySpelling) → ◌≡◌ {A = Option KeySpelling} None (Some f) → ⊥
-nothing f e = cc
-
-pub legacy-trip : (s : Stroke) (f : KeySpelling) → form_of encoding.Legacy s ≡ Some f → read_form f s.text ≡ Some (said encoding.Legacy s)
-legacy-trip s f e =
-    let u = released s.event (option_and_then (legacy_form s) (xterm_held s.held)) f e in
-    elim (cases_Bool (nat_lt (s.held % 64) 8)) [
-      | inl some ↦ forms-read s (s.held % 8) f (below-eight s.held) (rw some at u)
-      | inr none ↦ absurd (nothing f (rw none at u))
-    ]
+pub legacy-fine : (s : Stroke) (held : ℕ) (f : KeySpelling) → held < 8 → legacy_form s held ≡ Some f → Fine s.text (legacy_said s.code held s.text) f
+legacy-fine s held f h e =
+    let P = Fine s.text (legacy_said s.code held s.text) f in
+    either P (control_form s.code held) _ f e (control-fine s.code held s.text f)
+    (λ e. either P (alt_control s.code held) _ f e (alt-fine s.code held s.text f h)
+    (λ e. either P (ss3_form s.code held) _ f e (ss3-fine s.code held s.text f)
+    (λ e. either P (char_form s.code held s.text) (csi_form s.code held) f e (char-fine s.code held s.text f) (csi-fine s.code held s.text f h))))

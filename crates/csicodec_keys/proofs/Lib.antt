@@ -3,14 +3,14 @@ pub mod SameKeys
 pub mod Options
 pub mod AnyTable
 pub mod Lists
+pub mod Spelled
+pub mod Fronts
 pub mod EachTable
+pub mod Sound
 pub mod Legacy
 pub mod Kitty
 pub mod Others
 pub mod Records
 pub mod Trip
-pub mod Spelled
-pub mod Fronts
 pub mod Typed
 pub mod Told
-pub mod Written

@@ -1,21 +1,28 @@
-use Rattle.csicodec_keys.proofs.Written.{legacy-controls-written, legacy-ss3-written, legacy-csi-written, other-written}
-use Rattle.csicodec_keys.proofs.Written.{kitty-written, shared-written, win32-written, rxvt-written, rxvt-ss3-written, linux-written}
+use Rattle.std.proofs.Common.{refl}
+use Rattle.csicodec_keys.specs.Rows.{row_at, row_of}
+use Rattle.csicodec_keys.specs.Tables.{controls, csi_keys, kitty_keys, linux_keys, other_keys, rxvt_keys, rxvt_ss3, ss3_keys, win32_keys}
 use Rattle.csicodec_keys.proofs.laws.every_row.Goals as goal
 
 pub returns-clause-legacy : goal.returns-clause-legacy
-returns-clause-legacy c = (legacy-controls-written, legacy-ss3-written, legacy-csi-written)
+unfolding row_of controls ss3_keys csi_keys
+returns-clause-legacy c = (refl, refl, refl)
 
 pub returns-clause-other : goal.returns-clause-other
-returns-clause-other c = other-written
+unfolding row_of row_at other_keys
+returns-clause-other c = refl
 
 pub returns-clause-kitty : goal.returns-clause-kitty
-returns-clause-kitty c = (kitty-written, shared-written)
+unfolding row_of row_at kitty_keys csi_keys rxvt_keys
+returns-clause-kitty c = (refl, refl)
 
 pub returns-clause-win32 : goal.returns-clause-win32
-returns-clause-win32 c = win32-written
+unfolding row_of win32_keys
+returns-clause-win32 c = refl
 
 pub returns-clause-rxvt : goal.returns-clause-rxvt
-returns-clause-rxvt c = (rxvt-written, rxvt-ss3-written)
+unfolding row_of rxvt_keys rxvt_ss3
+returns-clause-rxvt c = (refl, refl)
 
 pub returns-clause-linux : goal.returns-clause-linux
-returns-clause-linux c = linux-written
+unfolding row_of linux_keys
+returns-clause-linux c = refl

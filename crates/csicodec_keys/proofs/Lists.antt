@@ -1,13 +1,12 @@
 -- A list is read as what it was written of.
-use Rattle.std.proofs.Common.{◌≡◌, ℕ, ◌+◌, ◌-◌, ◌<◌, ◌≤◌, List, [], ◌∷◌, ◌++◌, length, None, Some, refl, ap, ◌∙◌, inl, inr, pos, arith, length-append, append_assoc}
-use Rattle.std.specs.Prelude.{Bool, true, false, ◌==◌, ◌&&◌, nat_lt, if◌then◌else◌, option_and_then}
-use Rattle.std.specs.Option.{option_map}
+use Rattle.std.proofs.Common.{◌≡◌, ℕ, ◌+◌, ◌-◌, ◌<◌, ◌≤◌, List, [], ◌∷◌, ◌++◌, length, Some, refl, ap, ◌∙◌, inl, inr, pos, arith, length-append, append_assoc}
+use Rattle.std.specs.Prelude.{true, false, ◌==◌, ◌&&◌, nat_lt, option_and_then}
 use Rattle.std.proofs.lemmas.Bool.{and_parts, cases_Bool, eqb-true, lt-ltb}
 use lib.Utf8.{scalar, scalars}
 use Rattle.csicodec_tokens.specs.declared.param.CsiParam.TheVariants.{Integer}
 use Rattle.csicodec_keys.specs.declared.key.KeyEvent.{KeyEvent}
 use Rattle.csicodec_keys.specs.declared.key.KeyEvent.TheVariants as event
-use Rattle.csicodec_keys.specs.Fields.{char_of, characters, colon_list, from_separator, held_front, held_list, held_of}
+use Rattle.csicodec_keys.specs.Fields.{characters, colon_list, from_separator, held_front, held_list, held_of}
 use Rattle.csicodec_keys.specs.Fields.{is_empty, is_plain, number_of, read_list, text_front, text_list, with_char, written_list}
 
 held-of : (held : ℕ) → held < 256 → held_of (pos (held + 1)) ≡ Some held
@@ -20,16 +19,9 @@ held-of held h =
 number-of : (n : ℕ) → nat_lt n 4294967296 ≡ true → number_of (pos n) ≡ Some n
 number-of n h = rw h refl
 
-char-of : (c : ℕ) → scalar c ≡ true → char_of (pos c) ≡ Some c
-char-of c h = ap (λ (b : Bool). if b then Some c else None) h
-
-not-full : (n : ℕ) → n < 32 → (n == 32) ≡ false
-not-full n h = grind arith
-
 with-char : (text : List ℕ) (c : ℕ) → scalar c ≡ true → length text < 32 → with_char text (pos c) ≡ Some (text ++ c ∷ [])
 unfolding with_char
-with-char text c s h =
-    ap (λ (b : Bool). if b then None else option_map (λ x. text ++ x ∷ []) (char_of (pos c))) (not-full (length text) h) ∙ ap (option_map (λ x. text ++ x ∷ [])) (char-of c s)
+with-char text c s h = let room : (length text == 32) ≡ false = grind arith in rw (room, s) refl
 
 chars-read : (text : List ℕ) (c : ℕ) (cs : List ℕ) → scalars (c ∷ cs) ≡ true → length text + length (c ∷ cs) ≤ 32 → characters text (Integer (pos c) ∷ colon_list cs) ≡ Some (text ++ c ∷ cs)
 chars-read text c [] s h = ap (option_and_then (λ more. characters more [])) (with-char text c (and_parts (scalar c) true s).0 (omega (arith, h)))
@@ -62,16 +54,12 @@ with-number : (n held : ℕ) (e : KeyEvent) (text : List ℕ) → nat_lt n 42949
 with-number n held e text small h s short =
     rw (number-of n small, separated held e text, held-read held e text h, text-read text s short) refl
 
-no-true : (b : Bool) → (b && false) ≡ true → ⊥
-no-true true h = cc
-no-true false h = cc
-
 -- nothing is said but a key of number 1
 plain-parts : (held : ℕ) (e : KeyEvent) (text : List ℕ) → is_plain held e text ≡ true → (held ≡ 0) × (e ≡ event.Press) × (text ≡ [])
 plain-parts held event.Press [] h = (eqb-true held 0 (and_parts (held == 0) true h).0, refl, refl)
-plain-parts held event.Press (c ∷ cs) h = absurd (no-true (held == 0) h)
-plain-parts held event.Repeat text h = absurd (no-true (held == 0) h)
-plain-parts held event.Release text h = absurd (no-true (held == 0) h)
+plain-parts held event.Press (c ∷ cs) h = absurd (grind arith)
+plain-parts held event.Repeat text h = absurd (grind arith)
+plain-parts held event.Release text h = absurd (grind arith)
 
 pub list-read : (n held : ℕ) (e : KeyEvent) (text : List ℕ) → nat_lt n 4294967296 ≡ true → held < 256 → scalars text ≡ true → length text ≤ 32
     → read_list (written_list n held e text) ≡ Some (record { number = n; held = held; event = e; text = text })

@@ -1,15 +1,14 @@
 -- What Win32-input-mode writes of a key is read as what it says of it.
-use Rattle.std.proofs.Common.{◌≡◌, ℕ, pos, ◌+◌, ◌*◌, ◌/◌, ◌%◌, ◌<◌, ◌≤◌, List, [], ◌∷◌, Option, None, Some, refl, sym, ap, ◌∙◌, inl, inr, arith, subst}
-use Rattle.std.specs.Prelude.{Bool, true, false, not, ◌==◌, ◌&&◌, ◌||◌, nat_le, nat_lt, option_and_then}
+use Rattle.std.proofs.Common.{◌≡◌, ℕ, pos, ◌+◌, ◌*◌, ◌/◌, ◌%◌, ◌<◌, List, [], ◌∷◌, Option, None, Some, refl, sym, ap, ◌∙◌, inl, inr, arith, subst}
+use Rattle.std.specs.Prelude.{Bool, true, false, not, ◌==◌, ◌&&◌, ◌||◌, nat_lt, option_and_then}
 use Rattle.std.specs.Option.{option_map, option_or}
-use Rattle.std.proofs.lemmas.Bool.{agree_below, agree_below_at, and_parts, cases_Bool, eqb-false, eqb-true, leb-true, lt-ltb, ltb-true}
+use Rattle.std.proofs.lemmas.Bool.{agree_below, agree_below_at, and_parts, cases_Bool, eqb-false, eqb-true, lt-ltb, ltb-true}
 use Rattle.std.proofs.lemmas.Option.{same_Some}
 use Rattle.csicodec_keys.specs.declared.code.KeyCode.{KeyCode}
 use Rattle.csicodec_keys.specs.declared.code.KeyCode.TheVariants as code
 use Rattle.csicodec_keys.specs.declared.key.Encoding.{Encoding}
 use Rattle.csicodec_keys.specs.declared.key.Encoding.TheVariants as encoding
 use Rattle.csicodec_keys.specs.declared.key.KeyEvent.{KeyEvent}
-use Rattle.csicodec_keys.specs.declared.key.KeyEvent.TheVariants as event
 use Rattle.csicodec_keys.specs.declared.tables.Row.{Row}
 use Rattle.csicodec_keys.specs.declared.win32.Record.{Record}
 use Rattle.csicodec_keys.specs.declared.writing.KeySpelling.TheVariants as form
@@ -60,16 +59,8 @@ told-read vk uc kd cs k h e =
 
 -- ---- what it types
 
-control-typed : (c : ℕ) → c < 32 → is_typed c ≡ false
-control-typed c h = grind arith
-
 ctrl-low : (c held : ℕ) → ctrl_unit c held < 32
-ctrl-low c held = elim (cases_Bool ((held / 4 % 2 == 1) && nat_le 97 c && nat_le c 122)) [
-  | inl holds ↦
-      let high : c ≤ 122 = leb-true c 122 (and_parts ((held / 4 % 2 == 1) && nat_le 97 c) (nat_le c 122) holds).1 in
-      rw holds (omega (arith, high))
-  | inr fails ↦ rw fails (omega arith)
-]
+ctrl-low c held = grind arith
 
 control-low : (k : KeyCode) (held : ℕ) → control_unit k held < 32
 control-low k held = elim k as (λ x. control_unit x held < 32) [
@@ -82,6 +73,9 @@ control-low k held = elim k as (λ x. control_unit x held < 32) [
   | _ ↦ omega arith
 ]
 
+control-typed : (c : ℕ) → c < 32 → is_typed c ≡ false
+control-typed c h = grind arith
+
 -- its unit is one, and gives the text
 record Types (text : List ℕ) (uc : ℕ) : Type 0 where
   small : uc < 65536
@@ -89,8 +83,8 @@ record Types (text : List ℕ) (uc : ℕ) : Type 0 where
 
 unit-types : (k : KeyCode) (held uc : ℕ) (text : List ℕ) → unit_of k held text ≡ Some uc → Types text uc
 unit-types k held uc [] e =
-    let low = control-low k held in
-    subst (Types []) (same_Some (control_unit k held) uc e) (record { small = omega (arith, low); gives = rw (control-typed (control_unit k held) low) refl })
+    let low : uc < 32 = subst (λ n. n < 32) (same_Some (control_unit k held) uc e) (control-low k held) in
+    record { small = omega (arith, low); gives = rw (control-typed uc low) refl }
 unit-types k held uc (c ∷ []) e = allowed (Types (c ∷ [])) (is_typed c && nat_lt c 65536) c uc e (λ h.
     let p = and_parts (is_typed c) (nat_lt c 65536) h in
     record { small = ltb-true c 65536 p.1; gives = rw p.0 refl })
@@ -116,15 +110,6 @@ held-back enhanced held small low none =
 state-low : (held : ℕ) → state_of held < 256
 state-low held = omega arith
 
-bit-back : (state k : ℕ) → state < 256 → k < 2 → (state + 256 * k) / 256 % 2 ≡ k
-bit-back state k low small = omega (arith, low, small)
-
-none-more : (n : ℕ) → n + 256 * 0 ≡ n
-none-more n = omega arith
-
-below-two : (n : ℕ) → n % 2 < 2
-below-two n = omega arith
-
 -- ---- the key of a row
 
 row-there : (number : ℕ) (r : Row) → number < 512 → row_at win32_keys number 95 ≡ Some r → win32_row (number % 256) (number / 256 % 2 == 1) ≡ Some r
@@ -145,9 +130,7 @@ said-same : (s : Stroke) (cs : ℕ) (c : Option ℕ) → held_in cs ≡ s.held �
 said-same s cs c held text = rw (held, text) refl
 
 down-low : (e : KeyEvent) → down_of e < 2
-down-low event.Press = omega arith
-down-low event.Repeat = omega arith
-down-low event.Release = omega arith
+down-low e = grind arith
 
 row-fine : (s : Stroke) (r : Row) (uc : ℕ) → s.held < 256 → s.held / 8 % 8 ≡ 0 → row_of win32_keys s.code 0 ≡ Some r → unit_of s.code s.held s.text ≡ Some uc
     → Fine s.text (said encoding.Win32 s) (form.Win32 (row_record r.number (down_of s.event) (state_of s.held) uc))
@@ -158,10 +141,10 @@ row-fine s r uc low none is unit =
     let types = unit-types s.code s.held uc s.text unit in
     let unit_small = types.small in
     let state = state-low s.held in
-    let two = below-two (r.number / 256) in
+    let two : r.number / 256 % 2 < 2 = omega arith in
     let down = down-low s.event in
     let cs : ℕ = state_of s.held + 256 * (r.number / 256 % 2) in
-    let is_one : is_enhanced cs ≡ (r.number / 256 % 2 == 1) = ap (λ n. n == 1) (bit-back (state_of s.held) (r.number / 256 % 2) state two) in
+    let is_one : is_enhanced cs ≡ (r.number / 256 % 2 == 1) = ap (λ n. n == 1) (omega (arith, state, two)) in
     let coded : win32_code (win32_row (r.number % 256) (is_enhanced cs)) (typed_unit uc) ≡ Some s.code =
     ap (λ o. win32_code o (typed_unit uc)) (ap (win32_row (r.number % 256)) is_one ∙ row-there r.number r (ltb-true r.number 512 p.0) at) ∙ ap Some t.code_is in
     let small : Small (row_record r.number (down_of s.event) (state_of s.held) uc) = (omega arith, omega (arith, unit_small), omega (arith, down), omega (arith, state, two)) in
@@ -185,7 +168,8 @@ char-fine s (code.Char c) (d ∷ []) r low none same is e =
     let unit : typed_unit c ≡ Some c = rw q.1 refl in
     let coded : win32_code (win32_row 0 (is_enhanced (state_of s.held))) (typed_unit c) ≡ Some s.code =
     ap (λ o. win32_code o (typed_unit c)) (no-row (is_enhanced (state_of s.held))) ∙ (ap (option_map (λ x. code.Char x)) unit ∙ ap Some (sym same)) in
-    let back : held_in (state_of s.held) ≡ s.held = subst (λ n. held_in n ≡ s.held) (none-more (state_of s.held)) (held-back 0 s.held (omega arith) low none) in
+    let plain : state_of s.held + 256 * 0 ≡ state_of s.held = omega arith in
+    let back = subst (λ n. held_in n ≡ s.held) plain (held-back 0 s.held (omega arith) low none) in
     let text : unit_text (typed_unit c) ≡ s.text = ap unit_text unit ∙ (ap (λ n. n ∷ []) (eqb-true c d q.0) ∙ sym is) in
     let small : Small (record { vk = 0; uc = c; kd = down_of s.event; cs = state_of s.held }) = (omega arith, omega (arith, high), omega (arith, down), omega (arith, state)) in
     record {

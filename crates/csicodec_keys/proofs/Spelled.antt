@@ -65,13 +65,10 @@ spelled-in b (P c ∷ ts) text h s =
 number : (n : ℕ) → n < 4294967296 → IsFirst true (pos n)
 number n h = (omega (arith, ints), omega (arith, ints, h))
 
-abbrev IsSeparator : ℕ → Type 0
-IsSeparator c = (58 ≤ c) × (c ≤ 59)
-
-semicolon : IsSeparator 59
+semicolon : (58 ≤ 59) × (59 ≤ 59)
 semicolon = (omega arith, omega arith)
 
-colon : IsSeparator 58
+colon : (58 ≤ 58) × (58 ≤ 59)
 colon = (omega arith, omega arith)
 
 lifted : (list : List CsiParam) → Good false list → Good true list

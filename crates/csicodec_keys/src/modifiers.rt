@@ -34,43 +34,22 @@ impl KeyModifiers {
     pub const NUM_LOCK: KeyModifiers = KeyModifiers { bits: 128 };
 }
 
+macro_rules! flag {
+    ($name:expr, $value:expr) => {
+        Flag { name: $name, value: $value }
+    };
+}
+
 static MODIFIERS: [Flag<KeyModifiers>; 9] = [
-    Flag {
-        name: "NONE",
-        value: KeyModifiers::NONE,
-    },
-    Flag {
-        name: "SHIFT",
-        value: KeyModifiers::SHIFT,
-    },
-    Flag {
-        name: "ALT",
-        value: KeyModifiers::ALT,
-    },
-    Flag {
-        name: "CTRL",
-        value: KeyModifiers::CTRL,
-    },
-    Flag {
-        name: "SUPER",
-        value: KeyModifiers::SUPER,
-    },
-    Flag {
-        name: "HYPER",
-        value: KeyModifiers::HYPER,
-    },
-    Flag {
-        name: "META",
-        value: KeyModifiers::META,
-    },
-    Flag {
-        name: "CAPS_LOCK",
-        value: KeyModifiers::CAPS_LOCK,
-    },
-    Flag {
-        name: "NUM_LOCK",
-        value: KeyModifiers::NUM_LOCK,
-    },
+    flag!("NONE", KeyModifiers::NONE),
+    flag!("SHIFT", KeyModifiers::SHIFT),
+    flag!("ALT", KeyModifiers::ALT),
+    flag!("CTRL", KeyModifiers::CTRL),
+    flag!("SUPER", KeyModifiers::SUPER),
+    flag!("HYPER", KeyModifiers::HYPER),
+    flag!("META", KeyModifiers::META),
+    flag!("CAPS_LOCK", KeyModifiers::CAPS_LOCK),
+    flag!("NUM_LOCK", KeyModifiers::NUM_LOCK),
 ];
 
 impl Flags for KeyModifiers {

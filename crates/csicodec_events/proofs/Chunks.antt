@@ -1,5 +1,6 @@
 -- The events of a stream don't depend on the chunks that it came in: they are the smallest steps of all of its bytes.
 use Rattle.std.proofs.Common.{◌≡◌, ℕ, ◌≤◌, false, List, [], ◌∷◌, ◌++◌, length, refl, sym, ap, subst, ◌∙◌, inl, inr, append_assoc, append-nil, arith}
+use Rattle.std.proofs.lemmas.Grind.{flat_map-append}
 use Rattle.std.specs.List.{concat}
 use Rattle.std.proofs.lemmas.Bool.{both_ways}
 use Rattle.csicodec_tokens.specs.declared.param.CsiParam.{CsiParam}
@@ -117,10 +118,6 @@ back (t ∷ told) e waiting mid after held more kept l w s v =
 
 -- ---- all chunks
 
-pieces_on : (now later : List Told) → pieces (now ++ later) ≡ pieces now ++ pieces later
-pieces_on [] later = refl
-pieces_on (t ∷ now) later = ap (λ (x : List Piece). pieces_of t.event t.bytes.now ++ x) (pieces_on now later) ∙ sym (append_assoc (pieces_of t.event t.bytes.now) (pieces now) (pieces later))
-
 -- the steps of all of the bytes, up to where the stream waits
 record AtOnce (e : Events) (bytes : List ℕ) (ps : List Piece) (rest : List ℕ) (after : Events) : Type 0
   where
@@ -142,7 +139,7 @@ at_once (chunk ∷ chunks) e waiting after held rest told l w c =
     let r = at_once chunks b.mid waits after kept rest later g.looked b.waits others in
     let all = divides_on e b.mid r.mid ((held ++ chunk) ++ more) (kept ++ more) rest (pieces now) (pieces later) here r.divides in
     let bytes : held ++ (chunk ++ more) ≡ (held ++ chunk) ++ more = sym (append_assoc held chunk more) in
-    let told_all : pieces told ≡ pieces now ++ pieces later = ap pieces whole ∙ pieces_on now later in
+    let told_all : pieces told ≡ pieces now ++ pieces later = ap pieces whole ∙ flat_map-append (λ (t : Told). pieces_of t.event t.bytes.now) now later in
     record {
       mid = r.mid;
       divides = subst (λ (x : List ℕ). Divides e x (pieces told) rest r.mid) (sym bytes) (subst (λ (ps : List Piece). Divides e ((held ++ chunk) ++ more) ps rest r.mid) (sym told_all) all);

@@ -1,5 +1,5 @@
 -- Where a reader stops, with a sequence or without one: no further than the sequence does.
-use Rattle.std.proofs.Common.{◌≡◌, ℕ, ◌+◌, ◌≤◌, ◌⊎◌, Bool, cond, refl, subst, List, [], ◌∷◌, ◌++◌, length, take, drop, sym, ap, ◌∙◌, inl, inr, append_assoc, arith}
+use Rattle.std.proofs.Common.{◌≡◌, ℕ, ◌+◌, ◌≤◌, ◌⊎◌, refl, subst, List, [], ◌∷◌, ◌++◌, length, take, drop, sym, ap, ◌∙◌, inl, inr, append_assoc, arith}
 use Rattle.std.specs.List.{AllByRecursion, prefix_len}
 use Rattle.std.proofs.lemmas.List.{length-append, length-take, take-append-drop}
 use Rattle.csicodec_tokens.specs.declared.param.CsiParam.{CsiParam}
@@ -9,22 +9,13 @@ use Rattle.csicodec_tokens.specs.Fault.{Begins, FaultOf, IsLeast, Refuses}
 use Rattle.csicodec_tokens.specs.Sequence.{IsBodyByte, Reads}
 use Rattle.csicodec_tokens.proofs.Spelled.{IsBody-from_spelling}
 use Rattle.csicodec_events.specs.Events.{is_passed, stop}
-use Rattle.csicodec_events.proofs.Sequences.{passed_byte}
-
-passed_more : (body rest : List ℕ) → AllByRecursion IsBodyByte body
-    → length body ≤ prefix_len is_passed (body ++ rest)
-passed_more [] rest h = omega arith
-passed_more (b ∷ body) rest h =
-    let first : prefix_len is_passed (b ∷ (body ++ rest)) ≡ 1 + prefix_len is_passed (body ++ rest) =
-    ap (λ (t : Bool). cond t (1 + prefix_len is_passed (body ++ rest)) 0) (passed_byte b h.0) in
-    let others = passed_more body rest h.1 in
-    omega (arith, first, others)
+use Rattle.csicodec_events.proofs.Sequences.{passed_body}
 
 body_stop : (bytes body rest : List ℕ) → AllByRecursion IsBodyByte body
     → bytes ≡ 27 ∷ 91 ∷ (body ++ rest) → 2 + length body ≤ stop 0 bytes
 body_stop bytes body rest h e =
     let passed : prefix_len is_passed (drop 2 bytes) ≡ prefix_len is_passed (body ++ rest) = ap (λ (x : List ℕ). prefix_len is_passed (drop 2 x)) e in
-    let more = passed_more body rest h in
+    let more = passed_body body rest h in
     omega (arith, passed, more)
 
 begun_stop : (bytes front rest : List ℕ) → Begins front → bytes ≡ front ++ rest
@@ -83,16 +74,13 @@ pub truncated_cost : (limit : ℕ) (bytes : List ℕ) (e : ReadError) (place : �
     → e ≡ Truncated place → FaultOf (take limit bytes) e
     → place ≤ length (take (stop 0 bytes + 1) bytes)
 truncated_cost limit bytes e place is f =
-    let g : FaultOf (take limit bytes) (Truncated place) = subst (λ (x : ReadError). FaultOf (take limit bytes) x) is f in
+    let g = subst (FaultOf (take limit bytes)) is f in
     let most = all_cost limit bytes g.1.0 in
     omega (arith, most, g.1.1)
 
 pub fault_cost : (limit : ℕ) (bytes : List ℕ) (e : ReadError) (place : ℕ)
     → (e ≡ NotCsi place) ⊎ ((e ≡ BadByte place) ⊎ (e ≡ NumberTooLarge place))
     → FaultOf (take limit bytes) e → place + 1 ≤ length (take (stop 0 bytes + 1) bytes)
-fault_cost limit bytes e place (inl is) f =
-    let g : FaultOf (take limit bytes) (NotCsi place) = subst (λ (x : ReadError). FaultOf (take limit bytes) x) is f in least_cost limit bytes place g.1.0
-fault_cost limit bytes e place (inr (inl is)) f =
-    let g : FaultOf (take limit bytes) (BadByte place) = subst (λ (x : ReadError). FaultOf (take limit bytes) x) is f in least_cost limit bytes place g.1.0
-fault_cost limit bytes e place (inr (inr is)) f =
-    let g : FaultOf (take limit bytes) (NumberTooLarge place) = subst (λ (x : ReadError). FaultOf (take limit bytes) x) is f in least_cost limit bytes place g.1.0
+fault_cost limit bytes e place (inl is) f = least_cost limit bytes place (subst (FaultOf (take limit bytes)) is f).1.0
+fault_cost limit bytes e place (inr (inl is)) f = least_cost limit bytes place (subst (FaultOf (take limit bytes)) is f).1.0
+fault_cost limit bytes e place (inr (inr is)) f = least_cost limit bytes place (subst (FaultOf (take limit bytes)) is f).1.0

@@ -17,7 +17,7 @@ use Rattle.csicodec_events.specs.declared.event.Events.{Events}
 use Rattle.csicodec_events.specs.Characters.{is_unfinished}
 use Rattle.csicodec_events.specs.Events.{BeginsCsi, IsHeld, IsSpan, IsText, Piece, begins, byte_by_byte, divided, onward, piece, pieces_of}
 use Rattle.csicodec_events.proofs.Fronts.{event_of, front}
-use Rattle.csicodec_events.proofs.Moves.{Divides, IsPart, move_divides, none_divides, one_divides, one_part}
+use Rattle.csicodec_events.proofs.Moves.{Divides, IsMove, IsPart, move_divides, none_divides, one_divides, one_part}
 use Rattle.csicodec_events.proofs.Unfinished.{text_sure}
 
 -- ---- pieces of bytes
@@ -56,11 +56,11 @@ more_other m bytes more b = subst IsMore (ap (ahead m) b.1 ∙ opens m b.0) more
 
 csi_kind : (limit : ℕ) (bytes text : List ℕ) (k : Kind) (a : Mode) → AllowsCsi limit bytes k text a
     → (k ≡ kind.Csi) ⊎ (k ≡ kind.Other)
-csi_kind limit bytes text kind.Text a h = absurd h
-csi_kind limit bytes text kind.Csi a h = inl refl
-csi_kind limit bytes text kind.Esc a h = absurd h
-csi_kind limit bytes text kind.Str a h = absurd h
-csi_kind limit bytes text kind.Other a h = inr refl
+csi_kind limit bytes text k a = elim k as (λ x. AllowsCsi limit bytes x text a → (x ≡ kind.Csi) ⊎ (x ≡ kind.Other)) [
+  | kind.Csi ↦ λ h. inl refl
+  | kind.Other ↦ λ h. inr refl
+  | _ ↦ λ h. absurd h
+]
 
 -- a part of another kind than these stands where no sequence begins
 kind_other : (limit : ℕ) (m a : Mode) (bytes rest : List ℕ) (p : Part) → p.kind ≢ kind.Csi
@@ -88,6 +88,19 @@ go_on_next : (limit : ℕ) (m a : Mode) (bytes rest : List ℕ) (p : Part) (part
 go_on_next limit m a bytes rest p parts first on some more behind after e second s =
     on (p ∷ some) more behind after (ap (λ (x : List Part). p ∷ x) e) second (rest, a, first, s)
 
+-- a part of one
+divided_move : (e : Events) (a : Mode) (bytes rest : List ℕ) (k : Kind) (p : Part) → IsDivided k → (BeginsCsi bytes → ⊥) → p.kind ≡ k
+    → IsFirstPart e.limit e.mode bytes p rest a → IsMove e bytes (divided (event_of k) p.bytes) rest (onward e a 0)
+divided_move e a bytes rest k p is other same first = inl (record {
+  other = other;
+  p = p;
+  next = a;
+  first = first;
+  sure = λ text. absurd (no_text k is (sym same ∙ text));
+  told = sym (pieces_divided k p.bytes is) ∙ ap (λ (j : Kind). pieces_of (event_of j) p.bytes) (sym same);
+  on = refl;
+})
+
 abbrev pub at : Events → Mode → Events
 at e m = onward e m 0
 
@@ -104,16 +117,9 @@ go_divides (p ∷ parts) e m a bytes rest k is on all s =
     let f = front e.limit m s.1 bytes s.0 p other s.2 in
     let none : begins x p.bytes ≡ false = subst (λ (j : Kind). begins (event_of j) p.bytes ≡ false) all.0 (f.goes more) in
     let others = go_divides parts e s.1 a s.0 rest k is (go_on_next e.limit m s.1 bytes s.0 p parts s.2 on) all.1 s.3 in
+    let here = subst (λ (ps : List Piece). IsMove (at e m) bytes ps s.0 (at e s.1)) (divided_further x p.bytes none) (divided_move (at e m) s.1 bytes s.0 k p is other all.0 s.2) in
     subst (λ (ps : List Piece). Divides (at e m) bytes ps rest (at e a)) (sym (by_byte_on x p.bytes (flat_map bytes_of parts)))
-    (move_divides (at e m) (at e s.1) (at e a) bytes s.0 rest (byte_by_byte x p.bytes) (byte_by_byte x (flat_map bytes_of parts)) (inl (record {
-      other = other;
-      p = p;
-      next = s.1;
-      first = s.2;
-      sure = λ text. absurd (no_text k is (sym all.0 ∙ text));
-      told = sym (divided_further x p.bytes none) ∙ sym (pieces_divided k p.bytes is) ∙ ap (λ (j : Kind). pieces_of (event_of j) p.bytes) (sym all.0);
-      on = refl;
-    })) others)
+    (move_divides (at e m) (at e s.1) (at e a) bytes s.0 rest (byte_by_byte x p.bytes) (byte_by_byte x (flat_map bytes_of parts)) here others)
 
 -- a string, or what went wrong
 all_divides : (parts : List Part) (e after : Events) (a : Mode) (bytes text rest : List ℕ) (k : Kind)
@@ -128,15 +134,7 @@ all_divides (p ∷ parts) e after a bytes text rest k is other all one s on =
     let same : begins x (p.bytes ++ back) ≡ begins x p.bytes = subst (λ (j : Kind). begins (event_of j) (p.bytes ++ back) ≡ begins (event_of j) p.bytes) all.all.0 (f.same back) in
     let others = go_divides parts e s.1 a s.0 rest k is (go_on_behind e.limit e.mode s.1 bytes s.0 p parts s.2 one) all.all.1 s.3 in
     let told : pieces_of (event_of k) text ≡ divided x p.bytes ++ byte_by_byte x back = pieces_divided k text is ∙ ap (divided x) (sym all.joined) ∙ divided_on x p.bytes back same in
-    rw (told, on) (move_divides e (at e s.1) (at e a) bytes s.0 rest (divided x p.bytes) (byte_by_byte x back) (inl (record {
-      other = other;
-      p = p;
-      next = s.1;
-      first = s.2;
-      sure = λ is_text. absurd (no_text k is (sym all.all.0 ∙ is_text));
-      told = sym (pieces_divided k p.bytes is) ∙ ap (λ (j : Kind). pieces_of (event_of j) p.bytes) (sym all.all.0);
-      on = refl;
-    })) others)
+    rw (told, on) (move_divides e (at e s.1) (at e a) bytes s.0 rest (divided x p.bytes) (byte_by_byte x back) (divided_move e s.1 bytes s.0 k p is other all.all.0 s.2) others)
 
 pub esc_other : (e : Events) (bytes text rest : List ℕ) (after : Events)
     → IsSpan e kind.Esc bytes text rest after → BeginsCsi bytes → ⊥

@@ -1,8 +1,12 @@
 -- Of the forms of input: how far they go, that later bytes change nothing, and the bytes joined.
 use Rattle.std.proofs.Common.{◌≡◌, ℕ, suc, ◌+◌, ◌*◌, ◌-◌, ◌==◌, ◌<◌, ◌≤◌, ◌&&◌, ◌||◌, Bool, true, false, nat_le, if◌then◌else◌}
+use Rattle.std.proofs.lemmas.Bool.{eqb-true}
+use Rattle.std.proofs.lemmas.Bool.{cases_Bool}
+use Rattle.std.proofs.Common.{inl}
+use Rattle.std.proofs.Common.{inr}
 use Rattle.std.proofs.Common.{List, [], ◌∷◌, ◌++◌, length, drop, refl, sym, ap, subst, ◌∙◌, append_assoc, append-nil, arith}
 use Rattle.std.specs.List.{concat, flat_map}
-use Rattle.std.proofs.lemmas.Bool.Decides.{nat_tests}
+use Rattle.std.proofs.lemmas.Grind.{flat_map-append}
 use Rattle.std.proofs.lemmas.List.{length-drop, take-append-drop, drop-append-le}
 use Rattle.csicodec_tokens.specs.declared.param.CsiParam.{CsiParam}
 use Rattle.csicodec_spans.specs.declared.table.Mode.{Mode}
@@ -22,18 +26,13 @@ use Rattle.csicodec_events.specs.Characters.{is_from}
 use Rattle.csicodec_events.specs.Events.{IsTold}
 use Rattle.csicodec_events.specs.Input.{AreSent, InputChunks, IsSent, IsSentBy, IsSure, ahead, behind_escape, bytes_of, char_width, csi, escape, escape_in_string, in_input}
 use Rattle.csicodec_events.specs.Input.{is_digit, is_opener, is_printable, is_wide, last, last_three, last_two, linux, mouse, rxvt, second, ss3, string, two_digits}
-use Rattle.csicodec_events.proofs.Run.{parts_of}
+use Rattle.csicodec_events.proofs.Run.{joined_on, parts_of}
 
 -- ---- two answers for bytes, and for the same and more: the form is none of output and no longer than the bytes, and it stays
 
+-- output has no such event
 abbrev IsOwn : InputEvent → Type 0
-IsOwn (input.Output told) = ⊥
-IsOwn (input.Ss3 b) = Unit {0}
-IsOwn (input.Linux b) = Unit {0}
-IsOwn (input.Rxvt n) = Unit {0}
-IsOwn input.Mouse = Unit {0}
-IsOwn (input.Alt b) = Unit {0}
-IsOwn input.Escape = Unit {0}
+IsOwn i = (told : Event) → i ≡ input.Output told → ⊥
 
 abbrev Fits : ℕ → Form → Type 0
 Fits k (form.Whole i n) = IsOwn i × (0 < n) × (n ≤ k)
@@ -86,22 +85,14 @@ either_width : (k : ℕ) (t : Bool) (x y x' y' : Width) → GoodWidth k x x' →
 either_width k true x y x' y' h g = h
 either_width k false x y x' y' h g = g
 
+undecided : (k : ℕ) (t : Bool) (w : Width) → (t ≡ false → w ≡ width.Wrong) → GoodWidth k (if t then width.Unsure else width.Wrong) w
+undecided k true w h = record { fits = tt; stays = tt }
+undecided k false w h = record { fits = tt; stays = h refl }
+
 second_good : (a : ℕ) (bytes more : List ℕ)
     → GoodWidth (suc (length bytes)) (second a bytes) (second a (bytes ++ more))
-second_good a [] [] = by (is_from 194 223 a)
-  where
-    by : (t : Bool)
-        → GoodWidth 1 (if t then width.Unsure else width.Wrong)
-        (if t then width.Unsure else width.Wrong)
-    by true = record { fits = tt; stays = tt }
-    by false = record { fits = tt; stays = refl }
-second_good a [] (b ∷ more) = by (is_from 194 223 a)
-  where
-    by : (t : Bool)
-        → GoodWidth 1 (if t then width.Unsure else width.Wrong)
-        (if t && is_from 128 191 b then width.Two else width.Wrong)
-    by true = record { fits = tt; stays = tt }
-    by false = record { fits = tt; stays = refl }
+second_good a [] [] = undecided 1 (is_from 194 223 a) _ (λ e. rw e refl)
+second_good a [] (b ∷ more) = undecided 1 (is_from 194 223 a) _ (λ e. rw e refl)
 second_good a (b ∷ bytes) more =
     either_width (suc (suc (length bytes))) (is_from 194 223 a && is_from 128 191 b) width.Two
     width.Wrong width.Two width.Wrong (record { fits = omega arith; stays = refl })
@@ -114,8 +105,8 @@ char_good d (a ∷ bytes) more =
     either_width (suc (length bytes)) (is_wide d a) (second a bytes) width.One (second a (bytes ++ more)) width.One (second_good a bytes more) (record { fits = omega arith; stays = refl })
 
 last_good : (n k : ℕ) (v w : Width) → GoodWidth k v w → Good (n + k) (last n v) (last n w)
-last_good n k width.One w g = rw g.stays (whole (n + k) (n + 1) input.Mouse tt (omega arith) (omega (arith, g.fits)))
-last_good n k width.Two w g = rw g.stays (whole (n + k) (n + 2) input.Mouse tt (omega arith) (omega (arith, g.fits)))
+last_good n k width.One w g = rw g.stays (whole (n + k) (n + 1) input.Mouse (λ told e. cc) (omega arith) (omega (arith, g.fits)))
+last_good n k width.Two w g = rw g.stays (whole (n + k) (n + 2) input.Mouse (λ told e. cc) (omega arith) (omega (arith, g.fits)))
 last_good n k width.Unsure w g = unsure (n + k) (last n w)
 last_good n k width.Wrong w g = rw g.stays (output (n + k))
 
@@ -158,34 +149,27 @@ mouse_good d bytes more =
 ss3_good : (bytes more : List ℕ) → Good (suc (suc (length bytes))) (ss3 bytes) (ss3 (bytes ++ more))
 ss3_good [] more = unsure _ _
 ss3_good (b ∷ bytes) more = let k = suc (suc (suc (length bytes))) in either k (is_printable b) _ _
-    _ _ (whole k 3 (input.Ss3 b) tt (omega arith) (omega arith))
-    (whole k 2 (input.Alt 79) tt (omega arith) (omega arith))
+    _ _ (whole k 3 (input.Ss3 b) (λ told e. cc) (omega arith) (omega arith))
+    (whole k 2 (input.Alt 79) (λ told e. cc) (omega arith) (omega arith))
 
 linux_good : (bytes more : List ℕ)
     → Good (suc (suc (suc (length bytes)))) (linux bytes) (linux (bytes ++ more))
 linux_good [] more = unsure _ _
-linux_good (b ∷ bytes) more = let k = suc (suc (suc (suc (length bytes)))) in either k (is_printable b) _ _ _ _ (whole k 4 (input.Linux b) tt (omega arith) (omega arith)) (output k)
+linux_good (b ∷ bytes) more = let k = suc (suc (suc (suc (length bytes)))) in either k (is_printable b) _ _ _ _ (whole k 4 (input.Linux b) (λ told e. cc) (omega arith) (omega arith)) (output k)
 
 two_digits_good : (a b : ℕ) (bytes more : List ℕ)
     → Good (suc (suc (suc (suc (length bytes))))) (two_digits a b bytes)
     (two_digits a b (bytes ++ more))
 two_digits_good a b [] [] = either 4 (is_digit b) _ _ _ _ (unsure 4 _) (output 4)
-two_digits_good a b [] (c ∷ more) = by (is_digit b)
-  where
-    by : (t : Bool)
-        → Good 4 (if t then form.Unsure else form.AsOutput)
-        (if t && c == 36 then form.Whole (input.Rxvt (10 * (a - 48) + (b - 48))) 5 else
-        form.AsOutput)
-    by true = unsure 4 _
-    by false = output 4
+two_digits_good a b [] (c ∷ more) = elim (cases_Bool (is_digit b)) [ inl is ↦ rw is (unsure 4 _) | inr other ↦ rw other (output 4) ]
 two_digits_good a b (c ∷ bytes) more = let k = suc (suc (suc (suc (suc (length bytes))))) in
-    either k (is_digit b && c == 36) _ _ _ _ (whole k 5 (input.Rxvt (10 * (a - 48) + (b - 48))) tt (omega arith) (omega arith)) (output k)
+    either k (is_digit b && c == 36) _ _ _ _ (whole k 5 (input.Rxvt (10 * (a - 48) + (b - 48))) (λ told e. cc) (omega arith) (omega arith)) (output k)
 
 rxvt_good : (a : ℕ) (bytes more : List ℕ)
     → Good (suc (suc (suc (length bytes)))) (rxvt a bytes) (rxvt a (bytes ++ more))
 rxvt_good a [] more = unsure _ _
 rxvt_good a (b ∷ bytes) more = let k = suc (suc (suc (suc (length bytes)))) in
-    either k (b == 36) _ _ _ _ (whole k 4 (input.Rxvt (a - 48)) tt (omega arith) (omega arith)) (two_digits_good a b bytes more)
+    either k (b == 36) _ _ _ _ (whole k 4 (input.Rxvt (a - 48)) (λ told e. cc) (omega arith) (omega arith)) (two_digits_good a b bytes more)
 
 csi_good : (d : Dialect) (bytes more : List ℕ)
     → Good (suc (suc (length bytes))) (csi d bytes) (csi d (bytes ++ more))
@@ -206,7 +190,7 @@ escape_good d (b ∷ bytes) more = let k = suc (suc (length bytes)) in
     either k (b == 79) _ _ _ _ (ss3_good bytes more)
     (either k (b == 91) _ _ _ _ (csi_good d bytes more)
     (either k (is_opener b) _ _ _ _ (string_good k bytes more)
-    (either k (b == 27 || nat_le 128 b) _ _ _ _ (whole k 1 input.Escape tt (omega arith) (omega arith)) (whole k 2 (input.Alt b) tt (omega arith) (omega arith)))))
+    (either k (b == 27 || nat_le 128 b) _ _ _ _ (whole k 1 input.Escape (λ told e. cc) (omega arith) (omega arith)) (whole k 2 (input.Alt b) (λ told e. cc) (omega arith) (omega arith)))))
 
 in_string_good : (d : Dialect) (bytes more : List ℕ)
     → Good (suc (length bytes)) (escape_in_string d bytes) (escape_in_string d (bytes ++ more))
@@ -230,25 +214,13 @@ input_good d m (b ∷ bytes) more = either (suc (length bytes)) (b == 27) _ _ _ 
 -- ---- what stands in front
 
 -- a form stands where no sequence waits
-abbrev IsFresh : ℕ → Form → Type 0
-IsFresh looked (form.Whole i n) = looked ≡ 0
-IsFresh looked form.AsOutput = Unit {0}
-IsFresh looked form.Unsure = Unit {0}
+fresh : (looked : ℕ) (f : Form) (i : InputEvent) (n : ℕ) → (if looked == 0 then f else form.AsOutput) ≡ form.Whole i n → looked ≡ 0
+fresh looked f i n e = elim (cases_Bool (looked == 0)) [ inl is ↦ eqb-true looked 0 is | inr other ↦ let none : form.AsOutput ≡ form.Whole i n = rw other at e in cc ]
 
-fresh : (looked : ℕ) (f : Form) → IsFresh looked (if looked == 0 then f else form.AsOutput)
-fresh looked f = by (looked == 0) f refl
-  where
-    by : (t : Bool) (f : Form) → (looked == 0) ≡ t → IsFresh looked (if t then f else form.AsOutput)
-    by true (form.Whole i n) h = grind (arith, nat_tests, h)
-    by true form.AsOutput h = tt
-    by true form.Unsure h = tt
-    by false f h = tt
-
-ahead_fresh : (d : Dialect) (m : Mode) (looked : ℕ) (bytes : List ℕ)
-    → IsFresh looked (ahead d m looked bytes)
-ahead_fresh dialect.Output m looked bytes = tt
-ahead_fresh dialect.Input m looked bytes = fresh looked (in_input dialect.Input m bytes)
-ahead_fresh dialect.Utf8Input m looked bytes = fresh looked (in_input dialect.Utf8Input m bytes)
+ahead_fresh : (d : Dialect) (m : Mode) (looked : ℕ) (bytes : List ℕ) (i : InputEvent) (n : ℕ) → ahead d m looked bytes ≡ form.Whole i n → looked ≡ 0
+ahead_fresh dialect.Output m looked bytes i n e = cc
+ahead_fresh dialect.Input m looked bytes i n e = fresh looked (in_input dialect.Input m bytes) i n e
+ahead_fresh dialect.Utf8Input m looked bytes i n e = fresh looked (in_input dialect.Utf8Input m bytes) i n e
 
 ahead_good : (d : Dialect) (m : Mode) (looked : ℕ) (bytes more : List ℕ)
     → Good (length bytes) (ahead d m looked bytes) (ahead d m looked (bytes ++ more))
@@ -276,7 +248,7 @@ pub front : (d : Dialect) (m : Mode) (looked : ℕ) (bytes : List ℕ) (f : Form
 front d m looked bytes f i n found is =
     let same = sym found ∙ is in
     let fits : Fits (length bytes) (form.Whole i n) = subst (Fits (length bytes)) same (ahead_good d m looked bytes []).fits in
-    record { fresh = subst (IsFresh looked) same (ahead_fresh d m looked bytes); some = fits.1; within = fits.2 }
+    record { fresh = ahead_fresh d m looked bytes i n same; some = fits.1; within = fits.2 }
 
 -- ---- what output has too is told as in output
 
@@ -284,7 +256,7 @@ by_output : (k : ℕ) (f : Form) (e : Events) (bytes : List ℕ) (told : Event) 
     (list : List CsiParam) (after : Events) → Fits k f →
     IsSentBy f e bytes (input.Output told) text rest list after
     → IsTold told e bytes text rest list after
-by_output k (form.Whole i n) e bytes told text rest list after fits s = absurd (subst IsOwn (sym s.0) fits.0)
+by_output k (form.Whole i n) e bytes told text rest list after fits s = absurd (fits.0 told (sym s.0))
 by_output k form.AsOutput e bytes told text rest list after fits s =
     let is : input.Output told ≡ input.Output s.0 = s.1 in
     let same : s.0 ≡ told = cc in
@@ -311,22 +283,13 @@ all_joined d (t ∷ sent) e bytes rest after s =
     by_parts (ahead d e.mode e.looked bytes) e bytes t.event t.bytes.now t.rest.now s.0 s.1 s.2 ∙ ap (λ (x : List ℕ). t.bytes.now ++ x) (all_joined d sent s.1 t.rest.now rest after s.3)
     ∙ sym (append_assoc t.bytes.now (flat_map bytes_of sent) rest)
 
-both : (now later : List Sent)
-    → flat_map bytes_of (now ++ later) ≡ flat_map bytes_of now ++ flat_map bytes_of later
-both [] later = refl
-both (t ∷ now) later = ap (λ (x : List ℕ). t.bytes.now ++ x) (both now later) ∙ sym (append_assoc t.bytes.now (flat_map bytes_of now) (flat_map bytes_of later))
-
 pub sent_joined : (d : Dialect) (e after : Events) (held rest : List ℕ) (chunks : List (List ℕ))
     (sent : List Sent) → InputChunks d e held chunks sent rest after
     → held ++ concat chunks ≡ flat_map bytes_of sent ++ rest
 sent_joined d e after held rest [] sent c = rw (c.0, c.1) (append-nil held)
 sent_joined d e after held rest (chunk ∷ chunks) sent c =
     let (now, later, kept, mid, waiting, is, first, waits, others) = c in
-    let here : held ++ chunk ≡ flat_map bytes_of now ++ kept = all_joined d now e (held ++ chunk) kept mid first in
-    let there : kept ++ concat chunks ≡ flat_map bytes_of later ++ rest = sent_joined d waiting after kept rest chunks later others in
-    let front = flat_map bytes_of now in
-    let back = flat_map bytes_of later in
-    sym (append_assoc held chunk (concat chunks)) ∙ ap (λ (x : List ℕ). x ++ concat chunks) here
-    ∙ append_assoc front kept (concat chunks) ∙ ap (λ (x : List ℕ). front ++ x) there
-    ∙ sym (append_assoc front back rest)
-    ∙ ap (λ (x : List ℕ). x ++ rest) (sym (both now later)) ∙ ap (λ (x : List Sent). flat_map bytes_of x ++ rest) (sym is)
+    let here = all_joined d now e (held ++ chunk) kept mid first in
+    let there = sent_joined d waiting after kept rest chunks later others in
+    joined_on held chunk (concat chunks) (flat_map bytes_of now) (flat_map bytes_of later) kept rest here there
+    ∙ ap (λ (x : List ℕ). x ++ rest) (sym (ap (flat_map bytes_of) is ∙ flat_map-append bytes_of now later))

@@ -87,11 +87,7 @@ no_esc_in p spots (b ∷ bytes) none some e =
     )
 
 text_not : (k : Kind) → not (is_text k) ≡ true → k ≡ kind.Text → ⊥
-text_not kind.Text e is = absurd cc
-text_not kind.Csi e is = absurd cc
-text_not kind.Esc e is = absurd cc
-text_not kind.Str e is = absurd cc
-text_not kind.Other e is = absurd cc
+text_not k e is = let no = subst (λ x. not (is_text x) ≡ true) is e in cc
 
 single_by : (spots : List Spot) (f : Answer) (m : Mode) (bytes : List ℕ) → is_single spots f ≡ true
     → begin_with spots bytes ≡ true → Sound m bytes f → IsSingle bytes f
@@ -129,12 +125,7 @@ no_esc kind.Str b (c ∷ more) e = ap (λ (t : Bool). t && within openers c) e
 no_esc kind.Other b more e = e
 
 in_every : (m : Mode) → holds_in every_mode m ≡ true
-in_every mode.Text = refl
-in_every mode.Osc = refl
-in_every mode.Dcs = refl
-in_every mode.Str = refl
-in_every mode.BadCsi = refl
-in_every mode.BadEsc = refl
+in_every m = elim m as (λ x. holds_in every_mode x ≡ true) [ mode.Text ↦ refl | _ ↦ refl ]
 
 new_by : (i : ℕ) (r : ModeRow) (m : Mode) (bytes : List ℕ) → slice_get mode_table i ≡ Some r
     → r.modes ≡ every_mode → begin_with r.spots bytes ≡ true → (IsMore r.answer → ⊥)
@@ -195,11 +186,7 @@ record IsSure (f : Answer) (p : Part) (a : Mode) : Type 0 where
   goes : IsMore f → (p.kind ≡ kind.Str) ⊎ IsByte p.bytes
 
 is_string : (k : Kind) → is_str k ≡ true → k ≡ kind.Str
-is_string kind.Text e = absurd cc
-is_string kind.Csi e = absurd cc
-is_string kind.Esc e = absurd cc
-is_string kind.Str e = refl
-is_string kind.Other e = absurd cc
+is_string k = elim k as (λ x. is_str x ≡ true → x ≡ kind.Str) [ kind.Str ↦ λ e. refl | _ ↦ λ e. cc ]
 
 one_byte : (bytes text rest : List ℕ) (n : ℕ) → bytes ≡ text ++ rest → length text ≡ n → n ≡ 1
     → IsNoEsc bytes → IsByte text

@@ -1,5 +1,8 @@
 -- What is told of a control sequence stays, whatever follows.
-use Rattle.std.proofs.Common.{◌≡◌, ℕ, suc, ◌+◌, ◌<◌, Bool, true, false, cond, max, List, [], ◌∷◌, ◌++◌, length, take, drop, refl, ap, ◌∙◌, arith}
+use Rattle.std.proofs.Common.{◌≡◌, ℕ, ◌+◌, ◌<◌, false, max, List, ◌∷◌, ◌++◌, length, take, drop, refl, ap, ◌∙◌, arith}
+use Rattle.std.proofs.lemmas.List.Folds.{prefix_len-append}
+use Rattle.std.proofs.lemmas.Bool.Decides.{nat_tests}
+use Rattle.std.specs.Prelude.{◌==◌}
 use Rattle.std.specs.List.{prefix_len}
 use Rattle.std.proofs.lemmas.List.{length-drop, take-append-le, drop-append-le}
 use Rattle.csicodec_tokens.specs.declared.param.CsiParam.{CsiParam}
@@ -10,16 +13,9 @@ use Rattle.csicodec_events.specs.Events.{BeginsCsi, IsTold, before_stop, from_st
 -- where a byte isn't passed over, no more are
 stopped : (bytes more : List ℕ) → prefix_len is_passed bytes < length bytes
     → prefix_len is_passed (bytes ++ more) ≡ prefix_len is_passed bytes
-stopped [] more lt = absurd (omega (arith, lt))
-stopped (b ∷ bytes) more lt = by (is_passed b) lt (stopped bytes more)
-  where
-    by : (t : Bool) → cond t (1 + prefix_len is_passed bytes) 0 < suc (length bytes)
-        → (prefix_len is_passed bytes < length bytes
-        → prefix_len is_passed (bytes ++ more) ≡ prefix_len is_passed bytes)
-        → cond t (1 + prefix_len is_passed (bytes ++ more)) 0
-        ≡ cond t (1 + prefix_len is_passed bytes) 0
-    by true h on = let same = on (omega (arith, h)) in omega (arith, same)
-    by false h on = refl
+stopped bytes more lt =
+    let some : prefix_len is_passed bytes == length bytes ≡ false = grind (arith, nat_tests) in
+    prefix_len-append is_passed bytes more ∙ rw some refl
 
 pub record SameStop (e : Events) (bytes more : List ℕ) : Type 0 where
   pub over : before_stop e (bytes ++ more) ≡ before_stop e bytes

@@ -1,10 +1,11 @@
 -- What was looked at of a control sequence: bytes that are passed over, and controls.
 use Rattle.std.proofs.Common.{◌≡◌, ℕ, zero, suc, ◌+◌, ◌≤◌, ◌⊎◌, Bool, true, false, cond, filter, max, List, [], ◌∷◌, ◌++◌, length, take, drop, refl, sym, ap, subst, ◌∙◌, inl, inr, arith}
+use Rattle.std.proofs.Math.Seq.{take-add}
 use Rattle.std.specs.Prelude.{◌||◌}
 use Rattle.std.specs.List.{AllByRecursion, prefix_len}
 use Rattle.std.proofs.lemmas.Bool.{cases_lt, or_left, or_right}
 use Rattle.std.proofs.lemmas.Bool.Decides.{nat_tests}
-use Rattle.std.proofs.lemmas.List.{length-append, drop-append-le, drop-take, length-drop, length-take, nil_from_length, take-append-drop, take-append-le, take-take}
+use Rattle.std.proofs.lemmas.List.{length-append, drop-append-le, length-drop, length-take, nil_from_length, take-append-le}
 use Rattle.csicodec_tokens.specs.declared.param.CsiParam.{CsiParam}
 use Rattle.csicodec_tokens.specs.Sequence.{IsFinal, Seq}
 use Rattle.csicodec_events.specs.declared.event.Events.{Events}
@@ -64,11 +65,6 @@ start_inside e bytes (inr l) = elim (cases_lt 2 e.looked) [
   | inr le ↦ none_inside bytes (max 2 e.looked) (omega (arith, le))
 ]
 
-cut_at : (start n : ℕ) (bytes : List ℕ) → take (start + n) bytes ≡ take start bytes ++ take n (drop start bytes)
-cut_at start n bytes =
-    sym (take-append-drop start (take (start + n) bytes)) ∙ ap (λ (x : List ℕ). x ++ drop start (take (start + n) bytes)) (take-take start (start + n) bytes (omega arith))
-    ∙ ap (λ (x : List ℕ). take start bytes ++ x) (drop-take start n bytes)
-
 pub over_inside : (e : Events) (bytes : List ℕ) → BeginsCsi bytes → IsLooked e bytes
     → AreInside (drop 2 (before_stop e bytes))
 over_inside e bytes begins l =
@@ -76,7 +72,7 @@ over_inside e bytes begins l =
     let d = drop start bytes in
     let n = prefix_len is_passed d in
     let two : 2 ≤ length (take start bytes) = omega (arith, length-take start bytes, ap length begins.1) in
-    let parts : drop 2 (before_stop e bytes) ≡ drop 2 (take start bytes) ++ take n d = ap (drop 2) (cut_at start n bytes) ∙ drop-append-le 2 (take start bytes) (take n d) two in
+    let parts : drop 2 (before_stop e bytes) ≡ drop 2 (take start bytes) ++ take n d = ap (drop 2) (take-add start n bytes) ∙ drop-append-le 2 (take start bytes) (take n d) two in
     rw parts (both_inside (drop 2 (take start bytes)) (take n d) (start_inside e bytes l) (passed_inside d))
 
 shape : (n : ℕ) (more : List ℕ) → 2 ≤ n

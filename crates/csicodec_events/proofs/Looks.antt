@@ -3,6 +3,7 @@ use Rattle.std.proofs.Common.{◌≡◌, ℕ, ◌+◌, ◌-◌, ◌*◌, ◌<◌
 use Rattle.std.specs.List.{concat, flat_map, prefix_len}
 use Rattle.std.specs.Prelude.{◌==◌, ◌&&◌, Bool, true, false, if◌then◌else◌}
 use Rattle.std.proofs.lemmas.Bool.{and_parts, cases_lt, eqb-true}
+use Rattle.std.proofs.lemmas.Grind.{flat_map-append}
 use Rattle.std.proofs.lemmas.List.{drop_at, length-append, length-drop, length-take}
 use Rattle.csicodec_tokens.specs.declared.param.CsiParam.{CsiParam}
 use Rattle.csicodec_spans.specs.declared.table.Mode.{Mode}
@@ -14,7 +15,7 @@ use Rattle.csicodec_events.specs.Events.{AreTold, BeginsCsi, GoesWrong, InChunks
 use Rattle.csicodec_events.proofs.AllDivided.{told_goes}
 use Rattle.csicodec_events.proofs.Divided.{esc_other, str_other, text_other}
 use Rattle.csicodec_events.proofs.Looked.{IsLooked, looked_met, looked_more, over_inside}
-use Rattle.csicodec_events.proofs.Run.{both, chunks_joined, met_within}
+use Rattle.csicodec_events.proofs.Run.{chunks_joined, met_within}
 use Rattle.csicodec_events.proofs.Steps.{halves, stop_behind}
 use Rattle.csicodec_events.proofs.Unfinished.{refuted}
 
@@ -39,7 +40,7 @@ csi_false (a ∷ b ∷ bytes) other = refuted (a == 27 && b == 91) (λ e.
     other (bytes, cc))
 
 -- those that are read at once
-abbrev pub first : Events → ℕ → ℕ
+abbrev first : Events → ℕ → ℕ
 first e n = if e.looked == 0 then n else 0
 
 at_most : (t : Bool) (n : ℕ) → (if t then n else 0) ≤ n
@@ -58,16 +59,6 @@ first_most e n = (at_most (e.looked == 0) n, by (e.looked == 0) refl)
     by true same some = absurd (omega (arith, some, eqb-true e.looked 0 same))
     by false other some = refl
 
-csi_true : (bytes : List ℕ) → BeginsCsi bytes → is_csi bytes ≡ true
-csi_true bytes begins = ap is_csi begins.1
-
-pub looks_is : (e : Events) (bytes : List ℕ) (n : ℕ) → BeginsCsi bytes
-    → looks e bytes n ≡ first e (reach e bytes) + (reach e bytes - max 2 e.looked) + 2 * n
-looks_is e bytes n begins = ap (λ (t : Bool). if t then first e (reach e bytes) + (reach e bytes - max 2 e.looked) + 2 * n else 0) (csi_true bytes begins)
-
-pub first_all : (e : Events) (n : ℕ) → e.looked ≡ 0 → first e n ≡ n
-first_all e n none = ap (λ (k : ℕ). if k == 0 then n else 0) none
-
 -- what was looked at, and what is looked at now, are bytes of the event, each four times at most, or noted, each twice
 abbrev IsCounted : Events → List ℕ → List ℕ → Events → Type 0
 IsCounted e bytes text after =
@@ -80,11 +71,17 @@ none_counted e after bytes text (inl none) other =
     omega (arith, none, no)
 none_counted e after bytes text (inr l) other = absurd (other l.0)
 
-by_looked : {P : Type 0} (e : Events) → (e.looked ≡ 0 → P) → (0 < e.looked → P) → P
-by_looked e f g = elim (cases_lt 0 e.looked) [
-  | inl lt ↦ g lt
-  | inr le ↦ f (omega (arith, le))
-]
+-- .. where so much is used and noted that it is one less than what was reached, at least
+begun_counted : (e after : Events) (bytes text : List ℕ) → reach e bytes ≤ length text + (after.looked - 1) + 1
+    → e.looked ≤ length text + (after.looked - 1) + 1 → 0 < length text + (after.looked - 1)
+    → IsCounted e bytes text after
+begun_counted e after bytes text reached before some =
+    let most = looks_most e bytes (length text) in
+    let once = first_most e (reach e bytes) in
+    elim (cases_lt 0 e.looked) [
+      | inl lt ↦ let no = once.1 lt in omega (arith, most, no, lt, reached, before, some)
+      | inr le ↦ omega (arith, most, once.0, le, reached, before, some)
+    ]
 
 goes_longer : (over behind text rest : List ℕ) (m : Mode) → GoesWrong over behind text rest m
     → length over ≤ length text
@@ -102,20 +99,14 @@ told_counted (event.Control b) e bytes text rest list after l h =
     let place = (halves e bytes).some (omega (arith, ap length c.stands)) in
     let s = stop_behind e.looked bytes in
     let looked : after.looked ≡ length (before_stop e bytes) + 1 = ap (λ (a : Events). a.looked) c.looked in
-    let most = looks_most e bytes (length text) in
-    let once = first_most e (reach e bytes) in
-    by_looked e (λ none. omega (arith, most, once.0, none, looked, place, s.0, s.1, length-take (at + 1) bytes))
-    (λ some. let no = once.1 some in omega (arith, most, no, some, looked, place, s.0, s.1, length-take (at + 1) bytes))
+    begun_counted e after bytes text (omega (arith, looked, place, length-take (at + 1) bytes)) (omega (arith, looked, place, s.0)) (omega (arith, looked, place, s.1))
 told_counted (event.Csi final) e bytes text rest list after l h =
     let at = stop e.looked bytes in
     let c = h.1 in
     let place = (halves e bytes).some (omega (arith, ap length c.stands)) in
     let s = stop_behind e.looked bytes in
-    let most = looks_most e bytes (length text) in
-    let once = first_most e (reach e bytes) in
     let long : length text ≡ length (before_stop e bytes) + 1 = ap length c.whole ∙ length-append (before_stop e bytes) (c.last ∷ []) in
-    by_looked e (λ none. omega (arith, most, once.0, none, place, s.0, s.1, length-take (at + 1) bytes, long))
-    (λ some. let no = once.1 some in omega (arith, most, no, some, place, s.0, s.1, length-take (at + 1) bytes, long))
+    begun_counted e after bytes text (omega (arith, place, length-take (at + 1) bytes, long)) (omega (arith, place, s.0, long)) (omega (arith, long))
 told_counted event.Esc e bytes text rest list after l h = none_counted e after bytes text l (esc_other e bytes text rest after h)
 told_counted event.Str e bytes text rest list after l h = none_counted e after bytes text l (str_other e bytes text rest after h)
 told_counted event.Other e bytes text rest list after l (inl h) = none_counted e after bytes text l h.0
@@ -124,11 +115,9 @@ told_counted event.Other e bytes text rest list after l (inr h) =
     let s = stop_behind e.looked bytes in
     let met = met_within e bytes (looked_met e bytes l) in
     let long = goes_longer (before_stop e bytes) (from_stop e bytes) text rest h.1.next h.1.goes in
-    let most = looks_most e bytes (length text) in
-    let once = first_most e (reach e bytes) in
     let two = ap length h.0.1 in
-    by_looked e (λ none. omega (arith, most, once.0, none, met, long, s.0, s.1, length-take at bytes, length-take (at + 1) bytes, two))
-    (λ some. let no = once.1 some in omega (arith, most, no, some, met, long, s.0, s.1, length-take at bytes, length-take (at + 1) bytes, two))
+    begun_counted e after bytes text (omega (arith, long, length-take at bytes, length-take (at + 1) bytes)) (omega (arith, met, long, s.0, length-take at bytes))
+    (omega (arith, long, s.1, length-take at bytes, two))
 
 -- ---- where the stream waits
 
@@ -140,12 +129,10 @@ wait_counted e after bytes l (inl w) =
     let s = stop_behind e.looked bytes in
     let met = met_within e bytes (looked_met e bytes l) in
     let looked : after.looked ≡ length (before_stop e bytes) = ap (λ (a : Events). a.looked) o.looked in
-    let most = looks_most e bytes 0 in
-    let once = first_most e (reach e bytes) in
     let ends = ap length o.ends in
     let two = ap length w.0.1 in
-    by_looked e (λ none. omega (arith, most, once.0, none, looked, met, s.0, s.1, length-take at bytes, length-take (at + 1) bytes, length-drop at bytes, ends, two))
-    (λ some. let no = once.1 some in omega (arith, most, no, some, looked, met, s.0, s.1, length-take at bytes, length-take (at + 1) bytes, length-drop at bytes, ends, two))
+    begun_counted e after bytes [] (omega (arith, looked, s.1, length-take at bytes, length-take (at + 1) bytes, length-drop at bytes, ends, two))
+    (omega (arith, looked, met, s.0, length-take at bytes)) (omega (arith, looked, s.1, length-take at bytes, two))
 wait_counted e after bytes l (inr (inl w)) = none_counted e after bytes [] l w.0
 wait_counted e after bytes l (inr (inr w)) = none_counted e after bytes [] l w.0
 
@@ -195,7 +182,7 @@ chunks_counted (chunk ∷ chunks) e after held rest told l (now, later, kept, mi
     let r = chunks_counted chunks waiting after kept rest later (waits_looked mid waiting kept a.looked waits) others in
     let size : length (flat_map bytes_of told) ≡ length (flat_map bytes_of now) + length
     (flat_map bytes_of later) = ap (λ (x : List Told). length (flat_map bytes_of x)) whole
-    ∙ ap length (both now later) ∙ length-append (flat_map bytes_of now) (flat_map bytes_of later) in
+    ∙ ap length (flat_map-append bytes_of now later) ∙ length-append (flat_map bytes_of now) (flat_map bytes_of later) in
     record { count = let x = a.count in let y = r.count in omega (arith, x, w, y, size); looked = r.looked }
 
 pub looks_once : (e after : Events) (chunks : List (List ℕ)) (told : List Told) (rest : List ℕ)

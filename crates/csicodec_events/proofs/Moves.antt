@@ -1,6 +1,7 @@
 -- Events in the smallest steps: each tells one piece, or a few that are never cut apart. Where no step follows the stream waits; in
 -- any state at most one follows; and it stays, whatever bytes come later.
-use Rattle.std.proofs.Common.{◌≡◌, ◌⊎◌, ℕ, ◌+◌, ◌<◌, ◌≤◌, Bool, true, false, cond, max, List, [], ◌∷◌, ◌++◌, length, drop, refl, sym, ap, subst, ◌∙◌, inl, inr, append_assoc, append-nil, arith}
+use Rattle.std.proofs.Common.{◌≡◌, ◌⊎◌, ℕ, ◌<◌, ◌≤◌, false, max, List, [], ◌∷◌, ◌++◌, length, drop, refl, sym, ap, subst, ◌∙◌, inl, inr, append_assoc, append-nil, arith}
+use Rattle.std.proofs.lemmas.List.Folds.{prefix_len-append}
 use Rattle.std.specs.List.{prefix_len}
 use Rattle.std.proofs.lemmas.Bool.{both_ways}
 use Rattle.std.proofs.lemmas.List.{length-append, length-take, drop-append-le}
@@ -80,86 +81,68 @@ wrong_at : (limit : ℕ) (over behind more : List ℕ) (b : ℕ) → behind ≡ 
     × ((list : List CsiParam) (final : ℕ) → Seq (without_controls (over ++ b ∷ [])) list final → ⊥)
 wrong_at limit over behind more b stands why = subst (IsWrongAt limit over) stands why
 
-within_over : (e : Events) (bytes : List ℕ) (ps qs : List Piece) (rest rest' : List ℕ)
-    (after after' : Events) → IsWithin e bytes ps rest after → IsOver e bytes qs rest' after' → ⊥
-within_over e bytes ps qs rest rest' after after' g h =
-    let c = g.control in
-    let yes = c.control in
-    let no = h.other g.b c.more c.stands in
-    both_ways (is_control g.b) no yes
+module _ (e : Events) (bytes : List ℕ) (ps qs : List Piece) (rest rest' : List ℕ) (after after' : Events) where
+  within_over : IsWithin e bytes ps rest after → IsOver e bytes qs rest' after' → ⊥
+  within_over g h = both_ways (is_control g.b) (h.other g.b g.control.more g.control.stands) g.control.control
 
-within_bad : (e : Events) (bytes : List ℕ) (ps qs : List Piece) (rest rest' : List ℕ)
-    (after after' : Events) → IsWithin e bytes ps rest after → IsBad e bytes qs rest' after' → ⊥
-within_bad e bytes ps qs rest rest' after after' g h =
-    let c = g.control in
-    both_ways (is_control g.b) (wrong_at e.limit (before_stop e bytes) (from_stop e bytes) c.more g.b c.stands h.why c.short).0 c.control
+  within_bad : IsWithin e bytes ps rest after → IsBad e bytes qs rest' after' → ⊥
+  within_bad g h =
+      let c = g.control in
+      both_ways (is_control g.b) (wrong_at e.limit (before_stop e bytes) (from_stop e bytes) c.more g.b c.stands h.why c.short).0 c.control
 
-over_bad : (e : Events) (bytes : List ℕ) (ps qs : List Piece) (rest rest' : List ℕ)
-    (after after' : Events) → IsOver e bytes ps rest after → IsBad e bytes qs rest' after' → ⊥
-over_bad e bytes ps qs rest rest' after after' g h =
-    let c = g.csi in
-    (wrong_at e.limit (before_stop e bytes) (from_stop e bytes) rest c.last c.stands h.why c.short).1 g.list g.final
-    (subst (λ (x : List ℕ). Seq (without_controls x) g.list g.final) c.whole c.seq)
+  over_bad : IsOver e bytes ps rest after → IsBad e bytes qs rest' after' → ⊥
+  over_bad g h =
+      let c = g.csi in
+      (wrong_at e.limit (before_stop e bytes) (from_stop e bytes) rest c.last c.stands h.why c.short).1 g.list g.final
+      (subst (λ (x : List ℕ). Seq (without_controls x) g.list g.final) c.whole c.seq)
 
-same_within : (e : Events) (bytes : List ℕ) (ps qs : List Piece) (rest rest' : List ℕ)
-    (after after' : Events) → IsWithin e bytes ps rest after → IsWithin e bytes qs rest' after'
-    → SameMove ps qs rest rest' after after'
-same_within e bytes ps qs rest rest' after after' g h =
-    let c = g.control in
-    let d = h.control in
-    let both : g.b ∷ c.more ≡ h.b ∷ d.more = sym c.stands ∙ d.stands in
-    let same : g.b ≡ h.b = cc in
-    record {
-      told = g.told ∙ ap (λ (b : ℕ). piece (event.Control b) [] ∷ []) same ∙ sym h.told;
-      rests = c.stays ∙ sym d.stays;
-      on = c.looked ∙ sym d.looked;
-    }
+  same_within : IsWithin e bytes ps rest after → IsWithin e bytes qs rest' after' → SameMove ps qs rest rest' after after'
+  same_within g h =
+      let c = g.control in
+      let d = h.control in
+      let both : g.b ∷ c.more ≡ h.b ∷ d.more = sym c.stands ∙ d.stands in
+      let same : g.b ≡ h.b = cc in
+      record {
+        told = g.told ∙ ap (λ (b : ℕ). piece (event.Control b) [] ∷ []) same ∙ sym h.told;
+        rests = c.stays ∙ sym d.stays;
+        on = c.looked ∙ sym d.looked;
+      }
 
-same_over : (e : Events) (bytes : List ℕ) (ps qs : List Piece) (rest rest' : List ℕ)
-    (after after' : Events) → IsOver e bytes ps rest after → IsOver e bytes qs rest' after'
-    → SameMove ps qs rest rest' after after'
-same_over e bytes ps qs rest rest' after after' g h =
-    let c = g.csi in
-    let d = h.csi in
-    let over = before_stop e bytes in
-    let both : c.last ∷ rest ≡ d.last ∷ rest' = sym c.stands ∙ d.stands in
-    let last : c.last ≡ d.last = cc in
-    let rests : rest ≡ rest' = cc in
-    let text : g.text ≡ h.text = c.whole ∙ ap (λ (b : ℕ). over ++ b ∷ []) last ∙ sym d.whole in
-    let final : g.final ≡ h.final = (one_seq (without_controls g.text) (without_controls h.text) [] [] g.list h.list g.final h.final c.seq d.seq
-    (ap (λ (x : List ℕ). without_controls x ++ []) text)).2 in
-    record {
-      told = g.told ∙ ap (λ (f : ℕ). piece (event.Csi f) g.text ∷ []) final ∙ ap (λ (x : List ℕ). piece (event.Csi h.final) x ∷ []) text ∙ sym h.told;
-      rests = rests;
-      on = c.closed ∙ sym d.closed;
-    }
+  same_over : IsOver e bytes ps rest after → IsOver e bytes qs rest' after' → SameMove ps qs rest rest' after after'
+  same_over g h =
+      let c = g.csi in
+      let d = h.csi in
+      let over = before_stop e bytes in
+      let both : c.last ∷ rest ≡ d.last ∷ rest' = sym c.stands ∙ d.stands in
+      let last : c.last ≡ d.last = cc in
+      let text : g.text ≡ h.text = c.whole ∙ ap (λ (b : ℕ). over ++ b ∷ []) last ∙ sym d.whole in
+      let final : g.final ≡ h.final = (one_seq (without_controls g.text) (without_controls h.text) [] [] g.list h.list g.final h.final c.seq d.seq
+      (ap (λ (x : List ℕ). without_controls x ++ []) text)).2 in
+      record {
+        told = g.told ∙ ap (λ (f : ℕ). piece (event.Csi f) g.text ∷ []) final ∙ ap (λ (x : List ℕ). piece (event.Csi h.final) x ∷ []) text ∙ sym h.told;
+        rests = cc;
+        on = c.closed ∙ sym d.closed;
+      }
 
-same_bad : (e : Events) (bytes : List ℕ) (ps qs : List Piece) (rest rest' : List ℕ)
-    (after after' : Events) → IsBad e bytes ps rest after → IsBad e bytes qs rest' after'
-    → SameMove ps qs rest rest' after after'
-same_bad e bytes ps qs rest rest' after after' g h =
-    let both : 27 ∷ 91 ∷ rest ≡ 27 ∷ 91 ∷ rest' = sym g.stands ∙ h.stands in
-    record { told = g.told ∙ sym h.told; rests = cc; on = g.on ∙ sym h.on }
+  same_bad : IsBad e bytes ps rest after → IsBad e bytes qs rest' after' → SameMove ps qs rest rest' after after'
+  same_bad g h =
+      let both : 27 ∷ 91 ∷ rest ≡ 27 ∷ 91 ∷ rest' = sym g.stands ∙ h.stands in
+      record { told = g.told ∙ sym h.told; rests = cc; on = g.on ∙ sym h.on }
 
-same_part : (e : Events) (bytes : List ℕ) (ps qs : List Piece) (rest rest' : List ℕ)
-    (after after' : Events) → IsPart e bytes ps rest after → IsPart e bytes qs rest' after'
-    → SameMove ps qs rest rest' after after'
-same_part e bytes ps qs rest rest' after after' g h =
-    let s = part_once e.limit e.mode bytes g.p h.p rest rest' g.next h.next g.first h.first in
-    record {
-      told = g.told ∙ ap (λ (p : Part). pieces_of (event_of p.kind) p.bytes) s.parts ∙ sym h.told;
-      rests = s.rests;
-      on = g.on ∙ ap (λ (m : Mode). onward e m 0) s.modes ∙ sym h.on;
-    }
+  same_part : IsPart e bytes ps rest after → IsPart e bytes qs rest' after' → SameMove ps qs rest rest' after after'
+  same_part g h =
+      let s = part_once e.limit e.mode bytes g.p h.p rest rest' g.next h.next g.first h.first in
+      record {
+        told = g.told ∙ ap (λ (p : Part). pieces_of (event_of p.kind) p.bytes) s.parts ∙ sym h.told;
+        rests = s.rests;
+        on = g.on ∙ ap (λ (m : Mode). onward e m 0) s.modes ∙ sym h.on;
+      }
 
--- a part stands where no sequence begins
-part_other : (e : Events) (bytes : List ℕ) (ps qs : List Piece) (rest rest' : List ℕ)
-    (after after' : Events) → IsPart e bytes ps rest after
-    → IsWithin e bytes qs rest' after' ⊎ (IsOver e bytes qs rest' after' ⊎ IsBad e bytes qs rest' after')
-    → ⊥
-part_other e bytes ps qs rest rest' after after' g (inl h) = g.other h.begins
-part_other e bytes ps qs rest rest' after after' g (inr (inl h)) = g.other h.begins
-part_other e bytes ps qs rest rest' after after' g (inr (inr h)) = g.other (rest', h.stands)
+  -- a part stands where no sequence begins
+  part_other : IsPart e bytes ps rest after → IsWithin e bytes qs rest' after' ⊎ (IsOver e bytes qs rest' after' ⊎ IsBad e bytes qs rest' after') → ⊥
+  part_other g (inl h) = g.other h.begins
+  part_other g (inr (inl h)) = g.other h.begins
+  part_other g (inr (inr h)) = g.other (rest', h.stands)
 
 move_once : (e : Events) (bytes : List ℕ) (ps qs : List Piece) (rest rest' : List ℕ)
     (after after' : Events) → IsMove e bytes ps rest after → IsMove e bytes qs rest' after'
@@ -198,54 +181,8 @@ pub one_part : (limit : ℕ) (m a : Mode) (bytes rest : List ℕ) (p : Part)
 one_part limit m a bytes rest p h =
     subst (λ (x : Mode). IsFirstPart limit m bytes p rest x) (sym h.3.1) (subst (λ (x : List ℕ). IsFirstPart limit m bytes p x h.1) (sym h.3.0) h.2)
 
-part_more : (e : Events) (bytes more : List ℕ) (ps : List Piece) (rest : List ℕ) (after : Events)
-    → IsPart e bytes ps rest after → IsPart e (bytes ++ more) ps (rest ++ more) after
-part_more e bytes more ps rest after g =
-    let one = parts_more e.limit (g.p ∷ []) e.mode bytes more rest g.next (rest, g.next, g.first, (refl, refl)) in
-    let some = (front e.limit e.mode g.next bytes rest g.p g.other g.first).some in
-    record {
-      other = other_more e.limit e.mode g.next bytes more rest g.p g.other g.first;
-      p = g.p;
-      next = g.next;
-      first = one_part e.limit e.mode g.next (bytes ++ more) (rest ++ more) g.p one;
-      sure = λ text. refuted _ (λ h. both_ways (is_unfinished bytes) (g.sure text) (unfinished_front bytes more (omega (arith, some, ap length g.first.0, length-append g.p.bytes rest)) h));
-      told = g.told;
-      on = g.on;
-    }
-
-within_more : (e : Events) (bytes more : List ℕ) (ps : List Piece) (rest : List ℕ) (after : Events)
-    → IsWithin e bytes ps rest after → IsWithin e (bytes ++ more) ps (rest ++ more) after
-within_more e bytes more ps rest after g =
-    let h = control_more e after bytes [] rest more [] g.b (g.begins, g.control) in
-    record { begins = h.0; b = g.b; control = h.1; told = g.told }
-
-over_more : (e : Events) (bytes more : List ℕ) (ps : List Piece) (rest : List ℕ) (after : Events)
-    → IsOver e bytes ps rest after → IsOver e (bytes ++ more) ps (rest ++ more) after
-over_more e bytes more ps rest after g =
-    let c = g.csi in
-    let h = csi_more e after bytes g.text rest more g.list g.final (g.begins, c) in
-    let s = same_stop e bytes more rest c.last c.stands in
-    record {
-      begins = h.0;
-      list = g.list;
-      final = g.final;
-      text = g.text;
-      csi = h.1;
-      other = λ b others stands.
-          let both : b ∷ others ≡ c.last ∷ (rest ++ more) = sym stands ∙ s.behind ∙ ap (λ (x : List ℕ). x ++ more) c.stands in
-          let same : c.last ≡ b = cc in
-          subst (λ (x : ℕ). is_control x ≡ false) same (g.other c.last rest c.stands);
-      told = g.told;
-    }
-
 passed_more : (bytes more : List ℕ) → prefix_len is_passed bytes ≤ prefix_len is_passed (bytes ++ more)
-passed_more [] more = omega arith
-passed_more (b ∷ bytes) more = by (is_passed b) (passed_more bytes more)
-  where
-    by : (t : Bool) → prefix_len is_passed bytes ≤ prefix_len is_passed (bytes ++ more)
-        → cond t (1 + prefix_len is_passed bytes) 0 ≤ cond t (1 + prefix_len is_passed (bytes ++ more)) 0
-    by true h = omega (arith, h)
-    by false h = omega arith
+passed_more bytes more = let e = prefix_len-append is_passed bytes more in grind arith
 
 -- no sequence stops earlier where more follows
 stop_more : (looked : ℕ) (bytes more : List ℕ) → looked ≤ length bytes → 2 ≤ length bytes
@@ -271,23 +208,58 @@ wrong_more e bytes more (b ∷ behind) le two stands why =
     let there : from_stop e (bytes ++ more) ≡ b ∷ (behind ++ more) = s.behind ∙ ap (λ (x : List ℕ). x ++ more) stands in
     rw (s.over, there) why
 
-bad_more : (e : Events) (bytes more : List ℕ) (ps : List Piece) (rest : List ℕ) (after : Events)
-    → IsBad e bytes ps rest after → IsBad e (bytes ++ more) ps (rest ++ more) after
-bad_more e bytes more ps rest after g =
-    record {
-      stands = ap (λ (x : List ℕ). x ++ more) g.stands;
-      within = let le = g.within in omega (arith, le, length-append bytes more);
-      why = wrong_more e bytes more (from_stop e bytes) g.within (omega (arith, ap length g.stands)) refl g.why;
-      told = g.told;
-      on = g.on;
-    }
+module _ (e : Events) (bytes more : List ℕ) (ps : List Piece) (rest : List ℕ) (after : Events) where
+  part_more : IsPart e bytes ps rest after → IsPart e (bytes ++ more) ps (rest ++ more) after
+  part_more g =
+      let one = parts_more e.limit (g.p ∷ []) e.mode bytes more rest g.next (rest, g.next, g.first, (refl, refl)) in
+      let some = (front e.limit e.mode g.next bytes rest g.p g.other g.first).some in
+      record {
+        other = other_more e.limit e.mode g.next bytes more rest g.p g.other g.first;
+        p = g.p;
+        next = g.next;
+        first = one_part e.limit e.mode g.next (bytes ++ more) (rest ++ more) g.p one;
+        sure = λ text. refuted _ (λ h. both_ways (is_unfinished bytes) (g.sure text) (unfinished_front bytes more (omega (arith, some, ap length g.first.0, length-append g.p.bytes rest)) h));
+        told = g.told;
+        on = g.on;
+      }
 
-move_more : (e : Events) (bytes more : List ℕ) (ps : List Piece) (rest : List ℕ) (after : Events)
-    → IsMove e bytes ps rest after → IsMove e (bytes ++ more) ps (rest ++ more) after
-move_more e bytes more ps rest after (inl g) = inl (part_more e bytes more ps rest after g)
-move_more e bytes more ps rest after (inr (inl g)) = inr (inl (within_more e bytes more ps rest after g))
-move_more e bytes more ps rest after (inr (inr (inl g))) = inr (inr (inl (over_more e bytes more ps rest after g)))
-move_more e bytes more ps rest after (inr (inr (inr g))) = inr (inr (inr (bad_more e bytes more ps rest after g)))
+  within_more : IsWithin e bytes ps rest after → IsWithin e (bytes ++ more) ps (rest ++ more) after
+  within_more g =
+      let h = control_more e after bytes [] rest more [] g.b (g.begins, g.control) in
+      record { begins = h.0; b = g.b; control = h.1; told = g.told }
+
+  over_more : IsOver e bytes ps rest after → IsOver e (bytes ++ more) ps (rest ++ more) after
+  over_more g =
+      let c = g.csi in
+      let h = csi_more e after bytes g.text rest more g.list g.final (g.begins, c) in
+      let s = same_stop e bytes more rest c.last c.stands in
+      record {
+        begins = h.0;
+        list = g.list;
+        final = g.final;
+        text = g.text;
+        csi = h.1;
+        other = λ b others stands.
+            let both : b ∷ others ≡ c.last ∷ (rest ++ more) = sym stands ∙ s.behind ∙ ap (λ (x : List ℕ). x ++ more) c.stands in
+            let same : c.last ≡ b = cc in
+            subst (λ (x : ℕ). is_control x ≡ false) same (g.other c.last rest c.stands);
+        told = g.told;
+      }
+
+  bad_more : IsBad e bytes ps rest after → IsBad e (bytes ++ more) ps (rest ++ more) after
+  bad_more g = record {
+    stands = ap (λ (x : List ℕ). x ++ more) g.stands;
+    within = let le = g.within in omega (arith, le, length-append bytes more);
+    why = wrong_more e bytes more (from_stop e bytes) g.within (omega (arith, ap length g.stands)) refl g.why;
+    told = g.told;
+    on = g.on;
+  }
+
+  move_more : IsMove e bytes ps rest after → IsMove e (bytes ++ more) ps (rest ++ more) after
+  move_more (inl g) = inl (part_more g)
+  move_more (inr (inl g)) = inr (inl (within_more g))
+  move_more (inr (inr (inl g))) = inr (inr (inl (over_more g)))
+  move_more (inr (inr (inr g))) = inr (inr (inr (bad_more g)))
 
 -- ---- one after the other
 

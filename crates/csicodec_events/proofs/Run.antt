@@ -1,8 +1,12 @@
 -- What follows of events one after the other.
-use Rattle.std.proofs.Common.{◌≡◌, ℕ, suc, ◌+◌, ◌≤◌, Bool, true, false, cond, max, List, [], ◌∷◌, ◌++◌, length, take, drop, refl, sym, ap, subst, ◌∙◌, inl, inr, append_assoc, append-nil, arith}
+use Rattle.std.proofs.Common.{◌≡◌, ℕ, ◌+◌, ◌≤◌, max, List, [], ◌∷◌, ◌++◌, length, take, drop, refl, sym, ap, subst, ◌∙◌, inl, inr, append_assoc, append-nil, arith}
+use Rattle.std.proofs.lemmas.List.Folds.{prefix_len-append}
+use Rattle.std.proofs.lemmas.Bool.{eq-eqb}
+use Rattle.std.proofs.lemmas.List.{drop-append-le}
 use Rattle.std.specs.List.{concat, flat_map, prefix_len}
 use Rattle.std.proofs.Math.Seq.{drop-append_seam}
-use Rattle.std.proofs.lemmas.List.{length-take, length-drop, take-append-drop}
+use Rattle.std.proofs.lemmas.Grind.{flat_map-append}
+use Rattle.std.proofs.lemmas.List.{length-take, length-drop}
 use Rattle.std.proofs.lemmas.List.Sums.{prefix_len-le-length}
 use Rattle.csicodec_tokens.specs.declared.param.CsiParam.{CsiParam}
 use Rattle.csicodec_spans.specs.declared.table.Kind.{Kind}
@@ -49,10 +53,12 @@ told_joined (t ∷ told) e bytes rest after s =
     parts_of t.event e bytes t.bytes.now t.rest.now s.0 s.1 s.2 ∙ ap (λ (x : List ℕ). t.bytes.now ++ x) (told_joined told s.1 t.rest.now rest after s.3)
     ∙ sym (append_assoc t.bytes.now (flat_map bytes_of told) rest)
 
-pub both : (now later : List Told)
-    → flat_map bytes_of (now ++ later) ≡ flat_map bytes_of now ++ flat_map bytes_of later
-both [] later = refl
-both (t ∷ now) later = ap (λ (x : List ℕ). t.bytes.now ++ x) (both now later) ∙ sym (append_assoc t.bytes.now (flat_map bytes_of now) (flat_map bytes_of later))
+-- the bytes of a chunk, with those that were held, and then the other chunks
+pub joined_on : (held chunk chunks front back kept rest : List ℕ) → held ++ chunk ≡ front ++ kept
+    → kept ++ chunks ≡ back ++ rest → held ++ (chunk ++ chunks) ≡ (front ++ back) ++ rest
+joined_on held chunk chunks front back kept rest here there =
+    sym (append_assoc held chunk chunks) ∙ ap (λ (x : List ℕ). x ++ chunks) here
+    ∙ append_assoc front kept chunks ∙ ap (λ (x : List ℕ). front ++ x) there ∙ sym (append_assoc front back rest)
 
 pub chunks_joined : (e after : Events) (held rest : List ℕ) (chunks : List (List ℕ))
     (told : List Told) → InChunks e held chunks told rest after
@@ -60,38 +66,12 @@ pub chunks_joined : (e after : Events) (held rest : List ℕ) (chunks : List (Li
 chunks_joined e after held rest [] told c = rw (c.0, c.1) (append-nil held)
 chunks_joined e after held rest (chunk ∷ chunks) told c =
     let (now, later, kept, mid, waiting, whole, first, waits, others) = c in
-    let front = flat_map bytes_of now in
-    let back = flat_map bytes_of later in
-    let here : held ++ chunk ≡ front ++ kept = told_joined now e (held ++ chunk) kept mid first in
-    let there : kept ++ concat chunks ≡ back ++ rest = chunks_joined waiting after kept rest chunks later others in
-    sym (append_assoc held chunk (concat chunks)) ∙ ap (λ (x : List ℕ). x ++ concat chunks) here
-    ∙ append_assoc front kept (concat chunks) ∙ ap (λ (x : List ℕ). front ++ x) there
-    ∙ sym (append_assoc front back rest)
-    ∙ ap (λ (x : List ℕ). x ++ rest) (sym (both now later)) ∙ ap (λ (x : List Told). flat_map bytes_of x ++ rest) (sym whole)
+    let here = told_joined now e (held ++ chunk) kept mid first in
+    let there = chunks_joined waiting after kept rest chunks later others in
+    joined_on held chunk (concat chunks) (flat_map bytes_of now) (flat_map bytes_of later) kept rest here there
+    ∙ ap (λ (x : List ℕ). x ++ rest) (sym (ap (flat_map bytes_of) whole ∙ flat_map-append bytes_of now later))
 
 -- ---- a sequence that waited
-
--- behind bytes that are all passed over
-all_passed : (bytes more : List ℕ) → prefix_len is_passed bytes ≡ length bytes
-    → prefix_len is_passed (bytes ++ more) ≡ length bytes + prefix_len is_passed more
-all_passed [] more e = omega arith
-all_passed (b ∷ bytes) more e = by (is_passed b) e (all_passed bytes more)
-  where
-    by : (t : Bool) → cond t (1 + prefix_len is_passed bytes) 0 ≡ suc (length bytes)
-        → (prefix_len is_passed bytes ≡ length bytes
-        → prefix_len is_passed (bytes ++ more) ≡ length bytes + prefix_len is_passed more)
-        → cond t (1 + prefix_len is_passed (bytes ++ more)) 0
-        ≡ suc (length bytes) + prefix_len is_passed more
-    by true h on = let others = on (omega (arith, h)) in omega (arith, others)
-    by false h on = absurd (omega (arith, h))
-
-front_dropped : (n : ℕ) (bytes more : List ℕ) → n ≤ length bytes
-    → drop n (bytes ++ more) ≡ drop n bytes ++ more
-front_dropped n bytes more le =
-    let front = take n bytes in
-    let len : length front ≡ n = omega (arith, length-take n bytes, le) in
-    ap (λ (x : List ℕ). drop n (x ++ more)) (sym (take-append-drop n bytes)) ∙ ap (λ (x : List ℕ). drop n x) (append_assoc front (drop n bytes) more)
-    ∙ ap (λ (k : ℕ). drop k (front ++ (drop n bytes ++ more))) (sym len) ∙ drop-append_seam front (drop n bytes ++ more)
 
 -- where a sequence waited it stops where it would have stopped
 pub stop_on : (looked : ℕ) (bytes more : List ℕ) → looked ≤ length bytes → 2 ≤ length bytes
@@ -106,8 +86,8 @@ stop_on looked bytes more le two none =
     let cut = length-drop (stop looked bytes) bytes in
     let full : prefix_len is_passed d ≡ length d = omega (arith, left, most, end, cut, le, two) in
     let there : prefix_len is_passed (drop start (bytes ++ more)) ≡ length d + prefix_len is_passed
-    more = ap (prefix_len is_passed) (front_dropped start bytes more (omega (arith, le, two)))
-    ∙ all_passed d more full in
+    more = ap (prefix_len is_passed) (drop-append-le start bytes more (omega (arith, le, two)))
+    ∙ prefix_len-append is_passed d more ∙ rw full (rw (eq-eqb (length d) (length d) refl) refl) in
     let len : length (take (stop looked bytes) bytes) ≡ length bytes = omega (arith, length-take (stop looked bytes) bytes, full, left, le, two) in
     let big : max 2 (length bytes) ≡ length bytes = omega (arith, two) in
     let here : prefix_len is_passed (drop (max 2 (length bytes)) (bytes ++ more)) ≡ prefix_len

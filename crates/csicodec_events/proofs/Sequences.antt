@@ -1,5 +1,7 @@
 -- A sequence without controls stops at its final byte, and is read as it stands.
 use Rattle.std.proofs.Common.{◌≡◌, ℕ, ◌+◌, ◌≤◌, Bool, true, false, cond, filter, List, [], ◌∷◌, ◌++◌, length, take, drop, refl, sym, ap, subst, ◌∙◌, append_assoc, arith}
+use Rattle.std.proofs.lemmas.List.Folds.{prefix_len-append}
+use Rattle.std.proofs.lemmas.Bool.{eq-eqb}
 use Rattle.std.specs.List.{AllByRecursion, prefix_len}
 use Rattle.std.proofs.Math.Seq.{take-append_seam, drop-append_seam}
 use Rattle.std.proofs.lemmas.List.{length-append}
@@ -13,7 +15,7 @@ use Rattle.csicodec_events.specs.Events.{IsCsi, before_stop, from_stop, is_passe
 
 -- ---- bytes of a sequence
 
-pub passed_byte : (b : ℕ) → IsBodyByte b → is_passed b ≡ true
+passed_byte : (b : ℕ) → IsBodyByte b → is_passed b ≡ true
 passed_byte b h = grind (arith, nat_tests)
 
 passed_final : (b : ℕ) → IsFinal b → is_passed b ≡ false
@@ -25,14 +27,13 @@ read_byte b h = grind (arith, nat_tests)
 read_final : (b : ℕ) → IsFinal b → is_read b ≡ true
 read_final b h = grind (arith, nat_tests)
 
-passed_body : (body rest : List ℕ) (f : ℕ) → AllByRecursion IsBodyByte body → IsFinal f
-    → prefix_len is_passed (body ++ f ∷ rest) ≡ length body
-passed_body [] rest f h final = ap (λ (t : Bool). cond t (1 + prefix_len is_passed rest) 0) (passed_final f final)
-passed_body (b ∷ body) rest f h final =
-    let first : prefix_len is_passed (b ∷ (body ++ f ∷ rest)) ≡ 1 + prefix_len is_passed (body ++ f ∷ rest) =
-    ap (λ (t : Bool). cond t (1 + prefix_len is_passed (body ++ f ∷ rest)) 0) (passed_byte b h.0) in
-    let others = passed_body body rest f h.1 final in
-    omega (arith, first, others)
+passed_all : (body : List ℕ) → AllByRecursion IsBodyByte body → prefix_len is_passed body ≡ length body
+passed_all [] h = refl
+passed_all (b ∷ body) h = let others = passed_all body h.1 in rw (passed_byte b h.0) (omega (arith, others))
+
+pub passed_body : (body rest : List ℕ) → AllByRecursion IsBodyByte body
+    → prefix_len is_passed (body ++ rest) ≡ length body + prefix_len is_passed rest
+passed_body body rest h = prefix_len-append is_passed body rest ∙ rw (passed_all body h) (rw (eq-eqb (length body) (length body) refl) refl)
 
 read_body : (body : List ℕ) (f : ℕ) → AllByRecursion IsBodyByte body → IsFinal f
     → filter is_read (body ++ f ∷ []) ≡ body ++ f ∷ []
@@ -56,7 +57,8 @@ at_once e bytes text rest list final none s split short =
     let body = (IsBody-from_spelling s.body list s.spellable s.spelled).bytes in
     let over : List ℕ = 27 ∷ 91 ∷ s.body in
     let whole : bytes ≡ over ++ final ∷ rest = split ∙ ap (λ (t : List ℕ). t ++ rest) s.whole ∙ append_assoc over (final ∷ []) rest in
-    let passed : prefix_len is_passed (drop 2 bytes) ≡ length s.body = ap (λ (t : List ℕ). prefix_len is_passed (drop 2 t)) whole ∙ passed_body s.body rest final body s.ends in
+    let passed : prefix_len is_passed (drop 2 bytes) ≡ length s.body = ap (λ (t : List ℕ). prefix_len is_passed (drop 2 t)) whole
+    ∙ passed_body s.body (final ∷ rest) body ∙ rw (passed_final final s.ends) (omega arith) in
     let here : stop e.looked bytes ≡ length over = ap (λ (k : ℕ). stop k bytes) none ∙ omega (arith, passed) in
     let front : before_stop e bytes ≡ over = ap (λ (i : ℕ). take i bytes) here ∙ ap (λ (t : List ℕ). take (length over) t) whole ∙ take-append_seam over (final ∷ rest) in
     let back : from_stop e bytes ≡ final ∷ rest = ap (λ (i : ℕ). drop i bytes) here ∙ ap (λ (t : List ℕ). drop (length over) t) whole ∙ drop-append_seam over (final ∷ rest) in

@@ -1,6 +1,6 @@
 -- What is told where a sequence stops, by the byte there.
 use Rattle.std.proofs.Common.{◌≡◌, ℕ, ◌+◌, ◌-◌, ◌<◌, ◌≤◌, Bool, true, false, cond, filter, inl, inr, List, [], ◌∷◌, ◌++◌, length}
-use Rattle.std.proofs.Common.{take, drop, refl, sym, ap, subst, ◌∙◌, append_assoc, append-nil, slice_index_or, arith}
+use Rattle.std.proofs.Common.{take, drop, refl, sym, ap, subst, ◌∙◌, append_assoc, append-nil, arith}
 use Rattle.std.proofs.Math.Seq.{take-append_seam, drop-append_seam}
 use Rattle.std.proofs.lemmas.List.{length-append, length-take, length-drop, take-append-drop}
 use Rattle.csicodec_tokens.specs.declared.param.CsiParam.{CsiParam}
@@ -9,11 +9,10 @@ use Rattle.std.proofs.lemmas.List.Elements.{filter-append}
 use Rattle.csicodec_tokens.specs.Sequence.{IsFinal, Reads, Seq}
 use Rattle.csicodec_spans.specs.declared.table.Mode.TheVariants as mode
 use Rattle.csicodec_spans.proofs.Sequences.{short, whole}
-use Rattle.csicodec_events.specs.declared.event.Event.{Event}
 use Rattle.csicodec_events.specs.declared.event.Event.TheVariants as event
 use Rattle.csicodec_events.specs.declared.event.Events.{Events}
-use Rattle.csicodec_events.specs.Events.{BeginsCsi, GoesWrong, IsCsi, IsWrong, IsWrongAt, before_stop, from_stop, is_control, is_final, is_passed, is_read, onward, stop, without_controls}
-use Rattle.csicodec_events.specs.Private.Steps.{HasTold}
+use Rattle.csicodec_events.specs.Events.{BeginsCsi, GoesWrong, IsCsi, IsWrongAt, before_stop, from_stop, is_control, is_final, is_passed, is_read, onward, stop, without_controls}
+use Rattle.csicodec_events.specs.Private.Steps.{HasFound}
 use Rattle.csicodec_events.proofs.Sequences.{at_once}
 use Rattle.csicodec_events.proofs.Steps.{csi_further, stop_behind, told_on}
 
@@ -22,11 +21,6 @@ pub whole_reads : (read bytes : List ℕ) (list : List CsiParam) (final : ℕ)
     → read ≡ without_controls bytes → Seq (without_controls bytes) list final
     → Reads read list final []
 whole_reads read bytes list final e s = (read, subst (λ (x : List ℕ). Seq x list final) (sym e) s, sym (append-nil read))
-
-pub first_and_others : (bytes : List ℕ) → 1 ≤ length bytes
-    → bytes ≡ slice_index_or bytes 0 0 ∷ drop 1 bytes
-first_and_others [] some = absurd (omega (arith, some))
-first_and_others (b ∷ bytes) some = refl
 
 -- ---- places
 
@@ -51,39 +45,36 @@ next_place bytes at b more e =
 
 -- ---- a sequence that is read at once
 
-pub read_told : (e : Events) (bytes tail : List ℕ) (list : List CsiParam) (final : ℕ)
-    (y : Event) (text rest : List ℕ) (after : Events) → e.looked ≡ 0 → BeginsCsi bytes → Reads (take e.limit bytes) list final tail
-    → y ≡ event.Csi final
-    → text ≡ take (length (take e.limit bytes) - length tail) bytes
-    → rest ≡ drop (length (take e.limit bytes) - length tail) bytes
-    → after ≡ onward e mode.Text 0 → HasTold e bytes y text rest list after
-read_told e bytes tail list final y text rest after none begins r is front back on =
-    let n = length (take e.limit bytes) - length tail in
+pub read_told : (e : Events) (bytes tail : List ℕ) (list : List CsiParam) (final n : ℕ) (after : Events)
+    → e.looked ≡ 0 → BeginsCsi bytes → Reads (take e.limit bytes) list final tail
+    → n ≡ length (take e.limit bytes) - length tail → after ≡ onward e mode.Text 0
+    → HasFound e bytes (event.Csi final) n list after
+read_told e bytes tail list final n after none begins r size on =
     let seq = whole e.limit bytes tail list final r in
-    let csi = at_once e bytes (take n bytes) (drop n bytes) list final none seq (sym (take-append-drop n bytes)) (short e.limit bytes tail) in
-    let here : IsCsi e (before_stop e bytes) (from_stop e bytes) list final text rest after = rw (front, back, on) csi in
-    told_on e bytes y text rest list after mode.Text (event.Csi final) is on (begins, here) (csi_further e bytes list final text rest after here)
+    let here : IsCsi e (before_stop e bytes) (from_stop e bytes) list final (take n bytes) (drop n bytes) after =
+    rw on (at_once e bytes (take n bytes) (drop n bytes) list final none (rw size seq) (sym (take-append-drop n bytes)) (rw size (short e.limit bytes tail))) in
+    told_on e bytes (event.Csi final) (take n bytes) (drop n bytes) list after mode.Text (event.Csi final) refl on (begins, here)
+    (csi_further e bytes list final (take n bytes) (drop n bytes) after here)
 
 -- ---- a sequence with controls in it
 
-pub csi_told : (e : Events) (bytes : List ℕ) (list : List CsiParam) (b final : ℕ) (more : List ℕ)
-    (y : Event) (text rest : List ℕ) (after : Events) → BeginsCsi bytes → from_stop e bytes ≡ b ∷ more
-    → stop e.looked bytes < e.limit
-    → Seq (without_controls (take (stop e.looked bytes + 1) bytes)) list final
-    → y ≡ event.Csi final → text ≡ take (stop e.looked bytes + 1) bytes
-    → rest ≡ drop (stop e.looked bytes + 1) bytes → after ≡ onward e mode.Text 0
-    → HasTold e bytes y text rest list after
-csi_told e bytes list b final more y text rest after begins stands low seq is front back on =
-    let n = next_place bytes (stop e.looked bytes) b more stands in
+pub csi_told : (e : Events) (bytes : List ℕ) (list : List CsiParam) (at b final : ℕ) (more : List ℕ) (after : Events)
+    → BeginsCsi bytes → at ≡ stop e.looked bytes → drop at bytes ≡ b ∷ more → at < e.limit
+    → Seq (without_controls (take (at + 1) bytes)) list final → after ≡ onward e mode.Text 0
+    → HasFound e bytes (event.Csi final) (at + 1) list after
+csi_told e bytes list at b final more after begins place stands low seq on =
+    let n = next_place bytes at b more stands in
+    let text = take (at + 1) bytes in
+    let rest = drop (at + 1) bytes in
     let here : IsCsi e (before_stop e bytes) (from_stop e bytes) list final text rest after = record {
       last = b;
-      stands = stands ∙ ap (λ (x : List ℕ). b ∷ x) (sym (back ∙ n.back));
-      whole = front ∙ n.front;
-      short = omega (arith, n.len, low);
-      seq = rw front seq;
+      stands = ap (λ (k : ℕ). drop k bytes) (sym place) ∙ stands ∙ ap (λ (x : List ℕ). b ∷ x) (sym n.back);
+      whole = n.front ∙ ap (λ (k : ℕ). take k bytes ++ b ∷ []) place;
+      short = omega (arith, length-take (stop e.looked bytes) bytes, place, low);
+      seq = seq;
       closed = on;
     } in
-    told_on e bytes y text rest list after mode.Text (event.Csi final) is on (begins, here) (csi_further e bytes list final text rest after here)
+    told_on e bytes (event.Csi final) text rest list after mode.Text (event.Csi final) refl on (begins, here) (csi_further e bytes list final text rest after here)
 
 -- ---- what goes wrong
 
@@ -102,23 +93,22 @@ no_sequence limit bytes at b more e other none =
     subst (λ (x : List ℕ). IsWrongAt limit (take at bytes) x) (sym e) (λ lt. (other, λ list final s. none list final (subst (λ (x : List ℕ). Seq (without_controls x) list final) (sym n.front) s)))
 
 -- a final byte stands there
-pub wrong_told : (e : Events) (bytes : List ℕ) (at b : ℕ) (more : List ℕ) (y : Event)
-    (text rest : List ℕ) (list : List CsiParam) (after : Events) → BeginsCsi bytes
-    → at ≡ stop e.looked bytes → drop at bytes ≡ b ∷ more → is_final b ≡ true
-    → IsWrongAt e.limit (before_stop e bytes) (from_stop e bytes) → y ≡ event.Other
-    → text ≡ take (at + 1) bytes → rest ≡ drop (at + 1) bytes → after ≡ onward e mode.Text 0
-    → HasTold e bytes y text rest list after
-wrong_told e bytes at b more y text rest list after begins place stands final why is front back on =
+pub wrong_told : (e : Events) (bytes : List ℕ) (at b : ℕ) (more : List ℕ) (list : List CsiParam) (after : Events)
+    → BeginsCsi bytes → at ≡ stop e.looked bytes → drop at bytes ≡ b ∷ more → is_final b ≡ true
+    → IsWrongAt e.limit (before_stop e bytes) (from_stop e bytes) → after ≡ onward e mode.Text 0
+    → HasFound e bytes event.Other (at + 1) list after
+wrong_told e bytes at b more list after begins place stands final why on =
     let n = next_place bytes at b more stands in
+    let text = take (at + 1) bytes in
+    let rest = drop (at + 1) bytes in
     let over : take at bytes ≡ before_stop e bytes = ap (λ (k : ℕ). take k bytes) place in
     let behind : b ∷ more ≡ from_stop e bytes = sym stands ∙ ap (λ (k : ℕ). drop k bytes) place in
     let goes : GoesWrong (before_stop e bytes) (from_stop e bytes) text rest mode.Text = subst (λ (x : List ℕ). GoesWrong (before_stop e bytes) x text rest mode.Text) behind
-    (inl (final, front ∙ n.front ∙ ap (λ (x : List ℕ). x ++ b ∷ []) over, back ∙ n.back, refl)) in
-    let wrong : IsWrong e (before_stop e bytes) (from_stop e bytes) text rest after = record { next = mode.Text; why = why; goes = goes; on = on } in
+    (inl (final, n.front ∙ ap (λ (x : List ℕ). x ++ b ∷ []) over, n.back, refl)) in
     let s = stop_behind e.looked bytes in
-    let long : length text ≡ at + 1 = ap length (front ∙ n.front) ∙ omega (arith, n.len, length-append (take at bytes) (b ∷ [])) in
-    told_on e bytes y text rest list after mode.Text event.Other is on (inr (begins, wrong))
-    (record { parts = rw (front, back) (sym (take-append-drop (at + 1) bytes)); some = omega (arith, long); further = omega (arith, long, place, s.0) })
+    let long : length text ≡ at + 1 = ap length n.front ∙ omega (arith, n.len, length-append (take at bytes) (b ∷ [])) in
+    told_on e bytes event.Other text rest list after mode.Text event.Other refl on (inr (begins, record { next = mode.Text; why = why; goes = goes; on = on }))
+    (record { parts = sym (take-append-drop (at + 1) bytes); some = omega (arith, long); further = omega (arith, long, place, s.0) })
 
 -- no sequence ends with any other byte
 last_same : (xs ys : List ℕ) (a b : ℕ) → xs ++ a ∷ [] ≡ ys ++ b ∷ [] → a ≡ b

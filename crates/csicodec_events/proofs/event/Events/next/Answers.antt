@@ -1,30 +1,18 @@
-use Rattle.std.proofs.Common.{◌≡◌, ◌<◌, ◌++◌, ℕ, List, []}
-use Rattle.csicodec_events.specs.declared.event.Told.{Told}
-use Rattle.csicodec_events.specs.Events.{IsMet, left}
-use Rattle.csicodec_events.specs.Private.Steps.{HasTold, HasWaited}
+use Rattle.std.proofs.Common.{[]}
 use Rattle.csicodec_events.proofs.Steps.{match_some, match_both, match_limit}
 use Rattle.csicodec_events.proofs.event.Events.next.Goals as goal
 
 pub returns-then-not-begins_csi-clause-tells : goal.returns-then-not-begins_csi-clause-tells
-returns-then-not-begins_csi-clause-tells c =
-    match_both (HasWaited c.args.self.now c.args.bytes.now c.span.new.self)
-    (λ (t : Told). HasTold c.args.self.now c.args.bytes.now t.event t.bytes.now t.rest.now _
-    c.span.new.self) _ _ c.span.result (c.span.ensures _) (λ w. w.waits) (λ t h. h.tells)
+returns-then-not-begins_csi-clause-tells c = match_both _ _ _ _ c.span.result (c.span.ensures _) (λ w. w.waits) (λ t h. h.tells)
 
 pub returns-then-not-begins_csi-clause-parts : goal.returns-then-not-begins_csi-clause-parts
-returns-then-not-begins_csi-clause-parts c =
-    match_some (HasWaited c.args.self.now c.args.bytes.now c.span.new.self) (λ (t : Told). HasTold c.args.self.now c.args.bytes.now t.event t.bytes.now t.rest.now [] c.span.new.self)
-    (λ (t : Told). c.args.bytes.now ≡ t.bytes.now ++ t.rest.now) c.span.result (c.span.ensures []) (λ t h. h.parts)
+returns-then-not-begins_csi-clause-parts c = match_some _ _ _ c.span.result (c.span.ensures []) (λ t h. h.parts)
 
 pub returns-then-not-begins_csi-clause-progress : goal.returns-then-not-begins_csi-clause-progress
-returns-then-not-begins_csi-clause-progress c =
-    match_some (HasWaited c.args.self.now c.args.bytes.now c.span.new.self) (λ (t : Told). HasTold c.args.self.now c.args.bytes.now t.event t.bytes.now t.rest.now [] c.span.new.self)
-    (λ (t : Told). left c.span.new.self t.rest.now < left c.args.self.now c.args.bytes.now) c.span.result (c.span.ensures []) (λ t h. h.progress)
+returns-then-not-begins_csi-clause-progress c = match_some _ _ _ c.span.result (c.span.ensures []) (λ t h. h.progress)
 
 pub returns-then-not-begins_csi-clause-again : goal.returns-then-not-begins_csi-clause-again
-returns-then-not-begins_csi-clause-again c =
-    match_both (HasWaited c.args.self.now c.args.bytes.now c.span.new.self) (λ (t : Told). HasTold c.args.self.now c.args.bytes.now t.event t.bytes.now t.rest.now [] c.span.new.self)
-    ((more : List ℕ) → IsMet c.span.new.self (c.args.bytes.now ++ more)) (λ (t : Told). IsMet c.span.new.self t.rest.now) c.span.result (c.span.ensures []) (λ w. w.again) (λ t h. h.again)
+returns-then-not-begins_csi-clause-again c = match_both _ _ _ _ c.span.result (c.span.ensures []) (λ w. w.again) (λ t h. h.again)
 
 pub returns-then-not-begins_csi-clause-limit : goal.returns-then-not-begins_csi-clause-limit
 returns-then-not-begins_csi-clause-limit c = match_limit c.args.self.now c.args.bytes.now c.span.new.self c.span.result (c.span.ensures [])

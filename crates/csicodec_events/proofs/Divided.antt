@@ -1,8 +1,8 @@
 -- A span as the smallest steps: a step for each of its parts.
-use Rattle.std.proofs.Common.{◌≡◌, ◌≢◌, ◌⊎◌, ℕ, ◌<◌, Bool, true, false, List, [], ◌∷◌, ◌++◌, length, refl, sym, ap, subst, ◌∙◌, inl, inr, append_assoc, arith}
+use Rattle.std.proofs.Common.{◌≡◌, ◌≢◌, ◌⊎◌, ℕ, ◌<◌, Bool, false, List, [], ◌∷◌, ◌++◌, length, refl, sym, ap, subst, ◌∙◌, inl, inr, append_assoc, arith}
 use Rattle.std.specs.Prelude.{◌==◌, if◌then◌else◌}
 use Rattle.std.specs.List.{AllByRecursion, flat_map}
-use Rattle.std.proofs.lemmas.Bool.{both_ways, cases_Bool, eqb-true}
+use Rattle.std.proofs.lemmas.Bool.{cases_Bool, eqb-true}
 use Rattle.csicodec_spans.specs.declared.table.Kind.{Kind}
 use Rattle.csicodec_spans.specs.declared.table.Kind.TheVariants as kind
 use Rattle.csicodec_spans.specs.declared.table.Mode.{Mode}
@@ -63,7 +63,7 @@ csi_kind limit bytes text k a = elim k as (λ x. AllowsCsi limit bytes x text a 
 ]
 
 -- a part of another kind than these stands where no sequence begins
-kind_other : (limit : ℕ) (m a : Mode) (bytes rest : List ℕ) (p : Part) → p.kind ≢ kind.Csi
+pub kind_other : (limit : ℕ) (m a : Mode) (bytes rest : List ℕ) (p : Part) → p.kind ≢ kind.Csi
     → p.kind ≢ kind.Other → IsFirstPart limit m bytes p rest a → BeginsCsi bytes → ⊥
 kind_other limit m a bytes rest p csi other h b = elim (csi_kind limit bytes p.bytes p.kind a (subst (λ (f : Answer). Allows f limit bytes p.kind p.bytes a) (ap (ahead m) b.1 ∙ opens m b.0) h.1)) [
   | inl is ↦ csi is
@@ -219,7 +219,7 @@ text_run limit (p ∷ parts) m a bytes rest on all s =
     }
 
 not_esc : (b : ℕ) → (b == 27) ≡ false → b ≢ 27
-not_esc b e is = let yes : (b == 27) ≡ true = ap (λ (x : ℕ). x == 27) is in both_ways (b == 27) e yes
+not_esc b e is = grind arith
 
 text_bytes : (e : Events) (v held behind : List ℕ)
     → ((u w : List ℕ) → v ≡ u ++ w → 0 < length w → is_unfinished (w ++ (held ++ behind)) ≡ false)
@@ -242,7 +242,7 @@ text_bytes e (b ∷ v) held behind sure free =
     })) others
 
 -- behind text that is as long as it can be stands ESC
-esc_behind : (m : Mode) (behind more : List ℕ) (c : ℕ) → m ≡ mode.Text
+pub esc_behind : (m : Mode) (behind more : List ℕ) (c : ℕ) → m ≡ mode.Text
     → IsMaximal kind.Text m behind → behind ≡ c ∷ more → c ≡ 27
 esc_behind m behind more c text maximal e = elim (cases_Bool (c == 27)) [
   | inl is ↦ eqb-true c 27 is

@@ -194,14 +194,7 @@ one_byte bytes text rest n split len one h =
     (h.0, sym (front_is bytes text rest 1 split (len ∙ one)) ∙ ap (take 1) h.2, h.3)
 
 text_byte : (text : List ℕ) → length text ≡ 1 → BeginsAs kind.Text text → IsByte text
-text_byte text one (b, [], e, other) = (
-  b,
-  e,
-  elim (cases_Bool (b == 27)) [
-    | inl is ↦ absurd (other (eqb-true b 27 is))
-    | inr none ↦ none
-  ],
-)
+text_byte text one (b, [], e, other) = (b, e, grind arith)
 text_byte text one (b, c ∷ more, e, other) = absurd (omega (arith, one, ap length e))
 
 sure_by : (f : Answer) (limit : ℕ) (m a : Mode) (bytes rest : List ℕ) (p : Part)

@@ -1,9 +1,9 @@
 -- What was looked at of a control sequence: bytes that are passed over, and controls.
-use Rattle.std.proofs.Common.{◌≡◌, ℕ, zero, suc, ◌+◌, ◌≤◌, ◌⊎◌, Bool, true, false, cond, filter, max, List, [], ◌∷◌, ◌++◌, length, take, drop, refl, sym, ap, subst, ◌∙◌, inl, inr, arith}
+use Rattle.std.proofs.Common.{◌≡◌, ℕ, zero, suc, ◌+◌, ◌≤◌, ◌⊎◌, Bool, true, false, filter, max, List, [], ◌∷◌, ◌++◌, length, take, drop, refl, sym, ap, subst, ◌∙◌, inl, inr, arith}
 use Rattle.std.proofs.Math.Seq.{take-add}
 use Rattle.std.specs.Prelude.{◌||◌}
 use Rattle.std.specs.List.{AllByRecursion, prefix_len}
-use Rattle.std.proofs.lemmas.Bool.{cases_lt, or_left, or_right}
+use Rattle.std.proofs.lemmas.Bool.{cases_Bool, cases_lt, or_left, or_right}
 use Rattle.std.proofs.lemmas.Bool.Decides.{nat_tests}
 use Rattle.std.proofs.lemmas.List.{length-append, drop-append-le, length-drop, length-take, nil_from_length, take-append-le}
 use Rattle.csicodec_tokens.specs.declared.param.CsiParam.{CsiParam}
@@ -43,14 +43,12 @@ both_inside (c ∷ a) b h k = (h.0, both_inside a b h.1 k)
 
 passed_inside : (d : List ℕ) → AreInside (take (prefix_len is_passed d) d)
 passed_inside [] = tt
-passed_inside (b ∷ d) = by (is_passed b) refl (passed_inside d)
-  where
-    by : (t : Bool) → is_passed b ≡ t → AreInside (take (prefix_len is_passed d) d)
-        → AreInside (take (cond t (1 + prefix_len is_passed d) 0) (b ∷ d))
-    by true e h =
-        let more : suc (prefix_len is_passed d) ≡ 1 + prefix_len is_passed d = omega arith in
-        subst (λ (k : ℕ). AreInside (take k (b ∷ d))) more (or_left (is_passed b) (is_control b) e, h)
-    by false e h = tt
+passed_inside (b ∷ d) = elim (cases_Bool (is_passed b)) [
+  | inl e ↦
+      let more : suc (prefix_len is_passed d) ≡ 1 + prefix_len is_passed d = omega arith in
+      rw e (subst (λ (k : ℕ). AreInside (take k (b ∷ d))) more (or_left (is_passed b) (is_control b) e, passed_inside d))
+  | inr e ↦ rw e tt
+]
 
 none_inside : (bytes : List ℕ) (n : ℕ) → n ≤ 2 → AreInside (drop 2 (take n bytes))
 none_inside bytes n le =
@@ -108,12 +106,7 @@ looked_control e after bytes rest b begins l c =
 
 filter_inside : (xs : List ℕ) → AreInside xs → AreInside (filter is_read xs)
 filter_inside [] h = tt
-filter_inside (b ∷ xs) h = by (is_read b) (filter_inside xs h.1)
-  where
-    by : (t : Bool) → AreInside (filter is_read xs)
-        → AreInside (cond t (b ∷ filter is_read xs) (filter is_read xs))
-    by true k = (h.0, k)
-    by false k = k
+filter_inside (b ∷ xs) h = elim (cases_Bool (is_read b)) [ inl e ↦ rw e (h.0, filter_inside xs h.1) | inr e ↦ rw e (filter_inside xs h.1) ]
 
 last_inside : (body : List ℕ) (f : ℕ) → AreInside (body ++ f ∷ []) → is_inside f ≡ true
 last_inside [] f h = h.0

@@ -1,30 +1,19 @@
 -- The beginning of a character: each front of it is one, and no other end of it.
 use Rattle.std.proofs.Common.{◌≡◌, ℕ, ◌<◌, List, [], ◌∷◌, ◌++◌, length, refl, ap, subst, sym, ◌∙◌, inl, inr, append-nil, arith}
-use Rattle.std.specs.Prelude.{◌&&◌, Bool, true, false, nat_le}
-use Rattle.std.proofs.lemmas.Bool.{and_parts}
+use Rattle.std.specs.Prelude.{Bool, true, false}
 use Rattle.std.proofs.lemmas.Bool.Decides.{nat_tests}
-use Rattle.csicodec_events.specs.Characters.{follows, is_unfinished, leads}
+use Rattle.csicodec_events.specs.Characters.{is_unfinished, leads}
 use Rattle.csicodec_events.specs.Events.{IsHeld}
-
-first_of_two : (a b : ℕ) → is_unfinished (a ∷ b ∷ []) ≡ true → leads a ≡ true
-first_of_two a b e = grind (arith, nat_tests)
-
-first_of_three : (a b c : ℕ) → is_unfinished (a ∷ b ∷ c ∷ []) ≡ true → leads a ≡ true
-first_of_three a b c e = grind (arith, nat_tests)
-
-two_of_three : (a b c : ℕ) → is_unfinished (a ∷ b ∷ c ∷ []) ≡ true
-    → is_unfinished (a ∷ b ∷ []) ≡ true
-two_of_three a b c e = grind (arith, nat_tests)
 
 pub unfinished_front : (x y : List ℕ) → 0 < length x → is_unfinished (x ++ y) ≡ true
     → is_unfinished x ≡ true
 unfinished_front [] y some e = absurd (omega arith)
 unfinished_front (a ∷ []) [] some e = e
-unfinished_front (a ∷ []) (b ∷ []) some e = first_of_two a b e
-unfinished_front (a ∷ []) (b ∷ c ∷ []) some e = first_of_three a b c e
+unfinished_front (a ∷ []) (b ∷ []) some e = grind (arith, nat_tests)
+unfinished_front (a ∷ []) (b ∷ c ∷ []) some e = grind (arith, nat_tests)
 unfinished_front (a ∷ []) (b ∷ c ∷ d ∷ y) some e = absurd cc
 unfinished_front (a ∷ b ∷ []) [] some e = e
-unfinished_front (a ∷ b ∷ []) (c ∷ []) some e = two_of_three a b c e
+unfinished_front (a ∷ b ∷ []) (c ∷ []) some e = grind (arith, nat_tests)
 unfinished_front (a ∷ b ∷ []) (c ∷ d ∷ y) some e = absurd cc
 unfinished_front (a ∷ b ∷ c ∷ []) [] some e = e
 unfinished_front (a ∷ b ∷ c ∷ []) (d ∷ y) some e = absurd cc
@@ -32,11 +21,8 @@ unfinished_front (a ∷ b ∷ c ∷ d ∷ x) y some e = absurd cc
 
 -- ---- the bytes behind the first
 
-follows_within : (a b : ℕ) → follows a b ≡ true → (127 < b) × (b < 192)
-follows_within a b e = (grind (arith, nat_tests), grind (arith, nat_tests))
-
 second : (a b : ℕ) → is_unfinished (a ∷ b ∷ []) ≡ true → (127 < b) × (b < 192)
-second a b e = follows_within a b (and_parts (leads a && nat_le 224 a) (follows a b) e).1
+second a b e = (grind (arith, nat_tests), grind (arith, nat_tests))
 
 third : (a b c : ℕ) → is_unfinished (a ∷ b ∷ c ∷ []) ≡ true → (127 < c) × (c < 192)
 third a b c e = (grind (arith, nat_tests), grind (arith, nat_tests))

@@ -223,31 +223,6 @@ impl Events {
         }
     }
 
-    /// The event where ESC and `[` stand in front.
-    #[inline(always)]
-    fn sequence(
-        &mut self,
-        front: &mut Front<'_>,
-        params: &mut Vec<CsiParam>,
-    ) -> Result<Option<(Event, usize)>, AllocError>
-        requires begins { BeginsCsi front.old.bytes }
-        requires met { self.old.looked ≤ length front.old.bytes }
-        ensures told { IfOk result (λ o. MatchOption o
-            (HasWaited self.old front.old.bytes self.new) (λ (event, len).
-            HasFound self.old front.old.bytes event len params.new.items self.new)) }
-        ensures memory { OnErr result (self.new ≡ self.old) }
-        ensures bytes { front.new.bytes ≡ front.old.bytes }
-        ensures costs { IfOk result (λ o. front.new.looks
-            ≤ front.old.looks + looks self.old front.old.bytes (used o)) }
-    {
-        if self.looked == 0 {
-            if let Some(found) = self.at_once(front, params)? {
-                return Ok(Some(found));
-            }
-        }
-        self.as_it_comes(front, params)
-    }
-
     /// The event in front of bytes that begin with ESC and `[`, and how many of them it has, as [`next`](Events::next) tells it.
     #[inline(always)]
     pub fn next_over(
@@ -275,6 +250,11 @@ impl Events {
         ensures cheap { IfOk result (λ o. front.new.looks
             ≤ front.old.looks + looks self.old front.old.bytes (used o)) }
     {
-        self.sequence(front, params)
+        if self.looked == 0 {
+            if let Some(found) = self.at_once(front, params)? {
+                return Ok(Some(found));
+            }
+        }
+        self.as_it_comes(front, params)
     }
 }

@@ -9,8 +9,6 @@ pub mod EachTable
 pub mod Sound
 pub mod Legacy
 pub mod Kitty
-pub mod Others
 pub mod Records
 pub mod Trip
 pub mod Typed
-pub mod Told

@@ -3,6 +3,7 @@ use Rattle.std.proofs.Common.{◌≡◌, ℕ, ◌+◌, ◌-◌, ◌<◌, ◌≤�
 use Rattle.std.specs.Prelude.{true, false, ◌==◌, ◌&&◌, nat_lt, option_and_then}
 use Rattle.std.proofs.lemmas.Bool.{and_parts, cases_Bool, eqb-true, lt-ltb}
 use lib.Utf8.{scalar, scalars}
+use Rattle.csicodec_tokens.specs.declared.param.CsiParam.{CsiParam}
 use Rattle.csicodec_tokens.specs.declared.param.CsiParam.TheVariants.{Integer}
 use Rattle.csicodec_keys.specs.declared.key.KeyEvent.{KeyEvent}
 use Rattle.csicodec_keys.specs.declared.key.KeyEvent.TheVariants as event
@@ -36,23 +37,21 @@ text-read [] s h = refl
 text-read (c ∷ cs) s h = chars-read [] c cs s (omega (arith, h))
 
 -- behind a number
-separated : (held : ℕ) (e : KeyEvent) (text : List ℕ) → from_separator (held_list held e (is_empty text) ++ text_list text) ≡ Some (held_list held e (is_empty text) ++ text_list text)
-separated held event.Press [] = elim (cases_Bool (held == 0)) [ inl none ↦ rw none refl | inr some ↦ rw some refl ]
-separated held event.Press (c ∷ cs) = elim (cases_Bool (held == 0)) [ inl none ↦ rw none refl | inr some ↦ rw some refl ]
-separated held event.Repeat text = refl
-separated held event.Release text = refl
+abbrev behind : ℕ → KeyEvent → List ℕ → List CsiParam
+behind held e text = held_list held e (is_empty text) ++ text_list text
 
-held-read : (held : ℕ) (e : KeyEvent) (text : List ℕ) → held < 256 → held_front (held_list held e (is_empty text) ++ text_list text) ≡ Some (held, e, text_list text)
-held-read held event.Press [] h = elim (cases_Bool (held == 0)) [ inl none ↦ rw (none, eqb-true held 0 none) refl | inr some ↦ rw (some, held-of held h) refl ]
-held-read held event.Press (c ∷ cs) h = elim (cases_Bool (held == 0)) [ inl none ↦ rw (none, eqb-true held 0 none) refl | inr some ↦ rw (some, held-of held h) refl ]
-held-read held event.Repeat text h = rw (held-of held h) refl
-held-read held event.Release text h = rw (held-of held h) refl
+separated : (held : ℕ) (e : KeyEvent) (text : List ℕ) → held < 256
+    → (from_separator (behind held e text) ≡ Some (behind held e text)) × (held_front (behind held e text) ≡ Some (held, e, text_list text))
+separated held event.Press [] h = elim (cases_Bool (held == 0)) [ inl none ↦ rw (none, eqb-true held 0 none) (refl, refl) | inr some ↦ rw (some, held-of held h) (refl, refl) ]
+separated held event.Press (c ∷ cs) h = elim (cases_Bool (held == 0)) [ inl none ↦ rw (none, eqb-true held 0 none) (refl, refl) | inr some ↦ rw (some, held-of held h) (refl, refl) ]
+separated held event.Repeat text h = rw (held-of held h) (refl, refl)
+separated held event.Release text h = rw (held-of held h) (refl, refl)
 
 -- the number stands there
 with-number : (n held : ℕ) (e : KeyEvent) (text : List ℕ) → nat_lt n 4294967296 ≡ true → held < 256 → scalars text ≡ true → length text ≤ 32
-    → read_list (Integer (pos n) ∷ (held_list held e (is_empty text) ++ text_list text)) ≡ Some (record { number = n; held = held; event = e; text = text })
+    → read_list (Integer (pos n) ∷ behind held e text) ≡ Some (record { number = n; held = held; event = e; text = text })
 with-number n held e text small h s short =
-    rw (number-of n small, separated held e text, held-read held e text h, text-read text s short) refl
+    let s' = separated held e text h in rw (number-of n small, s'.0, s'.1, text-read text s short) refl
 
 -- nothing is said but a key of number 1
 plain-parts : (held : ℕ) (e : KeyEvent) (text : List ℕ) → is_plain held e text ≡ true → (held ≡ 0) × (e ≡ event.Press) × (text ≡ [])

@@ -10,9 +10,9 @@ use Rattle.csicodec_spans.specs.declared.table.Kind.{Kind}
 use Rattle.csicodec_spans.specs.declared.table.Kind.TheVariants as kind
 use Rattle.csicodec_spans.specs.declared.table.Mode.{Mode}
 use Rattle.csicodec_spans.specs.declared.table.Mode.TheVariants as mode
-use Rattle.csicodec_spans.specs.Table.{Answer, More, Sequence, ahead}
-use Rattle.csicodec_spans.specs.Parts.{Allows, AllowsCsi, AreAll, AreFirstParts, IsFirstPart, IsMore, IsUnsureBy, Part, part}
-use Rattle.csicodec_spans.proofs.Agrees.{opens, text_goes_on}
+use Rattle.csicodec_spans.specs.Table.{Answer}
+use Rattle.csicodec_spans.specs.Parts.{Allows, AreAll, AreFirstParts, IsFirstPart, IsUnsureBy, Part, part}
+use Rattle.csicodec_spans.proofs.Agrees.{text_goes_on}
 use Rattle.csicodec_spans.proofs.Spanned.{cut_parts}
 use Rattle.csicodec_events.specs.declared.event.Event.{Event}
 use Rattle.csicodec_events.specs.declared.event.Event.TheVariants as told
@@ -20,6 +20,7 @@ use Rattle.csicodec_events.specs.declared.event.Events.{Events}
 use Rattle.csicodec_events.specs.declared.input.InputEvent.TheVariants as sent
 use Rattle.csicodec_events.specs.Characters.{is_unfinished}
 use Rattle.csicodec_events.specs.Events.{BeginsCsi, IsHeld, IsText, IsTold, Waits}
+use Rattle.csicodec_events.proofs.Divided.{esc_behind, kind_other}
 use Rattle.csicodec_events.proofs.Fronts.{front}
 use Rattle.csicodec_events.proofs.Unfinished.{unfinished_front}
 use Rattle.csicodec_keys.specs.Sent.{IsTextFront, fresh}
@@ -103,18 +104,13 @@ begins a later more (t ∷ text) held behind n some e h stops =
 
 -- ---- spans where nothing is open
 
-no-csi : (limit : ℕ) (m a : Mode) (bytes rest : List ℕ) (p : Part) → p.kind ≡ kind.Text → IsFirstPart limit m bytes p rest a → BeginsCsi bytes → ⊥
-no-csi limit m a bytes rest p is h (more, e) =
-    let here : ahead m bytes ≡ Sequence = ap (ahead m) e ∙ opens m more in
-    let csi : AllowsCsi limit bytes p.kind p.bytes a = subst (λ (f : Answer). Allows f limit bytes p.kind p.bytes a) here h.1 in
-    subst (λ (k : Kind). AllowsCsi limit bytes k p.bytes a) is csi
-
 text-mode : (limit : ℕ) (ps : List Part) (m a : Mode) (bytes rest : List ℕ) → m ≡ mode.Text → AllByRecursion (λ (p : Part). p.kind ≡ kind.Text) ps → AreFirstParts limit m bytes ps rest a
     → a ≡ mode.Text
 text-mode limit [] m a bytes rest is all s = s.1 ∙ is
 text-mode limit (p ∷ ps) m a bytes rest is all s =
-    let f = front limit m s.1 bytes s.0 p (no-csi limit m s.1 bytes s.0 p all.0 s.2) s.2 in
-    text-mode limit ps s.1 a s.0 rest (f.text all.0).1 all.1 s.3
+    let text : p.kind ≡ kind.Text = all.0 in
+    let f = front limit m s.1 bytes s.0 p (kind_other limit m s.1 bytes s.0 p (λ is. cc) (λ is. cc) s.2) s.2 in
+    text-mode limit ps s.1 a s.0 rest (f.text text).1 all.1 s.3
 
 first-text : (limit : ℕ) (b : ℕ) (bytes rest : List ℕ) (a : Mode) (p : Part) → b ≢ 27 → IsFirstPart limit mode.Text (b ∷ bytes) p rest a → p.kind ≡ kind.Text
 first-text limit b bytes rest a p other h =
@@ -133,9 +129,7 @@ text-told limit a later more text rest after c t =
     let cuts = t.span.cuts in
     let parts = cut_parts limit mode.Text (a ∷ (later ++ more)) kind.Text (text ++ t.held) t.behind t.span.next cuts in
     let here : t.span.next ≡ mode.Text = text-mode limit cuts.parts mode.Text t.span.next (a ∷ (later ++ more)) t.behind refl cuts.span.all cuts.first in
-    let stops : Stops t.behind = λ x xs n e.
-    let goes : ahead t.span.next t.behind ≡ More kind.Text 1 mode.Text = ap (λ (m : Mode). ahead m t.behind) here ∙ ap (ahead mode.Text) e ∙ text_goes_on x xs (λ is. omega (arith, is, n.0)) in
-    t.span.maximal (inl refl) (subst IsMore (sym goes) tt) in
+    let stops : Stops t.behind = λ x xs n e. let esc = esc_behind t.span.next t.behind xs x here t.span.maximal e in omega (arith, esc, n.0) in
     begins a later more text t.held t.behind c.1 t.some (sym (append_assoc text t.held t.behind) ∙ sym parts) t.holds stops
 
 no-begin : (a : ℕ) (bytes : List ℕ) → a ≢ 27 → BeginsCsi (a ∷ bytes) → ⊥

@@ -17,6 +17,7 @@ pub fn round_trip()
 
 /// The bytes that are written of a key are told by `csicodec_events` as the event and the list that `round_trip` reads, whatever
 /// follows: a character, Enter, Tab, Backspace, or ctrl and a letter, as text that begins with it, and ESC alone where no more comes.
+#[tactic(auto, using(crate::proofs::Trip::written_told))]
 pub fn told()
     ensures { (encoding : Encoding) (key : Stroke) (form : KeySpelling) → is_stroke key ≡ true →
         form_of encoding key ≡ Some form → IsToldAs form key.text (form_bytes form key.text) }

@@ -13,7 +13,7 @@ use Rattle.csicodec_events.specs.declared.event.Events.{Events}
 use Rattle.csicodec_events.specs.declared.event.Told.{Told}
 use Rattle.csicodec_events.specs.Characters.{is_unfinished}
 use Rattle.csicodec_events.specs.Events.{AreAlike, AreTold, BeginsCsi, InChunks, IsOpen, IsWrongAt, Piece, Tells, Waits, before_stop, from_stop, onward, pieces, pieces_of, stop}
-use Rattle.csicodec_events.proofs.AllDivided.{all_go}
+use Rattle.csicodec_events.proofs.Divided.{all_go}
 use Rattle.csicodec_events.proofs.Kept.{begins_more}
 use Rattle.csicodec_events.proofs.Looked.{IsLooked, looked_met, looked_more}
 use Rattle.csicodec_events.proofs.Moves.{Divides, IsStill, divides_more, divides_on, divides_once, none_divides}

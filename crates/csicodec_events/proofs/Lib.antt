@@ -1,7 +1,6 @@
 pub mod Sequences
 pub mod Steps
 pub mod Stops
-pub mod Texts
 pub mod Spans
 pub mod Run
 pub mod Kept
@@ -11,7 +10,6 @@ pub mod Unfinished
 pub mod Moves
 pub mod Divided
 pub mod Looked
-pub mod AllDivided
 pub mod Chunks
 pub mod Looks
 pub mod Costs

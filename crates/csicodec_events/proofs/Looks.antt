@@ -11,9 +11,9 @@ use Rattle.csicodec_events.specs.declared.event.Event.{Event}
 use Rattle.csicodec_events.specs.declared.event.Event.TheVariants as event
 use Rattle.csicodec_events.specs.declared.event.Events.{Events}
 use Rattle.csicodec_events.specs.declared.event.Told.{Told}
-use Rattle.csicodec_events.specs.Events.{AreTold, BeginsCsi, GoesWrong, InChunks, IsOpen, IsTold, Waits, before_stop, bytes_of, from_stop, is_passed, is_csi, looks, looks_in, looks_told, reach, stop}
-use Rattle.csicodec_events.proofs.AllDivided.{told_goes}
-use Rattle.csicodec_events.proofs.Divided.{esc_other, str_other, text_other}
+use Rattle.csicodec_events.specs.Events.{AreTold, BeginsCsi, GoesWrong, InChunks, IsOpen, IsTold, Waits, before_stop, bytes_of, from_stop, is_passed, is_csi, looks, looks_in}
+use Rattle.csicodec_events.specs.Events.{looks_told, reach, stop}
+use Rattle.csicodec_events.proofs.Divided.{told_goes, esc_other, str_other, text_other}
 use Rattle.csicodec_events.proofs.Looked.{IsLooked, looked_met, looked_more, over_inside}
 use Rattle.csicodec_events.proofs.Run.{chunks_joined, met_within}
 use Rattle.csicodec_events.proofs.Steps.{halves, stop_behind}

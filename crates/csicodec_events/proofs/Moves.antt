@@ -1,6 +1,6 @@
 -- Events in the smallest steps: each tells one piece, or a few that are never cut apart. Where no step follows the stream waits; in
 -- any state at most one follows; and it stays, whatever bytes come later.
-use Rattle.std.proofs.Common.{◌≡◌, ◌⊎◌, ℕ, ◌<◌, ◌≤◌, false, max, List, [], ◌∷◌, ◌++◌, length, drop, refl, sym, ap, subst, ◌∙◌, inl, inr, append_assoc, append-nil, arith}
+use Rattle.std.proofs.Common.{◌≡◌, ◌⊎◌, ℕ, ◌≤◌, false, max, List, [], ◌∷◌, ◌++◌, length, drop, refl, sym, ap, subst, ◌∙◌, inl, inr, append_assoc, append-nil, arith}
 use Rattle.std.proofs.lemmas.List.Folds.{prefix_len-append}
 use Rattle.std.specs.List.{prefix_len}
 use Rattle.std.proofs.lemmas.Bool.{both_ways}
@@ -76,11 +76,6 @@ pub record SameMove (ps qs : List Piece) (rest rest' : List ℕ) (after after' :
     pub rests : rest ≡ rest'
     pub on : after ≡ after'
 
-wrong_at : (limit : ℕ) (over behind more : List ℕ) (b : ℕ) → behind ≡ b ∷ more
-    → IsWrongAt limit over behind → length over < limit → (is_control b ≡ false)
-    × ((list : List CsiParam) (final : ℕ) → Seq (without_controls (over ++ b ∷ [])) list final → ⊥)
-wrong_at limit over behind more b stands why = subst (IsWrongAt limit over) stands why
-
 module _ (e : Events) (bytes : List ℕ) (ps qs : List Piece) (rest rest' : List ℕ) (after after' : Events) where
   within_over : IsWithin e bytes ps rest after → IsOver e bytes qs rest' after' → ⊥
   within_over g h = both_ways (is_control g.b) (h.other g.b g.control.more g.control.stands) g.control.control
@@ -88,12 +83,12 @@ module _ (e : Events) (bytes : List ℕ) (ps qs : List Piece) (rest rest' : List
   within_bad : IsWithin e bytes ps rest after → IsBad e bytes qs rest' after' → ⊥
   within_bad g h =
       let c = g.control in
-      both_ways (is_control g.b) (wrong_at e.limit (before_stop e bytes) (from_stop e bytes) c.more g.b c.stands h.why c.short).0 c.control
+      both_ways (is_control g.b) (subst (IsWrongAt e.limit (before_stop e bytes)) c.stands h.why c.short).0 c.control
 
   over_bad : IsOver e bytes ps rest after → IsBad e bytes qs rest' after' → ⊥
   over_bad g h =
       let c = g.csi in
-      (wrong_at e.limit (before_stop e bytes) (from_stop e bytes) rest c.last c.stands h.why c.short).1 g.list g.final
+      (subst (IsWrongAt e.limit (before_stop e bytes)) c.stands h.why c.short).1 g.list g.final
       (subst (λ (x : List ℕ). Seq (without_controls x) g.list g.final) c.whole c.seq)
 
   same_within : IsWithin e bytes ps rest after → IsWithin e bytes qs rest' after' → SameMove ps qs rest rest' after after'

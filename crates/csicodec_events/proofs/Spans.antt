@@ -1,5 +1,6 @@
 -- From the span in front to what a step promises.
-use Rattle.std.proofs.Common.{◌≡◌, ℕ, ◌<◌, ◌≤◌, List, [], ◌∷◌, ◌++◌, length, take, drop, refl, sym, ap, subst, ◌∙◌, inl, inr, append_assoc, append-nil, arith}
+use Rattle.std.proofs.Common.{◌≡◌, ℕ, ◌<◌, ◌≤◌, List, [], ◌∷◌, ◌++◌, length, take, drop, refl, sym, ap, subst, ◌∙◌, inl, inr, append_assoc, append-nil, arith, ◌-◌, true, take_all}
+use Rattle.std.proofs.Common.{drop_of_length-le}
 use Rattle.std.proofs.Math.Seq.{take-append_seam, drop-append_seam}
 use Rattle.std.proofs.lemmas.List.{length-take, take-append-drop, take-append-le, drop-append-le}
 use Rattle.csicodec_tokens.specs.declared.param.CsiParam.{CsiParam}
@@ -12,10 +13,11 @@ use Rattle.csicodec_events.specs.declared.event.Event.{Event}
 use Rattle.csicodec_events.specs.declared.event.Event.TheVariants as event
 use Rattle.csicodec_events.specs.declared.event.Events.{Events}
 use Rattle.csicodec_events.specs.declared.event.Told.{Told}
-use Rattle.csicodec_events.specs.Characters.{is_unfinished}
+use Rattle.csicodec_events.specs.Characters.{is_unfinished, EndsWhole}
 use Rattle.csicodec_events.specs.Events.{BeginsCsi, IsBegun, IsHeld, IsSpan, IsTold, onward}
 use Rattle.csicodec_events.specs.Private.Steps.{HasTold, HasWaited}
 use Rattle.csicodec_events.proofs.Steps.{told_on}
+use Rattle.std.proofs.lemmas.Bool.{cases_lt}
 
 -- where no ESC and `[` stand in front no sequence does
 pub no_csi : (bytes text rest : List ℕ) → (BeginsCsi bytes → ⊥) → bytes ≡ text ++ rest
@@ -91,3 +93,14 @@ text_waits e bytes m n span behind limit none other cuts zero holds =
       again = λ more. inl none;
       limit = refl;
     }
+
+-- where text ends with the bytes
+pub held_at_end : (span behind : List ℕ) (n : ℕ) → length behind ≡ 0
+    → (0 < n → is_unfinished (drop (length span - n) span) ≡ true) → (n ≡ 0 → EndsWhole span)
+    → IsHeld (take (length span - n) span) (drop (length span - n) span) behind
+held_at_end span (b ∷ behind) n end some none = absurd (omega (arith, end))
+held_at_end span [] n end some none = elim (cases_lt 0 n) [
+  | inl more ↦ inl (some more)
+  | inr le ↦ let zero : n ≡ 0 = omega (arith, le) in
+      inr (drop_of_length-le span {i = length span - n} (omega (arith, zero)), subst EndsWhole (sym (take_all (length span - n) span (omega (arith, zero)))) (none zero))
+]

@@ -1,6 +1,6 @@
 use Rattle.std.proofs.Common.{arith}
 use Rattle.std.proofs.lemmas.Bool.Decides.{nat_tests}
-use Rattle.csicodec_events.proofs.Texts.{held_at_end}
+use Rattle.csicodec_events.proofs.Spans.{held_at_end}
 use Rattle.csicodec_events.proofs.text.held_len.Goals as goal
 
 pub returns-then-is_empty-clause-holds : goal.returns-then-is_empty-clause-holds

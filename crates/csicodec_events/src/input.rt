@@ -114,20 +114,9 @@ fn second(first: u8, bytes: &[u8]) -> Width
     ensures { result ≡ second first bytes.now }
 {
     match bytes {
-        [] => {
-            if is_from(0xc2, 0xdf, first) {
-                Width::Unsure
-            } else {
-                Width::Wrong
-            }
-        }
-        [byte, ..] => {
-            if is_from(0xc2, 0xdf, first) && is_from(0x80, 0xbf, *byte) {
-                Width::Two
-            } else {
-                Width::Wrong
-            }
-        }
+        [] if is_from(0xc2, 0xdf, first) => Width::Unsure,
+        [byte, ..] if is_from(0xc2, 0xdf, first) && is_from(0x80, 0xbf, *byte) => Width::Two,
+        _ => Width::Wrong,
     }
 }
 
@@ -137,13 +126,8 @@ fn char_width(dialect: Dialect, bytes: &[u8]) -> Width
 {
     match bytes {
         [] => Width::Unsure,
-        [byte, others @ ..] => {
-            if dialect.is_wide(*byte) {
-                second(*byte, others)
-            } else {
-                Width::One
-            }
-        }
+        [byte, others @ ..] if dialect.is_wide(*byte) => second(*byte, others),
+        _ => Width::One,
     }
 }
 
@@ -211,13 +195,8 @@ fn ss3(bytes: &[u8]) -> Form
 {
     match bytes {
         [] => Form::Unsure,
-        [byte, ..] => {
-            if is_printable(*byte) {
-                Form::Whole(InputEvent::Ss3(*byte), 3)
-            } else {
-                Form::Whole(InputEvent::Alt(b'O'), 2)
-            }
-        }
+        [byte, ..] if is_printable(*byte) => Form::Whole(InputEvent::Ss3(*byte), 3),
+        _ => Form::Whole(InputEvent::Alt(b'O'), 2),
     }
 }
 
@@ -227,13 +206,8 @@ fn linux(bytes: &[u8]) -> Form
 {
     match bytes {
         [] => Form::Unsure,
-        [byte, ..] => {
-            if is_printable(*byte) {
-                Form::Whole(InputEvent::Linux(*byte), 4)
-            } else {
-                Form::AsOutput
-            }
-        }
+        [byte, ..] if is_printable(*byte) => Form::Whole(InputEvent::Linux(*byte), 4),
+        _ => Form::AsOutput,
     }
 }
 
@@ -243,20 +217,11 @@ fn two_digits(first: u8, byte: u8, bytes: &[u8]) -> Form
     ensures { result ≡ two_digits first byte bytes.now }
 {
     match bytes {
-        [] => {
-            if is_digit(byte) {
-                Form::Unsure
-            } else {
-                Form::AsOutput
-            }
+        [] if is_digit(byte) => Form::Unsure,
+        [last, ..] if is_digit(byte) && *last == b'$' => {
+            Form::Whole(InputEvent::Rxvt(10 * (first - b'0') + (byte - b'0')), 5)
         }
-        [last, ..] => {
-            if is_digit(byte) && *last == b'$' {
-                Form::Whole(InputEvent::Rxvt(10 * (first - b'0') + (byte - b'0')), 5)
-            } else {
-                Form::AsOutput
-            }
-        }
+        _ => Form::AsOutput,
     }
 }
 
@@ -267,13 +232,8 @@ fn rxvt(first: u8, bytes: &[u8]) -> Form
 {
     match bytes {
         [] => Form::Unsure,
-        [byte, others @ ..] => {
-            if *byte == b'$' {
-                Form::Whole(InputEvent::Rxvt(first - b'0'), 4)
-            } else {
-                two_digits(first, *byte, others)
-            }
-        }
+        [b'$', ..] => Form::Whole(InputEvent::Rxvt(first - b'0'), 4),
+        [byte, others @ ..] => two_digits(first, *byte, others),
     }
 }
 
@@ -283,17 +243,10 @@ fn csi(dialect: Dialect, bytes: &[u8]) -> Form
 {
     match bytes {
         [] => Form::Unsure,
-        [byte, others @ ..] => {
-            if *byte == b'[' {
-                linux(others)
-            } else if *byte == b'M' {
-                mouse(dialect, others)
-            } else if is_digit(*byte) {
-                rxvt(*byte, others)
-            } else {
-                Form::AsOutput
-            }
-        }
+        [b'[', others @ ..] => linux(others),
+        [b'M', others @ ..] => mouse(dialect, others),
+        [byte, others @ ..] if is_digit(*byte) => rxvt(*byte, others),
+        _ => Form::AsOutput,
     }
 }
 
@@ -313,19 +266,11 @@ fn escape(dialect: Dialect, bytes: &[u8]) -> Form
 {
     match bytes {
         [] => Form::Unsure,
-        [byte, others @ ..] => {
-            if *byte == b'O' {
-                ss3(others)
-            } else if *byte == b'[' {
-                csi(dialect, others)
-            } else if is_opener(*byte) {
-                string(others)
-            } else if *byte == 0x1b || 0x80 <= *byte {
-                Form::Whole(InputEvent::Escape, 1)
-            } else {
-                Form::Whole(InputEvent::Alt(*byte), 2)
-            }
-        }
+        [b'O', others @ ..] => ss3(others),
+        [b'[', others @ ..] => csi(dialect, others),
+        [byte, others @ ..] if is_opener(*byte) => string(others),
+        [0x1b | 0x80.., ..] => Form::Whole(InputEvent::Escape, 1),
+        [byte, ..] => Form::Whole(InputEvent::Alt(*byte), 2),
     }
 }
 
@@ -335,13 +280,8 @@ fn escape_in_string(dialect: Dialect, bytes: &[u8]) -> Form
 {
     match bytes {
         [] => Form::Unsure,
-        [byte, ..] => {
-            if *byte == b'\\' || *byte == 0x1b {
-                Form::AsOutput
-            } else {
-                escape(dialect, bytes)
-            }
-        }
+        [b'\\' | 0x1b, ..] => Form::AsOutput,
+        _ => escape(dialect, bytes),
     }
 }
 
@@ -361,13 +301,8 @@ fn in_input(dialect: Dialect, mode: Mode, bytes: &[u8]) -> Form
 {
     match bytes {
         [] => Form::Unsure,
-        [byte, others @ ..] => {
-            if *byte == 0x1b {
-                behind_escape(dialect, mode, others)
-            } else {
-                Form::AsOutput
-            }
-        }
+        [0x1b, others @ ..] => behind_escape(dialect, mode, others),
+        _ => Form::AsOutput,
     }
 }
 
@@ -376,14 +311,8 @@ fn ahead(dialect: Dialect, mode: Mode, looked: usize, bytes: &[u8]) -> Form
     ensures { result ≡ ahead dialect mode looked bytes.now }
 {
     match dialect {
-        Dialect::Output => Form::AsOutput,
-        Dialect::Input | Dialect::Utf8Input => {
-            if looked == 0 {
-                in_input(dialect, mode, bytes)
-            } else {
-                Form::AsOutput
-            }
-        }
+        Dialect::Input | Dialect::Utf8Input if looked == 0 => in_input(dialect, mode, bytes),
+        _ => Form::AsOutput,
     }
 }
 
@@ -393,13 +322,7 @@ fn paused(bytes: &[u8]) -> Form
 {
     match bytes {
         [0x1b] => Form::Whole(InputEvent::Escape, 1),
-        [0x1b, byte] => {
-            if *byte < 0x80 {
-                Form::Whole(InputEvent::Alt(*byte), 2)
-            } else {
-                Form::Unsure
-            }
-        }
+        [0x1b, byte] if *byte < 0x80 => Form::Whole(InputEvent::Alt(*byte), 2),
         _ => Form::Unsure,
     }
 }

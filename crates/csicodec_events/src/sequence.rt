@@ -148,14 +148,8 @@ impl Events {
             → HasFound self.old _front.now.bytes result.0 result.1 list self.new }
     {
         match byte {
-            Some(byte) => {
-                if is_final(byte) {
-                    self.found(Event::Other, at + 1, Mode::Text)
-                } else {
-                    self.found(Event::Other, at, Mode::BadCsi)
-                }
-            }
-            None => self.found(Event::Other, at, Mode::BadCsi),
+            Some(byte) if is_final(byte) => self.found(Event::Other, at + 1, Mode::Text),
+            _ => self.found(Event::Other, at, Mode::BadCsi),
         }
     }
 

@@ -22,10 +22,7 @@ pub(crate) struct KeyReport {
 pub(crate) fn number_of(number: i64) -> Option<u32>
     ensures { result ≡ number_of number }
 {
-    if number < 0 || number > 0xffff_ffff {
-        return None;
-    }
-    Some(number as u32)
+    u32::try_from(number).ok()
 }
 
 fn held_of(number: i64) -> Option<u8>
@@ -51,10 +48,7 @@ fn event_of(number: i64) -> Option<KeyEvent>
 fn char_of(number: i64) -> Option<char>
     ensures { result ≡ char_of number }
 {
-    if number < 0 || number > 0x10_ffff {
-        return None;
-    }
-    char::from_u32(number as u32)
+    char::from_u32(number_of(number)?)
 }
 
 /// What begins with the `;` behind a number and those behind its colons.
@@ -80,8 +74,7 @@ fn number_front(tokens: &[CsiParam]) -> Option<(u32, &[CsiParam])>
         [] => Some((1, tokens)),
         [CsiParam::P(_), ..] => None,
         [CsiParam::Integer(number), others @ ..] => {
-            let number = number_of(*number)?;
-            Some((number, from_separator(others)?))
+            Some((number_of(*number)?, from_separator(others)?))
         }
     }
 }
@@ -101,15 +94,9 @@ fn behind_held(held: u8, tokens: &[CsiParam]) -> Option<(u8, KeyEvent, &[CsiPara
     ensures { option_map (λ f. (f.0, f.1, f.2.now)) result ≡ behind_held held tokens.now }
 {
     match tokens {
-        [] => Some((held, KeyEvent::Press, tokens)),
         [CsiParam::Integer(_), ..] => None,
-        [CsiParam::P(byte), others @ ..] => {
-            if *byte == b':' {
-                event_field(held, others)
-            } else {
-                Some((held, KeyEvent::Press, tokens))
-            }
-        }
+        [CsiParam::P(b':'), others @ ..] => event_field(held, others),
+        _ => Some((held, KeyEvent::Press, tokens)),
     }
 }
 
@@ -129,14 +116,8 @@ fn held_front(tokens: &[CsiParam]) -> Option<(u8, KeyEvent, &[CsiParam])>
 {
     match tokens {
         [] => Some((0, KeyEvent::Press, tokens)),
-        [CsiParam::Integer(_), ..] => None,
-        [CsiParam::P(byte), others @ ..] => {
-            if *byte == b';' {
-                held_field(others)
-            } else {
-                None
-            }
-        }
+        [CsiParam::P(b';'), others @ ..] => held_field(others),
+        _ => None,
     }
 }
 
@@ -176,14 +157,8 @@ fn text_front(tokens: &[CsiParam]) -> Option<Typed>
 {
     match tokens {
         [] => Some(Typed::new()),
-        [CsiParam::Integer(_), ..] => None,
-        [CsiParam::P(byte), others @ ..] => {
-            if *byte == b';' {
-                characters(Typed::new(), others)
-            } else {
-                None
-            }
-        }
+        [CsiParam::P(b';'), others @ ..] => characters(Typed::new(), others),
+        _ => None,
     }
 }
 

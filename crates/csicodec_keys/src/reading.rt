@@ -72,8 +72,7 @@ pub fn read_char(character: char) -> Option<Key>
     if is_typed(character) {
         return Some(typing(character));
     }
-    let row = row_at(controls(), 0, character)?;
-    Some(pressed(row.code, row.held))
+    alone(row_at(controls(), 0, character))
 }
 
 /// The key of a character behind ESC.
@@ -91,10 +90,11 @@ fn read_alt(character: char) -> Option<Key>
 fn read_ss3(character: char) -> Option<Key>
     ensures { option_map stroke_of result ≡ read_ss3 character }
 {
-    let row = row_at(ss3_keys(), 0, character)
-        .or(row_at(ss3_cursor(), 0, character))
-        .or(row_at(rxvt_ss3(), 0, character))?;
-    Some(pressed(row.code, row.held))
+    alone(
+        row_at(ss3_keys(), 0, character)
+            .or(row_at(ss3_cursor(), 0, character))
+            .or(row_at(rxvt_ss3(), 0, character)),
+    )
 }
 
 /// The row of a number and a final character.
@@ -110,12 +110,10 @@ pub(crate) fn csi_row(number: u32, control: char) -> Option<Row>
 fn held_by(row: u8, list: u8) -> Option<u8>
     ensures { result ≡ held_by row list }
 {
-    if row == 0 {
-        Some(list)
-    } else if list == 0 {
-        Some(row)
-    } else {
-        None
+    match (row, list) {
+        (0, _) => Some(list),
+        (_, 0) => Some(row),
+        _ => None,
     }
 }
 

@@ -32,8 +32,8 @@ fn behind_number(tokens: &[CsiParam]) -> Option<&[CsiParam]>
 {
     match tokens {
         [] => Some(tokens),
-        [CsiParam::Integer(_), ..] => None,
-        [CsiParam::P(byte), others @ ..] => { if *byte == b';' { Some(others) } else { None } }
+        [CsiParam::P(b';'), others @ ..] => Some(others),
+        _ => None,
     }
 }
 
@@ -43,16 +43,10 @@ fn number_ahead(tokens: &[CsiParam]) -> Option<(u32, &[CsiParam])>
 {
     match tokens {
         [] => Some((0, tokens)),
-        [CsiParam::P(byte), others @ ..] => {
-            if *byte == b';' {
-                Some((0, others))
-            } else {
-                None
-            }
-        }
+        [CsiParam::P(b';'), others @ ..] => Some((0, others)),
+        [CsiParam::P(_), ..] => None,
         [CsiParam::Integer(number), others @ ..] => {
-            let number = number_of(*number)?;
-            Some((number, behind_number(others)?))
+            Some((number_of(*number)?, behind_number(others)?))
         }
     }
 }

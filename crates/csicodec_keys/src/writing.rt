@@ -102,14 +102,9 @@ fn char_form(code: KeyCode, held: u8, text: &[char]) -> Option<KeySpelling>
     ensures { result ≡ char_form code held text.now }
 {
     match code {
-        KeyCode::Char(character) => {
-            if held < 2 {
-                text_form(text_of(character, held, text))
-            } else if held == 2 && is_alt(character) {
-                Some(KeySpelling::Alt(character))
-            } else {
-                None
-            }
+        KeyCode::Char(character) if held < 2 => text_form(text_of(character, held, text)),
+        KeyCode::Char(character) if held == 2 && is_alt(character) => {
+            Some(KeySpelling::Alt(character))
         }
         KeyCode::Escape => (held == 0).then_some(KeySpelling::Escape),
         _ => None,

@@ -3,8 +3,8 @@ use Rattle.csicodec_events.specs.Private.Steps.{StandsAt}
 use Rattle.csicodec_events.proofs.Stops.{wrong_told}
 use Rattle.csicodec_events.proofs.event.Events.wrong.Goals as goal
 
-pub returns-then-is_final : goal.returns-then-is_final
-returns-then-is_final c = λ list.
+pub returns-in-Some : goal.returns-in-Some
+returns-in-Some c = λ list.
     let bytes = c.args._front.now.bytes in
     let stands = subst (λ (o : Option ℕ). StandsAt o (drop c.args.at bytes)) c.in-Some.is c.requires.stands in
     rw c.found.ensures.event (wrong_told c.args.self.now bytes c.args.at c.in-Some.byte stands.1.0 list c.found.new.self c.requires.begins c.requires.place stands.1.1

@@ -37,9 +37,8 @@ pub record InRange (s : Stroke) : Type 0 where
 pub in-range : (s : Stroke) → is_stroke s ≡ true → InRange s
 in-range s h =
     let a = and_parts (is_code s.code && nat_lt s.held 256 && scalars s.text) (nat_le (length s.text) 32) h in
-    let b = and_parts (is_code s.code && nat_lt s.held 256) (scalars s.text) a.0 in
-    let c = and_parts (is_code s.code) (nat_lt s.held 256) b.0 in
-    record { held = ltb-true s.held 256 c.1; text = b.1; short = leb-true (length s.text) 32 a.1 }
+    let p = and_parts (is_code s.code && nat_lt s.held 256) (scalars s.text) a.0 in
+    record { held = ltb-true s.held 256 (and_parts (is_code s.code) (nat_lt s.held 256) p.0).1; text = p.1; short = leb-true (length s.text) 32 a.1 }
 
 -- what is told of a list beside its encoding
 pub key-alone : (e : Encoding) (o : Option Stroke) → key_alone (option_map (λ k. (e, k)) o) ≡ o

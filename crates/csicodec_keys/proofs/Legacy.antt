@@ -1,8 +1,8 @@
 -- What xterm's encoding, modifyOtherKeys, rxvt and Linux' console write of a key is read as what they say of it.
-use Rattle.std.proofs.Common.{◌≡◌, ℕ, ◌+◌, ◌-◌, ◌<◌, ◌≤◌, List, [], ◌∷◌, Option, None, Some, refl, sym, ap, ◌∙◌, inl, inr, arith, subst}
+use Rattle.std.proofs.Common.{◌≡◌, ℕ, ◌-◌, ◌<◌, ◌≤◌, List, [], ◌∷◌, Option, None, Some, refl, sym, ap, ◌∙◌, inl, inr, arith, subst}
 use Rattle.std.specs.Prelude.{Bool, true, false, not, ◌==◌, ◌&&◌, nat_lt, is_none, option_and_then}
 use Rattle.std.specs.Option.{option_map, option_or}
-use Rattle.std.proofs.lemmas.Bool.{and_parts, cases_Bool, eqb-true, ltb-true, ltb-false, lt-ltb, not-true, and_left, and_from}
+use Rattle.std.proofs.lemmas.Bool.{and_parts, cases_Bool, eqb-true, ltb-true, ltb-false, not-true, and_left, and_from, and_right}
 use Rattle.std.proofs.lemmas.Option.{same_Some}
 use Rattle.csicodec_events.specs.Input.{is_printable}
 use Rattle.csicodec_keys.specs.declared.code.KeyCode.{KeyCode}
@@ -57,16 +57,10 @@ control-fine c held text f e = made (Fine text (legacy_said c held text)) (λ (r
     })
 
 with-alt : (held n : ℕ) → 2 ≤ held → held < 8 → n ≡ held - 2 → with_alt n ≡ held
-with-alt held n low high e =
-    let small : nat_lt n 128 ≡ true = lt-ltb n 128 (omega arith) in
-    let sum : n + 2 ≡ held = omega arith in
-    rw small sum
+with-alt held n low high e = grind arith
 
 two-held : (c : KeyCode) (held : ℕ) (text : List ℕ) → 2 ≤ held → legacy_said c held text ≡ pressed c held
-two-held c held text h = said-pressed c held text (none (is_char c))
-  where
-    none : (b : Bool) → (b && nat_lt held 2) ≡ false
-    none b = grind arith
+two-held c held text h = said-pressed c held text (let high : nat_lt held 2 ≡ false = grind arith in and_right (is_char c) (nat_lt held 2) high)
 
 alt-fine : (c : KeyCode) (held : ℕ) (text : List ℕ) (f : KeySpelling) → held < 8 → alt_control c held ≡ Some f → Fine text (legacy_said c held text) f
 alt-fine c held text f high e =

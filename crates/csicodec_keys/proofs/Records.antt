@@ -41,21 +41,18 @@ number-of n h = rw (lt-ltb n 4294967296 h) refl
 not-listed : (r : Record) → Small r → read_list (record_list r) ≡ None
 not-listed r h = rw (number-of r.vk h.0) refl
 
-read-back : (vk uc kd cs : ℕ) → Small (record { vk = vk; uc = uc; kd = kd; cs = cs })
-    → read_record (record_list (record { vk = vk; uc = uc; kd = kd; cs = cs })) ≡ Some (record { vk = vk; uc = uc; kd = kd; cs = cs })
-read-back vk uc kd cs h = rw (number-of vk h.0, number-of uc h.1, number-of kd h.2, number-of cs h.3) refl
+read-back : (r : Record) → Small r → read_record (record_list r) ≡ Some r
+read-back r h = rw (number-of r.vk h.0, number-of r.uc h.1, number-of r.kd h.2, number-of r.cs h.3) refl
 
 -- what other encodings make of a list
 abbrev others : Says → Option (Encoding × Stroke)
 others says = option_or (by (told_by says 95) (said_key says 95)) (by encoding.ModifyOtherKeys (other_key says 95 says.text))
 
-told-read : (vk uc kd cs : ℕ) (k : KeyCode) → Small (record { vk = vk; uc = uc; kd = kd; cs = cs }) → win32_code (win32_row vk (is_enhanced cs)) (typed_unit uc) ≡ Some k
-    → key_alone (read_csi (record_list (record { vk = vk; uc = uc; kd = kd; cs = cs })) 95) ≡ Some (typed_key cs kd (typed_unit uc) k)
-told-read vk uc kd cs k h e =
-    let r : Record = record { vk = vk; uc = uc; kd = kd; cs = cs } in
+told-read : (r : Record) (k : KeyCode) → Small r → win32_code (win32_row r.vk (is_enhanced r.cs)) (typed_unit r.uc) ≡ Some k
+    → key_alone (read_csi (record_list r) 95) ≡ Some (typed_key r.cs r.kd (typed_unit r.uc) k)
+told-read r k h e =
     ap (λ o. key_alone (option_or (option_and_then others o) (by encoding.Win32 (read_win32 (record_list r) 95)))) (not-listed r h)
-    ∙ (ap (λ o. key_alone (by encoding.Win32 (option_and_then win32_key o))) (read-back vk uc kd cs h)
-    ∙ ap (λ o. key_alone (by encoding.Win32 (option_map (typed_key cs kd (typed_unit uc)) o))) e)
+    ∙ (ap (λ o. key_alone (by encoding.Win32 (option_and_then win32_key o))) (read-back r h) ∙ ap (λ o. key_alone (by encoding.Win32 (option_map (typed_key r.cs r.kd (typed_unit r.uc)) o))) e)
 
 -- ---- what it types
 
@@ -63,15 +60,7 @@ ctrl-low : (c held : ℕ) → ctrl_unit c held < 32
 ctrl-low c held = grind arith
 
 control-low : (k : KeyCode) (held : ℕ) → control_unit k held < 32
-control-low k held = elim k as (λ x. control_unit x held < 32) [
-  | code.Char c ↦ ctrl-low c held
-  | code.Enter ↦ omega arith
-  | code.KeypadEnter ↦ omega arith
-  | code.Escape ↦ omega arith
-  | code.Tab ↦ omega arith
-  | code.Backspace ↦ omega arith
-  | _ ↦ omega arith
-]
+control-low k held = elim k as (λ x. control_unit x held < 32) [ code.Char c ↦ ctrl-low c held | _ ↦ omega arith ]
 
 control-typed : (c : ℕ) → c < 32 → is_typed c ≡ false
 control-typed c h = grind arith
@@ -149,7 +138,8 @@ row-fine s r uc low none is unit =
     ap (λ o. win32_code o (typed_unit uc)) (ap (win32_row (r.number % 256)) is_one ∙ row-there r.number r (ltb-true r.number 512 p.0) at) ∙ ap Some t.code_is in
     let small : Small (row_record r.number (down_of s.event) (state_of s.held) uc) = (omega arith, omega (arith, unit_small), omega (arith, down), omega (arith, state, two)) in
     record {
-      read = told-read (r.number % 256) uc (down_of s.event) cs s.code small coded ∙ ap Some (said-same s cs (typed_unit uc) (held-back (r.number / 256 % 2) s.held two low none) types.gives);
+      read = told-read (row_record r.number (down_of s.event) (state_of s.held) uc) s.code small coded
+          ∙ ap Some (said-same s cs (typed_unit uc) (held-back (r.number / 256 % 2) s.held two low none) types.gives);
       sound = small;
     }
 
@@ -173,7 +163,7 @@ char-fine s (code.Char c) (d ∷ []) r low none same is e =
     let text : unit_text (typed_unit c) ≡ s.text = ap unit_text unit ∙ (ap (λ n. n ∷ []) (eqb-true c d q.0) ∙ sym is) in
     let small : Small (record { vk = 0; uc = c; kd = down_of s.event; cs = state_of s.held }) = (omega arith, omega (arith, high), omega (arith, down), omega (arith, state)) in
     record {
-      read = told-read 0 c (down_of s.event) (state_of s.held) s.code small coded ∙ ap Some (said-same s (state_of s.held) (typed_unit c) back text);
+      read = told-read (record { vk = 0; uc = c; kd = down_of s.event; cs = state_of s.held }) s.code small coded ∙ ap Some (said-same s (state_of s.held) (typed_unit c) back text);
       sound = small;
     })
 char-fine s (code.Char c) (d ∷ x ∷ xs) r low none same is e = cc

@@ -8,7 +8,7 @@ use Rattle.csicodec_tokens.specs.declared.param.CsiParam.TheVariants.{Integer}
 use Rattle.csicodec_keys.specs.declared.key.KeyEvent.{KeyEvent}
 use Rattle.csicodec_keys.specs.declared.key.KeyEvent.TheVariants as event
 use Rattle.csicodec_keys.specs.Fields.{characters, colon_list, from_separator, held_front, held_list, held_of}
-use Rattle.csicodec_keys.specs.Fields.{is_empty, is_plain, number_of, read_list, text_front, text_list, with_char, written_list}
+use Rattle.csicodec_keys.specs.Fields.{is_empty, is_plain, read_list, text_front, text_list, with_char, written_list}
 
 held-of : (held : ℕ) → held < 256 → held_of (pos (held + 1)) ≡ Some held
 held-of held h =
@@ -16,9 +16,6 @@ held-of held h =
     let high : nat_lt (held + 1) 257 ≡ true = lt-ltb (held + 1) 257 (omega arith) in
     let back : held + 1 - 1 ≡ held = omega arith in
     rw (low, high, back) refl
-
-number-of : (n : ℕ) → nat_lt n 4294967296 ≡ true → number_of (pos n) ≡ Some n
-number-of n h = rw h refl
 
 with-char : (text : List ℕ) (c : ℕ) → scalar c ≡ true → length text < 32 → with_char text (pos c) ≡ Some (text ++ c ∷ [])
 unfolding with_char
@@ -51,7 +48,7 @@ separated held event.Release text h = rw (held-of held h) (refl, refl)
 with-number : (n held : ℕ) (e : KeyEvent) (text : List ℕ) → nat_lt n 4294967296 ≡ true → held < 256 → scalars text ≡ true → length text ≤ 32
     → read_list (Integer (pos n) ∷ behind held e text) ≡ Some (record { number = n; held = held; event = e; text = text })
 with-number n held e text small h s short =
-    let s' = separated held e text h in rw (number-of n small, s'.0, s'.1, text-read text s short) refl
+    let s' = separated held e text h in rw (small, s'.0, s'.1, text-read text s short) refl
 
 -- nothing is said but a key of number 1
 plain-parts : (held : ℕ) (e : KeyEvent) (text : List ℕ) → is_plain held e text ≡ true → (held ≡ 0) × (e ≡ event.Press) × (text ≡ [])

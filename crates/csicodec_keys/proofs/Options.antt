@@ -30,9 +30,7 @@ none-is None e = refl
 none-is (Some x) e = cc
 
 pub not-both : (a b : Bool) → (not a || not b) ≡ true → (a && b) ≡ false
-not-both true true h = cc
-not-both true false h = refl
-not-both false b h = refl
+not-both a b h = grind arith
 
 pub three : (a b c : Bool) → (a && (b && c)) ≡ true → (a ≡ true) × (b ≡ true) × (c ≡ true)
 three a b c h = (grind arith, grind arith, grind arith)

@@ -29,18 +29,18 @@ no_csi bytes text rest other parts s =
 -- ---- spans but text
 
 pub span_told : (e : Events) (bytes : List ℕ) (t : Told) (list : List CsiParam) (after : Events)
-    (m : Mode) (k : Kind) (x : Event) (text rest : List ℕ) → 0 < e.limit → e.looked ≡ 0
-    → t.event ≡ x → t.bytes.now ≡ take (length text) bytes → t.rest.now ≡ drop (length text) bytes
-    → after ≡ onward e m 0 → Cuts e.limit e.mode bytes k text rest m → IsMaximal k m rest
+    (m : Mode) (j k : Kind) (x : Event) (text rest : List ℕ) → 0 < e.limit → e.looked ≡ 0
+    → j ≡ k → t.event ≡ x → t.bytes.now ≡ take (length text) bytes → t.rest.now ≡ drop (length text) bytes
+    → after ≡ onward e m 0 → Cuts e.limit e.mode bytes j text rest m → IsMaximal j m rest
     → (IsSpan e k bytes t.bytes.now t.rest.now after
     → IsTold x e bytes t.bytes.now t.rest.now list after)
     → HasTold e bytes t.event t.bytes.now t.rest.now list after
-span_told e bytes t list after m k x text rest limit none is front back on cuts maximal tells =
-    let parts = cut_parts e.limit e.mode bytes k text rest m cuts in
-    let some = cut_some e.limit e.mode bytes k text rest m limit cuts in
+span_told e bytes t list after m j k x text rest limit none same is front back on cuts maximal tells =
+    let parts = cut_parts e.limit e.mode bytes j text rest m cuts in
+    let some = cut_some e.limit e.mode bytes j text rest m limit cuts in
     let front' : t.bytes.now ≡ text = front ∙ ap (λ (l : List ℕ). take (length text) l) parts ∙ take-append_seam text rest in
     let back' : t.rest.now ≡ rest = back ∙ ap (λ (l : List ℕ). drop (length text) l) parts ∙ drop-append_seam text rest in
-    let span : IsSpan e k bytes t.bytes.now t.rest.now after = record { next = m; cuts = rw (front', back') cuts; maximal = rw back' maximal; on = on } in
+    let span : IsSpan e k bytes t.bytes.now t.rest.now after = record { next = m; cuts = rw (← same, front', back') cuts; maximal = rw (← same, back') maximal; on = on } in
     told_on e bytes t.event t.bytes.now t.rest.now list after m x is on (tells span) (record {
       parts = rw (front', back') parts;
       some = omega (arith, some, ap length front');

@@ -1,34 +1,25 @@
-use Rattle.std.proofs.Common.{◌≡◌, inl, inr, subst}
-use Rattle.csicodec_spans.specs.declared.table.Kind.{Kind}
+use Rattle.std.proofs.Common.{◌≡◌, inl, inr}
 use Rattle.csicodec_spans.specs.declared.table.Kind.TheVariants as kind
-use Rattle.csicodec_spans.specs.Parts.{Cuts, IsMaximal}
 use Rattle.csicodec_events.specs.declared.event.Event.TheVariants as event
 use Rattle.csicodec_events.proofs.Spans.{no_csi, span_told}
 use Rattle.csicodec_events.proofs.event.Events.span.Goals as goal
 
 pub returns-in-Esc : goal.returns-in-Esc
 returns-in-Esc c = λ list.
-    let e = c.args.self.now in
     let cut = c.in-Some.cut in
     let t = c.tell.ensures in
-    let cuts = subst (λ (k : Kind). Cuts e.limit e.mode c.args.bytes.now k cut.span.bytes.now cut.rest.now cut.mode) c.in-Esc.is c.in-Some.ensures.cut in
-    let most = subst (λ (k : Kind). IsMaximal k cut.mode cut.rest.now) c.in-Esc.is c.in-Some.ensures.maximal in
-    span_told e c.args.bytes.now c.tell.result list c.tell.new.self cut.mode kind.Esc event.Esc
-    cut.span.bytes.now cut.rest.now c.requires.limit c.requires.looked t.event t.bytes t.rest
-    t.onward cuts most (λ s. s)
+    span_told c.args.self.now c.args.bytes.now c.tell.result list c.tell.new.self cut.mode cut.span.kind kind.Esc event.Esc
+    cut.span.bytes.now cut.rest.now c.requires.limit c.requires.looked c.in-Esc.is t.event t.bytes t.rest
+    t.onward c.in-Some.ensures.cut c.in-Some.ensures.maximal (λ s. s)
 
 pub returns-in-Csi : goal.returns-in-Csi
 returns-in-Csi c = λ list.
-    let e = c.args.self.now in
     let cut = c.in-Some.cut in
     let t = c.tell-in-Csi.ensures in
     let other : cut.span.kind ≡ kind.Other = elim c.in-Csi.is [
       | inl csi ↦ absurd (no_csi c.args.bytes.now cut.span.bytes.now cut.rest.now c.requires.other c.in-Some.ensures.parts (c.in-Some.ensures.sequence csi))
       | inr same ↦ same
     ] in
-    let cuts = subst (λ (k : Kind). Cuts e.limit e.mode c.args.bytes.now k cut.span.bytes.now cut.rest.now cut.mode) other c.in-Some.ensures.cut in
-    let most = subst (λ (k : Kind). IsMaximal k cut.mode cut.rest.now) other c.in-Some.ensures.maximal in
-    span_told e c.args.bytes.now c.tell-in-Csi.result list c.tell-in-Csi.new.self cut.mode
-    kind.Other event.Other cut.span.bytes.now cut.rest.now c.requires.limit c.requires.looked
-    t.event t.bytes t.rest t.onward
-    cuts most (λ s. inl (c.requires.other, s))
+    span_told c.args.self.now c.args.bytes.now c.tell-in-Csi.result list c.tell-in-Csi.new.self cut.mode cut.span.kind kind.Other event.Other
+    cut.span.bytes.now cut.rest.now c.requires.limit c.requires.looked other t.event t.bytes t.rest
+    t.onward c.in-Some.ensures.cut c.in-Some.ensures.maximal (λ s. inl (c.requires.other, s))

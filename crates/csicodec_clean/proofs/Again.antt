@@ -34,11 +34,11 @@ use Rattle.csicodec_clean.specs.Shown.{shown, shown_text, IsShown}
 use Rattle.csicodec_clean.specs.Titles.{title_open, with_titles}
 use Rattle.csicodec_clean.specs.declared.styles.Passing.{Passing}
 use Rattle.csicodec_clean.specs.declared.links.LinkState.TheVariants as place
-use Rattle.csicodec_clean.specs.Links.{Address, Begun, IsLink, admitted, all_behind, begun, is_linked, is_param, is_visible, link_body, link_text, links_at, links_in, next, start}
+use Rattle.csicodec_clean.specs.Links.{Address, Begun, IsLink, admitted, all_behind, begun, is_param, is_visible, link_body, link_text, links_at, links_in, next, start}
 use Rattle.csicodec_clean.specs.Palette.{reduced}
 use Rattle.csicodec_clean.specs.Cleaned.{Strips, stripped, is_text, longest}
 use Rattle.csicodec_clean.specs.Styled.{kept, Item, Shown, Style, Link, item_texts, shown_items, hides, Leaves, begun_behind, run_behind}
-use Rattle.csicodec_clean.specs.Styled.{items_behind, AreLeft, is_open, styles_of, links_of, ends_of, closed, StylesIn, IsSafe, IsStyledIn}
+use Rattle.csicodec_clean.specs.Styled.{items_behind, AreLeft, is_open, styles_of, ends_of, closed, StylesIn, IsSafe, IsStyledIn}
 use Rattle.csicodec_clean.proofs.Shows.{encoded_on, shown_none}
 use Rattle.csicodec_clean.proofs.Linked.{body_read, itself}
 use Rattle.csicodec_clean.proofs.Pieces.{piece}
@@ -133,14 +133,9 @@ untitled_string (b ∷ bs) ps = ap (λ (x : List Part). part kind.Str (b ∷ [])
 untitled : (items : List Item) → with_titles false (parts_of items) ≡ parts_of items
 untitled [] = refl
 untitled (Shown c ∷ items) =
-    let front = singles kind.Text (encode_utf8 c) in
-    titles_on false front (parts_of items) ∙ ap (λ (b : Bool). with_titles false front ++ with_titles b (parts_of items)) (not_titled (encode_utf8 c))
-    ∙ ap (λ (ps : List Part). ps ++ with_titles false (parts_of items)) (single_texts (encode_utf8 c)) ∙ ap (λ (ps : List Part). front ++ ps) (untitled items)
-untitled (Style s ∷ items) = ap (λ (ps : List Part). part kind.Csi (text (action.Sgr s)) ∷ ps) (untitled items)
-untitled (Link a ∷ items) =
-    let end = part kind.Str (27 ∷ 92 ∷ []) in
-    ap (λ (ps : List Part). part kind.Str (27 ∷ 93 ∷ []) ∷ ps)
-    (untitled_string (link_body a) (end ∷ parts_of items) ∙ ap (λ (ps : List Part). singles kind.Str (link_body a) ++ end ∷ ps) (untitled items))
+    rw (titles_on false (singles kind.Text (encode_utf8 c)) (parts_of items), not_titled (encode_utf8 c), single_texts (encode_utf8 c), untitled items) refl
+untitled (Style s ∷ items) = rw (untitled items) refl
+untitled (Link a ∷ items) = rw (untitled_string (link_body a) (part kind.Str (27 ∷ 92 ∷ []) ∷ parts_of items), untitled items) refl
 
 -- ---- characters that are shown
 
@@ -189,20 +184,10 @@ leaves_chars d b kind.Str bytes own e = ap chars_of e ∙ chars_links (links_in 
 leaves_chars d b _ bytes own e = ap chars_of e
 
 chars_part : (run : List ℕ) (own others : List Item) → chars_of own ≡ [] → chars_of (shown_items run ++ (own ++ others)) ≡ filter shown (lossy_chars run) ++ chars_of others
-chars_part run own others none =
-    chars_both (shown_items run) (own ++ others) ∙ ap (λ (t : List ℕ). t ++ chars_of (own ++ others)) (chars_shown (filter shown (lossy_chars run)))
-    ∙ ap (λ (t : List ℕ). filter shown (lossy_chars run) ++ t) (chars_both own others ∙ ap (λ (t : List ℕ). t ++ chars_of others) none)
+chars_part run own others none = simp (chars_both, chars_shown, none)
 
 chars_closed : (items : List Item) → chars_of (closed items) ≡ chars_of items
-chars_closed items =
-    chars_both items (ends_of (is_linked false (links_of items)) (is_open false (styles_of items)))
-    ∙ ap (λ (t : List ℕ). chars_of items ++ t) (by (is_linked false (links_of items)) (is_open false (styles_of items))) ∙ append-nil (chars_of items)
-  where
-    by : (linked styled : Bool) → chars_of (ends_of linked styled) ≡ []
-    by true true = refl
-    by true false = refl
-    by false true = refl
-    by false false = refl
+chars_closed items = grind (arith, chars_both, append-nil {A = ℕ})
 
 -- ---- stripped
 
@@ -212,7 +197,7 @@ stripped_on (b ∷ bs) run ps = stripped_on bs (run ++ b ∷ []) ps ∙ ap (λ (
 
 string_stripped : (bs : List ℕ) (ps : List Part) → stripped [] (singles kind.Str bs ++ ps) ≡ stripped [] ps
 string_stripped [] ps = refl
-string_stripped (b ∷ bs) ps = ap (λ (t : List ℕ). t ++ stripped [] (singles kind.Str bs ++ ps)) shown_none ∙ string_stripped bs ps
+string_stripped (b ∷ bs) ps = rw shown_none (string_stripped bs ps)
 
 -- such a text is stripped to its characters
 stripped_items : (d : Passing) (items : List Item) (cs : List ℕ) → all_scalars cs ≡ true → AllByRecursion IsShown cs → AllByRecursion (IsSafe d) items
@@ -222,13 +207,9 @@ stripped_items d (Shown c ∷ items) cs a h safe =
     let (here, one) = safe.0 in
     stripped_on (encode_utf8 c) (encode_utf8_all cs) (parts_of items) ∙ ap (λ (r : List ℕ). stripped r (parts_of items)) (sym (more_encoded cs c))
     ∙ stripped_items d items (cs ++ c ∷ []) (more_scalars cs c a one) (all_both IsShown cs (c ∷ []) h (here, tt)) safe.1 ∙ ap encode_utf8_all (append_assoc cs (c ∷ []) (chars_of items))
-stripped_items d (Style s ∷ items) cs a h safe =
-    ap (λ (t : List ℕ). t ++ stripped [] (parts_of items)) (shown_back cs a h) ∙ ap (λ (t : List ℕ). encode_utf8_all cs ++ t) (stripped_items d items [] refl tt safe.1)
-    ∙ sym (encoded_on cs (chars_of items))
-stripped_items d (Link a ∷ items) cs a2 h safe =
-    ap (λ (t : List ℕ). t ++ stripped [] (singles kind.Str (link_body a) ++ part kind.Str (27 ∷ 92 ∷ []) ∷ parts_of items)) (shown_back cs a2 h)
-    ∙ ap (λ (t : List ℕ). encode_utf8_all cs ++ t) (string_stripped (link_body a) (part kind.Str (27 ∷ 92 ∷ []) ∷ parts_of items) ∙ ap (λ (t : List ℕ). t ++ stripped [] (parts_of items)) shown_none
-    ∙ stripped_items d items [] refl tt safe.1) ∙ sym (encoded_on cs (chars_of items))
+stripped_items d (Style s ∷ items) cs a h safe = rw (shown_back cs a h, stripped_items d items [] refl tt safe.1, encoded_on cs (chars_of items)) refl
+stripped_items d (Link x ∷ items) cs a h safe =
+    rw (shown_back cs a h, string_stripped (link_body x) (part kind.Str (27 ∷ 92 ∷ []) ∷ parts_of items), shown_none, stripped_items d items [] refl tt safe.1, encoded_on cs (chars_of items)) refl
 
 -- a part that ends the run
 ended_stripped : (run : List ℕ) (own others : List Item) (ps : List Part) → chars_of own ≡ [] → encode_utf8_all (chars_of others) ≡ stripped [] ps

@@ -1,21 +1,21 @@
 -- Where text of a class of characters ends.
 use Rattle.std.proofs.Common.{◌≡◌, ◌≢◌, ◌<◌, ◌≤◌, ◌-◌, ◌+◌, ◌^◌, ◌==◌, ℕ, Bool, true, false, None, Some, cond, min, nat_eq, List, [], ◌∷◌, ◌++◌, length}
 use Rattle.std.proofs.Common.{length-append, take, drop, encode_utf8, encode_utf8_all, refl, sym, ap, subst, ◌∙◌, arith, append_assoc, append-nil}
-use Rattle.std.specs.Prelude.{suc}
 use Rattle.std.specs.List.{AllByRecursion}
 use Rattle.std.specs.Str.{all_scalars}
 use Rattle.std.proofs.lemmas.Bool.{and_from, and_parts, false≢true}
 use Rattle.std.proofs.lemmas.List.{append_cancel_left}
 use Rattle.std.proofs.lemmas.Bool.Decides.{nat_tests}
+use Rattle.std.proofs.lemmas.Grind.{common_steps}
 use Rattle.std.proofs.lemmas.List.Sums.{sum_by-append}
-use Rattle.std.proofs.Math.Seq.{take-append_seam, drop-append_seam}
+use Rattle.std.proofs.Math.Seq.{take-append_seam}
 use lib.Utf8.{scalar}
 use Rattle.bstr.specs.Utf8.{Decoded, decoded, lossy_chars}
 use Rattle.bstr.proofs.lemmas.EncodeLemmas.{decoded-encode, lossy_chars-encode}
 use Rattle.bstr.proofs.lemmas.PieceLemmas.{piece-bounds}
 use Rattle.bstr.proofs.lemmas.SoundLemmas.{SpellsChar-decoded}
 use Rattle.csicodec_clean.specs.Cleaned.{Strips}
-use Rattle.csicodec_clean.specs.Check.{IsFault, IsOutside, Stands, counted, line_ends}
+use Rattle.csicodec_clean.specs.Check.{IsFault, IsOutside, Stands, line_ends}
 use Rattle.csicodec_clean.specs.Shown.{IsBehind, IsPlain, IsShown, IsTextOf, shown}
 use Rattle.csicodec_clean.proofs.Plain.{scalars_lossy, strips_plain, text_on}
 use Rattle.csicodec_clean.proofs.Shows.{encoded_on}
@@ -50,14 +50,9 @@ sure_bad bytes size some same other more =
 
 -- ---- places
 
-counted_on : (n m k : ℕ) → n ≡ counted m → min (n + k) (2 ^ 64 - 1) ≡ counted (m + k)
-counted_on n m k e = omega (arith, e)
-
 -- the text in front is passed, and the rest is kept
 pub kept_rest : (class : ℕ → Bool) (held rest kept : List ℕ) (len : ℕ) → IsBehind class held rest → len ≡ length held - length rest → kept ≡ drop len held → kept ≡ rest
-kept_rest class held rest kept len (front, e, text) long own =
-    let n : len ≡ length front = omega (arith, long, ap length e, length-append front rest) in
-    own ∙ ap (λ (i : ℕ). drop i held) n ∙ ap (λ (t : List ℕ). drop (length front) t) e ∙ drop-append_seam front rest
+kept_rest class held rest kept len h long own = grind (arith, common_steps)
 
 pub passed : (class : ℕ → Bool) (bytes held rest kept : List ℕ) (at line len ends a l : ℕ) → Stands class bytes held at line → IsBehind class held rest → len ≡ length held - length rest → kept ≡ drop len held
     → ends ≡ line_ends (take len held) → a ≡ min (at + len) (2 ^ 64 - 1) → l ≡ min (line + ends) (2 ^ 64 - 1) → Stands class bytes kept a l
@@ -71,8 +66,8 @@ passed class bytes held rest kept at line len ends a l s (front, e, has) long le
       front = s.front ++ front;
       whole = s.whole ∙ ap (λ t. s.front ++ t) e ∙ sym (append_assoc s.front front rest) ∙ ap (λ t. (s.front ++ front) ++ t) (sym (kept_rest class held rest kept len (front, e, has) long left));
       text = text_on class s.front front s.text has;
-      place = there ∙ counted_on at (length s.front) len s.place ∙ ap counted (omega (arith, n, size));
-      number = here ∙ counted_on line (suc (line_ends s.front)) ends s.number ∙ ap counted (omega (arith, m, lines));
+      place = omega (arith, there, s.place, n, size);
+      number = omega (arith, here, s.number, m, lines);
     }
 
 -- more came

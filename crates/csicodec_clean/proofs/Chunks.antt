@@ -1,5 +1,5 @@
 -- Chunk by chunk.
-use Rattle.std.proofs.Common.{◌≡◌, ℕ, Bool, false, List, [], ◌∷◌, ◌++◌, sym, subst, ⊎_elim, append_assoc, append-nil}
+use Rattle.std.proofs.Common.{◌≡◌, ℕ, Bool, List, [], ◌∷◌, ◌++◌, sym, subst, ⊎_elim, append_assoc, append-nil}
 use Rattle.std.specs.List.{concat}
 use Rattle.csicodec_spans.specs.declared.table.Mode.{Mode}
 use Rattle.csicodec_spans.specs.declared.table.Mode.TheVariants as mode

@@ -1,11 +1,11 @@
 -- The text of a style is digits and `:`, 60 at most, in front of `m`.
 use Rattle.std.proofs.Common.{◌≡◌, ◌≤◌, ◌<◌, ◌+◌, ◌-◌, ◌^◌, ◌⊎◌, ℕ, suc, Bool, true, false, cond, List, [], ◌∷◌, ◌++◌, length}
-use Rattle.std.proofs.Common.{length-append, take, drop, inl, inr, refl, sym, ap, subst, ◌∙◌, append_assoc, append-nil, arith, rules}
+use Rattle.std.proofs.Common.{length-append, drop, inl, inr, refl, sym, ap, subst, ◌∙◌, append_assoc, append-nil, arith, rules}
 use Rattle.std.specs.Prelude.{◌==◌, ◌&&◌, codes, nat_le, nat_lt, if◌then◌else◌, slice_get}
 use Rattle.std.specs.Fmt.{decimal}
 use Rattle.std.specs.List.{AllByRecursion}
-use Rattle.std.proofs.Math.Seq.{take-append_seam}
-use Rattle.std.proofs.lemmas.Bool.{and_parts, cases_Bool, eqb-true}
+use Rattle.std.proofs.lemmas.Bool.{and_parts, cases_Bool, cond_both, eqb-true}
+use Rattle.std.proofs.lemmas.List.{append_cancel_right}
 use Rattle.std.proofs.lemmas.Bool.Decides.{nat_tests}
 use Rattle.std.proofs.lemmas.Fmt.{digits_decimal, decimal_nonempty}
 use Rattle.std.proofs.lemmas.Str.Parse.{IsNumeralModel, numerals_by_fold}
@@ -75,10 +75,6 @@ IsCoded most text = (body : List ℕ) × (text ≡ body ++ 109 ∷ []) × AreCod
 wider : (k n : ℕ) (text : List ℕ) → k ≤ n → IsCoded k text → IsCoded n text
 wider k n text h (body, is, codes, some, few) = (body, is, codes, some, omega (arith, h, few))
 
-coded_by : (k : ℕ) (t : Bool) (x y : List ℕ) → IsCoded k x → IsCoded k y → IsCoded k (cond t x y)
-coded_by k true x y h i = h
-coded_by k false x y h i = i
-
 number_coded : (n : ℕ) → n < 1000 → IsCoded 5 (decimal n ++ codes "m")
 number_coded n h = (decimal n, refl, number_codes n h, some_digits n h, few_digits n h)
 
@@ -99,9 +95,9 @@ palette_coded first i f h =
     let named = decimal (first + 8) ++ (codes ":5:" ++ (decimal i ++ codes "m")) in
     let bright = decimal (i + first + 52) ++ codes "m" in
     let dark = decimal (i + first) ++ codes "m" in
-    coded_by 60 (nat_lt i 8) dark (cond (nat_lt i 16) bright named) (wider 5 60 dark (omega arith) (number_coded (i + first) (omega (arith, f, h))))
-    (coded_by 60 (nat_lt i 16) bright named (wider 5 60 bright (omega arith) (number_coded (i + first + 52) (omega (arith, f, h))))
-    (wider 13 60 named (omega arith) (then_coded (first + 8) 5 (codes ":5:") (decimal i ++ codes "m") (omega (arith, f)) five (number_coded i (omega (arith, h))))))
+    cond_both (nat_lt i 8) dark (cond (nat_lt i 16) bright named) (IsCoded 60) (λ _. wider 5 60 dark (omega arith) (number_coded (i + first) (omega (arith, f, h))))
+    (λ _. cond_both (nat_lt i 16) bright named (IsCoded 60) (λ _. wider 5 60 bright (omega arith) (number_coded (i + first + 52) (omega (arith, f, h))))
+    (λ _. wider 13 60 named (omega arith) (then_coded (first + 8) 5 (codes ":5:") (decimal i ++ codes "m") (omega (arith, f)) five (number_coded i (omega (arith, h))))))
 
 colon : AreCodes (codes ":")
 colon = (inr refl, tt)
@@ -118,9 +114,9 @@ color_coded code c f (r, g, b, a) =
     (then_coded c.1 11 (codes ":") alpha (omega (arith, g)) colon (then_coded c.2 5 (codes ":") (decimal c.3 ++ codes "m") (omega (arith, b)) colon (number_coded c.3 (omega (arith, a))))) in
     let first = decimal code ++ (codes ":2::" ++ opaque) in
     let other = decimal code ++ (codes ":6::" ++ clear) in
-    coded_by 60 (c.3 == 255) first other
-    (wider 26 60 first (omega arith) (then_coded code 17 (codes ":2::") opaque (omega (arith, f)) (inr refl, (inl (omega arith, omega arith), (inr refl, (inr refl, tt)))) three))
-    (wider 32 60 other (omega arith) (then_coded code 23 (codes ":6::") clear (omega (arith, f)) (inr refl, (inl (omega arith, omega arith), (inr refl, (inr refl, tt)))) four))
+    cond_both (c.3 == 255) first other (IsCoded 60)
+    (λ _. wider 26 60 first (omega arith) (then_coded code 17 (codes ":2::") opaque (omega (arith, f)) (inr refl, (inl (omega arith, omega arith), (inr refl, (inr refl, tt)))) three))
+    (λ _. wider 32 60 other (omega arith) (then_coded code 23 (codes ":6::") clear (omega (arith, f)) (inr refl, (inl (omega arith, omega arith), (inr refl, (inr refl, tt)))) four))
 
 -- ---- a text that has no number of its own, by a test
 
@@ -269,17 +265,12 @@ ends_color xs front (color.TrueColor c) (r, g, b, a) e =
     append_assoc (decimal c.0) (59 ∷ (decimal c.1 ++ 59 ∷ [])) (decimal c.2) ∙ ap (λ (l : List ℕ). decimal c.0 ++ 59 ∷ l) (append_assoc (decimal c.1) (59 ∷ []) (decimal c.2)) in
     ends_number (xs ++ 50 ∷ 59 ∷ parts) front c.2 b (append_assoc xs (50 ∷ 59 ∷ parts) (decimal c.2) ∙ ap (λ (l : List ℕ). xs ++ 50 ∷ 59 ∷ l) behind ∙ e)
 
-same_front : (xs ys rest : List ℕ) → xs ++ rest ≡ ys ++ rest → xs ≡ ys
-same_front xs ys rest e =
-    let long : length xs ≡ length ys = omega (arith, ap length e, length-append xs rest, length-append ys rest) in
-    sym (take-append_seam xs rest) ∙ ap (take (length xs)) e ∙ ap (λ (n : ℕ). take n (ys ++ rest)) long ∙ take-append_seam ys rest
-
 pub color_closed : (bytes rest : List ℕ) (style : Sgr) (list : List CsiParam) → IsColored bytes style rest → Reads bytes list 109 rest → is_open (group list 109) list ≡ false
 color_closed bytes rest style list (plane, color, opaque, paints, stands) (front, seq, whole) =
     let head = plane_byte plane ∷ 56 ∷ 59 ∷ [] in
     let both : front ++ rest ≡ (27 ∷ 91 ∷ (head ++ (color_list color ++ 109 ∷ []))) ++ rest =
     sym whole ∙ stands ∙ ap (λ (l : List ℕ). 27 ∷ 91 ∷ (head ++ l)) (sym (append_assoc (color_list color) (109 ∷ []) rest)) in
-    let own : front ≡ 27 ∷ 91 ∷ (head ++ (color_list color ++ 109 ∷ [])) = same_front front _ rest both in
+    let own : front ≡ 27 ∷ 91 ∷ (head ++ (color_list color ++ 109 ∷ [])) = append_cancel_right front _ rest both in
     let ends : seq.body ++ 109 ∷ [] ≡ head ++ (color_list color ++ 109 ∷ []) = ap (drop 2) (sym seq.whole ∙ own) in
     let body : seq.body ≡ head ++ color_list color = (same_ends seq.body (head ++ color_list color) 109 109 ends).0 in
     none_open (group list 109) list (λ last. (let (to, e) = ends_spelled seq.body list seq.spelled last in ends_color head to color opaque (sym body ∙ e)))

@@ -1,7 +1,8 @@
 -- What went out is a front of the text of the whole stream, whatever comes behind.
-use Rattle.std.proofs.Common.{◌≡◌, ℕ, Bool, true, false, cond, Option, List, [], ◌∷◌, ◌++◌, map, refl, sym, ap, subst, ◌∙◌, append_assoc, append-nil}
+use Rattle.std.proofs.Common.{◌≡◌, ℕ, false, Option, List, [], ◌∷◌, ◌++◌, map, refl, sym, ap, subst, ◌∙◌, append_assoc, append-nil}
 use Rattle.std.specs.Prelude.{filter}
 use Rattle.std.specs.Io.KnownBytes.{Appends, Consumes, IsAtEnd}
+use Rattle.std.proofs.lemmas.Bool.{cond_both}
 use Rattle.bstr.specs.Utf8.{lossy_chars}
 use Rattle.csicodec_actions.specs.Actions.{Action}
 use Rattle.csicodec_terminal.proofs.Unique.{taken_once}
@@ -53,13 +54,9 @@ run_begins run chars rest h = (shown_text rest, shown_read run chars rest h)
 stripped_begins : (ps : List Part) (run chars rest : List ℕ) → IsRead run chars rest → GoesOnFrom (stripped run ps) (shown_chars chars)
 stripped_begins [] run chars rest h = run_begins run chars rest h
 stripped_begins (p ∷ ps) run chars rest h =
-    by (is_text p.kind) (stripped_begins ps (run ++ p.bytes) chars (rest ++ p.bytes) (read_longer run chars rest p.bytes h))
-    (further (shown_text run) (shown_chars chars) (stripped [] ps) (run_begins run chars rest h))
-  where
-    by : (b : Bool) → GoesOnFrom (stripped (run ++ p.bytes) ps) (shown_chars chars) → GoesOnFrom (shown_text run ++ stripped [] ps) (shown_chars chars)
-        → GoesOnFrom (cond b (stripped (run ++ p.bytes) ps) (shown_text run ++ stripped [] ps)) (shown_chars chars)
-    by true x y = x
-    by false x y = y
+    cond_both (is_text p.kind) (stripped (run ++ p.bytes) ps) (shown_text run ++ stripped [] ps) (λ (t : List ℕ). GoesOnFrom t (shown_chars chars))
+    (λ _. stripped_begins ps (run ++ p.bytes) chars (rest ++ p.bytes) (read_longer run chars rest p.bytes h))
+    (λ _. further (shown_text run) (shown_chars chars) (stripped [] ps) (run_begins run chars rest h))
 
 -- ---- the parts that come behind those that were taken
 
@@ -124,9 +121,7 @@ module _ {S : Type 0} (of : S → Keeping) where
   -- where a part ends the run
   ended : (run first own_text : List ℕ) (own others : List Item) → first ≡ shown_text run ++ own_text → item_texts own ≡ own_text
       → item_texts (shown_items run ++ (own ++ others)) ≡ first ++ item_texts others
-  ended run first own_text own others e same =
-      part_texts run own others ∙ ap (λ (t : List ℕ). shown_text run ++ (t ++ item_texts others)) same
-      ∙ sym (append_assoc (shown_text run) own_text (item_texts others)) ∙ ap (λ (t : List ℕ). t ++ item_texts others) (sym e)
+  ended run first own_text own others e same = rw (part_texts run own others, e, same) (simp append_assoc)
 
   bare : (run first : List ℕ) (own others : List Item) → first ≡ shown_text run → own ≡ [] → item_texts (shown_items run ++ (own ++ others)) ≡ first ++ item_texts others
   bare run first own others e none = ended run first [] own others (e ∙ sym (append-nil (shown_text run))) (ap item_texts none)
@@ -162,7 +157,7 @@ module _ {S : Type 0} (of : S → Keeping) where
         others = r.others;
         begun = r.begun;
         left = subst (λ (d : Passing). AreLeft d r.begun last qs r.others) one.passing r.left;
-        all = ap item_texts f ∙ one.text ∙ ap (λ (t : List ℕ). first ++ t) r.all ∙ sym (append_assoc first more (item_texts r.others)) ∙ ap (λ (t : List ℕ). t ++ item_texts r.others) (sym e);
+        all = rw (f, one.text, r.all, e) (simp append_assoc);
       }
 
   pub clean_front : (s : S) (read more text : List ℕ) (last : Between S) → (of s).begun ≡ start → Takes (keeps of) (start_of s) read text last → IsFrontOf (StylesIn (of s).passing) (read ++ more) text

@@ -1,15 +1,15 @@
 -- Links, byte by byte.
-use Rattle.std.proofs.Common.{◌≡◌, ◌≤◌, ◌<◌, ◌+◌, ℕ, Bool, true, false, List, [], ◌∷◌, ◌++◌, length, length-append, refl, sym, ap, ◌∙◌, append_assoc, append-nil, arith, lt-ltb}
-use Rattle.std.specs.Prelude.{◌==◌, ◌&&◌, not, nat_lt, if◌then◌else◌}
+use Rattle.std.proofs.Common.{◌≡◌, ◌≤◌, ◌<◌, ◌+◌, ℕ, Bool, true, false, List, [], ◌∷◌, ◌++◌, length, length-append, refl, sym, ap, ◌∙◌, append_assoc, append-nil, arith}
+use Rattle.std.specs.Prelude.{◌==◌, ◌&&◌, not, if◌then◌else◌}
 use Rattle.std.specs.List.{AllByRecursion}
-use Rattle.std.proofs.lemmas.Bool.{and_from, and_parts}
 use Rattle.std.proofs.lemmas.Grind.{flat_map-append}
 use Rattle.std.proofs.lemmas.Bool.Decides.{nat_tests}
 use Rattle.csicodec_clean.specs.declared.links.LinkState.{LinkState}
 use Rattle.csicodec_clean.specs.declared.links.LinkState.TheVariants as place
-use Rattle.csicodec_clean.specs.Links.{Address, Begun, IsLink, IsWithin, admitted, all_behind, anew, begun, behind, behind_at, ends_at, is_linked}
-use Rattle.csicodec_clean.specs.Links.{is_param, is_visible, link_body, link_text, link_texts, links_at, links_in, longest_params, longest_url, next}
+use Rattle.csicodec_clean.specs.Links.{Address, Begun, IsLink, IsWithin, admitted, all_behind, begun, behind, behind_at, ends_at, is_linked}
+use Rattle.csicodec_clean.specs.Links.{is_param, is_visible, link_body, link_texts, links_at, links_in, longest_params, longest_url, next}
 use Rattle.csicodec_clean.proofs.Hosts.{led_all, led_few, led_twice}
+use Rattle.csicodec_clean.proofs.PlainBytes.{all_both}
 
 -- ---- bytes behind bytes
 
@@ -41,59 +41,21 @@ links_more b old xs c here =
 pub texts_more : (b old : Begun) (xs : List ℕ) (c : ℕ) (first out text : List ℕ) → old ≡ all_behind true b xs
     → out ≡ first ++ link_texts (links_in true b xs) → text ≡ out ++ link_texts (links_at true old c)
     → text ≡ first ++ link_texts (links_in true b (xs ++ c ∷ []))
-texts_more b old xs c first out text here was now =
-    now ∙ ap (λ (t : List ℕ). t ++ link_texts (links_at true old c)) was ∙ append_assoc first (link_texts (links_in true b xs)) (link_texts (links_at true old c))
-    ∙ ap (λ (t : List ℕ). first ++ t) (sym (flat_map-append link_text (links_in true b xs) (links_at true old c))) ∙ ap (λ (t : List Address). first ++ link_texts t) (sym (links_more b old xs c here))
+texts_more b old xs c first out text here was now = rw (now, was, links_more b old xs c here, flat_map-append) (simp append_assoc)
 
 pub linked_more : (b old : Begun) (xs : List ℕ) (c : ℕ) (first was now : Bool) → old ≡ all_behind true b xs
     → was ≡ is_linked first (links_in true b xs) → now ≡ is_linked was (links_at true old c) → now ≡ is_linked first (links_in true b (xs ++ c ∷ []))
-linked_more b old xs c first was now here e f =
-    f ∙ ap (λ (t : Bool). is_linked t (links_at true old c)) e ∙ sym (linked_on first (links_in true b xs) (links_at true old c)) ∙ ap (is_linked first) (sym (links_more b old xs c here))
+linked_more b old xs c first was now here e f = rw (f, e, links_more b old xs c here, linked_on) refl
 
 pub begun_more : (b old new : Begun) (xs : List ℕ) (c : ℕ) → old ≡ all_behind true b xs → new ≡ behind old c → new ≡ all_behind true b (xs ++ c ∷ [])
 begun_more b old new xs c here now = now ∙ ap (λ (t : Begun). behind t c) here ∙ sym (behind_on true xs (c ∷ []) b)
 
 -- ---- what has come of a link may pass
 
-choose : (P : Begun → Type 0) (t : Bool) (x y : Begun) → (t ≡ true → P x) → (t ≡ false → P y) → P (if t then x else y)
-choose P true x y f g = f refl
-choose P false x y f g = g refl
+fine_at : (p : LinkState) (params url : List ℕ) (c : ℕ) → IsWithin (begun p params url).address → IsWithin (behind_at p params url c).address
+fine_at p params url c h = grind (arith, nat_tests, all_both {T = ℕ}, length-append {A = ℕ})
 
-all_more : (P : ℕ → Type 0) (xs : List ℕ) (c : ℕ) → AllByRecursion P xs → P c → AllByRecursion P (xs ++ c ∷ [])
-all_more P [] c h k = (k, tt)
-all_more P (x ∷ xs) c h k = (h.0, all_more P xs c h.1 k)
-
-abbrev IsFine : Begun → Type 0
-IsFine b = IsWithin b.address
-
-one_longer : (xs : List ℕ) (c n : ℕ) → nat_lt (length xs) n ≡ true → length (xs ++ c ∷ []) ≤ n
-one_longer xs c n h = grind (arith, nat_tests, length-append xs (c ∷ []), h)
-
-fine_param : (params url : List ℕ) (c : ℕ) → IsFine (begun place.Params params url) → (is_param c && nat_lt (length params) longest_params) ≡ true → IsFine (begun place.Params (params ++ c ∷ []) url)
-fine_param params url c h e =
-    let both = and_parts (is_param c) (nat_lt (length params) longest_params) e in
-    record { params = all_more (λ b. is_param b ≡ true) params c h.params both.0; few = one_longer params c longest_params both.1; url = h.url; short = h.short }
-
-fine_url : (params url : List ℕ) (c : ℕ) → IsFine (begun place.Url params url) → (is_visible c && nat_lt (length url) longest_url) ≡ true → IsFine (begun place.Url params (url ++ c ∷ []))
-fine_url params url c h e =
-    let both = and_parts (is_visible c) (nat_lt (length url) longest_url) e in
-    record { params = h.params; few = h.few; url = all_more (λ b. is_visible b ≡ true) url c h.url both.0; short = one_longer url c longest_url both.1 }
-
-fine_at : (p : LinkState) (params url : List ℕ) (c : ℕ) → IsFine (begun p params url) → IsFine (behind_at p params url c)
-fine_at place.Eight params url c h =
-    choose IsFine (c == 59) (begun place.Params [] url) (begun (anew c) params url) (λ e. record { params = tt; few = omega arith; url = h.url; short = h.short }) (λ e. h)
-fine_at place.Params params url c h =
-    let more = begun place.Params (params ++ c ∷ []) url in
-    let other = begun (anew c) params url in
-    let test = is_param c && nat_lt (length params) longest_params in
-    choose IsFine (c == 59) (begun place.Url params []) (if test then more else other) (λ e. record { params = h.params; few = h.few; url = tt; short = omega arith })
-    (λ e. choose IsFine test more other (λ f. fine_param params url c h f) (λ f. h))
-fine_at place.Url params url c h =
-    choose IsFine (is_visible c && nat_lt (length url) longest_url) (begun place.Url params (url ++ c ∷ []))
-    (begun (if c == 27 then place.Ending else place.Outside) params url) (λ e. fine_url params url c h e) (λ e. h)
-fine_at _ params url c h = h
-
-fine_next : (passing : Bool) (b : Begun) (c : ℕ) → IsFine b → IsFine (next passing b c)
+fine_next : (passing : Bool) (b : Begun) (c : ℕ) → IsWithin b.address → IsWithin (next passing b c).address
 fine_next true b c h = fine_at b.place b.address.params b.address.url c h
 fine_next false b c h = h
 
@@ -118,36 +80,14 @@ fine_links passing (c ∷ bytes) b h = by (passing && ends_at b.place c) (fine_l
 
 -- ---- a link is read as it is
 
-pick : (t : Bool) (x y : Begun) → t ≡ true → (if t then x else y) ≡ x
-pick true x y e = refl
-pick false x y e = absurd cc
-
-skip : (t : Bool) (x y : Begun) → t ≡ false → (if t then x else y) ≡ y
-skip true x y e = absurd cc
-skip false x y e = refl
-
-no_link : (t : Bool) (links : List Address) → t ≡ false → (if t then links else []) ≡ []
-no_link true links e = absurd cc
-no_link false links e = refl
-
-no_semicolon : (c : ℕ) → is_param c ≡ true → (c == 59) ≡ false
-no_semicolon c h = grind (arith, nat_tests)
-
 no_bell : (c : ℕ) → is_visible c ≡ true → (c == 7) ≡ false
 no_bell c h = grind (arith, nat_tests)
 
 one_param : (params url : List ℕ) (c : ℕ) → is_param c ≡ true → length params < longest_params → behind_at place.Params params url c ≡ begun place.Params (params ++ c ∷ []) url
-one_param params url c h room =
-    let more = begun place.Params (params ++ c ∷ []) url in
-    let other = begun (anew c) params url in
-    let test = is_param c && nat_lt (length params) longest_params in
-    skip (c == 59) (begun place.Url params []) (if test then more else other) (no_semicolon c h)
-    ∙ pick test more other (and_from (is_param c) (nat_lt (length params) longest_params) h (lt-ltb (length params) longest_params room))
+one_param params url c h room = grind (arith, nat_tests)
 
 one_url : (params url : List ℕ) (c : ℕ) → is_visible c ≡ true → length url < longest_url → behind_at place.Url params url c ≡ begun place.Url params (url ++ c ∷ [])
-one_url params url c h room =
-    pick (is_visible c && nat_lt (length url) longest_url) (begun place.Url params (url ++ c ∷ [])) (begun (if c == 27 then place.Ending else place.Outside) params url)
-    (and_from (is_visible c) (nat_lt (length url) longest_url) h (lt-ltb (length url) longest_url room))
+one_url params url c h room = grind (arith, nat_tests)
 
 -- from here over the bytes no link is over, and this has come then
 abbrev pub Reads : Begun → List ℕ → Begun → Type 0
@@ -163,22 +103,14 @@ params_read : (ps params url : List ℕ) → AllByRecursion (λ b. is_param b �
     → Reads (begun place.Params params url) ps (begun place.Params (params ++ ps) url)
 params_read [] params url h room = (refl, ap (λ (t : List ℕ). begun place.Params t url) (sym (append-nil params)))
 params_read (c ∷ ps) params url h room =
-    let one = one_param params url c h.0 (omega (arith, room)) in
-    let later = params_read ps (params ++ c ∷ []) url h.1 (omega (arith, room, length-append params (c ∷ []))) in (
-      ap (λ (t : Begun). links_in true t ps) one ∙ later.0,
-      ap (λ (t : Begun). all_behind true t ps) one ∙ later.1 ∙ ap (λ (t : List ℕ). begun place.Params t url) (append_assoc params (c ∷ []) ps),
-    )
+    let later = params_read ps (params ++ c ∷ []) url h.1 (omega (arith, room, length-append params (c ∷ []))) in
+    rw (one_param params url c h.0 (omega (arith, room))) (later.0, later.1 ∙ ap (λ (t : List ℕ). begun place.Params t url) (append_assoc params (c ∷ []) ps))
 
 url_read : (us params url : List ℕ) → AllByRecursion (λ b. is_visible b ≡ true) us → length url + length us ≤ longest_url → Reads (begun place.Url params url) us (begun place.Url params (url ++ us))
 url_read [] params url h room = (refl, ap (λ (t : List ℕ). begun place.Url params t) (sym (append-nil url)))
 url_read (c ∷ us) params url h room =
-    let one = one_url params url c h.0 (omega (arith, room)) in
     let later = url_read us params (url ++ c ∷ []) h.1 (omega (arith, room, length-append url (c ∷ []))) in
-    let here : Begun = behind_at place.Url params url c in (
-      ap (λ (t : List Address). t ++ links_in true here us) (no_link (c == 7) (admitted (record { params = params; url = url }) ∷ []) (no_bell c h.0))
-          ∙ ap (λ (t : Begun). links_in true t us) one ∙ later.0,
-      ap (λ (t : Begun). all_behind true t us) one ∙ later.1 ∙ ap (λ (t : List ℕ). begun place.Url params t) (append_assoc url (c ∷ []) us),
-    )
+    rw (no_bell c h.0, one_url params url c h.0 (omega (arith, room))) (later.0, later.1 ∙ ap (λ (t : List ℕ). begun place.Url params t) (append_assoc url (c ∷ []) us))
 
 -- behind `ESC ]`
 pub body_read : (a : Address) (params url : List ℕ) → IsWithin a → Reads (begun place.Opened params url) (link_body a) (begun place.Url a.params a.url)
@@ -200,9 +132,6 @@ passes a params url end h over =
     links_on true (link_body a) end (begun place.Opened params url) ∙ ap (λ (t : List Address). t ++ links_in true (all_behind true (begun place.Opened params url) (link_body a)) end) body.0
     ∙ ap (λ (t : Begun). links_in true t end) body.1 ∙ over
 
-abbrev begun_address : List ℕ → List ℕ → Address
-begun_address params url = record { params = params; url = url }
-
 -- one that may pass is that itself
 pub itself : (a : Address) → IsLink a → admitted a ≡ a
-itself a h = ap (λ (t : List ℕ). begun_address a.params t) h.leads
+itself a h = ap (λ (t : List ℕ). (begun place.Outside a.params t).address) h.leads

@@ -1,14 +1,13 @@
 -- What `clean` leaves is safe by its bytes alone.
-use Rattle.std.proofs.Common.{◌≡◌, ◌≢◌, ◌<◌, ◌≤◌, ◌+◌, ◌/◌, ◌%◌, ℕ, Bool, true, false, cond, List, [], ◌∷◌, ◌++◌, ◌⊎◌}
+use Rattle.std.proofs.Common.{◌≡◌, ◌≢◌, ◌<◌, ◌≤◌, ◌+◌, ◌/◌, ◌%◌, ℕ, Bool, true, false, List, [], ◌∷◌, ◌++◌, ◌⊎◌}
 use Rattle.std.proofs.Common.{inl, inr, length, refl, sym, ap, subst, ◌∙◌, append_assoc, arith, ⊎_elim, lt-ltb, le-ltb}
-use Rattle.std.specs.Prelude.{codes, nat_lt, not, ◌==◌, ◌&&◌, if◌then◌else◌}
+use Rattle.std.specs.Prelude.{not, ◌==◌, ◌&&◌}
 use Rattle.std.specs.Char.{encode_utf8}
 use Rattle.std.specs.List.{AllByRecursion}
-use Rattle.std.proofs.lemmas.Bool.{and_parts, cases_lt, le-leb, ne_eqb, not-true}
+use Rattle.std.proofs.lemmas.Bool.{cases_lt, le-leb, ne_eqb}
 use Rattle.std.proofs.lemmas.Bool.Decides.{nat_tests}
 use Rattle.csicodec_base.specs.declared.sgr.Sgr.{Sgr}
 use Rattle.csicodec_base.specs.declared.sgr.Sgr.TheVariants as sgr
-use Rattle.csicodec_base.specs.SgrText.{sgr_text}
 use Rattle.csicodec_actions.specs.Actions as action
 use Rattle.csicodec_actions.specs.Ranges.{SgrInRange}
 use Rattle.csicodec_actions.specs.Table.{text}
@@ -72,7 +71,7 @@ no_escape : (c : ℕ) → IsShown c → c ≢ 27
 no_escape c h = λ e. absurd (grind (arith, nat_tests))
 
 on_text : (links styled linked : Bool) (b : ℕ) (more : List ℕ) → b ≢ 27 → b ≢ 194 → is_text_byte b ≡ true → is_marked links Text styled linked (b ∷ more) ≡ is_marked links Text styled linked more
-on_text links styled linked b more e l t = rw (ne_eqb b 27 e, ne_eqb b 194 l, t) refl
+on_text links styled linked b more e l t = grind (arith, nat_tests)
 
 high_marked : (links styled linked : Bool) (bytes more : List ℕ) → AllByRecursion IsHigh bytes → is_marked links Text styled linked (bytes ++ more) ≡ is_marked links Text styled linked more
 high_marked links styled linked [] more h = refl
@@ -97,12 +96,10 @@ abbrev Behind : Bool → Stand → Bool → Bool → List ℕ → List ℕ → T
 Behind links s styled linked t more = (opened : Bool) × (is_marked links s styled linked (t ++ more) ≡ is_marked links Text opened linked more)
 
 number_byte : (b : ℕ) → IsCode b → is_number_byte b ≡ true
-number_byte b (inl digit) = rw (le-leb 48 b digit.0, le-leb b 59 (omega (arith, digit.1))) refl
-number_byte b (inr colon) = rw colon refl
+number_byte b h = grind (arith, nat_tests)
 
 no_final : (b : ℕ) → IsCode b → b ≢ 109
-no_final b (inl digit) = λ e. absurd (omega (arith, e, digit.1))
-no_final b (inr colon) = λ e. absurd (omega (arith, e, colon))
+no_final b h = grind (arith, nat_tests)
 
 on_number : (links zeros styled linked : Bool) (b : ℕ) (more : List ℕ) → IsCode b
     → is_marked links (Numbers zeros) styled linked (b ∷ more) ≡ is_marked links (Numbers (zeros && b == 48)) styled linked more
@@ -135,19 +132,14 @@ style_marked links styled linked s more h k = elim (only_reset s) [
 -- ---- links
 
 param_stays : (b : ℕ) → is_param b ≡ true → stand_behind true Params b ≡ Params
-param_stays b h =
-    let both = and_parts (is_visible b) (not (b == 59)) h in
-    let other : (b == 59) ≡ false = not-true (b == 59) both.1 in
-    rw (other, both.0) refl
+param_stays b h = grind (arith, nat_tests)
 
 params_marked : (styled linked : Bool) (ps more : List ℕ) → AllByRecursion (λ b. is_param b ≡ true) ps → is_marked true Params styled linked (ps ++ more) ≡ is_marked true Params styled linked more
 params_marked styled linked [] more h = refl
 params_marked styled linked (b ∷ ps) more h = ap (λ (s : Stand). is_marked true s styled linked (ps ++ more)) (param_stays b h.0) ∙ params_marked styled linked ps more h.1
 
 url_stays : (some : Bool) (b : ℕ) → is_visible b ≡ true → stand_behind true (Url some) b ≡ Url true
-url_stays some b h =
-    let other : (b == 27) ≡ false = ne_eqb b 27 (λ same. absurd (grind (arith, nat_tests))) in
-    rw (other, h) refl
+url_stays some b h = grind (arith, nat_tests)
 
 url_marked : (styled linked : Bool) (us more : List ℕ) → AllByRecursion (λ b. is_visible b ≡ true) us
     → is_marked true (Url true) styled linked (us ++ 27 ∷ 92 ∷ more) ≡ is_marked true Text styled true more

@@ -3,7 +3,7 @@ use Rattle.std.proofs.Common.{◌≡◌, ◌+◌, ◌-◌, ◌∙◌, ℕ, suc, 
 use Rattle.std.specs.Prelude.{◌==◌, MatchBool}
 use Rattle.std.proofs.Math.Seq.{take-append_seam}
 use Rattle.csicodec_names.specs.declared.color.ColorSpec.{ColorSpec}
-use Rattle.csicodec_base.specs.Shapes.{Plane, Front, Back, Line, painted}
+use Rattle.csicodec_base.specs.Shapes.{Plane, Front, painted}
 use Rattle.csicodec_base.specs.SgrText.{sgr_text}
 use Rattle.csicodec_base.specs.declared.sgr.Sgr.{Sgr}
 use Rattle.csicodec_tokens.specs.declared.param.CsiParam.{CsiParam}
@@ -26,18 +26,13 @@ use Rattle.csicodec_clean.specs.Styled.{Keeping, is_open, keeping, keeps, kept}
 use Rattle.csicodec_clean.specs.Private.Notes.{IsLeft, IsNoted, depth_byte, note_of, open_byte}
 
 same_depth : (d e : Depth) → depth_byte d ≡ depth_byte e → d ≡ e
-same_depth depth.Full depth.Full h = refl
-same_depth depth.Palette depth.Palette h = refl
-same_depth depth.Ansi depth.Ansi h = refl
-same_depth _ _ h = absurd (omega (arith, h))
+same_depth d e h = grind arith
 
 byte_is : (b : Bool) → (open_byte b == 1) ≡ b
-byte_is true = refl
-byte_is false = refl
+byte_is b = grind arith
 
 flag_is : (styled : Bool) (styles : List Sgr) (now : ℕ) → now ≡ cond styled (open_byte (is_open true styles)) (open_byte (is_open false styles)) → (now == 1) ≡ is_open styled styles
-flag_is true styles now e = ap (λ n. n == 1) e ∙ byte_is (is_open true styles)
-flag_is false styles now e = ap (λ n. n == 1) e ∙ byte_is (is_open false styles)
+flag_is styled styles now e = grind (arith, byte_is)
 
 -- from the note, and what was appended of it
 pub recalled : (d : Depth) (styled : Bool) (bytes note wide more old new : List ℕ) (now : ℕ) → IsNoted bytes note → get_or note 0 0 ≡ depth_byte d
@@ -66,8 +61,7 @@ left_given k bytes after old new (actions, is, now, longer) = (
 
 color_note : (plane : Plane) (color : ColorSpec) → note_of depth.Full (SgrAction (painted plane color) ∷ []) ≡ 0 ∷ 1 ∷ 1 ∷ 27 ∷ 91 ∷ sgr_text (painted plane color)
 color_note Front color = ap (λ l. 0 ∷ 1 ∷ 1 ∷ l) (append-nil (27 ∷ 91 ∷ sgr_text (painted Front color)))
-color_note Back color = ap (λ l. 0 ∷ 1 ∷ 1 ∷ l) (append-nil (27 ∷ 91 ∷ sgr_text (painted Back color)))
-color_note Line color = ap (λ l. 0 ∷ 1 ∷ 1 ∷ l) (append-nil (27 ∷ 91 ∷ sgr_text (painted Line color)))
+color_note plane color = ap (λ l. 0 ∷ 1 ∷ 1 ∷ l) (append-nil (27 ∷ 91 ∷ sgr_text (painted plane color)))
 
 -- what is noted of it, by what begins with its text
 pub color_noted : (bytes rest own text note : List ℕ) (style : Sgr) (len : ℕ) → IsColored bytes style rest → IsTakenFor own (SgrAction style ∷ [])
@@ -80,8 +74,7 @@ color_noted bytes rest own text note style len (plane, color, opaque, paints, st
 
 color_open : (plane : Plane) (color : ColorSpec) (styled : Bool) → true ≡ is_open styled (kept depth.Full (SgrAction (painted plane color) ∷ []))
 color_open Front color styled = refl
-color_open Back color styled = refl
-color_open Line color styled = refl
+color_open _ color styled = refl
 
 -- and what is left of it
 pub color_left : (bytes rest own old new : List ℕ) (style : Sgr) (styled : Bool) → IsColored bytes style rest → IsTakenFor own (SgrAction style ∷ [])

@@ -1,7 +1,8 @@
 -- A stream whose state the caller keeps, step by step.
-use Rattle.std.proofs.Common.{◌≡◌, ◌≤◌, ◌<◌, ℕ, Bool, false, cond, List, [], ◌∷◌, ◌++◌, length, length-append, take, drop, ◌+◌, ◌-◌, refl, sym, ap, subst, ◌∙◌, ⊎_elim, append_assoc, append-nil, arith}
+use Rattle.std.proofs.Common.{◌≡◌, ◌≤◌, ◌<◌, ℕ, Bool, false, cond, List, [], ◌∷◌, ◌++◌, length, length-append, take, drop, ◌+◌, ◌-◌, refl, sym, ap, subst, ◌∙◌, ⊎_elim, append-nil, arith}
 use Rattle.std.specs.List.{concat}
-use Rattle.std.proofs.lemmas.List.{length-take-le, take-append-drop, take-append-le, drop-append-le}
+use Rattle.std.proofs.lemmas.Grind.{common_steps}
+use Rattle.std.proofs.lemmas.List.{length-take-le, take-append-le, drop-append-le}
 use Rattle.std.proofs.Math.Seq.{take-append_seam, drop-append_seam}
 use Rattle.csicodec_actions.specs.Actions as action
 use Rattle.csicodec_actions.specs.Table.{text}
@@ -27,21 +28,18 @@ use Rattle.csicodec_clean.proofs.Sure.{read_none}
 
 -- what is held is the end of the bytes
 pub last_held : (held bytes front rest new : List ℕ) → length held ≡ 0 → bytes ≡ front ++ rest → new ≡ held ++ rest → held ++ bytes ≡ front ++ new
-last_held [] bytes front rest new none split e = split ∙ ap (λ (t : List ℕ). front ++ t) (sym e)
-last_held (h ∷ held) bytes front rest new none split e = absurd (omega (arith, none))
+last_held held bytes front rest new none split e = grind (arith, common_steps)
 
 pub none_held : (bytes held : List ℕ) → held ≡ [] → bytes ≡ bytes ++ held
 none_held bytes held e = sym (append-nil bytes) ∙ ap (λ (t : List ℕ). bytes ++ t) (sym e)
 
 -- what is held stands before the rest, a span more
 pub held_on : (before gone held span kept rest left all : List ℕ) → all ≡ before ++ (held ++ rest) → rest ≡ span ++ left → held ++ span ≡ gone ++ kept → all ≡ (before ++ gone) ++ (kept ++ left)
-held_on before gone held span kept rest left all e split now =
-    e ∙ ap (λ (t : List ℕ). before ++ (held ++ t)) split ∙ ap (λ (t : List ℕ). before ++ t) (sym (append_assoc held span left) ∙ ap (λ (t : List ℕ). t ++ left) now ∙ append_assoc gone kept left)
-    ∙ sym (append_assoc before gone (kept ++ left))
+held_on before gone held span kept rest left all e split now = grind (arith, common_steps)
 
 -- the bytes that a step leaves
 parted : (n : ℕ) (bytes held behind before left : List ℕ) → held ≡ take n bytes → behind ≡ drop n bytes → held ++ behind ≡ before ++ left → bytes ≡ before ++ left
-parted n bytes held behind before left h b e = sym (take-append-drop n bytes) ∙ ap (λ (t : List ℕ). t ++ drop n bytes) (sym h) ∙ ap (λ (t : List ℕ). held ++ t) (sym b) ∙ e
+parted n bytes held behind before left h b e = grind (arith, common_steps)
 
 module _ {S : Type 0} (Gives : RuleOf S) where
   -- a step, by what goes behind the bytes that are held

@@ -6,7 +6,7 @@ use Rattle.std.specs.List.{AllByRecursion}
 use Rattle.std.specs.Str.{all_scalars}
 use Rattle.std.specs.Char.{IsScalar}
 use lib.Utf8.{scalar}
-use Rattle.std.proofs.lemmas.Bool.{and_from, and_parts}
+use Rattle.std.proofs.lemmas.Bool.{and_from, and_parts, cond_both}
 use Rattle.bstr.specs.Utf8.{decoded, or_replacement, lossy_chars}
 use Rattle.bstr.proofs.lemmas.PieceLemmas.{piece-bounds, lossy_chars-step, lossy_chars-nil}
 use Rattle.bstr.proofs.lemmas.SoundLemmas.{SpellsChar-decoded}
@@ -62,15 +62,11 @@ text_on class s t (xs, a, b, c) (ys, d, e, f) = (xs ++ ys, scalars_on xs ys a d,
 
 -- ---- stripped
 
-either : (b : Bool) (s t : List ℕ) → IsPlain s → IsPlain t → IsPlain (cond b s t)
-either true s t h k = h
-either false s t h k = k
-
 pub plain_stripped : (parts : List Part) (run : List ℕ) → IsPlain (stripped run parts)
 plain_stripped [] run = plain_shown run
 plain_stripped (p ∷ parts) run =
-    either (is_text p.kind) (stripped (run ++ p.bytes) parts) (shown_text run ++ stripped [] parts) (plain_stripped parts (run ++ p.bytes))
-    (text_on shown (shown_text run) (stripped [] parts) (plain_shown run) (plain_stripped parts []))
+    cond_both (is_text p.kind) (stripped (run ++ p.bytes) parts) (shown_text run ++ stripped [] parts) IsPlain (λ _. plain_stripped parts (run ++ p.bytes))
+    (λ _. text_on shown (shown_text run) (stripped [] parts) (plain_shown run) (plain_stripped parts []))
 
 module _ {S : Type 0} where
   -- the rule that drops gives nothing for a string

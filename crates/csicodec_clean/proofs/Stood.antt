@@ -1,8 +1,9 @@
 -- Each link that passes stood in the stream.
 use Rattle.std.proofs.Common.{◌≡◌, ◌<◌, ◌⊎◌, ℕ, Bool, true, false, List, [], ◌∷◌, ◌++◌, length, length-append, refl, sym, ap, subst, ◌∙◌, inl, inr, append_assoc, append-nil, arith}
-use Rattle.std.specs.Prelude.{◌==◌, ◌&&◌, nat_lt, filter, if◌then◌else◌}
+use Rattle.std.specs.Prelude.{◌==◌, filter, if◌then◌else◌}
 use Rattle.std.specs.List.{AllByRecursion, Contains, flat_map}
-use Rattle.std.proofs.lemmas.Bool.{both_ways, cond_both, eqb-true}
+use Rattle.std.proofs.lemmas.Bool.{both_ways}
+use Rattle.std.proofs.lemmas.Bool.Decides.{nat_tests}
 use Rattle.std.proofs.lemmas.Grind.{flat_map-append}
 use Rattle.std.proofs.lemmas.List.Elements.{Contains-append_right}
 use Rattle.bstr.specs.Utf8.{lossy_chars}
@@ -18,18 +19,14 @@ use Rattle.csicodec_clean.specs.declared.links.LinkState.{LinkState}
 use Rattle.csicodec_clean.specs.declared.links.LinkState.TheVariants as place
 use Rattle.csicodec_clean.specs.declared.styles.Passing.{Passing}
 use Rattle.csicodec_clean.specs.Cleaned.{longest}
-use Rattle.csicodec_clean.specs.Links.{Address, Begun, IsAdmitted, IsWithin, Spells, Stood, StoodIn, admitted, all_behind, anew, begun, behind}
-use Rattle.csicodec_clean.specs.Links.{behind_at, ends_at, is_linked, is_param, is_visible, link_body, links_in, longest_params, longest_url, opened, start}
+use Rattle.csicodec_clean.specs.Links.{Address, Begun, IsAdmitted, IsWithin, Spells, Stood, StoodIn, admitted, all_behind, begun, behind}
+use Rattle.csicodec_clean.specs.Links.{behind_at, ends_at, is_linked, link_body, links_in, opened, start}
 use Rattle.csicodec_clean.specs.Shown.{shown}
 use Rattle.csicodec_clean.specs.Styled.{kept, Item, Link, shown_items, Leaves, begun_behind, run_behind, items_behind, AreLeft, links_of, ends_of, is_open, styles_of, IsSafe, StylesIn}
 use Rattle.csicodec_clean.specs.Titles.{read_as, title_behind, with_titles}
 use Rattle.csicodec_clean.proofs.Linked.{links_on, passes}
 use Rattle.csicodec_clean.proofs.PlainBytes.{all_both}
 use Rattle.csicodec_clean.proofs.Styled.{links_both, links_chars, links_links, links_styles, part_links, safe_closed}
-
--- either way of a test
-either : {T : Type 0} (P : T → Type 0) (t : Bool) (x y : T) → (t ≡ true → P x) → (t ≡ false → P y) → P (if t then x else y)
-either P t x y f g = cond_both t x y P f g
 
 -- ---- what of a link has been read
 
@@ -50,11 +47,25 @@ address params url = record { params = params; url = url }
 
 -- with the byte that ends it, it is the link
 over_at : (p : LinkState) (params url : List ℕ) (c : ℕ) → ends_at p c ≡ true → Spells (read_of p params url ++ c ∷ []) (address params url)
-over_at place.Url params url c e = inl (ap (λ (x : ℕ). 27 ∷ 93 ∷ (link_body (address params url) ++ x ∷ [])) (eqb-true c 7 e))
-over_at place.Ending params url c e =
-    let body = link_body (address params url) in
-    inr (ap (λ (t : List ℕ). 27 ∷ 93 ∷ t) (append_assoc body (27 ∷ []) (c ∷ [])) ∙ ap (λ (x : ℕ). 27 ∷ 93 ∷ (body ++ 27 ∷ x ∷ [])) (eqb-true c 92 e))
-over_at _ params url c e = absurd cc
+over_at p params url c e = grind (arith, nat_tests, append_assoc {A = ℕ})
+
+-- ---- what a piece makes of what was read
+
+-- behind whole pieces it doesn't end in ESC
+abbrev IsAtRest : LinkState → Type 0
+IsAtRest place.Escape = ⊥
+IsAtRest place.Ending = ⊥
+IsAtRest _ = Unit {0}
+
+-- one byte more, or nothing any more
+abbrev GoesOnBy : List ℕ → List ℕ → Begun → Type 0
+GoesOnBy old bytes after = IsAtRest after.place × ((read after ≡ old ++ bytes) ⊎ (read after ≡ []))
+
+on_at : (p : LinkState) (params url : List ℕ) (c : ℕ) → IsAtRest p → (c == 27) ≡ false → GoesOnBy (read_of p params url) (c ∷ []) (behind_at p params url c)
+on_at p params url c rest e = grind (arith, nat_tests, append_assoc {A = ℕ})
+
+opened_rest : (params url : List ℕ) (c : ℕ) → GoesOnBy [] (27 ∷ c ∷ []) (begun (opened c) params url)
+opened_rest params url c = grind (arith, nat_tests)
 
 -- ---- byte by byte
 
@@ -62,44 +73,26 @@ over_at _ params url c e = absurd cc
 abbrev EndsWith : List ℕ → Begun → Type 0
 EndsWith bytes b = (before : List ℕ) × (bytes ≡ before ++ read b)
 
-begins_anew : (bytes params url : List ℕ) (c : ℕ) → EndsWith (bytes ++ c ∷ []) (begun (anew c) params url)
-begins_anew bytes params url c =
-    either (λ (p : LinkState). EndsWith (bytes ++ c ∷ []) (begun p params url)) (c == 27) place.Escape place.Outside (λ e. (bytes, ap (λ (x : ℕ). bytes ++ x ∷ []) (eqb-true c 27 e)))
-    (λ e. (bytes ++ c ∷ [], sym (append-nil (bytes ++ c ∷ []))))
+-- behind a byte it is all of it, that byte, or nothing
+rest_at : (p : LinkState) (params url : List ℕ) (c : ℕ) → IsAtRest p → (read (behind_at p params url c) ≡ read_of p params url ++ c ∷ [])
+    ⊎ ((read (behind_at p params url c) ≡ c ∷ []) ⊎ (read (behind_at p params url c) ≡ []))
+rest_at p params url c rest = grind (arith, nat_tests, append_assoc {A = ℕ})
 
-opens_one : (bytes params url : List ℕ) (c : ℕ) → EndsWith ((bytes ++ 27 ∷ []) ++ c ∷ []) (begun (opened c) params url)
-opens_one bytes params url c =
-    let all = (bytes ++ 27 ∷ []) ++ c ∷ [] in
-    either (λ (p : LinkState). EndsWith all (begun p params url)) (c == 93) place.Opened place.Outside
-    (λ e. (bytes, append_assoc bytes (27 ∷ []) (c ∷ []) ∙ ap (λ (x : ℕ). bytes ++ 27 ∷ x ∷ []) (eqb-true c 93 e)))
-    (λ e. (all, sym (append-nil all)))
+ends_by : (front : List ℕ) (c : ℕ) (b : Begun) → (read b ≡ front ++ c ∷ []) ⊎ ((read b ≡ c ∷ []) ⊎ (read b ≡ [])) → EndsWith (front ++ c ∷ []) b
+ends_by front c b (inl e) = ([], sym e)
+ends_by front c b (inr (inl e)) = (front, ap (λ (t : List ℕ). front ++ t) (sym e))
+ends_by front c b (inr (inr e)) = (front ++ c ∷ [], sym (append-nil (front ++ c ∷ [])) ∙ ap (λ (t : List ℕ). (front ++ c ∷ []) ++ t) (sym e))
+
+escape_at : (params url : List ℕ) (c : ℕ) → EndsWith (27 ∷ c ∷ []) (begun (opened c) params url)
+escape_at params url c = ends_by (27 ∷ []) c (begun (opened c) params url) (grind (arith, nat_tests))
 
 byte_at : (p : LinkState) (params url : List ℕ) (c : ℕ) → EndsWith (read_of p params url ++ c ∷ []) (behind_at p params url c)
-byte_at place.Outside params url c = begins_anew [] params url c
-byte_at place.Escape params url c = opens_one [] params url c
-byte_at place.Opened params url c =
-    let all = 27 ∷ 93 ∷ c ∷ [] in
-    either (λ (p : LinkState). EndsWith all (begun p params url)) (c == 56) place.Eight (anew c)
-    (λ e. ([], ap (λ (x : ℕ). 27 ∷ 93 ∷ x ∷ []) (eqb-true c 56 e))) (λ e. begins_anew (27 ∷ 93 ∷ []) params url c)
-byte_at place.Eight params url c =
-    let all = 27 ∷ 93 ∷ 56 ∷ c ∷ [] in
-    either (EndsWith all) (c == 59) (begun place.Params [] url) (begun (anew c) params url)
-    (λ e. ([], ap (λ (x : ℕ). 27 ∷ 93 ∷ 56 ∷ x ∷ []) (eqb-true c 59 e))) (λ e. begins_anew (27 ∷ 93 ∷ 56 ∷ []) params url c)
-byte_at place.Params params url c =
-    let front = 27 ∷ 93 ∷ 56 ∷ 59 ∷ params in
-    let more = begun place.Params (params ++ c ∷ []) url in
-    let other = begun (anew c) params url in
-    let test = is_param c && nat_lt (length params) longest_params in
-    either (EndsWith (front ++ c ∷ [])) (c == 59) (begun place.Url params []) (if test then more else other) (λ e. ([], ap (λ (x : ℕ). front ++ x ∷ []) (eqb-true c 59 e)))
-    (λ e. either (EndsWith (front ++ c ∷ [])) test more other (λ f. ([], refl)) (λ f. begins_anew front params url c))
-byte_at place.Url params url c =
+byte_at place.Escape params url c = escape_at params url c
+byte_at place.Ending params url c =
     let front = 27 ∷ 93 ∷ 56 ∷ 59 ∷ (params ++ 59 ∷ url) in
-    let all = front ++ c ∷ [] in
-    either (EndsWith all) (is_visible c && nat_lt (length url) longest_url) (begun place.Url params (url ++ c ∷ [])) (begun (if c == 27 then place.Ending else place.Outside) params url)
-    (λ e. ([], ap (λ (t : List ℕ). 27 ∷ 93 ∷ 56 ∷ 59 ∷ t) (append_assoc params (59 ∷ url) (c ∷ []))))
-    (λ e. either (λ (p : LinkState). EndsWith all (begun p params url)) (c == 27) place.Ending place.Outside
-    (λ f. ([], ap (λ (x : ℕ). front ++ x ∷ []) (eqb-true c 27 f))) (λ f. (all, sym (append-nil all))))
-byte_at place.Ending params url c = opens_one (27 ∷ 93 ∷ 56 ∷ 59 ∷ (params ++ 59 ∷ url)) params url c
+    let (before, e) = escape_at params url c in
+    (front ++ before, append_assoc front (27 ∷ []) (c ∷ []) ∙ ap (λ (t : List ℕ). front ++ t) e ∙ sym (append_assoc front before (read (begun (opened c) params url))))
+byte_at p params url c = ends_by (read_of p params url) c (behind_at p params url c) (rest_at p params url c tt)
 
 byte_more : (bytes : List ℕ) (b : Begun) (c : ℕ) → EndsWith bytes b → EndsWith (bytes ++ c ∷ []) (behind b c)
 byte_more bytes b c (before, e) =
@@ -128,53 +121,13 @@ stood_in (c ∷ bytes) done all b whole h =
 pub in_bytes : (bytes : List ℕ) → AllByRecursion (IsAdmitted (Stood bytes)) (links_in true start bytes)
 in_bytes bytes = stood_in bytes [] bytes start refl ([], refl)
 
--- ---- what a piece makes of what was read
-
--- behind whole pieces it doesn't end in ESC
-abbrev IsAtRest : LinkState → Type 0
-IsAtRest place.Escape = ⊥
-IsAtRest place.Ending = ⊥
-IsAtRest _ = Unit {0}
-
--- one byte more, or nothing any more
-abbrev GoesOnBy : List ℕ → List ℕ → Begun → Type 0
-GoesOnBy old bytes after = IsAtRest after.place × ((read after ≡ old ++ bytes) ⊎ (read after ≡ []))
-
-none_on : (old params url : List ℕ) (c : ℕ) → (c == 27) ≡ false → GoesOnBy old (c ∷ []) (begun (anew c) params url)
-none_on old params url c e = rw e (tt, inr refl)
-
-on_at : (p : LinkState) (params url : List ℕ) (c : ℕ) → IsAtRest p → (c == 27) ≡ false → GoesOnBy (read_of p params url) (c ∷ []) (behind_at p params url c)
-on_at place.Outside params url c rest e = none_on [] params url c e
-on_at place.Opened params url c rest e =
-    either (λ (p : LinkState). GoesOnBy (27 ∷ 93 ∷ []) (c ∷ []) (begun p params url)) (c == 56) place.Eight (anew c)
-    (λ f. (tt, inl (ap (λ (x : ℕ). 27 ∷ 93 ∷ x ∷ []) (sym (eqb-true c 56 f))))) (λ f. none_on (27 ∷ 93 ∷ []) params url c e)
-on_at place.Eight params url c rest e =
-    let old = 27 ∷ 93 ∷ 56 ∷ [] in
-    either (GoesOnBy old (c ∷ [])) (c == 59) (begun place.Params [] url) (begun (anew c) params url)
-    (λ f. (tt, inl (ap (λ (x : ℕ). 27 ∷ 93 ∷ 56 ∷ x ∷ []) (sym (eqb-true c 59 f))))) (λ f. none_on old params url c e)
-on_at place.Params params url c rest e =
-    let old = 27 ∷ 93 ∷ 56 ∷ 59 ∷ params in
-    let more = begun place.Params (params ++ c ∷ []) url in
-    let other = begun (anew c) params url in
-    let test = is_param c && nat_lt (length params) longest_params in
-    either (GoesOnBy old (c ∷ [])) (c == 59) (begun place.Url params []) (if test then more else other) (λ f. (tt, inl (ap (λ (x : ℕ). old ++ x ∷ []) (sym (eqb-true c 59 f)))))
-    (λ f. either (GoesOnBy old (c ∷ [])) test more other (λ g. (tt, inl refl)) (λ g. none_on old params url c e))
-on_at place.Url params url c rest e =
-    let old = 27 ∷ 93 ∷ 56 ∷ 59 ∷ (params ++ 59 ∷ url) in
-    either (GoesOnBy old (c ∷ [])) (is_visible c && nat_lt (length url) longest_url) (begun place.Url params (url ++ c ∷ [])) (begun (if c == 27 then place.Ending else place.Outside) params url)
-    (λ f. (tt, inl (ap (λ (t : List ℕ). 27 ∷ 93 ∷ 56 ∷ 59 ∷ t) (sym (append_assoc params (59 ∷ url) (c ∷ [])))))) (λ f. rw e (tt, inr refl))
-on_at _ params url c rest e = absurd rest
+-- ---- piece by piece
 
 -- ESC and a byte begin anew
 anew_at : (p : LinkState) (params url : List ℕ) (c : ℕ) → IsAtRest p → all_behind true (begun p params url) (27 ∷ c ∷ []) ≡ begun (opened c) params url
 anew_at place.Escape params url c rest = absurd rest
 anew_at place.Ending params url c rest = absurd rest
 anew_at _ params url c rest = refl
-
-opened_rest : (params url : List ℕ) (c : ℕ) → GoesOnBy [] (27 ∷ c ∷ []) (begun (opened c) params url)
-opened_rest params url c =
-    either (λ (p : LinkState). GoesOnBy [] (27 ∷ c ∷ []) (begun p params url)) (c == 93) place.Opened place.Outside
-    (λ e. (tt, inl (ap (λ (x : ℕ). 27 ∷ x ∷ []) (sym (eqb-true c 93 e))))) (λ e. (tt, inr refl))
 
 rest_behind : (m : Mode) (b : Begun) (bytes : List ℕ) → IsPiece m bytes → IsAtRest b.place → IsAtRest (all_behind true b bytes).place
 rest_behind m b bytes (inl (c, e, other, string)) rest =
@@ -191,10 +144,7 @@ if_over P false a f = tt
 over_two : (P : Address → Type 0) (p : LinkState) (params url : List ℕ) (c : ℕ) → IsAtRest p
     → ((c == 92) ≡ true → Spells (read_of p params url ++ 27 ∷ c ∷ []) (address params url) → P (address params url))
     → AllByRecursion (IsAdmitted P) (links_in true (begun p params url) (27 ∷ c ∷ []))
-over_two P place.Escape params url c rest f = absurd rest
-over_two P place.Ending params url c rest f = absurd rest
-over_two P place.Url params url c rest f = if_over P (c == 92) (address params url) (λ e. f e (inr (ap (λ (x : ℕ). 27 ∷ 93 ∷ (link_body (address params url) ++ 27 ∷ x ∷ [])) (eqb-true c 92 e))))
-over_two P _ params url c rest f = tt
+over_two P p params url c rest f = grind (arith, nat_tests)
 
 -- ---- part by part
 
@@ -419,14 +369,11 @@ strings d (p ∷ ps) later b t run items h (own, others, leaves, e, left) =
           ∙ sym (append_assoc first behind more) ∙ ap (λ (x : List Address). x ++ more) (sym (links_on true p.bytes bytes b)),
     )
 
-found_first : (links : List Address) (a : Address) → BeginsBy links (a ∷ []) → Contains links a
-found_first links a (more, e) = subst (λ (x : List Address). Contains x a) (sym e) (0, omega arith, refl)
-
 found_here : (d : Depth) (own later : List Part) (b : Begun) (t : Bool) (run text : List ℕ) (items : List Item) (a : Address) → IsAtRest b.place → IsSpan kind.Str text own → Spells text a → IsWithin a
     → AreLeft (with_links d) b run (with_titles t (own ++ later)) items → Contains (links_of items) (admitted a)
 found_here d own later b t run text items a rest span spells h left =
-    let all = strings d own later b t run items span.all left in
-    found_first (links_of items) (admitted a) (subst (BeginsBy (links_of items)) (ap (links_in true b) span.joined ∙ spelled b a text rest h spells) all)
+    let (more, e) = strings d own later b t run items span.all left in
+    subst (λ (x : List Address). Contains x (admitted a)) (sym (e ∙ ap (λ (x : List Address). x ++ more) (ap (links_in true b) span.joined ∙ spelled b a text rest h spells))) (0, omega arith, refl)
 
 found_later : (k : Kind) (run : List ℕ) (own others items : List Item) (a : Address) → items ≡ items_behind k run ++ (own ++ others) → Contains (links_of others) a → Contains (links_of items) a
 found_later k run own others items a e h =

@@ -3,8 +3,9 @@ use Rattle.std.proofs.Common.{◌≡◌, ℕ, Bool, true, false, List, [], ◌�
 use Rattle.std.specs.Prelude.{filter, not, ◌==◌, if◌then◌else◌}
 use Rattle.std.specs.List.{AllByRecursion}
 use Rattle.std.specs.Str.{all_scalars}
-use Rattle.std.proofs.lemmas.Bool.{and_parts}
+use Rattle.std.proofs.lemmas.Bool.{and_parts, cond_both}
 use Rattle.std.proofs.lemmas.Grind.{flat_map-append}
+use Rattle.std.proofs.lemmas.List.{map-append}
 use lib.Utf8.{scalar}
 use Rattle.bstr.specs.Utf8.{lossy_chars}
 use Rattle.csicodec_base.specs.declared.sgr.Sgr.{Sgr}
@@ -37,16 +38,11 @@ use Rattle.csicodec_clean.proofs.Taken.{StyleAlone, taken_alone}
 
 pub kept_on : (d : Depth) (xs ys : List Action) → kept d (xs ++ ys) ≡ kept d xs ++ kept d ys
 kept_on d [] ys = refl
-kept_on d (action.Sgr s ∷ xs) ys = by (kept_on d xs ys) (hides s)
-  where
-    by : kept d (xs ++ ys) ≡ kept d xs ++ kept d ys → (b : Bool) → (if b then kept d (xs ++ ys) else reduced d s ∷ kept d (xs ++ ys)) ≡ (if b then kept d xs else reduced d s ∷ kept d xs) ++ kept d ys
-    by rest true = rest
-    by rest false = ap (λ t. reduced d s ∷ t) rest
+kept_on d (action.Sgr s ∷ xs) ys = rw (kept_on d xs ys) (grind arith)
 kept_on d (_ ∷ xs) ys = kept_on d xs ys
 
 pub texts_on : (xs ys : List Sgr) → texts (map action.Sgr (xs ++ ys)) ≡ texts (map action.Sgr xs) ++ texts (map action.Sgr ys)
-texts_on [] ys = refl
-texts_on (x ∷ xs) ys = ap (λ t. text (action.Sgr x) ++ t) (texts_on xs ys) ∙ sym (append_assoc (text (action.Sgr x)) (texts (map action.Sgr xs)) (texts (map action.Sgr ys)))
+texts_on xs ys = simp (map-append, flat_map-append)
 
 pub open_on : (b : Bool) (xs ys : List Sgr) → is_open b (xs ++ ys) ≡ is_open (is_open b xs) ys
 open_on b [] ys = refl
@@ -55,8 +51,7 @@ open_on b (x ∷ xs) ys = open_on (not (is_reset x)) xs ys
 -- ---- items
 
 pub texts_both : (xs ys : List Item) → item_texts (xs ++ ys) ≡ item_texts xs ++ item_texts ys
-texts_both [] ys = refl
-texts_both (x ∷ xs) ys = ap (λ t. item_text x ++ t) (texts_both xs ys) ∙ sym (append_assoc (item_text x) (item_texts xs) (item_texts ys))
+texts_both xs ys = flat_map-append item_text xs ys
 
 pub styles_both : (xs ys : List Item) → styles_of (xs ++ ys) ≡ styles_of xs ++ styles_of ys
 styles_both [] ys = refl
@@ -106,36 +101,27 @@ links_links (a ∷ links) = ap (λ (t : List Address). a ∷ t) (links_links lin
 
 -- what a part leaves, and then the others
 pub part_texts : (run : List ℕ) (own others : List Item) → item_texts (shown_items run ++ (own ++ others)) ≡ shown_text run ++ (item_texts own ++ item_texts others)
-part_texts run own others =
-    texts_both (shown_items run) (own ++ others)
-    ∙ ap (λ (t : List ℕ). t ++ item_texts (own ++ others)) (texts_chars (filter shown (lossy_chars run))) ∙ ap (λ (t : List ℕ). shown_text run ++ t) (texts_both own others)
+part_texts run own others = simp (texts_both, texts_chars)
 
 part_styles : (run : List ℕ) (own others : List Item) → styles_of (shown_items run ++ (own ++ others)) ≡ styles_of own ++ styles_of others
-part_styles run own others =
-    styles_both (shown_items run) (own ++ others) ∙ ap (λ (t : List Sgr). t ++ styles_of (own ++ others)) (styles_chars (filter shown (lossy_chars run))) ∙ styles_both own others
+part_styles run own others = simp (styles_both, styles_chars)
 
 pub part_links : (run : List ℕ) (own others : List Item) → links_of (shown_items run ++ (own ++ others)) ≡ links_of own ++ links_of others
-part_links run own others =
-    links_both (shown_items run) (own ++ others) ∙ ap (λ (t : List Address). t ++ links_of (own ++ others)) (links_chars (filter shown (lossy_chars run))) ∙ links_both own others
+part_links run own others = simp (links_both, links_chars)
 
 -- what ends a link and a style
 abbrev pub end_text : Bool → Bool → List ℕ
 end_text linked styled = (if linked then link_text no_address else []) ++ (if styled then text (action.Sgr sgr.Reset) else [])
 
 end_texts : (linked styled : Bool) → end_text linked styled ≡ item_texts (ends_of linked styled)
-end_texts true true = ap (λ (t : List ℕ). link_text no_address ++ t) (sym (append-nil (text (action.Sgr sgr.Reset))))
-end_texts true false = refl
-end_texts false true = sym (append-nil (text (action.Sgr sgr.Reset)))
-end_texts false false = refl
+end_texts linked styled = grind (arith, append-nil {A = ℕ})
 
 -- behind bytes of a control string
 abbrev pub behind_string : Keeping → List ℕ → Keeping
 behind_string k bytes = keeping k.passing k.styled (is_linked k.linked (links_in k.passing.links k.begun bytes)) (all_behind k.passing.links k.begun bytes)
 
 behind_one : (k : Keeping) (c : ℕ) (bytes : List ℕ) → behind_string (behind_byte k c) bytes ≡ behind_string k (c ∷ bytes)
-behind_one k c bytes =
-    let l = k.passing.links in
-    ap (λ (x : Bool). keeping k.passing k.styled x (all_behind l (next l k.begun c) bytes)) (sym (linked_on k.linked (links_at l k.begun c) (links_in l (next l k.begun c) bytes)))
+behind_one k c bytes = rw linked_on refl
 
 links_texts_on : (k : Keeping) (c : ℕ) (bytes : List ℕ)
     → link_texts (links_in k.passing.links k.begun (c ∷ bytes)) ≡ link_texts (links_at k.passing.links k.begun c) ++ link_texts (links_in k.passing.links (next k.passing.links k.begun c) bytes)
@@ -176,9 +162,8 @@ module _ {S : Type 0} (of : S → Keeping) where
       let r = given_string bytes mid after others rest in
       let k = of s in
       record {
-        told = e ∙ ap (λ (t : List ℕ). t ++ others) here.0 ∙ ap (λ (t : List ℕ). link_texts (links_at k.passing.links k.begun c) ++ t)
-            (r.told ∙ ap (λ (x : Keeping). link_texts (links_in x.passing.links x.begun bytes)) here.1) ∙ sym (links_texts_on k c bytes);
-        state = r.state ∙ ap (λ (x : Keeping). behind_string x bytes) here.1 ∙ behind_one k c bytes;
+        told = rw (e, here.0, r.told, here.1) (sym (links_texts_on k c bytes));
+        state = rw (r.state, here.1) (behind_one k c bytes);
       }
 
   pub record Left (parts : List Part) (s : S) (run text : List ℕ) (after : S) (last : List ℕ) : Type 0 where
@@ -200,27 +185,17 @@ module _ {S : Type 0} (of : S → Keeping) where
   ends p parts s mid after run first others text last own leaves before behind e state all r = record {
     items = shown_items run ++ (own ++ r.items);
     left = (own, r.items, leaves, ap (λ t. t ++ (own ++ r.items)) (sym before), rw behind (subst (λ (x : Keeping). AreLeft x.passing x.begun [] parts r.items) state r.left));
-    all = ap (λ t. t ++ shown_text last) (all ∙ ap (λ t. t ++ others) e) ∙ append_assoc (shown_text run ++ item_texts own) others (shown_text last)
-        ∙ ap (λ t. (shown_text run ++ item_texts own) ++ t) r.all ∙ append_assoc (shown_text run) (item_texts own) (item_texts r.items) ∙ sym (part_texts run own r.items);
-    styled =
-        r.styled ∙ ap (λ (x : Keeping). is_open x.styled (styles_of r.items)) state ∙ sym (open_on (of s).styled (styles_of own) (styles_of r.items))
-        ∙ ap (is_open (of s).styled) (sym (part_styles run own r.items));
-    linked =
-        r.linked ∙ ap (λ (x : Keeping). is_linked x.linked (links_of r.items)) state
-        ∙ sym (linked_on (of s).linked (links_of own) (links_of r.items)) ∙ ap (is_linked (of s).linked) (sym (part_links run own r.items));
+    all = rw (all, e, part_texts run own r.items, ← r.all) (simp append_assoc);
+    styled = rw (r.styled, state, part_styles run own r.items, open_on) refl;
+    linked = rw (r.linked, state, part_links run own r.items, linked_on) refl;
   }
 
   -- the state behind styles, behind links, and behind neither
   state_styles : (s mid : S) (bytes : List ℕ) (ss : List Sgr) → of mid ≡ behind_styles (of s) ss → of mid ≡ behind_part s kind.Csi bytes (map Style ss)
-  state_styles s mid bytes ss e = e ∙ ap (λ (x : List Sgr). keeping (of s).passing (is_open (of s).styled x) (of s).linked (of s).begun) (sym (styles_styles ss))
-      ∙ ap (λ (x : List Address). keeping (of s).passing (is_open (of s).styled (styles_of (map Style ss))) (is_linked (of s).linked x) (of s).begun) (sym (links_styles ss))
+  state_styles s mid bytes ss e = rw (e, styles_styles, links_styles) refl
 
   state_links : (s mid : S) (bytes : List ℕ) → of mid ≡ behind_string (of s) bytes → of mid ≡ behind_part s kind.Str bytes (map Link (links_in (of s).passing.links (of s).begun bytes))
-  state_links s mid bytes e =
-      let links = links_in (of s).passing.links (of s).begun bytes in
-      let here = all_behind (of s).passing.links (of s).begun bytes in
-      e ∙ ap (λ (x : List Address). keeping (of s).passing (of s).styled (is_linked (of s).linked x) here) (sym (links_links links))
-      ∙ ap (λ (x : List Sgr). keeping (of s).passing (is_open (of s).styled x) (is_linked (of s).linked (links_of (map Link links))) here) (sym (styles_links links))
+  state_links s mid bytes e = rw (e, links_links, styles_links) refl
 
   goes : (p : Part) (parts : List Part) (k : Kind) (s mid after : S) (run first next others text last : List ℕ) → p.kind ≡ k → IsStep (keeps of) k s run p.bytes first mid next → text ≡ first ++ others
       → Left parts mid next others after last → Left (p ∷ parts) s run text after last
@@ -228,7 +203,7 @@ module _ {S : Type 0} (of : S → Keeping) where
       rw (← same) record {
         items = r.items;
         left = ([], r.items, rw is refl, rw is refl, rw (is, ← on) r.left);
-        all = ap (λ t. t ++ shown_text last) (all ∙ ap (λ t. t ++ others) none) ∙ r.all;
+        all = rw (all, none) r.all;
         styled = r.styled;
         linked = r.linked;
       }
@@ -269,10 +244,7 @@ module _ {S : Type 0} (of : S → Keeping) where
         whole = c.whole;
         items = l.items;
         left = subst (λ (x : Keeping). AreLeft x.passing x.begun [] (with_titles false c.parts) l.items) begins l.left;
-        all = e.all ∙ ap (λ t. e.before ++ t) (e.closes ∙ ap (λ b. end_text b (of e.after).styled) linked ∙ ap (end_text (is_linked false (links_of l.items))) styled)
-            ∙ ap (λ t. t ++ end_text (is_linked false (links_of l.items)) (is_open false (styles_of l.items))) (c.all ∙ l.all)
-            ∙ ap (λ t. item_texts l.items ++ t) (end_texts (is_linked false (links_of l.items)) (is_open false (styles_of l.items)))
-            ∙ sym (texts_both l.items (ends_of (is_linked false (links_of l.items)) (is_open false (styles_of l.items))));
+        all = rw (e.all, e.closes, linked, styled, c.all, l.all, end_texts) (sym (texts_both l.items (ends_of (is_linked false (links_of l.items)) (is_open false (styles_of l.items)))));
       }
 
 -- ---- safe
@@ -286,11 +258,9 @@ safe_run d run = let k = kept_shown (lossy_chars run) (scalars_lossy run) in saf
 
 safe_kept : (d : Passing) (actions : List Action) → AllByRecursion StyleAlone actions → AllByRecursion (IsSafe d) (map Style (kept d.depth actions))
 safe_kept d [] all = tt
-safe_kept d (action.Sgr s ∷ xs) all = by (safe_kept d xs all.1) (hides s) refl
-  where
-    by : AllByRecursion (IsSafe d) (map Style (kept d.depth xs)) → (b : Bool) → hides s ≡ b → AllByRecursion (IsSafe d) (map Style (if b then kept d.depth xs else reduced d.depth s ∷ kept d.depth xs))
-    by rest true e = rest
-    by rest false e = ((reduced_hides d.depth s ∙ e, reduced_alone d.depth s all.0, reduced_twice d.depth s), rest)
+safe_kept d (action.Sgr s ∷ xs) all =
+    cond_both (hides s) (kept d.depth xs) (reduced d.depth s ∷ kept d.depth xs) (λ t. AllByRecursion (IsSafe d) (map Style t)) (λ _. safe_kept d xs all.1)
+    (λ e. ((reduced_hides d.depth s ∙ e, reduced_alone d.depth s all.0, reduced_twice d.depth s), safe_kept d xs all.1))
 safe_kept d (x ∷ xs) all = safe_kept d xs all.1
 
 safe_links : (d : Passing) (bytes : List ℕ) (b : Begun) → IsWithin b.address → AllByRecursion (IsSafe d) (map Link (links_in d.links b bytes))
@@ -340,22 +310,16 @@ linked_passes d (_ ∷ items) linked f h e = linked_passes d items linked f h.1 
 
 -- nothing is open behind what ends it
 styles_shut : (items : List Item) (linked styled : Bool) → is_open false (styles_of items) ≡ styled → is_open false (styles_of (items ++ ends_of linked styled)) ≡ false
-styles_shut items true true e = ap (is_open false) (styles_both items (ends_of true true)) ∙ open_on false (styles_of items) (sgr.Reset ∷ [])
-styles_shut items false true e = ap (is_open false) (styles_both items (ends_of false true)) ∙ open_on false (styles_of items) (sgr.Reset ∷ [])
-styles_shut items true false e = ap (is_open false) (styles_both items (ends_of true false) ∙ append-nil (styles_of items)) ∙ e
-styles_shut items false false e = ap (is_open false) (styles_both items (ends_of false false) ∙ append-nil (styles_of items)) ∙ e
+styles_shut items linked styled e = grind (arith, styles_both, open_on)
 
 links_shut : (items : List Item) (linked styled : Bool) → is_linked false (links_of items) ≡ linked → is_linked false (links_of (items ++ ends_of linked styled)) ≡ false
-links_shut items true true e = ap (is_linked false) (links_both items (ends_of true true)) ∙ linked_on false (links_of items) (no_address ∷ [])
-links_shut items true false e = ap (is_linked false) (links_both items (ends_of true false)) ∙ linked_on false (links_of items) (no_address ∷ [])
-links_shut items false true e = ap (is_linked false) (links_both items (ends_of false true) ∙ append-nil (links_of items)) ∙ e
-links_shut items false false e = ap (is_linked false) (links_both items (ends_of false false) ∙ append-nil (links_of items)) ∙ e
+links_shut items linked styled e = grind (arith, links_both, linked_on)
 
 safe_ends : (d : Passing) (linked styled : Bool) → (linked ≡ true → d.links ≡ true) → AllByRecursion (IsSafe d) (ends_of linked styled)
-safe_ends d true true f = ((f refl, none_fine), ((refl, reset_alone, refl), tt))
-safe_ends d true false f = ((f refl, none_fine), tt)
-safe_ends d false true f = ((refl, reset_alone, refl), tt)
-safe_ends d false false f = tt
+safe_ends d linked styled f =
+    let reset : IsSafe d (Style sgr.Reset) = (refl, reset_alone, refl) in
+    let none = none_fine in
+    grind arith
 
 pub safe_closed : (d : Passing) (bytes text : List ℕ) (s : StylesIn d bytes text) → AllByRecursion (IsSafe d) (closed s.items)
 safe_closed d bytes text s =
@@ -380,12 +344,10 @@ styled d bytes text s =
 
 pub more_text : (d : Depth) (xs : List Action) (x : Action) (old out new : List ℕ) → out ≡ old ++ texts (map action.Sgr (kept d xs))
     → new ≡ out ++ texts (map action.Sgr (kept d (x ∷ []))) → new ≡ old ++ texts (map action.Sgr (kept d (xs ++ x ∷ [])))
-more_text d xs x old out new e f =
-    f ∙ ap (λ t. t ++ texts (map action.Sgr (kept d (x ∷ [])))) e ∙ append_assoc old (texts (map action.Sgr (kept d xs))) (texts (map action.Sgr (kept d (x ∷ []))))
-    ∙ ap (λ t. old ++ t) (sym (texts_on (kept d xs) (kept d (x ∷ []))) ∙ ap (λ (ss : List Sgr). texts (map action.Sgr ss)) (sym (kept_on d xs (x ∷ []))))
+more_text d xs x old out new e f = rw (f, e, kept_on, texts_on) (simp append_assoc)
 
 pub more_styles : (d : Depth) (xs : List Action) (x : Action) (b flag new : Bool) → flag ≡ is_open b (kept d xs) → new ≡ is_open flag (kept d (x ∷ [])) → new ≡ is_open b (kept d (xs ++ x ∷ []))
-more_styles d xs x b flag new e f = f ∙ ap (λ c. is_open c (kept d (x ∷ []))) e ∙ sym (open_on b (kept d xs) (kept d (x ∷ []))) ∙ ap (is_open b) (sym (kept_on d xs (x ∷ [])))
+more_styles d xs x b flag new e f = rw (f, e, kept_on, open_on) refl
 
 -- a colour that becomes another is no reset
 pub reset_reduced : (d : Depth) (s : Sgr) → is_reset (reduced d s) ≡ is_reset s

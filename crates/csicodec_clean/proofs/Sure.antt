@@ -1,8 +1,8 @@
 -- A piece stays, whatever follows, once it is a character or bytes stand behind it.
-use Rattle.std.proofs.Common.{◌≡◌, ◌≢◌, ℕ, ◌<◌, ◌≤◌, List, [], ◌∷◌, ◌++◌, None, Some, drop, length, length-append, slice_index, refl, sym, ap, subst, ◌∙◌, arith, append_assoc, append-nil, ⊎_elim}
+use Rattle.std.proofs.Common.{◌≡◌, ◌≢◌, ℕ, ◌<◌, ◌≤◌, List, [], ◌∷◌, ◌++◌, Option, None, Some, drop, length, length-append, slice_index, refl, sym, ap, subst, ◌∙◌, arith, append_assoc, append-nil, ⊎_elim}
 use Rattle.std.proofs.lemmas.Bool.{cases_lt}
 use Rattle.std.proofs.lemmas.List.{get_or_append_left, drop-append-le, drop_all}
-use Rattle.bstr.specs.Utf8.{Decoded, good, decoded, decoded_by, continues, second, code_of_2, code_of_3, code_of_4, or_replacement, replacement, lossy_chars}
+use Rattle.bstr.specs.Utf8.{Decoded, decoded, decoded_by, or_replacement, replacement, lossy_chars}
 use Rattle.bstr.proofs.lemmas.PieceLemmas.{by-shape, piece-bounds, lossy_chars-step, lossy_chars-nil, value-1, value-2, value-3, value-5, value-6, value-8, value-9, value-11, value-12}
 use Rattle.csicodec_clean.specs.Shown.{IsCut, IsRead}
 
@@ -16,33 +16,18 @@ longer_by n m b c d e c' d' e' le sure some second_c third_d fourth_e = by-shape
     (λ h. let size = ap (λ p. p.size) h.4 in
     let more = sure (ap (λ p. p.char) h.4) in
     absurd (omega arith))
-    (λ h. let size = ap (λ p. p.size) h.4 in
-    let c_is = second_c (omega arith) in
-    value-5 m b c' d' e' (omega arith, h.1, h.2, ap (second b) c_is ∙ h.3) ∙ sym h.4)
-    (λ h. let c_is = second_c (omega arith) in
-    value-6 m b c' d' e' (omega arith, h.1, h.2, ap (second b) c_is ∙ h.3) ∙ ap (λ x. good (code_of_2 b x) 2) c_is ∙ sym h.4)
+    (λ h. rw (second_c (omega arith)) (value-5 m b c d' e' (omega arith, h.1, h.2, h.3) ∙ sym h.4))
+    (λ h. rw (second_c (omega arith)) (value-6 m b c d' e' (omega arith, h.1, h.2, h.3) ∙ sym h.4))
     (λ h. let size = ap (λ p. p.size) h.5 in
     let more = sure (ap (λ p. p.char) h.5) in
     absurd (omega arith))
-    (λ h. let c_is = second_c (omega arith) in
-    let d_is = third_d (omega arith) in
-    value-8 m b c' d' e' (omega arith, h.1, h.2, ap (second b) c_is ∙ h.3, ap continues d_is ∙ h.4) ∙ sym h.5)
-    (λ h. let c_is = second_c (omega arith) in
-    let d_is = third_d (omega arith) in
-    value-9 m b c' d' e' (omega arith, h.1, h.2, ap (second b) c_is ∙ h.3, ap continues d_is ∙ h.4)
-    ∙ ap (λ x. good (code_of_3 b x d') 3) c_is ∙ ap (λ x. good (code_of_3 b c x) 3) d_is ∙ sym h.5)
+    (λ h. rw (second_c (omega arith), third_d (omega arith)) (value-8 m b c d e' (omega arith, h.1, h.2, h.3, h.4) ∙ sym h.5))
+    (λ h. rw (second_c (omega arith), third_d (omega arith)) (value-9 m b c d e' (omega arith, h.1, h.2, h.3, h.4) ∙ sym h.5))
     (λ h. let size = ap (λ p. p.size) h.6 in
     let more = sure (ap (λ p. p.char) h.6) in
     absurd (omega arith))
-    (λ h. let c_is = second_c (omega arith) in
-    let d_is = third_d (omega arith) in
-    let e_is = fourth_e (omega arith) in
-    value-11 m b c' d' e' (omega arith, h.1, h.2, ap (second b) c_is ∙ h.3, ap continues d_is ∙ h.4, ap continues e_is ∙ h.5) ∙ sym h.6)
-    (λ h. let c_is = second_c (omega arith) in
-    let d_is = third_d (omega arith) in
-    let e_is = fourth_e (omega arith) in
-    value-12 m b c' d' e' (omega arith, h.1, h.2, ap (second b) c_is ∙ h.3, ap continues d_is ∙ h.4, ap continues e_is ∙ h.5)
-    ∙ ap (λ x. good (code_of_4 b x d' e') 4) c_is ∙ ap (λ x. good (code_of_4 b c x e') 4) d_is ∙ ap (λ x. good (code_of_4 b c d x) 4) e_is ∙ sym h.6)
+    (λ h. rw (second_c (omega arith), third_d (omega arith), fourth_e (omega arith)) (value-11 m b c d e (omega arith, h.1, h.2, h.3, h.4, h.5) ∙ sym h.6))
+    (λ h. rw (second_c (omega arith), third_d (omega arith), fourth_e (omega arith)) (value-12 m b c d e (omega arith, h.1, h.2, h.3, h.4, h.5) ∙ sym h.6))
 
 -- what decodes to a character, or to a piece with bytes behind it, decodes so whatever follows
 pub sure_piece : (bs more : List ℕ) → 0 < length bs → ((decoded bs).char ≡ None → (decoded bs).size < length bs) → decoded (bs ++ more) ≡ decoded bs
@@ -113,23 +98,16 @@ cut_short bs cut = ⊎_elim
     (λ (low : length bs ≤ 3). low)
     (cases_lt 3 (length bs))
 
--- a character in front
-pub read_char : (bs : List ℕ) (c size : ℕ) → 0 < length bs → Some c ≡ (decoded bs).char → size ≡ (decoded bs).size → IsRead bs (c ∷ []) (drop size bs) × (0 < size) × (size ≤ length bs)
-read_char bs c size some char same =
-    let bounds = piece-bounds bs some in
-    let read = read_piece bs some (λ none. absurd (let e = char ∙ none in cc)) in (
-      subst (λ n. IsRead bs (c ∷ []) (drop n bs)) (sym same) (subst (λ o. IsRead bs (or_replacement o ∷ []) (drop (decoded bs).size bs)) (sym char) read),
-      omega (arith, bounds.0),
-      omega (arith, bounds.2),
-    )
+-- the piece in front, of so many bytes
+read_front : (bs : List ℕ) (o : Option ℕ) (size : ℕ) → 0 < length bs → o ≡ (decoded bs).char → size ≡ (decoded bs).size
+    → ((decoded bs).char ≡ None → (decoded bs).size < length bs) → IsRead bs (or_replacement o ∷ []) (drop size bs) × (0 < size) × (size ≤ length bs)
+read_front bs o size some char same sure = let bounds = piece-bounds bs some in rw (char, same) (read_piece bs some sure, bounds.0, bounds.2)
 
--- a piece in front that is none, with bytes behind it
+-- a character
+pub read_char : (bs : List ℕ) (c size : ℕ) → 0 < length bs → Some c ≡ (decoded bs).char → size ≡ (decoded bs).size → IsRead bs (c ∷ []) (drop size bs) × (0 < size) × (size ≤ length bs)
+read_char bs c size some char same = read_front bs (Some c) size some char same (λ none. absurd (let e = char ∙ none in cc))
+
+-- and one that is none, with bytes behind it
 pub read_bad : (bs : List ℕ) (size : ℕ) → 0 < length bs → None ≡ (decoded bs).char → size ≡ (decoded bs).size → size ≢ length bs
     → IsRead bs (replacement ∷ []) (drop size bs) × (0 < size) × (size ≤ length bs)
-read_bad bs size some char same other =
-    let bounds = piece-bounds bs some in
-    let read = read_piece bs some (λ none. omega (arith, bounds.2, same, other)) in (
-      subst (λ n. IsRead bs (replacement ∷ []) (drop n bs)) (sym same) (subst (λ o. IsRead bs (or_replacement o ∷ []) (drop (decoded bs).size bs)) (sym char) read),
-      omega (arith, bounds.0),
-      omega (arith, bounds.2),
-    )
+read_bad bs size some char same other = read_front bs None size some char same (λ none. omega (arith, (piece-bounds bs some).2, same, other))

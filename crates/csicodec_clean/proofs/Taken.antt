@@ -1,7 +1,8 @@
 -- What holds of each action that terminals take a control sequence for: it is in range, and a style is read alone from its text.
 use Rattle.std.specs.Prelude.{MatchBool, ℤ, pos, negsuc, ◌==◌, ◌&&◌, ◌^◌, ◌≤ℤ◌, nat_lt, slice_index_or, if◌then◌else◌}
-use Rattle.std.proofs.Common.{◌≡◌, ℕ, zero, suc, ◌||◌, Bool, true, false, List, [], ◌∷◌, length, take, Option, None, Some, refl, subst, ◌∙◌, inl, inr, arith}
+use Rattle.std.proofs.Common.{◌≡◌, ℕ, zero, suc, ◌||◌, Bool, true, false, List, [], ◌∷◌, length, Option, None, Some, refl, subst, ◌∙◌, inl, inr, arith}
 use Rattle.std.proofs.lemmas.Int.{ints}
+use Rattle.std.proofs.lemmas.Bool.{cond_both}
 use Rattle.std.specs.List.{AllByRecursion}
 use Rattle.csicodec_tokens.specs.declared.param.CsiParam.{CsiParam}
 use Rattle.csicodec_tokens.specs.declared.param.CsiParam.TheVariants.{Integer, P}
@@ -16,11 +17,11 @@ use Rattle.csicodec_parser.specs.Canonical.{IsCanonicalSgr}
 use Rattle.csicodec_parser.specs.declared.group.Group.{Group}
 use Rattle.csicodec_parser.specs.declared.group.Group.TheVariants.{DecModes, Modes, Styles, Whole}
 use Rattle.csicodec_parser.specs.Cut.{semicolon}
-use Rattle.csicodec_parser.specs.Groups.{Piece, group, marked}
+use Rattle.csicodec_parser.specs.Groups.{Piece, group}
 use Rattle.csicodec_parser.specs.Segments.{Actions}
 use Rattle.csicodec_streams.proofs.OneReading.{one_sequence}
 use Rattle.csicodec_terminal.specs.Regular.{by_fields, first, has_one, has_two, regular, said}
-use Rattle.csicodec_terminal.specs.Terminal.{Anew, IsTakenFor, Step, Steps, behind, has_unknown, is_open}
+use Rattle.csicodec_terminal.specs.Terminal.{Anew, IsTakenFor, Steps, behind, has_unknown, is_open}
 use Rattle.csicodec.specs.Exact.{ReadsAlone}
 use Rattle.csicodec.proofs.Alone.{canonical-alone}
 use Rattle.csicodec.proofs.Kept.{Kept}
@@ -49,15 +50,11 @@ with_one : (x : Option ℤ) (o : Option (List (Option ℤ))) → IsField x → A
 with_one x None is are = tt
 with_one x (Some fields) is are = (is, are)
 
-where_split : (here : Bool) (o : Option (List (Option ℤ))) → AreFields o → AreFields (if here then o else None)
-where_split true o are = are
-where_split false o are = tt
-
 fields_are : (list : List CsiParam) → Spellable list → AreFields (fields_of list)
 fields_are [] ok = tt
-fields_are (P b ∷ list) ok = where_split (b == 59) _ (with_one None (fields_of list) tt (fields_are list ok.2))
+fields_are (P b ∷ list) ok = cond_both (b == 59) _ None AreFields (λ _. with_one None (fields_of list) tt (fields_are list ok.2)) (λ _. tt)
 fields_are (Integer z ∷ []) ok = (ok.0.0, tt)
-fields_are (Integer z ∷ P b ∷ list) ok = where_split (b == 59) _ (with_one (Some z) (fields_of list) ok.0.0 (fields_are list ok.2.2))
+fields_are (Integer z ∷ P b ∷ list) ok = cond_both (b == 59) _ None AreFields (λ _. with_one (Some z) (fields_of list) ok.0.0 (fields_are list ok.2.2)) (λ _. tt)
 fields_are (Integer z ∷ Integer y ∷ list) ok = absurd ok.1
 
 clamped : (small : Bool) (n : ℕ) → nat_lt n (2 ^ 32) ≡ small → IsSpellable (Integer (pos (if small then n else most)))
@@ -101,100 +98,74 @@ either_spellable false two list ok = ok
 regular_spellable : (list : List CsiParam) (final : ℕ) → Spellable list → Spellable (regular list final)
 regular_spellable list final ok = either_spellable (has_two final || has_one final) (has_two final) list ok
 
--- ---- a property of each action
-
--- it holds of those of the table, of each piece of a list, and of what is unknown
-pub record Holds (Each : Action → Type 0) : Type 0 where
-  pub table : (list : List CsiParam) (final : ℕ) (actions : List Action) → Spellable list → IsFinal final → Actions list false final actions → AllByRecursion Each actions
-  pub piece : (g : Group) (rest : List CsiParam) (k : ℕ) (a : Action) → Piece g rest k a → Each a
-  pub unknown : (list : List CsiParam) (final : ℕ) → Each (Unspecified list false final)
-
-steps_all : (Each : Action → Type 0) (h : Holds Each) (g : Group) (final : ℕ) (rest : List CsiParam) (actions : List Action) → Steps g false final rest actions → AllByRecursion Each actions
-steps_all Each h g final rest [] s = tt
-steps_all Each h g final rest (a ∷ actions) (k, inl p, more) = (h.piece g rest k a p, steps_all Each h g final (behind k rest) actions more)
-steps_all Each h g final rest (a ∷ actions) (k, inr u, more) = (rw u.3 (h.unknown (marked g (take k rest)) final), steps_all Each h g final (behind k rest) actions more)
-
-cut_all : (Each : Action → Type 0) (h : Holds Each) (foreign : Bool) (g : Group) (list rest : List CsiParam) (final : ℕ) (actions : List Action)
-    → MatchBool foreign (actions ≡ Unspecified list false final ∷ []) (Steps g false final rest actions) → AllByRecursion Each actions
-cut_all Each h true g list rest final actions e = rw e (h.unknown list final, tt)
-cut_all Each h false g list rest final actions s = steps_all Each h g final rest actions s
-
-known_all : (Each : Action → Type 0) (h : Holds Each) (unknown : Bool) (list : List CsiParam) (final : ℕ) (actions : List Action) → AllByRecursion Each actions
-    → AllByRecursion Each (if unknown then Unspecified list false final ∷ [] else actions)
-known_all Each h true list final actions all = (h.unknown list final, tt)
-known_all Each h false list final actions all = all
-
-anew_all : (Each : Action → Type 0) (h : Holds Each) (g : Group) (list : List CsiParam) (final : ℕ) (actions : List Action) → Spellable list
-    → IsFinal final → Anew g list false final actions → AllByRecursion Each actions
-anew_all Each h Whole list final actions ok ends (second, are, e) =
-    rw e (known_all Each h (has_unknown second) list final second (h.table (regular list final) final second (regular_spellable list final ok) ends are))
-anew_all Each h Styles list final actions ok ends s = cut_all Each h _ Styles list _ final actions s
-anew_all Each h (Modes m) list final actions ok ends s = cut_all Each h _ (Modes m) list _ final actions s
-anew_all Each h (DecModes c) list final actions ok ends s = cut_all Each h _ (DecModes c) list _ final actions s
-
-either_all : (Each : Action → Type 0) (h : Holds Each) (less : Bool) (g : Group) (list : List CsiParam) (final : ℕ) (known actions : List Action)
-    → Spellable list → IsFinal final → AllByRecursion Each known
-    → MatchBool less (Anew g list false final actions) (actions ≡ known) → AllByRecursion Each actions
-either_all Each h true g list final known actions ok ends all s = anew_all Each h g list final actions ok ends s
-either_all Each h false g list final known actions ok ends all s = rw s all
-
-taken_all : (Each : Action → Type 0) → Holds Each → (bytes : List ℕ) (actions : List Action) → IsTakenFor bytes actions → AllByRecursion Each actions
-taken_all Each h bytes actions (list, final, is, (known, are, s)) =
-    either_all Each h (has_unknown known || is_open (group list final) list) (group list final) list final known actions is.spellable is.ends (h.table list final known is.spellable is.ends are) s
-
-kept_all : (Each : Action → Type 0) → ((a : Action) → Kept false a → Each a) → (actions : List Action) → AllByRecursion (Kept false) actions → AllByRecursion Each actions
-kept_all Each f [] kept = tt
-kept_all Each f (a ∷ actions) kept = (f a kept.0, kept_all Each f actions kept.1)
-
--- ---- in range
-
-piece_range : (g : Group) (rest : List CsiParam) (k : ℕ) (a : Action) → Piece g rest k a → InRange a
-piece_range Whole rest k a p = absurd p
-piece_range Styles rest k a p = rw p.2 (sgr-kept rest k p.0 p.1).range
-piece_range (Modes s) rest k a p = rw p.5 tt
-piece_range (DecModes c) rest k a p = rw p.5 tt
-
-in_range : Holds InRange
-in_range = record {
-  table = λ list final actions ok ends are. kept_all InRange (λ a kept. kept.range) actions (parsed-kept list false final actions ok ends are);
-  piece = piece_range;
-  unknown = λ list final. tt;
-}
-
-pub taken_range : (bytes : List ℕ) (actions : List Action) → IsTakenFor bytes actions → AllByRecursion InRange actions
-taken_range bytes actions taken = taken_all InRange in_range bytes actions taken
-
--- ---- styles
+-- ---- each action is in range, and a style is read alone
 
 abbrev pub StyleAlone : Action → Type 0
 StyleAlone (Sgr s) = ReadsAlone (Sgr s) false
 StyleAlone a = Unit {0}
 
+abbrev IsSound : Action → Type 0
+IsSound a = InRange a × StyleAlone a
+
+weaker : (Each Other : Action → Type 0) → ((a : Action) → Each a → Other a) → (actions : List Action) → AllByRecursion Each actions → AllByRecursion Other actions
+weaker Each Other f [] h = tt
+weaker Each Other f (a ∷ actions) h = (f a h.0, weaker Each Other f actions h.1)
+
 style_alone : (s : sgr_type.Sgr) → SgrInRange s → IsCanonicalSgr s → ReadsAlone (Sgr s) false
 style_alone s range canonical = alone-only false (Sgr s) (canonical-alone (Sgr s) false range canonical)
 
-kept_style : (a : Action) → Kept false a → StyleAlone a
-kept_style (Sgr s) kept = elim kept.canonical [
-  | inl special ↦ absurd (sgr-plain s (parsed-special (Sgr s) special))
-  | inr canonical ↦ style_alone s kept.range canonical
-]
-kept_style a kept = tt
+kept_sound : (a : Action) → Kept false a → IsSound a
+kept_sound (Sgr s) kept = (
+  kept.range,
+  elim kept.canonical [
+    | inl special ↦ absurd (sgr-plain s (parsed-special (Sgr s) special))
+    | inr canonical ↦ style_alone s kept.range canonical
+  ],
+)
+kept_sound a kept = (kept.range, tt)
 
-piece_style : (g : Group) (rest : List CsiParam) (k : ℕ) (a : Action) → Piece g rest k a → StyleAlone a
-piece_style Whole rest k a p = absurd p
-piece_style Styles rest k a p = let kept = sgr-kept rest k p.0 p.1 in rw p.2 (style_alone p.0 kept.range kept.canonical)
-piece_style (Modes s) rest k a p = rw p.5 tt
-piece_style (DecModes c) rest k a p = rw p.5 tt
+table_sound : (list : List CsiParam) (final : ℕ) (actions : List Action) → Spellable list → IsFinal final → Actions list false final actions → AllByRecursion IsSound actions
+table_sound list final actions ok ends are = weaker (Kept false) IsSound kept_sound actions (parsed-kept list false final actions ok ends are)
 
-alone : Holds StyleAlone
-alone = record {
-  table = λ list final actions ok ends are. kept_all StyleAlone kept_style actions (parsed-kept list false final actions ok ends are);
-  piece = piece_style;
-  unknown = λ list final. tt;
-}
+piece_sound : (g : Group) (rest : List CsiParam) (k : ℕ) (a : Action) → Piece g rest k a → IsSound a
+piece_sound Whole rest k a p = absurd p
+piece_sound Styles rest k a p = let kept = sgr-kept rest k p.0 p.1 in rw p.2 (kept.range, style_alone p.0 kept.range kept.canonical)
+piece_sound (Modes s) rest k a p = rw p.5 (tt, tt)
+piece_sound (DecModes c) rest k a p = rw p.5 (tt, tt)
+
+steps_sound : (g : Group) (final : ℕ) (rest : List CsiParam) (actions : List Action) → Steps g false final rest actions → AllByRecursion IsSound actions
+steps_sound g final rest [] s = tt
+steps_sound g final rest (a ∷ actions) (k, inl p, more) = (piece_sound g rest k a p, steps_sound g final (behind k rest) actions more)
+steps_sound g final rest (a ∷ actions) (k, inr u, more) = (rw u.3 (tt, tt), steps_sound g final (behind k rest) actions more)
+
+cut_sound : (foreign : Bool) (g : Group) (list rest : List CsiParam) (final : ℕ) (actions : List Action)
+    → MatchBool foreign (actions ≡ Unspecified list false final ∷ []) (Steps g false final rest actions) → AllByRecursion IsSound actions
+cut_sound true g list rest final actions e = rw e ((tt, tt), tt)
+cut_sound false g list rest final actions s = steps_sound g final rest actions s
+
+anew_sound : (g : Group) (list : List CsiParam) (final : ℕ) (actions : List Action) → Spellable list → IsFinal final → Anew g list false final actions → AllByRecursion IsSound actions
+anew_sound Whole list final actions ok ends (second, are, e) = rw e
+    (cond_both (has_unknown second) (Unspecified list false final ∷ []) second (AllByRecursion IsSound) (λ _. ((tt, tt), tt))
+    (λ _. table_sound (regular list final) final second (regular_spellable list final ok) ends are))
+anew_sound Styles list final actions ok ends s = cut_sound _ Styles list _ final actions s
+anew_sound (Modes m) list final actions ok ends s = cut_sound _ (Modes m) list _ final actions s
+anew_sound (DecModes c) list final actions ok ends s = cut_sound _ (DecModes c) list _ final actions s
+
+either_sound : (less : Bool) (g : Group) (list : List CsiParam) (final : ℕ) (known actions : List Action) → Spellable list → IsFinal final
+    → AllByRecursion IsSound known → MatchBool less (Anew g list false final actions) (actions ≡ known) → AllByRecursion IsSound actions
+either_sound true g list final known actions ok ends all s = anew_sound g list final actions ok ends s
+either_sound false g list final known actions ok ends all s = rw s all
+
+taken_sound : (bytes : List ℕ) (actions : List Action) → IsTakenFor bytes actions → AllByRecursion IsSound actions
+taken_sound bytes actions (list, final, is, (known, are, s)) =
+    either_sound (has_unknown known || is_open (group list final) list) (group list final) list final known actions is.spellable is.ends
+    (table_sound list final known is.spellable is.ends are) s
+
+pub taken_range : (bytes : List ℕ) (actions : List Action) → IsTakenFor bytes actions → AllByRecursion InRange actions
+taken_range bytes actions taken = weaker IsSound InRange (λ a h. h.0) actions (taken_sound bytes actions taken)
 
 pub taken_alone : (bytes : List ℕ) (actions : List Action) → IsTakenFor bytes actions → AllByRecursion StyleAlone actions
-taken_alone bytes actions taken = taken_all StyleAlone alone bytes actions taken
+taken_alone bytes actions taken = weaker IsSound StyleAlone (λ a h. h.1) actions (taken_sound bytes actions taken)
 
 -- the text of a style that is shown is taken for it
 pub style_taken : (s : sgr_type.Sgr) (actions : List Action) → ReadsAlone (Sgr s) false → hides s ≡ false → IsTakenFor (text (Sgr s)) actions → actions ≡ Sgr s ∷ []

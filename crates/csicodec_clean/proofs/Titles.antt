@@ -118,9 +118,7 @@ opened_on t kind.Esc bytes ps f (inl (is, texts)) =
     let two = two_bytes bytes is in
     let same : bytes ≡ 27 ∷ 107 ∷ [] = two.1 ∙ ap (λ (x : ℕ). x ∷ 107 ∷ []) (f two.0 (ap (part kind.Esc) two.1)) in
     inr ([], ps, ap (λ (x : List ℕ). part kind.Esc x ∷ ps) same, texts)
-opened_on t kind.Csi bytes ps f (inl (is, texts)) = absurd cc
-opened_on t kind.Str bytes ps f (inl (is, texts)) = absurd cc
-opened_on t kind.Other bytes ps f (inl (is, texts)) = absurd cc
+opened_on t _ bytes ps f (inl (is, texts)) = absurd cc
 
 opened : (t : Bool) (ps more : List Part) → AllByRecursion EscIsFirst (ps ++ more) → title_open t ps ≡ true → Opened t ps
 opened t [] more h e = inl (e, tt)
@@ -142,9 +140,7 @@ dropped before behind p h text = at_place false before behind p ∙ ap (λ (k : 
 
 -- a part that is no text of a title is read as what it is
 as_is : (k : Kind) (t : Bool) → (k ≡ kind.Text → t ≡ true → ⊥) → read_as k t ≡ k
-as_is kind.Text true f = absurd (f refl refl)
-as_is kind.Text false f = refl
-as_is _ t f = refl
+as_is k t f = grind arith
 
 shut_before : (ps : List Part) → Opened false ps → InTitle ps
 shut_before ps (inl (is, texts)) = absurd cc

@@ -1,17 +1,18 @@
 -- Text that is told by its bytes.
-use Rattle.std.proofs.Common.{◌≡◌, ◌+◌, ◌-◌, ◌<◌, ◌≤◌, ℕ, Bool, true, false, cond, List, [], ◌∷◌, ◌++◌, length, length-append, drop, take}
+use Rattle.std.proofs.Common.{◌≡◌, ◌-◌, ◌<◌, ◌≤◌, ℕ, Bool, true, false, cond, List, [], ◌∷◌, ◌++◌, length, length-append, drop, take}
 use Rattle.std.proofs.Common.{slice_index, encode_utf8_all, refl, sym, ap, ◌∙◌, arith, lt-ltb, append_assoc, append-nil, take-append-drop, zero, suc}
 use Rattle.std.specs.List.{AllByRecursion, prefix_len}
 use Rattle.std.specs.Str.{all_scalars}
 use Rattle.std.specs.Char.{encode_utf8}
 use Rattle.std.proofs.lemmas.Bool.{and_from, and_parts}
 use Rattle.std.proofs.lemmas.Bool.Decides.{nat_tests}
+use Rattle.std.proofs.lemmas.Grind.{common_steps}
 use lib.Utf8.{scalar, low_scalar}
 use Rattle.bstr.specs.Utf8.{Decoded, decoded, good, or_replacement, lossy_chars, continues, second, code_of_2, code_of_3, code_of_4}
 use Rattle.bstr.proofs.lemmas.EncodeLemmas.{decoded-encode}
 use Rattle.bstr.proofs.lemmas.PieceLemmas.{lossy_chars-step, value-1, value-6, value-9, value-12}
 use Rattle.std.proofs.Math.Seq.{take-append_seam, drop-append_seam}
-use Rattle.csicodec_clean.specs.Shown.{shown, shown_chars, IsBehind, IsPlain, IsRead, IsShown, IsTextOf}
+use Rattle.csicodec_clean.specs.Shown.{shown, shown_chars, IsBehind, IsPlain, IsRead, IsTextOf}
 use Rattle.csicodec_clean.specs.Bytes.{IsPlainByte, behind, plain_byte}
 use Rattle.csicodec_clean.specs.Private.Steps.{IsOther, IsTold, Tells, dropped_byte, IsWide}
 use Rattle.csicodec_clean.proofs.Bytes.{front_in}
@@ -130,9 +131,7 @@ tells_on bytes mid rest old one new (xs, cs, e, (h, r), o) (ys, ds, f, (k, t), n
 
 -- the plain bytes in front are what is before the others
 pub front_taken : (bytes front rest : List ℕ) → bytes ≡ front ++ rest → take (length bytes - length rest) bytes ≡ front
-front_taken bytes front rest e =
-    let n : length bytes - length rest ≡ length front = omega (arith, ap length e, length-append front rest) in
-    ap (λ (i : ℕ). take i bytes) n ∙ ap (λ (t : List ℕ). take (length front) t) e ∙ take-append_seam front rest
+front_taken bytes front rest e = grind (arith, common_steps)
 
 pub tells_shown : (bytes rest old new : List ℕ) → IsBehind shown bytes rest → new ≡ old ++ take (length bytes - length rest) bytes → Tells bytes rest old new
 tells_shown bytes rest old new (text, e, p) n =

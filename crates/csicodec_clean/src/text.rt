@@ -83,6 +83,7 @@ pub(crate) fn append_front<const N: usize>(
 }
 
 /// Appends the bytes in front that are shown as they are, and answers the others.
+#[tactic(auto, using(crate::proofs::Told::tells_shown))]
 #[inline(always)]
 fn append_plain<'a>(bytes: &'a [u8], out: &mut Vec<u8>) -> Result<&'a [u8], AllocError>
     ensures { IfOk result (λ rest. Tells bytes.now rest.now out.old.items out.new.items) }

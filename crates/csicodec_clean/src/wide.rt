@@ -33,6 +33,7 @@ fn is_second_of_four(first: u8, byte: u8) -> bool
 }
 
 /// How many bytes the character has that begins with these; 0 where none from U+00A0 on does.
+#[tactic(auto, using(crate::proofs::Told::two, crate::proofs::Told::three, crate::proofs::Told::four))]
 #[inline(always)]
 fn char_len(first: u8, second: u8, third: u8, fourth: u8) -> usize
     ensures { 0 < result → IsWide first second third fourth result }

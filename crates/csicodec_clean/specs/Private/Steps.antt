@@ -4,7 +4,7 @@ use Rattle.std.specs.List.{AllByRecursion}
 use Rattle.bstr.specs.Utf8.{decoded_by, good}
 use Rattle.csicodec_spans.specs.declared.table.Kind.{Kind}
 use Rattle.csicodec_spans.specs.declared.table.Kind.TheVariants as kind
-use Rattle.csicodec_clean.specs.Shown.{IsPlain, IsRead, shown_chars, shown_text}
+use Rattle.csicodec_clean.specs.Shown.{IsRead, shown_chars, shown_text}
 use Rattle.csicodec_spans.specs.declared.table.Mode.{Mode}
 use Rattle.csicodec_clean.specs.Cleaned.{RuleOf, AreGiven}
 use Rattle.csicodec_clean.specs.Stream.{Goes}

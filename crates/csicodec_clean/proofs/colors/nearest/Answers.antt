@@ -1,6 +1,6 @@
-use Rattle.std.proofs.Common.{◌≡◌, ◌+◌, ◌-◌, ◌∙◌, ap, suc, sym, arith}
+use Rattle.std.proofs.Common.{◌≡◌, ◌+◌, ◌-◌, ◌∙◌, ap, suc, sym, refl, inl, inr, arith}
 use Rattle.csicodec_clean.specs.Palette.{distance}
-use Rattle.csicodec_clean.proofs.Reduced.{further_step, nearer_step, none_more}
+use Rattle.csicodec_clean.proofs.Reduced.{none_more, step_on}
 use Rattle.csicodec_clean.proofs.colors.nearest.Goals as goal
 
 pub loop-place-preserved-then-here-least : goal.loop-place-preserved-then-here-least
@@ -11,9 +11,7 @@ loop-place-preserved-then-here-least c =
     record {
       within = omega (arith, c.loop-place-test.true);
       least = here;
-      same =
-          nearer_step c.args.color l.best (l.place + 1) (l.place + 1 + 1) (c.args.last - l.place) (c.args.last - (l.place + 1)) l.least
-          c.distance-here.result l.invariant.least here c.if-here-least.true left (omega arith) ∙ l.invariant.same;
+      same = step_on c.args.color l.best (l.place + 1) _ _ _ l.least c.distance-here.result _ l.invariant.least here (inl (c.if-here-least.true, refl)) left (omega arith) ∙ l.invariant.same;
     }
 
 pub loop-place-preserved : goal.loop-place-preserved
@@ -24,9 +22,7 @@ loop-place-preserved c =
     record {
       within = omega (arith, c.loop-place-test.true);
       least = l.invariant.least;
-      same =
-          further_step c.args.color l.best (l.place + 1) (l.place + 1 + 1) (c.args.last - l.place) (c.args.last - (l.place + 1)) l.least
-          c.distance-here.result l.invariant.least here c.if-here-least.false left (omega arith) ∙ l.invariant.same;
+      same = step_on c.args.color l.best (l.place + 1) _ _ _ l.least c.distance-here.result _ l.invariant.least here (inr (c.if-here-least.false, refl)) left (omega arith) ∙ l.invariant.same;
     }
 
 pub returns : goal.returns

@@ -1,6 +1,4 @@
-use Rattle.std.proofs.Common.{◌≡◌, ◌+◌, ◌-◌, ◌∷◌, ◌++◌, ◌≤◌, ◌∙◌, ℕ, List, [], true, length, take, refl, ap, sym, subst, arith}
-use Rattle.csicodec_tokens.specs.Sequence.{Seq}
-use Rattle.csicodec_base.specs.SgrText.{sgr_text}
+use Rattle.std.proofs.Common.{◌+◌, ◌-◌, ◌++◌, ◌∙◌, true, length, take, refl, ap, sym, subst}
 use Rattle.csicodec_clean.specs.declared.colors.Depth.{Depth}
 use Rattle.csicodec_clean.specs.Private.Notes.{IsLeft}
 use Rattle.csicodec_clean.proofs.Glances.{front_read}

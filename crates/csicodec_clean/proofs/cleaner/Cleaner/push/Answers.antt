@@ -1,4 +1,4 @@
-use Rattle.std.proofs.Common.{◌≡◌, [], ◌++◌, ◌-◌, ◌∙◌, sym, drop, length, append-nil, ⊎_elim, arith}
+use Rattle.std.proofs.Common.{◌≡◌, [], ◌-◌, ◌∙◌, sym, drop, length, append-nil, ⊎_elim, arith}
 use Rattle.std.proofs.lemmas.Grind.{common_steps}
 use Rattle.csicodec_spans.proofs.Kept.{unsure_short}
 use Rattle.csicodec_spans.proofs.Spanned.{rest_is}

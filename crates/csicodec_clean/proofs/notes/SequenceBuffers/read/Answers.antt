@@ -1,4 +1,4 @@
-use Rattle.std.proofs.Common.{[], length, ap, refl, ◌-◌}
+use Rattle.std.proofs.Common.{length, ap, refl, ◌-◌}
 use Rattle.csicodec_clean.proofs.Coded.{color_closed}
 use Rattle.csicodec_clean.proofs.Glances.{front_read}
 use Rattle.csicodec_clean.proofs.Noted.{closed_taken}

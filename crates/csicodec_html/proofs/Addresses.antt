@@ -1,10 +1,12 @@
 -- No byte of an address ends the attribute that it stands in.
-use Rattle.std.proofs.Common.{◌≡◌, ◌<◌, ℕ, Bool, true, false, List, [], ◌∷◌, ◌++◌, refl, arith, lt-ltb}
+use Rattle.std.proofs.Common.{◌≡◌, ◌≢◌, ◌<◌, ℕ, true, List, [], ◌∷◌, refl, arith, lt-ltb}
 use Rattle.std.specs.Prelude.{codes, ◌==◌, if◌then◌else◌}
 use Rattle.std.specs.Char.{encode_utf8}
 use Rattle.std.specs.List.{AllByRecursion, flat_map}
+use Rattle.std.proofs.lemmas.Bool.{cond_both, eq-eqb, ne_eqb}
 use Rattle.std.proofs.lemmas.Bool.Decides.{nat_tests}
 use Rattle.csicodec_clean.specs.Links.{is_visible}
+use Rattle.csicodec_clean.proofs.PlainBytes.{all_both}
 use Rattle.csicodec_html.specs.Page.{IsQuoted, escaped}
 
 abbrev pub IsVisible : ℕ → Type 0
@@ -20,31 +22,29 @@ below c h = grind (arith, nat_tests, h)
 abbrev Quoted : List ℕ → Type 0
 Quoted bytes = AllByRecursion IsQuoted bytes
 
-both : (xs ys : List ℕ) → Quoted xs → Quoted ys → Quoted (xs ++ ys)
-both [] ys h k = k
-both (x ∷ xs) ys h k = (h.0, both xs ys h.1 k)
+unless : (P : List ℕ → Type 0) (a b : ℕ) (xs ys : List ℕ) → P xs → (a ≢ b → P ys) → P (if a == b then xs else ys)
+unless P a b xs ys f g = cond_both (a == b) xs ys P (λ _. f) (λ e. g (λ same. absurd (cc (e, eq-eqb a b same))))
 
-either : (t : Bool) (xs ys : List ℕ) → (t ≡ true → Quoted xs) → (t ≡ false → Quoted ys) → Quoted (if t then xs else ys)
-either true xs ys f g = f refl
-either false xs ys f g = g refl
-
-itself : (c : ℕ) → IsVisible c → (c == 34) ≡ false → (c == 39) ≡ false → (c == 60) ≡ false → (c == 62) ≡ false → Quoted (encode_utf8 c)
-itself c h quote apostrophe less greater = rw (ascii c (below c h)) (rw (h, quote, apostrophe, less, greater) refl, tt)
+-- an escaped character is one of five references, or none of the five
+pub escaped_by : (P : List ℕ → Type 0) (c : ℕ) → P (codes "&amp;") → P (codes "&lt;") → P (codes "&gt;") → P (codes "&quot;") → P (codes "&#39;")
+    → (c ≢ 34 → c ≢ 38 → c ≢ 39 → c ≢ 60 → c ≢ 62 → P (encode_utf8 c)) → P (escaped c)
+escaped_by P c and less greater quote apostrophe itself =
+    let last = if c == 39 then codes "&#39;" else encode_utf8 c in
+    let four = if c == 34 then codes "&quot;" else last in
+    let three = if c == 62 then codes "&gt;" else four in
+    unless P c 38 (codes "&amp;") (if c == 60 then codes "&lt;" else three) and
+    (λ a. unless P c 60 (codes "&lt;") three less
+    (λ l. unless P c 62 (codes "&gt;") four greater
+    (λ g. unless P c 34 (codes "&quot;") last quote
+    (λ q. unless P c 39 (codes "&#39;") (encode_utf8 c) apostrophe
+    (λ s. itself q a s l g)))))
 
 one : (c : ℕ) → IsVisible c → Quoted (escaped c)
 one c h =
-    let last = encode_utf8 c in
-    let apostrophe = if c == 39 then codes "&#39;" else last in
-    let quote = if c == 34 then codes "&quot;" else apostrophe in
-    let greater = if c == 62 then codes "&gt;" else quote in
-    let less = if c == 60 then codes "&lt;" else greater in
-    either (c == 38) (codes "&amp;") less (λ e. (refl, (refl, (refl, (refl, (refl, tt))))))
-    (λ _. either (c == 60) (codes "&lt;") greater (λ e. (refl, (refl, (refl, (refl, tt)))))
-    (λ f. either (c == 62) (codes "&gt;") quote (λ e. (refl, (refl, (refl, (refl, tt)))))
-    (λ g. either (c == 34) (codes "&quot;") apostrophe (λ e. (refl, (refl, (refl, (refl, (refl, (refl, tt)))))))
-    (λ i. either (c == 39) (codes "&#39;") last (λ e. (refl, (refl, (refl, (refl, (refl, tt))))))
-    (λ j. itself c h i j f g)))))
+    escaped_by Quoted c (refl, (refl, (refl, (refl, (refl, tt))))) (refl, (refl, (refl, (refl, tt)))) (refl, (refl, (refl, (refl, tt))))
+    (refl, (refl, (refl, (refl, (refl, (refl, tt)))))) (refl, (refl, (refl, (refl, (refl, tt)))))
+    (λ q a s l g. rw (ascii c (below c h)) (rw (h, ne_eqb c 34 q, ne_eqb c 39 s, ne_eqb c 60 l, ne_eqb c 62 g) refl, tt))
 
 pub all_quoted : (url : List ℕ) → AllByRecursion IsVisible url → Quoted (flat_map escaped url)
 all_quoted [] h = tt
-all_quoted (c ∷ url) h = both (escaped c) (flat_map escaped url) (one c h.0) (all_quoted url h.1)
+all_quoted (c ∷ url) h = all_both IsQuoted (escaped c) (flat_map escaped url) (one c h.0) (all_quoted url h.1)

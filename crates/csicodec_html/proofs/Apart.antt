@@ -1,7 +1,8 @@
 -- Each class has a name of its own: the class is known by it.
-use Rattle.std.proofs.Common.{◌≡◌, ◌<◌, ◌≤◌, ℕ, zero, suc, List, [], ◌∷◌, length, drop, get_or, cond, ◌==◌, refl, sym, ap, ◌∙◌, arith}
+use Rattle.std.proofs.Common.{◌≡◌, ◌<◌, ℕ, List, [], ◌∷◌, drop, get_or, cond, ◌==◌, refl, sym, ap, ◌∙◌, arith}
 use Rattle.std.specs.Fmt.{decimal}
 use Rattle.std.specs.Str.Parse.{digits_value}
+use Rattle.std.proofs.lemmas.List.{get_or_past}
 use Rattle.std.proofs.lemmas.Fmt.{decimal_is_IsNumeral, length-decimal-le}
 use Rattle.csicodec_html.specs.declared.classes.Class.{Class}
 use Rattle.csicodec_html.specs.declared.classes.Class.TheVariants as kind
@@ -38,13 +39,8 @@ known name = kind.Bold
 value : (i : ℕ) → i < 256 → digits_value 10 (decimal i) ≡ i
 value i h = (decimal_is_IsNumeral i (omega (arith, h))).1
 
-past : (xs : List ℕ) (n : ℕ) → length xs ≤ n → get_or xs n 0 ≡ 0
-past [] n h = refl
-past (x ∷ xs) zero h = absurd (omega (arith, h))
-past (x ∷ xs) (suc n) h = past xs n (omega (arith, h))
-
 short : (i : ℕ) → i < 256 → get_or (decimal i) 3 0 ≡ 0
-short i h = past (decimal i) 3 (length-decimal-le 3 i (omega arith) (omega (arith, h)) (omega (arith, h)))
+short i h = get_or_past (decimal i) 3 0 (length-decimal-le 3 i (omega arith) (omega (arith, h)) (omega (arith, h)))
 
 of_place : (p : Layer) (i : ℕ) → i < 256 → known (class_name (kind.Color p i)) ≡ kind.Color p i
 of_place part.Text i h = rw (short i h, value i h) refl

@@ -1,14 +1,14 @@
 -- Links, one after the other, and where text leads behind them.
-use Rattle.std.proofs.Common.{◌≡◌, ℕ, Bool, true, false, List, [], ◌∷◌, ◌++◌, refl, sym, ap, subst, ◌∙◌, append_assoc, append-nil}
+use Rattle.std.proofs.Common.{◌≡◌, ℕ, Bool, true, false, List, [], ◌∷◌, ◌++◌, refl, sym, ap, subst, ◌∙◌, append_assoc, append-nil, arith}
 use Rattle.std.specs.Prelude.{if◌then◌else◌}
 use Rattle.std.proofs.lemmas.Grind.{flat_map-append}
 use Rattle.csicodec_clean.specs.Cleaned.{AreGiven}
 use Rattle.csicodec_clean.specs.Addresses.{led}
-use Rattle.csicodec_clean.specs.Links.{Address, Begun, admitted, all_behind, ends_at, links_at, links_in, next}
+use Rattle.csicodec_clean.specs.Links.{Address, Begun, all_behind, ends_at, links_at, links_in, next}
 use Rattle.csicodec_clean.proofs.Linked.{links_more}
 use Rattle.csicodec_html.specs.declared.look.Look.{Look}
 use Rattle.csicodec_html.specs.declared.markup.Markup.{Markup}
-use Rattle.csicodec_html.specs.Page.{Setting, behind_string, led_by, setting, switch, switches}
+use Rattle.csicodec_html.specs.Page.{Piece, Setting, behind_string, led_by, setting, switch, switches}
 use Rattle.csicodec_html.specs.Private.Marked.{all_marked, behind_byte, marked, turns}
 
 switches_on : (m : Markup) (l : Look) (to : List ℕ) (xs ys : List Address) → switches m l to (xs ++ ys) ≡ switches m l to xs ++ switches m l (led_by to xs) ys
@@ -29,34 +29,21 @@ marked_on m l to xs ys = ap all_marked (switches_on m l to xs ys) ∙ flat_map-a
 -- the link that is over with it
 pub over_text : (m : Markup) (l : Look) (to : List ℕ) (b : Begun) (c : ℕ)
     → all_marked (if ends_at b.place c then switch m l to (led b.address.url) else []) ≡ all_marked (switches m l to (links_at true b c))
-over_text m l to b c = by (ends_at b.place c)
-  where
-    by : (t : Bool) → all_marked (if t then switch m l to (led b.address.url) else []) ≡ all_marked (switches m l to (if t then admitted b.address ∷ [] else []))
-    by true = ap all_marked (sym (append-nil (switch m l to (led b.address.url))))
-    by false = refl
+over_text m l to b c = grind (arith, append-nil {A = Piece})
 
 pub over_to : (to : List ℕ) (b : Begun) (c : ℕ) → (if ends_at b.place c then led b.address.url else to) ≡ led_by to (links_at true b c)
-over_to to b c = by (ends_at b.place c)
-  where
-    by : (t : Bool) → (if t then led b.address.url else to) ≡ led_by to (if t then admitted b.address ∷ [] else [])
-    by true = refl
-    by false = refl
+over_to to b c = grind arith
 
 -- a byte more
 pub text_more : (m : Markup) (l : Look) (b old : Begun) (xs first to mid out text : List ℕ) (c : ℕ) → old ≡ all_behind true b xs
     → mid ≡ led_by to (links_in true b xs) → out ≡ first ++ all_marked (switches m l to (links_in true b xs))
     → text ≡ out ++ all_marked (switches m l mid (links_at true old c)) → text ≡ first ++ all_marked (switches m l to (links_in true b (xs ++ c ∷ [])))
 text_more m l b old xs first to mid out text c here led was now =
-    let links = links_in true b xs in
-    let more = links_at true old c in
-    now ∙ ap (λ t. t ++ all_marked (switches m l mid more)) was ∙ append_assoc first (all_marked (switches m l to links)) (all_marked (switches m l mid more))
-    ∙ ap (λ (t : List ℕ). first ++ (all_marked (switches m l to links) ++ all_marked (switches m l t more))) led ∙ ap (λ t. first ++ t) (sym (marked_on m l to links more))
-    ∙ ap (λ (t : List Address). first ++ all_marked (switches m l to t)) (sym (links_more b old xs c here))
+    rw (now, was, led, links_more b old xs c here, marked_on m l to (links_in true b xs) (links_at true old c)) (simp append_assoc)
 
 pub to_more : (b old : Begun) (xs to mid after : List ℕ) (c : ℕ) → old ≡ all_behind true b xs → mid ≡ led_by to (links_in true b xs)
     → after ≡ led_by mid (links_at true old c) → after ≡ led_by to (links_in true b (xs ++ c ∷ []))
-to_more b old xs to mid after c here was now =
-    now ∙ ap (λ (t : List ℕ). led_by t (links_at true old c)) was ∙ sym (led_on to (links_in true b xs) (links_at true old c)) ∙ ap (led_by to) (sym (links_more b old xs c here))
+to_more b old xs to mid after c here was now = rw (now, was, links_more b old xs c here, led_on to (links_in true b xs) (links_at true old c)) refl
 
 -- ---- a control string
 

@@ -1,10 +1,9 @@
 -- Pieces as the first step marks them are, byte by byte, what stands on the page.
-use Rattle.std.proofs.Common.{◌≡◌, ◌≤◌, ◌<◌, ◌+◌, ◌/◌, ℕ, Bool, true, false, List, [], ◌∷◌, ◌++◌, refl, sym, ap, ◌∙◌, ⊎_elim, append_assoc, append-nil, arith, lt-ltb, le-ltb}
+use Rattle.std.proofs.Common.{◌≡◌, ◌≤◌, ◌<◌, ℕ, Bool, true, false, List, [], ◌∷◌, ◌++◌, refl, sym, ap, ◌∙◌, ⊎_elim, append_assoc, append-nil, arith}
 use Rattle.std.specs.Prelude.{codes, encode_utf8_all, ◌==◌, if◌then◌else◌, Option, Some, None}
 use Rattle.std.specs.Char.{encode_utf8}
-use lib.Utf8.{next}
 use Rattle.std.specs.List.{AllByRecursion, flat_map}
-use Rattle.std.proofs.lemmas.Bool.{cases_lt, false≢true}
+use Rattle.std.proofs.lemmas.Bool.{cases_Bool, cases_lt, ne_eqb}
 use Rattle.std.proofs.lemmas.Bool.Decides.{nat_tests}
 use Rattle.std.proofs.lemmas.Grind.{flat_map-append}
 use Rattle.csicodec_clean.specs.Shown.{IsShown, shown}
@@ -16,29 +15,13 @@ use Rattle.csicodec_html.specs.Classes.{ahead, behind_slot, class_name, classes_
 use Rattle.csicodec_html.specs.Look.{css, settled}
 use Rattle.csicodec_html.specs.Page.{IsHarmless, is_harmless, IsSafe, Piece, Char, Begin, End, Open, Shut, escaped, piece_text, piece_texts}
 use Rattle.csicodec_html.specs.Private.Marked.{all_marked, classed_mark, marked, page_byte, page_bytes, styled_mark}
-use Rattle.csicodec_html.proofs.Declarations.{Fine, apart, css_fine, fine}
+use Rattle.csicodec_html.proofs.Declarations.{Fine, css_fine, fine}
 use Rattle.csicodec_html.proofs.Named.{name_fine, true_fine}
 use Rattle.csicodec_html.proofs.Addresses.{IsVisible, ascii, below}
-
--- a byte or character that passes a test isn't one that doesn't
-differs : (test : ℕ → Bool) (b k : ℕ) → test b ≡ true → test k ≡ false → (b == k) ≡ false
-differs test b k h f = apart b k (λ e. false≢true (sym f ∙ (ap test (sym e) ∙ h)))
+use Rattle.csicodec_html.proofs.Stood.{differs, one}
 
 one_fine : (b : ℕ) → IsHarmless b → page_byte b ≡ b ∷ []
-one_fine b h =
-    rw (
-      differs is_harmless b 38 h refl,
-      differs is_harmless b 60 h refl,
-      differs is_harmless b 62 h refl,
-      differs is_harmless b 34 h refl,
-      differs is_harmless b 39 h refl,
-      differs is_harmless b 1 h refl,
-      differs is_harmless b 2 h refl,
-      differs is_harmless b 3 h refl,
-      differs is_harmless b 4 h refl,
-      differs is_harmless b 5 h refl,
-      differs is_harmless b 6 h refl,
-    ) refl
+one_fine b h = one b (grind (arith, nat_tests))
 
 all_fine : (bytes : List ℕ) → Fine bytes → page_bytes bytes ≡ bytes
 all_fine [] h = refl
@@ -50,14 +33,7 @@ above b h = fine b (omega (arith, h)) (λ e. absurd (omega (arith, h, e))) (λ e
 -- the bytes of a character that isn't of ASCII
 high : (c : ℕ) → 128 ≤ c → Fine (encode_utf8 c)
 unfolding encode_utf8
-high c a = ⊎_elim
-    (λ (b : c < 2048). rw (le-ltb c 128 a, lt-ltb c 2048 b) (above (192 + c / 64) (omega arith), (above (next c) (omega arith), tt)))
-    (λ (b : 2048 ≤ c). ⊎_elim
-    (λ (d : c < 65536). rw (le-ltb c 128 a, le-ltb c 2048 b, lt-ltb c 65536 d) (above (224 + c / 4096) (omega arith), (above (next (c / 64)) (omega arith), (above (next c) (omega arith), tt))))
-    (λ (d : 65536 ≤ c). rw (le-ltb c 128 a, le-ltb c 2048 b, le-ltb c 65536 d)
-    (above (240 + c / 262144) (omega arith), (above (next (c / 4096)) (omega arith), (above (next (c / 64)) (omega arith), (above (next c) (omega arith), tt)))))
-    (cases_lt c 65536))
-    (cases_lt c 2048)
+high c a = grind (arith, nat_tests)
 
 char : (c : ℕ) → IsShown c → page_bytes (encode_utf8 c) ≡ escaped c
 char c h = ⊎_elim
@@ -67,15 +43,14 @@ char c h = ⊎_elim
     (cases_lt c 128)
   where
     far : 128 ≤ c → (k : ℕ) → k < 128 → (c == k) ≡ false
-    far a k b = apart c k (λ e. absurd (omega (arith, a, b, e)))
+    far a k b = ne_eqb c k (λ e. absurd (omega (arith, a, b, e)))
 
 pub chars : (cs : List ℕ) → AllByRecursion IsShown cs → page_bytes (encode_utf8_all cs) ≡ flat_map escaped cs
 chars [] h = refl
-chars (c ∷ cs) h =
-    flat_map-append page_byte (encode_utf8 c) (encode_utf8_all cs) ∙ ap (λ (t : List ℕ). t ++ page_bytes (encode_utf8_all cs)) (char c h.0) ∙ ap (λ (t : List ℕ). escaped c ++ t) (chars cs h.1)
+chars (c ∷ cs) h = rw (flat_map-append page_byte (encode_utf8 c) (encode_utf8_all cs), char c h.0, chars cs h.1) refl
 
 quoted : (style : List ℕ) → Fine style → page_bytes (style_attribute 3 style) ≡ style_attribute 34 style
-quoted style h = ap (λ (t : List ℕ). codes " style=" ++ (34 ∷ t)) (flat_map-append page_byte style (3 ∷ []) ∙ ap (λ (t : List ℕ). t ++ 34 ∷ []) (all_fine style h))
+quoted style h = rw (flat_map-append page_byte style (3 ∷ []), all_fine style h) refl
 
 of_ahead : (came : Bool) → page_bytes (ahead 3 came) ≡ ahead 34 came
 of_ahead true = refl
@@ -83,24 +58,18 @@ of_ahead false = refl
 
 of_slot : (came : Bool) (slot : Option Class) → page_bytes (slot_text 3 came slot) ≡ slot_text 34 came slot
 of_slot came None = refl
-of_slot came (Some c) =
-    flat_map-append page_byte (ahead 3 came) (class_name c) ∙ ap (λ (t : List ℕ). t ++ page_bytes (class_name c)) (of_ahead came)
-    ∙ ap (λ (t : List ℕ). ahead 34 came ++ t) (all_fine (class_name c) (name_fine c))
+of_slot came (Some c) = rw (flat_map-append page_byte (ahead 3 came) (class_name c), of_ahead came, all_fine (class_name c) (name_fine c)) refl
 
 of_names : (came : Bool) (slots : List (Option Class)) → page_bytes (names 3 came slots) ≡ names 34 came slots
 of_names true [] = refl
 of_names false [] = refl
 of_names came (slot ∷ slots) =
     let next = behind_slot came slot in
-    flat_map-append page_byte (slot_text 3 came slot) (names 3 next slots) ∙ ap (λ (t : List ℕ). t ++ page_bytes (names 3 next slots)) (of_slot came slot)
-    ∙ ap (λ (t : List ℕ). slot_text 34 came slot ++ t) (of_names next slots)
+    rw (flat_map-append page_byte (slot_text 3 came slot) (names 3 next slots), of_slot came slot, of_names next slots) refl
 
 of_rest : (l : Look) → page_bytes (rest_attribute 3 l) ≡ rest_attribute 34 l
-of_rest l = by (has_true l)
-  where
-    by : (b : Bool) → page_bytes (if b then style_attribute 3 (true_colors l) else []) ≡ (if b then style_attribute 34 (true_colors l) else [])
-    by true = quoted (true_colors l) (true_fine l)
-    by false = refl
+of_rest l = ⊎_elim
+    (λ (e : has_true l ≡ true). rw e (quoted (true_colors l) (true_fine l))) (λ (e : has_true l ≡ false). rw e refl) (cases_Bool (has_true l))
 
 of_classes : (l : Look) → page_bytes (classed_mark l) ≡ codes "<span" ++ ((names 34 false (classes_of l) ++ rest_attribute 34 l) ++ 62 ∷ [])
 of_classes l =
@@ -113,9 +82,7 @@ of_classes l =
 
 of_style : (p : Palette) (l : Look) → page_bytes (styled_mark p l) ≡ codes "<span" ++ (style_attribute 34 (css p l) ++ 62 ∷ [])
 of_style p l =
-    let style = css p l in
-    ap (λ (t : List ℕ). codes "<span style=\"" ++ t)
-    (flat_map-append page_byte style (6 ∷ []) ∙ ap (λ (t : List ℕ). t ++ codes "\">") (all_fine style (css_fine p l)) ∙ sym (append_assoc style (34 ∷ []) (62 ∷ [])))
+    rw (flat_map-append page_byte (css p l) (6 ∷ []), all_fine (css p l) (css_fine p l)) (ap (λ (t : List ℕ). codes "<span style=\"" ++ t) (sym (append_assoc (css p l) (34 ∷ []) (62 ∷ []))))
 
 begin : (m : Markup) (l : Look) → page_bytes (marked (Begin m l)) ≡ piece_text (Begin m l)
 begin m l = by m.classes
@@ -136,11 +103,10 @@ visible c h = sym (append-nil (page_byte c)) ∙ ap page_bytes (sym (ascii c (be
 
 address : (url : List ℕ) → AllByRecursion IsVisible url → page_bytes url ≡ flat_map escaped url
 address [] h = refl
-address (c ∷ url) h = ap (λ (t : List ℕ). t ++ page_bytes url) (visible c h.0) ∙ ap (λ (t : List ℕ). escaped c ++ t) (address url h.1)
+address (c ∷ url) h = rw (visible c h.0, address url h.1) refl
 
 open_link : (url : List ℕ) → AllByRecursion IsVisible url → page_bytes (marked (Open url)) ≡ piece_text (Open url)
-open_link url h =
-    ap (λ (t : List ℕ). codes "<a rel=\"nofollow noopener noreferrer\" href=\"" ++ t) (flat_map-append page_byte url (3 ∷ 2 ∷ []) ∙ ap (λ (t : List ℕ). t ++ 34 ∷ 62 ∷ []) (address url h))
+open_link url h = rw (flat_map-append page_byte url (3 ∷ 2 ∷ []), address url h) refl
 
 piece : (m : Markup) (p : Piece) → IsSafe m p → page_bytes (marked p) ≡ piece_text p
 piece m (Char c) h = char c h.0
@@ -151,5 +117,4 @@ piece m Shut h = refl
 
 pub pieces : (m : Markup) (ps : List Piece) → AllByRecursion (IsSafe m) ps → page_bytes (all_marked ps) ≡ piece_texts ps
 pieces m [] h = refl
-pieces m (p ∷ ps) h =
-    flat_map-append page_byte (marked p) (all_marked ps) ∙ ap (λ (t : List ℕ). t ++ page_bytes (all_marked ps)) (piece m p h.0) ∙ ap (λ (t : List ℕ). piece_text p ++ t) (pieces m ps h.1)
+pieces m (p ∷ ps) h = rw (flat_map-append page_byte (marked p) (all_marked ps), piece m p h.0, pieces m ps h.1) refl

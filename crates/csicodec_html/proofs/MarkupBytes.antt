@@ -1,8 +1,8 @@
 -- A page is markup by its bytes alone.
 use Rattle.std.proofs.Common.{◌≡◌, ◌≢◌, ◌<◌, ◌≤◌, ℕ, Bool, true, false, List, [], ◌∷◌, ◌++◌, inl, inr, Option, Some, None, refl, sym, ap, subst, ◌∙◌, append_assoc, arith}
-use Rattle.std.specs.Prelude.{codes, ◌==◌, if◌then◌else◌, encode_utf8}
+use Rattle.std.specs.Prelude.{codes, if◌then◌else◌, encode_utf8}
 use Rattle.std.specs.List.{AllByRecursion, flat_map}
-use Rattle.std.proofs.lemmas.Bool.{eq-eqb, le-leb, ne_eqb}
+use Rattle.std.proofs.lemmas.Bool.{cond_both, le-leb}
 use Rattle.std.proofs.lemmas.Bool.Decides.{nat_tests}
 use Rattle.csicodec_clean.specs.Shown.{IsShown}
 use Rattle.csicodec_clean.proofs.Marked.{IsHigh, Spells, spells}
@@ -12,32 +12,23 @@ use Rattle.csicodec_html.specs.declared.markup.Markup.{Markup}
 use Rattle.csicodec_html.specs.Classes.{attributes, attributes_of, class_name, classes_of, has_true, names, rest_attribute, style_attribute, true_colors}
 use Rattle.csicodec_html.specs.Look.{css, settled}
 use Rattle.csicodec_html.specs.Page.{IsHarmless, IsQuoted, IsPageWith, IsSafe, PageWith, Piece, Char, Begin, End, Open, Shut, are_paired, escaped, piece_text, piece_texts}
-use Rattle.csicodec_html.specs.MarkupBytes.{Spot, Inside, Lead, Nowhere, Reference, Tag, is_text_byte, is_value_byte, is_markup, no_value, spot_behind, IsMarkup}
-use Rattle.csicodec_html.proofs.Addresses.{all_quoted}
+use Rattle.csicodec_html.specs.MarkupBytes.{Spot, Inside, Lead, Tag, is_text_byte, is_value_byte, is_markup, no_value, spot_behind, IsMarkup}
+use Rattle.csicodec_html.proofs.Addresses.{all_quoted, escaped_by}
 use Rattle.csicodec_html.proofs.Declarations.{Fine, css_fine}
 use Rattle.csicodec_html.proofs.Named.{name_fine, true_fine}
 use Rattle.csicodec_html.proofs.Paired.{is_page}
 
 -- ---- characters
 
--- one test after the other, where each test may ask what one before it asked
-chosen : (x y z w : Bool) (a b c d e : Spot) → x ≡ false → y ≡ false → z ≡ false → w ≡ true → (if x then a else if y then b else if z then c else if w then d else e) ≡ d
-chosen x y z w a b c d e f g h i = rw (f, g, h, i) refl
-
-second : (x w : Bool) (a b c : Spot) → x ≡ false → w ≡ true → (if x then a else if w then b else c) ≡ b
-second x w a b c f g = rw (f, g) refl
-
 on_text : (links linked spanned : Bool) (b : ℕ) (more : List ℕ) → b ≢ 60 → b ≢ 38 → b ≢ 194 → is_text_byte b ≡ true
     → is_markup links Inside linked spanned (b ∷ more) ≡ is_markup links Inside linked spanned more
-on_text links linked spanned b more less and l t =
-    ap (λ (s : Spot). is_markup links s linked spanned more)
-    (chosen (b == 60) (b == 38) (b == 194) (is_text_byte b) (Tag false []) (Reference []) Lead Inside Nowhere (ne_eqb b 60 less) (ne_eqb b 38 and) (ne_eqb b 194 l) t)
+on_text links linked spanned b more less and l t = grind (arith, nat_tests)
 
 high_byte : (b : ℕ) → 128 ≤ b → is_text_byte b ≡ true
 high_byte b h = grind (arith, nat_tests)
 
 low_byte : (c : ℕ) → c < 128 → IsShown c → c ≢ 34 → c ≢ 38 → c ≢ 39 → c ≢ 60 → c ≢ 62 → is_text_byte c ≡ true
-low_byte c h s quote and apostrophe less greater = rw (ne_eqb c 34 quote, ne_eqb c 38 and, ne_eqb c 39 apostrophe, ne_eqb c 60 less, ne_eqb c 62 greater) (grind (arith, nat_tests))
+low_byte c h s quote and apostrophe less greater = grind (arith, nat_tests)
 
 high_markup : (links linked spanned : Bool) (bytes more : List ℕ) → AllByRecursion IsHigh bytes → is_markup links Inside linked spanned (bytes ++ more) ≡ is_markup links Inside linked spanned more
 high_markup links linked spanned [] more h = refl
@@ -57,27 +48,10 @@ itself links linked spanned c more h quote and apostrophe less greater = by (spe
     by (inr (inl (b, from, is))) = rw is (ap (λ (s : Spot). is_markup links s linked spanned more) (lead links linked spanned b from))
     by (inr (inr all)) = high_markup links linked spanned (encode_utf8 c) more all
 
-either : (P : List ℕ → Type 0) (a b : ℕ) (xs ys : List ℕ) → P xs → (a ≢ b → P ys) → P (if a == b then xs else ys)
-either P a b xs ys f g = by (a == b) refl
-  where
-    by : (t : Bool) → (a == b) ≡ t → P (if t then xs else ys)
-    by true e = f
-    by false e = g (λ same. absurd (cc (e, eq-eqb a b same)))
-
 char_markup : (links linked spanned : Bool) (c : ℕ) (more : List ℕ) → IsShown c → is_markup links Inside linked spanned (escaped c ++ more) ≡ is_markup links Inside linked spanned more
 char_markup links linked spanned c more h =
-    let On = λ (t : List ℕ). is_markup links Inside linked spanned (t ++ more) ≡ is_markup links Inside linked spanned more in
-    let last = encode_utf8 c in
-    let apostrophe = if c == 39 then codes "&#39;" else last in
-    let quote = if c == 34 then codes "&quot;" else apostrophe in
-    let greater = if c == 62 then codes "&gt;" else quote in
-    let less = if c == 60 then codes "&lt;" else greater in
-    either On c 38 (codes "&amp;") less refl
-    (λ and. either On c 60 (codes "&lt;") greater refl
-    (λ l. either On c 62 (codes "&gt;") quote refl
-    (λ g. either On c 34 (codes "&quot;") apostrophe refl
-    (λ q. either On c 39 (codes "&#39;") last refl
-    (λ a. itself links linked spanned c more h q and a l g)))))
+    escaped_by (λ (t : List ℕ). is_markup links Inside linked spanned (t ++ more) ≡ is_markup links Inside linked spanned more) c refl refl refl refl refl
+    (λ q a s l g. itself links linked spanned c more h q a s l g)
 
 -- ---- what stands between quotation marks
 
@@ -90,8 +64,8 @@ harmless_value b h = grind (arith, nat_tests)
 quoted_value : (b : ℕ) → IsQuoted b → IsValue b
 quoted_value b h = grind (arith, nat_tests)
 
-value_stays : (b : ℕ) → IsValue b → b ≢ 34
-value_stays b h = λ e. absurd (grind (arith, nat_tests))
+value_stays : (links linked spanned : Bool) (tag : List ℕ) (b : ℕ) → IsValue b → spot_behind links linked spanned (Tag true tag) b ≡ Tag true tag
+value_stays links linked spanned tag b h = grind (arith, nat_tests)
 
 values : (P : ℕ → Type 0) (bytes : List ℕ) → ((b : ℕ) → P b → IsValue b) → AllByRecursion P bytes → AllByRecursion IsValue bytes
 values P [] f h = tt
@@ -101,9 +75,7 @@ value_markup : (links linked spanned : Bool) (tag bytes more : List ℕ) → All
     → is_markup links (Tag true tag) linked spanned (bytes ++ more) ≡ is_markup links (Tag true tag) linked spanned more
 value_markup links linked spanned tag [] more h = refl
 value_markup links linked spanned tag (b ∷ bytes) more h =
-    let step : spot_behind links linked spanned (Tag true tag) b ≡ Tag true tag =
-    second (b == 34) (is_value_byte b) (Tag false (tag ++ 34 ∷ [])) (Tag true tag) Nowhere (ne_eqb b 34 (value_stays b h.0)) h.0 in
-    ap (λ (s : Spot). is_markup links s linked spanned (bytes ++ more)) step ∙ value_markup links linked spanned tag bytes more h.1
+    ap (λ (s : Spot). is_markup links s linked spanned (bytes ++ more)) (value_stays links linked spanned tag b h.0) ∙ value_markup links linked spanned tag bytes more h.1
 
 fine_markup : (links linked spanned : Bool) (tag bytes more : List ℕ) → Fine bytes → is_markup links (Tag true tag) linked spanned (bytes ++ more) ≡ is_markup links (Tag true tag) linked spanned more
 fine_markup links linked spanned tag bytes more h = value_markup links linked spanned tag bytes more (values IsHarmless bytes harmless_value h)
@@ -130,11 +102,9 @@ style_markup links linked spanned true style more h =
     (true, ap (λ (t : List ℕ). is_markup links (Tag true begun) linked spanned t) (append_assoc style (34 ∷ []) more) ∙ fine_markup links linked spanned begun style (34 ∷ more) h)
 
 rest_markup : (links linked spanned classes : Bool) (l : Look) (more : List ℕ) → Behind links linked spanned classes (rest_attribute 34 l) more
-rest_markup links linked spanned classes l more = by (has_true l)
-  where
-    by : (t : Bool) → Behind links linked spanned classes (if t then style_attribute 34 (true_colors l) else []) more
-    by true = style_markup links linked spanned classes (true_colors l) more (true_fine l)
-    by false = (false, refl)
+rest_markup links linked spanned classes l more =
+    cond_both (has_true l) (style_attribute 34 (true_colors l)) [] (λ (t : List ℕ). Behind links linked spanned classes t more)
+    (λ _. style_markup links linked spanned classes (true_colors l) more (true_fine l)) (λ _. (false, refl))
 
 -- where classes came, their attribute is open
 abbrev named_at : Bool → Spot
@@ -185,10 +155,7 @@ attributes_markup links linked spanned m l more = by m.classes
 -- ---- the tags
 
 begun : (links linked classes styles : Bool) (more : List ℕ) → is_markup links (Tag false (span_tag classes styles)) linked false (62 ∷ more) ≡ is_markup links Inside linked true more
-begun links linked false false more = refl
-begun links linked false true more = refl
-begun links linked true false more = refl
-begun links linked true true more = refl
+begun links linked classes styles more = grind arith
 
 begin_markup : (links linked : Bool) (m : Markup) (l : Look) (more : List ℕ) → is_markup links Inside linked false (piece_text (Begin m l) ++ more) ≡ is_markup links Inside linked true more
 begin_markup links linked m l more =
@@ -215,20 +182,15 @@ pieces_markup : (m : Markup) (linked spanned : Bool) (pieces : List Piece) → A
     → are_paired linked spanned pieces ≡ true → is_markup m.links Inside linked spanned (piece_texts pieces) ≡ true
 pieces_markup m linked spanned [] h p = p
 pieces_markup m linked spanned (Char c ∷ pieces) h p = char_markup m.links linked spanned c (piece_texts pieces) h.0.0 ∙ pieces_markup m linked spanned pieces h.1 p
-pieces_markup m linked true (Begin n l ∷ pieces) h p = absurd cc
 pieces_markup m linked false (Begin n l ∷ pieces) h p = begin_markup m.links linked n l (piece_texts pieces) ∙ pieces_markup m linked true pieces h.1 p
 pieces_markup m linked true (End ∷ pieces) h p = end_markup m.links linked (piece_texts pieces) ∙ pieces_markup m linked false pieces h.1 p
-pieces_markup m linked false (End ∷ pieces) h p = absurd cc
-pieces_markup m true spanned (Open url ∷ pieces) h p = absurd cc
-pieces_markup m false true (Open url ∷ pieces) h p = absurd cc
 pieces_markup m false false (Open url ∷ pieces) h p =
     let more = piece_texts pieces in
     subst (λ (links : Bool). is_markup links Inside false false (piece_text (Open url) ++ more) ≡ is_markup links Inside true false more) (sym h.0.0)
     (open_markup url more (all_quoted url h.0.1.visible))
     ∙ pieces_markup m true false pieces h.1 p
-pieces_markup m false spanned (Shut ∷ pieces) h p = absurd cc
-pieces_markup m true true (Shut ∷ pieces) h p = absurd cc
 pieces_markup m true false (Shut ∷ pieces) h p = shut_markup m.links (piece_texts pieces) ∙ pieces_markup m false false pieces h.1 p
+pieces_markup m linked spanned (_ ∷ pieces) h p = absurd cc
 
 pub page_markup : (m : Markup) (page : List ℕ) → IsPageWith m page → IsMarkup m.links page
 page_markup m page p = rw p.all (pieces_markup m false false p.pieces p.safe p.paired)

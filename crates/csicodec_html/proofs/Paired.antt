@@ -1,6 +1,7 @@
 -- The tags of a page are in pairs, its characters those of the text that is stripped, and it is one.
-use Rattle.std.proofs.Common.{◌≡◌, ℕ, Bool, true, false, List, [], ◌∷◌, ◌++◌, map, encode_utf8_all, refl, sym, ap, subst, ◌∙◌, append_assoc, append-nil}
-use Rattle.std.specs.Prelude.{filter, not, ◌||◌, if◌then◌else◌}
+use Rattle.std.proofs.Common.{◌≡◌, ℕ, Bool, true, false, List, [], ◌∷◌, ◌++◌, map, encode_utf8_all, refl, sym, ap, subst, ◌∙◌, ⊎_elim, append_assoc, append-nil, arith}
+use Rattle.std.specs.Prelude.{filter, not, if◌then◌else◌}
+use Rattle.std.proofs.lemmas.Bool.{cases_Bool}
 use Rattle.csicodec_actions.specs.Actions.{Action}
 use Rattle.csicodec_terminal.proofs.Unique.{taken_once}
 use Rattle.bstr.specs.Utf8.{lossy_chars}
@@ -17,9 +18,9 @@ use Rattle.csicodec_clean.proofs.Shows.{encoded_on}
 use Rattle.csicodec_html.specs.declared.look.Look.{Look}
 use Rattle.csicodec_html.specs.declared.markup.Markup.{Markup}
 use Rattle.csicodec_html.specs.Look.{behind_all, is_plain, sets_any}
-use Rattle.csicodec_html.specs.Page.{AreLeft, Begin, Char, End, IsPageWith, Leaves, Open, PageWith, Piece, Setting, Shut}
+use Rattle.csicodec_html.specs.Page.{AreLeft, Char, IsPageWith, Leaves, PageWith, Piece, Setting}
 use Rattle.csicodec_html.specs.Page.{are_paired, begins, behind_actions, chars_of, closing, ends, first_set, leads, led_by}
-use Rattle.csicodec_html.specs.Page.{opens, piece_texts, pieces_behind, run_behind, shown_pieces, shuts, switch, switches, turn}
+use Rattle.csicodec_html.specs.Page.{piece_texts, pieces_behind, run_behind, shown_pieces, switch, switches, turn}
 use Rattle.csicodec_html.proofs.Left.{none_begun, safe_left}
 use Rattle.csicodec_html.proofs.Turned.{unset}
 
@@ -31,62 +32,18 @@ paired_chars : (a b : Bool) (cs : List ℕ) (ps : List Piece) → are_paired a b
 paired_chars a b [] ps = refl
 paired_chars a b (c ∷ cs) ps = paired_chars a b cs ps
 
-paired_ends : (a : Bool) (l : Look) (ps : List Piece) → are_paired a (inside l) (ends l ++ ps) ≡ are_paired a false ps
-paired_ends a l ps = by (is_plain l)
-  where
-    by : (b : Bool) → are_paired a (not b) ((if b then [] else End ∷ []) ++ ps) ≡ are_paired a false ps
-    by true = refl
-    by false = refl
-
-paired_begins : (m : Markup) (a : Bool) (l : Look) (ps : List Piece) → are_paired a false (begins m l ++ ps) ≡ are_paired a (inside l) ps
-paired_begins m a l ps = by (is_plain l)
-  where
-    by : (b : Bool) → are_paired a false ((if b then [] else Begin m l ∷ []) ++ ps) ≡ are_paired a (not b) ps
-    by true = refl
-    by false = refl
-
-paired_shuts : (to : List ℕ) (ps : List Piece) → are_paired (leads to) false (shuts to ++ ps) ≡ are_paired false false ps
-paired_shuts to ps = by (leads to)
-  where
-    by : (b : Bool) → are_paired b false ((if b then Shut ∷ [] else []) ++ ps) ≡ are_paired false false ps
-    by true = refl
-    by false = refl
-
-paired_opens : (to : List ℕ) (ps : List Piece) → are_paired false false (opens to ++ ps) ≡ are_paired (leads to) false ps
-paired_opens to ps = by (leads to)
-  where
-    by : (b : Bool) → are_paired false false ((if b then Open to ∷ [] else []) ++ ps) ≡ are_paired b false ps
-    by true = refl
-    by false = refl
+paired_ends : (a : Bool) (old new : Look) (m : Markup) (ps : List Piece) → are_paired a (inside old) ((ends old ++ begins m new) ++ ps) ≡ are_paired a (inside new) ps
+paired_ends a old new m ps = grind arith
 
 paired_turn : (m : Markup) (a : Bool) (old : Look) (actions : List Action) (ps : List Piece)
     → are_paired a (inside old) (turn m (sets_any actions) old (behind_all old actions) ++ ps) ≡ are_paired a (inside (behind_all old actions)) ps
-paired_turn m a old actions ps = by (sets_any actions) refl
-  where
-    by : (b : Bool) → sets_any actions ≡ b → are_paired a (inside old) (turn m b old (behind_all old actions) ++ ps) ≡ are_paired a (inside (behind_all old actions)) ps
-    by true e =
-        ap (are_paired a (inside old)) (append_assoc (ends old) (begins m (behind_all old actions)) ps)
-        ∙ paired_ends a old (begins m (behind_all old actions) ++ ps) ∙ paired_begins m a (behind_all old actions) ps
-    by false e = ap (λ (l : Look). are_paired a (inside l) ps) (sym (unset old actions e))
-
--- where neither of two links leads anywhere
-neither : (a b : Bool) → (a || b) ≡ false → a ≡ b
-neither true b e = absurd cc
-neither false true e = absurd cc
-neither false false e = refl
-
-four_on : (w x y z ps : List Piece) → (w ++ (x ++ (y ++ z))) ++ ps ≡ w ++ (x ++ (y ++ (z ++ ps)))
-four_on w x y z ps = append_assoc w (x ++ (y ++ z)) ps ∙ ap (λ (t : List Piece). w ++ t) (append_assoc x (y ++ z) ps ∙ ap (λ (t : List Piece). x ++ t) (append_assoc y z ps))
+paired_turn m a old actions ps = ⊎_elim
+    (λ (e : sets_any actions ≡ true). rw e (paired_ends a old (behind_all old actions) m ps))
+    (λ (e : sets_any actions ≡ false). rw (e, unset old actions e) refl)
+    (cases_Bool (sets_any actions))
 
 paired_switch : (m : Markup) (l : Look) (old new : List ℕ) (ps : List Piece) → are_paired (leads old) (inside l) (switch m l old new ++ ps) ≡ are_paired (leads new) (inside l) ps
-paired_switch m l old new ps = by (leads old || leads new) refl
-  where
-    by : (b : Bool) → (leads old || leads new) ≡ b
-        → are_paired (leads old) (inside l) ((if b then ends l ++ (shuts old ++ (opens new ++ begins m l)) else []) ++ ps) ≡ are_paired (leads new) (inside l) ps
-    by true e =
-        ap (are_paired (leads old) (inside l)) (four_on (ends l) (shuts old) (opens new) (begins m l) ps) ∙ paired_ends (leads old) l (shuts old ++ (opens new ++ (begins m l ++ ps)))
-        ∙ paired_shuts old (opens new ++ (begins m l ++ ps)) ∙ paired_opens new (begins m l ++ ps) ∙ paired_begins m (leads new) l ps
-    by false e = ap (λ (b : Bool). are_paired b (inside l) ps) (neither (leads old) (leads new) e)
+paired_switch m l old new ps = grind arith
 
 paired_switches : (m : Markup) (l : Look) (to : List ℕ) (links : List Address) (ps : List Piece)
     → are_paired (leads to) (inside l) (switches m l to links ++ ps) ≡ are_paired (leads (led_by to links)) (inside l) ps
@@ -109,7 +66,7 @@ paired_behind a b kind.Text run ps = refl
 paired_behind a b _ run ps = paired_chars a b (filter shown (lossy_chars run)) ps
 
 paired_closing : (s : Setting) → paired_in s (closing s ++ []) ≡ true
-paired_closing s = ap (paired_in s) (append_assoc (ends s.look) (shuts s.to) []) ∙ paired_ends (leads s.to) s.look (shuts s.to ++ []) ∙ paired_shuts s.to []
+paired_closing s = grind arith
 
 paired_left : (parts : List Part) (s : Setting) (run : List ℕ) (ps : List Piece) → AreLeft s run parts ps → paired_in s ps ≡ true
 paired_left [] s run ps h =
@@ -142,44 +99,21 @@ chars_chars (c ∷ cs) = ap (λ (t : List ℕ). c ∷ t) (chars_chars cs)
 abbrev IsBare : List Piece → Type 0
 IsBare ps = chars_of ps ≡ []
 
-bare_both : (xs ys : List Piece) → IsBare xs → IsBare ys → IsBare (xs ++ ys)
-bare_both xs ys h k = chars_both xs ys ∙ ap (λ (t : List ℕ). t ++ chars_of ys) h ∙ k
+bare_turn : (m : Markup) (comes : Bool) (old new : Look) → IsBare (turn m comes old new)
+bare_turn m comes old new = grind (arith, chars_both)
 
-bare_if : (b : Bool) (ps : List Piece) → IsBare ps → IsBare (if b then ps else [])
-bare_if true ps h = h
-bare_if false ps h = refl
-
-bare_ends : (l : Look) → IsBare (ends l)
-bare_ends l = by (is_plain l)
-  where
-    by : (b : Bool) → IsBare (if b then [] else End ∷ [])
-    by true = refl
-    by false = refl
-
-bare_begins : (m : Markup) (l : Look) → IsBare (begins m l)
-bare_begins m l = by (is_plain l)
-  where
-    by : (b : Bool) → IsBare (if b then [] else Begin m l ∷ [])
-    by true = refl
-    by false = refl
-
-bare_shuts : (to : List ℕ) → IsBare (shuts to)
-bare_shuts to = bare_if (leads to) (Shut ∷ []) refl
+bare_closing : (s : Setting) → IsBare (closing s)
+bare_closing s = grind (arith, chars_both)
 
 bare_switch : (m : Markup) (l : Look) (old new : List ℕ) → IsBare (switch m l old new)
-bare_switch m l old new =
-    bare_if (leads old || leads new) (ends l ++ (shuts old ++ (opens new ++ begins m l)))
-    (bare_both (ends l) (shuts old ++ (opens new ++ begins m l)) (bare_ends l)
-    (bare_both (shuts old) (opens new ++ begins m l) (bare_shuts old) (bare_both (opens new) (begins m l) (bare_if (leads new) (Open new ∷ []) refl) (bare_begins m l))))
+bare_switch m l old new = grind (arith, chars_both)
 
 bare_switches : (m : Markup) (l : Look) (to : List ℕ) (links : List Address) → IsBare (switches m l to links)
 bare_switches m l to [] = refl
-bare_switches m l to (a ∷ links) = bare_both (switch m l to a.url) (switches m l a.url links) (bare_switch m l to a.url) (bare_switches m l a.url links)
+bare_switches m l to (a ∷ links) = rw (chars_both (switch m l to a.url) (switches m l a.url links), bare_switch m l to a.url) (bare_switches m l a.url links)
 
 bare_leaves : (s after : Setting) (k : Kind) (bytes : List ℕ) (own : List Piece) → Leaves s k bytes own after → IsBare own
-bare_leaves s after kind.Csi bytes own (actions, isof, behind, e) =
-    let new = behind_all s.look actions in
-    ap chars_of e ∙ bare_if (sets_any actions) (ends s.look ++ begins s.markup new) (bare_both (ends s.look) (begins s.markup new) (bare_ends s.look) (bare_begins s.markup new))
+bare_leaves s after kind.Csi bytes own (actions, isof, behind, e) = ap chars_of e ∙ bare_turn s.markup (sets_any actions) s.look (behind_all s.look actions)
 bare_leaves s after kind.Str bytes own (e, behind) = ap chars_of e ∙ bare_switches s.markup s.look s.to (links_in s.markup.links s.begun bytes)
 bare_leaves s after _ bytes own h = ap chars_of h.0
 
@@ -198,17 +132,14 @@ text_left : (parts : List Part) (s : Setting) (run : List ℕ) (ps : List Piece)
 text_left [] s run ps h =
     let cs = filter shown (lossy_chars run) in
     ap encode_utf8_all (ap chars_of h ∙ chars_both (shown_pieces run) (closing s) ∙ ap (λ (t : List ℕ). t ++ chars_of (closing s)) (chars_chars cs)
-    ∙ ap (λ (t : List ℕ). cs ++ t) (bare_both (ends s.look) (shuts s.to) (bare_ends s.look) (bare_shuts s.to)) ∙ append-nil cs)
+    ∙ ap (λ (t : List ℕ). cs ++ t) (bare_closing s) ∙ append-nil cs)
 text_left (p ∷ parts) s run ps (own, after, others, leaves, e, rest) =
     ap text_of e ∙ by p.kind leaves (text_left parts after (run_behind p.kind run p.bytes) others rest)
   where
     by : (k : Kind) → Leaves s k p.bytes own after → text_of others ≡ stripped (run_behind k run p.bytes) parts
         → text_of (pieces_behind k run ++ (own ++ others)) ≡ (if is_text k then stripped (run ++ p.bytes) parts else shown_text run ++ stripped [] parts)
     by kind.Text h r = ap text_of (ap (λ (t : List Piece). t ++ others) h.0) ∙ r
-    by kind.Csi h r = text_part s after kind.Csi run p.bytes own others h ∙ ap (λ (t : List ℕ). shown_text run ++ t) r
-    by kind.Esc h r = text_part s after kind.Esc run p.bytes own others h ∙ ap (λ (t : List ℕ). shown_text run ++ t) r
-    by kind.Str h r = text_part s after kind.Str run p.bytes own others h ∙ ap (λ (t : List ℕ). shown_text run ++ t) r
-    by kind.Other h r = text_part s after kind.Other run p.bytes own others h ∙ ap (λ (t : List ℕ). shown_text run ++ t) r
+    by k h r = text_part s after k run p.bytes own others h ∙ ap (λ (t : List ℕ). shown_text run ++ t) r
 
 pub text_stays : (m : Markup) (bytes page text : List ℕ) (p : PageWith m bytes page) → Strips longest bytes text → text ≡ text_of p.pieces
 text_stays m bytes page text p s =
@@ -225,7 +156,6 @@ leaves_once : (s one other : Setting) (k : Kind) (bytes : List ℕ) (xs ys : Lis
 leaves_once s one other kind.Csi bytes xs ys (actions, isof, e, made) (again, isof', f, made') =
     let same = taken_once bytes actions again isof isof' in
     record { pieces = made ∙ ap (λ (x : List Action). turn s.markup (sets_any x) s.look (behind_all s.look x)) same ∙ sym made'; settings = e ∙ ap (behind_actions s) same ∙ sym f }
-leaves_once s one other kind.Text bytes xs ys h k = record { pieces = h.0 ∙ sym k.0; settings = h.1 ∙ sym k.1 }
 leaves_once s one other _ bytes xs ys h k = record { pieces = h.0 ∙ sym k.0; settings = h.1 ∙ sym k.1 }
 
 left_once : (parts : List Part) (s : Setting) (run : List ℕ) (xs ys : List Piece) → AreLeft s run parts xs → AreLeft s run parts ys → xs ≡ ys

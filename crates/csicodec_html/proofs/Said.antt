@@ -1,5 +1,5 @@
 -- What classes declare is what a style says.
-use Rattle.std.proofs.Common.{◌≡◌, Bool, true, false, List, ◌++◌, Some, None, refl, ap, ◌∙◌, append-nil, ℕ}
+use Rattle.std.proofs.Common.{◌≡◌, Bool, true, false, List, ◌++◌, Option, Some, None, refl, ap, ◌∙◌, append-nil, ℕ}
 use Rattle.std.specs.Prelude.{if◌then◌else◌}
 use Rattle.csicodec_names.specs.declared.color.ColorSpec.{ColorSpec}
 use Rattle.csicodec_names.specs.declared.color.ColorSpec.TheVariants as color
@@ -7,7 +7,10 @@ use Rattle.csicodec_names.specs.declared.color.Intensity.{Intensity}
 use Rattle.csicodec_names.specs.declared.color.Intensity.TheVariants as intensity
 use Rattle.csicodec_names.specs.declared.color.Underline.{Underline}
 use Rattle.csicodec_names.specs.declared.color.Underline.TheVariants as underline
+use Rattle.csicodec_names.specs.declared.color.SrgbaTuple.{SrgbaTuple}
+use Rattle.csicodec_html.specs.declared.classes.Class.{Class}
 use Rattle.csicodec_html.specs.declared.classes.Class.TheVariants as kind
+use Rattle.csicodec_html.specs.declared.classes.Layer.{Layer}
 use Rattle.csicodec_html.specs.declared.classes.Layer.TheVariants as part
 use Rattle.csicodec_html.specs.declared.look.Look.{Look}
 use Rattle.csicodec_html.specs.declared.palette.Palette.{Palette}
@@ -38,37 +41,26 @@ of_line p (color.PaletteIndex i) = append-nil (property p part.Line (color.Palet
 of_line p (color.TrueColor c) = refl
 
 -- where text and background change places
-text : (p : Palette) (c : ColorSpec) → said p part.TextAsGround (Some kind.TextAsGround) c ≡ property p part.TextAsGround (or_own p.background c)
+swapped : (p : Palette) (of : Layer) (own : Class) (given : Option SrgbaTuple) (c : ColorSpec) → declaration p own ≡ property p of (or_own given color.Default)
+    → said p of (Some own) c ≡ property p of (or_own given c)
 unfolding declaration property
-text p color.Default = append-nil _
-text p (color.PaletteIndex i) = append-nil (property p part.TextAsGround (color.PaletteIndex i))
-text p (color.TrueColor c) = refl
-
-ground : (p : Palette) (c : ColorSpec) → said p part.GroundAsText (Some kind.GroundAsText) c ≡ property p part.GroundAsText (or_own p.foreground c)
-unfolding declaration property
-ground p color.Default = append-nil _
-ground p (color.PaletteIndex i) = append-nil (property p part.GroundAsText (color.PaletteIndex i))
-ground p (color.TrueColor c) = refl
+swapped p of own given color.Default e = append-nil _ ∙ e
+swapped p of own given (color.PaletteIndex i) e = append-nil (property p of (color.PaletteIndex i))
+swapped p of own given (color.TrueColor c) e = refl
 
 -- where they don't
-straight_text : (p : Palette) (c : ColorSpec) → said p part.Text None c ≡ colored p part.Text c
+straight : (p : Palette) (of : Layer) (c : ColorSpec) → said p of None c ≡ colored p of c
 unfolding declaration colored property
-straight_text p color.Default = refl
-straight_text p (color.PaletteIndex i) = append-nil (property p part.Text (color.PaletteIndex i))
-straight_text p (color.TrueColor c) = refl
-
-straight_ground : (p : Palette) (c : ColorSpec) → said p part.Ground None c ≡ colored p part.Ground c
-unfolding declaration colored property
-straight_ground p color.Default = refl
-straight_ground p (color.PaletteIndex i) = append-nil (property p part.Ground (color.PaletteIndex i))
-straight_ground p (color.TrueColor c) = refl
+straight p of color.Default = refl
+straight p of (color.PaletteIndex i) = append-nil (property p of (color.PaletteIndex i))
+straight p of (color.TrueColor c) = refl
 
 both : (a b c d : List ℕ) → a ≡ c → b ≡ d → a ++ b ≡ c ++ d
 both a b c d e f = ap (λ (t : List ℕ). t ++ b) e ∙ ap (λ (t : List ℕ). c ++ t) f
 
 pub of_colors : (p : Palette) (l : Look)
     → said p (text_part l) (class_if l.inverse kind.TextAsGround) (text_color l) ++ said p (ground_part l) (class_if l.inverse kind.GroundAsText) (ground_color l) ≡ colors p l
-unfolding colors inverse_colors straight_colors
+unfolding colors inverse_colors straight_colors declaration
 of_colors p l = by l.inverse
   where
     by : (b : Bool)
@@ -76,7 +68,8 @@ of_colors p l = by l.inverse
         ++ said p (if b then part.GroundAsText else part.Ground) (class_if b kind.GroundAsText) (if b then l.foreground else l.background)
         ≡ (if b then inverse_colors p l else straight_colors p l)
     by true = both (said p part.TextAsGround (Some kind.TextAsGround) l.background) (said p part.GroundAsText (Some kind.GroundAsText) l.foreground)
-        (property p part.TextAsGround (or_own p.background l.background)) (property p part.GroundAsText (or_own p.foreground l.foreground)) (text p l.background) (ground p l.foreground)
+        (property p part.TextAsGround (or_own p.background l.background)) (property p part.GroundAsText (or_own p.foreground l.foreground))
+        (swapped p part.TextAsGround kind.TextAsGround p.background l.background refl) (swapped p part.GroundAsText kind.GroundAsText p.foreground l.foreground refl)
     by false =
         both (said p part.Text None l.foreground) (said p part.Ground None l.background) (colored p part.Text l.foreground)
-        (colored p part.Ground l.background) (straight_text p l.foreground) (straight_ground p l.background)
+        (colored p part.Ground l.background) (straight p part.Text l.foreground) (straight p part.Ground l.background)

@@ -1,7 +1,8 @@
 -- Text that is settled stands out from its ground, and is settled once.
-use Rattle.std.proofs.Common.{◌≡◌, ◌<◌, ◌≤◌, ◌+◌, ◌*◌, ℕ, Bool, true, false, ◌&&◌, ◌||◌, Option, Some, None, refl, sym, ap, ◌∙◌, arith, ⊎_elim, lt-ltb, le-ltb}
+use Rattle.std.proofs.Common.{◌≡◌, ◌<◌, ◌≤◌, ◌+◌, ◌*◌, ℕ, Bool, true, false, Option, Some, None, refl, sym, ◌∙◌, arith, ⊎_elim, lt-ltb, le-ltb}
 use Rattle.std.specs.Prelude.{nat_lt, if◌then◌else◌}
-use Rattle.std.proofs.lemmas.Bool.{cases_lt, false≢true}
+use Rattle.std.proofs.lemmas.Bool.{and_right, cases_Bool, cases_lt, cond_both, false≢true, or_parts}
+use Rattle.std.proofs.lemmas.Bool.Decides.{nat_tests}
 use Rattle.csicodec_names.specs.declared.color.ColorSpec.{ColorSpec}
 use Rattle.csicodec_names.specs.declared.color.ColorSpec.TheVariants as color
 use Rattle.csicodec_names.specs.declared.color.SrgbaTuple.{SrgbaTuple}
@@ -15,17 +16,13 @@ use Rattle.csicodec_html.specs.Palette.{has_pairs}
 
 -- ---- black and white
 
-no_and : (a b : Bool) → b ≡ false → (a && b) ≡ false
-no_and true b h = h
-no_and false b h = refl
-
 white_apart : (n : ℕ) → n < 29846475000000 → are_near (luminance white) n ≡ false
 unfolding luminance are_near
 white_apart n h = rw (le-ltb (20 * (165813750000000 + 8290687500000)) (31 * (n + 8290687500000)) (omega (arith, h))) refl
 
 black_apart : (n : ℕ) → 29846475000000 ≤ n → are_near (luminance black) n ≡ false
 unfolding luminance are_near
-black_apart n h = no_and _ _ (le-ltb (20 * (n + 8290687500000)) (31 * (0 + 8290687500000)) (omega (arith, h)))
+black_apart n h = and_right _ _ (le-ltb (20 * (n + 8290687500000)) (31 * (0 + 8290687500000)) (omega (arith, h)))
 
 -- either can be read on the grounds that it is for
 stands : (below : SrgbaTuple) → is_near (black_or_white below) below ≡ false
@@ -50,46 +47,25 @@ painted below = record { color = black_or_white below; is = refl; apart = stands
 
 on_grounds : (below : SrgbaTuple) (text : ColorSpec) (k : Option SrgbaTuple) → known text ≡ k → OnGround (on_ground below text k) below
 on_grounds below text None h = painted below
-on_grounds below text (Some c) h = by (is_near c below) refl
-  where
-    by : (b : Bool) → is_near c below ≡ b → OnGround (if b then color.TrueColor (black_or_white below) else text) below
-    by true e = painted below
-    by false e = record { color = c; is = h; apart = e }
-
-none_some : (c : SrgbaTuple) → None ≡ Some c → false ≡ true
-none_some c e = ap any e
-  where
-    any : Option SrgbaTuple → Bool
-    any None = false
-    any (Some d) = true
-
-some_some : (c d : SrgbaTuple) → Some c ≡ Some d → c ≡ d
-some_some c d e = ap part e
-  where
-    part : Option SrgbaTuple → SrgbaTuple
-    part None = c
-    part (Some x) = x
-
-bit : (b : Bool) → (if b then 0 else 1) < 2
-bit true = omega arith
-bit false = omega arith
+on_grounds below text (Some c) h =
+    cond_both (is_near c below) (color.TrueColor (black_or_white below)) text (λ t. OnGround t below) (λ _. painted below) (λ e. record { color = c; is = h; apart = e })
 
 place : (least : ℕ) (c : SrgbaTuple) → place_like least c < 8
-place least c = omega (arith, bit (nat_lt c.0 least), bit (nat_lt c.1 least), bit (nat_lt c.2 least))
+place least c = grind (arith, nat_tests)
 
 -- one of a pair isn't known
 paired : (i : ℕ) → i < 16 → known (color.PaletteIndex i) ≡ None
 paired i h = rw (lt-ltb i 16 h) refl
 
 on_pages : (text : ColorSpec) (k : Option SrgbaTuple) (c : SrgbaTuple) → known text ≡ k → known (on_page text k) ≡ Some c → OnPage c
-on_pages text None c h e = absurd (false≢true (none_some c (sym h ∙ e)))
+on_pages text None c h e = absurd cc
 on_pages text (Some d) c h e = by (is_near d white) (is_near d dark) refl refl e
   where
     by : (a b : Bool) → is_near d white ≡ a → is_near d dark ≡ b
         → known (if a then color.PaletteIndex (8 + place_like 192 d) else if b then color.PaletteIndex (place_like 64 d) else text) ≡ Some c → OnPage c
-    by true b x y e = absurd (false≢true (none_some c (sym (paired (8 + place_like 192 d) (omega (arith, place 192 d))) ∙ e)))
-    by false true x y e = absurd (false≢true (none_some c (sym (paired (place_like 64 d) (omega (arith, place 64 d))) ∙ e)))
-    by false false x y e = let same : d ≡ c = some_some d c (sym h ∙ e) in record { light = rw (← same) x; darker = rw (← same) y }
+    by true b x y e = let pair = paired (8 + place_like 192 d) (omega (arith, place 192 d)) in absurd cc
+    by false true x y e = let pair = paired (place_like 64 d) (omega (arith, place 64 d)) in absurd cc
+    by false false x y e = let same : d ≡ c = cc in record { light = rw (← same) x; darker = rw (← same) y }
 
 legible_ground : (g t : ColorSpec) (below : SrgbaTuple) → known g ≡ Some below → OnGround (legible g t) below
 legible_ground g t below h = rw h (on_grounds below t (known t) refl)
@@ -100,59 +76,41 @@ legible_page g t c h = rw h (on_pages t (known t) c refl)
 -- ---- looks
 
 look_ground : (l : Look) (below : SrgbaTuple) → known (ground_color (legible_look l)) ≡ Some below → OnGround (text_color (legible_look l)) below
-look_ground l below h = by l.inverse refl h
-  where
-    by : (i : Bool) → l.inverse ≡ i
-        → known (ground_color (if i then record l { background = legible l.foreground l.background } else record l { foreground = legible l.background l.foreground })) ≡ Some below
-        → OnGround (text_color (if i then record l { background = legible l.foreground l.background } else record l { foreground = legible l.background l.foreground })) below
-    by true e = rw e (legible_ground l.foreground l.background below)
-    by false e = rw e (legible_ground l.background l.foreground below)
+look_ground l below h = ⊎_elim
+    (λ (e : l.inverse ≡ true). rw e (legible_ground l.foreground l.background below (rw e at h)))
+    (λ (e : l.inverse ≡ false). rw e (legible_ground l.background l.foreground below (rw e at h)))
+    (cases_Bool l.inverse)
 
 look_page : (l : Look) (c : SrgbaTuple) → known (ground_color (legible_look l)) ≡ None → known (text_color (legible_look l)) ≡ Some c → OnPage c
-look_page l c h = by l.inverse refl h
-  where
-    by : (i : Bool) → l.inverse ≡ i
-        → known (ground_color (if i then record l { background = legible l.foreground l.background } else record l { foreground = legible l.background l.foreground })) ≡ None
-        → known (text_color (if i then record l { background = legible l.foreground l.background } else record l { foreground = legible l.background l.foreground })) ≡ Some c
-        → OnPage c
-    by true e = rw e (legible_page l.foreground l.background c)
-    by false e = rw e (legible_page l.background l.foreground c)
+look_page l c h k = ⊎_elim
+    (λ (e : l.inverse ≡ true). legible_page l.foreground l.background c (rw e at h) (rw e at k))
+    (λ (e : l.inverse ≡ false). legible_page l.background l.foreground c (rw e at h) (rw e at k))
+    (cases_Bool l.inverse)
 
 -- a colour that isn't exact isn't known
 vague : (c : ColorSpec) → is_exact c ≡ false → known c ≡ None
 vague color.Default h = refl
-vague (color.PaletteIndex i) h = ⊎_elim
-    (λ (a : i < 16). paired i a)
-    (λ (a : 16 ≤ i). absurd (false≢true (sym h ∙ lt-ltb 15 i (omega (arith, a)))))
-    (cases_lt i 16)
-vague (color.TrueColor c) h = absurd (false≢true (sym h))
+vague (color.PaletteIndex i) h = grind (arith, nat_tests)
+vague (color.TrueColor c) h = absurd cc
 
 -- neither of its colours is
 apart : (p : Palette) (l : Look) → has_pairs p ≡ true → is_mixed p l ≡ false → (known l.foreground ≡ None) × (known l.background ≡ None)
-apart p l h e = by (is_exact l.foreground) (is_exact l.background) refl refl (rw h at e)
-  where
-    by : (a b : Bool) → is_exact l.foreground ≡ a → is_exact l.background ≡ b → (a || b) ≡ false → (known l.foreground ≡ None) × (known l.background ≡ None)
-    by true b x y e = absurd (false≢true (sym e))
-    by false true x y e = absurd (false≢true (sym e))
-    by false false x y e = (vague l.foreground x, vague l.background y)
+apart p l h e = let (x, y) = or_parts (is_exact l.foreground) (is_exact l.background) (rw h at e) in (vague l.foreground x, vague l.background y)
 
 text_unknown : (l : Look) → (known l.foreground ≡ None) × (known l.background ≡ None) → known (text_color l) ≡ None
-text_unknown l h = by l.inverse
-  where
-    by : (i : Bool) → known (if i then l.background else l.foreground) ≡ None
-    by true = h.1
-    by false = h.0
+text_unknown l h = cond_both l.inverse l.background l.foreground (λ c. known c ≡ None) (λ _. h.1) (λ _. h.0)
 
 ground_unknown : (l : Look) → (known l.foreground ≡ None) × (known l.background ≡ None) → known (ground_color l) ≡ None
-ground_unknown l h = by l.inverse
-  where
-    by : (i : Bool) → known (if i then l.foreground else l.background) ≡ None
-    by true = h.0
-    by false = h.1
+ground_unknown l h = cond_both l.inverse l.foreground l.background (λ c. known c ≡ None) (λ _. h.0) (λ _. h.1)
 
 -- the look whose text is made legible
 abbrev prepared : Look → Look
 prepared l = record l { foreground = settled_color l.foreground; background = settled_color l.background }
+
+-- and then, where text and background change places, and where they don't
+abbrev made : Look → Bool → Look
+made l true = record (prepared l) { background = legible (settled_color l.foreground) (settled_color l.background) }
+made l false = record (prepared l) { foreground = legible (settled_color l.background) (settled_color l.foreground) }
 
 pub known_apart : (p : Palette) (l : Look) (below : SrgbaTuple) → has_pairs p ≡ true → known (ground_color (settled p l)) ≡ Some below
     → (text : SrgbaTuple) × (known (text_color (settled p l)) ≡ Some text) × (is_near text below ≡ false)
@@ -161,7 +119,7 @@ known_apart p l below h = by (is_mixed p l) refl
     by : (b : Bool) → is_mixed p l ≡ b → known (ground_color (if b then legible_look (prepared l) else l)) ≡ Some below
         → (text : SrgbaTuple) × (known (text_color (if b then legible_look (prepared l) else l)) ≡ Some text) × (is_near text below ≡ false)
     by true e k = let on = look_ground (prepared l) below k in (on.color, on.is, on.apart)
-    by false e k = absurd (false≢true (none_some below (sym (ground_unknown l (apart p l h e)) ∙ k)))
+    by false e k = let none = ground_unknown l (apart p l h e) in absurd cc
 
 pub own_apart : (p : Palette) (l : Look) (text : SrgbaTuple) → has_pairs p ≡ true → known (ground_color (settled p l)) ≡ None → known (text_color (settled p l)) ≡ Some text
     → (is_near text white ≡ false) × (is_near text dark ≡ false)
@@ -170,25 +128,14 @@ own_apart p l text h = by (is_mixed p l) refl
     by : (b : Bool) → is_mixed p l ≡ b → known (ground_color (if b then legible_look (prepared l) else l)) ≡ None
         → known (text_color (if b then legible_look (prepared l) else l)) ≡ Some text → (is_near text white ≡ false) × (is_near text dark ≡ false)
     by true e k m = let on = look_page (prepared l) text k m in (on.light, on.darker)
-    by false e k m = absurd (false≢true (none_some text (sym (text_unknown l (apart p l h e)) ∙ m)))
+    by false e k m = let none = text_unknown l (apart p l h e) in absurd cc
 
 -- ---- the rest of a look, and the second time
 
 pub others_stay : (p : Palette) (l : Look) → settled p l ≡ record l { foreground = (settled p l).foreground; background = (settled p l).background }
-others_stay p l = by (is_mixed p l)
-  where
-    of : (m : Look) (i : Bool) → (if i then record m { background = legible m.foreground m.background } else record m { foreground = legible m.background m.foreground })
-        ≡ record m {
-          foreground = (if i then record m { background = legible m.foreground m.background } else record m { foreground = legible m.background m.foreground }).foreground;
-          background = (if i then record m { background = legible m.foreground m.background } else record m { foreground = legible m.background m.foreground }).background;
-        }
-    of m true = refl
-    of m false = refl
-
-    by : (b : Bool) → (if b then legible_look (prepared l) else l)
-        ≡ record l { foreground = (if b then legible_look (prepared l) else l).foreground; background = (if b then legible_look (prepared l) else l).background }
-    by true = of (prepared l) l.inverse
-    by false = refl
+others_stay p l =
+    let Stay = λ (m : Look). m ≡ record l { foreground = m.foreground; background = m.background } in
+    cond_both (is_mixed p l) (legible_look (prepared l)) l Stay (λ _. cond_both l.inverse (made l true) (made l false) Stay (λ _. refl) (λ _. refl)) (λ _. refl)
 
 pub chosen_stay : (p : Palette) (l : Look) → has_pairs p ≡ false → settled p l ≡ l
 chosen_stay p l h = rw h refl
@@ -197,34 +144,18 @@ chosen_stay p l h = rw h refl
 settled_twice : (c : ColorSpec) → settled_color (settled_color c) ≡ settled_color c
 settled_twice color.Default = refl
 settled_twice (color.TrueColor c) = refl
-settled_twice (color.PaletteIndex i) = by (nat_lt i 16) refl
-  where
-    by : (b : Bool) → nat_lt i 16 ≡ b
-        → settled_color (if b then color.TrueColor (palette i) else color.PaletteIndex i) ≡ (if b then color.TrueColor (palette i) else color.PaletteIndex i)
-    by true e = refl
-    by false e = rw e refl
+settled_twice (color.PaletteIndex i) = cond_both (nat_lt i 16) (color.TrueColor (palette i)) (color.PaletteIndex i) (λ c. settled_color c ≡ c) (λ e. refl) (λ e. rw e refl)
 
 settled_known : (c : ColorSpec) (d : SrgbaTuple) → known c ≡ Some d → settled_color c ≡ c
 settled_known color.Default d h = refl
 settled_known (color.TrueColor c) d h = refl
-settled_known (color.PaletteIndex i) d h = by (nat_lt i 16) refl h
-  where
-    by : (b : Bool) → nat_lt i 16 ≡ b → (if b then None else Some (palette i)) ≡ Some d → settled_color (color.PaletteIndex i) ≡ color.PaletteIndex i
-    by true e k = absurd (false≢true (none_some d k))
-    by false e k = rw e refl
+settled_known (color.PaletteIndex i) d h = grind (arith, nat_tests)
 
 -- a colour that isn't known isn't exact
 unknown : (c : ColorSpec) → known c ≡ None → is_exact c ≡ false
 unknown color.Default h = refl
-unknown (color.TrueColor c) h = absurd (false≢true (none_some c (sym h)))
-unknown (color.PaletteIndex i) h = by (nat_lt i 16) refl h
-  where
-    by : (b : Bool) → nat_lt i 16 ≡ b → (if b then None else Some (palette i)) ≡ None → nat_lt 15 i ≡ false
-    by true e k = ⊎_elim
-        (λ (a : i < 16). le-ltb 15 i (omega (arith, a)))
-        (λ (a : 16 ≤ i). absurd (false≢true (sym (le-ltb i 16 a) ∙ e)))
-        (cases_lt i 16)
-    by false e k = absurd (false≢true (none_some (palette i) (sym k)))
+unknown (color.TrueColor c) h = absurd cc
+unknown (color.PaletteIndex i) h = grind (arith, nat_tests)
 
 legible_stays : (g t : ColorSpec) (c : SrgbaTuple) → known t ≡ Some c → ((d : SrgbaTuple) → known g ≡ Some d → is_near c d ≡ false) → (known g ≡ None → OnPage c) → legible g t ≡ t
 legible_stays g t c h below page = by (known g) refl
@@ -235,7 +166,7 @@ legible_stays g t c h below page = by (known g) refl
 
 legible_twice : (g t : ColorSpec) (c : SrgbaTuple) → known (legible g t) ≡ Some c → legible g (legible g t) ≡ legible g t
 legible_twice g t c h = legible_stays g (legible g t) c h
-    (λ d e. let on = legible_ground g t d e in let same : on.color ≡ c = some_some on.color c (sym on.is ∙ h) in rw (← same) on.apart)
+    (λ d e. let on = legible_ground g t d e in let is = on.is in let same : on.color ≡ c = cc in rw (← same) on.apart)
     (λ e. legible_page g t c e h)
 
 -- where text or ground is exact behind the first time
@@ -248,58 +179,27 @@ twice g t mixed = by (known (legible g t)) (known g) refl refl
   where
     by : (j k : Option SrgbaTuple) → known (legible g t) ≡ j → known g ≡ k → Twice g (legible g t)
     by None None e f = absurd (false≢true (mixed (unknown (legible g t) e) (unknown g f)))
-    by None (Some d) e f = let on = legible_ground g t d f in absurd (false≢true (none_some on.color (sym e ∙ on.is)))
+    by None (Some d) e f = let is = (legible_ground g t d f).is in absurd cc
     by (Some c) k e f = record { same = settled_known (legible g t) c e; still = legible_twice g t c e }
 
-again_inverse : (p : Palette) (l : Look) → l.inverse ≡ true
-    → settled p (record (prepared l) { background = legible (settled_color l.foreground) (settled_color l.background) })
-    ≡ record (prepared l) { background = legible (settled_color l.foreground) (settled_color l.background) }
-again_inverse p l i = by (is_mixed p m) refl
+made_twice : (p : Palette) (l : Look) (i : Bool) → l.inverse ≡ i → settled p (made l i) ≡ made l i
+made_twice p l i e = by i (is_mixed p (made l i)) e refl
   where
-    g : ColorSpec
-    g = settled_color l.foreground
-
-    r : ColorSpec
-    r = legible g (settled_color l.background)
-
-    m : Look
-    m = record (prepared l) { background = r }
-
-    by : (b : Bool) → is_mixed p m ≡ b → (if b then legible_look (prepared m) else m) ≡ m
-    by false k = refl
-    by true k =
-        let q = twice g (settled_color l.background) (λ x y. sym (no_and (has_pairs p) (is_exact g || is_exact r) (rw (x, y) refl)) ∙ k) in
-        rw (i, settled_twice l.foreground, q.same, q.still) refl
-
-again_straight : (p : Palette) (l : Look) → l.inverse ≡ false
-    → settled p (record (prepared l) { foreground = legible (settled_color l.background) (settled_color l.foreground) })
-    ≡ record (prepared l) { foreground = legible (settled_color l.background) (settled_color l.foreground) }
-again_straight p l i = by (is_mixed p m) refl
-  where
-    g : ColorSpec
-    g = settled_color l.background
-
-    r : ColorSpec
-    r = legible g (settled_color l.foreground)
-
-    m : Look
-    m = record (prepared l) { foreground = r }
-
-    by : (b : Bool) → is_mixed p m ≡ b → (if b then legible_look (prepared m) else m) ≡ m
-    by false k = refl
-    by true k =
-        let q = twice g (settled_color l.foreground) (λ x y. sym (no_and (has_pairs p) (is_exact r || is_exact g) (rw (x, y) refl)) ∙ k) in
-        rw (i, settled_twice l.background, q.same, q.still) refl
+    by : (i b : Bool) → l.inverse ≡ i → is_mixed p (made l i) ≡ b → (if b then legible_look (prepared (made l i)) else made l i) ≡ made l i
+    by i false e k = refl
+    by true true e k =
+        let g = settled_color l.foreground in
+        let q = twice g (settled_color l.background) (λ x y. sym (and_right (has_pairs p) _ (rw (x, y) refl)) ∙ k) in
+        rw (e, settled_twice l.foreground, q.same, q.still) refl
+    by false true e k =
+        let g = settled_color l.background in
+        let q = twice g (settled_color l.foreground) (λ x y. sym (and_right (has_pairs p) _ (rw (x, y) refl)) ∙ k) in
+        rw (e, settled_twice l.background, q.same, q.still) refl
 
 pub once : (p : Palette) (l : Look) → settled p (settled p l) ≡ settled p l
 once p l = by (is_mixed p l) l.inverse refl refl
   where
-    m : Bool → Look
-    m true = record (prepared l) { background = legible (settled_color l.foreground) (settled_color l.background) }
-    m false = record (prepared l) { foreground = legible (settled_color l.background) (settled_color l.foreground) }
-
-    by : (b i : Bool) → is_mixed p l ≡ b → l.inverse ≡ i
-        → settled p (if b then if i then m true else m false else l) ≡ (if b then if i then m true else m false else l)
+    by : (b i : Bool) → is_mixed p l ≡ b → l.inverse ≡ i → settled p (if b then if i then made l true else made l false else l) ≡ (if b then if i then made l true else made l false else l)
     by false i e h = rw e refl
-    by true true e h = again_inverse p l h
-    by true false e h = again_straight p l h
+    by true true e h = made_twice p l true h
+    by true false e h = made_twice p l false h

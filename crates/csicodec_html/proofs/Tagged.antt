@@ -8,7 +8,6 @@ use Rattle.csicodec_html.specs.Classes.{classes_of, names, rest_attribute, style
 use Rattle.csicodec_html.specs.Look.{css, is_plain, settled}
 use Rattle.csicodec_html.specs.Page.{Begin, begins, ends, piece_text, piece_texts, turn}
 use Rattle.csicodec_html.specs.Private.Marked.{begin_tag, classed_tag, styled_tag}
-use Rattle.csicodec_html.proofs.Joined.{two}
 
 begin_is : (m : Markup) (l : Look) → begin_tag m l ≡ piece_text (Begin m l)
 begin_is m l = by m.classes
@@ -27,5 +26,4 @@ begun m l h = rw h (append-nil _ ∙ sym (begin_is m l))
 
 pub turned : (m : Markup) (old new : Look) (before mid after : List ℕ) → mid ≡ before ++ piece_texts (ends old)
     → after ≡ mid ++ piece_texts (begins m new) → after ≡ before ++ piece_texts (turn m true old new)
-turned m old new before mid after h k =
-    two before mid after (piece_texts (ends old)) (piece_texts (begins m new)) h k ∙ ap (λ (t : List ℕ). before ++ t) (sym (flat_map-append piece_text (ends old) (begins m new)))
+turned m old new before mid after h k = simp (k, h, append_assoc, flat_map-append)

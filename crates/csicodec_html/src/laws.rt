@@ -30,6 +30,7 @@ pub fn text_stays()
 {}
 
 /// No byte of an attribute ends it, or begins a tag; a reference is one of the five by which characters are escaped, in an address.
+#[tactic(auto, using(crate::proofs::Declarations::css_fine, crate::proofs::Addresses::all_quoted, crate::proofs::Named::name_fine, crate::proofs::Named::true_fine))]
 pub fn attributes_end()
     ensures styles { (p : Palette) (l : Look) → AllByRecursion IsHarmless (css p l) }
     ensures addresses { (url : List ℕ) → AllByRecursion (λ b. is_visible b ≡ true) url
@@ -53,6 +54,7 @@ pub fn one_page()
 {}
 
 /// The classes of a look, and the style beside them, declare what its style does, which has the three parts of `text-decoration` in one.
+#[tactic(auto, using(crate::proofs::Said::weights, crate::proofs::Said::slants, crate::proofs::Said::kinds, crate::proofs::Said::of_line, crate::proofs::Said::of_colors))]
 pub fn same_styles()
     ensures weight { (p : Palette) (i : Intensity) → declares p (weight_class i) ≡ weight i }
     ensures slant { (p : Palette) (b : Bool) → declares p (class_if b class.Italic) ≡ slant b }
@@ -66,23 +68,27 @@ pub fn same_styles()
 {}
 
 /// Each class has its rule in the sheet, and so have lines by all their classes together, which says where they are.
+#[tactic(auto, using(crate::proofs::Ruled::ruled, crate::proofs::Ruled::lines_ruled))]
 pub fn each_rule()
     ensures classes { (p : Palette) (c : Class) → IsClass c → IsIn (class_rule p c) (class_rules p) }
     ensures lines { (p : Palette) (l : Look) → has_line l ≡ true → IsIn (line_rule l) (class_rules p) }
 {}
 
 /// Two classes with one name are one.
+#[tactic(auto, using(crate::proofs::Apart::one_class))]
 pub fn one_class()
     ensures { (c d : Class) → IsClass c → IsClass d → class_name c ≡ class_name d → c ≡ d }
 {}
 
 /// A colour that is written is read back.
+#[tactic(auto, using(crate::proofs::Back::color_back))]
 pub fn color_back()
     ensures { (red green blue : ℕ) → red < 256 → green < 256 → blue < 256
         → given_color (hex_color (rgb red green blue)) ≡ Some (rgb red green blue) }
 {}
 
 /// The palette of xterm has the colours of its places.
+#[tactic(auto, using(crate::proofs::Back::xterm_colors))]
 pub fn xterm_colors()
     ensures { (place : ℕ) → color_at xterm place ≡ Some (palette place) }
 {}
@@ -105,6 +111,7 @@ pub fn text_stands_out()
 {}
 
 /// Only the colours of text and of its ground are settled, those that somebody chose aren't, and once is enough.
+#[tactic(auto, using(crate::proofs::Settled::others_stay, crate::proofs::Settled::chosen_stay, crate::proofs::Settled::once))]
 pub fn colors_settle()
     ensures others { (p : Palette) (l : Look) → settled p l
         ≡ record l { foreground = (settled p l).foreground; background = (settled p l).background } }

@@ -1,4 +1,3 @@
-use Rattle.std.proofs.Common.{arith}
 use Rattle.csicodec_html.proofs.Recalled.{told}
 use Rattle.csicodec_html.proofs.turns.Turns.recall.Goals as goal
 

@@ -1,5 +1,5 @@
 -- Bytes of a class in front, and what is behind them.
-use Rattle.std.proofs.Common.{◌≡◌, ℕ, zero, suc, ◌+◌, ◌<◌, ◌≤◌, Bool, true, false, cond, List, [], ◌∷◌, drop, take, refl, sym, ap, ◌∙◌, arith}
+use Rattle.std.proofs.Common.{◌≡◌, ℕ, zero, suc, ◌+◌, ◌<◌, ◌≤◌, Bool, true, false, cond, List, [], ◌∷◌, drop, take, refl, ap, ◌∙◌, arith}
 use Rattle.std.specs.List.{AllByRecursion, prefix_len}
 use Rattle.csicodec_clean.specs.Bytes.{behind}
 
@@ -23,28 +23,15 @@ module _ (p : ℕ → Bool) where
   pub behind_drop : (r : ℕ) (xs : List ℕ) → r ≤ prefix_len p xs → behind p (drop r xs) ≡ behind p xs
   behind_drop zero xs few = refl
   behind_drop (suc r) [] few = refl
-  behind_drop (suc r) (x ∷ xs) few = go (p x) refl (behind_drop r xs)
-    where
-      go : (b : Bool) → p x ≡ b → (r ≤ prefix_len p xs → behind p (drop r xs) ≡ behind p xs) → behind p (drop r xs) ≡ behind p (x ∷ xs)
-      go true is on = on (omega (arith, few, ap (λ b. cond b (1 + prefix_len p xs) 0) is)) ∙ sym (behind_one x xs is)
-      go false other on = absurd (omega (arith, few, ap (λ b. cond b (1 + prefix_len p xs) 0) other))
+  behind_drop (suc r) (x ∷ xs) few = grind (arith, behind_drop r xs, behind_one x xs)
 
   -- of the first n they are some, and all where they end among these
   pub front_within : (n : ℕ) (xs : List ℕ) → prefix_len p (take n xs) ≤ prefix_len p xs
   front_within zero xs = omega arith
   front_within (suc n) [] = omega arith
-  front_within (suc n) (x ∷ xs) = by (p x) (front_within n xs)
-    where
-      by : (b : Bool) → prefix_len p (take n xs) ≤ prefix_len p xs → cond b (1 + prefix_len p (take n xs)) 0 ≤ cond b (1 + prefix_len p xs) 0
-      by true fewer = omega (arith, fewer)
-      by false fewer = omega arith
+  front_within (suc n) (x ∷ xs) = grind (arith, front_within n xs)
 
   pub front_ends : (n : ℕ) (xs : List ℕ) → prefix_len p (take n xs) < n → prefix_len p (take n xs) ≡ prefix_len p xs
   front_ends zero xs few = absurd (omega (arith, few))
   front_ends (suc n) [] few = refl
-  front_ends (suc n) (x ∷ xs) few = by (p x) few (front_ends n xs)
-    where
-      by : (b : Bool) → cond b (1 + prefix_len p (take n xs)) 0 < suc n → (prefix_len p (take n xs) < n → prefix_len p (take n xs) ≡ prefix_len p xs)
-          → cond b (1 + prefix_len p (take n xs)) 0 ≡ cond b (1 + prefix_len p xs) 0
-      by true less on = ap (λ k. 1 + k) (on (omega (arith, less)))
-      by false less on = refl
+  front_ends (suc n) (x ∷ xs) few = grind (arith, front_ends n xs)

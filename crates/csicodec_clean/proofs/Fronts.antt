@@ -35,9 +35,6 @@ use Rattle.csicodec_clean.proofs.Twice.{one_text}
 abbrev pub GoesOnFrom : List ℕ → List ℕ → Type 0
 GoesOnFrom text front = (more : List ℕ) × (text ≡ front ++ more)
 
-on : (text front more : List ℕ) → text ≡ front ++ more → GoesOnFrom text front
-on text front more e = (more, e)
-
 further : (text front other : List ℕ) → GoesOnFrom text front → GoesOnFrom (text ++ other) front
 further text front other (more, e) = (more ++ other, ap (λ (t : List ℕ). t ++ other) e ∙ append_assoc front more other)
 

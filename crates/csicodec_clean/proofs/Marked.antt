@@ -1,6 +1,6 @@
 -- What `clean` leaves is safe by its bytes alone.
-use Rattle.std.proofs.Common.{◌≡◌, ◌≢◌, ◌<◌, ◌≤◌, ◌+◌, ◌/◌, ◌%◌, ℕ, Bool, true, false, List, [], ◌∷◌, ◌++◌, ◌⊎◌}
-use Rattle.std.proofs.Common.{inl, inr, length, refl, sym, ap, subst, ◌∙◌, append_assoc, arith, ⊎_elim, lt-ltb, le-ltb}
+use Rattle.std.proofs.Common.{◌≡◌, ◌≢◌, ◌<◌, ◌≤◌, ◌+◌, ◌%◌, ℕ, Bool, true, false, List, [], ◌∷◌, ◌++◌, ◌⊎◌}
+use Rattle.std.proofs.Common.{inl, inr, length, refl, sym, ap, subst, ◌∙◌, append_assoc, arith, ⊎_elim}
 use Rattle.std.specs.Prelude.{not, ◌==◌, ◌&&◌}
 use Rattle.std.specs.Char.{encode_utf8}
 use Rattle.std.specs.List.{AllByRecursion}
@@ -33,32 +33,23 @@ Spells c bytes = ((c < 128) × (bytes ≡ c ∷ [])) ⊎ (((b : ℕ) × (160 ≤
 shown_from : (c : ℕ) → 128 ≤ c → IsShown c → 160 ≤ c
 shown_from c h s = grind (arith, nat_tests)
 
-within : (b least : ℕ) → least ≤ b → 194 < least → IsHigh b
-within b least h k = (omega (arith, h, k), λ e. absurd (omega (arith, h, k, e)))
+-- below U+00C0 the first of two bytes is C2, and from there on all are such
+two_bytes : (c : ℕ) → 128 ≤ c → c < 192 → encode_utf8 c ≡ 194 ∷ (128 + c % 64) ∷ []
+unfolding encode_utf8
+two_bytes c h k = grind (arith, nat_tests)
 
-next_byte : (c : ℕ) → IsHigh (128 + c % 64)
-next_byte c = (omega arith, λ e. absurd (omega (arith, e)))
+highs : (c : ℕ) → 192 ≤ c → AllByRecursion IsHigh (encode_utf8 c)
+unfolding encode_utf8
+highs c h = grind (arith, nat_tests)
 
-two_bytes : (c : ℕ) → 160 ≤ c → c < 2048 → Spells c ((192 + c / 64) ∷ (128 + c % 64) ∷ [])
-two_bytes c h k =
-    ⊎_elim
-    (λ (a : c < 192). let first : 192 + c / 64 ≡ 194 = omega (arith, h, a) in inr (inl (128 + c % 64, omega (arith, h, a), ap (λ (b : ℕ). b ∷ (128 + c % 64) ∷ []) first)))
-    (λ (a : 192 ≤ c). let first : 195 ≤ 192 + c / 64 = omega (arith, a) in inr (inr (within (192 + c / 64) 195 first (omega arith), (next_byte c, tt))))
-    (cases_lt c 192)
+one_byte : (c : ℕ) → c < 128 → encode_utf8 c ≡ c ∷ []
+unfolding encode_utf8
+one_byte c h = grind (arith, nat_tests)
 
 pub spells : (c : ℕ) → IsShown c → Spells c (encode_utf8 c)
-unfolding encode_utf8
-spells c h =
-    ⊎_elim
-    (λ (a : c < 128). rw (lt-ltb c 128 a) (inl (a, refl)))
-    (λ (a : 128 ≤ c). ⊎_elim
-    (λ (b : c < 2048). rw (le-ltb c 128 a, lt-ltb c 2048 b) (two_bytes c (shown_from c a h) b))
-    (λ (b : 2048 ≤ c). ⊎_elim
-    (λ (d : c < 65536). rw (le-ltb c 128 a, le-ltb c 2048 b, lt-ltb c 65536 d) (inr (inr (within (224 + c / 4096) 224 (omega arith) (omega arith), (next_byte (c / 64), (next_byte c, tt))))))
-    (λ (d : 65536 ≤ c).
-    rw (le-ltb c 128 a, le-ltb c 2048 b, le-ltb c 65536 d) (inr (inr (within (240 + c / 262144) 240 (omega arith) (omega arith), (next_byte (c / 4096), (next_byte (c / 64), (next_byte c, tt)))))))
-    (cases_lt c 65536))
-    (cases_lt c 2048))
+spells c h = ⊎_elim
+    (λ (a : c < 128). inl (a, one_byte c a))
+    (λ (a : 128 ≤ c). ⊎_elim (λ (b : c < 192). inr (inl (128 + c % 64, omega (arith, shown_from c a h, b), two_bytes c a b))) (λ (b : 192 ≤ c). inr (inr (highs c b))) (cases_lt c 192))
     (cases_lt c 128)
 
 pub high_byte : (b : ℕ) → 128 ≤ b → is_text_byte b ≡ true

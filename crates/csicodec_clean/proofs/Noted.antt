@@ -3,7 +3,7 @@ use Rattle.std.proofs.Common.{◌≡◌, ◌+◌, ◌-◌, ◌∙◌, ℕ, suc, 
 use Rattle.std.specs.Prelude.{◌==◌, MatchBool}
 use Rattle.std.proofs.Math.Seq.{take-append_seam}
 use Rattle.csicodec_names.specs.declared.color.ColorSpec.{ColorSpec}
-use Rattle.csicodec_base.specs.Shapes.{Plane, Front, painted}
+use Rattle.csicodec_base.specs.Shapes.{Plane, painted}
 use Rattle.csicodec_base.specs.SgrText.{sgr_text}
 use Rattle.csicodec_base.specs.declared.sgr.Sgr.{Sgr}
 use Rattle.csicodec_tokens.specs.declared.param.CsiParam.{CsiParam}
@@ -60,8 +60,7 @@ left_given k bytes after old new (actions, is, now, longer) = (
 -- ---- a colour, where all stay
 
 color_note : (plane : Plane) (color : ColorSpec) → note_of depth.Full (SgrAction (painted plane color) ∷ []) ≡ 0 ∷ 1 ∷ 1 ∷ 27 ∷ 91 ∷ sgr_text (painted plane color)
-color_note Front color = ap (λ l. 0 ∷ 1 ∷ 1 ∷ l) (append-nil (27 ∷ 91 ∷ sgr_text (painted Front color)))
-color_note plane color = ap (λ l. 0 ∷ 1 ∷ 1 ∷ l) (append-nil (27 ∷ 91 ∷ sgr_text (painted plane color)))
+color_note plane color = grind (arith, append-nil {A = ℕ})
 
 -- what is noted of it, by what begins with its text
 pub color_noted : (bytes rest own text note : List ℕ) (style : Sgr) (len : ℕ) → IsColored bytes style rest → IsTakenFor own (SgrAction style ∷ [])
@@ -73,8 +72,7 @@ color_noted bytes rest own text note style len (plane, color, opaque, paints, st
     (depth.Full, SgrAction style ∷ [], is, all ∙ subst (λ (s : Sgr). 0 ∷ 1 ∷ 1 ∷ 27 ∷ 91 ∷ sgr_text s ≡ note_of depth.Full (SgrAction s ∷ [])) (sym paints) (sym (color_note plane color)))
 
 color_open : (plane : Plane) (color : ColorSpec) (styled : Bool) → true ≡ is_open styled (kept depth.Full (SgrAction (painted plane color) ∷ []))
-color_open Front color styled = refl
-color_open _ color styled = refl
+color_open plane color styled = grind arith
 
 -- and what is left of it
 pub color_left : (bytes rest own old new : List ℕ) (style : Sgr) (styled : Bool) → IsColored bytes style rest → IsTakenFor own (SgrAction style ∷ [])

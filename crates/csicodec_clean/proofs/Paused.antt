@@ -52,12 +52,8 @@ module _ {S : Type 0} (Gives : RuleOf S) where
       let now : take q.held (left ++ rest) ≡ left = ap (λ (i : ℕ). take i (left ++ rest)) n ∙ take-append_seam left rest in
       let later : drop q.held (left ++ rest) ≡ rest = ap (λ (i : ℕ). drop i (left ++ rest)) n ∙ drop-append_seam left rest in
       record {
-        unsure = subst (λ (x : List ℕ). IsUnsure longest q.mode x) (sym later) unsure;
-        goes = λ run chars read.
-            let g = goes run chars (subst (λ (x : List ℕ). IsRead run chars x) (sym first) read) in
-            let g1 = subst (λ (x : List ℕ). Goes Gives longest p.mode p.titled s run chars x text rest q.mode q.titled t left) others g in
-            let g2 = subst (λ (x : List ℕ). Goes Gives longest p.mode p.titled s run chars (drop p.held again ++ more) text x q.mode q.titled t left) (sym later) g1 in
-            subst (λ (x : List ℕ). Goes Gives longest p.mode p.titled s run chars (drop p.held again ++ more) text (drop q.held (left ++ rest)) q.mode q.titled t x) (sym now) g2;
+        unsure = rw later unsure;
+        goes = λ run chars read. rw (now, later, ← others) (goes run chars (rw first read));
       }
 
   pub stepped : (s t : S) (p q : Pause) (bytes held behind text before left rest : List ℕ) (used : ℕ) → held ≡ take p.held bytes

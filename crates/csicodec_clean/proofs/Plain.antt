@@ -40,15 +40,12 @@ scalars_lossy bs = scalars_within (length bs) bs (omega arith)
 abbrev Kept : List ℕ → Type 0
 Kept cs = (all_scalars cs ≡ true) × AllByRecursion IsShown cs
 
-keep_one : (c : ℕ) (cs : List ℕ) (b : Bool) → shown c ≡ b → Kept cs → scalar c ≡ true → Kept (cond b (c ∷ cs) cs)
-keep_one c cs true e r one = (and_from (scalar c) (all_scalars cs) one r.0, (e, r.1))
-keep_one c cs false e r one = r
-
 pub kept_shown : (cs : List ℕ) → all_scalars cs ≡ true → Kept (filter shown cs)
 kept_shown [] h = (refl, tt)
 kept_shown (c ∷ cs) h =
     let both = and_parts (scalar c) (all_scalars cs) h in
-    keep_one c (filter shown cs) (shown c) refl (kept_shown cs both.1) both.0
+    let more = kept_shown cs both.1 in
+    cond_both (shown c) (c ∷ filter shown cs) (filter shown cs) Kept (λ e. (and_from (scalar c) (all_scalars (filter shown cs)) both.0 more.0, (e, more.1))) (λ _. more)
 
 pub plain_shown : (run : List ℕ) → IsPlain (shown_text run)
 plain_shown run = let k = kept_shown (lossy_chars run) (scalars_lossy run) in (filter shown (lossy_chars run), k.0, k.1, refl)

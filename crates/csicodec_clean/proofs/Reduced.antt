@@ -86,8 +86,7 @@ pub reduced_twice : (d : Depth) (s : Sgr) → reduced d (reduced d s) ≡ reduce
 reduced_twice d s = grind (arith, color_twice)
 
 pub reduced_hides : (d : Depth) (s : Sgr) → hides (reduced d s) ≡ hides s
-reduced_hides d (sgr.Foreground c) = refl
-reduced_hides d s = refl
+reduced_hides d s = grind arith
 
 pub reduced_alone : (d : Depth) (s : Sgr) → ReadsAlone (action.Sgr s) false → ReadsAlone (action.Sgr (reduced d s)) false
 reduced_alone d (sgr.Foreground c) h = alone-only false _ (canonical-alone (action.Sgr (sgr.Foreground (reduced_color d c))) false (in_range d c (style_range (sgr.Foreground c) h)) tt)

@@ -268,20 +268,15 @@ one_part : (d : Depth) (k : Kind) (text : List ℕ) (m a : Mode) (bytes rest : L
     → (Held a (done ++ part k text ∷ []) (begun_behind (with_links d) b (read_as k t) text) → AllByRecursion (IsAdmitted (StoodIn whole)) (links_of others))
     → AllByRecursion (IsAdmitted (StoodIn whole)) (links_of items)
 one_part d kind.Text text m a bytes rest b true run done later whole items own others first h split leaves e f =
-    subst (AllByRecursion (IsAdmitted (StoodIn whole))) (sym (ap links_of e ∙ none_left d b kind.Other run text own others refl leaves))
-    (f record { at_rest = h.at_rest; open_or_shut = inr (fit longest m bytes kind.Text text rest a first).0 })
+    rw (e, none_left d b kind.Other run text own others refl leaves) (f record { at_rest = h.at_rest; open_or_shut = inr (fit longest m bytes kind.Text text rest a first).0 })
 one_part d kind.Text text m a bytes rest b false run done later whole items own others first h split leaves e f =
-    subst (AllByRecursion (IsAdmitted (StoodIn whole))) (sym (ap links_of e ∙ none_left d b kind.Text run text own others refl leaves))
-    (f record { at_rest = h.at_rest; open_or_shut = inr (fit longest m bytes kind.Text text rest a first).0 })
+    rw (e, none_left d b kind.Text run text own others refl leaves) (f record { at_rest = h.at_rest; open_or_shut = inr (fit longest m bytes kind.Text text rest a first).0 })
 one_part d kind.Csi text m a bytes rest b t run done later whole items own others first h split leaves e f =
-    subst (AllByRecursion (IsAdmitted (StoodIn whole))) (sym (ap links_of e ∙ none_left d b kind.Csi run text own others refl leaves))
-    (f record { at_rest = h.at_rest; open_or_shut = inr (fit longest m bytes kind.Csi text rest a first) })
+    rw (e, none_left d b kind.Csi run text own others refl leaves) (f record { at_rest = h.at_rest; open_or_shut = inr (fit longest m bytes kind.Csi text rest a first) })
 one_part d kind.Esc text m a bytes rest b t run done later whole items own others first h split leaves e f =
-    subst (AllByRecursion (IsAdmitted (StoodIn whole))) (sym (ap links_of e ∙ none_left d b kind.Esc run text own others refl leaves))
-    (f record { at_rest = h.at_rest; open_or_shut = inr (fit longest m bytes kind.Esc text rest a first).0 })
+    rw (e, none_left d b kind.Esc run text own others refl leaves) (f record { at_rest = h.at_rest; open_or_shut = inr (fit longest m bytes kind.Esc text rest a first).0 })
 one_part d kind.Other text m a bytes rest b t run done later whole items own others first h split leaves e f =
-    subst (AllByRecursion (IsAdmitted (StoodIn whole))) (sym (ap links_of e ∙ none_left d b kind.Other run text own others refl leaves))
-    (f record { at_rest = h.at_rest; open_or_shut = inr (fit longest m bytes kind.Other text rest a first) })
+    rw (e, none_left d b kind.Other run text own others refl leaves) (f record { at_rest = h.at_rest; open_or_shut = inr (fit longest m bytes kind.Other text rest a first) })
 one_part d kind.Str text m a bytes rest b t run done later whole items own others first h split leaves e f =
     let fits = fit longest m bytes kind.Str text rest a first in
     let now = after_piece whole done later m b text split h fits in

@@ -1,6 +1,7 @@
 -- A piece stays, whatever follows, once it is a character or bytes stand behind it.
-use Rattle.std.proofs.Common.{◌≡◌, ◌≢◌, ℕ, ◌<◌, ◌≤◌, List, [], ◌∷◌, ◌++◌, Option, None, Some, drop, length, length-append, slice_index, refl, sym, ap, subst, ◌∙◌, arith, append_assoc, append-nil, ⊎_elim}
-use Rattle.std.proofs.lemmas.Bool.{cases_lt}
+use Rattle.std.proofs.Common.{◌≡◌, ◌≢◌, ℕ, ◌<◌, ◌≤◌, List, [], ◌∷◌, ◌++◌, Option, None, Some}
+use Rattle.std.proofs.Common.{drop, length, length-append, slice_index, refl, sym, ap, subst, ◌∙◌, arith, append_assoc, append-nil}
+use Rattle.std.proofs.lemmas.Bool.Decides.{nat_tests}
 use Rattle.std.proofs.lemmas.List.{get_or_append_left, drop-append-le, drop_all}
 use Rattle.bstr.specs.Utf8.{Decoded, decoded, decoded_by, or_replacement, replacement, lossy_chars}
 use Rattle.bstr.proofs.lemmas.PieceLemmas.{by-shape, piece-bounds, lossy_chars-step, lossy_chars-nil, value-1, value-2, value-3, value-5, value-6, value-8, value-9, value-11, value-12}
@@ -75,28 +76,7 @@ cut_char bs some cut =
 
 -- and short
 pub cut_short : (bs : List ℕ) → IsCut bs → length bs ≤ 3
-cut_short bs cut = ⊎_elim
-    (λ (long : 3 < length bs).
-    let h = cut (omega arith) in
-    let b = slice_index bs 0 in let c = slice_index bs 1 in let d = slice_index bs 2 in let e = slice_index bs 3 in
-    let char = λ (p : Decoded) (is : decoded bs ≡ p). sym (ap (λ (q : Decoded). q.char) is) ∙ h.0 in
-    let size = λ (p : Decoded) (is : decoded bs ≡ p). sym (ap (λ (q : Decoded). q.size) is) ∙ h.1 in
-    by-shape (length bs) b c d e
-    (λ k. absurd (omega (arith, k.0)))
-    (λ k. let z = char _ k.2 in cc)
-    (λ k. let z = size _ k.3 in absurd (omega arith))
-    (λ k. let z = size _ k.2 in absurd (omega arith))
-    (λ k. let z = size _ k.4 in absurd (omega arith))
-    (λ k. let z = size _ k.4 in absurd (omega arith))
-    (λ k. let z = char _ k.4 in cc)
-    (λ k. let z = size _ k.5 in absurd (omega arith))
-    (λ k. let z = size _ k.5 in absurd (omega arith))
-    (λ k. let z = char _ k.5 in cc)
-    (λ k. let z = size _ k.6 in absurd (omega arith))
-    (λ k. let z = size _ k.6 in absurd (omega arith))
-    (λ k. let z = char _ k.6 in cc))
-    (λ (low : length bs ≤ 3). low)
-    (cases_lt 3 (length bs))
+cut_short bs cut = grind (arith, nat_tests)
 
 -- the piece in front, of so many bytes
 read_front : (bs : List ℕ) (o : Option ℕ) (size : ℕ) → 0 < length bs → o ≡ (decoded bs).char → size ≡ (decoded bs).size

@@ -143,8 +143,7 @@ as_is : (k : Kind) (t : Bool) → (k ≡ kind.Text → t ≡ true → ⊥) → r
 as_is k t f = grind arith
 
 shut_before : (ps : List Part) → Opened false ps → InTitle ps
-shut_before ps (inl (is, texts)) = absurd cc
-shut_before ps (inr h) = h
+shut_before ps h = grind arith
 
 pub kept : (bytes : List ℕ) (before behind : List Part) (p : Part) → IsWhole longest mode.Text bytes (before ++ p ∷ behind) → (IsText p → ¬ InTitle before)
     → slice_get (with_titles false (before ++ p ∷ behind)) (length before) ≡ Some p

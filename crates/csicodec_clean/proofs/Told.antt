@@ -1,5 +1,5 @@
 -- Text that is told by its bytes.
-use Rattle.std.proofs.Common.{◌≡◌, ◌-◌, ◌<◌, ◌≤◌, ℕ, Bool, true, false, cond, List, [], ◌∷◌, ◌++◌, length, length-append, drop, take}
+use Rattle.std.proofs.Common.{◌≡◌, ◌-◌, ◌<◌, ◌≤◌, ℕ, Bool, true, false, List, [], ◌∷◌, ◌++◌, length, length-append, drop, take}
 use Rattle.std.proofs.Common.{slice_index, encode_utf8_all, refl, sym, ap, ◌∙◌, arith, lt-ltb, append_assoc, append-nil, take-append-drop, zero, suc}
 use Rattle.std.specs.List.{AllByRecursion, prefix_len}
 use Rattle.std.specs.Str.{all_scalars}
@@ -106,15 +106,6 @@ one_read b bs a =
     let first : decoded all ≡ good b 1 = value-1 (length all) b (slice_index all 1) (slice_index all 2) (slice_index all 3) (omega arith, a) in
     lossy_chars-step all (omega arith) ∙ ap (λ (p : Decoded). or_replacement p.char ∷ lossy_chars (drop p.size all)) first
 
-low_dropped : (b : ℕ) → dropped_byte b ≡ true → b < 128
-low_dropped b h = grind (arith, nat_tests)
-
-other_dropped : (b : ℕ) → dropped_byte b ≡ true → IsOther b
-other_dropped b h = λ e. absurd (grind (arith, nat_tests))
-
-hidden_dropped : (b : ℕ) → dropped_byte b ≡ true → shown b ≡ false
-hidden_dropped b h = grind (arith, nat_tests)
-
 -- ---- what is appended for it
 
 pub tells_none : (bytes old : List ℕ) → Tells bytes bytes old old
@@ -139,13 +130,10 @@ tells_shown bytes rest old new (text, e, p) n =
     (text, p.0, e, told.0, n ∙ ap (λ t. old ++ t) (front_taken bytes text rest e ∙ sym told.1))
 
 pub tells_dropped : (b : ℕ) (bytes rest old : List ℕ) → bytes ≡ b ∷ rest → dropped_byte b ≡ true → Tells bytes rest old old
-tells_dropped b bytes rest old e d = (
-  b ∷ [],
-  b ∷ [],
-  e,
-  ((other_dropped b d, tt), λ more. one_read b more (low_dropped b d)),
-  sym (append-nil old) ∙ ap (λ x. old ++ encode_utf8_all (cond x (b ∷ []) [])) (sym (hidden_dropped b d)),
-)
+tells_dropped b bytes rest old e d =
+    let other : IsOther b = λ is. absurd (grind (arith, nat_tests)) in
+    let hidden : shown b ≡ false = grind (arith, nat_tests) in
+    (b ∷ [], b ∷ [], e, ((other, tt), λ more. one_read b more (grind (arith, nat_tests))), rw (hidden, append-nil) refl)
 
 -- what is told is read in front of the rest
 pub read_front : (text rest chars : List ℕ) → IsRead text chars [] → IsRead (text ++ rest) chars rest
@@ -160,25 +148,14 @@ none_held (h ∷ held) bytes chars rest new none read e = absurd (omega (arith, 
 
 pub two : (b c d e : ℕ) → 0xC2 ≤ b → b < 0xE0 → continues c ≡ true → (b ≡ 0xC2 → 0x9F < c) → IsWide b c d e 2
 two b c d e low high ok first =
-    let range : (0x80 ≤ c) × (c < 0xC0) = (grind (arith, nat_tests), grind (arith, nat_tests)) in
     let is_second : second b c ≡ true = grind (arith, nat_tests) in
-    let bound : 160 ≤ code_of_2 b c = grind arith in
-    (code_of_2 b c, bound, λ n many. value-6 n b c d e (omega (arith, many), low, high, is_second))
+    (code_of_2 b c, grind (arith, nat_tests), λ n many. value-6 n b c d e (omega (arith, many), low, high, is_second))
 
 pub three : (b c d e : ℕ) → 0xE0 ≤ b → b < 0xF0 → second b c ≡ true → continues d ≡ true → IsWide b c d e 3
-three b c d e low high ok more =
-    let range : (0x80 ≤ c) × (c < 0xC0) × (0x80 ≤ d) × (d < 0xC0) =
-    (grind (arith, nat_tests), grind (arith, nat_tests), grind (arith, nat_tests), grind (arith, nat_tests)) in
-    let narrow : b ≡ 0xE0 → 0xA0 ≤ c = λ e. grind (arith, nat_tests) in
-    let bound : 160 ≤ code_of_3 b c d = grind arith in
-    (code_of_3 b c d, bound, λ n many. value-9 n b c d e (omega (arith, many), low, high, ok, more))
+three b c d e low high ok more = (code_of_3 b c d, grind (arith, nat_tests), λ n many. value-9 n b c d e (omega (arith, many), low, high, ok, more))
 
 pub four : (b c d e : ℕ) → 0xF0 ≤ b → b ≤ 0xF4 → second b c ≡ true → continues d ≡ true → continues e ≡ true → IsWide b c d e 4
-four b c d e low high ok more most =
-    let range : (0x80 ≤ c) × (c < 0xC0) = (grind (arith, nat_tests), grind (arith, nat_tests)) in
-    let narrow : b ≡ 0xF0 → 0x90 ≤ c = λ h. grind (arith, nat_tests) in
-    let bound : 160 ≤ code_of_4 b c d e = grind arith in
-    (code_of_4 b c d e, bound, λ n many. value-12 n b c d e (many, low, high, ok, more, most))
+four b c d e low high ok more most = (code_of_4 b c d e, grind (arith, nat_tests), λ n many. value-12 n b c d e (many, low, high, ok, more, most))
 
 from_shown : (c : ℕ) → 160 ≤ c → shown c ≡ true
 from_shown c h = grind (arith, nat_tests)

@@ -10,17 +10,11 @@ use Rattle.csicodec_tokens.specs.declared.param.CsiParam.TheVariants.{Integer, P
 use Rattle.csicodec_tokens.specs.OneBased.{most}
 use Rattle.csicodec_tokens.specs.Sequence.{IsSpellable, Reads, Spellable}
 use Rattle.csicodec_base.specs.declared.sgr.Font.TheVariants as font
-use Rattle.csicodec_base.specs.declared.sgr.Sgr.{Sgr}
 use Rattle.csicodec_base.specs.declared.sgr.Sgr.TheVariants as sgr
-use Rattle.csicodec_actions.specs.declared.cursor.Cursor.{Cursor}
 use Rattle.csicodec_actions.specs.declared.cursor.Cursor.TheVariants as cursor
-use Rattle.csicodec_actions.specs.declared.edit.Edit.{Edit}
 use Rattle.csicodec_actions.specs.declared.edit.Edit.TheVariants as edit
-use Rattle.csicodec_actions.specs.declared.keyboard.Keyboard.{Keyboard}
 use Rattle.csicodec_actions.specs.declared.keyboard.Keyboard.TheVariants as keyboard
-use Rattle.csicodec_actions.specs.declared.mode.Mode.{Mode}
 use Rattle.csicodec_actions.specs.declared.mode.Mode.TheVariants as mode
-use Rattle.csicodec_actions.specs.declared.window.Window.{Window}
 use Rattle.csicodec_actions.specs.declared.window.Window.TheVariants as window
 use Rattle.csicodec_actions.specs.Actions.{Action}
 use Rattle.csicodec_actions.specs.Actions as action
@@ -34,36 +28,23 @@ use Rattle.csicodec_actions.specs.declared.mode.DecPrivateMode.TheVariants as de
 use Rattle.csicodec_actions.specs.declared.mode.TerminalMode.{TerminalMode}
 use Rattle.csicodec_actions.specs.declared.mode.TerminalMode.TheVariants as terminal
 use Rattle.csicodec_actions.specs.declared.mouse.MouseButton.{MouseButton}
-use Rattle.csicodec_actions.specs.declared.mouse.MouseReport.{MouseReport}
 use Rattle.csicodec_actions.specs.declared.mouse.MouseReport.TheVariants as mouse
-use Rattle.csicodec_actions.specs.Devices.{Device}
 use Rattle.csicodec_actions.specs.Devices as device
 use Rattle.csicodec_actions.specs.Written.{AllGood, GoodAttribute, Attribute, listed}
 use Rattle.csicodec_actions.specs.Kinds.{GoodDec, GoodItem, GoodTerminal, IsOneBased, Count, Kind, Last}
 use Rattle.csicodec_actions.specs.Modes.{dec_number, terminal_number}
 use Rattle.csicodec_actions.specs.Mouse.{is_release}
 use Rattle.csicodec_actions.specs.Ranges as actions_ranges
-use Rattle.csicodec_actions.specs.Table.Cursor.{written_cursor}
-use Rattle.csicodec_actions.specs.Table.Device.{written_device}
-use Rattle.csicodec_actions.specs.Table.Edit.{written_edit}
-use Rattle.csicodec_actions.specs.Table.Keyboard.{written_keyboard}
-use Rattle.csicodec_actions.specs.Table.Mode.{written_mode}
-use Rattle.csicodec_actions.specs.Table.Mouse.{written_mouse, written_report}
-use Rattle.csicodec_actions.specs.Table.Window.{written_window}
-use Rattle.csicodec_parser.specs.Canonical.{Canonical, IsCanonicalSgr}
+use Rattle.csicodec_actions.specs.Table.Mouse.{written_report}
+use Rattle.csicodec_parser.specs.Canonical.{Canonical}
 use Rattle.csicodec_parser.specs.Segments.{Actions}
 use Rattle.csicodec.proofs.Kept.{Kept}
 use Rattle.csicodec.proofs.Parsed.{parsed-kept}
 use Rattle.csicodec.proofs.Twins.{IsParsedSpecial}
 use Rattle.csicodec_structs.proofs.ModeNumbers.{dec-fits, terminal-fits}
-use Rattle.csicodec_structs.specs.Ranges.{CursorInRange, DeviceInRange, EditInRange, InRange, KeyboardInRange, ModeInRange, MouseInRange, SgrInRange, WindowInRange}
-use Rattle.csicodec_structs.specs.Named.{IsNamed, IsNamedDevice, IsNamedMode}
+use Rattle.csicodec_structs.specs.Ranges.{InRange}
+use Rattle.csicodec_structs.specs.Named.{IsNamed}
 use Rattle.csicodec_structs.specs.Values.{AttributeInRange, IsNamedAttribute, IsNamedDec, IsNamedItem, IsNamedTerminal, TokenInRange}
-
-sgr-range : (s : Sgr) → actions_ranges.SgrInRange s → IsCanonicalSgr s → SgrInRange s
-sgr-range (sgr.Font font.Default) range h = tt
-sgr-range (sgr.Font (font.Alternate n)) range h = h
-sgr-range other range h = range
 
 most-fits : IsOneBased most
 most-fits = record { above = omega arith; fits = omega arith }
@@ -75,16 +56,6 @@ margins k a b true e h =
     rw (eqb-true a 1 p.0, eqb-true b most p.1) (record { above = omega arith; fits = omega arith }, most-fits)
 margins k a b false e h = h refl
 
-cursor-range : (c : Cursor) → AllGood (written_cursor c).items → CursorInRange c
-cursor-range (cursor.SetTopAndBottomMargins a b) h = margins Last a b (a == 1 && b == most) refl (λ e. let g = rw e at h in (g.0, g.1.0))
-cursor-range (cursor.SetLeftAndRightMargins a b) h = margins Count a b (a == 1 && b == most) refl (λ e. let g = rw e at h in (g.0, g.1.0))
-cursor-range (cursor.Up n) h = h.0.fits
-cursor-range other h = search rules
-
-edit-range : (e : Edit) → AllGood (written_edit e).items → EditInRange e
-edit-range (edit.Repeat n) h = search rules
-edit-range other h = search rules
-
 dec-kept : (m : DecPrivateMode) → GoodDec m → (dec_number m < 65536) × IsNamedDec m
 dec-kept (dec.Code c) h = (dec-fits c, tt)
 dec-kept (dec.Unspecified n) h = (h.fits, h.own)
@@ -93,26 +64,11 @@ terminal-kept : (m : TerminalMode) → GoodTerminal m → (terminal_number m < 6
 terminal-kept (terminal.Code c) h = (terminal-fits c, tt)
 terminal-kept (terminal.Unspecified n) h = (h.fits, h.own)
 
-mode-kept : (m : Mode) → AllGood (written_mode m).items → ModeInRange m × IsNamedMode m
-mode-kept (mode.SetDecPrivateMode m) h = dec-kept m h.0
-mode-kept (mode.ResetDecPrivateMode m) h = dec-kept m h.0
-mode-kept (mode.SaveDecPrivateMode m) h = dec-kept m h.0
-mode-kept (mode.RestoreDecPrivateMode m) h = dec-kept m h.0
-mode-kept (mode.QueryDecPrivateMode m) h = dec-kept m h.0
-mode-kept (mode.SetMode m) h = terminal-kept m h.0
-mode-kept (mode.ResetMode m) h = terminal-kept m h.0
-mode-kept (mode.QueryMode m) h = terminal-kept m h.0
-mode-kept (mode.XtermKeyMode keys value) h = (tt, tt)
-
 words : (b : MouseButton) (m : Modifiers) (x y : ℕ) → AllGood (written_report b m x y).items → (x < 65536) × (y < 65536)
 words b m x y h = elim (cases_Bool (is_release b)) [
   | inl released ↦ (let g = rw released at h in (g.1.0, g.1.1.0))
   | inr not ↦ (let g = rw not at h in (g.1.0, g.1.1.0))
 ]
-
-mouse-range : (m : MouseReport) → AllGood (written_mouse m).items → MouseInRange m
-mouse-range (mouse.SGR1006 x y b m) h = words b m x y h
-mouse-range (mouse.SGR1016 x y b m) h = words b m x y h
 
 token-range : (t : CsiParam) → IsSpellable t → TokenInRange t
 token-range (Integer z) h = tt
@@ -140,35 +96,38 @@ item-kept : (i : XtSmGraphicsItem) → GoodItem i → IsNamedItem i
 item-kept (item.Unspecified z) h = h.1
 item-kept other h = tt
 
-device-kept : (d : Device) → AllGood (written_device d).items → DeviceInRange d × IsNamedDevice d
-device-kept (device.DeviceAttributes (device.Vt220 list)) h = attributes-kept list h.1
-device-kept (device.DeviceAttributes (device.Vt320 list)) h = attributes-kept list h.1
-device-kept (device.DeviceAttributes (device.Vt420 list)) h = attributes-kept list h.1
-device-kept (device.DeviceAttributes device.Vt102) h = (tt, tt)
-device-kept (device.DeviceAttributes other) h = (tt, tt)
-device-kept (device.XtSmGraphics item action_or_status value) h = (tt, item-kept item h.0)
-device-kept other h = (tt, tt)
-
-window-range : (w : Window) → AllGood (written_window w).items → WindowInRange w
-window-range (window.ChecksumRectangularArea request page top left bottom right) h = (h.1.1.0, h.1.1.1.0, h.1.1.1.1.0, h.1.1.1.1.1.0)
-window-range other h = tt
-
-keyboard-range : (k : Keyboard) → AllGood (written_keyboard k).items → KeyboardInRange k
-keyboard-range (keyboard.SetKittyState flags way) h = omega (arith, h.0)
-keyboard-range (keyboard.PushKittyState flags way) h = omega (arith, h.0)
-keyboard-range (keyboard.PopKittyState n) h = h.0
-keyboard-range keyboard.QueryKittySupport h = tt
-keyboard-range (keyboard.ReportKittyState flags) h = omega (arith, h.0)
-
 canonical-kept : (a : Action) → actions_ranges.InRange a → Canonical a false → InRange a × IsNamed a
-canonical-kept (action.Sgr s) range h = (sgr-range s range h, tt)
-canonical-kept (action.Cursor c) range h = (cursor-range c h.0, tt)
-canonical-kept (action.Edit e) range h = (edit-range e h.0, tt)
-canonical-kept (action.Mode m) range h = mode-kept m h.0
-canonical-kept (action.Mouse m) range h = (mouse-range m h.0, tt)
-canonical-kept (action.Device d) range h = device-kept d h.0
-canonical-kept (action.Window w) range h = (window-range w h.0, tt)
-canonical-kept (action.Keyboard k) range h = (keyboard-range k h.0, tt)
+canonical-kept (action.Sgr (sgr.Font font.Default)) range h = (tt, tt)
+canonical-kept (action.Sgr (sgr.Font (font.Alternate n))) range h = (h, tt)
+canonical-kept (action.Sgr s) range h = (range, tt)
+canonical-kept (action.Cursor (cursor.SetTopAndBottomMargins a b)) range h = (margins Last a b (a == 1 && b == most) refl (λ e. let g = rw e at h.0 in (g.0, g.1.0)), tt)
+canonical-kept (action.Cursor (cursor.SetLeftAndRightMargins a b)) range h = (margins Count a b (a == 1 && b == most) refl (λ e. let g = rw e at h.0 in (g.0, g.1.0)), tt)
+canonical-kept (action.Cursor (cursor.Up n)) range h = (h.0.0.fits, tt)
+canonical-kept (action.Cursor c) range h = (search rules, tt)
+canonical-kept (action.Edit (edit.Repeat n)) range h = (search rules, tt)
+canonical-kept (action.Edit e) range h = (search rules, tt)
+canonical-kept (action.Mode (mode.SetDecPrivateMode m)) range h = dec-kept m h.0.0
+canonical-kept (action.Mode (mode.ResetDecPrivateMode m)) range h = dec-kept m h.0.0
+canonical-kept (action.Mode (mode.SaveDecPrivateMode m)) range h = dec-kept m h.0.0
+canonical-kept (action.Mode (mode.RestoreDecPrivateMode m)) range h = dec-kept m h.0.0
+canonical-kept (action.Mode (mode.QueryDecPrivateMode m)) range h = dec-kept m h.0.0
+canonical-kept (action.Mode (mode.SetMode m)) range h = terminal-kept m h.0.0
+canonical-kept (action.Mode (mode.ResetMode m)) range h = terminal-kept m h.0.0
+canonical-kept (action.Mode (mode.QueryMode m)) range h = terminal-kept m h.0.0
+canonical-kept (action.Mouse (mouse.SGR1006 x y b m)) range h = (words b m x y h.0, tt)
+canonical-kept (action.Mouse (mouse.SGR1016 x y b m)) range h = (words b m x y h.0, tt)
+canonical-kept (action.Device (device.DeviceAttributes (device.Vt220 list))) range h = attributes-kept list h.0.1
+canonical-kept (action.Device (device.DeviceAttributes (device.Vt320 list))) range h = attributes-kept list h.0.1
+canonical-kept (action.Device (device.DeviceAttributes (device.Vt420 list))) range h = attributes-kept list h.0.1
+canonical-kept (action.Device (device.XtSmGraphics item action_or_status value)) range h = (tt, item-kept item h.0.0)
+canonical-kept (action.Window (window.ChecksumRectangularArea request page top left bottom right)) range h = (
+  (h.0.1.1.0, h.0.1.1.1.0, h.0.1.1.1.1.0, h.0.1.1.1.1.1.0),
+  tt,
+)
+canonical-kept (action.Keyboard (keyboard.SetKittyState flags way)) range h = (omega (arith, h.0.0), tt)
+canonical-kept (action.Keyboard (keyboard.PushKittyState flags way)) range h = (omega (arith, h.0.0), tt)
+canonical-kept (action.Keyboard (keyboard.PopKittyState n)) range h = (h.0.0, tt)
+canonical-kept (action.Keyboard (keyboard.ReportKittyState flags)) range h = (omega (arith, h.0.0), tt)
 canonical-kept (action.Unspecified params flag final) range h = ((All-from_recursion TokenInRange params (tokens-range params h.spellable), low_scalar final (omega (arith, h.ends.1))), h.same_flag)
 canonical-kept other range h = (tt, tt)
 

@@ -1,19 +1,14 @@
 -- Room with one item more, and with one action more.
-use Rattle.std.specs.Prelude.{IfOk, IfSome, Ok, Err, Result}
-use Rattle.std.proofs.Common.{◌≡◌, ◌<◌, ◌≤◌, ◌+◌, ℕ, suc, false, List, [], ◌∷◌, ◌++◌, length, take, slice_set, Option, Some, None, ap, sym, subst, refl, ◌∙◌, arith, length-append}
+use Rattle.std.proofs.Common.{◌≡◌, ◌<◌, ◌≤◌, ◌+◌, ℕ, suc, List, [], ◌∷◌, ◌++◌, length, take, slice_set, Some, ap, sym, refl, ◌∙◌, arith, length-append}
 use Rattle.std.specs.List.{slice_get}
-use Rattle.std.specs.Option.{ok_or}
-use Rattle.std.specs.declared.alloc.AllocError.{AllocError}
 use Rattle.std.proofs.lemmas.List.{flat_map_more, take_more}
 use Rattle.std.proofs.lemmas.Option.{get_or_from_slice_get, slice_get_within}
 use Rattle.csicodec_actions.specs.Actions.{Action}
-use Rattle.csicodec_parser.specs.declared.parser.ActionRef.{ActionRef}
-use Rattle.csicodec_parser.specs.Next.{IsRef}
 use Rattle.csicodec_structs.specs.declared.lay.Counts.{Counts}
 use Rattle.csicodec_structs.specs.declared.structs.Param.{Param}
 use Rattle.csicodec_structs.specs.declared.structs.Struct.{Struct}
 use Rattle.csicodec_structs.specs.Next.{Lays, all_params, structs}
-use Rattle.csicodec_structs.specs.Private.Fronts.{LaysOne, PutsBehind}
+use Rattle.csicodec_structs.specs.Private.Fronts.{PutsBehind}
 use Rattle.csicodec_structs.specs.Room.{laid}
 use Rattle.csicodec_structs.specs.Rows.{params_of, struct_of}
 
@@ -99,31 +94,3 @@ lays_none actions params = record { actions = refl; params = refl; lays_actions 
 
 pub take_got : (all : List Action) (i : ℕ) (a : Action) → slice_get all i ≡ Some a → take (i + 1) all ≡ take i all ++ a ∷ []
 take_got all i a e = take_more all i a (slice_get_within all i a e) ∙ ap (λ x. take i all ++ x ∷ []) (get_or_from_slice_get all i a a e)
-
--- ---- one action more, by where its tokens are
-
--- what is answered where none may be counted
-pub or_failed : (o : Option Counts) (r : Result Counts AllocError) (e : AllocError) (P Q : Counts → Type 0) → r ≡ ok_or o e → ((n : Counts) → P n → Q n) → IfSome o P → IfOk r Q
-or_failed None r e P Q is more held = subst (λ (x : Result Counts AllocError). IfOk x Q) (sym is) tt
-or_failed (Some n) r e P Q is more held = subst (λ (x : Result Counts AllocError). IfOk x Q) (sym is) (more n held)
-
-pub lays_same : (count : Counts) (ao an : List Struct) (po pn : List Param) (a b : Action) (n : Counts) → b ≡ a → LaysOne count ao an po pn b n → LaysOne count ao an po pn a n
-lays_same count ao an po pn a b n is = subst (λ (x : Action). LaysOne count ao an po pn x n) is
-
--- the action whose tokens are lent so
-pub ref_laid : (o : Option Counts) (r : Result Counts AllocError) (e : AllocError) (count : Counts) (ao an : List Struct) (po pn : List Param) (b : Action) (lent : ActionRef) (final : ℕ)
-    → r ≡ ok_or o e → ((a : Action) → IsRef lent false final a → b ≡ a) → IfSome o (LaysOne count ao an po pn b)
-    → IfOk r (λ next. (a : Action) → IsRef lent false final a → LaysOne count ao an po pn a next)
-ref_laid o r e count ao an po pn b lent final answers same =
-    or_failed o r e (LaysOne count ao an po pn b) (λ next. (a : Action) → IsRef lent false final a → LaysOne count ao an po pn a next) answers
-    (λ n held a is. lays_same count ao an po pn a b n (same a is) held)
-
-pub ref_whole : (r : Result Counts AllocError) (count : Counts) (ao an : List Struct) (po pn : List Param) (b : Action) (lent : ActionRef) (final : ℕ)
-    → ((a : Action) → IsRef lent false final a → b ≡ a) → IfOk r (LaysOne count ao an po pn b)
-    → IfOk r (λ next. (a : Action) → IsRef lent false final a → LaysOne count ao an po pn a next)
-ref_whole (Ok n) count ao an po pn b lent final same held = λ a is. lays_same count ao an po pn a b n (same a is) held
-ref_whole (Err e) count ao an po pn b lent final same held = tt
-
--- which action that is
-pub lent_as : (r other : ActionRef) (final : ℕ) (a : Action) → r ≡ other → IsRef r false final a → IsRef other false final a
-lent_as r other final a is lent = subst (λ (x : ActionRef). IsRef x false final a) is lent

@@ -2,10 +2,9 @@ pub mod Fronts
 mod Kept
 pub mod Laid
 mod ModeNumbers
-mod OneAction
+pub mod OneAction
 mod OneValue
 mod Running
-mod Same
 mod Sole
 mod Stand
-mod Tokens
+pub mod Tokens

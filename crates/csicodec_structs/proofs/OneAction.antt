@@ -1,66 +1,43 @@
 -- A struct and its tokens are those of one action by its name, whatever action has them. Written by tools/table.
-use Rattle.std.proofs.Common.{◌≡◌, ◌<◌, ℕ, List, [], ◌∷◌, Option, None, Some, length, map, refl, sym, subst, ap, ◌∙◌, pos}
+use Rattle.std.proofs.Common.{◌≡◌, ℕ, List, [], ◌∷◌, Option, None, Some, map, refl, sym, ap, ◌∙◌, pos}
 use Rattle.std.specs.Prelude.{false, nat_abs, ◌==◌, if◌then◌else◌}
 use Rattle.std.specs.Option.{option_map}
-use Rattle.std.proofs.lemmas.List.Elements.{All-from_recursion, recursion_from_All}
 use Rattle.std.proofs.lemmas.Option.{same_Some}
 use Rattle.csicodec_names.specs.Numbered.{with_number}
 use Rattle.csicodec_names.specs.declared.color.ColorSpec.TheVariants as color
 use Rattle.csicodec_names.specs.declared.color.Blink.{Blink}
 use Rattle.csicodec_names.specs.declared.color.Blink.TheVariants as blink
-use Rattle.csicodec_actions.specs.declared.path.CharacterPath.{CharacterPath}
-use Rattle.csicodec_actions.specs.declared.path.CharacterPath.TheVariants as character_path
-use Rattle.csicodec_names.specs.declared.enums.CursorStyle.{CursorStyle}
-use Rattle.csicodec_names.specs.declared.enums.CursorStyle.TheVariants as cursor_style
-use Rattle.csicodec_names.specs.declared.enums.CursorTabulationControl.{CursorTabulationControl}
-use Rattle.csicodec_names.specs.declared.enums.CursorTabulationControl.TheVariants as cursor_tabulation_control
-use Rattle.csicodec_names.specs.declared.enums.EraseInDisplay.{EraseInDisplay}
-use Rattle.csicodec_names.specs.declared.enums.EraseInDisplay.TheVariants as erase_in_display
-use Rattle.csicodec_names.specs.declared.enums.EraseInLine.{EraseInLine}
-use Rattle.csicodec_names.specs.declared.enums.EraseInLine.TheVariants as erase_in_line
 use Rattle.csicodec_names.specs.declared.color.Intensity.{Intensity}
 use Rattle.csicodec_names.specs.declared.color.Intensity.TheVariants as intensity
-use Rattle.csicodec_actions.specs.declared.keyboard.KittyKeyboardMode.{KittyKeyboardMode}
-use Rattle.csicodec_actions.specs.declared.keyboard.KittyKeyboardMode.TheVariants as kitty_keyboard_mode
 use Rattle.csicodec_actions.specs.declared.mouse.MouseButton.{MouseButton}
 use Rattle.csicodec_actions.specs.declared.mouse.MouseButton.TheVariants as mouse_button
-use Rattle.csicodec_names.specs.declared.enums.TabulationClear.{TabulationClear}
-use Rattle.csicodec_names.specs.declared.enums.TabulationClear.TheVariants as tabulation_clear
 use Rattle.csicodec_names.specs.declared.color.Underline.{Underline}
 use Rattle.csicodec_names.specs.declared.color.Underline.TheVariants as underline
 use Rattle.csicodec_names.specs.declared.color.VerticalAlign.{VerticalAlign}
 use Rattle.csicodec_names.specs.declared.color.VerticalAlign.TheVariants as vertical_align
-use Rattle.csicodec_actions.specs.declared.mode.XtermKeyModifierResource.{XtermKeyModifierResource}
-use Rattle.csicodec_actions.specs.declared.mode.XtermKeyModifierResource.TheVariants as xterm_key_modifier_resource
-use Rattle.csicodec_names.specs.EnumNumbers.{cursor_style_number, erase_in_display_number, erase_in_line_number, tabulation_clear_number, tabulation_control_number}
-use Rattle.csicodec_base.specs.declared.sgr.Sgr.{Sgr}
+use Rattle.csicodec_names.specs.EnumNumbers.{cursor_style_number, cursor_styles, erase_in_display_number, erase_in_line_number, erases_in_display}
+use Rattle.csicodec_names.specs.EnumNumbers.{erases_in_line, tabulation_clear_number, tabulation_clears, tabulation_control_number, tabulation_controls}
+use Rattle.csicodec_names.proofs.Coded.{clears, controls, displays, lines, styles}
 use Rattle.csicodec_base.specs.declared.sgr.Sgr.TheVariants as sgr
-use Rattle.csicodec_actions.specs.declared.cursor.Cursor.{Cursor}
 use Rattle.csicodec_actions.specs.declared.cursor.Cursor.TheVariants as cursor
-use Rattle.csicodec_actions.specs.declared.edit.Edit.{Edit}
 use Rattle.csicodec_actions.specs.declared.edit.Edit.TheVariants as edit
-use Rattle.csicodec_actions.specs.declared.mode.Mode.{Mode}
 use Rattle.csicodec_actions.specs.declared.mode.Mode.TheVariants as mode
-use Rattle.csicodec_actions.specs.declared.mouse.MouseReport.{MouseReport}
 use Rattle.csicodec_actions.specs.declared.mouse.MouseReport.TheVariants as mouse
-use Rattle.csicodec_actions.specs.Devices.{Device}
 use Rattle.csicodec_actions.specs.Devices as device
-use Rattle.csicodec_actions.specs.declared.window.Window.{Window}
 use Rattle.csicodec_actions.specs.declared.window.Window.TheVariants as window
-use Rattle.csicodec_actions.specs.declared.keyboard.Keyboard.{Keyboard}
 use Rattle.csicodec_actions.specs.declared.keyboard.Keyboard.TheVariants as keyboard
 use Rattle.csicodec_actions.specs.Actions.{Action}
 use Rattle.csicodec_actions.specs.Actions as action
+use Rattle.csicodec_actions.proofs.Values.{keys, tracks, ways}
 use Rattle.csicodec_actions.specs.XtSmGraphics.{item_number, item_of}
-use Rattle.csicodec_actions.specs.Kinds.{kitty_mode_number, path_number}
-use Rattle.csicodec_actions.specs.Modes.{dec_number, resource_number, terminal_number}
+use Rattle.csicodec_actions.specs.Kinds.{kitty_mode_number, kitty_modes, path_number, paths}
+use Rattle.csicodec_actions.specs.Modes.{dec_number, resource_number, resources, terminal_number}
 use Rattle.csicodec_structs.specs.declared.structs.Param.{Param}
 use Rattle.csicodec_structs.specs.declared.structs.Struct.{Struct}
 use Rattle.csicodec_structs.specs.Named.{IsNamed}
-use Rattle.csicodec_structs.specs.Structs.{align_number, blink_number, button_number, intensity_number, list_row, row, underline_number}
-use Rattle.csicodec_structs.specs.Ranges.{CursorInRange, DeviceInRange, EditInRange, InRange, KeyboardInRange, ModeInRange, MouseInRange, SgrInRange, WindowInRange}
-use Rattle.csicodec_structs.specs.Rows.{cursor_struct, device_struct, edit_struct, keyboard_struct, mode_struct, mouse_struct, params_of, sgr_struct, struct_of, window_struct}
-use Rattle.csicodec_structs.specs.Values.{AttributeInRange, IsNamedAttribute}
+use Rattle.csicodec_structs.specs.Structs.{align_number, blink_number, button_number, intensity_number, underline_number}
+use Rattle.csicodec_structs.specs.Ranges.{InRange}
+use Rattle.csicodec_structs.specs.Rows.{params_of, struct_of}
 use Rattle.csicodec_structs.proofs.OneValue.{ByName, attribute_at, attributes-back, attributes-named, color_at, dec-back, dec-named, dec_at, first_at, flag-back, flag_at}
 use Rattle.csicodec_structs.proofs.OneValue.{font-back, font_at, item-back, item-named, second_at, terminal-back, terminal-named, terminal_at, token_at, tokens-back, value_at, values-back}
 
@@ -71,60 +48,12 @@ blink-found : (v : Blink) → with_number blink_number blink_all (pos (blink_num
 blink-found blink.None = refl
 blink-found other = refl
 
-abbrev character_path_all : List CharacterPath
-character_path_all = character_path.ImplementationDefault ∷ character_path.LeftToRightOrTopToBottom ∷ character_path.RightToLeftOrBottomToTop ∷ []
-
-character_path-found : (v : CharacterPath) → with_number path_number character_path_all (pos (path_number v)) ≡ Some v
-character_path-found character_path.ImplementationDefault = refl
-character_path-found other = refl
-
-abbrev cursor_style_all : List CursorStyle
-cursor_style_all =
-    cursor_style.Default ∷ cursor_style.BlinkingBlock ∷ cursor_style.SteadyBlock ∷ cursor_style.BlinkingUnderline ∷ cursor_style.SteadyUnderline
-    ∷ cursor_style.BlinkingBar ∷ cursor_style.SteadyBar ∷ []
-
-cursor_style-found : (v : CursorStyle) → with_number cursor_style_number cursor_style_all (pos (cursor_style_number v)) ≡ Some v
-cursor_style-found cursor_style.Default = refl
-cursor_style-found other = refl
-
-abbrev cursor_tabulation_control_all : List CursorTabulationControl
-cursor_tabulation_control_all =
-    cursor_tabulation_control.SetCharacterTabStopAtActivePosition ∷ cursor_tabulation_control.SetLineTabStopAtActiveLine
-    ∷ cursor_tabulation_control.ClearCharacterTabStopAtActivePosition ∷ cursor_tabulation_control.ClearLineTabstopAtActiveLine
-    ∷ cursor_tabulation_control.ClearAllCharacterTabStopsAtActiveLine ∷ cursor_tabulation_control.ClearAllCharacterTabStops
-    ∷ cursor_tabulation_control.ClearAllLineTabStops ∷ []
-
-cursor_tabulation_control-found : (v : CursorTabulationControl) → with_number tabulation_control_number cursor_tabulation_control_all (pos (tabulation_control_number v)) ≡ Some v
-cursor_tabulation_control-found cursor_tabulation_control.SetCharacterTabStopAtActivePosition = refl
-cursor_tabulation_control-found other = refl
-
-abbrev erase_in_display_all : List EraseInDisplay
-erase_in_display_all = erase_in_display.EraseToEndOfDisplay ∷ erase_in_display.EraseToStartOfDisplay ∷ erase_in_display.EraseDisplay ∷ erase_in_display.EraseScrollback ∷ []
-
-erase_in_display-found : (v : EraseInDisplay) → with_number erase_in_display_number erase_in_display_all (pos (erase_in_display_number v)) ≡ Some v
-erase_in_display-found erase_in_display.EraseToEndOfDisplay = refl
-erase_in_display-found other = refl
-
-abbrev erase_in_line_all : List EraseInLine
-erase_in_line_all = erase_in_line.EraseToEndOfLine ∷ erase_in_line.EraseToStartOfLine ∷ erase_in_line.EraseLine ∷ []
-
-erase_in_line-found : (v : EraseInLine) → with_number erase_in_line_number erase_in_line_all (pos (erase_in_line_number v)) ≡ Some v
-erase_in_line-found erase_in_line.EraseToEndOfLine = refl
-erase_in_line-found other = refl
-
 abbrev intensity_all : List Intensity
 intensity_all = intensity.Normal ∷ intensity.Bold ∷ intensity.Half ∷ []
 
 intensity-found : (v : Intensity) → with_number intensity_number intensity_all (pos (intensity_number v)) ≡ Some v
 intensity-found intensity.Normal = refl
 intensity-found other = refl
-
-abbrev kitty_keyboard_mode_all : List KittyKeyboardMode
-kitty_keyboard_mode_all = kitty_keyboard_mode.AssignAll ∷ kitty_keyboard_mode.SetSpecified ∷ kitty_keyboard_mode.ClearSpecified ∷ []
-
-kitty_keyboard_mode-found : (v : KittyKeyboardMode) → with_number kitty_mode_number kitty_keyboard_mode_all (pos (kitty_mode_number v)) ≡ Some v
-kitty_keyboard_mode-found kitty_keyboard_mode.AssignAll = refl
-kitty_keyboard_mode-found other = refl
 
 abbrev mouse_button_all : List MouseButton
 mouse_button_all =
@@ -136,16 +65,6 @@ mouse_button_all =
 mouse_button-found : (v : MouseButton) → with_number button_number mouse_button_all (pos (button_number v)) ≡ Some v
 mouse_button-found mouse_button.Button1Press = refl
 mouse_button-found other = refl
-
-abbrev tabulation_clear_all : List TabulationClear
-tabulation_clear_all =
-    tabulation_clear.ClearCharacterTabStopAtActivePosition ∷ tabulation_clear.ClearLineTabStopAtActiveLine
-    ∷ tabulation_clear.ClearCharacterTabStopsAtActiveLine ∷ tabulation_clear.ClearAllCharacterTabStops ∷ tabulation_clear.ClearAllLineTabStops
-    ∷ tabulation_clear.ClearAllTabStops ∷ []
-
-tabulation_clear-found : (v : TabulationClear) → with_number tabulation_clear_number tabulation_clear_all (pos (tabulation_clear_number v)) ≡ Some v
-tabulation_clear-found tabulation_clear.ClearCharacterTabStopAtActivePosition = refl
-tabulation_clear-found other = refl
 
 abbrev underline_all : List Underline
 underline_all = underline.None ∷ underline.Single ∷ underline.Double ∷ underline.Curly ∷ underline.Dotted ∷ underline.Dashed ∷ []
@@ -160,13 +79,6 @@ vertical_align_all = vertical_align.BaseLine ∷ vertical_align.SuperScript ∷ 
 vertical_align-found : (v : VerticalAlign) → with_number align_number vertical_align_all (pos (align_number v)) ≡ Some v
 vertical_align-found vertical_align.BaseLine = refl
 vertical_align-found other = refl
-
-abbrev xterm_key_modifier_resource_all : List XtermKeyModifierResource
-xterm_key_modifier_resource_all = xterm_key_modifier_resource.Keyboard ∷ xterm_key_modifier_resource.CursorKeys ∷ xterm_key_modifier_resource.FunctionKeys ∷ xterm_key_modifier_resource.OtherKeys ∷ []
-
-xterm_key_modifier_resource-found : (v : XtermKeyModifierResource) → with_number resource_number xterm_key_modifier_resource_all (pos (resource_number v)) ≡ Some v
-xterm_key_modifier_resource-found xterm_key_modifier_resource.Keyboard = refl
-xterm_key_modifier_resource-found other = refl
 
 -- the action of a struct and its tokens
 action_at : Struct → List Param → Option Action
@@ -205,14 +117,14 @@ action_at given params =
     if given.kind == 117 then Some (action.Cursor (cursor.LinePositionAbsolute (nat_abs given.first))) else
     if given.kind == 118 then Some (action.Cursor (cursor.LinePositionForward (nat_abs given.first))) else
     if given.kind == 119 then Some (action.Cursor (cursor.LinePositionBackward (nat_abs given.first))) else
-    if given.kind == 120 then option_map (λ v. action.Cursor (cursor.TabulationControl v)) (with_number tabulation_control_number cursor_tabulation_control_all given.first) else
-    if given.kind == 121 then option_map (λ v. action.Cursor (cursor.TabulationClear v)) (with_number tabulation_clear_number tabulation_clear_all given.first) else
+    if given.kind == 120 then option_map (λ v. action.Cursor (cursor.TabulationControl v)) (with_number tabulation_control_number tabulation_controls given.first) else
+    if given.kind == 121 then option_map (λ v. action.Cursor (cursor.TabulationClear v)) (with_number tabulation_clear_number tabulation_clears given.first) else
     if given.kind == 122 then Some (action.Cursor (cursor.SetTopAndBottomMargins (nat_abs given.first) (nat_abs given.second))) else
     if given.kind == 123 then Some (action.Cursor (cursor.SetLeftAndRightMargins (nat_abs given.first) (nat_abs given.second))) else
     if given.kind == 124 then Some (action.Cursor cursor.SaveCursor) else
     if given.kind == 125 then Some (action.Cursor cursor.RestoreCursor) else
     if given.kind == 126 then Some (action.Cursor cursor.RequestActivePositionReport) else
-    if given.kind == 127 then option_map (λ v. action.Cursor (cursor.CursorStyle v)) (with_number cursor_style_number cursor_style_all given.first) else
+    if given.kind == 127 then option_map (λ v. action.Cursor (cursor.CursorStyle v)) (with_number cursor_style_number cursor_styles given.first) else
     if given.kind == 201 then Some (action.Edit (edit.InsertCharacter (nat_abs given.first))) else
     if given.kind == 202 then Some (action.Edit (edit.InsertLine (nat_abs given.first))) else
     if given.kind == 203 then Some (action.Edit (edit.DeleteCharacter (nat_abs given.first))) else
@@ -221,8 +133,8 @@ action_at given params =
     if given.kind == 206 then Some (action.Edit (edit.ScrollUp (nat_abs given.first))) else
     if given.kind == 207 then Some (action.Edit (edit.ScrollDown (nat_abs given.first))) else
     if given.kind == 208 then Some (action.Edit (edit.Repeat (nat_abs given.first))) else
-    if given.kind == 209 then option_map (λ v. action.Edit (edit.EraseInDisplay v)) (with_number erase_in_display_number erase_in_display_all given.first) else
-    if given.kind == 210 then option_map (λ v. action.Edit (edit.EraseInLine v)) (with_number erase_in_line_number erase_in_line_all given.first) else
+    if given.kind == 209 then option_map (λ v. action.Edit (edit.EraseInDisplay v)) (with_number erase_in_display_number erases_in_display given.first) else
+    if given.kind == 210 then option_map (λ v. action.Edit (edit.EraseInLine v)) (with_number erase_in_line_number erases_in_line given.first) else
     if given.kind == 301 then Some (action.Mode (mode.SetDecPrivateMode (dec_at given.first))) else
     if given.kind == 302 then Some (action.Mode (mode.ResetDecPrivateMode (dec_at given.first))) else
     if given.kind == 303 then Some (action.Mode (mode.SaveDecPrivateMode (dec_at given.first))) else
@@ -231,7 +143,7 @@ action_at given params =
     if given.kind == 306 then Some (action.Mode (mode.SetMode (terminal_at given.first))) else
     if given.kind == 307 then Some (action.Mode (mode.ResetMode (terminal_at given.first))) else
     if given.kind == 308 then Some (action.Mode (mode.QueryMode (terminal_at given.first))) else
-    if given.kind == 309 then option_map (λ v. action.Mode (mode.XtermKeyMode v (second_at given))) (with_number resource_number xterm_key_modifier_resource_all given.first) else
+    if given.kind == 309 then option_map (λ v. action.Mode (mode.XtermKeyMode v (second_at given))) (with_number resource_number resources given.first) else
     if given.kind == 401 then Some (action.Device (device.DeviceAttributes device.Vt100WithAdvancedVideoOption)) else
     if given.kind == 402 then Some (action.Device (device.DeviceAttributes device.Vt101WithNoOptions)) else
     if given.kind == 403 then Some (action.Device (device.DeviceAttributes device.Vt102)) else
@@ -284,100 +196,61 @@ action_at given params =
     if given.kind == 632 then Some (action.Window window.PopIconTitle) else
     if given.kind == 633 then Some (action.Window window.PopWindowTitle) else
     if given.kind == 634 then Some (action.Window (window.ChecksumRectangularArea given.first given.second given.top given.left given.bottom given.right)) else
-    if given.kind == 701 then option_map (λ v. action.Keyboard (keyboard.SetKittyState (record { bits = (nat_abs given.first) }) v))
-    (with_number kitty_mode_number kitty_keyboard_mode_all given.second) else
-    if given.kind == 702 then option_map (λ v. action.Keyboard (keyboard.PushKittyState (record { bits = (nat_abs given.first) }) v))
-    (with_number kitty_mode_number kitty_keyboard_mode_all given.second) else
+    if given.kind == 701 then option_map (λ v. action.Keyboard (keyboard.SetKittyState (record { bits = (nat_abs given.first) }) v)) (with_number kitty_mode_number kitty_modes given.second) else
+    if given.kind == 702 then option_map (λ v. action.Keyboard (keyboard.PushKittyState (record { bits = (nat_abs given.first) }) v)) (with_number kitty_mode_number kitty_modes given.second) else
     if given.kind == 703 then Some (action.Keyboard (keyboard.PopKittyState (nat_abs given.first))) else
     if given.kind == 704 then Some (action.Keyboard keyboard.QueryKittySupport) else
     if given.kind == 705 then Some (action.Keyboard (keyboard.ReportKittyState (record { bits = (nat_abs given.first) }))) else
-    if given.kind == 801 then option_map (λ v. action.SelectCharacterPath v given.second) (with_number path_number character_path_all given.first) else
+    if given.kind == 801 then option_map (λ v. action.SelectCharacterPath v given.second) (with_number path_number paths given.first) else
     None
-
-sgr-back : (place : ℕ) (a : Sgr) → SgrInRange a → IsNamed (action.Sgr a) → action_at (sgr_struct a) (params_of (action.Sgr a)) ≡ Some (action.Sgr a)
-unfolding action_at
-sgr-back place (sgr.Intensity v) range named = ap (option_map (λ v. action.Sgr (sgr.Intensity v))) (intensity-found v)
-sgr-back place (sgr.Underline v) range named = ap (option_map (λ v. action.Sgr (sgr.Underline v))) (underline-found v)
-sgr-back place (sgr.UnderlineColor color.Default) range named = refl
-sgr-back place (sgr.Blink v) range named = ap (option_map (λ v. action.Sgr (sgr.Blink v))) (blink-found v)
-sgr-back place (sgr.Italic v) range named = ap (λ v. Some (action.Sgr (sgr.Italic v))) (flag-back v)
-sgr-back place (sgr.Inverse v) range named = ap (λ v. Some (action.Sgr (sgr.Inverse v))) (flag-back v)
-sgr-back place (sgr.Invisible v) range named = ap (λ v. Some (action.Sgr (sgr.Invisible v))) (flag-back v)
-sgr-back place (sgr.StrikeThrough v) range named = ap (λ v. Some (action.Sgr (sgr.StrikeThrough v))) (flag-back v)
-sgr-back place (sgr.Font v) range named = ap (λ v. Some (action.Sgr (sgr.Font v))) (font-back v range)
-sgr-back place (sgr.Foreground color.Default) range named = refl
-sgr-back place (sgr.Background color.Default) range named = refl
-sgr-back place (sgr.Overline v) range named = ap (λ v. Some (action.Sgr (sgr.Overline v))) (flag-back v)
-sgr-back place (sgr.VerticalAlign v) range named = ap (option_map (λ v. action.Sgr (sgr.VerticalAlign v))) (vertical_align-found v)
-sgr-back place other range named = refl
-
-cursor-back : (place : ℕ) (a : Cursor) → CursorInRange a → IsNamed (action.Cursor a) → action_at (cursor_struct a) (params_of (action.Cursor a)) ≡ Some (action.Cursor a)
-unfolding action_at
-cursor-back place (cursor.TabulationControl v) range named = ap (option_map (λ v. action.Cursor (cursor.TabulationControl v))) (cursor_tabulation_control-found v)
-cursor-back place (cursor.TabulationClear v) range named = ap (option_map (λ v. action.Cursor (cursor.TabulationClear v))) (tabulation_clear-found v)
-cursor-back place (cursor.CursorStyle v) range named = ap (option_map (λ v. action.Cursor (cursor.CursorStyle v))) (cursor_style-found v)
-cursor-back place other range named = refl
-
-edit-back : (place : ℕ) (a : Edit) → EditInRange a → IsNamed (action.Edit a) → action_at (edit_struct a) (params_of (action.Edit a)) ≡ Some (action.Edit a)
-unfolding action_at
-edit-back place (edit.EraseInDisplay v) range named = ap (option_map (λ v. action.Edit (edit.EraseInDisplay v))) (erase_in_display-found v)
-edit-back place (edit.EraseInLine v) range named = ap (option_map (λ v. action.Edit (edit.EraseInLine v))) (erase_in_line-found v)
-edit-back place other range named = refl
-
-mode-back : (place : ℕ) (a : Mode) → ModeInRange a → IsNamed (action.Mode a) → action_at (mode_struct a) (params_of (action.Mode a)) ≡ Some (action.Mode a)
-unfolding action_at
-mode-back place (mode.SetDecPrivateMode v) range named = ap (λ v. Some (action.Mode (mode.SetDecPrivateMode v))) (dec-back v named)
-mode-back place (mode.ResetDecPrivateMode v) range named = ap (λ v. Some (action.Mode (mode.ResetDecPrivateMode v))) (dec-back v named)
-mode-back place (mode.SaveDecPrivateMode v) range named = ap (λ v. Some (action.Mode (mode.SaveDecPrivateMode v))) (dec-back v named)
-mode-back place (mode.RestoreDecPrivateMode v) range named = ap (λ v. Some (action.Mode (mode.RestoreDecPrivateMode v))) (dec-back v named)
-mode-back place (mode.QueryDecPrivateMode v) range named = ap (λ v. Some (action.Mode (mode.QueryDecPrivateMode v))) (dec-back v named)
-mode-back place (mode.SetMode v) range named = ap (λ v. Some (action.Mode (mode.SetMode v))) (terminal-back v named)
-mode-back place (mode.ResetMode v) range named = ap (λ v. Some (action.Mode (mode.ResetMode v))) (terminal-back v named)
-mode-back place (mode.QueryMode v) range named = ap (λ v. Some (action.Mode (mode.QueryMode v))) (terminal-back v named)
-mode-back place (mode.XtermKeyMode v None) range named = ap (option_map (λ v. action.Mode (mode.XtermKeyMode v None))) (xterm_key_modifier_resource-found v)
-mode-back place (mode.XtermKeyMode v (Some z)) range named = ap (option_map (λ v. action.Mode (mode.XtermKeyMode v (Some z)))) (xterm_key_modifier_resource-found v)
-
-device-back : (place : ℕ) (a : Device) → DeviceInRange a → IsNamed (action.Device a) → action_at (device_struct place a) (params_of (action.Device a)) ≡ Some (action.Device a)
-unfolding action_at
-device-back place (device.DeviceAttributes (device.Vt220 list)) range named = ap (λ v. Some (action.Device (device.DeviceAttributes (device.Vt220 v)))) (attributes-back list named)
-device-back place (device.DeviceAttributes (device.Vt320 list)) range named = ap (λ v. Some (action.Device (device.DeviceAttributes (device.Vt320 v)))) (attributes-back list named)
-device-back place (device.DeviceAttributes (device.Vt420 list)) range named = ap (λ v. Some (action.Device (device.DeviceAttributes (device.Vt420 v)))) (attributes-back list named)
-device-back place (device.XtSmGraphics item action_or_status list) range named = rw (item-back item named, values-back list) refl
-device-back place other range named = refl
-
-mouse-back : (place : ℕ) (a : MouseReport) → MouseInRange a → IsNamed (action.Mouse a) → action_at (mouse_struct a) (params_of (action.Mouse a)) ≡ Some (action.Mouse a)
-unfolding action_at
-mouse-back place (mouse.SGR1006 x y v modifiers) range named = ap (option_map (λ v. action.Mouse (mouse.SGR1006 x y v modifiers))) (mouse_button-found v)
-mouse-back place (mouse.SGR1016 x_pixels y_pixels v modifiers) range named = ap (option_map (λ v. action.Mouse (mouse.SGR1016 x_pixels y_pixels v modifiers))) (mouse_button-found v)
-
-window-back : (place : ℕ) (a : Window) → WindowInRange a → IsNamed (action.Window a) → action_at (window_struct a) (params_of (action.Window a)) ≡ Some (action.Window a)
-unfolding action_at
-window-back place (window.ResizeWindowPixels None None) range named = refl
-window-back place (window.ResizeWindowPixels (Some a) None) range named = refl
-window-back place (window.ReportCellSizePixelsResponse None None) range named = refl
-window-back place (window.ReportCellSizePixelsResponse (Some a) None) range named = refl
-window-back place (window.ResizeWindowCells None None) range named = refl
-window-back place (window.ResizeWindowCells (Some a) None) range named = refl
-window-back place other range named = refl
-
-keyboard-back : (place : ℕ) (a : Keyboard) → KeyboardInRange a → IsNamed (action.Keyboard a) → action_at (keyboard_struct a) (params_of (action.Keyboard a)) ≡ Some (action.Keyboard a)
-unfolding action_at
-keyboard-back place (keyboard.SetKittyState flags v) range named = ap (option_map (λ v. action.Keyboard (keyboard.SetKittyState flags v))) (kitty_keyboard_mode-found v)
-keyboard-back place (keyboard.PushKittyState flags v) range named = ap (option_map (λ v. action.Keyboard (keyboard.PushKittyState flags v))) (kitty_keyboard_mode-found v)
-keyboard-back place other range named = refl
 
 action-back : (place : ℕ) (a : Action) → InRange a → IsNamed a → action_at (struct_of place a) (params_of a) ≡ Some a
 unfolding action_at
-action-back place (action.Sgr a) range named = sgr-back place a range named
-action-back place (action.Cursor a) range named = cursor-back place a range named
-action-back place (action.Edit a) range named = edit-back place a range named
-action-back place (action.Mode a) range named = mode-back place a range named
-action-back place (action.Device a) range named = device-back place a range named
-action-back place (action.Mouse a) range named = mouse-back place a range named
-action-back place (action.Window a) range named = window-back place a range named
-action-back place (action.Keyboard a) range named = keyboard-back place a range named
-action-back place (action.SelectCharacterPath v effect) range named = ap (option_map (λ v. action.SelectCharacterPath v effect)) (character_path-found v)
+action-back place (action.Sgr (sgr.Intensity v)) range named = ap (option_map (λ v. action.Sgr (sgr.Intensity v))) (intensity-found v)
+action-back place (action.Sgr (sgr.Underline v)) range named = ap (option_map (λ v. action.Sgr (sgr.Underline v))) (underline-found v)
+action-back place (action.Sgr (sgr.UnderlineColor color.Default)) range named = refl
+action-back place (action.Sgr (sgr.Blink v)) range named = ap (option_map (λ v. action.Sgr (sgr.Blink v))) (blink-found v)
+action-back place (action.Sgr (sgr.Italic v)) range named = ap (λ v. Some (action.Sgr (sgr.Italic v))) (flag-back v)
+action-back place (action.Sgr (sgr.Inverse v)) range named = ap (λ v. Some (action.Sgr (sgr.Inverse v))) (flag-back v)
+action-back place (action.Sgr (sgr.Invisible v)) range named = ap (λ v. Some (action.Sgr (sgr.Invisible v))) (flag-back v)
+action-back place (action.Sgr (sgr.StrikeThrough v)) range named = ap (λ v. Some (action.Sgr (sgr.StrikeThrough v))) (flag-back v)
+action-back place (action.Sgr (sgr.Font v)) range named = ap (λ v. Some (action.Sgr (sgr.Font v))) (font-back v range)
+action-back place (action.Sgr (sgr.Foreground color.Default)) range named = refl
+action-back place (action.Sgr (sgr.Background color.Default)) range named = refl
+action-back place (action.Sgr (sgr.Overline v)) range named = ap (λ v. Some (action.Sgr (sgr.Overline v))) (flag-back v)
+action-back place (action.Sgr (sgr.VerticalAlign v)) range named = ap (option_map (λ v. action.Sgr (sgr.VerticalAlign v))) (vertical_align-found v)
+action-back place (action.Cursor (cursor.TabulationControl v)) range named = ap (option_map (λ v. action.Cursor (cursor.TabulationControl v))) (controls.each v)
+action-back place (action.Cursor (cursor.TabulationClear v)) range named = ap (option_map (λ v. action.Cursor (cursor.TabulationClear v))) (clears.each v)
+action-back place (action.Cursor (cursor.CursorStyle v)) range named = ap (option_map (λ v. action.Cursor (cursor.CursorStyle v))) (styles.each v)
+action-back place (action.Edit (edit.EraseInDisplay v)) range named = ap (option_map (λ v. action.Edit (edit.EraseInDisplay v))) (displays.each v)
+action-back place (action.Edit (edit.EraseInLine v)) range named = ap (option_map (λ v. action.Edit (edit.EraseInLine v))) (lines.each v)
+action-back place (action.Mode (mode.SetDecPrivateMode v)) range named = ap (λ v. Some (action.Mode (mode.SetDecPrivateMode v))) (dec-back v named)
+action-back place (action.Mode (mode.ResetDecPrivateMode v)) range named = ap (λ v. Some (action.Mode (mode.ResetDecPrivateMode v))) (dec-back v named)
+action-back place (action.Mode (mode.SaveDecPrivateMode v)) range named = ap (λ v. Some (action.Mode (mode.SaveDecPrivateMode v))) (dec-back v named)
+action-back place (action.Mode (mode.RestoreDecPrivateMode v)) range named = ap (λ v. Some (action.Mode (mode.RestoreDecPrivateMode v))) (dec-back v named)
+action-back place (action.Mode (mode.QueryDecPrivateMode v)) range named = ap (λ v. Some (action.Mode (mode.QueryDecPrivateMode v))) (dec-back v named)
+action-back place (action.Mode (mode.SetMode v)) range named = ap (λ v. Some (action.Mode (mode.SetMode v))) (terminal-back v named)
+action-back place (action.Mode (mode.ResetMode v)) range named = ap (λ v. Some (action.Mode (mode.ResetMode v))) (terminal-back v named)
+action-back place (action.Mode (mode.QueryMode v)) range named = ap (λ v. Some (action.Mode (mode.QueryMode v))) (terminal-back v named)
+action-back place (action.Mode (mode.XtermKeyMode v None)) range named = ap (option_map (λ v. action.Mode (mode.XtermKeyMode v None))) (keys.each v)
+action-back place (action.Mode (mode.XtermKeyMode v (Some z))) range named = ap (option_map (λ v. action.Mode (mode.XtermKeyMode v (Some z)))) (keys.each v)
+action-back place (action.Device (device.DeviceAttributes (device.Vt220 list))) range named = ap (λ v. Some (action.Device (device.DeviceAttributes (device.Vt220 v)))) (attributes-back list named)
+action-back place (action.Device (device.DeviceAttributes (device.Vt320 list))) range named = ap (λ v. Some (action.Device (device.DeviceAttributes (device.Vt320 v)))) (attributes-back list named)
+action-back place (action.Device (device.DeviceAttributes (device.Vt420 list))) range named = ap (λ v. Some (action.Device (device.DeviceAttributes (device.Vt420 v)))) (attributes-back list named)
+action-back place (action.Device (device.XtSmGraphics item action_or_status list)) range named = rw (item-back item named, values-back list) refl
+action-back place (action.Mouse (mouse.SGR1006 x y v modifiers)) range named = ap (option_map (λ v. action.Mouse (mouse.SGR1006 x y v modifiers))) (mouse_button-found v)
+action-back place (action.Mouse (mouse.SGR1016 x_pixels y_pixels v modifiers)) range named = ap (option_map (λ v. action.Mouse (mouse.SGR1016 x_pixels y_pixels v modifiers))) (mouse_button-found v)
+action-back place (action.Window (window.ResizeWindowPixels None None)) range named = refl
+action-back place (action.Window (window.ResizeWindowPixels (Some a) None)) range named = refl
+action-back place (action.Window (window.ReportCellSizePixelsResponse None None)) range named = refl
+action-back place (action.Window (window.ReportCellSizePixelsResponse (Some a) None)) range named = refl
+action-back place (action.Window (window.ResizeWindowCells None None)) range named = refl
+action-back place (action.Window (window.ResizeWindowCells (Some a) None)) range named = refl
+action-back place (action.Keyboard (keyboard.SetKittyState flags v)) range named = ap (option_map (λ v. action.Keyboard (keyboard.SetKittyState flags v))) (ways.each v)
+action-back place (action.Keyboard (keyboard.PushKittyState flags v)) range named = ap (option_map (λ v. action.Keyboard (keyboard.PushKittyState flags v))) (ways.each v)
+action-back place (action.SelectCharacterPath v effect) range named = ap (option_map (λ v. action.SelectCharacterPath v effect)) (tracks.each v)
 action-back place (action.Unspecified params flag final) range named = rw (tokens-back params, named) refl
+action-back place other range named = refl
 
 -- so two by their names with one struct and its tokens are one
 pub same-action : (place : ℕ) (a b : Action) → InRange a → IsNamed a → InRange b → IsNamed b → struct_of place a ≡ struct_of place b → params_of a ≡ params_of b → a ≡ b
@@ -385,122 +258,34 @@ same-action place a b in_a named_a in_b named_b given params =
     let same = ap (λ p. action_at p (params_of a)) given ∙ ap (action_at (struct_of place b)) params in
     same_Some a b (sym (action-back place a in_a named_a) ∙ same ∙ action-back place b in_b named_b)
 
-mode-named : (place : ℕ) (a : Mode) → ModeInRange a → ByName place (action.Mode a)
-mode-named place (mode.SetDecPrivateMode v) range =
-    let h = dec-named v in
-    record {
-      one = action.Mode (mode.SetDecPrivateMode (dec_at (pos (dec_number v))));
-      in_range = subst (λ n. n < 65536) (sym h.1) range;
-      named = h.0;
-      given = ap (λ n. row 301 (pos n) (pos 0)) h.1;
-      params = refl;
-    }
-mode-named place (mode.ResetDecPrivateMode v) range =
-    let h = dec-named v in
-    record {
-      one = action.Mode (mode.ResetDecPrivateMode (dec_at (pos (dec_number v))));
-      in_range = subst (λ n. n < 65536) (sym h.1) range;
-      named = h.0;
-      given = ap (λ n. row 302 (pos n) (pos 0)) h.1;
-      params = refl;
-    }
-mode-named place (mode.SaveDecPrivateMode v) range =
-    let h = dec-named v in
-    record {
-      one = action.Mode (mode.SaveDecPrivateMode (dec_at (pos (dec_number v))));
-      in_range = subst (λ n. n < 65536) (sym h.1) range;
-      named = h.0;
-      given = ap (λ n. row 303 (pos n) (pos 0)) h.1;
-      params = refl;
-    }
-mode-named place (mode.RestoreDecPrivateMode v) range =
-    let h = dec-named v in
-    record {
-      one = action.Mode (mode.RestoreDecPrivateMode (dec_at (pos (dec_number v))));
-      in_range = subst (λ n. n < 65536) (sym h.1) range;
-      named = h.0;
-      given = ap (λ n. row 304 (pos n) (pos 0)) h.1;
-      params = refl;
-    }
-mode-named place (mode.QueryDecPrivateMode v) range =
-    let h = dec-named v in
-    record {
-      one = action.Mode (mode.QueryDecPrivateMode (dec_at (pos (dec_number v))));
-      in_range = subst (λ n. n < 65536) (sym h.1) range;
-      named = h.0;
-      given = ap (λ n. row 305 (pos n) (pos 0)) h.1;
-      params = refl;
-    }
-mode-named place (mode.SetMode v) range =
-    let h = terminal-named v in
-    record {
-      one = action.Mode (mode.SetMode (terminal_at (pos (terminal_number v))));
-      in_range = subst (λ n. n < 65536) (sym h.1) range;
-      named = h.0;
-      given = ap (λ n. row 306 (pos n) (pos 0)) h.1;
-      params = refl;
-    }
-mode-named place (mode.ResetMode v) range =
-    let h = terminal-named v in
-    record {
-      one = action.Mode (mode.ResetMode (terminal_at (pos (terminal_number v))));
-      in_range = subst (λ n. n < 65536) (sym h.1) range;
-      named = h.0;
-      given = ap (λ n. row 307 (pos n) (pos 0)) h.1;
-      params = refl;
-    }
-mode-named place (mode.QueryMode v) range =
-    let h = terminal-named v in
-    record {
-      one = action.Mode (mode.QueryMode (terminal_at (pos (terminal_number v))));
-      in_range = subst (λ n. n < 65536) (sym h.1) range;
-      named = h.0;
-      given = ap (λ n. row 308 (pos n) (pos 0)) h.1;
-      params = refl;
-    }
-mode-named place other range = record { one = action.Mode other; in_range = range; named = tt; given = refl; params = refl }
-
-device-named : (place : ℕ) (a : Device) → DeviceInRange a → ByName place (action.Device a)
-device-named place (device.DeviceAttributes (device.Vt220 list)) range =
-    let l = attributes-named list (recursion_from_All AttributeInRange list range) in
-    record {
-      one = action.Device (device.DeviceAttributes (device.Vt220 l.others));
-      in_range = All-from_recursion AttributeInRange l.others l.in_range;
-      named = All-from_recursion IsNamedAttribute l.others l.named;
-      given = ap (λ n. list_row 404 (pos 0) (pos 0) place n) l.long;
-      params = l.same;
-    }
-device-named place (device.DeviceAttributes (device.Vt320 list)) range =
-    let l = attributes-named list (recursion_from_All AttributeInRange list range) in
-    record {
-      one = action.Device (device.DeviceAttributes (device.Vt320 l.others));
-      in_range = All-from_recursion AttributeInRange l.others l.in_range;
-      named = All-from_recursion IsNamedAttribute l.others l.named;
-      given = ap (λ n. list_row 405 (pos 0) (pos 0) place n) l.long;
-      params = l.same;
-    }
-device-named place (device.DeviceAttributes (device.Vt420 list)) range =
-    let l = attributes-named list (recursion_from_All AttributeInRange list range) in
-    record {
-      one = action.Device (device.DeviceAttributes (device.Vt420 l.others));
-      in_range = All-from_recursion AttributeInRange l.others l.in_range;
-      named = All-from_recursion IsNamedAttribute l.others l.named;
-      given = ap (λ n. list_row 406 (pos 0) (pos 0) place n) l.long;
-      params = l.same;
-    }
-device-named place (device.XtSmGraphics item action_or_status list) range =
-    let h = item-named (item_number item) in
-    record {
-      one = action.Device (device.XtSmGraphics (item_of (item_number item)) action_or_status list);
-      in_range = range;
-      named = h.0;
-      given = ap (λ z. list_row 414 z action_or_status place (length list)) h.1;
-      params = refl;
-    }
-device-named place other range = record { one = action.Device other; in_range = range; named = tt; given = refl; params = refl }
+like : {place : ℕ} {a : Action} (one : Action) → InRange one → IsNamed one → struct_of place one ≡ struct_of place a → params_of one ≡ params_of a → ByName place a
+like one in_range named given params = record { one = one; in_range = in_range; named = named; given = given; params = params }
 
 pub action-named : (place : ℕ) (a : Action) → InRange a → ByName place a
-action-named place (action.Mode a) range = mode-named place a range
-action-named place (action.Device a) range = device-named place a range
-action-named place (action.Unspecified params flag final) range = record { one = action.Unspecified params false final; in_range = range; named = refl; given = refl; params = refl }
-action-named place other range = record { one = other; in_range = range; named = tt; given = refl; params = refl }
+action-named place (action.Mode (mode.SetDecPrivateMode v)) range =
+    let h = dec-named v in like (action.Mode (mode.SetDecPrivateMode (dec_at (pos (dec_number v))))) (rw h.1 range) h.0 (rw h.1) refl
+action-named place (action.Mode (mode.ResetDecPrivateMode v)) range =
+    let h = dec-named v in like (action.Mode (mode.ResetDecPrivateMode (dec_at (pos (dec_number v))))) (rw h.1 range) h.0 (rw h.1) refl
+action-named place (action.Mode (mode.SaveDecPrivateMode v)) range =
+    let h = dec-named v in like (action.Mode (mode.SaveDecPrivateMode (dec_at (pos (dec_number v))))) (rw h.1 range) h.0 (rw h.1) refl
+action-named place (action.Mode (mode.RestoreDecPrivateMode v)) range =
+    let h = dec-named v in like (action.Mode (mode.RestoreDecPrivateMode (dec_at (pos (dec_number v))))) (rw h.1 range) h.0 (rw h.1) refl
+action-named place (action.Mode (mode.QueryDecPrivateMode v)) range =
+    let h = dec-named v in like (action.Mode (mode.QueryDecPrivateMode (dec_at (pos (dec_number v))))) (rw h.1 range) h.0 (rw h.1) refl
+action-named place (action.Mode (mode.SetMode v)) range =
+    let h = terminal-named v in like (action.Mode (mode.SetMode (terminal_at (pos (terminal_number v))))) (rw h.1 range) h.0 (rw h.1) refl
+action-named place (action.Mode (mode.ResetMode v)) range =
+    let h = terminal-named v in like (action.Mode (mode.ResetMode (terminal_at (pos (terminal_number v))))) (rw h.1 range) h.0 (rw h.1) refl
+action-named place (action.Mode (mode.QueryMode v)) range =
+    let h = terminal-named v in like (action.Mode (mode.QueryMode (terminal_at (pos (terminal_number v))))) (rw h.1 range) h.0 (rw h.1) refl
+action-named place (action.Device (device.DeviceAttributes (device.Vt220 list))) range =
+    let l = attributes-named list range in like (action.Device (device.DeviceAttributes (device.Vt220 l.others))) l.in_range l.named (rw l.long) l.same
+action-named place (action.Device (device.DeviceAttributes (device.Vt320 list))) range =
+    let l = attributes-named list range in like (action.Device (device.DeviceAttributes (device.Vt320 l.others))) l.in_range l.named (rw l.long) l.same
+action-named place (action.Device (device.DeviceAttributes (device.Vt420 list))) range =
+    let l = attributes-named list range in like (action.Device (device.DeviceAttributes (device.Vt420 l.others))) l.in_range l.named (rw l.long) l.same
+action-named place (action.Device (device.XtSmGraphics item action_or_status list)) range =
+    let h = item-named (item_number item) in
+    like (action.Device (device.XtSmGraphics (item_of (item_number item)) action_or_status list)) range h.0 (rw h.1) refl
+action-named place (action.Unspecified params flag final) range = like (action.Unspecified params false final) range refl refl refl
+action-named place other range = like other range tt refl refl

@@ -3,7 +3,7 @@ use Rattle.std.proofs.Common.{◌≡◌, ℕ, suc, List, [], ◌∷◌, Option, 
 use Rattle.std.specs.Prelude.{ℤ, Bool, true, false, nat_abs, ◌==◌, ◌||◌, if◌then◌else◌}
 use Rattle.std.specs.List.{All, AllByRecursion}
 use Rattle.std.proofs.lemmas.Bool.{cases_Bool, eq-eqb, false≢true}
-use Rattle.std.proofs.lemmas.List.Elements.{recursion_from_All}
+use Rattle.std.proofs.lemmas.List.Elements.{All-cons, All-nil, recursion_from_All}
 use Rattle.csicodec_tokens.specs.declared.param.CsiParam.{CsiParam}
 use Rattle.csicodec_tokens.specs.declared.param.CsiParam.TheVariants.{Integer, P}
 use Rattle.csicodec_names.proofs.Coded.{Coded, attributes, decs, is_number-pos, listed-number, none-found, terminals}
@@ -183,23 +183,26 @@ attribute-named (attribute.Unspecified (Integer z)) range = go (with_number devi
 -- extensions so
 pub record HaveNames (list : List DeviceAttribute) : Type 0 where
   pub others : List DeviceAttribute
-  pub in_range : AllByRecursion AttributeInRange others
-  pub named : AllByRecursion IsNamedAttribute others
+  pub in_range : All AttributeInRange others
+  pub named : All IsNamedAttribute others
   pub same : map attribute_param others ≡ map attribute_param list
   pub long : length others ≡ length list
 
-pub attributes-named : (list : List DeviceAttribute) → AllByRecursion AttributeInRange list → HaveNames list
-attributes-named [] range = record { others = []; in_range = tt; named = tt; same = refl; long = refl }
-attributes-named (a ∷ list) range =
-    let one = attribute-named a range.0 in
-    let more = attributes-named list range.1 in
-    record {
-      others = attribute_of (attribute_token a) ∷ more.others;
-      in_range = (one.in_range, more.in_range);
-      named = (one.named, more.named);
-      same = rw (one.same, more.same) refl;
-      long = ap suc more.long;
-    }
+pub attributes-named : (list : List DeviceAttribute) → All AttributeInRange list → HaveNames list
+attributes-named list range = go list (recursion_from_All AttributeInRange list range)
+  where
+    go : (list : List DeviceAttribute) → AllByRecursion AttributeInRange list → HaveNames list
+    go [] range = record { others = []; in_range = All-nil AttributeInRange; named = All-nil IsNamedAttribute; same = refl; long = refl }
+    go (a ∷ list) range =
+        let one = attribute-named a range.0 in
+        let more = go list range.1 in
+        record {
+          others = attribute_of (attribute_token a) ∷ more.others;
+          in_range = All-cons AttributeInRange _ more.others one.in_range more.in_range;
+          named = All-cons IsNamedAttribute _ more.others one.named more.named;
+          same = rw (one.same, more.same) refl;
+          long = ap suc more.long;
+        }
 
 -- ---- actions
 

@@ -2,12 +2,12 @@
 use Rattle.std.proofs.Common.{◌≡◌, ℕ, false, List, [], ◌∷◌, ◌++◌, take, Option, Some, None, ap, sym, subst, ◌∙◌, inl, inr}
 use Rattle.std.proofs.lemmas.Bool.{false≢true}
 use Rattle.std.proofs.lemmas.List.{take_all}
-use Rattle.csicodec_tokens.specs.declared.param.CsiParam.{CsiParam}
 use Rattle.csicodec_actions.specs.Actions.{Action}
 use Rattle.csicodec_parser.specs.declared.parser.ActionRef.{ActionRef}
+use Rattle.csicodec_parser.specs.declared.parser.ActionRef.TheVariants as refs
 use Rattle.csicodec_parser.specs.Progress.{ActionsOf, HasEnded, Progress}
 use Rattle.csicodec_parser.specs.Next.{AnswersRef, IsRef, NextsRef}
-use Rattle.csicodec_parser.specs.Segments.{Actions}
+use Rattle.csicodec_structs.specs.Private.Fronts.{lent}
 use Rattle.csicodec_structs.proofs.Laid.{take_got}
 
 pub same_list : (old new : Progress) (all : List Action) → new.list ≡ old.list → new.flag ≡ old.flag → new.final ≡ old.final → ActionsOf new all → ActionsOf old all
@@ -20,8 +20,8 @@ pub given_more : (old new : Progress) (answer : Option ActionRef) (r : ActionRef
 given_more old new answer r P Q nexts is held more all of =
     let before = same_list old new all nexts.list nexts.flag nexts.final of in
     let answers : AnswersRef all old (Some r) new = subst (λ x. AnswersRef all old x new) is (nexts.answers all before) in
-    let (a, got, lent) = answers.1 in
-    subst Q (sym (ap (λ n. take n all) answers.2 ∙ take_got all old.given a got)) (more (take old.given all) a lent (held all before))
+    let (a, got, is) = answers.1 in
+    subst Q (sym (ap (λ n. take n all) answers.2 ∙ take_got all old.given a got)) (more (take old.given all) a is (held all before))
 
 pub not_failed : (old new : Progress) (answer : Option ActionRef) (r : ActionRef) (all : List Action) → NextsRef old answer new → answer ≡ Some r → ActionsOf old all → new.failed ≡ false
 not_failed old new answer r all nexts is of = (subst (λ x. AnswersRef all old x new) is (nexts.answers all of)).3
@@ -36,8 +36,7 @@ given_all old new answer P some nexts is going of held =
       | inr (all, parts, long) ↦ (all, parts, subst P (take_all old.given all long) (held all parts))
     ]
 
-pub of_run : (p : Progress) (list : List CsiParam) (final : ℕ) (all : List Action) → p.list ≡ list → p.flag ≡ false → p.final ≡ final → Actions list false final all → ActionsOf p all
-of_run p list final all l f c h = rw (l, f, c) h
-
-pub to_run : (p : Progress) (list : List CsiParam) (final : ℕ) (all : List Action) → p.list ≡ list → p.flag ≡ false → p.final ≡ final → ActionsOf p all → Actions list false final all
-to_run p list final all l f c h = rw (← l, ← f, ← c) h
+-- the one that lends its tokens so
+pub lent_is : (r : ActionRef) (final : ℕ) (a : Action) → IsRef r false final a → a ≡ lent r final
+lent_is (refs.Small csi) final a is = is
+lent_is other final a is = is

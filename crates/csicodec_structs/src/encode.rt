@@ -62,52 +62,23 @@ pub fn put_text(text: &[u8], out: &mut [u8]) -> Encoded
     }
 }
 
-/// Whether two structs are the same.
-#[tactic(auto, using(crate::proofs::Same::same))]
+/// Whether two structs are the same, field by field.
 fn is_same(one: &Struct, other: &Struct) -> bool
     ensures { result ≡ true ↔ one.now ≡ other.now }
 {
-    one.kind == other.kind
-        && one.final_char == other.final_char
-        && one.first == other.first
-        && one.second == other.second
-        && one.top == other.top
-        && one.left == other.left
-        && one.bottom == other.bottom
-        && one.right == other.right
-        && one.place == other.place
-        && one.len == other.len
-        && one.red == other.red
-        && one.green == other.green
-        && one.blue == other.blue
-        && one.alpha == other.alpha
-        && one.modifiers == other.modifiers
-        && one.button == other.button
-        && one.absent == other.absent
-}
-
-/// The items from this place on.
-fn from<T>(items: &[T], place: usize) -> &[T]
-    ensures { result.now ≡ drop place items.now }
-{
-    if place <= items.len() {
-        &items[place..]
-    } else {
-        &items[items.len()..]
+    *one == Struct {
+        kind: other.kind,
+        ..*other
     }
 }
 
-/// The tokens of an action, unless they are fewer.
-fn part<T>(items: &[T], place: usize, len: usize) -> Option<&[T]>
-    ensures { MatchOption result (length (take len (drop place items.now)) < len) (λ part.
-        part.now ≡ take len (drop place items.now)) }
+/// So many tokens from a place on, unless they are fewer.
+pub fn part(params: &[Param], place: usize, len: usize) -> Option<&[Param]>
+    ensures { MatchOption result (length (take len (drop place params.now)) < len) (λ part.
+        (part.now ≡ take len (drop place params.now)) × (length part.now ≡ len)) }
 {
-    let behind = from(items, place);
-    if len <= behind.len() {
-        Some(&behind[..len])
-    } else {
-        None
-    }
+    let behind = params.get(place..).unwrap_or(&[]);
+    behind.get(..len)
 }
 
 /// An unknown action of these tokens.

@@ -4,10 +4,9 @@ ghost use Rattle.csicodec_actions.specs.Actions.{Action, Unspecified as Unknown}
 ghost use Rattle.csicodec_actions.specs.Devices.{device_of};
 ghost use Rattle.csicodec_actions.specs.Table.{boxed};
 ghost use Rattle.csicodec_parser.specs.ActionOf.{action_of};
-ghost use Rattle.csicodec_parser.specs.Next.{IsRef};
 ghost use Rattle.csicodec_parser.specs.Segments.{Actions};
 ghost use Rattle.csicodec_structs.specs.Next.{Lays};
-ghost use Rattle.csicodec_structs.specs.Private.Fronts.{LaysOne, PutsBehind, headed, large_of};
+ghost use Rattle.csicodec_structs.specs.Private.Fronts.{LaysOne, PutsBehind, headed, large_of, lent};
 ghost use Rattle.csicodec_structs.specs.Rows.{device_params, params_of, struct_of};
 ghost use Rattle.csicodec_structs.specs.declared.structs.Param.{Param};
 ghost use Rattle.csicodec_tokens.specs.declared.param.CsiParam.{CsiParam};
@@ -255,7 +254,7 @@ fn large_action<'a>(
     Ok(Large::Listed(head, graphics.values))
 }
 
-/// Puts the action of a list that is read whole, where none is made that takes no memory.
+/// Puts the action of a list that is read whole, where none is made that takes no memory. Nothing is answered where memory ran out.
 #[cold]
 #[inline(never)]
 fn lay_whole(
@@ -265,12 +264,14 @@ fn lay_whole(
     count: Counts,
     actions: &mut [Struct],
     params: &mut [Param],
-) -> Result<Counts, AllocError>
-    ensures { IfOk result (LaysOne count actions.old actions.new params.old params.new
+) -> Option<Counts>
+    ensures { IfSome result (LaysOne count actions.old actions.new params.old params.new
         (unwrap_or (boxed list.now control) (Unknown list.now false control))) }
 {
-    let large = large_action(alloc, list, control)?;
-    lay_large(&large, count, actions, params).ok_or(AllocError)
+    let Ok(large) = large_action(alloc, list, control) else {
+        return None;
+    };
+    lay_large(&large, count, actions, params)
 }
 
 /// Puts the action whose tokens are lent so, and these tokens.
@@ -282,20 +283,16 @@ fn lay_ref(
     count: Counts,
     actions: &mut [Struct],
     params: &mut [Param],
-) -> Result<Counts, AllocError>
-    ensures { IfOk result (λ next.
-        (a : Action) → IsRef action.entry false control a
-        → LaysOne count actions.old actions.new params.old params.new a next) }
+) -> Option<Counts>
+    ensures { IfSome result (LaysOne count actions.old actions.new params.old params.new
+        (lent action.entry control)) }
 {
     match action {
-        ActionRef::Small(csi) => lay_one(&csi, count, actions, params).ok_or(AllocError),
+        ActionRef::Small(csi) => lay_one(&csi, count, actions, params),
         ActionRef::Whole(list) => lay_whole(alloc, list, control, count, actions, params),
-        ActionRef::Unknown(list) => {
-            lay_unknown(&[], list, control, count, actions, params).ok_or(AllocError)
-        }
+        ActionRef::Unknown(list) => lay_unknown(&[], list, control, count, actions, params),
         ActionRef::UnknownMode(list) => {
-            let mark = [CsiParam::P(b'?')];
-            lay_unknown(&mark, list, control, count, actions, params).ok_or(AllocError)
+            lay_unknown(&[P(b'?')], list, control, count, actions, params)
         }
     }
 }
@@ -308,8 +305,8 @@ pub(crate) fn lay_list(
     control: char,
     actions: &mut [Struct],
     params: &mut [Param],
-) -> Result<Counts, AllocError>
-    ensures { IfOk result (λ count.
+) -> Option<Counts>
+    ensures { IfSome result (λ count.
         (all : List Action) × Actions list.now false control all
         × Lays actions.old actions.new params.old params.new count all) }
 {
@@ -322,5 +319,5 @@ pub(crate) fn lay_list(
     while let Some(action) = run.next_ref() {
         count = lay_ref(alloc, action, control, count, actions, params)?;
     }
-    Ok(count)
+    Some(count)
 }

@@ -18,7 +18,7 @@ mod terminal;
 mod token;
 
 pub use canonical::{Judged, judge};
-pub use encode::{Encoded, actions_of, put_text, put_texts, refused};
+pub use encode::{Encoded, actions_of, part, put_text, put_texts, refused};
 pub use next::{NextSequence, lay_by_tokens};
 pub use normalise::{Normalised, put_normal_form};
 pub use room::{fill, put};

@@ -72,8 +72,8 @@ fn answer(
     ensures { IsAnswer Actions list.now control used actions.old actions.new params.old params.new result }
 {
     match lay_list(alloc, list, control, actions, params) {
-        Ok(count) => done(used, count),
-        Err(_) => refused(Status::Memory, 0),
+        Some(count) => done(used, count),
+        None => refused(Status::Memory, 0),
     }
 }
 

@@ -24,61 +24,12 @@ use csicodec::{
     XtSmGraphicsItem,
 };
 
-pub(crate) fn flag_number(on: bool) -> i64
-    ensures { result ≡ pos (flag_number on) }
-{
-    if on { 1 } else { 0 }
-}
-
 pub(crate) fn font_number(font: Font) -> i64
     ensures { result ≡ pos (font_number font) }
 {
     match font {
         Font::Default => 0,
         Font::Alternate(number) => i64::from(number),
-    }
-}
-
-pub(crate) fn intensity_number(value: Intensity) -> i64
-    ensures { result ≡ pos (intensity_number value) }
-{
-    match value {
-        Intensity::Normal => 0,
-        Intensity::Bold => 1,
-        Intensity::Half => 2,
-    }
-}
-
-pub(crate) fn underline_number(value: Underline) -> i64
-    ensures { result ≡ pos (underline_number value) }
-{
-    match value {
-        Underline::None => 0,
-        Underline::Single => 1,
-        Underline::Double => 2,
-        Underline::Curly => 3,
-        Underline::Dotted => 4,
-        Underline::Dashed => 5,
-    }
-}
-
-pub(crate) fn blink_number(value: Blink) -> i64
-    ensures { result ≡ pos (blink_number value) }
-{
-    match value {
-        Blink::None => 0,
-        Blink::Slow => 1,
-        Blink::Rapid => 2,
-    }
-}
-
-pub(crate) fn align_number(value: VerticalAlign) -> i64
-    ensures { result ≡ pos (align_number value) }
-{
-    match value {
-        VerticalAlign::BaseLine => 0,
-        VerticalAlign::SuperScript => 1,
-        VerticalAlign::SubScript => 2,
     }
 }
 

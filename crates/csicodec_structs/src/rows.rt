@@ -4,10 +4,7 @@ ghost use Rattle.csicodec_actions.specs.Devices.{device_of};
 ghost use Rattle.csicodec_parser.specs.ActionOf.{action_of};
 ghost use Rattle.csicodec_structs.specs.Rows.{cursor_struct, device_struct, edit_struct, keyboard_struct, mode_struct, mouse_struct, sgr_struct, struct_of, window_struct};
 
-use crate::numbers::{
-    align_number, blink_number, flag_number, font_number, intensity_number, item_number,
-    underline_number,
-};
+use crate::numbers::{font_number, item_number};
 use crate::structs::{Struct, color_row, list_row, report_row, row, sized_row, unknown_row};
 use bitflags::Flags;
 use csicodec::{
@@ -21,19 +18,19 @@ pub fn sgr_struct(sgr: &Sgr) -> Struct
 {
     match sgr {
         Sgr::Reset => row(1, 0, 0),
-        Sgr::Intensity(value) => row(2, intensity_number(*value), 0),
-        Sgr::Underline(value) => row(3, underline_number(*value), 0),
+        Sgr::Intensity(value) => row(2, *value as i64, 0),
+        Sgr::Underline(value) => row(3, *value as i64, 0),
         Sgr::UnderlineColor(color) => color_row(4, color),
-        Sgr::Blink(value) => row(5, blink_number(*value), 0),
-        Sgr::Italic(value) => row(6, flag_number(*value), 0),
-        Sgr::Inverse(value) => row(7, flag_number(*value), 0),
-        Sgr::Invisible(value) => row(8, flag_number(*value), 0),
-        Sgr::StrikeThrough(value) => row(9, flag_number(*value), 0),
+        Sgr::Blink(value) => row(5, *value as i64, 0),
+        Sgr::Italic(value) => row(6, i64::from(*value), 0),
+        Sgr::Inverse(value) => row(7, i64::from(*value), 0),
+        Sgr::Invisible(value) => row(8, i64::from(*value), 0),
+        Sgr::StrikeThrough(value) => row(9, i64::from(*value), 0),
         Sgr::Font(value) => row(10, font_number(*value), 0),
         Sgr::Foreground(color) => color_row(11, color),
         Sgr::Background(color) => color_row(12, color),
-        Sgr::Overline(value) => row(13, flag_number(*value), 0),
-        Sgr::VerticalAlign(value) => row(14, align_number(*value), 0),
+        Sgr::Overline(value) => row(13, i64::from(*value), 0),
+        Sgr::VerticalAlign(value) => row(14, *value as i64, 0),
     }
 }
 

@@ -25,10 +25,10 @@ LISTS = ("extensions", "graphics")
 # What stands as a number, but not as its own `to_i64` and `from_i64` say: how the specs and the source give it, and how the
 # source reads it again.
 NUMBERS = {
-    "Intensity": ("intensity_number", "intensity_number(*value)", "intensity(given.first)?"),
-    "Underline": ("underline_number", "underline_number(*value)", "underline(given.first)?"),
-    "Blink": ("blink_number", "blink_number(*value)", "blink(given.first)?"),
-    "VerticalAlign": ("align_number", "align_number(*value)", "align(given.first)?"),
+    "Intensity": ("intensity_number", "*value as i64", "intensity(given.first)?"),
+    "Underline": ("underline_number", "*value as i64", "underline(given.first)?"),
+    "Blink": ("blink_number", "*value as i64", "blink(given.first)?"),
+    "VerticalAlign": ("align_number", "*value as i64", "align(given.first)?"),
     "Font": ("font_number", "font_number(*value)", "font(given)?"),
     "CursorTabulationControl": ("tabulation_control_number", "value.to_i64()", "CursorTabulationControl::from_i64(given.first)?"),
     "DecPrivateMode": ("dec_number", "i64::from(value.number())", "private_mode(given)?"),

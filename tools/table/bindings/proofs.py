@@ -12,10 +12,19 @@ HIDDEN = {
     "state": ("KittyKeyboardMode", "kitty_mode_number", "given.second"),
     "path": ("CharacterPath", "path_number", "given.first"),
 }
+# Of an enumeration that other crates read by its number, the list of its variants there, and the proof that each is found in it.
+LISTED = {
+    "CursorStyle": ("cursor_styles", "styles"),
+    "CursorTabulationControl": ("tabulation_controls", "controls"),
+    "EraseInDisplay": ("erases_in_display", "displays"),
+    "EraseInLine": ("erases_in_line", "lines"),
+    "TabulationClear": ("tabulation_clears", "clears"),
+    "CharacterPath": ("paths", "tracks"),
+    "KittyKeyboardMode": ("kitty_modes", "ways"),
+    "XtermKeyModifierResource": ("resources", "keys"),
+}
 # What stands by a number that isn't one of a list: how it is found again.
 FOUND = {"Font": ("font_at", "font-back v range"), "DecPrivateMode": ("dec_at", "dec-back v named"), "TerminalMode": ("terminal_at", "terminal-back v named")}
-# The forms of which back_rows has every case.
-WHOLE = {"enum", "flag", "keys", "report", "state", "extensions", "graphics"}
 
 
 def coded(form, names):
@@ -25,9 +34,16 @@ def coded(form, names):
     return HIDDEN.get(form)
 
 
+def listed(name):
+    """The list of the variants of an enumeration, and that one of them is found in it."""
+    list_, each = LISTED.get(name, (f"{low(name)}_all", ""))
+    return list_, f"{each}.each v" if each else f"{low(name)}-found v"
+
+
 def enumerations():
-    forms = [(form, names) for _, _, _, form, names in kinds()] + [("path", [])]
-    return sorted({coded(form, names)[:2] for form, names in forms if coded(form, names)})
+    """Those whose lists stand here."""
+    forms = [coded(form, names) for _, _, _, form, names in kinds()]
+    return sorted({found_[:2] for found_ in forms if found_ and found_[0] not in LISTED})
 
 
 def action(group, variant, left):
@@ -35,7 +51,7 @@ def action(group, variant, left):
 
 
 def lists():
-    """Each enumeration as a list, and that each of its variants is found there by its number."""
+    """Each of these enumerations as a list, and that each of its variants is found there by its number."""
     out = ""
     for name, number in enumerations():
         all_ = [f"{low(name)}.{variant.name}" for variant in types()[name].variants]
@@ -69,30 +85,27 @@ def found_row(number, group, variant, form, names):
     one = action(group, variant, left)
     if coded(form, names):
         name, number_, place = coded(form, names)
-        found = f"option_map (λ v. {one})", f"(with_number {number_} {low(name)}_all {place})"
+        found = f"option_map (λ v. {one})", f"(with_number {number_} {listed(name)[0]} {place})"
         return ("\n    " if len(" ".join(found)) > 160 else " ").join(found)
     return f"Some ({one})"
 
 
 def back_rows(number, group, variant, form, names):
-    """That it is found again, where it isn't by computing alone; of the others what cases there are."""
+    """That it is found again, where it isn't by computing alone: what stands behind the name of its variant, and why."""
     a, b = names_in(names)
-    said = lambda left: f"({value(group, variant, left)})"
     some = lambda left: f"λ v. Some ({action(group, variant, left)})"
-    mapped = lambda left: f"option_map (λ v. {action(group, variant, left)})"
-    if form == "enum" and names[0] in FOUND:
-        return [(said(" v"), f"ap ({some(' v')}) ({FOUND[names[0]][1]})")]
+    mapped = lambda left: (left, f"ap (option_map (λ v. {action(group, variant, left)})) ({listed(coded(form, names)[0])[1]})")
     if form == "enum":
-        return [(said(" v"), f"ap ({mapped(' v')}) ({low(names[0])}-found v)")]
+        return [(" v", f"ap ({some(' v')}) ({FOUND[names[0]][1]})") if names[0] in FOUND else mapped(" v")]
     return {
-        "sizes": [(said(" None None"), "refl"), (said(" (Some a) None"), "refl")],
-        "flag": [(said(" v"), f"ap ({some(' v')}) (flag-back v)")],
-        "color": [(said(" color.Default"), "refl")],
-        "keys": [(said(f" v {w}"), f"ap ({mapped(f' v {w}')}) (xterm_key_modifier_resource-found v)") for w in ("None", "(Some z)")],
-        "report": [(said(f" {a} {b} v modifiers"), f"ap ({mapped(f' {a} {b} v modifiers')}) (mouse_button-found v)")],
-        "state": [(said(" flags v"), f"ap ({mapped(' flags v')}) (kitty_keyboard_mode-found v)")],
-        "extensions": [(said(" list"), f"ap ({some(' v')}) (attributes-back list named)")],
-        "graphics": [(said(" item action_or_status list"), "rw (item-back item named, values-back list) refl")],
+        "sizes": [(" None None", "refl"), (" (Some a) None", "refl")],
+        "flag": [(" v", f"ap ({some(' v')}) (flag-back v)")],
+        "color": [(" color.Default", "refl")],
+        "keys": [mapped(" v None"), mapped(" v (Some z)")] if form == "keys" else [],
+        "report": [mapped(f" {a} {b} v modifiers")] if form == "report" else [],
+        "state": [mapped(" flags v")] if form == "state" else [],
+        "extensions": [(" list", f"ap ({some(' v')}) (attributes-back list named)")],
+        "graphics": [(" item action_or_status list", "rw (item-back item named, values-back list) refl")],
     }.get(form, [])
 
 
@@ -102,56 +115,59 @@ def found():
     out += "    if given.kind == 0 then Some (action.Unspecified (map token_at params) false given.final_char) else\n"
     for kind in kinds():
         out += f"    if given.kind == {kind[0]} then {found_row(*kind)} else\n"
-    out += f"    if given.kind == {PATH} then option_map (λ v. action.SelectCharacterPath v given.second) (with_number path_number character_path_all given.first) else\n    None\n"
-    for group in BY_NUMBER:
-        name, place = low(group), "place " if has_tokens(group) else ""
-        out += f"\n{name}-back : (place : ℕ) (a : {type_of(group)}) → {group}InRange a → IsNamed (action.{group} a) → action_at ({name}_struct {place}a) (params_of (action.{group} a)) ≡ Some (action.{group} a)\nunfolding action_at\n"
-        rows_ = [row for kind in of(group) for row in back_rows(*kind)] or [(spec_row(*of(group)[0])[0].removeprefix("place "), "refl")]
-        out += "".join(f"{name}-back place {left} range named = {right}\n" for left, right in rows_)
-        if not all(kind[3] in WHOLE for kind in of(group)):
-            out += f"{name}-back place other range named = refl\n"
+    out += f"    if given.kind == {PATH} then option_map (λ v. action.SelectCharacterPath v given.second) (with_number path_number {listed('CharacterPath')[0]} given.first) else\n    None\n"
     out += "\naction-back : (place : ℕ) (a : Action) → InRange a → IsNamed a → action_at (struct_of place a) (params_of a) ≡ Some a\nunfolding action_at\n"
-    out += "".join(f"action-back place (action.{group} a) range named = {low(group)}-back place a range named\n" for group in BY_NUMBER)
-    out += """action-back place (action.SelectCharacterPath v effect) range named = ap (option_map (λ v. action.SelectCharacterPath v effect)) (character_path-found v)
+    for kind in kinds():
+        out += "".join(f"action-back place ({action(kind[1], kind[2], left)}) range named = {right}\n" for left, right in back_rows(*kind))
+    out += f"""action-back place (action.SelectCharacterPath v effect) range named = ap (option_map (λ v. action.SelectCharacterPath v effect)) ({listed('CharacterPath')[1]})
 action-back place (action.Unspecified params flag final) range named = rw (tokens-back params, named) refl
+action-back place other range named = refl
 """
     return out
 
 
 def like_row(number, group, variant, form, names):
-    """The one by its name that has the struct and the tokens of this one."""
+    """What stands behind the name of its variant, and the one by its name that has the struct and the tokens of this one."""
     if form == "enum":
-        at, back = FOUND[names[0]]
+        at = FOUND[names[0]][0]
         by, has = at.replace("_at", "-named"), at.replace("_at", "_number")
-        return " v", f"\n    let h = {by} v in\n    record {{\n      one = {action(group, variant, f' ({at} (pos ({has} v)))')};\n      in_range = subst (λ n. n < 65536) (sym h.1) range;\n      named = h.0;\n      given = ap (λ n. row {number} (pos n) (pos 0)) h.1;\n      params = refl;\n    }}"
+        return " v", f"let h = {by} v in like ({action(group, variant, f' ({at} (pos ({has} v)))')}) (rw h.1 range) h.0 (rw h.1) refl"
     if form == "extensions":
-        return " list", f"\n    let l = attributes-named list (recursion_from_All AttributeInRange list range) in\n    record {{\n      one = {action(group, variant, ' l.others')};\n      in_range = All-from_recursion AttributeInRange l.others l.in_range;\n      named = All-from_recursion IsNamedAttribute l.others l.named;\n      given = ap (λ n. list_row {number} (pos 0) (pos 0) place n) l.long;\n      params = l.same;\n    }}"
-    return " item action_or_status list", f"\n    let h = item-named (item_number item) in\n    record {{\n      one = {action(group, variant, ' (item_of (item_number item)) action_or_status list')};\n      in_range = range;\n      named = h.0;\n      given = ap (λ z. list_row {number} z action_or_status place (length list)) h.1;\n      params = refl;\n    }}"
+        return " list", f"let l = attributes-named list range in like ({action(group, variant, ' l.others')}) l.in_range l.named (rw l.long) l.same"
+    return " item action_or_status list", f"let h = item-named (item_number item) in\n    like ({action(group, variant, ' (item_of (item_number item)) action_or_status list')}) range h.0 (rw h.1) refl"
 
 
 def likes():
     """That each action has its like by its name."""
-    out = ""
-    for group in filter(can_be_named, BY_NUMBER):
-        out += f"\n{low(group)}-named : (place : ℕ) (a : {type_of(group)}) → {group}InRange a → ByName place (action.{group} a)\n"
-        for kind in of(group):
-            if named_row(*kind):
-                left, right = like_row(*kind)
-                out += f"{low(group)}-named place ({value(group, kind[2], left)}) range ={right}\n"
-        out += f"{low(group)}-named place other range = record {{ one = action.{group} other; in_range = range; named = tt; given = refl; params = refl }}\n"
-    out += "\npub action-named : (place : ℕ) (a : Action) → InRange a → ByName place a\n"
-    out += "".join(f"action-named place (action.{group} a) range = {low(group)}-named place a range\n" for group in filter(can_be_named, BY_NUMBER))
-    out += """action-named place (action.Unspecified params flag final) range = record { one = action.Unspecified params false final; in_range = range; named = refl; given = refl; params = refl }
-action-named place other range = record { one = other; in_range = range; named = tt; given = refl; params = refl }
+    out = """
+like : {place : ℕ} {a : Action} (one : Action) → InRange one → IsNamed one → struct_of place one ≡ struct_of place a → params_of one ≡ params_of a → ByName place a
+like one in_range named given params = record { one = one; in_range = in_range; named = named; given = given; params = params }
+
+pub action-named : (place : ℕ) (a : Action) → InRange a → ByName place a
+"""
+    for kind in filter(lambda kind: named_row(*kind), kinds()):
+        left, right = like_row(*kind)
+        out += f"action-named place ({action(kind[1], kind[2], left)}) range =\n    {right}\n"
+    out += """action-named place (action.Unspecified params flag final) range = like (action.Unspecified params false final) range refl refl refl
+action-named place other range = like other range tt refl refl
 """
     return out
 
 
-def value_uses(values, body):
-    """What the body says of OneValue, in two lines."""
-    names = used(values, body).split(", ")
+def listed_use(crate, file, body):
+    """The `use` line of what the body says of the proofs that variants are found in the lists of another crate."""
+    names = re.findall(r"^pub (\w+) : Coded ", text_of(f"crates/{crate}/proofs/{file}.antt"), re.M)
+    return f"use Rattle.{crate}.proofs.{file}.{{{used([name + '.each' for name in names], body).replace('.each', '')}}}\n"
+
+
+def halved(line):
+    """A `use` line, in two where it is long."""
+    if len(line) < 200:
+        return line
+    where, _, names = line.strip("}\n").partition("{")
+    names = names.split(", ")
     half = len(names) // 2
-    return "".join(f"use Rattle.csicodec_structs.proofs.OneValue.{{{', '.join(some)}}}\n" for some in (names[:half], names[half:]))
+    return "".join(f"{where}{{{', '.join(some)}}}\n" for some in (names[:half], names[half:]))
 
 
 def proof():
@@ -165,18 +181,17 @@ same-action place a b in_a named_a in_b named_b given params =
     uses = ""
     for name, _ in enumerations():
         uses += f"use {module(name)}.{{{name}}}\nuse {module(name)}.TheVariants as {low(name)}\n"
-    values = re.findall(r"^(?:abbrev )?pub (?:record )?([\w-]+) ", text_of("crates/csicodec_structs/proofs/OneValue.antt"), re.M)
+    values = used(re.findall(r"^(?:abbrev )?pub (?:record )?([\w-]+) ", text_of("crates/csicodec_structs/proofs/OneValue.antt"), re.M), body)
     return f"""-- A struct and its tokens are those of one action by its name, whatever action has them. Written by tools/table.
-use Rattle.std.proofs.Common.{{◌≡◌, ◌<◌, ℕ, List, [], ◌∷◌, Option, None, Some, length, map, refl, sym, subst, ap, ◌∙◌, pos}}
+use Rattle.std.proofs.Common.{{◌≡◌, ℕ, List, [], ◌∷◌, Option, None, Some, map, refl, sym, ap, ◌∙◌, pos}}
 use Rattle.std.specs.Prelude.{{false, nat_abs, ◌==◌, if◌then◌else◌}}
 use Rattle.std.specs.Option.{{option_map}}
-use Rattle.std.proofs.lemmas.List.Elements.{{All-from_recursion, recursion_from_All}}
 use Rattle.std.proofs.lemmas.Option.{{same_Some}}
 use Rattle.csicodec_names.specs.Numbered.{{with_number}}
 use Rattle.csicodec_names.specs.declared.color.ColorSpec.TheVariants as color
-{uses}{spec_use("csicodec_names", "EnumNumbers", body)}{type_uses(body)}\
+{uses}{halved(spec_use("csicodec_names", "EnumNumbers", body))}{listed_use("csicodec_names", "Coded", body)}{type_uses(body)}{listed_use("csicodec_actions", "Values", body)}\
 {spec_use("csicodec_actions", "XtSmGraphics", body)}{spec_use("csicodec_actions", "Kinds", body)}{spec_use("csicodec_actions", "Modes", body)}\
 use Rattle.csicodec_structs.specs.declared.structs.Param.{{Param}}
 use Rattle.csicodec_structs.specs.declared.structs.Struct.{{Struct}}
 {own_use("Named", body)}{spec_use("csicodec_structs", "Structs", body)}{own_use("Ranges", body)}{own_use("Rows", body)}{spec_use("csicodec_structs", "Values", body)}\
-{value_uses(values, body)}""" + body
+{halved(f"use Rattle.csicodec_structs.proofs.OneValue.{{{values}}}" + chr(10))}""" + body

@@ -52,7 +52,7 @@ def struct_arm(kind, own):
 
 OWN = {
     "enum": lambda names: number_of(names[0])[1],
-    "flag": "flag_number(*value)",
+    "flag": "i64::from(*value)",
     "keys": "i64::from(resource.number())",
     "area": "Struct",
     "state": "i64::from(mode.number())",

@@ -1,11 +1,16 @@
 -- What is laid of an action, and what is answered of a list that was read.
-use Rattle.std.specs.Prelude.{ℕ, ◌≡◌, ◌⊎◌, ◌+◌, ◌++◌, Bool, false, List, [], ◌∷◌, length}
+use Rattle.std.specs.Prelude.{ℕ, ◌≡◌, ◌⊎◌, ◌+◌, ◌++◌, Bool, false, List, [], ◌∷◌, length, unwrap_or}
 use Rattle.csicodec_tokens.specs.declared.param.CsiParam.{CsiParam}
+use Rattle.csicodec_tokens.specs.declared.param.CsiParam.TheVariants.{P}
 use Rattle.csicodec_actions.specs.Actions.{Action}
 use Rattle.csicodec_actions.specs.Actions as action
 use Rattle.csicodec_actions.specs.Devices as device
 use Rattle.csicodec_actions.specs.Devices.{device_of, listed_attributes}
 use Rattle.csicodec_actions.specs.Lent.{integers}
+use Rattle.csicodec_actions.specs.Table.{boxed}
+use Rattle.csicodec_parser.specs.ActionOf.{action_of}
+use Rattle.csicodec_parser.specs.declared.parser.ActionRef.{ActionRef}
+use Rattle.csicodec_parser.specs.declared.parser.ActionRef.TheVariants as refs
 use Rattle.csicodec_structs.specs.Next.{Lays, refused}
 use Rattle.csicodec_structs.specs.declared.lay.Counts.{Counts}
 use Rattle.csicodec_structs.specs.declared.lay.Head.{Head}
@@ -51,6 +56,14 @@ large_of (large.Device d) = action.Device (device_of d)
 large_of (large.Window w) = action.Window w
 large_of (large.Listed h list) = headed h list.now
 large_of (large.Unknown list final) = action.Unspecified list.now false final
+
+-- the action that lends its tokens so, before this final character
+abbrev pub lent : ActionRef → ℕ → Action
+lent (refs.Small csi) final = action_of csi
+lent (refs.Whole list) final =
+    unwrap_or (boxed list.now final) (action.Unspecified list.now false final)
+lent (refs.Unknown list) final = action.Unspecified list.now false final
+lent (refs.UnknownMode list) final = action.Unspecified (P 63 ∷ list.now) false final
 
 -- the answer of a sequence of so many bytes and actions
 abbrev pub done : ℕ → Counts → NextSequence

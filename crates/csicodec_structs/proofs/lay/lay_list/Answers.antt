@@ -1,8 +1,9 @@
-use Rattle.std.proofs.Common.{◌∙◌, refl, List}
+use Rattle.std.proofs.Common.{◌∙◌, refl, List, false}
 use Rattle.csicodec_actions.specs.Actions.{Action}
+use Rattle.csicodec_parser.specs.Progress.{begun}
 use Rattle.csicodec_structs.specs.Next.{Lays}
 use Rattle.csicodec_structs.proofs.Laid.{lays_none}
-use Rattle.csicodec_structs.proofs.Running.{given_all, given_more, not_failed, of_run, to_run}
+use Rattle.csicodec_structs.proofs.Running.{given_all, given_more, lent_is, not_failed, same_list}
 use Rattle.csicodec_structs.proofs.lay.lay_list.Goals as goal
 
 pub loop-action-init : goal.loop-action-init
@@ -24,11 +25,12 @@ loop-action-preserved c =
       list = steps.list ∙ inv.list;
       flag = steps.flag ∙ inv.flag;
       final = steps.final ∙ inv.final;
-      going = not_failed old c.next_ref.new.self c.next_ref.result c.in-Some.action some.0 steps c.in-Some.is (of_run old c.args.list.now c.args.control some.0 inv.list inv.flag inv.final some.1);
+      going = not_failed old c.next_ref.new.self c.next_ref.result c.in-Some.action some.0 steps c.in-Some.is (rw (inv.list, inv.flag, inv.final) some.1);
       lays = given_more old c.next_ref.new.self c.next_ref.result c.in-Some.action
           (λ (all : List Action). Lays c.args.actions.now c.loop-action.actions c.args.params.now c.loop-action.params c.loop-action.count all)
           (λ (all : List Action). Lays c.args.actions.now c.lay_ref.new.actions c.args.params.now c.lay_ref.new.params c.in_ok-count.count all)
-          steps c.in-Some.is inv.lays (λ before a is lays. c.in_ok-count.ensures a (rw (inv.flag, inv.final) at is) c.args.actions.now c.args.params.now before lays);
+          steps c.in-Some.is inv.lays
+          (λ before a is lays. rw (lent_is c.in-Some.action c.args.control a (rw (inv.flag, inv.final) at is)) (c.in_ok-count.ensures c.args.actions.now c.args.params.now before lays));
     }
 
 pub returns : goal.returns
@@ -38,5 +40,5 @@ returns c =
     let some = c.segmentation.ensures.some in
     let (all, parts, lays) = given_all old c.next_ref.new.self c.next_ref.result
     (λ (all : List Action). Lays c.args.actions.now c.loop-action.actions c.args.params.now c.loop-action.params c.loop-action.count all)
-    some.0 c.next_ref.ensures.next c.in_default.is inv.going (of_run old c.args.list.now c.args.control some.0 inv.list inv.flag inv.final some.1) inv.lays in
-    (all, to_run old c.args.list.now c.args.control all inv.list inv.flag inv.final parts, lays)
+    some.0 c.next_ref.ensures.next c.in_default.is inv.going (rw (inv.list, inv.flag, inv.final) some.1) inv.lays in
+    (all, same_list (begun c.args.list.now false c.args.control) old all inv.list inv.flag inv.final parts, lays)

@@ -4,7 +4,7 @@ import pathlib
 import re
 import textwrap
 
-from layout import byte, low, string
+from layout import byte, folded, low, string
 from parts import Part
 from read import TOP
 
@@ -127,13 +127,19 @@ def proofs(actions, between, types, makes, constructor):
         yield f"pub {one} : {types[two]} {final} {value(action)}\nunfolding as_{action.subject.lower()}\n{one} = {makes[two]} {made}\n"
 
 
-def ruleset(called, names):
-    return f"pub ruleset {called} = ({', '.join(names)})"
-
-
 def long_ruleset(called, names):
-    """The same, a line for each."""
+    """A line for each."""
     return "\n".join([f"pub ruleset {called} = (", *(f"  {name}," for name in names), ")"])
+
+
+def together(called, kind, make, actions, constructor):
+    """One proof for all these finals: what the rows before each read, of one number or of two."""
+    said = [f"{kind} {ord(action.row['final'])} {value(action)}" for action in actions]
+    yield from folded(f"pub {called} :", said, "×").replace(": =\n   ", ":", 1).replace(": =", ":", 1).split("\n")
+    yield f"unfolding as_{actions[0].subject.lower()}"
+    yield f"{called} = ("
+    yield from (f"  {make} (λ {numbers(action)}. {constructor} ({value(action)} {numbers(action)}))," for action in actions)
+    yield from (")", "")
 
 
 def front_arms(actions):
@@ -236,23 +242,16 @@ def of_cursor(actions):
     lists = "TwoCounts final make = (list : List CsiParam) → as_cursor list final ≡ option_map (λ (p : ℕ × ℕ). Cursor (make p.0 p.1)) (given (paired (λ a b. (a, b))) list)"
     counts = [*proofs(one + two, "-", ("Counts", "TwoCounts"), ("one-count", "two-counts"), "Cursor"), long_ruleset("finals", map(name, one + two))]
     yield "crates/csicodec_actions/proofs/Finals.antt", Part("\n".join(counts).split("\n"), (lists, ""), None)
-    types, makes = ("OneMove", "TwoMoves"), ("one_count", "two_counts")
-    named = lambda actions: [name(action, "_") for action in actions]
-    moves = [*proofs(one, "_", types, makes, "Moves"), long_ruleset("counted", named(one)) + "\n", *proofs(two, "_", types, makes, "Moves")]
+    moves = [*together("counted", "OneMove", "one_count", one, "Moves"), *together("twos", "TwoMoves", "two_counts", two, "Moves")]
     margins = "pub margins : (a b j k : ℕ) → j ≡ or_default 1 a → k ≡ or_default most b → a < 2 ^ 32 → b < 2 ^ 32 → (list : List CsiParam) → IsTwo a b list"
-    last = "margins a b j k one two low least list (inr (z, inr none)) = rw (none.1, one, two, z, none.0) refl"
-    yield rows, Part("\n".join(moves).split("\n"), ("    → as_cursor list final ≡ Some (Moves (make j k))", ""), margins)
-    yield rows, Part([ruleset("paired", [*named(two), "margins"])], (last, ""), "")
+    yield rows, Part(moves, ("    → as_cursor list final ≡ Some (Moves (make j k))", ""), margins)
 
 
 def of_edit(actions):
-    rows, others = "crates/csicodec_c/proofs/Rows.antt", ["erase_in_display", "erase_in_line"]
     yield "crates/csicodec_c/src/row.rt", Part(list(front_arms(actions)), ("fn edited(number: u32, control: u8) -> Option<Edit>", "    match control {"), "        b'J' => Some(Edit::EraseInDisplay(EraseInDisplay::from_i64(i64::from(number))?)),")
     head = "OneEdit final make = (n k : ℕ) → k ≡ or_default 1 n → n < 2 ^ 32 → (list : List CsiParam) → IsOne n list → as_edit list final ≡ Some (Edits (make k))"
     behind = "pub erase_in_display : (n : ℕ) (v : EraseInDisplay) → Some v ≡ with_number erase_in_display_number erases_in_display (pos n) → (list : List CsiParam)"
-    last = "erase_in_line n v is list (inr none) = rw (none.1, same_Some _ _ (rw none.0 at is)) refl"
-    yield rows, Part("\n".join(proofs(actions, "_", ("OneEdit",), ("one_count",), "Edits")).split("\n"), (head, ""), behind)
-    yield rows, Part([ruleset("edited", [name(action, "_") for action in actions] + others)], (last, ""), None)
+    yield "crates/csicodec_c/proofs/Rows.antt", Part(list(together("edits", "OneEdit", "one_count", actions, "Edits")), (head, ""), behind)
 
 
 # Where csicodec_overwrite says what acts within a line, and by which name.

@@ -59,16 +59,11 @@ PutsAt place given now next = (old items : List Struct) → now ≡ laid old ite
 no_params : (params : List Param) → PutsBehind params params 0 [] 0
 no_params params = record { ends = refl; puts = λ old before is at. is ∙ ap (laid old) (sym (append-nil before)) }
 
--- one action more, which has no tokens
-pub puts_more : (oa ma na : List Struct) (params : List Param) (count : ℕ) (given : Struct) (before : List Action) (a : Action)
-    → Lays oa ma params params (record { actions = count; params = 0 }) before → given ≡ struct_of 0 a → params_of a ≡ [] → PutsAt count given ma na
-    → Lays oa na params params (record { actions = count + 1; params = 0 }) (before ++ a ∷ [])
-puts_more oa ma na params count given before a lays made none puts =
-    lays_more oa ma na params params params (record { actions = count; params = 0 }) (count + 1) 0 given before a lays made puts (rw none (no_params params)) refl
-
+-- the one action, which has no tokens
 pub puts_one : (ao an : List Struct) (given : Struct) (a : Action) → given ≡ struct_of 0 a → params_of a ≡ [] → PutsAt 0 given ao an
     → (params : List Param) → Lays ao an params params (record { actions = 1; params = 0 }) (a ∷ [])
-puts_one ao an given a made none puts params = puts_more ao ao an params 0 given [] a (lays_none ao params) made none puts
+puts_one ao an given a made none puts params =
+    lays_more ao ao an params params params (record { actions = 0; params = 0 }) 1 0 given [] a (lays_none ao params) made puts (rw none (no_params params)) refl
 
 -- ---- numbers in front
 

@@ -1,6 +1,5 @@
 mod Calls
 mod Told
-mod Keys
 mod Alone
 mod Changed
 mod Colors

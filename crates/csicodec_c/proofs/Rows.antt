@@ -47,100 +47,38 @@ abbrev pub TwoMoves : ℕ → (ℕ → ℕ → Cursor) → Type 0
 TwoMoves final make = (a b j k : ℕ) → j ≡ or_default 1 a → k ≡ or_default 1 b → a < 2 ^ 32 → b < 2 ^ 32 → (list : List CsiParam) → IsTwo a b list
     → as_cursor list final ≡ Some (Moves (make j k))
 
-pub up : OneMove 65 cursor.Up
+pub counted : OneMove 65 cursor.Up × OneMove 66 cursor.Down × OneMove 67 cursor.Right × OneMove 68 cursor.Left × OneMove 69 cursor.NextLine
+    × OneMove 70 cursor.PrecedingLine × OneMove 71 cursor.CharacterAbsolute × OneMove 96 cursor.CharacterPositionAbsolute
+    × OneMove 73 cursor.ForwardTabulation × OneMove 90 cursor.BackwardTabulation × OneMove 89 cursor.LineTabulation
+    × OneMove 97 cursor.CharacterPositionForward × OneMove 106 cursor.CharacterPositionBackward × OneMove 100 cursor.LinePositionAbsolute
+    × OneMove 101 cursor.LinePositionForward × OneMove 107 cursor.LinePositionBackward
 unfolding as_cursor
-up = one_count (λ n. Moves (cursor.Up n))
-
-pub down : OneMove 66 cursor.Down
-unfolding as_cursor
-down = one_count (λ n. Moves (cursor.Down n))
-
-pub right : OneMove 67 cursor.Right
-unfolding as_cursor
-right = one_count (λ n. Moves (cursor.Right n))
-
-pub left : OneMove 68 cursor.Left
-unfolding as_cursor
-left = one_count (λ n. Moves (cursor.Left n))
-
-pub next_line : OneMove 69 cursor.NextLine
-unfolding as_cursor
-next_line = one_count (λ n. Moves (cursor.NextLine n))
-
-pub preceding_line : OneMove 70 cursor.PrecedingLine
-unfolding as_cursor
-preceding_line = one_count (λ n. Moves (cursor.PrecedingLine n))
-
-pub character_absolute : OneMove 71 cursor.CharacterAbsolute
-unfolding as_cursor
-character_absolute = one_count (λ n. Moves (cursor.CharacterAbsolute n))
-
-pub character_position_absolute : OneMove 96 cursor.CharacterPositionAbsolute
-unfolding as_cursor
-character_position_absolute = one_count (λ n. Moves (cursor.CharacterPositionAbsolute n))
-
-pub forward_tabulation : OneMove 73 cursor.ForwardTabulation
-unfolding as_cursor
-forward_tabulation = one_count (λ n. Moves (cursor.ForwardTabulation n))
-
-pub backward_tabulation : OneMove 90 cursor.BackwardTabulation
-unfolding as_cursor
-backward_tabulation = one_count (λ n. Moves (cursor.BackwardTabulation n))
-
-pub line_tabulation : OneMove 89 cursor.LineTabulation
-unfolding as_cursor
-line_tabulation = one_count (λ n. Moves (cursor.LineTabulation n))
-
-pub character_position_forward : OneMove 97 cursor.CharacterPositionForward
-unfolding as_cursor
-character_position_forward = one_count (λ n. Moves (cursor.CharacterPositionForward n))
-
-pub character_position_backward : OneMove 106 cursor.CharacterPositionBackward
-unfolding as_cursor
-character_position_backward = one_count (λ n. Moves (cursor.CharacterPositionBackward n))
-
-pub line_position_absolute : OneMove 100 cursor.LinePositionAbsolute
-unfolding as_cursor
-line_position_absolute = one_count (λ n. Moves (cursor.LinePositionAbsolute n))
-
-pub line_position_forward : OneMove 101 cursor.LinePositionForward
-unfolding as_cursor
-line_position_forward = one_count (λ n. Moves (cursor.LinePositionForward n))
-
-pub line_position_backward : OneMove 107 cursor.LinePositionBackward
-unfolding as_cursor
-line_position_backward = one_count (λ n. Moves (cursor.LinePositionBackward n))
-
-pub ruleset counted = (
-  up,
-  down,
-  right,
-  left,
-  next_line,
-  preceding_line,
-  character_absolute,
-  character_position_absolute,
-  forward_tabulation,
-  backward_tabulation,
-  line_tabulation,
-  character_position_forward,
-  character_position_backward,
-  line_position_absolute,
-  line_position_forward,
-  line_position_backward,
+counted = (
+  one_count (λ n. Moves (cursor.Up n)),
+  one_count (λ n. Moves (cursor.Down n)),
+  one_count (λ n. Moves (cursor.Right n)),
+  one_count (λ n. Moves (cursor.Left n)),
+  one_count (λ n. Moves (cursor.NextLine n)),
+  one_count (λ n. Moves (cursor.PrecedingLine n)),
+  one_count (λ n. Moves (cursor.CharacterAbsolute n)),
+  one_count (λ n. Moves (cursor.CharacterPositionAbsolute n)),
+  one_count (λ n. Moves (cursor.ForwardTabulation n)),
+  one_count (λ n. Moves (cursor.BackwardTabulation n)),
+  one_count (λ n. Moves (cursor.LineTabulation n)),
+  one_count (λ n. Moves (cursor.CharacterPositionForward n)),
+  one_count (λ n. Moves (cursor.CharacterPositionBackward n)),
+  one_count (λ n. Moves (cursor.LinePositionAbsolute n)),
+  one_count (λ n. Moves (cursor.LinePositionForward n)),
+  one_count (λ n. Moves (cursor.LinePositionBackward n)),
 )
 
-pub position : TwoMoves 72 cursor.Position
+pub twos : TwoMoves 72 cursor.Position × TwoMoves 82 cursor.ActivePositionReport × TwoMoves 102 cursor.CharacterAndLinePosition
 unfolding as_cursor
-position = two_counts (λ a b. Moves (cursor.Position a b))
-
-pub active_position_report : TwoMoves 82 cursor.ActivePositionReport
-unfolding as_cursor
-active_position_report = two_counts (λ a b. Moves (cursor.ActivePositionReport a b))
-
-pub character_and_line_position : TwoMoves 102 cursor.CharacterAndLinePosition
-unfolding as_cursor
-character_and_line_position = two_counts (λ a b. Moves (cursor.CharacterAndLinePosition a b))
+twos = (
+  two_counts (λ a b. Moves (cursor.Position a b)),
+  two_counts (λ a b. Moves (cursor.ActivePositionReport a b)),
+  two_counts (λ a b. Moves (cursor.CharacterAndLinePosition a b)),
+)
 
 pub margins : (a b j k : ℕ) → j ≡ or_default 1 a → k ≡ or_default most b → a < 2 ^ 32 → b < 2 ^ 32 → (list : List CsiParam) → IsTwo a b list
     → as_cursor list 114 ≡ Some (Moves (cursor.SetTopAndBottomMargins j k))
@@ -149,44 +87,26 @@ margins a b j k one two low least list (inl both) = rw (both, one, two, lt-ltb a
 margins a b j k one two low least list (inr (z, inl first)) = rw (first, one, two, z, lt-ltb a (2 ^ 32) low) refl
 margins a b j k one two low least list (inr (z, inr none)) = rw (none.1, one, two, z, none.0) refl
 
-pub ruleset paired = (position, active_position_report, character_and_line_position, margins)
+pub ruleset paired = (twos, margins)
 
 -- ---- edits
 
 abbrev pub OneEdit : ℕ → (ℕ → Edit) → Type 0
 OneEdit final make = (n k : ℕ) → k ≡ or_default 1 n → n < 2 ^ 32 → (list : List CsiParam) → IsOne n list → as_edit list final ≡ Some (Edits (make k))
 
-pub insert_character : OneEdit 64 edit.InsertCharacter
+pub edits : OneEdit 64 edit.InsertCharacter × OneEdit 76 edit.InsertLine × OneEdit 80 edit.DeleteCharacter × OneEdit 77 edit.DeleteLine
+    × OneEdit 88 edit.EraseCharacter × OneEdit 83 edit.ScrollUp × OneEdit 84 edit.ScrollDown × OneEdit 98 edit.Repeat
 unfolding as_edit
-insert_character = one_count (λ n. Edits (edit.InsertCharacter n))
-
-pub insert_line : OneEdit 76 edit.InsertLine
-unfolding as_edit
-insert_line = one_count (λ n. Edits (edit.InsertLine n))
-
-pub delete_character : OneEdit 80 edit.DeleteCharacter
-unfolding as_edit
-delete_character = one_count (λ n. Edits (edit.DeleteCharacter n))
-
-pub delete_line : OneEdit 77 edit.DeleteLine
-unfolding as_edit
-delete_line = one_count (λ n. Edits (edit.DeleteLine n))
-
-pub erase_character : OneEdit 88 edit.EraseCharacter
-unfolding as_edit
-erase_character = one_count (λ n. Edits (edit.EraseCharacter n))
-
-pub scroll_up : OneEdit 83 edit.ScrollUp
-unfolding as_edit
-scroll_up = one_count (λ n. Edits (edit.ScrollUp n))
-
-pub scroll_down : OneEdit 84 edit.ScrollDown
-unfolding as_edit
-scroll_down = one_count (λ n. Edits (edit.ScrollDown n))
-
-pub repeat : OneEdit 98 edit.Repeat
-unfolding as_edit
-repeat = one_count (λ n. Edits (edit.Repeat n))
+edits = (
+  one_count (λ n. Edits (edit.InsertCharacter n)),
+  one_count (λ n. Edits (edit.InsertLine n)),
+  one_count (λ n. Edits (edit.DeleteCharacter n)),
+  one_count (λ n. Edits (edit.DeleteLine n)),
+  one_count (λ n. Edits (edit.EraseCharacter n)),
+  one_count (λ n. Edits (edit.ScrollUp n)),
+  one_count (λ n. Edits (edit.ScrollDown n)),
+  one_count (λ n. Edits (edit.Repeat n)),
+)
 
 pub erase_in_display : (n : ℕ) (v : EraseInDisplay) → Some v ≡ with_number erase_in_display_number erases_in_display (pos n) → (list : List CsiParam)
     → IsOne n list → as_edit list 74 ≡ Some (Edits (edit.EraseInDisplay v))
@@ -200,4 +120,4 @@ unfolding as_edit read
 erase_in_line n v is list (inl one) = rw (one, ← is) refl
 erase_in_line n v is list (inr none) = rw (none.1, same_Some _ _ (rw none.0 at is)) refl
 
-pub ruleset edited = (insert_character, insert_line, delete_character, delete_line, erase_character, scroll_up, scroll_down, repeat, erase_in_display, erase_in_line)
+pub ruleset edited = (edits, erase_in_display, erase_in_line)

@@ -109,10 +109,6 @@ pub styles_all : (body rest behind after : List ℕ) (styles : List AttributePar
     → AreStyles body (styles ++ style ∷ []) after
 styles_all body rest behind after styles style (all, has, same) (s, one, made) e = (all ++ s ∷ [], styled_all body rest behind after all s has one e, both_more styles all style s same made)
 
--- in place of an attribute that isn't there
-abbrev pub no_style : AttributeParts
-no_style = record { kind = 0; first = 0; second = 0; red = 0; green = 0; blue = 0; alpha = 0 }
-
 pub two_styles : (body text behind after : List ℕ) (a b : ℕ) (one two : AttributeParts) → ReadsOn body (Integer (pos a) ∷ P 59 ∷ []) text → IsFirstToken text (Integer (pos b)) behind
     → SetsAlone a one → SetsAlone b two → behind ≡ 109 ∷ after → AreStyles body (one ∷ two ∷ []) after
 two_styles body text behind after a b one two (mid, first, (next, mark, last)) second sets also e =

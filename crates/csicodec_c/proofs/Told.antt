@@ -9,7 +9,6 @@ use Rattle.csicodec_tokens.proofs.Unique.{one_seq}
 use Rattle.csicodec_spans.specs.declared.table.Mode.{Mode}
 use Rattle.csicodec_spans.specs.declared.table.Mode.TheVariants as modes
 use Rattle.csicodec_spans.proofs.Sequences.{short, whole}
-use Rattle.csicodec_events.specs.declared.event.Event.{Event}
 use Rattle.csicodec_events.specs.declared.event.Event.TheVariants as event
 use Rattle.csicodec_events.specs.declared.event.Events.{Events}
 use Rattle.csicodec_events.specs.Events.{BeginsCsi, onward, without_controls}
@@ -20,7 +19,7 @@ use Rattle.csicodec_structs.specs.declared.structs.Struct.{Struct}
 use Rattle.csicodec_structs.specs.Next.{IsDone as IsLaid, IsRefused as IsUnlaid, refusal}
 use Rattle.csicodec_c.specs.declared.event.Evented.{Evented}
 use Rattle.csicodec_c.specs.Filter.{mode_number}
-use Rattle.csicodec_c.specs.Event.{HasPut, IsDone, IsRefused, IsWaiting, Puts, read_at_once, stream}
+use Rattle.csicodec_c.specs.Event.{HasPut, IsDone, IsRefused, IsWaiting, read_at_once, stream}
 
 -- ---- what was laid
 
@@ -84,14 +83,8 @@ read_done number limit looked bytes near m a b p q front answer began none begin
       puts = (d.actions, f.are, record { actions = d.count; params = d.params; lays_actions = d.lays_actions; lays_params = d.lays_params });
     })
 
--- ---- any other event
+-- ---- how it ends
 
-pub puts_none : (x : Event) (list : List CsiParam) (a : List Struct) (p : List Param) (answer : Evented) → ((final : ℕ) → x ≡ event.Csi final → ⊥) → answer.actions ≡ 0 → answer.params ≡ 0
-    → Puts x list a a p p answer
-puts_none (event.Csi final) list a p answer other actions params = absurd (other final refl)
-puts_none _ list a p answer other actions params = (actions, params, refl, refl)
-
--- how the call for an event ends
 abbrev pub Ends : ℕ → ℕ → ℕ → List ℕ → List Struct → List Struct → List Param → List Param → Evented → Type 0
 Ends number limit looked bytes a b p q answer =
     IsDone number limit looked bytes a b p q answer ⊎ (IsWaiting number limit looked bytes a b p q answer ⊎ IsRefused number limit looked bytes answer)

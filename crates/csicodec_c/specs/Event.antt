@@ -49,11 +49,11 @@ HasPut list final actions_old actions_new params_old params_new actions params =
     (all : List Action) × Actions list false final all × Lays actions_old actions_new params_old params_new (record { actions = actions; params = params }) all
 
 -- of a control sequence its actions, as many as there is room for; of any other event none
-abbrev pub Puts : Event → List CsiParam → List Struct → List Struct → List Param → List Param → Evented → Type 0
-Puts (event.Csi final) list actions_old actions_new params_old params_new answer =
-    HasPut list final actions_old actions_new params_old params_new answer.actions answer.params
-Puts _ list actions_old actions_new params_old params_new answer =
-    (answer.actions ≡ 0) × (answer.params ≡ 0) × (actions_new ≡ actions_old) × (params_new ≡ params_old)
+abbrev pub Puts : Event → List CsiParam → List Struct → List Struct → List Param → List Param → ℕ → ℕ → Type 0
+Puts (event.Csi final) list actions_old actions_new params_old params_new actions params =
+    HasPut list final actions_old actions_new params_old params_new actions params
+Puts _ list actions_old actions_new params_old params_new actions params =
+    (actions ≡ 0) × (params ≡ 0) × (actions_new ≡ actions_old) × (params_new ≡ params_old)
 
 -- the event at the front, and how the stream goes on behind it
 pub record IsDone (number limit looked : ℕ) (bytes : List ℕ) (actions_old actions_new : List Struct) (params_old params_new : List Param) (answer : Evented) : Type 0 where
@@ -71,7 +71,7 @@ pub record IsDone (number limit looked : ℕ) (bytes : List ℕ) (actions_old ac
   pub mode : answer.mode ≡ mode_number after.mode
   pub looks : answer.looked ≡ after.looked
   pub used : answer.used ≡ length text
-  pub puts : Puts told list actions_old actions_new params_old params_new answer
+  pub puts : Puts told list actions_old actions_new params_old params_new answer.actions answer.params
 
 -- or nothing is told before more bytes come
 pub record IsWaiting (number limit looked : ℕ) (bytes : List ℕ) (actions_old actions_new : List Struct) (params_old params_new : List Param) (answer : Evented) : Type 0 where

@@ -16,7 +16,7 @@ use Rattle.csicodec_structs.specs.Status.{status_number}
 use Rattle.csicodec_structs.specs.declared.status.Status.{Status}
 use Rattle.csicodec_structs.specs.declared.status.Status.TheVariants as status
 use Rattle.csicodec_c.specs.declared.input.Received.{Received}
-use Rattle.csicodec_c.specs.Event.{HasPut, IsBadState as IsNoState, event_number, stream}
+use Rattle.csicodec_c.specs.Event.{IsBadState as IsNoState, Puts as PutsTold, event_number, stream}
 use Rattle.csicodec_c.specs.Filter.{mode_number}
 
 -- the numbers of `enum csicodec_dialect`
@@ -62,12 +62,12 @@ abbrev pub answered : Status → ℕ → ℕ → Events → ℕ → Received
 answered why kind value after used =
     record { status = status_number why; kind = kind; mode = mode_number after.mode; value = value; looked = after.looked; used = used; actions = 0; params = 0 }
 
--- of a control sequence its actions, as many as there is room for; of any other event none
-abbrev pub Puts : InputEvent → List CsiParam → List Struct → List Struct → List Param → List Param → Received → Type 0
-Puts (input.Output (event.Csi final)) list actions_old actions_new params_old params_new answer =
-    HasPut list final actions_old actions_new params_old params_new answer.actions answer.params
-Puts _ list actions_old actions_new params_old params_new answer =
-    (answer.actions ≡ 0) × (answer.params ≡ 0) × (actions_new ≡ actions_old) × (params_new ≡ params_old)
+-- of output what that call puts, and of any other event nothing
+abbrev pub Puts : InputEvent → List CsiParam → List Struct → List Struct → List Param → List Param → ℕ → ℕ → Type 0
+Puts (input.Output told) list actions_old actions_new params_old params_new actions params =
+    PutsTold told list actions_old actions_new params_old params_new actions params
+Puts _ list actions_old actions_new params_old params_new actions params =
+    (actions ≡ 0) × (params ≡ 0) × (actions_new ≡ actions_old) × (params_new ≡ params_old)
 
 -- the event at the front in this dialect, and how the stream goes on behind it
 pub record IsDone (dialect number limit looked : ℕ) (bytes : List ℕ) (actions_old actions_new : List Struct) (params_old params_new : List Param) (answer : Received) : Type 0 where
@@ -88,7 +88,7 @@ pub record IsDone (dialect number limit looked : ℕ) (bytes : List ℕ) (action
   pub value : answer.value ≡ value_of sent
   pub looks : answer.looked ≡ after.looked
   pub used : answer.used ≡ length text
-  pub puts : Puts sent list actions_old actions_new params_old params_new answer
+  pub puts : Puts sent list actions_old actions_new params_old params_new answer.actions answer.params
 
 -- or nothing is told before more bytes come
 pub record IsWaiting (dialect number limit looked : ℕ) (bytes : List ℕ) (actions_old actions_new : List Struct) (params_old params_new : List Param) (answer : Received) : Type 0 where

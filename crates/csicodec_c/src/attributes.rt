@@ -1,9 +1,8 @@
 //! One attribute before `m`, straight from its bytes.
-ghost use Rattle.std.specs.Prelude.{◌≡◌, ◌∷◌, [], ◌<◌, IfSome, get_or, pos};
+ghost use Rattle.std.specs.Prelude.{◌≡◌, ◌∷◌, [], IfSome, pos};
 ghost use Rattle.csicodec_tokens.specs.declared.param.CsiParam.TheVariants.{Integer, P};
 ghost use Rattle.csicodec_tokens.specs.Private.Reading.{IsFirstToken};
-ghost use Rattle.csicodec_c.specs.Private.Short.{IsMark, IsPainted, IsStyled, ReadsOn, SetsAlone, nothing, plain, style_struct};
-ghost use Rattle.csicodec_c.specs.declared.by_number.TheConstants.{STYLES};
+ghost use Rattle.csicodec_c.specs.Private.Short.{IsMark, IsPainted, IsStyled, ReadsOn, SetsAlone, plain, style_struct};
 
 use crate::by_number::{STYLES, StyleRow};
 use crate::numbers::number_front;
@@ -48,14 +47,6 @@ pub(crate) fn style_struct(style: &AttributeParts) -> Struct
     }
 }
 
-#[inline(always)]
-fn alone_at(place: usize) -> StyleRow
-    requires { place < 108 }
-    ensures { result ≡ get_or STYLES place nothing }
-{
-    STYLES[place]
-}
-
 /// With no true colour.
 #[inline(always)]
 pub(crate) fn plain(kind: u8, first: u8, second: u8) -> AttributeParts
@@ -81,7 +72,7 @@ pub(crate) fn style_alone(number: u32) -> Option<AttributeParts>
     if number > 107 {
         return None;
     }
-    let StyleRow(kind, first, second) = alone_at(number as usize);
+    let StyleRow(kind, first, second) = STYLES[number as usize];
     if kind == 0 {
         return None;
     }

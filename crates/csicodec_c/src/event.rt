@@ -2,9 +2,10 @@
 ghost use Rattle.std.specs.Prelude.{◌≡◌, ◌⊎◌, ◌<◌, ℕ, List, IfSome, take};
 ghost use Rattle.csicodec_tokens.specs.declared.param.CsiParam.{CsiParam};
 ghost use Rattle.csicodec_tokens.specs.Sequence.{Seq};
-ghost use Rattle.csicodec_events.specs.Events.{IsMet, without_controls};
+ghost use Rattle.csicodec_events.specs.declared.event.Events.{Events};
+ghost use Rattle.csicodec_events.specs.Events.{IsMet, IsTold, without_controls};
 ghost use Rattle.csicodec_c.specs.Filter.{mode_number};
-ghost use Rattle.csicodec_c.specs.Event.{HasPut, IsDone, IsRefused, IsWaiting, answered, event_number, read_at_once, refused};
+ghost use Rattle.csicodec_c.specs.Event.{HasPut, IsDone, IsRefused, IsWaiting, Puts, answered, event_number, read_at_once, refused};
 
 use crate::filter::{mode_at, number_of};
 use crate::front::lay_front;
@@ -99,14 +100,14 @@ fn near(limit: usize, bytes: &[u8]) -> &[u8]
 
 /// How many actions and tokens the sequence has that the bytes are without the controls in them, and puts them, as many as there is
 /// room for; none where memory ran out.
-pub(crate) fn lay_read(
+fn lay_read(
     alloc: Global,
     bytes: &[u8],
     actions: &mut [Struct],
     params: &mut [Param],
-) -> Option<NextSequence>
+) -> Option<(usize, usize)>
     ensures { (list : List CsiParam) (final : ℕ) → Seq (without_controls bytes.now) list final
-        → IfSome result (λ front. HasPut list final actions.old actions.new params.old params.new front.actions front.params) }
+        → IfSome result (λ n. HasPut list final actions.old actions.new params.old params.new n.0 n.1) }
 {
     let mut read = Vec::new(alloc);
     let Ok(()) = append_read(bytes, &mut read) else {
@@ -114,9 +115,28 @@ pub(crate) fn lay_read(
     };
     let front = lay_front(alloc, &read, actions, params);
     if front.status == Status::Done.number() {
-        Some(front)
+        Some((front.actions, front.params))
     } else {
         None
+    }
+}
+
+/// The same of an event of these bytes: what is no control sequence has none.
+#[inline(always)]
+pub(crate) fn put_event(
+    alloc: Global,
+    told: Event,
+    bytes: &[u8],
+    actions: &mut [Struct],
+    params: &mut [Param],
+) -> Option<(usize, usize)>
+    ensures { (e after : Events) (whole rest : List ℕ) (list : List CsiParam)
+        → IsTold told e whole bytes.now rest list after
+        → IfSome result (λ n. Puts told list actions.old actions.new params.old params.new n.0 n.1) }
+{
+    match told {
+        Event::Csi(_) => lay_read(alloc, bytes, actions, params),
+        Event::Text | Event::Esc | Event::Str | Event::Other | Event::Control(_) => Some((0, 0)),
     }
 }
 
@@ -148,17 +168,13 @@ fn step(
         events,
         told.bytes.len(),
     );
-    if let Event::Csi(_) = told.event {
-        match lay_read(alloc, told.bytes, actions, params) {
-            Some(front) => Evented {
-                actions: front.actions,
-                params: front.params,
-                ..answer
-            },
-            None => refused(Status::Memory),
-        }
-    } else {
-        answer
+    match put_event(alloc, told.event, told.bytes, actions, params) {
+        Some((count, tokens)) => Evented {
+            actions: count,
+            params: tokens,
+            ..answer
+        },
+        None => refused(Status::Memory),
     }
 }
 

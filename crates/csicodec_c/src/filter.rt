@@ -60,14 +60,7 @@ pub(crate) fn mode_at(number: u32) -> Option<Mode>
 pub(crate) fn number_of(mode: Mode) -> u32
     ensures { result ≡ mode_number mode }
 {
-    match mode {
-        Mode::Text => 0,
-        Mode::Osc => 1,
-        Mode::Dcs => 2,
-        Mode::Str => 3,
-        Mode::BadCsi => 4,
-        Mode::BadEsc => 5,
-    }
+    mode as u32
 }
 
 /// What the spans of the bytes that are sure become.

@@ -58,10 +58,8 @@ fn colors_of(alloc: Global, numbers: &[u32]) -> Result<Vec<SrgbaTuple>, AllocErr
     ensures { IfOk result (λ colors. colors.items ≡ map color_of numbers.now) }
 {
     let mut colors = Vec::new(alloc);
-    let mut rest = numbers;
-    while let Some((number, behind)) = rest.split_first() {
+    for number in numbers {
         colors.push(color_of(*number))?;
-        rest = behind;
     }
     Ok(colors)
 }
@@ -82,27 +80,15 @@ fn choices_of(choices: &Choices, palette: Palette) -> Option<PageSettings>
     ensures some { IfSome result (λ asked. IsAsked choices.now palette asked) }
     ensures none { IfNone result ((asked : PageSettings) → IsAsked choices.now palette asked → ⊥) }
 {
-    let Some(links) = bit_at(choices.links) else {
-        return None;
-    };
-    let Some(classes) = bit_at(choices.classes) else {
-        return None;
-    };
-    let Some(fragment) = bit_at(choices.fragment) else {
-        return None;
-    };
-    let Some(no_overwrite) = bit_at(choices.no_overwrite) else {
-        return None;
-    };
     let markup = Markup {
-        links,
-        classes,
+        links: bit_at(choices.links)?,
+        classes: bit_at(choices.classes)?,
         palette,
     };
     Some(PageSettings {
         markup,
-        fragment,
-        no_overwrite,
+        fragment: bit_at(choices.fragment)?,
+        no_overwrite: bit_at(choices.no_overwrite)?,
     })
 }
 

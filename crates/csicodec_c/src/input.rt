@@ -1,11 +1,14 @@
 //! The event at the front of what a terminal sends, where the caller keeps the state.
-ghost use Rattle.std.specs.Prelude.{◌≡◌, ◌⊎◌, ◌<◌, ◌↔◌, Some};
+ghost use Rattle.std.specs.Prelude.{◌≡◌, ◌⊎◌, ◌<◌, ◌↔◌, ℕ, List, Some, IfSome};
+ghost use Rattle.csicodec_tokens.specs.declared.param.CsiParam.{CsiParam};
 ghost use Rattle.csicodec_events.specs.declared.input.Dialect.{Dialect};
+ghost use Rattle.csicodec_events.specs.declared.event.Events.{Events};
 ghost use Rattle.csicodec_events.specs.Events.{IsMet};
+ghost use Rattle.csicodec_events.specs.Input.{IsSent};
 ghost use Rattle.csicodec_c.specs.Filter.{mode_number};
-ghost use Rattle.csicodec_c.specs.Input.{IsDone, IsPaused, IsRefused, IsStill, IsWaiting, answered, control_of, dialect_number, input_number, refused, value_of};
+ghost use Rattle.csicodec_c.specs.Input.{IsDone, IsPaused, IsRefused, IsStill, IsWaiting, Puts, answered, control_of, dialect_number, input_number, refused, value_of};
 
-use crate::event::{event_number, lay_read};
+use crate::event::{event_number, put_event};
 use crate::filter::{mode_at, number_of};
 use csicodec_events::{Dialect, Event, Events, InputEvent};
 use csicodec_structs::{Param, Status, Struct};
@@ -110,6 +113,32 @@ fn value_of(sent: InputEvent) -> u8
     }
 }
 
+/// Puts the actions of a control sequence and their tokens, as many as there is room for: how many they are, unless memory ran out.
+/// What is none has none.
+#[inline(always)]
+#[tactic(auto, using(csicodec_events::proofs::Forms::as_output))]
+fn put_sent(
+    alloc: Global,
+    sent: InputEvent,
+    bytes: &[u8],
+    actions: &mut [Struct],
+    params: &mut [Param],
+) -> Option<(usize, usize)>
+    ensures { (dialect : Dialect) (e after : Events) (whole rest : List ℕ) (list : List CsiParam)
+        → IsSent dialect e whole sent bytes.now rest list after
+        → IfSome result (λ n. Puts sent list actions.old actions.new params.old params.new n.0 n.1) }
+{
+    match sent {
+        InputEvent::Output(told) => put_event(alloc, told, bytes, actions, params),
+        InputEvent::Ss3(_)
+        | InputEvent::Linux(_)
+        | InputEvent::Rxvt(_)
+        | InputEvent::Mouse
+        | InputEvent::Alt(_)
+        | InputEvent::Escape => Some((0, 0)),
+    }
+}
+
 /// The event at the front, and of a sequence its actions.
 fn step(
     alloc: Global,
@@ -139,19 +168,13 @@ fn step(
         events,
         sent.bytes.len(),
     );
-    match sent.event {
-        InputEvent::Output(told) => match told {
-            Event::Csi(_) => match lay_read(alloc, sent.bytes, actions, params) {
-                Some(front) => Received {
-                    actions: front.actions,
-                    params: front.params,
-                    ..answer
-                },
-                None => refused(Status::Memory),
-            },
-            _ => answer,
+    match put_sent(alloc, sent.event, sent.bytes, actions, params) {
+        Some((count, tokens)) => Received {
+            actions: count,
+            params: tokens,
+            ..answer
         },
-        _ => answer,
+        None => refused(Status::Memory),
     }
 }
 

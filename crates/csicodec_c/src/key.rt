@@ -56,24 +56,13 @@ fn without(why: Status, used: usize) -> FrontKey
 fn happens(event: KeyEvent) -> u32
     ensures { result ≡ happens event }
 {
-    match event {
-        KeyEvent::Press => 0,
-        KeyEvent::Repeat => 1,
-        KeyEvent::Release => 2,
-    }
+    event as u32
 }
 
 fn encoding_number(encoding: Encoding) -> u32
     ensures { result ≡ encoding_number encoding }
 {
-    match encoding {
-        Encoding::Legacy => 0,
-        Encoding::ModifyOtherKeys => 1,
-        Encoding::Kitty => 2,
-        Encoding::Win32 => 3,
-        Encoding::Rxvt => 4,
-        Encoding::Linux => 5,
-    }
+    encoding as u32
 }
 
 fn told(encoding: Encoding, key: &Key, used: usize) -> FrontKey
@@ -96,10 +85,8 @@ fn numbers_of(alloc: Global, text: &[char]) -> Result<Vec<u32>, AllocError>
     ensures { IfOk result (λ numbers. numbers.items ≡ text.now) }
 {
     let mut numbers = Vec::new(alloc);
-    let mut rest = text;
-    while let Some((character, behind)) = rest.split_first() {
+    for character in text {
         numbers.push(*character as u32)?;
-        rest = behind;
     }
     Ok(numbers)
 }

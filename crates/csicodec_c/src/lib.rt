@@ -10,7 +10,6 @@ mod front;
 mod html;
 mod input;
 mod key;
-mod known;
 pub mod laws;
 mod mode;
 mod numbers;
@@ -33,8 +32,8 @@ pub use filter::{Filtered, csicodec_filter};
 pub use html::{Choices, csicodec_html, csicodec_overwrite};
 pub use input::{Received, csicodec_input, csicodec_pause};
 pub use key::{FrontKey, csicodec_key};
-pub use known::csicodec_known;
 pub use osc::{Commanded, csicodec_osc};
+pub use recognise::{Recognised, csicodec_known};
 pub use sequences::{
     csicodec_encode, csicodec_is_canonical, csicodec_next, csicodec_normalise,
     csicodec_terminal_actions,

@@ -7,24 +7,15 @@ use crate::numbers::number_front;
 use csicodec_actions::{Change, DecPrivateMode};
 use csicodec_structs::{Struct, mode_struct, put};
 
-/// A `?` and a number in front, and what is behind them.
+/// A `?` and the number of a mode in front, of 16 bits, and what is behind them.
 #[inline(always)]
-fn private_front(text: &[u8]) -> Option<(u32, &[u8])>
+fn mode_front(text: &[u8]) -> Option<(u16, &[u8])>
     ensures { IfSome result (λ x. ReadsOn text.now (P 63 ∷ Integer (pos x.0) ∷ []) x.1.now) }
 {
     let [b'?', digits @ ..] = text else {
         return None;
     };
     let (number, behind) = number_front(digits)?;
-    Some((number, behind))
-}
-
-/// The same, where it is the number of a mode, of 16 bits.
-#[inline(always)]
-fn mode_front(text: &[u8]) -> Option<(u16, &[u8])>
-    ensures { IfSome result (λ x. ReadsOn text.now (P 63 ∷ Integer (pos x.0) ∷ []) x.1.now) }
-{
-    let (number, behind) = private_front(text)?;
     Some((u16::try_from(number).ok()?, behind))
 }
 

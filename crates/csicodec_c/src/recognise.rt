@@ -1,5 +1,5 @@
 //! The row of the table of further sequences that reads the list of an unknown action.
-ghost use Rattle.std.specs.Prelude.{◌≡◌, ◌⊎◌, ◌↔◌, ◌<◌, ◌≤◌, ℕ, List, false, true, drop, length, map, take, MatchOption};
+ghost use Rattle.std.specs.Prelude.{◌≡◌, ◌⊎◌, ◌↔◌, ◌<◌, ◌≤◌, ℕ, List, false, true, length, map, take, MatchOption};
 ghost use Rattle.std.specs.List.{All};
 ghost use Rattle.csicodec_tokens.specs.declared.param.CsiParam.{CsiParam};
 ghost use Rattle.csicodec_actions.specs.Actions.{Unspecified};
@@ -10,7 +10,7 @@ ghost use Rattle.csicodec_c.specs.Recognised.{AreTokens, IsKnown, IsUnknown, rec
 
 use csicodec_base::CsiParam;
 use csicodec_sequences::{KnownSequence, LONGEST, MOST};
-use csicodec_structs::{Param, Struct, fill};
+use csicodec_structs::{Param, Struct, fill, part, row};
 
 /// Which row of the table reads a list, and the values. It has 56 bytes, and no gaps.
 #[repr(C)]
@@ -40,34 +40,17 @@ fn answer(kind: u32, numbers: &[u32]) -> Recognised
 }
 
 /// Whether a struct has what an unknown action has, and else zeros.
-#[tactic(auto, using(crate::proofs::Unknown::zeros))]
 fn is_unknown(given: &Struct) -> bool
     ensures { result ≡ true
         ↔ given.now ≡ unknown_row given.now.final_char given.now.place given.now.len }
 {
-    given.kind == 0
-        && given.first == 0
-        && given.second == 0
-        && given.top == 0
-        && given.left == 0
-        && given.bottom == 0
-        && given.right == 0
-        && given.red == 0
-        && given.green == 0
-        && given.blue == 0
-        && given.alpha == 0
-        && given.modifiers == 0
-        && given.button == 0
-        && given.absent == 0
-}
-
-/// The tokens of a struct, unless they are fewer.
-fn part(params: &[Param], place: usize, len: usize) -> Option<&[Param]>
-    ensures { MatchOption result (length (take len (drop place params.now)) < len) (λ part.
-        (part.now ≡ take len (drop place params.now)) × (length part.now ≡ len)) }
-{
-    let behind = params.get(place..).unwrap_or(&[]);
-    behind.get(..len)
+    *given
+        == Struct {
+            final_char: given.final_char,
+            place: given.place,
+            len: given.len,
+            ..row(0, 0, 0)
+        }
 }
 
 /// The token that a struct stands for.
@@ -124,7 +107,8 @@ fn put_list(given: &Struct, params: &[Param], room: &mut [CsiParam]) -> Option<c
 }
 
 /// Which row of the table reads the list of the unknown action that a struct stands for, and the values. It takes no memory.
-pub fn recognise(given: &Struct, params: &[Param]) -> Recognised
+#[unsafe(no_mangle)]
+pub extern "C" fn csicodec_known(given: &Struct, params: &[Param]) -> Recognised
     ensures { IsKnown given.now params.now result ⊎ IsUnknown given.now params.now result }
 {
     let mut room = [CsiParam::P(0); LONGEST];

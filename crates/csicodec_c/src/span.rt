@@ -36,13 +36,7 @@ fn refused(why: Status) -> Spanned
 fn kind_number(kind: Kind) -> u32
     ensures { result ≡ kind_number kind }
 {
-    match kind {
-        Kind::Text => 0,
-        Kind::Csi => 1,
-        Kind::Esc => 2,
-        Kind::Str => 3,
-        Kind::Other => 4,
-    }
+    kind as u32
 }
 
 /// The span at the front of bytes that stand in a mode.

@@ -60,21 +60,14 @@ fn pause_at(state: &Cleaning, len: usize) -> Option<Pause>
     ensures some { IfSome result (λ pause. IsState state.now len pause) }
     ensures none { IfNone result ((pause : Pause) → IsState state.now len pause → ⊥) }
 {
-    let (Some(mode), Some(titled), Some(styled)) = (
-        mode_at(state.mode),
-        bit_at(state.titled),
-        bit_at(state.styled),
-    ) else {
-        return None;
-    };
     let held = state.held as usize;
     if held > 3 || held > len {
         return None;
     }
     Some(Pause {
-        mode,
-        titled,
-        styled,
+        mode: mode_at(state.mode)?,
+        titled: bit_at(state.titled)?,
+        styled: bit_at(state.styled)?,
         held,
     })
 }

@@ -100,13 +100,10 @@ fn passing_at(depth: u32, links: u32) -> Option<Passing>
     ensures some { IfSome result (λ passing. IsPassing depth links passing) }
     ensures none { IfNone result ((passing : Passing) → IsPassing depth links passing → ⊥) }
 {
-    let Some(depth) = depth_at(depth) else {
-        return None;
-    };
-    let Some(links) = bit_at(links) else {
-        return None;
-    };
-    Some(Passing { depth, links })
+    Some(Passing {
+        depth: depth_at(depth)?,
+        links: bit_at(links)?,
+    })
 }
 
 /// Puts the text of the bytes with its styles, in the colours of a depth, and with its links where they are wanted, where it fits.

@@ -46,11 +46,14 @@ fn styles_front<'a>(
 
 /// Puts attributes.
 #[inline(always)]
+#[tactic(auto, using(csicodec_structs::proofs::Laid::laid_none))]
 fn put_styles(styles: &[AttributeParts], actions: &mut [Struct])
     ensures { actions.new ≡ laid actions.old (map style_struct styles.now) }
 {
-    for (place, style) in styles.iter().enumerate() {
+    let mut place = 0;
+    for style in styles {
         put(actions, place, style_struct(style));
+        place += 1;
     }
 }
 

@@ -1,10 +1,7 @@
-use Rattle.std.proofs.Common.{◌≡◌, ◌++◌, length, map}
+use Rattle.std.proofs.Common.{◌≡◌, map, take}
 use Rattle.csicodec_c.specs.Html.{color_of}
 use Rattle.csicodec_c.proofs.html.colors_of.Given as goal
 
--- the colours that are there, and those of the numbers that are left, are all
+-- the colours of the numbers up to here
 abbrev pub invariant-loop-number : goal.invariant-loop-number
-invariant-loop-number l = l.colors.items ++ map color_of l.rest ≡ map color_of l.numbers
-
-abbrev pub decreases-loop-number : goal.decreases-loop-number
-decreases-loop-number l = length l.rest
+invariant-loop-number l = l.colors.items ≡ map color_of (take l.number-index l.numbers)

@@ -5,5 +5,5 @@ use Rattle.csicodec_c.specs.Private.Short.{style_struct}
 use Rattle.csicodec_c.proofs.styles.put_styles.Given as goal
 
 -- the attributes up to here are put
-abbrev pub invariant-loop-place : goal.invariant-loop-place
-invariant-loop-place l = l.actions ≡ laid l.fn.actions (map style_struct (take l.place l.styles))
+abbrev pub invariant-loop-style : goal.invariant-loop-style
+invariant-loop-style l = (l.actions ≡ laid l.fn.actions (map style_struct (take l.style-index l.styles))) × (l.place ≡ l.style-index)

@@ -1,9 +1,9 @@
 -- Lines one after the other, and what they stand for.
 use Rattle.std.proofs.Common.{◌≡◌, ℕ, ◌+◌, ◌-◌, ◌^◌, ◌<◌, ◌≤◌, ◌==◌, zero, suc, min, Bool, true, false, not, List, [], ◌∷◌, ◌++◌, take}
 use Rattle.std.proofs.Common.{length, Result, Ok, Err, cond, refl, sym, ap, subst, ◌∙◌, append_assoc, append-nil, length-append, arith}
-use Rattle.std.specs.Result.{result_unwrap_or}
 use Rattle.std.specs.List.{concat, list_all}
-use Rattle.std.proofs.lemmas.Bool.{and_parts, le-ltb, lt-ltb}
+use Rattle.std.proofs.lemmas.Bool.{and_parts, false_from_ne_true, le-ltb, lt-ltb, not-true}
+use Rattle.std.proofs.lemmas.List.{take_all}
 use Rattle.memchr.specs.Find as find
 use Rattle.memchr.specs.Find.{Nowhere, is_byte}
 use Rattle.csicodec_assemble.specs.declared.object.Fault.{Fault}
@@ -23,21 +23,14 @@ before-is : (p q : Answer) (x y : List ℕ) → p ≡ Ok x → q ≡ Ok y → be
 before-is p q x y e f = rw (e, f) refl
 
 before-ok : (p q : Answer) (a : List ℕ) → before p q ≡ Ok a → (x : List ℕ) × (y : List ℕ) × (p ≡ Ok x) × (q ≡ Ok y) × (a ≡ x ++ y)
-before-ok (Ok x) (Ok y) a h = (x, y, refl, refl, sym (ap (λ (r : Answer). result_unwrap_or r []) h))
+before-ok (Ok x) (Ok y) a h = (x, y, refl, refl, cc)
 before-ok (Ok x) (Err f) a h = cc h
 before-ok (Err f) q a h = cc h
 
-refused_first : (p q : Answer) (f : Fault) → p ≡ Err f → before p q ≡ Err f
-refused_first p q f e = rw e refl
-
-refused_behind : (p q : Answer) (x : List ℕ) (f : Fault) → p ≡ Ok x → q ≡ Err f → before p q ≡ Err f
-refused_behind p q x f e g = rw (e, g) refl
-
-nothing : (a : List ℕ) → of_lines [] ≡ Ok a → a ≡ []
-nothing a h = sym (ap (λ (r : Answer). result_unwrap_or r []) h)
-
 pub of_lines-append : (xs ys : List (List ℕ)) (a b : List ℕ) → of_lines xs ≡ Ok a → of_lines ys ≡ Ok b → of_lines (xs ++ ys) ≡ Ok (a ++ b)
-of_lines-append [] ys a b h k = rw (nothing a h) k
+of_lines-append [] ys a b h k =
+    let none : a ≡ [] = cc in
+    rw none k
 of_lines-append (l ∷ xs) ys a b h k =
     let (x, y, px, py, e) = before-ok (of_bounded l) (of_lines xs) a h in
     let all = before-is (of_bounded l) (of_lines (xs ++ ys)) x (y ++ b) px (of_lines-append xs ys y b py k) in
@@ -45,10 +38,10 @@ of_lines-append (l ∷ xs) ys a b h k =
 
 -- a line that is refused, and lines ahead of it
 pub of_lines-refused : (xs rest : List (List ℕ)) (line a : List ℕ) (f : Fault) → of_lines xs ≡ Ok a → of_bounded line ≡ Err f → of_lines (xs ++ line ∷ rest) ≡ Err f
-of_lines-refused [] rest line a f h told = refused_first (of_bounded line) (of_lines rest) f told
+of_lines-refused [] rest line a f h told = rw told refl
 of_lines-refused (l ∷ xs) rest line a f h told =
     let (x, y, px, py, e) = before-ok (of_bounded l) (of_lines xs) a h in
-    refused_behind (of_bounded l) (of_lines (xs ++ line ∷ rest)) x f px (of_lines-refused xs rest line y f py told)
+    rw (px, of_lines-refused xs rest line y f py told) refl
 
 pub bounded : (line : List ℕ) → length line ≤ most → of_bounded line ≡ of_line line
 bounded line short = rw (le-ltb most (length line) short) refl
@@ -73,9 +66,6 @@ passes_end line text short is = record {
   all = before-is (of_bounded line) (Ok []) text [] (bounded line short ∙ is) refl ∙ ap Ok (append-nil text);
 }
 
-goes_on : (line more : List ℕ) (b : ℕ) → (b == 10) ≡ false → lines_from line (b ∷ more) ≡ lines_from (line ++ b ∷ []) more
-goes_on line more b other = rw other refl
-
 -- the first of the lines that go on with a line is no shorter
 begins_at : (t : Bool) (line bytes : List ℕ) (own : List (List ℕ))
     → ((next : List ℕ) × (rest : List (List ℕ)) × (own ≡ next ∷ rest) × (length line ≤ length next))
@@ -91,35 +81,34 @@ begins (b ∷ bytes) line some =
     let (next, rest, e, le) = begins bytes (line ++ b ∷ []) (omega (arith, longer)) in
     begins_at (b == 10) line bytes (lines_from (line ++ b ∷ []) bytes) (next, rest, e, omega (arith, longer, le))
 
-is_false : (t : Bool) → not t ≡ true → t ≡ false
-is_false true e = cc e
-is_false false e = refl
+-- bytes without an LF
+abbrev pub Runs : List ℕ → Type 0
+Runs run = list_all (λ b. not (b == 10)) run ≡ true
 
-isnt_true : (t : Bool) → (t ≡ true → ⊥) → t ≡ false
-isnt_true true never = absurd (never refl)
-isnt_true false never = refl
+pub run_parts : (b : ℕ) (run : List ℕ) → Runs (b ∷ run) → ((b == 10) ≡ false) × Runs run
+run_parts b run h =
+    let parts = and_parts (not (b == 10)) (list_all (λ c. not (c == 10)) run) h in
+    (not-true (b == 10) parts.0, parts.1)
 
--- bytes without an LF go on with a line
-run_on : (run line more : List ℕ) → list_all (λ b. not (b == 10)) run ≡ true → lines_from line (run ++ more) ≡ lines_from (line ++ run) more
+-- they go on with a line
+run_on : (run line more : List ℕ) → Runs run → lines_from line (run ++ more) ≡ lines_from (line ++ run) more
 run_on [] line more h = ap (λ (s : List ℕ). lines_from s more) (sym (append-nil line))
 run_on (b ∷ run) line more h =
-    let parts = and_parts (not (b == 10)) (list_all (λ c. not (c == 10)) run) h in
-    goes_on line (run ++ more) b (is_false (b == 10) parts.0) ∙ run_on run (line ++ b ∷ []) more parts.1 ∙ ap (λ (s : List ℕ). lines_from s more) (append_assoc line (b ∷ []) run)
+    let (other, within) = run_parts b run h in
+    rw other (run_on run (line ++ b ∷ []) more within ∙ ap (λ (s : List ℕ). lines_from s more) (append_assoc line (b ∷ []) run))
 
-pub passes_run : (line run : List ℕ) → list_all (λ b. not (b == 10)) run ≡ true → Passes line run [] (line ++ run)
+pub passes_run : (line run : List ℕ) → Runs run → Passes line run [] (line ++ run)
 passes_run line run h = record { over = []; lines = λ more. run_on run line more h; all = refl }
 
-pub refused_long : (line run : List ℕ) → list_all (λ b. not (b == 10)) run ≡ true → most < length line + length run → IsRefused (refusal.Line TooLong) line run
+pub refused_long : (line run : List ℕ) → Runs run → most < length line + length run → IsRefused (refusal.Line TooLong) line run
 refused_long line run h long = λ more.
     let (next, rest, e, le) = begins more (line ++ run) (omega (arith, length-append line run, long)) in
     (next, rest, run_on run line more h ∙ e, too_long next (omega (arith, length-append line run, le, long)))
 
 -- a line that bytes refuse is refused whatever comes then
-pub refused_then : (e : Refusal) (line bytes more : List ℕ) → IsRefused e line bytes → IsRefused e line (bytes ++ more)
-refused_then (refusal.Line f) line bytes more refuses = λ behind.
-    subst (λ (s : List ℕ). (whole : List ℕ) × (others : List (List ℕ)) × (lines_from line s ≡ whole ∷ others) × (of_bounded whole ≡ Err f))
-    (sym (append_assoc bytes more behind)) (refuses (more ++ behind))
-refused_then refusal.Memory line bytes more refuses = tt
+pub refused_then : (e : Refusal) (line bytes more rest : List ℕ) → rest ≡ bytes ++ more → IsRefused e line bytes → IsRefused e line rest
+refused_then (refusal.Line f) line bytes more rest split refuses = λ behind. rw (split, append_assoc bytes more behind) (refuses (more ++ behind))
+refused_then refusal.Memory line bytes more rest split refuses = tt
 
 -- the end of a line that is refused
 pub refused_by : (e : Refusal) (line : List ℕ) → length line ≤ most → IsTold e (of_line line) → IsRefused e line (10 ∷ [])
@@ -127,18 +116,15 @@ refused_by (refusal.Line f) line short told = λ more. (line, lines_from [] more
 refused_by refusal.Memory line short told = tt
 
 -- no byte ahead of the first LF is one
-pub none_before : (n : ℕ) (bytes : List ℕ) → Nowhere (find.Passes (is_byte 10) bytes) 0 n → list_all (λ b. not (b == 10)) (take n bytes) ≡ true
+pub none_before : (n : ℕ) (bytes : List ℕ) → Nowhere (find.Passes (is_byte 10) bytes) 0 n → Runs (take n bytes)
 none_before zero bytes never = refl
 none_before (suc n) [] never = refl
 none_before (suc n) (b ∷ bytes) never =
-    let other : (b == 10) ≡ false = isnt_true (b == 10) (never 0 (omega arith) (omega arith)) in
+    let other = false_from_ne_true (b == 10) (never 0 (omega arith) (omega arith)) in
     rw other (none_before n bytes (λ k low high found. never (suc k) (omega arith) (omega (arith, high)) found))
 
-pub all_other : (bytes : List ℕ) → Nowhere (find.Passes (is_byte 10) bytes) 0 (length bytes) → list_all (λ b. not (b == 10)) bytes ≡ true
-all_other [] never = refl
-all_other (b ∷ bytes) never =
-    let other : (b == 10) ≡ false = isnt_true (b == 10) (never 0 (omega arith) (omega arith)) in
-    rw other (all_other bytes (λ k low high found. never (suc k) (omega arith) (omega (arith, high)) found))
+pub all_other : (bytes : List ℕ) → Nowhere (find.Passes (is_byte 10) bytes) 0 (length bytes) → Runs bytes
+all_other bytes never = subst Runs (take_all (length bytes) bytes (omega arith)) (none_before (length bytes) bytes never)
 
 -- ---- how many lines are over
 
@@ -146,60 +132,60 @@ pub counted_then : (over : ℕ) (one other : List ℕ) → counted over (one ++ 
 counted_then over [] other = refl
 counted_then over (b ∷ one) other = counted_then (cond (b == 10) (one_more over) over) one other
 
-pub counted_run : (run : List ℕ) (over : ℕ) → list_all (λ b. not (b == 10)) run ≡ true → counted over run ≡ over
+pub counted_run : (run : List ℕ) (over : ℕ) → Runs run → counted over run ≡ over
 counted_run [] over h = refl
 counted_run (b ∷ run) over h =
-    let parts = and_parts (not (b == 10)) (list_all (λ c. not (c == 10)) run) h in
-    rw (is_false (b == 10) parts.0) (counted_run run over parts.1)
+    let (other, within) = run_parts b run h in
+    rw other (counted_run run over within)
 
 -- ---- what passed so far
 
 -- a front of the bytes passed, and the rest is left
-abbrev pub Goes : List ℕ → List ℕ → List ℕ → List ℕ → ℕ → ℕ → List ℕ → List ℕ → Type 0
-Goes first line bytes rest before over old out = (front : List ℕ) × (text : List ℕ) × (bytes ≡ front ++ rest)
-    × Passes first front text line × (over ≡ counted before front) × (out ≡ old ++ text)
+pub record Goes (first line bytes rest : List ℕ) (before over : ℕ) (old out : List ℕ) : Type 0 where
+  pub front : List ℕ
+  pub text : List ℕ
+  pub parts : bytes ≡ front ++ rest
+  pub passes : Passes first front text line
+  pub counts : over ≡ counted before front
+  pub appends : out ≡ old ++ text
 
 -- the line goes on
-pub one_run : (first line bytes rest old out run behind next : List ℕ) (before over now : ℕ) → Goes first line bytes rest before over old out
-    → rest ≡ run ++ behind → list_all (λ b. not (b == 10)) run ≡ true → next ≡ line ++ run → now ≡ over → Goes first next bytes behind before now old out
-one_run first line bytes rest old out run behind next before over now goes split within held same =
-    let (front, text, is, passes, count, all) = goes in (
-      front ++ run,
-      text ++ [],
-      is ∙ ap (λ (s : List ℕ). front ++ s) split ∙ sym (append_assoc front run behind),
-      subst (λ (s : List ℕ). Passes first (front ++ run) (text ++ []) s) (sym held) (passes_then first line (line ++ run) front run text [] passes (passes_run line run within)),
-      same ∙ count ∙ sym (counted_run run (counted before front) within) ∙ sym (counted_then before front run),
-      all ∙ ap (λ (s : List ℕ). old ++ s) (sym (append-nil text)),
-    )
+pub one_run : {first line bytes rest old out next : List ℕ} {before over now : ℕ} (run behind : List ℕ) → Goes first line bytes rest before over old out
+    → rest ≡ run ++ behind → Runs run → next ≡ line ++ run → now ≡ over → Goes first next bytes behind before now old out
+one_run {first} {line} {old = old} {before = before} run behind g split within held same = record {
+  front = g.front ++ run;
+  text = g.text ++ [];
+  parts = g.parts ∙ ap (λ (s : List ℕ). g.front ++ s) split ∙ sym (append_assoc g.front run behind);
+  passes = rw held (passes_then first line (line ++ run) g.front run g.text [] g.passes (passes_run line run within));
+  counts = same ∙ g.counts ∙ sym (counted_run run (counted before g.front) within) ∙ sym (counted_then before g.front run);
+  appends = g.appends ∙ ap (λ (s : List ℕ). old ++ s) (sym (append-nil g.text));
+}
 
 -- the line is over
-pub one_end : (first line bytes behind old out more last longer : List ℕ) (before over now : ℕ) → Goes first line bytes (10 ∷ behind) before over old out
-    → length line ≤ most → of_line line ≡ Ok more → last ≡ [] → now ≡ one_more over → longer ≡ out ++ more → Goes first last bytes behind before now old longer
-one_end first line bytes behind old out more last longer before over now goes short told begins_anew one ended =
-    let (front, text, is, passes, count, all) = goes in (
-      front ++ 10 ∷ [],
-      text ++ more,
-      is ∙ sym (append_assoc front (10 ∷ []) behind),
-      subst (λ (s : List ℕ). Passes first (front ++ 10 ∷ []) (text ++ more) s) (sym begins_anew) (passes_then first line [] front (10 ∷ []) text more passes (passes_end line more short told)),
-      one ∙ ap one_more count ∙ sym (counted_then before front (10 ∷ [])),
-      ended ∙ ap (λ (s : List ℕ). s ++ more) all ∙ append_assoc old text more,
-    )
+pub one_end : {first line bytes behind old out last longer : List ℕ} {before over now : ℕ} → Goes first line bytes (10 ∷ behind) before over old out → length line ≤ most
+    → last ≡ [] → now ≡ one_more over → (more : List ℕ) × (of_line line ≡ Ok more) × (longer ≡ out ++ more) → Goes first last bytes behind before now old longer
+one_end {first} {line} {behind = behind} {old = old} {before = before} g short begins_anew one (more, told, ended) = record {
+  front = g.front ++ 10 ∷ [];
+  text = g.text ++ more;
+  parts = g.parts ∙ sym (append_assoc g.front (10 ∷ []) behind);
+  passes = rw begins_anew (passes_then first line [] g.front (10 ∷ []) g.text more g.passes (passes_end line more short told));
+  counts = one ∙ ap one_more g.counts ∙ sym (counted_then before g.front (10 ∷ []));
+  appends = ended ∙ ap (λ (s : List ℕ). s ++ more) g.appends ∙ append_assoc old g.text more;
+}
 
 -- all bytes passed
-pub at_end : (first line bytes old out : List ℕ) (before over : ℕ) → Goes first line bytes [] before over old out
+pub at_end : {first line bytes old out : List ℕ} {before over : ℕ} → Goes first line bytes [] before over old out
     → ((text : List ℕ) × Passes first bytes text line × (out ≡ old ++ text)) × (over ≡ counted before bytes)
-at_end first line bytes old out before over goes =
-    let (front, text, is, passes, count, all) = goes in
-    let e : front ≡ bytes = sym (is ∙ append-nil front) in
-    ((text, subst (λ (s : List ℕ). Passes first s text line) e passes, all), count ∙ ap (counted before) e)
+at_end {first} {line} {before = before} g =
+    let e = sym (g.parts ∙ append-nil g.front) in
+    ((g.text, subst (λ (s : List ℕ). Passes first s g.text line) e g.passes, g.appends), g.counts ∙ ap (counted before) e)
 
 -- what is left is refused
-pub at_refusal : (e : Refusal) (first line bytes rest old out next later : List ℕ) (before over now : ℕ) → Goes first line bytes rest before over old out → IsRefused e line rest
-    → next ≡ line → now ≡ over → later ≡ out
-    → (front : List ℕ) × (left : List ℕ) × (text : List ℕ) × (bytes ≡ front ++ left) × Passes first front text next × IsRefused e next left × (now ≡ counted before front) × (later ≡ old ++ text)
-at_refusal e first line bytes rest old out next later before over now goes refuses same steady kept =
-    let (front, text, is, passes, count, all) = goes in
-    (front, rest, text, is, rw same passes, rw same refuses, steady ∙ count, kept ∙ all)
+pub at_refusal : {first line bytes rest old out next later : List ℕ} {before over now : ℕ} (e : Refusal) → Goes first line bytes rest before over old out
+    → IsRefused e line rest → next ≡ line → now ≡ over → later ≡ out
+    → (front left text : List ℕ) × (bytes ≡ front ++ left) × Passes first front text next × IsRefused e next left × (now ≡ counted before front) × (later ≡ old ++ text)
+at_refusal {rest = rest} e g refuses same steady kept =
+    (g.front, rest, g.text, g.parts, rw same g.passes, rw same refuses, steady ∙ g.counts, kept ∙ g.appends)
 
 -- how many lines end in bytes
 abbrev ends : List ℕ → ℕ

@@ -1,134 +1,67 @@
 -- An object that has nothing but the digits of some bytes stands for these bytes.
-use Rattle.std.proofs.Common.{◌≡◌, ℕ, ◌<◌, ◌/◌, ◌%◌, zero, suc, Bool, true, List, [], ◌∷◌, ◌++◌}
-use Rattle.std.proofs.Common.{length, Some, None, Ok, refl, sym, ap, ◌∙◌, append_assoc, arith}
-use Rattle.std.specs.Prelude.{IsUtf8, codes, nat_lt, option_and_then, slice_index}
-use Rattle.std.specs.List.{AllByRecursion}
-use Rattle.std.specs.Str.{is_utf8}
-use Rattle.std.proofs.lemmas.Bool.{and_parts}
-use Rattle.std.proofs.lemmas.Str.{IsUtf8-append, is_utf8-from_IsUtf8}
+use Rattle.std.proofs.Common.{◌≡◌, ℕ, ◌<◌, ◌/◌, ◌%◌, suc, true, List, [], ◌∷◌, ◌++◌}
+use Rattle.std.proofs.Common.{Option, Some, Ok, refl, sym, ap, ◌∙◌, append_assoc, arith, rules, ltb-true}
+use Rattle.std.specs.Prelude.{codes, nat_lt, option_and_then, slice_index}
+use Rattle.std.specs.List.{AllPass}
+use Rattle.std.specs.Str.{IsAscii, is_utf8}
+use Rattle.std.proofs.lemmas.List.Elements.{All-cons, All-nil}
+use Rattle.std.proofs.lemmas.List.Sums.{AllPass-from_list_all}
+use Rattle.std.proofs.lemmas.Str.{IsUtf8-append, IsUtf8-from_ascii, is_utf8-from_IsUtf8}
+use Rattle.std.proofs.lemmas.Str.Ascii.{IsAscii-from_reads}
 use Rattle.hex.specs.Hex.{IsBytes, encode_lower, encode_with, lower_digits}
-use Rattle.hex.proofs.HexLemmas.{decode_of-encode_lower}
-use Rattle.json.specs.Token.{Token, begin_object, end_object, key, string}
+use Rattle.hex.proofs.HexLemmas.{IsAscii-encode_with, decode_of-encode_lower}
+use Rattle.json.specs.Json as json
 use Rattle.json.specs.Lex.{tokens}
-use Rattle.json.specs.Json.{if_last, items, members, value}
-use Rattle.json.specs.Print.{ArePrintable, escape, escape_byte, print, print_from}
+use Rattle.json.specs.Print.{escape, escape_byte, print, print_from}
+use Rattle.json.specs.Run.{is_plain}
+use Rattle.json.specs.Token.{Token}
+use Rattle.json.specs.Tree.{json_tokens}
+use Rattle.json.proofs.Printed.Plain.{escape_on_plain}
 use Rattle.json.proofs.Printed.Tokens.{tokens-print}
-use Rattle.json.proofs.Printed.Utf8.{IsUtf8-are_ascii, are_ascii}
-use Rattle.serde_json.specs.Data as values
-use Rattle.serde_json.specs.Data.{Data, no_members, object, put}
-use Rattle.serde_json.specs.Read.{max_depth, of_json, read}
-use Rattle.csicodec_assemble.specs.Object.{of_digits, of_line, of_object}
-
--- its only name
-abbrev hex_name : List ℕ
-hex_name = 104 ∷ 101 ∷ 120 ∷ []
+use Rattle.json.proofs.Printed.Trees.{ArePrintable-json_tokens, value-json_tokens}
+use Rattle.serde_json.specs.Data.{no_members, object, put, string}
+use Rattle.serde_json.specs.Read.{of_json, read}
+use Rattle.csicodec_assemble.specs.Object.{of_digits, of_line}
 
 abbrev holds : List ℕ → List ℕ
 holds digits = codes "{\"hex\":\"" ++ digits ++ codes "\"}"
 
--- ---- digits stand in a string as they are
+digit_plain : (n : ℕ) → n < 16 → is_plain (slice_index lower_digits n) ≡ true
+digit_plain n small = AllPass-from_list_all is_plain lower_digits refl n 0 small
 
-abbrev IsPlain : ℕ → Type 0
-IsPlain d = escape_byte d ≡ d ∷ []
-
-digits_plain : AllByRecursion IsPlain lower_digits
-unfolding escape_byte
-digits_plain = (
-  refl,
-  (
-    refl,
-    (
-      refl,
-      (
-        refl,
-        (
-          refl,
-          (
-            refl,
-            (
-              refl,
-              (
-                refl,
-                (refl, (refl, (refl, (refl, (refl, (refl, (refl, (refl, tt)))))))),
-              ),
-            ),
-          ),
-        ),
-      ),
-    ),
-  ),
-)
-
-digit_plain : (digits : List ℕ) (n : ℕ) → AllByRecursion IsPlain digits → n < length digits
-    → IsPlain (slice_index digits n)
-digit_plain [] n are within = absurd (omega (arith, within))
-digit_plain (d ∷ digits) zero are within = are.0
-digit_plain (d ∷ digits) (suc n) are within = digit_plain digits n are.1 (omega (arith, within))
-
-escaped : (bytes : List ℕ) → IsBytes bytes → escape (encode_lower bytes) ≡ encode_lower bytes
+digits_plain : (bytes : List ℕ) → IsBytes bytes → AllPass is_plain (encode_lower bytes)
 unfolding encode_with
-escaped [] fit = refl
-escaped (b ∷ bytes) fit =
+digits_plain [] fit = All-nil (λ x. is_plain x ≡ true)
+digits_plain (b ∷ bytes) fit =
     let byte : b < 256 = fit 0 in
-    rw (
-      digit_plain lower_digits (b / 16) digits_plain (omega (arith, byte)),
-      digit_plain lower_digits (b % 16) digits_plain (omega (arith, byte)),
-      escaped bytes (λ i. fit (suc i)),
-    ) refl
+    All-cons (λ x. is_plain x ≡ true) (slice_index lower_digits (b / 16)) (slice_index lower_digits (b % 16) ∷ encode_lower bytes) (digit_plain (b / 16) (omega (arith, byte)))
+    (All-cons (λ x. is_plain x ≡ true) (slice_index lower_digits (b % 16)) (encode_lower bytes) (digit_plain (b % 16) (omega (arith, byte))) (digits_plain bytes (λ i. fit (suc i))))
 
-ascii_digit : (digits : List ℕ) (n : ℕ) → are_ascii digits ≡ true → nat_lt (slice_index digits n)
-    128 ≡ true
-ascii_digit [] n are = refl
-ascii_digit (d ∷ digits) zero are = (and_parts (nat_lt d 128) (are_ascii digits) are).0
-ascii_digit (d ∷ digits) (suc n) are = ascii_digit digits n
-    (and_parts (nat_lt d 128) (are_ascii digits) are).1
+-- digits stand in a string as they are
+escaped : (bytes : List ℕ) → IsBytes bytes → escape (encode_lower bytes) ≡ encode_lower bytes
+escaped bytes fit = escape_on_plain true (encode_lower bytes) (λ k low high. digits_plain bytes fit k 0 high)
 
-ascii_digits : (bytes : List ℕ) → are_ascii (encode_lower bytes) ≡ true
-unfolding encode_with
-ascii_digits [] = refl
-ascii_digits (b ∷ bytes) =
-    rw (ascii_digit lower_digits (b / 16) refl, ascii_digit lower_digits (b % 16) refl)
-    (ascii_digits bytes)
+digits_ascii : IsAscii lower_digits
+digits_ascii = IsAscii-from_reads lower_digits 16 (omega arith) (λ k small. ltb-true _ _ (AllPass-from_list_all (λ d. nat_lt d 128) lower_digits refl k 0 small))
 
 utf8 : (bytes : List ℕ) → is_utf8 (holds (encode_lower bytes)) ≡ true
 utf8 bytes =
     let front = codes "{\"hex\":\"" in
-    is_utf8-from_IsUtf8 (holds (encode_lower bytes))
-    (IsUtf8-append (front ++ encode_lower bytes) (codes "\"}")
-    (IsUtf8-append front (encode_lower bytes) (IsUtf8-are_ascii front refl)
-    (IsUtf8-are_ascii (encode_lower bytes) (ascii_digits bytes)))
-    (IsUtf8-are_ascii (codes "\"}") refl))
+    let digits = encode_lower bytes in
+    is_utf8-from_IsUtf8 (holds digits)
+    (IsUtf8-append (front ++ digits) (codes "\"}")
+    (IsUtf8-append front digits (IsUtf8-from_ascii front (search rules)) (IsUtf8-from_ascii digits (IsAscii-encode_with lower_digits bytes digits_ascii)))
+    (IsUtf8-from_ascii (codes "\"}") (search rules)))
 
--- ---- what is read
-
-abbrev tokens_of : List ℕ → List Token
-tokens_of digits = begin_object ∷ key hex_name ∷ string digits ∷ end_object ∷ []
-
-printed : (digits : List ℕ) → escape digits ≡ digits → print (tokens_of digits) ≡ holds digits
+read_object : (digits : List ℕ) → escape digits ≡ digits → read (holds digits) ≡ Some (object (put (codes "hex") (string digits) no_members))
 unfolding print_from escape_byte
-printed digits e =
-    ap (λ (s : List ℕ). 123 ∷ 34 ∷ 104 ∷ 101 ∷ 120 ∷ 34 ∷ 58 ∷ 34 ∷ s)
-    (append_assoc (escape digits) (34 ∷ []) (125 ∷ []) ∙ ap (λ (s : List ℕ). s ++ 34 ∷ 125 ∷ []) e)
-
-printable : (digits : List ℕ) → ArePrintable (tokens_of digits)
-unfolding ArePrintable
-printable digits = (tt, (tt, (tt, (tt, tt))))
-
-read_tokens : (digits : List ℕ)
-    → option_and_then of_json (option_and_then (λ p. if_last p.0 p.1)
-    (value max_depth (tokens_of digits)))
-    ≡ Some (object (put hex_name (values.string digits) no_members))
-unfolding value members items
-read_tokens digits = refl
-
-read_object : (digits : List ℕ) → escape digits ≡ digits
-    → read (holds digits) ≡ Some (object (put hex_name (values.string digits) no_members))
 read_object digits e =
-    let same : tokens (holds digits) ≡ tokens_of digits =
-    ap tokens (sym (printed digits e)) ∙ tokens-print (tokens_of digits) (printable digits) in
-    ap (λ (ts : List Token). option_and_then of_json
-    (option_and_then (λ p. if_last p.0 p.1) (value max_depth ts))) same
-    ∙ read_tokens digits
+    let j = json.object (json.member (codes "hex") (json.string digits) json.no_members) in
+    let printed : print (json_tokens j) ≡ holds digits =
+    ap (λ (s : List ℕ). codes "{\"hex\":\"" ++ s) (append_assoc (escape digits) (34 ∷ []) (125 ∷ []) ∙ ap (λ (s : List ℕ). s ++ 34 ∷ 125 ∷ []) e) in
+    let parsed : json.value 127 (tokens (print (json_tokens j))) ≡ Some (j, []) =
+    ap (json.value 127) (tokens-print (json_tokens j) (ArePrintable-json_tokens j (tt, tt))) ∙ value-json_tokens j 127 [] (omega arith) in
+    ap read (sym printed) ∙ ap (λ (o : Option (json.Json × List Token)). option_and_then of_json (option_and_then (λ p. json.if_last p.0 p.1) o)) parsed
 
 pub of_made : (bytes : List ℕ) → IsBytes bytes → of_line (holds (encode_lower bytes)) ≡ Ok bytes
 of_made bytes fit =

@@ -1,5 +1,5 @@
 -- Members and items that are passed, and what is known of them.
-use Rattle.std.proofs.Common.{◌≡◌, ℕ, ◌-◌, ◌<◌, ◌≤◌, ◌^◌, List, [], Bool, true, false, length, Option, Some, None, Ok, IsSome, refl, sym, ap, ◌∙◌, lt-ltb, get_or, subst, Bor, IfSome, arith}
+use Rattle.std.proofs.Common.{◌≡◌, ℕ, ◌-◌, ◌<◌, ◌≤◌, ◌^◌, List, [], false, length, Option, Some, None, Ok, IsSome, refl, sym, ap, ◌∙◌, lt-ltb, get_or, subst, Bor, IfSome}
 use Rattle.std.specs.Prelude.{codes, ◌==◌, option_and_then, option_map}
 use Rattle.std.specs.Prelude.{IsUtf8}
 use Rattle.std.specs.Str.{bytes_eq}
@@ -11,7 +11,6 @@ use Rattle.json.specs.Json as json
 use Rattle.json.specs.Json.{parse_map, after_end_array, read_key, items, members}
 use Rattle.json.proofs.Grammar.{items_end, items_more, members_end, members_more}
 use Rattle.serde_json.specs.Data.{Data, Items, Members, no_items, item, no_members, put, string, array, object}
-use Rattle.serde_json.specs.Find.{as_str}
 use Rattle.serde_json.specs.Read.{read, converted, number_of, of_items, of_json, of_members}
 use Rattle.serde_json.proofs.Views.{get_member-put, get_member-put_other}
 use Rattle.csicodec_assemble.specs.Object.{is_totals, of_line, of_object}
@@ -28,13 +27,9 @@ is_there (Some a) some = (a, refl)
 
 -- ---- what `json` reads, a step at a time, under the conversion to data
 
-abbrev pick : {A : Type 0} → A → Option A → A
-pick d None = d
-pick d (Some a) = a
-
 found : {A B : Type 0} (a : A) (r s : List Token) (x : Option B) (b : B) → option_map {U = B × List Token} (λ y. (y, r)) x ≡ Some (b, s) → (r ≡ s) × (x ≡ Some b)
 found a r s None b e = absurd (cc)
-found a r s (Some y) b e = let same = ap (pick (y, r)) e in (ap (λ p. p.1) same, ap (λ p. Some p.0) same)
+found {B = B} a r s (Some y) b e = let same : ◌≡◌ {A = B × List Token} (y, r) (b, s) = cc in (ap (λ p. p.1) same, ap (λ p. Some p.0) same)
 
 converted_some : {A B : Type 0} (f : A → Option B) (o : Option (A × List Token)) (b : B) (r : List Token) → converted f o ≡ Some (b, r) → (a : A) × (o ≡ Some (a, r)) × (f a ≡ Some b)
 converted_some f None b r e = absurd (cc)
@@ -92,15 +87,8 @@ none_mapped (Some p) = refl
 
 -- ---- what the members say
 
-pub apart : (a b : List ℕ) → ¬ (get_or a 0 0 ≡ get_or b 0 0) → a ≡ b → ⊥
-apart a b other e = other (ap (λ (l : List ℕ). get_or l 0 0) e)
-
-ne_true : (t : Bool) → t ≡ false → t ≡ true → ⊥
-ne_true true e f = absurd (cc e)
-ne_true false e f = absurd (cc f)
-
 pub differs : (a b : List ℕ) → bytes_eq a b ≡ false → b ≡ a → ⊥
-differs a b other e = ne_true (bytes_eq a b) other ((bytes_eq-Decides a b).1 (sym e))
+differs a b other e = let same = (bytes_eq-Decides a b).1 (sym e) in cc
 
 -- a member that has another name than those that mean something
 pub says_other : (name : List ℕ) (d : Data) (text : Option (List ℕ)) (found : Members)
@@ -108,22 +96,21 @@ pub says_other : (name : List ℕ) (d : Data) (text : Option (List ℕ)) (found 
 says_other name d text found no_text no_hex no_kind says = (
   get_member-put_other (codes "text") name d found no_text ∙ says.0,
   get_member-put_other (codes "hex") name d found no_hex ∙ says.1,
-  ap (λ (k : Option Data). is_totals (option_and_then as_str k)) (get_member-put_other (codes "kind") name d found no_kind) ∙ says.2,
+  rw (get_member-put_other (codes "kind") name d found no_kind) says.2,
 )
 
 pub says_text : (text : Option (List ℕ)) (s : List ℕ) (found : Members) → Says text found → Says (Some s) (put (codes "text") (string s) found)
 says_text text s found says = (
   get_member-put (codes "text") (string s) found,
-  get_member-put_other (codes "hex") (codes "text") (string s) found (apart (codes "hex") (codes "text") (λ e. omega (arith, e))) ∙ says.1,
-  ap (λ (k : Option Data). is_totals (option_and_then as_str k))
-      (get_member-put_other (codes "kind") (codes "text") (string s) found (apart (codes "kind") (codes "text") (λ e. omega (arith, e)))) ∙ says.2,
+  get_member-put_other (codes "hex") (codes "text") (string s) found (differs (codes "text") (codes "hex") refl) ∙ says.1,
+  rw (get_member-put_other (codes "kind") (codes "text") (string s) found (differs (codes "text") (codes "kind") refl)) says.2,
 )
 
 pub says_kind : (text : Option (List ℕ)) (s : List ℕ) (found : Members) → is_totals (Some s) ≡ false → Says text found → Says text (put (codes "kind") (string s) found)
 says_kind text s found other says = (
-  get_member-put_other (codes "text") (codes "kind") (string s) found (apart (codes "text") (codes "kind") (λ e. omega (arith, e))) ∙ says.0,
-  get_member-put_other (codes "hex") (codes "kind") (string s) found (apart (codes "hex") (codes "kind") (λ e. omega (arith, e))) ∙ says.1,
-  ap (λ (k : Option Data). is_totals (option_and_then as_str k)) (get_member-put (codes "kind") (string s) found) ∙ other,
+  get_member-put_other (codes "text") (codes "kind") (string s) found (differs (codes "kind") (codes "text") refl) ∙ says.0,
+  get_member-put_other (codes "hex") (codes "kind") (string s) found (differs (codes "kind") (codes "hex") refl) ∙ says.1,
+  rw (get_member-put (codes "kind") (string s) found) other,
 )
 
 pub says_object : (s : List ℕ) (found : Members) → Says (Some s) found → of_object (object found) ≡ Ok s

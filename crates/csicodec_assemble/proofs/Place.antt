@@ -1,9 +1,8 @@
 -- A line whose object begins with a place: what follows that place says what the line stands for.
-use Rattle.std.proofs.Common.{◌≡◌, ℕ, ◌-◌, ◌≤◌, Bool, true, false, List, [], ◌∷◌, ◌++◌, length, get_or, take, drop, Option}
+use Rattle.std.proofs.Common.{◌≡◌, ℕ, ◌-◌, Bool, true, false, List, [], ◌∷◌, ◌++◌, length, Option}
 use Rattle.std.proofs.Common.{Some, None, Ok, Err, IsSome, cond, refl, sym, ap, ◌∙◌, subst, arith, rules, Bor, IfSome}
 use Rattle.std.specs.Prelude.{IsUtf8, codes, option_map}
 use Rattle.std.specs.Str.{is_utf8}
-use Rattle.std.proofs.lemmas.List.{take_all}
 use Rattle.std.proofs.lemmas.Str.{IsUtf8-append, IsUtf8-from_ascii}
 use Rattle.json.specs.Token.{Token, begin_object, key, number}
 use Rattle.json.specs.Text.{content, plain}
@@ -18,7 +17,7 @@ use Rattle.serde_json.specs.Read.{converted, number_of, of_json, read}
 use Rattle.csicodec_assemble.specs.declared.object.Fault.TheVariants.{NoObject}
 use Rattle.csicodec_assemble.specs.Object.{of_line, of_read}
 use Rattle.csicodec_assemble.specs.Private.Glance.{Follow, Says, Stands}
-use Rattle.csicodec_assemble.proofs.Member.{apart, converted-object, is_there, line_is, member_read, says_object, says_other, whole_read}
+use Rattle.csicodec_assemble.proofs.Member.{differs, converted-object, is_there, line_is, member_read, says_object, says_other, whole_read}
 
 -- ---- the lexemes
 
@@ -83,9 +82,7 @@ placed ds text r n is follow =
     let ts : List Token = key k ∷ number ds ∷ r in
     let first : Members = put k (values.number n) no_members in
     let says : Says None first =
-    says_other k (values.number n) None no_members (apart (codes "text") k (λ e. omega (arith, e)))
-    (apart (codes "hex") k (λ e. omega (arith, e)))
-    (apart (codes "kind") k (λ e. omega (arith, e))) (refl, refl, refl) in
+    says_other k (values.number n) None no_members (differs k (codes "text") refl) (differs k (codes "hex") refl) (differs k (codes "kind") refl) (refl, refl, refl) in
     let (found, members_are, now) = follow (length ts - 1) first (omega arith) says in
     let turn = member_read p no_members (length ts) k ts (number ds ∷ r) r (values.number n) (omega arith) refl (a_number ds r n is) in
     let opens = ap (converted of_json) (value-begin_object 127 ts (omega arith)) ∙ converted-object (members p (length ts) ts) in
@@ -122,24 +119,6 @@ pub stands_read : (rest line text given : List ℕ) (ts : List Token) → IsUtf8
 stands_read rest line text given ts utf8 read_of same is follow =
     let of_rest : ts ≡ tokens rest = read_of ∙ ap tokens same in
     subst (λ (t : List ℕ). Stands rest t) (sym is) (stands rest text utf8 (subst (λ (l : List Token). Follow l [] (Some text)) of_rest follow))
-
--- ---- the bytes at the front of a line
-
-pub first_cut : (xs : List ℕ) → 1 ≤ length xs → get_or xs 0 0 ≡ 34 → xs ≡ 34 ∷ take (length xs - 1) (drop 1 xs)
-first_cut [] some first = absurd (omega arith)
-first_cut (x ∷ xs) some first = ap (λ (c : ℕ). c ∷ xs) first ∙ ap (λ (l : List ℕ). 34 ∷ l) (sym (take_all (length (x ∷ xs) - 1) xs (omega arith)))
-
-pub six_cut : (xs : List ℕ) → 6 ≤ length xs → get_or xs 0 0 ≡ 123 → get_or xs 1 0 ≡ 34 → get_or xs 2 0 ≡ 97 → get_or xs 3 0 ≡ 116 → get_or xs 4 0 ≡ 34 → get_or xs 5 0 ≡ 58
-    → xs ≡ 123 ∷ 34 ∷ 97 ∷ 116 ∷ 34 ∷ 58 ∷ take (length xs - 6) (drop 6 xs)
-six_cut [] some p q r s t u = absurd (omega arith)
-six_cut (a ∷ []) some p q r s t u = absurd (omega (arith, some))
-six_cut (a ∷ b ∷ []) some p q r s t u = absurd (omega (arith, some))
-six_cut (a ∷ b ∷ c ∷ []) some p q r s t u = absurd (omega (arith, some))
-six_cut (a ∷ b ∷ c ∷ d ∷ []) some p q r s t u = absurd (omega (arith, some))
-six_cut (a ∷ b ∷ c ∷ d ∷ e ∷ []) some p q r s t u = absurd (omega (arith, some))
-six_cut (a ∷ b ∷ c ∷ d ∷ e ∷ f ∷ xs) some p q r s t u =
-    let whole : take (length (a ∷ b ∷ c ∷ d ∷ e ∷ f ∷ xs) - 6) xs ≡ xs = take_all (length (a ∷ b ∷ c ∷ d ∷ e ∷ f ∷ xs) - 6) xs (omega arith) in
-    rw (p, q, r, s, t, u) (ap (λ (l : List ℕ). 123 ∷ 34 ∷ 97 ∷ 116 ∷ 34 ∷ 58 ∷ l) (sym whole))
 
 -- ---- no line
 

@@ -177,14 +177,13 @@ fn is_place(digits: &[u8]) -> bool
 fn behind_place(line: &[u8]) -> Option<&[u8]>
     ensures { IfSome result (λ rest. IsPlaced line.now rest.now) }
 {
-    let [b'{', b'"', b'a', b't', b'"', b':', behind @ ..] = line else {
-        return None;
-    };
+    let behind = line.strip_prefix(b"{\"at\":".as_slice())?;
     let (digits, rest) = split_comma(behind)?;
-    let [b'"', ..] = rest else {
-        return None;
-    };
-    if is_place(digits) { Some(rest) } else { None }
+    if rest.starts_with(b"\"") && is_place(digits) {
+        Some(rest)
+    } else {
+        None
+    }
 }
 
 /// Reads lines, and holds what it knows of the last ones.

@@ -107,20 +107,11 @@ impl Assembler {
     {
         let mut rest = bytes;
         while let Some((line, behind)) = split_line(rest) {
-            match self.hold(line) {
-                Ok(()) => {}
-                Err(refusal) => return Err(refusal),
-            }
-            match self.end_line(out) {
-                Ok(()) => {}
-                Err(refusal) => return Err(refusal),
-            }
+            self.hold(line)?;
+            self.end_line(out)?;
             rest = behind;
         }
-        match self.hold(rest) {
-            Ok(()) => Ok(()),
-            Err(refusal) => Err(refusal),
-        }
+        self.hold(rest)
     }
 
     /// Nothing comes any more: a line that has begun is over. On `Err` it is the one that `number` says.

@@ -3,7 +3,6 @@ use Rattle.std.specs.Prelude.{option_map}
 use Rattle.std.proofs.lemmas.Result.{on_ok_weaker}
 use Rattle.json.specs.Token.{Token}
 use Rattle.json.specs.Json.{parse_map, after_end_array, read_key, items, members, value}
-use Rattle.json.specs.Reads.{token_of}
 use Rattle.json.proofs.Grammar.{value_is, value-begin_array, value-begin_object, read_key-shorter}
 use Rattle.serde_json.specs.Data.{Num, null, boolean, number, string, array, object, put, no_items, item, no_members}
 use Rattle.serde_json.specs.Read.{number_of, of_json, of_items, converted}
@@ -12,33 +11,28 @@ use Rattle.csicodec_assemble.proofs.glance.+pass.Goals as goal
 
 pub pass-returns-in-String-clause-value : goal.pass-returns-in-String-clause-value
 pass-returns-in-String-clause-value t c =
-    let first : c.args.reader.now ≡ token_of c.in_ok-token.token ∷ c.next.new.self = grind arith in
-    let is : c.args.reader.now ≡ Token.string c.in-String.field-0.now ∷ c.next.new.self = grind (arith, first) in
+    let is : c.args.reader.now ≡ Token.string c.in-String.field-0.now ∷ c.next.new.self = grind arith in
     (string c.in-String.field-0.now, ap (converted of_json) (ap (value c.args.depth) is ∙ value_is c.args.depth _))
 
 pub pass-returns-in-Bool-clause-value : goal.pass-returns-in-Bool-clause-value
 pass-returns-in-Bool-clause-value t c =
-    let first : c.args.reader.now ≡ token_of c.in_ok-token.token ∷ c.next.new.self = grind arith in
-    let is : c.args.reader.now ≡ Token.boolean c.in-Bool.field-0 ∷ c.next.new.self = grind (arith, first) in
+    let is : c.args.reader.now ≡ Token.boolean c.in-Bool.field-0 ∷ c.next.new.self = grind arith in
     (boolean c.in-Bool.field-0, ap (converted of_json) (ap (value c.args.depth) is ∙ value_is c.args.depth _))
 
 pub pass-returns-in-Null-clause-value : goal.pass-returns-in-Null-clause-value
 pass-returns-in-Null-clause-value t c =
-    let first : c.args.reader.now ≡ token_of c.in_ok-token.token ∷ c.next.new.self = grind arith in
-    let is : c.args.reader.now ≡ Token.null ∷ c.next.new.self = grind (arith, first) in
+    let is : c.args.reader.now ≡ Token.null ∷ c.next.new.self = grind arith in
     (null, ap (converted of_json) (ap (value c.args.depth) is ∙ value_is c.args.depth _))
 
 pub pass-returns-in-Number-clause-value : goal.pass-returns-in-Number-clause-value
 pass-returns-in-Number-clause-value t c =
-    let first : c.args.reader.now ≡ token_of c.in_ok-token.token ∷ c.next.new.self = grind arith in
-    let is : c.args.reader.now ≡ Token.number c.in-Number.text.now ∷ c.next.new.self = grind (arith, first) in
+    let is : c.args.reader.now ≡ Token.number c.in-Number.text.now ∷ c.next.new.self = grind arith in
     let (n, found) = is_there (number_of c.in-Number.text.now) (c.is_small.ensures c.if-is_small.true) in
     (number n, ap (converted of_json) (ap (value c.args.depth) is ∙ value_is c.args.depth _) ∙ ap (λ (o : Option Num). option_map (λ b. (b, c.next.new.self)) (option_map number o)) found)
 
 pub pass-returns-in-BeginArray-clause-value : goal.pass-returns-in-BeginArray-clause-value
 pass-returns-in-BeginArray-clause-value t c =
-    let first : c.args.reader.now ≡ token_of c.in_ok-token.token ∷ c.next.new.self = grind arith in
-    let is : c.args.reader.now ≡ Token.begin_array ∷ c.next.new.self = grind (arith, first) in
+    let is : c.args.reader.now ≡ Token.begin_array ∷ c.next.new.self = grind arith in
     let rest = c.next.new.self in
     let opened =
     ap (converted of_json) (ap (value c.args.depth) is ∙ value-begin_array c.args.depth rest c.if-depth-gt0.true) ∙ converted-array (items (value (c.args.depth - 1)) (length rest) rest) in
@@ -46,8 +40,7 @@ pass-returns-in-BeginArray-clause-value t c =
 
 pub pass-returns-in-BeginObject-clause-value : goal.pass-returns-in-BeginObject-clause-value
 pass-returns-in-BeginObject-clause-value t c =
-    let first : c.args.reader.now ≡ token_of c.in_ok-token.token ∷ c.next.new.self = grind arith in
-    let is : c.args.reader.now ≡ Token.begin_object ∷ c.next.new.self = grind (arith, first) in
+    let is : c.args.reader.now ≡ Token.begin_object ∷ c.next.new.self = grind arith in
     let rest = c.next.new.self in
     let opened =
     ap (converted of_json) (ap (value c.args.depth) is ∙ value-begin_object c.args.depth rest c.if-depth-gt0-2.true) ∙ converted-object (members (value (c.args.depth - 1)) (length rest) rest) in

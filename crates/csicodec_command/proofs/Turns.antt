@@ -1,7 +1,7 @@
 -- Turns one after the other, and what an input has behind its first bytes.
-use Rattle.std.proofs.Common.{Bor, Bool, true, false, if◌then◌else◌, ◌==◌, inl, inr, ◌⊎◌, ◌≡◌, ◌∷◌, ◌++◌, ℕ, List, [], Option, None, Some}
+use Rattle.std.proofs.Common.{Bor, true, false, if◌then◌else◌, ◌==◌, inl, inr, ◌⊎◌, ◌≡◌, ◌∷◌, ◌++◌, ℕ, List, [], Option, None, Some}
 use Rattle.std.proofs.Common.{Result, Ok, Err, ap, drop, length, get_or, arith, refl, sym, subst, append_assoc, append-nil, ◌≤◌, ◌+◌, ◌<◌, ◌≢◌, ◌∙◌}
-use Rattle.std.specs.Prelude.{map, codes}
+use Rattle.std.specs.Prelude.{map}
 use Rattle.std.specs.Fmt.{option_append}
 use Rattle.std.specs.Option.{option_or}
 use Rattle.std.proofs.lemmas.List.{at_drop_more, length-map}
@@ -19,37 +19,6 @@ use Rattle.csicodec_command.specs.Runs.{ends_run, first_of}
 
 abbrev pub named : List (Bor (List ℕ)) → List (List ℕ)
 named names = map (λ n. n.now) names
-
--- What goes through the rest from here goes through all, and the statuses of those that failed stand ahead.
-abbrev pub GoesOn : {S : Type 0} → StepsOf S → (List ℕ → Option (List ℕ)) → List (List ℕ) → At S → List ℕ → List (List ℕ)
-    → At S → Type 0
-GoesOn {S} Steps holds names start failed rest at = (more : List ℕ) (stop : Option ℕ) (end : At S)
-    → Through Steps holds rest at more stop end → Through Steps holds names start (failed ++ more) stop end
-
--- one more, which went well
-pub went_on : {S : Type 0} (Steps : StepsOf S) (holds : List ℕ → Option (List ℕ)) (names : List (List ℕ)) (start : At S)
-    (failed : List ℕ) (name : List ℕ) (rest : List (List ℕ)) (at next : At S)
-    → GoesOn Steps holds names start failed (name ∷ rest) at → HasTurn Steps holds name at (Ok tt) next
-    → GoesOn Steps holds names start failed rest next
-went_on Steps holds names start failed name rest at next goes turn more stop end through =
-    goes more stop end (Ok tt, next, turn, through)
-
--- one more, which failed
-pub failed_on : {S : Type 0} (Steps : StepsOf S) (holds : List ℕ → Option (List ℕ)) (names : List (List ℕ)) (start : At S)
-    (failed : List ℕ) (name : List ℕ) (rest : List (List ℕ)) (at next : At S) (f : Failure) (n : ℕ)
-    → GoesOn Steps holds names start failed (name ∷ rest) at → HasTurn Steps holds name at (Err f) next
-    → IsTold f n → ends_run f ≡ false → GoesOn Steps holds names start (failed ++ n ∷ []) rest next
-failed_on Steps holds names start failed name rest at next f n goes turn told goes_on more stop end through =
-    subst (λ (all : List ℕ). Through Steps holds names start all stop end) (sym (append_assoc failed (n ∷ []) more))
-    (goes (n ∷ more) stop end (Err f, next, turn, (n, told, inr (goes_on, (more, refl, through)))))
-
--- one that ended the run
-pub stopped_at : {S : Type 0} (Steps : StepsOf S) (holds : List ℕ → Option (List ℕ)) (names : List (List ℕ)) (start : At S)
-    (failed : List ℕ) (name : List ℕ) (rest : List (List ℕ)) (at next : At S) (f : Failure) (n : ℕ)
-    → GoesOn Steps holds names start failed (name ∷ rest) at → HasTurn Steps holds name at (Err f) next
-    → IsTold f n → ends_run f ≡ true → Through Steps holds names start (failed ++ []) (Some n) next
-stopped_at Steps holds names start failed name rest at next f n goes turn told ends =
-    goes [] (Some n) next (Err f, next, turn, (n, told, inl (ends, refl, refl, refl)))
 
 -- the first that failed, where one more does
 pub first_behind : (failed : List ℕ) (n : ℕ) → first_of (failed ++ n ∷ []) ≡ option_or (first_of failed) (Some n)
@@ -108,46 +77,19 @@ not_begun Steps name known start ahead begun result f begins is same = record {
   reads = rw is tt;
 }
 
--- its first bytes couldn't be read
-pub not_read : {S : Type 0} (Steps : StepsOf S) (name : List ℕ) (known : Option (List ℕ)) (start ahead : At S)
-    (begun result : Result (Unit {0}) Failure) → Steps (Next name) start begun ahead → begun ≡ Ok tt → IsUnread result
-    → IsReadBy Steps name known start result ahead
-not_read Steps name known start ahead begun result begins is unread = record {
-  begun = begun;
-  ahead = ahead;
-  begins = begins;
-  failed = rw is tt;
-  bytes = known;
-  same = Keeps-refl known;
-  reads = rw is (inl (unread, refl));
-}
-
--- it was written
-pub streamed : {S : Type 0} (Steps : StepsOf S) (name : List ℕ) (known bytes : Option (List ℕ)) (start ahead end : At S)
+-- it came next, and then its first bytes couldn't be read, or it was written
+pub taken : {S : Type 0} (Steps : StepsOf S) (name : List ℕ) (known bytes : Option (List ℕ)) (start ahead end : At S)
     (begun result : Result (Unit {0}) Failure) → Steps (Next name) start begun ahead → begun ≡ Ok tt → Keeps known bytes
-    → Steps (Stream bytes) ahead result end → IsReadBy Steps name known start result end
-streamed Steps name known bytes start ahead end begun result begins is same step = record {
+    → ((IsUnread result × (end ≡ ahead)) ⊎ (Steps (Stream bytes) ahead result end ⊎ (MayBeRecording name known × Steps (Recording bytes) ahead result end)))
+    → IsReadBy Steps name known start result end
+taken Steps name known bytes start ahead end begun result begins is same reads = record {
   begun = begun;
   ahead = ahead;
   begins = begins;
   failed = rw is tt;
   bytes = bytes;
   same = same;
-  reads = rw is (inr (inl step));
-}
-
--- and as a recording
-pub recorded : {S : Type 0} (Steps : StepsOf S) (name : List ℕ) (known bytes : Option (List ℕ)) (start ahead end : At S)
-    (begun result : Result (Unit {0}) Failure) → Steps (Next name) start begun ahead → begun ≡ Ok tt → Keeps known bytes
-    → MayBeRecording name known → Steps (Recording bytes) ahead result end → IsReadBy Steps name known start result end
-recorded Steps name known bytes start ahead end begun result begins is same may step = record {
-  begun = begun;
-  ahead = ahead;
-  begins = begins;
-  failed = rw is tt;
-  bytes = bytes;
-  same = same;
-  reads = rw is (inr (inr (may, step)));
+  reads = rw is reads;
 }
 
 -- what `?` hands on
@@ -230,59 +172,55 @@ run_several Steps holds names start at end result first n had is more closes =
     (several_failed Steps (named names) n at result end
     (λ one. more (sym (length-map names (λ m. m.now)) ∙ one)) closes)
 
--- Turns up to a place: these failed so far, and what is left goes on behind them.
-abbrev pub TurnsTo : {S : Type 0} → StepsOf S → (List ℕ → Option (List ℕ)) → List (Bor (List ℕ)) → At S → ℕ → Option ℕ → At S → Type 0
-TurnsTo Steps holds names start i first at = (failed : List ℕ) × (first ≡ first_of failed)
-    × GoesOn Steps holds (named names) start failed (named (drop i names)) at
+-- Turns up to a place: these failed so far, and what goes through the rest from here goes through all.
+pub record TurnsTo {S : Type 0} (Steps : StepsOf S) (holds : List ℕ → Option (List ℕ)) (names : List (Bor (List ℕ))) (start : At S)
+    (i : ℕ) (first : Option ℕ) (at : At S) : Type 0 where
+  pub failed : List ℕ
+  pub is : first ≡ first_of failed
+  pub goes : (more : List ℕ) (stop : Option ℕ) (end : At S) → Through Steps holds (named (drop i names)) at more stop end
+      → Through Steps holds (named names) start (failed ++ more) stop end
 
-pub next_turn : {S : Type 0} (Steps : StepsOf S) (holds : List ℕ → Option (List ℕ)) (names : List (Bor (List ℕ))) (start at : At S)
-    (failed : List ℕ) (i : ℕ) (name : Bor (List ℕ)) → i < length names
-    → GoesOn Steps holds (named names) start failed (named (drop i names)) at
-    → GoesOn Steps holds (named names) start failed ((get_or names i name).now ∷ named (drop (i + 1) names)) at
-next_turn Steps holds names start at failed i name within goes =
-    subst (λ (rest : List (List ℕ)). GoesOn Steps holds (named names) start failed rest at) (at_drop_more named names i name within) goes
+module _ {S : Type 0} {Steps : StepsOf S} {holds : List ℕ → Option (List ℕ)} {names : List (Bor (List ℕ))} {start at : At S} {i : ℕ}
+    {first : Option ℕ} (t : TurnsTo Steps holds names start i first at) where
+  -- the next one has its turn
+  next_turn : (name : Bor (List ℕ)) → i < length names → (more : List ℕ) (stop : Option ℕ) (end : At S)
+      → Through Steps holds ((get_or names i name).now ∷ named (drop (i + 1) names)) at more stop end
+      → Through Steps holds (named names) start (t.failed ++ more) stop end
+  next_turn name within more stop end through =
+      t.goes more stop end (subst (λ (rest : List (List ℕ)). Through Steps holds rest at more stop end) (sym (at_drop_more named names i name within)) through)
 
-pub turn_went : {S : Type 0} (Steps : StepsOf S) (holds : List ℕ → Option (List ℕ)) (names : List (Bor (List ℕ))) (start at next : At S)
-    (i : ℕ) (name : Bor (List ℕ)) (first then_first : Option ℕ) → i < length names → TurnsTo Steps holds names start i first at
-    → HasTurn Steps holds (get_or names i name).now at (Ok tt) next → then_first ≡ first
-    → TurnsTo Steps holds names start (i + 1) then_first next
-turn_went Steps holds names start at next i name first then_first within (failed, is, goes) turn same = (
-  failed,
-  same ∙ is,
-  went_on Steps holds (named names) start failed (get_or names i name).now (named (drop (i + 1) names)) at next
-      (next_turn Steps holds names start at failed i name within goes) turn,
-)
+  -- it went well
+  pub turn_went : (name : Bor (List ℕ)) {next : At S} {then_first : Option ℕ} → i < length names → HasTurn Steps holds (get_or names i name).now at (Ok tt) next
+      → then_first ≡ first → TurnsTo Steps holds names start (i + 1) then_first next
+  turn_went name {next} within turn same = record {
+    failed = t.failed;
+    is = same ∙ t.is;
+    goes = λ more stop end through. next_turn name within more stop end (Ok tt, next, turn, through);
+  }
 
-pub turn_failed : {S : Type 0} (Steps : StepsOf S) (holds : List ℕ → Option (List ℕ)) (names : List (Bor (List ℕ))) (start at next : At S)
-    (i : ℕ) (name : Bor (List ℕ)) (first then_first : Option ℕ) (f : Failure) (n : ℕ) → i < length names
-    → TurnsTo Steps holds names start i first at → HasTurn Steps holds (get_or names i name).now at (Err f) next
-    → IsTold f n → ends_run f ≡ false → then_first ≡ option_or first (Some n)
-    → TurnsTo Steps holds names start (i + 1) then_first next
-turn_failed Steps holds names start at next i name first then_first f n within (failed, is, goes) turn told goes_on same = (
-  failed ++ n ∷ [],
-  same ∙ ap (λ (o : Option ℕ). option_or o (Some n)) is ∙ sym (first_behind failed n),
-  failed_on Steps holds (named names) start failed (get_or names i name).now (named (drop (i + 1) names)) at next f n
-      (next_turn Steps holds names start at failed i name within goes) turn told goes_on,
-)
+  -- it failed
+  pub turn_failed : (name : Bor (List ℕ)) {next : At S} {then_first : Option ℕ} {f : Failure} {n : ℕ} → i < length names
+      → HasTurn Steps holds (get_or names i name).now at (Err f) next → IsTold f n → ends_run f ≡ false → then_first ≡ option_or first (Some n)
+      → TurnsTo Steps holds names start (i + 1) then_first next
+  turn_failed name {next} {f = f} {n} within turn told goes_on same = record {
+    failed = t.failed ++ n ∷ [];
+    is = same ∙ ap (λ (o : Option ℕ). option_or o (Some n)) t.is ∙ sym (first_behind t.failed n);
+    goes = λ more stop end through.
+        subst (λ (all : List ℕ). Through Steps holds (named names) start all stop end) (sym (append_assoc t.failed (n ∷ []) more))
+        (next_turn name within (n ∷ more) stop end (Err f, next, turn, (n, told, inr (goes_on, (more, refl, through)))));
+  }
 
-pub turn_stopped : {S : Type 0} (Steps : StepsOf S) (holds : List ℕ → Option (List ℕ)) (names : List (Bor (List ℕ))) (start at next : At S)
-    (i : ℕ) (name : Bor (List ℕ)) (first : Option ℕ) (f : Failure) (n : ℕ) → i < length names
-    → TurnsTo Steps holds names start i first at → HasTurn Steps holds (get_or names i name).now at (Err f) next
-    → IsTold f n → ends_run f ≡ true
-    → (failed : List ℕ) × Through Steps holds (named names) start failed (Some n) next
-turn_stopped Steps holds names start at next i name first f n within (failed, is, goes) turn told ends = (
-  failed ++ [],
-  stopped_at Steps holds (named names) start failed (get_or names i name).now (named (drop (i + 1) names)) at next f n
-      (next_turn Steps holds names start at failed i name within goes) turn told ends,
-)
+  -- that ended the run
+  pub turn_stopped : (name : Bor (List ℕ)) {next : At S} {f : Failure} {n : ℕ} → i < length names → HasTurn Steps holds (get_or names i name).now at (Err f) next
+      → IsTold f n → ends_run f ≡ true → (failed : List ℕ) × Through Steps holds (named names) start failed (Some n) next
+  turn_stopped name {next} {f} {n} within turn told ends =
+      (t.failed ++ [], next_turn name within [] (Some n) next (Err f, next, turn, (n, told, inl (ends, refl, refl, refl))))
 
--- behind the last one
-pub turns_end : {S : Type 0} (Steps : StepsOf S) (holds : List ℕ → Option (List ℕ)) (names : List (Bor (List ℕ))) (start at : At S)
-    (i : ℕ) (first : Option ℕ) → length names ≤ i → TurnsTo Steps holds names start i first at
-    → HadTurns Steps holds (named names) start first at
-turns_end {S} Steps holds names start at i first behind (failed, is, goes) =
-    let rest = ap (λ (l : List (Bor (List ℕ))). named l) (drop_of_length-le names behind) in (
-      failed ++ [],
-      is ∙ ap first_of (sym (append-nil failed)),
-      goes [] None at (subst (λ (r : List (List ℕ)). Through Steps holds r at [] None at) (sym rest) (refl, refl, refl)),
-    )
+  -- behind the last one
+  pub turns_end : length names ≤ i → HadTurns Steps holds (named names) start first at
+  turns_end behind =
+      let rest = ap (λ (l : List (Bor (List ℕ))). named l) (drop_of_length-le names behind) in (
+        t.failed ++ [],
+        t.is ∙ ap first_of (sym (append-nil t.failed)),
+        t.goes [] None at (subst (λ (r : List (List ℕ)). Through Steps holds r at [] None at) (sym rest) (refl, refl, refl)),
+      )

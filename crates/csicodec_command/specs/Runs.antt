@@ -1,7 +1,7 @@
 -- A run over inputs, one after the other: what is asked of what works on them, which turn each had, and the status at the end.
 use Rattle.std.specs.Prelude.{ℕ, Bool, true, false, ◌≡◌, ◌⊎◌, List, [], ◌∷◌, map, eqb, codes}
 use Rattle.std.specs.List.{ends_with}
-use Rattle.std.specs.Prelude.{Option, None, Some, Result, Ok, Err, IfSome, IsErr, OnOk, OnErr, MatchResult}
+use Rattle.std.specs.Prelude.{Option, None, Some, Result, Ok, Err, IfSome, OnOk, OnErr, MatchResult}
 use Rattle.std.specs.Io.KnownBytes.{Keeps}
 use Rattle.std.specs.Borrow.{Bor}
 use Rattle.csicodec_streams.specs.declared.error.RunError.TheVariants as error

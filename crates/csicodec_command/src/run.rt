@@ -531,7 +531,7 @@ pub fn refused(rt: &HostRuntime, wrong: Wrong<'_>) -> u8 {
         Wrong::NoCommand(word, _) => is_file(rt, word),
         _ => false,
     };
-    let refusal = UsageError::new(wrong, is_file);
+    let refusal = UsageError { wrong, is_file };
     let _told = match advice_of(wrong) {
         Some(advice) => eprintln!(rt; "{failure}{refusal}\n{advice}"),
         None => eprintln!(rt; "{failure}"),

@@ -1,6 +1,7 @@
-use Rattle.std.proofs.Common.{ℕ, List, Option, Some, inr, refl, Err}
+use Rattle.std.proofs.Common.{Some, inl, inr, refl, Err}
+use Rattle.std.proofs.KnownBytes.{Keeps-refl}
 use Rattle.std.specs.Io.Chain.{chain_remaining}
-use Rattle.csicodec_command.proofs.Turns.{buffered, chained, handed_on, not_begun, not_read, recorded, streamed, unread}
+use Rattle.csicodec_command.proofs.Turns.{buffered, chained, handed_on, not_begun, taken, unread}
 use Rattle.csicodec_command.proofs.run.read_through.Goals as goal
 
 pub returns-in_err-begin : goal.returns-in_err-begin
@@ -11,22 +12,21 @@ returns-in_err-begin g c =
 pub returns-in_err-is_recording : goal.returns-in_err-is_recording
 returns-in_err-is_recording g c =
     let r = c.from_residual-in_err-is_recording in
-    not_read _ _ _ _ _ c.begin.result r.result c.begin.ensures c.in_ok-begin.was
-    (unread r.result _ (handed_on r.result _ r.ensures.1) c.in_err-is_recording.ensures.err)
+    taken _ _ _ _ _ _ _ c.begin.result r.result c.begin.ensures c.in_ok-begin.was (Keeps-refl _)
+    (inl (unread r.result _ (handed_on r.result _ r.ensures.1) c.in_err-is_recording.ensures.err, refl))
 
 pub returns-then-not-is_recording : goal.returns-then-not-is_recording
 returns-then-not-is_recording g c =
-    streamed _ _ _ _ _ _ _ c.begin.result c.read.result c.begin.ensures c.in_ok-begin.was
-    (chained _ _ _ _ _ c.in_ok-is_recording.ensures.front c.as_slice.ensures.value c.chain-whole.ensures.bytes) c.read.ensures
+    taken _ _ _ _ _ _ _ c.begin.result c.read.result c.begin.ensures c.in_ok-begin.was
+    (chained _ _ _ _ _ c.in_ok-is_recording.ensures.front c.as_slice.ensures.value c.chain-whole.ensures.bytes) (inr (inl c.read.ensures))
 
 pub returns-in-Ok : goal.returns-in-Ok
 returns-in-Ok g c =
-    recorded _ _ _ _ _ _ _ c.begin.result c.read_cast.result c.begin.ensures c.in_ok-begin.was
+    taken _ _ _ _ _ _ _ c.begin.result c.read_cast.result c.begin.ensures c.in_ok-begin.was
     (buffered (λ i. chain_remaining (λ s. Some s.now) (λ r. g.R.Read.remaining r.now) i.now) c.in-Ok.lines _ _
     c.in-Ok.ensures.capacity c.in-Ok.ensures.empty c.in-Ok.ensures.inner
     (chained _ _ _ _ _ c.in_ok-is_recording.ensures.front c.as_slice.ensures.value c.chain-whole.ensures.bytes))
-    (c.in_ok-is_recording.ensures.known c.if-not-is_recording.false) c.read_cast.ensures
+    (inr (inr (c.in_ok-is_recording.ensures.known c.if-not-is_recording.false, c.read_cast.ensures)))
 
 pub returns : goal.returns
-returns g c =
-    not_read _ _ _ _ _ c.begin.result (Err _) c.begin.ensures c.in_ok-begin.was (inr refl)
+returns g c = taken _ _ _ _ _ _ _ c.begin.result (Err _) c.begin.ensures c.in_ok-begin.was (Keeps-refl _) (inl (inr refl, refl))

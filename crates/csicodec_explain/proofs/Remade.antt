@@ -7,6 +7,7 @@ use Rattle.std.proofs.lemmas.List.Folds.{list_all-append}
 use Rattle.hex.specs.Hex.{encode_lower, encode_with, lower_digits}
 use Rattle.csicodec_assemble.specs.declared.object.Fault.TheVariants.{NoSequence}
 use Rattle.csicodec_assemble.specs.Lines.{ended}
+use Rattle.csicodec_assemble.proofs.Joined.{Runs, run_parts}
 use Rattle.csicodec_assemble.specs.Object.{of_line}
 use Rattle.csicodec_explain.specs.Remade.{AreKept, AreRemade, Ends, HasBegun, IsRemade, Remakes, RemakesAll, line_behind, lines_over, object_of, passed}
 
@@ -33,33 +34,18 @@ behind_then begun (b ∷ one) other =
     behind-if (b == 10) (line_behind [] one) (line_behind (begun ++ b ∷ []) one) other (line_behind [] (one ++ other))
     (line_behind (begun ++ b ∷ []) (one ++ other)) (behind_then [] one other) (behind_then (begun ++ b ∷ []) one other)
 
-is_false : (t : Bool) → not t ≡ true → t ≡ false
-is_false true e = cc e
-is_false false e = refl
-
-abbrev Runs : List ℕ → Type 0
-Runs run = list_all (λ b. not (b == 10)) run ≡ true
-
 -- bytes without an LF go on with a line
-over_on : (b : ℕ) (begun more : List ℕ) → (b == 10) ≡ false → lines_over begun (b ∷ more) ≡ lines_over (begun ++ b ∷ []) more
-over_on b begun more other = rw other refl
-
-behind_on : (b : ℕ) (begun more : List ℕ) → (b == 10) ≡ false → line_behind begun (b ∷ more) ≡ line_behind (begun ++ b ∷ []) more
-behind_on b begun more other = rw other refl
-
 pub over_run : (run begun more : List ℕ) → Runs run → lines_over begun (run ++ more) ≡ lines_over (begun ++ run) more
 over_run [] begun more h = ap (λ (s : List ℕ). lines_over s more) (sym (append-nil begun))
 over_run (b ∷ run) begun more h =
-    let parts = and_parts (not (b == 10)) (list_all (λ c. not (c == 10)) run) h in
-    over_on b begun (run ++ more) (is_false (b == 10) parts.0) ∙ over_run run (begun ++ b ∷ []) more parts.1
-    ∙ ap (λ (s : List ℕ). lines_over s more) (append_assoc begun (b ∷ []) run)
+    let (other, within) = run_parts b run h in
+    rw other (over_run run (begun ++ b ∷ []) more within ∙ ap (λ (s : List ℕ). lines_over s more) (append_assoc begun (b ∷ []) run))
 
 pub behind_run : (run begun more : List ℕ) → Runs run → line_behind begun (run ++ more) ≡ line_behind (begun ++ run) more
 behind_run [] begun more h = ap (λ (s : List ℕ). line_behind s more) (sym (append-nil begun))
 behind_run (b ∷ run) begun more h =
-    let parts = and_parts (not (b == 10)) (list_all (λ c. not (c == 10)) run) h in
-    behind_on b begun (run ++ more) (is_false (b == 10) parts.0) ∙ behind_run run (begun ++ b ∷ []) more parts.1
-    ∙ ap (λ (s : List ℕ). line_behind s more) (append_assoc begun (b ∷ []) run)
+    let (other, within) = run_parts b run h in
+    rw other (behind_run run (begun ++ b ∷ []) more within ∙ ap (λ (s : List ℕ). line_behind s more) (append_assoc begun (b ∷ []) run))
 
 -- ---- what is written of a line has no LF either
 

@@ -20,7 +20,7 @@ const MANY: usize = 1024;
 const EACH: usize = 16;
 
 /// What was told of a sequence.
-#[derive(Clone, Copy)]
+#[derive(Clone, Copy, Default)]
 struct CacheSlot {
     /// The number of the sequence; 0 where nothing is kept.
     number: u64,
@@ -29,14 +29,6 @@ struct CacheSlot {
     end: usize,
     actions: u64,
 }
-
-/// Where nothing is kept.
-const EMPTY: CacheSlot = CacheSlot {
-    number: 0,
-    begin: 0,
-    end: 0,
-    actions: 0,
-};
 
 /// Short sequences with what was told of each, behind its place.
 #[derive(Drop)]
@@ -127,7 +119,7 @@ impl Remembered {
             self.forget();
         }
         if self.slots.is_empty() {
-            self.slots.resize(SLOTS, EMPTY)?;
+            self.slots.resize(SLOTS, CacheSlot::default())?;
         }
         let begin = self.kept.len();
         if !span.is_whole() {

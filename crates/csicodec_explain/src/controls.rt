@@ -52,15 +52,9 @@ pub fn text_front(bytes: &[u8]) -> (&[u8], &[u8]) {
 
 /// The name of a control character, or of a carriage return with a line feed behind it, and what it does.
 pub fn words_of(bytes: &[u8]) -> &'static str {
-    if bytes.len() > 1 {
-        return "CR LF  cursor to column 1, down 1 line, scrolling";
+    match bytes {
+        [0x7f] => "DEL  nothing",
+        [byte] => C0.get(usize::from(*byte)).copied().unwrap_or("control"),
+        _ => "CR LF  cursor to column 1, down 1 line, scrolling",
     }
-    control_words(bytes.first().copied().unwrap_or(0))
-}
-
-fn control_words(byte: u8) -> &'static str {
-    if byte == 0x7f {
-        return "DEL  nothing";
-    }
-    C0.get(usize::from(byte)).copied().unwrap_or("control")
 }

@@ -2,23 +2,24 @@
 
 use std::alloc::{AllocError, Global};
 use std::collections::BTreeMap;
-use std::fmt;
+use std::fmt::{self, Write};
 
 /// So many names are counted, each by itself: those that came first.
 const MOST: usize = 1000;
 
-/// How often a name was told, and of how many bytes; both stop at `u64::MAX`.
+/// How often something was told, and of how many bytes; both stop at `u64::MAX`.
 #[derive(Clone, Copy, Default)]
 pub struct Sum {
     /// How often.
     pub times: u64,
-    /// The bytes of the spans of which it was told first.
+    /// The bytes of the spans; of a name of those of which it was told first.
     pub bytes: u64,
 }
 
 impl Sum {
-    fn add(&mut self, bytes: u64) {
-        self.times = self.times.saturating_add(1);
+    /// So often more, and so many bytes.
+    pub fn add(&mut self, times: u64, bytes: u64) {
+        self.times = self.times.saturating_add(times);
         self.bytes = self.bytes.saturating_add(bytes);
     }
 }
@@ -35,11 +36,6 @@ pub struct Names {
 /// How many bytes a name has less than the most that are counted.
 fn left(row: &(&str, Sum)) -> u64 {
     u64::MAX.saturating_sub(row.1.bytes)
-}
-
-/// A name as a member of an object of JSON, with a comma ahead of it.
-fn write_member<W: fmt::Write>(out: &mut W, name: &str, times: u64) -> fmt::Result {
-    write!(out, ",\"{name}\":{times}")
 }
 
 /// A line of a name, with its end.
@@ -60,11 +56,11 @@ impl Names {
     /// This name once more, of so many bytes.
     pub fn add(&mut self, name: &str, bytes: u64) -> Result<(), AllocError> {
         if let Some(sum) = self.sums.get_mut(name) {
-            sum.add(bytes);
+            sum.add(1, bytes);
             return Ok(());
         }
         if self.sums.len() >= MOST {
-            self.others.add(bytes);
+            self.others.add(1, bytes);
             return Ok(());
         }
         let name = String::from_str(self.alloc, name)?;
@@ -83,11 +79,12 @@ impl Names {
     }
 
     /// As members of an object of JSON; a name has no character that would stand behind a backslash there.
-    pub fn write_members<W: fmt::Write>(&self, out: &mut W) -> fmt::Result {
+    pub fn append_members(&self, out: &mut String) -> Result<(), AllocError> {
         let others = self.others.times;
         write!(out, "\"other names\":{others}")?;
         for (name, sum) in &self.sums {
-            write_member(out, name.as_str(), sum.times)?;
+            let times = sum.times;
+            write!(out, ",\"{name}\":{times}")?;
         }
         Ok(())
     }

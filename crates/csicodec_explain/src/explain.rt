@@ -3,7 +3,6 @@ ghost use Rattle.std.specs.Prelude.{◌≤◌, IfOk, length};
 
 use crate::input::Sending;
 use crate::page::{Listing, Modes};
-use crate::sheet::text_of;
 use crate::stats::stats_of;
 use crate::style::Style;
 use csicodec_events::Dialect;
@@ -177,20 +176,14 @@ impl<'a> Explainer<'a> {
         self.flush(output)
     }
 
-    /// Bytes of a read of at most `CHUNK` bytes: fewer are all that was there.
-    fn push_read(&mut self, bytes: &[u8]) -> Result<(), AllocError> {
-        self.push(0, bytes)?;
-        if self.style.live && bytes.len() < CHUNK {
-            self.page.pause()
-        } else {
-            Ok(())
-        }
-    }
-
     /// The bytes of a read of at most `CHUNK` bytes. The lines of all spans that are over are written and flushed, and where someone
     /// looks on that of a text too, if nothing more is there at once.
     pub fn take_read<W: Write>(&mut self, bytes: &[u8], output: &mut W) -> Result<(), RunError> {
-        self.push_read(bytes).map_err(no_memory)?;
+        self.push(0, bytes).map_err(no_memory)?;
+        // Fewer bytes are all that was there.
+        if self.style.live && bytes.len() < CHUNK {
+            self.page.pause().map_err(no_memory)?;
+        }
         self.flush(output)
     }
 
@@ -212,28 +205,18 @@ impl<'a> Explainer<'a> {
         Err(RunError::Read)
     }
 
-    /// Writes the totals.
-    fn send_totals<W: Write>(&self, output: &mut W) -> Result<(), RunError> {
-        let told = text_of(self.alloc, &self.page.summary()).map_err(no_memory)?;
-        send(output, told.as_bytes())
-    }
-
-    /// Writes the table of names.
-    fn send_names<W: Write>(&self, output: &mut W) -> Result<(), RunError> {
-        let (names, all) = self.page.names();
-        let told = stats_of(self.alloc, names, all, self.style.json).map_err(no_memory)?;
-        send(output, told.as_bytes())
-    }
-
     /// The last lines, and the sums where they are asked for.
     pub fn end<W: Write>(&mut self, output: &mut W) -> Result<(), RunError> {
         self.finish().map_err(no_memory)?;
         self.flush(output)?;
         if self.style.count {
-            self.send_totals(output)?;
+            let told = self.page.summary().map_err(no_memory)?;
+            send(output, told.as_bytes())?;
         }
         if self.style.stats {
-            self.send_names(output)?;
+            let (names, all) = self.page.names();
+            let told = stats_of(self.alloc, names, all, self.style.json).map_err(no_memory)?;
+            send(output, told.as_bytes())?;
         }
         Ok(())
     }

@@ -146,11 +146,6 @@ pub fn append_object(text: &mut Vec<u8>, sort: Sort, bytes: &[u8]) -> Result<(),
     append_member(text, bytes, b"\",\"text\":", b"\",\"hex\":")
 }
 
-/// The end of an object of which the next one has more bytes.
-pub fn append_more(text: &mut Vec<u8>) -> Result<(), AllocError> {
-    text.extend_from_slice(b",\"more\":true}\n")
-}
-
 /// An action of an object: its name, its words, and its fields.
 pub fn append_action(
     text: &mut Vec<u8>,

@@ -108,6 +108,7 @@ impl Offset {
     }
 
     /// Any place.
+    #[tactic(auto, using(crate::proofs::Decimal::twenty_digits))]
     #[inline(never)]
     fn write(&mut self, number: u64) {
         let mut text = [b' '; 22];
@@ -154,6 +155,7 @@ impl Offset {
 }
 
 /// A number in decimal digits.
+#[tactic(auto, using(crate::proofs::Decimal::twenty_digits))]
 pub fn append_number(text: &mut Vec<u8>, number: u64) -> Result<(), AllocError> {
     let mut digits = [0u8; 20];
     let begin = write_digits(number, &mut digits, 20);
@@ -161,6 +163,7 @@ pub fn append_number(text: &mut Vec<u8>, number: u64) -> Result<(), AllocError> 
 }
 
 /// A time in seconds, to the microsecond, with blanks ahead where it has fewer columns than these.
+#[tactic(auto, using(crate::proofs::Decimal::twenty_digits))]
 pub fn append_time(text: &mut Vec<u8>, time: u64, columns: usize) -> Result<(), AllocError> {
     let (seconds, fraction) = (time / 1_000_000, time % 1_000_000);
     let mut digits = [0u8; 20];

@@ -9,7 +9,7 @@ use crate::line::{Sort, ToldSpan, whole_characters};
 use crate::sheet::Sheet;
 use crate::style::Style;
 use crate::taken::words_with_taken;
-use crate::totals::{Summary, Totals};
+use crate::totals::{Totals, totals_of};
 use csicodec_base::{CsiParam, Esc, ReadError, read_csi_into};
 use csicodec_osc::{ControlString, FRONT};
 use csicodec_parser::CSI;
@@ -153,6 +153,18 @@ fn sort_of(kind: Kind) -> Sort {
     }
 }
 
+/// A span of which all bytes are there.
+fn whole_span(sort: Sort, place: u64, time: u64, bytes: &[u8]) -> ToldSpan<'_> {
+    ToldSpan {
+        sort,
+        place,
+        time,
+        bytes,
+        len: bytes.len() as u64,
+        end: &[],
+    }
+}
+
 /// A span of these words.
 fn tell_words<T: Display>(
     sheet: &mut Sheet<'_>,
@@ -173,7 +185,7 @@ fn tell_string(
 ) -> Result<(), AllocError> {
     sheet.begin(span)?;
     sheet.add(span, &string)?;
-    if sheet.style().decode {
+    if sheet.style.decode {
         if let Some(bytes) = clipboard_bytes(alloc, span.bytes)? {
             sheet.add_decoded(span, &bytes)?;
         }
@@ -218,7 +230,7 @@ fn tell_actions(
     control: char,
 ) -> Result<u64, AllocError> {
     sheet.begin(span)?;
-    let sent = sheet.style().dialect.is_some();
+    let sent = sheet.style.dialect.is_some();
     let mut count = 0u64;
     for action in CSI::parse(alloc, params, false, control) {
         let action = action?;
@@ -268,7 +280,7 @@ impl<'a> Listing<'a> {
 
     /// The lines, each with its end.
     pub fn lines(&self) -> &[u8] {
-        self.sheet.lines()
+        &self.sheet.text
     }
 
     /// Takes the lines away.
@@ -277,22 +289,19 @@ impl<'a> Listing<'a> {
     }
 
     /// How much came, or where only some is told, how much was.
-    pub fn summary(&self) -> Summary<'_> {
-        let tells_all = self.sheet.style().tells_all();
-        Summary {
-            totals: if tells_all {
-                self.totals
-            } else {
-                self.sheet.totals()
-            },
-            names: self.sheet.names(),
-            json: self.sheet.style().json,
-        }
+    pub fn summary(&self) -> Result<String, AllocError> {
+        let (sheet, style) = (&self.sheet, &self.sheet.style);
+        let totals = if style.tells_all() {
+            &self.totals
+        } else {
+            &sheet.totals
+        };
+        totals_of(self.alloc, totals, &sheet.names, style.json)
     }
 
     /// The names that were told, and how many bytes came.
     pub fn names(&self) -> (&Names, u64) {
-        (self.sheet.names(), self.totals.bytes())
+        (&self.sheet.names, self.totals.bytes())
     }
 
     /// Another stream begins, of which times are told or not, behind a heading with its name if there is one. What is open must be
@@ -387,14 +396,7 @@ impl<'a> Listing<'a> {
 
     /// What stands at this place, whole.
     fn span_here<'b>(&self, sort: Sort, bytes: &'b [u8]) -> ToldSpan<'b> {
-        ToldSpan {
-            sort,
-            place: self.place,
-            time: self.time,
-            bytes,
-            len: bytes.len() as u64,
-            end: &[],
-        }
+        whole_span(sort, self.place, self.time, bytes)
     }
 
     /// A line for each action of a control sequence, of its tokens; how many they are, none where it isn't one.
@@ -517,14 +519,7 @@ impl<'a> Listing<'a> {
     /// What a recording has beside bytes.
     pub fn add_event<T: Display>(&mut self, time: u64, words: &T) -> Result<(), AllocError> {
         self.close()?;
-        let span = ToldSpan {
-            sort: Sort::Event,
-            place: self.place,
-            time,
-            bytes: &[],
-            len: 0,
-            end: &[],
-        };
+        let span = whole_span(Sort::Event, self.place, time, &[]);
         tell_words(&mut self.sheet, &span, words)
     }
 
@@ -534,15 +529,8 @@ impl<'a> Listing<'a> {
         if self.sheet.recall(time, place, control)?.is_some() {
             return Ok(());
         }
-        let span = ToldSpan {
-            sort: Sort::Control,
-            place,
-            time,
-            bytes,
-            len: bytes.len() as u64,
-            end: &[],
-        };
-        let is_input = self.sheet.style().dialect.is_some();
+        let span = whole_span(Sort::Control, place, time, bytes);
+        let is_input = self.sheet.style.dialect.is_some();
         let did = match bytes.first() {
             Some(byte) if is_input => Did::of_control(*byte),
             _ => None,
@@ -561,7 +549,7 @@ impl<'a> Listing<'a> {
 
     /// The end of a line: in the row of the text ahead of it, where that came at the same time, and else in a row of its own.
     fn tell_line_end(&mut self, place: u64, time: u64, end: &[u8]) -> Result<(), AllocError> {
-        if self.is_in_text() && self.open.time == time && self.sheet.style().ends_rows() {
+        if self.is_in_text() && self.open.time == time && self.sheet.style.ends_rows() {
             return self.close_open(end);
         }
         self.close()?;
@@ -585,7 +573,7 @@ impl<'a> Listing<'a> {
                 self.tell_line_end(place, time, b"\r\n")
             }
             (b'\n', None) => self.tell_line_end(self.place, self.time, b"\n"),
-            (b'\r', _) if self.sheet.style().joins_lines() => self.hold_return(),
+            (b'\r', _) if self.sheet.style.joins_lines() => self.hold_return(),
             _ => {
                 self.close()?;
                 self.tell_control(self.place, self.time, &[byte])
@@ -603,7 +591,7 @@ impl<'a> Listing<'a> {
             self.open.told = 0;
             self.open.front.clear();
         }
-        let most = if self.sheet.style().holds_all() {
+        let most = if self.sheet.style.holds_all() {
             usize::MAX
         } else {
             FRONT
@@ -613,7 +601,7 @@ impl<'a> Listing<'a> {
             .front
             .extend_from_slice(bytes.get(..room).unwrap_or(bytes))?;
         self.open.len = self.open.len.saturating_add(bytes.len() as u64);
-        if self.sheet.style().tells_pieces() {
+        if self.sheet.style.tells_pieces() {
             self.tell_pieces()
         } else {
             Ok(())
@@ -650,7 +638,7 @@ impl<'a> Listing<'a> {
         if !run.is_empty() {
             let same = self.is_in_text() && self.held.is_none();
             let alone = match control {
-                Some(_) => !self.sheet.style().ends_rows(),
+                Some(_) => !self.sheet.style.ends_rows(),
                 None => over,
             };
             if alone && !same {

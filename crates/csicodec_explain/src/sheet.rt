@@ -6,8 +6,7 @@ use crate::copied::Copied;
 use crate::counts::Names;
 use crate::fields::JsonFields;
 use crate::json::{
-    append_action, append_begin_object, append_decoded, append_end, append_more, append_object,
-    append_string,
+    append_action, append_begin_object, append_decoded, append_end, append_object, append_string,
 };
 use crate::keyed::Keyed;
 use crate::line::{
@@ -40,8 +39,10 @@ fn piece_of(bytes: &[u8]) -> Option<&[u8]> {
 /// The lines of the spans that came, in a buffer that is kept.
 #[derive(Drop)]
 pub struct Sheet<'a> {
-    style: Style<'a>,
-    text: Vec<u8>,
+    /// How and what is told.
+    pub style: Style<'a>,
+    /// The lines, each with its end.
+    pub text: Vec<u8>,
     /// The words of one action.
     words: String,
     /// What is put into a line.
@@ -60,8 +61,10 @@ pub struct Sheet<'a> {
     /// The place of the last span that was told.
     place: Offset,
     known: Remembered,
-    names: Names,
-    totals: Totals,
+    /// How often each name was told, where sums are asked for.
+    pub names: Names,
+    /// How much was told.
+    pub totals: Totals,
     search: Search,
 }
 
@@ -101,26 +104,6 @@ impl<'a> Sheet<'a> {
             totals: Totals::default(),
             search: Search::new(alloc),
         }
-    }
-
-    /// How and what is told.
-    pub fn style(&self) -> &Style<'a> {
-        &self.style
-    }
-
-    /// The lines, each with its end.
-    pub fn lines(&self) -> &[u8] {
-        &self.text
-    }
-
-    /// How often each name was told, where sums are asked for.
-    pub fn names(&self) -> &Names {
-        &self.names
-    }
-
-    /// How much was told.
-    pub fn totals(&self) -> Totals {
-        self.totals
     }
 
     /// Takes the lines away.
@@ -208,7 +191,7 @@ impl<'a> Sheet<'a> {
         };
         self.begin_span(span)?;
         append_object(&mut self.text, span.sort, bytes)?;
-        append_more(&mut self.text)?;
+        self.text.extend_from_slice(b",\"more\":true}\n")?;
         Ok(bytes.len())
     }
 

@@ -1,55 +1,17 @@
 //! A table of the names that were told: how often each was, the bytes of its spans, and their share of all bytes.
 
-use crate::counts::{Names, Sum};
+use crate::counts::Names;
 use std::alloc::{AllocError, Global};
-use std::fmt::{self, Write};
+use std::fmt::Write;
 
 /// The heading of the table.
 const HEADING: &str = "name                         times        bytes    share\n";
-
-/// A line of the table.
-#[derive(Clone, Copy)]
-struct StatsRow<'a> {
-    name: &'a str,
-    sum: Sum,
-    /// Its share of all bytes, in thousandths.
-    share: u64,
-    /// Whether it is an object of JSON.
-    json: bool,
-}
 
 /// What part so many bytes are of all, in thousandths, rounded.
 fn thousandths(bytes: u64, all: u64) -> u64 {
     let half = all / 2;
     let bytes = bytes.saturating_mul(1000).saturating_add(half);
     bytes.checked_div(all).unwrap_or(0)
-}
-
-impl<'a> StatsRow<'a> {
-    fn write_object<W: fmt::Write>(&self, f: &mut fmt::Formatter<W>) -> fmt::Result {
-        let (name, times, bytes) = (self.name, self.sum.times, self.sum.bytes);
-        write!(f, "{{\"kind\":\"stats\",\"name\":\"{name}\"")?;
-        write!(f, ",\"times\":{times},\"bytes\":{bytes}")?;
-        let (whole, tenths) = (self.share / 10, self.share % 10);
-        write!(f, ",\"share\":{whole}.{tenths}}}\n")
-    }
-
-    fn write_line<W: fmt::Write>(&self, f: &mut fmt::Formatter<W>) -> fmt::Result {
-        let (name, times, bytes) = (self.name, self.sum.times, self.sum.bytes);
-        write!(f, "{name:<24}{times:>10}{bytes:>13}")?;
-        let (whole, tenths) = (self.share / 10, self.share % 10);
-        write!(f, "{whole:>6}.{tenths}%\n")
-    }
-}
-
-impl<'a> fmt::Display for StatsRow<'a> {
-    fn fmt<W: fmt::Write>(&self, f: &mut fmt::Formatter<W>) -> fmt::Result {
-        if self.json {
-            self.write_object(f)
-        } else {
-            self.write_line(f)
-        }
-    }
 }
 
 /// The table, names of more bytes first; in JSON an object for each name. A sequence of several actions counts with its bytes for the
@@ -67,13 +29,17 @@ pub fn stats_of(alloc: Global, names: &Names, all: u64, json: bool) -> Result<St
     for (name, sum) in &rows {
         let before = thousandths(bytes, all);
         bytes = bytes.saturating_add(sum.bytes);
-        let row = StatsRow {
-            name: *name,
-            sum: *sum,
-            share: thousandths(bytes, all).saturating_sub(before),
-            json,
-        };
-        write!(out, "{row}")?;
+        let share = thousandths(bytes, all).saturating_sub(before);
+        let (times, own, whole, tenths) = (sum.times, sum.bytes, share / 10, share % 10);
+        if json {
+            write!(
+                out,
+                "{{\"kind\":\"stats\",\"name\":\"{name}\",\"times\":{times}"
+            )?;
+            write!(out, ",\"bytes\":{own},\"share\":{whole}.{tenths}}}\n")?;
+        } else {
+            write!(out, "{name:<24}{times:>10}{own:>13}{whole:>6}.{tenths}%\n")?;
+        }
     }
     Ok(out)
 }

@@ -26,51 +26,15 @@ use Rattle.csicodec_actions.specs.Actions.{Action, Sgr}
 use Rattle.csicodec_streams.specs.Decoding.{Decodes}
 use Rattle.csicodec_streams.proofs.OneReading.{one_sequence}
 use Rattle.csicodec.specs.Compose.{EndsInSemicolon, IsStyleList}
-use Rattle.csicodec.proofs.Compose.{sgr_compose_lem}
+use Rattle.csicodec.proofs.Compose.{apart-joined, apart-semicolon, ends-joined, ends-part, plain-joint, semicolon-spellable, sgr_compose_lem, spellable-joined, spells-joined}
 use Rattle.csicodec_compact.specs.declared.form.TextEnding.{TextEnding}
 use Rattle.csicodec_compact.specs.declared.form.TextEnding.TheVariants as forms
 use Rattle.csicodec_compact.specs.Private.Steps.{is_mark, is_other, is_semicolon, closing, may_join, joint, behind, IsList, IsOpenList, IsTail, IsListed}
 
 -- ---- texts and tokens
 
-semicolon-spellable : IsSpellable semicolon
-semicolon-spellable = ((omega arith, omega arith), λ d. omega (arith, d))
-
-apart-semicolon : (t : CsiParam) (list : List CsiParam) → Apart t (semicolon ∷ list)
-apart-semicolon (Integer z) list = tt
-apart-semicolon (P b) list = tt
-
-apart-joined : (t : CsiParam) (a b : List CsiParam) → Apart t a → Apart t (a ++ semicolon ∷ b)
-apart-joined t [] b h = apart-semicolon t b
-apart-joined (Integer z) (Integer y ∷ a) b h = absurd h
-apart-joined (Integer z) (P c ∷ a) b h = tt
-apart-joined (P c) (u ∷ a) b h = tt
-
-spellable-joined : (a b : List CsiParam) → Spellable a → Spellable b → Spellable (a ++ semicolon ∷ b)
-spellable-joined [] b h k = (semicolon-spellable, tt, k)
-spellable-joined (t ∷ a) b h k = (h.0, apart-joined t a b h.1, spellable-joined a b h.2 k)
-
-spells-joined : (x y : List ℕ) (a b : List CsiParam) → Spells x a → Spells y b → Spells (x ++ 59 ∷ y) (a ++ semicolon ∷ b)
-spells-joined x y [] b h k = (59 ∷ [], y, ap (λ (l : List ℕ). l ++ 59 ∷ y) h, refl, k)
-spells-joined x y (t ∷ a) b h k =
-    (h.0, h.1 ++ 59 ∷ y, ap (λ (l : List ℕ). l ++ 59 ∷ y) h.2 ∙ append_assoc h.0 h.1 (59 ∷ y), h.3, spells-joined h.1 y a b h.4 k)
-
-plain-joined : (a b : List CsiParam) → has_odd Styles a ≡ false → has_odd Styles b ≡ false → has_odd Styles (a ++ semicolon ∷ b) ≡ false
-plain-joined [] b e f = f
-plain-joined (t ∷ ts) b e f = let h = or-parts (is_odd Styles t) (has_odd Styles ts) e in rw h.0 (plain-joined ts b h.1 f)
-
 styles-joined : (a b : List CsiParam) → has_odd Styles a ≡ false → IsStyleList b → IsStyleList (a ++ semicolon ∷ b)
-styles-joined a b e l = record { some = omega (arith, length-append a (semicolon ∷ b)); plain = plain-joined a b e l.plain }
-
--- where a list with more in front ends in `;`, the list does
-pub ends-part : (a us front : List CsiParam) (u : CsiParam) → a ++ u ∷ us ≡ front ++ semicolon ∷ [] → EndsInSemicolon (u ∷ us)
-ends-part [] us front u e = (front, e)
-ends-part (t ∷ a) us [] u e = absurd (omega (arith, ap length e, length-append a (u ∷ us)))
-ends-part (t ∷ a) us (f ∷ front) u e = let others : a ++ u ∷ us ≡ front ++ semicolon ∷ [] = cc in ends-part a us front u others
-
-ends-joined : (a b : List CsiParam) → 0 < length b → EndsInSemicolon (a ++ semicolon ∷ b) → EndsInSemicolon b
-ends-joined a [] some h = absurd (omega (arith, some))
-ends-joined a (u ∷ us) some h = ends-part (a ++ semicolon ∷ []) us h.0 u (append_assoc a (semicolon ∷ []) (u ∷ us) ∙ h.1)
+styles-joined a b e l = record { some = omega (arith, length-append a (semicolon ∷ b)); plain = plain-joint a b e l.plain }
 
 -- a list that begins with `;` is spelled so
 first-byte : (bytes : List ℕ) (list more : List CsiParam) → Spells bytes list → list ≡ semicolon ∷ more → (rest : List ℕ) × (bytes ≡ 59 ∷ rest)

@@ -26,12 +26,11 @@ use Rattle.csicodec_parser.specs.Segments.{Actions}
 use Rattle.csicodec_parser.specs.declared.group.Group.TheVariants.{Styles}
 use Rattle.csicodec_parser.proofs.GroupOf.{or-parts}
 use Rattle.csicodec.specs.Compose.{EndsInSemicolon, IsStyleList}
-use Rattle.csicodec.proofs.Compose.{sgr_compose_lem}
+use Rattle.csicodec.proofs.Compose.{ends-joined, plain-joint, sgr_compose_lem, spellable-joined, spells-joined}
 use Rattle.csicodec.proofs.SgrSpelling.{sgr-spelling}
 use Rattle.csicodec_terminal.specs.Terminal.{IsTakenFor, has_unknown}
 use Rattle.csicodec_clean.specs.Styled.{IsOf, hides}
 use Rattle.csicodec_clean.proofs.Coded.{AreCodes, coded, codes_parts, none_open, same_ends, unended}
-use Rattle.csicodec_clean.proofs.Taken.{semicolon-spellable}
 use Rattle.csicodec_html.specs.declared.look.Look.{Look}
 use Rattle.csicodec_html.specs.Look.{is_default, is_none, is_normal}
 use Rattle.csicodec_overwrite.specs.Paint.{IsInRange, attributes, further, given, look_text}
@@ -122,39 +121,6 @@ some_tokens bs (t ∷ list) s some = omega arith
 
 -- ---- lists that are joined at a `;`
 
-apart-semicolon : (t : CsiParam) (list : List CsiParam) → Apart t (semicolon ∷ list)
-apart-semicolon (Integer z) list = tt
-apart-semicolon (P b) list = tt
-
-apart-joined : (t : CsiParam) (a b : List CsiParam) → Apart t a → Apart t (a ++ semicolon ∷ b)
-apart-joined t [] b h = apart-semicolon t b
-apart-joined (Integer z) (Integer y ∷ a) b h = absurd h
-apart-joined (Integer z) (P c ∷ a) b h = tt
-apart-joined (P c) (u ∷ a) b h = tt
-
-spellable-joined : (a b : List CsiParam) → Spellable a → Spellable b → Spellable (a ++ semicolon ∷ b)
-spellable-joined [] b h k = (semicolon-spellable, tt, k)
-spellable-joined (t ∷ a) b h k = (h.0, apart-joined t a b h.1, spellable-joined a b h.2 k)
-
-spells-joined : (x y : List ℕ) (a b : List CsiParam) → Spells x a → Spells y b → Spells (x ++ 59 ∷ y) (a ++ semicolon ∷ b)
-spells-joined x y [] b h k = (59 ∷ [], y, ap (λ (l : List ℕ). l ++ 59 ∷ y) h, refl, k)
-spells-joined x y (t ∷ a) b h k =
-    (h.0, h.1 ++ 59 ∷ y, ap (λ (l : List ℕ). l ++ 59 ∷ y) h.2 ∙ append_assoc h.0 h.1 (59 ∷ y), h.3, spells-joined h.1 y a b h.4 k)
-
-plain-joined : (a b : List CsiParam) → has_odd Styles a ≡ false → has_odd Styles b ≡ false → has_odd Styles (a ++ semicolon ∷ b) ≡ false
-plain-joined [] b e f = f
-plain-joined (t ∷ ts) b e f = let h = or-parts (is_odd Styles t) (has_odd Styles ts) e in rw h.0 (plain-joined ts b h.1 f)
-
--- where a list with more in front ends in `;`, the list does
-ends-part : (a us front : List CsiParam) (u : CsiParam) → a ++ u ∷ us ≡ front ++ semicolon ∷ [] → EndsInSemicolon (u ∷ us)
-ends-part [] us front u e = (front, e)
-ends-part (t ∷ a) us [] u e = absurd (omega (arith, ap length e, length-append a (u ∷ us)))
-ends-part (t ∷ a) us (f ∷ front) u e = let others : a ++ u ∷ us ≡ front ++ semicolon ∷ [] = cc in ends-part a us front u others
-
-ends-joined : (a b : List CsiParam) → 0 < length b → EndsInSemicolon (a ++ semicolon ∷ b) → EndsInSemicolon b
-ends-joined a [] some h = absurd (omega (arith, some))
-ends-joined a (u ∷ us) some h = ends-part (a ++ semicolon ∷ []) us h.0 u (append_assoc a (semicolon ∷ []) (u ∷ us) ∙ h.1)
-
 -- bytes that are a list of these attributes, and may go on
 record Open (bytes : List ℕ) (styles : List Sgr) : Type 0 where
   list : List CsiParam
@@ -197,7 +163,7 @@ more_open bytes done s o h =
       list = o.list ++ semicolon ∷ next.list;
       spellable = spellable-joined o.list next.list o.spellable next.spellable;
       spelled = spells-joined bytes (take (length (sgr_text s) - 1) (sgr_text s)) o.list next.list o.spelled next.spelled;
-      plain = record { some = omega (arith, length-append o.list (semicolon ∷ next.list)); plain = plain-joined o.list next.list o.plain.plain next.plain.plain };
+      plain = record { some = omega (arith, length-append o.list (semicolon ∷ next.list)); plain = plain-joint o.list next.list o.plain.plain next.plain.plain };
       unended = λ ends. next.unended (ends-joined o.list next.list next.plain.some ends);
       means = subst (Actions (o.list ++ semicolon ∷ next.list) false 109) (sym (map-append action.Sgr done (s ∷ [])))
           (sgr_compose_lem o.list next.list false o.plain next.plain o.unended done (action.Sgr s ∷ []) o.means next.means);

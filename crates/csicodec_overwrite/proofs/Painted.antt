@@ -115,20 +115,20 @@ alike_on marking look cell behind rest text old mid new whole (n, split, none, i
     ∙ ap (λ (t : List ℕ). (mid ++ one) ++ t) (sym (ap (paint marking next) split ∙ alike_paint marking look cell rest n (is_empty cell) refl none))
     ∙ painted_on marking look cell behind old mid (mid ++ one) whole e refl h
 
-pub same_glyph : (look : Look) (g : Glyph) → same look g.look ≡ true → Char g ≡ Char (glyph g.char look)
-same_glyph look g is = ap (λ (l : Look). Char (glyph g.char l)) (sym (look_one look g.look is))
+pub same_look : (look : Look) (g : Glyph) → same look g.look ≡ true → look_of look (Char g) ≡ look
+same_look look g is = sym (look_one look g.look is)
 
 -- one more that looks the same
-pub same_on : (marking : Marking) (look : Look) (all cells behind : List Cell) (cell : Cell) (c : ℕ) (text old mid new : List ℕ)
-    → paint marking look all ≡ text ++ paint marking look cells → cells ≡ cell ∷ behind → cell ≡ Char (glyph c look) → mid ≡ old ++ text
-    → new ≡ mid ++ written marking (c ∷ [])
+pub same_on : (marking : Marking) (look : Look) (all cells behind : List Cell) (cell : Cell) (text old mid new : List ℕ)
+    → paint marking look all ≡ text ++ paint marking look cells → cells ≡ cell ∷ behind → look_of look cell ≡ look → mid ≡ old ++ text
+    → new ≡ mid ++ written marking (chars_of cell)
     → (more : List ℕ) × (paint marking look all ≡ more ++ paint marking look behind) × (new ≡ old ++ more)
-same_on marking look all cells behind cell c text old mid new split first is e f =
-    let one = written marking (c ∷ []) in
+same_on marking look all cells behind cell text old mid new split first is e f =
+    let one = written marking (chars_of cell) in
     let later = paint marking look behind in
     let next : paint marking look cells ≡ one ++ later =
     ap (paint marking look) first
-    ∙ ap (λ (x : Cell). paint marking look (x ∷ behind)) is
+    ∙ ap (λ (n : Look). turn marking look n ++ (one ++ paint marking n behind)) is
     ∙ ap (λ (t : List ℕ). t ++ (one ++ later)) (turn_same marking look) in (
       text ++ one,
       split ∙ ap (λ (t : List ℕ). text ++ t) next ∙ sym (append_assoc text one later),

@@ -12,7 +12,6 @@ ghost use Rattle.csicodec_overwrite.specs.declared.marking.Marking.TheVariants.{
 
 use crate::cells::Cell;
 use crate::marking::Marking;
-use bstr::ByteVec;
 use csicodec_base::{ColorSpec, Intensity, Sgr, Underline};
 use csicodec_html::{Look, Markup, append_text, append_turn as append_tags};
 use csicodec_tokens::Text;
@@ -202,6 +201,29 @@ pub(crate) fn append_ascii(
     }
 }
 
+/// Appends a character beyond ASCII, whose bytes are few enough to be pushed one by one.
+#[inline(never)]
+fn append_beyond(char: char, out: &mut Vec<u8>) -> Result<(), AllocError>
+    ensures { OnOk result (out.new.items ≡ out.old.items ++ encode_utf8_all (char ∷ [])) }
+{
+    let mut buffer = [0; 4];
+    let bytes = char.encode_utf8(&mut buffer).as_bytes();
+    out.reserve(bytes.len())?;
+    match *bytes {
+        [first, second] => {
+            out.push_reserved(first);
+            out.push_reserved(second);
+        }
+        [first, second, third] => {
+            out.push_reserved(first);
+            out.push_reserved(second);
+            out.push_reserved(third);
+        }
+        _ => out.extend_from_slice(bytes)?,
+    }
+    Ok(())
+}
+
 /// Appends a character of text.
 #[inline(always)]
 fn append_char(char: char, out: &mut Vec<u8>) -> Result<(), AllocError>
@@ -210,7 +232,7 @@ fn append_char(char: char, out: &mut Vec<u8>) -> Result<(), AllocError>
     if char < '\u{80}' {
         return Ok(out.push(char as u8)?);
     }
-    out.push_char(char)
+    append_beyond(char, out)
 }
 
 /// Whether it stands on a page as a reference.
@@ -324,10 +346,13 @@ fn append_ascii_front<'a>(cells: &'a [Cell], out: &mut Vec<u8>) -> Result<&'a [C
     out.reserve(cells.len())?;
     let mut rest = cells;
     while let Some((cell, behind)) = rest.split_first() {
-        let Some(byte) = ascii_of(cell) else {
-            return Ok(rest);
-        };
-        out.push_reserved(byte);
+        // What stands behind a wide character is passed.
+        if !matches!(cell, Cell::Behind) {
+            let Some(byte) = ascii_of(cell) else {
+                return Ok(rest);
+            };
+            out.push_reserved(byte);
+        }
         rest = behind;
     }
     Ok(rest)
@@ -346,18 +371,6 @@ fn append_plain(cells: &[Cell], out: &mut Vec<u8>) -> Result<(), AllocError>
     Ok(())
 }
 
-/// The character of a cell, if it has one that looks so.
-#[inline(always)]
-#[tactic(auto, using(crate::proofs::Painted::same_glyph))]
-fn char_alike(look: &Look, cell: &Cell) -> Option<char>
-    ensures { IfSome result (λ char. cell.now ≡ Char (glyph char look.now)) }
-{
-    match cell {
-        Cell::Char(glyph) if same(look, &glyph.look) => Some(glyph.char),
-        _ => None,
-    }
-}
-
 /// Appends the characters in front that look so, and answers the cells behind them.
 #[inline(never)]
 fn append_same_look<'a>(
@@ -373,10 +386,13 @@ fn append_same_look<'a>(
 {
     let mut rest = cells;
     while let Some((cell, behind)) = rest.split_first() {
-        let Some(char) = char_alike(look, cell) else {
-            return Ok(rest);
-        };
-        append_written(marking, char, out)?;
+        match cell {
+            Cell::Char(glyph) if same(look, &glyph.look) => {
+                append_written(marking, glyph.char, out)?;
+            }
+            Cell::Behind => (),
+            _ => return Ok(rest),
+        }
         rest = behind;
     }
     Ok(rest)

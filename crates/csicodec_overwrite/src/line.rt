@@ -5,8 +5,9 @@ ghost use Rattle.csicodec_overwrite.specs.Cells.{columns, glyph, onto};
 ghost use Rattle.csicodec_overwrite.specs.Line.{alters, behind_columns, blank, cells_of, delete, do_all, does_here, entered, erase, erase_all, erase_left, erase_right, fits, forward, insert, line, lines_of, parted, pen_behind_all, placed, put, repeated, size, widest};
 ghost use Rattle.csicodec_overwrite.specs.Paint.{ended, text_of, texts_of};
 ghost use Rattle.csicodec_overwrite.specs.Private.Plain.{IsLineByte, PutsRun};
-ghost use Rattle.csicodec_overwrite.specs.Private.Row.{IsHere, settled};
+ghost use Rattle.csicodec_overwrite.specs.Private.Row.{Does, DoesAll, IsHere, settled};
 ghost use Rattle.csicodec_overwrite.specs.Private.Sides.{placed_many};
+ghost use Rattle.csicodec_overwrite.specs.Reading.{most};
 ghost use Rattle.csicodec_overwrite.specs.Steps.{of_chars};
 ghost use Rattle.csicodec_overwrite.specs.declared.step.Step.TheVariants.{Tab};
 
@@ -18,6 +19,7 @@ use crate::pen::Pen;
 use crate::sides::{delete_columns, erase_columns, loosen, undo};
 use crate::step::{Step, WIDEST};
 use crate::width::width;
+use csicodec_spans::LIMIT;
 use std::alloc::{AllocError, Global};
 
 /// A line and its cursor, between two of its cells.
@@ -48,28 +50,28 @@ impl Line {
     }
 
     /// How many cells it has room for.
-    fn room(&self, limit: usize) -> usize
-        ensures { result ≡ limit - size self.now }
+    fn room(&self) -> usize
+        ensures { result ≡ most - size self.now }
     {
-        let room = limit.saturating_sub(self.left.len());
+        let room = LIMIT.saturating_sub(self.left.len());
         room.saturating_sub(self.right.len())
     }
 
     /// Whether it has room for a character of so many columns.
     #[tactic(auto, using(crate::proofs::Moved::fits_within))]
-    fn fits(&self, limit: usize, columns: usize) -> bool
-        ensures { result ≡ fits limit columns self.now }
+    fn fits(&self, columns: usize) -> bool
+        ensures { result ≡ fits most columns self.now }
     {
-        columns.max(1) <= self.room(limit)
+        columns.max(1) <= self.room()
     }
 
     /// So many columns to the right.
-    fn forward(&mut self, limit: usize, count: usize) -> Result<(), AllocError>
-        ensures { OnOk result (self.new ≡ forward limit count self.old) }
+    fn forward(&mut self, count: usize) -> Result<(), AllocError>
+        ensures { OnOk result (self.new ≡ forward most count self.old) }
     {
         let missing = count.saturating_sub(self.right.columns());
         self.right.give_over(&mut self.left, count)?;
-        let some = missing.min(self.room(limit));
+        let some = missing.min(self.room());
         self.left.push_empty(some)
     }
 
@@ -81,38 +83,38 @@ impl Line {
     }
 
     /// The columns left of the cursor, where it is to go behind so many.
-    fn reached(&self, limit: usize, count: usize) -> usize
-        ensures { result ≡ columns (behind_columns limit count self.now).left }
+    fn reached(&self, count: usize) -> usize
+        ensures { result ≡ columns (behind_columns most count self.now).left }
     {
         let missing = count.saturating_sub(self.left.columns());
         let missing = missing.saturating_sub(self.right.columns());
-        count.saturating_sub(missing.saturating_sub(self.room(limit)))
+        count.saturating_sub(missing.saturating_sub(self.room()))
     }
 
     /// The columns left of the cursor, where it stands or is to go.
-    pub(crate) fn column(&self, limit: usize, to: Option<usize>) -> usize
-        ensures { result ≡ columns (settled limit to self.now).left }
+    pub(crate) fn column(&self, to: Option<usize>) -> usize
+        ensures { result ≡ columns (settled most to self.now).left }
     {
         match to {
-            Some(count) => self.reached(limit, count),
+            Some(count) => self.reached(count),
             None => self.left.columns(),
         }
     }
 
     /// Behind so many columns.
-    fn behind_columns(&mut self, limit: usize, count: usize) -> Result<(), AllocError>
-        ensures { OnOk result (self.new ≡ behind_columns limit count self.old) }
+    fn behind_columns(&mut self, count: usize) -> Result<(), AllocError>
+        ensures { OnOk result (self.new ≡ behind_columns most count self.old) }
     {
         let column = self.left.columns();
         self.left
             .give_back(&mut self.right, column.saturating_sub(count))?;
-        self.forward(limit, count.saturating_sub(column))
+        self.forward(count.saturating_sub(column))
     }
 
     /// Puts the columns that it lacks where the cursor is to go, which then goes elsewhere.
-    pub(crate) fn pad(&mut self, limit: usize, to: Option<usize>) -> Result<(), AllocError>
+    pub(crate) fn pad(&mut self, to: Option<usize>) -> Result<(), AllocError>
         ensures { OnOk result ((n : _)
-            → behind_columns limit n self.new ≡ behind_columns limit n (settled limit to self.old)) }
+            → behind_columns most n self.new ≡ behind_columns most n (settled most to self.old)) }
     {
         let Some(at) = to else {
             return Ok(());
@@ -120,23 +122,23 @@ impl Line {
         if self.has_columns(at) {
             return Ok(());
         }
-        self.behind_columns(limit, at)
+        self.behind_columns(at)
     }
 
     /// To where the cursor is to go, if it doesn't stand there.
     #[inline(always)]
-    pub(crate) fn settle(&mut self, limit: usize, to: Option<usize>) -> Result<(), AllocError>
-        ensures { OnOk result (self.new ≡ settled limit to self.old) }
+    pub(crate) fn settle(&mut self, to: Option<usize>) -> Result<(), AllocError>
+        ensures { OnOk result (self.new ≡ settled most to self.old) }
     {
         match to {
-            Some(count) => self.behind_columns(limit, count),
+            Some(count) => self.behind_columns(count),
             None => Ok(()),
         }
     }
 
     /// Whether it is longer than a terminal's row, with the cursor where it stands or is to go.
-    fn is_long(&self, limit: usize, to: Option<usize>) -> bool
-        ensures { result ≡ nat_lt widest (size (settled limit to self.now)) }
+    fn is_long(&self, to: Option<usize>) -> bool
+        ensures { result ≡ nat_lt widest (size (settled most to self.now)) }
     {
         let len = self.left.len().saturating_add(self.right.len());
         let Some(count) = to else {
@@ -144,12 +146,12 @@ impl Line {
         };
         let missing = count.saturating_sub(self.left.columns());
         let missing = missing.saturating_sub(self.right.columns());
-        (WIDEST as usize) < len.saturating_add(missing.min(self.room(limit)))
+        (WIDEST as usize) < len.saturating_add(missing.min(self.room()))
     }
 
     /// Whether something stands right of the cursor where it stands or is to go.
     pub(crate) fn has_right(&self, to: Option<usize>) -> bool
-        ensures { (limit : ℕ) → result ≡ nat_lt 0 (length (settled limit to self.now).right) }
+        ensures { result ≡ nat_lt 0 (length (settled most to self.now).right) }
     {
         match to {
             Some(count) => {
@@ -162,7 +164,7 @@ impl Line {
 
     /// Whether the step alters what stands in the line, done where the cursor stands or is to go.
     fn alters(&self, to: Option<usize>, step: &Step) -> bool
-        ensures { (limit : ℕ) → result ≡ alters step.now (settled limit to self.now) }
+        ensures { result ≡ alters step.now (settled most to self.now) }
     {
         match *step {
             Step::EraseLeft | Step::EraseAll => true,
@@ -180,24 +182,21 @@ impl Line {
     #[inline(always)]
     pub(crate) fn enter(
         &mut self,
-        limit: usize,
         to: Option<usize>,
         step: &Step,
         marking: &Marking,
         out: &mut Vec<u8>,
     ) -> Result<(), AllocError>
-        ensures line { OnOk result
-            (self.new ≡ (entered limit step.now (settled limit to self.old)).line) }
-        ensures text { OnOk result (out.new.items ≡ out.old.items
-            ++ texts_of marking.now (entered limit step.now (settled limit to self.old)).lines) }
+        ensures { OnOk result (Does marking.now (entered most step.now (settled most to self.old))
+            self.new out.old.items out.new.items) }
     {
-        if self.alters(to, step) && self.is_long(limit, to) {
-            let column = self.column(limit, to).min(WIDEST as usize - 1);
+        if self.alters(to, step) && self.is_long(to) {
+            let column = self.column(to).min(WIDEST as usize - 1);
             self.end_some(marking, out)?;
-            self.forward(limit, column)?;
+            self.forward(column)?;
             return Ok(());
         }
-        self.settle(limit, to)
+        self.settle(to)
     }
 
     /// Empties the columns of a character in which the cursor stands.
@@ -255,11 +254,11 @@ impl Line {
     }
 
     /// Inserts so many empty columns.
-    fn insert(&mut self, limit: usize, count: u32) -> Result<(), AllocError>
-        ensures { OnOk result (self.new ≡ insert limit count self.old) }
+    fn insert(&mut self, count: u32) -> Result<(), AllocError>
+        ensures { OnOk result (self.new ≡ insert most count self.old) }
     {
         self.part()?;
-        let some = (count as usize).min(self.room(limit));
+        let some = (count as usize).min(self.room());
         self.right.shift();
         self.right.push_empty(some)
     }
@@ -362,23 +361,20 @@ impl Line {
     /// Puts a character, on a line of its own where this has no room for it.
     fn put(
         &mut self,
-        limit: usize,
         pen: &Pen,
         char: char,
         marking: &Marking,
         out: &mut Vec<u8>,
     ) -> Result<(), AllocError>
-        ensures line { OnOk result
-            (self.new ≡ (put limit pen.now.inserts (glyph char pen.now.look) self.old).line) }
-        ensures text { OnOk result (out.new.items ≡ out.old.items
-            ++ texts_of marking.now (put limit pen.now.inserts (glyph char pen.now.look) self.old).lines) }
+        ensures { OnOk result (Does marking.now (put most pen.now.inserts (glyph char pen.now.look) self.old)
+            self.new out.old.items out.new.items) }
     {
         let glyph = Glyph {
             char,
             look: pen.look,
         };
         let columns = width(char, self.left.columns());
-        if self.fits(limit, columns) {
+        if self.fits(columns) {
             return self.place(pen.inserts, glyph, columns);
         }
         self.end(marking, out)?;
@@ -386,11 +382,11 @@ impl Line {
     }
 
     /// Whether it has room for so many characters of so many columns, one or more.
-    fn has_room(&self, limit: usize, columns: usize, count: usize) -> bool
-        ensures { result ≡ true → (0 < count) × (size self.now + count * columns ≤ limit) }
+    fn has_room(&self, columns: usize, count: usize) -> bool
+        ensures { result ≡ true → (0 < count) × (size self.now + count * columns ≤ most) }
     {
         match count.checked_mul(columns) {
-            Some(all) => 0 < count && 0 < all && all <= self.room(limit),
+            Some(all) => 0 < count && 0 < all && all <= self.room(),
             None => false,
         }
     }
@@ -398,22 +394,19 @@ impl Line {
     /// Puts the character again that was put last, so many times, if there is one.
     fn repeat(
         &mut self,
-        limit: usize,
         pen: &Pen,
         count: u32,
         marking: &Marking,
         out: &mut Vec<u8>,
     ) -> Result<(), AllocError>
-        ensures line { OnOk result
-            (self.new ≡ (repeated limit pen.now pen.now.last count self.old).line) }
-        ensures text { OnOk result (out.new.items ≡ out.old.items
-            ++ texts_of marking.now (repeated limit pen.now pen.now.last count self.old).lines) }
+        ensures { OnOk result (Does marking.now (repeated most pen.now pen.now.last count self.old)
+            self.new out.old.items out.new.items) }
     {
         let Some(char) = pen.last else {
             return Ok(());
         };
         let columns = width(char, 0);
-        if char != '\t' && columns > 0 && self.has_room(limit, columns, count as usize) {
+        if char != '\t' && columns > 0 && self.has_room(columns, count as usize) {
             let glyph = Glyph {
                 char,
                 look: pen.look,
@@ -423,55 +416,46 @@ impl Line {
         }
         let mut left = count;
         while left > 0 {
-            self.put(limit, pen, char, marking, out)?;
+            self.put(pen, char, marking, out)?;
             left -= 1;
         }
         Ok(())
     }
 
     /// On to the next tab stop.
-    fn tab(
-        &mut self,
-        limit: usize,
-        pen: &Pen,
-        marking: &Marking,
-        out: &mut Vec<u8>,
-    ) -> Result<(), AllocError>
-        ensures line { OnOk result (self.new ≡ (does_here limit pen.now Tab self.old).line) }
-        ensures text { OnOk result
-            (out.new.items ≡ out.old.items ++ texts_of marking.now (does_here limit pen.now Tab self.old).lines) }
+    fn tab(&mut self, pen: &Pen, marking: &Marking, out: &mut Vec<u8>) -> Result<(), AllocError>
+        ensures { OnOk result (Does marking.now (does_here most pen.now Tab self.old)
+            self.new out.old.items out.new.items) }
     {
         if self.right.len() == 0 {
-            return self.put(limit, pen, '\t', marking, out);
+            return self.put(pen, '\t', marking, out);
         }
         let count = width('\t', self.left.columns());
-        self.forward(limit, count)
+        self.forward(count)
     }
 
     /// Does a step where the cursor stands, and appends the lines that are over with it.
     pub(crate) fn act(
         &mut self,
-        limit: usize,
         pen: &Pen,
         step: &Step,
         marking: &Marking,
         out: &mut Vec<u8>,
     ) -> Result<(), AllocError>
         requires { IsHere step.now }
-        ensures line { OnOk result (self.new ≡ (does_here limit pen.now step.now self.old).line) }
-        ensures text { OnOk result
-            (out.new.items ≡ out.old.items ++ texts_of marking.now (does_here limit pen.now step.now self.old).lines) }
+        ensures { OnOk result (Does marking.now (does_here most pen.now step.now self.old)
+            self.new out.old.items out.new.items) }
     {
         match *step {
-            Step::Put(char) => self.put(limit, pen, char, marking, out),
-            Step::Repeat(count) => self.repeat(limit, pen, count, marking, out),
-            Step::Tab => self.tab(limit, pen, marking, out),
+            Step::Put(char) => self.put(pen, char, marking, out),
+            Step::Repeat(count) => self.repeat(pen, count, marking, out),
+            Step::Tab => self.tab(pen, marking, out),
             Step::EraseRight => self.erase_right(),
             Step::EraseLeft => self.erase_left(),
             Step::EraseAll => self.erase_all(),
             Step::Erase(count) => self.erase(count),
             Step::Delete(count) => self.delete(count),
-            Step::Insert(count) => self.insert(limit, count),
+            Step::Insert(count) => self.insert(count),
             _ => Ok(()),
         }
     }
@@ -493,20 +477,15 @@ impl Line {
     /// Puts the characters in front that take one cell each, behind all that stands there, and answers the others.
     #[inline(always)]
     #[tactic(auto, using(crate::proofs::Straight::run_none))]
-    fn put_run<'a>(
-        &mut self,
-        limit: usize,
-        pen: &mut Pen,
-        text: &'a [u8],
-    ) -> Result<&'a [u8], AllocError>
+    fn put_run<'a>(&mut self, pen: &mut Pen, text: &'a [u8]) -> Result<&'a [u8], AllocError>
         requires { AllByRecursion IsLineByte text.now }
         ensures { IfOk result
-            (λ rest. PutsRun limit pen.old self.old text.now rest.now pen.new self.new) }
+            (λ rest. PutsRun most pen.old self.old text.now rest.now pen.new self.new) }
     {
         if !self.goes_behind(pen) {
             return Ok(text);
         }
-        let (run, rest) = split_run(text, self.room(limit));
+        let (run, rest) = split_run(text, self.room());
         let Some((last, _front)) = run.split_last() else {
             return Ok(text);
         };
@@ -518,28 +497,23 @@ impl Line {
     /// The same of the steps of text of ASCII without a control but tabs.
     pub(crate) fn put_text(
         &mut self,
-        limit: usize,
         pen: &mut Pen,
         text: &[u8],
         marking: &Marking,
         out: &mut Vec<u8>,
     ) -> Result<(), AllocError>
         requires { AllByRecursion IsLineByte text.now }
-        ensures line { OnOk result
-            (self.new ≡ (do_all limit pen.old (of_chars text.now) self.old).line) }
-        ensures pen { OnOk result
-            (pen.new ≡ pen_behind_all limit pen.old (of_chars text.now) self.old) }
-        ensures text { OnOk result (out.new.items ≡ out.old.items
-            ++ texts_of marking.now (do_all limit pen.old (of_chars text.now) self.old).lines) }
+        ensures { OnOk result (DoesAll marking.now (of_chars text.now)
+            pen.old pen.new self.old self.new out.old.items out.new.items) }
     {
-        let mut rest = self.put_run(limit, pen, text)?;
+        let mut rest = self.put_run(pen, text)?;
         while let Some((byte, behind)) = rest.split_first() {
             let step = plain_step(*byte);
             let column = self.left.columns();
-            self.enter(limit, None, &step, marking, out)?;
-            self.act(limit, pen, &step, marking, out)?;
+            self.enter(None, &step, marking, out)?;
+            self.act(pen, &step, marking, out)?;
             pen.take(step, column);
-            rest = self.put_run(limit, pen, behind)?;
+            rest = self.put_run(pen, behind)?;
         }
         Ok(())
     }

@@ -2,10 +2,10 @@
 ghost use Rattle.std.specs.Prelude.{◌≡◌, ◌++◌, true, OnOk};
 ghost use Rattle.std.specs.List.{AllByRecursion};
 ghost use Rattle.csicodec_overwrite.specs.Cells.{columns};
-ghost use Rattle.csicodec_overwrite.specs.Line.{backward, behind_columns, blank, cells_of, do_all, does, forward, from_stop, in_row, leave, lines_of, pen_behind, pen_behind_all, restored, rightward, target, to_stop};
+ghost use Rattle.csicodec_overwrite.specs.Line.{backward, behind_columns, blank, cells_of, do_all, done, does, forward, from_stop, in_row, leave, lines_of, pen_behind, pen_behind_all, restored, rightward, target, to_stop};
 ghost use Rattle.csicodec_overwrite.specs.Paint.{ended, text_of, texts_of};
 ghost use Rattle.csicodec_overwrite.specs.Private.Plain.{IsLineByte};
-ghost use Rattle.csicodec_overwrite.specs.Private.Row.{IsHere};
+ghost use Rattle.csicodec_overwrite.specs.Private.Row.{Does, DoesAll, IsHere};
 ghost use Rattle.csicodec_overwrite.specs.Reading.{most};
 ghost use Rattle.csicodec_overwrite.specs.Steps.{of_chars};
 ghost use Rattle.csicodec_overwrite.specs.declared.step.Step.TheVariants.{Tab};
@@ -16,7 +16,6 @@ use crate::marking::Marking;
 use crate::pen::{Pen, set_look};
 use crate::step::{Step, WIDEST};
 use crate::width::width;
-use csicodec_spans::LIMIT;
 use std::alloc::{AllocError, Global};
 use std::marker::Model;
 
@@ -63,14 +62,14 @@ impl Row {
     fn column(&self) -> usize
         ensures { result ≡ columns self.now.left }
     {
-        self.line.column(LIMIT, self.to)
+        self.line.column(self.to)
     }
 
     /// Behind so many columns.
     fn go(&mut self, count: usize) -> Result<(), AllocError>
         ensures { OnOk result (self.new ≡ behind_columns most count self.old) }
     {
-        self.line.pad(LIMIT, self.to)?;
+        self.line.pad(self.to)?;
         self.to = Some(count);
         Ok(())
     }
@@ -126,9 +125,8 @@ impl Row {
         marking: &Marking,
         out: &mut Vec<u8>,
     ) -> Result<(), AllocError>
-        ensures line { OnOk result (self.new ≡ forward most count blank) }
-        ensures text { OnOk result
-            (out.new.items ≡ out.old.items ++ texts_of marking.now (lines_of self.old)) }
+        ensures { OnOk result (Does marking.now (done (lines_of self.old) (forward most count blank))
+            self.new out.old.items out.new.items) }
     {
         self.line.end_some(marking, out)?;
         self.to = Some(count);
@@ -153,9 +151,8 @@ impl Row {
         marking: &Marking,
         out: &mut Vec<u8>,
     ) -> Result<(), AllocError>
-        ensures line { OnOk result (self.new ≡ (leave most to self.old).line) }
-        ensures text { OnOk result
-            (out.new.items ≡ out.old.items ++ texts_of marking.now (leave most to self.old).lines) }
+        ensures { OnOk result (Does marking.now (leave most to self.old)
+            self.new out.old.items out.new.items) }
     {
         let column = self.target(to);
         self.go_on(column, marking, out)
@@ -173,9 +170,8 @@ impl Row {
 
     /// To the saved place, or to another row.
     fn restore(&mut self, pen: &Pen, marking: &Marking, out: &mut Vec<u8>) -> Result<(), AllocError>
-        ensures line { OnOk result (self.new ≡ (restored most pen.now self.old).line) }
-        ensures text { OnOk result
-            (out.new.items ≡ out.old.items ++ texts_of marking.now (restored most pen.now self.old).lines) }
+        ensures { OnOk result (Does marking.now (restored most pen.now self.old)
+            self.new out.old.items out.new.items) }
     {
         if pen.here {
             return self.go(pen.saved);
@@ -218,20 +214,18 @@ impl Row {
         out: &mut Vec<u8>,
     ) -> Result<(), AllocError>
         requires { IsHere step.now }
-        ensures line { OnOk result (self.new ≡ (does most pen.now step.now self.old).line) }
-        ensures text { OnOk result
-            (out.new.items ≡ out.old.items ++ texts_of marking.now (does most pen.now step.now self.old).lines) }
+        ensures { OnOk result (Does marking.now (does most pen.now step.now self.old)
+            self.new out.old.items out.new.items) }
     {
-        self.line.enter(LIMIT, self.to, step, marking, out)?;
+        self.line.enter(self.to, step, marking, out)?;
         self.to = None;
-        self.line.act(LIMIT, pen, step, marking, out)
+        self.line.act(pen, step, marking, out)
     }
 
     /// On to the next tab stop.
     fn tab(&mut self, pen: &Pen, marking: &Marking, out: &mut Vec<u8>) -> Result<(), AllocError>
-        ensures line { OnOk result (self.new ≡ (does most pen.now Tab self.old).line) }
-        ensures text { OnOk result
-            (out.new.items ≡ out.old.items ++ texts_of marking.now (does most pen.now Tab self.old).lines) }
+        ensures { OnOk result (Does marking.now (does most pen.now Tab self.old)
+            self.new out.old.items out.new.items) }
     {
         if self.line.has_right(self.to) {
             return self.forward(width('\t', self.column()));
@@ -247,9 +241,8 @@ impl Row {
         marking: &Marking,
         out: &mut Vec<u8>,
     ) -> Result<(), AllocError>
-        ensures line { OnOk result (self.new ≡ (does most pen.now step.now self.old).line) }
-        ensures text { OnOk result
-            (out.new.items ≡ out.old.items ++ texts_of marking.now (does most pen.now step.now self.old).lines) }
+        ensures { OnOk result (Does marking.now (does most pen.now step.now self.old)
+            self.new out.old.items out.new.items) }
     {
         match *step {
             Step::Column(column) => self.go(column.saturating_sub(1) as usize),
@@ -276,10 +269,9 @@ impl Row {
         marking: &Marking,
         out: &mut Vec<u8>,
     ) -> Result<(), AllocError>
-        ensures line { OnOk result (self.new ≡ (does most pen.old step.now self.old).line) }
+        ensures does { OnOk result (Does marking.now (does most pen.old step.now self.old)
+            self.new out.old.items out.new.items) }
         ensures pen { OnOk result (pen.new ≡ pen_behind pen.old step.now (columns self.old.left)) }
-        ensures text { OnOk result
-            (out.new.items ≡ out.old.items ++ texts_of marking.now (does most pen.old step.now self.old).lines) }
     {
         match *step {
             Step::Other => pen.last = None,
@@ -305,11 +297,8 @@ impl Row {
         marking: &Marking,
         out: &mut Vec<u8>,
     ) -> Result<(), AllocError>
-        ensures line { OnOk result
-            (self.new ≡ (do_all most pen.old steps.now self.old).line) }
-        ensures pen { OnOk result (pen.new ≡ pen_behind_all most pen.old steps.now self.old) }
-        ensures text { OnOk result (out.new.items
-            ≡ out.old.items ++ texts_of marking.now (do_all most pen.old steps.now self.old).lines) }
+        ensures { OnOk result (DoesAll marking.now steps.now
+            pen.old pen.new self.old self.new out.old.items out.new.items) }
     {
         let mut rest = steps;
         while let Some((step, behind)) = rest.split_first() {
@@ -328,12 +317,8 @@ impl Row {
         out: &mut Vec<u8>,
     ) -> Result<(), AllocError>
         requires { AllByRecursion IsLineByte text.now }
-        ensures line { OnOk result
-            (self.new ≡ (do_all most pen.old (of_chars text.now) self.old).line) }
-        ensures pen { OnOk result
-            (pen.new ≡ pen_behind_all most pen.old (of_chars text.now) self.old) }
-        ensures text { OnOk result (out.new.items ≡ out.old.items
-            ++ texts_of marking.now (do_all most pen.old (of_chars text.now) self.old).lines) }
+        ensures { OnOk result (DoesAll marking.now (of_chars text.now)
+            pen.old pen.new self.old self.new out.old.items out.new.items) }
     {
         let mut rest = text;
         while let Some((byte, behind)) = rest.split_first() {
@@ -352,12 +337,8 @@ impl Row {
         out: &mut Vec<u8>,
     ) -> Result<(), AllocError>
         requires { AllByRecursion IsLineByte text.now }
-        ensures line { OnOk result
-            (self.new ≡ (do_all most pen.old (of_chars text.now) self.old).line) }
-        ensures pen { OnOk result
-            (pen.new ≡ pen_behind_all most pen.old (of_chars text.now) self.old) }
-        ensures text { OnOk result (out.new.items ≡ out.old.items
-            ++ texts_of marking.now (do_all most pen.old (of_chars text.now) self.old).lines) }
+        ensures { OnOk result (DoesAll marking.now (of_chars text.now)
+            pen.old pen.new self.old self.new out.old.items out.new.items) }
     {
         let Some(first) = text.first() else {
             return Ok(());
@@ -366,9 +347,8 @@ impl Row {
         if *first == b'\t' && self.line.has_right(self.to) {
             return self.put_bytes(pen, text, marking, out);
         }
-        self.line
-            .enter(LIMIT, self.to, &plain_step(*first), marking, out)?;
+        self.line.enter(self.to, &plain_step(*first), marking, out)?;
         self.to = None;
-        self.line.put_text(LIMIT, pen, text, marking, out)
+        self.line.put_text(pen, text, marking, out)
     }
 }

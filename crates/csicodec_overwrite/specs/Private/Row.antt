@@ -1,16 +1,31 @@
 -- A cursor that is still to go to its column. No promise rests on this file.
-use Rattle.std.specs.Prelude.{ℕ, ◌-◌, ◌==◌, Option, Some, None, ⊤, List, [], ◌∷◌, if◌then◌else◌}
+use Rattle.std.specs.Prelude.{ℕ, ◌≡◌, ◌++◌, ◌-◌, ◌==◌, Option, Some, None, ⊤, List, [], ◌∷◌, if◌then◌else◌}
 use Rattle.csicodec_overwrite.specs.declared.cells.Cell.{Cell}
 use Rattle.csicodec_overwrite.specs.declared.line.Line.{Line}
+use Rattle.csicodec_overwrite.specs.declared.marking.Marking.{Marking}
+use Rattle.csicodec_overwrite.specs.declared.pen.Pen.{Pen}
 use Rattle.csicodec_overwrite.specs.declared.step.Step.{Step}
 use Rattle.csicodec_overwrite.specs.declared.step.Step.TheVariants as step
 use Rattle.csicodec_overwrite.specs.Cells.{takes}
-use Rattle.csicodec_overwrite.specs.Line.{behind_columns, line}
+use Rattle.csicodec_overwrite.specs.Line.{Done, behind_columns, do_all, line, pen_behind_all}
+use Rattle.csicodec_overwrite.specs.Paint.{texts_of}
+use Rattle.csicodec_overwrite.specs.Reading.{most}
 
 -- behind so many columns, or where it is
 abbrev pub settled : ℕ → Option ℕ → Line → Line
 settled limit None l = l
 settled limit (Some n) l = behind_columns limit n l
+
+-- what a step leaves, or more of them: the line, and the text of the lines that are over
+pub record Does (marking : Marking) (d : Done) (now : Line) (before after : List ℕ) : Type 0 where
+  pub line : now ≡ d.line
+  pub text : after ≡ before ++ texts_of marking d.lines
+
+-- the same of steps in turn, and how characters are put then
+pub record DoesAll (marking : Marking) (steps : List Step) (first behind : Pen) (l now : Line) (before after : List ℕ) : Type 0 where
+  pub line : now ≡ (do_all most first steps l).line
+  pub pen : behind ≡ pen_behind_all most first steps l
+  pub text : after ≡ before ++ texts_of marking (do_all most first steps l).lines
 
 -- over so many columns to the left, and no further than the first
 abbrev pub back : ℕ → List Cell → List Cell → Line

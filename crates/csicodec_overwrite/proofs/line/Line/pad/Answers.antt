@@ -3,6 +3,7 @@ use Rattle.std.proofs.lemmas.Bool.Decides.{nat_tests}
 use Rattle.csicodec_overwrite.specs.Cells.{columns}
 use Rattle.csicodec_overwrite.specs.Line.{behind_columns}
 use Rattle.csicodec_overwrite.specs.Private.Row.{settled}
+use Rattle.csicodec_overwrite.specs.Reading.{most}
 use Rattle.csicodec_overwrite.proofs.Rows.{settled_again}
 use Rattle.csicodec_overwrite.proofs.line.Line.pad.Goals as goal
 
@@ -10,5 +11,5 @@ pub returns-then-has_columns : goal.returns-then-has_columns
 returns-then-has_columns c =
     let l = c.args.self.now in
     let few : c.in-Some.at ≤ columns l.left + columns l.right = grind (arith, nat_tests) in
-    λ n. sym (settled_again c.args.limit n c.in-Some.at l few)
-    ∙ ap (λ to. behind_columns c.args.limit n (settled c.args.limit to l)) (sym c.in-Some.is)
+    λ n. sym (settled_again most n c.in-Some.at l few)
+    ∙ ap (λ to. behind_columns most n (settled most to l)) (sym c.in-Some.is)

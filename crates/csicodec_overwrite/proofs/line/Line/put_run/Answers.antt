@@ -3,20 +3,20 @@ use Rattle.std.specs.Prelude.{Option, Some}
 use Rattle.csicodec_overwrite.specs.declared.cells.Cell.{Cell}
 use Rattle.csicodec_overwrite.specs.Line.{line}
 use Rattle.csicodec_overwrite.specs.Private.Plain.{PutsRun, last_of}
+use Rattle.csicodec_overwrite.specs.Reading.{most}
 use Rattle.csicodec_overwrite.proofs.Straight.{last_is, run_all, run_none}
 use Rattle.csicodec_overwrite.proofs.line.Line.put_run.Goals as goal
 
 pub returns : goal.returns
 returns c =
-    let limit = c.args.limit in
     let pen = c.args.pen.now in
     let l = c.args.self.now in
     let text = c.args.text.now in
     let run = c.split_run.result.0.now in
     let rest = c.split_run.result.1.now in
     let goes = c.goes_behind.ensures c.if-not-goes_behind.false in
-    let none = run_none limit pen l text c.requires in
-    let all = run_all limit pen l text rest run pen l (subst (λ (t : List ℕ). PutsRun limit pen l text t pen l) c.split_run.ensures.parts none)
+    let none = run_none most pen l text c.requires in
+    let all = run_all most pen l text rest run pen l (subst (λ (t : List ℕ). PutsRun most pen l text t pen l) c.split_run.ensures.parts none)
     c.split_run.ensures.untabbed goes.0 goes.1
     (omega (
       arith,
@@ -26,5 +26,5 @@ returns c =
       length-append c.in-Some._front.now (c.in-Some.last.now ∷ []),
     )) in
     let last = ap (last_of pen.last) c.in-Some.ensures.cases.0 ∙ last_is pen.last c.in-Some._front.now c.in-Some.last.now ∙ ap Some (sym c.from.ensures) in
-    subst (λ (t : Option ℕ). PutsRun limit pen l text rest (record pen { last = t }) (line c.push_run.new.self l.right)) last
-    (subst (λ (t : List Cell). PutsRun limit pen l text rest (record pen { last = last_of pen.last run }) (line t l.right)) (sym c.in_ok-push_run.ensures) all)
+    subst (λ (t : Option ℕ). PutsRun most pen l text rest (record pen { last = t }) (line c.push_run.new.self l.right)) last
+    (subst (λ (t : List Cell). PutsRun most pen l text rest (record pen { last = last_of pen.last run }) (line t l.right)) (sym c.in_ok-push_run.ensures) all)

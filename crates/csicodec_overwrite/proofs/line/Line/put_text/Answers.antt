@@ -4,6 +4,7 @@ use Rattle.csicodec_overwrite.specs.Cells.{columns}
 use Rattle.csicodec_overwrite.specs.Line.{Done, do_all, does, does_here, entered, pen_behind}
 use Rattle.csicodec_overwrite.specs.Paint.{texts_of}
 use Rattle.csicodec_overwrite.specs.Steps.{of_chars}
+use Rattle.csicodec_overwrite.specs.Reading.{most}
 use Rattle.csicodec_overwrite.proofs.Moved.{both_texts, step_text}
 use Rattle.csicodec_overwrite.proofs.line.Line.put_text.Goals as goal
 
@@ -20,18 +21,17 @@ loop-byte-init c =
 pub loop-byte-preserved : goal.loop-byte-preserved
 loop-byte-preserved c =
     let l = c.loop-byte in
-    let limit = c.args.limit in
     let step = c.plain_step-step.result in
     let steps = of_chars c.in-Some.behind.now in
-    let d = does limit l.pen step l.self in
-    let later = do_all limit (pen_behind l.pen step (columns l.self.left)) steps d.line in
+    let d = does most l.pen step l.self in
+    let later = do_all most (pen_behind l.pen step (columns l.self.left)) steps d.line in
     let entry = c.in_ok-enter.ensures in
     let e = c.in_ok-act.ensures in
-    let is : c.act.new.self ≡ d.line = e.line ∙ ap (λ (m : Line). (does_here limit l.pen step m).line) entry.line in
-    let ends = entered limit step l.self in
+    let is : c.act.new.self ≡ d.line = e.line ∙ ap (λ (m : Line). (does_here most l.pen step m).line) entry.line in
+    let ends = entered most step l.self in
     let told : c.act.new.out.items ≡ l.out.items ++ texts_of c.args.marking.now d.lines =
-    both_texts c.args.marking.now l.out.items c.enter.new.out.items c.act.new.out.items ends.lines (does_here limit l.pen step ends.line).lines entry.text
-    (e.text ∙ ap (λ (m : Line). c.enter.new.out.items ++ texts_of c.args.marking.now (does_here limit l.pen step m).lines) entry.line) in
+    both_texts c.args.marking.now l.out.items c.enter.new.out.items c.act.new.out.items ends.lines (does_here most l.pen step ends.line).lines entry.text
+    (e.text ∙ ap (λ (m : Line). c.enter.new.out.items ++ texts_of c.args.marking.now (does_here most l.pen step m).lines) entry.line) in
     let pen = c.take.ensures ∙ ap (pen_behind l.pen step) c.columns-column.ensures in
     let run = c.in_ok-rest-2.ensures in
     let all = rw c.in-Some.ensures.cases.0 at l.invariant.plain in

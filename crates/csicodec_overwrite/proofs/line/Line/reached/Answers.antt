@@ -1,6 +1,7 @@
 use Rattle.std.proofs.Common.{◌≡◌, ◌-◌, arith, rules}
 use Rattle.csicodec_overwrite.specs.Cells.{columns}
 use Rattle.csicodec_overwrite.specs.Line.{size}
+use Rattle.csicodec_overwrite.specs.Reading.{most}
 use Rattle.csicodec_overwrite.proofs.Rows.{reached}
 use Rattle.csicodec_overwrite.proofs.line.Line.reached.Goals as goal
 
@@ -11,6 +12,6 @@ returns c =
     let missing = c.saturating_sub-missing-2.result in
     let less : first ≡ c.args.count - columns l.left = search rules in
     let lacks : missing ≡ first - columns l.right = search rules in
-    let beyond : c.saturating_sub.result ≡ missing - (c.args.limit - size l) = search rules in
+    let beyond : c.saturating_sub.result ≡ missing - (most - size l) = search rules in
     let last : c.saturating_sub-2.result ≡ c.args.count - c.saturating_sub.result = search rules in
-    omega (arith, less, lacks, beyond, last, reached c.args.limit c.args.count l)
+    omega (arith, less, lacks, beyond, last, reached most c.args.count l)

@@ -2,14 +2,15 @@ use Rattle.std.proofs.Common.{◌≡◌, ◌++◌}
 use Rattle.csicodec_overwrite.specs.Cells.{glyph}
 use Rattle.csicodec_overwrite.specs.Line.{repeat}
 use Rattle.csicodec_overwrite.specs.Paint.{texts_of}
+use Rattle.csicodec_overwrite.specs.Reading.{most}
 use Rattle.csicodec_overwrite.proofs.line.Line.repeat.Given as goal
 
 -- it is put some times
 abbrev pub invariant-loop-left : goal.invariant-loop-left
 invariant-loop-left l = record {
-  line : (repeat l.limit l.pen.inserts (glyph l.char l.pen.look) l.left l.self).line ≡ (repeat l.limit l.pen.inserts (glyph l.char l.pen.look) l.fn.count l.initial.self).line;
-  text : l.out.items ++ texts_of l.marking (repeat l.limit l.pen.inserts (glyph l.char l.pen.look) l.left l.self).lines
-      ≡ l.initial.out.items ++ texts_of l.marking (repeat l.limit l.pen.inserts (glyph l.char l.pen.look) l.fn.count l.initial.self).lines;
+  line : (repeat most l.pen.inserts (glyph l.char l.pen.look) l.left l.self).line ≡ (repeat most l.pen.inserts (glyph l.char l.pen.look) l.fn.count l.initial.self).line;
+  text : l.out.items ++ texts_of l.marking (repeat most l.pen.inserts (glyph l.char l.pen.look) l.left l.self).lines
+      ≡ l.initial.out.items ++ texts_of l.marking (repeat most l.pen.inserts (glyph l.char l.pen.look) l.fn.count l.initial.self).lines;
 }
 
 abbrev pub decreases-loop-left : goal.decreases-loop-left

@@ -18,7 +18,7 @@ loop-byte-preserved c =
     let split : of_chars l.rest.now ≡ step ∷ steps = ap of_chars c.in-Some.ensures.cases.0 ∙ ap (λ xs. xs ++ steps) (c.plain_step.ensures.step all.0) in
     record {
       plain = all.1;
-      line = rw (e.line, e.pen) (rw split at l.invariant.line);
-      pen = rw (e.line, e.pen) (rw split at l.invariant.pen);
-      text = rw (e.line, e.pen) (step_text c.args.marking.now l.out.items c.take.new.out.items d.lines later.lines _ e.text (rw split at l.invariant.text));
+      line = rw (e.does.line, e.pen) (rw split at l.invariant.line);
+      pen = rw (e.does.line, e.pen) (rw split at l.invariant.pen);
+      text = rw (e.does.line, e.pen) (step_text c.args.marking.now l.out.items c.take.new.out.items d.lines later.lines _ e.does.text (rw split at l.invariant.text));
     }

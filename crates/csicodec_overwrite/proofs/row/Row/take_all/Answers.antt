@@ -13,7 +13,7 @@ loop-step-preserved c =
     let e = c.in_ok-take.ensures in
     let invariant = rw c.in-Some.ensures.cases.0 at l.invariant in
     record {
-      line = rw (e.line, e.pen) invariant.line;
-      pen = rw (e.line, e.pen) invariant.pen;
-      text = rw (e.line, e.pen) (step_text c.args.marking.now l.out.items c.take.new.out.items d.lines later.lines _ e.text invariant.text);
+      line = rw (e.does.line, e.pen) invariant.line;
+      pen = rw (e.does.line, e.pen) invariant.pen;
+      text = rw (e.does.line, e.pen) (step_text c.args.marking.now l.out.items c.take.new.out.items d.lines later.lines _ e.does.text invariant.text);
     }

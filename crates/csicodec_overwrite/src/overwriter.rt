@@ -375,16 +375,20 @@ impl Overwriter {
         Ok(())
     }
 
-    /// Appends the line that isn't over, with the text that is held: nothing comes any more.
+    /// Appends the line that isn't over, with the text that is held: nothing comes any more. What comes then is another stream.
     pub fn finish(&mut self, out: &mut Vec<u8>) -> Result<(), AllocError>
-        ensures { OnOk result ((rest : List ℕ) × Ending self.old rest
+        ensures text { OnOk result ((rest : List ℕ) × Ending self.old rest
             × (out.new.items ≡ out.old.items ++ rest)) }
+        ensures begun { OnOk result (self.new ≡ begun_as self.old.marking) }
     {
         self.steps.clear();
         self.reader.finish(&mut self.steps)?;
         self.line
             .take_all(&mut self.pen, &self.steps, &self.marking, out)?;
         self.line.take_text(&self.marking, out)?;
+        self.reader.clear();
+        self.pen = Pen::new();
+        self.missed = 0;
         Ok(())
     }
 }

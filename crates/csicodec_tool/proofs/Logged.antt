@@ -1,19 +1,20 @@
 -- A log as it comes.
 use Rattle.std.proofs.Common.{◌≡◌, ◌==◌, not, ℕ, true, false, List, [], ◌∷◌, ◌++◌, Option, None, Some, refl, sym, ap, subst, ◌∙◌, ⊎_elim, append_assoc, append-nil}
 use Rattle.std.proofs.lemmas.List.Folds.{list_all-append}
+use Rattle.std.specs.Prelude.{IfSome}
 use Rattle.csicodec_filter.specs.Transform.{Begins, GoesOn, Sends, Transforms}
 use Rattle.csicodec_clean.specs.Shown.{shown_text}
 use Rattle.csicodec_clean.specs.Stream.{Between, Takes, start_of}
 use Rattle.csicodec_clean.specs.Styled.{Keeping, StylesIn, first_kept, keeps, resets}
 use Rattle.csicodec_clean.specs.declared.styles.Passing.{Passing}
-use Rattle.csicodec_clean.proofs.Chunks.{ends as at_end, takes_on}
+use Rattle.csicodec_clean.proofs.Chunks.{ends as at_end, takes_none, takes_on}
 use Rattle.csicodec_clean.proofs.PlainBytes.{all_both}
 use Rattle.csicodec_clean.proofs.Styled.{styles as styled_as}
 use Rattle.csicodec_lines.specs.Stream.{ended}
 use Rattle.csicodec_lines.proofs.Texts.{ended_on, of_on}
 use Rattle.csicodec_overwrite.specs.declared.marking.Marking.TheVariants.{Plain, Styled}
 use Rattle.csicodec_overwrite.specs.Stream.{Ending, Now, Passes, begun_as}
-use Rattle.csicodec_overwrite.proofs.Written.{passes_on, shows}
+use Rattle.csicodec_overwrite.proofs.Written.{passes_none, passes_on, shows}
 use Rattle.csicodec_tool.specs.declared.log.Log.{Log}
 use Rattle.csicodec_tool.specs.declared.log.Overwritten.{Overwritten}
 use Rattle.csicodec_tool.specs.declared.log.Styles.{Styles}
@@ -112,10 +113,26 @@ line_over old new rest ends (same, begun) first bytes text (kept, log) = (
     own = [];
     each = of_on (IsLogged (passing_of first.styles)) log.lines log.texts log.rest (log.own ++ rest) log.each
         (subst (λ (p : Option Passing). IsLogged p log.rest (log.own ++ rest)) kept (ends log.rest log.own log.behind));
-    behind = begun;
+    behind = begun log.rest log.own log.behind;
     all = ap (λ (t : List ℕ). t ++ (rest ++ 10 ∷ [])) log.all ∙ ended_more log.texts log.own rest;
   },
 )
+
+-- the next one begins
+pub begun_again : (old new : Log) → passing_of new.styles ≡ passing_of old.styles → new.line ≡ begun_as old.line.marking
+    → IfSome new.styles (λ s. s.cleaner ≡ start_of (first_kept s.passing)) → IsBegun old new
+begun_again old new same now fresh = (same, λ line own at. by line own old.styles new.styles same fresh at)
+  where
+    by : (line own : List ℕ) (o n : Option Styles) → passing_of n ≡ passing_of o → IfSome n (λ s. s.cleaner ≡ start_of (first_kept s.passing))
+        → IsIn o old.line line own → IsIn n new.line [] []
+    by line own None None e f at = subst (λ (n : Now). Passes (begun_as Plain) [] [] n) (sym (now ∙ ap begun_as at.marking)) (passes_none (begun_as Plain) refl)
+    by line own None (Some t) e f at = cc
+    by line own (Some s) None e f at = cc
+    by line own (Some s) (Some t) e f (painted, before, taken) = (
+      [],
+      subst (λ (n : Now). Passes (begun_as Styled) [] [] n) (sym (now ∙ ap begun_as before.marking)) (passes_none (begun_as Styled) refl),
+      rw f (takes_none (keeps (λ (k : Keeping). k)) (first_kept t.passing)),
+    )
 
 -- with other relations to what stands behind the lines
 last_as : (Each Last Other : List ℕ → List ℕ → Type 0) (bytes text more : List ℕ) (log : LogOf Each Last bytes text) → Other log.rest (log.own ++ more) → LogOf Each Other bytes (text ++ more)

@@ -37,9 +37,10 @@ abbrev pub EndsLog : EndsOf Log
 EndsLog last text = (line : List ℕ) → (own : List ℕ) → IsIn last.styles last.line line own
     → IsLogged (passing_of last.styles) line (own ++ text)
 
--- another in its place begins with the next line
+-- when the line is over, the next one begins
 abbrev pub IsBegun : Log → Log → Type 0
-IsBegun old new = (passing_of new.styles ≡ passing_of old.styles) × IsIn new.styles new.line [] []
+IsBegun old new = (passing_of new.styles ≡ passing_of old.styles)
+    × ((line : List ℕ) → (own : List ℕ) → IsIn old.styles old.line line own → IsIn new.styles new.line [] [])
 
 -- The same of a stream as one, whose lines are written as they stand when they end: since it has begun, and at its end.
 abbrev pub PassesOverwritten : PassesOf Overwritten

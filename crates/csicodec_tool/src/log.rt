@@ -1,7 +1,10 @@
 //! Logs: each line by itself, as it stands when it ends, as plain text or with its styles.
 ghost use Rattle.std.specs.Prelude.{◌≡◌, ◌==◌, ◌++◌, ◌∷◌, [], ℕ, List, IfNone, IfSome, OnErr, OnOk, not, true};
 ghost use Rattle.std.specs.Io.KnownBytes.{Appends, Consumes, IsAtEnd};
+ghost use Rattle.csicodec_clean.specs.Stream.{start_of};
+ghost use Rattle.csicodec_clean.specs.Styled.{first_kept};
 ghost use Rattle.csicodec_filter.specs.Transform.{GoesOn};
+ghost use Rattle.csicodec_overwrite.specs.Stream.{begun_as};
 ghost use Rattle.csicodec_tool.specs.Log.{IsLine, IsLogged, IsLoggedFront, Logs, LogsSome};
 ghost use Rattle.csicodec_tool.specs.Stream.{EndsLog, GoesIn, IsIn, PassesLog, passing_of};
 
@@ -20,6 +23,19 @@ struct Styles {
     cleaner: Cleaner<Kept>,
     /// A place that is kept for what is painted.
     painted: Vec<u8>,
+}
+
+/// Of a line of which nothing has come, what passes of its styles. None where all is plain text.
+fn styles_of(alloc: Global, passing: Option<Passing>) -> Option<Styles>
+    ensures passing { passing_of result ≡ passing }
+    ensures begun { IfSome result (λ s. s.cleaner ≡ start_of (first_kept s.passing)) }
+{
+    let passing = passing?;
+    Some(Styles {
+        passing,
+        cleaner: Cleaner::new(alloc, Kept::letting(alloc, passing)),
+        painted: Vec::new(alloc),
+    })
 }
 
 /// A log of which some has come.
@@ -72,8 +88,9 @@ impl Log {
 
     /// Appends what is left of the line: nothing of it comes any more.
     fn end_line(&mut self, out: &mut Vec<u8>) -> Result<(), AllocError>
-        ensures { OnOk result ((text : List ℕ) × EndsLog self.old text
+        ensures text { OnOk result ((text : List ℕ) × EndsLog self.old text
             × (out.new.items ≡ out.old.items ++ text)) }
+        ensures line { OnOk result (self.new.line ≡ begun_as self.old.line.marking) }
     {
         let Some(styles) = &mut self.styles else {
             return self.line.finish(out);
@@ -104,7 +121,7 @@ impl Log {
         let passing = self.passing();
         self.take_part(line, out)?;
         self.end_line(out)?;
-        *self = Log::new(self.alloc, passing);
+        self.styles = styles_of(self.alloc, passing);
         Ok(out.push(b'\n')?)
     }
 }

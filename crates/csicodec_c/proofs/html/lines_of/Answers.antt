@@ -7,7 +7,7 @@ use Rattle.csicodec_c.proofs.html.lines_of.Goals as goal
 pub returns : goal.returns
 returns c =
     let (first, passes, pushed) = c.in_ok-push.ensures.passes in
-    let (rest, ending, finished) = c.in_ok-finish.ensures in
+    let (rest, ending, finished) = c.in_ok-finish.ensures.text in
     let marking = c.args.marking in
     let bytes = c.args.bytes.now in
     let last = c.push.new.self in

@@ -3,8 +3,8 @@ use Rattle.csicodec_overwrite.specs.Steps.{of_run}
 use Rattle.csicodec_overwrite.proofs.Written.{finished}
 use Rattle.csicodec_overwrite.proofs.overwriter.Overwriter.finish.Goals as goal
 
-pub returns : goal.returns
-returns c =
+pub returns-clause-text : goal.returns-clause-text
+returns-clause-text c =
     let held = of_run c.self.inside.reader.held in
     let same : c.deref.result.now ≡ held = c.deref.ensures.value ∙ c.in_ok-finish.ensures ∙ ap (λ x. x ++ held) c.clear.ensures.items in
     rw (← c.self.view_is)

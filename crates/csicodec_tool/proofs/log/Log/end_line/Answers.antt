@@ -1,4 +1,4 @@
-use Rattle.std.proofs.Common.{◌≡◌, ◌++◌, ◌∙◌, List, ℕ, ap, subst, append_assoc}
+use Rattle.std.proofs.Common.{◌≡◌, ◌++◌, ◌∙◌, [], List, ℕ, Option, ap, refl, subst, sym, append_assoc}
 use Rattle.std.proofs.lemmas.Result.{on_ok_weaker}
 use Rattle.csicodec_clean.specs.Shown.{shown_text}
 use Rattle.csicodec_clean.specs.Stream.{Takes}
@@ -6,9 +6,9 @@ use Rattle.csicodec_clean.specs.Styled.{Keeping, keeps}
 use Rattle.csicodec_tool.proofs.Logged.{plain_end, styled_end}
 use Rattle.csicodec_tool.proofs.log.Log.end_line.Goals as goal
 
-pub returns : goal.returns
-returns c =
-    let (text, ends, made) = c.in_ok-finish.ensures in
+pub returns-clause-text : goal.returns-clause-text
+returns-clause-text c =
+    let (text, ends, made) = c.in_ok-finish.ensures.text in
     let (more, takes, out) = c.in_ok-push.ensures.takes in
     let whole : c.deref.result.now ≡ text = c.deref.ensures.value ∙ made ∙ ap (λ t. t ++ text) c.clear.ensures.items in
     let mid = c.push.new.self in
@@ -21,7 +21,7 @@ returns c =
     ))
     c.finish-3.ensures
 
-pub returns-in_default : goal.returns-in_default
-returns-in_default c = on_ok_weaker c.finish.result
+pub returns-in_default-clause-text : goal.returns-in_default-clause-text
+returns-in_default-clause-text c = on_ok_weaker c.finish.result
     (λ (rest, ends, made). (rest, plain_end c.args.self.now rest c.in_default.is ends, made))
-    c.finish.ensures
+    c.finish.ensures.text

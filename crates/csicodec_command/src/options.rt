@@ -289,4 +289,4 @@ read like any other FILE.
   -h, --help     Show this text.";
 
 /// The program's name and version.
-pub const VERSION: &str = "csicodec 1.13.0";
+pub const VERSION: &str = "csicodec 1.14.0";

@@ -10,7 +10,7 @@ WORD = re.compile(r"[^\s(){}\[\];,]+")
 # What heads a definition: its words, its name, and what its first line says behind that.
 HEAD = re.compile(r"((?:(?:abbrev|unfoldable|pub|record|data) )+)(\S+)(.*)", re.S)
 USE = re.compile(r"^\s*(?:pub )?(?:ghost )?use\s+(Rattle\.[\w.+]+?)(?:\.\{([^}]*)\}| as (\w+))?;?$", re.M)
-CLAUSE = re.compile(r"\b(requires|ensures)(?:\s+(?:after\s+)?(\w+))?\s*\{")
+CLAUSE = re.compile(r"\b(requires|ensures)\*?(?:\s+(?:after\s+)?(\w+))?\s*\{")
 
 
 def bare(text):
@@ -118,6 +118,9 @@ def resolved(word, uses, own=None):
         module, name = uses.names[word]
     elif dot and first in uses.files:
         module, name = uses.files[first], rest.split(".")[0]
+    elif dot:
+        # A field of what a definition says, or a constructor of its own.
+        return resolved(first, uses, own)
     else:
         return None
     if ".declared." in module:

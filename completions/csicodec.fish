@@ -16,7 +16,7 @@ complete -c csicodec -n '__fish_seen_subcommand_from filter' -l help -d 'Show th
 complete -c csicodec -n '__fish_seen_subcommand_from compact' -l semicolons -d 'Write colours with semicolons, such as 38;5;9, even if colons are as short'
 complete -c csicodec -n '__fish_seen_subcommand_from compact' -l text -d 'From a recording, write the shorter stream and no recording'
 complete -c csicodec -n '__fish_seen_subcommand_from compact' -l help -d 'Show this text'
-complete -c csicodec -n '__fish_seen_subcommand_from strip' -l check -a 'visible' -d 'Write nothing. Exit 0 if every FILE is already plain text, without colours. Otherwise print the first place that isn'\''t, and exit 1'
+complete -c csicodec -n '__fish_seen_subcommand_from strip' -l check -a 'visible' -d 'Write nothing. Exit 0 if every FILE is already plain text, without colours. Otherwise print the first place that isn'\''t, and exit 1. Of a recording, check what programs wrote'
 complete -c csicodec -n '__fish_seen_subcommand_from strip' -l lines -d 'Strip each line by itself, as logs need it. A sequence or string that a line leaves open ends with the line. A carriage return also ends a line'
 complete -c csicodec -n '__fish_seen_subcommand_from strip' -l log -d 'Strip each line by itself, and write it as it looks at its end. This is for build logs. It can'\''t be combined with --check, --lines or --overwrite'
 complete -c csicodec -n '__fish_seen_subcommand_from strip' -l overwrite -d 'Write each line as it looks at its end, such as a progress bar. It can'\''t be combined with --check or --lines'

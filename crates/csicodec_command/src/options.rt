@@ -134,7 +134,7 @@ written as a recording with the same times. A FILE is one if its name ends in
 
   --check        Write nothing. Exit 0 if every FILE is already plain text,
                  without colours. Otherwise print the first place that isn't,
-                 and exit 1.
+                 and exit 1. Of a recording, check what programs wrote.
   --check=visible  Do the same, but take a character that isn't seen, or that
                  changes the order of the text, for such a place too.
   --lines        Strip each line by itself, as logs need it. A sequence or
@@ -152,10 +152,11 @@ written as a recording with the same times. A FILE is one if its name ends in
 pub const CLEAN: &str = "\
 usage: csicodec clean [OPTION ..] [FILE ..]
 
-Write the text of each FILE as strip does, but keep its colours and styles. The
-style that hides text (SGR 8) and other fonts (SGR 11 to 19) are dropped. A
-style that is still open at the end is closed. Text in the colour of its
-background is left as it is.
+Write the text of each FILE as strip does, but keep the colours and styles that
+it knows. The style that hides text (SGR 8) and other fonts (SGR 11 to 19) are
+dropped, and so are those that it doesn't know, as SGR 26 and 51. A style that
+is still open at the end is closed. Text in the colour of its background is left
+as it is.
 
 With no FILE, or when FILE is -, read standard input. An asciinema recording is
 written as a recording with the same times. A FILE is one if its name ends in

@@ -3,17 +3,15 @@
 //! | word | what follows | the answers |
 //! |---|---|---|
 //! | `fields` | tokens | `Cracked::parse`: `len`, and for each index up to it `get`, `opt_int` and `int` |
-//! | `read` | bytes | `read_csi`: the list, the final, and what is left |
-//! | `fronts` | bytes | `read_csi` of each of their fronts but themselves, the empty one first |
 //! | `twice` | bytes | what `normalise` writes, and `again the same` where it writes that of its own output |
 //! | `values` | a name | a line for each value of the table of that name (`values.rt`) |
-//! | `texts`, `error`, `held`, `escapes` | | what is printed (`texts.rt`) |
+//! | `texts`, `error`, `escapes` | | what is printed (`texts.rt`) |
 //! | `known` | what stands behind `ESC [` in a sequence | the row of the second table that reads it (`known.rt`) |
 //! | others | numbers, tokens | a value that is built of them (`built.rt`) |
 use crate::spelling::{bytes_of, spelled, tokens_of};
 use crate::values::values;
 use crate::{built, known, texts};
-use csicodec::{Cracked, normalise, read_csi};
+use csicodec::{Cracked, normalise};
 use std::alloc::{AllocError, Global};
 
 /// The fields of a list, one by one, and the first that isn't there.
@@ -27,29 +25,6 @@ fn fields(alloc: Global, line: &str) -> Result<String, AllocError> {
     for at in 0..=cracked.len() {
         let (token, number, must) = (cracked.get(at), cracked.opt_int(at), cracked.int(at));
         told.push_str(format!(in alloc; "\t{token:?}, {number:?}, {must:?}")?.as_str())?;
-    }
-    Ok(told)
-}
-
-/// One sequence at the front of the bytes.
-fn read(alloc: Global, bytes: &[u8]) -> Result<String, AllocError> {
-    match read_csi(alloc, bytes) {
-        Ok(read) => {
-            let (params, control, left) = (&read.params, read.control, read.rest.len());
-            format!(in alloc; "{params:?}\t{control}\t{left} left")
-        }
-        Err(refusal) => format!(in alloc; "{refusal:?}"),
-    }
-}
-
-/// Each front of the bytes but themselves.
-fn fronts(alloc: Global, bytes: &[u8]) -> Result<String, AllocError> {
-    let mut told = String::new(alloc);
-    for len in 0..bytes.len() {
-        if len > 0 {
-            told.push_str("\t")?;
-        }
-        told.push_str(read(alloc, &bytes[..len])?.as_str())?;
     }
     Ok(told)
 }
@@ -78,13 +53,10 @@ fn twice(alloc: Global, bytes: &[u8]) -> Result<String, AllocError> {
 pub fn told(alloc: Global, word: &str, rest: &str) -> Result<String, AllocError> {
     match word {
         "fields" => fields(alloc, rest),
-        "read" => read(alloc, &bytes_of(alloc, rest)?),
-        "fronts" => fronts(alloc, &bytes_of(alloc, rest)?),
         "twice" => twice(alloc, &bytes_of(alloc, rest)?),
         "values" => values(alloc, rest),
         "texts" => texts::texts(alloc, rest),
         "error" => texts::error(alloc, rest),
-        "held" => texts::held(alloc, rest),
         "escapes" => texts::escapes(alloc),
         "known" => known::known(alloc, rest),
         _ => built::told(alloc, word, rest),

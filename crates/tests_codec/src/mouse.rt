@@ -4,23 +4,12 @@ use crate::spelling::{bytes_of, spelled};
 use csicodec::{CSI, MouseButtons, MouseReport, decode_all, encode_all};
 use std::alloc::{AllocError, Global};
 
-/// The report of a sequence.
-fn report_of(alloc: Global, bytes: &[u8]) -> Result<Option<MouseReport>, AllocError> {
-    let actions = match decode_all(alloc, bytes, false) {
-        Ok(actions) => actions,
-        Err(_) => return Ok(None),
-    };
-    match actions.as_slice() {
-        [CSI::Mouse(report)] => Ok(Some(*report)),
-        _ => Ok(None),
-    }
-}
-
 /// `mouse SEQUENCE`: the button of the report, what is held down then, and the same report in pixels, which has this text, and isn't
 /// read as itself; and the texts of both.
 pub(crate) fn mouse(alloc: Global, bytes: &str) -> Result<String, AllocError> {
     let bytes = bytes_of(alloc, bytes)?;
-    let Some(cells) = report_of(alloc, &bytes)? else {
+    let actions = decode_all(alloc, &bytes, false).unwrap_or(Vec::new(alloc));
+    let [CSI::Mouse(cells)] = actions.as_slice() else {
         return format!(in alloc; "no report");
     };
     let MouseReport::SGR1006 {
@@ -28,7 +17,7 @@ pub(crate) fn mouse(alloc: Global, bytes: &str) -> Result<String, AllocError> {
         y,
         button,
         modifiers,
-    } = cells
+    } = *cells
     else {
         return format!(in alloc; "no report");
     };
@@ -39,7 +28,7 @@ pub(crate) fn mouse(alloc: Global, bytes: &str) -> Result<String, AllocError> {
         modifiers,
     };
     let text = pixels.to_string(alloc)?;
-    let (pixels, cells) = (CSI::Mouse(pixels), CSI::Mouse(cells));
+    let (pixels, cells) = (CSI::Mouse(pixels), CSI::Mouse(*cells));
     let same = cells.is_canonical(alloc, false)? && !pixels.is_canonical(alloc, false)?;
     let end = if same { "" } else { "\totherwise" };
     let actions = vec![in alloc; pixels, cells]?;

@@ -2,10 +2,10 @@
 //! line prints, and for the longest texts.
 ghost use Rattle.std.specs.Prelude.{◌<◌};
 
-use crate::spelling::{bytes_of, spelled};
+use crate::spelling::spelled;
 use csicodec::{
-    CSI, CsiParam, DecodeError, Esc, NotOneBased, NotSpelled, OneBased, ParseRefusal, ReadError,
-    RunError, XtSmGraphicsItem, decode_all,
+    CsiParam, DecodeError, Esc, NotOneBased, NotSpelled, OneBased, ParseRefusal, ReadError,
+    RunError, XtSmGraphicsItem,
 };
 use std::alloc::{AllocError, Global};
 use std::fmt::Display;
@@ -81,19 +81,6 @@ pub fn error(alloc: Global, words: &str) -> Result<String, AllocError> {
     let decode = DecodeError::Read { start: at, error };
     let run = RunError::Decode(decode);
     format!(in alloc; "{error}\t{decode}\t{run}")
-}
-
-/// `held SEQUENCE`: the text of the attribute, or of the movement, that its action holds.
-pub fn held(alloc: Global, word: &str) -> Result<String, AllocError> {
-    let bytes = bytes_of(alloc, word)?;
-    let Ok(actions) = decode_all(alloc, &bytes, false) else {
-        return format!(in alloc; "not read");
-    };
-    match actions.as_slice() {
-        [CSI::Sgr(sgr)] => sgr.to_string(alloc),
-        [CSI::Cursor(cursor)] => cursor.to_string(alloc),
-        _ => format!(in alloc; "another"),
-    }
 }
 
 /// How many escape sequences with this last byte are printed, by their codes where they have one and by themselves.

@@ -39,7 +39,7 @@ export type InputEvent =
     /** ESC alone: the key. */
     | { readonly type: 'Input.Escape' };
 
-/** A key that was pressed, repeated or released, whichever encoding it came in. */
+/** A key that was pressed, repeated or released, in each encoding that `encoding` can name. */
 export interface Key {
     readonly type: 'Key';
     readonly code: KeyCode;

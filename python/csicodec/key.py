@@ -1,4 +1,4 @@
-"""Keys as one type, whichever encoding they came in."""
+"""Keys as one type, in each encoding of KeyEncoding."""
 from __future__ import annotations
 
 from ctypes import c_uint32

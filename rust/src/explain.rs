@@ -38,7 +38,7 @@ pub struct Explain {
 impl Explain {
     /// What is in a whole stream, in words, a line each. It runs the program, which this package hasn't. `Err` is [`ErrorKind::NotFound`] where it
     /// isn't there, [`ErrorKind::InvalidInput`] with what it said where it refused a name, or what the system answered. A stream whose first line is
-    /// that of an asciicast (of version 2 or 3, and of at most 4,096 bytes with its end) is read as the recording, or refused.
+    /// that of an asciicast (of version 2 or 3, and of at most 4,096 bytes with its newline) is read as the recording, or refused.
     pub fn explain(&self, bytes: impl AsRef<[u8]>) -> io::Result<String> {
         let program = self.program();
         let child = self.command(&program).spawn().map_err(|error| {

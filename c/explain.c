@@ -10,7 +10,7 @@
 
 extern char **environ;
 
-/* Writes a line of JSON for each text, control and string; 0, the status of the program, or the error that it can't be run with. */
+/* Writes a line of JSON for each text, control and string; 0, the status of the program, 128 and the signal that ended it, or an error. */
 static int explain(const uint8_t *bytes, size_t len, FILE *to) {
     char *words[] = {"csicodec", "explain", "--json", NULL};
     posix_spawn_file_actions_t files;
@@ -26,7 +26,8 @@ static int explain(const uint8_t *bytes, size_t len, FILE *to) {
         posix_spawn_file_actions_destroy(&files);
     }
     if (from) fclose(from);
-    return error ? error : waitpid(child, &status, 0) < 0 ? errno : WEXITSTATUS(status);
+    if (error || waitpid(child, &status, 0) < 0) return error ? error : errno;
+    return WIFEXITED(status) ? WEXITSTATUS(status) : 128 + WTERMSIG(status);
 }
 
 int main(int count, char **words) {

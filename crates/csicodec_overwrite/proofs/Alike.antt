@@ -30,16 +30,11 @@ flag_same false = refl
 
 intensity_same : (x : Intensity) → same_intensity x x ≡ true
 intensity_same intensity.Normal = refl
-intensity_same intensity.Bold = refl
-intensity_same intensity.Half = refl
+intensity_same _ = refl
 
 underline_same : (x : Underline) → same_underline x x ≡ true
 underline_same underline.None = refl
-underline_same underline.Single = refl
-underline_same underline.Double = refl
-underline_same underline.Curly = refl
-underline_same underline.Dotted = refl
-underline_same underline.Dashed = refl
+underline_same _ = refl
 
 color_same : (x : ColorSpec) → same_color x x ≡ true
 color_same color.Default = refl
@@ -103,42 +98,47 @@ color_one _ _ h = cc
 
 pub look_one : (a b : Look) → same a b ≡ true → a ≡ b
 look_one a b h =
-    let eighth = same_color a.foreground b.foreground && same_color a.background b.background in
-    let seventh = same_flag a.inverse b.inverse && eighth in
-    let sixth = same_flag a.strike b.strike && seventh in
-    let fifth = same_flag a.overline b.overline && sixth in
-    let fourth = same_color a.line b.line && fifth in
-    let third = same_underline a.underline b.underline && fourth in
-    let second = same_flag a.italic b.italic && third in
-    let (one, g) = and_parts (same_intensity a.intensity b.intensity) second h in
-    let (two, i) = and_parts (same_flag a.italic b.italic) third g in
-    let (three, j) = and_parts (same_underline a.underline b.underline) fourth i in
-    let (four, k) = and_parts (same_color a.line b.line) fifth j in
-    let (five, l) = and_parts (same_flag a.overline b.overline) sixth k in
-    let (six, m) = and_parts (same_flag a.strike b.strike) seventh l in
-    let (seven, n) = and_parts (same_flag a.inverse b.inverse) eighth m in
-    let (eight, nine) = and_parts (same_color a.foreground b.foreground) (same_color a.background b.background) n in
-    ap (λ (x : Intensity). record a { intensity = x }) (intensity_one a.intensity b.intensity one)
-    ∙ ap (λ (x : Bool). record a { intensity = b.intensity; italic = x }) (flag_one a.italic b.italic two)
-    ∙ ap (λ (x : Underline). record a { intensity = b.intensity; italic = b.italic; underline = x }) (underline_one a.underline b.underline three)
-    ∙ ap (λ (x : ColorSpec). record a { intensity = b.intensity; italic = b.italic; underline = b.underline; line = x }) (color_one a.line b.line four)
-    ∙ ap (λ (x : Bool). record b { overline = x; strike = a.strike; inverse = a.inverse; foreground = a.foreground; background = a.background }) (flag_one a.overline b.overline five)
-    ∙ ap (λ (x : Bool). record b { strike = x; inverse = a.inverse; foreground = a.foreground; background = a.background }) (flag_one a.strike b.strike six)
-    ∙ ap (λ (x : Bool). record b { inverse = x; foreground = a.foreground; background = a.background }) (flag_one a.inverse b.inverse seven)
-    ∙ ap (λ (x : ColorSpec). record b { foreground = x; background = a.background }) (color_one a.foreground b.foreground eight)
-    ∙ ap (λ (x : ColorSpec). record b { background = x }) (color_one a.background b.background nine)
+    let (one, g) = and_parts _ _ h in
+    let (two, i) = and_parts _ _ g in
+    let (three, j) = and_parts _ _ i in
+    let (four, k) = and_parts _ _ j in
+    let (five, l) = and_parts _ _ k in
+    let (six, m) = and_parts _ _ l in
+    let (seven, n) = and_parts _ _ m in
+    let (eight, nine) = and_parts _ _ n in
+    let all : record a {
+      intensity = a.intensity;
+      italic = a.italic;
+      underline = a.underline;
+      line = a.line;
+      overline = a.overline;
+      strike = a.strike;
+      inverse = a.inverse;
+      foreground = a.foreground;
+      background = a.background;
+    } ≡ b =
+    rw (
+      intensity_one a.intensity b.intensity one,
+      flag_one a.italic b.italic two,
+      underline_one a.underline b.underline three,
+      color_one a.line b.line four,
+      flag_one a.overline b.overline five,
+      flag_one a.strike b.strike six,
+      flag_one a.inverse b.inverse seven,
+      color_one a.foreground b.foreground eight,
+      color_one a.background b.background nine,
+    ) refl in
+    all
 
 -- ---- characters
 
 pub written_none : (marking : Marking) → written marking [] ≡ []
 written_none Plain = refl
-written_none Styled = refl
-written_none (Page m) = refl
+written_none _ = refl
 
 pub written_on : (marking : Marking) (xs ys : List ℕ) → written marking (xs ++ ys) ≡ written marking xs ++ written marking ys
-written_on Plain xs ys = encoded_on xs ys
-written_on Styled xs ys = encoded_on xs ys
 written_on (Page m) xs ys = flat_map-append escaped xs ys
+written_on _ xs ys = encoded_on xs ys
 
 pub nothing_written : (marking : Marking) (out : List ℕ) → out ≡ out ++ written marking []
 nothing_written marking out = sym (ap (λ (t : List ℕ). out ++ t) (written_none marking) ∙ append-nil out)
@@ -147,5 +147,4 @@ nothing_written marking out = sym (ap (λ (t : List ℕ). out ++ t) (written_non
 pub newline_written : (marking : Marking) → written marking (10 ∷ []) ≡ 10 ∷ []
 unfolding lib.Utf8.encode
 newline_written Plain = refl
-newline_written Styled = refl
-newline_written (Page m) = refl
+newline_written _ = refl

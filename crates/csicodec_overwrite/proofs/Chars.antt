@@ -24,9 +24,7 @@ run_read run chars rest h = ap of_chars (read_all run chars rest h) ∙ chars_on
 -- what one more does, behind what those before it do
 pub one_on : {A : Type 0} (does : A → List Step) (x : A) (front : List A) (old now new : List Step) → now ≡ old ++ flat_map does front → new ≡ now ++ does x
     → new ≡ old ++ flat_map does (front ++ x ∷ [])
-one_on does x front old now new e f =
-    f ∙ ap (λ (t : List Step). t ++ does x) e ∙ append_assoc old (flat_map does front) (does x)
-    ∙ ap (λ (t : List Step). old ++ (flat_map does front ++ t)) (sym (append-nil (does x))) ∙ ap (λ (t : List Step). old ++ t) (sym (flat_map-append does front (x ∷ [])))
+one_on does x front old now new e f = rw (f, e, append_assoc, flat_map-append does front (x ∷ []), append-nil (does x))
 
 run_empty : (run : List ℕ) → length run ≡ 0 → of_run run ≡ []
 run_empty [] none = run_none
@@ -34,9 +32,7 @@ run_empty (b ∷ run) none = absurd (omega (arith, none))
 
 -- a run that is over, of which all was read
 pub run_all : (run chars rest : List ℕ) (old new : List Step) → IsRead run chars rest → length rest ≡ 0 → new ≡ old ++ of_chars chars → new ≡ old ++ of_run run
-run_all run chars rest old new h none e =
-    e ∙ ap (λ (t : List Step). old ++ t) (sym (append-nil (of_chars chars)))
-    ∙ ap (λ (t : List Step). old ++ (of_chars chars ++ t)) (sym (run_empty rest none)) ∙ ap (λ (t : List Step). old ++ t) (sym (run_read run chars rest h))
+run_all run chars rest old new h none e = rw (e, run_read run chars rest h, run_empty rest none, append-nil (of_chars chars))
 
 -- or all but a piece that is no character
 pub run_cut : (run chars rest : List ℕ) (old now new : List Step) → IsRead run chars rest → lossy_chars rest ≡ replacement ∷ []

@@ -21,8 +21,7 @@ after l styles = behind_all l (map action.Sgr styles)
 
 intensity_back : (m : Look) (x : Intensity) (rest : List Sgr) → m.intensity ≡ intensity.Normal → after m (given (not (is_normal x)) (sgr.Intensity x) ++ rest) ≡ after (record m { intensity = x }) rest
 intensity_back m intensity.Normal rest e = ap (λ (y : Intensity). after (record m { intensity = y }) rest) e
-intensity_back m intensity.Bold rest e = refl
-intensity_back m intensity.Half rest e = refl
+intensity_back m _ rest e = refl
 
 italic_back : (m : Look) (x : Bool) (rest : List Sgr) → m.italic ≡ false → after m (given x (sgr.Italic true) ++ rest) ≡ after (record m { italic = x }) rest
 italic_back m true rest e = refl
@@ -30,16 +29,11 @@ italic_back m false rest e = ap (λ (y : Bool). after (record m { italic = y }) 
 
 underline_back : (m : Look) (x : Underline) (rest : List Sgr) → m.underline ≡ underline.None → after m (given (not (is_none x)) (sgr.Underline x) ++ rest) ≡ after (record m { underline = x }) rest
 underline_back m underline.None rest e = ap (λ (y : Underline). after (record m { underline = y }) rest) e
-underline_back m underline.Single rest e = refl
-underline_back m underline.Double rest e = refl
-underline_back m underline.Curly rest e = refl
-underline_back m underline.Dotted rest e = refl
-underline_back m underline.Dashed rest e = refl
+underline_back m _ rest e = refl
 
 line_back : (m : Look) (x : ColorSpec) (rest : List Sgr) → m.line ≡ color.Default → after m (given (not (is_default x)) (sgr.UnderlineColor x) ++ rest) ≡ after (record m { line = x }) rest
 line_back m color.Default rest e = ap (λ (y : ColorSpec). after (record m { line = y }) rest) e
-line_back m (color.PaletteIndex i) rest e = refl
-line_back m (color.TrueColor c) rest e = refl
+line_back m _ rest e = refl
 
 overline_back : (m : Look) (x : Bool) (rest : List Sgr) → m.overline ≡ false → after m (given x (sgr.Overline true) ++ rest) ≡ after (record m { overline = x }) rest
 overline_back m true rest e = refl
@@ -55,13 +49,11 @@ inverse_back m false rest e = ap (λ (y : Bool). after (record m { inverse = y }
 
 text_back : (m : Look) (x : ColorSpec) (rest : List Sgr) → m.foreground ≡ color.Default → after m (given (not (is_default x)) (sgr.Foreground x) ++ rest) ≡ after (record m { foreground = x }) rest
 text_back m color.Default rest e = ap (λ (y : ColorSpec). after (record m { foreground = y }) rest) e
-text_back m (color.PaletteIndex i) rest e = refl
-text_back m (color.TrueColor c) rest e = refl
+text_back m _ rest e = refl
 
 ground_back : (m : Look) (x : ColorSpec) → m.background ≡ color.Default → after m (given (not (is_default x)) (sgr.Background x)) ≡ record m { background = x }
 ground_back m color.Default e = ap (λ (y : ColorSpec). record m { background = y }) e
-ground_back m (color.PaletteIndex i) e = refl
-ground_back m (color.TrueColor c) e = refl
+ground_back m _ e = refl
 
 pub looks_back : (old look : Look) → behind_all old (map action.Sgr (sgr.Reset ∷ attributes look)) ≡ look
 looks_back old l =

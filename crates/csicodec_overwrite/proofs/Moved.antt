@@ -5,7 +5,7 @@ use Rattle.std.proofs.lemmas.Bool.Decides.{nat_tests}
 use Rattle.std.proofs.lemmas.List.{length-drop, replicate-append-replicate, drop_at, reverse-append, reverse-reverse, take_all, take_at}
 use Rattle.csicodec_html.specs.declared.look.Look.{Look}
 use Rattle.csicodec_overwrite.specs.declared.cells.Cell.{Cell}
-use Rattle.csicodec_overwrite.specs.declared.cells.Cell.TheVariants.{Behind, Char, Empty, Mark}
+use Rattle.csicodec_overwrite.specs.declared.cells.Cell.TheVariants.{Empty}
 use Rattle.csicodec_overwrite.specs.declared.cells.Glyph.{Glyph}
 use Rattle.csicodec_overwrite.specs.declared.line.Line.{Line}
 use Rattle.csicodec_overwrite.specs.declared.marking.Marking.{Marking}
@@ -23,10 +23,10 @@ use Rattle.csicodec_overwrite.proofs.Texts.{texts_on}
 holds : {A : Type 0} (t : Bool) (x y : A) → t ≡ true → cond t x y ≡ x
 holds t x y e = rw e refl
 
-fails : {A : Type 0} (t : Bool) (x y : A) → t ≡ false → cond t x y ≡ y
+pub fails : {A : Type 0} (t : Bool) (x y : A) → t ≡ false → cond t x y ≡ y
 fails t x y e = rw e refl
 
-some_left : (n : ℕ) → 0 < n → (n == 0) ≡ false
+pub some_left : (n : ℕ) → 0 < n → (n == 0) ≡ false
 some_left n h = grind (arith, nat_tests)
 
 pub without_zero : (cells : List Cell) → without 0 cells ≡ cells
@@ -50,16 +50,10 @@ over_on n cell left right h = fails (nat_lt n (takes cell)) (line left (cell ∷
 
 pub takes_few : (cell : Cell) → takes cell ≤ 1
 takes_few Empty = omega arith
-takes_few (Char g) = omega arith
-takes_few Behind = omega arith
-takes_few (Mark c) = omega arith
+takes_few _ = omega arith
 
 pub narrow_few : (n : ℕ) → narrowed n ≤ 2
-narrow_few n = by (nat_le n 2) refl
-  where
-    by : (t : Bool) → nat_le n 2 ≡ t → cond t n 1 ≤ 2
-    by true e = grind (arith, nat_tests)
-    by false e = omega arith
+narrow_few n = grind (arith, nat_tests)
 
 pub columns_onto : (left right : List Cell) → columns (onto left right) ≡ columns left + columns right
 columns_onto [] right = omega arith
@@ -111,7 +105,7 @@ module _ (limit n : ℕ) (left right : List Cell) where
 
 pub onto_is : (side cells : List Cell) → onto side cells ≡ reverse side ++ cells
 onto_is [] cells = refl
-onto_is (cell ∷ side) cells = onto_is side (cell ∷ cells) ∙ sym (append_assoc (reverse side) (cell ∷ []) cells) ∙ ap (λ (t : List Cell). t ++ cells) (sym (reverse-append (cell ∷ []) side))
+onto_is (cell ∷ side) cells = rw (onto_is side (cell ∷ cells), reverse-append (cell ∷ []) side, append_assoc)
 
 pub farthest : (cells : List Cell) → cells ≡ onto (reverse cells) []
 farthest cells = sym (onto_is (reverse cells) [] ∙ append-nil (reverse (reverse cells)) ∙ reverse-reverse cells)
@@ -139,9 +133,8 @@ columns_empty n = columns_same Empty refl n
 reverse_same : (x : Cell) (n : ℕ) → reverse (replicate n x) ≡ replicate n x
 reverse_same x zero = refl
 reverse_same x (suc n) =
-    let one : 1 + n ≡ suc n = omega arith in
     let more : n + 1 ≡ suc n = omega arith in
-    reverse-append (x ∷ []) (replicate n x) ∙ ap (λ (t : List Cell). t ++ x ∷ []) (reverse_same x n) ∙ replicate-append-replicate n 1 x ∙ ap (λ (m : ℕ). replicate m x) more
+    rw (reverse-append (x ∷ []) (replicate n x), reverse_same x n) (replicate-append-replicate n 1 x ∙ ap (λ (m : ℕ). replicate m x) more)
 
 -- so many of one kind behind others
 module _ (x : Cell) (n m k : ℕ) (cells new : List Cell) (e : new ≡ take m cells ++ replicate k x) (few : length cells ≤ m) (some : k ≡ n) where
@@ -165,7 +158,7 @@ module _ (items more new : List Cell) (e : new ≡ items ++ more) where
 -- ---- cells that are given from one side to the other
 
 pub columns_back : (xs : List Cell) → columns (reverse xs) ≡ columns xs
-columns_back xs = ap columns (sym (append-nil (reverse xs))) ∙ ap columns (sym (onto_is xs [])) ∙ columns_onto xs [] ∙ omega arith
+columns_back xs = ap columns (sym (append-nil (reverse xs)) ∙ sym (onto_is xs [])) ∙ columns_onto xs [] ∙ omega arith
 
 last_first : (rest front : List Cell) (cell : Cell) → rest ≡ front ++ cell ∷ [] → reverse rest ≡ cell ∷ reverse front
 last_first rest front cell e = ap reverse e ∙ reverse-append front (cell ∷ [])
@@ -253,20 +246,11 @@ module _ (cells : List Cell) (count : ℕ) (rest : List Cell) (left : ℕ) where
 -- four cells behind others, the last first
 four_more : (cells front rest : List Cell) (a b c d : Cell) → rest ≡ front ++ (a ∷ (b ∷ (c ∷ (d ∷ []))))
     → ((((cells ++ (d ∷ [])) ++ (c ∷ [])) ++ (b ∷ [])) ++ (a ∷ [])) ++ reverse front ≡ cells ++ reverse rest
-four_more cells front rest a b c d e =
-    append_assoc (((cells ++ (d ∷ [])) ++ (c ∷ [])) ++ (b ∷ [])) (a ∷ []) (reverse front)
-    ∙ append_assoc ((cells ++ (d ∷ [])) ++ (c ∷ [])) (b ∷ []) (a ∷ reverse front)
-    ∙ append_assoc (cells ++ (d ∷ [])) (c ∷ []) (b ∷ (a ∷ reverse front))
-    ∙ append_assoc cells (d ∷ []) (c ∷ (b ∷ (a ∷ reverse front)))
-    ∙ ap (λ (t : List Cell). cells ++ t) (sym (ap reverse e ∙ reverse-append front (a ∷ (b ∷ (c ∷ (d ∷ []))))))
+four_more cells front rest a b c d e = rw (e, reverse-append front (a ∷ (b ∷ (c ∷ (d ∷ []))))) (simp append_assoc)
 
 four_are : (xs : List Cell) (d : Cell) → length xs ≡ 4 → xs ≡ get_or xs 0 d ∷ (get_or xs 1 d ∷ (get_or xs 2 d ∷ (get_or xs 3 d ∷ [])))
-four_are [] d e = absurd (omega (arith, e))
-four_are (a ∷ []) d e = absurd (omega (arith, e))
-four_are (a ∷ (b ∷ [])) d e = absurd (omega (arith, e))
-four_are (a ∷ (b ∷ (c ∷ []))) d e = absurd (omega (arith, e))
 four_are (a ∷ (b ∷ (c ∷ (f ∷ [])))) d e = refl
-four_are (a ∷ (b ∷ (c ∷ (f ∷ (g ∷ xs))))) d e = absurd (omega (arith, e))
+four_are _ d e = absurd (omega (arith, e))
 
 -- the last four behind others
 four_parts : (rest front four : List Cell) (d : Cell)
@@ -281,9 +265,7 @@ pub four_come : (cells one two three all front rest four whole : List Cell) (d :
     → (front ≡ take (length rest - 4) rest) × (four ≡ drop (length rest - 4) rest) × (length front + 4 ≡ length rest)
     → cells ++ reverse rest ≡ whole → all ++ reverse front ≡ whole
 four_come cells one two three all front rest four whole d e f g h parts before =
-    let ends : all ≡ (((cells ++ (get_or four 3 d ∷ [])) ++ (get_or four 2 d ∷ [])) ++ (get_or four 1 d ∷ [])) ++ (get_or four 0 d ∷ []) =
-    h ∙ ap (λ (t : List Cell). t ++ (get_or four 0 d ∷ [])) (g ∙ ap (λ (t : List Cell). t ++ (get_or four 1 d ∷ [])) (f ∙ ap (λ (t : List Cell). t ++ (get_or four 2 d ∷ [])) e)) in
-    ap (λ (t : List Cell). t ++ reverse front) ends ∙ four_more cells front rest (get_or four 0 d) (get_or four 1 d) (get_or four 2 d) (get_or four 3 d) (four_parts rest front four d parts) ∙ before
+    rw (h, g, f, e) (four_more cells front rest (get_or four 0 d) (get_or four 1 d) (get_or four 2 d) (get_or four 3 d) (four_parts rest front four d parts) ∙ before)
 
 -- a side of which so many cells stay
 module _ (items far near : List Cell) (kept : ℕ) (e : reverse items ≡ reverse (far ++ near)) (k : length far ≡ kept) where
@@ -309,13 +291,7 @@ columns_glyphs look (c ∷ cs) = omega (arith, columns_glyphs look cs)
 -- ---- room
 
 pub fits_within : (s k limit : ℕ) → 1 ≤ k → nat_le (s + k) limit ≡ nat_le k (limit - s)
-fits_within s k limit some = by (nat_le (s + k) limit) (nat_le k (limit - s)) refl refl
-  where
-    by : (a b : Bool) → nat_le (s + k) limit ≡ a → nat_le k (limit - s) ≡ b → a ≡ b
-    by true true e f = refl
-    by false false e f = refl
-    by true false e f = absurd (grind (arith, nat_tests))
-    by false true e f = absurd (grind (arith, nat_tests))
+fits_within s k limit some = grind (arith, nat_tests)
 
 -- ---- what is written
 
@@ -326,14 +302,12 @@ line_ends old text now new e f = f ∙ ap (λ (t : List ℕ). t ++ 10 ∷ []) e 
 -- the lines of a step, and then of those behind it
 pub step_text : (marking : Marking) (now new : List ℕ) (first later : List (List Cell)) (whole : List ℕ) → new ≡ now ++ texts_of marking first → now ++ texts_of marking (first ++ later) ≡ whole
     → new ++ texts_of marking later ≡ whole
-step_text marking now new first later whole e f =
-    ap (λ (t : List ℕ). t ++ texts_of marking later) e ∙ append_assoc now (texts_of marking first) (texts_of marking later) ∙ ap (λ (t : List ℕ). now ++ t) (sym (texts_on marking first later)) ∙ f
+step_text marking now new first later whole e f = rw (e, append_assoc, ← texts_on marking first later) f
 
 -- the lines of two steps, one after the other
 pub both_texts : (marking : Marking) (now mid new : List ℕ) (first later : List (List Cell)) → mid ≡ now ++ texts_of marking first → new ≡ mid ++ texts_of marking later
     → new ≡ now ++ texts_of marking (first ++ later)
-both_texts marking now mid new first later e f =
-    f ∙ ap (λ (t : List ℕ). t ++ texts_of marking later) e ∙ append_assoc now (texts_of marking first) (texts_of marking later) ∙ ap (λ (t : List ℕ). now ++ t) (sym (texts_on marking first later))
+both_texts marking now mid new first later e f = rw (f, e, append_assoc, texts_on marking first later)
 
 -- ---- so many times
 

@@ -34,12 +34,9 @@ record Same (x y : List Step) (a b : List ℕ) : Type 0 where
   runs : a ≡ b
 
 part_once : (k : Kind) (run bytes : List ℕ) (x y : List Step) (a b : List ℕ) → IsOfPart k run bytes x a → IsOfPart k run bytes y b → Same x y a b
-part_once kind.Text run bytes x y a b h i = record { steps = h.0 ∙ sym i.0; runs = h.1 ∙ sym i.1 }
 part_once kind.Csi run bytes x y a b (own, of, e, none) (other, is, f, nil) =
     record { steps = e ∙ ap (λ (actions : List Action). of_run run ++ of_sequence actions) (taken_once bytes own other of is) ∙ sym f; runs = none ∙ sym nil }
-part_once kind.Esc run bytes x y a b h i = record { steps = h.0 ∙ sym i.0; runs = h.1 ∙ sym i.1 }
-part_once kind.Str run bytes x y a b h i = record { steps = h.0 ∙ sym i.0; runs = h.1 ∙ sym i.1 }
-part_once kind.Other run bytes x y a b h i = record { steps = h.0 ∙ sym i.0; runs = h.1 ∙ sym i.1 }
+part_once _ run bytes x y a b h i = record { steps = h.0 ∙ sym i.0; runs = h.1 ∙ sym i.1 }
 
 -- what is read of some parts, and then of others
 record Parted (x : List Step) (a : List ℕ) (qs : List Part) (y : List Step) (b : List ℕ) : Type 0 where

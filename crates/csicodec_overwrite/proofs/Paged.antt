@@ -4,6 +4,7 @@ use Rattle.std.proofs.Common.{◌≡◌, ℕ, Bool, true, false, cond, List, [],
 use Rattle.std.specs.Prelude.{filter}
 use Rattle.std.specs.List.{AllByRecursion, flat_map}
 use Rattle.std.specs.Str.{all_scalars}
+use Rattle.std.proofs.lemmas.Bool.{cond_both}
 use Rattle.std.proofs.lemmas.Grind.{flat_map-append}
 use Rattle.bstr.proofs.lemmas.EncodeLemmas.{lossy_chars-encode}
 use Rattle.csicodec_base.specs.declared.sgr.Sgr.TheVariants as sgr
@@ -24,7 +25,6 @@ use Rattle.csicodec_html.specs.Page.{piece_text as mark_text}
 use Rattle.csicodec_html.specs.Page as html
 use Rattle.csicodec_overwrite.specs.declared.cells.Cell.{Cell}
 use Rattle.csicodec_overwrite.specs.declared.marking.Marking.TheVariants.{Page, Styled}
-use Rattle.csicodec_overwrite.specs.Cells.{chars_of}
 use Rattle.csicodec_overwrite.specs.Line.{Done, blank, cells_of, do_all, fresh}
 use Rattle.csicodec_overwrite.specs.Paint.{attributes, ended, look_of, paint, same, texts_of, turn}
 use Rattle.csicodec_overwrite.specs.Reading.{Pages, Paints, most, shown_by}
@@ -89,12 +89,7 @@ module _ (m : Markup) where
   both_marks : (xs ys : List Piece) (l : Look) → piece_texts (marks l (xs ++ ys)) ≡ piece_texts (marks l xs) ++ piece_texts (marks (look_behind l xs) ys)
   both_marks [] ys l = refl
   both_marks (One c ∷ xs) ys l = ap (λ (t : List ℕ). escaped c ++ t) (both_marks xs ys l) ∙ sym (append_assoc (escaped c) (piece_texts (marks l xs)) (piece_texts (marks (look_behind l xs) ys)))
-  both_marks (Turn new ∷ xs) ys l =
-      let tags = html.turn m true l new in
-      let later = piece_texts (marks (look_behind new xs) ys) in
-      flat_map-append mark_text tags (marks new (xs ++ ys)) ∙ ap (λ (t : List ℕ). piece_texts tags ++ t) (both_marks xs ys new)
-      ∙ sym (append_assoc (piece_texts tags) (piece_texts (marks new xs)) later)
-      ∙ ap (λ (t : List ℕ). t ++ later) (sym (flat_map-append mark_text tags (marks new xs)))
+  both_marks (Turn new ∷ xs) ys l = simp (flat_map-append mark_text, both_marks xs ys new, append_assoc)
 
   both_behind : (xs ys : List Piece) (l : Look) → look_behind l (xs ++ ys) ≡ look_behind (look_behind l xs) ys
   both_behind [] ys l = refl
@@ -104,11 +99,7 @@ module _ (m : Markup) where
   -- ---- of a turn and of characters
 
   turned_behind : (old new : Look) → look_behind old (turned old new) ≡ new
-  turned_behind old new = by (same old new) refl
-    where
-      by : (t : Bool) → same old new ≡ t → look_behind old (cond t [] (Turn new ∷ [])) ≡ new
-      by true e = look_one old new e
-      by false e = refl
+  turned_behind old new = cond_both (same old new) [] (Turn new ∷ []) (λ (ps : List Piece). look_behind old ps ≡ new) (look_one old new) (λ e. refl)
 
   turned_marks : (old new : Look) → piece_texts (marks old (turned old new)) ≡ turn (Page m) old new
   turned_marks old new = by (same old new)
@@ -129,25 +120,11 @@ module _ (m : Markup) where
 
   cells_behind : (cells : List Cell) (l : Look) → look_behind l (of_cells l cells) ≡ plain
   cells_behind [] l = turned_behind l plain
-  cells_behind (cell ∷ cells) l =
-      let next = look_of l cell in
-      let ones = map One (chars_of cell) in
-      let later = of_cells next cells in
-      both_behind (turned l next) (ones ++ later) l ∙ ap (λ (x : Look). look_behind x (ones ++ later)) (turned_behind l next)
-      ∙ both_behind ones later next ∙ ap (λ (x : Look). look_behind x later) (ones_behind (chars_of cell) next) ∙ cells_behind cells next
+  cells_behind (cell ∷ cells) l = simp (both_behind, turned_behind, ones_behind, cells_behind cells (look_of l cell))
 
   cells_marks : (cells : List Cell) (l : Look) → piece_texts (marks l (of_cells l cells)) ≡ paint (Page m) l cells
   cells_marks [] l = turned_marks l plain
-  cells_marks (cell ∷ cells) l =
-      let next = look_of l cell in
-      let ones = map One (chars_of cell) in
-      let later = of_cells next cells in
-      both_marks (turned l next) (ones ++ later) l ∙ ap (λ (t : List ℕ). t ++ piece_texts (marks (look_behind l (turned l next)) (ones ++ later))) (turned_marks l next)
-      ∙ ap (λ (x : Look). turn (Page m) l next ++ piece_texts (marks x (ones ++ later))) (turned_behind l next)
-      ∙ ap (λ (t : List ℕ). turn (Page m) l next ++ t)
-      (both_marks ones later next ∙ ap (λ (t : List ℕ). t ++ piece_texts (marks (look_behind next ones) later)) (ones_marks (chars_of cell) next)
-      ∙ ap (λ (x : Look). flat_map escaped (chars_of cell) ++ piece_texts (marks x later)) (ones_behind (chars_of cell) next)
-      ∙ ap (λ (t : List ℕ). flat_map escaped (chars_of cell) ++ t) (cells_marks cells next))
+  cells_marks (cell ∷ cells) l = simp (both_marks, turned_marks, turned_behind, ones_marks, ones_behind, cells_marks cells (look_of l cell))
 
   line_behind : (cells : List Cell) → look_behind plain (of_line cells) ≡ plain
   line_behind cells = both_behind (of_cells plain cells) (One 10 ∷ []) plain ∙ cells_behind cells plain
@@ -163,20 +140,14 @@ module _ (m : Markup) where
 
   lines_marks : (lines : List (List Cell)) → piece_texts (marks plain (flat_map of_line lines)) ≡ texts_of (Page m) lines
   lines_marks [] = refl
-  lines_marks (x ∷ xs) =
-      both_marks (of_line x) (flat_map of_line xs) plain ∙ ap (λ (t : List ℕ). t ++ piece_texts (marks (look_behind plain (of_line x)) (flat_map of_line xs))) (line_marks x)
-      ∙ ap (λ (l : Look). ended (Page m) x ++ piece_texts (marks l (flat_map of_line xs))) (line_behind x) ∙ ap (λ (t : List ℕ). ended (Page m) x ++ t) (lines_marks xs)
+  lines_marks (x ∷ xs) = rw (both_marks (of_line x) (flat_map of_line xs) plain, line_marks x, line_behind x, lines_marks xs)
 
   all_behind : (d : Done) → look_behind plain (of_all d) ≡ plain
-  all_behind d =
-      let last = of_cells plain (cells_of d.line) in
-      both_behind (flat_map of_line d.lines) last plain ∙ ap (λ (l : Look). look_behind l last) (lines_behind d.lines) ∙ cells_behind (cells_of d.line) plain
+  all_behind d = rw (both_behind (flat_map of_line d.lines) (of_cells plain (cells_of d.line)) plain, lines_behind d.lines, cells_behind (cells_of d.line) plain)
 
   all_marks : (d : Done) → piece_texts (marks plain (of_all d)) ≡ shown_by (Page m) d
   all_marks d =
-      let last = of_cells plain (cells_of d.line) in
-      both_marks (flat_map of_line d.lines) last plain ∙ ap (λ (t : List ℕ). t ++ piece_texts (marks (look_behind plain (flat_map of_line d.lines)) last)) (lines_marks d.lines)
-      ∙ ap (λ (l : Look). texts_of (Page m) d.lines ++ piece_texts (marks l last)) (lines_behind d.lines) ∙ ap (λ (t : List ℕ). texts_of (Page m) d.lines ++ t) (cells_marks (cells_of d.line) plain)
+      rw (both_marks (flat_map of_line d.lines) (of_cells plain (cells_of d.line)) plain, lines_marks d.lines, lines_behind d.lines, cells_marks (cells_of d.line) plain)
 
   page_of : (ps : List Piece) → AreSafe ps → look_behind plain ps ≡ plain → PageWith m (pieces_text ps) (piece_texts (marks plain ps))
   page_of ps safe e = record {

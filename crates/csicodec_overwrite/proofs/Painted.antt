@@ -7,11 +7,11 @@ use Rattle.csicodec_base.specs.declared.sgr.Sgr.{Sgr}
 use Rattle.csicodec_html.specs.declared.look.Look.{Look}
 use Rattle.csicodec_html.specs.Look.{plain}
 use Rattle.csicodec_overwrite.specs.declared.cells.Cell.{Cell}
-use Rattle.csicodec_overwrite.specs.declared.cells.Cell.TheVariants.{Behind, Char, Empty, Mark}
+use Rattle.csicodec_overwrite.specs.declared.cells.Cell.TheVariants.{Char, Empty}
 use Rattle.csicodec_overwrite.specs.declared.cells.Glyph.{Glyph}
 use Rattle.csicodec_overwrite.specs.declared.marking.Marking.{Marking}
-use Rattle.csicodec_overwrite.specs.declared.marking.Marking.TheVariants.{Page, Plain, Styled}
-use Rattle.csicodec_overwrite.specs.Cells.{chars_of, glyph, is_empty}
+use Rattle.csicodec_overwrite.specs.declared.marking.Marking.TheVariants.{Plain}
+use Rattle.csicodec_overwrite.specs.Cells.{chars_of, is_empty}
 use Rattle.csicodec_clean.proofs.Shows.{encoded_on}
 use Rattle.csicodec_overwrite.specs.Private.Alike.{IsAlike}
 use Rattle.csicodec_overwrite.proofs.Alike.{look_one, turn_same, written_none, written_on}
@@ -20,26 +20,17 @@ use Rattle.csicodec_overwrite.specs.Paint.{attributes, further, look_of, look_te
 -- a cell, and then the others
 pub painted_on : (marking : Marking) (look : Look) (cell : Cell) (cells : List Cell) (old mid new whole : List ℕ) → mid ≡ old ++ turn marking look (look_of look cell)
     → new ≡ mid ++ written marking (chars_of cell) → old ++ paint marking look (cell ∷ cells) ≡ whole → new ++ paint marking (look_of look cell) cells ≡ whole
-painted_on marking look cell cells old mid new whole e f h =
-    let next = look_of look cell in
-    let chars = written marking (chars_of cell) in
-    let rest = paint marking next cells in
-    ap (λ (t : List ℕ). t ++ rest) (f ∙ ap (λ (t : List ℕ). t ++ chars) e) ∙ append_assoc (old ++ turn marking look next) chars rest ∙ append_assoc old (turn marking look next) (chars ++ rest) ∙ h
-
--- nothing is set in an empty one
-pub none_set : (look : Look) (cell : Cell) → is_empty cell ≡ true → look_of look cell ≡ plain
-none_set look Empty e = refl
-none_set look (Char g) e = cc
-none_set look Behind e = cc
-none_set look (Mark c) e = cc
+painted_on marking look cell cells old mid new whole e f h = rw (f, e) (simp append_assoc h)
 
 -- ---- empty cells at once
 
 empty_is : (cell : Cell) → is_empty cell ≡ true → cell ≡ Empty
 empty_is Empty e = refl
-empty_is (Char g) e = cc
-empty_is Behind e = cc
-empty_is (Mark c) e = cc
+empty_is _ e = cc
+
+-- nothing is set in one
+pub none_set : (look : Look) (cell : Cell) → is_empty cell ≡ true → look_of look cell ≡ plain
+none_set look cell e = ap (look_of look) (empty_is cell e)
 
 pub empty_chars : (cell : Cell) → is_empty cell ≡ true → chars_of cell ≡ 32 ∷ []
 empty_chars cell e = ap chars_of (empty_is cell e)
@@ -54,9 +45,7 @@ empty_none cells = let none : 0 ≡ length cells - length cells = omega arith in
 -- one more that is empty in front of the rest
 pub empty_on : (all rest behind : List Cell) (cell : Cell) (n m : ℕ) → all ≡ replicate n Empty ++ rest → rest ≡ cell ∷ behind → is_empty cell ≡ true → m ≡ suc n
     → all ≡ replicate m Empty ++ behind
-empty_on all rest behind cell n m split first e more =
-    split ∙ ap (λ (t : List Cell). replicate n Empty ++ t) (first ∙ ap (λ (x : Cell). x ∷ behind) (empty_is cell e)) ∙ empty_more n behind
-    ∙ ap (λ (k : ℕ). replicate k Empty ++ behind) (sym more)
+empty_on all rest behind cell n m split first e more = rw (split, first, empty_is cell e, empty_more, more)
 
 pub blanks_more : (n m k : ℕ) (items new : List ℕ) → new ≡ take m items ++ replicate k 32 → length items ≤ m → k ≡ n → new ≡ items ++ replicate n 32
 blanks_more n m k items new e few some =
@@ -65,14 +54,11 @@ blanks_more n m k items new e few some =
 space_written : (marking : Marking) → written marking (32 ∷ []) ≡ 32 ∷ []
 unfolding lib.Utf8.encode
 space_written Plain = refl
-space_written Styled = refl
-space_written (Page m) = refl
+space_written _ = refl
 
 pub blanks_written : (marking : Marking) (n : ℕ) → written marking (replicate n 32) ≡ replicate n 32
 blanks_written marking zero = written_none marking
-blanks_written marking (suc n) =
-    written_on marking (32 ∷ []) (replicate n 32) ∙ ap (λ (t : List ℕ). t ++ written marking (replicate n 32)) (space_written marking)
-    ∙ ap (λ (t : List ℕ). 32 ∷ t) (blanks_written marking n)
+blanks_written marking (suc n) = rw (written_on marking (32 ∷ []) (replicate n 32), space_written marking, blanks_written marking n)
 
 -- those of one, and of those behind it
 pub blanks_alike : (marking : Marking) (cell : Cell) (k n : ℕ) (old new : List ℕ) → is_empty cell ≡ true → k ≡ suc n → new ≡ old ++ replicate k 32
@@ -84,13 +70,7 @@ blanks_alike marking cell k n old new empty some e =
 blanks_paint : (marking : Marking) (n : ℕ) (rest : List Cell)
     → paint marking plain (replicate n Empty ++ rest) ≡ written marking (replicate n 32) ++ paint marking plain rest
 blanks_paint marking zero rest = ap (λ (t : List ℕ). t ++ paint marking plain rest) (sym (written_none marking))
-blanks_paint marking (suc n) rest =
-    let one = written marking (32 ∷ []) in
-    let later = paint marking plain rest in
-    ap (λ (t : List ℕ). t ++ (one ++ paint marking plain (replicate n Empty ++ rest))) (turn_same marking plain)
-    ∙ ap (λ (t : List ℕ). one ++ t) (blanks_paint marking n rest)
-    ∙ sym (append_assoc one (written marking (replicate n 32)) later)
-    ∙ ap (λ (t : List ℕ). t ++ later) (sym (written_on marking (32 ∷ []) (replicate n 32)))
+blanks_paint marking (suc n) rest = rw (turn_same marking plain, blanks_paint marking n rest, written_on marking (32 ∷ []) (replicate n 32), append_assoc)
 
 alike_paint : (marking : Marking) (look : Look) (cell : Cell) (rest : List Cell) (n : ℕ) (t : Bool) → is_empty cell ≡ t → (t ≡ false → n ≡ 0)
     → paint marking (look_of look cell) (replicate n Empty ++ rest) ≡ written marking (replicate n 32) ++ paint marking (look_of look cell) rest
@@ -106,14 +86,9 @@ pub alike_on : (marking : Marking) (look : Look) (cell : Cell) (behind rest : Li
     → mid ≡ old ++ turn marking look (look_of look cell) → new ≡ mid ++ text → old ++ paint marking look (cell ∷ behind) ≡ whole
     → new ++ paint marking (look_of look cell) rest ≡ whole
 alike_on marking look cell behind rest text old mid new whole (n, split, none, is) e f h =
-    let next = look_of look cell in
-    let one = written marking (chars_of cell) in
-    let blanks = written marking (replicate n 32) in
-    let later = paint marking next rest in
-    ap (λ (t : List ℕ). t ++ later) (f ∙ ap (λ (t : List ℕ). mid ++ t) (is ∙ written_on marking (chars_of cell) (replicate n 32))
-    ∙ sym (append_assoc mid one blanks)) ∙ append_assoc (mid ++ one) blanks later
-    ∙ ap (λ (t : List ℕ). (mid ++ one) ++ t) (sym (ap (paint marking next) split ∙ alike_paint marking look cell rest n (is_empty cell) refl none))
-    ∙ painted_on marking look cell behind old mid (mid ++ one) whole e refl h
+    let on = painted_on marking look cell behind old mid (mid ++ written marking (chars_of cell)) whole e refl h in
+    rw (f, is, written_on marking (chars_of cell) (replicate n 32))
+    (simp append_assoc (rw (split, alike_paint marking look cell rest n (is_empty cell) refl none, append_assoc) at on))
 
 pub same_look : (look : Look) (g : Glyph) → same look g.look ≡ true → look_of look (Char g) ≡ look
 same_look look g is = sym (look_one look g.look is)
@@ -126,10 +101,7 @@ pub same_on : (marking : Marking) (look : Look) (all cells behind : List Cell) (
 same_on marking look all cells behind cell text old mid new split first is e f =
     let one = written marking (chars_of cell) in
     let later = paint marking look behind in
-    let next : paint marking look cells ≡ one ++ later =
-    ap (paint marking look) first
-    ∙ ap (λ (n : Look). turn marking look n ++ (one ++ paint marking n behind)) is
-    ∙ ap (λ (t : List ℕ). t ++ (one ++ later)) (turn_same marking look) in (
+    let next : paint marking look cells ≡ one ++ later = rw (first, is, turn_same marking look) in (
       text ++ one,
       split ∙ ap (λ (t : List ℕ). text ++ t) next ∙ sym (append_assoc text one later),
       f ∙ ap (λ (t : List ℕ). t ++ one) e ∙ append_assoc old text one,
@@ -137,9 +109,7 @@ same_on marking look all cells behind cell text old mid new split first is e f =
 
 pub looks_on : (marking : Marking) (look : Look) (others rest : List Cell) (text mid new whole : List ℕ) → paint marking look others ≡ text ++ paint marking look rest
     → new ≡ mid ++ text → mid ++ paint marking look others ≡ whole → new ++ paint marking look rest ≡ whole
-looks_on marking look others rest text mid new whole split e h =
-    ap (λ (t : List ℕ). t ++ paint marking look rest) e ∙ append_assoc mid text (paint marking look rest)
-    ∙ ap (λ (t : List ℕ). mid ++ t) (sym split) ∙ h
+looks_on marking look others rest text mid new whole split e h = rw (e, append_assoc, ← split) h
 
 plain_paint : (look : Look) (cells : List Cell) → paint Plain look cells ≡ encode_utf8_all (flat_map chars_of cells)
 plain_paint look [] = refl
@@ -163,13 +133,8 @@ look_begins look old new e =
 -- some attributes, and then the others
 pub given_on : (xs ys : List Sgr) (old new whole : List ℕ) → old ++ (flat_map further (xs ++ ys) ++ 109 ∷ []) ≡ whole
     → new ≡ old ++ flat_map further xs → new ++ (flat_map further ys ++ 109 ∷ []) ≡ whole
-given_on xs ys old new whole h e =
-    let first = flat_map further xs in
-    let later = flat_map further ys ++ 109 ∷ [] in
-    ap (λ (t : List ℕ). t ++ later) e ∙ append_assoc old first later
-    ∙ ap (λ (t : List ℕ). old ++ t) (sym (append_assoc first (flat_map further ys) (109 ∷ []))) ∙ ap (λ (t : List ℕ). old ++ (t ++ 109 ∷ [])) (sym (flat_map-append further xs ys))
-    ∙ h
+given_on xs ys old new whole h e = rw (e, append_assoc) (simp (flat_map-append, append_assoc) at h)
 
 -- the last of them, and the final byte
 pub look_ends : (xs : List Sgr) (old now new whole : List ℕ) → old ++ (flat_map further xs ++ 109 ∷ []) ≡ whole → now ≡ old ++ flat_map further xs → new ≡ now ++ 109 ∷ [] → new ≡ whole
-look_ends xs old now new whole h e f = f ∙ ap (λ (t : List ℕ). t ++ 109 ∷ []) e ∙ append_assoc old (flat_map further xs) (109 ∷ []) ∙ h
+look_ends xs old now new whole h e f = rw (f, e, append_assoc) h

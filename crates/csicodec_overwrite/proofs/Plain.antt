@@ -1,9 +1,8 @@
 -- What is written is plain: UTF-8 of characters that are shown.
-use Rattle.std.proofs.Common.{◌≡◌, ℕ, Bool, true, false, cond, List, [], ◌∷◌, ◌++◌, length, refl, ◌∙◌}
-use Rattle.std.specs.Prelude.{◌==◌, ◌&&◌, ◌||◌, slice_index, Some, None}
+use Rattle.std.proofs.Common.{◌≡◌, ℕ, Bool, true, false, cond, List, [], ◌∷◌, ◌++◌, refl, ◌∙◌, rules}
 use Rattle.std.specs.List.{AllByRecursion}
 use Rattle.std.specs.Str.{all_scalars}
-use Rattle.std.proofs.lemmas.Bool.{and_from, and_parts}
+use Rattle.std.proofs.lemmas.Bool.{and_from, and_parts, cond_both}
 use lib.Utf8.{scalar}
 use Rattle.bstr.specs.Utf8.{lossy_chars}
 use Rattle.csicodec_names.specs.declared.enums.EraseInDisplay.{EraseInDisplay}
@@ -35,7 +34,7 @@ use Rattle.csicodec_terminal.specs.Terminal.{IsTakenFor}
 use Rattle.csicodec_spans.specs.declared.table.Kind.{Kind}
 use Rattle.csicodec_spans.specs.declared.table.Kind.TheVariants as kind
 use Rattle.csicodec_spans.specs.Parts.{Part}
-use Rattle.csicodec_clean.specs.Shown.{IsPlain, IsShown, shown}
+use Rattle.csicodec_clean.specs.Shown.{IsPlain, IsShown}
 use Rattle.csicodec_clean.specs.Titles.{with_titles}
 use Rattle.csicodec_clean.proofs.Plain.{scalars_lossy}
 use Rattle.csicodec_html.specs.declared.look.Look.{Look}
@@ -44,7 +43,7 @@ use Rattle.csicodec_overwrite.specs.declared.step.Step.{Step}
 use Rattle.csicodec_overwrite.specs.declared.step.Step.TheVariants as step
 use Rattle.csicodec_overwrite.specs.Line.{blank, do_all, fresh}
 use Rattle.csicodec_overwrite.specs.Paint.{IsInRange}
-use Rattle.csicodec_overwrite.specs.Steps.{by_code, may_move, of_action, of_actions, of_char, of_chars, of_code, of_control, of_cursor}
+use Rattle.csicodec_overwrite.specs.Steps.{by_code, of_action, of_actions, of_char, of_chars, of_code, of_control, of_cursor}
 use Rattle.csicodec_overwrite.specs.Steps.{of_device, of_display, of_edit, of_escape, of_final, of_mode, of_part, of_reset, of_run}
 use Rattle.csicodec_overwrite.specs.Steps.{of_sequence, of_set, of_string, of_string_byte, of_terminal_code, of_terminal_mode, of_wrong, of_wrong_byte}
 use Rattle.csicodec_overwrite.specs.Reading.{AreOfParts, IsOfPart, Overwrites, Steps, most}
@@ -65,26 +64,14 @@ both (x ∷ xs) ys h k = (h.0, both xs ys h.1 k)
 
 -- ---- no other is put
 
-pick : (t : Bool) (x y : List Step) → AreGood x → AreGood y → AreGood (cond t x y)
-pick true x y h k = h
-pick false x y h k = k
+pick : (t : Bool) (x y : List Step) → (t ≡ true → AreGood x) → AreGood y → AreGood (cond t x y)
+pick t x y h k = cond_both t x y AreGood h (λ e. k)
 
 control_good : (c : ℕ) → AreGood (of_control c)
-control_good c =
-    pick (c == 11 || (c == 12 || (c == 132 || (c == 141 || c == 155)))) (step.Leave None ∷ [])
-    (cond (c == 133) (step.Leave (Some 1) ∷ []) (step.Other ∷ [])) (tt, tt) (pick (c == 133) (step.Leave (Some 1) ∷ []) (step.Other ∷ []) (tt, tt) (tt, tt))
+control_good c = search (rules, pick)
 
 char_good : (c : ℕ) → scalar c ≡ true → AreGood (of_char c)
-char_good c h = by (c == 10) (c == 13) (c == 8) (c == 9) (shown c) (λ e. (e, h))
-  where
-    by : (line return back tab shows : Bool) → (shows ≡ true → IsGood c)
-        → AreGood (cond line (step.NewLine ∷ []) (cond return (step.Column 1 ∷ []) (cond back (step.Left 1 ∷ []) (cond tab (step.Tab ∷ []) (cond shows (step.Put c ∷ []) (of_control c))))))
-    by true return back tab shows good = (tt, tt)
-    by false true back tab shows good = (tt, tt)
-    by false false true tab shows good = (tt, tt)
-    by false false false true shows good = (tt, tt)
-    by false false false false true good = (good refl, tt)
-    by false false false false false good = control_good c
+char_good c h = search (rules, pick, control_good) depth 12
 
 chars_good : (cs : List ℕ) → all_scalars cs ≡ true → AreGood (of_chars cs)
 chars_good [] h = tt
@@ -96,67 +83,35 @@ run_good : (run : List ℕ) → AreGood (of_run run)
 run_good run = chars_good (lossy_chars run) (scalars_lossy run)
 
 final_good : (c : ℕ) → AreGood (of_final c)
-final_good c = by (c == 68 || c == 77) (c == 69) (c == 55) (c == 56) (c == 99)
-  where
-    by : (same first saves restores reset : Bool)
-        → AreGood (cond same (step.Leave None ∷ [])
-        (cond first (step.Leave (Some 1) ∷ []) (cond saves (step.Save ∷ []) (cond restores (step.Restore ∷ []) (cond reset (step.Leave (Some 1) ∷ (step.Reset ∷ [])) (step.Other ∷ []))))))
-    by true first saves restores reset = (tt, tt)
-    by false true saves restores reset = (tt, tt)
-    by false false true restores reset = (tt, tt)
-    by false false false true reset = (tt, tt)
-    by false false false false true = (tt, (tt, tt))
-    by false false false false false = (tt, tt)
+final_good c = search (rules, pick) depth 12
 
 escape_good : (bytes : List ℕ) → AreGood (of_escape bytes)
-escape_good bytes =
-    let aligns = length bytes == 3 && (slice_index bytes 1 == 35 && slice_index bytes 2 == 56) in
-    let align : List Step = step.Leave (Some 1) ∷ [] in
-    let other : List Step = step.Other ∷ [] in
-    pick (length bytes == 2) (of_final (slice_index bytes 1)) (cond aligns align other) (final_good (slice_index bytes 1)) (pick aligns align other (tt, tt) (tt, tt))
+escape_good bytes = search (rules, pick, final_good)
 
 string_good : (bytes : List ℕ) → AreGood (of_string bytes)
 string_good [] = tt
-string_good (b ∷ bytes) = both (of_string_byte b) (of_string bytes) (pick (b == 27) (step.Other ∷ []) [] (tt, tt) tt) (string_good bytes)
+string_good (b ∷ bytes) = both (of_string_byte b) (of_string bytes) (search (rules, pick)) (string_good bytes)
 
 wrong_good : (bytes : List ℕ) → AreGood (of_wrong bytes)
 wrong_good [] = tt
-wrong_good (b ∷ bytes) = both (of_wrong_byte b) (of_wrong bytes) (pick (b == 27) (step.Leave None ∷ []) [] (tt, tt) tt) (wrong_good bytes)
+wrong_good (b ∷ bytes) = both (of_wrong_byte b) (of_wrong bytes) (search (rules, pick)) (wrong_good bytes)
 
 cursor_good : (c : Cursor) → AreGood (of_cursor c)
-cursor_good (cursor.Right n) = (tt, tt)
-cursor_good (cursor.Left n) = (tt, tt)
-cursor_good (cursor.CharacterAbsolute col) = (tt, tt)
-cursor_good (cursor.CharacterPositionAbsolute col) = (tt, tt)
-cursor_good (cursor.CharacterPositionForward n) = (tt, tt)
-cursor_good (cursor.CharacterPositionBackward n) = (tt, tt)
-cursor_good (cursor.ForwardTabulation n) = (tt, tt)
-cursor_good (cursor.BackwardTabulation n) = (tt, tt)
-cursor_good cursor.SaveCursor = (tt, tt)
-cursor_good (cursor.Position row col) = (tt, tt)
-cursor_good (cursor.CharacterAndLinePosition row col) = (tt, tt)
-cursor_good (cursor.Up n) = (tt, tt)
-cursor_good (cursor.Down n) = (tt, tt)
-cursor_good (cursor.LinePositionAbsolute row) = (tt, tt)
-cursor_good (cursor.LinePositionForward n) = (tt, tt)
-cursor_good (cursor.LinePositionBackward n) = (tt, tt)
-cursor_good (cursor.LineTabulation n) = (tt, tt)
-cursor_good (cursor.NextLine n) = (tt, tt)
-cursor_good (cursor.PrecedingLine n) = (tt, tt)
-cursor_good (cursor.SetTopAndBottomMargins top bottom) = (tt, tt)
-cursor_good cursor.RestoreCursor = (tt, tt)
-cursor_good _ = tt
+cursor_good (cursor.ActivePositionReport line col) = tt
+cursor_good (cursor.TabulationControl c) = tt
+cursor_good (cursor.TabulationClear c) = tt
+cursor_good (cursor.SetLeftAndRightMargins left right) = tt
+cursor_good cursor.RequestActivePositionReport = tt
+cursor_good (cursor.CursorStyle s) = tt
+cursor_good _ = (tt, tt)
 
 part_good : (p : EraseInLine) → AreGood (of_part p)
-part_good part.EraseToEndOfLine = (tt, tt)
-part_good part.EraseToStartOfLine = (tt, tt)
 part_good part.EraseLine = (tt, tt)
+part_good _ = (tt, tt)
 
 display_good : (p : EraseInDisplay) → AreGood (of_display p)
-display_good display.EraseToEndOfDisplay = (tt, tt)
-display_good display.EraseToStartOfDisplay = (tt, tt)
-display_good display.EraseDisplay = (tt, tt)
 display_good display.EraseScrollback = tt
+display_good _ = (tt, tt)
 
 edit_good : (e : Edit) → AreGood (of_edit e)
 edit_good (edit.EraseInLine p) = part_good p
@@ -212,7 +167,7 @@ action_good (action.Edit e) h = edit_good e
 action_good (action.Sgr s) h = (h, tt)
 action_good (action.Mode m) h = mode_good m
 action_good (action.Device d) h = device_good d
-action_good (action.Unspecified params flag final) h = pick (may_move params final) (step.Leave None ∷ []) [] (tt, tt) tt
+action_good (action.Unspecified params flag final) h = search (rules, pick)
 action_good _ h = tt
 
 actions_good : (actions : List Action) → AllByRecursion InRange actions → AreGood (of_actions actions)

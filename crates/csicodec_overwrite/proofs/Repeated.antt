@@ -1,6 +1,7 @@
 -- A character that comes many times at once.
 use Rattle.std.proofs.Common.{◌≡◌, ◌≤◌, ◌<◌, ℕ, zero, suc, ◌+◌, ◌-◌, ◌*◌, Bool, true, false, cond, List, [], ◌∷◌, ◌++◌, length, replicate, refl, sym, ap, ◌∙◌, arith}
 use Rattle.std.specs.Prelude.{◌==◌}
+use Rattle.std.proofs.lemmas.Bool.{cond_both}
 use Rattle.std.proofs.lemmas.Bool.Decides.{nat_tests}
 use Rattle.csicodec_overwrite.specs.declared.cells.Cell.{Cell}
 use Rattle.csicodec_overwrite.specs.declared.cells.Cell.TheVariants.{Behind, Char, Empty, Mark}
@@ -9,25 +10,15 @@ use Rattle.csicodec_overwrite.specs.declared.line.Line.{Line}
 use Rattle.csicodec_overwrite.specs.Cells.{begins_behind, belongs, columns, emptied, gone, is_behind, outside, shifted, takes, untabbed, width, without}
 use Rattle.csicodec_overwrite.specs.Line.{Done, before, blank, cells_of, done, fits, line, parted, placed, put, repeat, size}
 use Rattle.csicodec_overwrite.specs.Private.Sides.{placed_many, put_many}
-use Rattle.csicodec_overwrite.proofs.Moved.{without_zero}
+use Rattle.csicodec_overwrite.proofs.Moved.{fails, some_left, takes_few, without_zero}
 use Rattle.csicodec_overwrite.proofs.Room.{placed_size}
 use Rattle.csicodec_overwrite.proofs.Shifted.{shifted_stays}
-
--- a test that fails
-fails : {A : Type 0} (t : Bool) (x y : A) → t ≡ false → cond t x y ≡ y
-fails t x y e = rw e refl
-
-some_left : (n : ℕ) → 0 < n → (n == 0) ≡ false
-some_left n h = grind (arith, nat_tests)
 
 -- ---- what is gone
 
 -- so many columns, and then more
 few : (x : Cell) (n m : ℕ) → 0 < n → n - takes x + m ≡ n + m - takes x
-few Empty n m some = omega (arith, some)
-few (Char g) n m some = omega (arith, some)
-few Behind n m some = omega (arith, some)
-few (Mark c) n m some = omega arith
+few x n m some = omega (arith, takes_few x)
 
 without_on : (n m : ℕ) (xs : List Cell) → without m (without n xs) ≡ without (n + m) xs
 without_on n m [] = refl
@@ -46,19 +37,11 @@ without_on n m (x ∷ xs) = by (n == 0) refl (without_on (n - takes x) m xs)
 
 columns_outside : (xs : List Cell) → columns (outside xs) ≤ columns xs
 columns_outside [] = omega arith
-columns_outside (x ∷ xs) = by (belongs x) (columns_outside xs)
-  where
-    by : (t : Bool) → columns (outside xs) ≤ columns xs → columns (cond t (outside xs) (x ∷ xs)) ≤ takes x + columns xs
-    by true h = omega (arith, h)
-    by false h = omega arith
+columns_outside (x ∷ xs) = grind (arith, nat_tests, columns_outside xs)
 
 outside_twice : (xs : List Cell) → outside (outside xs) ≡ outside xs
 outside_twice [] = refl
-outside_twice (x ∷ xs) = by (belongs x) refl (outside_twice xs)
-  where
-    by : (t : Bool) → belongs x ≡ t → outside (outside xs) ≡ outside xs → outside (cond t (outside xs) (x ∷ xs)) ≡ cond t (outside xs) (x ∷ xs)
-    by true e h = h
-    by false e h = fails (belongs x) (outside xs) (x ∷ xs) e
+outside_twice (x ∷ xs) = cond_both (belongs x) (outside xs) (x ∷ xs) (λ (ys : List Cell). outside ys ≡ ys) (λ e. outside_twice xs) (fails (belongs x) (outside xs) (x ∷ xs))
 
 -- nothing belongs to a character before the cells
 abbrev Apart : List Cell → Type 0
@@ -112,18 +95,11 @@ gone_on n m xs = gone_emptied m (without n xs) ∙ ap (λ (ys : List Cell). empt
 
 shorter : (xs : List Cell) → length (outside xs) ≤ length xs
 shorter [] = omega arith
-shorter (x ∷ xs) = by (belongs x) (shorter xs)
-  where
-    by : (t : Bool) → length (outside xs) ≤ length xs → length (cond t (outside xs) (x ∷ xs)) ≤ suc (length xs)
-    by true h = omega (arith, h)
-    by false h = omega arith
+shorter (x ∷ xs) = grind (arith, nat_tests, shorter xs)
 
 apart_begins : (xs : List Cell) → Apart xs → begins_behind xs ≡ false
-apart_begins [] h = refl
-apart_begins (Empty ∷ xs) h = refl
-apart_begins (Char g ∷ xs) h = refl
 apart_begins (Behind ∷ xs) h = absurd (omega (arith, ap length h, shorter xs))
-apart_begins (Mark c ∷ xs) h = refl
+apart_begins _ h = refl
 
 gone_begins : (n : ℕ) (xs : List Cell) → begins_behind (gone n xs) ≡ false
 gone_begins n xs =
@@ -131,25 +107,18 @@ gone_begins n xs =
     apart_begins (gone n xs) (emptied_apart (columns rest - columns (outside rest)) (outside rest) (outside_twice rest))
 
 shifted_begins : (xs : List Cell) → begins_behind xs ≡ false → begins_behind (shifted false xs) ≡ false
-shifted_begins [] h = refl
-shifted_begins (Empty ∷ xs) h = refl
 shifted_begins (Char g ∷ xs) h = by (g.char == 9)
   where
     by : (t : Bool) → is_behind (untabbed t (Char g)) ≡ false
     by true = refl
     by false = refl
 shifted_begins (Behind ∷ xs) h = h
-shifted_begins (Mark c ∷ xs) h = refl
+shifted_begins _ h = refl
 
 parted_begins : (l : Line) → begins_behind (parted l).right ≡ false
-parted_begins l = by (begins_behind l.right) refl
-  where
-    now : Bool → Line
-    now t = cond t (line (emptied l.left (without 1 (outside l.left))) (emptied l.right (outside l.right))) l
-
-    by : (t : Bool) → begins_behind l.right ≡ t → begins_behind (now t).right ≡ false
-    by true e = apart_begins (emptied l.right (outside l.right)) (emptied_apart (columns l.right - columns (outside l.right)) (outside l.right) (outside_twice l.right))
-    by false e = e
+parted_begins l = cond_both (begins_behind l.right) (line (emptied l.left (without 1 (outside l.left))) (emptied l.right (outside l.right))) l
+    (λ (k : Line). begins_behind k.right ≡ false)
+    (λ e. apart_begins (emptied l.right (outside l.right)) (emptied_apart (columns l.right - columns (outside l.right)) (outside l.right) (outside_twice l.right))) (λ e. e)
 
 parted_same : (l : Line) → begins_behind l.right ≡ false → parted l ≡ l
 parted_same l e = fails (begins_behind l.right) (line (emptied l.left (without 1 (outside l.left))) (emptied l.right (outside l.right))) l e
@@ -181,11 +150,8 @@ module _ (inserts : Bool) (g : Glyph) (w : ℕ) (some : 0 < w) where
       ∙ ap (λ (n : ℕ). line (replicate (w - 1) Behind ++ (Char g ∷ (parted l).left)) (cond inserts (shifted false (parted l).right) (gone n (parted l).right))) one
 
   then_begins : (l : Line) → begins_behind (then 1 (parted l).right) ≡ false
-  then_begins l = by inserts
-    where
-      by : (t : Bool) → begins_behind (cond t (shifted false (parted l).right) (gone (1 * w) (parted l).right)) ≡ false
-      by true = shifted_begins (parted l).right (parted_begins l)
-      by false = gone_begins (1 * w) (parted l).right
+  then_begins l = cond_both inserts (shifted false (parted l).right) (gone (1 * w) (parted l).right) (λ (xs : List Cell). begins_behind xs ≡ false)
+      (λ e. shifted_begins (parted l).right (parted_begins l)) (λ e. gone_begins (1 * w) (parted l).right)
 
   then_on : (n : ℕ) (xs : List Cell) → then n (then 1 xs) ≡ then (suc n) xs
   then_on n xs = by inserts
@@ -210,10 +176,7 @@ module _ (inserts : Bool) (g : Glyph) (w : ℕ) (some : 0 < w) where
     put_once : (l : Line) → size l + w ≤ limit → put limit inserts g l ≡ done [] (placed inserts g w l)
     put_once l room =
         ap (λ (k : ℕ). cond (fits limit k l) (done [] (placed inserts g k l)) (done (cells_of l ∷ []) (placed inserts g (width g.char 0) blank))) (wide (columns l.left))
-        ∙ by (fits limit w l) (grind (arith, nat_tests))
-      where
-        by : (t : Bool) → t ≡ true → cond t (done [] (placed inserts g w l)) (done (cells_of l ∷ []) (placed inserts g (width g.char 0) blank)) ≡ done [] (placed inserts g w l)
-        by t e = rw e refl
+        ∙ rw (let yes : fits limit w l ≡ true = grind (arith, nat_tests) in yes) refl
 
     repeat_many : (n : ℕ) (l : Line) → size l + suc n * w ≤ limit → repeat limit inserts g (suc n) l ≡ done [] (placed_many inserts g w (suc n) l)
     repeat_many zero l room =

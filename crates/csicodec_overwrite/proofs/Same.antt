@@ -3,7 +3,7 @@ use Rattle.std.proofs.Common.{◌≡◌, ◌≤◌, ℕ, Bool, true, false, cond
 use Rattle.std.specs.Prelude.{filter}
 use Rattle.std.specs.List.{AllByRecursion, flat_map}
 use Rattle.std.specs.Str.{all_scalars}
-use Rattle.std.proofs.lemmas.Bool.{and_from}
+use Rattle.std.proofs.lemmas.Bool.{and_from, cond_both}
 use Rattle.std.proofs.lemmas.Grind.{flat_map-append}
 use lib.Utf8.{scalar}
 use Rattle.bstr.proofs.lemmas.EncodeLemmas.{lossy_chars-encode}
@@ -112,8 +112,7 @@ pub untitled : (ps : List Piece) → with_titles false (parts_of ps) ≡ parts_o
 untitled [] = refl
 untitled (One c ∷ ps) =
     let front = singles kind.Text (encode_utf8 c) in
-    titles_on false front (parts_of ps) ∙ ap (λ (b : Bool). with_titles false front ++ with_titles b (parts_of ps)) (not_titled (encode_utf8 c))
-    ∙ ap (λ (x : List Part). x ++ with_titles false (parts_of ps)) (single_texts (encode_utf8 c)) ∙ ap (λ (x : List Part). front ++ x) (untitled ps)
+    rw (titles_on false front (parts_of ps), not_titled (encode_utf8 c), single_texts (encode_utf8 c), untitled ps)
 untitled (Turn l ∷ ps) = ap (λ (x : List Part). part kind.Csi (look_text l) ∷ x) (untitled ps)
 
 -- ---- stripped
@@ -135,8 +134,8 @@ stripped_pieces : (ps : List Piece) (cs : List ℕ) → all_scalars cs ≡ true 
 stripped_pieces [] cs a h safe = shown_back cs a h ∙ ap encode_utf8_all (sym (append-nil cs))
 stripped_pieces (One c ∷ ps) cs a h safe =
     let (here, one) = safe.0 in
-    stripped_on (encode_utf8 c) (encode_utf8_all cs) (parts_of ps) ∙ ap (λ (r : List ℕ). stripped r (parts_of ps)) (sym (more_encoded cs c))
-    ∙ stripped_pieces ps (cs ++ c ∷ []) (more_scalars cs c a one) (all_both IsShown cs (c ∷ []) h (here, tt)) safe.1 ∙ ap encode_utf8_all (append_assoc cs (c ∷ []) (chars_in ps))
+    rw (stripped_on (encode_utf8 c) (encode_utf8_all cs) (parts_of ps), ← more_encoded cs c, ← append_assoc cs (c ∷ []) (chars_in ps))
+    (stripped_pieces ps (cs ++ c ∷ []) (more_scalars cs c a one) (all_both IsShown cs (c ∷ []) h (here, tt)) safe.1)
 stripped_pieces (Turn l ∷ ps) cs a h safe =
     ap (λ (t : List ℕ). t ++ stripped [] (parts_of ps)) (shown_back cs a h) ∙ ap (λ (t : List ℕ). encode_utf8_all cs ++ t) (stripped_pieces ps [] refl tt safe.1) ∙ sym (encoded_on cs (chars_in ps))
 
@@ -176,13 +175,7 @@ ones_text (c ∷ cs) = ap (λ (t : List ℕ). encode_utf8 c ++ t) (ones_text cs)
 
 cells_text : (cells : List Cell) (look : Look) → pieces_text (of_cells look cells) ≡ paint Styled look cells
 cells_text [] look = turned_text look plain
-cells_text (cell ∷ cells) look =
-    let next = look_of look cell in
-    let ones = map One (chars_of cell) in
-    let later = of_cells next cells in
-    both_text (turned look next) (ones ++ later) ∙ ap (λ (t : List ℕ). t ++ pieces_text (ones ++ later)) (turned_text look next)
-    ∙ ap (λ (t : List ℕ). turn Styled look next ++ t)
-    (both_text ones later ∙ ap (λ (t : List ℕ). t ++ pieces_text later) (ones_text (chars_of cell)) ∙ ap (λ (t : List ℕ). encode_utf8_all (chars_of cell) ++ t) (cells_text cells next))
+cells_text (cell ∷ cells) look = simp (both_text, turned_text, ones_text, cells_text cells (look_of look cell))
 
 line_text : (cells : List Cell) → pieces_text (of_line cells) ≡ ended Styled cells
 line_text cells =
@@ -190,12 +183,10 @@ line_text cells =
 
 lines_text : (lines : List (List Cell)) → pieces_text (flat_map of_line lines) ≡ texts_of Styled lines
 lines_text [] = refl
-lines_text (x ∷ xs) = both_text (of_line x) (flat_map of_line xs) ∙ ap (λ (t : List ℕ). t ++ pieces_text (flat_map of_line xs)) (line_text x) ∙ ap (λ (t : List ℕ). ended Styled x ++ t) (lines_text xs)
+lines_text (x ∷ xs) = rw (both_text (of_line x) (flat_map of_line xs), line_text x, lines_text xs)
 
 pub all_painted : (d : Done) → pieces_text (of_all d) ≡ shown_by Styled d
-all_painted d =
-    let last = of_cells plain (cells_of d.line) in
-    both_text (flat_map of_line d.lines) last ∙ ap (λ (t : List ℕ). t ++ pieces_text last) (lines_text d.lines) ∙ ap (λ (t : List ℕ). texts_of Styled d.lines ++ t) (cells_text (cells_of d.line) plain)
+all_painted d = simp (both_text, lines_text, cells_text)
 
 -- ---- their characters
 
@@ -205,11 +196,7 @@ both_chars (One c ∷ xs) ys = ap (λ (t : List ℕ). c ∷ t) (both_chars xs ys
 both_chars (Turn l ∷ xs) ys = both_chars xs ys
 
 turned_chars : (old new : Look) → chars_in (turned old new) ≡ []
-turned_chars old new = by (same old new)
-  where
-    by : (t : Bool) → chars_in (cond t [] (Turn new ∷ [])) ≡ []
-    by true = refl
-    by false = refl
+turned_chars old new = cond_both (same old new) [] (Turn new ∷ []) (λ (ps : List Piece). chars_in ps ≡ []) (λ e. refl) (λ e. refl)
 
 ones_chars : (cs : List ℕ) → chars_in (map One cs) ≡ cs
 ones_chars [] = refl
@@ -217,25 +204,14 @@ ones_chars (c ∷ cs) = ap (λ (t : List ℕ). c ∷ t) (ones_chars cs)
 
 cells_chars : (cells : List Cell) (look : Look) → chars_in (of_cells look cells) ≡ flat_map chars_of cells
 cells_chars [] look = turned_chars look plain
-cells_chars (cell ∷ cells) look =
-    let next = look_of look cell in
-    let ones = map One (chars_of cell) in
-    let later = of_cells next cells in
-    both_chars (turned look next) (ones ++ later) ∙ ap (λ (t : List ℕ). t ++ chars_in (ones ++ later)) (turned_chars look next)
-    ∙ both_chars ones later ∙ ap (λ (t : List ℕ). t ++ chars_in later) (ones_chars (chars_of cell)) ∙ ap (λ (t : List ℕ). chars_of cell ++ t) (cells_chars cells next)
+cells_chars (cell ∷ cells) look = simp (both_chars, turned_chars, ones_chars, cells_chars cells (look_of look cell))
 
 lines_chars : (lines : List (List Cell)) → chars_in (flat_map of_line lines) ≡ flat_map line_chars lines
 lines_chars [] = refl
-lines_chars (x ∷ xs) =
-    both_chars (of_line x) (flat_map of_line xs)
-    ∙ ap (λ (t : List ℕ). t ++ chars_in (flat_map of_line xs)) (both_chars (of_cells plain x) (One 10 ∷ []) ∙ ap (λ (t : List ℕ). t ++ 10 ∷ []) (cells_chars x plain))
-    ∙ ap (λ (t : List ℕ). line_chars x ++ t) (lines_chars xs)
+lines_chars (x ∷ xs) = simp (both_chars, cells_chars, lines_chars xs)
 
 all_chars : (d : Done) → chars_in (of_all d) ≡ chars_by d
-all_chars d =
-    let last = of_cells plain (cells_of d.line) in
-    both_chars (flat_map of_line d.lines) last ∙ ap (λ (t : List ℕ). t ++ chars_in last) (lines_chars d.lines)
-    ∙ ap (λ (t : List ℕ). flat_map line_chars d.lines ++ t) (cells_chars (cells_of d.line) plain)
+all_chars d = simp (both_chars, lines_chars, cells_chars)
 
 -- ---- they are safe
 
@@ -250,11 +226,7 @@ both_safe [] ys h k = k
 both_safe (x ∷ xs) ys h k = (h.0, both_safe xs ys h.1 k)
 
 turned_safe : (old new : Look) → IsInRange new → AreSafe (turned old new)
-turned_safe old new h = by (same old new)
-  where
-    by : (t : Bool) → AreSafe (cond t [] (Turn new ∷ []))
-    by true = tt
-    by false = (h, tt)
+turned_safe old new h = cond_both (same old new) [] (Turn new ∷ []) AreSafe (λ e. tt) (λ e. (h, tt))
 
 ones_safe : (cs : List ℕ) → AllByRecursion IsGood cs → AreSafe (map One cs)
 ones_safe [] h = tt
@@ -263,8 +235,7 @@ ones_safe (c ∷ cs) h = (h.0, ones_safe cs h.1)
 look_safe : (look : Look) (cell : Cell) → IsInRange look → IsCell cell → IsInRange (look_of look cell)
 look_safe look Empty q h = plain_kept
 look_safe look (Char g) q h = h.1
-look_safe look Behind q h = q
-look_safe look (Mark c) q h = q
+look_safe look _ q h = q
 
 chars_safe : (cell : Cell) → IsCell cell → AllByRecursion IsGood (chars_of cell)
 chars_safe Empty h = ((refl, refl), tt)

@@ -4,14 +4,12 @@ use Rattle.std.proofs.Common.{drop, get_or, reverse, set, take, refl, sym, ap, �
 use Rattle.std.proofs.lemmas.Grind.{drop-set_at}
 use Rattle.std.proofs.lemmas.List.{length-set, reverse-append, set-get_or, take-set-le, take-take, take_all, take_more}
 use Rattle.csicodec_overwrite.specs.declared.cells.Cell.{Cell}
-use Rattle.csicodec_overwrite.specs.declared.cells.Cell.TheVariants.{Behind, Char, Empty, Mark}
+use Rattle.csicodec_overwrite.specs.declared.cells.Cell.TheVariants.{Char, Empty}
 use Rattle.csicodec_overwrite.specs.Cells.{columns, of_tab, shifted, takes, untabbed}
 
 stays : (x : Cell) → untabbed false x ≡ x
 stays Empty = refl
-stays (Char g) = refl
-stays Behind = refl
-stays (Mark c) = refl
+stays _ = refl
 
 no_more : (t : Bool) (x : Cell) → of_tab false (untabbed (of_tab t x) x) ≡ false
 no_more t Empty = refl
@@ -20,9 +18,8 @@ no_more t (Char g) = by (g.char == 9) refl
     by : (u : Bool) → (g.char == 9) ≡ u → of_tab false (cond u Empty (Char g)) ≡ false
     by true e = refl
     by false e = e
-no_more true Behind = refl
-no_more false Behind = refl
-no_more t (Mark c) = refl
+no_more true _ = refl
+no_more false _ = refl
 
 -- those that were shifted stay
 pub shifted_stays : (t : Bool) (xs : List Cell) → shifted false (shifted t xs) ≡ shifted t xs
@@ -86,11 +83,8 @@ all_shifted old cells tab h = sym (h.3 ∙ append-nil (reverse cells))
 
 one_column : (t : Bool) (x : Cell) → takes (untabbed t x) ≡ takes x
 one_column t Empty = refl
-one_column true (Char g) = refl
-one_column false (Char g) = refl
-one_column true Behind = refl
-one_column false Behind = refl
-one_column t (Mark c) = refl
+one_column true _ = refl
+one_column false _ = refl
 
 pub columns_shifted : (t : Bool) (xs : List Cell) → columns (shifted t xs) ≡ columns xs
 columns_shifted t [] = refl

@@ -1,9 +1,10 @@
 -- Text of ASCII, which takes no reading.
 use Rattle.std.proofs.Common.{drop, take, take-append-drop, ◌≡◌, ◌≢◌, ◌<◌, ◌≤◌, ℕ, Bool, true, false, cond, List, [], ◌∷◌, ◌++◌, length, encode_utf8_all, refl, sym, ap, subst, ◌∙◌, arith, ne_eqb}
-use Rattle.std.specs.Prelude.{◌==◌, ◌+◌, ◌&&◌, ◌||◌, nat_le, nat_lt, max, not, unwrap_or, Option, Some, None}
+use Rattle.std.specs.Prelude.{◌==◌, ◌+◌, nat_le, nat_lt, max, unwrap_or, Option, Some, None}
 use Rattle.std.specs.Char.{encode_utf8}
 use Rattle.std.specs.List.{AllByRecursion, prefix_len}
 use Rattle.std.specs.Str.{all_scalars}
+use Rattle.std.proofs.lemmas.Bool.{cond_both}
 use Rattle.std.proofs.lemmas.Bool.Decides.{nat_tests}
 use Rattle.unicode_width.specs.Width.{char_width}
 use Rattle.unicode_width.specs.Width.{alone as char_alone}
@@ -68,11 +69,7 @@ reads_end true = reads_ascii (13 ∷ 10 ∷ []) (omega arith, (omega arith, tt))
 -- ---- what its characters do
 
 pub line_plain : (b : ℕ) → IsLineByte b → IsPlainByte b
-line_plain b h = by (b == 10) (b == 9) (nat_le 32 b && nat_lt b 127) h
-  where
-    by : (line tab other : Bool) → (tab || other) ≡ true → (line || tab || other) ≡ true
-    by true tab other h = refl
-    by false tab other h = h
+line_plain b h = grind (arith, nat_tests)
 
 pub lines_plain : (bs : List ℕ) → AllByRecursion IsLineByte bs → AllByRecursion IsPlainByte bs
 lines_plain [] h = tt
@@ -89,11 +86,7 @@ pub put_step : (b : ℕ) → IsLineByte b → b ≢ 9 → of_char b ≡ step.Put
 put_step b h tab = put_of b (grind (arith, nat_tests)) (grind (arith, nat_tests)) (grind (arith, nat_tests)) (ne_eqb b 9 tab) (is_shown b (line_plain b h))
 
 pub few_cells : (c column : ℕ) → max (width c column) 1 ≤ 8
-few_cells c column = by (c == 9)
-  where
-    by : (t : Bool) → max (cond t (to_tab_stop column) (narrowed (unwrap_or (char_width false c) 0))) 1 ≤ 8
-    by true = omega arith
-    by false = omega (arith, narrow_few (unwrap_or (char_width false c) 0))
+few_cells c column = cond_both (c == 9) _ _ (λ (n : ℕ). max n 1 ≤ 8) (λ e. omega arith) (λ e. omega (arith, narrow_few (unwrap_or (char_width false c) 0)))
 
 -- ---- a character behind all others
 
@@ -159,12 +152,8 @@ module _ (limit : ℕ) (first : Pen) (blank : Line) (text rest : List ℕ) where
   run_all [] pen l run h over none few = run
   run_all (c ∷ cs) pen l run h over none few =
       run_all cs (record pen { last = Some c }) (line (Char (glyph c pen.look) ∷ l.left) l.right)
-      (run_on limit first blank text pen c (cs ++ rest) l (line (Char (glyph c pen.look) ∷ l.left) l.right) run (no_tab (c == 9) h.0) over none (omega (arith, few)) refl)
+      (run_on limit first blank text pen c (cs ++ rest) l (line (Char (glyph c pen.look) ∷ l.left) l.right) run (grind (arith, nat_tests, h.0)) over none (omega (arith, few)) refl)
       h.1 over none (omega (arith, few))
-    where
-      no_tab : (t : Bool) → not t ≡ true → t ≡ false
-      no_tab false e = refl
-      no_tab true e = sym e
 
 -- the last of some characters
 pub last_is : (last : Option ℕ) (cs : List ℕ) (c : ℕ) → last_of last (cs ++ c ∷ []) ≡ Some c

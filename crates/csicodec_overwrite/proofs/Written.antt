@@ -2,7 +2,6 @@
 use Rattle.std.proofs.Common.{◌≡◌, ℕ, List, [], ◌∷◌, ◌++◌, refl, sym, ap, subst, ◌∙◌, ⊎_elim, append_assoc, append-nil}
 use Rattle.std.specs.List.{concat}
 use Rattle.csicodec_filter.specs.Transform.{Begins, GoesOn, Sends, Transforms}
-use Rattle.csicodec_overwrite.specs.declared.cells.Cell.{Cell}
 use Rattle.csicodec_overwrite.specs.declared.line.Line.{Line}
 use Rattle.csicodec_overwrite.specs.declared.marking.Marking.{Marking}
 use Rattle.csicodec_overwrite.specs.declared.pen.Pen.{Pen}
@@ -30,23 +29,13 @@ line_on limit (x ∷ xs) ys pen l = line_on limit xs ys (pen_behind pen x (colum
 pub lines_on : (limit : ℕ) (xs ys : List Step) (pen : Pen) (l : Line)
     → (do_all limit pen (xs ++ ys) l).lines ≡ (do_all limit pen xs l).lines ++ (do_all limit (pen_behind_all limit pen xs l) ys (do_all limit pen xs l).line).lines
 lines_on limit [] ys pen l = refl
-lines_on limit (x ∷ xs) ys pen l =
-    let next = (does limit pen x l).line in
-    let behind = pen_behind pen x (columns l.left) in
-    ap (λ (t : List (List Cell)). (does limit pen x l).lines ++ t) (lines_on limit xs ys behind next)
-    ∙ sym (append_assoc (does limit pen x l).lines (do_all limit behind xs next).lines (do_all limit (pen_behind_all limit behind xs next) ys (do_all limit behind xs next).line).lines)
+lines_on limit (x ∷ xs) ys pen l = rw (lines_on limit xs ys (pen_behind pen x (columns l.left)) (does limit pen x l).line) (simp append_assoc)
 
 -- all that they show
 pub shown_on : (marking : Marking) (limit : ℕ) (xs ys : List Step) (pen : Pen) (l : Line)
     → shown_by marking (do_all limit pen (xs ++ ys) l)
     ≡ texts_of marking (do_all limit pen xs l).lines ++ shown_by marking (do_all limit (pen_behind_all limit pen xs l) ys (do_all limit pen xs l).line)
-shown_on marking limit xs ys pen l =
-    let first = (do_all limit pen xs l).lines in
-    let later = do_all limit (pen_behind_all limit pen xs l) ys (do_all limit pen xs l).line in
-    ap (λ (t : List (List Cell)). texts_of marking t ++ text_of marking (cells_of (do_all limit pen (xs ++ ys) l).line)) (lines_on limit xs ys pen l)
-    ∙ ap (λ (m : Line). texts_of marking (first ++ later.lines) ++ text_of marking (cells_of m)) (line_on limit xs ys pen l)
-    ∙ ap (λ (t : List ℕ). t ++ text_of marking (cells_of later.line)) (texts_on marking first later.lines)
-    ∙ append_assoc (texts_of marking first) (texts_of marking later.lines) (text_of marking (cells_of later.line))
+shown_on marking limit xs ys pen l = rw (lines_on limit xs ys pen l, line_on limit xs ys pen l, texts_on marking, append_assoc)
 
 -- ---- a stream
 
@@ -56,27 +45,14 @@ passes_none now bare = record { steps = []; reads = rw bare reads_none; pen = re
 
 -- bytes more
 pub passes_on : (old mid new : Now) (first second one two : List ℕ) → Passes old first one mid → Passes mid second two new → Passes old (first ++ second) (one ++ two) new
-passes_on old mid new first second one two p q =
-    let steps = p.steps ++ q.steps in
-    let now = do_all most old.pen p.steps old.line in
-    let behind = pen_behind_all most old.pen p.steps old.line in
-    let later = do_all most behind q.steps now.line in
-    let text : two ≡ texts_of old.marking later.lines =
-    q.all ∙ ap (λ (m : Marking). texts_of m (do_all most mid.pen q.steps mid.line).lines) p.marking ∙ ap (λ (pen : Pen). texts_of old.marking (do_all most pen q.steps mid.line).lines) p.pen
-    ∙ ap (λ (l : Line). texts_of old.marking (do_all most behind q.steps l).lines) p.line in
-    record {
-      steps = steps;
-      reads = reads_on old.reader mid.reader new.reader first second p.steps q.steps p.reads q.reads;
-      pen =
-          q.pen ∙ ap (λ (pen : Pen). pen_behind_all most pen q.steps mid.line) p.pen ∙ ap (λ (l : Line). pen_behind_all most behind q.steps l) p.line
-          ∙ sym (pen_on most p.steps q.steps old.pen old.line);
-      marking = q.marking ∙ p.marking;
-      line =
-          q.line ∙ ap (λ (pen : Pen). (do_all most pen q.steps mid.line).line) p.pen ∙ ap (λ (l : Line). (do_all most behind q.steps l).line) p.line
-          ∙ sym (line_on most p.steps q.steps old.pen old.line);
-      all = ap (λ (t : List ℕ). t ++ two) p.all ∙ ap (λ (t : List ℕ). texts_of old.marking now.lines ++ t) text ∙ sym (texts_on old.marking now.lines later.lines)
-          ∙ ap (texts_of old.marking) (sym (lines_on most p.steps q.steps old.pen old.line));
-    }
+passes_on old mid new first second one two p q = record {
+  steps = p.steps ++ q.steps;
+  reads = reads_on old.reader mid.reader new.reader first second p.steps q.steps p.reads q.reads;
+  pen = rw (q.pen, p.pen, p.line, pen_on most p.steps q.steps old.pen old.line);
+  marking = q.marking ∙ p.marking;
+  line = rw (q.line, p.pen, p.line, line_on most p.steps q.steps old.pen old.line);
+  all = rw (p.all, q.all, p.marking, p.pen, p.line, lines_on most p.steps q.steps old.pen old.line, texts_on old.marking);
+}
 
 pub goes : (old new : Now) (bytes text : List ℕ) → Passes old bytes text new → GoesOn Passes old bytes text new
 goes old new bytes text q first read written p = passes_on first old new read bytes written text p q
@@ -94,18 +70,11 @@ front_on old mid new bytes between rest before now after (front, text, split, pa
 
 -- the end
 pub shows : (marking : Marking) (bytes text rest : List ℕ) (last : Now) → Passes (begun_as marking) bytes text last → Ending last rest → Shows marking bytes (text ++ rest)
-shows marking bytes text rest last p e =
-    let held = of_run last.reader.held in
-    let now = do_all most fresh p.steps blank in
-    let behind = pen_behind_all most fresh p.steps blank in
-    let end : rest ≡ shown_by marking (do_all most behind held now.line) =
-    e ∙ ap (λ (m : Marking). shown_by m (do_all most last.pen held last.line)) p.marking ∙ ap (λ (pen : Pen). shown_by marking (do_all most pen held last.line)) p.pen
-    ∙ ap (λ (l : Line). shown_by marking (do_all most behind held l)) p.line in
-    record {
-      steps = p.steps ++ held;
-      read = whole_reads bytes p.steps last.reader p.reads;
-      all = ap (λ (t : List ℕ). t ++ rest) p.all ∙ ap (λ (t : List ℕ). texts_of marking now.lines ++ t) end ∙ sym (shown_on marking most p.steps held fresh blank);
-    }
+shows marking bytes text rest last p e = record {
+  steps = p.steps ++ of_run last.reader.held;
+  read = whole_reads bytes p.steps last.reader p.reads;
+  all = rw (p.all, e, p.marking, p.pen, p.line, shown_on marking most p.steps (of_run last.reader.held) fresh blank);
+}
 
 pub transformed : (marking : Marking) (bytes text : List ℕ) → Transforms Passes Ending (begun_as marking) bytes text → Shows marking bytes text
 transformed marking bytes text (last, sure, rest, passed, ending, split) = rw split (shows marking bytes sure rest last passed ending)
@@ -135,12 +104,7 @@ pub finished : (last : Now) (steps : List Step) (line : Line) (before now after 
     → (rest : List ℕ) × Ending last rest × (after ≡ before ++ rest)
 finished last steps line before now after held same out shown =
     let d = do_all most last.pen steps last.line in
-    let over = texts_of last.marking d.lines in (
-      shown_by last.marking d,
-      ap (λ (x : List Step). shown_by last.marking (do_all most last.pen x last.line)) held,
-      shown ∙ ap (λ (t : List ℕ). t ++ text_of last.marking (cells_of line)) out ∙ append_assoc before over (text_of last.marking (cells_of line))
-          ∙ ap (λ (l : Line). before ++ (over ++ text_of last.marking (cells_of l))) same,
-    )
+    (shown_by last.marking d, ap (λ (x : List Step). shown_by last.marking (do_all most last.pen x last.line)) held, rw (shown, out, append_assoc, same))
 
 -- ---- chunks in turn
 

@@ -31,7 +31,7 @@ use Rattle.csicodec_overwrite.specs.Line.{blank, do_all, does, fresh, pen_behind
 use Rattle.csicodec_overwrite.specs.Lost.{NothingLost, NothingMade, all_came, came, times}
 use Rattle.csicodec_overwrite.specs.Paint.{IsInRange, as_text}
 use Rattle.csicodec_overwrite.specs.Reading.{AreOfParts, IsOfPart, Shows, Steps, most, shown_by}
-use Rattle.csicodec_overwrite.specs.Steps.{of_char, of_chars, of_control, of_escape, of_run, of_sequence, of_string, of_wrong}
+use Rattle.csicodec_overwrite.specs.Steps.{of_char, of_chars, of_escape, of_run, of_sequence, of_string, of_wrong}
 use Rattle.csicodec_overwrite.proofs.Kept.{of_shown}
 use Rattle.csicodec_overwrite.proofs.Lost.{balances, others, text_has, text_is}
 use Rattle.csicodec_overwrite.proofs.Plain.{IsGood, kept, overwritten_plain, plain_kept, steps_good}
@@ -70,33 +70,18 @@ module _ (c : ℕ) where
   -- ---- what is shown is put
 
   module _ (no_tab : c ≢ 9) (no_newline : c ≢ 10) where
-    none_shown : (d k : ℕ) (shows : Bool) → (d == k) ≡ true → c ≢ k → times c (cond shows (d ∷ []) []) ≡ 0
-    none_shown d k false e h = refl
-    none_shown d k true e h = others c d (λ f. h (f ∙ eqb-true d k e))
-
     char_put : (d : ℕ) → times c (cond (shown d) (d ∷ []) []) ≤ times c (puts (of_char d))
-    char_put d = by (d == 10) (d == 13) (d == 8) (d == 9) (shown d) refl refl refl refl refl
+    char_put d = grind (arith, none_shown 10 no_newline, none_shown 9 no_tab, not_shown 13 refl, not_shown 8 refl)
       where
-        not_shown : (k : ℕ) → (d == k) ≡ true → shown k ≡ false → times c (cond (shown d) (d ∷ []) []) ≡ 0
-        not_shown k e f = ap (λ (t : Bool). times c (cond t (d ∷ []) [])) (ap shown (eqb-true d k e) ∙ f)
+        none_shown : (k : ℕ) → c ≢ k → (d == k) ≡ true → times c (cond (shown d) (d ∷ []) []) ≡ 0
+        none_shown k h e = let none = others c d (λ f. h (f ∙ eqb-true d k e)) in grind (arith, none)
 
-        by : (line return back tab shows : Bool) → (d == 10) ≡ line → (d == 13) ≡ return → (d == 8) ≡ back → (d == 9) ≡ tab → shown d ≡ shows
-            → times c (cond shows (d ∷ []) [])
-            ≤ times c (puts (cond line (step.NewLine ∷ []) (cond return (step.Column 1 ∷ []) (cond back (step.Left 1 ∷ []) (cond tab (step.Tab ∷ []) (cond shows (step.Put d ∷ []) (of_control d)))))))
-        by true return back tab shows e f g i k = omega (arith, none_shown d 10 shows e no_newline)
-        by false true back tab shows e f g i k = omega (arith, not_shown 13 f refl, ap (λ (t : Bool). times c (cond t (d ∷ []) [])) k)
-        by false false true tab shows e f g i k = omega (arith, not_shown 8 g refl, ap (λ (t : Bool). times c (cond t (d ∷ []) [])) k)
-        by false false false true shows e f g i k = omega (arith, none_shown d 9 shows i no_tab)
-        by false false false false true e f g i k = omega arith
-        by false false false false false e f g i k = omega arith
+        not_shown : (k : ℕ) → shown k ≡ false → (d == k) ≡ true → times c (cond (shown d) (d ∷ []) []) ≡ 0
+        not_shown k f e = ap (λ (t : Bool). times c (cond t (d ∷ []) [])) (ap shown (eqb-true d k e) ∙ f)
 
     chars_put : (cs : List ℕ) → times c (filter shown cs) ≤ times c (puts (of_chars cs))
     chars_put [] = omega arith
-    chars_put (d ∷ cs) = omega (arith, char_put d, chars_put cs, puts_on (of_char d) (of_chars cs), split (shown d))
-      where
-        split : (t : Bool) → times c (cond t (d ∷ filter shown cs) (filter shown cs)) ≡ times c (cond t (d ∷ []) []) + times c (filter shown cs)
-        split true = both (d ∷ []) (filter shown cs)
-        split false = omega arith
+    chars_put (d ∷ cs) = grind (arith, char_put d, chars_put cs, puts_on (of_char d) (of_chars cs), both (d ∷ []) (filter shown cs))
 
     -- these characters are shown, and then what is shown of the last run, and these steps put them
     abbrev Keeps : List Step → (List Part → List ℕ) → List ℕ → Type 0

@@ -25,7 +25,7 @@ use Rattle.csicodec_overwrite.specs.declared.step.Step.{Step}
 use Rattle.csicodec_overwrite.specs.declared.step.Step.TheVariants as step
 use Rattle.csicodec_overwrite.specs.Cells.{chars_of, columns, glyph, narrowed, onto, to_tab_stop, width}
 use Rattle.csicodec_overwrite.specs.Line.{Done, before, blank, cells_of, do_all, does, done, line, pen_behind, pen_behind_all, put}
-use Rattle.csicodec_overwrite.specs.Paint.{ended, look_of, paint, shows_looks, text_of, texts_of, turn, written}
+use Rattle.csicodec_overwrite.specs.Paint.{ended, paint, shows_looks, text_of, texts_of, turn, written}
 use Rattle.csicodec_overwrite.specs.Steps.{of_char, of_chars}
 use Rattle.csicodec_overwrite.specs.Reading.{most}
 use Rattle.csicodec_overwrite.specs.Stream.{Now, Passes, Reads, none_held}
@@ -44,22 +44,12 @@ use Rattle.csicodec_overwrite.proofs.Written.{line_on, lines_on, passes_on, pen_
 painted_drawn : (marking : Marking) (left right : List Cell)
     → paint marking plain (onto left right) ≡ drawn marking left ++ paint marking (last_look left) right
 painted_drawn marking [] right = refl
-painted_drawn marking (x ∷ left) right =
-    let now = last_look left in
-    let next = look_of now x in
-    let chars = written marking (chars_of x) in
-    painted_drawn marking left (x ∷ right)
-    ∙ ap (λ (t : List ℕ). drawn marking left ++ t) (sym (append_assoc (turn marking now next) chars (paint marking next right)))
-    ∙ sym (append_assoc (drawn marking left) (turn marking now next ++ chars) (paint marking next right))
+painted_drawn marking (x ∷ left) right = rw (painted_drawn marking left (x ∷ right)) (simp append_assoc)
 
 plain_drawn : (left right : List Cell)
     → encode_utf8_all (flat_map chars_of (onto left right)) ≡ drawn Plain left ++ encode_utf8_all (flat_map chars_of right)
 plain_drawn [] right = refl
-plain_drawn (x ∷ left) right =
-    let chars = encode_utf8_all (chars_of x) in
-    let rest = encode_utf8_all (flat_map chars_of right) in
-    plain_drawn left (x ∷ right) ∙ ap (λ (t : List ℕ). drawn Plain left ++ t) (encoded_on (chars_of x) (flat_map chars_of right))
-    ∙ sym (append_assoc (drawn Plain left) chars rest)
+plain_drawn (x ∷ left) right = rw (plain_drawn left (x ∷ right), encoded_on (chars_of x) (flat_map chars_of right)) (simp append_assoc)
 
 all_drawn : (marking : Marking) (left : List Cell)
     → text_of marking (onto left []) ≡ drawn marking left ++ turn marking (last_look left) plain
@@ -76,10 +66,7 @@ module _ (marking : Marking) (g : Glyph) (left : List Cell) where
   char_drawn : (w : ℕ) → drawn marking (replicate w Behind ++ Char g ∷ left) ≡ drawn marking left
       ++ (turn marking (last_look left) g.look ++ written marking (g.char ∷ []))
   char_drawn zero = refl
-  char_drawn (suc w) =
-      let now = replicate w Behind ++ Char g ∷ left in
-      ap (λ (t : List ℕ). drawn marking now ++ (t ++ written marking [])) (turn_same marking (last_look now))
-      ∙ ap (λ (t : List ℕ). drawn marking now ++ t) (written_none marking) ∙ append-nil (drawn marking now) ∙ char_drawn w
+  char_drawn (suc w) = rw (turn_same marking (last_look (replicate w Behind ++ Char g ∷ left)), written_none marking, append-nil) (char_drawn w)
 
 -- ---- text of ASCII
 
@@ -99,8 +86,7 @@ last_nothing last now [] none = refl
 last_nothing last now (c ∷ cs) none = absurd (omega (arith, eqb-true (length (c ∷ cs)) 0 none))
 
 pub run_nothing : (marking : Marking) (last now : Look) (cs old : List ℕ) → (length cs == 0) ≡ true → old ≡ old ++ run_text marking last now cs
-run_nothing marking last now [] old none =
-    sym (ap (λ (t : List ℕ). old ++ (t ++ written marking [])) (turn_same marking last) ∙ ap (λ (t : List ℕ). old ++ t) (written_none marking) ∙ append-nil old)
+run_nothing marking last now [] old none = rw (turn_same marking last, written_none marking, append-nil) refl
 run_nothing marking last now (c ∷ cs) old none = absurd (omega (arith, eqb-true (length (c ∷ cs)) 0 none))
 
 pub run_some : (last now : Look) (cs : List ℕ) → (length cs == 0) ≡ false → last_of_run last now cs ≡ now
@@ -135,8 +121,7 @@ runs limit marking pen [] left over h full few = record {
   line = refl;
   pens = refl;
   look = refl;
-  text = sym (ap (λ (t : List ℕ). drawn marking left ++ (t ++ written marking [])) (turn_same marking (last_look left))
-      ∙ ap (λ (t : List ℕ). drawn marking left ++ t) (written_none marking) ∙ append-nil (drawn marking left));
+  text = rw (turn_same marking (last_look left), written_none marking, append-nil) refl;
 }
 runs limit marking pen (c ∷ cs) left over h full few = ⊎_elim
     (λ (k : (c == 10 ≡ true) × (of_char c ≡ step.NewLine ∷ [])). absurd (no_newline c h.0 k.0))
@@ -154,27 +139,15 @@ runs limit marking pen (c ∷ cs) left over h full few = ⊎_elim
     ∙ put_cells limit g left (omega (arith, few_cells c (columns left), few)) ∙ ap (λ (n : ℕ). done [] (line (cells g n left) [])) is in
     let r = runs limit marking then cs next (ap (λ (p : Pen). p.inserts) (kept (columns left)) ∙ over) h.1 (cells_full g (suc w) left full)
     (omega (arith, longer, few)) in
-    let begun = turn marking (last_look left) pen.look in
-    let one_char = written marking (c ∷ []) in
     record {
       more = r.more;
       full = r.full;
       few = omega (arith, r.few, longer);
-      lines = ap (λ (x : List Step). (do_all limit pen (x ++ of_chars cs) (line left [])).lines) of
-          ∙ ap (λ (d : Done). (before d.lines (do_all limit then (of_chars cs) d.line)).lines) one ∙ r.lines;
-      line = ap (λ (x : List Step). (do_all limit pen (x ++ of_chars cs) (line left [])).line) of
-          ∙ ap (λ (d : Done). (before d.lines (do_all limit then (of_chars cs) d.line)).line) one ∙ r.line;
-      pens = ap (λ (x : List Step). closed (pen_behind_all limit pen (x ++ of_chars cs) (line left []))) of
-          ∙ ap (λ (d : Done). closed (pen_behind_all limit then (of_chars cs) d.line)) one ∙ r.pens ∙ kept (columns left);
-      look = r.look ∙ ap (λ (l : Look). last_of_run l then.look cs) (char_look marking g left w)
-          ∙ ap (λ (l : Look). last_of_run pen.look l cs) look ∙ run_look pen.look cs;
-      text = r.text ∙ ap (λ (l : Look). drawn marking next ++ run_text marking l then.look cs) (char_look marking g left w)
-          ∙ ap (λ (l : Look). drawn marking next ++ run_text marking pen.look l cs) look
-          ∙ ap (λ (t : List ℕ). drawn marking next ++ t) (run_same marking pen.look cs)
-          ∙ ap (λ (t : List ℕ). t ++ written marking cs) (char_drawn marking g left w)
-          ∙ append_assoc (drawn marking left) (begun ++ one_char) (written marking cs)
-          ∙ ap (λ (t : List ℕ). drawn marking left ++ t) (append_assoc begun one_char (written marking cs)
-          ∙ ap (λ (t : List ℕ). begun ++ t) (sym (written_on marking (c ∷ []) cs)));
+      lines = rw of (ap (λ (d : Done). (before d.lines (do_all limit then (of_chars cs) d.line)).lines) one ∙ r.lines);
+      line = rw of (ap (λ (d : Done). (before d.lines (do_all limit then (of_chars cs) d.line)).line) one ∙ r.line);
+      pens = rw of (ap (λ (d : Done). closed (pen_behind_all limit then (of_chars cs) d.line)) one ∙ r.pens ∙ kept (columns left));
+      look = r.look ∙ rw (char_look marking g left w, look) (run_look pen.look cs);
+      text = r.text ∙ rw (char_look marking g left w, look, run_same marking pen.look cs, char_drawn marking g left w, written_on marking (c ∷ []) cs) (simp append_assoc);
     })
     (puts pen c (is_shown c (line_plain c h.0)))
 
@@ -237,11 +210,9 @@ module _ (marking : Marking) (pen : Pen) (bytes text : List ℕ) (last now : Loo
     steps = f.steps ++ steps;
     cells = cells;
     reads = reads_on none_held none_held none_held bytes more f.steps steps f.reads reads;
-    lines = lines_on most f.steps steps pen blank
-        ∙ ap (λ (t : List (List Cell)). t ++ (do_all most then steps (do_all most pen f.steps blank).line).lines) f.lines
-        ∙ ap (λ (l : Line). (do_all most then steps l).lines) f.line ∙ lines;
-    line = line_on most f.steps steps pen blank ∙ ap (λ (l : Line). (do_all most then steps l).line) f.line ∙ is;
-    pens = ap closed (pen_on most f.steps steps pen blank) ∙ ap (λ (l : Line). closed (pen_behind_all most then steps l)) f.line ∙ pens;
+    lines = rw (lines_on most f.steps steps pen blank, f.lines, f.line) lines;
+    line = rw (line_on most f.steps steps pen blank, f.line) is;
+    pens = rw (pen_on most f.steps steps pen blank, f.line) pens;
     full = full;
     few = omega (arith, few, f.few, length-append bytes more);
     looks = looks;
@@ -354,16 +325,10 @@ line_passes old new bytes text last now returned bare reader is same marking pen
 
 plain_text : (marking : Marking) (look : Look) (run : List ℕ) → (shows_looks marking ≡ true → look ≡ plain)
     → run_text marking plain look run ++ (turn marking (last_of_run plain look run) plain ++ 10 ∷ []) ≡ written marking (run ++ 10 ∷ [])
-plain_text marking look run is = ahead marking is ∙ close
+plain_text marking look run is = rw (written_on marking run (10 ∷ []), newline_written marking) (ahead marking is)
   where
-    close : written marking run ++ 10 ∷ [] ≡ written marking (run ++ 10 ∷ [])
-    close = ap (λ (t : List ℕ). written marking run ++ t) (sym (newline_written marking)) ∙ sym (written_on marking run (10 ∷ []))
-
     one : (m : Marking) → look ≡ plain → run_text m plain look run ++ (turn m (last_of_run plain look run) plain ++ 10 ∷ []) ≡ written m run ++ 10 ∷ []
-    one m e =
-        ap (λ (l : Look). run_text m plain l run ++ (turn m (last_of_run plain l run) plain ++ 10 ∷ [])) e
-        ∙ ap (λ (t : List ℕ). t ++ (turn m (last_of_run plain plain run) plain ++ 10 ∷ [])) (run_same m plain run)
-        ∙ ap (λ (l : Look). written m run ++ (turn m l plain ++ 10 ∷ [])) (run_look plain run) ∙ ap (λ (t : List ℕ). written m run ++ (t ++ 10 ∷ [])) (turn_same m plain)
+    one m e = rw (e, run_same m plain run, run_look plain run, turn_same m plain) refl
 
     ahead : (m : Marking) → (shows_looks m ≡ true → look ≡ plain)
         → run_text m plain look run ++ (turn m (last_of_run plain look run) plain ++ 10 ∷ []) ≡ written m run ++ 10 ∷ []

@@ -3,6 +3,7 @@ use Rattle.std.proofs.Common.{ℕ, ◌-◌, zero, suc, Bool, true, false, cond, 
 use Rattle.std.specs.Prelude.{◌==◌, nat_lt, Option, Some, None}
 use Rattle.std.specs.List.{AllByRecursion, flat_map}
 use Rattle.csicodec_base.specs.declared.sgr.Sgr.{Sgr}
+use Rattle.csicodec_actions.proofs.AllRows.{all-append}
 use Rattle.csicodec_html.specs.declared.look.Look.{Look}
 use Rattle.csicodec_html.specs.Look.{behind, plain}
 use Rattle.csicodec_overwrite.specs.declared.cells.Cell.{Cell}
@@ -48,17 +49,9 @@ module _ (P : ℕ → Type 0) (Q : Look → Type 0) (R : Sgr → Type 0) where
   abbrev pub OfPen : Pen → Type 0
   OfPen pen = Q pen.look × OfLast pen.last
 
-  both : (xs ys : List Cell) → OfCells xs → OfCells ys → OfCells (xs ++ ys)
-  both [] ys h k = k
-  both (x ∷ xs) ys h k = (h.0, both xs ys h.1 k)
-
-  empties : (n : ℕ) → OfCells (replicate n Empty)
-  empties zero = tt
-  empties (suc n) = (tt, empties n)
-
-  behinds : (n : ℕ) → OfCells (replicate n Behind)
-  behinds zero = tt
-  behinds (suc n) = (tt, behinds n)
+  alike : (n : ℕ) (x : Cell) → OfCell x → OfCells (replicate n x)
+  alike zero x h = tt
+  alike (suc n) x h = (h, alike n x h)
 
   moved : (xs ys : List Cell) → OfCells xs → OfCells ys → OfCells (onto xs ys)
   moved [] ys h k = k
@@ -89,20 +82,20 @@ module _ (P : ℕ → Type 0) (Q : Look → Type 0) (R : Sgr → Type 0) where
   of_trimmed (x ∷ xs) h = either OfCells (is_empty x) (trimmed xs) (x ∷ xs) (of_trimmed xs h.1) h
 
   of_emptied : (xs rest : List Cell) → OfCells rest → OfCells (emptied xs rest)
-  of_emptied xs rest h = both (replicate (columns xs - columns rest) Empty) rest (empties (columns xs - columns rest)) h
+  of_emptied xs rest h = all-append OfCell (replicate (columns xs - columns rest) Empty) rest (alike (columns xs - columns rest) Empty tt) h
 
   of_gone : (n : ℕ) (xs : List Cell) → OfCells xs → OfCells (gone n xs)
   of_gone n xs h = of_emptied (without n xs) (outside (without n xs)) (of_outside (without n xs) (of_without n xs h))
 
   of_erased : (n : ℕ) (xs : List Cell) → OfCells xs → OfCells (erased n xs)
-  of_erased n xs h = both (replicate (min n (columns xs)) Empty) (gone n xs) (empties (min n (columns xs))) (of_gone n xs h)
+  of_erased n xs h = all-append OfCell (replicate (min n (columns xs)) Empty) (gone n xs) (alike (min n (columns xs)) Empty tt) (of_gone n xs h)
 
   of_over : (n : ℕ) (left right : List Cell) → OfCells left → OfCells right → OfLine (over n left right)
   of_over n left [] h k = (h, tt)
   of_over n left (x ∷ right) h k = either OfLine (nat_lt n (takes x)) (line left (x ∷ right)) (over (n - takes x) (x ∷ left) right) (h, k) (of_over (n - takes x) (x ∷ left) right (k.0, h) k.1)
 
   of_padded : (limit n : ℕ) (l : Line) → OfLine l → OfLine (padded limit n l)
-  of_padded limit n l h = (both (replicate (min n (limit - size l)) Empty) l.left (empties (min n (limit - size l))) h.0, h.1)
+  of_padded limit n l h = (all-append OfCell (replicate (min n (limit - size l)) Empty) l.left (alike (min n (limit - size l)) Empty tt) h.0, h.1)
 
   of_forward : (limit n : ℕ) (l : Line) → OfLine l → OfLine (forward limit n l)
   of_forward limit n l h = of_padded limit (n - columns l.right) (over n l.left l.right) (of_over n l.left l.right h.0 h.1)
@@ -115,8 +108,10 @@ module _ (P : ℕ → Type 0) (Q : Look → Type 0) (R : Sgr → Type 0) where
   of_placed inserts g n l p h =
       let k = of_parted l h in
       let right = cond inserts (shifted false (parted l).right) (gone n (parted l).right) in
-      either OfLine (n == 0) (line (Mark g.char ∷ l.left) l.right) (line (replicate (n - 1) Behind ++ (Char g ∷ (parted l).left)) right) ((p.0, h.0), h.1)
-      (both (replicate (n - 1) Behind) (Char g ∷ (parted l).left) (behinds (n - 1)) (p, k.0), either OfCells inserts (shifted false (parted l).right) (gone n (parted l).right) (of_shifted false (parted l).right k.1) (of_gone n (parted l).right k.1))
+      either OfLine (n == 0) (line (Mark g.char ∷ l.left) l.right) (line (replicate (n - 1) Behind ++ (Char g ∷ (parted l).left)) right) ((p.0, h.0), h.1) (
+        all-append OfCell (replicate (n - 1) Behind) (Char g ∷ (parted l).left) (alike (n - 1) Behind tt) (p, k.0),
+        either OfCells inserts (shifted false (parted l).right) (gone n (parted l).right) (of_shifted false (parted l).right k.1) (of_gone n (parted l).right k.1),
+      )
 
   -- the cells of a line
   pub of_line : (l : Line) → OfLine l → OfCells (cells_of l)
@@ -134,17 +129,13 @@ module _ (P : ℕ → Type 0) (Q : Look → Type 0) (R : Sgr → Type 0) where
         either OfDone (fits limit w l) (done [] (placed inserts g w l)) (done (cells_of l ∷ []) (placed inserts g (width g.char 0) blank))
         (tt, of_placed inserts g w l p h) ((of_line l h, tt), of_placed inserts g (width g.char 0) blank p (tt, tt))
 
-    all_both : (xs ys : List (List Cell)) → AllByRecursion OfCells xs → AllByRecursion OfCells ys → AllByRecursion OfCells (xs ++ ys)
-    all_both [] ys h k = k
-    all_both (x ∷ xs) ys h k = (h.0, all_both xs ys h.1 k)
-
     of_repeat : (limit : ℕ) (inserts : Bool) (g : Glyph) (n : ℕ) (l : Line) → OfCell (Char g) → OfLine l → OfDone (repeat limit inserts g n l)
     of_repeat limit inserts g zero l p h = (tt, h)
     of_repeat limit inserts g (suc n) l p h =
         let d = put limit inserts g l in
         let one = of_put limit inserts g l p h in
         let others = of_repeat limit inserts g n d.line p one.1 in
-        (all_both d.lines (repeat limit inserts g n d.line).lines one.0 others.0, others.1)
+        (all-append OfCells d.lines (repeat limit inserts g n d.line).lines one.0 others.0, others.1)
 
     of_repeated : (limit : ℕ) (pen : Pen) (last : Option ℕ) (n : ℕ) (l : Line) → Q pen.look → OfLast last → OfLine l → OfDone (repeated limit pen last n l)
     of_repeated limit pen None n l q p h = (tt, h)
@@ -185,8 +176,8 @@ module _ (P : ℕ → Type 0) (Q : Look → Type 0) (R : Sgr → Type 0) where
     of_here limit pen (step.Left n) l q p h = (tt, of_behind limit (columns l.left - n) l h)
     of_here limit pen (step.Column n) l q p h = (tt, of_behind limit (n - 1) l h)
     of_here limit pen step.EraseRight l q p h = (tt, ((of_parted l h).0, tt))
-    of_here limit pen step.EraseLeft l q p h = (tt, (empties (columns l.left), of_erased 1 l.right h.1))
-    of_here limit pen step.EraseAll l q p h = (tt, (empties (columns l.left), tt))
+    of_here limit pen step.EraseLeft l q p h = (tt, (alike (columns l.left) Empty tt, of_erased 1 l.right h.1))
+    of_here limit pen step.EraseAll l q p h = (tt, (alike (columns l.left) Empty tt, tt))
     of_here limit pen (step.Erase n) l q p h = let k = of_parted l h in (tt, (k.0, of_erased n (parted l).right k.1))
     of_here limit pen (step.Delete n) l q p h =
         let k = of_parted l h in
@@ -194,7 +185,7 @@ module _ (P : ℕ → Type 0) (Q : Look → Type 0) (R : Sgr → Type 0) where
     of_here limit pen (step.Insert n) l q p h =
         let k = of_parted l h in
         let some = min n (limit - size (parted l)) in
-        (tt, (k.0, both (replicate some Empty) (shifted false (parted l).right) (empties some) (of_shifted false (parted l).right k.1)))
+        (tt, (k.0, all-append OfCell (replicate some Empty) (shifted false (parted l).right) (alike some Empty tt) (of_shifted false (parted l).right k.1)))
     of_here limit pen step.Restore l q p h = of_restored limit pen l h
     of_here limit pen (step.Leave to) l q p h = of_leave limit to l h
     of_here limit pen (step.Row row to) l q p h = of_placed_in limit pen row to l h
@@ -208,7 +199,7 @@ module _ (P : ℕ → Type 0) (Q : Look → Type 0) (R : Sgr → Type 0) where
         let e = entered limit s l in
         let first = of_entered limit s l h in
         let here = of_here limit pen s e.line q p first.1 in
-        (all_both e.lines (does_here limit pen s e.line).lines first.0 here.0, here.1)
+        (all-append OfCells e.lines (does_here limit pen s e.line).lines first.0 here.0, here.1)
 
     last_kept : (last : Option ℕ) (c : ℕ) → OfLast last → P c → OfLast (last_behind last c)
     last_kept last c h p = either OfLast (width c 0 == 0) last (Some c) h p
@@ -226,7 +217,7 @@ module _ (P : ℕ → Type 0) (Q : Look → Type 0) (R : Sgr → Type 0) where
         let one = of_does limit pen s l q p.0 h in
         let later = do_all limit next steps (does limit pen s l).line in
         let others = of_all limit next steps (does limit pen s l).line (pen_kept pen s (columns l.left) q p.0) p.1 one.1 in
-        (all_both (does limit pen s l).lines later.lines one.0 others.0, others.1)
+        (all-append OfCells (does limit pen s l).lines later.lines one.0 others.0, others.1)
 
     -- the cells of all that is shown
     pub of_done : (limit : ℕ) (steps : List Step) → AllByRecursion OfStep steps
@@ -236,10 +227,6 @@ module _ (P : ℕ → Type 0) (Q : Look → Type 0) (R : Sgr → Type 0) where
         (all.0, of_line (do_all limit fresh steps blank).line all.1)
 
     module _ (space : P 32) (newline : P 10) where
-      chars_both : (xs ys : List ℕ) → AllByRecursion P xs → AllByRecursion P ys → AllByRecursion P (xs ++ ys)
-      chars_both [] ys h k = k
-      chars_both (x ∷ xs) ys h k = (h.0, chars_both xs ys h.1 k)
-
       of_chars : (x : Cell) → OfCell x → AllByRecursion P (chars_of x)
       of_chars Empty h = (space, tt)
       of_chars (Char g) h = (h.0, tt)
@@ -248,14 +235,14 @@ module _ (P : ℕ → Type 0) (Q : Look → Type 0) (R : Sgr → Type 0) where
 
       of_cells : (xs : List Cell) → OfCells xs → AllByRecursion P (flat_map chars_of xs)
       of_cells [] h = tt
-      of_cells (x ∷ xs) h = chars_both (chars_of x) (flat_map chars_of xs) (of_chars x h.0) (of_cells xs h.1)
+      of_cells (x ∷ xs) h = all-append P (chars_of x) (flat_map chars_of xs) (of_chars x h.0) (of_cells xs h.1)
 
       of_lines : (lines : List (List Cell)) → AllByRecursion OfCells lines → AllByRecursion P (flat_map line_chars lines)
       of_lines [] h = tt
-      of_lines (x ∷ xs) h = chars_both (line_chars x) (flat_map line_chars xs) (chars_both (flat_map chars_of x) (10 ∷ []) (of_cells x h.0) (newline, tt)) (of_lines xs h.1)
+      of_lines (x ∷ xs) h = all-append P (line_chars x) (flat_map line_chars xs) (all-append P (flat_map chars_of x) (10 ∷ []) (of_cells x h.0) (newline, tt)) (of_lines xs h.1)
 
       pub of_shown : (limit : ℕ) (steps : List Step) → AllByRecursion OfStep steps → AllByRecursion P (chars_by (do_all limit fresh steps blank))
       of_shown limit steps p =
           let d = do_all limit fresh steps blank in
           let all = of_done limit steps p in
-          chars_both (flat_map line_chars d.lines) (flat_map chars_of (cells_of d.line)) (of_lines d.lines all.0) (of_cells (cells_of d.line) all.1)
+          all-append P (flat_map line_chars d.lines) (flat_map chars_of (cells_of d.line)) (of_lines d.lines all.0) (of_cells (cells_of d.line) all.1)

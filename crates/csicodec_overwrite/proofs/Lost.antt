@@ -1,9 +1,8 @@
 -- Each character that comes stands in a line, or was taken out of its own: counted step by step.
-use Rattle.std.proofs.Common.{◌≡◌, ◌≢◌, ◌≤◌, ℕ, ◌+◌, ◌-◌, zero, suc, Bool, true, false, cond, min, List, [], ◌∷◌, ◌++◌, length, replicate, refl, sym, ap, ◌∙◌, arith}
-use Rattle.std.specs.Prelude.{◌==◌, nat_lt, Option, Some, None}
+use Rattle.std.proofs.Common.{◌≡◌, ◌≢◌, ◌≤◌, ℕ, ◌+◌, ◌-◌, zero, suc, Bool, true, false, cond, min, List, [], ◌∷◌, ◌++◌, length, replicate, refl, ap, arith}
+use Rattle.std.specs.Prelude.{◌==◌, Option, Some, None}
 use Rattle.std.specs.List.{flat_map}
 use Rattle.std.proofs.lemmas.List.Sums.{sum_by-append}
-use Rattle.std.proofs.lemmas.Bool.{eqb-true}
 use Rattle.std.proofs.lemmas.Bool.Decides.{nat_tests}
 use Rattle.csicodec_overwrite.specs.declared.cells.Cell.{Cell}
 use Rattle.csicodec_overwrite.specs.declared.cells.Cell.TheVariants.{Behind, Char, Empty, Mark}
@@ -12,22 +11,12 @@ use Rattle.csicodec_overwrite.specs.declared.line.Line.{Line}
 use Rattle.csicodec_overwrite.specs.declared.pen.Pen.{Pen}
 use Rattle.csicodec_overwrite.specs.declared.step.Step.{Step}
 use Rattle.csicodec_overwrite.specs.declared.step.Step.TheVariants as step
-use Rattle.csicodec_overwrite.specs.Cells.{begins_behind, belongs, chars_of, columns, emptied, erased, glyph, gone, is_empty, onto, outside, shifted, takes, to_tab_stop, trimmed, untabbed, width, without}
+use Rattle.csicodec_overwrite.specs.Cells.{chars_of, columns, emptied, erased, glyph, gone, is_empty, onto, outside, shifted, takes, to_tab_stop, trimmed, width, without}
 use Rattle.csicodec_overwrite.specs.Line.{Done, behind_columns, blank, cells_of, do_all, does, does_here, done, entered, fits, forward}
-use Rattle.csicodec_overwrite.specs.Line.{from_stop, in_row, is_row, leave, leaves_long, line, lines_of, over, parted, pen_behind, placed}
-use Rattle.csicodec_overwrite.specs.Line.{placed_in, put, repeat, repeated, restored, shows_nothing, size, standing, target, to_stop, widest}
+use Rattle.csicodec_overwrite.specs.Line.{from_stop, in_row, leaves_long, line, lines_of, over, parted, pen_behind, placed}
+use Rattle.csicodec_overwrite.specs.Line.{placed_in, put, repeat, repeated, restored, size, standing, target, to_stop, widest}
 use Rattle.csicodec_overwrite.specs.Lost.{again, all_came, all_taken, belonging, came, covered, left_out, taken, taken_again, taken_here, taken_by, taken_by_all, tabs, times, touched, under, whole, within, written}
 use Rattle.csicodec_overwrite.proofs.Texts.{chars_by, line_chars}
-
--- either way of a test
-either : {T : Type 0} (P : T → Type 0) (t : Bool) (x y : T) → (t ≡ true → P x) → (t ≡ false → P y) → P (cond t x y)
-either P true x y h k = h refl
-either P false x y h k = k refl
-
--- either way of one test in two places
-both_ways : {S T : Type 0} (P : S → T → Type 0) (t : Bool) (x y : S) (a b : T) → (t ≡ true → P x a) → (t ≡ false → P y b) → P (cond t x y) (cond t a b)
-both_ways P true x y a b h k = h refl
-both_ways P false x y a b h k = k refl
 
 no_cells : (xs : List Cell) → length xs == 0 ≡ true → xs ≡ []
 no_cells [] e = refl
@@ -83,23 +72,19 @@ module _ (c : ℕ) where
 
   of_within : (n : ℕ) (xs : List Cell) → count (within n xs) + count (without n xs) ≡ count xs
   of_within n [] = refl
-  of_within n (x ∷ xs) = both_ways (λ (a b : List Cell). count a + count b ≡ in_cell x + count xs) (n == 0) [] (x ∷ within (n - takes x) xs) (x ∷ xs) (without (n - takes x) xs)
-      (λ e. omega arith) (λ e. omega (arith, of_within (n - takes x) xs))
+  of_within n (x ∷ xs) = grind (arith, of_within (n - takes x) xs)
 
   of_belonging : (xs : List Cell) → count (belonging xs) + count (outside xs) ≡ count xs
   of_belonging [] = refl
-  of_belonging (x ∷ xs) = both_ways (λ (a b : List Cell). count a + count b ≡ in_cell x + count xs) (belongs x) (x ∷ belonging xs) [] (outside xs) (x ∷ xs)
-      (λ e. omega (arith, of_belonging xs)) (λ e. omega arith)
+  of_belonging (x ∷ xs) = grind (arith, of_belonging xs)
 
   none_in : (x : Cell) → is_empty x ≡ true → in_cell x ≡ 0
   none_in Empty e = refl
-  none_in (Char g) e = cc
-  none_in Behind e = cc
-  none_in (Mark d) e = cc
+  none_in _ e = cc
 
   of_trimmed : (xs : List Cell) → count (trimmed xs) ≡ count xs
   of_trimmed [] = refl
-  of_trimmed (x ∷ xs) = either (λ (a : List Cell). count a ≡ in_cell x + count xs) (is_empty x) (trimmed xs) (x ∷ xs) (λ e. omega (arith, none_in x e, of_trimmed xs)) (λ e. omega arith)
+  of_trimmed (x ∷ xs) = grind (arith, none_in x, of_trimmed xs)
 
   of_emptied : (xs rest : List Cell) → count (emptied xs rest) ≡ count rest
   of_emptied xs rest = empties (columns xs - columns rest) rest
@@ -112,14 +97,8 @@ module _ (c : ℕ) where
   of_shifted : (t : Bool) (xs : List Cell) → count (shifted t xs) + count (tabs xs) ≡ count xs
   of_shifted t [] = refl
   of_shifted t (Empty ∷ xs) = omega (arith, of_shifted false xs)
-  of_shifted t (Char g ∷ xs) = by (g.char == 9) (of_shifted (g.char == 9) xs)
-    where
-      by : (u : Bool) → count (shifted u xs) + count (tabs xs) ≡ count xs
-          → count (untabbed u (Char g) ∷ shifted u xs) + count (cond u (Char g ∷ tabs xs) (tabs xs)) ≡ in_cell (Char g) + count xs
-      by true e = omega (arith, e)
-      by false e = omega (arith, e)
-  of_shifted true (Behind ∷ xs) = omega (arith, of_shifted true xs)
-  of_shifted false (Behind ∷ xs) = omega (arith, of_shifted false xs)
+  of_shifted t (Char g ∷ xs) = grind (arith, of_shifted (g.char == 9) xs)
+  of_shifted t (Behind ∷ xs) = grind (arith, of_shifted true xs, of_shifted false xs)
   of_shifted t (Mark d ∷ xs) = omega (arith, of_shifted t xs)
 
   of_erased : (n : ℕ) (xs : List Cell) → count (erased n xs) ≡ count (gone n xs)
@@ -129,9 +108,7 @@ module _ (c : ℕ) where
 
   of_over : (n : ℕ) (left right : List Cell) → in_line (over n left right) ≡ count left + count right
   of_over n left [] = refl
-  of_over n left (x ∷ right) =
-      either (λ (m : Line). in_line m ≡ count left + (in_cell x + count right)) (nat_lt n (takes x)) (line left (x ∷ right))
-      (over (n - takes x) (x ∷ left) right) (λ e. refl) (λ e. omega (arith, of_over (n - takes x) (x ∷ left) right))
+  of_over n left (x ∷ right) = grind (arith, of_over (n - takes x) (x ∷ left) right)
 
   of_forward : (limit n : ℕ) (l : Line) → in_line (forward limit n l) ≡ in_line l
   of_forward limit n l =
@@ -145,9 +122,7 @@ module _ (c : ℕ) where
   of_under l =
       let left = without 1 (outside l.left) in
       let right = outside l.right in
-      both_ways (λ (a : List Cell) (m : Line). count a + in_line m ≡ in_line l) (begins_behind l.right)
-      (belonging l.left ++ (within 1 (outside l.left) ++ belonging l.right)) [] (line (emptied l.left left) (emptied l.right right)) l
-      (λ e. omega (
+      grind (
         arith,
         joined (belonging l.left) (within 1 (outside l.left) ++ belonging l.right),
         joined (within 1 (outside l.left)) (belonging l.right),
@@ -156,8 +131,7 @@ module _ (c : ℕ) where
         of_within 1 (outside l.left),
         of_emptied l.left left,
         of_emptied l.right right,
-      ))
-      (λ e. omega arith)
+      )
 
   of_touched : (n : ℕ) (l : Line) → count (touched n l) + (count (parted l).left + count (gone n (parted l).right)) ≡ in_line l
   of_touched n l = omega (arith, joined (under l) (whole n (parted l).right), of_whole n (parted l).right, of_under l)
@@ -166,8 +140,7 @@ module _ (c : ℕ) where
   of_cells l = omega (arith, moved (standing l) [], of_trimmed (onto l.right l.left), moved l.right l.left)
 
   of_lines : (l : Line) → in_lines (lines_of l) + count (left_out l) ≡ in_line l
-  of_lines l = both_ways (λ (xs : List (List Cell)) (a : List Cell). in_lines xs + count a ≡ in_line l) (shows_nothing l) [] (cells_of l ∷ []) (cells_of l) []
-      (λ e. omega (arith, of_cells l)) (λ e. omega (arith, of_cells l))
+  of_lines l = grind (arith, of_cells l)
 
   lines_joined : (xs ys : List (List Cell)) → in_lines (xs ++ ys) ≡ in_lines xs + in_lines ys
   lines_joined [] ys = omega arith
@@ -178,30 +151,21 @@ module _ (c : ℕ) where
   of_placed : (inserts : Bool) (g : Glyph) (n : ℕ) (l : Line) → in_line (placed inserts g n l) + count (covered inserts n l) ≡ in_line l + times c (g.char ∷ [])
   of_placed inserts g n l =
       let p = parted l in
-      both_ways (λ (m : Line) (a : List Cell). in_line m + count a ≡ in_line l + times c (g.char ∷ [])) (n == 0)
-      (line (Mark g.char ∷ l.left) l.right) (line (replicate (n - 1) Behind ++ (Char g ∷ p.left)) (cond inserts (shifted false p.right) (gone n p.right))) []
-      (cond inserts (under l ++ tabs p.right) (touched n l))
-      (λ e. omega arith)
-      (λ e. both_ways (λ (right a : List Cell). count (replicate (n - 1) Behind ++ (Char g ∷ p.left)) + count right + count a ≡ in_line l + times c (g.char ∷ []))
-      inserts (shifted false p.right) (gone n p.right) (under l ++ tabs p.right) (touched n l)
-      (λ f. omega (arith, behinds (n - 1) (Char g ∷ p.left), of_under l, of_shifted false p.right, joined (under l) (tabs p.right))) (λ f. omega (arith, behinds (n - 1) (Char g ∷ p.left), of_touched n l)))
+      grind (arith, behinds (n - 1) (Char g ∷ p.left), of_under l, of_shifted false p.right, joined (under l) (tabs p.right), of_touched n l)
 
   -- where nothing stands on the right, nothing is taken
   none_covered : (inserts : Bool) (n : ℕ) (left : List Cell) → count (covered inserts n (line left [])) ≡ 0
-  none_covered inserts n left = by (n == 0) inserts
-    where
-      by : (mark inserting : Bool) → count (cond mark [] (cond inserting (under (line left []) ++ tabs []) (touched n (line left [])))) ≡ 0
-      by true inserting = refl
-      by false true = refl
-      by false false = refl
+  none_covered inserts n left = grind arith
 
   of_put : (limit : ℕ) (inserts : Bool) (g : Glyph) (l : Line) → in_all (put limit inserts g l) + count (taken_by limit inserts g l) ≡ in_line l + times c (g.char ∷ [])
   of_put limit inserts g l =
       let w = width g.char (columns l.left) in
-      both_ways (λ (d : Done) (a : List Cell). in_all d + count a ≡ in_line l + times c (g.char ∷ [])) (fits limit w l)
-      (done [] (placed inserts g w l)) (done (cells_of l ∷ []) (placed inserts g (width g.char 0) blank)) (covered inserts w l) []
-      (λ e. omega (arith, of_placed inserts g w l))
-      (λ e. omega (arith, of_cells l, of_placed inserts g (width g.char 0) blank, none_covered inserts (width g.char 0) []))
+      let first = width g.char 0 in
+      ways (fits limit w l) (done [] (placed inserts g w l)) (done (cells_of l ∷ []) (placed inserts g first blank)) (covered inserts w l) (in_line l + times c (g.char ∷ []))
+      (omega (arith, of_placed inserts g w l)) (omega (arith, of_cells l, of_placed inserts g first blank, none_covered inserts first []))
+    where
+      ways : (t : Bool) (d e : Done) (a : List Cell) (n : ℕ) → in_all d + count a ≡ n → in_all e ≡ n → in_all (cond t d e) + count (cond t a []) ≡ n
+      ways t d e a n h k = grind arith
 
   again_suc : (n d : ℕ) → times c (replicate (suc n) d) ≡ times c (d ∷ []) + times c (replicate n d)
   again_suc n d = both (d ∷ []) (replicate n d)
@@ -226,32 +190,22 @@ module _ (c : ℕ) where
 
   -- a tab takes nothing: nothing stands on its right
   of_tab : (limit : ℕ) (pen : Pen) (l : Line) → in_all (does_here limit pen step.Tab l) ≡ in_line l + times c (came pen step.Tab l)
-  of_tab limit pen l =
-      both_ways (λ (d : Done) (cs : List ℕ). in_all d ≡ in_line l + times c cs) (length l.right == 0) (put limit pen.inserts (glyph 9 pen.look) l)
-      (done [] (forward limit (to_tab_stop (columns l.left)) l)) (9 ∷ []) []
-      (λ e. omega (arith, of_put limit pen.inserts (glyph 9 pen.look) l, none_taken l (no_cells l.right e))) (λ e. omega (arith, of_forward limit (to_tab_stop (columns l.left)) l))
+  of_tab limit pen l = grind (arith, of_put limit pen.inserts (glyph 9 pen.look) l, none_taken, of_forward limit (to_tab_stop (columns l.left)) l)
     where
-      none_taken : (l : Line) → l.right ≡ [] → count (taken_by limit pen.inserts (glyph 9 pen.look) l) ≡ 0
-      none_taken l e =
-          let w = width 9 (columns l.left) in
-          either (λ (a : List Cell). count a ≡ 0) (fits limit w l) (covered pen.inserts w l) []
-          (λ f. ap (λ (right : List Cell). count (covered pen.inserts w (line l.left right))) e ∙ none_covered pen.inserts w l.left) (λ f. refl)
+      none_taken : length l.right == 0 ≡ true → count (taken_by limit pen.inserts (glyph 9 pen.look) l) ≡ 0
+      none_taken e = rw (no_cells l.right e) (grind (arith, none_covered pen.inserts (width 9 (columns l.left)) l.left))
 
   -- ---- steps
 
   of_restored : (limit : ℕ) (pen : Pen) (l : Line) → in_all (restored limit pen l) + count (taken_here limit pen step.Restore l) ≡ in_line l
-  of_restored limit pen l =
-      both_ways (λ (d : Done) (a : List Cell). in_all d + count a ≡ in_line l) pen.here (done [] (behind_columns limit pen.saved l))
-      (done (lines_of l) (forward limit pen.saved blank)) [] (left_out l)
-      (λ e. omega (arith, of_behind limit pen.saved l)) (λ e. omega (arith, of_lines l, of_forward limit pen.saved blank))
+  of_restored limit pen l = grind (arith, of_behind limit pen.saved l, of_lines l, of_forward limit pen.saved blank)
 
   of_in_row : (limit : ℕ) (to : Option ℕ) (l : Line) → in_line (in_row limit to l) ≡ in_line l
   of_in_row limit None l = refl
   of_in_row limit (Some n) l = of_behind limit (n - 1) l
 
   of_placed_in : (limit : ℕ) (pen : Pen) (row : ℕ) (to : Option ℕ) (l : Line) → in_all (placed_in limit pen row to l) + count (taken_here limit pen (step.Row row to) l) ≡ in_line l
-  of_placed_in limit pen row to l = both_ways (λ (d : Done) (a : List Cell). in_all d + count a ≡ in_line l) (is_row pen.row row) (done [] (in_row limit to l)) (leave limit to l) [] (left_out l)
-      (λ e. omega (arith, of_in_row limit to l)) (λ e. omega (arith, of_lines l, of_forward limit (target to l) blank))
+  of_placed_in limit pen row to l = grind (arith, of_in_row limit to l, of_lines l, of_forward limit (target to l) blank)
 
   of_here : (limit : ℕ) (pen : Pen) (s : Step) (l : Line) → in_all (does_here limit pen s l) + count (taken_here limit pen s l) ≡ in_line l + times c (came pen s l)
   of_here limit pen (step.Put d) l = of_put limit pen.inserts (glyph d pen.look) l
@@ -279,9 +233,7 @@ module _ (c : ℕ) where
   of_here limit pen _ l = omega arith
 
   of_entered : (limit : ℕ) (s : Step) (l : Line) → in_all (entered limit s l) + count (cond (leaves_long s l) (left_out l) []) ≡ in_line l
-  of_entered limit s l =
-      both_ways (λ (d : Done) (a : List Cell). in_all d + count a ≡ in_line l) (leaves_long s l) (leave limit None l) (done [] l) (left_out l) []
-      (λ e. omega (arith, of_lines l, of_forward limit (target None l) blank)) (λ e. omega arith)
+  of_entered limit s l = grind (arith, of_lines l, of_forward limit (target None l) blank)
 
   -- what comes is the same in the line that is entered
   came_there : (limit : ℕ) (pen : Pen) (s : Step) (l : Line) → came pen s (entered limit s l).line ≡ came pen s l
@@ -318,9 +270,7 @@ module _ (c : ℕ) where
 
   pub balances : (limit : ℕ) (pen : Pen) (steps : List Step) → let d = do_all limit pen steps blank in
       in_lines d.lines + count (cells_of d.line) + times c (all_taken limit pen steps blank) ≡ times c (all_came limit pen steps blank)
-  balances limit pen steps =
-      let d = do_all limit pen steps blank in
-      omega (arith, of_all limit pen steps blank, of_cells d.line)
+  balances limit pen steps = omega (arith, of_all limit pen steps blank, of_cells (do_all limit pen steps blank).line)
 
   -- ---- the text of lines
 
@@ -329,9 +279,7 @@ module _ (c : ℕ) where
     where
       cell_has : (x : Cell) → in_cell x ≤ times c (chars_of x)
       cell_has Empty = omega arith
-      cell_has (Char g) = omega arith
-      cell_has Behind = omega arith
-      cell_has (Mark d) = omega arith
+      cell_has _ = omega arith
 
       cells_have : (xs : List Cell) → count xs ≤ times c (flat_map chars_of xs)
       cells_have [] = omega arith
@@ -342,20 +290,14 @@ module _ (c : ℕ) where
       lines_have (x ∷ xs) = omega (arith, cells_have x, lines_have xs, both (line_chars x) (flat_map line_chars xs), both (flat_map chars_of x) (10 ∷ []))
 
   pub others : (k : ℕ) → c ≢ k → times c (k ∷ []) ≡ 0
-  others k h = ap (λ (t : Bool). 0 + cond t 1 0) (by (k == c) refl)
-    where
-      by : (t : Bool) → (k == c) ≡ t → t ≡ false
-      by true e = absurd (h (sym (eqb-true k c e)))
-      by false e = refl
+  others k h = grind (arith, nat_tests)
 
   pub text_is : (d : Done) → c ≢ 32 → c ≢ 10 → in_lines d.lines + count (cells_of d.line) ≡ times c (chars_by d)
   text_is d no_blank no_newline = omega (arith, both (flat_map line_chars d.lines) (flat_map chars_of (cells_of d.line)), lines_are d.lines, cells_are (cells_of d.line))
     where
       cell_is : (x : Cell) → in_cell x ≡ times c (chars_of x)
       cell_is Empty = omega (arith, others 32 no_blank)
-      cell_is (Char g) = refl
-      cell_is Behind = refl
-      cell_is (Mark d) = refl
+      cell_is _ = refl
 
       cells_are : (xs : List Cell) → count xs ≡ times c (flat_map chars_of xs)
       cells_are [] = refl

@@ -53,8 +53,7 @@ module _ (k : Kind) (of_byte : ℕ → List Step) (ends : (run bytes : List ℕ)
       let others = flat_map bytes_of ps in
       let step : IsOfPart p.kind run p.bytes (of_run run ++ own) [] = rw h.all.0 (ends run p.bytes) in
       let whole : of_run run ++ flat_map of_byte bytes ≡ (of_run run ++ own) ++ flat_map of_byte others =
-      ap (λ (b : List ℕ). of_run run ++ flat_map of_byte b) (sym h.joined)
-      ∙ ap (λ (t : List Step). of_run run ++ t) (flat_map-append of_byte p.bytes others) ∙ sym (append_assoc (of_run run) own (flat_map of_byte others)) in
+      rw (← h.joined, flat_map-append of_byte p.bytes others) (sym (append_assoc (of_run run) own (flat_map of_byte others))) in
       (of_run run ++ own, [], flat_map of_byte others, step, whole, others_by ps h.all.1)
 
 only : (k : Kind) (bytes : List ℕ) (steps : List Step) (ps : List Part) (run : List ℕ) → ps ≡ part k bytes ∷ [] → IsOfPart k run bytes steps [] → AreOfParts run ps steps []
@@ -79,9 +78,7 @@ ended run chars held ps own more left read e none are = record {
   read = [];
   are = are;
   is_read = rw none (read_none []);
-  same =
-      ap (λ (t : List Step). of_chars chars ++ t) e ∙ sym (append_assoc (of_chars chars) (of_run held) own)
-      ∙ ap (λ (t : List Step). t ++ own) (sym (run_read run chars held read)) ∙ sym (append-nil (of_run run ++ own));
+  same = rw (e, run_read run chars held read) (simp (append_assoc, append-nil));
 }
 
 spanned : (k : Kind) (run chars held bytes : List ℕ) (more : List Step) (ps : List Part) (left : List ℕ) → IsSpan k bytes ps → IsRead run chars held

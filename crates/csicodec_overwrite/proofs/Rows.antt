@@ -22,22 +22,10 @@ less_is n k h = grind (arith, nat_tests)
 
 -- a sum that is cut off far behind a row
 pub long_same : (n k : ℕ) → n ≡ min k 18446744073709551615 → nat_lt 512 n ≡ nat_lt 512 k
-long_same n k e = by (nat_lt 512 n) (nat_lt 512 k) refl refl
-  where
-    by : (a b : Bool) → nat_lt 512 n ≡ a → nat_lt 512 k ≡ b → a ≡ b
-    by true true f g = refl
-    by false false f g = refl
-    by true false f g = absurd (grind (arith, nat_tests, e))
-    by false true f g = absurd (grind (arith, nat_tests, e))
+long_same n k e = grind (arith, nat_tests)
 
 less_on : (n k m : ℕ) → k ≤ n → nat_lt (n - k) m ≡ nat_lt n (k + m)
-less_on n k m some = by (nat_lt (n - k) m) (nat_lt n (k + m)) refl refl
-  where
-    by : (a b : Bool) → nat_lt (n - k) m ≡ a → nat_lt n (k + m) ≡ b → a ≡ b
-    by true true e f = refl
-    by false false e f = refl
-    by true false e f = absurd (grind (arith, nat_tests))
-    by false true e f = absurd (grind (arith, nat_tests))
+less_on n k m some = grind (arith, nat_tests)
 
 -- ---- all that stands in a line stands there wherever the cursor is
 
@@ -87,15 +75,7 @@ standing_row limit (Some n) l = standing_settled limit n l
 over_keeps : (n : ℕ) (left right : List Cell)
     → onto (over n left right).left (over n left right).right ≡ onto left right
 over_keeps n left [] = refl
-over_keeps n left (x ∷ right) = by (nat_lt n (takes x)) (over_keeps (n - takes x) (x ∷ left) right)
-  where
-    now : Bool → Line
-    now t = cond t (line left (x ∷ right)) (over (n - takes x) (x ∷ left) right)
-
-    by : (t : Bool) → onto (now false).left (now false).right ≡ onto left (x ∷ right)
-        → onto (now t).left (now t).right ≡ onto left (x ∷ right)
-    by true h = refl
-    by false h = h
+over_keeps n left (x ∷ right) = grind (arith, over_keeps (n - takes x) (x ∷ left) right)
 
 pub settled_again : (limit to n : ℕ) (l : Line) → n ≤ columns l.left + columns l.right
     → behind_columns limit to (behind_columns limit n l) ≡ behind_columns limit to l
@@ -112,19 +92,7 @@ settled_again limit to n l few =
 columns_over : (n : ℕ) (left right : List Cell)
     → columns (over n left right).left ≡ columns left + min n (columns right)
 columns_over n left [] = omega arith
-columns_over n left (x ∷ right) =
-    by (nat_lt n (takes x)) refl (columns_over (n - takes x) (x ∷ left) right)
-  where
-    now : Bool → Line
-    now t = cond t (line left (x ∷ right)) (over (n - takes x) (x ∷ left) right)
-
-    by : (t : Bool) → nat_lt n (takes x) ≡ t
-        → columns (now false).left ≡ columns (x ∷ left) + min (n - takes x) (columns right)
-        → columns (now t).left ≡ columns left + min n (takes x + columns right)
-    by true e h = let none : n ≡ 0 = grind (arith, nat_tests, takes_few x) in omega (arith, none)
-    by false e h =
-        let some : takes x ≤ n = grind (arith, nat_tests) in
-        omega (arith, some, h)
+columns_over n left (x ∷ right) = grind (arith, nat_tests, takes_few x, columns_over (n - takes x) (x ∷ left) right)
 
 pub reached : (limit n : ℕ) (l : Line)
     → columns (behind_columns limit n l).left
@@ -160,26 +128,8 @@ ahead limit k l =
 
 over_right : (n : ℕ) (left right : List Cell)
     → nat_lt 0 (length (over n left right).right) ≡ nat_lt n (columns right)
-over_right n left [] = by (nat_lt n 0) refl
-  where
-    by : (t : Bool) → nat_lt n 0 ≡ t → nat_lt 0 0 ≡ t
-    by true e = absurd (grind (arith, nat_tests))
-    by false e = refl
-over_right n left (x ∷ right) =
-    by (nat_lt n (takes x)) refl (over_right (n - takes x) (x ∷ left) right)
-  where
-    now : Bool → Line
-    now t = cond t (line left (x ∷ right)) (over (n - takes x) (x ∷ left) right)
-
-    by : (t : Bool) → nat_lt n (takes x) ≡ t
-        → nat_lt 0 (length (now false).right) ≡ nat_lt (n - takes x) (columns right)
-        → nat_lt 0 (length (now t).right) ≡ nat_lt n (takes x + columns right)
-    by true e h =
-        less_is 0 (suc (length right)) (omega arith)
-        ∙ sym (less_is n (takes x + columns right) (grind (arith, nat_tests)))
-    by false e h =
-        let some : takes x ≤ n = grind (arith, nat_tests) in
-        h ∙ less_on n (takes x) (columns right) some
+over_right n left [] = grind (arith, nat_tests)
+over_right n left (x ∷ right) = grind (arith, nat_tests, over_right (n - takes x) (x ∷ left) right)
 
 settled_right : (limit n : ℕ) (l : Line)
     → nat_lt 0 (length (behind_columns limit n l).right) ≡ nat_lt n (columns l.left + columns l.right)

@@ -1,10 +1,11 @@
 -- Plain text of which each line has room stays as it is.
-use Rattle.std.proofs.Common.{◌≡◌, ◌≤◌, ◌⊎◌, ℕ, ◌+◌, ◌-◌, zero, suc, Bool, true, false, cond, List, [], ◌∷◌, ◌++◌, length}
+use Rattle.std.proofs.Common.{◌≡◌, ◌≤◌, ◌⊎◌, ℕ, ◌+◌, zero, suc, Bool, true, false, cond, List, [], ◌∷◌, ◌++◌, length}
 use Rattle.std.proofs.Common.{replicate, encode_utf8_all, refl, sym, ap, subst, ◌∙◌, inl, inr, ⊎_elim, append_assoc, append-nil, arith}
-use Rattle.std.specs.Prelude.{◌==◌, max, nat_le}
+use Rattle.std.specs.Prelude.{◌==◌, max}
 use Rattle.std.specs.List.{AllByRecursion, flat_map}
 use Rattle.std.proofs.lemmas.Bool.{eqb-true}
 use Rattle.std.proofs.lemmas.Bool.Decides.{nat_tests}
+use Rattle.std.proofs.lemmas.List.{length-append, length-replicate}
 use Rattle.bstr.specs.Utf8.{lossy_chars}
 use Rattle.bstr.proofs.lemmas.EncodeLemmas.{lossy_chars-encode}
 use Rattle.csicodec_spans.specs.declared.table.Kind.TheVariants as kind
@@ -19,7 +20,6 @@ use Rattle.csicodec_clean.proofs.Twice.{all_text}
 use Rattle.csicodec_overwrite.specs.declared.cells.Cell.{Cell}
 use Rattle.csicodec_overwrite.specs.declared.cells.Cell.TheVariants.{Behind, Char, Mark}
 use Rattle.csicodec_overwrite.specs.declared.cells.Glyph.{Glyph}
-use Rattle.csicodec_overwrite.specs.declared.line.Line.{Line}
 use Rattle.csicodec_overwrite.specs.declared.marking.Marking.TheVariants.{Plain}
 use Rattle.csicodec_overwrite.specs.declared.pen.Pen.{Pen}
 use Rattle.csicodec_overwrite.specs.declared.step.Step.{Step}
@@ -40,10 +40,7 @@ chars left = flat_map chars_of (onto left [])
 
 chars_onto : (left right : List Cell) → flat_map chars_of (onto left right) ≡ chars left ++ flat_map chars_of right
 chars_onto [] right = refl
-chars_onto (x ∷ left) right =
-    let rest = flat_map chars_of right in
-    let one : chars (x ∷ left) ≡ chars left ++ chars_of x = chars_onto left (x ∷ []) ∙ ap (λ (t : List ℕ). chars left ++ t) (append-nil (chars_of x)) in
-    chars_onto left (x ∷ right) ∙ sym (append_assoc (chars left) (chars_of x) rest) ∙ ap (λ (t : List ℕ). t ++ rest) (sym one)
+chars_onto (x ∷ left) right = rw (chars_onto left (x ∷ right), chars_onto left (x ∷ [])) (simp (append_assoc, append-nil))
 
 one_more : (x : Cell) (left : List Cell) → chars (x ∷ left) ≡ chars left ++ chars_of x
 one_more x left = chars_onto left (x ∷ []) ∙ ap (λ (t : List ℕ). chars left ++ t) (append-nil (chars_of x))
@@ -87,42 +84,17 @@ cells_columns g (suc w) left = omega (arith, behind w)
 
 pub cells_length : (g : Glyph) (w : ℕ) (left : List Cell) → length (cells g w left) ≡ length left + max w 1
 cells_length g zero left = omega arith
-cells_length g (suc w) left = omega (arith, behind w)
-  where
-    behind : (n : ℕ) → length (replicate n Behind ++ Char g ∷ left) ≡ n + (1 + length left)
-    behind zero = omega arith
-    behind (suc n) = omega (arith, behind n)
+cells_length g (suc w) left = omega (arith, length-append (replicate w Behind) (Char g ∷ left), length-replicate w Behind)
 
 placed_cells : (g : Glyph) (w : ℕ) (left : List Cell) → placed false g w (line left []) ≡ line (cells g w left) []
 placed_cells g zero left = refl
-placed_cells g (suc w) left =
-    let some : (suc w == 0) ≡ false = grind (arith, nat_tests) in
-    let less : suc w - 1 ≡ w = omega arith in
-    by (suc w == 0) some ∙ ap (λ (n : ℕ). line (replicate n Behind ++ Char g ∷ left) []) less
-  where
-    by : (t : Bool) → t ≡ false → cond t (line (Mark g.char ∷ left) []) (line (replicate (suc w - 1) Behind ++ (Char g ∷ left)) []) ≡ line (replicate (suc w - 1) Behind ++ Char g ∷ left) []
-    by t e = rw e refl
-
-has_room : (a b limit : ℕ) → a + b ≤ limit → nat_le ((a + 0) + b) limit ≡ true
-has_room a b limit h = grind (arith, nat_tests)
+placed_cells g (suc w) left = grind (arith, nat_tests)
 
 pub put_cells : (limit : ℕ) (g : Glyph) (left : List Cell) → length left + max (width g.char (columns left)) 1 ≤ limit
     → put limit false g (line left []) ≡ done [] (line (cells g (width g.char (columns left)) left) [])
-put_cells limit g left h =
-    let w = width g.char (columns left) in
-    by (nat_le ((length left + 0) + max w 1) limit) (has_room (length left) (max w 1) limit h) ∙ ap (done []) (placed_cells g w left)
-  where
-    by : (t : Bool) → t ≡ true
-        → cond t (done [] (placed false g (width g.char (columns left)) (line left []))) (done (cells_of (line left []) ∷ []) (placed false g (width g.char 0) blank))
-        ≡ done [] (placed false g (width g.char (columns left)) (line left []))
-    by t e = rw e refl
+put_cells limit g left h = grind (arith, nat_tests, placed_cells g (width g.char (columns left)) left)
 
 -- ---- the steps of plain text
-
--- a step that writes nothing
-silent : (limit : ℕ) (pen : Pen) (s : Step) (steps : List Step) (l m : Line) → does limit pen s l ≡ done [] m
-    → chars_by (do_all limit pen (s ∷ steps) l) ≡ chars_by (do_all limit (pen_behind pen s (columns l.left)) steps m)
-silent limit pen s steps l m e = ap (λ (d : Done). chars_by (before d.lines (do_all limit (pen_behind pen s (columns l.left)) steps d.line))) e
 
 -- a character that is shown ends the line, or stands in it
 abbrev pub Puts : Pen → ℕ → Type 0
@@ -152,15 +124,6 @@ puts pen c h = by (c == 10) (c == 13) (c == 8) (c == 9) (shown c) refl refl refl
     by false false false false true e f g i k = inr (e, (step.Put c, put_of c e f g i k, λ column. refl, λ limit left. refl))
     by false false false false false e f g i k = absurd (let j : shown c ≡ true = h in cc)
 
-room_line : (limit n m c : ℕ) (cs : List ℕ) → c == 10 ≡ true → HasRoom limit n m (c ∷ cs) → HasRoom limit 0 0 cs
-room_line limit n m c cs e h = rw e at h
-
-room_char : (limit n m c : ℕ) (cs : List ℕ) → c == 10 ≡ false → HasRoom limit n m (c ∷ cs) → (m + max (width c n) 1 ≤ limit) × HasRoom limit (n + width c n) (m + max (width c n) 1) cs
-room_char limit n m c cs e h = rw e at h
-
-newline_is : (c : ℕ) → c == 10 ≡ true → c ≡ 10
-newline_is c e = eqb-true c 10 e
-
 pub stays : (limit : ℕ) (pen : Pen) (cs : List ℕ) (left : List Cell) → pen.inserts ≡ false → AreFull left → AllByRecursion IsShown cs → HasRoom limit (columns left) (length left) cs
     → chars_by (do_all limit pen (of_chars cs) (line left [])) ≡ chars left ++ cs
 stays limit pen [] left over full all room = full_text left full ∙ sym (append-nil (chars left))
@@ -173,20 +136,21 @@ stays limit pen (c ∷ cs) left over full all room = ⊎_elim
     ap (λ (s : List Step). chars_by (do_all limit pen (s ++ of_chars cs) (line left []))) k.1
     ∙ ap (λ (t : List ℕ). ((t ++ 10 ∷ []) ++ ended) ++ last) (full_text left full)
     ∙ append_assoc (chars left ++ 10 ∷ []) ended last
-    ∙ ap (λ (t : List ℕ). (chars left ++ 10 ∷ []) ++ t) (stays limit next cs [] over tt all.1 (room_line limit (columns left) (length left) c cs k.0 room))
+    ∙ ap (λ (t : List ℕ). (chars left ++ 10 ∷ []) ++ t) (stays limit next cs [] over tt all.1 (rw k.0 at room))
     ∙ append_assoc (chars left) (10 ∷ []) cs
-    ∙ ap (λ (d : ℕ). chars left ++ d ∷ cs) (sym (newline_is c k.0)))
+    ∙ ap (λ (d : ℕ). chars left ++ d ∷ cs) (sym (eqb-true c 10 k.0)))
     (λ (k : (c == 10 ≡ false) × ((s : Step) × (of_char c ≡ s ∷ []) × ((column : ℕ) → closed (pen_behind pen s column) ≡ closed pen)
     × ((limit : ℕ) (left : List Cell) → does limit pen s (line left []) ≡ put limit pen.inserts (glyph c pen.look) (line left [])))).
     let (s, of, same, puts) = k.1 in
     let w = width c (columns left) in
     let g = glyph c pen.look in
-    let more = room_char limit (columns left) (length left) c cs k.0 room in
+    let more = rw k.0 at room in
     let next = cells g w left in
     let room_next : HasRoom limit (columns next) (length next) cs =
     subst (λ (n : ℕ). HasRoom limit n (length next) cs) (sym (cells_columns g w left)) (subst (λ (m : ℕ). HasRoom limit (columns left + w) m cs) (sym (cells_length g w left)) more.1) in
     ap (λ (x : List Step). chars_by (do_all limit pen (x ++ of_chars cs) (line left []))) of
-    ∙ silent limit pen s (of_chars cs) (line left []) (line next []) (puts limit left ∙ ap (λ (b : Bool). put limit b g (line left [])) over ∙ put_cells limit g left more.0)
+    ∙ ap (λ (d : Done). chars_by (before d.lines (do_all limit (pen_behind pen s (columns left)) (of_chars cs) d.line)))
+    (puts limit left ∙ ap (λ (b : Bool). put limit b g (line left [])) over ∙ put_cells limit g left more.0)
     ∙ stays limit (pen_behind pen s (columns left)) cs next (ap (λ (p : Pen). p.inserts) (same (columns left)) ∙ over) (cells_full g w left full) all.1 room_next
     ∙ ap (λ (t : List ℕ). t ++ cs) (cells_chars g w left)
     ∙ append_assoc (chars left) (c ∷ []) cs)

@@ -2,18 +2,6 @@ use Rattle.std.proofs.Common.{ap, arith, length, length-append}
 use Rattle.csicodec_overwrite.proofs.Written.{front_on}
 use Rattle.csicodec_overwrite.proofs.overwriter.Overwriter.take_front.Goals as goal
 
-pub take_ready-requires : goal.take_ready-requires
-take_ready-requires c = c.is_bare.ensures c.if-not-is_bare.false
-
-pub returns-then-rest-bytes-clause-passes : goal.returns-then-rest-bytes-clause-passes
-returns-then-rest-bytes-clause-passes c = c.in_ok-rest.ensures.passes
-
-pub returns-then-rest-bytes-clause-fewer : goal.returns-then-rest-bytes-clause-fewer
-returns-then-rest-bytes-clause-fewer c = λ some. c.if-rest-bytes.true
-
-pub returns-then-rest-bytes-clause-held : goal.returns-then-rest-bytes-clause-held
-returns-then-rest-bytes-clause-held c = λ few. c.in_ok-rest.ensures.held
-
 pub returns-clause-passes : goal.returns-clause-passes
 returns-clause-passes c =
     front_on c.args.self.now c.take_ready.new.self c.take_odd-2.new.self c.args.bytes.now c.in_ok-rest.rest.now c.in_ok-odd.odd.now c.args.out.now.items
@@ -28,6 +16,3 @@ returns-clause-fewer c = λ some.
       ap length split,
       length-append front c.in_ok-rest.rest.now,
     )
-
-pub returns-clause-held : goal.returns-clause-held
-returns-clause-held c = λ few. c.in_ok-odd.ensures.held c.in_ok-rest.ensures.held

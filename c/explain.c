@@ -10,7 +10,8 @@
 
 extern char **environ;
 
-/* Writes a line of JSON for each text, control and string; 0, the status of the program, 128 and the signal that ended it, or an error. */
+/* Writes a line of JSON for each text, control and string, or several for one of more than 64 KiB; 0, the status of the program, 128 and the
+ * signal that ended it, or an error. Bytes whose first line is that of a recording may be read as one. */
 static int explain(const uint8_t *bytes, size_t len, FILE *to) {
     char *words[] = {"csicodec", "explain", "--json", NULL};
     posix_spawn_file_actions_t files;

@@ -70,9 +70,10 @@ def bundle(entry):
 
     add(entry)
     text = "".join(made.values())
-    if re.search(r"</script|<!--|^(?:import|export) ", text, re.I | re.M):
+    if re.search(r"</script|<!--|^(?:import|export) |[^:'\"`]//", text, re.I | re.M):
         raise Stop(f"release: {entry}: what can't stand in a page's script")
-    return f"\n{text}"
+    # A new line behind one of these says nothing, and none of a text stands behind one, but for a style sheet's.
+    return "\n" + re.sub(r"([;{(,])\n", r"\1", text)
 
 
 def rows_of(document, heading):
@@ -99,8 +100,9 @@ def source(text):
 
 def page(program):
     """The page, with the program as a module of WebAssembly."""
-    # Blanks beside these three say nothing in a style sheet, and no string of it has one of them.
-    style, script = re.sub(r"\s*([{};])\s*", r"\1", read("web/page/page.css")), bundle("web/page.mjs")
+    # Blanks beside these four, and behind the colon of a declaration, say nothing in a style sheet, and no string of it has one of them.
+    style = re.sub(r"(?<=[a-z-]): ", ":", re.sub(r"\s*([{};,])\s*", r"\1", read("web/page/page.css")))
+    script = bundle("web/page.mjs")
     parts = {
         "script": source(script),
         "style": source(style),

@@ -50,6 +50,13 @@ def plain(text):
     return re.sub(r"^\s*//.*\n|^\s+", "", re.sub(r"/\*\* .*?\*/ ?|/\*\*\n.*?\*/", "", text, flags=re.S), flags=re.M)
 
 
+def tight(text):
+    """A script without the new lines behind a sign that says that more follows, and in lines that have no text and no regular expression
+    without the blanks beside signs that stand for themselves."""
+    lines = (line if re.search(r"""['"`/]""", line) else re.sub(r" ?(=>|[=!]==|&&|\|\||[=,{};:()]) ?", r"\1", line) for line in text.split("\n"))
+    return re.sub(r"([;{(,])\n", r"\1", "\n".join(lines))
+
+
 def bundle(entry):
     """One script of a module and those that it stands on, lowest first: each of them a function that gives what it exports."""
     made = {}
@@ -72,8 +79,7 @@ def bundle(entry):
     text = "".join(made.values())
     if re.search(r"</script|<!--|^(?:import|export) |[^:'\"`]//", text, re.I | re.M):
         raise Stop(f"release: {entry}: what can't stand in a page's script")
-    # A new line behind one of these says nothing, and none of a text stands behind one, but for a style sheet's.
-    return "\n" + re.sub(r"([;{(,])\n", r"\1", text)
+    return f"\n{tight(text)}"
 
 
 def rows_of(document, heading):

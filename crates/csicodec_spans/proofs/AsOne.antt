@@ -11,9 +11,6 @@ use Rattle.csicodec_spans.proofs.Once.{parts_off}
 pub one_alone : (limit : ℕ) (m : Mode) (bytes : List ℕ) (before : List Part) (p : Part) → AreOne limit m bytes before (p ∷ [])
 one_alone limit m bytes before p some more rest a e first second s = absurd (omega (arith, ap length e, length-append some more))
 
-pub one_none : (limit : ℕ) (m : Mode) (bytes : List ℕ) (before : List Part) → AreOne limit m bytes before []
-one_none limit m bytes before some more rest a e first second s = absurd (omega (arith, ap length e, length-append some more))
-
 -- parts that are one, and more of them
 pub one_on : (limit : ℕ) (ps qs : List Part) (m n : Mode) (bytes mid : List ℕ) →
     AreFirstParts limit m bytes ps mid n → AreOne limit m bytes [] ps → AreOne limit n mid [] qs →

@@ -1,9 +1,7 @@
 -- Bytes before the first ESC, found many at once.
-use Rattle.std.proofs.Common.{◌≡◌, ◌<◌, ◌≤◌, ◌+◌, ◌-◌, ◌%◌, ◌^◌, ◌∙◌, ℕ, zero, suc, Bool, true, false, not, ◌||◌, cond, eqb, Fits, w8, map, List}
+use Rattle.std.proofs.Common.{◌≡◌, ◌≢◌, ◌<◌, ◌≤◌, ◌+◌, ◌-◌, ◌%◌, ◌^◌, ◌∙◌, ℕ, zero, suc, Bool, true, false, not, ◌||◌, cond, eqb, Fits, w8, map, List}
 use Rattle.std.proofs.Common.{[], ◌∷◌, length, take, drop, get_or, replicate, inl, inr, ◌⊎◌, refl, sym, ap, subst, arith}
-use Rattle.std.specs.Prelude.{nat_lt}
 use Rattle.std.proofs.lemmas.Bool.{agree_below, agree_below_at, cases_lt}
-use Rattle.std.proofs.lemmas.Bool.Decides.{nat_tests}
 use Rattle.std.proofs.lemmas.List.{get_or-drop, get_or-map, get_or-take, length-map, length-replicate, map-id}
 use Rattle.std.proofs.lemmas.Simd.{Each1-get_or, get_or-replicate, get_or-zip2, leading_from_mask_l, length-zip2, map-map, mask_l-mod, tops_compared, trailing_mask_l}
 use Rattle.std.specs.List.{prefix_len}
@@ -11,14 +9,15 @@ use Rattle.std.specs.Simd.Lanes.{Each1, mask_l, top, zip2}
 use lib.Count.{count_trailing_zeros}
 use Rattle.csicodec_spans.specs.declared.table.Ahead.{Ahead}
 use Rattle.csicodec_spans.specs.declared.table.Ahead.TheVariants.{GoesOn, Ends, New, Esc, Csi, Unsure}
+use Rattle.csicodec_spans.specs.declared.table.Kind.{Kind}
 use Rattle.csicodec_spans.specs.declared.table.Kind.TheVariants as kind
 use Rattle.csicodec_spans.specs.declared.table.Mode.{Mode}
 use Rattle.csicodec_spans.specs.declared.table.Mode.TheVariants as mode
 use Rattle.csicodec_spans.specs.Parts.{IsPlain, IsPlainFront}
-use Rattle.csicodec_spans.specs.Private.TableBy.{kind_in, look, stays}
+use Rattle.csicodec_spans.specs.Private.TableBy.{kind_in, look, meant, stays}
 use Rattle.csicodec_spans.specs.Table.{ahead}
 use Rattle.csicodec_spans.proofs.Agrees.{Agrees, agrees, found}
-use Rattle.csicodec_spans.proofs.OneSpan.{run_cut, taken_cut, taken_within}
+use Rattle.csicodec_spans.proofs.OneSpan.{IsTaken, run_cut, taken_cut, taken_within}
 
 -- the lanes before the first that is set aren't
 unset_before : (ms : List Bool) (i : ℕ) → i < prefix_len not ms → get_or ms i true ≡ false
@@ -92,73 +91,33 @@ stays_on m bytes at n front behind k within = elim (cases_lt k at) [
       (behind i (omega (arith, within, high)))
 ]
 
--- the same of 32 behind it at most
-pub lanes_stay : (m : Mode) (bytes : List ℕ) (at near n : ℕ) → n ≤ near → n ≤ 32
+-- the same of w lanes behind it at most
+pub lanes_stay : (m : Mode) (bytes : List ℕ) (w at near n : ℕ) → n ≤ near → n ≤ w
     → ((k : ℕ) → k < at → stays m (get_or bytes k 0) ≡ true)
-    → ((k : ℕ) → k < near → k < 32 → stays m (get_or (take 32 (drop at bytes)) k 0) ≡ true)
+    → ((k : ℕ) → k < near → k < w → stays m (get_or (take w (drop at bytes)) k 0) ≡ true)
     → (k : ℕ) → k < at + n → stays m (get_or bytes k 0) ≡ true
-lanes_stay m bytes at near n few fit front lanes = stays_on m bytes at n front (λ k within.
-    let low : k < 32 = omega (arith, within, fit) in
-    subst (λ (b : ℕ). stays m b ≡ true) (get_or-take 32 (drop at bytes) k 0 low)
+lanes_stay m bytes w at near n few fit front lanes = stays_on m bytes at n front (λ k within.
+    let low : k < w = omega (arith, within, fit) in
+    subst (λ (b : ℕ). stays m b ≡ true) (get_or-take w (drop at bytes) k 0 low)
     (lanes k (omega (arith, within, few)) low))
 
--- of 48 bytes, where the first 16 stay, and so many behind them
-pub far_stays : (bytes : List ℕ) (near far : ℕ) → 16 ≤ near → ((k : ℕ) → k < near → k < 16 → stays mode.Text (get_or (take 16 bytes) k 0) ≡ true)
-    → ((k : ℕ) → k < far → k < 32 → stays mode.Text (get_or (take 32 (drop 16 bytes)) k 0) ≡ true) → (k : ℕ) → k < 16 + far → k < 48 → stays mode.Text (get_or bytes k 0) ≡ true
-far_stays bytes near far some front back k within few = by (nat_lt k 16) refl
-  where
-    by : (b : Bool) → nat_lt k 16 ≡ b → stays mode.Text (get_or bytes k 0) ≡ true
-    by true is =
-        let low : k < 16 = grind (arith, nat_tests, is) in
-        subst (λ (n : ℕ). stays mode.Text n ≡ true) (get_or-take 16 bytes k 0 low) (front k (omega (arith, low, some)) low)
-    by false is =
-        let high : 16 ≤ k = grind (arith, nat_tests, is) in
-        let i = k - 16 in
-        let at : 16 + i ≡ k = omega (arith, high) in
-        let same : get_or (take 32 (drop 16 bytes)) i 0 ≡ get_or bytes k 0 =
-        get_or-take 32 (drop 16 bytes) i 0 (omega (arith, few, high)) ∙ get_or-drop 16 bytes i 0 ∙ ap (λ (n : ℕ). get_or bytes n 0) at in
-        subst (λ (n : ℕ). stays mode.Text n ≡ true) same (back i (omega (arith, within, high)) (omega (arith, few, high)))
-
--- of more than 48, where the first 48 stay, and so many behind them
-pub all_stay : (bytes : List ℕ) (near far more : ℕ) → 16 ≤ near → 32 ≤ far → ((k : ℕ) → k < near → k < 16 → stays mode.Text (get_or (take 16 bytes) k 0) ≡ true)
-    → ((k : ℕ) → k < far → k < 32 → stays mode.Text (get_or (take 32 (drop 16 bytes)) k 0) ≡ true) → ((k : ℕ) → k < more → stays mode.Text (get_or (drop 48 bytes) k 0) ≡ true)
-    → (k : ℕ) → k < 48 + more → stays mode.Text (get_or bytes k 0) ≡ true
-all_stay bytes near far more some many front back behind k within = by (nat_lt k 48) refl
-  where
-    by : (b : Bool) → nat_lt k 48 ≡ b → stays mode.Text (get_or bytes k 0) ≡ true
-    by true is =
-        let low : k < 48 = grind (arith, nat_tests, is) in
-        far_stays bytes near far some front back k (omega (arith, low, many)) low
-    by false is =
-        let high : 48 ≤ k = grind (arith, nat_tests, is) in
-        let i = k - 48 in
-        let at : 48 + i ≡ k = omega (arith, high) in
-        subst (λ (n : ℕ). stays mode.Text n ≡ true) (get_or-drop 48 bytes i 0 ∙ ap (λ (n : ℕ). get_or bytes n 0) at) (behind i (omega (arith, within, high)))
-
-pub near_stays : (bytes : List ℕ) (near : ℕ) → near < 16 →
-    ((k : ℕ) → k < near → k < 16 → stays mode.Text (get_or (take 16 bytes) k 0) ≡ true) → (k : ℕ) →
-    k < near → stays mode.Text (get_or bytes k 0) ≡ true
-near_stays bytes near few front k within =
-    let low : k < 16 = omega (arith, few, within) in
-    subst (λ (n : ℕ). stays mode.Text n ≡ true) (get_or-take 16 bytes k 0 low) (front k within low)
+-- and in front
+pub near_stays : (bytes : List ℕ) (near n : ℕ) → n ≤ near → n ≤ 16
+    → ((k : ℕ) → k < near → k < 16 → stays mode.Text (get_or (take 16 bytes) k 0) ≡ true)
+    → (k : ℕ) → k < n → stays mode.Text (get_or bytes k 0) ≡ true
+near_stays bytes near n few fit lanes k within =
+    lanes_stay mode.Text bytes 16 0 near n few fit (λ i low. absurd (omega (arith, low))) lanes k (omega (arith, within))
 
 -- text in front
 pub text_front : (bytes : List ℕ) (n : ℕ) → ((k : ℕ) → k < n → stays mode.Text (get_or bytes k 0) ≡ true) → n ≤ length bytes → 0 < n → IsPlainFront bytes n
 text_front bytes n stay within some = (kind.Text, (λ e. absurd cc), λ limit. run_cut limit n mode.Text bytes stay within some)
 
--- a byte of text, or an escape sequence
-pub byte_front : (bytes : List ℕ) (n : ℕ) → look mode.Text bytes ≡ GoesOn n → IsPlainFront bytes n
-byte_front bytes n is = (kind.Text, (λ e. absurd cc), λ limit. taken_cut limit mode.Text bytes (GoesOn n) kind.Text n mode.Text is (inl refl))
-
-pub escape_front : (bytes : List ℕ) (n : ℕ) → look mode.Text bytes ≡ Esc n → IsPlainFront bytes n
-escape_front bytes n is = (kind.Esc, (λ e. absurd cc), λ limit. taken_cut limit mode.Text bytes (Esc n) kind.Esc n mode.Text is (inr refl))
-
--- so many bytes as were found, and at least one
-pub byte_within : (bytes : List ℕ) (n : ℕ) → look mode.Text bytes ≡ GoesOn n → (0 < n) × (n ≤ length bytes)
-byte_within bytes n is = taken_within mode.Text bytes (GoesOn n) kind.Text n mode.Text is (inl refl)
-
-pub escape_within : (bytes : List ℕ) (n : ℕ) → look mode.Text bytes ≡ Esc n → (0 < n) × (n ≤ length bytes)
-escape_within bytes n is = taken_within mode.Text bytes (Esc n) kind.Esc n mode.Text is (inr refl)
+-- what is found where nothing is open, and is no control sequence
+pub plain_found : (bytes : List ℕ) (f : Ahead) (k : Kind) (n : ℕ) → look mode.Text bytes ≡ f → k ≢ kind.Csi →
+    IsTaken (meant mode.Text f) k n mode.Text → (0 < n) × (n ≤ length bytes) × IsPlainFront bytes n
+plain_found bytes f k n is other e =
+    let (some, within) = taken_within mode.Text bytes f k n mode.Text is e in
+    (some, within, (k, other, λ limit. taken_cut limit mode.Text bytes f k n mode.Text is e))
 
 -- neither
 abbrev pub IsNeither : Ahead → Type 0

@@ -1,101 +1,24 @@
--- Single parts, and runs of bytes that stay, as spans.
-use Rattle.std.proofs.Common.{◌≡◌, ℕ, zero, suc, ◌<◌, ◌≤◌, ◌⊎◌, ◌∙◌, inl, inr, true, List, [], ◌∷◌, length, get_or, take, drop, refl, sym, ap, subst, arith}
-use Rattle.std.specs.List.{AllByRecursion, flat_map}
-use Rattle.std.proofs.lemmas.List.{append-nil, length-take-le, take-append-drop}
+-- Single parts, and runs of bytes that stay, as spans, which grow as far as what is open behind them goes on.
+use Rattle.std.proofs.Common.{◌≡◌, ℕ, zero, suc, ◌<◌, ◌≤◌, ◌⊎◌, ◌∙◌, inl, inr, true, List, [], ◌∷◌, length, ◌++◌, get_or, take, drop, refl, sym, subst, append_assoc, arith}
+use Rattle.std.proofs.lemmas.List.{length-take-le, take-append-drop}
 use Rattle.csicodec_tokens.specs.Fault.{Begins}
 use Rattle.csicodec_spans.specs.declared.table.Kind.{Kind}
-use Rattle.csicodec_spans.specs.declared.table.Kind.TheVariants as kind
 use Rattle.csicodec_spans.specs.declared.table.Mode.{Mode}
 use Rattle.csicodec_spans.specs.declared.table.Mode.TheVariants as mode
 use Rattle.csicodec_spans.specs.declared.table.Ahead.{Ahead}
-use Rattle.csicodec_spans.specs.declared.table.Ahead.TheVariants.{GoesOn, Csi, Unsure}
+use Rattle.csicodec_spans.specs.declared.table.Ahead.TheVariants.{GoesOn, Ends, New, Esc, Csi, Unsure}
 use Rattle.csicodec_spans.specs.Table.{Answer, More, Anew, ahead}
 use Rattle.csicodec_spans.specs.Private.TableBy.{kind_in, stays, look, meant}
-use Rattle.csicodec_spans.specs.Parts.{Part, part, Allows, AllowsCsi, IsFirstPart, AreFirstParts, IsUnsure, IsUnsureBy, IsMore, bytes_of, AreAll, AreOne, IsSpan, Cuts}
+use Rattle.csicodec_spans.specs.Parts.{Part, part, Allows, AllowsCsi, IsUnsure, IsUnsureBy, IsMore, IsMaximal, Cuts}
 use Rattle.csicodec_spans.proofs.Fronts.{Sound}
 use Rattle.csicodec_spans.proofs.Agrees.{found, sound}
-use Rattle.csicodec_spans.proofs.AsOne.{one_alone, one_none, one_on}
-
-one : (k : Kind) (text : List ℕ) → AreAll k text (part k text ∷ [])
-one k text = record { some = omega arith; all = (refl, tt); joined = append-nil text }
-
--- one part is a span
-pub one_span : (k : Kind) (text : List ℕ) → IsSpan k text (part k text ∷ [])
-one_span kind.Text text = one kind.Text text
-one_span kind.Str text = one kind.Str text
-one_span kind.Other text = one kind.Other text
-one_span _ text = refl
+use Rattle.csicodec_spans.proofs.AsOne.{one_alone}
+use Rattle.csicodec_spans.proofs.Spanned.{join_cuts, one_span}
 
 -- each byte by itself
 abbrev pub singles : Kind → List ℕ → List Part
 singles k [] = []
 singles k (b ∷ bs) = part k (b ∷ []) ∷ singles k bs
-
-all_singles : (k : Kind) (bs : List ℕ) → AllByRecursion (λ (p : Part). p.kind ≡ k) (singles k bs)
-all_singles k [] = tt
-all_singles k (b ∷ bs) = (refl, all_singles k bs)
-
-joined_singles : (k : Kind) (bs : List ℕ) → flat_map bytes_of (singles k bs) ≡ bs
-joined_singles k [] = refl
-joined_singles k (b ∷ bs) = ap (λ (t : List ℕ). b ∷ t) (joined_singles k bs)
-
-length_singles : (k : Kind) (bs : List ℕ) → length (singles k bs) ≡ length bs
-length_singles k [] = refl
-length_singles k (b ∷ bs) = ap suc (length_singles k bs)
-
-are_singles : (k : Kind) (bs : List ℕ) → 0 < length bs → AreAll k bs (singles k bs)
-are_singles k bs some = record { some = rw length_singles some; all = all_singles k bs; joined = joined_singles k bs }
-
-span_of_singles : (m : Mode) (bs : List ℕ) → 0 < length bs → IsSpan (kind_in m) bs (singles (kind_in m) bs)
-span_of_singles mode.Text bs some = are_singles kind.Text bs some
-span_of_singles mode.BadCsi bs some = are_singles kind.Other bs some
-span_of_singles mode.BadEsc bs some = are_singles kind.Other bs some
-span_of_singles _ bs some = are_singles kind.Str bs some
-
--- a byte that stays goes on with what is open
-pub more_stays : (m : Mode) (bytes : List ℕ) → 0 < length bytes → stays m (get_or bytes 0 0) ≡ true → IsMore (ahead m bytes)
-more_stays m [] some e = absurd (omega arith)
-more_stays m (b ∷ bs) some e = subst IsMore (sym (found m (b ∷ bs) (GoesOn 1) is)) tt
-  where
-    is : look m (b ∷ bs) ≡ GoesOn 1
-    is = rw e refl
-
-stays_part : (limit : ℕ) (m : Mode) (b : ℕ) (bs : List ℕ) → stays m b ≡ true → IsFirstPart limit m (b ∷ bs) (part (kind_in m) (b ∷ [])) bs m
-stays_part limit m b bs e = (refl, subst (λ (f : Answer). Allows f limit (b ∷ bs) (kind_in m) (b ∷ []) m) (sym (found m (b ∷ bs) (GoesOn 1) is)) (refl, refl, refl))
-  where
-    is : look m (b ∷ bs) ≡ GoesOn 1
-    is = rw e refl
-
-run_parts : (limit n : ℕ) (m : Mode) (bytes : List ℕ) → ((k : ℕ) → k < n → stays m (get_or bytes k 0) ≡ true) → n ≤ length bytes
-    → AreFirstParts limit m bytes (singles (kind_in m) (take n bytes)) (drop n bytes) m
-run_parts limit zero m bytes h le = (refl, refl)
-run_parts limit (suc n) m [] h le = absurd (omega arith)
-run_parts limit (suc n) m (b ∷ bs) h le =
-    (bs, m, stays_part limit m b bs (h 0 (omega arith)), run_parts limit n m bs (λ k lt. h (suc k) (omega arith)) (omega arith))
-
-run_one : (limit n : ℕ) (m : Mode) (bytes : List ℕ) → ((k : ℕ) → k < n → stays m (get_or bytes k 0) ≡ true) → n ≤ length bytes → AreOne limit m bytes [] (singles (kind_in m) (take n bytes))
-run_one limit zero m bytes h le = one_none limit m bytes []
-run_one limit (suc n) m [] h le = absurd (omega arith)
-run_one limit (suc n) m (b ∷ bs) h le =
-    let p = part (kind_in m) (b ∷ []) in
-    let others = run_one limit n m bs (λ k lt. h (suc k) (omega arith)) (omega arith) in
-    one_on limit (p ∷ []) (singles (kind_in m) (take n bs)) m m (b ∷ bs) bs
-    (bs, m, stays_part limit m b bs (h 0 (omega arith)), (refl, refl))
-    (one_alone limit m (b ∷ bs) [] p) others (λ some. next n some h le)
-  where
-    next : (n : ℕ) → 0 < length (singles (kind_in m) (take n bs)) → ((k : ℕ) → k < suc n → stays m (get_or (b ∷ bs) k 0) ≡ true) → suc n ≤ length (b ∷ bs) → IsMore (ahead m bs)
-    next zero some h le = absurd (omega arith)
-    next (suc n) some h le = more_stays m bs (omega arith) (h 1 (omega arith))
-
--- bytes that stay are a span
-pub run_cut : (limit n : ℕ) (m : Mode) (bytes : List ℕ) → ((k : ℕ) → k < n → stays m (get_or bytes k 0) ≡ true) → n ≤ length bytes → 0 < n
-    → Cuts limit m bytes (kind_in m) (take n bytes) (drop n bytes) m
-run_cut limit n m bytes h le some = record {
-  parts = singles (kind_in m) (take n bytes);
-  span = span_of_singles m (take n bytes) (rw (length-take-le n bytes le) some);
-  one = run_one limit n m bytes h le;
-  first = run_parts limit n m bytes h le;
-}
 
 -- ---- what is found is a span
 
@@ -134,3 +57,72 @@ csi_unsure limit m bytes e h = subst (λ (f : Answer). IsUnsureBy f limit bytes)
 -- nothing is sure of no bytes
 pub none_unsure : (limit : ℕ) (m : Mode) → IsUnsure limit m []
 none_unsure limit m = is_unsure limit m [] refl
+
+-- ---- more of what is open
+
+stays_look : (m : Mode) (b : ℕ) (bs : List ℕ) → stays m b ≡ true → look m (b ∷ bs) ≡ GoesOn 1
+stays_look m b bs e = rw e refl
+
+-- a byte that stays goes on with what is open
+more_stays : (m : Mode) (bytes : List ℕ) → 0 < length bytes → stays m (get_or bytes 0 0) ≡ true → IsMore (ahead m bytes)
+more_stays m [] some e = absurd (omega arith)
+more_stays m (b ∷ bs) some e = subst IsMore (sym (found m (b ∷ bs) (GoesOn 1) (stays_look m b bs e))) tt
+
+stays_cut : (limit : ℕ) (m : Mode) (b : ℕ) (bs : List ℕ) → stays m b ≡ true → Cuts limit m (b ∷ bs) (kind_in m) (b ∷ []) bs m
+stays_cut limit m b bs e = taken_cut limit m (b ∷ bs) (GoesOn 1) (kind_in m) 1 m (stays_look m b bs e) (inl refl)
+
+-- bytes that stay are a span
+pub run_cut : (limit n : ℕ) (m : Mode) (bytes : List ℕ) → ((k : ℕ) → k < n → stays m (get_or bytes k 0) ≡ true) → n ≤ length bytes → 0 < n
+    → Cuts limit m bytes (kind_in m) (take n bytes) (drop n bytes) m
+run_cut limit zero m bytes stay le some = absurd (omega arith)
+run_cut limit (suc n) m [] stay le some = absurd (omega arith)
+run_cut limit (suc zero) m (b ∷ bs) stay le some = stays_cut limit m b bs (stay 0 (omega arith))
+run_cut limit (suc (suc n)) m (b ∷ bs) stay le some =
+    join_cuts limit m m m (b ∷ bs) (b ∷ []) bs (take (suc n) bs) (drop (suc n) bs)
+    (more_stays m bs (omega arith) (stay 1 (omega arith))) (stays_cut limit m b bs (stay 0 (omega arith)))
+    (run_cut limit (suc n) m bs (λ k lt. stay (suc k) (omega arith)) (omega arith) (omega arith))
+
+-- the rest is behind some bytes, and where the first rest was behind a span of what is open, this one is behind a longer one
+pub record IsLonger (bytes first rest : List ℕ) (m a : Mode) : Type 0 where
+  pub split : (text : List ℕ) × (bytes ≡ text ++ rest)
+  pub cut : (limit : ℕ) (start : Mode) (text : List ℕ) → Cuts limit start bytes (kind_in m) text first m →
+      (longer : List ℕ) × Cuts limit start bytes (kind_in m) longer rest a
+
+-- more of what is open makes it longer
+more_longer : (bytes first rest : List ℕ) (m a : Mode) (n : ℕ) → IsMore (ahead m rest) → IsLonger bytes first rest m m →
+    ((limit : ℕ) → Cuts limit m rest (kind_in m) (take n rest) (drop n rest) a) → IsLonger bytes first (drop n rest) m a
+more_longer bytes first rest m a n goes h more = record {
+  split = (h.split.0 ++ take n rest, rw (append_assoc h.split.0 (take n rest) (drop n rest), take-append-drop n rest) h.split.1);
+  cut = λ limit start text c. let (longer, d) = h.cut limit start text c in
+      (longer ++ take n rest, join_cuts limit start m a bytes longer rest (take n rest) (drop n rest) goes d (more limit));
+}
+
+pub stays_longer : (bytes first rest : List ℕ) (m : Mode) (n : ℕ) → ((i : ℕ) → i < n → stays m (get_or rest i 0) ≡ true) → n ≤ length rest →
+    IsLonger bytes first rest m m → IsLonger bytes first (drop n rest) m m
+stays_longer bytes first rest m zero stay le h = h
+stays_longer bytes first rest m (suc n) stay le h =
+    more_longer bytes first rest m m (suc n) (more_stays m rest (omega arith) (stay 0 (omega arith))) h
+    (λ limit. run_cut limit (suc n) m rest stay le (omega arith))
+
+pub taken_longer : (bytes first rest : List ℕ) (m a : Mode) (f : Ahead) (n : ℕ) → look m rest ≡ f → meant m f ≡ More (kind_in m) n a →
+    IsLonger bytes first rest m m → IsLonger bytes first (drop n rest) m a
+taken_longer bytes first rest m a f n is e h =
+    more_longer bytes first rest m a n (subst IsMore (sym (found m rest f is ∙ e)) tt) h (λ limit. taken_cut limit m rest f (kind_in m) n a is (inl e))
+
+abbrev pub IsOther : Ahead → Type 0
+IsOther f = ((n : ℕ) × (a : Mode) × (f ≡ New n a)) ⊎ (((n : ℕ) × (f ≡ Esc n)) ⊎ ((f ≡ Csi) ⊎ (f ≡ Unsure)))
+
+-- other fronts begin anew, or aren't sure
+pub none_more : (m : Mode) (f : Ahead) → IsOther f → ¬ IsMore (meant m f)
+none_more m f (inl h) more = subst (λ (x : Ahead). IsMore (meant m x)) h.2 more
+none_more m f (inr (inl h)) more = subst (λ (x : Ahead). IsMore (meant m x)) h.1 more
+none_more m f (inr (inr (inl h))) more = subst (λ (x : Ahead). IsMore (meant m x)) h more
+none_more m f (inr (inr (inr h))) more = subst (λ (x : Ahead). IsMore (meant m x)) h more
+
+pub stops_maximal : (k : Kind) (a : Mode) (rest : List ℕ) (f : Ahead) → look a rest ≡ f → IsOther f → IsMaximal k a rest
+stops_maximal k a rest f is none which more = none_more a f none (subst IsMore (found a rest f is) more)
+
+-- and these go on
+pub some_more : (m : Mode) (bytes : List ℕ) (f : Ahead) → look m bytes ≡ f → ((n : ℕ) × (f ≡ GoesOn n)) ⊎ ((n : ℕ) × (f ≡ Ends n)) → IsMore (ahead m bytes)
+some_more m bytes f is (inl h) = subst IsMore (sym (found m bytes (GoesOn h.0) (is ∙ h.1))) tt
+some_more m bytes f is (inr h) = subst IsMore (sym (found m bytes (Ends h.0) (is ∙ h.1))) tt

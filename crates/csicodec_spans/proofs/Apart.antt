@@ -99,17 +99,6 @@ none_beside r (s ∷ rows) m bytes d e =
     let p = and_parts (row_off m r s) (apart_from m r rows) d in
     elim (cases_Bool (fits_front m bytes s)) [ inl both ↦ absurd (apart_rows r s m bytes p.0 e both) | inr other ↦ rw other (none_beside r rows m bytes p.1 e) ]
 
-none_before : (r s : ModeRow) (rows : List ModeRow) (i : ℕ) (m : Mode) (bytes : List ℕ) →
-    apart_from m r rows ≡ true → slice_get rows i ≡ Some s → fits_front m bytes s ≡ true →
-    fits_front m bytes r ≡ false
-none_before r s [] i m bytes d at e = cc
-none_before r s (q ∷ rows) zero m bytes d at e =
-    let p = and_parts (row_off m r q) (apart_from m r rows) d in
-    let same : q ≡ s = same_Some q s at in
-    false_from_ne_true (fits_front m bytes r) (λ f. apart_rows r q m bytes p.0 f (rw same e))
-none_before r s (q ∷ rows) (suc i) m bytes d at e =
-    let p = and_parts (row_off m r q) (apart_from m r rows) d in none_before r s rows i m bytes p.1 at e
-
 alone : (rows : List ModeRow) (i : ℕ) (r : ModeRow) (m : Mode) (bytes : List ℕ) → all_apart m rows ≡ true → slice_get rows i ≡ Some r → fits_front m bytes r ≡ true → fitting rows m bytes ≡ r ∷ []
 alone [] i r m bytes d at e = cc
 alone (q ∷ rows) zero r m bytes d at e =
@@ -119,16 +108,14 @@ alone (q ∷ rows) zero r m bytes d at e =
     rw (here, none_beside q rows m bytes p.0 here) (ap (λ (x : ModeRow). x ∷ []) same)
 alone (q ∷ rows) (suc i) r m bytes d at e =
     let p = and_parts (apart_from m q rows) (all_apart m rows) d in
-    rw (none_before q r rows i m bytes p.0 at e) (alone rows i r m bytes p.1 at e)
+    let others = alone rows i r m bytes p.1 at e in
+    rw (false_from_ne_true (fits_front m bytes q) (λ f. let none = none_beside q rows m bytes p.0 f in cc)) others
 
--- a row that fits is the one that fits
-pub one_row : (i : ℕ) (r : ModeRow) (m : Mode) (bytes : List ℕ) → slice_get mode_table i ≡ Some r → fits_front m bytes r ≡ true → HasOneRow m bytes
-unfolding ahead
-one_row i r m bytes at e =
-    let one = alone mode_table i r m bytes (is_apart m) at e in
-    record { row = r; fits = one; answer = ap answer_of one }
-
--- and says what stands in front
+-- a row that fits says what stands in front
 pub said : (i : ℕ) (r : ModeRow) (m : Mode) (bytes : List ℕ) → slice_get mode_table i ≡ Some r → fits_front m bytes r ≡ true → ahead m bytes ≡ r.answer
 unfolding ahead
 said i r m bytes at e = ap answer_of (alone mode_table i r m bytes (is_apart m) at e)
+
+-- and is the one that fits
+pub one_row : (i : ℕ) (r : ModeRow) (m : Mode) (bytes : List ℕ) → slice_get mode_table i ≡ Some r → fits_front m bytes r ≡ true → HasOneRow m bytes
+one_row i r m bytes at e = record { row = r; fits = alone mode_table i r m bytes (is_apart m) at e; answer = said i r m bytes at e }

@@ -33,10 +33,5 @@ one_on limit ps qs m n bytes mid s g h seam some more rest a e first second t =
     behind (c ∷ k) split = h (c ∷ k) more rest a (there (c ∷ k) split) (omega arith) second (off (c ∷ k) split)
 
 -- counted from farther in front
-pub one_farther : (limit : ℕ) (m n : Mode) (bytes mid : List ℕ) (front before parts : List Part) →
-    AreFirstParts limit m bytes front mid n → AreOne limit n mid before parts →
-    AreOne limit m bytes (front ++ before) parts
-one_farther limit m n bytes mid front before parts s h some more rest a e first second t =
-    h some more rest a e first second
-    (parts_off limit front (before ++ some) m bytes mid rest n a s
-    (subst (λ (x : List Part). AreFirstParts limit m bytes x rest a) (append_assoc front before some) t))
+pub one_farther : (limit : ℕ) (m n : Mode) (bytes mid : List ℕ) (front parts : List Part) → AreFirstParts limit m bytes front mid n → AreOne limit n mid [] parts → AreOne limit m bytes front parts
+one_farther limit m n bytes mid front parts s h some more rest a e first second t = h some more rest a e first second (parts_off limit front some m bytes mid rest n a s t)

@@ -1,6 +1,7 @@
 -- Single parts, and runs of bytes that stay, as spans, which grow as far as what is open behind them goes on.
-use Rattle.std.proofs.Common.{◌≡◌, ℕ, zero, suc, ◌<◌, ◌≤◌, ◌⊎◌, ◌∙◌, inl, inr, true, List, [], ◌∷◌, length, ◌++◌, get_or, take, drop, refl, sym, subst, append_assoc, arith}
-use Rattle.std.proofs.lemmas.List.{length-take-le, take-append-drop}
+use Rattle.std.proofs.Common.{◌≡◌, ◌≢◌, ◌⊎◌, ◌<◌, ◌≤◌, ◌+◌, ◌-◌, ◌%◌, ◌^◌, ◌∙◌, ℕ, zero, suc, Bool, true, false, not, ◌||◌, cond, eqb, Fits, w8, map}
+use Rattle.std.proofs.Common.{List, [], ◌∷◌, ◌++◌, length, take, drop, get_or, replicate, inl, inr, refl, sym, ap, subst, append_assoc, arith}
+use Rattle.std.proofs.lemmas.List.{length-take-le, take-append-drop, get_or-drop, get_or-map, get_or-take, length-map, length-replicate, map-id}
 use Rattle.csicodec_tokens.specs.Fault.{Begins}
 use Rattle.csicodec_spans.specs.declared.table.Kind.{Kind}
 use Rattle.csicodec_spans.specs.declared.table.Mode.{Mode}
@@ -9,11 +10,17 @@ use Rattle.csicodec_spans.specs.declared.table.Ahead.{Ahead}
 use Rattle.csicodec_spans.specs.declared.table.Ahead.TheVariants.{GoesOn, Ends, New, Esc, Csi, Unsure}
 use Rattle.csicodec_spans.specs.Table.{Answer, More, Anew, ahead}
 use Rattle.csicodec_spans.specs.Private.TableBy.{kind_in, stays, look, meant}
-use Rattle.csicodec_spans.specs.Parts.{Part, part, Allows, AllowsCsi, IsUnsure, IsUnsureBy, IsMore, IsMaximal, Cuts}
+use Rattle.csicodec_spans.specs.Parts.{Part, part, Allows, AllowsCsi, IsUnsure, IsUnsureBy, IsMore, IsMaximal, Cuts, IsPlain, IsPlainFront}
 use Rattle.csicodec_spans.proofs.Fronts.{Sound}
-use Rattle.csicodec_spans.proofs.Agrees.{found, sound}
+use Rattle.csicodec_spans.proofs.Agrees.{found, sound, Agrees, agrees}
 use Rattle.csicodec_spans.proofs.AsOne.{one_alone}
 use Rattle.csicodec_spans.proofs.Spanned.{join_cuts, one_span}
+use Rattle.std.proofs.lemmas.Bool.{agree_below, agree_below_at, cases_lt}
+use Rattle.std.proofs.lemmas.Simd.{Each1-get_or, get_or-replicate, get_or-zip2, leading_from_mask_l, length-zip2, map-map, mask_l-mod, tops_compared, trailing_mask_l}
+use Rattle.std.specs.List.{prefix_len}
+use Rattle.std.specs.Simd.Lanes.{Each1, mask_l, top, zip2}
+use lib.Count.{count_trailing_zeros}
+use Rattle.csicodec_spans.specs.declared.table.Kind.TheVariants as kind
 
 -- each byte by itself
 abbrev pub singles : Kind → List ℕ → List Part
@@ -126,3 +133,119 @@ stops_maximal k a rest f is none which more = none_more a f none (subst IsMore (
 pub some_more : (m : Mode) (bytes : List ℕ) (f : Ahead) → look m bytes ≡ f → ((n : ℕ) × (f ≡ GoesOn n)) ⊎ ((n : ℕ) × (f ≡ Ends n)) → IsMore (ahead m bytes)
 some_more m bytes f is (inl h) = subst IsMore (sym (found m bytes (GoesOn h.0) (is ∙ h.1))) tt
 some_more m bytes f is (inr h) = subst IsMore (sym (found m bytes (Ends h.0) (is ∙ h.1))) tt
+
+-- ---- bytes before the first ESC, found many at once
+
+-- the lanes before the first that is set aren't
+unset_before : (ms : List Bool) (i : ℕ) → i < prefix_len not ms → get_or ms i true ≡ false
+unset_before [] i lt = absurd (omega (arith, lt))
+unset_before (true ∷ ms) i lt = absurd (omega (arith, lt))
+unset_before (false ∷ ms) zero lt = refl
+unset_before (false ∷ ms) (suc i) lt = unset_before ms i (omega (arith, lt))
+
+unset_lanes : (ms : List Bool) (w : ℕ) → w < 64 → length ms ≡ w → (k : ℕ) → k ≡ count_trailing_zeros 64 (mask_l ms) → (i : ℕ) → i < k → i < w → get_or ms i true ≡ false
+unset_lanes ms w few long k is i before within = go (mask_l ms) refl
+  where
+    go : (m : ℕ) → mask_l ms ≡ m → get_or ms i true ≡ false
+    go zero none =
+        let all : prefix_len not ms ≡ length ms = leading_from_mask_l (λ (b : Bool). b) ms (ap mask_l (map-id ms) ∙ none) in
+        unset_before ms i (omega (arith, all, long, within))
+    go (suc m) some =
+        let first : count_trailing_zeros 64 (mask_l ms) ≡ prefix_len not ms =
+        ap (λ (l : List Bool). count_trailing_zeros 64 (mask_l l)) (sym (map-id ms))
+        ∙ trailing_mask_l (λ (b : Bool). b) 64 ms (omega (arith, long, few)) (rw (map-id ms) (omega (arith, some))) in
+        unset_before ms i (omega (arith, before, is, first))
+
+-- those that are ESC
+abbrev pub are_esc : List ℕ → ℕ → List Bool
+are_esc xs w = zip2 eqb xs (replicate w 27)
+
+esc_at : (xs : List ℕ) (w i : ℕ) → length xs ≡ w → i < w → get_or (are_esc xs w) i true ≡ eqb (get_or xs i 0) 27
+esc_at xs w i long within =
+    get_or-zip2 eqb xs (replicate w 27) i 0 0 true (omega (arith, long, within)) (omega (arith, length-replicate {A = ℕ} w 27, within))
+    ∙ ap (λ (n : ℕ). eqb (get_or xs i 0) n) (get_or-replicate w i 27 0 within)
+
+pub text_lanes : (xs : List ℕ) (w : ℕ) → w < 64 → length xs ≡ w → (k : ℕ) → k ≡ count_trailing_zeros 64 (mask_l (are_esc xs w)) → (i : ℕ) → i < k → i < w → stays mode.Text (get_or xs i 0) ≡ true
+text_lanes xs w few long k is i before within =
+    let many : length (are_esc xs w) ≡ w = length-zip2 eqb xs (replicate w 27) (long ∙ sym (length-replicate {A = ℕ} w 27)) ∙ long in
+    ap not (sym (esc_at xs w i long within) ∙ unset_lanes (are_esc xs w) w few many k is i before within)
+
+-- a comparison's mask, of lanes of bytes
+pub esc_mask : (xs : List ℕ) (w : ℕ) → w < 64 → length xs ≡ w
+    → count_trailing_zeros 64 (mask_l (map (top 7) (zip2 (λ a b. cond (eqb a b) 255 0) xs (replicate w 27))) % 2 ^ 64) ≡ count_trailing_zeros 64 (mask_l (are_esc xs w))
+esc_mask xs w few long =
+    ap (λ (ms : List Bool). count_trailing_zeros 64 (mask_l ms % 2 ^ 64)) (tops_compared w8 eqb xs (replicate w 27))
+    ∙ ap (count_trailing_zeros 64) (mask_l-mod (are_esc xs w) 64 (omega (arith, length-zip2 eqb xs (replicate w 27) (long ∙ sym (length-replicate {A = ℕ} w 27)), long, few)))
+
+-- lanes at none of which a test is met, where that is met at each byte that ends an OSC
+pub osc_lanes : (xs z : List ℕ) (f : ℕ → ℕ) → length xs ≡ 32 → Each1 (Fits w8) xs → z ≡ map f xs
+    → agree_below (λ x. top 7 (f x) || stays mode.Osc x) (λ _. true) 256 ≡ true
+    → (k : ℕ) → k < count_trailing_zeros 64 (mask_l (map (top 7) z) % 2 ^ 64) → k < 32
+    → stays mode.Osc (get_or xs k 0) ≡ true
+osc_lanes xs z f long fits lanes all k before within =
+    let ends : List Bool = map (λ x. top 7 (f x)) xs in
+    let many : length ends ≡ 32 = length-map xs (λ x. top 7 (f x)) ∙ long in
+    let mask : mask_l (map (top 7) z) % 2 ^ 64 ≡ mask_l ends =
+    ap (λ l. mask_l l % 2 ^ 64) (ap (map (top 7)) lanes ∙ map-map (top 7) f xs)
+    ∙ mask_l-mod ends 64 (omega (arith, many)) in
+    let unset = unset_lanes ends 32 (omega arith) many _ (ap (count_trailing_zeros 64) mask) k before within in
+    let at = get_or-map (λ x. top 7 (f x)) xs k 0 true (omega (arith, long, within)) in
+    let byte = (Each1-get_or (Fits w8) xs k 0 (omega (arith, long, within)) fits).fits in
+    sym (ap (λ b. b || stays mode.Osc (get_or xs k 0)) (sym at ∙ unset))
+    ∙ agree_below_at (λ x. top 7 (f x) || stays mode.Osc x) (λ _. true) 256 (get_or xs k 0) all byte
+
+-- the bytes before a place stay, and so many behind it
+pub stays_on : (m : Mode) (bytes : List ℕ) (at n : ℕ)
+    → ((k : ℕ) → k < at → stays m (get_or bytes k 0) ≡ true)
+    → ((k : ℕ) → k < n → stays m (get_or (drop at bytes) k 0) ≡ true)
+    → (k : ℕ) → k < at + n → stays m (get_or bytes k 0) ≡ true
+stays_on m bytes at n front behind k within = elim (cases_lt k at) [
+  | inl low ↦ front k low
+  | inr high ↦
+      let i = k - at in
+      let same : at + i ≡ k = omega (arith, high) in
+      subst (λ (b : ℕ). stays m b ≡ true) (get_or-drop at bytes i 0 ∙ ap (λ (j : ℕ). get_or bytes j 0) same)
+      (behind i (omega (arith, within, high)))
+]
+
+-- the same of w lanes behind it at most
+pub lanes_stay : (m : Mode) (bytes : List ℕ) (w at near n : ℕ) → n ≤ near → n ≤ w
+    → ((k : ℕ) → k < at → stays m (get_or bytes k 0) ≡ true)
+    → ((k : ℕ) → k < near → k < w → stays m (get_or (take w (drop at bytes)) k 0) ≡ true)
+    → (k : ℕ) → k < at + n → stays m (get_or bytes k 0) ≡ true
+lanes_stay m bytes w at near n few fit front lanes = stays_on m bytes at n front (λ k within.
+    let low : k < w = omega (arith, within, fit) in
+    subst (λ (b : ℕ). stays m b ≡ true) (get_or-take w (drop at bytes) k 0 low)
+    (lanes k (omega (arith, within, few)) low))
+
+-- and in front
+pub near_stays : (bytes : List ℕ) (near n : ℕ) → n ≤ near → n ≤ 16
+    → ((k : ℕ) → k < near → k < 16 → stays mode.Text (get_or (take 16 bytes) k 0) ≡ true)
+    → (k : ℕ) → k < n → stays mode.Text (get_or bytes k 0) ≡ true
+near_stays bytes near n few fit lanes k within =
+    lanes_stay mode.Text bytes 16 0 near n few fit (λ i low. absurd (omega (arith, low))) lanes k (omega (arith, within))
+
+-- text in front
+pub text_front : (bytes : List ℕ) (n : ℕ) → ((k : ℕ) → k < n → stays mode.Text (get_or bytes k 0) ≡ true) → n ≤ length bytes → 0 < n → IsPlainFront bytes n
+text_front bytes n stay within some = (kind.Text, (λ e. absurd cc), λ limit. run_cut limit n mode.Text bytes stay within some)
+
+-- what is found where nothing is open, and is no control sequence
+pub plain_found : (bytes : List ℕ) (f : Ahead) (k : Kind) (n : ℕ) → look mode.Text bytes ≡ f → k ≢ kind.Csi →
+    IsTaken (meant mode.Text f) k n mode.Text → (0 < n) × (n ≤ length bytes) × IsPlainFront bytes n
+plain_found bytes f k n is other e =
+    let (some, within) = taken_within mode.Text bytes f k n mode.Text is e in
+    (some, within, (k, other, λ limit. taken_cut limit mode.Text bytes f k n mode.Text is e))
+
+-- neither
+abbrev pub IsNeither : Ahead → Type 0
+IsNeither f = ((n : ℕ) × (f ≡ Ends n)) ⊎ (((n : ℕ) × (a : Mode) × (f ≡ New n a)) ⊎ ((f ≡ Csi) ⊎ (f ≡ Unsure)))
+
+no_escape : (a : Mode) → kind_in a ≡ kind.Esc → ⊥
+no_escape mode.Text e = absurd cc
+no_escape _ e = absurd cc
+
+pub none_plain : (bytes : List ℕ) (f : Ahead) → look mode.Text bytes ≡ f → IsNeither f → IsPlain (ahead mode.Text bytes) → ⊥
+none_plain bytes f is (inl (n, e)) plain = (subst (Agrees mode.Text bytes) (is ∙ e) (agrees mode.Text bytes)).ends refl
+none_plain bytes f is (inr (inl (n, a, e))) plain = no_escape a (subst IsPlain (found mode.Text bytes (New n a) (is ∙ e)) plain)
+none_plain bytes f is (inr (inr (inl e))) plain = subst IsPlain (found mode.Text bytes Csi (is ∙ e)) plain
+none_plain bytes f is (inr (inr (inr e))) plain = subst IsPlain (found mode.Text bytes Unsure (is ∙ e)) plain

@@ -1,34 +1,103 @@
--- What waited is cut as one part, once anything can be cut of it.
-use Rattle.std.proofs.Common.{◌≡◌, ℕ, ◌+◌, ◌*◌, ◌<◌, ◌≤◌, ◌⊎◌, List, [], ◌∷◌, ◌++◌, length, take, sym, ap, subst, inl, inr, arith}
+-- The beginning of a control sequence and the bytes that come behind it; and what waited is cut as one part, once anything can be cut of it.
+use Rattle.std.proofs.Common.{Option, Some, None, MatchOption, ◌≡◌, ℕ, ◌+◌, ◌-◌, ◌*◌, ◌<◌, ◌≤◌, ◌⊎◌, List, [], ◌∷◌, ◌++◌, length, take, drop, refl, sym, ap, subst, ◌∙◌, inl, inr, append_assoc, arith}
 use Rattle.std.specs.List.{concat}
 use Rattle.std.proofs.Math.Seq.{take-append_seam}
 use Rattle.std.proofs.lemmas.List.{length-append}
 use Rattle.std.proofs.lemmas.Bool.{cases_lt}
-use Rattle.csicodec_tokens.specs.Fault.{Begins}
+use Rattle.csicodec_tokens.specs.Body.{Adds, IsStopped, Stops}
+use Rattle.csicodec_tokens.specs.Fault.{IsBody, Begins}
 use Rattle.csicodec_tokens.proofs.Longer.{cuts}
+use Rattle.csicodec_tokens.proofs.Runs.{IsBody-front}
+use Rattle.csicodec_tokens.proofs.Walks.{none_begun}
 use Rattle.csicodec_spans.specs.declared.cut.Span.{Span}
 use Rattle.csicodec_spans.specs.declared.table.Kind.{Kind}
 use Rattle.csicodec_spans.specs.declared.table.Kind.TheVariants as kind
 use Rattle.csicodec_spans.specs.declared.table.Mode.{Mode}
 use Rattle.csicodec_spans.specs.Table.{Answer, Sequence, Undecided, ahead}
-use Rattle.csicodec_spans.specs.Parts.{Part, IsMalformed, AllowsCsi, Allows, IsFirstPart, AreFirstParts, IsUnsureBy, IsUnsure}
+use Rattle.csicodec_spans.specs.Parts.{Part, AllowsCsi, Allows, IsFirstPart, AreFirstParts, IsUnsureBy, IsUnsure}
 use Rattle.csicodec_spans.specs.Waits.{AreCut, IsCut, HandsOut, cut_looks, looks_in}
+use Rattle.csicodec_spans.specs.Private.Begun.{Tells, IsBegun}
 use Rattle.csicodec_spans.proofs.Fronts.{Sound}
-use Rattle.csicodec_spans.proofs.Agrees.{kept, sound}
+use Rattle.csicodec_spans.proofs.Agrees.{opens, sound}
 use Rattle.csicodec_spans.proofs.OneSpan.{none_unsure}
 use Rattle.csicodec_spans.proofs.Spanned.{cut_parts, cut_some}
-use Rattle.csicodec_spans.proofs.Once.{not_begun, least_of, begins_less}
+use Rattle.csicodec_spans.proofs.Once.{no_later, not_begun, wrong_at}
 
--- a place where the beginning of a sequence goes wrong is behind it
-malformed_long : (limit : ℕ) (waiting more : List ℕ) (n : ℕ) → Begins waiting → length waiting < limit → IsMalformed limit (waiting ++ more) n → length waiting ≤ n
-malformed_long limit waiting more n b lt (inl (e, fault, at, low)) =
-    let least = least_of (waiting ++ more) e n fault at in
-    let whole : Begins (take (length waiting) (waiting ++ more)) = subst Begins (sym (take-append_seam waiting more)) b in
-    elim (cases_lt n (length waiting)) [
-      | inl before ↦ absurd (least.there (begins_less (waiting ++ more) (n + 1) (length waiting) (omega arith) whole))
-      | inr behind ↦ behind
-    ]
-malformed_long limit waiting more n b lt (inr (begins, long, is)) = omega (arith, is)
+-- ---- bytes of which nothing is sure
+
+is_body : (body : List ℕ) → Begins (27 ∷ 91 ∷ body) → IsBody body
+is_body body (inl e) = absurd cc
+is_body body (inr (inl e)) = absurd cc
+is_body body (inr (inr (x, e, b))) = let same : x ≡ body = cc in subst IsBody same b
+
+-- behind ESC and `[` stands a body, and there are fewer bytes than `limit`
+pub unsure_body : (limit : ℕ) (m : Mode) (body : List ℕ) → IsUnsure limit m (27 ∷ 91 ∷ body) → IsBody body × (length body + 2 < limit)
+unsure_body limit m body o =
+    let b = subst (λ (f : Answer). IsUnsureBy f limit (27 ∷ 91 ∷ body)) (opens m body) o in
+    (is_body body b.0, omega (arith, b.1))
+
+pub body_unsure : (limit : ℕ) (m : Mode) (body : List ℕ) → IsBody body → length body + 2 < limit → IsUnsure limit m (27 ∷ 91 ∷ body)
+body_unsure limit m body b lt = subst (λ (f : Answer). IsUnsureBy f limit (27 ∷ 91 ∷ body)) (sym (opens m body)) (inr (inr (body, refl, b)), omega arith)
+
+-- ---- some bytes more
+
+pub stops : (first : ℕ) (bytes rest : List ℕ) → IsStopped first bytes rest → Stops first bytes
+stops first bytes rest s = record {
+  none = λ body at is.
+      let front = s.done ++ s.byte ∷ [] in
+      let whole : body ++ bytes ≡ (body ++ front) ++ s.others =
+      ap (λ (t : List ℕ). body ++ t) (s.parts ∙ ap (λ (t : List ℕ). s.done ++ t) s.front ∙ sym (append_assoc s.done (s.byte ∷ []) s.others)) ∙ sym (append_assoc body front s.others) in
+      s.stops.none body at (IsBody-front (body ++ front) s.others (subst IsBody whole is));
+}
+
+-- ---- a beginning
+
+begun_by : (f : Answer) (limit : ℕ) (m : Mode) (bytes : List ℕ) → 3 ≤ length bytes → Sound m bytes f → IsUnsureBy f limit bytes
+    → Begins bytes × (length bytes < limit) × (body : List ℕ) × (bytes ≡ 27 ∷ 91 ∷ body)
+begun_by Sequence limit m bytes some h o = (o.0, o.1, h.0, h.1)
+begun_by Undecided limit m bytes some h o = absurd (omega (arith, h.0))
+begun_by _ limit m bytes some h o = absurd o
+
+begun_step : (r : Option ℕ) (limit : ℕ) (m : Mode) (body : List ℕ) → MatchOption r (Stops 0 body) (Adds 0 body) → IsUnsure limit m (27 ∷ 91 ∷ body) → IsBegun (27 ∷ 91 ∷ body) r
+begun_step None limit m body h o = absurd (h.none [] none_begun (unsure_body limit m body o).0)
+begun_step (Some n) limit m body h o = (body, refl, h.on [] none_begun)
+
+pub few_begun : (bytes : List ℕ) → length bytes < 3 → (limit : ℕ) (m : Mode) → IsUnsure limit m bytes → IsBegun bytes None
+few_begun bytes few limit m o = few
+
+pub long_begun : (r : Option ℕ) (bytes rest : List ℕ) → 3 ≤ length bytes → rest ≡ drop 2 bytes →
+    MatchOption r (Stops 0 rest) (Adds 0 rest) → (limit : ℕ) (m : Mode) → IsUnsure limit m bytes →
+    IsBegun bytes r
+long_begun r bytes rest some behind h limit m o =
+    let (begins, low, body, parts) = begun_by (ahead m bytes) limit m bytes some (sound m bytes) o in
+    let same : rest ≡ body = behind ∙ ap (drop 2) parts in
+    rw parts (begun_step r limit m body (subst (λ (t : List ℕ). MatchOption r (Stops 0 t) (Adds 0 t)) same h) (subst (IsUnsure limit m) parts o))
+
+-- they wait too
+pub waits_on : (number r : Option ℕ) (limit last : ℕ) (m : Mode) (waiting bytes : List ℕ) →
+    IsBegun waiting number → MatchOption number (r ≡ None)
+    (Tells (limit - length waiting) bytes r) → r ≡ Some last
+    → IsUnsure limit m (waiting ++ bytes) × IsBegun (waiting ++ bytes) (Some last)
+waits_on None r limit last m waiting bytes begun tells is = absurd cc
+waits_on (Some n) r limit last m waiting bytes (body, parts, e) tells is =
+    let (fits, adds) = subst (λ (x : Option ℕ). Tells (limit - length waiting) bytes x n) is tells in
+    let longer = adds.on body e in
+    let whole : waiting ++ bytes ≡ 27 ∷ 91 ∷ (body ++ bytes) = ap (λ (t : List ℕ). t ++ bytes) parts in
+    (rw whole (body_unsure limit m (body ++ bytes) longer.is (omega (arith, fits, ap length parts, length-append body bytes))), (body ++ bytes, whole, longer))
+
+-- something can be cut of them, or two bytes at most waited
+pub waits_once : (number r : Option ℕ) (limit : ℕ) (m : Mode) (waiting bytes : List ℕ) →
+    IsBegun waiting number → MatchOption number (r ≡ None)
+    (Tells (limit - length waiting) bytes r) → r ≡ None → IsUnsure limit m (waiting ++ bytes)
+    → length waiting < 3
+waits_once None r limit m waiting bytes begun tells is o = begun
+waits_once (Some n) r limit m waiting bytes (body, parts, e) tells is o =
+    let whole : waiting ++ bytes ≡ 27 ∷ 91 ∷ (body ++ bytes) = ap (λ (t : List ℕ). t ++ bytes) parts in
+    let (goes, fits) = unsure_body limit m (body ++ bytes) (subst (IsUnsure limit m) whole o) in
+    let stops = subst (λ (x : Option ℕ). Tells (limit - length waiting) bytes x n) is tells in
+    absurd ((stops (omega (arith, fits, ap length parts, length-append body bytes))).none body e goes)
+
+-- ---- how often they are looked at
 
 csi_long : (limit : ℕ) (waiting more text rest : List ℕ) (k : Kind) (a : Mode) → Begins waiting →
     length waiting < limit → waiting ++ more ≡ text ++ rest →
@@ -37,25 +106,19 @@ csi_long limit waiting more text rest kind.Csi a b lt e h = elim (cuts waiting t
   | inl k ↦ absurd (not_begun text k.0 h.0 (subst Begins k.1 b))
   | inr k ↦ omega (arith, ap length k.2, length-append waiting (k.0 ∷ k.1))
 ]
-csi_long limit waiting more text rest kind.Other a b lt e h = malformed_long limit waiting more (length text) b lt h.0
+csi_long limit waiting more text rest kind.Other a b lt e h =
+    no_later limit (waiting ++ more) (length text) (length waiting) (wrong_at limit (waiting ++ more) (length text) h.0) (omega (arith, lt))
+    (subst Begins (sym (take-append_seam waiting more)) b)
 csi_long limit waiting more text rest _ a b lt e h = absurd h
-
-long_by : (f g : Answer) (limit : ℕ) (m : Mode) (waiting more text rest : List ℕ) (k : Kind)
-    (a : Mode) → 3 ≤ length waiting → Sound m waiting f → IsUnsureBy f limit waiting →
-    (f ≡ Undecided) ⊎ (g ≡ f)
-    → waiting ++ more ≡ text ++ rest → Allows g limit (waiting ++ more) k text a → length waiting ≤ length text
-long_by Sequence g limit m waiting more text rest k a some s o (inl none) e h = absurd cc
-long_by Sequence g limit m waiting more text rest k a some s o (inr same) e h =
-    csi_long limit waiting more text rest k a o.0 o.1 e (subst (λ (x : Answer). Allows x limit (waiting ++ more) k text a) same h)
-long_by Undecided g limit m waiting more text rest k a some s o same e h = absurd (omega (arith, s.0))
-long_by _ g limit m waiting more text rest k a some s o same e h = absurd o
 
 -- the first part has all of what waited
 part_long : (limit : ℕ) (m : Mode) (waiting more rest : List ℕ) (p : Part) (a : Mode) →
     3 ≤ length waiting → IsUnsure limit m waiting → IsFirstPart limit m (waiting ++ more) p rest a →
     length waiting ≤ length p.bytes
 part_long limit m waiting more rest p a some o h =
-    long_by (ahead m waiting) (ahead m (waiting ++ more)) limit m waiting more p.bytes rest p.kind a some (sound m waiting) o (kept m waiting more) h.0 h.1
+    let (begins, low, body, e) = begun_by (ahead m waiting) limit m waiting some (sound m waiting) o in
+    let csi : ahead m (waiting ++ more) ≡ Sequence = ap (λ (t : List ℕ). ahead m (t ++ more)) e ∙ opens m (body ++ more) in
+    csi_long limit waiting more p.bytes rest p.kind a begins low h.0 (subst (λ (f : Answer). Allows f limit (waiting ++ more) p.kind p.bytes a) csi h.1)
 
 -- what is left is no longer than the bytes
 parts_short : (limit : ℕ) (ps : List Part) (m : Mode) (bytes rest : List ℕ) (a : Mode) → AreFirstParts limit m bytes ps rest a → length rest ≤ length bytes

@@ -10,7 +10,7 @@ use std::alloc::{AllocError, Global};
 use std::marker::Model;
 
 /// The number that ends a body with some bytes more, where the body ends in `number`; none where no body goes on so.
-#[tactic(auto, using(crate::proofs::Begun::stops))]
+#[tactic(auto, using(crate::proofs::Waits::stops))]
 pub(crate) fn with_bytes(number: u64, bytes: &[u8]) -> Option<u64>
     ensures { MatchOption result (Stops number bytes.now) (Adds number bytes.now) }
 {
@@ -21,7 +21,7 @@ pub(crate) fn with_bytes(number: u64, bytes: &[u8]) -> Option<u64>
 }
 
 /// The number that ends bytes of which nothing is sure, where they begin a control sequence's body.
-#[tactic(auto, using(crate::proofs::Begun::few_begun, crate::proofs::Begun::long_begun))]
+#[tactic(auto, using(crate::proofs::Waits::few_begun, crate::proofs::Waits::long_begun))]
 fn begun(bytes: &[u8]) -> Option<u64>
     ensures { (limit : ℕ) (mode : Mode) → IsUnsure limit mode bytes.now → IsBegun bytes.now result }
 {
@@ -102,7 +102,7 @@ impl Held {
     }
 
     /// The number that ends them, where nothing is sure of them and they begin a control sequence's body. It costs a look at each.
-    #[tactic(auto, using(crate::proofs::Begun::few_begun, crate::proofs::Begun::long_begun))]
+    #[tactic(auto, using(crate::proofs::Waits::few_begun, crate::proofs::Waits::long_begun))]
     pub(crate) fn begun(&mut self) -> Option<u64>
         ensures is { (limit : ℕ) (mode : Mode) → IsUnsure limit mode self.old.bytes → IsBegun self.old.bytes result }
         ensures costs { self.new ≡ record { bytes = self.old.bytes; looks = self.old.looks + length self.old.bytes } }

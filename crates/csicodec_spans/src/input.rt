@@ -11,9 +11,11 @@ use crate::table::{Ahead, Mode, look};
 use csicodec_tokens::{Count, CsiParam, ReadError, behind_csi, read_csi_into};
 use std::marker::Model;
 
-/// The bytes that are cut. Each look at one is counted, in a count that contracts alone see.
+/// The bytes that are cut. Each look at one by a method is counted, in a count that contracts alone see.
 ///
-/// What cuts can get at the bytes in no other way: so that its looks stay linear in what it cuts is a promise about all that it does.
+/// The steps that find a span have the bytes as an `Input` alone, and get at them by its methods only: so that their looks stay linear in what
+/// is cut is a promise about all that they do. [`next_span`](crate::next_span) and [`Cutter::next`](crate::Cutter::next) have the slice too, to
+/// make an `Input` of it and to split it behind the span; a look at that isn't counted.
 #[derive(Drop)]
 pub(crate) struct Input<'a> {
     bytes: &'a [u8],
@@ -93,7 +95,7 @@ impl<'a> Input<'a> {
 
     /// As many of the first as a sequence may have.
     #[inline(always)]
-    pub(crate) fn near(&self, limit: usize) -> &'a [u8]
+    fn near(&self, limit: usize) -> &'a [u8]
         ensures { result.now ≡ take limit self.now }
     {
         self.bytes.get(..limit).unwrap_or(self.bytes)

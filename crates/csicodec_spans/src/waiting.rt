@@ -103,7 +103,7 @@ impl Waiting {
 
     /// Takes the next bytes. Where something can be cut now, it hands out all that waits, to be read from the front; what is left of it is given back
     /// by [`keep`](Waiting::keep). Else it answers none, and they wait.
-    #[tactic(auto, using(crate::proofs::OneSpan::none_unsure, crate::proofs::Begun::waits_once))]
+    #[tactic(auto, using(crate::proofs::OneSpan::none_unsure, crate::proofs::Waits::waits_once))]
     pub fn add(&mut self, bytes: &[u8]) -> Result<Option<Vec<u8>>, AllocError>
         ensures all { IfOk result (λ o. MatchOption o
             ((self.new ≡ record self.old {

@@ -1,5 +1,5 @@
 use Rattle.std.proofs.Common.{arith}
-use Rattle.csicodec_spans.proofs.AtOnce.{esc_mask, text_lanes}
+use Rattle.csicodec_spans.proofs.OneSpan.{esc_mask, text_lanes}
 use Rattle.csicodec_spans.proofs.near.before_esc_16.Goals as goal
 
 pub returns : goal.returns

@@ -1,4 +1,4 @@
-use Rattle.csicodec_spans.proofs.AtOnce.{text_front}
+use Rattle.csicodec_spans.proofs.OneSpan.{text_front}
 use Rattle.csicodec_spans.proofs.near.plain_len.Goals as goal
 
 pub returns-then-text-gt0-clause-plain : goal.returns-then-text-gt0-clause-plain

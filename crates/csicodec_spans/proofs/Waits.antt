@@ -1,5 +1,5 @@
 -- The beginning of a control sequence and the bytes that come behind it; and what waited is cut as one part, once anything can be cut of it.
-use Rattle.std.proofs.Common.{Option, Some, None, MatchOption, ◌≡◌, ℕ, ◌+◌, ◌-◌, ◌*◌, ◌<◌, ◌≤◌, ◌⊎◌, List, [], ◌∷◌, ◌++◌, length, take, drop, refl, sym, ap, subst, ◌∙◌, inl, inr, append_assoc, arith}
+use Rattle.std.proofs.Common.{Option, Some, None, MatchOption, ◌≡◌, ℕ, ◌+◌, ◌-◌, ◌*◌, ◌<◌, ◌≤◌, List, [], ◌∷◌, ◌++◌, length, drop, refl, sym, ap, subst, ◌∙◌, inl, inr, append_assoc, arith}
 use Rattle.std.specs.List.{concat}
 use Rattle.std.proofs.Math.Seq.{take-append_seam}
 use Rattle.std.proofs.lemmas.List.{length-append}
@@ -142,28 +142,26 @@ cut_short limit m a waiting more rest o left c = elim (cases_lt (length waiting)
   | inr some ↦ omega (arith, none_again limit c.parts m waiting more rest a some o (λ u. omega (arith, some, c.once u)) left c.first)
 ]
 
-handed : (limit again : ℕ) (chunks : List (List ℕ)) (m : Mode) (waiting : List ℕ) →
-    IsUnsure limit m waiting → HandsOut limit m waiting chunks again →
-    again ≤ length waiting + (length (concat chunks) + 2 * length chunks)
-handed limit again [] m waiting o h = omega (arith, h)
-handed limit again (chunk ∷ chunks) m waiting o (rest, after, later, left, more, inl (waits, same)) =
-    omega (arith, same, handed limit later chunks after rest left more, ap length waits.0, length-append waiting chunk, length-append chunk (concat chunks))
-handed limit again (chunk ∷ chunks) m waiting o (rest, after, later, left, more, inr (cut, same)) =
-    omega (arith, same, handed limit later chunks after rest left more, cut_short limit m after waiting chunk rest o left cut, length-append chunk (concat chunks))
+counted : (limit again : ℕ) (chunks : List (List ℕ)) (m : Mode) (waiting : List ℕ) → IsUnsure limit m waiting → (h : HandsOut limit m waiting chunks again)
+    → (again ≤ length waiting + (length (concat chunks) + 2 * length chunks))
+    × (looks_in limit m waiting chunks again h ≤ length waiting + (3 * length (concat chunks) + 6 * length chunks))
+counted limit again [] m waiting o h = (omega (arith, h), omega arith)
+counted limit again (chunk ∷ chunks) m waiting o (rest, after, later, left, more, inl (waits, same)) =
+    let (few, seen) = counted limit later chunks after rest left more in
+    let all = ap length waits.0 in (
+      omega (arith, same, few, all, length-append waiting chunk, length-append chunk (concat chunks)),
+      omega (arith, seen, all, length-append waiting chunk, length-append chunk (concat chunks)),
+    )
+counted limit again (chunk ∷ chunks) m waiting o (rest, after, later, left, more, inr (cut, same)) =
+    let (few, seen) = counted limit later chunks after rest left more in
+    let short = cut_short limit m after waiting chunk rest o left cut in
+    (omega (arith, same, few, short, length-append chunk (concat chunks)), omega (arith, seen, short, length-append chunk (concat chunks)))
 
 pub handed_once : (limit again : ℕ) (m : Mode) (chunks : List (List ℕ)) → HandsOut limit m [] chunks again → again ≤ length (concat chunks) + 2 * length chunks
-handed_once limit again m chunks h = omega (arith, handed limit again chunks m [] (none_unsure limit m) h)
-
-looked : (limit again : ℕ) (chunks : List (List ℕ)) (m : Mode) (waiting : List ℕ) → IsUnsure limit m waiting → (h : HandsOut limit m waiting chunks again)
-    → looks_in limit m waiting chunks again h ≤ length waiting + (3 * length (concat chunks) + 6 * length chunks)
-looked limit again [] m waiting o h = omega arith
-looked limit again (chunk ∷ chunks) m waiting o (rest, after, later, left, more, inl (waits, same)) =
-    omega (arith, looked limit later chunks after rest left more, ap length waits.0, length-append waiting chunk, length-append chunk (concat chunks))
-looked limit again (chunk ∷ chunks) m waiting o (rest, after, later, left, more, inr (cut, same)) =
-    omega (arith, looked limit later chunks after rest left more, cut_short limit m after waiting chunk rest o left cut, length-append chunk (concat chunks))
+handed_once limit again m chunks h = omega (arith, (counted limit again chunks m [] (none_unsure limit m) h).0)
 
 pub looked_few : (limit again : ℕ) (m : Mode) (chunks : List (List ℕ)) → (h : HandsOut limit m [] chunks again) → looks_in limit m [] chunks again h ≤ 3 * length (concat chunks) + 6 * length chunks
-looked_few limit again m chunks h = omega (arith, looked limit again chunks m [] (none_unsure limit m) h)
+looked_few limit again m chunks h = omega (arith, (counted limit again chunks m [] (none_unsure limit m) h).1)
 
 -- each span has a byte
 pub cut_few : (limit : ℕ) (spans : List Span) (m : Mode) (bytes rest : List ℕ) (after : Mode)

@@ -11,11 +11,11 @@ use crate::table::{Ahead, Mode, look};
 use csicodec_tokens::{Count, CsiParam, ReadError, behind_csi, read_csi_into};
 use std::marker::Model;
 
-/// The bytes that are cut. Each look at one by a method is counted, in a count that contracts alone see.
+/// The bytes that are cut. Its methods count the looks that they take at one, as each says, in a count that contracts alone see.
 ///
-/// The steps that find a span have the bytes as an `Input` alone, and get at them by its methods only: so that their looks stay linear in what
-/// is cut is a promise about all that they do. [`next_span`](crate::next_span) and [`Cutter::next`](crate::Cutter::next) have the slice too, to
-/// make an `Input` of it and to split it behind the span; a look at that isn't counted.
+/// The steps that find a span have the bytes as an `Input` alone, and get at them by these methods only: so that the looks that are counted stay
+/// linear in what is cut is a promise about all that they do. [`next_span`](crate::next_span) and [`Cutter::next`](crate::Cutter::next) have the
+/// slice too, to make an `Input` of it and to split it behind the span; a look that they took at that would not be counted.
 #[derive(Drop)]
 pub(crate) struct Input<'a> {
     bytes: &'a [u8],

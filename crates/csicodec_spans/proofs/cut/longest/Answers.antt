@@ -40,10 +40,16 @@ loop-len-smaller c = omega (
 )
 
 pub loop-len-preserved : goal.loop-len-preserved
-loop-len-preserved c = record {
-  longer = rw c.behind-rest-in-GoesOn.ensures (taken_longer _ _ c.behind-rest-in-loop-len.result c.args.mode c.args.mode (GoesOn c.in-GoesOn.len) _ (sym c.in-GoesOn.ensures.is) refl (here (goal.at.loop-len-preserved c).After-look));
-  looks = omega (arith, goes (goal.at.loop-len-preserved c).In-GoesOn, ap length c.behind-rest-in-GoesOn.ensures, length-drop c.in-GoesOn.len c.behind-rest-in-loop-len.result, ap length c.behind-rest-in-loop-len.ensures, c.loop-len.invariant.looks, c.staying.ensures.within, c.staying.ensures.costs, c.look.ensures.costs, length-drop c.staying.result c.loop-len.rest);
-}
+loop-len-preserved c =
+    let go = goes (goal.at.loop-len-preserved c).In-GoesOn in
+    let stayed = ap length c.behind-rest-in-loop-len.ensures in
+    let went = ap length c.behind-rest-in-GoesOn.ensures in
+    let first = length-drop c.staying.result c.loop-len.rest in
+    let second = length-drop c.in-GoesOn.len c.behind-rest-in-loop-len.result in
+    record {
+      longer = rw c.behind-rest-in-GoesOn.ensures (taken_longer _ _ c.behind-rest-in-loop-len.result c.args.mode c.args.mode (GoesOn c.in-GoesOn.len) _ (sym c.in-GoesOn.ensures.is) refl (here (goal.at.loop-len-preserved c).After-look));
+      looks = omega (arith, go, stayed, went, first, second, c.loop-len.invariant.looks, c.staying.ensures.within, c.staying.ensures.costs, c.look.ensures.costs);
+    }
 
 pub returns-in-Ends-clause-cut : goal.returns-in-Ends-clause-cut
 returns-in-Ends-clause-cut c = λ limit start text cut.

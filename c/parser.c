@@ -325,6 +325,16 @@ static int are_taken(unsigned rounds) {
         && csicodec_terminal_actions(NULL, 0, NULL, 0, NULL, 0).status == CSICODEC_TRUNCATED && both_agree(rounds) && are_events_taken(rounds);
 }
 
+/* With less room than any event may need nothing is taken. */
+static int is_refused(void) {
+    uint8_t held[3];
+    for (size_t room = 0; room < 4; room++) {
+        struct csicodec_parser parser = csicodec_parser_of(held, room, NULL, 0, NULL, 0);
+        if (csicodec_feed(&parser, (const uint8_t *)"ab\x1b[1m", 6, tell, NULL) || parser.status != CSICODEC_BAD_STATE) return 0;
+    }
+    return 1;
+}
+
 int main(int count, char **words) {
     unsigned rounds = count > 1 ? (unsigned)atoi(words[1]) : 2000;
     int right = is_told("a\x1b[1;31mred\x1b(B\x1b[1\x08;2H\x1b[3\x18z\xc3\xa9", 0, "T a|A2 2 1 11 1|T red|E 2842|T \x08|A1 109 1|O \x1b[3|T \x18z\xc3\xa9")
@@ -336,7 +346,7 @@ int main(int count, char **words) {
         && is_told("ab\xe2\x82", 0, "T ab\xe2\x82") && is_told("a\x1b[1", 0, "T a|O \x1b[1")
         && is_told("\x1b[1234567890123456;7m", 0, "O \x1b[1234567890123456;7m")
         && is_told("\x1b\n[31mred", 0, "O \x1b\n[|T 31mred") && is_told("\x1b(\n0x", 0, "O \x1b(\n0|T x")
-        && same_in_pieces(rounds) && are_raw() && is_read_again() && are_taken(rounds * 20);
+        && same_in_pieces(rounds) && are_raw() && is_refused() && is_read_again() && are_taken(rounds * 20);
     if (!right) return 1;
     printf("parser: the events of the whole in pieces of any length, whole strings, raw parameters, %d lists as terminals take them\n", (int)(sizeof readings / sizeof readings[0]));
     return 0;

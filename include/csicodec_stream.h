@@ -291,12 +291,12 @@ struct csicodec_parser {
 /* Carries out an event. It is told with the parser, whose stream has the actions. */
 typedef void csicodec_teller(void *user, const struct csicodec_parser *parser, const struct csicodec_event *event);
 
-/* A new parser. */
+/* A new parser. With room for less than 4 bytes its limit is 0, and csicodec_feed says CSICODEC_BAD_STATE. */
 static inline struct csicodec_parser csicodec_parser_of(uint8_t *held, size_t held_room, struct csicodec_action *actions,
                                                         size_t actions_room, struct csicodec_param *params, size_t params_room) {
     struct csicodec_parser parser;
     memset(&parser, 0, sizeof parser);
-    parser.stream = csicodec_stream_of(held_room, actions, actions_room, params, params_room);
+    parser.stream = csicodec_stream_of(held_room < 4 ? 0 : held_room, actions, actions_room, params, params_room);
     parser.held = held, parser.held_room = held_room;
     return parser;
 }

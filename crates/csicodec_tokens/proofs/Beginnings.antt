@@ -94,10 +94,8 @@ front_of_body : (x body more : List ℕ) (byte final : ℕ) → x ++ byte ∷ mo
 front_of_body x body more byte final e h =
     elim (cut_cases x body more [] byte final e) [
       | inl k ↦ IsBody-front x (byte ∷ k.0) (subst IsBody k.1 h)
-      | inr c ↦ elim c [
-        | inl same ↦ subst IsBody (sym same.0) h
-        | inr k ↦ absurd (omega (arith, ap length e, ap length k.1, length-append x (byte ∷ more), length-append body (final ∷ []), length-append body (final ∷ k.0)))
-      ]
+      | inr (inl same) ↦ subst IsBody (sym same.0) h
+      | inr (inr k) ↦ absurd (omega (arith, ap length e, ap length k.1, length-append x (byte ∷ more), length-append body (final ∷ []), length-append body (final ∷ k.0)))
     ]
 
 pub begins : (bytes : List ℕ) → GoesOn bytes → Begins bytes

@@ -56,14 +56,10 @@ cut_cases [] [] c d x y e = inr (inl (refl, cc))
 cut_cases [] (z ∷ b) c d x y e = inl (b, cc)
 cut_cases (w ∷ a) [] c d x y e = inr (inr (a, cc))
 cut_cases (w ∷ a) (z ∷ b) c d x y e =
-    let first : w ≡ z = cc in
-    let others : a ++ x ∷ c ≡ b ++ y ∷ d = cc in
-    elim (cut_cases a b c d x y others) [
+    elim (cut_cases a b c d x y cc) [
       | inl h ↦ inl (h.0, cc)
-      | inr h ↦ elim h [
-        | inl same ↦ let fronts = same.0 in inr (inl (cc, same.1))
-        | inr k ↦ inr (inr (k.0, cc))
-      ]
+      | inr (inl h) ↦ inr (inl (let fronts = h.0 in cc, h.1))
+      | inr (inr h) ↦ inr (inr (h.0, cc))
     ]
 
 no_final_within : (a b : List ℕ) (final : ℕ) → IsBody (a ++ final ∷ b) → IsFinal final → ⊥
@@ -75,10 +71,8 @@ no_seq body others b h other list final rest r =
     let whole : IsBody s.body = IsBody-from_spelling s.body list s.spellable s.spelled in
     elim (cut_cases body s.body others rest b final (seq_parts r.0 rest (body ++ b ∷ others) list final s r.2)) [
       | inl k ↦ h.stop (IsBody-front (body ++ b ∷ []) k.0 (subst IsBody (k.1 ∙ sym (append_assoc body (b ∷ []) k.0)) whole))
-      | inr c ↦ elim c [
-        | inl same ↦ other (subst IsFinal (sym same.1) s.ends)
-        | inr k ↦ no_final_within s.body k.0 final (subst IsBody k.1 h.begun) s.ends
-      ]
+      | inr (inl same) ↦ other (subst IsFinal (sym same.1) s.ends)
+      | inr (inr k) ↦ no_final_within s.body k.0 final (subst IsBody k.1 h.begun) s.ends
     ]
 
 -- ---- the faults
@@ -90,24 +84,12 @@ there body others b =
 
 pub bad_byte : (body others : List ℕ) (b : ℕ) → IsBody body → IsBad b → FaultOf (27 ∷ 91 ∷ (body ++ b ∷ others)) (BadByte (length body + 2))
 bad_byte body others b h bad =
-    let stops : StopsAt body b = record { begun = h; stop = λ more. no_param b bad (All-back IsBodyByte body (b ∷ []) more.bytes).0 } in
-    (no_seq body others b stops (no_final b bad), (is_least body others b stops, omega arith, subst IsBad (there body others b) bad))
-  where
-    no_param : (b : ℕ) → IsBad b → IsBodyByte b → ⊥
-    no_param b (inl l) p = omega arith
-    no_param b (inr l) p = omega arith
-
-    no_final : (b : ℕ) → IsBad b → IsFinal b → ⊥
-    no_final b (inl l) p = omega arith
-    no_final b (inr l) p = omega arith
+    let stops : StopsAt body b = record { begun = h; stop = λ more. grind (arith, bad, (All-back IsBodyByte body (b ∷ []) more.bytes).0) } in
+    (no_seq body others b stops (λ p. grind (arith, bad, p)), (is_least body others b stops, omega arith, subst IsBad (there body others b) bad))
 
 pub large_byte : (body others : List ℕ) (b : ℕ) → StopsAt body b → IsBodyByte b → FaultOf (27 ∷ 91 ∷ (body ++ b ∷ others)) (NumberTooLarge (length body + 2))
 large_byte body others b stops p =
-    (no_seq body others b stops (λ f. omega (arith, f.0, p.1)), (is_least body others b stops, omega arith, λ bad. no_bad b p (subst IsBad (sym (there body others b)) bad)))
-  where
-    no_bad : (b : ℕ) → IsBodyByte b → IsBad b → ⊥
-    no_bad b p (inl l) = omega arith
-    no_bad b p (inr l) = omega arith
+    (no_seq body others b stops (λ f. omega (arith, f.0, p.1)), (is_least body others b stops, omega arith, λ bad. grind (arith, p, subst IsBad (sym (there body others b)) bad)))
 
 pub large_number : (body run others : List ℕ) (d : ℕ) → IsBody (body ++ run) → AreDigits run → IsDigit d → largest < value (run ++ d ∷ [])
     → FaultOf (27 ∷ 91 ∷ ((body ++ run) ++ d ∷ others)) (NumberTooLarge (length (body ++ run) + 2))

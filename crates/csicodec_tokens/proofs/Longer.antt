@@ -13,13 +13,7 @@ use Rattle.csicodec_tokens.proofs.Beginnings.{begins}
 pub cuts : {T : Type 0} (a b x y : List T) → a ++ x ≡ b ++ y → ((k : List T) × (a ≡ b ++ k)) ⊎ ((c : T) × (k : List T) × (b ≡ a ++ c ∷ k))
 cuts a [] x y e = inl (a, refl)
 cuts [] (c ∷ b) x y e = inr (c, b, refl)
-cuts (d ∷ a) (c ∷ b) x y e =
-    let first : d ≡ c = cc in
-    let others : a ++ x ≡ b ++ y = cc in
-    elim (cuts a b x y others) [
-      | inl h ↦ inl (h.0, cc)
-      | inr h ↦ inr (h.0, h.1, cc)
-    ]
+cuts (d ∷ a) (c ∷ b) x y e = elim (cuts a b x y cc) [ inl h ↦ inl (h.0, cc) | inr h ↦ inr (h.0, h.1, cc) ]
 
 -- what stands before some bytes of a sequence is the beginning of one
 pub begins_front : (x y : List ℕ) (list : List CsiParam) (final : ℕ) → 0 < length y → Seq (x ++ y) list final → Begins x
@@ -43,15 +37,9 @@ none_more bytes more n least none list final rest r =
 
 least_more : (bytes more : List ℕ) (n : ℕ) → IsLeast bytes n → IsLeast (bytes ++ more) n
 least_more bytes more n least = record {
-  within = let w = least.within in omega (arith, length-append bytes more);
-  before = λ k le.
-      let w = least.within in
-      let fits : k ≤ length bytes = omega arith in
-      subst Begins (sym (take-append-le k bytes more fits)) (least.before k le);
-  there = λ t.
-      let w = least.within in
-      let fits : n + 1 ≤ length bytes = omega arith in
-      least.there (subst Begins (take-append-le (n + 1) bytes more fits) t);
+  within = omega (arith, least.within, length-append bytes more);
+  before = λ k le. subst Begins (sym (take-append-le k bytes more (omega (arith, le, least.within)))) (least.before k le);
+  there = λ t. least.there (subst Begins (take-append-le (n + 1) bytes more (omega (arith, least.within))) t);
 }
 
 byte_more : (bytes more : List ℕ) (n : ℕ) → IsLeast bytes n → get_or (bytes ++ more) n 0 ≡ get_or bytes n 0

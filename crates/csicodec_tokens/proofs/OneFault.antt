@@ -1,6 +1,5 @@
 -- Bytes have one fault.
 use Rattle.std.proofs.Common.{ℕ, ◌≡◌, zero, suc, ◌+◌, ◌<◌, List, get_or, take, sym, ap, subst, ◌∙◌, inl, inr, arith, refl}
-use Rattle.std.proofs.lemmas.Bool.{cases_lt}
 use Rattle.csicodec_tokens.specs.declared.reader.ReadError.{ReadError}
 use Rattle.csicodec_tokens.specs.declared.reader.ReadError.TheVariants.{NotCsi, BadByte, NumberTooLarge, Truncated, Memory}
 use Rattle.csicodec_tokens.specs.Fault.{Begins, IsLeast, IsBad, Fault}
@@ -22,31 +21,17 @@ not_before : (bytes : List ℕ) (j k : ℕ) → IsLeast bytes j → IsLeast byte
 not_before bytes j k l m lt = l.there (m.before (j + 1) (omega arith))
 
 one_least : (bytes : List ℕ) (j k : ℕ) → IsLeast bytes j → IsLeast bytes k → j ≡ k
-one_least bytes j k l m =
-    elim (cases_lt j k) [
-      | inl lt ↦ absurd (not_before bytes j k l m lt)
-      | inr ge ↦ elim (cases_lt k j) [
-        | inl lt ↦ absurd (not_before bytes k j m l lt)
-        | inr le ↦ omega arith
-      ]
-    ]
+one_least bytes j k l m = grind (arith, not_before bytes j k l m, not_before bytes k j m l)
 
 pub one_fault : (bytes : List ℕ) (d e : ReadError) → Fault bytes d → Fault bytes e → d ≡ e
-one_fault bytes (NotCsi j) (NotCsi k) l m = ap NotCsi (one_least bytes j k l.0 m.0)
-one_fault bytes (NotCsi j) (BadByte k) l m = let e = one_least bytes j k l.0 m.0 in absurd (omega (arith, e, l.1, m.1))
-one_fault bytes (NotCsi j) (NumberTooLarge k) l m = let e = one_least bytes j k l.0 m.0 in absurd (omega (arith, e, l.1, m.1))
-one_fault bytes (NotCsi j) (Truncated k) l m = absurd (not_both bytes j m.0 l.0)
-one_fault bytes (BadByte j) (NotCsi k) l m = let e = one_least bytes j k l.0 m.0 in absurd (omega (arith, e, l.1, m.1))
-one_fault bytes (BadByte j) (BadByte k) l m = ap BadByte (one_least bytes j k l.0 m.0)
-one_fault bytes (BadByte j) (NumberTooLarge k) l m = let e = one_least bytes j k l.0 m.0 in absurd (m.2 (subst (λ (i : ℕ). IsBad (get_or bytes i 0)) e l.2))
-one_fault bytes (BadByte j) (Truncated k) l m = absurd (not_both bytes j m.0 l.0)
-one_fault bytes (NumberTooLarge j) (NotCsi k) l m = let e = one_least bytes j k l.0 m.0 in absurd (omega (arith, e, l.1, m.1))
-one_fault bytes (NumberTooLarge j) (BadByte k) l m = let e = one_least bytes j k l.0 m.0 in absurd (l.2 (subst (λ (i : ℕ). IsBad (get_or bytes i 0)) (sym e) m.2))
-one_fault bytes (NumberTooLarge j) (NumberTooLarge k) l m = ap NumberTooLarge (one_least bytes j k l.0 m.0)
-one_fault bytes (NumberTooLarge j) (Truncated k) l m = absurd (not_both bytes j m.0 l.0)
-one_fault bytes (Truncated j) (NotCsi k) l m = absurd (not_both bytes k l.0 m.0)
-one_fault bytes (Truncated j) (BadByte k) l m = absurd (not_both bytes k l.0 m.0)
-one_fault bytes (Truncated j) (NumberTooLarge k) l m = absurd (not_both bytes k l.0 m.0)
-one_fault bytes (Truncated j) (Truncated k) l m = ap Truncated (l.1 ∙ sym m.1)
 one_fault bytes d Memory l m = absurd m
 one_fault bytes Memory e l m = absurd l
+one_fault bytes (Truncated j) (Truncated k) l m = ap Truncated (l.1 ∙ sym m.1)
+one_fault bytes (Truncated j) _ l m = absurd (not_both bytes _ l.0 m.0)
+one_fault bytes _ (Truncated k) l m = absurd (not_both bytes _ m.0 l.0)
+one_fault bytes (NotCsi j) (NotCsi k) l m = ap NotCsi (one_least bytes j k l.0 m.0)
+one_fault bytes (BadByte j) (BadByte k) l m = ap BadByte (one_least bytes j k l.0 m.0)
+one_fault bytes (NumberTooLarge j) (NumberTooLarge k) l m = ap NumberTooLarge (one_least bytes j k l.0 m.0)
+one_fault bytes (BadByte j) (NumberTooLarge k) l m = absurd (m.2 (rw (← one_least bytes j k l.0 m.0) l.2))
+one_fault bytes (NumberTooLarge j) (BadByte k) l m = absurd (l.2 (rw (one_least bytes j k l.0 m.0) m.2))
+one_fault bytes _ _ l m = absurd (omega (arith, one_least bytes _ _ l.0 m.0, l.1, m.1))

@@ -12,13 +12,7 @@ pub snoc_cases : (a b c : List ℕ) (x : ℕ) → a ++ x ∷ [] ≡ b ++ c
 snoc_cases a [] c x e = inr (a, sym e, refl)
 snoc_cases [] (y ∷ []) c x e = inl (cc, cc)
 snoc_cases [] (y ∷ z ∷ b) c x e = absurd cc
-snoc_cases (w ∷ a) (y ∷ b) c x e =
-    let first : w ≡ y = cc in
-    let others : a ++ x ∷ [] ≡ b ++ c = cc in
-    elim (snoc_cases a b c x others) [
-      | inl h ↦ inl (h.0, cc)
-      | inr h ↦ inr (h.0, h.1, cc)
-    ]
+snoc_cases (w ∷ a) (y ∷ b) c x e = elim (snoc_cases a b c x cc) [ inl h ↦ inl (h.0, cc) | inr h ↦ inr (h.0, h.1, cc) ]
 
 pub value_push : (n : ℕ) (ds : List ℕ) (d : ℕ) → value_after n (ds ++ d ∷ []) ≡ 10 * value_after n ds + (d - 48)
 value_push n [] d = refl
@@ -54,27 +48,20 @@ pub record Ends (text : List ℕ) (n : ℕ) : Type 0 where
   pub body : IsBody text
   pub bound : (before run : List ℕ) → text ≡ before ++ run → AreDigits run → value run ≤ n
 
-nil_value : (run after : List ℕ) → run ++ after ≡ [] → value run ≡ 0
-nil_value [] after e = refl
-nil_value (r ∷ run) after e = absurd cc
+nil_value : (before run after : List ℕ) → [] ≡ before ++ (run ++ after) → value run ≡ 0
+nil_value [] [] after e = refl
+nil_value [] (r ∷ run) after e = absurd cc
+nil_value (b ∷ before) run after e = absurd cc
 
-nil_only : (run : List ℕ) → [] ≡ run → value run ≡ 0
-nil_only [] e = refl
-nil_only (r ∷ run) e = absurd cc
-
-IsBody-none : IsBody []
-IsBody-none = record { bytes = tt; runs = λ before run after e h. nil_body before run after e }
-  where
-    nil_body : (before run after : List ℕ) → [] ≡ before ++ (run ++ after) → value run ≤ largest
-    nil_body [] run after e = let z : value run ≡ 0 = nil_value run after (sym e) in omega arith
-    nil_body (b ∷ before) run after e = absurd cc
+nil_only : (before run : List ℕ) → [] ≡ before ++ run → value run ≡ 0
+nil_only before run e = nil_value before run [] (e ∙ ap (λ (t : List ℕ). before ++ t) (sym (append-nil run)))
 
 -- one more byte, where no run that ends with it has too large a value
 IsBody-push : (text : List ℕ) (b : ℕ) → IsBody text → IsBodyByte b → ((before run : List ℕ) → text ++ b ∷ [] ≡ before ++ run → AreDigits run → value run ≤ largest) → IsBody (text ++ b ∷ [])
 IsBody-push text b body p bound = record {
   bytes = All-push IsBodyByte text b body.bytes p;
   runs = λ before run after e h. elim (snoc_cases text before (run ++ after) b e) [
-    | inl c ↦ let z : value run ≡ 0 = nil_value run after c.0 in omega arith
+    | inl c ↦ omega (arith, nil_value [] run after (sym c.0))
     | inr c ↦ elim (snoc_cases c.0 run after b (sym c.1)) [
       | inl k ↦ bound before run (e ∙ ap (λ (t : List ℕ). before ++ (run ++ t)) k.0 ∙ ap (λ (t : List ℕ). before ++ t) (append-nil run)) h
       | inr k ↦ body.runs before run k.0 (c.2 ∙ ap (λ (t : List ℕ). before ++ t) k.2) h
@@ -83,43 +70,35 @@ IsBody-push text b body p bound = record {
 }
 
 pub Ends-none : Ends [] 0
-Ends-none = record { body = IsBody-none; bound = λ before run e h. none before run e }
-  where
-    none : (before run : List ℕ) → [] ≡ before ++ run → value run ≤ 0
-    none [] run e = let z : value run ≡ 0 = nil_only run e in omega arith
-    none (b ∷ before) run e = absurd cc
-
--- ---- one more digit
+Ends-none = record {
+  body = record { bytes = tt; runs = λ before run after e h. omega (arith, nil_value before run after e) };
+  bound = λ before run e h. omega (arith, nil_only before run e);
+}
 
 digit_bound : (text : List ℕ) (n d : ℕ) → Ends text n → (before run : List ℕ) → text ++ d ∷ [] ≡ before ++ run → AreDigits run → value run ≤ 10 * n + (d - 48)
 digit_bound text n d ends before run e h =
     elim (snoc_cases text before run d e) [
-      | inl c ↦ let z : value run ≡ 0 = nil_only run (sym c.0) in omega arith
-      | inr c ↦
-          let v : value run ≡ 10 * value c.0 + (d - 48) = ap value c.1 ∙ value_push 0 c.0 d in
-          let b : value c.0 ≤ n = ends.bound before c.0 c.2 (AreDigits-pushed c.0 d (subst AreDigits c.1 h)).0 in
-          omega arith
+      | inl c ↦ omega (arith, nil_only [] run (sym c.0))
+      | inr c ↦ omega (arith, ap value c.1, value_push 0 c.0 d, ends.bound before c.0 c.2 (AreDigits-pushed c.0 d (subst AreDigits c.1 h)).0)
     ]
 
 pub Ends-digit : (text : List ℕ) (n d : ℕ) → Ends text n → IsDigit d → 10 * n + (d - 48) ≤ largest → Ends (text ++ d ∷ []) (10 * n + (d - 48))
 Ends-digit text n d ends p le = record {
-  body = IsBody-push text d ends.body (omega arith, omega arith) (λ before run e h. let b = digit_bound text n d ends before run e h in omega arith);
+  body = IsBody-push text d ends.body (omega arith, omega arith) (λ before run e h. omega (arith, digit_bound text n d ends before run e h));
   bound = digit_bound text n d ends;
 }
-
--- ---- one more byte that is no digit
 
 other_bound : (text : List ℕ) (b : ℕ) → ¬ IsDigit b → (before run : List ℕ) → text ++ b ∷ [] ≡ before ++ run → AreDigits run → value run ≡ 0
 other_bound text b other before run e h =
     elim (snoc_cases text before run b e) [
-      | inl c ↦ nil_only run (sym c.0)
+      | inl c ↦ nil_only [] run (sym c.0)
       | inr c ↦ absurd (other (AreDigits-pushed c.0 b (subst AreDigits c.1 h)).1)
     ]
 
 pub Ends-other : (text : List ℕ) (n b : ℕ) → Ends text n → IsBodyByte b → ¬ IsDigit b → Ends (text ++ b ∷ []) 0
 Ends-other text n b ends p other = record {
-  body = IsBody-push text b ends.body p (λ before run e h. let z = other_bound text b other before run e h in omega arith);
-  bound = λ before run e h. let z = other_bound text b other before run e h in omega arith;
+  body = IsBody-push text b ends.body p (λ before run e h. omega (arith, other_bound text b other before run e h));
+  bound = λ before run e h. omega (arith, other_bound text b other before run e h);
 }
 
 -- ---- parts of a body

@@ -1,16 +1,17 @@
 -- The beginnings of sequences are the bytes that go on to a sequence.
-use Rattle.std.proofs.Common.{◌≡◌, ℕ, ℤ, pos, List, [], ◌∷◌, ◌++◌, length, refl, sym, ap, subst, inl, inr, arith}
-use Rattle.std.proofs.lemmas.Bool.{cases_lt}
+use Rattle.std.proofs.Common.{◌≡◌, ℕ, ℤ, pos, List, [], ◌∷◌, ◌++◌, length, refl, sym, ap, subst, inl, inr, arith, ◌+◌, ◌-◌, get_or, ◌∙◌, append_assoc}
 use Rattle.std.proofs.lemmas.List.{length-append}
 use Rattle.csicodec_tokens.specs.declared.param.CsiParam.{CsiParam}
 use Rattle.csicodec_tokens.specs.declared.param.CsiParam.TheVariants.{Integer, P}
 use Rattle.csicodec_tokens.specs.Digits.{IsDigit, value}
-use Rattle.csicodec_tokens.specs.Sequence.{Spells, Apart, Spellable, Seq}
-use Rattle.csicodec_tokens.specs.Fault.{IsBody, Begins}
-use Rattle.csicodec_tokens.proofs.Faults.{cut_cases}
+use Rattle.csicodec_tokens.specs.Sequence.{Spells, Apart, Spellable, Seq, IsBodyByte, IsFinal, Reads}
+use Rattle.csicodec_tokens.specs.Fault.{IsBody, Begins, IsBad, FaultOf}
+use Rattle.csicodec_tokens.proofs.Spelled.{cut_cases, IsBody-from_spelling, StopsAt, bad_byte, large_byte, cut_short}
 use Rattle.csicodec_tokens.proofs.Reading.{IsSpellable-number}
-use Rattle.csicodec_tokens.proofs.Runs.{IsBody-front, IsBody-back}
-use Rattle.csicodec_tokens.proofs.Spelled.{IsBody-from_spelling}
+use Rattle.csicodec_tokens.proofs.Runs.{IsBody-front, IsBody-back, digit_or_other}
+use Rattle.csicodec_tokens.specs.declared.reader.ReadError.TheVariants.{BadByte, NumberTooLarge, Truncated}
+use Rattle.csicodec_tokens.specs.Body.{Adds, IsStopped}
+use Rattle.csicodec_tokens.proofs.Walks.{none_begun}
 
 -- ---- each body spells a list
 
@@ -26,16 +27,6 @@ apart_any y z (P b ∷ list) h = tt
 
 -- a digit before a spelled body: the first digit of its first number, or a number of its own
 with_digit : (b : ℕ) (rest : List ℕ) (list : List CsiParam) → IsDigit b → IsBody (b ∷ rest) → Spells rest list → Spellable list → IsSpelled (b ∷ rest)
-with_digit b rest [] d h s can = record {
-  list = Integer (pos (value (b ∷ []))) ∷ [];
-  spelled = (b ∷ [], rest, refl, (omega arith, (d, tt), refl), s);
-  spellable = (IsSpellable-number (value (b ∷ [])) (h.runs [] (b ∷ []) rest refl (d, tt)), tt, tt);
-}
-with_digit b rest (P c ∷ list) d h s can = record {
-  list = Integer (pos (value (b ∷ []))) ∷ P c ∷ list;
-  spelled = (b ∷ [], rest, refl, (omega arith, (d, tt), refl), s);
-  spellable = (IsSpellable-number (value (b ∷ [])) (h.runs [] (b ∷ []) rest refl (d, tt)), tt, can);
-}
 with_digit b rest (Integer z ∷ list) d h s can =
     let run = b ∷ s.0 in
     let parts : b ∷ rest ≡ run ++ s.1 = ap (λ (t : List ℕ). b ∷ t) s.2 in
@@ -44,6 +35,11 @@ with_digit b rest (Integer z ∷ list) d h s can =
       spelled = (run, s.1, parts, (omega arith, (d, s.3.1), refl), s.4);
       spellable = (IsSpellable-number (value run) (h.runs [] run s.1 parts (d, s.3.1)), apart_any z (pos (value run)) list can.1, can.2);
     }
+with_digit b rest list d h s can = record {
+  list = Integer (pos (value (b ∷ []))) ∷ list;
+  spelled = (b ∷ [], rest, refl, (omega arith, (d, tt), refl), s);
+  spellable = (IsSpellable-number (value (b ∷ [])) (h.runs [] (b ∷ []) rest refl (d, tt)), tt, can);
+}
 
 with_other : (b : ℕ) (rest : List ℕ) → ¬ IsDigit b → IsBody (b ∷ rest) → IsSpelled rest → IsSpelled (b ∷ rest)
 with_other b rest other h s = record {
@@ -56,13 +52,7 @@ pub spelled_body : (body : List ℕ) → IsBody body → IsSpelled body
 spelled_body [] h = record { list = []; spelled = refl; spellable = tt }
 spelled_body (b ∷ rest) h =
     let s = spelled_body rest (IsBody-back (b ∷ []) rest h) in
-    elim (cases_lt b 48) [
-      | inl below ↦ with_other b rest (λ d. omega (arith, d.0)) h s
-      | inr ge ↦ elim (cases_lt 57 b) [
-        | inl above ↦ with_other b rest (λ d. omega (arith, d.1)) h s
-        | inr le ↦ with_digit b rest s.list (ge, le) h s.spelled s.spellable
-      ]
-    ]
+    elim (digit_or_other b) [ inl digit ↦ with_digit b rest s.list digit h s.spelled s.spellable | inr other ↦ with_other b rest other h s ]
 
 -- ---- the two directions
 
@@ -108,3 +98,38 @@ begins (a ∷ b ∷ x) g =
     let others : x ++ g.byte ∷ g.more ≡ g.seq.body ++ g.final ∷ [] = cc in
     let body = IsBody-from_spelling g.seq.body g.list g.seq.spellable g.seq.spelled in
     inr (inr (x, cc, front_of_body x g.seq.body g.more g.byte g.final others body))
+
+pub cut_behind : (bytes body : List ℕ) (last : ℕ) → bytes ≡ 27 ∷ 91 ∷ body → Adds 0 body last → FaultOf bytes (Truncated (length bytes))
+cut_behind bytes body last e a = rw e (cut_short body (a.on [] none_begun).is)
+
+first_of : (rest others : List ℕ) (b : ℕ) → rest ≡ b ∷ others → get_or rest 0 0 ≡ b
+first_of rest others b e = ap (λ (t : List ℕ). get_or t 0 0) e
+
+module _ (bytes body rest : List ℕ) (e : bytes ≡ 27 ∷ 91 ∷ body) (s : IsStopped 0 body rest) where
+  stops_at : StopsAt s.done s.byte
+  stops_at = record { begun = s.on [] none_begun; stop = λ is. s.stops.none [] none_begun is }
+
+  whole : bytes ≡ 27 ∷ 91 ∷ (s.done ++ s.byte ∷ s.others)
+  whole = e ∙ ap (λ (t : List ℕ). 27 ∷ 91 ∷ t) (s.parts ∙ ap (λ (t : List ℕ). s.done ++ t) s.front)
+
+  place : length bytes - length rest ≡ length s.done + 2
+  place = omega (arith, ap length whole, length-append s.done (s.byte ∷ s.others), ap length s.front)
+
+  pub found_behind : (final : ℕ) (others : List ℕ) → rest ≡ final ∷ others → IsFinal final → (list : List CsiParam) × (last : ℕ) × Reads bytes list last others
+  found_behind final others cut is =
+      let spelled = spelled_body s.done (s.on [] none_begun) in
+      let parts : body ≡ (s.done ++ final ∷ []) ++ others = s.parts ∙ ap (λ (t : List ℕ). s.done ++ t) cut ∙ sym (append_assoc s.done (final ∷ []) others) in (
+        spelled.list,
+        final,
+        (
+          27 ∷ 91 ∷ (s.done ++ final ∷ []),
+          record { spellable = spelled.spellable; ends = is; body = s.done; spelled = spelled.spelled; whole = refl },
+          e ∙ ap (λ (t : List ℕ). 27 ∷ 91 ∷ t) parts,
+        ),
+      )
+
+  pub bad_behind : IsBad (get_or rest 0 0) → FaultOf bytes (BadByte (length bytes - length rest))
+  bad_behind bad = rw place (rw whole (bad_byte s.done s.others s.byte (s.on [] none_begun) (subst IsBad (first_of rest s.others s.byte s.front) bad)))
+
+  pub large_behind : IsBodyByte (get_or rest 0 0) → FaultOf bytes (NumberTooLarge (length bytes - length rest))
+  large_behind p = rw place (rw whole (large_byte s.done s.others s.byte stops_at (subst IsBodyByte (first_of rest s.others s.byte s.front) p)))

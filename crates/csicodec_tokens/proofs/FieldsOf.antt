@@ -39,48 +39,35 @@ fields-computed (x ∷ f) list h = rw h.2 (block_computed h.0 x f h.1 h.3 (field
 record AreFields (list : List CsiParam) (o : Option (List (Option ℤ))) : Type 0 where
   each : (f : List (Option ℤ)) → o ≡ Some f → Fields list f
 
-with-empty : (b : ℕ) (list : List CsiParam) (o : Option (List (Option ℤ))) → b ≡ 59 → AreFields list o → AreFields (P b ∷ list) (with_field None o)
-with-empty b list None is h = record { each = λ f e. cc }
-with-empty b list (Some g) is h = record {
-  each = λ f e. subst (Fields (P b ∷ list)) (same_Some _ _ e) (separator ∷ [], list, ap (λ (c : ℕ). P c ∷ list) is, refl, h.each g refl);
-}
-
-with-closed : (z : ℤ) (b : ℕ) (list : List CsiParam) (o : Option (List (Option ℤ))) → b ≡ 59 → AreFields list o → AreFields (Integer z ∷ P b ∷ list) (with_field (Some z) o)
-with-closed z b list None is h = record { each = λ f e. cc }
-with-closed z b list (Some g) is h = record {
-  each = λ f e. subst (Fields (Integer z ∷ P b ∷ list)) (same_Some _ _ e) (Integer z ∷ separator ∷ [], list, ap (λ (c : ℕ). Integer z ∷ P c ∷ list) is, inl refl, h.each g refl);
-}
-
 -- what begins with a number has no empty field first
 not_empty : (y : ℤ) (list : List CsiParam) (g : List (Option ℤ)) → Fields (Integer y ∷ list) g → BeginsEmpty g → ⊥
 not_empty y list [] h b = b
 not_empty y list (Some z ∷ g) h b = b
 not_empty y list (None ∷ g) h b = let front : Integer y ∷ list ≡ separator ∷ h.1 = h.2 ∙ ap (λ (t : List CsiParam). t ++ h.1) h.3 in cc
 
-with-alone : (z y : ℤ) (list : List CsiParam) (o : Option (List (Option ℤ))) → AreFields (Integer y ∷ list) o → AreFields (Integer z ∷ Integer y ∷ list) (with_field (Some z) o)
-with-alone z y list None h = record { each = λ f e. cc }
-with-alone z y list (Some g) h = record {
-  each = λ f e. subst (Fields (Integer z ∷ Integer y ∷ list)) (same_Some _ _ e) (Integer z ∷ [], Integer y ∷ list, refl, inr (refl, not_empty y list g (h.each g refl)), h.each g refl);
+with_block : (list block rest : List CsiParam) (x : Option ℤ) (o : Option (List (Option ℤ))) → list ≡ block ++ rest → ((f : List (Option ℤ)) → Fields rest f → IsBlock block x f)
+    → AreFields rest o → AreFields list (with_field x o)
+with_block list block rest x None parts is h = record { each = λ f e. cc }
+with_block list block rest x (Some g) parts is h = record {
+  each = λ f e. subst (Fields list) (same_Some _ _ e) (block, rest, parts, is g (h.each g refl), h.each g refl);
 }
 
 are_fields : (list : List CsiParam) → AreFields list (fields_of list)
 are_fields [] = record { each = λ f e. subst (Fields []) (same_Some _ _ e) refl }
 are_fields (P b ∷ list) = elim (cases_Bool (b == 59)) [
-  | inl same ↦ rw same (with-empty b list (fields_of list) (eqb-true b 59 same) (are_fields list))
+  | inl same ↦ rw same (with_block _ (separator ∷ []) list None _ (ap (λ (c : ℕ). P c ∷ list) (eqb-true b 59 same)) (λ f h. refl) (are_fields list))
   | inr other ↦ rw other (record { each = λ f e. cc })
 ]
 are_fields (Integer z ∷ []) = record { each = λ f e. subst (Fields (Integer z ∷ [])) (same_Some _ _ e) (Integer z ∷ [], [], refl, inr (refl, λ b. b), refl) }
 are_fields (Integer z ∷ P b ∷ list) = elim (cases_Bool (b == 59)) [
-  | inl same ↦ rw same (with-closed z b list (fields_of list) (eqb-true b 59 same) (are_fields list))
+  | inl same ↦ rw same (with_block _ (Integer z ∷ separator ∷ []) list (Some z) _ (ap (λ (c : ℕ). Integer z ∷ P c ∷ list) (eqb-true b 59 same)) (λ f h. inl refl) (are_fields list))
   | inr other ↦ rw other (record { each = λ f e. cc })
 ]
-are_fields (Integer z ∷ Integer y ∷ list) = with-alone z y list (fields_of (Integer y ∷ list)) (are_fields (Integer y ∷ list))
-
-pub computed-fields : (list : List CsiParam) (f : List (Option ℤ)) → fields_of list ≡ Some f → Fields list f
-computed-fields list f e = (are_fields list).each f e
+are_fields (Integer z ∷ Integer y ∷ list) =
+    with_block _ (Integer z ∷ []) (Integer y ∷ list) (Some z) _ refl (λ f h. inr (refl, not_empty y list f h)) (are_fields (Integer y ∷ list))
 
 pub fields_in_turn : (list : List CsiParam) (f : List (Option ℤ)) → Fields list f ↔ (fields_of list ≡ Some f)
-fields_in_turn list f = (fields-computed f list, computed-fields list f)
+fields_in_turn list f = (fields-computed f list, (are_fields list).each f)
 
 pub one_fields : (list : List CsiParam) (f g : List (Option ℤ)) → Fields list f → Fields list g → f ≡ g
 one_fields list f g h i = same_Some _ _ (sym (fields-computed f list h) ∙ fields-computed g list i)
@@ -117,7 +104,7 @@ some_fields (Integer z ∷ Integer y ∷ list) h = let r = some_fields (Integer 
 pub wants_memory : (list : List CsiParam) → list_all is_field_token list ≡ true → 0 < length list → RefusesFields list Memory
 wants_memory list h lt =
     let r = some_fields list h in
-    let fields = computed-fields list r.0 r.1 in (r.0, fields, nonempty r.0 list fields lt)
+    let fields = (are_fields list).each r.0 r.1 in (r.0, fields, nonempty r.0 list fields lt)
   where
     nonempty : (f : List (Option ℤ)) (list : List CsiParam) → Fields list f → 0 < length list → 0 < length f
     nonempty [] list h lt = omega (arith, ap length h)

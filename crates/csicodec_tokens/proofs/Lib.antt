@@ -1,9 +1,7 @@
 pub mod Runs
-pub mod Faults
 pub mod OneFault
 pub mod Spelled
 pub mod Printed
-pub mod Tokens
 pub mod Unique
 pub mod Reading
 pub mod Beginnings
@@ -12,4 +10,3 @@ pub mod FieldsOf
 pub mod Longer
 pub mod Lanes
 pub mod Walks
-pub mod Stopped

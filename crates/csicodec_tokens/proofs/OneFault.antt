@@ -1,17 +1,17 @@
 -- Bytes have one fault.
-use Rattle.std.proofs.Common.{ℕ, ◌≡◌, zero, suc, ◌+◌, ◌<◌, List, get_or, take, sym, ap, subst, ◌∙◌, inl, inr, arith, refl}
+use Rattle.std.proofs.Common.{ℕ, ◌≡◌, zero, suc, ◌+◌, ◌<◌, List, take, sym, ap, ◌∙◌, inl, inr, arith, refl}
 use Rattle.csicodec_tokens.specs.declared.reader.ReadError.{ReadError}
 use Rattle.csicodec_tokens.specs.declared.reader.ReadError.TheVariants.{NotCsi, BadByte, NumberTooLarge, Truncated, Memory}
-use Rattle.csicodec_tokens.specs.Fault.{Begins, IsLeast, IsBad, Fault}
-use Rattle.csicodec_tokens.proofs.Faults.{IsBody-take}
+use Rattle.csicodec_tokens.specs.Fault.{Begins, IsLeast, Fault}
+use Rattle.csicodec_tokens.proofs.Spelled.{IsBody-take}
 
 -- the fronts of a beginning are beginnings
 Begins-take : (bytes : List ℕ) (k : ℕ) → Begins bytes → Begins (take k bytes)
 Begins-take bytes zero b = inl refl
 Begins-take bytes (suc k) (inl e) = inl (ap (take (suc k)) e)
+Begins-take bytes (suc zero) (inr (inr w)) = inr (inl (ap (take 1) w.1))
 Begins-take bytes (suc zero) (inr (inl e)) = inr (inl (ap (take 1) e))
 Begins-take bytes (suc (suc k)) (inr (inl e)) = inr (inl (ap (take (suc (suc k))) e))
-Begins-take bytes (suc zero) (inr (inr w)) = inr (inl (ap (take 1) w.1))
 Begins-take bytes (suc (suc k)) (inr (inr w)) = inr (inr (take k w.0, ap (take (suc (suc k))) w.1, IsBody-take k w.0 w.2))
 
 not_both : (bytes : List ℕ) (k : ℕ) → Begins bytes → IsLeast bytes k → ⊥

@@ -10,10 +10,8 @@ use Rattle.csicodec_tokens.specs.Digits.{IsDigit, AreDigits, value, largest}
 use Rattle.csicodec_tokens.specs.Sequence.{IsFinal, SpellsToken, Spells, IsSpellable, Spellable, Reads}
 use Rattle.csicodec_tokens.specs.Fault.{IsBody, IsBad, FaultOf, Refuses}
 use Rattle.csicodec_tokens.specs.Private.Reading.{IsRun, IsNumber, IsTooLarge, IsFirstToken, EndsWhole, HasRead}
-use Rattle.csicodec_tokens.proofs.Faults.{bad_byte, large_number, cut_short}
+use Rattle.csicodec_tokens.proofs.Spelled.{bad_byte, large_number, cut_short, IsBody-from_spelling, Spells-push, Spellable-push, EndsWhole-push}
 use Rattle.csicodec_tokens.proofs.Runs.{value_push, AreDigits-push}
-use Rattle.csicodec_tokens.proofs.Spelled.{IsBody-from_spelling}
-use Rattle.csicodec_tokens.proofs.Tokens.{Spells-push, Spellable-push, EndsWhole-push}
 use Rattle.csicodec_tokens.proofs.Unique.{one_seq}
 
 pub first_cut : (xs : List ℕ) → 1 ≤ length xs → xs ≡ get_or xs 0 0 ∷ take (length xs - 1) (drop 1 xs)

@@ -1,6 +1,7 @@
 -- Bodies of sequences byte by byte: runs of digits that end where a text ends.
 use Rattle.std.proofs.Common.{◌≡◌, ℕ, ◌+◌, ◌-◌, ◌*◌, ◌≤◌, ◌⊎◌, List, [], ◌∷◌, ◌++◌, refl, sym, ap, subst, ◌∙◌, inl, inr, append_assoc, arith}
 use Rattle.std.specs.List.{AllByRecursion}
+use Rattle.std.proofs.lemmas.Bool.{cases_lt}
 use Rattle.std.proofs.lemmas.List.{append-nil}
 use Rattle.csicodec_tokens.specs.Digits.{IsDigit, AreDigits, value_after, value, largest}
 use Rattle.csicodec_tokens.specs.Sequence.{IsBodyByte}
@@ -13,6 +14,12 @@ snoc_cases a [] c x e = inr (a, sym e, refl)
 snoc_cases [] (y ∷ []) c x e = inl (cc, cc)
 snoc_cases [] (y ∷ z ∷ b) c x e = absurd cc
 snoc_cases (w ∷ a) (y ∷ b) c x e = elim (snoc_cases a b c x cc) [ inl h ↦ inl (h.0, cc) | inr h ↦ inr (h.0, h.1, cc) ]
+
+pub digit_or_other : (b : ℕ) → IsDigit b ⊎ ¬ IsDigit b
+digit_or_other b = elim (cases_lt b 48) [
+  | inl below ↦ inr (λ d. omega (arith, d.0))
+  | inr ge ↦ elim (cases_lt 57 b) [ inl above ↦ inr (λ d. omega (arith, d.1)) | inr le ↦ inl (ge, le) ]
+]
 
 pub value_push : (n : ℕ) (ds : List ℕ) (d : ℕ) → value_after n (ds ++ d ∷ []) ≡ 10 * value_after n ds + (d - 48)
 value_push n [] d = refl

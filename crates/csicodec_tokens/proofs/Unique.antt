@@ -7,8 +7,7 @@ use Rattle.csicodec_tokens.specs.declared.param.CsiParam.TheVariants.{Integer, P
 use Rattle.csicodec_tokens.specs.Digits.{IsDigit, AreDigits, value}
 use Rattle.csicodec_tokens.specs.Sequence.{IsBodyByte, IsFinal, Spells, Apart, Spellable, Seq}
 use Rattle.csicodec_tokens.specs.Private.Reading.{BeginsWithDigit}
-use Rattle.csicodec_tokens.proofs.Spelled.{IsBody-from_spelling}
-use Rattle.csicodec_tokens.proofs.Tokens.{begins_with_number, nonempty}
+use Rattle.csicodec_tokens.proofs.Spelled.{IsBody-from_spelling, begins_with_number, nonempty}
 
 not_nil : (text : List ℕ) (t : CsiParam) (list : List CsiParam) → Spells text (t ∷ list) → text ≡ [] → ⊥
 not_nil text t list s e = omega (arith, nonempty s.0 t s.3, ap length (sym s.2 ∙ e), length-append s.0 s.1)
@@ -25,10 +24,7 @@ one_run [] t [] u h k o p e = (refl, e)
 one_run [] t (c ∷ q) u h k o p e = absurd (o (subst BeginsWithDigit (sym e) k.0))
 one_run (b ∷ r) t [] u h k o p e = absurd (p (subst BeginsWithDigit e h.0))
 one_run (b ∷ r) t (c ∷ q) u h k o p e =
-    let first : b ≡ c = cc in
-    let others : r ++ t ≡ q ++ u = cc in
-    let i = one_run r t q u h.1 k.1 o p others in
-    (cc, i.1)
+    let i = one_run r t q u h.1 k.1 o p cc in (cc, i.1)
 
 -- a byte that isn't a digit isn't the beginning of a number
 no_number : (text : List ℕ) (z : ℤ) (l : List CsiParam) (b : ℕ) (m : List CsiParam) → Spells text (Integer z ∷ l) → Spells text (P b ∷ m) → ¬ IsDigit b → ⊥
@@ -42,16 +38,13 @@ one_spelling (u ∷ l) [] text a b s t = absurd (not_nil text u l s t)
 one_spelling (Integer y ∷ l) (Integer z ∷ m) text a b s t =
     let r = one_run s.0 s.1 t.0 t.1 s.3.1 t.3.1 (no_digit_behind l s.1 y a.1 a.2 s.4) (no_digit_behind m t.1 z b.1 b.2 t.4) (sym s.2 ∙ t.2) in
     let i : l ≡ m = one_spelling l m t.1 a.2 b.2 (subst (λ (x : List ℕ). Spells x l) r.1 s.4) t.4 in
-    let n : y ≡ z = s.3.2 ∙ ap (λ (x : List ℕ). pos (value x)) r.0 ∙ sym t.3.2 in
-    cc
+    let n : y ≡ z = s.3.2 ∙ ap (λ (x : List ℕ). pos (value x)) r.0 ∙ sym t.3.2 in cc
 one_spelling (Integer y ∷ l) (P c ∷ m) text a b s t = absurd (no_number text y l c m s t b.0.1)
 one_spelling (P b' ∷ l) (Integer z ∷ m) text a b s t = absurd (no_number text z m b' l t s a.0.1)
 one_spelling (P b' ∷ l) (P c ∷ m) text a b s t =
     let e : b' ∷ s.1 ≡ c ∷ t.1 = sym (s.2 ∙ ap (λ (x : List ℕ). x ++ s.1) s.3) ∙ t.2 ∙ ap (λ (x : List ℕ). x ++ t.1) t.3 in
-    let first : b' ≡ c = cc in
     let others : s.1 ≡ t.1 = cc in
-    let i : l ≡ m = one_spelling l m t.1 a.2 b.2 (subst (λ (x : List ℕ). Spells x l) others s.4) t.4 in
-    cc
+    let i : l ≡ m = one_spelling l m t.1 a.2 b.2 (subst (λ (x : List ℕ). Spells x l) others s.4) t.4 in cc
 
 pub record SameCut (a b x y : List ℕ) (f g : ℕ) : Type 0 where
   pub bodies : a ≡ b
@@ -65,19 +58,12 @@ one_cut [] [] x y f g h k i j e = record { bodies = refl; finals = cc; rests = c
 one_cut [] (c ∷ b) x y f g h k i j e = let same : f ≡ c = cc in absurd (omega (arith, i, k.0))
 one_cut (c ∷ a) [] x y f g h k i j e = let same : c ≡ g = cc in absurd (omega (arith, j, h.0))
 one_cut (c ∷ a) (d ∷ b) x y f g h k i j e =
-    let first : c ≡ d = cc in
-    let others : a ++ f ∷ x ≡ b ++ g ∷ y = cc in
-    let r = one_cut a b x y f g h.1 k.1 i j others in
-    record { bodies = let bodies = r.bodies in cc; finals = r.finals; rests = r.rests }
+    let r = one_cut a b x y f g h.1 k.1 i j cc in record { bodies = let bodies = r.bodies in cc; finals = r.finals; rests = r.rests }
 
 pub one_seq : (a b x y : List ℕ) (l m : List CsiParam) (f g : ℕ) → Seq a l f → Seq b m g → a ++ x ≡ b ++ y → (a ≡ b) × (l ≡ m) × (f ≡ g) × (x ≡ y)
 one_seq a b x y l m f g s t e =
     let e1 : 27 ∷ 91 ∷ ((s.body ++ f ∷ []) ++ x) ≡ 27 ∷ 91 ∷ ((t.body ++ g ∷ []) ++ y) = sym (ap (λ (z : List ℕ). z ++ x) s.whole) ∙ e ∙ ap (λ (z : List ℕ). z ++ y) t.whole in
-    let e2 : (s.body ++ f ∷ []) ++ x ≡ (t.body ++ g ∷ []) ++ y = cc in
-    let e3 : s.body ++ f ∷ x ≡ t.body ++ g ∷ y = sym (append_assoc s.body (f ∷ []) x) ∙ e2 ∙ append_assoc t.body (g ∷ []) y in
-    let cut = one_cut s.body t.body x y f g (IsBody-from_spelling s.body l s.spellable s.spelled).bytes (IsBody-from_spelling t.body m t.spellable t.spelled).bytes s.ends t.ends e3 in
+    let e2 : s.body ++ f ∷ x ≡ t.body ++ g ∷ y = sym (append_assoc s.body (f ∷ []) x) ∙ (cc) ∙ append_assoc t.body (g ∷ []) y in
+    let cut = one_cut s.body t.body x y f g (IsBody-from_spelling s.body l s.spellable s.spelled).bytes (IsBody-from_spelling t.body m t.spellable t.spelled).bytes s.ends t.ends e2 in
     let lists : l ≡ m = one_spelling l m t.body s.spellable t.spellable (subst (λ (z : List ℕ). Spells z l) cut.bodies s.spelled) t.spelled in
-    let bodies = cut.bodies in
-    let finals = cut.finals in
-    let whole : 27 ∷ 91 ∷ (s.body ++ f ∷ []) ≡ 27 ∷ 91 ∷ (t.body ++ g ∷ []) = cc in
-    (s.whole ∙ whole ∙ sym t.whole, lists, finals, cut.rests)
+    (s.whole ∙ rw (cut.bodies, cut.finals) (sym t.whole), lists, cut.finals, cut.rests)

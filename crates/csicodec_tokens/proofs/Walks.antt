@@ -2,8 +2,8 @@
 use Rattle.std.proofs.Common.{true, false, Option, Some, None, MatchOption, ◌≡◌, ℕ, zero, suc, ◌+◌, ◌-◌, ◌*◌, ◌<◌, ◌≤◌, List, []}
 use Rattle.std.proofs.Common.{◌∷◌, ◌++◌, length, take, drop, get_or, refl, sym, ap, subst, ◌∙◌, inl, inr, append_assoc, arith}
 use Rattle.std.specs.List.{AllByRecursion, prefix_len}
-use Rattle.std.proofs.lemmas.Bool.{cases_lt}
 use Rattle.std.proofs.lemmas.Bool.Decides.{nat_tests}
+use Rattle.std.proofs.Math.Seq.{drop-cons}
 use Rattle.std.proofs.lemmas.List.{append-nil, get_or-take, length-take-le, take-append-drop, take_more}
 use Rattle.std.proofs.lemmas.List.Elements.{All-from_get_or, recursion_from_All}
 use Rattle.std.proofs.lemmas.List.Sums.{prefix_len-le-length, prefix_len_passes, prefix_len_stops}
@@ -12,7 +12,7 @@ use Rattle.csicodec_tokens.specs.Sequence.{IsBodyByte}
 use Rattle.csicodec_tokens.specs.Fault.{IsBody}
 use Rattle.csicodec_tokens.specs.Body.{EndsIn, Adds, Stops, IsStopped}
 use Rattle.csicodec_tokens.specs.Private.Walking.{body_byte, IsWalked}
-use Rattle.csicodec_tokens.proofs.Runs.{value_push, AreDigits-push, All-back, All-front, Ends, Ends-none, Ends-digit, Ends-other}
+use Rattle.csicodec_tokens.proofs.Runs.{digit_or_other, value_push, AreDigits-push, All-back, All-front, Ends, Ends-none, Ends-digit, Ends-other}
 
 ends : (body : List ℕ) (n : ℕ) → EndsIn body n → Ends body n
 ends body n e = record { body = e.is; bound = e.most }
@@ -121,18 +121,13 @@ few_on (b ∷ front) body n j e le few all =
     let whole = append_assoc body (b ∷ []) front in
     let on : (m : ℕ) → Ends (body ++ b ∷ []) m → m ≤ most (suc j) → (k : ℕ) × Ends (body ++ b ∷ front) k =
     λ m more fits. subst (λ (t : List ℕ). (k : ℕ) × Ends t k) whole (few_on front (body ++ b ∷ []) m (suc j) more fits (omega (arith, few)) all.1) in
-    let other : ¬ IsDigit b → (k : ℕ) × Ends (body ++ b ∷ front) k = λ no. on 0 (Ends-other body n b e all.0 no) (omega arith) in
-    elim (cases_lt b 48) [
-      | inl below ↦ other (λ d. omega (arith, d.0, below))
-      | inr ge ↦ elim (cases_lt 57 b) [
-        | inl above ↦ other (λ d. omega (arith, d.1, above))
-        | inr under ↦
-            let next : most (suc j) ≡ 10 * most j + 9 = refl in
-            let fits : 10 * n + (b - 48) ≤ most (suc j) = omega (arith, le, ge, under, next) in
-            let bound : most (suc j) ≤ most 16 = most_grows (suc j) 16 (omega (arith, few)) in
-            let all : most 16 ≡ 9999999999999999 = refl in
-            on (10 * n + (b - 48)) (Ends-digit body n b e (ge, under) (omega (arith, fits, bound, all))) fits
-      ]
+    elim (digit_or_other b) [
+      | inr other ↦ on 0 (Ends-other body n b e all.0 other) (omega arith)
+      | inl digit ↦
+          let next : most (suc j) ≡ 10 * most j + 9 = refl in
+          let fits : 10 * n + (b - 48) ≤ most (suc j) = omega (arith, le, digit.0, digit.1, next) in
+          let all : most 16 ≡ 9999999999999999 = refl in
+          on (10 * n + (b - 48)) (Ends-digit body n b e digit (omega (arith, fits, most_grows (suc j) 16 (omega (arith, few)), all))) fits
     ]
 
 in_body : (b : ℕ) → body_byte b ≡ true → IsBodyByte b
@@ -140,11 +135,6 @@ in_body b is = (grind (arith, nat_tests, is), grind (arith, nat_tests, is))
 
 no_in_body : (b : ℕ) → body_byte b ≡ false → ¬ IsBodyByte b
 no_in_body b is p = grind (arith, nat_tests, is, p)
-
-cut_at : (n : ℕ) (xs : List ℕ) → n < length xs → drop n xs ≡ get_or xs n 0 ∷ drop (suc n) xs
-cut_at n [] lt = absurd (omega (arith, lt))
-cut_at zero (x ∷ xs) lt = refl
-cut_at (suc n) (x ∷ xs) lt = cut_at n xs (omega (arith, lt))
 
 module _ (bytes : List ℕ) (r : ℕ) (room : 16 ≤ length bytes) (found : r ≡ prefix_len body_byte (take 16 bytes)) where
   pub front_few : r ≤ 16
@@ -174,7 +164,7 @@ module _ (bytes : List ℕ) (r : ℕ) (room : 16 ≤ length bytes) (found : r �
         byte = b;
         others = drop (suc r) bytes;
         parts = sym (take-append-drop r bytes);
-        front = cut_at r bytes (omega (arith, lt, room));
+        front = drop-cons bytes r 0 (omega (arith, lt, room));
         on = λ body at. (few_on front body 0 0 (ends body 0 at) (omega arith) (omega (arith, few, front_few)) (front_is r (omega arith))).1.body;
         stops = record { none = λ body at is. stop_is lt (All-back IsBodyByte front (b ∷ []) (All-back IsBodyByte body (front ++ b ∷ []) is.bytes)).0 };
       }

@@ -11,8 +11,5 @@ returns-in-32-to-47 c = other_step c.args.byte c.args.number (omega arith, omega
 pub returns-in-58-to-63 : goal.returns-in-58-to-63
 returns-in-58-to-63 c = other_step c.args.byte c.args.number (omega arith, omega arith) (λ d. omega (arith, d.1))
 
-pub returns-in-0-to-31 : goal.returns-in-0-to-31
-returns-in-0-to-31 c = stop_step c.args.byte c.args.number (λ p. omega (arith, p.0))
-
 pub returns-in-64-to-255 : goal.returns-in-64-to-255
 returns-in-64-to-255 c = stop_step c.args.byte c.args.number (λ p. omega (arith, p.1))

@@ -3,21 +3,9 @@ use Rattle.std.proofs.lemmas.List.{length-append}
 use Rattle.std.proofs.lemmas.Result.{err_from_is_err_and}
 use Rattle.csicodec_tokens.specs.declared.param.CsiParam.TheVariants.{P}
 use Rattle.csicodec_tokens.specs.Private.Reading.{IsPart, HasRead}
-use Rattle.csicodec_tokens.proofs.Tokens.{others_shorter}
+use Rattle.csicodec_tokens.proofs.Spelled.{others_shorter}
 use Rattle.csicodec_tokens.proofs.Reading.{read_none, read_more, read_all, fault_refuses}
 use Rattle.csicodec_tokens.proofs.reader.fill.Goals as goal
-
-pub loop-token-init : goal.loop-token-init
-loop-token-init c = record {
-  within = omega (arith, ap length c.in_ok-rest.ensures);
-  kept = omega (arith, c.clear.ensures.capacity);
-  read = rw c.clear.ensures.items (read_none c.args.bytes.now c.in_ok-rest.rest.now c.in_ok-rest.ensures);
-}
-
-pub returns-in_err-rest-clause-read : goal.returns-in_err-rest-clause-read
-returns-in_err-rest-clause-read c =
-    let p = err_from_is_err_and c.from_residual.result c.from_residual.ensures.1 in
-    rw (p.1, p.2) (fault_refuses _ _ _ c.in_err-rest.ensures)
 
 pub returns-in_err-token-clause-read : goal.returns-in_err-token-clause-read
 returns-in_err-token-clause-read c =

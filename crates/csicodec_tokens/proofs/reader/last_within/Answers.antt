@@ -2,12 +2,9 @@ use Rattle.std.proofs.Common.{◌≡◌, ◌<◌, ◌∷◌, [], length, take, s
 use Rattle.std.proofs.lemmas.List.{length-append, length-set, length-take-le, take_more_set}
 use Rattle.std.proofs.lemmas.Result.{err_from_is_err_and}
 use Rattle.csicodec_tokens.specs.Private.Reading.{IsPart}
-use Rattle.csicodec_tokens.proofs.Tokens.{others_shorter}
+use Rattle.csicodec_tokens.proofs.Spelled.{others_shorter}
 use Rattle.csicodec_tokens.proofs.Reading.{read_more, read_all, fault_refuses}
 use Rattle.csicodec_tokens.proofs.reader.last_within.Goals as goal
-
-pub loop-token-init : goal.loop-token-init
-loop-token-init c = record { within = c.requires.within; fits = c.requires.fits; read = c.requires.read }
 
 pub returns-in_err-token-clause-refused : goal.returns-in_err-token-clause-refused
 returns-in_err-token-clause-refused c =

@@ -52,12 +52,10 @@ fault_more bytes more (BadByte place) n at f =
     (none_more bytes more place f.1.0 f.0, (least_more bytes more place f.1.0, f.1.1, subst IsBad (sym (byte_more bytes more place f.1.0)) f.1.2))
 fault_more bytes more (NumberTooLarge place) n at f =
     (none_more bytes more place f.1.0 f.0, (least_more bytes more place f.1.0, f.1.1, λ bad. f.1.2 (subst IsBad (byte_more bytes more place f.1.0) bad)))
-fault_more bytes more (Truncated place) n at f = absurd at
-fault_more bytes more Memory n at f = absurd at
+fault_more bytes more _ n at f = absurd at
 
 -- its place is within the bytes
 pub fault_within : (bytes : List ℕ) (e : ReadError) (n : ℕ) → IsMetAt e n → FaultOf bytes e → n < length bytes
-fault_within bytes (NotCsi place) n at f = omega (arith, f.1.0.within, at)
 fault_within bytes (Truncated place) n at f = absurd at
 fault_within bytes Memory n at f = absurd at
 fault_within bytes _ n at f = omega (arith, f.1.0.within, at)

@@ -10,7 +10,7 @@ use Rattle.csicodec_tokens.specs.Digits.{IsDigit, AreDigits, value, largest}
 use Rattle.csicodec_tokens.specs.Sequence.{IsFinal, SpellsToken, Spells, IsSpellable, Spellable, Reads}
 use Rattle.csicodec_tokens.specs.Fault.{IsBody, IsBad, FaultOf, Refuses}
 use Rattle.csicodec_tokens.specs.Private.Reading.{IsRun, IsNumber, IsTooLarge, IsFirstToken, EndsWhole, HasRead}
-use Rattle.csicodec_tokens.proofs.Spelled.{bad_byte, large_number, cut_short, IsBody-from_spelling, Spells-push, Spellable-push, EndsWhole-push}
+use Rattle.csicodec_tokens.proofs.Spelled.{nonempty, bad_byte, large_number, cut_short, IsBody-from_spelling, Spells-push, Spellable-push, EndsWhole-push}
 use Rattle.csicodec_tokens.proofs.Runs.{value_push, AreDigits-push}
 use Rattle.csicodec_tokens.proofs.Unique.{one_seq}
 
@@ -49,6 +49,10 @@ first_number first text number others d n =
     }
 
 -- ---- what has been read, token by token
+
+pub others_shorter : (text : List ℕ) (token : CsiParam) (others : List ℕ) → IsFirstToken text token others → length others < length text
+others_shorter text token others f =
+    omega (arith, nonempty f.front token f.spelled, ap length f.parts, length-append f.front others)
 
 pub read_none : (bytes rest : List ℕ) → bytes ≡ 27 ∷ 91 ∷ rest → HasRead bytes [] rest
 read_none bytes rest e = record { body = []; parts = e; spelled = refl; spellable = tt; whole = tt }
@@ -123,7 +127,6 @@ fault_at_end bytes (b ∷ rest) list h lt = absurd (omega arith)
 -- ---- what is answered
 
 pub fault_refuses : (bytes : List ℕ) (room : ℕ) (e : ReadError) → FaultOf bytes e → Refuses bytes room e
-fault_refuses bytes room (NotCsi p) f = f
 fault_refuses bytes room Memory f = absurd f.1
 fault_refuses bytes room _ f = f
 
@@ -134,7 +137,6 @@ one_reading bytes rest others list read final control s r =
 
 pub refused_for_memory : (bytes rest : List ℕ) (list : List CsiParam) (final room : ℕ) (e : ReadError) → Reads bytes list final rest → Refuses bytes room e
     → (e ≡ Memory) × (room < length list)
-refused_for_memory bytes rest list final room (NotCsi p) s r = absurd (r.0 list final rest s)
 refused_for_memory bytes rest list final room Memory s r =
     let same = one_reading bytes rest r.2 list r.0 final r.1 s r.3 in
     (refl, subst (λ (l : List CsiParam). room < length l) same.0 r.4)

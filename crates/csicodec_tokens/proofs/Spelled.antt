@@ -24,10 +24,6 @@ pub nonempty : (front : List ℕ) (token : CsiParam) → SpellsToken front token
 nonempty front (Integer z) s = s.0
 nonempty front (P b) s = omega (arith, ap length s)
 
-pub others_shorter : (text : List ℕ) (token : CsiParam) (others : List ℕ) → IsFirstToken text token others → length others < length text
-others_shorter text token others f =
-    omega (arith, nonempty f.front token f.spelled, ap length f.parts, length-append f.front others)
-
 -- ---- one token more
 
 pub Spells-push : (text : List ℕ) (list : List CsiParam) (front : List ℕ) (token : CsiParam) → Spells text list → SpellsToken front token → Spells (text ++ front) (list ++ token ∷ [])

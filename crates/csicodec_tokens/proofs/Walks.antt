@@ -47,9 +47,6 @@ too_large body n d e p large is =
     ap (λ (t : List ℕ). t ++ d ∷ []) e.parts ∙ append_assoc e.before e.run (d ∷ []) ∙ ap (λ (t : List ℕ). e.before ++ t) (sym (append-nil longer)) in
     omega (arith, large, e.total, value_push 0 e.run d, is.runs e.before longer [] parts (AreDigits-push e.run d e.digits p))
 
-no_body : (body : List ℕ) (b : ℕ) → ¬ IsBodyByte b → IsBody (body ++ b ∷ []) → ⊥
-no_body body b other is = other (All-back IsBodyByte body (b ∷ []) is.bytes).0
-
 pub digit_step : (r : Option ℕ) (n d : ℕ) → IsDigit d → MatchOption r (largest < 10 * n + (d - 48)) (λ m. (m ≡ 10 * n + (d - 48)) × (m ≤ largest)) → MatchOption r (Stops n (d ∷ [])) (Adds n (d ∷ []))
 digit_step None n d p h = record { none = λ body e is. too_large body n d e p h is }
 digit_step (Some m) n d p h = record { on = λ body e. digit_on body n d m e p h.0 h.1 }
@@ -58,10 +55,7 @@ pub other_step : (b n : ℕ) → IsBodyByte b → ¬ IsDigit b → Adds n (b ∷
 other_step b n p other = record { on = λ body e. other_on body n b (ends body n e) p other }
 
 pub stop_step : (b n : ℕ) → ¬ IsBodyByte b → Stops n (b ∷ [])
-stop_step b n other = record { none = λ body e is. no_body body b other is }
-
-pub walked_byte : (n b m : ℕ) (bytes others : List ℕ) → bytes ≡ b ∷ others → Adds n (b ∷ []) m → IsWalked n bytes m others
-walked_byte n b m bytes others e a = record { done = b ∷ []; parts = e; adds = a }
+stop_step b n other = record { none = λ body e is. other (All-back IsBodyByte body (b ∷ []) is.bytes).0 }
 
 pub stopped_byte : (n b : ℕ) (bytes others : List ℕ) → bytes ≡ b ∷ others → Stops n (b ∷ []) → IsStopped n bytes bytes
 stopped_byte n b bytes others e s = record { done = []; byte = b; others = others; parts = refl; front = e; on = λ body at. rw (append-nil body) at.is; stops = s }

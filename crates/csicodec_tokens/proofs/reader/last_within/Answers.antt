@@ -2,8 +2,7 @@ use Rattle.std.proofs.Common.{◌≡◌, ◌<◌, ◌∷◌, [], length, take, s
 use Rattle.std.proofs.lemmas.List.{length-append, length-set, length-take-le, take_more_set}
 use Rattle.std.proofs.lemmas.Result.{err_from_is_err_and}
 use Rattle.csicodec_tokens.specs.Private.Reading.{IsPart}
-use Rattle.csicodec_tokens.proofs.Spelled.{others_shorter}
-use Rattle.csicodec_tokens.proofs.Reading.{read_more, read_all, fault_refuses}
+use Rattle.csicodec_tokens.proofs.Reading.{others_shorter, read_more, read_all, fault_refuses}
 use Rattle.csicodec_tokens.proofs.reader.last_within.Goals as goal
 
 pub returns-in_err-token-clause-refused : goal.returns-in_err-token-clause-refused

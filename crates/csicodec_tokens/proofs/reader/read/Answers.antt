@@ -1,4 +1,4 @@
-use Rattle.std.proofs.Common.{◌≡◌, ℕ, zero, suc, ◌<◌, length, refl, ◌∙◌, arith}
+use Rattle.std.proofs.Common.{◌≢◌, length, ◌∙◌, arith}
 use Rattle.std.proofs.lemmas.Bool.{false≢true}
 use Rattle.std.proofs.lemmas.Result.{err_from_is_err_and}
 use Rattle.csicodec_tokens.proofs.Reading.{read_none, fault_refuses}
@@ -14,8 +14,5 @@ pub returns-in_err-params : goal.returns-in_err-params
 returns-in_err-params c =
     let p = err_from_is_err_and c.from_residual-in_err-params.result c.from_residual-in_err-params.ensures.1 in
     let all = c.in_ok-tokens.ensures _ (read_none c.args.bytes.now c.in_ok-behind_introducer.field-0.now c.in_ok-behind_introducer.ensures) in
-    rw (p.1, p.2) (all.more, all.final, all.rest, all.reads, some (length all.more) (λ none. false≢true (c.in_err-params.ensures.succeeds (all.counted ∙ none))))
-  where
-    some : (n : ℕ) → (n ≡ 0 → ⊥) → 0 < n
-    some zero none = absurd (none refl)
-    some (suc n) none = omega arith
+    let some : length all.more ≢ 0 = λ none. false≢true (c.in_err-params.ensures.succeeds (all.counted ∙ none)) in
+    rw (p.1, p.2) (all.more, all.final, all.rest, all.reads, omega (arith, some))

@@ -2,8 +2,7 @@ use Rattle.std.proofs.Common.{◌++◌, ◌∷◌, [], append_assoc, subst, arit
 use Rattle.std.proofs.lemmas.List.{length-append}
 use Rattle.std.proofs.lemmas.Result.{err_from_is_err_and}
 use Rattle.csicodec_tokens.specs.Private.Reading.{IsPart}
-use Rattle.csicodec_tokens.proofs.Spelled.{others_shorter}
-use Rattle.csicodec_tokens.proofs.Reading.{read_more, read_all}
+use Rattle.csicodec_tokens.proofs.Reading.{others_shorter, read_more, read_all}
 use Rattle.csicodec_tokens.proofs.reader.tokens_from.Goals as goal
 
 pub returns-in_err-others : goal.returns-in_err-others

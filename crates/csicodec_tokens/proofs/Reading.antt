@@ -5,7 +5,7 @@ use Rattle.std.proofs.lemmas.List.{append-nil, length-append, take_all}
 use Rattle.csicodec_tokens.specs.declared.param.CsiParam.{CsiParam}
 use Rattle.csicodec_tokens.specs.declared.param.CsiParam.TheVariants.{Integer}
 use Rattle.csicodec_tokens.specs.declared.reader.ReadError.{ReadError}
-use Rattle.csicodec_tokens.specs.declared.reader.ReadError.TheVariants.{NotCsi, BadByte, NumberTooLarge, Truncated, Memory}
+use Rattle.csicodec_tokens.specs.declared.reader.ReadError.TheVariants.{BadByte, NumberTooLarge, Truncated, Memory}
 use Rattle.csicodec_tokens.specs.Digits.{IsDigit, AreDigits, value, largest}
 use Rattle.csicodec_tokens.specs.Sequence.{IsFinal, SpellsToken, Spells, IsSpellable, Spellable, Reads}
 use Rattle.csicodec_tokens.specs.Fault.{IsBody, IsBad, FaultOf, Refuses}

@@ -5,7 +5,7 @@ use Rattle.csicodec_tokens.specs.declared.param.CsiParam.{CsiParam}
 use Rattle.csicodec_tokens.specs.declared.param.CsiParam.TheVariants.{Integer, P}
 use Rattle.csicodec_tokens.specs.Digits.{AreDigits, value_after, value, largest, IsDigit}
 use Rattle.csicodec_tokens.specs.Sequence.{SpellsToken, Spells, IsSpellable, Apart, Spellable, IsBodyByte, IsFinal, Seq}
-use Rattle.csicodec_tokens.specs.Private.Reading.{BeginsWithDigit, IsWhole, IsFirstToken, EndsWhole}
+use Rattle.csicodec_tokens.specs.Private.Reading.{BeginsWithDigit, IsWhole, EndsWhole}
 use Rattle.std.proofs.lemmas.Int.{ints}
 use Rattle.csicodec_tokens.specs.Fault.{IsBody, Begins, NoSeq, IsLeast, IsBad, FaultOf}
 use Rattle.csicodec_tokens.proofs.Runs.{value_grows, Ends, Ends-none, Ends-digit, Ends-other, All-back, AreDigits-push, IsBody-front}

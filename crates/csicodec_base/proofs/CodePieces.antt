@@ -1,21 +1,28 @@
--- The pieces by their first token.
-use Rattle.std.proofs.Common.{ℕ, ◌≡◌, ◌<◌, ◌≤◌, ◌+◌, List, [], ◌∷◌, Bool, true, false, refl, ◌∙◌, ap, arith, length, Some, None, subst, inl, inr, get_or, drop, ◌≢◌}
+-- The pieces by their first token, the shapes of colours, and the texts made ready for the codes that stand alone.
+use Rattle.std.proofs.Common.{ℕ, ◌≡◌, ◌<◌, ◌≤◌, ◌+◌, List, [], ◌∷◌, Bool, true, false, refl, ◌∙◌, ap, arith, length, Some, None, subst, inl, inr, get_or, drop, ◌≢◌, zero, suc, leb, take, sym, pos}
 use Rattle.std.specs.Prelude.{ℤ, Option, ◌==◌, map, pos, negsuc, if◌then◌else◌, option_and_then, is_some}
 use Rattle.std.specs.List.{list_all}
-use Rattle.std.proofs.lemmas.Bool.{cases_Bool, and_parts, eqb-true}
+use Rattle.std.proofs.lemmas.Bool.{cases_Bool, and_parts, eqb-true, leb-true}
 use Rattle.csicodec_tokens.specs.declared.param.CsiParam.{CsiParam}
 use Rattle.csicodec_tokens.specs.declared.param.CsiParam.TheVariants.{Integer, P}
 use Rattle.csicodec_names.specs.declared.codes.SgrCode.{SgrCode}
-use Rattle.csicodec_names.specs.declared.codes.SgrCode.TheVariants as code
 use Rattle.csicodec_base.specs.declared.sgr.Sgr.{Sgr}
 use Rattle.csicodec_names.specs.declared.color.ColorSpec.{ColorSpec}
-use Rattle.csicodec_base.specs.declared.sgr.Sgr.TheVariants as sgr
 use Rattle.csicodec_names.specs.Numbers.{all_codes, number_of}
 use Rattle.csicodec_base.specs.Attributes.{action_of}
-use Rattle.csicodec_base.specs.Shapes.{Slot, Number, Byte, AnyNumber, Any, Row, Color, Plane, Front, Back, Line, painted, sgr_rows, color_shapes, underline_rows, begins_with, taken, color_of_tokens}
+use Rattle.csicodec_base.specs.Shapes.{Slot, Number, Byte, AnyNumber, Any, Row, Color, Plane, Front, Back, Line, painted, sgr_rows, color_shapes, underline_rows, begins_with, taken, color_of_tokens, rgba_shapes, rgb_shapes}
 use Rattle.csicodec_base.specs.FrontBy.{front_by, color_by, piece}
 use Rattle.csicodec_names.specs.Numbered.{with_number}
 use Rattle.csicodec_names.proofs.Coded.{listed-number}
+use Rattle.std.specs.Fmt.{digits}
+use Rattle.csicodec_base.specs.Entries.{blank}
+use Rattle.csicodec_base.specs.declared.entries.Entry.{Entry}
+use Rattle.csicodec_base.specs.declared.entries.TheConstants.{ENTRIES}
+use Rattle.csicodec_base.specs.Pieces.{IsFront}
+use Rattle.csicodec_base.specs.SgrText.{sgr_text}
+use Rattle.csicodec_base.proofs.Table.{is_front}
+use Rattle.csicodec_names.specs.declared.codes.SgrCode.TheVariants as code
+use Rattle.csicodec_base.specs.declared.sgr.Sgr.TheVariants as sgr
 
 abbrev pub paint : Plane → Option (ColorSpec × ℕ) → Option (Sgr × ℕ)
 paint plane None = None
@@ -71,7 +78,6 @@ OneToken c after (Some s) = piece (Integer (pos (number_of c)) ∷ after) ≡ So
 -- each code; those that further tokens follow first
 one_token_by : (c : SgrCode) (after : List CsiParam) → OneToken c after (action_of c)
 unfolding piece
-one_token_by code.Reset after = refl
 one_token_by code.UnderlineOn after = tt
 one_token_by code.ForegroundColor after = tt
 one_token_by code.BackgroundColor after = tt
@@ -85,7 +91,6 @@ one_token_front c after s e = subst (OneToken c after) e (one_token_by c after)
 abbrev codes_head : List Slot → Bool
 codes_head (Number n ∷ ss) = is_some (with_number number_of all_codes (pos n))
 codes_head (Byte b ∷ ss) = b == 59
-codes_head (AnyNumber ∷ ss) = false
 codes_head _ = false
 
 all-heads : list_all (λ (r : Row). codes_head r.shape) sgr_rows ≡ true
@@ -96,15 +101,13 @@ coded-number z None e h no_code = cc
 coded-number z (Some c) e h no_code = no_code c (listed-number number_of all_codes z c e)
 
 unknown-row : (shape : List Slot) (z : ℤ) (after : List CsiParam) → codes_head shape ≡ true → ((c : SgrCode) → z ≢ pos (number_of c)) → begins_with shape (Integer z ∷ after) ≡ false
-unknown-row [] z after h no_code = cc
 unknown-row (Number n ∷ ss) (negsuc m) after h no_code = refl
 unknown-row (Number n ∷ ss) (pos m) after h no_code = elim (cases_Bool (m == n)) [
   | inl same ↦ (let e : m ≡ n = eqb-true _ _ same in absurd (coded-number (pos n) (with_number number_of all_codes (pos n)) refl h (λ c f. no_code c (ap pos e ∙ f))))
   | inr other ↦ rw other refl
 ]
 unknown-row (Byte b ∷ ss) z after h no_code = refl
-unknown-row (AnyNumber ∷ ss) z after h no_code = cc
-unknown-row (Any ∷ ss) z after h no_code = cc
+unknown-row _ z after h no_code = cc
 
 unknown-rows : (rows : List Row) (z : ℤ) (after : List CsiParam) →
     list_all (λ (r : Row). codes_head r.shape) rows ≡ true →
@@ -121,7 +124,6 @@ unknown_number z after no_code = unknown-rows sgr_rows z after all-heads no_code
 other-byte-row : (shape : List Slot) (b : ℕ) (after : List CsiParam) → codes_head shape ≡ true → (b == 59) ≡ false → begins_with shape (P b ∷ after) ≡ false
 other-byte-row (Number n ∷ ss) b after h o = refl
 other-byte-row (Byte d ∷ ss) b after h o = let e : d ≡ 59 = eqb-true _ _ h in rw (e, o) refl
-other-byte-row (AnyNumber ∷ ss) b after h o = cc
 other-byte-row _ b after h o = cc
 
 other-byte-rows : (rows : List Row) (b : ℕ) (after : List CsiParam) → list_all (λ (r : Row). codes_head r.shape) rows ≡ true → (b == 59) ≡ false → front_by 0 rows (P b ∷ after) ≡ None
@@ -134,31 +136,66 @@ pub other_byte : (b : ℕ) (after : List CsiParam) → (b == 59) ≡ false → p
 unfolding piece
 other_byte b after o = other-byte-rows sgr_rows b after all-heads o
 
-pub empty_front : piece [] ≡ None
-unfolding piece
-empty_front = refl
-
 pub semicolon_front : (after : List CsiParam) → piece (P 59 ∷ after) ≡ Some (sgr.Reset, 1)
 unfolding piece
 semicolon_front after = refl
 
--- the same, where the first token is known by its place
 pub at_end : (rest : List CsiParam) → length rest < 1 → piece rest ≡ None
-at_end [] l = empty_front
+unfolding piece
+at_end [] l = refl
 at_end (t ∷ ts) l = absurd (omega arith)
 
-pub at_semicolon : (rest : List CsiParam) (d : CsiParam) → 1 ≤ length rest → get_or rest 0 d ≡ P 59 → piece rest ≡ Some (sgr.Reset, 1)
-at_semicolon [] d l e = absurd (omega arith)
-at_semicolon (t ∷ ts) d l e = rw e (semicolon_front ts)
+-- where the first token is known by its place
+pub at_first : (rest : List CsiParam) (d t : CsiParam) (answer : Option (Sgr × ℕ)) → 1 ≤ length rest → get_or rest 0 d ≡ t → piece (t ∷ drop 1 rest) ≡ answer → piece rest ≡ answer
+at_first [] d t answer l e h = absurd (omega arith)
+at_first (u ∷ us) d t answer l e h = rw e h
 
-pub at_other_byte : (rest : List CsiParam) (d : CsiParam) (b : ℕ) → 1 ≤ length rest → get_or rest 0 d ≡ P b → (b == 59) ≡ false → piece rest ≡ None
-at_other_byte [] d b l e o = absurd (omega arith)
-at_other_byte (t ∷ ts) d b l e o = rw e (other_byte b ts o)
+pub behind_six : (after parts : List CsiParam) (d : CsiParam) → parts ≡ drop 3 after → 3 ≤ length after → get_or after 0 d ≡ P 58 → get_or after 1 d ≡ Integer (pos 6) → get_or after 2 d ≡ P 58
+    → color_by 1 color_shapes after ≡ color_by 4 rgba_shapes parts
+behind_six (x ∷ y ∷ []) parts d p l a b c = absurd (omega arith)
+behind_six (x ∷ y ∷ z ∷ rest) parts d p l a b c = rw (p, a, b, c) refl
+behind_six _ parts d p l a b c = absurd (omega arith)
 
-pub at_number : (rest after : List CsiParam) (d : CsiParam) (z : ℤ) → after ≡ drop 1 rest → 1 ≤ length rest → get_or rest 0 d ≡ Integer z → piece rest ≡ piece (Integer z ∷ after)
-at_number [] after d z a l e = absurd (omega arith)
-at_number (t ∷ ts) after d z a l e = rw (e, a) refl
+pub behind_two : (after parts : List CsiParam) (d : CsiParam) → parts ≡ drop 3 after → 3 ≤ length after → get_or after 0 d ≡ P 58 → get_or after 1 d ≡ Integer (pos 2) → get_or after 2 d ≡ P 58
+    → color_by 1 color_shapes after ≡ color_by 4 rgb_shapes parts
+behind_two (x ∷ y ∷ []) parts d p l a b c = absurd (omega arith)
+behind_two (x ∷ y ∷ z ∷ rest) parts d p l a b c = rw (p, a, b, c) refl
+behind_two _ parts d p l a b c = absurd (omega arith)
 
-pub at_unknown_number : (rest : List CsiParam) (d : CsiParam) (z : ℤ) → 1 ≤ length rest → get_or rest 0 d ≡ Integer z → ((c : SgrCode) → z ≢ pos (number_of c)) → piece rest ≡ None
-at_unknown_number [] d z l e no_code = absurd (omega arith)
-at_unknown_number (t ∷ ts) d z l e no_code = rw e (unknown_number z ts no_code)
+-- the text at the place of a code, and none for one that doesn't stand alone
+abbrev Ready : SgrCode → Option Sgr → Type 0
+Ready c None = (get_or ENTRIES (number_of c) blank).len ≡ 0
+Ready c (Some s) = take ((get_or ENTRIES (number_of c) blank).len) ((get_or ENTRIES (number_of c) blank).text) ≡ 27 ∷ 91 ∷ sgr_text s
+
+-- each code
+ready : (c : SgrCode) → Ready c (action_of c)
+unfolding digits
+ready code.Reset = refl
+ready _ = refl
+
+-- what is ready at the place of a code
+abbrev pub IsReady : ℤ → List ℕ → Type 0
+IsReady number text = (s : Sgr) × ((after : List CsiParam) → IsFront (Integer number ∷ after) (Some (s, 1))) × (text ≡ 27 ∷ 91 ∷ sgr_text s)
+
+pub is_ready : (c : SgrCode) (number : ℤ) (place len : ℕ) (text : List ℕ) →
+    number ≡ pos (number_of c) → place ≡ number_of c → len ≡ (get_or ENTRIES place blank).len →
+    text ≡ (get_or ENTRIES place blank).text → 0 < len
+    → IsReady number (take len text)
+is_ready c number place len text same at l t some = go (action_of c) refl
+  where
+    go : (o : Option Sgr) → action_of c ≡ o → IsReady number (take len text)
+    go None e =
+        let none : (get_or ENTRIES (number_of c) blank).len ≡ 0 = (rw e at (ready c)) in
+        absurd (omega (arith, some, l, ap (λ (n : ℕ). (get_or ENTRIES n blank).len) at, none))
+    go (Some s) e =
+        let is : take ((get_or ENTRIES (number_of c) blank).len) ((get_or ENTRIES (number_of c) blank).text) ≡ 27 ∷ 91 ∷ sgr_text s = (rw e at (ready c)) in
+        (s, λ after. rw same (is_front (Integer (pos (number_of c)) ∷ after) (Some (s, 1)) (sym (one_token_front c after s e))), rw (l, t, at) is)
+
+short_within : (rows : List Entry) → list_all (λ (r : Entry). leb r.len 8) rows ≡ true → (place : ℕ) → (get_or rows place blank).len ≤ 8
+short_within [] e place = omega arith
+short_within (r ∷ rs) e zero = leb-true r.len 8 (and_parts (leb r.len 8) (list_all (λ (x : Entry). leb x.len 8) rs) e).0
+short_within (r ∷ rs) e (suc place) = short_within rs (and_parts (leb r.len 8) (list_all (λ (x : Entry). leb x.len 8) rs) e).1 place
+
+-- a text that is ready has a place of 8 bytes
+pub short : (place : ℕ) → (get_or ENTRIES place blank).len ≤ 8
+short place = short_within ENTRIES refl place

@@ -13,17 +13,12 @@ use Rattle.csicodec_base.proofs.Table.{meets, meets-fits, all-contains, fits-len
 
 -- some token fits both, a number where the first takes any
 abbrev shares : Slot → Slot → Bool
-shares (Number n) u = meets (Number n) u
-shares (Byte b) u = meets (Byte b) u
-shares AnyNumber u = meets AnyNumber u
-shares Any (Number n) = true
 shares Any (Byte b) = false
-shares Any _ = true
+shares s u = meets s u
 
 abbrev is_colon : List Slot → Bool
 is_colon [] = true
 is_colon (Byte b ∷ ss) = b == colon
-is_colon (Number n ∷ ss) = false
 is_colon _ = false
 
 -- a longer shape that can stand where the first stands goes on with `:`
@@ -43,10 +38,8 @@ sgr_goes_on = refl
 
 abbrev has_no_any : List Slot → Bool
 has_no_any [] = true
-has_no_any (Number n ∷ ss) = has_no_any ss
-has_no_any (Byte b ∷ ss) = has_no_any ss
-has_no_any (AnyNumber ∷ ss) = has_no_any ss
 has_no_any (Any ∷ ss) = false
+has_no_any (s ∷ ss) = has_no_any ss
 
 -- a row that always gives one attribute takes no token
 abbrev takes_none : Gives → List Slot → Bool
@@ -74,10 +67,8 @@ numbers-bytes (P b ∷ ts) bs e = cc
 none-taken : (ss : List Slot) (ts : List CsiParam) → has_no_any ss ≡ true → AllNumbers (taken ss ts)
 none-taken [] ts e = tt
 none-taken (s ∷ ss) [] e = tt
-none-taken (Number n ∷ ss) (t ∷ ts) e = none-taken ss ts e
-none-taken (Byte b ∷ ss) (t ∷ ts) e = none-taken ss ts e
-none-taken (AnyNumber ∷ ss) (t ∷ ts) e = none-taken ss ts e
 none-taken (Any ∷ ss) (t ∷ ts) e = cc
+none-taken (s ∷ ss) (t ∷ ts) e = none-taken ss ts e
 
 numbers-given : (gives : Gives) (shape : List Slot) (list : List CsiParam) (s : Sgr) → takes_none gives shape ≡ true → given gives (taken shape list) ≡ Some s → AllNumbers (taken shape list)
 numbers-given (Always x) shape list s plain e = none-taken shape list plain
@@ -99,13 +90,9 @@ first-number Any ss (P b) ts a = absurd a
 first-number _ ss _ ts a = (tt, a)
 
 shares-fits : (s u : Slot) (t : CsiParam) → fits_slot s t ≡ true → NumberIfAny s t → fits_slot u t ≡ true → shares s u ≡ true
-shares-fits (Number n) u t e a f = meets-fits (Number n) u t e f
-shares-fits (Byte b) u t e a f = meets-fits (Byte b) u t e f
-shares-fits AnyNumber u t e a f = meets-fits AnyNumber u t e f
-shares-fits Any (Number n) t e a f = refl
 shares-fits Any (Byte b) (Integer z) e a f = cc
 shares-fits Any (Byte b) (P c) e a f = absurd a
-shares-fits Any _ t e a f = refl
+shares-fits s u t e a f = meets-fits s u t e f
 
 -- a shape that goes on with `:` doesn't fit where none stands
 none-longer : (us : List Slot) (rest : List CsiParam) → is_colon us ≡ true → NoColon rest → begins_with us rest ≡ true → length us ≤ 0
@@ -139,10 +126,8 @@ fits-append (s ∷ ss) (t ∷ ts) more e = let x = and_parts (fits_slot s t) (be
 taken-append : (ss : List Slot) (list more : List CsiParam) → length ss ≤ length list → taken ss (list ++ more) ≡ taken ss list
 taken-append [] list more l = refl
 taken-append (s ∷ ss) [] more l = absurd (omega arith)
-taken-append (Number n ∷ ss) (t ∷ ts) more l = taken-append ss ts more (omega arith)
-taken-append (Byte n ∷ ss) (t ∷ ts) more l = taken-append ss ts more (omega arith)
-taken-append (AnyNumber ∷ ss) (t ∷ ts) more l = taken-append ss ts more (omega arith)
 taken-append (Any ∷ ss) (t ∷ ts) more l = rw (taken-append ss ts more (omega arith)) refl
+taken-append (s ∷ ss) (t ∷ ts) more l = taken-append ss ts more (omega arith)
 
 pub piece_joint : (list more : List CsiParam) (k : ℕ) (s : Sgr) → NoColon (drop k list ++ more) → Piece list k s → Piece (list ++ more) k s
 piece_joint list more k s apart p =

@@ -4,7 +4,9 @@ use Rattle.std.specs.Prelude.{Option, ◌==◌, ◌&&◌, ◌||◌, not, nat_lt,
 use Rattle.std.specs.List.{Contains, list_all}
 use Rattle.std.specs.Option.{IfSome}
 use Rattle.std.proofs.lemmas.Option.{option_and_then_some, some_pair_parts}
-use Rattle.std.proofs.lemmas.Bool.{cases_Bool, eqb-true, and_parts}
+use Rattle.std.proofs.lemmas.Bool.{cases_Bool, or_cases, eqb-true, and_parts}
+use Rattle.std.proofs.lemmas.List.Elements.{All-contains, Contains-append_right}
+use Rattle.std.proofs.lemmas.List.Sums.{AllPass-from_list_all}
 use borrow.Author.Tests.{ltb-true}
 use Rattle.csicodec_tokens.specs.declared.param.CsiParam.{CsiParam}
 use Rattle.csicodec_tokens.specs.declared.param.CsiParam.TheVariants.{Integer, P}
@@ -43,37 +45,19 @@ sgr_ordered = refl
 
 pub meets-fits : (s u : Slot) (t : CsiParam) → fits_slot s t ≡ true → fits_slot u t ≡ true → meets s u ≡ true
 meets-fits (Number n) (Number m) (Integer (pos k)) e f = let x : k ≡ n = eqb-true _ _ e in rw x at f
-meets-fits (Number n) (Number m) (Integer (negsuc k)) e f = cc
-meets-fits (Number n) (Number m) (P b) e f = cc
 meets-fits (Number n) (Byte b) (Integer z) e f = cc
-meets-fits (Number n) (Byte b) (P c) e f = cc
-meets-fits (Number n) AnyNumber t e f = refl
-meets-fits (Number n) Any t e f = refl
 meets-fits (Byte b) (Number m) (Integer z) e f = cc
-meets-fits (Byte b) (Number m) (P c) e f = cc
-meets-fits (Byte b) (Byte d) (Integer z) e f = cc
 meets-fits (Byte b) (Byte d) (P c) e f = let x : c ≡ b = eqb-true _ _ e in rw x at f
 meets-fits (Byte b) AnyNumber (Integer z) e f = cc
-meets-fits (Byte b) AnyNumber (P c) e f = cc
-meets-fits (Byte b) Any t e f = refl
-meets-fits AnyNumber (Number m) t e f = refl
 meets-fits AnyNumber (Byte b) (Integer z) e f = cc
-meets-fits AnyNumber (Byte b) (P c) e f = cc
-meets-fits AnyNumber AnyNumber t e f = refl
-meets-fits AnyNumber Any t e f = refl
-meets-fits Any u t e f = refl
-
-or_parts : (a b : Bool) → (a || b) ≡ true → (a ≡ true) ⊎ (b ≡ true)
-or_parts true b e = inl refl
-or_parts false b e = inr e
+meets-fits _ _ _ e f = cc
 
 apart-not : (ss us : List Slot) (list : List CsiParam) → apart ss us ≡ true → begins_with ss list ≡ true → begins_with us list ≡ true → ⊥
 apart-not (s ∷ ss) (u ∷ us) [] a e f = cc
 apart-not (s ∷ ss) (u ∷ us) (t ∷ ts) a e f =
     let x = and_parts (fits_slot s t) (begins_with ss ts) e in
     let y = and_parts (fits_slot u t) (begins_with us ts) f in
-    let m : meets s u ≡ true = meets-fits s u t x.0 y.0 in
-    apart-not ss us ts (rw m at a) x.1 y.1
+    apart-not ss us ts (rw (meets-fits s u t x.0 y.0) at a) x.1 y.1
 apart-not _ _ _ a e f = cc
 
 here-or : (r : Row) (rs : List Row) (x : Row) (k : ℕ) → k < suc (length rs) → get_or (r ∷ rs) k x ≡ x → (r ≡ x) ⊎ Contains rs x
@@ -86,20 +70,14 @@ contains_split r rs x h = here-or r rs x h.0 h.1 h.2
 contains_here : (r : Row) (rs : List Row) → Contains (r ∷ rs) r
 contains_here r rs = (0, omega arith, refl)
 
-contains_there : (r : Row) (rs : List Row) (x : Row) → Contains rs x → Contains (r ∷ rs) x
-contains_there r rs x h = (suc h.0, (let l = h.1 in omega arith), h.2)
-
 pub all-contains : (q : Row → Bool) (rows : List Row) (x : Row) → list_all q rows ≡ true → Contains rows x → q x ≡ true
-all-contains q [] x e h = absurd (let l = h.1 in omega arith)
-all-contains q (r ∷ rs) x e h =
-    let p = and_parts (q r) (list_all q rs) e in
-    elim (contains_split r rs x h) [ inl same ↦ subst (λ (y : Row). q y ≡ true) same p.0 | inr later ↦ all-contains q rs x p.1 later ]
+all-contains q rows x e h = All-contains (λ y. q y ≡ true) rows x (AllPass-from_list_all q rows e) h
 
 -- a later row that fits too is shorter
 later-shorter : (r : Row) (rs : List Row) (x : Row) (list : List CsiParam) → list_all (λ (other : Row). comes_before r.shape other.shape) rs ≡ true → Contains rs x
     → begins_with r.shape list ≡ true → begins_with x.shape list ≡ true → length x.shape < length r.shape
 later-shorter r rs x list all h e f =
-    elim (or_parts (nat_lt (length x.shape) (length r.shape)) (apart r.shape x.shape) (all-contains (λ (other : Row). comes_before r.shape other.shape) rs x all h)) [
+    elim (or_cases (nat_lt (length x.shape) (length r.shape)) (apart r.shape x.shape) (all-contains (λ (other : Row). comes_before r.shape other.shape) rs x all h)) [
       | inl short ↦ ltb-true _ _ short
       | inr none ↦ absurd (apart-not r.shape x.shape list none e f)
     ]
@@ -107,29 +85,19 @@ later-shorter r rs x list all h e f =
 abbrev gives_by : List CsiParam → ℕ → Row → Option (Sgr × ℕ)
 gives_by list before row = option_and_then (λ s. Some (s, length row.shape + before)) (given row.gives (taken row.shape list))
 
--- some row is the longest and gives the answer, or no row fits
-abbrev Found : List Row → List CsiParam → Type 0
-Found rows list =
-    ((row : Row) × Longest rows list row × (front_by 0 rows list ≡ gives_by list 0 row))
-    ⊎ (((x : Row) → Contains rows x → begins_with x.shape list ≡ true → ⊥) × (front_by 0 rows list ≡ None))
-
-none-fits : (r : Row) (rs : List Row) (list : List CsiParam) → begins_with r.shape list ≡ false → ((x : Row) → Contains rs x → begins_with x.shape list ≡ true → ⊥)
-    → (x : Row) → Contains (r ∷ rs) x → begins_with x.shape list ≡ true → ⊥
-none-fits r rs list unfit none x h f = elim (contains_split r rs x h) [ inl same ↦ (let g = subst (λ (y : Row). begins_with y.shape list ≡ false) same unfit in cc) | inr later ↦ none x later f ]
-
 first-longest : (r : Row) (rs : List Row) (list : List CsiParam) → list_all (λ (other : Row). comes_before r.shape other.shape) rs ≡ true → begins_with r.shape list ≡ true → Longest (r ∷ rs) list r
 first-longest r rs list all fit = record {
   listed = contains_here r rs;
   fits = fit;
   no_longer = λ x h f. elim (contains_split r rs x h) [
     | inl same ↦ subst (λ (y : Row). length y.shape ≤ length r.shape) same (omega arith)
-    | inr later ↦ (let l = later-shorter r rs x list all later fit f in omega arith)
+    | inr later ↦ omega (arith, later-shorter r rs x list all later fit f)
   ];
 }
 
 later-longest : (r : Row) (rs : List Row) (list : List CsiParam) (row : Row) → begins_with r.shape list ≡ false → Longest rs list row → Longest (r ∷ rs) list row
 later-longest r rs list row unfit long = record {
-  listed = contains_there r rs row long.listed;
+  listed = Contains-append_right (r ∷ []) rs row long.listed;
   fits = long.fits;
   no_longer = λ x h f. elim (contains_split r rs x h) [
     | inl same ↦ absurd (let g = subst (λ (y : Row). begins_with y.shape list ≡ false) same unfit in cc)
@@ -137,58 +105,41 @@ later-longest r rs list row unfit long = record {
   ];
 }
 
-find : (rows : List Row) (list : List CsiParam) → ordered rows ≡ true → Found rows list
-find [] list o = inr (λ x h f. (let l = h.1 in omega arith), refl)
-find (r ∷ rs) list o =
+-- the longest row gives the answer
+longest-gives : (rows : List Row) (list : List CsiParam) (x : Row) → ordered rows ≡ true → Longest rows list x → front_by 0 rows list ≡ gives_by list 0 x
+longest-gives [] list x o long = absurd (omega (arith, long.listed.1))
+longest-gives (r ∷ rs) list x o long =
     let p = and_parts (list_all (λ (other : Row). comes_before r.shape other.shape) rs) (ordered rs) o in
-    elim (cases_Bool (begins_with r.shape list)) [
-      | inl fit ↦ inl (r, first-longest r rs list p.0 fit, rw fit refl)
-      | inr unfit ↦ elim (find rs list p.1) [
-        | inl found ↦ inl (found.0, later-longest r rs list found.0 unfit found.1, rw unfit found.2)
-        | inr none ↦ inr (none-fits r rs list unfit none.0, rw unfit none.1)
+    elim (contains_split r rs x long.listed) [
+      | inl same ↦ rw same (rw long.fits refl)
+      | inr later ↦ elim (cases_Bool (begins_with r.shape list)) [
+        | inl fit ↦ absurd (omega (arith, later-shorter r rs x list p.0 later fit long.fits, long.no_longer r (contains_here r rs) fit))
+        | inr unfit ↦ rw unfit (longest-gives rs list x p.1
+            (record { listed = later; fits = long.fits; no_longer = λ z h f. long.no_longer z (Contains-append_right (r ∷ []) rs z h) f }))
       ]
     ]
 
--- there is one longest row
-longest-one : (rows : List Row) (list : List CsiParam) (a b : Row) → ordered rows ≡ true → Longest rows list a → Longest rows list b → a ≡ b
-longest-one [] list a b o x y = absurd (let l = x.listed.1 in omega arith)
-longest-one (r ∷ rs) list a b o x y =
+-- and the row that gives it is the longest
+gives-longest : (rows : List Row) (list : List CsiParam) (f : Sgr × ℕ) → ordered rows ≡ true → front_by 0 rows list ≡ Some f → (row : Row) × Longest rows list row × (gives_by list 0 row ≡ Some f)
+gives-longest [] list f o e = cc
+gives-longest (r ∷ rs) list f o e =
     let p = and_parts (list_all (λ (other : Row). comes_before r.shape other.shape) rs) (ordered rs) o in
-    elim (contains_split r rs a x.listed) [
-      | inl first ↦ elim (contains_split r rs b y.listed) [
-        | inl second ↦ sym first ∙ second
-        | inr later ↦ absurd (let l = later-shorter r rs b list p.0 later (subst (λ (z : Row). begins_with z.shape list ≡ true) (sym first) x.fits) y.fits in
-            let m = y.no_longer r (contains_here r rs) (subst (λ (z : Row). begins_with z.shape list ≡ true) (sym first) x.fits) in omega arith)
-      ]
-      | inr after ↦ elim (contains_split r rs b y.listed) [
-        | inl second ↦ absurd (let l = later-shorter r rs a list p.0 after (subst (λ (z : Row). begins_with z.shape list ≡ true) (sym second) y.fits) x.fits in
-            let m = x.no_longer r (contains_here r rs) (subst (λ (z : Row). begins_with z.shape list ≡ true) (sym second) y.fits) in omega arith)
-        | inr later ↦ longest-one rs list a b p.1
-            (record { listed = after; fits = x.fits; no_longer = λ z h f. x.no_longer z (contains_there r rs z h) f })
-            (record { listed = later; fits = y.fits; no_longer = λ z h f. y.no_longer z (contains_there r rs z h) f })
-      ]
+    elim (cases_Bool (begins_with r.shape list)) [
+      | inl fit ↦ (r, first-longest r rs list p.0 fit, rw fit at e)
+      | inr unfit ↦ let found = gives-longest rs list f p.1 (rw unfit at e) in (found.0, later-longest r rs list found.0 unfit found.1, found.2)
     ]
 
 pub piece_is : (list : List CsiParam) (k : ℕ) (s : Sgr) → Piece list k s → piece list ≡ Some (s, k)
 unfolding piece
-piece_is list k s p = elim (find sgr_rows list sgr_ordered) [
-  | inl found ↦
-      let same : found.0 ≡ p.row = longest-one sgr_rows list found.0 p.row sgr_ordered found.1 p.longest in
-      let size : length p.row.shape + 0 ≡ k = (let t = p.tokens in omega arith) in
-      found.2 ∙ (rw (same, p.gives, size) refl)
-  | inr none ↦ absurd (none.0 p.row p.longest.listed p.longest.fits)
-]
+piece_is list k s p =
+    let size : length p.row.shape + 0 ≡ k = omega (arith, p.tokens) in longest-gives sgr_rows list p.row sgr_ordered p.longest ∙ (rw (p.gives, size) refl)
 
 pub is_piece : (list : List CsiParam) (k : ℕ) (s : Sgr) → piece list ≡ Some (s, k) → Piece list k s
 unfolding piece
-is_piece list k s e = elim (find sgr_rows list sgr_ordered) [
-  | inl found ↦
-      let row : Row = found.0 in
-      option_and_then_some _ (given row.gives (taken row.shape list)) (s, k) (sym found.2 ∙ e) (λ t gives last.
-      let parts = some_pair_parts _ _ _ _ last in
-      record { row = row; longest = found.1; tokens = (let q = parts.1 in omega arith); gives = rw (← parts.0) gives })
-  | inr none ↦ (let e0 = none.1 in cc)
-]
+is_piece list k s e =
+    let found = gives-longest sgr_rows list (s, k) sgr_ordered e in
+    option_and_then_some _ (given found.0.gives (taken found.0.shape list)) (s, k) found.2 (λ t gives last.
+    let parts = some_pair_parts _ _ _ _ last in record { row = found.0; longest = found.1; tokens = omega (arith, parts.1); gives = gives ∙ ap Some parts.0 })
 
 pub is_front : (list : List CsiParam) (r : Option (Sgr × ℕ)) → r ≡ piece list → IsFront list r
 is_front list None e = λ k s p. (let h = piece_is list k s p in cc)
@@ -204,17 +155,14 @@ taken-take : (ss : List Slot) (n : ℕ) (list : List CsiParam) → length ss ≤
 taken-take [] n list l = refl
 taken-take (s ∷ ss) zero list l = absurd (omega arith)
 taken-take (s ∷ ss) (suc n) [] l = refl
-taken-take (Number m ∷ ss) (suc n) (t ∷ ts) l = taken-take ss n ts (omega arith)
-taken-take (Byte b ∷ ss) (suc n) (t ∷ ts) l = taken-take ss n ts (omega arith)
-taken-take (AnyNumber ∷ ss) (suc n) (t ∷ ts) l = taken-take ss n ts (omega arith)
 taken-take (Any ∷ ss) (suc n) (t ∷ ts) l = rw (taken-take ss n ts (omega arith)) refl
+taken-take (s ∷ ss) (suc n) (t ∷ ts) l = taken-take ss n ts (omega arith)
 
 front-take : (rows : List Row) (n : ℕ) (list : List CsiParam) → list_all (λ (r : Row). nat_lt (length r.shape) (suc n)) rows ≡ true → front_by 0 rows (take n list) ≡ front_by 0 rows list
 front-take [] n list h = refl
 front-take (r ∷ rs) n list h =
     let p = and_parts (nat_lt (length r.shape) (suc n)) (list_all (λ (x : Row). nat_lt (length x.shape) (suc n)) rs) h in
-    let l : length r.shape < suc n = ltb-true _ _ p.0 in
-    rw (fits-take r.shape n list (omega arith), taken-take r.shape n list (omega arith), front-take rs n list p.1) refl
+    let l = ltb-true (length r.shape) (suc n) p.0 in rw (fits-take r.shape n list (omega arith), taken-take r.shape n list (omega arith), front-take rs n list p.1) refl
 
 sgr_short : list_all (λ (r : Row). nat_lt (length r.shape) 14) sgr_rows ≡ true
 sgr_short = refl
@@ -230,14 +178,12 @@ piece_take list = front-take sgr_rows 13 list sgr_short
 pub fits-length : (ss : List Slot) (list : List CsiParam) → begins_with ss list ≡ true → length ss ≤ length list
 fits-length [] list e = omega arith
 fits-length (s ∷ ss) [] e = cc
-fits-length (s ∷ ss) (t ∷ ts) e = let h = fits-length ss ts (and_parts (fits_slot s t) _ e).1 in omega arith
+fits-length (s ∷ ss) (t ∷ ts) e = omega (arith, fits-length ss ts (and_parts (fits_slot s t) _ e).1)
 
 pub piece_within : (list : List CsiParam) (k : ℕ) (s : Sgr) → Piece list k s → (0 < k) × (k ≤ length list)
 piece_within list k s p =
-    let same = p.tokens in
     let some = ltb-true 0 (length p.row.shape) (all-contains (λ (r : Row). nat_lt 0 (length r.shape)) sgr_rows p.row sgr_some p.longest.listed) in
-    let short = fits-length p.row.shape list p.longest.fits in
-    (omega arith, omega arith)
+    (omega (arith, p.tokens), omega (arith, p.tokens, fits-length p.row.shape list p.longest.fits))
 
 pub is_near : (list : List CsiParam) (r : Option (Sgr × ℕ)) → r ≡ piece list → (other : List CsiParam) → take 13 other ≡ take 13 list → IsFront other r
 is_near list r e other same = is_front other r (e ∙ sym (piece_take list) ∙ ap piece (sym same) ∙ piece_take other)

@@ -5,7 +5,7 @@ use Rattle.std.proofs.lemmas.Int.{ints}
 use mir.Val.{SFits}
 use mir.Syntax.{w64}
 use Rattle.csicodec_tokens.specs.declared.param.CsiParam.TheVariants.{Integer}
-use Rattle.csicodec_base.proofs.Colors.{behind_six, behind_two}
+use Rattle.csicodec_base.proofs.CodePieces.{behind_six, behind_two}
 use Rattle.csicodec_base.proofs.pieces.color_front.Goals as goal
 
 pub returns-in-58-eq6-eq58 : goal.returns-in-58-eq6-eq58

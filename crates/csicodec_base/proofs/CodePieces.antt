@@ -56,10 +56,6 @@ pub front_58 : (after : List CsiParam) → piece (Integer (pos 58) ∷ after) �
 unfolding piece
 front_58 after = color-front Line 1 color_shapes after
 
-pub front_4 : (after : List CsiParam) → piece (Integer (pos 4) ∷ after) ≡ front_by 1 underline_rows after
-unfolding piece
-front_4 after = refl
-
 abbrev Begins : SgrCode → List CsiParam → Option (Sgr × ℕ) → Type 0
 Begins c after answer = piece (Integer (pos (number_of c)) ∷ after) ≡ answer
 
@@ -68,7 +64,8 @@ pub color_front : (c known : SgrCode) (plane : Plane) (after : List CsiParam) (a
 color_front c known plane after answer e h a = rw (e, a) h
 
 pub underline_front : (c : SgrCode) (after : List CsiParam) → c ≡ code.UnderlineOn → Begins c after (front_by 1 underline_rows after)
-underline_front c after e = rw e (front_4 after)
+unfolding piece
+underline_front c after e = rw e refl
 
 -- a code that has no further tokens
 abbrev OneToken : SgrCode → List CsiParam → Option Sgr → Type 0
@@ -109,32 +106,25 @@ unknown-row (Number n ∷ ss) (pos m) after h no_code = elim (cases_Bool (m == n
 unknown-row (Byte b ∷ ss) z after h no_code = refl
 unknown-row _ z after h no_code = cc
 
-unknown-rows : (rows : List Row) (z : ℤ) (after : List CsiParam) →
-    list_all (λ (r : Row). codes_head r.shape) rows ≡ true →
-    ((c : SgrCode) → z ≢ pos (number_of c)) → front_by 0 rows (Integer z ∷ after) ≡ None
-unknown-rows [] z after h no_code = refl
-unknown-rows (r ∷ rs) z after h no_code =
-    let p = and_parts (codes_head r.shape) (list_all (λ (x : Row). codes_head x.shape) rs) h in
-    rw (unknown-row r.shape z after p.0 no_code) (unknown-rows rs z after p.1 no_code)
+-- a token with which no shape begins that has such a head
+no-row : (rows : List Row) (t : CsiParam) (after : List CsiParam) → ((shape : List Slot) → codes_head shape ≡ true → begins_with shape (t ∷ after) ≡ false)
+    → list_all (λ (r : Row). codes_head r.shape) rows ≡ true → front_by 0 rows (t ∷ after) ≡ None
+no-row [] t after unfit h = refl
+no-row (r ∷ rs) t after unfit h =
+    let p = and_parts (codes_head r.shape) (list_all (λ (x : Row). codes_head x.shape) rs) h in rw (unfit r.shape p.0) (no-row rs t after unfit p.1)
 
 pub unknown_number : (z : ℤ) (after : List CsiParam) → ((c : SgrCode) → z ≢ pos (number_of c)) → piece (Integer z ∷ after) ≡ None
 unfolding piece
-unknown_number z after no_code = unknown-rows sgr_rows z after all-heads no_code
+unknown_number z after no_code = no-row sgr_rows (Integer z) after (λ shape h. unknown-row shape z after h no_code) all-heads
 
 other-byte-row : (shape : List Slot) (b : ℕ) (after : List CsiParam) → codes_head shape ≡ true → (b == 59) ≡ false → begins_with shape (P b ∷ after) ≡ false
 other-byte-row (Number n ∷ ss) b after h o = refl
 other-byte-row (Byte d ∷ ss) b after h o = let e : d ≡ 59 = eqb-true _ _ h in rw (e, o) refl
 other-byte-row _ b after h o = cc
 
-other-byte-rows : (rows : List Row) (b : ℕ) (after : List CsiParam) → list_all (λ (r : Row). codes_head r.shape) rows ≡ true → (b == 59) ≡ false → front_by 0 rows (P b ∷ after) ≡ None
-other-byte-rows [] b after h o = refl
-other-byte-rows (r ∷ rs) b after h o =
-    let p = and_parts (codes_head r.shape) (list_all (λ (x : Row). codes_head x.shape) rs) h in
-    rw (other-byte-row r.shape b after p.0 o) (other-byte-rows rs b after p.1 o)
-
 pub other_byte : (b : ℕ) (after : List CsiParam) → (b == 59) ≡ false → piece (P b ∷ after) ≡ None
 unfolding piece
-other_byte b after o = other-byte-rows sgr_rows b after all-heads o
+other_byte b after o = no-row sgr_rows (P b) after (λ shape h. other-byte-row shape b after h o) all-heads
 
 pub semicolon_front : (after : List CsiParam) → piece (P 59 ∷ after) ≡ Some (sgr.Reset, 1)
 unfolding piece
@@ -152,13 +142,11 @@ at_first (u ∷ us) d t answer l e h = rw e h
 
 pub behind_six : (after parts : List CsiParam) (d : CsiParam) → parts ≡ drop 3 after → 3 ≤ length after → get_or after 0 d ≡ P 58 → get_or after 1 d ≡ Integer (pos 6) → get_or after 2 d ≡ P 58
     → color_by 1 color_shapes after ≡ color_by 4 rgba_shapes parts
-behind_six (x ∷ y ∷ []) parts d p l a b c = absurd (omega arith)
 behind_six (x ∷ y ∷ z ∷ rest) parts d p l a b c = rw (p, a, b, c) refl
 behind_six _ parts d p l a b c = absurd (omega arith)
 
 pub behind_two : (after parts : List CsiParam) (d : CsiParam) → parts ≡ drop 3 after → 3 ≤ length after → get_or after 0 d ≡ P 58 → get_or after 1 d ≡ Integer (pos 2) → get_or after 2 d ≡ P 58
     → color_by 1 color_shapes after ≡ color_by 4 rgb_shapes parts
-behind_two (x ∷ y ∷ []) parts d p l a b c = absurd (omega arith)
 behind_two (x ∷ y ∷ z ∷ rest) parts d p l a b c = rw (p, a, b, c) refl
 behind_two _ parts d p l a b c = absurd (omega arith)
 

@@ -20,15 +20,13 @@ returns-in-P-2 c =
 pub code_front-requires : goal.code_front-requires
 code_front-requires c =
     let fits : SFits w64 c.in-Integer.number = search rules in
-    let number : c.in-Integer.number ≡ pos (number_of c.in_ok-code-in-Integer.code) =
-    sym (to_z-of_z w64 c.in-Integer.number fits) ∙ (c.in_ok-code-in-Integer.ensures c.in_ok-code-in-Integer.code).0 refl in
+    let number = sym (to_z-of_z w64 c.in-Integer.number fits) ∙ (c.in_ok-code-in-Integer.ensures c.in_ok-code-in-Integer.code).0 refl in
     sym (c.attribute_alone.ensures c.in_ok-code-in-Integer.code (to_z-of_z w64 c.in-Integer.number fits ∙ number)) ∙ c.in-None.is
 
 pub returns-in-Some : goal.returns-in-Some
 returns-in-Some c =
     let fits : SFits w64 c.in-Integer.number = search rules in
-    let number : c.in-Integer.number ≡ pos (number_of c.in_ok-code-in-Integer.code) =
-    sym (to_z-of_z w64 c.in-Integer.number fits) ∙ (c.in_ok-code-in-Integer.ensures c.in_ok-code-in-Integer.code).0 refl in
+    let number = sym (to_z-of_z w64 c.in-Integer.number fits) ∙ (c.in_ok-code-in-Integer.ensures c.in_ok-code-in-Integer.code).0 refl in
     let alone = sym (c.attribute_alone.ensures c.in_ok-code-in-Integer.code (to_z-of_z w64 c.in-Integer.number fits ∙ number)) ∙ c.in-Some.is in
     let first : get_or c.args.rest.now 0 (Integer (pos 0)) ≡ Integer (pos (number_of c.in_ok-code-in-Integer.code)) = cc in
     let e = sym (at_first c.args.rest.now (Integer (pos 0)) _ _ (omega arith) first (one_token_front _ _ _ alone)) in

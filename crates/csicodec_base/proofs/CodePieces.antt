@@ -10,7 +10,7 @@ use Rattle.csicodec_base.specs.declared.sgr.Sgr.{Sgr}
 use Rattle.csicodec_names.specs.declared.color.ColorSpec.{ColorSpec}
 use Rattle.csicodec_names.specs.Numbers.{all_codes, number_of}
 use Rattle.csicodec_base.specs.Attributes.{action_of}
-use Rattle.csicodec_base.specs.Shapes.{Slot, Number, Byte, AnyNumber, Any, Row, Color, Plane, Front, Back, Line, painted, sgr_rows, color_shapes, underline_rows, begins_with, taken, color_of_tokens, rgba_shapes, rgb_shapes}
+use Rattle.csicodec_base.specs.Shapes.{Slot, Number, Byte, Row, Color, Plane, Front, Back, Line, painted, sgr_rows, color_shapes, underline_rows, begins_with, taken, color_of_tokens, rgba_shapes, rgb_shapes}
 use Rattle.csicodec_base.specs.FrontBy.{front_by, color_by, piece}
 use Rattle.csicodec_names.specs.Numbered.{with_number}
 use Rattle.csicodec_names.proofs.Coded.{listed-number}

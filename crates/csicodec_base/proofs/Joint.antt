@@ -7,7 +7,7 @@ use Rattle.std.proofs.lemmas.Option.{option_and_then_some}
 use Rattle.csicodec_tokens.specs.declared.param.CsiParam.{CsiParam}
 use Rattle.csicodec_tokens.specs.declared.param.CsiParam.TheVariants.{Integer, P}
 use Rattle.csicodec_base.specs.declared.sgr.Sgr.{Sgr}
-use Rattle.csicodec_base.specs.Shapes.{Slot, Number, Byte, AnyNumber, Any, Row, Gives, Always, Color, colon, sgr_rows, fits_slot, begins_with, taken, given, byte_of, bytes_of, color_of_tokens}
+use Rattle.csicodec_base.specs.Shapes.{Slot, Number, Byte, Any, Row, Gives, Always, Color, colon, sgr_rows, fits_slot, begins_with, taken, given, byte_of, bytes_of, color_of_tokens}
 use Rattle.csicodec_base.specs.Pieces.{Piece, NoColon}
 use Rattle.csicodec_base.proofs.Table.{meets, meets-fits, all-contains, fits-length}
 

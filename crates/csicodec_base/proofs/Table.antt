@@ -1,6 +1,6 @@
 -- The first row that fits is the longest, where no two rows of one length fit the same tokens.
 use Rattle.std.proofs.Common.{ℕ, zero, suc, ◌≡◌, ◌<◌, ◌≤◌, ◌+◌, List, [], ◌∷◌, Bool, true, false, refl, sym, ap, ◌∙◌, arith, length, Some, None, inl, inr, subst, ◌⊎◌, take, get_or}
-use Rattle.std.specs.Prelude.{Option, ◌==◌, ◌&&◌, ◌||◌, not, nat_lt, pos, negsuc, option_and_then}
+use Rattle.std.specs.Prelude.{Option, ◌==◌, ◌&&◌, ◌||◌, not, nat_lt, pos, option_and_then}
 use Rattle.std.specs.List.{Contains, list_all}
 use Rattle.std.specs.Option.{IfSome}
 use Rattle.std.proofs.lemmas.Option.{option_and_then_some, some_pair_parts}

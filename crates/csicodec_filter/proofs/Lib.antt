@@ -1,4 +1,3 @@
 pub mod Sent
 pub mod Written
-pub mod Filtered
 pub mod Meaning

@@ -9,7 +9,7 @@ use Rattle.csicodec_tokens.specs.declared.reader.ReadError.TheVariants.{NotCsi, 
 use Rattle.csicodec_tokens.specs.Fault.{Begins, NoSeq, IsLeast, IsBad, FaultOf, IsMetAt}
 use Rattle.csicodec_actions.specs.Actions.{Action}
 use Rattle.csicodec_parser.proofs.Cuts.{actions_count}
-use Rattle.csicodec_streams.specs.Decoding.{Joins, AreActions}
+use Rattle.csicodec_streams.specs.Decoding.{AreActions, Decodes, Joins}
 use Rattle.csicodec_spans.specs.declared.table.Kind.{Kind}
 use Rattle.csicodec_spans.specs.declared.table.Kind.TheVariants as kind
 use Rattle.csicodec_spans.specs.declared.table.Mode.{Mode}
@@ -47,8 +47,7 @@ fault_less s x (BadByte place) n within at f =
 fault_less s x (NumberTooLarge place) n within at f =
     let here : place < length s = omega (arith, within, at) in
     (none_less s x f.0, (least_less s x place here f.1.0, f.1.1, λ bad. f.1.2 (subst IsBad (sym (get_or-append s x 0 place here)) bad)))
-fault_less s x (Truncated place) n within at f = absurd at
-fault_less s x Memory n within at f = absurd at
+fault_less s x _ n within at f = absurd at
 
 malformed_less : (limit : ℕ) (s x : List ℕ) (n : ℕ) → n < length s → IsMalformed limit (s ++ x) n → IsMalformed limit s n
 malformed_less limit s x n within (inl h) = inl (h.0, fault_less s x h.0 n within h.2 h.1, h.2, h.3)
@@ -59,14 +58,11 @@ malformed_less limit s x n within (inr h) =
 csi_less : (limit : ℕ) (s x : List ℕ) (k : Kind) (text : List ℕ) (a : Mode) → length text < length s → AllowsCsi limit (s ++ x) k text a → AllowsCsi limit s k text a
 csi_less limit s x kind.Csi text a within h = h
 csi_less limit s x kind.Other text a within h = (malformed_less limit s x (length text) within h.0, h.1)
-csi_less limit s x kind.Text text a within h = absurd h
 csi_less limit s x _ text a within h = absurd h
 
 allows_less : (f : Answer) (limit : ℕ) (s x : List ℕ) (k : Kind) (text : List ℕ) (a : Mode) → length text < length s → Allows f limit (s ++ x) k text a → Allows f limit s k text a
-allows_less (More j n b) limit s x k text a within h = h
-allows_less (Anew j n b) limit s x k text a within h = h
 allows_less Sequence limit s x k text a within h = csi_less limit s x k text a within h
-allows_less Undecided limit s x k text a within h = h
+allows_less _ limit s x k text a within h = h
 
 long_decided : (m : Mode) (bytes : List ℕ) → 3 ≤ length bytes → ahead m bytes ≢ Undecided
 long_decided m bytes long e = let few = (subst (λ (f : Answer). Sound m bytes f) e (sound m bytes)).0 in omega (arith, long, few)
@@ -91,13 +87,10 @@ part_less limit m p s x a l two h =
 abbrev pub OpensCsi : List ℕ → Type 0
 OpensCsi bytes = (more : List ℕ) × (bytes ≡ 27 ∷ 91 ∷ more)
 
-pub record Beside (bytes text : List ℕ) : Type 0 where
-  pub front : List ℕ
-  pub one : List ℕ
-  pub other : List ℕ
-  pub bytes_are : bytes ≡ front ++ one
-  pub text_is : text ≡ front ++ other
-  pub ends : (one ≡ other) ⊎ (OpensCsi one × OpensCsi other)
+-- the same, or the same at least as far as two bytes
+abbrev pub Beside : List ℕ → List ℕ → Type 0
+Beside bytes text = (bytes ≡ text)
+    ⊎ ((s : List ℕ) × (x : List ℕ) × (y : List ℕ) × (2 ≤ length s) × (bytes ≡ s ++ x) × (text ≡ s ++ y))
 
 part_behind : (limit : ℕ) (m : Mode) (p : Part) (s y : List ℕ) (a : Mode) → IsFirstPart limit m (p.bytes ++ s) p s a → IsFirstPart limit m (p.bytes ++ (s ++ y)) p (s ++ y) a
 part_behind limit m p s y a h =
@@ -110,19 +103,10 @@ part_behind limit m p s y a h =
 part_beside : (limit : ℕ) (m : Mode) (p : Part) (bytes text : List ℕ) (a : Mode) → 0 < limit →
     Beside bytes text → IsFirstPart limit m (p.bytes ++ bytes) p bytes a →
     IsFirstPart limit m (p.bytes ++ text) p text a
-part_beside limit m p bytes text a l b h = by b.ends
-  where
-    by : (b.one ≡ b.other) ⊎ (OpensCsi b.one × OpensCsi b.other) → IsFirstPart limit m (p.bytes ++ text) p text a
-    by (inl e) =
-        let same : bytes ≡ text = b.bytes_are ∙ ap (λ (t : List ℕ). b.front ++ t) e ∙ sym b.text_is in
-        subst (λ (t : List ℕ). IsFirstPart limit m (p.bytes ++ t) p t a) same h
-    by (inr o) =
-        let s : List ℕ = b.front ++ 27 ∷ 91 ∷ [] in
-        let two : 2 ≤ length s = omega (arith, length-append b.front (27 ∷ 91 ∷ [])) in
-        let is : bytes ≡ s ++ o.0.0 = b.bytes_are ∙ ap (λ (t : List ℕ). b.front ++ t) o.0.1 ∙ sym (append_assoc b.front (27 ∷ 91 ∷ []) o.0.0) in
-        let was : text ≡ s ++ o.1.0 = b.text_is ∙ ap (λ (t : List ℕ). b.front ++ t) o.1.1 ∙ sym (append_assoc b.front (27 ∷ 91 ∷ []) o.1.0) in
-        let short = part_less limit m p s o.0.0 a l two (subst (λ (t : List ℕ). IsFirstPart limit m (p.bytes ++ t) p t a) is h) in
-        subst (λ (t : List ℕ). IsFirstPart limit m (p.bytes ++ t) p t a) (sym was) (part_behind limit m p s o.1.0 a short)
+part_beside limit m p bytes text a l (inl e) h = subst (λ (t : List ℕ). IsFirstPart limit m (p.bytes ++ t) p t a) e h
+part_beside limit m p bytes text a l (inr (s, x, y, two, is, was)) h =
+    let short = part_less limit m p s x a l two (subst (λ (t : List ℕ). IsFirstPart limit m (p.bytes ++ t) p t a) is h) in
+    subst (λ (t : List ℕ). IsFirstPart limit m (p.bytes ++ t) p t a) (sym was) (part_behind limit m p s y a short)
 
 -- ---- the first part of a whole stream, and the others
 
@@ -164,13 +148,20 @@ whole_first limit m bytes p behind w = by w.sure w.rest w.first w.whole w.unsure
 
 -- ---- control sequences side by side, in front
 
-abbrev behind_csi : {A : Type 0} → Mode → List A → Mode
+-- the mode behind bytes that are such
+abbrev behind_csi : Mode → List ℕ → Mode
 behind_csi m [] = m
-behind_csi m (x ∷ xs) = mode.Text
+behind_csi m (b ∷ bytes) = mode.Text
 
-behind_text : {A : Type 0} → (xs : List A) → behind_csi mode.Text xs ≡ mode.Text
+behind_text : (bytes : List ℕ) → behind_csi mode.Text bytes ≡ mode.Text
 behind_text [] = refl
-behind_text (x ∷ xs) = refl
+behind_text _ = refl
+
+behind_open : (m : Mode) (bytes : List ℕ) → OpensCsi bytes → behind_csi m bytes ≡ mode.Text
+behind_open m bytes o = ap (behind_csi m) o.1
+
+opens_on : (a b : List ℕ) → OpensCsi a → OpensCsi (a ++ b)
+opens_on a b o = (o.0 ++ b, ap (λ (t : List ℕ). t ++ b) o.1)
 
 abbrev Sequences : Type 0
 Sequences = List (List CsiParam × ℕ)
@@ -187,14 +178,17 @@ csi_joined : (ss : Sequences) (bytes : List ℕ) (j : Joins bytes ss) → flat_m
 csi_joined [] bytes j = sym j
 csi_joined (s ∷ ss) bytes j = ap (λ (t : List ℕ). j.0 ++ t) (csi_joined ss j.1 j.4) ∙ sym j.2
 
+join_opens : (s : List CsiParam × ℕ) (ss : Sequences) (bytes : List ℕ) → Joins bytes (s ∷ ss) → OpensCsi bytes
+join_opens s ss bytes j = ((j.3.body ++ s.1 ∷ []) ++ j.1, j.2 ∙ ap (λ (t : List ℕ). t ++ j.1) j.3.whole)
+
 first_csi : (limit : ℕ) (m : Mode) (text rest : List ℕ) (s : IsSequence text) → length text ≤ limit → IsFirstPart limit m (text ++ rest) (part kind.Csi text) rest mode.Text
 first_csi limit m text rest s short =
     let is : ahead m (text ++ rest) ≡ Sequence = ap (λ (t : List ℕ). ahead m (t ++ rest)) s.2.whole ∙ opens m ((s.2.body ++ s.1 ∷ []) ++ rest) in
     (refl, subst (λ (f : Answer). Allows f limit (text ++ rest) kind.Csi text mode.Text) (sym is) (s, short, refl))
 
 first_csis : (limit : ℕ) (ss : Sequences) (m : Mode) (bytes more : List ℕ) (j : Joins bytes ss) →
-    length bytes ≤ limit → AreFirstParts limit m (bytes ++ more) (csi_parts ss bytes j) more (behind_csi m ss)
-first_csis limit [] m bytes more j within = (sym (ap (λ (t : List ℕ). t ++ more) j), refl)
+    length bytes ≤ limit → AreFirstParts limit m (bytes ++ more) (csi_parts ss bytes j) more (behind_csi m bytes)
+first_csis limit [] m bytes more j within = (sym (ap (λ (t : List ℕ). t ++ more) j), ap (behind_csi m) j)
 first_csis limit (s ∷ ss) m bytes more j within =
     let long : length bytes ≡ length j.0 + length j.1 = ap length j.2 ∙ length-append j.0 j.1 in
     let all : j.0 ++ (j.1 ++ more) ≡ bytes ++ more = sym (append_assoc j.0 j.1 more) ∙ ap (λ (t : List ℕ). t ++ more) (sym j.2) in
@@ -203,68 +197,58 @@ first_csis limit (s ∷ ss) m bytes more j within =
       j.1 ++ more,
       mode.Text,
       subst (λ (t : List ℕ). IsFirstPart limit m t (part kind.Csi j.0) (j.1 ++ more) mode.Text) all first,
-      subst (λ (n : Mode). AreFirstParts limit mode.Text (j.1 ++ more) (csi_parts ss j.1 j.4) more n) (behind_text ss) others,
+      subst (λ (n : Mode). AreFirstParts limit mode.Text (j.1 ++ more) (csi_parts ss j.1 j.4) more n)
+          (behind_text j.1 ∙ sym (behind_open m bytes (join_opens s ss bytes j))) others,
     )
-
-abbrev IsOpen : List Part → Type 0
-IsOpen run = (run ≡ []) ⊎ OpensCsi (flat_map bytes_of run)
 
 -- a run in front of a whole stream
 abbrev IsRunFirst : ℕ → Mode → List ℕ → List Part → List Part → Type 0
-IsRunFirst limit m bytes run behind = (rest : List ℕ) × (bytes ≡ flat_map bytes_of run ++ rest) × IsWhole limit (behind_csi m run) rest behind × IsOpen run
-
-opens_on : (a b : List ℕ) → OpensCsi a → OpensCsi (a ++ b)
-opens_on a b o = (o.0 ++ b, ap (λ (t : List ℕ). t ++ b) o.1)
-
-no_other : kind.Other ≢ kind.Csi
-no_other e = absurd cc
+IsRunFirst limit m bytes run behind = (rest : List ℕ) × (bytes ≡ flat_map bytes_of run ++ rest) × IsWhole limit (behind_csi m (flat_map bytes_of run)) rest behind
 
 run_first : (limit : ℕ) (m : Mode) (bytes : List ℕ) (run behind : List Part) → AreCsi run → IsWhole limit m bytes (run ++ behind) → IsRunFirst limit m bytes run behind
-run_first limit m bytes [] behind all w = (bytes, refl, w, inl refl)
+run_first limit m bytes [] behind all w = (bytes, refl, w)
 run_first limit m bytes (p ∷ run) behind all w =
     elim (whole_first limit m bytes p (run ++ behind) w) [
       | inl h ↦
           let (rest, n, first, others) = h in
           let own : Allows (ahead m bytes) limit bytes kind.Csi p.bytes n = subst (λ (k : Kind). Allows (ahead m bytes) limit bytes k p.bytes n) all.0 first.1 in
           let is = allows_whole (ahead m bytes) limit m bytes p.bytes n (sound m bytes) own in
-          let plain : n ≡ mode.Text = is.2 in
-          let r = run_first limit mode.Text rest run behind all.1 (subst (λ (a : Mode). IsWhole limit a rest (run ++ behind)) plain others) in (
+          let r = run_first limit mode.Text rest run behind all.1 (subst (λ (a : Mode). IsWhole limit a rest (run ++ behind)) is.2 others) in
+          let opens = opens_on p.bytes (flat_map bytes_of run) (is.0.2.body ++ is.0.1 ∷ [], is.0.2.whole) in (
             r.0,
             first.0 ∙ ap (λ (t : List ℕ). p.bytes ++ t) r.1 ∙ sym (append_assoc p.bytes (flat_map bytes_of run) r.0),
-            subst (λ (a : Mode). IsWhole limit a r.0 behind) (behind_text run) r.2,
-            inr (opens_on p.bytes (flat_map bytes_of run) (is.0.2.body ++ is.0.1 ∷ [], is.0.2.whole)),
+            subst (λ (a : Mode). IsWhole limit a r.0 behind)
+                (behind_text (flat_map bytes_of run) ∙ sym (behind_open m (p.bytes ++ flat_map bytes_of run) opens)) r.2,
           )
-      | inr h ↦ absurd (no_other (sym h.0 ∙ all.0))
+      | inr h ↦ let clash : kind.Other ≡ kind.Csi = sym h.0 ∙ all.0 in absurd cc
     ]
 
--- ---- bytes have actions, and no bytes none
+-- ---- bytes of the same actions
 
-sequences_some : (ss : Sequences) (actions : List Action) → AreActions ss false actions → actions ≡ [] → ss ≡ []
-sequences_some [] actions each e = refl
-sequences_some (s ∷ ss) actions each e =
-    absurd (omega (arith, (actions_count s.0 false s.1 each.0 each.3).0, ap length e, ap length each.2, length-append each.0 each.1))
-
-join_opens : (s : List CsiParam × ℕ) (ss : Sequences) (bytes : List ℕ) → Joins bytes (s ∷ ss) → OpensCsi bytes
-join_opens s ss bytes j = ((j.3.body ++ s.1 ∷ []) ++ j.1, j.2 ∙ ap (λ (t : List ℕ). t ++ j.1) j.3.whole)
+some_actions : (s : List CsiParam × ℕ) (ss : Sequences) (actions : List Action) → AreActions (s ∷ ss) false actions → 0 < length actions
+some_actions s ss actions each =
+    omega (arith, (actions_count s.0 false s.1 each.0 each.3).0, ap length each.2, length-append each.0 each.1)
 
 -- neither has bytes, or both begin with a control sequence
-abbrev IsSame : List ℕ → Sequences → Type 0
-IsSame bytes ss = ((bytes ≡ []) × (ss ≡ [])) ⊎ (OpensCsi bytes × ((t : List CsiParam × ℕ) × (ts : Sequences) × (ss ≡ t ∷ ts)))
+record SameFront (a b : List ℕ) : Type 0 where
+  modes : (m : Mode) → behind_csi m b ≡ behind_csi m a
+  beside : (rest later : List ℕ) → Beside rest later → Beside (a ++ rest) (b ++ later)
 
-same_opening : (bytes : List ℕ) (ts ss : Sequences) (actions : List Action) → Joins bytes ts → AreActions ts false actions → AreActions ss false actions → IsSame bytes ss
-same_opening bytes [] ss actions j each other = inl (j, sequences_some ss actions other each)
-same_opening bytes (t ∷ ts) [] actions j each other = let none = sequences_some (t ∷ ts) actions each other in absurd cc
-same_opening bytes (t ∷ ts) (s ∷ ss) actions j each other = inr (join_opens t ts bytes j, (s, ss, refl))
-
-never_opens : (bytes : List ℕ) → bytes ≡ [] → OpensCsi bytes → ⊥
-never_opens bytes e o = omega (arith, ap length e, ap length o.1)
-
-same_modes : (m : Mode) (run : List Part) (ss : Sequences) → IsOpen run → IsSame (flat_map bytes_of run) ss → behind_csi m ss ≡ behind_csi m run
-same_modes m [] ss o (inl h) = ap (λ (l : Sequences). behind_csi m l) h.1
-same_modes m [] ss o (inr h) = absurd (never_opens [] refl h.0)
-same_modes m (p ∷ run) ss (inl e) h = absurd cc
-same_modes m (p ∷ run) ss (inr o) (inl h) = absurd (never_opens (flat_map bytes_of (p ∷ run)) h.0 o)
-same_modes m (p ∷ run) ss (inr o) (inr h) = ap (λ (l : Sequences). behind_csi m l) h.1.2
+same_front : (a b : List ℕ) (actions : List Action) → Decodes a false actions → Decodes b false actions → SameFront a b
+same_front a b actions came written = by came.sequences written.sequences came.join came.each written.join written.each
+  where
+    by : (ss ts : Sequences) → Joins a ss → AreActions ss false actions → Joins b ts → AreActions ts false actions → SameFront a b
+    by [] [] j x k y = record { modes = λ m. rw (j, k) refl; beside = λ rest later h. rw (j, k) h }
+    by (s ∷ ss) (t ∷ ts) j x k y =
+        let (front, is) = join_opens s ss a j in
+        let (other, was) = join_opens t ts b k in
+        let both : List ℕ = 27 ∷ 91 ∷ [] in
+        record {
+          modes = λ m. rw (is, was) refl;
+          beside = λ rest later h. rw (is, was) (inr (both, front ++ rest, other ++ later, omega arith, refl, refl));
+        }
+    by [] (t ∷ ts) j x k y = absurd (omega (arith, ap length x, some_actions t ts actions y))
+    by (s ∷ ss) [] j x k y = absurd (omega (arith, ap length y, some_actions s ss actions x))
 
 -- ---- the whole
 
@@ -274,29 +258,14 @@ pub record Again (limit : ℕ) (runs : List (List Part)) (m : Mode) (parts : Lis
   pub placed : StandInPlace runs parts others
   pub beside : Beside bytes text
 
-beside_nothing : Beside [] []
-beside_nothing = record { front = []; one = []; other = []; bytes_are = refl; text_is = refl; ends = inl refl }
-
 beside_none : (text : List ℕ) → Beside [] text → text ≡ []
-beside_none text b = by b.front b.one b.bytes_are b.ends b.text_is
-  where
-    by : (front one : List ℕ) → [] ≡ front ++ one → (one ≡ b.other) ⊎ (OpensCsi one × OpensCsi b.other) → text ≡ front ++ b.other → text ≡ []
-    by [] one e (inl same) is = is ∙ sym same ∙ sym e
-    by [] one e (inr o) is = absurd (omega (arith, ap length e, ap length o.0.1))
-    by (c ∷ front) one e ends is = absurd cc
+beside_none text (inl e) = sym e
+beside_none text (inr (s, x, y, two, is, was)) = absurd (omega (arith, two, ap length is, length-append s x))
 
 beside_on : (s bytes text : List ℕ) → Beside bytes text → Beside (s ++ bytes) (s ++ text)
-beside_on s bytes text b = record {
-  front = s ++ b.front;
-  one = b.one;
-  other = b.other;
-  bytes_are = ap (λ (t : List ℕ). s ++ t) b.bytes_are ∙ sym (append_assoc s b.front b.one);
-  text_is = ap (λ (t : List ℕ). s ++ t) b.text_is ∙ sym (append_assoc s b.front b.other);
-  ends = b.ends;
-}
-
-beside_csi : (bytes text : List ℕ) → OpensCsi bytes → OpensCsi text → Beside bytes text
-beside_csi bytes text o t = record { front = []; one = bytes; other = text; bytes_are = refl; text_is = refl; ends = inr (o, t) }
+beside_on s bytes text (inl e) = inl (ap (λ (t : List ℕ). s ++ t) e)
+beside_on s bytes text (inr (t, x, y, two, is, was)) =
+    inr (s ++ t, x, y, omega (arith, two, length-append s t), rw is (sym (append_assoc s t x)), rw was (sym (append_assoc s t y)))
 
 -- nothing behind the last part
 nothing_left : (limit : ℕ) (runs : List (List Part)) (m : Mode) (parts : List Part) (text : List ℕ) → Again limit runs m parts [] text → (text ≡ []) × StandInPlace runs parts []
@@ -333,15 +302,8 @@ plain_again limit runs m p behind bytes later l ne w next = by (whole_first limi
           others = p ∷ [];
           whole = subst (λ (t : List ℕ). IsWhole limit m t (p ∷ [])) all alone;
           placed = (behind, p ∷ [], [], refl, refl, inr (p, refl, ne, refl), none.1);
-          beside = record { front = bytes; one = []; other = []; bytes_are = sym (append-nil bytes); text_is = sym all ∙ sym (append-nil bytes); ends = inl refl };
+          beside = inl all;
         }
-
-run_beside : (flat : List ℕ) (ss : Sequences) (first bytes rest later : List ℕ) → Joins first ss → bytes ≡ flat ++ rest → IsSame flat ss → Beside rest later → Beside bytes (first ++ later)
-run_beside flat [] first bytes rest later j joined (inl h) b = rw (j, joined, h.0) b
-run_beside flat [] first bytes rest later j joined (inr h) b = let some = h.1.2 in absurd cc
-run_beside flat (s ∷ ss) first bytes rest later j joined (inl h) b = let none = h.1 in absurd cc
-run_beside flat (s ∷ ss) first bytes rest later j joined (inr h) b =
-    beside_csi bytes (first ++ later) (subst OpensCsi (sym joined) (opens_on flat rest h.0)) (opens_on first later (join_opens s ss first j))
 
 -- control sequences side by side, and what follows
 run_again : (limit : ℕ) (runs : List (List Part)) (m : Mode) (run behind : List Part) (bytes first later : List ℕ) → Means run first → length first ≤ limit
@@ -349,22 +311,22 @@ run_again : (limit : ℕ) (runs : List (List Part)) (m : Mode) (run behind : Lis
     → ((n : Mode) (rest : List ℕ) → IsWhole limit n rest behind → Again limit runs n behind rest later)
     → Again limit (run ∷ runs) m (run ++ behind) bytes (first ++ later)
 run_again limit runs m run behind bytes first later s within w next =
-    let (rest, joined, left, opening) = run_first limit m bytes run behind s.all w in
+    let (rest, joined, left) = run_first limit m bytes run behind s.all w in
     let ss = s.written.sequences in
     let j = s.written.join in
     let parts = csi_parts ss first j in
-    let a = next (behind_csi m run) rest left in
-    let same = same_opening (flat_map bytes_of run) s.came.sequences ss s.actions s.came.join s.came.each s.written.each in
-    let csis = subst (λ (n : Mode). AreFirstParts limit m (first ++ later) parts later n) (same_modes m run ss opening same) (first_csis limit ss m first later j within) in
+    let a = next (behind_csi m (flat_map bytes_of run)) rest left in
+    let same = same_front (flat_map bytes_of run) first s.actions s.came s.written in
+    let csis = subst (λ (n : Mode). AreFirstParts limit m (first ++ later) parts later n) (same.modes m) (first_csis limit ss m first later j within) in
     let mean : MeanTheSame run parts = record {
       means = subst (λ (t : List ℕ). Means run t) (sym (csi_joined ss first j)) s;
       all = are_csi ss first j;
     } in
     record {
       others = parts ++ a.others;
-      whole = whole_on limit parts a.others m (behind_csi m run) (first ++ later) later csis a.whole;
+      whole = whole_on limit parts a.others m (behind_csi m (flat_map bytes_of run)) (first ++ later) later csis a.whole;
       placed = (behind, parts, a.others, refl, refl, inl mean, a.placed);
-      beside = run_beside (flat_map bytes_of run) ss first bytes rest later j joined same a.beside;
+      beside = subst (λ (t : List ℕ). Beside t (first ++ later)) (sym joined) (same.beside rest later a.beside);
     }
 
 -- what is written for a run, no more than `limit` bytes for control sequences
@@ -380,7 +342,7 @@ pub again : (limit : ℕ) (runs : List (List Part)) (m : Mode) (bytes text : Lis
     → Again limit runs m parts bytes text
 again limit [] m bytes text parts l w r =
     let none : bytes ≡ [] = sym (whole_joined limit m bytes parts w) ∙ ap (flat_map bytes_of) r.0 in
-    rw (r.0, r.1, none) (record { others = []; whole = whole_none limit m; placed = (refl, refl); beside = beside_nothing })
+    rw (r.0, r.1, none) (record { others = []; whole = whole_none limit m; placed = (refl, refl); beside = inl refl })
 again limit (run ∷ runs) m bytes text parts l w r =
     let (behind, first, later, parts_are, text_is, own, others) = r in
     let next = λ (n : Mode) (rest : List ℕ) (v : IsWhole limit n rest behind). again limit runs n rest later behind l v others in

@@ -1,7 +1,7 @@
 -- What went out of a run from a reader to a writer, by what is known of both.
 use Rattle.std.proofs.Common.{◌≡◌, ℕ, Option, None, Some, IfSome, List, [], ◌∷◌, ◌++◌, length, take, refl, subst, sym, ap, ◌∙◌, inl, inr, ⊎_elim, append_assoc, append-nil, arith}
-use Rattle.std.specs.Io.KnownBytes.{Appends, Consumes, IsAtEnd}
-use Rattle.std.proofs.KnownBytes.{Appends-trans, Consumes-trans}
+use Rattle.std.specs.Io.KnownBytes.{Appends, Consumes, IsAtEnd, Keeps}
+use Rattle.std.proofs.KnownBytes.{Appends-trans, Consumes-kept, Consumes-nil, Consumes-trans}
 use Rattle.csicodec_filter.specs.Transform.{Begins, EndsOf, GoesOn, PassesOf, Sends, Transforms}
 
 -- nothing came with the last read
@@ -31,57 +31,88 @@ goes_on P s t u chunk next more later h k first bytes text passed =
 pub goes_over : {S : Type 0} (P : PassesOf S) (s t u : S) (chunk more later : List ℕ) → GoesOn P s chunk more t → GoesOn P t [] later u → GoesOn P s chunk (more ++ later) u
 goes_over P s t u chunk more later h k = subst (λ (c : List ℕ). GoesOn P s c (more ++ later) u) (append-nil chunk) (goes_on P s t u chunk [] more later h k)
 
--- and what passed before
-pub goes_behind : {S : Type 0} (P : PassesOf S) (s t first : S) (bytes text more : List ℕ) → GoesOn P s [] more t → P first bytes text s → P first bytes (text ++ more) t
-goes_behind P s t first bytes text more h passed = subst (λ (c : List ℕ). P first c (text ++ more) t) (append-nil bytes) (h first bytes text passed)
+-- since a state some bytes were read, and all that is sure of them was written
+pub record SoFar {S : Type 0} (P : PassesOf S) (s now : S) (i j w x : Option (List ℕ)) : Type 0 where
+  pub read : List ℕ
+  pub text : List ℕ
+  pub consumed : Consumes i j read
+  pub passed : P s read text now
+  pub written : Appends w x text
 
 module _ {S : Type 0} (P : PassesOf S) (E : EndsOf S) (s : S) where
   -- what went out of a run that read some bytes
   abbrev pub Went : Option (List ℕ) → Option (List ℕ) → Option (List ℕ) → Option (List ℕ) → Type 0
   Went i k w y = (bytes : List ℕ) × (more : List ℕ) × (sent : List ℕ) × Consumes i k (bytes ++ more) × Begins (Sends P s) (Transforms P E s) ((more ≡ []) × IsAtEnd k) bytes sent × Appends w y sent
 
+  -- nothing came with the last read
+  pub so_none : (buf : List ℕ) (count : ℕ) (now : S) (i j k w x : Option (List ℕ)) → SoFar P s now i j w x → Consumes j k (take count buf) → count ≡ 0 → SoFar P s now i k w x
+  so_none buf count now i j k w x h more none = record { read = h.read; text = h.text; consumed = none_more h.read buf count i j k h.consumed more none; passed = h.passed; written = h.written }
+
+  -- the last read failed
+  pub so_kept : (now : S) (i j k w x : Option (List ℕ)) → SoFar P s now i j w x → Keeps j k → SoFar P s now i k w x
+  so_kept now i j k w x h kept = record { read = h.read; text = h.text; consumed = Consumes-kept i j k h.read h.consumed kept; passed = h.passed; written = h.written }
+
+  -- a chunk more, and its text
+  pub so_on : (chunk more : List ℕ) (now last : S) (i j k w x y : Option (List ℕ)) → SoFar P s now i j w x → Consumes j k chunk → GoesOn P now chunk more last → Appends x y more → SoFar P s last i k w y
+  so_on chunk more now last i j k w x y h came goes made = record {
+    read = h.read ++ chunk;
+    text = h.text ++ more;
+    consumed = Consumes-trans i j k h.read chunk h.consumed came;
+    passed = goes s h.read h.text h.passed;
+    written = Appends-trans w x y h.text more h.written made;
+  }
+
+  -- what was put off too
+  pub so_off : (R : S → Type 0) (now last : S) (i k w x y : Option (List ℕ)) → SoFar P s now i k w x → (more : List ℕ) × GoesOn P now [] more last × R last × Appends x y more
+      → (read : List ℕ) × (text : List ℕ) × (end : S) × Consumes i k read × P s read text end × R end × Appends w y text
+  so_off R now last i k w x y h (more, goes, rests, made) =
+      let a = so_on [] more now last i k k w x y h (Consumes-nil k) goes made in (a.read, a.text, last, a.consumed, a.passed, rests, a.written)
+
   -- all that is sure
-  pub went : (read more text : List ℕ) (last : S) (i j k w x : Option (List ℕ)) → Consumes i j read → Consumes j k more → P s read text last → Appends w x text → Went i k w x
-  went read more text last i j k w x consumed later passed written =
-      (read, more, text, Consumes-trans i j k read more consumed later, ([], inl (last, subst (λ (t : List ℕ). P s read t last) (sym (append-nil text)) passed)), written)
+  pub went : (more : List ℕ) (last : S) (i j k w x : Option (List ℕ)) → SoFar P s last i j w x → Consumes j k more → Went i k w x
+  went more last i j k w x h later = (
+    h.read,
+    more,
+    h.text,
+    Consumes-trans i j k h.read more h.consumed later,
+    ([], inl (last, subst (λ (t : List ℕ). P s h.read t last) (sym (append-nil h.text)) h.passed)),
+    h.written,
+  )
 
   -- some of a chunk's text
-  pub went_some : (read text more sent unsent : List ℕ) (last : S) (i k w x y : Option (List ℕ)) → Consumes i k read → P s read (text ++ more) last → Appends w x text
+  pub went_some : (chunk more sent unsent : List ℕ) (now last : S) (i j k w x y : Option (List ℕ)) → SoFar P s now i j w x → Consumes j k chunk → GoesOn P now chunk more last
       → more ≡ sent ++ unsent → Appends x y sent → Went i k w y
-  went_some read text more sent unsent last i k w x y consumed passed written parts some =
-      let split : text ++ more ≡ (text ++ sent) ++ unsent = ap (λ (t : List ℕ). text ++ t) parts ∙ sym (append_assoc text sent unsent) in (
-        read,
-        [],
-        text ++ sent,
-        subst (Consumes i k) (sym (append-nil read)) consumed,
-        (unsent, inl (last, subst (λ (t : List ℕ). P s read t last) split passed)),
-        Appends-trans w x y text sent written some,
-      )
+  went_some chunk more sent unsent now last i j k w x y h came goes parts some = (
+    h.read ++ chunk,
+    [],
+    h.text ++ sent,
+    subst (Consumes i k) (sym (append-nil (h.read ++ chunk))) (Consumes-trans i j k h.read chunk h.consumed came),
+    (unsent, inl (last, rw (append_assoc h.text sent unsent, ← parts) (goes s h.read h.text h.passed))),
+    Appends-trans w x y h.text sent h.written some,
+  )
 
   -- some of what was put off
-  pub went_off : (read text more sent unsent : List ℕ) (now last : S) (i k w x y : Option (List ℕ)) → Consumes i k read → P s read text now → GoesOn P now [] more last → Appends w x text
-      → more ≡ sent ++ unsent → Appends x y sent → Went i k w y
-  went_off read text more sent unsent now last i k w x y consumed passed goes written parts some =
-      went_some read text more sent unsent last i k w x y consumed (goes_behind P now last s read text more goes passed) written parts some
+  pub went_off : (now : S) (i k w x y : Option (List ℕ)) → SoFar P s now i k w x
+      → (last : S) × (more : List ℕ) × (sent : List ℕ) × (unsent : List ℕ) × GoesOn P now [] more last × (more ≡ sent ++ unsent) × Appends x y sent → Went i k w y
+  went_off now i k w x y h (last, more, sent, unsent, goes, parts, some) = went_some [] more sent unsent now last i k k w x y h (Consumes-nil k) goes parts some
 
   -- some of the end
-  pub went_end : (read text rest sent unsent : List ℕ) (last : S) (i k w x y : Option (List ℕ)) → Consumes i k read → P s read text last → E last rest → Appends w x text
-      → rest ≡ sent ++ unsent → Appends x y sent → IsAtEnd k → Went i k w y
-  went_end read text rest sent unsent last i k w x y consumed passed ends written parts some end =
-      let split : (text ++ sent) ++ unsent ≡ text ++ rest = append_assoc text sent unsent ∙ ap (λ (t : List ℕ). text ++ t) (sym parts) in (
-        read,
-        [],
-        text ++ sent,
-        subst (Consumes i k) (sym (append-nil read)) consumed,
-        (unsent, inr ((refl, end), (last, text, rest, passed, ends, split))),
-        Appends-trans w x y text sent written some,
-      )
+  pub went_end : (rest : List ℕ) (last : S) (i k w x y : Option (List ℕ)) → SoFar P s last i k w x → IsAtEnd k → E last rest
+      → (sent : List ℕ) × (unsent : List ℕ) × (rest ≡ sent ++ unsent) × Appends x y sent → Went i k w y
+  went_end rest last i k w x y h end ends (sent, unsent, parts, some) = (
+    h.read,
+    [],
+    h.text ++ sent,
+    subst (Consumes i k) (sym (append-nil h.read)) h.consumed,
+    (unsent, inr ((refl, end), (last, h.text, rest, h.passed, ends, rw (append_assoc h.text sent unsent, ← parts) refl))),
+    Appends-trans w x y h.text sent h.written some,
+  )
 
   -- the end
-  pub ran : (read text rest : List ℕ) (last : S) (i k w x y : Option (List ℕ)) → Consumes i k read → IsAtEnd k → P s read text last → E last rest → Appends w x text → Appends x y rest
+  pub ran : (rest : List ℕ) (last : S) (i k w x y : Option (List ℕ)) → SoFar P s last i k w x → IsAtEnd k → E last rest → Appends x y rest
       → (bytes : List ℕ) × (t : List ℕ) × Consumes i k bytes × IsAtEnd k × Transforms P E s bytes t × Appends w y t
-  ran read text rest last i k w x y consumed end passed ends written more =
-      (read, text ++ rest, consumed, end, (last, text, rest, passed, ends, refl), Appends-trans w x y text rest written more)
+  ran rest last i k w x y h end ends more =
+      (h.read, h.text ++ rest, h.consumed, end, (last, h.text, rest, h.passed, ends, refl), Appends-trans w x y h.text rest h.written more)
 
 -- what went out is a front of the text of the whole input
 module _ (Sure Whole Front : List ℕ → List ℕ → Type 0) where

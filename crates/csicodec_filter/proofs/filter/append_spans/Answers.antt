@@ -1,5 +1,5 @@
 use Rattle.csicodec_filter.specs.Written.{open_at}
-use Rattle.csicodec_filter.proofs.Filtered.{passes_by, same_by}
+use Rattle.csicodec_filter.proofs.Written.{passes_by, same_by}
 use Rattle.csicodec_filter.proofs.filter.append_spans.Goals as goal
 
 pub returns-clause-passes : goal.returns-clause-passes

@@ -5,8 +5,7 @@ use Rattle.std.proofs.lemmas.Result.{MatchResult-weaker, on_err_weaker, on_ok_we
 use Rattle.csicodec_spans.specs.declared.table.Mode.TheVariants as mode
 use Rattle.csicodec_filter.specs.Filter.{Filters}
 use Rattle.csicodec_filter.specs.Written.{ByRule}
-use Rattle.csicodec_filter.proofs.Filtered.{begun, filtered, passed, sent_front}
-use Rattle.csicodec_filter.proofs.Written.{since_none}
+use Rattle.csicodec_filter.proofs.Written.{begun, filtered, passed, sent_front, since_none}
 use Rattle.csicodec_filter.proofs.run.filter_all.Goals as goal
 
 pub transform_all-requires-clause-begun : goal.transform_all-requires-clause-begun

@@ -1,5 +1,5 @@
 use Rattle.std.proofs.lemmas.Result.{on_ok_weaker}
-use Rattle.csicodec_filter.proofs.Filtered.{adds_plain}
+use Rattle.csicodec_filter.proofs.Written.{adds_plain}
 use Rattle.csicodec_filter.proofs.filter.AnyWriteSpansNormal.other.Goals as goal
 
 pub returns : goal.returns

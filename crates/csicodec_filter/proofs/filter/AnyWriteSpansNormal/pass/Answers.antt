@@ -1,5 +1,5 @@
 use Rattle.std.proofs.Common.{◌≡◌, ◌++◌, ◌∙◌, List, ℕ, true, ap, rules, arith}
-use Rattle.csicodec_filter.proofs.Filtered.{known_passes, plain_passes}
+use Rattle.csicodec_filter.proofs.Written.{known_passes, plain_passes}
 use Rattle.csicodec_filter.proofs.filter.AnyWriteSpansNormal.pass.Goals as goal
 
 pub returns-then-limit-ge-WIDE-clause-written : goal.returns-then-limit-ge-WIDE-clause-written

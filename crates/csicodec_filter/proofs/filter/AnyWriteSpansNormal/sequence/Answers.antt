@@ -1,5 +1,5 @@
 use Rattle.std.proofs.Common.{◌++◌, ◌∙◌, ap}
-use Rattle.csicodec_filter.proofs.Filtered.{adds_one}
+use Rattle.csicodec_filter.proofs.Written.{adds_one}
 use Rattle.csicodec_filter.proofs.filter.AnyWriteSpansNormal.sequence.Goals as goal
 
 pub returns-then-wanted : goal.returns-then-wanted

@@ -1,5 +1,5 @@
 use Rattle.csicodec_spans.proofs.Kept.{unsure_short}
-use Rattle.csicodec_filter.proofs.Filtered.{passes_by, same_by}
+use Rattle.csicodec_filter.proofs.Written.{passes_by, same_by}
 use Rattle.csicodec_filter.proofs.filter.Filter.push.Goals as goal
 
 pub returns-clause-passes : goal.returns-clause-passes

@@ -1,28 +1,21 @@
 -- What a filter writes, cut as a stream once more.
 use Rattle.std.proofs.Common.{◌≡◌, ◌≢◌, ℕ, ◌+◌, ◌<◌, ◌≤◌, ◌⊎◌, List, [], ◌∷◌, ◌++◌, false, length, refl, sym, ap, subst, ◌∙◌, inl, inr, append_assoc, append-nil, arith}
-use Rattle.std.proofs.Math.ListN.{get_or-append}
-use Rattle.std.proofs.lemmas.List.{length-append, take-append-le}
+use Rattle.std.proofs.{Math.ListN.get_or-append, lemmas.List.length-append, lemmas.List.take-append-le}
 use Rattle.std.specs.List.{flat_map}
-use Rattle.csicodec_tokens.specs.declared.param.CsiParam.{CsiParam}
-use Rattle.csicodec_tokens.specs.declared.reader.ReadError.{ReadError}
-use Rattle.csicodec_tokens.specs.declared.reader.ReadError.TheVariants.{NotCsi, BadByte, NumberTooLarge, Truncated, Memory}
 use Rattle.csicodec_tokens.specs.Fault.{Begins, NoSeq, IsLeast, IsBad, FaultOf, IsMetAt}
+use Rattle.csicodec_tokens.specs.declared.{param.CsiParam.CsiParam, reader.ReadError.ReadError}
+use Rattle.csicodec_tokens.specs.declared.reader.ReadError.TheVariants.{NotCsi, BadByte, NumberTooLarge}
 use Rattle.csicodec_actions.specs.Actions.{Action}
 use Rattle.csicodec_parser.proofs.Cuts.{actions_count}
 use Rattle.csicodec_streams.specs.Decoding.{AreActions, Decodes, Joins}
-use Rattle.csicodec_spans.specs.declared.table.Kind.{Kind}
-use Rattle.csicodec_spans.specs.declared.table.Kind.TheVariants as kind
-use Rattle.csicodec_spans.specs.declared.table.Mode.{Mode}
-use Rattle.csicodec_spans.specs.declared.table.Mode.TheVariants as mode
-use Rattle.csicodec_spans.specs.Table.{Answer, More, Anew, Sequence, Undecided, ahead}
 use Rattle.csicodec_spans.specs.Parts.{Part, part, bytes_of, left_over, IsSequence, IsMalformed, AllowsCsi, Allows, IsFirstPart, AreFirstParts, IsUnsure, IsWhole}
+use Rattle.csicodec_spans.specs.Table.{Answer, Sequence, ahead}
+use Rattle.csicodec_spans.specs.declared.table.{Kind.Kind, Mode.Mode}
+use Rattle.csicodec_spans.specs.declared.table.Kind.TheVariants as kind
+use Rattle.csicodec_spans.specs.declared.table.Mode.TheVariants as mode
 use Rattle.csicodec_spans.proofs.Agrees.{kept, opens, sound}
-use Rattle.csicodec_spans.proofs.Kept.{parts_more, parts_on}
-use Rattle.csicodec_spans.proofs.Missed.{allows_whole, part_some}
-use Rattle.csicodec_spans.proofs.Once.{whole_once}
-use Rattle.csicodec_spans.proofs.OneSpan.{none_unsure}
-use Rattle.csicodec_spans.proofs.Fronts.{Sound}
-use Rattle.csicodec_spans.proofs.Spanned.{whole_joined}
+use Rattle.csicodec_spans.proofs.{Fronts.Sound, Kept.parts_more, Kept.parts_on, Missed.allows_whole, Missed.part_some}
+use Rattle.csicodec_spans.proofs.{Once.whole_once, OneSpan.none_unsure, Spanned.whole_joined}
 use Rattle.csicodec_filter.specs.Filter.{AreWritten, IsWritten}
 use Rattle.csicodec_filter.specs.Meaning.{AreCsi, Means, MeanTheSame, StandInPlace, singles, KeepsMeaning, Within}
 
@@ -64,9 +57,6 @@ allows_less : (f : Answer) (limit : ℕ) (s x : List ℕ) (k : Kind) (text : Lis
 allows_less Sequence limit s x k text a within h = csi_less limit s x k text a within h
 allows_less _ limit s x k text a within h = h
 
-long_decided : (m : Mode) (bytes : List ℕ) → 3 ≤ length bytes → ahead m bytes ≢ Undecided
-long_decided m bytes long e = let few = (subst (λ (f : Answer). Sound m bytes f) e (sound m bytes)).0 in omega (arith, long, few)
-
 -- what stands in front of more bytes stands there already with the first two of them
 part_less : (limit : ℕ) (m : Mode) (p : Part) (s x : List ℕ) (a : Mode) → 0 < limit → 2 ≤ length s → IsFirstPart limit m (p.bytes ++ (s ++ x)) p (s ++ x) a → IsFirstPart limit m (p.bytes ++ s) p s a
 part_less limit m p s x a l two h =
@@ -77,15 +67,12 @@ part_less limit m p s x a l two h =
     let allows : Allows (ahead m (short ++ x)) limit (short ++ x) p.kind p.bytes a = subst (λ (t : List ℕ). Allows (ahead m t) limit t p.kind p.bytes a) all h.1 in (
       refl,
       elim (kept m short x) [
-        | inl e ↦ absurd (long_decided m short (omega (arith, some, two, long)) e)
+        | inl e ↦ let few = (subst (λ (f : Answer). Sound m short f) e (sound m short)).0 in absurd (omega (arith, some, two, long, few))
         | inr e ↦ allows_less (ahead m short) limit short x p.kind p.bytes a (omega (arith, some, two, long)) (subst (λ (f : Answer). Allows f limit (short ++ x) p.kind p.bytes a) e allows)
       ],
     )
 
 -- ---- bytes that are the same up to a control sequence
-
-abbrev pub OpensCsi : List ℕ → Type 0
-OpensCsi bytes = (more : List ℕ) × (bytes ≡ 27 ∷ 91 ∷ more)
 
 -- the same, or the same at least as far as two bytes
 abbrev pub Beside : List ℕ → List ℕ → Type 0
@@ -157,12 +144,6 @@ behind_text : (bytes : List ℕ) → behind_csi mode.Text bytes ≡ mode.Text
 behind_text [] = refl
 behind_text _ = refl
 
-behind_open : (m : Mode) (bytes : List ℕ) → OpensCsi bytes → behind_csi m bytes ≡ mode.Text
-behind_open m bytes o = ap (behind_csi m) o.1
-
-opens_on : (a b : List ℕ) → OpensCsi a → OpensCsi (a ++ b)
-opens_on a b o = (o.0 ++ b, ap (λ (t : List ℕ). t ++ b) o.1)
-
 abbrev Sequences : Type 0
 Sequences = List (List CsiParam × ℕ)
 
@@ -178,7 +159,7 @@ csi_joined : (ss : Sequences) (bytes : List ℕ) (j : Joins bytes ss) → flat_m
 csi_joined [] bytes j = sym j
 csi_joined (s ∷ ss) bytes j = ap (λ (t : List ℕ). j.0 ++ t) (csi_joined ss j.1 j.4) ∙ sym j.2
 
-join_opens : (s : List CsiParam × ℕ) (ss : Sequences) (bytes : List ℕ) → Joins bytes (s ∷ ss) → OpensCsi bytes
+join_opens : (s : List CsiParam × ℕ) (ss : Sequences) (bytes : List ℕ) → Joins bytes (s ∷ ss) → (more : List ℕ) × (bytes ≡ 27 ∷ 91 ∷ more)
 join_opens s ss bytes j = ((j.3.body ++ s.1 ∷ []) ++ j.1, j.2 ∙ ap (λ (t : List ℕ). t ++ j.1) j.3.whole)
 
 first_csi : (limit : ℕ) (m : Mode) (text rest : List ℕ) (s : IsSequence text) → length text ≤ limit → IsFirstPart limit m (text ++ rest) (part kind.Csi text) rest mode.Text
@@ -198,7 +179,7 @@ first_csis limit (s ∷ ss) m bytes more j within =
       mode.Text,
       subst (λ (t : List ℕ). IsFirstPart limit m t (part kind.Csi j.0) (j.1 ++ more) mode.Text) all first,
       subst (λ (n : Mode). AreFirstParts limit mode.Text (j.1 ++ more) (csi_parts ss j.1 j.4) more n)
-          (behind_text j.1 ∙ sym (behind_open m bytes (join_opens s ss bytes j))) others,
+          (behind_text j.1 ∙ sym (ap (behind_csi m) (join_opens s ss bytes j).1)) others,
     )
 
 -- a run in front of a whole stream
@@ -213,12 +194,11 @@ run_first limit m bytes (p ∷ run) behind all w =
           let (rest, n, first, others) = h in
           let own : Allows (ahead m bytes) limit bytes kind.Csi p.bytes n = subst (λ (k : Kind). Allows (ahead m bytes) limit bytes k p.bytes n) all.0 first.1 in
           let is = allows_whole (ahead m bytes) limit m bytes p.bytes n (sound m bytes) own in
-          let r = run_first limit mode.Text rest run behind all.1 (subst (λ (a : Mode). IsWhole limit a rest (run ++ behind)) is.2 others) in
-          let opens = opens_on p.bytes (flat_map bytes_of run) (is.0.2.body ++ is.0.1 ∷ [], is.0.2.whole) in (
+          let r = run_first limit mode.Text rest run behind all.1 (subst (λ (a : Mode). IsWhole limit a rest (run ++ behind)) is.2 others) in (
             r.0,
             first.0 ∙ ap (λ (t : List ℕ). p.bytes ++ t) r.1 ∙ sym (append_assoc p.bytes (flat_map bytes_of run) r.0),
             subst (λ (a : Mode). IsWhole limit a r.0 behind)
-                (behind_text (flat_map bytes_of run) ∙ sym (behind_open m (p.bytes ++ flat_map bytes_of run) opens)) r.2,
+                (behind_text (flat_map bytes_of run) ∙ sym (ap (λ (t : List ℕ). behind_csi m (t ++ flat_map bytes_of run)) is.0.2.whole)) r.2,
           )
       | inr h ↦ let clash : kind.Other ≡ kind.Csi = sym h.0 ∙ all.0 in absurd cc
     ]
@@ -242,10 +222,9 @@ same_front a b actions came written = by came.sequences written.sequences came.j
     by (s ∷ ss) (t ∷ ts) j x k y =
         let (front, is) = join_opens s ss a j in
         let (other, was) = join_opens t ts b k in
-        let both : List ℕ = 27 ∷ 91 ∷ [] in
         record {
           modes = λ m. rw (is, was) refl;
-          beside = λ rest later h. rw (is, was) (inr (both, front ++ rest, other ++ later, omega arith, refl, refl));
+          beside = λ rest later h. rw (is, was) (inr (27 ∷ 91 ∷ [], front ++ rest, other ++ later, omega arith, refl, refl));
         }
     by [] (t ∷ ts) j x k y = absurd (omega (arith, ap length x, some_actions t ts actions y))
     by (s ∷ ss) [] j x k y = absurd (omega (arith, ap length y, some_actions s ss actions x))

@@ -1,20 +1,14 @@
 -- A stream that is written span by span, and the texts of its parts.
 use Rattle.std.proofs.Common.{◌≡◌, ◌≢◌, ◌<◌, ◌≤◌, ◌-◌, ℕ, zero, suc, Option, IfSome, List, [], ◌∷◌, ◌++◌, length, take, drop, refl, sym, ap, subst, ◌∙◌, append_assoc, append-nil, arith}
-use Rattle.std.specs.Prelude.{⊤}
-use Rattle.std.specs.List.{AllByRecursion, flat_map}
 use Rattle.std.specs.Io.KnownBytes.{Appends as Gets, Consumes, IsAtEnd}
+use Rattle.std.specs.{List.AllByRecursion, List.flat_map, Prelude.⊤}
 use Rattle.std.proofs.lemmas.List.{length-append, length-take, take-append-drop}
-use Rattle.csicodec_spans.specs.declared.table.Kind.{Kind}
-use Rattle.csicodec_spans.specs.declared.table.Kind.TheVariants as kind
-use Rattle.csicodec_spans.specs.declared.table.Mode.{Mode}
-use Rattle.csicodec_spans.specs.declared.table.Mode.TheVariants as mode
 use Rattle.csicodec_spans.specs.Parts.{Part, part, bytes_of, left_over, Allows, AreFirstParts, IsPlainFront, IsSpan, IsUnsure}
-use Rattle.csicodec_spans.specs.Table.{Sequence, ahead}
-use Rattle.csicodec_spans.proofs.Agrees.{opens}
-use Rattle.csicodec_spans.proofs.Kept.{parts_join, parts_more, parts_on}
-use Rattle.csicodec_spans.proofs.Once.{parts_front, whole_once}
-use Rattle.csicodec_spans.proofs.OneSpan.{none_unsure}
-use Rattle.csicodec_spans.proofs.Spanned.{rest_is}
+use Rattle.csicodec_spans.specs.{Table.Sequence, Table.ahead, declared.table.Kind.Kind, declared.table.Mode.Mode}
+use Rattle.csicodec_spans.specs.declared.table.Kind.TheVariants as kind
+use Rattle.csicodec_spans.specs.declared.table.Mode.TheVariants as mode
+use Rattle.csicodec_spans.proofs.{Agrees.opens, Kept.parts_join, Kept.parts_more, Kept.parts_on}
+use Rattle.csicodec_spans.proofs.{Once.parts_front, Once.whole_once, OneSpan.none_unsure, Spanned.rest_is}
 use Rattle.csicodec_streams.specs.Known.{IsOne}
 use Rattle.csicodec_filter.specs.Filter.{AreWritten, Filters, Held, IsFrontOf, IsWritten, MakesBy, Passes, PassesBy, WritesOne}
 use Rattle.csicodec_filter.specs.Written.{Adds, Appends, ByRule, Leaves, Since, WrittenOf, open_at, with_more}

@@ -1,9 +1,8 @@
 -- What a filter makes of the parts of a stream.
 use Rattle.std.specs.Prelude.{ℕ, ◌≡◌, List, [], ◌∷◌, ◌++◌}
-use Rattle.csicodec_spans.specs.declared.table.Kind.{Kind}
-use Rattle.csicodec_spans.specs.declared.table.Kind.TheVariants as kind
-use Rattle.csicodec_spans.specs.declared.table.Mode.{Mode}
 use Rattle.csicodec_spans.specs.Parts.{Part, AreFirstParts, IsUnsure, IsWhole}
+use Rattle.csicodec_spans.specs.declared.table.{Kind.Kind, Mode.Mode}
+use Rattle.csicodec_spans.specs.declared.table.Kind.TheVariants as kind
 
 -- one text is written for each sequence
 abbrev pub WritesOne : (List ℕ → List ℕ → Type 0) → Type 0

@@ -1,10 +1,8 @@
-use Rattle.std.proofs.Common.{ℕ, List}
-use Rattle.std.specs.Io.KnownBytes.{Appends}
-use Rattle.std.proofs.KnownBytes.{Consumes-whole}
+use Rattle.std.proofs.{Common.ℕ, Common.List, KnownBytes.Consumes-whole}
 use Rattle.std.proofs.lemmas.Result.{MatchResult-weaker, on_err_weaker, on_ok_weaker}
+use Rattle.std.specs.Io.KnownBytes.{Appends}
 use Rattle.csicodec_spans.specs.declared.table.Mode.TheVariants as mode
-use Rattle.csicodec_filter.specs.Filter.{Filters}
-use Rattle.csicodec_filter.specs.Written.{ByRule}
+use Rattle.csicodec_filter.specs.{Filter.Filters, Written.ByRule}
 use Rattle.csicodec_filter.proofs.Written.{begun, filtered, passed, sent_front, since_none}
 use Rattle.csicodec_filter.proofs.run.filter_all.Goals as goal
 

@@ -1,7 +1,8 @@
-use Rattle.std.proofs.Common.{◌≡◌, ◌∷◌, ◌∙◌, [], length, length-append, take, ap, arith}
+use Rattle.std.proofs.Common.{◌≡◌, ◌<◌, ℕ, List, ◌∷◌, ◌++◌, ◌∙◌, [], length, length-append, take, ap, arith}
 use Rattle.std.proofs.Math.Seq.{take-append_seam}
 use Rattle.csicodec_spans.specs.declared.table.Kind.TheVariants as kind
 use Rattle.csicodec_spans.specs.Parts.{part}
+use Rattle.csicodec_filter.specs.{Filter.Held, Written.Appends, Written.WrittenOf}
 use Rattle.csicodec_filter.proofs.Written.{appends, appends_none, appends_on, left_within}
 use Rattle.csicodec_filter.proofs.spanwise.write_sure.Goals as goal
 
@@ -11,27 +12,17 @@ loop-to-init g c = appends_none g.T.WriteSpans.written _ _
 pub returns-in_default-clause-written : goal.returns-in_default-clause-written
 returns-in_default-clause-written g c = appends_on g.T.WriteSpans.written _ _ _ _ _ _ c.loop-to.invariant c.in_ok-to.ensures
 
+-- behind some bytes of what is left, less is left
+less : {S : Type 0} (Own : WrittenOf S) (s t : Held S) (a b bytes rest : List ℕ) → Appends Own s a b t → t.bytes ≡ bytes ++ rest → 0 < length bytes → length rest < length s.bytes
+less Own s t a b bytes rest x parts some = omega (arith, left_within Own s t a b x, ap length parts, length-append bytes rest, some)
+
 pub loop-to-smaller-in_ok-sequence-in-Some-control : goal.loop-to-smaller-in_ok-sequence-in-Some-control
 loop-to-smaller-in_ok-sequence-in-Some-control g c =
-    let parts = rw c.in-Some.is at c.in_ok-span.ensures.parts in
-    omega (
-      arith,
-      left_within g.T.WriteSpans.written _ _ _ _ c.in_ok-to.ensures,
-      ap length parts,
-      length-append c.in-Some.span.bytes.now c.next.new.self.rest.now,
-      rw c.in-Some.is at c.in_ok-span.ensures.some,
-    )
+    less g.T.WriteSpans.written _ _ _ _ _ _ c.in_ok-to.ensures (rw c.in-Some.is at c.in_ok-span.ensures.parts) (rw c.in-Some.is at c.in_ok-span.ensures.some)
 
 pub loop-to-smaller : goal.loop-to-smaller
 loop-to-smaller g c =
-    let parts = rw c.in-Some.is at c.in_ok-span.ensures.parts in
-    omega (
-      arith,
-      left_within g.T.WriteSpans.written _ _ _ _ c.in_ok-to.ensures,
-      ap length parts,
-      length-append c.in-Some.span.bytes.now c.next.new.self.rest.now,
-      rw c.in-Some.is at c.in_ok-span.ensures.some,
-    )
+    less g.T.WriteSpans.written _ _ _ _ _ _ c.in_ok-to.ensures (rw c.in-Some.is at c.in_ok-span.ensures.parts) (rw c.in-Some.is at c.in_ok-span.ensures.some)
 
 pub loop-to-preserved-in_ok-sequence-in-Some-control : goal.loop-to-preserved-in_ok-sequence-in-Some-control
 loop-to-preserved-in_ok-sequence-in-Some-control g c =

@@ -1,5 +1,4 @@
-use Rattle.std.proofs.Common.{◌++◌, ◌∙◌, ap, append_assoc}
-use Rattle.std.proofs.lemmas.Result.{on_ok_weaker}
+use Rattle.std.proofs.{Common.◌++◌, Common.◌∙◌, Common.ap, Common.append_assoc, lemmas.Result.on_ok_weaker}
 use Rattle.csicodec_filter.proofs.Sent.{goes_over}
 use Rattle.csicodec_filter.proofs.transform.take_read.Goals as goal
 

@@ -1,5 +1,4 @@
-use Rattle.std.proofs.Common.{◌++◌, ◌∙◌, refl, ap, append_assoc}
-use Rattle.std.proofs.lemmas.Result.{on_ok_weaker}
+use Rattle.std.proofs.{Common.◌++◌, Common.◌∙◌, Common.refl, Common.ap, Common.append_assoc, lemmas.Result.on_ok_weaker}
 use Rattle.csicodec_filter.proofs.spanwise.SpanwiseTransform.end.Goals as goal
 
 pub returns : goal.returns

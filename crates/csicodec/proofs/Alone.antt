@@ -1,22 +1,16 @@
 -- An action that is in range and canonical is read back alone from its own text: a case for each kind of action.
 use Rattle.std.proofs.Common.{ℕ, ◌≡◌, ◌<◌, List, [], ◌∷◌, Bool, false, length, refl, sym, ap, arith, inl, inr}
-use Rattle.std.proofs.lemmas.Bool.{cases_Bool}
-use Rattle.std.proofs.lemmas.Str.{encode_ascii}
-use Rattle.csicodec_tokens.specs.declared.param.CsiParam.{CsiParam}
-use Rattle.csicodec_tokens.specs.Sequence.{IsFinal, Spellable}
+use Rattle.std.proofs.lemmas.{Bool.cases_Bool, Str.encode_ascii}
+use Rattle.csicodec_tokens.specs.{declared.param.CsiParam.CsiParam}
+use Rattle.csicodec_parser.specs.Canonical.{IsUncut, IsUnknownIn, Canonical}
+use Rattle.csicodec_parser.specs.{Cut.body, Cut.IsStuck, Groups.group, Groups.marked, Groups.has_odd}
+use Rattle.csicodec_parser.specs.Segments.{BodyActions, CutActions, ActionsIn}
 use Rattle.csicodec_parser.specs.declared.group.Group.{Group}
 use Rattle.csicodec_parser.specs.declared.group.Group.TheVariants as groups
-use Rattle.csicodec_actions.specs.Actions.{Action, Sgr, Unspecified}
-use Rattle.csicodec_parser.specs.Groups.{group, marked, has_odd}
-use Rattle.csicodec_parser.specs.Cut.{body, IsStuck}
-use Rattle.csicodec_parser.specs.Segments.{BodyActions, CutActions, ActionsIn, Actions}
-use Rattle.csicodec_parser.specs.Canonical.{IsUncut, IsUnknownIn, Canonical}
-use Rattle.csicodec_actions.specs.Ranges.{InRange}
+use Rattle.csicodec_actions.specs.{Actions.Action, Actions.Sgr, Actions.Unspecified, Ranges.InRange}
 use Rattle.csicodec_parser.proofs.GroupOf.{marked-body}
 use Rattle.csicodec_streams.proofs.OneReading.{Alone}
-use Rattle.csicodec.proofs.Spelling.{spelling-alone}
-use Rattle.csicodec.proofs.SgrSpelling.{sgr-spelling}
-use Rattle.csicodec.proofs.WrittenBack.{written-back}
+use Rattle.csicodec.proofs.{SgrSpelling.sgr-spelling, Spelling.spelling-alone, Spelling.written-back}
 
 -- ---- a list that is unknown is one action
 
@@ -42,22 +36,17 @@ uncut-actions g list flag final same some unknown = elim (cases_Bool (has_odd g 
 unknown-actions : (g : Group) (list : List CsiParam) (flag : Bool) (final : ℕ) → group list final ≡ g → IsUnknownIn g list final → ActionsIn g list flag final (Unspecified list flag final ∷ [])
 unknown-actions groups.Whole list flag final same unknown = inr (unknown, refl)
 unknown-actions groups.Styles list flag final same unknown = uncut-actions groups.Styles list flag final same (λ e. unknown.1) unknown.0
-unknown-actions (groups.Modes s) list flag final same unknown = uncut-actions (groups.Modes s) list flag final same (λ e. cc) unknown
-unknown-actions (groups.DecModes c) list flag final same unknown = uncut-actions (groups.DecModes c) list flag final same (λ e. cc) unknown
-
-unknown-alone : (list : List CsiParam) (flag : Bool) (final : ℕ) → Spellable list → IsFinal final → Actions list flag final (Unspecified list flag final ∷ [])
-    → Alone flag (Unspecified list flag final)
-unknown-alone list flag final spellable ends read = spelling-alone flag (Unspecified list flag final) (record {
-  list = list;
-  final = final;
-  written = rw (encode_ascii final (omega (arith, ends.1))) refl;
-  spellable = spellable;
-  ends = ends;
-  read = read;
-})
+unknown-actions g list flag final same unknown = uncut-actions g list flag final same (λ e. cc) unknown
 
 pub canonical-alone : (a : Action) (flag : Bool) → InRange a → Canonical a flag → Alone flag a
 canonical-alone (Sgr s) flag range ok = spelling-alone flag (Sgr s) (sgr-spelling flag s range ok)
 canonical-alone (Unspecified list own final) flag range c =
-    rw c.same_flag (unknown-alone list flag final c.spellable c.ends (unknown-actions (group list final) list flag final refl c.unknown))
+    rw c.same_flag (spelling-alone flag (Unspecified list flag final) (record {
+      list = list;
+      final = final;
+      written = rw (encode_ascii final (omega (arith, c.ends.1))) refl;
+      spellable = c.spellable;
+      ends = c.ends;
+      read = unknown-actions (group list final) list flag final refl c.unknown;
+    }))
 canonical-alone a flag range ok = spelling-alone flag a (written-back flag a ok)

@@ -4,39 +4,30 @@ use Rattle.std.specs.List.{AllByRecursion}
 use Rattle.std.specs.Prelude.{ℤ, ◌==◌, ◌&&◌, true, Option, None}
 use Rattle.std.proofs.lemmas.Bool.{cases_Bool, and_parts, eq-eqb, eqb-true}
 use Rattle.csicodec_names.proofs.Coded.{attributes}
-use Rattle.csicodec_names.specs.declared.device.DeviceAttributeCodes.{DeviceAttributeCodes}
 use Rattle.csicodec_names.specs.DeviceNumbers.{device_attribute_codes, device_attribute_number}
 use Rattle.csicodec_names.specs.Numbered.{with_number}
-use Rattle.csicodec_tokens.specs.declared.param.CsiParam.TheVariants.{Integer, P}
-use Rattle.csicodec_actions.specs.Devices.{Attributes, Vt220, Vt320, Vt420, XtSmGraphics, code_or_token, listed_attributes}
-use Rattle.csicodec_actions.specs.Table.Device.{answer, written_attributes}
-use Rattle.csicodec_actions.specs.Written.{Attribute, any_number, listed, AllGood, GoodAttribute}
-use Rattle.csicodec_tokens.specs.declared.param.CsiParam.{CsiParam}
-use Rattle.csicodec_tokens.specs.OneBased.{most}
-use Rattle.csicodec_tokens.specs.Sequence.{IsSpellable, Spellable}
-use Rattle.csicodec_actions.specs.declared.cursor.Cursor.TheVariants as cursor
-use Rattle.csicodec_actions.specs.declared.mode.Change.{Change}
-use Rattle.csicodec_actions.specs.declared.mode.Change.TheVariants as change
-use Rattle.csicodec_actions.specs.declared.mode.DecPrivateMode.{DecPrivateMode}
-use Rattle.csicodec_actions.specs.declared.mode.Switch.{Switch}
-use Rattle.csicodec_actions.specs.declared.mode.Switch.TheVariants as switch
-use Rattle.csicodec_actions.specs.declared.mode.TerminalMode.{TerminalMode}
+use Rattle.csicodec_names.specs.declared.{device.DeviceAttributeCodes.DeviceAttributeCodes, flags.Modifiers.Modifiers}
+use Rattle.csicodec_tokens.specs.{OneBased.most, Sequence.IsSpellable, Sequence.Spellable}
+use Rattle.csicodec_tokens.specs.declared.param.CsiParam.{CsiParam, TheVariants.Integer, TheVariants.P}
 use Rattle.csicodec_actions.specs.Actions.{Action, Cursor, Device, Mode, Mouse}
-use Rattle.csicodec_actions.specs.declared.mouse.MouseButton.{MouseButton}
-use Rattle.csicodec_actions.specs.declared.mouse.MouseReport.TheVariants as mouse
-use Rattle.csicodec_names.specs.declared.flags.Modifiers.{Modifiers}
-use Rattle.csicodec_actions.specs.Mouse.{pressed, released, is_release}
+use Rattle.csicodec_actions.specs.Devices.{Attributes, Vt220, Vt320, Vt420, XtSmGraphics, code_or_token, listed_attributes}
+use Rattle.csicodec_actions.specs.FieldRows.{FieldRow, Over}
 use Rattle.csicodec_actions.specs.Kinds.{IsReport, Good, IsOneBased, Any, Dec, GraphicsItem, Terminal, read}
+use Rattle.csicodec_actions.specs.Modes.{changed, switched}
+use Rattle.csicodec_actions.specs.{Mouse.pressed, Mouse.released, Mouse.is_release, Ranges.InRange}
+use Rattle.csicodec_actions.specs.Table.{table, field_table, whole, Device.answer, Device.written_attributes}
+use Rattle.csicodec_actions.specs.Table.{Window.window_fields, XtSmGraphics.graphics_fields}
+use Rattle.csicodec_actions.specs.Written.{Attribute, any_number, listed, AllGood, GoodAttribute}
+use Rattle.csicodec_actions.specs.declared.device.DeviceAttribute.{DeviceAttribute}
+use Rattle.csicodec_actions.specs.declared.mode.{Change.Change, DecPrivateMode.DecPrivateMode, Switch.Switch}
+use Rattle.csicodec_actions.specs.declared.{mode.TerminalMode.TerminalMode, mouse.MouseButton.MouseButton}
+use Rattle.csicodec_actions.specs.declared.xtsmgraphics.XtSmGraphicsItem.{XtSmGraphicsItem}
+use Rattle.csicodec_actions.specs.declared.cursor.Cursor.TheVariants as cursor
+use Rattle.csicodec_actions.specs.declared.mode.Change.TheVariants as change
+use Rattle.csicodec_actions.specs.declared.mode.Switch.TheVariants as switch
+use Rattle.csicodec_actions.specs.declared.mouse.MouseReport.TheVariants as mouse
 use Rattle.csicodec_actions.proofs.MouseCodes.{release-pressed, none-released}
 use Rattle.csicodec_parser.specs.Canonical.{Canonical}
-use Rattle.csicodec_actions.specs.declared.xtsmgraphics.XtSmGraphicsItem.{XtSmGraphicsItem}
-use Rattle.csicodec_actions.specs.Modes.{changed, switched}
-use Rattle.csicodec_actions.specs.Ranges.{InRange}
-use Rattle.csicodec_actions.specs.FieldRows.{FieldRow, Over}
-use Rattle.csicodec_actions.specs.Table.XtSmGraphics.{graphics_fields}
-use Rattle.csicodec_actions.specs.Table.Window.{window_fields}
-use Rattle.csicodec_actions.specs.Table.{table, field_table, whole}
-use Rattle.csicodec_actions.specs.declared.device.DeviceAttribute.{DeviceAttribute}
 use Rattle.csicodec_actions.proofs.AllFieldRows.{FieldsKeep, FieldRowsKeep, KeepsRest}
 use Rattle.csicodec_actions.proofs.AllRows.{KeepsTail, TableKeeps, all-append, table-append, spellable-tokens, whole-keeps}
 use Rattle.csicodec.proofs.Twins.{IsParsedSpecial}
@@ -107,14 +98,10 @@ vt420-kept : (flag : Bool) → KeepsTail IsSpellable (Kept flag) (λ rest. answe
 vt420-kept flag = class-kept flag Vt420 (λ all good. search rules)
 
 -- in two parts, wherever the table is cut, since a search over all rows is long
-first-kept : (flag : Bool) → TableKeeps IsSpellable Good (Kept flag) (take 30 table)
-first-kept flag = search (rules, rows-kept, columns-kept, one-fits, most-fits) depth 60
-
-others-kept : (flag : Bool) → TableKeeps IsSpellable Good (Kept flag) (drop 30 table)
-others-kept flag = search (rules, press-kept, release-kept, one-fits, vt220-kept, vt320-kept, vt420-kept) depth 60
-
 table-kept : (flag : Bool) → TableKeeps IsSpellable Good (Kept flag) table
-table-kept flag = table-append IsSpellable Good (Kept flag) (take 30 table) (drop 30 table) (first-kept flag) (others-kept flag)
+table-kept flag = table-append IsSpellable Good (Kept flag) (take 30 table) (drop 30 table)
+    (search (rules, rows-kept, columns-kept, one-fits, most-fits) depth 60)
+    (search (rules, press-kept, release-kept, one-fits, vt220-kept, vt320-kept, vt420-kept) depth 60)
 
 -- graphics have numbers that are said
 numbers-kept : (all : List ℤ) → AllByRecursion (Good Any) all → AllGood (listed any_number all)
@@ -124,16 +111,10 @@ numbers-kept (z ∷ others) ok = (ok.0, numbers-kept others ok.1)
 graphics-kept : (flag : Bool) (item : XtSmGraphicsItem) (z : ℤ) → Good GraphicsItem item → Good Any z → KeepsRest Good (λ all. Kept flag (Device (XtSmGraphics item z all)))
 graphics-kept flag item z named said = record { each = λ all ok. record { range = tt; canonical = inr ((named, (said, numbers-kept all ok)), λ e. e) } }
 
-windows-kept : (flag : Bool) → FieldRowsKeep Good (Kept flag) window_fields
-windows-kept flag = search (rules, one-fits, zero-said) depth 60
-
-graphics-rows-kept : (flag : Bool) → FieldRowsKeep Good (Kept flag) graphics_fields
-graphics-rows-kept flag = ((λ item named z said. graphics-kept flag item z named said, tt), tt)
-
 fields-kept : (flag : Bool) → FieldRowsKeep Good (Kept flag) field_table
 fields-kept flag =
-    all-append (λ (o : Over Action). AllByRecursion (λ (r : FieldRow Action). FieldsKeep Good (Kept flag) r.slots r.make) o.rows) window_fields graphics_fields (windows-kept flag)
-    (graphics-rows-kept flag)
+    all-append (λ (o : Over Action). AllByRecursion (λ (r : FieldRow Action). FieldsKeep Good (Kept flag) r.slots r.make) o.rows) window_fields graphics_fields
+    (search (rules, one-fits, zero-said) depth 60) ((λ item named z said. graphics-kept flag item z named said, tt), tt)
 
 pub whole-kept : (flag : Bool) (list : List CsiParam) (final : ℕ) (a : Action) → Spellable list → whole list final ≡ Some a → Kept flag a
 whole-kept flag list final a ok e =

@@ -1,18 +1,26 @@
--- The group of what the rows read: lists that are read whole.
-use Rattle.std.proofs.Common.{◌≡◌, ℕ, List, [], ◌∷◌, None, Some, sym, ◌∙◌, inl, inr, rules}
-use Rattle.std.specs.Prelude.{ℤ, ◌==◌, Bool, false, true, Option, slice_get}
-use Rattle.std.proofs.lemmas.Bool.{cases_Bool, and_parts, eqb-true}
-use Rattle.csicodec_tokens.specs.declared.param.CsiParam.{CsiParam}
-use Rattle.csicodec_tokens.specs.declared.param.CsiParam.TheVariants.{Integer, P}
+-- The group of what the rows read, which are lists that are read whole; and by which rules a list is read.
+use Rattle.std.proofs.Common.{◌≡◌, ℕ, List, [], ◌∷◌, None, Some, sym, ◌∙◌, inl, inr, rules, Option, refl}
+use Rattle.std.proofs.lemmas.{Bool.cases_Bool, Bool.and_parts, Bool.eqb-true, Option.option_and_then_some}
+use Rattle.std.specs.Prelude.{ℤ, ◌==◌, Bool, false, true, slice_get, ◌||◌, if◌then◌else◌, option_and_then}
+use Rattle.std.specs.Option.{option_or}
+use Rattle.csicodec_tokens.specs.Fields.{fields_of}
+use Rattle.csicodec_tokens.specs.declared.param.CsiParam.{CsiParam, TheVariants.Integer, TheVariants.P}
+use Rattle.csicodec_names.specs.Numbered.{is_number}
 use Rattle.csicodec_actions.specs.Actions.{Action}
-use Rattle.csicodec_actions.specs.Rows.{Slot, Byte, Number, One, fits, has_shape, read_by}
-use Rattle.csicodec_actions.specs.FieldRows.{read_fields}
-use Rattle.csicodec_actions.specs.Table.{table, field_table, whole}
-use Rattle.csicodec_actions.proofs.AllFieldRows.{over-in}
-use Rattle.csicodec_actions.proofs.AllRows.{AllRows, row-in, whole-table}
+use Rattle.csicodec_actions.specs.FieldRows.{read_fields, over, no_byte, byte, ahead_of_byte, behind_byte, fields_over, given, read_over}
+use Rattle.csicodec_actions.specs.Rows.{Slot, Byte, Number, One, fits, has_shape, read_by, Before}
+use Rattle.csicodec_actions.specs.Table.{table, field_table, whole, all_subjects, Cursor.cursor_rows, Cursor.as_cursor}
+use Rattle.csicodec_actions.specs.Table.{Device.device_rows, Device.as_device, Edit.edit_rows, Edit.as_edit}
+use Rattle.csicodec_actions.specs.Table.{Keyboard.keyboard_rows, Keyboard.as_keyboard, Mode.mode_rows, Mode.as_mode}
+use Rattle.csicodec_actions.specs.Table.{Mouse.mouse_rows, Mouse.as_mouse, Path.path_rows, Path.as_path}
+use Rattle.csicodec_actions.specs.Table.Window.{areas, windows, window_fields, as_window}
+use Rattle.csicodec_actions.specs.Table.XtSmGraphics.{graphics_fields, graphics_rows, as_graphics}
+use Rattle.csicodec_actions.proofs.{AllFieldRows.over-in, AllRows.AllRows, AllRows.row-in, AllRows.whole-table}
 use Rattle.csicodec_actions.proofs.Found.{guarded, one-of}
 use Rattle.csicodec_parser.specs.declared.group.Group.TheVariants as groups
 use Rattle.csicodec_parser.specs.Groups.{group_by, group, is_byte, dec_group, plain_group}
+use Rattle.csicodec.specs.WhichRules as rule
+use Rattle.csicodec.specs.WhichRules.{Rules, WhichRules, group_by_rules, last_token, read_by_rules, rules_of}
 
 -- lists of this shape, before this final, are read whole; a row with a tail has a slot
 abbrev ReadWhole : ℕ → Bool → List Slot → Type 0
@@ -66,3 +74,216 @@ whole-group list final a e = elim (one-of (read_by table list final) (read_field
       shape-group final r.row.tail r.row.shape list r.holds (guarded (has_shape r.row.tail r.row.shape list) _ a r.gave).0
   | inr fields ↦ fields-whole list final a fields
 ]
+
+-- ---- the rules of a list, by its final and its first and last token, choose its group and the rows that read it
+
+-- ---- the group
+
+at-m : (less greater : Bool) → (if greater || less then groups.Whole else groups.Styles) ≡ group_by_rules (if less then rule.MouseReport else if greater then rule.KeyModes else rule.Plain) 109
+at-m true true = refl
+at-m true false = refl
+at-m false true = refl
+at-m false false = refl
+
+at-mode : (mark : Bool) (final : ℕ) → (final == 109) ≡ false →
+    (if mark then dec_group final else plain_group final) ≡ group_by_rules (if mark then rule.PrivateModes else rule.Plain) final
+at-mode true final other = refl
+at-mode false final other = rw other refl
+
+all-whole : (r : Rules) (final : ℕ) → IsWholeFinal final → group_by_rules r final ≡ groups.Whole
+all-whole rule.PrivateModes final is = is.dec
+all-whole rule.Plain final is = rw is.other is.plain
+all-whole _ final is = refl
+
+-- a final, or none of them
+at-final : (n final : ℕ) (Q : ℕ → Type 0) → Q n → ((final == n) ≡ false → Q final) → Q final
+at-final n final Q here other = elim (cases_Bool (final == n)) [ inl e ↦ rw (eqb-true final n e) here | inr e ↦ other e ]
+
+groups-agree : (list : List CsiParam) (final : ℕ) → group list final ≡ group_by_rules (rules_of list final) final
+groups-agree list final =
+    let Q = λ (n : ℕ). group list n ≡ group_by_rules (rules_of list n) n in
+    let mark = is_byte 63 (slice_get list 0) in
+    at-final 109 final Q (at-m (is_byte 60 (slice_get list 0)) (is_byte 62 (slice_get list 0))) (λ m.
+    at-final 104 final Q (at-mode mark 104 refl) (λ h.
+    at-final 108 final Q (at-mode mark 108 refl) (λ l.
+    at-final 115 final Q (at-mode mark 115 refl) (λ s.
+    at-final 114 final Q (at-mode mark 114 refl) (λ r.
+    let is : IsWholeFinal final = record { other = m; dec = rw (h, l, s, r) refl; plain = rw (h, l) refl } in
+    any-whole final (slice_get list 0) is ∙ sym (all-whole (rules_of list final) final is))))))
+
+-- ---- rows over tokens
+
+-- this holds of every list of the shape
+abbrev OfShape : Bool → List Slot → (List CsiParam → Type 0) → Type 0
+OfShape true [] K = (rest : List CsiParam) → K rest
+OfShape false [] K = K []
+OfShape tail (Byte b ∷ shape) K = OfShape tail shape (λ ts. K (P b ∷ ts))
+OfShape tail (Number n ∷ shape) K = (z : ℤ) → OfShape tail shape (λ ts. K (Integer z ∷ ts))
+OfShape tail (One k ∷ shape) K = (z : ℤ) → OfShape tail shape (λ ts. K (Integer z ∷ ts))
+
+of-shape : (tail : Bool) (shape : List Slot) (K : List CsiParam → Type 0) (list : List CsiParam) → OfShape tail shape K → has_shape tail shape list ≡ true → K list
+of-shape true [] K list all e = all list
+of-shape false [] K [] all e = all
+of-shape false [] K (t ∷ ts) all e = cc
+of-shape tail (s ∷ shape) K [] all e = cc
+of-shape tail (Byte b ∷ shape) K (Integer z ∷ ts) all e = let no : false ≡ true = (and_parts (has_shape tail shape ts) false e).1 in absurd cc
+of-shape tail (Byte b ∷ shape) K (P c ∷ ts) all e =
+    let both = and_parts (has_shape tail shape ts) (c == b) e in
+    let same : c ≡ b = eqb-true c b both.1 in
+    rw same (of-shape tail shape (λ ts. K (P b ∷ ts)) ts all both.0)
+of-shape tail (Number n ∷ shape) K (Integer z ∷ ts) all e =
+    let both = and_parts (has_shape tail shape ts) (is_number n z) e in of-shape tail shape (λ ts. K (Integer z ∷ ts)) ts (all z) both.0
+of-shape tail (Number n ∷ shape) K (P c ∷ ts) all e = let no : false ≡ true = (and_parts (has_shape tail shape ts) false e).1 in absurd cc
+of-shape tail (One k ∷ shape) K (Integer z ∷ ts) all e =
+    let both = and_parts (has_shape tail shape ts) true e in of-shape tail shape (λ ts. K (Integer z ∷ ts)) ts (all z) both.0
+of-shape tail (One k ∷ shape) K (P c ∷ ts) all e = let no : false ≡ true = (and_parts (has_shape tail shape ts) false e).1 in absurd cc
+
+-- the rules of a list that one of the rows reads are of this kind
+abbrev AllChoose : (Rules → Bool) → List (Before Action) → Type 0
+AllChoose kind rows = AllRows (λ final row. OfShape row.tail row.shape (λ list. kind (rules_of list final) ≡ true)) rows
+
+chosen : (kind : Rules → Bool) (rows : List (Before Action)) (list : List CsiParam) (final : ℕ) →
+    AllChoose kind rows → (a : Action) → read_by rows list final ≡ Some a → kind (rules_of list final) ≡ true
+chosen kind rows list final all a e =
+    let r = row-in (λ final row. OfShape row.tail row.shape (λ list. kind (rules_of list final) ≡ true)) rows list final a all e in
+    of-shape r.row.tail r.row.shape (λ list. kind (rules_of list final) ≡ true) list r.holds (guarded (has_shape r.row.tail r.row.shape list) _ a r.gave).0
+
+-- ---- the rules of each subject
+
+abbrev of_cursor : Rules → Bool
+of_cursor rule.CursorStyle = true
+of_cursor rule.Plain = true
+of_cursor _ = false
+
+abbrev of_edit : Rules → Bool
+of_edit rule.Plain = true
+of_edit _ = false
+
+abbrev of_mode : Rules → Bool
+of_mode rule.Query = true
+of_mode rule.KeyModes = true
+of_mode _ = false
+
+abbrev of_mouse : Rules → Bool
+of_mouse rule.MouseReport = true
+of_mouse _ = false
+
+abbrev of_keyboard : Rules → Bool
+of_keyboard rule.Keyboard = true
+of_keyboard _ = false
+
+abbrev of_path : Rules → Bool
+of_path rule.CharacterPath = true
+of_path _ = false
+
+abbrev of_device : Rules → Bool
+of_device rule.Attributes = true
+of_device rule.SoftReset = true
+of_device rule.NameAndVersion = true
+of_device rule.Plain = true
+of_device _ = false
+
+abbrev of_window : Rules → Bool
+of_window rule.Checksum = true
+of_window rule.Plain = true
+of_window _ = false
+
+abbrev of_graphics : Rules → Bool
+of_graphics rule.Graphics = true
+of_graphics _ = false
+
+-- ---- rows over fields
+
+behind-first : (b : ℕ) (list rest : List CsiParam) → behind_byte (Some b) list ≡ Some rest → is_byte b (slice_get list 0) ≡ true
+behind-first b [] rest e = cc
+behind-first b (Integer z ∷ ts) rest e = cc
+behind-first b (P c ∷ ts) rest e = (guarded (c == b) _ rest e).0
+
+graphics-first : (list : List CsiParam) (a : Action) → read_over (over (byte "?") no_byte "S" graphics_rows) list ≡ Some a → is_byte 63 (slice_get list 0) ≡ true
+graphics-first list a e =
+    option_and_then_some (given graphics_rows) (fields_over (over (byte "?") no_byte "S" graphics_rows) list) a e
+    (λ fs are _. option_and_then_some fields_of (option_and_then (ahead_of_byte no_byte) (behind_byte (Some 63) list)) fs are
+    (λ front cut _. option_and_then_some (ahead_of_byte no_byte) (behind_byte (Some 63) list) front cut (λ rest begins _. behind-first 63 list rest begins)))
+
+by-area : (starred : Bool) → of_window (if starred then rule.Checksum else rule.Plain) ≡ true
+by-area true = refl
+by-area false = refl
+
+by-graphics : (marked : Bool) → marked ≡ true → of_graphics (if marked then rule.Graphics else rule.Plain) ≡ true
+by-graphics true is = refl
+by-graphics false is = cc
+
+window-chosen : (list : List CsiParam) (final : ℕ) (a : Action) → read_fields window_fields list final ≡ Some a → of_window (rules_of list final) ≡ true
+window-chosen list final a e = elim (one-of (if final == 116 then read_over (over no_byte no_byte "t" windows) list else None) (read_fields (over no_byte (byte "*") "y" areas ∷ []) list final) a e) [
+  | inl t ↦ let f = guarded (final == 116) _ a t in rw (eqb-true final 116 f.0) refl
+  | inr other ↦ elim (one-of (if final == 121 then read_over (over no_byte (byte "*") "y" areas) list else None) None a other) [
+    | inl y ↦ let f = guarded (final == 121) _ a y in rw (eqb-true final 121 f.0) (by-area (is_byte 42 (last_token list)))
+    | inr none ↦ cc
+  ]
+]
+
+graphics-chosen : (list : List CsiParam) (final : ℕ) (a : Action) → read_fields graphics_fields list final ≡ Some a → of_graphics (rules_of list final) ≡ true
+graphics-chosen list final a e = elim (one-of (if final == 83 then read_over (over (byte "?") no_byte "S" graphics_rows) list else None) None a e) [
+  | inl s ↦ let f = guarded (final == 83) _ a s in rw (eqb-true final 83 f.0) (by-graphics (is_byte 63 (slice_get list 0)) (graphics-first list a f.1))
+  | inr none ↦ cc
+]
+
+-- ---- what the rules read
+
+or-none : (o : Option Action) → option_or o None ≡ o
+or-none None = refl
+or-none (Some a) = refl
+
+or-assoc : (o p q : Option Action) → option_or (option_or o p) q ≡ option_or o (option_or p q)
+or-assoc None p q = refl
+or-assoc (Some a) p q = refl
+
+-- what one subject reads, where these are its rules
+abbrev only : Bool → Option Action → Option Action
+only true o = o
+only false o = None
+
+-- something is read only with such rules
+abbrev IsOwn : Bool → Option Action → Type 0
+IsOwn mine o = (a : Action) → o ≡ Some a → mine ≡ true
+
+own : {o : Option Action} {mine : Bool} → IsOwn mine o → only mine o ≡ o
+own {mine = true} gives = refl
+own {o = None} {mine = false} gives = refl
+own {o = Some a} {mine = false} gives = let is = gives a refl in cc
+
+-- what the first of all subjects reads that reads anything, in the order of the table
+abbrev first-of : (c e m o k p d w g : Option Action) → Option Action
+first-of c e m o k p d w g = option_or (option_or c (option_or e (option_or m (option_or o (option_or k p))))) (option_or d (option_or w g))
+
+-- the first that reads anything, of those that the rules leave, is what they read
+first-left : (r : Rules) (list : List CsiParam) (final : ℕ) →
+    first-of (only (of_cursor r) (as_cursor list final)) (only (of_edit r) (as_edit list final))
+    (only (of_mode r) (as_mode list final)) (only (of_mouse r) (as_mouse list final))
+    (only (of_keyboard r) (as_keyboard list final)) (only (of_path r) (as_path list final))
+    (only (of_device r) (as_device list final)) (only (of_window r) (as_window list final))
+    (only (of_graphics r) (as_graphics list final)) ≡ read_by_rules r list final
+first-left rule.Graphics list final = refl
+first-left rule.PrivateModes list final = refl
+first-left rule.Plain list final = simp (or-none, or-assoc)
+first-left _ list final = simp or-none
+
+agree : (r : Rules) (list : List CsiParam) (final : ℕ) →
+    IsOwn (of_cursor r) (as_cursor list final) → IsOwn (of_edit r) (as_edit list final) → IsOwn (of_mode r) (as_mode list final)
+    → IsOwn (of_mouse r) (as_mouse list final) → IsOwn (of_keyboard r) (as_keyboard list final) → IsOwn (of_path r) (as_path list final)
+    → IsOwn (of_device r) (as_device list final) → IsOwn (of_window r) (as_window list final) → IsOwn (of_graphics r) (as_graphics list final)
+    → first-of (as_cursor list final) (as_edit list final) (as_mode list final) (as_mouse list final) (as_keyboard list final)
+    (as_path list final) (as_device list final) (as_window list final) (as_graphics list final) ≡ read_by_rules r list final
+agree r list final c e m o k p d w g =
+    rw (own c, own e, own m, own o, own k, own p, own d, own w, own g) at (first-left r list final)
+
+rows-agree : (list : List CsiParam) (final : ℕ) → whole list final ≡ read_by_rules (rules_of list final) list final
+unfolding all_subjects
+rows-agree list final = agree (rules_of list final) list final
+    (chosen of_cursor cursor_rows list final (search rules depth 60)) (chosen of_edit edit_rows list final (search rules depth 60))
+    (chosen of_mode mode_rows list final (search rules depth 60)) (chosen of_mouse mouse_rows list final (search rules depth 60))
+    (chosen of_keyboard keyboard_rows list final (search rules depth 60)) (chosen of_path path_rows list final (search rules depth 60))
+    (chosen of_device device_rows list final (search rules depth 60)) (window-chosen list final) (graphics-chosen list final)
+
+pub which_rules_lem : (list : List CsiParam) (final : ℕ) → WhichRules list final
+which_rules_lem list final = record { same_group = groups-agree list final; same_action = rows-agree list final }

@@ -2,20 +2,15 @@
 use Rattle.std.proofs.Common.{◌≡◌, ◌⊎◌, ℕ, List, ◌∷◌, Bool, true, None, refl, ap, inl, inr, pos, arith, rules}
 use Rattle.std.specs.Prelude.{ℤ}
 use Rattle.std.proofs.lemmas.Str.{encode_ascii}
-use Rattle.csicodec_tokens.specs.declared.param.CsiParam.{CsiParam}
-use Rattle.csicodec_tokens.specs.OneBased.{most}
+use Rattle.csicodec_tokens.specs.{OneBased.most}
 use Rattle.csicodec_base.specs.declared.sgr.Sgr as sgr_type
 use Rattle.csicodec_actions.specs.declared.cursor.Cursor.TheVariants as cursor
 use Rattle.csicodec_actions.specs.Actions.{Action, Sgr, Cursor, Device, Unspecified}
-use Rattle.csicodec_parser.specs.Canonical.{Canonical}
-use Rattle.csicodec_actions.specs.Devices.{RequestTerminalParameters}
+use Rattle.csicodec_actions.specs.{Devices.RequestTerminalParameters, Ranges.InRange, Special.IsSpecial}
+use Rattle.csicodec_actions.specs.Table.{text, whole, Device.written_parameters}
 use Rattle.csicodec_actions.specs.Written.{AllGood, tokens}
-use Rattle.csicodec_actions.specs.Ranges.{InRange}
-use Rattle.csicodec_actions.specs.Special.{IsSpecial}
-use Rattle.csicodec_actions.specs.Table.Device.{written_parameters}
-use Rattle.csicodec_actions.specs.Table.{text, whole}
-use Rattle.csicodec_actions.proofs.AllRows.{whole-table}
-use Rattle.csicodec_actions.proofs.Items.{is_sound, sound}
+use Rattle.csicodec_parser.specs.Canonical.{Canonical}
+use Rattle.csicodec_actions.proofs.{AllRows.whole-table, Items.is_sound, Items.sound}
 
 -- the special actions that parsing makes
 abbrev pub IsParsedSpecial : Action → Type 0
@@ -58,6 +53,3 @@ special-twin flag a (inr (inr e)) = rw e (parameters-twin flag (pos 1) refl (sea
 
 pub sgr-plain : (s : sgr_type.Sgr) → IsSpecial (Sgr s) → ⊥
 sgr-plain s special = special
-
-pub unknown-plain : (params : List CsiParam) (own : Bool) (final : ℕ) → IsSpecial (Unspecified params own final) → ⊥
-unknown-plain params own final special = special

@@ -1,9 +1,8 @@
 -- A value is read back from its own text exactly where it is canonical.
 use Rattle.std.specs.Prelude.{◌≡◌, ◌↔◌, List, [], ◌∷◌, Bool}
-use Rattle.csicodec_actions.specs.Actions.{Action}
+use Rattle.csicodec_actions.specs.{Actions.Action, Table.text}
 use Rattle.csicodec_parser.specs.Canonical.{Canonical}
 use Rattle.csicodec_streams.specs.Decoding.{Decodes}
-use Rattle.csicodec_actions.specs.Table.{text}
 
 -- the text of the value is read as this one value, and as nothing else
 pub record ReadsAlone (a : Action) (flag : Bool) : Type 0 where

@@ -1,8 +1,7 @@
 -- Streams that are written again, and streams that are joined.
 use Rattle.std.specs.Prelude.{ℕ, ◌≡◌, List, ◌++◌, Bool, false}
-use Rattle.csicodec_actions.specs.Actions.{Action}
+use Rattle.csicodec_actions.specs.{Actions.Action, Table.texts}
 use Rattle.csicodec_streams.specs.Decoding.{Decodes}
-use Rattle.csicodec_actions.specs.Table.{texts}
 
 -- the bytes are read, and what they are read as is written as these bytes
 pub record IsNormal (bytes : List ℕ) (flag : Bool) : Type 0 where

@@ -1,7 +1,6 @@
 -- What an unknown action that parsing makes holds.
 use Rattle.std.specs.Prelude.{◌≡◌, ℕ, Bool, true, false, List, [], ◌∷◌, ◌++◌}
-use Rattle.csicodec_tokens.specs.declared.param.CsiParam.{CsiParam}
-use Rattle.csicodec_tokens.specs.declared.param.CsiParam.TheVariants.{P}
+use Rattle.csicodec_tokens.specs.declared.param.CsiParam.{CsiParam, TheVariants.P}
 use Rattle.csicodec_actions.specs.declared.mode.Mode.TheVariants as mode
 use Rattle.csicodec_actions.specs.Actions.{Action, Mode, Unspecified}
 use Rattle.csicodec_parser.specs.Segments.{Actions}

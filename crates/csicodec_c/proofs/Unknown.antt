@@ -8,7 +8,7 @@ use Rattle.csicodec_tokens.specs.declared.param.CsiParam.{CsiParam}
 use Rattle.csicodec_actions.specs.Actions.{Unspecified}
 use Rattle.csicodec_sequences.specs.declared.row.SequenceForm.{SequenceForm}
 use Rattle.csicodec_sequences.specs.Known.{reading}
-use Rattle.csicodec_sequences.proofs.Longest.{longest}
+use Rattle.csicodec_sequences.proofs.Table.{longest}
 use Rattle.csicodec_structs.specs.declared.structs.Param.{Param}
 use Rattle.csicodec_structs.specs.declared.structs.Struct.{Struct}
 use Rattle.csicodec_structs.specs.Encode.{Stands}

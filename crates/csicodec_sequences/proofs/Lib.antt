@@ -1,13 +1,3 @@
 pub mod Values
-pub mod PartsOf
-pub mod OneRow
-pub mod Exact
-pub mod FirstRow
-pub mod NoAction
-pub mod NoFields
-pub mod Unread
-pub mod Sequences
-pub mod TextOf
 pub mod Table
-pub mod OneKind
-pub mod Longest
+pub mod NoAction

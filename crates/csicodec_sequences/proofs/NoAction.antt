@@ -1,283 +1,313 @@
--- No row reads a list that a row of actions has: tests that are computed of each row and each row of actions before its final character.
-use Rattle.std.proofs.Common.{◌≡◌, ℕ, List, [], ◌∷◌, Option, None, Some, refl, sym, ap, ◌∙◌, inl, inr, pos, subst}
-use Rattle.std.specs.Prelude.{ℤ, ◌==◌, ◌&&◌, ◌||◌, Bool, true, false, not, is_some, if◌then◌else◌, option_and_then}
+-- No row of the table reads a list that is read whole as an action: tests that are computed of each row and each row of actions before its final character.
+use Rattle.std.proofs.Common.{◌≡◌, ℕ, List, [], ◌∷◌, ◌++◌, Option, None, Some, ◌⊎◌, refl, sym, ap, ◌∙◌, inl, inr, subst, arith}
+use Rattle.std.specs.Prelude.{ℤ, ◌==◌, ◌&&◌, ◌||◌, Bool, true, false, not, is_some, if◌then◌else◌, option_and_then, slice_get}
 use Rattle.std.specs.Option.{option_or}
-use Rattle.std.proofs.lemmas.Bool.{and_parts, cases_Bool, eqb-true, eq-eqb}
-use Rattle.std.proofs.lemmas.Option.{same_Some, some_pair_parts}
+use Rattle.std.proofs.lemmas.Bool.{and_parts, cases_Bool, eqb-true}
+use Rattle.std.proofs.lemmas.Option.{same_Some}
 use Rattle.csicodec_tokens.specs.declared.param.CsiParam.{CsiParam}
 use Rattle.csicodec_tokens.specs.declared.param.CsiParam.TheVariants.{Integer, P}
-use Rattle.csicodec_names.proofs.Coded.{is_number-pos}
-use Rattle.csicodec_names.specs.Numbered.{is_number}
+use Rattle.csicodec_tokens.specs.Fields.{fields_of, with_field}
 use Rattle.csicodec_actions.specs.Actions.{Action}
+use Rattle.csicodec_actions.specs.FieldRows as fields
+use Rattle.csicodec_actions.specs.FieldRows.{This, Empty, End, There, Must, FieldRow, ahead_of_byte, behind, behind_byte, byte, first, fits, have_shape, no_byte, over, read_fields, read_over}
 use Rattle.csicodec_actions.specs.Rows as actions
-use Rattle.csicodec_actions.specs.Rows.{Byte, Number, One, can_end, given, gives, has_shape}
-use Rattle.csicodec_actions.proofs.Found.{guarded, map-some}
+use Rattle.csicodec_actions.specs.Rows.{Byte, Number, One, has_shape, read_by, rows_before}
+use Rattle.csicodec_actions.specs.Table as all_actions
+use Rattle.csicodec_actions.specs.Table.{field_table, whole}
+use Rattle.csicodec_actions.specs.Table.Window.{areas, windows}
+use Rattle.csicodec_actions.specs.Table.XtSmGraphics.{graphics_rows}
+use Rattle.csicodec_actions.proofs.AllRows.{whole-table}
 use Rattle.csicodec_sequences.specs.declared.row.NumberSlot.{NumberSlot}
-use Rattle.csicodec_sequences.specs.Parts.{behind_separator, is_intermediate, is_marker, without_intermediate, without_marker}
-use Rattle.csicodec_sequences.specs.Rows.{Row, counted, is_within, read_row, slot_value, slot_values}
-use Rattle.csicodec_sequences.proofs.OneRow.{has-read, or-either, slots-apart, slots_apart}
-use Rattle.csicodec_sequences.proofs.PartsOf.{stays}
-use Rattle.csicodec_sequences.proofs.Values.{taken}
+use Rattle.csicodec_sequences.specs.Known.{rows_of, table}
+use Rattle.csicodec_sequences.specs.Parts.{behind_separator, is_marker, split_field, without_intermediate, without_marker}
+use Rattle.csicodec_sequences.specs.Rows.{Row, is_within, read_row, slot_value, slot_values}
+use Rattle.csicodec_sequences.proofs.Table.{HasRead, each, has_read, must, row_at, slots-apart, slots_apart}
+use Rattle.csicodec_sequences.proofs.Values.{cut_end, stays, taken}
 
--- ---- the test
-
--- nothing is left, and these slots read no list that is ended, or want an intermediate byte
-abbrev ends_apart : ℕ → List NumberSlot → Bool → Bool
-ends_apart i ss tail = not tail && (not (i == 0) || slots_apart [] ss)
+-- ---- the test of a row of actions over tokens
 
 -- the byte is no intermediate byte at the end of what these slots read
 abbrev byte_apart : ℕ → List NumberSlot → ℕ → Bool → List actions.Slot → Bool
 byte_apart i ss b tail [] = not (b == i) || (not tail && slots_apart [] ss)
 byte_apart i ss b tail (s ∷ shape) = true
 
--- no slot is left that an empty field is a value of, that the number is in the range of, or at all
-abbrev no_empty : List NumberSlot → Bool
-no_empty [] = true
-no_empty (s ∷ ss) = not (is_some s.missing)
-
-abbrev no_number : List NumberSlot → ℕ → Bool
-no_number [] n = true
-no_number (s ∷ ss) n = not (is_within s n)
-
-abbrev none_left : List NumberSlot → Bool
-none_left [] = true
-none_left (s ∷ ss) = false
-
-abbrev after : List NumberSlot → List NumberSlot
-after [] = []
-after (s ∷ ss) = ss
-
 -- no list of this shape, from the beginning of a field on or from behind a number, is read by these slots with this intermediate byte behind it
 abbrev walk : Bool → ℕ → List NumberSlot → Bool → List actions.Slot → Bool
-walk behind i ss tail [] = ends_apart i ss tail
-walk false i ss tail (Byte b ∷ shape) = if b == 59 then no_empty ss || walk false i (after ss) tail shape else byte_apart i ss b tail shape
-walk false i ss tail (Number n ∷ shape) = no_number ss n || walk true i (after ss) tail shape
-walk false i ss tail (One k ∷ shape) = none_left ss || walk true i (after ss) tail shape
+walk behind i ss tail [] = not tail && (not (i == 0) || slots_apart [] ss)
 walk true i ss tail (Byte b ∷ shape) = if b == 59 then walk false i ss tail shape else byte_apart i ss b tail shape
-walk true i ss tail (Number n ∷ shape) = true
-walk true i ss tail (One k ∷ shape) = true
+walk true i ss tail (s ∷ shape) = true
+walk false i [] tail (Byte b ∷ shape) = (b == 59) || byte_apart i [] b tail shape
+walk false i [] tail (s ∷ shape) = true
+walk false i (s ∷ ss) tail (Byte b ∷ shape) = if b == 59 then not (is_some s.missing) || walk false i ss tail shape else byte_apart i (s ∷ ss) b tail shape
+walk false i (s ∷ ss) tail (Number n ∷ shape) = not (is_within s n) || walk true i ss tail shape
+walk false i (s ∷ ss) tail (One k ∷ shape) = walk true i ss tail shape
 
 -- the same of a list with its marker
 abbrev marked_apart : ℕ → ℕ → List NumberSlot → Bool → List actions.Slot → Bool
 marked_apart m i ss tail [] = not tail && (not (m == 0) || walk false i ss false [])
 marked_apart m i ss tail (Byte b ∷ shape) =
     if is_marker b then not (m == b) || walk false i ss tail shape else not (m == 0) || walk false i ss tail (Byte b ∷ shape)
-marked_apart m i ss tail (Number n ∷ shape) = not (m == 0) || walk false i ss tail (Number n ∷ shape)
-marked_apart m i ss tail (One k ∷ shape) = not (m == 0) || walk false i ss tail (One k ∷ shape)
+marked_apart m i ss tail (s ∷ shape) = not (m == 0) || walk false i ss tail (s ∷ shape)
 
 abbrev row_apart : Row → actions.Row Action → Bool
 row_apart q r = marked_apart q.form.marker q.form.intermediate q.slots r.tail r.shape
 
-abbrev pub apart_from_all : Row → List (actions.Row Action) → Bool
+abbrev apart_from_all : Row → List (actions.Row Action) → Bool
 apart_from_all q [] = true
 apart_from_all q (r ∷ rows) = row_apart q r && apart_from_all q rows
 
--- ---- what the test says
+-- ---- what it says
 
 -- what is read from the beginning of a field on, or from behind a number
 abbrev ReadsAt : Bool → List NumberSlot → List CsiParam → List ℕ → Type 0
 ReadsAt false ss body vs = slot_values ss body ≡ Some vs
 ReadsAt true ss body vs = option_and_then (slot_values ss) (behind_separator body) ≡ Some vs
 
-at-nothing : (behind : Bool) (ss : List NumberSlot) (vs : List ℕ) → ReadsAt behind ss [] vs → slot_values ss [] ≡ Some vs
-at-nothing false ss vs e = e
-at-nothing true ss vs e = e
-
-nothing-read : (behind : Bool) (ss : List NumberSlot) (vs : List ℕ) → slots_apart [] ss ≡ true → ReadsAt behind ss [] vs → ⊥
-nothing-read behind ss vs h e = slots-apart [] ss [] [] vs h refl (at-nothing behind ss vs e)
-
 -- a byte other than `;` is read by no slot
-other-byte : (behind : Bool) (ss : List NumberSlot) (b : ℕ) (body : List CsiParam) (vs : List ℕ) → (b == 59) ≡ false → ReadsAt behind ss (P b ∷ body) vs → ⊥
-other-byte false [] b body vs other e = cc
-other-byte false (s ∷ ss) b body vs other e =
-    let t = taken s ss (P b ∷ body) vs refl e in
-    let none : None ≡ Some (t.number, t.rest) = rw other at t.front in
-    cc
-other-byte true ss b body vs other e =
-    let none : None ≡ Some vs = rw other at e in
-    cc
+other_byte : (at : Bool) (ss : List NumberSlot) (b : ℕ) (body : List CsiParam) (vs : List ℕ) → (b == 59) ≡ false → ReadsAt at ss (P b ∷ body) vs → ⊥
+other_byte false [] b body vs other e = cc
+other_byte false (s ∷ ss) b body vs other e = grind arith
+other_byte true ss b body vs other e = grind arith
 
-byte-read : (behind : Bool) (i : ℕ) (ss : List NumberSlot) (b : ℕ) (tail : Bool) (shape : List actions.Slot) (ts : List CsiParam) (vs : List ℕ)
-    → (b == 59) ≡ false → byte_apart i ss b tail shape ≡ true
-    → has_shape tail shape ts ≡ true → (without_intermediate (P b ∷ ts)).0 ≡ i → ReadsAt behind ss (without_intermediate (P b ∷ ts)).1 vs → ⊥
-byte-read behind i ss b tail shape (u ∷ us) vs other h shaped ends e = other-byte behind ss b _ vs other e
-byte-read behind i ss b tail (s ∷ shape) [] vs other h shaped ends e = cc
-byte-read behind i ss b tail [] [] vs other h shaped ends e = elim (cases_Bool (is_intermediate b)) [
-  | inr no_it ↦ other-byte behind ss b [] vs other (rw no_it at e)
-  | inl is ↦
-      let same : b ≡ i = rw is at ends in
-      let nothing : ReadsAt behind ss [] vs = rw is at e in
-      let rest = or-either (not (b == i)) (not tail && slots_apart [] ss) h (not_same b i same) in
-      nothing-read behind ss vs (and_parts (not tail) (slots_apart [] ss) rest).1 nothing
-]
-  where
-    not_same : (m n : ℕ) → m ≡ n → not (m == n) ≡ false
-    not_same m n same = ap not (eq-eqb m n same)
-
-ended-read : (behind : Bool) (i : ℕ) (ss : List NumberSlot) (tail : Bool) (ts : List CsiParam) (vs : List ℕ) → ends_apart i ss tail ≡ true → can_end tail ts ≡ true → (without_intermediate ts).0 ≡ i
-    → ReadsAt behind ss (without_intermediate ts).1 vs → ⊥
-ended-read behind i ss true ts vs h shaped ends e = cc
-ended-read behind i ss false (t ∷ ts) vs h shaped ends e = cc
-ended-read behind i ss false [] vs h shaped ends e = nothing-read behind ss vs (or-either (not (i == 0)) (slots_apart [] ss) h (ap not (eq-eqb i 0 (sym ends)))) e
-
--- what a number at the front leaves
-pub record NumberRead (z : ℤ) (s : NumberSlot) (ss : List NumberSlot) (body : List CsiParam) : Type 0 where
-  pub first : ℕ
-  pub others : List ℕ
-  pub value : counted s z ≡ Some first
-  pub later : option_and_then (slot_values ss) (behind_separator body) ≡ Some others
-
-number-read : (z : ℤ) (s : NumberSlot) (ss : List NumberSlot) (body : List CsiParam) (vs : List ℕ) → slot_values (s ∷ ss) (Integer z ∷ body) ≡ Some vs → NumberRead z s ss body
-number-read z s ss body vs e =
-    let t = taken s ss (Integer z ∷ body) vs refl e in
-    let m = map-some (λ rest. (Some z, rest)) (behind_separator body) (t.number, t.rest) t.front in
-    let parts = some_pair_parts (Some z) t.number m.0 t.rest (ap Some m.2) in
-    record {
-      first = t.first;
-      others = t.others;
-      value = subst (λ o. slot_value s o ≡ Some t.first) (sym parts.0) t.value;
-      later = ap (option_and_then (slot_values ss)) m.1 ∙ subst (λ l. slot_values ss l ≡ Some t.others) (sym parts.1) t.later;
-    }
-
--- what an empty field at the front leaves
-empty-read : (s : NumberSlot) (ss : List NumberSlot) (body : List CsiParam) (vs : List ℕ) → slot_values (s ∷ ss) (P 59 ∷ body) ≡ Some vs
-    → (v : ℕ) × (others : List ℕ) × (s.missing ≡ Some v) × (slot_values ss body ≡ Some others)
-empty-read s ss body vs e =
-    let t = taken s ss (P 59 ∷ body) vs refl e in
-    let same = sym (same_Some _ _ t.front) in (
-      t.first,
-      t.others,
-      subst (λ (f : Option ℤ × List CsiParam). slot_value s f.0 ≡ Some t.first) same t.value,
-      subst (λ (f : Option ℤ × List CsiParam). slot_values ss f.1 ≡ Some t.others) same t.later,
-    )
-
-missing-some : (o : Option ℕ) (v : ℕ) → o ≡ Some v → not (is_some o) ≡ false
-missing-some None v e = cc
-missing-some (Some n) v e = refl
+byte_read : (at : Bool) (i : ℕ) (ss : List NumberSlot) (b : ℕ) (tail : Bool) (shape : List actions.Slot) (ts : List CsiParam) (vs : List ℕ) → (b == 59) ≡ false → byte_apart i ss b tail shape ≡ true
+    → has_shape tail shape ts ≡ true → (without_intermediate (P b ∷ ts)).0 ≡ i → ReadsAt at ss (without_intermediate (P b ∷ ts)).1 vs → ⊥
+byte_read at i ss b tail shape (u ∷ us) vs other h shaped ends e = other_byte at ss b _ vs other e
+byte_read at i ss b tail (s ∷ shape) [] vs other h shaped ends e = cc
+byte_read at i ss b tail [] [] vs other h shaped ends e = grind (arith, other_byte at ss b [] vs, slots-apart [] ss [] [] vs)
 
 -- a byte at the front: the intermediate byte, or a `;`, behind which these slots read on
-byte-front : (behind : Bool) (i : ℕ) (ss : List NumberSlot) (tail : Bool) (shape : List actions.Slot) (b : ℕ) (ts : List CsiParam) (vs : List ℕ) → walk behind i ss tail (Byte b ∷ shape) ≡ true
-    → has_shape tail shape ts ≡ true → (without_intermediate (P b ∷ ts)).0 ≡ i → ReadsAt behind ss (without_intermediate (P b ∷ ts)).1 vs
+byte_front : (at : Bool) (i : ℕ) (ss : List NumberSlot) (tail : Bool) (shape : List actions.Slot) (b : ℕ) (ts : List CsiParam) (vs : List ℕ) → walk at i ss tail (Byte b ∷ shape) ≡ true
+    → has_shape tail shape ts ≡ true → (without_intermediate (P b ∷ ts)).0 ≡ i → ReadsAt at ss (without_intermediate (P b ∷ ts)).1 vs
     → ((rest : List NumberSlot) (us : List ℕ) → walk false i rest tail shape ≡ true → (without_intermediate ts).0 ≡ i → slot_values rest (without_intermediate ts).1 ≡ Some us → ⊥) → ⊥
-byte-front true i ss tail shape b ts vs h shaped ends e goes = elim (cases_Bool (b == 59)) [
-  | inr other ↦ byte-read true i ss b tail shape ts vs other (rw other at h) shaped ends e
-  | inl is ↦
-      let same : b ≡ 59 = eqb-true b 59 is in
-      let cut = stays (P 59) ts refl in
-      let apart : walk false i ss tail shape ≡ true = rw is at h in
-      goes ss vs apart (subst (λ (w : ℕ × List CsiParam). w.0 ≡ i) cut (subst (λ x. (without_intermediate (P x ∷ ts)).0 ≡ i) same ends))
-      (subst (λ (w : ℕ × List CsiParam). option_and_then (slot_values ss) (behind_separator w.1) ≡ Some vs) cut (subst (λ x. ReadsAt true ss (without_intermediate (P x ∷ ts)).1 vs) same e))
-]
-byte-front false i [] tail shape b ts vs h shaped ends e goes = elim (cases_Bool (b == 59)) [
-  | inr other ↦ byte-read false i [] b tail shape ts vs other (rw other at h) shaped ends e
-  | inl is ↦
-      let same : b ≡ 59 = eqb-true b 59 is in
-      let none : None ≡ Some vs =
-      subst (λ (w : ℕ × List CsiParam). slot_values [] w.1 ≡ Some vs) (stays (P 59) ts refl) (subst (λ x. ReadsAt false [] (without_intermediate (P x ∷ ts)).1 vs) same e)
-      in
-      cc
-]
-byte-front false i (s ∷ ss) tail shape b ts vs h shaped ends e goes = elim (cases_Bool (b == 59)) [
-  | inr other ↦ byte-read false i (s ∷ ss) b tail shape ts vs other (rw other at h) shaped ends e
-  | inl is ↦
-      let same : b ≡ 59 = eqb-true b 59 is in
-      let cut = stays (P 59) ts refl in
-      let apart : (not (is_some s.missing) || walk false i ss tail shape) ≡ true = rw is at h in
-      let r = empty-read s ss (without_intermediate ts).1 vs
-      (subst (λ (w : ℕ × List CsiParam). slot_values (s ∷ ss) w.1 ≡ Some vs) cut (subst (λ x. ReadsAt false (s ∷ ss) (without_intermediate (P x ∷ ts)).1 vs) same e))
-      in
-      goes ss r.1 (or-either (not (is_some s.missing)) (walk false i ss tail shape) apart (missing-some s.missing r.0 r.2))
-      (subst (λ (w : ℕ × List CsiParam). w.0 ≡ i) cut (subst (λ x. (without_intermediate (P x ∷ ts)).0 ≡ i) same ends)) r.3
-]
+byte_front true i ss tail shape b ts vs h shaped ends e later = grind (arith, byte_read true i ss b tail shape ts vs, later ss vs)
+byte_front false i [] tail shape b ts vs h shaped ends e later = grind (arith, byte_read false i [] b tail shape ts vs)
+byte_front false i (s ∷ ss) tail shape b ts vs h shaped ends e later = grind (arith, byte_read false i (s ∷ ss) b tail shape ts vs, later ss)
 
-walk-apart : (behind : Bool) (i : ℕ) (ss : List NumberSlot) (tail : Bool) (shape : List actions.Slot) (ts : List CsiParam) (vs : List ℕ)
-    → walk behind i ss tail shape ≡ true → has_shape tail shape ts ≡ true
-    → (without_intermediate ts).0 ≡ i → ReadsAt behind ss (without_intermediate ts).1 vs → ⊥
-walk-apart behind i ss tail [] ts vs h shaped ends e = ended-read behind i ss tail ts vs h shaped ends e
-walk-apart behind i ss tail (Byte b ∷ shape) [] vs h shaped ends e = cc
-walk-apart behind i ss tail (Number n ∷ shape) [] vs h shaped ends e = cc
-walk-apart behind i ss tail (One k ∷ shape) [] vs h shaped ends e = cc
-walk-apart behind i ss tail (Byte b ∷ shape) (Integer z ∷ ts) vs h shaped ends e = let p = and_parts (has_shape tail shape ts) false shaped in let no_it = p.1 in cc
-walk-apart behind i ss tail (Number n ∷ shape) (P c ∷ ts) vs h shaped ends e = let p = and_parts (has_shape tail shape ts) false shaped in let no_it = p.1 in cc
-walk-apart behind i ss tail (One k ∷ shape) (P c ∷ ts) vs h shaped ends e = let p = and_parts (has_shape tail shape ts) false shaped in let no_it = p.1 in cc
-walk-apart true i ss tail (Number n ∷ shape) (Integer z ∷ ts) vs h shaped ends e =
-    let cut = stays (Integer z) ts refl in
-    let none : None ≡ Some vs = subst (λ (w : ℕ × List CsiParam). option_and_then (slot_values ss) (behind_separator w.1) ≡ Some vs) cut e in
-    cc
-walk-apart true i ss tail (One k ∷ shape) (Integer z ∷ ts) vs h shaped ends e =
-    let cut = stays (Integer z) ts refl in
-    let none : None ≡ Some vs = subst (λ (w : ℕ × List CsiParam). option_and_then (slot_values ss) (behind_separator w.1) ≡ Some vs) cut e in
-    cc
-walk-apart false i [] tail (Number n ∷ shape) (Integer z ∷ ts) vs h shaped ends e =
-    let none : None ≡ Some vs = subst (λ (w : ℕ × List CsiParam). slot_values [] w.1 ≡ Some vs) (stays (Integer z) ts refl) e in
-    cc
-walk-apart false i [] tail (One k ∷ shape) (Integer z ∷ ts) vs h shaped ends e =
-    let none : None ≡ Some vs = subst (λ (w : ℕ × List CsiParam). slot_values [] w.1 ≡ Some vs) (stays (Integer z) ts refl) e in
-    cc
-walk-apart false i (s ∷ ss) tail (Number n ∷ shape) (Integer z ∷ ts) vs h shaped ends e =
-    let p = and_parts (has_shape tail shape ts) (is_number n z) shaped in
-    let cut = stays (Integer z) ts refl in
-    let r = number-read z s ss (without_intermediate ts).1 vs (subst (λ (w : ℕ × List CsiParam). slot_values (s ∷ ss) w.1 ≡ Some vs) cut e) in
-    let ending_is : (without_intermediate ts).0 ≡ i = subst (λ (w : ℕ × List CsiParam). w.0 ≡ i) cut ends in
-    let value : counted s (pos n) ≡ Some r.first = subst (λ y. counted s y ≡ Some r.first) (is_number-pos n z p.1) r.value in
-    let g = guarded (is_within s n) (Some n) r.first value in
-    walk-apart true i ss tail shape ts r.others (or-either (not (is_within s n)) (walk true i ss tail shape) h (ap not g.0)) p.0 ending_is r.later
-walk-apart false i (s ∷ ss) tail (One k ∷ shape) (Integer z ∷ ts) vs h shaped ends e =
-    let p = and_parts (has_shape tail shape ts) true shaped in
-    let cut = stays (Integer z) ts refl in
-    let r = number-read z s ss (without_intermediate ts).1 vs (subst (λ (w : ℕ × List CsiParam). slot_values (s ∷ ss) w.1 ≡ Some vs) cut e) in
-    let ending_is : (without_intermediate ts).0 ≡ i = subst (λ (w : ℕ × List CsiParam). w.0 ≡ i) cut ends in
-    walk-apart true i ss tail shape ts r.others h p.0 ending_is r.later
-walk-apart behind i ss tail (Byte b ∷ shape) (P c ∷ ts) vs h shaped ends e =
+walk_apart : (at : Bool) (i : ℕ) (ss : List NumberSlot) (tail : Bool) (shape : List actions.Slot) (ts : List CsiParam) (vs : List ℕ) → walk at i ss tail shape ≡ true → has_shape tail shape ts ≡ true
+    → (without_intermediate ts).0 ≡ i → ReadsAt at ss (without_intermediate ts).1 vs → ⊥
+walk_apart at i ss tail [] ts vs h shaped ends e = grind (arith, slots-apart [] ss [] [] vs)
+walk_apart at i ss tail (s ∷ shape) [] vs h shaped ends e = cc
+walk_apart false i (s ∷ ss) tail (Number n ∷ shape) (Integer z ∷ ts) vs h shaped ends e = grind (arith, walk_apart true i ss tail shape ts)
+walk_apart false i (s ∷ ss) tail (One k ∷ shape) (Integer z ∷ ts) vs h shaped ends e = grind (arith, walk_apart true i ss tail shape ts)
+walk_apart at i ss tail (Byte b ∷ shape) (P c ∷ ts) vs h shaped ends e =
     let p = and_parts (has_shape tail shape ts) (c == b) shaped in
     let same : c ≡ b = eqb-true c b p.1 in
-    byte-front behind i ss tail shape b ts vs h p.0 (subst (λ x. (without_intermediate (P x ∷ ts)).0 ≡ i) same ends) (subst (λ x. ReadsAt behind ss (without_intermediate (P x ∷ ts)).1 vs) same e)
-    (λ rest us apart ending_is read. walk-apart false i rest tail shape ts us apart p.0 ending_is read)
+    byte_front at i ss tail shape b ts vs h p.0 (subst (λ x. (without_intermediate (P x ∷ ts)).0 ≡ i) same ends) (subst (λ x. ReadsAt at ss (without_intermediate (P x ∷ ts)).1 vs) same e)
+    (λ rest us apart ending_is read. walk_apart false i rest tail shape ts us apart p.0 ending_is read)
+walk_apart at i ss tail (Number n ∷ shape) (Integer z ∷ ts) vs h shaped ends e = grind (arith, stays (Integer z) ts refl)
+walk_apart at i ss tail (One k ∷ shape) (Integer z ∷ ts) vs h shaped ends e = grind (arith, stays (Integer z) ts refl)
+walk_apart at i ss tail (s ∷ shape) (t ∷ ts) vs h shaped ends e = (let no_it = (and_parts (has_shape tail shape ts) (actions.fits s t) shaped).1 in cc)
 
 -- the same with the marker
-marked-read : (m i : ℕ) (ss : List NumberSlot) (tail : Bool) (shape : List actions.Slot) (list : List CsiParam) (vs : List ℕ) → marked_apart m i ss tail shape ≡ true → has_shape tail shape list ≡ true
+unmarked : (m : ℕ) (b : Bool) → (not (m == 0) || b) ≡ true → 0 ≡ m → b ≡ true
+unmarked m b h begins = grind arith
+
+marked : (m b c : ℕ) (ts : List CsiParam) (x y : Bool) → (if is_marker b then not (m == b) || x else not (m == 0) || y) ≡ true → (c == b) ≡ true → (without_marker (P c ∷ ts)).0 ≡ m
+    → ((is_marker c ≡ true) × (x ≡ true)) ⊎ ((is_marker c ≡ false) × (y ≡ true))
+marked m b c ts x y h same begins = grind arith
+
+marked_read : (m i : ℕ) (ss : List NumberSlot) (tail : Bool) (shape : List actions.Slot) (list : List CsiParam) (vs : List ℕ) → marked_apart m i ss tail shape ≡ true → has_shape tail shape list ≡ true
     → (without_marker list).0 ≡ m → (without_intermediate (without_marker list).1).0 ≡ i → slot_values ss (without_intermediate (without_marker list).1).1 ≡ Some vs → ⊥
-marked-read m i ss true [] list vs h shaped begins ends e = cc
-marked-read m i ss false [] (t ∷ ts) vs h shaped begins ends e = cc
-marked-read m i ss false [] [] vs h shaped begins ends e =
-    walk-apart false i ss false [] [] vs (or-either (not (m == 0)) (walk false i ss false []) h (ap not (eq-eqb m 0 (sym begins)))) refl ends e
-marked-read m i ss tail (Byte b ∷ shape) [] vs h shaped begins ends e = cc
-marked-read m i ss tail (Number n ∷ shape) [] vs h shaped begins ends e = cc
-marked-read m i ss tail (One k ∷ shape) [] vs h shaped begins ends e = cc
-marked-read m i ss tail (Byte b ∷ shape) (Integer z ∷ ts) vs h shaped begins ends e = let no_it = (and_parts (has_shape tail shape ts) false shaped).1 in cc
-marked-read m i ss tail (Number n ∷ shape) (P c ∷ ts) vs h shaped begins ends e = let no_it = (and_parts (has_shape tail shape ts) false shaped).1 in cc
-marked-read m i ss tail (One k ∷ shape) (P c ∷ ts) vs h shaped begins ends e = let no_it = (and_parts (has_shape tail shape ts) false shaped).1 in cc
-marked-read m i ss tail (Number n ∷ shape) (Integer z ∷ ts) vs h shaped begins ends e =
-    walk-apart false i ss tail (Number n ∷ shape) (Integer z ∷ ts) vs (or-either (not (m == 0)) (walk false i ss tail (Number n ∷ shape)) h (ap not (eq-eqb m 0 (sym begins)))) shaped ends e
-marked-read m i ss tail (One k ∷ shape) (Integer z ∷ ts) vs h shaped begins ends e =
-    walk-apart false i ss tail (One k ∷ shape) (Integer z ∷ ts) vs (or-either (not (m == 0)) (walk false i ss tail (One k ∷ shape)) h (ap not (eq-eqb m 0 (sym begins)))) shaped ends e
-marked-read m i ss tail (Byte b ∷ shape) (P c ∷ ts) vs h shaped begins ends e =
+marked_read m i ss true [] list vs h shaped begins ends e = cc
+marked_read m i ss false [] (t ∷ ts) vs h shaped begins ends e = cc
+marked_read m i ss false [] [] vs h shaped begins ends e = walk_apart false i ss false [] [] vs (unmarked m (walk false i ss false []) h begins) refl ends e
+marked_read m i ss tail (s ∷ shape) [] vs h shaped begins ends e = cc
+marked_read m i ss tail (Number n ∷ shape) (Integer z ∷ ts) vs h shaped begins ends e =
+    walk_apart false i ss tail (Number n ∷ shape) (Integer z ∷ ts) vs (unmarked m (walk false i ss tail (Number n ∷ shape)) h begins) shaped ends e
+marked_read m i ss tail (One k ∷ shape) (Integer z ∷ ts) vs h shaped begins ends e =
+    walk_apart false i ss tail (One k ∷ shape) (Integer z ∷ ts) vs (unmarked m (walk false i ss tail (One k ∷ shape)) h begins) shaped ends e
+marked_read m i ss tail (Byte b ∷ shape) (P c ∷ ts) vs h shaped begins ends e =
     let p = and_parts (has_shape tail shape ts) (c == b) shaped in
-    let same : c ≡ b = eqb-true c b p.1 in
-    elim (cases_Bool (is_marker c)) [
-      | inl is ↦
-          let is_b : is_marker b ≡ true = subst (λ x. is_marker x ≡ true) same is in
-          let apart : (not (m == b) || walk false i ss tail shape) ≡ true = rw is_b at h in
-          let begin_is : c ≡ m = rw is at begins in
-          walk-apart false i ss tail shape ts vs (or-either (not (m == b)) (walk false i ss tail shape) apart (ap not (eq-eqb m b (sym begin_is ∙ same)))) p.0 (rw is at ends) (rw is at e)
-      | inr other ↦
-          let other_b : is_marker b ≡ false = subst (λ x. is_marker x ≡ false) same other in
-          let apart : (not (m == 0) || walk false i ss tail (Byte b ∷ shape)) ≡ true = rw other_b at h in
-          let begin_is : 0 ≡ m = rw other at begins in
-          walk-apart false i ss tail (Byte b ∷ shape) (P c ∷ ts) vs
-          (or-either (not (m == 0)) (walk false i ss tail (Byte b ∷ shape)) apart (ap not (eq-eqb m 0 (sym begin_is)))) shaped (rw other at ends) (rw other at e)
+    elim (marked m b c ts (walk false i ss tail shape) (walk false i ss tail (Byte b ∷ shape)) h p.1 begins) [
+      | inl is ↦ walk_apart false i ss tail shape ts vs is.1 p.0 (rw is.0 at ends) (rw is.0 at e)
+      | inr other ↦ walk_apart false i ss tail (Byte b ∷ shape) (P c ∷ ts) vs other.1 shaped (rw other.0 at ends) (rw other.0 at e)
     ]
+marked_read m i ss tail (s ∷ shape) (t ∷ ts) vs h shaped begins ends e = (let no_it = (and_parts (has_shape tail shape ts) (actions.fits s t) shaped).1 in cc)
 
 -- what a row reads is read by no row of actions that it is apart from
-pub tokens-unread : (q : Row) (rows : List (actions.Row Action)) (list : List CsiParam) (final : ℕ) (vs : List ℕ) → apart_from_all q rows ≡ true
-    → read_row q list final ≡ Some vs → given rows list ≡ None
-tokens-unread q [] list final vs h e = refl
-tokens-unread q (r ∷ rows) list final vs h e =
-    let p = and_parts (row_apart q r) (apart_from_all q rows) h in go (gives r list) refl (tokens-unread q rows list final vs p.1 e) p.0
+tokens_unread : (q : Row) (rows : List (actions.Row Action)) (list : List CsiParam) (final : ℕ) (vs : List ℕ) → apart_from_all q rows ≡ true
+    → HasRead q list final vs → actions.given rows list ≡ None
+tokens_unread q [] list final vs h e = refl
+tokens_unread q (r ∷ rows) list final vs h e =
+    let p = and_parts (row_apart q r) (apart_from_all q rows) h in
+    go (tokens_unread q rows list final vs p.1 e) (λ shaped. marked_read q.form.marker q.form.intermediate q.slots r.tail r.shape list vs p.0 shaped e.marker e.intermediate e.values)
   where
-    go : (o : Option Action) → gives r list ≡ o → given rows list ≡ None → row_apart q r ≡ true → option_or o (given rows list) ≡ None
-    go None none others apart = others
-    go (Some a) gave others apart =
-        let r1 = has-read q list final vs e in
-        absurd
-        (marked-read q.form.marker q.form.intermediate q.slots r.tail r.shape list vs apart (guarded (has_shape r.tail r.shape list) _ a gave).0 r1.marker r1.intermediate r1.values)
+    go : actions.given rows list ≡ None → (has_shape r.tail r.shape list ≡ true → ⊥) → actions.given (r ∷ rows) list ≡ None
+    go others none = grind arith
+
+-- ---- the test of a row of actions over fields
+
+-- the field can't be missing
+abbrev wants : fields.Slot → Bool
+wants (This n) = true
+wants There = true
+wants (Must k) = true
+wants _ = false
+
+-- no field is a value of one and fits the other
+abbrev field_differs : NumberSlot → fields.Slot → Bool
+field_differs s (This n) = not (is_within s n)
+field_differs s Empty = must s
+field_differs s End = must s
+field_differs s _ = false
+
+abbrev fields_apart : List NumberSlot → List fields.Slot → Bool
+fields_apart ss [] = false
+fields_apart [] (t ∷ row) = wants t || fields_apart [] row
+fields_apart (s ∷ ss) (t ∷ row) = field_differs s t || (not s.optional && fields_apart ss row)
+
+abbrev apart_from_fields : List NumberSlot → List (FieldRow Action) → Bool
+apart_from_fields ss [] = true
+apart_from_fields ss (r ∷ rows) = fields_apart ss r.slots && apart_from_fields ss rows
+
+-- ---- what it says
+
+-- a field, as both read it
+with_some : (x : Option ℤ) (o : Option (List (Option ℤ))) (fs : List (Option ℤ)) → with_field x o ≡ Some fs → (first fs ≡ x) × (o ≡ Some (behind fs))
+with_some x o fs e = grind arith
+
+same_parts : (x number : Option ℤ) (ts rest : List CsiParam) (fs : List (Option ℤ)) → ◌≡◌ {A = Option (Option ℤ × List CsiParam)} (Some (x, ts)) (Some (number, rest)) → with_field x (fields_of ts) ≡ Some fs
+    → (first fs ≡ number) × (fields_of rest ≡ Some (behind fs))
+same_parts x number ts rest fs e f = subst (λ (c : Option ℤ × List CsiParam). (first fs ≡ c.0) × (fields_of c.1 ≡ Some (behind fs))) (same_Some _ _ e) (with_some x (fields_of ts) fs f)
+
+same_field : (list : List CsiParam) (number : Option ℤ) (rest : List CsiParam) (fs : List (Option ℤ)) → split_field list ≡ Some (number, rest) → fields_of list ≡ Some fs
+    → (first fs ≡ number) × (fields_of rest ≡ Some (behind fs))
+same_field [] number rest fs e f = grind arith
+same_field (P b ∷ ts) number rest fs e f = elim (cases_Bool (b == 59)) [
+  | inl is ↦ same_parts None number ts rest fs (rw is at e) (rw is at f)
+  | inr other ↦ (let none : None ≡ Some fs = rw other at f in cc)
+]
+same_field (Integer z ∷ []) number rest fs e f = grind arith
+same_field (Integer z ∷ P b ∷ ts) number rest fs e f = elim (cases_Bool (b == 59)) [
+  | inl is ↦ same_parts (Some z) number ts rest fs (rw is at e) (rw is at f)
+  | inr other ↦ (let none : None ≡ Some fs = rw other at f in cc)
+]
+same_field (Integer z ∷ Integer y ∷ ts) number rest fs e f = cc
+
+field_apart : (s : NumberSlot) (t : fields.Slot) (fs : List (Option ℤ)) (v : ℕ) → field_differs s t ≡ true → slot_value s (first fs) ≡ Some v → fits t fs ≡ true → ⊥
+field_apart s t fs v h e shaped = grind arith
+
+fields_read : (ss : List NumberSlot) (row : List fields.Slot) (list : List CsiParam) (fs : List (Option ℤ)) (vs : List ℕ)
+    → fields_apart ss row ≡ true → slot_values ss list ≡ Some vs → fields_of list ≡ Some fs → have_shape row fs ≡ true
+    → ⊥
+fields_read ss [] list fs vs h e f shaped = cc
+fields_read [] (t ∷ row) [] fs vs h e f shaped = grind (arith, fields_read [] row [] [] [])
+fields_read [] (t ∷ row) (x ∷ list) fs vs h e f shaped = cc
+fields_read (s ∷ ss) (t ∷ row) [] fs vs h e f shaped = grind (arith, fields_read ss row [] [])
+fields_read (s ∷ ss) (t ∷ row) (x ∷ list) fs vs h e f shaped =
+    let a = taken s ss (x ∷ list) vs refl e in
+    let b = same_field (x ∷ list) a.number a.rest fs a.front f in
+    go a.first (subst (λ n. slot_value s n ≡ Some a.first) (sym b.0) a.value) (λ k m. fields_read ss row a.rest (behind fs) a.others k a.later b.1 m) h shaped
+  where
+    go : (v : ℕ) → slot_value s (first fs) ≡ Some v → (fields_apart ss row ≡ true → have_shape row (behind fs) ≡ true → ⊥)
+        → fields_apart (s ∷ ss) (t ∷ row) ≡ true → have_shape (t ∷ row) fs ≡ true → ⊥
+    go v value later h shaped = grind (arith, field_apart s t fs v)
+
+fields_unread : (ss : List NumberSlot) (rows : List (FieldRow Action)) (list : List CsiParam) (fs : List (Option ℤ)) (vs : List ℕ)
+    → apart_from_fields ss rows ≡ true → slot_values ss list ≡ Some vs → fields_of list ≡ Some fs
+    → fields.given rows fs ≡ None
+fields_unread ss [] list fs vs h e f = refl
+fields_unread ss (r ∷ rows) list fs vs h e f =
+    let p = and_parts (fields_apart ss r.slots) (apart_from_fields ss rows) h in
+    go (fields_unread ss rows list fs vs p.1 e f) (fields_read ss r.slots list fs vs p.0 e f)
+  where
+    go : fields.given rows fs ≡ None → (have_shape r.slots fs ≡ true → ⊥) → fields.given (r ∷ rows) fs ≡ None
+    go others none = grind arith
+
+-- ---- the bytes around fields
+
+-- a list of fields has no marker and no intermediate byte
+fields_begin : (list : List CsiParam) (fs : List (Option ℤ)) → fields_of list ≡ Some fs → without_marker list ≡ (0, list)
+fields_begin list fs f = grind arith
+
+fields_end : (list : List CsiParam) (fs : List (Option ℤ)) → fields_of list ≡ Some fs → without_intermediate list ≡ (0, list)
+fields_end [] fs f = refl
+fields_end (P b ∷ ts) fs f = grind (arith, fields_end ts)
+fields_end (Integer z ∷ []) fs f = refl
+fields_end (Integer z ∷ P b ∷ ts) fs f = grind (arith, fields_end ts)
+fields_end (Integer z ∷ Integer y ∷ ts) fs f = grind (arith, fields_end (Integer y ∷ ts))
+
+-- a list behind a byte begins with it
+byte_ahead : (b : ℕ) (list rest : List CsiParam) → is_marker b ≡ true → behind_byte (Some b) list ≡ Some rest → (without_marker list).0 ≡ b
+byte_ahead b list rest m e = grind arith
+
+-- a list ahead of a byte ends with it
+byte_behind : (b : ℕ) (list front : List CsiParam) → ahead_of_byte (Some b) list ≡ Some front → list ≡ front ++ P b ∷ []
+byte_behind b [] front e = cc
+byte_behind b (t ∷ []) front e = grind arith
+byte_behind b (t ∷ u ∷ ts) front e = grind (arith, byte_behind b (u ∷ ts))
+
+star_last : (front : List CsiParam) → (without_intermediate (without_marker (front ++ P 42 ∷ [])).1).0 ≡ 42
+star_last [] = refl
+star_last (t ∷ front) = grind (arith, cut_end front (P 42), cut_end (t ∷ front) (P 42))
+
+-- ---- the table
+
+abbrev window_apart : Row → Bool
+window_apart q = not (q.form.marker == 0) || (not (q.form.intermediate == 0) || apart_from_fields q.slots windows)
+
+abbrev apart_from_table : Row → Bool
+apart_from_table q =
+    (not (q.form.control == 116) || window_apart q) && ((not (q.form.control == 121) || not (q.form.intermediate == 42)) && (not (q.form.control == 83) || not (q.form.marker == 63)))
+
+abbrev row_unread : Row → Bool
+row_unread q = apart_from_all q (rows_before all_actions.table q.form.control) && apart_from_table q
+
+is_unread : each row_unread table ≡ true
+unfolding rows_of table
+is_unread = refl
+
+none_from : {X : Type 0} (o : Option X) → ((x : X) → o ≡ Some x → ⊥) → o ≡ None
+none_from None h = refl
+none_from (Some x) h = absurd (h x refl)
+
+nothing_then : {X Y : Type 0} (f : X → Option Y) (o : Option X) → ((x : X) → o ≡ Some x → f x ≡ None) → option_and_then f o ≡ None
+nothing_then f None h = refl
+nothing_then f (Some x) h = h x refl
+
+windows_unread : (q : Row) (list : List CsiParam) (final : ℕ) (vs : List ℕ) → HasRead q list final vs → window_apart q ≡ true → read_over (over no_byte no_byte "t" windows) list ≡ None
+windows_unread q list final vs r h = nothing_then (fields.given windows) (fields_of list) go
+  where
+    go : (fs : List (Option ℤ)) → fields_of list ≡ Some fs → fields.given windows fs ≡ None
+    go fs here =
+        let begins = fields_begin list fs here in
+        let closes = fields_end list fs here in
+        fields_unread q.slots windows list fs vs (grind arith) (grind arith) here
+
+areas_unread : (q : Row) (list : List CsiParam) (final : ℕ) (vs : List ℕ) → HasRead q list final vs → not (q.form.intermediate == 42) ≡ true → read_over (over no_byte (byte "*") "y" areas) list ≡ None
+areas_unread q list final vs r h = rw (none_from (ahead_of_byte (Some 42) list) go) refl
+  where
+    go : (front : List CsiParam) → ahead_of_byte (Some 42) list ≡ Some front → ⊥
+    go front e = (let star : (without_intermediate (without_marker list).1).0 ≡ 42 = rw (byte_behind 42 list front e) (star_last front) in grind arith)
+
+graphics_unread : (q : Row) (list : List CsiParam) (final : ℕ) (vs : List ℕ) → HasRead q list final vs → not (q.form.marker == 63) ≡ true
+    → read_over (over (byte "?") no_byte "S" graphics_rows) list ≡ None
+graphics_unread q list final vs r h = rw (none_from (behind_byte (Some 63) list) go) refl
+  where
+    go : (rest : List CsiParam) → behind_byte (Some 63) list ≡ Some rest → ⊥
+    go rest e = (let begins = byte_ahead 63 list rest refl e in grind arith)
+
+three : (final : ℕ) (w a g : Option Action) → (final ≡ 116 → w ≡ None) → (final ≡ 121 → a ≡ None) → (final ≡ 83 → g ≡ None)
+    → option_or (if final == 116 then w else None) (option_or (if final == 121 then a else None) (option_or (if final == 83 then g else None) None)) ≡ None
+three final w a g e f h = grind arith
+
+either : (final control n : ℕ) (b : Bool) → final ≡ control → final ≡ n → (not (control == n) || b) ≡ true → b ≡ true
+either final control n b same is h = grind arith
+
+fields_none : (q : Row) (list : List CsiParam) (final : ℕ) (vs : List ℕ) → apart_from_table q ≡ true → HasRead q list final vs → read_fields field_table list final ≡ None
+fields_none q list final vs h r =
+    let p = and_parts (not (q.form.control == 116) || window_apart q) _ h in
+    let p2 = and_parts (not (q.form.control == 121) || not (q.form.intermediate == 42)) (not (q.form.control == 83) || not (q.form.marker == 63)) p.1 in
+    three final (read_over (over no_byte no_byte "t" windows) list) (read_over (over no_byte (byte "*") "y" areas) list) (read_over (over (byte "?") no_byte "S" graphics_rows) list)
+    (λ is. windows_unread q list final vs r (either final q.form.control 116 (window_apart q) r.control is p.0))
+    (λ is. areas_unread q list final vs r (either final q.form.control 121 (not (q.form.intermediate == 42)) r.control is p2.0))
+    (λ is. graphics_unread q list final vs r (either final q.form.control 83 (not (q.form.marker == 63)) r.control is p2.1))
+
+pub no_action : (i : ℕ) (q : Row) (list : List CsiParam) (final : ℕ) (vs : List ℕ) → slice_get table i ≡ Some q → read_row q list final ≡ Some vs → whole list final ≡ None
+no_action i q list final vs at e =
+    let p = and_parts (apart_from_all q (rows_before all_actions.table q.form.control)) (apart_from_table q) (row_at row_unread table i q is_unread at) in
+    let r = has_read q list final vs e in
+    let tokens : read_by all_actions.table list final ≡ None =
+    ap (read_by all_actions.table list) r.control ∙ tokens_unread q (rows_before all_actions.table q.form.control) list final vs p.0 r
+    in
+    whole-table list final ∙ (ap (λ o. option_or o (read_fields field_table list final)) tokens ∙ fields_none q list final vs p.1 r)

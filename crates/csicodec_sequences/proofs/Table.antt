@@ -1,15 +1,301 @@
--- What is computed of the table.
-use Rattle.std.proofs.Common.{◌≡◌, refl}
-use Rattle.std.specs.Prelude.{true}
-use Rattle.csicodec_sequences.specs.Known.{are_rows, rows_of, table}
-use Rattle.csicodec_sequences.proofs.OneRow.{all_apart}
+-- The rows of the table: tests of each row and of each two, which are computed, and what they say.
+use Rattle.std.proofs.Common.{◌≡◌, ◌<◌, ◌≤◌, ◌+◌, ◌*◌, ℕ, zero, suc, List, [], ◌∷◌, ◌++◌, Option, None, Some, length, drop, get_or, refl, sym, ap, ◌∙◌, inl, inr, pos, subst, arith, add-one, drop-cons}
+use Rattle.std.specs.Prelude.{ℤ, nat_lt, ◌==◌, ◌&&◌, ◌||◌, Bool, true, false, not, is_some, if◌then◌else◌, slice_get}
+use Rattle.std.specs.Option.{option_map, option_or}
+use Rattle.std.proofs.lemmas.Bool.{and_parts, cases_Bool}
+use Rattle.std.proofs.lemmas.Int.{ints}
+use Rattle.std.proofs.lemmas.List.{drop_all}
+use Rattle.std.proofs.lemmas.Option.{same_Some}
+use Rattle.csicodec_tokens.specs.declared.param.CsiParam.{CsiParam}
+use Rattle.csicodec_tokens.specs.declared.param.CsiParam.TheVariants.{Integer, P}
+use Rattle.csicodec_tokens.specs.Sequence.{Apart, IsFinal, IsSpellable, Spellable}
+use Rattle.csicodec_sequences.specs.declared.row.SequenceForm.{SequenceForm}
+use Rattle.csicodec_sequences.specs.declared.row.NumberSlot.{NumberSlot}
+use Rattle.csicodec_sequences.specs.Known.{are_rows, dec_rows, first_reading, other_rows, reading, report_rows, rows_of, table}
+use Rattle.csicodec_sequences.specs.Parts.{is_intermediate, is_marker, parts_of, split_field, without_intermediate, without_marker}
+use Rattle.csicodec_sequences.specs.Rows.{Row, are_missing_within, byte_tokens, each_behind, fit, has_its_bytes, is_final, is_row, is_within, joined, read_row, row_list, slot_value, slot_values}
+use Rattle.csicodec_sequences.proofs.Values.{taken}
 
--- no two rows read one list
-pub is-apart : all_apart table ≡ true
-unfolding rows_of table
-is-apart = refl
+-- ---- slots that no list is read by
+
+-- the number has to stand there
+abbrev pub must : NumberSlot → Bool
+must s = not (is_some s.missing) && not s.optional
+
+-- one of the ranges is empty, or they don't meet
+abbrev ranges_apart : NumberSlot → NumberSlot → Bool
+ranges_apart s t = nat_lt s.last s.first || (nat_lt t.last t.first || (nat_lt s.last t.first || nat_lt t.last s.first))
+
+-- no field is a value of both, and not both may be missing
+abbrev differ : NumberSlot → NumberSlot → Bool
+differ s t = ranges_apart s t && (must s || must t)
+
+abbrev pub slots_apart : List NumberSlot → List NumberSlot → Bool
+slots_apart [] [] = false
+slots_apart [] (t ∷ ts) = must t || (not t.optional && slots_apart [] ts)
+slots_apart (s ∷ ss) [] = must s || (not s.optional && slots_apart ss [])
+slots_apart (s ∷ ss) (t ∷ ts) = differ s t || (not s.optional && (not t.optional && slots_apart ss ts))
+
+differ_values : (s t : NumberSlot) (o : Option ℤ) (v w : ℕ) → differ s t ≡ true → slot_value s o ≡ Some v → slot_value t o ≡ Some w → ⊥
+differ_values s t o v w h e f = grind arith
+
+-- two slots and those behind them: at the end of a list, and at the same field
+ended_apart : (s t : NumberSlot) (ss ts : List NumberSlot) (vs ws : List ℕ) → ((us xs : List ℕ) → slot_values ss [] ≡ Some us → slot_values ts [] ≡ Some xs → slots_apart ss ts ≡ true → ⊥)
+    → slots_apart (s ∷ ss) (t ∷ ts) ≡ true → slot_values (s ∷ ss) [] ≡ Some vs → slot_values (t ∷ ts) [] ≡ Some ws → ⊥
+ended_apart s t ss ts vs ws later h e f = grind arith
+
+field_apart : (s t : NumberSlot) (ss ts : List NumberSlot) (o : Option ℤ) (v w : ℕ) → (slots_apart ss ts ≡ true → ⊥) → slots_apart (s ∷ ss) (t ∷ ts) ≡ true → slot_value s o ≡ Some v → slot_value t o ≡ Some w → ⊥
+field_apart s t ss ts o v w later h e f = grind (arith, differ_values s t o v w)
+
+-- a slot and those behind it, against none
+none_apart : (t : NumberSlot) (ts : List NumberSlot) (ws : List ℕ) (other : Bool) → ((us : List ℕ) → slot_values ts [] ≡ Some us → other ≡ true → ⊥) → (must t || (not t.optional && other)) ≡ true
+    → slot_values (t ∷ ts) [] ≡ Some ws → ⊥
+none_apart t ts ws other later h f = grind arith
+
+pub slots-apart : (ss ts : List NumberSlot) (list : List CsiParam) (vs ws : List ℕ) → slots_apart ss ts ≡ true → slot_values ss list ≡ Some vs → slot_values ts list ≡ Some ws → ⊥
+slots-apart [] [] list vs ws h e f = cc
+slots-apart [] (t ∷ ts) [] vs ws h e f = none_apart t ts ws (slots_apart [] ts) (λ us g k. slots-apart [] ts [] [] us k refl g) h f
+slots-apart [] (t ∷ ts) (x ∷ list) vs ws h e f = cc
+slots-apart (s ∷ ss) [] [] vs ws h e f = none_apart s ss vs (slots_apart ss []) (λ us g k. slots-apart ss [] [] us [] k g refl) h e
+slots-apart (s ∷ ss) [] (x ∷ list) vs ws h e f = cc
+slots-apart (s ∷ ss) (t ∷ ts) [] vs ws h e f = ended_apart s t ss ts vs ws (λ us xs g k m. slots-apart ss ts [] us xs m g k) h e f
+slots-apart (s ∷ ss) (t ∷ ts) (x ∷ list) vs ws h e f =
+    let a = taken s ss (x ∷ list) vs refl e in
+    let b = taken t ts (x ∷ list) ws refl f in
+    let same = sym (same_Some _ _ (sym a.front ∙ b.front)) in
+    field_apart s t ss ts a.number a.first b.first (λ k. slots-apart ss ts a.rest a.others b.others k a.later (subst (λ (g : Option ℤ × List CsiParam). slot_values ts g.1 ≡ Some b.others) same b.later)) h a.value
+    (subst (λ (g : Option ℤ × List CsiParam). slot_value t g.0 ≡ Some b.first) same b.value)
+
+-- ---- rows
+
+-- what reads has the final, the bytes and the values
+pub record HasRead (r : Row) (list : List CsiParam) (final : ℕ) (vs : List ℕ) : Type 0 where
+  pub control : final ≡ r.form.control
+  pub marker : (parts_of list).marker ≡ r.form.marker
+  pub intermediate : (parts_of list).intermediate ≡ r.form.intermediate
+  pub values : slot_values r.slots (parts_of list).body ≡ Some vs
+
+pub has_read : (r : Row) (list : List CsiParam) (final : ℕ) (vs : List ℕ) → read_row r list final ≡ Some vs → HasRead r list final vs
+has_read r list final vs e = grind arith
+
+abbrev rows_apart : Row → Row → Bool
+rows_apart q r =
+    not (q.form.control == r.form.control) || (not (q.form.marker == r.form.marker) || (not (q.form.intermediate == r.form.intermediate) || slots_apart q.slots r.slots))
+
+apart_rows : (q r : Row) (list : List CsiParam) (final : ℕ) (vs ws : List ℕ) → HasRead q list final vs → HasRead r list final ws → rows_apart q r ≡ true → ⊥
+apart_rows q r list final vs ws a b h = grind (arith, slots-apart q.slots r.slots (parts_of list).body vs ws)
+
+-- ---- tests of each row, and of each two
+
+abbrev pub each : (Row → Bool) → List Row → Bool
+each f [] = true
+each f (r ∷ rows) = f r && each f rows
+
+abbrev two : (Row → Row → Bool) → List Row → Bool
+two f [] = true
+two f (r ∷ rows) = each (f r) rows && two f rows
+
+pub row_at : (f : Row → Bool) (rows : List Row) (i : ℕ) (q : Row) → each f rows ≡ true → slice_get rows i ≡ Some q → f q ≡ true
+row_at f [] i q h at = cc
+row_at f (r ∷ rows) zero q h at = grind arith
+row_at f (r ∷ rows) (suc i) q h at = row_at f rows i q (and_parts (f r) (each f rows) h).1 at
+
+-- rows of which the test doesn't hold stand at one place
+one_place : (f : Row → Row → Bool) (rows : List Row) (i j : ℕ) (q r : Row) → two f rows ≡ true → slice_get rows i ≡ Some q → slice_get rows j ≡ Some r
+    → (f q r ≡ true → ⊥) → (f r q ≡ true → ⊥) → i ≡ j
+one_place f [] i j q r h at to n m = cc
+one_place f (p ∷ rows) zero zero q r h at to n m = refl
+one_place f (p ∷ rows) zero (suc j) q r h at to n m = grind (arith, row_at (f p) rows j r)
+one_place f (p ∷ rows) (suc i) zero q r h at to n m = grind (arith, row_at (f p) rows i q)
+one_place f (p ∷ rows) (suc i) (suc j) q r h at to n m = ap suc (one_place f rows i j q r (and_parts (each (f p) rows) (two f rows) h).1 at to n m)
 
 -- each is a row
 pub are_all : are_rows table ≡ true
 unfolding rows_of table
 are_all = refl
+
+-- no slot has a larger number
+abbrev are_small : List NumberSlot → Bool
+are_small [] = true
+are_small (s ∷ ss) = nat_lt s.last 4294967296 && are_small ss
+
+abbrev good : Row → Bool
+good q = nat_lt 10000 q.form.kind && (nat_lt (length q.slots) 13 && (are_small q.slots && is_row q))
+
+are_good : each good table ≡ true
+unfolding rows_of table
+are_good = refl
+
+abbrev kinds_apart : Row → Row → Bool
+kinds_apart q r = not (q.form.kind == r.form.kind)
+
+own_kinds : two kinds_apart table ≡ true
+unfolding rows_of table
+own_kinds = refl
+
+are_apart : two rows_apart table ≡ true
+unfolding rows_of table
+are_apart = refl
+
+-- ---- kinds, and rows of one list
+
+pub above : (i : ℕ) (q : Row) → slice_get table i ≡ Some q → 10000 < q.form.kind
+above i q at = (let h : good q ≡ true = row_at good table i q are_good at in grind arith)
+
+pub one : (i j : ℕ) (q r : Row) → slice_get table i ≡ Some q → slice_get table j ≡ Some r → q.form.kind ≡ r.form.kind → i ≡ j
+one i j q r at to same = one_place kinds_apart table i j q r own_kinds at to (λ h. grind arith) (λ h. grind arith)
+
+pub one_row : (list : List CsiParam) (final i j : ℕ) (q r : Row) (v w : List ℕ) → slice_get table i ≡ Some q → slice_get table j ≡ Some r
+    → read_row q list final ≡ Some v → read_row r list final ≡ Some w → i ≡ j
+one_row list final i j q r v w at to e f =
+    let a = has_read q list final v e in
+    let b = has_read r list final w f in
+    one_place rows_apart table i j q r are_apart at to (apart_rows q r list final v w a b) (apart_rows r q list final w v b a)
+
+-- ---- the first row that reads
+
+-- the row at a place, and those behind it
+row_behind : (forms : List SequenceForm) (all : List (List NumberSlot)) (k : ℕ) (f : SequenceForm) (ss : List NumberSlot) → k < length forms → k < length all
+    → rows_of (drop k forms) (drop k all) ≡ record { form = get_or forms k f; slots = get_or all k ss } ∷ rows_of (drop (k + 1) forms) (drop (k + 1) all)
+unfolding rows_of
+row_behind forms all k f ss low within = rw (add-one, drop-cons forms k f, drop-cons all k ss)
+
+-- at a place: what the row there reads, or those behind it
+pub row_read : (forms : List SequenceForm) (all : List (List NumberSlot)) (k : ℕ) (f : SequenceForm) (ss : List NumberSlot) (params : List CsiParam) (control : ℕ) (o : Option (List ℕ))
+    → k < length forms → k < length all → o ≡ read_row (record { form = get_or forms k f; slots = get_or all k ss }) params control
+    → first_reading (rows_of (drop k forms) (drop k all)) params control
+    ≡ option_or (option_map (λ vs. (get_or forms k f, vs)) o) (first_reading (rows_of (drop (k + 1) forms) (drop (k + 1) all)) params control)
+row_read forms all k f ss params control o low within is = rw (row_behind forms all k f ss low within, is) refl
+
+-- no row is left
+pub none_left : (forms : List SequenceForm) (others : List (List NumberSlot)) (k : ℕ) (params : List CsiParam) (control : ℕ) → length forms ≤ k
+    → None ≡ first_reading (rows_of (drop k forms) others) params control
+unfolding rows_of
+none_left forms others k params control h = rw (drop_all k forms h)
+
+-- the first row of several tables
+first_append : (xs ys : List Row) (params : List CsiParam) (control : ℕ) → first_reading (xs ++ ys) params control ≡ option_or (first_reading xs params control) (first_reading ys params control)
+first_append [] ys params control = refl
+first_append (r ∷ xs) ys params control = grind (arith, first_append xs ys params control)
+
+reading_table : (params : List CsiParam) (control : ℕ) → reading params control ≡ first_reading table params control
+unfolding table
+reading_table params control =
+    sym
+    (first_append dec_rows (other_rows ++ report_rows) params control
+    ∙ ap (option_or (first_reading dec_rows params control)) (first_append other_rows report_rows params control))
+
+passed : (q : Row) (rows : List Row) (params : List CsiParam) (control : ℕ) (known : SequenceForm × List ℕ) → ((us : List ℕ) → read_row q params control ≡ Some us → ⊥)
+    → first_reading rows params control ≡ Some known → first_reading (q ∷ rows) params control ≡ Some known
+passed q rows params control known h e = grind arith
+
+-- any row that reads decides
+decides : (rows : List Row) (i : ℕ) (r : Row) (params : List CsiParam) (control : ℕ) (vs : List ℕ) → two rows_apart rows ≡ true → slice_get rows i ≡ Some r → read_row r params control ≡ Some vs
+    → first_reading rows params control ≡ Some (r.form, vs)
+decides [] i r params control vs h at e = cc
+decides (q ∷ rows) zero r params control vs h at e = rw (same_Some q r at, e) refl
+decides (q ∷ rows) (suc i) r params control vs h at e =
+    let p = and_parts (each (rows_apart q) rows) (two rows_apart rows) h in
+    passed q rows params control (r.form, vs)
+    (λ us f. apart_rows q r params control us vs (has_read q params control us f) (has_read r params control vs e) (row_at (rows_apart q) rows i r p.0 at))
+    (decides rows i r params control vs p.1 at e)
+
+pub any_row : (i : ℕ) (r : Row) (params : List CsiParam) (control : ℕ) (vs : List ℕ) → slice_get table i ≡ Some r → read_row r params control ≡ Some vs → reading params control ≡ Some (r.form, vs)
+any_row i r params control vs at e = reading_table params control ∙ decides table i r params control vs are_apart at e
+
+-- ---- how long a list is
+
+field_length : (list : List CsiParam) (number : Option ℤ) (rest : List CsiParam) → split_field list ≡ Some (number, rest) → length list ≤ length rest + 2
+field_length list number rest e = grind arith
+
+slots_length : (ss : List NumberSlot) (list : List CsiParam) (vs : List ℕ) → slot_values ss list ≡ Some vs → length list ≤ 2 * length ss
+slots_length [] list vs e = grind arith
+slots_length (s ∷ ss) [] vs e = omega arith
+slots_length (s ∷ ss) (t ∷ ts) vs e =
+    let x = taken s ss (t ∷ ts) vs refl e in omega (arith, field_length (t ∷ ts) x.number x.rest x.front, slots_length ss x.rest x.others x.later)
+
+marker_length : (list : List CsiParam) → length list ≤ length (without_marker list).1 + 1
+marker_length list = grind arith
+
+intermediate_length : (list : List CsiParam) → length list ≤ length (without_intermediate list).1 + 1
+intermediate_length [] = omega arith
+intermediate_length (t ∷ []) = grind arith
+intermediate_length (t ∷ u ∷ ts) = omega (arith, intermediate_length (u ∷ ts))
+
+row_length : (r : Row) (list : List CsiParam) (final : ℕ) (vs : List ℕ) → good r ≡ true → HasRead r list final vs → length list ≤ 26
+row_length r list final vs h e =
+    let few : length r.slots < 13 = grind arith in
+    omega (arith, slots_length r.slots (parts_of list).body vs e.values, marker_length list, intermediate_length (without_marker list).1, few)
+
+first_length : (rows : List Row) (list : List CsiParam) (final : ℕ) (known : SequenceForm × List ℕ) → each good rows ≡ true → first_reading rows list final ≡ Some known → length list ≤ 26
+first_length [] list final known h e = cc
+first_length (r ∷ rows) list final known h e =
+    let p = and_parts (good r) (each good rows) h in
+    go (first_length rows list final known p.1) (λ vs f. row_length r list final vs p.0 (has_read r list final vs f)) e
+  where
+    go : (first_reading rows list final ≡ Some known → length list ≤ 26) → ((vs : List ℕ) → read_row r list final ≡ Some vs → length list ≤ 26)
+        → first_reading (r ∷ rows) list final ≡ Some known → length list ≤ 26
+    go later here e = grind arith
+
+pub longest : (list : List CsiParam) (final : ℕ) (known : SequenceForm × List ℕ) → reading list final ≡ Some known → length list ≤ 26
+longest list final known e = first_length table list final known are_good (sym (reading_table list final) ∙ e)
+
+-- ---- what is written is a control sequence
+
+number_spellable : (s : NumberSlot) (v : ℕ) → nat_lt s.last 4294967296 ≡ true → is_within s v ≡ true → IsSpellable (Integer (pos v))
+number_spellable s v small within = grind (arith, ints)
+
+byte_spellable : (b : ℕ) → (is_marker b || is_intermediate b) ≡ true → IsSpellable (P b)
+byte_spellable b h = grind (arith, ints)
+
+-- a number can stand before this
+abbrev BehindNumber : List CsiParam → Type 0
+BehindNumber end = (v : ℕ) → Apart (Integer (pos v)) end
+
+behind_spellable : (ss : List NumberSlot) (vs : List ℕ) (end : List CsiParam) → are_small ss ≡ true → fit ss vs ≡ true → Spellable end → BehindNumber end
+    → Spellable (each_behind vs ++ end) × BehindNumber (each_behind vs ++ end)
+behind_spellable ss [] end small fits spelled apart = (spelled, apart)
+behind_spellable [] (v ∷ vs) end small fits spelled apart = cc
+behind_spellable (s ∷ ss) (v ∷ vs) end small fits spelled apart =
+    let p = and_parts (nat_lt s.last 4294967296) (are_small ss) small in
+    let q = and_parts (is_within s v) (fit ss vs) fits in
+    let r = behind_spellable ss vs end p.1 q.1 spelled apart in
+    ((((omega arith, omega arith), λ digit. omega (arith, digit.1)), tt, (number_spellable s v p.0 q.0, r.1 v, r.0)), λ u. tt)
+
+joined_spellable : (ss : List NumberSlot) (vs : List ℕ) (end : List CsiParam) → are_small ss ≡ true → fit ss vs ≡ true → Spellable end → BehindNumber end → Spellable (joined vs ++ end)
+joined_spellable ss [] end small fits spelled apart = spelled
+joined_spellable ss (v ∷ vs) end small fits spelled apart = (behind_spellable ss (v ∷ vs) end small fits spelled apart).0.2
+
+end_spellable : (i : ℕ) → (if i == 0 then true else is_intermediate i) ≡ true → Spellable (byte_tokens i) × BehindNumber (byte_tokens i)
+end_spellable i ok = elim (cases_Bool (i == 0)) [
+  | inl none ↦ rw none (tt, λ u. tt)
+  | inr some_it ↦ rw some_it ((byte_spellable i (grind arith), tt, tt), λ u. tt)
+]
+
+front_spellable : (m : ℕ) (list : List CsiParam) → (if m == 0 then true else is_marker m) ≡ true → Spellable list → Spellable (byte_tokens m ++ list)
+front_spellable m list ok spelled = elim (cases_Bool (m == 0)) [
+  | inl none ↦ rw none spelled
+  | inr some_it ↦ rw some_it (byte_spellable m (grind arith), tt, spelled)
+]
+
+final_is : (c : ℕ) → is_final c ≡ true → IsFinal c
+final_is c h = grind arith
+
+pub sequence : (i : ℕ) (q : Row) (vs : List ℕ) → slice_get table i ≡ Some q → fit q.slots vs ≡ true → Spellable (row_list q vs) × IsFinal q.form.control
+sequence i q vs at f =
+    let h = and_parts (nat_lt 10000 q.form.kind) _ (row_at good table i q are_good at) in
+    let small = and_parts (are_small q.slots) (is_row q) (and_parts (nat_lt (length q.slots) 13) _ h.1).1 in
+    let p = and_parts (has_its_bytes q) (is_final q.form.control && are_missing_within q.slots) small.1 in
+    let b = and_parts (if q.form.marker == 0 then true else is_marker q.form.marker) (if q.form.intermediate == 0 then true else is_intermediate q.form.intermediate) p.0 in
+    let end = end_spellable q.form.intermediate b.1 in (
+      front_spellable q.form.marker (joined vs ++ byte_tokens q.form.intermediate) b.0 (joined_spellable q.slots vs (byte_tokens q.form.intermediate) small.0 f end.0 end.1),
+      final_is q.form.control (and_parts (is_final q.form.control) (are_missing_within q.slots) p.1).0,
+    )
+
+-- ---- the first of several that is something
+
+pub or-first : {X : Type 0} (a rest : Option X) (x : X) → Some x ≡ a → Some x ≡ option_or a rest
+or-first a rest x e = ap (λ o. option_or o rest) e
+
+pub or-later : {X : Type 0} (a rest y : Option X) → None ≡ a → y ≡ rest → y ≡ option_or a rest
+or-later a rest y e f = f ∙ ap (λ o. option_or o rest) e

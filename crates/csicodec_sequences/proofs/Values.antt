@@ -1,43 +1,14 @@
--- Values as they are written and read: what fits is read back, and what is read fits.
-use Rattle.std.proofs.Common.{◌≡◌, ℕ, List, [], ◌∷◌, Option, None, Some, refl, ap, ◌∙◌, inl, inr, pos, subst}
-use Rattle.std.specs.Prelude.{ℤ, negsuc, true, false, option_and_then}
-use Rattle.std.specs.Option.{option_map}
-use Rattle.std.proofs.lemmas.Bool.{and_parts, and_from, cases_Bool}
-use Rattle.std.proofs.lemmas.Option.{same_Some, option_and_then_some}
+-- Values as they are written and read: what fits is read back, what is read fits, and what is written is the text of its list.
+use Rattle.std.proofs.Common.{◌≡◌, ℕ, List, [], ◌∷◌, ◌++◌, Option, Some, refl, ap, arith, append-nil, append_assoc}
+use Rattle.std.specs.Prelude.{ℤ, true, false, ◌==◌, if◌then◌else◌, encode_utf8}
 use Rattle.csicodec_tokens.specs.declared.param.CsiParam.{CsiParam}
-use Rattle.csicodec_actions.proofs.Found.{guarded, map-some}
+use Rattle.csicodec_tokens.specs.declared.param.CsiParam.TheVariants.{Integer, P}
+use Rattle.csicodec_tokens.specs.Param.{spells}
 use Rattle.csicodec_sequences.specs.declared.row.NumberSlot.{NumberSlot}
-use Rattle.csicodec_sequences.specs.Parts.{split_field}
-use Rattle.csicodec_sequences.specs.Rows.{are_missing_within, counted, fit, is_missing_within, is_within, joined, slot_value, slot_values, stops}
+use Rattle.csicodec_sequences.specs.Parts.{is_intermediate, is_marker, parts_of, split_field, with_front, without_intermediate, without_marker}
+use Rattle.csicodec_sequences.specs.Rows.{Row, are_missing_within, behind_text, byte_text, byte_tokens, each_behind, fit, form_text, has_its_bytes, is_row, joined, numbers_text, read_row, row_list, slot_value, slot_values, stops}
 
-within-counted : (s : NumberSlot) (n : ℕ) → is_within s n ≡ true → counted s (pos n) ≡ Some n
-within-counted s n h = rw h refl
-
--- what fits is read back
-pub fit-read : (ss : List NumberSlot) (vs : List ℕ) → fit ss vs ≡ true → slot_values ss (joined vs) ≡ Some vs
-fit-read [] [] h = refl
-fit-read [] (v ∷ vs) h = cc
-fit-read (s ∷ ss) [] h = rw h refl
-fit-read (s ∷ ss) (v ∷ []) h =
-    let p = and_parts (is_within s v) (fit ss []) h in
-    ap (option_and_then (λ x. option_map (λ xs. x ∷ xs) (slot_values ss []))) (within-counted s v p.0)
-    ∙ ap (option_map (λ xs. v ∷ xs)) (fit-read ss [] p.1)
-fit-read (s ∷ ss) (v ∷ w ∷ vs) h =
-    let p = and_parts (is_within s v) (fit ss (w ∷ vs)) h in
-    ap (option_and_then (λ x. option_map (λ xs. x ∷ xs) (slot_values ss (joined (w ∷ vs))))) (within-counted s v p.0)
-    ∙ ap (option_map (λ xs. v ∷ xs)) (fit-read ss (w ∷ vs) p.1)
-
-pub counted-within : (s : NumberSlot) (z : ℤ) (v : ℕ) → counted s z ≡ Some v → is_within s v ≡ true
-counted-within s (pos n) v e = let g = guarded (is_within s n) (Some n) v e in subst (λ m. is_within s m ≡ true) (same_Some n v g.1) g.0
-counted-within s (negsuc n) v e = cc
-
-missing-within : (s : NumberSlot) (o : Option ℕ) (v : ℕ) → is_missing_within s o ≡ true → o ≡ Some v → is_within s v ≡ true
-missing-within s None v h e = cc
-missing-within s (Some n) v h e = subst (λ m. is_within s m ≡ true) (same_Some n v e) h
-
-value-within : (s : NumberSlot) (o : Option ℤ) (v : ℕ) → is_missing_within s s.missing ≡ true → slot_value s o ≡ Some v → is_within s v ≡ true
-value-within s None v h e = missing-within s s.missing v h e
-value-within s (Some z) v h e = counted-within s z v e
+-- ---- slots
 
 -- a first value, of what is read of a slot and those behind it
 pub record Taken (s : NumberSlot) (ss : List NumberSlot) (list : List CsiParam) (vs : List ℕ) : Type 0 where
@@ -52,28 +23,85 @@ pub record Taken (s : NumberSlot) (ss : List NumberSlot) (list : List CsiParam) 
 
 -- where the list doesn't end ahead of the slot
 pub taken : (s : NumberSlot) (ss : List NumberSlot) (list : List CsiParam) (vs : List ℕ) → stops s list ≡ false → slot_values (s ∷ ss) list ≡ Some vs → Taken s ss list vs
-taken s ss list vs on e =
-    option_and_then_some (λ f. option_and_then (λ v. option_map (λ xs. v ∷ xs) (slot_values ss f.1)) (slot_value s f.0)) (split_field list) vs (rw on at e)
-    (λ f front more.
-    option_and_then_some (λ v. option_map (λ xs. v ∷ xs) (slot_values ss f.1)) (slot_value s f.0) vs more
-    (λ v value given.
-    let m = map-some (λ xs. v ∷ xs) (slot_values ss f.1) vs given in
-    record { number = f.0; rest = f.1; front = front; first = v; others = m.0; value = value; later = m.1; all = m.2 }))
+taken s ss list vs on e = grind arith
 
-pub stops-optional : (s : NumberSlot) (list : List CsiParam) → stops s list ≡ true → s.optional ≡ true
-stops-optional s [] h = h
-stops-optional s (t ∷ ts) h = cc
+-- what fits is read back
+fit_read : (ss : List NumberSlot) (vs : List ℕ) → fit ss vs ≡ true → slot_values ss (joined vs) ≡ Some vs
+fit_read [] vs h = grind arith
+fit_read (s ∷ ss) [] h = grind arith
+fit_read (s ∷ ss) (v ∷ vs) h = grind (arith, fit_read ss vs)
 
 -- what is read fits
-pub read-fit : (ss : List NumberSlot) (list : List CsiParam) (vs : List ℕ) → are_missing_within ss ≡ true → slot_values ss list ≡ Some vs → fit ss vs ≡ true
-read-fit [] [] vs h e = subst (λ xs. fit [] xs ≡ true) (same_Some [] vs e) refl
-read-fit [] (t ∷ ts) vs h e = cc
-read-fit (s ∷ ss) list vs h e =
-    let p = and_parts (is_missing_within s s.missing) (are_missing_within ss) h in
-    elim (cases_Bool (stops s list)) [
-      | inl ends ↦ subst (λ xs. fit (s ∷ ss) xs ≡ true) (same_Some [] vs (rw ends at e)) (stops-optional s list ends)
-      | inr on ↦
-          let t = taken s ss list vs on e in
-          subst (λ xs. fit (s ∷ ss) xs ≡ true) t.all
-          (and_from (is_within s t.first) (fit ss t.others) (value-within s t.number t.first p.0 t.value) (read-fit ss t.rest t.others p.1 t.later))
-    ]
+read_fit : (ss : List NumberSlot) (list : List CsiParam) (vs : List ℕ) → slot_values ss list ≡ Some vs → are_missing_within ss ≡ true → fit ss vs ≡ true
+read_fit [] list vs e h = grind arith
+read_fit (s ∷ ss) list vs e h = grind (arith, read_fit ss)
+
+-- ---- the bytes around them
+
+pub cut_end : (front : List CsiParam) (t : CsiParam) → without_intermediate (front ++ t ∷ []) ≡ ((without_intermediate (t ∷ [])).0, front ++ (without_intermediate (t ∷ [])).1)
+cut_end [] t = refl
+cut_end (x ∷ []) t = ap (with_front x) (cut_end [] t)
+cut_end (x ∷ y ∷ front) t = ap (with_front x) (cut_end (y ∷ front) t)
+
+-- a token that is no intermediate byte stays
+pub stays : (t : CsiParam) (list : List CsiParam) → without_intermediate (t ∷ []) ≡ (0, t ∷ []) → without_intermediate (t ∷ list) ≡ with_front t (without_intermediate list)
+stays t list alone = grind arith
+
+-- numbers have no intermediate byte behind them
+joined_ends : (vs : List ℕ) → without_intermediate (joined vs) ≡ (0, joined vs)
+joined_ends [] = refl
+joined_ends (v ∷ vs) = grind (arith, joined_ends vs)
+
+begins : (m i : ℕ) (vs : List ℕ) → (if m == 0 then true else is_marker m) ≡ true → (if i == 0 then true else is_intermediate i) ≡ true
+    → without_marker (byte_tokens m ++ (joined vs ++ byte_tokens i)) ≡ (m, joined vs ++ byte_tokens i)
+begins m i vs marker intermediate = grind arith
+
+ends : (i : ℕ) (vs : List ℕ) → (if i == 0 then true else is_intermediate i) ≡ true → without_intermediate (joined vs ++ byte_tokens i) ≡ (i, joined vs)
+ends i vs ok = grind (arith, append-nil (joined vs), joined_ends vs, cut_end (joined vs) (P i))
+
+-- the parts of the list that a row writes are those of the row
+parts_are : (row : Row) (vs : List ℕ) → has_its_bytes row ≡ true → parts_of (row_list row vs) ≡ record { marker = row.form.marker; body = joined vs; intermediate = row.form.intermediate }
+parts_are row vs h = grind (arith, begins row.form.marker row.form.intermediate vs, ends row.form.intermediate vs)
+
+-- what the code cuts off
+pub cut-byte : (list front : List CsiParam) (t : CsiParam) (b : ℕ) → list ≡ front ++ t ∷ [] → t ≡ P b → is_intermediate b ≡ true → (b, front) ≡ without_intermediate list
+cut-byte list front t b parts is between = rw (parts, is, cut_end front (P b)) (rw between (rw append-nil refl))
+
+pub kept-byte : (list front : List CsiParam) (t : CsiParam) (b : ℕ) → list ≡ front ++ t ∷ [] → t ≡ P b → is_intermediate b ≡ false → (0, list) ≡ without_intermediate list
+kept-byte list front t b parts is other = rw (parts, is, cut_end front (P b)) (rw other refl)
+
+pub kept-number : (list front : List CsiParam) (t : CsiParam) (z : ℤ) → list ≡ front ++ t ∷ [] → t ≡ Integer z → (0, list) ≡ without_intermediate list
+kept-number list front t z parts is = rw (parts, is, cut_end front (Integer z)) refl
+
+-- ---- rows
+
+pub read_fits : (row : Row) (list : List CsiParam) (final : ℕ) (values : List ℕ) → is_row row ≡ true → read_row row list final ≡ Some values → fit row.slots values ≡ true
+read_fits row list final values h e = grind (arith, read_fit row.slots (parts_of list).body values)
+
+pub fits_read : (row : Row) (values : List ℕ) → is_row row ≡ true → fit row.slots values ≡ true → read_row row (row_list row values) row.form.control ≡ Some values
+fits_read row values h f = of_parts (row_list row values) (grind (arith, parts_are row values)) (fit_read row.slots values f)
+  where
+    of_parts : (list : List CsiParam) → parts_of list ≡ record { marker = row.form.marker; body = joined values; intermediate = row.form.intermediate }
+        → slot_values row.slots (joined values) ≡ Some values → read_row row list row.form.control ≡ Some values
+    of_parts list p e = grind arith
+
+-- ---- the text
+
+spells_append : (xs ys : List CsiParam) → spells (xs ++ ys) ≡ spells xs ++ spells ys
+spells_append [] ys = refl
+spells_append (x ∷ xs) ys = simp (spells_append xs ys, append_assoc)
+
+behind_spelled : (vs : List ℕ) → behind_text vs ≡ spells (each_behind vs)
+unfolding lib.Utf8.encode
+behind_spelled [] = refl
+behind_spelled (v ∷ vs) = rw (behind_spelled vs)
+
+numbers_spelled : (vs : List ℕ) → numbers_text vs ≡ spells (joined vs)
+numbers_spelled [] = refl
+numbers_spelled (v ∷ vs) = rw (behind_spelled vs)
+
+byte_spelled : (b : ℕ) → byte_text b ≡ spells (byte_tokens b)
+byte_spelled b = grind (arith, append-nil (encode_utf8 b))
+
+pub text_lem : (row : Row) (values : List ℕ) → form_text row.form values ≡ spells (row_list row values) ++ encode_utf8 row.form.control
+text_lem row values = simp (byte_spelled, numbers_spelled, spells_append, append_assoc)

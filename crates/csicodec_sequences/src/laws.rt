@@ -9,7 +9,7 @@ ghost use Rattle.csicodec_sequences.specs.declared.row.SequenceForm.{SequenceFor
 ghost use Rattle.csicodec_sequences.specs.Rows.{Row, fit, is_row, read_row, row_list, form_text};
 
 /// Of any row: the values that it reads back of the list that it writes of them are those that fit its slots, and no others.
-#[tactic(auto, using(crate::proofs::Exact::fits_read, crate::proofs::Exact::read_fits))]
+#[tactic(auto, using(crate::proofs::Values::fits_read, crate::proofs::Values::read_fits))]
 pub fn exact()
     ensures { (row : Row) (values : List ℕ) → is_row row ≡ true →
         (read_row row (row_list row values) row.form.control ≡ Some values)
@@ -17,14 +17,14 @@ pub fn exact()
 {}
 
 /// Of any row: what it reads fits its slots, so that it is read back from what is written of it.
-#[tactic(auto, using(crate::proofs::Exact::read_fits))]
+#[tactic(auto, using(crate::proofs::Values::read_fits))]
 pub fn what_is_read_fits()
     ensures { (row : Row) (list : List CsiParam) (final : ℕ) (values : List ℕ) → is_row row ≡ true →
         read_row row list final ≡ Some values → fit row.slots values ≡ true }
 {}
 
 /// Of any row: the text of values is that of their list, and the final character behind it.
-#[tactic(auto, using(crate::proofs::TextOf::text_lem))]
+#[tactic(auto, using(crate::proofs::Values::text_lem))]
 pub fn text()
     ensures { (row : Row) (values : List ℕ)
         → form_text row.form values ≡ spells (row_list row values) ++ encode_utf8 row.form.control }
@@ -37,6 +37,7 @@ pub fn rows()
 {}
 
 /// No two rows of the table read one list.
+#[tactic(auto, using(crate::proofs::Table::one_row))]
 pub fn one_row()
     ensures { (list : List CsiParam) (final i j : ℕ) (q r : Row) (v w : List ℕ) →
         slice_get table i ≡ Some q → slice_get table j ≡ Some r →
@@ -44,7 +45,7 @@ pub fn one_row()
 {}
 
 /// Each row of the table has a kind of its own, above 10000.
-#[tactic(auto, using(crate::proofs::OneKind::above, crate::proofs::OneKind::one))]
+#[tactic(auto, using(crate::proofs::Table::above, crate::proofs::Table::one))]
 pub fn kinds()
     ensures above { (i : ℕ) (row : Row) → slice_get table i ≡ Some row → 10000 < row.form.kind }
     ensures one { (i j : ℕ) (q r : Row) → slice_get table i ≡ Some q → slice_get table j ≡ Some r →
@@ -52,14 +53,14 @@ pub fn kinds()
 {}
 
 /// No row of the table reads a list of more than 26 tokens.
-#[tactic(auto, using(crate::proofs::Longest::longest))]
+#[tactic(auto, using(crate::proofs::Table::longest))]
 pub fn longest()
     ensures { (list : List CsiParam) (final : ℕ) (known : SequenceForm × List ℕ) →
         reading list final ≡ Some known → length list ≤ 26 }
 {}
 
 /// The row of the table that reads a list says what is known of it, wherever it stands.
-#[tactic(auto, using(crate::proofs::FirstRow::any_row))]
+#[tactic(auto, using(crate::proofs::Table::any_row))]
 pub fn any_row()
     ensures { (list : List CsiParam) (final i : ℕ) (row : Row) (values : List ℕ) →
         slice_get table i ≡ Some row → read_row row list final ≡ Some values
@@ -67,7 +68,7 @@ pub fn any_row()
 {}
 
 /// No row of the table reads a list that is read whole as an action.
-#[tactic(auto, using(crate::proofs::Unread::no_action))]
+#[tactic(auto, using(crate::proofs::NoAction::no_action))]
 pub fn no_action()
     ensures { (list : List CsiParam) (final i : ℕ) (row : Row) (values : List ℕ) →
         slice_get table i ≡ Some row → read_row row list final ≡ Some values

@@ -1,4 +1,4 @@
-use Rattle.csicodec_sequences.proofs.Sequences.{sequence}
+use Rattle.csicodec_sequences.proofs.Table.{sequence}
 use Rattle.csicodec_sequences.proofs.laws.sequence.Goals as goal
 
 pub returns : goal.returns

@@ -1,4 +1,4 @@
-use Rattle.csicodec_sequences.proofs.FirstRow.{or-first, or-later}
+use Rattle.csicodec_sequences.proofs.Table.{or-first, or-later}
 use Rattle.csicodec_sequences.proofs.known.KnownSequence.read.Goals as goal
 
 pub returns-in-Some : goal.returns-in-Some

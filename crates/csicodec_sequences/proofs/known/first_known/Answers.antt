@@ -1,4 +1,4 @@
-use Rattle.std.proofs.Common.{◌∙◌, ◌<◌, length, refl, sym, arith}
+use Rattle.std.proofs.Common.{◌∙◌, refl, sym, arith}
 use Rattle.csicodec_sequences.proofs.Table.{none_left, row_read}
 use Rattle.csicodec_sequences.proofs.known.first_known.Goals as goal
 

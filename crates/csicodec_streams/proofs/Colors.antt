@@ -280,15 +280,7 @@ list_short : (color : ColorSpec) → IsOpaque color → length (color_list color
 list_short Default o = omega arith
 list_short (PaletteIndex i) fits = omega (arith, part_short i fits)
 list_short (TrueColor c) (red, green, blue, opaque) =
-    omega (
-      arith,
-      part_short c.0 red,
-      part_short c.1 green,
-      part_short c.2 blue,
-      length-append (decimal c.0)
-          (59 ∷ (decimal c.1 ++ 59 ∷ decimal c.2)),
-      length-append (decimal c.1) (59 ∷ decimal c.2),
-    )
+    omega (arith, part_short c.0 red, part_short c.1 green, part_short c.2 blue, length-append {A = ℕ})
 
 pub color_short : (bytes rest : List ℕ) (sgr : sgr_type.Sgr) → IsColored bytes sgr rest
     → (length rest ≤ length bytes) × (length bytes ≤ length rest + 19)
@@ -369,15 +361,7 @@ colons_normal bytes parts rest digit len sgr (plane, TrueColor c, (red, green, b
     let same : parts ≡ body ++ rest = all ∙ slice_from 7 bytes ∙ ap (λ (l : List ℕ). drop 7 l) e ∙ parts_ended x y z rest in
     let first : digit ≡ plane_byte plane = third ∙ ap (λ (l : List ℕ). get_or l 2 0) e in
     let short : length body ≤ 12 =
-    omega (
-      arith,
-      part_short c.0 red,
-      part_short c.1 green,
-      part_short c.2 blue,
-      length-append x (59 ∷ (y ++ 59 ∷ (z ++ 109 ∷ []))),
-      length-append y (59 ∷ (z ++ 109 ∷ [])),
-      length-append z (109 ∷ []),
-    ) in
+    omega (arith, part_short c.0 red, part_short c.1 green, part_short c.2 blue, length-append {A = ℕ}) in
     let count : len + 1 ≡ 8 + length body = omega (arith, long, ap length e, ap length (parts_ended x y z rest), length-append body rest) in
     let front : take (length body) (map with_colon (take 16 parts)) ≡ parts_of c 58 =
     take-map with_colon (length body) (take 16 parts)

@@ -15,9 +15,9 @@ use Rattle.csicodec_actions.specs.Table.{text, texts}
 use Rattle.csicodec_parser.specs.Segments.{Actions}
 use Rattle.csicodec_streams.specs.Decoding.{Decodes}
 use Rattle.csicodec_streams.specs.Known.{IsOne}
+use Rattle.csicodec_streams.specs.Private.Steps.{DecodesFront}
 use Rattle.csicodec_streams.proofs.OneReading.{one_sequence}
-use Rattle.csicodec_streams.proofs.Splits.{IsSplit}
-use Rattle.csicodec_streams.proofs.Streamed.{front_of, front_on, split_of}
+use Rattle.csicodec_streams.proofs.Streamed.{front_on}
 
 -- the texts of actions, and then of more
 pub texts_joined : (xs ys : List Action) → texts (xs ++ ys) ≡ texts xs ++ texts ys
@@ -25,9 +25,8 @@ texts_joined [] ys = refl
 texts_joined (x ∷ xs) ys = ap (λ (l : List ℕ). text x ++ l) (texts_joined xs ys) ∙ sym (append_assoc (text x) (texts xs) (texts ys))
 
 -- some bytes more are decoded
-pub split_known : (bytes rest : List ℕ) (len : ℕ) (xs ys : List Action) → IsSplit bytes false rest xs → Decodes (take len rest) false ys → IsSplit bytes false (drop len rest) (xs ++ ys)
-split_known bytes rest len xs ys s d =
-    split_of bytes false (drop len rest) (xs ++ ys) (front_on bytes rest false (drop len rest) xs ys (front_of bytes false rest xs s) (take len rest, sym (take-append-drop len rest), d))
+pub split_known : (bytes rest : List ℕ) (len : ℕ) (xs ys : List Action) → DecodesFront bytes false rest xs → Decodes (take len rest) false ys → DecodesFront bytes false (drop len rest) (xs ++ ys)
+split_known bytes rest len xs ys s d = front_on bytes rest false (drop len rest) xs ys s (take len rest, sym (take-append-drop len rest), d)
 
 same_shorter : (bytes known : List ℕ) (len n : ℕ) → len ≤ n → take n bytes ≡ take n known → take len bytes ≡ take len known
 same_shorter bytes known len n within same = sym (take-take len n bytes within) ∙ ap (λ (l : List ℕ). take len l) same ∙ take-take len n known within

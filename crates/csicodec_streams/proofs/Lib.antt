@@ -1,5 +1,4 @@
 pub mod OneReading
-pub mod Splits
 pub mod Streamed
 pub mod Known
 pub mod Positions

@@ -121,8 +121,4 @@ decodes-each flag (a ∷ xs) all = decodes-append (text a) (texts xs) flag (a �
 
 -- a sequence alone
 pub one_sequence : (bytes : List ℕ) (list : List CsiParam) (final : ℕ) (actions : List Action) → Seq bytes list final → Actions list false final actions → Decodes bytes false actions
-one_sequence bytes list final actions s a = record {
-  sequences = (list, final) ∷ [];
-  join = (bytes, [], sym (append-nil bytes), s, refl);
-  each = (actions, [], sym (append-nil actions), a, refl);
-}
+one_sequence bytes list final actions s a = decodes-one bytes list false final actions s a

@@ -129,17 +129,7 @@ front_placed final bytes list behind more line column own begins within first th
     (sym (append_assoc (decimal b) (final ∷ []) more))
     ∙ sym (append_assoc (decimal a) (59 ∷ (decimal b ++ final ∷ [])) more)) in
     let long : line + column + 4 ≡ length (placed a b final) =
-    omega (
-      arith,
-      length-append (decimal a) (59 ∷ (decimal b ++ final ∷ [])),
-      length-append (decimal b) (final ∷ []),
-      ap length lines,
-      ap length columns,
-      length-take line list,
-      length-take column behind,
-      within,
-      inside,
-    ) in
+    omega (arith, length-append {A = ℕ}, length-take {A = ℕ}, ap length lines, ap length columns, within, inside) in
     let front : take (line + column + 4) bytes ≡ placed a b final =
     ap (λ (n : ℕ). take n bytes) long ∙ ap (λ (l : List ℕ). take (length (placed a b final)) l) parts ∙ take-append_seam (placed a b final) more in
     subst IsPosition (sym front) (own a b good right)

@@ -1,37 +1,86 @@
--- A stream that is decoded as it is read.
-use Rattle.std.proofs.Common.{◌≡◌, ℕ, ◌+◌, ◌-◌, ◌<◌, Bool, true, false, Option, Some, None, List, [], ◌++◌, length, drop, refl, sym, ap, subst, ◌∙◌, append_assoc, append-nil, arith}
+-- Sequences and their actions put behind others, and a stream that is decoded as it is read.
+use Rattle.std.proofs.Common.{◌≡◌, ℕ, ◌+◌, ◌-◌, ◌<◌, Bool, true, false, Option, Some, None, List, [], ◌++◌, length, drop, refl, sym, ap, subst, ◌∙◌, append_assoc, append-nil, arith, ◌∷◌, take, take-append-drop}
 use Rattle.std.specs.Prelude.{IfSome, Result, Ok, Err, OnErr}
 use Rattle.std.specs.Io.KnownBytes.{Consumes, IsAtEnd}
 use Rattle.std.proofs.KnownBytes.{Consumes-all}
 use Rattle.std.proofs.Math.Seq.{drop-append_seam}
-use Rattle.std.proofs.lemmas.List.{length-append}
+use Rattle.std.proofs.lemmas.List.{length-append, take_rest}
 use Rattle.csicodec_actions.specs.Table.{texts}
 use Rattle.csicodec_tokens.specs.declared.reader.ReadError.{ReadError}
 use Rattle.csicodec_tokens.specs.declared.reader.ReadError.TheVariants as errors
-use Rattle.csicodec_tokens.specs.Fault.{Refuses}
+use Rattle.csicodec_tokens.specs.Fault.{Refuses, FaultOf}
 use Rattle.csicodec_tokens.proofs.Longer.{fault_more}
 use Rattle.csicodec_actions.specs.Actions.{Action}
-use Rattle.csicodec_streams.specs.Decoding.{Decodes}
+use Rattle.csicodec_streams.specs.Decoding.{Decodes, Joins, FaultAt}
 use Rattle.csicodec_streams.specs.declared.error.DecodeError.{DecodeError}
 use Rattle.csicodec_streams.specs.Private.Steps.{DecodesFront, stays}
 use Rattle.csicodec_streams.specs.Refusals.{RefusesDecode, RefusesRun, refusal_of, run_refusal}
-use Rattle.csicodec_streams.proofs.OneReading.{decodes-append}
-use Rattle.csicodec_streams.proofs.Splits.{IsSplit, begins, refuses_at, run_refused}
-
-pub split_of : (bytes : List ℕ) (flag : Bool) (rest : List ℕ) (xs : List Action) → DecodesFront bytes flag rest xs → IsSplit bytes flag rest xs
-split_of bytes flag rest xs d = record { front = d.0; parts = d.1; sequences = d.2.sequences; join = d.2.join; each = d.2.each }
-
-pub front_of : (bytes : List ℕ) (flag : Bool) (rest : List ℕ) (xs : List Action) → IsSplit bytes flag rest xs → DecodesFront bytes flag rest xs
-front_of bytes flag rest xs s = (s.front, s.parts, record { sequences = s.sequences; join = s.join; each = s.each })
-
--- with nothing behind it, the front is all
-pub front_all : (bytes : List ℕ) (flag : Bool) (rest : List ℕ) (xs : List Action) → DecodesFront bytes flag rest xs → rest ≡ [] → Decodes bytes flag xs
-front_all bytes flag rest xs d none = subst (λ (l : List ℕ). Decodes l flag xs) (sym (d.1 ∙ ap (λ (l : List ℕ). d.0 ++ l) none ∙ append-nil d.0)) d.2
+use Rattle.csicodec_streams.proofs.OneReading.{decodes-append, decodes-one, fault_apart}
+use Rattle.csicodec_tokens.specs.declared.param.CsiParam.{CsiParam}
+use Rattle.csicodec_tokens.specs.Sequence.{Reads}
+use Rattle.csicodec_parser.specs.Segments.{Actions}
+use Rattle.csicodec_streams.specs.declared.error.DecodeError.TheVariants as decode_errors
 
 -- what was held decodes further
 pub front_on : (bytes held : List ℕ) (flag : Bool) (rest : List ℕ) (xs ys : List Action) → DecodesFront bytes flag held xs → DecodesFront held flag rest ys → DecodesFront bytes flag rest (xs ++ ys)
 front_on bytes held flag rest xs ys d e =
     (d.0 ++ e.0, d.1 ∙ ap (λ (l : List ℕ). d.0 ++ l) e.1 ∙ sym (append_assoc d.0 e.0 rest), decodes-append d.0 e.0 flag xs ys d.2 e.2)
+
+pub split_none : (bytes : List ℕ) (flag : Bool) → DecodesFront bytes flag bytes []
+split_none bytes flag = ([], refl, record { sequences = []; join = refl; each = refl })
+
+pub split_more : (bytes rest behind : List ℕ) (flag : Bool) (xs ys : List Action)
+    (list : List CsiParam) (final : ℕ) → DecodesFront bytes flag rest xs → Reads rest list final behind →
+    Actions list flag final ys
+    → DecodesFront bytes flag behind (xs ++ ys)
+split_more bytes rest behind flag xs ys list final s r a = front_on bytes rest flag behind xs ys s (r.0, r.2, decodes-one r.0 list flag final ys r.1 a)
+
+fault_there : (bytes rest : List ℕ) (flag : Bool) (xs : List Action) (e : ReadError) → DecodesFront bytes flag rest xs → 0 < length rest → FaultOf rest e
+    → FaultAt bytes (length bytes - length rest) e × ((actions : List Action) → Decodes bytes flag actions → ⊥)
+fault_there bytes rest flag xs e s some r =
+    let at : FaultAt bytes (length bytes - length rest) e = record {
+      front = s.0;
+      rest = rest;
+      parts = s.1;
+      sequences = s.2.sequences;
+      join = s.2.join;
+      place = omega (arith, ap length s.1, length-append s.0 rest);
+      some = some;
+      fault = r;
+    } in
+    (at, λ actions d. fault_apart bytes flag (length bytes - length rest) e actions at d)
+
+-- behind sequences that stand before a sequence, the bytes begin with one
+pub begins : (bytes rest : List ℕ) (flag : Bool) (xs : List Action) → DecodesFront bytes flag rest xs →
+    (list : List CsiParam) (final : ℕ) (behind : List ℕ) → Reads rest list final behind →
+    RefusesDecode bytes flag decode_errors.Memory
+begins bytes rest flag xs s list final behind r = go s.2.sequences s.2.join
+  where
+    go : (ss : List (List CsiParam × ℕ)) → Joins s.0 ss → RefusesDecode bytes flag decode_errors.Memory
+    go [] none = (list, final, behind, (r.0, r.1, s.1 ∙ ap (λ (l : List ℕ). l ++ rest) none ∙ r.2))
+    go (t ∷ ts) join = (t.0, t.1, join.1 ++ rest, (join.0, join.3, s.1 ∙ ap (λ (l : List ℕ). l ++ rest) join.2 ∙ append_assoc join.0 join.1 rest))
+
+-- behind the sequences stands what is refused
+pub refuses_at : (bytes rest : List ℕ) (flag : Bool) (xs : List Action) (room : ℕ) (e : ReadError) →
+    DecodesFront bytes flag rest xs → 0 < length rest → Refuses rest room e →
+    RefusesDecode bytes flag (refusal_of (length bytes - length rest) e)
+refuses_at bytes rest flag xs room errors.Memory s some r = begins bytes rest flag xs s r.0 r.1 r.2 r.3
+refuses_at bytes rest flag xs room e s some r = fault_there bytes rest flag xs e s some r
+
+-- bytes with actions are refused only where memory runs out
+pub refused_for_memory : (bytes : List ℕ) (flag : Bool) (e : DecodeError) (actions : List Action) → RefusesDecode bytes flag e → Decodes bytes flag actions → e ≡ decode_errors.Memory
+refused_for_memory bytes flag (decode_errors.Read start error) actions r d = absurd (r.1 actions d)
+refused_for_memory bytes flag decode_errors.Memory actions r d = refl
+
+-- a run over these bytes is refused as their decoding is
+pub run_refused : (input : Option (List ℕ)) (bytes : List ℕ) (e : DecodeError) → IfSome input (λ xs. bytes ≡ xs) → RefusesDecode bytes false e → RefusesRun input (run_refusal e)
+run_refused None bytes (decode_errors.Read start error) same r = tt
+run_refused (Some xs) bytes (decode_errors.Read start error) same r = rw (← same) r
+run_refused input bytes decode_errors.Memory same r = tt
+
+-- with nothing behind it, the front is all
+pub front_all : (bytes : List ℕ) (flag : Bool) (rest : List ℕ) (xs : List Action) → DecodesFront bytes flag rest xs → rest ≡ [] → Decodes bytes flag xs
+front_all bytes flag rest xs d none = subst (λ (l : List ℕ). Decodes l flag xs) (sym (d.1 ∙ ap (λ (l : List ℕ). d.0 ++ l) none ∙ append-nil d.0)) d.2
 
 -- more bytes come behind
 pub front_more : (bytes held more : List ℕ) (flag : Bool) (xs : List Action) → DecodesFront bytes flag held xs → DecodesFront (bytes ++ more) flag (held ++ more) xs
@@ -42,8 +91,8 @@ pub stays_refused : (bytes rest more : List ℕ) (flag : Bool) (xs : List Action
     → stays e ≡ true → RefusesDecode (bytes ++ more) flag (refusal_of (length bytes - length rest) e)
 stays_refused bytes rest more flag xs room e d some r whole = go e r whole
   where
-    split : IsSplit (bytes ++ more) flag (rest ++ more) xs
-    split = split_of (bytes ++ more) flag (rest ++ more) xs (front_more bytes rest more flag xs d)
+    split : DecodesFront (bytes ++ more) flag (rest ++ more) xs
+    split = front_more bytes rest more flag xs d
 
     place : length (bytes ++ more) - length (rest ++ more) ≡ length bytes - length rest
     place = omega (arith, length-append bytes more, length-append rest more)
@@ -95,3 +144,8 @@ pub whole_given : (given now : Option (List ℕ)) (all : List ℕ) (xs : List Ac
 whole_given None now all xs out c end d e = tt
 whole_given (Some g) now all xs out c end d e =
     let same : all ≡ g = given_all (Some g) now all c end in (xs, subst (λ (l : List ℕ). Decodes l false xs) same d, e)
+
+-- of some bytes that are in front of the rest, more are
+pub moves_front : (all sent rest : List ℕ) (n : ℕ) → all ≡ sent ++ rest → all ≡ (sent ++ take n rest) ++ take (length rest - n) (drop n rest)
+moves_front all sent rest n e =
+    e ∙ ap (λ l. sent ++ l) (sym (take-append-drop n rest)) ∙ sym (append_assoc sent (take n rest) (drop n rest)) ∙ ap (λ l. (sent ++ take n rest) ++ l) (sym (take_rest rest n))

@@ -1,8 +1,7 @@
 use Rattle.std.proofs.Common.{◌≡◌, ◌-◌, ◌++◌, [], false, length, arith, ap, sym, ◌∙◌, append-nil, refl}
 use Rattle.std.proofs.KnownBytes.{Consumes-nil, Consumes-trans}
 use Rattle.csicodec_streams.specs.Private.Steps.{DecodesFront}
-use Rattle.csicodec_streams.proofs.Splits.{refuses_at}
-use Rattle.csicodec_streams.proofs.Streamed.{front_all, front_on, front_read, kept_behind, length_read, refused_end, split_of, stays_refused, whole_given}
+use Rattle.csicodec_streams.proofs.Streamed.{front_all, front_on, front_read, kept_behind, length_read, refused_end, refuses_at, stays_refused, whole_given}
 use Rattle.csicodec_streams.proofs.stream.stream_into.Goals as goal
 
 pub chunks-init : goal.chunks-init
@@ -56,17 +55,10 @@ returns-in-Some-error-clause-refused g c = λ given whole.
     let stop = rw c.in-Some-error.is at c.in-Ok.ensures.behind in
     let longer = length_read read more c.chunks.held.items bytes held c.chunks.start len kept in
     let place : c.in-Some.place ≡ length (read ++ (more ++ bytes)) - length rest =
-    omega (
-      arith,
-      longer,
-      c.in-Some.ensures,
-      c.deref.ensures.len,
-      ap length c.deref.ensures.value,
-      c.in-Ok.ensures.within,
-    ) in
+    omega (arith, longer, c.in-Some.ensures, ap length c.deref.ensures.value, c.in-Ok.ensures.within) in
     rw (c.from.ensures, c.refusal_at.ensures, place)
     (refused_end given _ (read ++ (more ++ bytes)) _ (Consumes-trans _ _ _ read (more ++ bytes) whole (Consumes-trans _ _ _ more bytes consumed now)) (c.in_ok-count.ensures.end c.if-count-eq0-2.true)
-    (refuses_at (read ++ (more ++ bytes)) rest false (xs ++ ys) stop.1.0 c.in-Some-error.error (split_of (read ++ (more ++ bytes)) false rest (xs ++ ys) all) stop.0 stop.1.1))
+    (refuses_at (read ++ (more ++ bytes)) rest false (xs ++ ys) stop.1.0 c.in-Some-error.error all stop.0 stop.1.1))
 
 pub returns-in-Some-2-clause-refused : goal.returns-in-Some-2-clause-refused
 returns-in-Some-2-clause-refused g c = λ given whole.
@@ -80,14 +72,7 @@ returns-in-Some-2-clause-refused g c = λ given whole.
     let stop = rw c.in-Some-2.is at c.in-Ok.ensures.behind in
     let longer = length_read read more c.chunks.held.items bytes held c.chunks.start len kept in
     let place : c.in-Some.place ≡ length (read ++ (more ++ bytes)) - length rest =
-    omega (
-      arith,
-      longer,
-      c.in-Some.ensures,
-      c.deref.ensures.len,
-      ap length c.deref.ensures.value,
-      c.in-Ok.ensures.within,
-    ) in
+    omega (arith, longer, c.in-Some.ensures, ap length c.deref.ensures.value, c.in-Ok.ensures.within) in
     c.refused.ensures.refused given (read ++ (more ++ bytes)) (Consumes-trans _ _ _ read (more ++ bytes) whole (Consumes-trans _ _ _ more bytes consumed now))
     (λ after. rw (c.refusal_at-in-Some-2.ensures, place)
     (stays_refused (read ++ (more ++ bytes)) rest after false (xs ++ ys) stop.1.0
@@ -113,11 +98,6 @@ chunks-preserved g c =
       omega (arith, longer, c.in-Some.ensures, c.deref.ensures.len, ap length c.deref.ensures.value, c.in-Ok.ensures.within, ap length left),
       c.texts_into.ensures.known,
     )
-
-pub texts_into-requires-clause-known : goal.texts_into-requires-clause-known
-texts_into-requires-clause-known g c =
-    let (more, xs, consumed, front, out, len, known) = c.chunks.invariant in
-    known
 
 pub texts_into-requires-clause-texts : goal.texts_into-requires-clause-texts
 texts_into-requires-clause-texts g c =

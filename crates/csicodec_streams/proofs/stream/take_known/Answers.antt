@@ -6,7 +6,3 @@ returns-clause-noted c = λ some.
     let (text, normal, out) = c.take_simple.ensures.normal some in
     let same = c.recall-known.ensures.none (omega (arith, c.if-known-gt0.false)) in
     (text, normal, out ∙ ap (λ (l : List ℕ). l ++ text) same)
-
-pub returns-clause-none : goal.returns-clause-none
-returns-clause-none c = λ none.
-    c.take_simple.ensures.none none ∙ c.recall-known.ensures.none (omega (arith, c.if-known-gt0.false))

@@ -1,8 +1,8 @@
 use Rattle.std.proofs.Common.{ℕ, false, [], ◌++◌, List, length, refl, sym, ap, subst, ◌∙◌, append_assoc, append-nil, arith}
 use Rattle.csicodec_actions.specs.Table.{texts}
+use Rattle.csicodec_streams.specs.Private.Steps.{DecodesFront}
 use Rattle.csicodec_streams.proofs.Known.{read_known, read_one, slice_from, split_known, texts_behind, texts_longer, texts_more}
-use Rattle.csicodec_streams.proofs.Splits.{IsSplit, split_none, split_more, begins}
-use Rattle.csicodec_streams.proofs.Streamed.{errs, front_of}
+use Rattle.csicodec_streams.proofs.Streamed.{begins, errs, split_more, split_none}
 use Rattle.csicodec_streams.proofs.stream.texts_into.Goals as goal
 
 pub loop-alloc-init : goal.loop-alloc-init
@@ -17,7 +17,7 @@ loop-alloc-preserved-then-known-gt0 c =
     let rest = c.loop-alloc.rest.now in
     let len = c.take_known-known.result in (
       told ++ ys,
-      subst (λ (l : List ℕ). IsSplit bytes false l (told ++ ys)) (sym (slice_from len rest)) (split_known bytes rest len told ys split decodes),
+      subst (λ (l : List ℕ). DecodesFront bytes false l (told ++ ys)) (sym (slice_from len rest)) (split_known bytes rest len told ys split decodes),
       λ before h. texts_more before told ys _ _ text (held before h) out is,
       c.take_known-known.ensures.known,
     )
@@ -76,6 +76,6 @@ returns-in-Err-clause-front c =
     let (told, split, held, known) = c.loop-alloc.invariant in
     let same = c.take_known-known.ensures.none (omega (arith, c.if-known-gt0.false)) in (
       told,
-      front_of c.args.bytes.now false c.loop-alloc.rest.now told split,
+      split,
       λ before h. same ∙ held before h,
     )

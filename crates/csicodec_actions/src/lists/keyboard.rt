@@ -55,6 +55,7 @@ fn keyboard(params: &[CsiParam]) -> Option<Keyboard>
     }
 }
 
+#[tactic(auto, unfolding(crate::specs::Kinds::read))]
 fn flags_at(number: i64) -> Option<KittyKeyboardFlags>
     ensures { result ≡ read FlagsKind number }
 {
@@ -70,6 +71,7 @@ fn pops_at(number: i64) -> Option<u32>
 }
 
 /// The flags that have a name, of these bits.
+#[tactic(auto, unfolding(bitflags::proofs::OnLiterals::bitflags_on_literals))]
 fn known(bits: u16) -> KittyKeyboardFlags
     ensures { result ≡ record { bits = bit_and bits 31 } }
 {

@@ -47,17 +47,20 @@ no-row (o ∷ others) list final none = rw (ne_eqb final o.final none.0) (no-row
 abbrev pub AllFieldRows : (Over Action → FieldRow Action → Type 0) → List (Over Action) → Type 0
 AllFieldRows Q entries = AllByRecursion (λ (o : Over Action). AllByRecursion (Q o) o.rows) entries
 
-pub record RowOf (Q : FieldRow Action → Type 0) (fs : List (Option ℤ)) (a : Action) : Type 0 where
-  pub row : FieldRow Action
+pub record RowOf {R : Type 0} (Q : R → Type 0) (give : R → Option Action) (a : Action) : Type 0 where
+  pub row : R
   pub holds : Q row
-  pub gave : gives row fs ≡ Some a
+  pub gave : give row ≡ Some a
 
-given-row : (Q : FieldRow Action → Type 0) (rows : List (FieldRow Action)) (fs : List (Option ℤ)) (a : Action) → AllByRecursion Q rows → given rows fs ≡ Some a → RowOf Q fs a
-given-row Q [] fs a all e = cc
-given-row Q (r ∷ rows) fs a all e = go (gives r fs) refl e (given-row Q rows fs a all.1)
+-- what all give is what the first of them gives that gives something
+pub row-of : {R : Type 0} (Q : R → Type 0) (give : R → Option Action) (all : List R → Option Action) → all [] ≡ None →
+    ((r : R) (rows : List R) → all (r ∷ rows) ≡ option_or (give r) (all rows))
+    → (rows : List R) (a : Action) → AllByRecursion Q rows → all rows ≡ Some a → RowOf Q give a
+row-of Q give all none first [] a hold e = cc
+row-of Q give all none first (r ∷ rows) a hold e = go (give r) refl (sym (first r rows) ∙ e) (row-of Q give all none first rows a hold.1)
   where
-    go : (o : Option Action) → gives r fs ≡ o → option_or o (given rows fs) ≡ Some a → (given rows fs ≡ Some a → RowOf Q fs a) → RowOf Q fs a
-    go (Some x) gave e later = record { row = r; holds = all.0; gave = gave ∙ e }
+    go : (o : Option Action) → give r ≡ o → option_or o (all rows) ≡ Some a → (all rows ≡ Some a → RowOf Q give a) → RowOf Q give a
+    go (Some x) gave e later = record { row = r; holds = hold.0; gave = gave ∙ e }
     go None gave e later = later e
 
 -- the fields that it was given of
@@ -66,13 +69,13 @@ pub record OverOf (Q : Over Action → FieldRow Action → Type 0) (list : List 
   pub here : final ≡ entry.final
   pub fields : List (Option ℤ)
   pub are : fields_over entry list ≡ Some fields
-  pub found : RowOf (Q entry) fields a
+  pub found : RowOf (Q entry) (λ (r : FieldRow Action). gives r fields) a
 
 over-row : (Q : Over Action → FieldRow Action → Type 0) (o : Over Action) (list : List CsiParam) (final : ℕ) (a : Action) → AllByRecursion (Q o) o.rows → final ≡ o.final → read_over o list ≡ Some a
     → OverOf Q list final a
 over-row Q o list final a all here e =
     option_and_then_some (given o.rows) (fields_over o list) a e
-    (λ fs are is. record { entry = o; here = here; fields = fs; are = are; found = given-row (Q o) o.rows fs a all is })
+    (λ fs are is. record { entry = o; here = here; fields = fs; are = are; found = row-of (Q o) _ (λ rows. given rows fs) refl (λ r rows. refl) o.rows a all is })
 
 pub over-in : (Q : Over Action → FieldRow Action → Type 0) (entries : List (Over Action))
     (list : List CsiParam) (final : ℕ) (a : Action) → AllFieldRows Q entries →
@@ -185,18 +188,16 @@ fields-have T (Integer z ∷ Integer y ∷ list) fs all e = with-has T (Some z) 
 
 behind-tokens : (T : CsiParam → Type 0) (b : Option ℕ) (list rest : List CsiParam) → AllByRecursion T list → behind_byte b list ≡ Some rest → AllByRecursion T rest
 behind-tokens T None list rest all e = rw (← same_Some _ _ e) all
-behind-tokens T (Some b) [] rest all e = cc
-behind-tokens T (Some b) (Integer z ∷ ts) rest all e = cc
 behind-tokens T (Some b) (P c ∷ ts) rest all e = rw (← same_Some _ _ (guarded (c == b) _ rest e).1) all.1
+behind-tokens T (Some b) _ rest all e = cc
 
 ahead-tokens : (T : CsiParam → Type 0) (b : Option ℕ) (list rest : List CsiParam) → AllByRecursion T list → ahead_of_byte b list ≡ Some rest → AllByRecursion T rest
 ahead-tokens T None list rest all e = rw (← same_Some _ _ e) all
-ahead-tokens T (Some b) [] rest all e = cc
-ahead-tokens T (Some b) (Integer z ∷ []) rest all e = cc
 ahead-tokens T (Some b) (P c ∷ []) rest all e = rw (← same_Some _ _ (guarded (c == b) _ rest e).1) tt
 ahead-tokens T (Some b) (t ∷ u ∷ ts) rest all e =
     let m = map-some (λ l. t ∷ l) (ahead_of_byte (Some b) (u ∷ ts)) rest e in
     rw (← m.2) (all.0, ahead-tokens T (Some b) (u ∷ ts) m.0 all.1 m.1)
+ahead-tokens T (Some b) _ rest all e = cc
 
 over-have : (T : CsiParam → Type 0) (o : Over Action) (list : List CsiParam) (fs : List (Option ℤ)) → AllByRecursion T list → fields_over o list ≡ Some fs → AllByRecursion (Has T) fs
 over-have T o list fs all e =

@@ -1,5 +1,5 @@
 -- What holds of all that the rows of whole lists give: said for each row, and proved of any list.
-use Rattle.std.proofs.Common.{◌≡◌, ℕ, List, [], ◌∷◌, ◌++◌, Option, None, Some, refl, sym, ap, ◌∙◌, inl, inr, append_assoc}
+use Rattle.std.proofs.Common.{◌≡◌, ℕ, List, [], ◌∷◌, ◌++◌, Some, refl, sym, ap, ◌∙◌, inl, inr, append_assoc}
 use Rattle.std.specs.Prelude.{ℤ, ◌==◌, Bool, true, false, if◌then◌else◌}
 use Rattle.std.specs.List.{AllByRecursion}
 use Rattle.std.specs.Option.{option_or}
@@ -15,7 +15,7 @@ use Rattle.csicodec_actions.specs.Rows.{Slot, Byte, Number, One, Makes, AtEnd, e
 use Rattle.csicodec_actions.specs.Table.XtSmGraphics.{graphics_fields}
 use Rattle.csicodec_actions.specs.Table.Window.{window_fields}
 use Rattle.csicodec_actions.specs.Table.{all_subjects, table, field_table, whole}
-use Rattle.csicodec_actions.proofs.AllFieldRows.{FieldRowsKeep, fields-append, fields-keep, option_or-assoc}
+use Rattle.csicodec_actions.proofs.AllFieldRows.{FieldRowsKeep, RowOf, fields-append, fields-keep, option_or-assoc, row-of}
 use Rattle.csicodec_actions.proofs.Found.{guarded, one-of}
 
 -- ---- several tables as one
@@ -48,20 +48,6 @@ whole-table list final = whole-parts list final ∙ ap (option_or (read_by table
 abbrev pub AllRows : (ℕ → Row Action → Type 0) → List (Before Action) → Type 0
 AllRows Q others = AllByRecursion (λ (b : Before Action). AllByRecursion (λ (r : Row Action). Q b.final r) b.rows) others
 
-pub record RowOf (Q : ℕ → Row Action → Type 0) (list : List CsiParam) (final : ℕ) (a : Action) : Type 0 where
-  pub row : Row Action
-  pub holds : Q final row
-  pub gave : gives row list ≡ Some a
-
-given-row : (Q : ℕ → Row Action → Type 0) (rows : List (Row Action)) (list : List CsiParam) (final : ℕ) (a : Action) → AllByRecursion (λ (r : Row Action). Q final r) rows → given rows list ≡ Some a
-    → RowOf Q list final a
-given-row Q [] list final a all e = cc
-given-row Q (r ∷ rows) list final a all e = go (gives r list) refl e (given-row Q rows list final a all.1)
-  where
-    go : (o : Option Action) → gives r list ≡ o → option_or o (given rows list) ≡ Some a → (given rows list ≡ Some a → RowOf Q list final a) → RowOf Q list final a
-    go (Some x) gave e later = record { row = r; holds = all.0; gave = gave ∙ e }
-    go None gave e later = later e
-
 pub all-append : {X : Type 0} (Q : X → Type 0) (xs ys : List X) → AllByRecursion Q xs → AllByRecursion Q ys → AllByRecursion Q (xs ++ ys)
 all-append Q [] ys all more = more
 all-append Q (x ∷ xs) ys all more = (all.0, all-append Q xs ys all.1 more)
@@ -75,8 +61,9 @@ rows-of Q (b ∷ others) final all = elim (cases_Bool (final == b.final)) [
   | inr later ↦ rw later (rows-of Q others final all.1)
 ]
 
-pub row-in : (Q : ℕ → Row Action → Type 0) (rows : List (Before Action)) (list : List CsiParam) (final : ℕ) (a : Action) → AllRows Q rows → read_by rows list final ≡ Some a → RowOf Q list final a
-row-in Q rows list final a all e = given-row Q (rows_before rows final) list final a (rows-of Q rows final all) e
+pub row-in : (Q : ℕ → Row Action → Type 0) (rows : List (Before Action)) (list : List CsiParam) (final : ℕ) (a : Action) → AllRows Q rows → read_by rows list final ≡ Some a
+    → RowOf (Q final) (λ (r : Row Action). gives r list) a
+row-in Q rows list final a all e = row-of (Q final) _ (λ rows. given rows list) refl (λ r rows. refl) (rows_before rows final) a (rows-of Q rows final all) e
 
 -- ---- what the rows make
 

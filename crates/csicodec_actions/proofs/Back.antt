@@ -1,35 +1,26 @@
 -- What an action of a row is written as is read as it, subject by subject.
-use Rattle.std.proofs.Common.{◌≡◌, ℕ, List, [], ◌∷◌, true, false, None, Some, refl, ap, ◌∙◌, inl, inr, arith, pos, rules}
+use Rattle.std.proofs.Common.{◌≡◌, ℕ, List, [], ◌∷◌, true, None, Some, refl, ap, ◌∙◌, inl, inr, arith, pos, rules}
 use Rattle.std.specs.Prelude.{ℤ, ◌==◌, ◌&&◌, Option, map, if◌then◌else◌}
 use Rattle.std.specs.List.{Contains}
 use Rattle.std.proofs.lemmas.Bool.{cases_Bool, and_parts, eq-eqb, eqb-true, ne_eqb}
 use Rattle.csicodec_names.proofs.Coded.{attributes, is_number-pos, none-found}
 use Rattle.csicodec_names.specs.DeviceNumbers.{device_attribute_codes, device_attribute_number}
 use Rattle.csicodec_names.specs.Numbered.{is_number}
-use Rattle.csicodec_names.specs.declared.enums.CursorTabulationControl.TheVariants as control
-use Rattle.csicodec_names.specs.declared.enums.EraseInDisplay.TheVariants as display
-use Rattle.csicodec_names.specs.declared.enums.EraseInLine.TheVariants as line
-use Rattle.csicodec_names.specs.declared.enums.TabulationClear.TheVariants as clear
+use Rattle.csicodec_names.specs.declared.enums as enums
 use Rattle.csicodec_tokens.specs.Fields.{fields_of}
 use Rattle.csicodec_tokens.specs.OneBased.{most}
 use Rattle.csicodec_tokens.specs.declared.param.CsiParam.TheVariants.{Integer, P}
-use Rattle.csicodec_actions.specs.declared.cursor.Cursor as cursor_type
 use Rattle.csicodec_actions.specs.declared.cursor.Cursor.TheVariants as cursor
 use Rattle.csicodec_actions.specs.declared.device.DeviceAttribute.{DeviceAttribute}
 use Rattle.csicodec_actions.specs.declared.device.DeviceAttribute.TheVariants as attribute
-use Rattle.csicodec_actions.specs.declared.edit.Edit as edit_type
 use Rattle.csicodec_actions.specs.declared.edit.Edit.TheVariants as edit
-use Rattle.csicodec_actions.specs.declared.xtsmgraphics.XtSmGraphicsItem.{XtSmGraphicsItem}
 use Rattle.csicodec_actions.specs.declared.path.CharacterPath.{CharacterPath}
 use Rattle.csicodec_actions.specs.declared.path.CharacterPath.TheVariants as path
-use Rattle.csicodec_actions.specs.declared.keyboard.Keyboard as keyboard_type
 use Rattle.csicodec_actions.specs.declared.keyboard.Keyboard.TheVariants as keyboard
-use Rattle.csicodec_actions.specs.declared.mode.Mode as mode_type
 use Rattle.csicodec_actions.specs.declared.mode.Mode.TheVariants as mode
-use Rattle.csicodec_actions.specs.declared.mouse.MouseReport as mouse_type
 use Rattle.csicodec_actions.specs.declared.mouse.MouseReport.TheVariants as mouse
-use Rattle.csicodec_actions.specs.declared.window.Window as window_type
 use Rattle.csicodec_actions.specs.declared.window.Window.TheVariants as window
+use Rattle.csicodec_actions.specs.declared as types
 use Rattle.csicodec_actions.specs.Actions as actions
 use Rattle.csicodec_actions.specs.Actions.{Action, Cursor, Edit, Mode, Mouse, Device, Window, Keyboard, SelectCharacterPath}
 use Rattle.csicodec_actions.specs.Devices as devices
@@ -75,25 +66,13 @@ unless-back w a m k v is missing one = elim (cases_Bool (is_number m (number k v
   | inr there ↦ rw (is, there) one
 ]
 
-no-count : read Count (pos 1) ≡ Some 1
+missing : (read Count (pos 1) ≡ Some 1)
+    × (read Control (pos 0) ≡ Some enums.CursorTabulationControl.TheVariants.SetCharacterTabStopAtActivePosition)
+    × (read Clear (pos 0) ≡ Some enums.TabulationClear.TheVariants.ClearCharacterTabStopAtActivePosition)
+    × (read InDisplay (pos 0) ≡ Some enums.EraseInDisplay.TheVariants.EraseToEndOfDisplay)
+    × (read InLine (pos 0) ≡ Some enums.EraseInLine.TheVariants.EraseToEndOfLine)
 unfolding read
-no-count = refl
-
-no-control : read Control (pos 0) ≡ Some control.SetCharacterTabStopAtActivePosition
-unfolding read
-no-control = refl
-
-no-clear : read Clear (pos 0) ≡ Some clear.ClearCharacterTabStopAtActivePosition
-unfolding read
-no-clear = refl
-
-no-display : read InDisplay (pos 0) ≡ Some display.EraseToEndOfDisplay
-unfolding read
-no-display = refl
-
-no-line : read InLine (pos 0) ≡ Some line.EraseToEndOfLine
-unfolding read
-no-line = refl
+missing = (refl, refl, refl, refl, refl)
 
 -- ---- the cursor
 
@@ -115,7 +94,7 @@ columns-back a b good ok = elim (cases_Bool (a == 1 && b == most)) [
 ]
 
 -- a line for each variant that isn't written as one count
-cursor-back : (c : cursor_type.Cursor) → AllGood (written_cursor c).items → ¬ IsSpecial (Cursor c) → Returns (written_cursor c) (Cursor c)
+cursor-back : (c : types.cursor.Cursor.Cursor) → AllGood (written_cursor c).items → ¬ IsSpecial (Cursor c) → Returns (written_cursor c) (Cursor c)
 cursor-back (cursor.Position a b) good ok = search (rules, read-good)
 cursor-back (cursor.ActivePositionReport a b) good ok = search (rules, read-good)
 cursor-back (cursor.CharacterAndLinePosition a b) good ok = search (rules, read-good)
@@ -127,36 +106,30 @@ cursor-back cursor.RequestActivePositionReport good ok = refl
 cursor-back (cursor.CursorStyle c) good ok = search (rules, read-good)
 cursor-back (cursor.TabulationControl c) good ok =
     unless-back (written_cursor (cursor.TabulationControl c)) (Cursor (cursor.TabulationControl c))
-    _ _ c refl (search (rules, no-control)) (search (rules, read-good))
+    _ _ c refl (search (rules, missing.1)) (search (rules, read-good))
 cursor-back (cursor.TabulationClear c) good ok =
     unless-back (written_cursor (cursor.TabulationClear c)) (Cursor (cursor.TabulationClear c)) _ _
-    c refl (search (rules, no-clear)) (search (rules, read-good))
-cursor-back c good ok = unless-back (written_cursor c) (Cursor c) _ _ _ refl (search (rules, no-count)) (search (rules, read-good))
+    c refl (search (rules, missing.2)) (search (rules, read-good))
+cursor-back c good ok = unless-back (written_cursor c) (Cursor c) _ _ _ refl (search (rules, missing.0)) (search (rules, read-good))
 
-rows-sound : (a b : ℕ) → is_sound (written_cursor (cursor.SetTopAndBottomMargins a b)) ≡ true
-rows-sound a b = elim (a == 1 && b == most) as (λ t. is_sound (record { items = if t then [] else two Last a b; final = 114 }) ≡ true) [ true ↦ refl | false ↦ refl ]
-
-columns-sound : (a b : ℕ) → is_sound (written_cursor (cursor.SetLeftAndRightMargins a b)) ≡ true
-columns-sound a b = elim (a == 1 && b == most) as (λ t. is_sound (record { items = if t then [] else two Count a b; final = 115 }) ≡ true) [ true ↦ refl | false ↦ refl ]
-
-cursor-sound : (c : cursor_type.Cursor) → is_sound (written_cursor c) ≡ true
-cursor-sound (cursor.SetTopAndBottomMargins a b) = rows-sound a b
-cursor-sound (cursor.SetLeftAndRightMargins a b) = columns-sound a b
+cursor-sound : (c : types.cursor.Cursor.Cursor) → is_sound (written_cursor c) ≡ true
+cursor-sound (cursor.SetTopAndBottomMargins a b) = elim (cases_Bool (a == 1 && b == most)) [ inl all ↦ rw all refl | inr less ↦ rw less refl ]
+cursor-sound (cursor.SetLeftAndRightMargins a b) = elim (cases_Bool (a == 1 && b == most)) [ inl all ↦ rw all refl | inr less ↦ rw less refl ]
 cursor-sound c = refl
 
 -- ---- edits: a line for each variant that isn't written as one count
 
-edit-back : (e : edit_type.Edit) → AllGood (written_edit e).items → Returns (written_edit e) (Edit e)
-edit-back (edit.EraseInDisplay c) good = unless-back (written_edit (edit.EraseInDisplay c)) (Edit (edit.EraseInDisplay c)) _ _ c refl (search (rules, no-display)) (search (rules, read-good))
-edit-back (edit.EraseInLine c) good = unless-back (written_edit (edit.EraseInLine c)) (Edit (edit.EraseInLine c)) _ _ c refl (search (rules, no-line)) (search (rules, read-good))
-edit-back e good = unless-back (written_edit e) (Edit e) _ _ _ refl (search (rules, no-count)) (search (rules, read-good))
+edit-back : (e : types.edit.Edit.Edit) → AllGood (written_edit e).items → Returns (written_edit e) (Edit e)
+edit-back (edit.EraseInDisplay c) good = unless-back (written_edit (edit.EraseInDisplay c)) (Edit (edit.EraseInDisplay c)) _ _ c refl (search (rules, missing.3)) (search (rules, read-good))
+edit-back (edit.EraseInLine c) good = unless-back (written_edit (edit.EraseInLine c)) (Edit (edit.EraseInLine c)) _ _ c refl (search (rules, missing.4)) (search (rules, read-good))
+edit-back e good = unless-back (written_edit e) (Edit e) _ _ _ refl (search (rules, missing.0)) (search (rules, read-good))
 
-edit-sound : (e : edit_type.Edit) → is_sound (written_edit e) ≡ true
+edit-sound : (e : types.edit.Edit.Edit) → is_sound (written_edit e) ≡ true
 edit-sound e = elim e as (λ x. is_sound (written_edit x) ≡ true) [ edit.Repeat n ↦ refl | _ ↦ refl ]
 
 -- ---- the mouse, by what its button does
 
-mouse-read : (m : mouse_type.MouseReport) → AllGood (written_mouse m).items → ¬ IsNeverRead (Mouse m) → IsRead (written_mouse m) (Mouse m)
+mouse-read : (m : types.mouse.MouseReport.MouseReport) → AllGood (written_mouse m).items → ¬ IsNeverRead (Mouse m) → IsRead (written_mouse m) (Mouse m)
 mouse-read (mouse.SGR1016 x y b m) good ok = absurd (ok tt)
 mouse-read (mouse.SGR1006 x y b m) good ok = elim (cases_Bool (is_release b)) [
   | inl up ↦
@@ -169,7 +142,7 @@ mouse-read (mouse.SGR1006 x y b m) good ok = elim (cases_Bool (is_release b)) [
 
 -- ---- the keyboard
 
-keyboard-read : (k : keyboard_type.Keyboard) → AllGood (written_keyboard k).items → IsRead (written_keyboard k) (Keyboard k)
+keyboard-read : (k : types.keyboard.Keyboard.Keyboard) → AllGood (written_keyboard k).items → IsRead (written_keyboard k) (Keyboard k)
 keyboard-read keyboard.QueryKittySupport good = by-row _ _ refl refl
 keyboard-read k good = by-row (written_keyboard k) (Keyboard k) refl (search (rules, read-good))
 
@@ -182,7 +155,7 @@ IsPiece (Mode (mode.XtermKeyMode keys value)) = ⊥
 IsPiece (Mode m) = Unit {0}
 IsPiece a = ⊥
 
-mode-read : (m : mode_type.Mode) → AllGood (written_mode m).items → ¬ IsPiece (Mode m) → IsRead (written_mode m) (Mode m)
+mode-read : (m : types.mode.Mode.Mode) → AllGood (written_mode m).items → ¬ IsPiece (Mode m) → IsRead (written_mode m) (Mode m)
 mode-read (mode.QueryDecPrivateMode m) good ok = by-row _ _ refl (search (rules, read-good))
 mode-read (mode.QueryMode m) good ok = by-row _ _ refl (search (rules, read-good))
 mode-read (mode.XtermKeyMode keys None) good ok = by-row _ _ refl (search (rules, read-good))
@@ -205,7 +178,7 @@ path-read p z good = elim (cases_Bool (is_number 0 z)) [
 
 -- ---- windows and areas: a line for each variant that has numbers
 
-window-back : (w : window_type.Window) → AllGood (written_window w).items → read_fields field_table (tokens (written_window w).items) (written_window w).final ≡ Some (Window w)
+window-back : (w : types.window.Window.Window) → AllGood (written_window w).items → read_fields field_table (tokens (written_window w).items) (written_window w).final ≡ Some (Window w)
 window-back (window.MoveWindow x y) good = rw (read_any x, read_any y) refl
 window-back (window.ResizeWindowPixels None None) good = refl
 window-back (window.ResizeWindowPixels (Some w) (Some h)) good = refl
@@ -217,7 +190,7 @@ window-back (window.ChecksumRectangularArea request page top left bottom right) 
     rw (read_any request, read_any page, read-good Count top good.1.1.0, read-good Count left good.1.1.1.0, read-good Count bottom good.1.1.1.1.0, read-good Count right good.1.1.1.1.1.0) refl
 window-back w good = refl
 
-window-sound : (w : window_type.Window) → is_sound (written_window w) ≡ true
+window-sound : (w : types.window.Window.Window) → is_sound (written_window w) ≡ true
 window-sound (window.ResizeWindowPixels None None) = refl
 window-sound (window.ResizeWindowPixels (Some w) (Some h)) = refl
 window-sound (window.ReportCellSizePixelsResponse None None) = refl
@@ -266,7 +239,7 @@ numbers-back : (all : List ℤ) → numbers (map Some all) ≡ all
 numbers-back [] = refl
 numbers-back (z ∷ others) = ap (λ (l : List ℤ). z ∷ l) (numbers-back others)
 
-graphics-read : (item : XtSmGraphicsItem) (z : ℤ) (all : List ℤ) → AllGood (written_graphics item z all).items → IsRead (written_graphics item z all) (Device (devices.XtSmGraphics item z all))
+graphics-read : (item : types.xtsmgraphics.XtSmGraphicsItem.XtSmGraphicsItem) (z : ℤ) (all : List ℤ) → AllGood (written_graphics item z all).items → IsRead (written_graphics item z all) (Device (devices.XtSmGraphics item z all))
 graphics-read item z all good =
     let test : is_sound (written_graphics item z all) ≡ true = rw (listed-apart any_number all, listed-sound any_number (λ a items. refl) all) refl in
     by-fields _ _ test (rw (numbers-fields z all, read-good GraphicsItem item good.0, read_any z, numbers-back all) refl)

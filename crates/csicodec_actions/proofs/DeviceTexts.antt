@@ -27,9 +27,6 @@ shown-listed item token same (a ∷ others) end =
 attributes-shown : (all : List DeviceAttribute) (end : List ℕ) → shown (listed Attribute all) end ≡ listed_text attribute_token all ++ end
 attributes-shown all end = shown-listed Attribute attribute_token (λ a items more. refl) all end
 
-numbers-shown : (all : List ℤ) (end : List ℕ) → shown (listed any_number all) end ≡ listed_text Integer all ++ end
-numbers-shown all end = shown-listed any_number Integer (λ a items more. refl) all end
-
 answer-text : (a : devices.Attributes) → (63 ∷ terminal_front a) ++ attributes_behind a ≡ written_text (written_attributes a)
 answer-text devices.Vt100WithAdvancedVideoOption = append-nil _
 answer-text (devices.Vt220 all) = rw (attributes-shown all (99 ∷ [])) refl
@@ -44,6 +41,6 @@ first_listed z all end = rw (append-nil (signed_decimal z)) refl
 pub front_behind : (d : devices.Device) → device_front d ++ device_behind d ≡ written_text (written_device d)
 front_behind (devices.DeviceAttributes a) = answer-text a
 front_behind (devices.RequestTerminalParameters n) = refl
-front_behind (devices.XtSmGraphics item z all) = rw (numbers-shown all (83 ∷ []), first_listed z all (83 ∷ [])) refl
+front_behind (devices.XtSmGraphics item z all) = rw (shown-listed any_number Integer (λ a items more. refl) all (83 ∷ []), first_listed z all (83 ∷ [])) refl
 front_behind devices.StatusReport = append-nil _
 front_behind _ = refl

@@ -6,11 +6,11 @@ use Rattle.std.specs.Option.{option_or}
 use Rattle.std.proofs.lemmas.Bool.{cases_Bool, and_parts, eq-eqb, eqb-true}
 use Rattle.std.proofs.lemmas.Option.{same_Some, slice_get_read, option_and_then_some}
 use Rattle.csicodec_tokens.specs.declared.param.CsiParam.{CsiParam}
-use Rattle.csicodec_tokens.specs.declared.param.CsiParam.TheVariants.{Integer, P}
+use Rattle.csicodec_tokens.specs.declared.param.CsiParam.TheVariants.{P}
 use Rattle.csicodec_tokens.specs.Fields.{fields_of}
 use Rattle.csicodec_names.proofs.Coded.{is_number-pos}
 use Rattle.csicodec_actions.specs.Actions.{Action}
-use Rattle.csicodec_actions.specs.FieldRows.{Slot, This, Empty, End, Maybe, There, Must, Or, Rest, behind, ahead_of_byte, behind_byte, fits, have_shape}
+use Rattle.csicodec_actions.specs.FieldRows.{Slot, This, Empty, End, behind, ahead_of_byte, behind_byte, fits, have_shape}
 use Rattle.csicodec_actions.specs.FieldRows.{FieldRow, gives, given, Over, over, no_byte, byte, fields_over, read_over, read_fields}
 use Rattle.csicodec_actions.specs.Rows.{Row, Byte, open_row, rows_before, read_by}
 use Rattle.csicodec_actions.specs.Table.XtSmGraphics.{graphics_rows}
@@ -18,61 +18,13 @@ use Rattle.csicodec_actions.specs.Table.Window.{areas, windows}
 use Rattle.csicodec_actions.specs.Table.{table, field_table, whole, FieldRowsDecide}
 use Rattle.csicodec_actions.proofs.AllFieldRows.{AllFieldRows, over-in}
 use Rattle.csicodec_actions.proofs.AllRows.{whole-table}
-use Rattle.csicodec_actions.proofs.Disjoint.{apart-given, has}
-use Rattle.csicodec_actions.proofs.Disjoint.{apart_from as apart_from_rows}
+use Rattle.csicodec_actions.proofs.Disjoint.{AreApart, all_apart, apart-given, apart_from, are_apart as token_rows_apart, has, picked, picks}
 use Rattle.csicodec_actions.proofs.Found.{guarded}
-
--- ---- the first of several that gives something
-
-abbrev picks : {A R : Type 0} → (A → Option R) → List A → Option R
-picks give [] = None
-picks give (x ∷ xs) = option_or (give x) (picks give xs)
-
-abbrev apart_from : {A : Type 0} → (A → A → Bool) → A → List A → Bool
-apart_from apart x [] = true
-apart_from apart x (y ∷ ys) = apart x y && apart_from apart x ys
-
-abbrev all_apart : {A : Type 0} → (A → A → Bool) → List A → Bool
-all_apart apart [] = true
-all_apart apart (x ∷ xs) = apart_from apart x xs && all_apart apart xs
-
--- what gives something is fit to, and of two that are apart one isn't
-record AreApart {A R : Type 0} (apart : A → A → Bool) (fit : A → Bool) (give : A → Option R) : Type 0 where
-  gave : (x : A) (r : R) → give x ≡ Some r → fit x ≡ true
-  one : (x y : A) → apart x y ≡ true → fit x ≡ true → fit y ≡ true → ⊥
-
-apart-one : {A R : Type 0} (apart : A → A → Bool) (fit : A → Bool) (give : A → Option R) → AreApart apart fit give → (x : A) (xs : List A) (i : ℕ) (y : A) → apart_from apart x xs ≡ true
-    → slice_get xs i ≡ Some y → fit x ≡ true → fit y ≡ true → ⊥
-apart-one apart fit give are x [] zero y d at f g = cc
-apart-one apart fit give are x [] (suc i) y d at f g = cc
-apart-one apart fit give are x (z ∷ zs) zero y d at f g =
-    let same : z ≡ y = same_Some z y at in
-    are.one x y (rw same at (and_parts (apart x z) (apart_from apart x zs) d).0) f g
-apart-one apart fit give are x (z ∷ zs) (suc i) y d at f g = apart-one apart fit give are x zs i y (and_parts (apart x z) (apart_from apart x zs) d).1 at f g
-
--- what gives something is picked, wherever it stands
-picked : {A R : Type 0} (apart : A → A → Bool) (fit : A → Bool) (give : A → Option R) →
-    AreApart apart fit give → (xs : List A) (i : ℕ) (x : A) (r : R) → all_apart apart xs ≡ true →
-    slice_get xs i ≡ Some x
-    → give x ≡ Some r → picks give xs ≡ Some r
-picked apart fit give are [] zero x r d at e = cc
-picked apart fit give are [] (suc i) x r d at e = cc
-picked apart fit give are (y ∷ ys) zero x r d at e =
-    let same : y ≡ x = same_Some y x at in
-    rw (same, e) refl
-picked apart fit give are (y ∷ ys) (suc i) x r d at e =
-    let p = and_parts (apart_from apart y ys) (all_apart apart ys) d in
-    go (give y) refl (picked apart fit give are ys i x r p.1 at e)
-  where
-    go : (o : Option _) → give y ≡ o → picks give ys ≡ Some r → option_or o (picks give ys) ≡ Some r
-    go None gave later = later
-    go (Some s) gave later = absurd (apart-one apart fit give are y ys i x (and_parts (apart_from apart y ys) (all_apart apart ys) d).0 at (are.gave y s gave) (are.gave x r e))
 
 -- ---- slots
 
 -- the slot takes no number
 abbrev takes_none : Slot → Bool
-takes_none (This n) = false
 takes_none Empty = true
 takes_none End = true
 takes_none _ = false
@@ -82,7 +34,6 @@ abbrev no_number : Slot → Slot → Bool
 no_number (This n) t = not (fits t (Some (pos n) ∷ []))
 no_number Empty t = true
 no_number End t = true
-no_number (Must k) t = takes_none t
 no_number _ t = takes_none t
 
 -- nothing fits both: no missing field, no empty one and no number
@@ -115,7 +66,6 @@ number-slots : (s t : Slot) (z : ℤ) → no_number s t ≡ true → fits s (Som
 number-slots (This n) t z d e f = let same : z ≡ pos n = is_number-pos n z e in not-fits (fits t (Some (pos n) ∷ [])) d (rw same at f)
 number-slots Empty t z d e f = cc
 number-slots End t z d e f = cc
-number-slots (Must k) t z d e f = none-taken t z d f
 number-slots _ t z d e f = none-taken t z d f
 
 differ-slots : (s t : Slot) (fs : List (Option ℤ)) → differ s t ≡ true → fits s fs ≡ true → fits t fs ≡ true → ⊥
@@ -175,7 +125,7 @@ begun (Some b) a = open_row (Byte b ∷ []) (λ rest. a)
 
 -- no row of tokens before its final reads what begins with its byte
 record AreNotTokens (o : Over Action) : Type 0 where
-  each : (a : Action) → apart_from_rows (begun o.ahead a) (rows_before table o.final) ≡ true
+  each : (a : Action) → apart_from token_rows_apart (begun o.ahead a) (rows_before table o.final) ≡ true
 
 -- neither do its rows read one list
 record IsApart (o : Over Action) : Type 0 where
@@ -190,17 +140,15 @@ are-apart =
     (window, (area, (graphics, tt)))
 
 all-at : {A : Type 0} (Q : A → Type 0) (xs : List A) (i : ℕ) (x : A) → AllByRecursion Q xs → slice_get xs i ≡ Some x → Q x
-all-at Q [] zero x all at = cc
-all-at Q [] (suc i) x all at = cc
 all-at Q (y ∷ ys) zero x all at = subst Q (same_Some y x at) all.0
 all-at Q (y ∷ ys) (suc i) x all at = all-at Q ys i x all.1 at
+all-at Q _ _ x all at = cc
 
 -- what is read over fields begins with the byte ahead
 byte-begins : (b : Option ℕ) (a : Action) (list rest : List CsiParam) → behind_byte b list ≡ Some rest → has (begun b a) list ≡ true
 byte-begins None a list rest e = refl
-byte-begins (Some b) a [] rest e = cc
-byte-begins (Some b) a (Integer z ∷ ts) rest e = cc
 byte-begins (Some b) a (P c ∷ ts) rest e = rw (guarded (c == b) _ rest e).0 refl
+byte-begins (Some b) a _ rest e = cc
 
 over-begins : (o : Over Action) (a : Action) (list : List CsiParam) (fs : List (Option ℤ)) → fields_over o list ≡ Some fs → has (begun o.ahead a) list ≡ true
 over-begins o a list fs e =

@@ -1,7 +1,8 @@
 -- What the code finds in the fields of a list.
-use Rattle.std.proofs.Common.{◌≡◌, ◌-◌, ◌<◌, ◌≤◌, length, ℕ, zero, suc, List, [], ◌∷◌, ◌++◌, inl, inr, drop, Option, None, Some, refl, sym, ap, ◌∙◌, Bor, false, true, arith}
+use Rattle.std.proofs.Common.{◌≡◌, ◌-◌, ◌<◌, ◌≤◌, length, take, ℕ, zero, suc, List, [], ◌∷◌, ◌++◌, inl, inr, drop, Option, None, Some, refl, sym, ap, ◌∙◌, Bor, false, true, arith}
 use Rattle.std.proofs.lemmas.Bool.{cases_Bool}
-use Rattle.std.specs.Prelude.{ℤ, ◌==◌, ◌&&◌, Bool, if◌then◌else◌, IsNone, IsSome, IfSome, Result, Ok, is_some, unwrap_or}
+use Rattle.std.proofs.Math.Seq.{take-length}
+use Rattle.std.specs.Prelude.{ℤ, ◌==◌, ◌&&◌, Bool, if◌then◌else◌, option_and_then, IsNone, IsSome, IfSome, Result, Ok, is_some, unwrap_or}
 use Rattle.std.specs.Bool.{then_some}
 use Rattle.std.specs.List.{list_all}
 use Rattle.std.specs.Option.{ok_or, option_copied, option_map}
@@ -11,9 +12,10 @@ use Rattle.csicodec_tokens.specs.declared.param.CsiParam.{CsiParam}
 use Rattle.csicodec_tokens.specs.declared.param.CsiParam.TheVariants.{Integer, P}
 use Rattle.csicodec_tokens.specs.Fields.{fields_of, with_field}
 use Rattle.csicodec_tokens.specs.OneBased.{number_or}
-use Rattle.csicodec_actions.specs.FieldRows.{ahead_of_byte, behind, field, first, has_field, is_there, numbers, value_or}
+use Rattle.csicodec_actions.specs.FieldRows.{ahead_of_byte, behind, field, first, given, has_field, is_there, numbers, value_or}
 use Rattle.csicodec_actions.specs.Kinds.{Count, read}
 use Rattle.csicodec_actions.specs.Lent.{integers}
+use Rattle.csicodec_actions.specs.Table.XtSmGraphics.{graphics_behind, graphics_rows}
 use Rattle.csicodec_actions.specs.Private.FieldsBy.{fields_there, is_field_token}
 
 -- ---- a list that has fields
@@ -62,16 +64,6 @@ pub there-from : (fs : List (Option ℤ)) (i : ℕ) → is_there (drop i fs) ≡
 there-from fs zero = refl
 there-from [] (suc i) = ap is_there (sym (drop-none i)) ∙ there-from [] i
 there-from (f ∷ fs) (suc i) = there-from fs i
-
-first-guarded : (s : Bool) (x : Option ℤ) (o : Option (List (Option ℤ))) → IsSome (if s then with_field x o else None) → x ≡ first (unwrap_or (if s then with_field x o else None) [])
-first-guarded true x None h = cc
-first-guarded true x (Some f) h = refl
-first-guarded false x o h = cc
-
-pub first-number : (z : ℤ) (list : List CsiParam) → IsSome (fields_of (Integer z ∷ list)) → Some z ≡ first (fields_there (Integer z ∷ list))
-first-number z [] h = refl
-first-number z (P b ∷ list) h = first-guarded (b == 59) (Some z) (fields_of list) h
-first-number z (Integer y ∷ list) h = first-guarded true (Some z) (fields_of (Integer y ∷ list)) h
 
 there-guarded : (s : Bool) (x : Option ℤ) (o : Option (List (Option ℤ))) → IsSome (if s then with_field x o else None) → true ≡ is_there (unwrap_or (if s then with_field x o else None) [])
 there-guarded true x None h = cc
@@ -147,3 +139,13 @@ at-end b list front t u parts is = rw (parts, is) (ahead-of b front u)
 
 pub then-ends : (b c : ℕ) (front : Bor (List CsiParam)) → option_map (λ l. l.now) (then_some (c == b) front) ≡ ends b (P c) front.now
 then-ends b c front = elim (cases_Bool (c == b)) [ inl same ↦ rw same refl | inr other ↦ rw other refl ]
+
+-- ---- what is read of graphics behind the first token of a list
+
+behind-first : (list : List CsiParam) → take (length list - 1) (drop 1 list) ≡ drop 1 list
+behind-first [] = refl
+behind-first (t ∷ ts) = let one : length (t ∷ ts) - 1 ≡ length ts = omega arith in rw one (take-length ts)
+
+pub read_behind : (list : List CsiParam) (o : Option (List (Option ℤ))) (fs : List (Option ℤ)) → o ≡ Some fs → o ≡ fields_of (take (length list - 1) (drop 1 list))
+    → given graphics_rows fs ≡ graphics_behind list
+read_behind list o fs is e = ap (option_and_then (given graphics_rows)) (sym is ∙ (e ∙ ap fields_of (behind-first list)))

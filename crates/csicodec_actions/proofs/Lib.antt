@@ -4,8 +4,6 @@ pub mod Values
 pub mod DeviceTexts
 pub mod FieldsAt
 pub mod AllFieldRows
-pub mod GraphicsBehind
-pub mod OwnNumbers
 pub mod AllRows
 pub mod Boxed
 pub mod Disjoint

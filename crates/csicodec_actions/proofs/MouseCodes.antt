@@ -45,9 +45,6 @@ report-back buttons b m one held =
     let bits : bit_and (report_code (b, m)) 28 / 2 ≡ m.bits = eqb-true _ _ both.1 in
     rw (code, one, bits) refl
 
-pub report-good : (buttons : List MouseButton) (v : MouseButton × Modifiers) → IsReport buttons v → reported buttons (pos (report_code v)) ≡ Some v
-report-good buttons v h = report-back buttons v.0 v.1 h.one h.held
-
 held-bits : (n : ℕ) → bit_and (bit_and n 28 / 2) 14 ≡ bit_and n 28 / 2
 held-bits n =
     let half : bit_and n 28 / 2 ≡ bit_and (n / 2) 14 = and_shr n 28 1 in

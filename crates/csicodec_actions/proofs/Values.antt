@@ -1,9 +1,9 @@
 -- What numbers count as: by the code, and back from what is written.
 use Rattle.std.proofs.Common.{◌≡◌, ℕ, zero, suc, ◌<◌, ◌≤◌, ◌^◌, ◌%◌, List, Option, None, Some, refl, sym, ap, ◌∙◌, inl, inr, arith, rules, pos, subst}
-use Rattle.std.specs.Prelude.{ℤ, negsuc, ◌↔◌, true, false, nat_abs, Result, Ok, Err}
+use Rattle.std.specs.Prelude.{ℤ, negsuc, ◌↔◌, Bool, IsTrue, not, true, false, nat_abs, Result, Ok, Err}
 use Rattle.std.specs.Int.{FitsUnsignedBits}
 use Rattle.std.specs.Int.RustNames.{bit_and}
-use Rattle.std.specs.Option.{option_map}
+use Rattle.std.specs.Option.{is_some, option_map}
 use Rattle.std.specs.Result.{OkIff, result_ok}
 use Rattle.std.proofs.lemmas.Bool.{cases_Bool, eq-eqb, le-ltb, lt-ltb, ltb-true}
 use Rattle.std.proofs.lemmas.Int.{to_z-of_z, ints}
@@ -15,7 +15,7 @@ use Rattle.csicodec_tokens.specs.Digits.{largest}
 use Rattle.csicodec_names.specs.DeviceNumbers.{device_attribute_codes, device_attribute_number}
 use Rattle.csicodec_names.specs.declared.device.DeviceAttributeCodes.{DeviceAttributeCodes}
 use Rattle.csicodec_names.specs.EnumNumbers.{cursor_style_number, erase_in_display_number, erase_in_line_number, tabulation_clear_number, tabulation_control_number}
-use Rattle.csicodec_names.specs.ModeNumbers.{dec_mode_number, terminal_mode_number}
+use Rattle.csicodec_names.specs.ModeNumbers.{dec_mode_number, terminal_mode_number, dec_codes, terminal_codes}
 use Rattle.csicodec_tokens.specs.OneBased.{most, number_or}
 use Rattle.csicodec_tokens.specs.Sequence.{IsSpellable}
 use Rattle.csicodec_actions.specs.declared.mode.DecPrivateMode.{DecPrivateMode}
@@ -29,20 +29,16 @@ use Rattle.csicodec_actions.specs.Kinds.{read, number, below, short, code_or, Is
 use Rattle.csicodec_names.specs.Numbered.{is_number, with_number}
 use Rattle.csicodec_actions.specs.declared.path.CharacterPath.TheVariants as path
 use Rattle.csicodec_actions.specs.declared.keyboard.KittyKeyboardMode.TheVariants as way
-use Rattle.csicodec_names.specs.declared.flags.KittyKeyboardFlags.{KittyKeyboardFlags}
 use Rattle.csicodec_names.specs.FlagBits.{kitty_bits}
-use Rattle.csicodec_actions.specs.declared.xtsmgraphics.XtSmGraphicsItem.{XtSmGraphicsItem}
 use Rattle.csicodec_actions.specs.declared.xtsmgraphics.XtSmGraphicsItem.TheVariants as item
-use Rattle.csicodec_actions.specs.XtSmGraphics.{item_number, item_of}
+use Rattle.csicodec_actions.specs.XtSmGraphics.{item_of}
 use Rattle.csicodec_names.proofs.Coded.{is_number-pos, listed-number, none-found, Coded, found-of, small, attributes, styles, controls, clears, lines, displays, decs, terminals}
 use Rattle.csicodec_actions.proofs.Found.{map-some}
-use Rattle.csicodec_actions.proofs.MouseCodes.{report-good, report-read, report-small, pressed-found, released-found}
+use Rattle.csicodec_actions.proofs.MouseCodes.{report-back, report-read, report-small, pressed-found, released-found}
 use Rattle.csicodec_actions.specs.Mouse.{pressed, released, report_code}
 use Rattle.std.proofs.lemmas.Nat.{and_mask, and_le_r}
-use Rattle.csicodec_actions.specs.Modes.{dec_number, terminal_number, resource_number}
+use Rattle.csicodec_actions.specs.Modes.{dec_number, terminal_number, resource_number, resources}
 use Rattle.csicodec_names.specs.EnumNumbers.{cursor_styles, tabulation_controls, tabulation_clears, erases_in_display, erases_in_line}
-use Rattle.csicodec_names.specs.ModeNumbers.{dec_codes, terminal_codes}
-use Rattle.csicodec_actions.specs.Modes.{resources}
 
 -- ---- what is found by its number
 
@@ -83,6 +79,23 @@ unnamed number all coded own is z fits o r h e ok = rw (sym (found-of number all
     go : (s : Option ℕ) → option_map own s ≡ code_or coded own None s
     go None = refl
     go (Some n) = refl
+
+-- ---- how the code tells a number that nothing with a name has
+
+pub unnamed-told : {C : Type 0} (number : C → ℕ) (z : ℤ) → SFits w64 z → (o : Option C) → ((x : C) → (o ≡ Some x) ↔ (to_z w64 (of_z w64 z) ≡ pos (number x))) → (b : Bool) → is_some o ≡ not b
+    → IsTrue b ↔ ((x : C) → z ≡ pos (number x) → ⊥)
+unnamed-told number z fits None found true e = (λ t. λ x is. (let here = (found x).1 (to_z-of_z w64 z fits ∙ is) in cc), λ own. refl)
+unnamed-told number z fits None found false e = cc
+unnamed-told number z fits (Some x) found true e = cc
+unnamed-told number z fits (Some x) found false e = (λ t. cc, λ own. absurd (own x (sym (to_z-of_z w64 z fits) ∙ (found x).0 refl)))
+
+pub own-told : {C : Type 0} (number : C → ℕ) (n : ℕ) (z : ℤ) → n < 65536 → z ≡ pos n → SFits w64 z → (o : Option C) → ((x : C) → (o ≡ Some x) ↔ (to_z w64 (of_z w64 z) ≡ pos (number x))) → (b : Bool)
+    → is_some o ≡ not b → IsTrue b ↔ IsOwn number n
+own-told number n z small same fits o found b e =
+    let told = unnamed-told number z fits o found b e in (
+      λ t. record { fits = small; own = λ x is. told.0 t x (same ∙ ap pos is) },
+      λ own. told.1 (λ x is. own.own x (ap nat_abs (sym same ∙ is))),
+    )
 
 -- ---- the values that are written as numbers that count as them
 
@@ -125,31 +138,9 @@ terminal-numbered n fits = numbered terminal_mode_number terminal_codes (λ c. t
 own-good : {C M : Type 0} (number : C → ℕ) (all : List C) (coded : C → M) (own : ℕ → M) (n : ℕ) → IsOwn number n → code_or coded own (with_number number all (pos n)) (short (pos n)) ≡ Some (own n)
 own-good number all coded own n h = sym (own-number number all coded own n h.fits (none-found number all (pos n) (λ x same. h.own x (ap nat_abs same))))
 
-dec-good : (m : DecPrivateMode) → GoodDec m → read Dec (pos (dec_number m)) ≡ Some m
-unfolding read
-dec-good (dec.Code c) h = rw (decs.each c) refl
-dec-good (dec.Unspecified n) h = own-good dec_mode_number dec_codes _ (λ k. dec.Unspecified k) n h
-
-terminal-good : (m : TerminalMode) → GoodTerminal m → read Terminal (pos (terminal_number m)) ≡ Some m
-unfolding read
-terminal-good (terminal.Code c) h = rw (terminals.each c) refl
-terminal-good (terminal.Unspecified n) h = own-good terminal_mode_number terminal_codes _ (λ k. terminal.Unspecified k) n h
-
-small-mod : (n : ℕ) → n < 32 → n % 32 ≡ n
-small-mod n h = omega (arith, h)
-
-flags-good : (f : KittyKeyboardFlags) → kitty_bits f < 32 → read Flags (pos (kitty_bits f)) ≡ Some f
-unfolding read
-flags-good f h = rw (lt-ltb (kitty_bits f) 65536 (omega (arith, h)), and_mask (kitty_bits f) 5, small-mod (kitty_bits f) h) refl
-
 -- no item with a name has another number
 not-number : (k : ℕ) (z : ℤ) → (z ≡ pos k → ⊥) → is_number k z ≡ false
 not-number k z other = elim (cases_Bool (is_number k z)) [ inl here ↦ absurd (other (is_number-pos k z here)) | inr none ↦ none ]
-
-item-good : (i : XtSmGraphicsItem) → GoodItem i → item_of (item_number i) ≡ i
-item-good item.NumberOfColorRegisters h = refl
-item-good (item.Unspecified z) h = rw (not-number 1 z h.1.0, not-number 2 z h.1.1, not-number 3 z h.1.2) refl
-item-good _ h = refl
 
 pub read-good : (k : Kind) (v : Value k) → Good k v → read k (number k v) ≡ Some v
 unfolding read
@@ -161,17 +152,22 @@ read-good Control c h = controls.each c
 read-good Clear c h = clears.each c
 read-good InDisplay c h = displays.each c
 read-good InLine c h = lines.each c
-read-good Dec m h = dec-good m h
-read-good Terminal m h = terminal-good m h
+read-good Dec (dec.Code c) h = rw (decs.each c) refl
+read-good Dec (dec.Unspecified n) h = own-good dec_mode_number dec_codes _ (λ k. dec.Unspecified k) n h
+read-good Terminal (terminal.Code c) h = rw (terminals.each c) refl
+read-good Terminal (terminal.Unspecified n) h = own-good terminal_mode_number terminal_codes _ (λ k. terminal.Unspecified k) n h
 read-good Resource r h = keys.each r
-read-good Flags f h = flags-good f h
+read-good Flags f h =
+    let small : kitty_bits f % 32 ≡ kitty_bits f = omega (arith, h) in
+    rw (lt-ltb (kitty_bits f) 65536 (omega (arith, h)), and_mask (kitty_bits f) 5, small) refl
 read-good Way m h = ways.each m
 read-good Path p h = tracks.each p
 read-good Pops n h = rw (lt-ltb n (2 ^ 32) h) refl
 read-good Word n h = rw (lt-ltb n 65536 h) refl
-read-good Pressed v h = report-good pressed v h
-read-good Released v h = report-good released v h
-read-good GraphicsItem i h = ap Some (item-good i h)
+read-good Pressed v h = report-back pressed v.0 v.1 h.one h.held
+read-good Released v h = report-back released v.0 v.1 h.one h.held
+read-good GraphicsItem (item.Unspecified z) h = rw (not-number 1 z h.1.0, not-number 2 z h.1.1, not-number 3 z h.1.2) refl
+read-good GraphicsItem i h = refl
 
 -- ---- what is read is written back
 
@@ -189,9 +185,6 @@ below-fits bound (pos m) n e =
     let low = ltb-true m bound p.0 in (ap pos p.1, omega (arith, p.1, low))
 below-fits bound (negsuc m) n e = cc
 
-short-fits : (z : ℤ) (n : ℕ) → short z ≡ Some n → (z ≡ pos n) × (n < 65536)
-short-fits z n e = below-fits 65536 z n e
-
 -- a mode that is read
 owned : {C M : Type 0} (number : C → ℕ) (all : List C) (coded : C → M) (own : ℕ → M) → Coded number all → (Q : M → Type 0) → ((c : C) → Q (coded c)) → ((n : ℕ) → IsOwn number n → Q (own n))
     → (z : ℤ) (m : M) → code_or coded own (with_number number all z) (short z) ≡ Some m → Q m
@@ -201,7 +194,7 @@ owned number all coded own is Q by_code by_number z m e = go (with_number number
     go (Some c) s found small e = subst Q (same_Some _ _ e) (by_code c)
     go None None found small e = cc
     go None (Some n) found small e =
-        let fits = short-fits z n small in
+        let fits = below-fits 65536 z n small in
         subst Q (same_Some _ _ e) (by_number n (record {
           fits = fits.1;
           own = λ c same. (let here : z ≡ pos (number c) = fits.0 ∙ ap pos same in let each = is.each c in cc (found, here, each));
@@ -214,13 +207,6 @@ dec-read z m e = owned dec_mode_number dec_codes _ _ decs GoodDec (λ c. tt) (λ
 pub terminal-read : (z : ℤ) (m : TerminalMode) → read Terminal z ≡ Some m → GoodTerminal m
 unfolding read
 terminal-read z m e = owned terminal_mode_number terminal_codes _ _ terminals GoodTerminal (λ c. tt) (λ n h. h) z m e
-
-flags-read : (z : ℤ) (f : KittyKeyboardFlags) → read Flags z ≡ Some f → kitty_bits f < 32
-unfolding read
-flags-read z f e = let m = map-some _ (short z) f e in let small = and_le_r m.0 31 in rw (← m.2) (omega (arith, small))
-
-is-number : (k : ℕ) → is_number k (pos k) ≡ true
-is-number k = eq-eqb k k refl
 
 item-read : (z : ℤ) → IsSaid z → GoodItem (item_of z)
 item-read z said = elim (cases_Bool (is_number 1 z)) [
@@ -235,7 +221,7 @@ item-read z said = elim (cases_Bool (is_number 1 z)) [
 ]
   where
     other : (k : ℕ) → z ≡ pos k → is_number k z ≡ false → ⊥
-    other k same none = let here = is-number k in cc (same, none, here)
+    other k same none = let here : is_number k (pos k) ≡ true = eq-eqb k k refl in cc (same, none, here)
 
 pub good-read : (k : Kind) (z : ℤ) (v : Value k) → IsSpellable (Integer z) → read k z ≡ Some v → Good k v
 unfolding read
@@ -245,7 +231,7 @@ good-read Any z y ok e = let same : z ≡ y = same_Some _ _ e in rw (← same) (
 good-read Style z c ok e = tt
 good-read Dec z m ok e = dec-read z m e
 good-read Terminal z m ok e = terminal-read z m e
-good-read Flags z f ok e = flags-read z f e
+good-read Flags z f ok e = let m = map-some _ (short z) f e in let small = and_le_r m.0 31 in rw (← m.2) (omega (arith, small))
 good-read Pops z n ok e = (below-fits (2 ^ 32) z n e).1
 good-read Word z n ok e = (below-fits 65536 z n e).1
 good-read Pressed z v ok e = report-read pressed z v pressed-found e
@@ -261,22 +247,8 @@ said n fits = record { above = omega (arith, ints); fits = omega (arith, ints) }
 pub zero-said : IsSaid (pos 0)
 zero-said = said 0 (omega arith)
 
-dec-said : (m : DecPrivateMode) → GoodDec m → IsSaid (pos (dec_number m))
-dec-said (dec.Code c) h = said (dec_mode_number c) (small dec_mode_number dec_codes decs largest (search (rules, arith) depth 60) c)
-dec-said (dec.Unspecified n) h = said n (omega (arith, h.fits))
-
-terminal-said : (m : TerminalMode) → GoodTerminal m → IsSaid (pos (terminal_number m))
-terminal-said (terminal.Code c) h = said (terminal_mode_number c) (small terminal_mode_number terminal_codes terminals largest (search (rules, arith) depth 60) c)
-terminal-said (terminal.Unspecified n) h = said n (omega (arith, h.fits))
-
 pub attribute-said : (c : DeviceAttributeCodes) → IsSaid (pos (device_attribute_number c))
 attribute-said c = said (device_attribute_number c) (small device_attribute_number device_attribute_codes attributes largest (search (rules, arith) depth 60) c)
-
-item-said : (i : XtSmGraphicsItem) → GoodItem i → IsSaid (item_number i)
-item-said item.NumberOfColorRegisters h = said 1 (omega arith)
-item-said item.SixelGraphicsGeometry h = said 2 (omega arith)
-item-said item.RegisGraphicsGeometry h = said 3 (omega arith)
-item-said (item.Unspecified z) h = h.0
 
 pub number-said : (k : Kind) (v : Value k) → Good k v → IsSaid (number k v)
 number-said Count n h = said n (omega (arith, h.fits))
@@ -287,8 +259,10 @@ number-said Control c h = said (tabulation_control_number c) (small tabulation_c
 number-said Clear c h = said (tabulation_clear_number c) (small tabulation_clear_number tabulation_clears clears largest (search (rules, arith) depth 60) c)
 number-said InDisplay c h = said (erase_in_display_number c) (small erase_in_display_number erases_in_display displays largest (search (rules, arith) depth 60) c)
 number-said InLine c h = said (erase_in_line_number c) (small erase_in_line_number erases_in_line lines largest (search (rules, arith) depth 60) c)
-number-said Dec m h = dec-said m h
-number-said Terminal m h = terminal-said m h
+number-said Dec (dec.Code c) h = said (dec_mode_number c) (small dec_mode_number dec_codes decs largest (search (rules, arith) depth 60) c)
+number-said Dec (dec.Unspecified n) h = said n (omega (arith, h.fits))
+number-said Terminal (terminal.Code c) h = said (terminal_mode_number c) (small terminal_mode_number terminal_codes terminals largest (search (rules, arith) depth 60) c)
+number-said Terminal (terminal.Unspecified n) h = said n (omega (arith, h.fits))
 number-said Flags f h = said (kitty_bits f) (omega (arith, h))
 number-said Way m h = said (kitty_mode_number m) (small kitty_mode_number kitty_modes ways largest (search (rules, arith) depth 60) m)
 number-said Path p h = said (path_number p) (small path_number paths tracks largest (search (rules, arith) depth 60) p)
@@ -297,7 +271,10 @@ number-said Word n h = said n (omega (arith, h))
 number-said Pressed v h = let small = report-small v in said (report_code v) (omega (arith, small))
 number-said Released v h = let small = report-small v in said (report_code v) (omega (arith, small))
 number-said Resource r h = said (resource_number r) (small resource_number resources keys largest (search (rules, arith) depth 60) r)
-number-said GraphicsItem i h = item-said i h
+number-said GraphicsItem item.NumberOfColorRegisters h = said 1 (omega arith)
+number-said GraphicsItem item.SixelGraphicsGeometry h = said 2 (omega arith)
+number-said GraphicsItem item.RegisGraphicsGeometry h = said 3 (omega arith)
+number-said GraphicsItem (item.Unspecified z) h = h.0
 
 -- no mode has a number below 0
 pub dec-above : (n : ℕ) → read Dec (negsuc n) ≡ None

@@ -2,7 +2,7 @@ use Rattle.std.proofs.Common.{◌<◌, rules}
 use mir.Syntax.{w64}
 use mir.Val.{SFits}
 use Rattle.csicodec_names.specs.ModeNumbers.{terminal_mode_number}
-use Rattle.csicodec_actions.proofs.OwnNumbers.{own-told}
+use Rattle.csicodec_actions.proofs.Values.{own-told}
 use Rattle.csicodec_actions.proofs.mode.is_terminal_mode.Goals as goal
 
 pub returns-in-Unspecified : goal.returns-in-Unspecified

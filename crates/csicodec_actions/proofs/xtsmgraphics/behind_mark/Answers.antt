@@ -1,5 +1,5 @@
 use Rattle.std.proofs.Common.{◌∙◌}
-use Rattle.csicodec_actions.proofs.GraphicsBehind.{read_behind}
+use Rattle.csicodec_actions.proofs.FieldsAt.{read_behind}
 use Rattle.csicodec_actions.proofs.xtsmgraphics.behind_mark.Goals as goal
 
 pub returns : goal.returns

@@ -8,7 +8,7 @@ use Rattle.csicodec_tokens.specs.declared.param.CsiParam.TheVariants.{Integer, P
 use Rattle.csicodec_actions.specs.declared.cursor.Cursor as cursor_type
 use Rattle.csicodec_actions.specs.declared.cursor.Cursor.TheVariants as cursor
 use Rattle.csicodec_actions.specs.Actions.{Cursor}
-use Rattle.csicodec_actions.specs.Kinds.{Count, Kind, Value, read}
+use Rattle.csicodec_actions.specs.Kinds.{Count, Value, read}
 use Rattle.csicodec_actions.specs.Rows.{Slot, Byte, Number, One, Makes, mark, has_shape, made, Row, row, gives, given, Before, read_by, counted, paired}
 use Rattle.csicodec_actions.specs.Table.Cursor.{as_cursor}
 
@@ -85,100 +85,44 @@ Counts final make = (list : List CsiParam) → as_cursor list final ≡ option_m
 abbrev pub TwoCounts : ℕ → (ℕ → ℕ → cursor_type.Cursor) → Type 0
 TwoCounts final make = (list : List CsiParam) → as_cursor list final ≡ option_map (λ (p : ℕ × ℕ). Cursor (make p.0 p.1)) (given (paired (λ a b. (a, b))) list)
 
-pub up : Counts 65 cursor.Up
+pub finals : Counts 65 cursor.Up
+    × Counts 66 cursor.Down
+    × Counts 67 cursor.Right
+    × Counts 68 cursor.Left
+    × Counts 69 cursor.NextLine
+    × Counts 70 cursor.PrecedingLine
+    × Counts 71 cursor.CharacterAbsolute
+    × Counts 96 cursor.CharacterPositionAbsolute
+    × Counts 73 cursor.ForwardTabulation
+    × Counts 90 cursor.BackwardTabulation
+    × Counts 89 cursor.LineTabulation
+    × Counts 97 cursor.CharacterPositionForward
+    × Counts 106 cursor.CharacterPositionBackward
+    × Counts 100 cursor.LinePositionAbsolute
+    × Counts 101 cursor.LinePositionForward
+    × Counts 107 cursor.LinePositionBackward
+    × TwoCounts 72 cursor.Position
+    × TwoCounts 82 cursor.ActivePositionReport
+    × TwoCounts 102 cursor.CharacterAndLinePosition
 unfolding as_cursor
-up = one-count (λ n. Cursor (cursor.Up n))
-
-pub down : Counts 66 cursor.Down
-unfolding as_cursor
-down = one-count (λ n. Cursor (cursor.Down n))
-
-pub right : Counts 67 cursor.Right
-unfolding as_cursor
-right = one-count (λ n. Cursor (cursor.Right n))
-
-pub left : Counts 68 cursor.Left
-unfolding as_cursor
-left = one-count (λ n. Cursor (cursor.Left n))
-
-pub next-line : Counts 69 cursor.NextLine
-unfolding as_cursor
-next-line = one-count (λ n. Cursor (cursor.NextLine n))
-
-pub preceding-line : Counts 70 cursor.PrecedingLine
-unfolding as_cursor
-preceding-line = one-count (λ n. Cursor (cursor.PrecedingLine n))
-
-pub character-absolute : Counts 71 cursor.CharacterAbsolute
-unfolding as_cursor
-character-absolute = one-count (λ n. Cursor (cursor.CharacterAbsolute n))
-
-pub character-position-absolute : Counts 96 cursor.CharacterPositionAbsolute
-unfolding as_cursor
-character-position-absolute = one-count (λ n. Cursor (cursor.CharacterPositionAbsolute n))
-
-pub forward-tabulation : Counts 73 cursor.ForwardTabulation
-unfolding as_cursor
-forward-tabulation = one-count (λ n. Cursor (cursor.ForwardTabulation n))
-
-pub backward-tabulation : Counts 90 cursor.BackwardTabulation
-unfolding as_cursor
-backward-tabulation = one-count (λ n. Cursor (cursor.BackwardTabulation n))
-
-pub line-tabulation : Counts 89 cursor.LineTabulation
-unfolding as_cursor
-line-tabulation = one-count (λ n. Cursor (cursor.LineTabulation n))
-
-pub character-position-forward : Counts 97 cursor.CharacterPositionForward
-unfolding as_cursor
-character-position-forward = one-count (λ n. Cursor (cursor.CharacterPositionForward n))
-
-pub character-position-backward : Counts 106 cursor.CharacterPositionBackward
-unfolding as_cursor
-character-position-backward = one-count (λ n. Cursor (cursor.CharacterPositionBackward n))
-
-pub line-position-absolute : Counts 100 cursor.LinePositionAbsolute
-unfolding as_cursor
-line-position-absolute = one-count (λ n. Cursor (cursor.LinePositionAbsolute n))
-
-pub line-position-forward : Counts 101 cursor.LinePositionForward
-unfolding as_cursor
-line-position-forward = one-count (λ n. Cursor (cursor.LinePositionForward n))
-
-pub line-position-backward : Counts 107 cursor.LinePositionBackward
-unfolding as_cursor
-line-position-backward = one-count (λ n. Cursor (cursor.LinePositionBackward n))
-
-pub position : TwoCounts 72 cursor.Position
-unfolding as_cursor
-position = two-counts (λ a b. Cursor (cursor.Position a b))
-
-pub active-position-report : TwoCounts 82 cursor.ActivePositionReport
-unfolding as_cursor
-active-position-report = two-counts (λ a b. Cursor (cursor.ActivePositionReport a b))
-
-pub character-and-line-position : TwoCounts 102 cursor.CharacterAndLinePosition
-unfolding as_cursor
-character-and-line-position = two-counts (λ a b. Cursor (cursor.CharacterAndLinePosition a b))
-
-pub ruleset finals = (
-  up,
-  down,
-  right,
-  left,
-  next-line,
-  preceding-line,
-  character-absolute,
-  character-position-absolute,
-  forward-tabulation,
-  backward-tabulation,
-  line-tabulation,
-  character-position-forward,
-  character-position-backward,
-  line-position-absolute,
-  line-position-forward,
-  line-position-backward,
-  position,
-  active-position-report,
-  character-and-line-position,
+finals = (
+  one-count _,
+  one-count _,
+  one-count _,
+  one-count _,
+  one-count _,
+  one-count _,
+  one-count _,
+  one-count _,
+  one-count _,
+  one-count _,
+  one-count _,
+  one-count _,
+  one-count _,
+  one-count _,
+  one-count _,
+  one-count _,
+  two-counts (λ a b. Cursor (cursor.Position a b)),
+  two-counts (λ a b. Cursor (cursor.ActivePositionReport a b)),
+  two-counts (λ a b. Cursor (cursor.CharacterAndLinePosition a b)),
 )

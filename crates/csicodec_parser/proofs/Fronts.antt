@@ -21,14 +21,14 @@ use Rattle.csicodec_actions.specs.Kinds.{read, Dec, Terminal}
 use Rattle.csicodec_parser.specs.Private.Steps.{found, styled, number_at, one_token, front}
 use Rattle.csicodec_actions.proofs.Values.{dec-above, terminal-above}
 
+pub is_none : {A : Type 0} (o : Option A) → ((a : A) → o ≡ Some a → ⊥) → o ≡ None
+is_none None h = refl
+is_none (Some a) h = absurd (h a refl)
+
 -- the answer for a front is what the table gives
 pub piece_of_front : (list : List CsiParam) (r : Option (sgr_type.Sgr × ℕ)) → IsFront list r → piece list ≡ r
 piece_of_front list (Some f) h = piece_is list f.1 f.0 h
-piece_of_front list None h = none (piece list) refl
-  where
-    none : (o : Option (sgr_type.Sgr × ℕ)) → piece list ≡ o → piece list ≡ None
-    none None e = e
-    none (Some f) e = absurd (h f.1 f.0 (is_piece list f.1 f.0 e))
+piece_of_front list None h = is_none (piece list) (λ f e. h f.1 f.0 (is_piece list f.1 f.0 e))
 
 styled_some : (o : Option (sgr_type.Sgr × ℕ)) (a : Action) (k : ℕ) → styled o ≡ Some (a, k) → (s : sgr_type.Sgr) × (o ≡ Some (s, k)) × (a ≡ Sgr s)
 styled_some None a k e = cc
@@ -75,11 +75,7 @@ front_piece (DecModes c) rest k a e =
     front_mode (λ m. Mode (changed c m)) (read Dec) dec-above rest k a e
 
 pub stuck_front : (g : Group) (rest : List CsiParam) → IsStuck g rest → front g rest ≡ None
-stuck_front g rest h = none (front g rest) refl
-  where
-    none : (o : Option (Action × ℕ)) → front g rest ≡ o → front g rest ≡ None
-    none None e = e
-    none (Some p) e = absurd (h p.1 p.0 (front_piece g rest p.1 p.0 e))
+stuck_front g rest h = is_none (front g rest) (λ p e. h p.1 p.0 (front_piece g rest p.1 p.0 e))
 
 pub front_stuck : (g : Group) (rest : List CsiParam) → front g rest ≡ None → IsStuck g rest
 front_stuck g rest e k a p = let found = piece_front g rest k a p in cc
@@ -114,12 +110,8 @@ front_fits Whole rest a k e = cc
 front_fits (Modes s) rest a k e = mode_fits (λ m. Mode (switched s m)) (read Terminal) rest k a (front_mode _ (read Terminal) terminal-above rest k a e)
 front_fits (DecModes c) rest a k e = mode_fits (λ m. Mode (changed c m)) (read Dec) rest k a (front_mode _ (read Dec) dec-above rest k a e)
 
-no_tokens : (g : Group) (o : Option (Action × ℕ)) → front g [] ≡ o → front g [] ≡ None
-no_tokens g None e = e
-no_tokens g (Some p) e = let f = front_fits g [] p.0 p.1 e in absurd (omega (arith, f.some, f.within))
-
 pub front_empty : (g : Group) → front g [] ≡ None
-front_empty g = no_tokens g (front g []) refl
+front_empty g = is_none (front g []) (λ p e. let f = front_fits g [] p.0 p.1 e in omega (arith, f.some, f.within))
 
 take-take : (n : ℕ) (xs : List CsiParam) → take n (take n xs) ≡ take n xs
 take-take zero xs = refl

@@ -21,15 +21,8 @@ use Rattle.csicodec_parser.specs.Progress.{Progress, ActionsOf, HasEnded, most_l
 use Rattle.csicodec_parser.specs.Next.{Answers, AnswersRef, IsRef, Nexts, NextsRef}
 use Rattle.csicodec_parser.specs.Private.Steps.{rest_action, actions, actions_after, left_at, fresh_cost, from_at, GoesBy, CanGo, CutsOn, all_of, has_failed, Stands, Sound}
 use Rattle.csicodec_parser.proofs.Blocks.{after_some}
-use Rattle.csicodec_parser.proofs.Cuts.{actions_are, actions_only, actions_count, first_rest, more_rest}
+use Rattle.csicodec_parser.proofs.Cuts.{at_drop, actions_are, actions_only, actions_count, first_rest, more_rest}
 use Rattle.csicodec_parser.proofs.Rests.{rest_takes}
-
--- the first of what is left stands at its place
-at_drop : {A : Type 0} (xs : List A) (i : ℕ) (a : A) (bs : List A) → drop i xs ≡ a ∷ bs → slice_get xs i ≡ Some a
-at_drop [] zero a bs e = cc
-at_drop [] (suc i) a bs e = cc
-at_drop (x ∷ xs) zero a bs e = cc
-at_drop (x ∷ xs) (suc i) a bs e = at_drop xs i a bs e
 
 drop_one : {A : Type 0} (xs : List A) (i : ℕ) (a : A) (bs : List A) → drop i xs ≡ a ∷ bs → drop (i + 1) xs ≡ bs
 drop_one xs i a bs e = sym (drop-drop 1 i xs) ∙ ap (drop 1) e

@@ -8,7 +8,7 @@ use Rattle.csicodec_tokens.specs.declared.param.CsiParam.{CsiParam}
 use Rattle.csicodec_tokens.specs.declared.param.CsiParam.TheVariants.{Integer, P}
 use Rattle.csicodec_actions.specs.declared.mode.Change.{Change}
 use Rattle.csicodec_parser.specs.declared.group.Group.{Group}
-use Rattle.csicodec_parser.specs.declared.group.Group.TheVariants.{Whole, Styles, Modes, DecModes}
+use Rattle.csicodec_parser.specs.declared.group.Group.TheVariants.{Whole, Styles, DecModes}
 use Rattle.csicodec_parser.specs.declared.actions.CSI.{CSI}
 use Rattle.csicodec_actions.specs.Actions.{Action, Unspecified}
 use Rattle.csicodec_parser.specs.ActionOf.{action_of}
@@ -122,24 +122,16 @@ unknown_left g flag final tokens now after p q x xs same still is told all =
 
 -- ---- the first action of a list that is cut
 
-pub first_odd : (g : Group) (list : List CsiParam) (flag : Bool) (final : ℕ) → (g ≡ Whole → ⊥) → has_odd g list ≡ true → actions_in g list flag final ≡ Unspecified list flag final ∷ []
-first_odd Whole list flag final cut e = absurd (cut refl)
-first_odd (Modes s) list flag final cut e = rw e refl
-first_odd _ list flag final cut e = rw e refl
-
 -- no byte is odd among private modes
 pub private_plain : (c : Change) (list : List CsiParam) → has_odd (DecModes c) list ≡ false
 private_plain c [] = refl
 private_plain c (Integer z ∷ ts) = private_plain c ts
 private_plain c (P b ∷ ts) = private_plain c ts
 
-odd_marked : (g : Group) (list : List CsiParam) → has_odd g list ≡ true → marked g list ≡ list
-odd_marked (Modes s) list e = refl
-odd_marked (DecModes c) list e = cc (private_plain c list, e)
-odd_marked _ list e = refl
-
 pub odd_unknown : (g : Group) (list : List CsiParam) (flag : Bool) (final : ℕ) → (g ≡ Whole → ⊥) → has_odd g list ≡ true → actions_in g list flag final ≡ Unspecified (marked g list) flag final ∷ []
-odd_unknown g list flag final cut odd = first_odd g list flag final cut odd ∙ ap (λ (l : List CsiParam). Unspecified l flag final ∷ []) (sym (odd_marked g list odd))
+odd_unknown Whole list flag final cut odd = absurd (cut refl)
+odd_unknown (DecModes c) list flag final cut odd = cc (private_plain c list, odd)
+odd_unknown _ list flag final cut odd = rw odd refl
 
 pub none_odd : (g : Group) (list : List CsiParam) (final p : ℕ) → p ≡ 0 → (g ≡ Whole → ⊥) →
     has_odd g list ≡ true → (flag : Bool) →
@@ -151,7 +143,6 @@ none_odd g list final p z cut odd = λ flag.
 first_body : (g : Group) (list : List CsiParam) (flag : Bool) (final : ℕ) → (g ≡ Whole → ⊥) → has_odd g list ≡ false
     → actions_in g list flag final ≡ body_actions g list flag final (body g list)
 first_body Whole list flag final cut e = absurd (cut refl)
-first_body (Modes s) list flag final cut e = rw e refl
 first_body _ list flag final cut e = rw e refl
 
 -- without an odd byte a list is cut
@@ -166,7 +157,6 @@ body_some g list flag final (t ∷ ts) h = refl
 
 empty_unknown : (g : Group) (list : List CsiParam) (flag : Bool) (final : ℕ) → (g ≡ Styles → ⊥) → empty_action g list flag final ≡ Unspecified list flag final
 empty_unknown Styles list flag final other = absurd (other refl)
-empty_unknown (Modes s) list flag final other = refl
 empty_unknown _ list flag final other = refl
 
 -- where nothing is left to cut
@@ -252,10 +242,8 @@ none_at Failed None g list final p q later can by b e = absurd can
 
 pub some_cuts_at : (s : Stage) (r : Option CSI) (g : Group) (list : List CsiParam) (p q n m : ℕ) → (s ≡ Fresh → ⊥) → CanGo s p n
     → IfSome r (λ a. block g (drop p list) ≡ Some (action_of a, q - p)) → IfSome r (λ _. p < q) → IfSome r (λ _. q < m → CutsOn g list (from_at s g p) q)
-some_cuts_at s None g list p q n m later can b h = tt
-some_cuts_at Fresh (Some x) g list p q n m later can b h = absurd (later refl)
-some_cuts_at (Going k) (Some x) g list p q n m later can b h = λ w. (action_of x, b, h)
-some_cuts_at Failed (Some x) g list p q n m later can b h = absurd can
+some_cuts_at Fresh r g list p q n m later can b h = absurd (later refl)
+some_cuts_at _ r g list p q n m later can b h = some_cuts r g list p q m b h
 
 -- passing on is dropping more
 pub dropped_on : (tokens : List CsiParam) (p q k : ℕ) → q ≡ p + k → drop q tokens ≡ drop k (drop p tokens)

@@ -1,6 +1,6 @@
 -- Every list has one cut that can't be continued, and the computed actions are those of that cut.
 use Rattle.std.specs.Prelude.{slice_get, unwrap_or, max}
-use Rattle.std.proofs.Common.{◌≡◌, ◌⊎◌, ℕ, zero, suc, pred, ◌+◌, ◌-◌, ◌==◌, ◌<◌, ◌≤◌, Bool, true, List, [], ◌∷◌, ◌++◌, length, take, drop, Option, Some}
+use Rattle.std.proofs.Common.{◌≡◌, ◌⊎◌, ℕ, zero, suc, pred, ◌+◌, ◌-◌, ◌==◌, ◌<◌, ◌≤◌, Bool, List, [], ◌∷◌, ◌++◌, length, take, drop, Option, Some}
 use Rattle.std.proofs.Common.{None, refl, sym, ap, subst, ◌∙◌, inl, inr, arith, add-one, length-append, length-drop, append_assoc}
 use Rattle.std.proofs.Math.Seq.{drop-append_seam}
 use Rattle.std.proofs.lemmas.Bool.{cases_Bool, eqb-true}
@@ -9,7 +9,7 @@ use Rattle.std.proofs.lemmas.Option.{some_pair_parts}
 use Rattle.csicodec_tokens.specs.declared.param.CsiParam.{CsiParam}
 use Rattle.csicodec_tokens.specs.declared.param.CsiParam.TheVariants.{Integer, P}
 use Rattle.csicodec_parser.specs.declared.group.Group.{Group}
-use Rattle.csicodec_parser.specs.declared.group.Group.TheVariants.{Whole, Styles, Modes, DecModes}
+use Rattle.csicodec_parser.specs.declared.group.Group.TheVariants.{Whole}
 use Rattle.csicodec_actions.specs.Actions.{Action, Unspecified}
 use Rattle.csicodec_parser.specs.Groups.{group, start, has_odd}
 use Rattle.csicodec_parser.specs.Cut.{semicolon, NoSemicolon, IsBlock, body, Cut, IsStuck, IsRestAfter}

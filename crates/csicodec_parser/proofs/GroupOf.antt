@@ -1,12 +1,12 @@
 -- What the group of a list says of its first token and its final, and in which group a rest falls.
-use Rattle.std.proofs.Common.{ℕ, ◌≡◌, ◌≤◌, Bool, true, false, List, [], ◌∷◌, ◌++◌, length, drop, Option, refl, sym, ap, subst, inl, inr, arith}
+use Rattle.std.proofs.Common.{ℕ, ◌≡◌, Bool, true, false, List, [], ◌∷◌, ◌++◌, Option, refl, ap, arith}
 use Rattle.std.specs.Prelude.{◌==◌, ◌||◌, slice_get}
 use Rattle.std.proofs.lemmas.Bool.Decides.{nat_tests}
 use Rattle.csicodec_tokens.specs.declared.param.CsiParam.{CsiParam}
 use Rattle.csicodec_tokens.specs.declared.param.CsiParam.TheVariants.{Integer, P}
 use Rattle.csicodec_parser.specs.declared.group.Group.{Group}
 use Rattle.csicodec_parser.specs.declared.group.Group.TheVariants.{Whole, Styles, Modes, DecModes}
-use Rattle.csicodec_parser.specs.Groups.{is_byte, dec_group, plain_group, group_by, group, start, marked, is_odd, has_odd}
+use Rattle.csicodec_parser.specs.Groups.{is_byte, group_by, group, marked, is_odd, has_odd}
 use Rattle.csicodec_parser.specs.Cut.{body}
 
 -- a list of styles ends in `m`

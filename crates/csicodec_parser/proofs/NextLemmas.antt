@@ -1,10 +1,9 @@
 -- One call of `next`, over plain variables.
-use Rattle.std.specs.Prelude.{Ok, Err, slice_get}
-use Rattle.std.proofs.Common.{◌≡◌, ℕ, zero, suc, ◌+◌, ◌*◌, ◌<◌, ◌≤◌, ◌==◌, Bool, true, false, List, [], ◌∷◌, length, drop, Some, None}
-use Rattle.std.proofs.Common.{refl, sym, ap, ◌∙◌, arith, inl, inr, length-drop, add-one, ◌++◌, append_assoc, append-nil, subst}
+use Rattle.std.specs.Prelude.{Ok, Err}
+use Rattle.std.proofs.Common.{◌≡◌, ℕ, ◌+◌, ◌*◌, ◌<◌, ◌≤◌, ◌==◌, Bool, true, false, List, [], ◌∷◌, length, drop, Some, None}
+use Rattle.std.proofs.Common.{refl, sym, ap, ◌∙◌, arith, inl, inr, length-drop, add-one, subst}
 use Rattle.std.proofs.lemmas.Bool.{ne_eqb}
-use Rattle.std.proofs.lemmas.List.{drop-drop, drop_more, drop_all}
-use Rattle.std.proofs.lemmas.Option.{slice_get_within, get_or_from_slice_get}
+use Rattle.std.proofs.lemmas.List.{drop-drop, drop_all}
 use Rattle.std.specs.declared.alloc.AllocError.{AllocError}
 use Rattle.csicodec_tokens.specs.declared.param.CsiParam.{CsiParam}
 use Rattle.csicodec_parser.specs.declared.actions.CSI.{CSI}
@@ -16,10 +15,9 @@ use Rattle.csicodec_actions.specs.Actions.{Action}
 use Rattle.csicodec_parser.specs.ActionOf.{action_of}
 use Rattle.csicodec_parser.specs.Groups.{group}
 use Rattle.csicodec_parser.specs.Cut.{IsRestAfter}
-use Rattle.csicodec_parser.specs.Segments.{Actions}
 use Rattle.csicodec_parser.specs.Progress.{Progress, ActionsOf, HasEnded, most_left}
 use Rattle.csicodec_parser.specs.Next.{Answers, AnswersRef, IsRef, Nexts, NextsRef}
-use Rattle.csicodec_parser.specs.Private.Steps.{rest_action, actions, actions_after, left_at, fresh_cost, from_at, GoesBy, CanGo, CutsOn, all_of, has_failed, Stands, Sound}
+use Rattle.csicodec_parser.specs.Private.Steps.{rest_action, actions_after, left_at, fresh_cost, from_at, GoesBy, CanGo, CutsOn, all_of, has_failed, Sound}
 use Rattle.csicodec_parser.proofs.Blocks.{after_some}
 use Rattle.csicodec_parser.proofs.Cuts.{at_drop, actions_are, actions_only, actions_count, first_rest, more_rest}
 use Rattle.csicodec_parser.proofs.Rests.{rest_takes}
@@ -49,9 +47,8 @@ budget (Going g) p q l h w c n f = let a = h.stands.2 in omega arith
 budget Failed p q l h w c n f = cc
 
 not_failed : (s : Stage) (p : Progress) (a : Action) (more : List Action) → p.failed ≡ has_failed s → left_at s p.flag p.final p.list p.passed ≡ a ∷ more → p.failed ≡ false
-not_failed Fresh p a more f e = f
-not_failed (Going g) p a more f e = f
 not_failed Failed p a more f e = cc
+not_failed _ p a more f e = f
 
 group_now : (s : Stage) (p : Progress) (g : Group) → Sound s p → GoesBy s p.list p.final g → g ≡ group p.list p.final
 group_now Fresh p g h b = b
@@ -153,8 +150,7 @@ next_err s p q x g rest f h m e c i nf l =
 
 ended : (s : Stage) (p : Progress) → p.failed ≡ has_failed s → Sound s p → left_at s p.flag p.final p.list p.passed ≡ [] → HasEnded p
 ended Failed p f h e = inl f
-ended Fresh p f h e = inr (all_of p, actions_are p.list p.flag p.final, end_of (all_of p) p.given (left_now Fresh p f h f ∙ e))
-ended (Going g) p f h e = inr (all_of p, actions_are p.list p.flag p.final, end_of (all_of p) p.given (left_now (Going g) p f h f ∙ e))
+ended s p f h e = inr (all_of p, actions_are p.list p.flag p.final, end_of (all_of p) p.given (left_now s p f h f ∙ e))
 
 within_budget : (s : Stage) (p : Progress) → Sound s p → p.looks ≤ 128 * (length p.list + 1)
 within_budget Fresh p h = let a = h.stands in omega arith
@@ -192,49 +188,38 @@ goes_ok Failed p q f h m can nf i on w = absurd can
 pub goes_err : (s : Stage) (p q : Progress) → p.failed ≡ has_failed s → Sound s p → CanGo s p.passed (length p.list) → q.failed ≡ true → most_left q < most_left p
 goes_err s p q f h can e = let some = left_some s p f h can in rw e (omega arith)
 
--- ---- all actions of a run
-
 -- ---- what is unread
-
-abbrev StandsAt : Progress → Stage → Type 0
-StandsAt p s = Stands s p
 
 -- a run that goes on has ended where all is passed
 pub ended_at_end : (s : Stage) (p : Progress) (g : Group) → s ≡ Going g → Sound s p → length p.list ≤ p.passed → HasEnded p
-ended_at_end s p g same h e =
-    let at : Stands (Going g) p = subst (StandsAt p) same h.stands in
+ended_at_end (Going k) p g same h e =
     let d : drop p.passed p.list ≡ [] = drop_all p.passed p.list e in
-    inr (all_of p, actions_are p.list p.flag p.final, end_of (all_of p) p.given (at.1 ∙ ap (actions_after g p.flag p.final) d))
+    inr (all_of p, actions_are p.list p.flag p.final, end_of (all_of p) p.given (h.stands.1 ∙ ap (actions_after k p.flag p.final) d))
+ended_at_end _ p g same h e = cc
 
 pub fresh_rest : (s : Stage) (p : Progress) (r : List CsiParam) → s ≡ Fresh → Sound s p → r ≡ drop p.passed p.list → IsRestAfter p.list p.final p.given r
-fresh_rest s p r e h d =
-    let at : Stands Fresh p = subst (StandsAt p) e h.stands in
-    rw at.0 (d ∙ ap (λ k. drop k p.list) at.1)
+fresh_rest Fresh p r e h d = rw h.stands.0 (d ∙ ap (λ k. drop k p.list) h.stands.1)
+fresh_rest _ p r e h d = cc
 
 pub going_rest : (s : Stage) (p : Progress) (g : Group) (r : List CsiParam) → s ≡ Going g → Sound s p → p.passed < length p.list → r ≡ drop p.passed p.list → IsRestAfter p.list p.final p.given r
-going_rest s p g r e h w d =
-    let at : Stands (Going g) p = subst (StandsAt p) e h.stands in
-    subst (λ (l : List CsiParam). IsRestAfter p.list p.final p.given l) (sym d) (at.3 w)
+going_rest (Going k) p g r e h w d = rw d (h.stands.3 w)
+going_rest _ p g r e h w d = cc
 
 -- ---- while something is left, the run has not ended
 
-fresh_open : (p : Progress) → p.failed ≡ false → Stands Fresh p → HasEnded p → ⊥
-fresh_open p f at (inl e) = cc
-fresh_open p f at (inr h) =
-    let some = (actions_count p.list p.flag p.final h.0 h.1).0 in
-    let none : p.given ≡ 0 = at.0 in
-    omega (arith, h.2)
-
 pub fresh_goes : (s : Stage) (p : Progress) → s ≡ Fresh → p.failed ≡ has_failed s → Sound s p → HasEnded p → ⊥
-fresh_goes s p e f h = fresh_open p (f ∙ ap has_failed e) (subst (StandsAt p) e h.stands)
-
-going_open : (p : Progress) (g : Group) → p.failed ≡ false → Stands (Going g) p → p.passed < length p.list → HasEnded p → ⊥
-going_open p g f at w (inl e) = cc
-going_open p g f at w (inr h) =
-    let same : h.0 ≡ all_of p = actions_only p.list p.flag p.final h.0 h.1 in
-    let some = after_some g p.flag p.final (drop p.passed p.list) (omega (arith, length-drop p.passed p.list)) in
-    let left : length (drop p.given (all_of p)) ≡ length (actions_after g p.flag p.final (drop p.passed p.list)) = ap length at.1 in
-    omega (arith, h.2, ap length same, some, left, length-drop p.given (all_of p))
+fresh_goes Fresh p e f h (inl failed) = cc
+fresh_goes Fresh p e f h (inr all) =
+    let some = (actions_count p.list p.flag p.final all.0 all.1).0 in
+    let none : p.given ≡ 0 = h.stands.0 in
+    omega (arith, all.2)
+fresh_goes _ p e f h ends = cc
 
 pub going_goes : (s : Stage) (p : Progress) (g : Group) → s ≡ Going g → p.failed ≡ has_failed s → Sound s p → p.passed < length p.list → HasEnded p → ⊥
-going_goes s p g e f h w = going_open p g (f ∙ ap has_failed e) (subst (StandsAt p) e h.stands) w
+going_goes (Going k) p g e f h w (inl failed) = cc
+going_goes (Going k) p g e f h w (inr all) =
+    let same : all.0 ≡ all_of p = actions_only p.list p.flag p.final all.0 all.1 in
+    let some = after_some k p.flag p.final (drop p.passed p.list) (omega (arith, length-drop p.passed p.list)) in
+    let left : length (drop p.given (all_of p)) ≡ length (actions_after k p.flag p.final (drop p.passed p.list)) = ap length h.stands.1 in
+    omega (arith, all.2, ap length same, some, left, length-drop p.given (all_of p))
+going_goes _ p g e f h w ends = cc

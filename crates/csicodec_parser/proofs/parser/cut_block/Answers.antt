@@ -1,4 +1,4 @@
-use Rattle.std.proofs.Common.{◌≡◌, drop, arith, sym, ap, ◌∙◌, length-drop}
+use Rattle.std.proofs.Common.{drop, arith, sym, ap, ◌∙◌, length-drop}
 use Rattle.csicodec_parser.specs.Private.Steps.{found, block_of, with_semicolon}
 use Rattle.csicodec_parser.proofs.Fronts.{lent_front, front_fits}
 use Rattle.csicodec_parser.proofs.Blocks.{cut_some, at_same, semicolon_within}

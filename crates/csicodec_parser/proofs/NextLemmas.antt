@@ -1,5 +1,5 @@
 -- One call of `next`, over plain variables.
-use Rattle.std.specs.Prelude.{Ok, Err}
+use Rattle.std.specs.Prelude.{Ok, Err, slice_get}
 use Rattle.std.proofs.Common.{◌≡◌, ℕ, ◌+◌, ◌*◌, ◌<◌, ◌≤◌, ◌==◌, Bool, true, false, List, [], ◌∷◌, length, drop, Some, None}
 use Rattle.std.proofs.Common.{refl, sym, ap, ◌∙◌, arith, inl, inr, length-drop, add-one, subst}
 use Rattle.std.proofs.lemmas.Bool.{ne_eqb}
@@ -65,63 +65,63 @@ rest_next (Going k) p g q h b on w =
     rw (add-one p.given) (more_rest g p.list p.final p.passed q p.given (b ∙ h.stands.0) h.stands.4 (h.stands.3 (omega arith)) on)
 rest_next Failed p g q h b on w = absurd b
 
-pub sound_ok : (s : Stage) (p q : Progress) (g : Group) (a : Action) → p.failed ≡ has_failed s → Sound s p → Same p q → GoesBy s p.list p.final g
-    → left_at s p.flag p.final p.list p.passed ≡ a ∷ left_at (Going g) p.flag p.final p.list q.passed
-    → q.passed ≤ length q.list → q.looks + 115 * p.passed ≤ p.looks + (1 + length p.list) * fresh_cost s + 115 * q.passed
-    → q.given ≡ p.given + 1 → (q.passed < length q.list → CutsOn g p.list (from_at s g p.passed) q.passed) → Sound (Going g) q
-sound_ok s p q g a f h m b e w c i o =
-    let n : p.failed ≡ false = not_failed s p _ _ f e in
-    let w' : q.passed ≤ length p.list = rw (sym m.list) w in
-    let d : drop (p.given + 1) (all_of p) ≡ left_at (Going g) p.flag p.final p.list q.passed = drop_one (all_of p) p.given _ _ (left_now s p f h n ∙ e) in
-    let k : q.looks ≤ 1 + length p.list + 115 * q.passed = budget s p q.passed q.looks h w' c n f in
-    let after : q.passed < length q.list → IsRestAfter p.list p.final (p.given + 1) (drop q.passed p.list) = λ l. rest_next s p g q.passed h b (o l) w' in
+-- a step of a run at stage s, from p to q: by the group g it gives the action a
+pub record Steps (s : Stage) (g : Group) (p q : Progress) (a : Action) : Type 0 where
+  pub same : Same p q
+  pub goes : GoesBy s p.list p.final g
+  pub told : left_at s p.flag p.final p.list p.passed ≡ a ∷ left_at (Going g) p.flag p.final p.list q.passed
+  pub within : q.passed ≤ length q.list
+  pub pays : q.looks + 115 * p.passed ≤ p.looks + (1 + length p.list) * fresh_cost s + 115 * q.passed
+  pub counted : p.looks ≤ q.looks
+  pub given : q.given ≡ p.given + 1
+  pub going : q.failed ≡ false
+
+-- and what that says of all actions and of the looks
+record Gives (g : Group) (p q : Progress) (a : Action) : Type 0 where
+  failed : p.failed ≡ false
+  first : slice_get (all_of p) p.given ≡ Some a
+  others : drop (p.given + 1) (all_of p) ≡ left_at (Going g) p.flag p.final p.list q.passed
+  within : q.passed ≤ length p.list
+  pays : q.looks ≤ 1 + length p.list + 115 * q.passed
+
+gives : (s : Stage) (g : Group) (p q : Progress) (a : Action) → p.failed ≡ has_failed s → Sound s p → Steps s g p q a → Gives g p q a
+gives s g p q a f h st =
+    let n : p.failed ≡ false = not_failed s p _ _ f st.told in
+    let all = left_now s p f h n ∙ st.told in
+    let w : q.passed ≤ length p.list = rw (sym st.same.list) st.within in
+    record { failed = n; first = at_drop (all_of p) p.given _ _ all; others = drop_one (all_of p) p.given _ _ all; within = w; pays = budget s p q.passed q.looks h w st.pays n f }
+
+pub sound_ok : (s : Stage) (g : Group) (p q : Progress) (a : Action) → p.failed ≡ has_failed s → Sound s p → Steps s g p q a
+    → (q.passed < length q.list → CutsOn g p.list (from_at s g p.passed) q.passed) → Sound (Going g) q
+sound_ok s g p q a f h st on =
+    let k = gives s g p q a f h st in
+    let m = st.same in
+    let after : q.passed < length q.list → IsRestAfter p.list p.final (p.given + 1) (drop q.passed p.list) = λ l. rest_next s p g q.passed h st.goes (on l) k.within in
     let some : 0 < p.given + 1 = omega arith in
-    record { within = w; stands = rw (i, m.list, m.flag, m.final) (group_now s p g h b, d, k, rw m.list at after, some) }
+    record { within = st.within; stands = rw (st.given, m.list, m.flag, m.final) (group_now s p g h st.goes, k.others, k.pays, rw m.list at after, some) }
 
 -- what holds of the computed actions holds of the actions
 by_actions : (p : Progress) (Q : List Action → Type 0) → Q (all_of p) → (xs : List Action) → ActionsOf p xs → Q xs
 by_actions p Q h xs is = subst Q (sym (actions_only p.list p.flag p.final xs is)) h
 
-pub next_ok : (s : Stage) (p q : Progress) (g : Group) (x : CSI) → p.failed ≡ has_failed s → Sound s p → Same p q
-    → left_at s p.flag p.final p.list p.passed ≡ action_of x ∷ left_at (Going g) p.flag p.final p.list q.passed
-    → q.passed ≤ length q.list → q.looks + 115 * p.passed ≤ p.looks + (1 + length p.list) * fresh_cost s + 115 * q.passed
-    → q.given ≡ p.given + 1 → q.failed ≡ false → p.looks ≤ q.looks → Nexts p (Some (Ok x)) q
-next_ok s p q g x f h m e w c i nf l =
-    let n : p.failed ≡ false = not_failed s p _ _ f e in
-    let w' : q.passed ≤ length p.list = rw (sym m.list) w in
-    let b : q.looks ≤ 1 + length p.list + 115 * q.passed = budget s p q.passed q.looks h w' c n f in
-    record {
-      list = m.list;
-      flag = m.flag;
-      final = m.final;
-      answers = by_actions p (λ xs. Answers xs p (Some (Ok x)) q) (n, at_drop (all_of p) p.given _ _ (left_now s p f h n ∙ e), i, nf);
-      counted = l;
-      cheap = rw m.list (omega arith);
-    }
+pub next_ok : (s : Stage) (g : Group) (p q : Progress) (x : CSI) → p.failed ≡ has_failed s → Sound s p → Steps s g p q (action_of x) → Nexts p (Some (Ok x)) q
+next_ok s g p q x f h st =
+    let k = gives s g p q (action_of x) f h st in
+    let all = by_actions p (λ xs. Answers xs p (Some (Ok x)) q) (k.failed, k.first, st.given, st.going) in
+    let m = st.same in
+    record { list = m.list; flag = m.flag; final = m.final; answers = all; counted = st.counted; cheap = rw m.list (omega (arith, k.pays, k.within)) }
 
-pub ref_ok : (s : Stage) (p q : Progress) (g : Group) (r : ActionRef) (a : Action) → p.failed ≡ has_failed s → Sound s p → Same p q
-    → left_at s p.flag p.final p.list p.passed ≡ a ∷ left_at (Going g) p.flag p.final p.list q.passed → IsRef r p.flag p.final a
-    → q.passed ≤ length q.list → q.looks + 115 * p.passed ≤ p.looks + (1 + length p.list) * fresh_cost s + 115 * q.passed
-    → q.given ≡ p.given + 1 → q.failed ≡ false → p.looks ≤ q.looks → NextsRef p (Some r) q
-ref_ok s p q g r a f h m e is w c i nf l =
-    let n : p.failed ≡ false = not_failed s p _ _ f e in
-    let w' : q.passed ≤ length p.list = rw (sym m.list) w in
-    let b : q.looks ≤ 1 + length p.list + 115 * q.passed = budget s p q.passed q.looks h w' c n f in
-    record {
-      list = m.list;
-      flag = m.flag;
-      final = m.final;
-      answers = by_actions p (λ xs. AnswersRef xs p (Some r) q) (n, (a, at_drop (all_of p) p.given _ _ (left_now s p f h n ∙ e), is), i, nf);
-      counted = l;
-      cheap = rw m.list (omega arith);
-    }
+pub ref_ok : (s : Stage) (g : Group) (p q : Progress) (r : ActionRef) (a : Action) → p.failed ≡ has_failed s → Sound s p → Steps s g p q a → IsRef r p.flag p.final a → NextsRef p (Some r) q
+ref_ok s g p q r a f h st is =
+    let k = gives s g p q a f h st in
+    let all = by_actions p (λ xs. AnswersRef xs p (Some r) q) (k.failed, (a, k.first, is), st.given, st.going) in
+    let m = st.same in
+    record { list = m.list; flag = m.flag; final = m.final; answers = all; counted = st.counted; cheap = rw m.list (omega (arith, k.pays, k.within)) }
 
 -- what is unread is one action, and nothing is left behind it
 pub rest_alone : (g : Group) (flag : Bool) (final : ℕ) (list : List CsiParam) (p q : ℕ) (xs : List Action) → xs ≡ rest_action g (drop p list) flag final ∷ [] → length list ≤ q
     → xs ≡ rest_action g (drop p list) flag final ∷ actions_after g flag final (drop q list)
-rest_alone g flag final list p q xs is long =
-    let d : drop q list ≡ [] = drop_all q list long in
-    rw d is
+rest_alone g flag final list p q xs is long = rw (drop_all q list long) is
 
 pub next_err : (s : Stage) (p q : Progress) (x : AllocError) (g : Group) (rest : List CsiParam) → p.failed ≡ has_failed s → Sound s p → Same p q
     → left_at s p.flag p.final p.list p.passed ≡ rest_action g rest p.flag p.final ∷ []
@@ -130,23 +130,9 @@ pub next_err : (s : Stage) (p q : Progress) (x : AllocError) (g : Group) (rest :
 next_err s p q x g rest f h m e c i nf l =
     let n : p.failed ≡ false = not_failed s p _ _ f e in
     let b : q.looks ≤ 1 + length p.list + 115 * length p.list = budget s p (length p.list) q.looks h (omega arith) c n f in
-    record {
-      list = m.list;
-      flag = m.flag;
-      final = m.final;
-      answers = by_actions p (λ xs. Answers xs p (Some (Err x)) q) (
-        n,
-        (
-          rest_action g rest p.flag p.final,
-          at_drop (all_of p) p.given _ _ (left_now s p f h n ∙ e),
-          rest_takes g rest p.flag p.final,
-        ),
-        i,
-        nf,
-      );
-      counted = l;
-      cheap = rw m.list (omega arith);
-    }
+    let next = at_drop (all_of p) p.given _ _ (left_now s p f h n ∙ e) in
+    let all = by_actions p (λ xs. Answers xs p (Some (Err x)) q) (n, (rest_action g rest p.flag p.final, next, rest_takes g rest p.flag p.final), i, nf) in
+    record { list = m.list; flag = m.flag; final = m.final; answers = all; counted = l; cheap = rw m.list (omega arith) }
 
 ended : (s : Stage) (p : Progress) → p.failed ≡ has_failed s → Sound s p → left_at s p.flag p.final p.list p.passed ≡ [] → HasEnded p
 ended Failed p f h e = inl f
@@ -175,15 +161,17 @@ left_some Failed p f h can = absurd can
 given_more : (p q : Progress) → q.given ≡ p.given + 1 → (q.given == 0) ≡ false
 given_more p q e = ne_eqb q.given 0 (λ none. omega (arith, none, e))
 
-pub goes_ok : (s : Stage) (p q : Progress) → p.failed ≡ has_failed s → Sound s p → Same p q → CanGo s p.passed (length p.list) → q.failed ≡ false → q.given ≡ p.given + 1
-    → (p.passed < length p.list → p.passed < q.passed) → q.passed ≤ length q.list → most_left q < most_left p
-goes_ok Fresh p q f h m can nf i on w =
+pub goes_ok : (s : Stage) (g : Group) (p q : Progress) (a : Action) → p.failed ≡ has_failed s → Sound s p → Steps s g p q a → CanGo s p.passed (length p.list)
+    → (p.passed < length p.list → p.passed < q.passed) → most_left q < most_left p
+goes_ok Fresh g p q a f h st can on =
     let low : p.passed ≡ 0 = h.stands.1 in
-    rw (f, nf, given_more p q i, m.list, h.stands.0) (omega arith)
-goes_ok (Going g) p q f h m can nf i on w =
+    let w = st.within in
+    rw (f, st.going, given_more p q st.given, st.same.list, h.stands.0) (omega arith)
+goes_ok (Going k) g p q a f h st can on =
     let far : p.passed < q.passed = on can in
-    rw (f, nf, given_more p q i, m.list) (omega arith)
-goes_ok Failed p q f h m can nf i on w = absurd can
+    let w = st.within in
+    rw (f, st.going, given_more p q st.given, st.same.list) (omega arith)
+goes_ok Failed g p q a f h st can on = absurd can
 
 pub goes_err : (s : Stage) (p q : Progress) → p.failed ≡ has_failed s → Sound s p → CanGo s p.passed (length p.list) → q.failed ≡ true → most_left q < most_left p
 goes_err s p q f h can e = let some = left_some s p f h can in rw e (omega arith)

@@ -1,109 +1,87 @@
 use Rattle.std.proofs.Common.{true, false, refl, sym, rules, arith, ◌∙◌, ap, length}
 use Rattle.csicodec_parser.specs.ActionOf.{action_of}
-use Rattle.csicodec_parser.specs.Progress.{Progress}
+use Rattle.csicodec_parser.specs.Progress.{progress}
+use Rattle.csicodec_parser.specs.Private.Steps.{has_failed}
 use Rattle.csicodec_parser.proofs.Blocks.{unknown_left}
-use Rattle.csicodec_parser.proofs.NextLemmas.{sound_ok, next_ok, next_err, next_none, goes_ok, goes_err}
+use Rattle.csicodec_parser.proofs.NextLemmas.{Steps, sound_ok, next_ok, next_err, next_none, goes_ok, goes_err}
+use Rattle.csicodec_parser.proofs.parser.RunIterator.next.Given.{Over}
 use Rattle.csicodec_parser.proofs.parser.RunIterator.next.Goals as goal
 
 pub returns-in_default-clause-steps : goal.returns-in_default-clause-steps
 returns-in_default-clause-steps g c =
     rw (c.in_default.ensures.none.1, ← c.self.view_is) (next_none c.self.inside.stage _ refl c.self.invariant (c.in_default.ensures.none.0 c.self.inside.truncated))
 
+-- the step by an action that a rule reads
+read : (g : Over) (c : goal.After-charge g) → let run = c.self.inside in let new = c.next_action.new.look in
+    Steps run.stage c.in-Some.group (progress (g.L.Look.tokens run.look) run.truncated run.control run.given.total (has_failed run.stage) (g.L.Look.passed run.look) (g.L.Look.looks run.look))
+    (progress (g.L.Look.tokens new) run.truncated run.control c.charge.new.self.total false (g.L.Look.passed new) (g.L.Look.looks new)) (action_of c.in-Some-next_action.action)
+read g c =
+    let at = c.group_at.ensures in
+    record {
+      same = record { list = c.next_action.ensures.list ∙ at.list; flag = refl; final = refl };
+      goes = c.in-Some.ensures.group;
+      told = rw (at.list, at.passes) at (c.in-Some-next_action.ensures.some c.self.inside.truncated);
+      within = c.next_action.ensures.within;
+      pays = omega (arith, rw (at.list, at.passes) at c.in-Some-next_action.ensures.going, at.costs);
+      counted = omega (arith, c.next_action.ensures.counted, at.costs);
+      given = c.charge.ensures;
+      going = refl;
+    }
+
 pub invariant_of-self-in-Some-next_action : goal.invariant_of-self-in-Some-next_action
 invariant_of-self-in-Some-next_action g c =
-    let list = c.group_at.ensures.list in
-    let passed = c.group_at.ensures.passes in
-    let told = rw (list, passed) at (c.in-Some-next_action.ensures.some c.self.inside.truncated) in
-    let going = rw (list, passed) at c.in-Some-next_action.ensures.going in
-    let cut = rw (list, passed) at c.in-Some-next_action.ensures.cut in
-    sound_ok c.self.inside.stage _ _ c.in-Some.group (action_of c.in-Some-next_action.action) refl c.self.invariant (record { list = c.next_action.ensures.list ∙ list; flag = refl; final = refl })
-    c.in-Some.ensures.group told c.next_action.ensures.within (omega (arith, going, c.group_at.ensures.costs)) c.charge.ensures cut
+    let cut = rw (c.group_at.ensures.list, c.group_at.ensures.passes) at c.in-Some-next_action.ensures.cut in
+    sound_ok c.self.inside.stage c.in-Some.group _ _ _ refl c.self.invariant (read g c) cut
 
 pub returns-in-Some-next_action-clause-steps : goal.returns-in-Some-next_action-clause-steps
 returns-in-Some-next_action-clause-steps g c =
-    let list = c.group_at.ensures.list in
-    let passed = c.group_at.ensures.passes in
-    let told = rw (list, passed) at (c.in-Some-next_action.ensures.some c.self.inside.truncated) in
-    let going = rw (list, passed) at c.in-Some-next_action.ensures.going in
-    rw (sym c.self.view_is)
-    (next_ok c.self.inside.stage _ _ c.in-Some.group c.in-Some-next_action.action refl c.self.invariant (record { list = c.next_action.ensures.list ∙ list; flag = refl; final = refl })
-    told c.next_action.ensures.within (omega (arith, going, c.group_at.ensures.costs)) c.charge.ensures refl (omega (arith, c.next_action.ensures.counted, c.group_at.ensures.costs)))
+    rw (sym c.self.view_is) (next_ok c.self.inside.stage c.in-Some.group _ _ c.in-Some-next_action.action refl c.self.invariant (read g c))
 
 pub returns-in-Some-next_action-clause-goes : goal.returns-in-Some-next_action-clause-goes
 returns-in-Some-next_action-clause-goes g c =
-    let after : Progress = record {
-      list = g.L.Look.tokens c.next_action.new.look;
-      flag = c.self.inside.truncated;
-      final = c.self.inside.control;
-      given = c.charge.new.self.total;
-      failed = false;
-      passed = g.L.Look.passed c.next_action.new.look;
-      looks = g.L.Look.looks c.next_action.new.look;
-    } in
-    let list = c.group_at.ensures.list in
-    let passed = c.group_at.ensures.passes in
-    let on = rw (list, passed) at c.in-Some-next_action.ensures.forward in
-    let less = goes_ok c.self.inside.stage _ after refl c.self.invariant (record { list = c.next_action.ensures.list ∙ list; flag = refl; final = refl }) c.in-Some.ensures.some refl c.charge.ensures
-    on c.next_action.ensures.within in
+    let on = rw (c.group_at.ensures.list, c.group_at.ensures.passes) at c.in-Some-next_action.ensures.forward in
+    let less = goes_ok c.self.inside.stage c.in-Some.group _ _ _ refl c.self.invariant (read g c) c.in-Some.ensures.some on in
     rw (sym c.self.view_is) (record { on = λ f. (search rules, search rules, less); keeps = search rules; rests = λ f. tt })
+
+-- the step by the action of all that is unread
+rest : (g : Over) (c : goal.After-charge-in-Ok g) → let run = c.self.inside in let new = c.rest_action.new.look in
+    Steps run.stage c.in-Some.group (progress (g.L.Look.tokens run.look) run.truncated run.control run.given.total (has_failed run.stage) (g.L.Look.passed run.look) (g.L.Look.looks run.look))
+    (progress (g.L.Look.tokens new) run.truncated run.control c.charge-in-Ok.new.self.total false (g.L.Look.passed new) (g.L.Look.looks new)) (action_of c.in-Ok.action)
+rest g c =
+    let at = c.group_at.ensures in
+    let told = rw (at.list, at.passes) at (c.in-None.ensures.none c.self.inside.truncated) in
+    let left = rw (at.list, at.passes) at c.in-None.ensures.left in
+    let now = c.next_action.ensures.list ∙ at.list in
+    let e = c.rest_action.ensures in
+    let all = c.in-Ok.ensures.all in
+    let more = unknown_left c.in-Some.group c.self.inside.truncated c.self.inside.control
+    (g.L.Look.tokens c.self.inside.look) (g.L.Look.tokens c.next_action.new.look)
+    (g.L.Look.tokens c.rest_action.new.look)
+    (g.L.Look.passed c.next_action.new.look) (g.L.Look.passed c.rest_action.new.look) c.in-Ok.action _ now e.list told c.in-Ok.ensures.ok all in
+    record {
+      same = record { list = e.list ∙ now; flag = refl; final = refl };
+      goes = c.in-Some.ensures.group;
+      told = more;
+      within = e.within;
+      pays = omega (arith, left, at.costs, e.costs, all, ap length e.list, ap length now);
+      counted = omega (arith, c.next_action.ensures.counted, at.costs, e.counted);
+      given = c.charge-in-Ok.ensures;
+      going = refl;
+    }
 
 pub invariant_of-self-in-Ok : goal.invariant_of-self-in-Ok
 invariant_of-self-in-Ok g c =
-    let list = c.group_at.ensures.list in
-    let passed = c.group_at.ensures.passes in
-    let told = rw (list, passed) at (c.in-None.ensures.none c.self.inside.truncated) in
-    let left = rw (list, passed) at c.in-None.ensures.left in
-    let now = c.next_action.ensures.list ∙ list in
     let all = c.in-Ok.ensures.all in
-    let more = unknown_left c.in-Some.group c.self.inside.truncated c.self.inside.control
-    (g.L.Look.tokens c.self.inside.look) (g.L.Look.tokens c.next_action.new.look)
-    (g.L.Look.tokens c.rest_action.new.look)
-    (g.L.Look.passed c.next_action.new.look) (g.L.Look.passed c.rest_action.new.look) c.in-Ok.action _ now c.rest_action.ensures.list told c.in-Ok.ensures.ok all in
-    sound_ok c.self.inside.stage _ _ c.in-Some.group (action_of c.in-Ok.action) refl c.self.invariant (record { list = c.rest_action.ensures.list ∙ now; flag = refl; final = refl })
-    c.in-Some.ensures.group more c.rest_action.ensures.within
-    (omega (
-      arith,
-      left,
-      c.group_at.ensures.costs,
-      c.rest_action.ensures.costs,
-      all,
-      ap length c.rest_action.ensures.list,
-      ap length now,
-    )) c.charge-in-Ok.ensures
-    (λ w. absurd (omega (arith, w, all)))
+    sound_ok c.self.inside.stage c.in-Some.group _ _ _ refl c.self.invariant (rest g c) (λ w. absurd (omega (arith, w, all)))
 
 pub returns-in-Ok-clause-steps : goal.returns-in-Ok-clause-steps
-returns-in-Ok-clause-steps g c =
-    let list = c.group_at.ensures.list in
-    let passed = c.group_at.ensures.passes in
-    let told = rw (list, passed) at (c.in-None.ensures.none c.self.inside.truncated) in
-    let left = rw (list, passed) at c.in-None.ensures.left in
-    let now = c.next_action.ensures.list ∙ list in
-    let all = c.in-Ok.ensures.all in
-    let more = unknown_left c.in-Some.group c.self.inside.truncated c.self.inside.control
-    (g.L.Look.tokens c.self.inside.look) (g.L.Look.tokens c.next_action.new.look)
-    (g.L.Look.tokens c.rest_action.new.look)
-    (g.L.Look.passed c.next_action.new.look) (g.L.Look.passed c.rest_action.new.look) c.in-Ok.action _ now c.rest_action.ensures.list told c.in-Ok.ensures.ok all in
-    rw (sym c.self.view_is)
-    (next_ok c.self.inside.stage _ _ c.in-Some.group c.in-Ok.action refl c.self.invariant (record { list = c.rest_action.ensures.list ∙ now; flag = refl; final = refl })
-    more c.rest_action.ensures.within (omega (arith, left, c.group_at.ensures.costs, c.rest_action.ensures.costs, all, ap length c.rest_action.ensures.list, ap length now)) c.charge-in-Ok.ensures refl
-    (omega (arith, c.next_action.ensures.counted, c.group_at.ensures.costs, c.rest_action.ensures.counted)))
+returns-in-Ok-clause-steps g c = rw (sym c.self.view_is) (next_ok c.self.inside.stage c.in-Some.group _ _ c.in-Ok.action refl c.self.invariant (rest g c))
 
 pub returns-in-Ok-clause-goes : goal.returns-in-Ok-clause-goes
 returns-in-Ok-clause-goes g c =
-    let after : Progress = record {
-      list = g.L.Look.tokens c.rest_action.new.look;
-      flag = c.self.inside.truncated;
-      final = c.self.inside.control;
-      given = c.charge-in-Ok.new.self.total;
-      failed = false;
-      passed = g.L.Look.passed c.rest_action.new.look;
-      looks = g.L.Look.looks c.rest_action.new.look;
-    } in
-    let same = c.rest_action.ensures.list ∙ c.next_action.ensures.list ∙ c.group_at.ensures.list in
     let all = c.in-Ok.ensures.all in
-    let less = goes_ok c.self.inside.stage _ after refl c.self.invariant (record { list = same; flag = refl; final = refl }) c.in-Some.ensures.some refl c.charge-in-Ok.ensures
-    (λ w. omega (arith, w, all, ap length same)) c.rest_action.ensures.within in
+    let step = rest g c in
+    let less = goes_ok c.self.inside.stage c.in-Some.group _ _ _ refl c.self.invariant step c.in-Some.ensures.some (λ w. omega (arith, w, all, ap length step.same.list)) in
     rw (sym c.self.view_is) (record { on = λ f. (search rules, search rules, less); keeps = search rules; rests = λ f. tt })
 
 pub returns-in-Err-clause-steps : goal.returns-in-Err-clause-steps
@@ -120,14 +98,8 @@ returns-in-Err-clause-steps g c =
 
 pub returns-in-Err-clause-goes : goal.returns-in-Err-clause-goes
 returns-in-Err-clause-goes g c =
-    let after : Progress = record {
-      list = g.L.Look.tokens c.rest_action.new.look;
-      flag = c.self.inside.truncated;
-      final = c.self.inside.control;
-      given = c.self.inside.given.total;
-      failed = true;
-      passed = g.L.Look.passed c.rest_action.new.look;
-      looks = g.L.Look.looks c.rest_action.new.look;
-    } in
-    let less = goes_err c.self.inside.stage _ after refl c.self.invariant c.in-Some.ensures.some refl in
+    let run = c.self.inside in
+    let new = c.rest_action.new.look in
+    let after = progress (g.L.Look.tokens new) run.truncated run.control run.given.total true (g.L.Look.passed new) (g.L.Look.looks new) in
+    let less = goes_err run.stage _ after refl c.self.invariant c.in-Some.ensures.some refl in
     rw (sym c.self.view_is) (record { on = λ f. (search rules, search rules, less); keeps = search rules; rests = λ f. tt })

@@ -95,20 +95,16 @@ pub record Fits (n k : ℕ) : Type 0 where
   pub some : 0 < k
   pub within : k ≤ n
 
-mode_fits : {M : Type 0} (make : M → Action) (at : ℤ → Option M) (rest : List CsiParam) (k : ℕ) (a : Action) → IsModeAt make at rest k a → Fits (length rest) k
-mode_fits make at rest k a f =
-    let long : length rest ≡ suc (length f.2.0) = ap length f.2.1 in
-    let one : k ≡ 1 = f.3 in
+piece_fits : (g : Group) (rest : List CsiParam) (k : ℕ) (a : Action) → Piece g rest k a → Fits (length rest) k
+piece_fits Whole rest k a p = absurd p
+piece_fits Styles rest k a p = let w = piece_within rest k p.0 p.1 in record { some = w.0; within = w.1 }
+piece_fits _ rest k a p =
+    let long : length rest ≡ suc (length p.2.0) = ap length p.2.1 in
+    let one : k ≡ 1 = p.3 in
     record { some = omega arith; within = omega arith }
 
 pub front_fits : (g : Group) (rest : List CsiParam) (a : Action) (k : ℕ) → front g rest ≡ Some (a, k) → Fits (length rest) k
-front_fits Styles rest a k e =
-    let s = styled_some (piece rest) a k e in
-    let w = piece_within rest k s.0 (is_piece rest k s.0 s.1) in
-    record { some = w.0; within = w.1 }
-front_fits Whole rest a k e = cc
-front_fits (Modes s) rest a k e = mode_fits (λ m. Mode (switched s m)) (read Terminal) rest k a (front_mode _ (read Terminal) terminal-above rest k a e)
-front_fits (DecModes c) rest a k e = mode_fits (λ m. Mode (changed c m)) (read Dec) rest k a (front_mode _ (read Dec) dec-above rest k a e)
+front_fits g rest a k e = piece_fits g rest k a (front_piece g rest k a e)
 
 pub front_empty : (g : Group) → front g [] ≡ None
 front_empty g = is_none (front g []) (λ p e. let f = front_fits g [] p.0 p.1 e in omega (arith, f.some, f.within))

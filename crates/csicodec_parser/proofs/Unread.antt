@@ -46,5 +46,4 @@ uncut-told g list (Some p) false plain e some = (λ t. cc, λ uncut. absurd (go 
 pub unknown-told : (g : Group) (list : List CsiParam) (final : ℕ) (b : Bool) → (g ≡ groups.Whole → ⊥) → (g ≡ groups.Styles → ⊥) → IsTrue b ↔ IsUncut g list → IsTrue b ↔ IsUnknownIn g list final
 unknown-told groups.Whole list final b whole styles h = absurd (whole refl)
 unknown-told groups.Styles list final b whole styles h = absurd (styles refl)
-unknown-told (groups.Modes s) list final b whole styles h = h
-unknown-told (groups.DecModes c) list final b whole styles h = h
+unknown-told _ list final b whole styles h = h

@@ -85,9 +85,7 @@ segments g unknown (t ∷ ts) zero =
 abbrev pub rest_action : Group → List CsiParam → Bool → ℕ → Action
 rest_action Whole rest flag final =
     unwrap_or (boxed rest final) (Unspecified (marked Whole rest) flag final)
-rest_action Styles rest flag final = Unspecified (marked Styles rest) flag final
-rest_action (Modes s) rest flag final = Unspecified (marked (Modes s) rest) flag final
-rest_action (DecModes c) rest flag final = Unspecified (marked (DecModes c) rest) flag final
+rest_action g rest flag final = Unspecified (marked g rest) flag final
 
 -- the action in a box, if memory wasn't refused
 abbrev pub held : Boxed → Option Action
@@ -110,9 +108,7 @@ cut_actions g list flag final = if has_odd g list then Unspecified list flag fin
 
 abbrev pub actions_in : Group → List CsiParam → Bool → ℕ → List Action
 actions_in Whole list flag final = unwrap_or (whole list final) (Unspecified list flag final) ∷ []
-actions_in Styles list flag final = cut_actions Styles list flag final
-actions_in (Modes s) list flag final = cut_actions (Modes s) list flag final
-actions_in (DecModes c) list flag final = cut_actions (DecModes c) list flag final
+actions_in g list flag final = cut_actions g list flag final
 
 -- all actions of a list before a final character
 abbrev pub actions : List CsiParam → Bool → ℕ → List Action
@@ -134,8 +130,7 @@ left_at Failed flag final list passed = []
 -- the first call looks at the first token for the group, and may look at each token once for odd bytes
 abbrev pub fresh_cost : Stage → ℕ
 fresh_cost Fresh = 1
-fresh_cost (Going g) = 0
-fresh_cost Failed = 0
+fresh_cost _ = 0
 
 -- the group that a run goes by
 abbrev pub GoesBy : Stage → List CsiParam → ℕ → Group → Type 0
@@ -146,8 +141,7 @@ GoesBy Failed list final g = ⊥
 -- where the next block begins
 abbrev pub from_at : Stage → Group → ℕ → ℕ
 from_at Fresh g passed = start g
-from_at (Going h) g passed = passed
-from_at Failed g passed = passed
+from_at _ g passed = passed
 
 -- nothing was read, or there are tokens left
 abbrev pub CanGo : Stage → ℕ → ℕ → Type 0
@@ -156,9 +150,8 @@ CanGo (Going g) passed len = passed < len
 CanGo Failed passed len = ⊥
 
 abbrev pub has_failed : Stage → Bool
-has_failed Fresh = false
-has_failed (Going g) = false
 has_failed Failed = true
+has_failed _ = false
 
 -- the next block stands from here to there
 abbrev pub CutsOn : Group → List CsiParam → ℕ → ℕ → Type 0

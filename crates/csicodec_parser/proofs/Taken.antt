@@ -1,10 +1,9 @@
 -- Actions that go into a sink, over plain variables.
-use Rattle.std.specs.Prelude.{Result, Ok, Err, OnOk, IfOk, slice_get}
+use Rattle.std.specs.Prelude.{Result, Ok, Err, OnOk, pos, slice_get}
 use Rattle.std.proofs.Common.{◌≡◌, ℕ, ◌<◌, Bool, true, false, List, [], ◌∷◌, ◌++◌, length, drop, None, Some, refl, sym, ap, ◌∙◌, arith, append_assoc, append-nil, subst}
 use Rattle.std.proofs.lemmas.Option.{same_Some}
 use Rattle.csicodec_tokens.specs.declared.param.CsiParam.{CsiParam}
 use Rattle.csicodec_tokens.specs.declared.param.CsiParam.TheVariants.{Integer}
-use Rattle.std.specs.Prelude.{pos}
 use Rattle.std.specs.Fmt.{decimal}
 use Rattle.csicodec_actions.specs.declared.mode.Change.{Change}
 use Rattle.csicodec_actions.specs.declared.mode.Change.TheVariants as change
@@ -31,10 +30,6 @@ use Rattle.csicodec_parser.proofs.Rests.{rest_unknown}
 pub on_ok : {T E P Q : Type 0} (r : Result T E) → (P → Q) → OnOk r P → OnOk r Q
 on_ok (Ok x) f p = f p
 on_ok (Err e) f p = tt
-
-pub if_ok : {T E : Type 0} {P Q : T → Type 0} (r : Result T E) → ((x : T) → P x → Q x) → IfOk r P → IfOk r Q
-if_ok (Ok x) f p = f x p
-if_ok (Err e) f p = tt
 
 -- what has gone in, and then the others, are all
 pub taken_all : (before told xs all : List Action) → told ++ xs ≡ all → (before ++ told) ++ xs ≡ before ++ all

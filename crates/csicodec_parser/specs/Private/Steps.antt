@@ -29,9 +29,8 @@ styled (Some p) = Some (Sgr p.0, p.1)
 
 -- the number at the front
 abbrev pub number_at : List CsiParam → Option ℤ
-number_at [] = None
 number_at (Integer z ∷ ts) = Some z
-number_at (P b ∷ ts) = None
+number_at _ = None
 
 -- one token, of this action
 abbrev pub one_token : {M : Type 0} → (M → Action) → Option M → Option (Action × ℕ)

@@ -1,12 +1,13 @@
 use Rattle.std.proofs.Common.{◌∷◌, drop, sym, ◌∙◌}
 use Rattle.csicodec_parser.proofs.Fronts.{piece_front}
-use Rattle.csicodec_parser.proofs.Taken.{if_ok, front_first}
+use Rattle.std.proofs.lemmas.Result.{IfOk-weaker}
+use Rattle.csicodec_parser.proofs.Taken.{front_first}
 use Rattle.csicodec_parser.proofs.list.first_into.Goals as goal
 
 pub returns-in-Some-clause-some : goal.returns-in-Some-clause-some
 returns-in-Some-clause-some g c =
     let rest = drop (g.L.Look.passed c.args.look.now) (g.L.Look.tokens c.args.look.now) in
-    if_ok c.take_first.result
+    IfOk-weaker c.take_first.result _ _
     (λ known taken yes.
     let (action, pieces, put) = taken yes in (
       action,

@@ -1,7 +1,7 @@
 use Rattle.std.proofs.Common.{arith, ◌∙◌}
 use Rattle.std.proofs.lemmas.Option.{IfSome_then}
 use Rattle.csicodec_parser.proofs.Fronts.{lent_piece, piece_front, stuck_front}
-use Rattle.csicodec_parser.proofs.Taken.{if_ok}
+use Rattle.std.proofs.lemmas.Result.{IfOk-weaker}
 use Rattle.csicodec_parser.proofs.list.piece_into.Goals as goal
 
 pub returns-clause-none : goal.returns-clause-none
@@ -10,7 +10,7 @@ returns-clause-none g c =
     let same = lent_piece c.args.group tokens _ c.lend.result.now (g.L.Look.passed c.args.look.now)
     _ c.len.result c.min-width.result c.first_into.ensures.list c.first_into.ensures.passes
     c.len.ensures (omega arith) c.lend.ensures.lent in
-    if_ok c.take_piece.result (λ len told none. let (stuck, stays) =
+    IfOk-weaker c.take_piece.result _ _ (λ len told none. let (stuck, stays) =
     told none in (
       same ∙ stuck_front c.args.group c.lend.result.now stuck,
       stays
@@ -24,6 +24,6 @@ returns-clause-some g c =
     _ c.len.result c.min-width.result c.first_into.ensures.list c.first_into.ensures.passes
     c.len.ensures (omega arith) c.lend.ensures.lent in
     let stays = c.in_ok-first_into.ensures.none c.if-branch.false in
-    if_ok c.take_piece.result
+    IfOk-weaker c.take_piece.result _ _
     (λ o told. IfSome_then o told (λ len piece. let (action, at, put) = piece in (action, same ∙ piece_front c.args.group c.lend.result.now len action at, λ before held. put before (rw stays held))))
     c.take_piece.ensures.some

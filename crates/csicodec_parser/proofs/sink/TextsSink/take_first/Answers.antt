@@ -7,13 +7,14 @@ use Rattle.csicodec_actions.specs.Actions.{Sgr}
 use Rattle.csicodec_actions.specs.Table.{text}
 use Rattle.csicodec_parser.proofs.Fronts.{front_piece, piece_of_front}
 use Rattle.csicodec_parser.specs.Private.Steps.{styled}
-use Rattle.csicodec_parser.proofs.Taken.{if_ok, texts_last, terminal_first, dec_first, first_taken}
+use Rattle.std.proofs.lemmas.Result.{IfOk-weaker}
+use Rattle.csicodec_parser.proofs.Taken.{texts_last, terminal_first, dec_first, first_taken}
 use Rattle.csicodec_parser.proofs.sink.TextsSink.take_first.Goals as goal
 
 pub returns-in-Styles-Integer-clause-some : goal.returns-in-Styles-Integer-clause-some
 returns-in-Styles-Integer-clause-some c =
     let fits : SFits w64 c.in-Styles-Integer.number = search rules in
-    if_ok c.append_code.result
+    IfOk-weaker c.append_code.result _ _
     (λ known h yes.
     let (s, fronts, appended) = rw (to_z-of_z w64 c.in-Styles-Integer.number fits) at h yes in (
       Sgr s,
@@ -27,7 +28,7 @@ returns-in-Styles-Integer-clause-some c =
 pub returns-in-Modes-Integer-clause-some : goal.returns-in-Modes-Integer-clause-some
 returns-in-Modes-Integer-clause-some c =
     let fits : SFits w64 c.in-Modes-Integer.number = search rules in
-    if_ok c.append_mode.result
+    IfOk-weaker c.append_mode.result _ _
     (λ known h yes.
     let (n, is, small, appended) = h yes in
     let first = terminal_first c.in-Modes-Integer.switch n c.final_byte.result small c.final_byte.ensures.is in
@@ -38,7 +39,7 @@ returns-in-Modes-Integer-clause-some c =
 pub returns-in-DecModes-Integer-clause-some : goal.returns-in-DecModes-Integer-clause-some
 returns-in-DecModes-Integer-clause-some c =
     let fits : SFits w64 c.in-DecModes-Integer.number = search rules in
-    if_ok c.append_mode-in-DecModes-Integer.result
+    IfOk-weaker c.append_mode-in-DecModes-Integer.result _ _
     (λ known h yes.
     let (n, is, small, appended) = h yes in
     let first = dec_first c.in-DecModes-Integer.change n c.final_byte-in-DecModes-Integer.result small c.final_byte-in-DecModes-Integer.ensures.is in

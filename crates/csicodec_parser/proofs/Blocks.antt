@@ -10,20 +10,33 @@ use Rattle.csicodec_actions.specs.declared.mode.Change.{Change}
 use Rattle.csicodec_parser.specs.declared.group.Group.{Group}
 use Rattle.csicodec_parser.specs.declared.group.Group.TheVariants.{Whole, Styles, DecModes}
 use Rattle.csicodec_parser.specs.declared.actions.CSI.{CSI}
-use Rattle.csicodec_actions.specs.Actions.{Action, Unspecified}
+use Rattle.csicodec_actions.specs.Actions.{Action, Unspecified, TakesMemory}
 use Rattle.csicodec_parser.specs.ActionOf.{action_of}
 use Rattle.csicodec_parser.specs.declared.parser.Stage.{Stage}
 use Rattle.csicodec_parser.specs.declared.parser.Stage.TheVariants.{Fresh, Going, Failed}
 use Rattle.csicodec_parser.specs.Groups.{group, marked, start, has_odd}
 use Rattle.csicodec_parser.specs.Cut.{body}
 use Rattle.csicodec_parser.specs.Segments.{empty_action}
-use Rattle.csicodec_actions.specs.Table.{unboxed, whole}
+use Rattle.csicodec_actions.specs.Table.{boxed, unboxed, whole}
 use Rattle.csicodec_parser.specs.Private.Steps.{front, block, block_of, is_semicolon, with_semicolon, segments, segments_at, rest_action}
 use Rattle.csicodec_parser.specs.Private.Steps.{actions_after, body_actions, actions_in, left_at, from_at, GoesBy, CanGo, CutsOn}
 use Rattle.csicodec_parser.proofs.Fronts.{front_empty, front_fits}
 use Rattle.csicodec_parser.proofs.GroupOf.{marked-body}
-use Rattle.csicodec_actions.proofs.Boxed.{unboxed_whole, boxed_whole}
-use Rattle.csicodec_parser.proofs.Rests.{rest_unknown}
+use Rattle.csicodec_actions.proofs.Boxed.{unboxed_whole, boxed_whole, boxed-takes}
+
+-- the action of a rest takes memory
+pub rest_takes : (g : Group) (rest : List CsiParam) (flag : Bool) (final : ℕ) → TakesMemory (rest_action g rest flag final)
+rest_takes Whole rest flag final = go (boxed rest final) refl
+  where
+    go : (o : Option Action) → boxed rest final ≡ o → TakesMemory (unwrap_or o (Unspecified rest flag final))
+    go None e = refl
+    go (Some a) e = boxed-takes rest final a e
+rest_takes _ rest flag final = refl
+
+-- the rest of a list that is cut is unknown
+pub rest_unknown : (g : Group) (rest : List CsiParam) (flag : Bool) (final : ℕ) → (g ≡ Whole → ⊥) → rest_action g rest flag final ≡ Unspecified (marked g rest) flag final
+rest_unknown Whole rest flag final cut = absurd (cut refl)
+rest_unknown _ rest flag final cut = refl
 
 semicolon_at : (rest : List CsiParam) (len : ℕ) (o : Option CsiParam) → slice_get rest len ≡ o → len ≤ length rest → with_semicolon len o ≤ length rest
 semicolon_at rest len None e h = h

@@ -17,8 +17,7 @@ use Rattle.csicodec_parser.specs.Segments.{remainder, Segmented, BodyActions, Cu
 use Rattle.csicodec_actions.specs.Table.{whole}
 use Rattle.csicodec_parser.specs.Private.Steps.{front, block, block_of, with_semicolon, segments, segments_at, rest_action, actions_after, body_actions, cut_actions, actions_in, actions, CutsOn}
 use Rattle.csicodec_parser.proofs.Fronts.{is_none, piece_front, front_piece, stuck_front, front_stuck, front_fits}
-use Rattle.csicodec_parser.proofs.Blocks.{segments_block, segments_unknown, semicolon_from, after_some}
-use Rattle.csicodec_parser.proofs.Rests.{rest_unknown}
+use Rattle.csicodec_parser.proofs.Blocks.{segments_block, segments_unknown, semicolon_from, after_some, rest_unknown}
 
 -- ---- a block by the relation, and by the function
 

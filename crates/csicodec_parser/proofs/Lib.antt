@@ -1,10 +1,8 @@
-pub mod Rests
 pub mod GroupOf
 pub mod Fronts
 pub mod Blocks
 pub mod Cuts
 pub mod NextLemmas
 pub mod Taken
-pub mod Odd
 pub mod Unread
 pub mod Attributes

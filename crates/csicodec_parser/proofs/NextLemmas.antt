@@ -18,9 +18,8 @@ use Rattle.csicodec_parser.specs.Cut.{IsRestAfter}
 use Rattle.csicodec_parser.specs.Progress.{Progress, ActionsOf, HasEnded, most_left}
 use Rattle.csicodec_parser.specs.Next.{Answers, AnswersRef, IsRef, Nexts, NextsRef}
 use Rattle.csicodec_parser.specs.Private.Steps.{rest_action, actions_after, left_at, fresh_cost, from_at, GoesBy, CanGo, CutsOn, all_of, has_failed, Sound}
-use Rattle.csicodec_parser.proofs.Blocks.{after_some}
+use Rattle.csicodec_parser.proofs.Blocks.{after_some, rest_takes}
 use Rattle.csicodec_parser.proofs.Cuts.{at_drop, actions_are, actions_only, actions_count, first_rest, more_rest}
-use Rattle.csicodec_parser.proofs.Rests.{rest_takes}
 
 drop_one : {A : Type 0} (xs : List A) (i : ℕ) (a : A) (bs : List A) → drop i xs ≡ a ∷ bs → drop (i + 1) xs ≡ bs
 drop_one xs i a bs e = sym (drop-drop 1 i xs) ∙ ap (drop 1) e

@@ -22,10 +22,9 @@ use Rattle.csicodec_parser.specs.Cut.{body}
 use Rattle.csicodec_parser.specs.Segments.{Actions}
 use Rattle.csicodec_parser.specs.Private.Steps.{one_token, front, block_of, with_semicolon, rest_action, actions, actions_in, actions_after, body_actions}
 use Rattle.csicodec_actions.specs.Table.{text, texts, unboxed}
-use Rattle.csicodec_parser.proofs.Blocks.{semicolon_from, segments_block, after_unknown, first_cut, odd_unknown, body_some}
+use Rattle.csicodec_parser.proofs.Blocks.{semicolon_from, segments_block, after_unknown, first_cut, odd_unknown, body_some, rest_unknown}
 use Rattle.csicodec_actions.proofs.Boxed.{boxed_whole}
 use Rattle.csicodec_parser.proofs.Cuts.{actions_are}
-use Rattle.csicodec_parser.proofs.Rests.{rest_unknown}
 
 pub on_ok : {T E P Q : Type 0} (r : Result T E) → (P → Q) → OnOk r P → OnOk r Q
 on_ok (Ok x) f p = f p

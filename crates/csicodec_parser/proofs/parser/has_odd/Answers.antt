@@ -1,7 +1,22 @@
-use Rattle.std.proofs.Common.{arith, sym, ◌∙◌}
+use Rattle.std.proofs.Common.{List, Option, ap, arith, drop, length, sym, ℕ, ◌+◌, ◌<◌, ◌||◌, ◌∙◌, ◌≡◌}
+use Rattle.std.specs.Prelude.{slice_get}
+use Rattle.std.proofs.lemmas.List.{drop_more}
+use Rattle.std.proofs.lemmas.Option.{slice_get-get_or}
+use Rattle.csicodec_tokens.specs.declared.param.CsiParam.{CsiParam}
+use Rattle.csicodec_tokens.specs.declared.param.CsiParam.TheVariants.{P}
+use Rattle.csicodec_parser.specs.declared.group.Group.{Group}
+use Rattle.csicodec_parser.specs.Groups.{has_odd}
+use Rattle.csicodec_parser.specs.Private.Steps.{is_odd_at}
 use Rattle.csicodec_parser.proofs.Blocks.{private_plain}
-use Rattle.csicodec_parser.proofs.Odd.{odd_step}
 use Rattle.csicodec_parser.proofs.parser.has_odd.Goals as goal
+
+-- what is left of a list has an odd byte where its first token is one or the rest has one, in a list of which none is passed
+odd_step : (g : Group) (xs ts : List CsiParam) (p i : ℕ) (o : Option CsiParam) → p ≡ 0 → ts ≡ xs → o ≡ slice_get (drop p ts) i → i < length xs
+    → has_odd g (drop i xs) ≡ is_odd_at g o || has_odd g (drop (i + 1) xs)
+odd_step g xs ts p i o s e t h =
+    let first : has_odd g (drop i xs) ≡ is_odd_at g (slice_get xs i) || has_odd g (drop (i + 1) xs) =
+    ap (has_odd g) (drop_more xs i (P 0) h) ∙ ap (λ o. is_odd_at g o || has_odd g (drop (i + 1) xs)) (sym (slice_get-get_or xs i (P 0) h)) in
+    rw (t, e, s) first
 
 pub returns-in-DecModes-clause-odd : goal.returns-in-DecModes-clause-odd
 returns-in-DecModes-clause-odd g c = rw c.in-DecModes.is (sym (private_plain c.in-DecModes.field-0 (g.L.Look.tokens c.args.look.now)))

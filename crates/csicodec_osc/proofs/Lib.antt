@@ -1,5 +1,3 @@
-pub mod Cuts
-pub mod Bodies
 pub mod Reading
 pub mod Places
 pub mod Table

@@ -1,37 +1,96 @@
 -- What a command reads of a content is written as it, and what is written of it is read; and which commands read nothing of
 -- what others are written as.
-use Rattle.std.proofs.Common.{◌≡◌, ℕ, List, [], ◌∷◌, ◌++◌, Option, None, Some, refl, sym, ap, ◌∙◌, inl, inr, append_assoc}
-use Rattle.std.specs.Prelude.{◌==◌, ◌&&◌, ◌||◌, Bool, true, false, not, option_and_then}
-use Rattle.std.proofs.lemmas.Bool.{cases_Bool, eq-eqb, eqb-true, not-true}
-use Rattle.std.proofs.lemmas.List.{append_cancel_left}
-use Rattle.std.proofs.lemmas.Option.{option_and_then_some, same_Some}
+use Rattle.std.proofs.Common.{◌≡◌, ℕ, zero, suc, ◌+◌, ◌-◌, List, [], ◌∷◌, ◌++◌, Option, None, Some, refl, inl, inr, length, take, drop, arith}
+use Rattle.std.specs.Prelude.{◌==◌, ◌&&◌, ◌||◌, Bool, true, false, not, position}
+use Rattle.std.specs.Cmp.Lexicographic.{pointwise}
+use Rattle.std.proofs.lemmas.Bool.{cases_Bool}
+use Rattle.std.proofs.lemmas.Bool.Decides.{nat_tests}
+use Rattle.std.proofs.lemmas.List.{take_rest}
+use Rattle.std.proofs.lemmas.Option.{option_and_then_some}
+use Rattle.std.proofs.lemmas.Slice.Eq.{bytes_eq-Decides}
 use Rattle.csicodec_osc.specs.declared.command.Command.{Command}
 use Rattle.csicodec_osc.specs.Commands.{form, number}
-use Rattle.csicodec_osc.specs.Forms.{Form, Message}
-use Rattle.csicodec_osc.specs.Osc.{Body, Tail, first_is, fits, is_message, tail_of, tail_text}
-use Rattle.csicodec_osc.specs.Private.Reading.{behind, read_body, read_by}
-use Rattle.csicodec_osc.proofs.Bodies.{body-is, body-of}
+use Rattle.csicodec_osc.specs.Forms.{Form, OneText, Message, Several, TwoTexts, TextAsked}
+use Rattle.csicodec_osc.specs.Osc.{Ask, Body, Both, Tail, asked, asked_text, fits, is_asked, is_field, is_message, tail_of, tail_text}
+use Rattle.csicodec_osc.specs.Private.Reading.{behind, halves, read_body, read_by}
+
+-- ---- the first `;`
+
+pub halves-of : (a b : List ℕ) → is_field a ≡ true → halves (a ++ 59 ∷ b) ≡ Some (a, b)
+halves-of [] b h = refl
+halves-of (x ∷ a) b h = grind (arith, nat_tests, halves-of a b)
+
+pub halves-is : (text : List ℕ) (cut : List ℕ × List ℕ) → halves text ≡ Some cut → (is_field cut.0 ≡ true) × (text ≡ cut.0 ++ 59 ∷ cut.1)
+halves-is [] cut e = cc
+halves-is (x ∷ text) cut e = grind (arith, nat_tests, halves-is text)
+
+abbrev pub is_semicolon : ℕ → Bool
+is_semicolon b = b == 59
+
+pub none_cut : (text : List ℕ) → None ≡ position is_semicolon text → (halves text ≡ None) × (is_field text ≡ true)
+none_cut [] e = (refl, refl)
+none_cut (b ∷ text) e = grind (arith, nat_tests, none_cut text)
+
+reads-at : (text : List ℕ) (place : ℕ) → Some place ≡ position is_semicolon text → halves text ≡ Some (take place text, drop (place + 1) text)
+reads-at [] place e = cc
+reads-at (b ∷ text) zero e = grind (arith, nat_tests)
+reads-at (b ∷ text) (suc m) e = grind (arith, nat_tests, reads-at text m)
+
+-- the same, as `&text[place + 1..]` has it
+pub cut_at : (text : List ℕ) (place : ℕ) → Some place ≡ position is_semicolon text
+    → (text ≡ take place text ++ 59 ∷ take (length text - (place + 1)) (drop (place + 1) text)) × (is_field (take place text) ≡ true)
+    × (halves text ≡ Some (take place text, take (length text - (place + 1)) (drop (place + 1) text)))
+cut_at text place e = let (field, whole) = halves-is text _ (reads-at text place e) in rw take_rest (whole, field, reads-at text place e)
+
+-- ---- a number in front
+
+pub no_front : (number content : List ℕ) → pointwise (λ a b. a == b) (take (length number) content) number ≡ false → behind number content ≡ None
+no_front [] content h = cc
+no_front (n ∷ number) [] h = refl
+no_front (n ∷ number) (b ∷ content) h = grind (arith, nat_tests, no_front number content)
+
+pub front : (number content : List ℕ) → pointwise (λ a b. a == b) (take (length number) content) number ≡ true → behind number content ≡ behind [] (drop (length number) content)
+front [] content h = refl
+front (n ∷ number) [] h = cc
+front (n ∷ number) (b ∷ content) h = grind (arith, nat_tests, front number content)
+
+-- ---- bodies
+
+asked-of : (o : Option (List ℕ)) → is_asked o ≡ true → asked (asked_text o) ≡ o
+asked-of None h = refl
+asked-of (Some value) h = grind arith
+
+asked-is : (text : List ℕ) → (asked_text (asked text) ≡ text) × (is_asked (asked text) ≡ true)
+asked-is text = grind (arith, bytes_eq-Decides text (63 ∷ []))
+
+pub body-of : (f : Form) (body : Body) → fits f body ≡ true → read_body f (tail_of body) ≡ Some body
+body-of OneText (Tail (Some text)) h = refl
+body-of Message (Tail (Some text)) h = rw h refl
+body-of Several (Tail o) h = refl
+body-of TwoTexts (Both a b) h = rw (halves-of a b h) refl
+body-of TextAsked (Ask a o) h = grind (arith, halves-of a (asked_text o), asked-of o)
+body-of _ _ h = cc
+
+pub body-is : (f : Form) (o : Option (List ℕ)) (body : Body) → read_body f o ≡ Some body → (tail_of body ≡ o) × (fits f body ≡ true)
+body-is Several o body e = grind arith
+body-is OneText (Some text) body e = grind arith
+body-is Message (Some text) body e = grind arith
+body-is TwoTexts (Some text) body e = grind (arith, halves-is text)
+body-is TextAsked (Some text) body e = grind (arith, halves-is text, asked-is)
+body-is _ _ body e = cc
 
 -- ---- a number, and what stands behind it
 
 behind-of : (number : List ℕ) (o : Option (List ℕ)) → behind number (number ++ tail_text o) ≡ Some o
 behind-of [] None = refl
 behind-of [] (Some text) = refl
-behind-of (n ∷ number) o = rw (eq-eqb n n refl) (behind-of number o)
+behind-of (n ∷ number) o = grind (arith, nat_tests, behind-of number o)
 
 behind-is : (number content : List ℕ) (o : Option (List ℕ)) → behind number content ≡ Some o → number ++ tail_text o ≡ content
-behind-is [] [] o e = sym (ap tail_text (same_Some None o e))
-behind-is [] (b ∷ bytes) o e = elim (cases_Bool (b == 59)) [
-  | inl is ↦
-      let text : Some bytes ≡ o = same_Some (Some bytes) o (rw is at e) in
-      sym (ap tail_text text) ∙ ap (λ x. x ∷ bytes) (sym (eqb-true b 59 is))
-  | inr other ↦ (let none : None ≡ Some o = rw other at e in cc)
-]
+behind-is [] [] o e = grind arith
+behind-is [] (b ∷ bytes) o e = grind (arith, nat_tests)
 behind-is (n ∷ number) [] o e = cc
-behind-is (n ∷ number) (b ∷ bytes) o e = elim (cases_Bool (b == n)) [
-  | inl is ↦ ap (λ x. x ∷ (number ++ tail_text o)) (sym (eqb-true b n is)) ∙ ap (λ l. b ∷ l) (behind-is number bytes o (rw is at e))
-  | inr other ↦ (let none : None ≡ Some o = rw other at e in cc)
-]
+behind-is (n ∷ number) (b ∷ bytes) o e = grind (arith, nat_tests, behind-is number bytes o)
 
 -- ---- a command
 
@@ -42,12 +101,10 @@ pub record Reads (k : Command) (body : Body) (content : List ℕ) : Type 0 where
 pub read-is : (k : Command) (content : List ℕ) (body : Body) → read_by k content ≡ Some body → Reads k body content
 read-is k content body e =
     option_and_then_some (read_body (form k)) (behind (number k) content) body e
-    (λ o begins reads.
-    let b = body-is (form k) o body reads in
-    record { has_form = b.has_form; text = ap (λ x. number k ++ tail_text x) b.tail_is ∙ behind-is (number k) content o begins })
+    (λ o begins reads. (let (tail, fit) = body-is (form k) o body reads in record { has_form = fit; text = rw tail (behind-is (number k) content o begins) }))
 
 pub read-of : (k : Command) (body : Body) → fits (form k) body ≡ true → read_by k (number k ++ tail_text (tail_of body)) ≡ Some body
-read-of k body h = ap (option_and_then (read_body (form k))) (behind-of (number k) (tail_of body)) ∙ body-of (form k) body h
+read-of k body h = rw (behind-of (number k) (tail_of body)) (body-of (form k) body h)
 
 -- ---- two commands
 
@@ -63,10 +120,7 @@ apart [] [] o h = cc
 apart [] (b ∷ other) o h = rw h refl
 apart (n ∷ number) [] None h = refl
 apart (n ∷ number) [] (Some text) h = rw h refl
-apart (n ∷ number) (b ∷ other) o h = elim (cases_Bool (b == n)) [
-  | inl is ↦ rw is (apart number other o (rw is at h))
-  | inr different ↦ rw different refl
-]
+apart (n ∷ number) (b ∷ other) o h = grind (arith, nat_tests, apart number other o)
 
 -- the other's texts leave out what makes the number of its own
 abbrev pub leaves_out : Form → Option (Option (List ℕ)) → Bool
@@ -77,40 +131,28 @@ leaves_out _ _ = false
 abbrev pub passes : Command → Command → Bool
 passes k other = not (could_begin (number k) (number other)) || leaves_out (form other) (behind (number other) (number k))
 
-first-tail : (n : ℕ) (text : List ℕ) (o : Option (List ℕ)) → (59 == n) ≡ false → first_is n (text ++ tail_text o) ≡ first_is n text
-first-tail n [] None h = refl
-first-tail n [] (Some more) h = rw h refl
-first-tail n (b ∷ []) None h = refl
-first-tail n (b ∷ []) (Some more) h = refl
-first-tail n (b ∷ c ∷ text) o h = refl
+no-message : (more text : List ℕ) → not (is_message more) ≡ true → is_message text ≡ true → behind more text ≡ None
+no-message [] text out h = cc
+no-message (n ∷ more) [] out h = refl
+no-message (n ∷ []) (b ∷ []) out h = grind (arith, nat_tests)
+no-message (n ∷ []) (b ∷ c ∷ text) out h = grind (arith, nat_tests)
+no-message (n ∷ c ∷ more) (b ∷ []) out h = grind (arith, nat_tests)
+no-message (n ∷ c ∷ more) (b ∷ d ∷ text) out h = grind (arith, nat_tests)
 
-message-tail : (text : List ℕ) (o : Option (List ℕ)) → is_message (text ++ tail_text o) ≡ is_message text
-message-tail text o = rw (first-tail 52 text o refl, first-tail 57 text o refl) refl
-
-left-out : (number other more text : List ℕ) (o : Option (List ℕ)) → behind other number ≡ Some (Some more) → not (is_message more) ≡ true → is_message text ≡ true
-    → behind number (other ++ 59 ∷ text) ≡ Some o → ⊥
-left-out number other more text o begins out message read =
-    let whole : number ++ tail_text o ≡ other ++ 59 ∷ text = behind-is number (other ++ 59 ∷ text) o read in
-    let longer : other ++ 59 ∷ more ≡ number = behind-is other number (Some more) begins in
-    let joined : other ++ (59 ∷ (more ++ tail_text o)) ≡ other ++ 59 ∷ text = sym (append_assoc other (59 ∷ more) (tail_text o)) ∙ (ap (λ (l : List ℕ). l ++ tail_text o) longer ∙ whole) in
-    let same : 59 ∷ (more ++ tail_text o) ≡ 59 ∷ text = append_cancel_left other (59 ∷ (more ++ tail_text o)) (59 ∷ text) joined in
-    let text_is : more ++ tail_text o ≡ text = cc in
-    let wrong : false ≡ true = sym (not-true (is_message more) out) ∙ (sym (message-tail more o) ∙ (ap is_message text_is ∙ message)) in
-    cc
-
-unread : (k : Command) (content : List ℕ) (o : Option (Option (List ℕ))) → behind (number k) content ≡ o → ((x : Option (List ℕ)) → o ≡ Some x → ⊥) → read_by k content ≡ None
-unread k content None e none = ap (option_and_then (read_body (form k))) e
-unread k content (Some x) e none = absurd (none x refl)
+left-out : (number other more text : List ℕ) → behind other number ≡ Some (Some more) → not (is_message more) ≡ true → is_message text ≡ true → behind number (other ++ 59 ∷ text) ≡ None
+left-out [] [] more text begins out h = cc
+left-out [] (b ∷ other) more text begins out h = cc
+left-out (n ∷ number) [] more text begins out h = grind (arith, nat_tests, no-message number text)
+left-out (n ∷ number) (b ∷ other) more text begins out h = grind (arith, nat_tests, left-out number other more text)
 
 by-form : (f : Form) (k : Command) (other : List ℕ) (body : Body) (b : Option (Option (List ℕ))) → behind other (number k) ≡ b → leaves_out f b ≡ true → fits f body ≡ true
     → read_by k (other ++ tail_text (tail_of body)) ≡ None
-by-form Message k other (Tail (Some text)) (Some (Some more)) begins out h =
-    unread k (other ++ 59 ∷ text) (behind (number k) (other ++ 59 ∷ text)) refl (λ x read. left-out (number k) other more text x begins out h read)
+by-form Message k other (Tail (Some text)) (Some (Some more)) begins out h = rw (left-out (number k) other more text begins out h) refl
 by-form Message k other body (Some (Some more)) begins out h = cc
 by-form _ k other body b begins out h = cc
 
 pub passed : (k other : Command) (body : Body) → passes k other ≡ true → fits (form other) body ≡ true → read_by k (number other ++ tail_text (tail_of body)) ≡ None
 passed k other body h fit = elim (cases_Bool (could_begin (number k) (number other))) [
   | inl could ↦ by-form (form other) k (number other) body (behind (number other) (number k)) refl (rw could at h) fit
-  | inr never ↦ ap (option_and_then (read_body (form k))) (apart (number k) (number other) (tail_of body) never)
+  | inr never ↦ rw (apart (number k) (number other) (tail_of body) never) refl
 ]

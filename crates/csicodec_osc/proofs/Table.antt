@@ -30,23 +30,16 @@ in-order = refl
 
 passed-at : (k : Command) (commands : List Command) (i : ℕ) (other : Command) (body : Body) → passes_all k commands ≡ true → slice_get commands i ≡ Some other → fits (form other) body ≡ true
     → read_by k (number other ++ tail_text (tail_of body)) ≡ None
-passed-at k [] zero other body h at fit = cc
-passed-at k [] (suc i) other body h at fit = cc
-passed-at k (c ∷ commands) zero other body h at fit =
-    passed k other body (subst (λ x. passes k x ≡ true) (same_Some c other at) (and_parts (passes k c) (passes_all k commands) h).0) fit
+passed-at k (c ∷ commands) zero other body h at fit = passed k other body (rw (same_Some c other at) at (and_parts (passes k c) (passes_all k commands) h).0) fit
 passed-at k (c ∷ commands) (suc i) other body h at fit = passed-at k commands i other body (and_parts (passes k c) (passes_all k commands) h).1 at fit
+passed-at k _ _ other body h at fit = cc
 
 decides : (commands : List Command) (i : ℕ) (k : Command) (body : Body) → all_pass commands ≡ true → slice_get commands i ≡ Some k → fits (form k) body ≡ true
     → first_read commands (number k ++ tail_text (tail_of body)) ≡ Some (Known k body)
-decides [] zero k body h at fit = cc
-decides [] (suc i) k body h at fit = cc
-decides (c ∷ commands) zero k body h at fit =
-    subst (λ x. first_read (x ∷ commands) (number k ++ tail_text (tail_of body)) ≡ Some (Known k body)) (sym (same_Some c k at))
-    (ap (λ o. option_or (option_map (Known k) o) (first_read commands (number k ++ tail_text (tail_of body)))) (read-of k body fit))
+decides (c ∷ commands) zero k body h at fit = rw (same_Some c k at, read-of k body fit) refl
 decides (c ∷ commands) (suc i) k body h at fit =
-    let p = and_parts (passes_all c commands) (all_pass commands) h in
-    ap (λ o. option_or (option_map (Known c) o) (first_read commands (number k ++ tail_text (tail_of body)))) (passed-at c commands i k body p.0 at fit)
-    ∙ decides commands i k body p.1 at fit
+    let p = and_parts (passes_all c commands) (all_pass commands) h in rw (passed-at c commands i k body p.0 at fit) (decides commands i k body p.1 at fit)
+decides _ _ k body h at fit = cc
 
 pub reads-back : (k : Command) (body : Body) → fits (form k) body ≡ true → first_read COMMANDS (number k ++ tail_text (tail_of body)) ≡ Some (Known k body)
 reads-back k body fit = decides COMMANDS (place_in COMMANDS (number k)) k body in-order (lies-at k) fit
@@ -65,21 +58,17 @@ says k content s e = go (read_by k content) refl e
 pub none-says : (content : List ℕ) → first_read COMMANDS content ≡ None → Says content (Unknown content)
 none-says content none = record {
   written_as = refl;
-  writable = λ k body fit text.
-      let read : first_read COMMANDS content ≡ Some (Known k body) = subst (λ c. first_read COMMANDS c ≡ Some (Known k body)) text (reads-back k body fit) in
-      let wrong : None ≡ Some (Known k body) = sym none ∙ read in
-      cc;
+  writable = λ k body fit text. (let read = reads-back k body fit in let wrong : None ≡ Some (Known k body) = sym none ∙ rw text at read in cc);
 }
 
 -- the loop's step: the command at a place doesn't read the content
 pub next-read : (commands : List Command) (i : ℕ) (d : Command) (content : List ℕ) → i < length commands → None ≡ option_map (Known (get_or commands i d)) (read_by (get_or commands i d) content)
     → first_read (drop i commands) content ≡ first_read (drop (i + 1) commands) content
-next-read commands i d content low none =
-    ap (λ (l : List Command). first_read l content) (drop_more commands i d low) ∙ ap (λ o. option_or o (first_read (drop (i + 1) commands) content)) (sym none)
+next-read commands i d content low none = rw (drop_more commands i d low, ← none) refl
 
 -- and its end
 pub none-left : (i : ℕ) (content : List ℕ) → length COMMANDS ≤ i → first_read (drop i COMMANDS) content ≡ None
-none-left i content all = ap (λ (l : List Command). first_read l content) (drop_all i COMMANDS all)
+none-left i content all = rw (drop_all i COMMANDS all) refl
 
 -- ---- the laws
 
@@ -100,8 +89,7 @@ each-says content = go (first_read COMMANDS content) refl
     go (Some s) e = (s, first-says COMMANDS content s e)
 
 pub one : (s t : Said) → IsWritable s → IsWritable t → written s ≡ written t → s ≡ t
-one (Known k body) (Known j other) h i e =
-    same_Some (Known k body) (Known j other) (sym (reads-back k body h) ∙ (ap (first_read COMMANDS) e ∙ reads-back j other i))
+one (Known k body) (Known j other) h i e = same_Some (Known k body) (Known j other) (rw (← reads-back k body h, e) (reads-back j other i))
 one (Known k body) (Unknown bytes) h i e = absurd (i k body h e)
 one (Unknown bytes) (Known k body) h i e = absurd (h k body i (sym e))
 one (Unknown bytes) (Unknown others) h i e = ap Unknown e

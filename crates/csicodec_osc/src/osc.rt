@@ -163,6 +163,7 @@ impl Command {
 }
 
 /// What stands behind a number that a content begins with: nothing, or a `;` and a text.
+#[tactic(auto, using(crate::proofs::Reading::no_front, crate::proofs::Reading::front))]
 fn behind<'a>(number: &[u8], content: &'a [u8]) -> Option<Option<&'a [u8]>>
     ensures { option_map (λ o. option_map (λ t. t.now) o) result ≡ behind number.now content.now }
 {

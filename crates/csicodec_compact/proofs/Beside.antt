@@ -1,11 +1,11 @@
 -- Runs of parts, one after the other.
-use Rattle.std.proofs.Common.{◌≡◌, ◌≢◌, ◌≤◌, ◌+◌, ◌*◌, ◌-◌, ℕ, Bool, true, false, not, Option, None, Some, IfSome, List, [], ◌∷◌, ◌++◌}
-use Rattle.std.proofs.Common.{MatchOption, inl, inr, ⊎_elim, cond, length, take, drop, refl, sym, ap, subst, ◌∙◌, append_assoc, append-nil, arith}
-use Rattle.std.specs.Prelude.{◌&&◌, slice_get}
+use Rattle.std.proofs.Common.{◌≡◌, ◌≢◌, ◌≤◌, ◌+◌, ◌-◌, ℕ, true, false, not, List, [], ◌∷◌, ◌++◌}
+use Rattle.std.proofs.Common.{inl, inr, ⊎_elim, length, take, drop, refl, sym, ap, subst, ◌∙◌, append_assoc, append-nil, arith}
 use Rattle.std.proofs.lemmas.Bool.{cases_Bool, true≢false}
 use Rattle.std.proofs.lemmas.Grind.{flat_map-append}
 use Rattle.std.proofs.Math.Seq.{take-append_seam}
 use Rattle.std.proofs.lemmas.List.{drop-append-le, length-append, length-drop, length-take-le, take-take}
+use Rattle.csicodec_actions.proofs.AllRows.{all-append}
 use Rattle.std.specs.List.{AllByRecursion, flat_map}
 use Rattle.csicodec_tokens.specs.declared.param.CsiParam.{CsiParam}
 use Rattle.csicodec_tokens.specs.Sequence.{Seq}
@@ -33,7 +33,7 @@ use Rattle.csicodec_compact.specs.declared.form.TextEnding.{TextEnding}
 use Rattle.csicodec_compact.specs.declared.form.TextEnding.TheVariants as forms
 use Rattle.csicodec_compact.specs.declared.shortener.Shortener.{Shortener}
 use Rattle.csicodec_compact.specs.Private.Run.{Holds}
-use Rattle.csicodec_compact.specs.Private.Steps.{Begins, form_of, closing, is_semicolon, joint, behind, is_joined, may_join, opened, list_of, is_bare, is_open}
+use Rattle.csicodec_compact.specs.Private.Steps.{Begins, form_of, closing, joint, behind, is_joined, may_join, opened, list_of}
 use Rattle.csicodec_compact.specs.Private.Steps.{IsTail, IsListed, IsOwn, IsNotedList, IsNoted, IsNote, HasFew, LeavesRoom, GoesOnFrom, IsHeld, Extends, GoesOnBy}
 use Rattle.csicodec_compact.proofs.JoinedLists.{tail_joined, tail_decodes, joint_short}
 
@@ -54,8 +54,8 @@ short_front bytes wide front h is short =
 
 runs_on : (rs qs : List (List Part)) (ps more : List Part) (s t : List ℕ) → AreRuns rs ps s → AreRuns qs more t → AreRuns (rs ++ qs) (ps ++ more) (s ++ t)
 runs_on [] qs ps more s t h k = rw (h.0, h.1) k
-runs_on (r ∷ rs) qs ps more s t h k =
-    (h.0 ++ more, h.1, h.2 ++ t, ap (λ (x : List Part). x ++ more) h.3 ∙ append_assoc r h.0 more, ap (λ (x : List ℕ). x ++ t) h.4 ∙ append_assoc h.1 h.2 t, h.5, runs_on rs qs h.0 more h.2 t h.6 k)
+runs_on (r ∷ rs) qs ps more s t (rest, first, others, is, text, run, runs) k =
+    (rest ++ more, first, others ++ t, rw is (append_assoc r rest more), rw text (append_assoc first others t), run, runs_on rs qs rest more others t runs k)
 
 pub shortened_on : (ps more : List Part) (s t : List ℕ) → IsShortened ps s → IsShortened more t → IsShortened (ps ++ more) (s ++ t)
 shortened_on ps more s t h k = (h.0 ++ k.0, runs_on h.0 k.0 ps more s t h.1 k.1)
@@ -72,7 +72,7 @@ plain_runs k (p ∷ ps) ne all =
     (ps, p.bytes, flat_map bytes_of ps, refl, refl, inr (p, refl, (λ e. ne (sym all.0 ∙ e)), refl), plain_runs k ps ne all.1)
 
 all_plain : (k : Kind) (bytes : List ℕ) (ps : List Part) → k ≢ kind.Csi → AreAll k bytes ps → IsShortened ps bytes
-all_plain k bytes ps ne s = subst (λ (x : List ℕ). IsShortened ps x) s.joined (singles ps, plain_runs k ps ne s.all)
+all_plain k bytes ps ne s = rw (← s.joined) (singles ps, plain_runs k ps ne s.all)
 
 one_plain : (k : Kind) (bytes : List ℕ) (ps : List Part) → k ≢ kind.Csi → ps ≡ part k bytes ∷ [] → IsShortened ps bytes
 one_plain k bytes ps ne e = rw e ((part k bytes ∷ []) ∷ [], ([], bytes, [], refl, sym (append-nil bytes), inr (part k bytes, refl, ne, refl), (refl, refl)))
@@ -80,16 +80,11 @@ one_plain k bytes ps ne e = rw e ((part k bytes ∷ []) ∷ [], ([], bytes, [], 
 pub shortened_span : (k : Kind) (bytes : List ℕ) (ps : List Part) → k ≢ kind.Csi → IsSpan k bytes ps → IsShortened ps bytes
 shortened_span kind.Csi bytes ps ne s = absurd (ne refl)
 shortened_span kind.Esc bytes ps ne s = one_plain kind.Esc bytes ps ne s
-shortened_span kind.Text bytes ps ne s = all_plain kind.Text bytes ps ne s
-shortened_span kind.Str bytes ps ne s = all_plain kind.Str bytes ps ne s
-shortened_span kind.Other bytes ps ne s = all_plain kind.Other bytes ps ne s
-
-other_plain : kind.Other ≢ kind.Csi
-other_plain e = cc
+shortened_span k bytes ps ne s = all_plain k bytes ps ne s
 
 pub shortened_left : (rest : List ℕ) → IsShortened (left_over rest) rest
 shortened_left [] = shortened_none
-shortened_left (b ∷ rest) = one_plain kind.Other (b ∷ rest) (left_over (b ∷ rest)) other_plain refl
+shortened_left (b ∷ rest) = one_plain kind.Other (b ∷ rest) (left_over (b ∷ rest)) (λ e. cc) refl
 
 -- ---- one sequence, and two runs joined
 
@@ -116,23 +111,19 @@ one_short bytes own list final s h =
       ];
     }
 
-pub all_on : (P : Part → Type 0) (ps qs : List Part) → AllByRecursion P ps → AllByRecursion P qs → AllByRecursion P (ps ++ qs)
-all_on P [] qs h k = k
-all_on P (p ∷ ps) qs h k = (h.0, all_on P ps qs h.1 k)
-
 pub joined_short : (run more : List Part) (held own joined : List ℕ) → Shortens run held → Shortens more own → NoneStays run → NoneStays more
     → length joined ≤ length (held ++ own) → ReadsAlike (held ++ own) joined → length joined ≤ most_joined
     → Shortens (run ++ more) joined
 joined_short run more held own joined h k free others short alike within =
     let bytes = flat_map-append bytes_of run more in
     record {
-      all = all_on (λ (p : Part). p.kind ≡ kind.Csi) run more h.all k.all;
+      all = all-append (λ (p : Part). p.kind ≡ kind.Csi) run more h.all k.all;
       actions = h.actions ++ k.actions;
       came = rw bytes (decodes-append (flat_map bytes_of run) (flat_map bytes_of more) false h.actions k.actions h.came k.came);
       written = alike (h.actions ++ k.actions) (decodes-append held own false h.actions k.actions h.written k.written);
       short = omega (arith, short, h.short, k.short, length-append held own, length-append (flat_map bytes_of run) (flat_map bytes_of more), ap length bytes);
       within = inl within;
-      kept = inl (all_on (λ (p : Part). ¬ IsStaying p.bytes) run more free others);
+      kept = inl (all-append (λ (p : Part). ¬ IsStaying p.bytes) run more free others);
     }
 
 -- ---- what is held
@@ -146,73 +137,54 @@ held_whole : (run : List Part) (held : List ℕ) (room : ℕ) → IsShortened ru
 held_whole run held room h = record { front = run; left = []; text = held; tail = []; parts = sym (append-nil run); whole = sym (append-nil held); written = h; end = (refl, refl) }
 
 module _ (run front left : List Part) (held text list : List ℕ) (xs : List Action) (room : ℕ) (parts : run ≡ front ++ left) (whole : held ≡ text ++ 27 ∷ 91 ∷ list) (written : IsShortened front text) (few : LeavesRoom room list) where
-  goes_from : (form : TextEnding) → IsTail form list xs → Shortens left (27 ∷ 91 ∷ (list ++ closing form)) → NoneStays left → GoesOnFrom form room left (27 ∷ 91 ∷ list)
-  goes_from form tail short free = record { list = list; actions = xs; whole = refl; tail = tail; shorter = short; free = free; few = few }
-
   held_last : Shortens left (27 ∷ 91 ∷ (list ++ [])) → IsHeld run held forms.Last room
-  held_last short =
-      let all : IsShortened (front ++ left) (text ++ 27 ∷ 91 ∷ (list ++ [])) = shortened_on front left text (27 ∷ 91 ∷ (list ++ [])) written (shortened_run left (27 ∷ 91 ∷ (list ++ [])) short) in
-      let same : text ++ 27 ∷ 91 ∷ (list ++ []) ≡ held = ap (λ (l : List ℕ). text ++ 27 ∷ 91 ∷ l) (append-nil list) ∙ sym whole in
-      record {
-        front = run;
-        left = [];
-        text = held;
-        tail = [];
-        parts = sym (append-nil run);
-        whole = sym (append-nil held);
-        written = subst (λ (l : List ℕ). IsShortened run l) same (subst (λ (ps : List Part). IsShortened ps (text ++ 27 ∷ 91 ∷ (list ++ []))) (sym parts) all);
-        end = (refl, refl);
-      }
+  held_last short = record {
+    front = run;
+    left = [];
+    text = held;
+    tail = [];
+    parts = rw append-nil refl;
+    whole = rw append-nil refl;
+    written = rw (parts, whole) (shortened_on front left text (27 ∷ 91 ∷ list) written (shortened_run left (27 ∷ 91 ∷ list) (rw append-nil at short)));
+    end = (refl, refl);
+  }
 
   -- a list that is held behind others
   held_list : (form : TextEnding) → IsTail form list xs → Shortens left (27 ∷ 91 ∷ (list ++ closing form)) → NoneStays left → IsHeld run held form room
   held_list forms.Whole tail short free = absurd tail
   held_list forms.Last tail short free = held_last short
-  held_list forms.Open tail short free =
-      record { front = front; left = left; text = text; tail = 27 ∷ 91 ∷ list; parts = parts; whole = whole; written = written; end = goes_from forms.Open tail short free }
-  held_list forms.Blank tail short free =
-      record { front = front; left = left; text = text; tail = 27 ∷ 91 ∷ list; parts = parts; whole = whole; written = written; end = goes_from forms.Blank tail short free }
-  held_list forms.Bare tail short free =
-      record { front = front; left = left; text = text; tail = 27 ∷ 91 ∷ list; parts = parts; whole = whole; written = written; end = goes_from forms.Bare tail short free }
+  held_list form tail short free = record {
+    front = front;
+    left = left;
+    text = text;
+    tail = 27 ∷ 91 ∷ list;
+    parts = parts;
+    whole = whole;
+    written = written;
+    end = record { list = list; actions = xs; whole = refl; tail = tail; shorter = short; free = free; few = few };
+  }
 
-closed_whole : (run : List Part) (held : List ℕ) (form : TextEnding) (room : ℕ) → (h : IsHeld run held form room) → (h.left ≡ []) × (h.tail ≡ []) → closing form ≡ [] → IsShortened run (held ++ closing form)
-closed_whole run held form room h none empty =
-    let ps : h.front ≡ run = sym (append-nil h.front) ∙ ap (λ (l : List Part). h.front ++ l) (sym none.0) ∙ sym h.parts in
-    let text : h.text ≡ held ++ closing form =
-    sym (append-nil h.text) ∙ ap (λ (l : List ℕ). h.text ++ l) (sym none.1) ∙ sym h.whole ∙ sym (append-nil held) ∙ ap (λ (l : List ℕ). held ++ l) (sym empty) in
-    subst (λ (l : List ℕ). IsShortened run l) text (subst (λ (l : List Part). IsShortened l h.text) ps h.written)
+closed_whole : (run : List Part) (held : List ℕ) (form : TextEnding) (room : ℕ) → (h : IsHeld run held form room) → (h.left ≡ []) × (h.tail ≡ []) → IsShortened run (held ++ [])
+closed_whole run held form room h none = rw (append-nil held, h.parts, h.whole, none.0, none.1, append-nil, append-nil) h.written
 
 closed_list : (run : List Part) (held : List ℕ) (form : TextEnding) (room : ℕ) → (h : IsHeld run held form room) → GoesOnFrom form room h.left h.tail → IsShortened run (held ++ closing form)
 closed_list run held form room h g =
     let shut = 27 ∷ 91 ∷ (g.list ++ closing form) in
-    let all : IsShortened (h.front ++ h.left) (h.text ++ shut) = shortened_on h.front h.left h.text shut h.written (shortened_run h.left shut g.shorter) in
-    let text : h.text ++ shut ≡ held ++ closing form =
-    sym (append_assoc h.text (27 ∷ 91 ∷ g.list) (closing form)) ∙ ap (λ (l : List ℕ). (h.text ++ l) ++ closing form) (sym g.whole) ∙ ap (λ (l : List ℕ). l ++ closing form) (sym h.whole) in
-    subst (λ (l : List ℕ). IsShortened run l) text (subst (λ (l : List Part). IsShortened l (h.text ++ shut)) (sym h.parts) all)
+    rw (h.parts, h.whole, g.whole, append_assoc) (shortened_on h.front h.left h.text shut h.written (shortened_run h.left shut g.shorter))
 
 -- what is held, closed
 pub closed : (run : List Part) (held : List ℕ) (form : TextEnding) (room : ℕ) → IsHeld run held form room → IsShortened run (held ++ closing form)
-closed run held forms.Whole room h = closed_whole run held forms.Whole room h h.end refl
-closed run held forms.Last room h = closed_whole run held forms.Last room h h.end refl
-closed run held forms.Open room h = closed_list run held forms.Open room h h.end
-closed run held forms.Blank room h = closed_list run held forms.Blank room h h.end
-closed run held forms.Bare room h = closed_list run held forms.Bare room h h.end
+closed run held forms.Whole room h = closed_whole run held forms.Whole room h h.end
+closed run held forms.Last room h = closed_whole run held forms.Last room h h.end
+closed run held form room h = closed_list run held form room h h.end
 
 -- what is joined is short
-joint-if : (a b : Bool) (text : List ℕ) → 2 ≤ 255 → length text ≤ 255 → length (cond a (cond b text (59 ∷ 48 ∷ [])) text) ≤ 255
-joint-if true true text two few = few
-joint-if true false text two few = two
-joint-if false b text two few = few
-
 joint_few : (st form : TextEnding) (text : List ℕ) → length text ≤ 255 → length (joint st form text) ≤ 255
-joint_few st form text few = joint-if (is_bare form) (is_open st) text (omega arith) few
+joint_few st form text few = grind arith
 
 closing_few : (form : TextEnding) → length (closing form) ≤ 2
 closing_few forms.Whole = omega arith
-closing_few forms.Last = omega arith
-closing_few forms.Open = omega arith
-closing_few forms.Blank = omega arith
-closing_few forms.Bare = omega arith
+closing_few _ = omega arith
 
 one_of : (bytes own : List ℕ) → IsOne bytes → Compacts bytes own → Shortens (part kind.Csi bytes ∷ []) own
 one_of bytes own one h = one_short bytes own one.0 one.1 one.2 h
@@ -253,33 +225,24 @@ module _ (run : List Part) (bytes held text : List ℕ) (st : TextEnding) (room 
       let leaves : LeavesRoom left list = omega (arith, g.few, longer, more, few.0) in
       let within : length all ≤ most_joined = omega (arith, leaves, closing_few (behind st form), length-append list (closing (behind st form))) in
       let short = joined_short h.left p first second all g.shorter (one_of bytes second one n.compacts) g.free (n.free, tt) (joint_short st form g.list n.list may') alike within in
-      let text' : held ++ joint st form text ≡ h.text ++ 27 ∷ 91 ∷ list =
-      ap (λ (l : List ℕ). held ++ joint st form l) n.whole
-      ∙ ap (λ (l : List ℕ). l ++ joint st form (59 ∷ n.list)) (h.whole ∙ ap (λ (l : List ℕ). h.text ++ l) g.whole) ∙ append_assoc h.text (27 ∷ 91 ∷ g.list) (joint st form (59 ∷ n.list)) in
+      let text' : held ++ joint st form text ≡ h.text ++ 27 ∷ 91 ∷ list = rw (n.whole, h.whole, g.whole) (append_assoc h.text (27 ∷ 91 ∷ g.list) (joint st form (59 ∷ n.list))) in
       held_list (run ++ p) h.front (h.left ++ p) (held ++ joint st form text) h.text list (g.actions ++ n.actions) left
-      (ap (λ (l : List Part). l ++ p) h.parts ∙ append_assoc h.front h.left p) text' h.written leaves
-      (behind st form) tail short (all_on (λ (q : Part). ¬ IsStaying q.bytes) h.left p g.free (n.free, tt))
-
-  joined_by : (form : TextEnding) → IsNoted form bytes text → GoesOnFrom st room h.left h.tail → may_join st form text ≡ true → (is_joined form ≡ false → may_join st form text ≡ false)
-      → (is_joined form ≡ true → (left + 1 ≤ room) × (length text ≤ 255))
-      → IsHeld (run ++ part kind.Csi bytes ∷ []) (held ++ joint st form text) (behind st form) left
-  joined_by forms.Whole n g may none few = absurd (true≢false (sym may ∙ none refl))
-  joined_by form n g may none few = list_joined form n g may (few refl)
+      (rw h.parts (append_assoc h.front h.left p)) text' h.written leaves
+      (behind st form) tail short (all-append (λ (q : Part). ¬ IsStaying q.bytes) h.left p g.free (n.free, tt))
 
 pub joined : (run : List Part) (bytes held text : List ℕ) (st form : TextEnding) (room left : ℕ) → IsHeld run held st room → IsOne bytes → IsNoted form bytes text → may_join st form text ≡ true
     → (is_joined form ≡ true → (left + 1 ≤ room) × (length text ≤ 255))
     → IsHeld (run ++ part kind.Csi bytes ∷ []) (held ++ joint st form text) (behind st form) left
-joined run bytes held text forms.Whole form room left h one n may few = absurd (true≢false (sym may))
-joined run bytes held text forms.Last form room left h one n may few = absurd (true≢false (sym may))
-joined run bytes held text forms.Open form room left h one n may few = joined_by run bytes held text forms.Open room left h one form n h.end may (λ e. e) few
-joined run bytes held text forms.Blank form room left h one n may few = joined_by run bytes held text forms.Blank room left h one form n h.end may (λ e. ap (λ (b : Bool). b && not (is_semicolon (slice_get text 1))) e) few
-joined run bytes held text forms.Bare form room left h one n may few = joined_by run bytes held text forms.Bare room left h one form n h.end may (λ e. ap (λ (b : Bool). b && not (is_semicolon (slice_get text 1))) e) few
+joined run bytes held text forms.Whole form room left h one n may few = cc
+joined run bytes held text forms.Last form room left h one n may few = cc
+joined run bytes held text st forms.Whole room left h one n may few = cc
+joined run bytes held text st form room left h one n may few = list_joined run bytes held text st room left h one form n h.end may (few refl)
 
 -- what is noted of a sequence
 pub noted : (bytes text : List ℕ) (form : TextEnding) → ¬ IsStaying bytes → Compacts bytes text → IsListed form text → IsNotedList form bytes (59 ∷ list_of form text)
 noted bytes text form free made h =
     let long : length (h.bytes ++ closing form) - length (closing form) ≡ length h.bytes = omega (arith, length-append h.bytes (closing form)) in
-    let same : list_of form text ≡ h.bytes = ap (list_of form) h.whole ∙ ap (λ (n : ℕ). take n (h.bytes ++ closing form)) long ∙ take-append_seam h.bytes (closing form) in
+    let same : list_of form text ≡ h.bytes = rw (h.whole, long) (take-append_seam h.bytes (closing form)) in
     record {
       list = h.bytes;
       actions = h.actions;
@@ -308,29 +271,11 @@ pub note_of : (bytes text note : List ℕ) (form : TextEnding) → IsOne bytes �
     → (is_joined form ≡ true → length text ≤ 256)
     → (is_joined form ≡ false → (mark : ℕ) × (count : ℕ) × (form_of mark ≡ form) × (note ≡ mark ∷ count ∷ text))
     → (is_joined form ≡ true → (mark : ℕ) × (count : ℕ) × (form_of mark ≡ form) × (1 ≤ count) × (note ≡ mark ∷ count ∷ 59 ∷ list_of form text)) → IsNote bytes note
-note_of bytes text note form one made own free few whole list = by_form form own free few whole list
-  where
-    by_list : (form : TextEnding) → IsNoted form bytes (59 ∷ list_of form text) → 2 + length (closing form) ≤ length text → length text ≤ 256
-        → (mark : ℕ) × (count : ℕ) × (form_of mark ≡ form) × (1 ≤ count) × (note ≡ mark ∷ count ∷ 59 ∷ list_of form text) → IsNote bytes note
-    by_list form n long few (mark, count, is, some, e) =
-        (mark, count, 59 ∷ list_of form text, e, one, subst (λ (f : TextEnding). IsNoted f bytes (59 ∷ list_of form text)) (sym is) n, λ _. (some, list_short form text long few))
-
-    by_whole : (mark : ℕ) × (count : ℕ) × (form_of mark ≡ forms.Whole) × (note ≡ mark ∷ count ∷ text) → IsNote bytes note
-    by_whole (mark, count, is, e) = (
-      mark,
-      count,
-      text,
-      e,
-      one,
-      subst (λ (f : TextEnding). IsNoted f bytes text) (sym is) made,
-      λ joined. absurd (true≢false (sym joined ∙ ap is_joined is)),
-    )
-
-    by_form : (form : TextEnding) → IsOwn form text → (is_joined form ≡ true → ¬ IsStaying bytes) → (is_joined form ≡ true → length text ≤ 256)
-        → (is_joined form ≡ false → (mark : ℕ) × (count : ℕ) × (form_of mark ≡ form) × (note ≡ mark ∷ count ∷ text))
-        → (is_joined form ≡ true → (mark : ℕ) × (count : ℕ) × (form_of mark ≡ form) × (1 ≤ count) × (note ≡ mark ∷ count ∷ 59 ∷ list_of form text)) → IsNote bytes note
-    by_form forms.Whole own free few whole list = by_whole (whole refl)
-    by_form form own free few whole list = by_list form (noted bytes text form (free refl) made own) (listed_long form text own) (few refl) (list refl)
+note_of bytes text note forms.Whole one made own free few whole list =
+    let (mark, count, is, e) = whole refl in (mark, count, text, e, one, rw is made, λ joined. absurd (true≢false (sym joined ∙ ap is_joined is)))
+note_of bytes text note form one made own free few whole list =
+    let (mark, count, is, some, e) = list refl in
+    (mark, count, 59 ∷ list_of form text, e, one, rw is (noted bytes text form (free refl) made own), λ _. (some, list_short form text (listed_long form text own) (few refl)))
 
 pub note_long : (bytes note : List ℕ) → IsNote bytes note → 2 ≤ length note
 note_long bytes note n = omega (arith, ap length n.3)
@@ -341,7 +286,7 @@ note_long bytes note n = omega (arith, ap length n.3)
 pub extends_one : (st form : TextEnding) (room left count : ℕ) (bytes text : List ℕ) → IsOne bytes → IsNoted form bytes text → HasFew form count text → left ≤ 16 - count
     → Extends st room (part kind.Csi bytes ∷ []) (closing st ++ opened form text) form left
 extends_one st form room left count bytes text one n few leaves run before h =
-    subst (λ (l : List ℕ). IsHeld (run ++ part kind.Csi bytes ∷ []) l form left) (append_assoc before (closing st) (opened form text))
+    rw (← append_assoc before (closing st) (opened form text))
     (begun run bytes before text st room left h one form n (λ joined. (omega (arith, (few joined).0, leaves), (few joined).1)))
 
 -- a sequence can be written as it came
@@ -360,7 +305,7 @@ extends_joined st form room left count bytes text one n may few leaves run befor
 -- what stands as it came
 pub extends_own : (st : TextEnding) (room left : ℕ) (bytes : List ℕ) (parts : List Part) → IsShortened parts bytes → Extends st room parts (closing st ++ bytes) forms.Whole left
 extends_own st room left bytes parts short run before h =
-    subst (λ (l : List ℕ). IsHeld (run ++ parts) l forms.Whole left) (append_assoc before (closing st) bytes)
+    rw (← append_assoc before (closing st) bytes)
     (held_whole (run ++ parts) ((before ++ closing st) ++ bytes) left (shortened_on run parts (before ++ closing st) bytes (closed run before st room h) short))
 
 -- no more parts, where the list is closed

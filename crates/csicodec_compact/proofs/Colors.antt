@@ -55,21 +55,15 @@ color_note bytes rest wide sgr count len some (plane, color, o, is, e) long (mar
     let size : len ≡ length own = omega (arith, long, ap length begins, length-append own rest) in
     let count_of : len ≡ suc (suc (suc (length list))) = omega (arith, size, length-append list (109 ∷ [])) in
     let few : length list ≤ 29 = omega (arith, count_of, long, short.1) in
-    let front : take len bytes ≡ own =
-    ap (λ (l : List ℕ). take len l) begins ∙ ap (λ (n : ℕ). take n (own ++ rest)) size ∙ take-append_seam own rest in
-    let told : take (length list) (take 29 (drop 2 bytes)) ≡ list =
-    take-take (length list) 29 (drop 2 bytes) few ∙ ap (λ (l : List ℕ). take (length list) (drop 2 l)) e
-    ∙ take-append_seam list (109 ∷ rest) in
-    let noted : take len wide ≡ mark ∷ count ∷ 59 ∷ list =
-    ap (λ (l : List ℕ). take len l) same ∙ ap (λ (n : ℕ). take n (mark ∷ count ∷ 59 ∷ take 29 (drop 2 bytes))) count_of
-    ∙ ap (λ (l : List ℕ). mark ∷ count ∷ 59 ∷ l) told in
+    let front : take len bytes ≡ own = rw (begins, size) (take-append_seam own rest) in
+    let told : take (length list) (take 29 (drop 2 bytes)) ≡ list = rw (take-take (length list) 29 (drop 2 bytes) few, e) (take-append_seam list (109 ∷ rest)) in
+    let noted : take len wide ≡ mark ∷ count ∷ 59 ∷ list = rw (same, count_of, told) refl in
     let seq : Seq own (listed plane color) 109 = color_seq plane color o in
     let is_listed : IsListed forms.Open own =
     open_listed own (listed plane color) (painted plane color ∷ []) seq (color_plain plane color) (color_unclosed plane color o)
     (color_means plane color o) in
     let less : length (list ++ 109 ∷ []) - length (closing forms.Open) ≡ length list = omega (arith, length-append list (109 ∷ [])) in
-    let whole : list_of forms.Open own ≡ list =
-    ap (λ (n : ℕ). take n (list ++ 109 ∷ [])) less ∙ take-append_seam list (109 ∷ []) in
+    let whole : list_of forms.Open own ≡ list = rw less (take-append_seam list (109 ∷ [])) in
     subst (λ (l : List ℕ). IsNote l (take len wide)) (sym front)
     (note_of own own (take len wide) forms.Open (listed plane color, 109, seq) (as_it_came own) is_listed
     (λ _. free_by own (listed plane color) 109 seq (color_free plane color o)) (λ _. omega (arith, few, length-append list (109 ∷ [])))

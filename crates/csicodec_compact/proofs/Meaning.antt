@@ -1,8 +1,9 @@
 -- What `compact` writes, cut as a stream once more.
-use Rattle.std.proofs.Common.{◌≡◌, ℕ, ◌<◌, ◌≤◌, ◌⊎◌, List, [], ◌∷◌, ◌++◌, length, sym, ap, subst, ◌∙◌, append-nil, inl, inr, arith}
+use Rattle.std.proofs.Common.{◌≡◌, ℕ, ◌<◌, ◌≤◌, ◌+◌, ◌⊎◌, List, [], ◌∷◌, ◌++◌, length, sym, ap, subst, ◌∙◌, append-nil, inl, inr, arith}
 use Rattle.std.proofs.lemmas.Grind.{flat_map-append}
 use Rattle.std.proofs.lemmas.List.{length-append}
 use Rattle.std.specs.List.{AllByRecursion, flat_map}
+use Rattle.csicodec_actions.proofs.AllRows.{all-append}
 use Rattle.csicodec_spans.specs.declared.table.Kind.{Kind}
 use Rattle.csicodec_spans.specs.declared.table.Kind.TheVariants as kind
 use Rattle.csicodec_spans.specs.declared.table.Mode.{Mode}
@@ -14,7 +15,6 @@ use Rattle.csicodec_spans.proofs.Spanned.{whole_joined}
 use Rattle.csicodec_filter.proofs.Meaning.{AreMeant, again}
 use Rattle.csicodec_compact.specs.Runs.{AreRuns, IsRun, Shortens, CompactsAll, most_joined}
 use Rattle.csicodec_compact.specs.Meaning.{HasAgain}
-use Rattle.csicodec_compact.proofs.Beside.{all_on}
 
 -- ---- a control sequence of the stream has no more than `limit` bytes
 
@@ -35,7 +35,7 @@ left_within limit (b ∷ rest) = ((λ e. absurd cc), tt)
 whole_within : (limit : ℕ) (m : Mode) (bytes : List ℕ) (parts : List Part) → IsWhole limit m bytes parts → AllByRecursion (IsWithin limit) parts
 whole_within limit m bytes parts w =
     subst (AllByRecursion (IsWithin limit)) (sym w.whole)
-    (all_on (IsWithin limit) w.sure (left_over w.rest) (firsts_within limit m w.after bytes w.rest w.sure w.first) (left_within limit w.rest))
+    (all-append (IsWithin limit) w.sure (left_over w.rest) (firsts_within limit m w.after bytes w.rest w.sure w.first) (left_within limit w.rest))
 
 all_parts : (P : Part → Type 0) (ps qs : List Part) → AllByRecursion P (ps ++ qs) → AllByRecursion P ps × AllByRecursion P qs
 all_parts P [] qs h = (tt, h)
@@ -73,21 +73,18 @@ are_meant limit (run ∷ runs) parts text short r =
       parts_are,
       text_is,
       elim own [
-        | inl h ↦ inl (record { all = h.all; actions = h.actions; came = h.came; written = h.written }, first_short run behind first later h parts_are text_is short)
+        | inl h ↦ inl (record { all = h.all; actions = h.actions; came = h.came; written = h.written }, (short_parts run behind first later parts_are text_is short).0 h)
         | inr h ↦ inr h
       ],
-      are_meant limit runs behind later (later_short run behind first later parts_are text_is short) others,
+      are_meant limit runs behind later (short_parts run behind first later parts_are text_is short).1 others,
     )
   where
-    first_short : (run behind : List Part) (first later : List ℕ) → Shortens run first → parts ≡ run ++ behind → text ≡ first ++ later → AreShort limit (run ∷ runs) parts text → length first ≤ limit
-    first_short run behind first later h e is (inl (most, within)) =
-        run_within limit run first most (all_parts (IsWithin limit) run behind (subst (AllByRecursion (IsWithin limit)) e within)).0 h
-    first_short run behind first later h e is (inr few) = omega (arith, few, ap length is, length-append first later)
-
-    later_short : (run behind : List Part) (first later : List ℕ) → parts ≡ run ++ behind → text ≡ first ++ later → AreShort limit (run ∷ runs) parts text → AreShort limit runs behind later
-    later_short run behind first later e is (inl (most, within)) =
-        inl (most, (all_parts (IsWithin limit) run behind (subst (AllByRecursion (IsWithin limit)) e within)).1)
-    later_short run behind first later e is (inr few) = inr (omega (arith, few, ap length is, length-append first later))
+    short_parts : (run behind : List Part) (first later : List ℕ) → parts ≡ run ++ behind → text ≡ first ++ later → AreShort limit (run ∷ runs) parts text
+        → (Shortens run first → length first ≤ limit) × AreShort limit runs behind later
+    short_parts run behind first later e is (inl (most, within)) =
+        let (own, others) = all_parts (IsWithin limit) run behind (rw e at within) in (run_within limit run first most own, inl (most, others))
+    short_parts run behind first later e is (inr few) =
+        let long : length text ≡ length first + length later = rw is (length-append first later) in ((λ h. omega (arith, few, long)), inr (omega (arith, few, long)))
 
 runs_short : (runs : List (List Part)) (parts : List Part) (text : List ℕ) → AreRuns runs parts text → length text ≤ length (flat_map bytes_of parts)
 runs_short [] parts text r = rw (r.0, r.1) (omega arith)

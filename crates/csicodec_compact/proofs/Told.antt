@@ -3,7 +3,7 @@ use Rattle.std.proofs.Common.{ℕ, ◌≡◌, ◌≤◌, length, List, [], ◌�
 use Rattle.std.specs.Prelude.{ℤ, ◌==◌, ◌&&◌, not}
 use Rattle.std.specs.Fmt.{signed_decimal}
 use Rattle.std.specs.List.{AllByRecursion, list_any}
-use Rattle.std.proofs.lemmas.Bool.{and_parts, cases_Bool, or_parts, or_right, true≢false}
+use Rattle.std.proofs.lemmas.Bool.{and_parts, cases_Bool, not-true, or_parts, or_right, true≢false}
 use Rattle.std.proofs.lemmas.List.Elements.{All-from_recursion}
 use Rattle.std.proofs.lemmas.List.Folds.{list_any-append}
 use Rattle.csicodec_tokens.specs.declared.param.CsiParam.{CsiParam}
@@ -37,14 +37,9 @@ abbrev pub Tells : List ℕ → Type 0
 Tells bytes = Lacks 115 bytes × Lacks 120 bytes
 
 -- what a test of both bytes says
-not_true : (x : Bool) → not x ≡ true → x ≡ false
-not_true true e = sym e
-not_true false e = refl
-
 pub told_by : (bytes : List ℕ) → (not (list_any (λ b. b == 115) bytes) && not (list_any (λ b. b == 120) bytes)) ≡ true → Tells bytes
 told_by bytes e =
-    let parts = and_parts (not (list_any (λ b. b == 115) bytes)) (not (list_any (λ b. b == 120) bytes)) e in
-    (not_true (list_any (λ b. b == 115) bytes) parts.0, not_true (list_any (λ b. b == 120) bytes) parts.1)
+    let parts = and_parts (not (list_any (λ b. b == 115) bytes)) _ e in (not-true _ parts.0, not-true _ parts.1)
 
 -- what is written before `x` has it
 end-found : (items : List Item) → list_any (λ b. b == 120) (shown items (120 ∷ [])) ≡ true

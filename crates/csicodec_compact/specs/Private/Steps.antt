@@ -33,15 +33,7 @@ is_mark (P b) = not (b == 59)
 -- the action is no attribute
 abbrev pub is_other : CSI → Bool
 is_other (csi.Sgr s) = false
-is_other (csi.Cursor c) = true
-is_other (csi.Edit e) = true
-is_other (csi.Mode m) = true
-is_other (csi.Mouse m) = true
-is_other (csi.Device d) = true
-is_other (csi.Window w) = true
-is_other (csi.Keyboard k) = true
-is_other (csi.SelectCharacterPath path effect) = true
-is_other (csi.Unspecified u) = true
+is_other _ = true
 
 abbrev pub is_semicolon : Option ℕ → Bool
 is_semicolon None = false
@@ -59,40 +51,29 @@ form_of mark = if mark == 1 then forms.Last else if mark == 2 then forms.Open
 
 abbrev pub is_joined : TextEnding → Bool
 is_joined forms.Whole = false
-is_joined forms.Last = true
-is_joined forms.Open = true
-is_joined forms.Blank = true
-is_joined forms.Bare = true
+is_joined _ = true
 
 abbrev pub is_bare : TextEnding → Bool
-is_bare forms.Whole = false
-is_bare forms.Last = false
-is_bare forms.Open = false
-is_bare forms.Blank = false
 is_bare forms.Bare = true
+is_bare _ = false
 
 abbrev pub is_open : TextEnding → Bool
-is_open forms.Whole = false
-is_open forms.Last = false
 is_open forms.Open = true
-is_open forms.Blank = false
-is_open forms.Bare = false
+is_open _ = false
 
 -- what closes a text of the form
 abbrev pub closing : TextEnding → List ℕ
-closing forms.Whole = []
-closing forms.Last = []
 closing forms.Open = 109 ∷ []
 closing forms.Blank = 48 ∷ 109 ∷ []
 closing forms.Bare = 109 ∷ []
+closing _ = []
 
 -- a text of this form may be joined to what is held
 abbrev pub may_join : TextEnding → TextEnding → List ℕ → Bool
 may_join forms.Whole form text = false
 may_join forms.Last form text = false
 may_join forms.Open form text = is_joined form
-may_join forms.Blank form text = is_joined form && not (is_semicolon (slice_get text 1))
-may_join forms.Bare form text = is_joined form && not (is_semicolon (slice_get text 1))
+may_join _ form text = is_joined form && not (is_semicolon (slice_get text 1))
 
 -- what is appended for it then
 abbrev pub joint : TextEnding → TextEnding → List ℕ → List ℕ
@@ -147,10 +128,7 @@ pub record IsListed (form : TextEnding) (text : List ℕ) : Type 0 where
 -- the text is of the form
 abbrev pub IsOwn : TextEnding → List ℕ → Type 0
 IsOwn forms.Whole text = Unit {0}
-IsOwn forms.Last text = IsListed forms.Last text
-IsOwn forms.Open text = IsListed forms.Open text
-IsOwn forms.Blank text = IsListed forms.Blank text
-IsOwn forms.Bare text = IsListed forms.Bare text
+IsOwn form text = IsListed form text
 
 -- ---- notes
 
@@ -165,10 +143,7 @@ pub record IsNotedList (form : TextEnding) (bytes text : List ℕ) : Type 0 wher
 
 abbrev pub IsNoted : TextEnding → List ℕ → List ℕ → Type 0
 IsNoted forms.Whole bytes text = Compacts bytes text
-IsNoted forms.Last bytes text = IsNotedList forms.Last bytes text
-IsNoted forms.Open bytes text = IsNotedList forms.Open bytes text
-IsNoted forms.Blank bytes text = IsNotedList forms.Blank bytes text
-IsNoted forms.Bare bytes text = IsNotedList forms.Bare bytes text
+IsNoted form bytes text = IsNotedList form bytes text
 
 -- a list that may be joined has a number, and its text is short
 abbrev pub HasFew : TextEnding → ℕ → List ℕ → Type 0
@@ -199,9 +174,7 @@ pub record GoesOnFrom (form : TextEnding) (room : ℕ) (run : List Part) (text :
 abbrev pub IsEnd : TextEnding → ℕ → List Part → List ℕ → Type 0
 IsEnd forms.Whole room run text = (run ≡ []) × (text ≡ [])
 IsEnd forms.Last room run text = (run ≡ []) × (text ≡ [])
-IsEnd forms.Open room run text = GoesOnFrom forms.Open room run text
-IsEnd forms.Blank room run text = GoesOnFrom forms.Blank room run text
-IsEnd forms.Bare room run text = GoesOnFrom forms.Bare room run text
+IsEnd form room run text = GoesOnFrom form room run text
 
 -- What is held of some parts: the text of those in front, and of the others a list that goes on, to which so many numbers may be joined.
 pub record IsHeld (run : List Part) (held : List ℕ) (form : TextEnding) (room : ℕ) : Type 0 where

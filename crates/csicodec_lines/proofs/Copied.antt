@@ -1,10 +1,11 @@
 -- Text that any line leaves as it is.
-use Rattle.std.proofs.Common.{◌≡◌, ◌<◌, ◌≤◌, ℕ, Bool, true, false, List, [], ◌∷◌, ◌++◌, length, length-append, encode_utf8_all, refl, sym, ap, subst, ◌∙◌, append-nil, arith, ⊎_elim, lt-ltb, le-ltb}
+use Rattle.std.proofs.Common.{◌≡◌, ◌<◌, ◌≤◌, ℕ, Bool, true, false, List, [], ◌∷◌, ◌++◌, length, length-append, encode_utf8_all, refl, sym, ap, subst, ◌∙◌, append-nil, arith, ⊎_elim, inl, inr, lt-ltb, le-ltb}
 use Rattle.std.specs.Char.{encode_utf8}
 use Rattle.std.specs.List.{AllByRecursion}
 use Rattle.std.specs.Str.{all_scalars}
 use Rattle.std.proofs.lemmas.Bool.{and_from, and_parts, cases_lt}
 use Rattle.std.proofs.lemmas.Bool.Decides.{nat_tests}
+use Rattle.std.proofs.lemmas.List.{nil_from_length}
 use lib.Utf8.{scalar}
 use Rattle.csicodec_filter.specs.Transform.{GoesOn}
 use Rattle.csicodec_filter.proofs.Sent.{goes_on}
@@ -16,20 +17,16 @@ use Rattle.csicodec_clean.proofs.Glances.{over_told}
 use Rattle.csicodec_clean.proofs.Shows.{shown_none}
 use Rattle.csicodec_clean.proofs.Told.{alone, front_taken, tells_shown}
 use Rattle.csicodec_lines.specs.declared.lines.Lines.{Lines}
-use Rattle.csicodec_lines.specs.Lines.{IsWithin, ends_line, lines_from}
+use Rattle.csicodec_lines.specs.Lines.{IsWithin, ends_line}
 use Rattle.csicodec_lines.specs.Stream.{Ending, Passes}
 use Rattle.csicodec_lines.proofs.Taken.{goes_over, goes_within}
 
 high : (b : ℕ) → 128 ≤ b → IsWithin b
 high b far = grind (arith, nat_tests)
 
-empty : (l : List ℕ) → length l ≡ 0 → l ≡ []
-empty [] none = refl
-empty (b ∷ l) none = absurd (omega (arith, none))
-
 -- what got no longer is as it was
 pub unchanged : (before more after : List ℕ) → after ≡ before ++ more → length after ≤ length before → after ≡ before
-unchanged before more after out few = out ∙ ap (λ (t : List ℕ). before ++ t) (empty more (omega (arith, ap length out, length-append before more, few))) ∙ append-nil before
+unchanged before more after out few = rw (out, nil_from_length more (omega (arith, ap length out, length-append before more, few))) (append-nil before)
 
 newline : (c : ℕ) → IsShown c → ends_line c ≡ true → c ≡ 10
 newline c shown ends = grind (arith, nat_tests)
@@ -44,14 +41,13 @@ IsFar b = 128 ≤ b
 
 all_far : (c : ℕ) → 128 ≤ c → AllByRecursion IsFar (encode_utf8 c)
 unfolding encode_utf8
-all_far c a =
-    ⊎_elim
-    (λ (b : c < 2048). rw (le-ltb c 128 a, lt-ltb c 2048 b) (omega arith, (omega arith, tt)))
-    (λ (b : 2048 ≤ c). ⊎_elim
-    (λ (d : c < 65536). rw (le-ltb c 128 a, le-ltb c 2048 b, lt-ltb c 65536 d) (omega arith, (omega arith, (omega arith, tt))))
-    (λ (d : 65536 ≤ c). rw (le-ltb c 128 a, le-ltb c 2048 b, le-ltb c 65536 d) (omega arith, (omega arith, (omega arith, (omega arith, tt)))))
-    (cases_lt c 65536))
-    (cases_lt c 2048)
+all_far c a = elim (cases_lt c 2048) [
+  | inl b ↦ rw (le-ltb c 128 a, lt-ltb c 2048 b) (omega arith, (omega arith, tt))
+  | inr b ↦ elim (cases_lt c 65536) [
+    | inl d ↦ rw (le-ltb c 128 a, le-ltb c 2048 b, lt-ltb c 65536 d) (omega arith, (omega arith, (omega arith, tt)))
+    | inr d ↦ rw (le-ltb c 128 a, le-ltb c 2048 b, le-ltb c 65536 d) (omega arith, (omega arith, (omega arith, (omega arith, tt))))
+  ]
+]
 
 far_within : (bs : List ℕ) → AllByRecursion IsFar bs → AllByRecursion IsWithin bs
 far_within [] all = tt
@@ -90,8 +86,8 @@ module _ {S P : Type 0} (Begins : P → S) (Gives : RuleOf S) (Closes : EndOf S)
       → length after ≤ length before → IsBlank it
   is_blank it close before after line returned closes out few =
       let more = shown_text it.line.held ++ close in
-      let none : close ≡ [] = empty close (omega (arith, ap length out, length-append before more, length-append (shown_text it.line.held) close, few)) in
-      record { line = line; returned = returned; closes = subst (λ (l : Between S). Closes l.rule []) line (subst (Closes it.line.rule) none closes) }
+      let none : close ≡ [] = nil_from_length close (omega (arith, ap length out, length-append before more, length-append (shown_text it.line.held) close, few)) in
+      record { line = line; returned = returned; closes = subst (λ (l : Between S). Closes l.rule []) line (rw none at closes) }
 
   one_shown : (old new : Lines S P) (c : ℕ) (ends : Bool) → ends_line c ≡ ends → IsShown c → scalar c ≡ true → IsBlank old → IsBlank new
       → new.by ≡ old.by → GoesOn Step old (encode_utf8 c) (encode_utf8 c) new
@@ -119,17 +115,3 @@ module _ {S P : Type 0} (Begins : P → S) (Gives : RuleOf S) (Closes : EndOf S)
   pub goes_shown : (old new : Lines S P) (bytes : List ℕ) → 0 < length bytes → IsPlain bytes → IsBlank old → IsBlank new → new.by ≡ old.by → GoesOn Step old bytes bytes new
   goes_shown old new bytes some ([], are, shown, e) old_blank new_blank by = absurd (omega (arith, some, ap length e))
   goes_shown old new bytes some (c ∷ cs, are, shown, e) old_blank new_blank by = rw e (all_shown old new c cs are shown old_blank new_blank by)
-
-  -- the same state
-  pub goes_same : (old new : Lines S P) → new.by ≡ old.by → new.line ≡ old.line → new.returned ≡ old.returned → GoesOn Step old [] [] new
-  goes_same old new by line returned first read text p = record {
-    by = by ∙ p.by;
-    over = p.over;
-    texts = p.texts;
-    line = p.line;
-    own = p.own;
-    lines = λ later. ap (λ (bs : List ℕ). lines_from first.returned [] (bs ++ later)) (append-nil read) ∙ p.lines later ∙ ap (λ (r : Bool). p.over ++ lines_from r p.line later) (sym returned);
-    each = p.each;
-    takes = rw line p.takes;
-    all = append-nil text ∙ p.all;
-  }

@@ -30,21 +30,15 @@ pub goes_on : (m n a : Mode) (t u v : Bool) (old mid new : CutSearch) (bytes tex
 goes_on m n a t u v old mid new bytes text rest more later g k =
     let ps = with_titles t g.parts in
     let qs = with_titles u k.parts in
-    let whole : with_titles t (g.parts ++ k.parts) ≡ ps ++ qs = titles_on t g.parts k.parts
-    ∙ ap (λ (b : Bool). ps ++ with_titles b k.parts) (sym g.titles) in
+    let whole : with_titles t (g.parts ++ k.parts) ≡ ps ++ qs = rw (titles_on t g.parts k.parts, g.titles) refl in
     record {
       parts = g.parts ++ k.parts;
       first = parts_on longest g.parts k.parts m bytes rest later n a g.first k.first;
-      titles = k.titles ∙ ap (λ (b : Bool). title_open b k.parts) g.titles ∙ sym (open_on t g.parts k.parts);
+      titles = rw (k.titles, g.titles, open_on t g.parts k.parts) refl;
       finds = λ s is.
           let (at, e) = g.finds s is in
-          let mids = behind s ps in
-          let (last, f) = k.finds mids at in (
-            subst (λ (x : List Part). IsAt new (behind s x)) (sym whole) (subst (IsAt new) (sym (behind_on s ps qs)) last),
-            ap (λ (x : List ℕ). x ++ more) e ∙ ap (λ (x : List ℕ). told (cuts s ps) ++ x) f
-                ∙ sym (told_on (cuts s ps) (cuts mids qs)) ∙ ap told (sym (cuts_on s ps qs))
-                ∙ ap (λ (x : List Part). told (cuts s x)) (sym whole),
-          );
+          let (last, f) = k.finds (behind s ps) at in
+          rw (whole, behind_on s ps qs) (last, rw (e, f, cuts_on s ps qs) (sym (told_on (cuts s ps) (cuts (behind s ps) qs))));
     }
 
 -- a span
@@ -100,8 +94,7 @@ pub sure_alone : (s : Found) (ps : List Part) (rest : List ℕ)
 sure_alone s ps rest =
     let front = with_titles false ps in
     let now = title_open false ps in
-    ap (cuts s) (titles_on false ps (left_over rest)) ∙ cuts_on s front (with_titles now (left_over rest))
-    ∙ ap (λ (x : List ℕ). cuts s front ++ x) (no_more now (behind s front) rest) ∙ append-nil (cuts s front)
+    rw (titles_on false ps (left_over rest), cuts_on s front (with_titles now (left_over rest)), no_more now (behind s front) rest) (append-nil (cuts s front))
 
 module _ (every : ℕ) (f : Finder) (is : IsBegun every f) where
   of_all : (read : List ℕ) (text : List ℕ) (last : Finder) → Passes f read text last → Tells every read text
@@ -112,11 +105,7 @@ module _ (every : ℕ) (f : Finder) (is : IsBegun every f) where
       let all = g.parts ++ left_over rest in
       let same = sure_alone s g.parts rest in (
         cuts s (with_titles false all),
-        record {
-          parts = all;
-          whole = record { sure = g.parts; rest = rest; after = last.waiting.mode; first = g.first; unsure = p.unsure; whole = refl };
-          all = refl;
-        },
+        record { parts = all; whole = record { sure = g.parts; rest = rest; after = last.waiting.mode; first = g.first; unsure = p.unsure; whole = refl }; all = refl },
         (g.finds s is.search).1 ∙ ap told (sym same),
       )
 
@@ -127,7 +116,7 @@ module _ (every : ℕ) (f : Finder) (is : IsBegun every f) where
   pub one_text : (bytes text other : List ℕ) → Tells every bytes text → Tells every bytes other → text ≡ other
   one_text bytes text other (xs, h, e) (ys, k, f) =
       let same = whole_once longest mode.Text bytes h.parts k.parts h.whole k.whole in
-      e ∙ ap told (h.all ∙ ap (λ (x : List Part). cuts (start every) (with_titles false x)) same ∙ sym k.all) ∙ sym f
+      rw (e, f, h.all, k.all, same) refl
 
   -- and what was told before the end is a front of it
   pub front : (read more text : List ℕ) → Sends Passes f read text → IsFrontOf (Tells every) (read ++ more) text
@@ -140,13 +129,10 @@ module _ (every : ℕ) (f : Finder) (is : IsBegun every f) where
       (last.waiting.bytes ++ more) w.rest last.waiting.mode w.after
       (parts_more longest g.parts mode.Text read more last.waiting.bytes last.waiting.mode g.first) w.first w.unsure in
       let qs = others ++ left_over w.rest in
-      let parts : k.parts ≡ g.parts ++ qs = w.whole ∙ ap (λ (x : List Part). x ++ left_over w.rest) same
-      ∙ append_assoc g.parts others (left_over w.rest) in
+      let parts : k.parts ≡ g.parts ++ qs = w.whole ∙ ap (λ (x : List Part). x ++ left_over w.rest) same ∙ append_assoc g.parts others (left_over w.rest) in
       let later = cuts (behind s ps) (with_titles (title_open false g.parts) qs) in (
         told later,
-        e ∙ ap told (k.all ∙ ap (λ (x : List Part). cuts s (with_titles false x)) parts ∙ ap (cuts s) (titles_on false g.parts qs)
-            ∙ cuts_on s ps (with_titles (title_open false g.parts) qs))
-            ∙ told_on (cuts s ps) later ∙ ap (λ (x : List ℕ). x ++ told later) (sym (g.finds s is.search).1),
+        rw (e, k.all, parts, titles_on false g.parts qs, cuts_on s ps (with_titles (title_open false g.parts) qs), (g.finds s is.search).1) (told_on (cuts s ps) later),
       )
 
   pub whole_text : (bytes text : List ℕ) → Transforms Passes Quiet f bytes text → IsFrontOf (Tells every) bytes text

@@ -26,8 +26,7 @@ pub cuts_in_on : (s : Found) (xs ys : List ℕ) → cuts_in s (xs ++ ys) ≡ cut
 cuts_in_on s [] ys = refl
 cuts_in_on s (x ∷ xs) ys =
     let own = if is_cut s x then suc s.at ∷ [] else [] in
-    ap (λ (t : List ℕ). own ++ t) (cuts_in_on (behind_byte s x) xs ys)
-    ∙ sym (append_assoc own (cuts_in (behind_byte s x) xs) (cuts_in (behind_text s (x ∷ xs)) ys))
+    rw (cuts_in_on (behind_byte s x) xs ys) (sym (append_assoc own (cuts_in (behind_byte s x) xs) (cuts_in (behind_text s (x ∷ xs)) ys)))
 
 abbrev at : Found → ℕ → Found
 at s n = record { every = s.every; last = s.last; at = n }
@@ -84,8 +83,7 @@ behind_on s (p ∷ ps) qs = behind_on (behind_part s p) ps qs
 
 pub cuts_on : (s : Found) (ps qs : List Part) → cuts s (ps ++ qs) ≡ cuts s ps ++ cuts (behind s ps) qs
 cuts_on s [] qs = refl
-cuts_on s (p ∷ ps) qs = ap (λ (t : List ℕ). cuts_at s p ++ t) (cuts_on (behind_part s p) ps qs)
-    ∙ sym (append_assoc (cuts_at s p) (cuts (behind_part s p) ps) (cuts (behind s (p ∷ ps)) qs))
+cuts_on s (p ∷ ps) qs = rw (cuts_on (behind_part s p) ps qs) (sym (append_assoc (cuts_at s p) (cuts (behind_part s p) ps) (cuts (behind s (p ∷ ps)) qs)))
 
 -- the parts of a span are as the span
 pub record Spanned (s : Found) (k : Kind) (bytes : List ℕ) (ps : List Part) : Type 0 where
@@ -99,7 +97,7 @@ texts s (p ∷ ps) h =
     let rest = flat_map bytes_of ps in
     rw h.0 (record {
       behind = later.behind ∙ sym (text_on s p.bytes rest);
-      cuts = ap (λ (t : List ℕ). cuts_in s p.bytes ++ t) later.cuts ∙ sym (cuts_in_on s p.bytes rest);
+      cuts = rw later.cuts (sym (cuts_in_on s p.bytes rest));
     })
 
 other_behind : (s : Found) (k : Kind) (bytes : List ℕ) → is_text k ≡ false → behind_part s (part k bytes) ≡ passed (length bytes) s
@@ -126,17 +124,13 @@ others s k (p ∷ ps) none h =
     }
 
 pub spanned : (s : Found) (k : Kind) (bytes : List ℕ) (ps : List Part) → IsSpan k bytes ps → Spanned s k bytes ps
-spanned s kind.Csi bytes ps h = rw h (record { behind = refl; cuts = refl })
-spanned s kind.Esc bytes ps h = rw h (record { behind = refl; cuts = refl })
 spanned s kind.Text bytes ps h = rw (← h.joined) (texts s ps h.all)
 spanned s kind.Str bytes ps h = rw (← h.joined) (others s kind.Str ps refl h.all)
 spanned s kind.Other bytes ps h = rw (← h.joined) (others s kind.Other ps refl h.all)
+spanned s _ bytes ps h = rw h (record { behind = refl; cuts = refl })
 
 -- what is no text, where the search is told apart from it
 pub other_kind : (s : Found) (k : Kind) (bytes : List ℕ) (new : CutSearch) → k ≢ kind.Text → IsAt new (passed (length bytes) s)
     → IsAt new (behind_part s (part k bytes)) × ([] ≡ told (cuts_at s (part k bytes)))
 other_kind s kind.Text bytes new other h = absurd (other refl)
-other_kind s kind.Csi bytes new other h = (h, refl)
-other_kind s kind.Esc bytes new other h = (h, refl)
-other_kind s kind.Str bytes new other h = (h, refl)
-other_kind s kind.Other bytes new other h = (h, refl)
+other_kind s _ bytes new other h = (h, refl)

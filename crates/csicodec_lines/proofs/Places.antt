@@ -1,15 +1,16 @@
 -- Each place that is told is one.
-use Rattle.std.proofs.Common.{◌≡◌, ℕ, Bool, true, false, List, [], ◌∷◌, ◌++◌, length, length-append, take, refl, sym, ap, subst, ◌∙◌, append_assoc, arith, drop, append-nil, take-append-drop}
-use Rattle.std.specs.Prelude.{◌+◌, ◌==◌, nat_lt, suc, if◌then◌else◌}
+use Rattle.std.proofs.Common.{◌≡◌, ℕ, Bool, true, false, List, [], ◌∷◌, ◌++◌, length, length-append, take, refl, sym, ap, ◌∙◌, append_assoc, arith, drop, append-nil, take-append-drop}
+use Rattle.std.specs.Prelude.{◌+◌, ◌==◌, nat_lt, suc}
 use Rattle.std.specs.List.{AllByRecursion, flat_map}
 use Rattle.std.proofs.Math.Seq.{take-append_seam}
+use Rattle.std.proofs.lemmas.Bool.{cond_both}
 use Rattle.std.proofs.lemmas.Bool.Decides.{nat_tests}
 use Rattle.std.proofs.lemmas.List.Concat.{flat_map-append}
 use Rattle.csicodec_spans.specs.declared.table.Kind.{Kind}
 use Rattle.csicodec_spans.specs.declared.table.Kind.TheVariants as kind
 use Rattle.csicodec_spans.specs.declared.table.Mode.{Mode}
 use Rattle.csicodec_spans.specs.declared.table.Mode.TheVariants as mode
-use Rattle.csicodec_spans.specs.Table.{Answer, More, Anew, Sequence, Undecided, ahead}
+use Rattle.csicodec_spans.specs.Table.{Answer, More, Anew, ahead}
 use Rattle.csicodec_spans.specs.Parts.{Part, part, bytes_of, Allows, AreFirstParts, IsWhole, left_over}
 use Rattle.csicodec_spans.proofs.Agrees.{sound}
 use Rattle.csicodec_spans.proofs.Kept.{parts_join, parts_more, parts_on}
@@ -33,10 +34,7 @@ at_text s (b ∷ text) = omega (arith, at_text (behind_byte s b) text)
 
 at_part : (s : Found) (k : Kind) (bytes : List ℕ) → (behind_part s (part k bytes)).at ≡ s.at + length bytes
 at_part s kind.Text bytes = at_text s bytes
-at_part s kind.Csi bytes = refl
-at_part s kind.Esc bytes = refl
-at_part s kind.Str bytes = refl
-at_part s kind.Other bytes = refl
+at_part s _ bytes = refl
 
 came : (s new : Found) (pre : List Part) (p : Part) → s.at ≡ length (flat_map bytes_of pre) → new.at ≡ s.at + length p.bytes
     → new.at ≡ length (flat_map bytes_of (pre ++ p ∷ []))
@@ -57,19 +55,10 @@ text_mode : (f : Answer) (m : Mode) (limit : ℕ) (bytes text : List ℕ) (a : M
     → Allows f limit bytes kind.Text text a → a ≡ mode.Text
 text_mode (More k n b) m limit bytes text a h s = s.2 ∙ h.0.text (sym s.0)
 text_mode (Anew k n b) m limit bytes text a h s = s.2 ∙ h.0.text (sym s.0)
-text_mode Sequence m limit bytes text a h s = absurd s
-text_mode Undecided m limit bytes text a h s = absurd s
+text_mode _ m limit bytes text a h s = absurd s
 
-cut_ascii : (s : Found) (b : ℕ) → is_cut s b ≡ true → nat_lt b 128 ≡ true
-cut_ascii s b h = grind (arith, nat_tests)
-
-cut_no_esc : (s : Found) (b : ℕ) → is_cut s b ≡ true → (b == 27) ≡ false
-cut_no_esc s b h = grind (arith, nat_tests)
-
-by_test : (v : Bool) (bytes : List ℕ) (n : ℕ) → (v ≡ true → IsPlace bytes n)
-    → AllByRecursion (IsPlace bytes) ((if v then n ∷ [] else []) ++ [])
-by_test true bytes n f = (f refl, tt)
-by_test false bytes n f = tt
+cut_shown : (s : Found) (b : ℕ) → is_cut s b ≡ true → (nat_lt b 128 ≡ true) × ((b == 27) ≡ false)
+cut_shown s b h = grind (arith, nat_tests)
 
 byte_place : (bytes : List ℕ) (s : Found) (pre : List Part) (b : ℕ) (mid behind : List ℕ) (n a : Mode)
     → AreFirstParts longest mode.Text bytes pre mid n → AreFirstParts longest n mid (part kind.Text (b ∷ []) ∷ []) behind a
@@ -78,24 +67,16 @@ byte_place : (bytes : List ℕ) (s : Found) (pre : List Part) (b : ℕ) (mid beh
 byte_place bytes s pre b mid behind n a front last text untitled at cut =
     let both = parts_on longest pre (part kind.Text (b ∷ []) ∷ []) mode.Text bytes mid behind n a front last in
     let all = flat_map bytes_of (ends_in pre b) in
-    let long : suc s.at ≡ length all = omega (
-      arith,
-      at,
-      ap length (flat_map-append bytes_of pre (part kind.Text
-          (b ∷ []) ∷ [])),
-      length-append (flat_map bytes_of pre) (b ∷ []),
-    ) in
-    let own : take (suc s.at) bytes ≡ all = ap (λ (i : ℕ). take i bytes) long
-    ∙ ap (λ (t : List ℕ). take (length all) t) (parts_join longest (ends_in pre b) mode.Text bytes behind a both)
-    ∙ take-append_seam all behind in
-    let less = parts_less longest pre b mode.Text bytes behind a (omega arith) (cut_no_esc s b cut) both in
+    let long : suc s.at ≡ length all =
+    omega (arith, at, ap length (flat_map-append bytes_of pre (part kind.Text (b ∷ []) ∷ [])), length-append (flat_map bytes_of pre) (b ∷ [])) in
+    let own : take (suc s.at) bytes ≡ all = rw (long, parts_join longest (ends_in pre b) mode.Text bytes behind a both) (take-append_seam all behind) in
+    let less = parts_less longest pre b mode.Text bytes behind a (omega arith) (cut_shown s b cut).1 both in
     record {
       before = pre;
       byte = b;
-      parts = subst (λ (t : List ℕ). AreFirstParts longest mode.Text t (ends_in pre b) [] mode.Text) (sym own) (subst
-          (λ (m : Mode). AreFirstParts longest mode.Text all (ends_in pre b) [] m) text less);
+      parts = rw own (rw text at less);
       untitled = untitled;
-      ascii = cut_ascii s b cut;
+      ascii = (cut_shown s b cut).0;
     }
 
 text_places : (bytes : List ℕ) (s : Found) (pre : List Part) (own mid behind : List ℕ) (n a : Mode)
@@ -104,7 +85,8 @@ text_places : (bytes : List ℕ) (s : Found) (pre : List Part) (own mid behind :
     → AllByRecursion (IsPlace bytes) (cuts_in s own)
 text_places bytes s pre [] mid behind n a front last one text untitled at = tt
 text_places bytes s pre (b ∷ []) mid behind n a front last one text untitled at =
-    by_test (is_cut s b) bytes (suc s.at) (λ cut. byte_place bytes s pre b mid behind n a front last text untitled at cut)
+    cond_both (is_cut s b) (suc s.at ∷ []) [] (λ (ns : List ℕ). AllByRecursion (IsPlace bytes) (ns ++ []))
+    (λ cut. (byte_place bytes s pre b mid behind n a front last text untitled at cut, tt)) (λ _. tt)
 text_places bytes s pre (b ∷ c ∷ own) mid behind n a front last one text untitled at = absurd (omega (arith, one))
 
 one_part : (bytes : List ℕ) (s : Found) (t : Bool) (k : Kind) (own : List ℕ) (pre ps : List Part) (rest : List ℕ) (a : Mode)
@@ -115,10 +97,7 @@ one_part bytes s false kind.Text own pre ps rest a parts titled at =
     let (mid, n, front, (behind, b, (e, allowed), later)) = split longest pre (part kind.Text own ∷ ps) mode.Text bytes rest a parts in
     text_places bytes s pre own mid behind n b front (behind, b, (e, allowed), (refl, refl)) (fit longest n mid kind.Text own behind b (e, allowed)).1
     (text_mode (ahead n mid) n longest mid own b (sound n mid) allowed) (sym titled) at
-one_part bytes s t kind.Csi own pre ps rest a parts titled at = tt
-one_part bytes s t kind.Esc own pre ps rest a parts titled at = tt
-one_part bytes s t kind.Str own pre ps rest a parts titled at = tt
-one_part bytes s t kind.Other own pre ps rest a parts titled at = tt
+one_part bytes s _ _ own pre ps rest a parts titled at = tt
 
 -- ---- all of them
 
@@ -129,20 +108,16 @@ within bytes s t pre [] rest a parts titled at = tt
 within bytes s t pre (p ∷ ps) rest a parts titled at =
     let k = read_as p.kind t in
     let next = behind_part s (part k p.bytes) in
-    let titles : title_behind t p.kind p.bytes ≡ title_open false (pre ++ p ∷ []) = sym (open_on false pre (p ∷ [])
-    ∙ ap (λ (b : Bool). title_behind b p.kind p.bytes) (sym titled)) in
+    let titles : title_behind t p.kind p.bytes ≡ title_open false (pre ++ p ∷ []) = rw (open_on false pre (p ∷ []), titled) refl in
     all_both (IsPlace bytes) (cuts_at s (part k p.bytes)) (cuts next (with_titles (title_behind t p.kind p.bytes) ps))
     (one_part bytes s t p.kind p.bytes pre ps rest a parts titled at)
-    (within bytes next (title_behind t p.kind p.bytes) (pre ++ p ∷ []) ps rest a (subst
-    (λ (x : List Part). AreFirstParts longest mode.Text bytes x rest a) (sym (append_assoc pre (p ∷ []) ps)) parts) titles
-    (came s next pre p at (at_part s k p.bytes)))
+    (within bytes next (title_behind t p.kind p.bytes) (pre ++ p ∷ []) ps rest a (rw append_assoc parts) titles (came s next pre p at (at_part s k p.bytes)))
 
 pub all_places : (every : ℕ) (bytes places : List ℕ) → AreCuts every bytes places → AllByRecursion (IsPlace bytes) places
 all_places every bytes places h =
     let w = h.whole in
     let s = first every in
-    let same = h.all ∙ ap (λ (x : List Part). cuts s (with_titles false x)) w.whole ∙ sure_alone s w.sure w.rest in
-    subst (AllByRecursion (IsPlace bytes)) (sym same) (within bytes s false [] w.sure w.rest w.after w.first refl refl)
+    rw (h.all, w.whole, sure_alone s w.sure w.rest) (within bytes s false [] w.sure w.rest w.after w.first refl refl)
 
 -- the parts of the pieces, joined, are those of the stream
 pub pieces : (bytes : List ℕ) (at : ℕ) (front back : List Part) → IsPlace bytes at → IsWhole longest mode.Text (take at bytes) front
@@ -150,24 +125,10 @@ pub pieces : (bytes : List ℕ) (at : ℕ) (front back : List Part) → IsPlace 
     → IsWhole longest mode.Text bytes (front ++ back)
 pieces bytes at front back p w v =
     let sure = ends_in p.before p.byte in
-    let own : IsWhole longest mode.Text
-    (take at bytes) sure = record {
-      sure = sure;
-      rest = [];
-      after = mode.Text;
-      first = p.parts;
-      unsure = none_unsure longest mode.Text;
-      whole = sym (append-nil sure);
-    } in
+    let own : IsWhole longest mode.Text (take at bytes) sure =
+    record { sure = sure; rest = []; after = mode.Text; first = p.parts; unsure = none_unsure longest mode.Text; whole = rw append-nil refl } in
     let same : front ≡ sure = whole_once longest mode.Text (take at bytes) front sure w own in
     let ahead = parts_more longest sure mode.Text (take at bytes) (drop at bytes) [] mode.Text p.parts in
-    let both = parts_on longest sure v.sure mode.Text (take at bytes ++ drop at bytes)
-    (drop at bytes) v.rest mode.Text v.after ahead v.first in
-    rw same (record {
-      sure = sure ++ v.sure;
-      rest = v.rest;
-      after = v.after;
-      first = subst (λ (t : List ℕ). AreFirstParts longest mode.Text t (sure ++ v.sure) v.rest v.after) (take-append-drop at bytes) both;
-      unsure = v.unsure;
-      whole = ap (λ (x : List Part). sure ++ x) v.whole ∙ sym (append_assoc sure v.sure (left_over v.rest));
-    })
+    let both = parts_on longest sure v.sure mode.Text (take at bytes ++ drop at bytes) (drop at bytes) v.rest mode.Text v.after ahead v.first in
+    rw same
+    (record { sure = sure ++ v.sure; rest = v.rest; after = v.after; first = rw take-append-drop at both; unsure = v.unsure; whole = rw v.whole (sym (append_assoc sure v.sure (left_over v.rest))) })

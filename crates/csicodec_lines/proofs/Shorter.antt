@@ -1,11 +1,11 @@
 -- What was cut is cut so of fewer bytes too, if one stands behind it.
-use Rattle.std.proofs.Common.{◌≡◌, ◌<◌, ◌≤◌, ◌⊎◌, ℕ, Bool, true, false, List, [], ◌∷◌, ◌++◌, length, length-append, refl, sym, ap, subst, ◌∙◌, inl, inr, ⊎_elim, append_assoc, arith}
+use Rattle.std.proofs.Common.{◌≡◌, ◌<◌, ◌≤◌, ◌⊎◌, ℕ, Bool, true, false, List, [], ◌∷◌, ◌++◌, length, length-append, refl, sym, ap, subst, ◌∙◌, inl, inr, append_assoc, arith}
 use Rattle.std.specs.Prelude.{◌+◌, ◌==◌, ◌&&◌, if◌then◌else◌}
 use Rattle.std.specs.List.{flat_map}
 use Rattle.std.proofs.Math.ListN.{get_or-append}
 use Rattle.std.proofs.lemmas.List.{take-append-le}
 use Rattle.csicodec_tokens.specs.declared.reader.ReadError.{ReadError}
-use Rattle.csicodec_tokens.specs.declared.reader.ReadError.TheVariants.{NotCsi, BadByte, NumberTooLarge, Truncated, Memory}
+use Rattle.csicodec_tokens.specs.declared.reader.ReadError.TheVariants.{NotCsi, BadByte, NumberTooLarge}
 use Rattle.csicodec_tokens.specs.Fault.{Begins, FaultOf, IsBad, IsLeast, IsMetAt, NoSeq}
 use Rattle.csicodec_spans.specs.declared.table.Kind.{Kind}
 use Rattle.csicodec_spans.specs.declared.table.Kind.TheVariants as kind
@@ -20,12 +20,7 @@ use Rattle.csicodec_spans.proofs.Missed.{part_some}
 -- ---- control sequences that went wrong
 
 none_less : (bytes more : List ℕ) → NoSeq (bytes ++ more) → NoSeq bytes
-none_less bytes more none list final rest r = none list final (rest ++ more) (
-  r.0,
-  r.1,
-  ap (λ (t : List ℕ). t ++ more) r.2
-      ∙ append_assoc r.0 rest more,
-)
+none_less bytes more none list final rest r = none list final (rest ++ more) (r.0, r.1, rw r.2 (append_assoc r.0 rest more))
 
 least_less : (bytes more : List ℕ) (n : ℕ) → n < length bytes → IsLeast (bytes ++ more) n → IsLeast bytes n
 least_less bytes more n l h = record {
@@ -46,27 +41,13 @@ fault_less bytes more (BadByte place) n at l f =
     let w : place < length bytes = omega (arith, at, l) in
     (none_less bytes more f.0, (least_less bytes more place w f.1.0, f.1.1, subst IsBad (get_or-append bytes more 0 place w) f.1.2))
 fault_less bytes more (NumberTooLarge place) n at l f =
-    let w : place < length bytes = omega (arith, at, l) in (
-      none_less bytes more f.0,
-      (
-        least_less bytes more place w f.1.0,
-        f.1.1,
-        λ bad. f.1.2 (subst IsBad (sym
-            (get_or-append bytes more 0 place w)) bad),
-      ),
-    )
-fault_less bytes more (Truncated place) n at l f = absurd at
-fault_less bytes more Memory n at l f = absurd at
+    let w : place < length bytes = omega (arith, at, l) in
+    (none_less bytes more f.0, (least_less bytes more place w f.1.0, f.1.1, λ bad. f.1.2 (subst IsBad (sym (get_or-append bytes more 0 place w)) bad)))
+fault_less bytes more _ n at l f = absurd at
 
 malformed_less : (limit : ℕ) (text x more : List ℕ) → 0 < length x → IsMalformed limit ((text ++ x) ++ more) (length text)
     → IsMalformed limit (text ++ x) (length text)
-malformed_less limit text x more some (inl h) = inl (
-  h.0,
-  fault_less (text ++ x) more h.0 (length text) h.2 (omega
-      (arith, length-append text x, some)) h.1,
-  h.2,
-  h.3,
-)
+malformed_less limit text x more some (inl h) = inl (h.0, fault_less (text ++ x) more h.0 (length text) h.2 (omega (arith, length-append text x, some)) h.1, h.2, h.3)
 malformed_less limit text x more some (inr h) =
     let fits : limit ≤ length (text ++ x) = omega (arith, h.2, length-append text x) in
     inr (subst Begins (take-append-le limit (text ++ x) more fits) h.0, fits, h.2)
@@ -75,7 +56,6 @@ csi_less : (limit : ℕ) (text x more : List ℕ) (k : Kind) (a : Mode) → 0 < 
     → AllowsCsi limit (text ++ x) k text a
 csi_less limit text x more kind.Csi a some s = s
 csi_less limit text x more kind.Other a some s = (malformed_less limit text x more some s.0, s.1)
-csi_less limit text x more kind.Text a some s = absurd s
 csi_less limit text x more _ a some s = absurd s
 
 -- ---- what stands in front of two bytes at least
@@ -112,31 +92,26 @@ near_intermediate m [] (b ∷ more) = inr (refl, two (meant m) (is_within 48 126
 
 near_opened : (m : Mode) (b : ℕ) (rest more : List ℕ) → Near rest (meant m (opened b rest)) (meant m (opened b (rest ++ more)))
 near_opened m b rest more =
-    same (meant m) rest (b == 91) _ _ _ (same (meant m) rest (b == 93) _ _ _ (same (meant m) rest (b == 80) _ _ _ (same (meant m) rest
-    (opens_string b) _ _ _ (same (meant m) rest (is_within 48 126 b) _ _ _
-    (both (meant m) rest (is_within 32 47 b) (intermediate rest) _ (intermediate (rest ++ more)) _ (near_intermediate m rest more)
-    (inl refl))))))
+    same (meant m) rest (b == 91) _ _ _ (same (meant m) rest (b == 93) _ _ _ (same (meant m) rest (b == 80) _ _ _
+    (same (meant m) rest (opens_string b) _ _ _ (same (meant m) rest (is_within 48 126 b) _ _ _
+    (both (meant m) rest (is_within 32 47 b) (intermediate rest) _ (intermediate (rest ++ more)) _ (near_intermediate m rest more) (inl refl))))))
 
 near_escape : (m : Mode) (b : ℕ) (rest more : List ℕ) → Near rest (meant m (escape m (b ∷ rest))) (meant m (escape m (b ∷ (rest ++ more))))
 near_escape m b rest more =
-    same (meant m) rest (is_string m && b == 92) _ _ _ (same (meant m) rest (is_dcs m && b == 27) _ (opened b rest) (opened b
-    (rest ++ more)) (near_opened m b rest more))
+    same (meant m) rest (is_string m && b == 92) _ _ _ (same (meant m) rest (is_dcs m && b == 27) _ (opened b rest) (opened b (rest ++ more)) (near_opened m b rest more))
 
 near_look : (m : Mode) (b c : ℕ) (rest more : List ℕ)
     → Near rest (meant m (look m (b ∷ c ∷ rest))) (meant m (look m (b ∷ c ∷ (rest ++ more))))
 near_look m b c rest more =
-    same (meant m) rest (stays m b) _ _ _
-    (same (meant m) rest (ends m b) _ _ _ (both (meant m) rest (b == 27) (escape m (c ∷ rest)) _ (escape m (c ∷ (rest ++ more))) _
-    (near_escape m c rest more) (inl refl)))
+    same (meant m) rest (stays m b) _ _ _ (same (meant m) rest (ends m b) _ _ _
+    (both (meant m) rest (b == 27) (escape m (c ∷ rest)) _ (escape m (c ∷ (rest ++ more))) _ (near_escape m c rest more) (inl refl)))
 
 -- ---- one part
 
 allows_less : (f : Answer) (limit : ℕ) (text x more : List ℕ) (k : Kind) (a : Mode) → 0 < length x
     → Allows f limit ((text ++ x) ++ more) k text a → Allows f limit (text ++ x) k text a
-allows_less (More j n b) limit text x more k a some s = s
-allows_less (Anew j n b) limit text x more k a some s = s
 allows_less Sequence limit text x more k a some s = csi_less limit text x more k a some s
-allows_less Undecided limit text x more k a some s = s
+allows_less _ limit text x more k a some s = s
 
 takes_two : (g : Answer) (limit : ℕ) (bytes : List ℕ) (k : Kind) (text : List ℕ) (a : Mode) → TakesTwo g
     → Allows g limit bytes k text a → 2 ≤ length text
@@ -150,18 +125,14 @@ by_two : (m : Mode) (b c : ℕ) (rest text x more : List ℕ) (limit : ℕ) (k :
     → Allows (ahead m (text ++ x)) limit (text ++ x) k text a
 by_two m b c rest text x more limit k a shape some s =
     let short = b ∷ c ∷ rest in
-    let longer : ahead m ((text ++ x) ++ more) ≡ meant m (look m (short ++ more)) = ap (λ (t : List ℕ). ahead m (t ++ more))
-    (sym shape) ∙ found m (short ++ more) (look m (short ++ more)) refl in
+    let longer : ahead m ((text ++ x) ++ more) ≡ meant m (look m (short ++ more)) = ap (λ (t : List ℕ). ahead m (t ++ more)) (sym shape) ∙ found m (short ++ more) (look m (short ++ more)) refl in
     let shorter : meant m (look m short) ≡ ahead m (text ++ x) = sym (found m short (look m short) refl) ∙ ap (ahead m) shape in
-    ⊎_elim
-    (λ (e : meant m (look m short) ≡ meant m (look m (short ++ more))).
-    allows_less (ahead m (text ++ x)) limit text x more k a some (subst (λ (f : Answer). Allows f limit
-    ((text ++ x) ++ more) k text a) (longer ∙ sym e ∙ shorter) s))
-    (λ (h : (rest ≡ []) × TakesTwo (meant m (look m (short ++ more)))).
-    let long = takes_two (meant m (look m (short ++ more))) limit ((text ++ x) ++ more) k text a h.1 (subst
-    (λ (f : Answer). Allows f limit ((text ++ x) ++ more) k text a) longer s) in
-    absurd (omega (arith, long, some, ap length shape, ap length h.0, length-append text x)))
-    (near_look m b c rest more)
+    elim (near_look m b c rest more) [
+      | inl e ↦ allows_less (ahead m (text ++ x)) limit text x more k a some (subst (λ (f : Answer). Allows f limit ((text ++ x) ++ more) k text a) (longer ∙ sym e ∙ shorter) s)
+      | inr h ↦
+          let long = takes_two (meant m (look m (short ++ more))) limit ((text ++ x) ++ more) k text a h.1 (subst (λ (f : Answer). Allows f limit ((text ++ x) ++ more) k text a) longer s) in
+          absurd (omega (arith, long, some, ap length shape, ap length h.0, length-append text x))
+    ]
 
 ahead_less : (m : Mode) (text x more : List ℕ) (limit : ℕ) (k : Kind) (a : Mode) → 0 < length text → 0 < length x
     → Allows (ahead m ((text ++ x) ++ more)) limit ((text ++ x) ++ more) k text a
@@ -188,29 +159,17 @@ text_alone : (f : Answer) (limit : ℕ) (bytes : List ℕ) (b : ℕ) (a : Mode) 
     → Allows f limit (b ∷ []) kind.Text (b ∷ []) a
 text_alone (More k n c) limit bytes b a s = s
 text_alone (Anew k n c) limit bytes b a s = s
-text_alone Sequence limit bytes b a s = absurd s
-text_alone Undecided limit bytes b a s = absurd s
+text_alone _ limit bytes b a s = absurd s
 
 pub parts_less : (limit : ℕ) (ps : List Part) (b : ℕ) (m : Mode) (bytes rest : List ℕ) (a : Mode) → 0 < limit → (b == 27) ≡ false
     → AreFirstParts limit m bytes (ends_in ps b) rest a
     → AreFirstParts limit m (flat_map bytes_of (ends_in ps b)) (ends_in ps b) [] a
 parts_less limit [] b m bytes rest a l other (behind, mid, (e, s), last) =
     let same : ahead m bytes ≡ ahead m (b ∷ []) =
-    ap (ahead m) e ∙ found m (b ∷ behind) (look m (b ∷ behind)) refl ∙ no_esc m b behind other
-    ∙ sym (found m (b ∷ []) (look m (b ∷ [])) refl) in (
-      [],
-      mid,
-      (
-        refl,
-        subst (λ (f : Answer). Allows f limit (b ∷ []) kind.Text (b ∷ []) mid) same (text_alone
-            (ahead m bytes) limit bytes b mid s),
-      ),
-      (refl, last.1),
-    )
+    ap (ahead m) e ∙ found m (b ∷ behind) (look m (b ∷ behind)) refl ∙ no_esc m b behind other ∙ sym (found m (b ∷ []) (look m (b ∷ [])) refl) in
+    ([], mid, (refl, subst (λ (f : Answer). Allows f limit (b ∷ []) kind.Text (b ∷ []) mid) same (text_alone (ahead m bytes) limit bytes b mid s)), (refl, last.1))
 parts_less limit (p ∷ ps) b m bytes rest a l other (behind, mid, (e, s), later) =
     let x = flat_map bytes_of (ends_in ps b) in
-    let whole = e ∙ ap (λ (t : List ℕ). p.bytes ++ t) (parts_join limit (ends_in ps b) mid behind rest a later)
-    ∙ sym (append_assoc p.bytes x rest) in
-    let one = ahead_less m p.bytes x rest limit p.kind mid (part_some limit m bytes p behind mid l (e, s)) (last_some ps b) (subst
-    (λ (t : List ℕ). Allows (ahead m t) limit t p.kind p.bytes mid) whole s) in
+    let whole = e ∙ ap (λ (t : List ℕ). p.bytes ++ t) (parts_join limit (ends_in ps b) mid behind rest a later) ∙ sym (append_assoc p.bytes x rest) in
+    let one = ahead_less m p.bytes x rest limit p.kind mid (part_some limit m bytes p behind mid l (e, s)) (last_some ps b) (subst (λ (t : List ℕ). Allows (ahead m t) limit t p.kind p.bytes mid) whole s) in
     (x, mid, (refl, one), parts_less limit ps b mid behind rest a l other later)

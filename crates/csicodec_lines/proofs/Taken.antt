@@ -1,5 +1,5 @@
 -- A log as it comes.
-use Rattle.std.proofs.Common.{◌≡◌, ◌<◌, ℕ, Bool, true, false, List, [], ◌∷◌, ◌++◌, length, ◌==◌, refl, sym, ap, subst, ◌∙◌, ⊎_elim, append_assoc, append-nil}
+use Rattle.std.proofs.Common.{◌≡◌, ◌<◌, ℕ, true, false, List, [], ◌∷◌, ◌++◌, length, ◌==◌, refl, sym, subst, ◌∙◌, ⊎_elim, append_assoc, append-nil}
 use Rattle.std.specs.List.{AllByRecursion, concat}
 use Rattle.csicodec_filter.specs.Transform.{Begins as BeginsWith, GoesOn, Sends, Transforms}
 use Rattle.csicodec_clean.specs.Shown.{shown_text}
@@ -7,7 +7,7 @@ use Rattle.csicodec_clean.specs.Cleaned.{EndOf, Ends, RuleOf, longest}
 use Rattle.csicodec_clean.specs.Stream.{Takes, start_of}
 use Rattle.csicodec_clean.proofs.Chunks.{ends as at_end, takes_none, takes_on}
 use Rattle.csicodec_lines.specs.declared.lines.Lines.{Lines}
-use Rattle.csicodec_lines.specs.Lines.{AreOf, ByLines, IsWithin, ends_line, joins, lines_from, lines_of}
+use Rattle.csicodec_lines.specs.Lines.{ByLines, IsWithin, ends_line, joins, lines_from, lines_of}
 use Rattle.csicodec_lines.specs.Stream.{AreTaken, Ending, Passes, begun, ended}
 use Rattle.csicodec_lines.proofs.Ends.{all_within_on, one_end, one_joins}
 use Rattle.csicodec_lines.proofs.Texts.{ended_on, joined_on, of_on}
@@ -39,29 +39,30 @@ module _ {S P : Type 0} (Begins : P → S) (Gives : RuleOf S) (Closes : EndOf S)
     texts = p.texts;
     line = p.line ++ bytes;
     own = p.own ++ more;
-    lines = λ later.
-        ap (lines_from first.returned []) (append_assoc read bytes later) ∙ p.lines (bytes ++ later)
-        ∙ ap (λ (ls : List (List ℕ)). p.over ++ ls) (all_within_on old.returned bytes p.line later some within ∙ ap (λ (r : Bool). lines_from r (p.line ++ bytes) later) (sym returned));
+    lines = λ later. rw (append_assoc read bytes later, p.lines (bytes ++ later), all_within_on old.returned bytes p.line later some within, returned) refl;
     each = p.each;
     takes = takes_on Gives (start_of (Begins first.by)) old.line new.line p.line bytes p.own more p.takes takes;
-    all = ap (λ (t : List ℕ). t ++ more) p.all ∙ append_assoc (ended p.texts) p.own more;
+    all = rw p.all (append_assoc (ended p.texts) p.own more);
   }
 
-  -- one that joins the end before it
-  pub goes_joining : (old new : Lines S P) (b : ℕ) → joins old.returned b ≡ true → new.by ≡ old.by → new.returned ≡ false → new.line ≡ old.line → GoesOn Step old (b ∷ []) [] new
-  goes_joining old new b joining by returned line first read text p = record {
+  -- where the lines are the same
+  pub goes_same : (old new : Lines S P) (bytes : List ℕ) → ((line more : List ℕ) → lines_from old.returned line (bytes ++ more) ≡ lines_from new.returned line more) → new.by ≡ old.by
+      → new.line ≡ old.line → GoesOn Step old bytes [] new
+  goes_same old new bytes same by line first read text p = record {
     by = by ∙ p.by;
     over = p.over;
     texts = p.texts;
     line = p.line;
     own = p.own;
-    lines = λ later.
-        ap (lines_from first.returned []) (append_assoc read (b ∷ []) later) ∙ p.lines (b ∷ later)
-        ∙ ap (λ (ls : List (List ℕ)). p.over ++ ls) (one_joins old.returned b p.line later joining ∙ ap (λ (r : Bool). lines_from r p.line later) (sym returned));
+    lines = λ later. rw (append_assoc read bytes later, p.lines (bytes ++ later), same p.line later) refl;
     each = p.each;
     takes = rw line p.takes;
     all = append-nil text ∙ p.all;
   }
+
+  -- one that joins the end before it
+  pub goes_joining : (old new : Lines S P) (b : ℕ) → joins old.returned b ≡ true → new.by ≡ old.by → new.returned ≡ false → new.line ≡ old.line → GoesOn Step old (b ∷ []) [] new
+  goes_joining old new b joining by returned line = goes_same old new (b ∷ []) (λ own more. rw returned (one_joins old.returned b own more joining)) by line
 
   -- one that ends a line
   pub goes_over : (old new : Lines S P) (b : ℕ) (rest : List ℕ) → joins old.returned b ≡ false → ends_line b ≡ true → Ending Closes old rest → new.by ≡ old.by → new.returned ≡ (b == 13)
@@ -69,22 +70,17 @@ module _ {S P : Type 0} (Begins : P → S) (Gives : RuleOf S) (Closes : EndOf S)
   goes_over old new b rest joining ends (close, closes, shown) by returned line first read text p =
       let own = p.own ++ rest in
       let whole = at_end Gives Closes (Begins first.by) p.line p.own close old.line p.takes closes in
-      let one : Ends Gives Closes longest (Begins first.by) p.line own = subst (λ (t : List ℕ). Ends Gives Closes longest (Begins first.by) p.line (p.own ++ t)) (sym shown) whole in
+      let one : Ends Gives Closes longest (Begins first.by) p.line own = rw shown whole in
       record {
         by = by ∙ p.by;
         over = p.over ++ p.line ∷ [];
         texts = p.texts ++ own ∷ [];
         line = [];
         own = [];
-        lines = λ later.
-            ap (lines_from first.returned []) (append_assoc read (b ∷ []) later) ∙ p.lines (b ∷ later)
-            ∙ ap (λ (ls : List (List ℕ)). p.over ++ ls) (one_end old.returned b p.line later joining ends ∙ ap (λ (r : Bool). p.line ∷ lines_from r [] later) (sym returned))
-            ∙ sym (append_assoc p.over (p.line ∷ []) (lines_from new.returned [] later));
+        lines = λ later. rw (append_assoc read (b ∷ []) later, p.lines (b ∷ later), one_end old.returned b p.line later joining ends, returned) (sym (append_assoc p.over (p.line ∷ []) _));
         each = of_on (Ends Gives Closes longest (Begins first.by)) p.over p.texts p.line own p.each one;
         takes = rw (line, p.by) (takes_none Gives (Begins first.by));
-        all =
-            ap (λ (t : List ℕ). t ++ (rest ++ 10 ∷ [])) p.all ∙ append_assoc (ended p.texts) p.own (rest ++ 10 ∷ []) ∙ ap (λ (t : List ℕ). ended p.texts ++ t) (sym (append_assoc p.own rest (10 ∷ [])))
-            ∙ sym (ended_on p.texts own) ∙ sym (append-nil (ended (p.texts ++ own ∷ [])));
+        all = rw (p.all, append-nil, ended_on p.texts own) (simp append_assoc);
       }
 
   -- the end
@@ -94,13 +90,12 @@ module _ {S P : Type 0} (Begins : P → S) (Gives : RuleOf S) (Closes : EndOf S)
       let Out = Ends Gives Closes longest (Begins first.by) in
       let own = p.own ++ rest in
       let whole = at_end Gives Closes (Begins first.by) p.line p.own close last.line p.takes closes in
-      let one : Out p.line own = subst (λ (t : List ℕ). Out p.line (p.own ++ t)) (sym shown) whole in
-      let lines : lines_of bytes ≡ p.over ++ p.line ∷ [] =
-      ap (lines_from false []) (sym (append-nil bytes)) ∙ ap (λ (r : Bool). lines_from r [] (bytes ++ [])) (sym fresh) ∙ p.lines [] in
+      let one : Out p.line own = rw shown whole in
+      let lines : lines_of bytes ≡ p.over ++ p.line ∷ [] = rw (fresh, append-nil) at (p.lines []) in
       record {
         texts = p.texts ++ own ∷ [];
-        each = subst (λ (ls : List (List ℕ)). AreOf Out ls (p.texts ++ own ∷ [])) (sym lines) (of_on Out p.over p.texts p.line own p.each one);
-        all = ap (λ (t : List ℕ). t ++ rest) p.all ∙ append_assoc (ended p.texts) p.own rest ∙ sym (joined_on p.texts own);
+        each = rw lines (of_on Out p.over p.texts p.line own p.each one);
+        all = rw (p.all, joined_on p.texts own) (append_assoc (ended p.texts) p.own rest);
       }
 
   pub transformed : (first : Lines S P) (bytes text : List ℕ) → first.returned ≡ false → Transforms Step (Ending Closes) first bytes text

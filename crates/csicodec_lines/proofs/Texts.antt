@@ -1,9 +1,8 @@
 -- Texts of lines, joined.
-use Rattle.std.proofs.Common.{◌≡◌, ℕ, Bool, false, List, [], ◌∷◌, ◌++◌, refl, sym, ap, ◌∙◌, append_assoc, append-nil}
+use Rattle.std.proofs.Common.{◌≡◌, ℕ, false, List, [], ◌∷◌, ◌++◌, refl, sym, ap, ◌∙◌, append_assoc, append-nil}
 use Rattle.csicodec_clean.specs.Shown.{IsPlain, shown}
 use Rattle.csicodec_clean.specs.Cleaned.{Strips, longest}
-use Rattle.csicodec_clean.specs.Links.{is_linked}
-use Rattle.csicodec_clean.specs.Styled.{IsSafe, IsStyledIn, Shown, StylesIn, is_open, item_texts, links_of, styles_of}
+use Rattle.csicodec_clean.specs.Styled.{IsSafe, IsStyledIn, Shown, StylesIn, item_texts, links_of, styles_of}
 use Rattle.csicodec_clean.specs.declared.styles.Passing.{Passing}
 use Rattle.csicodec_clean.proofs.Linked.{linked_on}
 use Rattle.csicodec_clean.proofs.Plain.{strips_plain, text_on}
@@ -27,12 +26,9 @@ ended_on (t ∷ ts) text = ap (λ (x : List ℕ). t ++ 10 ∷ x) (ended_on ts te
 pub joined_front : (texts others : List (List ℕ)) (text : List ℕ) → (more : List ℕ) × (joined (texts ++ text ∷ others) ≡ ended texts ++ (text ++ more))
 joined_front [] [] text = ([], sym (append-nil text))
 joined_front [] (o ∷ others) text = (10 ∷ joined (o ∷ others), refl)
-joined_front (t ∷ []) others text =
-    let (more, e) = joined_front [] others text in
-    (more, ap (λ (x : List ℕ). t ++ 10 ∷ x) e ∙ sym (append_assoc t (10 ∷ []) (text ++ more)))
+joined_front (t ∷ []) others text = let (more, e) = joined_front [] others text in (more, rw e (sym (append_assoc t (10 ∷ []) (text ++ more))))
 joined_front (t ∷ u ∷ us) others text =
-    let (more, e) = joined_front (u ∷ us) others text in
-    (more, ap (λ (x : List ℕ). t ++ 10 ∷ x) e ∙ sym (append_assoc t (10 ∷ ended (u ∷ us)) (text ++ more)))
+    let (more, e) = joined_front (u ∷ us) others text in (more, rw e (sym (append_assoc t (10 ∷ ended (u ∷ us)) (text ++ more))))
 
 -- ---- which lines they are of
 
@@ -102,9 +98,8 @@ styled_both d s t h k =
       items = h.items ++ later;
       safe = all_both (IsSafe d) h.items later h.safe ((refl, refl), k.safe);
       texts = ap (λ (x : List ℕ). x ++ 10 ∷ t) h.texts ∙ ap (λ (x : List ℕ). item_texts h.items ++ 10 ∷ x) k.texts ∙ sym (texts_both h.items later);
-      none_open = ap (is_open false) (styles_both h.items later) ∙ open_on false (styles_of h.items) (styles_of k.items) ∙ ap (λ (b : Bool). is_open b (styles_of k.items)) h.none_open ∙ k.none_open;
-      none_linked =
-          ap (is_linked false) (links_both h.items later) ∙ linked_on false (links_of h.items) (links_of k.items) ∙ ap (λ (b : Bool). is_linked b (links_of k.items)) h.none_linked ∙ k.none_linked;
+      none_open = rw (styles_both h.items later, open_on false (styles_of h.items) (styles_of k.items), h.none_open) k.none_open;
+      none_linked = rw (links_both h.items later, linked_on false (links_of h.items) (links_of k.items), h.none_linked) k.none_linked;
     }
 
 pub each_styled : (d : Passing) (lines texts : List (List ℕ)) → AreOf (StylesIn d) lines texts → AreOf (λ (line t : List ℕ). IsStyledIn d t) lines texts

@@ -3,7 +3,8 @@ use Rattle.std.proofs.Math.Seq.{take-append_seam}
 use Rattle.csicodec_filter.proofs.Sent.{goes_none}
 use Rattle.csicodec_clean.specs.Shown.{shown_text}
 use Rattle.csicodec_lines.specs.Stream.{Passes}
-use Rattle.csicodec_lines.proofs.Copied.{goes_same, goes_shown, is_blank, unchanged}
+use Rattle.csicodec_lines.proofs.Copied.{goes_shown, is_blank, unchanged}
+use Rattle.csicodec_lines.proofs.Taken.{goes_same}
 use Rattle.csicodec_lines.proofs.lines.Lines.take_shown.Goals as goal
 
 pub returns-then-front-lt-LANES : goal.returns-then-front-lt-LANES
@@ -15,7 +16,7 @@ returns-then-len-before g c =
     let before = c.args.out.now.items in
     let all : c.len-before.result ≡ length before = search rules in
     let same = c.truncate.ensures.items ∙ ap (λ (n : ℕ). take n c.finish.new.out.items) all ∙ ap (take (length before)) out ∙ take-append_seam before (shown_text c.args.self.now.line.held ++ close) in
-    ([], [], refl, goes_same g.R.Anew.begins g.R.Rule.gives g.R.Rule.closes c.args.self.now _ refl (c.begin.ensures ∙ sym c.requires) refl, same ∙ sym (append-nil before))
+    ([], [], refl, goes_same g.R.Anew.begins g.R.Rule.gives g.R.Rule.closes c.args.self.now _ [] (λ line more. refl) refl (c.begin.ensures ∙ sym c.requires), same ∙ sym (append-nil before))
 
 pub returns : goal.returns
 returns g c =

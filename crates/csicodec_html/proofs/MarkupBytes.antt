@@ -1,18 +1,19 @@
 -- A page is markup by its bytes alone.
-use Rattle.std.proofs.Common.{◌≡◌, ◌≢◌, ◌<◌, ◌≤◌, ℕ, Bool, true, false, List, [], ◌∷◌, ◌++◌, inl, inr, Option, Some, None, refl, sym, ap, subst, ◌∙◌, append_assoc, arith}
-use Rattle.std.specs.Prelude.{codes, if◌then◌else◌, encode_utf8}
+use Rattle.std.proofs.Common.{◌≡◌, ◌≢◌, ◌<◌, ◌≤◌, ◌+◌, ◌/◌, ◌%◌, ℕ, Bool, true, false, List, [], ◌∷◌, ◌++◌, Option, Some, None, refl, sym, ap, subst, ◌∙◌, append_assoc, arith}
+use Rattle.std.specs.Prelude.{codes, if◌then◌else◌}
+use Rattle.std.specs.Char.{encode_utf8}
 use Rattle.std.specs.List.{AllByRecursion, flat_map}
-use Rattle.std.proofs.lemmas.Bool.{cond_both, le-leb}
+use Rattle.std.proofs.lemmas.Bool.{cond_both}
 use Rattle.std.proofs.lemmas.Bool.Decides.{nat_tests}
+use lib.Utf8.{scalar}
 use Rattle.csicodec_clean.specs.Shown.{IsShown}
-use Rattle.csicodec_clean.proofs.Marked.{IsHigh, Spells, spells}
 use Rattle.csicodec_html.specs.declared.classes.Class.{Class}
 use Rattle.csicodec_html.specs.declared.look.Look.{Look}
 use Rattle.csicodec_html.specs.declared.markup.Markup.{Markup}
 use Rattle.csicodec_html.specs.Classes.{attributes, attributes_of, class_name, classes_of, has_true, names, rest_attribute, style_attribute, true_colors}
 use Rattle.csicodec_html.specs.Look.{css, settled}
 use Rattle.csicodec_html.specs.Page.{IsHarmless, IsQuoted, IsPageWith, IsSafe, PageWith, Piece, Char, Begin, End, Open, Shut, are_paired, escaped, piece_text, piece_texts}
-use Rattle.csicodec_html.specs.MarkupBytes.{Spot, Inside, Lead, Tag, is_text_byte, is_value_byte, is_markup, no_value, spot_behind, IsMarkup}
+use Rattle.csicodec_html.specs.MarkupBytes.{Spot, Inside, Tag, begun, is_value_byte, is_markup, no_value, spot_behind, IsMarkup}
 use Rattle.csicodec_html.proofs.Addresses.{all_quoted, escaped_by}
 use Rattle.csicodec_html.proofs.Declarations.{Fine, css_fine}
 use Rattle.csicodec_html.proofs.Named.{name_fine, true_fine}
@@ -20,38 +21,33 @@ use Rattle.csicodec_html.proofs.Paired.{is_page}
 
 -- ---- characters
 
-on_text : (links linked spanned : Bool) (b : ℕ) (more : List ℕ) → b ≢ 60 → b ≢ 38 → b ≢ 194 → is_text_byte b ≡ true
-    → is_markup links Inside linked spanned (b ∷ more) ≡ is_markup links Inside linked spanned more
-on_text links linked spanned b more less and l t = grind (arith, nat_tests)
+-- behind them text goes on
+abbrev Passes : List ℕ → Type 0
+Passes bytes = (links linked spanned : Bool) (more : List ℕ) → is_markup links Inside linked spanned (bytes ++ more) ≡ is_markup links Inside linked spanned more
 
-high_byte : (b : ℕ) → 128 ≤ b → is_text_byte b ≡ true
-high_byte b h = grind (arith, nat_tests)
+one : (c : ℕ) → c < 128 → IsShown c → c ≢ 34 → c ≢ 38 → c ≢ 39 → c ≢ 60 → c ≢ 62 → Passes (c ∷ [])
+one c k h quote and apostrophe less greater links linked spanned more = grind (arith, nat_tests)
 
-low_byte : (c : ℕ) → c < 128 → IsShown c → c ≢ 34 → c ≢ 38 → c ≢ 39 → c ≢ 60 → c ≢ 62 → is_text_byte c ≡ true
-low_byte c h s quote and apostrophe less greater = grind (arith, nat_tests)
+high : (links linked spanned : Bool) (b : ℕ) → 128 ≤ b → spot_behind links linked spanned Inside b ≡ begun b
+high links linked spanned b h = grind (arith, nat_tests)
 
-high_markup : (links linked spanned : Bool) (bytes more : List ℕ) → AllByRecursion IsHigh bytes → is_markup links Inside linked spanned (bytes ++ more) ≡ is_markup links Inside linked spanned more
-high_markup links linked spanned [] more h = refl
-high_markup links linked spanned (b ∷ bytes) more h =
-    on_text links linked spanned b (bytes ++ more) (λ e. absurd (omega (arith, e, h.0.0))) (λ e. absurd (omega (arith, e, h.0.0))) h.0.1 (high_byte b h.0.0)
-    ∙ high_markup links linked spanned bytes more h.1
+two : (c : ℕ) → 160 ≤ c → c < 2048 → Passes ((192 + c / 64) ∷ (128 + c % 64) ∷ [])
+two c h k links linked spanned more = grind (arith, nat_tests)
 
-lead : (links linked spanned : Bool) (b : ℕ) → 160 ≤ b → spot_behind links linked spanned Lead b ≡ Inside
-lead links linked spanned b from = rw (le-leb 160 b from) refl
+three : (c : ℕ) → 2048 ≤ c → c < 65536 → scalar c ≡ true → Passes ((224 + c / 4096) ∷ (128 + (c / 64) % 64) ∷ (128 + c % 64) ∷ [])
+three c h k s links linked spanned more = grind (arith, nat_tests)
 
-itself : (links linked spanned : Bool) (c : ℕ) (more : List ℕ) → IsShown c → c ≢ 34 → c ≢ 38 → c ≢ 39 → c ≢ 60 → c ≢ 62
-    → is_markup links Inside linked spanned (encode_utf8 c ++ more) ≡ is_markup links Inside linked spanned more
-itself links linked spanned c more h quote and apostrophe less greater = by (spells c h)
-  where
-    by : Spells c (encode_utf8 c) → is_markup links Inside linked spanned (encode_utf8 c ++ more) ≡ is_markup links Inside linked spanned more
-    by (inl (low, is)) = rw is (on_text links linked spanned c more less and (λ e. absurd (omega (arith, e, low))) (low_byte c low h quote and apostrophe less greater))
-    by (inr (inl (b, from, is))) = rw is (ap (λ (s : Spot). is_markup links s linked spanned more) (lead links linked spanned b from))
-    by (inr (inr all)) = high_markup links linked spanned (encode_utf8 c) more all
+four : (c : ℕ) → 65536 ≤ c → scalar c ≡ true → Passes ((240 + c / 262144) ∷ (128 + (c / 4096) % 64) ∷ (128 + (c / 64) % 64) ∷ (128 + c % 64) ∷ [])
+four c h s links linked spanned more =
+    ap (λ (at : Spot). is_markup links at linked spanned ((128 + (c / 4096) % 64) ∷ (128 + (c / 64) % 64) ∷ (128 + c % 64) ∷ more))
+    (high links linked spanned (240 + c / 262144) (omega arith)) ∙ (grind (arith, nat_tests))
 
-char_markup : (links linked spanned : Bool) (c : ℕ) (more : List ℕ) → IsShown c → is_markup links Inside linked spanned (escaped c ++ more) ≡ is_markup links Inside linked spanned more
-char_markup links linked spanned c more h =
-    escaped_by (λ (t : List ℕ). is_markup links Inside linked spanned (t ++ more) ≡ is_markup links Inside linked spanned more) c refl refl refl refl refl
-    (λ q a s l g. itself links linked spanned c more h q a s l g)
+itself : (c : ℕ) → IsShown c → scalar c ≡ true → c ≢ 34 → c ≢ 38 → c ≢ 39 → c ≢ 60 → c ≢ 62 → Passes (encode_utf8 c)
+unfolding encode_utf8
+itself c h s quote and apostrophe less greater = grind (arith, nat_tests, one, two, three, four)
+
+char_markup : (c : ℕ) → IsShown c → scalar c ≡ true → Passes (escaped c)
+char_markup c h s = escaped_by Passes c (λ l k p m. refl) (λ l k p m. refl) (λ l k p m. refl) (λ l k p m. refl) (λ l k p m. refl) (itself c h s)
 
 -- ---- what stands between quotation marks
 
@@ -95,11 +91,11 @@ Behind links linked spanned classes bytes more =
 
 style_markup : (links linked spanned classes : Bool) (style more : List ℕ) → Fine style → Behind links linked spanned classes (style_attribute 34 style) more
 style_markup links linked spanned false style more h =
-    let begun = codes "span style=" ++ 34 ∷ [] in
-    (true, ap (λ (t : List ℕ). is_markup links (Tag true begun) linked spanned t) (append_assoc style (34 ∷ []) more) ∙ fine_markup links linked spanned begun style (34 ∷ more) h)
+    let tag = codes "span style=" ++ 34 ∷ [] in
+    (true, ap (λ (t : List ℕ). is_markup links (Tag true tag) linked spanned t) (append_assoc style (34 ∷ []) more) ∙ fine_markup links linked spanned tag style (34 ∷ more) h)
 style_markup links linked spanned true style more h =
-    let begun = codes "span class=" ++ (no_value ++ (codes " style=" ++ 34 ∷ [])) in
-    (true, ap (λ (t : List ℕ). is_markup links (Tag true begun) linked spanned t) (append_assoc style (34 ∷ []) more) ∙ fine_markup links linked spanned begun style (34 ∷ more) h)
+    let tag = codes "span class=" ++ (no_value ++ (codes " style=" ++ 34 ∷ [])) in
+    (true, ap (λ (t : List ℕ). is_markup links (Tag true tag) linked spanned t) (append_assoc style (34 ∷ []) more) ∙ fine_markup links linked spanned tag style (34 ∷ more) h)
 
 rest_markup : (links linked spanned classes : Bool) (l : Look) (more : List ℕ) → Behind links linked spanned classes (rest_attribute 34 l) more
 rest_markup links linked spanned classes l more =
@@ -154,14 +150,14 @@ attributes_markup links linked spanned m l more = by m.classes
 
 -- ---- the tags
 
-begun : (links linked classes styles : Bool) (more : List ℕ) → is_markup links (Tag false (span_tag classes styles)) linked false (62 ∷ more) ≡ is_markup links Inside linked true more
-begun links linked classes styles more = grind arith
+tag_ends : (links linked classes styles : Bool) (more : List ℕ) → is_markup links (Tag false (span_tag classes styles)) linked false (62 ∷ more) ≡ is_markup links Inside linked true more
+tag_ends links linked classes styles more = grind arith
 
 begin_markup : (links linked : Bool) (m : Markup) (l : Look) (more : List ℕ) → is_markup links Inside linked false (piece_text (Begin m l) ++ more) ≡ is_markup links Inside linked true more
 begin_markup links linked m l more =
     let own = attributes 34 m l in
     let r = attributes_markup links linked false m (settled m.palette l) (62 ∷ more) in
-    ap (λ (t : List ℕ). is_markup links (Tag false (codes "span")) linked false t) (append_assoc own (62 ∷ []) more) ∙ r.on ∙ begun links linked r.classes r.styles more
+    ap (λ (t : List ℕ). is_markup links (Tag false (codes "span")) linked false t) (append_assoc own (62 ∷ []) more) ∙ r.on ∙ tag_ends links linked r.classes r.styles more
 
 end_markup : (links linked : Bool) (more : List ℕ) → is_markup links Inside linked true (piece_text End ++ more) ≡ is_markup links Inside linked false more
 end_markup links linked more = refl
@@ -181,7 +177,7 @@ shut_markup links more = refl
 pieces_markup : (m : Markup) (linked spanned : Bool) (pieces : List Piece) → AllByRecursion (IsSafe m) pieces
     → are_paired linked spanned pieces ≡ true → is_markup m.links Inside linked spanned (piece_texts pieces) ≡ true
 pieces_markup m linked spanned [] h p = p
-pieces_markup m linked spanned (Char c ∷ pieces) h p = char_markup m.links linked spanned c (piece_texts pieces) h.0.0 ∙ pieces_markup m linked spanned pieces h.1 p
+pieces_markup m linked spanned (Char c ∷ pieces) h p = char_markup c h.0.0 h.0.1 m.links linked spanned (piece_texts pieces) ∙ pieces_markup m linked spanned pieces h.1 p
 pieces_markup m linked false (Begin n l ∷ pieces) h p = begin_markup m.links linked n l (piece_texts pieces) ∙ pieces_markup m linked true pieces h.1 p
 pieces_markup m linked true (End ∷ pieces) h p = end_markup m.links linked (piece_texts pieces) ∙ pieces_markup m linked false pieces h.1 p
 pieces_markup m false false (Open url ∷ pieces) h p =

@@ -1,9 +1,10 @@
 -- No byte of a declaration ends the attribute that it stands in.
-use Rattle.std.proofs.Common.{◌≡◌, ◌≢◌, ◌≤◌, ◌/◌, ◌%◌, ℕ, Bool, true, false, zero, suc, Some, None, get_or, List, [], ◌∷◌, ◌++◌, refl, arith}
+use Rattle.std.proofs.Common.{◌≡◌, ◌/◌, ◌%◌, ℕ, Bool, true, false, zero, suc, Some, None, get_or, List, [], ◌∷◌, ◌++◌, refl, arith}
 use Rattle.std.specs.Prelude.{Option, codes, ◌&&◌, if◌then◌else◌}
 use Rattle.std.specs.List.{AllByRecursion}
 use Rattle.std.proofs.lemmas.Bool.{and_parts, cond_both}
 use Rattle.std.proofs.lemmas.Bool.Decides.{nat_tests}
+use Rattle.csicodec_clean.proofs.PlainBytes.{all_both}
 use Rattle.csicodec_names.specs.declared.color.ColorSpec.{ColorSpec}
 use Rattle.csicodec_names.specs.declared.color.ColorSpec.TheVariants as color
 use Rattle.csicodec_names.specs.declared.color.Intensity.{Intensity}
@@ -21,16 +22,8 @@ use Rattle.csicodec_html.specs.Look.{lines, own_name, place_text, property, prop
 use Rattle.csicodec_html.specs.Palette.{color_at, ground_pairs, pair_of, text_pairs}
 use Rattle.csicodec_html.specs.Page.{IsHarmless, is_harmless}
 
--- bytes that aren't among those that are escaped
-pub fine : (b : ℕ) → 40 ≤ b → b ≢ 60 → b ≢ 62 → is_harmless b ≡ true
-fine b least less greater = grind (arith, nat_tests)
-
 abbrev pub Fine : List ℕ → Type 0
 Fine bytes = AllByRecursion IsHarmless bytes
-
-pub both : (xs ys : List ℕ) → Fine xs → Fine ys → Fine (xs ++ ys)
-both [] ys h k = k
-both (x ∷ xs) ys h k = (h.0, both xs ys h.1 k)
 
 abbrev all_harmless : List ℕ → Bool
 all_harmless [] = true
@@ -95,7 +88,7 @@ kind u = checked (line_kind u) refl
 
 places : (l : Look) → Fine (line_places l)
 unfolding line_places
-places l = search (both, when, checked)
+places l = search (all_both, when, checked)
 
 line : (p : Palette) (c : ColorSpec) → Fine (line_color p c)
 unfolding line_color
@@ -105,11 +98,11 @@ line p (color.TrueColor c) = (refl, hex c)
 
 style : (p : Palette) (l : Look) → Fine (line_style p l)
 unfolding line_style
-style p l = search (both, kind, line)
+style p l = search (all_both, kind, line)
 
 some : (p : Palette) (l : Look) → Fine (some_lines p l)
 unfolding some_lines
-some p l = both (codes "text-decoration:") (line_places l ++ (line_style p l ++ 59 ∷ [])) (checked (codes "text-decoration:") refl) (search (both, places, style))
+some p l = all_both IsHarmless (codes "text-decoration:") (line_places l ++ (line_style p l ++ 59 ∷ [])) (checked (codes "text-decoration:") refl) (search (all_both, places, style))
 
 all_lines : (p : Palette) (l : Look) → Fine (lines p l)
 unfolding lines
@@ -117,7 +110,7 @@ all_lines p l = when (has_line l) (some_lines p l) (some p l)
 
 of_one : (p : Palette) (of : Layer) (c : ColorSpec) → Fine (property p of c)
 unfolding property
-of_one p of c = search (both, of_property, colour)
+of_one p of c = search (all_both, of_property, colour)
 
 one : (p : Palette) (of : Layer) (c : ColorSpec) → Fine (colored p of c)
 unfolding colored
@@ -126,7 +119,7 @@ one p of c = of_one p of c
 
 all_colors : (p : Palette) (l : Look) → Fine (colors p l)
 unfolding colors inverse_colors straight_colors
-all_colors p l = cond_both l.inverse (inverse_colors p l) (straight_colors p l) Fine (λ _. search (both, of_one)) (λ _. search (both, one))
+all_colors p l = cond_both l.inverse (inverse_colors p l) (straight_colors p l) Fine (λ _. search (all_both, of_one)) (λ _. search (all_both, one))
 
 pub css_fine : (p : Palette) (l : Look) → Fine (css p l)
-css_fine p l = search (both, strokes, when, checked, all_lines, all_colors)
+css_fine p l = search (all_both, strokes, when, checked, all_lines, all_colors)

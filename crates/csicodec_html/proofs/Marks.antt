@@ -13,9 +13,9 @@ use Rattle.csicodec_html.specs.declared.classes.Class.{Class}
 use Rattle.csicodec_html.specs.declared.palette.Palette.{Palette}
 use Rattle.csicodec_html.specs.Classes.{ahead, behind_slot, class_name, classes_of, has_true, names, rest_attribute, slot_text, style_attribute, true_colors}
 use Rattle.csicodec_html.specs.Look.{css, settled}
-use Rattle.csicodec_html.specs.Page.{IsHarmless, is_harmless, IsSafe, Piece, Char, Begin, End, Open, Shut, escaped, piece_text, piece_texts}
+use Rattle.csicodec_html.specs.Page.{IsHarmless, IsSafe, Piece, Char, Begin, End, Open, Shut, escaped, piece_text, piece_texts}
 use Rattle.csicodec_html.specs.Private.Marked.{all_marked, classed_mark, marked, page_byte, page_bytes, styled_mark}
-use Rattle.csicodec_html.proofs.Declarations.{Fine, css_fine, fine}
+use Rattle.csicodec_html.proofs.Declarations.{Fine, css_fine}
 use Rattle.csicodec_html.proofs.Named.{name_fine, true_fine}
 use Rattle.csicodec_html.proofs.Addresses.{IsVisible, ascii, below}
 use Rattle.csicodec_html.proofs.Stood.{differs, one}
@@ -26,9 +26,6 @@ one_fine b h = one b (grind (arith, nat_tests))
 all_fine : (bytes : List ℕ) → Fine bytes → page_bytes bytes ≡ bytes
 all_fine [] h = refl
 all_fine (b ∷ bytes) h = rw (one_fine b h.0, all_fine bytes h.1) refl
-
-above : (b : ℕ) → 128 ≤ b → is_harmless b ≡ true
-above b h = fine b (omega (arith, h)) (λ e. absurd (omega (arith, h, e))) (λ e. absurd (omega (arith, h, e)))
 
 -- the bytes of a character that isn't of ASCII
 high : (c : ℕ) → 128 ≤ c → Fine (encode_utf8 c)

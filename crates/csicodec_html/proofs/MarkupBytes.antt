@@ -63,18 +63,14 @@ quoted_value b h = grind (arith, nat_tests)
 value_stays : (links linked spanned : Bool) (tag : List ℕ) (b : ℕ) → IsValue b → spot_behind links linked spanned (Tag true tag) b ≡ Tag true tag
 value_stays links linked spanned tag b h = grind (arith, nat_tests)
 
-values : (P : ℕ → Type 0) (bytes : List ℕ) → ((b : ℕ) → P b → IsValue b) → AllByRecursion P bytes → AllByRecursion IsValue bytes
-values P [] f h = tt
-values P (b ∷ bytes) f h = (f b h.0, values P bytes f h.1)
-
-value_markup : (links linked spanned : Bool) (tag bytes more : List ℕ) → AllByRecursion IsValue bytes
+value_markup : (P : ℕ → Type 0) → ((b : ℕ) → P b → IsValue b) → (links linked spanned : Bool) (tag bytes more : List ℕ) → AllByRecursion P bytes
     → is_markup links (Tag true tag) linked spanned (bytes ++ more) ≡ is_markup links (Tag true tag) linked spanned more
-value_markup links linked spanned tag [] more h = refl
-value_markup links linked spanned tag (b ∷ bytes) more h =
-    ap (λ (s : Spot). is_markup links s linked spanned (bytes ++ more)) (value_stays links linked spanned tag b h.0) ∙ value_markup links linked spanned tag bytes more h.1
+value_markup P f links linked spanned tag [] more h = refl
+value_markup P f links linked spanned tag (b ∷ bytes) more h =
+    ap (λ (s : Spot). is_markup links s linked spanned (bytes ++ more)) (value_stays links linked spanned tag b (f b h.0)) ∙ value_markup P f links linked spanned tag bytes more h.1
 
 fine_markup : (links linked spanned : Bool) (tag bytes more : List ℕ) → Fine bytes → is_markup links (Tag true tag) linked spanned (bytes ++ more) ≡ is_markup links (Tag true tag) linked spanned more
-fine_markup links linked spanned tag bytes more h = value_markup links linked spanned tag bytes more (values IsHarmless bytes harmless_value h)
+fine_markup links linked spanned tag bytes more h = value_markup IsHarmless harmless_value links linked spanned tag bytes more h
 
 -- ---- the attributes of a span
 
@@ -159,18 +155,12 @@ begin_markup links linked m l more =
     let r = attributes_markup links linked false m (settled m.palette l) (62 ∷ more) in
     ap (λ (t : List ℕ). is_markup links (Tag false (codes "span")) linked false t) (append_assoc own (62 ∷ []) more) ∙ r.on ∙ tag_ends links linked r.classes r.styles more
 
-end_markup : (links linked : Bool) (more : List ℕ) → is_markup links Inside linked true (piece_text End ++ more) ≡ is_markup links Inside linked false more
-end_markup links linked more = refl
-
 open_markup : (url more : List ℕ) → AllByRecursion IsQuoted (flat_map escaped url) → is_markup true Inside false false (piece_text (Open url) ++ more) ≡ is_markup true Inside true false more
 open_markup url more h =
     let own = flat_map escaped url in
     let tag = codes "a rel=\"\" href=\"" in
     ap (λ (t : List ℕ). is_markup true (Tag true tag) false false t) (append_assoc own (34 ∷ 62 ∷ []) more)
-    ∙ value_markup true false false tag own (34 ∷ 62 ∷ more) (values IsQuoted own quoted_value h)
-
-shut_markup : (links : Bool) (more : List ℕ) → is_markup links Inside true false (piece_text Shut ++ more) ≡ is_markup links Inside false false more
-shut_markup links more = refl
+    ∙ value_markup IsQuoted quoted_value true false false tag own (34 ∷ 62 ∷ more) h
 
 -- ---- the page
 
@@ -179,13 +169,13 @@ pieces_markup : (m : Markup) (linked spanned : Bool) (pieces : List Piece) → A
 pieces_markup m linked spanned [] h p = p
 pieces_markup m linked spanned (Char c ∷ pieces) h p = char_markup c h.0.0 h.0.1 m.links linked spanned (piece_texts pieces) ∙ pieces_markup m linked spanned pieces h.1 p
 pieces_markup m linked false (Begin n l ∷ pieces) h p = begin_markup m.links linked n l (piece_texts pieces) ∙ pieces_markup m linked true pieces h.1 p
-pieces_markup m linked true (End ∷ pieces) h p = end_markup m.links linked (piece_texts pieces) ∙ pieces_markup m linked false pieces h.1 p
+pieces_markup m linked true (End ∷ pieces) h p = pieces_markup m linked false pieces h.1 p
 pieces_markup m false false (Open url ∷ pieces) h p =
     let more = piece_texts pieces in
     subst (λ (links : Bool). is_markup links Inside false false (piece_text (Open url) ++ more) ≡ is_markup links Inside true false more) (sym h.0.0)
     (open_markup url more (all_quoted url h.0.1.visible))
     ∙ pieces_markup m true false pieces h.1 p
-pieces_markup m true false (Shut ∷ pieces) h p = shut_markup m.links (piece_texts pieces) ∙ pieces_markup m false false pieces h.1 p
+pieces_markup m true false (Shut ∷ pieces) h p = pieces_markup m false false pieces h.1 p
 pieces_markup m linked spanned (_ ∷ pieces) h p = absurd cc
 
 pub page_markup : (m : Markup) (page : List ℕ) → IsPageWith m page → IsMarkup m.links page

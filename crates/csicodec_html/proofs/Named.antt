@@ -4,6 +4,7 @@ use Rattle.std.specs.Prelude.{codes, ◌==◌}
 use Rattle.std.specs.Fmt.{decimal, digit_glyph, digits, digits_onto}
 use Rattle.std.proofs.lemmas.Bool.{cond_both}
 use Rattle.std.proofs.lemmas.Bool.Decides.{nat_tests}
+use Rattle.csicodec_clean.proofs.PlainBytes.{all_both}
 use Rattle.csicodec_names.specs.declared.color.ColorSpec.{ColorSpec}
 use Rattle.csicodec_names.specs.declared.color.ColorSpec.TheVariants as color
 use Rattle.csicodec_html.specs.declared.classes.Class.{Class}
@@ -13,8 +14,8 @@ use Rattle.csicodec_html.specs.declared.classes.Layer.TheVariants as part
 use Rattle.csicodec_html.specs.declared.look.Look.{Look}
 use Rattle.csicodec_html.specs.Classes.{class_name, part_name, true_color, true_colors}
 use Rattle.csicodec_html.specs.Look.{hex_color, property_of}
-use Rattle.csicodec_html.specs.Page.{is_harmless}
-use Rattle.csicodec_html.proofs.Declarations.{Fine, both, checked, hex, of_property}
+use Rattle.csicodec_html.specs.Page.{IsHarmless, is_harmless}
+use Rattle.csicodec_html.proofs.Declarations.{Fine, checked, hex, of_property}
 
 glyph : (d : ℕ) → is_harmless (digit_glyph false d) ≡ true
 glyph d = grind (arith, nat_tests)
@@ -34,13 +35,13 @@ of_part part.Text = checked (codes "fg-") refl
 of_part p = checked (part_name p) refl
 
 pub name_fine : (c : Class) → Fine (class_name c)
-name_fine (kind.Color p i) = both (part_name p) (decimal i) (of_part p) (number i)
+name_fine (kind.Color p i) = all_both IsHarmless (part_name p) (decimal i) (of_part p) (number i)
 name_fine c = checked (class_name c) refl
 
 one : (p : Layer) (c : ColorSpec) → Fine (true_color p c)
-one p (color.TrueColor c) = both (property_of p) (hex_color c ++ 59 ∷ []) (of_property p) (both (hex_color c) (59 ∷ []) (hex c) (refl, tt))
+one p (color.TrueColor c) = all_both IsHarmless (property_of p) (hex_color c ++ 59 ∷ []) (of_property p) (all_both IsHarmless (hex_color c) (59 ∷ []) (hex c) (refl, tt))
 one p _ = tt
 
 pub true_fine : (l : Look) → Fine (true_colors l)
 unfolding true_colors
-true_fine l = search (both, one)
+true_fine l = search (all_both, one)

@@ -1,5 +1,5 @@
 -- Each class has its rule in the sheet.
-use Rattle.std.proofs.Common.{◌≡◌, ◌<◌, ◌≤◌, ℕ, zero, suc, Bool, true, false, List, [], ◌++◌, codes, refl, sym, ap, ◌∙◌, subst, append_assoc, append-nil, ⊎_elim, arith}
+use Rattle.std.proofs.Common.{◌≡◌, ◌<◌, ◌≤◌, ℕ, zero, suc, Bool, true, false, List, [], ◌++◌, codes, sym, subst, append_assoc, append-nil, ⊎_elim, arith}
 use Rattle.std.specs.Prelude.{not, ◌||◌, if◌then◌else◌}
 use Rattle.std.proofs.lemmas.Bool.{cases_lt}
 use Rattle.csicodec_names.specs.declared.color.Underline.TheVariants as underline
@@ -17,12 +17,10 @@ own : (x : List ℕ) → IsIn x x
 own x = ([], [], sym (append-nil x))
 
 ahead : (x a b : List ℕ) → IsIn x a → IsIn x (a ++ b)
-ahead x a b h =
-    let (front, behind, e) = h in
-    (front, behind ++ b, ap (λ (t : List ℕ). t ++ b) e ∙ append_assoc front (x ++ behind) b ∙ ap (λ (t : List ℕ). front ++ t) (append_assoc x behind b))
+ahead x a b (front, behind, e) = (front, behind ++ b, rw e (simp append_assoc))
 
 later : (x a b : List ℕ) → IsIn x b → IsIn x (a ++ b)
-later x a b h = let (front, behind, e) = h in (a ++ front, behind, ap (λ (t : List ℕ). a ++ t) e ∙ sym (append_assoc a front (x ++ behind)))
+later x a b (front, behind, e) = (a ++ front, behind, rw e (simp append_assoc))
 
 -- the colours of so many places
 of_place : (p : Palette) (of : Layer) (i n : ℕ) → i < n → IsIn (class_rule p (kind.Color of i)) (color_rules p of n)
@@ -59,10 +57,6 @@ of_shape none above through =
     ((if not none then codes " underline" else []) ++ ((if above then codes " overline" else []) ++ (if through then codes " line-through" else [])))
     ++ codes "}\n"))))
 
-shaped : (l : Look) → line_rule l ≡ of_shape (is_none l.underline) l.overline l.strike
-unfolding line_rule places line_places
-shaped l = refl
-
 abbrev IsRuled : Palette → Look → Type 0
 IsRuled p l = IsIn (line_rule l) (class_rules p)
 
@@ -83,4 +77,5 @@ by_shape p false true true h = (several p).3
 by_shape p true false false h = cc h
 
 pub lines_ruled : (p : Palette) (l : Look) → has_line l ≡ true → IsIn (line_rule l) (class_rules p)
-lines_ruled p l h = subst (λ (t : List ℕ). IsIn t (class_rules p)) (sym (shaped l)) (by_shape p (is_none l.underline) l.overline l.strike h)
+unfolding line_rule places line_places
+lines_ruled p l h = by_shape p (is_none l.underline) l.overline l.strike h

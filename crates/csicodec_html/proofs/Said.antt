@@ -67,9 +67,5 @@ of_colors p l = by l.inverse
         → said p (if b then part.TextAsGround else part.Text) (class_if b kind.TextAsGround) (if b then l.background else l.foreground)
         ++ said p (if b then part.GroundAsText else part.Ground) (class_if b kind.GroundAsText) (if b then l.foreground else l.background)
         ≡ (if b then inverse_colors p l else straight_colors p l)
-    by true = both (said p part.TextAsGround (Some kind.TextAsGround) l.background) (said p part.GroundAsText (Some kind.GroundAsText) l.foreground)
-        (property p part.TextAsGround (or_own p.background l.background)) (property p part.GroundAsText (or_own p.foreground l.foreground))
-        (swapped p part.TextAsGround kind.TextAsGround p.background l.background refl) (swapped p part.GroundAsText kind.GroundAsText p.foreground l.foreground refl)
-    by false =
-        both (said p part.Text None l.foreground) (said p part.Ground None l.background) (colored p part.Text l.foreground)
-        (colored p part.Ground l.background) (straight p part.Text l.foreground) (straight p part.Ground l.background)
+    by true = both _ _ _ _ (swapped p part.TextAsGround kind.TextAsGround p.background l.background refl) (swapped p part.GroundAsText kind.GroundAsText p.foreground l.foreground refl)
+    by false = both _ _ _ _ (straight p part.Text l.foreground) (straight p part.Ground l.background)

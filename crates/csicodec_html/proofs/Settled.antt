@@ -89,9 +89,7 @@ look_page l c h k = ⊎_elim
 
 -- a colour that isn't exact isn't known
 vague : (c : ColorSpec) → is_exact c ≡ false → known c ≡ None
-vague color.Default h = refl
-vague (color.PaletteIndex i) h = grind (arith, nat_tests)
-vague (color.TrueColor c) h = absurd cc
+vague c h = grind (arith, nat_tests)
 
 -- neither of its colours is
 apart : (p : Palette) (l : Look) → has_pairs p ≡ true → is_mixed p l ≡ false → (known l.foreground ≡ None) × (known l.background ≡ None)
@@ -147,15 +145,11 @@ settled_twice (color.TrueColor c) = refl
 settled_twice (color.PaletteIndex i) = cond_both (nat_lt i 16) (color.TrueColor (palette i)) (color.PaletteIndex i) (λ c. settled_color c ≡ c) (λ e. refl) (λ e. rw e refl)
 
 settled_known : (c : ColorSpec) (d : SrgbaTuple) → known c ≡ Some d → settled_color c ≡ c
-settled_known color.Default d h = refl
-settled_known (color.TrueColor c) d h = refl
-settled_known (color.PaletteIndex i) d h = grind (arith, nat_tests)
+settled_known c d h = grind (arith, nat_tests)
 
 -- a colour that isn't known isn't exact
 unknown : (c : ColorSpec) → known c ≡ None → is_exact c ≡ false
-unknown color.Default h = refl
-unknown (color.TrueColor c) h = absurd cc
-unknown (color.PaletteIndex i) h = grind (arith, nat_tests)
+unknown c h = grind (arith, nat_tests)
 
 legible_stays : (g t : ColorSpec) (c : SrgbaTuple) → known t ≡ Some c → ((d : SrgbaTuple) → known g ≡ Some d → is_near c d ≡ false) → (known g ≡ None → OnPage c) → legible g t ≡ t
 legible_stays g t c h below page = by (known g) refl

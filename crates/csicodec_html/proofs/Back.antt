@@ -1,5 +1,5 @@
 -- A colour that is written is read back, and the palette of xterm has its colours.
-use Rattle.std.proofs.Common.{◌≡◌, ◌<◌, ◌-◌, ◌/◌, ◌%◌, ℕ, Bool, true, false, Some, cond, get_or, refl, arith}
+use Rattle.std.proofs.Common.{◌≡◌, ◌<◌, ◌-◌, ◌/◌, ◌%◌, ℕ, Bool, Some, cond, get_or, refl, arith}
 use Rattle.std.specs.Prelude.{nat_lt, if◌then◌else◌}
 use Rattle.std.proofs.lemmas.Bool.Decides.{nat_tests}
 use Rattle.csicodec_names.specs.declared.color.SrgbaTuple.{SrgbaTuple}
@@ -18,8 +18,7 @@ pub color_back : (red green blue : ℕ) → red < 256 → green < 256 → blue <
 color_back red green blue r g b = rw (two red r, two green g, two blue b) refl
 
 again : (b : Bool) (x y : SrgbaTuple) → cond b (Some x) (Some (cond b x y)) ≡ Some (cond b x y)
-again true x y = refl
-again false x y = refl
+again b x y = grind arith
 
 pub xterm_colors : (place : ℕ) → color_at xterm place ≡ Some (palette place)
 unfolding palette

@@ -1,5 +1,5 @@
 -- No byte of a declaration ends the attribute that it stands in.
-use Rattle.std.proofs.Common.{◌≡◌, ◌/◌, ◌%◌, ℕ, Bool, true, false, zero, suc, Some, None, get_or, List, [], ◌∷◌, ◌++◌, refl, arith}
+use Rattle.std.proofs.Common.{◌≡◌, ◌/◌, ◌%◌, ℕ, Bool, true, zero, suc, Some, None, get_or, List, [], ◌∷◌, ◌++◌, refl, arith}
 use Rattle.std.specs.Prelude.{Option, codes, ◌&&◌, if◌then◌else◌}
 use Rattle.std.specs.List.{AllByRecursion}
 use Rattle.std.proofs.lemmas.Bool.{and_parts, cond_both}
@@ -34,8 +34,7 @@ checked [] h = tt
 checked (b ∷ bytes) h = let both = and_parts (is_harmless b) (all_harmless bytes) h in (both.0, checked bytes both.1)
 
 when : (b : Bool) (bytes : List ℕ) → Fine bytes → Fine (if b then bytes else [])
-when true bytes h = h
-when false bytes h = tt
+when b bytes h = grind arith
 
 digit : (n : ℕ) → is_harmless (hex_digit n) ≡ true
 digit n = grind (arith, nat_tests)

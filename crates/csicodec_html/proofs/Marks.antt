@@ -50,8 +50,7 @@ quoted : (style : List ℕ) → Fine style → page_bytes (style_attribute 3 sty
 quoted style h = rw (flat_map-append page_byte style (3 ∷ []), all_fine style h) refl
 
 of_ahead : (came : Bool) → page_bytes (ahead 3 came) ≡ ahead 34 came
-of_ahead true = refl
-of_ahead false = refl
+of_ahead came = grind arith
 
 of_slot : (came : Bool) (slot : Option Class) → page_bytes (slot_text 3 came slot) ≡ slot_text 34 came slot
 of_slot came None = refl

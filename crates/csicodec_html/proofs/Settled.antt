@@ -1,12 +1,11 @@
 -- Text that is settled stands out from its ground, and is settled once.
 use Rattle.std.proofs.Common.{◌≡◌, ◌<◌, ◌≤◌, ◌+◌, ◌*◌, ℕ, Bool, true, false, Option, Some, None, refl, sym, ◌∙◌, arith, ⊎_elim, lt-ltb, le-ltb}
-use Rattle.std.specs.Prelude.{nat_lt, if◌then◌else◌}
+use Rattle.std.specs.Prelude.{if◌then◌else◌}
 use Rattle.std.proofs.lemmas.Bool.{and_right, cases_Bool, cases_lt, cond_both, false≢true, or_parts}
 use Rattle.std.proofs.lemmas.Bool.Decides.{nat_tests}
 use Rattle.csicodec_names.specs.declared.color.ColorSpec.{ColorSpec}
 use Rattle.csicodec_names.specs.declared.color.ColorSpec.TheVariants as color
 use Rattle.csicodec_names.specs.declared.color.SrgbaTuple.{SrgbaTuple}
-use Rattle.csicodec_clean.specs.Palette.{palette}
 use Rattle.csicodec_html.specs.declared.look.Look.{Look}
 use Rattle.csicodec_html.specs.declared.palette.Palette.{Palette}
 use Rattle.csicodec_html.specs.Classes.{ground_color, text_color}
@@ -140,9 +139,7 @@ chosen_stay p l h = rw h refl
 
 -- settled colours
 settled_twice : (c : ColorSpec) → settled_color (settled_color c) ≡ settled_color c
-settled_twice color.Default = refl
-settled_twice (color.TrueColor c) = refl
-settled_twice (color.PaletteIndex i) = cond_both (nat_lt i 16) (color.TrueColor (palette i)) (color.PaletteIndex i) (λ c. settled_color c ≡ c) (λ e. refl) (λ e. rw e refl)
+settled_twice c = grind (arith, nat_tests)
 
 settled_known : (c : ColorSpec) (d : SrgbaTuple) → known c ≡ Some d → settled_color c ≡ c
 settled_known c d h = grind (arith, nat_tests)

@@ -1,5 +1,5 @@
 -- From one look to the next.
-use Rattle.std.proofs.Common.{◌≡◌, true, false, List, [], ◌∷◌, refl, sym}
+use Rattle.std.proofs.Common.{◌≡◌, true, false, List, [], ◌∷◌, refl, sym, arith}
 use Rattle.std.specs.Prelude.{if◌then◌else◌}
 use Rattle.std.proofs.lemmas.Bool.{false≢true}
 use Rattle.csicodec_actions.specs.Actions.{Action}
@@ -9,12 +9,10 @@ use Rattle.csicodec_html.specs.Look.{behind_all, sets_any}
 
 -- one action, and then the others
 pub behind_one : (l : Look) (a : Action) (actions : List Action) → behind_all l (a ∷ actions) ≡ behind_all (behind_all l (a ∷ [])) actions
-behind_one l (action.Sgr s) actions = refl
-behind_one l _ actions = refl
+behind_one l a actions = grind arith
 
 pub sets_one : (a : Action) (actions : List Action) → sets_any (a ∷ actions) ≡ (if sets_any (a ∷ []) then true else sets_any actions)
-sets_one (action.Sgr s) actions = refl
-sets_one _ actions = refl
+sets_one a actions = grind arith
 
 -- where no attribute comes it looks the same
 pub unset : (l : Look) (actions : List Action) → sets_any actions ≡ false → behind_all l actions ≡ l

@@ -125,9 +125,7 @@ in_bytes bytes = stood_in bytes [] bytes start refl ([], refl)
 
 -- ESC and a byte begin anew
 anew_at : (p : LinkState) (params url : List ℕ) (c : ℕ) → IsAtRest p → all_behind true (begun p params url) (27 ∷ c ∷ []) ≡ begun (opened c) params url
-anew_at place.Escape params url c rest = absurd rest
-anew_at place.Ending params url c rest = absurd rest
-anew_at _ params url c rest = refl
+anew_at p params url c rest = grind arith
 
 rest_behind : (m : Mode) (b : Begun) (bytes : List ℕ) → IsPiece m bytes → IsAtRest b.place → IsAtRest (all_behind true b bytes).place
 rest_behind m b bytes (inl (c, e, other, string)) rest =
@@ -138,8 +136,7 @@ rest_behind m b bytes (inr (c, e, other)) rest =
 
 -- what passes of the link that is over, where one is
 if_over : (P : Address → Type 0) (over : Bool) (a : Address) → (over ≡ true → P a) → AllByRecursion (IsAdmitted P) ((if over then admitted a ∷ [] else []) ++ [])
-if_over P true a f = ((a, f refl, refl), tt)
-if_over P false a f = tt
+if_over P over a f = grind arith
 
 over_two : (P : Address → Type 0) (p : LinkState) (params url : List ℕ) (c : ℕ) → IsAtRest p
     → ((c == 92) ≡ true → Spells (read_of p params url ++ 27 ∷ c ∷ []) (address params url) → P (address params url))
@@ -271,17 +268,15 @@ one_part d kind.Text text m a bytes rest b true run done later whole items own o
     rw (e, none_left d b kind.Other run text own others refl leaves) (f record { at_rest = h.at_rest; open_or_shut = inr (fit longest m bytes kind.Text text rest a first).0 })
 one_part d kind.Text text m a bytes rest b false run done later whole items own others first h split leaves e f =
     rw (e, none_left d b kind.Text run text own others refl leaves) (f record { at_rest = h.at_rest; open_or_shut = inr (fit longest m bytes kind.Text text rest a first).0 })
-one_part d kind.Csi text m a bytes rest b t run done later whole items own others first h split leaves e f =
-    rw (e, none_left d b kind.Csi run text own others refl leaves) (f record { at_rest = h.at_rest; open_or_shut = inr (fit longest m bytes kind.Csi text rest a first) })
 one_part d kind.Esc text m a bytes rest b t run done later whole items own others first h split leaves e f =
     rw (e, none_left d b kind.Esc run text own others refl leaves) (f record { at_rest = h.at_rest; open_or_shut = inr (fit longest m bytes kind.Esc text rest a first).0 })
-one_part d kind.Other text m a bytes rest b t run done later whole items own others first h split leaves e f =
-    rw (e, none_left d b kind.Other run text own others refl leaves) (f record { at_rest = h.at_rest; open_or_shut = inr (fit longest m bytes kind.Other text rest a first) })
 one_part d kind.Str text m a bytes rest b t run done later whole items own others first h split leaves e f =
     let fits = fit longest m bytes kind.Str text rest a first in
     let now = after_piece whole done later m b text split h fits in
     subst (AllByRecursion (IsAdmitted (StoodIn whole))) (sym (string_left d b run text own others items leaves e))
     (all_both (IsAdmitted (StoodIn whole)) (links_in true b text) (links_of others) now.links (f record { at_rest = rest_behind m b text fits h.at_rest; open_or_shut = inl now.opens }))
+one_part d k text m a bytes rest b t run done later whole items own others first h split leaves e f =
+    rw (e, none_left d b k run text own others refl leaves) (f record { at_rest = h.at_rest; open_or_shut = inr (fit longest m bytes k text rest a first) })
 
 -- what is left where nothing follows
 end_links : (d : Depth) (rest : List ℕ) (b : Begun) (t : Bool) (run : List ℕ) (items : List Item) → AreLeft (with_links d) b run (with_titles t (left_over rest)) items → links_of items ≡ []
@@ -327,9 +322,7 @@ part_rests d _ text m a bytes rest b t first h = h
 
 -- `ESC ]` begins anew, whatever was read
 opens_any : (p : LinkState) (params url bytes : List ℕ) → IsAtRest p → links_in true (begun p params url) (27 ∷ 93 ∷ bytes) ≡ links_in true (begun place.Opened params url) bytes
-opens_any place.Escape params url bytes rest = absurd rest
-opens_any place.Ending params url bytes rest = absurd rest
-opens_any _ params url bytes rest = refl
+opens_any p params url bytes rest = grind arith
 
 passes_any : (b : Begun) (a : Address) (end : List ℕ) → IsAtRest b.place → IsWithin a
     → links_in true (begun place.Url a.params a.url) end ≡ admitted a ∷ [] → links_in true b (27 ∷ 93 ∷ (link_body a ++ end)) ≡ admitted a ∷ []

@@ -1,11 +1,12 @@
 -- What `clean` leaves is safe by its bytes alone.
-use Rattle.std.proofs.Common.{◌≡◌, ◌≢◌, ◌<◌, ◌≤◌, ◌+◌, ◌%◌, ℕ, Bool, true, false, List, [], ◌∷◌, ◌++◌, ◌⊎◌}
-use Rattle.std.proofs.Common.{inl, inr, length, refl, sym, ap, subst, ◌∙◌, append_assoc, arith, ⊎_elim}
+use Rattle.std.proofs.Common.{◌≡◌, ◌≢◌, ◌<◌, ◌≤◌, ◌+◌, ◌/◌, ◌%◌, ℕ, Bool, true, false, List, [], ◌∷◌, ◌++◌, ◌⊎◌}
+use Rattle.std.proofs.Common.{inl, inr, length, refl, sym, ap, subst, ◌∙◌, append_assoc, arith}
 use Rattle.std.specs.Prelude.{not, ◌==◌, ◌&&◌}
 use Rattle.std.specs.Char.{encode_utf8}
 use Rattle.std.specs.List.{AllByRecursion}
-use Rattle.std.proofs.lemmas.Bool.{cases_lt, le-leb, ne_eqb}
+use Rattle.std.proofs.lemmas.Bool.{ne_eqb}
 use Rattle.std.proofs.lemmas.Bool.Decides.{nat_tests}
+use lib.Utf8.{scalar}
 use Rattle.csicodec_base.specs.declared.sgr.Sgr.{Sgr}
 use Rattle.csicodec_base.specs.declared.sgr.Sgr.TheVariants as sgr
 use Rattle.csicodec_actions.specs.Actions as action
@@ -15,70 +16,32 @@ use Rattle.csicodec_clean.specs.Shown.{IsShown}
 use Rattle.csicodec_clean.specs.Links.{Address, IsLink, is_linked, is_param, is_visible, link_text}
 use Rattle.csicodec_clean.specs.declared.styles.Passing.{Passing}
 use Rattle.csicodec_clean.specs.Styled.{hides, is_open, is_reset, Item, Shown, Style, Link, item_texts, links_of, styles_of, IsSafe, IsStyledIn, StylesIn}
-use Rattle.csicodec_clean.specs.Marked.{Stand, Text, Lead, Numbers, Params, Url, is_text_byte, is_number_byte, stand_behind, is_marked, IsMarked}
+use Rattle.csicodec_clean.specs.Marked.{Stand, Text, Numbers, Params, Url, is_number_byte, stand_behind, is_marked, IsMarked}
 use Rattle.csicodec_clean.proofs.Coded.{AreCodes, IsCode, coded}
 use Rattle.csicodec_clean.proofs.Pieces.{style_range}
 use Rattle.csicodec_clean.proofs.Styled.{styled}
 
 -- ---- characters
 
--- a byte that is no control, and doesn't begin one of C1
-abbrev pub IsHigh : ℕ → Type 0
-IsHigh b = (128 ≤ b) × (b ≢ 194)
+-- behind them text goes on
+abbrev Passes : List ℕ → Type 0
+Passes bytes = (links styled linked : Bool) (more : List ℕ) → is_marked links Text styled linked (bytes ++ more) ≡ is_marked links Text styled linked more
 
--- the bytes of a character that is shown: it itself, two of U+00A0 to U+00BF, or such bytes
-abbrev pub Spells : ℕ → List ℕ → Type 0
-Spells c bytes = ((c < 128) × (bytes ≡ c ∷ [])) ⊎ (((b : ℕ) × (160 ≤ b) × (bytes ≡ 194 ∷ b ∷ [])) ⊎ AllByRecursion IsHigh bytes)
+one : (c : ℕ) → c < 128 → IsShown c → Passes (c ∷ [])
+one c k h links styled linked more = grind (arith, nat_tests)
 
-shown_from : (c : ℕ) → 128 ≤ c → IsShown c → 160 ≤ c
-shown_from c h s = grind (arith, nat_tests)
+two : (c : ℕ) → 160 ≤ c → c < 2048 → Passes ((192 + c / 64) ∷ (128 + c % 64) ∷ [])
+two c h k links styled linked more = grind (arith, nat_tests)
 
--- below U+00C0 the first of two bytes is C2, and from there on all are such
-two_bytes : (c : ℕ) → 128 ≤ c → c < 192 → encode_utf8 c ≡ 194 ∷ (128 + c % 64) ∷ []
+three : (c : ℕ) → 2048 ≤ c → c < 65536 → scalar c ≡ true → Passes ((224 + c / 4096) ∷ (128 + (c / 64) % 64) ∷ (128 + c % 64) ∷ [])
+three c h k s links styled linked more = grind (arith, nat_tests)
+
+four : (c : ℕ) → 65536 ≤ c → scalar c ≡ true → Passes ((240 + c / 262144) ∷ (128 + (c / 4096) % 64) ∷ (128 + (c / 64) % 64) ∷ (128 + c % 64) ∷ [])
+four c h s links styled linked more = grind (arith, nat_tests)
+
+char_marked : (c : ℕ) → IsShown c → scalar c ≡ true → Passes (encode_utf8 c)
 unfolding encode_utf8
-two_bytes c h k = grind (arith, nat_tests)
-
-highs : (c : ℕ) → 192 ≤ c → AllByRecursion IsHigh (encode_utf8 c)
-unfolding encode_utf8
-highs c h = grind (arith, nat_tests)
-
-one_byte : (c : ℕ) → c < 128 → encode_utf8 c ≡ c ∷ []
-unfolding encode_utf8
-one_byte c h = grind (arith, nat_tests)
-
-pub spells : (c : ℕ) → IsShown c → Spells c (encode_utf8 c)
-spells c h = ⊎_elim
-    (λ (a : c < 128). inl (a, one_byte c a))
-    (λ (a : 128 ≤ c). ⊎_elim (λ (b : c < 192). inr (inl (128 + c % 64, omega (arith, shown_from c a h, b), two_bytes c a b))) (λ (b : 192 ≤ c). inr (inr (highs c b))) (cases_lt c 192))
-    (cases_lt c 128)
-
-pub high_byte : (b : ℕ) → 128 ≤ b → is_text_byte b ≡ true
-high_byte b h = grind (arith, nat_tests)
-
-pub low_byte : (c : ℕ) → c < 128 → IsShown c → is_text_byte c ≡ true
-low_byte c h s = grind (arith, nat_tests)
-
-no_escape : (c : ℕ) → IsShown c → c ≢ 27
-no_escape c h = λ e. absurd (grind (arith, nat_tests))
-
-on_text : (links styled linked : Bool) (b : ℕ) (more : List ℕ) → b ≢ 27 → b ≢ 194 → is_text_byte b ≡ true → is_marked links Text styled linked (b ∷ more) ≡ is_marked links Text styled linked more
-on_text links styled linked b more e l t = grind (arith, nat_tests)
-
-high_marked : (links styled linked : Bool) (bytes more : List ℕ) → AllByRecursion IsHigh bytes → is_marked links Text styled linked (bytes ++ more) ≡ is_marked links Text styled linked more
-high_marked links styled linked [] more h = refl
-high_marked links styled linked (b ∷ bytes) more h =
-    on_text links styled linked b (bytes ++ more) (λ e. absurd (omega (arith, e, h.0.0))) h.0.1 (high_byte b h.0.0) ∙ high_marked links styled linked bytes more h.1
-
-lead : (links : Bool) (b : ℕ) → 160 ≤ b → stand_behind links Lead b ≡ Text
-lead links b from = rw (le-leb 160 b from) refl
-
-char_marked : (links styled linked : Bool) (c : ℕ) (more : List ℕ) → IsShown c → is_marked links Text styled linked (encode_utf8 c ++ more) ≡ is_marked links Text styled linked more
-char_marked links styled linked c more h = by (spells c h)
-  where
-    by : Spells c (encode_utf8 c) → is_marked links Text styled linked (encode_utf8 c ++ more) ≡ is_marked links Text styled linked more
-    by (inl (low, is)) = rw is (on_text links styled linked c more (no_escape c h) (λ e. absurd (omega (arith, e, low))) (low_byte c low h))
-    by (inr (inl (b, from, is))) = rw is (ap (λ (s : Stand). is_marked links s styled linked more) (lead links b from))
-    by (inr (inr all)) = high_marked links styled linked (encode_utf8 c) more all
+char_marked c h s = grind (arith, nat_tests, one, two, three, four)
 
 -- ---- styles
 
@@ -157,7 +120,7 @@ items_marked : (d : Passing) (styled opened linked : Bool) (items : List Item) �
     → is_open opened (styles_of items) ≡ false → is_linked linked (links_of items) ≡ false
     → is_marked d.links Text styled linked (item_texts items) ≡ true
 items_marked d styled opened linked [] h f o k = rw (f o, k) refl
-items_marked d styled opened linked (Shown c ∷ items) h f o k = char_marked d.links styled linked c (item_texts items) h.0.0 ∙ items_marked d styled opened linked items h.1 f o k
+items_marked d styled opened linked (Shown c ∷ items) h f o k = char_marked c h.0.0 h.0.1 d.links styled linked (item_texts items) ∙ items_marked d styled opened linked items h.1 f o k
 items_marked d styled opened linked (Style s ∷ items) h f o k =
     let m = style_marked d.links styled linked s (item_texts items) (style_range s h.0.1) h.0.0 in
     m.on ∙ items_marked d m.opened (not (is_reset s)) linked items h.1 m.closed o k

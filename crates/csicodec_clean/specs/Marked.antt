@@ -1,12 +1,12 @@
 -- What may be written to a terminal, told of the bytes alone, from the first to the last: no other definition of the codec is needed to read it.
-use Rattle.std.specs.Prelude.{ℕ, ◌≡◌, ◌==◌, Bool, true, false, not, ◌&&◌, ◌||◌, nat_le, if◌then◌else◌, List, [], ◌∷◌}
+use Rattle.std.specs.Prelude.{ℕ, ◌≡◌, ◌==◌, Bool, true, false, not, ◌&&◌, ◌||◌, ◌-◌, nat_le, if◌then◌else◌, List, [], ◌∷◌}
 
--- Where the bytes stand: in text; behind the first byte of U+0080 to U+00BF; behind ESC; in the numbers of a style (SGR), all of which are 0 so far, or
--- not; in a link, behind its `]`, its `8`, in its parameters, in its address, which has bytes so far, or none, and behind the ESC that ends it; and
--- behind a byte that may not stand where it does.
+-- Where the bytes stand: in text; in a character of several bytes, of which so many come behind the next one, and that is from the first of two bytes to
+-- the second; behind ESC; in the numbers of a style (SGR), all of which are 0 so far, or not; in a link, behind its `]`, its `8`, in its parameters, in
+-- its address, which has bytes so far, or none, and behind the ESC that ends it; and behind a byte that may not stand where it does.
 pub data Stand : Type 0 where
   Text : Stand
-  Lead : Stand
+  Rest : ℕ → ℕ → ℕ → Stand
   Escape : Stand
   Numbers : Bool → Stand
   Opened : Stand
@@ -16,24 +16,37 @@ pub data Stand : Type 0 where
   Ending : Bool → Stand
   Nowhere : Stand
 
--- a newline, a tab, or a byte that is no control
+abbrev pub is_from : ℕ → ℕ → ℕ → Bool
+is_from first last b = nat_le first b && nat_le b last
+
+-- a newline, a tab, or a character of ASCII that is no control
 abbrev pub is_text_byte : ℕ → Bool
-is_text_byte b = b == 10 || (b == 9 || (nat_le 32 b && not (b == 127)))
+is_text_byte b = b == 10 || (b == 9 || is_from 32 126 b)
 
 -- a digit, `:` or `;`
 abbrev pub is_number_byte : ℕ → Bool
-is_number_byte b = nat_le 48 b && nat_le b 59
+is_number_byte b = is_from 48 59 b
 
 -- a visible character of ASCII
 abbrev pub is_visible_byte : ℕ → Bool
-is_visible_byte b = nat_le 33 b && nat_le b 126
+is_visible_byte b = is_from 33 126 b
+
+-- Behind a byte that begins a character of several: UTF-8 has none of these in a longer form, no surrogates, and nothing above U+10FFFF. Those below
+-- U+00A0 are controls of C1, and none of them may stand there.
+abbrev pub begun : ℕ → Stand
+begun b =
+    if b == 194 then Rest 0 160 191 else if is_from 195 223 b then Rest 0 128 191 else
+    if b == 224 then Rest 1 160 191 else if b == 237 then Rest 1 128 159 else
+    if is_from 225 239 b then Rest 1 128 191 else if b == 240 then Rest 2 144 191 else
+    if is_from 241 243 b then Rest 2 128 191 else if b == 244 then Rest 2 128 143 else Nowhere
 
 -- behind a byte more, where links pass or not
 abbrev pub stand_behind : Bool → Stand → ℕ → Stand
 stand_behind links Text b =
-    if b == 27 then Escape else if b == 194 then Lead else
-    if is_text_byte b then Text else Nowhere
-stand_behind links Lead b = if nat_le 160 b then Text else Nowhere
+    if b == 27 then Escape else if is_text_byte b then Text else begun b
+stand_behind links (Rest more first last) b =
+    if is_from first last b then (if more == 0 then Text else Rest (more - 1) 128 191)
+    else Nowhere
 stand_behind links Escape b =
     if b == 91 then Numbers true else if links && b == 93 then Opened else Nowhere
 stand_behind links (Numbers zeros) b =
@@ -70,6 +83,7 @@ is_marked links s styled linked (b ∷ bytes) =
     (linked_behind linked s b) bytes
 
 -- Text, with styles and, where they pass, links: ESC stands only in front of `[`, digits, `:` and `;`, and `m`, or of `]8;`, parameters, `;`, an address
--- and ESC `\`; the last style has zeros alone, and the last link no address; and no other control is there but newlines and tabs, none of C1 either.
+-- and ESC `\`; the last style has zeros alone, and the last link no address; and no other control is there but newlines and tabs, none of C1 either. The
+-- bytes are UTF-8, so no byte from 128 to 159 is one of these by itself, and no other byte hides in a character that isn't whole.
 abbrev pub IsMarked : Bool → List ℕ → Type 0
 IsMarked links text = is_marked links Text false false text ≡ true

@@ -96,8 +96,8 @@ pub fn styled_twice()
         → StylesIn d text other → other ≡ text }
 {}
 
-/// Told of its bytes alone, from the first to the last, such text has no control but newlines and tabs, and ESC only where a style
-/// begins, or a link, where these pass, or the end of one; and the last of each sets all back.
+/// Told of its bytes alone, from the first to the last, such text is UTF-8 and has no control but newlines and tabs, and ESC only where
+/// a style begins, or a link, where these pass, or the end of one; and the last of each sets all back.
 pub fn marked()
     ensures text { (d : Passing) (text : List ℕ) → IsStyledIn d text → IsMarked d.links text }
     ensures cleaned { (d : Passing) (bytes text : List ℕ) → StylesIn d bytes text

@@ -1,6 +1,6 @@
 -- The text of a style is digits and `:`, 60 at most, in front of `m`.
 use Rattle.std.proofs.Common.{◌≡◌, ◌≤◌, ◌<◌, ◌+◌, ◌-◌, ◌^◌, ◌⊎◌, ℕ, suc, Bool, true, false, cond, List, [], ◌∷◌, ◌++◌, length}
-use Rattle.std.proofs.Common.{length-append, drop, inl, inr, refl, sym, ap, subst, ◌∙◌, append_assoc, append-nil, arith, rules}
+use Rattle.std.proofs.Common.{length-append, drop, inl, inr, refl, sym, ap, subst, ◌∙◌, append_assoc, append-nil, take, arith, rules}
 use Rattle.std.specs.Prelude.{◌==◌, ◌&&◌, codes, nat_le, nat_lt, if◌then◌else◌, slice_get}
 use Rattle.std.specs.Fmt.{decimal}
 use Rattle.std.specs.List.{AllByRecursion}
@@ -34,6 +34,7 @@ use Rattle.csicodec_streams.specs.Colors.{IsColored, IsOpaque, color_list, plane
 use Rattle.csicodec.specs.Compose.{EndsInSemicolon}
 use Rattle.csicodec_terminal.specs.Terminal.{is_open}
 use Rattle.csicodec_clean.specs.Styled.{hides}
+use Rattle.csicodec_clean.proofs.PlainBytes.{all_both}
 
 -- ---- bytes that are digits or `:`
 
@@ -42,10 +43,6 @@ IsCode b = IsDigit b ⊎ (b ≡ 58)
 
 abbrev pub AreCodes : List ℕ → Type 0
 AreCodes bs = AllByRecursion IsCode bs
-
-codes_both : (xs ys : List ℕ) → AreCodes xs → AreCodes ys → AreCodes (xs ++ ys)
-codes_both [] ys h k = k
-codes_both (x ∷ xs) ys h k = (h.0, codes_both xs ys h.1 k)
 
 pub codes_parts : (xs ys : List ℕ) → AreCodes (xs ++ ys) → AreCodes xs × AreCodes ys
 codes_parts [] ys h = (tt, h)
@@ -82,7 +79,7 @@ then_coded : (n most : ℕ) (mark rest : List ℕ) → n < 1000 → AreCodes mar
 then_coded n most mark rest h m (body, is, k, some, few) = (
   decimal n ++ (mark ++ body),
   ap (λ (t : List ℕ). decimal n ++ (mark ++ t)) is ∙ ap (λ (t : List ℕ). decimal n ++ t) (sym (append_assoc mark body (109 ∷ []))) ∙ sym (append_assoc (decimal n) (mark ++ body) (109 ∷ [])),
-  codes_both (decimal n) (mark ++ body) (number_codes n h) (codes_both mark body m k),
+  all_both IsCode (decimal n) (mark ++ body) (number_codes n h) (all_both IsCode mark body m k),
   omega (arith, length-append (decimal n) (mark ++ body), some_digits n h),
   omega (arith, length-append (decimal n) (mark ++ body), length-append mark body, few_digits n h, few),
 )
@@ -123,35 +120,22 @@ color_coded code c f (r, g, b, a) =
 abbrev is_code : ℕ → Bool
 is_code b = nat_le 48 b && nat_le b 58
 
-abbrev is_nil : List ℕ → Bool
-is_nil [] = true
-is_nil (b ∷ bs) = false
-
-abbrev is_coded : List ℕ → Bool
-is_coded [] = false
-is_coded (b ∷ bs) = if is_code b then is_coded bs else (b == 109 && is_nil bs)
+abbrev are_coded : List ℕ → Bool
+are_coded [] = true
+are_coded (b ∷ bs) = is_code b && are_coded bs
 
 code : (b : ℕ) → is_code b ≡ true → IsCode b
 code b h = grind (arith, nat_tests)
 
-tested : (t : List ℕ) → is_coded t ≡ true → (body : List ℕ) × (t ≡ body ++ 109 ∷ []) × AreCodes body
-tested [] h = absurd cc
-tested (b ∷ bs) h = by (is_code b) refl h (tested bs)
-  where
-    ended : (rest : List ℕ) → (b == 109) ≡ true → is_nil rest ≡ true → (body : List ℕ) × (b ∷ rest ≡ body ++ 109 ∷ []) × AreCodes body
-    ended [] e n = ([], ap (λ (x : ℕ). x ∷ []) (eqb-true b 109 e), tt)
-    ended (c ∷ rest) e n = absurd cc
+tested : (bs : List ℕ) → are_coded bs ≡ true → AreCodes bs
+tested [] h = tt
+tested (b ∷ bs) h = let both = and_parts (is_code b) (are_coded bs) h in (code b both.0, tested bs both.1)
 
-    by : (n : Bool) → is_code b ≡ n → (if n then is_coded bs else (b == 109 && is_nil bs)) ≡ true → (is_coded bs ≡ true → (body : List ℕ) × (bs ≡ body ++ 109 ∷ []) × AreCodes body)
-        → (body : List ℕ) × (b ∷ bs ≡ body ++ 109 ∷ []) × AreCodes body
-    by true e r more = let others = more r in (b ∷ others.0, ap (λ (l : List ℕ). b ∷ l) others.1, (code b e, others.2))
-    by false e r more = let both = and_parts (b == 109) (is_nil bs) r in ended bs both.0 both.1
+abbrev front : List ℕ → List ℕ
+front text = take (length text - 1) text
 
-fixed : (t : List ℕ) → is_coded t ≡ true → 2 ≤ length t → length t ≤ 61 → IsCoded 60 t
-fixed t h some few =
-    let (body, is, are) = tested t h in
-    let long = ap length is in
-    (body, is, are, omega (arith, long, length-append body (109 ∷ []), some), omega (arith, long, length-append body (109 ∷ []), few))
+fixed : (t : List ℕ) → t ≡ front t ++ 109 ∷ [] → are_coded (front t) ≡ true → 0 < length (front t) → length (front t) ≤ 60 → IsCoded 60 t
+fixed t is are some few = (front t, is, tested (front t) are, some, few)
 
 -- ---- all of them
 
@@ -159,7 +143,7 @@ line_coded : (i : ℕ) → i < 256 → IsCoded 60 (codes "58:5:" ++ (decimal i +
 line_coded i h = (
   codes "58:5:" ++ decimal i,
   sym (append_assoc (codes "58:5:") (decimal i) (109 ∷ [])),
-  codes_both (codes "58:5:") (decimal i) (inl (omega arith, omega arith), (inl (omega arith, omega arith), five)) (number_codes i (omega (arith, h))),
+  all_both IsCode (codes "58:5:") (decimal i) (inl (omega arith, omega arith), (inl (omega arith, omega arith), five)) (number_codes i (omega (arith, h))),
   omega (arith, length-append (codes "58:5:") (decimal i)),
   omega (arith, length-append (codes "58:5:") (decimal i), few_digits i (omega (arith, h))),
 )
@@ -172,16 +156,16 @@ coded (sgr.Foreground (color.TrueColor c)) h k = color_coded 38 c (omega arith) 
 coded (sgr.Background (color.PaletteIndex i)) h k = palette_coded 40 i (omega arith) h
 coded (sgr.Background (color.TrueColor c)) h k = color_coded 48 c (omega arith) h
 coded (sgr.Font (font.Alternate n)) h k = absurd cc
-coded (sgr.Intensity Normal) h k = fixed _ refl (omega arith) (omega arith)
-coded (sgr.Underline underline.None) h k = fixed _ refl (omega arith) (omega arith)
-coded (sgr.Blink blink.None) h k = fixed _ refl (omega arith) (omega arith)
-coded (sgr.VerticalAlign align.BaseLine) h k = fixed _ refl (omega arith) (omega arith)
-coded (sgr.Italic true) h k = fixed _ refl (omega arith) (omega arith)
-coded (sgr.Inverse true) h k = fixed _ refl (omega arith) (omega arith)
-coded (sgr.Invisible true) h k = fixed _ refl (omega arith) (omega arith)
-coded (sgr.StrikeThrough true) h k = fixed _ refl (omega arith) (omega arith)
-coded (sgr.Overline true) h k = fixed _ refl (omega arith) (omega arith)
-coded s h k = fixed (sgr_text s) refl (omega arith) (omega arith)
+coded (sgr.Intensity Normal) h k = fixed _ refl refl (omega arith) (omega arith)
+coded (sgr.Underline underline.None) h k = fixed _ refl refl (omega arith) (omega arith)
+coded (sgr.Blink blink.None) h k = fixed _ refl refl (omega arith) (omega arith)
+coded (sgr.VerticalAlign align.BaseLine) h k = fixed _ refl refl (omega arith) (omega arith)
+coded (sgr.Italic true) h k = fixed _ refl refl (omega arith) (omega arith)
+coded (sgr.Inverse true) h k = fixed _ refl refl (omega arith) (omega arith)
+coded (sgr.Invisible true) h k = fixed _ refl refl (omega arith) (omega arith)
+coded (sgr.StrikeThrough true) h k = fixed _ refl refl (omega arith) (omega arith)
+coded (sgr.Overline true) h k = fixed _ refl refl (omega arith) (omega arith)
+coded s h k = fixed (sgr_text s) refl refl (omega arith) (omega arith)
 
 -- ---- a list that leaves its last parameter out ends in `;`, and so do its bytes
 
@@ -229,14 +213,14 @@ ends_spelled body (t ∷ u ∷ us) (own, rest, e, is, others) (front, f) =
     behind [] f = absurd (omega (arith, ap length f))
     behind (x ∷ front) f = let more : u ∷ us ≡ front ++ semicolon ∷ [] = cc in (front, more)
 
+ends_code : (xs bs front : List ℕ) → AreCodes bs → 0 < length bs → xs ++ bs ≡ front ++ 59 ∷ [] → ⊥
+ends_code xs [] front h some e = omega (arith, some)
+ends_code xs (b ∷ []) front h some e = let last = (same_ends xs front b 59 e).1 in absurd (grind arith)
+ends_code xs (b ∷ c ∷ bs) front h some e = ends_code (xs ++ b ∷ []) (c ∷ bs) front h.1 (omega arith) (append_assoc xs (b ∷ []) (c ∷ bs) ∙ e)
+
 pub unended : (body : List ℕ) (list : List CsiParam) → Spells body list → AreCodes body → ¬ EndsInSemicolon list
 unended body list s are ends =
-    let (front, e) = ends_spelled body list s ends in
-    let last = codes_parts front (59 ∷ []) (subst AreCodes e are) in
-    elim last.1.0 [
-      | inl digit ↦ absurd (omega (arith, digit.1))
-      | inr colon ↦ absurd (omega (arith, colon))
-    ]
+    let (front, e) = ends_spelled body list s ends in ends_code [] body front are (omega (arith, ap length e, length-append front (59 ∷ []))) e
 
 -- ---- the list of a style, and that of a colour, leaves none out at its end
 
@@ -246,15 +230,8 @@ style_closed s list final h k seq =
     let ends = same_ends body seq.body 109 final (sym is ∙ ap (drop 2) seq.whole) in
     none_open (group list final) list (unended seq.body list seq.spelled (subst AreCodes ends.0 are))
 
-ends_digit : (xs ds front : List ℕ) → AreDigits ds → 0 < length ds → xs ++ ds ≡ front ++ 59 ∷ [] → ⊥
-ends_digit xs [] front h some e = omega (arith, some)
-ends_digit xs (d ∷ []) front h some e = let last = same_ends xs front d 59 e in omega (arith, last.1, h.0.1)
-ends_digit xs (d ∷ c ∷ ds) front h some e = ends_digit (xs ++ d ∷ []) (c ∷ ds) front h.1 (omega arith) (append_assoc xs (d ∷ []) (c ∷ ds) ∙ e)
-
 ends_number : (xs front : List ℕ) (n : ℕ) → n < 256 → xs ++ decimal n ≡ front ++ 59 ∷ [] → ⊥
-ends_number xs front n h e =
-    let small : n < 2 ^ 64 = omega (arith, h) in
-    ends_digit xs (decimal n) front (digits_decimal own n small) (decimal_nonempty n small) e
+ends_number xs front n h e = let k : n < 1000 = omega (arith, h) in ends_code xs (decimal n) front (number_codes n k) (some_digits n k) e
 
 ends_color : (xs front : List ℕ) (color : ColorSpec) → IsOpaque color → xs ++ color_list color ≡ front ++ 59 ∷ [] → ⊥
 ends_color xs front color.Default h e = h

@@ -49,15 +49,9 @@ char_marked c h s = grind (arith, nat_tests, one, two, three, four)
 abbrev Behind : Bool → Stand → Bool → Bool → List ℕ → List ℕ → Type 0
 Behind links s styled linked t more = (opened : Bool) × (is_marked links s styled linked (t ++ more) ≡ is_marked links Text opened linked more)
 
-number_byte : (b : ℕ) → IsCode b → is_number_byte b ≡ true
-number_byte b h = grind (arith, nat_tests)
-
-no_final : (b : ℕ) → IsCode b → b ≢ 109
-no_final b h = grind (arith, nat_tests)
-
 on_number : (links zeros styled linked : Bool) (b : ℕ) (more : List ℕ) → IsCode b
     → is_marked links (Numbers zeros) styled linked (b ∷ more) ≡ is_marked links (Numbers (zeros && b == 48)) styled linked more
-on_number links zeros styled linked b more h = rw (ne_eqb b 109 (no_final b h), number_byte b h) refl
+on_number links zeros styled linked b more h = grind (arith, nat_tests)
 
 numbers_marked : (links zeros styled linked : Bool) (body more : List ℕ) → AreCodes body → Behind links (Numbers zeros) styled linked (body ++ 109 ∷ []) more
 numbers_marked links zeros styled linked [] more h = (not zeros, refl)

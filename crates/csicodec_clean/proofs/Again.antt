@@ -43,7 +43,7 @@ use Rattle.csicodec_clean.proofs.Shows.{encoded_on, shown_none}
 use Rattle.csicodec_clean.proofs.Linked.{body_read, itself}
 use Rattle.csicodec_clean.proofs.Pieces.{piece}
 use Rattle.csicodec_clean.proofs.Plain.{scalars_on}
-use Rattle.csicodec_clean.proofs.PlainBytes.{all_both, one_char}
+use Rattle.csicodec_clean.proofs.PlainBytes.{all_both, all_weaker, one_char}
 use Rattle.csicodec_clean.proofs.Styled.{safe_closed, styled}
 use Rattle.csicodec_clean.proofs.Taken.{style_taken}
 use Rattle.csicodec_clean.proofs.Titles.{single_texts, titles_on}
@@ -85,12 +85,8 @@ link_bytes : (bs more : List ℕ) → AllByRecursion IsVisible bs → AreFirstPa
 link_bytes [] more h = (refl, refl)
 link_bytes (b ∷ bs) more h = (bs ++ more, mode.Osc, link_byte b (bs ++ more) h.0, link_bytes bs more h.1)
 
-params_visible : (ps : List ℕ) → AllByRecursion (λ b. is_param b ≡ true) ps → AllByRecursion IsVisible ps
-params_visible [] h = tt
-params_visible (b ∷ ps) h = ((and_parts (is_visible b) (not (b == 59)) h.0).0, params_visible ps h.1)
-
 body_visible : (a : Address) → IsLink a → AllByRecursion IsVisible (link_body a)
-body_visible a h = (refl, (refl, all_both IsVisible a.params (59 ∷ a.url) (params_visible a.params h.within.params) (refl, h.within.url)))
+body_visible a h = (refl, (refl, all_both IsVisible a.params (59 ∷ a.url) (all_weaker (λ b. is_param b ≡ true) IsVisible (λ b p. (and_parts (is_visible b) (not (b == 59)) p).0) a.params h.within.params) (refl, h.within.url)))
 
 link_first : (a : Address) (more rest : List ℕ) (ps : List Part) (after : Mode) → IsLink a → AreFirstParts longest mode.Text more ps rest after
     → AreFirstParts longest mode.Text (link_text a ++ more) (part kind.Str (27 ∷ 93 ∷ []) ∷ (singles kind.Str (link_body a) ++ part kind.Str (27 ∷ 92 ∷ []) ∷ ps)) rest after

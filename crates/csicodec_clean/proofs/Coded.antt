@@ -1,7 +1,7 @@
 -- The text of a style is digits and `:`, 60 at most, in front of `m`.
 use Rattle.std.proofs.Common.{◌≡◌, ◌≤◌, ◌<◌, ◌+◌, ◌-◌, ◌^◌, ◌⊎◌, ℕ, suc, Bool, true, false, cond, List, [], ◌∷◌, ◌++◌, length}
 use Rattle.std.proofs.Common.{length-append, drop, inl, inr, refl, sym, ap, subst, ◌∙◌, append_assoc, append-nil, take, arith, rules}
-use Rattle.std.specs.Prelude.{◌==◌, ◌&&◌, codes, nat_le, nat_lt, if◌then◌else◌, slice_get}
+use Rattle.std.specs.Prelude.{◌==◌, ◌&&◌, codes, nat_le, nat_lt, slice_get}
 use Rattle.std.specs.Fmt.{decimal}
 use Rattle.std.specs.List.{AllByRecursion}
 use Rattle.std.proofs.lemmas.Bool.{and_parts, cases_Bool, cond_both, eqb-true}
@@ -34,7 +34,7 @@ use Rattle.csicodec_streams.specs.Colors.{IsColored, IsOpaque, color_list, plane
 use Rattle.csicodec.specs.Compose.{EndsInSemicolon}
 use Rattle.csicodec_terminal.specs.Terminal.{is_open}
 use Rattle.csicodec_clean.specs.Styled.{hides}
-use Rattle.csicodec_clean.proofs.PlainBytes.{all_both}
+use Rattle.csicodec_clean.proofs.PlainBytes.{all_both, all_weaker}
 
 -- ---- bytes that are digits or `:`
 
@@ -48,15 +48,11 @@ pub codes_parts : (xs ys : List ℕ) → AreCodes (xs ++ ys) → AreCodes xs × 
 codes_parts [] ys h = (tt, h)
 codes_parts (x ∷ xs) ys h = let more = codes_parts xs ys h.1 in ((h.0, more.0), more.1)
 
-digit_codes : (bs : List ℕ) → AreDigits bs → AreCodes bs
-digit_codes [] h = tt
-digit_codes (b ∷ bs) h = (inl h.0, digit_codes bs h.1)
-
 own : IsNumeralModel AreDigits value
 own = numerals_by_fold AreDigits (search rules) value_after (search rules)
 
 number_codes : (n : ℕ) → n < 1000 → AreCodes (decimal n)
-number_codes n h = let small : n < 2 ^ 64 = omega (arith, h) in digit_codes (decimal n) (digits_decimal own n small)
+number_codes n h = let small : n < 2 ^ 64 = omega (arith, h) in all_weaker IsDigit IsCode (λ b d. inl d) (decimal n) (digits_decimal own n small)
 
 some_digits : (n : ℕ) → n < 1000 → 0 < length (decimal n)
 some_digits n h = let small : n < 2 ^ 64 = omega (arith, h) in decimal_nonempty n small

@@ -1,5 +1,5 @@
 -- What `clean` leaves is safe by its bytes alone.
-use Rattle.std.proofs.Common.{◌≡◌, ◌≢◌, ◌<◌, ◌≤◌, ◌+◌, ◌/◌, ◌%◌, ℕ, Bool, true, false, List, [], ◌∷◌, ◌++◌, ◌⊎◌}
+use Rattle.std.proofs.Common.{◌≡◌, ◌<◌, ◌≤◌, ◌+◌, ◌/◌, ◌%◌, ℕ, Bool, true, false, List, [], ◌∷◌, ◌++◌, ◌⊎◌}
 use Rattle.std.proofs.Common.{inl, inr, length, refl, sym, ap, subst, ◌∙◌, append_assoc, arith}
 use Rattle.std.specs.Prelude.{not, ◌==◌, ◌&&◌}
 use Rattle.std.specs.Char.{encode_utf8}
@@ -16,7 +16,7 @@ use Rattle.csicodec_clean.specs.Shown.{IsShown}
 use Rattle.csicodec_clean.specs.Links.{Address, IsLink, is_linked, is_param, is_visible, link_text}
 use Rattle.csicodec_clean.specs.declared.styles.Passing.{Passing}
 use Rattle.csicodec_clean.specs.Styled.{hides, is_open, is_reset, Item, Shown, Style, Link, item_texts, links_of, styles_of, IsSafe, IsStyledIn, StylesIn}
-use Rattle.csicodec_clean.specs.Marked.{Stand, Text, Numbers, Params, Url, is_number_byte, stand_behind, is_marked, IsMarked}
+use Rattle.csicodec_clean.specs.Marked.{Stand, Text, Numbers, Params, Url, stand_behind, is_marked, IsMarked}
 use Rattle.csicodec_clean.proofs.Coded.{AreCodes, IsCode, coded}
 use Rattle.csicodec_clean.proofs.Pieces.{style_range}
 use Rattle.csicodec_clean.proofs.Styled.{styled}

@@ -16,6 +16,10 @@ pub all_both : {T : Type 0} (P : T → Type 0) (xs ys : List T) → AllByRecursi
 all_both P [] ys h k = k
 all_both P (x ∷ xs) ys h k = (h.0, all_both P xs ys h.1 k)
 
+pub all_weaker : {T : Type 0} (P Q : T → Type 0) → ((t : T) → P t → Q t) → (xs : List T) → AllByRecursion P xs → AllByRecursion Q xs
+all_weaker P Q f [] h = tt
+all_weaker P Q f (x ∷ xs) h = (f x h.0, all_weaker P Q f xs h.1)
+
 chars : (cs : List ℕ) → AllByRecursion IsShown cs → AllByRecursion IsOther (encode_utf8_all cs)
 chars [] h = tt
 chars (c ∷ cs) h = all_both IsOther (encode_utf8 c) (encode_utf8_all cs) (one_char c h.0) (chars cs h.1)

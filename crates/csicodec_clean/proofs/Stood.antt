@@ -108,15 +108,16 @@ stood_at done later all b c whole (before, e) over = record {
   link = over_at b.place b.address.params b.address.url c over;
 }
 
+-- what passes of the link that is over, where one is, and of the others
+if_over : (P : Address → Type 0) (over : Bool) (a : Address) (more : List Address) → (over ≡ true → P a) → AllByRecursion (IsAdmitted P) more
+    → AllByRecursion (IsAdmitted P) ((if over then admitted a ∷ [] else []) ++ more)
+if_over P over a more f h = grind arith
+
 stood_in : (bytes done all : List ℕ) (b : Begun) → all ≡ done ++ bytes → EndsWith done b → AllByRecursion (IsAdmitted (Stood all)) (links_in true b bytes)
 stood_in [] done all b whole h = tt
 stood_in (c ∷ bytes) done all b whole h =
-    by (ends_at b.place c) (stood_at done bytes all b c whole h) (stood_in bytes (done ++ c ∷ []) all (behind b c) (whole ∙ sym (append_assoc done (c ∷ []) bytes)) (byte_more done b c h))
-  where
-    by : (over : Bool) → (over ≡ true → Stood all b.address) → AllByRecursion (IsAdmitted (Stood all)) (links_in true (behind b c) bytes)
-        → AllByRecursion (IsAdmitted (Stood all)) ((if over then admitted b.address ∷ [] else []) ++ links_in true (behind b c) bytes)
-    by true f rest = ((b.address, f refl, refl), rest)
-    by false f rest = rest
+    if_over (Stood all) (ends_at b.place c) b.address (links_in true (behind b c) bytes) (stood_at done bytes all b c whole h)
+    (stood_in bytes (done ++ c ∷ []) all (behind b c) (whole ∙ sym (append_assoc done (c ∷ []) bytes)) (byte_more done b c h))
 
 pub in_bytes : (bytes : List ℕ) → AllByRecursion (IsAdmitted (Stood bytes)) (links_in true start bytes)
 in_bytes bytes = stood_in bytes [] bytes start refl ([], refl)
@@ -133,10 +134,6 @@ rest_behind m b bytes (inl (c, e, other, string)) rest =
 rest_behind m b bytes (inr (c, e, other)) rest =
     let same = anew_at b.place b.address.params b.address.url c rest in
     subst (λ (t : List ℕ). IsAtRest (all_behind true b t).place) (sym e) (subst (λ (x : Begun). IsAtRest x.place) (sym same) (opened_rest b.address.params b.address.url c).0)
-
--- what passes of the link that is over, where one is
-if_over : (P : Address → Type 0) (over : Bool) (a : Address) → (over ≡ true → P a) → AllByRecursion (IsAdmitted P) ((if over then admitted a ∷ [] else []) ++ [])
-if_over P over a f = grind arith
 
 over_two : (P : Address → Type 0) (p : LinkState) (params url : List ℕ) (c : ℕ) → IsAtRest p
     → ((c == 92) ≡ true → Spells (read_of p params url ++ 27 ∷ c ∷ []) (address params url) → P (address params url))
@@ -207,7 +204,7 @@ after_one : (whole done later : List Part) (b : Begun) (c : ℕ) → whole ≡ d
 after_one whole done later b c split rest o other =
     let on = on_at b.place b.address.params b.address.url c rest other in
     record {
-      links = if_over (StoodIn whole) (ends_at b.place c) b.address (λ e. stood_part done later whole b (c ∷ []) split o (over_at b.place b.address.params b.address.url c e));
+      links = if_over (StoodIn whole) (ends_at b.place c) b.address [] (λ e. stood_part done later whole b (c ∷ []) split o (over_at b.place b.address.params b.address.url c e)) tt;
       opens = open_on done b (behind b c) (c ∷ []) o on.1;
     }
 

@@ -32,6 +32,7 @@ use Rattle.csicodec.proofs.Twins.{parsed-special, sgr-plain}
 use Rattle.csicodec_clean.specs.Styled.{hides}
 use Rattle.csicodec_clean.proofs.Coded.{style_closed}
 use Rattle.csicodec_clean.proofs.Pieces.{style_range}
+use Rattle.csicodec_clean.proofs.PlainBytes.{all_weaker}
 
 -- ---- a regular list is one of a sequence
 
@@ -91,12 +92,10 @@ fields_spellable : (two : Bool) (list : List CsiParam) (o : Option (List (Option
 fields_spellable two list None ok are = ok
 fields_spellable two list (Some fields) ok are = first_spellable two fields are
 
-either_spellable : (has two : Bool) (list : List CsiParam) → Spellable list → Spellable (if has then by_fields two list (fields_of list) else list)
-either_spellable true two list ok = fields_spellable two list (fields_of list) ok (fields_are list ok)
-either_spellable false two list ok = ok
-
 regular_spellable : (list : List CsiParam) (final : ℕ) → Spellable list → Spellable (regular list final)
-regular_spellable list final ok = either_spellable (has_two final || has_one final) (has_two final) list ok
+regular_spellable list final ok =
+    cond_both (has_two final || has_one final) (by_fields (has_two final) list (fields_of list)) list Spellable
+    (λ _. fields_spellable (has_two final) list (fields_of list) ok (fields_are list ok)) (λ _. ok)
 
 -- ---- each action is in range, and a style is read alone
 
@@ -106,10 +105,6 @@ StyleAlone a = Unit {0}
 
 abbrev IsSound : Action → Type 0
 IsSound a = InRange a × StyleAlone a
-
-weaker : (Each Other : Action → Type 0) → ((a : Action) → Each a → Other a) → (actions : List Action) → AllByRecursion Each actions → AllByRecursion Other actions
-weaker Each Other f [] h = tt
-weaker Each Other f (a ∷ actions) h = (f a h.0, weaker Each Other f actions h.1)
 
 style_alone : (s : sgr_type.Sgr) → SgrInRange s → IsCanonicalSgr s → ReadsAlone (Sgr s) false
 style_alone s range canonical = alone-only false (Sgr s) (canonical-alone (Sgr s) false range canonical)
@@ -125,7 +120,7 @@ kept_sound (Sgr s) kept = (
 kept_sound a kept = (kept.range, tt)
 
 table_sound : (list : List CsiParam) (final : ℕ) (actions : List Action) → Spellable list → IsFinal final → Actions list false final actions → AllByRecursion IsSound actions
-table_sound list final actions ok ends are = weaker (Kept false) IsSound kept_sound actions (parsed-kept list false final actions ok ends are)
+table_sound list final actions ok ends are = all_weaker (Kept false) IsSound kept_sound actions (parsed-kept list false final actions ok ends are)
 
 piece_sound : (g : Group) (rest : List CsiParam) (k : ℕ) (a : Action) → Piece g rest k a → IsSound a
 piece_sound Whole rest k a p = absurd p
@@ -162,10 +157,10 @@ taken_sound bytes actions (list, final, is, (known, are, s)) =
     (table_sound list final known is.spellable is.ends are) s
 
 pub taken_range : (bytes : List ℕ) (actions : List Action) → IsTakenFor bytes actions → AllByRecursion InRange actions
-taken_range bytes actions taken = weaker IsSound InRange (λ a h. h.0) actions (taken_sound bytes actions taken)
+taken_range bytes actions taken = all_weaker IsSound InRange (λ a h. h.0) actions (taken_sound bytes actions taken)
 
 pub taken_alone : (bytes : List ℕ) (actions : List Action) → IsTakenFor bytes actions → AllByRecursion StyleAlone actions
-taken_alone bytes actions taken = weaker IsSound StyleAlone (λ a h. h.1) actions (taken_sound bytes actions taken)
+taken_alone bytes actions taken = all_weaker IsSound StyleAlone (λ a h. h.1) actions (taken_sound bytes actions taken)
 
 -- the text of a style that is shown is taken for it
 pub style_taken : (s : sgr_type.Sgr) (actions : List Action) → ReadsAlone (Sgr s) false → hides s ≡ false → IsTakenFor (text (Sgr s)) actions → actions ≡ Sgr s ∷ []

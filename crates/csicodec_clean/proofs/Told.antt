@@ -17,7 +17,7 @@ use Rattle.csicodec_clean.specs.Bytes.{IsPlainByte, behind, plain_byte}
 use Rattle.csicodec_clean.specs.Private.Steps.{IsOther, IsTold, Tells, dropped_byte, IsWide}
 use Rattle.csicodec_clean.proofs.Bytes.{front_in}
 use Rattle.csicodec_clean.proofs.Plain.{text_on}
-use Rattle.csicodec_clean.proofs.PlainBytes.{all_both, plain_bytes}
+use Rattle.csicodec_clean.proofs.PlainBytes.{all_both, all_weaker, plain_bytes}
 use Rattle.csicodec_clean.proofs.Shows.{shown_on}
 use Rattle.csicodec_clean.proofs.Sure.{read_more, read_none}
 use Rattle.csicodec_clean.proofs.Twice.{all_kept}
@@ -43,14 +43,9 @@ pub encoded : (bs : List ℕ) → AllByRecursion IsPlainByte bs → bs ≡ encod
 encoded [] h = refl
 encoded (b ∷ bs) h = ap (λ t. b ∷ t) (encoded bs h.1) ∙ ap (λ t. t ++ encode_utf8_all bs) (sym (alone b (low b h.0)))
 
-all_in : (class : ℕ → Bool) → ((b : ℕ) → IsPlainByte b → class b ≡ true) → (bs : List ℕ) → AllByRecursion IsPlainByte bs
-    → AllByRecursion (λ c. class c ≡ true) bs
-all_in class has [] h = tt
-all_in class has (b ∷ bs) h = (has b h.0, all_in class has bs h.1)
-
 ascii_in : (class : ℕ → Bool) → ((b : ℕ) → IsPlainByte b → class b ≡ true) → (bs : List ℕ) → AllByRecursion IsPlainByte bs
     → IsTextOf class bs
-ascii_in class has bs h = (bs, scalars bs h, all_in class has bs h, encoded bs h)
+ascii_in class has bs h = (bs, scalars bs h, all_weaker IsPlainByte (λ c. class c ≡ true) has bs h, encoded bs h)
 
 pub ascii_shown : (bs : List ℕ) → AllByRecursion IsPlainByte bs → IsPlain bs
 ascii_shown = ascii_in shown is_shown

@@ -23,7 +23,7 @@ use Rattle.csicodec_spans.specs.declared.table.Kind.{Kind}
 use Rattle.csicodec_spans.specs.declared.table.Kind.TheVariants as kind
 use Rattle.csicodec_spans.specs.declared.table.Mode.TheVariants as mode
 use Rattle.csicodec_spans.specs.declared.table.Mode.{Mode}
-use Rattle.csicodec_spans.specs.Table.{Answer, More, ahead}
+use Rattle.csicodec_spans.specs.Table.{Answer}
 use Rattle.csicodec_spans.specs.Parts.{Part, part, Allows, AreFirstParts, IsFirstPart, IsWhole}
 use Rattle.csicodec_spans.proofs.OneSpan.{none_unsure, singles}
 use Rattle.csicodec_spans.proofs.Apart.{said}
@@ -75,11 +75,8 @@ link_closes more = (refl, subst (λ (f : Answer). Allows f longest (27 ∷ 92 �
 abbrev IsVisible : ℕ → Type 0
 IsVisible b = is_visible b ≡ true
 
-visible_stays : (b : ℕ) (more : List ℕ) → IsVisible b → ahead mode.Osc (b ∷ more) ≡ More kind.Str 1 mode.Osc
-visible_stays b more h = said 2 _ mode.Osc (b ∷ more) refl (grind (arith, nat_tests))
-
 link_byte : (b : ℕ) (more : List ℕ) → IsVisible b → IsFirstPart longest mode.Osc (b ∷ more) (part kind.Str (b ∷ [])) more mode.Osc
-link_byte b more h = (refl, subst (λ (f : Answer). Allows f longest (b ∷ more) kind.Str (b ∷ []) mode.Osc) (sym (visible_stays b more h)) (refl, refl, refl))
+link_byte b more h = (refl, subst (λ (f : Answer). Allows f longest (b ∷ more) kind.Str (b ∷ []) mode.Osc) (sym (said 2 _ mode.Osc (b ∷ more) refl (grind (arith, nat_tests)))) (refl, refl, refl))
 
 link_bytes : (bs more : List ℕ) → AllByRecursion IsVisible bs → AreFirstParts longest mode.Osc (bs ++ more) (singles kind.Str bs) more mode.Osc
 link_bytes [] more h = (refl, refl)

@@ -120,9 +120,6 @@ module _ {S : Type 0} (of : S → Keeping) where
       → item_texts (shown_items run ++ (own ++ others)) ≡ first ++ item_texts others
   ended run first own_text own others e same = rw (part_texts run own others, e, same) (simp append_assoc)
 
-  bare : (run first : List ℕ) (own others : List Item) → first ≡ shown_text run → own ≡ [] → item_texts (shown_items run ++ (own ++ others)) ≡ first ++ item_texts others
-  bare run first own others e none = ended run first [] own others (e ∙ sym (append-nil (shown_text run))) (ap item_texts none)
-
   step_left : (k : Kind) (s mid : S) (run bytes first next : List ℕ) (own others : List Item) → IsStep (keeps of) k s run bytes first mid next
       → Leaves (of s).passing (of s).begun k bytes own → OneStep k s mid run bytes first next own others
   step_left kind.Text s mid run bytes first next own others (none, same, on) l =
@@ -136,7 +133,7 @@ module _ {S : Type 0} (of : S → Keeping) where
       let text : item_texts own ≡ given = ap item_texts l ∙ texts_links (links_in (of s).passing.links (of s).begun bytes) ∙ sym g.told in
       record { text = ended run first given own others e text; next_run = left; passing = ap (λ (x : Keeping). x.passing) g.state; begun = ap (λ (x : Keeping). x.begun) g.state }
   step_left _ s mid run bytes first next own others h l =
-      record { text = bare run first own others h.0 l; next_run = h.2; passing = ap (λ (x : S). (of x).passing) h.1; begun = ap (λ (x : S). (of x).begun) h.1 }
+      record { text = ended run first [] own others (h.0 ∙ sym (append-nil (shown_text run))) (ap item_texts l); next_run = h.2; passing = ap (λ (x : S). (of x).passing) h.1; begun = ap (λ (x : S). (of x).begun) h.1 }
 
   record Later (d : Passing) (qs : List Part) (last text : List ℕ) (items : List Item) : Type 0 where
     others : List Item

@@ -1,8 +1,9 @@
 -- Links, byte by byte.
 use Rattle.std.proofs.Common.{◌≡◌, ◌≤◌, ◌<◌, ◌+◌, ℕ, Bool, true, false, List, [], ◌∷◌, ◌++◌, length, length-append, refl, sym, ap, ◌∙◌, append_assoc, append-nil, arith}
-use Rattle.std.specs.Prelude.{◌==◌, ◌&&◌, not, if◌then◌else◌}
+use Rattle.std.specs.Prelude.{◌==◌, ◌&&◌, not}
 use Rattle.std.specs.List.{AllByRecursion}
 use Rattle.std.proofs.lemmas.Grind.{flat_map-append}
+use Rattle.std.proofs.lemmas.Bool.{cond_both}
 use Rattle.std.proofs.lemmas.Bool.Decides.{nat_tests}
 use Rattle.csicodec_clean.specs.declared.links.LinkState.{LinkState}
 use Rattle.csicodec_clean.specs.declared.links.LinkState.TheVariants as place
@@ -71,12 +72,9 @@ fine_admitted a h = record {
 
 pub fine_links : (passing : Bool) (bytes : List ℕ) (b : Begun) → IsWithin b.address → AllByRecursion IsLink (links_in passing b bytes)
 fine_links passing [] b h = tt
-fine_links passing (c ∷ bytes) b h = by (passing && ends_at b.place c) (fine_links passing bytes (next passing b c) (fine_next passing b c h))
-  where
-    by : (over : Bool) → AllByRecursion IsLink (links_in passing (next passing b c) bytes)
-        → AllByRecursion IsLink ((if over then admitted b.address ∷ [] else []) ++ links_in passing (next passing b c) bytes)
-    by true rest = (fine_admitted b.address h, rest)
-    by false rest = rest
+fine_links passing (c ∷ bytes) b h =
+    let rest = fine_links passing bytes (next passing b c) (fine_next passing b c h) in
+    cond_both (passing && ends_at b.place c) (admitted b.address ∷ []) [] (λ t. AllByRecursion IsLink (t ++ links_in passing (next passing b c) bytes)) (λ _. (fine_admitted b.address h, rest)) (λ _. rest)
 
 -- ---- a link is read as it is
 

@@ -1,6 +1,5 @@
 -- The place of the palette that is found stays among the places.
 use Rattle.std.proofs.Common.{◌≡◌, ◌<◌, ◌≤◌, ◌+◌, ◌⊎◌, ℕ, zero, suc, false, refl, subst, arith}
-use Rattle.std.specs.Prelude.{nat_lt, if◌then◌else◌}
 use Rattle.std.proofs.lemmas.Bool.{cond_both}
 use Rattle.std.proofs.lemmas.Bool.Decides.{nat_tests}
 use Rattle.csicodec_names.specs.declared.color.ColorSpec.{ColorSpec}
@@ -70,9 +69,6 @@ pub below_16 : (c : SrgbaTuple) → nearest_of_16 c < 16
 below_16 c = below 15 c 0 1 16 (omega arith) (omega arith)
 
 -- ---- colours that stay
-
-place_of_16 : (i : ℕ) → (if nat_lt i 16 then i else nearest_of_16 (palette i)) < 16
-place_of_16 i = grind (arith, nat_tests, below_16)
 
 in_range : (d : Depth) (c : ColorSpec) → ColorInRange c → ColorInRange (reduced_color d c)
 in_range d c h = grind (arith, nat_tests, below_16, below_256)

@@ -22,7 +22,7 @@ use Rattle.csicodec_clean.specs.Cleaned.{longest}
 use Rattle.csicodec_clean.specs.Links.{Address, Begun, IsAdmitted, IsWithin, Spells, Stood, StoodIn, admitted, all_behind, begun, behind}
 use Rattle.csicodec_clean.specs.Links.{behind_at, ends_at, is_linked, link_body, links_in, opened, start}
 use Rattle.csicodec_clean.specs.Shown.{shown}
-use Rattle.csicodec_clean.specs.Styled.{kept, Item, Link, shown_items, Leaves, begun_behind, run_behind, items_behind, AreLeft, links_of, ends_of, is_open, styles_of, IsSafe, StylesIn}
+use Rattle.csicodec_clean.specs.Styled.{kept, Item, Link, Leaves, begun_behind, run_behind, items_behind, AreLeft, links_of, ends_of, is_open, styles_of, IsSafe, StylesIn}
 use Rattle.csicodec_clean.specs.Titles.{read_as, title_behind, with_titles}
 use Rattle.csicodec_clean.proofs.Linked.{links_on, passes}
 use Rattle.csicodec_clean.proofs.PlainBytes.{all_both}
@@ -237,9 +237,6 @@ after_piece whole done later m b bytes split h (inr (c, e, other)) =
 abbrev with_links : Depth → Passing
 with_links d = record { depth = d; links = true }
 
-run_links : (run : List ℕ) → links_of (shown_items run) ≡ []
-run_links run = links_chars (filter shown (lossy_chars run))
-
 -- a part that is no control string leaves no link
 none_left : (d : Depth) (b : Begun) (k : Kind) (run bytes : List ℕ) (own others : List Item) → is_str k ≡ false → Leaves (with_links d) b k bytes own
     → links_of (items_behind k run ++ (own ++ others)) ≡ links_of others
@@ -277,8 +274,8 @@ one_part d k text m a bytes rest b t run done later whole items own others first
 
 -- what is left where nothing follows
 end_links : (d : Depth) (rest : List ℕ) (b : Begun) (t : Bool) (run : List ℕ) (items : List Item) → AreLeft (with_links d) b run (with_titles t (left_over rest)) items → links_of items ≡ []
-end_links d [] b t run items e = ap links_of e ∙ run_links run
-end_links d (c ∷ rest) b t run items (own, others, leaves, e, last) = ap links_of e ∙ none_left d b kind.Other run (c ∷ rest) own others refl leaves ∙ ap links_of last ∙ run_links []
+end_links d [] b t run items e = ap links_of e ∙ links_chars (filter shown (lossy_chars run))
+end_links d (c ∷ rest) b t run items (own, others, leaves, e, last) = ap links_of e ∙ none_left d b kind.Other run (c ∷ rest) own others refl leaves ∙ ap links_of last ∙ links_chars (filter shown (lossy_chars []))
 
 all_parts : (d : Depth) (sure : List Part) (m a : Mode) (bytes rest : List ℕ) (b : Begun) (t : Bool) (run : List ℕ) (done whole : List Part) (items : List Item)
     → AreFirstParts longest m bytes sure rest a → Held m done b

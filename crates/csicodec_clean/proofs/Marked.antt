@@ -60,8 +60,7 @@ numbers_marked links zeros styled linked (b ∷ body) more h =
     (later.0, on_number links zeros styled linked b ((body ++ 109 ∷ []) ++ more) h.0 ∙ later.1)
 
 only_reset : (s : Sgr) → (s ≡ sgr.Reset) ⊎ (is_reset s ≡ false)
-only_reset sgr.Reset = inl refl
-only_reset s = inr refl
+only_reset s = grind arith
 
 pub record Styles (links styled linked : Bool) (s : Sgr) (more : List ℕ) : Type 0 where
   pub opened : Bool

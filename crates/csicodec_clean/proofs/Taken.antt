@@ -78,9 +78,7 @@ nth_is (x ∷ fields) zero are = are.0
 nth_is (x ∷ fields) (suc n) are = nth_is fields n are.1
 
 some_spellable : (none both : Bool) (two one : List CsiParam) → Spellable two → Spellable one → Spellable (if none then [] else if both then two else one)
-some_spellable true both two one h k = tt
-some_spellable false true two one h k = h
-some_spellable false false two one h k = k
+some_spellable none both two one h k = grind arith
 
 first_spellable : (two : Bool) (fields : List (Option ℤ)) → AllByRecursion IsField fields → Spellable (first two fields)
 first_spellable two fields are =

@@ -1,5 +1,5 @@
 -- A log as it comes.
-use Rattle.std.proofs.Common.{◌≡◌, ◌==◌, not, ℕ, true, false, List, [], ◌∷◌, ◌++◌, Option, None, Some, refl, sym, ap, subst, ◌∙◌, ⊎_elim, append_assoc, append-nil}
+use Rattle.std.proofs.Common.{◌≡◌, ◌==◌, not, ℕ, List, [], ◌∷◌, ◌++◌, Option, None, Some, refl, sym, ap, subst, ◌∙◌, ⊎_elim, append_assoc, append-nil}
 use Rattle.std.proofs.lemmas.List.Folds.{list_all-append}
 use Rattle.std.specs.Prelude.{IfSome}
 use Rattle.csicodec_filter.specs.Transform.{Begins, GoesOn, Sends, Transforms}
@@ -12,6 +12,7 @@ use Rattle.csicodec_clean.proofs.PlainBytes.{all_both}
 use Rattle.csicodec_clean.proofs.Styled.{styles as styled_as}
 use Rattle.csicodec_lines.specs.Stream.{ended}
 use Rattle.csicodec_lines.proofs.Texts.{ended_on, of_on}
+use Rattle.csicodec_overwrite.specs.declared.marking.Marking.{Marking}
 use Rattle.csicodec_overwrite.specs.declared.marking.Marking.TheVariants.{Plain, Styled}
 use Rattle.csicodec_overwrite.specs.Stream.{Ending, Now, Passes, begun_as}
 use Rattle.csicodec_overwrite.proofs.Written.{passes_none, passes_on, shows}
@@ -92,6 +93,11 @@ styled_end old s mid text more close is ends takes closes line own at =
           (at_end Gives (resets (λ (k : Keeping). k)) (first_kept s.passing) (painted ++ text) (own ++ more) close mid whole closes)),
     )
 
+-- how the line of a log is written
+abbrev pub marking_of : Option Passing → Marking
+marking_of None = Plain
+marking_of (Some p) = Styled
+
 -- one line more
 ended_more : (texts : List (List ℕ)) (own rest : List ℕ) → (ended texts ++ own) ++ (rest ++ 10 ∷ []) ≡ ended (texts ++ (own ++ rest) ∷ []) ++ []
 ended_more texts own rest =
@@ -118,21 +124,26 @@ line_over old new rest ends (same, begun) first bytes text (kept, log) = (
   },
 )
 
+-- nothing has come of a line
+pub begun_in : (styles : Option Styles) (line : Now) (passing : Option Passing) → passing_of styles ≡ passing → line ≡ begun_as (marking_of passing)
+    → IfSome styles (λ s. s.cleaner ≡ start_of (first_kept s.passing)) → IsIn styles line [] []
+begun_in None line None same now fresh = rw now (passes_none (begun_as Plain) refl)
+begun_in (Some s) line (Some p) same now fresh =
+    ([], rw now (passes_none (begun_as Styled) refl), rw fresh (takes_none (keeps (λ (k : Keeping). k)) (first_kept s.passing)))
+begun_in None line (Some p) same now fresh = cc
+begun_in (Some s) line None same now fresh = cc
+
 -- the next one begins
 pub begun_again : (old new : Log) → passing_of new.styles ≡ passing_of old.styles → new.line ≡ begun_as old.line.marking
     → IfSome new.styles (λ s. s.cleaner ≡ start_of (first_kept s.passing)) → IsBegun old new
-begun_again old new same now fresh = (same, λ line own at. by line own old.styles new.styles same fresh at)
+begun_again old new same now fresh = (
+  same,
+  λ line own at. begun_in new.styles new.line (passing_of old.styles) same (now ∙ ap begun_as (marking old.styles line own at)) fresh,
+)
   where
-    by : (line own : List ℕ) (o n : Option Styles) → passing_of n ≡ passing_of o → IfSome n (λ s. s.cleaner ≡ start_of (first_kept s.passing))
-        → IsIn o old.line line own → IsIn n new.line [] []
-    by line own None None e f at = subst (λ (n : Now). Passes (begun_as Plain) [] [] n) (sym (now ∙ ap begun_as at.marking)) (passes_none (begun_as Plain) refl)
-    by line own None (Some t) e f at = cc
-    by line own (Some s) None e f at = cc
-    by line own (Some s) (Some t) e f (painted, before, taken) = (
-      [],
-      subst (λ (n : Now). Passes (begun_as Styled) [] [] n) (sym (now ∙ ap begun_as before.marking)) (passes_none (begun_as Styled) refl),
-      rw f (takes_none (keeps (λ (k : Keeping). k)) (first_kept t.passing)),
-    )
+    marking : (o : Option Styles) (line own : List ℕ) → IsIn o old.line line own → old.line.marking ≡ marking_of (passing_of o)
+    marking None line own at = at.marking
+    marking (Some s) line own (painted, before, taken) = before.marking
 
 -- with other relations to what stands behind the lines
 last_as : (Each Last Other : List ℕ → List ℕ → Type 0) (bytes text more : List ℕ) (log : LogOf Each Last bytes text) → Other log.rest (log.own ++ more) → LogOf Each Other bytes (text ++ more)

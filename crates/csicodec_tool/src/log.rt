@@ -54,22 +54,14 @@ impl Log {
         ensures passing { passing_of result.styles ≡ styles }
         ensures begun { IsIn result.styles result.line [] [] }
     {
-        let Some(passing) = styles else {
-            return Log {
-                alloc,
-                styles: None,
-                line: Overwriter::new(alloc),
-            };
-        };
-        let styles = Styles {
-            passing,
-            cleaner: Cleaner::new(alloc, Kept::letting(alloc, passing)),
-            painted: Vec::new(alloc),
+        let line = match styles {
+            Some(_) => Overwriter::painting(alloc),
+            None => Overwriter::new(alloc),
         };
         Log {
             alloc,
-            styles: Some(styles),
-            line: Overwriter::painting(alloc),
+            styles: styles_of(alloc, styles),
+            line,
         }
     }
 

@@ -1,17 +1,13 @@
-use Rattle.std.proofs.Common.{[], refl}
-use Rattle.csicodec_clean.specs.Styled.{Keeping, first_kept, keeps}
-use Rattle.csicodec_clean.proofs.Chunks.{takes_none}
-use Rattle.csicodec_overwrite.specs.declared.marking.Marking.TheVariants.{Plain, Styled}
-use Rattle.csicodec_overwrite.specs.Stream.{begun_as}
-use Rattle.csicodec_overwrite.proofs.Written.{passes_none}
+use Rattle.std.proofs.Common.{◌∙◌}
+use Rattle.csicodec_tool.proofs.Logged.{begun_in}
 use Rattle.csicodec_tool.proofs.log.Log.new.Goals as goal
+use Rattle.csicodec_tool.proofs.log.Log.new.Goals.{in-Some, in-None}
 
 pub returns-clause-begun : goal.returns-clause-begun
-returns-clause-begun c = (
-  [],
-  rw c.painting.ensures (passes_none (begun_as Styled) refl),
-  rw (c.new-2.ensures, c.letting.ensures) (takes_none (keeps (λ (k : Keeping). k)) (first_kept c.in-Some.passing)),
-)
-
-pub returns-in_default-clause-begun : goal.returns-in_default-clause-begun
-returns-in_default-clause-begun c = rw c.new.ensures (passes_none (begun_as Plain) refl)
+returns-clause-begun c =
+    begun_in c.styles_of.result c.match-styles.line c.args.styles c.styles_of.ensures.passing
+    (elim c.match-styles.branch [
+      | in-Some w ↦ rw w.in-Some.is (w.line-is ∙ w.painting-line.ensures)
+      | in-None w ↦ rw w.in-None.is (w.line-is ∙ w.new-line.ensures)
+    ])
+    c.styles_of.ensures.begun

@@ -1,5 +1,5 @@
 /* A stream that is pushed in pieces of any length has the events of the whole, strings are told whole, and what a parser keeps stays in
- * its room. */
+ * its room. Parameters as they came, a sequence that is read once more, and the lists that terminals take otherwise. */
 #include "csicodec.h"
 
 #include <stdio.h>

@@ -1,4 +1,4 @@
-/* random COUNT: every call on bytes made at random, in blocks of the heap of just their length, for the address sanitizer to watch. */
+/* random COUNT: calls on bytes made at random, in blocks of the heap of just their length, for the address sanitizer to watch. */
 #include "csicodec.h"
 
 #include <stdio.h>

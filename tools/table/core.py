@@ -119,26 +119,13 @@ def read_arms(actions):
             yield f"        {byte(action.row['final'])[1:]} => Some({rust(action)}({action.form}(params)?)),"
 
 
-def proofs(actions, between, types, makes, constructor):
-    """A proof for each final: what the rows before it read. `types` and `makes` are those of one number and of two."""
-    for action in actions:
-        two, one, final = action.form == "places", name(action, between), ord(action.row["final"])
-        made = f"(λ {numbers(action)}. {constructor} ({value(action)} {numbers(action)}))"
-        yield f"pub {one} : {types[two]} {final} {value(action)}\nunfolding as_{action.subject.lower()}\n{one} = {makes[two]} {made}\n"
-
-
-def long_ruleset(called, names):
-    """A line for each."""
-    return "\n".join([f"pub ruleset {called} = (", *(f"  {name}," for name in names), ")"])
-
-
-def together(called, kind, make, actions, constructor):
-    """One proof for all these finals: what the rows before each read, of one number or of two."""
-    said = [f"{kind} {ord(action.row['final'])} {value(action)}" for action in actions]
+def together(called, kinds, makes, actions, constructor):
+    """One proof for all these finals: what the rows before each read. `kinds` and `makes` are those of one number and of two."""
+    said = [f"{kinds[action.form == 'places']} {ord(action.row['final'])} {value(action)}" for action in actions]
     yield from folded(f"pub {called} :", said, "×").replace(": =\n   ", ":", 1).replace(": =", ":", 1).split("\n")
     yield f"unfolding as_{actions[0].subject.lower()}"
     yield f"{called} = ("
-    yield from (f"  {make} (λ {numbers(action)}. {constructor} ({value(action)} {numbers(action)}))," for action in actions)
+    yield from (f"  {makes[action.form == 'places']} (λ {numbers(action)}. {constructor} ({value(action)} {numbers(action)}))," for action in actions)
     yield from (")", "")
 
 
@@ -240,9 +227,10 @@ def of_cursor(actions):
     yield front, Part(list(front_arms(one)), ("fn moved_by(number: u32, control: u8) -> Option<Cursor>", "    match control {"), "        _ => None,")
     yield front, Part(list(front_arms(two)), ("fn moved_to(first: u32, second: u32, control: u8) -> Option<Cursor>", "    match control {"), "        b'r' => Some(Cursor::SetTopAndBottomMargins {")
     lists = "TwoCounts final make = (list : List CsiParam) → as_cursor list final ≡ option_map (λ (p : ℕ × ℕ). Cursor (make p.0 p.1)) (given (paired (λ a b. (a, b))) list)"
-    counts = [*proofs(one + two, "-", ("Counts", "TwoCounts"), ("one-count", "two-counts"), "Cursor"), long_ruleset("finals", map(name, one + two))]
-    yield "crates/csicodec_actions/proofs/Finals.antt", Part("\n".join(counts).split("\n"), (lists, ""), None)
-    moves = [*together("counted", "OneMove", "one_count", one, "Moves"), *together("twos", "TwoMoves", "two_counts", two, "Moves")]
+    counts = list(together("finals", ("Counts", "TwoCounts"), ("one-count", "two-counts"), one + two, "Cursor"))[:-1]
+    yield "crates/csicodec_actions/proofs/Finals.antt", Part(counts, (lists, ""), None)
+    kinds, makes = ("OneMove", "TwoMoves"), ("one_count", "two_counts")
+    moves = [*together("counted", kinds, makes, one, "Moves"), *together("twos", kinds, makes, two, "Moves")]
     margins = "pub margins : (a b j k : ℕ) → j ≡ or_default 1 a → k ≡ or_default most b → a < 2 ^ 32 → b < 2 ^ 32 → (list : List CsiParam) → IsTwo a b list"
     yield rows, Part(moves, ("    → as_cursor list final ≡ Some (Moves (make j k))", ""), margins)
 
@@ -251,7 +239,7 @@ def of_edit(actions):
     yield "crates/csicodec_c/src/row.rt", Part(list(front_arms(actions)), ("fn edited(number: u32, control: u8) -> Option<Edit>", "    match control {"), "        b'J' => Some(Edit::EraseInDisplay(EraseInDisplay::from_i64(i64::from(number))?)),")
     head = "OneEdit final make = (n k : ℕ) → k ≡ or_default 1 n → n < 2 ^ 32 → (list : List CsiParam) → IsOne n list → as_edit list final ≡ Some (Edits (make k))"
     behind = "pub erase_in_display : (n : ℕ) (v : EraseInDisplay) → Some v ≡ with_number erase_in_display_number erases_in_display (pos n) → (list : List CsiParam)"
-    yield "crates/csicodec_c/proofs/Rows.antt", Part(list(together("edits", "OneEdit", "one_count", actions, "Edits")), (head, ""), behind)
+    yield "crates/csicodec_c/proofs/Rows.antt", Part(list(together("edits", ("OneEdit", ""), ("one_count", ""), actions, "Edits")), (head, ""), behind)
 
 
 # Where csicodec_overwrite says what acts within a line, and by which name.

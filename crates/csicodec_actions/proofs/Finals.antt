@@ -85,43 +85,30 @@ Counts final make = (list : List CsiParam) → as_cursor list final ≡ option_m
 abbrev pub TwoCounts : ℕ → (ℕ → ℕ → cursor_type.Cursor) → Type 0
 TwoCounts final make = (list : List CsiParam) → as_cursor list final ≡ option_map (λ (p : ℕ × ℕ). Cursor (make p.0 p.1)) (given (paired (λ a b. (a, b))) list)
 
-pub finals : Counts 65 cursor.Up
-    × Counts 66 cursor.Down
-    × Counts 67 cursor.Right
-    × Counts 68 cursor.Left
-    × Counts 69 cursor.NextLine
-    × Counts 70 cursor.PrecedingLine
-    × Counts 71 cursor.CharacterAbsolute
-    × Counts 96 cursor.CharacterPositionAbsolute
-    × Counts 73 cursor.ForwardTabulation
-    × Counts 90 cursor.BackwardTabulation
-    × Counts 89 cursor.LineTabulation
-    × Counts 97 cursor.CharacterPositionForward
-    × Counts 106 cursor.CharacterPositionBackward
-    × Counts 100 cursor.LinePositionAbsolute
-    × Counts 101 cursor.LinePositionForward
-    × Counts 107 cursor.LinePositionBackward
-    × TwoCounts 72 cursor.Position
-    × TwoCounts 82 cursor.ActivePositionReport
-    × TwoCounts 102 cursor.CharacterAndLinePosition
+pub finals : Counts 65 cursor.Up × Counts 66 cursor.Down × Counts 67 cursor.Right × Counts 68 cursor.Left × Counts 69 cursor.NextLine
+    × Counts 70 cursor.PrecedingLine × Counts 71 cursor.CharacterAbsolute × Counts 96 cursor.CharacterPositionAbsolute
+    × Counts 73 cursor.ForwardTabulation × Counts 90 cursor.BackwardTabulation × Counts 89 cursor.LineTabulation
+    × Counts 97 cursor.CharacterPositionForward × Counts 106 cursor.CharacterPositionBackward × Counts 100 cursor.LinePositionAbsolute
+    × Counts 101 cursor.LinePositionForward × Counts 107 cursor.LinePositionBackward × TwoCounts 72 cursor.Position
+    × TwoCounts 82 cursor.ActivePositionReport × TwoCounts 102 cursor.CharacterAndLinePosition
 unfolding as_cursor
 finals = (
-  one-count _,
-  one-count _,
-  one-count _,
-  one-count _,
-  one-count _,
-  one-count _,
-  one-count _,
-  one-count _,
-  one-count _,
-  one-count _,
-  one-count _,
-  one-count _,
-  one-count _,
-  one-count _,
-  one-count _,
-  one-count _,
+  one-count (λ n. Cursor (cursor.Up n)),
+  one-count (λ n. Cursor (cursor.Down n)),
+  one-count (λ n. Cursor (cursor.Right n)),
+  one-count (λ n. Cursor (cursor.Left n)),
+  one-count (λ n. Cursor (cursor.NextLine n)),
+  one-count (λ n. Cursor (cursor.PrecedingLine n)),
+  one-count (λ n. Cursor (cursor.CharacterAbsolute n)),
+  one-count (λ n. Cursor (cursor.CharacterPositionAbsolute n)),
+  one-count (λ n. Cursor (cursor.ForwardTabulation n)),
+  one-count (λ n. Cursor (cursor.BackwardTabulation n)),
+  one-count (λ n. Cursor (cursor.LineTabulation n)),
+  one-count (λ n. Cursor (cursor.CharacterPositionForward n)),
+  one-count (λ n. Cursor (cursor.CharacterPositionBackward n)),
+  one-count (λ n. Cursor (cursor.LinePositionAbsolute n)),
+  one-count (λ n. Cursor (cursor.LinePositionForward n)),
+  one-count (λ n. Cursor (cursor.LinePositionBackward n)),
   two-counts (λ a b. Cursor (cursor.Position a b)),
   two-counts (λ a b. Cursor (cursor.ActivePositionReport a b)),
   two-counts (λ a b. Cursor (cursor.CharacterAndLinePosition a b)),

@@ -41,8 +41,9 @@ class Uses:
         for use in USE.finditer(re.sub(r"\{[^}]*\}", lambda it: " ".join(it[0].split()), text)):
             if use[2] is not None:
                 for part in filter(None, (it.strip() for it in use[2].split(","))):
-                    name, _, other = part.partition(" as ")
-                    self.names[other or name] = (use[1], name)
+                    path, _, other = part.partition(" as ")
+                    inner, _, name = path.rpartition(".")
+                    self.names[other or name] = (".".join(filter(None, (use[1], inner))), name)
             else:
                 self.files[use[3] or use[1].rpartition(".")[2]] = use[1]
 
@@ -94,6 +95,15 @@ def files():
         module = ".".join(("Rattle", crate, "specs", *inner))
         found[module] = File(path, module)
     return found
+
+
+def lost():
+    """The imports of definitions that lead nowhere."""
+    crates = {module.split(".")[1] for module in files()}
+    for file in files().values():
+        for module, name in file.uses.names.values():
+            if module.split(".")[1] in crates and ".declared." not in module and defined(module, name) is None:
+                yield f"{file.module} imports {module}.{name}, which isn't there"
 
 
 def defined(module, name):

@@ -1,23 +1,17 @@
 -- A look is itself, and two that pass the test are one. Of characters none are written as nothing, and some behind others.
-use Rattle.std.proofs.Common.{◌≡◌, ℕ, Bool, true, false, cond, List, [], ◌∷◌, ◌++◌, refl, sym, ap, ◌∙◌, append-nil, arith}
-use Rattle.std.specs.Prelude.{◌==◌, ◌&&◌}
-use Rattle.std.proofs.lemmas.Bool.{and_parts, eqb-true}
-use Rattle.std.proofs.lemmas.Bool.Decides.{nat_tests}
-use Rattle.std.proofs.lemmas.Grind.{flat_map-append}
-use Rattle.csicodec_names.specs.declared.color.ColorSpec.{ColorSpec}
-use Rattle.csicodec_names.specs.declared.color.ColorSpec.TheVariants as color
-use Rattle.csicodec_names.specs.declared.color.Intensity.{Intensity}
-use Rattle.csicodec_names.specs.declared.color.Intensity.TheVariants as intensity
-use Rattle.csicodec_names.specs.declared.color.SrgbaTuple.{SrgbaTuple}
-use Rattle.csicodec_names.specs.declared.color.Underline.{Underline}
-use Rattle.csicodec_names.specs.declared.color.Underline.TheVariants as underline
+use Rattle.std.proofs.Common.{◌≡◌, ℕ, Bool, true, false, cond, List, [], ◌∷◌, ◌++◌, refl, sym, ap, ◌∙◌, append-nil, arith, rules}
+use Rattle.std.proofs.lemmas.{Bool.and_parts, Bool.Decides.nat_tests, Grind.flat_map-append}
+use Rattle.std.specs.Prelude.{◌==◌}
+use Rattle.csicodec_names.specs.declared.color.{ColorSpec.ColorSpec, Intensity.Intensity, Underline.Underline}
 use Rattle.csicodec_clean.proofs.Shows.{encoded_on}
-use Rattle.csicodec_html.specs.declared.look.Look.{Look}
-use Rattle.csicodec_html.specs.Page.{escaped, piece_texts}
-use Rattle.csicodec_html.specs.Page.{turn as tags}
+use Rattle.csicodec_html.specs.{declared.look.Look.Look, Page.escaped, Page.piece_texts}
 use Rattle.csicodec_overwrite.specs.declared.marking.Marking.{Marking}
 use Rattle.csicodec_overwrite.specs.declared.marking.Marking.TheVariants.{Page, Plain, Styled}
 use Rattle.csicodec_overwrite.specs.Paint.{look_text, same, same_color, same_flag, same_intensity, same_underline, turn, written}
+use Rattle.csicodec_names.specs.declared.color.ColorSpec.TheVariants as color
+use Rattle.csicodec_names.specs.declared.color.Intensity.TheVariants as intensity
+use Rattle.csicodec_names.specs.declared.color.Underline.TheVariants as underline
+use Rattle.csicodec_html.specs.Page.{turn as tags}
 
 -- ---- a look is itself
 
@@ -63,38 +57,16 @@ turn_same (Page m) l = ap (λ (b : Bool). cond b [] (piece_texts (tags m true l 
 -- ---- and two that pass are one
 
 flag_one : (a b : Bool) → same_flag a b ≡ true → a ≡ b
-flag_one true b h = sym h
-flag_one false false h = refl
-flag_one false true h = cc
+flag_one a b h = search rules
 
 intensity_one : (a b : Intensity) → same_intensity a b ≡ true → a ≡ b
-intensity_one intensity.Normal intensity.Normal h = refl
-intensity_one intensity.Bold intensity.Bold h = refl
-intensity_one intensity.Half intensity.Half h = refl
-intensity_one _ _ h = cc
+intensity_one a b h = search rules
 
 underline_one : (a b : Underline) → same_underline a b ≡ true → a ≡ b
-underline_one underline.None underline.None h = refl
-underline_one underline.Single underline.Single h = refl
-underline_one underline.Double underline.Double h = refl
-underline_one underline.Curly underline.Curly h = refl
-underline_one underline.Dotted underline.Dotted h = refl
-underline_one underline.Dashed underline.Dashed h = refl
-underline_one _ _ h = cc
-
-parts_one : (c d : SrgbaTuple) → (c.0 == d.0 && (c.1 == d.1 && (c.2 == d.2 && c.3 == d.3))) ≡ true → c ≡ d
-parts_one c d h =
-    let (red, more) = and_parts (c.0 == d.0) (c.1 == d.1 && (c.2 == d.2 && c.3 == d.3)) h in
-    let (green, others) = and_parts (c.1 == d.1) (c.2 == d.2 && c.3 == d.3) more in
-    let (blue, alpha) = and_parts (c.2 == d.2) (c.3 == d.3) others in
-    ap (λ (n : ℕ). record c { 0 = n }) (eqb-true c.0 d.0 red) ∙ ap (λ (n : ℕ). record c { 0 = d.0; 1 = n }) (eqb-true c.1 d.1 green)
-    ∙ ap (λ (n : ℕ). record c { 0 = d.0; 1 = d.1; 2 = n }) (eqb-true c.2 d.2 blue) ∙ ap (λ (n : ℕ). record d { 3 = n }) (eqb-true c.3 d.3 alpha)
+underline_one a b h = search rules
 
 color_one : (a b : ColorSpec) → same_color a b ≡ true → a ≡ b
-color_one color.Default color.Default h = refl
-color_one (color.PaletteIndex i) (color.PaletteIndex j) h = ap color.PaletteIndex (eqb-true i j h)
-color_one (color.TrueColor c) (color.TrueColor d) h = ap color.TrueColor (parts_one c d h)
-color_one _ _ h = cc
+color_one a b h = search rules
 
 pub look_one : (a b : Look) → same a b ≡ true → a ≡ b
 look_one a b h =

@@ -1,42 +1,27 @@
 -- What `strip` leaves of the bytes comes into lines, and the law.
 use Rattle.std.proofs.Common.{◌≡◌, ◌≢◌, ◌≤◌, ℕ, ◌+◌, Bool, true, false, cond, List, [], ◌∷◌, ◌++◌, encode_utf8_all, refl, sym, ap, ◌∙◌, append_assoc, append-nil, arith}
-use Rattle.std.specs.Prelude.{◌==◌, filter}
-use Rattle.std.specs.List.{AllByRecursion, flat_map}
-use Rattle.std.specs.Str.{all_scalars}
-use Rattle.std.proofs.lemmas.Bool.{and_from, eqb-true}
-use Rattle.std.proofs.lemmas.Grind.{flat_map-append}
-use Rattle.std.proofs.lemmas.List.Sums.{sum_by-append}
-use lib.Utf8.{scalar}
+use Rattle.std.proofs.lemmas.{Bool.eqb-true, Grind.flat_map-append}
+use Rattle.std.specs.{Prelude.◌==◌, Prelude.filter, List.flat_map, Str.all_scalars}
 use Rattle.bstr.specs.Utf8.{lossy_chars}
-use Rattle.bstr.proofs.lemmas.EncodeLemmas.{lossy_chars-encode}
-use Rattle.bstr.proofs.lemmas.PieceLemmas.{lossy_chars-nil}
+use Rattle.bstr.proofs.lemmas.{EncodeLemmas.lossy_chars-encode, PieceLemmas.lossy_chars-nil}
 use Rattle.csicodec_actions.specs.Ranges.{SgrInRange}
-use Rattle.csicodec_spans.specs.declared.table.Kind.{Kind}
-use Rattle.csicodec_spans.specs.declared.table.Kind.TheVariants as kind
-use Rattle.csicodec_spans.specs.Parts.{Part, left_over}
+use Rattle.csicodec_spans.specs.{declared.table.Kind.Kind, Parts.Part, Parts.left_over}
 use Rattle.csicodec_clean.specs.Cleaned.{Strips, is_text, longest, stripped}
 use Rattle.csicodec_clean.specs.Shown.{shown, shown_chars, shown_text}
 use Rattle.csicodec_clean.specs.Titles.{title_open, with_titles}
-use Rattle.csicodec_clean.proofs.Plain.{kept_shown, scalars_lossy, scalars_on}
-use Rattle.csicodec_clean.proofs.Shows.{encoded_on}
-use Rattle.csicodec_clean.proofs.Titles.{titles_on}
-use Rattle.csicodec_clean.proofs.Twice.{one_text, plain_stays}
-use Rattle.csicodec_overwrite.specs.declared.line.Line.{Line}
-use Rattle.csicodec_overwrite.specs.declared.marking.Marking.TheVariants.{Plain}
-use Rattle.csicodec_overwrite.specs.declared.pen.Pen.{Pen}
-use Rattle.csicodec_overwrite.specs.declared.step.Step.{Step}
-use Rattle.csicodec_overwrite.specs.declared.step.Step.TheVariants as step
-use Rattle.csicodec_overwrite.specs.Cells.{columns}
-use Rattle.csicodec_overwrite.specs.Line.{blank, do_all, does, fresh, pen_behind}
+use Rattle.csicodec_clean.proofs.{Plain.kept_shown, Plain.scalars_lossy, Plain.scalars_on, Shows.encoded_on}
+use Rattle.csicodec_clean.proofs.{Titles.titles_on, Twice.one_text, Twice.plain_stays}
+use Rattle.csicodec_overwrite.specs.declared.{line.Line.Line, pen.Pen.Pen, step.Step.Step}
+use Rattle.csicodec_overwrite.specs.{declared.marking.Marking.TheVariants.Plain, Paint.IsInRange, Paint.as_text}
+use Rattle.csicodec_overwrite.specs.{Cells.columns, Line.blank, Line.do_all, Line.does, Line.fresh, Line.pen_behind}
 use Rattle.csicodec_overwrite.specs.Lost.{NothingLost, NothingMade, all_came, came, times}
-use Rattle.csicodec_overwrite.specs.Paint.{IsInRange, as_text}
 use Rattle.csicodec_overwrite.specs.Reading.{AreOfParts, IsOfPart, Shows, Steps, most, shown_by}
 use Rattle.csicodec_overwrite.specs.Steps.{of_char, of_chars, of_escape, of_run, of_sequence, of_string, of_wrong}
-use Rattle.csicodec_overwrite.proofs.Kept.{of_shown}
-use Rattle.csicodec_overwrite.proofs.Lost.{balances, others, text_has, text_is}
-use Rattle.csicodec_overwrite.proofs.Plain.{IsGood, kept, overwritten_plain, plain_kept, steps_good}
-use Rattle.csicodec_overwrite.proofs.Same.{same_text}
-use Rattle.csicodec_overwrite.proofs.Texts.{chars_by, shown_plain}
+use Rattle.csicodec_overwrite.proofs.{Kept.of_shown, Lost.balances, Lost.both, Lost.others, Lost.text_has, Lost.text_is}
+use Rattle.csicodec_overwrite.proofs.Plain.{IsGood, kept, overwritten_plain, plain_kept, scalars, steps_good}
+use Rattle.csicodec_overwrite.proofs.{Same.same_text, Texts.chars_by, Texts.shown_plain}
+use Rattle.csicodec_spans.specs.declared.table.Kind.TheVariants as kind
+use Rattle.csicodec_overwrite.specs.declared.step.Step.TheVariants as step
 
 -- ---- the characters that steps put by themselves
 
@@ -48,11 +33,8 @@ abbrev puts : List Step → List ℕ
 puts steps = flat_map put_by steps
 
 module _ (c : ℕ) where
-  both : (xs ys : List ℕ) → times c (xs ++ ys) ≡ times c xs + times c ys
-  both xs ys = sum_by-append (λ x. cond (x == c) 1 0) xs ys
-
   puts_on : (xs ys : List Step) → times c (puts (xs ++ ys)) ≡ times c (puts xs) + times c (puts ys)
-  puts_on xs ys = ap (times c) (flat_map-append put_by xs ys) ∙ both (puts xs) (puts ys)
+  puts_on xs ys = ap (times c) (flat_map-append put_by xs ys) ∙ both c (puts xs) (puts ys)
 
   -- ---- they come
 
@@ -65,7 +47,7 @@ module _ (c : ℕ) where
   all_puts limit pen (s ∷ steps) l =
       let next = pen_behind pen s (columns l.left) in
       let after = (does limit pen s l).line in
-      omega (arith, one_came pen s l, all_puts limit next steps after, both (put_by s) (puts steps), both (came pen s l) (all_came limit next steps after))
+      omega (arith, one_came pen s l, all_puts limit next steps after, both c (put_by s) (puts steps), both c (came pen s l) (all_came limit next steps after))
 
   -- ---- what is shown is put
 
@@ -81,7 +63,7 @@ module _ (c : ℕ) where
 
     chars_put : (cs : List ℕ) → times c (filter shown cs) ≤ times c (puts (of_chars cs))
     chars_put [] = omega arith
-    chars_put (d ∷ cs) = grind (arith, char_put d, chars_put cs, puts_on (of_char d) (of_chars cs), both (d ∷ []) (filter shown cs))
+    chars_put (d ∷ cs) = grind (arith, char_put d, chars_put cs, puts_on (of_char d) (of_chars cs), both c (d ∷ []) (filter shown cs))
 
     -- these characters are shown, and then what is shown of the last run, and these steps put them
     abbrev Keeps : List Step → (List Part → List ℕ) → List ℕ → Type 0
@@ -100,7 +82,7 @@ module _ (c : ℕ) where
                 ∙ ap (λ (t : List ℕ). t ++ stripped left qs) (sym (encoded_on here chars)),
             omega (
               arith,
-              both here chars,
+              both c here chars,
               chars_put (lossy_chars run),
               put,
               puts_on (of_run run) own,
@@ -149,13 +131,9 @@ module _ (c : ℕ) where
         ∙ ap (λ (x : List ℕ). encode_utf8_all chars ++ x) (none_over t s.run s.rest) ∙ sym (encoded_on chars last) in
         let read : lossy_chars kept ≡ chars ++ last =
         ap lossy_chars text ∙ lossy_chars-encode (chars ++ last) (scalars_on chars last scalars (kept_shown (lossy_chars s.run) (scalars_lossy s.run)).0) in
-        omega (arith, ap (times c) read, both chars last, put, chars_put (lossy_chars s.run), puts_on s.before (of_run s.run), ap (λ (x : List Step). times c (puts x)) s.all)
+        omega (arith, ap (times c) read, both c chars last, put, chars_put (lossy_chars s.run), puts_on s.before (of_run s.run), ap (λ (x : List Step). times c (puts x)) s.all)
 
 -- ---- what is written
-
-scalars_of : (cs : List ℕ) → AllByRecursion IsGood cs → all_scalars cs ≡ true
-scalars_of [] h = refl
-scalars_of (c ∷ cs) h = and_from (scalar c) (all_scalars cs) h.0.1 (scalars_of cs h.1)
 
 -- painted or not, what `strip` leaves of it is the plain text
 left_plain : (painted : Bool) (bytes out text : List ℕ) (s : Shows (as_text painted) bytes out) → Strips longest out text → text ≡ shown_by Plain (do_all most fresh s.steps blank)
@@ -168,7 +146,7 @@ left_chars : (painted : Bool) (bytes out text : List ℕ) (s : Shows (as_text pa
 left_chars painted bytes out text s k =
     let d = do_all most fresh s.steps blank in
     let good = of_shown IsGood IsInRange SgrInRange (refl, refl) plain_kept kept (refl, refl) (refl, refl) most s.steps (steps_good bytes s.steps s.read) in
-    ap lossy_chars (left_plain painted bytes out text s k ∙ shown_plain d) ∙ lossy_chars-encode (chars_by d) (scalars_of (chars_by d) good)
+    ap lossy_chars (left_plain painted bytes out text s k ∙ shown_plain d) ∙ lossy_chars-encode (chars_by d) (scalars (chars_by d) good)
 
 -- ---- the laws
 

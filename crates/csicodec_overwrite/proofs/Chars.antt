@@ -1,13 +1,12 @@
 -- The steps of characters, of actions and of what else comes, one behind the other.
 use Rattle.std.proofs.Common.{◌≡◌, ℕ, List, [], ◌∷◌, ◌++◌, length, sym, ap, ◌∙◌, append_assoc, append-nil, arith}
-use Rattle.std.specs.List.{flat_map}
 use Rattle.std.proofs.lemmas.Grind.{flat_map-append}
+use Rattle.std.specs.List.{flat_map}
 use Rattle.bstr.specs.Utf8.{lossy_chars, replacement}
 use Rattle.bstr.proofs.lemmas.PieceLemmas.{lossy_chars-nil}
 use Rattle.csicodec_clean.specs.Shown.{IsRead}
 use Rattle.csicodec_clean.proofs.Sure.{read_all}
-use Rattle.csicodec_overwrite.specs.declared.step.Step.{Step}
-use Rattle.csicodec_overwrite.specs.Steps.{of_char, of_chars, of_run}
+use Rattle.csicodec_overwrite.specs.{declared.step.Step.Step, Steps.of_char, Steps.of_chars, Steps.of_run}
 
 pub chars_on : (xs ys : List ℕ) → of_chars (xs ++ ys) ≡ of_chars xs ++ of_chars ys
 chars_on xs ys = flat_map-append of_char xs ys

@@ -1,15 +1,9 @@
 -- The end of a line, behind a return or none.
 use Rattle.std.proofs.Common.{◌≡◌, ◌∙◌, Bool, true, false, List, [], sym, ap, append-nil}
-use Rattle.csicodec_overwrite.specs.declared.cells.Cell.{Cell}
-use Rattle.csicodec_overwrite.specs.Cells.{onto}
-use Rattle.csicodec_overwrite.specs.Line.{at_column, blank, cells_of}
-use Rattle.csicodec_overwrite.specs.Paint.{ended}
-use Rattle.csicodec_overwrite.specs.Steps.{of_chars}
-use Rattle.csicodec_overwrite.specs.Reading.{most}
-use Rattle.csicodec_overwrite.specs.Stream.{Now, Passes, none_held}
-use Rattle.csicodec_overwrite.specs.Private.Plain.{closed, end_of}
-use Rattle.csicodec_overwrite.proofs.Rows.{standing_settled}
-use Rattle.csicodec_overwrite.proofs.Straight.{reads_end}
+use Rattle.csicodec_overwrite.specs.{declared.cells.Cell.Cell, Paint.ended, Stream.Now, Stream.Passes, Stream.none_held}
+use Rattle.csicodec_overwrite.specs.{Cells.onto, Line.at_column, Line.blank, Line.cells_of}
+use Rattle.csicodec_overwrite.specs.{Steps.of_chars, Reading.most, Private.Plain.closed, Private.Plain.end_of}
+use Rattle.csicodec_overwrite.proofs.{Rows.standing_settled, Straight.reads_end}
 
 module _ (old new : Now) (bare : old.reader ≡ none_held) (reader : new.reader ≡ old.reader) (marking : new.marking ≡ old.marking) (is : new.line ≡ blank) (pen : new.pen ≡ closed old.pen) where
   pub end_passes : (returned : Bool) → Passes old (end_of returned) (ended old.marking (cells_of old.line)) new

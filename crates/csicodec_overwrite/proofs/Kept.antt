@@ -4,20 +4,16 @@ use Rattle.std.specs.Prelude.{◌==◌, nat_lt, Option, Some, None}
 use Rattle.std.specs.List.{AllByRecursion, flat_map}
 use Rattle.csicodec_base.specs.declared.sgr.Sgr.{Sgr}
 use Rattle.csicodec_actions.proofs.AllRows.{all-append}
-use Rattle.csicodec_html.specs.declared.look.Look.{Look}
-use Rattle.csicodec_html.specs.Look.{behind, plain}
-use Rattle.csicodec_overwrite.specs.declared.cells.Cell.{Cell}
+use Rattle.csicodec_html.specs.{declared.look.Look.Look, Look.behind, Look.plain}
+use Rattle.csicodec_overwrite.specs.declared.{cells.Cell.Cell, cells.Glyph.Glyph, line.Line.Line, step.Step.Step}
 use Rattle.csicodec_overwrite.specs.declared.cells.Cell.TheVariants.{Behind, Char, Empty, Mark}
-use Rattle.csicodec_overwrite.specs.declared.cells.Glyph.{Glyph}
-use Rattle.csicodec_overwrite.specs.declared.line.Line.{Line}
 use Rattle.csicodec_overwrite.specs.declared.pen.Pen.{Pen}
-use Rattle.csicodec_overwrite.specs.declared.step.Step.{Step}
-use Rattle.csicodec_overwrite.specs.declared.step.Step.TheVariants as step
 use Rattle.csicodec_overwrite.specs.Cells.{begins_behind, belongs, chars_of, columns, emptied, erased, glyph, gone, is_empty, of_tab, onto, outside, shifted, takes, to_tab_stop, trimmed, untabbed, width, without}
 use Rattle.csicodec_overwrite.specs.Line.{Done, behind_columns, blank, cells_of, do_all, does, does_here, done, entered, fits, forward, fresh, from_stop}
 use Rattle.csicodec_overwrite.specs.Line.{in_row, is_row, last_behind, leave, leaves_long, line, lines_of, over, padded, parted, pen_behind, placed}
 use Rattle.csicodec_overwrite.specs.Line.{placed_in, put, repeat, repeated, restored, shows_nothing, size, target, to_stop, widest}
 use Rattle.csicodec_overwrite.proofs.Texts.{chars_by, line_chars}
+use Rattle.csicodec_overwrite.specs.declared.step.Step.TheVariants as step
 
 -- either way of a test
 either : {T : Type 0} (P : T → Type 0) (t : Bool) (x y : T) → P x → P y → P (cond t x y)

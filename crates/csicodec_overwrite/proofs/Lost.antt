@@ -1,22 +1,17 @@
 -- Each character that comes stands in a line, or was taken out of its own: counted step by step.
 use Rattle.std.proofs.Common.{◌≡◌, ◌≢◌, ◌≤◌, ℕ, ◌+◌, ◌-◌, zero, suc, Bool, true, false, cond, min, List, [], ◌∷◌, ◌++◌, length, replicate, refl, ap, arith}
-use Rattle.std.specs.Prelude.{◌==◌, Option, Some, None}
-use Rattle.std.specs.List.{flat_map}
-use Rattle.std.proofs.lemmas.List.Sums.{sum_by-append}
-use Rattle.std.proofs.lemmas.Bool.Decides.{nat_tests}
-use Rattle.csicodec_overwrite.specs.declared.cells.Cell.{Cell}
+use Rattle.std.proofs.lemmas.{List.Sums.sum_by-append, Bool.Decides.nat_tests}
+use Rattle.std.specs.{Prelude.◌==◌, Prelude.Option, Prelude.Some, Prelude.None, List.flat_map}
+use Rattle.csicodec_overwrite.specs.declared.{cells.Cell.Cell, cells.Glyph.Glyph, line.Line.Line, step.Step.Step}
 use Rattle.csicodec_overwrite.specs.declared.cells.Cell.TheVariants.{Behind, Char, Empty, Mark}
-use Rattle.csicodec_overwrite.specs.declared.cells.Glyph.{Glyph}
-use Rattle.csicodec_overwrite.specs.declared.line.Line.{Line}
 use Rattle.csicodec_overwrite.specs.declared.pen.Pen.{Pen}
-use Rattle.csicodec_overwrite.specs.declared.step.Step.{Step}
-use Rattle.csicodec_overwrite.specs.declared.step.Step.TheVariants as step
 use Rattle.csicodec_overwrite.specs.Cells.{chars_of, columns, emptied, erased, glyph, gone, is_empty, onto, outside, shifted, takes, to_tab_stop, trimmed, width, without}
 use Rattle.csicodec_overwrite.specs.Line.{Done, behind_columns, blank, cells_of, do_all, does, does_here, done, entered, fits, forward}
 use Rattle.csicodec_overwrite.specs.Line.{from_stop, in_row, leaves_long, line, lines_of, over, parted, pen_behind, placed}
 use Rattle.csicodec_overwrite.specs.Line.{placed_in, put, repeat, repeated, restored, size, standing, target, to_stop, widest}
 use Rattle.csicodec_overwrite.specs.Lost.{again, all_came, all_taken, belonging, came, covered, left_out, taken, taken_again, taken_here, taken_by, taken_by_all, tabs, times, touched, under, whole, within, written}
 use Rattle.csicodec_overwrite.proofs.Texts.{chars_by, line_chars}
+use Rattle.csicodec_overwrite.specs.declared.step.Step.TheVariants as step
 
 no_cells : (xs : List Cell) → length xs == 0 ≡ true → xs ≡ []
 no_cells [] e = refl
@@ -41,7 +36,7 @@ module _ (c : ℕ) where
   abbrev in_all : Done → ℕ
   in_all d = in_lines d.lines + in_line d.line
 
-  both : (xs ys : List ℕ) → times c (xs ++ ys) ≡ times c xs + times c ys
+  pub both : (xs ys : List ℕ) → times c (xs ++ ys) ≡ times c xs + times c ys
   both xs ys = sum_by-append (λ x. cond (x == c) 1 0) xs ys
 
   counted : (xs : List Cell) → times c (flat_map written xs) ≡ count xs

@@ -4,19 +4,12 @@ use Rattle.std.proofs.Common.{drop, get_or, replicate, reverse, take, take-appen
 use Rattle.std.proofs.lemmas.Bool.Decides.{nat_tests}
 use Rattle.std.proofs.lemmas.List.{length-drop, replicate-append-replicate, drop_at, reverse-append, reverse-reverse, take_all, take_at}
 use Rattle.csicodec_html.specs.declared.look.Look.{Look}
-use Rattle.csicodec_overwrite.specs.declared.cells.Cell.{Cell}
-use Rattle.csicodec_overwrite.specs.declared.cells.Cell.TheVariants.{Empty}
-use Rattle.csicodec_overwrite.specs.declared.cells.Glyph.{Glyph}
-use Rattle.csicodec_overwrite.specs.declared.line.Line.{Line}
-use Rattle.csicodec_overwrite.specs.declared.marking.Marking.{Marking}
-use Rattle.std.specs.Prelude.{◌&&◌}
-use Rattle.std.specs.List.{list_all}
+use Rattle.csicodec_overwrite.specs.declared.{cells.Cell.Cell, cells.Cell.TheVariants.Empty, marking.Marking.Marking}
+use Rattle.csicodec_overwrite.specs.{declared.cells.Glyph.Glyph, Private.Sides.PassesBack, Private.Sides.PassesOver}
+use Rattle.csicodec_overwrite.specs.{declared.line.Line.Line, Paint.texts_of, Private.Plain.glyphs, Private.Row.back}
 use Rattle.csicodec_overwrite.specs.Cells.{columns, is_blank, narrowed, onto, takes, without}
 use Rattle.csicodec_overwrite.specs.Line.{before, behind_columns, forward, line, over, padded, put, repeat}
-use Rattle.csicodec_overwrite.specs.Paint.{texts_of}
-use Rattle.csicodec_overwrite.specs.Private.Plain.{glyphs}
-use Rattle.csicodec_overwrite.specs.Private.Row.{back}
-use Rattle.csicodec_overwrite.specs.Private.Sides.{PassesBack, PassesOver}
+use Rattle.std.specs.List.{list_all}
 use Rattle.csicodec_overwrite.proofs.Texts.{texts_on}
 
 -- a test that holds, and one that fails
@@ -38,13 +31,10 @@ back_zero [] right = refl
 back_zero (cell ∷ left) right = refl
 
 pub back_on : (n : ℕ) (cell : Cell) (left right : List Cell) → 0 < n → back n (cell ∷ left) right ≡ back (n - takes cell) left (cell ∷ right)
-back_on n cell left right h = fails (n == 0) (line (cell ∷ left) right) (back (n - takes cell) left (cell ∷ right)) (some_left n h)
-
-none_less : (n k : ℕ) → k ≤ n → nat_lt n k ≡ false
-none_less n k h = grind (arith, nat_tests)
+back_on n cell left right h = grind (arith, nat_tests)
 
 pub over_on : (n : ℕ) (cell : Cell) (left right : List Cell) → takes cell ≤ n → over n left (cell ∷ right) ≡ over (n - takes cell) (cell ∷ left) right
-over_on n cell left right h = fails (nat_lt n (takes cell)) (line left (cell ∷ right)) (over (n - takes cell) (cell ∷ left) right) (none_less n (takes cell) h)
+over_on n cell left right h = grind (arith, nat_tests)
 
 -- ---- behind so many columns: back to them or forward, without the cells that stand before them
 
@@ -137,12 +127,12 @@ reverse_same x (suc n) =
     rw (reverse-append (x ∷ []) (replicate n x), reverse_same x n) (replicate-append-replicate n 1 x ∙ ap (λ (m : ℕ). replicate m x) more)
 
 -- so many of one kind behind others
-module _ (x : Cell) (n m k : ℕ) (cells new : List Cell) (e : new ≡ take m cells ++ replicate k x) (few : length cells ≤ m) (some : k ≡ n) where
-  longer : new ≡ cells ++ replicate n x
-  longer = e ∙ ap (λ (t : List Cell). t ++ replicate k x) (take_all m cells few) ∙ ap (λ (j : ℕ). cells ++ replicate j x) some
+pub longer : {A : Type 0} (x : A) (n m k : ℕ) (xs new : List A) → new ≡ take m xs ++ replicate k x → length xs ≤ m → k ≡ n → new ≡ xs ++ replicate n x
+longer x n m k xs new e few some = rw (e, take_all m xs few, some) refl
 
+module _ (x : Cell) (n m k : ℕ) (cells new : List Cell) (e : new ≡ take m cells ++ replicate k x) (few : length cells ≤ m) (some : k ≡ n) where
   pub reverse_more : reverse new ≡ replicate n x ++ reverse cells
-  reverse_more = ap reverse longer ∙ reverse-append cells (replicate n x) ∙ ap (λ (t : List Cell). t ++ reverse cells) (reverse_same x n)
+  reverse_more = ap reverse (longer x n m k cells new e few some) ∙ reverse-append cells (replicate n x) ∙ ap (λ (t : List Cell). t ++ reverse cells) (reverse_same x n)
 
   pub columns_more : takes x ≡ 1 → columns (reverse new) ≡ columns (reverse cells) + n
   columns_more one = ap columns reverse_more ∙ columns_both (replicate n x) (reverse cells) ∙ omega (arith, columns_same x one n)
@@ -164,62 +154,49 @@ last_first : (rest front : List Cell) (cell : Cell) → rest ≡ front ++ cell �
 last_first rest front cell e = ap reverse e ∙ reverse-append front (cell ∷ [])
 
 -- some are passed, and what is left is to do over the rest
+abbrev pub Passing : (ℕ → List Cell → List Cell → Line) → List Cell → ℕ → List Cell → ℕ → Type 0
+Passing go cells count rest left = (near : List Cell) × (cells ≡ rest ++ near) × (columns near + left ≡ count)
+    × ((others : List Cell) → go left (reverse rest) (near ++ others) ≡ go count (reverse cells) others)
+
 abbrev pub PassingBack : List Cell → ℕ → List Cell → ℕ → Type 0
-PassingBack cells count rest left = (near : List Cell) × (cells ≡ rest ++ near) × (columns near + left ≡ count)
-    × ((right : List Cell) → back left (reverse rest) (near ++ right) ≡ back count (reverse cells) right)
+PassingBack = Passing back
 
+-- the same from the other side
 abbrev pub PassingOver : List Cell → ℕ → List Cell → ℕ → Type 0
-PassingOver cells count rest left = (near : List Cell) × (cells ≡ rest ++ near) × (columns near + left ≡ count)
-    × ((side : List Cell) → over left (near ++ side) (reverse rest) ≡ over count side (reverse cells))
+PassingOver = Passing (λ n right left. over n left right)
 
-pub first_back : (cells : List Cell) (count : ℕ) → PassingBack cells count cells count
-first_back cells count = ([], sym (append-nil cells), omega arith, λ right. refl)
-
-pub first_over : (cells : List Cell) (count : ℕ) → PassingOver cells count cells count
-first_over cells count = ([], sym (append-nil cells), omega arith, λ side. refl)
+pub first_passing : (go : ℕ → List Cell → List Cell → Line) (cells : List Cell) (count : ℕ) → Passing go cells count cells count
+first_passing go cells count = ([], sym (append-nil cells), omega arith, λ others. refl)
 
 module _ (cells : List Cell) (count : ℕ) (rest : List Cell) (left : ℕ) where
   -- the columns of those that are passed
   passed : (near : List Cell) → cells ≡ rest ++ near → columns cells ≡ columns rest + columns near
   passed near e = ap columns e ∙ columns_both rest near
 
+  next_passing : (go : ℕ → List Cell → List Cell → Line) → Passing go cells count rest left → (front : List Cell) (cell : Cell) → rest ≡ front ++ cell ∷ []
+      → takes cell ≤ left → ((others : List Cell) → go left (cell ∷ reverse front) others ≡ go (left - takes cell) (reverse front) (cell ∷ others))
+      → Passing go cells count front (left - takes cell)
+  next_passing go h front cell e some on = (
+    cell ∷ h.0,
+    h.1 ∙ ap (λ (t : List Cell). t ++ h.0) e ∙ append_assoc front (cell ∷ []) h.0,
+    omega (arith, h.2, some),
+    λ others. sym (on (h.0 ++ others)) ∙ ap (λ (t : List Cell). go left t (h.0 ++ others)) (sym (last_first rest front cell e)) ∙ h.3 others,
+  )
+
   module _ (h : PassingBack cells count rest left) where
     pub next_back : (front : List Cell) (cell : Cell) → rest ≡ front ++ cell ∷ [] → 0 < left → PassingBack cells count front (left - takes cell)
-    next_back front cell e some = (
-      cell ∷ h.0,
-      h.1 ∙ ap (λ (t : List Cell). t ++ h.0) e ∙ append_assoc front (cell ∷ []) h.0,
-      omega (arith, h.2, takes_few cell, some),
-      λ right. sym (back_on left cell (reverse front) (h.0 ++ right) some) ∙ ap (λ (t : List Cell). back left t (h.0 ++ right)) (sym (last_first rest front cell e)) ∙ h.3 right,
-    )
+    next_back front cell e some = next_passing back h front cell e (omega (arith, takes_few cell, some)) (λ right. back_on left cell (reverse front) right some)
 
     pub last_back : left ≡ 0 → PassesBack cells count (length rest)
-    last_back none = (
-      rest,
-      h.0,
-      h.1,
-      refl,
-      omega (arith, h.2, none, passed h.0 h.1),
-      λ right. sym (h.3 right) ∙ ap (λ (n : ℕ). back n (reverse rest) (h.0 ++ right)) none ∙ back_zero (reverse rest) (h.0 ++ right),
-    )
+    last_back none =
+        (rest, h.0, h.1, refl, omega (arith, h.2, none, passed h.0 h.1), λ right. sym (h.3 right) ∙ rw none (back_zero (reverse rest) (h.0 ++ right)))
 
     pub all_back : rest ≡ [] → PassesBack cells count 0
-    all_back none = (
-      [],
-      h.0,
-      h.1 ∙ ap (λ (t : List Cell). t ++ h.0) none,
-      refl,
-      omega (arith, h.2, ap columns none, passed h.0 h.1),
-      λ right. sym (h.3 right) ∙ ap (λ (t : List Cell). back left (reverse t) (h.0 ++ right)) none,
-    )
+    all_back none = ([], h.0, rw none at h.1, refl, omega (arith, h.2, ap columns none, passed h.0 h.1), λ right. sym (rw none at h.3 right))
 
   module _ (h : PassingOver cells count rest left) where
     pub next_over : (front : List Cell) (cell : Cell) → rest ≡ front ++ cell ∷ [] → takes cell ≤ left → PassingOver cells count front (left - takes cell)
-    next_over front cell e some = (
-      cell ∷ h.0,
-      h.1 ∙ ap (λ (t : List Cell). t ++ h.0) e ∙ append_assoc front (cell ∷ []) h.0,
-      omega (arith, h.2, some),
-      λ side. sym (over_on left cell (h.0 ++ side) (reverse front) some) ∙ ap (λ (t : List Cell). over left (h.0 ++ side) t) (sym (last_first rest front cell e)) ∙ h.3 side,
-    )
+    next_over front cell e some = next_passing (λ n right side. over n side right) h front cell e some (λ side. over_on left cell side (reverse front) some)
 
     pub last_over : (front : List Cell) (cell : Cell) → rest ≡ front ++ cell ∷ [] → left < takes cell → PassesOver cells count (length rest)
     last_over front cell e few = (
@@ -228,20 +205,13 @@ module _ (cells : List Cell) (count : ℕ) (rest : List Cell) (left : ℕ) where
       h.1,
       refl,
       omega (arith, h.2, few, takes_few cell, passed h.0 h.1, ap columns e, columns_both front (cell ∷ [])),
-      λ side. sym (h.3 side) ∙ ap (λ (t : List Cell). over left (h.0 ++ side) t) (last_first rest front cell e)
+      λ side. sym (h.3 side) ∙ ap (over left (h.0 ++ side)) (last_first rest front cell e)
           ∙ holds (nat_lt left (takes cell)) (line (h.0 ++ side) (cell ∷ reverse front)) (over (left - takes cell) (cell ∷ (h.0 ++ side)) (reverse front)) (grind (arith, nat_tests))
-          ∙ ap (λ (t : List Cell). line (h.0 ++ side) t) (sym (last_first rest front cell e)),
+          ∙ ap (line (h.0 ++ side)) (sym (last_first rest front cell e)),
     )
 
     pub all_over : rest ≡ [] → PassesOver cells count 0
-    all_over none = (
-      [],
-      h.0,
-      h.1 ∙ ap (λ (t : List Cell). t ++ h.0) none,
-      refl,
-      omega (arith, h.2, ap columns none, passed h.0 h.1),
-      λ side. sym (h.3 side) ∙ ap (λ (t : List Cell). over left (h.0 ++ side) (reverse t)) none,
-    )
+    all_over none = ([], h.0, rw none at h.1, refl, omega (arith, h.2, ap columns none, passed h.0 h.1), λ side. sym (rw none at h.3 side))
 
 -- four cells behind others, the last first
 four_more : (cells front rest : List Cell) (a b c d : Cell) → rest ≡ front ++ (a ∷ (b ∷ (c ∷ (d ∷ []))))
@@ -317,14 +287,10 @@ repeat_on limit inserts g zero l h = absurd (omega (arith, h))
 repeat_on limit inserts g (suc n) l h =
     let less : suc n - 1 ≡ n = omega arith in ap (λ (k : ℕ). before (put limit inserts g l).lines (repeat limit inserts g k (put limit inserts g l).line)) (sym less)
 
-and_false : (b : Bool) → b && false ≡ false
-and_false true = refl
-and_false false = refl
-
 -- what stands nearest is no blank
 not_blank : (xs right : List Cell) → list_all is_blank right ≡ false → list_all is_blank (onto xs right) ≡ false
 not_blank [] right h = h
-not_blank (x ∷ xs) right h = not_blank xs (x ∷ right) (rw h (and_false (is_blank x)))
+not_blank (x ∷ xs) right h = not_blank xs (x ∷ right) (grind (arith, h))
 
 pub nearest_shows : (all xs : List Cell) (x : Cell) → all ≡ x ∷ xs → is_blank x ≡ false → list_all is_blank (onto all []) ≡ false
 nearest_shows all xs x e h = ap (λ (t : List Cell). list_all is_blank (onto t [])) e ∙ not_blank xs (x ∷ []) (rw h refl)

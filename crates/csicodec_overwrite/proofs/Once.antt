@@ -4,28 +4,20 @@ use Rattle.std.specs.Io.KnownBytes.{Appends, Consumes, IsAtEnd}
 use Rattle.bstr.specs.Utf8.{lossy_chars}
 use Rattle.csicodec_actions.specs.Actions.{Action}
 use Rattle.csicodec_terminal.proofs.Unique.{taken_once}
-use Rattle.csicodec_spans.specs.declared.table.Kind.{Kind}
-use Rattle.csicodec_spans.specs.declared.table.Kind.TheVariants as kind
-use Rattle.csicodec_spans.specs.declared.table.Mode.TheVariants as mode
-use Rattle.csicodec_spans.specs.Parts.{Part}
-use Rattle.csicodec_spans.proofs.Kept.{parts_more}
-use Rattle.csicodec_spans.proofs.Once.{parts_front, parts_once}
-use Rattle.csicodec_filter.specs.Transform.{Begins as BeginsWith, Sends, Transforms}
+use Rattle.csicodec_spans.specs.{declared.table.Kind.Kind, Parts.Part}
+use Rattle.csicodec_spans.proofs.{Kept.parts_more, Once.parts_front, Once.parts_once}
 use Rattle.csicodec_filter.proofs.Sent.{whole_front}
-use Rattle.csicodec_clean.specs.Cleaned.{longest}
-use Rattle.csicodec_clean.specs.Shown.{IsRead}
-use Rattle.csicodec_clean.specs.Stream.{IsFrontOf}
-use Rattle.csicodec_clean.specs.Titles.{title_open, with_titles}
-use Rattle.csicodec_clean.proofs.Sure.{read_none}
-use Rattle.csicodec_clean.proofs.Titles.{titles_on}
+use Rattle.csicodec_clean.specs.{Cleaned.longest, Shown.IsRead, Stream.IsFrontOf, Titles.title_open, Titles.with_titles}
+use Rattle.csicodec_clean.proofs.{Sure.read_none, Titles.titles_on}
 use Rattle.csicodec_overwrite.specs.declared.marking.Marking.{Marking}
-use Rattle.csicodec_overwrite.specs.declared.step.Step.{Step}
-use Rattle.csicodec_overwrite.specs.Line.{blank, do_all, fresh, pen_behind_all}
+use Rattle.csicodec_overwrite.specs.{declared.step.Step.Step, Line.blank, Line.do_all, Line.fresh, Line.pen_behind_all}
 use Rattle.csicodec_overwrite.specs.Steps.{of_chars, of_escape, of_run, of_sequence, of_string, of_wrong}
 use Rattle.csicodec_overwrite.specs.Reading.{AreOfParts, IsOfPart, Shows, Steps, most, shown_by}
 use Rattle.csicodec_overwrite.specs.Stream.{Ending, Goes, Held, Now, Passes, begun_as}
-use Rattle.csicodec_overwrite.proofs.Chars.{run_read}
-use Rattle.csicodec_overwrite.proofs.Written.{shown_on, transformed}
+use Rattle.csicodec_overwrite.proofs.{Chars.run_read, Written.shown_on, Written.transformed}
+use Rattle.csicodec_spans.specs.declared.table.Kind.TheVariants as kind
+use Rattle.csicodec_spans.specs.declared.table.Mode.TheVariants as mode
+use Rattle.csicodec_filter.specs.Transform.{Begins as BeginsWith, Sends, Transforms}
 
 -- ---- one text
 

@@ -1,39 +1,30 @@
 -- The page of lines is the page of what is painted of them: piece by piece, a character is itself, and the sequence of a look the tags between
 -- it and the look before.
-use Rattle.std.proofs.Common.{◌≡◌, ℕ, Bool, true, false, cond, List, [], ◌∷◌, ◌++◌, map, encode_utf8, encode_utf8_all, refl, sym, ap, subst, ◌∙◌, append_assoc, append-nil}
-use Rattle.std.specs.Prelude.{filter}
-use Rattle.std.specs.List.{AllByRecursion, flat_map}
-use Rattle.std.specs.Str.{all_scalars}
-use Rattle.std.proofs.lemmas.Bool.{cond_both}
-use Rattle.std.proofs.lemmas.Grind.{flat_map-append}
+use Rattle.std.proofs.Common.{◌≡◌, ℕ, true, List, [], ◌∷◌, ◌++◌, map, encode_utf8, encode_utf8_all, refl, sym, ap, subst, ◌∙◌, append_assoc, append-nil, arith}
+use Rattle.std.proofs.lemmas.{Bool.cond_both, Grind.flat_map-append}
+use Rattle.std.specs.{Prelude.filter, List.AllByRecursion, List.flat_map, Str.all_scalars}
 use Rattle.bstr.proofs.lemmas.EncodeLemmas.{lossy_chars-encode}
-use Rattle.csicodec_base.specs.declared.sgr.Sgr.TheVariants as sgr
-use Rattle.csicodec_actions.specs.Actions as action
-use Rattle.csicodec_spans.specs.declared.table.Kind.TheVariants as kind
 use Rattle.csicodec_spans.specs.Parts.{Part}
 use Rattle.csicodec_spans.proofs.OneSpan.{singles}
-use Rattle.csicodec_clean.specs.Links.{start}
-use Rattle.csicodec_clean.specs.Shown.{IsShown, shown}
-use Rattle.csicodec_clean.proofs.PlainBytes.{all_both}
-use Rattle.csicodec_clean.proofs.Twice.{all_kept}
-use Rattle.csicodec_html.specs.declared.look.Look.{Look}
-use Rattle.csicodec_html.specs.declared.markup.Markup.{Markup}
-use Rattle.csicodec_html.specs.Look.{plain}
-use Rattle.csicodec_html.specs.Page.{AreLeft, PageWith, Setting, closing, escaped, piece_texts, setting, shown_pieces}
-use Rattle.csicodec_html.specs.Page.{Piece as Mark}
-use Rattle.csicodec_html.specs.Page.{piece_text as mark_text}
-use Rattle.csicodec_html.specs.Page as html
+use Rattle.csicodec_clean.specs.{Links.start, Shown.IsShown, Shown.shown}
+use Rattle.csicodec_clean.proofs.{PlainBytes.all_both, Twice.all_kept}
+use Rattle.csicodec_html.specs.{declared.look.Look.Look, declared.markup.Markup.Markup, Look.plain}
+use Rattle.csicodec_html.specs.Page.{AreLeft, PageWith, Setting, escaped, piece_texts, setting, shown_pieces}
 use Rattle.csicodec_overwrite.specs.declared.cells.Cell.{Cell}
 use Rattle.csicodec_overwrite.specs.declared.marking.Marking.TheVariants.{Page, Styled}
 use Rattle.csicodec_overwrite.specs.Line.{Done, blank, cells_of, do_all, fresh}
 use Rattle.csicodec_overwrite.specs.Paint.{attributes, ended, look_of, paint, same, texts_of, turn}
 use Rattle.csicodec_overwrite.specs.Reading.{Pages, Paints, most, shown_by}
-use Rattle.csicodec_overwrite.proofs.Alike.{look_one, newline_written}
-use Rattle.csicodec_overwrite.proofs.Looks.{looks_back}
+use Rattle.csicodec_overwrite.proofs.{Alike.look_one, Alike.newline_written, Looks.looks_back, Spelled.look_taken}
 use Rattle.csicodec_overwrite.proofs.Once.{one_text}
 use Rattle.csicodec_overwrite.proofs.Same.{AreSafe, One, Piece, Turn, all_painted, all_safe, more_encoded, more_scalars}
 use Rattle.csicodec_overwrite.proofs.Same.{of_all, of_cells, of_line, parts_of, pieces_text, turned, untitled, whole_pieces}
-use Rattle.csicodec_overwrite.proofs.Spelled.{look_taken}
+use Rattle.csicodec_base.specs.declared.sgr.Sgr.TheVariants as sgr
+use Rattle.csicodec_actions.specs.Actions as action
+use Rattle.csicodec_spans.specs.declared.table.Kind.TheVariants as kind
+use Rattle.csicodec_html.specs.Page.{Piece as Mark}
+use Rattle.csicodec_html.specs.Page.{piece_text as mark_text}
+use Rattle.csicodec_html.specs.Page as html
 
 -- ---- what is left of them on a page
 
@@ -102,11 +93,7 @@ module _ (m : Markup) where
   turned_behind old new = cond_both (same old new) [] (Turn new ∷ []) (λ (ps : List Piece). look_behind old ps ≡ new) (look_one old new) (λ e. refl)
 
   turned_marks : (old new : Look) → piece_texts (marks old (turned old new)) ≡ turn (Page m) old new
-  turned_marks old new = by (same old new)
-    where
-      by : (t : Bool) → piece_texts (marks old (cond t [] (Turn new ∷ []))) ≡ cond t [] (piece_texts (html.turn m true old new))
-      by true = refl
-      by false = ap piece_texts (append-nil (html.turn m true old new))
+  turned_marks old new = grind (arith, append-nil (html.turn m true old new))
 
   ones_behind : (cs : List ℕ) (l : Look) → look_behind l (map One cs) ≡ l
   ones_behind [] l = refl

@@ -1,21 +1,15 @@
 -- Cells that are painted, one after the other, and the sequence of a look, attribute by attribute.
-use Rattle.std.proofs.Common.{◌≡◌, ℕ, zero, suc, Bool, true, false, List, [], ◌∷◌, ◌++◌, ◌-◌, arith, length, take, ◌≤◌, encode_utf8_all, replicate, refl, sym, ap, subst, ◌∙◌, append_assoc, append-nil}
-use Rattle.std.specs.List.{flat_map}
+use Rattle.std.proofs.Common.{◌≡◌, ℕ, zero, suc, Bool, true, false, List, [], ◌∷◌, ◌++◌, ◌-◌, arith, length, encode_utf8_all, replicate, refl, sym, ap, subst, ◌∙◌, append_assoc, append-nil}
 use Rattle.std.proofs.lemmas.Grind.{flat_map-append}
-use Rattle.std.proofs.lemmas.List.{take_all}
+use Rattle.std.specs.List.{flat_map}
 use Rattle.csicodec_base.specs.declared.sgr.Sgr.{Sgr}
-use Rattle.csicodec_html.specs.declared.look.Look.{Look}
-use Rattle.csicodec_html.specs.Look.{plain}
-use Rattle.csicodec_overwrite.specs.declared.cells.Cell.{Cell}
-use Rattle.csicodec_overwrite.specs.declared.cells.Cell.TheVariants.{Char, Empty}
-use Rattle.csicodec_overwrite.specs.declared.cells.Glyph.{Glyph}
-use Rattle.csicodec_overwrite.specs.declared.marking.Marking.{Marking}
-use Rattle.csicodec_overwrite.specs.declared.marking.Marking.TheVariants.{Plain}
-use Rattle.csicodec_overwrite.specs.Cells.{chars_of, is_empty}
-use Rattle.csicodec_clean.proofs.Shows.{encoded_on}
-use Rattle.csicodec_overwrite.specs.Private.Alike.{IsAlike}
-use Rattle.csicodec_overwrite.proofs.Alike.{look_one, turn_same, written_none, written_on}
+use Rattle.csicodec_html.specs.{declared.look.Look.Look, Look.plain}
+use Rattle.csicodec_overwrite.specs.{declared.cells.Cell.Cell, Cells.chars_of, Cells.is_empty, Private.Alike.IsAlike}
+use Rattle.csicodec_overwrite.specs.declared.cells.{Cell.TheVariants.Char, Cell.TheVariants.Empty, Glyph.Glyph}
+use Rattle.csicodec_overwrite.specs.declared.marking.Marking.{Marking, TheVariants.Plain}
 use Rattle.csicodec_overwrite.specs.Paint.{attributes, further, look_of, look_text, paint, same, turn, written}
+use Rattle.csicodec_clean.proofs.Shows.{encoded_on}
+use Rattle.csicodec_overwrite.proofs.Alike.{look_one, turn_same, written_none, written_on}
 
 -- a cell, and then the others
 pub painted_on : (marking : Marking) (look : Look) (cell : Cell) (cells : List Cell) (old mid new whole : List ℕ) → mid ≡ old ++ turn marking look (look_of look cell)
@@ -46,10 +40,6 @@ empty_none cells = let none : 0 ≡ length cells - length cells = omega arith in
 pub empty_on : (all rest behind : List Cell) (cell : Cell) (n m : ℕ) → all ≡ replicate n Empty ++ rest → rest ≡ cell ∷ behind → is_empty cell ≡ true → m ≡ suc n
     → all ≡ replicate m Empty ++ behind
 empty_on all rest behind cell n m split first e more = rw (split, first, empty_is cell e, empty_more, more)
-
-pub blanks_more : (n m k : ℕ) (items new : List ℕ) → new ≡ take m items ++ replicate k 32 → length items ≤ m → k ≡ n → new ≡ items ++ replicate n 32
-blanks_more n m k items new e few some =
-    e ∙ ap (λ (t : List ℕ). t ++ replicate k 32) (take_all m items few) ∙ ap (λ (j : ℕ). items ++ replicate j 32) some
 
 space_written : (marking : Marking) → written marking (32 ∷ []) ≡ 32 ∷ []
 unfolding lib.Utf8.encode

@@ -1,55 +1,40 @@
 -- What is written is plain: UTF-8 of characters that are shown.
 use Rattle.std.proofs.Common.{◌≡◌, ℕ, Bool, true, false, cond, List, [], ◌∷◌, ◌++◌, refl, ◌∙◌, rules}
-use Rattle.std.specs.List.{AllByRecursion}
-use Rattle.std.specs.Str.{all_scalars}
 use Rattle.std.proofs.lemmas.Bool.{and_from, and_parts, cond_both}
+use Rattle.std.specs.{List.AllByRecursion, Str.all_scalars}
 use lib.Utf8.{scalar}
 use Rattle.bstr.specs.Utf8.{lossy_chars}
-use Rattle.csicodec_names.specs.declared.enums.EraseInDisplay.{EraseInDisplay}
-use Rattle.csicodec_names.specs.declared.enums.EraseInDisplay.TheVariants as display
-use Rattle.csicodec_names.specs.declared.enums.EraseInLine.{EraseInLine}
-use Rattle.csicodec_names.specs.declared.enums.EraseInLine.TheVariants as part
-use Rattle.csicodec_names.specs.declared.modes.DecPrivateModeCode.{DecPrivateModeCode}
-use Rattle.csicodec_names.specs.declared.modes.DecPrivateModeCode.TheVariants as code
-use Rattle.csicodec_names.specs.declared.modes.TerminalModeCode.{TerminalModeCode}
-use Rattle.csicodec_names.specs.declared.modes.TerminalModeCode.TheVariants as terminal_code
-use Rattle.csicodec_actions.specs.declared.mode.DecPrivateMode.{DecPrivateMode}
-use Rattle.csicodec_actions.specs.declared.mode.DecPrivateMode.TheVariants as private
-use Rattle.csicodec_actions.specs.declared.mode.TerminalMode.{TerminalMode}
-use Rattle.csicodec_actions.specs.declared.mode.TerminalMode.TheVariants as terminal
-use Rattle.csicodec_actions.specs.declared.mode.Mode.{Mode}
-use Rattle.csicodec_actions.specs.declared.mode.Mode.TheVariants as mode
-use Rattle.csicodec_actions.specs.Devices.{Device}
-use Rattle.csicodec_actions.specs.Devices as device
-use Rattle.csicodec_actions.specs.declared.cursor.Cursor.{Cursor}
-use Rattle.csicodec_actions.specs.declared.cursor.Cursor.TheVariants as cursor
-use Rattle.csicodec_actions.specs.declared.edit.Edit.{Edit}
-use Rattle.csicodec_actions.specs.declared.edit.Edit.TheVariants as edit
+use Rattle.csicodec_names.specs.declared.{enums.EraseInDisplay.EraseInDisplay, modes.TerminalModeCode.TerminalModeCode}
+use Rattle.csicodec_names.specs.declared.{enums.EraseInLine.EraseInLine, modes.DecPrivateModeCode.DecPrivateModeCode}
+use Rattle.csicodec_actions.specs.declared.mode.{DecPrivateMode.DecPrivateMode, TerminalMode.TerminalMode, Mode.Mode}
+use Rattle.csicodec_actions.specs.{Devices.Device, declared.cursor.Cursor.Cursor, Ranges.InRange, Ranges.SgrInRange}
+use Rattle.csicodec_actions.specs.{declared.edit.Edit.Edit, Actions.Action}
 use Rattle.csicodec_base.specs.declared.sgr.Sgr.{Sgr}
-use Rattle.csicodec_base.specs.declared.sgr.Sgr.TheVariants as sgr
-use Rattle.csicodec_actions.specs.Actions.{Action}
-use Rattle.csicodec_actions.specs.Actions as action
-use Rattle.csicodec_actions.specs.Ranges.{InRange, SgrInRange}
 use Rattle.csicodec_terminal.specs.Terminal.{IsTakenFor}
-use Rattle.csicodec_spans.specs.declared.table.Kind.{Kind}
-use Rattle.csicodec_spans.specs.declared.table.Kind.TheVariants as kind
-use Rattle.csicodec_spans.specs.Parts.{Part}
-use Rattle.csicodec_clean.specs.Shown.{IsPlain, IsShown}
-use Rattle.csicodec_clean.specs.Titles.{with_titles}
-use Rattle.csicodec_clean.proofs.Plain.{scalars_lossy}
-use Rattle.csicodec_html.specs.declared.look.Look.{Look}
-use Rattle.csicodec_html.specs.Look.{behind, plain}
-use Rattle.csicodec_overwrite.specs.declared.step.Step.{Step}
-use Rattle.csicodec_overwrite.specs.declared.step.Step.TheVariants as step
-use Rattle.csicodec_overwrite.specs.Line.{blank, do_all, fresh}
-use Rattle.csicodec_overwrite.specs.Paint.{IsInRange}
+use Rattle.csicodec_spans.specs.{declared.table.Kind.Kind, Parts.Part}
+use Rattle.csicodec_clean.specs.{Shown.IsPlain, Shown.IsShown, Titles.with_titles}
+use Rattle.csicodec_clean.proofs.{Plain.scalars_lossy, Taken.taken_range}
+use Rattle.csicodec_html.specs.{declared.look.Look.Look, Look.behind, Look.plain}
+use Rattle.csicodec_overwrite.specs.{declared.step.Step.Step, Line.blank, Line.do_all, Line.fresh, Paint.IsInRange}
 use Rattle.csicodec_overwrite.specs.Steps.{by_code, of_action, of_actions, of_char, of_chars, of_code, of_control, of_cursor}
 use Rattle.csicodec_overwrite.specs.Steps.{of_device, of_display, of_edit, of_escape, of_final, of_mode, of_part, of_reset, of_run}
 use Rattle.csicodec_overwrite.specs.Steps.{of_sequence, of_set, of_string, of_string_byte, of_terminal_code, of_terminal_mode, of_wrong, of_wrong_byte}
 use Rattle.csicodec_overwrite.specs.Reading.{AreOfParts, IsOfPart, Overwrites, Steps, most}
-use Rattle.csicodec_overwrite.proofs.Kept.{OfStep, of_shown}
-use Rattle.csicodec_clean.proofs.Taken.{taken_range}
-use Rattle.csicodec_overwrite.proofs.Texts.{chars_by, shown_plain}
+use Rattle.csicodec_overwrite.proofs.{Kept.OfStep, Kept.of_shown, Texts.chars_by, Texts.shown_plain}
+use Rattle.csicodec_names.specs.declared.enums.EraseInDisplay.TheVariants as display
+use Rattle.csicodec_names.specs.declared.enums.EraseInLine.TheVariants as part
+use Rattle.csicodec_names.specs.declared.modes.DecPrivateModeCode.TheVariants as code
+use Rattle.csicodec_names.specs.declared.modes.TerminalModeCode.TheVariants as terminal_code
+use Rattle.csicodec_actions.specs.declared.mode.DecPrivateMode.TheVariants as private
+use Rattle.csicodec_actions.specs.declared.mode.TerminalMode.TheVariants as terminal
+use Rattle.csicodec_actions.specs.declared.mode.Mode.TheVariants as mode
+use Rattle.csicodec_actions.specs.Devices as device
+use Rattle.csicodec_actions.specs.declared.cursor.Cursor.TheVariants as cursor
+use Rattle.csicodec_actions.specs.declared.edit.Edit.TheVariants as edit
+use Rattle.csicodec_base.specs.declared.sgr.Sgr.TheVariants as sgr
+use Rattle.csicodec_actions.specs.Actions as action
+use Rattle.csicodec_spans.specs.declared.table.Kind.TheVariants as kind
+use Rattle.csicodec_overwrite.specs.declared.step.Step.TheVariants as step
 
 -- a character that is shown
 abbrev pub IsGood : ℕ → Type 0
@@ -205,7 +190,7 @@ kept l other h k = h
 
 -- ---- and so what is written
 
-scalars : (cs : List ℕ) → AllByRecursion IsGood cs → all_scalars cs ≡ true
+pub scalars : (cs : List ℕ) → AllByRecursion IsGood cs → all_scalars cs ≡ true
 scalars [] h = refl
 scalars (c ∷ cs) h = and_from (scalar c) (all_scalars cs) h.0.1 (scalars cs h.1)
 

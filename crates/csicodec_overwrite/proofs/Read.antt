@@ -1,25 +1,20 @@
 -- The parts of a stream, span by span, and the steps that came for them.
 use Rattle.std.proofs.Common.{◌≡◌, ℕ, Bool, false, List, [], ◌∷◌, ◌++◌, refl, sym, ap, subst, ◌∙◌, append_assoc, append-nil, arith}
-use Rattle.std.specs.List.{AllByRecursion, flat_map}
 use Rattle.std.proofs.lemmas.Grind.{flat_map-append}
-use Rattle.csicodec_spans.specs.declared.table.Kind.{Kind}
-use Rattle.csicodec_spans.specs.declared.table.Kind.TheVariants as kind
-use Rattle.csicodec_spans.specs.declared.table.Mode.{Mode}
-use Rattle.csicodec_spans.specs.declared.table.Mode.TheVariants as mode
+use Rattle.std.specs.List.{AllByRecursion, flat_map}
+use Rattle.csicodec_spans.specs.declared.table.{Kind.Kind, Mode.Mode}
 use Rattle.csicodec_spans.specs.Parts.{Part, part, bytes_of, AreAll, IsSpan, Cuts, IsUnsure}
-use Rattle.csicodec_spans.proofs.Kept.{parts_more, parts_on}
-use Rattle.csicodec_spans.proofs.OneSpan.{none_unsure}
-use Rattle.csicodec_clean.specs.Cleaned.{longest}
-use Rattle.csicodec_clean.specs.Shown.{IsRead}
+use Rattle.csicodec_spans.proofs.{Kept.parts_more, Kept.parts_on, OneSpan.none_unsure}
+use Rattle.csicodec_clean.specs.{Cleaned.longest, Shown.IsRead}
 use Rattle.csicodec_clean.specs.Titles.{title_behind, title_open, read_as, with_titles}
-use Rattle.csicodec_clean.proofs.Sure.{read_more, read_none}
-use Rattle.csicodec_clean.proofs.Titles.{open_on, titled, titles_on}
-use Rattle.csicodec_overwrite.specs.declared.step.Step.{Step}
+use Rattle.csicodec_clean.proofs.{Sure.read_more, Sure.read_none, Titles.open_on, Titles.titled, Titles.titles_on}
+use Rattle.csicodec_overwrite.specs.{declared.step.Step.Step, Stream.Goes, Stream.Held, Stream.Reads, Stream.none_held}
 use Rattle.csicodec_overwrite.specs.Steps.{of_chars, of_escape, of_run, of_sequence, of_string, of_string_byte, of_wrong, of_wrong_byte}
 use Rattle.csicodec_overwrite.specs.Reading.{AreOfParts, IsOfPart, Steps}
-use Rattle.csicodec_overwrite.specs.Stream.{Goes, Held, Reads, none_held}
 use Rattle.csicodec_overwrite.specs.Private.Spans.{GoesTo, IsGiven}
 use Rattle.csicodec_overwrite.proofs.Chars.{chars_on, run_none, run_read}
+use Rattle.csicodec_spans.specs.declared.table.Kind.TheVariants as kind
+use Rattle.csicodec_spans.specs.declared.table.Mode.TheVariants as mode
 
 -- ---- parts
 

@@ -1,18 +1,14 @@
 -- A character that comes many times at once.
 use Rattle.std.proofs.Common.{◌≡◌, ◌≤◌, ◌<◌, ℕ, zero, suc, ◌+◌, ◌-◌, ◌*◌, Bool, true, false, cond, List, [], ◌∷◌, ◌++◌, length, replicate, refl, sym, ap, ◌∙◌, arith}
+use Rattle.std.proofs.lemmas.Bool.{cond_both, Decides.nat_tests}
 use Rattle.std.specs.Prelude.{◌==◌}
-use Rattle.std.proofs.lemmas.Bool.{cond_both}
-use Rattle.std.proofs.lemmas.Bool.Decides.{nat_tests}
-use Rattle.csicodec_overwrite.specs.declared.cells.Cell.{Cell}
+use Rattle.csicodec_overwrite.specs.declared.{cells.Cell.Cell, line.Line.Line}
 use Rattle.csicodec_overwrite.specs.declared.cells.Cell.TheVariants.{Behind, Char, Empty, Mark}
-use Rattle.csicodec_overwrite.specs.declared.cells.Glyph.{Glyph}
-use Rattle.csicodec_overwrite.specs.declared.line.Line.{Line}
-use Rattle.csicodec_overwrite.specs.Cells.{begins_behind, belongs, columns, emptied, gone, is_behind, outside, shifted, takes, untabbed, width, without}
+use Rattle.csicodec_overwrite.specs.{declared.cells.Glyph.Glyph, Private.Sides.placed_many, Private.Sides.put_many}
+use Rattle.csicodec_overwrite.specs.Cells.{begins_behind, belongs, columns, emptied, gone, outside, shifted, takes, width, without}
 use Rattle.csicodec_overwrite.specs.Line.{Done, before, blank, cells_of, done, fits, line, parted, placed, put, repeat, size}
-use Rattle.csicodec_overwrite.specs.Private.Sides.{placed_many, put_many}
 use Rattle.csicodec_overwrite.proofs.Moved.{fails, some_left, takes_few, without_zero}
-use Rattle.csicodec_overwrite.proofs.Room.{placed_size}
-use Rattle.csicodec_overwrite.proofs.Shifted.{shifted_stays}
+use Rattle.csicodec_overwrite.proofs.{Room.placed_size, Shifted.shifted_stays}
 
 -- ---- what is gone
 
@@ -22,18 +18,7 @@ few x n m some = omega (arith, takes_few x)
 
 without_on : (n m : ℕ) (xs : List Cell) → without m (without n xs) ≡ without (n + m) xs
 without_on n m [] = refl
-without_on n m (x ∷ xs) = by (n == 0) refl (without_on (n - takes x) m xs)
-  where
-    now : Bool → List Cell
-    now t = cond t (x ∷ xs) (without (n - takes x) xs)
-
-    by : (t : Bool) → (n == 0) ≡ t → without m (now false) ≡ without (n - takes x + m) xs → without m (now t) ≡ without (n + m) (x ∷ xs)
-    by true e h =
-        let none : n ≡ 0 = grind (arith, nat_tests) in ap (λ (k : ℕ). without k (x ∷ xs)) (omega (arith, none))
-    by false e h =
-        let some : 0 < n = grind (arith, nat_tests) in
-        h ∙ ap (λ (k : ℕ). without k xs) (few x n m some)
-        ∙ sym (fails (n + m == 0) (x ∷ xs) (without (n + m - takes x) xs) (some_left (n + m) (omega (arith, some))))
+without_on n m (x ∷ xs) = grind (arith, nat_tests, few x n m, without_on (n - takes x) m xs)
 
 columns_outside : (xs : List Cell) → columns (outside xs) ≤ columns xs
 columns_outside [] = omega arith
@@ -107,11 +92,7 @@ gone_begins n xs =
     apart_begins (gone n xs) (emptied_apart (columns rest - columns (outside rest)) (outside rest) (outside_twice rest))
 
 shifted_begins : (xs : List Cell) → begins_behind xs ≡ false → begins_behind (shifted false xs) ≡ false
-shifted_begins (Char g ∷ xs) h = by (g.char == 9)
-  where
-    by : (t : Bool) → is_behind (untabbed t (Char g)) ≡ false
-    by true = refl
-    by false = refl
+shifted_begins (Char g ∷ xs) h = grind arith
 shifted_begins (Behind ∷ xs) h = h
 shifted_begins _ h = refl
 

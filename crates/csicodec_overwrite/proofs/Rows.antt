@@ -1,18 +1,13 @@
 -- A line whose cursor is still to go to its column.
-use Rattle.std.proofs.Common.{◌≡◌, ◌<◌, ◌≤◌, ℕ, zero, suc, ◌+◌, ◌-◌, Bool, true, false, cond, min}
+use Rattle.std.proofs.Common.{◌≡◌, ◌<◌, ◌≤◌, ℕ, zero, suc, ◌+◌, ◌-◌, Bool, true, cond, min}
 use Rattle.std.proofs.Common.{List, [], ◌∷◌, ◌++◌, length, replicate, refl, sym, ap, ◌∙◌, arith}
+use Rattle.std.proofs.lemmas.{Bool.Decides.nat_tests, List.length-append, List.length-replicate}
 use Rattle.std.specs.Prelude.{◌&&◌, nat_lt, Option, Some, None}
-use Rattle.std.proofs.lemmas.Bool.Decides.{nat_tests}
-use Rattle.std.proofs.lemmas.List.{length-append, length-replicate}
-use Rattle.csicodec_overwrite.specs.declared.cells.Cell.{Cell}
-use Rattle.csicodec_overwrite.specs.declared.cells.Cell.TheVariants.{Empty}
-use Rattle.csicodec_overwrite.specs.declared.line.Line.{Line}
-use Rattle.csicodec_overwrite.specs.declared.step.Step.{Step}
-use Rattle.csicodec_overwrite.specs.Cells.{columns, onto, takes, trimmed}
+use Rattle.csicodec_overwrite.specs.{declared.cells.Cell.Cell, Cells.columns, Cells.onto, Cells.takes, Cells.trimmed}
+use Rattle.csicodec_overwrite.specs.{declared.cells.Cell.TheVariants.Empty, Private.Row.back, Private.Row.settled}
+use Rattle.csicodec_overwrite.specs.declared.{line.Line.Line, step.Step.Step}
 use Rattle.csicodec_overwrite.specs.Line.{alters, behind_columns, done, entered, forward, leave, line, over, size, standing, widest}
-use Rattle.csicodec_overwrite.specs.Private.Row.{back, settled}
-use Rattle.csicodec_overwrite.proofs.Moved.{back_zero, by_back, columns_both}
-use Rattle.csicodec_overwrite.proofs.Moved.{columns_empty, columns_onto, takes_few}
+use Rattle.csicodec_overwrite.proofs.Moved.{back_zero, by_back, columns_both, columns_empty, columns_onto, takes_few}
 use Rattle.csicodec_overwrite.proofs.Room.{moved, over_size}
 
 -- ---- tests
@@ -42,22 +37,7 @@ standing_over : (k n : ℕ) (left right : List Cell) → k ≤ n - columns right
     ≡ standing (line left right)
 standing_over k n left [] h = trimmed_more k left
 standing_over k n left (x ∷ right) h =
-    by (nat_lt n (takes x)) refl (λ less. standing_over k (n - takes x) (x ∷ left) right (less h))
-  where
-    now : Bool → Line
-    now t = cond t (line left (x ∷ right)) (over (n - takes x) (x ∷ left) right)
-
-    same : Bool → Type 0
-    same t = standing (line (replicate k Empty ++ (now t).left) (now t).right)
-        ≡ standing (line left (x ∷ right))
-
-    by : (t : Bool) → nat_lt n (takes x) ≡ t
-        → ((k ≤ n - (takes x + columns right) → k ≤ n - takes x - columns right) → same false)
-        → same t
-    by true e f =
-        let none : k ≡ 0 = grind (arith, nat_tests, h, takes_few x) in
-        ap (λ (m : ℕ). standing (line (replicate m Empty ++ left) (x ∷ right))) none
-    by false e f = f (λ few. omega (arith, few))
+    grind (arith, nat_tests, takes_few x, standing_over k (n - takes x) (x ∷ left) right)
 
 pub standing_settled : (limit n : ℕ) (l : Line) → standing (behind_columns limit n l) ≡ standing l
 standing_settled limit n l =

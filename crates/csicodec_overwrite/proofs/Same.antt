@@ -1,43 +1,29 @@
 -- What is painted is, without its sequences, the plain text.
-use Rattle.std.proofs.Common.{◌≡◌, ◌≤◌, ℕ, Bool, true, false, cond, List, [], ◌∷◌, ◌++◌, map, length, encode_utf8, encode_utf8_all, refl, sym, ap, subst, ◌∙◌, append_assoc, append-nil, arith}
-use Rattle.std.specs.Prelude.{filter}
-use Rattle.std.specs.List.{AllByRecursion, flat_map}
-use Rattle.std.specs.Str.{all_scalars}
-use Rattle.std.proofs.lemmas.Bool.{and_from, cond_both}
-use Rattle.std.proofs.lemmas.Grind.{flat_map-append}
+use Rattle.std.proofs.Common.{◌≡◌, ◌≤◌, ℕ, true, false, cond, List, [], ◌∷◌, ◌++◌, map, length, encode_utf8, encode_utf8_all, refl, sym, ap, subst, ◌∙◌, append_assoc, append-nil, arith}
+use Rattle.std.proofs.lemmas.{Bool.and_from, Bool.cond_both, Grind.flat_map-append}
+use Rattle.std.specs.{Prelude.filter, List.AllByRecursion, List.flat_map, Str.all_scalars}
 use lib.Utf8.{scalar}
 use Rattle.bstr.proofs.lemmas.EncodeLemmas.{lossy_chars-encode}
 use Rattle.csicodec_actions.specs.Ranges.{SgrInRange}
-use Rattle.csicodec_spans.specs.declared.table.Kind.TheVariants as kind
-use Rattle.csicodec_spans.specs.declared.table.Mode.TheVariants as mode
 use Rattle.csicodec_spans.specs.Table.{Answer}
 use Rattle.csicodec_spans.specs.Parts.{Allows, AreFirstParts, IsFirstPart, IsWhole, Part, part}
-use Rattle.csicodec_spans.proofs.Agrees.{opens}
-use Rattle.csicodec_spans.proofs.Kept.{parts_more, parts_on}
-use Rattle.csicodec_spans.proofs.OneSpan.{none_unsure, singles}
+use Rattle.csicodec_spans.proofs.{Agrees.opens, Kept.parts_more, Kept.parts_on, OneSpan.none_unsure, OneSpan.singles}
 use Rattle.csicodec_clean.specs.Cleaned.{Strips, longest, stripped}
-use Rattle.csicodec_clean.specs.Shown.{IsShown, shown, shown_text}
-use Rattle.csicodec_clean.specs.Titles.{title_open, with_titles}
-use Rattle.csicodec_clean.proofs.Plain.{scalars_on}
-use Rattle.csicodec_clean.proofs.PlainBytes.{all_both, one_char}
-use Rattle.csicodec_clean.proofs.Shows.{encoded_on}
-use Rattle.csicodec_clean.proofs.Titles.{single_texts, titles_on}
-use Rattle.csicodec_clean.proofs.Twice.{all_kept, all_text}
-use Rattle.csicodec_html.specs.declared.look.Look.{Look}
-use Rattle.csicodec_html.specs.Look.{plain}
-use Rattle.csicodec_overwrite.specs.declared.cells.Cell.{Cell}
+use Rattle.csicodec_clean.specs.{Shown.IsShown, Shown.shown, Shown.shown_text, Titles.title_open, Titles.with_titles}
+use Rattle.csicodec_clean.proofs.{Plain.scalars_on, Shows.encoded_on, Twice.all_kept, Twice.all_text}
+use Rattle.csicodec_clean.proofs.{PlainBytes.all_both, PlainBytes.one_char, Titles.single_texts, Titles.titles_on}
+use Rattle.csicodec_html.specs.{declared.look.Look.Look, Look.plain}
+use Rattle.csicodec_overwrite.specs.declared.{cells.Cell.Cell, step.Step.Step}
 use Rattle.csicodec_overwrite.specs.declared.cells.Cell.TheVariants.{Behind, Char, Empty, Mark}
 use Rattle.csicodec_overwrite.specs.declared.marking.Marking.TheVariants.{Plain, Styled}
-use Rattle.csicodec_overwrite.specs.declared.step.Step.{Step}
-use Rattle.csicodec_overwrite.specs.Cells.{chars_of}
-use Rattle.csicodec_overwrite.specs.Line.{Done, blank, cells_of, do_all, fresh}
+use Rattle.csicodec_overwrite.specs.{Cells.chars_of, Line.Done, Line.blank, Line.cells_of, Line.do_all, Line.fresh}
 use Rattle.csicodec_overwrite.specs.Paint.{IsInRange, attributes, ended, further, look_of, look_text, paint, same, texts_of, turn}
 use Rattle.csicodec_overwrite.specs.Reading.{Overwrites, Paints, Steps, most, shown_by}
-use Rattle.csicodec_overwrite.proofs.Kept.{OfCell, OfCells, of_done}
-use Rattle.csicodec_overwrite.proofs.Once.{one_reading}
-use Rattle.csicodec_overwrite.proofs.Plain.{IsGood, kept, plain_kept, steps_good}
-use Rattle.csicodec_overwrite.proofs.Spelled.{look_of_one, look_short}
+use Rattle.csicodec_overwrite.proofs.{Kept.OfCell, Kept.OfCells, Kept.of_done, Spelled.look_of_one, Spelled.look_short}
+use Rattle.csicodec_overwrite.proofs.{Once.one_reading, Plain.IsGood, Plain.kept, Plain.plain_kept, Plain.steps_good}
 use Rattle.csicodec_overwrite.proofs.Texts.{chars_by, line_chars, newline, shown_plain}
+use Rattle.csicodec_spans.specs.declared.table.Kind.TheVariants as kind
+use Rattle.csicodec_spans.specs.declared.table.Mode.TheVariants as mode
 
 -- ---- pieces
 
@@ -163,11 +149,7 @@ both_text : (xs ys : List Piece) → pieces_text (xs ++ ys) ≡ pieces_text xs +
 both_text xs ys = flat_map-append piece_text xs ys
 
 turned_text : (old new : Look) → pieces_text (turned old new) ≡ turn Styled old new
-turned_text old new = by (same old new)
-  where
-    by : (t : Bool) → pieces_text (cond t [] (Turn new ∷ [])) ≡ cond t [] (look_text new)
-    by true = refl
-    by false = append-nil (look_text new)
+turned_text old new = grind (arith, append-nil (look_text new))
 
 ones_text : (cs : List ℕ) → pieces_text (map One cs) ≡ encode_utf8_all cs
 ones_text [] = refl

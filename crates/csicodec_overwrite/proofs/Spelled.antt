@@ -1,75 +1,30 @@
 -- The sequence of a look is one control sequence, and is read as a reset and its attributes.
 use Rattle.std.proofs.Common.{◌≡◌, ◌≤◌, ◌<◌, ◌+◌, ◌*◌, ◌-◌, ℕ, Bool, true, false, List, [], ◌∷◌, ◌++◌, length}
 use Rattle.std.proofs.Common.{length-append, take, drop, map, ⊎_elim, refl, sym, ap, subst, ◌∙◌, append_assoc, append-nil, arith}
-use Rattle.std.specs.Prelude.{codes, not}
-use Rattle.std.specs.List.{AllByRecursion, flat_map}
-use Rattle.std.proofs.Math.Seq.{take-append_seam}
-use Rattle.std.proofs.lemmas.List.{map-append}
-use Rattle.csicodec_tokens.specs.declared.param.CsiParam.{CsiParam}
-use Rattle.csicodec_tokens.specs.declared.param.CsiParam.TheVariants.{Integer, P}
-use Rattle.csicodec_tokens.specs.Digits.{IsDigit}
-use Rattle.csicodec_tokens.specs.Param.{spells}
-use Rattle.csicodec_tokens.specs.Sequence.{Apart, Seq, Spellable, Spells}
+use Rattle.std.proofs.{Math.Seq.take-append_seam, lemmas.List.map-append}
+use Rattle.std.specs.{Prelude.codes, Prelude.not, List.AllByRecursion, List.flat_map}
+use Rattle.csicodec_tokens.specs.declared.param.CsiParam.{CsiParam, TheVariants.Integer, TheVariants.P}
+use Rattle.csicodec_tokens.specs.{Digits.IsDigit, Param.spells, Sequence.Seq, Sequence.Spellable, Sequence.Spells}
 use Rattle.csicodec_tokens.proofs.Printed.{printed}
-use Rattle.csicodec_names.specs.declared.color.ColorSpec.{ColorSpec}
-use Rattle.csicodec_names.specs.declared.color.Intensity.{Intensity}
-use Rattle.csicodec_names.specs.declared.color.Underline.{Underline}
-use Rattle.csicodec_base.specs.declared.sgr.Sgr.{Sgr}
-use Rattle.csicodec_base.specs.declared.sgr.Sgr.TheVariants as sgr
-use Rattle.csicodec_base.specs.SgrText.{sgr_text}
-use Rattle.csicodec_actions.specs.Actions as action
-use Rattle.csicodec_actions.specs.Ranges.{ColorInRange, SgrInRange}
-use Rattle.csicodec_parser.specs.Canonical.{IsCanonicalSgr}
-use Rattle.csicodec_parser.specs.Cut.{semicolon}
-use Rattle.csicodec_parser.specs.Groups.{group, has_odd, is_odd}
-use Rattle.csicodec_parser.specs.Segments.{Actions}
-use Rattle.csicodec_parser.specs.declared.group.Group.TheVariants.{Styles}
-use Rattle.csicodec_parser.proofs.GroupOf.{or-parts}
+use Rattle.csicodec_names.specs.declared.color.{Intensity.Intensity, Underline.Underline}
+use Rattle.csicodec_base.specs.{declared.sgr.Sgr.Sgr, SgrText.sgr_text}
+use Rattle.csicodec_actions.specs.Ranges.{SgrInRange}
+use Rattle.csicodec_parser.specs.{Canonical.IsCanonicalSgr, Segments.Actions}
+use Rattle.csicodec_parser.specs.{Cut.semicolon, Groups.group, Groups.has_odd, declared.group.Group.TheVariants.Styles}
 use Rattle.csicodec.specs.Compose.{EndsInSemicolon, IsStyleList}
 use Rattle.csicodec.proofs.Compose.{ends-joined, plain-joint, sgr_compose_lem, spellable-joined, spells-joined}
 use Rattle.csicodec.proofs.SgrSpelling.{sgr-spelling}
 use Rattle.csicodec_terminal.specs.Terminal.{IsTakenFor, has_unknown}
 use Rattle.csicodec_clean.specs.Styled.{IsOf, hides}
 use Rattle.csicodec_clean.proofs.Coded.{AreCodes, coded, codes_parts, none_open, same_ends, unended}
-use Rattle.csicodec_html.specs.declared.look.Look.{Look}
-use Rattle.csicodec_html.specs.Look.{is_default, is_none, is_normal}
+use Rattle.csicodec_html.specs.{declared.look.Look.Look, Look.is_default, Look.is_none, Look.is_normal}
 use Rattle.csicodec_overwrite.specs.Paint.{IsInRange, attributes, further, given, look_text}
+use Rattle.csicodec_base.specs.declared.sgr.Sgr.TheVariants as sgr
+use Rattle.csicodec_actions.specs.Actions as action
 
 -- an attribute that stands in a sequence
-record IsSpelled (s : Sgr) : Type 0 where
-  range : SgrInRange s
-  canonical : IsCanonicalSgr s
-  shown : hides s ≡ false
-
-reset_spelled : IsSpelled sgr.Reset
-reset_spelled = record { range = tt; canonical = tt; shown = refl }
-
-intensity_spelled : (x : Intensity) → IsSpelled (sgr.Intensity x)
-intensity_spelled x = record { range = tt; canonical = tt; shown = refl }
-
-italic_spelled : IsSpelled (sgr.Italic true)
-italic_spelled = record { range = tt; canonical = tt; shown = refl }
-
-underline_spelled : (x : Underline) → IsSpelled (sgr.Underline x)
-underline_spelled x = record { range = tt; canonical = tt; shown = refl }
-
-line_spelled : (x : ColorSpec) → ColorInRange x → IsSpelled (sgr.UnderlineColor x)
-line_spelled x h = record { range = h; canonical = tt; shown = refl }
-
-overline_spelled : IsSpelled (sgr.Overline true)
-overline_spelled = record { range = tt; canonical = tt; shown = refl }
-
-strike_spelled : IsSpelled (sgr.StrikeThrough true)
-strike_spelled = record { range = tt; canonical = tt; shown = refl }
-
-inverse_spelled : IsSpelled (sgr.Inverse true)
-inverse_spelled = record { range = tt; canonical = tt; shown = refl }
-
-text_spelled : (x : ColorSpec) → ColorInRange x → IsSpelled (sgr.Foreground x)
-text_spelled x h = record { range = h; canonical = tt; shown = refl }
-
-ground_spelled : (x : ColorSpec) → ColorInRange x → IsSpelled (sgr.Background x)
-ground_spelled x h = record { range = h; canonical = tt; shown = refl }
+abbrev IsSpelled : Sgr → Type 0
+IsSpelled s = SgrInRange s × IsCanonicalSgr s × (hides s ≡ false)
 
 abbrev AreSpelled : List Sgr → Type 0
 AreSpelled styles = AllByRecursion IsSpelled styles
@@ -84,15 +39,15 @@ last_spelled false s h = tt
 
 all_spelled : (l : Look) → IsInRange l → AreSpelled (attributes l)
 all_spelled l (line, text, ground) =
-    given_spelled (not (is_normal l.intensity)) (sgr.Intensity l.intensity) _ (intensity_spelled l.intensity)
-    (given_spelled l.italic (sgr.Italic true) _ italic_spelled
-    (given_spelled (not (is_none l.underline)) (sgr.Underline l.underline) _ (underline_spelled l.underline)
-    (given_spelled (not (is_default l.line)) (sgr.UnderlineColor l.line) _ (line_spelled l.line line)
-    (given_spelled l.overline (sgr.Overline true) _ overline_spelled
-    (given_spelled l.strike (sgr.StrikeThrough true) _ strike_spelled
-    (given_spelled l.inverse (sgr.Inverse true) _ inverse_spelled
-    (given_spelled (not (is_default l.foreground)) (sgr.Foreground l.foreground) _ (text_spelled l.foreground text)
-    (last_spelled (not (is_default l.background)) (sgr.Background l.background) (ground_spelled l.background ground)))))))))
+    given_spelled (not (is_normal l.intensity)) (sgr.Intensity l.intensity) _ (tt, tt, refl)
+    (given_spelled l.italic (sgr.Italic true) _ (tt, tt, refl)
+    (given_spelled (not (is_none l.underline)) (sgr.Underline l.underline) _ (tt, tt, refl)
+    (given_spelled (not (is_default l.line)) (sgr.UnderlineColor l.line) _ (line, tt, refl)
+    (given_spelled l.overline (sgr.Overline true) _ (tt, tt, refl)
+    (given_spelled l.strike (sgr.StrikeThrough true) _ (tt, tt, refl)
+    (given_spelled l.inverse (sgr.Inverse true) _ (tt, tt, refl)
+    (given_spelled (not (is_default l.foreground)) (sgr.Foreground l.foreground) _ (text, tt, refl)
+    (last_spelled (not (is_default l.background)) (sgr.Background l.background) (ground, tt, refl)))))))))
 
 -- ---- its list: numbers and `:`
 
@@ -139,8 +94,8 @@ taken body =
 
 one_open : (s : Sgr) → IsSpelled s → Open (take (length (sgr_text s) - 1) (sgr_text s)) (s ∷ [])
 one_open s h =
-    let (body, is, codes, some, few) = coded s h.range h.shown in
-    let sp = sgr-spelling false s h.range h.canonical in
+    let (body, is, codes, some, few) = coded s h.0 h.2 in
+    let sp = sgr-spelling false s h.0 h.1 in
     let ends = same_ends body (spells sp.list) 109 sp.final (sym is ∙ ap (drop 2) sp.written) in
     let mine : take (length (sgr_text s) - 1) (sgr_text s) ≡ body = ap (λ (t : List ℕ). take (length t - 1) t) is ∙ taken body in
     let spelled : Spells body sp.list = subst (λ (t : List ℕ). Spells t sp.list) (sym ends.0) (printed sp.list sp.spellable) in
@@ -177,7 +132,7 @@ all_open (s ∷ styles) bytes done o h =
     subst (Open whole) (append_assoc done (s ∷ []) styles) (subst (λ (t : List ℕ). Open t ((done ++ s ∷ []) ++ styles)) (append_assoc bytes (further s) (flat_map further styles)) all)
 
 look_open : (l : Look) → IsInRange l → Open (48 ∷ flat_map further (attributes l)) (sgr.Reset ∷ attributes l)
-look_open l h = all_open (attributes l) (48 ∷ []) (sgr.Reset ∷ []) (one_open sgr.Reset reset_spelled) (all_spelled l h)
+look_open l h = all_open (attributes l) (48 ∷ []) (sgr.Reset ∷ []) (one_open sgr.Reset (tt, tt, refl)) (all_spelled l h)
 
 look_seq : (l : Look) (h : IsInRange l) → Seq (look_text l) (look_open l h).list 109
 unfolding look_text
@@ -202,8 +157,7 @@ look_taken l h =
 -- ---- and short
 
 given_few : (t : Bool) (s : Sgr) → length (given t s) ≤ 1
-given_few true s = omega arith
-given_few false s = omega arith
+given_few t s = grind arith
 
 more_few : (t : Bool) (s : Sgr) (rest : List Sgr) (n : ℕ) → length rest ≤ n → length (given t s ++ rest) ≤ n + 1
 more_few t s rest n h = omega (arith, length-append (given t s) rest, given_few t s, h)
@@ -221,7 +175,7 @@ few_attributes l =
 
 further_short : (s : Sgr) → IsSpelled s → length (further s) ≤ 61
 further_short s h =
-    let (body, is, codes, some, few) = coded s h.range h.shown in
+    let (body, is, codes, some, few) = coded s h.0 h.2 in
     let mine : take (length (sgr_text s) - 1) (sgr_text s) ≡ body = ap (λ (t : List ℕ). take (length t - 1) t) is ∙ taken body in
     omega (arith, ap length mine, few)
 

@@ -1,36 +1,25 @@
 -- Plain text of which each line has room stays as it is.
 use Rattle.std.proofs.Common.{◌≡◌, ◌≤◌, ◌⊎◌, ℕ, ◌+◌, zero, suc, Bool, true, false, cond, List, [], ◌∷◌, ◌++◌, length}
 use Rattle.std.proofs.Common.{replicate, encode_utf8_all, refl, sym, ap, subst, ◌∙◌, inl, inr, ⊎_elim, append_assoc, append-nil, arith}
-use Rattle.std.specs.Prelude.{◌==◌, max}
-use Rattle.std.specs.List.{AllByRecursion, flat_map}
-use Rattle.std.proofs.lemmas.Bool.{eqb-true}
-use Rattle.std.proofs.lemmas.Bool.Decides.{nat_tests}
-use Rattle.std.proofs.lemmas.List.{length-append, length-replicate}
+use Rattle.std.proofs.lemmas.{Bool.eqb-true, Bool.Decides.nat_tests, List.length-append, List.length-replicate}
+use Rattle.std.specs.{Prelude.◌==◌, Prelude.max, List.AllByRecursion, List.flat_map}
 use Rattle.bstr.specs.Utf8.{lossy_chars}
 use Rattle.bstr.proofs.lemmas.EncodeLemmas.{lossy_chars-encode}
-use Rattle.csicodec_spans.specs.declared.table.Kind.TheVariants as kind
-use Rattle.csicodec_spans.specs.declared.table.Mode.TheVariants as mode
 use Rattle.csicodec_spans.specs.Parts.{Part}
 use Rattle.csicodec_spans.proofs.OneSpan.{none_unsure, singles}
-use Rattle.csicodec_clean.specs.Cleaned.{longest}
-use Rattle.csicodec_clean.specs.Shown.{IsPlain, IsShown, shown}
-use Rattle.csicodec_clean.proofs.PlainBytes.{plain_bytes}
-use Rattle.csicodec_clean.proofs.Titles.{single_texts}
-use Rattle.csicodec_clean.proofs.Twice.{all_text}
-use Rattle.csicodec_overwrite.specs.declared.cells.Cell.{Cell}
-use Rattle.csicodec_overwrite.specs.declared.cells.Cell.TheVariants.{Behind, Char, Mark}
-use Rattle.csicodec_overwrite.specs.declared.cells.Glyph.{Glyph}
-use Rattle.csicodec_overwrite.specs.declared.marking.Marking.TheVariants.{Plain}
-use Rattle.csicodec_overwrite.specs.declared.pen.Pen.{Pen}
-use Rattle.csicodec_overwrite.specs.declared.step.Step.{Step}
-use Rattle.csicodec_overwrite.specs.declared.step.Step.TheVariants as step
+use Rattle.csicodec_clean.specs.{Cleaned.longest, Shown.IsPlain, Shown.IsShown, Shown.shown}
+use Rattle.csicodec_clean.proofs.{PlainBytes.plain_bytes, Titles.single_texts, Twice.all_text}
+use Rattle.csicodec_overwrite.specs.declared.cells.Cell.{Cell, TheVariants.Behind, TheVariants.Char, TheVariants.Mark}
+use Rattle.csicodec_overwrite.specs.{declared.cells.Glyph.Glyph, Steps.of_char, Steps.of_chars, Steps.of_run}
+use Rattle.csicodec_overwrite.specs.declared.{marking.Marking.TheVariants.Plain, pen.Pen.Pen}
+use Rattle.csicodec_overwrite.specs.{declared.step.Step.Step, Private.Plain.AreFull, Private.Plain.closed}
 use Rattle.csicodec_overwrite.specs.Cells.{chars_of, columns, glyph, onto, trimmed, width}
 use Rattle.csicodec_overwrite.specs.Line.{Done, HasRoom, before, blank, cells_of, do_all, does, done, fresh, line, pen_behind, placed, put}
-use Rattle.csicodec_overwrite.specs.Steps.{of_char, of_chars, of_control, of_run}
 use Rattle.csicodec_overwrite.specs.Reading.{AreOfParts, Overwrites, Steps, most}
-use Rattle.csicodec_overwrite.specs.Private.Plain.{AreFull, closed}
-use Rattle.csicodec_overwrite.proofs.Once.{one_text}
-use Rattle.csicodec_overwrite.proofs.Texts.{chars_by, line_chars, shown_plain}
+use Rattle.csicodec_overwrite.proofs.{Once.one_text, Texts.chars_by, Texts.line_chars, Texts.shown_plain}
+use Rattle.csicodec_spans.specs.declared.table.Kind.TheVariants as kind
+use Rattle.csicodec_spans.specs.declared.table.Mode.TheVariants as mode
+use Rattle.csicodec_overwrite.specs.declared.step.Step.TheVariants as step
 
 -- ---- cells of which none is empty
 
@@ -106,11 +95,7 @@ pub not_shown : (c d : ℕ) → c ≡ d → shown d ≡ false → IsShown c → 
 not_shown c d e f h = let g : shown d ≡ true = subst (λ (x : ℕ). shown x ≡ true) e h in cc
 
 pub put_of : (c : ℕ) → (c == 10) ≡ false → (c == 13) ≡ false → (c == 8) ≡ false → (c == 9) ≡ false → shown c ≡ true → of_char c ≡ step.Put c ∷ []
-put_of c = by (c == 10) (c == 13) (c == 8) (c == 9) (shown c)
-  where
-    by : (line return back tab shows : Bool) → line ≡ false → return ≡ false → back ≡ false → tab ≡ false → shows ≡ true
-        → cond line (step.NewLine ∷ []) (cond return (step.Column 1 ∷ []) (cond back (step.Left 1 ∷ []) (cond tab (step.Tab ∷ []) (cond shows (step.Put c ∷ []) (of_control c))))) ≡ step.Put c ∷ []
-    by line return back tab shows e f g i k = rw (e, f, g, i, k) refl
+put_of c e f g i k = grind arith
 
 pub puts : (pen : Pen) (c : ℕ) → IsShown c → Puts pen c
 puts pen c h = by (c == 10) (c == 13) (c == 8) (c == 9) (shown c) refl refl refl refl refl

@@ -1,43 +1,27 @@
 -- Text of ASCII, which takes no reading.
 use Rattle.std.proofs.Common.{drop, take, take-append-drop, ◌≡◌, ◌≢◌, ◌<◌, ◌≤◌, ℕ, Bool, true, false, cond, List, [], ◌∷◌, ◌++◌, length, encode_utf8_all, refl, sym, ap, subst, ◌∙◌, arith, ne_eqb}
-use Rattle.std.specs.Prelude.{◌==◌, ◌+◌, nat_le, nat_lt, max, unwrap_or, Option, Some, None}
-use Rattle.std.specs.Char.{encode_utf8}
-use Rattle.std.specs.List.{AllByRecursion, prefix_len}
-use Rattle.std.specs.Str.{all_scalars}
-use Rattle.std.proofs.lemmas.Bool.{cond_both}
-use Rattle.std.proofs.lemmas.Bool.Decides.{nat_tests}
+use Rattle.std.proofs.lemmas.Bool.{cond_both, Decides.nat_tests}
+use Rattle.std.specs.Prelude.{◌==◌, ◌+◌, max, unwrap_or, Option, Some}
+use Rattle.std.specs.{Char.encode_utf8, List.AllByRecursion, List.prefix_len, Str.all_scalars}
 use Rattle.unicode_width.specs.Width.{char_width}
-use Rattle.unicode_width.specs.Width.{alone as char_alone}
 use Rattle.bstr.specs.Utf8.{lossy_chars}
-use Rattle.csicodec_spans.specs.declared.table.Kind.TheVariants as kind
-use Rattle.csicodec_spans.specs.declared.table.Mode.TheVariants as mode
 use Rattle.csicodec_spans.specs.Parts.{Part}
 use Rattle.csicodec_spans.proofs.OneSpan.{none_unsure, singles}
-use Rattle.csicodec_clean.specs.Cleaned.{longest}
-use Rattle.csicodec_clean.specs.Private.Steps.{IsOther}
-use Rattle.csicodec_clean.specs.Bytes.{IsPlainByte}
-use Rattle.csicodec_clean.proofs.Bytes.{front_in}
-use Rattle.csicodec_clean.proofs.PlainBytes.{plain_bytes}
-use Rattle.csicodec_clean.proofs.Sure.{read_more}
-use Rattle.csicodec_clean.proofs.Titles.{single_texts}
+use Rattle.csicodec_clean.specs.{Cleaned.longest, Private.Steps.IsOther, Bytes.IsPlainByte}
+use Rattle.csicodec_clean.proofs.{Bytes.front_in, PlainBytes.plain_bytes, Sure.read_more, Titles.single_texts}
 use Rattle.csicodec_clean.proofs.Told.{ascii_shown, encoded, is_shown, read_encoded, scalars}
 use Rattle.csicodec_clean.proofs.Twice.{all_text}
-use Rattle.csicodec_overwrite.specs.declared.cells.Cell.{Cell}
-use Rattle.csicodec_overwrite.specs.declared.cells.Cell.TheVariants.{Char}
-use Rattle.csicodec_overwrite.specs.declared.line.Line.{Line}
-use Rattle.csicodec_overwrite.specs.declared.pen.Pen.{Pen}
-use Rattle.csicodec_overwrite.specs.declared.step.Step.{Step}
-use Rattle.csicodec_overwrite.specs.declared.step.Step.TheVariants as step
-use Rattle.csicodec_overwrite.specs.Cells.{columns, glyph, narrowed, onto, to_tab_stop, width}
+use Rattle.csicodec_overwrite.specs.declared.{cells.Cell.Cell, line.Line.Line, pen.Pen.Pen, step.Step.Step}
+use Rattle.csicodec_overwrite.specs.{declared.cells.Cell.TheVariants.Char, Stream.Reads, Stream.none_held}
+use Rattle.csicodec_overwrite.specs.{Cells.columns, Cells.glyph, Cells.onto, Cells.width, Steps.of_char, Steps.of_chars}
 use Rattle.csicodec_overwrite.specs.Line.{Done, before, do_all, does, done, line, pen_behind, pen_behind_all, put}
-use Rattle.csicodec_overwrite.specs.Steps.{of_char, of_chars}
 use Rattle.csicodec_overwrite.specs.Reading.{AreOfParts}
-use Rattle.csicodec_overwrite.specs.Stream.{Reads, none_held}
 use Rattle.csicodec_overwrite.specs.Private.Plain.{IsLineByte, IsUntabbed, PutsRun, end_of, glyphs, last_of, line_byte}
-use Rattle.csicodec_overwrite.proofs.Chars.{chars_on}
-use Rattle.csicodec_overwrite.proofs.Moved.{narrow_few}
-use Rattle.csicodec_overwrite.proofs.Same.{not_titled}
-use Rattle.csicodec_overwrite.proofs.Stays.{cells, of_singles, put_cells, put_of}
+use Rattle.csicodec_overwrite.proofs.{Chars.chars_on, Same.not_titled}
+use Rattle.csicodec_overwrite.proofs.{Moved.narrow_few, Stays.cells, Stays.of_singles, Stays.put_cells, Stays.put_of}
+use Rattle.csicodec_spans.specs.declared.table.Kind.TheVariants as kind
+use Rattle.csicodec_spans.specs.declared.table.Mode.TheVariants as mode
+use Rattle.csicodec_overwrite.specs.declared.step.Step.TheVariants as step
 
 -- ---- it is read as it stands
 
@@ -96,11 +80,7 @@ GoesBehind limit pen c l = (32 ≤ c) × (c < 127) × (pen.inserts ≡ false) ×
 
 pub narrow : (c column : ℕ) → 32 ≤ c → c < 127 → width c column ≡ 1
 unfolding char_width
-narrow c column low high = by (c == 9) (nat_lt c 127) (nat_le 32 c) (grind (arith, nat_tests)) (grind (arith, nat_tests)) (grind (arith, nat_tests))
-  where
-    by : (t u v : Bool) → t ≡ false → u ≡ true → v ≡ true
-        → cond t (to_tab_stop column) (narrowed (unwrap_or (cond u (cond v (Some 1) None) (cond (nat_le 160 c) (Some (char_alone false c).0) None)) 0)) ≡ 1
-    by t u v e f g = rw (e, f, g) refl
+narrow c column low high = grind (arith, nat_tests)
 
 goes : (limit : ℕ) (pen : Pen) (c : ℕ) (l : Line) → GoesBehind limit pen c l → put limit pen.inserts (glyph c pen.look) l ≡ done [] (line (Char (glyph c pen.look) ∷ l.left) [])
 goes limit pen c l (low, high, over, none, few) =

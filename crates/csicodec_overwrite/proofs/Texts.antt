@@ -1,15 +1,11 @@
 -- The text of lines, and what it is as characters.
 use Rattle.std.proofs.Common.{◌≡◌, ℕ, List, [], ◌∷◌, ◌++◌, encode_utf8_all, refl, sym, ap, ◌∙◌}
-use Rattle.std.specs.List.{flat_map}
 use Rattle.std.proofs.lemmas.Grind.{flat_map-append}
+use Rattle.std.specs.List.{flat_map}
 use Rattle.csicodec_clean.proofs.Shows.{encoded_on}
-use Rattle.csicodec_overwrite.specs.declared.cells.Cell.{Cell}
-use Rattle.csicodec_overwrite.specs.declared.marking.Marking.{Marking}
-use Rattle.csicodec_overwrite.specs.declared.marking.Marking.TheVariants.{Plain}
-use Rattle.csicodec_overwrite.specs.Cells.{chars_of}
-use Rattle.csicodec_overwrite.specs.Line.{Done, cells_of}
-use Rattle.csicodec_overwrite.specs.Paint.{ended, text_of, texts_of}
-use Rattle.csicodec_overwrite.specs.Reading.{shown_by}
+use Rattle.csicodec_overwrite.specs.{declared.cells.Cell.Cell, Paint.ended, Paint.text_of, Paint.texts_of}
+use Rattle.csicodec_overwrite.specs.declared.marking.Marking.{Marking, TheVariants.Plain}
+use Rattle.csicodec_overwrite.specs.{Cells.chars_of, Line.Done, Line.cells_of, Reading.shown_by}
 
 -- lines and then others
 pub texts_on : (marking : Marking) (xs ys : List (List Cell)) → texts_of marking (xs ++ ys) ≡ texts_of marking xs ++ texts_of marking ys

@@ -2,19 +2,12 @@
 use Rattle.std.proofs.Common.{◌≡◌, ℕ, List, [], ◌∷◌, ◌++◌, refl, sym, ap, subst, ◌∙◌, ⊎_elim, append_assoc, append-nil}
 use Rattle.std.specs.List.{concat}
 use Rattle.csicodec_filter.specs.Transform.{Begins, GoesOn, Sends, Transforms}
-use Rattle.csicodec_overwrite.specs.declared.line.Line.{Line}
-use Rattle.csicodec_overwrite.specs.declared.marking.Marking.{Marking}
-use Rattle.csicodec_overwrite.specs.declared.pen.Pen.{Pen}
-use Rattle.csicodec_overwrite.specs.declared.step.Step.{Step}
-use Rattle.csicodec_overwrite.specs.Cells.{columns}
+use Rattle.csicodec_overwrite.specs.{declared.line.Line.Line, Paint.text_of, Paint.texts_of, Private.Seen.PassesFront}
+use Rattle.csicodec_overwrite.specs.{declared.marking.Marking.Marking, Reading.Shows, Reading.most, Reading.shown_by}
+use Rattle.csicodec_overwrite.specs.{declared.pen.Pen.Pen, declared.step.Step.Step, Cells.columns, Steps.of_run}
 use Rattle.csicodec_overwrite.specs.Line.{blank, cells_of, do_all, does, fresh, pen_behind, pen_behind_all}
-use Rattle.csicodec_overwrite.specs.Paint.{text_of, texts_of}
-use Rattle.csicodec_overwrite.specs.Steps.{of_run}
-use Rattle.csicodec_overwrite.specs.Reading.{Shows, most, shown_by}
 use Rattle.csicodec_overwrite.specs.Stream.{AreTaken, Ending, Now, Passes, Reads, begun_as, none_held}
-use Rattle.csicodec_overwrite.specs.Private.Seen.{PassesFront}
-use Rattle.csicodec_overwrite.proofs.Read.{reads_none, reads_on, whole_reads}
-use Rattle.csicodec_overwrite.proofs.Texts.{texts_on}
+use Rattle.csicodec_overwrite.proofs.{Read.reads_none, Read.reads_on, Read.whole_reads, Texts.texts_on}
 
 -- ---- steps, and then others
 

@@ -2,25 +2,19 @@
 -- page, with tags.
 use Rattle.std.specs.Prelude.{ℕ, ◌-◌, ◌==◌, Bool, true, false, not, ◌&&◌, List, [], ◌∷◌, ◌++◌, length, take, encode_utf8_all, if◌then◌else◌}
 use Rattle.std.specs.List.{flat_map}
-use Rattle.csicodec_names.specs.declared.color.ColorSpec.{ColorSpec}
-use Rattle.csicodec_names.specs.declared.color.ColorSpec.TheVariants as color
-use Rattle.csicodec_names.specs.declared.color.Intensity.{Intensity}
-use Rattle.csicodec_names.specs.declared.color.Intensity.TheVariants as intensity
-use Rattle.csicodec_names.specs.declared.color.Underline.{Underline}
-use Rattle.csicodec_names.specs.declared.color.Underline.TheVariants as underline
-use Rattle.csicodec_base.specs.declared.sgr.Sgr.{Sgr}
-use Rattle.csicodec_base.specs.declared.sgr.Sgr.TheVariants as sgr
-use Rattle.csicodec_base.specs.SgrText.{sgr_text}
+use Rattle.csicodec_names.specs.declared.color.{ColorSpec.ColorSpec, Intensity.Intensity, Underline.Underline}
+use Rattle.csicodec_base.specs.{declared.sgr.Sgr.Sgr, SgrText.sgr_text}
 use Rattle.csicodec_actions.specs.Ranges.{ColorInRange}
-use Rattle.csicodec_html.specs.declared.look.Look.{Look}
-use Rattle.csicodec_html.specs.Look.{is_default, is_none, is_normal, plain}
+use Rattle.csicodec_html.specs.{declared.look.Look.Look, Look.is_default, Look.is_none, Look.is_normal, Look.plain}
 use Rattle.csicodec_html.specs.Page.{escaped, piece_texts}
-use Rattle.csicodec_html.specs.Page.{turn as tags}
-use Rattle.csicodec_overwrite.specs.declared.cells.Cell.{Cell}
+use Rattle.csicodec_overwrite.specs.{declared.cells.Cell.Cell, declared.marking.Marking.Marking, Cells.chars_of}
 use Rattle.csicodec_overwrite.specs.declared.cells.Cell.TheVariants.{Behind, Char, Empty, Mark}
-use Rattle.csicodec_overwrite.specs.declared.marking.Marking.{Marking}
 use Rattle.csicodec_overwrite.specs.declared.marking.Marking.TheVariants.{Page, Plain, Styled}
-use Rattle.csicodec_overwrite.specs.Cells.{chars_of}
+use Rattle.csicodec_names.specs.declared.color.ColorSpec.TheVariants as color
+use Rattle.csicodec_names.specs.declared.color.Intensity.TheVariants as intensity
+use Rattle.csicodec_names.specs.declared.color.Underline.TheVariants as underline
+use Rattle.csicodec_base.specs.declared.sgr.Sgr.TheVariants as sgr
+use Rattle.csicodec_html.specs.Page.{turn as tags}
 
 -- ---- whether two looks are one
 

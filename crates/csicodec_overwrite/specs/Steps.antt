@@ -2,33 +2,25 @@
 use Rattle.std.specs.Prelude.{ℕ, ◌==◌, ◌&&◌, ◌||◌, nat_lt, not, min, Bool, true, false, List, [], ◌∷◌, ◌++◌, length, slice_index, Some, None, if◌then◌else◌}
 use Rattle.std.specs.List.{flat_map, list_any}
 use Rattle.bstr.specs.Utf8.{lossy_chars}
-use Rattle.csicodec_tokens.specs.declared.param.CsiParam.{CsiParam}
-use Rattle.csicodec_tokens.specs.declared.param.CsiParam.TheVariants.{Integer, P}
-use Rattle.csicodec_names.specs.declared.enums.EraseInDisplay.{EraseInDisplay}
-use Rattle.csicodec_names.specs.declared.enums.EraseInDisplay.TheVariants as display
-use Rattle.csicodec_names.specs.declared.enums.EraseInLine.{EraseInLine}
-use Rattle.csicodec_names.specs.declared.enums.EraseInLine.TheVariants as part
-use Rattle.csicodec_names.specs.declared.modes.DecPrivateModeCode.{DecPrivateModeCode}
-use Rattle.csicodec_names.specs.declared.modes.DecPrivateModeCode.TheVariants as code
-use Rattle.csicodec_names.specs.declared.modes.TerminalModeCode.{TerminalModeCode}
-use Rattle.csicodec_names.specs.declared.modes.TerminalModeCode.TheVariants as terminal_code
-use Rattle.csicodec_actions.specs.declared.cursor.Cursor.{Cursor}
-use Rattle.csicodec_actions.specs.declared.cursor.Cursor.TheVariants as cursor
-use Rattle.csicodec_actions.specs.declared.edit.Edit.{Edit}
-use Rattle.csicodec_actions.specs.declared.edit.Edit.TheVariants as edit
-use Rattle.csicodec_actions.specs.declared.mode.DecPrivateMode.{DecPrivateMode}
-use Rattle.csicodec_actions.specs.declared.mode.DecPrivateMode.TheVariants as private
-use Rattle.csicodec_actions.specs.declared.mode.TerminalMode.{TerminalMode}
-use Rattle.csicodec_actions.specs.declared.mode.TerminalMode.TheVariants as terminal
-use Rattle.csicodec_actions.specs.declared.mode.Mode.{Mode}
-use Rattle.csicodec_actions.specs.declared.mode.Mode.TheVariants as mode
-use Rattle.csicodec_actions.specs.Devices.{Device}
-use Rattle.csicodec_actions.specs.Devices as device
+use Rattle.csicodec_tokens.specs.declared.param.CsiParam.{CsiParam, TheVariants.Integer, TheVariants.P}
+use Rattle.csicodec_names.specs.declared.{enums.EraseInDisplay.EraseInDisplay, modes.TerminalModeCode.TerminalModeCode}
+use Rattle.csicodec_names.specs.declared.{enums.EraseInLine.EraseInLine, modes.DecPrivateModeCode.DecPrivateModeCode}
+use Rattle.csicodec_actions.specs.{declared.cursor.Cursor.Cursor, declared.edit.Edit.Edit, Devices.Device}
+use Rattle.csicodec_actions.specs.declared.mode.{DecPrivateMode.DecPrivateMode, TerminalMode.TerminalMode, Mode.Mode}
 use Rattle.csicodec_actions.specs.Actions.{Action}
-use Rattle.csicodec_actions.specs.Actions as action
 use Rattle.csicodec_clean.specs.Shown.{shown}
-use Rattle.csicodec_overwrite.specs.Line.{widest}
-use Rattle.csicodec_overwrite.specs.declared.step.Step.{Step}
+use Rattle.csicodec_overwrite.specs.{Line.widest, declared.step.Step.Step}
+use Rattle.csicodec_names.specs.declared.enums.EraseInDisplay.TheVariants as display
+use Rattle.csicodec_names.specs.declared.enums.EraseInLine.TheVariants as part
+use Rattle.csicodec_names.specs.declared.modes.DecPrivateModeCode.TheVariants as code
+use Rattle.csicodec_names.specs.declared.modes.TerminalModeCode.TheVariants as terminal_code
+use Rattle.csicodec_actions.specs.declared.cursor.Cursor.TheVariants as cursor
+use Rattle.csicodec_actions.specs.declared.edit.Edit.TheVariants as edit
+use Rattle.csicodec_actions.specs.declared.mode.DecPrivateMode.TheVariants as private
+use Rattle.csicodec_actions.specs.declared.mode.TerminalMode.TheVariants as terminal
+use Rattle.csicodec_actions.specs.declared.mode.Mode.TheVariants as mode
+use Rattle.csicodec_actions.specs.Devices as device
+use Rattle.csicodec_actions.specs.Actions as action
 use Rattle.csicodec_overwrite.specs.declared.step.Step.TheVariants as step
 
 -- VT (ECMA-48, 8.3.161) and FF (8.3.51) go to another row, and of C1 (as UTF-8, which some terminals carry out) IND (ECMA-48:1986), NEL

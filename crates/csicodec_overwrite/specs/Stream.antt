@@ -1,22 +1,14 @@
 -- A stream as it comes, chunk by chunk.
 use Rattle.std.specs.Prelude.{ℕ, ◌≡◌, Bool, false, List, [], ◌∷◌, ◌++◌}
 use Rattle.std.specs.List.{concat}
-use Rattle.csicodec_spans.specs.declared.table.Mode.{Mode}
-use Rattle.csicodec_spans.specs.declared.table.Mode.TheVariants as mode
-use Rattle.csicodec_spans.specs.Parts.{Part, AreFirstParts, IsUnsure}
+use Rattle.csicodec_spans.specs.{declared.table.Mode.Mode, Parts.Part, Parts.AreFirstParts, Parts.IsUnsure}
 use Rattle.csicodec_filter.specs.Transform.{GoesOn}
-use Rattle.csicodec_clean.specs.Cleaned.{longest}
-use Rattle.csicodec_clean.specs.Shown.{IsRead}
-use Rattle.csicodec_clean.specs.Titles.{title_open, with_titles}
-use Rattle.csicodec_overwrite.specs.declared.line.Line.{Line}
-use Rattle.csicodec_overwrite.specs.declared.marking.Marking.{Marking}
-use Rattle.csicodec_overwrite.specs.declared.marking.Marking.TheVariants.{Plain}
-use Rattle.csicodec_overwrite.specs.declared.pen.Pen.{Pen}
-use Rattle.csicodec_overwrite.specs.declared.step.Step.{Step}
-use Rattle.csicodec_overwrite.specs.Line.{blank, do_all, fresh, pen_behind_all}
-use Rattle.csicodec_overwrite.specs.Paint.{texts_of}
-use Rattle.csicodec_overwrite.specs.Steps.{of_chars, of_run}
-use Rattle.csicodec_overwrite.specs.Reading.{AreOfParts, Shows, most, shown_by}
+use Rattle.csicodec_clean.specs.{Cleaned.longest, Shown.IsRead, Titles.title_open, Titles.with_titles}
+use Rattle.csicodec_overwrite.specs.{declared.line.Line.Line, Line.blank, Line.do_all, Line.fresh, Line.pen_behind_all}
+use Rattle.csicodec_overwrite.specs.declared.{marking.Marking.Marking, marking.Marking.TheVariants.Plain, pen.Pen.Pen}
+use Rattle.csicodec_overwrite.specs.{declared.step.Step.Step, Steps.of_chars, Steps.of_run}
+use Rattle.csicodec_overwrite.specs.{Paint.texts_of, Reading.AreOfParts, Reading.Shows, Reading.most, Reading.shown_by}
+use Rattle.csicodec_spans.specs.declared.table.Mode.TheVariants as mode
 
 -- between two pushes: what is open and whether that is a title, the bytes of which nothing is sure yet, and those of a character before them
 pub record Held : Type 0 where

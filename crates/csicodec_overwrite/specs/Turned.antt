@@ -1,12 +1,9 @@
 -- Control sequences that do no more than to set how characters look, and what is written for them between characters.
 use Rattle.std.specs.Prelude.{ℕ, ◌≡◌, List, [], ◌∷◌}
-use Rattle.csicodec_html.specs.declared.look.Look.{Look}
-use Rattle.csicodec_html.specs.Look.{behind}
-use Rattle.csicodec_overwrite.specs.declared.marking.Marking.{Marking}
+use Rattle.csicodec_html.specs.{declared.look.Look.Look, Look.behind}
+use Rattle.csicodec_overwrite.specs.{declared.marking.Marking.Marking, Paint.turn, Stream.Reads, Stream.none_held}
 use Rattle.csicodec_overwrite.specs.declared.step.Step.{Step}
 use Rattle.csicodec_overwrite.specs.declared.step.Step.TheVariants as step
-use Rattle.csicodec_overwrite.specs.Paint.{turn}
-use Rattle.csicodec_overwrite.specs.Stream.{Reads, none_held}
 
 -- a step that does no more than to set how characters look, where nothing stands right of the cursor
 abbrev pub IsLook : Look → Step → Look → Type 0

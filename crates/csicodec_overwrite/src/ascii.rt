@@ -2,8 +2,7 @@
 ghost use Rattle.std.specs.Prelude.{◌≡◌, ◌∷◌, ◌++◌, [], ◌≤◌, length, min, IfSome};
 ghost use Rattle.std.specs.List.{AllByRecursion};
 ghost use Rattle.csicodec_overwrite.specs.Private.Plain.{AreLines, IsLineByte, IsUntabbed, end_of};
-ghost use Rattle.csicodec_overwrite.specs.Private.Row.{IsHere};
-ghost use Rattle.csicodec_overwrite.specs.Steps.{of_char};
+ghost use Rattle.csicodec_overwrite.specs.{Private.Row.IsHere, Steps.of_char};
 
 use crate::step::Step;
 use csicodec_clean::{ByteClass, PlainAscii, first_set, split_front};

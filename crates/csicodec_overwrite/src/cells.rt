@@ -2,11 +2,9 @@
 ghost use Rattle.std.specs.Prelude.{◌≡◌, ◌≤◌, ◌*◌, ◌+◌, ◌++◌, ◌∷◌, [], false, OnOk, MatchOption, length, replicate, reverse, vec_capacity, vec_len};
 ghost use Rattle.std.specs.List.{list_all};
 ghost use Rattle.csicodec_overwrite.specs.Cells.{begins_behind, belongs, columns, emptied, is_blank, is_empty, of_tab, onto, outside, shifted, takes, trimmed, untabbed, without};
-ghost use Rattle.csicodec_overwrite.specs.Line.{line, over};
-ghost use Rattle.csicodec_overwrite.specs.Private.Plain.{glyphs};
-ghost use Rattle.csicodec_overwrite.specs.Private.Row.{back};
+ghost use Rattle.csicodec_overwrite.specs.{Line.line, Line.over, declared.cells.Cell.TheVariants.Empty};
+ghost use Rattle.csicodec_overwrite.specs.Private.{Plain.glyphs, Row.back};
 ghost use Rattle.csicodec_overwrite.specs.Private.Sides.{Gives, IsKept, PassesBack, PassesOver, put_many};
-ghost use Rattle.csicodec_overwrite.specs.declared.cells.Cell.TheVariants.{Empty};
 
 use csicodec_html::Look;
 use std::alloc::{AllocError, Global};
@@ -255,6 +253,7 @@ impl Side {
     }
 
     /// All cells, the farthest first.
+    #[tactic(auto, using(crate::proofs::Moved::farthest))]
     pub(crate) fn from_farthest(&self) -> &[Cell]
         ensures { result.now ≡ onto self.now [] }
     {
@@ -262,6 +261,7 @@ impl Side {
     }
 
     /// Whether no more than blanks stands there.
+    #[tactic(auto, using(crate::proofs::Moved::nearest_shows))]
     pub(crate) fn shows_nothing(&self) -> bool
         ensures { result ≡ list_all is_blank (onto self.now []) }
     {
@@ -433,6 +433,7 @@ impl Side {
     }
 
     /// Empties the columns of tabs, since the cells move without the cursor.
+    #[tactic(auto, using(crate::proofs::Shifted::columns_shifted))]
     pub(crate) fn shift(&mut self)
         ensures { self.new ≡ shifted false self.old }
     {

@@ -2,11 +2,9 @@
 ghost use Rattle.std.specs.Prelude.{◌≡◌, ◌<◌, ◌≤◌, ◌++◌, ℕ, List, false, true, length, IfOk, OnOk};
 ghost use Rattle.std.specs.List.{AllByRecursion};
 ghost use Rattle.csicodec_html.specs.Turns.{AreTurns};
-ghost use Rattle.csicodec_overwrite.specs.Paint.{turn};
+ghost use Rattle.csicodec_overwrite.specs.{Paint.turn, Turned.AreLooks, Turned.IsLook, Turned.Sets, Turned.Turned};
 ghost use Rattle.csicodec_overwrite.specs.Private.Front.{IsStyled, IsTurned, IsWritten, last_of_run, run_text};
-ghost use Rattle.csicodec_overwrite.specs.Turned.{AreLooks, IsLook, Sets, Turned};
-ghost use Rattle.csicodec_overwrite.specs.Private.Plain.{IsLineByte};
-ghost use Rattle.csicodec_overwrite.specs.Stream.{none_held};
+ghost use Rattle.csicodec_overwrite.specs.{Private.Plain.IsLineByte, Stream.none_held};
 
 use crate::ascii::{InLine, style_len};
 use crate::marking::Marking;

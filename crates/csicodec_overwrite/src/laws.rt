@@ -2,21 +2,13 @@
 ghost use Rattle.std.specs.Prelude.{◌≡◌, ◌≤◌, ℕ, List};
 ghost use Rattle.csicodec_actions.specs.Actions.{Action};
 ghost use Rattle.csicodec_terminal.specs.Terminal.{IsTakenFor};
-ghost use Rattle.csicodec_clean.specs.Cleaned.{Strips, longest};
-ghost use Rattle.csicodec_clean.specs.Shown.{IsPlain};
-ghost use Rattle.csicodec_clean.specs.Styled.{IsOf};
-ghost use Rattle.csicodec_html.specs.declared.look.Look.{Look};
-ghost use Rattle.csicodec_html.specs.declared.markup.Markup.{Markup};
-ghost use Rattle.csicodec_html.specs.Look.{behind_all};
+ghost use Rattle.csicodec_clean.specs.{Cleaned.Strips, Cleaned.longest, Shown.IsPlain, Styled.IsOf};
+ghost use Rattle.csicodec_html.specs.{declared.look.Look.Look, declared.markup.Markup.Markup, Look.behind_all};
 ghost use Rattle.csicodec_html.specs.Page.{PageWith};
-ghost use Rattle.csicodec_overwrite.specs.declared.marking.Marking.{Marking};
-ghost use Rattle.csicodec_overwrite.specs.declared.pen.Pen.{Pen};
-ghost use Rattle.csicodec_overwrite.specs.declared.step.Step.{Step};
-ghost use Rattle.csicodec_overwrite.specs.Line.{HasRoom, blank, do_all, size};
-ghost use Rattle.csicodec_overwrite.specs.Lost.{NothingLost, NothingMade};
-ghost use Rattle.csicodec_overwrite.specs.Paint.{IsInRange, look_text};
+ghost use Rattle.csicodec_overwrite.specs.{declared.marking.Marking.Marking, Lost.NothingLost, Lost.NothingMade};
+ghost use Rattle.csicodec_overwrite.specs.{declared.pen.Pen.Pen, Paint.IsInRange, Paint.look_text, Stream.AnyChunks};
+ghost use Rattle.csicodec_overwrite.specs.{declared.step.Step.Step, Line.HasRoom, Line.blank, Line.do_all, Line.size};
 ghost use Rattle.csicodec_overwrite.specs.Reading.{Overwrites, Pages, Paints, Shows, most};
-ghost use Rattle.csicodec_overwrite.specs.Stream.{AnyChunks};
 
 /// What is written has no control but newlines and tabs, as what `strip` writes.
 pub fn plain()
@@ -30,6 +22,7 @@ pub fn plain_stays()
 {}
 
 /// It doesn't matter how a stream is cut into chunks.
+#[tactic(auto, using(crate::proofs::Written::any_chunks))]
 pub fn any_chunks()
     ensures { AnyChunks }
 {}

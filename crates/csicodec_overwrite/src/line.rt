@@ -1,15 +1,11 @@
 //! A line and its cursor.
-ghost use Rattle.std.specs.Prelude.{◌≡◌, ◌<◌, ◌≤◌, ◌*◌, ◌-◌, ◌++◌, ◌+◌, [], ℕ, false, length, nat_le, nat_lt, true, IfOk, OnOk};
+ghost use Rattle.std.specs.Prelude.{◌≡◌, ◌<◌, ◌≤◌, ◌*◌, ◌-◌, ◌++◌, ◌+◌, [], false, length, nat_le, nat_lt, true, IfOk, OnOk};
 ghost use Rattle.std.specs.List.{AllByRecursion};
-ghost use Rattle.csicodec_overwrite.specs.Cells.{columns, glyph, onto};
-ghost use Rattle.csicodec_overwrite.specs.Line.{alters, behind_columns, blank, cells_of, delete, do_all, does_here, entered, erase, erase_all, erase_left, erase_right, fits, forward, insert, line, lines_of, parted, pen_behind_all, placed, put, repeated, size, widest};
-ghost use Rattle.csicodec_overwrite.specs.Paint.{ended, text_of, texts_of};
-ghost use Rattle.csicodec_overwrite.specs.Private.Plain.{IsLineByte, PutsRun};
-ghost use Rattle.csicodec_overwrite.specs.Private.Row.{Does, DoesAll, IsHere, settled};
-ghost use Rattle.csicodec_overwrite.specs.Private.Sides.{placed_many};
-ghost use Rattle.csicodec_overwrite.specs.Reading.{most};
-ghost use Rattle.csicodec_overwrite.specs.Steps.{of_chars};
-ghost use Rattle.csicodec_overwrite.specs.declared.step.Step.TheVariants.{Tab};
+ghost use Rattle.csicodec_overwrite.specs.{Cells.columns, Cells.glyph, Cells.onto, declared.step.Step.TheVariants.Tab};
+ghost use Rattle.csicodec_overwrite.specs.Line.{alters, behind_columns, blank, cells_of, delete, does_here, entered, erase, erase_all, erase_left, erase_right, fits, forward, insert, lines_of, parted, placed, put, repeated, size, widest};
+ghost use Rattle.csicodec_overwrite.specs.{Paint.ended, Paint.text_of, Paint.texts_of, Reading.most};
+ghost use Rattle.csicodec_overwrite.specs.{Private.Plain.IsLineByte, Private.Plain.PutsRun, Steps.of_chars};
+ghost use Rattle.csicodec_overwrite.specs.Private.{Row.Does, Row.DoesAll, Row.IsHere, Row.settled, Sides.placed_many};
 
 use crate::ascii::{plain_step, split_run};
 use crate::cells::{Cell, Glyph, Side};

@@ -1,12 +1,8 @@
 //! A stream of which each line is overwritten, as it comes.
 ghost use Rattle.std.specs.Prelude.{◌≡◌, ◌≤◌, ◌<◌, ◌++◌, ℕ, List, OnOk, IfNone, IfOk, IfSome, false, length, true};
-ghost use Rattle.csicodec_overwrite.specs.Line.{blank};
-ghost use Rattle.csicodec_overwrite.specs.Paint.{shows_looks};
-ghost use Rattle.csicodec_overwrite.specs.Private.Front.{IsWritten};
-ghost use Rattle.csicodec_overwrite.specs.Private.Plain.{PutsPlain, end_of};
-ghost use Rattle.csicodec_overwrite.specs.Private.Seen.{PassesFront};
+ghost use Rattle.csicodec_overwrite.specs.{Line.blank, Paint.shows_looks, declared.marking.Marking.TheVariants.Styled};
+ghost use Rattle.csicodec_overwrite.specs.Private.{Front.IsWritten, Plain.PutsPlain, Plain.end_of, Seen.PassesFront};
 ghost use Rattle.csicodec_overwrite.specs.Stream.{Ending, Passes, begun, begun_as, none_held};
-ghost use Rattle.csicodec_overwrite.specs.declared.marking.Marking.TheVariants.{Styled};
 
 use crate::ascii::{InLine, begins_sequence, behind_end, odd_len, split_lines};
 use crate::front::{LineFront, append_front, append_shown};
@@ -52,9 +48,8 @@ pub struct Overwriter {
 }
 
 impl Model for Overwriter {
-    ghost use Rattle.csicodec_overwrite.specs.Stream.{Now};
+    ghost use Rattle.csicodec_overwrite.specs.{Stream.Now, Turned.Turned};
     ghost use Rattle.csicodec_html.specs.Turns.{AreTurns};
-    ghost use Rattle.csicodec_overwrite.specs.Turned.{Turned};
 
     ghost Value = { Now };
 

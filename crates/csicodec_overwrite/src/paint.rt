@@ -2,10 +2,8 @@
 ghost use Rattle.std.specs.Prelude.{◌≡◌, ◌≤◌, ◌-◌, ◌∷◌, ◌++◌, [], ℕ, List, IfOk, IfSome, OnOk, encode_utf8, encode_utf8_all, false, length, not, replicate};
 ghost use Rattle.std.specs.List.{AllByRecursion, flat_map};
 ghost use Rattle.csicodec_clean.specs.Bytes.{IsPlainByte};
-ghost use Rattle.csicodec_html.specs.Look.{is_default, is_none, is_normal, plain};
-ghost use Rattle.csicodec_html.specs.Page.{escaped};
-ghost use Rattle.csicodec_overwrite.specs.Cells.{chars_of, glyph};
-ghost use Rattle.csicodec_overwrite.specs.Private.Alike.{IsAlike};
+ghost use Rattle.csicodec_html.specs.{Look.is_default, Look.is_none, Look.is_normal, Look.plain, Page.escaped};
+ghost use Rattle.csicodec_overwrite.specs.{Cells.chars_of, Cells.glyph, Private.Alike.IsAlike};
 ghost use Rattle.csicodec_overwrite.specs.declared.cells.Cell.TheVariants.{Char, Empty};
 ghost use Rattle.csicodec_overwrite.specs.Paint.{further, given, look_of, look_text, paint, same, same_color, same_flag, same_intensity, same_underline, text_of, turn, written};
 ghost use Rattle.csicodec_overwrite.specs.declared.marking.Marking.TheVariants.{Page, Styled};

@@ -1,14 +1,12 @@
 //! The steps of a stream, as it comes.
 ghost use Rattle.std.specs.Prelude.{◌≡◌, ◌≢◌, ◌≤◌, ◌++◌, ℕ, List, false, true, length, MatchOption, OnOk, IfOk, IfSome};
 ghost use Rattle.csicodec_tokens.specs.Sequence.{Seq};
-ghost use Rattle.csicodec_spans.specs.declared.table.Kind.TheVariants.{Csi as Sequence};
 ghost use Rattle.csicodec_spans.specs.Parts.{IsUnsure};
 ghost use Rattle.csicodec_terminal.specs.Terminal.{Terminal};
-ghost use Rattle.csicodec_clean.specs.Cleaned.{longest};
-ghost use Rattle.csicodec_clean.specs.Titles.{read_as, title_behind};
-ghost use Rattle.csicodec_overwrite.specs.Private.Spans.{GoesTo, IsGiven};
+ghost use Rattle.csicodec_clean.specs.{Cleaned.longest, Titles.read_as, Titles.title_behind};
+ghost use Rattle.csicodec_overwrite.specs.{Private.Spans.GoesTo, Private.Spans.IsGiven, Stream.Reads, Stream.none_held};
 ghost use Rattle.csicodec_overwrite.specs.Steps.{of_run, of_sequence};
-ghost use Rattle.csicodec_overwrite.specs.Stream.{Reads, none_held};
+ghost use Rattle.csicodec_spans.specs.declared.table.Kind.TheVariants.{Csi as Sequence};
 
 use crate::seen::Seen;
 use crate::step::Step;
@@ -91,8 +89,7 @@ pub(crate) struct Reader {
 impl Model for Reader {
     ghost use Rattle.std.specs.Prelude.{◌≡◌};
     ghost use Rattle.csicodec_clean.specs.Cleaned.{longest};
-    ghost use Rattle.csicodec_overwrite.specs.Private.Seen.{AreSlices};
-    ghost use Rattle.csicodec_overwrite.specs.Stream.{Held};
+    ghost use Rattle.csicodec_overwrite.specs.{Private.Seen.AreSlices, Stream.Held};
 
     ghost Value = { Held };
 

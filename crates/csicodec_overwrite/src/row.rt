@@ -1,14 +1,9 @@
 //! A line whose cursor goes to a column only where something is done there, so that going to and fro costs nothing.
-ghost use Rattle.std.specs.Prelude.{◌≡◌, ◌++◌, true, OnOk};
-ghost use Rattle.std.specs.List.{AllByRecursion};
-ghost use Rattle.csicodec_overwrite.specs.Cells.{columns};
-ghost use Rattle.csicodec_overwrite.specs.Line.{backward, behind_columns, blank, cells_of, do_all, done, does, forward, from_stop, in_row, leave, lines_of, pen_behind, pen_behind_all, restored, rightward, target, to_stop};
-ghost use Rattle.csicodec_overwrite.specs.Paint.{ended, text_of, texts_of};
-ghost use Rattle.csicodec_overwrite.specs.Private.Plain.{IsLineByte};
-ghost use Rattle.csicodec_overwrite.specs.Private.Row.{Does, DoesAll, IsHere};
-ghost use Rattle.csicodec_overwrite.specs.Reading.{most};
-ghost use Rattle.csicodec_overwrite.specs.Steps.{of_chars};
-ghost use Rattle.csicodec_overwrite.specs.declared.step.Step.TheVariants.{Tab};
+ghost use Rattle.std.specs.{Prelude.◌≡◌, Prelude.◌++◌, Prelude.true, Prelude.OnOk, List.AllByRecursion};
+ghost use Rattle.csicodec_overwrite.specs.{Cells.columns, Reading.most, Steps.of_chars};
+ghost use Rattle.csicodec_overwrite.specs.Line.{backward, behind_columns, blank, cells_of, done, does, forward, from_stop, in_row, leave, lines_of, pen_behind, restored, rightward, target, to_stop};
+ghost use Rattle.csicodec_overwrite.specs.{Paint.ended, Paint.text_of, declared.step.Step.TheVariants.Tab};
+ghost use Rattle.csicodec_overwrite.specs.Private.{Plain.IsLineByte, Row.Does, Row.DoesAll, Row.IsHere};
 
 use crate::ascii::plain_step;
 use crate::line::Line;
@@ -28,9 +23,8 @@ pub(crate) struct Row {
 }
 
 impl Model for Row {
+    ghost use Rattle.csicodec_overwrite.specs.{Private.Row.settled, Reading.most};
     ghost use Rattle.csicodec_overwrite.specs.declared.line.Line.{Line as LineOf};
-    ghost use Rattle.csicodec_overwrite.specs.Private.Row.{settled};
-    ghost use Rattle.csicodec_overwrite.specs.Reading.{most};
 
     ghost Value = { LineOf };
 

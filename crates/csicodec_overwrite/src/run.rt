@@ -1,6 +1,5 @@
 //! A stream from a reader to a writer.
-ghost use Rattle.csicodec_clean.specs.Shown.{IsPlain};
-ghost use Rattle.csicodec_clean.specs.Streams.{StreamsOne};
+ghost use Rattle.csicodec_clean.specs.{Shown.IsPlain, Streams.StreamsOne};
 ghost use Rattle.csicodec_overwrite.specs.Reading.{Overwrites};
 
 use crate::overwriter::Overwriter;

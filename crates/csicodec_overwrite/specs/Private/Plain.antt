@@ -2,15 +2,10 @@
 use Rattle.std.specs.Prelude.{ℕ, ◌≡◌, ◌≤◌, ◌==◌, ◌&&◌, ◌||◌, nat_le, nat_lt, Bool, true, false, not, List, [], ◌∷◌, ◌++◌, length, Option, Some, None}
 use Rattle.std.specs.List.{AllByRecursion}
 use Rattle.csicodec_clean.specs.Bytes.{IsPlainByte}
-use Rattle.csicodec_html.specs.Look.{plain}
-use Rattle.csicodec_html.specs.declared.look.Look.{Look}
-use Rattle.csicodec_overwrite.specs.declared.cells.Cell.{Cell}
-use Rattle.csicodec_overwrite.specs.declared.cells.Cell.TheVariants.{Char}
-use Rattle.csicodec_overwrite.specs.declared.line.Line.{Line}
-use Rattle.csicodec_overwrite.specs.declared.pen.Pen.{Pen}
-use Rattle.csicodec_overwrite.specs.Cells.{glyph, is_empty}
-use Rattle.csicodec_overwrite.specs.Line.{do_all, pen_behind_all}
-use Rattle.csicodec_overwrite.specs.Steps.{of_chars}
+use Rattle.csicodec_html.specs.{Look.plain, declared.look.Look.Look}
+use Rattle.csicodec_overwrite.specs.{declared.cells.Cell.Cell, declared.line.Line.Line, Cells.glyph, Cells.is_empty}
+use Rattle.csicodec_overwrite.specs.{declared.cells.Cell.TheVariants.Char, Line.do_all, Line.pen_behind_all}
+use Rattle.csicodec_overwrite.specs.{declared.pen.Pen.Pen, Steps.of_chars}
 
 -- characters are put in place of others, without attributes that are painted
 abbrev pub PutsPlain : Bool → Pen → Type 0

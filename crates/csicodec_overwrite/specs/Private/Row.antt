@@ -1,15 +1,9 @@
 -- A cursor that is still to go to its column. No promise rests on this file.
 use Rattle.std.specs.Prelude.{ℕ, ◌≡◌, ◌++◌, ◌-◌, ◌==◌, Option, Some, None, ⊤, List, [], ◌∷◌, if◌then◌else◌}
-use Rattle.csicodec_overwrite.specs.declared.cells.Cell.{Cell}
-use Rattle.csicodec_overwrite.specs.declared.line.Line.{Line}
-use Rattle.csicodec_overwrite.specs.declared.marking.Marking.{Marking}
-use Rattle.csicodec_overwrite.specs.declared.pen.Pen.{Pen}
-use Rattle.csicodec_overwrite.specs.declared.step.Step.{Step}
-use Rattle.csicodec_overwrite.specs.declared.step.Step.TheVariants as step
-use Rattle.csicodec_overwrite.specs.Cells.{takes}
+use Rattle.csicodec_overwrite.specs.declared.{cells.Cell.Cell, line.Line.Line, marking.Marking.Marking, step.Step.Step}
+use Rattle.csicodec_overwrite.specs.{declared.pen.Pen.Pen, Cells.takes, Paint.texts_of, Reading.most}
 use Rattle.csicodec_overwrite.specs.Line.{Done, behind_columns, do_all, line, pen_behind_all}
-use Rattle.csicodec_overwrite.specs.Paint.{texts_of}
-use Rattle.csicodec_overwrite.specs.Reading.{most}
+use Rattle.csicodec_overwrite.specs.declared.step.Step.TheVariants as step
 
 -- behind so many columns, or where it is
 abbrev pub settled : ℕ → Option ℕ → Line → Line

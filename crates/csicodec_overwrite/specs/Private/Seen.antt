@@ -1,6 +1,5 @@
 -- What a table of slices that came before holds, and what is taken of a slice. No promise rests on this file.
-use Rattle.std.specs.Prelude.{ℕ, ◌≡◌, List, ◌++◌}
-use Rattle.std.specs.List.{All}
+use Rattle.std.specs.{Prelude.ℕ, Prelude.◌≡◌, Prelude.List, Prelude.◌++◌, List.All}
 use Rattle.csicodec_overwrite.specs.declared.seen.Slice.{Slice}
 use Rattle.csicodec_overwrite.specs.Stream.{Now, Passes, Reads, none_held}
 

@@ -1,8 +1,7 @@
 use Rattle.std.proofs.Common.{◌≡◌, ◌++◌, [], true, false, refl, rules, sym, ap, subst, ◌∙◌, append_assoc, append-nil, arith}
 use Rattle.csicodec_html.specs.declared.look.Look.{Look}
 use Rattle.csicodec_overwrite.specs.Private.Front.{IsFront, last_of_run, run_text}
-use Rattle.csicodec_overwrite.proofs.Fronts.{front_more, front_none, sets_on}
-use Rattle.csicodec_overwrite.proofs.Straight.{split_line}
+use Rattle.csicodec_overwrite.proofs.{Fronts.front_more, Fronts.front_none, Fronts.sets_on, Straight.split_line}
 use Rattle.csicodec_overwrite.proofs.front.append_front.Goals as goal
 
 pub loop-run-init : goal.loop-run-init

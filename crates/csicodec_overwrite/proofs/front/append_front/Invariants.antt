@@ -1,6 +1,5 @@
 use Rattle.std.proofs.Common.{◌≡◌, ◌++◌, ℕ, List, length}
-use Rattle.csicodec_overwrite.specs.Private.Front.{IsFront}
-use Rattle.csicodec_overwrite.specs.Stream.{none_held}
+use Rattle.csicodec_overwrite.specs.{Private.Front.IsFront, Stream.none_held}
 use Rattle.csicodec_overwrite.proofs.front.append_front.Given as goal
 
 -- a front is written

@@ -2,21 +2,12 @@ use Rattle.std.proofs.Common.{◌++◌, ◌∙◌, List, ℕ, ap, append_assoc, 
 use Rattle.std.proofs.lemmas.Result.{on_ok_weaker}
 use Rattle.csicodec_html.specs.declared.look.Look.{Look}
 use Rattle.csicodec_overwrite.specs.Paint.{turn, written}
-use Rattle.csicodec_overwrite.proofs.Fronts.{last_nothing, run_nothing, run_some}
-use Rattle.csicodec_overwrite.proofs.Straight.{lines_plain}
+use Rattle.csicodec_overwrite.proofs.{Fronts.run_nothing, Fronts.run_some, Straight.lines_plain}
 use Rattle.csicodec_overwrite.proofs.front.append_run.Goals as goal
-
-pub returns-then-is_empty-clause-looks : goal.returns-then-is_empty-clause-looks
-returns-then-is_empty-clause-looks c = last_nothing c.args.last.now c.args.now.now c.args.run.now (sym c.is_empty.ensures ∙ c.if-is_empty.true)
 
 pub returns-then-is_empty-clause-text : goal.returns-then-is_empty-clause-text
 returns-then-is_empty-clause-text c = λ lines.
     run_nothing c.args.marking.now c.args.last.now c.args.now.now c.args.run.now c.args.out.now.items (sym c.is_empty.ensures ∙ c.if-is_empty.true)
-
-pub returns-clause-looks : goal.returns-clause-looks
-returns-clause-looks c = on_ok_weaker c.append_ascii.result
-    (λ e. sym (run_some c.args.last.now c.args.now.now c.args.run.now (sym c.is_empty.ensures ∙ c.if-is_empty.false)))
-    c.append_ascii.ensures
 
 pub returns-clause-text : goal.returns-clause-text
 returns-clause-text c =

@@ -1,8 +1,7 @@
 use Rattle.std.proofs.Common.{◌≡◌, ◌∙◌, [], true, refl, sym, append-nil, rules, subst, arith}
 use Rattle.csicodec_html.specs.Turns.{AreTurns}
 use Rattle.csicodec_html.proofs.Recalled.{same_look}
-use Rattle.csicodec_overwrite.specs.declared.front.LineFront.{LineFront}
-use Rattle.csicodec_overwrite.specs.Turned.{Turned}
+use Rattle.csicodec_overwrite.specs.{declared.front.LineFront.LineFront, Turned.Turned}
 use Rattle.csicodec_overwrite.proofs.Fronts.{first_written, front_none, styled_written}
 use Rattle.csicodec_overwrite.proofs.Straight.{split_line}
 use Rattle.csicodec_overwrite.proofs.front.append_shown.Goals as goal

@@ -1,9 +1,6 @@
 use Rattle.std.proofs.Common.{◌≡◌, ◌-◌, ◌/◌, true, length}
 use Rattle.csicodec_html.specs.Turns.{AreTurns}
-use Rattle.csicodec_overwrite.specs.Private.Front.{IsWritten}
-use Rattle.csicodec_overwrite.specs.Turned.{Turned}
-use Rattle.csicodec_overwrite.specs.Reading.{most}
-use Rattle.csicodec_overwrite.specs.Stream.{none_held}
+use Rattle.csicodec_overwrite.specs.{Private.Front.IsWritten, Turned.Turned, Reading.most, Stream.none_held}
 use Rattle.csicodec_overwrite.proofs.front.append_shown.Given as goal
 
 -- a front is written

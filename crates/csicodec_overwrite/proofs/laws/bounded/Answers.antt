@@ -1,6 +1,5 @@
 use Rattle.std.proofs.Common.{arith}
-use Rattle.csicodec_overwrite.specs.Line.{blank}
-use Rattle.csicodec_overwrite.specs.Reading.{most}
+use Rattle.csicodec_overwrite.specs.{Line.blank, Reading.most}
 use Rattle.csicodec_overwrite.proofs.Room.{all_size}
 use Rattle.csicodec_overwrite.proofs.laws.bounded.Goals as goal
 

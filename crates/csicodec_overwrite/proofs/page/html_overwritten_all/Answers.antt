@@ -1,11 +1,8 @@
 use Rattle.std.proofs.Common.{[], ◌++◌, refl, sym, subst, append-nil}
 use Rattle.std.proofs.lemmas.Result.{on_err_weaker, on_ok_weaker}
 use Rattle.csicodec_html.proofs.Paired.{is_page}
-use Rattle.csicodec_overwrite.specs.declared.marking.Marking.TheVariants.{Page}
-use Rattle.csicodec_overwrite.specs.Reading.{Paints}
-use Rattle.csicodec_overwrite.specs.Stream.{begun_as}
-use Rattle.csicodec_overwrite.proofs.Paged.{painted_page}
-use Rattle.csicodec_overwrite.proofs.Written.{begins, passes_none, transformed}
+use Rattle.csicodec_overwrite.specs.{declared.marking.Marking.TheVariants.Page, Reading.Paints, Stream.begun_as}
+use Rattle.csicodec_overwrite.proofs.{Paged.painted_page, Written.begins, Written.passes_none, Written.transformed}
 use Rattle.csicodec_overwrite.proofs.page.html_overwritten_all.Goals as goal
 
 pub transform_all-requires-clause-begun : goal.transform_all-requires-clause-begun
@@ -18,9 +15,6 @@ returns-clause-ok g c = on_ok_weaker c.transform_all.result
     let (painted, paints, made) = painted_page m bytes page (transformed (Page m) bytes page whole) in
     (bytes, painted, page, consumed, paints, made, is_page m painted page made, appended))
     (rw c.writing-pages.ensures at c.transform_all.ensures.ok)
-
-pub returns-clause-end : goal.returns-clause-end
-returns-clause-end g c = on_ok_weaker c.transform_all.result (λ (bytes, page, consumed, end, whole, appended). end) c.transform_all.ensures.ok
 
 pub returns-clause-front : goal.returns-clause-front
 returns-clause-front g c = on_err_weaker c.transform_all.result

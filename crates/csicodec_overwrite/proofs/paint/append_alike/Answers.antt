@@ -1,6 +1,5 @@
-use Rattle.std.proofs.Common.{◌≡◌, ◌-◌, ◌++◌, [], ◌∙◌, List, ℕ, ap, append-nil, arith, length, refl, replicate, sym, true, false}
-use Rattle.csicodec_overwrite.specs.Cells.{chars_of}
-use Rattle.csicodec_overwrite.specs.Paint.{written}
+use Rattle.std.proofs.Common.{◌≡◌, ◌-◌, ◌++◌, ◌∙◌, arith, length, refl, replicate, sym, true, false}
+use Rattle.csicodec_overwrite.specs.{Cells.chars_of, Paint.written}
 use Rattle.csicodec_overwrite.proofs.Painted.{blanks_alike}
 use Rattle.csicodec_overwrite.proofs.paint.append_alike.Goals as goal
 
@@ -13,13 +12,4 @@ returns-then-is_empty-clause-text c =
       written marking (chars_of cell ++ replicate n 32),
       (n, c.behind_empty-rest.ensures.split, (λ e. let clash : true ≡ false = sym empty ∙ e in cc), refl),
       blanks_alike marking cell _ n c.args.out.now.items c.append_blanks.new.out.items empty (grind arith) c.in_ok-append_blanks.ensures,
-    )
-
-pub returns-clause-text : goal.returns-clause-text
-returns-clause-text c =
-    let marking = c.args.marking.now in
-    let chars = chars_of c.args.cell in (
-      written marking (chars ++ []),
-      (0, refl, (λ e. refl), refl),
-      c.in_ok-append_cell.ensures ∙ ap (λ (t : List ℕ). c.args.out.now.items ++ written marking t) (sym (append-nil chars)),
     )

@@ -1,11 +1,9 @@
 use Rattle.std.proofs.Common.{◌≡◌, ◌++◌, ◌∙◌, List, ℕ, [], ◌∷◌, ⊎_elim, ap, encode_utf8_all, sym}
-use Rattle.std.specs.List.{AllByRecursion}
 use Rattle.std.proofs.lemmas.Result.{on_ok_weaker}
-use Rattle.csicodec_clean.specs.Bytes.{IsPlainByte}
-use Rattle.csicodec_clean.specs.Shown.{IsShown}
+use Rattle.std.specs.List.{AllByRecursion}
+use Rattle.csicodec_clean.specs.{Bytes.IsPlainByte, Shown.IsShown}
 use Rattle.csicodec_clean.proofs.Told.{encoded, is_shown}
-use Rattle.csicodec_overwrite.specs.declared.marking.Marking.{Marking}
-use Rattle.csicodec_overwrite.specs.declared.marking.Marking.TheVariants.{Plain, Styled}
+use Rattle.csicodec_overwrite.specs.declared.marking.Marking.{Marking, TheVariants.Plain, TheVariants.Styled}
 use Rattle.csicodec_overwrite.specs.Paint.{written}
 use Rattle.csicodec_overwrite.proofs.paint.append_ascii.Goals as goal
 

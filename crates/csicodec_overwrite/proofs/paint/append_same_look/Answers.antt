@@ -1,12 +1,7 @@
-use Rattle.std.proofs.Common.{[], ◌++◌, ap, append-nil, arith, length, refl, rules, sym, ◌∙◌}
-use Rattle.csicodec_overwrite.specs.Cells.{chars_of}
-use Rattle.csicodec_overwrite.specs.Paint.{look_of, written}
-use Rattle.csicodec_overwrite.proofs.Alike.{nothing_written}
-use Rattle.csicodec_overwrite.proofs.Painted.{same_look, same_on}
+use Rattle.std.proofs.Common.{◌++◌, ap, arith, length, rules, sym, ◌∙◌}
+use Rattle.csicodec_overwrite.specs.{Cells.chars_of, Paint.look_of, Paint.written}
+use Rattle.csicodec_overwrite.proofs.{Alike.nothing_written, Painted.same_look, Painted.same_on}
 use Rattle.csicodec_overwrite.proofs.paint.append_same_look.Goals as goal
-
-pub loop-cell-init : goal.loop-cell-init
-loop-cell-init c = record { some = ([], refl, sym (append-nil c.args.out.now.items)); fewer = omega arith }
 
 pub loop-cell-preserved-in_ok-append_written-in-Char : goal.loop-cell-preserved-in_ok-append_written-in-Char
 loop-cell-preserved-in_ok-append_written-in-Char c =

@@ -1,12 +1,9 @@
-use Rattle.std.proofs.Common.{◌++◌, ◌∷◌, [], take, drop, refl, sym, ap, subst, ◌∙◌, append_assoc, append-nil, take-append-drop}
+use Rattle.std.proofs.Common.{◌++◌, ◌∷◌, [], take, drop, sym, ap, subst, ◌∙◌, append_assoc, take-append-drop}
 use Rattle.csicodec_clean.specs.Shown.{IsRead}
-use Rattle.csicodec_clean.proofs.Sure.{cut_short, read_none, read_on}
+use Rattle.csicodec_clean.proofs.Sure.{cut_short, read_on}
 use Rattle.csicodec_overwrite.specs.Steps.{of_char}
 use Rattle.csicodec_overwrite.proofs.Chars.{one_on}
 use Rattle.csicodec_overwrite.proofs.text.append_sure.Goals as goal
-
-pub loop-char-init : goal.loop-char-init
-loop-char-init c = record { parts = ([], refl); chars = ([], read_none c.args.bytes.now, sym (append-nil c.args.steps.now.items)) }
 
 pub loop-char-preserved : goal.loop-char-preserved
 loop-char-preserved c =

@@ -1,6 +1,5 @@
 use Rattle.std.proofs.Common.{◌≡◌, ◌++◌, ◌+◌, ◌∙◌, List, ap, arith, drop, reverse}
-use Rattle.csicodec_overwrite.specs.declared.cells.Cell.{Cell}
-use Rattle.csicodec_overwrite.specs.Cells.{columns}
+use Rattle.csicodec_overwrite.specs.{declared.cells.Cell.Cell, Cells.columns}
 use Rattle.csicodec_overwrite.proofs.Moved.{columns_back, columns_split, far_is, given_more, near_is, side_columns}
 use Rattle.csicodec_overwrite.proofs.cells.Side.give.Goals as goal
 

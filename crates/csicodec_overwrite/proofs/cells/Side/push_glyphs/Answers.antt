@@ -1,7 +1,6 @@
 use Rattle.std.proofs.Common.{◌≡◌, ◌∙◌, List, ap, rules, subst, sym}
 use Rattle.std.specs.Prelude.{OnOk}
-use Rattle.csicodec_overwrite.specs.declared.cells.Cell.{Cell}
-use Rattle.csicodec_overwrite.specs.Private.Sides.{put_many}
+use Rattle.csicodec_overwrite.specs.{declared.cells.Cell.Cell, Private.Sides.put_many}
 use Rattle.csicodec_overwrite.proofs.Repeated.{many_single}
 use Rattle.csicodec_overwrite.proofs.cells.Side.push_glyphs.Goals as goal
 

@@ -1,7 +1,5 @@
 use Rattle.std.proofs.Common.{◌≡◌, ◌++◌, ◌∙◌, List, ap, arith}
-use Rattle.csicodec_overwrite.specs.declared.cells.Cell.{Cell}
-use Rattle.csicodec_overwrite.specs.Cells.{onto}
-use Rattle.csicodec_overwrite.specs.Private.Plain.{glyphs}
+use Rattle.csicodec_overwrite.specs.{declared.cells.Cell.Cell, Cells.onto, Private.Plain.glyphs}
 use Rattle.csicodec_overwrite.proofs.Moved.{columns_glyphs, side_columns, side_more}
 use Rattle.csicodec_overwrite.proofs.cells.Side.push_run.Goals as goal
 

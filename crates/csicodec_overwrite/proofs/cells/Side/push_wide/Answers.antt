@@ -1,7 +1,5 @@
 use Rattle.std.proofs.Common.{◌≡◌, ◌+◌, ◌*◌, ◌∙◌, List, ap, arith, reverse}
-use Rattle.csicodec_overwrite.specs.declared.cells.Cell.{Cell}
-use Rattle.csicodec_overwrite.specs.Cells.{columns}
-use Rattle.csicodec_overwrite.specs.Private.Sides.{put_many}
+use Rattle.csicodec_overwrite.specs.{declared.cells.Cell.Cell, Cells.columns, Private.Sides.put_many}
 use Rattle.csicodec_overwrite.proofs.Repeated.{many_wide}
 use Rattle.csicodec_overwrite.proofs.cells.Side.push_wide.Goals as goal
 
@@ -12,8 +10,3 @@ invariant_of-self-2 c =
     let wide : c.in-Some-checked_add.width ≡ c.self.inside.width + n * 2 = grind arith in
     let is = c.append_wide.ensures ∙ ap (λ (t : List Cell). put_many c.args.glyph 2 n (reverse t)) c.in_ok-reserve.ensures.items in
     omega (arith, wide, c.self.invariant, ap columns is, many_wide c.args.glyph n (reverse items))
-
-pub returns : goal.returns
-returns c =
-    c.append_wide.ensures ∙ ap (λ (t : List Cell). put_many c.args.glyph 2 c.args.count (reverse t)) c.in_ok-reserve.ensures.items
-    ∙ ap (put_many c.args.glyph 2 c.args.count) c.self.view_is

@@ -1,9 +1,6 @@
 use Rattle.std.proofs.Common.{◌≡◌, ◌-◌, ◌∙◌, ap, rules, subst}
 use Rattle.std.specs.Prelude.{OnOk}
-use Rattle.csicodec_overwrite.specs.declared.line.Line.{Line}
-use Rattle.csicodec_overwrite.specs.Cells.{columns}
-use Rattle.csicodec_overwrite.specs.Line.{forward, line}
-use Rattle.csicodec_overwrite.specs.Private.Row.{back}
+use Rattle.csicodec_overwrite.specs.{declared.line.Line.Line, Cells.columns, Line.forward, Line.line, Private.Row.back}
 use Rattle.csicodec_overwrite.specs.Reading.{most}
 use Rattle.csicodec_overwrite.proofs.Moved.{by_back}
 use Rattle.csicodec_overwrite.proofs.line.Line.behind_columns.Goals as goal

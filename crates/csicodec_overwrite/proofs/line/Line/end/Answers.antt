@@ -1,5 +1,4 @@
-use Rattle.csicodec_overwrite.specs.Line.{cells_of}
-use Rattle.csicodec_overwrite.specs.Paint.{text_of}
+use Rattle.csicodec_overwrite.specs.{Line.cells_of, Paint.text_of}
 use Rattle.csicodec_overwrite.proofs.Moved.{line_ends}
 use Rattle.csicodec_overwrite.proofs.line.Line.end.Goals as goal
 

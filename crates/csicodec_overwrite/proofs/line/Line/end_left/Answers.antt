@@ -1,6 +1,5 @@
 use Rattle.std.proofs.Common.{[]}
-use Rattle.csicodec_overwrite.specs.Cells.{onto}
-use Rattle.csicodec_overwrite.specs.Paint.{text_of}
+use Rattle.csicodec_overwrite.specs.{Cells.onto, Paint.text_of}
 use Rattle.csicodec_overwrite.proofs.Moved.{line_ends}
 use Rattle.csicodec_overwrite.proofs.line.Line.end_left.Goals as goal
 

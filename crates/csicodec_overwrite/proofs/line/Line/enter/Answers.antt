@@ -1,12 +1,8 @@
 use Rattle.std.proofs.Common.{[], ◌∷◌, ◌++◌, ◌≡◌, ◌∙◌, List, ap, cond, rules, subst, sym, true}
-use Rattle.std.specs.List.{list_all}
-use Rattle.std.specs.Prelude.{nat_lt}
+use Rattle.std.specs.{List.list_all, Prelude.nat_lt}
 use Rattle.csicodec_overwrite.specs.declared.cells.Cell.{Cell}
-use Rattle.csicodec_overwrite.specs.Cells.{is_blank, onto}
-use Rattle.csicodec_overwrite.specs.Line.{Done, alters, lines_of, widest, size}
-use Rattle.csicodec_overwrite.specs.Paint.{texts_of}
-use Rattle.csicodec_overwrite.specs.Private.Row.{Does, settled}
-use Rattle.csicodec_overwrite.specs.Reading.{most}
+use Rattle.csicodec_overwrite.specs.{Cells.is_blank, Cells.onto, Private.Row.Does, Private.Row.settled, Reading.most}
+use Rattle.csicodec_overwrite.specs.{Line.Done, Line.alters, Line.lines_of, Line.widest, Line.size, Paint.texts_of}
 use Rattle.csicodec_overwrite.proofs.Rows.{entered_long, standing_row}
 use Rattle.csicodec_overwrite.proofs.line.Line.enter.Goals as goal
 

@@ -1,7 +1,5 @@
 use Rattle.std.proofs.Common.{◌<◌, ◌≤◌, ◌-◌, ◌∙◌, ap, length, nat_lt, rules, sym}
-use Rattle.csicodec_overwrite.specs.Cells.{columns}
-use Rattle.csicodec_overwrite.specs.Private.Row.{settled}
-use Rattle.csicodec_overwrite.specs.Reading.{most}
+use Rattle.csicodec_overwrite.specs.{Cells.columns, Private.Row.settled, Reading.most}
 use Rattle.csicodec_overwrite.proofs.Rows.{right_far, right_near}
 use Rattle.csicodec_overwrite.proofs.line.Line.has_right.Goals as goal
 

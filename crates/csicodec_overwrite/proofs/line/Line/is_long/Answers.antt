@@ -1,9 +1,6 @@
 use Rattle.std.proofs.Common.{◌≡◌, ◌+◌, ◌-◌, ◌∙◌, ap, arith, length, min, rules, sym}
 use Rattle.std.specs.Prelude.{nat_lt}
-use Rattle.csicodec_overwrite.specs.Cells.{columns}
-use Rattle.csicodec_overwrite.specs.Line.{size}
-use Rattle.csicodec_overwrite.specs.Private.Row.{settled}
-use Rattle.csicodec_overwrite.specs.Reading.{most}
+use Rattle.csicodec_overwrite.specs.{Cells.columns, Line.size, Private.Row.settled, Reading.most}
 use Rattle.csicodec_overwrite.proofs.Rows.{long_same, settled_size}
 use Rattle.csicodec_overwrite.proofs.line.Line.is_long.Goals as goal
 

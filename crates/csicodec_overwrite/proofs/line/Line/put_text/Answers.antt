@@ -1,22 +1,9 @@
 use Rattle.std.proofs.Common.{◌≡◌, ◌++◌, ◌∷◌, ap, sym, ◌∙◌}
-use Rattle.csicodec_overwrite.specs.declared.line.Line.{Line}
-use Rattle.csicodec_overwrite.specs.Cells.{columns}
+use Rattle.csicodec_overwrite.specs.{declared.line.Line.Line, Cells.columns, Paint.texts_of, Steps.of_chars}
 use Rattle.csicodec_overwrite.specs.Line.{Done, do_all, does, does_here, entered, pen_behind}
-use Rattle.csicodec_overwrite.specs.Paint.{texts_of}
-use Rattle.csicodec_overwrite.specs.Steps.{of_chars}
 use Rattle.csicodec_overwrite.specs.Reading.{most}
 use Rattle.csicodec_overwrite.proofs.Moved.{both_texts, step_text}
 use Rattle.csicodec_overwrite.proofs.line.Line.put_text.Goals as goal
-
-pub loop-byte-init : goal.loop-byte-init
-loop-byte-init c =
-    let run = c.in_ok-rest.ensures in
-    record {
-      plain = run.plain;
-      line = ap (λ (d : Done). d.line) (sym run.same);
-      pen = sym run.pens;
-      text = ap (λ (d : Done). c.args.out.now.items ++ texts_of c.args.marking.now d.lines) (sym run.same);
-    }
 
 pub loop-byte-preserved : goal.loop-byte-preserved
 loop-byte-preserved c =

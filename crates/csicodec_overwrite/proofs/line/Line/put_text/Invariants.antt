@@ -1,10 +1,7 @@
 use Rattle.std.proofs.Common.{◌≡◌, ◌++◌, length}
 use Rattle.std.specs.List.{AllByRecursion}
-use Rattle.csicodec_overwrite.specs.Line.{do_all, pen_behind_all}
-use Rattle.csicodec_overwrite.specs.Paint.{texts_of}
-use Rattle.csicodec_overwrite.specs.Steps.{of_chars}
-use Rattle.csicodec_overwrite.specs.Private.Plain.{IsLineByte}
-use Rattle.csicodec_overwrite.specs.Reading.{most}
+use Rattle.csicodec_overwrite.specs.{Line.do_all, Line.pen_behind_all, Paint.texts_of, Private.Plain.IsLineByte}
+use Rattle.csicodec_overwrite.specs.{Steps.of_chars, Reading.most}
 use Rattle.csicodec_overwrite.proofs.line.Line.put_text.Given as goal
 
 -- the characters up to here are put

@@ -1,7 +1,5 @@
 use Rattle.std.proofs.Common.{◌≡◌, ◌-◌, arith, rules}
-use Rattle.csicodec_overwrite.specs.Cells.{columns}
-use Rattle.csicodec_overwrite.specs.Line.{size}
-use Rattle.csicodec_overwrite.specs.Reading.{most}
+use Rattle.csicodec_overwrite.specs.{Cells.columns, Line.size, Reading.most}
 use Rattle.csicodec_overwrite.proofs.Rows.{reached}
 use Rattle.csicodec_overwrite.proofs.line.Line.reached.Goals as goal
 

@@ -1,8 +1,5 @@
 use Rattle.std.proofs.Common.{◌≡◌, ◌++◌}
-use Rattle.csicodec_overwrite.specs.Cells.{glyph}
-use Rattle.csicodec_overwrite.specs.Line.{repeat}
-use Rattle.csicodec_overwrite.specs.Paint.{texts_of}
-use Rattle.csicodec_overwrite.specs.Reading.{most}
+use Rattle.csicodec_overwrite.specs.{Cells.glyph, Line.repeat, Paint.texts_of, Reading.most}
 use Rattle.csicodec_overwrite.proofs.line.Line.repeat.Given as goal
 
 -- it is put some times

@@ -1,6 +1,5 @@
 use Rattle.std.proofs.Common.{refl}
-use Rattle.csicodec_overwrite.specs.Line.{cells_of}
-use Rattle.csicodec_overwrite.specs.Paint.{ended}
+use Rattle.csicodec_overwrite.specs.{Line.cells_of, Paint.ended}
 use Rattle.csicodec_overwrite.proofs.Ends.{end_passes}
 use Rattle.csicodec_overwrite.proofs.overwriter.Overwriter.take_end.Goals as goal
 
@@ -15,6 +14,3 @@ returns-clause-passes c =
           c.in_ok-end.ensures.none c.take.ensures,
       c.in_ok-end.ensures.text,
     )
-
-pub returns-clause-reader : goal.returns-clause-reader
-returns-clause-reader c = rw (← c.self.view_is) at c.requires

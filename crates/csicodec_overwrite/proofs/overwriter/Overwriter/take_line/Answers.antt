@@ -1,8 +1,6 @@
-use Rattle.std.proofs.Common.{◌≡◌, ◌++◌, ◌∷◌, ℕ, [], length, take, refl, rules, sym, ap, ◌∙◌, append_assoc}
-use Rattle.std.proofs.Math.Seq.{take-append_seam}
+use Rattle.std.proofs.Common.{◌++◌, ◌∷◌, [], take, refl, sym, ap, ◌∙◌, append_assoc}
 use Rattle.csicodec_html.specs.Look.{plain}
-use Rattle.csicodec_overwrite.specs.Paint.{turn}
-use Rattle.csicodec_overwrite.specs.Private.Plain.{end_of}
+use Rattle.csicodec_overwrite.specs.{Paint.turn, Private.Plain.end_of}
 use Rattle.csicodec_overwrite.proofs.Fronts.{line_passes}
 use Rattle.csicodec_overwrite.proofs.overwriter.Overwriter.take_line.Goals as goal
 
@@ -28,14 +26,4 @@ returns-clause-passes c =
           (c.in_ok-append_turn.ensures ∙ ap (λ l. c.append_front.new.out.items ++ turn marking line.last l) c.plain.ensures
           ∙ ap (λ t. t ++ end) out)
           ∙ append_assoc (before ++ text) end (10 ∷ []) ∙ append_assoc before text (end ++ 10 ∷ []),
-    )
-
-pub returns-in_default-clause-none : goal.returns-in_default-clause-none
-returns-in_default-clause-none c =
-    let (front, text, split, f, out) = c.in_ok-front.ensures.written in
-    let before = c.args.out.now.items in
-    let all : c.len-before.result ≡ length before = search rules in (
-      c.self.view_is ∙ c.in_ok-front.ensures.same,
-      c.truncate.ensures.items ∙ ap (λ (n : ℕ). take n c.append_front.new.out.items) all ∙ ap (take (length before)) out
-          ∙ take-append_seam before text,
     )

@@ -2,8 +2,7 @@ use Rattle.std.proofs.Common.{[], ◌∷◌, refl, sym, append-nil}
 use Rattle.csicodec_clean.specs.Bytes.{IsPlainByte}
 use Rattle.csicodec_clean.proofs.PlainBytes.{all_both}
 use Rattle.csicodec_overwrite.specs.Paint.{written}
-use Rattle.csicodec_overwrite.proofs.Fronts.{lines_pass}
-use Rattle.csicodec_overwrite.proofs.Written.{passes_none}
+use Rattle.csicodec_overwrite.proofs.{Fronts.lines_pass, Written.passes_none}
 use Rattle.csicodec_overwrite.proofs.overwriter.Overwriter.take_lines.Goals as goal
 
 pub returns-clause-passes : goal.returns-clause-passes

@@ -1,6 +1,5 @@
 use Rattle.std.proofs.Common.{◌≡◌, length}
-use Rattle.csicodec_overwrite.specs.Private.Seen.{PassesFront}
-use Rattle.csicodec_overwrite.specs.Stream.{none_held}
+use Rattle.csicodec_overwrite.specs.{Private.Seen.PassesFront, Stream.none_held}
 use Rattle.csicodec_overwrite.proofs.overwriter.Overwriter.take_pieces.Given as goal
 
 -- some bytes have passed

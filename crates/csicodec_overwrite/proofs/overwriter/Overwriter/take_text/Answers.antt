@@ -24,6 +24,3 @@ returns-clause-passes c =
     c.put_text.new.out.items (rw bare (reads_plain text (lines_plain text plain))) c.in_ok-put_text.ensures.pen refl c.in_ok-put_text.ensures.line
     c.in_ok-put_text.ensures.text in
     rw (← c.self.view_is) (text, more, parts, passes, out)
-
-pub returns-clause-reader : goal.returns-clause-reader
-returns-clause-reader c = rw (← c.self.view_is) at c.requires

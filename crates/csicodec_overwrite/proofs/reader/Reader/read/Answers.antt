@@ -1,4 +1,4 @@
-use Rattle.std.proofs.Common.{◌≡◌, [], ◌-◌, ◌∙◌, sym, drop, length, append-nil, arith}
+use Rattle.std.proofs.Common.{◌≡◌, [], ◌-◌, ◌∙◌, sym, append-nil, arith}
 use Rattle.std.proofs.lemmas.Grind.{common_steps}
 use Rattle.csicodec_spans.proofs.Spanned.{rest_is}
 use Rattle.csicodec_overwrite.proofs.Read.{reads_from, reads_nothing}
@@ -13,14 +13,6 @@ returns-in_default-clause-reads c =
           (reads_nothing (record { mode = now.waiting.mode; titled = now.titled; bytes = now.waiting.bytes; held = now.held.items }) c.args.bytes.now (rw c.self.invariant.0 at unsure)),
       sym (append-nil c.args.steps.now.items),
     )
-
-pub keep-requires-clause-unsure : goal.keep-requires-clause-unsure
-keep-requires-clause-unsure c =
-    let (taken, whole) = rw c.in-Some.is at c.in_ok-all.ensures.all in
-    let rest = c.in_ok-rest.rest.now in
-    let kept = rest_is c.deref.result.now c.in_ok-rest.ensures.parts.0 rest c.in_ok-rest.ensures.parts.1 in
-    let same : drop (c.len.result - length rest) c.in-Some.all.items ≡ rest = grind (arith, common_steps, c.deref.ensures.value, c.len.ensures, kept) in
-    rw (same, taken, c.self.invariant.0) c.in_ok-rest.ensures.unsure
 
 pub returns-clause-reads : goal.returns-clause-reads
 returns-clause-reads c =

@@ -1,6 +1,5 @@
 use Rattle.std.proofs.Common.{◌≡◌, ◌+◌, arith}
-use Rattle.csicodec_overwrite.specs.Cells.{columns}
-use Rattle.csicodec_overwrite.specs.Reading.{most}
+use Rattle.csicodec_overwrite.specs.{Cells.columns, Reading.most}
 use Rattle.csicodec_overwrite.proofs.Rows.{ahead}
 use Rattle.csicodec_overwrite.proofs.row.Row.forward.Goals as goal
 

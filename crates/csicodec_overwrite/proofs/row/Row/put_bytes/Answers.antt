@@ -1,8 +1,6 @@
 use Rattle.std.proofs.Common.{◌≡◌, ◌++◌, ◌∷◌, ap, ◌∙◌}
-use Rattle.csicodec_overwrite.specs.Cells.{columns}
-use Rattle.csicodec_overwrite.specs.Line.{do_all, does, pen_behind}
+use Rattle.csicodec_overwrite.specs.{Cells.columns, Line.do_all, Line.does, Line.pen_behind, Steps.of_chars}
 use Rattle.csicodec_overwrite.specs.Reading.{most}
-use Rattle.csicodec_overwrite.specs.Steps.{of_chars}
 use Rattle.csicodec_overwrite.proofs.Moved.{step_text}
 use Rattle.csicodec_overwrite.proofs.row.Row.put_bytes.Goals as goal
 

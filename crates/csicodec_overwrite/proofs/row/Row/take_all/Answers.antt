@@ -1,6 +1,4 @@
-use Rattle.csicodec_overwrite.specs.Cells.{columns}
-use Rattle.csicodec_overwrite.specs.Line.{do_all, does, pen_behind}
-use Rattle.csicodec_overwrite.specs.Reading.{most}
+use Rattle.csicodec_overwrite.specs.{Cells.columns, Line.do_all, Line.does, Line.pen_behind, Reading.most}
 use Rattle.csicodec_overwrite.proofs.Moved.{step_text}
 use Rattle.csicodec_overwrite.proofs.row.Row.take_all.Goals as goal
 

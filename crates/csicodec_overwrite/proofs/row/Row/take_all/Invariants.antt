@@ -1,7 +1,5 @@
 use Rattle.std.proofs.Common.{◌≡◌, ◌++◌, length}
-use Rattle.csicodec_overwrite.specs.Line.{do_all, pen_behind_all}
-use Rattle.csicodec_overwrite.specs.Paint.{texts_of}
-use Rattle.csicodec_overwrite.specs.Reading.{most}
+use Rattle.csicodec_overwrite.specs.{Line.do_all, Line.pen_behind_all, Paint.texts_of, Reading.most}
 use Rattle.csicodec_overwrite.proofs.row.Row.take_all.Given as goal
 
 -- the steps up to here are done

@@ -1,7 +1,6 @@
 use Rattle.std.proofs.Common.{◌≡◌, ◌<◌, length, rules, sym, subst, arith}
 use Rattle.std.proofs.lemmas.List.Elements.{All-get_or}
-use Rattle.csicodec_overwrite.specs.Stream.{Reads, none_held}
-use Rattle.csicodec_overwrite.specs.Private.Seen.{IsSlice}
+use Rattle.csicodec_overwrite.specs.{Stream.Reads, Stream.none_held, Private.Seen.IsSlice}
 use Rattle.csicodec_overwrite.proofs.seen.Seen.recall.Goals as goal
 
 pub returns : goal.returns

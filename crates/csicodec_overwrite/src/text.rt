@@ -362,7 +362,6 @@ fn append_sure<'a>(bytes: &'a [u8], steps: &mut Vec<Step>) -> Result<&'a [u8], A
 }
 
 /// Appends the steps of a run of text that is over.
-#[tactic(auto, using(crate::proofs::Chars::run_all, crate::proofs::Chars::run_cut))]
 pub(crate) fn append_run(bytes: &[u8], steps: &mut Vec<Step>) -> Result<(), AllocError>
     ensures { OnOk result (steps.new.items ≡ steps.old.items ++ of_run bytes.now) }
 {

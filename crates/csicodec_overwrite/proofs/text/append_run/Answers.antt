@@ -1,0 +1,18 @@
+use Rattle.std.proofs.Common.{◌≡◌, ◌<◌, length, rules}
+use Rattle.csicodec_clean.proofs.Sure.{cut_char}
+use Rattle.csicodec_overwrite.proofs.Chars.{run_all, run_cut}
+use Rattle.csicodec_overwrite.proofs.text.append_run.Goals as goal
+
+pub returns-in_ok-append_char : goal.returns-in_ok-append_char
+returns-in_ok-append_char c =
+    let (chars, read, out) = c.in_ok-rest.ensures.chars in
+    let rest = c.in_ok-rest.rest.now in
+    let some : 0 < length rest = search rules in
+    run_cut c.args.bytes.now chars rest c.args.steps.now.items _ _ read (cut_char rest some c.in_ok-rest.ensures.cut) out c.in_ok-append_char.ensures
+
+pub returns-else-not-is_empty : goal.returns-else-not-is_empty
+returns-else-not-is_empty c =
+    let (chars, read, out) = c.in_ok-rest.ensures.chars in
+    let rest = c.in_ok-rest.rest.now in
+    let none : length rest ≡ 0 = search rules in
+    run_all c.args.bytes.now chars rest c.args.steps.now.items _ read none out

@@ -42,12 +42,6 @@ pub struct Remembered {
     new: usize,
 }
 
-/// What stands behind these bytes.
-#[inline(never)]
-fn without_front<'a>(kept: &'a [u8], bytes: &[u8]) -> Option<&'a [u8]> {
-    kept.strip_prefix(bytes)
-}
-
 impl Remembered {
     /// Nothing came before.
     pub fn new(alloc: Global) -> Remembered {
@@ -87,9 +81,10 @@ impl Remembered {
         self.new >= MANY && self.new % EACH > 0
     }
 
-    /// What was told of this sequence, behind its place, and how many actions it has, if it is looked for.
+    /// Between which places of what is kept stands what was told of this sequence, behind its place, and how many actions it has, if it is
+    /// looked for.
     #[inline(always)]
-    pub fn recall(&mut self, span: Keyed<'_>) -> Option<(&[u8], u64)> {
+    pub fn recall(&mut self, span: Keyed<'_>) -> Option<(usize, usize, u64)> {
         if self.passes_over() {
             return None;
         }
@@ -99,13 +94,18 @@ impl Remembered {
             return None;
         }
         self.new = 0;
-        let kept = self.kept.get(slot.begin..slot.end)?;
-        let told = if span.is_whole() {
-            kept
-        } else {
-            without_front(kept, span.bytes)?
-        };
-        Some((told, slot.actions))
+        if span.is_whole() {
+            return Some((slot.begin, slot.end, slot.actions));
+        }
+        let begin = slot.begin.saturating_add(span.bytes.len());
+        let is_same = self.told(slot.begin, slot.end).starts_with(span.bytes);
+        is_same.then_some((begin, slot.end, slot.actions))
+    }
+
+    /// What is kept between these places.
+    #[inline(always)]
+    pub fn told(&self, begin: usize, end: usize) -> &[u8] {
+        self.kept.get(begin..end).unwrap_or(&[])
     }
 
     /// Keeps what was told of a sequence that `recall` didn't find.

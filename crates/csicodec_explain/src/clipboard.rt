@@ -12,10 +12,8 @@ fn clipboard_text(string: &[u8]) -> Option<&[u8]> {
     let rest = string.strip_prefix(b"\x1b]52;".as_slice())?;
     let at = memchr(b';', rest)?;
     let text = rest.get(at.saturating_add(1)..)?;
-    match text.strip_suffix(b"\x07".as_slice()) {
-        Some(text) => Some(text),
-        None => text.strip_suffix(b"\x1b\\".as_slice()),
-    }
+    let closed = text.strip_suffix(b"\x07".as_slice());
+    closed.or(text.strip_suffix(b"\x1b\\".as_slice()))
 }
 
 /// The bytes that a string puts into the clipboard; none where it isn't an OSC 52 that does.

@@ -4,23 +4,15 @@
 use crate::digits::{words_of_color, words_of_place};
 use std::alloc::AllocError;
 
-/// The words of an action, with digits of its sequence.
+/// The words of an action, with digits of its sequence: a line and a column, or the parts of a true colour.
 #[derive(Clone, Copy)]
-pub enum Copied<'a> {
-    /// A line and a column, with what stands ahead of each.
-    Place {
-        ahead: &'static str,
-        line: &'a [u8],
-        between: &'static str,
-        column: &'a [u8],
-    },
-    /// The parts of a true colour, with what stands ahead.
-    Color {
-        ahead: &'static str,
-        red: &'a [u8],
-        green: &'a [u8],
-        blue: &'a [u8],
-    },
+pub struct Copied<'a> {
+    ahead: &'static str,
+    first: &'a [u8],
+    between: &'static str,
+    second: &'a [u8],
+    /// What stands behind these and a comma, if anything does.
+    third: &'a [u8],
 }
 
 impl<'a> Copied<'a> {
@@ -35,45 +27,21 @@ impl<'a> Copied<'a> {
 
     /// Appends the words.
     pub fn append_to(self, out: &mut Vec<u8>) -> Result<(), AllocError> {
-        match self {
-            Copied::Place {
-                ahead,
-                line,
-                between,
-                column,
-            } => {
-                out.extend_from_slice(ahead.as_bytes())?;
-                out.extend_from_slice(line)?;
-                out.extend_from_slice(between.as_bytes())?;
-                out.extend_from_slice(column)
-            }
-            Copied::Color {
-                ahead,
-                red,
-                green,
-                blue,
-            } => {
-                out.extend_from_slice(ahead.as_bytes())?;
-                out.extend_from_slice(red)?;
-                out.push(b',')?;
-                out.extend_from_slice(green)?;
-                out.push(b',')?;
-                out.extend_from_slice(blue)
-            }
+        out.extend_from_slice(self.ahead.as_bytes())?;
+        out.extend_from_slice(self.first)?;
+        out.extend_from_slice(self.between.as_bytes())?;
+        out.extend_from_slice(self.second)?;
+        if !self.third.is_empty() {
+            out.push(b',')?;
         }
+        out.extend_from_slice(self.third)
     }
 }
 
 /// The digits in front of a list, four at most, where their number is printed with the same, and what is behind them.
 fn digits_front(list: &[u8]) -> Option<(&[u8], &[u8])> {
-    let mut len = 0usize;
-    for byte in list {
-        if !byte.is_ascii_digit() {
-            break;
-        }
-        len = len.saturating_add(1);
-    }
-    let (digits, behind) = list.split_at_checked(len)?;
+    let len = list.iter().position(|byte| !byte.is_ascii_digit());
+    let (digits, behind) = list.split_at_checked(len.unwrap_or(list.len()))?;
     match digits {
         [] | [b'0', _, ..] | [_, _, _, _, _, ..] => None,
         _ => Some((digits, behind)),
@@ -96,11 +64,12 @@ fn place_of(list: &[u8], control: u8) -> Option<Copied<'_>> {
     let (column, behind) = digits_front(behind)?;
     match (line, column, behind) {
         ([b'0'], _, _) | (_, [b'0'], _) | (_, _, [_, ..]) => None,
-        _ => Some(Copied::Place {
+        _ => Some(Copied {
             ahead,
-            line,
+            first: line,
             between,
-            column,
+            second: column,
+            third: &[],
         }),
     }
 }
@@ -127,11 +96,12 @@ fn color_front(list: &[u8]) -> Option<(Copied<'_>, &[u8])> {
     if !is_part(red) || !is_part(green) || !is_part(blue) {
         return None;
     }
-    let words = Copied::Color {
+    let words = Copied {
         ahead,
-        red,
-        green,
-        blue,
+        first: red,
+        between: ",",
+        second: green,
+        third: blue,
     };
     Some((words, rest))
 }

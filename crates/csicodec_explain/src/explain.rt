@@ -2,10 +2,8 @@
 ghost use Rattle.std.specs.Prelude.{◌≤◌, IfOk, length};
 
 use crate::input::Sending;
-use crate::page::{Listing, Modes};
-use crate::stats::stats_of;
+use crate::page::Listing;
 use crate::style::Style;
-use csicodec_events::Dialect;
 use csicodec_spans::{Kind, LIMIT, Mode, next_span};
 use csicodec_streams::{CHUNK, RunError, keep_from, receive, send};
 use std::alloc::{AllocError, Global};
@@ -31,36 +29,16 @@ fn add_spans(page: &mut Listing<'_>, mode: Mode, bytes: &[u8]) -> Result<(usize,
         let Some(cut) = next_span(LIMIT, mode, rest) else {
             return Ok((bytes.len() - rest.len(), mode));
         };
-        let modes = Modes {
-            before: mode,
-            after: cut.mode,
-        };
-        page.add(modes, cut.span.kind, cut.span.bytes, !cut.rest.is_empty())?;
+        let more = !cut.rest.is_empty();
+        page.add((mode, cut.mode), cut.span.kind, cut.span.bytes, more)?;
         mode = cut.mode;
         rest = cut.rest;
-    }
-}
-
-/// Adds what is sure of these bytes, by the spans of a stream or the events of a dialect; how many bytes it has, and the mode behind it.
-fn add_sure(
-    page: &mut Listing<'_>,
-    sending: &mut Sending,
-    dialect: Option<Dialect>,
-    mode: Mode,
-    bytes: &[u8],
-) -> Result<(usize, Mode), AllocError>
-    ensures { IfOk result (λ (used, after). used ≤ length bytes.now) }
-{
-    match dialect {
-        Some(dialect) => sending.add(page, dialect, mode, bytes),
-        None => add_spans(page, mode, bytes),
     }
 }
 
 /// Streams one after the other, of which some has come. It holds what may go on: less than `LIMIT` bytes, or a span's first bytes.
 #[derive(Drop)]
 pub struct Explainer<'a> {
-    alloc: Global,
     style: Style<'a>,
     mode: Mode,
     pending: Vec<u8>,
@@ -72,7 +50,6 @@ impl<'a> Explainer<'a> {
     /// Nothing has come.
     pub fn new(alloc: Global, style: Style<'a>) -> Explainer<'a> {
         Explainer {
-            alloc,
             style,
             mode: Mode::Text,
             pending: Vec::new(alloc),
@@ -93,13 +70,11 @@ impl<'a> Explainer<'a> {
         }
         self.page.come_at(time, self.pending.is_empty());
         self.pending.extend_from_slice(bytes)?;
-        let (used, mode) = add_sure(
-            &mut self.page,
-            &mut self.sending,
-            self.style.dialect,
-            self.mode,
-            &self.pending,
-        )?;
+        let (page, bytes) = (&mut self.page, self.pending.as_slice());
+        let (used, mode) = match self.style.dialect {
+            Some(dialect) => self.sending.add(page, dialect, self.mode, bytes)?,
+            None => add_spans(page, self.mode, bytes)?,
+        };
         self.mode = mode;
         keep_from(&mut self.pending, used);
         Ok(())
@@ -107,10 +82,8 @@ impl<'a> Explainer<'a> {
 
     /// Nothing came in time: an ESC that waits is a key of its own.
     fn pause(&mut self) -> Result<(), AllocError> {
-        if self
-            .sending
-            .pause(&mut self.page, self.mode, &self.pending)?
-        {
+        let (page, bytes) = (&mut self.page, self.pending.as_slice());
+        if self.sending.pause(page, self.mode, bytes)? {
             self.pending.clear();
             self.mode = Mode::Text;
         }
@@ -122,10 +95,7 @@ impl<'a> Explainer<'a> {
         if self.is_of_input() {
             self.sending.end(&mut self.page, self.mode, &self.pending)?;
         } else if !self.pending.is_empty() {
-            let modes = Modes {
-                before: self.mode,
-                after: self.mode,
-            };
+            let modes = (self.mode, self.mode);
             self.page.add(modes, Kind::Other, &self.pending, false)?;
         }
         self.pending.clear();
@@ -135,8 +105,8 @@ impl<'a> Explainer<'a> {
 
     /// Writes the lines that are there.
     fn flush<W: Write>(&mut self, output: &mut W) -> Result<(), RunError> {
-        send(output, self.page.lines())?;
-        self.page.clear();
+        send(output, &self.page.sheet.text)?;
+        self.page.sheet.text.clear();
         Ok(())
     }
 
@@ -208,16 +178,7 @@ impl<'a> Explainer<'a> {
     /// The last lines, and the sums where they are asked for.
     pub fn end<W: Write>(&mut self, output: &mut W) -> Result<(), RunError> {
         self.finish().map_err(no_memory)?;
-        self.flush(output)?;
-        if self.style.count {
-            let told = self.page.summary().map_err(no_memory)?;
-            send(output, told.as_bytes())?;
-        }
-        if self.style.stats {
-            let (names, all) = self.page.names();
-            let told = stats_of(self.alloc, names, all, self.style.json).map_err(no_memory)?;
-            send(output, told.as_bytes())?;
-        }
-        Ok(())
+        self.page.add_sums().map_err(no_memory)?;
+        self.flush(output)
     }
 }

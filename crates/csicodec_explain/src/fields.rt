@@ -52,14 +52,9 @@ fn is_word(byte: u8) -> bool {
 
 /// The name in front, and what is behind it.
 fn name_front(text: &[u8]) -> (&[u8], &[u8]) {
-    let mut len = 0usize;
-    for byte in text {
-        if !is_word(*byte) {
-            break;
-        }
-        len = len.saturating_add(1);
-    }
-    text.split_at_checked(len).unwrap_or((text, &[]))
+    let len = text.iter().position(|byte| !is_word(*byte));
+    text.split_at_checked(len.unwrap_or(text.len()))
+        .unwrap_or((text, &[]))
 }
 
 /// Whether a word stands as it is: a number, or whether something is so.
@@ -181,14 +176,11 @@ impl JsonFields {
             self.open(has_comma(items), b'[', Closer::Bracket)?;
             return self.write_all(items);
         }
-        match rest.strip_prefix(b" { ".as_slice()) {
-            Some(members) => {
-                self.out.push(b',')?;
-                self.closers.push(Closer::Nothing)?;
-                self.write_all(members)
-            }
-            None => Ok(()),
+        if let Some(members) = rest.strip_prefix(b" { ".as_slice()) {
+            self.open(true, b',', Closer::Nothing)?;
+            self.write_all(members)?;
         }
+        Ok(())
     }
 
     fn write_all(&mut self, text: &[u8]) -> Result<(), AllocError> {
@@ -217,10 +209,11 @@ impl JsonFields {
     fn open(&mut self, wanted: bool, opener: u8, closer: Closer) -> Result<(), AllocError> {
         if wanted {
             self.out.push(opener)?;
-            Ok(self.closers.push(closer)?)
-        } else {
-            Ok(self.closers.push(Closer::Nothing)?)
         }
+        Ok(
+            self.closers
+                .push(if wanted { closer } else { Closer::Nothing })?,
+        )
     }
 
     /// The next byte of the text, and what is behind it.

@@ -7,51 +7,34 @@ use std::alloc::AllocError;
 
 /// The number that a name stands for.
 fn code_of(name: &str) -> Option<u64> {
-    for (known, number) in &CODES {
-        if *known == name {
-            return Some(u64::from(*number));
-        }
-    }
-    None
+    let (_, number) = CODES.iter().find(|(known, _)| *known == name)?;
+    Some(u64::from(*number))
 }
 
 /// A byte by its number, or nothing where it is `null`; whether it is one of them.
 fn append_byte(text: &mut Vec<u8>, value: &Value) -> Result<bool, AllocError> {
-    if value.is_null() {
-        return Ok(true);
+    let byte = value.as_u64().and_then(|number| u8::try_from(number).ok());
+    if let Some(byte) = byte {
+        text.push(byte)?;
     }
-    match value.as_u64().and_then(|number| u8::try_from(number).ok()) {
-        Some(byte) => {
-            text.push(byte)?;
-            Ok(true)
-        }
-        None => Ok(false),
-    }
+    Ok(byte.is_some() || value.is_null())
 }
 
-/// What a name says: its number, or itself.
-fn append_name(text: &mut Vec<u8>, name: &str) -> Result<(), AllocError> {
-    match code_of(name) {
-        Some(number) => append_number(text, number),
-        None => text.extend_from_slice(name.as_bytes()),
-    }
-}
-
-/// What one value says, by itself or within `Unspecified`: a number, a name, a token, or nothing; whether it says that.
+/// What one value says, by itself or within `Unspecified`: a number, a name or the number of that, a token, or nothing; whether it says
+/// that.
 fn append_one(text: &mut Vec<u8>, value: &Value) -> Result<bool, AllocError> {
     let value = value.get("Unspecified").unwrap_or(value);
     if let Some(byte) = value.get("P") {
         return append_byte(text, byte);
     }
     let value = value.get("Integer").or(value.get("Code")).unwrap_or(value);
-    if let Some(number) = value.as_u64() {
-        append_number(text, number)?;
-    } else if let Some(name) = value.as_str() {
-        append_name(text, name)?;
-    } else {
-        return Ok(value.is_null());
+    let name = value.as_str();
+    if let Some(number) = value.as_u64().or(name.and_then(code_of)) {
+        append_number(text, number, 0)?;
+        return Ok(true);
     }
-    Ok(true)
+    text.extend_from_slice(name.unwrap_or("").as_bytes())?;
+    Ok(name.is_some() || value.is_null())
 }
 
 /// What a value says, or each item of a list, with this between them; whether each says something that a text can have.
@@ -78,17 +61,13 @@ fn append_place(
     number: u8,
 ) -> Result<bool, AllocError> {
     if place.is_empty() {
-        append_number(text, u64::from(number))?;
+        append_number(text, u64::from(number), 0)?;
         return Ok(true);
     }
-    if let Some(path) = place.strip_suffix('\'') {
-        return match action.pointer(path) {
-            Some(value) => append_byte(text, value),
-            None => Ok(false),
-        };
-    }
+    let byte = place.strip_suffix('\'');
     let (path, between) = place.split_once('|').unwrap_or((place, ""));
-    match action.pointer(path) {
+    match action.pointer(byte.unwrap_or(path)) {
+        Some(value) if byte.is_some() => append_byte(text, value),
         Some(value) => append_value(text, value, between),
         None => Ok(false),
     }

@@ -3,7 +3,7 @@ ghost use Rattle.std.specs.Prelude.{◌≡◌, ◌<◌, ◌≤◌, IfOk, length}
 ghost use Rattle.csicodec_events.specs.Events.{IsMet};
 
 use crate::line::Sort;
-use crate::page::{Listing, Modes};
+use crate::page::Listing;
 use csicodec_base::CsiParam;
 use csicodec_events::{Dialect, Event, Events, InputEvent, Sent};
 use csicodec_spans::{Kind, LIMIT, Mode};
@@ -29,26 +29,21 @@ fn resumed(mode: Mode, looked: usize, bytes: &[u8]) -> Events
     ensures limit { 0 < result.limit }
     ensures met { IsMet result bytes.now }
 {
-    let events = Events {
+    let mut events = Events {
         limit: LIMIT,
         mode,
         looked,
     };
-    if events.is_met(bytes) {
-        events
-    } else {
-        Events {
-            limit: LIMIT,
-            mode,
-            looked: 0,
-        }
+    if !events.is_met(bytes) {
+        events.looked = 0;
     }
+    events
 }
 
 /// Tells what output has too: text is over where ESC follows.
 fn tell_output(
     page: &mut Listing<'_>,
-    modes: Modes,
+    modes: (Mode, Mode),
     event: Event,
     sent: Sent<'_>,
     params: &[CsiParam],
@@ -68,7 +63,7 @@ fn tell_output(
 /// Tells an event; of a control sequence these are the tokens. A control within a sequence has no bytes of its own.
 fn tell(
     page: &mut Listing<'_>,
-    modes: Modes,
+    modes: (Mode, Mode),
     sent: Sent<'_>,
     params: &[CsiParam],
 ) -> Result<(), AllocError> {
@@ -105,7 +100,7 @@ fn tell_all(
     let mut rest = bytes;
     while let Some(sent) = events.next_in(dialect, rest, params)? {
         let after = events.mode;
-        tell(page, Modes { before, after }, sent, params)?;
+        tell(page, (before, after), sent, params)?;
         before = after;
         rest = sent.rest;
     }
@@ -157,8 +152,7 @@ impl Sending {
         let Some(sent) = events.pause(bytes) else {
             return Ok(false);
         };
-        let (before, after) = (mode, events.mode);
-        tell(page, Modes { before, after }, sent, &[])?;
+        tell(page, (mode, events.mode), sent, &[])?;
         self.looked = 0;
         Ok(true)
     }
@@ -180,10 +174,6 @@ impl Sending {
         } else {
             Kind::Other
         };
-        let modes = Modes {
-            before: mode,
-            after: mode,
-        };
-        page.add(modes, kind, bytes, false)
+        page.add((mode, mode), kind, bytes, false)
     }
 }

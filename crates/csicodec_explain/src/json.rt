@@ -5,9 +5,6 @@ use crate::style::{Style, name_of};
 use csicodec_osc::{are_plain, is_seen};
 use std::alloc::AllocError;
 
-/// The digits of base sixteen.
-const DIGITS: &[u8; 16] = b"0123456789abcdef";
-
 /// The name of what a span is told as.
 fn name_of_sort(sort: Sort) -> &'static [u8] {
     match sort {
@@ -21,32 +18,14 @@ fn name_of_sort(sort: Sort) -> &'static [u8] {
     }
 }
 
-/// The digit of a number's last four bits.
-fn digit(number: u32) -> u8 {
-    DIGITS.get(number as usize % 16).copied().unwrap_or(b'0')
-}
-
-/// A number of 16 bits, as a string of JSON has it: `\u001b`.
-fn append_unit(text: &mut Vec<u8>, number: u32) -> Result<(), AllocError> {
-    text.extend_from_slice(&[
-        b'\\',
-        b'u',
-        digit(number >> 12),
-        digit(number >> 8),
-        digit(number >> 4),
-        digit(number),
-    ])
-}
-
 /// A character that can't stand in a string of JSON, or can't be seen: by its number, in two halves where it is above FFFF.
 fn append_by_number(text: &mut Vec<u8>, character: char) -> Result<(), AllocError> {
-    let number = u32::from(character);
-    if number < 0x10000 {
-        return append_unit(text, number);
+    for unit in character.encode_utf16(&mut [0u16; 2]).iter() {
+        text.extend_from_slice(b"\\u")?;
+        let digits = hex::encode(*text.allocator(), &unit.to_be_bytes())?;
+        text.extend_from_slice(digits.as_bytes())?;
     }
-    let above = number.saturating_sub(0x10000);
-    append_unit(text, (above >> 10).saturating_add(0xd800))?;
-    append_unit(text, (above & 0x3ff).saturating_add(0xdc00))
+    Ok(())
 }
 
 /// A character of a string.
@@ -57,38 +36,31 @@ fn append_character(text: &mut Vec<u8>, character: char) -> Result<(), AllocErro
         '\n' => text.extend_from_slice(b"\\n"),
         '\r' => text.extend_from_slice(b"\\r"),
         '\t' => text.extend_from_slice(b"\\t"),
-        _ => {
-            if is_seen(character) {
-                let mut buffer = [0u8; 4];
-                text.extend_from_slice(character.encode_utf8(&mut buffer).as_bytes())
-            } else {
-                append_by_number(text, character)
-            }
+        '\u{1b}' => text.extend_from_slice(b"\\u001b"),
+        _ if is_seen(character) => {
+            text.extend_from_slice(character.encode_utf8(&mut [0u8; 4]).as_bytes())
         }
+        _ => append_by_number(text, character),
     }
+}
+
+/// Bytes that stand for themselves, between quotation marks.
+fn append_plain(out: &mut Vec<u8>, bytes: &[u8]) -> Result<(), AllocError> {
+    out.push(b'"')?;
+    out.extend_from_slice(bytes)?;
+    Ok(out.push(b'"')?)
 }
 
 /// A text between quotation marks.
 pub fn append_string(out: &mut Vec<u8>, text: &str) -> Result<(), AllocError> {
-    out.push(b'"')?;
     if are_plain(text.as_bytes()) {
-        out.extend_from_slice(text.as_bytes())?;
-    } else {
-        for character in text.chars() {
-            append_character(out, character)?;
-        }
+        return append_plain(out, text.as_bytes());
+    }
+    out.push(b'"')?;
+    for character in text.chars() {
+        append_character(out, character)?;
     }
     Ok(out.push(b'"')?)
-}
-
-/// Bytes in hexadecimal digits, between quotation marks.
-fn append_hex(text: &mut Vec<u8>, bytes: &[u8]) -> Result<(), AllocError> {
-    text.push(b'"')?;
-    for byte in bytes {
-        let number = u32::from(*byte);
-        text.extend_from_slice(&[digit(number >> 4), digit(number)])?;
-    }
-    Ok(text.push(b'"')?)
 }
 
 /// The begin of an object: where the span stands, and when it came, if that is told; the member that says of which file, if there
@@ -123,9 +95,7 @@ fn append_member(
 ) -> Result<(), AllocError> {
     if are_plain(bytes) {
         out.extend_from_slice(text)?;
-        out.push(b'"')?;
-        out.extend_from_slice(bytes)?;
-        return Ok(out.push(b'"')?);
+        return append_plain(out, bytes);
     }
     match std::str::from_utf8(bytes) {
         Ok(bytes) => {
@@ -134,7 +104,8 @@ fn append_member(
         }
         Err(_) => {
             out.extend_from_slice(hex)?;
-            append_hex(out, bytes)
+            let digits = hex::encode(*out.allocator(), bytes)?;
+            append_plain(out, digits.as_bytes())
         }
     }
 }

@@ -22,10 +22,8 @@ mod patterns;
 mod remaker;
 mod search;
 mod sheet;
-mod stats;
 mod style;
 mod taken;
-mod totals;
 
 pub use explain::Explainer;
 pub use remaker::Remaker;

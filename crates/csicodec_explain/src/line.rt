@@ -68,7 +68,7 @@ pub struct ToldSpan<'a> {
 }
 
 /// So many blanks, 50 at most.
-fn append_blanks(text: &mut Vec<u8>, count: usize) -> Result<(), AllocError> {
+pub fn append_blanks(text: &mut Vec<u8>, count: usize) -> Result<(), AllocError> {
     text.extend_from_slice(BLANKS.get(..count).unwrap_or(BLANKS))
 }
 
@@ -154,22 +154,19 @@ impl Offset {
     }
 }
 
-/// A number in decimal digits.
+/// A number in decimal digits, with blanks ahead where it has fewer columns than these.
 #[tactic(auto, using(crate::proofs::Decimal::twenty_digits))]
-pub fn append_number(text: &mut Vec<u8>, number: u64) -> Result<(), AllocError> {
+pub fn append_number(text: &mut Vec<u8>, number: u64, columns: usize) -> Result<(), AllocError> {
     let mut digits = [0u8; 20];
     let begin = write_digits(number, &mut digits, 20);
+    append_blanks(text, columns.saturating_add(begin).saturating_sub(20))?;
     text.extend_from_slice(&digits[begin..])
 }
 
 /// A time in seconds, to the microsecond, with blanks ahead where it has fewer columns than these.
-#[tactic(auto, using(crate::proofs::Decimal::twenty_digits))]
 pub fn append_time(text: &mut Vec<u8>, time: u64, columns: usize) -> Result<(), AllocError> {
     let (seconds, fraction) = (time / 1_000_000, time % 1_000_000);
-    let mut digits = [0u8; 20];
-    let begin = write_digits(seconds, &mut digits, 20);
-    append_blanks(text, columns.saturating_add(begin).saturating_sub(27))?;
-    text.extend_from_slice(&digits[begin..])?;
+    append_number(text, seconds, columns.saturating_sub(7))?;
     text.push(b'.')?;
     for unit in [100_000u64, 10_000, 1_000, 100, 10, 1] {
         let digit = fraction.checked_div(unit).unwrap_or(0) % 10;
@@ -235,13 +232,6 @@ fn columns_of(character: char, bytes: usize, quoted: bool) -> usize {
         _ if is_seen(character) => 1,
         _ => UNSEEN,
     }
-}
-
-/// How many bytes there are, of which not all are shown.
-fn append_count(text: &mut Vec<u8>, len: u64) -> Result<(), AllocError> {
-    text.extend_from_slice(b".. (")?;
-    append_number(text, len)?;
-    text.extend_from_slice(b" bytes)")
 }
 
 /// Appends a character, or bytes that are none, as it is shown; how many bytes of that take no column.
@@ -385,7 +375,9 @@ pub fn append_shown(
     };
     text.extend_from_slice(mark)?;
     if (shown as u64) < span.len {
-        append_count(text, span.len)?;
+        text.extend_from_slice(b".. (")?;
+        append_number(text, span.len, 0)?;
+        text.extend_from_slice(b" bytes)")?;
     }
     let end: &[u8] = match span.end.len() {
         0 => b"",
@@ -398,15 +390,8 @@ pub fn append_shown(
 
 /// The blanks ahead of the words of a line that begins with no span.
 pub fn append_margin(text: &mut Vec<u8>, style: &Style<'_>) -> Result<(), AllocError> {
-    let front = PLACE.saturating_add(BYTES);
-    append_blanks(
-        text,
-        if style.timed {
-            front.saturating_add(TIME)
-        } else {
-            front
-        },
-    )
+    let time = if style.timed { TIME } else { 0 };
+    append_blanks(text, time + PLACE + BYTES)
 }
 
 /// The columns of few bytes with no end of a line behind them: a text of ASCII characters that stand for themselves, or ESC and such
@@ -464,34 +449,28 @@ pub fn append_name(text: &mut Vec<u8>, style: &Style<'_>, name: &str) -> Result<
     text.extend_from_slice(b"  ")
 }
 
-/// What stands behind the number of a text's bytes, with this end of its line.
-fn behind_number(len: u64, end: &[u8]) -> &'static [u8] {
-    match (len, end) {
-        (1, []) => b" byte\n",
-        (1, [_]) => b" byte, LF\n",
-        (1, _) => b" byte, CR LF\n",
-        (_, []) => b" bytes\n",
-        (_, [_]) => b" bytes, LF\n",
-        (_, _) => b" bytes, CR LF\n",
-    }
-}
-
 /// The words of a text, and the line's end.
 pub fn append_text_words(
     text: &mut Vec<u8>,
     style: &Style<'_>,
     span: &ToldSpan<'_>,
 ) -> Result<(), AllocError> {
-    let len = span.len;
     if style.color {
         append_name(text, style, "text")?;
     } else {
         text.extend_from_slice(b"text  ")?;
     }
-    if len < 10 {
-        text.push(b'0' + len as u8)?;
+    if span.len < 10 {
+        text.push(b'0' + span.len as u8)?;
     } else {
-        append_number(text, len)?;
+        append_number(text, span.len, 0)?;
     }
-    text.extend_from_slice(behind_number(len, span.end))
+    text.extend_from_slice(match (span.len, span.end) {
+        (1, []) => b" byte\n".as_slice(),
+        (1, [_]) => b" byte, LF\n",
+        (1, _) => b" byte, CR LF\n",
+        (_, []) => b" bytes\n",
+        (_, [_]) => b" bytes, LF\n",
+        (_, _) => b" bytes, CR LF\n",
+    })
 }

@@ -23,11 +23,6 @@ pub(crate) struct Maker {
     told: Vec<u8>,
 }
 
-/// Names of actions, each with a pattern behind a blank.
-fn patterns() -> &'static [&'static str] {
-    &PATTERNS
-}
-
 /// What fails where memory ran out: nothing else does in what is told to memory.
 fn no_memory(_: RunError) -> AllocError {
     AllocError
@@ -58,13 +53,9 @@ fn has_all(action: &Value, other: &Value) -> bool {
     let Some(members) = other.as_object() else {
         return false;
     };
-    for (name, value) in members {
-        let is_told = name.as_str() == "name" || name.as_str() == "words";
-        if !is_told && action.get(name.as_str()) != Some(value) {
-            return false;
-        }
-    }
-    true
+    members.iter().all(|(name, value)| {
+        matches!(name.as_str(), "name" | "words") || action.get(name.as_str()) == Some(value)
+    })
 }
 
 impl Maker {
@@ -130,7 +121,7 @@ impl Maker {
         let Some(name) = action.get("action").and_then(Value::as_str) else {
             return Ok(false);
         };
-        for row in patterns() {
+        for row in &PATTERNS {
             let (known, pattern) = row.split_once(' ').unwrap_or((row, ""));
             if known == name && self.finds(pattern, name, action)? {
                 out.extend_from_slice(&self.text)?;
@@ -140,8 +131,11 @@ impl Maker {
         Ok(false)
     }
 
-    /// The bytes that have the actions of an object, one behind the other, if each has a text.
-    fn bytes_of(&mut self, object: &Value) -> Result<Option<Vec<u8>>, AllocError> {
+    /// The bytes that have the actions of a line's object, one behind the other, if it is one and each has a text.
+    pub(crate) fn bytes_of_line(&mut self, line: &[u8]) -> Result<Option<Vec<u8>>, AllocError> {
+        let Some(object) = value_of(self.alloc, line)? else {
+            return Ok(None);
+        };
         let Some(actions) = object.get("actions").and_then(Value::as_array) else {
             return Ok(None);
         };
@@ -152,13 +146,5 @@ impl Maker {
             }
         }
         Ok(Some(bytes))
-    }
-
-    /// The bytes that have the actions of a line's object, if it is one and each has a text.
-    pub(crate) fn bytes_of_line(&mut self, line: &[u8]) -> Result<Option<Vec<u8>>, AllocError> {
-        match value_of(self.alloc, line)? {
-            Some(object) => self.bytes_of(&object),
-            None => Ok(None),
-        }
     }
 }

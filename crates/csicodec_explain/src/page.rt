@@ -1,21 +1,17 @@
 //! The spans of a stream, each told when it is over.
 ghost use Rattle.std.specs.Prelude.{◌≤◌, IfOk, length};
 
-use crate::clipboard::clipboard_bytes;
 use crate::controls::{is_control, text_front, words_of};
-use crate::counts::Names;
+use crate::counts::Totals;
 use crate::keyed::{Keyed, sequence_front};
 use crate::line::{Sort, ToldSpan, whole_characters};
 use crate::sheet::Sheet;
 use crate::style::Style;
-use crate::taken::words_with_taken;
-use crate::totals::{Totals, totals_of};
 use csicodec_base::{CsiParam, Esc, ReadError, read_csi_into};
 use csicodec_osc::{ControlString, FRONT};
-use csicodec_parser::CSI;
 use csicodec_spans::{Kind, LIMIT, Mode};
 use csicodec_streams::keep_from;
-use csicodec_words::{Described, Did, EscReading, LongEscReading, Reading};
+use csicodec_words::{Described, Did, EscReading, LongEscReading};
 use std::alloc::{AllocError, Global};
 use std::fmt::{self, Display};
 
@@ -75,19 +71,11 @@ impl Open {
     }
 }
 
-/// The modes ahead of bytes of a stream and behind them.
-#[derive(Clone, Copy)]
-pub struct Modes {
-    pub before: Mode,
-    pub after: Mode,
-}
-
 /// The lines of the spans that came, and the span of which more may come. It doesn't grow with that span, but where all
 /// its bytes are to be shown at once.
 #[derive(Drop)]
 pub struct Listing<'a> {
-    alloc: Global,
-    sheet: Sheet<'a>,
+    pub sheet: Sheet<'a>,
     /// The tokens of a control sequence.
     params: Vec<CsiParam>,
     place: u64,
@@ -104,20 +92,9 @@ pub struct Listing<'a> {
 
 /// The escape sequence that a span of that kind is.
 fn escape_of(bytes: &[u8]) -> Esc {
-    let between = if bytes.len() > 2 {
-        bytes.get(1).copied()
-    } else {
-        None
-    };
-    Esc::parse(between, bytes.last().copied().unwrap_or(0x1b))
-}
-
-/// What went wrong may be an escape sequence with more than one intermediate byte, of which nothing was left out.
-fn long_escape(kind: Kind, front: &[u8], len: u64) -> Option<LongEscReading> {
-    if kind == Kind::Other && front.len() as u64 == len {
-        LongEscReading::of(front)
-    } else {
-        None
+    match bytes {
+        [_, between, .., last] => Esc::parse(Some(*between), *last),
+        _ => Esc::parse(None, bytes.last().copied().unwrap_or(0x1b)),
     }
 }
 
@@ -165,97 +142,26 @@ fn whole_span(sort: Sort, place: u64, time: u64, bytes: &[u8]) -> ToldSpan<'_> {
     }
 }
 
-/// A span of these words.
-fn tell_words<T: Display>(
-    sheet: &mut Sheet<'_>,
-    span: &ToldSpan<'_>,
-    words: &T,
-) -> Result<(), AllocError> {
-    sheet.begin(span)?;
-    sheet.add(span, words)?;
-    sheet.end(span)
-}
-
-/// A string, and what it puts into the clipboard, where that is asked for.
-fn tell_string(
-    alloc: Global,
-    sheet: &mut Sheet<'_>,
-    span: &ToldSpan<'_>,
-    string: ControlString<'_>,
-) -> Result<(), AllocError> {
-    sheet.begin(span)?;
-    sheet.add(span, &string)?;
-    if sheet.style.decode {
-        if let Some(bytes) = clipboard_bytes(alloc, span.bytes)? {
-            sheet.add_decoded(span, &bytes)?;
-        }
-    }
-    sheet.end(span)
-}
-
-/// What went wrong, which may be a long escape sequence.
+/// What went wrong, which may be an escape sequence with more than one intermediate byte, of which nothing was left out.
 fn tell_wrong(
     sheet: &mut Sheet<'_>,
     totals: &mut Totals,
-    kind: Kind,
     span: &ToldSpan<'_>,
 ) -> Result<(), AllocError> {
-    let Some(reading) = long_escape(kind, span.bytes, span.len) else {
-        return tell_words(sheet, span, &Malformed(span.len));
-    };
-    totals.add_long_escape(span.len);
-    let sort = Sort::Escape;
-    tell_words(sheet, &ToldSpan { sort, ..*span }, &Described(&reading))
-}
-
-/// A line for an action that no table has, behind so many others of its sequence.
-#[inline(never)]
-fn tell_unknown(
-    alloc: Global,
-    sheet: &mut Sheet<'_>,
-    span: &ToldSpan<'_>,
-    reading: Reading<'_>,
-    read: usize,
-) -> Result<(), AllocError> {
-    let words = words_with_taken(alloc, reading, read)?;
-    sheet.add_action(span, &words, reading.action)
-}
-
-/// A line for each action of a control sequence of these tokens; how many they are.
-fn tell_actions(
-    alloc: Global,
-    sheet: &mut Sheet<'_>,
-    span: &ToldSpan<'_>,
-    params: &[CsiParam],
-    control: char,
-) -> Result<u64, AllocError> {
-    sheet.begin(span)?;
-    let sent = sheet.style.dialect.is_some();
-    let mut count = 0u64;
-    for action in CSI::parse(alloc, params, false, control) {
-        let action = action?;
-        let reading = Reading {
-            action: &action,
-            params,
-            control,
-            sent,
-        };
-        if let CSI::Unspecified(_) = &action {
-            tell_unknown(alloc, sheet, span, reading, count as usize)?;
-        } else {
-            sheet.add_action(span, &Described(&reading), &action)?;
+    match LongEscReading::of(span.bytes) {
+        Some(reading) if span.bytes.len() as u64 == span.len => {
+            totals.add_long_escape(span.len);
+            let sort = Sort::Escape;
+            sheet.tell(&ToldSpan { sort, ..*span }, &Described(&reading))
         }
-        count = count.saturating_add(1);
+        _ => sheet.tell(span, &Malformed(span.len)),
     }
-    sheet.end(span)?;
-    Ok(count)
 }
 
 impl<'a> Listing<'a> {
     /// No line.
     pub fn new(alloc: Global, style: Style<'a>) -> Listing<'a> {
         Listing {
-            alloc,
             sheet: Sheet::new(alloc, style),
             params: Vec::new(alloc),
             place: 0,
@@ -278,30 +184,9 @@ impl<'a> Listing<'a> {
         }
     }
 
-    /// The lines, each with its end.
-    pub fn lines(&self) -> &[u8] {
-        &self.sheet.text
-    }
-
-    /// Takes the lines away.
-    pub fn clear(&mut self) {
-        self.sheet.clear();
-    }
-
-    /// How much came, or where only some is told, how much was.
-    pub fn summary(&self) -> Result<String, AllocError> {
-        let (sheet, style) = (&self.sheet, &self.sheet.style);
-        let totals = if style.tells_all() {
-            &self.totals
-        } else {
-            &sheet.totals
-        };
-        totals_of(self.alloc, totals, &sheet.names, style.json)
-    }
-
-    /// The names that were told, and how many bytes came.
-    pub fn names(&self) -> (&Names, u64) {
-        (&self.sheet.names, self.totals.bytes())
+    /// The sums that are asked for.
+    pub fn add_sums(&mut self) -> Result<(), AllocError> {
+        self.sheet.add_sums(&self.totals)
     }
 
     /// Another stream begins, of which times are told or not, behind a heading with its name if there is one. What is open must be
@@ -376,10 +261,8 @@ impl<'a> Listing<'a> {
         };
         match kind {
             Kind::Text => self.sheet.tell_text(&span),
-            Kind::Str => tell_string(self.alloc, &mut self.sheet, &span, string),
-            Kind::Csi | Kind::Esc | Kind::Other => {
-                tell_wrong(&mut self.sheet, &mut self.totals, kind, &span)
-            }
+            Kind::Str => self.sheet.tell_string(&span, string),
+            _ => tell_wrong(&mut self.sheet, &mut self.totals, &span),
         }?;
         self.open.len = 0;
         Ok(())
@@ -408,20 +291,17 @@ impl<'a> Listing<'a> {
             Err(_) => return Ok(None),
         };
         let params = self.params.as_slice();
-        let count = tell_actions(self.alloc, &mut self.sheet, span, params, tail.control)?;
-        Ok(Some(count))
+        Ok(Some(self.sheet.tell_actions(span, params, tail.control)?))
     }
 
     /// A line for each action of a control sequence; how many they are, none where it isn't one.
     #[inline(never)]
     fn tell_sequence(&mut self, front: Keyed<'_>) -> Result<Option<u64>, AllocError> {
         let span = self.span_here(Sort::Sequence, front.bytes);
-        let copied = self.sheet.tell_copied(&span)?;
-        let told = if copied.is_some() {
-            copied
-        } else {
-            self.tell_tokens(&span)?
-        };
+        let mut told = self.sheet.tell_copied(&span)?;
+        if told.is_none() {
+            told = self.tell_tokens(&span)?;
+        }
         if let Some(actions) = told {
             self.sheet.keep(front, actions)?;
         }
@@ -437,7 +317,7 @@ impl<'a> Listing<'a> {
     ) -> Result<(), AllocError> {
         self.close()?;
         let span = self.span_here(Sort::Sequence, bytes);
-        let actions = tell_actions(self.alloc, &mut self.sheet, &span, params, control)?;
+        let actions = self.sheet.tell_actions(&span, params, control)?;
         self.end_sequence(actions, bytes.len());
         Ok(())
     }
@@ -452,7 +332,7 @@ impl<'a> Listing<'a> {
     ) -> Result<(), AllocError> {
         self.close()?;
         let span = self.span_here(sort, bytes);
-        tell_words(&mut self.sheet, &span, did)?;
+        self.sheet.tell(&span, did)?;
         self.text = false;
         self.advance(kind, 1, bytes.len());
         Ok(())
@@ -495,11 +375,9 @@ impl<'a> Listing<'a> {
     #[inline(never)]
     fn tell_escape(&mut self, escape: Keyed<'_>) -> Result<(), AllocError> {
         let span = self.span_here(Sort::Escape, escape.bytes);
-        self.sheet.begin(&span)?;
         let esc = escape_of(escape.bytes);
         self.sheet
-            .add_action(&span, &Described(&EscReading(esc)), &Named(esc))?;
-        self.sheet.end(&span)?;
+            .tell_action(&span, &Described(&EscReading(esc)), &Named(esc))?;
         self.sheet.keep(escape, 0)
     }
 
@@ -520,7 +398,7 @@ impl<'a> Listing<'a> {
     pub fn add_event<T: Display>(&mut self, time: u64, words: &T) -> Result<(), AllocError> {
         self.close()?;
         let span = whole_span(Sort::Event, self.place, time, &[]);
-        tell_words(&mut self.sheet, &span, words)
+        self.sheet.tell(&span, words)
     }
 
     /// A control character that stands in text, or a carriage return with a line feed.
@@ -530,14 +408,10 @@ impl<'a> Listing<'a> {
             return Ok(());
         }
         let span = whole_span(Sort::Control, place, time, bytes);
-        let is_input = self.sheet.style.dialect.is_some();
-        let did = match bytes.first() {
-            Some(byte) if is_input => Did::of_control(*byte),
-            _ => None,
-        };
-        match did {
-            Some(did) => tell_words(&mut self.sheet, &span, &did)?,
-            None => tell_words(&mut self.sheet, &span, &words_of(bytes))?,
+        let sent = self.sheet.style.dialect.and(bytes.first());
+        match sent.and_then(|byte| Did::of_control(*byte)) {
+            Some(did) => self.sheet.tell(&span, &did)?,
+            None => self.sheet.tell(&span, &words_of(bytes))?,
         }
         self.sheet.keep(control, 0)
     }
@@ -673,10 +547,15 @@ impl<'a> Listing<'a> {
     }
 
     /// Bytes of a string, or of what went wrong, between these modes.
-    fn add_part(&mut self, modes: Modes, kind: Kind, bytes: &[u8]) -> Result<(), AllocError> {
-        let same = self.open.len > 0 && self.open.kind == kind && modes.before.goes_on(bytes);
+    fn add_part(
+        &mut self,
+        (before, after): (Mode, Mode),
+        kind: Kind,
+        bytes: &[u8],
+    ) -> Result<(), AllocError> {
+        let same = self.open.len > 0 && self.open.kind == kind && before.goes_on(bytes);
         self.add_open(kind, same, bytes)?;
-        let over = modes.after == Mode::Text;
+        let over = after == Mode::Text;
         self.open.closed = kind == Kind::Str && over;
         self.open.bell = bytes.last().copied() == Some(0x07);
         self.text = false;
@@ -688,7 +567,7 @@ impl<'a> Listing<'a> {
     /// ends.
     pub fn add(
         &mut self,
-        modes: Modes,
+        modes: (Mode, Mode),
         kind: Kind,
         bytes: &[u8],
         more: bool,

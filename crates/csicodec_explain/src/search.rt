@@ -6,45 +6,31 @@ use bstr::ByteSlice;
 use memchr::memmem::find;
 use std::alloc::{AllocError, Global};
 
-/// Room for a search in which capitals and small letters are the same.
-#[derive(Drop)]
-struct Letters {
-    /// What is searched and what is looked for, in small letters.
-    bytes: Vec<u8>,
-    text: Vec<u8>,
-}
-
-impl Letters {
-    /// Whether the text stands in these bytes.
-    fn find(&mut self, text: &str, bytes: &[u8]) -> Result<bool, AllocError> {
-        self.bytes.clear();
-        bytes.to_lowercase_into(&mut self.bytes)?;
-        self.text.clear();
-        text.as_bytes().to_lowercase_into(&mut self.text)?;
-        Ok(find(&self.bytes, &self.text).is_some())
-    }
-}
-
-/// Whether a text that is looked for stands in these bytes.
-fn is_in(
-    letters: &mut Letters,
-    style: &Style<'_>,
-    text: &str,
-    bytes: &[u8],
-) -> Result<bool, AllocError> {
-    if style.ignore_case {
-        letters.find(text, bytes)
-    } else {
-        Ok(find(bytes, text.as_bytes()).is_some())
-    }
-}
-
 /// Room for what is searched.
 #[derive(Drop)]
 pub struct Search {
     /// The bytes of a span as a line shows them.
     shown: Vec<u8>,
-    letters: Letters,
+    /// Where capitals and small letters are the same: what is looked for, and behind it what is searched, in small letters.
+    letters: Vec<u8>,
+}
+
+/// Whether a text that is looked for stands in these bytes.
+fn is_in(
+    letters: &mut Vec<u8>,
+    style: &Style<'_>,
+    text: &str,
+    bytes: &[u8],
+) -> Result<bool, AllocError> {
+    if !style.ignore_case {
+        return Ok(find(bytes, text.as_bytes()).is_some());
+    }
+    letters.clear();
+    text.as_bytes().to_lowercase_into(letters)?;
+    let len = letters.len();
+    bytes.to_lowercase_into(letters)?;
+    let halves = letters.split_at_checked(len);
+    Ok(halves.is_some_and(|(text, bytes)| find(bytes, text).is_some()))
 }
 
 impl Search {
@@ -52,14 +38,12 @@ impl Search {
     pub fn new(alloc: Global) -> Search {
         Search {
             shown: Vec::new(alloc),
-            letters: Letters {
-                bytes: Vec::new(alloc),
-                text: Vec::new(alloc),
-            },
+            letters: Vec::new(alloc),
         }
     }
 
     /// Whether what is looked for, if anything is, stands in a span or in its words.
+    #[inline(never)]
     pub fn finds(
         &mut self,
         style: &Style<'_>,
@@ -69,10 +53,11 @@ impl Search {
         let Some(text) = style.grep else {
             return Ok(true);
         };
-        for bytes in [span.bytes, words.as_bytes()] {
-            if is_in(&mut self.letters, style, text, bytes)? {
-                return Ok(true);
-            }
+        let letters = &mut self.letters;
+        if is_in(letters, style, text, span.bytes)?
+            || is_in(letters, style, text, words.as_bytes())?
+        {
+            return Ok(true);
         }
         // What a line shows otherwise than it came begins with a backslash.
         if !text.contains('\\') {
@@ -80,6 +65,6 @@ impl Search {
         }
         self.shown.clear();
         let _columns = append_shown(&mut self.shown, span, usize::MAX)?;
-        is_in(&mut self.letters, style, text, &self.shown)
+        is_in(letters, style, text, &self.shown)
     }
 }

@@ -1,9 +1,9 @@
 //! The lines of spans: each with its place and its bytes, and a line for each of its actions; or an object of JSON.
 
 use crate::cache::Remembered;
-use crate::clipboard::Clipboard;
+use crate::clipboard::{Clipboard, clipboard_bytes};
 use crate::copied::Copied;
-use crate::counts::Names;
+use crate::counts::{Names, Totals, append_lines, append_object as append_totals, append_stats};
 use crate::fields::JsonFields;
 use crate::json::{
     append_action, append_begin_object, append_decoded, append_end, append_object, append_string,
@@ -15,8 +15,11 @@ use crate::line::{
 };
 use crate::search::Search;
 use crate::style::{Style, name_of};
-use crate::totals::Totals;
-use csicodec_osc::Shown;
+use crate::taken::words_with_taken;
+use csicodec_base::CsiParam;
+use csicodec_osc::{ControlString, Shown};
+use csicodec_parser::CSI;
+use csicodec_words::{Described, Reading};
 use std::alloc::{AllocError, Global};
 use std::fmt::{Debug, Display, Write};
 
@@ -26,14 +29,6 @@ const PIECE: usize = 65_536;
 /// The words of a value. A text that another crate writes into itself has all words in the program once more.
 pub fn text_of<T: Display>(alloc: Global, value: &T) -> Result<String, AllocError> {
     format!(in alloc; "{value}")
-}
-
-/// The first piece of a long span, with whole characters.
-fn piece_of(bytes: &[u8]) -> Option<&[u8]> {
-    if bytes.len() <= PIECE {
-        return None;
-    }
-    Some(whole_characters(bytes.get(..PIECE)?))
 }
 
 /// The lines of the spans that came, in a buffer that is kept.
@@ -62,26 +57,10 @@ pub struct Sheet<'a> {
     place: Offset,
     known: Remembered,
     /// How often each name was told, where sums are asked for.
-    pub names: Names,
+    names: Names,
     /// How much was told.
-    pub totals: Totals,
+    totals: Totals,
     search: Search,
-}
-
-/// When and where a span begins.
-#[inline(always)]
-fn begin_at(
-    text: &mut Vec<u8>,
-    style: &Style<'_>,
-    file: &[u8],
-    place: &Offset,
-    time: u64,
-) -> Result<(), AllocError> {
-    if style.json {
-        append_begin_object(text, style, file, time, place)
-    } else {
-        append_begin(text, style, time, place)
-    }
 }
 
 impl<'a> Sheet<'a> {
@@ -106,9 +85,9 @@ impl<'a> Sheet<'a> {
         }
     }
 
-    /// Takes the lines away.
-    pub fn clear(&mut self) {
-        self.text.clear();
+    /// What allocates.
+    fn alloc(&self) -> Global {
+        *self.text.allocator()
     }
 
     /// Whether times are told from now on.
@@ -150,13 +129,12 @@ impl<'a> Sheet<'a> {
         if !self.style.recalls() {
             return Ok(None);
         }
-        let Some((told, actions)) = self.known.recall(span) else {
+        let Some((begin, end, actions)) = self.known.recall(span) else {
             return Ok(None);
         };
-        if !told.is_empty() {
-            self.place.go_to(place);
-            begin_at(&mut self.text, &self.style, &self.file, &self.place, time)?;
-            self.text.extend_from_slice(told)?;
+        if begin < end {
+            self.begin_at(time, place)?;
+            self.text.extend_from_slice(self.known.told(begin, end))?;
         }
         Ok(Some(actions))
     }
@@ -173,22 +151,27 @@ impl<'a> Sheet<'a> {
     }
 
     /// When and where a span begins.
+    #[inline(always)]
+    fn begin_at(&mut self, time: u64, place: u64) -> Result<(), AllocError> {
+        self.place.go_to(place);
+        if self.style.json {
+            append_begin_object(&mut self.text, &self.style, &self.file, time, &self.place)
+        } else {
+            append_begin(&mut self.text, &self.style, time, &self.place)
+        }
+    }
+
+    /// The same of a span that is there.
     fn begin_span(&mut self, span: &ToldSpan<'_>) -> Result<(), AllocError> {
-        self.place.go_to(span.place);
-        begin_at(
-            &mut self.text,
-            &self.style,
-            &self.file,
-            &self.place,
-            span.time,
-        )
+        self.begin_at(span.time, span.place)
     }
 
     /// Tells the first piece of a span that is too long for one object; how many bytes it has, 0 where the span isn't.
     pub fn tell_piece(&mut self, span: &ToldSpan<'_>) -> Result<usize, AllocError> {
-        let Some(bytes) = piece_of(span.bytes) else {
+        if span.bytes.len() <= PIECE {
             return Ok(0);
-        };
+        }
+        let bytes = whole_characters(span.bytes.get(..PIECE).unwrap_or(span.bytes));
         self.begin_span(span)?;
         append_object(&mut self.text, span.sort, bytes)?;
         self.text.extend_from_slice(b",\"more\":true}\n")?;
@@ -260,20 +243,11 @@ impl<'a> Sheet<'a> {
     /// Whether the words that are there are told of the span.
     #[inline(always)]
     fn is_wanted(&mut self, span: &ToldSpan<'_>) -> Result<bool, AllocError> {
-        if self.style.tells_all() {
-            Ok(true)
-        } else {
-            self.is_looked_for(span)
+        let (style, words) = (&self.style, &self.words);
+        if style.tells_all() {
+            return Ok(true);
         }
-    }
-
-    /// Whether they are where only some spans are told.
-    #[inline(never)]
-    fn is_looked_for(&mut self, span: &ToldSpan<'_>) -> Result<bool, AllocError> {
-        if !self.style.tells(&self.words, span.place, span.len) {
-            return Ok(false);
-        }
-        self.search.finds(&self.style, span, &self.words)
+        Ok(style.tells(words, span.place, span.len) && self.search.finds(style, span, words)?)
     }
 
     /// Counts a text where it is one that is asked for; whether it is then told. In JSON it has no actions.
@@ -294,7 +268,7 @@ impl<'a> Sheet<'a> {
     }
 
     /// A span begins.
-    pub fn begin(&mut self, span: &ToldSpan<'_>) -> Result<(), AllocError> {
+    fn begin(&mut self, span: &ToldSpan<'_>) -> Result<(), AllocError> {
         self.begin = self.text.len();
         self.actions = 0;
         if self.style.is_silent() {
@@ -309,13 +283,15 @@ impl<'a> Sheet<'a> {
     }
 
     /// The words of the span.
-    pub fn add<T: Display>(&mut self, span: &ToldSpan<'_>, value: &T) -> Result<(), AllocError> {
+    fn add<T: Display>(&mut self, span: &ToldSpan<'_>, value: &T) -> Result<(), AllocError> {
         self.fields.clear();
-        self.add_words(span, value)
+        self.words.clear();
+        write!(self.words, "{value}")?;
+        self.add_words(span)
     }
 
     /// The words of an action of the span, which has fields.
-    pub fn add_action<T: Display, A: Debug>(
+    fn add_action<T: Display, A: Debug>(
         &mut self,
         span: &ToldSpan<'_>,
         value: &T,
@@ -326,11 +302,13 @@ impl<'a> Sheet<'a> {
             write!(self.buffer, "{action:?}")?;
             self.fields.write(self.buffer.as_bytes())?;
         }
-        self.add_words(span, value)
+        self.words.clear();
+        write!(self.words, "{value}")?;
+        self.add_words(span)
     }
 
     /// What stands in the span, decoded: a line of its own, or a member of its first action.
-    pub fn add_decoded(&mut self, span: &ToldSpan<'_>, bytes: &[u8]) -> Result<(), AllocError> {
+    fn add_decoded(&mut self, span: &ToldSpan<'_>, bytes: &[u8]) -> Result<(), AllocError> {
         if self.style.is_silent() {
             return Ok(());
         }
@@ -344,9 +322,8 @@ impl<'a> Sheet<'a> {
         Ok(())
     }
 
-    fn add_words<T: Display>(&mut self, span: &ToldSpan<'_>, value: &T) -> Result<(), AllocError> {
-        self.words.clear();
-        write!(self.words, "{value}")?;
+    /// The words that are there, of the span.
+    fn add_words(&mut self, span: &ToldSpan<'_>) -> Result<(), AllocError> {
         if !self.is_wanted(span)? {
             return Ok(());
         }
@@ -384,7 +361,7 @@ impl<'a> Sheet<'a> {
     }
 
     /// The span is over. One of which nothing was wanted is taken back.
-    pub fn end(&mut self, span: &ToldSpan<'_>) -> Result<(), AllocError> {
+    fn end(&mut self, span: &ToldSpan<'_>) -> Result<(), AllocError> {
         let (some, tells_all) = (self.actions > 0, self.style.tells_all());
         if some && !tells_all {
             self.totals.add_told(span.sort, span.len, self.actions);
@@ -398,5 +375,89 @@ impl<'a> Sheet<'a> {
         } else {
             Ok(())
         }
+    }
+
+    /// A span of these words.
+    pub fn tell<T: Display>(&mut self, span: &ToldSpan<'_>, words: &T) -> Result<(), AllocError> {
+        self.begin(span)?;
+        self.add(span, words)?;
+        self.end(span)
+    }
+
+    /// A span of one action, with these words.
+    pub fn tell_action<T: Display, A: Debug>(
+        &mut self,
+        span: &ToldSpan<'_>,
+        words: &T,
+        action: &A,
+    ) -> Result<(), AllocError> {
+        self.begin(span)?;
+        self.add_action(span, words, action)?;
+        self.end(span)
+    }
+
+    /// A string, and what it puts into the clipboard, where that is asked for.
+    pub fn tell_string(
+        &mut self,
+        span: &ToldSpan<'_>,
+        string: ControlString<'_>,
+    ) -> Result<(), AllocError> {
+        self.begin(span)?;
+        self.add(span, &string)?;
+        if self.style.decode {
+            if let Some(bytes) = clipboard_bytes(self.alloc(), span.bytes)? {
+                self.add_decoded(span, &bytes)?;
+            }
+        }
+        self.end(span)
+    }
+
+    /// A line for each action of a control sequence of these tokens; how many they are.
+    pub fn tell_actions(
+        &mut self,
+        span: &ToldSpan<'_>,
+        params: &[CsiParam],
+        control: char,
+    ) -> Result<u64, AllocError> {
+        self.begin(span)?;
+        let (alloc, sent) = (self.alloc(), self.style.dialect.is_some());
+        let mut count = 0u64;
+        for action in CSI::parse(alloc, params, false, control) {
+            let action = action?;
+            let reading = Reading {
+                action: &action,
+                params,
+                control,
+                sent,
+            };
+            if let CSI::Unspecified(_) = &action {
+                let words = words_with_taken(alloc, reading, count as usize)?;
+                self.add_action(span, &words, &action)?;
+            } else {
+                self.add_action(span, &Described(&reading), &action)?;
+            }
+            count = count.saturating_add(1);
+        }
+        self.end(span)?;
+        Ok(count)
+    }
+
+    /// The sums that are asked for, of a stream of which so much came: of all that came, or where only some is told, of what was.
+    pub fn add_sums(&mut self, came: &Totals) -> Result<(), AllocError> {
+        let told = if self.style.tells_all() {
+            *came
+        } else {
+            self.totals
+        };
+        let json = self.style.json;
+        if self.style.count && json {
+            append_totals(&mut self.text, &told, &self.names)?;
+        } else if self.style.count {
+            append_lines(&mut self.text, &told, &self.names)?;
+        }
+        if self.style.stats {
+            append_stats(&mut self.text, &self.names, came.bytes(), json)?;
+        }
+        Ok(())
     }
 }

@@ -48,12 +48,7 @@ fn says_unknown(name: &str, rest: &str) -> bool {
 
 /// Whether one of these names, with commas between them, is this, in capitals or not.
 pub fn is_among(names: &str, name: &str) -> bool {
-    for one in names.split(',') {
-        if one.eq_ignore_ascii_case(name) {
-            return true;
-        }
-    }
-    false
+    names.split(',').any(|one| one.eq_ignore_ascii_case(name))
 }
 
 /// Whether one of the names that are asked for is this: the whole of it, or its first word; or `unknown`, of what has a name and is
@@ -118,30 +113,14 @@ impl<'a> Style<'a> {
 
     /// Whether what has these words, and so many bytes of which the first stands at this place, is told, if `Search` finds it.
     pub fn tells(&self, words: &str, place: u64, len: u64) -> bool {
-        self.tells_words(words) && self.is_at(place, len)
-    }
-
-    fn tells_words(&self, words: &str) -> bool {
-        if !self.unknown && self.only.is_none() {
-            return true;
+        let behind = place.saturating_add(len.max(1));
+        let is_met = |(first, last): &(u64, u64)| place <= *last && behind > *first;
+        let is_there = self.at.is_empty() || self.at.iter().any(is_met);
+        if !is_there || (!self.unknown && self.only.is_none()) {
+            return is_there;
         }
         let (name, rest) = name_of(words);
-        if self.unknown && name != "malformed" && !says_unknown(name, rest) {
-            return false;
-        }
-        match self.only {
-            Some(names) => is_named(names, name, rest),
-            None => true,
-        }
-    }
-
-    fn is_at(&self, place: u64, len: u64) -> bool {
-        let behind = place.saturating_add(len.max(1));
-        for (first, last) in self.at {
-            if place <= *last && behind > *first {
-                return true;
-            }
-        }
-        self.at.is_empty()
+        (!self.unknown || name == "malformed" || says_unknown(name, rest))
+            && self.only.is_none_or(|names| is_named(names, name, rest))
     }
 }

@@ -7,13 +7,18 @@ use csicodec_terminal::terminal_actions;
 use csicodec_words::{Described, Reading};
 use std::alloc::{AllocError, Global};
 
-/// Appends what terminals do by a list, behind as many actions as the table reads of it, without what is unknown to them too.
-fn append_taken(
+/// The words of an action behind so many others: where it is unknown, with what terminals take the rest of its list for, without what is
+/// unknown to them too.
+#[inline(never)]
+pub fn words_with_taken(
     alloc: Global,
-    words: &mut String,
     reading: Reading<'_>,
     read: usize,
-) -> Result<(), AllocError> {
+) -> Result<String, AllocError> {
+    let mut words = text_of(alloc, &Described(&reading))?;
+    if reading.sent || !words.starts_with("unknown") {
+        return Ok(words);
+    }
     let mut ahead = " (terminals: ";
     let actions = terminal_actions(alloc, reading.params, false, reading.control)?;
     for action in actions.get(read..).unwrap_or(&[]) {
@@ -24,18 +29,6 @@ fn append_taken(
         words.push_str(name_of(&text_of(alloc, &Described(action))?).1)?;
         ahead = ", ";
     }
-    words.push_str(if ahead == ", " { ")" } else { "" })
-}
-
-/// The words of an action behind so many others: where it is unknown, with what terminals take the rest of its list for.
-pub fn words_with_taken(
-    alloc: Global,
-    reading: Reading<'_>,
-    read: usize,
-) -> Result<String, AllocError> {
-    let mut words = text_of(alloc, &Described(&reading))?;
-    if !reading.sent && words.starts_with("unknown") {
-        append_taken(alloc, &mut words, reading, read)?;
-    }
+    words.push_str(if ahead == ", " { ")" } else { "" })?;
     Ok(words)
 }

@@ -37,6 +37,11 @@ class _Lines:
         """What is written of whole lines."""
         raise NotImplementedError
 
+    def __copy__(self) -> _Lines:
+        other = object.__new__(type(self))
+        vars(other).update(vars(self), _held=list(self._held), _sequences=list(self._sequences))
+        return other
+
     def feed(self, data: Data) -> bytes:
         """What becomes of the next bytes, or characters, as far as they are whole lines."""
         given = bytes_of(data)

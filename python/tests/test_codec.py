@@ -151,7 +151,7 @@ class Codec(unittest.TestCase):
             self.assertEqual([said.first for said in other.take(ControlString("OSC", b"b", first=False))], [b"ab"])
         for it in [Parser(), InputParser(), csicodec.KeyParser(), Cleaner(styles=True), Filter(), Filter.compact(), csicodec.Overwriter(), csicodec.HtmlWriter()]:
             it.feed(b"a\x1b[1m\x1b]0;t\x1b[3")
-            others = [pickle.loads(pickle.dumps(it)), copy.deepcopy(it)]
+            others = [pickle.loads(pickle.dumps(it)), copy.deepcopy(it), copy.copy(it)]
             wanted = (it.feed("1mé"), it.finish())
             for other in others:
                 self.assertEqual((other.feed("1mé"), other.finish()), wanted)

@@ -38,7 +38,11 @@ class Uses:
 
     def __init__(self, text):
         self.names, self.files = {}, {}
-        for use in USE.finditer(re.sub(r"\{[^}]*\}", lambda it: " ".join(it[0].split()), text)):
+        text = re.sub(r"\b(use\s+Rattle\.[\w.+]+)(\{[^}]*\})", lambda it: it[1] + " ".join(it[2].split()), text)
+        found = list(USE.finditer(text))
+        if len(found) != len(re.findall(r"\buse\s+Rattle\.", text)):
+            raise ValueError("an import isn't read: " + next(line for line in text.split("\n") if re.search(r"\buse\s+Rattle\.", line) and not USE.match(line)))
+        for use in found:
             if use[2] is not None:
                 for part in filter(None, (it.strip() for it in use[2].split(","))):
                     path, _, other = part.partition(" as ")

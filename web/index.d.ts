@@ -195,7 +195,7 @@ export class Codec {
     encode(actions: Iterable<Action>): Uint8Array;
     /** The same actions in a text that is no longer, if each is read back from its own text. */
     encodeCompact(actions: Iterable<Action>): Uint8Array;
-    /** The spans of a stream, in words. One whose first line is that of an asciicast is read as the recording. */
+    /** The spans of a stream, in words. One that begins with `{`, and whose first line is that of an asciicast, is read as the recording. */
     explain(input: Input, options?: ExplainOptions): Span[];
     /** The same as lines of JSON, which `each` is called with as they come. */
     explainEach(input: Input, options: ExplainOptions | undefined, each: (lines: string[]) => void): void;

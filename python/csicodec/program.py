@@ -25,8 +25,8 @@ def path() -> str:
 
 def explain(stream: Data, *, only: Optional[Iterable[str]] = None, unknown: bool = False, decode: bool = False) -> List[Dict[str, Any]]:
     """The spans of a stream in words: dictionaries with the place `at`, the `kind`, the bytes as `text` or `hex`, and the `actions`, each
-    with a `name` and `words`. It runs the program. A stream that begins with { and whose first line is that of an asciicast (of version 2 or 3, and of at most 4,096
-    bytes with its newline) is read as the recording, or refused.
+    with a `name` and `words`. It runs the program. A stream that begins with { and whose first line is that of an asciicast (of version 2
+    or 3, and of at most 4,096 bytes with its newline) is read as the recording, or refused.
 
     >>> explain(b"\\x1b[5;7H")[0]["actions"][0]["words"]
     'cursor to line 5, column 7'

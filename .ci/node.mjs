@@ -139,6 +139,8 @@ const keys = new InputParser(codec), read = [...keys.feed('a\x1bOP\x1b[3~\x1b[M 
 const named = read.map(event => event.type === 'Unspecified' ? codec.known(event).kind : event.type).join();
 if (named !== 'Text,Input.Ss3,KEY_DELETE,Input.Mouse,Input.Escape') wrong(`keys are read as ${named}`);
 if (keys.pause().length || keys.finish().length) wrong('something is left behind a pause');
+const strokes = new KeyParser(codec), typed = ['\x1b]11;rgb:', '0/1\x1b', '\\b'].flatMap(piece => strokes.feed(piece)).filter(it => !(it instanceof Uint8Array));
+if (typed.map(key => key.character).join() !== 'b') wrong(`of an answer in pieces ${typed.length} keys are told`);
 
 for (const [said, call] of [
     ['not number', () => codec.strip(5)],

@@ -213,6 +213,7 @@ export class KeyParser {
         if (!(codec instanceof Codec)) throw new TypeError('a parser is made of a Codec: new KeyParser(await Codec.load())');
         this.codec = codec;
         this.rest = new Uint8Array();
+        this.mode = 0;
     }
 
     /** The keys of the next bytes, or characters, as far as they don't depend on what follows: an ESC at the end waits. */
@@ -231,7 +232,18 @@ export class KeyParser {
     finish() {
         const found = this.#read(0), left = this.rest;
         this.rest = new Uint8Array();
+        this.mode = 0;
         return left.length ? [...found, left] : found;
+    }
+
+    /** How many bytes go on with the string that is open, or open one: 0 if none does. The mode says whether it is open behind them. */
+    #string(library, at, size) {
+        library.calls.csicodec_span(library.answer, this.mode, BigInt(LIMIT), library.input.at + BigInt(at), BigInt(size));
+        library.look();
+        if (library.told(0)) return 0;
+        const isString = SPANS[library.told(4)] === 'string';
+        this.mode = isString ? library.told(8) : 0;
+        return isString ? library.told(16) : 0;
     }
 
     #read(more) {
@@ -241,12 +253,20 @@ export class KeyParser {
             library.typed ??= library.room(Number(TYPED) * 4);
             let at = 0;
             while (at < held.length) {
+                if (this.mode) {
+                    const string = this.#string(library, at, held.length - at);
+                    if (string) found.push(held.subarray(at, at + string));
+                    else if (this.mode) break;
+                    at += string;
+                    continue;
+                }
                 library.calls.csicodec_key(library.answer, more, library.input.at + BigInt(at), BigInt(held.length - at), library.typed, TYPED);
                 library.look();
                 const status = library.told(0), used = library.told(32);
                 if (status === TRUNCATED) break;
                 if (status && status !== NO_ACTION) throw new CodecError('out of memory', { status });
                 found.push(status ? held.subarray(at, at + used) : strokeOf(library));
+                if (status) this.#string(library, at, used);
                 at += used;
             }
             return at;

@@ -8,6 +8,7 @@ from typing import Iterator, List, Union
 from . import library
 from .enums import KeyCode
 from .library import Data, bytes_of
+from .span import SpanKind
 from .values import KeyModifiers, Value
 
 #: How many characters a key types at most.
@@ -92,7 +93,7 @@ class KeyParser:
     """
 
     def __init__(self) -> None:
-        self._rest = b""
+        self._rest, self._mode = b"", 0
 
     def feed(self, data: Data) -> List[Union[Key, bytes]]:
         """The keys of the next bytes, or characters, as far as they don't depend on what follows."""
@@ -106,26 +107,45 @@ class KeyParser:
     def finish(self) -> List[Union[Key, bytes]]:
         """What is left at the end: keys, and bytes that are none."""
         found = self._read(False)
-        left, self._rest = self._rest, b""
+        left, self._rest, self._mode = self._rest, b"", 0
         return [*found, left] if left else found
 
     def __enter__(self) -> KeyParser:
         return self
 
     def __exit__(self, *_: object) -> None:
-        self._rest = b""
+        self._rest, self._mode = b"", 0
+
+    def _string(self, begin: int, size: int) -> int:
+        """How many bytes go on with the string that is open, or open one: 0 if none does. The mode says whether it is open behind them."""
+        span = library.span(self._mode, library.LIMIT, begin, size)
+        if span.status:
+            return 0
+        is_string = span.kind == SpanKind.Str
+        self._mode = span.mode if is_string else 0
+        return span.used if is_string else 0
 
     def _read(self, more: bool) -> List[Union[Key, bytes]]:
         found: List[Union[Key, bytes]] = []
         held, at, typed = self._rest, 0, (c_uint32 * _MOST)()
         begin = library.address_of(held)
         while at < len(held):
+            if self._mode:
+                used = self._string(begin + at, len(held) - at)
+                if used:
+                    found.append(held[at : at + used])
+                elif self._mode:
+                    break
+                at += used
+                continue
             given = library.key(more, begin + at, len(held) - at, typed, _MOST)
             if given.status == _TRUNCATED:
                 break
             if given.status not in (0, _NO_ACTION):
                 raise library.refusal(given)
             found.append(held[at : at + given.used] if given.status else _key_of(given, list(typed)))
+            if given.status:
+                self._string(begin + at, given.used)
             at += given.used
         self._rest = held[at:]
         return found

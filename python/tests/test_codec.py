@@ -281,6 +281,15 @@ class Codec(unittest.TestCase):
                 self.assertEqual(b"".join(it.feed(stream[at : at + size]) for at in range(0, len(stream), size)) + it.finish(), whole, (stream, size))
 
     def test_keys(self):
+        string = b"\x1b]11;rgb:0/1\x1b\\b\x1bP1$r0m\x18c\x1b_a\x1b[A"
+        whole = [b"\x1b]11;rgb:0/1\x1b\\", "b", b"\x1bP1$r0m", "x", "c", b"\x1b_a", "Up"]
+        for cut in range(len(string)):
+            parser, told = csicodec.KeyParser(), []
+            for it in parser.feed(string[:cut]) + parser.feed(string[cut:]) + parser.finish():
+                if isinstance(it, bytes) and told and isinstance(told[-1], bytes) and not it.startswith(b"\x1b]"):
+                    it = told.pop() + it
+                told.append(it if isinstance(it, bytes) else it.value or it.code.name)
+            self.assertEqual(told, whole, cut)
         held = b"a\x1bOP\x1b[1;5A\x1b[57399u\xc3\xa9\x1b[5;7R\x1b[<0;1;2M\x1b[200~\x1b"
         names = [it if isinstance(it, bytes) else it.code.name + it.value for it in csicodec.keys(held)]
         self.assertEqual(names, ["Chara", "F1", "Up", "Keypad0", "Charé", b"\x1b[5;7R", b"\x1b[<0;1;2M", b"\x1b[200~", "Escape"])

@@ -36,17 +36,18 @@ def closing(text, at):
 class Uses:
     """What the names of a file stand for: (file, name) of a definition, or a file for an alias."""
 
-    def __init__(self, text):
+    def __init__(self, text, path):
         self.names, self.files = {}, {}
         text = re.sub(r"\b(use\s+Rattle\.[\w.+]+)(\{[^}]*\})", lambda it: it[1] + " ".join(it[2].split()), text)
         found = list(USE.finditer(text))
         if len(found) != len(re.findall(r"\buse\s+Rattle\.", text)):
-            raise ValueError("an import isn't read: " + next(line for line in text.split("\n") if re.search(r"\buse\s+Rattle\.", line) and not USE.match(line)))
+            unread = next(line for line in text.split("\n") if re.search(r"\buse\s+Rattle\.", line) and not USE.match(line))
+            raise SystemExit(f"{path.relative_to(TOP)}: an import isn't read: {unread.strip()}")
         for use in found:
             if use[2] is not None:
                 for part in filter(None, (it.strip() for it in use[2].split(","))):
-                    path, _, other = part.partition(" as ")
-                    inner, _, name = path.rpartition(".")
+                    whole, _, other = part.partition(" as ")
+                    inner, _, name = whole.rpartition(".")
                     self.names[other or name] = (".".join(filter(None, (use[1], inner))), name)
             else:
                 self.files[use[3] or use[1].rpartition(".")[2]] = use[1]
@@ -71,7 +72,7 @@ class File:
         self.path, self.module, self.own, self.made, last, comment = path, module, {}, {}, None, []
         text, within, rest = path.read_text().partition("\nmodule _")
         text += re.sub(r"(?m)^  ", "", rest.partition("\n")[2]) if within else ""
-        self.uses = Uses(text)
+        self.uses = Uses(text, path)
         self.again = re.findall(r"(?m)^pub use (Rattle\.[\w.]+)$", text)
         for line in text.split("\n"):
             head = HEAD.match(line)
@@ -215,7 +216,7 @@ def contracts():
     found = []
     for path in sorted(TOP.glob("crates/*/src/**/*.rt")):
         crate, text = path.relative_to(TOP / "crates").parts[0], blank(path.read_text())
-        uses = Uses(text)
+        uses = Uses(text, path)
         blocks = [(it.end(), closing(text, it.end() - 1), it[1], it[0].lstrip().startswith("pub") or it[0].lstrip().startswith("impl")) for it in re.finditer(r"(?m)^[ \t]*(?:pub )?(?:impl|trait)\b(?:<[^{]*?>)?\s*(?:[\w:<>', ]+? for )?(?:&mut |&)?(\w+)[^{;]*\{", text)]
         for fn in re.finditer(r"(?m)^[ \t]*(pub )?(?:(?:const|unsafe|extern)\s+)*fn (\w+)", text):
             clauses = clauses_of(text, fn.end())

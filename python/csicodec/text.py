@@ -99,7 +99,8 @@ def html(text: AnyStr, *, links: bool = False, classes: bool = False, fragment: 
 
 def overwrite(text: AnyStr, *, styles: bool = False) -> AnyStr:
     """Each line as it stands when it ends: what a carriage return, a backspace or an erase hides in it is gone. Once a line has more than
-    512 columns, nothing in it is overwritten or erased. It is plain text, with `styles` the sequences (SGR) too that set how characters look.
+    512 columns, nothing in it but blanks is overwritten or erased. It is plain text, with `styles` the sequences (SGR) too that set how
+    characters look.
 
     >>> overwrite("10%\\r20%\\r\\x1b[Kdone\\n")
     'done\\n'

@@ -70,7 +70,7 @@ pub fn html(bytes: impl AsRef<[u8]>) -> Result<String, Error> {
 }
 
 /// Each line of untrusted bytes, which are a whole text, as it stands when it ends, as plain text: what a carriage return, a backspace or
-/// an erase hides in it is gone. Once a line has more than 512 columns, nothing in it is overwritten or erased.
+/// an erase hides in it is gone. Once a line has more than 512 columns, nothing in it but blanks is overwritten or erased.
 ///
 /// ```
 /// assert_eq!(csicodec::overwrite(b"10%\r20%\r\x1b[Kdone\n")?, "done\n");

@@ -125,6 +125,9 @@ for (let i = 0; i < 200; i++) {
     }
 }
 
+const seam = `\x1b[1m${'x'.repeat(65531)}\ud800\u{1f600}`;
+if (codec.strip(seam) !== `${'x'.repeat(65531)}\ufffd\u{1f600}`) wrong('a pair behind half of one at a seam is parted');
+
 const types = new Set();
 for (const [, text, isRead] of readFileSync(kinds, 'utf8').matchAll(/"([^"\n]*)",\s*(true|false),?\s*\)/g)) {
     if (isRead !== 'true') continue;

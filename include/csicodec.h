@@ -328,9 +328,9 @@ struct csicodec_stripped csicodec_html(const struct csicodec_markup *markup, con
                                        size_t len, uint8_t *out, size_t room);
 
 /* Writes each line of len untrusted bytes, which are a whole text, as it stands when it ends: what a carriage return, a backspace or an
- * erase hides in it is gone. Once a line has more than 512 columns, nothing in it is overwritten or erased. It is plain text as
- * csicodec_strip's or, if `styles` is 1, has the sequences (SGR) that set how characters look, and at the end of each line none is set. It
- * is written to out if needed <= room; otherwise nothing is written. For styles above 1 the status is CSICODEC_BAD_STATE. */
+ * erase hides in it is gone. Once a line has more than 512 columns, nothing in it but blanks is overwritten or erased. It is plain
+ * text as csicodec_strip's or, if `styles` is 1, has the sequences (SGR) that set how characters look, and at the end of each line none is
+ * set. It is written to out if needed <= room; otherwise nothing is written. For styles above 1 the status is CSICODEC_BAD_STATE. */
 struct csicodec_stripped csicodec_overwrite(uint32_t styles, const uint8_t *bytes, size_t len, uint8_t *out, size_t room);
 
 /* Writes a whole stream of len bytes in fewer, as `csicodec compact` does, with semicolons if `semicolons` is 1 (csicodec_compact_semicolons):

@@ -1,5 +1,5 @@
 // csicodec in JavaScript, over two modules of WebAssembly: the library's calls over text, and the program explain. It runs in browsers and in
-// node. The package's index.mjs adds events, input, spans and actions; the page has this file alone.
+// node. The package's index.mjs adds events, input, spans and actions.
 //
 //     import { Codec } from './csicodec.mjs';
 //     const codec = await Codec.load();
@@ -261,7 +261,7 @@ class Steps {
             const from = this.rest.length || this.isOpen ? at : plainEnd(text, at);
             to = from + PIECE;
             // No pair of surrogates is cut.
-            if ((text.charCodeAt(to - 1) & 0xfc00) === 0xd800) to++;
+            if ((text.charCodeAt(to - 1) & 0xfc00) === 0xd800 && (text.charCodeAt(to) & 0xfc00) === 0xdc00) to++;
             out += text.slice(at, from) + decoder.decode(joined(this.feed(encoder.encode(text.slice(from, to)))));
         }
         return out + decoder.decode(this.finish());

@@ -183,7 +183,7 @@ export class Codec {
     events(input: Input, options?: ParserOptions): Generator<Event, void, undefined>;
     /** The events of all that a terminal sent. An ESC at the end is a key. */
     inputs(input: Input, options?: { dialect?: Dialect; limit?: number }): Generator<InputEvent, void, undefined>;
-    /** The keys of all that a terminal sent; what is no key comes as its bytes. An ESC at the end is a key. */
+    /** The keys of all that a terminal sent; what isn't read as one comes as its bytes. An ESC at the end is a key, but in a control string. */
     keys(input: Input): Generator<Key | Uint8Array, void, undefined>;
     /** What an OSC says, by its content: the bytes between ESC ] and what ends it. */
     osc(content: Input): Osc;
@@ -226,7 +226,7 @@ export class InputParser {
     finish(): InputEvent[];
 }
 
-/** Reads the keys of what a terminal sends, as it comes; what is no key comes as its bytes. */
+/** Reads the keys of what a terminal sends, as it comes; what isn't read as a key comes as its bytes. */
 export class KeyParser {
     constructor(codec: Codec);
     /** The keys of the next bytes, or characters, as far as they don't depend on what follows: an ESC at the end waits. */

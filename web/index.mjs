@@ -207,7 +207,7 @@ export class InputParser extends Reader {
     finish() { return [...this.pause(), ...super.finish()]; }
 }
 
-/** Reads the keys of what a terminal sends, as it comes. What is no key comes as its bytes. */
+/** Reads the keys of what a terminal sends, as it comes. What isn't read as a key comes as its bytes. */
 export class KeyParser {
     constructor(codec) {
         if (!(codec instanceof Codec)) throw new TypeError('a parser is made of a Codec: new KeyParser(await Codec.load())');
@@ -411,7 +411,7 @@ export class Codec extends TextCodec {
     /** The events of all that a terminal sent. An ESC at the end is a key. */
     inputs(input, options) { return allOf(new InputParser(this, options), bytesOf(input)); }
 
-    /** The keys of all that a terminal sent; what is no key comes as its bytes. An ESC at the end is a key. */
+    /** The keys of all that a terminal sent; what isn't read as one comes as its bytes. An ESC at the end is a key, but in a control string. */
     keys(input) { return allOf(new KeyParser(this), bytesOf(input)); }
 
     /** What an OSC says, by its content: the bytes between `ESC ]` and what ends it. */

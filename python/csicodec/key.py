@@ -83,7 +83,7 @@ def _key_of(given: library.Key, typed: List[int]) -> Key:
 
 
 class KeyParser:
-    """Reads the keys of what a terminal sends, as it comes; what is no key, as an answer or a report of the mouse, comes as its bytes. An ESC
+    """Reads the keys of what a terminal sends, as it comes; what isn't read as a key, as most answers, comes as its bytes. An ESC
     at the end waits, as it may be the first byte of another key: if nothing follows in time, call `pause`.
 
     >>> from csicodec import KeyParser
@@ -152,7 +152,7 @@ class KeyParser:
 
 
 def keys(data: Data) -> Iterator[Union[Key, bytes]]:
-    """The keys of all that a terminal sent; what is no key comes as its bytes. An ESC at the end is a key.
+    """The keys of all that a terminal sent; what isn't read as one comes as its bytes. An ESC at the end is a key, but in a control string.
 
     >>> from csicodec import keys
     >>> [(key.code.name, key.value) for key in keys(b"a\\x1bOP\\x1b[1;5A\\x1b")]

@@ -18,11 +18,15 @@ const wrong = what => { console.error(`node: ${what}`); process.exit(1); };
 
 const PALETTE = Array.from({ length: 18 }, (_, i) => `#${String(i).padStart(2, '0')}7fff`);
 
-/** What a TransformStream makes of some bytes, which come in pieces. */
+/** What a TransformStream makes of some bytes, which come in pieces. Each is written over once it was taken, as where a file is read through one Buffer. */
 async function through(stream, data, size) {
     const writer = stream.writable.getWriter(), parts = [];
     const sent = (async () => {
-        for (let at = 0; at < data.length; at += size) await writer.write(data.subarray(at, at + size));
+        for (let at = 0; at < data.length; at += size) {
+            const piece = Buffer.from(data.subarray(at, at + size));
+            await writer.write(piece);
+            piece.fill('x');
+        }
         await writer.close();
     })();
     for await (const part of stream.readable) parts.push(part);

@@ -39,7 +39,8 @@ export const typeName = value => value === null ? 'null' : typeof value === 'obj
 /** The bytes of an input; a string is taken as UTF-8. */
 export function bytesOf(input) {
     if (typeof input === 'string') return encoder.encode(input);
-    if (input instanceof Uint8Array) return input;
+    // The `slice` of a node Buffer, which is a Uint8Array too, is no copy.
+    if (input instanceof Uint8Array && input.constructor === Uint8Array) return input;
     if (ArrayBuffer.isView(input)) return new Uint8Array(input.buffer, input.byteOffset, input.byteLength);
     if (input instanceof ArrayBuffer || /^\[object (Shared)?ArrayBuffer\]$/.test(Object.prototype.toString.call(input))) return new Uint8Array(input);
     throw new TypeError(`the input must be a string, an ArrayBuffer or a view of one, not ${typeName(input)}`);

@@ -1,16 +1,14 @@
 -- An action that is in range and canonical is read back alone from its own text: a case for each kind of action.
-use Rattle.std.proofs.Common.{ℕ, ◌≡◌, ◌<◌, List, [], ◌∷◌, Bool, false, length, refl, sym, ap, arith, inl, inr}
-use Rattle.std.proofs.lemmas.{Bool.cases_Bool, Str.encode_ascii}
-use Rattle.csicodec_tokens.specs.{declared.param.CsiParam.CsiParam}
-use Rattle.csicodec_parser.specs.Canonical.{IsUncut, IsUnknownIn, Canonical}
-use Rattle.csicodec_parser.specs.{Cut.body, Cut.IsStuck, Groups.group, Groups.marked, Groups.has_odd}
-use Rattle.csicodec_parser.specs.Segments.{BodyActions, CutActions, ActionsIn}
-use Rattle.csicodec_parser.specs.declared.group.Group.{Group}
-use Rattle.csicodec_parser.specs.declared.group.Group.TheVariants as groups
+use Rattle.std.proofs.{Common.ℕ, Common.◌≡◌, Common.◌<◌, Common.List, Common.[], Common.◌∷◌, Common.Bool, Common.false, Common.length, Common.refl, Common.sym}
+use Rattle.std.proofs.{Common.ap, Common.arith, Common.inl, Common.inr, lemmas.Bool.cases_Bool, lemmas.Str.encode_ascii}
+use Rattle.csicodec_tokens.specs.declared.param.CsiParam.{CsiParam}
+use Rattle.csicodec_parser.specs.{Canonical.IsUncut, Canonical.IsUnknownIn, Canonical.Canonical, Cut.body, Cut.IsStuck, Groups.group, Groups.marked}
+use Rattle.csicodec_parser.specs.{Groups.has_odd, Segments.BodyActions, Segments.CutActions, Segments.ActionsIn, declared.group.Group.Group}
 use Rattle.csicodec_actions.specs.{Actions.Action, Actions.Sgr, Actions.Unspecified, Ranges.InRange}
 use Rattle.csicodec_parser.proofs.GroupOf.{marked-body}
 use Rattle.csicodec_streams.proofs.OneReading.{Alone}
 use Rattle.csicodec.proofs.{SgrSpelling.sgr-spelling, Spelling.spelling-alone, Spelling.written-back}
+use Rattle.csicodec_parser.specs.declared.group.Group.TheVariants as groups
 
 -- ---- a list that is unknown is one action
 

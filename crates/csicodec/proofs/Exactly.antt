@@ -1,19 +1,18 @@
 -- What is read back alone from its own text is canonical, and what is canonical is read back; what is written is read, and written again, as the same.
 use Rattle.std.proofs.Common.{ℕ, ◌≡◌, ◌<◌, List, [], ◌∷◌, ◌++◌, Bool, length, refl, arith, inl, inr, append-nil, length-append, false, sym, ap, ◌∙◌}
-use Rattle.std.specs.List.{AllByRecursion}
 use Rattle.std.proofs.lemmas.Grind.{flat_map-append}
+use Rattle.std.specs.List.{AllByRecursion}
 use Rattle.csicodec_tokens.specs.{Sequence.Seq, declared.param.CsiParam.CsiParam}
 use Rattle.csicodec_base.specs.declared.sgr.Sgr.{Sgr}
 use Rattle.csicodec_actions.specs.{Actions.Action, Ranges.InRange, Table.text, Table.texts}
 use Rattle.csicodec_actions.proofs.AllRows.{all-append}
 use Rattle.csicodec_parser.specs.{ActionOf.action_of, Canonical.Canonical, Segments.Actions, declared.actions.CSI.CSI}
-use Rattle.csicodec_parser.specs.declared.actions.CSI.TheVariants as csi
 use Rattle.csicodec_parser.proofs.Cuts.{actions_count}
 use Rattle.csicodec_streams.specs.Decoding.{Joins, AreActions, Decodes}
 use Rattle.csicodec_streams.proofs.OneReading.{Alone, one_decoding, decodes-append}
 use Rattle.csicodec.specs.{Exact.Exact, Streams.IsNormal, Streams.NormaliseTwice, Streams.Join}
-use Rattle.csicodec.proofs.{Alone.canonical-alone, Kept.Kept, Parsed.parsed-kept, RoundTrip.alone-only}
-use Rattle.csicodec.proofs.Twins.{IsParsedSpecial, special-twin}
+use Rattle.csicodec.proofs.{Alone.canonical-alone, Kept.Kept, Parsed.parsed-kept, RoundTrip.alone-only, Twins.IsParsedSpecial, Twins.special-twin}
+use Rattle.csicodec_parser.specs.declared.actions.CSI.TheVariants as csi
 
 -- ---- bytes that are one action are one sequence
 

@@ -1,37 +1,31 @@
 -- What reading makes is canonical or special.
 use Rattle.std.proofs.Common.{ℕ, ◌≡◌, ◌⊎◌, ◌<◌, List, [], ◌∷◌, Bool, Some, pos, drop, take, refl, rules, inl, inr}
-use Rattle.std.specs.List.{AllByRecursion}
-use Rattle.std.specs.Prelude.{ℤ, ◌==◌, ◌&&◌, true, Option, None}
 use Rattle.std.proofs.lemmas.Bool.{cases_Bool, and_parts, eq-eqb, eqb-true}
+use Rattle.std.specs.{List.AllByRecursion, Prelude.ℤ, Prelude.◌==◌, Prelude.◌&&◌, Prelude.true, Prelude.Option, Prelude.None}
 use Rattle.csicodec_names.proofs.Coded.{attributes}
-use Rattle.csicodec_names.specs.DeviceNumbers.{device_attribute_codes, device_attribute_number}
-use Rattle.csicodec_names.specs.Numbered.{with_number}
-use Rattle.csicodec_names.specs.declared.{device.DeviceAttributeCodes.DeviceAttributeCodes, flags.Modifiers.Modifiers}
-use Rattle.csicodec_tokens.specs.{OneBased.most, Sequence.IsSpellable, Sequence.Spellable}
-use Rattle.csicodec_tokens.specs.declared.param.CsiParam.{CsiParam, TheVariants.Integer, TheVariants.P}
-use Rattle.csicodec_actions.specs.Actions.{Action, Cursor, Device, Mode, Mouse}
+use Rattle.csicodec_names.specs.{DeviceNumbers.device_attribute_codes, DeviceNumbers.device_attribute_number, Numbered.with_number}
+use Rattle.csicodec_names.specs.{declared.device.DeviceAttributeCodes.DeviceAttributeCodes, declared.flags.Modifiers.Modifiers}
+use Rattle.csicodec_tokens.specs.{OneBased.most, Sequence.IsSpellable, Sequence.Spellable, declared.param.CsiParam.CsiParam}
+use Rattle.csicodec_tokens.specs.{declared.param.CsiParam.TheVariants.Integer, declared.param.CsiParam.TheVariants.P}
 use Rattle.csicodec_actions.specs.Devices.{Attributes, Vt220, Vt320, Vt420, XtSmGraphics, code_or_token, listed_attributes}
-use Rattle.csicodec_actions.specs.FieldRows.{FieldRow, Over}
-use Rattle.csicodec_actions.specs.Kinds.{IsReport, Good, IsOneBased, Any, Dec, GraphicsItem, Terminal, read}
-use Rattle.csicodec_actions.specs.Modes.{changed, switched}
-use Rattle.csicodec_actions.specs.{Mouse.pressed, Mouse.released, Mouse.is_release, Ranges.InRange}
-use Rattle.csicodec_actions.specs.Table.{table, field_table, whole, Device.answer, Device.written_attributes}
-use Rattle.csicodec_actions.specs.Table.{Window.window_fields, XtSmGraphics.graphics_fields}
-use Rattle.csicodec_actions.specs.Written.{Attribute, any_number, listed, AllGood, GoodAttribute}
-use Rattle.csicodec_actions.specs.declared.device.DeviceAttribute.{DeviceAttribute}
-use Rattle.csicodec_actions.specs.declared.mode.{Change.Change, DecPrivateMode.DecPrivateMode, Switch.Switch}
-use Rattle.csicodec_actions.specs.declared.{mode.TerminalMode.TerminalMode, mouse.MouseButton.MouseButton}
-use Rattle.csicodec_actions.specs.declared.xtsmgraphics.XtSmGraphicsItem.{XtSmGraphicsItem}
+use Rattle.csicodec_actions.specs.{Actions.Action, Actions.Cursor, Actions.Device, Actions.Mode, Actions.Mouse, FieldRows.FieldRow, FieldRows.Over}
+use Rattle.csicodec_actions.specs.{Kinds.IsReport, Kinds.Good, Kinds.IsOneBased, Kinds.Any, Kinds.Dec, Kinds.GraphicsItem, Kinds.Terminal, Kinds.read}
+use Rattle.csicodec_actions.specs.{Modes.changed, Modes.switched, Mouse.pressed, Mouse.released, Mouse.is_release, Ranges.InRange, Table.table}
+use Rattle.csicodec_actions.specs.{Table.field_table, Table.whole, Table.Device.answer, Table.Device.written_attributes, Table.Window.window_fields}
+use Rattle.csicodec_actions.specs.{Table.XtSmGraphics.graphics_fields, Written.Attribute, Written.any_number, Written.listed, Written.AllGood}
+use Rattle.csicodec_actions.specs.{Written.GoodAttribute, declared.device.DeviceAttribute.DeviceAttribute, declared.mode.Change.Change}
+use Rattle.csicodec_actions.specs.{declared.mode.DecPrivateMode.DecPrivateMode, declared.mode.Switch.Switch, declared.mode.TerminalMode.TerminalMode}
+use Rattle.csicodec_actions.specs.{declared.mouse.MouseButton.MouseButton, declared.xtsmgraphics.XtSmGraphicsItem.XtSmGraphicsItem}
+use Rattle.csicodec_actions.proofs.AllRows.{KeepsTail, TableKeeps, all-append, table-append, spellable-tokens, whole-keeps}
+use Rattle.csicodec_actions.proofs.{MouseCodes.release-pressed, MouseCodes.none-released, AllFieldRows.FieldsKeep, AllFieldRows.FieldRowsKeep}
+use Rattle.csicodec_actions.proofs.{AllFieldRows.KeepsRest, Values.dec-read, Values.terminal-read, Values.good-read, Values.one-fits, Values.most-fits}
+use Rattle.csicodec_actions.proofs.{Values.zero-said}
+use Rattle.csicodec_parser.specs.Canonical.{Canonical}
+use Rattle.csicodec.proofs.Twins.{IsParsedSpecial}
 use Rattle.csicodec_actions.specs.declared.cursor.Cursor.TheVariants as cursor
 use Rattle.csicodec_actions.specs.declared.mode.Change.TheVariants as change
 use Rattle.csicodec_actions.specs.declared.mode.Switch.TheVariants as switch
 use Rattle.csicodec_actions.specs.declared.mouse.MouseReport.TheVariants as mouse
-use Rattle.csicodec_actions.proofs.MouseCodes.{release-pressed, none-released}
-use Rattle.csicodec_parser.specs.Canonical.{Canonical}
-use Rattle.csicodec_actions.proofs.AllFieldRows.{FieldsKeep, FieldRowsKeep, KeepsRest}
-use Rattle.csicodec_actions.proofs.AllRows.{KeepsTail, TableKeeps, all-append, table-append, spellable-tokens, whole-keeps}
-use Rattle.csicodec.proofs.Twins.{IsParsedSpecial}
-use Rattle.csicodec_actions.proofs.Values.{dec-read, terminal-read, good-read, one-fits, most-fits, zero-said}
 
 -- each action that parsing makes is in range, and canonical or special
 pub record Kept (flag : Bool) (a : Action) : Type 0 where

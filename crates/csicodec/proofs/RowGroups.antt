@@ -1,26 +1,24 @@
 -- The group of what the rows read, which are lists that are read whole; and by which rules a list is read.
-use Rattle.std.proofs.Common.{◌≡◌, ℕ, List, [], ◌∷◌, None, Some, sym, ◌∙◌, inl, inr, rules, Option, refl}
-use Rattle.std.proofs.lemmas.{Bool.cases_Bool, Bool.and_parts, Bool.eqb-true, Option.option_and_then_some}
-use Rattle.std.specs.Prelude.{ℤ, ◌==◌, Bool, false, true, slice_get, ◌||◌, if◌then◌else◌, option_and_then}
-use Rattle.std.specs.Option.{option_or}
-use Rattle.csicodec_tokens.specs.Fields.{fields_of}
-use Rattle.csicodec_tokens.specs.declared.param.CsiParam.{CsiParam, TheVariants.Integer, TheVariants.P}
+use Rattle.std.proofs.{Common.◌≡◌, Common.ℕ, Common.List, Common.[], Common.◌∷◌, Common.None, Common.Some, Common.sym, Common.◌∙◌, Common.inl, Common.inr}
+use Rattle.std.proofs.{Common.rules, Common.Option, Common.refl, lemmas.Bool.cases_Bool, lemmas.Bool.and_parts, lemmas.Bool.eqb-true}
+use Rattle.std.proofs.{lemmas.Option.option_and_then_some}
+use Rattle.std.specs.{Prelude.ℤ, Prelude.◌==◌, Prelude.Bool, Prelude.false, Prelude.true, Prelude.slice_get, Prelude.◌||◌, Prelude.if◌then◌else◌}
+use Rattle.std.specs.{Prelude.option_and_then, Option.option_or}
+use Rattle.csicodec_tokens.specs.{Fields.fields_of, declared.param.CsiParam.CsiParam, declared.param.CsiParam.TheVariants.Integer}
+use Rattle.csicodec_tokens.specs.{declared.param.CsiParam.TheVariants.P}
 use Rattle.csicodec_names.specs.Numbered.{is_number}
-use Rattle.csicodec_actions.specs.Actions.{Action}
 use Rattle.csicodec_actions.specs.FieldRows.{read_fields, over, no_byte, byte, ahead_of_byte, behind_byte, fields_over, given, read_over}
-use Rattle.csicodec_actions.specs.Rows.{Slot, Byte, Number, One, fits, has_shape, read_by, Before}
-use Rattle.csicodec_actions.specs.Table.{table, field_table, whole, all_subjects, Cursor.cursor_rows, Cursor.as_cursor}
-use Rattle.csicodec_actions.specs.Table.{Device.device_rows, Device.as_device, Edit.edit_rows, Edit.as_edit}
-use Rattle.csicodec_actions.specs.Table.{Keyboard.keyboard_rows, Keyboard.as_keyboard, Mode.mode_rows, Mode.as_mode}
-use Rattle.csicodec_actions.specs.Table.{Mouse.mouse_rows, Mouse.as_mouse, Path.path_rows, Path.as_path}
-use Rattle.csicodec_actions.specs.Table.Window.{areas, windows, window_fields, as_window}
-use Rattle.csicodec_actions.specs.Table.XtSmGraphics.{graphics_fields, graphics_rows, as_graphics}
-use Rattle.csicodec_actions.proofs.{AllFieldRows.over-in, AllRows.AllRows, AllRows.row-in, AllRows.whole-table}
-use Rattle.csicodec_actions.proofs.Found.{guarded, one-of}
-use Rattle.csicodec_parser.specs.declared.group.Group.TheVariants as groups
+use Rattle.csicodec_actions.specs.{Actions.Action, Rows.Slot, Rows.Byte, Rows.Number, Rows.One, Rows.fits, Rows.has_shape, Rows.read_by, Rows.Before}
+use Rattle.csicodec_actions.specs.{Table.table, Table.field_table, Table.whole, Table.all_subjects, Table.Cursor.cursor_rows, Table.Cursor.as_cursor}
+use Rattle.csicodec_actions.specs.{Table.Device.device_rows, Table.Device.as_device, Table.Edit.edit_rows, Table.Edit.as_edit, Table.Keyboard.keyboard_rows}
+use Rattle.csicodec_actions.specs.{Table.Keyboard.as_keyboard, Table.Mode.mode_rows, Table.Mode.as_mode, Table.Mouse.mouse_rows, Table.Mouse.as_mouse}
+use Rattle.csicodec_actions.specs.{Table.Path.path_rows, Table.Path.as_path, Table.Window.areas, Table.Window.windows, Table.Window.window_fields}
+use Rattle.csicodec_actions.specs.{Table.Window.as_window, Table.XtSmGraphics.graphics_fields, Table.XtSmGraphics.graphics_rows, Table.XtSmGraphics.as_graphics}
+use Rattle.csicodec_actions.proofs.{AllFieldRows.over-in, AllRows.AllRows, AllRows.row-in, AllRows.whole-table, Found.guarded, Found.one-of}
 use Rattle.csicodec_parser.specs.Groups.{group_by, group, is_byte, dec_group, plain_group}
-use Rattle.csicodec.specs.WhichRules as rule
 use Rattle.csicodec.specs.WhichRules.{Rules, WhichRules, group_by_rules, last_token, read_by_rules, rules_of}
+use Rattle.csicodec_parser.specs.declared.group.Group.TheVariants as groups
+use Rattle.csicodec.specs.WhichRules as rule
 
 -- lists of this shape, before this final, are read whole; a row with a tail has a slot
 abbrev ReadWhole : ℕ → Bool → List Slot → Type 0

@@ -1,29 +1,23 @@
 -- The list that an action is written as, and that is read as this action alone.
 use Rattle.std.proofs.Common.{ℕ, ◌≡◌, ◌≤◌, List, [], ◌∷◌, ◌++◌, Bool, length, refl, sym, ap, ◌∙◌, subst, Some, inl, inr, pos, arith, append-nil, true}
 use Rattle.std.proofs.lemmas.Int.{ints}
-use Rattle.csicodec_tokens.specs.{Digits.largest, Param.spells}
-use Rattle.csicodec_tokens.specs.Sequence.{IsFinal, IsSpellable, Spellable}
-use Rattle.csicodec_tokens.specs.declared.param.CsiParam.{CsiParam, TheVariants.Integer, TheVariants.P}
+use Rattle.csicodec_tokens.specs.{Digits.largest, Param.spells, Sequence.IsFinal, Sequence.IsSpellable, Sequence.Spellable, declared.param.CsiParam.CsiParam}
+use Rattle.csicodec_tokens.specs.{declared.param.CsiParam.TheVariants.Integer, declared.param.CsiParam.TheVariants.P}
 use Rattle.csicodec_tokens.proofs.Printed.{printed}
-use Rattle.csicodec_actions.specs.Actions.{Action, Mode, Sgr, Unspecified}
-use Rattle.csicodec_actions.specs.Kinds.{Dec, Terminal, Good}
-use Rattle.csicodec_actions.specs.Modes.{changed, switched, dec_number, terminal_number}
-use Rattle.csicodec_actions.specs.Table.{text, whole, written as written_of, Mode.written_mode}
-use Rattle.csicodec_actions.specs.Written.{Written, tokens, written_text, AllGood}
-use Rattle.csicodec_actions.specs.declared.mode.{Change.Change, DecPrivateMode.DecPrivateMode}
-use Rattle.csicodec_actions.specs.declared.mode.{Switch.Switch, TerminalMode.TerminalMode}
-use Rattle.csicodec_actions.proofs.Back.{IsPiece, read-back}
-use Rattle.csicodec_actions.proofs.{Items.sound, Items.IsRead, Items.is_sound, Values.read-good}
+use Rattle.csicodec_actions.specs.{Actions.Action, Actions.Mode, Actions.Sgr, Actions.Unspecified, Kinds.Dec, Kinds.Terminal, Kinds.Good, Modes.changed}
+use Rattle.csicodec_actions.specs.{Modes.switched, Modes.dec_number, Modes.terminal_number, Table.text, Table.whole, Table.written as written_of}
+use Rattle.csicodec_actions.specs.{Table.Mode.written_mode, Written.Written, Written.tokens, Written.written_text, Written.AllGood, declared.mode.Change.Change}
+use Rattle.csicodec_actions.specs.{declared.mode.DecPrivateMode.DecPrivateMode, declared.mode.Switch.Switch, declared.mode.TerminalMode.TerminalMode}
+use Rattle.csicodec_actions.proofs.{Back.IsPiece, Back.read-back, Items.sound, Items.IsRead, Items.is_sound, Values.read-good}
+use Rattle.csicodec_parser.specs.{Canonical.IsCanonicalWritten, Cut.Cut, Cut.IsStuck, Groups.group, Groups.Piece, Segments.Actions, declared.group.Group.Group}
+use Rattle.csicodec_parser.proofs.Fronts.{front_stuck, front_empty}
+use Rattle.csicodec_streams.proofs.OneReading.{decodes-one, Alone}
+use Rattle.csicodec.proofs.RowGroups.{whole-group}
 use Rattle.csicodec_actions.specs.declared.mode.Change.TheVariants as change
 use Rattle.csicodec_actions.specs.declared.mode.Mode as mode_type
 use Rattle.csicodec_actions.specs.declared.mode.Mode.TheVariants as mode
 use Rattle.csicodec_actions.specs.declared.mode.Switch.TheVariants as switch
-use Rattle.csicodec_parser.specs.{Canonical.IsCanonicalWritten, Cut.Cut, Cut.IsStuck}
-use Rattle.csicodec_parser.specs.{Groups.group, Groups.Piece, Segments.Actions, declared.group.Group.Group}
 use Rattle.csicodec_parser.specs.declared.group.Group.TheVariants as groups
-use Rattle.csicodec_parser.proofs.Fronts.{front_stuck, front_empty}
-use Rattle.csicodec_streams.proofs.OneReading.{decodes-one, Alone}
-use Rattle.csicodec.proofs.RowGroups.{whole-group}
 
 pub record Spelling (flag : Bool) (a : Action) : Type 0 where
   pub list : List CsiParam

@@ -1,16 +1,14 @@
 -- A special action that parsing makes is written as another one, which isn't special.
-use Rattle.std.proofs.Common.{◌≡◌, ◌⊎◌, ℕ, List, ◌∷◌, Bool, true, None, refl, ap, inl, inr, pos, arith, rules}
+use Rattle.std.proofs.{Common.◌≡◌, Common.◌⊎◌, Common.ℕ, Common.List, Common.◌∷◌, Common.Bool, Common.true, Common.None, Common.refl, Common.ap, Common.inl}
+use Rattle.std.proofs.{Common.inr, Common.pos, Common.arith, Common.rules, lemmas.Str.encode_ascii}
 use Rattle.std.specs.Prelude.{ℤ}
-use Rattle.std.proofs.lemmas.Str.{encode_ascii}
-use Rattle.csicodec_tokens.specs.{OneBased.most}
-use Rattle.csicodec_base.specs.declared.sgr.Sgr as sgr_type
-use Rattle.csicodec_actions.specs.declared.cursor.Cursor.TheVariants as cursor
-use Rattle.csicodec_actions.specs.Actions.{Action, Sgr, Cursor, Device, Unspecified}
-use Rattle.csicodec_actions.specs.{Devices.RequestTerminalParameters, Ranges.InRange, Special.IsSpecial}
-use Rattle.csicodec_actions.specs.Table.{text, whole, Device.written_parameters}
-use Rattle.csicodec_actions.specs.Written.{AllGood, tokens}
+use Rattle.csicodec_tokens.specs.OneBased.{most}
+use Rattle.csicodec_actions.specs.{Actions.Action, Actions.Sgr, Actions.Cursor, Actions.Device, Actions.Unspecified, Devices.RequestTerminalParameters}
+use Rattle.csicodec_actions.specs.{Ranges.InRange, Special.IsSpecial, Table.text, Table.whole, Table.Device.written_parameters, Written.AllGood, Written.tokens}
 use Rattle.csicodec_parser.specs.Canonical.{Canonical}
 use Rattle.csicodec_actions.proofs.{AllRows.whole-table, Items.is_sound, Items.sound}
+use Rattle.csicodec_base.specs.declared.sgr.Sgr as sgr_type
+use Rattle.csicodec_actions.specs.declared.cursor.Cursor.TheVariants as cursor
 
 -- the special actions that parsing makes
 abbrev pub IsParsedSpecial : Action → Type 0

@@ -1,9 +1,9 @@
 -- What an unknown action that parsing makes holds.
 use Rattle.std.specs.Prelude.{◌≡◌, ℕ, Bool, true, false, List, [], ◌∷◌, ◌++◌}
-use Rattle.csicodec_tokens.specs.declared.param.CsiParam.{CsiParam, TheVariants.P}
-use Rattle.csicodec_actions.specs.declared.mode.Mode.TheVariants as mode
+use Rattle.csicodec_tokens.specs.{declared.param.CsiParam.CsiParam, declared.param.CsiParam.TheVariants.P}
 use Rattle.csicodec_actions.specs.Actions.{Action, Mode, Unspecified}
 use Rattle.csicodec_parser.specs.Segments.{Actions}
+use Rattle.csicodec_actions.specs.declared.mode.Mode.TheVariants as mode
 
 -- the list ends in it
 abbrev pub IsSuffix : List CsiParam → List CsiParam → Type 0

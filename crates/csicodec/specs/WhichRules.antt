@@ -1,16 +1,14 @@
 -- Which rules a list falls under, by its final character, its first token or its last, or in three of them its shape as a whole: another way to say
 -- which group it is in, and which rows of the table read it.
 use Prim.Native.Char.{Char, code}
-use Rattle.std.specs.{List.list_any, Option.option_or}
 use Rattle.std.specs.Prelude.{ℕ, ◌≡◌, ◌==◌, ◌||◌, ◌&&◌, Bool, false, List, [], ◌∷◌, Option, None, Some, if◌then◌else◌, slice_get}
+use Rattle.std.specs.{List.list_any, Option.option_or}
 use Rattle.csicodec_tokens.specs.declared.param.CsiParam.{CsiParam}
-use Rattle.csicodec_parser.specs.declared.group.Group.{Group}
+use Rattle.csicodec_parser.specs.{declared.group.Group.Group, Groups.dec_group, Groups.group, Groups.is_byte, Groups.plain_group}
+use Rattle.csicodec_actions.specs.{Actions.Action, Rows.Row, Rows.has_shape, Rows.mark, Table.whole, Table.Cursor.as_cursor, Table.Device.as_device}
+use Rattle.csicodec_actions.specs.{Table.Edit.as_edit, Table.Keyboard.as_keyboard, Table.Keyboard.keyboards, Table.Mode.as_mode, Table.Mode.queries}
+use Rattle.csicodec_actions.specs.{Table.Mouse.as_mouse, Table.Path.as_path, Table.Window.as_window, Table.XtSmGraphics.as_graphics}
 use Rattle.csicodec_parser.specs.declared.group.Group.TheVariants as groups
-use Rattle.csicodec_parser.specs.Groups.{dec_group, group, is_byte, plain_group}
-use Rattle.csicodec_actions.specs.{Actions.Action, Rows.Row, Rows.has_shape, Rows.mark}
-use Rattle.csicodec_actions.specs.Table.{whole, Cursor.as_cursor, Device.as_device, Edit.as_edit}
-use Rattle.csicodec_actions.specs.Table.{Keyboard.as_keyboard, Keyboard.keyboards, Mode.as_mode, Mode.queries}
-use Rattle.csicodec_actions.specs.Table.{Mouse.as_mouse, Path.as_path, Window.as_window, XtSmGraphics.as_graphics}
 
 pub data Rules : Type 0 where
   CharacterPath : Rules

@@ -1,19 +1,12 @@
 -- What holds of all that the rows over fields give: said for each row, and proved of any list.
 use Rattle.std.proofs.Common.{◌≡◌, ℕ, List, [], ◌∷◌, ◌++◌, Option, None, Some, refl, sym, ap, ◌∙◌, inl, inr, subst}
-use Rattle.std.specs.Prelude.{ℤ, ◌==◌, if◌then◌else◌, option_and_then}
-use Rattle.std.specs.List.{AllByRecursion}
-use Rattle.std.specs.Option.{option_or}
-use Rattle.std.proofs.lemmas.Bool.{cases_Bool, eqb-true, ne_eqb}
-use Rattle.std.proofs.lemmas.Option.{same_Some, option_and_then_some}
-use Rattle.csicodec_tokens.specs.declared.param.CsiParam.{CsiParam}
-use Rattle.csicodec_tokens.specs.declared.param.CsiParam.TheVariants.{Integer, P}
-use Rattle.csicodec_tokens.specs.Fields.{fields_of, with_field}
-use Rattle.csicodec_actions.specs.Actions.{Action}
-use Rattle.csicodec_actions.specs.FieldRows.{Slot, This, Empty, End, Maybe, There, Must, Or, Rest, Makes, first, behind, numbers, value_or, have_shape}
-use Rattle.csicodec_actions.specs.FieldRows.{made, FieldRow, gives, given, Over, ahead_of_byte, behind_byte, fields_over, read_over, read_fields}
-use Rattle.csicodec_actions.specs.Kinds.{Kind, Any, Value, read}
-use Rattle.csicodec_actions.proofs.Found.{guarded, map-some}
-use Rattle.csicodec_actions.proofs.Values.{read_any}
+use Rattle.std.proofs.{lemmas.Bool.cases_Bool, lemmas.Bool.eqb-true, lemmas.Bool.ne_eqb, lemmas.Option.same_Some, lemmas.Option.option_and_then_some}
+use Rattle.std.specs.{Prelude.ℤ, Prelude.◌==◌, Prelude.if◌then◌else◌, Prelude.option_and_then, List.AllByRecursion, Option.option_or}
+use Rattle.csicodec_tokens.specs.{declared.param.CsiParam.CsiParam, declared.param.CsiParam.TheVariants.Integer, declared.param.CsiParam.TheVariants.P}
+use Rattle.csicodec_tokens.specs.{Fields.fields_of, Fields.with_field}
+use Rattle.csicodec_actions.specs.FieldRows.{Slot, This, Empty, End, Maybe, There, Must, Or, Rest, Makes, first, behind, numbers, value_or, have_shape, made, FieldRow, gives, given, Over, ahead_of_byte, behind_byte, fields_over, read_over, read_fields}
+use Rattle.csicodec_actions.specs.{Actions.Action, Kinds.Kind, Kinds.Any, Kinds.Value, Kinds.read}
+use Rattle.csicodec_actions.proofs.{Found.guarded, Found.map-some, Values.read_any}
 
 -- ---- several tables as one
 

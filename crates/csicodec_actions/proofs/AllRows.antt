@@ -1,20 +1,13 @@
 -- What holds of all that the rows of whole lists give: said for each row, and proved of any list.
-use Rattle.std.proofs.Common.{◌≡◌, ℕ, List, [], ◌∷◌, ◌++◌, Some, refl, sym, ap, ◌∙◌, inl, inr, append_assoc}
-use Rattle.std.specs.Prelude.{ℤ, ◌==◌, Bool, true, false, if◌then◌else◌}
-use Rattle.std.specs.List.{AllByRecursion}
-use Rattle.std.specs.Option.{option_or}
-use Rattle.std.proofs.lemmas.Bool.{cases_Bool, eqb-true}
-use Rattle.std.proofs.lemmas.Option.{same_Some, option_and_then_some}
-use Rattle.csicodec_tokens.specs.declared.param.CsiParam.{CsiParam}
-use Rattle.csicodec_tokens.specs.declared.param.CsiParam.TheVariants.{Integer, P}
-use Rattle.csicodec_tokens.specs.Sequence.{IsSpellable, Spellable}
-use Rattle.csicodec_actions.specs.Actions.{Action}
-use Rattle.csicodec_actions.specs.FieldRows.{read_fields}
-use Rattle.csicodec_actions.specs.Kinds.{Kind, Value, read}
+use Rattle.std.proofs.{Common.◌≡◌, Common.ℕ, Common.List, Common.[], Common.◌∷◌, Common.◌++◌, Common.Some, Common.refl, Common.sym, Common.ap, Common.◌∙◌}
+use Rattle.std.proofs.{Common.inl, Common.inr, Common.append_assoc, lemmas.Bool.cases_Bool, lemmas.Bool.eqb-true, lemmas.Option.same_Some}
+use Rattle.std.proofs.{lemmas.Option.option_and_then_some}
+use Rattle.std.specs.{Prelude.ℤ, Prelude.◌==◌, Prelude.Bool, Prelude.true, Prelude.false, Prelude.if◌then◌else◌, List.AllByRecursion, Option.option_or}
+use Rattle.csicodec_tokens.specs.{declared.param.CsiParam.CsiParam, declared.param.CsiParam.TheVariants.Integer, declared.param.CsiParam.TheVariants.P}
+use Rattle.csicodec_tokens.specs.{Sequence.IsSpellable, Sequence.Spellable}
 use Rattle.csicodec_actions.specs.Rows.{Slot, Byte, Number, One, Makes, AtEnd, ended, has_shape, made, gives, Row, given, Before, rows_before, read_by}
-use Rattle.csicodec_actions.specs.Table.XtSmGraphics.{graphics_fields}
-use Rattle.csicodec_actions.specs.Table.Window.{window_fields}
-use Rattle.csicodec_actions.specs.Table.{all_subjects, table, field_table, whole}
+use Rattle.csicodec_actions.specs.{Actions.Action, FieldRows.read_fields, Kinds.Kind, Kinds.Value, Kinds.read, Table.XtSmGraphics.graphics_fields}
+use Rattle.csicodec_actions.specs.{Table.Window.window_fields, Table.all_subjects, Table.table, Table.field_table, Table.whole}
 use Rattle.csicodec_actions.proofs.AllFieldRows.{FieldRowsKeep, RowOf, fields-append, fields-keep, option_or-assoc, row-of}
 use Rattle.csicodec_actions.proofs.Found.{guarded, one-of}
 

@@ -1,20 +1,26 @@
 -- What an action of a row is written as is read as it, subject by subject.
 use Rattle.std.proofs.Common.{◌≡◌, ℕ, List, [], ◌∷◌, true, None, Some, refl, ap, ◌∙◌, inl, inr, arith, pos, rules}
-use Rattle.std.specs.Prelude.{ℤ, ◌==◌, ◌&&◌, Option, map, if◌then◌else◌}
-use Rattle.std.specs.List.{Contains}
 use Rattle.std.proofs.lemmas.Bool.{cases_Bool, and_parts, eq-eqb, eqb-true, ne_eqb}
+use Rattle.std.specs.{Prelude.ℤ, Prelude.◌==◌, Prelude.◌&&◌, Prelude.Option, Prelude.map, Prelude.if◌then◌else◌, List.Contains}
 use Rattle.csicodec_names.proofs.Coded.{attributes, is_number-pos, none-found}
-use Rattle.csicodec_names.specs.DeviceNumbers.{device_attribute_codes, device_attribute_number}
-use Rattle.csicodec_names.specs.Numbered.{is_number}
+use Rattle.csicodec_names.specs.{DeviceNumbers.device_attribute_codes, DeviceNumbers.device_attribute_number, Numbered.is_number}
+use Rattle.csicodec_tokens.specs.{Fields.fields_of, OneBased.most, declared.param.CsiParam.TheVariants.Integer, declared.param.CsiParam.TheVariants.P}
+use Rattle.csicodec_actions.specs.Actions.{Action, Cursor, Edit, Mode, Mouse, Device, Window, Keyboard, SelectCharacterPath}
+use Rattle.csicodec_actions.specs.Written.{AllGood, GoodAttribute, Item, Byte, The, Unless, Attribute, Written, any_number, listed, tokens, two}
+use Rattle.csicodec_actions.specs.Kinds.{Kind, Any, Clear, Control, Count, GraphicsItem, InDisplay, InLine, Last, Path, Pressed, Released, Value, number, read}
+use Rattle.csicodec_actions.specs.{declared.device.DeviceAttribute.DeviceAttribute, declared.path.CharacterPath.CharacterPath, Devices.attribute_at}
+use Rattle.csicodec_actions.specs.{Devices.attribute_token, Devices.listed_attributes, FieldRows.numbers, FieldRows.read_fields, Mouse.is_release, Rows.Number}
+use Rattle.csicodec_actions.specs.{Rows.mark, Rows.open_row, Rows.read_by, Rows.rows_before, Special.IsNeverRead, Special.IsSpecial}
+use Rattle.csicodec_actions.specs.{Table.Cursor.written_cursor, Table.Device.answer, Table.Device.written_attributes, Table.Device.written_class}
+use Rattle.csicodec_actions.specs.{Table.Device.written_device, Table.Edit.written_edit, Table.XtSmGraphics.written_graphics, Table.Keyboard.written_keyboard}
+use Rattle.csicodec_actions.specs.{Table.Mode.written_mode, Table.Mouse.report, Table.Mouse.written_mouse, Table.Path.written_path, Table.Window.written_window}
+use Rattle.csicodec_actions.specs.{Table.written, Table.table, Table.field_table}
+use Rattle.csicodec_actions.proofs.{Values.read-good, Values.read_any, Disjoint.row-whole, Disjoint.rows_lem, FieldsApart.field-whole, Items.are_sound}
+use Rattle.csicodec_actions.proofs.{Items.begins_apart, Items.is_sound, Items.IsRead}
 use Rattle.csicodec_names.specs.declared.enums as enums
-use Rattle.csicodec_tokens.specs.Fields.{fields_of}
-use Rattle.csicodec_tokens.specs.OneBased.{most}
-use Rattle.csicodec_tokens.specs.declared.param.CsiParam.TheVariants.{Integer, P}
 use Rattle.csicodec_actions.specs.declared.cursor.Cursor.TheVariants as cursor
-use Rattle.csicodec_actions.specs.declared.device.DeviceAttribute.{DeviceAttribute}
 use Rattle.csicodec_actions.specs.declared.device.DeviceAttribute.TheVariants as attribute
 use Rattle.csicodec_actions.specs.declared.edit.Edit.TheVariants as edit
-use Rattle.csicodec_actions.specs.declared.path.CharacterPath.{CharacterPath}
 use Rattle.csicodec_actions.specs.declared.path.CharacterPath.TheVariants as path
 use Rattle.csicodec_actions.specs.declared.keyboard.Keyboard.TheVariants as keyboard
 use Rattle.csicodec_actions.specs.declared.mode.Mode.TheVariants as mode
@@ -22,29 +28,7 @@ use Rattle.csicodec_actions.specs.declared.mouse.MouseReport.TheVariants as mous
 use Rattle.csicodec_actions.specs.declared.window.Window.TheVariants as window
 use Rattle.csicodec_actions.specs.declared as types
 use Rattle.csicodec_actions.specs.Actions as actions
-use Rattle.csicodec_actions.specs.Actions.{Action, Cursor, Edit, Mode, Mouse, Device, Window, Keyboard, SelectCharacterPath}
 use Rattle.csicodec_actions.specs.Devices as devices
-use Rattle.csicodec_actions.specs.Devices.{attribute_at, attribute_token, listed_attributes}
-use Rattle.csicodec_actions.specs.FieldRows.{numbers, read_fields}
-use Rattle.csicodec_actions.specs.Written.{AllGood, GoodAttribute, Item, Byte, The, Unless, Attribute, Written, any_number, listed, tokens, two}
-use Rattle.csicodec_actions.specs.Kinds.{Kind, Any, Clear, Control, Count, GraphicsItem, InDisplay, InLine, Last, Path, Pressed, Released, Value, number, read}
-use Rattle.csicodec_actions.specs.Mouse.{is_release}
-use Rattle.csicodec_actions.specs.Rows.{Number, mark, open_row, read_by, rows_before}
-use Rattle.csicodec_actions.specs.Special.{IsNeverRead, IsSpecial}
-use Rattle.csicodec_actions.specs.Table.Cursor.{written_cursor}
-use Rattle.csicodec_actions.specs.Table.Device.{answer, written_attributes, written_class, written_device}
-use Rattle.csicodec_actions.specs.Table.Edit.{written_edit}
-use Rattle.csicodec_actions.specs.Table.XtSmGraphics.{written_graphics}
-use Rattle.csicodec_actions.specs.Table.Keyboard.{written_keyboard}
-use Rattle.csicodec_actions.specs.Table.Mode.{written_mode}
-use Rattle.csicodec_actions.specs.Table.Mouse.{report, written_mouse}
-use Rattle.csicodec_actions.specs.Table.Path.{written_path}
-use Rattle.csicodec_actions.specs.Table.Window.{written_window}
-use Rattle.csicodec_actions.specs.Table.{written, table, field_table}
-use Rattle.csicodec_actions.proofs.Values.{read-good, read_any}
-use Rattle.csicodec_actions.proofs.Disjoint.{row-whole, rows_lem}
-use Rattle.csicodec_actions.proofs.FieldsApart.{field-whole}
-use Rattle.csicodec_actions.proofs.Items.{are_sound, begins_apart, is_sound, IsRead}
 
 -- a row of tokens reads what is written
 abbrev Returns : Written → Action → Type 0

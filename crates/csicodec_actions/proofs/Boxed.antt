@@ -2,16 +2,11 @@
 use Rattle.std.proofs.Common.{◌≡◌, ℕ, List, None, Some, refl, ap, ◌∙◌, rules, inl, inr}
 use Rattle.std.specs.Option.{option_or}
 use Rattle.csicodec_tokens.specs.declared.param.CsiParam.{CsiParam}
-use Rattle.csicodec_actions.specs.Actions.{Action, TakesMemory}
-use Rattle.csicodec_actions.specs.Table.Device.{device_rows, as_device}
-use Rattle.csicodec_actions.specs.FieldRows.{read_fields}
-use Rattle.csicodec_actions.specs.Rows.{read_by}
-use Rattle.csicodec_actions.specs.Table.XtSmGraphics.{graphics_fields, as_graphics}
-use Rattle.csicodec_actions.specs.Table.Window.{window_fields, as_window}
-use Rattle.csicodec_actions.specs.Table.{field_table, unboxed, boxed, whole}
-use Rattle.csicodec_actions.proofs.AllFieldRows.{FieldRowsKeep, fields-append, fields-keep}
-use Rattle.csicodec_actions.proofs.Found.{one-of}
-use Rattle.csicodec_actions.proofs.AllRows.{TableKeeps, table-keeps, no-tokens}
+use Rattle.csicodec_actions.specs.{Actions.Action, Actions.TakesMemory, Table.Device.device_rows, Table.Device.as_device, FieldRows.read_fields, Rows.read_by}
+use Rattle.csicodec_actions.specs.{Table.XtSmGraphics.graphics_fields, Table.XtSmGraphics.as_graphics, Table.Window.window_fields, Table.Window.as_window}
+use Rattle.csicodec_actions.specs.{Table.field_table, Table.unboxed, Table.boxed, Table.whole}
+use Rattle.csicodec_actions.proofs.{AllFieldRows.FieldRowsKeep, AllFieldRows.fields-append, AllFieldRows.fields-keep, Found.one-of, AllRows.TableKeeps}
+use Rattle.csicodec_actions.proofs.{AllRows.table-keeps, AllRows.no-tokens}
 
 pub unboxed_whole : (list : List CsiParam) (final : ℕ) (a : Action) → unboxed list final ≡ Some a → whole list final ≡ Some a
 unfolding whole

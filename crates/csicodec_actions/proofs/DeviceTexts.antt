@@ -1,16 +1,12 @@
 -- The text of a device is its front, and what stands behind it.
 use Rattle.std.proofs.Common.{◌≡◌, ℕ, List, [], ◌∷◌, ◌++◌, refl, sym, ap, append-nil, append_assoc}
-use Rattle.std.specs.Prelude.{ℤ, codes}
-use Rattle.std.specs.Fmt.{digits, signed_decimal}
-use Rattle.csicodec_tokens.specs.Param.{token_text}
-use Rattle.csicodec_tokens.specs.declared.param.CsiParam.{CsiParam}
-use Rattle.csicodec_tokens.specs.declared.param.CsiParam.TheVariants.{Integer}
-use Rattle.csicodec_actions.specs.declared.device.DeviceAttribute.{DeviceAttribute}
-use Rattle.csicodec_actions.specs.Devices as devices
-use Rattle.csicodec_actions.specs.Devices.{attribute_token}
+use Rattle.std.specs.{Prelude.ℤ, Prelude.codes, Fmt.digits, Fmt.signed_decimal}
+use Rattle.csicodec_tokens.specs.{Param.token_text, declared.param.CsiParam.CsiParam, declared.param.CsiParam.TheVariants.Integer}
 use Rattle.csicodec_actions.specs.Private.DeviceTexts.{attributes_behind, device_behind, device_front, listed_text, terminal_front}
-use Rattle.csicodec_actions.specs.Table.Device.{line, written_attributes, written_device}
-use Rattle.csicodec_actions.specs.Written.{Item, Attribute, any_number, listed, shown, written_text}
+use Rattle.csicodec_actions.specs.{declared.device.DeviceAttribute.DeviceAttribute, Devices.attribute_token, Table.Device.line, Table.Device.written_attributes}
+use Rattle.csicodec_actions.specs.{Table.Device.written_device, Written.Item, Written.Attribute, Written.any_number, Written.listed, Written.shown}
+use Rattle.csicodec_actions.specs.{Written.written_text}
+use Rattle.csicodec_actions.specs.Devices as devices
 
 pub line_text : shown line (120 ∷ []) ≡ codes ";1;1;128;128;1;0x"
 unfolding digits

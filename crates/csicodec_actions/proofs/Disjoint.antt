@@ -1,17 +1,12 @@
 -- No two rows of a final read one list: a test that is computed over all pairs.
 use Rattle.std.proofs.Common.{◌≡◌, ℕ, zero, suc, ◌⊎◌, List, [], ◌∷◌, Option, None, Some, refl, sym, ap, ◌∙◌, inl, inr, arith, pos}
-use Rattle.std.specs.Prelude.{ℤ, ◌==◌, ◌&&◌, ◌||◌, Bool, true, false, not, slice_get}
-use Rattle.std.specs.Option.{option_or}
-use Rattle.std.proofs.lemmas.Bool.{cases_Bool, and_parts, eqb-true}
-use Rattle.csicodec_tokens.specs.declared.param.CsiParam.{CsiParam}
-use Rattle.csicodec_tokens.specs.declared.param.CsiParam.TheVariants.{Integer, P}
-use Rattle.csicodec_actions.specs.Actions.{Action}
-use Rattle.csicodec_actions.specs.FieldRows.{read_fields}
+use Rattle.std.proofs.{lemmas.Bool.cases_Bool, lemmas.Bool.and_parts, lemmas.Bool.eqb-true, lemmas.Option.same_Some, lemmas.Option.slice_get_read}
+use Rattle.std.specs.{Prelude.ℤ, Prelude.◌==◌, Prelude.◌&&◌, Prelude.◌||◌, Prelude.Bool, Prelude.true, Prelude.false, Prelude.not, Prelude.slice_get}
+use Rattle.std.specs.{Option.option_or}
+use Rattle.csicodec_tokens.specs.{declared.param.CsiParam.CsiParam, declared.param.CsiParam.TheVariants.Integer, declared.param.CsiParam.TheVariants.P}
 use Rattle.csicodec_actions.specs.Rows.{Slot, Byte, Number, One, Row, fits, has_shape, gives, given, Before, rows_before, read_by}
-use Rattle.csicodec_actions.specs.Table.{table, field_table, whole, RowsDecide}
-use Rattle.csicodec_actions.proofs.AllRows.{whole-table}
-use Rattle.std.proofs.lemmas.Option.{same_Some, slice_get_read}
-use Rattle.csicodec_actions.proofs.Found.{guarded}
+use Rattle.csicodec_actions.specs.{Actions.Action, FieldRows.read_fields, Table.table, Table.field_table, Table.whole, Table.RowsDecide}
+use Rattle.csicodec_actions.proofs.{AllRows.whole-table, Found.guarded}
 use Rattle.csicodec_names.proofs.Coded.{is_number-pos}
 
 -- ---- the first of several that gives something

@@ -1,22 +1,13 @@
 -- What the code finds in the fields of a list.
 use Rattle.std.proofs.Common.{◌≡◌, ◌-◌, ◌<◌, ◌≤◌, length, take, ℕ, zero, suc, List, [], ◌∷◌, ◌++◌, inl, inr, drop, Option, None, Some, refl, sym, ap, ◌∙◌, Bor, false, true, arith}
-use Rattle.std.proofs.lemmas.Bool.{cases_Bool}
-use Rattle.std.proofs.Math.Seq.{take-length}
+use Rattle.std.proofs.{lemmas.Bool.cases_Bool, Math.Seq.take-length, lemmas.Option.same_Some}
 use Rattle.std.specs.Prelude.{ℤ, ◌==◌, ◌&&◌, Bool, if◌then◌else◌, option_and_then, IsNone, IsSome, IfSome, Result, Ok, is_some, unwrap_or}
-use Rattle.std.specs.Bool.{then_some}
-use Rattle.std.specs.List.{list_all}
-use Rattle.std.specs.Option.{ok_or, option_copied, option_map}
-use Rattle.std.specs.Result.{result_ok}
-use Rattle.std.proofs.lemmas.Option.{same_Some}
-use Rattle.csicodec_tokens.specs.declared.param.CsiParam.{CsiParam}
-use Rattle.csicodec_tokens.specs.declared.param.CsiParam.TheVariants.{Integer, P}
-use Rattle.csicodec_tokens.specs.Fields.{fields_of, with_field}
-use Rattle.csicodec_tokens.specs.OneBased.{number_or}
+use Rattle.std.specs.{Bool.then_some, List.list_all, Option.ok_or, Option.option_copied, Option.option_map, Result.result_ok}
+use Rattle.csicodec_tokens.specs.{declared.param.CsiParam.CsiParam, declared.param.CsiParam.TheVariants.Integer, declared.param.CsiParam.TheVariants.P}
+use Rattle.csicodec_tokens.specs.{Fields.fields_of, Fields.with_field, OneBased.number_or}
 use Rattle.csicodec_actions.specs.FieldRows.{ahead_of_byte, behind, field, first, given, has_field, is_there, numbers, value_or}
-use Rattle.csicodec_actions.specs.Kinds.{Count, read}
-use Rattle.csicodec_actions.specs.Lent.{integers}
-use Rattle.csicodec_actions.specs.Table.XtSmGraphics.{graphics_behind, graphics_rows}
-use Rattle.csicodec_actions.specs.Private.FieldsBy.{fields_there, is_field_token}
+use Rattle.csicodec_actions.specs.{Kinds.Count, Kinds.read, Lent.integers, Table.XtSmGraphics.graphics_behind, Table.XtSmGraphics.graphics_rows}
+use Rattle.csicodec_actions.specs.{Private.FieldsBy.fields_there, Private.FieldsBy.is_field_token}
 
 -- ---- a list that has fields
 

@@ -1,16 +1,12 @@
 -- What the rows before each final character of the cursor read, by what one parameter, or two places, stand for.
-use Rattle.std.proofs.Common.{◌≡◌, ℕ, List, [], ◌∷◌, None, Some, refl}
-use Rattle.std.specs.Prelude.{⊤, Bool, true, false, Option, option_and_then, if◌then◌else◌}
-use Rattle.std.specs.Option.{option_map, option_or}
-use Rattle.std.proofs.lemmas.Bool.{ne_eqb}
-use Rattle.csicodec_tokens.specs.declared.param.CsiParam.{CsiParam}
-use Rattle.csicodec_tokens.specs.declared.param.CsiParam.TheVariants.{Integer, P}
+use Rattle.std.proofs.{Common.◌≡◌, Common.ℕ, Common.List, Common.[], Common.◌∷◌, Common.None, Common.Some, Common.refl, lemmas.Bool.ne_eqb}
+use Rattle.std.specs.{Prelude.⊤, Prelude.Bool, Prelude.true, Prelude.false, Prelude.Option, Prelude.option_and_then, Prelude.if◌then◌else◌, Option.option_map}
+use Rattle.std.specs.{Option.option_or}
+use Rattle.csicodec_tokens.specs.{declared.param.CsiParam.CsiParam, declared.param.CsiParam.TheVariants.Integer, declared.param.CsiParam.TheVariants.P}
+use Rattle.csicodec_actions.specs.Rows.{Slot, Byte, Number, One, Makes, mark, has_shape, made, Row, row, gives, given, Before, read_by, counted, paired}
+use Rattle.csicodec_actions.specs.{Actions.Cursor, Kinds.Count, Kinds.Value, Kinds.read, Table.Cursor.as_cursor}
 use Rattle.csicodec_actions.specs.declared.cursor.Cursor as cursor_type
 use Rattle.csicodec_actions.specs.declared.cursor.Cursor.TheVariants as cursor
-use Rattle.csicodec_actions.specs.Actions.{Cursor}
-use Rattle.csicodec_actions.specs.Kinds.{Count, Value, read}
-use Rattle.csicodec_actions.specs.Rows.{Slot, Byte, Number, One, Makes, mark, has_shape, made, Row, row, gives, given, Before, read_by, counted, paired}
-use Rattle.csicodec_actions.specs.Table.Cursor.{as_cursor}
 
 -- ---- what is made of what rows give
 

@@ -1,22 +1,15 @@
 -- The list that an action is written as, and its text.
 use Rattle.std.proofs.Common.{◌≡◌, ℕ, ◌<◌, ◌⊎◌, List, [], ◌∷◌, ◌++◌, Some, refl, sym, inl, inr, arith, append_assoc, pos}
+use Rattle.std.proofs.{lemmas.Bool.cases_Bool, lemmas.Bool.and_parts, lemmas.Bool.ltb-true, lemmas.Str.encode_ascii}
 use Rattle.std.specs.Prelude.{Bool, true, false, ◌&&◌, ◌||◌, nat_lt}
-use Rattle.std.proofs.lemmas.Bool.{cases_Bool, and_parts, ltb-true}
-use Rattle.std.proofs.lemmas.Str.{encode_ascii}
-use Rattle.csicodec_names.specs.DeviceNumbers.{device_attribute_number}
-use Rattle.csicodec_tokens.specs.declared.param.CsiParam.{CsiParam}
-use Rattle.csicodec_tokens.specs.declared.param.CsiParam.TheVariants.{Integer, P}
-use Rattle.csicodec_tokens.specs.Param.{spells, token_text}
-use Rattle.csicodec_tokens.specs.Sequence.{IsFinal, IsSpellable, Apart, Spellable}
-use Rattle.csicodec_actions.specs.Actions.{Action}
-use Rattle.csicodec_actions.specs.Kinds.{Kind, Value, number, Good, IsSaid}
-use Rattle.csicodec_names.specs.Numbered.{is_number}
-use Rattle.csicodec_actions.specs.declared.device.DeviceAttribute.{DeviceAttribute}
-use Rattle.csicodec_actions.specs.declared.device.DeviceAttribute.TheVariants as attribute
-use Rattle.csicodec_actions.specs.Devices.{attribute_token}
+use Rattle.csicodec_names.specs.{DeviceNumbers.device_attribute_number, Numbered.is_number}
+use Rattle.csicodec_tokens.specs.{declared.param.CsiParam.CsiParam, declared.param.CsiParam.TheVariants.Integer, declared.param.CsiParam.TheVariants.P}
+use Rattle.csicodec_tokens.specs.{Param.spells, Param.token_text, Sequence.IsFinal, Sequence.IsSpellable, Sequence.Apart, Sequence.Spellable}
 use Rattle.csicodec_actions.specs.Written.{Item, Byte, The, Unless, Attribute, Written, tokens, shown, written_text, GoodAttribute, AllGood}
+use Rattle.csicodec_actions.specs.{Actions.Action, Kinds.Kind, Kinds.Value, Kinds.number, Kinds.Good, Kinds.IsSaid}
+use Rattle.csicodec_actions.specs.{declared.device.DeviceAttribute.DeviceAttribute, Devices.attribute_token, Table.whole}
 use Rattle.csicodec_actions.proofs.Values.{number-said, attribute-said}
-use Rattle.csicodec_actions.specs.Table.{whole}
+use Rattle.csicodec_actions.specs.declared.device.DeviceAttribute.TheVariants as attribute
 
 -- ---- a test that is computed for each action: its bytes can stand in a sequence, no two numbers side by side, and its final can end one
 

@@ -1,17 +1,14 @@
 -- A report that is written is read back, and what is read is one that can be written.
 use Rattle.std.proofs.Common.{◌≡◌, ℕ, zero, suc, ◌<◌, ◌/◌, List, [], ◌∷◌, Some, refl, inl, inr, arith, rules, pos}
-use Rattle.std.specs.Prelude.{ℤ, negsuc, ◌==◌, ◌&&◌, ◌||◌, not, Bool, true, false}
-use Rattle.std.specs.Int.RustNames.{bit_and}
-use Rattle.std.proofs.lemmas.Bool.{cases_Bool, and_parts, eqb-true, eq-eqb}
-use Rattle.std.proofs.lemmas.Nat.{and_le_r, and_assoc, and_shr}
-use Rattle.std.proofs.lemmas.Option.{same_Some}
-use Rattle.csicodec_names.specs.declared.flags.Modifiers.{Modifiers}
-use Rattle.csicodec_actions.specs.declared.mouse.MouseButton.{MouseButton}
-use Rattle.csicodec_actions.specs.declared.mouse.MouseButton.TheVariants as button
-use Rattle.csicodec_actions.specs.Kinds.{AreHeld, IsReport}
+use Rattle.std.proofs.{lemmas.Bool.cases_Bool, lemmas.Bool.and_parts, lemmas.Bool.eqb-true, lemmas.Bool.eq-eqb, lemmas.Nat.and_le_r, lemmas.Nat.and_assoc}
+use Rattle.std.proofs.{lemmas.Nat.and_shr, lemmas.Option.same_Some}
+use Rattle.std.specs.{Prelude.ℤ, Prelude.negsuc, Prelude.◌==◌, Prelude.◌&&◌, Prelude.◌||◌, Prelude.not, Prelude.Bool, Prelude.true, Prelude.false}
+use Rattle.std.specs.{Int.RustNames.bit_and}
+use Rattle.csicodec_names.specs.{declared.flags.Modifiers.Modifiers, Numbered.is_number, Numbered.with_number}
 use Rattle.csicodec_actions.specs.Mouse.{button_code, button_bits, pressed, released, reported, report_code, is_release}
-use Rattle.csicodec_names.specs.Numbered.{is_number, with_number}
+use Rattle.csicodec_actions.specs.{declared.mouse.MouseButton.MouseButton, Kinds.AreHeld, Kinds.IsReport}
 use Rattle.csicodec_actions.proofs.Found.{map-some}
+use Rattle.csicodec_actions.specs.declared.mouse.MouseButton.TheVariants as button
 
 abbrev all_below : ℕ → (ℕ → Bool) → Bool
 all_below zero f = true

@@ -1,44 +1,28 @@
 -- What numbers count as: by the code, and back from what is written.
 use Rattle.std.proofs.Common.{◌≡◌, ℕ, zero, suc, ◌<◌, ◌≤◌, ◌^◌, ◌%◌, List, Option, None, Some, refl, sym, ap, ◌∙◌, inl, inr, arith, rules, pos, subst}
-use Rattle.std.specs.Prelude.{ℤ, negsuc, ◌↔◌, Bool, IsTrue, not, true, false, nat_abs, Result, Ok, Err}
-use Rattle.std.specs.Int.{FitsUnsignedBits}
-use Rattle.std.specs.Int.RustNames.{bit_and}
-use Rattle.std.specs.Option.{is_some, option_map}
-use Rattle.std.specs.Result.{OkIff, result_ok}
-use Rattle.std.proofs.lemmas.Bool.{cases_Bool, eq-eqb, le-ltb, lt-ltb, ltb-true}
-use Rattle.std.proofs.lemmas.Int.{to_z-of_z, ints}
-use Rattle.std.proofs.lemmas.Option.{same_Some, cond_some}
-use mir.Syntax.{w64}
-use mir.Val.{SFits, of_z, to_z}
-use Rattle.csicodec_tokens.specs.declared.param.CsiParam.TheVariants.{Integer}
-use Rattle.csicodec_tokens.specs.Digits.{largest}
-use Rattle.csicodec_names.specs.DeviceNumbers.{device_attribute_codes, device_attribute_number}
-use Rattle.csicodec_names.specs.declared.device.DeviceAttributeCodes.{DeviceAttributeCodes}
-use Rattle.csicodec_names.specs.EnumNumbers.{cursor_style_number, erase_in_display_number, erase_in_line_number, tabulation_clear_number, tabulation_control_number}
-use Rattle.csicodec_names.specs.ModeNumbers.{dec_mode_number, terminal_mode_number, dec_codes, terminal_codes}
-use Rattle.csicodec_tokens.specs.OneBased.{most, number_or}
-use Rattle.csicodec_tokens.specs.Sequence.{IsSpellable}
-use Rattle.csicodec_actions.specs.declared.mode.DecPrivateMode.{DecPrivateMode}
+use Rattle.std.proofs.{lemmas.Bool.cases_Bool, lemmas.Bool.eq-eqb, lemmas.Bool.le-ltb, lemmas.Bool.lt-ltb, lemmas.Bool.ltb-true, lemmas.Int.to_z-of_z}
+use Rattle.std.proofs.{lemmas.Int.ints, lemmas.Option.same_Some, lemmas.Option.cond_some, lemmas.Nat.and_mask, lemmas.Nat.and_le_r}
+use Rattle.std.specs.{Prelude.ℤ, Prelude.negsuc, Prelude.◌↔◌, Prelude.Bool, Prelude.IsTrue, Prelude.not, Prelude.true, Prelude.false, Prelude.nat_abs}
+use Rattle.std.specs.{Prelude.Result, Prelude.Ok, Prelude.Err, Int.FitsUnsignedBits, Int.RustNames.bit_and, Option.is_some, Option.option_map, Result.OkIff}
+use Rattle.std.specs.{Result.result_ok}
+use mir.{Syntax.w64, Val.SFits, Val.of_z, Val.to_z}
+use Rattle.csicodec_tokens.specs.{declared.param.CsiParam.TheVariants.Integer, Digits.largest, OneBased.most, OneBased.number_or, Sequence.IsSpellable}
+use Rattle.csicodec_names.specs.EnumNumbers.{cursor_style_number, erase_in_display_number, erase_in_line_number, tabulation_clear_number, tabulation_control_number, cursor_styles, tabulation_controls, tabulation_clears, erases_in_display, erases_in_line}
+use Rattle.csicodec_names.specs.{DeviceNumbers.device_attribute_codes, DeviceNumbers.device_attribute_number}
+use Rattle.csicodec_names.specs.{declared.device.DeviceAttributeCodes.DeviceAttributeCodes, ModeNumbers.dec_mode_number, ModeNumbers.terminal_mode_number}
+use Rattle.csicodec_names.specs.{ModeNumbers.dec_codes, ModeNumbers.terminal_codes, Numbered.is_number, Numbered.with_number, FlagBits.kitty_bits}
+use Rattle.csicodec_actions.specs.Kinds.{Kind, Count, Last, Any, Style, Control, Clear, InDisplay, InLine, Dec, Terminal, Resource, Flags, Way, Path, Pops, Word, Pressed, Released, GraphicsItem, Value, read, number, below, short, code_or, IsOneBased, IsSaid, IsOwn, GoodDec, GoodItem, GoodTerminal, Good, kitty_mode_number, kitty_modes, path_number, paths}
+use Rattle.csicodec_actions.specs.{declared.mode.DecPrivateMode.DecPrivateMode, declared.mode.TerminalMode.TerminalMode, XtSmGraphics.item_of, Mouse.pressed}
+use Rattle.csicodec_actions.specs.{Mouse.released, Mouse.report_code, Modes.dec_number, Modes.terminal_number, Modes.resource_number, Modes.resources}
+use Rattle.csicodec_names.proofs.Coded.{is_number-pos, listed-number, none-found, Coded, found-of, small, attributes, styles, controls, clears, lines, displays, decs, terminals}
+use Rattle.csicodec_actions.proofs.MouseCodes.{report-back, report-read, report-small, pressed-found, released-found}
+use Rattle.csicodec_actions.proofs.Found.{map-some}
 use Rattle.csicodec_actions.specs.declared.mode.DecPrivateMode.TheVariants as dec
-use Rattle.csicodec_actions.specs.declared.mode.TerminalMode.{TerminalMode}
 use Rattle.csicodec_actions.specs.declared.mode.TerminalMode.TheVariants as terminal
 use Rattle.csicodec_actions.specs.declared.mode.XtermKeyModifierResource.TheVariants as resource
-use Rattle.csicodec_actions.specs.Kinds.{Kind, Count, Last, Any, Style, Control, Clear, InDisplay, InLine, Dec, Terminal}
-use Rattle.csicodec_actions.specs.Kinds.{Resource, Flags, Way, Path, Pops, Word, Pressed, Released, GraphicsItem, Value}
-use Rattle.csicodec_actions.specs.Kinds.{read, number, below, short, code_or, IsOneBased, IsSaid, IsOwn, GoodDec, GoodItem, GoodTerminal, Good, kitty_mode_number, kitty_modes, path_number, paths}
-use Rattle.csicodec_names.specs.Numbered.{is_number, with_number}
 use Rattle.csicodec_actions.specs.declared.path.CharacterPath.TheVariants as path
 use Rattle.csicodec_actions.specs.declared.keyboard.KittyKeyboardMode.TheVariants as way
-use Rattle.csicodec_names.specs.FlagBits.{kitty_bits}
 use Rattle.csicodec_actions.specs.declared.xtsmgraphics.XtSmGraphicsItem.TheVariants as item
-use Rattle.csicodec_actions.specs.XtSmGraphics.{item_of}
-use Rattle.csicodec_names.proofs.Coded.{is_number-pos, listed-number, none-found, Coded, found-of, small, attributes, styles, controls, clears, lines, displays, decs, terminals}
-use Rattle.csicodec_actions.proofs.Found.{map-some}
-use Rattle.csicodec_actions.proofs.MouseCodes.{report-back, report-read, report-small, pressed-found, released-found}
-use Rattle.csicodec_actions.specs.Mouse.{pressed, released, report_code}
-use Rattle.std.proofs.lemmas.Nat.{and_mask, and_le_r}
-use Rattle.csicodec_actions.specs.Modes.{dec_number, terminal_number, resource_number, resources}
-use Rattle.csicodec_names.specs.EnumNumbers.{cursor_styles, tabulation_controls, tabulation_clears, erases_in_display, erases_in_line}
 
 -- ---- what is found by its number
 

@@ -1,10 +1,10 @@
 -- What an action says, without where it lies in memory: contracts compare these.
 use Rattle.std.specs.Prelude.{ℕ, ℤ, List, Bool, true, false, IsTrue}
 use Rattle.csicodec_tokens.specs.declared.param.CsiParam.{CsiParam}
+use Rattle.csicodec_actions.specs.declared.path.CharacterPath.{CharacterPath}
 use Rattle.csicodec_base.specs.declared.sgr.Sgr as sgr_type
 use Rattle.csicodec_actions.specs.declared.cursor.Cursor as cursor_type
 use Rattle.csicodec_actions.specs.declared.edit.Edit as edit_type
-use Rattle.csicodec_actions.specs.declared.path.CharacterPath.{CharacterPath}
 use Rattle.csicodec_actions.specs.declared.keyboard.Keyboard as keyboard_type
 use Rattle.csicodec_actions.specs.declared.mode.Mode as mode_type
 use Rattle.csicodec_actions.specs.declared.mouse.MouseReport as mouse_type

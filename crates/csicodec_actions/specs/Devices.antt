@@ -1,19 +1,16 @@
 -- What a device says or is asked, without where it lies in memory; and the extensions that a terminal names, as tokens.
-use Rattle.std.specs.Prelude.{ℤ, ◌<◌, ◌==◌, List, [], ◌∷◌, length, Option, None, Some, if◌then◌else◌, pos}
-use Rattle.std.specs.List.{flat_map}
-use Rattle.csicodec_names.specs.DeviceNumbers.{device_attribute_codes, device_attribute_number}
-use Rattle.csicodec_names.specs.Numbered.{with_number}
-use Rattle.csicodec_names.specs.declared.device.DeviceAttributeCodes.{DeviceAttributeCodes}
-use Rattle.csicodec_tokens.specs.declared.param.CsiParam.{CsiParam}
-use Rattle.csicodec_tokens.specs.declared.param.CsiParam.TheVariants.{Integer, P}
+use Rattle.std.specs.{Prelude.ℤ, Prelude.◌<◌, Prelude.◌==◌, Prelude.List, Prelude.[], Prelude.◌∷◌, Prelude.length, Prelude.Option, Prelude.None, Prelude.Some}
+use Rattle.std.specs.{Prelude.if◌then◌else◌, Prelude.pos, List.flat_map}
+use Rattle.csicodec_names.specs.{DeviceNumbers.device_attribute_codes, DeviceNumbers.device_attribute_number, Numbered.with_number}
+use Rattle.csicodec_names.specs.{declared.device.DeviceAttributeCodes.DeviceAttributeCodes}
+use Rattle.csicodec_tokens.specs.{declared.param.CsiParam.CsiParam, declared.param.CsiParam.TheVariants.Integer, declared.param.CsiParam.TheVariants.P}
+use Rattle.csicodec_actions.specs.{declared.device.DeviceAttribute.DeviceAttribute, declared.device.DeviceAttribute.TheVariants.Code}
+use Rattle.csicodec_actions.specs.{declared.device.DeviceAttribute.TheVariants.Unspecified, declared.xtsmgraphics.XtSmGraphicsItem.XtSmGraphicsItem}
 use Rattle.csicodec_actions.specs.declared.device.Device as device_type
 use Rattle.csicodec_actions.specs.declared.device.Device.TheVariants as device
-use Rattle.csicodec_actions.specs.declared.device.DeviceAttribute.{DeviceAttribute}
-use Rattle.csicodec_actions.specs.declared.device.DeviceAttribute.TheVariants.{Code, Unspecified}
 use Rattle.csicodec_actions.specs.declared.device.DeviceAttributes as attributes_type
 use Rattle.csicodec_actions.specs.declared.device.DeviceAttributes.TheVariants as attributes
 use Rattle.csicodec_actions.specs.declared.xtsmgraphics.XtSmGraphics as graphics_type
-use Rattle.csicodec_actions.specs.declared.xtsmgraphics.XtSmGraphicsItem.{XtSmGraphicsItem}
 
 -- ---- one constructor for each variant, with lists in place of vectors
 

@@ -3,9 +3,8 @@ use Prim.Native.Char.{Char, code}
 use Rattle.std.specs.Prelude.{ℕ, zero, suc, ℤ, ◌==◌, ◌&&◌, Bool, true, false, not, List, [], ◌∷◌, Option, Some, None, option_and_then, option_map, if◌then◌else◌}
 use Rattle.std.specs.Option.{option_or, is_some}
 use Rattle.csicodec_names.specs.Numbered.{is_number}
-use Rattle.csicodec_tokens.specs.declared.param.CsiParam.{CsiParam}
-use Rattle.csicodec_tokens.specs.declared.param.CsiParam.TheVariants.{Integer, P}
-use Rattle.csicodec_tokens.specs.Fields.{fields_of}
+use Rattle.csicodec_tokens.specs.{declared.param.CsiParam.CsiParam, declared.param.CsiParam.TheVariants.Integer, declared.param.CsiParam.TheVariants.P}
+use Rattle.csicodec_tokens.specs.{Fields.fields_of}
 use Rattle.csicodec_actions.specs.Kinds.{Kind, Value, read}
 
 -- ---- fields

@@ -1,35 +1,23 @@
 -- What a number in a list counts as: kinds of values, each with the numbers that it is read from, the one that it is written as, and the values that are read back.
 use Rattle.std.specs.Prelude.{ℕ, ℤ, Option, Some, None, if◌then◌else◌, nat_lt, pos, negsuc, ◌^◌, ◌≡◌, ◌<◌, ◌≤ℤ◌, List, [], ◌∷◌}
-use Rattle.std.specs.Int.RustNames.{bit_and}
-use Rattle.std.specs.Option.{option_map}
-use Rattle.csicodec_names.specs.declared.enums.CursorStyle.{CursorStyle}
-use Rattle.csicodec_names.specs.declared.enums.CursorTabulationControl.{CursorTabulationControl}
-use Rattle.csicodec_names.specs.declared.enums.EraseInDisplay.{EraseInDisplay}
-use Rattle.csicodec_names.specs.declared.enums.EraseInLine.{EraseInLine}
-use Rattle.csicodec_names.specs.declared.enums.TabulationClear.{TabulationClear}
+use Rattle.std.specs.{Int.RustNames.bit_and, Option.option_map}
 use Rattle.csicodec_names.specs.EnumNumbers.{cursor_style_number, erase_in_display_number, erase_in_line_number, tabulation_clear_number, tabulation_control_number, cursor_styles, tabulation_controls, tabulation_clears, erases_in_display, erases_in_line}
-use Rattle.csicodec_names.specs.ModeNumbers.{dec_mode_number, terminal_mode_number, dec_codes, terminal_codes}
-use Rattle.csicodec_tokens.specs.declared.param.CsiParam.TheVariants.{Integer}
-use Rattle.csicodec_tokens.specs.OneBased.{most, number_or}
-use Rattle.csicodec_actions.specs.declared.mode.DecPrivateMode.{DecPrivateMode}
+use Rattle.csicodec_names.specs.{declared.enums.CursorStyle.CursorStyle, declared.enums.CursorTabulationControl.CursorTabulationControl}
+use Rattle.csicodec_names.specs.{declared.enums.EraseInDisplay.EraseInDisplay, declared.enums.EraseInLine.EraseInLine}
+use Rattle.csicodec_names.specs.{declared.enums.TabulationClear.TabulationClear, ModeNumbers.dec_mode_number, ModeNumbers.terminal_mode_number}
+use Rattle.csicodec_names.specs.{ModeNumbers.dec_codes, ModeNumbers.terminal_codes, declared.flags.KittyKeyboardFlags.KittyKeyboardFlags, FlagBits.kitty_bits}
+use Rattle.csicodec_names.specs.{FlagBits.modifier_bits, declared.flags.Modifiers.Modifiers, Numbered.with_number}
+use Rattle.csicodec_tokens.specs.{declared.param.CsiParam.TheVariants.Integer, OneBased.most, OneBased.number_or, Digits.largest}
+use Rattle.csicodec_actions.specs.{declared.mode.DecPrivateMode.DecPrivateMode, declared.mode.TerminalMode.TerminalMode}
+use Rattle.csicodec_actions.specs.{declared.mode.XtermKeyModifierResource.XtermKeyModifierResource, declared.path.CharacterPath.CharacterPath}
+use Rattle.csicodec_actions.specs.{declared.keyboard.KittyKeyboardMode.KittyKeyboardMode, declared.xtsmgraphics.XtSmGraphicsItem.XtSmGraphicsItem}
+use Rattle.csicodec_actions.specs.{XtSmGraphics.item_number, XtSmGraphics.item_of, XtSmGraphics.IsUnnamedItem, Modes.dec_number, Modes.terminal_number}
+use Rattle.csicodec_actions.specs.{Modes.resource_number, Modes.resources, Mouse.pressed, Mouse.released, Mouse.reported, Mouse.report_code, Mouse.button_code}
+use Rattle.csicodec_actions.specs.{declared.mouse.MouseButton.MouseButton}
 use Rattle.csicodec_actions.specs.declared.mode.DecPrivateMode.TheVariants as dec
-use Rattle.csicodec_actions.specs.declared.mode.TerminalMode.{TerminalMode}
 use Rattle.csicodec_actions.specs.declared.mode.TerminalMode.TheVariants as terminal
-use Rattle.csicodec_actions.specs.declared.mode.XtermKeyModifierResource.{XtermKeyModifierResource}
 use Rattle.csicodec_actions.specs.declared.path.CharacterPath.TheVariants as path
 use Rattle.csicodec_actions.specs.declared.keyboard.KittyKeyboardMode.TheVariants as way
-use Rattle.csicodec_actions.specs.declared.path.CharacterPath.{CharacterPath}
-use Rattle.csicodec_actions.specs.declared.keyboard.KittyKeyboardMode.{KittyKeyboardMode}
-use Rattle.csicodec_names.specs.declared.flags.KittyKeyboardFlags.{KittyKeyboardFlags}
-use Rattle.csicodec_names.specs.FlagBits.{kitty_bits, modifier_bits}
-use Rattle.csicodec_actions.specs.declared.xtsmgraphics.XtSmGraphicsItem.{XtSmGraphicsItem}
-use Rattle.csicodec_actions.specs.XtSmGraphics.{item_number, item_of, IsUnnamedItem}
-use Rattle.csicodec_actions.specs.Modes.{dec_number, terminal_number, resource_number, resources}
-use Rattle.csicodec_actions.specs.Mouse.{pressed, released, reported, report_code, button_code}
-use Rattle.csicodec_actions.specs.declared.mouse.MouseButton.{MouseButton}
-use Rattle.csicodec_names.specs.declared.flags.Modifiers.{Modifiers}
-use Rattle.csicodec_names.specs.Numbered.{with_number}
-use Rattle.csicodec_tokens.specs.Digits.{largest}
 use Rattle.csicodec_actions.specs.declared.xtsmgraphics.XtSmGraphicsItem.TheVariants as item
 
 -- ---- the numbers of the keyboard's ways, and of paths of characters

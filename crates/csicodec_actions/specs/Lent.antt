@@ -1,11 +1,7 @@
 -- Numbers that are lent as the tokens that they are read from, and graphics whose values are.
-use Rattle.std.specs.Prelude.{ℤ, List, [], ◌∷◌}
-use Rattle.std.specs.List.{flat_map}
-use Rattle.csicodec_tokens.specs.declared.param.CsiParam.{CsiParam}
-use Rattle.csicodec_tokens.specs.declared.param.CsiParam.TheVariants.{Integer, P}
-use Rattle.csicodec_actions.specs.declared.xtsmgraphics.GraphicsRef.{GraphicsRef}
-use Rattle.csicodec_actions.specs.Actions.{Action, Device}
-use Rattle.csicodec_actions.specs.Devices.{XtSmGraphics}
+use Rattle.std.specs.{Prelude.ℤ, Prelude.List, Prelude.[], Prelude.◌∷◌, List.flat_map}
+use Rattle.csicodec_tokens.specs.{declared.param.CsiParam.CsiParam, declared.param.CsiParam.TheVariants.Integer, declared.param.CsiParam.TheVariants.P}
+use Rattle.csicodec_actions.specs.{declared.xtsmgraphics.GraphicsRef.GraphicsRef, Actions.Action, Actions.Device, Devices.XtSmGraphics}
 
 -- the numbers among tokens
 abbrev pub integer_at : CsiParam → List ℤ

@@ -1,10 +1,7 @@
 -- The code of a mouse report: a button, and the modifiers that are held.
 use Rattle.std.specs.Prelude.{ℕ, ℤ, ◌+◌, ◌/◌, ◌==◌, Bool, true, false, List, [], ◌∷◌, Option, None, if◌then◌else◌, pos, negsuc}
-use Rattle.std.specs.Int.RustNames.{bit_and}
-use Rattle.std.specs.Option.{option_map}
-use Rattle.csicodec_names.specs.Numbered.{with_number}
-use Rattle.csicodec_names.specs.FlagBits.{modifier_bits}
-use Rattle.csicodec_names.specs.declared.flags.Modifiers.{Modifiers}
+use Rattle.std.specs.{Int.RustNames.bit_and, Option.option_map}
+use Rattle.csicodec_names.specs.{Numbered.with_number, FlagBits.modifier_bits, declared.flags.Modifiers.Modifiers}
 use Rattle.csicodec_actions.specs.declared.mouse.MouseButton.{MouseButton}
 use Rattle.csicodec_actions.specs.declared.mouse.MouseButton.TheVariants as button
 

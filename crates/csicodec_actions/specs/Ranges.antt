@@ -1,11 +1,11 @@
 -- The numbers that the types let stand.
 use Rattle.std.specs.Prelude.{◌<◌}
+use Rattle.csicodec_names.specs.{declared.color.ColorSpec.ColorSpec, declared.color.ColorSpec.TheVariants.Default}
+use Rattle.csicodec_names.specs.{declared.color.ColorSpec.TheVariants.PaletteIndex, declared.color.ColorSpec.TheVariants.TrueColor}
+use Rattle.csicodec_actions.specs.Actions.{Action, Sgr}
 use Rattle.csicodec_base.specs.declared.sgr.Sgr as sgr_type
 use Rattle.csicodec_base.specs.declared.sgr.Sgr.TheVariants as sgr
 use Rattle.csicodec_base.specs.declared.sgr.Font.TheVariants as font
-use Rattle.csicodec_names.specs.declared.color.ColorSpec.{ColorSpec}
-use Rattle.csicodec_names.specs.declared.color.ColorSpec.TheVariants.{Default, PaletteIndex, TrueColor}
-use Rattle.csicodec_actions.specs.Actions.{Action, Sgr}
 
 -- each number of a colour is a byte
 abbrev pub ColorInRange : ColorSpec → Type 0

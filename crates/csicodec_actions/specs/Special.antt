@@ -1,11 +1,9 @@
 -- The actions that parsing makes and whose text is read as another one, and all those whose text is never read as them.
-use Rattle.std.specs.Prelude.{◌≡◌, List}
-use Rattle.std.specs.List.{All}
+use Rattle.std.specs.{Prelude.◌≡◌, Prelude.List, List.All}
 use Rattle.csicodec_tokens.specs.OneBased.{most}
+use Rattle.csicodec_actions.specs.{Actions.Action, Actions.Cursor, Actions.Device, Actions.Mouse, Devices.RequestTerminalParameters}
 use Rattle.csicodec_actions.specs.declared.cursor.Cursor.TheVariants as cursor
 use Rattle.csicodec_actions.specs.declared.mouse.MouseReport.TheVariants as mouse
-use Rattle.csicodec_actions.specs.Actions.{Action, Cursor, Device, Mouse}
-use Rattle.csicodec_actions.specs.Devices.{RequestTerminalParameters}
 
 -- left and right margins all around are written as `s`, which saves the cursor; a request for the terminal's parameters is written as the report
 abbrev pub IsSpecial : Action → Type 0

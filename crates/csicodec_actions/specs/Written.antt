@@ -1,17 +1,12 @@
 -- What an action of a list is written as: bytes and values, and then the final character.
 use Prim.Native.Char.{Char, code}
-use Rattle.std.specs.Prelude.{ℕ, ℤ, List, [], ◌∷◌, ◌++◌, if◌then◌else◌, pos, ◌≡◌}
-use Rattle.std.specs.Fmt.{signed_decimal}
-use Rattle.csicodec_tokens.specs.declared.param.CsiParam.{CsiParam}
-use Rattle.csicodec_tokens.specs.declared.param.CsiParam.TheVariants.{Integer, P}
-use Rattle.csicodec_tokens.specs.Param.{token_text}
-use Rattle.csicodec_actions.specs.declared.device.DeviceAttribute.{DeviceAttribute}
-use Rattle.csicodec_actions.specs.Devices.{attribute_token}
-use Rattle.csicodec_actions.specs.Kinds.{Kind, Count, Any, Value, number, Good}
-use Rattle.csicodec_names.specs.Numbered.{is_number}
-use Rattle.csicodec_names.specs.DeviceNumbers.{device_attribute_number}
-use Rattle.csicodec_names.specs.declared.device.DeviceAttributeCodes.{DeviceAttributeCodes}
-use Rattle.csicodec_tokens.specs.Sequence.{IsSpellable}
+use Rattle.std.specs.{Prelude.ℕ, Prelude.ℤ, Prelude.List, Prelude.[], Prelude.◌∷◌, Prelude.◌++◌, Prelude.if◌then◌else◌, Prelude.pos, Prelude.◌≡◌}
+use Rattle.std.specs.{Fmt.signed_decimal}
+use Rattle.csicodec_tokens.specs.{declared.param.CsiParam.CsiParam, declared.param.CsiParam.TheVariants.Integer, declared.param.CsiParam.TheVariants.P}
+use Rattle.csicodec_tokens.specs.{Param.token_text, Sequence.IsSpellable}
+use Rattle.csicodec_actions.specs.{declared.device.DeviceAttribute.DeviceAttribute, Devices.attribute_token, Kinds.Kind, Kinds.Count, Kinds.Any, Kinds.Value}
+use Rattle.csicodec_actions.specs.{Kinds.number, Kinds.Good}
+use Rattle.csicodec_names.specs.{Numbered.is_number, DeviceNumbers.device_attribute_number, declared.device.DeviceAttributeCodes.DeviceAttributeCodes}
 use Rattle.csicodec_actions.specs.declared.device.DeviceAttribute.TheVariants as attribute
 
 -- a byte; a value of a kind, as its number; a value that is left out where its number is this one; an extension of a terminal, as its token

@@ -1,11 +1,10 @@
 -- The numbers of XTSMGRAPHICS (xterm's ctlseqs).
 use Rattle.std.specs.Prelude.{ℕ, ℤ, ◌≡◌, pos, if◌then◌else◌}
 use Rattle.csicodec_names.specs.Numbered.{is_number}
-use Rattle.csicodec_actions.specs.declared.xtsmgraphics.XtSmGraphicsAction.{XtSmGraphicsAction}
+use Rattle.csicodec_actions.specs.{declared.xtsmgraphics.XtSmGraphicsAction.XtSmGraphicsAction, declared.xtsmgraphics.XtSmGraphicsItem.XtSmGraphicsItem}
+use Rattle.csicodec_actions.specs.{declared.xtsmgraphics.XtSmGraphicsStatus.XtSmGraphicsStatus}
 use Rattle.csicodec_actions.specs.declared.xtsmgraphics.XtSmGraphicsAction.TheVariants as action
-use Rattle.csicodec_actions.specs.declared.xtsmgraphics.XtSmGraphicsItem.{XtSmGraphicsItem}
 use Rattle.csicodec_actions.specs.declared.xtsmgraphics.XtSmGraphicsItem.TheVariants as item
-use Rattle.csicodec_actions.specs.declared.xtsmgraphics.XtSmGraphicsStatus.{XtSmGraphicsStatus}
 use Rattle.csicodec_actions.specs.declared.xtsmgraphics.XtSmGraphicsStatus.TheVariants as status
 
 abbrev pub item_number : XtSmGraphicsItem → ℤ

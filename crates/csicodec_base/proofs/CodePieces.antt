@@ -1,25 +1,14 @@
 -- The pieces by their first token, the shapes of colours, and the texts made ready for the codes that stand alone.
 use Rattle.std.proofs.Common.{ℕ, ◌≡◌, ◌<◌, ◌≤◌, ◌+◌, List, [], ◌∷◌, Bool, true, false, refl, ◌∙◌, ap, arith, length, Some, None, subst, inl, inr, get_or, drop, ◌≢◌, zero, suc, leb, take, sym, pos}
-use Rattle.std.specs.Prelude.{ℤ, Option, ◌==◌, map, pos, negsuc, if◌then◌else◌, option_and_then, is_some}
-use Rattle.std.specs.List.{list_all}
 use Rattle.std.proofs.lemmas.Bool.{cases_Bool, and_parts, eqb-true, leb-true}
-use Rattle.csicodec_tokens.specs.declared.param.CsiParam.{CsiParam}
-use Rattle.csicodec_tokens.specs.declared.param.CsiParam.TheVariants.{Integer, P}
-use Rattle.csicodec_names.specs.declared.codes.SgrCode.{SgrCode}
-use Rattle.csicodec_base.specs.declared.sgr.Sgr.{Sgr}
-use Rattle.csicodec_names.specs.declared.color.ColorSpec.{ColorSpec}
-use Rattle.csicodec_names.specs.Numbers.{all_codes, number_of}
-use Rattle.csicodec_base.specs.Attributes.{action_of}
+use Rattle.std.specs.{Prelude.ℤ, Prelude.Option, Prelude.◌==◌, Prelude.map, Prelude.pos, Prelude.negsuc, Prelude.if◌then◌else◌, Prelude.option_and_then}
+use Rattle.std.specs.{Prelude.is_some, List.list_all, Fmt.digits}
+use Rattle.csicodec_tokens.specs.{declared.param.CsiParam.CsiParam, declared.param.CsiParam.TheVariants.Integer, declared.param.CsiParam.TheVariants.P}
+use Rattle.csicodec_names.specs.{declared.codes.SgrCode.SgrCode, declared.color.ColorSpec.ColorSpec, Numbers.all_codes, Numbers.number_of, Numbered.with_number}
 use Rattle.csicodec_base.specs.Shapes.{Slot, Number, Byte, Row, Color, Plane, Front, Back, Line, painted, sgr_rows, color_shapes, underline_rows, begins_with, taken, color_of_tokens, rgba_shapes, rgb_shapes}
-use Rattle.csicodec_base.specs.FrontBy.{front_by, color_by, piece}
-use Rattle.csicodec_names.specs.Numbered.{with_number}
+use Rattle.csicodec_base.specs.{declared.sgr.Sgr.Sgr, Attributes.action_of, FrontBy.front_by, FrontBy.color_by, FrontBy.piece, Entries.blank}
+use Rattle.csicodec_base.specs.{declared.entries.Entry.Entry, declared.entries.TheConstants.ENTRIES, Pieces.IsFront, SgrText.sgr_text}
 use Rattle.csicodec_names.proofs.Coded.{listed-number}
-use Rattle.std.specs.Fmt.{digits}
-use Rattle.csicodec_base.specs.Entries.{blank}
-use Rattle.csicodec_base.specs.declared.entries.Entry.{Entry}
-use Rattle.csicodec_base.specs.declared.entries.TheConstants.{ENTRIES}
-use Rattle.csicodec_base.specs.Pieces.{IsFront}
-use Rattle.csicodec_base.specs.SgrText.{sgr_text}
 use Rattle.csicodec_base.proofs.Table.{is_front}
 use Rattle.csicodec_names.specs.declared.codes.SgrCode.TheVariants as code
 use Rattle.csicodec_base.specs.declared.sgr.Sgr.TheVariants as sgr

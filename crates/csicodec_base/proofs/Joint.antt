@@ -1,14 +1,10 @@
 -- What follows a piece changes it only if it begins with `:`.
 use Rattle.std.proofs.Common.{ℕ, ◌≡◌, ◌≤◌, List, [], ◌∷◌, ◌++◌, Bool, true, false, refl, ap, subst, ◌∙◌, arith, length, drop, Some}
-use Rattle.std.specs.Prelude.{◌==◌, ◌||◌, not}
-use Rattle.std.specs.List.{list_all}
-use Rattle.std.proofs.lemmas.Bool.{eqb-true, and_parts}
-use Rattle.std.proofs.lemmas.Option.{option_and_then_some}
-use Rattle.csicodec_tokens.specs.declared.param.CsiParam.{CsiParam}
-use Rattle.csicodec_tokens.specs.declared.param.CsiParam.TheVariants.{Integer, P}
-use Rattle.csicodec_base.specs.declared.sgr.Sgr.{Sgr}
+use Rattle.std.proofs.{lemmas.Bool.eqb-true, lemmas.Bool.and_parts, lemmas.Option.option_and_then_some}
+use Rattle.std.specs.{Prelude.◌==◌, Prelude.◌||◌, Prelude.not, List.list_all}
+use Rattle.csicodec_tokens.specs.{declared.param.CsiParam.CsiParam, declared.param.CsiParam.TheVariants.Integer, declared.param.CsiParam.TheVariants.P}
 use Rattle.csicodec_base.specs.Shapes.{Slot, Number, Byte, Any, Row, Gives, Always, Color, colon, sgr_rows, fits_slot, begins_with, taken, given, byte_of, bytes_of, color_of_tokens}
-use Rattle.csicodec_base.specs.Pieces.{Piece, NoColon}
+use Rattle.csicodec_base.specs.{declared.sgr.Sgr.Sgr, Pieces.Piece, Pieces.NoColon}
 use Rattle.csicodec_base.proofs.Table.{meets, meets-fits, all-contains, fits-length}
 
 -- some token fits both, a number where the first takes any

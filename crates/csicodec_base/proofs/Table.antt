@@ -1,19 +1,14 @@
 -- The first row that fits is the longest, where no two rows of one length fit the same tokens.
 use Rattle.std.proofs.Common.{ℕ, zero, suc, ◌≡◌, ◌<◌, ◌≤◌, ◌+◌, List, [], ◌∷◌, Bool, true, false, refl, sym, ap, ◌∙◌, arith, length, Some, None, inl, inr, subst, ◌⊎◌, take, get_or}
-use Rattle.std.specs.Prelude.{Option, ◌==◌, ◌&&◌, ◌||◌, not, nat_lt, pos, option_and_then}
-use Rattle.std.specs.List.{Contains, list_all}
-use Rattle.std.specs.Option.{IfSome}
-use Rattle.std.proofs.lemmas.Option.{option_and_then_some, some_pair_parts}
-use Rattle.std.proofs.lemmas.Bool.{cases_Bool, or_cases, eqb-true, and_parts}
-use Rattle.std.proofs.lemmas.List.Elements.{All-contains, Contains-append_right}
-use Rattle.std.proofs.lemmas.List.Sums.{AllPass-from_list_all}
+use Rattle.std.proofs.{lemmas.Option.option_and_then_some, lemmas.Option.some_pair_parts, lemmas.Bool.cases_Bool, lemmas.Bool.or_cases, lemmas.Bool.eqb-true}
+use Rattle.std.proofs.{lemmas.Bool.and_parts, lemmas.List.Elements.All-contains, lemmas.List.Elements.Contains-append_right}
+use Rattle.std.proofs.{lemmas.List.Sums.AllPass-from_list_all}
+use Rattle.std.specs.{Prelude.Option, Prelude.◌==◌, Prelude.◌&&◌, Prelude.◌||◌, Prelude.not, Prelude.nat_lt, Prelude.pos, Prelude.option_and_then}
+use Rattle.std.specs.{List.Contains, List.list_all, Option.IfSome}
 use borrow.Author.Tests.{ltb-true}
-use Rattle.csicodec_tokens.specs.declared.param.CsiParam.{CsiParam}
-use Rattle.csicodec_tokens.specs.declared.param.CsiParam.TheVariants.{Integer, P}
-use Rattle.csicodec_base.specs.declared.sgr.Sgr.{Sgr}
+use Rattle.csicodec_tokens.specs.{declared.param.CsiParam.CsiParam, declared.param.CsiParam.TheVariants.Integer, declared.param.CsiParam.TheVariants.P}
 use Rattle.csicodec_base.specs.Shapes.{Slot, Number, Byte, AnyNumber, Any, Row, sgr_rows, fits_slot, begins_with, taken, given}
-use Rattle.csicodec_base.specs.Pieces.{Longest, Piece, IsFront}
-use Rattle.csicodec_base.specs.FrontBy.{front_by, piece}
+use Rattle.csicodec_base.specs.{declared.sgr.Sgr.Sgr, Pieces.Longest, Pieces.Piece, Pieces.IsFront, FrontBy.front_by, FrontBy.piece}
 
 -- some token fits both
 abbrev pub meets : Slot → Slot → Bool

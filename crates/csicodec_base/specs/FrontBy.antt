@@ -2,9 +2,9 @@
 -- the two together speak of it.
 use Rattle.std.specs.Prelude.{ℕ, ◌+◌, List, [], ◌∷◌, if◌then◌else◌, Option, Some, None, option_and_then, length}
 use Rattle.csicodec_tokens.specs.declared.param.CsiParam.{CsiParam}
-use Rattle.csicodec_base.specs.declared.sgr.Sgr.{Sgr}
+use Rattle.csicodec_base.specs.{declared.sgr.Sgr.Sgr, Shapes.Slot, Shapes.Row, Shapes.begins_with, Shapes.taken, Shapes.given, Shapes.color_of_tokens}
+use Rattle.csicodec_base.specs.{Shapes.sgr_rows}
 use Rattle.csicodec_names.specs.declared.color.ColorSpec.{ColorSpec}
-use Rattle.csicodec_base.specs.Shapes.{Slot, Row, begins_with, taken, given, color_of_tokens, sgr_rows}
 
 -- what the first row that fits gives, and its number of tokens, with those that stand before
 abbrev pub front_by : ℕ → List Row → List CsiParam → Option (Sgr × ℕ)

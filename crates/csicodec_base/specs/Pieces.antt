@@ -1,10 +1,8 @@
 -- The longest piece at the front of a list of attributes.
-use Rattle.std.specs.Prelude.{ℕ, ◌≡◌, ◌≤◌, List, ◌∷◌, true, Option, Some, length, MatchOption}
-use Rattle.std.specs.List.{Contains}
-use Rattle.csicodec_tokens.specs.declared.param.CsiParam.{CsiParam}
-use Rattle.csicodec_tokens.specs.declared.param.CsiParam.TheVariants.{P}
-use Rattle.csicodec_base.specs.declared.sgr.Sgr.{Sgr}
-use Rattle.csicodec_base.specs.Shapes.{Row, colon, begins_with, taken, given, sgr_rows}
+use Rattle.std.specs.{Prelude.ℕ, Prelude.◌≡◌, Prelude.◌≤◌, Prelude.List, Prelude.◌∷◌, Prelude.true, Prelude.Option, Prelude.Some, Prelude.length}
+use Rattle.std.specs.{Prelude.MatchOption, List.Contains}
+use Rattle.csicodec_tokens.specs.{declared.param.CsiParam.CsiParam, declared.param.CsiParam.TheVariants.P}
+use Rattle.csicodec_base.specs.{declared.sgr.Sgr.Sgr, Shapes.Row, Shapes.colon, Shapes.begins_with, Shapes.taken, Shapes.given, Shapes.sgr_rows}
 
 -- the row is in the table, the list begins with its shape, and with no shape of the table that has more tokens
 pub record Longest (rows : List Row) (rest : List CsiParam) (row : Row) : Type 0 where

@@ -2,14 +2,14 @@
 use Rattle.std.specs.Prelude.{ℕ, ◌+◌, ◌==◌, List, [], ◌++◌, true, false, if◌then◌else◌, nat_lt, nat_le, ◌&&◌, codes}
 use Rattle.std.specs.Fmt.{decimal}
 use Rattle.csicodec_base.specs.declared.sgr.Sgr.{Sgr}
+use Rattle.csicodec_names.specs.{declared.color.Intensity.TheVariants.Normal, declared.color.Intensity.TheVariants.Bold}
+use Rattle.csicodec_names.specs.{declared.color.Intensity.TheVariants.Half, declared.color.SrgbaTuple.SrgbaTuple}
 use Rattle.csicodec_base.specs.declared.sgr.Sgr.TheVariants as sgr
-use Rattle.csicodec_names.specs.declared.color.Intensity.TheVariants.{Normal, Bold, Half}
 use Rattle.csicodec_names.specs.declared.color.Underline.TheVariants as underline
 use Rattle.csicodec_names.specs.declared.color.Blink.TheVariants as blink
 use Rattle.csicodec_names.specs.declared.color.VerticalAlign.TheVariants as align
 use Rattle.csicodec_base.specs.declared.sgr.Font.TheVariants as font
 use Rattle.csicodec_names.specs.declared.color.ColorSpec.TheVariants as color
-use Rattle.csicodec_names.specs.declared.color.SrgbaTuple.{SrgbaTuple}
 
 -- a place in the palette, for the plane whose code of black is `first`: the first 8 and the 8 bright
 -- ones behind them have codes of their own (`31m`, `91m`), any other is named by its number (`38:5:16m`)

@@ -1,23 +1,16 @@
 -- The events of a stream don't depend on the chunks that it came in: they are the smallest steps of all of its bytes.
 use Rattle.std.proofs.Common.{◌≡◌, ℕ, ◌≤◌, false, List, [], ◌∷◌, ◌++◌, length, refl, sym, ap, subst, ◌∙◌, inl, inr, append_assoc, append-nil, arith}
-use Rattle.std.proofs.lemmas.Grind.{flat_map-append}
+use Rattle.std.proofs.{lemmas.Grind.flat_map-append, lemmas.Bool.both_ways}
 use Rattle.std.specs.List.{concat}
-use Rattle.std.proofs.lemmas.Bool.{both_ways}
 use Rattle.csicodec_tokens.specs.declared.param.CsiParam.{CsiParam}
-use Rattle.csicodec_spans.specs.declared.table.Kind.TheVariants as kind
-use Rattle.csicodec_spans.specs.declared.table.Mode.{Mode}
-use Rattle.csicodec_spans.specs.Parts.{Part, AreAll, AreFirstParts, IsFirstPart}
-use Rattle.csicodec_spans.proofs.Once.{part_once, unsure_stops}
-use Rattle.csicodec_spans.proofs.OneSpan.{none_unsure}
-use Rattle.csicodec_events.specs.declared.event.Events.{Events}
-use Rattle.csicodec_events.specs.declared.event.Told.{Told}
-use Rattle.csicodec_events.specs.Characters.{is_unfinished}
+use Rattle.csicodec_spans.specs.{declared.table.Mode.Mode, Parts.Part, Parts.AreAll, Parts.AreFirstParts, Parts.IsFirstPart}
+use Rattle.csicodec_spans.proofs.{Once.part_once, Once.unsure_stops, OneSpan.none_unsure}
 use Rattle.csicodec_events.specs.Events.{AreAlike, AreTold, BeginsCsi, InChunks, IsOpen, IsWrongAt, Piece, Tells, Waits, before_stop, from_stop, onward, pieces, pieces_of, stop}
-use Rattle.csicodec_events.proofs.Divided.{all_go}
-use Rattle.csicodec_events.proofs.Kept.{begins_more}
-use Rattle.csicodec_events.proofs.Looked.{IsLooked, looked_met, looked_more}
+use Rattle.csicodec_events.specs.{declared.event.Events.Events, declared.event.Told.Told, Characters.is_unfinished}
 use Rattle.csicodec_events.proofs.Moves.{Divides, IsStill, divides_more, divides_on, divides_once, none_divides}
-use Rattle.csicodec_events.proofs.Run.{met_within, stop_on, told_at_once}
+use Rattle.csicodec_events.proofs.{Divided.all_go, Kept.begins_more, Looked.IsLooked, Looked.looked_met, Looked.looked_more, Run.met_within, Run.stop_on}
+use Rattle.csicodec_events.proofs.{Run.told_at_once}
+use Rattle.csicodec_spans.specs.declared.table.Kind.TheVariants as kind
 
 -- ---- where the stream waits no step follows
 

@@ -1,12 +1,10 @@
 -- Where a reader stops, with a sequence or without one: no further than the sequence does.
 use Rattle.std.proofs.Common.{◌≡◌, ℕ, ◌+◌, ◌≤◌, ◌⊎◌, refl, subst, List, [], ◌∷◌, ◌++◌, length, take, drop, sym, ap, ◌∙◌, inl, inr, append_assoc, arith}
-use Rattle.std.specs.List.{AllByRecursion, prefix_len}
 use Rattle.std.proofs.lemmas.List.{length-append, length-take, take-append-drop}
-use Rattle.csicodec_tokens.specs.declared.param.CsiParam.{CsiParam}
-use Rattle.csicodec_tokens.specs.declared.reader.ReadError.{ReadError}
+use Rattle.std.specs.List.{AllByRecursion, prefix_len}
 use Rattle.csicodec_tokens.specs.declared.reader.ReadError.TheVariants.{NotCsi, BadByte, NumberTooLarge, Truncated, Memory}
-use Rattle.csicodec_tokens.specs.Fault.{Begins, FaultOf, IsLeast, Refuses}
-use Rattle.csicodec_tokens.specs.Sequence.{IsBodyByte, Reads}
+use Rattle.csicodec_tokens.specs.{declared.param.CsiParam.CsiParam, declared.reader.ReadError.ReadError, Fault.Begins, Fault.FaultOf, Fault.IsLeast}
+use Rattle.csicodec_tokens.specs.{Fault.Refuses, Sequence.IsBodyByte, Sequence.Reads}
 use Rattle.csicodec_tokens.proofs.Spelled.{IsBody-from_spelling}
 use Rattle.csicodec_events.specs.Events.{is_passed, stop}
 use Rattle.csicodec_events.proofs.Sequences.{passed_body}

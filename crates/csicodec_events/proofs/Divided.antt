@@ -1,32 +1,19 @@
 -- A span as the smallest steps, a step for each of its parts, and any event.
 use Rattle.std.proofs.Common.{◌≡◌, ◌≢◌, ◌⊎◌, ℕ, ◌<◌, Bool, false, List, [], ◌∷◌, ◌++◌, length, refl, sym, ap, subst, ◌∙◌, inl, inr, append_assoc, arith, true, drop}
-use Rattle.std.specs.Prelude.{◌==◌, if◌then◌else◌}
-use Rattle.std.specs.List.{AllByRecursion, flat_map}
-use Rattle.std.proofs.lemmas.Bool.{cases_Bool, eqb-true}
-use Rattle.csicodec_spans.specs.declared.table.Kind.{Kind}
-use Rattle.csicodec_spans.specs.declared.table.Kind.TheVariants as kind
-use Rattle.csicodec_spans.specs.declared.table.Mode.{Mode}
-use Rattle.csicodec_spans.specs.declared.table.Mode.TheVariants as mode
+use Rattle.std.proofs.{lemmas.Bool.cases_Bool, lemmas.Bool.eqb-true, lemmas.Bool.Decides.nat_tests}
+use Rattle.std.specs.{Prelude.◌==◌, Prelude.if◌then◌else◌, List.AllByRecursion, List.flat_map}
 use Rattle.csicodec_spans.specs.Parts.{Part, part, Allows, AllowsCsi, AreAll, AreFirstParts, AreOne, IsFirstPart, IsMaximal, IsMore, bytes_of}
-use Rattle.csicodec_spans.specs.Table.{Answer, More, ahead}
-use Rattle.csicodec_spans.proofs.Agrees.{opens, text_goes_on}
-use Rattle.csicodec_spans.proofs.Kept.{parts_join}
-use Rattle.csicodec_events.specs.declared.event.Event.{Event}
-use Rattle.csicodec_events.specs.declared.event.Event.TheVariants as event
-use Rattle.csicodec_events.specs.declared.event.Events.{Events}
-use Rattle.csicodec_events.specs.Characters.{is_unfinished}
-use Rattle.csicodec_events.specs.Events.{BeginsCsi, IsHeld, IsSpan, IsText, Piece, begins, byte_by_byte, divided, onward, piece, pieces_of, AreTold, GoesWrong, IsControl, IsTold}
-use Rattle.csicodec_events.specs.Events.{IsWrong, before_stop, from_stop, is_final, pieces}
-use Rattle.csicodec_events.proofs.Fronts.{event_of, front}
+use Rattle.csicodec_spans.specs.{declared.table.Kind.Kind, declared.table.Mode.Mode, Table.Answer, Table.More, Table.ahead}
+use Rattle.csicodec_spans.proofs.{Agrees.opens, Agrees.text_goes_on, Kept.parts_join, Apart.said}
+use Rattle.csicodec_events.specs.Events.{BeginsCsi, IsHeld, IsSpan, IsText, Piece, begins, byte_by_byte, divided, onward, piece, pieces_of, AreTold, GoesWrong, IsControl, IsTold, IsWrong, before_stop, from_stop, is_final, pieces}
+use Rattle.csicodec_events.specs.{declared.event.Event.Event, declared.event.Events.Events, Characters.is_unfinished, declared.event.Told.Told}
 use Rattle.csicodec_events.proofs.Moves.{Divides, IsMove, IsPart, move_divides, none_divides, one_divides, one_part, divides_on}
-use Rattle.csicodec_events.proofs.Unfinished.{text_sure}
-use Rattle.std.proofs.lemmas.Bool.Decides.{nat_tests}
-use Rattle.csicodec_tokens.specs.declared.param.CsiParam.{CsiParam}
-use Rattle.csicodec_spans.proofs.Apart.{said}
-use Rattle.csicodec_events.specs.declared.event.Told.{Told}
 use Rattle.csicodec_events.proofs.Looked.{AreInside, IsLooked, is_inside, looked_control, looked_met, no_control, over_inside, over_shape}
-use Rattle.csicodec_events.proofs.Run.{met_within}
-use Rattle.csicodec_events.proofs.Steps.{halves}
+use Rattle.csicodec_events.proofs.{Fronts.event_of, Fronts.front, Unfinished.text_sure, Run.met_within, Steps.halves}
+use Rattle.csicodec_tokens.specs.declared.param.CsiParam.{CsiParam}
+use Rattle.csicodec_spans.specs.declared.table.Kind.TheVariants as kind
+use Rattle.csicodec_spans.specs.declared.table.Mode.TheVariants as mode
+use Rattle.csicodec_events.specs.declared.event.Event.TheVariants as event
 
 -- ---- pieces of bytes
 

@@ -1,32 +1,19 @@
 -- Of the forms of input: how far they go, that later bytes change nothing, and the bytes joined.
-use Rattle.std.proofs.Common.{◌≡◌, ℕ, suc, ◌+◌, ◌*◌, ◌-◌, ◌==◌, ◌<◌, ◌≤◌, ◌&&◌, ◌||◌, Bool, true, false, nat_le, if◌then◌else◌}
-use Rattle.std.proofs.lemmas.Bool.{eqb-true}
-use Rattle.std.proofs.lemmas.Bool.{cases_Bool}
-use Rattle.std.proofs.Common.{inl}
-use Rattle.std.proofs.Common.{inr}
-use Rattle.std.proofs.Common.{List, [], ◌∷◌, ◌++◌, length, drop, refl, sym, ap, subst, ◌∙◌, append_assoc, append-nil, arith}
+use Rattle.std.proofs.Common.{◌≡◌, ℕ, suc, ◌+◌, ◌*◌, ◌-◌, ◌==◌, ◌<◌, ◌≤◌, ◌&&◌, ◌||◌, Bool, true, false, nat_le, if◌then◌else◌, inl, inr, List, [], ◌∷◌, ◌++◌, length, drop, refl, sym, ap, subst, ◌∙◌, append_assoc, append-nil, arith}
+use Rattle.std.proofs.{lemmas.Bool.eqb-true, lemmas.Bool.cases_Bool, lemmas.Grind.flat_map-append, lemmas.List.length-drop, lemmas.List.take-append-drop}
+use Rattle.std.proofs.{lemmas.List.drop-append-le}
 use Rattle.std.specs.List.{concat, flat_map}
-use Rattle.std.proofs.lemmas.Grind.{flat_map-append}
-use Rattle.std.proofs.lemmas.List.{length-drop, take-append-drop, drop-append-le}
 use Rattle.csicodec_tokens.specs.declared.param.CsiParam.{CsiParam}
 use Rattle.csicodec_spans.specs.declared.table.Mode.{Mode}
-use Rattle.csicodec_spans.specs.declared.table.Mode.TheVariants as mode
-use Rattle.csicodec_events.specs.declared.event.Event.{Event}
-use Rattle.csicodec_events.specs.declared.event.Events.{Events}
-use Rattle.csicodec_events.specs.declared.input.Dialect.{Dialect}
-use Rattle.csicodec_events.specs.declared.input.Dialect.TheVariants as dialect
-use Rattle.csicodec_events.specs.declared.input.Form.{Form}
-use Rattle.csicodec_events.specs.declared.input.Form.TheVariants as form
-use Rattle.csicodec_events.specs.declared.input.InputEvent.{InputEvent}
-use Rattle.csicodec_events.specs.declared.input.InputEvent.TheVariants as input
-use Rattle.csicodec_events.specs.declared.input.Sent.{Sent}
-use Rattle.csicodec_events.specs.declared.input.Width.{Width}
-use Rattle.csicodec_events.specs.declared.input.Width.TheVariants as width
-use Rattle.csicodec_events.specs.Characters.{is_from}
-use Rattle.csicodec_events.specs.Events.{IsTold}
-use Rattle.csicodec_events.specs.Input.{AreSent, InputChunks, IsSent, IsSentBy, IsSure, ahead, behind_escape, bytes_of, char_width, csi, escape, escape_in_string, in_input}
-use Rattle.csicodec_events.specs.Input.{is_digit, is_opener, is_printable, is_wide, last, last_three, last_two, linux, mouse, rxvt, second, ss3, string, two_digits}
+use Rattle.csicodec_events.specs.Input.{AreSent, InputChunks, IsSent, IsSentBy, IsSure, ahead, behind_escape, bytes_of, char_width, csi, escape, escape_in_string, in_input, is_digit, is_opener, is_printable, is_wide, last, last_three, last_two, linux, mouse, rxvt, second, ss3, string, two_digits}
+use Rattle.csicodec_events.specs.{declared.event.Event.Event, declared.event.Events.Events, declared.input.Dialect.Dialect, declared.input.Form.Form}
+use Rattle.csicodec_events.specs.{declared.input.InputEvent.InputEvent, declared.input.Sent.Sent, declared.input.Width.Width, Characters.is_from, Events.IsTold}
 use Rattle.csicodec_events.proofs.Run.{joined_on, parts_of}
+use Rattle.csicodec_spans.specs.declared.table.Mode.TheVariants as mode
+use Rattle.csicodec_events.specs.declared.input.Dialect.TheVariants as dialect
+use Rattle.csicodec_events.specs.declared.input.Form.TheVariants as form
+use Rattle.csicodec_events.specs.declared.input.InputEvent.TheVariants as input
+use Rattle.csicodec_events.specs.declared.input.Width.TheVariants as width
 
 -- ---- two answers for bytes, and for the same and more: the form is none of output and no longer than the bytes, and it stays
 

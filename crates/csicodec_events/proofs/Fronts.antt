@@ -1,22 +1,17 @@
 -- The part in front of bytes that begin no control sequence: where it is more of what is open, and where it begins anew.
 use Rattle.std.proofs.Common.{◌≡◌, ◌⊎◌, ℕ, ◌<◌, List, [], ◌∷◌, ◌++◌, Some, length, take, refl, sym, ap, subst, ◌∙◌, inl, inr, arith}
+use Rattle.std.proofs.{lemmas.Bool.and_from, lemmas.Bool.and_parts, lemmas.Bool.both_ways, lemmas.Bool.cases_Bool, lemmas.Bool.eqb-true, lemmas.Bool.not-true}
+use Rattle.std.proofs.{lemmas.Bool.or_cases, lemmas.Bool.Decides.nat_tests}
 use Rattle.std.specs.Prelude.{slice_get, ◌==◌, ◌&&◌, ◌||◌, Bool, true, false, not}
-use Rattle.std.proofs.lemmas.Bool.{and_from, and_parts, both_ways, cases_Bool, eqb-true, not-true, or_cases}
-use Rattle.std.proofs.lemmas.Bool.Decides.{nat_tests}
-use Rattle.csicodec_spans.specs.declared.table.Kind.{Kind}
-use Rattle.csicodec_spans.specs.declared.table.Kind.TheVariants as kind
-use Rattle.csicodec_spans.specs.declared.table.Mode.{Mode}
-use Rattle.csicodec_spans.specs.declared.table.Mode.TheVariants as mode
-use Rattle.csicodec_spans.specs.Iteration.{BeginsAs}
-use Rattle.csicodec_spans.specs.Parts.{Part, Allows, IsFirstPart, IsMore}
 use Rattle.csicodec_spans.specs.Table.{Answer, More, Anew, Sequence, Undecided, ModeRow, Spot, ahead, begin_with, every_mode, fits_front, fitting, holds_in, mode_table, openers, takes, within}
-use Rattle.csicodec_spans.proofs.Agrees.{only_row, opens, sound}
-use Rattle.csicodec_spans.proofs.Apart.{said}
-use Rattle.csicodec_spans.proofs.Fronts.{IsFit, IsPiece, Sound, is_str}
-use Rattle.csicodec_spans.proofs.Missed.{fit, front_is}
-use Rattle.csicodec_events.specs.declared.event.Event.{Event}
+use Rattle.csicodec_spans.specs.{declared.table.Kind.Kind, declared.table.Mode.Mode, Iteration.BeginsAs, Parts.Part, Parts.Allows, Parts.IsFirstPart}
+use Rattle.csicodec_spans.specs.{Parts.IsMore}
+use Rattle.csicodec_spans.proofs.{Agrees.only_row, Agrees.opens, Agrees.sound, Apart.said, Fronts.IsFit, Fronts.IsPiece, Fronts.Sound, Fronts.is_str}
+use Rattle.csicodec_spans.proofs.{Missed.fit, Missed.front_is}
+use Rattle.csicodec_events.specs.{declared.event.Event.Event, Events.BeginsCsi, Events.begins}
+use Rattle.csicodec_spans.specs.declared.table.Kind.TheVariants as kind
+use Rattle.csicodec_spans.specs.declared.table.Mode.TheVariants as mode
 use Rattle.csicodec_events.specs.declared.event.Event.TheVariants as event
-use Rattle.csicodec_events.specs.Events.{BeginsCsi, begins}
 
 -- the event that a part of this kind is a piece of
 abbrev pub event_of : Kind → Event

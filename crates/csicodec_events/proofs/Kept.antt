@@ -1,14 +1,12 @@
 -- What is told of a control sequence stays, whatever follows.
 use Rattle.std.proofs.Common.{◌≡◌, ℕ, ◌+◌, ◌<◌, false, max, List, ◌∷◌, ◌++◌, length, take, drop, refl, ap, ◌∙◌, arith}
-use Rattle.std.proofs.lemmas.List.Folds.{prefix_len-append}
-use Rattle.std.proofs.lemmas.Bool.Decides.{nat_tests}
-use Rattle.std.specs.Prelude.{◌==◌}
-use Rattle.std.specs.List.{prefix_len}
-use Rattle.std.proofs.lemmas.List.{length-drop, take-append-le, drop-append-le}
+use Rattle.std.proofs.{lemmas.List.Folds.prefix_len-append, lemmas.Bool.Decides.nat_tests, lemmas.List.length-drop, lemmas.List.take-append-le}
+use Rattle.std.proofs.{lemmas.List.drop-append-le}
+use Rattle.std.specs.{Prelude.◌==◌, List.prefix_len}
 use Rattle.csicodec_tokens.specs.declared.param.CsiParam.{CsiParam}
+use Rattle.csicodec_events.specs.{declared.event.Events.Events, Events.BeginsCsi, Events.IsTold, Events.before_stop, Events.from_stop, Events.is_passed}
+use Rattle.csicodec_events.specs.{Events.stop}
 use Rattle.csicodec_events.specs.declared.event.Event.TheVariants as event
-use Rattle.csicodec_events.specs.declared.event.Events.{Events}
-use Rattle.csicodec_events.specs.Events.{BeginsCsi, IsTold, before_stop, from_stop, is_passed, stop}
 
 -- where a byte isn't passed over, no more are
 stopped : (bytes more : List ℕ) → prefix_len is_passed bytes < length bytes

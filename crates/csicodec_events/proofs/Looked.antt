@@ -1,18 +1,13 @@
 -- What was looked at of a control sequence: bytes that are passed over, and controls.
 use Rattle.std.proofs.Common.{◌≡◌, ℕ, zero, suc, ◌+◌, ◌≤◌, ◌⊎◌, Bool, true, false, filter, max, List, [], ◌∷◌, ◌++◌, length, take, drop, refl, sym, ap, subst, ◌∙◌, inl, inr, arith}
-use Rattle.std.proofs.Math.Seq.{take-add}
-use Rattle.std.specs.Prelude.{◌||◌}
-use Rattle.std.specs.List.{AllByRecursion, prefix_len}
-use Rattle.std.proofs.lemmas.Bool.{cases_Bool, cases_lt, or_left, or_right}
-use Rattle.std.proofs.lemmas.Bool.Decides.{nat_tests}
 use Rattle.std.proofs.lemmas.List.{length-append, drop-append-le, length-drop, length-take, nil_from_length, take-append-le}
-use Rattle.csicodec_tokens.specs.declared.param.CsiParam.{CsiParam}
-use Rattle.csicodec_tokens.specs.Sequence.{IsFinal, Seq}
-use Rattle.csicodec_events.specs.declared.event.Events.{Events}
+use Rattle.std.proofs.{Math.Seq.take-add, lemmas.Bool.cases_Bool, lemmas.Bool.cases_lt, lemmas.Bool.or_left, lemmas.Bool.or_right}
+use Rattle.std.proofs.{lemmas.Bool.Decides.nat_tests}
+use Rattle.std.specs.{Prelude.◌||◌, List.AllByRecursion, List.prefix_len}
+use Rattle.csicodec_tokens.specs.{declared.param.CsiParam.CsiParam, Sequence.IsFinal, Sequence.Seq}
 use Rattle.csicodec_events.specs.Events.{BeginsCsi, IsControl, IsCsi, IsMet, before_stop, from_stop, is_control, is_passed, is_read, stop, without_controls}
-use Rattle.csicodec_events.proofs.Kept.{begins_more}
-use Rattle.csicodec_events.proofs.Stops.{next_place}
-use Rattle.csicodec_events.proofs.Unfinished.{refuted}
+use Rattle.csicodec_events.specs.declared.event.Events.{Events}
+use Rattle.csicodec_events.proofs.{Kept.begins_more, Stops.next_place, Unfinished.refuted}
 
 -- a byte that a sequence goes on over
 abbrev pub is_inside : ℕ → Bool

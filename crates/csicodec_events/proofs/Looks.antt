@@ -1,23 +1,16 @@
 -- How often the bytes of control sequences are looked at: no byte again to find where one stops.
 use Rattle.std.proofs.Common.{◌≡◌, ℕ, ◌+◌, ◌-◌, ◌*◌, ◌<◌, ◌≤◌, max, List, [], ◌∷◌, ◌++◌, length, take, drop, refl, sym, ap, ◌∙◌, inl, inr, append-nil, take_all, arith}
-use Rattle.std.specs.List.{concat, flat_map, prefix_len}
-use Rattle.std.specs.Prelude.{◌==◌, ◌&&◌, Bool, true, false, if◌then◌else◌}
-use Rattle.std.proofs.lemmas.Bool.{and_parts, cases_lt, eqb-true}
-use Rattle.std.proofs.lemmas.Grind.{flat_map-append}
-use Rattle.std.proofs.lemmas.List.{drop_at, length-append, length-drop, length-take}
+use Rattle.std.proofs.{lemmas.Bool.and_parts, lemmas.Bool.cases_lt, lemmas.Bool.eqb-true, lemmas.Grind.flat_map-append, lemmas.List.drop_at}
+use Rattle.std.proofs.{lemmas.List.length-append, lemmas.List.length-drop, lemmas.List.length-take}
+use Rattle.std.specs.{List.concat, List.flat_map, List.prefix_len, Prelude.◌==◌, Prelude.◌&&◌, Prelude.Bool, Prelude.true, Prelude.false, Prelude.if◌then◌else◌}
 use Rattle.csicodec_tokens.specs.declared.param.CsiParam.{CsiParam}
 use Rattle.csicodec_spans.specs.declared.table.Mode.{Mode}
-use Rattle.csicodec_events.specs.declared.event.Event.{Event}
+use Rattle.csicodec_events.specs.Events.{AreTold, BeginsCsi, GoesWrong, InChunks, IsOpen, IsTold, Waits, before_stop, bytes_of, from_stop, is_passed, is_csi, looks, looks_in, looks_told, reach, stop}
+use Rattle.csicodec_events.specs.{declared.event.Event.Event, declared.event.Events.Events, declared.event.Told.Told}
+use Rattle.csicodec_events.proofs.{Divided.told_goes, Divided.esc_other, Divided.str_other, Divided.text_other, Looked.IsLooked, Looked.looked_met}
+use Rattle.csicodec_events.proofs.{Looked.looked_more, Looked.over_inside, Run.chunks_joined, Run.met_within, Steps.halves, Steps.stop_behind}
+use Rattle.csicodec_events.proofs.{Unfinished.refuted}
 use Rattle.csicodec_events.specs.declared.event.Event.TheVariants as event
-use Rattle.csicodec_events.specs.declared.event.Events.{Events}
-use Rattle.csicodec_events.specs.declared.event.Told.{Told}
-use Rattle.csicodec_events.specs.Events.{AreTold, BeginsCsi, GoesWrong, InChunks, IsOpen, IsTold, Waits, before_stop, bytes_of, from_stop, is_passed, is_csi, looks, looks_in}
-use Rattle.csicodec_events.specs.Events.{looks_told, reach, stop}
-use Rattle.csicodec_events.proofs.Divided.{told_goes, esc_other, str_other, text_other}
-use Rattle.csicodec_events.proofs.Looked.{IsLooked, looked_met, looked_more, over_inside}
-use Rattle.csicodec_events.proofs.Run.{chunks_joined, met_within}
-use Rattle.csicodec_events.proofs.Steps.{halves, stop_behind}
-use Rattle.csicodec_events.proofs.Unfinished.{refuted}
 
 pub stops_behind : (looked : ℕ) (front other bytes : List ℕ) → 2 ≤ looked → length front ≡ looked
     → length other ≡ looked → stop looked (front ++ bytes) ≡ stop looked (other ++ bytes)

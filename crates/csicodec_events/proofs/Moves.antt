@@ -1,27 +1,20 @@
 -- Events in the smallest steps: each tells one piece, or a few that are never cut apart. Where no step follows the stream waits; in
 -- any state at most one follows; and it stays, whatever bytes come later.
 use Rattle.std.proofs.Common.{◌≡◌, ◌⊎◌, ℕ, ◌≤◌, false, max, List, [], ◌∷◌, ◌++◌, length, drop, refl, sym, ap, subst, ◌∙◌, inl, inr, append_assoc, append-nil, arith}
-use Rattle.std.proofs.lemmas.List.Folds.{prefix_len-append}
+use Rattle.std.proofs.{lemmas.List.Folds.prefix_len-append, lemmas.Bool.both_ways, lemmas.List.length-append, lemmas.List.length-take}
+use Rattle.std.proofs.{lemmas.List.drop-append-le}
 use Rattle.std.specs.List.{prefix_len}
-use Rattle.std.proofs.lemmas.Bool.{both_ways}
-use Rattle.std.proofs.lemmas.List.{length-append, length-take, drop-append-le}
-use Rattle.csicodec_tokens.specs.declared.param.CsiParam.{CsiParam}
-use Rattle.csicodec_tokens.specs.Sequence.{Seq}
+use Rattle.csicodec_tokens.specs.{declared.param.CsiParam.CsiParam, Sequence.Seq}
 use Rattle.csicodec_tokens.proofs.Unique.{one_seq}
-use Rattle.csicodec_spans.specs.declared.table.Kind.TheVariants as kind
-use Rattle.csicodec_spans.specs.declared.table.Mode.{Mode}
-use Rattle.csicodec_spans.specs.declared.table.Mode.TheVariants as mode
-use Rattle.csicodec_spans.specs.Parts.{Part, AreFirstParts, IsFirstPart}
-use Rattle.csicodec_spans.proofs.Kept.{parts_more}
-use Rattle.csicodec_spans.proofs.Once.{part_once}
-use Rattle.csicodec_events.specs.declared.event.Event.TheVariants as event
-use Rattle.csicodec_events.specs.declared.event.Events.{Events}
-use Rattle.csicodec_events.specs.Characters.{is_unfinished}
+use Rattle.csicodec_spans.specs.{declared.table.Mode.Mode, Parts.Part, Parts.AreFirstParts, Parts.IsFirstPart}
+use Rattle.csicodec_spans.proofs.{Kept.parts_more, Once.part_once}
 use Rattle.csicodec_events.specs.Events.{BeginsCsi, IsControl, IsCsi, IsWrongAt, Piece, before_stop, from_stop, is_control, is_passed, onward, piece, pieces_of, stop, without_controls}
-use Rattle.csicodec_events.proofs.Fronts.{event_of, front, none_sure}
-use Rattle.csicodec_events.proofs.Kept.{control_more, csi_more, same_stop}
-use Rattle.csicodec_events.proofs.Stops.{too_long}
-use Rattle.csicodec_events.proofs.Unfinished.{refuted, unfinished_front}
+use Rattle.csicodec_events.specs.{declared.event.Events.Events, Characters.is_unfinished}
+use Rattle.csicodec_events.proofs.{Fronts.event_of, Fronts.front, Fronts.none_sure, Kept.control_more, Kept.csi_more, Kept.same_stop, Stops.too_long}
+use Rattle.csicodec_events.proofs.{Unfinished.refuted, Unfinished.unfinished_front}
+use Rattle.csicodec_spans.specs.declared.table.Kind.TheVariants as kind
+use Rattle.csicodec_spans.specs.declared.table.Mode.TheVariants as mode
+use Rattle.csicodec_events.specs.declared.event.Event.TheVariants as event
 
 -- ---- the steps
 

@@ -1,23 +1,15 @@
 -- What follows of events one after the other.
 use Rattle.std.proofs.Common.{◌≡◌, ℕ, ◌+◌, ◌≤◌, max, List, [], ◌∷◌, ◌++◌, length, take, drop, refl, sym, ap, subst, ◌∙◌, inl, inr, append_assoc, append-nil, arith}
-use Rattle.std.proofs.lemmas.List.Folds.{prefix_len-append}
-use Rattle.std.proofs.lemmas.Bool.{eq-eqb}
-use Rattle.std.proofs.lemmas.List.{drop-append-le}
+use Rattle.std.proofs.{lemmas.List.Folds.prefix_len-append, lemmas.Bool.eq-eqb, lemmas.List.drop-append-le, lemmas.List.length-take, lemmas.List.length-drop}
+use Rattle.std.proofs.{Math.Seq.drop-append_seam, lemmas.Grind.flat_map-append, lemmas.List.Sums.prefix_len-le-length}
 use Rattle.std.specs.List.{concat, flat_map, prefix_len}
-use Rattle.std.proofs.Math.Seq.{drop-append_seam}
-use Rattle.std.proofs.lemmas.Grind.{flat_map-append}
-use Rattle.std.proofs.lemmas.List.{length-take, length-drop}
-use Rattle.std.proofs.lemmas.List.Sums.{prefix_len-le-length}
 use Rattle.csicodec_tokens.specs.declared.param.CsiParam.{CsiParam}
-use Rattle.csicodec_spans.specs.declared.table.Kind.{Kind}
-use Rattle.csicodec_spans.specs.declared.table.Mode.{Mode}
+use Rattle.csicodec_spans.specs.{declared.table.Kind.Kind, declared.table.Mode.Mode}
 use Rattle.csicodec_spans.proofs.Spanned.{cut_parts}
-use Rattle.csicodec_events.specs.declared.event.Event.{Event}
-use Rattle.csicodec_events.specs.declared.event.Event.TheVariants as event
-use Rattle.csicodec_events.specs.declared.event.Events.{Events}
-use Rattle.csicodec_events.specs.declared.event.Told.{Told}
 use Rattle.csicodec_events.specs.Events.{AreTold, BeginsCsi, GoesWrong, InChunks, IsMet, IsSpan, IsText, IsTold, Tells, Waits, before_stop, bytes_of, from_stop, is_passed, onward, stop}
+use Rattle.csicodec_events.specs.{declared.event.Event.Event, declared.event.Events.Events, declared.event.Told.Told}
 use Rattle.csicodec_events.proofs.Steps.{csi_further, halves}
+use Rattle.csicodec_events.specs.declared.event.Event.TheVariants as event
 
 -- ---- the bytes joined
 

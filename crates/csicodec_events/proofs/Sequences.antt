@@ -1,17 +1,13 @@
 -- A sequence without controls stops at its final byte, and is read as it stands.
 use Rattle.std.proofs.Common.{◌≡◌, ℕ, ◌+◌, ◌≤◌, Bool, true, false, cond, filter, List, [], ◌∷◌, ◌++◌, length, take, drop, refl, sym, ap, subst, ◌∙◌, append_assoc, arith}
-use Rattle.std.proofs.lemmas.List.Folds.{prefix_len-append}
-use Rattle.std.proofs.lemmas.Bool.{eq-eqb}
+use Rattle.std.proofs.{lemmas.List.Folds.prefix_len-append, lemmas.Bool.eq-eqb, Math.Seq.take-append_seam, Math.Seq.drop-append_seam, lemmas.List.length-append}
+use Rattle.std.proofs.{lemmas.Bool.Decides.nat_tests}
 use Rattle.std.specs.List.{AllByRecursion, prefix_len}
-use Rattle.std.proofs.Math.Seq.{take-append_seam, drop-append_seam}
-use Rattle.std.proofs.lemmas.List.{length-append}
-use Rattle.std.proofs.lemmas.Bool.Decides.{nat_tests}
-use Rattle.csicodec_tokens.specs.declared.param.CsiParam.{CsiParam}
-use Rattle.csicodec_tokens.specs.Sequence.{IsBodyByte, IsFinal, Seq}
+use Rattle.csicodec_tokens.specs.{declared.param.CsiParam.CsiParam, Sequence.IsBodyByte, Sequence.IsFinal, Sequence.Seq}
 use Rattle.csicodec_tokens.proofs.Spelled.{IsBody-from_spelling}
-use Rattle.csicodec_spans.specs.declared.table.Mode.TheVariants as mode
-use Rattle.csicodec_events.specs.declared.event.Events.{Events}
 use Rattle.csicodec_events.specs.Events.{IsCsi, before_stop, from_stop, is_passed, is_read, onward, stop, without_controls}
+use Rattle.csicodec_events.specs.declared.event.Events.{Events}
+use Rattle.csicodec_spans.specs.declared.table.Mode.TheVariants as mode
 
 -- ---- bytes of a sequence
 

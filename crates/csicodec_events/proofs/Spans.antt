@@ -1,23 +1,16 @@
 -- From the span in front to what a step promises.
-use Rattle.std.proofs.Common.{◌≡◌, ℕ, ◌<◌, ◌≤◌, List, [], ◌∷◌, ◌++◌, length, take, drop, refl, sym, ap, subst, ◌∙◌, inl, inr, append_assoc, append-nil, arith, ◌-◌, true, take_all}
-use Rattle.std.proofs.Common.{drop_of_length-le}
-use Rattle.std.proofs.Math.Seq.{take-append_seam, drop-append_seam}
-use Rattle.std.proofs.lemmas.List.{length-take, take-append-drop, take-append-le, drop-append-le}
+use Rattle.std.proofs.Common.{◌≡◌, ℕ, ◌<◌, ◌≤◌, List, [], ◌∷◌, ◌++◌, length, take, drop, refl, sym, ap, subst, ◌∙◌, inl, inr, append_assoc, append-nil, arith, ◌-◌, true, take_all, drop_of_length-le}
+use Rattle.std.proofs.{Math.Seq.take-append_seam, Math.Seq.drop-append_seam, lemmas.List.length-take, lemmas.List.take-append-drop, lemmas.List.take-append-le}
+use Rattle.std.proofs.{lemmas.List.drop-append-le, lemmas.Bool.cases_lt}
 use Rattle.csicodec_tokens.specs.declared.param.CsiParam.{CsiParam}
-use Rattle.csicodec_spans.specs.declared.table.Kind.{Kind}
-use Rattle.csicodec_spans.specs.declared.table.Kind.TheVariants as kind
-use Rattle.csicodec_spans.specs.declared.table.Mode.{Mode}
-use Rattle.csicodec_spans.specs.Parts.{Cuts, IsMaximal, IsSequence}
+use Rattle.csicodec_spans.specs.{declared.table.Kind.Kind, declared.table.Mode.Mode, Parts.Cuts, Parts.IsMaximal, Parts.IsSequence}
 use Rattle.csicodec_spans.proofs.Spanned.{cut_parts, cut_some}
-use Rattle.csicodec_events.specs.declared.event.Event.{Event}
-use Rattle.csicodec_events.specs.declared.event.Event.TheVariants as event
-use Rattle.csicodec_events.specs.declared.event.Events.{Events}
-use Rattle.csicodec_events.specs.declared.event.Told.{Told}
-use Rattle.csicodec_events.specs.Characters.{is_unfinished, EndsWhole}
-use Rattle.csicodec_events.specs.Events.{BeginsCsi, IsBegun, IsHeld, IsSpan, IsTold, onward}
-use Rattle.csicodec_events.specs.Private.Steps.{HasTold, HasWaited}
+use Rattle.csicodec_events.specs.{declared.event.Event.Event, declared.event.Events.Events, declared.event.Told.Told, Characters.is_unfinished}
+use Rattle.csicodec_events.specs.{Characters.EndsWhole, Events.BeginsCsi, Events.IsBegun, Events.IsHeld, Events.IsSpan, Events.IsTold, Events.onward}
+use Rattle.csicodec_events.specs.{Private.Steps.HasTold, Private.Steps.HasWaited}
 use Rattle.csicodec_events.proofs.Steps.{told_on}
-use Rattle.std.proofs.lemmas.Bool.{cases_lt}
+use Rattle.csicodec_spans.specs.declared.table.Kind.TheVariants as kind
+use Rattle.csicodec_events.specs.declared.event.Event.TheVariants as event
 
 -- where no ESC and `[` stand in front no sequence does
 pub no_csi : (bytes text rest : List ℕ) → (BeginsCsi bytes → ⊥) → bytes ≡ text ++ rest

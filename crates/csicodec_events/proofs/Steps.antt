@@ -3,11 +3,8 @@ use Rattle.std.proofs.Common.{◌≡◌, ℕ, ◌+◌, ◌*◌, ◌<◌, ◌≤�
 use Rattle.std.proofs.lemmas.List.{length-append, length-take, length-drop, take-append-drop}
 use Rattle.csicodec_tokens.specs.declared.param.CsiParam.{CsiParam}
 use Rattle.csicodec_spans.specs.declared.table.Mode.{Mode}
-use Rattle.csicodec_events.specs.declared.event.Event.{Event}
-use Rattle.csicodec_events.specs.declared.event.Events.{Events}
-use Rattle.csicodec_events.specs.declared.event.Told.{Told}
-use Rattle.csicodec_events.specs.Events.{IsCsi, IsTold, before_stop, from_stop, onward, stop}
-use Rattle.csicodec_events.specs.Private.Steps.{HasTold, HasWaited}
+use Rattle.csicodec_events.specs.{declared.event.Event.Event, declared.event.Events.Events, declared.event.Told.Told, Events.IsCsi, Events.IsTold}
+use Rattle.csicodec_events.specs.{Events.before_stop, Events.from_stop, Events.onward, Events.stop, Private.Steps.HasTold, Private.Steps.HasWaited}
 
 -- a sequence stops behind what was looked at, and behind ESC and `[`
 pub stop_behind : (looked : ℕ) (bytes : List ℕ)

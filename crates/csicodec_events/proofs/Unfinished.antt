@@ -1,9 +1,8 @@
 -- The beginning of a character: each front of it is one, and no other end of it.
 use Rattle.std.proofs.Common.{◌≡◌, ℕ, ◌<◌, List, [], ◌∷◌, ◌++◌, length, refl, ap, subst, sym, ◌∙◌, inl, inr, append-nil, arith}
-use Rattle.std.specs.Prelude.{Bool, true, false}
 use Rattle.std.proofs.lemmas.Bool.Decides.{nat_tests}
-use Rattle.csicodec_events.specs.Characters.{is_unfinished, leads}
-use Rattle.csicodec_events.specs.Events.{IsHeld}
+use Rattle.std.specs.Prelude.{Bool, true, false}
+use Rattle.csicodec_events.specs.{Characters.is_unfinished, Characters.leads, Events.IsHeld}
 
 pub unfinished_front : (x y : List ℕ) → 0 < length x → is_unfinished (x ++ y) ≡ true
     → is_unfinished x ≡ true

@@ -4,19 +4,14 @@
 -- and xterm carry out each C0 control within it when it comes, ignore DEL, and read the sequence as if neither were there.
 use Rattle.std.specs.Prelude.{ℕ, ◌≡◌, ◌+◌, ◌-◌, ◌*◌, ◌<◌, ◌≤◌, ◌⊎◌, ◌==◌, ◌&&◌, max, Bool, true, false, not, filter, if◌then◌else◌, Option, Some, None, List, [], ◌∷◌, ◌++◌, length, take, drop}
 use Rattle.std.specs.List.{flat_map, prefix_len}
-use Rattle.csicodec_tokens.specs.declared.param.CsiParam.{CsiParam}
-use Rattle.csicodec_tokens.specs.Sequence.{Seq}
-use Rattle.csicodec_spans.specs.declared.table.Kind.{Kind}
+use Rattle.csicodec_tokens.specs.{declared.param.CsiParam.CsiParam, Sequence.Seq}
+use Rattle.csicodec_spans.specs.{declared.table.Kind.Kind, declared.table.Mode.Mode, Table.controls, Table.csi_finals, Table.del, Table.intermediates}
+use Rattle.csicodec_spans.specs.{Table.openers, Table.parameters, Table.within, Parts.Cuts, Parts.IsMaximal, Parts.IsUnsure}
+use Rattle.csicodec_events.specs.{declared.event.Event.Event, declared.event.Events.Events, declared.event.Told.Told, Characters.EndsWhole}
+use Rattle.csicodec_events.specs.{Characters.is_unfinished}
 use Rattle.csicodec_spans.specs.declared.table.Kind.TheVariants as kind
-use Rattle.csicodec_spans.specs.declared.table.Mode.{Mode}
 use Rattle.csicodec_spans.specs.declared.table.Mode.TheVariants as mode
-use Rattle.csicodec_spans.specs.Table.{controls, csi_finals, del, intermediates, openers, parameters, within}
-use Rattle.csicodec_spans.specs.Parts.{Cuts, IsMaximal, IsUnsure}
-use Rattle.csicodec_events.specs.declared.event.Event.{Event}
 use Rattle.csicodec_events.specs.declared.event.Event.TheVariants as event
-use Rattle.csicodec_events.specs.declared.event.Events.{Events}
-use Rattle.csicodec_events.specs.declared.event.Told.{Told}
-use Rattle.csicodec_events.specs.Characters.{EndsWhole, is_unfinished}
 
 -- the stream goes on in this mode, with so many bytes looked at
 abbrev pub onward : Events → Mode → ℕ → Events

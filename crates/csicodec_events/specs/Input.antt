@@ -12,20 +12,14 @@
 use Rattle.std.specs.Prelude.{ℕ, ◌≡◌, ◌+◌, ◌-◌, ◌*◌, ◌==◌, Bool, false, ◌&&◌, ◌||◌, nat_le, nat_lt, List, [], ◌∷◌, ◌++◌, take, drop, if◌then◌else◌}
 use Rattle.csicodec_tokens.specs.declared.param.CsiParam.{CsiParam}
 use Rattle.csicodec_spans.specs.declared.table.Mode.{Mode}
+use Rattle.csicodec_events.specs.{declared.event.Event.Event, declared.event.Events.Events, declared.input.Dialect.Dialect, declared.input.Form.Form}
+use Rattle.csicodec_events.specs.{declared.input.InputEvent.InputEvent, declared.input.Sent.Sent, declared.input.Width.Width, Characters.is_from, Events.IsTold}
+use Rattle.csicodec_events.specs.{Events.Waits, Events.onward}
 use Rattle.csicodec_spans.specs.declared.table.Mode.TheVariants as mode
-use Rattle.csicodec_events.specs.declared.event.Event.{Event}
-use Rattle.csicodec_events.specs.declared.event.Events.{Events}
-use Rattle.csicodec_events.specs.declared.input.Dialect.{Dialect}
 use Rattle.csicodec_events.specs.declared.input.Dialect.TheVariants as dialect
-use Rattle.csicodec_events.specs.declared.input.Form.{Form}
 use Rattle.csicodec_events.specs.declared.input.Form.TheVariants as form
-use Rattle.csicodec_events.specs.declared.input.InputEvent.{InputEvent}
 use Rattle.csicodec_events.specs.declared.input.InputEvent.TheVariants as input
-use Rattle.csicodec_events.specs.declared.input.Sent.{Sent}
-use Rattle.csicodec_events.specs.declared.input.Width.{Width}
 use Rattle.csicodec_events.specs.declared.input.Width.TheVariants as width
-use Rattle.csicodec_events.specs.Characters.{is_from}
-use Rattle.csicodec_events.specs.Events.{IsTold, Waits, onward}
 
 abbrev pub is_printable : ℕ → Bool
 is_printable b = is_from 32 126 b

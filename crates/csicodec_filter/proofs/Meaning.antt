@@ -2,22 +2,20 @@
 use Rattle.std.proofs.Common.{◌≡◌, ◌≢◌, ℕ, ◌+◌, ◌<◌, ◌≤◌, ◌⊎◌, List, [], ◌∷◌, ◌++◌, false, length, refl, sym, ap, subst, ◌∙◌, inl, inr, append_assoc, append-nil, arith}
 use Rattle.std.proofs.{Math.ListN.get_or-append, lemmas.List.length-append, lemmas.List.take-append-le}
 use Rattle.std.specs.List.{flat_map}
-use Rattle.csicodec_tokens.specs.Fault.{Begins, NoSeq, IsLeast, IsBad, FaultOf, IsMetAt}
-use Rattle.csicodec_tokens.specs.declared.{param.CsiParam.CsiParam, reader.ReadError.ReadError}
-use Rattle.csicodec_tokens.specs.declared.reader.ReadError.TheVariants.{NotCsi, BadByte, NumberTooLarge}
+use Rattle.csicodec_tokens.specs.{Fault.Begins, Fault.NoSeq, Fault.IsLeast, Fault.IsBad, Fault.FaultOf, Fault.IsMetAt, declared.param.CsiParam.CsiParam}
+use Rattle.csicodec_tokens.specs.{declared.reader.ReadError.ReadError, declared.reader.ReadError.TheVariants.NotCsi}
+use Rattle.csicodec_tokens.specs.{declared.reader.ReadError.TheVariants.BadByte, declared.reader.ReadError.TheVariants.NumberTooLarge}
 use Rattle.csicodec_actions.specs.Actions.{Action}
 use Rattle.csicodec_parser.proofs.Cuts.{actions_count}
 use Rattle.csicodec_streams.specs.Decoding.{AreActions, Decodes, Joins}
 use Rattle.csicodec_spans.specs.Parts.{Part, part, bytes_of, left_over, IsSequence, IsMalformed, AllowsCsi, Allows, IsFirstPart, AreFirstParts, IsUnsure, IsWhole}
-use Rattle.csicodec_spans.specs.Table.{Answer, Sequence, ahead}
-use Rattle.csicodec_spans.specs.declared.table.{Kind.Kind, Mode.Mode}
+use Rattle.csicodec_spans.specs.{Table.Answer, Table.Sequence, Table.ahead, declared.table.Kind.Kind, declared.table.Mode.Mode}
+use Rattle.csicodec_spans.proofs.{Agrees.kept, Agrees.opens, Agrees.sound, Fronts.Sound, Kept.parts_more, Kept.parts_on, Missed.allows_whole, Missed.part_some}
+use Rattle.csicodec_spans.proofs.{Once.whole_once, OneSpan.none_unsure, Spanned.whole_joined}
+use Rattle.csicodec_filter.specs.Meaning.{AreCsi, Means, MeanTheSame, StandInPlace, singles, KeepsMeaning, Within}
+use Rattle.csicodec_filter.specs.Filter.{AreWritten, IsWritten}
 use Rattle.csicodec_spans.specs.declared.table.Kind.TheVariants as kind
 use Rattle.csicodec_spans.specs.declared.table.Mode.TheVariants as mode
-use Rattle.csicodec_spans.proofs.Agrees.{kept, opens, sound}
-use Rattle.csicodec_spans.proofs.{Fronts.Sound, Kept.parts_more, Kept.parts_on, Missed.allows_whole, Missed.part_some}
-use Rattle.csicodec_spans.proofs.{Once.whole_once, OneSpan.none_unsure, Spanned.whole_joined}
-use Rattle.csicodec_filter.specs.Filter.{AreWritten, IsWritten}
-use Rattle.csicodec_filter.specs.Meaning.{AreCsi, Means, MeanTheSame, StandInPlace, singles, KeepsMeaning, Within}
 
 -- ---- a part depends on what is behind it as far as two bytes
 

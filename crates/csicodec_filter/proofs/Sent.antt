@@ -1,7 +1,7 @@
 -- What went out of a run from a reader to a writer, by what is known of both.
 use Rattle.std.proofs.Common.{◌≡◌, ℕ, Option, None, Some, IfSome, List, [], ◌∷◌, ◌++◌, length, take, refl, subst, sym, ap, ◌∙◌, inl, inr, ⊎_elim, append_assoc, append-nil, arith}
-use Rattle.std.specs.Io.KnownBytes.{Appends, Consumes, IsAtEnd, Keeps}
 use Rattle.std.proofs.KnownBytes.{Appends-trans, Consumes-kept, Consumes-nil, Consumes-trans}
+use Rattle.std.specs.Io.KnownBytes.{Appends, Consumes, IsAtEnd, Keeps}
 use Rattle.csicodec_filter.specs.Transform.{Begins, EndsOf, GoesOn, PassesOf, Sends, Transforms}
 
 -- nothing came with the last read

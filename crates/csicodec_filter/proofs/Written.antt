@@ -1,19 +1,18 @@
 -- A stream that is written span by span, and the texts of its parts.
 use Rattle.std.proofs.Common.{◌≡◌, ◌≢◌, ◌<◌, ◌≤◌, ◌-◌, ℕ, zero, suc, Option, IfSome, List, [], ◌∷◌, ◌++◌, length, take, drop, refl, sym, ap, subst, ◌∙◌, append_assoc, append-nil, arith}
-use Rattle.std.specs.Io.KnownBytes.{Appends as Gets, Consumes, IsAtEnd}
-use Rattle.std.specs.{List.AllByRecursion, List.flat_map, Prelude.⊤}
 use Rattle.std.proofs.lemmas.List.{length-append, length-take, take-append-drop}
+use Rattle.std.specs.{Io.KnownBytes.Appends as Gets, Io.KnownBytes.Consumes, Io.KnownBytes.IsAtEnd, List.AllByRecursion, List.flat_map, Prelude.⊤}
 use Rattle.csicodec_spans.specs.Parts.{Part, part, bytes_of, left_over, Allows, AreFirstParts, IsPlainFront, IsSpan, IsUnsure}
 use Rattle.csicodec_spans.specs.{Table.Sequence, Table.ahead, declared.table.Kind.Kind, declared.table.Mode.Mode}
-use Rattle.csicodec_spans.specs.declared.table.Kind.TheVariants as kind
-use Rattle.csicodec_spans.specs.declared.table.Mode.TheVariants as mode
-use Rattle.csicodec_spans.proofs.{Agrees.opens, Kept.parts_join, Kept.parts_more, Kept.parts_on}
-use Rattle.csicodec_spans.proofs.{Once.parts_front, Once.whole_once, OneSpan.none_unsure, Spanned.rest_is}
+use Rattle.csicodec_spans.proofs.{Agrees.opens, Kept.parts_join, Kept.parts_more, Kept.parts_on, Once.parts_front, Once.whole_once, OneSpan.none_unsure}
+use Rattle.csicodec_spans.proofs.{Spanned.rest_is}
 use Rattle.csicodec_streams.specs.Known.{IsOne}
 use Rattle.csicodec_filter.specs.Filter.{AreWritten, Filters, Held, IsFrontOf, IsWritten, MakesBy, Passes, PassesBy, WritesOne}
-use Rattle.csicodec_filter.specs.Written.{Adds, Appends, ByRule, Leaves, Since, WrittenOf, open_at, with_more}
-use Rattle.csicodec_filter.specs.Transform.{Begins, Sends, Transforms}
+use Rattle.csicodec_filter.specs.{Written.Adds, Written.Appends, Written.ByRule, Written.Leaves, Written.Since, Written.WrittenOf, Written.open_at}
+use Rattle.csicodec_filter.specs.{Written.with_more, Transform.Begins, Transform.Sends, Transform.Transforms}
 use Rattle.csicodec_filter.proofs.Sent.{goes_none, goes_on, whole_front}
+use Rattle.csicodec_spans.specs.declared.table.Kind.TheVariants as kind
+use Rattle.csicodec_spans.specs.declared.table.Mode.TheVariants as mode
 
 -- a sequence in front is a part, in any mode
 pub one_first : (limit : ℕ) (n : Mode) (rest : List ℕ) (len : ℕ) → IsOne (take len rest) →

@@ -1,8 +1,8 @@
 -- What is written for a terminal: normal forms, but for the sequences that terminals read otherwise than the codec.
 use Rattle.std.specs.Prelude.{ℕ, ◌≡◌, ◌<◌, ◌≤◌, ◌==◌, ◌-◌, ◌&&◌, ◌||◌, Bool, true, false, List, codes, length, slice_get, pos, negsuc}
 use Rattle.std.specs.List.{list_any}
-use Rattle.csicodec_tokens.specs.Sequence.{Seq}
-use Rattle.csicodec_tokens.specs.declared.param.CsiParam.{CsiParam, TheVariants.Integer, TheVariants.P}
+use Rattle.csicodec_tokens.specs.{Sequence.Seq, declared.param.CsiParam.CsiParam, declared.param.CsiParam.TheVariants.Integer}
+use Rattle.csicodec_tokens.specs.{declared.param.CsiParam.TheVariants.P}
 use Rattle.csicodec_parser.specs.Groups.{is_byte}
 use Rattle.csicodec_streams.specs.Decoding.{NormalisesTo}
 

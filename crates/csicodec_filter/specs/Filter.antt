@@ -1,7 +1,6 @@
 -- What a filter makes of the parts of a stream.
 use Rattle.std.specs.Prelude.{ℕ, ◌≡◌, List, [], ◌∷◌, ◌++◌}
-use Rattle.csicodec_spans.specs.Parts.{Part, AreFirstParts, IsUnsure, IsWhole}
-use Rattle.csicodec_spans.specs.declared.table.{Kind.Kind, Mode.Mode}
+use Rattle.csicodec_spans.specs.{Parts.Part, Parts.AreFirstParts, Parts.IsUnsure, Parts.IsWhole, declared.table.Kind.Kind, declared.table.Mode.Mode}
 use Rattle.csicodec_spans.specs.declared.table.Kind.TheVariants as kind
 
 -- one text is written for each sequence

@@ -1,10 +1,10 @@
 -- What a filter writes, cut as a stream once more.
-use Rattle.std.specs.Prelude.{ℕ, ◌≡◌, ◌≢◌, ◌≤◌, ◌⊎◌, List, [], ◌∷◌, ◌++◌, false, length}
-use Rattle.std.specs.List.{AllByRecursion, flat_map}
+use Rattle.std.specs.{Prelude.ℕ, Prelude.◌≡◌, Prelude.◌≢◌, Prelude.◌≤◌, Prelude.◌⊎◌, Prelude.List, Prelude.[], Prelude.◌∷◌, Prelude.◌++◌, Prelude.false}
+use Rattle.std.specs.{Prelude.length, List.AllByRecursion, List.flat_map}
 use Rattle.csicodec_actions.specs.Actions.{Action}
 use Rattle.csicodec_streams.specs.Decoding.{Decodes}
-use Rattle.csicodec_spans.specs.declared.table.Kind.TheVariants as kind
 use Rattle.csicodec_spans.specs.Parts.{Part, bytes_of}
+use Rattle.csicodec_spans.specs.declared.table.Kind.TheVariants as kind
 
 abbrev pub AreCsi : List Part → Type 0
 AreCsi parts = AllByRecursion (λ (p : Part). p.kind ≡ kind.Csi) parts

@@ -1,16 +1,11 @@
 -- Any table whose rows are apart: what is written of a key is read as the same row.
-use Rattle.std.proofs.Common.{◌≡◌, ℕ, List, [], ◌∷◌, Some, refl, ap, ◌∙◌, inl, inr, subst}
-use Rattle.std.specs.Prelude.{Bool, true, not, cond, find, ◌==◌, ◌&&◌, ◌||◌}
-use Rattle.std.specs.List.{list_all}
-use Rattle.std.proofs.lemmas.Bool.{and_parts, and_from, cases_Bool, eqb-true, eq-eqb}
-use Rattle.std.proofs.lemmas.Option.{same_Some}
-use Rattle.csicodec_keys.specs.declared.code.KeyCode.{KeyCode}
-use Rattle.csicodec_keys.specs.declared.tables.Row.{Row}
-use Rattle.csicodec_keys.specs.SameKeys.{same_code}
-use Rattle.csicodec_keys.specs.Forms.{pressed, pressed_row}
-use Rattle.csicodec_keys.specs.Rows.{row_at, row_of}
-use Rattle.csicodec_keys.proofs.SameKeys.{same-code}
-use Rattle.csicodec_keys.proofs.Options.{not-both}
+use Rattle.std.proofs.{Common.◌≡◌, Common.ℕ, Common.List, Common.[], Common.◌∷◌, Common.Some, Common.refl, Common.ap, Common.◌∙◌, Common.inl, Common.inr}
+use Rattle.std.proofs.{Common.subst, lemmas.Bool.and_parts, lemmas.Bool.and_from, lemmas.Bool.cases_Bool, lemmas.Bool.eqb-true, lemmas.Bool.eq-eqb}
+use Rattle.std.proofs.{lemmas.Option.same_Some}
+use Rattle.std.specs.{Prelude.Bool, Prelude.true, Prelude.not, Prelude.cond, Prelude.find, Prelude.◌==◌, Prelude.◌&&◌, Prelude.◌||◌, List.list_all}
+use Rattle.csicodec_keys.specs.{declared.code.KeyCode.KeyCode, declared.tables.Row.Row, SameKeys.same_code, Forms.pressed, Forms.pressed_row, Rows.row_at}
+use Rattle.csicodec_keys.specs.{Rows.row_of}
+use Rattle.csicodec_keys.proofs.{SameKeys.same-code, Options.not-both}
 
 -- no two rows have one number and one final character
 abbrev pub differ : Row → Row → Bool

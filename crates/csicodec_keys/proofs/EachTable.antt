@@ -1,19 +1,13 @@
 -- What is computed of the tables.
 use Rattle.std.proofs.Common.{Option, None, Some, refl}
-use Rattle.std.specs.Prelude.{Bool, true, false, not, ◌==◌, ◌&&◌, nat_lt, is_none, if◌then◌else◌}
-use Rattle.std.specs.Fmt.{decimal, digits}
+use Rattle.std.specs.{Prelude.Bool, Prelude.true, Prelude.false, Prelude.not, Prelude.◌==◌, Prelude.◌&&◌, Prelude.nat_lt, Prelude.is_none}
+use Rattle.std.specs.{Prelude.if◌then◌else◌, Fmt.decimal, Fmt.digits}
 use lib.Utf8.{scalar}
 use Rattle.csicodec_events.specs.Input.{is_printable}
-use Rattle.csicodec_keys.specs.declared.code.KeyCode.{KeyCode}
-use Rattle.csicodec_keys.specs.declared.code.KeyCode.TheVariants as code
-use Rattle.csicodec_keys.specs.declared.tables.Row.{Row}
 use Rattle.csicodec_keys.specs.Tables.{controls, csi_keys, kitty_keys, linux_keys, other_keys, rxvt_keys, rxvt_ss3, ss3_cursor, ss3_keys, win32_keys}
-use Rattle.csicodec_keys.specs.SameKeys.{same_code}
-use Rattle.csicodec_keys.specs.Characters.{is_typed}
-use Rattle.csicodec_keys.specs.Rows.{row_at}
-use Rattle.csicodec_keys.specs.Forms.{csi_row}
-use Rattle.csicodec_keys.proofs.Fronts.{is_end, is_free, is_shift}
-use Rattle.csicodec_keys.proofs.AnyTable.{Table}
+use Rattle.csicodec_keys.specs.{declared.code.KeyCode.KeyCode, declared.tables.Row.Row, SameKeys.same_code, Characters.is_typed, Rows.row_at, Forms.csi_row}
+use Rattle.csicodec_keys.proofs.{Fronts.is_end, Fronts.is_free, Fronts.is_shift, AnyTable.Table}
+use Rattle.csicodec_keys.specs.declared.code.KeyCode.TheVariants as code
 
 abbrev pub is_char : KeyCode → Bool
 is_char (code.Char c) = true

@@ -1,20 +1,18 @@
 -- What csicodec_events makes of the bytes of a form, where nothing is open.
 use Rattle.std.proofs.Common.{◌≡◌, ℕ, ◌+◌, ◌-◌, ◌*◌, ◌≤◌, List, [], ◌∷◌, ◌++◌, refl, sym, ap, inl, inr, arith, subst, append_assoc}
+use Rattle.std.proofs.{lemmas.Bool.and_left, lemmas.Bool.and_parts, lemmas.Bool.and_right, lemmas.Bool.cases_Bool, lemmas.Bool.eqb-true}
+use Rattle.std.proofs.{lemmas.Str.encode_ascii}
 use Rattle.std.specs.Prelude.{Bool, true, false, not, ◌==◌, ◌&&◌, ◌||◌, nat_le, encode_utf8}
-use Rattle.std.proofs.lemmas.Bool.{and_left, and_parts, and_right, cases_Bool, eqb-true}
-use Rattle.std.proofs.lemmas.Str.{encode_ascii}
-use Rattle.csicodec_tokens.specs.declared.param.CsiParam.{CsiParam}
-use Rattle.csicodec_tokens.specs.Param.{spells}
-use Rattle.csicodec_tokens.specs.Sequence.{Seq}
+use Rattle.csicodec_tokens.specs.{declared.param.CsiParam.CsiParam, Param.spells, Sequence.Seq}
 use Rattle.csicodec_tokens.proofs.Printed.{printed}
-use Rattle.csicodec_spans.specs.declared.table.Mode.TheVariants as mode
-use Rattle.csicodec_events.specs.declared.event.Event.TheVariants as told
-use Rattle.csicodec_events.specs.declared.input.Dialect.TheVariants as dialect
-use Rattle.csicodec_events.specs.declared.input.InputEvent.TheVariants as sent
 use Rattle.csicodec_events.specs.Input.{ahead, csi, is_digit, is_opener, is_printable, rxvt, two_digits}
 use Rattle.csicodec_events.proofs.Sequences.{at_once}
 use Rattle.csicodec_keys.specs.Sent.{IsFront, fresh}
 use Rattle.csicodec_keys.proofs.Spelled.{AreIn, Good, spellable, spelled-in}
+use Rattle.csicodec_spans.specs.declared.table.Mode.TheVariants as mode
+use Rattle.csicodec_events.specs.declared.event.Event.TheVariants as told
+use Rattle.csicodec_events.specs.declared.input.Dialect.TheVariants as dialect
+use Rattle.csicodec_events.specs.declared.input.InputEvent.TheVariants as sent
 
 -- ---- ranges
 

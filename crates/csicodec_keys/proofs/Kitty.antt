@@ -1,32 +1,20 @@
 -- What kitty's encoding writes of a key is read as that key.
-use Rattle.std.proofs.Common.{◌≡◌, ℕ, ◌<◌, ◌≤◌, List, length, Option, None, Some, refl, sym, ap, ◌∙◌}
-use Rattle.std.specs.Prelude.{Bool, true, not, ◌&&◌, nat_le, nat_lt, is_none, if◌then◌else◌, option_and_then}
-use Rattle.std.specs.Option.{option_map, option_or}
-use Rattle.std.proofs.lemmas.Bool.{and_parts, ltb-true, leb-true, lt-ltb}
+use Rattle.std.proofs.{Common.◌≡◌, Common.ℕ, Common.◌<◌, Common.◌≤◌, Common.List, Common.length, Common.Option, Common.None, Common.Some, Common.refl}
+use Rattle.std.proofs.{Common.sym, Common.ap, Common.◌∙◌, lemmas.Bool.and_parts, lemmas.Bool.ltb-true, lemmas.Bool.leb-true, lemmas.Bool.lt-ltb}
+use Rattle.std.specs.{Prelude.Bool, Prelude.true, Prelude.not, Prelude.◌&&◌, Prelude.nat_le, Prelude.nat_lt, Prelude.is_none, Prelude.if◌then◌else◌}
+use Rattle.std.specs.{Prelude.option_and_then, Option.option_map, Option.option_or}
 use lib.Utf8.{scalar_fits, scalars}
-use Rattle.csicodec_keys.specs.declared.code.KeyCode.{KeyCode}
-use Rattle.csicodec_keys.specs.declared.code.KeyCode.TheVariants as code
-use Rattle.csicodec_keys.specs.declared.key.Encoding.{Encoding}
-use Rattle.csicodec_keys.specs.declared.key.Encoding.TheVariants as encoding
-use Rattle.csicodec_keys.specs.declared.tables.Row.{Row}
-use Rattle.csicodec_keys.specs.declared.writing.KeySpelling.{KeySpelling}
-use Rattle.csicodec_keys.specs.declared.writing.KeySpelling.TheVariants as form
-use Rattle.csicodec_keys.specs.Tables.{csi_keys, kitty_keys}
-use Rattle.csicodec_keys.specs.Characters.{is_typed}
+use Rattle.csicodec_keys.specs.Forms.{by, csi_row, form_of, key_alone, key_by, kitty_char, kitty_row, other_key, read_csi, read_listed, row_key, said_key, told_by}
+use Rattle.csicodec_keys.specs.{declared.code.KeyCode.KeyCode, declared.key.Encoding.Encoding, declared.tables.Row.Row}
+use Rattle.csicodec_keys.specs.{declared.writing.KeySpelling.KeySpelling, Tables.csi_keys, Tables.kitty_keys, Characters.is_typed, Fields.Says}
+use Rattle.csicodec_keys.specs.{Fields.read_list, Fields.written_list, Keys.Stroke, Keys.is_code, Keys.is_stroke, Rows.row_at, Rows.row_of, Win32.read_win32}
 use Rattle.csicodec_tokens.specs.declared.param.CsiParam.{CsiParam}
-use Rattle.csicodec_keys.specs.Fields.{Says, read_list, written_list}
-use Rattle.csicodec_keys.specs.Keys.{Stroke, is_code, is_stroke}
-use Rattle.csicodec_keys.specs.Rows.{row_at, row_of}
-use Rattle.csicodec_keys.specs.Win32.{read_win32}
-use Rattle.csicodec_keys.specs.Forms.{by, csi_row, form_of, key_alone, key_by, kitty_char, kitty_row}
-use Rattle.csicodec_keys.specs.Forms.{other_key, read_csi, read_listed, row_key, said_key}
-use Rattle.csicodec_keys.specs.Forms.{told_by}
-use Rattle.csicodec_keys.proofs.AnyTable.{found}
-use Rattle.csicodec_keys.proofs.Options.{allowed, either, made, none-is, three}
-use Rattle.csicodec_keys.proofs.Sound.{Fine, typed-scalar}
-use Rattle.csicodec_keys.proofs.Lists.{list-read}
-use Rattle.csicodec_keys.proofs.Fronts.{is_end}
-use Rattle.csicodec_keys.proofs.EachTable.{csi-table, is_char, is_csi, is_listed, kitty-table}
+use Rattle.csicodec_keys.proofs.{AnyTable.found, Options.allowed, Options.either, Options.made, Options.none-is, Options.three, Sound.Fine, Sound.typed-scalar}
+use Rattle.csicodec_keys.proofs.{Lists.list-read, Fronts.is_end, EachTable.csi-table, EachTable.is_char, EachTable.is_csi, EachTable.is_listed}
+use Rattle.csicodec_keys.proofs.{EachTable.kitty-table}
+use Rattle.csicodec_keys.specs.declared.code.KeyCode.TheVariants as code
+use Rattle.csicodec_keys.specs.declared.key.Encoding.TheVariants as encoding
+use Rattle.csicodec_keys.specs.declared.writing.KeySpelling.TheVariants as form
 
 -- the ranges of a key
 pub record InRange (s : Stroke) : Type 0 where

@@ -1,37 +1,25 @@
 -- What xterm's encoding, modifyOtherKeys, rxvt and Linux' console write of a key is read as what they say of it.
 use Rattle.std.proofs.Common.{◌≡◌, ℕ, ◌-◌, ◌<◌, ◌≤◌, List, [], ◌∷◌, Option, None, Some, refl, sym, ap, ◌∙◌, inl, inr, arith, subst}
-use Rattle.std.specs.Prelude.{Bool, true, false, not, ◌==◌, ◌&&◌, nat_lt, is_none, option_and_then}
-use Rattle.std.specs.Option.{option_map, option_or}
 use Rattle.std.proofs.lemmas.Bool.{and_parts, cases_Bool, eqb-true, ltb-true, ltb-false, not-true, and_left, and_from, and_right}
 use Rattle.std.proofs.lemmas.Option.{same_Some}
+use Rattle.std.specs.{Prelude.Bool, Prelude.true, Prelude.false, Prelude.not, Prelude.◌==◌, Prelude.◌&&◌, Prelude.nat_lt, Prelude.is_none}
+use Rattle.std.specs.{Prelude.option_and_then, Option.option_map, Option.option_or}
 use Rattle.csicodec_events.specs.Input.{is_printable}
-use Rattle.csicodec_keys.specs.declared.code.KeyCode.{KeyCode}
+use Rattle.csicodec_keys.specs.Tables.{controls, csi_keys, kitty_keys, ss3_keys, linux_keys, other_keys, rxvt_keys, rxvt_ss3, ss3_cursor}
+use Rattle.csicodec_keys.specs.Forms.{alt_control, char_form, control_form, csi_form, held_by, legacy_form, legacy_said, pressed, pressed_row, read_alt, read_ss3, ss3_by, ss3_form, text_form, text_of, typed_or, typing, with_alt, by, char_number, csi_row, key_alone, linux_form, numbered, other_form, other_key, other_number, read_listed, row_key, rxvt_form, rxvt_row, said_key, told_by}
+use Rattle.csicodec_keys.specs.{declared.code.KeyCode.KeyCode, declared.tables.Row.Row, declared.writing.KeySpelling.KeySpelling, Characters.is_alt}
+use Rattle.csicodec_keys.specs.{Characters.is_typed, Fields.Says, Fields.written_list, Keys.Stroke, Rows.row_at, Rows.row_of, SameKeys.same_code}
+use Rattle.csicodec_keys.specs.{Win32.read_win32}
+use Rattle.csicodec_keys.proofs.EachTable.{controls-table, csi-table, is_char, is_control, is_csi, is_listed, is_no_text, is_ss3, ss3-table, is_linux, is_other, is_read, is_rxvt, is_rxvt_ss3, is_same, linux-table, other-table, rxvt-table, rxvt-ss3-table}
+use Rattle.csicodec_keys.proofs.{AnyTable.Found, AnyTable.alone-at, AnyTable.found, AnyTable.pressed-row, Options.allowed, Options.either, Options.four}
+use Rattle.csicodec_keys.proofs.{Options.made, Options.three, Options.unless, Options.none-is, Sound.Fine, Sound.alt-free, Sound.alt-typed, Sound.free-scalar}
+use Rattle.csicodec_keys.proofs.{Sound.typed-text, Sound.typed-scalar, Lists.list-read, Fronts.is_end, Fronts.is_free, Kitty.csi-at, Kitty.key-alone}
+use Rattle.csicodec_keys.proofs.{Kitty.row-said, Kitty.said-read, Kitty.first-read, SameKeys.same-code}
+use lib.Utf8.{scalar}
 use Rattle.csicodec_keys.specs.declared.code.KeyCode.TheVariants as code
 use Rattle.csicodec_keys.specs.declared.key.Encoding.TheVariants as encoding
 use Rattle.csicodec_keys.specs.declared.key.KeyEvent.TheVariants as event
-use Rattle.csicodec_keys.specs.declared.tables.Row.{Row}
-use Rattle.csicodec_keys.specs.declared.writing.KeySpelling.{KeySpelling}
 use Rattle.csicodec_keys.specs.declared.writing.KeySpelling.TheVariants as form
-use Rattle.csicodec_keys.specs.Tables.{controls, csi_keys, kitty_keys, ss3_keys, linux_keys, other_keys, rxvt_keys, rxvt_ss3, ss3_cursor}
-use Rattle.csicodec_keys.specs.Characters.{is_alt, is_typed}
-use Rattle.csicodec_keys.specs.Fields.{Says, written_list}
-use Rattle.csicodec_keys.specs.Keys.{Stroke}
-use Rattle.csicodec_keys.specs.Rows.{row_at, row_of}
-use Rattle.csicodec_keys.specs.Forms.{alt_control, char_form, control_form, csi_form, held_by, legacy_form, legacy_said, pressed, pressed_row, read_alt, read_ss3, ss3_by, ss3_form}
-use Rattle.csicodec_keys.specs.Forms.{text_form, text_of, typed_or, typing, with_alt, by, char_number, csi_row, key_alone, linux_form, numbered, other_form, other_key}
-use Rattle.csicodec_keys.specs.Forms.{other_number, read_listed, row_key, rxvt_form, rxvt_row, said_key, told_by}
-use Rattle.csicodec_keys.proofs.AnyTable.{Found, alone-at, found, pressed-row}
-use Rattle.csicodec_keys.proofs.Options.{allowed, either, four, made, three, unless, none-is}
-use Rattle.csicodec_keys.proofs.Sound.{Fine, alt-free, alt-typed, free-scalar, typed-text, typed-scalar}
-use Rattle.csicodec_keys.proofs.Lists.{list-read}
-use Rattle.csicodec_keys.proofs.Fronts.{is_end, is_free}
-use Rattle.csicodec_keys.proofs.EachTable.{controls-table, csi-table, is_char, is_control, is_csi, is_listed, is_no_text, is_ss3, ss3-table, is_linux, is_other, is_read, is_rxvt}
-use Rattle.csicodec_keys.proofs.EachTable.{is_rxvt_ss3, is_same, linux-table, other-table, rxvt-table, rxvt-ss3-table}
-use Rattle.csicodec_keys.proofs.Kitty.{csi-at, key-alone, row-said, said-read, first-read}
-use lib.Utf8.{scalar}
-use Rattle.csicodec_keys.specs.SameKeys.{same_code}
-use Rattle.csicodec_keys.specs.Win32.{read_win32}
-use Rattle.csicodec_keys.proofs.SameKeys.{same-code}
 
 -- ---- xterm
 

@@ -1,14 +1,12 @@
 -- A list is read as what it was written of.
 use Rattle.std.proofs.Common.{◌≡◌, ℕ, ◌+◌, ◌-◌, ◌<◌, ◌≤◌, List, [], ◌∷◌, ◌++◌, length, Some, refl, ap, ◌∙◌, inl, inr, pos, arith, length-append, append_assoc}
-use Rattle.std.specs.Prelude.{true, false, ◌==◌, ◌&&◌, nat_lt, option_and_then}
 use Rattle.std.proofs.lemmas.Bool.{and_parts, cases_Bool, eqb-true, lt-ltb}
+use Rattle.std.specs.Prelude.{true, false, ◌==◌, ◌&&◌, nat_lt, option_and_then}
 use lib.Utf8.{scalar, scalars}
-use Rattle.csicodec_tokens.specs.declared.param.CsiParam.{CsiParam}
-use Rattle.csicodec_tokens.specs.declared.param.CsiParam.TheVariants.{Integer}
+use Rattle.csicodec_tokens.specs.{declared.param.CsiParam.CsiParam, declared.param.CsiParam.TheVariants.Integer}
+use Rattle.csicodec_keys.specs.Fields.{characters, colon_list, from_separator, held_front, held_list, held_of, is_empty, is_plain, read_list, text_front, text_list, with_char, written_list}
 use Rattle.csicodec_keys.specs.declared.key.KeyEvent.{KeyEvent}
 use Rattle.csicodec_keys.specs.declared.key.KeyEvent.TheVariants as event
-use Rattle.csicodec_keys.specs.Fields.{characters, colon_list, from_separator, held_front, held_list, held_of}
-use Rattle.csicodec_keys.specs.Fields.{is_empty, is_plain, read_list, text_front, text_list, with_char, written_list}
 
 held-of : (held : ℕ) → held < 256 → held_of (pos (held + 1)) ≡ Some held
 held-of held h =

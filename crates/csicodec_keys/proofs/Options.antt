@@ -1,8 +1,7 @@
 -- Values that may be none.
-use Rattle.std.proofs.Common.{◌≡◌, Option, None, Some, refl, subst, arith}
-use Rattle.std.specs.Prelude.{Bool, true, false, ◌&&◌, ◌||◌, not, is_none, if◌then◌else◌}
-use Rattle.std.specs.Option.{option_map, option_or}
-use Rattle.std.proofs.lemmas.Option.{same_Some}
+use Rattle.std.proofs.{Common.◌≡◌, Common.Option, Common.None, Common.Some, Common.refl, Common.subst, Common.arith, lemmas.Option.same_Some}
+use Rattle.std.specs.{Prelude.Bool, Prelude.true, Prelude.false, Prelude.◌&&◌, Prelude.◌||◌, Prelude.not, Prelude.is_none, Prelude.if◌then◌else◌}
+use Rattle.std.specs.{Option.option_map, Option.option_or}
 
 -- what holds of each that it may be made of holds of it
 pub made : {A B : Type 0} (P : B → Type 0) (g : A → B) (o : Option A) (b : B) → option_map g o ≡ Some b → ((a : A) → o ≡ Some a → P (g a)) → P b

@@ -1,30 +1,19 @@
 -- What Win32-input-mode writes of a key is read as what it says of it.
 use Rattle.std.proofs.Common.{◌≡◌, ℕ, pos, ◌+◌, ◌*◌, ◌/◌, ◌%◌, ◌<◌, List, [], ◌∷◌, Option, None, Some, refl, sym, ap, ◌∙◌, inl, inr, arith, subst}
-use Rattle.std.specs.Prelude.{Bool, true, false, not, ◌==◌, ◌&&◌, ◌||◌, nat_lt, option_and_then}
-use Rattle.std.specs.Option.{option_map, option_or}
 use Rattle.std.proofs.lemmas.Bool.{agree_below, agree_below_at, and_parts, cases_Bool, eqb-false, eqb-true, lt-ltb, ltb-true}
 use Rattle.std.proofs.lemmas.Option.{same_Some}
-use Rattle.csicodec_keys.specs.declared.code.KeyCode.{KeyCode}
+use Rattle.std.specs.{Prelude.Bool, Prelude.true, Prelude.false, Prelude.not, Prelude.◌==◌, Prelude.◌&&◌, Prelude.◌||◌, Prelude.nat_lt, Prelude.option_and_then}
+use Rattle.std.specs.{Option.option_map, Option.option_or}
+use Rattle.csicodec_keys.specs.Win32.{char_record, control_unit, ctrl_unit, down_of, held_in, is_enhanced, key_record, read_record, read_win32, record_list, record_of, row_record, state_of, typed_key, typed_unit, unit_of, unit_text, win32_code, win32_key, win32_row}
+use Rattle.csicodec_keys.specs.{declared.code.KeyCode.KeyCode, declared.key.Encoding.Encoding, declared.key.KeyEvent.KeyEvent, declared.tables.Row.Row}
+use Rattle.csicodec_keys.specs.{declared.win32.Record.Record, Characters.is_typed, Fields.Says, Fields.number_of, Fields.read_list, Forms.by, Forms.key_alone}
+use Rattle.csicodec_keys.specs.{Forms.other_key, Forms.read_csi, Forms.said, Forms.said_key, Forms.told_by, Keys.Stroke, Rows.row_at, Rows.row_of}
+use Rattle.csicodec_keys.specs.{Tables.win32_keys}
+use Rattle.csicodec_keys.proofs.{AnyTable.found, EachTable.is_win32, EachTable.win32-table, Sound.Fine, Sound.Small, Options.allowed, Options.guarded}
+use Rattle.csicodec_keys.proofs.{Options.made}
 use Rattle.csicodec_keys.specs.declared.code.KeyCode.TheVariants as code
-use Rattle.csicodec_keys.specs.declared.key.Encoding.{Encoding}
 use Rattle.csicodec_keys.specs.declared.key.Encoding.TheVariants as encoding
-use Rattle.csicodec_keys.specs.declared.key.KeyEvent.{KeyEvent}
-use Rattle.csicodec_keys.specs.declared.tables.Row.{Row}
-use Rattle.csicodec_keys.specs.declared.win32.Record.{Record}
 use Rattle.csicodec_keys.specs.declared.writing.KeySpelling.TheVariants as form
-use Rattle.csicodec_keys.specs.Characters.{is_typed}
-use Rattle.csicodec_keys.specs.Fields.{Says, number_of, read_list}
-use Rattle.csicodec_keys.specs.Forms.{by, key_alone, other_key, read_csi, said, said_key, told_by}
-use Rattle.csicodec_keys.specs.Keys.{Stroke}
-use Rattle.csicodec_keys.specs.Rows.{row_at, row_of}
-use Rattle.csicodec_keys.specs.Tables.{win32_keys}
-use Rattle.csicodec_keys.specs.Win32.{char_record, control_unit, ctrl_unit, down_of, held_in, is_enhanced}
-use Rattle.csicodec_keys.specs.Win32.{key_record, read_record, read_win32, record_list, record_of, row_record}
-use Rattle.csicodec_keys.specs.Win32.{state_of, typed_key, typed_unit, unit_of, unit_text, win32_code, win32_key, win32_row}
-use Rattle.csicodec_keys.proofs.AnyTable.{found}
-use Rattle.csicodec_keys.proofs.EachTable.{is_win32, win32-table}
-use Rattle.csicodec_keys.proofs.Sound.{Fine, Small}
-use Rattle.csicodec_keys.proofs.Options.{allowed, guarded, made}
 
 -- no row has virtual key 0
 no-row : (b : Bool) → win32_row 0 b ≡ None

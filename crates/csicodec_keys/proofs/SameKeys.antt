@@ -1,12 +1,10 @@
 -- Keys of one kind and value are one key.
-use Rattle.std.proofs.Common.{◌≡◌, ℕ, zero, suc, Option, Some, refl, sym, ap, ◌∙◌}
+use Rattle.std.proofs.{Common.◌≡◌, Common.ℕ, Common.zero, Common.suc, Common.Option, Common.Some, Common.refl, Common.sym, Common.ap, Common.◌∙◌}
+use Rattle.std.proofs.{lemmas.Bool.and_parts, lemmas.Bool.eqb-true, lemmas.Option.same_Some}
 use Rattle.std.specs.Prelude.{◌==◌, true, slice_get}
-use Rattle.std.proofs.lemmas.Bool.{and_parts, eqb-true}
-use Rattle.std.proofs.lemmas.Option.{same_Some}
-use Rattle.csicodec_keys.specs.declared.code.KeyCode.{KeyCode}
-use Rattle.csicodec_keys.specs.declared.code.KeyCode.TheVariants as code
+use Rattle.csicodec_keys.specs.{declared.code.KeyCode.KeyCode, SameKeys.code_tag, SameKeys.code_value, SameKeys.same_code}
 use Rattle.csicodec_keys.proofs.Named.{named}
-use Rattle.csicodec_keys.specs.SameKeys.{code_tag, code_value, same_code}
+use Rattle.csicodec_keys.specs.declared.code.KeyCode.TheVariants as code
 
 -- the key of a tag and a value
 abbrev key_of : ℕ → ℕ → Option KeyCode

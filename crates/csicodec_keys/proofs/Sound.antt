@@ -1,16 +1,12 @@
 -- What is shown of each form that is written: it is in its ranges, and is read as what is said of the key.
 use Rattle.std.proofs.Common.{◌≡◌, ◌≢◌, ℕ, ◌<◌, List, Some, arith}
-use Rattle.std.specs.Prelude.{true}
-use Rattle.std.specs.Fmt.{decimal}
+use Rattle.std.specs.{Prelude.true, Fmt.decimal}
 use lib.Utf8.{low_scalar, scalar}
 use Rattle.csicodec_events.specs.Input.{is_printable}
-use Rattle.csicodec_keys.specs.declared.win32.Record.{Record}
-use Rattle.csicodec_keys.specs.declared.writing.KeySpelling.{KeySpelling}
-use Rattle.csicodec_keys.specs.declared.writing.KeySpelling.TheVariants as form
-use Rattle.csicodec_keys.specs.Characters.{is_alt, is_typed}
-use Rattle.csicodec_keys.specs.Keys.{Stroke}
-use Rattle.csicodec_keys.specs.Forms.{read_form}
+use Rattle.csicodec_keys.specs.{declared.win32.Record.Record, declared.writing.KeySpelling.KeySpelling, Characters.is_alt, Characters.is_typed, Keys.Stroke}
+use Rattle.csicodec_keys.specs.{Forms.read_form}
 use Rattle.csicodec_keys.proofs.Fronts.{is_end, is_free, is_shift}
+use Rattle.csicodec_keys.specs.declared.writing.KeySpelling.TheVariants as form
 
 abbrev pub Small : Record → Type 0
 Small r = (r.vk < 4294967296) × (r.uc < 4294967296) × (r.kd < 4294967296) × (r.cs < 4294967296)

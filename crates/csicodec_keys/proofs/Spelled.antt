@@ -1,17 +1,13 @@
 -- What a list of a key spells: digits, `:` and `;`, and it is one control sequence.
-use Rattle.std.proofs.Common.{◌≡◌, ℕ, ℤ, pos, ◌+◌, ◌<◌, ◌≤◌, List, [], ◌∷◌, ◌++◌, sym, inl, inr, arith, subst}
+use Rattle.std.proofs.{Common.◌≡◌, Common.ℕ, Common.ℤ, Common.pos, Common.◌+◌, Common.◌<◌, Common.◌≤◌, Common.List, Common.[], Common.◌∷◌, Common.◌++◌}
+use Rattle.std.proofs.{Common.sym, Common.inl, Common.inr, Common.arith, Common.subst, lemmas.Bool.and_parts, lemmas.Bool.cases_Bool, lemmas.Int.ints}
 use Rattle.std.specs.Prelude.{Bool, true, false, ◌==◌, ◌&&◌, ◌≤ℤ◌}
-use Rattle.std.proofs.lemmas.Bool.{and_parts, cases_Bool}
-use Rattle.std.proofs.lemmas.Int.{ints}
 use lib.Utf8.{scalar, scalar_fits, scalars}
-use Rattle.csicodec_tokens.specs.declared.param.CsiParam.{CsiParam}
-use Rattle.csicodec_tokens.specs.declared.param.CsiParam.TheVariants.{Integer, P}
-use Rattle.csicodec_tokens.specs.Digits.{AreDigits, IsDigit, largest}
-use Rattle.csicodec_tokens.specs.Sequence.{Apart, Spellable, Spells}
-use Rattle.csicodec_keys.specs.declared.key.KeyEvent.{KeyEvent}
+use Rattle.csicodec_tokens.specs.{declared.param.CsiParam.CsiParam, declared.param.CsiParam.TheVariants.Integer, declared.param.CsiParam.TheVariants.P}
+use Rattle.csicodec_tokens.specs.{Digits.AreDigits, Digits.IsDigit, Digits.largest, Sequence.Apart, Sequence.Spellable, Sequence.Spells}
+use Rattle.csicodec_keys.specs.{declared.key.KeyEvent.KeyEvent, Win32.record_list, Fields.colon_list, Fields.held_list, Fields.is_empty, Fields.is_plain}
+use Rattle.csicodec_keys.specs.{Fields.text_list, Fields.written_list}
 use Rattle.csicodec_keys.specs.declared.key.KeyEvent.TheVariants as event
-use Rattle.csicodec_keys.specs.Win32.{record_list}
-use Rattle.csicodec_keys.specs.Fields.{colon_list, held_list, is_empty, is_plain, text_list, written_list}
 
 -- ---- lists of numbers with separators between
 

@@ -1,30 +1,18 @@
 -- What is written of a key is read as what its encoding says of it, and told as the event and the list that it is read of.
 use Rattle.std.proofs.Common.{◌≡◌, ℕ, ◌%◌, ◌<◌, Option, None, Some, inl, inr, arith, List, [], ◌∷◌, ◌++◌, refl, sym, subst}
-use Rattle.std.specs.Prelude.{true, nat_lt, option_and_then}
-use Rattle.std.proofs.lemmas.Bool.{cases_Bool, and_from}
-use Rattle.csicodec_keys.specs.declared.key.Encoding.{Encoding}
-use Rattle.csicodec_keys.specs.declared.key.Encoding.TheVariants as encoding
-use Rattle.csicodec_keys.specs.declared.key.KeyEvent.{KeyEvent}
-use Rattle.csicodec_keys.specs.declared.key.KeyEvent.TheVariants as event
-use Rattle.csicodec_keys.specs.declared.writing.KeySpelling.{KeySpelling}
-use Rattle.csicodec_keys.specs.declared.writing.KeySpelling.TheVariants as form
-use Rattle.csicodec_keys.specs.Keys.{Stroke, is_stroke}
-use Rattle.csicodec_keys.specs.Win32.{record_of, record_list}
+use Rattle.std.proofs.{lemmas.Bool.cases_Bool, lemmas.Bool.and_from, lemmas.Str.encode_ascii}
+use Rattle.std.specs.{Prelude.true, Prelude.nat_lt, Prelude.option_and_then, Fmt.decimal}
 use Rattle.csicodec_keys.specs.Forms.{but_release, form_of, legacy_form, linux_form, other_form, rxvt_form, said, xterm_form, xterm_held, form_bytes}
-use Rattle.csicodec_keys.proofs.Kitty.{in-range, kitty-fine}
-use Rattle.csicodec_keys.proofs.Legacy.{legacy-fine, linux-fine, other-fine, rxvt-fine}
-use Rattle.csicodec_keys.proofs.Options.{made}
-use Rattle.csicodec_keys.proofs.Records.{record-fine}
-use Rattle.csicodec_keys.proofs.Sound.{Fine, Sound}
-use Rattle.std.specs.Fmt.{decimal}
-use Rattle.std.proofs.lemmas.Str.{encode_ascii}
+use Rattle.csicodec_keys.specs.{declared.key.Encoding.Encoding, declared.key.KeyEvent.KeyEvent, declared.writing.KeySpelling.KeySpelling, Keys.Stroke}
+use Rattle.csicodec_keys.specs.{Keys.is_stroke, Win32.record_of, Win32.record_list, Fields.written_list, Sent.IsFront, Sent.IsToldAs}
+use Rattle.csicodec_keys.proofs.{Kitty.in-range, Kitty.kitty-fine, Legacy.legacy-fine, Legacy.linux-fine, Legacy.other-fine, Legacy.rxvt-fine, Options.made}
+use Rattle.csicodec_keys.proofs.{Records.record-fine, Sound.Fine, Sound.Sound, Fronts.alt-front, Fronts.linux-front, Fronts.list-front, Fronts.shift-front}
+use Rattle.csicodec_keys.proofs.{Fronts.ss3-front, Spelled.good-list, Spelled.good-record, Typed.text-front}
 use lib.Utf8.{scalar, scalars}
+use Rattle.csicodec_keys.specs.declared.key.Encoding.TheVariants as encoding
+use Rattle.csicodec_keys.specs.declared.key.KeyEvent.TheVariants as event
+use Rattle.csicodec_keys.specs.declared.writing.KeySpelling.TheVariants as form
 use Rattle.csicodec_events.specs.declared.input.InputEvent.TheVariants as sent
-use Rattle.csicodec_keys.specs.Fields.{written_list}
-use Rattle.csicodec_keys.specs.Sent.{IsFront, IsToldAs}
-use Rattle.csicodec_keys.proofs.Fronts.{alt-front, linux-front, list-front, shift-front, ss3-front}
-use Rattle.csicodec_keys.proofs.Spelled.{good-list, good-record}
-use Rattle.csicodec_keys.proofs.Typed.{text-front}
 
 -- ---- read
 

@@ -1,29 +1,20 @@
 -- A character that is typed is told as text that begins with it.
 use Rattle.std.proofs.Common.{◌≡◌, ◌≢◌, ℕ, ◌+◌, ◌/◌, ◌<◌, ◌≤◌, List, [], ◌∷◌, ◌++◌, length, refl, sym, ap, ◌∙◌, inl, inr, ⊎_elim, arith, subst, append_assoc, lt-ltb, le-ltb}
-use Rattle.std.specs.Prelude.{true, false, ◌==◌}
-use Rattle.std.specs.Char.{encode_utf8}
-use Rattle.std.specs.List.{AllByRecursion}
 use Rattle.std.proofs.lemmas.Bool.{cases_lt, both_ways}
+use Rattle.std.specs.{Prelude.true, Prelude.false, Prelude.◌==◌, Char.encode_utf8, List.AllByRecursion}
 use lib.Utf8.{next, scalar}
 use Rattle.csicodec_tokens.specs.declared.param.CsiParam.{CsiParam}
-use Rattle.csicodec_spans.specs.declared.table.Kind.{Kind}
-use Rattle.csicodec_spans.specs.declared.table.Kind.TheVariants as kind
-use Rattle.csicodec_spans.specs.declared.table.Mode.{Mode}
-use Rattle.csicodec_spans.specs.declared.table.Mode.TheVariants as mode
-use Rattle.csicodec_spans.specs.Table.{Answer}
-use Rattle.csicodec_spans.specs.Parts.{Allows, AreAll, AreFirstParts, IsFirstPart, IsUnsureBy, Part, part}
-use Rattle.csicodec_spans.proofs.Agrees.{text_goes_on}
-use Rattle.csicodec_spans.proofs.Spanned.{cut_parts}
-use Rattle.csicodec_events.specs.declared.event.Event.{Event}
-use Rattle.csicodec_events.specs.declared.event.Event.TheVariants as told
-use Rattle.csicodec_events.specs.declared.event.Events.{Events}
-use Rattle.csicodec_events.specs.declared.input.InputEvent.TheVariants as sent
-use Rattle.csicodec_events.specs.Characters.{is_unfinished}
-use Rattle.csicodec_events.specs.Events.{BeginsCsi, IsHeld, IsText, IsTold, Waits}
-use Rattle.csicodec_events.proofs.Divided.{esc_behind, kind_other}
-use Rattle.csicodec_events.proofs.Fronts.{front}
-use Rattle.csicodec_events.proofs.Unfinished.{unfinished_front}
+use Rattle.csicodec_spans.specs.{declared.table.Kind.Kind, declared.table.Mode.Mode, Table.Answer, Parts.Allows, Parts.AreAll, Parts.AreFirstParts}
+use Rattle.csicodec_spans.specs.{Parts.IsFirstPart, Parts.IsUnsureBy, Parts.Part, Parts.part}
+use Rattle.csicodec_spans.proofs.{Agrees.text_goes_on, Spanned.cut_parts}
+use Rattle.csicodec_events.specs.{declared.event.Event.Event, declared.event.Events.Events, Characters.is_unfinished, Events.BeginsCsi, Events.IsHeld}
+use Rattle.csicodec_events.specs.{Events.IsText, Events.IsTold, Events.Waits}
+use Rattle.csicodec_events.proofs.{Divided.esc_behind, Divided.kind_other, Fronts.front, Unfinished.unfinished_front}
 use Rattle.csicodec_keys.specs.Sent.{IsTextFront, fresh}
+use Rattle.csicodec_spans.specs.declared.table.Kind.TheVariants as kind
+use Rattle.csicodec_spans.specs.declared.table.Mode.TheVariants as mode
+use Rattle.csicodec_events.specs.declared.event.Event.TheVariants as told
+use Rattle.csicodec_events.specs.declared.input.InputEvent.TheVariants as sent
 
 -- ---- the bytes of a character
 

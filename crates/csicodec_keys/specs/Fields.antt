@@ -6,13 +6,10 @@
 -- repeat and 3 for a release, and the text is its characters. The numbers behind the first one are passed over.
 use Rattle.std.specs.Prelude.{ℕ, ℤ, pos, negsuc, ◌+◌, ◌-◌, ◌==◌, ◌&&◌, nat_lt, Bool, true, false, List, [], ◌∷◌, ◌++◌, length, Option, Some, None, if◌then◌else◌, option_and_then}
 use Rattle.std.specs.Option.{option_map}
-use Rattle.csicodec_tokens.specs.declared.param.CsiParam.{CsiParam}
-use Rattle.csicodec_tokens.specs.declared.param.CsiParam.TheVariants.{Integer, P}
-use Rattle.csicodec_keys.specs.declared.fields.KeyReport.{KeyReport}
-use Rattle.csicodec_keys.specs.declared.key.KeyEvent.{KeyEvent}
-use Rattle.csicodec_keys.specs.declared.key.KeyEvent.TheVariants as event
-use Rattle.csicodec_keys.specs.Keys.{is_press}
+use Rattle.csicodec_tokens.specs.{declared.param.CsiParam.CsiParam, declared.param.CsiParam.TheVariants.Integer, declared.param.CsiParam.TheVariants.P}
+use Rattle.csicodec_keys.specs.{declared.fields.KeyReport.KeyReport, declared.key.KeyEvent.KeyEvent, Keys.is_press}
 use lib.Utf8.{scalar}
+use Rattle.csicodec_keys.specs.declared.key.KeyEvent.TheVariants as event
 
 -- what a list says
 pub record Says : Type 0 where

@@ -1,28 +1,20 @@
 -- The forms in which a key stands in a stream: how each is read, what is written of a key in an encoding, and its bytes.
 use Rattle.std.specs.Prelude.{ℕ, pos, ◌-◌, ◌+◌, ◌%◌, ◌==◌, ◌&&◌, ◌||◌, nat_le, nat_lt, not, Bool, is_none, List, [], ◌∷◌, ◌++◌, Option, Some, None, if◌then◌else◌, option_and_then, encode_utf8}
-use Rattle.std.specs.List.{list_all}
-use Rattle.std.specs.Option.{is_some, option_map, option_or}
-use Rattle.csicodec_tokens.specs.declared.param.CsiParam.{CsiParam}
-use Rattle.csicodec_tokens.specs.declared.param.CsiParam.TheVariants.{Integer, P}
-use Rattle.csicodec_tokens.specs.Param.{spells}
-use Rattle.csicodec_events.specs.declared.event.Event.TheVariants as told
+use Rattle.std.specs.{List.list_all, Option.is_some, Option.option_map, Option.option_or}
+use Rattle.csicodec_tokens.specs.{declared.param.CsiParam.CsiParam, declared.param.CsiParam.TheVariants.Integer, declared.param.CsiParam.TheVariants.P}
+use Rattle.csicodec_tokens.specs.{Param.spells}
 use Rattle.csicodec_events.specs.declared.input.InputEvent.{InputEvent}
-use Rattle.csicodec_events.specs.declared.input.InputEvent.TheVariants as sent
-use Rattle.csicodec_keys.specs.declared.code.KeyCode.{KeyCode}
-use Rattle.csicodec_keys.specs.declared.code.KeyCode.TheVariants as code
-use Rattle.csicodec_keys.specs.declared.key.Encoding.{Encoding}
-use Rattle.csicodec_keys.specs.declared.key.Encoding.TheVariants as encoding
-use Rattle.csicodec_keys.specs.declared.key.KeyEvent.{KeyEvent}
-use Rattle.csicodec_keys.specs.declared.key.KeyEvent.TheVariants as event
-use Rattle.csicodec_keys.specs.declared.tables.Row.{Row}
-use Rattle.csicodec_keys.specs.Win32.{down_of, read_win32, record_list, record_of, went}
 use Rattle.csicodec_keys.specs.Tables.{controls, csi_keys, kitty_keys, linux_keys, other_keys, rxvt_keys, rxvt_ss3, ss3_cursor, ss3_keys}
-use Rattle.csicodec_keys.specs.declared.writing.KeySpelling.{KeySpelling}
+use Rattle.csicodec_keys.specs.{declared.code.KeyCode.KeyCode, declared.key.Encoding.Encoding, declared.key.KeyEvent.KeyEvent, declared.tables.Row.Row}
+use Rattle.csicodec_keys.specs.{Win32.down_of, Win32.read_win32, Win32.record_list, Win32.record_of, Win32.went, declared.writing.KeySpelling.KeySpelling}
+use Rattle.csicodec_keys.specs.{Characters.is_alt, Characters.is_typed, Fields.Says, Fields.is_empty, Fields.read_list, Fields.written_list, Keys.Stroke}
+use Rattle.csicodec_keys.specs.{Keys.is_press, Keys.is_release, Rows.row_at, Rows.row_of}
+use Rattle.csicodec_events.specs.declared.event.Event.TheVariants as told
+use Rattle.csicodec_events.specs.declared.input.InputEvent.TheVariants as sent
+use Rattle.csicodec_keys.specs.declared.code.KeyCode.TheVariants as code
+use Rattle.csicodec_keys.specs.declared.key.Encoding.TheVariants as encoding
+use Rattle.csicodec_keys.specs.declared.key.KeyEvent.TheVariants as event
 use Rattle.csicodec_keys.specs.declared.writing.KeySpelling.TheVariants as form
-use Rattle.csicodec_keys.specs.Characters.{is_alt, is_typed}
-use Rattle.csicodec_keys.specs.Fields.{Says, is_empty, read_list, written_list}
-use Rattle.csicodec_keys.specs.Keys.{Stroke, is_press, is_release}
-use Rattle.csicodec_keys.specs.Rows.{row_at, row_of}
 
 -- a press of a key that types nothing
 abbrev pub pressed : KeyCode → ℕ → Stroke

@@ -1,12 +1,10 @@
 -- A key as it is said: which one, what is held down, what happens to it, and what it types.
 use Rattle.std.specs.Prelude.{ℕ, nat_le, nat_lt, ◌&&◌, Bool, true, false, List, length}
-use Rattle.csicodec_keys.specs.declared.code.KeyCode.{KeyCode}
-use Rattle.csicodec_keys.specs.declared.code.KeyCode.TheVariants as code
-use Rattle.csicodec_keys.specs.declared.key.Key.{Key}
-use Rattle.csicodec_keys.specs.declared.key.KeyEvent.{KeyEvent}
-use Rattle.csicodec_keys.specs.declared.key.KeyEvent.TheVariants as event
-use Rattle.csicodec_keys.specs.declared.modifiers.KeyModifiers.{KeyModifiers}
+use Rattle.csicodec_keys.specs.{declared.code.KeyCode.KeyCode, declared.key.Key.Key, declared.key.KeyEvent.KeyEvent}
+use Rattle.csicodec_keys.specs.{declared.modifiers.KeyModifiers.KeyModifiers}
 use lib.Utf8.{scalar, scalars}
+use Rattle.csicodec_keys.specs.declared.code.KeyCode.TheVariants as code
+use Rattle.csicodec_keys.specs.declared.key.KeyEvent.TheVariants as event
 
 abbrev pub modifier_bits : KeyModifiers → ℕ
 modifier_bits modifiers = modifiers.bits

@@ -1,8 +1,6 @@
 -- Tables of keys, by any table: a row is found by its key, or by its number and its final character.
 use Rattle.std.specs.Prelude.{ℕ, ◌==◌, ◌&&◌, List, Option, find}
-use Rattle.csicodec_keys.specs.declared.code.KeyCode.{KeyCode}
-use Rattle.csicodec_keys.specs.declared.tables.Row.{Row}
-use Rattle.csicodec_keys.specs.SameKeys.{same_code}
+use Rattle.csicodec_keys.specs.{declared.code.KeyCode.KeyCode, declared.tables.Row.Row, SameKeys.same_code}
 
 -- the first row of a key with what is held down
 unfoldable pub row_of : List Row → KeyCode → ℕ → Option Row

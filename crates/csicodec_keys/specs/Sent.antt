@@ -1,16 +1,13 @@
 -- The bytes of a form in a stream: csicodec_events tells them as the event and the list that the key is read of.
 use Rattle.std.specs.Prelude.{ℕ, ◌≡◌, ◌≤◌, List, [], ◌++◌, length}
 use Rattle.csicodec_tokens.specs.declared.param.CsiParam.{CsiParam}
+use Rattle.csicodec_events.specs.{declared.event.Events.Events, declared.input.InputEvent.InputEvent, Input.Awaits, Input.IsSent, Input.IsSentBy, Input.paused}
+use Rattle.csicodec_keys.specs.{declared.writing.KeySpelling.KeySpelling, Forms.event_of, Forms.list_of}
 use Rattle.csicodec_spans.specs.declared.table.Mode.TheVariants as mode
 use Rattle.csicodec_events.specs.declared.event.Event.TheVariants as event
-use Rattle.csicodec_events.specs.declared.event.Events.{Events}
 use Rattle.csicodec_events.specs.declared.input.Dialect.TheVariants as dialect
-use Rattle.csicodec_events.specs.declared.input.InputEvent.{InputEvent}
 use Rattle.csicodec_events.specs.declared.input.InputEvent.TheVariants as sent
-use Rattle.csicodec_events.specs.Input.{Awaits, IsSent, IsSentBy, paused}
-use Rattle.csicodec_keys.specs.declared.writing.KeySpelling.{KeySpelling}
 use Rattle.csicodec_keys.specs.declared.writing.KeySpelling.TheVariants as form
-use Rattle.csicodec_keys.specs.Forms.{event_of, list_of}
 
 -- a stream in which nothing is open
 abbrev pub fresh : ℕ → Events

@@ -6,19 +6,11 @@
 -- A number that is left out is 0. The scan code and how often are passed over, and written as 0 and 1.
 use Rattle.std.specs.Prelude.{ℕ, pos, ◌+◌, ◌-◌, ◌*◌, ◌/◌, ◌%◌, ◌==◌, ◌&&◌, nat_le, nat_lt, not, Bool, List, [], ◌∷◌, Option, Some, None, if◌then◌else◌, option_and_then}
 use Rattle.std.specs.Option.{option_map, option_or}
-use Rattle.csicodec_tokens.specs.declared.param.CsiParam.{CsiParam}
-use Rattle.csicodec_tokens.specs.declared.param.CsiParam.TheVariants.{Integer, P}
-use Rattle.csicodec_keys.specs.declared.code.KeyCode.{KeyCode}
+use Rattle.csicodec_tokens.specs.{declared.param.CsiParam.CsiParam, declared.param.CsiParam.TheVariants.Integer, declared.param.CsiParam.TheVariants.P}
+use Rattle.csicodec_keys.specs.{declared.code.KeyCode.KeyCode, declared.key.KeyEvent.KeyEvent, declared.tables.Row.Row, declared.win32.Record.Record}
+use Rattle.csicodec_keys.specs.{Characters.is_typed, Fields.number_of, Keys.Stroke, Keys.is_release, Rows.row_at, Rows.row_of, Tables.win32_keys}
 use Rattle.csicodec_keys.specs.declared.code.KeyCode.TheVariants as code
-use Rattle.csicodec_keys.specs.declared.key.KeyEvent.{KeyEvent}
 use Rattle.csicodec_keys.specs.declared.key.KeyEvent.TheVariants as event
-use Rattle.csicodec_keys.specs.declared.tables.Row.{Row}
-use Rattle.csicodec_keys.specs.declared.win32.Record.{Record}
-use Rattle.csicodec_keys.specs.Characters.{is_typed}
-use Rattle.csicodec_keys.specs.Fields.{number_of}
-use Rattle.csicodec_keys.specs.Keys.{Stroke, is_release}
-use Rattle.csicodec_keys.specs.Rows.{row_at, row_of}
-use Rattle.csicodec_keys.specs.Tables.{win32_keys}
 
 -- ---- reading
 

@@ -1,11 +1,11 @@
 -- Each variant is found by its number.
 use Rattle.std.proofs.Common.{◌≡◌, ℕ, ◌≤◌, List, [], ◌∷◌, Option, None, Some, refl, sym, ap, ◌∙◌, inl, inr, pos}
+use Rattle.std.proofs.{lemmas.Bool.cases_Bool, lemmas.Bool.eqb-true, lemmas.Int.to_z-of_z, lemmas.Option.same_Some}
 use Rattle.std.specs.Prelude.{ℤ, negsuc, ◌↔◌, true}
-use Rattle.std.proofs.lemmas.Bool.{cases_Bool, eqb-true}
-use Rattle.std.proofs.lemmas.Int.{to_z-of_z}
-use Rattle.std.proofs.lemmas.Option.{same_Some}
-use mir.Syntax.{w64}
-use mir.Val.{SFits, of_z, to_z}
+use mir.{Syntax.w64, Val.SFits, Val.of_z, Val.to_z}
+use Rattle.csicodec_names.specs.EnumNumbers.{cursor_style_number, cursor_styles, erase_in_display_number, erases_in_display, erase_in_line_number, erases_in_line, tabulation_clear_number, tabulation_clears, tabulation_control_number, tabulation_controls}
+use Rattle.csicodec_names.specs.{DeviceNumbers.device_attribute_codes, DeviceNumbers.device_attribute_number, ModeNumbers.dec_mode_number}
+use Rattle.csicodec_names.specs.{ModeNumbers.dec_codes, ModeNumbers.terminal_mode_number, ModeNumbers.terminal_codes, Numbered.is_number, Numbered.with_number}
 use Rattle.csicodec_names.specs.declared.device.DeviceAttributeCodes.TheVariants as device
 use Rattle.csicodec_names.specs.declared.enums.CursorStyle.TheVariants as style
 use Rattle.csicodec_names.specs.declared.enums.CursorTabulationControl.TheVariants as control
@@ -14,11 +14,6 @@ use Rattle.csicodec_names.specs.declared.enums.EraseInLine.TheVariants as line
 use Rattle.csicodec_names.specs.declared.enums.TabulationClear.TheVariants as clear
 use Rattle.csicodec_names.specs.declared.modes.DecPrivateModeCode.TheVariants as dec
 use Rattle.csicodec_names.specs.declared.modes.TerminalModeCode.TheVariants as terminal
-use Rattle.csicodec_names.specs.DeviceNumbers.{device_attribute_codes, device_attribute_number}
-use Rattle.csicodec_names.specs.EnumNumbers.{cursor_style_number, cursor_styles, erase_in_display_number, erases_in_display, erase_in_line_number, erases_in_line}
-use Rattle.csicodec_names.specs.EnumNumbers.{tabulation_clear_number, tabulation_clears, tabulation_control_number, tabulation_controls}
-use Rattle.csicodec_names.specs.ModeNumbers.{dec_mode_number, dec_codes, terminal_mode_number, terminal_codes}
-use Rattle.csicodec_names.specs.Numbered.{is_number, with_number}
 
 pub is_number-pos : (k : ℕ) (z : ℤ) → is_number k z ≡ true → z ≡ pos k
 is_number-pos k (pos n) e = ap pos (eqb-true n k e)

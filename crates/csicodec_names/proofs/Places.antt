@@ -1,10 +1,8 @@
 -- The table of places against the number of each code.
 use Rattle.std.proofs.Common.{◌≡◌, ◌==◌, ◌&&◌, ℕ, zero, suc, ◌+◌, Bool, true, List, [], ◌∷◌, Option, None, Some, get_or, refl, ◌∙◌, ap, arith}
 use Rattle.std.proofs.lemmas.Bool.{and_parts}
-use Rattle.csicodec_names.specs.declared.codes.SgrCode.{SgrCode}
+use Rattle.csicodec_names.specs.{declared.codes.SgrCode.SgrCode, declared.codes.TheConstants.CODES, Numbers.number_of}
 use Rattle.csicodec_names.specs.declared.codes.SgrCode.TheVariants as code
-use Rattle.csicodec_names.specs.declared.codes.TheConstants.{CODES}
-use Rattle.csicodec_names.specs.Numbers.{number_of}
 
 -- each code lies at its number
 pub lies_at : (code : SgrCode) → get_or CODES (number_of code) None ≡ Some code

@@ -1,14 +1,12 @@
 -- The numbers of the enumerations that stand as a parameter. Each counts from 0.
 use Rattle.std.specs.Prelude.{ℕ, List, [], ◌∷◌}
-use Rattle.csicodec_names.specs.declared.enums.CursorStyle.{CursorStyle}
+use Rattle.csicodec_names.specs.{declared.enums.CursorStyle.CursorStyle, declared.enums.CursorTabulationControl.CursorTabulationControl}
+use Rattle.csicodec_names.specs.{declared.enums.TabulationClear.TabulationClear, declared.enums.EraseInLine.EraseInLine}
+use Rattle.csicodec_names.specs.{declared.enums.EraseInDisplay.EraseInDisplay}
 use Rattle.csicodec_names.specs.declared.enums.CursorStyle.TheVariants as style
-use Rattle.csicodec_names.specs.declared.enums.CursorTabulationControl.{CursorTabulationControl}
 use Rattle.csicodec_names.specs.declared.enums.CursorTabulationControl.TheVariants as control
-use Rattle.csicodec_names.specs.declared.enums.TabulationClear.{TabulationClear}
 use Rattle.csicodec_names.specs.declared.enums.TabulationClear.TheVariants as clear
-use Rattle.csicodec_names.specs.declared.enums.EraseInLine.{EraseInLine}
 use Rattle.csicodec_names.specs.declared.enums.EraseInLine.TheVariants as line
-use Rattle.csicodec_names.specs.declared.enums.EraseInDisplay.{EraseInDisplay}
 use Rattle.csicodec_names.specs.declared.enums.EraseInDisplay.TheVariants as display
 
 abbrev pub cursor_style_number : CursorStyle → ℕ

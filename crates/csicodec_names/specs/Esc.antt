@@ -1,9 +1,7 @@
 -- Escape sequences of one or two characters: what a pair of bytes is, and what is printed.
 use Rattle.std.specs.Prelude.{◌≡◌, ◌≢◌, ◌↔◌, ℕ, ◌+◌, ◌*◌, List, [], ◌∷◌, Option, Some, None, fold, unwrap_or, encode_utf8_all}
-use Rattle.csicodec_names.specs.declared.esc.Esc.{Esc}
-use Rattle.csicodec_names.specs.declared.esc.Esc.TheVariants.{Unspecified, Code}
-use Rattle.csicodec_names.specs.declared.esc_codes.EscCode.{EscCode}
-use Rattle.csicodec_names.specs.EscCodes.{characters_of}
+use Rattle.csicodec_names.specs.{declared.esc.Esc.Esc, declared.esc.Esc.TheVariants.Unspecified, declared.esc.Esc.TheVariants.Code}
+use Rattle.csicodec_names.specs.{declared.esc_codes.EscCode.EscCode, EscCodes.characters_of}
 
 -- the number of a code: its characters are the digits in base 256, the high one first
 abbrev pub esc_number : EscCode → ℕ

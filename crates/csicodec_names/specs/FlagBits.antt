@@ -1,8 +1,7 @@
 -- The bits of sets, as a number.
 use Rattle.std.specs.Prelude.{ℕ}
-use Rattle.csicodec_names.specs.declared.flags.KittyKeyboardFlags.{KittyKeyboardFlags}
-use Rattle.csicodec_names.specs.declared.flags.Modifiers.{Modifiers}
-use Rattle.csicodec_names.specs.declared.flags.MouseButtons.{MouseButtons}
+use Rattle.csicodec_names.specs.{declared.flags.KittyKeyboardFlags.KittyKeyboardFlags, declared.flags.Modifiers.Modifiers}
+use Rattle.csicodec_names.specs.{declared.flags.MouseButtons.MouseButtons}
 
 abbrev pub modifier_bits : Modifiers → ℕ
 modifier_bits modifiers = modifiers.bits

@@ -1,6 +1,6 @@
 -- Bytes that are shown as themselves.
-use Rattle.std.proofs.Common.{ℕ, ◌≡◌, ◌++◌, ◌<◌, ◌+◌, List, [], ◌∷◌, length, take, drop, get_or, append_assoc}
-use Rattle.std.proofs.lemmas.List.{drop_more, take_more}
+use Rattle.std.proofs.{Common.ℕ, Common.◌≡◌, Common.◌++◌, Common.◌<◌, Common.◌+◌, Common.List, Common.[], Common.◌∷◌, Common.length, Common.take, Common.drop}
+use Rattle.std.proofs.{Common.get_or, Common.append_assoc, lemmas.List.drop_more, lemmas.List.take_more}
 use Rattle.std.specs.List.{flat_map}
 use Rattle.csicodec_osc.specs.Escaped.{escaped}
 

@@ -1,18 +1,14 @@
 -- What a command reads of a content is written as it, and what is written of it is read; and which commands read nothing of
 -- what others are written as.
 use Rattle.std.proofs.Common.{◌≡◌, ℕ, zero, suc, ◌+◌, ◌-◌, List, [], ◌∷◌, ◌++◌, Option, None, Some, refl, inl, inr, length, take, drop, arith}
-use Rattle.std.specs.Prelude.{◌==◌, ◌&&◌, ◌||◌, Bool, true, false, not, position}
-use Rattle.std.specs.Cmp.Lexicographic.{pointwise}
-use Rattle.std.proofs.lemmas.Bool.{cases_Bool}
-use Rattle.std.proofs.lemmas.Bool.Decides.{nat_tests}
-use Rattle.std.proofs.lemmas.List.{take_rest}
-use Rattle.std.proofs.lemmas.Option.{option_and_then_some}
-use Rattle.std.proofs.lemmas.Slice.Eq.{bytes_eq-Decides}
-use Rattle.csicodec_osc.specs.declared.command.Command.{Command}
-use Rattle.csicodec_osc.specs.Commands.{form, number}
-use Rattle.csicodec_osc.specs.Forms.{Form, OneText, Message, Several, TwoTexts, TextAsked}
+use Rattle.std.proofs.{lemmas.Bool.cases_Bool, lemmas.Bool.Decides.nat_tests, lemmas.List.take_rest, lemmas.Option.option_and_then_some}
+use Rattle.std.proofs.{lemmas.Slice.Eq.bytes_eq-Decides}
+use Rattle.std.specs.{Prelude.◌==◌, Prelude.◌&&◌, Prelude.◌||◌, Prelude.Bool, Prelude.true, Prelude.false, Prelude.not, Prelude.position}
+use Rattle.std.specs.{Cmp.Lexicographic.pointwise}
 use Rattle.csicodec_osc.specs.Osc.{Ask, Body, Both, Tail, asked, asked_text, fits, is_asked, is_field, is_message, tail_of, tail_text}
-use Rattle.csicodec_osc.specs.Private.Reading.{behind, halves, read_body, read_by}
+use Rattle.csicodec_osc.specs.{declared.command.Command.Command, Commands.form, Commands.number, Forms.Form, Forms.OneText, Forms.Message, Forms.Several}
+use Rattle.csicodec_osc.specs.{Forms.TwoTexts, Forms.TextAsked, Private.Reading.behind, Private.Reading.halves, Private.Reading.read_body}
+use Rattle.csicodec_osc.specs.{Private.Reading.read_by}
 
 -- ---- the first `;`
 

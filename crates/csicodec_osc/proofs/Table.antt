@@ -1,17 +1,11 @@
 -- The table: each content says one thing.
 use Rattle.std.proofs.Common.{◌≡◌, ℕ, zero, suc, ◌+◌, ◌<◌, ◌≤◌, length, get_or, drop, List, [], ◌∷◌, ◌++◌, Option, None, Some, refl, sym, ap, ◌∙◌, subst}
-use Rattle.std.specs.Prelude.{◌&&◌, Bool, true, slice_get, option_map}
-use Rattle.std.specs.Option.{option_or}
-use Rattle.std.proofs.lemmas.Bool.{and_parts}
-use Rattle.std.proofs.lemmas.List.{drop_all, drop_more}
-use Rattle.std.proofs.lemmas.Option.{same_Some}
-use Rattle.csicodec_osc.specs.declared.command.Command.{Command}
-use Rattle.csicodec_osc.specs.declared.command.TheConstants.{COMMANDS}
-use Rattle.csicodec_osc.specs.Commands.{form, number}
+use Rattle.std.proofs.{lemmas.Bool.and_parts, lemmas.List.drop_all, lemmas.List.drop_more, lemmas.Option.same_Some}
+use Rattle.std.specs.{Prelude.◌&&◌, Prelude.Bool, Prelude.true, Prelude.slice_get, Prelude.option_map, Option.option_or}
 use Rattle.csicodec_osc.specs.Osc.{Body, IsWritable, Known, Said, Says, Unknown, fits, tail_of, tail_text, written}
-use Rattle.csicodec_osc.specs.Private.Reading.{first_read, read_by}
-use Rattle.csicodec_osc.proofs.Places.{lies-at, place_in}
-use Rattle.csicodec_osc.proofs.Reading.{passed, passes, read-is, read-of}
+use Rattle.csicodec_osc.specs.{declared.command.Command.Command, declared.command.TheConstants.COMMANDS, Commands.form, Commands.number}
+use Rattle.csicodec_osc.specs.{Private.Reading.first_read, Private.Reading.read_by}
+use Rattle.csicodec_osc.proofs.{Places.lies-at, Places.place_in, Reading.passed, Reading.passes, Reading.read-is, Reading.read-of}
 
 -- ---- each command reads nothing of those behind it
 

@@ -1,15 +1,12 @@
 -- What the content of an OSC says, the bytes between `ESC ]` and what ends it; and how it is written.
 use Rattle.std.specs.Prelude.{ℕ, ◌≡◌, ◌-◌, ◌+◌, ◌*◌, ◌==◌, ◌&&◌, Bool, true, false, not, nat_le, List, [], ◌∷◌, ◌++◌, Option, None, Some, option_map, if◌then◌else◌}
 use Rattle.std.specs.Str.{bytes_eq}
-use Rattle.csicodec_osc.specs.declared.asked.Asked.{Asked}
+use Rattle.csicodec_osc.specs.{declared.asked.Asked.Asked, declared.command.Command.Command, declared.fields.OscFields.OscFields as FieldsType}
+use Rattle.csicodec_osc.specs.{declared.osc.Osc.Osc, Commands.form, Commands.number, Forms.Form, Forms.OneText, Forms.Message, Forms.Several, Forms.TwoTexts}
+use Rattle.csicodec_osc.specs.{Forms.TextAsked}
 use Rattle.csicodec_osc.specs.declared.asked.Asked.TheVariants as ask
-use Rattle.csicodec_osc.specs.declared.command.Command.{Command}
 use Rattle.csicodec_osc.specs.declared.command.Command.TheVariants as command
-use Rattle.csicodec_osc.specs.declared.fields.OscFields.{OscFields as FieldsType}
-use Rattle.csicodec_osc.specs.declared.osc.Osc.{Osc}
 use Rattle.csicodec_osc.specs.declared.osc.Osc.TheVariants as osc
-use Rattle.csicodec_osc.specs.Commands.{form, number}
-use Rattle.csicodec_osc.specs.Forms.{Form, OneText, Message, Several, TwoTexts, TextAsked}
 
 -- ---- what stands behind a number
 

@@ -2,15 +2,10 @@
 use Rattle.std.specs.Prelude.{IfSome, IfNone}
 use Rattle.std.proofs.Common.{◌≡◌, ℕ, ◌-◌, ◌<◌, Bool, false, List, [], ◌∷◌, length, drop, Some, None, Option, refl, sym, ap, ◌∙◌, arith}
 use Rattle.csicodec_tokens.specs.declared.param.CsiParam.{CsiParam}
-use Rattle.csicodec_parser.specs.declared.group.Group.{Group}
-use Rattle.csicodec_parser.specs.declared.group.Group.TheVariants.{Styles}
-use Rattle.csicodec_parser.specs.declared.actions.CSI.{CSI}
-use Rattle.csicodec_parser.specs.ActionOf.{action_of}
-use Rattle.csicodec_parser.specs.declared.parser.Stage.{Stage}
-use Rattle.csicodec_parser.specs.declared.parser.Stage.TheVariants.{Fresh, Going, Failed}
-use Rattle.csicodec_parser.specs.Groups.{marked, start, has_odd}
-use Rattle.csicodec_parser.specs.Cut.{body}
 use Rattle.csicodec_parser.specs.Private.Steps.{block, rest_action, actions_after, actions_in, left_at, from_at, GoesBy, CutsOn}
+use Rattle.csicodec_parser.specs.{declared.group.Group.Group, declared.group.Group.TheVariants.Styles, declared.actions.CSI.CSI, ActionOf.action_of}
+use Rattle.csicodec_parser.specs.{declared.parser.Stage.Stage, declared.parser.Stage.TheVariants.Fresh, declared.parser.Stage.TheVariants.Going}
+use Rattle.csicodec_parser.specs.{declared.parser.Stage.TheVariants.Failed, Groups.marked, Groups.start, Groups.has_odd, Cut.body}
 use Rattle.csicodec_parser.proofs.Blocks.{some_first, none_first, some_body, none_body, some_at, none_at, some_cuts}
 
 -- before the first action all actions of the list are left

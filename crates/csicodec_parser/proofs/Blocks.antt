@@ -1,27 +1,16 @@
 -- The block at the front, and the actions that follow it.
-use Rattle.std.specs.Prelude.{IfSome, IfNone, slice_get, unwrap_or}
+use Rattle.std.specs.{Prelude.IfSome, Prelude.IfNone, Prelude.slice_get, Prelude.unwrap_or, Option.option_map}
 use Rattle.std.proofs.Common.{◌≡◌, ℕ, zero, suc, ◌+◌, ◌-◌, ◌<◌, ◌≤◌, Bool, true, false, cond, List, [], ◌∷◌, length, drop, take, Some, None, Option, refl, sym, ap, ◌∙◌, arith, length-drop}
-use Rattle.std.specs.Option.{option_map}
-use Rattle.std.proofs.lemmas.List.{drop-drop, drop_all, take_all}
-use Rattle.std.proofs.lemmas.Option.{slice_get_within}
-use Rattle.csicodec_tokens.specs.declared.param.CsiParam.{CsiParam}
-use Rattle.csicodec_tokens.specs.declared.param.CsiParam.TheVariants.{Integer, P}
-use Rattle.csicodec_actions.specs.declared.mode.Change.{Change}
-use Rattle.csicodec_parser.specs.declared.group.Group.{Group}
-use Rattle.csicodec_parser.specs.declared.group.Group.TheVariants.{Whole, Styles, DecModes}
-use Rattle.csicodec_parser.specs.declared.actions.CSI.{CSI}
-use Rattle.csicodec_actions.specs.Actions.{Action, Unspecified, TakesMemory}
-use Rattle.csicodec_parser.specs.ActionOf.{action_of}
-use Rattle.csicodec_parser.specs.declared.parser.Stage.{Stage}
-use Rattle.csicodec_parser.specs.declared.parser.Stage.TheVariants.{Fresh, Going, Failed}
-use Rattle.csicodec_parser.specs.Groups.{group, marked, start, has_odd}
-use Rattle.csicodec_parser.specs.Cut.{body}
-use Rattle.csicodec_parser.specs.Segments.{empty_action}
-use Rattle.csicodec_actions.specs.Table.{boxed, unboxed, whole}
-use Rattle.csicodec_parser.specs.Private.Steps.{front, block, block_of, is_semicolon, with_semicolon, segments, segments_at, rest_action}
-use Rattle.csicodec_parser.specs.Private.Steps.{actions_after, body_actions, actions_in, left_at, from_at, GoesBy, CanGo, CutsOn}
-use Rattle.csicodec_parser.proofs.Fronts.{front_empty, front_fits}
-use Rattle.csicodec_parser.proofs.GroupOf.{marked-body}
+use Rattle.std.proofs.{lemmas.List.drop-drop, lemmas.List.drop_all, lemmas.List.take_all, lemmas.Option.slice_get_within}
+use Rattle.csicodec_tokens.specs.{declared.param.CsiParam.CsiParam, declared.param.CsiParam.TheVariants.Integer, declared.param.CsiParam.TheVariants.P}
+use Rattle.csicodec_actions.specs.{declared.mode.Change.Change, Actions.Action, Actions.Unspecified, Actions.TakesMemory, Table.boxed, Table.unboxed}
+use Rattle.csicodec_actions.specs.{Table.whole}
+use Rattle.csicodec_parser.specs.Private.Steps.{front, block, block_of, is_semicolon, with_semicolon, segments, segments_at, rest_action, actions_after, body_actions, actions_in, left_at, from_at, GoesBy, CanGo, CutsOn}
+use Rattle.csicodec_parser.specs.{declared.group.Group.Group, declared.group.Group.TheVariants.Whole, declared.group.Group.TheVariants.Styles}
+use Rattle.csicodec_parser.specs.{declared.group.Group.TheVariants.DecModes, declared.actions.CSI.CSI, ActionOf.action_of, declared.parser.Stage.Stage}
+use Rattle.csicodec_parser.specs.{declared.parser.Stage.TheVariants.Fresh, declared.parser.Stage.TheVariants.Going, declared.parser.Stage.TheVariants.Failed}
+use Rattle.csicodec_parser.specs.{Groups.group, Groups.marked, Groups.start, Groups.has_odd, Cut.body, Segments.empty_action}
+use Rattle.csicodec_parser.proofs.{Fronts.front_empty, Fronts.front_fits, GroupOf.marked-body}
 use Rattle.csicodec_actions.proofs.Boxed.{unboxed_whole, boxed_whole, boxed-takes}
 
 -- the action of a rest takes memory

@@ -1,21 +1,14 @@
 -- Every list has one cut that can't be continued, and the computed actions are those of that cut.
 use Rattle.std.specs.Prelude.{slice_get, unwrap_or, max}
-use Rattle.std.proofs.Common.{◌≡◌, ◌⊎◌, ℕ, zero, suc, pred, ◌+◌, ◌-◌, ◌==◌, ◌<◌, ◌≤◌, Bool, List, [], ◌∷◌, ◌++◌, length, take, drop, Option, Some}
-use Rattle.std.proofs.Common.{None, refl, sym, ap, subst, ◌∙◌, inl, inr, arith, add-one, length-append, length-drop, append_assoc}
-use Rattle.std.proofs.Math.Seq.{drop-append_seam}
-use Rattle.std.proofs.lemmas.Bool.{cases_Bool, eqb-true}
-use Rattle.std.proofs.lemmas.List.{take-append-drop, length-take-le, drop-drop}
-use Rattle.std.proofs.lemmas.Option.{some_pair_parts}
-use Rattle.csicodec_tokens.specs.declared.param.CsiParam.{CsiParam}
-use Rattle.csicodec_tokens.specs.declared.param.CsiParam.TheVariants.{Integer, P}
-use Rattle.csicodec_parser.specs.declared.group.Group.{Group}
-use Rattle.csicodec_parser.specs.declared.group.Group.TheVariants.{Whole}
-use Rattle.csicodec_actions.specs.Actions.{Action, Unspecified}
-use Rattle.csicodec_parser.specs.Groups.{group, start, has_odd}
-use Rattle.csicodec_parser.specs.Cut.{semicolon, NoSemicolon, IsBlock, body, Cut, IsStuck, IsRestAfter}
+use Rattle.std.proofs.Common.{◌≡◌, ◌⊎◌, ℕ, zero, suc, pred, ◌+◌, ◌-◌, ◌==◌, ◌<◌, ◌≤◌, Bool, List, [], ◌∷◌, ◌++◌, length, take, drop, Option, Some, None, refl, sym, ap, subst, ◌∙◌, inl, inr, arith, add-one, length-append, length-drop, append_assoc}
+use Rattle.std.proofs.{Math.Seq.drop-append_seam, lemmas.Bool.cases_Bool, lemmas.Bool.eqb-true, lemmas.List.take-append-drop, lemmas.List.length-take-le}
+use Rattle.std.proofs.{lemmas.List.drop-drop, lemmas.Option.some_pair_parts}
+use Rattle.csicodec_tokens.specs.{declared.param.CsiParam.CsiParam, declared.param.CsiParam.TheVariants.Integer, declared.param.CsiParam.TheVariants.P}
 use Rattle.csicodec_parser.specs.Segments.{remainder, Segmented, BodyActions, CutActions, WholeActions, ActionsIn, Actions}
-use Rattle.csicodec_actions.specs.Table.{whole}
 use Rattle.csicodec_parser.specs.Private.Steps.{front, block, block_of, with_semicolon, segments, segments_at, rest_action, actions_after, body_actions, cut_actions, actions_in, actions, CutsOn}
+use Rattle.csicodec_parser.specs.{declared.group.Group.Group, declared.group.Group.TheVariants.Whole, Groups.group, Groups.start, Groups.has_odd, Cut.semicolon}
+use Rattle.csicodec_parser.specs.{Cut.NoSemicolon, Cut.IsBlock, Cut.body, Cut.Cut, Cut.IsStuck, Cut.IsRestAfter}
+use Rattle.csicodec_actions.specs.{Actions.Action, Actions.Unspecified, Table.whole}
 use Rattle.csicodec_parser.proofs.Fronts.{is_none, piece_front, front_piece, stuck_front, front_stuck, front_fits}
 use Rattle.csicodec_parser.proofs.Blocks.{segments_block, segments_unknown, semicolon_from, after_some, rest_unknown}
 

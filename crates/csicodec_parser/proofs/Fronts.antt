@@ -1,25 +1,17 @@
 -- The piece at the front of a list: by the relation, and by the function that computes it.
 use Rattle.std.specs.Prelude.{ℤ, IfNone, IfSome, option_and_then, pos, negsuc}
 use Rattle.std.proofs.Common.{◌≡◌, ℕ, zero, suc, ◌+◌, ◌<◌, ◌≤◌, min, List, [], ◌∷◌, length, take, drop, Option, Some, None, refl, sym, ap, ◌∙◌, arith, add-zero, length-drop}
-use Rattle.std.proofs.lemmas.List.{take_min}
-use Rattle.std.proofs.lemmas.Option.{some_pair_parts}
-use Rattle.csicodec_tokens.specs.declared.param.CsiParam.{CsiParam}
-use Rattle.csicodec_tokens.specs.declared.param.CsiParam.TheVariants.{Integer, P}
-use Rattle.csicodec_base.specs.declared.sgr.Sgr as sgr_type
-use Rattle.csicodec_base.specs.Pieces.{IsFront}
-use Rattle.csicodec_base.specs.FrontBy.{piece}
+use Rattle.std.proofs.{lemmas.List.take_min, lemmas.Option.some_pair_parts}
+use Rattle.csicodec_tokens.specs.{declared.param.CsiParam.CsiParam, declared.param.CsiParam.TheVariants.Integer, declared.param.CsiParam.TheVariants.P}
+use Rattle.csicodec_base.specs.{Pieces.IsFront, FrontBy.piece}
 use Rattle.csicodec_base.proofs.Table.{piece_is, piece_take, is_piece, piece_within}
-use Rattle.csicodec_parser.specs.declared.group.Group.{Group}
-use Rattle.csicodec_parser.specs.declared.group.Group.TheVariants.{Whole, Styles, Modes, DecModes}
-use Rattle.csicodec_actions.specs.Actions.{Action, Sgr, Mode}
-use Rattle.csicodec_parser.specs.declared.actions.CSI.{CSI}
-use Rattle.csicodec_parser.specs.ActionOf.{action_of}
-use Rattle.csicodec_parser.specs.Groups.{BeginsWith, Piece}
-use Rattle.csicodec_parser.specs.Cut.{IsStuck}
-use Rattle.csicodec_actions.specs.Modes.{changed, switched}
-use Rattle.csicodec_actions.specs.Kinds.{read, Dec, Terminal}
-use Rattle.csicodec_parser.specs.Private.Steps.{found, styled, number_at, one_token, front}
+use Rattle.csicodec_parser.specs.{declared.group.Group.Group, declared.group.Group.TheVariants.Whole, declared.group.Group.TheVariants.Styles}
+use Rattle.csicodec_parser.specs.{declared.group.Group.TheVariants.Modes, declared.group.Group.TheVariants.DecModes, declared.actions.CSI.CSI}
+use Rattle.csicodec_parser.specs.{ActionOf.action_of, Groups.BeginsWith, Groups.Piece, Cut.IsStuck, Private.Steps.found, Private.Steps.styled}
+use Rattle.csicodec_parser.specs.{Private.Steps.number_at, Private.Steps.one_token, Private.Steps.front}
+use Rattle.csicodec_actions.specs.{Actions.Action, Actions.Sgr, Actions.Mode, Modes.changed, Modes.switched, Kinds.read, Kinds.Dec, Kinds.Terminal}
 use Rattle.csicodec_actions.proofs.Values.{dec-above, terminal-above}
+use Rattle.csicodec_base.specs.declared.sgr.Sgr as sgr_type
 
 pub is_none : {A : Type 0} (o : Option A) → ((a : A) → o ≡ Some a → ⊥) → o ≡ None
 is_none None h = refl

@@ -1,13 +1,11 @@
 -- What the group of a list says of its first token and its final, and in which group a rest falls.
-use Rattle.std.proofs.Common.{ℕ, ◌≡◌, Bool, true, false, List, [], ◌∷◌, ◌++◌, Option, refl, ap, arith}
+use Rattle.std.proofs.{Common.ℕ, Common.◌≡◌, Common.Bool, Common.true, Common.false, Common.List, Common.[], Common.◌∷◌, Common.◌++◌, Common.Option}
+use Rattle.std.proofs.{Common.refl, Common.ap, Common.arith, lemmas.Bool.Decides.nat_tests}
 use Rattle.std.specs.Prelude.{◌==◌, ◌||◌, slice_get}
-use Rattle.std.proofs.lemmas.Bool.Decides.{nat_tests}
-use Rattle.csicodec_tokens.specs.declared.param.CsiParam.{CsiParam}
-use Rattle.csicodec_tokens.specs.declared.param.CsiParam.TheVariants.{Integer, P}
-use Rattle.csicodec_parser.specs.declared.group.Group.{Group}
-use Rattle.csicodec_parser.specs.declared.group.Group.TheVariants.{Whole, Styles, Modes, DecModes}
-use Rattle.csicodec_parser.specs.Groups.{is_byte, group_by, group, marked, is_odd, has_odd}
-use Rattle.csicodec_parser.specs.Cut.{body}
+use Rattle.csicodec_tokens.specs.{declared.param.CsiParam.CsiParam, declared.param.CsiParam.TheVariants.Integer, declared.param.CsiParam.TheVariants.P}
+use Rattle.csicodec_parser.specs.{declared.group.Group.Group, declared.group.Group.TheVariants.Whole, declared.group.Group.TheVariants.Styles}
+use Rattle.csicodec_parser.specs.{declared.group.Group.TheVariants.Modes, declared.group.Group.TheVariants.DecModes, Groups.is_byte, Groups.group_by}
+use Rattle.csicodec_parser.specs.{Groups.group, Groups.marked, Groups.is_odd, Groups.has_odd, Cut.body}
 
 -- a list of styles ends in `m`
 styles-end : (first : Option CsiParam) (final : ℕ) → group_by first final ≡ Styles → final ≡ 109

@@ -1,25 +1,16 @@
 -- One call of `next`, over plain variables.
-use Rattle.std.specs.Prelude.{Ok, Err, slice_get}
-use Rattle.std.proofs.Common.{◌≡◌, ℕ, ◌+◌, ◌*◌, ◌<◌, ◌≤◌, ◌==◌, Bool, true, false, List, [], ◌∷◌, length, drop, Some, None}
-use Rattle.std.proofs.Common.{refl, sym, ap, ◌∙◌, arith, inl, inr, length-drop, add-one, subst}
-use Rattle.std.proofs.lemmas.Bool.{ne_eqb}
-use Rattle.std.proofs.lemmas.List.{drop-drop, drop_all}
-use Rattle.std.specs.declared.alloc.AllocError.{AllocError}
+use Rattle.std.specs.{Prelude.Ok, Prelude.Err, Prelude.slice_get, declared.alloc.AllocError.AllocError}
+use Rattle.std.proofs.Common.{◌≡◌, ℕ, ◌+◌, ◌*◌, ◌<◌, ◌≤◌, ◌==◌, Bool, true, false, List, [], ◌∷◌, length, drop, Some, None, refl, sym, ap, ◌∙◌, arith, inl, inr, length-drop, add-one, subst}
+use Rattle.std.proofs.{lemmas.Bool.ne_eqb, lemmas.List.drop-drop, lemmas.List.drop_all}
 use Rattle.csicodec_tokens.specs.declared.param.CsiParam.{CsiParam}
-use Rattle.csicodec_parser.specs.declared.actions.CSI.{CSI}
-use Rattle.csicodec_parser.specs.declared.parser.ActionRef.{ActionRef}
-use Rattle.csicodec_parser.specs.declared.parser.Stage.{Stage}
-use Rattle.csicodec_parser.specs.declared.parser.Stage.TheVariants.{Fresh, Going, Failed}
-use Rattle.csicodec_parser.specs.declared.group.Group.{Group}
-use Rattle.csicodec_actions.specs.Actions.{Action}
-use Rattle.csicodec_parser.specs.ActionOf.{action_of}
-use Rattle.csicodec_parser.specs.Groups.{group}
-use Rattle.csicodec_parser.specs.Cut.{IsRestAfter}
-use Rattle.csicodec_parser.specs.Progress.{Progress, ActionsOf, HasEnded, most_left}
-use Rattle.csicodec_parser.specs.Next.{Answers, AnswersRef, IsRef, Nexts, NextsRef}
 use Rattle.csicodec_parser.specs.Private.Steps.{rest_action, actions_after, left_at, fresh_cost, from_at, GoesBy, CanGo, CutsOn, all_of, has_failed, Sound}
-use Rattle.csicodec_parser.proofs.Blocks.{after_some, rest_takes}
+use Rattle.csicodec_parser.specs.{declared.actions.CSI.CSI, declared.parser.ActionRef.ActionRef, declared.parser.Stage.Stage}
+use Rattle.csicodec_parser.specs.{declared.parser.Stage.TheVariants.Fresh, declared.parser.Stage.TheVariants.Going, declared.parser.Stage.TheVariants.Failed}
+use Rattle.csicodec_parser.specs.{declared.group.Group.Group, ActionOf.action_of, Groups.group, Cut.IsRestAfter, Progress.Progress, Progress.ActionsOf}
+use Rattle.csicodec_parser.specs.{Progress.HasEnded, Progress.most_left, Next.Answers, Next.AnswersRef, Next.IsRef, Next.Nexts, Next.NextsRef}
+use Rattle.csicodec_actions.specs.Actions.{Action}
 use Rattle.csicodec_parser.proofs.Cuts.{at_drop, actions_are, actions_only, actions_count, first_rest, more_rest}
+use Rattle.csicodec_parser.proofs.Blocks.{after_some, rest_takes}
 
 drop_one : {A : Type 0} (xs : List A) (i : ℕ) (a : A) (bs : List A) → drop i xs ≡ a ∷ bs → drop (i + 1) xs ≡ bs
 drop_one xs i a bs e = sym (drop-drop 1 i xs) ∙ ap (drop 1) e

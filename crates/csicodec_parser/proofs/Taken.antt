@@ -1,30 +1,19 @@
 -- Actions that go into a sink, over plain variables.
-use Rattle.std.specs.Prelude.{Result, Ok, Err, OnOk, pos, slice_get}
+use Rattle.std.specs.{Prelude.Result, Prelude.Ok, Prelude.Err, Prelude.OnOk, Prelude.pos, Prelude.slice_get, Fmt.decimal}
 use Rattle.std.proofs.Common.{◌≡◌, ℕ, ◌<◌, Bool, true, false, List, [], ◌∷◌, ◌++◌, length, drop, None, Some, refl, sym, ap, ◌∙◌, arith, append_assoc, append-nil, subst}
 use Rattle.std.proofs.lemmas.Option.{same_Some}
-use Rattle.csicodec_tokens.specs.declared.param.CsiParam.{CsiParam}
-use Rattle.csicodec_tokens.specs.declared.param.CsiParam.TheVariants.{Integer}
-use Rattle.std.specs.Fmt.{decimal}
-use Rattle.csicodec_actions.specs.declared.mode.Change.{Change}
-use Rattle.csicodec_actions.specs.declared.mode.Change.TheVariants as change
-use Rattle.csicodec_actions.specs.declared.mode.DecPrivateMode.{DecPrivateMode}
-use Rattle.csicodec_actions.specs.declared.mode.Switch.{Switch}
-use Rattle.csicodec_actions.specs.declared.mode.Switch.TheVariants as switch
-use Rattle.csicodec_actions.specs.declared.mode.TerminalMode.{TerminalMode}
-use Rattle.csicodec_actions.specs.Modes.{changed, dec_number, switched, terminal_number}
-use Rattle.csicodec_actions.specs.Table.Mode.{written_mode}
-use Rattle.csicodec_actions.proofs.Values.{dec-numbered, terminal-numbered}
-use Rattle.csicodec_parser.specs.declared.group.Group.{Group}
-use Rattle.csicodec_parser.specs.declared.group.Group.TheVariants.{Whole, Modes, DecModes}
-use Rattle.csicodec_actions.specs.Actions.{Action, Mode, Unspecified}
-use Rattle.csicodec_parser.specs.Groups.{group, marked, has_odd}
-use Rattle.csicodec_parser.specs.Cut.{body}
-use Rattle.csicodec_parser.specs.Segments.{Actions}
+use Rattle.csicodec_tokens.specs.{declared.param.CsiParam.CsiParam, declared.param.CsiParam.TheVariants.Integer}
+use Rattle.csicodec_actions.specs.{declared.mode.Change.Change, declared.mode.DecPrivateMode.DecPrivateMode, declared.mode.Switch.Switch}
+use Rattle.csicodec_actions.specs.{declared.mode.TerminalMode.TerminalMode, Modes.changed, Modes.dec_number, Modes.switched, Modes.terminal_number}
+use Rattle.csicodec_actions.specs.{Table.Mode.written_mode, Actions.Action, Actions.Mode, Actions.Unspecified, Table.text, Table.texts, Table.unboxed}
+use Rattle.csicodec_actions.proofs.{Values.dec-numbered, Values.terminal-numbered, Boxed.boxed_whole}
 use Rattle.csicodec_parser.specs.Private.Steps.{one_token, front, block_of, with_semicolon, rest_action, actions, actions_in, actions_after, body_actions}
-use Rattle.csicodec_actions.specs.Table.{text, texts, unboxed}
+use Rattle.csicodec_parser.specs.{declared.group.Group.Group, declared.group.Group.TheVariants.Whole, declared.group.Group.TheVariants.Modes}
+use Rattle.csicodec_parser.specs.{declared.group.Group.TheVariants.DecModes, Groups.group, Groups.marked, Groups.has_odd, Cut.body, Segments.Actions}
 use Rattle.csicodec_parser.proofs.Blocks.{semicolon_from, segments_block, after_unknown, first_cut, odd_unknown, body_some, rest_unknown}
-use Rattle.csicodec_actions.proofs.Boxed.{boxed_whole}
 use Rattle.csicodec_parser.proofs.Cuts.{actions_are}
+use Rattle.csicodec_actions.specs.declared.mode.Change.TheVariants as change
+use Rattle.csicodec_actions.specs.declared.mode.Switch.TheVariants as switch
 
 pub on_ok : {T E P Q : Type 0} (r : Result T E) → (P → Q) → OnOk r P → OnOk r Q
 on_ok (Ok x) f p = f p

@@ -1,20 +1,13 @@
 -- How the code tells a list that none of the rules reads.
 use Rattle.std.proofs.Common.{◌≡◌, ℕ, List, Option, None, Some, refl, sym, ◌∙◌, inl, inr}
-use Rattle.std.specs.Prelude.{◌↔◌, Bool, true, false, not, IsTrue}
-use Rattle.std.specs.Option.{is_some, option_map}
+use Rattle.std.specs.{Prelude.◌↔◌, Prelude.Bool, Prelude.true, Prelude.false, Prelude.not, Prelude.IsTrue, Option.is_some, Option.option_map}
 use Rattle.csicodec_tokens.specs.declared.param.CsiParam.{CsiParam}
-use Rattle.csicodec_parser.specs.declared.actions.CSI.{CSI}
-use Rattle.csicodec_parser.specs.declared.group.Group.{Group}
-use Rattle.csicodec_parser.specs.declared.group.Group.TheVariants as groups
-use Rattle.csicodec_parser.specs.ActionOf.{action_of}
-use Rattle.csicodec_parser.specs.Canonical.{IsUncut, IsUnknownIn}
-use Rattle.csicodec_parser.specs.Cut.{body}
-use Rattle.csicodec_parser.specs.Groups.{has_odd}
-use Rattle.csicodec_parser.specs.Segments.{IsUnread}
-use Rattle.csicodec_parser.specs.Private.Steps.{found, front}
+use Rattle.csicodec_parser.specs.{declared.actions.CSI.CSI, declared.group.Group.Group, ActionOf.action_of, Canonical.IsUncut, Canonical.IsUnknownIn, Cut.body}
+use Rattle.csicodec_parser.specs.{Groups.has_odd, Segments.IsUnread, Private.Steps.found, Private.Steps.front}
 use Rattle.csicodec_actions.specs.Table.{unboxed, boxed}
 use Rattle.csicodec_actions.proofs.Boxed.{unboxed_whole, boxed_whole}
 use Rattle.csicodec_parser.proofs.Fronts.{front_stuck, stuck_front}
+use Rattle.csicodec_parser.specs.declared.group.Group.TheVariants as groups
 
 -- ---- a list that is read whole
 

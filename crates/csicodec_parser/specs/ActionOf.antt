@@ -3,8 +3,8 @@ use Rattle.std.specs.Prelude.{ℕ, List, ◌++◌, encode_utf8}
 use Rattle.csicodec_tokens.specs.Param.{spells}
 use Rattle.csicodec_actions.specs.Actions.{Action, Sgr, Cursor, Edit, Mode, Mouse, Device, Window, Keyboard, SelectCharacterPath, Unspecified}
 use Rattle.csicodec_actions.specs.Devices.{device_of}
-use Rattle.csicodec_parser.specs.declared.actions.Unspecified as unspecified_type
 use Rattle.csicodec_parser.specs.declared.actions.CSI.{CSI}
+use Rattle.csicodec_parser.specs.declared.actions.Unspecified as unspecified_type
 use Rattle.csicodec_parser.specs.declared.actions.CSI.TheVariants as csi
 
 abbrev pub unspecified_of : unspecified_type.Unspecified → Action

@@ -1,19 +1,12 @@
 -- Which values are read back from their own texts, said by their fields.
 use Rattle.std.specs.Prelude.{ℕ, ◌≡◌, ◌⊎◌, ◌<◌, List, Bool, true, length, Option, None, Some}
-use Rattle.csicodec_tokens.specs.declared.param.CsiParam.{CsiParam}
-use Rattle.csicodec_tokens.specs.Sequence.{IsFinal, Spellable}
+use Rattle.csicodec_tokens.specs.{declared.param.CsiParam.CsiParam, Sequence.IsFinal, Sequence.Spellable}
+use Rattle.csicodec_parser.specs.{declared.group.Group.Group, Cut.body, Cut.IsStuck, Groups.group, Groups.has_odd, Segments.IsUnread}
+use Rattle.csicodec_actions.specs.{Actions.Action, Actions.Sgr, Actions.Unspecified, Written.AllGood, Written.Written, Special.IsNeverRead, Table.written}
 use Rattle.csicodec_base.specs.declared.sgr.Sgr as sgr_type
 use Rattle.csicodec_base.specs.declared.sgr.Sgr.TheVariants as sgr
 use Rattle.csicodec_base.specs.declared.sgr.Font.TheVariants as font
-use Rattle.csicodec_parser.specs.declared.group.Group.{Group}
 use Rattle.csicodec_parser.specs.declared.group.Group.TheVariants as groups
-use Rattle.csicodec_actions.specs.Actions.{Action, Sgr, Unspecified}
-use Rattle.csicodec_parser.specs.Cut.{body, IsStuck}
-use Rattle.csicodec_actions.specs.Written.{AllGood, Written}
-use Rattle.csicodec_parser.specs.Groups.{group, has_odd}
-use Rattle.csicodec_parser.specs.Segments.{IsUnread}
-use Rattle.csicodec_actions.specs.Special.{IsNeverRead}
-use Rattle.csicodec_actions.specs.Table.{written}
 
 -- ---- attributes
 

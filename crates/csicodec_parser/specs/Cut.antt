@@ -1,10 +1,8 @@
 -- A list cut into blocks, said from the blocks to the list.
 use Rattle.std.specs.Prelude.{◌≡◌, ◌⊎◌, ℕ, suc, zero, List, [], ◌∷◌, ◌++◌, length, drop}
-use Rattle.csicodec_tokens.specs.declared.param.CsiParam.{CsiParam}
-use Rattle.csicodec_tokens.specs.declared.param.CsiParam.TheVariants.{P}
-use Rattle.csicodec_parser.specs.declared.group.Group.{Group}
+use Rattle.csicodec_tokens.specs.{declared.param.CsiParam.CsiParam, declared.param.CsiParam.TheVariants.P}
+use Rattle.csicodec_parser.specs.{declared.group.Group.Group, Groups.group, Groups.start, Groups.Piece}
 use Rattle.csicodec_actions.specs.Actions.{Action}
-use Rattle.csicodec_parser.specs.Groups.{group, start, Piece}
 
 -- `;`
 abbrev pub semicolon : CsiParam

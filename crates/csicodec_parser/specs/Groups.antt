@@ -1,19 +1,15 @@
 -- Which rules a list and its final fall under.
 use Rattle.std.specs.Prelude.{ℕ, ◌≡◌, ◌==◌, Bool, false, not, ◌||◌, List, ◌∷◌, Option, Some, None, if◌then◌else◌, pos, slice_get}
 use Rattle.std.specs.List.{list_any}
-use Rattle.csicodec_tokens.specs.declared.param.CsiParam.{CsiParam}
-use Rattle.csicodec_tokens.specs.declared.param.CsiParam.TheVariants.{Integer, P}
+use Rattle.csicodec_tokens.specs.{declared.param.CsiParam.CsiParam, declared.param.CsiParam.TheVariants.Integer, declared.param.CsiParam.TheVariants.P}
+use Rattle.csicodec_actions.specs.{declared.mode.DecPrivateMode.DecPrivateMode, declared.mode.TerminalMode.TerminalMode, Actions.Action, Actions.Sgr}
+use Rattle.csicodec_actions.specs.{Actions.Mode, Kinds.read, Kinds.Dec, Kinds.Terminal, Modes.changed, Modes.switched}
+use Rattle.csicodec_parser.specs.{declared.group.Group.Group, declared.group.Group.TheVariants.Whole, declared.group.Group.TheVariants.Styles}
+use Rattle.csicodec_parser.specs.{declared.group.Group.TheVariants.Modes, declared.group.Group.TheVariants.DecModes}
 use Rattle.csicodec_base.specs.declared.sgr.Sgr as sgr_type
 use Rattle.csicodec_base.specs.Pieces as sgr_pieces
 use Rattle.csicodec_actions.specs.declared.mode.Change.TheVariants as change
-use Rattle.csicodec_actions.specs.declared.mode.DecPrivateMode.{DecPrivateMode}
 use Rattle.csicodec_actions.specs.declared.mode.Switch.TheVariants as switch
-use Rattle.csicodec_actions.specs.declared.mode.TerminalMode.{TerminalMode}
-use Rattle.csicodec_parser.specs.declared.group.Group.{Group}
-use Rattle.csicodec_parser.specs.declared.group.Group.TheVariants.{Whole, Styles, Modes, DecModes}
-use Rattle.csicodec_actions.specs.Actions.{Action, Sgr, Mode}
-use Rattle.csicodec_actions.specs.Kinds.{read, Dec, Terminal}
-use Rattle.csicodec_actions.specs.Modes.{changed, switched}
 
 -- ---- the group of a list
 

@@ -2,13 +2,10 @@
 use Rattle.std.specs.Prelude.{ℕ, Bool, ◌≡◌, ◌+◌, ◌*◌, ◌≤◌, true, false, List, ◌∷◌, length, slice_get, unwrap_or, Option, Some, None, Ok, Err, Result}
 use Rattle.std.specs.declared.alloc.AllocError.{AllocError}
 use Rattle.csicodec_tokens.specs.declared.param.CsiParam.TheVariants.{P}
-use Rattle.csicodec_parser.specs.declared.actions.CSI.{CSI}
-use Rattle.csicodec_parser.specs.declared.parser.ActionRef.{ActionRef}
+use Rattle.csicodec_parser.specs.{declared.actions.CSI.CSI, declared.parser.ActionRef.ActionRef, ActionOf.action_of, Progress.Progress, Progress.ActionsOf}
+use Rattle.csicodec_parser.specs.{Progress.HasEnded}
+use Rattle.csicodec_actions.specs.{Actions.Action, Actions.TakesMemory, Actions.Unspecified, Table.boxed}
 use Rattle.csicodec_parser.specs.declared.parser.ActionRef.TheVariants as refs
-use Rattle.csicodec_actions.specs.Actions.{Action, TakesMemory, Unspecified}
-use Rattle.csicodec_actions.specs.Table.{boxed}
-use Rattle.csicodec_parser.specs.ActionOf.{action_of}
-use Rattle.csicodec_parser.specs.Progress.{Progress, ActionsOf, HasEnded}
 
 -- What `next` answers, all actions of the list being these.
 abbrev pub Answers : List Action → Progress → Option (Result CSI AllocError) → Progress → Type 0

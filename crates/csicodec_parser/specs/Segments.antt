@@ -1,13 +1,10 @@
 -- The segmentation: the actions of a list before its final character.
 use Rattle.std.specs.Prelude.{◌≡◌, ◌⊎◌, ℕ, Bool, List, [], ◌∷◌, ◌++◌, MatchBool}
 use Rattle.csicodec_tokens.specs.declared.param.CsiParam.{CsiParam}
+use Rattle.csicodec_parser.specs.{declared.group.Group.Group, Groups.group, Groups.marked, Groups.has_odd, Cut.body, Cut.Cut, Cut.IsStuck}
+use Rattle.csicodec_actions.specs.{Actions.Action, Actions.Sgr, Actions.Unspecified, Table.Whole}
 use Rattle.csicodec_base.specs.declared.sgr.Sgr.TheVariants as sgr
-use Rattle.csicodec_parser.specs.declared.group.Group.{Group}
 use Rattle.csicodec_parser.specs.declared.group.Group.TheVariants as groups
-use Rattle.csicodec_actions.specs.Actions.{Action, Sgr, Unspecified}
-use Rattle.csicodec_parser.specs.Groups.{group, marked, has_odd}
-use Rattle.csicodec_parser.specs.Cut.{body, Cut, IsStuck}
-use Rattle.csicodec_actions.specs.Table.{Whole}
 
 -- what is left after the last piece is one unknown action, unless nothing is left; among private modes it keeps its `?`
 abbrev pub remainder : Group → List CsiParam → Bool → ℕ → List Action

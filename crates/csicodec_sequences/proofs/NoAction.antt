@@ -1,28 +1,22 @@
 -- No row of the table reads a list that is read whole as an action: tests that are computed of each row and each row of actions before its final character.
 use Rattle.std.proofs.Common.{◌≡◌, ℕ, List, [], ◌∷◌, ◌++◌, Option, None, Some, ◌⊎◌, refl, sym, ap, ◌∙◌, inl, inr, subst, arith}
+use Rattle.std.proofs.{lemmas.Bool.and_parts, lemmas.Bool.cases_Bool, lemmas.Bool.eqb-true, lemmas.Option.same_Some}
 use Rattle.std.specs.Prelude.{ℤ, ◌==◌, ◌&&◌, ◌||◌, Bool, true, false, not, is_some, if◌then◌else◌, option_and_then, slice_get}
 use Rattle.std.specs.Option.{option_or}
-use Rattle.std.proofs.lemmas.Bool.{and_parts, cases_Bool, eqb-true}
-use Rattle.std.proofs.lemmas.Option.{same_Some}
-use Rattle.csicodec_tokens.specs.declared.param.CsiParam.{CsiParam}
-use Rattle.csicodec_tokens.specs.declared.param.CsiParam.TheVariants.{Integer, P}
-use Rattle.csicodec_tokens.specs.Fields.{fields_of, with_field}
-use Rattle.csicodec_actions.specs.Actions.{Action}
-use Rattle.csicodec_actions.specs.FieldRows as fields
+use Rattle.csicodec_tokens.specs.{declared.param.CsiParam.CsiParam, declared.param.CsiParam.TheVariants.Integer, declared.param.CsiParam.TheVariants.P}
+use Rattle.csicodec_tokens.specs.{Fields.fields_of, Fields.with_field}
 use Rattle.csicodec_actions.specs.FieldRows.{This, Empty, End, There, Must, FieldRow, ahead_of_byte, behind, behind_byte, byte, first, fits, have_shape, no_byte, over, read_fields, read_over}
-use Rattle.csicodec_actions.specs.Rows as actions
-use Rattle.csicodec_actions.specs.Rows.{Byte, Number, One, has_shape, read_by, rows_before}
-use Rattle.csicodec_actions.specs.Table as all_actions
-use Rattle.csicodec_actions.specs.Table.{field_table, whole}
-use Rattle.csicodec_actions.specs.Table.Window.{areas, windows}
-use Rattle.csicodec_actions.specs.Table.XtSmGraphics.{graphics_rows}
+use Rattle.csicodec_actions.specs.{Actions.Action, Rows.Byte, Rows.Number, Rows.One, Rows.has_shape, Rows.read_by, Rows.rows_before, Table.field_table}
+use Rattle.csicodec_actions.specs.{Table.whole, Table.Window.areas, Table.Window.windows, Table.XtSmGraphics.graphics_rows}
 use Rattle.csicodec_actions.proofs.AllRows.{whole-table}
-use Rattle.csicodec_sequences.specs.declared.row.NumberSlot.{NumberSlot}
-use Rattle.csicodec_sequences.specs.Known.{rows_of, table}
 use Rattle.csicodec_sequences.specs.Parts.{behind_separator, is_marker, split_field, without_intermediate, without_marker}
-use Rattle.csicodec_sequences.specs.Rows.{Row, is_within, read_row, slot_value, slot_values}
-use Rattle.csicodec_sequences.proofs.Table.{HasRead, each, has_read, must, row_at, slots-apart, slots_apart}
-use Rattle.csicodec_sequences.proofs.Values.{cut_end, stays, taken}
+use Rattle.csicodec_sequences.specs.{declared.row.NumberSlot.NumberSlot, Known.rows_of, Known.table, Rows.Row, Rows.is_within, Rows.read_row, Rows.slot_value}
+use Rattle.csicodec_sequences.specs.{Rows.slot_values}
+use Rattle.csicodec_sequences.proofs.{Table.HasRead, Table.each, Table.has_read, Table.must, Table.row_at, Table.slots-apart, Table.slots_apart, Values.cut_end}
+use Rattle.csicodec_sequences.proofs.{Values.stays, Values.taken}
+use Rattle.csicodec_actions.specs.FieldRows as fields
+use Rattle.csicodec_actions.specs.Rows as actions
+use Rattle.csicodec_actions.specs.Table as all_actions
 
 -- ---- the test of a row of actions over tokens
 

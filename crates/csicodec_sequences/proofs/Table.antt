@@ -1,19 +1,14 @@
 -- The rows of the table: tests of each row and of each two, which are computed, and what they say.
 use Rattle.std.proofs.Common.{◌≡◌, ◌<◌, ◌≤◌, ◌+◌, ◌*◌, ℕ, zero, suc, List, [], ◌∷◌, ◌++◌, Option, None, Some, length, drop, get_or, refl, sym, ap, ◌∙◌, inl, inr, pos, subst, arith, add-one, drop-cons}
+use Rattle.std.proofs.{lemmas.Bool.and_parts, lemmas.Bool.cases_Bool, lemmas.Int.ints, lemmas.List.drop_all, lemmas.Option.same_Some}
 use Rattle.std.specs.Prelude.{ℤ, nat_lt, ◌==◌, ◌&&◌, ◌||◌, Bool, true, false, not, is_some, if◌then◌else◌, slice_get}
 use Rattle.std.specs.Option.{option_map, option_or}
-use Rattle.std.proofs.lemmas.Bool.{and_parts, cases_Bool}
-use Rattle.std.proofs.lemmas.Int.{ints}
-use Rattle.std.proofs.lemmas.List.{drop_all}
-use Rattle.std.proofs.lemmas.Option.{same_Some}
-use Rattle.csicodec_tokens.specs.declared.param.CsiParam.{CsiParam}
-use Rattle.csicodec_tokens.specs.declared.param.CsiParam.TheVariants.{Integer, P}
-use Rattle.csicodec_tokens.specs.Sequence.{Apart, IsFinal, IsSpellable, Spellable}
-use Rattle.csicodec_sequences.specs.declared.row.SequenceForm.{SequenceForm}
-use Rattle.csicodec_sequences.specs.declared.row.NumberSlot.{NumberSlot}
+use Rattle.csicodec_tokens.specs.{declared.param.CsiParam.CsiParam, declared.param.CsiParam.TheVariants.Integer, declared.param.CsiParam.TheVariants.P}
+use Rattle.csicodec_tokens.specs.{Sequence.Apart, Sequence.IsFinal, Sequence.IsSpellable, Sequence.Spellable}
 use Rattle.csicodec_sequences.specs.Known.{are_rows, dec_rows, first_reading, other_rows, reading, report_rows, rows_of, table}
 use Rattle.csicodec_sequences.specs.Parts.{is_intermediate, is_marker, parts_of, split_field, without_intermediate, without_marker}
 use Rattle.csicodec_sequences.specs.Rows.{Row, are_missing_within, byte_tokens, each_behind, fit, has_its_bytes, is_final, is_row, is_within, joined, read_row, row_list, slot_value, slot_values}
+use Rattle.csicodec_sequences.specs.{declared.row.SequenceForm.SequenceForm, declared.row.NumberSlot.NumberSlot}
 use Rattle.csicodec_sequences.proofs.Values.{taken}
 
 -- ---- slots that no list is read by

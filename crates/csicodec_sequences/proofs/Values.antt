@@ -1,12 +1,11 @@
 -- Values as they are written and read: what fits is read back, what is read fits, and what is written is the text of its list.
 use Rattle.std.proofs.Common.{◌≡◌, ℕ, List, [], ◌∷◌, ◌++◌, Option, Some, refl, ap, arith, append-nil, append_assoc}
 use Rattle.std.specs.Prelude.{ℤ, true, false, ◌==◌, if◌then◌else◌, encode_utf8}
-use Rattle.csicodec_tokens.specs.declared.param.CsiParam.{CsiParam}
-use Rattle.csicodec_tokens.specs.declared.param.CsiParam.TheVariants.{Integer, P}
-use Rattle.csicodec_tokens.specs.Param.{spells}
-use Rattle.csicodec_sequences.specs.declared.row.NumberSlot.{NumberSlot}
+use Rattle.csicodec_tokens.specs.{declared.param.CsiParam.CsiParam, declared.param.CsiParam.TheVariants.Integer, declared.param.CsiParam.TheVariants.P}
+use Rattle.csicodec_tokens.specs.{Param.spells}
 use Rattle.csicodec_sequences.specs.Parts.{is_intermediate, is_marker, parts_of, split_field, with_front, without_intermediate, without_marker}
 use Rattle.csicodec_sequences.specs.Rows.{Row, are_missing_within, behind_text, byte_text, byte_tokens, each_behind, fit, form_text, has_its_bytes, is_row, joined, numbers_text, read_row, row_list, slot_value, slot_values, stops}
+use Rattle.csicodec_sequences.specs.declared.row.NumberSlot.{NumberSlot}
 
 -- ---- slots
 

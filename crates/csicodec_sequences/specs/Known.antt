@@ -1,14 +1,12 @@
 -- The table, and which of its rows reads a list.
-use Rattle.std.specs.Prelude.{◌&&◌, ◌++◌, ℕ, Bool, true, List, [], ◌∷◌, Option, None}
-use Rattle.std.specs.Option.{option_map, option_or}
+use Rattle.std.specs.{Prelude.◌&&◌, Prelude.◌++◌, Prelude.ℕ, Prelude.Bool, Prelude.true, Prelude.List, Prelude.[], Prelude.◌∷◌, Prelude.Option, Prelude.None}
+use Rattle.std.specs.{Option.option_map, Option.option_or}
 use Rattle.csicodec_tokens.specs.declared.param.CsiParam.{CsiParam}
+use Rattle.csicodec_sequences.specs.{declared.row.SequenceForm.SequenceForm, declared.row.NumberSlot.NumberSlot, declared.rows.dec.TheConstants.DEC_FORMS}
+use Rattle.csicodec_sequences.specs.{declared.rows.dec.TheConstants.DEC_SLOTS, declared.rows.others.TheConstants.OTHER_FORMS}
+use Rattle.csicodec_sequences.specs.{declared.rows.others.TheConstants.OTHER_SLOTS, declared.rows.reports.TheConstants.REPORT_FORMS}
+use Rattle.csicodec_sequences.specs.{declared.rows.reports.TheConstants.REPORT_SLOTS, Rows.Row, Rows.is_row, Rows.read_row}
 use Rattle.csicodec_sequences.specs.declared.known.KnownSequence as known_type
-use Rattle.csicodec_sequences.specs.declared.row.SequenceForm.{SequenceForm}
-use Rattle.csicodec_sequences.specs.declared.row.NumberSlot.{NumberSlot}
-use Rattle.csicodec_sequences.specs.declared.rows.dec.TheConstants.{DEC_FORMS, DEC_SLOTS}
-use Rattle.csicodec_sequences.specs.declared.rows.others.TheConstants.{OTHER_FORMS, OTHER_SLOTS}
-use Rattle.csicodec_sequences.specs.declared.rows.reports.TheConstants.{REPORT_FORMS, REPORT_SLOTS}
-use Rattle.csicodec_sequences.specs.Rows.{Row, is_row, read_row}
 
 -- a row of each form and its slots
 unfoldable pub rows_of : List SequenceForm → List (List NumberSlot) → List Row

@@ -1,8 +1,7 @@
 -- The parts of a parameter list: the byte at its front that makes it private, what stands between, and its intermediate byte (ECMA-48, 5.4).
 use Rattle.std.specs.Prelude.{ℕ, ℤ, nat_lt, not, ◌==◌, ◌&&◌, Bool, List, [], ◌∷◌, Option, Some, None, if◌then◌else◌}
 use Rattle.std.specs.Option.{option_map}
-use Rattle.csicodec_tokens.specs.declared.param.CsiParam.{CsiParam}
-use Rattle.csicodec_tokens.specs.declared.param.CsiParam.TheVariants.{Integer, P}
+use Rattle.csicodec_tokens.specs.{declared.param.CsiParam.CsiParam, declared.param.CsiParam.TheVariants.Integer, declared.param.CsiParam.TheVariants.P}
 
 -- one of `<` `=` `>` `?`
 abbrev pub is_marker : ℕ → Bool

@@ -1,13 +1,9 @@
 -- Rows of control sequences: which lists a row reads, as which values, and which list it writes of values.
 use Rattle.std.specs.Prelude.{ℕ, ℤ, pos, negsuc, nat_lt, not, ◌==◌, ◌&&◌, Bool, true, false, List, [], ◌∷◌, ◌++◌, Option, Some, None, if◌then◌else◌, option_and_then, encode_utf8}
-use Rattle.std.specs.Fmt.{decimal}
-use Rattle.std.specs.List.{flat_map}
-use Rattle.std.specs.Option.{option_map}
-use Rattle.csicodec_tokens.specs.declared.param.CsiParam.{CsiParam}
-use Rattle.csicodec_tokens.specs.declared.param.CsiParam.TheVariants.{Integer, P}
-use Rattle.csicodec_sequences.specs.declared.row.SequenceForm.{SequenceForm}
-use Rattle.csicodec_sequences.specs.declared.row.NumberSlot.{NumberSlot}
-use Rattle.csicodec_sequences.specs.Parts.{Parts, is_intermediate, is_marker, parts_of, split_field}
+use Rattle.std.specs.{Fmt.decimal, List.flat_map, Option.option_map}
+use Rattle.csicodec_tokens.specs.{declared.param.CsiParam.CsiParam, declared.param.CsiParam.TheVariants.Integer, declared.param.CsiParam.TheVariants.P}
+use Rattle.csicodec_sequences.specs.{declared.row.SequenceForm.SequenceForm, declared.row.NumberSlot.NumberSlot, Parts.Parts, Parts.is_intermediate}
+use Rattle.csicodec_sequences.specs.{Parts.is_marker, Parts.parts_of, Parts.split_field}
 
 -- a row: the bytes around its numbers, and which numbers it has
 pub record Row : Type 0 where

@@ -1,17 +1,16 @@
 -- What the tests of `table.rt` find in front of bytes is what the one row says that fits them.
 use Rattle.std.proofs.Common.{◌≡◌, ◌≢◌, ◌⊎◌, ℕ, List, [], ◌∷◌, ◌++◌, Some, refl, sym, ap, subst, ◌∙◌, inl, inr, arith}
+use Rattle.std.proofs.{lemmas.Bool.cases_Bool, lemmas.Bool.and_from, lemmas.Bool.eqb-true, lemmas.Bool.Decides.nat_tests}
 use Rattle.std.specs.Prelude.{◌==◌, ◌&&◌, Bool, true, false, nat_lt, slice_get, if◌then◌else◌}
-use Rattle.std.proofs.lemmas.Bool.{cases_Bool, and_from, eqb-true}
-use Rattle.std.proofs.lemmas.Bool.Decides.{nat_tests}
-use Rattle.csicodec_spans.specs.declared.table.Kind.TheVariants as kind
-use Rattle.csicodec_spans.specs.declared.table.Mode.{Mode}
-use Rattle.csicodec_spans.specs.declared.table.Mode.TheVariants as mode
-use Rattle.csicodec_spans.specs.declared.table.Ahead.{Ahead}
-use Rattle.csicodec_spans.specs.declared.table.Ahead.TheVariants.{GoesOn, Ends, New, Esc, Csi, Unsure}
 use Rattle.csicodec_spans.specs.Table.{More, Sequence, Undecided, ModeRow, mode_table, every_mode, holds_in, begin_with, fits_front, ahead, HasOneRow}
 use Rattle.csicodec_spans.specs.Private.TableBy.{is_within, opens_string, is_string, is_dcs, stays, ends, intermediate, opened, escape, look, meant}
-use Rattle.csicodec_spans.proofs.Apart.{one_row, said}
+use Rattle.csicodec_spans.specs.{declared.table.Mode.Mode, declared.table.Ahead.Ahead, declared.table.Ahead.TheVariants.GoesOn}
+use Rattle.csicodec_spans.specs.{declared.table.Ahead.TheVariants.Ends, declared.table.Ahead.TheVariants.New, declared.table.Ahead.TheVariants.Esc}
+use Rattle.csicodec_spans.specs.{declared.table.Ahead.TheVariants.Csi, declared.table.Ahead.TheVariants.Unsure}
 use Rattle.csicodec_spans.proofs.Fronts.{Sound, Told, escape_anew, final, kept_look, opener, string_anew, string_two, told_ends, told_left, told_stays, wrong_anew}
+use Rattle.csicodec_spans.proofs.Apart.{one_row, said}
+use Rattle.csicodec_spans.specs.declared.table.Kind.TheVariants as kind
+use Rattle.csicodec_spans.specs.declared.table.Mode.TheVariants as mode
 
 -- text has no end
 abbrev pub IsNoText : Mode → Ahead → Type 0

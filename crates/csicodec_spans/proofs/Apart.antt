@@ -1,12 +1,11 @@
 -- No two rows of the table of modes fit the same bytes: a test that is computed in each mode, over all pairs of rows and all bytes.
 use Rattle.std.proofs.Common.{◌≡◌, ◌∙◌, ◌<◌, ◌≤◌, ℕ, zero, suc, List, [], ◌∷◌, Some, refl, sym, ap, inl, inr, arith}
-use Rattle.std.specs.Prelude.{◌&&◌, ◌||◌, Bool, true, false, not, nat_lt, nat_le, slice_get}
 use Rattle.std.proofs.lemmas.Bool.{agree_below, agree_below_at, cases_Bool, cases_lt, and_parts, or_cases, false_from_ne_true}
-use Rattle.std.proofs.lemmas.Bool.Decides.{nat_tests}
-use Rattle.std.proofs.lemmas.Option.{same_Some}
+use Rattle.std.proofs.{lemmas.Bool.Decides.nat_tests, lemmas.Option.same_Some}
+use Rattle.std.specs.Prelude.{◌&&◌, ◌||◌, Bool, true, false, not, nat_lt, nat_le, slice_get}
+use Rattle.csicodec_spans.specs.Table.{Range, Spot, OneOf, NoneOf, End, ModeRow, mode_table, within, holds_in, takes, is_end, begin_with, fits_front, fitting, answer_of, ahead, HasOneRow}
 use Rattle.csicodec_spans.specs.declared.table.Mode.{Mode}
 use Rattle.csicodec_spans.specs.declared.table.Mode.TheVariants as mode
-use Rattle.csicodec_spans.specs.Table.{Range, Spot, OneOf, NoneOf, End, ModeRow, mode_table, within, holds_in, takes, is_end, begin_with, fits_front, fitting, answer_of, ahead, HasOneRow}
 
 -- the ranges end below 128, so that all bytes from there on are alike
 abbrev are_low : List Range → Bool

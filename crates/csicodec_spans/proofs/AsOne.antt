@@ -1,9 +1,7 @@
 -- Parts that are one: what is open goes on between any two of them.
 use Rattle.std.proofs.Common.{◌≡◌, ℕ, ◌<◌, List, [], ◌∷◌, ◌++◌, length, sym, ap, subst, ◌∙◌, inl, inr, append_assoc, arith}
 use Rattle.std.proofs.lemmas.List.{append_cancel_left, length-append}
-use Rattle.csicodec_spans.specs.declared.table.Mode.{Mode}
-use Rattle.csicodec_spans.specs.Table.{ahead}
-use Rattle.csicodec_spans.specs.Parts.{Part, AreFirstParts, AreOne, IsMore}
+use Rattle.csicodec_spans.specs.{declared.table.Mode.Mode, Table.ahead, Parts.Part, Parts.AreFirstParts, Parts.AreOne, Parts.IsMore}
 use Rattle.csicodec_tokens.proofs.Longer.{cuts}
 use Rattle.csicodec_spans.proofs.Once.{parts_off}
 

@@ -1,25 +1,18 @@
 -- Single parts, and runs of bytes that stay, as spans, which grow as far as what is open behind them goes on.
-use Rattle.std.proofs.Common.{◌≡◌, ◌≢◌, ◌⊎◌, ◌<◌, ◌≤◌, ◌+◌, ◌-◌, ◌%◌, ◌^◌, ◌∙◌, ℕ, zero, suc, Bool, true, false, not, ◌||◌, cond, eqb, Fits, w8, map}
-use Rattle.std.proofs.Common.{List, [], ◌∷◌, ◌++◌, length, take, drop, get_or, replicate, inl, inr, refl, sym, ap, subst, append_assoc, arith}
+use Rattle.std.proofs.Common.{◌≡◌, ◌≢◌, ◌⊎◌, ◌<◌, ◌≤◌, ◌+◌, ◌-◌, ◌%◌, ◌^◌, ◌∙◌, ℕ, zero, suc, Bool, true, false, not, ◌||◌, cond, eqb, Fits, w8, map, List, [], ◌∷◌, ◌++◌, length, take, drop, get_or, replicate, inl, inr, refl, sym, ap, subst, append_assoc, arith}
 use Rattle.std.proofs.lemmas.List.{length-take-le, take-append-drop, get_or-drop, get_or-map, get_or-take, length-map, length-replicate, map-id}
-use Rattle.csicodec_tokens.specs.Fault.{Begins}
-use Rattle.csicodec_spans.specs.declared.table.Kind.{Kind}
-use Rattle.csicodec_spans.specs.declared.table.Mode.{Mode}
-use Rattle.csicodec_spans.specs.declared.table.Mode.TheVariants as mode
-use Rattle.csicodec_spans.specs.declared.table.Ahead.{Ahead}
-use Rattle.csicodec_spans.specs.declared.table.Ahead.TheVariants.{GoesOn, Ends, New, Esc, Csi, Unsure}
-use Rattle.csicodec_spans.specs.Table.{Answer, More, Anew, ahead}
-use Rattle.csicodec_spans.specs.Private.TableBy.{kind_in, stays, look, meant}
-use Rattle.csicodec_spans.specs.Parts.{Part, part, Allows, AllowsCsi, IsUnsure, IsUnsureBy, IsMore, IsMaximal, Cuts, IsPlain, IsPlainFront}
-use Rattle.csicodec_spans.proofs.Fronts.{Sound}
-use Rattle.csicodec_spans.proofs.Agrees.{found, sound, Agrees, agrees}
-use Rattle.csicodec_spans.proofs.AsOne.{one_alone}
-use Rattle.csicodec_spans.proofs.Spanned.{join_cuts, one_span}
-use Rattle.std.proofs.lemmas.Bool.{agree_below, agree_below_at, cases_lt}
 use Rattle.std.proofs.lemmas.Simd.{Each1-get_or, get_or-replicate, get_or-zip2, leading_from_mask_l, length-zip2, map-map, mask_l-mod, tops_compared, trailing_mask_l}
-use Rattle.std.specs.List.{prefix_len}
-use Rattle.std.specs.Simd.Lanes.{Each1, mask_l, top, zip2}
+use Rattle.std.proofs.lemmas.Bool.{agree_below, agree_below_at, cases_lt}
+use Rattle.csicodec_tokens.specs.Fault.{Begins}
+use Rattle.csicodec_spans.specs.Parts.{Part, part, Allows, AllowsCsi, IsUnsure, IsUnsureBy, IsMore, IsMaximal, Cuts, IsPlain, IsPlainFront}
+use Rattle.csicodec_spans.specs.{declared.table.Kind.Kind, declared.table.Mode.Mode, declared.table.Ahead.Ahead, declared.table.Ahead.TheVariants.GoesOn}
+use Rattle.csicodec_spans.specs.{declared.table.Ahead.TheVariants.Ends, declared.table.Ahead.TheVariants.New, declared.table.Ahead.TheVariants.Esc}
+use Rattle.csicodec_spans.specs.{declared.table.Ahead.TheVariants.Csi, declared.table.Ahead.TheVariants.Unsure, Table.Answer, Table.More, Table.Anew}
+use Rattle.csicodec_spans.specs.{Table.ahead, Private.TableBy.kind_in, Private.TableBy.stays, Private.TableBy.look, Private.TableBy.meant}
+use Rattle.csicodec_spans.proofs.{Fronts.Sound, Agrees.found, Agrees.sound, Agrees.Agrees, Agrees.agrees, AsOne.one_alone, Spanned.join_cuts, Spanned.one_span}
+use Rattle.std.specs.{List.prefix_len, Simd.Lanes.Each1, Simd.Lanes.mask_l, Simd.Lanes.top, Simd.Lanes.zip2}
 use lib.Count.{count_trailing_zeros}
+use Rattle.csicodec_spans.specs.declared.table.Mode.TheVariants as mode
 use Rattle.csicodec_spans.specs.declared.table.Kind.TheVariants as kind
 
 -- each byte by itself

@@ -1,27 +1,16 @@
 -- The beginning of a control sequence and the bytes that come behind it; and what waited is cut as one part, once anything can be cut of it.
 use Rattle.std.proofs.Common.{Option, Some, None, MatchOption, ◌≡◌, ℕ, ◌+◌, ◌-◌, ◌*◌, ◌<◌, ◌≤◌, List, [], ◌∷◌, ◌++◌, length, drop, refl, sym, ap, subst, ◌∙◌, inl, inr, append_assoc, arith}
+use Rattle.std.proofs.{Math.Seq.take-append_seam, lemmas.List.length-append, lemmas.Bool.cases_lt}
 use Rattle.std.specs.List.{concat}
-use Rattle.std.proofs.Math.Seq.{take-append_seam}
-use Rattle.std.proofs.lemmas.List.{length-append}
-use Rattle.std.proofs.lemmas.Bool.{cases_lt}
-use Rattle.csicodec_tokens.specs.Body.{Adds, IsStopped, Stops}
-use Rattle.csicodec_tokens.specs.Fault.{IsBody, Begins}
-use Rattle.csicodec_tokens.proofs.Longer.{cuts}
-use Rattle.csicodec_tokens.proofs.Runs.{IsBody-front}
-use Rattle.csicodec_tokens.proofs.Walks.{none_begun}
-use Rattle.csicodec_spans.specs.declared.cut.Span.{Span}
-use Rattle.csicodec_spans.specs.declared.table.Kind.{Kind}
-use Rattle.csicodec_spans.specs.declared.table.Kind.TheVariants as kind
-use Rattle.csicodec_spans.specs.declared.table.Mode.{Mode}
-use Rattle.csicodec_spans.specs.Table.{Answer, Sequence, Undecided, ahead}
+use Rattle.csicodec_tokens.specs.{Body.Adds, Body.IsStopped, Body.Stops, Fault.IsBody, Fault.Begins}
+use Rattle.csicodec_tokens.proofs.{Longer.cuts, Runs.IsBody-front, Walks.none_begun}
 use Rattle.csicodec_spans.specs.Parts.{Part, AllowsCsi, Allows, IsFirstPart, AreFirstParts, IsUnsureBy, IsUnsure}
-use Rattle.csicodec_spans.specs.Waits.{AreCut, IsCut, HandsOut, cut_looks, looks_in}
-use Rattle.csicodec_spans.specs.Private.Begun.{Tells, IsBegun}
-use Rattle.csicodec_spans.proofs.Fronts.{Sound}
-use Rattle.csicodec_spans.proofs.Agrees.{opens, sound}
-use Rattle.csicodec_spans.proofs.OneSpan.{none_unsure}
-use Rattle.csicodec_spans.proofs.Spanned.{cut_parts, cut_some}
-use Rattle.csicodec_spans.proofs.Once.{no_later, not_begun, wrong_at}
+use Rattle.csicodec_spans.specs.{declared.cut.Span.Span, declared.table.Kind.Kind, declared.table.Mode.Mode, Table.Answer, Table.Sequence, Table.Undecided}
+use Rattle.csicodec_spans.specs.{Table.ahead, Waits.AreCut, Waits.IsCut, Waits.HandsOut, Waits.cut_looks, Waits.looks_in, Private.Begun.Tells}
+use Rattle.csicodec_spans.specs.{Private.Begun.IsBegun}
+use Rattle.csicodec_spans.proofs.{Fronts.Sound, Agrees.opens, Agrees.sound, OneSpan.none_unsure, Spanned.cut_parts, Spanned.cut_some, Once.no_later}
+use Rattle.csicodec_spans.proofs.{Once.not_begun, Once.wrong_at}
+use Rattle.csicodec_spans.specs.declared.table.Kind.TheVariants as kind
 
 -- ---- bytes of which nothing is sure
 

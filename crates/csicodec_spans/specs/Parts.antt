@@ -1,15 +1,12 @@
 -- The parts of a stream, as the table of modes says: what stands in front of bytes, whatever follows them.
-use Rattle.std.specs.Prelude.{ℕ, ◌≡◌, ◌≢◌, ◌<◌, ◌≤◌, ◌⊎◌, List, [], ◌∷◌, ◌++◌, length, take, drop}
-use Rattle.std.specs.List.{AllByRecursion, flat_map}
-use Rattle.csicodec_tokens.specs.declared.param.CsiParam.{CsiParam}
-use Rattle.csicodec_tokens.specs.declared.reader.ReadError.{ReadError}
-use Rattle.csicodec_tokens.specs.Sequence.{Seq}
-use Rattle.csicodec_tokens.specs.Fault.{Begins, FaultOf, IsMetAt}
-use Rattle.csicodec_spans.specs.declared.table.Kind.{Kind}
+use Rattle.std.specs.{Prelude.ℕ, Prelude.◌≡◌, Prelude.◌≢◌, Prelude.◌<◌, Prelude.◌≤◌, Prelude.◌⊎◌, Prelude.List, Prelude.[], Prelude.◌∷◌, Prelude.◌++◌}
+use Rattle.std.specs.{Prelude.length, Prelude.take, Prelude.drop, List.AllByRecursion, List.flat_map}
+use Rattle.csicodec_tokens.specs.{declared.param.CsiParam.CsiParam, declared.reader.ReadError.ReadError, Sequence.Seq, Fault.Begins, Fault.FaultOf}
+use Rattle.csicodec_tokens.specs.{Fault.IsMetAt}
+use Rattle.csicodec_spans.specs.{declared.table.Kind.Kind, declared.table.Mode.Mode, Table.Answer, Table.More, Table.Anew, Table.Sequence, Table.Undecided}
+use Rattle.csicodec_spans.specs.{Table.ahead}
 use Rattle.csicodec_spans.specs.declared.table.Kind.TheVariants as kind
-use Rattle.csicodec_spans.specs.declared.table.Mode.{Mode}
 use Rattle.csicodec_spans.specs.declared.table.Mode.TheVariants as mode
-use Rattle.csicodec_spans.specs.Table.{Answer, More, Anew, Sequence, Undecided, ahead}
 
 -- some bytes and what they are: a whole control sequence or escape sequence, or a few bytes of text, of a string or of
 -- what went wrong

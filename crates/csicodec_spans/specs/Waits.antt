@@ -1,9 +1,7 @@
 -- How often the bytes of a stream are looked at: those that wait, which are handed out, and those that are cut.
 use Rattle.std.specs.Prelude.{ℕ, ◌≡◌, ◌+◌, ◌*◌, ◌<◌, ◌⊎◌, List, [], ◌∷◌, ◌++◌, length}
 use mathlib.Core.Logic.{inl, inr}
-use Rattle.csicodec_spans.specs.declared.table.Mode.{Mode}
-use Rattle.csicodec_spans.specs.declared.cut.Span.{Span}
-use Rattle.csicodec_spans.specs.Parts.{Part, AreFirstParts, Cuts, IsUnsure}
+use Rattle.csicodec_spans.specs.{declared.table.Mode.Mode, declared.cut.Span.Span, Parts.Part, Parts.AreFirstParts, Parts.Cuts, Parts.IsUnsure}
 
 -- the bytes that wait, and how many looks at them were taken
 pub record Seen : Type 0 where

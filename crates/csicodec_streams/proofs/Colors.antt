@@ -1,36 +1,23 @@
 -- Colours with semicolons are read as the attributes that their normal forms are.
-use Rattle.std.proofs.Common.{◌≡◌, ℕ, zero, suc, ◌≤◌, ◌<◌, ◌+◌, ◌*◌, ◌-◌, ◌/◌, ◌%◌, ◌^◌, pos, Bool, cond, w8, List, [], ◌∷◌, ◌++◌, false, Some}
-use Rattle.std.proofs.Common.{eqb, get_or, length, map, take, drop, refl, sym, ap, subst, ◌∙◌, append_assoc, append-nil, length-append, arith}
-use Rattle.std.proofs.Math.Seq.{take-append-add, take-append_seam}
-use Rattle.std.proofs.lemmas.Bool.{lt-ltb, ne_eqb}
+use Rattle.std.proofs.Common.{◌≡◌, ℕ, zero, suc, ◌≤◌, ◌<◌, ◌+◌, ◌*◌, ◌-◌, ◌/◌, ◌%◌, ◌^◌, pos, Bool, cond, w8, List, [], ◌∷◌, ◌++◌, false, Some, eqb, get_or, length, map, take, drop, refl, sym, ap, subst, ◌∙◌, append_assoc, append-nil, length-append, arith}
 use Rattle.std.proofs.lemmas.Fmt.{decimal_digit, decimal_nonempty, digits_decimal, digits_value-decimal, length-decimal-le}
-use Rattle.std.proofs.lemmas.Int.{ints}
-use Rattle.std.proofs.lemmas.Simd.{tops_compared}
-use Rattle.std.proofs.lemmas.List.{map-append, take-map, take-take, take_all}
-use Rattle.std.specs.Fmt.{decimal}
-use Rattle.std.specs.Prelude.{Option, None, replicate}
-use Rattle.std.specs.Simd.Lanes.{sel_l, top, zip2}
-use Rattle.csicodec_tokens.specs.declared.param.CsiParam.{CsiParam}
-use Rattle.csicodec_tokens.specs.declared.param.CsiParam.TheVariants.{Integer, P}
-use Rattle.csicodec_tokens.specs.Digits.{AreDigits}
-use Rattle.csicodec_tokens.specs.Sequence.{IsSpellable, Reads, Spellable, Spells, SpellsToken}
+use Rattle.std.proofs.{Math.Seq.take-append-add, Math.Seq.take-append_seam, lemmas.Bool.lt-ltb, lemmas.Bool.ne_eqb, lemmas.Int.ints, lemmas.Simd.tops_compared}
+use Rattle.std.proofs.{lemmas.List.map-append, lemmas.List.take-map, lemmas.List.take-take, lemmas.List.take_all}
+use Rattle.std.specs.{Fmt.decimal, Prelude.Option, Prelude.None, Prelude.replicate, Simd.Lanes.sel_l, Simd.Lanes.top, Simd.Lanes.zip2}
+use Rattle.csicodec_tokens.specs.{declared.param.CsiParam.CsiParam, declared.param.CsiParam.TheVariants.Integer, declared.param.CsiParam.TheVariants.P}
+use Rattle.csicodec_tokens.specs.{Digits.AreDigits, Sequence.IsSpellable, Sequence.Reads, Sequence.Spellable, Sequence.Spells, Sequence.SpellsToken}
 use Rattle.csicodec_tokens.proofs.Decimal.{three_digits, two_digits}
-use Rattle.csicodec_names.specs.declared.color.ColorSpec.{ColorSpec}
-use Rattle.csicodec_names.specs.declared.color.ColorSpec.TheVariants.{Default, PaletteIndex, TrueColor}
-use Rattle.csicodec_names.specs.declared.color.SrgbaTuple.{SrgbaTuple}
-use Rattle.csicodec_base.specs.FrontBy.{piece}
-use Rattle.csicodec_base.specs.Shapes.{Back, Front, Line, Plane, painted}
-use Rattle.csicodec_base.specs.SgrText.{sgr_text}
-use Rattle.csicodec_base.specs.declared.sgr.Sgr as sgr_type
+use Rattle.csicodec_names.specs.{declared.color.ColorSpec.ColorSpec, declared.color.ColorSpec.TheVariants.Default}
+use Rattle.csicodec_names.specs.{declared.color.ColorSpec.TheVariants.PaletteIndex, declared.color.ColorSpec.TheVariants.TrueColor}
+use Rattle.csicodec_names.specs.{declared.color.SrgbaTuple.SrgbaTuple}
+use Rattle.csicodec_base.specs.{FrontBy.piece, Shapes.Back, Shapes.Front, Shapes.Line, Shapes.Plane, Shapes.painted, SgrText.sgr_text}
 use Rattle.csicodec_actions.specs.Actions.{Action, Sgr}
 use Rattle.csicodec_parser.proofs.Cuts.{actions_are}
-use Rattle.csicodec_parser.specs.Private.Steps.{actions}
-use Rattle.csicodec_parser.specs.Segments.{Actions}
-use Rattle.csicodec_streams.proofs.Known.{read_known, read_one, slice_from}
-use Rattle.csicodec_streams.proofs.Positions.{own}
-use Rattle.csicodec_streams.specs.Colors.{IsColored, IsOpaque, color_list, plane_byte}
-use Rattle.csicodec_streams.specs.Known.{IsNormal}
-use Rattle.csicodec_streams.specs.Private.Steps.{IsColor, IsPainted, IsPart, color_tokens, styles, with_colon}
+use Rattle.csicodec_parser.specs.{Private.Steps.actions, Segments.Actions}
+use Rattle.csicodec_streams.proofs.{Known.read_known, Known.read_one, Known.slice_from, Positions.own}
+use Rattle.csicodec_streams.specs.{Colors.IsColored, Colors.IsOpaque, Colors.color_list, Colors.plane_byte, Known.IsNormal, Private.Steps.IsColor}
+use Rattle.csicodec_streams.specs.{Private.Steps.IsPainted, Private.Steps.IsPart, Private.Steps.color_tokens, Private.Steps.styles, Private.Steps.with_colon}
+use Rattle.csicodec_base.specs.declared.sgr.Sgr as sgr_type
 
 -- ---- parts
 

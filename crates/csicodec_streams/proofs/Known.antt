@@ -1,23 +1,15 @@
 -- Normal forms that are known.
-use Rattle.std.proofs.Common.{◌≡◌, ℕ, zero, suc, ◌+◌, ◌-◌, ◌%◌, ◌^◌, ◌<◌, ◌≤◌, Bool, true, false, not, cond, eqb, w8, map}
-use Rattle.std.proofs.Common.{List, [], ◌∷◌, ◌++◌, length, take, drop, refl, sym, ap, subst, ◌∙◌, append_assoc, arith}
-use Rattle.std.proofs.Math.Seq.{take-append_seam, take-append-add, drop-append_seam}
+use Rattle.std.proofs.Common.{◌≡◌, ℕ, zero, suc, ◌+◌, ◌-◌, ◌%◌, ◌^◌, ◌<◌, ◌≤◌, Bool, true, false, not, cond, eqb, w8, map, List, [], ◌∷◌, ◌++◌, length, take, drop, refl, sym, ap, subst, ◌∙◌, append_assoc, arith}
 use Rattle.std.proofs.lemmas.List.{map-id, take-append-drop, take-take, take_all, length-append, length-drop, length-take}
-use Rattle.std.proofs.lemmas.Bool.{eqb-true}
 use Rattle.std.proofs.lemmas.Simd.{leading_from_mask_l, length-zip2, mask_l-mod, tops_compared, trailing_mask_l}
-use Rattle.std.specs.List.{prefix_len}
-use Rattle.std.specs.Simd.Lanes.{mask_l, top, zip2}
+use Rattle.std.proofs.{Math.Seq.take-append_seam, Math.Seq.take-append-add, Math.Seq.drop-append_seam, lemmas.Bool.eqb-true}
+use Rattle.std.specs.{List.prefix_len, Simd.Lanes.mask_l, Simd.Lanes.top, Simd.Lanes.zip2}
 use lib.Count.{count_trailing_zeros}
-use Rattle.csicodec_tokens.specs.declared.param.CsiParam.{CsiParam}
-use Rattle.csicodec_tokens.specs.Sequence.{Reads}
-use Rattle.csicodec_actions.specs.Actions.{Action}
-use Rattle.csicodec_actions.specs.Table.{text, texts}
+use Rattle.csicodec_tokens.specs.{declared.param.CsiParam.CsiParam, Sequence.Reads}
+use Rattle.csicodec_actions.specs.{Actions.Action, Table.text, Table.texts}
 use Rattle.csicodec_parser.specs.Segments.{Actions}
-use Rattle.csicodec_streams.specs.Decoding.{Decodes}
-use Rattle.csicodec_streams.specs.Known.{IsOne}
-use Rattle.csicodec_streams.specs.Private.Steps.{DecodesFront}
-use Rattle.csicodec_streams.proofs.OneReading.{one_sequence}
-use Rattle.csicodec_streams.proofs.Streamed.{front_on}
+use Rattle.csicodec_streams.specs.{Decoding.Decodes, Known.IsOne, Private.Steps.DecodesFront}
+use Rattle.csicodec_streams.proofs.{OneReading.one_sequence, Streamed.front_on}
 
 -- the texts of actions, and then of more
 pub texts_joined : (xs ys : List Action) → texts (xs ++ ys) ≡ texts xs ++ texts ys

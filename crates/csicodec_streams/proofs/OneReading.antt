@@ -1,15 +1,10 @@
 -- Bytes have one reading, and readings join.
 use Rattle.std.proofs.Common.{ℕ, ◌≡◌, ◌<◌, List, [], ◌∷◌, ◌++◌, Bool, false, length, refl, sym, ap, subst, ◌∙◌, arith, append_assoc, append-nil}
 use Rattle.std.specs.List.{AllByRecursion}
-use Rattle.csicodec_tokens.specs.declared.param.CsiParam.{CsiParam}
-use Rattle.csicodec_tokens.specs.declared.reader.ReadError.{ReadError}
-use Rattle.csicodec_tokens.specs.Sequence.{Seq}
-use Rattle.csicodec_tokens.specs.Fault.{NoSeq, Fault}
-use Rattle.csicodec_tokens.proofs.Unique.{one_seq}
-use Rattle.csicodec_tokens.proofs.OneFault.{one_fault}
-use Rattle.csicodec_actions.specs.Actions.{Action}
+use Rattle.csicodec_tokens.specs.{declared.param.CsiParam.CsiParam, declared.reader.ReadError.ReadError, Sequence.Seq, Fault.NoSeq, Fault.Fault}
+use Rattle.csicodec_tokens.proofs.{Unique.one_seq, OneFault.one_fault}
+use Rattle.csicodec_actions.specs.{Actions.Action, Table.text, Table.texts}
 use Rattle.csicodec_parser.specs.Segments.{Actions}
-use Rattle.csicodec_actions.specs.Table.{text, texts}
 use Rattle.csicodec_streams.specs.Decoding.{Joins, AreActions, Decodes, FaultAt}
 use Rattle.csicodec_parser.proofs.Cuts.{one_segmentation}
 

@@ -1,28 +1,19 @@
 -- A position whose numbers are written as a codec writes them is its own normal form.
-use Rattle.std.proofs.Common.{◌≡◌, ℕ, zero, ◌<◌, ◌≤◌, ◌+◌, ◌-◌, ◌^◌, false, List, [], ◌∷◌, ◌++◌, suc, get_or, length}
-use Rattle.std.proofs.Common.{take, drop, refl, sym, ap, subst, ◌∙◌, append_assoc, append-nil, inl, arith, rules}
-use Rattle.std.proofs.Math.Seq.{take-append_seam}
-use Rattle.std.proofs.lemmas.Fmt.{decimal-digits_value, decimal_digit}
-use Rattle.std.proofs.lemmas.List.{length-append, length-take, take-append-drop, take_all}
-use Rattle.std.proofs.lemmas.Str.Parse.{IsNumeralModel, digits_value_short, numerals_by_fold}
+use Rattle.std.proofs.Common.{◌≡◌, ℕ, zero, ◌<◌, ◌≤◌, ◌+◌, ◌-◌, ◌^◌, false, List, [], ◌∷◌, ◌++◌, suc, get_or, length, take, drop, refl, sym, ap, subst, ◌∙◌, append_assoc, append-nil, inl, arith, rules}
+use Rattle.std.proofs.{Math.Seq.take-append_seam, lemmas.Fmt.decimal-digits_value, lemmas.Fmt.decimal_digit, lemmas.List.length-append, lemmas.List.length-take}
+use Rattle.std.proofs.{lemmas.List.take-append-drop, lemmas.List.take_all, lemmas.Str.Parse.IsNumeralModel, lemmas.Str.Parse.digits_value_short}
+use Rattle.std.proofs.{lemmas.Str.Parse.numerals_by_fold}
 use Rattle.std.specs.Fmt.{decimal}
-use Rattle.csicodec_tokens.specs.Digits.{AreDigits, value, value_after}
-use Rattle.csicodec_tokens.specs.Sequence.{Seq}
-use Rattle.csicodec_tokens.proofs.Printed.{printed}
-use Rattle.csicodec_tokens.proofs.Reading.{first_cut}
-use Rattle.csicodec_tokens.specs.Param.{spells}
-use Rattle.csicodec_actions.specs.Actions as action
-use Rattle.csicodec_actions.specs.Kinds.{Count, IsOneBased}
-use Rattle.csicodec_actions.specs.Table.{text}
-use Rattle.csicodec_actions.specs.Written.{Written, tokens, two, write, written_text}
-use Rattle.csicodec_actions.specs.declared.cursor.Cursor.{Cursor}
-use Rattle.csicodec_actions.specs.declared.cursor.Cursor.TheVariants as cursor
-use Rattle.csicodec_actions.proofs.Back.{read-back}
-use Rattle.csicodec_actions.proofs.Items.{IsRead, Sound, sound}
+use Rattle.csicodec_tokens.specs.{Digits.AreDigits, Digits.value, Digits.value_after, Sequence.Seq, Param.spells}
+use Rattle.csicodec_tokens.proofs.{Printed.printed, Reading.first_cut}
+use Rattle.csicodec_actions.specs.{Kinds.Count, Kinds.IsOneBased, Table.text, Written.Written, Written.tokens, Written.two, Written.write, Written.written_text}
+use Rattle.csicodec_actions.specs.{declared.cursor.Cursor.Cursor}
+use Rattle.csicodec_actions.proofs.{Back.read-back, Items.IsRead, Items.Sound, Items.sound}
 use Rattle.csicodec_parser.specs.Segments.{Actions}
-use Rattle.csicodec_streams.specs.Known.{IsNormal, IsPosition}
-use Rattle.csicodec_streams.specs.Private.Steps.{IsNumber}
+use Rattle.csicodec_streams.specs.{Known.IsNormal, Known.IsPosition, Private.Steps.IsNumber}
 use Rattle.csicodec_streams.proofs.OneReading.{one_sequence}
+use Rattle.csicodec_actions.specs.Actions as action
+use Rattle.csicodec_actions.specs.declared.cursor.Cursor.TheVariants as cursor
 
 -- ---- numbers
 

@@ -1,24 +1,15 @@
 -- Sequences and their actions put behind others, and a stream that is decoded as it is read.
 use Rattle.std.proofs.Common.{◌≡◌, ℕ, ◌+◌, ◌-◌, ◌<◌, Bool, true, false, Option, Some, None, List, [], ◌++◌, length, drop, refl, sym, ap, subst, ◌∙◌, append_assoc, append-nil, arith, ◌∷◌, take, take-append-drop}
-use Rattle.std.specs.Prelude.{IfSome, Result, Ok, Err, OnErr}
-use Rattle.std.specs.Io.KnownBytes.{Consumes, IsAtEnd}
-use Rattle.std.proofs.KnownBytes.{Consumes-all}
-use Rattle.std.proofs.Math.Seq.{drop-append_seam}
-use Rattle.std.proofs.lemmas.List.{length-append, take_rest}
-use Rattle.csicodec_actions.specs.Table.{texts}
-use Rattle.csicodec_tokens.specs.declared.reader.ReadError.{ReadError}
-use Rattle.csicodec_tokens.specs.declared.reader.ReadError.TheVariants as errors
-use Rattle.csicodec_tokens.specs.Fault.{Refuses, FaultOf}
+use Rattle.std.proofs.{KnownBytes.Consumes-all, Math.Seq.drop-append_seam, lemmas.List.length-append, lemmas.List.take_rest}
+use Rattle.std.specs.{Prelude.IfSome, Prelude.Result, Prelude.Ok, Prelude.Err, Prelude.OnErr, Io.KnownBytes.Consumes, Io.KnownBytes.IsAtEnd}
+use Rattle.csicodec_actions.specs.{Table.texts, Actions.Action}
+use Rattle.csicodec_tokens.specs.{declared.reader.ReadError.ReadError, Fault.Refuses, Fault.FaultOf, declared.param.CsiParam.CsiParam, Sequence.Reads}
 use Rattle.csicodec_tokens.proofs.Longer.{fault_more}
-use Rattle.csicodec_actions.specs.Actions.{Action}
-use Rattle.csicodec_streams.specs.Decoding.{Decodes, Joins, FaultAt}
-use Rattle.csicodec_streams.specs.declared.error.DecodeError.{DecodeError}
-use Rattle.csicodec_streams.specs.Private.Steps.{DecodesFront, stays}
-use Rattle.csicodec_streams.specs.Refusals.{RefusesDecode, RefusesRun, refusal_of, run_refusal}
+use Rattle.csicodec_streams.specs.{Decoding.Decodes, Decoding.Joins, Decoding.FaultAt, declared.error.DecodeError.DecodeError, Private.Steps.DecodesFront}
+use Rattle.csicodec_streams.specs.{Private.Steps.stays, Refusals.RefusesDecode, Refusals.RefusesRun, Refusals.refusal_of, Refusals.run_refusal}
 use Rattle.csicodec_streams.proofs.OneReading.{decodes-append, decodes-one, fault_apart}
-use Rattle.csicodec_tokens.specs.declared.param.CsiParam.{CsiParam}
-use Rattle.csicodec_tokens.specs.Sequence.{Reads}
 use Rattle.csicodec_parser.specs.Segments.{Actions}
+use Rattle.csicodec_tokens.specs.declared.reader.ReadError.TheVariants as errors
 use Rattle.csicodec_streams.specs.declared.error.DecodeError.TheVariants as decode_errors
 
 -- what was held decodes further

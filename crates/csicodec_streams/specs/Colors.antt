@@ -1,10 +1,8 @@
 -- The sequences that give a colour with semicolons, as `ESC[38;2;1;2;3m` and `ESC[48;5;100m`: no number has a 0 in front.
-use Rattle.std.specs.Prelude.{ℕ, ◌≡◌, ◌<◌, ◌∷◌, ◌++◌, List, []}
-use Rattle.std.specs.Fmt.{decimal}
-use Rattle.csicodec_names.specs.declared.color.ColorSpec.{ColorSpec}
-use Rattle.csicodec_names.specs.declared.color.ColorSpec.TheVariants.{Default, PaletteIndex, TrueColor}
-use Rattle.csicodec_base.specs.Shapes.{Plane, Front, Back, Line, painted}
-use Rattle.csicodec_base.specs.declared.sgr.Sgr.{Sgr}
+use Rattle.std.specs.{Prelude.ℕ, Prelude.◌≡◌, Prelude.◌<◌, Prelude.◌∷◌, Prelude.◌++◌, Prelude.List, Prelude.[], Fmt.decimal}
+use Rattle.csicodec_names.specs.{declared.color.ColorSpec.ColorSpec, declared.color.ColorSpec.TheVariants.Default}
+use Rattle.csicodec_names.specs.{declared.color.ColorSpec.TheVariants.PaletteIndex, declared.color.ColorSpec.TheVariants.TrueColor}
+use Rattle.csicodec_base.specs.{Shapes.Plane, Shapes.Front, Shapes.Back, Shapes.Line, Shapes.painted, declared.sgr.Sgr.Sgr}
 
 -- the first digit of the code of a plane's colours, which is 38, 48 or 58
 abbrev pub plane_byte : Plane → ℕ

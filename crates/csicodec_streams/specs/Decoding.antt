@@ -1,11 +1,7 @@
 -- Bytes as sequences, one after the other, and all their actions.
 use Rattle.std.specs.Prelude.{ℕ, ◌≡◌, ◌<◌, List, [], ◌∷◌, ◌++◌, Bool, false, length}
-use Rattle.csicodec_tokens.specs.declared.param.CsiParam.{CsiParam}
-use Rattle.csicodec_tokens.specs.declared.reader.ReadError.{ReadError}
-use Rattle.csicodec_tokens.specs.Sequence.{Seq}
-use Rattle.csicodec_tokens.specs.Fault.{FaultOf}
-use Rattle.csicodec_actions.specs.Actions.{Action}
-use Rattle.csicodec_actions.specs.Table.{texts}
+use Rattle.csicodec_tokens.specs.{declared.param.CsiParam.CsiParam, declared.reader.ReadError.ReadError, Sequence.Seq, Fault.FaultOf}
+use Rattle.csicodec_actions.specs.{Actions.Action, Table.texts}
 use Rattle.csicodec_parser.specs.Segments.{Actions}
 
 -- the bytes are the sequences of these lists and finals, one after the other

@@ -1,14 +1,11 @@
 -- What a table of sequences that came before holds.
-use Rattle.std.specs.Prelude.{ℕ, ◌≡◌, ◌<◌, ◌≤◌, false, List, [], ◌∷◌, Some, length, slice_get, take}
-use Rattle.std.specs.List.{All}
-use Rattle.csicodec_tokens.specs.declared.param.CsiParam.{CsiParam}
-use Rattle.csicodec_tokens.specs.Sequence.{Seq}
-use Rattle.csicodec_actions.specs.Actions as action
-use Rattle.csicodec_actions.specs.Table.{text}
-use Rattle.csicodec_actions.specs.declared.cursor.Cursor.{Cursor}
+use Rattle.std.specs.{Prelude.ℕ, Prelude.◌≡◌, Prelude.◌<◌, Prelude.◌≤◌, Prelude.false, Prelude.List, Prelude.[], Prelude.◌∷◌, Prelude.Some, Prelude.length}
+use Rattle.std.specs.{Prelude.slice_get, Prelude.take, List.All}
+use Rattle.csicodec_tokens.specs.{declared.param.CsiParam.CsiParam, Sequence.Seq}
+use Rattle.csicodec_actions.specs.{Table.text, declared.cursor.Cursor.Cursor}
 use Rattle.csicodec_parser.specs.Segments.{Actions}
-use Rattle.csicodec_streams.specs.declared.memo.Slot.{Slot}
-use Rattle.csicodec_streams.specs.Decoding.{NormalisesTo}
+use Rattle.csicodec_streams.specs.{declared.memo.Slot.Slot, Decoding.NormalisesTo}
+use Rattle.csicodec_actions.specs.Actions as action
 
 -- the bytes are one control sequence
 abbrev pub IsOne : List ℕ → Type 0

@@ -1,15 +1,11 @@
 -- What a decoding and a run over a stream answer.
 use Rattle.std.specs.Prelude.{ℕ, Bool, false, List, Option, IfSome}
-use Rattle.csicodec_tokens.specs.declared.param.CsiParam.{CsiParam}
-use Rattle.csicodec_tokens.specs.declared.reader.ReadError.{ReadError}
-use Rattle.csicodec_tokens.specs.declared.reader.ReadError.TheVariants as read_errors
-use Rattle.csicodec_tokens.specs.Sequence.{Reads}
-use Rattle.csicodec_streams.specs.declared.error.DecodeError.{DecodeError}
-use Rattle.csicodec_streams.specs.declared.error.DecodeError.TheVariants as decode_errors
-use Rattle.csicodec_streams.specs.declared.error.RunError.{RunError}
-use Rattle.csicodec_streams.specs.declared.error.RunError.TheVariants as run_errors
+use Rattle.csicodec_tokens.specs.{declared.param.CsiParam.CsiParam, declared.reader.ReadError.ReadError, Sequence.Reads}
+use Rattle.csicodec_streams.specs.{declared.error.DecodeError.DecodeError, declared.error.RunError.RunError, Decoding.Decodes, Decoding.FaultAt}
 use Rattle.csicodec_actions.specs.Actions.{Action}
-use Rattle.csicodec_streams.specs.Decoding.{Decodes, FaultAt}
+use Rattle.csicodec_tokens.specs.declared.reader.ReadError.TheVariants as read_errors
+use Rattle.csicodec_streams.specs.declared.error.DecodeError.TheVariants as decode_errors
+use Rattle.csicodec_streams.specs.declared.error.RunError.TheVariants as run_errors
 
 -- why these bytes may be refused so: their own fault, at which they have no actions; memory only behind a sequence
 abbrev pub RefusesDecode : List ℕ → Bool → DecodeError → Type 0

@@ -1,10 +1,9 @@
 -- What each error of a stream says, and the status of a program that ends with it.
 use Rattle.std.specs.Prelude.{ℕ, ◌+◌, ◌^◌, List, Option, None, Some, codes, if◌then◌else◌, nat_lt, option_and_then}
-use Rattle.csicodec_tokens.specs.declared.reader.ReadError.TheVariants as errors
 use Rattle.csicodec_tokens.specs.Words.{place, read_error_text}
-use Rattle.csicodec_streams.specs.declared.error.DecodeError.{DecodeError}
+use Rattle.csicodec_streams.specs.{declared.error.DecodeError.DecodeError, declared.error.RunError.RunError}
+use Rattle.csicodec_tokens.specs.declared.reader.ReadError.TheVariants as errors
 use Rattle.csicodec_streams.specs.declared.error.DecodeError.TheVariants as decode
-use Rattle.csicodec_streams.specs.declared.error.RunError.{RunError}
 use Rattle.csicodec_streams.specs.declared.error.RunError.TheVariants as run
 
 -- the byte of the whole input, where it is a number of 64 bits

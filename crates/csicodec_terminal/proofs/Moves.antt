@@ -2,8 +2,7 @@
 use Rattle.std.specs.Prelude.{ℤ, ◌↔◌}
 use Rattle.std.proofs.Common.{◌≡◌, ℕ, zero, suc, ◌<◌, ◌≤◌, true, false, List, [], ◌∷◌, length, drop, Option, Some, None, refl, sym, subst, inl, inr, arith, length-drop}
 use Rattle.std.proofs.lemmas.Bool.{cases_Bool}
-use Rattle.csicodec_tokens.specs.declared.param.CsiParam.{CsiParam}
-use Rattle.csicodec_tokens.specs.Fields.{Fields, fields_of}
+use Rattle.csicodec_tokens.specs.{declared.param.CsiParam.CsiParam, Fields.Fields, Fields.fields_of}
 use Rattle.csicodec_parser.specs.Groups.{is_byte}
 use Rattle.csicodec_terminal.specs.Terminal.{behind, past_semicolon, up_to}
 

@@ -4,15 +4,13 @@ use Rattle.std.proofs.Common.{◌≡◌, ℕ, ◌||◌, Bool, true, false, List,
 use Rattle.std.proofs.lemmas.Option.{some_pair_parts}
 use Rattle.csicodec_tokens.specs.declared.param.CsiParam.{CsiParam}
 use Rattle.csicodec_tokens.proofs.Unique.{one_seq}
-use Rattle.csicodec_parser.specs.declared.group.Group.{Group}
-use Rattle.csicodec_parser.specs.declared.group.Group.TheVariants.{Whole, Styles, Modes, DecModes}
+use Rattle.csicodec_parser.specs.{declared.group.Group.Group, declared.group.Group.TheVariants.Whole, declared.group.Group.TheVariants.Styles}
+use Rattle.csicodec_parser.specs.{declared.group.Group.TheVariants.Modes, declared.group.Group.TheVariants.DecModes, Groups.group, Groups.marked}
+use Rattle.csicodec_parser.specs.{Segments.Actions}
 use Rattle.csicodec_actions.specs.Actions.{Action, Unspecified}
-use Rattle.csicodec_parser.specs.Groups.{group, marked}
-use Rattle.csicodec_parser.specs.Segments.{Actions}
-use Rattle.csicodec_parser.proofs.Cuts.{one_segmentation}
-use Rattle.csicodec_parser.proofs.Fronts.{piece_front, front_fits}
-use Rattle.csicodec_terminal.specs.Regular.{regular}
+use Rattle.csicodec_parser.proofs.{Cuts.one_segmentation, Fronts.piece_front, Fronts.front_fits}
 use Rattle.csicodec_terminal.specs.Terminal.{Anew, IsTakenFor, Step, Steps, Terminal, behind, has_unknown, is_open, known_or}
+use Rattle.csicodec_terminal.specs.Regular.{regular}
 
 step_one : (g : Group) (flag : Bool) (final : ℕ) (rest : List CsiParam) (k j : ℕ) (x y : Action) → Step g flag final rest k x → Step g flag final rest j y → (k ≡ j) × (x ≡ y)
 step_one g flag final rest k j x y (inl p) (inl q) =

@@ -1,12 +1,8 @@
 -- The regular list: what a terminal takes a list of parameters for (ECMA-48, 5.4.2; xterm, ctlseqs, "Functions using CSI").
 use Rattle.std.specs.Prelude.{ℕ, ℤ, ◌==◌, ◌&&◌, ◌||◌, ◌^◌, if◌then◌else◌, Bool, true, false, List, [], ◌∷◌, Option, Some, None, nat_lt, pos, negsuc, length, slice_index_or}
 use Rattle.std.specs.List.{list_any}
-use Rattle.csicodec_tokens.specs.declared.param.CsiParam.{CsiParam}
-use Rattle.csicodec_tokens.specs.declared.param.CsiParam.TheVariants.{Integer}
-use Rattle.csicodec_tokens.specs.Fields.{fields_of}
-use Rattle.csicodec_tokens.specs.OneBased.{most}
-use Rattle.csicodec_parser.specs.Cut.{semicolon}
-use Rattle.csicodec_parser.specs.Groups.{is_byte}
+use Rattle.csicodec_tokens.specs.{declared.param.CsiParam.CsiParam, declared.param.CsiParam.TheVariants.Integer, Fields.fields_of, OneBased.most}
+use Rattle.csicodec_parser.specs.{Cut.semicolon, Groups.is_byte}
 
 -- ---- lists that are read whole
 

@@ -1,15 +1,11 @@
 -- How a terminal reads a list of parameters before a final, where the table of actions reads nothing of it or less (ECMA-48, 5.4.2 and 8.3.117; xterm, ctlseqs).
 use Rattle.std.specs.Prelude.{ℕ, suc, ◌≡◌, ◌⊎◌, ◌-◌, ◌<◌, ◌==◌, ◌&&◌, ◌||◌, not, if◌then◌else◌, Bool, true, false, MatchBool, List, [], ◌∷◌, length, take, drop, Some, pos, slice_get}
 use Rattle.std.specs.List.{list_any}
-use Rattle.csicodec_tokens.specs.declared.param.CsiParam.{CsiParam}
-use Rattle.csicodec_tokens.specs.declared.param.CsiParam.TheVariants.{Integer, P}
-use Rattle.csicodec_tokens.specs.Sequence.{Seq}
-use Rattle.csicodec_parser.specs.declared.group.Group.{Group}
-use Rattle.csicodec_parser.specs.declared.group.Group.TheVariants.{Whole, Styles}
+use Rattle.csicodec_tokens.specs.{declared.param.CsiParam.CsiParam, declared.param.CsiParam.TheVariants.Integer, declared.param.CsiParam.TheVariants.P}
+use Rattle.csicodec_tokens.specs.{Sequence.Seq}
+use Rattle.csicodec_parser.specs.{declared.group.Group.Group, declared.group.Group.TheVariants.Whole, declared.group.Group.TheVariants.Styles, Cut.body}
+use Rattle.csicodec_parser.specs.{Cut.IsStuck, Groups.group, Groups.is_byte, Groups.marked, Groups.Piece, Segments.Actions}
 use Rattle.csicodec_actions.specs.Actions.{Action, Unspecified}
-use Rattle.csicodec_parser.specs.Cut.{body, IsStuck}
-use Rattle.csicodec_parser.specs.Groups.{group, is_byte, marked, Piece}
-use Rattle.csicodec_parser.specs.Segments.{Actions}
 use Rattle.csicodec_terminal.specs.Regular.{filled, regular}
 
 -- ---- where the table reads nothing, or less

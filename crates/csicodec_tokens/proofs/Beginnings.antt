@@ -1,17 +1,13 @@
 -- The beginnings of sequences are the bytes that go on to a sequence.
 use Rattle.std.proofs.Common.{◌≡◌, ℕ, ℤ, pos, List, [], ◌∷◌, ◌++◌, length, refl, sym, ap, subst, inl, inr, arith, ◌+◌, ◌-◌, get_or, ◌∙◌, append_assoc}
 use Rattle.std.proofs.lemmas.List.{length-append}
-use Rattle.csicodec_tokens.specs.declared.param.CsiParam.{CsiParam}
-use Rattle.csicodec_tokens.specs.declared.param.CsiParam.TheVariants.{Integer, P}
-use Rattle.csicodec_tokens.specs.Digits.{IsDigit, value}
-use Rattle.csicodec_tokens.specs.Sequence.{Spells, Apart, Spellable, Seq, IsBodyByte, IsFinal, Reads}
-use Rattle.csicodec_tokens.specs.Fault.{IsBody, Begins, IsBad, FaultOf}
+use Rattle.csicodec_tokens.specs.{declared.param.CsiParam.CsiParam, declared.param.CsiParam.TheVariants.Integer, declared.param.CsiParam.TheVariants.P}
+use Rattle.csicodec_tokens.specs.{Digits.IsDigit, Digits.value, Sequence.Spells, Sequence.Apart, Sequence.Spellable, Sequence.Seq, Sequence.IsBodyByte}
+use Rattle.csicodec_tokens.specs.{Sequence.IsFinal, Sequence.Reads, Fault.IsBody, Fault.Begins, Fault.IsBad, Fault.FaultOf}
+use Rattle.csicodec_tokens.specs.{declared.reader.ReadError.TheVariants.BadByte, declared.reader.ReadError.TheVariants.NumberTooLarge}
+use Rattle.csicodec_tokens.specs.{declared.reader.ReadError.TheVariants.Truncated, Body.Adds, Body.IsStopped}
 use Rattle.csicodec_tokens.proofs.Spelled.{cut_cases, IsBody-from_spelling, StopsAt, bad_byte, large_byte, cut_short}
-use Rattle.csicodec_tokens.proofs.Reading.{IsSpellable-number}
-use Rattle.csicodec_tokens.proofs.Runs.{IsBody-front, IsBody-back, digit_or_other}
-use Rattle.csicodec_tokens.specs.declared.reader.ReadError.TheVariants.{BadByte, NumberTooLarge, Truncated}
-use Rattle.csicodec_tokens.specs.Body.{Adds, IsStopped}
-use Rattle.csicodec_tokens.proofs.Walks.{none_begun}
+use Rattle.csicodec_tokens.proofs.{Reading.IsSpellable-number, Runs.IsBody-front, Runs.IsBody-back, Runs.digit_or_other, Walks.none_begun}
 
 -- ---- each body spells a list
 

@@ -1,7 +1,7 @@
 -- The decimal text of a number, digit by digit.
 use Rattle.std.proofs.Common.{ℕ, ◌≡◌, ◌≤◌, ◌<◌, ◌+◌, ◌/◌, ◌%◌, ◌^◌, [], ◌∷◌, ◌∙◌, ap, append_assoc, length, length-append, arith, refl}
-use Rattle.std.specs.Fmt.{decimal}
 use Rattle.std.proofs.lemmas.Fmt.{decimal_digit, decimal_step, length-decimal-le}
+use Rattle.std.specs.Fmt.{decimal}
 
 pub two_digits : (n : ℕ) → 10 ≤ n → n < 100 → decimal n ≡ (48 + n / 10) ∷ (48 + n % 10) ∷ []
 two_digits n above below = rw (decimal_step n above (omega arith), decimal_digit (n / 10) (omega arith)) refl

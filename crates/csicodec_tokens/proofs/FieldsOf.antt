@@ -1,14 +1,10 @@
 -- The fields of a list are those that are computed, and no others.
 use Rattle.std.proofs.Common.{◌≡◌, ℕ, ℤ, ◌<◌, true, List, [], ◌∷◌, ◌++◌, length, Option, Some, None, refl, sym, ap, subst, ◌∙◌, inl, inr, arith}
-use Rattle.std.specs.Prelude.{◌==◌, ◌↔◌, Bool, if◌then◌else◌}
-use Rattle.std.specs.List.{list_all}
-use Rattle.std.proofs.lemmas.Bool.{and_parts, cases_Bool, eqb-true}
-use Rattle.std.proofs.lemmas.Option.{same_Some}
-use Rattle.csicodec_tokens.specs.declared.param.CsiParam.{CsiParam}
-use Rattle.csicodec_tokens.specs.declared.param.CsiParam.TheVariants.{Integer, P}
-use Rattle.csicodec_tokens.specs.declared.refusal.ParseRefusal.TheVariants.{Memory}
+use Rattle.std.proofs.{lemmas.Bool.and_parts, lemmas.Bool.cases_Bool, lemmas.Bool.eqb-true, lemmas.Option.same_Some}
+use Rattle.std.specs.{Prelude.◌==◌, Prelude.◌↔◌, Prelude.Bool, Prelude.if◌then◌else◌, List.list_all}
 use Rattle.csicodec_tokens.specs.Fields.{separator, BeginsEmpty, IsBlock, Fields, RefusesFields, fields_of, with_field}
-use Rattle.csicodec_tokens.specs.Private.FieldsBy.{is_field_token}
+use Rattle.csicodec_tokens.specs.{declared.param.CsiParam.CsiParam, declared.param.CsiParam.TheVariants.Integer, declared.param.CsiParam.TheVariants.P}
+use Rattle.csicodec_tokens.specs.{declared.refusal.ParseRefusal.TheVariants.Memory, Private.FieldsBy.is_field_token}
 
 -- ---- fields are computed
 

@@ -1,9 +1,8 @@
 -- From the mask of one load to the bytes in front that are of a class.
 use Rattle.std.proofs.Common.{◌≡◌, ℕ, ◌+◌, ◌%◌, ◌^◌, ◌<◌, ◌≤◌, Bool, true, not, cond, List, [], ◌∷◌, map, length, get_or, take, Fits, w8, refl, ap, ◌∙◌, arith}
+use Rattle.std.proofs.{lemmas.Bool.agree_below, lemmas.Bool.agree_below_at, lemmas.List.length-map, lemmas.List.length-take-le, lemmas.Simd.chunk-fits}
+use Rattle.std.proofs.{lemmas.Simd.first_set_mask_l, lemmas.Simd.map-map, lemmas.Simd.mask_l-mod}
 use Rattle.std.specs.List.{prefix_len}
-use Rattle.std.proofs.lemmas.Bool.{agree_below, agree_below_at}
-use Rattle.std.proofs.lemmas.List.{length-map, length-take-le}
-use Rattle.std.proofs.lemmas.Simd.{chunk-fits, first_set_mask_l, map-map, mask_l-mod}
 use lib.Lanes.{Each1, mask_l, top}
 use Rattle.csicodec_tokens.specs.Private.Walking.{first_set}
 

@@ -1,12 +1,9 @@
 -- A fault stays what it is, whatever follows the bytes that have it.
 use Rattle.std.proofs.Common.{◌≡◌, ℕ, ◌+◌, ◌<◌, ◌⊎◌, List, [], ◌∷◌, ◌++◌, length, get_or, take, drop, refl, sym, ap, subst, ◌∙◌, inl, inr, append_assoc, arith}
-use Rattle.std.proofs.Math.ListN.{get_or-append}
-use Rattle.std.proofs.lemmas.List.{length-append, take-append-le, take-append-drop}
-use Rattle.csicodec_tokens.specs.declared.param.CsiParam.{CsiParam}
-use Rattle.csicodec_tokens.specs.declared.reader.ReadError.{ReadError}
+use Rattle.std.proofs.{Math.ListN.get_or-append, lemmas.List.length-append, lemmas.List.take-append-le, lemmas.List.take-append-drop}
 use Rattle.csicodec_tokens.specs.declared.reader.ReadError.TheVariants.{NotCsi, BadByte, NumberTooLarge, Truncated, Memory}
-use Rattle.csicodec_tokens.specs.Sequence.{Seq}
-use Rattle.csicodec_tokens.specs.Fault.{Begins, NoSeq, IsLeast, IsBad, FaultOf, IsMetAt}
+use Rattle.csicodec_tokens.specs.{declared.param.CsiParam.CsiParam, declared.reader.ReadError.ReadError, Sequence.Seq, Fault.Begins, Fault.NoSeq, Fault.IsLeast}
+use Rattle.csicodec_tokens.specs.{Fault.IsBad, Fault.FaultOf, Fault.IsMetAt}
 use Rattle.csicodec_tokens.proofs.Beginnings.{begins}
 
 -- one list cut twice: the first cut is the later or the same, or the second is the later

@@ -1,8 +1,7 @@
 -- Bytes have one fault.
 use Rattle.std.proofs.Common.{ℕ, ◌≡◌, zero, suc, ◌+◌, ◌<◌, List, take, sym, ap, ◌∙◌, inl, inr, arith, refl}
-use Rattle.csicodec_tokens.specs.declared.reader.ReadError.{ReadError}
 use Rattle.csicodec_tokens.specs.declared.reader.ReadError.TheVariants.{NotCsi, BadByte, NumberTooLarge, Truncated, Memory}
-use Rattle.csicodec_tokens.specs.Fault.{Begins, IsLeast, Fault}
+use Rattle.csicodec_tokens.specs.{declared.reader.ReadError.ReadError, Fault.Begins, Fault.IsLeast, Fault.Fault}
 use Rattle.csicodec_tokens.proofs.Spelled.{IsBody-take}
 
 -- the fronts of a beginning are beginnings

@@ -1,16 +1,10 @@
 -- The printed text of a list is one of its spellings.
 use Rattle.std.proofs.Common.{◌≡◌, ℕ, pos, negsuc, ◌^◌, ◌<◌, ◌≤◌, List, [], ◌∷◌, ◌++◌, refl, sym, ap, arith, rules}
-use Rattle.std.proofs.lemmas.Fmt.{digits_decimal, digits_value-decimal, decimal_nonempty}
-use Rattle.std.proofs.lemmas.Int.{ints}
-use Rattle.std.proofs.lemmas.Str.{encode_ascii}
-use Rattle.std.proofs.lemmas.Str.Parse.{IsNumeralModel, numerals_by_fold}
-use Rattle.std.specs.Fmt.{decimal}
-use Rattle.std.specs.Prelude.{encode_utf8}
-use Rattle.csicodec_tokens.specs.declared.param.CsiParam.{CsiParam}
-use Rattle.csicodec_tokens.specs.declared.param.CsiParam.TheVariants.{Integer, P}
-use Rattle.csicodec_tokens.specs.Digits.{AreDigits, value_after, value, largest}
-use Rattle.csicodec_tokens.specs.Param.{spells}
-use Rattle.csicodec_tokens.specs.Sequence.{Spells, Spellable}
+use Rattle.std.proofs.{lemmas.Fmt.digits_decimal, lemmas.Fmt.digits_value-decimal, lemmas.Fmt.decimal_nonempty, lemmas.Int.ints, lemmas.Str.encode_ascii}
+use Rattle.std.proofs.{lemmas.Str.Parse.IsNumeralModel, lemmas.Str.Parse.numerals_by_fold}
+use Rattle.std.specs.{Fmt.decimal, Prelude.encode_utf8}
+use Rattle.csicodec_tokens.specs.{declared.param.CsiParam.CsiParam, declared.param.CsiParam.TheVariants.Integer, declared.param.CsiParam.TheVariants.P}
+use Rattle.csicodec_tokens.specs.{Digits.AreDigits, Digits.value_after, Digits.value, Digits.largest, Param.spells, Sequence.Spells, Sequence.Spellable}
 use Rattle.csicodec_tokens.proofs.Spelled.{not_above}
 
 own : IsNumeralModel AreDigits value

@@ -1,18 +1,13 @@
 -- From what was read to what the reader answers.
 use Rattle.std.proofs.Common.{◌≡◌, ℕ, pos, ◌+◌, ◌-◌, ◌*◌, ◌<◌, ◌≤◌, suc, List, [], ◌∷◌, ◌++◌, length, get_or, take, drop, refl, sym, ap, subst, ◌∙◌, append_assoc, arith}
-use Rattle.std.proofs.lemmas.Int.{ints}
-use Rattle.std.proofs.lemmas.List.{append-nil, length-append, take_all}
-use Rattle.csicodec_tokens.specs.declared.param.CsiParam.{CsiParam}
-use Rattle.csicodec_tokens.specs.declared.param.CsiParam.TheVariants.{Integer}
-use Rattle.csicodec_tokens.specs.declared.reader.ReadError.{ReadError}
+use Rattle.std.proofs.{lemmas.Int.ints, lemmas.List.append-nil, lemmas.List.length-append, lemmas.List.take_all}
 use Rattle.csicodec_tokens.specs.declared.reader.ReadError.TheVariants.{BadByte, NumberTooLarge, Truncated, Memory}
-use Rattle.csicodec_tokens.specs.Digits.{IsDigit, AreDigits, value, largest}
-use Rattle.csicodec_tokens.specs.Sequence.{IsFinal, SpellsToken, Spells, IsSpellable, Spellable, Reads}
-use Rattle.csicodec_tokens.specs.Fault.{IsBody, IsBad, FaultOf, Refuses}
 use Rattle.csicodec_tokens.specs.Private.Reading.{IsRun, IsNumber, IsTooLarge, IsFirstToken, EndsWhole, HasRead}
+use Rattle.csicodec_tokens.specs.{declared.param.CsiParam.CsiParam, declared.param.CsiParam.TheVariants.Integer, declared.reader.ReadError.ReadError}
+use Rattle.csicodec_tokens.specs.{Digits.IsDigit, Digits.AreDigits, Digits.value, Digits.largest, Sequence.IsFinal, Sequence.SpellsToken, Sequence.Spells}
+use Rattle.csicodec_tokens.specs.{Sequence.IsSpellable, Sequence.Spellable, Sequence.Reads, Fault.IsBody, Fault.IsBad, Fault.FaultOf, Fault.Refuses}
 use Rattle.csicodec_tokens.proofs.Spelled.{nonempty, bad_byte, large_number, cut_short, IsBody-from_spelling, Spells-push, Spellable-push, EndsWhole-push}
-use Rattle.csicodec_tokens.proofs.Runs.{value_push, AreDigits-push}
-use Rattle.csicodec_tokens.proofs.Unique.{one_seq}
+use Rattle.csicodec_tokens.proofs.{Runs.value_push, Runs.AreDigits-push, Unique.one_seq}
 
 pub first_cut : (xs : List ℕ) → 1 ≤ length xs → xs ≡ get_or xs 0 0 ∷ take (length xs - 1) (drop 1 xs)
 first_cut [] le = absurd (omega arith)

@@ -1,11 +1,8 @@
 -- Bodies of sequences byte by byte: runs of digits that end where a text ends.
 use Rattle.std.proofs.Common.{◌≡◌, ℕ, ◌+◌, ◌-◌, ◌*◌, ◌≤◌, ◌⊎◌, List, [], ◌∷◌, ◌++◌, refl, sym, ap, subst, ◌∙◌, inl, inr, append_assoc, arith}
+use Rattle.std.proofs.{lemmas.Bool.cases_lt, lemmas.List.append-nil}
 use Rattle.std.specs.List.{AllByRecursion}
-use Rattle.std.proofs.lemmas.Bool.{cases_lt}
-use Rattle.std.proofs.lemmas.List.{append-nil}
-use Rattle.csicodec_tokens.specs.Digits.{IsDigit, AreDigits, value_after, value, largest}
-use Rattle.csicodec_tokens.specs.Sequence.{IsBodyByte}
-use Rattle.csicodec_tokens.specs.Fault.{IsBody}
+use Rattle.csicodec_tokens.specs.{Digits.IsDigit, Digits.AreDigits, Digits.value_after, Digits.value, Digits.largest, Sequence.IsBodyByte, Fault.IsBody}
 
 -- a text with one more byte, cut in two: the byte is the last of either part
 pub snoc_cases : (a b c : List ℕ) (x : ℕ) → a ++ x ∷ [] ≡ b ++ c

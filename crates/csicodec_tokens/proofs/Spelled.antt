@@ -1,16 +1,14 @@
 -- Lists of tokens and their spellings, which are bodies, and which fault bytes have that begin with no sequence.
 use Rattle.std.proofs.Common.{ℕ, ℤ, ◌<◌, List, [], ◌∷◌, ◌++◌, length, refl, sym, ap, subst, ◌∙◌, append_assoc, arith, ◌≡◌, pos, ◌+◌, ◌-◌, ◌*◌, ◌≤◌, ◌≤ℤ◌, zero, suc, ◌⊎◌, get_or, take, drop, inl, inr}
-use Rattle.std.proofs.lemmas.List.{append-nil, length-append, take-append-drop, take-take}
-use Rattle.csicodec_tokens.specs.declared.param.CsiParam.{CsiParam}
-use Rattle.csicodec_tokens.specs.declared.param.CsiParam.TheVariants.{Integer, P}
-use Rattle.csicodec_tokens.specs.Digits.{AreDigits, value_after, value, largest, IsDigit}
+use Rattle.std.proofs.{lemmas.List.append-nil, lemmas.List.length-append, lemmas.List.take-append-drop, lemmas.List.take-take, lemmas.Int.ints}
+use Rattle.std.proofs.{Math.Seq.take-append_seam, Math.Seq.take-append-add, Math.Seq.get_or-append_seam}
 use Rattle.csicodec_tokens.specs.Sequence.{SpellsToken, Spells, IsSpellable, Apart, Spellable, IsBodyByte, IsFinal, Seq}
-use Rattle.csicodec_tokens.specs.Private.Reading.{BeginsWithDigit, IsWhole, EndsWhole}
-use Rattle.std.proofs.lemmas.Int.{ints}
-use Rattle.csicodec_tokens.specs.Fault.{IsBody, Begins, NoSeq, IsLeast, IsBad, FaultOf}
+use Rattle.csicodec_tokens.specs.{declared.param.CsiParam.CsiParam, declared.param.CsiParam.TheVariants.Integer, declared.param.CsiParam.TheVariants.P}
+use Rattle.csicodec_tokens.specs.{Digits.AreDigits, Digits.value_after, Digits.value, Digits.largest, Digits.IsDigit, Private.Reading.BeginsWithDigit}
+use Rattle.csicodec_tokens.specs.{Private.Reading.IsWhole, Private.Reading.EndsWhole, Fault.IsBody, Fault.Begins, Fault.NoSeq, Fault.IsLeast, Fault.IsBad}
+use Rattle.csicodec_tokens.specs.{Fault.FaultOf, declared.reader.ReadError.TheVariants.BadByte, declared.reader.ReadError.TheVariants.NumberTooLarge}
+use Rattle.csicodec_tokens.specs.{declared.reader.ReadError.TheVariants.Truncated}
 use Rattle.csicodec_tokens.proofs.Runs.{value_grows, Ends, Ends-none, Ends-digit, Ends-other, All-back, AreDigits-push, IsBody-front}
-use Rattle.std.proofs.Math.Seq.{take-append_seam, take-append-add, get_or-append_seam}
-use Rattle.csicodec_tokens.specs.declared.reader.ReadError.TheVariants.{BadByte, NumberTooLarge, Truncated}
 
 begins_with_run : (run rest : List ℕ) → 0 < length run → AreDigits run → BeginsWithDigit (run ++ rest)
 begins_with_run [] rest lt h = absurd (omega arith)

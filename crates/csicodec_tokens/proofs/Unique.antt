@@ -1,12 +1,10 @@
 -- A text spells one spellable list, and no sequence begins another.
 use Rattle.std.proofs.Common.{◌≡◌, ℕ, ℤ, pos, List, [], ◌∷◌, ◌++◌, length, refl, sym, ap, subst, ◌∙◌, append_assoc, arith}
-use Rattle.std.specs.List.{AllByRecursion}
 use Rattle.std.proofs.lemmas.List.{length-append}
-use Rattle.csicodec_tokens.specs.declared.param.CsiParam.{CsiParam}
-use Rattle.csicodec_tokens.specs.declared.param.CsiParam.TheVariants.{Integer, P}
-use Rattle.csicodec_tokens.specs.Digits.{IsDigit, AreDigits, value}
-use Rattle.csicodec_tokens.specs.Sequence.{IsBodyByte, IsFinal, Spells, Apart, Spellable, Seq}
-use Rattle.csicodec_tokens.specs.Private.Reading.{BeginsWithDigit}
+use Rattle.std.specs.List.{AllByRecursion}
+use Rattle.csicodec_tokens.specs.{declared.param.CsiParam.CsiParam, declared.param.CsiParam.TheVariants.Integer, declared.param.CsiParam.TheVariants.P}
+use Rattle.csicodec_tokens.specs.{Digits.IsDigit, Digits.AreDigits, Digits.value, Sequence.IsBodyByte, Sequence.IsFinal, Sequence.Spells, Sequence.Apart}
+use Rattle.csicodec_tokens.specs.{Sequence.Spellable, Sequence.Seq, Private.Reading.BeginsWithDigit}
 use Rattle.csicodec_tokens.proofs.Spelled.{IsBody-from_spelling, begins_with_number, nonempty}
 
 not_nil : (text : List ℕ) (t : CsiParam) (list : List CsiParam) → Spells text (t ∷ list) → text ≡ [] → ⊥

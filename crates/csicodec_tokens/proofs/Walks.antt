@@ -1,17 +1,11 @@
 -- A walk over the body of a control sequence, byte by byte and sixteen at once.
-use Rattle.std.proofs.Common.{true, false, Option, Some, None, MatchOption, ◌≡◌, ℕ, zero, suc, ◌+◌, ◌-◌, ◌*◌, ◌<◌, ◌≤◌, List, []}
-use Rattle.std.proofs.Common.{◌∷◌, ◌++◌, length, take, drop, get_or, refl, sym, ap, subst, ◌∙◌, inl, inr, append_assoc, arith}
+use Rattle.std.proofs.Common.{true, false, Option, Some, None, MatchOption, ◌≡◌, ℕ, zero, suc, ◌+◌, ◌-◌, ◌*◌, ◌<◌, ◌≤◌, List, [], ◌∷◌, ◌++◌, length, take, drop, get_or, refl, sym, ap, subst, ◌∙◌, inl, inr, append_assoc, arith}
+use Rattle.std.proofs.{lemmas.Bool.Decides.nat_tests, Math.Seq.drop-cons, lemmas.List.append-nil, lemmas.List.get_or-take, lemmas.List.length-take-le}
+use Rattle.std.proofs.{lemmas.List.take-append-drop, lemmas.List.take_more, lemmas.List.Elements.All-from_get_or, lemmas.List.Elements.recursion_from_All}
+use Rattle.std.proofs.{lemmas.List.Sums.prefix_len-le-length, lemmas.List.Sums.prefix_len_passes, lemmas.List.Sums.prefix_len_stops}
 use Rattle.std.specs.List.{AllByRecursion, prefix_len}
-use Rattle.std.proofs.lemmas.Bool.Decides.{nat_tests}
-use Rattle.std.proofs.Math.Seq.{drop-cons}
-use Rattle.std.proofs.lemmas.List.{append-nil, get_or-take, length-take-le, take-append-drop, take_more}
-use Rattle.std.proofs.lemmas.List.Elements.{All-from_get_or, recursion_from_All}
-use Rattle.std.proofs.lemmas.List.Sums.{prefix_len-le-length, prefix_len_passes, prefix_len_stops}
-use Rattle.csicodec_tokens.specs.Digits.{IsDigit, largest}
-use Rattle.csicodec_tokens.specs.Sequence.{IsBodyByte}
-use Rattle.csicodec_tokens.specs.Fault.{IsBody}
-use Rattle.csicodec_tokens.specs.Body.{EndsIn, Adds, Stops, IsStopped}
-use Rattle.csicodec_tokens.specs.Private.Walking.{body_byte, IsWalked}
+use Rattle.csicodec_tokens.specs.{Digits.IsDigit, Digits.largest, Sequence.IsBodyByte, Fault.IsBody, Body.EndsIn, Body.Adds, Body.Stops, Body.IsStopped}
+use Rattle.csicodec_tokens.specs.{Private.Walking.body_byte, Private.Walking.IsWalked}
 use Rattle.csicodec_tokens.proofs.Runs.{digit_or_other, value_push, AreDigits-push, All-back, All-front, Ends, Ends-none, Ends-digit, Ends-other}
 
 ends : (body : List ℕ) (n : ℕ) → EndsIn body n → Ends body n

@@ -1,7 +1,6 @@
 -- What bytes make of the body of a control sequence, which is all between ESC, '[' and the final byte: they go on with it, or stop it.
 use Rattle.std.specs.Prelude.{ℕ, ◌≡◌, ◌≤◌, List, [], ◌∷◌, ◌++◌}
-use Rattle.csicodec_tokens.specs.Digits.{AreDigits, value}
-use Rattle.csicodec_tokens.specs.Fault.{IsBody}
+use Rattle.csicodec_tokens.specs.{Digits.AreDigits, Digits.value, Fault.IsBody}
 
 -- intermediate and parameter bytes, and the value of the digits at their end
 pub record EndsIn (body : List ℕ) (number : ℕ) : Type 0 where

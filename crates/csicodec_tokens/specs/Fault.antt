@@ -1,11 +1,9 @@
 -- What stands in front of bytes: a control sequence, or the fault that keeps them from beginning with one.
-use Rattle.std.specs.Prelude.{◌≡◌, ℕ, ◌+◌, ◌≤◌, ◌<◌, ◌⊎◌, List, [], ◌∷◌, ◌++◌, length, take, slice_index}
-use Rattle.std.specs.List.{AllByRecursion}
-use Rattle.csicodec_tokens.specs.declared.param.CsiParam.{CsiParam}
-use Rattle.csicodec_tokens.specs.declared.reader.ReadError.{ReadError}
+use Rattle.std.specs.{Prelude.◌≡◌, Prelude.ℕ, Prelude.◌+◌, Prelude.◌≤◌, Prelude.◌<◌, Prelude.◌⊎◌, Prelude.List, Prelude.[], Prelude.◌∷◌, Prelude.◌++◌}
+use Rattle.std.specs.{Prelude.length, Prelude.take, Prelude.slice_index, List.AllByRecursion}
 use Rattle.csicodec_tokens.specs.declared.reader.ReadError.TheVariants.{NotCsi, BadByte, NumberTooLarge, Truncated, Memory}
-use Rattle.csicodec_tokens.specs.Digits.{AreDigits, value, largest}
-use Rattle.csicodec_tokens.specs.Sequence.{IsBodyByte, Reads}
+use Rattle.csicodec_tokens.specs.{declared.param.CsiParam.CsiParam, declared.reader.ReadError.ReadError, Digits.AreDigits, Digits.value, Digits.largest}
+use Rattle.csicodec_tokens.specs.{Sequence.IsBodyByte, Sequence.Reads}
 
 -- intermediate and parameter bytes in any order, in which no run of digits has a value above the largest
 pub record IsBody (text : List ℕ) : Type 0 where

@@ -1,9 +1,8 @@
 -- Fields of a parameter list: optional numbers, each with its block of tokens.
 use Rattle.std.specs.Prelude.{◌≡◌, ℤ, ◌<◌, ◌==◌, ◌⊎◌, if◌then◌else◌, List, [], ◌∷◌, ◌++◌, length, Option, Some, None}
-use Rattle.csicodec_tokens.specs.declared.param.CsiParam.{CsiParam}
-use Rattle.csicodec_tokens.specs.declared.param.CsiParam.TheVariants.{Integer, P}
-use Rattle.csicodec_tokens.specs.declared.refusal.ParseRefusal.{ParseRefusal}
-use Rattle.csicodec_tokens.specs.declared.refusal.ParseRefusal.TheVariants.{NotSpelled, Memory}
+use Rattle.csicodec_tokens.specs.{declared.param.CsiParam.CsiParam, declared.param.CsiParam.TheVariants.Integer, declared.param.CsiParam.TheVariants.P}
+use Rattle.csicodec_tokens.specs.{declared.refusal.ParseRefusal.ParseRefusal, declared.refusal.ParseRefusal.TheVariants.NotSpelled}
+use Rattle.csicodec_tokens.specs.{declared.refusal.ParseRefusal.TheVariants.Memory}
 
 -- `;`, the separator 03/11 of ECMA-48
 abbrev pub separator : CsiParam

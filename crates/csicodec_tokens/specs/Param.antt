@@ -1,9 +1,6 @@
 -- The tokens of a parameter list, and the texts that they print.
-use Rattle.std.specs.Prelude.{ℕ, ℤ, List, Option, Some, None, encode_utf8}
-use Rattle.std.specs.Fmt.{signed_decimal}
-use Rattle.std.specs.List.{flat_map}
-use Rattle.csicodec_tokens.specs.declared.param.CsiParam.{CsiParam}
-use Rattle.csicodec_tokens.specs.declared.param.CsiParam.TheVariants.{Integer, P}
+use Rattle.std.specs.{Prelude.ℕ, Prelude.ℤ, Prelude.List, Prelude.Option, Prelude.Some, Prelude.None, Prelude.encode_utf8, Fmt.signed_decimal, List.flat_map}
+use Rattle.csicodec_tokens.specs.{declared.param.CsiParam.CsiParam, declared.param.CsiParam.TheVariants.Integer, declared.param.CsiParam.TheVariants.P}
 
 -- the number of a token that is one
 abbrev pub number_of : CsiParam → Option ℤ

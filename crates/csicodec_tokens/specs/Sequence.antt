@@ -1,8 +1,7 @@
 -- Control sequences (ECMA-48, 5.4): ESC and '[', a spelling of a list of tokens, and a final byte.
 use Rattle.std.specs.Prelude.{◌≡◌, ℕ, ◌≤◌, ◌<◌, pos, ◌≤ℤ◌, List, [], ◌∷◌, ◌++◌, length}
-use Rattle.csicodec_tokens.specs.declared.param.CsiParam.{CsiParam}
-use Rattle.csicodec_tokens.specs.declared.param.CsiParam.TheVariants.{Integer, P}
-use Rattle.csicodec_tokens.specs.Digits.{IsDigit, AreDigits, value, largest}
+use Rattle.csicodec_tokens.specs.{declared.param.CsiParam.CsiParam, declared.param.CsiParam.TheVariants.Integer, declared.param.CsiParam.TheVariants.P}
+use Rattle.csicodec_tokens.specs.{Digits.IsDigit, Digits.AreDigits, Digits.value, Digits.largest}
 
 -- an intermediate byte, 02/00 to 02/15, or a parameter byte, 03/00 to 03/15
 abbrev pub IsBodyByte : ℕ → Type 0

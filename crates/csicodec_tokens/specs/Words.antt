@@ -1,9 +1,7 @@
 -- What each refusal says.
-use Rattle.std.specs.Prelude.{ℕ, ◌+◌, List, ◌++◌, Option, None, Some, codes}
-use Rattle.std.specs.Fmt.{decimal}
-use Rattle.csicodec_tokens.specs.declared.reader.ReadError.{ReadError}
+use Rattle.std.specs.{Prelude.ℕ, Prelude.◌+◌, Prelude.List, Prelude.◌++◌, Prelude.Option, Prelude.None, Prelude.Some, Prelude.codes, Fmt.decimal}
 use Rattle.csicodec_tokens.specs.declared.reader.ReadError.TheVariants.{NotCsi, BadByte, NumberTooLarge, Truncated, Memory}
-use Rattle.csicodec_tokens.specs.declared.refusal.ParseRefusal.{ParseRefusal}
+use Rattle.csicodec_tokens.specs.{declared.reader.ReadError.ReadError, declared.refusal.ParseRefusal.ParseRefusal}
 use Rattle.csicodec_tokens.specs.declared.refusal.ParseRefusal.TheVariants as refusal
 
 -- where a sequence is refused, and why

@@ -1,15 +1,9 @@
 -- What private steps say of the text of a device: a front, and what stands behind it. Nothing public rests on this file.
-use Rattle.std.specs.Prelude.{ℕ, ◌+ℤ◌, List, [], ◌∷◌, ◌++◌, pos}
-use Rattle.std.specs.Fmt.{decimal, signed_decimal}
-use Rattle.std.specs.List.{flat_map}
-use Rattle.csicodec_tokens.specs.Param.{token_text}
-use Rattle.csicodec_tokens.specs.declared.param.CsiParam.{CsiParam}
-use Rattle.csicodec_tokens.specs.declared.param.CsiParam.TheVariants.{Integer}
+use Rattle.std.specs.{Prelude.ℕ, Prelude.◌+ℤ◌, Prelude.List, Prelude.[], Prelude.◌∷◌, Prelude.◌++◌, Prelude.pos, Fmt.decimal, Fmt.signed_decimal, List.flat_map}
+use Rattle.csicodec_tokens.specs.{Param.token_text, declared.param.CsiParam.CsiParam, declared.param.CsiParam.TheVariants.Integer}
+use Rattle.csicodec_actions.specs.{Devices.attribute_token, XtSmGraphics.item_number, Table.Device.line, Table.Device.written_device, Written.shown}
+use Rattle.csicodec_actions.specs.{Written.written_text}
 use Rattle.csicodec_actions.specs.Devices
-use Rattle.csicodec_actions.specs.Devices.{attribute_token}
-use Rattle.csicodec_actions.specs.XtSmGraphics.{item_number}
-use Rattle.csicodec_actions.specs.Table.Device.{line, written_device}
-use Rattle.csicodec_actions.specs.Written.{shown, written_text}
 
 -- the tokens of these, a `;` before each
 abbrev pub listed_text : {A : Type 0} → (A → CsiParam) → List A → List ℕ

@@ -1,9 +1,8 @@
 -- What private steps say of the numbers in the text of a window. Nothing public rests on this file.
-use Rattle.csicodec_actions.specs.declared.window.Numbers.{Numbers}
-use Rattle.csicodec_actions.specs.declared.window.Numbers.TheVariants.{Alone, Which, Two, Area}
+use Rattle.csicodec_actions.specs.{declared.window.Numbers.Numbers, declared.window.Numbers.TheVariants.Alone, declared.window.Numbers.TheVariants.Which}
+use Rattle.csicodec_actions.specs.{declared.window.Numbers.TheVariants.Two, declared.window.Numbers.TheVariants.Area, Table.Window.alone, Table.Window.which}
+use Rattle.csicodec_actions.specs.{Table.Window.two, Table.Window.written_window, Written.Written}
 use Rattle.csicodec_actions.specs.declared.window.Window.TheVariants as window
-use Rattle.csicodec_actions.specs.Table.Window.{alone, which, two, written_window}
-use Rattle.csicodec_actions.specs.Written.{Written}
 
 abbrev pub written_numbers : Numbers → Written
 written_numbers (Alone code) = alone code

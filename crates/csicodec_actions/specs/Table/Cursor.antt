@@ -1,15 +1,13 @@
 -- The cursor (ECMA-48, 8.3; DEC STD 070; DECSCUSR of the VT520): lists before a final character, and what each action is written as.
 use Rattle.std.specs.Prelude.{ℕ, ◌==◌, ◌&&◌, List, [], ◌∷◌, Option, if◌then◌else◌}
-use Rattle.csicodec_tokens.specs.declared.param.CsiParam.{CsiParam}
+use Rattle.csicodec_tokens.specs.{declared.param.CsiParam.CsiParam, OneBased.most}
+use Rattle.csicodec_actions.specs.Rows.{Row, row, One, Number, mark, counted, chosen, halves, paired, Before, before, read_by}
+use Rattle.csicodec_actions.specs.{Actions.Action, Actions.Cursor, Kinds.Count, Kinds.Last, Kinds.Style, Kinds.Control, Kinds.Clear, Written.Written}
+use Rattle.csicodec_actions.specs.{Written.The, Written.count, Written.choice, Written.two, Written.fixed, Written.write, Written.put}
 use Rattle.csicodec_names.specs.declared.enums.CursorTabulationControl.TheVariants as control
 use Rattle.csicodec_names.specs.declared.enums.TabulationClear.TheVariants as clear
-use Rattle.csicodec_tokens.specs.OneBased.{most}
 use Rattle.csicodec_actions.specs.declared.cursor.Cursor as cursor_type
 use Rattle.csicodec_actions.specs.declared.cursor.Cursor.TheVariants as cursor
-use Rattle.csicodec_actions.specs.Actions.{Action, Cursor}
-use Rattle.csicodec_actions.specs.Kinds.{Count, Last, Style, Control, Clear}
-use Rattle.csicodec_actions.specs.Rows.{Row, row, One, Number, mark, counted, chosen, halves, paired, Before, before, read_by}
-use Rattle.csicodec_actions.specs.Written.{Written, The, count, choice, two, fixed, write, put}
 
 -- the top, and a bottom that is 4294967295 where it is left out or 0
 abbrev pub top_and_bottom : List (Row Action)

@@ -2,12 +2,10 @@
 -- before a final character, and what each action is written as; graphics are in a table of their own.
 use Rattle.std.specs.Prelude.{ℕ, ℤ, ◌+ℤ◌, List, [], ◌∷◌, ◌++◌, Option, pos}
 use Rattle.csicodec_tokens.specs.declared.param.CsiParam.{CsiParam}
-use Rattle.csicodec_actions.specs.declared.device.DeviceAttribute.{DeviceAttribute}
+use Rattle.csicodec_actions.specs.{declared.device.DeviceAttribute.DeviceAttribute, Actions.Action, Actions.Device, Rows.Row, Rows.row, Rows.open_row}
+use Rattle.csicodec_actions.specs.{Rows.Number, Rows.mark, Rows.Before, Rows.before, Rows.read_by, Table.XtSmGraphics.written_graphics, Written.Item}
+use Rattle.csicodec_actions.specs.{Written.Attribute, Written.Written, Written.any_number, Written.listed, Written.fixed, Written.write, Written.put}
 use Rattle.csicodec_actions.specs.Devices as devices
-use Rattle.csicodec_actions.specs.Actions.{Action, Device}
-use Rattle.csicodec_actions.specs.Rows.{Row, row, open_row, Number, mark, Before, before, read_by}
-use Rattle.csicodec_actions.specs.Table.XtSmGraphics.{written_graphics}
-use Rattle.csicodec_actions.specs.Written.{Item, Attribute, Written, any_number, listed, fixed, write, put}
 
 -- nothing or 0, also behind `>` and `=`
 abbrev pub requests : List (Row Action)

@@ -1,14 +1,12 @@
 -- The keyboard (kitty, "Comprehensive keyboard handling in terminals"): lists before `u`, and what each action is written as.
 use Rattle.std.specs.Prelude.{ℕ, List, [], ◌∷◌, Option}
 use Rattle.csicodec_tokens.specs.declared.param.CsiParam.{CsiParam}
+use Rattle.csicodec_names.specs.declared.flags.KittyKeyboardFlags.{KittyKeyboardFlags}
+use Rattle.csicodec_actions.specs.{Actions.Action, Actions.Keyboard, Kinds.Flags, Kinds.Way, Kinds.Pops, Rows.Row, Rows.row, Rows.One, Rows.mark, Rows.Before}
+use Rattle.csicodec_actions.specs.{Rows.before, Rows.read_by, Written.Written, Written.The, Written.write, Written.put}
 use Rattle.csicodec_actions.specs.declared.keyboard.Keyboard as keyboard_type
 use Rattle.csicodec_actions.specs.declared.keyboard.Keyboard.TheVariants as keyboard
 use Rattle.csicodec_actions.specs.declared.keyboard.KittyKeyboardMode.TheVariants as way
-use Rattle.csicodec_names.specs.declared.flags.KittyKeyboardFlags.{KittyKeyboardFlags}
-use Rattle.csicodec_actions.specs.Actions.{Action, Keyboard}
-use Rattle.csicodec_actions.specs.Kinds.{Flags, Way, Pops}
-use Rattle.csicodec_actions.specs.Rows.{Row, row, One, mark, Before, before, read_by}
-use Rattle.csicodec_actions.specs.Written.{Written, The, write, put}
 
 abbrev pub no_flags : KittyKeyboardFlags
 no_flags = record { bits = 0 }

@@ -2,12 +2,10 @@
 -- Modes that are set, reset, saved and restored are cut into pieces.
 use Rattle.std.specs.Prelude.{ℕ, List, [], ◌∷◌, Option, Some, None}
 use Rattle.csicodec_tokens.specs.declared.param.CsiParam.{CsiParam}
+use Rattle.csicodec_actions.specs.{Actions.Action, Actions.Mode, Kinds.Any, Kinds.Dec, Kinds.Terminal, Kinds.Resource, Rows.Row, Rows.row, Rows.One, Rows.mark}
+use Rattle.csicodec_actions.specs.{Rows.Before, Rows.before, Rows.read_by, Written.Written, Written.The, Written.write, Written.put}
 use Rattle.csicodec_actions.specs.declared.mode.Mode as mode_type
 use Rattle.csicodec_actions.specs.declared.mode.Mode.TheVariants as mode
-use Rattle.csicodec_actions.specs.Actions.{Action, Mode}
-use Rattle.csicodec_actions.specs.Kinds.{Any, Dec, Terminal, Resource}
-use Rattle.csicodec_actions.specs.Rows.{Row, row, One, mark, Before, before, read_by}
-use Rattle.csicodec_actions.specs.Written.{Written, The, write, put}
 
 -- `n $` asks for a mode, and `? n $` for a private one
 abbrev pub queries : List (Row Action)

@@ -2,14 +2,11 @@
 use Rattle.std.specs.Prelude.{ℕ, List, [], ◌∷◌, Option, if◌then◌else◌}
 use Rattle.csicodec_tokens.specs.declared.param.CsiParam.{CsiParam}
 use Rattle.csicodec_names.specs.declared.flags.Modifiers.{Modifiers}
-use Rattle.csicodec_actions.specs.declared.mouse.MouseButton.{MouseButton}
+use Rattle.csicodec_actions.specs.{declared.mouse.MouseButton.MouseButton, Actions.Action, Actions.Mouse, Kinds.Kind, Kinds.Value, Kinds.Pressed}
+use Rattle.csicodec_actions.specs.{Kinds.Released, Kinds.Word, Mouse.is_release, Rows.Row, Rows.row, Rows.One, Rows.mark, Rows.Before, Rows.before}
+use Rattle.csicodec_actions.specs.{Rows.read_by, Written.Item, Written.Written, Written.The, Written.write, Written.put}
 use Rattle.csicodec_actions.specs.declared.mouse.MouseReport as mouse_type
 use Rattle.csicodec_actions.specs.declared.mouse.MouseReport.TheVariants as mouse
-use Rattle.csicodec_actions.specs.Actions.{Action, Mouse}
-use Rattle.csicodec_actions.specs.Kinds.{Kind, Value, Pressed, Released, Word}
-use Rattle.csicodec_actions.specs.Mouse.{is_release}
-use Rattle.csicodec_actions.specs.Rows.{Row, row, One, mark, Before, before, read_by}
-use Rattle.csicodec_actions.specs.Written.{Item, Written, The, write, put}
 
 -- `< code ; x ; y`
 abbrev pub mouse_report : (k : Kind) → (Value k → ℕ → ℕ → Action) → Row Action

@@ -2,12 +2,11 @@
 -- by their fields, and what each action is written as.
 use Rattle.std.specs.Prelude.{ℕ, ℤ, List, [], ◌∷◌, ◌++◌, Option, Some, None, pos}
 use Rattle.csicodec_tokens.specs.declared.param.CsiParam.{CsiParam}
+use Rattle.csicodec_actions.specs.FieldRows.{FieldRow, field_row, This, Empty, End, Maybe, There, Must, Or, Over, over, no_byte, byte, read_fields}
+use Rattle.csicodec_actions.specs.{Actions.Action, Actions.Window, Kinds.Any, Kinds.Count, Written.Item, Written.Written, Written.The, Written.fixed}
+use Rattle.csicodec_actions.specs.{Written.write, Written.put}
 use Rattle.csicodec_actions.specs.declared.window.Window as window_type
 use Rattle.csicodec_actions.specs.declared.window.Window.TheVariants as window
-use Rattle.csicodec_actions.specs.Actions.{Action, Window}
-use Rattle.csicodec_actions.specs.FieldRows.{FieldRow, field_row, This, Empty, End, Maybe, There, Must, Or, Over, over, no_byte, byte, read_fields}
-use Rattle.csicodec_actions.specs.Kinds.{Any, Count}
-use Rattle.csicodec_actions.specs.Written.{Item, Written, The, fixed, write, put}
 
 -- `code`
 abbrev pub alone_rows : List (FieldRow Action)

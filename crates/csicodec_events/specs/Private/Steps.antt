@@ -1,9 +1,8 @@
 -- What one step of a stream promises to the next.
 use Rattle.std.specs.Prelude.{ℕ, ◌≡◌, ◌<◌, Option, None, Some, false, List, [], ◌∷◌, ◌++◌, take, drop}
 use Rattle.csicodec_tokens.specs.declared.param.CsiParam.{CsiParam}
-use Rattle.csicodec_events.specs.declared.event.Events.{Events}
-use Rattle.csicodec_events.specs.declared.event.Event.{Event}
-use Rattle.csicodec_events.specs.Events.{IsMet, IsTold, Waits, is_passed, left}
+use Rattle.csicodec_events.specs.{declared.event.Events.Events, declared.event.Event.Event, Events.IsMet, Events.IsTold, Events.Waits, Events.is_passed}
+use Rattle.csicodec_events.specs.{Events.left}
 
 -- an event was told
 pub record HasTold (e : Events) (bytes : List ℕ) (event : Event) (text rest : List ℕ)

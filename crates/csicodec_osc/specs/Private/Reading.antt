@@ -1,10 +1,8 @@
 -- How a content is read: the first command whose number begins it, and whose form what stands behind the number has.
 use Rattle.std.specs.Prelude.{ℕ, ◌==◌, List, [], ◌∷◌, Option, None, Some, option_map, option_and_then, if◌then◌else◌}
 use Rattle.std.specs.Option.{option_or}
-use Rattle.csicodec_osc.specs.declared.command.Command.{Command}
-use Rattle.csicodec_osc.specs.Commands.{form, number}
-use Rattle.csicodec_osc.specs.Forms.{Form, OneText, Message, Several, TwoTexts, TextAsked}
-use Rattle.csicodec_osc.specs.Osc.{Ask, Body, Both, Known, Said, Tail, asked, is_message}
+use Rattle.csicodec_osc.specs.{declared.command.Command.Command, Commands.form, Commands.number, Forms.Form, Forms.OneText, Forms.Message, Forms.Several}
+use Rattle.csicodec_osc.specs.{Forms.TwoTexts, Forms.TextAsked, Osc.Ask, Osc.Body, Osc.Both, Osc.Known, Osc.Said, Osc.Tail, Osc.asked, Osc.is_message}
 
 -- what stands behind a number, where the content begins with it
 abbrev pub behind : List ℕ → List ℕ → Option (Option (List ℕ))

@@ -1,27 +1,18 @@
 -- What the private steps of a run say to each other: the actions by a function that computes them. Nothing public rests on this
 -- file: that it gives the actions of the segmentation is proved.
 use Rattle.std.specs.Prelude.{ℕ, ℤ, zero, suc, pred, ◌≡◌, ◌≤◌, ◌<◌, ◌+◌, ◌-◌, ◌*◌, ◌==◌, Bool, true, false, List, [], ◌∷◌, length, drop, slice_get, Option, Some, None, option_and_then, unwrap_or, if◌then◌else◌}
-use Rattle.csicodec_tokens.specs.declared.param.CsiParam.{CsiParam}
-use Rattle.csicodec_tokens.specs.declared.param.CsiParam.TheVariants.{Integer, P}
-use Rattle.csicodec_base.specs.declared.sgr.Sgr as sgr_type
+use Rattle.csicodec_tokens.specs.{declared.param.CsiParam.CsiParam, declared.param.CsiParam.TheVariants.Integer, declared.param.CsiParam.TheVariants.P}
 use Rattle.csicodec_base.specs.FrontBy.{piece}
-use Rattle.csicodec_parser.specs.declared.group.Group.{Group}
-use Rattle.csicodec_parser.specs.declared.group.Group.TheVariants.{Whole, Styles, Modes, DecModes}
-use Rattle.csicodec_parser.specs.declared.parser.Stage.{Stage}
-use Rattle.csicodec_parser.specs.declared.parser.Stage.TheVariants.{Fresh, Going, Failed}
-use Rattle.csicodec_parser.specs.declared.parser.Boxed.{Boxed}
+use Rattle.csicodec_parser.specs.{declared.group.Group.Group, declared.group.Group.TheVariants.Whole, declared.group.Group.TheVariants.Styles}
+use Rattle.csicodec_parser.specs.{declared.group.Group.TheVariants.Modes, declared.group.Group.TheVariants.DecModes, declared.parser.Stage.Stage}
+use Rattle.csicodec_parser.specs.{declared.parser.Stage.TheVariants.Fresh, declared.parser.Stage.TheVariants.Going, declared.parser.Stage.TheVariants.Failed}
+use Rattle.csicodec_parser.specs.{declared.parser.Boxed.Boxed, declared.actions.CSI.CSI, ActionOf.action_of, ActionOf.unspecified_of, Groups.group}
+use Rattle.csicodec_parser.specs.{Groups.start, Groups.marked, Groups.is_odd, Groups.has_odd, Cut.body, Cut.IsRestAfter, Progress.Progress}
+use Rattle.csicodec_parser.specs.{Segments.empty_action}
+use Rattle.csicodec_actions.specs.{Actions.Action, Actions.Sgr, Actions.Mode, Actions.Device, Actions.Window, Actions.Unspecified, Devices.device_of}
+use Rattle.csicodec_actions.specs.{Modes.changed, Modes.switched, Kinds.read, Kinds.Dec, Kinds.Terminal, Table.boxed, Table.whole}
+use Rattle.csicodec_base.specs.declared.sgr.Sgr as sgr_type
 use Rattle.csicodec_parser.specs.declared.parser.Boxed.TheVariants as box
-use Rattle.csicodec_parser.specs.declared.actions.CSI.{CSI}
-use Rattle.csicodec_actions.specs.Actions.{Action, Sgr, Mode, Device, Window, Unspecified}
-use Rattle.csicodec_actions.specs.Devices.{device_of}
-use Rattle.csicodec_parser.specs.ActionOf.{action_of, unspecified_of}
-use Rattle.csicodec_parser.specs.Groups.{group, start, marked, is_odd, has_odd}
-use Rattle.csicodec_parser.specs.Cut.{body, IsRestAfter}
-use Rattle.csicodec_actions.specs.Modes.{changed, switched}
-use Rattle.csicodec_actions.specs.Kinds.{read, Dec, Terminal}
-use Rattle.csicodec_parser.specs.Progress.{Progress}
-use Rattle.csicodec_parser.specs.Segments.{empty_action}
-use Rattle.csicodec_actions.specs.Table.{boxed, whole}
 
 abbrev pub styled : Option (sgr_type.Sgr × ℕ) → Option (Action × ℕ)
 styled None = None

@@ -1,7 +1,7 @@
 -- How many bytes are looked at for a control sequence where none stands.
 use Rattle.std.specs.Prelude.{ℕ, ◌+◌}
-use Rattle.csicodec_tokens.specs.declared.reader.ReadError.{ReadError}
 use Rattle.csicodec_tokens.specs.declared.reader.ReadError.TheVariants.{NotCsi, BadByte, NumberTooLarge, Truncated, Memory}
+use Rattle.csicodec_tokens.specs.declared.reader.ReadError.{ReadError}
 
 -- those up to the fault, and the one there; where they end too early, all; where memory was refused, nothing is said
 abbrev pub looks_met : ReadError → ℕ

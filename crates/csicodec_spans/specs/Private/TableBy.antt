@@ -1,13 +1,13 @@
 -- What the private steps of `table.rt` find in front of bytes, by tests of one byte after the other. No promise rests on it:
 -- what it finds is what the one row of the table of modes says that fits the bytes (`proofs/Agrees.antt`).
 use Rattle.std.specs.Prelude.{ℕ, ◌==◌, Bool, true, false, not, ◌&&◌, ◌||◌, nat_lt, nat_le, List, [], ◌∷◌, if◌then◌else◌}
+use Rattle.csicodec_spans.specs.{declared.table.Ahead.Ahead, declared.table.Ahead.TheVariants.GoesOn, declared.table.Ahead.TheVariants.Ends}
+use Rattle.csicodec_spans.specs.{declared.table.Ahead.TheVariants.New, declared.table.Ahead.TheVariants.Esc, declared.table.Ahead.TheVariants.Csi}
+use Rattle.csicodec_spans.specs.{declared.table.Ahead.TheVariants.Unsure, Table.Answer, Table.More, Table.Anew, Table.Sequence, Table.Undecided}
 use Rattle.csicodec_spans.specs.declared.table.Kind as kinds
 use Rattle.csicodec_spans.specs.declared.table.Kind.TheVariants as kind
 use Rattle.csicodec_spans.specs.declared.table.Mode as modes
 use Rattle.csicodec_spans.specs.declared.table.Mode.TheVariants as mode
-use Rattle.csicodec_spans.specs.declared.table.Ahead.{Ahead}
-use Rattle.csicodec_spans.specs.declared.table.Ahead.TheVariants.{GoesOn, Ends, New, Esc, Csi, Unsure}
-use Rattle.csicodec_spans.specs.Table.{Answer, More, Anew, Sequence, Undecided}
 
 -- from the low byte to the high one
 abbrev pub is_within : ℕ → ℕ → ℕ → Bool

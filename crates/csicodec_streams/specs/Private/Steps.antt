@@ -1,19 +1,14 @@
 -- What the private steps of a decoding say to each other: how far it has come, and why it goes no further.
 use Rattle.std.specs.Prelude.{ℕ, pos, ◌≡◌, ◌==◌, ◌<◌, ◌∷◌, ◌++◌, Bool, true, false, if◌then◌else◌, List, [], length, Option, None, Some}
 use Rattle.std.specs.Fmt.{decimal}
-use Rattle.csicodec_tokens.specs.declared.reader.ReadError.{ReadError}
+use Rattle.csicodec_tokens.specs.{declared.reader.ReadError.ReadError, declared.param.CsiParam.CsiParam, declared.param.CsiParam.TheVariants.Integer}
+use Rattle.csicodec_tokens.specs.{declared.param.CsiParam.TheVariants.P, Fault.Refuses}
+use Rattle.csicodec_names.specs.{declared.color.ColorSpec.ColorSpec, declared.color.ColorSpec.TheVariants.Default}
+use Rattle.csicodec_names.specs.{declared.color.ColorSpec.TheVariants.PaletteIndex, declared.color.ColorSpec.TheVariants.TrueColor}
+use Rattle.csicodec_base.specs.{Shapes.Plane, Shapes.painted, declared.sgr.Sgr.Sgr as Attribute}
+use Rattle.csicodec_actions.specs.{Actions.Action, Actions.Sgr, Kinds.IsOneBased}
+use Rattle.csicodec_streams.specs.{Colors.IsOpaque, Colors.color_list, Colors.plane_byte, Decoding.Decodes}
 use Rattle.csicodec_tokens.specs.declared.reader.ReadError.TheVariants as read_errors
-use Rattle.csicodec_tokens.specs.declared.param.CsiParam.{CsiParam}
-use Rattle.csicodec_tokens.specs.declared.param.CsiParam.TheVariants.{Integer, P}
-use Rattle.csicodec_tokens.specs.Fault.{Refuses}
-use Rattle.csicodec_names.specs.declared.color.ColorSpec.{ColorSpec}
-use Rattle.csicodec_names.specs.declared.color.ColorSpec.TheVariants.{Default, PaletteIndex, TrueColor}
-use Rattle.csicodec_base.specs.Shapes.{Plane, painted}
-use Rattle.csicodec_base.specs.declared.sgr.Sgr.{Sgr as Attribute}
-use Rattle.csicodec_actions.specs.Actions.{Action, Sgr}
-use Rattle.csicodec_actions.specs.Kinds.{IsOneBased}
-use Rattle.csicodec_streams.specs.Colors.{IsOpaque, color_list, plane_byte}
-use Rattle.csicodec_streams.specs.Decoding.{Decodes}
 
 -- the sequences at the front of the bytes have these actions, and behind them comes the rest
 abbrev pub DecodesFront : List ℕ → Bool → List ℕ → List Action → Type 0

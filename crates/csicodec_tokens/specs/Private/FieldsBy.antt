@@ -1,9 +1,8 @@
 -- How the fields of a list are kept. What fields are is in `Fields`; only private steps and proofs speak of this file.
-use Rattle.std.specs.Prelude.{◌≡◌, ℤ, ◌<◌, ◌==◌, Bool, true, List, length, Option, Some, None}
-use Rattle.std.specs.List.{list_all}
-use Rattle.csicodec_tokens.specs.declared.param.CsiParam.{CsiParam}
-use Rattle.csicodec_tokens.specs.declared.param.CsiParam.TheVariants.{Integer, P}
-use Rattle.csicodec_tokens.specs.Fields.{fields_of, with_field}
+use Rattle.std.specs.{Prelude.◌≡◌, Prelude.ℤ, Prelude.◌<◌, Prelude.◌==◌, Prelude.Bool, Prelude.true, Prelude.List, Prelude.length, Prelude.Option, Prelude.Some}
+use Rattle.std.specs.{Prelude.None, List.list_all}
+use Rattle.csicodec_tokens.specs.{declared.param.CsiParam.CsiParam, declared.param.CsiParam.TheVariants.Integer, declared.param.CsiParam.TheVariants.P}
+use Rattle.csicodec_tokens.specs.{Fields.fields_of, Fields.with_field}
 
 -- a number or `;`
 abbrev pub is_field_token : CsiParam → Bool

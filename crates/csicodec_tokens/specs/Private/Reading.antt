@@ -1,11 +1,9 @@
 -- What the private steps of the reader say of each other; no public contract cites this file.
 use Rattle.std.specs.Prelude.{◌≡◌, ℕ, ◌+◌, ◌-◌, ◌*◌, ◌<◌, ◌≤◌, List, [], ◌∷◌, ◌++◌, length}
-use Rattle.csicodec_tokens.specs.declared.param.CsiParam.{CsiParam}
-use Rattle.csicodec_tokens.specs.declared.param.CsiParam.TheVariants.{Integer, P}
-use Rattle.csicodec_tokens.specs.declared.reader.Part.{Part}
-use Rattle.csicodec_tokens.specs.declared.reader.Part.TheVariants.{Token, Final}
-use Rattle.csicodec_tokens.specs.Digits.{IsDigit, AreDigits, value, largest}
-use Rattle.csicodec_tokens.specs.Sequence.{IsFinal, SpellsToken, Spells, IsSpellable, Spellable, Reads}
+use Rattle.csicodec_tokens.specs.{declared.param.CsiParam.CsiParam, declared.param.CsiParam.TheVariants.Integer, declared.param.CsiParam.TheVariants.P}
+use Rattle.csicodec_tokens.specs.{declared.reader.Part.Part, declared.reader.Part.TheVariants.Token, declared.reader.Part.TheVariants.Final, Digits.IsDigit}
+use Rattle.csicodec_tokens.specs.{Digits.AreDigits, Digits.value, Digits.largest, Sequence.IsFinal, Sequence.SpellsToken, Sequence.Spells, Sequence.IsSpellable}
+use Rattle.csicodec_tokens.specs.{Sequence.Spellable, Sequence.Reads}
 
 -- the first of the bytes is a digit
 abbrev pub BeginsWithDigit : List ℕ → Type 0

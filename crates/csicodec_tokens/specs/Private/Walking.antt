@@ -1,6 +1,6 @@
 -- What the steps of a walk over a body say of each other; no public contract cites this file.
-use Rattle.std.specs.Prelude.{ℕ, ◌≡◌, ◌==◌, Bool, ◌&&◌, if◌then◌else◌, nat_le, nat_lt, List, ◌++◌}
-use Rattle.std.specs.Int.{w64, trailing_zeros}
+use Rattle.std.specs.{Prelude.ℕ, Prelude.◌≡◌, Prelude.◌==◌, Prelude.Bool, Prelude.◌&&◌, Prelude.if◌then◌else◌, Prelude.nat_le, Prelude.nat_lt, Prelude.List}
+use Rattle.std.specs.{Prelude.◌++◌, Int.w64, Int.trailing_zeros}
 use Rattle.csicodec_tokens.specs.Body.{Adds}
 
 -- the place of the lowest bit that is set, and 16 where none is

@@ -1,5 +1,5 @@
-use Rattle.std.proofs.Common.{List, [], ◌≡◌, ℕ, false, inl, inr, refl, sym, ap, ◌∙◌, arith, length}
-use Rattle.std.proofs.lemmas.Bool.{cases_Bool, cases_lt}
+use Rattle.std.proofs.{Common.List, Common.[], Common.◌≡◌, Common.ℕ, Common.false, Common.inl, Common.inr, Common.refl, Common.sym, Common.ap, Common.◌∙◌}
+use Rattle.std.proofs.{Common.arith, Common.length, lemmas.Bool.cases_Bool, lemmas.Bool.cases_lt}
 use Rattle.csicodec_tokens.proofs.Unique.{one_seq}
 use Rattle.csicodec_actions.specs.Table.{texts}
 use Rattle.csicodec_streams.specs.Decoding.{NormalisesTo}

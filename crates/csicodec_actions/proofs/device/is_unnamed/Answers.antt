@@ -1,6 +1,5 @@
 use Rattle.std.proofs.Common.{rules}
-use mir.Syntax.{w64}
-use mir.Val.{SFits}
+use mir.{Syntax.w64, Val.SFits}
 use Rattle.csicodec_names.specs.DeviceNumbers.{device_attribute_number}
 use Rattle.csicodec_actions.proofs.Values.{unnamed-told}
 use Rattle.csicodec_actions.proofs.device.is_unnamed.Goals as goal

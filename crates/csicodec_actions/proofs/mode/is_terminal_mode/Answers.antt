@@ -1,6 +1,5 @@
 use Rattle.std.proofs.Common.{◌<◌, rules}
-use mir.Syntax.{w64}
-use mir.Val.{SFits}
+use mir.{Syntax.w64, Val.SFits}
 use Rattle.csicodec_names.specs.ModeNumbers.{terminal_mode_number}
 use Rattle.csicodec_actions.proofs.Values.{own-told}
 use Rattle.csicodec_actions.proofs.mode.is_terminal_mode.Goals as goal

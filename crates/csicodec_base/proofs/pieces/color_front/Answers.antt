@@ -1,9 +1,6 @@
-use Rattle.std.proofs.Common.{rules, arith, ◌≡◌, ◌∙◌, sym}
-use Rattle.std.proofs.lemmas.List.{take_rest}
+use Rattle.std.proofs.{Common.rules, Common.arith, Common.◌≡◌, Common.◌∙◌, Common.sym, lemmas.List.take_rest, lemmas.Int.ints}
 use Rattle.std.specs.Prelude.{pos}
-use Rattle.std.proofs.lemmas.Int.{ints}
-use mir.Val.{SFits}
-use mir.Syntax.{w64}
+use mir.{Val.SFits, Syntax.w64}
 use Rattle.csicodec_tokens.specs.declared.param.CsiParam.TheVariants.{Integer}
 use Rattle.csicodec_base.proofs.CodePieces.{behind_six, behind_two}
 use Rattle.csicodec_base.proofs.pieces.color_front.Goals as goal

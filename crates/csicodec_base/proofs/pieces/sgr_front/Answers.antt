@@ -1,14 +1,11 @@
-use Rattle.std.proofs.Common.{rules, arith, ◌≡◌, ◌≢◌, ◌∙◌, sym, refl, false, get_or}
+use Rattle.std.proofs.{Common.rules, Common.arith, Common.◌≡◌, Common.◌≢◌, Common.◌∙◌, Common.sym, Common.refl, Common.false, Common.get_or}
+use Rattle.std.proofs.{lemmas.List.take_rest, lemmas.Int.to_z-of_z}
 use Rattle.std.specs.Prelude.{pos, ◌==◌}
-use Rattle.std.proofs.lemmas.List.{take_rest}
-use Rattle.std.proofs.lemmas.Int.{to_z-of_z}
-use mir.Val.{SFits}
-use mir.Syntax.{w64}
+use mir.{Val.SFits, Syntax.w64}
 use Rattle.csicodec_tokens.specs.declared.param.CsiParam.TheVariants.{Integer, P}
-use Rattle.csicodec_names.specs.declared.codes.SgrCode.{SgrCode}
-use Rattle.csicodec_names.specs.Numbers.{number_of}
-use Rattle.csicodec_base.proofs.Table.{is_front, is_near, is_within}
+use Rattle.csicodec_names.specs.{declared.codes.SgrCode.SgrCode, Numbers.number_of}
 use Rattle.csicodec_base.proofs.CodePieces.{at_end, at_first, semicolon_front, other_byte, unknown_number, one_token_front}
+use Rattle.csicodec_base.proofs.Table.{is_front, is_near, is_within}
 use Rattle.csicodec_base.proofs.pieces.sgr_front.Goals as goal
 
 pub returns-in-P-2 : goal.returns-in-P-2

@@ -1,5 +1,5 @@
-use Rattle.std.proofs.Common.{◌≡◌, ℕ, List, [], ◌++◌, length, ap, ◌∙◌, arith}
-use Rattle.std.proofs.lemmas.Bool.Decides.{nat_tests}
+use Rattle.std.proofs.{Common.◌≡◌, Common.ℕ, Common.List, Common.[], Common.◌++◌, Common.length, Common.ap, Common.◌∙◌, Common.arith}
+use Rattle.std.proofs.{lemmas.Bool.Decides.nat_tests}
 use Rattle.csicodec_events.specs.Events.{without_controls}
 use Rattle.csicodec_events.proofs.Stops.{whole_reads}
 use Rattle.csicodec_events.proofs.sequence.read_without.Goals as goal

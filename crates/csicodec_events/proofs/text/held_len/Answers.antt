@@ -1,5 +1,4 @@
-use Rattle.std.proofs.Common.{arith}
-use Rattle.std.proofs.lemmas.Bool.Decides.{nat_tests}
+use Rattle.std.proofs.{Common.arith, lemmas.Bool.Decides.nat_tests}
 use Rattle.csicodec_events.proofs.Spans.{held_at_end}
 use Rattle.csicodec_events.proofs.text.held_len.Goals as goal
 

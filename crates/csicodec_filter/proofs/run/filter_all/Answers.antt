@@ -1,9 +1,9 @@
-use Rattle.std.proofs.{Common.ℕ, Common.List, KnownBytes.Consumes-whole}
-use Rattle.std.proofs.lemmas.Result.{MatchResult-weaker, on_err_weaker, on_ok_weaker}
+use Rattle.std.proofs.{Common.ℕ, Common.List, KnownBytes.Consumes-whole, lemmas.Result.MatchResult-weaker, lemmas.Result.on_err_weaker}
+use Rattle.std.proofs.{lemmas.Result.on_ok_weaker}
 use Rattle.std.specs.Io.KnownBytes.{Appends}
-use Rattle.csicodec_spans.specs.declared.table.Mode.TheVariants as mode
 use Rattle.csicodec_filter.specs.{Filter.Filters, Written.ByRule}
 use Rattle.csicodec_filter.proofs.Written.{begun, filtered, passed, sent_front, since_none}
+use Rattle.csicodec_spans.specs.declared.table.Mode.TheVariants as mode
 use Rattle.csicodec_filter.proofs.run.filter_all.Goals as goal
 
 pub transform_all-requires-clause-begun : goal.transform_all-requires-clause-begun

@@ -1,6 +1,6 @@
 use Rattle.std.proofs.Common.{length}
-use Rattle.csicodec_spans.specs.declared.table.Mode.TheVariants as mode
 use Rattle.csicodec_filter.specs.Written.{Appends, open_at}
+use Rattle.csicodec_spans.specs.declared.table.Mode.TheVariants as mode
 use Rattle.csicodec_filter.proofs.spanwise.pass_front.Given as goal
 
 -- some of the bytes passed

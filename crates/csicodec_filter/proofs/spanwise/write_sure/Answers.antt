@@ -1,9 +1,9 @@
-use Rattle.std.proofs.Common.{◌≡◌, ◌<◌, ℕ, List, ◌∷◌, ◌++◌, ◌∙◌, [], length, length-append, take, ap, arith}
-use Rattle.std.proofs.Math.Seq.{take-append_seam}
-use Rattle.csicodec_spans.specs.declared.table.Kind.TheVariants as kind
+use Rattle.std.proofs.{Common.◌≡◌, Common.◌<◌, Common.ℕ, Common.List, Common.◌∷◌, Common.◌++◌, Common.◌∙◌, Common.[], Common.length, Common.length-append}
+use Rattle.std.proofs.{Common.take, Common.ap, Common.arith, Math.Seq.take-append_seam}
 use Rattle.csicodec_spans.specs.Parts.{part}
 use Rattle.csicodec_filter.specs.{Filter.Held, Written.Appends, Written.WrittenOf}
 use Rattle.csicodec_filter.proofs.Written.{appends, appends_none, appends_on, left_within}
+use Rattle.csicodec_spans.specs.declared.table.Kind.TheVariants as kind
 use Rattle.csicodec_filter.proofs.spanwise.write_sure.Goals as goal
 
 pub loop-to-init : goal.loop-to-init

@@ -1,5 +1,5 @@
-use Rattle.std.proofs.Common.{◌<◌, ◌≡◌, ◌++◌, [], length, rules, take, sym, ◌∙◌, ap, arith}
-use Rattle.std.proofs.lemmas.Result.{on_err_weaker, on_ok_weaker}
+use Rattle.std.proofs.{Common.◌<◌, Common.◌≡◌, Common.◌++◌, Common.[], Common.length, Common.rules, Common.take, Common.sym, Common.◌∙◌, Common.ap}
+use Rattle.std.proofs.{Common.arith, lemmas.Result.on_err_weaker, lemmas.Result.on_ok_weaker}
 use Rattle.csicodec_filter.proofs.Sent.{ran, so_kept, so_none, so_off, so_on, went, went_end, went_off, went_some}
 use Rattle.csicodec_filter.proofs.transform.transform_all.Goals as goal
 

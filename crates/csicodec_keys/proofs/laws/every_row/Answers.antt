@@ -1,6 +1,6 @@
 use Rattle.std.proofs.Common.{refl}
-use Rattle.csicodec_keys.specs.Rows.{row_at, row_of}
 use Rattle.csicodec_keys.specs.Tables.{controls, csi_keys, kitty_keys, linux_keys, other_keys, rxvt_keys, rxvt_ss3, ss3_keys, win32_keys}
+use Rattle.csicodec_keys.specs.Rows.{row_at, row_of}
 use Rattle.csicodec_keys.proofs.laws.every_row.Goals as goal
 
 pub returns-clause-legacy : goal.returns-clause-legacy

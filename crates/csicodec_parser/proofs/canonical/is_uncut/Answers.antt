@@ -1,7 +1,5 @@
-use Rattle.std.proofs.Common.{◌≡◌, false, refl, sym, ap, ◌∙◌, drop}
-use Rattle.std.proofs.lemmas.List.{take_rest}
-use Rattle.csicodec_parser.specs.Groups.{has_odd}
-use Rattle.csicodec_parser.specs.Private.Steps.{front}
+use Rattle.std.proofs.{Common.◌≡◌, Common.false, Common.refl, Common.sym, Common.ap, Common.◌∙◌, Common.drop, lemmas.List.take_rest}
+use Rattle.csicodec_parser.specs.{Groups.has_odd, Private.Steps.front}
 use Rattle.csicodec_parser.proofs.Unread.{uncut-told}
 use Rattle.csicodec_parser.proofs.canonical.is_uncut.Goals as goal
 

@@ -1,6 +1,5 @@
 use Rattle.std.proofs.Common.{drop, arith}
-use Rattle.csicodec_parser.proofs.Fronts.{front_fits}
-use Rattle.csicodec_parser.proofs.Blocks.{block_taken, block_within, dropped_on}
+use Rattle.csicodec_parser.proofs.{Fronts.front_fits, Blocks.block_taken, Blocks.block_within, Blocks.dropped_on}
 use Rattle.csicodec_parser.proofs.list.block_into.Goals as goal
 
 pub pass-requires : goal.pass-requires

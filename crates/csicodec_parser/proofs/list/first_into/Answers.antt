@@ -1,7 +1,5 @@
-use Rattle.std.proofs.Common.{◌∷◌, drop, sym, ◌∙◌}
-use Rattle.csicodec_parser.proofs.Fronts.{piece_front}
-use Rattle.std.proofs.lemmas.Result.{IfOk-weaker}
-use Rattle.csicodec_parser.proofs.Taken.{front_first}
+use Rattle.std.proofs.{Common.◌∷◌, Common.drop, Common.sym, Common.◌∙◌, lemmas.Result.IfOk-weaker}
+use Rattle.csicodec_parser.proofs.{Fronts.piece_front, Taken.front_first}
 use Rattle.csicodec_parser.proofs.list.first_into.Goals as goal
 
 pub returns-in-Some-clause-some : goal.returns-in-Some-clause-some

@@ -1,7 +1,5 @@
-use Rattle.std.proofs.Common.{arith, ◌∙◌}
-use Rattle.std.proofs.lemmas.Option.{IfSome_then}
+use Rattle.std.proofs.{Common.arith, Common.◌∙◌, lemmas.Option.IfSome_then, lemmas.Result.IfOk-weaker}
 use Rattle.csicodec_parser.proofs.Fronts.{lent_piece, piece_front, stuck_front}
-use Rattle.std.proofs.lemmas.Result.{IfOk-weaker}
 use Rattle.csicodec_parser.proofs.list.piece_into.Goals as goal
 
 pub returns-clause-none : goal.returns-clause-none

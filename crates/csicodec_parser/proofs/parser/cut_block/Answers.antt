@@ -1,7 +1,6 @@
 use Rattle.std.proofs.Common.{drop, arith, sym, ap, ◌∙◌, length-drop}
 use Rattle.csicodec_parser.specs.Private.Steps.{found, block_of, with_semicolon}
-use Rattle.csicodec_parser.proofs.Fronts.{lent_front, front_fits}
-use Rattle.csicodec_parser.proofs.Blocks.{cut_some, at_same, semicolon_within}
+use Rattle.csicodec_parser.proofs.{Fronts.lent_front, Fronts.front_fits, Blocks.cut_some, Blocks.at_same, Blocks.semicolon_within}
 use Rattle.csicodec_parser.proofs.parser.cut_block.Goals as goal
 
 pub returns-in_default-clause-none : goal.returns-in_default-clause-none

@@ -1,12 +1,8 @@
-use Rattle.std.proofs.Common.{List, Option, ap, arith, drop, length, sym, ℕ, ◌+◌, ◌<◌, ◌||◌, ◌∙◌, ◌≡◌}
+use Rattle.std.proofs.{Common.List, Common.Option, Common.ap, Common.arith, Common.drop, Common.length, Common.sym, Common.ℕ, Common.◌+◌, Common.◌<◌}
+use Rattle.std.proofs.{Common.◌||◌, Common.◌∙◌, Common.◌≡◌, lemmas.List.drop_more, lemmas.Option.slice_get-get_or}
 use Rattle.std.specs.Prelude.{slice_get}
-use Rattle.std.proofs.lemmas.List.{drop_more}
-use Rattle.std.proofs.lemmas.Option.{slice_get-get_or}
-use Rattle.csicodec_tokens.specs.declared.param.CsiParam.{CsiParam}
-use Rattle.csicodec_tokens.specs.declared.param.CsiParam.TheVariants.{P}
-use Rattle.csicodec_parser.specs.declared.group.Group.{Group}
-use Rattle.csicodec_parser.specs.Groups.{has_odd}
-use Rattle.csicodec_parser.specs.Private.Steps.{is_odd_at}
+use Rattle.csicodec_tokens.specs.{declared.param.CsiParam.CsiParam, declared.param.CsiParam.TheVariants.P}
+use Rattle.csicodec_parser.specs.{declared.group.Group.Group, Groups.has_odd, Private.Steps.is_odd_at}
 use Rattle.csicodec_parser.proofs.Blocks.{private_plain}
 use Rattle.csicodec_parser.proofs.parser.has_odd.Goals as goal
 

@@ -1,10 +1,9 @@
-use Rattle.std.proofs.Common.{◌<◌, ◌≤◌, length, drop, take, refl, inl, sym, ap, arith}
-use Rattle.std.proofs.lemmas.List.{length-append, length-drop, take-append-drop}
+use Rattle.std.proofs.{Common.◌<◌, Common.◌≤◌, Common.length, Common.drop, Common.take, Common.refl, Common.inl, Common.sym, Common.ap, Common.arith}
+use Rattle.std.proofs.{lemmas.List.length-append, lemmas.List.length-drop, lemmas.List.take-append-drop}
 use Rattle.csicodec_spans.specs.declared.table.Ahead.TheVariants.{GoesOn, Ends}
+use Rattle.csicodec_spans.proofs.{OneSpan.IsLonger, OneSpan.stays_longer, OneSpan.stops_maximal, OneSpan.taken_longer, OneSpan.taken_within}
+use Rattle.csicodec_spans.proofs.{Spanned.before_rest, Spanned.rest_is, cut.longest.Goals.After-look, cut.longest.Goals.In-GoesOn}
 use Rattle.csicodec_spans.specs.declared.table.Mode.TheVariants as mode
-use Rattle.csicodec_spans.proofs.OneSpan.{IsLonger, stays_longer, stops_maximal, taken_longer, taken_within}
-use Rattle.csicodec_spans.proofs.Spanned.{before_rest, rest_is}
-use Rattle.csicodec_spans.proofs.cut.longest.Goals.{After-look, In-GoesOn}
 use Rattle.csicodec_spans.proofs.cut.longest.Goals as goal
 
 pub loop-len-init : goal.loop-len-init

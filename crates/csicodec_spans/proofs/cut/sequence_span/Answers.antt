@@ -1,10 +1,8 @@
-use Rattle.std.proofs.Common.{◌≡◌, ◌-◌, length, take, refl, arith}
-use Rattle.std.proofs.lemmas.List.{length-take}
+use Rattle.std.proofs.{Common.◌≡◌, Common.◌-◌, Common.length, Common.take, Common.refl, Common.arith, lemmas.List.length-take}
+use Rattle.csicodec_spans.specs.Parts.{AllowsCsi}
+use Rattle.csicodec_spans.proofs.{OneSpan.csi_cut, Sequences.whole, Sequences.short}
 use Rattle.csicodec_spans.specs.declared.table.Kind.TheVariants as kind
 use Rattle.csicodec_spans.specs.declared.table.Mode.TheVariants as mode
-use Rattle.csicodec_spans.specs.Parts.{AllowsCsi}
-use Rattle.csicodec_spans.proofs.OneSpan.{csi_cut}
-use Rattle.csicodec_spans.proofs.Sequences.{whole, short}
 use Rattle.csicodec_spans.proofs.cut.sequence_span.Goals as goal
 
 pub returns-clause-sequence : goal.returns-clause-sequence

@@ -1,12 +1,11 @@
-use Rattle.std.proofs.Common.{◌<◌, ◌≤◌, length, take, refl, subst, inr, arith}
-use Rattle.std.proofs.lemmas.List.{length-take-le, take_all}
+use Rattle.std.proofs.{Common.◌<◌, Common.◌≤◌, Common.length, Common.take, Common.refl, Common.subst, Common.inr, Common.arith, lemmas.List.length-take-le}
+use Rattle.std.proofs.{lemmas.List.take_all}
 use Rattle.csicodec_tokens.specs.Fault.{Begins}
+use Rattle.csicodec_spans.specs.Parts.{IsMalformed}
+use Rattle.csicodec_spans.proofs.{OneSpan.csi_cut, OneSpan.csi_unsure, Sequences.malformed, cut.wrong_span.Goals.in-Some}
+use Rattle.csicodec_spans.proofs.{cut.wrong_span.Goals.in-None+else-len-limit}
 use Rattle.csicodec_spans.specs.declared.table.Kind.TheVariants as kind
 use Rattle.csicodec_spans.specs.declared.table.Mode.TheVariants as mode
-use Rattle.csicodec_spans.specs.Parts.{IsMalformed}
-use Rattle.csicodec_spans.proofs.OneSpan.{csi_cut, csi_unsure}
-use Rattle.csicodec_spans.proofs.Sequences.{malformed}
-use Rattle.csicodec_spans.proofs.cut.wrong_span.Goals.{in-Some, in-None+else-len-limit}
 use Rattle.csicodec_spans.proofs.cut.wrong_span.Goals as goal
 
 pub returns-then-len-limit-clause-cut : goal.returns-then-len-limit-clause-cut

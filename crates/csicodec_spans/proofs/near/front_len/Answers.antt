@@ -1,7 +1,7 @@
 use Rattle.std.proofs.Common.{inl, inr, refl, sym, arith}
 use Rattle.csicodec_spans.specs.declared.table.Ahead.TheVariants.{GoesOn, Esc}
-use Rattle.csicodec_spans.specs.declared.table.Kind.TheVariants as kind
 use Rattle.csicodec_spans.proofs.OneSpan.{none_plain, plain_found}
+use Rattle.csicodec_spans.specs.declared.table.Kind.TheVariants as kind
 use Rattle.csicodec_spans.proofs.near.front_len.Goals as goal
 
 pub returns-in-GoesOn : goal.returns-in-GoesOn

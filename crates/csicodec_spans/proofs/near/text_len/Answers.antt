@@ -1,6 +1,6 @@
 use Rattle.std.proofs.Common.{arith}
-use Rattle.csicodec_spans.specs.declared.table.Mode.TheVariants as mode
 use Rattle.csicodec_spans.proofs.OneSpan.{lanes_stay, near_stays, stays_on}
+use Rattle.csicodec_spans.specs.declared.table.Mode.TheVariants as mode
 use Rattle.csicodec_spans.proofs.near.text_len.Goals as goal
 
 pub returns-then-near-lt16-clause-stay : goal.returns-then-near-lt16-clause-stay

@@ -1,5 +1,4 @@
-use Rattle.std.proofs.Common.{refl}
-use Rattle.std.proofs.lemmas.Simd.{zip2_of_maps, zip2_splat}
+use Rattle.std.proofs.{Common.refl, lemmas.Simd.zip2_of_maps, lemmas.Simd.zip2_splat}
 use Rattle.csicodec_spans.proofs.OneSpan.{osc_lanes}
 use Rattle.csicodec_spans.proofs.staying.in_osc_32.Goals as goal
 

@@ -1,5 +1,4 @@
-use Rattle.std.proofs.Common.{ℕ, List, ◌++◌, ap, ◌∙◌}
-use Rattle.std.proofs.lemmas.Result.{on_ok_weaker}
+use Rattle.std.proofs.{Common.ℕ, Common.List, Common.◌++◌, Common.ap, Common.◌∙◌, lemmas.Result.on_ok_weaker}
 use Rattle.csicodec_streams.proofs.color.append_color.Goals as goal
 
 pub returns-in-Some-clause-ok : goal.returns-in-Some-clause-ok

@@ -1,6 +1,5 @@
 use Rattle.std.proofs.Common.{false, arith}
-use Rattle.csicodec_streams.proofs.Colors.{color_read, color_short, color_stands}
-use Rattle.csicodec_streams.proofs.Positions.{byte_cut, two_cut}
+use Rattle.csicodec_streams.proofs.{Colors.color_read, Colors.color_short, Colors.color_stands, Positions.byte_cut, Positions.two_cut}
 use Rattle.csicodec_streams.proofs.color.read_color.Goals as goal
 
 pub returns-clause-spelled : goal.returns-clause-spelled

@@ -1,5 +1,4 @@
-use Rattle.std.proofs.Common.{ℕ, List, ◌∷◌, ap, take, append-nil, ◌∙◌, arith}
-use Rattle.std.proofs.lemmas.List.{length-take}
+use Rattle.std.proofs.{Common.ℕ, Common.List, Common.◌∷◌, Common.ap, Common.take, Common.append-nil, Common.◌∙◌, Common.arith, lemmas.List.length-take}
 use Rattle.csicodec_streams.proofs.Colors.{colons_selected}
 use Rattle.csicodec_streams.proofs.color.with_colons.Goals as goal
 

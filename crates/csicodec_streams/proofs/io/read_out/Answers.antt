@@ -1,6 +1,4 @@
-use Rattle.std.proofs.Common.{◌++◌, take, arith}
-use Rattle.std.proofs.lemmas.List.{length-append}
-use Rattle.std.proofs.KnownBytes.{Consumes-trans}
+use Rattle.std.proofs.{Common.◌++◌, Common.take, Common.arith, lemmas.List.length-append, KnownBytes.Consumes-trans}
 use Rattle.csicodec_streams.proofs.io.read_out.Goals as goal
 
 pub loop-read-preserved : goal.loop-read-preserved

@@ -1,7 +1,5 @@
-use Rattle.std.proofs.Common.{◌++◌, take}
-use Rattle.std.proofs.KnownBytes.{Appends-trans, Appends-kept}
-use Rattle.csicodec_streams.proofs.Streamed.{moves_front}
-use Rattle.csicodec_streams.proofs.io.send.Goals.{in-Ok, in-Err+else-ne}
+use Rattle.std.proofs.{Common.◌++◌, Common.take, KnownBytes.Appends-trans, KnownBytes.Appends-kept}
+use Rattle.csicodec_streams.proofs.{Streamed.moves_front, io.send.Goals.in-Ok, io.send.Goals.in-Err+else-ne}
 use Rattle.csicodec_streams.proofs.io.send.Goals as goal
 
 pub loop-preserved : goal.loop-preserved

@@ -1,5 +1,4 @@
-use Rattle.std.proofs.Common.{◌++◌, take}
-use Rattle.std.proofs.KnownBytes.{Appends-trans}
+use Rattle.std.proofs.{Common.◌++◌, Common.take, KnownBytes.Appends-trans}
 use Rattle.csicodec_streams.proofs.Streamed.{moves_front}
 use Rattle.csicodec_streams.proofs.io.write_out.Goals as goal
 

@@ -1,5 +1,5 @@
-use Rattle.std.proofs.Common.{◌≡◌, ◌-◌, ◌++◌, [], false, length, arith, ap, sym, ◌∙◌, append-nil, refl}
-use Rattle.std.proofs.KnownBytes.{Consumes-nil, Consumes-trans}
+use Rattle.std.proofs.{Common.◌≡◌, Common.◌-◌, Common.◌++◌, Common.[], Common.false, Common.length, Common.arith, Common.ap, Common.sym, Common.◌∙◌}
+use Rattle.std.proofs.{Common.append-nil, Common.refl, KnownBytes.Consumes-nil, KnownBytes.Consumes-trans}
 use Rattle.csicodec_streams.specs.Private.Steps.{DecodesFront}
 use Rattle.csicodec_streams.proofs.Streamed.{front_all, front_on, front_read, kept_behind, length_read, refused_end, refuses_at, stays_refused, whole_given}
 use Rattle.csicodec_streams.proofs.stream.stream_into.Goals as goal

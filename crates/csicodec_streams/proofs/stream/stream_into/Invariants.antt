@@ -1,9 +1,7 @@
 use Rattle.std.proofs.Common.{◌≡◌, false, ℕ, List, ◌++◌, ◌+◌, ◌-◌, ◌^◌, length}
 use Rattle.std.specs.Io.KnownBytes.{Consumes}
-use Rattle.csicodec_actions.specs.Actions.{Action}
-use Rattle.csicodec_actions.specs.Table.{texts}
-use Rattle.csicodec_streams.specs.Known.{AreKnown, IsNormal}
-use Rattle.csicodec_streams.specs.Private.Steps.{DecodesFront}
+use Rattle.csicodec_actions.specs.{Actions.Action, Table.texts}
+use Rattle.csicodec_streams.specs.{Known.AreKnown, Known.IsNormal, Private.Steps.DecodesFront}
 use Rattle.csicodec_streams.proofs.stream.stream_into.Given as goal
 
 -- what was read decodes up to what is held, and the texts of its actions are out; what is kept is known

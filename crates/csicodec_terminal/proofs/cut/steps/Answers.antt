@@ -1,6 +1,4 @@
-use Rattle.std.proofs.Common.{[], arith}
-use Rattle.std.proofs.lemmas.Bool.Decides.{nat_tests}
-use Rattle.std.proofs.lemmas.List.{append-nil}
+use Rattle.std.proofs.{Common.[], Common.arith, lemmas.Bool.Decides.nat_tests, lemmas.List.append-nil}
 use Rattle.csicodec_terminal.proofs.Moves.{none_left}
 use Rattle.csicodec_terminal.proofs.cut.steps.Goals as goal
 

@@ -1,6 +1,5 @@
 use Rattle.std.proofs.Common.{[], ap, map, subst, sym}
-use Rattle.csicodec_parser.specs.ActionOf.{action_of}
-use Rattle.csicodec_parser.specs.Segments.{Actions}
+use Rattle.csicodec_parser.specs.{ActionOf.action_of, Segments.Actions}
 use Rattle.csicodec_terminal.proofs.terminal.first_into.Goals as goal
 
 pub returns : goal.returns

@@ -1,5 +1,4 @@
-use Rattle.std.proofs.Common.{[], refl}
-use Rattle.std.proofs.lemmas.List.{append-nil}
+use Rattle.std.proofs.{Common.[], Common.refl, lemmas.List.append-nil}
 use Rattle.csicodec_tokens.proofs.fields.all_fields.Goals as goal
 
 pub returns-clause-ok : goal.returns-clause-ok

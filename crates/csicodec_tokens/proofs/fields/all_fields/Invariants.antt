@@ -1,7 +1,6 @@
 use Rattle.std.proofs.Common.{◌≡◌, true, List, Option, Some, ℤ, ◌++◌, length, ◌≤◌, map}
 use Rattle.std.specs.List.{AllByRecursion, list_all}
-use Rattle.csicodec_tokens.specs.Fields.{fields_of}
-use Rattle.csicodec_tokens.specs.Private.FieldsBy.{is_field_token, number_in, IsField}
+use Rattle.csicodec_tokens.specs.{Fields.fields_of, Private.FieldsBy.is_field_token, Private.FieldsBy.number_in, Private.FieldsBy.IsField}
 use Rattle.csicodec_tokens.proofs.fields.all_fields.Given as goal
 
 -- Whatever fields the rest has complete the list.

@@ -1,6 +1,5 @@
 use Rattle.std.proofs.Common.{inl, inr, arith}
-use Rattle.csicodec_tokens.proofs.Reading.{first_cut}
-use Rattle.csicodec_tokens.proofs.Beginnings.{cut_behind, found_behind, bad_behind, large_behind}
+use Rattle.csicodec_tokens.proofs.{Reading.first_cut, Beginnings.cut_behind, Beginnings.found_behind, Beginnings.bad_behind, Beginnings.large_behind}
 use Rattle.csicodec_tokens.proofs.reader.behind_csi.Goals as goal
 
 pub returns-in_default-clause-refused : goal.returns-in_default-clause-refused

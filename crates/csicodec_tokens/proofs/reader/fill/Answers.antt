@@ -1,8 +1,5 @@
-use Rattle.std.proofs.Common.{◌∷◌, [], subst, arith}
-use Rattle.std.proofs.lemmas.List.{length-append}
-use Rattle.std.proofs.lemmas.Result.{err_from_is_err_and}
-use Rattle.csicodec_tokens.specs.declared.param.CsiParam.TheVariants.{P}
-use Rattle.csicodec_tokens.specs.Private.Reading.{IsPart, HasRead}
+use Rattle.std.proofs.{Common.◌∷◌, Common.[], Common.subst, Common.arith, lemmas.List.length-append, lemmas.Result.err_from_is_err_and}
+use Rattle.csicodec_tokens.specs.{declared.param.CsiParam.TheVariants.P, Private.Reading.IsPart, Private.Reading.HasRead}
 use Rattle.csicodec_tokens.proofs.Reading.{others_shorter, read_more, read_all, fault_refuses}
 use Rattle.csicodec_tokens.proofs.reader.fill.Goals as goal
 

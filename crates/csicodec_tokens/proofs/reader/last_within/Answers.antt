@@ -1,6 +1,5 @@
-use Rattle.std.proofs.Common.{◌≡◌, ◌<◌, ◌∷◌, [], length, take, subst, arith}
-use Rattle.std.proofs.lemmas.List.{length-append, length-set, length-take-le, take_more_set}
-use Rattle.std.proofs.lemmas.Result.{err_from_is_err_and}
+use Rattle.std.proofs.{Common.◌≡◌, Common.◌<◌, Common.◌∷◌, Common.[], Common.length, Common.take, Common.subst, Common.arith, lemmas.List.length-append}
+use Rattle.std.proofs.{lemmas.List.length-set, lemmas.List.length-take-le, lemmas.List.take_more_set, lemmas.Result.err_from_is_err_and}
 use Rattle.csicodec_tokens.specs.Private.Reading.{IsPart}
 use Rattle.csicodec_tokens.proofs.Reading.{others_shorter, read_more, read_all, fault_refuses}
 use Rattle.csicodec_tokens.proofs.reader.last_within.Goals as goal

@@ -1,5 +1,4 @@
-use Rattle.std.proofs.Common.{w64, inl, inr, arith}
-use Rattle.std.proofs.lemmas.Int.{to_z_pos}
+use Rattle.std.proofs.{Common.w64, Common.inl, Common.inr, Common.arith, lemmas.Int.to_z_pos}
 use Rattle.csicodec_tokens.proofs.Reading.{first_cut, first_number, fault_at_byte, fault_at_digit, fault_at_end}
 use Rattle.csicodec_tokens.proofs.reader.part_front.Goals as goal
 

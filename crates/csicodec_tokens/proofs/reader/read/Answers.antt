@@ -1,6 +1,4 @@
-use Rattle.std.proofs.Common.{◌≢◌, length, ◌∙◌, arith}
-use Rattle.std.proofs.lemmas.Bool.{false≢true}
-use Rattle.std.proofs.lemmas.Result.{err_from_is_err_and}
+use Rattle.std.proofs.{Common.◌≢◌, Common.length, Common.◌∙◌, Common.arith, lemmas.Bool.false≢true, lemmas.Result.err_from_is_err_and}
 use Rattle.csicodec_tokens.proofs.Reading.{read_none, fault_refuses}
 use Rattle.csicodec_tokens.proofs.reader.read.Goals as goal
 

@@ -1,8 +1,6 @@
-use Rattle.std.proofs.Common.{◌≡◌, ◌<◌, ◌+◌, length, take, slice_set, subst, arith}
-use Rattle.csicodec_tokens.specs.declared.param.CsiParam.TheVariants.{P}
-use Rattle.std.proofs.lemmas.List.{length-set, take_more_set}
-use Rattle.std.proofs.lemmas.Result.{err_from_is_err_and}
-use Rattle.csicodec_tokens.specs.Private.Reading.{IsPart, HasRead}
+use Rattle.std.proofs.{Common.◌≡◌, Common.◌<◌, Common.◌+◌, Common.length, Common.take, Common.slice_set, Common.subst, Common.arith, lemmas.List.length-set}
+use Rattle.std.proofs.{lemmas.List.take_more_set, lemmas.Result.err_from_is_err_and}
+use Rattle.csicodec_tokens.specs.{declared.param.CsiParam.TheVariants.P, Private.Reading.IsPart, Private.Reading.HasRead}
 use Rattle.csicodec_tokens.proofs.Reading.{others_shorter, read_more, read_all, fault_refuses}
 use Rattle.csicodec_tokens.proofs.reader.read_csi_within.Goals as goal
 

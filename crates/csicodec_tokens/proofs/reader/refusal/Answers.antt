@@ -1,5 +1,4 @@
-use Rattle.std.proofs.Common.{◌++◌, arith}
-use Rattle.std.proofs.lemmas.List.{length-append}
+use Rattle.std.proofs.{Common.◌++◌, Common.arith, lemmas.List.length-append}
 use Rattle.csicodec_tokens.proofs.Reading.{fault_refuses}
 use Rattle.csicodec_tokens.proofs.reader.refusal.Goals as goal
 

@@ -1,6 +1,5 @@
-use Rattle.std.proofs.Common.{◌++◌, ◌∷◌, [], append_assoc, subst, arith}
-use Rattle.std.proofs.lemmas.List.{length-append}
-use Rattle.std.proofs.lemmas.Result.{err_from_is_err_and}
+use Rattle.std.proofs.{Common.◌++◌, Common.◌∷◌, Common.[], Common.append_assoc, Common.subst, Common.arith, lemmas.List.length-append}
+use Rattle.std.proofs.{lemmas.Result.err_from_is_err_and}
 use Rattle.csicodec_tokens.specs.Private.Reading.{IsPart}
 use Rattle.csicodec_tokens.proofs.Reading.{others_shorter, read_more, read_all}
 use Rattle.csicodec_tokens.proofs.reader.tokens_from.Goals as goal

@@ -1,6 +1,5 @@
 use Rattle.std.proofs.Common.{◌≡◌, ◌+◌, ◌≤◌, List, ◌++◌, length}
-use Rattle.csicodec_tokens.specs.declared.param.CsiParam.{CsiParam}
-use Rattle.csicodec_tokens.specs.Private.Reading.{HasRead}
+use Rattle.csicodec_tokens.specs.{declared.param.CsiParam.CsiParam, Private.Reading.HasRead}
 use Rattle.csicodec_tokens.proofs.reader.tokens_from.Given as goal
 
 abbrev pub invariant-loop-others : goal.invariant-loop-others

@@ -1,8 +1,8 @@
-use Rattle.std.proofs.Common.{◌≡◌, ◌+◌, ◌≤◌, List, ◌++◌, ℕ, length, take, arith, ap, ◌∙◌, append_assoc, rules}
-use Rattle.std.proofs.Math.Seq.{take-append-add}
-use Rattle.std.proofs.lemmas.List.{take-take, take-append-le, length-take-le}
-use Rattle.csicodec_tokens.proofs.text.put.Goals as goal
+use Rattle.std.proofs.{Common.◌≡◌, Common.◌+◌, Common.◌≤◌, Common.List, Common.◌++◌, Common.ℕ, Common.length, Common.take, Common.arith, Common.ap, Common.◌∙◌}
+use Rattle.std.proofs.{Common.append_assoc, Common.rules, Math.Seq.take-append-add, lemmas.List.take-take, lemmas.List.take-append-le}
+use Rattle.std.proofs.{lemmas.List.length-take-le}
 use Rattle.csicodec_tokens.proofs.text.put.Goals.{then-len-lt-ROOM+in_ok-widen, else-len-lt-ROOM}
+use Rattle.csicodec_tokens.proofs.text.put.Goals as goal
 
 -- a part behind a front, and of it the first bytes
 part_front : (front part behind after : List ℕ) (n count : ℕ) → length front + count ≤ n →

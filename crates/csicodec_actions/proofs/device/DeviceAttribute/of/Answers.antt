@@ -1,6 +1,5 @@
 use Rattle.std.proofs.Common.{refl, rules, sym}
-use mir.Syntax.{w64}
-use mir.Val.{SFits}
+use mir.{Syntax.w64, Val.SFits}
 use Rattle.csicodec_names.proofs.Coded.{attributes, found-of}
 use Rattle.csicodec_names.specs.DeviceNumbers.{device_attribute_codes, device_attribute_number}
 use Rattle.csicodec_actions.proofs.device.DeviceAttribute.of.Goals as goal

@@ -1,8 +1,7 @@
 use Rattle.std.proofs.Common.{◌≡◌, ◌++◌, ◌∙◌, List, ap, refl, sym}
 use Rattle.std.specs.Option.{option_or}
 use Rattle.csicodec_tokens.specs.declared.param.CsiParam.{CsiParam}
-use Rattle.csicodec_actions.specs.Rows.{given}
-use Rattle.csicodec_actions.specs.Table.Device.{as_device, classes, requests, terminals}
+use Rattle.csicodec_actions.specs.{Rows.given, Table.Device.as_device, Table.Device.classes, Table.Device.requests, Table.Device.terminals}
 use Rattle.csicodec_actions.proofs.AllRows.{given-append}
 use Rattle.csicodec_actions.proofs.lists.device.attributes.Goals as goal
 

@@ -1,7 +1,6 @@
 use Rattle.std.proofs.Common.{◌++◌, sym, ap, ◌∙◌}
 use Rattle.std.specs.Option.{option_or}
-use Rattle.csicodec_actions.specs.FieldRows.{given}
-use Rattle.csicodec_actions.specs.Table.Window.{alone_rows, two_rows, which_rows}
+use Rattle.csicodec_actions.specs.{FieldRows.given, Table.Window.alone_rows, Table.Window.two_rows, Table.Window.which_rows}
 use Rattle.csicodec_actions.proofs.AllFieldRows.{given-append}
 use Rattle.csicodec_actions.proofs.lists.window.window_of.Goals as goal
 

@@ -1,11 +1,10 @@
 use Rattle.std.proofs.Common.{◌<◌, ap, sym, ◌∙◌, rules}
-use mir.Syntax.{w64}
-use mir.Val.{SFits}
+use mir.{Syntax.w64, Val.SFits}
 use Rattle.csicodec_names.proofs.Coded.{found-of, decs}
 use Rattle.csicodec_names.specs.ModeNumbers.{dec_mode_number, dec_codes}
-use Rattle.csicodec_actions.specs.declared.mode.DecPrivateMode.TheVariants as dec
 use Rattle.csicodec_actions.specs.Kinds.{read, Dec}
 use Rattle.csicodec_actions.proofs.Values.{named, own-number}
+use Rattle.csicodec_actions.specs.declared.mode.DecPrivateMode.TheVariants as dec
 use Rattle.csicodec_actions.proofs.mode.DecPrivateModeFromU16.from.Goals as goal
 
 pub returns-in-Some : goal.returns-in-Some

@@ -1,11 +1,10 @@
 use Rattle.std.proofs.Common.{ap, sym, ◌∙◌}
 use Rattle.std.specs.Option.{option_map}
-use Rattle.csicodec_names.specs.ModeNumbers.{terminal_mode_number}
-use Rattle.csicodec_actions.specs.declared.mode.TerminalMode.TheVariants as terminal
+use Rattle.csicodec_names.specs.ModeNumbers.{terminal_mode_number, terminal_codes}
 use Rattle.csicodec_actions.specs.Kinds.{read}
-use Rattle.csicodec_names.specs.ModeNumbers.{terminal_codes}
 use Rattle.csicodec_actions.proofs.Values.{named, unnamed}
 use Rattle.csicodec_names.proofs.Coded.{terminals}
+use Rattle.csicodec_actions.specs.declared.mode.TerminalMode.TheVariants as terminal
 use Rattle.csicodec_actions.proofs.mode.TerminalMode.at.Goals as goal
 
 pub returns-in-Some : goal.returns-in-Some

@@ -1,7 +1,7 @@
 use Rattle.std.proofs.Common.{◌≡◌, inl, inr}
+use Rattle.csicodec_events.proofs.Spans.{no_csi, span_told}
 use Rattle.csicodec_spans.specs.declared.table.Kind.TheVariants as kind
 use Rattle.csicodec_events.specs.declared.event.Event.TheVariants as event
-use Rattle.csicodec_events.proofs.Spans.{no_csi, span_told}
 use Rattle.csicodec_events.proofs.event.Events.span.Goals as goal
 
 pub returns-in-Esc : goal.returns-in-Esc

@@ -1,7 +1,7 @@
 use Rattle.std.proofs.Common.{◌-◌, length, ap, length-append, arith}
-use Rattle.csicodec_spans.specs.declared.table.Kind.TheVariants as kind
 use Rattle.csicodec_spans.proofs.Spanned.{cut_parts}
 use Rattle.csicodec_events.proofs.Spans.{text_told, text_waits}
+use Rattle.csicodec_spans.specs.declared.table.Kind.TheVariants as kind
 use Rattle.csicodec_events.proofs.event.Events.text.Goals as goal
 
 pub returns-then-len-eq0 : goal.returns-then-len-eq0

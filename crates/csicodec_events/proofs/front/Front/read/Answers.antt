@@ -1,6 +1,5 @@
 use Rattle.std.proofs.Common.{◌≡◌, ℕ, List, ◌-◌, length, length-append, take, ap, subst, ◌∙◌, arith}
-use Rattle.csicodec_tokens.specs.Fault.{FaultOf}
-use Rattle.csicodec_tokens.specs.Sequence.{Reads}
+use Rattle.csicodec_tokens.specs.{Fault.FaultOf, Sequence.Reads}
 use Rattle.csicodec_events.specs.Front.{Seen}
 use Rattle.csicodec_events.proofs.Costs.{read_cost, refused_fault}
 use Rattle.csicodec_events.proofs.front.Front.read.Goals as goal

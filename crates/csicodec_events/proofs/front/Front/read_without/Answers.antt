@@ -1,8 +1,6 @@
 use Rattle.std.proofs.Common.{ℕ, List, take, ap, subst, ◌∙◌, IfOk, MatchOption, Option}
-use Rattle.csicodec_tokens.specs.declared.param.CsiParam.{CsiParam}
-use Rattle.csicodec_tokens.specs.Sequence.{Seq}
-use Rattle.csicodec_events.specs.Front.{Seen}
-use Rattle.csicodec_events.specs.Events.{without_controls}
+use Rattle.csicodec_tokens.specs.{declared.param.CsiParam.CsiParam, Sequence.Seq}
+use Rattle.csicodec_events.specs.{Front.Seen, Events.without_controls}
 use Rattle.csicodec_events.proofs.front.Front.read_without.Goals as goal
 
 pub returns-clause-is : goal.returns-clause-is

@@ -1,6 +1,5 @@
 use Rattle.std.proofs.Common.{◌≡◌, drop}
-use Rattle.csicodec_osc.specs.declared.command.TheConstants.{COMMANDS}
-use Rattle.csicodec_osc.specs.Private.Reading.{first_read}
+use Rattle.csicodec_osc.specs.{declared.command.TheConstants.COMMANDS, Private.Reading.first_read}
 use Rattle.csicodec_osc.proofs.osc.Osc.read.Given as goal
 
 -- no command that is passed reads the content

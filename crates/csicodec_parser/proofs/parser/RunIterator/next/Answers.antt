@@ -1,10 +1,7 @@
 use Rattle.std.proofs.Common.{true, false, refl, sym, rules, arith, ◌∙◌, ap, length}
-use Rattle.csicodec_parser.specs.ActionOf.{action_of}
-use Rattle.csicodec_parser.specs.Progress.{progress}
-use Rattle.csicodec_parser.specs.Private.Steps.{has_failed}
-use Rattle.csicodec_parser.proofs.Blocks.{unknown_left}
+use Rattle.csicodec_parser.specs.{ActionOf.action_of, Progress.progress, Private.Steps.has_failed}
 use Rattle.csicodec_parser.proofs.NextLemmas.{Steps, sound_ok, next_ok, next_err, next_none, goes_ok, goes_err}
-use Rattle.csicodec_parser.proofs.parser.RunIterator.next.Given.{Over}
+use Rattle.csicodec_parser.proofs.{Blocks.unknown_left, parser.RunIterator.next.Given.Over}
 use Rattle.csicodec_parser.proofs.parser.RunIterator.next.Goals as goal
 
 pub returns-in_default-clause-steps : goal.returns-in_default-clause-steps

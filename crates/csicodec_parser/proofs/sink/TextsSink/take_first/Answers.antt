@@ -1,14 +1,10 @@
-use Rattle.std.proofs.Common.{◌≡◌, ◌∷◌, ◌++◌, ◌∙◌, Some, ap, sym, pos, rules}
-use Rattle.std.proofs.lemmas.Int.{to_z-of_z}
-use mir.Val.{SFits}
-use mir.Syntax.{w64}
+use Rattle.std.proofs.{Common.◌≡◌, Common.◌∷◌, Common.◌++◌, Common.◌∙◌, Common.Some, Common.ap, Common.sym, Common.pos, Common.rules, lemmas.Int.to_z-of_z}
+use Rattle.std.proofs.{lemmas.Result.IfOk-weaker}
+use mir.{Val.SFits, Syntax.w64}
 use Rattle.csicodec_tokens.specs.declared.param.CsiParam.TheVariants.{Integer}
-use Rattle.csicodec_actions.specs.Actions.{Sgr}
-use Rattle.csicodec_actions.specs.Table.{text}
-use Rattle.csicodec_parser.proofs.Fronts.{front_piece, piece_of_front}
+use Rattle.csicodec_actions.specs.{Actions.Sgr, Table.text}
+use Rattle.csicodec_parser.proofs.{Fronts.front_piece, Fronts.piece_of_front, Taken.texts_last, Taken.terminal_first, Taken.dec_first, Taken.first_taken}
 use Rattle.csicodec_parser.specs.Private.Steps.{styled}
-use Rattle.std.proofs.lemmas.Result.{IfOk-weaker}
-use Rattle.csicodec_parser.proofs.Taken.{texts_last, terminal_first, dec_first, first_taken}
 use Rattle.csicodec_parser.proofs.sink.TextsSink.take_first.Goals as goal
 
 pub returns-in-Styles-Integer-clause-some : goal.returns-in-Styles-Integer-clause-some

@@ -1,7 +1,6 @@
 use Rattle.std.proofs.Common.{◌∙◌, ap, refl, sym}
 use Rattle.csicodec_actions.specs.Actions.{Sgr}
-use Rattle.csicodec_parser.specs.ActionOf.{action_of}
-use Rattle.csicodec_parser.specs.Private.Steps.{found, styled}
+use Rattle.csicodec_parser.specs.{ActionOf.action_of, Private.Steps.found, Private.Steps.styled}
 use Rattle.csicodec_parser.proofs.Fronts.{front_piece, front_stuck}
 use Rattle.csicodec_parser.proofs.sink.TextsSink.take_piece.Goals as goal
 

@@ -1,7 +1,6 @@
 use Rattle.std.proofs.Common.{◌++◌, sym, ap, ◌∙◌}
-use Rattle.csicodec_actions.specs.Actions.{Unspecified}
+use Rattle.csicodec_actions.specs.{Actions.Unspecified, Table.text}
 use Rattle.csicodec_parser.specs.Groups.{marked}
-use Rattle.csicodec_actions.specs.Table.{text}
 use Rattle.csicodec_parser.proofs.Taken.{on_ok, texts_last}
 use Rattle.csicodec_parser.proofs.sink.TextsSink.take_unknown.Goals as goal
 

@@ -1,6 +1,5 @@
 use Rattle.std.proofs.Common.{◌∙◌, ap, refl, sym}
-use Rattle.csicodec_parser.specs.ActionOf.{action_of}
-use Rattle.csicodec_parser.specs.Private.Steps.{found}
+use Rattle.csicodec_parser.specs.{ActionOf.action_of, Private.Steps.found}
 use Rattle.csicodec_parser.proofs.Fronts.{front_piece, front_stuck}
 use Rattle.csicodec_parser.proofs.sink.VecCSISink.take_piece.Goals as goal
 

@@ -1,7 +1,6 @@
 use Rattle.std.proofs.Common.{Some, sym, subst, ◌∙◌}
-use Rattle.csicodec_spans.proofs.Sequences.{refused}
-use Rattle.csicodec_spans.proofs.Spanned.{IsCut, cut_some}
-use Rattle.csicodec_spans.proofs.cut.Cutter.next.Goals.{in-Csi+in-Err+in_default-error, in_default}
+use Rattle.csicodec_spans.proofs.{Sequences.refused, Spanned.IsCut, Spanned.cut_some, cut.Cutter.next.Goals.in-Csi+in-Err+in_default-error}
+use Rattle.csicodec_spans.proofs.{cut.Cutter.next.Goals.in_default}
 use Rattle.csicodec_spans.proofs.cut.Cutter.next.Goals as goal
 
 pub wrong_span-requires : goal.wrong_span-requires

@@ -1,8 +1,6 @@
 use Rattle.std.proofs.Common.{refl, sym, subst}
-use Rattle.csicodec_spans.specs.Parts.{IsMore}
-use Rattle.csicodec_spans.specs.Table.{ahead}
-use Rattle.csicodec_spans.proofs.Agrees.{found}
-use Rattle.csicodec_spans.proofs.OneSpan.{none_more, some_more}
+use Rattle.csicodec_spans.specs.{Parts.IsMore, Table.ahead}
+use Rattle.csicodec_spans.proofs.{Agrees.found, OneSpan.none_more, OneSpan.some_more}
 use Rattle.csicodec_spans.proofs.table.Mode.goes_on.Goals as goal
 
 pub returns-in-GoesOn : goal.returns-in-GoesOn

@@ -1,8 +1,6 @@
 use Rattle.std.proofs.Common.{◌≡◌, ℕ, ◌-◌, ◌++◌, Some, None, MatchOption, length, refl, subst, rules}
-use Rattle.csicodec_spans.specs.Parts.{IsUnsure}
-use Rattle.csicodec_spans.specs.Private.Begun.{IsBegun, Tells}
-use Rattle.csicodec_spans.proofs.Waits.{waits_on}
-use Rattle.csicodec_spans.proofs.waiting.Waiting.add.Goals.{In-Some}
+use Rattle.csicodec_spans.specs.{Parts.IsUnsure, Private.Begun.IsBegun, Private.Begun.Tells}
+use Rattle.csicodec_spans.proofs.{Waits.waits_on, waiting.Waiting.add.Goals.In-Some}
 use Rattle.csicodec_spans.proofs.waiting.Waiting.add.Goals as goal
 
 waits : (c : In-Some) → let now = c.self.inside in let all = now.held.bytes ++ c.args.bytes.now in IsUnsure now.limit now.mode all × IsBegun all (Some c.in-Some.number)

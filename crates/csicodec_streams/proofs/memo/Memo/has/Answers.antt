@@ -1,6 +1,5 @@
-use Rattle.std.proofs.Common.{◌≡◌, ◌<◌, length, refl, subst, sym, take, arith}
-use Rattle.std.proofs.lemmas.List.Elements.{All-get_or}
-use Rattle.std.proofs.lemmas.Option.{slice_get_read}
+use Rattle.std.proofs.{Common.◌≡◌, Common.◌<◌, Common.length, Common.refl, Common.subst, Common.sym, Common.take, Common.arith, lemmas.List.Elements.All-get_or}
+use Rattle.std.proofs.{lemmas.Option.slice_get_read}
 use Rattle.csicodec_streams.specs.Known.{IsKnown}
 use Rattle.csicodec_streams.proofs.Known.{same_noted}
 use Rattle.csicodec_streams.proofs.memo.Memo.has.Goals as goal

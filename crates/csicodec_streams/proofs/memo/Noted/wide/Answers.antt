@@ -1,5 +1,5 @@
-use Rattle.std.proofs.Common.{◌≡◌, ◌++◌, ℕ, List, take, drop, sym, ap, arith, ◌∙◌}
-use Rattle.std.proofs.lemmas.List.{take-append-drop}
+use Rattle.std.proofs.{Common.◌≡◌, Common.◌++◌, Common.ℕ, Common.List, Common.take, Common.drop, Common.sym, Common.ap, Common.arith, Common.◌∙◌}
+use Rattle.std.proofs.{lemmas.List.take-append-drop}
 use Rattle.csicodec_streams.proofs.memo.Noted.wide.Goals as goal
 
 pub returns : goal.returns

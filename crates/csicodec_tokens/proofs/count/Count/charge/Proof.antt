@@ -1,25 +1,16 @@
 -- An empty body. The borrow is opened and closed at another ghost value.
-use Rattle.std.proofs.Common.{◌+◌, ◌*◌, List, [], ◌∷◌, refl}
-use Rattle.std.proofs.raw_atomic.Walks.{proved}
-use base.Logic.{id⊢}
-use base.Fml.{ftrue, flft}
-use mir.Syntax.{named, w64}
-use mir.Val.{Val, vunit}
+use Rattle.std.proofs.{Common.◌+◌, Common.◌*◌, Common.List, Common.[], Common.◌∷◌, Common.refl, raw_atomic.Walks.proved}
+use base.{Logic.id⊢, Fml.ftrue, Fml.flft}
+use mir.{Syntax.named, Syntax.w64, Val.Val, Val.vunit}
 use contract.Running.{tables}
 use types.Kit.{‵, ◌⊛◌, ◌$◌, ◌∵◌, !, qed, move, keep, use1, split, join, fsplit3, feq_i, suffices, frame, group, done}
-use types.Run.{unit_lit, of_opd, returns, enter}
-use types.ByLocal.{alloc_all, pass_all, free_all, look_at, sets}
-use denote.Builtin.{usize}
-use denote.Exit.{yes}
-use denote.Plain.{uint_vals, uint_Tells}
-use denote.RattleType.{owns}
-use denote.Ref.{MutRef, mut_vals, mut_Tells}
-use denote.Signature.{plain}
-use denote.Steps.{nothing, opens, closes}
+use types.{Run.unit_lit, Run.of_opd, Run.returns, Run.enter, ByLocal.alloc_all, ByLocal.pass_all, ByLocal.free_all, ByLocal.look_at, ByLocal.sets}
+use denote.{Builtin.usize, Exit.yes, Plain.uint_vals, Plain.uint_Tells, RattleType.owns, Ref.MutRef, Ref.mut_vals, Ref.mut_Tells, Signature.plain}
+use denote.{Steps.nothing, Steps.opens, Steps.closes}
 use denote.Triple.Walked.{Stays, walk_of, says, stay_dropped, Goes-dropped, stay_ref, Goes-ref, ends_at}
 use Rattle.csicodec_tokens.specs.contracts.count.Count.{the_row as R}
-use Rattle.csicodec_tokens.specs.contracts.count.Count.charge as f
 use Rattle.csicodec_tokens.proofs.count.Count.charge.Statement.{statement}
+use Rattle.csicodec_tokens.specs.contracts.count.Count.charge as f
 use Rattle.csicodec_tokens.proofs.count.Count.charge.Code as code
 
 abbrev stayed : Stays f.ended.signature.params f.ended.kept

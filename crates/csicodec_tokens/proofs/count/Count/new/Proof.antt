@@ -1,19 +1,14 @@
 -- An empty body makes a struct of no bytes, with the ghost value 0.
-use Rattle.std.proofs.Common.{[], ◌∷◌, refl}
-use Rattle.std.proofs.raw_atomic.Walks.{proved}
+use Rattle.std.proofs.{Common.[], Common.◌∷◌, Common.refl, raw_atomic.Walks.proved}
 use base.Fml.{ftrue}
 use mir.Val.{vstruct, vnil}
-use types.Kit.{‵, raw, ◌⊛◌, ◌$◌, ◌∵◌, !, qed, move, keep, split, suffices, done}
-use types.Run.{no_more, returns, enter}
-use types.Part.{agg}
-use types.ByLocal.{alloc_all, pass_all, free_all, look_at, sets}
-use denote.RattleType.{owns}
-use denote.Shadow.{pure_i}
-use denote.Triple.Entry.{alive}
-use denote.Triple.Walked.{Stays, says, ends_at}
+use types.{Kit.‵, Kit.raw, Kit.◌⊛◌, Kit.◌$◌, Kit.◌∵◌, Kit.!, Kit.qed, Kit.move, Kit.keep, Kit.split, Kit.suffices, Kit.done, Run.no_more, Run.returns}
+use types.{Run.enter, Part.agg, ByLocal.alloc_all, ByLocal.pass_all, ByLocal.free_all, ByLocal.look_at, ByLocal.sets}
+use denote.{RattleType.owns, Shadow.pure_i}
+use denote.Triple.{Entry.alive, Walked.Stays, Walked.says, Walked.ends_at}
 use Rattle.csicodec_tokens.specs.contracts.count.Count.{the_row as R}
-use Rattle.csicodec_tokens.specs.contracts.count.Count.new as f
 use Rattle.csicodec_tokens.proofs.count.Count.new.Statement.{statement}
+use Rattle.csicodec_tokens.specs.contracts.count.Count.new as f
 use Rattle.csicodec_tokens.proofs.count.Count.new.Code as code
 
 abbrev stayed : Stays f.ended.signature.params f.ended.kept

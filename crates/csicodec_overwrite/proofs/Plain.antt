@@ -1,12 +1,13 @@
 -- What is written is plain: UTF-8 of characters that are shown.
 use Rattle.std.proofs.Common.{◌≡◌, ℕ, Bool, true, false, cond, List, [], ◌∷◌, ◌++◌, refl, ◌∙◌, rules}
 use Rattle.std.proofs.lemmas.Bool.{and_from, and_parts, cond_both}
-use Rattle.std.specs.{List.AllByRecursion, Str.all_scalars}
+use Rattle.std.specs.{Prelude.◌==◌, Prelude.None, List.AllByRecursion, List.flat_map, Str.all_scalars}
 use lib.Utf8.{scalar}
 use Rattle.bstr.specs.Utf8.{lossy_chars}
 use Rattle.csicodec_names.specs.declared.{enums.EraseInDisplay.EraseInDisplay, modes.TerminalModeCode.TerminalModeCode}
 use Rattle.csicodec_names.specs.declared.{enums.EraseInLine.EraseInLine, modes.DecPrivateModeCode.DecPrivateModeCode}
 use Rattle.csicodec_actions.specs.declared.mode.{DecPrivateMode.DecPrivateMode, TerminalMode.TerminalMode, Mode.Mode}
+use Rattle.csicodec_actions.proofs.AllRows.{all-append}
 use Rattle.csicodec_actions.specs.{Devices.Device, declared.cursor.Cursor.Cursor, Ranges.InRange, Ranges.SgrInRange}
 use Rattle.csicodec_actions.specs.{declared.edit.Edit.Edit, Actions.Action}
 use Rattle.csicodec_base.specs.declared.sgr.Sgr.{Sgr}
@@ -18,7 +19,7 @@ use Rattle.csicodec_html.specs.{declared.look.Look.Look, Look.behind, Look.plain
 use Rattle.csicodec_overwrite.specs.{declared.step.Step.Step, Line.blank, Line.do_all, Line.fresh, Paint.IsInRange}
 use Rattle.csicodec_overwrite.specs.Steps.{by_code, of_action, of_actions, of_char, of_chars, of_code, of_control, of_cursor}
 use Rattle.csicodec_overwrite.specs.Steps.{of_device, of_display, of_edit, of_escape, of_final, of_mode, of_part, of_reset, of_run}
-use Rattle.csicodec_overwrite.specs.Steps.{of_sequence, of_set, of_string, of_string_byte, of_terminal_code, of_terminal_mode, of_wrong, of_wrong_byte}
+use Rattle.csicodec_overwrite.specs.Steps.{by_escape, of_sequence, of_set, of_string, of_terminal_code, of_terminal_mode, of_wrong}
 use Rattle.csicodec_overwrite.specs.Reading.{AreOfParts, IsOfPart, Overwrites, Steps, most}
 use Rattle.csicodec_overwrite.proofs.{Kept.OfStep, Kept.of_shown, Texts.chars_by, Texts.shown_plain}
 use Rattle.csicodec_names.specs.declared.enums.EraseInDisplay.TheVariants as display
@@ -44,8 +45,7 @@ abbrev pub AreGood : List Step → Type 0
 AreGood steps = AllByRecursion (OfStep IsGood IsInRange SgrInRange) steps
 
 both : (xs ys : List Step) → AreGood xs → AreGood ys → AreGood (xs ++ ys)
-both [] ys h k = k
-both (x ∷ xs) ys h k = (h.0, both xs ys h.1 k)
+both = all-append (OfStep IsGood IsInRange SgrInRange)
 
 -- ---- no other is put
 
@@ -73,13 +73,9 @@ final_good c = search (rules, pick) depth 12
 escape_good : (bytes : List ℕ) → AreGood (of_escape bytes)
 escape_good bytes = search (rules, pick, final_good)
 
-string_good : (bytes : List ℕ) → AreGood (of_string bytes)
-string_good [] = tt
-string_good (b ∷ bytes) = both (of_string_byte b) (of_string bytes) (search (rules, pick)) (string_good bytes)
-
-wrong_good : (bytes : List ℕ) → AreGood (of_wrong bytes)
-wrong_good [] = tt
-wrong_good (b ∷ bytes) = both (of_wrong_byte b) (of_wrong bytes) (search (rules, pick)) (wrong_good bytes)
+escapes_good : (s : Step) → AreGood (s ∷ []) → (bytes : List ℕ) → AreGood (flat_map (by_escape s) bytes)
+escapes_good s h [] = tt
+escapes_good s h (b ∷ bytes) = both (by_escape s b) (flat_map (by_escape s) bytes) (pick (b == 27) (s ∷ []) [] (λ e. h) tt) (escapes_good s h bytes)
 
 cursor_good : (c : Cursor) → AreGood (of_cursor c)
 cursor_good (cursor.ActivePositionReport line col) = tt
@@ -166,8 +162,8 @@ part_steps : (k : Kind) (run bytes left : List ℕ) (steps : List Step) → IsOf
 part_steps kind.Text run bytes left steps h = rw h.0 tt
 part_steps kind.Csi run bytes left steps (actions, of, e, none) = rw e (both (of_run run) (of_sequence actions) (run_good run) (sequence_good bytes actions of))
 part_steps kind.Esc run bytes left steps h = rw h.0 (both (of_run run) (of_escape bytes) (run_good run) (escape_good bytes))
-part_steps kind.Str run bytes left steps h = rw h.0 (both (of_run run) (of_string bytes) (run_good run) (string_good bytes))
-part_steps kind.Other run bytes left steps h = rw h.0 (both (of_run run) (of_wrong bytes) (run_good run) (wrong_good bytes))
+part_steps kind.Str run bytes left steps h = rw h.0 (both (of_run run) (of_string bytes) (run_good run) (escapes_good step.Other (tt, tt) bytes))
+part_steps kind.Other run bytes left steps h = rw h.0 (both (of_run run) (of_wrong bytes) (run_good run) (escapes_good (step.Leave None) (tt, tt) bytes))
 
 parts_good : (run : List ℕ) (ps : List Part) (steps : List Step) (left : List ℕ) → AreOfParts run ps steps left → AreGood steps
 parts_good run [] steps left h = rw h.0 tt

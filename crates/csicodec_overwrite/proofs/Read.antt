@@ -1,7 +1,7 @@
 -- The parts of a stream, span by span, and the steps that came for them.
 use Rattle.std.proofs.Common.{◌≡◌, ℕ, Bool, false, List, [], ◌∷◌, ◌++◌, refl, sym, ap, subst, ◌∙◌, append_assoc, append-nil, arith}
 use Rattle.std.proofs.lemmas.Grind.{flat_map-append}
-use Rattle.std.specs.List.{AllByRecursion, flat_map}
+use Rattle.std.specs.{Prelude.None, List.AllByRecursion, List.flat_map}
 use Rattle.csicodec_spans.specs.declared.table.{Kind.Kind, Mode.Mode}
 use Rattle.csicodec_spans.specs.Parts.{Part, part, bytes_of, AreAll, IsSpan, Cuts, IsUnsure}
 use Rattle.csicodec_spans.proofs.{Kept.parts_more, Kept.parts_on, OneSpan.none_unsure}
@@ -9,12 +9,13 @@ use Rattle.csicodec_clean.specs.{Cleaned.longest, Shown.IsRead}
 use Rattle.csicodec_clean.specs.Titles.{title_behind, title_open, read_as, with_titles}
 use Rattle.csicodec_clean.proofs.{Sure.read_more, Sure.read_none, Titles.open_on, Titles.titled, Titles.titles_on}
 use Rattle.csicodec_overwrite.specs.{declared.step.Step.Step, Stream.Goes, Stream.Held, Stream.Reads, Stream.none_held}
-use Rattle.csicodec_overwrite.specs.Steps.{of_chars, of_escape, of_run, of_sequence, of_string, of_string_byte, of_wrong, of_wrong_byte}
+use Rattle.csicodec_overwrite.specs.Steps.{by_escape, of_chars, of_escape, of_run, of_sequence, of_string, of_wrong}
 use Rattle.csicodec_overwrite.specs.Reading.{AreOfParts, IsOfPart, Steps}
 use Rattle.csicodec_overwrite.specs.Private.Spans.{GoesTo, IsGiven}
 use Rattle.csicodec_overwrite.proofs.Chars.{chars_on, run_none, run_read}
 use Rattle.csicodec_spans.specs.declared.table.Kind.TheVariants as kind
 use Rattle.csicodec_spans.specs.declared.table.Mode.TheVariants as mode
+use Rattle.csicodec_overwrite.specs.declared.step.Step.TheVariants as step
 
 -- ---- parts
 
@@ -91,9 +92,9 @@ spanned kind.Csi run chars held bytes more ps left span read (actions, of, e, no
 spanned kind.Esc run chars held bytes more ps left span read h =
     ended run chars held ps (of_escape bytes) more left read h.0 h.1 (only kind.Esc bytes (of_run run ++ of_escape bytes) ps run span (refl, refl))
 spanned kind.Str run chars held bytes more ps left span read h =
-    ended run chars held ps (of_string bytes) more left read h.0 h.1 (by_bytes kind.Str of_string_byte (λ r b. (refl, refl)) bytes ps run span)
+    ended run chars held ps (of_string bytes) more left read h.0 h.1 (by_bytes kind.Str (by_escape step.Other) (λ r b. (refl, refl)) bytes ps run span)
 spanned kind.Other run chars held bytes more ps left span read h =
-    ended run chars held ps (of_wrong bytes) more left read h.0 h.1 (by_bytes kind.Other of_wrong_byte (λ r b. (refl, refl)) bytes ps run span)
+    ended run chars held ps (of_wrong bytes) more left read h.0 h.1 (by_bytes kind.Other (by_escape (step.Leave None)) (λ r b. (refl, refl)) bytes ps run span)
 
 -- ---- one behind the other
 

@@ -50,19 +50,17 @@ of_escape bytes = if length bytes == 2 then of_final (slice_index bytes 1)
     else if length bytes == 3 && (slice_index bytes 1 == 35 && slice_index bytes 2 == 56)
     then step.Leave (Some 1) ∷ [] else step.Other ∷ []
 
--- a control string does nothing; one ESC introduces each
-abbrev pub of_string_byte : ℕ → List Step
-of_string_byte b = if b == 27 then step.Other ∷ [] else []
+-- this step at an ESC: one introduces each control string, and each sequence that went wrong
+abbrev pub by_escape : Step → ℕ → List Step
+by_escape s b = if b == 27 then s ∷ [] else []
 
+-- a control string does nothing
 abbrev pub of_string : List ℕ → List Step
-of_string bytes = flat_map of_string_byte bytes
+of_string bytes = flat_map (by_escape step.Other) bytes
 
--- a sequence that went wrong may go to another row, as terminals carry some out; one ESC introduces each
-abbrev pub of_wrong_byte : ℕ → List Step
-of_wrong_byte b = if b == 27 then step.Leave None ∷ [] else []
-
+-- a sequence that went wrong may go to another row, as terminals carry some out
 abbrev pub of_wrong : List ℕ → List Step
-of_wrong bytes = flat_map of_wrong_byte bytes
+of_wrong bytes = flat_map (by_escape (step.Leave None)) bytes
 
 -- a count or a column goes no further than the widest row
 abbrev pub as_far : ℕ → ℕ

@@ -10,9 +10,7 @@ ghost use Rattle.csicodec_spans.specs.declared.table.Kind.TheVariants.{Csi as Se
 
 use crate::seen::Seen;
 use crate::step::Step;
-use crate::text::{
-    append_actions, append_escape, append_run, append_string, append_text, append_wrong,
-};
+use crate::text::{append_actions, append_by_escape, append_escape, append_run, append_text};
 use csicodec::CSI;
 use csicodec_base::CsiParam;
 use csicodec_clean::{read_as, title_behind};
@@ -66,8 +64,8 @@ fn append_span(
     }
     match kind {
         Kind::Esc => append_escape(bytes, steps),
-        Kind::Str => append_string(bytes, steps),
-        Kind::Other => append_wrong(bytes, steps),
+        Kind::Str => append_by_escape(bytes, Step::Other, steps),
+        Kind::Other => append_by_escape(bytes, Step::Leave(None), steps),
         Kind::Text | Kind::Csi => Ok(()),
     }
 }

@@ -1,10 +1,10 @@
 //! The steps of text, of escape sequences and of actions.
 ghost use Rattle.std.specs.Prelude.{◌≡◌, ◌≤◌, ◌++◌, ℕ, List, length, map, OnOk, IfOk};
-ghost use Rattle.std.specs.List.{list_any};
+ghost use Rattle.std.specs.List.{flat_map, list_any};
 ghost use Rattle.csicodec_actions.specs.Devices.{device_of};
 ghost use Rattle.csicodec_parser.specs.ActionOf.{action_of};
 ghost use Rattle.csicodec_clean.specs.Shown.{IsCut, IsRead};
-ghost use Rattle.csicodec_overwrite.specs.Steps.{as_far, by_code, is_mark, may_move, of_action, of_actions, of_char, of_chars, of_code, of_control, of_cursor, of_device, of_edit, of_escape, of_final, of_mode, of_reset, of_run, of_set, of_string, of_string_byte, of_terminal_mode, of_unread, of_wrong, of_wrong_byte, stops};
+ghost use Rattle.csicodec_overwrite.specs.Steps.{as_far, by_code, by_escape, is_mark, may_move, of_action, of_actions, of_char, of_chars, of_code, of_control, of_cursor, of_device, of_edit, of_escape, of_final, of_mode, of_reset, of_run, of_set, of_terminal_mode, of_unread, stops};
 
 use crate::step::{Step, WIDEST};
 use csicodec::{
@@ -89,42 +89,27 @@ pub(crate) fn append_escape(bytes: &[u8], steps: &mut Vec<Step>) -> Result<(), A
     Ok(steps.push(Step::Other)?)
 }
 
-/// Appends what a byte does of a control string.
-fn append_string_byte(byte: u8, steps: &mut Vec<Step>) -> Result<(), AllocError>
-    ensures { OnOk result (steps.new.items ≡ steps.old.items ++ of_string_byte byte) }
+/// Appends the step, if this is an ESC.
+fn append_at_escape(byte: u8, step: Step, steps: &mut Vec<Step>) -> Result<(), AllocError>
+    ensures { OnOk result (steps.new.items ≡ steps.old.items ++ by_escape step byte) }
 {
     if byte == 0x1b {
-        steps.push(Step::Other)?;
+        steps.push(step)?;
     }
     Ok(())
 }
 
-/// Appends what control strings do.
-pub(crate) fn append_string(bytes: &[u8], steps: &mut Vec<Step>) -> Result<(), AllocError>
-    ensures { OnOk result (steps.new.items ≡ steps.old.items ++ of_string bytes.now) }
+/// Appends the step for each ESC, of which one introduces each control string, and each sequence that went wrong.
+pub(crate) fn append_by_escape(
+    bytes: &[u8],
+    step: Step,
+    steps: &mut Vec<Step>,
+) -> Result<(), AllocError>
+    ensures { OnOk result
+        (steps.new.items ≡ steps.old.items ++ flat_map (by_escape step) bytes.now) }
 {
     for byte in bytes {
-        append_string_byte(*byte, steps)?;
-    }
-    Ok(())
-}
-
-/// Appends what a byte does of a sequence that went wrong.
-fn append_wrong_byte(byte: u8, steps: &mut Vec<Step>) -> Result<(), AllocError>
-    ensures { OnOk result (steps.new.items ≡ steps.old.items ++ of_wrong_byte byte) }
-{
-    if byte == 0x1b {
-        steps.push(Step::Leave(None))?;
-    }
-    Ok(())
-}
-
-/// Appends what sequences do that went wrong.
-pub(crate) fn append_wrong(bytes: &[u8], steps: &mut Vec<Step>) -> Result<(), AllocError>
-    ensures { OnOk result (steps.new.items ≡ steps.old.items ++ of_wrong bytes.now) }
-{
-    for byte in bytes {
-        append_wrong_byte(*byte, steps)?;
+        append_at_escape(*byte, step, steps)?;
     }
     Ok(())
 }

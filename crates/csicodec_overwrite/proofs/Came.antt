@@ -4,7 +4,6 @@ use Rattle.std.proofs.lemmas.{Bool.eqb-true, Grind.flat_map-append}
 use Rattle.std.specs.{Prelude.◌==◌, Prelude.filter, List.flat_map, Str.all_scalars}
 use Rattle.bstr.specs.Utf8.{lossy_chars}
 use Rattle.bstr.proofs.lemmas.{EncodeLemmas.lossy_chars-encode, PieceLemmas.lossy_chars-nil}
-use Rattle.csicodec_actions.specs.Ranges.{SgrInRange}
 use Rattle.csicodec_spans.specs.{declared.table.Kind.Kind, Parts.Part, Parts.left_over}
 use Rattle.csicodec_clean.specs.Cleaned.{Strips, is_text, longest, stripped}
 use Rattle.csicodec_clean.specs.Shown.{shown, shown_chars, shown_text}
@@ -12,13 +11,13 @@ use Rattle.csicodec_clean.specs.Titles.{title_open, with_titles}
 use Rattle.csicodec_clean.proofs.{Plain.kept_shown, Plain.scalars_lossy, Plain.scalars_on, Shows.encoded_on}
 use Rattle.csicodec_clean.proofs.{Titles.titles_on, Twice.one_text, Twice.plain_stays}
 use Rattle.csicodec_overwrite.specs.declared.{line.Line.Line, pen.Pen.Pen, step.Step.Step}
-use Rattle.csicodec_overwrite.specs.{declared.marking.Marking.TheVariants.Plain, Paint.IsInRange, Paint.as_text}
+use Rattle.csicodec_overwrite.specs.{declared.marking.Marking.TheVariants.Plain, Paint.as_text}
 use Rattle.csicodec_overwrite.specs.{Cells.columns, Line.blank, Line.do_all, Line.does, Line.fresh, Line.pen_behind}
 use Rattle.csicodec_overwrite.specs.Lost.{NothingLost, NothingMade, all_came, came, times}
 use Rattle.csicodec_overwrite.specs.Reading.{AreOfParts, IsOfPart, Shows, Steps, most, shown_by}
 use Rattle.csicodec_overwrite.specs.Steps.{of_char, of_chars, of_escape, of_run, of_sequence, of_string, of_wrong}
-use Rattle.csicodec_overwrite.proofs.{Kept.of_shown, Lost.balances, Lost.both, Lost.others, Lost.text_has, Lost.text_is}
-use Rattle.csicodec_overwrite.proofs.Plain.{IsGood, kept, overwritten_plain, plain_kept, scalars, steps_good}
+use Rattle.csicodec_overwrite.proofs.{Lost.balances, Lost.both, Lost.others, Lost.text_has}
+use Rattle.csicodec_overwrite.proofs.Plain.{overwritten_plain, scalars, shown_good}
 use Rattle.csicodec_overwrite.proofs.{Same.same_text, Texts.chars_by, Texts.shown_plain}
 use Rattle.csicodec_spans.specs.declared.table.Kind.TheVariants as kind
 use Rattle.csicodec_overwrite.specs.declared.step.Step.TheVariants as step
@@ -145,8 +144,7 @@ left_plain false bytes out text s k = plain_stays longest out text (overwritten_
 left_chars : (painted : Bool) (bytes out text : List ℕ) (s : Shows (as_text painted) bytes out) → Strips longest out text → lossy_chars text ≡ chars_by (do_all most fresh s.steps blank)
 left_chars painted bytes out text s k =
     let d = do_all most fresh s.steps blank in
-    let good = of_shown IsGood IsInRange SgrInRange (refl, refl) plain_kept kept (refl, refl) (refl, refl) most s.steps (steps_good bytes s.steps s.read) in
-    ap lossy_chars (left_plain painted bytes out text s k ∙ shown_plain d) ∙ lossy_chars-encode (chars_by d) (scalars (chars_by d) good)
+    ap lossy_chars (left_plain painted bytes out text s k ∙ shown_plain d) ∙ lossy_chars-encode (chars_by d) (scalars (chars_by d) (shown_good bytes s.steps s.read))
 
 -- ---- the laws
 
@@ -157,10 +155,10 @@ nothing_lost painted bytes kept out text s c k l no_tab no_newline =
       kept_put c no_tab no_newline bytes kept s.steps s.read k,
       all_puts c most fresh s.steps blank,
       balances c most fresh s.steps,
-      text_has c (do_all most fresh s.steps blank),
+      (text_has c no_newline (do_all most fresh s.steps blank)).0,
       ap (times c) (left_chars painted bytes out text s l),
     )
 
 pub nothing_made : NothingMade
 nothing_made painted bytes out text s c l no_blank no_newline =
-    omega (arith, balances c most fresh s.steps, text_is c (do_all most fresh s.steps blank) no_blank no_newline, ap (times c) (left_chars painted bytes out text s l))
+    omega (arith, balances c most fresh s.steps, (text_has c no_newline (do_all most fresh s.steps blank)).1 no_blank, ap (times c) (left_chars painted bytes out text s l))

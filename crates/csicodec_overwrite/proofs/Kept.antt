@@ -12,7 +12,7 @@ use Rattle.csicodec_overwrite.specs.Cells.{begins_behind, belongs, chars_of, col
 use Rattle.csicodec_overwrite.specs.Line.{Done, behind_columns, blank, cells_of, do_all, does, does_here, done, entered, fits, forward, fresh, from_stop}
 use Rattle.csicodec_overwrite.specs.Line.{in_row, is_row, last_behind, leave, leaves_long, line, lines_of, over, padded, parted, pen_behind, placed}
 use Rattle.csicodec_overwrite.specs.Line.{placed_in, put, repeat, repeated, restored, shows_nothing, size, target, to_stop, widest}
-use Rattle.csicodec_overwrite.proofs.Texts.{chars_by, line_chars}
+use Rattle.csicodec_overwrite.proofs.Texts.{cells_by, chars_by, line_cells, newline}
 use Rattle.csicodec_overwrite.specs.declared.step.Step.TheVariants as step
 
 -- either way of a test
@@ -115,7 +115,18 @@ module _ (P : ℕ → Type 0) (Q : Look → Type 0) (R : Sgr → Type 0) where
       let all = onto l.right l.left in
       moved (trimmed all) [] (of_trimmed all (moved l.right l.left h.1 h.0)) tt
 
-  module _ (tab : P 9) (plain_kept : Q plain) (kept : (l : Look) (s : Sgr) → Q l → R s → Q (behind l s)) where
+  module _ (space : P 32) where
+    pub of_chars : (x : Cell) → OfCell x → AllByRecursion P (chars_of x)
+    of_chars Empty h = (space, tt)
+    of_chars (Char g) h = (h.0, tt)
+    of_chars Behind h = tt
+    of_chars (Mark c) h = (h, tt)
+
+    of_cells : (xs : List Cell) → OfCells xs → AllByRecursion P (flat_map chars_of xs)
+    of_cells [] h = tt
+    of_cells (x ∷ xs) h = all-append P (chars_of x) (flat_map chars_of xs) (of_chars x h.0) (of_cells xs h.1)
+
+  module _ (tab : P 9) (newline_kept : P 10) (plain_kept : Q plain) (kept : (l : Look) (s : Sgr) → Q l → R s → Q (behind l s)) where
     abbrev pub OfDone : Done → Type 0
     OfDone d = AllByRecursion OfCells d.lines × OfLine d.line
 
@@ -215,30 +226,16 @@ module _ (P : ℕ → Type 0) (Q : Look → Type 0) (R : Sgr → Type 0) where
         let others = of_all limit next steps (does limit pen s l).line (pen_kept pen s (columns l.left) q p.0) p.1 one.1 in
         (all-append OfCells (does limit pen s l).lines later.lines one.0 others.0, others.1)
 
+    of_lines : (lines : List (List Cell)) → AllByRecursion OfCells lines → OfCells (flat_map line_cells lines)
+    of_lines [] h = tt
+    of_lines (x ∷ xs) h = all-append OfCell (line_cells x) (flat_map line_cells xs) (all-append OfCell x (newline ∷ []) h.0 ((newline_kept, plain_kept), tt)) (of_lines xs h.1)
+
     -- the cells of all that is shown
-    pub of_done : (limit : ℕ) (steps : List Step) → AllByRecursion OfStep steps
-        → AllByRecursion OfCells (do_all limit fresh steps blank).lines × OfCells (cells_of (do_all limit fresh steps blank).line)
+    pub of_done : (limit : ℕ) (steps : List Step) → AllByRecursion OfStep steps → OfCells (cells_by (do_all limit fresh steps blank))
     of_done limit steps p =
+        let d = do_all limit fresh steps blank in
         let all = of_all limit fresh steps blank (plain_kept, tt) p (tt, tt) in
-        (all.0, of_line (do_all limit fresh steps blank).line all.1)
+        all-append OfCell (flat_map line_cells d.lines) (cells_of d.line) (of_lines d.lines all.0) (of_line d.line all.1)
 
-    module _ (space : P 32) (newline : P 10) where
-      of_chars : (x : Cell) → OfCell x → AllByRecursion P (chars_of x)
-      of_chars Empty h = (space, tt)
-      of_chars (Char g) h = (h.0, tt)
-      of_chars Behind h = tt
-      of_chars (Mark c) h = (h, tt)
-
-      of_cells : (xs : List Cell) → OfCells xs → AllByRecursion P (flat_map chars_of xs)
-      of_cells [] h = tt
-      of_cells (x ∷ xs) h = all-append P (chars_of x) (flat_map chars_of xs) (of_chars x h.0) (of_cells xs h.1)
-
-      of_lines : (lines : List (List Cell)) → AllByRecursion OfCells lines → AllByRecursion P (flat_map line_chars lines)
-      of_lines [] h = tt
-      of_lines (x ∷ xs) h = all-append P (line_chars x) (flat_map line_chars xs) (all-append P (flat_map chars_of x) (10 ∷ []) (of_cells x h.0) (newline, tt)) (of_lines xs h.1)
-
-      pub of_shown : (limit : ℕ) (steps : List Step) → AllByRecursion OfStep steps → AllByRecursion P (chars_by (do_all limit fresh steps blank))
-      of_shown limit steps p =
-          let d = do_all limit fresh steps blank in
-          let all = of_done limit steps p in
-          all-append P (flat_map line_chars d.lines) (flat_map chars_of (cells_of d.line)) (of_lines d.lines all.0) (of_cells (cells_of d.line) all.1)
+    pub of_shown : P 32 → (limit : ℕ) (steps : List Step) → AllByRecursion OfStep steps → AllByRecursion P (chars_by (do_all limit fresh steps blank))
+    of_shown space limit steps p = of_cells space (cells_by (do_all limit fresh steps blank)) (of_done limit steps p)

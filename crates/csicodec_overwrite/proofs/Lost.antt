@@ -1,5 +1,5 @@
 -- Each character that comes stands in a line, or was taken out of its own: counted step by step.
-use Rattle.std.proofs.Common.{◌≡◌, ◌≢◌, ◌≤◌, ℕ, ◌+◌, ◌-◌, zero, suc, Bool, true, false, cond, min, List, [], ◌∷◌, ◌++◌, length, replicate, refl, ap, arith}
+use Rattle.std.proofs.Common.{◌≡◌, ◌≢◌, ◌≤◌, ℕ, ◌+◌, ◌-◌, zero, suc, Bool, true, false, cond, min, List, [], ◌∷◌, ◌++◌, length, replicate, refl, ap, ◌∙◌, arith}
 use Rattle.std.proofs.lemmas.{List.Sums.sum_by-append, Bool.Decides.nat_tests}
 use Rattle.std.specs.{Prelude.◌==◌, Prelude.Option, Prelude.Some, Prelude.None, List.flat_map}
 use Rattle.csicodec_overwrite.specs.declared.{cells.Cell.Cell, cells.Glyph.Glyph, line.Line.Line, step.Step.Step}
@@ -10,7 +10,7 @@ use Rattle.csicodec_overwrite.specs.Line.{Done, behind_columns, blank, cells_of,
 use Rattle.csicodec_overwrite.specs.Line.{from_stop, in_row, leaves_long, line, lines_of, over, parted, pen_behind, placed}
 use Rattle.csicodec_overwrite.specs.Line.{placed_in, put, repeat, repeated, restored, size, standing, target, to_stop, widest}
 use Rattle.csicodec_overwrite.specs.Lost.{again, all_came, all_taken, belonging, came, covered, left_out, taken, taken_again, taken_here, taken_by, taken_by_all, tabs, times, touched, under, whole, within, written}
-use Rattle.csicodec_overwrite.proofs.Texts.{chars_by, line_chars}
+use Rattle.csicodec_overwrite.proofs.Texts.{cells_by, chars_by, line_cells, newline}
 use Rattle.csicodec_overwrite.specs.declared.step.Step.TheVariants as step
 
 no_cells : (xs : List Cell) → length xs == 0 ≡ true → xs ≡ []
@@ -269,35 +269,31 @@ module _ (c : ℕ) where
 
   -- ---- the text of lines
 
-  pub text_has : (d : Done) → in_lines d.lines + count (cells_of d.line) ≤ times c (chars_by d)
-  text_has d = omega (arith, both (flat_map line_chars d.lines) (flat_map chars_of (cells_of d.line)), lines_have d.lines, cells_have (cells_of d.line))
-    where
-      cell_has : (x : Cell) → in_cell x ≤ times c (chars_of x)
-      cell_has Empty = omega arith
-      cell_has _ = omega arith
-
-      cells_have : (xs : List Cell) → count xs ≤ times c (flat_map chars_of xs)
-      cells_have [] = omega arith
-      cells_have (x ∷ xs) = omega (arith, cell_has x, cells_have xs, both (chars_of x) (flat_map chars_of xs))
-
-      lines_have : (lines : List (List Cell)) → in_lines lines ≤ times c (flat_map line_chars lines)
-      lines_have [] = omega arith
-      lines_have (x ∷ xs) = omega (arith, cells_have x, lines_have xs, both (line_chars x) (flat_map line_chars xs), both (flat_map chars_of x) (10 ∷ []))
-
   pub others : (k : ℕ) → c ≢ k → times c (k ∷ []) ≡ 0
   others k h = grind (arith, nat_tests)
 
-  pub text_is : (d : Done) → c ≢ 32 → c ≢ 10 → in_lines d.lines + count (cells_of d.line) ≡ times c (chars_by d)
-  text_is d no_blank no_newline = omega (arith, both (flat_map line_chars d.lines) (flat_map chars_of (cells_of d.line)), lines_are d.lines, cells_are (cells_of d.line))
-    where
-      cell_is : (x : Cell) → in_cell x ≡ times c (chars_of x)
-      cell_is Empty = omega (arith, others 32 no_blank)
-      cell_is _ = refl
+  cell_has : (x : Cell) → (in_cell x ≤ times c (chars_of x)) × (c ≢ 32 → in_cell x ≡ times c (chars_of x))
+  cell_has Empty = (omega arith, λ no_blank. omega (arith, others 32 no_blank))
+  cell_has _ = (omega arith, λ no_blank. refl)
 
-      cells_are : (xs : List Cell) → count xs ≡ times c (flat_map chars_of xs)
-      cells_are [] = refl
-      cells_are (x ∷ xs) = omega (arith, cell_is x, cells_are xs, both (chars_of x) (flat_map chars_of xs))
+  cells_have : (xs : List Cell) → (count xs ≤ times c (flat_map chars_of xs)) × (c ≢ 32 → count xs ≡ times c (flat_map chars_of xs))
+  cells_have [] = (omega arith, λ no_blank. refl)
+  cells_have (x ∷ xs) =
+      let (one, same) = cell_has x in
+      let (more, alike) = cells_have xs in
+      let parts = both (chars_of x) (flat_map chars_of xs) in
+      (omega (arith, one, more, parts), λ no_blank. omega (arith, same no_blank, alike no_blank, parts))
 
-      lines_are : (lines : List (List Cell)) → in_lines lines ≡ times c (flat_map line_chars lines)
-      lines_are [] = refl
-      lines_are (x ∷ xs) = omega (arith, cells_are x, lines_are xs, both (line_chars x) (flat_map line_chars xs), both (flat_map chars_of x) (10 ∷ []), others 10 no_newline)
+  module _ (no_newline : c ≢ 10) where
+    lines_have : (lines : List (List Cell)) (last : List Cell) → in_lines lines + count last ≡ count (flat_map line_cells lines ++ last)
+    lines_have [] last = omega arith
+    lines_have (x ∷ xs) last =
+        let rest = flat_map line_cells xs in
+        omega (arith, lines_have xs last, joined (line_cells x ++ rest) last, joined (line_cells x) rest, joined rest last, joined x (newline ∷ []), others 10 no_newline)
+
+    pub text_has : (d : Done) → let all = in_lines d.lines + count (cells_of d.line) in
+        (all ≤ times c (chars_by d)) × (c ≢ 32 → all ≡ times c (chars_by d))
+    text_has d =
+        let has = cells_have (cells_by d) in
+        let same = lines_have d.lines (cells_of d.line) in
+        (omega (arith, has.0, same), λ no_blank. same ∙ has.1 no_blank)

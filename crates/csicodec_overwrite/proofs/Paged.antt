@@ -1,6 +1,6 @@
 -- The page of lines is the page of what is painted of them: piece by piece, a character is itself, and the sequence of a look the tags between
 -- it and the look before.
-use Rattle.std.proofs.Common.{◌≡◌, ℕ, true, List, [], ◌∷◌, ◌++◌, map, encode_utf8, encode_utf8_all, refl, sym, ap, subst, ◌∙◌, append_assoc, append-nil, arith}
+use Rattle.std.proofs.Common.{◌≡◌, ℕ, Bool, true, false, cond, List, [], ◌∷◌, ◌++◌, map, encode_utf8, encode_utf8_all, refl, sym, ap, subst, ◌∙◌, append_assoc, append-nil}
 use Rattle.std.proofs.lemmas.{Bool.cond_both, Grind.flat_map-append}
 use Rattle.std.specs.{Prelude.filter, List.AllByRecursion, List.flat_map, Str.all_scalars}
 use Rattle.bstr.proofs.lemmas.EncodeLemmas.{lossy_chars-encode}
@@ -8,17 +8,17 @@ use Rattle.csicodec_spans.specs.Parts.{Part}
 use Rattle.csicodec_spans.proofs.OneSpan.{singles}
 use Rattle.csicodec_clean.specs.{Links.start, Shown.IsShown, Shown.shown}
 use Rattle.csicodec_clean.proofs.{PlainBytes.all_both, Twice.all_kept}
+use Rattle.csicodec_html.proofs.Recalled.{same_look}
 use Rattle.csicodec_html.specs.{declared.look.Look.Look, declared.markup.Markup.Markup, Look.plain}
 use Rattle.csicodec_html.specs.Page.{AreLeft, PageWith, Setting, escaped, piece_texts, setting, shown_pieces}
 use Rattle.csicodec_overwrite.specs.declared.cells.Cell.{Cell}
 use Rattle.csicodec_overwrite.specs.declared.marking.Marking.TheVariants.{Page, Styled}
-use Rattle.csicodec_overwrite.specs.Line.{Done, blank, cells_of, do_all, fresh}
-use Rattle.csicodec_overwrite.specs.Paint.{attributes, ended, look_of, paint, same, texts_of, turn}
+use Rattle.csicodec_overwrite.specs.{Cells.chars_of, Line.blank, Line.do_all, Line.fresh}
+use Rattle.csicodec_overwrite.specs.Paint.{attributes, look_of, paint, same, turn}
 use Rattle.csicodec_overwrite.specs.Reading.{Pages, Paints, most, shown_by}
-use Rattle.csicodec_overwrite.proofs.{Alike.look_one, Alike.newline_written, Looks.looks_back, Spelled.look_taken}
-use Rattle.csicodec_overwrite.proofs.Once.{one_text}
+use Rattle.csicodec_overwrite.proofs.{Looks.looks_back, Once.one_text, Spelled.look_taken, Texts.cells_by, Texts.shown_painted}
 use Rattle.csicodec_overwrite.proofs.Same.{AreSafe, One, Piece, Turn, all_painted, all_safe, more_encoded, more_scalars}
-use Rattle.csicodec_overwrite.proofs.Same.{of_all, of_cells, of_line, parts_of, pieces_text, turned, untitled, whole_pieces}
+use Rattle.csicodec_overwrite.proofs.Same.{of_all, of_cells, parts_of, pieces_text, turned, untitled, whole_pieces}
 use Rattle.csicodec_base.specs.declared.sgr.Sgr.TheVariants as sgr
 use Rattle.csicodec_actions.specs.Actions as action
 use Rattle.csicodec_spans.specs.declared.table.Kind.TheVariants as kind
@@ -75,66 +75,40 @@ module _ (m : Markup) where
         left ps new [] e refl tt safe.1,
       )
 
-  -- ---- one behind the other
+  -- ---- of a turn, of characters and of cells
 
-  both_marks : (xs ys : List Piece) (l : Look) → piece_texts (marks l (xs ++ ys)) ≡ piece_texts (marks l xs) ++ piece_texts (marks (look_behind l xs) ys)
-  both_marks [] ys l = refl
-  both_marks (One c ∷ xs) ys l = ap (λ (t : List ℕ). escaped c ++ t) (both_marks xs ys l) ∙ sym (append_assoc (escaped c) (piece_texts (marks l xs)) (piece_texts (marks (look_behind l xs) ys)))
-  both_marks (Turn new ∷ xs) ys l = simp (flat_map-append mark_text, both_marks xs ys new, append_assoc)
+  turned_behind : (old new : Look) (ps : List Piece) → look_behind old (turned old new ++ ps) ≡ look_behind new ps
+  turned_behind old new ps = cond_both (same old new) [] (Turn new ∷ []) (λ (front : List Piece). look_behind old (front ++ ps) ≡ look_behind new ps)
+      (λ e. ap (λ (l : Look). look_behind l ps) (same_look old new e)) (λ e. refl)
 
-  both_behind : (xs ys : List Piece) (l : Look) → look_behind l (xs ++ ys) ≡ look_behind (look_behind l xs) ys
-  both_behind [] ys l = refl
-  both_behind (One c ∷ xs) ys l = both_behind xs ys l
-  both_behind (Turn new ∷ xs) ys l = both_behind xs ys new
-
-  -- ---- of a turn and of characters
-
-  turned_behind : (old new : Look) → look_behind old (turned old new) ≡ new
-  turned_behind old new = cond_both (same old new) [] (Turn new ∷ []) (λ (ps : List Piece). look_behind old ps ≡ new) (look_one old new) (λ e. refl)
-
-  turned_marks : (old new : Look) → piece_texts (marks old (turned old new)) ≡ turn (Page m) old new
-  turned_marks old new = grind (arith, append-nil (html.turn m true old new))
-
-  ones_behind : (cs : List ℕ) (l : Look) → look_behind l (map One cs) ≡ l
-  ones_behind [] l = refl
-  ones_behind (c ∷ cs) l = ones_behind cs l
-
-  ones_marks : (cs : List ℕ) (l : Look) → piece_texts (marks l (map One cs)) ≡ flat_map escaped cs
-  ones_marks [] l = refl
-  ones_marks (c ∷ cs) l = ap (λ (t : List ℕ). escaped c ++ t) (ones_marks cs l)
-
-  -- ---- of cells and lines
+  ones_behind : (cs : List ℕ) (ps : List Piece) (l : Look) → look_behind l (map One cs ++ ps) ≡ look_behind l ps
+  ones_behind [] ps l = refl
+  ones_behind (c ∷ cs) ps l = ones_behind cs ps l
 
   cells_behind : (cells : List Cell) (l : Look) → look_behind l (of_cells l cells) ≡ plain
-  cells_behind [] l = turned_behind l plain
-  cells_behind (cell ∷ cells) l = simp (both_behind, turned_behind, ones_behind, cells_behind cells (look_of l cell))
+  cells_behind [] l = turned_behind l plain []
+  cells_behind (cell ∷ cells) l =
+      let next = look_of l cell in
+      turned_behind l next (map One (chars_of cell) ++ of_cells next cells) ∙ ones_behind (chars_of cell) (of_cells next cells) next ∙ cells_behind cells next
+
+  turned_marks : (old new : Look) (ps : List Piece) → piece_texts (marks old (turned old new ++ ps)) ≡ turn (Page m) old new ++ piece_texts (marks new ps)
+  turned_marks old new ps = by (same old new) refl
+    where
+      by : (t : Bool) → same old new ≡ t → piece_texts (marks old (cond t [] (Turn new ∷ []) ++ ps)) ≡ cond t [] (piece_texts (html.turn m true old new)) ++ piece_texts (marks new ps)
+      by true e = ap (λ (l : Look). piece_texts (marks l ps)) (same_look old new e)
+      by false e = flat_map-append mark_text (html.turn m true old new) (marks new ps)
+
+  ones_marks : (cs : List ℕ) (ps : List Piece) (l : Look) → piece_texts (marks l (map One cs ++ ps)) ≡ flat_map escaped cs ++ piece_texts (marks l ps)
+  ones_marks [] ps l = refl
+  ones_marks (c ∷ cs) ps l = rw (ones_marks cs ps l) (simp append_assoc)
 
   cells_marks : (cells : List Cell) (l : Look) → piece_texts (marks l (of_cells l cells)) ≡ paint (Page m) l cells
-  cells_marks [] l = turned_marks l plain
-  cells_marks (cell ∷ cells) l = simp (both_marks, turned_marks, turned_behind, ones_marks, ones_behind, cells_marks cells (look_of l cell))
-
-  line_behind : (cells : List Cell) → look_behind plain (of_line cells) ≡ plain
-  line_behind cells = both_behind (of_cells plain cells) (One 10 ∷ []) plain ∙ cells_behind cells plain
-
-  line_marks : (cells : List Cell) → piece_texts (marks plain (of_line cells)) ≡ ended (Page m) cells
-  line_marks cells =
-      both_marks (of_cells plain cells) (One 10 ∷ []) plain ∙ ap (λ (t : List ℕ). t ++ flat_map escaped (10 ∷ [])) (cells_marks cells plain)
-      ∙ ap (λ (t : List ℕ). paint (Page m) plain cells ++ t) (newline_written (Page m))
-
-  lines_behind : (lines : List (List Cell)) → look_behind plain (flat_map of_line lines) ≡ plain
-  lines_behind [] = refl
-  lines_behind (x ∷ xs) = both_behind (of_line x) (flat_map of_line xs) plain ∙ ap (λ (l : Look). look_behind l (flat_map of_line xs)) (line_behind x) ∙ lines_behind xs
-
-  lines_marks : (lines : List (List Cell)) → piece_texts (marks plain (flat_map of_line lines)) ≡ texts_of (Page m) lines
-  lines_marks [] = refl
-  lines_marks (x ∷ xs) = rw (both_marks (of_line x) (flat_map of_line xs) plain, line_marks x, line_behind x, lines_marks xs)
-
-  all_behind : (d : Done) → look_behind plain (of_all d) ≡ plain
-  all_behind d = rw (both_behind (flat_map of_line d.lines) (of_cells plain (cells_of d.line)) plain, lines_behind d.lines, cells_behind (cells_of d.line) plain)
-
-  all_marks : (d : Done) → piece_texts (marks plain (of_all d)) ≡ shown_by (Page m) d
-  all_marks d =
-      rw (both_marks (flat_map of_line d.lines) (of_cells plain (cells_of d.line)) plain, lines_marks d.lines, lines_behind d.lines, cells_marks (cells_of d.line) plain)
+  cells_marks [] l = turned_marks l plain [] ∙ append-nil (turn (Page m) l plain)
+  cells_marks (cell ∷ cells) l =
+      let next = look_of l cell in
+      turned_marks l next (map One (chars_of cell) ++ of_cells next cells)
+      ∙ ap (λ (t : List ℕ). turn (Page m) l next ++ t)
+      (ones_marks (chars_of cell) (of_cells next cells) next ∙ ap (λ (t : List ℕ). flat_map escaped (chars_of cell) ++ t) (cells_marks cells next))
 
   page_of : (ps : List Piece) → AreSafe ps → look_behind plain ps ≡ plain → PageWith m (pieces_text ps) (piece_texts (marks plain ps))
   page_of ps safe e = record {
@@ -151,10 +125,10 @@ module _ (m : Markup) where
   pub painted_page : (bytes page : List ℕ) → Pages m bytes page → (painted : List ℕ) × Paints bytes painted × PageWith m painted page
   painted_page bytes page p =
       let d = do_all most fresh p.steps blank in
-      let made = page_of (of_all d) (all_safe bytes p.steps p.read) (all_behind d) in (
+      let made = page_of (of_all d) (all_safe bytes p.steps p.read) (cells_behind (cells_by d) plain) in (
         shown_by Styled d,
         record { steps = p.steps; read = p.read; all = refl },
-        subst (λ (t : List ℕ). PageWith m t page) (all_painted d) (subst (PageWith m (pieces_text (of_all d))) (all_marks d ∙ sym p.all) made),
+        subst (λ (t : List ℕ). PageWith m t page) (all_painted d) (subst (PageWith m (pieces_text (of_all d))) (cells_marks (cells_by d) plain ∙ sym (shown_painted (Page m) d) ∙ sym p.all) made),
       )
 
   pub same_page : (bytes painted page : List ℕ) → Paints bytes painted → Pages m bytes page → PageWith m painted page

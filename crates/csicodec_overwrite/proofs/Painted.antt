@@ -3,13 +3,13 @@ use Rattle.std.proofs.Common.{◌≡◌, ℕ, zero, suc, Bool, true, false, List
 use Rattle.std.proofs.lemmas.Grind.{flat_map-append}
 use Rattle.std.specs.List.{flat_map}
 use Rattle.csicodec_base.specs.declared.sgr.Sgr.{Sgr}
+use Rattle.csicodec_html.proofs.Recalled.{same_look as look_one}
 use Rattle.csicodec_html.specs.{declared.look.Look.Look, Look.plain}
 use Rattle.csicodec_overwrite.specs.{declared.cells.Cell.Cell, Cells.chars_of, Cells.is_empty, Private.Alike.IsAlike}
 use Rattle.csicodec_overwrite.specs.declared.cells.{Cell.TheVariants.Char, Cell.TheVariants.Empty, Glyph.Glyph}
 use Rattle.csicodec_overwrite.specs.declared.marking.Marking.{Marking, TheVariants.Plain}
 use Rattle.csicodec_overwrite.specs.Paint.{attributes, further, look_of, look_text, paint, same, turn, written}
-use Rattle.csicodec_clean.proofs.Shows.{encoded_on}
-use Rattle.csicodec_overwrite.proofs.Alike.{look_one, turn_same, written_none, written_on}
+use Rattle.csicodec_overwrite.proofs.{Alike.turn_same, Alike.written_none, Alike.written_on, Texts.plain_paint}
 
 -- a cell, and then the others
 pub painted_on : (marking : Marking) (look : Look) (cell : Cell) (cells : List Cell) (old mid new whole : List ℕ) → mid ≡ old ++ turn marking look (look_of look cell)
@@ -100,11 +100,6 @@ same_on marking look all cells behind cell text old mid new split first is e f =
 pub looks_on : (marking : Marking) (look : Look) (others rest : List Cell) (text mid new whole : List ℕ) → paint marking look others ≡ text ++ paint marking look rest
     → new ≡ mid ++ text → mid ++ paint marking look others ≡ whole → new ++ paint marking look rest ≡ whole
 looks_on marking look others rest text mid new whole split e h = rw (e, append_assoc, ← split) h
-
-plain_paint : (look : Look) (cells : List Cell) → paint Plain look cells ≡ encode_utf8_all (flat_map chars_of cells)
-plain_paint look [] = refl
-plain_paint look (cell ∷ cells) =
-    ap (λ (t : List ℕ). encode_utf8_all (chars_of cell) ++ t) (plain_paint (look_of look cell) cells) ∙ sym (encoded_on (chars_of cell) (flat_map chars_of cells))
 
 -- the same without looks
 pub alike_plain : (cell : Cell) (behind rest : List Cell) (text old new whole : List ℕ) → IsAlike Plain cell behind text rest → new ≡ old ++ text

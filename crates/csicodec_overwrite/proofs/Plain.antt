@@ -194,8 +194,11 @@ all_shown : (cs : List ℕ) → AllByRecursion IsGood cs → AllByRecursion IsSh
 all_shown [] h = tt
 all_shown (c ∷ cs) h = (h.0.0, all_shown cs h.1)
 
+pub shown_good : (bytes : List ℕ) (steps : List Step) → Steps bytes steps → AllByRecursion IsGood (chars_by (do_all most fresh steps blank))
+shown_good bytes steps s = of_shown IsGood IsInRange SgrInRange (refl, refl) (refl, refl) plain_kept kept (refl, refl) most steps (steps_good bytes steps s)
+
 pub overwritten_plain : (bytes text : List ℕ) → Overwrites bytes text → IsPlain text
 overwritten_plain bytes text o =
     let d = do_all most fresh o.steps blank in
-    let good = of_shown IsGood IsInRange SgrInRange (refl, refl) plain_kept kept (refl, refl) (refl, refl) most o.steps (steps_good bytes o.steps o.read) in
+    let good = shown_good bytes o.steps o.read in
     (chars_by d, scalars (chars_by d) good, all_shown (chars_by d) good, o.all ∙ shown_plain d)

@@ -1,6 +1,6 @@
 -- What is painted is, without its sequences, the plain text.
 use Rattle.std.proofs.Common.{◌≡◌, ◌≤◌, ℕ, true, false, cond, List, [], ◌∷◌, ◌++◌, map, length, encode_utf8, encode_utf8_all, refl, sym, ap, subst, ◌∙◌, append_assoc, append-nil, arith}
-use Rattle.std.proofs.lemmas.{Bool.and_from, Bool.cond_both, Grind.flat_map-append}
+use Rattle.std.proofs.lemmas.Bool.{and_from, cond_both}
 use Rattle.std.specs.{Prelude.filter, List.AllByRecursion, List.flat_map, Str.all_scalars}
 use lib.Utf8.{scalar}
 use Rattle.bstr.proofs.lemmas.EncodeLemmas.{lossy_chars-encode}
@@ -14,14 +14,14 @@ use Rattle.csicodec_clean.proofs.{Plain.scalars_on, Shows.encoded_on, Twice.all_
 use Rattle.csicodec_clean.proofs.{PlainBytes.all_both, PlainBytes.one_char, Titles.single_texts, Titles.titles_on}
 use Rattle.csicodec_html.specs.{declared.look.Look.Look, Look.plain}
 use Rattle.csicodec_overwrite.specs.declared.{cells.Cell.Cell, step.Step.Step}
-use Rattle.csicodec_overwrite.specs.declared.cells.Cell.TheVariants.{Behind, Char, Empty, Mark}
+use Rattle.csicodec_overwrite.specs.declared.cells.Cell.TheVariants.{Char, Empty}
 use Rattle.csicodec_overwrite.specs.declared.marking.Marking.TheVariants.{Plain, Styled}
-use Rattle.csicodec_overwrite.specs.{Cells.chars_of, Line.Done, Line.blank, Line.cells_of, Line.do_all, Line.fresh}
-use Rattle.csicodec_overwrite.specs.Paint.{IsInRange, attributes, ended, further, look_of, look_text, paint, same, texts_of, turn}
+use Rattle.csicodec_overwrite.specs.{Cells.chars_of, Line.Done, Line.blank, Line.do_all, Line.fresh}
+use Rattle.csicodec_overwrite.specs.Paint.{IsInRange, attributes, further, look_of, look_text, paint, same, turn}
 use Rattle.csicodec_overwrite.specs.Reading.{Overwrites, Paints, Steps, most, shown_by}
-use Rattle.csicodec_overwrite.proofs.{Kept.OfCell, Kept.OfCells, Kept.of_done, Spelled.look_of_one, Spelled.look_short}
+use Rattle.csicodec_overwrite.proofs.{Kept.OfCell, Kept.OfCells, Kept.of_chars, Kept.of_done, Spelled.look_of_one, Spelled.look_short}
 use Rattle.csicodec_overwrite.proofs.{Once.one_reading, Plain.IsGood, Plain.kept, Plain.plain_kept, Plain.steps_good}
-use Rattle.csicodec_overwrite.proofs.Texts.{chars_by, line_chars, newline, shown_plain}
+use Rattle.csicodec_overwrite.proofs.Texts.{cells_by, shown_painted, shown_plain}
 use Rattle.csicodec_spans.specs.declared.table.Kind.TheVariants as kind
 use Rattle.csicodec_spans.specs.declared.table.Mode.TheVariants as mode
 
@@ -134,121 +134,83 @@ abbrev pub turned : Look → Look → List Piece
 turned old new = cond (same old new) [] (Turn new ∷ [])
 
 abbrev pub of_cells : Look → List Cell → List Piece
-of_cells look [] = turned look plain
+of_cells look [] = turned look plain ++ []
 of_cells look (cell ∷ cells) = turned look (look_of look cell) ++ (map One (chars_of cell) ++ of_cells (look_of look cell) cells)
 
-abbrev pub of_line : List Cell → List Piece
-of_line cells = of_cells plain cells ++ One 10 ∷ []
-
+-- all that is shown
 abbrev pub of_all : Done → List Piece
-of_all d = flat_map of_line d.lines ++ of_cells plain (cells_of d.line)
+of_all d = of_cells plain (cells_by d)
 
 -- ---- their text
 
-both_text : (xs ys : List Piece) → pieces_text (xs ++ ys) ≡ pieces_text xs ++ pieces_text ys
-both_text xs ys = flat_map-append piece_text xs ys
+turned_text : (old new : Look) (ps : List Piece) → pieces_text (turned old new ++ ps) ≡ turn Styled old new ++ pieces_text ps
+turned_text old new ps = grind arith
 
-turned_text : (old new : Look) → pieces_text (turned old new) ≡ turn Styled old new
-turned_text old new = grind (arith, append-nil (look_text new))
-
-ones_text : (cs : List ℕ) → pieces_text (map One cs) ≡ encode_utf8_all cs
-ones_text [] = refl
-ones_text (c ∷ cs) = ap (λ (t : List ℕ). encode_utf8 c ++ t) (ones_text cs)
+ones_text : (cs : List ℕ) (ps : List Piece) → pieces_text (map One cs ++ ps) ≡ encode_utf8_all cs ++ pieces_text ps
+ones_text [] ps = refl
+ones_text (c ∷ cs) ps = rw (ones_text cs ps) (simp append_assoc)
 
 cells_text : (cells : List Cell) (look : Look) → pieces_text (of_cells look cells) ≡ paint Styled look cells
-cells_text [] look = turned_text look plain
-cells_text (cell ∷ cells) look = simp (both_text, turned_text, ones_text, cells_text cells (look_of look cell))
-
-line_text : (cells : List Cell) → pieces_text (of_line cells) ≡ ended Styled cells
-line_text cells =
-    both_text (of_cells plain cells) (One 10 ∷ []) ∙ ap (λ (t : List ℕ). t ++ pieces_text (One 10 ∷ [])) (cells_text cells plain) ∙ ap (λ (t : List ℕ). paint Styled plain cells ++ t) newline
-
-lines_text : (lines : List (List Cell)) → pieces_text (flat_map of_line lines) ≡ texts_of Styled lines
-lines_text [] = refl
-lines_text (x ∷ xs) = rw (both_text (of_line x) (flat_map of_line xs), line_text x, lines_text xs)
+cells_text [] look = turned_text look plain [] ∙ append-nil (turn Styled look plain)
+cells_text (cell ∷ cells) look =
+    let next = look_of look cell in
+    turned_text look next (map One (chars_of cell) ++ of_cells next cells)
+    ∙ ap (λ (t : List ℕ). turn Styled look next ++ t)
+    (ones_text (chars_of cell) (of_cells next cells) ∙ ap (λ (t : List ℕ). encode_utf8_all (chars_of cell) ++ t) (cells_text cells next))
 
 pub all_painted : (d : Done) → pieces_text (of_all d) ≡ shown_by Styled d
-all_painted d = simp (both_text, lines_text, cells_text)
+all_painted d = cells_text (cells_by d) plain ∙ sym (shown_painted Styled d)
 
 -- ---- their characters
 
-both_chars : (xs ys : List Piece) → chars_in (xs ++ ys) ≡ chars_in xs ++ chars_in ys
-both_chars [] ys = refl
-both_chars (One c ∷ xs) ys = ap (λ (t : List ℕ). c ∷ t) (both_chars xs ys)
-both_chars (Turn l ∷ xs) ys = both_chars xs ys
+turned_chars : (old new : Look) (ps : List Piece) → chars_in (turned old new ++ ps) ≡ chars_in ps
+turned_chars old new ps = cond_both (same old new) [] (Turn new ∷ []) (λ (front : List Piece). chars_in (front ++ ps) ≡ chars_in ps) (λ e. refl) (λ e. refl)
 
-turned_chars : (old new : Look) → chars_in (turned old new) ≡ []
-turned_chars old new = cond_both (same old new) [] (Turn new ∷ []) (λ (ps : List Piece). chars_in ps ≡ []) (λ e. refl) (λ e. refl)
-
-ones_chars : (cs : List ℕ) → chars_in (map One cs) ≡ cs
-ones_chars [] = refl
-ones_chars (c ∷ cs) = ap (λ (t : List ℕ). c ∷ t) (ones_chars cs)
+ones_chars : (cs : List ℕ) (ps : List Piece) → chars_in (map One cs ++ ps) ≡ cs ++ chars_in ps
+ones_chars [] ps = refl
+ones_chars (c ∷ cs) ps = ap (λ (t : List ℕ). c ∷ t) (ones_chars cs ps)
 
 cells_chars : (cells : List Cell) (look : Look) → chars_in (of_cells look cells) ≡ flat_map chars_of cells
-cells_chars [] look = turned_chars look plain
-cells_chars (cell ∷ cells) look = simp (both_chars, turned_chars, ones_chars, cells_chars cells (look_of look cell))
-
-lines_chars : (lines : List (List Cell)) → chars_in (flat_map of_line lines) ≡ flat_map line_chars lines
-lines_chars [] = refl
-lines_chars (x ∷ xs) = simp (both_chars, cells_chars, lines_chars xs)
-
-all_chars : (d : Done) → chars_in (of_all d) ≡ chars_by d
-all_chars d = simp (both_chars, lines_chars, cells_chars)
+cells_chars [] look = turned_chars look plain []
+cells_chars (cell ∷ cells) look =
+    let next = look_of look cell in
+    turned_chars look next (map One (chars_of cell) ++ of_cells next cells) ∙ ones_chars (chars_of cell) (of_cells next cells)
+    ∙ ap (λ (t : List ℕ). chars_of cell ++ t) (cells_chars cells next)
 
 -- ---- they are safe
 
-abbrev IsCell : Cell → Type 0
-IsCell cell = OfCell IsGood IsInRange SgrInRange cell
+turned_safe : (old new : Look) (ps : List Piece) → IsInRange new → AreSafe ps → AreSafe (turned old new ++ ps)
+turned_safe old new ps q h = cond_both (same old new) [] (Turn new ∷ []) (λ (front : List Piece). AreSafe (front ++ ps)) (λ e. h) (λ e. (q, h))
 
-abbrev AreCells : List Cell → Type 0
-AreCells cells = OfCells IsGood IsInRange SgrInRange cells
+ones_safe : (cs : List ℕ) (ps : List Piece) → AllByRecursion IsGood cs → AreSafe ps → AreSafe (map One cs ++ ps)
+ones_safe [] ps h k = k
+ones_safe (c ∷ cs) ps h k = (h.0, ones_safe cs ps h.1 k)
 
-both_safe : (xs ys : List Piece) → AreSafe xs → AreSafe ys → AreSafe (xs ++ ys)
-both_safe [] ys h k = k
-both_safe (x ∷ xs) ys h k = (h.0, both_safe xs ys h.1 k)
-
-turned_safe : (old new : Look) → IsInRange new → AreSafe (turned old new)
-turned_safe old new h = cond_both (same old new) [] (Turn new ∷ []) AreSafe (λ e. tt) (λ e. (h, tt))
-
-ones_safe : (cs : List ℕ) → AllByRecursion IsGood cs → AreSafe (map One cs)
-ones_safe [] h = tt
-ones_safe (c ∷ cs) h = (h.0, ones_safe cs h.1)
-
-look_safe : (look : Look) (cell : Cell) → IsInRange look → IsCell cell → IsInRange (look_of look cell)
+look_safe : (look : Look) (cell : Cell) → IsInRange look → OfCell IsGood IsInRange SgrInRange cell → IsInRange (look_of look cell)
 look_safe look Empty q h = plain_kept
 look_safe look (Char g) q h = h.1
 look_safe look _ q h = q
 
-chars_safe : (cell : Cell) → IsCell cell → AllByRecursion IsGood (chars_of cell)
-chars_safe Empty h = ((refl, refl), tt)
-chars_safe (Char g) h = (h.0, tt)
-chars_safe Behind h = tt
-chars_safe (Mark c) h = (h, tt)
-
-cells_safe : (cells : List Cell) (look : Look) → IsInRange look → AreCells cells → AreSafe (of_cells look cells)
-cells_safe [] look q h = turned_safe look plain plain_kept
+cells_safe : (cells : List Cell) (look : Look) → IsInRange look → OfCells IsGood IsInRange SgrInRange cells → AreSafe (of_cells look cells)
+cells_safe [] look q h = turned_safe look plain [] plain_kept tt
 cells_safe (cell ∷ cells) look q h =
     let next = look_of look cell in
     let after = look_safe look cell q h.0 in
-    both_safe (turned look next) (map One (chars_of cell) ++ of_cells next cells) (turned_safe look next after)
-    (both_safe (map One (chars_of cell)) (of_cells next cells) (ones_safe (chars_of cell) (chars_safe cell h.0)) (cells_safe cells next after h.1))
-
-lines_safe : (lines : List (List Cell)) → AllByRecursion AreCells lines → AreSafe (flat_map of_line lines)
-lines_safe [] h = tt
-lines_safe (x ∷ xs) h = both_safe (of_line x) (flat_map of_line xs) (both_safe (of_cells plain x) (One 10 ∷ []) (cells_safe x plain plain_kept h.0) ((refl, refl), tt)) (lines_safe xs h.1)
+    turned_safe look next (map One (chars_of cell) ++ of_cells next cells) after
+    (ones_safe (chars_of cell) (of_cells next cells) (of_chars IsGood IsInRange SgrInRange (refl, refl) cell h.0) (cells_safe cells next after h.1))
 
 -- ---- and so
 
 pub all_safe : (bytes : List ℕ) (steps : List Step) → Steps bytes steps → AreSafe (of_all (do_all most fresh steps blank))
 all_safe bytes steps s =
-    let d = do_all most fresh steps blank in
-    let cells = of_done IsGood IsInRange SgrInRange (refl, refl) plain_kept kept most steps (steps_good bytes steps s) in
-    both_safe (flat_map of_line d.lines) (of_cells plain (cells_of d.line)) (lines_safe d.lines cells.0) (cells_safe (cells_of d.line) plain plain_kept cells.1)
+    cells_safe (cells_by (do_all most fresh steps blank)) plain plain_kept
+    (of_done IsGood IsInRange SgrInRange (refl, refl) (refl, refl) plain_kept kept most steps (steps_good bytes steps s))
 
 pub same_text : (bytes painted text : List ℕ) → Paints bytes painted → Overwrites bytes text → Strips longest painted text
 same_text bytes painted text o p =
     let d = do_all most fresh o.steps blank in
     let from : painted ≡ pieces_text (of_all d) = o.all ∙ sym (all_painted d) in
     let left : text ≡ encode_utf8_all (chars_in (of_all d)) =
-    p.all ∙ ap (λ (steps : List Step). shown_by Plain (do_all most fresh steps blank)) (one_reading bytes p.steps o.steps p.read o.read) ∙ shown_plain d ∙ ap encode_utf8_all (sym (all_chars d)) in
+    p.all ∙ ap (λ (steps : List Step). shown_by Plain (do_all most fresh steps blank)) (one_reading bytes p.steps o.steps p.read o.read) ∙ shown_plain d
+    ∙ ap encode_utf8_all (sym (cells_chars (cells_by d) plain)) in
     subst (λ (t : List ℕ). Strips longest t text) (sym from) (subst (Strips longest (pieces_text (of_all d))) (sym left) (strips (of_all d) (all_safe bytes o.steps o.read)))

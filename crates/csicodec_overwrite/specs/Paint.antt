@@ -1,8 +1,7 @@
 -- A line as it is written: its characters alone, or painted, with the sequences that set how they look (SGR; ECMA-48, 8.3.117), or as a
 -- page, with tags.
-use Rattle.std.specs.Prelude.{ℕ, ◌-◌, ◌==◌, Bool, true, false, not, ◌&&◌, List, [], ◌∷◌, ◌++◌, length, take, encode_utf8_all, if◌then◌else◌}
+use Rattle.std.specs.Prelude.{ℕ, ◌-◌, Bool, true, false, not, List, [], ◌∷◌, ◌++◌, length, take, encode_utf8_all, if◌then◌else◌}
 use Rattle.std.specs.List.{flat_map}
-use Rattle.csicodec_names.specs.declared.color.{ColorSpec.ColorSpec, Intensity.Intensity, Underline.Underline}
 use Rattle.csicodec_base.specs.{declared.sgr.Sgr.Sgr, SgrText.sgr_text}
 use Rattle.csicodec_actions.specs.Ranges.{ColorInRange}
 use Rattle.csicodec_html.specs.{declared.look.Look.Look, Look.is_default, Look.is_none, Look.is_normal, Look.plain}
@@ -10,48 +9,13 @@ use Rattle.csicodec_html.specs.Page.{escaped, piece_texts}
 use Rattle.csicodec_overwrite.specs.{declared.cells.Cell.Cell, declared.marking.Marking.Marking, Cells.chars_of}
 use Rattle.csicodec_overwrite.specs.declared.cells.Cell.TheVariants.{Behind, Char, Empty, Mark}
 use Rattle.csicodec_overwrite.specs.declared.marking.Marking.TheVariants.{Page, Plain, Styled}
-use Rattle.csicodec_names.specs.declared.color.ColorSpec.TheVariants as color
-use Rattle.csicodec_names.specs.declared.color.Intensity.TheVariants as intensity
-use Rattle.csicodec_names.specs.declared.color.Underline.TheVariants as underline
 use Rattle.csicodec_base.specs.declared.sgr.Sgr.TheVariants as sgr
+use Rattle.csicodec_html.specs.contracts.look.LookPartialEq.TheImpl as look_eq
 use Rattle.csicodec_html.specs.Page.{turn as tags}
 
--- ---- whether two looks are one
-
-abbrev pub same_flag : Bool → Bool → Bool
-same_flag a b = if a then b else not b
-
-abbrev pub same_intensity : Intensity → Intensity → Bool
-same_intensity intensity.Normal intensity.Normal = true
-same_intensity intensity.Bold intensity.Bold = true
-same_intensity intensity.Half intensity.Half = true
-same_intensity a b = false
-
-abbrev pub same_underline : Underline → Underline → Bool
-same_underline underline.None underline.None = true
-same_underline underline.Single underline.Single = true
-same_underline underline.Double underline.Double = true
-same_underline underline.Curly underline.Curly = true
-same_underline underline.Dotted underline.Dotted = true
-same_underline underline.Dashed underline.Dashed = true
-same_underline a b = false
-
-abbrev pub same_color : ColorSpec → ColorSpec → Bool
-same_color color.Default color.Default = true
-same_color (color.PaletteIndex i) (color.PaletteIndex j) = i == j
-same_color (color.TrueColor c) (color.TrueColor d) =
-    c.0 == d.0 && (c.1 == d.1 && (c.2 == d.2 && c.3 == d.3))
-same_color a b = false
-
+-- what `==` says of two looks
 abbrev pub same : Look → Look → Bool
-same a b = same_intensity a.intensity b.intensity &&
-    (same_flag a.italic b.italic &&
-    (same_underline a.underline b.underline &&
-    (same_color a.line b.line &&
-    (same_flag a.overline b.overline &&
-    (same_flag a.strike b.strike &&
-    (same_flag a.inverse b.inverse &&
-    (same_color a.foreground b.foreground && same_color a.background b.background)))))))
+same = (look_eq.ghosts).eq
 
 -- ---- the sequence of a look
 

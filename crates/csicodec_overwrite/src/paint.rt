@@ -5,7 +5,7 @@ ghost use Rattle.csicodec_clean.specs.Bytes.{IsPlainByte};
 ghost use Rattle.csicodec_html.specs.{Look.is_default, Look.is_none, Look.is_normal, Look.plain, Page.escaped};
 ghost use Rattle.csicodec_overwrite.specs.{Cells.chars_of, Cells.glyph, Private.Alike.IsAlike};
 ghost use Rattle.csicodec_overwrite.specs.declared.cells.Cell.TheVariants.{Char, Empty};
-ghost use Rattle.csicodec_overwrite.specs.Paint.{further, given, look_of, look_text, paint, same, same_color, same_flag, same_intensity, same_underline, text_of, turn, written};
+ghost use Rattle.csicodec_overwrite.specs.Paint.{further, given, look_of, look_text, paint, same, text_of, turn, written};
 ghost use Rattle.csicodec_overwrite.specs.declared.marking.Marking.TheVariants.{Page, Styled};
 
 use crate::cells::Cell;
@@ -15,49 +15,20 @@ use csicodec_html::{Look, Markup, append_text, append_turn as append_tags};
 use csicodec_tokens::Text;
 use std::alloc::AllocError;
 
-/// Whether both are set, or neither is.
-fn same_flag(a: bool, b: bool) -> bool
-    ensures { result ≡ same_flag a b }
-{
-    a == b
-}
-
-/// Whether strokes are as strong.
-fn same_intensity(a: Intensity, b: Intensity) -> bool
-    ensures { result ≡ same_intensity a b }
-{
-    a == b
-}
-
-/// Whether the lines below are of one kind.
-fn same_underline(a: Underline, b: Underline) -> bool
-    ensures { result ≡ same_underline a b }
-{
-    a == b
-}
-
-/// Whether two colours are one.
-#[inline(always)]
-fn same_color(a: &ColorSpec, b: &ColorSpec) -> bool
-    ensures { result ≡ same_color a.now b.now }
-{
-    *a == *b
-}
-
 /// Whether two looks are one.
 #[inline(always)]
 fn same(a: &Look, b: &Look) -> bool
     ensures { result ≡ same a.now b.now }
 {
-    same_intensity(a.intensity, b.intensity)
-        && same_flag(a.italic, b.italic)
-        && same_underline(a.underline, b.underline)
-        && same_color(&a.line, &b.line)
-        && same_flag(a.overline, b.overline)
-        && same_flag(a.strike, b.strike)
-        && same_flag(a.inverse, b.inverse)
-        && same_color(&a.foreground, &b.foreground)
-        && same_color(&a.background, &b.background)
+    a.intensity == b.intensity
+        && a.italic == b.italic
+        && a.underline == b.underline
+        && a.line == b.line
+        && a.overline == b.overline
+        && a.strike == b.strike
+        && a.inverse == b.inverse
+        && a.foreground == b.foreground
+        && a.background == b.background
 }
 
 /// Whether strokes are other than normal.

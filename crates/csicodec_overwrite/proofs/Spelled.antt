@@ -26,27 +26,28 @@ use Rattle.csicodec_actions.specs.Actions as action
 abbrev IsSpelled : Sgr → Type 0
 IsSpelled s = SgrInRange s × IsCanonicalSgr s × (hides s ≡ false)
 
-abbrev AreSpelled : List Sgr → Type 0
-AreSpelled styles = AllByRecursion IsSpelled styles
+-- so many at most
+abbrev AreSpelled : ℕ → List Sgr → Type 0
+AreSpelled n styles = AllByRecursion IsSpelled styles × (length styles ≤ n)
 
-given_spelled : (t : Bool) (s : Sgr) (rest : List Sgr) → IsSpelled s → AreSpelled rest → AreSpelled (given t s ++ rest)
-given_spelled true s rest h k = (h, k)
-given_spelled false s rest h k = k
+given_spelled : (n : ℕ) (t : Bool) (s : Sgr) (rest : List Sgr) → IsSpelled s → AreSpelled n rest → AreSpelled (n + 1) (given t s ++ rest)
+given_spelled n true s rest h k = ((h, k.0), omega (arith, k.1))
+given_spelled n false s rest h k = (k.0, omega (arith, k.1))
 
-last_spelled : (t : Bool) (s : Sgr) → IsSpelled s → AreSpelled (given t s)
-last_spelled true s h = (h, tt)
-last_spelled false s h = tt
+last_spelled : (t : Bool) (s : Sgr) → IsSpelled s → AreSpelled 1 (given t s)
+last_spelled true s h = ((h, tt), omega arith)
+last_spelled false s h = (tt, omega arith)
 
-all_spelled : (l : Look) → IsInRange l → AreSpelled (attributes l)
+all_spelled : (l : Look) → IsInRange l → AreSpelled 9 (attributes l)
 all_spelled l (line, text, ground) =
-    given_spelled (not (is_normal l.intensity)) (sgr.Intensity l.intensity) _ (tt, tt, refl)
-    (given_spelled l.italic (sgr.Italic true) _ (tt, tt, refl)
-    (given_spelled (not (is_none l.underline)) (sgr.Underline l.underline) _ (tt, tt, refl)
-    (given_spelled (not (is_default l.line)) (sgr.UnderlineColor l.line) _ (line, tt, refl)
-    (given_spelled l.overline (sgr.Overline true) _ (tt, tt, refl)
-    (given_spelled l.strike (sgr.StrikeThrough true) _ (tt, tt, refl)
-    (given_spelled l.inverse (sgr.Inverse true) _ (tt, tt, refl)
-    (given_spelled (not (is_default l.foreground)) (sgr.Foreground l.foreground) _ (text, tt, refl)
+    given_spelled 8 (not (is_normal l.intensity)) (sgr.Intensity l.intensity) _ (tt, tt, refl)
+    (given_spelled 7 l.italic (sgr.Italic true) _ (tt, tt, refl)
+    (given_spelled 6 (not (is_none l.underline)) (sgr.Underline l.underline) _ (tt, tt, refl)
+    (given_spelled 5 (not (is_default l.line)) (sgr.UnderlineColor l.line) _ (line, tt, refl)
+    (given_spelled 4 l.overline (sgr.Overline true) _ (tt, tt, refl)
+    (given_spelled 3 l.strike (sgr.StrikeThrough true) _ (tt, tt, refl)
+    (given_spelled 2 l.inverse (sgr.Inverse true) _ (tt, tt, refl)
+    (given_spelled 1 (not (is_default l.foreground)) (sgr.Foreground l.foreground) _ (text, tt, refl)
     (last_spelled (not (is_default l.background)) (sgr.Background l.background) (ground, tt, refl)))))))))
 
 -- ---- its list: numbers and `:`
@@ -124,7 +125,7 @@ more_open bytes done s o h =
           (sgr_compose_lem o.list next.list false o.plain next.plain o.unended done (action.Sgr s ∷ []) o.means next.means);
     }
 
-all_open : (styles : List Sgr) (bytes : List ℕ) (done : List Sgr) → Open bytes done → AreSpelled styles → Open (bytes ++ flat_map further styles) (done ++ styles)
+all_open : (styles : List Sgr) (bytes : List ℕ) (done : List Sgr) → Open bytes done → AllByRecursion IsSpelled styles → Open (bytes ++ flat_map further styles) (done ++ styles)
 all_open [] bytes done o h = rw (append-nil bytes, append-nil done) o
 all_open (s ∷ styles) bytes done o h =
     let all = all_open styles (bytes ++ further s) (done ++ s ∷ []) (more_open bytes done s o h.0) h.1 in
@@ -132,7 +133,7 @@ all_open (s ∷ styles) bytes done o h =
     subst (Open whole) (append_assoc done (s ∷ []) styles) (subst (λ (t : List ℕ). Open t ((done ++ s ∷ []) ++ styles)) (append_assoc bytes (further s) (flat_map further styles)) all)
 
 look_open : (l : Look) → IsInRange l → Open (48 ∷ flat_map further (attributes l)) (sgr.Reset ∷ attributes l)
-look_open l h = all_open (attributes l) (48 ∷ []) (sgr.Reset ∷ []) (one_open sgr.Reset (tt, tt, refl)) (all_spelled l h)
+look_open l h = all_open (attributes l) (48 ∷ []) (sgr.Reset ∷ []) (one_open sgr.Reset (tt, tt, refl)) (all_spelled l h).0
 
 look_seq : (l : Look) (h : IsInRange l) → Seq (look_text l) (look_open l h).list 109
 unfolding look_text
@@ -156,33 +157,16 @@ look_taken l h =
 
 -- ---- and short
 
-given_few : (t : Bool) (s : Sgr) → length (given t s) ≤ 1
-given_few t s = grind arith
-
-more_few : (t : Bool) (s : Sgr) (rest : List Sgr) (n : ℕ) → length rest ≤ n → length (given t s ++ rest) ≤ n + 1
-more_few t s rest n h = omega (arith, length-append (given t s) rest, given_few t s, h)
-
-few_attributes : (l : Look) → length (attributes l) ≤ 9
-few_attributes l =
-    more_few (not (is_normal l.intensity)) (sgr.Intensity l.intensity) _ 8
-    (more_few l.italic (sgr.Italic true) _ 7
-    (more_few (not (is_none l.underline)) (sgr.Underline l.underline) _ 6
-    (more_few (not (is_default l.line)) (sgr.UnderlineColor l.line) _ 5
-    (more_few l.overline (sgr.Overline true) _ 4
-    (more_few l.strike (sgr.StrikeThrough true) _ 3
-    (more_few l.inverse (sgr.Inverse true) _ 2
-    (more_few (not (is_default l.foreground)) (sgr.Foreground l.foreground) _ 1 (given_few (not (is_default l.background)) (sgr.Background l.background)))))))))
-
 further_short : (s : Sgr) → IsSpelled s → length (further s) ≤ 61
 further_short s h =
     let (body, is, codes, some, few) = coded s h.0 h.2 in
     let mine : take (length (sgr_text s) - 1) (sgr_text s) ≡ body = ap (λ (t : List ℕ). take (length t - 1) t) is ∙ taken body in
     omega (arith, ap length mine, few)
 
-all_short : (styles : List Sgr) → AreSpelled styles → length (flat_map further styles) ≤ 61 * length styles
+all_short : (styles : List Sgr) → AllByRecursion IsSpelled styles → length (flat_map further styles) ≤ 61 * length styles
 all_short [] h = omega arith
 all_short (s ∷ styles) h = omega (arith, length-append (further s) (flat_map further styles), further_short s h.0, all_short styles h.1)
 
 pub look_short : (l : Look) → IsInRange l → length (look_text l) ≤ 1000
 unfolding look_text
-look_short l h = omega (arith, length-append (flat_map further (attributes l)) (109 ∷ []), all_short (attributes l) (all_spelled l h), few_attributes l)
+look_short l h = omega (arith, length-append (flat_map further (attributes l)) (109 ∷ []), all_short (attributes l) (all_spelled l h).0, (all_spelled l h).1)

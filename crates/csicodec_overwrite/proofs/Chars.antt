@@ -1,6 +1,6 @@
 -- The steps of characters, of actions and of what else comes, one behind the other.
-use Rattle.std.proofs.Common.{◌≡◌, ℕ, List, [], ◌∷◌, ◌++◌, length, sym, ap, ◌∙◌, append_assoc, append-nil, arith}
-use Rattle.std.proofs.lemmas.Grind.{flat_map-append}
+use Rattle.std.proofs.Common.{◌≡◌, ℕ, List, [], ◌∷◌, ◌++◌, length, sym, ap, ◌∙◌, append_assoc, append-nil}
+use Rattle.std.proofs.lemmas.{Grind.flat_map-append, List.nil_from_length}
 use Rattle.std.specs.List.{flat_map}
 use Rattle.bstr.specs.Utf8.{lossy_chars, replacement}
 use Rattle.bstr.proofs.lemmas.PieceLemmas.{lossy_chars-nil}
@@ -26,8 +26,7 @@ pub one_on : {A : Type 0} (does : A → List Step) (x : A) (front : List A) (old
 one_on does x front old now new e f = rw (f, e, append_assoc, flat_map-append does front (x ∷ []), append-nil (does x))
 
 run_empty : (run : List ℕ) → length run ≡ 0 → of_run run ≡ []
-run_empty [] none = run_none
-run_empty (b ∷ run) none = absurd (omega (arith, none))
+run_empty run none = ap of_run (nil_from_length run none) ∙ run_none
 
 -- a run that is over, of which all was read
 pub run_all : (run chars rest : List ℕ) (old new : List Step) → IsRead run chars rest → length rest ≡ 0 → new ≡ old ++ of_chars chars → new ≡ old ++ of_run run

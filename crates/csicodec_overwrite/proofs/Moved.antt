@@ -2,7 +2,7 @@
 use Rattle.std.proofs.Common.{◌≡◌, ℕ, zero, suc, ◌-◌, ◌+◌, ◌<◌, ◌≤◌, Bool, true, false, cond, ◌==◌, nat_le, nat_lt, List, [], ◌∷◌, ◌++◌, length}
 use Rattle.std.proofs.Common.{drop, get_or, replicate, reverse, take, take-append-drop, refl, sym, ap, ◌∙◌, arith, append_assoc, append-nil}
 use Rattle.std.proofs.lemmas.Bool.Decides.{nat_tests}
-use Rattle.std.proofs.lemmas.List.{length-drop, replicate-append-replicate, drop_at, reverse-append, reverse-reverse, take_all, take_at}
+use Rattle.std.proofs.lemmas.List.{length-drop, nil_from_length, replicate-append-replicate, drop_at, reverse-append, reverse-reverse, take_all, take_at}
 use Rattle.csicodec_html.specs.declared.look.Look.{Look}
 use Rattle.csicodec_overwrite.specs.declared.{cells.Cell.Cell, cells.Cell.TheVariants.Empty, marking.Marking.Marking}
 use Rattle.csicodec_overwrite.specs.{declared.cells.Glyph.Glyph, Private.Sides.PassesBack, Private.Sides.PassesOver}
@@ -100,12 +100,8 @@ onto_is (cell ∷ side) cells = rw (onto_is side (cell ∷ cells), reverse-appen
 pub farthest : (cells : List Cell) → cells ≡ onto (reverse cells) []
 farthest cells = sym (onto_is (reverse cells) [] ∙ append-nil (reverse (reverse cells)) ∙ reverse-reverse cells)
 
-pub no_cells : (cells : List Cell) → length cells ≡ 0 → cells ≡ []
-no_cells [] h = refl
-no_cells (cell ∷ cells) h = absurd (omega (arith, h))
-
 pub empty_line : (l : Line) → length l.left ≡ 0 → length l.right ≡ 0 → l ≡ line [] []
-empty_line l h k = ap (λ (side : List Cell). line side l.right) (no_cells l.left h) ∙ ap (line []) (no_cells l.right k)
+empty_line l h k = ap (λ (side : List Cell). line side l.right) (nil_from_length l.left h) ∙ ap (line []) (nil_from_length l.right k)
 
 -- ---- cells of which the farthest are empty
 

@@ -73,14 +73,9 @@ read_longer run chars rest bytes h = λ more. ap lossy_chars (append_assoc run b
 run_begins : (run chars rest : List ℕ) → IsRead run chars rest → GoesOnFrom (of_run run) (of_chars chars)
 run_begins run chars rest h = (of_run rest, run_read run chars rest h)
 
-further : (x y front : List Step) → GoesOnFrom x front → GoesOnFrom (x ++ y) front
-further x y front (more, e) = (more ++ y, ap (λ (t : List Step). t ++ y) e ∙ append_assoc front more y)
-
 ends_run : (run chars rest : List ℕ) (own first others more last : List Step) → IsRead run chars rest → first ≡ of_run run ++ own
     → others ≡ first ++ more → GoesOnFrom (others ++ last) (of_chars chars)
-ends_run run chars rest own first others more last h e f =
-    subst (λ (t : List Step). GoesOnFrom (t ++ last) (of_chars chars)) (sym (f ∙ ap (λ (t : List Step). t ++ more) e))
-    (further ((of_run run ++ own) ++ more) last (of_chars chars) (further (of_run run ++ own) more (of_chars chars) (further (of_run run) own (of_chars chars) (run_begins run chars rest h))))
+ends_run run chars rest own first others more last h e f = (of_run rest ++ (own ++ (more ++ last)), rw (f, e, run_read run chars rest h) (simp append_assoc))
 
 part_begins : (k : Kind) (run bytes chars rest next : List ℕ) (first others more last : List Step) → IsRead run chars rest → IsOfPart k run bytes first next → others ≡ first ++ more
     → ((cs r : List ℕ) → IsRead next cs r → GoesOnFrom (more ++ last) (of_chars cs)) → GoesOnFrom (others ++ last) (of_chars chars)

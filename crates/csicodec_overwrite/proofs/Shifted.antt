@@ -1,7 +1,7 @@
 -- Cells that are shifted, from the nearest on.
 use Rattle.std.proofs.Common.{◌≡◌, ℕ, ◌+◌, ◌<◌, ◌≤◌, Bool, true, false, cond, ◌==◌, List, [], ◌∷◌, ◌++◌, length}
 use Rattle.std.proofs.Common.{drop, get_or, reverse, set, take, refl, sym, ap, ◌∙◌, arith, append_assoc, append-nil}
-use Rattle.std.proofs.lemmas.Grind.{drop-set_at}
+use Rattle.std.proofs.{Math.Seq.drop-length, lemmas.Grind.drop-set_at}
 use Rattle.std.proofs.lemmas.List.{length-set, reverse-append, set-get_or, take-set-le, take-take, take_all, take_more}
 use Rattle.csicodec_overwrite.specs.declared.cells.Cell.{Cell, TheVariants.Char, TheVariants.Empty}
 use Rattle.csicodec_overwrite.specs.Cells.{columns, of_tab, shifted, takes, untabbed}
@@ -41,12 +41,8 @@ none_shifted old = (
   refl,
   refl,
   ap (λ (t : List Cell). shifted false (reverse t)) (sym (take_all (length old) old (omega arith)))
-      ∙ ap (λ (t : List Cell). reverse t ++ shifted false (reverse (take (length old) old))) (sym (drop_length old)),
+      ∙ ap (λ (t : List Cell). reverse t ++ shifted false (reverse (take (length old) old))) (sym (drop-length old)),
 )
-  where
-    drop_length : (xs : List Cell) → drop (length xs) xs ≡ []
-    drop_length [] = refl
-    drop_length (x ∷ xs) = drop_length xs
 
 pub one_shifted : (old cells : List Cell) (at n : ℕ) (tab : Bool) (d : Cell) → at ≡ n + 1 → Shifts old at tab cells
     → let x = get_or cells n d in Shifts old n (of_tab tab x) (set cells n (untabbed (of_tab tab x) x))

@@ -16,7 +16,7 @@ use Rattle.csicodec_overwrite.specs.{declared.step.Step.Step, Private.Plain.AreF
 use Rattle.csicodec_overwrite.specs.Cells.{chars_of, columns, glyph, onto, trimmed, width}
 use Rattle.csicodec_overwrite.specs.Line.{Done, HasRoom, before, blank, cells_of, do_all, does, done, fresh, line, pen_behind, placed, put}
 use Rattle.csicodec_overwrite.specs.Reading.{AreOfParts, Overwrites, Steps, most}
-use Rattle.csicodec_overwrite.proofs.{Once.one_text, Texts.chars_by, Texts.line_chars, Texts.shown_plain}
+use Rattle.csicodec_overwrite.proofs.{Moved.columns_both, Moved.columns_same, Once.one_text, Texts.chars_before, Texts.chars_by, Texts.shown_plain}
 use Rattle.csicodec_spans.specs.declared.table.Kind.TheVariants as kind
 use Rattle.csicodec_spans.specs.declared.table.Mode.TheVariants as mode
 use Rattle.csicodec_overwrite.specs.declared.step.Step.TheVariants as step
@@ -65,11 +65,7 @@ cells_full g (suc w) left h = behind w
 
 cells_columns : (g : Glyph) (w : ℕ) (left : List Cell) → columns (cells g w left) ≡ columns left + w
 cells_columns g zero left = omega arith
-cells_columns g (suc w) left = omega (arith, behind w)
-  where
-    behind : (n : ℕ) → columns (replicate n Behind ++ Char g ∷ left) ≡ n + (1 + columns left)
-    behind zero = omega arith
-    behind (suc n) = omega (arith, behind n)
+cells_columns g (suc w) left = omega (arith, columns_both (replicate w Behind) (Char g ∷ left), columns_same Behind refl w)
 
 pub cells_length : (g : Glyph) (w : ℕ) (left : List Cell) → length (cells g w left) ≡ length left + max w 1
 cells_length g zero left = omega arith
@@ -116,11 +112,9 @@ stays limit pen (c ∷ cs) left over full all room = ⊎_elim
     (λ (k : (c == 10 ≡ true) × (of_char c ≡ step.NewLine ∷ [])).
     let next = pen_behind pen step.NewLine (columns left) in
     let rest = do_all limit next (of_chars cs) blank in
-    let ended = flat_map line_chars rest.lines in
-    let last = flat_map chars_of (cells_of rest.line) in
     ap (λ (s : List Step). chars_by (do_all limit pen (s ++ of_chars cs) (line left []))) k.1
-    ∙ ap (λ (t : List ℕ). ((t ++ 10 ∷ []) ++ ended) ++ last) (full_text left full)
-    ∙ append_assoc (chars left ++ 10 ∷ []) ended last
+    ∙ chars_before (cells_of (line left [])) rest
+    ∙ ap (λ (t : List ℕ). (t ++ 10 ∷ []) ++ chars_by rest) (full_text left full)
     ∙ ap (λ (t : List ℕ). (chars left ++ 10 ∷ []) ++ t) (stays limit next cs [] over tt all.1 (rw k.0 at room))
     ∙ append_assoc (chars left) (10 ∷ []) cs
     ∙ ap (λ (d : ℕ). chars left ++ d ∷ cs) (sym (eqb-true c 10 k.0)))

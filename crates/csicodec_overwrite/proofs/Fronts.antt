@@ -6,7 +6,7 @@ use Rattle.std.specs.{Prelude.◌==◌, Prelude.unwrap_or, List.AllByRecursion, 
 use Rattle.unicode_width.specs.Width.{char_width}
 use Rattle.csicodec_tokens.proofs.Runs.{All-push}
 use Rattle.csicodec_clean.specs.Bytes.{IsPlainByte}
-use Rattle.csicodec_clean.proofs.{Shows.encoded_on, Told.is_shown}
+use Rattle.csicodec_clean.proofs.Told.{is_shown}
 use Rattle.csicodec_html.specs.{declared.look.Look.Look, Look.plain, Turns.IsTold}
 use Rattle.csicodec_overwrite.specs.declared.{cells.Cell.Cell, front.LineFront.LineFront, marking.Marking.Marking}
 use Rattle.csicodec_overwrite.specs.declared.cells.{Cell.TheVariants.Behind, Cell.TheVariants.Char, Glyph.Glyph}
@@ -15,14 +15,14 @@ use Rattle.csicodec_overwrite.specs.declared.marking.Marking.TheVariants.{Page, 
 use Rattle.csicodec_overwrite.specs.{declared.pen.Pen.Pen, Turned.AreLooks, Turned.IsLook, Turned.Sets, Turned.Turned}
 use Rattle.csicodec_overwrite.specs.{declared.step.Step.Step, Steps.of_char, Steps.of_chars, Reading.most}
 use Rattle.csicodec_overwrite.specs.Cells.{chars_of, columns, glyph, narrowed, onto, to_tab_stop, width}
-use Rattle.csicodec_overwrite.specs.Line.{Done, before, blank, cells_of, do_all, does, done, line, pen_behind, pen_behind_all, put}
+use Rattle.csicodec_overwrite.specs.Line.{Done, at_column, before, blank, cells_of, do_all, does, done, line, pen_behind, pen_behind_all, put}
 use Rattle.csicodec_overwrite.specs.Paint.{ended, paint, shows_looks, text_of, texts_of, turn, written}
-use Rattle.csicodec_overwrite.specs.Private.Front.{IsFront, IsStyled, IsWritten, drawn, last_look, last_of_run, run_text}
+use Rattle.csicodec_overwrite.specs.Private.Front.{IsFront, IsStyled, IsWritten, IsWrittenTo, drawn, last_look, last_of_run, run_text}
 use Rattle.csicodec_overwrite.specs.Private.Plain.{AreFull, AreLines, IsLineByte, PutsPlain, closed, end_of, line_byte}
 use Rattle.csicodec_overwrite.proofs.Alike.{newline_written, turn_same, written_none, written_on}
-use Rattle.csicodec_overwrite.proofs.{Ends.end_passes, Read.reads_none, Read.reads_on}
+use Rattle.csicodec_overwrite.proofs.{Read.reads_none, Read.reads_on, Rows.standing_settled, Texts.text_painted}
 use Rattle.csicodec_overwrite.proofs.Stays.{cells, cells_full, cells_length, full_trimmed, put_cells, puts}
-use Rattle.csicodec_overwrite.proofs.Straight.{few_cells, line_plain, lines_plain, narrow, reads_plain, split_line}
+use Rattle.csicodec_overwrite.proofs.Straight.{few_cells, line_plain, lines_plain, narrow, reads_end, reads_plain, split_line}
 use Rattle.csicodec_overwrite.proofs.Written.{line_on, lines_on, passes_on, pen_on}
 use Rattle.csicodec_overwrite.specs.declared.step.Step.TheVariants as step
 
@@ -33,16 +33,9 @@ painted_drawn : (marking : Marking) (left right : List Cell)
 painted_drawn marking [] right = refl
 painted_drawn marking (x ∷ left) right = rw (painted_drawn marking left (x ∷ right)) (simp append_assoc)
 
-plain_drawn : (left right : List Cell)
-    → encode_utf8_all (flat_map chars_of (onto left right)) ≡ drawn Plain left ++ encode_utf8_all (flat_map chars_of right)
-plain_drawn [] right = refl
-plain_drawn (x ∷ left) right = rw (plain_drawn left (x ∷ right), encoded_on (chars_of x) (flat_map chars_of right)) (simp append_assoc)
-
 all_drawn : (marking : Marking) (left : List Cell)
     → text_of marking (onto left []) ≡ drawn marking left ++ turn marking (last_look left) plain
-all_drawn Plain left = plain_drawn left []
-all_drawn Styled left = painted_drawn Styled left []
-all_drawn (Page m) left = painted_drawn (Page m) left []
+all_drawn marking left = text_painted marking (onto left []) ∙ painted_drawn marking left []
 
 -- the cells of a character that takes columns
 module _ (marking : Marking) (g : Glyph) (left : List Cell) where
@@ -170,7 +163,7 @@ looks_none look (s ∷ steps) none = absurd (omega (arith, none))
 
 -- ---- the front
 
-pub front_none : (marking : Marking) (pen : Pen) → IsFront marking pen [] [] plain pen.look
+front_none : (marking : Marking) (pen : Pen) → IsFront marking pen [] [] plain pen.look
 front_none marking pen = record {
   steps = [];
   cells = [];
@@ -223,16 +216,7 @@ module _ (marking : Marking) (pen : Pen) (bytes text : List ℕ) (last now : Loo
       ∙ ap (λ (l : Look). drawn marking f.cells ++ run_text marking l now run) f.looks
       ∙ ap (λ (l : Look). drawn marking f.cells ++ run_text marking (last_look f.cells) l run) (sym look_is) ∙ sym r.text)
 
-  -- the run of a rest, which is split there
-  pub front_more : (all rest run behind : List ℕ) → pen.inserts ≡ false → all ≡ bytes ++ rest → run ≡ take (prefix_len line_byte rest) rest
-      → behind ≡ drop (prefix_len line_byte rest) rest → length all - length behind ≤ most / 8
-      → (all ≡ (bytes ++ run) ++ behind) × IsFront marking pen (bytes ++ run) (text ++ run_text marking last now run) (last_of_run last now run) now
-  front_more all rest run behind over split e g few =
-      let (parts, plain) = split_line rest run behind e g in
-      let whole = split ∙ ap (λ (t : List ℕ). bytes ++ t) parts ∙ sym (append_assoc bytes run behind) in
-      (whole, run_on run over plain (omega (arith, few, ap length whole, length-append (bytes ++ run) behind)))
-
-  pub sets_on : (sequence : List ℕ) (after : Look) → Sets sequence now after → IsFront marking pen (bytes ++ sequence) text last after
+  sets_on : (sequence : List ℕ) (after : Look) → Sets sequence now after → IsFront marking pen (bytes ++ sequence) text last after
   sets_on sequence after (steps, reads, looks) =
       let (lines, is, pens) = still most steps after then f.cells (subst (λ (l : Look). AreLooks l steps after) (sym look_is) looks) in
       on sequence steps f.cells text last after reads lines is (pens ∙ ap (λ (p : Pen). record p { look = after }) f.pens) f.full
@@ -246,37 +230,67 @@ known_turned marking old len told new before after (least, most, within, tags, (
     let is : told ≡ len = omega (arith, least, most) in
     (subst (λ (n : ℕ). Sets (take n old.rest.now) old.now new) is sets, longer ∙ ap (λ (t : List ℕ). before ++ t) same)
 
--- some text in front
-pub first_written : (marking : Marking) (pen : Pen) (bytes before after run : List ℕ) (f : LineFront) → pen.inserts ≡ false
-    → run ≡ take (prefix_len line_byte bytes) bytes → f.rest.now ≡ drop (prefix_len line_byte bytes) bytes
-    → length bytes - length f.rest.now ≤ most / 8 → after ≡ before ++ run_text marking plain pen.look run
-    → f.last ≡ last_of_run plain pen.look run → f.now ≡ pen.look → IsWritten marking pen bytes before f after
-first_written marking pen bytes before after run f over front behind few longer last now =
-    let (whole, is) =
-    front_more marking pen [] [] plain pen.look (front_none marking pen) bytes bytes run f.rest.now over refl front behind few in
-    (run, run_text marking plain pen.look run, whole, rw (last, now) is, longer)
+module _ (marking : Marking) (pen : Pen) (bytes before : List ℕ) where
+  -- nothing yet
+  pub front_begins : IsWrittenTo marking pen bytes before bytes plain pen.look before
+  front_begins = ([], [], refl, front_none marking pen, sym (append-nil before))
 
--- and a sequence more, with the text behind it
-pub styled_written : (marking : Marking) (pen : Pen) (bytes before mid after text : List ℕ) (old new : LineFront) → pen.inserts ≡ false
-    → new.least ≡ length bytes - most / 8 → IsWritten marking pen bytes before old mid → IsStyled marking old text new
-    → after ≡ mid ++ text → IsWritten marking pen bytes before new after
-styled_written marking pen bytes before mid after text old new over least (front, all, split, f, out) s longer =
-    let run = take (prefix_len line_byte s.others) s.others in
-    let told = run_text marking old.last new.now run in
-    let parts : bytes ≡ (front ++ s.sequence) ++ s.others =
-    split ∙ ap (λ (t : List ℕ). front ++ t) s.parts ∙ sym (append_assoc front s.sequence s.others) in
-    let (whole, is) =
-    front_more marking pen (front ++ s.sequence) all old.last new.now
-    (sets_on marking pen front all old.last old.now f s.sequence new.now s.sets)
-    bytes s.others run new.rest.now over parts refl s.rest (omega (arith, least, s.room)) in (
-      (front ++ s.sequence) ++ run,
-      all ++ told,
-      whole,
-      subst (λ (l : Look). IsFront marking pen ((front ++ s.sequence) ++ run) (all ++ told) l new.now) (sym s.looks) is,
-      longer ∙ ap (λ (t : List ℕ). mid ++ t) s.text ∙ ap (λ (t : List ℕ). t ++ told) out ∙ append_assoc before all told,
-    )
+  -- the text in front of the rest
+  pub run_written : (rest run behind mid after : List ℕ) (last now next : Look) → pen.inserts ≡ false → IsWrittenTo marking pen bytes before rest last now mid
+      → run ≡ take (prefix_len line_byte rest) rest → behind ≡ drop (prefix_len line_byte rest) rest → length bytes - length behind ≤ most / 8
+      → next ≡ last_of_run last now run → after ≡ mid ++ run_text marking last now run → IsWrittenTo marking pen bytes before behind next now after
+  run_written rest run behind mid after last now next over (front, text, split, f, out) e g few look longer =
+      let (parts, plain) = split_line rest run behind e g in
+      let told = run_text marking last now run in
+      let whole : bytes ≡ (front ++ run) ++ behind = split ∙ ap (λ (t : List ℕ). front ++ t) parts ∙ sym (append_assoc front run behind) in (
+        front ++ run,
+        text ++ told,
+        whole,
+        rw look (run_on marking pen front text last now f run over plain (omega (arith, few, ap length whole, length-append (front ++ run) behind))),
+        longer ∙ ap (λ (t : List ℕ). t ++ told) out ∙ append_assoc before text told,
+      )
+
+  -- a sequence in front of it
+  pub sets_written : (rest sequence others mid : List ℕ) (last now after : Look) → IsWrittenTo marking pen bytes before rest last now mid
+      → rest ≡ sequence ++ others → Sets sequence now after → IsWrittenTo marking pen bytes before others last after mid
+  sets_written rest sequence others mid last now after (front, text, split, f, out) parts sets = (
+    front ++ sequence,
+    text,
+    split ∙ ap (λ (t : List ℕ). front ++ t) parts ∙ sym (append_assoc front sequence others),
+    sets_on marking pen front text last now f sequence after sets,
+    out,
+  )
+
+  -- and both
+  pub styled_written : (mid after text : List ℕ) (old new : LineFront) → pen.inserts ≡ false → new.least ≡ length bytes - most / 8
+      → IsWritten marking pen bytes before old mid → IsStyled marking old text new → after ≡ mid ++ text → IsWritten marking pen bytes before new after
+  styled_written mid after text old new over least w s longer =
+      run_written s.others (take (prefix_len line_byte s.others) s.others) new.rest.now mid after old.last new.now new.last over
+      (sets_written old.rest.now s.sequence s.others mid old.last old.now new.now w s.parts s.sets) refl s.rest (omega (arith, least, s.room)) s.looks
+      (longer ∙ ap (λ (t : List ℕ). mid ++ t) s.text)
 
 -- ---- the end of the line
+
+-- behind a return or none
+module _ (old new : Now) (bare : old.reader ≡ none_held) (reader : new.reader ≡ old.reader) (marking : new.marking ≡ old.marking) (is : new.line ≡ blank) (pen : new.pen ≡ closed old.pen) where
+  pub end_passes : (returned : Bool) → Passes old (end_of returned) (ended old.marking (cells_of old.line)) new
+  end_passes false = record {
+    steps = of_chars (end_of false);
+    reads = rw (reader, bare) (reads_end false);
+    pen = pen;
+    marking = marking;
+    line = is;
+    all = sym (append-nil (ended old.marking (cells_of old.line)));
+  }
+  end_passes true = record {
+    steps = of_chars (end_of true);
+    reads = rw (reader, bare) (reads_end true);
+    pen = pen;
+    marking = marking;
+    line = is;
+    all = ap (λ (cells : List Cell). ended old.marking (onto cells [])) (sym (standing_settled most 0 old.line))
+        ∙ sym (append-nil (ended old.marking (cells_of (at_column most 1 old.line))));
+  }
 
 pub line_passes : (old new : Now) (bytes text : List ℕ) (last now : Look) (returned : Bool) → old.reader ≡ none_held → new.reader ≡ old.reader
     → old.line ≡ blank → new.line ≡ old.line → new.marking ≡ old.marking → new.pen ≡ closed (record old.pen { look = now })

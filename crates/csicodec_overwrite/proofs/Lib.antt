@@ -20,5 +20,4 @@ pub mod Repeated
 pub mod Lost
 pub mod Came
 pub mod Straight
-pub mod Ends
 pub mod Fronts

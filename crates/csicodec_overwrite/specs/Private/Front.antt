@@ -59,6 +59,9 @@ pub record IsStyled (marking : Marking) (old : LineFront) (told : List ℕ) (new
   pub text : told ≡ run_text marking old.last new.now (take (prefix_len line_byte others) others)
 
 -- the bytes up to the rest are a front, and its text is appended
+abbrev pub IsWrittenTo : Marking → Pen → List ℕ → List ℕ → List ℕ → Look → Look → List ℕ → Type 0
+IsWrittenTo marking pen bytes before rest last now after = (front : List ℕ) × (text : List ℕ) × (bytes ≡ front ++ rest)
+    × IsFront marking pen front text last now × (after ≡ before ++ text)
+
 abbrev pub IsWritten : Marking → Pen → List ℕ → List ℕ → LineFront → List ℕ → Type 0
-IsWritten marking pen bytes before f after = (front : List ℕ) × (text : List ℕ) × (bytes ≡ front ++ f.rest.now)
-    × IsFront marking pen front text f.last f.now × (after ≡ before ++ text)
+IsWritten marking pen bytes before f after = IsWrittenTo marking pen bytes before f.rest.now f.last f.now after

@@ -1,12 +1,11 @@
-use Rattle.std.proofs.Common.{◌≡◌, ◌++◌, ℕ, List, length}
-use Rattle.csicodec_overwrite.specs.{Private.Front.IsFront, Stream.none_held}
+use Rattle.std.proofs.Common.{◌≡◌, length}
+use Rattle.csicodec_overwrite.specs.{Private.Front.IsWrittenTo, Stream.none_held}
 use Rattle.csicodec_overwrite.proofs.front.append_front.Given as goal
 
 -- a front is written
 abbrev pub invariant-loop-run : goal.invariant-loop-run
 invariant-loop-run l = record {
-  front : (front : List ℕ) × (text : List ℕ) × (l.bytes ≡ front ++ l.rest) × IsFront l.fn.marking l.fn.pen front text l.last l.now ×
-      (l.out.items ≡ l.fn.out.items ++ text);
+  front : IsWrittenTo l.fn.marking l.fn.pen l.bytes l.fn.out.items l.rest l.last l.now l.out.items;
   bare : l.reader ≡ none_held;
 }
 

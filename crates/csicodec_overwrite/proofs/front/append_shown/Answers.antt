@@ -1,35 +1,32 @@
-use Rattle.std.proofs.Common.{◌≡◌, ◌∙◌, [], true, refl, sym, append-nil, rules, subst, arith}
+use Rattle.std.proofs.Common.{◌≡◌, ◌∙◌, true, sym, rules, subst, arith}
 use Rattle.csicodec_html.specs.Turns.{AreTurns}
 use Rattle.csicodec_html.proofs.Recalled.{same_look}
-use Rattle.csicodec_overwrite.specs.{declared.front.LineFront.LineFront, Turned.Turned}
-use Rattle.csicodec_overwrite.proofs.Fronts.{first_written, front_none, styled_written}
+use Rattle.csicodec_html.specs.Look.{plain}
+use Rattle.csicodec_overwrite.specs.Turned.{Turned}
+use Rattle.csicodec_overwrite.proofs.Fronts.{front_begins, run_written, styled_written}
 use Rattle.csicodec_overwrite.proofs.Straight.{split_line}
 use Rattle.csicodec_overwrite.proofs.front.append_shown.Goals as goal
 
 pub returns-then-behind-front-clause-written : goal.returns-then-behind-front-clause-written
 returns-then-behind-front-clause-written c =
-    ([], [], refl, rw c.plain.ensures (front_none c.args.marking.now c.args.pen), sym (append-nil c.args.out.now.items))
+    rw c.plain.ensures (front_begins c.args.marking.now c.args.pen c.args.bytes.now c.args.out.now.items)
 
 pub loop-init : goal.loop-init
 loop-init c =
     let bytes = c.args.bytes.now in
+    let out = c.args.out.now.items in
     let run = c.split_front.result.0.now in
-    let front : LineFront = record {
-      rest = c.split_front.result.1;
-      last = c.append_run.new.last;
-      now = c.args.pen.look;
-      even = c.eq.result;
-      least = c.saturating_sub.result;
-    } in
-    let lines = (split_line bytes run c.split_front.result.1.now c.split_front.ensures.front c.split_front.ensures.rest).1 in
+    let behind = c.split_front.result.1.now in
+    let lines = (split_line bytes run behind c.split_front.ensures.front c.split_front.ensures.rest).1 in
     record {
       bare = c.requires.bare;
       known = subst (AreTurns (Turned c.args.marking.now)) (sym c.stand.ensures) c.requires.known;
       even = λ is. same_look _ _ (rw c.eq.ensures at is);
       least = c.saturating_sub.ensures;
-      written = first_written c.args.marking.now c.args.pen bytes c.args.out.now.items c.append_run.new.out.items run front c.requires.over
-          c.split_front.ensures.front c.split_front.ensures.rest (omega (arith, c.if-behind-front.false, c.saturating_sub.ensures))
-          (rw c.plain.ensures at c.in_ok-append_run.ensures.text lines) (rw c.plain.ensures at c.in_ok-append_run.ensures.looks) refl;
+      written = run_written c.args.marking.now c.args.pen bytes out bytes run behind out c.append_run.new.out.items plain c.args.pen.look
+          c.append_run.new.last c.requires.over (front_begins c.args.marking.now c.args.pen bytes out) c.split_front.ensures.front
+          c.split_front.ensures.rest (omega (arith, c.if-behind-front.false, c.saturating_sub.ensures))
+          (rw c.plain.ensures at c.in_ok-append_run.ensures.looks) (rw c.plain.ensures at c.in_ok-append_run.ensures.text lines);
     }
 
 pub loop-preserved : goal.loop-preserved

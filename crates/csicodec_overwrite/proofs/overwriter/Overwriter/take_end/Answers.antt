@@ -1,6 +1,6 @@
 use Rattle.std.proofs.Common.{refl}
 use Rattle.csicodec_overwrite.specs.{Line.cells_of, Paint.ended}
-use Rattle.csicodec_overwrite.proofs.Ends.{end_passes}
+use Rattle.csicodec_overwrite.proofs.Fronts.{end_passes}
 use Rattle.csicodec_overwrite.proofs.overwriter.Overwriter.take_end.Goals as goal
 
 pub returns-clause-passes : goal.returns-clause-passes

@@ -1,7 +1,7 @@
 //! What stands in a line, cell by cell.
 ghost use Rattle.std.specs.Prelude.{◌≡◌, ◌≤◌, ◌*◌, ◌+◌, ◌++◌, ◌∷◌, [], false, OnOk, MatchOption, length, replicate, reverse, vec_capacity, vec_len};
 ghost use Rattle.std.specs.List.{list_all};
-ghost use Rattle.csicodec_overwrite.specs.Cells.{begins_behind, belongs, columns, emptied, is_blank, is_empty, of_tab, onto, outside, shifted, takes, trimmed, untabbed, without};
+ghost use Rattle.csicodec_overwrite.specs.Cells.{begins_behind, belongs, columns, emptied, erased, gone, is_blank, is_empty, of_tab, onto, outside, shifted, takes, trimmed, untabbed, without};
 ghost use Rattle.csicodec_overwrite.specs.{Line.line, Line.over, declared.cells.Cell.TheVariants.Empty};
 ghost use Rattle.csicodec_overwrite.specs.Private.{Plain.glyphs, Row.back};
 ghost use Rattle.csicodec_overwrite.specs.Private.Sides.{Gives, IsKept, PassesBack, PassesOver, put_many};
@@ -483,5 +483,41 @@ impl Side {
     {
         let gone = before.saturating_sub(self.columns());
         self.push_empty(gone)
+    }
+
+    /// Empties the columns of a character that goes on here.
+    pub(crate) fn loosen(&mut self) -> Result<(), AllocError>
+        ensures { OnOk result (self.new ≡ emptied self.old (outside self.old)) }
+    {
+        let before = self.columns();
+        self.take_belonging();
+        self.refill(before)
+    }
+
+    /// Empties the columns of a character that ends here.
+    pub(crate) fn undo(&mut self) -> Result<(), AllocError>
+        ensures { OnOk result (self.new ≡ emptied self.old (without 1 (outside self.old))) }
+    {
+        let before = self.columns();
+        self.take_belonging();
+        self.take_columns(1);
+        self.refill(before)
+    }
+
+    /// Takes out so many columns, and what belongs to them.
+    pub(crate) fn delete_columns(&mut self, count: usize) -> Result<(), AllocError>
+        ensures { OnOk result (self.new ≡ gone count self.old) }
+    {
+        self.take_columns(count);
+        self.loosen()
+    }
+
+    /// Empties so many columns, as far as there are some.
+    pub(crate) fn erase_columns(&mut self, count: usize) -> Result<(), AllocError>
+        ensures { OnOk result (self.new ≡ erased count self.old) }
+    {
+        let some = count.min(self.columns());
+        self.delete_columns(count)?;
+        self.push_empty(some)
     }
 }

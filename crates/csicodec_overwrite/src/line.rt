@@ -12,7 +12,6 @@ use crate::cells::{Cell, Glyph, Side};
 use crate::marking::Marking;
 use crate::paint::append_cells;
 use crate::pen::Pen;
-use crate::sides::{delete_columns, erase_columns, loosen, undo};
 use crate::step::{Step, WIDEST};
 use crate::width::width;
 use csicodec_spans::LIMIT;
@@ -200,8 +199,8 @@ impl Line {
         ensures { OnOk result (self.new ≡ parted self.old) }
     {
         if self.right.begins_behind() {
-            undo(&mut self.left)?;
-            loosen(&mut self.right)?;
+            self.left.undo()?;
+            self.right.loosen()?;
         }
         Ok(())
     }
@@ -220,7 +219,7 @@ impl Line {
         ensures { OnOk result (self.new ≡ erase_left self.old) }
     {
         self.left.empty()?;
-        erase_columns(&mut self.right, 1)
+        self.right.erase_columns(1)
     }
 
     /// Erases the whole line.
@@ -236,7 +235,7 @@ impl Line {
         ensures { OnOk result (self.new ≡ erase count self.old) }
     {
         self.part()?;
-        erase_columns(&mut self.right, count as usize)
+        self.right.erase_columns(count as usize)
     }
 
     /// Takes out so many columns from the cursor on.
@@ -244,7 +243,7 @@ impl Line {
         ensures { OnOk result (self.new ≡ delete count self.old) }
     {
         self.part()?;
-        delete_columns(&mut self.right, count as usize)?;
+        self.right.delete_columns(count as usize)?;
         self.right.shift();
         Ok(())
     }
@@ -291,7 +290,7 @@ impl Line {
         let Some(all) = count.checked_mul(columns) else {
             return Err(AllocError);
         };
-        delete_columns(&mut self.right, all)
+        self.right.delete_columns(all)
     }
 
     /// Takes all that stands there, and appends its text.
@@ -457,7 +456,7 @@ impl Line {
     }
 
     /// Whether characters go behind all that stands there.
-    #[tactic(auto, using(crate::proofs::Moved::no_cells))]
+    #[tactic(auto, using(std::proofs::lemmas::List::nil_from_length))]
     fn goes_behind(&self, pen: &Pen) -> bool
         ensures { result ≡ true → (pen.now.inserts ≡ false) × (self.now.right ≡ []) }
     {

@@ -3,7 +3,7 @@ use Rattle.std.proofs.lemmas.Result.{on_err_weaker, on_ok_weaker}
 use Rattle.csicodec_html.proofs.Paired.{is_page}
 use Rattle.csicodec_overwrite.specs.{declared.marking.Marking.TheVariants.Page, Reading.Paints, Stream.begun_as}
 use Rattle.csicodec_overwrite.proofs.{Paged.painted_page, Written.begins, Written.passes_none, Written.transformed}
-use Rattle.csicodec_overwrite.proofs.page.html_overwritten_all.Goals as goal
+use Rattle.csicodec_overwrite.proofs.run.html_overwritten_all.Goals as goal
 
 pub transform_all-requires-clause-begun : goal.transform_all-requires-clause-begun
 transform_all-requires-clause-begun g c = rw c.writing-pages.ensures (passes_none (begun_as (Page c.args.markup)) refl)

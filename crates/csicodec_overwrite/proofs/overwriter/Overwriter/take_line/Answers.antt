@@ -1,4 +1,4 @@
-use Rattle.std.proofs.Common.{◌++◌, ◌∷◌, [], take, refl, sym, ap, ◌∙◌, append_assoc}
+use Rattle.std.proofs.Common.{◌++◌, ◌∷◌, [], refl, sym, ap, ◌∙◌, append_assoc}
 use Rattle.csicodec_html.specs.Look.{plain}
 use Rattle.csicodec_overwrite.specs.{Paint.turn, Private.Plain.end_of}
 use Rattle.csicodec_overwrite.proofs.Fronts.{line_passes}

@@ -1,4 +1,4 @@
--- The text of a style is digits and `:`, 60 at most, in front of `m`.
+-- The text of a style is digits and `:`, 60 at most, in front of `m`: one control sequence, which is taken for that style.
 use Rattle.std.proofs.Common.{◌≡◌, ◌≤◌, ◌<◌, ◌+◌, ◌-◌, ◌^◌, ◌⊎◌, ℕ, suc, Bool, true, false, cond, List, [], ◌∷◌, ◌++◌, length}
 use Rattle.std.proofs.Common.{length-append, drop, inl, inr, refl, sym, ap, subst, ◌∙◌, append_assoc, append-nil, take, arith, rules}
 use Rattle.std.specs.Prelude.{◌==◌, ◌&&◌, codes, nat_le, nat_lt, slice_get}
@@ -25,15 +25,23 @@ use Rattle.csicodec_base.specs.declared.sgr.Font.TheVariants as font
 use Rattle.csicodec_base.specs.declared.sgr.Sgr.{Sgr}
 use Rattle.csicodec_base.specs.declared.sgr.Sgr.TheVariants as sgr
 use Rattle.csicodec_base.specs.SgrText.{palette_text, sgr_text, true_color_text}
+use Rattle.csicodec_actions.specs.Actions as action
 use Rattle.csicodec_actions.specs.Ranges.{ColorInRange, SgrInRange}
+use Rattle.csicodec_actions.specs.Table.{text}
 use Rattle.csicodec_parser.specs.Cut.{semicolon}
 use Rattle.csicodec_parser.specs.Groups.{group, is_byte}
 use Rattle.csicodec_parser.specs.declared.group.Group.{Group}
 use Rattle.csicodec_parser.specs.declared.group.Group.TheVariants.{Styles}
 use Rattle.csicodec_streams.specs.Colors.{IsColored, IsOpaque, color_list, plane_byte}
 use Rattle.csicodec.specs.Compose.{EndsInSemicolon}
-use Rattle.csicodec_terminal.specs.Terminal.{is_open}
+use Rattle.csicodec.specs.Exact.{ReadsAlone}
+use Rattle.csicodec.proofs.Exactly.{one-sequence}
+use Rattle.csicodec.proofs.Parsed.{parsed-kept}
+use Rattle.csicodec_spans.specs.Parts.{IsSequence}
+use Rattle.csicodec_terminal.specs.Terminal.{IsTakenFor, is_open}
+use Rattle.csicodec_clean.specs.Cleaned.{longest}
 use Rattle.csicodec_clean.specs.Styled.{hides}
+use Rattle.csicodec_clean.proofs.Noted.{closed_taken}
 use Rattle.csicodec_clean.proofs.PlainBytes.{all_both, all_weaker}
 
 -- ---- bytes that are digits or `:`
@@ -247,3 +255,26 @@ color_closed bytes rest style list (plane, color, opaque, paints, stands) (front
     let ends : seq.body ++ 109 ∷ [] ≡ head ++ (color_list color ++ 109 ∷ []) = ap (drop 2) (sym seq.whole ∙ own) in
     let body : seq.body ≡ head ++ color_list color = (same_ends seq.body (head ++ color_list color) 109 109 ends).0 in
     none_open (group list 109) list (λ last. (let (to, e) = ends_spelled seq.body list seq.spelled last in ends_color head to color opaque (sym body ∙ e)))
+
+-- ---- one control sequence
+
+pub record IsPiece (s : Sgr) : Type 0 where
+  pub one : IsSequence (text (action.Sgr s))
+  pub short : length (text (action.Sgr s)) ≤ longest
+
+pub style_range : (s : Sgr) → ReadsAlone (action.Sgr s) false → SgrInRange s
+style_range s r =
+    let o = one-sequence (text (action.Sgr s)) false (action.Sgr s) r.back in
+    (parsed-kept o.list false o.final (action.Sgr s ∷ []) o.is.spellable o.is.ends o.read).0.range
+
+pub piece : (s : Sgr) → ReadsAlone (action.Sgr s) false → hides s ≡ false → IsPiece s
+piece s r shown =
+    let o = one-sequence (text (action.Sgr s)) false (action.Sgr s) r.back in
+    let (body, is, are, some, few) = coded s (style_range s r) shown in
+    record { one = (o.list, o.final, o.is); short = omega (arith, ap length is, length-append body (109 ∷ []), few) }
+
+-- and it is taken for the style
+pub style_taken : (s : Sgr) → ReadsAlone (action.Sgr s) false → hides s ≡ false → IsTakenFor (text (action.Sgr s)) (action.Sgr s ∷ [])
+style_taken s r shown =
+    let o = one-sequence (text (action.Sgr s)) false (action.Sgr s) r.back in
+    closed_taken (text (action.Sgr s)) o.list o.final (action.Sgr s ∷ []) o.is o.read refl (style_closed s o.list o.final (style_range s r) shown o.is)

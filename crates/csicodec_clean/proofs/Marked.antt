@@ -17,8 +17,7 @@ use Rattle.csicodec_clean.specs.Links.{Address, IsLink, is_linked, is_param, is_
 use Rattle.csicodec_clean.specs.declared.styles.Passing.{Passing}
 use Rattle.csicodec_clean.specs.Styled.{hides, is_open, is_reset, Item, Shown, Style, Link, item_texts, links_of, styles_of, IsSafe, IsStyledIn, StylesIn}
 use Rattle.csicodec_clean.specs.Marked.{Stand, Text, Numbers, Params, Url, stand_behind, is_marked, IsMarked}
-use Rattle.csicodec_clean.proofs.Coded.{AreCodes, IsCode, coded}
-use Rattle.csicodec_clean.proofs.Pieces.{style_range}
+use Rattle.csicodec_clean.proofs.Coded.{AreCodes, IsCode, coded, style_range}
 use Rattle.csicodec_clean.proofs.Styled.{styled}
 
 -- ---- characters

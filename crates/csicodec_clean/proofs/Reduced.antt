@@ -14,7 +14,7 @@ use Rattle.csicodec.proofs.RoundTrip.{alone-only}
 use Rattle.csicodec_clean.specs.declared.colors.Depth.{Depth}
 use Rattle.csicodec_clean.specs.Palette.{IsNearest, distance, nearer, nearest_among, nearest_of_16, nearest_of_256, palette, reduced, reduced_color}
 use Rattle.csicodec_clean.specs.Styled.{hides}
-use Rattle.csicodec_clean.proofs.Pieces.{style_range}
+use Rattle.csicodec_clean.proofs.Coded.{style_range}
 
 -- ---- a place more
 

@@ -1,6 +1,6 @@
 -- What holds of each action that terminals take a control sequence for: it is in range, and a style is read alone from its text.
 use Rattle.std.specs.Prelude.{MatchBool, ℤ, pos, negsuc, ◌==◌, ◌&&◌, ◌^◌, ◌≤ℤ◌, nat_lt, slice_index_or, if◌then◌else◌}
-use Rattle.std.proofs.Common.{◌≡◌, ℕ, zero, suc, ◌||◌, Bool, true, false, List, [], ◌∷◌, length, Option, None, Some, refl, subst, ◌∙◌, inl, inr, arith}
+use Rattle.std.proofs.Common.{◌≡◌, ℕ, zero, suc, ◌||◌, Bool, true, false, List, [], ◌∷◌, length, Option, None, Some, refl, inl, inr, arith}
 use Rattle.std.proofs.lemmas.Int.{ints}
 use Rattle.std.proofs.lemmas.Bool.{cond_both}
 use Rattle.std.specs.List.{AllByRecursion}
@@ -12,14 +12,12 @@ use Rattle.csicodec_tokens.specs.Sequence.{IsFinal, IsSpellable, Spellable}
 use Rattle.csicodec_base.specs.declared.sgr.Sgr as sgr_type
 use Rattle.csicodec_actions.specs.Actions.{Action, Sgr, Unspecified}
 use Rattle.csicodec_actions.specs.Ranges.{InRange, SgrInRange}
-use Rattle.csicodec_actions.specs.Table.{text}
 use Rattle.csicodec_parser.specs.Canonical.{IsCanonicalSgr}
 use Rattle.csicodec_parser.specs.declared.group.Group.{Group}
 use Rattle.csicodec_parser.specs.declared.group.Group.TheVariants.{DecModes, Modes, Styles, Whole}
 use Rattle.csicodec_parser.specs.Cut.{semicolon}
 use Rattle.csicodec_parser.specs.Groups.{Piece, group}
 use Rattle.csicodec_parser.specs.Segments.{Actions}
-use Rattle.csicodec_streams.proofs.OneReading.{one_sequence}
 use Rattle.csicodec_terminal.specs.Regular.{by_fields, first, has_one, has_two, regular, said}
 use Rattle.csicodec_terminal.specs.Terminal.{Anew, IsTakenFor, Steps, behind, has_unknown, is_open}
 use Rattle.csicodec.specs.Exact.{ReadsAlone}
@@ -29,9 +27,6 @@ use Rattle.csicodec.proofs.Parsed.{parsed-kept}
 use Rattle.csicodec.proofs.RoundTrip.{alone-only}
 use Rattle.csicodec.proofs.SgrKept.{sgr-kept}
 use Rattle.csicodec.proofs.Twins.{parsed-special, sgr-plain}
-use Rattle.csicodec_clean.specs.Styled.{hides}
-use Rattle.csicodec_clean.proofs.Coded.{style_closed}
-use Rattle.csicodec_clean.proofs.Pieces.{style_range}
 use Rattle.csicodec_clean.proofs.PlainBytes.{all_weaker}
 
 -- ---- a regular list is one of a sequence
@@ -159,10 +154,3 @@ taken_range bytes actions taken = all_weaker IsSound InRange (λ a h. h.0) actio
 
 pub taken_alone : (bytes : List ℕ) (actions : List Action) → IsTakenFor bytes actions → AllByRecursion StyleAlone actions
 taken_alone bytes actions taken = all_weaker IsSound StyleAlone (λ a h. h.1) actions (taken_sound bytes actions taken)
-
--- the text of a style that is shown is taken for it
-pub style_taken : (s : sgr_type.Sgr) (actions : List Action) → ReadsAlone (Sgr s) false → hides s ≡ false → IsTakenFor (text (Sgr s)) actions → actions ≡ Sgr s ∷ []
-style_taken s actions r shown (list, final, is, (known, are, h)) =
-    let own : known ≡ Sgr s ∷ [] = r.only known (one_sequence (text (Sgr s)) list final known is are) in
-    let all : has_unknown known || is_open (group list final) list ≡ false = rw (own, style_closed s list final (style_range s r) shown is) refl in
-    (subst (λ b. MatchBool b (Anew (group list final) list false final actions) (actions ≡ known)) all h) ∙ own

@@ -6,7 +6,7 @@ use Rattle.bstr.proofs.lemmas.EncodeLemmas.{lossy_chars-encode}
 use Rattle.csicodec_spans.specs.declared.table.Kind.TheVariants as kind
 use Rattle.csicodec_spans.specs.declared.table.Mode.TheVariants as mode
 use Rattle.csicodec_spans.specs.Table.{Answer}
-use Rattle.csicodec_spans.specs.Parts.{Allows, AreFirstParts, IsWhole}
+use Rattle.csicodec_spans.specs.Parts.{Part, Allows, AreFirstParts, IsWhole}
 use Rattle.csicodec_spans.proofs.OneSpan.{none_unsure, singles}
 use Rattle.csicodec_spans.proofs.Agrees.{text_goes_on}
 use Rattle.csicodec_spans.proofs.Once.{whole_once}
@@ -23,15 +23,8 @@ all_text limit [] h = (refl, refl)
 all_text limit (b ∷ bs) h =
     (bs, mode.Text, (refl, subst (λ (f : Answer). Allows f limit (b ∷ bs) kind.Text (b ∷ []) mode.Text) (sym (text_goes_on b bs h.0)) (refl, refl, refl)), all_text limit bs h.1)
 
-whole_text : (limit : ℕ) (bs : List ℕ) → AllByRecursion IsOther bs → IsWhole limit mode.Text bs (singles kind.Text bs)
-whole_text limit bs h = record {
-  sure = singles kind.Text bs;
-  rest = [];
-  after = mode.Text;
-  first = all_text limit bs h;
-  unsure = none_unsure limit mode.Text;
-  whole = sym (append-nil (singles kind.Text bs));
-}
+pub whole_all : (limit : ℕ) (bytes : List ℕ) (ps : List Part) → AreFirstParts limit mode.Text bytes ps [] mode.Text → IsWhole limit mode.Text bytes ps
+whole_all limit bytes ps first = record { sure = ps; rest = []; after = mode.Text; first = first; unsure = none_unsure limit mode.Text; whole = sym (append-nil ps) }
 
 stripped_text : (bs run : List ℕ) → stripped run (singles kind.Text bs) ≡ shown_text (run ++ bs)
 stripped_text [] run = ap shown_text (sym (append-nil run))
@@ -47,7 +40,7 @@ one_text limit bytes text other s t = s.left ∙ ap (λ ps. stripped [] (with_ti
 pub plain_stays : (limit : ℕ) (text other : List ℕ) → IsPlain text → Strips limit text other → other ≡ text
 plain_stays limit text other p s =
     let (cs, scalars, all, e) = p in
-    let parts = whole_once limit mode.Text text s.parts (singles kind.Text text) s.whole (whole_text limit text (plain_bytes text p)) in
+    let parts = whole_once limit mode.Text text s.parts (singles kind.Text text) s.whole (whole_all limit text (singles kind.Text text) (all_text limit text (plain_bytes text p))) in
     s.left ∙ ap (λ ps. stripped [] (with_titles false ps)) parts ∙ ap (stripped []) (single_texts text) ∙ stripped_text text [] ∙ ap shown_text e
     ∙ ap shown_chars (lossy_chars-encode cs scalars) ∙ ap encode_utf8_all (all_kept cs all) ∙ sym e
 

@@ -1,4 +1,4 @@
-use Rattle.csicodec_clean.proofs.Hosts.{led_twice, no_host, no_web}
+use Rattle.csicodec_clean.proofs.Linked.{led_twice, no_host, no_web}
 use Rattle.csicodec_clean.proofs.laws.no_user.Goals as goal
 
 pub returns-clause-http : goal.returns-clause-http

@@ -1,6 +1,5 @@
 //! Links, read byte by byte.
 ghost use Rattle.std.specs.Prelude.{◌≡◌, ◌++◌, ℕ, List, Bool, true, [], OnOk, IfOk};
-ghost use Rattle.csicodec_clean.specs.declared.links.LinkState.TheVariants.{Params as InParams, Url as InUrl};
 ghost use Rattle.csicodec_clean.specs.Links.{admitted, all_behind, anew, begun, behind, ends_at, is_linked, is_param, is_visible, link_text, link_texts, links_at, links_in, no_address, opened, start};
 
 use crate::addresses::led;
@@ -121,41 +120,6 @@ impl LinkReader {
         self.url.clear();
     }
 
-    /// Takes a byte of the parameters.
-    fn take_param(&mut self, byte: u8) -> Result<(), AllocError>
-        requires { self.now.place ≡ InParams }
-        ensures { OnOk result
-            (begun self.new.place self.new.params.items self.new.url.items
-            ≡ behind (begun self.old.place self.old.params.items self.old.url.items) byte) }
-    {
-        if byte == b';' {
-            self.url.clear();
-            self.place = LinkState::Url;
-        } else if is_param(byte) && self.params.len() < LONGEST_PARAMS {
-            self.params.push(byte)?;
-        } else {
-            self.place = anew(byte);
-        }
-        Ok(())
-    }
-
-    /// Takes a byte of the URL.
-    fn take_url(&mut self, byte: u8) -> Result<(), AllocError>
-        requires { self.now.place ≡ InUrl }
-        ensures { OnOk result
-            (begun self.new.place self.new.params.items self.new.url.items
-            ≡ behind (begun self.old.place self.old.params.items self.old.url.items) byte) }
-    {
-        if is_visible(byte) && self.url.len() < LONGEST_URL {
-            self.url.push(byte)?;
-        } else if byte == 0x1b {
-            self.place = LinkState::Ending;
-        } else {
-            self.place = LinkState::Outside;
-        }
-        Ok(())
-    }
-
     /// Takes the next byte of a control string.
     pub fn take(&mut self, byte: u8) -> Result<(), AllocError>
         ensures { OnOk result
@@ -163,23 +127,27 @@ impl LinkReader {
             ≡ behind (begun self.old.place self.old.params.items self.old.url.items) byte) }
     {
         match self.place {
-            LinkState::Outside => self.place = anew(byte),
             LinkState::Escape | LinkState::Ending => self.place = opened(byte),
-            LinkState::Opened => self.place = if byte == b'8' {
-                LinkState::Eight
-            } else {
-                anew(byte)
-            },
-            LinkState::Eight => {
-                if byte == b';' {
-                    self.params.clear();
-                    self.place = LinkState::Params;
-                } else {
-                    self.place = anew(byte);
-                }
+            LinkState::Opened if byte == b'8' => self.place = LinkState::Eight,
+            LinkState::Eight if byte == b';' => {
+                self.params.clear();
+                self.place = LinkState::Params;
             }
-            LinkState::Params => return self.take_param(byte),
-            LinkState::Url => return self.take_url(byte),
+            LinkState::Params if byte == b';' => {
+                self.url.clear();
+                self.place = LinkState::Url;
+            }
+            LinkState::Params if is_param(byte) && self.params.len() < LONGEST_PARAMS => {
+                self.params.push(byte)?;
+            }
+            LinkState::Url if is_visible(byte) && self.url.len() < LONGEST_URL => {
+                self.url.push(byte)?;
+            }
+            LinkState::Url if byte == 0x1b => self.place = LinkState::Ending,
+            LinkState::Url => self.place = LinkState::Outside,
+            LinkState::Outside | LinkState::Opened | LinkState::Eight | LinkState::Params => {
+                self.place = anew(byte);
+            }
         }
         Ok(())
     }

@@ -22,32 +22,6 @@ use Rattle.csicodec_clean.proofs.Shows.{encoded_on}
 use Rattle.csicodec_clean.proofs.Sure.{sure_piece}
 use Rattle.csicodec_clean.proofs.Told.{read_encoded}
 
--- a character in front has bytes, and they are there
-pub char_within : (bytes : List ℕ) (c size : ℕ) → Some c ≡ (decoded bytes).char → size ≡ (decoded bytes).size → (0 < size) × (size ≤ length bytes)
-char_within [] c size char same = absurd (let e : Some c ≡ None = char in cc)
-char_within (b ∷ bytes) c size char same =
-    let bounds = piece-bounds (b ∷ bytes) (omega arith) in
-    (omega (arith, same, bounds.0), omega (arith, same, bounds.2))
-
--- one of a class is text of it
-pub one_text : (class : ℕ → Bool) (bytes : List ℕ) (c size : ℕ) → Some c ≡ (decoded bytes).char → size ≡ (decoded bytes).size → class c ≡ true
-    → IsTextOf class (take size bytes)
-one_text class bytes c size char same has =
-    let s = SpellsChar-decoded bytes c (sym char) in
-    let own = encode_utf8 c in
-    let text : take size bytes ≡ own =
-    ap (λ (i : ℕ). take i bytes) (same ∙ sym s.width) ∙ ap (λ (t : List ℕ). take (length own) t) s.bytes ∙ take-append_seam own (drop (decoded bytes).size bytes) in
-    (c ∷ [], and_from (scalar c) true s.scalar refl, (has, tt), text ∙ sym (append-nil own))
-
--- what decodes so whatever follows
-pub sure_char : (bytes : List ℕ) (c : ℕ) → 0 < length bytes → Some c ≡ (decoded bytes).char → (more : List ℕ) → decoded (bytes ++ more) ≡ decoded bytes
-sure_char bytes c some char more = sure_piece bytes more some (λ none. absurd (let e : Some c ≡ None = char ∙ none in cc))
-
-pub sure_bad : (bytes : List ℕ) (size : ℕ) → 0 < length bytes → size ≡ (decoded bytes).size → nat_eq size (length bytes) ≡ false → (more : List ℕ) → decoded (bytes ++ more) ≡ decoded bytes
-sure_bad bytes size some same other more =
-    let bounds = piece-bounds bytes some in
-    sure_piece bytes more some (λ none. grind (arith, nat_tests, bounds.2, same, other))
-
 -- ---- places
 
 -- the text in front is passed, and the rest is kept

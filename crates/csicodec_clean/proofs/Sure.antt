@@ -78,16 +78,18 @@ cut_char bs some cut =
 pub cut_short : (bs : List ℕ) → IsCut bs → length bs ≤ 3
 cut_short bs cut = grind (arith, nat_tests)
 
--- the piece in front, of so many bytes
+-- the piece in front, of so many bytes, whatever follows
+abbrev IsFront : List ℕ → ℕ → ℕ → Type 0
+IsFront bs c size = IsRead bs (c ∷ []) (drop size bs) × (0 < size) × (size ≤ length bs) × ((more : List ℕ) → decoded (bs ++ more) ≡ decoded bs)
+
 read_front : (bs : List ℕ) (o : Option ℕ) (size : ℕ) → 0 < length bs → o ≡ (decoded bs).char → size ≡ (decoded bs).size
-    → ((decoded bs).char ≡ None → (decoded bs).size < length bs) → IsRead bs (or_replacement o ∷ []) (drop size bs) × (0 < size) × (size ≤ length bs)
-read_front bs o size some char same sure = let bounds = piece-bounds bs some in rw (char, same) (read_piece bs some sure, bounds.0, bounds.2)
+    → ((decoded bs).char ≡ None → (decoded bs).size < length bs) → IsFront bs (or_replacement o) size
+read_front bs o size some char same sure = let bounds = piece-bounds bs some in rw (char, same) (read_piece bs some sure, bounds.0, bounds.2, λ more. sure_piece bs more some sure)
 
 -- a character
-pub read_char : (bs : List ℕ) (c size : ℕ) → 0 < length bs → Some c ≡ (decoded bs).char → size ≡ (decoded bs).size → IsRead bs (c ∷ []) (drop size bs) × (0 < size) × (size ≤ length bs)
+pub read_char : (bs : List ℕ) (c size : ℕ) → 0 < length bs → Some c ≡ (decoded bs).char → size ≡ (decoded bs).size → IsFront bs c size
 read_char bs c size some char same = read_front bs (Some c) size some char same (λ none. absurd (let e = char ∙ none in cc))
 
 -- and one that is none, with bytes behind it
-pub read_bad : (bs : List ℕ) (size : ℕ) → 0 < length bs → None ≡ (decoded bs).char → size ≡ (decoded bs).size → size ≢ length bs
-    → IsRead bs (replacement ∷ []) (drop size bs) × (0 < size) × (size ≤ length bs)
+pub read_bad : (bs : List ℕ) (size : ℕ) → 0 < length bs → None ≡ (decoded bs).char → size ≡ (decoded bs).size → size ≢ length bs → IsFront bs replacement size
 read_bad bs size some char same other = read_front bs None size some char same (λ none. omega (arith, (piece-bounds bs some).2, same, other))

@@ -1,5 +1,5 @@
 -- Text that is told by its bytes.
-use Rattle.std.proofs.Common.{◌≡◌, ◌-◌, ◌<◌, ◌≤◌, ℕ, Bool, true, false, List, [], ◌∷◌, ◌++◌, length, length-append, drop, take}
+use Rattle.std.proofs.Common.{◌≡◌, ◌-◌, ◌<◌, ◌≤◌, ℕ, Bool, true, false, None, Some, List, [], ◌∷◌, ◌++◌, length, length-append, drop, take}
 use Rattle.std.proofs.Common.{slice_index, encode_utf8_all, refl, sym, ap, ◌∙◌, arith, lt-ltb, append_assoc, append-nil, take-append-drop, zero, suc}
 use Rattle.std.specs.List.{AllByRecursion, prefix_len}
 use Rattle.std.specs.Str.{all_scalars}
@@ -10,7 +10,7 @@ use Rattle.std.proofs.lemmas.Grind.{common_steps}
 use lib.Utf8.{scalar, low_scalar}
 use Rattle.bstr.specs.Utf8.{Decoded, decoded, good, or_replacement, lossy_chars, continues, second, code_of_2, code_of_3, code_of_4}
 use Rattle.bstr.proofs.lemmas.EncodeLemmas.{decoded-encode}
-use Rattle.bstr.proofs.lemmas.PieceLemmas.{lossy_chars-step, value-1, value-6, value-9, value-12}
+use Rattle.bstr.proofs.lemmas.PieceLemmas.{lossy_chars-step, piece-bounds, value-1, value-6, value-9, value-12}
 use Rattle.std.proofs.Math.Seq.{take-append_seam, drop-append_seam}
 use Rattle.csicodec_clean.specs.Shown.{shown, shown_chars, IsBehind, IsPlain, IsRead, IsTextOf}
 use Rattle.csicodec_clean.specs.Bytes.{IsPlainByte, behind, plain_byte}
@@ -152,6 +152,23 @@ three b c d e low high ok more = (code_of_3 b c d, grind (arith, nat_tests), λ 
 pub four : (b c d e : ℕ) → 0xF0 ≤ b → b ≤ 0xF4 → second b c ≡ true → continues d ≡ true → continues e ≡ true → IsWide b c d e 4
 four b c d e low high ok more most = (code_of_4 b c d e, grind (arith, nat_tests), λ n many. value-12 n b c d e (many, low, high, ok, more, most))
 
+-- a character in front has bytes, and they are there
+pub char_within : (bytes : List ℕ) (c size : ℕ) → Some c ≡ (decoded bytes).char → size ≡ (decoded bytes).size → (0 < size) × (size ≤ length bytes)
+char_within [] c size char same = absurd (let e : Some c ≡ None = char in cc)
+char_within (b ∷ bytes) c size char same =
+    let bounds = piece-bounds (b ∷ bytes) (omega arith) in
+    (omega (arith, same, bounds.0), omega (arith, same, bounds.2))
+
+-- one of a class is text of it
+pub one_text : (class : ℕ → Bool) (bytes : List ℕ) (c size : ℕ) → Some c ≡ (decoded bytes).char → size ≡ (decoded bytes).size → class c ≡ true
+    → IsTextOf class (take size bytes)
+one_text class bytes c size char same has =
+    let s = SpellsChar-decoded bytes c (sym char) in
+    let own = encode_utf8 c in
+    let text : take size bytes ≡ own =
+    ap (λ (i : ℕ). take i bytes) (same ∙ sym s.width) ∙ ap (λ (t : List ℕ). take (length own) t) s.bytes ∙ take-append_seam own (drop (decoded bytes).size bytes) in
+    (c ∷ [], and_from (scalar c) true s.scalar refl, (has, tt), text ∙ sym (append-nil own))
+
 from_shown : (c : ℕ) → 160 ≤ c → shown c ≡ true
 from_shown c h = grind (arith, nat_tests)
 
@@ -161,13 +178,9 @@ none_shown bs = ([], refl, tt, refl)
 char_front : (bs : List ℕ) (len : ℕ) → 4 ≤ length bs → IsWide (slice_index bs 0) (slice_index bs 1) (slice_index bs 2) (slice_index bs 3) len → (len ≤ length bs) × IsPlain (take len bs)
 char_front bs len many (char, from, found) =
     let is = found (length bs) many in
-    let spelled = SpellsChar-decoded bs char (ap (λ (p : Decoded). p.char) is) in
-    let size : (decoded bs).size ≡ len = ap (λ (p : Decoded). p.size) is in
-    let text = encode_utf8 char in
-    let width : length text ≡ len = spelled.width ∙ size in
-    let front : take len bs ≡ text = ap (λ (n : ℕ). take n bs) (sym width) ∙ ap (take (length text)) spelled.bytes ∙ take-append_seam text (drop (decoded bs).size bs) in
-    let short : length text ≤ length bs = omega (arith, ap length spelled.bytes, length-append text (drop (decoded bs).size bs)) in
-    (omega (arith, width, short), (char ∷ [], and_from (scalar char) true spelled.scalar refl, (from_shown char from, tt), front ∙ sym (append-nil text)))
+    let same : Some char ≡ (decoded bs).char = sym (ap (λ (p : Decoded). p.char) is) in
+    let size : len ≡ (decoded bs).size = sym (ap (λ (p : Decoded). p.size) is) in
+    ((char_within bs char len same size).1, one_text shown bs char len same size (from_shown char from))
 
 -- the character in front is within the bytes, and shown
 pub wide_front : (bs : List ℕ) (len : ℕ) → 4 ≤ length bs

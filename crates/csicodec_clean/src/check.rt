@@ -5,7 +5,7 @@ ghost use Rattle.bstr.specs.Utf8.{decoded};
 ghost use Rattle.csicodec_clean.specs.Check.{IsFault, IsOutside, IsSure, Stands, line_ends};
 ghost use Rattle.csicodec_clean.specs.Shown.{IsBehind, IsTextOf};
 
-use crate::text::is_shown;
+use crate::text::{first_sure, is_shown};
 use crate::wide::behind_shown;
 use bstr::decode_utf8;
 use csicodec_streams::{CHUNK, RunError, keep_from, receive};
@@ -78,13 +78,9 @@ fn is_cut(bytes: &[u8]) -> bool
     ensures sure { result ≡ false → (0 < length bytes.now)
         × ((more : List ℕ) → decoded (bytes.now ++ more) ≡ decoded bytes.now) }
 {
-    if bytes.is_empty() {
-        return true;
-    }
-    let (found, size) = decode_utf8(bytes);
-    match found {
+    match first_sure(bytes) {
         Some(_) => false,
-        None => size == bytes.len(),
+        None => true,
     }
 }
 

@@ -1,5 +1,6 @@
 //! The characters of a run of text that are shown.
 ghost use Rattle.std.specs.Prelude.{◌≡◌, ◌<◌, ◌≤◌, ◌-◌, ◌++◌, ◌∷◌, [], ℕ, List, length, take, drop, OnOk, IfOk, IfSome, IfNone};
+ghost use Rattle.bstr.specs.Utf8.{decoded};
 ghost use Rattle.csicodec_clean.specs.Shown.{shown, shown_chars, shown_text, IsCut, IsRead};
 ghost use Rattle.csicodec_clean.specs.Private.Steps.{Tells, dropped_byte};
 
@@ -42,7 +43,8 @@ pub fn first_sure(bytes: &[u8]) -> Option<(char, usize)>
     ensures none { IfNone result (IsCut bytes.now) }
     ensures some { IfSome result
         (λ (char, size). IsRead bytes.now (char ∷ []) (drop size bytes.now) × (0 < size)
-        × (size ≤ length bytes.now)) }
+        × (size ≤ length bytes.now)
+        × ((more : List ℕ) → decoded (bytes.now ++ more) ≡ decoded bytes.now)) }
 {
     if bytes.is_empty() {
         return None;

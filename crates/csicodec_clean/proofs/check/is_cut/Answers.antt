@@ -1,13 +1,9 @@
-use Rattle.std.proofs.Common.{◌<◌, length, sym, ◌∙◌, rules}
-use Rattle.csicodec_clean.proofs.Checks.{sure_bad, sure_char}
+use Rattle.std.proofs.Common.{arith}
+use Rattle.csicodec_clean.proofs.Sure.{cut_short}
 use Rattle.csicodec_clean.proofs.check.is_cut.Goals as goal
 
 pub returns-in-Some-clause-sure : goal.returns-in-Some-clause-sure
-returns-in-Some-clause-sure c = λ other.
-    let some : 0 < length c.args.bytes.now = search rules in
-    (some, sure_char c.args.bytes.now c.in-Some.field-0 some (sym c.in-Some.is ∙ c.decode-found.ensures.char))
+returns-in-Some-clause-sure c = λ _. (omega (arith, c.in-Some.ensures.some.1, c.in-Some.ensures.some.2), c.in-Some.ensures.some.3)
 
-pub returns-in-None-clause-sure : goal.returns-in-None-clause-sure
-returns-in-None-clause-sure c = λ other.
-    let some : 0 < length c.args.bytes.now = search rules in
-    (some, sure_bad c.args.bytes.now c.decode-found.result.1 some c.decode-found.ensures.size other)
+pub returns-in-None-clause-short : goal.returns-in-None-clause-short
+returns-in-None-clause-short c = λ _. cut_short c.args.bytes.now c.in-None.ensures.none

@@ -1,5 +1,5 @@
 use Rattle.std.proofs.Common.{sym, ◌∙◌, arith}
-use Rattle.csicodec_clean.proofs.Checks.{char_within, one_text}
+use Rattle.csicodec_clean.proofs.Told.{char_within, one_text}
 use Rattle.csicodec_clean.proofs.check.member_len.Goals as goal
 
 pub returns-then-has-clause-within : goal.returns-then-has-clause-within

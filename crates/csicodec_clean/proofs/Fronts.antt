@@ -1,11 +1,9 @@
 -- What went out is a front of the text of the whole stream, whatever comes behind.
-use Rattle.std.proofs.Common.{◌≡◌, ℕ, false, Option, List, [], ◌∷◌, ◌++◌, map, refl, sym, ap, subst, ◌∙◌, append_assoc, append-nil}
+use Rattle.std.proofs.Common.{◌≡◌, ℕ, false, Option, List, [], ◌∷◌, ◌++◌, refl, sym, ap, subst, ◌∙◌, append_assoc, append-nil}
 use Rattle.std.specs.Prelude.{filter}
 use Rattle.std.specs.Io.KnownBytes.{Appends, Consumes, IsAtEnd}
 use Rattle.std.proofs.lemmas.Bool.{cond_both}
 use Rattle.bstr.specs.Utf8.{lossy_chars}
-use Rattle.csicodec_actions.specs.Actions.{Action}
-use Rattle.csicodec_terminal.proofs.Unique.{taken_once}
 use Rattle.csicodec_spans.specs.declared.table.Kind.{Kind}
 use Rattle.csicodec_spans.specs.declared.table.Kind.TheVariants as kind
 use Rattle.csicodec_spans.specs.declared.table.Mode.TheVariants as mode
@@ -15,18 +13,18 @@ use Rattle.csicodec_spans.proofs.Once.{parts_front}
 use Rattle.csicodec_filter.specs.Transform.{Sends}
 use Rattle.csicodec_filter.proofs.Sent.{whole_front}
 use Rattle.csicodec_clean.specs.declared.styles.Passing.{Passing}
-use Rattle.csicodec_clean.specs.Links.{Begun, is_linked, links_in, start}
+use Rattle.csicodec_clean.specs.Links.{Begun, is_linked, start}
 use Rattle.csicodec_clean.specs.Shown.{shown, shown_chars, shown_text, IsRead}
 use Rattle.csicodec_clean.specs.Titles.{title_open, with_titles}
-use Rattle.csicodec_clean.specs.Cleaned.{RuleOf, IsStep, AreSteps, Ends, Strips, stripped, drops, ends_bare, is_text, longest}
+use Rattle.csicodec_clean.specs.Cleaned.{RuleOf, AreSteps, Ends, Strips, stripped, drops, ends_bare, is_text, longest}
 use Rattle.csicodec_clean.specs.Stream.{Begins, Between, Goes, IsFrontOf, Takes, start_of}
-use Rattle.csicodec_clean.specs.Styled.{kept, Item, Style, item_texts, shown_items, Leaves, begun_behind, run_behind, items_behind}
+use Rattle.csicodec_clean.specs.Styled.{Item, item_texts, shown_items, Leaves, begun_behind, run_behind, items_behind}
 use Rattle.csicodec_clean.specs.Styled.{AreLeft, is_open, styles_of, links_of, ends_of, StylesIn, Keeping, first_kept, keeps, resets}
-use Rattle.csicodec_clean.proofs.Again.{one_styled}
+use Rattle.csicodec_clean.proofs.Again.{leaves_once, one_styled}
 use Rattle.csicodec_clean.proofs.Plain.{steps_stripped, strips}
 use Rattle.csicodec_clean.proofs.Shows.{shown_read}
 use Rattle.csicodec_clean.proofs.Streams.{SentFront}
-use Rattle.csicodec_clean.proofs.Styled.{given_string, part_texts, styles, texts_both, texts_chars, texts_links, texts_styles}
+use Rattle.csicodec_clean.proofs.Styled.{part_texts, step, styles, texts_both, texts_chars}
 use Rattle.csicodec_clean.proofs.Sure.{read_more, read_none}
 use Rattle.csicodec_clean.proofs.Titles.{titles_on}
 use Rattle.csicodec_clean.proofs.Twice.{one_text}
@@ -108,33 +106,6 @@ left_begins d b (p ∷ ps) run chars rest items h (own, others, leaves, e, left)
     (part_begins d b p.kind run p.bytes chars rest own others leaves h (λ cs r i. left_begins d (begun_behind d b p.kind p.bytes) ps (run_behind p.kind run p.bytes) cs r others i left))
 
 module _ {S : Type 0} (of : S → Keeping) where
-  -- what a step gave is the text of what the part leaves
-  record OneStep (k : Kind) (s mid : S) (run bytes first next : List ℕ) (own others : List Item) : Type 0 where
-    text : item_texts (items_behind k run ++ (own ++ others)) ≡ first ++ item_texts others
-    next_run : next ≡ run_behind k run bytes
-    passing : (of mid).passing ≡ (of s).passing
-    begun : (of mid).begun ≡ begun_behind (of s).passing (of s).begun k bytes
-
-  -- where a part ends the run
-  ended : (run first own_text : List ℕ) (own others : List Item) → first ≡ shown_text run ++ own_text → item_texts own ≡ own_text
-      → item_texts (shown_items run ++ (own ++ others)) ≡ first ++ item_texts others
-  ended run first own_text own others e same = rw (part_texts run own others, e, same) (simp append_assoc)
-
-  step_left : (k : Kind) (s mid : S) (run bytes first next : List ℕ) (own others : List Item) → IsStep (keeps of) k s run bytes first mid next
-      → Leaves (of s).passing (of s).begun k bytes own → OneStep k s mid run bytes first next own others
-  step_left kind.Text s mid run bytes first next own others (none, same, on) l =
-      record { text = rw (none, l) refl; next_run = on; passing = ap (λ (x : S). (of x).passing) same; begun = ap (λ (x : S). (of x).begun) same }
-  step_left kind.Csi s mid run bytes first next own others (given, (actions, one, same, state), e, left) (more, other, l) =
-      let d = (of s).passing.depth in
-      let text : item_texts own ≡ given = ap item_texts (l ∙ ap (λ (x : List Action). map Style (kept d x)) (taken_once bytes more actions other one)) ∙ texts_styles (kept d actions) ∙ sym same in
-      record { text = ended run first given own others e text; next_run = left; passing = ap (λ (x : Keeping). x.passing) state; begun = ap (λ (x : Keeping). x.begun) state }
-  step_left kind.Str s mid run bytes first next own others (given, steps, e, left) l =
-      let g = given_string of bytes s mid given steps in
-      let text : item_texts own ≡ given = ap item_texts l ∙ texts_links (links_in (of s).passing.links (of s).begun bytes) ∙ sym g.told in
-      record { text = ended run first given own others e text; next_run = left; passing = ap (λ (x : Keeping). x.passing) g.state; begun = ap (λ (x : Keeping). x.begun) g.state }
-  step_left _ s mid run bytes first next own others h l =
-      record { text = ended run first [] own others (h.0 ∙ sym (append-nil (shown_text run))) (ap item_texts l); next_run = h.2; passing = ap (λ (x : S). (of x).passing) h.1; begun = ap (λ (x : S). (of x).begun) h.1 }
-
   record Later (d : Passing) (qs : List Part) (last text : List ℕ) (items : List Item) : Type 0 where
     others : List Item
     begun : Begun
@@ -144,14 +115,15 @@ module _ {S : Type 0} (of : S → Keeping) where
   steps_left : (ps qs : List Part) (s after : S) (run text last : List ℕ) (items : List Item) → AreSteps (keeps of) s run ps text after last
       → AreLeft (of s).passing (of s).begun run (ps ++ qs) items → Later (of s).passing qs last text items
   steps_left [] qs s after run text last items (none, same, e) l = record { others = items; begun = (of s).begun; left = rw e l; all = rw none refl }
-  steps_left (p ∷ ps) qs s after run text last items (first, mid, next, more, step, e, rest) (own, others, leaves, f, l) =
-      let one = step_left p.kind s mid run p.bytes first next own others step leaves in
-      let r = steps_left ps qs mid after next more last others rest (rw (one.passing, one.begun, one.next_run) l) in
+  steps_left (p ∷ ps) qs s after run text last items (first, mid, next, more, is, e, rest) (own, others, leaves, f, l) =
+      let h = step of p.kind s mid run p.bytes first next is in
+      let same = leaves_once (of s).passing (of s).begun p.kind p.bytes own h.own leaves h.leaves in
+      let r = steps_left ps qs mid after next more last others rest (rw (h.state, h.next_run) l) in
       record {
         others = r.others;
         begun = r.begun;
-        left = subst (λ (d : Passing). AreLeft d r.begun last qs r.others) one.passing r.left;
-        all = rw (f, one.text, r.all, e) (simp append_assoc);
+        left = subst (λ (d : Passing). AreLeft d r.begun last qs r.others) (ap (λ (x : Keeping). x.passing) h.state) r.left;
+        all = rw (f, same, h.text others, r.all, e) (simp append_assoc);
       }
 
   pub clean_front : (s : S) (read more text : List ℕ) (last : Between S) → (of s).begun ≡ start → Takes (keeps of) (start_of s) read text last → IsFrontOf (StylesIn (of s).passing) (read ++ more) text

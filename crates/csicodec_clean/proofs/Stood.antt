@@ -11,22 +11,22 @@ use Rattle.csicodec_spans.specs.declared.table.Kind.{Kind}
 use Rattle.csicodec_spans.specs.declared.table.Kind.TheVariants as kind
 use Rattle.csicodec_spans.specs.declared.table.Mode.{Mode}
 use Rattle.csicodec_spans.specs.declared.table.Mode.TheVariants as mode
-use Rattle.csicodec_spans.specs.Parts.{Part, part, bytes_of, AreFirstParts, IsFirstPart, IsSpan, left_over}
+use Rattle.csicodec_spans.specs.Parts.{Part, part, bytes_of, AreFirstParts, IsFirstPart, left_over}
 use Rattle.csicodec_spans.proofs.Fronts.{IsPiece, in_string, is_str}
 use Rattle.csicodec_spans.proofs.Missed.{fit}
-use Rattle.csicodec_clean.specs.declared.colors.Depth.{Depth}
 use Rattle.csicodec_clean.specs.declared.links.LinkState.{LinkState}
 use Rattle.csicodec_clean.specs.declared.links.LinkState.TheVariants as place
 use Rattle.csicodec_clean.specs.declared.styles.Passing.{Passing}
 use Rattle.csicodec_clean.specs.Cleaned.{longest}
 use Rattle.csicodec_clean.specs.Links.{Address, Begun, IsAdmitted, IsWithin, Spells, Stood, StoodIn, admitted, all_behind, begun, behind}
-use Rattle.csicodec_clean.specs.Links.{behind_at, ends_at, is_linked, link_body, links_in, opened, start}
+use Rattle.csicodec_clean.specs.Links.{behind_at, ends_at, link_body, links_in, opened, start}
 use Rattle.csicodec_clean.specs.Shown.{shown}
-use Rattle.csicodec_clean.specs.Styled.{kept, Item, Link, Leaves, begun_behind, run_behind, items_behind, AreLeft, links_of, ends_of, is_open, styles_of, IsSafe, StylesIn}
+use Rattle.csicodec_clean.specs.Styled.{Item, Leaves, begun_behind, run_behind, items_behind, AreLeft, links_of, StylesIn}
 use Rattle.csicodec_clean.specs.Titles.{read_as, title_behind, with_titles}
-use Rattle.csicodec_clean.proofs.Linked.{links_on, passes}
+use Rattle.csicodec_clean.proofs.Linked.{behind_on, links_none, links_on, passes}
 use Rattle.csicodec_clean.proofs.PlainBytes.{all_both}
-use Rattle.csicodec_clean.proofs.Styled.{links_both, links_chars, links_links, links_styles, part_links, safe_closed}
+use Rattle.csicodec_clean.proofs.Styled.{links_chars, links_links, links_styles, part_links}
+use Rattle.csicodec_clean.proofs.Titles.{whole_each}
 
 -- ---- what of a link has been read
 
@@ -234,85 +234,82 @@ after_piece whole done later m b bytes split h (inr (c, e, other)) =
 
 -- ---- the whole stream
 
-abbrev with_links : Depth → Passing
-with_links d = record { depth = d; links = true }
+-- the bytes of the control strings among the parts
+abbrev string_of : Part → List ℕ
+string_of p = if is_str p.kind then p.bytes else []
 
--- a part that is no control string leaves no link
-none_left : (d : Depth) (b : Begun) (k : Kind) (run bytes : List ℕ) (own others : List Item) → is_str k ≡ false → Leaves (with_links d) b k bytes own
-    → links_of (items_behind k run ++ (own ++ others)) ≡ links_of others
-none_left d b kind.Str run bytes own others e l = absurd cc
-none_left d b kind.Text run bytes own others e l = rw l refl
-none_left d b kind.Csi run bytes own others e (actions, is, l) =
-    part_links run own others ∙ ap (λ (t : List Address). t ++ links_of others) (ap links_of l ∙ links_styles (kept d actions))
-none_left d b _ run bytes own others e l = part_links run own others ∙ ap (λ (t : List Item). links_of t ++ links_of others) l
+abbrev strings : List Part → List ℕ
+strings ps = flat_map string_of ps
 
--- and one that is one those that are over in it
-string_left : (d : Depth) (b : Begun) (run bytes : List ℕ) (own others items : List Item) → Leaves (with_links d) b kind.Str bytes own
-    → items ≡ items_behind kind.Str run ++ (own ++ others) → links_of items ≡ links_in true b bytes ++ links_of others
-string_left d b run bytes own others items leaves e =
-    ap links_of e ∙ part_links run own others ∙ ap (λ (x : List Address). x ++ links_of others) (ap links_of leaves ∙ links_links (links_in true b bytes))
+-- what is left of parts has the links that are over in these
+one_left : (d : Passing) (b : Begun) (k : Kind) (t : Bool) (run bytes rest : List ℕ) (own others : List Item) → Leaves d b (read_as k t) bytes own
+    → links_of others ≡ links_in d.links (begun_behind d b (read_as k t) bytes) rest
+    → links_of (items_behind (read_as k t) run ++ (own ++ others)) ≡ links_in d.links b (string_of (part k bytes) ++ rest)
+one_left d b kind.Text true run bytes rest own others l e = rw (part_links kind.Other run own others, l, e) refl
+one_left d b kind.Text false run bytes rest own others l e = rw (l, e) refl
+one_left d b kind.Csi t run bytes rest own others (actions, is, l) e = rw (part_links kind.Csi run own others, l, links_styles, e) refl
+one_left d b kind.Str t run bytes rest own others l e = rw (part_links kind.Str run own others, l, links_links, e) (sym (links_on d.links bytes rest b))
+one_left d b k t run bytes rest own others l e = rw (part_links k run own others, l, e) refl
+
+links_left : (d : Passing) (b : Begun) (t : Bool) (run : List ℕ) (ps : List Part) (items : List Item) → AreLeft d b run (with_titles t ps) items → links_of items ≡ links_in d.links b (strings ps)
+links_left d b t run [] items e = ap links_of e ∙ links_chars (filter shown (lossy_chars run))
+links_left d b t run (p ∷ ps) items (own, others, leaves, e, left) =
+    ap links_of e ∙ one_left d b p.kind t run p.bytes (strings ps) own others leaves
+    (links_left d (begun_behind d b (read_as p.kind t) p.bytes) (title_behind t p.kind p.bytes) (run_behind (read_as p.kind t) run p.bytes) ps others left)
 
 -- one part, and then the others
-one_part : (d : Depth) (k : Kind) (text : List ℕ) (m a : Mode) (bytes rest : List ℕ) (b : Begun) (t : Bool) (run : List ℕ) (done later whole : List Part) (items own others : List Item)
-    → IsFirstPart longest m bytes (part k text) rest a → Held m done b
-    → whole ≡ done ++ (part k text ∷ later) → Leaves (with_links d) b (read_as k t) text own → items ≡ items_behind (read_as k t) run ++ (own ++ others)
-    → (Held a (done ++ part k text ∷ []) (begun_behind (with_links d) b (read_as k t) text) → AllByRecursion (IsAdmitted (StoodIn whole)) (links_of others))
-    → AllByRecursion (IsAdmitted (StoodIn whole)) (links_of items)
-one_part d kind.Text text m a bytes rest b true run done later whole items own others first h split leaves e f =
-    rw (e, none_left d b kind.Other run text own others refl leaves) (f record { at_rest = h.at_rest; open_or_shut = inr (fit longest m bytes kind.Text text rest a first).0 })
-one_part d kind.Text text m a bytes rest b false run done later whole items own others first h split leaves e f =
-    rw (e, none_left d b kind.Text run text own others refl leaves) (f record { at_rest = h.at_rest; open_or_shut = inr (fit longest m bytes kind.Text text rest a first).0 })
-one_part d kind.Esc text m a bytes rest b t run done later whole items own others first h split leaves e f =
-    rw (e, none_left d b kind.Esc run text own others refl leaves) (f record { at_rest = h.at_rest; open_or_shut = inr (fit longest m bytes kind.Esc text rest a first).0 })
-one_part d kind.Str text m a bytes rest b t run done later whole items own others first h split leaves e f =
+one_part : (whole done later : List Part) (k : Kind) (text more : List ℕ) (m a : Mode) (bytes rest : List ℕ) (b : Begun) → IsFirstPart longest m bytes (part k text) rest a
+    → Held m done b → whole ≡ done ++ part k text ∷ later
+    → (Held a (done ++ part k text ∷ []) (all_behind true b (string_of (part k text))) → AllByRecursion (IsAdmitted (StoodIn whole)) (links_in true (all_behind true b (string_of (part k text))) more))
+    → AllByRecursion (IsAdmitted (StoodIn whole)) (links_in true b (string_of (part k text) ++ more))
+one_part whole done later kind.Str text more m a bytes rest b first h split f =
     let fits = fit longest m bytes kind.Str text rest a first in
     let now = after_piece whole done later m b text split h fits in
-    subst (AllByRecursion (IsAdmitted (StoodIn whole))) (sym (string_left d b run text own others items leaves e))
-    (all_both (IsAdmitted (StoodIn whole)) (links_in true b text) (links_of others) now.links (f record { at_rest = rest_behind m b text fits h.at_rest; open_or_shut = inl now.opens }))
-one_part d k text m a bytes rest b t run done later whole items own others first h split leaves e f =
-    rw (e, none_left d b k run text own others refl leaves) (f record { at_rest = h.at_rest; open_or_shut = inr (fit longest m bytes k text rest a first) })
+    rw (links_on true text more b)
+    (all_both (IsAdmitted (StoodIn whole)) (links_in true b text) (links_in true (all_behind true b text) more) now.links (f record { at_rest = rest_behind m b text fits h.at_rest; open_or_shut = inl now.opens }))
+one_part whole done later kind.Text text more m a bytes rest b first h split f = f record { at_rest = h.at_rest; open_or_shut = inr (fit longest m bytes kind.Text text rest a first).0 }
+one_part whole done later kind.Esc text more m a bytes rest b first h split f = f record { at_rest = h.at_rest; open_or_shut = inr (fit longest m bytes kind.Esc text rest a first).0 }
+one_part whole done later k text more m a bytes rest b first h split f = f record { at_rest = h.at_rest; open_or_shut = inr (fit longest m bytes k text rest a first) }
 
--- what is left where nothing follows
-end_links : (d : Depth) (rest : List ℕ) (b : Begun) (t : Bool) (run : List ℕ) (items : List Item) → AreLeft (with_links d) b run (with_titles t (left_over rest)) items → links_of items ≡ []
-end_links d [] b t run items e = ap links_of e ∙ links_chars (filter shown (lossy_chars run))
-end_links d (c ∷ rest) b t run items (own, others, leaves, e, last) = ap links_of e ∙ none_left d b kind.Other run (c ∷ rest) own others refl leaves ∙ ap links_of last ∙ links_chars (filter shown (lossy_chars []))
-
-all_parts : (d : Depth) (sure : List Part) (m a : Mode) (bytes rest : List ℕ) (b : Begun) (t : Bool) (run : List ℕ) (done whole : List Part) (items : List Item)
-    → AreFirstParts longest m bytes sure rest a → Held m done b
-    → whole ≡ done ++ (sure ++ left_over rest) → AreLeft (with_links d) b run (with_titles t (sure ++ left_over rest)) items → AllByRecursion (IsAdmitted (StoodIn whole)) (links_of items)
-all_parts d [] m a bytes rest b t run done whole items first h split left = rw (end_links d rest b t run items left) tt
-all_parts d (p ∷ sure) m a bytes rest b t run done whole items (behind, mid, one, later) h split (own, others, leaves, e, left) =
-    one_part d p.kind p.bytes m mid bytes behind b t run done (sure ++ left_over rest) whole items own others one h split leaves e
-    (λ (k : Held mid (done ++ p ∷ []) (begun_behind (with_links d) b (read_as p.kind t) p.bytes)).
-    all_parts d sure mid a behind rest (begun_behind (with_links d) b (read_as p.kind t) p.bytes) (title_behind t p.kind p.bytes) (run_behind (read_as p.kind t) run p.bytes)
-    (done ++ p ∷ []) whole others later k (split ∙ sym (append_assoc done (p ∷ []) (sure ++ left_over rest))) left)
-
--- where no links pass
-none_pass : (d : Passing) (P : Address → Type 0) (items more : List Item) → d.links ≡ false → AllByRecursion (IsSafe d) (items ++ more) → AllByRecursion P (links_of items)
-none_pass d P [] more e h = tt
-none_pass d P (Link a ∷ items) more e h = absurd (both_ways d.links e h.0.0)
-none_pass d P (_ ∷ items) more e h = none_pass d P items more e h.1
-
-stream : (depth : Depth) (links : Bool) (bytes text : List ℕ) (s : StylesIn (record { depth = depth; links = links }) bytes text) → AllByRecursion (IsAdmitted (StoodIn s.parts)) (links_of s.items)
-stream depth true bytes text s =
-    let w = s.whole in
-    all_parts depth w.sure mode.Text w.after bytes w.rest start false [] [] s.parts s.items w.first (record { at_rest = tt; open_or_shut = inr refl }) w.whole
-    (subst (λ (ps : List Part). AreLeft (with_links depth) start [] (with_titles false ps) s.items) w.whole s.left)
-stream depth false bytes text s =
-    let d : Passing = record { depth = depth; links = false } in
-    none_pass d (IsAdmitted (StoodIn s.parts)) s.items (ends_of (is_linked false (links_of s.items)) (is_open false (styles_of s.items))) refl (safe_closed d bytes text s)
+all_parts : (whole done sure : List Part) (m a : Mode) (bytes rest : List ℕ) (b : Begun) → AreFirstParts longest m bytes sure rest a → Held m done b
+    → whole ≡ done ++ (sure ++ left_over rest) → AllByRecursion (IsAdmitted (StoodIn whole)) (links_in true b (strings (sure ++ left_over rest)))
+all_parts whole done [] m a bytes [] b first h split = tt
+all_parts whole done [] m a bytes (c ∷ rest) b first h split = tt
+all_parts whole done (p ∷ sure) m a bytes rest b (behind, mid, one, later) h split =
+    one_part whole done (sure ++ left_over rest) p.kind p.bytes (strings (sure ++ left_over rest)) m mid bytes behind b one h split
+    (λ (k : Held mid (done ++ p ∷ []) (all_behind true b (string_of p))).
+    all_parts whole (done ++ p ∷ []) sure mid a behind rest (all_behind true b (string_of p)) later k (split ∙ sym (append_assoc done (p ∷ []) (sure ++ left_over rest))))
 
 pub in_stream : (d : Passing) (bytes text : List ℕ) (s : StylesIn d bytes text) → AllByRecursion (IsAdmitted (StoodIn s.parts)) (links_of s.items)
-in_stream d bytes text s = stream d.depth d.links bytes text s
+in_stream d bytes text s = rw (links_left d start false [] s.parts s.items s.left) (by d.links)
+  where
+    by : (links : Bool) → AllByRecursion (IsAdmitted (StoodIn s.parts)) (links_in links start (strings s.parts))
+    by false = rw (links_none (strings s.parts) start) tt
+    by true =
+        let w = s.whole in
+        subst (λ (ps : List Part). AllByRecursion (IsAdmitted (StoodIn s.parts)) (links_in true start (strings ps))) (sym w.whole)
+        (all_parts s.parts [] w.sure mode.Text w.after bytes w.rest start w.first (record { at_rest = tt; open_or_shut = inr refl }) w.whole)
 
 -- ---- and each that stood there and may pass does
 
-part_rests : (d : Depth) (k : Kind) (text : List ℕ) (m a : Mode) (bytes rest : List ℕ) (b : Begun) (t : Bool)
-    → IsFirstPart longest m bytes (part k text) rest a → IsAtRest b.place → IsAtRest (begun_behind (with_links d) b (read_as k t) text).place
-part_rests d kind.Text text m a bytes rest b true first h = h
-part_rests d kind.Text text m a bytes rest b false first h = h
-part_rests d kind.Str text m a bytes rest b t first h = rest_behind m b text (fit longest m bytes kind.Str text rest a first) h
-part_rests d _ text m a bytes rest b t first h = h
+abbrev IsString : Part → Type 0
+IsString p = p.kind ≡ kind.Str → (m : Mode) × IsPiece m p.bytes
+
+string_first : (m : Mode) (bytes rest : List ℕ) (a : Mode) (p : Part) → IsFirstPart longest m bytes p rest a → IsString p
+string_first m bytes rest a p h e = (m, fit longest m bytes kind.Str p.bytes rest a (subst (λ (k : Kind). IsFirstPart longest m bytes (part k p.bytes) rest a) e h))
+
+part_rests : (b : Begun) (k : Kind) (bytes : List ℕ) → IsString (part k bytes) → IsAtRest b.place → IsAtRest (all_behind true b (string_of (part k bytes))).place
+part_rests b kind.Str bytes f rest = let (m, fits) = f refl in rest_behind m b bytes fits rest
+part_rests b _ bytes f rest = rest
+
+parts_rest : (b : Begun) (ps more : List Part) → AllByRecursion IsString (ps ++ more) → IsAtRest b.place → IsAtRest (all_behind true b (strings ps)).place
+parts_rest b [] more h rest = rest
+parts_rest b (p ∷ ps) more h rest =
+    subst (λ (x : Begun). IsAtRest x.place) (sym (behind_on true (string_of p) (strings ps) b)) (parts_rest (all_behind true b (string_of p)) ps more h.1 (part_rests b p.kind p.bytes h.0 rest))
+
+strings_own : (ps : List Part) → AllByRecursion IsStr ps → strings ps ≡ flat_map bytes_of ps
+strings_own [] h = refl
+strings_own (p ∷ ps) h = rw (h.0, strings_own ps h.1) refl
 
 -- `ESC ]` begins anew, whatever was read
 opens_any : (p : LinkState) (params url bytes : List ℕ) → IsAtRest p → links_in true (begun p params url) (27 ∷ 93 ∷ bytes) ≡ links_in true (begun place.Opened params url) bytes
@@ -327,73 +324,18 @@ spelled : (b : Begun) (a : Address) (text : List ℕ) → IsAtRest b.place → I
 spelled b a text rest h (inl e) = ap (links_in true b) e ∙ passes_any b a (7 ∷ []) rest h refl
 spelled b a text rest h (inr e) = ap (links_in true b) e ∙ passes_any b a (27 ∷ 92 ∷ []) rest h refl
 
--- the links of a control string's parts
-abbrev BeginsBy : List Address → List Address → Type 0
-BeginsBy links first = (more : List Address) × (links ≡ first ++ more)
-
-one_string : (d : Depth) (k : Kind) (text : List ℕ) (b : Begun) (t : Bool) (run : List ℕ) (items own others : List Item) → k ≡ kind.Str
-    → Leaves (with_links d) b (read_as k t) text own → items ≡ items_behind (read_as k t) run ++ (own ++ others)
-    → (links_of items ≡ links_in true b text ++ links_of others) × (begun_behind (with_links d) b (read_as k t) text ≡ all_behind true b text)
-one_string d kind.Str text b t run items own others is leaves e = (string_left d b run text own others items leaves e, refl)
-one_string d _ text b t run items own others is leaves e = absurd cc
-
-strings : (d : Depth) (ps later : List Part) (b : Begun) (t : Bool) (run : List ℕ) (items : List Item) → AllByRecursion IsStr ps
-    → AreLeft (with_links d) b run (with_titles t (ps ++ later)) items → BeginsBy (links_of items) (links_in true b (flat_map bytes_of ps))
-strings d [] later b t run items h left = (links_of items, refl)
-strings d (p ∷ ps) later b t run items h (own, others, leaves, e, left) =
-    let here = one_string d p.kind p.bytes b t run items own others h.0 leaves e in
-    let (more, f) = strings d ps later (begun_behind (with_links d) b (read_as p.kind t) p.bytes) (title_behind t p.kind p.bytes) (run_behind (read_as p.kind t) run p.bytes) others h.1 left in
-    let first = links_in true b p.bytes in
-    let bytes = flat_map bytes_of ps in
-    let behind = links_in true (all_behind true b p.bytes) bytes in (
-      more,
-      here.0 ∙ ap (λ (x : List Address). first ++ x) (f ∙ ap (λ (x : Begun). links_in true x bytes ++ more) here.1)
-          ∙ sym (append_assoc first behind more) ∙ ap (λ (x : List Address). x ++ more) (sym (links_on true p.bytes bytes b)),
-    )
-
-found_here : (d : Depth) (own later : List Part) (b : Begun) (t : Bool) (run text : List ℕ) (items : List Item) (a : Address) → IsAtRest b.place → IsSpan kind.Str text own → Spells text a → IsWithin a
-    → AreLeft (with_links d) b run (with_titles t (own ++ later)) items → Contains (links_of items) (admitted a)
-found_here d own later b t run text items a rest span spells h left =
-    let (more, e) = strings d own later b t run items span.all left in
-    subst (λ (x : List Address). Contains x (admitted a)) (sym (e ∙ ap (λ (x : List Address). x ++ more) (ap (links_in true b) span.joined ∙ spelled b a text rest h spells))) (0, omega arith, refl)
-
-found_later : (k : Kind) (run : List ℕ) (own others items : List Item) (a : Address) → items ≡ items_behind k run ++ (own ++ others) → Contains (links_of others) a → Contains (links_of items) a
-found_later k run own others items a e h =
-    let front = items_behind k run ++ own in
-    let same : links_of items ≡ links_of front ++ links_of others = ap links_of (e ∙ sym (append_assoc (items_behind k run) own others)) ∙ links_both front others in
-    subst (λ (x : List Address). Contains x a) (sym same) (Contains-append_right (links_of front) (links_of others) a h)
-
--- no string stands behind what isn't over
-one_over : (rest : List ℕ) (q : Part) (ps : List Part) → left_over rest ≡ q ∷ ps → ps ≡ []
-one_over [] q ps e = absurd cc
-one_over (c ∷ rest) q ps e = cc
-
-none_over : (rest : List ℕ) (q : Part) (before own later : List Part) → left_over rest ≡ q ∷ (before ++ (own ++ later)) → 0 < length own → ⊥
-none_over rest q before own later e some =
-    let none = one_over rest q (before ++ (own ++ later)) e in
-    omega (arith, ap length none, length-append before (own ++ later), length-append own later)
-
-found_among : (d : Depth) (before sure own later : List Part) (m a : Mode) (bytes rest : List ℕ) (b : Begun) (t : Bool) (run text : List ℕ) (items : List Item) (link : Address)
-    → AreFirstParts longest m bytes sure rest a → IsAtRest b.place
-    → sure ++ left_over rest ≡ before ++ (own ++ later) → IsSpan kind.Str text own → Spells text link → IsWithin link
-    → AreLeft (with_links d) b run (with_titles t (sure ++ left_over rest)) items → Contains (links_of items) (admitted link)
-found_among d [] sure own later m a bytes rest b t run text items link first h e span spells fine left =
-    found_here d own later b t run text items link h span spells fine (subst (λ (ps : List Part). AreLeft (with_links d) b run (with_titles t ps) items) e left)
-found_among d (q ∷ before) [] own later m a bytes rest b t run text items link first h e span spells fine left = absurd (none_over rest q before own later e span.some)
-found_among d (q ∷ before) (p ∷ sure) own later m a bytes rest b t run text items link (behind, mid, one, next) h e span spells fine (mine, others, leaves, split, left) =
-    let tail : sure ++ left_over rest ≡ before ++ (own ++ later) = cc in
-    found_later (read_as p.kind t) run mine others items (admitted link) split
-    (found_among d before sure own later mid a behind rest (begun_behind (with_links d) b (read_as p.kind t) p.bytes) (title_behind t p.kind p.bytes)
-    (run_behind (read_as p.kind t) run p.bytes) text others link next
-    (part_rests d p.kind p.bytes m mid bytes behind b t one h) tail span spells fine left)
-
-found_in : (depth : Depth) (links : Bool) (bytes text : List ℕ) (s : StylesIn (record { depth = depth; links = links }) bytes text) (a : Address)
-    → links ≡ true → StoodIn s.parts a → IsWithin a → Contains (links_of s.items) (admitted a)
-found_in depth true bytes text s a e stood h =
-    let w = s.whole in
-    found_among depth stood.before w.sure stood.own stood.rest mode.Text w.after bytes w.rest start false [] stood.text s.items a w.first tt (sym w.whole ∙ stood.whole) stood.string stood.link h
-    (subst (λ (ps : List Part). AreLeft (with_links depth) start [] (with_titles false ps) s.items) w.whole s.left)
-found_in depth false bytes text s a e stood h = absurd cc
-
 pub passes_in_stream : (d : Passing) (bytes text : List ℕ) (s : StylesIn d bytes text) (a : Address) → d.links ≡ true → StoodIn s.parts a → IsWithin a → Contains (links_of s.items) (admitted a)
-passes_in_stream d bytes text s a e stood h = found_in d.depth d.links bytes text s a e stood h
+passes_in_stream d bytes text s a e stood h =
+    let before = strings stood.before in
+    let later = strings stood.rest in
+    let b = all_behind true start before in
+    let first = links_in true start before in
+    let more = links_in true (all_behind true b stood.text) later in
+    let parts = subst (AllByRecursion IsString) stood.whole (whole_each IsString longest string_first (λ bytes k. absurd cc) bytes s.parts s.whole) in
+    let rest = parts_rest start stood.before (stood.own ++ stood.rest) parts tt in
+    let split : strings (stood.before ++ (stood.own ++ stood.rest)) ≡ before ++ (strings stood.own ++ later) = simp flat_map-append in
+    let joined = ap strings stood.whole ∙ split ∙ ap (λ (t : List ℕ). before ++ (t ++ later)) (strings_own stood.own stood.string.all ∙ stood.string.joined) in
+    let links : links_of s.items ≡ first ++ admitted a ∷ more =
+    links_left d start false [] s.parts s.items s.left ∙ ap (λ (l : Bool). links_in l start (strings s.parts)) e ∙ ap (links_in true start) joined ∙ links_on true before (stood.text ++ later) start
+    ∙ ap (λ (x : List Address). first ++ x) (links_on true stood.text later b ∙ ap (λ (x : List Address). x ++ more) (spelled b a stood.text rest h stood.link)) in
+    subst (λ (x : List Address). Contains x (admitted a)) (sym links) (Contains-append_right first (admitted a ∷ more) (admitted a) (0, omega arith, refl))

@@ -27,7 +27,7 @@ use Rattle.csicodec_clean.specs.declared.styles.Passing.{Passing}
 use Rattle.csicodec_clean.specs.Links.{Address, Begun, IsLink, IsWithin, all_behind, is_linked, link_text, link_texts, links_at, links_in, next, no_address, start}
 use Rattle.csicodec_clean.specs.Styled.{hides, is_reset, kept, Item, Shown, Style, Link, item_text, item_texts, shown_items, Leaves}
 use Rattle.csicodec_clean.specs.Styled.{begun_behind, run_behind, items_behind, AreLeft, is_open, styles_of, links_of, ends_of, closed}
-use Rattle.csicodec_clean.specs.Styled.{StylesIn, IsSafe, IsStyledIn, Keeping, keeping, first_kept, behind_styles, behind_byte, keeps, resets}
+use Rattle.csicodec_clean.specs.Styled.{StylesIn, IsSafe, IsStyledIn, Keeping, keeping, first_kept, behind_byte, keeps, resets}
 use Rattle.csicodec_clean.proofs.Linked.{fine_behind, fine_links, linked_on, links_none}
 use Rattle.csicodec_clean.proofs.Reduced.{reduced_alone, reduced_hides, reduced_twice}
 use Rattle.csicodec_clean.proofs.Plain.{kept_shown, scalars_lossy}
@@ -103,11 +103,13 @@ links_links (a ∷ links) = ap (λ (t : List Address). a ∷ t) (links_links lin
 pub part_texts : (run : List ℕ) (own others : List Item) → item_texts (shown_items run ++ (own ++ others)) ≡ shown_text run ++ (item_texts own ++ item_texts others)
 part_texts run own others = simp (texts_both, texts_chars)
 
-part_styles : (run : List ℕ) (own others : List Item) → styles_of (shown_items run ++ (own ++ others)) ≡ styles_of own ++ styles_of others
-part_styles run own others = simp (styles_both, styles_chars)
+part_styles : (k : Kind) (run : List ℕ) (own others : List Item) → styles_of (items_behind k run ++ (own ++ others)) ≡ styles_of own ++ styles_of others
+part_styles kind.Text run own others = styles_both own others
+part_styles _ run own others = simp (styles_both, styles_chars)
 
-pub part_links : (run : List ℕ) (own others : List Item) → links_of (shown_items run ++ (own ++ others)) ≡ links_of own ++ links_of others
-part_links run own others = simp (links_both, links_chars)
+pub part_links : (k : Kind) (run : List ℕ) (own others : List Item) → links_of (items_behind k run ++ (own ++ others)) ≡ links_of own ++ links_of others
+part_links kind.Text run own others = links_both own others
+part_links _ run own others = simp (links_both, links_chars)
 
 -- what ends a link and a style
 abbrev pub end_text : Bool → Bool → List ℕ
@@ -177,47 +179,41 @@ module _ {S : Type 0} (of : S → Keeping) where
   abbrev pub behind_part : S → Kind → List ℕ → List Item → Keeping
   behind_part s k bytes own = keeping (of s).passing (is_open (of s).styled (styles_of own)) (is_linked (of s).linked (links_of own)) (begun_behind (of s).passing (of s).begun k bytes)
 
-  -- a part that ends the run
-  ends : (p : Part) (parts : List Part) (s mid after : S) (run first others text last : List ℕ) (own : List Item)
-      → Leaves (of s).passing (of s).begun p.kind p.bytes own → items_behind p.kind run ≡ shown_items run
-      → run_behind p.kind run p.bytes ≡ [] → first ≡ shown_text run ++ item_texts own → of mid ≡ behind_part s p.kind p.bytes own → text ≡ first ++ others
-      → Left parts mid [] others after last → Left (p ∷ parts) s run text after last
-  ends p parts s mid after run first others text last own leaves before behind e state all r = record {
-    items = shown_items run ++ (own ++ r.items);
-    left = (own, r.items, leaves, ap (λ t. t ++ (own ++ r.items)) (sym before), rw behind (subst (λ (x : Keeping). AreLeft x.passing x.begun [] parts r.items) state r.left));
-    all = rw (all, e, part_texts run own r.items, ← r.all) (simp append_assoc);
-    styled = rw (r.styled, state, part_styles run own r.items, open_on) refl;
-    linked = rw (r.linked, state, part_links run own r.items, linked_on) refl;
-  }
+  -- what a step of the rule gives is the text of what its part leaves
+  pub record Step (k : Kind) (s mid : S) (run bytes first next : List ℕ) : Type 0 where
+    pub own : List Item
+    pub leaves : Leaves (of s).passing (of s).begun k bytes own
+    pub text : (others : List Item) → item_texts (items_behind k run ++ (own ++ others)) ≡ first ++ item_texts others
+    pub next_run : next ≡ run_behind k run bytes
+    pub state : of mid ≡ behind_part s k bytes own
 
-  -- the state behind styles, behind links, and behind neither
-  state_styles : (s mid : S) (bytes : List ℕ) (ss : List Sgr) → of mid ≡ behind_styles (of s) ss → of mid ≡ behind_part s kind.Csi bytes (map Style ss)
-  state_styles s mid bytes ss e = rw (e, styles_styles, links_styles) refl
+  -- where it ends the run
+  ended : (run first given : List ℕ) (own others : List Item) → first ≡ shown_text run ++ given → item_texts own ≡ given → item_texts (shown_items run ++ (own ++ others)) ≡ first ++ item_texts others
+  ended run first given own others e same = rw (part_texts run own others, e, same) (simp append_assoc)
 
-  state_links : (s mid : S) (bytes : List ℕ) → of mid ≡ behind_string (of s) bytes → of mid ≡ behind_part s kind.Str bytes (map Link (links_in (of s).passing.links (of s).begun bytes))
-  state_links s mid bytes e = rw (e, links_links, styles_links) refl
-
-  goes : (p : Part) (parts : List Part) (k : Kind) (s mid after : S) (run first next others text last : List ℕ) → p.kind ≡ k → IsStep (keeps of) k s run p.bytes first mid next → text ≡ first ++ others
-      → Left parts mid next others after last → Left (p ∷ parts) s run text after last
-  goes p parts kind.Text s mid after run first next others text last is (none, same, on) all r =
-      rw (← same) record {
-        items = r.items;
-        left = ([], r.items, rw is refl, rw is refl, rw (is, ← on) r.left);
-        all = rw (all, none) r.all;
-        styled = r.styled;
-        linked = r.linked;
-      }
-  goes p parts kind.Csi s mid after run first next others text last is (own, (actions, isof, same, state), e, none) all r =
+  pub step : (k : Kind) (s mid : S) (run bytes first next : List ℕ) → IsStep (keeps of) k s run bytes first mid next → Step k s mid run bytes first next
+  step kind.Text s mid run bytes first next (none, same, on) = record { own = []; leaves = refl; text = λ others. rw none refl; next_run = on; state = ap of same }
+  step kind.Csi s mid run bytes first next (given, (actions, is, same, state), e, none) =
       let ss = kept (of s).passing.depth actions in
-      ends p parts s mid after run first others text last (map Style ss) (rw is (actions, isof, refl)) (rw is refl) (rw is refl) (e ∙ ap (λ t. shown_text run ++ t) (same ∙ sym (texts_styles ss)))
-      (rw is (state_styles s mid p.bytes ss state)) all (rw none at r)
-  goes p parts kind.Str s mid after run first next others text last is (own, given, e, none) all r =
-      let g = given_string p.bytes s mid own given in
-      let links = links_in (of s).passing.links (of s).begun p.bytes in
-      ends p parts s mid after run first others text last (map Link links) (rw is refl) (rw is refl) (rw is refl) (e ∙ ap (λ t. shown_text run ++ t) (g.told ∙ sym (texts_links links)))
-      (rw is (state_links s mid p.bytes g.state)) all (rw none at r)
-  goes p parts _ s mid after run first next others text last is h all r =
-      ends p parts s mid after run first others text last [] (rw is refl) (rw is refl) (rw is refl) (h.0 ∙ sym (append-nil (shown_text run))) (rw is (ap of h.1)) all (rw h.2 at r)
+      record {
+        own = map Style ss;
+        leaves = (actions, is, refl);
+        text = λ others. ended run first given (map Style ss) others e (texts_styles ss ∙ sym same);
+        next_run = none;
+        state = rw (state, styles_styles, links_styles) refl;
+      }
+  step kind.Str s mid run bytes first next (given, steps, e, none) =
+      let g = given_string bytes s mid given steps in
+      let links = links_in (of s).passing.links (of s).begun bytes in
+      record {
+        own = map Link links;
+        leaves = refl;
+        text = λ others. ended run first given (map Link links) others e (texts_links links ∙ sym g.told);
+        next_run = none;
+        state = rw (g.state, links_links, styles_links) refl;
+      }
+  step _ s mid run bytes first next h =
+      record { own = []; leaves = refl; text = λ others. ended run first [] [] others (h.0 ∙ sym (append-nil (shown_text run))) refl; next_run = h.2; state = ap of h.1 }
 
   left_of : (parts : List Part) (s after : S) (run text last : List ℕ) → AreSteps (keeps of) s run parts text after last → Left parts s run text after last
   left_of [] s after run text last (none, same, e) =
@@ -229,8 +225,18 @@ module _ {S : Type 0} (of : S → Keeping) where
         styled = rw (same, styles_chars chars) refl;
         linked = rw (same, links_chars chars) refl;
       }
-  left_of (p ∷ parts) s after run text last (first, mid, next, others, step, e, rest) =
-      goes p parts p.kind s mid after run first next others text last refl step e (left_of parts mid after next others last rest)
+  left_of (p ∷ parts) s after run text last (first, mid, next, others, is, e, rest) =
+      let h = step p.kind s mid run p.bytes first next is in
+      let r = left_of parts mid after next others last rest in
+      let left : AreLeft (of s).passing (begun_behind (of s).passing (of s).begun p.kind p.bytes) (run_behind p.kind run p.bytes) parts r.items =
+      subst (λ (x : Keeping). AreLeft x.passing x.begun (run_behind p.kind run p.bytes) parts r.items) h.state (subst (λ (y : List ℕ). AreLeft (of mid).passing (of mid).begun y parts r.items) h.next_run r.left) in
+      record {
+        items = items_behind p.kind run ++ (h.own ++ r.items);
+        left = (h.own, r.items, h.leaves, refl, left);
+        all = rw (e, h.text r.items, ← r.all) (append_assoc first others (shown_text last));
+        styled = rw (r.styled, h.state, part_styles p.kind run h.own r.items, open_on) refl;
+        linked = rw (r.linked, h.state, part_links p.kind run h.own r.items, linked_on) refl;
+      }
 
   -- what the rule that keeps styles and links leaves, and what ends them where they are open
   pub styles : (d : Passing) (s : S) (bytes out : List ℕ) → of s ≡ first_kept d → Ends (keeps of) (resets of) longest s bytes out → StylesIn d bytes out

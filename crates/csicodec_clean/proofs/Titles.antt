@@ -90,16 +90,22 @@ esc_first limit m bytes rest a p h c e =
     let (shut, (more, begins)) = fit limit m bytes kind.Esc (c ∷ 107 ∷ []) rest a (subst (λ (q : Part). IsFirstPart limit m bytes q rest a) e h) in
     cc
 
-left_first : (rest : List ℕ) → AllByRecursion EscIsFirst (left_over rest)
-left_first [] = tt
-left_first (b ∷ rest) = ((λ c e. let k : kind.Other ≡ kind.Esc = ap (λ (p : Part). p.kind) e in absurd cc), tt)
+-- what is so of each part that stands in front, and of what is left over, is so of all parts
+module _ (P : Part → Type 0) (limit : ℕ) (first : (m : Mode) (bytes rest : List ℕ) (a : Mode) (p : Part) → IsFirstPart limit m bytes p rest a → P p)
+    (over : (bytes : List ℕ) → P (part kind.Other bytes)) where
+  left_each : (rest : List ℕ) → AllByRecursion P (left_over rest)
+  left_each [] = tt
+  left_each (b ∷ rest) = (over (b ∷ rest), tt)
 
-all_first : (limit : ℕ) (ps : List Part) (m a : Mode) (bytes rest end : List ℕ) → AreFirstParts limit m bytes ps rest a → AllByRecursion EscIsFirst (ps ++ left_over end)
-all_first limit [] m a bytes rest end h = left_first end
-all_first limit (p ∷ ps) m a bytes rest end (behind, mid, one, later) = (esc_first limit m bytes behind mid p one, all_first limit ps mid a behind rest end later)
+  all_each : (ps : List Part) (m a : Mode) (bytes rest end : List ℕ) → AreFirstParts limit m bytes ps rest a → AllByRecursion P (ps ++ left_over end)
+  all_each [] m a bytes rest end h = left_each end
+  all_each (p ∷ ps) m a bytes rest end (behind, mid, one, later) = (first m bytes behind mid p one, all_each ps mid a behind rest end later)
+
+  pub whole_each : (bytes : List ℕ) (ps : List Part) → IsWhole limit mode.Text bytes ps → AllByRecursion P ps
+  whole_each bytes ps w = subst (AllByRecursion P) (sym w.whole) (all_each w.sure mode.Text w.after bytes w.rest w.rest w.first)
 
 whole_first : (limit : ℕ) (bytes : List ℕ) (ps : List Part) → IsWhole limit mode.Text bytes ps → AllByRecursion EscIsFirst ps
-whole_first limit bytes ps w = subst (AllByRecursion EscIsFirst) (sym w.whole) (all_first limit w.sure mode.Text w.after bytes w.rest w.rest w.first)
+whole_first limit = whole_each EscIsFirst limit (esc_first limit) (λ bytes c e. let k : kind.Other ≡ kind.Esc = ap (λ (p : Part). p.kind) e in absurd cc)
 
 -- where a title is open, it was before, with text alone since then, or `ESC k` opened it
 abbrev Opened : Bool → List Part → Type 0

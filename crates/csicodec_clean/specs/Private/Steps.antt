@@ -4,9 +4,9 @@ use Rattle.std.specs.List.{AllByRecursion}
 use Rattle.bstr.specs.Utf8.{decoded_by, good}
 use Rattle.csicodec_spans.specs.declared.table.Kind.{Kind}
 use Rattle.csicodec_spans.specs.declared.table.Kind.TheVariants as kind
-use Rattle.csicodec_clean.specs.Shown.{IsRead, shown_chars, shown_text}
+use Rattle.csicodec_clean.specs.Shown.{IsRead, shown_chars}
 use Rattle.csicodec_spans.specs.declared.table.Mode.{Mode}
-use Rattle.csicodec_clean.specs.Cleaned.{RuleOf, AreGiven}
+use Rattle.csicodec_clean.specs.Cleaned.{RuleOf, IsStep}
 use Rattle.csicodec_clean.specs.Stream.{Goes}
 
 -- ---- text that is told by its bytes
@@ -35,19 +35,12 @@ Tells bytes rest old new =
 
 -- ---- spans
 
--- a span behind a run of which some bytes are held: what is appended, and what is held then
+-- a span behind a run of which some bytes are held: what is appended, and what is held then. One that is no text ends the run, as a part does.
 abbrev pub IsAppended : {S : Type 0} → RuleOf S → Kind → S → List ℕ → List ℕ → List ℕ → S → List ℕ
     → Type 0
 IsAppended Gives kind.Text s held bytes text after left = (chars : List ℕ)
     × IsRead (held ++ bytes) chars left × (text ≡ shown_chars chars) × (after ≡ s)
-IsAppended Gives kind.Csi s held bytes text after left = (own : List ℕ)
-    × Gives.sequence s bytes own after × (text ≡ shown_text held ++ own) × (left ≡ [])
-IsAppended Gives kind.Esc s held bytes text after left = (text ≡ shown_text held) × (after ≡ s)
-    × (left ≡ [])
-IsAppended Gives kind.Str s held bytes text after left = (own : List ℕ)
-    × AreGiven Gives s bytes own after × (text ≡ shown_text held ++ own) × (left ≡ [])
-IsAppended Gives kind.Other s held bytes text after left = (text ≡ shown_text held) × (after ≡ s)
-    × (left ≡ [])
+IsAppended Gives k s held bytes text after left = IsStep Gives k s held bytes text after left
 
 -- ESC, an intermediate byte and a final byte stand in front
 abbrev pub BeginsWithEscape : List ℕ → Type 0

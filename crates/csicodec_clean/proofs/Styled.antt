@@ -1,6 +1,7 @@
 -- Styles and links that stay between the runs of text.
 use Rattle.std.proofs.Common.{◌≡◌, ℕ, Bool, true, false, List, [], ◌∷◌, ◌++◌, map, encode_utf8, encode_utf8_all, length, refl, sym, ap, subst, ◌∙◌, append_assoc, append-nil, arith}
-use Rattle.std.specs.Prelude.{filter, not, ◌==◌, if◌then◌else◌}
+use Rattle.std.specs.Prelude.{filter, not, ◌==◌, Option, None, Some, if◌then◌else◌}
+use Rattle.std.specs.Option.{option_or, unwrap_or}
 use Rattle.std.specs.List.{AllByRecursion}
 use Rattle.std.specs.Str.{all_scalars}
 use Rattle.std.proofs.lemmas.Bool.{and_parts, cond_both}
@@ -352,8 +353,10 @@ pub more_text : (d : Depth) (xs : List Action) (x : Action) (old out new : List 
     → new ≡ out ++ texts (map action.Sgr (kept d (x ∷ []))) → new ≡ old ++ texts (map action.Sgr (kept d (xs ++ x ∷ [])))
 more_text d xs x old out new e f = rw (f, e, kept_on, texts_on) (simp append_assoc)
 
-pub more_styles : (d : Depth) (xs : List Action) (x : Action) (b flag new : Bool) → flag ≡ is_open b (kept d xs) → new ≡ is_open flag (kept d (x ∷ [])) → new ≡ is_open b (kept d (xs ++ x ∷ []))
-more_styles d xs x b flag new e f = rw (f, e, kept_on, open_on) refl
+pub more_styles : (d : Depth) (xs : List Action) (x : Action) (last one : Option Bool) (b : Bool) → is_open b (kept d xs) ≡ unwrap_or last b
+    → ((c : Bool) → is_open c (kept d (x ∷ [])) ≡ unwrap_or one c) → is_open b (kept d (xs ++ x ∷ [])) ≡ unwrap_or (option_or one last) b
+more_styles d xs x last None b e f = rw (kept_on, open_on, f (is_open b (kept d xs))) e
+more_styles d xs x last (Some c) b e f = rw (kept_on, open_on, f (is_open b (kept d xs))) refl
 
 -- a colour that becomes another is no reset
 pub reset_reduced : (d : Depth) (s : Sgr) → is_reset (reduced d s) ≡ is_reset s

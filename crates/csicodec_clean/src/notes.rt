@@ -1,5 +1,6 @@
 //! What is noted of control sequences that came before: what stays of each, and whether a style is open behind it.
 ghost use Rattle.std.specs.Prelude.{◌≡◌, ◌<◌, ◌≤◌, ◌++◌, ◌∷◌, ℕ, Bool, List, map, true, false, if◌then◌else◌, length, slice_index, take, IfOk, IfNone, IfSome, OnOk};
+ghost use Rattle.std.specs.Option.{unwrap_or};
 ghost use Rattle.csicodec_actions.specs.Actions.{Action, Sgr as SgrAction};
 ghost use Rattle.csicodec_actions.specs.Table.{texts};
 ghost use Rattle.csicodec_parser.specs.ActionOf.{action_of};
@@ -11,7 +12,7 @@ ghost use Rattle.csicodec_clean.specs.Private.Notes.{IsLeft, IsNoted, depth_byte
 
 use crate::class::LANES;
 use crate::colors::Depth;
-use crate::styles::{append_styles, is_open};
+use crate::styles::append_styles;
 use crate::text::append_front;
 use crate::whole::near;
 use csicodec::CSI;
@@ -143,30 +144,33 @@ impl SequenceBuffers {
         }
     }
 
-    /// Appends what stays of the sequence of these tokens, whose actions are then kept.
+    /// Appends what stays of the sequence of these tokens, whose actions are then kept, and answers whether a style is open behind it;
+    /// None where none stays.
     pub(crate) fn append_sequence(
         &mut self,
         depth: Depth,
         params: &[CsiParam],
         control: char,
         out: &mut Vec<u8>,
-    ) -> Result<(), AllocError>
+    ) -> Result<Option<bool>, AllocError>
         ensures actions { OnOk result
             (Terminal params.now false control (map action_of self.new.actions.items)) }
         ensures text { OnOk result (out.new.items
             ≡ out.old.items
             ++ texts (map SgrAction (kept depth (map action_of self.new.actions.items)))) }
+        ensures last { IfOk result (λ last. (styled : Bool)
+            → is_open styled (kept depth (map action_of self.new.actions.items)) ≡ unwrap_or last styled) }
     {
         terminal_actions_into(self.alloc, params, false, control, &mut self.actions)?;
-        append_styles(depth, &self.actions, out)?;
-        Ok(())
+        append_styles(depth, &self.actions, out)
     }
 
-    /// Notes what was appended for the sequence in front, whose actions are kept.
+    /// Notes what was appended for the sequence in front, whose actions are kept, and whether the last style of it leaves one open.
     fn keep(
         &mut self,
         known: &mut Known<StyleNote>,
         depth: Depth,
+        last: Option<bool>,
         bytes: &[u8],
         len: usize,
         text: &[u8],
@@ -175,15 +179,15 @@ impl SequenceBuffers {
         requires sequence { IsTakenFor (take len bytes.now) (map action_of self.old.actions.items) }
         requires text { text.now
             ≡ texts (map SgrAction (kept depth (map action_of self.old.actions.items))) }
+        requires last { (styled : Bool)
+            → is_open styled (kept depth (map action_of self.old.actions.items)) ≡ unwrap_or last styled }
         ensures known { AreKnown IsNoted known.new.memo.slots.items }
         ensures same { self.new.actions.items ≡ self.old.actions.items }
     {
         self.note.clear();
         self.note.push(depth_byte(depth))?;
-        self.note
-            .push(open_byte(is_open(depth, &self.actions, false)))?;
-        self.note
-            .push(open_byte(is_open(depth, &self.actions, true)))?;
+        self.note.push(open_byte(last.unwrap_or(false)))?;
+        self.note.push(open_byte(last.unwrap_or(true)))?;
         self.note.extend_from_slice(text)?;
         known.keep(bytes, len, &self.note);
         Ok(())
@@ -252,10 +256,9 @@ impl SequenceBuffers {
             return Ok((0, styled));
         }
         let before = out.len();
-        append_styles(depth, &self.actions, out)?;
-        let after = is_open(depth, &self.actions, styled);
+        let last = append_styles(depth, &self.actions, out)?;
         let text = out.split_at(before).1;
-        self.keep(known, depth, bytes, len, text)?;
-        Ok((len, after))
+        self.keep(known, depth, last, bytes, len, text)?;
+        Ok((len, last.unwrap_or(styled)))
     }
 }

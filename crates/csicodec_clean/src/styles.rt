@@ -1,5 +1,6 @@
 //! Bytes that are all there, with the styles of their text, and its links.
 ghost use Rattle.std.specs.Prelude.{◌≡◌, ◌++◌, ◌∷◌, [], ℕ, List, Bool, map, drop, OnOk, IfOk, false};
+ghost use Rattle.std.specs.Option.{unwrap_or};
 ghost use Rattle.csicodec_actions.specs.Actions.{Sgr as SgrAction};
 ghost use Rattle.csicodec_actions.specs.Table.{texts};
 ghost use Rattle.csicodec_parser.specs.ActionOf.{action_of};
@@ -33,65 +34,45 @@ fn is_reset(style: &Sgr) -> bool
     matches!(style, Sgr::Reset)
 }
 
-/// Appends the text of the action, if it is a style that stays.
-fn append_style(depth: Depth, action: &CSI, out: &mut Vec<u8>) -> Result<(), AllocError>
-    ensures { OnOk result
+/// Appends the text of the action, if it is a style that stays, and answers then whether a style is open behind it.
+#[tactic(auto, using(crate::proofs::Styled::reset_reduced))]
+fn append_style(depth: Depth, action: &CSI, out: &mut Vec<u8>) -> Result<Option<bool>, AllocError>
+    ensures text { OnOk result
         (out.new.items
         ≡ out.old.items ++ texts (map SgrAction (kept depth (action_of action.now ∷ [])))) }
+    ensures last { IfOk result (λ last. (styled : Bool)
+        → is_open styled (kept depth (action_of action.now ∷ [])) ≡ unwrap_or last styled) }
 {
     match action {
         CSI::Sgr(style) => {
             if is_hiding(style) {
-                return Ok(());
+                return Ok(None);
             }
-            encode(&CSI::Sgr(reduced(depth, *style)), out)
+            encode(&CSI::Sgr(reduced(depth, *style)), out)?;
+            Ok(Some(!is_reset(style)))
         }
-        _ => Ok(()),
+        _ => Ok(None),
     }
 }
 
-/// Appends the styles of each of the actions in turn.
+/// Appends the styles of each of the actions in turn, and answers whether one is open behind them; None where none of them stays.
 pub(crate) fn append_styles(
     depth: Depth,
     actions: &[CSI],
     out: &mut Vec<u8>,
-) -> Result<(), AllocError>
-    ensures { OnOk result
+) -> Result<Option<bool>, AllocError>
+    ensures text { OnOk result
         (out.new.items
         ≡ out.old.items ++ texts (map SgrAction (kept depth (map action_of actions.now)))) }
+    ensures last { IfOk result (λ last. (styled : Bool)
+        → is_open styled (kept depth (map action_of actions.now)) ≡ unwrap_or last styled) }
 {
+    let mut last = None;
     for action in actions {
-        append_style(depth, action, out)?;
+        let one = append_style(depth, action, out)?;
+        last = one.or(last);
     }
-    Ok(())
-}
-
-/// Whether a style is open behind the action, whatever colours stay.
-#[tactic(auto, using(crate::proofs::Styled::reset_reduced))]
-fn is_open_behind(_depth: Depth, action: &CSI, styled: bool) -> bool
-    ensures { result ≡ is_open styled (kept _depth (action_of action.now ∷ [])) }
-{
-    match action {
-        CSI::Sgr(style) => {
-            let hides = is_hiding(style);
-            if hides {
-                return styled;
-            }
-            !is_reset(style)
-        }
-        _ => styled,
-    }
-}
-
-/// Whether a style is open behind the actions.
-pub(crate) fn is_open(depth: Depth, actions: &[CSI], styled: bool) -> bool
-    ensures { result ≡ is_open styled (kept depth (map action_of actions.now)) }
-{
-    let mut after = styled;
-    for action in actions {
-        after = is_open_behind(depth, action, after);
-    }
-    after
+    Ok(last)
 }
 
 /// What passes beside text and styles.
@@ -191,8 +172,8 @@ impl Rule for Kept {
         out: &mut Vec<u8>,
     ) -> Result<(), AllocError> {
         let depth = self.passing.depth;
-        self.room.append_sequence(depth, params, control, out)?;
-        self.styled = is_open(depth, &self.room.actions, self.styled);
+        let last = self.room.append_sequence(depth, params, control, out)?;
+        self.styled = last.unwrap_or(self.styled);
         Ok(())
     }
 

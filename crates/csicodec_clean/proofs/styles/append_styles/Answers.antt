@@ -1,7 +1,7 @@
 use Rattle.std.proofs.Common.{◌≡◌, ◌+◌, ◌++◌, ◌∷◌, [], map, take, ap, ◌∙◌, rules}
 use Rattle.std.proofs.lemmas.List.{map-append, take_more}
 use Rattle.csicodec_parser.specs.ActionOf.{action_of}
-use Rattle.csicodec_clean.proofs.Styled.{more_text}
+use Rattle.csicodec_clean.proofs.Styled.{more_styles, more_text}
 use Rattle.csicodec_clean.proofs.styles.append_styles.Goals as goal
 
 pub loop-action-preserved : goal.loop-action-preserved
@@ -13,4 +13,7 @@ loop-action-preserved c =
     let taken : take (i + 1) actions ≡ take i actions ++ c.action-item.result ∷ [] = search (rules, take_more) in
     let more : map action_of (take (i + 1) actions) ≡ front ++ x ∷ [] =
     ap (map action_of) taken ∙ map-append action_of (take i actions) (c.action-item.result ∷ []) in
-    rw more (record { text = more_text c.args.depth front x c.args.out.now.items c.loop-action.out.items c.append_style.new.out.items c.loop-action.invariant.text c.in_ok-append_style.ensures })
+    rw (more, c.or-last.ensures) (record {
+      text = more_text c.args.depth front x c.args.out.now.items c.loop-action.out.items c.append_style.new.out.items c.loop-action.invariant.text c.in_ok-one.ensures.text;
+      last = λ styled. more_styles c.args.depth front x c.loop-action.last c.in_ok-one.one styled (c.loop-action.invariant.last styled) c.in_ok-one.ensures.last;
+    })

@@ -36,6 +36,6 @@ returns-clause-left c = λ some.
     let same = c.in_ok-colored.ensures.none (omega (arith, c.if-colored-gt0.false)) in (
       map action_of actions,
       c.in_ok-len.ensures.read some,
-      c.is_open-after.ensures ∙ ap (λ l. is_open c.args.styled (kept c.args.depth (map action_of l))) c.deref-2.ensures.value,
-      (rw c.deref.ensures.value at c.in_ok-append_styles.ensures) ∙ ap (λ l. l ++ text) same,
+      c.unwrap_or.ensures ∙ sym (rw c.deref.ensures.value at (c.in_ok-last.ensures.last c.args.styled)),
+      (rw c.deref.ensures.value at c.in_ok-last.ensures.text) ∙ ap (λ l. l ++ text) same,
     )

@@ -1,6 +1,5 @@
 //! Where a link may lead: to a host, by http or https.
 ghost use Rattle.std.specs.Prelude.{◌≡◌};
-ghost use Rattle.std.specs.Str.{str_eq_ignore_ascii_case};
 ghost use Rattle.csicodec_clean.specs.Addresses.{ends_host, has_host, is_host_byte, is_host_on, is_web, led, leads_by};
 
 /// A byte of a host, or of the port behind it.
@@ -39,19 +38,12 @@ fn has_host(bytes: &[u8]) -> bool
     }
 }
 
-/// Whether two schemes are one: their letters have no case.
-fn is_scheme(bytes: &[u8], scheme: &[u8]) -> bool
-    ensures { result ≡ str_eq_ignore_ascii_case bytes.now scheme.now }
-{
-    bytes.eq_ignore_ascii_case(scheme)
-}
-
-/// Whether the address has the scheme, and a host behind it.
+/// Whether the address has the scheme, whose letters have no case, and a host behind it.
 fn leads_by(scheme: &[u8], url: &[u8]) -> bool
     ensures { result ≡ leads_by scheme.now url.now }
 {
     match url.split_at_checked(scheme.len()) {
-        Some((front, behind)) => is_scheme(front, scheme) && has_host(behind),
+        Some((front, behind)) => front.eq_ignore_ascii_case(scheme) && has_host(behind),
         None => false,
     }
 }

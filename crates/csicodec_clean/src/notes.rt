@@ -6,7 +6,7 @@ ghost use Rattle.csicodec_actions.specs.Table.{texts};
 ghost use Rattle.csicodec_parser.specs.ActionOf.{action_of};
 ghost use Rattle.csicodec_streams.specs.Known.{AreKnown};
 ghost use Rattle.csicodec_clean.specs.declared.colors.Depth.TheVariants.{Full as AllColors};
-ghost use Rattle.csicodec_terminal.specs.Terminal.{IsTakenFor, Terminal};
+ghost use Rattle.csicodec_terminal.specs.Terminal.{IsTakenFor};
 ghost use Rattle.csicodec_clean.specs.Styled.{is_open, kept};
 ghost use Rattle.csicodec_clean.specs.Private.Notes.{IsLeft, IsNoted, depth_byte, open_byte};
 
@@ -142,27 +142,6 @@ impl SequenceBuffers {
             actions: Vec::new(alloc),
             note: Vec::new(alloc),
         }
-    }
-
-    /// Appends what stays of the sequence of these tokens, whose actions are then kept, and answers whether a style is open behind it;
-    /// None where none stays.
-    pub(crate) fn append_sequence(
-        &mut self,
-        depth: Depth,
-        params: &[CsiParam],
-        control: char,
-        out: &mut Vec<u8>,
-    ) -> Result<Option<bool>, AllocError>
-        ensures actions { OnOk result
-            (Terminal params.now false control (map action_of self.new.actions.items)) }
-        ensures text { OnOk result (out.new.items
-            ≡ out.old.items
-            ++ texts (map SgrAction (kept depth (map action_of self.new.actions.items)))) }
-        ensures last { IfOk result (λ last. (styled : Bool)
-            → is_open styled (kept depth (map action_of self.new.actions.items)) ≡ unwrap_or last styled) }
-    {
-        terminal_actions_into(self.alloc, params, false, control, &mut self.actions)?;
-        append_styles(depth, &self.actions, out)
     }
 
     /// Notes what was appended for the sequence in front, whose actions are kept, and whether the last style of it leaves one open.

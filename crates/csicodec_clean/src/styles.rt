@@ -17,6 +17,7 @@ use crate::whole::clean_whole;
 use csicodec::{CSI, encode};
 use csicodec_base::{CsiParam, Font, Sgr};
 use csicodec_filter::Known;
+use csicodec_terminal::terminal_actions_into;
 use std::alloc::{AllocError, Global};
 use std::marker::Model;
 
@@ -172,7 +173,9 @@ impl Rule for Kept {
         out: &mut Vec<u8>,
     ) -> Result<(), AllocError> {
         let depth = self.passing.depth;
-        let last = self.room.append_sequence(depth, params, control, out)?;
+        let actions = &mut self.room.actions;
+        terminal_actions_into(self.room.alloc, params, false, control, actions)?;
+        let last = append_styles(depth, &self.room.actions, out)?;
         self.styled = last.unwrap_or(self.styled);
         Ok(())
     }

@@ -153,10 +153,6 @@ record Open (done : List Part) (b : Begun) : Type 0 where
   all : AllByRecursion IsStr own
   joined : flat_map bytes_of own ≡ read b
 
-all_more : (own : List Part) (bytes : List ℕ) → AllByRecursion IsStr own → AllByRecursion IsStr (own ++ part kind.Str bytes ∷ [])
-all_more [] bytes h = (refl, tt)
-all_more (p ∷ own) bytes h = (h.0, all_more own bytes h.1)
-
 joined_more : (own : List Part) (bytes old : List ℕ) → flat_map bytes_of own ≡ old → flat_map bytes_of (own ++ part kind.Str bytes ∷ []) ≡ old ++ bytes
 joined_more own bytes old e =
     flat_map-append bytes_of own (part kind.Str bytes ∷ []) ∙ ap (λ (t : List ℕ). flat_map bytes_of own ++ t) (append-nil bytes) ∙ ap (λ (t : List ℕ). t ++ bytes) e
@@ -169,14 +165,10 @@ open_on done b after bytes o (inl e) = record {
   before = o.before;
   own = o.own ++ part kind.Str bytes ∷ [];
   whole = ap (λ (t : List Part). t ++ part kind.Str bytes ∷ []) o.whole ∙ append_assoc o.before o.own (part kind.Str bytes ∷ []);
-  all = all_more o.own bytes o.all;
+  all = all_both IsStr o.own (part kind.Str bytes ∷ []) o.all (refl, tt);
   joined = joined_more o.own bytes (read b) o.joined ∙ sym e;
 }
 open_on done b after bytes o (inr e) = open_none (done ++ part kind.Str bytes ∷ []) after e
-
-open_new : (done : List Part) (after : Begun) (bytes : List ℕ) → (read after ≡ bytes) ⊎ (read after ≡ []) → Open (done ++ part kind.Str bytes ∷ []) after
-open_new done after bytes (inl e) = record { before = done; own = part kind.Str bytes ∷ []; whole = refl; all = (refl, tt); joined = append-nil bytes ∙ sym e }
-open_new done after bytes (inr e) = open_none (done ++ part kind.Str bytes ∷ []) after e
 
 -- with the part that ends it, it is a control string
 stood_part : (done later whole : List Part) (b : Begun) (bytes : List ℕ) → whole ≡ done ++ (part kind.Str bytes ∷ later) → Open done b → Spells (read b ++ bytes) b.address → StoodIn whole b.address
@@ -187,7 +179,7 @@ stood_part done later whole b bytes split o h = record {
   whole = split ∙ ap (λ (t : List Part). t ++ part kind.Str bytes ∷ later) o.whole ∙ append_assoc o.before o.own (part kind.Str bytes ∷ later)
       ∙ ap (λ (t : List Part). o.before ++ t) (sym (append_assoc o.own (part kind.Str bytes ∷ []) later));
   text = read b ++ bytes;
-  string = record { some = omega (arith, length-append o.own (part kind.Str bytes ∷ [])); all = all_more o.own bytes o.all; joined = joined_more o.own bytes (read b) o.joined };
+  string = record { some = omega (arith, length-append o.own (part kind.Str bytes ∷ [])); all = all_both IsStr o.own (part kind.Str bytes ∷ []) o.all (refl, tt); joined = joined_more o.own bytes (read b) o.joined };
   link = h;
 }
 
@@ -215,7 +207,7 @@ after_two whole done later m b c split h other =
     let same = anew_at b.place b.address.params b.address.url c h.at_rest in
     record {
       links = over_two (StoodIn whole) b.place b.address.params b.address.url c h.at_rest (over h.open_or_shut);
-      opens = subst (Open (done ++ part kind.Str (27 ∷ c ∷ []) ∷ [])) (sym same) (open_new done (begun (opened c) b.address.params b.address.url) (27 ∷ c ∷ []) new.1);
+      opens = subst (Open (done ++ part kind.Str (27 ∷ c ∷ []) ∷ [])) (sym same) (open_on done start (begun (opened c) b.address.params b.address.url) (27 ∷ c ∷ []) (open_none done start refl) new.1);
     }
   where
     over : Open done b ⊎ (in_string m ≡ false) → (c == 92) ≡ true → Spells (read b ++ 27 ∷ c ∷ []) b.address → StoodIn whole b.address

@@ -50,6 +50,7 @@ pub fn one_text()
 
 /// Of the parts of a stream a text is dropped if the last part before it that is no text is the escape sequence `ESC k`, and only then:
 /// it is a title of tmux and screen. Each other part keeps its kind, and every part its place and its bytes.
+#[tactic(auto, using(crate::proofs::Titles::same_places, crate::proofs::Titles::dropped))]
 pub fn titles()
     ensures places { (parts : List Part) → length (with_titles false parts) ≡ length parts }
     ensures dropped { (before behind : List Part) (p : Part) → InTitle before → IsText p →
@@ -111,6 +112,7 @@ pub fn strip_cleaned()
 {}
 
 /// An address with a user's name in front of its host leads nowhere, and what leads there is no other address.
+#[tactic(auto, using(crate::proofs::Linked::no_host, crate::proofs::Linked::no_web))]
 pub fn no_user()
     ensures http { (user rest : List ℕ) → AllByRecursion (λ b. ends_host b ≡ false) user
         → is_web (codes "http://" ++ (user ++ 64 ∷ rest)) ≡ false }
@@ -137,6 +139,7 @@ pub fn links_pass()
 
 /// And each link that passes is what passes of one that stood there: in the bytes of control strings, and in a stream as a control
 /// string of its own.
+#[tactic(auto, using(crate::proofs::Stood::in_bytes))]
 pub fn links_stood()
     ensures bytes { (bytes : List ℕ)
         → AllByRecursion (IsAdmitted (Stood bytes)) (links_in true start bytes) }

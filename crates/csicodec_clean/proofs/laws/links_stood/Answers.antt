@@ -1,8 +1,5 @@
-use Rattle.csicodec_clean.proofs.Stood.{in_bytes, in_stream}
+use Rattle.csicodec_clean.proofs.Stood.{in_stream}
 use Rattle.csicodec_clean.proofs.laws.links_stood.Goals as goal
-
-pub returns-clause-bytes : goal.returns-clause-bytes
-returns-clause-bytes c = in_bytes
 
 pub returns-clause-stream : goal.returns-clause-stream
 returns-clause-stream c = in_stream

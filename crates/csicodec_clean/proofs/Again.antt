@@ -1,11 +1,12 @@
 -- What `clean` left has one reading, and is left as it is.
 use Rattle.std.proofs.Common.{◌≡◌, ℕ, Bool, true, false, cond, List, [], ◌∷◌, ◌++◌, map, encode_utf8, encode_utf8_all, refl, sym, ap, subst, ◌∙◌, append_assoc, append-nil, arith}
 use Rattle.std.specs.Prelude.{filter, ◌==◌, not}
-use Rattle.std.specs.List.{AllByRecursion}
+use Rattle.std.specs.List.{AllByRecursion, flat_map}
 use Rattle.std.specs.Str.{all_scalars}
 use Rattle.std.specs.Char.{IsScalar}
 use Rattle.std.proofs.lemmas.Bool.{and_from, and_parts}
 use Rattle.std.proofs.lemmas.Bool.Decides.{nat_tests}
+use Rattle.std.proofs.lemmas.Grind.{flat_map-append}
 use Rattle.std.proofs.lemmas.List.{map-append}
 use lib.Utf8.{scalar}
 use Rattle.bstr.specs.Utf8.{lossy_chars}
@@ -122,42 +123,35 @@ untitled (Link a ∷ items) = rw (untitled_singles kind.Str (link_body a) (part 
 read_back : (cs : List ℕ) → all_scalars cs ≡ true → AllByRecursion IsShown cs → filter shown (lossy_chars (encode_utf8_all cs)) ≡ cs
 read_back cs a h = ap (filter shown) (lossy_chars-encode cs a) ∙ all_kept cs h
 
-one_scalar : (c : ℕ) → IsScalar c → all_scalars (c ∷ []) ≡ true
-one_scalar c h = and_from (scalar c) true h refl
-
 more_scalars : (cs : List ℕ) (c : ℕ) → all_scalars cs ≡ true → IsScalar c → all_scalars (cs ++ c ∷ []) ≡ true
-more_scalars cs c a h = scalars_on cs (c ∷ []) a (one_scalar c h)
+more_scalars cs c a h = scalars_on cs (c ∷ []) a (and_from (scalar c) true h refl)
 
 more_encoded : (cs : List ℕ) (c : ℕ) → encode_utf8_all (cs ++ c ∷ []) ≡ encode_utf8_all cs ++ encode_utf8 c
 more_encoded cs c = encoded_on cs (c ∷ []) ∙ ap (λ (t : List ℕ). encode_utf8_all cs ++ t) (append-nil (encode_utf8 c))
 
 -- the characters of items
+abbrev char_in : Item → List ℕ
+char_in (Shown c) = c ∷ []
+char_in _ = []
+
 abbrev chars_of : List Item → List ℕ
-chars_of [] = []
-chars_of (Shown c ∷ items) = c ∷ chars_of items
-chars_of (_ ∷ items) = chars_of items
+chars_of items = flat_map char_in items
 
 chars_both : (xs ys : List Item) → chars_of (xs ++ ys) ≡ chars_of xs ++ chars_of ys
-chars_both [] ys = refl
-chars_both (Shown c ∷ xs) ys = ap (λ (t : List ℕ). c ∷ t) (chars_both xs ys)
-chars_both (_ ∷ xs) ys = chars_both xs ys
+chars_both xs ys = flat_map-append char_in xs ys
 
 chars_shown : (cs : List ℕ) → chars_of (map Shown cs) ≡ cs
 chars_shown [] = refl
 chars_shown (c ∷ cs) = ap (λ (t : List ℕ). c ∷ t) (chars_shown cs)
 
-chars_styles : (ss : List Sgr) → chars_of (map Style ss) ≡ []
-chars_styles [] = refl
-chars_styles (s ∷ ss) = chars_styles ss
-
-chars_links : (links : List Address) → chars_of (map Link links) ≡ []
-chars_links [] = refl
-chars_links (a ∷ links) = chars_links links
+none_in : {T : Type 0} (f : T → Item) → ((t : T) → char_in (f t) ≡ []) → (ts : List T) → chars_of (map f ts) ≡ []
+none_in f none [] = refl
+none_in f none (t ∷ ts) = rw (none t) (none_in f none ts)
 
 -- what a part leaves has no characters
 leaves_chars : (d : Passing) (b : Begun) (k : Kind) (bytes : List ℕ) (own : List Item) → Leaves d b k bytes own → chars_of own ≡ []
-leaves_chars d b kind.Csi bytes own (actions, one, e) = ap chars_of e ∙ chars_styles (kept d.depth actions)
-leaves_chars d b kind.Str bytes own e = ap chars_of e ∙ chars_links (links_in d.links b bytes)
+leaves_chars d b kind.Csi bytes own (actions, one, e) = ap chars_of e ∙ none_in Style (λ s. refl) (kept d.depth actions)
+leaves_chars d b kind.Str bytes own e = ap chars_of e ∙ none_in Link (λ a. refl) (links_in d.links b bytes)
 leaves_chars d b _ bytes own e = ap chars_of e
 
 chars_part : (run : List ℕ) (own others : List Item) → chars_of own ≡ [] → chars_of (shown_items run ++ (own ++ others)) ≡ filter shown (lossy_chars run) ++ chars_of others

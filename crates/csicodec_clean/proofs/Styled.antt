@@ -126,17 +126,13 @@ behind_string k bytes = keeping k.passing k.styled (is_linked k.linked (links_in
 behind_one : (k : Keeping) (c : ℕ) (bytes : List ℕ) → behind_string (behind_byte k c) bytes ≡ behind_string k (c ∷ bytes)
 behind_one k c bytes = rw linked_on refl
 
-links_texts_on : (k : Keeping) (c : ℕ) (bytes : List ℕ)
-    → link_texts (links_in k.passing.links k.begun (c ∷ bytes)) ≡ link_texts (links_at k.passing.links k.begun c) ++ link_texts (links_in k.passing.links (next k.passing.links k.begun c) bytes)
-links_texts_on k c bytes = flat_map-append link_text (links_at k.passing.links k.begun c) (links_in k.passing.links (next k.passing.links k.begun c) bytes)
-
 -- the rule that keeps, on bytes of a control string
 pub gives_string : (bytes : List ℕ) (k : Keeping) → AreGiven (keeps (λ (x : Keeping). x)) k bytes (link_texts (links_in k.passing.links k.begun bytes)) (behind_string k bytes)
 gives_string [] k = (refl, refl)
 gives_string (c ∷ bytes) k =
     let mid = behind_byte k c in
     let rest = subst (AreGiven (keeps (λ (x : Keeping). x)) mid bytes (link_texts (links_in mid.passing.links mid.begun bytes))) (behind_one k c bytes) (gives_string bytes mid) in
-    (link_texts (links_at k.passing.links k.begun c), mid, link_texts (links_in mid.passing.links mid.begun bytes), (refl, refl), links_texts_on k c bytes, rest)
+    (link_texts (links_at k.passing.links k.begun c), mid, link_texts (links_in mid.passing.links mid.begun bytes), (refl, refl), flat_map-append link_text (links_at k.passing.links k.begun c) (links_in k.passing.links (next k.passing.links k.begun c) bytes), rest)
 
 -- where links pass, and where they don't
 pub gives_links : (bytes : List ℕ) (k : Keeping) → k.passing.links ≡ true
@@ -165,7 +161,7 @@ module _ {S : Type 0} (of : S → Keeping) where
       let r = given_string bytes mid after others rest in
       let k = of s in
       record {
-        told = rw (e, here.0, r.told, here.1) (sym (links_texts_on k c bytes));
+        told = rw (e, here.0, r.told, here.1) (sym (flat_map-append link_text (links_at k.passing.links k.begun c) (links_in k.passing.links (next k.passing.links k.begun c) bytes)));
         state = rw (r.state, here.1) (behind_one k c bytes);
       }
 

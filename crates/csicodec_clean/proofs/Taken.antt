@@ -118,8 +118,7 @@ table_sound list final actions ok ends are = all_weaker (Kept false) IsSound kep
 piece_sound : (g : Group) (rest : List CsiParam) (k : ℕ) (a : Action) → Piece g rest k a → IsSound a
 piece_sound Whole rest k a p = absurd p
 piece_sound Styles rest k a p = let kept = sgr-kept rest k p.0 p.1 in rw p.2 (kept.range, style_alone p.0 kept.range kept.canonical)
-piece_sound (Modes s) rest k a p = rw p.5 (tt, tt)
-piece_sound (DecModes c) rest k a p = rw p.5 (tt, tt)
+piece_sound _ rest k a p = rw p.5 (tt, tt)
 
 steps_sound : (g : Group) (final : ℕ) (rest : List CsiParam) (actions : List Action) → Steps g false final rest actions → AllByRecursion IsSound actions
 steps_sound g final rest [] s = tt
@@ -135,9 +134,7 @@ anew_sound : (g : Group) (list : List CsiParam) (final : ℕ) (actions : List Ac
 anew_sound Whole list final actions ok ends (second, are, e) = rw e
     (cond_both (has_unknown second) (Unspecified list false final ∷ []) second (AllByRecursion IsSound) (λ _. ((tt, tt), tt))
     (λ _. table_sound (regular list final) final second (regular_spellable list final ok) ends are))
-anew_sound Styles list final actions ok ends s = cut_sound _ Styles list _ final actions s
-anew_sound (Modes m) list final actions ok ends s = cut_sound _ (Modes m) list _ final actions s
-anew_sound (DecModes c) list final actions ok ends s = cut_sound _ (DecModes c) list _ final actions s
+anew_sound g list final actions ok ends s = cut_sound _ g list _ final actions s
 
 either_sound : (less : Bool) (g : Group) (list : List CsiParam) (final : ℕ) (known actions : List Action) → Spellable list → IsFinal final
     → AllByRecursion IsSound known → MatchBool less (Anew g list false final actions) (actions ≡ known) → AllByRecursion IsSound actions

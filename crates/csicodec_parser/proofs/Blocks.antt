@@ -1,17 +1,18 @@
 -- The block at the front, and the actions that follow it.
 use Rattle.std.specs.{Prelude.IfSome, Prelude.IfNone, Prelude.slice_get, Prelude.unwrap_or, Option.option_map}
-use Rattle.std.proofs.Common.{◌≡◌, ℕ, zero, suc, ◌+◌, ◌-◌, ◌<◌, ◌≤◌, Bool, true, false, cond, List, [], ◌∷◌, length, drop, take, Some, None, Option, refl, sym, ap, ◌∙◌, arith, length-drop}
+use Rattle.std.proofs.Common.{◌≡◌, ℕ, zero, suc, ◌+◌, ◌*◌, ◌-◌, ◌<◌, ◌≤◌, Bool, true, false, cond, List, [], ◌∷◌, length, drop, take, Some, None, Option, refl, sym, ap, ◌∙◌, arith, length-drop}
 use Rattle.std.proofs.{lemmas.List.drop-drop, lemmas.List.drop_all, lemmas.List.take_all, lemmas.Option.slice_get_within}
 use Rattle.csicodec_tokens.specs.{declared.param.CsiParam.CsiParam, declared.param.CsiParam.TheVariants.Integer, declared.param.CsiParam.TheVariants.P}
-use Rattle.csicodec_actions.specs.{declared.mode.Change.Change, Actions.Action, Actions.Unspecified, Actions.TakesMemory, Table.boxed, Table.unboxed}
-use Rattle.csicodec_actions.specs.{Table.whole}
-use Rattle.csicodec_parser.specs.Private.Steps.{front, block, block_of, is_semicolon, with_semicolon, segments, segments_at, rest_action, actions_after, body_actions, actions_in, left_at, from_at, GoesBy, CanGo, CutsOn}
+use Rattle.csicodec_actions.specs.{declared.mode.Change.Change, Actions.Action, Actions.Sgr, Actions.Unspecified, Actions.TakesMemory, Table.boxed}
+use Rattle.csicodec_actions.specs.{Table.unboxed, Table.whole}
+use Rattle.csicodec_parser.specs.Private.Steps.{front, block, block_of, is_semicolon, with_semicolon, segments, segments_at, rest_action, actions, actions_after, body_actions, actions_in, fresh_cost, left_at, from_at, Acts, GoesBy, CanGo, Leaves}
 use Rattle.csicodec_parser.specs.{declared.group.Group.Group, declared.group.Group.TheVariants.Whole, declared.group.Group.TheVariants.Styles}
 use Rattle.csicodec_parser.specs.{declared.group.Group.TheVariants.DecModes, declared.actions.CSI.CSI, ActionOf.action_of, declared.parser.Stage.Stage}
 use Rattle.csicodec_parser.specs.{declared.parser.Stage.TheVariants.Fresh, declared.parser.Stage.TheVariants.Going, declared.parser.Stage.TheVariants.Failed}
 use Rattle.csicodec_parser.specs.{Groups.group, Groups.marked, Groups.start, Groups.has_odd, Cut.body, Segments.empty_action}
 use Rattle.csicodec_parser.proofs.{Fronts.front_empty, Fronts.front_fits, GroupOf.marked-body}
 use Rattle.csicodec_actions.proofs.Boxed.{unboxed_whole, boxed_whole, boxed-takes}
+use Rattle.csicodec_base.specs.declared.sgr.Sgr.TheVariants as sgr
 
 -- the action of a rest takes memory
 pub rest_takes : (g : Group) (rest : List CsiParam) (flag : Bool) (final : ℕ) → TakesMemory (rest_action g rest flag final)
@@ -73,11 +74,6 @@ segments_unknown g u (t ∷ ts) e h = ap (segments_at u (t ∷ ts) (segments g u
 pub at_same : (ts us : List CsiParam) (p q i : ℕ) → us ≡ ts → q ≡ p → slice_get (drop q us) i ≡ slice_get (drop p ts) i
 at_same ts us p q i e h = ap (λ n. slice_get (drop n us) i) h ∙ ap (λ l. slice_get (drop p l) i) e
 
--- the tokens of a block, by the look behind its piece
-pub block_taken : (tokens us : List CsiParam) (p q len k : ℕ) (next : Option CsiParam) → us ≡ tokens → q ≡ p → next ≡ slice_get (drop q us) len → k ≡ with_semicolon len next
-    → k ≡ with_semicolon len (slice_get (drop p tokens) len)
-block_taken tokens us p q len k next e h look taken = taken ∙ ap (with_semicolon len) (look ∙ at_same tokens us p q len e h)
-
 pub block_within : (g : Group) (tokens : List CsiParam) (p len k : ℕ) (a : Action) →
     front g (drop p tokens) ≡ Some (a, len) →
     k ≡ with_semicolon len (slice_get (drop p tokens) len) → p + k ≤ length tokens
@@ -108,20 +104,6 @@ after_some g flag final (t ∷ ts) h = go (block g (t ∷ ts))
     go None = omega arith
     go (Some b) = omega arith
 
-pub some_cuts : (r : Option CSI) (g : Group) (tokens : List CsiParam) (p q n : ℕ) → IfSome r (λ a. block g (drop p tokens) ≡ Some (action_of a, q - p)) → IfSome r (λ _. p < q)
-    → IfSome r (λ _. q < n → CutsOn g tokens p q)
-some_cuts None g tokens p q n b h = tt
-some_cuts (Some x) g tokens p q n b h = λ w. (action_of x, b, h)
-
--- all that is unread as one action
-pub unknown_left : (g : Group) (flag : Bool) (final : ℕ) (tokens now after : List CsiParam)
-    (p q : ℕ) (x : CSI) (xs : List Action) → now ≡ tokens → after ≡ now →
-    xs ≡ rest_action g (drop p tokens) flag final ∷ []
-    → action_of x ≡ rest_action g (drop p now) flag final → q ≡ length after → xs ≡ action_of x ∷ actions_after g flag final (drop q tokens)
-unknown_left g flag final tokens now after p q x xs same still is told all =
-    let d : drop q tokens ≡ [] = drop_all q tokens (omega (arith, all, ap length same, ap length still)) in
-    rw (d, told, same) is
-
 -- ---- the first action of a list that is cut
 
 -- no byte is odd among private modes
@@ -135,23 +117,15 @@ odd_unknown Whole list flag final cut odd = absurd (cut refl)
 odd_unknown (DecModes c) list flag final cut odd = cc (private_plain c list, odd)
 odd_unknown _ list flag final cut odd = rw odd refl
 
-pub none_odd : (g : Group) (list : List CsiParam) (final p : ℕ) → p ≡ 0 → (g ≡ Whole → ⊥) →
-    has_odd g list ≡ true → (flag : Bool) →
-    actions_in g list flag final ≡ rest_action g (drop p list) flag final ∷ []
-none_odd g list final p z cut odd = λ flag.
-    odd_unknown g list flag final cut odd
-    ∙ ap (λ (a : Action). a ∷ []) (sym (rest_unknown g list flag final cut) ∙ ap (λ (k : ℕ). rest_action g (drop k list) flag final) (sym z))
-
 first_body : (g : Group) (list : List CsiParam) (flag : Bool) (final : ℕ) → (g ≡ Whole → ⊥) → has_odd g list ≡ false
     → actions_in g list flag final ≡ body_actions g list flag final (body g list)
 first_body Whole list flag final cut e = absurd (cut refl)
 first_body _ list flag final cut e = rw e refl
 
 -- without an odd byte a list is cut
-pub first_cut : (g : Group) (list : List CsiParam) (flag : Bool) (final : ℕ) → (g ≡ Whole → ⊥) → group list final ≡ g → has_odd g list ≡ false
-    → actions_in g list flag final ≡ body_actions g (marked g (body g list)) flag final (body g list)
-first_cut g list flag final cut same plain =
-    first_body g list flag final cut plain ∙ ap (λ (l : List CsiParam). body_actions g l flag final (body g list)) (sym (marked-body g list final same))
+pub first_cut : (g : Group) (list : List CsiParam) (flag : Bool) (final : ℕ) → (g ≡ Whole → ⊥) → g ≡ group list final → has_odd g list ≡ false
+    → actions list flag final ≡ body_actions g list flag final (body g list)
+first_cut g list flag final cut same plain = ap (λ (k : Group). actions_in k list flag final) (sym same) ∙ first_body g list flag final cut plain
 
 pub body_some : (g : Group) (list : List CsiParam) (flag : Bool) (final : ℕ) (rest : List CsiParam) → 0 < length rest → body_actions g list flag final rest ≡ actions_after g flag final rest
 body_some g list flag final [] h = absurd (omega arith)
@@ -161,46 +135,63 @@ empty_unknown : (g : Group) (list : List CsiParam) (flag : Bool) (final : ℕ) �
 empty_unknown Styles list flag final other = absurd (other refl)
 empty_unknown _ list flag final other = refl
 
--- where nothing is left to cut
-pub body_end : (g : Group) (flag : Bool) (final : ℕ) (rest : List CsiParam) → length rest ≤ 0 → (g ≡ Styles → ⊥) → (g ≡ Whole → ⊥)
-    → body_actions g (marked g rest) flag final rest ≡ rest_action g rest flag final ∷ []
-body_end g flag final [] h other cut = ap (λ (a : Action). a ∷ []) (empty_unknown g (marked g []) flag final other ∙ sym (rest_unknown g [] flag final cut))
-body_end g flag final (t ∷ ts) h other cut = absurd (omega arith)
+-- ---- what is left of a list that is cut
 
--- what is cut of a list begins with what its rest begins with
-pub some_body : (r : Option CSI) (g : Group) (list before tokens : List CsiParam) (from p q : ℕ) → before ≡ tokens → from ≡ p → p < length tokens
-    → IfSome r (λ a. block g (drop from before) ≡ Some (action_of a, q - from)) → IfSome r (λ _. from < q)
-    → IfSome r (λ a. (flag : Bool) (final : ℕ) → body_actions g list flag final (drop p tokens) ≡ action_of a ∷ actions_after g flag final (drop q tokens))
-some_body None g list before tokens from p q same at w b h = tt
-some_body (Some x) g list before tokens from p q same at w b h = λ flag final.
-    body_some g list flag final (drop p tokens) (omega (arith, length-drop p tokens))
-    ∙ after_block g flag final tokens p q (action_of x) (rw (same, at) at b) (rw at at h)
+pub left_cut : (s : Stage) (g : Group) (list : List CsiParam) (flag : Bool) (final p : ℕ) → (g ≡ Whole → ⊥) → GoesBy s list final g → (s ≡ Fresh → has_odd g list ≡ false)
+    → from_at s g p < length list → left_at s flag final list p ≡ actions_after g flag final (drop (from_at s g p) list)
+left_cut Fresh g list flag final p cut by plain w = first_cut g list flag final cut by (plain refl) ∙ body_some g list flag final (body g list) (omega (arith, length-drop (start g) list))
+left_cut (Going k) g list flag final p cut by plain w = rw by refl
+left_cut Failed g list flag final p cut by plain w = absurd by
 
-pub none_body : (r : Option CSI) (g : Group) (list before tokens : List CsiParam) (from p q : ℕ) → before ≡ tokens → from ≡ p → p < length tokens
-    → IfNone r (block g (drop from before) ≡ None) → IfNone r (q ≡ from)
-    → IfNone r ((flag : Bool) (final : ℕ) → body_actions g list flag final (drop p tokens) ≡ rest_action g (drop q tokens) flag final ∷ [])
-none_body (Some x) g list before tokens from p q same at w b e = tt
-none_body None g list before tokens from p q same at w b e = λ flag final.
-    let stays : q ≡ p = e ∙ at in
-    body_some g list flag final (drop p tokens) (omega (arith, length-drop p tokens))
-    ∙ (rw stays (after_unknown g flag final tokens p (rw (same, at) at b) w))
+-- an odd byte makes it unknown
+pub left_odd : (s : Stage) (g : Group) (list : List CsiParam) (flag : Bool) (final p q : ℕ) → (g ≡ Whole → ⊥) → GoesBy s list final g → s ≡ Fresh → q ≡ 0 → has_odd g list ≡ true
+    → left_at s flag final list p ≡ rest_action g (drop q list) flag final ∷ []
+left_odd Fresh g list flag final p q cut by fresh z odd =
+    rw z (ap (λ (k : Group). actions_in k list flag final) (sym by) ∙ odd_unknown g list flag final cut odd ∙ ap (λ (a : Action). a ∷ []) (sym (rest_unknown g list flag final cut)))
+left_odd _ g list flag final p q cut by fresh z odd = cc
 
-pub some_first : (r : Option CSI) (g : Group) (before list : List CsiParam) (final q : ℕ) → before ≡ list → (g ≡ Whole → ⊥) → group list final ≡ g → has_odd g list ≡ false
-    → IfSome r (λ a. (flag : Bool) (f : ℕ) → body_actions g (marked g (body g before)) flag f (body g before) ≡ action_of a ∷ actions_after g flag f (drop q before))
-    → IfSome r (λ a. (flag : Bool) → actions_in g list flag final ≡ action_of a ∷ actions_after g flag final (drop q list))
-some_first None g before list final q same cut of plain h = tt
-some_first (Some x) g before list final q same cut of plain h = λ flag. first_cut g list flag final cut of plain ∙ (rw same at (h flag final))
+-- where there is nothing to cut
+pub left_end : (s : Stage) (g : Group) (list : List CsiParam) (flag : Bool) (final p q : ℕ) → (g ≡ Whole → ⊥) → (g ≡ Styles → ⊥) → GoesBy s list final g → CanGo s p (length list)
+    → (s ≡ Fresh → has_odd g list ≡ false) → q ≡ from_at s g p → length list ≤ q → left_at s flag final list p ≡ rest_action g (drop q list) flag final ∷ []
+left_end Fresh g list flag final p q cut other by can plain is w =
+    let none : drop (start g) list ≡ [] = drop_all (start g) list (omega (arith, is, w)) in
+    first_cut g list flag final cut by (plain refl) ∙ ap (body_actions g list flag final) none
+    ∙ ap (λ (a : Action). a ∷ []) (empty_unknown g list flag final other ∙ ap (λ (l : List CsiParam). Unspecified l flag final) (sym (marked-body g list final (sym by))))
+    ∙ ap (λ (a : Action). a ∷ []) (sym (rest_unknown g (body g list) flag final cut) ∙ ap (λ (n : ℕ). rest_action g (drop n list) flag final) (sym is))
+left_end (Going k) g list flag final p q cut other by can plain is w = absurd (omega (arith, can, is, w))
+left_end Failed g list flag final p q cut other by can plain is w = absurd by
 
-pub none_first : (r : Option CSI) (g : Group) (before list : List CsiParam) (final q : ℕ) → before ≡ list → (g ≡ Whole → ⊥) → group list final ≡ g → has_odd g list ≡ false
-    → IfNone r ((flag : Bool) (f : ℕ) → body_actions g (marked g (body g before)) flag f (body g before) ≡ rest_action g (drop q before) flag f ∷ [])
-    → IfNone r ((flag : Bool) → actions_in g list flag final ≡ rest_action g (drop q list) flag final ∷ [])
-none_first (Some x) g before list final q same cut of plain h = tt
-none_first None g before list final q same cut of plain h = λ flag. first_cut g list flag final cut of plain ∙ (rw same at (h flag final))
+pub left_reset : (s : Stage) (list : List CsiParam) (flag : Bool) (final p q : ℕ) → GoesBy s list final Styles → CanGo s p (length list) → q ≡ from_at s Styles p → length list ≤ q
+    → left_at s flag final list p ≡ Sgr sgr.Reset ∷ actions_after Styles flag final (drop q list)
+left_reset Fresh [] flag final p q by can is w = rw is (first_cut Styles [] flag final (λ e. cc) by refl)
+left_reset Fresh (t ∷ ts) flag final p q by can is w = absurd (omega (arith, is, w))
+left_reset (Going k) list flag final p q by can is w = absurd (omega (arith, can, is, w))
+left_reset Failed list flag final p q by can is w = absurd by
 
--- where nothing is left to cut
-pub none_end : (g : Group) (tokens : List CsiParam) (p : ℕ) → p ≡ start g → length (drop (start g) tokens) ≤ 0 → (g ≡ Styles → ⊥) → (g ≡ Whole → ⊥)
-    → (flag : Bool) (final : ℕ) → body_actions g (marked g (drop (start g) tokens)) flag final (drop (start g) tokens) ≡ rest_action g (drop p tokens) flag final ∷ []
-none_end g tokens p at none other cut = λ flag final. rw at (body_end g flag final (drop (start g) tokens) none other cut)
+-- a block is cut from m, where p tokens were passed before
+pub cut_acts : (s : Stage) (r : Option CSI) (g : Group) (list : List CsiParam) (final p m q before mid after : ℕ) → (g ≡ Whole → ⊥) → GoesBy s list final g
+    → (s ≡ Fresh → has_odd g list ≡ false) × (m ≡ from_at s g p) → p ≤ m → m < length list
+    → mid + p ≤ before + fresh_cost s * length list + m → after + m ≤ mid + 105 + q
+    → IfSome r (λ a. block g (drop m list) ≡ Some (action_of a, q - m)) → IfSome r (λ _. m < q) → IfSome r (λ a. Acts s g list final p q before after (action_of a))
+cut_acts s None g list final p m q before mid after cut by (plain, is) far w first then b h = tt
+cut_acts s (Some x) g list final p m q before mid after cut by (plain, is) far w first then b h = record {
+  told = λ flag. left_cut s g list flag final p cut by plain (rw is at w) ∙ ap (λ n. actions_after g flag final (drop n list)) (sym is)
+      ∙ after_block g flag final list m q (action_of x) b h;
+  cut = λ _. rw (← is) (action_of x, b, h);
+  forward = λ _. omega (arith, far, h);
+  pays = omega (arith, far, h, first, then);
+}
+
+pub cut_leaves : (s : Stage) (r : Option CSI) (g : Group) (list : List CsiParam) (final p m q before mid after : ℕ) → (g ≡ Whole → ⊥) → GoesBy s list final g
+    → (s ≡ Fresh → has_odd g list ≡ false) × (m ≡ from_at s g p) → p ≤ m → m < length list
+    → mid + p ≤ before + fresh_cost s * length list + m → after + m ≤ mid + 105 + q
+    → IfNone r (block g (drop m list) ≡ None) → IfNone r (q ≡ m) → IfNone r (Leaves s g list final p q before after)
+cut_leaves s (Some x) g list final p m q before mid after cut by (plain, is) far w first then b e = tt
+cut_leaves s None g list final p m q before mid after cut by (plain, is) far w first then b e = record {
+  told = λ flag. left_cut s g list flag final p cut by plain (rw is at w) ∙ ap (λ n. actions_after g flag final (drop n list)) (sym is)
+      ∙ rw e (after_unknown g flag final list m b w);
+  pays = omega (arith, far, w, e, first, then);
+}
 
 -- ---- a list that is read whole
 
@@ -219,34 +210,17 @@ pub lent_some : (tokens lent : List CsiParam) (final : ℕ) (r : Option CSI) (x 
 lent_some tokens lent final r x all told some =
     unboxed_whole tokens final (action_of x) (ap (λ (l : List CsiParam). unboxed l final) (sym all) ∙ sym told ∙ ap (option_map action_of) some)
 
-pub none_whole : (r : Option CSI) (g : Group) (list : List CsiParam) (final q : ℕ) → g ≡ Whole → IfNone r (unboxed list final ≡ None) → IfNone r (q ≡ 0)
-    → IfNone r ((flag : Bool) → actions_in g list flag final ≡ rest_action g (drop q list) flag final ∷ [])
-none_whole (Some x) g list final q is none stays = tt
-none_whole None g list final q is none stays = λ flag. rw (is, stays) (ap (λ (o : Option Action). unwrap_or o (Unspecified list flag final) ∷ []) (sym (boxed_whole list final none)))
+pub rest_actions : (list : List CsiParam) (flag : Bool) (final : ℕ) → group list final ≡ Whole → unboxed list final ≡ None → actions list flag final ≡ rest_action Whole list flag final ∷ []
+rest_actions list flag final is none = rw (is, boxed_whole list final none) refl
 
--- ---- the next action of a run
+pub whole_leaves : (s : Stage) (r : Option CSI) (g : Group) (list : List CsiParam) (final p q before after : ℕ) → s ≡ Fresh → g ≡ Whole → p ≡ 0 → GoesBy s list final g
+    → after ≤ before + 8 * length list + q → IfNone r (unboxed list final ≡ None) → IfNone r (q ≡ 0) → IfNone r (Leaves s g list final p q before after)
+whole_leaves s (Some x) g list final p q before after fresh is z by cost none stays = tt
+whole_leaves Fresh None g list final p q before after fresh is z by cost none stays =
+    record { told = λ flag. rw (stays, is) (rest_actions list flag final (sym by ∙ is) none); pays = omega (arith, z, cost, stays) }
+whole_leaves _ None g list final p q before after fresh is z by cost none stays = cc
 
-pub some_at : (s : Stage) (r : Option CSI) (g : Group) (list : List CsiParam) (final p q : ℕ) → (s ≡ Fresh → ⊥) → CanGo s p (length list) → GoesBy s list final g
-    → IfSome r (λ a. block g (drop p list) ≡ Some (action_of a, q - p)) → IfSome r (λ _. p < q)
-    → IfSome r (λ a. (flag : Bool) → left_at s flag final list p ≡ action_of a ∷ actions_after g flag final (drop q list))
-some_at s None g list final p q later can by b h = tt
-some_at Fresh (Some x) g list final p q later can by b h = absurd (later refl)
-some_at (Going k) (Some x) g list final p q later can by b h = λ flag. rw (← by) (after_block g flag final list p q (action_of x) b h)
-some_at Failed (Some x) g list final p q later can by b h = absurd can
-
-pub none_at : (s : Stage) (r : Option CSI) (g : Group) (list : List CsiParam) (final p q : ℕ) → (s ≡ Fresh → ⊥) → CanGo s p (length list) → GoesBy s list final g
-    → IfNone r (block g (drop p list) ≡ None) → IfNone r (q ≡ p)
-    → IfNone r ((flag : Bool) → left_at s flag final list p ≡ rest_action g (drop q list) flag final ∷ [])
-none_at s (Some x) g list final p q later can by b e = tt
-none_at Fresh None g list final p q later can by b e = absurd (later refl)
-none_at (Going k) None g list final p q later can by b e = λ flag. rw (e, ← by) (after_unknown g flag final list p b can)
-none_at Failed None g list final p q later can by b e = absurd can
-
-pub some_cuts_at : (s : Stage) (r : Option CSI) (g : Group) (list : List CsiParam) (p q n m : ℕ) → (s ≡ Fresh → ⊥) → CanGo s p n
-    → IfSome r (λ a. block g (drop p list) ≡ Some (action_of a, q - p)) → IfSome r (λ _. p < q) → IfSome r (λ _. q < m → CutsOn g list (from_at s g p) q)
-some_cuts_at Fresh r g list p q n m later can b h = absurd (later refl)
-some_cuts_at _ r g list p q n m later can b h = some_cuts r g list p q m b h
-
--- passing on is dropping more
-pub dropped_on : (tokens : List CsiParam) (p q k : ℕ) → q ≡ p + k → drop q tokens ≡ drop k (drop p tokens)
-dropped_on tokens p q k e = ap (λ n. drop n tokens) e ∙ sym (drop-drop k p tokens)
+pub whole_ends : (s : Stage) (g : Group) (list : List CsiParam) (final p before : ℕ) → (s ≡ Fresh → ⊥) → g ≡ Whole → GoesBy s list final g → CanGo s p (length list) → Leaves s g list final p p before before
+whole_ends Fresh g list final p before later is by can = absurd (later refl)
+whole_ends (Going k) g list final p before later is by can = record { told = λ flag. rw (← by, is) (after_unknown Whole flag final list p refl can); pays = omega (arith, can) }
+whole_ends Failed g list final p before later is by can = absurd by

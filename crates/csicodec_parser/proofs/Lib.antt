@@ -5,4 +5,3 @@ pub mod Cuts
 pub mod NextLemmas
 pub mod Taken
 pub mod Unread
-pub mod Attributes

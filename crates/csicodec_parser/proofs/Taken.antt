@@ -11,7 +11,7 @@ use Rattle.csicodec_parser.specs.Private.Steps.{one_token, front, block_of, with
 use Rattle.csicodec_parser.specs.{declared.group.Group.Group, declared.group.Group.TheVariants.Whole, declared.group.Group.TheVariants.Modes}
 use Rattle.csicodec_parser.specs.{declared.group.Group.TheVariants.DecModes, Groups.group, Groups.marked, Groups.has_odd, Cut.body, Segments.Actions}
 use Rattle.csicodec_parser.proofs.Blocks.{semicolon_from, segments_block, after_unknown, first_cut, odd_unknown, body_some, rest_unknown}
-use Rattle.csicodec_parser.proofs.Cuts.{actions_are}
+use Rattle.csicodec_parser.proofs.{Cuts.actions_are, Fronts.front_empty}
 use Rattle.csicodec_actions.specs.declared.mode.Change.TheVariants as change
 use Rattle.csicodec_actions.specs.declared.mode.Switch.TheVariants as switch
 
@@ -39,15 +39,10 @@ pub actions_odd : (g : Group) (list : List CsiParam) (flag : Bool) (final : ℕ)
     Unspecified (marked g list) flag final ∷ [] ≡ actions list flag final
 actions_odd g list flag final same cut odd = sym (ap (λ (k : Group). actions_in k list flag final) (sym same) ∙ odd_unknown g list flag final cut odd)
 
-actions_body : (g : Group) (list rest : List CsiParam) (flag : Bool) (final : ℕ) → g ≡ group list final → (g ≡ Whole → ⊥) → has_odd g list ≡ false → rest ≡ body g list
-    → actions list flag final ≡ body_actions g (marked g rest) flag final rest
-actions_body g list rest flag final same cut plain is =
-    ap (λ (k : Group). actions_in k list flag final) (sym same) ∙ first_cut g list flag final cut (sym same) plain ∙ ap (λ (l : List CsiParam). body_actions g (marked g l) flag final l) (sym is)
-
 pub actions_begin : (g : Group) (list rest : List CsiParam) (flag : Bool) (final : ℕ) → g ≡ group list final → (g ≡ Whole → ⊥) → has_odd g list ≡ false → rest ≡ body g list → 0 < length rest
     → actions_after g flag final rest ≡ actions list flag final
 actions_begin g list rest flag final same cut plain is w =
-    sym (actions_body g list rest flag final same cut plain is ∙ body_some g (marked g rest) flag final rest w)
+    sym (first_cut g list flag final cut same plain ∙ ap (body_actions g list flag final) (sym is) ∙ body_some g list flag final rest w)
 
 pub actions_front : (g : Group) (flag : Bool) (final : ℕ) (rest behind : List CsiParam) (told all : List Action) (a : Action) (len : ℕ) → front g rest ≡ Some (a, len) → 0 < len
     → behind ≡ drop (with_semicolon len (slice_get rest len)) rest → told ++ actions_after g flag final rest ≡ all → (told ++ a ∷ []) ++ actions_after g flag final behind ≡ all
@@ -60,6 +55,10 @@ pub actions_stuck : (g : Group) (flag : Bool) (final : ℕ) (rest : List CsiPara
     → told ++ actions_after g flag final rest ≡ all → told ++ Unspecified (marked g rest) flag final ∷ [] ≡ all
 actions_stuck g flag final rest told all cut e w parts =
     ap (λ (a : Action). told ++ a ∷ []) (sym (rest_unknown g rest flag final cut)) ∙ ap (λ (l : List Action). told ++ l) (sym (after_unknown g flag final rest 0 (ap (block_of rest) e) w)) ∙ parts
+
+pub front_none : (g : Group) (rest : List CsiParam) → slice_get rest 0 ≡ None → front g rest ≡ None
+front_none g [] e = front_empty g
+front_none g (t ∷ ts) e = cc
 
 -- a piece that the first token is by itself
 pub front_first : (g : Group) (rest : List CsiParam) (t : CsiParam) (a : Action) → slice_get rest 0 ≡ Some t → ((others : List CsiParam) → front g (t ∷ others) ≡ Some (a, 1))
@@ -101,8 +100,3 @@ pub first_taken : (g : Group) (t : CsiParam) (said old new : List ℕ) (f : Firs
     new ≡ old ++ 27 ∷ 91 ∷ said → (before : List Action) → old ≡ texts before →
     new ≡ texts (before ++ f.action ∷ [])
 first_taken g t said old new f appended before held = appended ∙ ap (λ (l : List ℕ). l ++ 27 ∷ 91 ∷ said) held ∙ ap (λ (l : List ℕ). texts before ++ l) (sym f.says) ∙ sym (texts_last before f.action)
-
--- ---- a list that is read whole
-
-pub rest_actions : (list : List CsiParam) (flag : Bool) (final : ℕ) → group list final ≡ Whole → unboxed list final ≡ None → actions list flag final ≡ rest_action Whole list flag final ∷ []
-rest_actions list flag final is none = rw (is, boxed_whole list final none) refl

@@ -11,7 +11,7 @@ ghost use Rattle.csicodec_parser.specs.ActionOf.{action_of, unspecified_of, unsp
 ghost use Rattle.csicodec_parser.specs.Canonical.{Canonical, IsUnspecified};
 
 use crate::canonical::{is_canonical_sgr, is_canonical_unknown};
-use crate::sink::{append_displayed, append_unspecified};
+use crate::sink::{append_displayed, append_list};
 use csicodec_actions::{
     CharacterPath, Cursor, Device, Edit, Keyboard, Mode, MouseReport, Window, cursor_action,
     device_action, edit_action, graphics_action, is_said, keyboard_action, mode_action,
@@ -270,7 +270,7 @@ pub fn append_text(alloc: Global, out: &mut TextBuffer, action: &CSI) -> Result<
         CSI::SelectCharacterPath(path, effect) => write_path(&mut text, path, *effect),
         CSI::Unspecified(unspecified) => {
             out.push_slice(b"\x1b[")?;
-            return append_unspecified(out, unspecified);
+            return append_list(out, unspecified.params.as_slice(), unspecified.control);
         }
     }
     out.push_text(&text)

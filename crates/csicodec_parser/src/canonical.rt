@@ -7,7 +7,9 @@ ghost use Rattle.csicodec_parser.specs.Segments.{IsUnread};
 
 use crate::actions::{Unspecified, boxed_action, unboxed_action};
 use crate::group::{Group, front};
-use crate::list::{group_of, is_odd};
+use crate::list::group_of;
+use crate::parser::has_odd;
+use crate::tokens::Tokens;
 use csicodec_actions::is_spellable_token;
 use csicodec_base::{CsiParam, Font, Sgr};
 use std::alloc::{AllocError, Global};
@@ -69,7 +71,8 @@ fn is_uncut(group: Group, params: &[CsiParam], control: char) -> bool
     requires { group ≡ group_of_list params.now control }
     ensures { IsTrue result ↔ IsUncut group params.now }
 {
-    if is_odd(group, params) {
+    let mut look = Tokens::new(params);
+    if has_odd(group, &mut look) {
         return true;
     }
     let body = &params[group.start()..];

@@ -9,18 +9,10 @@ ghost use Rattle.csicodec_parser.specs.Private.Steps.{actions, front, rest_actio
 use crate::actions::{CSI, boxed_action};
 use crate::group::Group;
 use crate::look::Look;
-use crate::parser::{LONGEST, group_of as first_group, has_odd, whole_list, with_semicolon};
+use crate::parser::{End, LONGEST, group_of as first_group, has_odd, pass_piece, whole_list};
 use crate::sink::Sink;
 use csicodec_base::{CsiParam, Sgr};
 use std::alloc::{AllocError, Global};
-
-/// What ends a list: its final character, and the flag that came with it. An action that takes memory takes it here.
-#[derive(Clone, Copy)]
-struct End {
-    alloc: Global,
-    truncated: bool,
-    control: char,
-}
 
 /// The actions of the list, in turn. Its looks are as few as those of a run: at most 128 × (length + 1).
 #[inline(always)]
@@ -122,45 +114,12 @@ fn pieces_into<L: Look, S: Sink>(
         };
     }
     'cut: while look.len() > 0 {
-        if !block_into(group, look, sink)? {
+        let Some(len) = piece_into(group, look, sink)? else {
             return unread_into(group, look, end, sink);
-        }
+        };
+        pass_piece(look, len);
     }
     Ok(())
-}
-
-/// Passes over the block at the front, and takes its action. `false` where there is none, and then nothing is passed.
-#[inline(always)]
-fn block_into<L: Look, S: Sink>(
-    group: Group,
-    look: &mut L,
-    sink: &mut S,
-) -> Result<bool, AllocError>
-    requires { L.passed look.old ≤ length (L.tokens look.old) }
-    ensures some { IfOk result (λ known. known ≡ true → (action : Action) × (len : ℕ)
-        × (front group (drop (L.passed look.old) (L.tokens look.old)) ≡ Some (action, len))
-        × (0 < len)
-        × (drop (L.passed look.new) (L.tokens look.old)
-        ≡ drop (with_semicolon len (slice_get (drop (L.passed look.old) (L.tokens look.old)) len))
-        (drop (L.passed look.old) (L.tokens look.old)))
-        × ((before : List Action) → S.holds sink.old before
-        → S.holds sink.new (before ++ action ∷ []))) }
-    ensures forward { IfOk result (λ known. known ≡ true → L.passed look.old < L.passed look.new) }
-    ensures none { IfOk result (λ known. known ≡ false
-        → (front group (drop (L.passed look.old) (L.tokens look.old)) ≡ None)
-        × (sink.new ≡ sink.old) × (L.passed look.new ≡ L.passed look.old)) }
-    ensures list { L.tokens look.new ≡ L.tokens look.old }
-    ensures within { L.passed look.new ≤ length (L.tokens look.new) }
-    ensures counted { L.looks look.old ≤ L.looks look.new }
-    ensures costs { L.looks look.new + L.passed look.old
-        ≤ L.looks look.old + 106 + L.passed look.new }
-{
-    let Some(len) = piece_into(group, look, sink)? else {
-        return Ok(false);
-    };
-    let next = look.get(len);
-    look.pass(with_semicolon(len, next));
-    Ok(true)
 }
 
 /// Takes the action of the piece at the front, and answers its number of tokens.
@@ -183,35 +142,14 @@ fn piece_into<L: Look, S: Sink>(
     ensures counted { L.looks look.old ≤ L.looks look.new }
     ensures costs { L.looks look.new ≤ L.looks look.old + 105 }
 {
-    if first_into(group, look, sink)? {
+    let Some(first) = look.get(0) else {
+        return Ok(None);
+    };
+    if sink.take_first(group, first)? {
         return Ok(Some(1));
     }
     let width = look.len().min(LONGEST);
     sink.take_piece(group, look.lend(0, width))
-}
-
-/// Takes the action of the token at the front, where it is a piece by itself. `false` says nothing of longer pieces.
-#[inline(always)]
-fn first_into<L: Look, S: Sink>(
-    group: Group,
-    look: &mut L,
-    sink: &mut S,
-) -> Result<bool, AllocError>
-    ensures some { IfOk result (λ known. known ≡ true → (action : Action)
-        × (front group (drop (L.passed look.old) (L.tokens look.old)) ≡ Some (action, 1))
-        × ((before : List Action) → S.holds sink.old before
-        → S.holds sink.new (before ++ action ∷ []))) }
-    ensures there { IfOk result (λ known. known ≡ true
-        → L.passed look.old < length (L.tokens look.old)) }
-    ensures none { IfOk result (λ known. known ≡ false → sink.new ≡ sink.old) }
-    ensures list { L.tokens look.new ≡ L.tokens look.old }
-    ensures passes { L.passed look.new ≡ L.passed look.old }
-    ensures costs { L.looks look.new ≡ L.looks look.old + 1 }
-{
-    match look.get(0) {
-        Some(first) => sink.take_first(group, first),
-        None => Ok(false),
-    }
 }
 
 /// The group of the list.
@@ -220,19 +158,4 @@ pub(crate) fn group_of(params: &[CsiParam], control: char) -> Group
     ensures { result ≡ group_of_list params.now control }
 {
     Group::of(params.first().copied(), control)
-}
-
-/// Whether a byte among the tokens makes the whole list unknown.
-#[inline(always)]
-pub(crate) fn is_odd(group: Group, params: &[CsiParam]) -> bool
-    ensures { result ≡ has_odd group params.now }
-{
-    let mut rest = params;
-    while let [first, others @ ..] = rest {
-        if group.is_odd(Some(*first)) {
-            return true;
-        }
-        rest = others;
-    }
-    false
 }

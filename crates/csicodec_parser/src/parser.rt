@@ -7,9 +7,7 @@ ghost use Rattle.csicodec_parser.specs.Groups.{group as group_of_list, has_odd, 
 ghost use Rattle.csicodec_parser.specs.Next.{IsRef};
 ghost use Rattle.csicodec_parser.specs.Segments.{Actions};
 ghost use Rattle.csicodec_actions.specs.Table.{unboxed, whole};
-ghost use Rattle.csicodec_parser.specs.Private.Steps.{with_semicolon, block, rest_action, left_at, fresh_cost, from_at, held, GoesBy, CanGo, CutsOn};
-ghost use Rattle.csicodec_parser.specs.declared.group.Group.TheVariants.{Styles};
-ghost use Rattle.csicodec_parser.specs.Private.Steps.{BeginsAs, IsRestAlone, BodyBeginsAs, BodyIsRestAlone, LeftBeginsAs, LeftIsRestAlone, PaysRest, PaysBlock, PaysAll};
+ghost use Rattle.csicodec_parser.specs.Private.Steps.{with_semicolon, block, rest_action, left_at, fresh_cost, from_at, held, Acts, CanGo, GoesBy, Leaves};
 
 use crate::actions::{CSI, Unspecified, boxed_action, unboxed_action};
 use crate::group::{Group, front};
@@ -23,6 +21,14 @@ use std::marker::Model;
 
 /// No piece is longer.
 pub(crate) const LONGEST: usize = 13;
+
+/// What ends a list: its final character, and the flag that came with it. An action that takes memory takes it here.
+#[derive(Clone, Copy)]
+pub(crate) struct End {
+    pub(crate) alloc: Global,
+    pub(crate) truncated: bool,
+    pub(crate) control: char,
+}
 
 #[derive(Clone, Copy)]
 enum Stage {
@@ -40,10 +46,8 @@ enum Stage {
 /// `Device`, a `Window` or an `Unspecified` and memory was refused for it; the actions given before stand.
 #[derive(Drop)]
 pub struct Run<L: Look> {
-    alloc: Global,
     look: L,
-    truncated: bool,
-    control: char,
+    end: End,
     given: Count,
     stage: Stage,
 }
@@ -56,10 +60,10 @@ impl<L: Look> Model for Run<L> {
     ghost use Rattle.csicodec_parser.specs.Private.Steps.{has_failed, Sound};
 
     ghost view = { λ r.
-        progress (L.tokens r.look) r.truncated r.control r.given.total (has_failed r.stage) (L.passed r.look) (L.looks r.look) };
+        progress (L.tokens r.look) r.end.truncated r.end.control r.given.total (has_failed r.stage) (L.passed r.look) (L.looks r.look) };
 
     ghost invariant = { λ r.
-        Sound r.stage (progress (L.tokens r.look) r.truncated r.control r.given.total (has_failed r.stage) (L.passed r.look) (L.looks r.look)) };
+        Sound r.stage (progress (L.tokens r.look) r.end.truncated r.end.control r.given.total (has_failed r.stage) (L.passed r.look) (L.looks r.look)) };
 }
 
 /// The parser of a slice of parameters.
@@ -115,21 +119,9 @@ pub(crate) fn has_odd<L: Look>(group: Group, look: &mut L) -> bool
     false
 }
 
-/// `len` tokens, and the `;` directly after them.
-#[inline(always)]
-pub(crate) fn with_semicolon(len: usize, next: Option<CsiParam>) -> usize
-    requires { len < usize.MAX }
-    ensures { result ≡ with_semicolon len next }
-{
-    match next {
-        Some(CsiParam::P(b';')) => len + 1,
-        _ => len,
-    }
-}
-
 /// Passes over a piece of `len` tokens, and the `;` directly after it.
 #[inline(always)]
-fn pass_piece<L: Look>(look: &mut L, len: usize)
+pub(crate) fn pass_piece<L: Look>(look: &mut L, len: usize)
     requires short { len < usize.MAX }
     requires there { L.passed look.old
         + with_semicolon len (slice_get (drop (L.passed look.old) (L.tokens look.old)) len)
@@ -146,8 +138,10 @@ fn pass_piece<L: Look>(look: &mut L, len: usize)
             _ => look.pass(1),
         };
     }
-    let next = look.get(len);
-    look.pass(with_semicolon(len, next));
+    match look.get(len) {
+        Some(CsiParam::P(b';')) => look.pass(len + 1),
+        _ => look.pass(len),
+    }
 }
 
 /// Passes over the block at the front, and answers its action. Without one nothing is passed.
@@ -176,17 +170,11 @@ fn cut_block<L: Look>(group: Group, look: &mut L) -> Option<CSI>
 
 /// All unread tokens as one unknown action, with what stands before the pieces of the group ahead of them. They are
 /// passed, unless memory is refused.
-fn unspecified<L: Look>(
-    group: Group,
-    look: &mut L,
-    alloc: Global,
-    truncated: bool,
-    control: char,
-) -> Result<CSI, AllocError>
+fn unspecified<L: Look>(group: Group, look: &mut L, end: End) -> Result<CSI, AllocError>
     requires { L.passed look.old ≤ length (L.tokens look.old) }
     ensures ok { IfOk result (λ action.
         action_of action
-        ≡ Unknown (marked group (drop (L.passed look.old) (L.tokens look.old))) truncated control) }
+        ≡ Unknown (marked group (drop (L.passed look.old) (L.tokens look.old))) end.truncated end.control) }
     ensures all { OnOk result (L.passed look.new ≡ length (L.tokens look.new)) }
     ensures list { L.tokens look.new ≡ L.tokens look.old }
     ensures within { L.passed look.new ≤ length (L.tokens look.new) }
@@ -194,34 +182,29 @@ fn unspecified<L: Look>(
     ensures costs { L.looks look.new + 2 * L.passed look.old
         ≤ L.looks look.old + 2 * length (L.tokens look.old) }
 {
-    let mut params = Vec::new(alloc);
+    let mut params = Vec::new(end.alloc);
     if let Group::DecModes(_) = group {
         params.push(CsiParam::P(b'?'))?;
     }
     look.copy_to(&mut params)?;
+    let control = end.control;
     let unspecified = Unspecified {
         params,
-        parameters_truncated: truncated,
+        parameters_truncated: end.truncated,
         control,
     };
-    let boxed = Box::new(alloc, unspecified)?;
+    let action = CSI::from_unspecified(end.alloc, unspecified)?;
     look.pass(look.len());
-    Ok(CSI::Unspecified(boxed))
+    Ok(action)
 }
 
 /// The action of all unread tokens, where it takes memory: that of a row of lists that are read whole, or an unknown one.
 /// They are passed, unless memory is refused.
-fn left_action<L: Look>(
-    group: Group,
-    look: &mut L,
-    alloc: Global,
-    truncated: bool,
-    control: char,
-) -> Result<CSI, AllocError>
+fn left_action<L: Look>(group: Group, look: &mut L, end: End) -> Result<CSI, AllocError>
     requires { L.passed look.old ≤ length (L.tokens look.old) }
     ensures ok { IfOk result (λ action.
         action_of action
-        ≡ rest_action group (drop (L.passed look.old) (L.tokens look.old)) truncated control) }
+        ≡ rest_action group (drop (L.passed look.old) (L.tokens look.old)) end.truncated end.control) }
     ensures all { OnOk result (L.passed look.new ≡ length (L.tokens look.new)) }
     ensures list { L.tokens look.new ≡ L.tokens look.old }
     ensures within { L.passed look.new ≤ length (L.tokens look.new) }
@@ -231,15 +214,15 @@ fn left_action<L: Look>(
 {
     if let Group::Whole = group {
         let len = look.len();
-        return match boxed_action(alloc, look.lend(0, len), control)? {
+        return match boxed_action(end.alloc, look.lend(0, len), end.control)? {
             Some(action) => {
                 look.pass(len);
                 Ok(action)
             }
-            None => unspecified(group, look, alloc, truncated, control),
+            None => unspecified(group, look, end),
         };
     }
-    unspecified(group, look, alloc, truncated, control)
+    unspecified(group, look, end)
 }
 
 /// An action that takes memory, in its box. A call answers it in registers, so that a caller whose other actions take none
@@ -256,17 +239,11 @@ enum Boxed {
 /// The same in its box.
 #[cold]
 #[inline(never)]
-fn boxed_rest<L: Look>(
-    group: Group,
-    look: &mut L,
-    alloc: Global,
-    truncated: bool,
-    control: char,
-) -> Boxed
+fn boxed_rest<L: Look>(group: Group, look: &mut L, end: End) -> Boxed
     requires { L.passed look.old ≤ length (L.tokens look.old) }
     ensures ok { IfSome (held result) (λ action.
         action
-        ≡ rest_action group (drop (L.passed look.old) (L.tokens look.old)) truncated control) }
+        ≡ rest_action group (drop (L.passed look.old) (L.tokens look.old)) end.truncated end.control) }
     ensures all { IfSome (held result) (λ _. L.passed look.new ≡ length (L.tokens look.new)) }
     ensures list { L.tokens look.new ≡ L.tokens look.old }
     ensures within { L.passed look.new ≤ length (L.tokens look.new) }
@@ -274,7 +251,7 @@ fn boxed_rest<L: Look>(
     ensures costs { L.looks look.new + 10 * L.passed look.old
         ≤ L.looks look.old + 10 * length (L.tokens look.old) }
 {
-    match left_action(group, look, alloc, truncated, control) {
+    match left_action(group, look, end) {
         Ok(CSI::Device(device)) => Boxed::Device(device),
         Ok(CSI::Window(window)) => Boxed::Window(window),
         Ok(CSI::Unspecified(unspecified)) => Boxed::Unspecified(unspecified),
@@ -285,17 +262,11 @@ fn boxed_rest<L: Look>(
 
 /// The same, where what takes memory is out of the caller's way.
 #[inline(always)]
-fn rest_action<L: Look>(
-    group: Group,
-    look: &mut L,
-    alloc: Global,
-    truncated: bool,
-    control: char,
-) -> Result<CSI, AllocError>
+fn rest_action<L: Look>(group: Group, look: &mut L, end: End) -> Result<CSI, AllocError>
     requires { L.passed look.old ≤ length (L.tokens look.old) }
     ensures ok { IfOk result (λ action.
         action_of action
-        ≡ rest_action group (drop (L.passed look.old) (L.tokens look.old)) truncated control) }
+        ≡ rest_action group (drop (L.passed look.old) (L.tokens look.old)) end.truncated end.control) }
     ensures all { OnOk result (L.passed look.new ≡ length (L.tokens look.new)) }
     ensures list { L.tokens look.new ≡ L.tokens look.old }
     ensures within { L.passed look.new ≤ length (L.tokens look.new) }
@@ -303,7 +274,7 @@ fn rest_action<L: Look>(
     ensures costs { L.looks look.new + 10 * L.passed look.old
         ≤ L.looks look.old + 10 * length (L.tokens look.old) }
 {
-    match boxed_rest(group, look, alloc, truncated, control) {
+    match boxed_rest(group, look, end) {
         Boxed::Device(device) => Ok(CSI::Device(device)),
         Boxed::Window(window) => Ok(CSI::Window(window)),
         Boxed::Unspecified(unspecified) => Ok(CSI::Unspecified(unspecified)),
@@ -353,65 +324,6 @@ pub(crate) fn whole_list<L: Look>(look: &mut L, control: char) -> Option<CSI>
     Some(action)
 }
 
-/// The first action of a list, where a rule reads it. Where none does, what is unread is unknown, with what stands
-/// before the pieces ahead of it.
-#[inline(always)]
-fn first_action<L: Look>(group: Group, look: &mut L, control: char) -> Option<CSI>
-    requires passed { L.passed look.old ≡ 0 }
-    requires group { group ≡ group_of_list (L.tokens look.old) control }
-    ensures some { IfSome result (λ action.
-        BeginsAs group (L.tokens look.old) control (L.passed look.new) (action_of action)) }
-    ensures none { IfNone result
-        (IsRestAlone group (L.tokens look.old) control (L.passed look.new)) }
-    ensures list { L.tokens look.new ≡ L.tokens look.old }
-    ensures cut { IfSome result (λ _. L.passed look.new < length (L.tokens look.new) →
-        CutsOn group (L.tokens look.old) (start group) (L.passed look.new)) }
-    ensures within { L.passed look.new ≤ length (L.tokens look.new) }
-    ensures counted { L.looks look.old ≤ L.looks look.new }
-    ensures going { IfSome result
-        (λ _. L.looks look.new
-        ≤ L.looks look.old + length (L.tokens look.old) + 115 * L.passed look.new) }
-    ensures left { IfNone result
-        (PaysRest 116 (length (L.tokens look.old)) (L.passed look.new) (L.looks look.old)
-        (L.looks look.new)) }
-{
-    match group {
-        Group::Whole => whole_list(look, control),
-        _ if has_odd(group, look) => None,
-        _ => body_action(group, look),
-    }
-}
-
-/// The first action of what is cut of a list without an odd byte.
-#[inline(always)]
-fn body_action<L: Look>(group: Group, look: &mut L) -> Option<CSI>
-    requires passed { L.passed look.old ≡ 0 }
-    requires start { start group ≤ length (L.tokens look.old) }
-    requires cut { group ≡ Group.Whole → ⊥ }
-    ensures some { IfSome result (λ action.
-        BodyBeginsAs group (L.tokens look.old) (L.passed look.new) (action_of action)) }
-    ensures none { IfNone result (BodyIsRestAlone group (L.tokens look.old) (L.passed look.new)) }
-    ensures list { L.tokens look.new ≡ L.tokens look.old }
-    ensures cut { IfSome result (λ _. L.passed look.new < length (L.tokens look.new) →
-        CutsOn group (L.tokens look.old) (start group) (L.passed look.new)) }
-    ensures within { L.passed look.new ≤ length (L.tokens look.new) }
-    ensures counted { L.looks look.old ≤ L.looks look.new }
-    ensures going { IfSome result (λ _.
-        L.looks look.new ≤ L.looks look.old + 115 * L.passed look.new) }
-    ensures left { IfNone result
-        (PaysRest 115 (length (L.tokens look.old)) (L.passed look.new) (L.looks look.old)
-        (L.looks look.new)) }
-{
-    look.pass(group.start());
-    if look.len() > 0 {
-        return cut_block(group, look);
-    }
-    match group {
-        Group::Styles => Some(CSI::Sgr(Sgr::Reset)),
-        _ => None,
-    }
-}
-
 /// The group that the next action is read by, if one is left.
 #[inline(always)]
 fn group_at<L: Look>(stage: Stage, look: &mut L, control: char) -> Option<Group>
@@ -433,117 +345,84 @@ fn group_at<L: Look>(stage: Stage, look: &mut L, control: char) -> Option<Group>
     }
 }
 
-/// The next action, where a rule reads it. Where none does, what is unread is unknown, with what stands before the
-/// pieces ahead of it.
-#[inline(always)]
-fn action_at<L: Look>(stage: Stage, group: Group, look: &mut L, control: char) -> Option<CSI>
-    requires fresh { stage ≡ Stage.Fresh → L.passed look.old ≡ 0 }
-    requires can { CanGo stage (L.passed look.old) (length (L.tokens look.old)) }
-    requires group { GoesBy stage (L.tokens look.old) control group }
-    ensures some { IfSome result (λ action.
-        LeftBeginsAs stage group (L.tokens look.old) control (L.passed look.old) (L.passed look.new) (action_of action)) }
-    ensures none { IfNone result
-        (LeftIsRestAlone stage group (L.tokens look.old) control (L.passed look.old)
-        (L.passed look.new)) }
-    ensures list { L.tokens look.new ≡ L.tokens look.old }
-    ensures cut { IfSome result (λ _. L.passed look.new < length (L.tokens look.new) →
-        CutsOn group (L.tokens look.old) (from_at stage group (L.passed look.old)) (L.passed look.new)) }
-    ensures forward { IfSome result (λ _. L.passed look.old < length (L.tokens look.old)
-        → L.passed look.old < L.passed look.new) }
-    ensures within { L.passed look.new ≤ length (L.tokens look.new) }
-    ensures counted { L.looks look.old ≤ L.looks look.new }
-    ensures going { IfSome result (λ _.
-        PaysBlock (fresh_cost stage) (length (L.tokens look.old)) (L.passed look.old) (L.passed look.new) (L.looks look.old) (L.looks look.new)) }
-    ensures left { IfNone result (
-        PaysAll (fresh_cost stage) (length (L.tokens look.old)) (L.passed look.old) (L.passed look.new) (L.looks look.old) (L.looks look.new)) }
-{
-    match stage {
-        Stage::Fresh => first_action(group, look, control),
-        _ => cut_block(group, look),
-    }
-}
-
-/// Whether a byte makes the whole list unknown. It is looked for once, where nothing was read.
+/// Whether a byte makes the whole list unknown. It is looked for once, where nothing was read, and without one what stands
+/// before the pieces is passed.
 #[inline(always)]
 fn begins_odd<L: Look>(stage: Stage, group: Group, look: &mut L) -> bool
     requires fresh { stage ≡ Stage.Fresh → L.passed look.old ≡ 0 }
-    ensures odd { result ≡ true
-        → (stage ≡ Stage.Fresh) × (has_odd group (L.tokens look.old) ≡ true) }
-    ensures plain { result ≡ false → stage ≡ Stage.Fresh
-        → has_odd group (L.tokens look.old) ≡ false }
+    requires start { stage ≡ Stage.Fresh → start group ≤ length (L.tokens look.old) }
+    ensures odd { result ≡ true → (stage ≡ Stage.Fresh)
+        × (has_odd group (L.tokens look.old) ≡ true) × (L.passed look.new ≡ L.passed look.old) }
+    ensures plain { result ≡ false
+        → (stage ≡ Stage.Fresh → has_odd group (L.tokens look.old) ≡ false)
+        × (L.passed look.new ≡ from_at stage group (L.passed look.old)) }
     ensures list { L.tokens look.new ≡ L.tokens look.old }
-    ensures passes { L.passed look.new ≡ L.passed look.old }
+    ensures forward { L.passed look.old ≤ L.passed look.new }
     ensures counted { L.looks look.old ≤ L.looks look.new }
-    ensures costs { L.looks look.new
-        ≤ L.looks look.old + fresh_cost stage * length (L.tokens look.old) }
+    ensures costs { L.looks look.new + L.passed look.old
+        ≤ L.looks look.old + fresh_cost stage * length (L.tokens look.old) + L.passed look.new }
 {
     match stage {
-        Stage::Fresh => has_odd(group, look),
+        Stage::Fresh => {
+            if has_odd(group, look) {
+                return true;
+            }
+            look.pass(group.start());
+            false
+        }
         Stage::Going(_) | Stage::Failed => false,
     }
 }
 
-/// The next attribute, where a rule reads it. It is one body for the first and for all others, so that it is compiled for
-/// attributes alone, and once.
+/// The next action of a list that is cut, where a rule reads it. It is one body for the first and for all others.
 #[inline(always)]
-fn style_action<L: Look>(stage: Stage, look: &mut L, control: char) -> Option<CSI>
+fn cut_action<L: Look>(stage: Stage, group: Group, look: &mut L, control: char) -> Option<CSI>
     requires fresh { stage ≡ Stage.Fresh → L.passed look.old ≡ 0 }
     requires can { CanGo stage (L.passed look.old) (length (L.tokens look.old)) }
-    requires group { GoesBy stage (L.tokens look.old) control Styles }
+    requires group { GoesBy stage (L.tokens look.old) control group }
+    requires cut { group ≡ Group.Whole → ⊥ }
     ensures some { IfSome result (λ action.
-        LeftBeginsAs stage Styles (L.tokens look.old) control (L.passed look.old) (L.passed look.new) (action_of action)) }
-    ensures none { IfNone result
-        (LeftIsRestAlone stage Styles (L.tokens look.old) control (L.passed look.old)
-        (L.passed look.new)) }
+        Acts stage group (L.tokens look.old) control (L.passed look.old) (L.passed look.new) (L.looks look.old) (L.looks look.new) (action_of action)) }
+    ensures none { IfNone result (
+        Leaves stage group (L.tokens look.old) control (L.passed look.old) (L.passed look.new) (L.looks look.old) (L.looks look.new)) }
     ensures list { L.tokens look.new ≡ L.tokens look.old }
-    ensures cut { IfSome result (λ _. L.passed look.new < length (L.tokens look.new) →
-        CutsOn Styles (L.tokens look.old) (from_at stage Styles (L.passed look.old)) (L.passed look.new)) }
-    ensures forward { IfSome result (λ _. L.passed look.old < length (L.tokens look.old)
-        → L.passed look.old < L.passed look.new) }
     ensures within { L.passed look.new ≤ length (L.tokens look.new) }
     ensures counted { L.looks look.old ≤ L.looks look.new }
-    ensures going { IfSome result (λ _.
-        PaysBlock (fresh_cost stage) (length (L.tokens look.old)) (L.passed look.old) (L.passed look.new) (L.looks look.old) (L.looks look.new)) }
-    ensures left { IfNone result (
-        PaysAll (fresh_cost stage) (length (L.tokens look.old)) (L.passed look.old) (L.passed look.new) (L.looks look.old) (L.looks look.new)) }
 {
-    if begins_odd(stage, Group::Styles, look) {
+    if begins_odd(stage, group, look) {
         return None;
     }
     if look.len() == 0 {
-        return Some(CSI::Sgr(Sgr::Reset));
+        return match group {
+            Group::Styles => Some(CSI::Sgr(Sgr::Reset)),
+            _ => None,
+        };
     }
-    cut_block(Group::Styles, look)
+    cut_block(group, look)
 }
 
-/// The next action, by a body of its own for attributes.
+/// The next action, where a rule reads it. Where none does, what is unread is unknown, with what stands before the
+/// pieces ahead of it. Attributes have an arm of their own, so that the body is compiled for them alone.
 #[inline(always)]
 fn next_action<L: Look>(stage: Stage, group: Group, look: &mut L, control: char) -> Option<CSI>
     requires fresh { stage ≡ Stage.Fresh → L.passed look.old ≡ 0 }
     requires can { CanGo stage (L.passed look.old) (length (L.tokens look.old)) }
     requires group { GoesBy stage (L.tokens look.old) control group }
     ensures some { IfSome result (λ action.
-        LeftBeginsAs stage group (L.tokens look.old) control (L.passed look.old) (L.passed look.new) (action_of action)) }
-    ensures none { IfNone result
-        (LeftIsRestAlone stage group (L.tokens look.old) control (L.passed look.old)
-        (L.passed look.new)) }
+        Acts stage group (L.tokens look.old) control (L.passed look.old) (L.passed look.new) (L.looks look.old) (L.looks look.new) (action_of action)) }
+    ensures none { IfNone result (
+        Leaves stage group (L.tokens look.old) control (L.passed look.old) (L.passed look.new) (L.looks look.old) (L.looks look.new)) }
     ensures list { L.tokens look.new ≡ L.tokens look.old }
-    ensures cut { IfSome result (λ _. L.passed look.new < length (L.tokens look.new) →
-        CutsOn group (L.tokens look.old) (from_at stage group (L.passed look.old)) (L.passed look.new)) }
-    ensures forward { IfSome result (λ _. L.passed look.old < length (L.tokens look.old)
-        → L.passed look.old < L.passed look.new) }
     ensures within { L.passed look.new ≤ length (L.tokens look.new) }
     ensures counted { L.looks look.old ≤ L.looks look.new }
-    ensures going { IfSome result (λ _.
-        PaysBlock (fresh_cost stage) (length (L.tokens look.old)) (L.passed look.old) (L.passed look.new) (L.looks look.old) (L.looks look.new)) }
-    ensures left { IfNone result (
-        PaysAll (fresh_cost stage) (length (L.tokens look.old)) (L.passed look.old) (L.passed look.new) (L.looks look.old) (L.looks look.new)) }
 {
     match group {
-        Group::Styles => style_action(stage, look, control),
-        Group::Whole | Group::Modes(_) | Group::DecModes(_) => {
-            action_at(stage, group, look, control)
-        }
+        Group::Styles => cut_action(stage, Group::Styles, look, control),
+        Group::Whole => match stage {
+            Stage::Fresh => whole_list(look, control),
+            _ => None,
+        },
+        _ => cut_action(stage, group, look, control),
     }
 }
 
@@ -562,10 +441,12 @@ impl<L: Look> Run<L> {
         ensures { result ≡ begun (L.tokens tokens) parameters_truncated control }
     {
         Run {
-            alloc,
             look: tokens,
-            truncated: parameters_truncated,
-            control,
+            end: End {
+                alloc,
+                truncated: parameters_truncated,
+                control,
+            },
             given: Count::new(),
             stage: Stage::Fresh,
         }
@@ -594,22 +475,16 @@ impl<L: Look> Iterator for Run<L> {
 
     #[inline(always)]
     fn next(&mut self) -> Option<Result<CSI, AllocError>> {
-        let Some(group) = group_at(self.stage, &mut self.look, self.control) else {
+        let Some(group) = group_at(self.stage, &mut self.look, self.end.control) else {
             return None;
         };
-        match next_action(self.stage, group, &mut self.look, self.control) {
+        match next_action(self.stage, group, &mut self.look, self.end.control) {
             Some(action) => {
                 self.stage = Stage::Going(group);
                 self.given.charge(1, 1);
                 Some(Ok(action))
             }
-            None => match rest_action(
-                group,
-                &mut self.look,
-                self.alloc,
-                self.truncated,
-                self.control,
-            ) {
+            None => match rest_action(group, &mut self.look, self.end) {
                 Ok(action) => {
                     self.stage = Stage::Going(group);
                     self.given.charge(1, 1);
@@ -695,10 +570,10 @@ impl<'a> Run<Tokens<'a>> {
         ensures next { NextsRef self.old result self.new }
         ensures fewer { IfSome result (λ _. most_left self.new < most_left self.old) }
     {
-        let Some(group) = group_at(self.stage, &mut self.look, self.control) else {
+        let Some(group) = group_at(self.stage, &mut self.look, self.end.control) else {
             return None;
         };
-        match action_at(self.stage, group, &mut self.look, self.control) {
+        match next_action(self.stage, group, &mut self.look, self.end.control) {
             Some(action) => {
                 self.stage = Stage::Going(group);
                 self.given.charge(1, 1);

@@ -102,9 +102,7 @@ impl Sink for Vec<CSI> {
             parameters_truncated: truncated,
             control,
         };
-        let boxed = Box::new(alloc, unspecified)?;
-        self.push(CSI::Unspecified(boxed))?;
-        Ok(())
+        self.take(CSI::from_unspecified(alloc, unspecified)?)
     }
 }
 
@@ -238,17 +236,6 @@ fn append_style(out: &mut TextBuffer, sgr: &Sgr) -> Result<(), AllocError>
     out.push_text(&text)
 }
 
-/// Appends the tokens' texts, and then the final character.
-#[cold]
-pub(crate) fn append_unspecified(
-    out: &mut TextBuffer,
-    unspecified: &Unspecified,
-) -> Result<(), AllocError>
-    ensures { OnOk result (out.new ≡ out.old ++ unspecified_text unspecified.now) }
-{
-    append_list(out, unspecified.params.as_slice(), unspecified.control)
-}
-
 /// Appends the text of an unknown action, of the tokens with what stands before the pieces of the group ahead of them.
 fn append_unknown(
     out: &mut TextBuffer,
@@ -266,7 +253,13 @@ fn append_unknown(
     append_list(out, rest, control)
 }
 
-fn append_list(out: &mut TextBuffer, params: &[CsiParam], control: char) -> Result<(), AllocError>
+/// Appends the tokens' texts, and then the final character.
+#[cold]
+pub(crate) fn append_list(
+    out: &mut TextBuffer,
+    params: &[CsiParam],
+    control: char,
+) -> Result<(), AllocError>
     ensures { OnOk result (out.new ≡ out.old ++ (spells params.now ++ encode_utf8 control)) }
 {
     for param in params {

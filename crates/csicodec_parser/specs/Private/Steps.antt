@@ -150,51 +150,20 @@ CutsOn g list from to =
 
 -- ---- what a step of a run says: of the list, how many tokens are passed before it and after it, and the looks before and after
 
--- the actions of the list are this one, and those of what is unread
-abbrev pub BeginsAs : Group → List CsiParam → ℕ → ℕ → Action → Type 0
-BeginsAs g list final passed x =
-    (flag : Bool) → actions_in g list flag final ≡ x ∷ actions_after g flag final (drop passed list)
+-- by the group g it gives this action
+pub record Acts (stage : Stage) (g : Group) (list : List CsiParam)
+    (final from to before after : ℕ) (x : Action) : Type 0 where
+  pub told : (flag : Bool) → left_at stage flag final list from ≡ x ∷ left_at (Going g) flag final list to
+  pub cut : to < length list → CutsOn g list (from_at stage g from) to
+  pub forward : from < length list → from < to
+  pub pays : after + 115 * from + fresh_cost stage ≤ before + (1 + length list) * fresh_cost stage + 115 * to
 
--- they are one, that of what is unread
-abbrev pub IsRestAlone : Group → List CsiParam → ℕ → ℕ → Type 0
-IsRestAlone g list final passed =
-    (flag : Bool) → actions_in g list flag final ≡ rest_action g (drop passed list) flag final ∷ []
-
--- the same of what is cut of the list
-abbrev pub BodyBeginsAs : Group → List CsiParam → ℕ → Action → Type 0
-BodyBeginsAs g list passed x =
-    (flag : Bool) (final : ℕ)
-    → body_actions g (marked g (drop (start g) list)) flag final (drop (start g) list)
-    ≡ x ∷ actions_after g flag final (drop passed list)
-
-abbrev pub BodyIsRestAlone : Group → List CsiParam → ℕ → Type 0
-BodyIsRestAlone g list passed =
-    (flag : Bool) (final : ℕ)
-    → body_actions g (marked g (drop (start g) list)) flag final (drop (start g) list)
-    ≡ rest_action g (drop passed list) flag final ∷ []
-
--- the same of what is left at a stage
-abbrev pub LeftBeginsAs : Stage → Group → List CsiParam → ℕ → ℕ → ℕ → Action → Type 0
-LeftBeginsAs stage g list final from to x =
-    (flag : Bool) → left_at stage flag final list from ≡ x ∷ left_at (Going g) flag final list to
-
-abbrev pub LeftIsRestAlone : Stage → Group → List CsiParam → ℕ → ℕ → ℕ → Type 0
-LeftIsRestAlone stage g list final from to = (flag : Bool)
-    → left_at stage flag final list from ≡ rest_action g (drop to list) flag final ∷ []
-
--- the looks of a first call, where what is unread is one action, for which 10 a token are kept
-abbrev pub PaysRest : (share len passed before after : ℕ) → Type 0
-PaysRest share len passed before after = after + 10 * len ≤ before + share * len + 10 * passed
-
--- the looks of any call that passes a block
-abbrev pub PaysBlock : (fresh len from to before after : ℕ) → Type 0
-PaysBlock fresh len from to before after =
-    after + 115 * from + fresh ≤ before + (1 + len) * fresh + 115 * to
-
--- and of one where what is unread is one action
-abbrev pub PaysAll : (fresh len from to before after : ℕ) → Type 0
-PaysAll fresh len from to before after =
-    after + 115 * from + 10 * len + fresh ≤ before + (1 + len) * fresh + 115 * len + 10 * to
+-- none of the rules reads what is unread, so that it is one action, for which 10 looks a token are kept
+pub record Leaves (stage : Stage) (g : Group) (list : List CsiParam)
+    (final from to before after : ℕ) : Type 0 where
+  pub told : (flag : Bool) → left_at stage flag final list from ≡ rest_action g (drop to list) flag final ∷ []
+  pub pays : after + 115 * from + 10 * length list + fresh_cost stage
+      ≤ before + (1 + length list) * fresh_cost stage + 115 * length list + 10 * to
 
 -- all actions of the run's list
 abbrev pub all_of : Progress → List Action

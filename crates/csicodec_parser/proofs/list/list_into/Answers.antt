@@ -1,5 +1,5 @@
 use Rattle.std.proofs.Common.{◌∙◌, rules, sym}
-use Rattle.csicodec_parser.proofs.Taken.{all_taken, rest_actions}
+use Rattle.csicodec_parser.proofs.{Blocks.rest_actions, Taken.all_taken}
 use Rattle.csicodec_parser.proofs.list.list_into.Goals as goal
 
 pub returns-in-Some-clause-taken : goal.returns-in-Some-clause-taken

@@ -5,8 +5,8 @@ use Rattle.std.proofs.lemmas.Option.{same_Some}
 use Rattle.csicodec_tokens.specs.{declared.param.CsiParam.CsiParam, declared.param.CsiParam.TheVariants.Integer}
 use Rattle.csicodec_actions.specs.{declared.mode.Change.Change, declared.mode.DecPrivateMode.DecPrivateMode, declared.mode.Switch.Switch}
 use Rattle.csicodec_actions.specs.{declared.mode.TerminalMode.TerminalMode, Modes.changed, Modes.dec_number, Modes.switched, Modes.terminal_number}
-use Rattle.csicodec_actions.specs.{Table.Mode.written_mode, Actions.Action, Actions.Mode, Actions.Unspecified, Table.text, Table.texts, Table.unboxed}
-use Rattle.csicodec_actions.proofs.{Values.dec-numbered, Values.terminal-numbered, Boxed.boxed_whole}
+use Rattle.csicodec_actions.specs.{Table.Mode.written_mode, Actions.Action, Actions.Mode, Actions.Unspecified, Table.text, Table.texts}
+use Rattle.csicodec_actions.proofs.Values.{dec-numbered, terminal-numbered}
 use Rattle.csicodec_parser.specs.Private.Steps.{one_token, front, block_of, with_semicolon, rest_action, actions, actions_in, actions_after, body_actions}
 use Rattle.csicodec_parser.specs.{declared.group.Group.Group, declared.group.Group.TheVariants.Whole, declared.group.Group.TheVariants.Modes}
 use Rattle.csicodec_parser.specs.{declared.group.Group.TheVariants.DecModes, Groups.group, Groups.marked, Groups.has_odd, Cut.body, Segments.Actions}

@@ -1,10 +1,10 @@
 //! All actions of one parameter list, into a sink. They are those of the parser, without an iterator between.
-ghost use Rattle.std.specs.Prelude.{◌≡◌, ◌<◌, ◌≤◌, ◌+◌, ◌*◌, ◌∷◌, [], ◌++◌, ℕ, List, length, drop, slice_get, None, Some, true, false, IfOk, IfSome, OnOk};
+ghost use Rattle.std.specs.Prelude.{◌≡◌, ◌<◌, ◌≤◌, ◌+◌, ◌*◌, ◌∷◌, [], ◌++◌, List, length, drop, None, Some, IfOk, IfSome, OnOk};
 ghost use Rattle.csicodec_actions.specs.Actions.{Action, Unspecified as Unknown};
-ghost use Rattle.csicodec_parser.specs.Groups.{group as group_of_list, has_odd, marked};
+ghost use Rattle.csicodec_parser.specs.Groups.{group as group_of_list, marked};
 ghost use Rattle.csicodec_parser.specs.Segments.{Actions};
 ghost use Rattle.csicodec_parser.specs.declared.group.Group.TheVariants.{Whole};
-ghost use Rattle.csicodec_parser.specs.Private.Steps.{actions, front, rest_action, with_semicolon};
+ghost use Rattle.csicodec_parser.specs.Private.Steps.{actions, front, rest_action};
 
 use crate::actions::{CSI, boxed_action};
 use crate::group::Group;

@@ -3,7 +3,7 @@ ghost use Rattle.std.specs.Prelude.{◌≡◌, ◌<◌, ◌≤◌, Bool, List, [
 ghost use Rattle.std.specs.Fmt.{decimal};
 ghost use Rattle.csicodec_tokens.specs.Param.{spells, token_text};
 ghost use Rattle.csicodec_actions.specs.Actions.{Action, Sgr as Styled, Unspecified as Unknown};
-ghost use Rattle.csicodec_parser.specs.ActionOf.{action_of, unspecified_text};
+ghost use Rattle.csicodec_parser.specs.ActionOf.{action_of};
 ghost use Rattle.csicodec_parser.specs.Cut.{IsStuck};
 ghost use Rattle.csicodec_parser.specs.Groups.{Piece, marked};
 ghost use Rattle.csicodec_parser.specs.declared.group.Group.TheVariants.{Styles};

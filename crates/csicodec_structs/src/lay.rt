@@ -1,12 +1,12 @@
 //! The actions of a list as structs, and their tokens, put into room that a caller lends: as many as there is room for.
-ghost use Rattle.std.specs.Prelude.{◌≡◌, false, List, [], ◌++◌, ◌∷◌, length, unwrap_or, Some, IfOk, IfSome};
+ghost use Rattle.std.specs.Prelude.{◌≡◌, false, List, [], ◌++◌, ◌∷◌, length, unwrap_or, Some, IfSome};
 ghost use Rattle.csicodec_actions.specs.Actions.{Action, Unspecified as Unknown};
 ghost use Rattle.csicodec_actions.specs.Devices.{device_of};
 ghost use Rattle.csicodec_actions.specs.Table.{boxed};
 ghost use Rattle.csicodec_parser.specs.ActionOf.{action_of};
 ghost use Rattle.csicodec_parser.specs.Segments.{Actions};
 ghost use Rattle.csicodec_structs.specs.Next.{Lays};
-ghost use Rattle.csicodec_structs.specs.Private.Fronts.{LaysOne, PutsBehind, headed, large_of, lent};
+ghost use Rattle.csicodec_structs.specs.Private.Fronts.{LaysOne, PutsBehind, headed, lent};
 ghost use Rattle.csicodec_structs.specs.Rows.{device_params, params_of, struct_of};
 ghost use Rattle.csicodec_structs.specs.declared.structs.Param.{Param};
 ghost use Rattle.csicodec_tokens.specs.declared.param.CsiParam.{CsiParam};
@@ -19,10 +19,10 @@ use crate::structs::{Param, Struct, list_row, unknown_row};
 use crate::token::{put_all, put_one};
 use csicodec::CsiParam::{Integer, P};
 use csicodec::laws::segmentation;
-use csicodec::{CSI, CsiParam, Device, DeviceAttributes, Window, XtSmGraphicsItem};
+use csicodec::{CSI, CsiParam, Device, DeviceAttributes, XtSmGraphicsItem};
 use csicodec_actions::{device_action, graphics_ref, window_action};
 use csicodec_parser::ActionRef;
-use std::alloc::{AllocError, Global};
+use std::alloc::Global;
 
 /// How many actions there are, and how many tokens belong to them.
 #[derive(Clone, Copy)]
@@ -195,68 +195,11 @@ fn lay_listed(
     lay_struct(head_struct(head, count.params, len), end, count, actions)
 }
 
-/// The action of a list that is read whole, which takes memory in a `CSI`: that of its row, or an unknown one.
-#[derive(Drop)]
-enum Large<'a> {
-    Device(Device),
-    Window(Window),
-    Listed(Head, &'a [CsiParam]),
-    Unknown(&'a [CsiParam], char),
-}
-
-/// Puts such an action and its tokens behind those that are there.
-fn lay_large(
-    large: &Large<'_>,
-    count: Counts,
-    actions: &mut [Struct],
-    params: &mut [Param],
-) -> Option<Counts>
-    ensures { IfSome result (LaysOne count actions.old actions.new params.old params.new
-        (large_of large.now)) }
-{
-    match large {
-        Large::Device(device) => {
-            let end = put_device(params, count.params, device)?;
-            lay_struct(device_struct(count.params, device), end, count, actions)
-        }
-        Large::Window(window) => lay_struct(window_struct(window), count.params, count, actions),
-        Large::Listed(head, list) => lay_listed(*head, list, count, actions, params),
-        Large::Unknown(list, control) => lay_unknown(&[], list, *control, count, actions, params),
-    }
-}
-
-/// The action of a list that is read whole, made with memory where its row takes it.
-#[tactic(auto, unfolding(csicodec_actions::specs::Table::boxed))]
-fn large_action<'a>(
-    alloc: Global,
-    list: &'a [CsiParam],
-    control: char,
-) -> Result<Large<'a>, AllocError>
-    ensures { IfOk result (λ large.
-        large_of large ≡ unwrap_or (boxed list.now control) (Unknown list.now false control)) }
-{
-    if let Some((class, extensions)) = class_of(list, control) {
-        return Ok(Large::Listed(class, extensions));
-    }
-    if let Some(device) = device_action(alloc, list, control)? {
-        return Ok(Large::Device(device));
-    }
-    if let Some(window) = window_action(list, control) {
-        return Ok(Large::Window(window));
-    }
-    let Some(graphics) = graphics_ref(list, control) else {
-        return Ok(Large::Unknown(list, control));
-    };
-    let head = Head::Graphics {
-        item: graphics.item,
-        action_or_status: graphics.action_or_status,
-    };
-    Ok(Large::Listed(head, graphics.values))
-}
-
-/// Puts the action of a list that is read whole, where none is made that takes no memory. Nothing is answered where memory ran out.
+/// Puts the action of a list that is read whole, where none is made that takes no memory: that of its row, or an unknown one. Nothing
+/// is answered where memory ran out.
 #[cold]
 #[inline(never)]
+#[tactic(auto, unfolding(csicodec_actions::specs::Table::boxed))]
 fn lay_whole(
     alloc: Global,
     list: &[CsiParam],
@@ -268,10 +211,24 @@ fn lay_whole(
     ensures { IfSome result (LaysOne count actions.old actions.new params.old params.new
         (unwrap_or (boxed list.now control) (Unknown list.now false control))) }
 {
-    let Ok(large) = large_action(alloc, list, control) else {
-        return None;
+    if let Some((class, extensions)) = class_of(list, control) {
+        return lay_listed(class, extensions, count, actions, params);
+    }
+    if let Some(device) = device_action(alloc, list, control).ok()? {
+        let end = put_device(params, count.params, &device)?;
+        return lay_struct(device_struct(count.params, &device), end, count, actions);
+    }
+    if let Some(window) = window_action(list, control) {
+        return lay_struct(window_struct(&window), count.params, count, actions);
+    }
+    let Some(graphics) = graphics_ref(list, control) else {
+        return lay_unknown(&[], list, control, count, actions, params);
     };
-    lay_large(&large, count, actions, params)
+    let head = Head::Graphics {
+        item: graphics.item,
+        action_or_status: graphics.action_or_status,
+    };
+    lay_listed(head, graphics.values, count, actions, params)
 }
 
 /// Puts the action whose tokens are lent so, and these tokens.

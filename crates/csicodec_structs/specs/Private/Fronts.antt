@@ -5,7 +5,7 @@ use Rattle.csicodec_tokens.specs.declared.param.CsiParam.TheVariants.{P}
 use Rattle.csicodec_actions.specs.Actions.{Action}
 use Rattle.csicodec_actions.specs.Actions as action
 use Rattle.csicodec_actions.specs.Devices as device
-use Rattle.csicodec_actions.specs.Devices.{device_of, listed_attributes}
+use Rattle.csicodec_actions.specs.Devices.{listed_attributes}
 use Rattle.csicodec_actions.specs.Lent.{integers}
 use Rattle.csicodec_actions.specs.Table.{boxed}
 use Rattle.csicodec_parser.specs.ActionOf.{action_of}
@@ -15,8 +15,6 @@ use Rattle.csicodec_structs.specs.Next.{Lays, refused}
 use Rattle.csicodec_structs.specs.declared.lay.Counts.{Counts}
 use Rattle.csicodec_structs.specs.declared.lay.Head.{Head}
 use Rattle.csicodec_structs.specs.declared.lay.Head.TheVariants as head
-use Rattle.csicodec_structs.specs.declared.lay.Large.{Large}
-use Rattle.csicodec_structs.specs.declared.lay.Large.TheVariants as large
 use Rattle.csicodec_structs.specs.declared.next.NextSequence.{NextSequence}
 use Rattle.csicodec_structs.specs.declared.structs.Param.{Param}
 use Rattle.csicodec_structs.specs.declared.structs.Struct.{Struct}
@@ -49,13 +47,6 @@ headed head.Vt420 list =
     action.Device (device.DeviceAttributes (device.Vt420 (listed_attributes list)))
 headed (head.Graphics item action_or_status) list =
     action.Device (device.XtSmGraphics item action_or_status (integers list))
-
--- the action of a list that is read whole, which takes memory
-abbrev pub large_of : Large → Action
-large_of (large.Device d) = action.Device (device_of d)
-large_of (large.Window w) = action.Window w
-large_of (large.Listed h list) = headed h list.now
-large_of (large.Unknown list final) = action.Unspecified list.now false final
 
 -- the action that lends its tokens so, before this final character
 abbrev pub lent : ActionRef → ℕ → Action

@@ -2,11 +2,8 @@
 ghost use Rattle.std.specs.Prelude.{◌≡◌, ◌⊎◌, ◌↔◌, ◌<◌, List, [], ◌∷◌, drop, take, map, length, true, IfOk, IfErr, IfSome, MatchOption};
 ghost use Rattle.csicodec_parser.specs.ActionOf.{action_of};
 ghost use Rattle.csicodec_structs.specs.Encode.{AllStand, HasNone, IsDone, IsPut, IsRefused, Stands, StandsForNone, refused};
-ghost use Rattle.std.specs.Option.{option_map};
-ghost use Rattle.csicodec_structs.specs.Private.Candidates.{AreTexts, IsExtended, IsGraphics, IsUnknown, Makes};
-ghost use Rattle.csicodec_structs.specs.Named.{IsNamed};
+ghost use Rattle.csicodec_structs.specs.Private.Candidates.{AreTexts, IsExtended, IsGraphics, IsMade, IsUnknown};
 ghost use Rattle.csicodec_structs.specs.Ranges.{InRange};
-ghost use Rattle.csicodec_structs.specs.Rows.{params_of};
 ghost use Rattle.csicodec_structs.specs.declared.structs.Param.{Param};
 
 use crate::candidates::{
@@ -83,11 +80,7 @@ pub fn part(params: &[Param], place: usize, len: usize) -> Option<&[Param]>
 
 /// An unknown action of these tokens.
 fn unknown(alloc: Global, given: &Struct, params: &[Param]) -> Result<Option<CSI>, AllocError>
-    ensures in_range { IfOk result (λ r. IfSome r (λ csi. InRange (action_of csi))) }
-    ensures tokens { IfOk result (λ r. IfSome r (λ csi. params_of (action_of csi) ≡ params.now)) }
-    ensures named { IfOk result (λ r. IfSome r (λ csi. IsNamed (action_of csi))) }
-    ensures finds { IfOk result (λ r.
-        Makes IsUnknown given.now params.now (option_map action_of r)) }
+    ensures { IfOk result (IsMade IsUnknown given.now params.now) }
 {
     let Some(control) = char::from_u32(given.final_char) else {
         return Ok(None);
@@ -105,11 +98,7 @@ fn unknown(alloc: Global, given: &Struct, params: &[Param]) -> Result<Option<CSI
 
 /// The primary device attributes with these extensions.
 fn extended(alloc: Global, given: &Struct, params: &[Param]) -> Result<Option<CSI>, AllocError>
-    ensures in_range { IfOk result (λ r. IfSome r (λ csi. InRange (action_of csi))) }
-    ensures tokens { IfOk result (λ r. IfSome r (λ csi. params_of (action_of csi) ≡ params.now)) }
-    ensures named { IfOk result (λ r. IfSome r (λ csi. IsNamed (action_of csi))) }
-    ensures finds { IfOk result (λ r.
-        Makes IsExtended given.now params.now (option_map action_of r)) }
+    ensures { IfOk result (IsMade IsExtended given.now params.now) }
 {
     let Some(attributes) = tokens(alloc, params)? else {
         return Ok(None);
@@ -126,11 +115,7 @@ fn extended(alloc: Global, given: &Struct, params: &[Param]) -> Result<Option<CS
 
 /// Graphics of these values.
 fn graphics(alloc: Global, given: &Struct, params: &[Param]) -> Result<Option<CSI>, AllocError>
-    ensures in_range { IfOk result (λ r. IfSome r (λ csi. InRange (action_of csi))) }
-    ensures tokens { IfOk result (λ r. IfSome r (λ csi. params_of (action_of csi) ≡ params.now)) }
-    ensures named { IfOk result (λ r. IfSome r (λ csi. IsNamed (action_of csi))) }
-    ensures finds { IfOk result (λ r.
-        Makes IsGraphics given.now params.now (option_map action_of r)) }
+    ensures { IfOk result (IsMade IsGraphics given.now params.now) }
 {
     let Some(value) = tokens(alloc, params)? else {
         return Ok(None);
@@ -146,10 +131,7 @@ fn graphics(alloc: Global, given: &Struct, params: &[Param]) -> Result<Option<CS
 
 /// An action of the struct's kind that has these tokens.
 fn made(alloc: Global, given: &Struct, params: &[Param]) -> Result<Option<CSI>, AllocError>
-    ensures in_range { IfOk result (λ r. IfSome r (λ csi. InRange (action_of csi))) }
-    ensures tokens { IfOk result (λ r. IfSome r (λ csi. params_of (action_of csi) ≡ params.now)) }
-    ensures named { IfOk result (λ r. IfSome r (λ csi. IsNamed (action_of csi))) }
-    ensures finds { IfOk result (λ r. Makes InRange given.now params.now (option_map action_of r)) }
+    ensures { IfOk result (IsMade InRange given.now params.now) }
 {
     match given.kind {
         UNSPECIFIED => unknown(alloc, given, params),

@@ -1,5 +1,5 @@
 -- What is found of a struct.
-use Rattle.std.specs.Prelude.{ℕ, ℤ, ◌≡◌, ◌<◌, Bool, Option, Some, None, MatchOption, pos, negsuc, if◌then◌else◌, List, map}
+use Rattle.std.specs.Prelude.{ℕ, ℤ, ◌≡◌, ◌<◌, Bool, Option, Some, None, IfSome, MatchOption, pos, negsuc, if◌then◌else◌, List, map}
 use Rattle.std.specs.List.{All}
 use Rattle.std.specs.Option.{option_map}
 use Rattle.csicodec_names.specs.Numbered.{is_number}
@@ -14,6 +14,9 @@ use Rattle.csicodec_actions.specs.Table.{texts}
 use Rattle.csicodec_structs.specs.declared.structs.Param.{Param}
 use Rattle.csicodec_structs.specs.declared.structs.Struct.{Struct}
 use Rattle.csicodec_structs.specs.Encode.{AllStand}
+use Rattle.csicodec_parser.specs.ActionOf.{action_of}
+use Rattle.csicodec_parser.specs.declared.actions.CSI.{CSI}
+use Rattle.csicodec_structs.specs.Named.{IsNamed}
 use Rattle.csicodec_structs.specs.Ranges.{InRange}
 use Rattle.csicodec_structs.specs.Rows.{params_of, struct_of}
 use Rattle.csicodec_structs.specs.Values.{AttributeInRange}
@@ -87,6 +90,11 @@ FindsTokens crosses InRange Named params found =
 -- what has this struct and these tokens, if anything in range has
 abbrev pub Makes : (Action → Type 0) → Struct → List Param → Option Action → Type 0
 Makes InRange given params found = (a : Action) → InRange a → given ≡ struct_of given.place a → params_of a ≡ params → MatchOption found ⊥ (λ b. given ≡ struct_of given.place b)
+
+-- what is made of a struct and these tokens: an action in range, by its name, with the tokens, and with the struct if any that fits has both
+abbrev pub IsMade : (Action → Type 0) → Struct → List Param → Option CSI → Type 0
+IsMade Fits given params found = IfSome found (λ csi. InRange (action_of csi) × (params_of (action_of csi) ≡ params) × IsNamed (action_of csi))
+    × Makes Fits given params (option_map action_of found)
 
 abbrev pub IsUnknown : Action → Type 0
 IsUnknown (action.Unspecified params flag final) = InRange (action.Unspecified params flag final)

@@ -76,9 +76,7 @@ fn small(action: ActionRef<'_>) -> Option<CSI>
 {
     match action {
         ActionRef::Small(csi) => Some(csi),
-        ActionRef::Whole(_) => None,
-        ActionRef::Unknown(_) => None,
-        ActionRef::UnknownMode(_) => None,
+        _ => None,
     }
 }
 

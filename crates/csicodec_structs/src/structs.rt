@@ -1,6 +1,6 @@
 //! The structs that cross to C.
 ghost use Rattle.std.specs.Prelude.{◌≡◌};
-ghost use Rattle.csicodec_structs.specs.Structs.{absence, color_row, list_row, number_or_zero, report_row, row, sized_row, unknown_row};
+ghost use Rattle.csicodec_structs.specs.Structs.{color_row, list_row, report_row, row, sized_row, unknown_row};
 
 use crate::numbers::button_number;
 use bitflags::Flags;
@@ -125,33 +125,13 @@ pub(crate) fn color_row(kind: u32, color: &ColorSpec) -> Struct
     }
 }
 
-fn number_or_zero(number: Option<i64>) -> i64
-    ensures { result ≡ number_or_zero number }
-{
-    match number {
-        None => 0,
-        Some(number) => number,
-    }
-}
-
-fn absence(first: Option<i64>, second: Option<i64>) -> u8
-    ensures { result ≡ absence first second }
-{
-    match (first, second) {
-        (Some(_), Some(_)) => 0,
-        (None, Some(_)) => 1,
-        (Some(_), None) => 2,
-        (None, None) => 3,
-    }
-}
-
 /// Two numbers that may be absent.
 pub(crate) fn sized_row(kind: u32, first: Option<i64>, second: Option<i64>) -> Struct
     ensures { result ≡ sized_row kind first second }
 {
     Struct {
-        absent: absence(first, second),
-        ..row(kind, number_or_zero(first), number_or_zero(second))
+        absent: u8::from(first.is_none()) + 2 * u8::from(second.is_none()),
+        ..row(kind, first.unwrap_or(0), second.unwrap_or(0))
     }
 }
 

@@ -104,16 +104,9 @@ canonical-kept (action.Cursor (cursor.SetTopAndBottomMargins a b)) range h = (ma
 canonical-kept (action.Cursor (cursor.SetLeftAndRightMargins a b)) range h = (margins Count a b (a == 1 && b == most) refl (λ e. let g = rw e at h.0 in (g.0, g.1.0)), tt)
 canonical-kept (action.Cursor (cursor.Up n)) range h = (h.0.0.fits, tt)
 canonical-kept (action.Cursor c) range h = (search rules, tt)
-canonical-kept (action.Edit (edit.Repeat n)) range h = (search rules, tt)
 canonical-kept (action.Edit e) range h = (search rules, tt)
 canonical-kept (action.Mode (mode.SetDecPrivateMode m)) range h = dec-kept m h.0.0
-canonical-kept (action.Mode (mode.ResetDecPrivateMode m)) range h = dec-kept m h.0.0
-canonical-kept (action.Mode (mode.SaveDecPrivateMode m)) range h = dec-kept m h.0.0
-canonical-kept (action.Mode (mode.RestoreDecPrivateMode m)) range h = dec-kept m h.0.0
-canonical-kept (action.Mode (mode.QueryDecPrivateMode m)) range h = dec-kept m h.0.0
-canonical-kept (action.Mode (mode.SetMode m)) range h = terminal-kept m h.0.0
-canonical-kept (action.Mode (mode.ResetMode m)) range h = terminal-kept m h.0.0
-canonical-kept (action.Mode (mode.QueryMode m)) range h = terminal-kept m h.0.0
+canonical-kept (action.Mode m) range h = search (rules, dec-kept, terminal-kept)
 canonical-kept (action.Mouse (mouse.SGR1006 x y b m)) range h = (words b m x y h.0, tt)
 canonical-kept (action.Mouse (mouse.SGR1016 x y b m)) range h = (words b m x y h.0, tt)
 canonical-kept (action.Device (device.DeviceAttributes (device.Vt220 list))) range h = attributes-kept list h.0.1
@@ -125,9 +118,7 @@ canonical-kept (action.Window (window.ChecksumRectangularArea request page top l
   tt,
 )
 canonical-kept (action.Keyboard (keyboard.SetKittyState flags way)) range h = (omega (arith, h.0.0), tt)
-canonical-kept (action.Keyboard (keyboard.PushKittyState flags way)) range h = (omega (arith, h.0.0), tt)
-canonical-kept (action.Keyboard (keyboard.PopKittyState n)) range h = (h.0.0, tt)
-canonical-kept (action.Keyboard (keyboard.ReportKittyState flags)) range h = (omega (arith, h.0.0), tt)
+canonical-kept (action.Keyboard k) range h = (search (rules, arith), tt)
 canonical-kept (action.Unspecified params flag final) range h = ((All-from_recursion TokenInRange params (tokens-range params h.spellable), low_scalar final (omega (arith, h.ends.1))), h.same_flag)
 canonical-kept other range h = (tt, tt)
 

@@ -39,9 +39,7 @@ sole_of list final r new some are nexts ended =
 pub sole : (list : List CsiParam) (final : ℕ) (old new : Progress) (answer : Option ActionRef) (csi : CSI) (some : List Action) → old ≡ begun list false final → Actions list false final some
     → NextsRef old answer new → answer ≡ Some (Small csi) → HasEnded new → Actions list false final (action_of csi ∷ [])
 sole list final old new answer csi some fresh are nexts is ended =
-    let steps : NextsRef (begun list false final) (Some (Small csi)) new =
-    subst (λ (p : Progress). NextsRef p (Some (Small csi)) new) fresh (subst (λ (x : Option ActionRef). NextsRef old x new) is nexts) in
-    let (a, lent, alone) = sole_of list final (Small csi) new some are steps ended in
+    let (a, lent, alone) = sole_of list final (Small csi) new some are (rw (fresh, is) at nexts) ended in
     subst (λ (x : Action). Actions list false final (x ∷ [])) lent alone
 
 -- the normal form of one sequence with one action

@@ -11,9 +11,6 @@ pub loop-action-preserved : goal.loop-action-preserved
 loop-action-preserved c =
     let i = c.loop-action.action-index in
     let all = c.args.all.now in
-    let front = map action_of (take i all) in
-    let x = action_of c.action-item.result in
     let taken : take (i + 1) all ≡ take i all ++ c.action-item.result ∷ [] = search (rules, take_more) in
-    let more : map action_of (take (i + 1) all) ≡ front ++ x ∷ [] =
-    ap (map action_of) taken ∙ map-append action_of (take i all) (c.action-item.result ∷ []) in
-    rw more (c.in_ok-count.ensures c.args.actions.now c.args.params.now front c.loop-action.invariant)
+    rw (taken, map-append action_of (take i all) (c.action-item.result ∷ []))
+    (c.in_ok-count.ensures c.args.actions.now c.args.params.now (map action_of (take i all)) c.loop-action.invariant)

@@ -1,9 +1,8 @@
 -- The table of what numbers set alone, against the attribute of each code.
 use Rattle.std.specs.Prelude.{pos, is_some}
-use Rattle.std.proofs.Common.{◌≡◌, ◌≢◌, ◌+◌, ◌==◌, ◌&&◌, ◌||◌, ℕ, zero, suc, Bool, true, false, List, [], ◌∷◌, Option, Some, None, get_or, refl, ◌∙◌, arith}
+use Rattle.std.proofs.Common.{◌≡◌, ◌≢◌, ◌+◌, ◌==◌, ◌&&◌, ◌||◌, ℕ, zero, suc, Bool, true, false, List, [], ◌∷◌, Option, Some, None, get_or, refl, arith}
 use Rattle.std.proofs.lemmas.Bool.{and_parts, eqb-true}
-use Rattle.csicodec_tokens.specs.declared.param.CsiParam.{CsiParam}
-use Rattle.csicodec_tokens.specs.declared.param.CsiParam.TheVariants.{Integer, P}
+use Rattle.csicodec_tokens.specs.declared.param.CsiParam.TheVariants.{Integer}
 use Rattle.csicodec_names.specs.Numbered.{with_number}
 use Rattle.csicodec_names.specs.Numbers.{all_codes, number_of}
 use Rattle.csicodec_names.specs.declared.codes.SgrCode.{SgrCode}
@@ -19,7 +18,7 @@ use Rattle.csicodec_structs.specs.Structs.{row}
 use Rattle.csicodec_c.specs.declared.by_number.StyleRow.{StyleRow}
 use Rattle.csicodec_c.specs.declared.attributes.AttributeParts.{AttributeParts}
 use Rattle.csicodec_c.specs.declared.by_number.TheConstants.{STYLES}
-use Rattle.csicodec_c.specs.Private.Short.{Ends, SetsAlone, nothing, plain, style_struct}
+use Rattle.csicodec_c.specs.Private.Short.{SetsAlone, nothing, plain}
 
 -- ---- by its code
 
@@ -28,40 +27,19 @@ abbrev set_by : SgrCode → Option Sgr
 set_by code.UnderlineOn = Some (sgr.Underline underline.Single)
 set_by c = action_of c
 
--- the row at the place of a code; of kind 0 where it sets nothing
-abbrev HasRow : SgrCode → Option Sgr → Type 0
-HasRow c None = (get_or STYLES (number_of c) nothing).0 ≡ 0
-HasRow c (Some s) =
+-- the row at the place of a code, and that the code alone is read so; of kind 0 where it sets nothing
+abbrev Sets : SgrCode → Option Sgr → Type 0
+Sets c None = (get_or STYLES (number_of c) nothing).0 ≡ 0
+Sets c (Some s) =
     let r = get_or STYLES (number_of c) nothing in
-    row r.0 (pos r.1) (pos r.2) ≡ sgr_struct s
+    (piece (Integer (pos (number_of c)) ∷ []) ≡ Some (s, 1)) × (row r.0 (pos r.1) (pos r.2) ≡ sgr_struct s)
 
-has_row : (c : SgrCode) → HasRow c (set_by c)
-has_row code.Reset = refl
-has_row _ = refl
-
-abbrev Sets : SgrCode → List CsiParam → Option Sgr → Type 0
-Sets c more None = Unit {0}
-Sets c more (Some s) = piece (Integer (pos (number_of c)) ∷ more) ≡ Some (s, 1)
-
-sets_last : (c : SgrCode) → Sets c [] (set_by c)
+sets : (c : SgrCode) → Sets c (set_by c)
 unfolding piece
-sets_last code.Reset = refl
-sets_last code.ForegroundColor = tt
-sets_last code.BackgroundColor = tt
-sets_last code.UnderlineColor = tt
-sets_last _ = refl
-
-sets_ended : (c : SgrCode) (more : List CsiParam) → Sets c (P 59 ∷ more) (set_by c)
-unfolding piece
-sets_ended code.Reset more = refl
-sets_ended code.ForegroundColor more = tt
-sets_ended code.BackgroundColor more = tt
-sets_ended code.UnderlineColor more = tt
-sets_ended _ more = refl
-
-sets : (c : SgrCode) (more : List CsiParam) → Ends more → Sets c more (set_by c)
-sets c [] end = sets_last c
-sets c (t ∷ more) end = rw end (sets_ended c more)
+sets code.ForegroundColor = refl
+sets code.BackgroundColor = refl
+sets code.UnderlineColor = refl
+sets _ = (refl, refl)
 
 -- ---- by its number
 
@@ -90,22 +68,21 @@ coded_at n (suc k) (r ∷ rows) e some =
     let same : n + suc k ≡ n + 1 + k = omega arith in
     rw same (coded_at (n + 1) k rows (and_parts _ (coded (n + 1) rows) e).1 some)
 
-by_code : (c : SgrCode) (n : ℕ) (o : Option Sgr) → set_by c ≡ o → n ≡ number_of c → (get_or STYLES n nothing).0 ≢ 0 → (style : AttributeParts)
-    → style_struct style ≡ row (get_or STYLES n nothing).0 (pos (get_or STYLES n nothing).1) (pos (get_or STYLES n nothing).2) → SetsAlone n style
-by_code c n None e is some style made = absurd (some (rw is (rw e at (has_row c))))
-by_code c n (Some s) e is some style made = (s, λ more end. rw is (rw e at (sets c more end)), made ∙ rw is (rw e at (has_row c)))
+-- the attribute of the row at a place
+abbrev alone : ℕ → AttributeParts
+alone n = let r = get_or STYLES n nothing in plain r.0 r.1 r.2
 
-by_number : (n : ℕ) (o : Option SgrCode) → with_number number_of all_codes (pos n) ≡ o → is_some o ≡ true → (get_or STYLES n nothing).0 ≢ 0 → (style : AttributeParts)
-    → style_struct style ≡ row (get_or STYLES n nothing).0 (pos (get_or STYLES n nothing).1) (pos (get_or STYLES n nothing).2) → SetsAlone n style
-by_number n None e is some style made = cc
-by_number n (Some c) e is some style made = by_code c n (set_by c) refl (number_is n c (listed-number number_of all_codes (pos n) c e)) some style made
-  where
-    number_is : (n : ℕ) (c : SgrCode) → pos n ≡ pos (number_of c) → n ≡ number_of c
-    number_is n c e = cc
+by_code : (c : SgrCode) (n : ℕ) (o : Option Sgr) → set_by c ≡ o → n ≡ number_of c → (get_or STYLES n nothing).0 ≢ 0 → SetsAlone n (alone n)
+by_code c n None e is some = absurd (some (rw is (rw e at (sets c))))
+by_code c n (Some s) e is some = let (gives, same) = rw e at (sets c) in (s, rw is gives, rw is same)
+
+by_number : (n : ℕ) (o : Option SgrCode) → with_number number_of all_codes (pos n) ≡ o → is_some o ≡ true → (get_or STYLES n nothing).0 ≢ 0 → SetsAlone n (alone n)
+by_number n None e is some = cc
+by_number n (Some c) e is some = let number : n ≡ number_of c = cc (listed-number number_of all_codes (pos n) c e) in by_code c n (set_by c) refl number some
 
 pub sets_alone : (n : ℕ) → (get_or STYLES n nothing).0 ≢ 0 → (style : AttributeParts)
     → style ≡ plain (get_or STYLES n nothing).0 (get_or STYLES n nothing).1 (get_or STYLES n nothing).2
     → SetsAlone n style
 sets_alone n some style is =
     let same : 0 + n ≡ n = omega arith in
-    by_number n (with_number number_of all_codes (pos n)) refl (rw same at (coded_at 0 n STYLES all_coded some)) some style (rw is refl)
+    rw is (by_number n (with_number number_of all_codes (pos n)) refl (rw same at (coded_at 0 n STYLES all_coded some)) some)

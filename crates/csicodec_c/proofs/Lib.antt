@@ -1,8 +1,6 @@
 mod Calls
 mod Told
 mod Alone
-mod Changed
-mod Colors
 mod Laid
 mod Rows
 mod Styled

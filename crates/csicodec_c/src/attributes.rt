@@ -2,7 +2,7 @@
 ghost use Rattle.std.specs.Prelude.{◌≡◌, ◌∷◌, [], IfSome, pos};
 ghost use Rattle.csicodec_tokens.specs.declared.param.CsiParam.TheVariants.{Integer, P};
 ghost use Rattle.csicodec_tokens.specs.Private.Reading.{IsFirstToken};
-ghost use Rattle.csicodec_c.specs.Private.Short.{IsMark, IsPainted, IsStyled, ReadsOn, SetsAlone, plain, style_struct};
+ghost use Rattle.csicodec_c.specs.Private.Short.{AreStyles, IsMark, IsPainted, ReadsOn, SetsAlone, plain, style_struct};
 
 use crate::by_number::{STYLES, StyleRow};
 use crate::numbers::number_front;
@@ -92,7 +92,7 @@ fn mark_front(text: &[u8]) -> Option<u8>
 
 /// What is behind this mark in front.
 #[inline(always)]
-#[tactic(auto, using(crate::proofs::Colors::mark_token))]
+#[tactic(auto, using(crate::proofs::Styled::mark_token))]
 pub(crate) fn behind_mark(mark: u8, text: &[u8]) -> Option<&[u8]>
     requires { IsMark mark }
     ensures { IfSome result (λ behind. IsFirstToken text.now (P mark) behind.now) }
@@ -151,7 +151,7 @@ pub(crate) fn style_front<'a>(
     behind: &'a [u8],
 ) -> Option<(AttributeParts, &'a [u8])>
     requires { IsFirstToken text.now (Integer (pos number)) behind.now }
-    ensures { IfSome result (λ x. IsStyled text.now x.0 x.1.now) }
+    ensures { IfSome result (λ x. AreStyles text.now (x.0 ∷ []) x.1.now) }
 {
     match number {
         38 => {

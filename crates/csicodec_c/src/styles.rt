@@ -20,7 +20,7 @@ fn styles_front<'a>(
 ) -> Option<(usize, &'a [u8])>
     requires { IsFirstToken body.now (Integer (pos first)) behind.now }
     ensures within { IfSome result (λ x. x.0 ≤ length room.new) }
-    ensures are { IfSome result (λ x. AreStyles body.now (take x.0 room.new) x.1.now) }
+    ensures are { IfSome result (λ x. AreStyles body.now (take x.0 room.new) (109 ∷ x.1.now)) }
 {
     let mut count = 0;
     let mut text = body;
@@ -73,26 +73,6 @@ pub(crate) fn lay_styles<'a>(
     let (count, after) = styles_front(&mut room, body, first, behind)?;
     put_styles(&room[..count], actions);
     Some((count, after))
-}
-
-/// Puts the attribute that the one number before `m` sets.
-#[inline(always)]
-pub(crate) fn lay_style<'a>(
-    body: &[u8],
-    number: u32,
-    behind: &'a [u8],
-    actions: &mut [Struct],
-) -> Option<(usize, &'a [u8])>
-    requires { IsFirstToken body.now (Integer (pos number)) behind.now }
-    ensures some { IfSome result (λ x. HasLaid body.now actions.old actions.new x.0 x.1.now) }
-    ensures none { IfNone result (actions.new ≡ actions.old) }
-{
-    let [b'm', after @ ..] = behind else {
-        return None;
-    };
-    let style = style_alone(number)?;
-    put_styles(&[style], actions);
-    Some((1, after))
 }
 
 /// Puts the attributes that two numbers before `m` set, each alone.

@@ -1,9 +1,9 @@
 -- What is read of a short sequence, behind ESC and '['.
-use Rattle.std.specs.Prelude.{ℕ, ℤ, ◌≡◌, ◌⊎◌, ◌+◌, pos, false, List, [], ◌∷◌, ◌++◌, Some, length, map}
+use Rattle.std.specs.Prelude.{ℕ, ℤ, ◌≡◌, ◌⊎◌, ◌+◌, pos, false, List, [], ◌∷◌, Some, length, map}
 use Rattle.csicodec_tokens.specs.declared.param.CsiParam.{CsiParam}
 use Rattle.csicodec_tokens.specs.declared.param.CsiParam.TheVariants.{Integer, P}
 use Rattle.csicodec_tokens.specs.Sequence.{Reads}
-use Rattle.csicodec_tokens.specs.Private.Reading.{HasRead, IsFirstToken}
+use Rattle.csicodec_tokens.specs.Private.Reading.{IsFirstToken}
 use Rattle.csicodec_names.specs.declared.color.ColorSpec.{ColorSpec}
 use Rattle.csicodec_base.specs.FrontBy.{color_by, piece}
 use Rattle.csicodec_base.specs.Shapes.{color_shapes}
@@ -11,10 +11,10 @@ use Rattle.csicodec_base.specs.declared.sgr.Sgr.{Sgr}
 use Rattle.csicodec_actions.specs.Actions.{Action, Sgr as Styled}
 use Rattle.csicodec_actions.specs.declared.mode.Change.{Change}
 use Rattle.csicodec_actions.specs.declared.mode.Change.TheVariants as change
-use Rattle.csicodec_parser.specs.Cut.{Cut}
-use Rattle.csicodec_parser.specs.Groups.{group, has_odd}
+use Rattle.csicodec_parser.specs.Groups.{has_odd}
 use Rattle.csicodec_parser.specs.Segments.{Actions}
 use Rattle.csicodec_parser.specs.declared.group.Group.TheVariants.{Styles}
+use Rattle.csicodec.specs.Compose.{EndsInSemicolon, IsStyleList}
 use Rattle.csicodec_structs.specs.Next.{Lays}
 use Rattle.csicodec_structs.specs.Rows.{params_of, sgr_struct, struct_of}
 use Rattle.csicodec_structs.specs.Structs.{color_row, row}
@@ -33,11 +33,6 @@ ReadsOn text (t ∷ tokens) behind = (mid : List ℕ) × IsFirstToken text t mid
 -- a mark between the parts of a colour
 abbrev pub IsMark : ℕ → Type 0
 IsMark mark = (mark ≡ 58) ⊎ (mark ≡ 59)
-
--- what is behind an attribute that ends there: nothing, or a `;`
-abbrev pub Ends : List CsiParam → Type 0
-Ends [] = Unit {0}
-Ends (t ∷ more) = t ≡ P 59
 
 -- ---- numbers
 
@@ -63,53 +58,33 @@ plain kind first second = record { kind = kind; first = first; second = second; 
 abbrev pub style_struct : AttributeParts → Struct
 style_struct s = record (row s.kind (pos s.first) (pos s.second)) { red = s.red; green = s.green; blue = s.blue; alpha = s.alpha }
 
--- the number sets this attribute, where it ends there
+-- the number alone is read as this attribute
 abbrev pub SetsAlone : ℕ → AttributeParts → Type 0
-SetsAlone number style = (s : Sgr) × ((more : List CsiParam) → Ends more → piece (Integer (pos number) ∷ more) ≡ Some (s, 1)) × (style_struct style ≡ sgr_struct s)
+SetsAlone number style = (s : Sgr) × (piece (Integer (pos number) ∷ []) ≡ Some (s, 1)) × (style_struct style ≡ sgr_struct s)
 
--- the tokens of a colour behind its code, where it ends there
-pub record IsColor (text : List ℕ) (c : ColorSpec) (behind : List ℕ) : Type 0 where
+-- the tokens of a colour behind its code, as an attribute of this kind
+pub record IsPainted (kind : ℕ) (text : List ℕ) (style : AttributeParts) (behind : List ℕ) : Type 0 where
+  pub color : ColorSpec
   pub tokens : List CsiParam
   pub reads : ReadsOn text tokens behind
-  pub gives : (more : List CsiParam) → Ends more → color_by 1 color_shapes (tokens ++ more) ≡ Some (c, length tokens + 1)
+  pub gives : color_by 1 color_shapes tokens ≡ Some (color, length tokens + 1)
   pub even : has_odd Styles tokens ≡ false
+  pub unended : (code : ℤ) → ¬ EndsInSemicolon (Integer code ∷ tokens)
+  pub same : style_struct style ≡ color_row kind color
 
--- such a colour, as an attribute of this kind
-abbrev pub IsPainted : ℕ → List ℕ → AttributeParts → List ℕ → Type 0
-IsPainted kind text style behind = (c : ColorSpec) × IsColor text c behind × (style_struct style ≡ color_row kind c)
-
--- the tokens of an attribute, a number and others, where it ends there
-pub record IsAttribute (text : List ℕ) (s : Sgr) (behind : List ℕ) : Type 0 where
-  pub number : ℕ
-  pub others : List CsiParam
-  pub reads : ReadsOn text (Integer (pos number) ∷ others) behind
-  pub gives : (more : List CsiParam) → Ends more → piece (Integer (pos number) ∷ (others ++ more)) ≡ Some (s, length others + 1)
-  pub even : has_odd Styles others ≡ false
-
--- an attribute as its struct has it
-abbrev pub IsStyled : List ℕ → AttributeParts → List ℕ → Type 0
-IsStyled text style behind = (s : Sgr) × IsAttribute text s behind × (style_struct style ≡ sgr_struct s)
-
--- attributes that were read, with a `;` behind each
-pub record HasStyled (body : List ℕ) (styles : List Sgr) (rest : List ℕ) : Type 0 where
+-- the list that the text begins with is that of these attributes before `m`, as their structs have them, and may go on behind a `;`
+pub record AreStyles (text : List ℕ) (styles : List AttributeParts) (rest : List ℕ) : Type 0 where
   pub list : List CsiParam
-  pub read : HasRead (27 ∷ 91 ∷ body) list rest
-  pub even : has_odd Styles list ≡ false
-  pub cut : (more : List CsiParam) → Cut Styles (list ++ more) (map Styled styles) more
-  pub first : (z : ℤ) (more : List CsiParam) → group (list ++ Integer z ∷ more) 109 ≡ Styles
+  pub all : List Sgr
+  pub reads : ReadsOn text list rest
+  pub plain : IsStyleList list
+  pub unended : ¬ EndsInSemicolon list
+  pub are : Actions list false 109 (map Styled all)
+  pub same : map style_struct styles ≡ map sgr_struct all
 
--- the actions of a sequence before m
-pub record AreAttributes (body : List ℕ) (styles : List Sgr) (after : List ℕ) : Type 0 where
-  pub list : List CsiParam
-  pub reads : Reads (27 ∷ 91 ∷ body) list 109 after
-  pub are : Actions list false 109 (map Styled styles)
-
--- both, with attributes as their structs have them
+-- so of none, or with a `;` behind them
 abbrev pub HasStyles : List ℕ → List AttributeParts → List ℕ → Type 0
-HasStyles body styles rest = (all : List Sgr) × HasStyled body all rest × (map style_struct styles ≡ map sgr_struct all)
-
-abbrev pub AreStyles : List ℕ → List AttributeParts → List ℕ → Type 0
-AreStyles body styles after = (all : List Sgr) × AreAttributes body all after × (map style_struct styles ≡ map sgr_struct all)
+HasStyles body styles rest = ((styles ≡ []) × (rest ≡ body)) ⊎ AreStyles body styles (59 ∷ rest)
 
 -- ---- what is laid
 
@@ -122,7 +97,7 @@ change_final change.Restore = 114
 
 -- in front stands this number, or nothing, which reads as 0
 abbrev pub HasOne : List ℕ → ℕ → List ℕ → Type 0
-HasOne body n rest = (list : List CsiParam) × IsOne n list × HasRead (27 ∷ 91 ∷ body) list rest
+HasOne body n rest = (list : List CsiParam) × IsOne n list × ReadsOn body list rest
 
 -- the list is read as one action, which has this struct, and no tokens
 abbrev pub IsRow : List CsiParam → ℕ → Struct → Type 0

@@ -1,6 +1,5 @@
 use Rattle.std.proofs.Common.{◌<◌, rules, refl}
-use Rattle.csicodec_names.specs.declared.color.ColorSpec.TheVariants.{PaletteIndex, TrueColor}
-use Rattle.csicodec_c.proofs.Colors.{palette, true_color}
+use Rattle.csicodec_c.proofs.Styled.{palette, true_color}
 use Rattle.csicodec_c.proofs.attributes.color_front.Goals as goal
 
 pub returns-in-5 : goal.returns-in-5
@@ -9,7 +8,7 @@ returns-in-5 c =
     let way = c.in_ok-way in
     let first = c.in_ok-first in
     let low : c.in_ok-first.first < 256 = search rules in
-    (PaletteIndex first.first, palette mark.mark c.args.text.now way.parts.now first.behind.now way.way first.first mark.ensures c.in-5.is low way.ensures first.ensures, rw c.plain.ensures refl)
+    palette c.args.kind mark.mark c.args.text.now way.parts.now first.behind.now way.way first.first c.plain.result mark.ensures c.in-5.is low way.ensures first.ensures (rw c.plain.ensures refl)
 
 pub returns-in_ok-blue-in-2 : goal.returns-in_ok-blue-in-2
 returns-in_ok-blue-in-2 c =
@@ -20,9 +19,6 @@ returns-in_ok-blue-in-2 c =
     let blue = c.in_ok-blue-in-2 in
     let r : c.in_ok-first.first < 256 = search rules in
     let g : c.in_ok-green-in-2.green < 256 = search rules in
-    let b : c.in_ok-blue-in-2.blue < 256 = search rules in (
-      TrueColor (record { 0 = first.first; 1 = green.green; 2 = blue.blue; 3 = 255 }),
-      true_color mark.mark c.args.text.now way.parts.now first.behind.now green.behind.now blue.behind.now way.way first.first green.green blue.blue
-          mark.ensures c.in-2.is r g b way.ensures first.ensures green.ensures blue.ensures,
-      rw c.plain-in-2.ensures refl,
-    )
+    let b : c.in_ok-blue-in-2.blue < 256 = search rules in
+    true_color c.args.kind mark.mark c.args.text.now way.parts.now first.behind.now green.behind.now blue.behind.now way.way first.first green.green blue.blue _
+    mark.ensures c.in-2.is r g b way.ensures first.ensures green.ensures blue.ensures (rw c.plain-in-2.ensures refl)

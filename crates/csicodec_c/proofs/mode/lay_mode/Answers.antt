@@ -1,6 +1,9 @@
-use Rattle.std.proofs.Common.{◌<◌, rules, ap, ◌∙◌}
+use Rattle.std.specs.Prelude.{pos}
+use Rattle.std.proofs.Common.{◌<◌, ◌∷◌, [], rules, ap, ◌∙◌}
+use Rattle.csicodec_tokens.specs.declared.param.CsiParam.TheVariants.{Integer, P}
 use Rattle.csicodec_structs.specs.Rows.{mode_struct}
-use Rattle.csicodec_c.proofs.Changed.{changed_one}
+use Rattle.csicodec_c.specs.Private.Short.{change_final}
+use Rattle.csicodec_c.proofs.Laid.{change_ends, mode_row, row_laid}
 use Rattle.csicodec_c.proofs.mode.lay_mode.Goals as goal
 
 pub returns-clause-some : goal.returns-clause-some
@@ -8,5 +11,6 @@ returns-clause-some c =
     let found = c.in_ok-number in
     let done = c.in_ok-change in
     let low : c.in_ok-number.number < 65536 = search rules in
-    changed_one c.args.body.now found.behind.now done.after.now c.args.actions.now c.put.new.room found.number done.change c.mode_struct.result
-    found.ensures done.ensures low (c.mode_struct.ensures ∙ ap mode_struct c.of-mode.ensures) c.put.ensures
+    row_laid c.args.body.now found.behind.now done.after.now c.args.actions.now c.put.new.room (P 63 ∷ Integer (pos found.number) ∷ []) (change_final done.change) c.mode_struct.result
+    found.ensures (change_ends done.change) done.ensures
+    (mode_row found.number done.change c.mode_struct.result low (c.mode_struct.ensures ∙ ap mode_struct c.of-mode.ensures)) c.put.ensures

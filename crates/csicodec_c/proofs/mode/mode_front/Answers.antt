@@ -1,6 +1,6 @@
 use Rattle.std.proofs.Common.{◌≡◌, refl, arith, rules}
 use Rattle.csicodec_streams.proofs.Positions.{byte_cut}
-use Rattle.csicodec_c.proofs.Colors.{byte_token}
+use Rattle.csicodec_c.proofs.Styled.{byte_token}
 use Rattle.csicodec_c.proofs.mode.mode_front.Goals as goal
 
 pub returns : goal.returns

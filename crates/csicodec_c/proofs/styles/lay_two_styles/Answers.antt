@@ -1,5 +1,6 @@
-use Rattle.std.proofs.Common.{◌∷◌, [], refl, arith}
+use Rattle.std.proofs.Common.{◌∷◌, [], refl, subst, arith}
 use Rattle.csicodec_streams.proofs.Positions.{byte_cut}
+use Rattle.csicodec_c.specs.Private.Short.{AreStyles}
 use Rattle.csicodec_c.proofs.Laid.{styles_laid}
 use Rattle.csicodec_c.proofs.Styled.{two_styles}
 use Rattle.csicodec_c.proofs.styles.lay_two_styles.Goals as goal
@@ -10,6 +11,6 @@ returns-clause-some c =
     let behind = c.args.behind.now in
     let one = c.in_ok-style_alone in
     let two = c.in_ok-style_alone-2 in
-    let ends = byte_cut behind 109 c.in-109.len_at_least (omega arith) in
+    let both = two_styles body c.args.text.now behind c.args.first c.args.second one.field-0 two.field-0 c.requires.first c.requires.second one.ensures two.ensures in
     styles_laid body _ c.args.actions.now c.put_styles.new.actions (one.field-0 ∷ two.field-0 ∷ []) 2
-    (two_styles body c.args.text.now behind _ c.args.first c.args.second one.field-0 two.field-0 c.requires.first c.requires.second one.ensures two.ensures ends) refl c.put_styles.ensures
+    (subst (AreStyles _ _) (byte_cut behind 109 c.in-109.len_at_least (omega arith)) both) refl c.put_styles.ensures

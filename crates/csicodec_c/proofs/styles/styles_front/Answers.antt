@@ -1,27 +1,27 @@
-use Rattle.std.proofs.Common.{take, arith}
+use Rattle.std.proofs.Common.{take, refl, inl, inr, subst, arith}
 use Rattle.std.proofs.lemmas.List.{length-set, take_more_set}
 use Rattle.csicodec_streams.proofs.Positions.{byte_cut}
-use Rattle.csicodec_c.proofs.Styled.{styles_all, styles_more, styles_none}
+use Rattle.csicodec_c.specs.Private.Short.{AreStyles}
+use Rattle.csicodec_c.proofs.Styled.{styles_next}
 use Rattle.csicodec_c.proofs.styles.styles_front.Goals as goal
 
 pub loop-count-init : goal.loop-count-init
-loop-count-init c = record { within = omega arith; read = styles_none c.args.body.now; next = c.requires }
+loop-count-init c = record { within = omega arith; read = inl (refl, refl); next = c.requires }
 
 pub returns-in-109-clause-are : goal.returns-in-109-clause-are
 returns-in-109-clause-are c =
     let at = c.loop-count in
-    let found = c.in_ok-style in
-    rw (take_more_set at.room at.count found.style c.loop-count-test.true)
-    (styles_all c.args.body.now at.text.now found.behind.now _ (take at.count at.room) found.style at.invariant.read found.ensures (byte_cut found.behind.now 109 c.in-109.len_at_least (omega arith)))
+    let behind = c.in_ok-style.behind.now in
+    let all = styles_next c.args.body.now at.text.now behind (take at.count at.room) c.in_ok-style.style at.invariant.read c.in_ok-style.ensures in
+    rw (take_more_set at.room at.count c.in_ok-style.style c.loop-count-test.true) (subst (AreStyles _ _) (byte_cut behind 109 c.in-109.len_at_least (omega arith)) all)
 
 pub loop-count-preserved : goal.loop-count-preserved
 loop-count-preserved c =
     let at = c.loop-count in
-    let found = c.in_ok-style in
+    let behind = c.in_ok-style.behind.now in
+    let all = styles_next c.args.body.now at.text.now behind (take at.count at.room) c.in_ok-style.style at.invariant.read c.in_ok-style.ensures in
     record {
-      within = omega (arith, c.loop-count-test.true, length-set at.room at.count found.style);
-      read = rw (take_more_set at.room at.count found.style c.loop-count-test.true)
-          (styles_more c.args.body.now at.text.now found.behind.now _ (take at.count at.room) found.style at.invariant.read found.ensures
-          (byte_cut found.behind.now 59 c.in-59.len_at_least (omega arith)));
+      within = omega (arith, c.loop-count-test.true, length-set at.room at.count c.in_ok-style.style);
+      read = inr (rw (take_more_set at.room at.count c.in_ok-style.style c.loop-count-test.true) (subst (AreStyles _ _) (byte_cut behind 59 c.in-59.len_at_least (omega arith)) all));
       next = c.in_ok-next-in-59.ensures;
     }

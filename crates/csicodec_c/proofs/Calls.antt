@@ -100,7 +100,8 @@ none_styled (chunk ∷ chunks) state again all last left (answer, old, new, othe
 ended : (last : Cleaning) (left old new : List ℕ) (answer : Stripped) (q : Pause) → last ≡ numbers q → IsEnd last left old new answer
     → answer.needed ≤ length old → take answer.needed new ≡ ending q left
 ended last left old new answer q is end room =
-    shows old new (ending end.pause left) answer.needed end.fills (ap (λ (a : Stripped). a.needed) end.tells) room ∙ ap (λ (p : Pause). ending p left) (same_pause last end.pause q end.is is)
+    let (pause, begun, same) = end.is in
+    shows old new end.text answer.needed end.fills (ap (λ (a : Stripped). a.needed) end.tells) room ∙ same ∙ ap (λ (p : Pause). ending p left) (same_pause last pause q begun is)
 
 pub stripped_calls : (chunks : List (List ℕ)) (all left old new : List ℕ) (last : Cleaning) (answer : Stripped)
     → AreCalls IsStripStep zeros [] chunks all last left → IsEnd last left old new answer → answer.needed ≤ length old

@@ -42,9 +42,3 @@ IsDone number limit bytes old new answer = IsStep NormalisesTo number limit byte
 -- why a state is none
 abbrev pub IsBadState : ℕ → ℕ → Type 0
 IsBadState number limit = (limit ≡ 0) ⊎ ((mode : Mode) → number ≡ mode_number mode → ⊥)
-
--- or a refusal, and then nothing is put
-pub record IsRefused (number limit : ℕ) (old new : List ℕ) (answer : Filtered) : Type 0 where
-  pub why : (answer ≡ refused status.Memory)
-      ⊎ ((answer ≡ refused status.BadState) × IsBadState number limit)
-  pub same : new ≡ old

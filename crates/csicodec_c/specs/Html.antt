@@ -1,5 +1,5 @@
 -- What the calls for pages of HTML, and for lines as they stand when they end, answer a C program.
-use Rattle.std.specs.Prelude.{ℕ, ◌≡◌, ◌==◌, ◌/◌, ◌%◌, ◌⊎◌, ◌||◌, Bool, true, false, Option, Some, List, ◌++◌, length, map, if◌then◌else◌}
+use Rattle.std.specs.Prelude.{ℕ, ◌≡◌, ◌==◌, ◌/◌, ◌%◌, ◌||◌, Bool, true, false, Option, Some, List, ◌++◌, length, map, if◌then◌else◌}
 use Rattle.csicodec_names.specs.declared.color.SrgbaTuple.{SrgbaTuple}
 use Rattle.csicodec_clean.specs.Palette.{rgb}
 use Rattle.csicodec_html.specs.declared.markup.Markup.{Markup}
@@ -7,14 +7,10 @@ use Rattle.csicodec_html.specs.declared.palette.Palette.{Palette}
 use Rattle.csicodec_html.specs.Given.{given_palette}
 use Rattle.csicodec_html.specs.Page.{IsPageWith, PageWith, simple}
 use Rattle.csicodec_html.specs.Sheet.{IsTitle, sheet}
-use Rattle.csicodec_overwrite.specs.Paint.{as_text}
-use Rattle.csicodec_overwrite.specs.Reading.{Paints, Shows}
-use Rattle.csicodec_structs.specs.Room.{Fills}
-use Rattle.csicodec_structs.specs.declared.status.Status.TheVariants as status
+use Rattle.csicodec_overwrite.specs.Reading.{Paints}
 use Rattle.csicodec_c.specs.declared.html.PageSettings.{PageSettings}
 use Rattle.csicodec_c.specs.declared.html.Choices.{Choices}
-use Rattle.csicodec_c.specs.declared.strip.Stripped.{Stripped}
-use Rattle.csicodec_c.specs.Strip.{bit, refused, stripped}
+use Rattle.csicodec_c.specs.Strip.{bit}
 
 -- a colour by its number: eight bits each of red, green and blue, which are the lowest
 abbrev pub color_of : ℕ → SrgbaTuple
@@ -30,6 +26,11 @@ abbrev pub IsAsked : Choices → Palette → PageSettings → Type 0
 IsAsked choices palette asked = (choices.links ≡ bit asked.markup.links)
     × (choices.classes ≡ bit asked.markup.classes) × (choices.fragment ≡ bit asked.fragment)
     × (choices.no_overwrite ≡ bit asked.no_overwrite) × (palette ≡ asked.markup.palette)
+
+-- with the colours
+abbrev pub IsAskedIn : Choices → List ℕ → PageSettings → Type 0
+IsAskedIn choices colors asked =
+    (palette : Palette) × (palette_of colors ≡ Some palette) × IsAsked choices palette asked
 
 -- the piece of a page that bytes become; where text doesn't stay that is written over, that of their lines, each as it stands when it ends
 abbrev pub IsPiece : Bool → Markup → List ℕ → List ℕ → Type 0
@@ -52,41 +53,7 @@ abbrev pub IsFramed : Bool → (List ℕ → List ℕ → Type 0) → List ℕ �
 IsFramed true Whole piece page = page ≡ piece
 IsFramed false Whole piece page = Whole piece page
 
--- the length of the page, which is put where it fits; its piece has text that is shown, escaped, and tags in pairs
-pub record IsPut (Whole : List ℕ → List ℕ → Type 0) (asked : PageSettings) (bytes old new : List ℕ)
-    (answer : Stripped) : Type 0 where
-  pub piece : List ℕ
-  pub page : List ℕ
-  pub is : IsPieceOf asked bytes piece
-  pub safe : IsPageWith asked.markup piece
-  pub framed : IsFramed asked.fragment Whole piece page
-  pub tells : answer ≡ stripped (length page)
-  pub fills : Fills old new page
-
--- by the numbers and the colours
-abbrev pub IsHtml : (Markup → List ℕ → List ℕ → Type 0) → Choices → List ℕ → List ℕ → List ℕ
-    → List ℕ → Stripped → Type 0
-IsHtml Whole choices colors bytes old new answer =
-    (palette : Palette) × (asked : PageSettings) × (palette_of colors ≡ Some palette)
-    × IsAsked choices palette asked × IsPut (Whole asked.markup) asked bytes old new answer
-
--- or memory ran out, or nothing is asked for by them, and then nothing is put
-pub record IsHtmlRefused (choices : Choices) (colors old new : List ℕ) (answer : Stripped) : Type 0 where
-  pub why : (answer ≡ refused status.Memory)
-      ⊎ ((answer ≡ refused status.BadState)
-      × ((palette : Palette) (asked : PageSettings) → palette_of colors ≡ Some palette → IsAsked choices palette asked → ⊥))
-  pub same : new ≡ old
-
--- the length of the lines, each as it stands when it ends, as plain text or painted, which are put where they fit
-pub record IsLined (styles : ℕ) (bytes old new : List ℕ) (answer : Stripped) : Type 0 where
-  pub painted : Bool
-  pub is : styles ≡ bit painted
-  pub text : List ℕ
-  pub shows : Shows (as_text painted) bytes text
-  pub tells : answer ≡ stripped (length text)
-  pub fills : Fills old new text
-
-pub record IsLinesRefused (styles : ℕ) (old new : List ℕ) (answer : Stripped) : Type 0 where
-  pub why : (answer ≡ refused status.Memory)
-      ⊎ ((answer ≡ refused status.BadState) × ((painted : Bool) → styles ≡ bit painted → ⊥))
-  pub same : new ≡ old
+-- such a page of the bytes; its piece has text that is shown, escaped, and tags in pairs
+abbrev pub IsPage : (Markup → List ℕ → List ℕ → Type 0) → List ℕ → PageSettings → List ℕ → Type 0
+IsPage Whole bytes asked page = (piece : List ℕ) × IsPieceOf asked bytes piece × IsPageWith asked.markup piece
+    × IsFramed asked.fragment (Whole asked.markup) piece page

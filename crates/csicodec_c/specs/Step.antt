@@ -1,5 +1,5 @@
 -- What the calls that clean untrusted text step by step answer a C program.
-use Rattle.std.specs.Prelude.{ℕ, ◌≡◌, ◌≤◌, ◌⊎◌, Bool, List, [], ◌∷◌, ◌++◌, length, take, drop}
+use Rattle.std.specs.Prelude.{ℕ, ◌≡◌, ◌≤◌, Bool, List, [], ◌∷◌, ◌++◌, length, take, drop}
 use Rattle.csicodec_clean.specs.declared.colors.Depth.{Depth}
 use Rattle.csicodec_clean.specs.declared.step.Pause.{Pause}
 use Rattle.csicodec_clean.specs.Cleaned.{RuleOf, drops}
@@ -13,8 +13,7 @@ use Rattle.csicodec_structs.specs.Room.{Fills}
 use Rattle.csicodec_structs.specs.Status.{status_number}
 use Rattle.csicodec_structs.specs.declared.status.Status.{Status}
 use Rattle.csicodec_structs.specs.declared.status.Status.TheVariants as status
-use Rattle.csicodec_c.specs.Strip.{bit, depth_number, stripped}
-use Rattle.csicodec_c.specs.Strip.{refused as nothing}
+use Rattle.csicodec_c.specs.Strip.{Puts, bit, depth_number}
 
 -- the numbers of a state
 abbrev pub numbers : Pause → Cleaning
@@ -27,6 +26,10 @@ IsState state len p = (state ≡ numbers p) × (p.held ≤ 3) × (p.held ≤ len
 -- they are of none
 abbrev pub IsBadState : Cleaning → ℕ → Type 0
 IsBadState state len = (p : Pause) → IsState state len p → ⊥
+
+-- the depth is none
+abbrev pub IsBadDepth : ℕ → Type 0
+IsBadDepth number = (d : Depth) → number ≡ depth_number d → ⊥
 
 -- the state of a stream of which nothing has come
 abbrev pub zeros : Cleaning
@@ -65,12 +68,10 @@ IsCleanStep number state bytes old new answer =
     (d : Depth) × (number ≡ depth_number d)
     × IsStep (keeps (λ (k : Keeping). k)) (resumed d) state bytes old new answer
 
--- what ends a stream behind its steps, which is put where it fits
-pub record IsEnd (state : Cleaning) (bytes old new : List ℕ) (answer : Stripped) : Type 0 where
-  pub pause : Pause
-  pub is : state ≡ numbers pause
-  pub tells : answer ≡ stripped (length (ending pause bytes))
-  pub fills : Fills old new (ending pause bytes)
+-- what ends a stream behind its steps
+abbrev pub IsEnd : Cleaning → List ℕ → List ℕ → List ℕ → Stripped → Type 0
+IsEnd state bytes old new answer =
+    Puts (λ text. (p : Pause) × (state ≡ numbers p) × (text ≡ ending p bytes)) old new answer
 
 -- calls in turn, each over the bytes that the one before it didn't use and then a chunk, with room enough: all that they put, the state
 -- behind them, and the bytes that are left there
@@ -82,27 +83,3 @@ AreCalls IsCall state again (chunk ∷ chunks) all last left =
     × IsCall state (again ++ chunk) old new answer × (answer.needed ≤ length old)
     × (all ≡ take answer.needed new ++ others)
     × AreCalls IsCall answer.state (drop answer.used (again ++ chunk)) chunks others last left
-
--- or memory ran out, or the state is none, and then nothing is put
-pub record IsStripRefused (state : Cleaning) (len : ℕ) (old new : List ℕ)
-    (answer : Cleaned) : Type 0 where
-  pub why : (answer ≡ refused status.Memory)
-      ⊎ ((answer ≡ refused status.BadState) × IsBadState state len)
-  pub same : new ≡ old
-
--- or the depth is none
-abbrev pub IsBadDepth : ℕ → Type 0
-IsBadDepth number = (d : Depth) → number ≡ depth_number d → ⊥
-
-pub record IsCleanRefused (number : ℕ) (state : Cleaning) (len : ℕ) (old new : List ℕ)
-    (answer : Cleaned) : Type 0 where
-  pub why : (answer ≡ refused status.Memory)
-      ⊎ ((answer ≡ refused status.BadState) × (IsBadDepth number ⊎ IsBadState state len))
-  pub same : new ≡ old
-
--- so at the end
-pub record IsEndRefused (state : Cleaning) (len : ℕ) (old new : List ℕ)
-    (answer : Stripped) : Type 0 where
-  pub why : (answer ≡ nothing status.Memory)
-      ⊎ ((answer ≡ nothing status.BadState) × IsBadState state len)
-  pub same : new ≡ old

@@ -6,7 +6,7 @@ use Rattle.csicodec_clean.specs.declared.colors.Depth.TheVariants as depths
 use Rattle.csicodec_clean.specs.declared.styles.Passing.{Passing}
 use Rattle.csicodec_clean.specs.Cleaned.{Strips, longest}
 use Rattle.csicodec_clean.specs.Shown.{IsPlain}
-use Rattle.csicodec_clean.specs.Styled.{IsStyledIn, StylesIn, without_links}
+use Rattle.csicodec_clean.specs.Styled.{IsStyledIn, StylesIn}
 use Rattle.csicodec_c.specs.declared.strip.Stripped.{Stripped}
 use Rattle.csicodec_structs.specs.Room.{Fills}
 use Rattle.csicodec_structs.specs.Status.{status_number}
@@ -25,47 +25,41 @@ depth_number depths.Full = 0
 depth_number depths.Palette = 1
 depth_number depths.Ansi = 2
 
--- the length of the plain text, which is put where it fits: it has no ESC, and is UTF-8 of characters that are shown
-pub record IsStripped (bytes old new : List ℕ) (answer : Stripped) : Type 0 where
+abbrev pub refused : Status → Stripped
+refused why = record { status = status_number why; needed = 0 }
+
+-- the length of such a text, which is put where it fits
+pub record Puts (IsText : List ℕ → Type 0) (old new : List ℕ) (answer : Stripped) : Type 0 where
   pub text : List ℕ
-  pub strips : Strips longest bytes text
-  pub plain : IsPlain text
-  pub no_escape : All (λ b. b ≢ 27) text
+  pub is : IsText text
   pub tells : answer ≡ stripped (length text)
   pub fills : Fills old new text
 
--- the length of the text with what passes beside it, which is put where it fits
-pub record IsCleanedIn (passing : Passing) (bytes old new : List ℕ)
-    (answer : Stripped) : Type 0 where
-  pub text : List ℕ
-  pub styles : StylesIn passing bytes text
-  pub styled : IsStyledIn passing text
-  pub tells : answer ≡ stripped (length text)
-  pub fills : Fills old new text
+-- or memory ran out, or the numbers stand for nothing, and then nothing is put
+pub record IsRefused {A : Type 0} (refusal : Status → A) (StandForNothing : Type 0)
+    (old new : List ℕ) (answer : A) : Type 0 where
+  pub why : (answer ≡ refusal status.Memory)
+      ⊎ ((answer ≡ refusal status.BadState) × StandForNothing)
+  pub same : new ≡ old
 
--- with the styles that stay, and no links
-abbrev pub IsCleaned : List ℕ → List ℕ → List ℕ → Stripped → Type 0
-IsCleaned bytes old new answer = IsCleanedIn (without_links depths.Full) bytes old new answer
+abbrev pub Answers : (List ℕ → Type 0) → Type 0 → List ℕ → List ℕ → Stripped → Type 0
+Answers IsText StandForNothing old new answer =
+    Puts IsText old new answer ⊎ IsRefused refused StandForNothing old new answer
+
+-- a text of what the numbers stand for
+abbrev pub AnswersBy : {A : Type 0} → (A → Type 0) → (A → List ℕ → Type 0) → List ℕ → List ℕ → Stripped
+    → Type 0
+AnswersBy {A} StandFor IsText old new answer =
+    Answers (λ text. (a : A) × StandFor a × IsText a text) ((a : A) → StandFor a → ⊥) old new answer
+
+-- the plain text: it has no ESC, and is UTF-8 of characters that are shown
+abbrev pub IsStripped : List ℕ → List ℕ → Type 0
+IsStripped bytes text = Strips longest bytes text × IsPlain text × All (λ b. b ≢ 27) text
+
+-- the text with what passes beside it
+abbrev pub IsCleaned : List ℕ → Passing → List ℕ → Type 0
+IsCleaned bytes passing text = StylesIn passing bytes text × IsStyledIn passing text
 
 -- what passes, by its numbers
 abbrev pub IsPassing : ℕ → ℕ → Passing → Type 0
 IsPassing depth links passing = (depth ≡ depth_number passing.depth) × (links ≡ bit passing.links)
-
-abbrev pub IsCleanedWith : ℕ → ℕ → List ℕ → List ℕ → List ℕ → Stripped → Type 0
-IsCleanedWith depth links bytes old new answer =
-    (passing : Passing) × IsPassing depth links passing × IsCleanedIn passing bytes old new answer
-
-abbrev pub refused : Status → Stripped
-refused why = record { status = status_number why; needed = 0 }
-
--- or memory ran out, and then nothing is put
-pub record IsRefused (old new : List ℕ) (answer : Stripped) : Type 0 where
-  pub tells : answer ≡ refused status.Memory
-  pub same : new ≡ old
-
--- or the numbers stand for nothing that passes, and then nothing is put either
-pub record IsRefusedWith (depth links : ℕ) (old new : List ℕ) (answer : Stripped) : Type 0 where
-  pub why : (answer ≡ refused status.Memory)
-      ⊎ ((answer ≡ refused status.BadState)
-      × ((passing : Passing) → IsPassing depth links passing → ⊥))
-  pub same : new ≡ old

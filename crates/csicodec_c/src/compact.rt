@@ -1,18 +1,18 @@
 //! Streams and actions in fewer bytes.
-ghost use Rattle.std.specs.Prelude.{◌≡◌, ◌⊎◌, List, IfOk, IfErr};
-ghost use Rattle.csicodec_actions.specs.Actions.{Action};
-ghost use Rattle.csicodec_compact.specs.Compacts.{Encodes};
-ghost use Rattle.csicodec_c.specs.Compact.{IsCompact, IsCompacted, IsShort, IsShortRefused};
-ghost use Rattle.csicodec_structs.specs.Encode.{AllStand, HasNone};
+ghost use Rattle.std.specs.Prelude.{◌≡◌, ◌⊎◌};
+ghost use Rattle.csicodec_compact.specs.Runs.{CompactsAll};
+ghost use Rattle.csicodec_spans.specs.declared.table.Mode.TheVariants as mode;
+ghost use Rattle.csicodec_c.specs.Compact.{IsCompact, IsCompacted};
+ghost use Rattle.csicodec_c.specs.Strip.{AnswersBy, IsRefused, bit};
 ghost use Rattle.csicodec_structs.specs.Encode.{IsRefused as RefusesActions};
-ghost use Rattle.csicodec_c.specs.Filter.{IsRefused};
+ghost use Rattle.csicodec_c.specs.Filter.{IsBadState, refused as unfiltered};
 
 use crate::filter::{Filtered, step};
 use crate::strip::{Stripped, bit_at, put, refused as nothing};
 use csicodec_compact::{Compact, compact_bytes, encode_compact};
 use csicodec_spans::LIMIT;
 use csicodec_structs::{Encoded, Param, Status, Struct, actions_of, put_text, refused};
-use std::alloc::{AllocError, Global};
+use std::alloc::Global;
 
 /// Puts what the spans of the bytes that are sure become, where it fits: each control sequence in the shortest of its spellings that
 /// is found, and every other byte as it is.
@@ -25,7 +25,7 @@ pub extern "C" fn csicodec_compact(
     out: &mut [u8],
 ) -> Filtered
     ensures { IsCompacted mode limit bytes.now out.old out.new result
-        ⊎ IsRefused mode limit out.old out.new result }
+        ⊎ IsRefused unfiltered (IsBadState mode limit) out.old out.new result }
 {
     step(alloc, Compact::new(alloc), mode, limit, bytes, out)
 }
@@ -40,7 +40,7 @@ pub extern "C" fn csicodec_compact_semicolons(
     out: &mut [u8],
 ) -> Filtered
     ensures { IsCompacted mode limit bytes.now out.old out.new result
-        ⊎ IsRefused mode limit out.old out.new result }
+        ⊎ IsRefused unfiltered (IsBadState mode limit) out.old out.new result }
 {
     step(
         alloc,
@@ -60,8 +60,8 @@ pub extern "C" fn csicodec_compact_whole(
     bytes: &[u8],
     out: &mut [u8],
 ) -> Stripped
-    ensures { IsShort LIMIT semicolons bytes.now out.old out.new result
-        ⊎ IsShortRefused semicolons out.old out.new result }
+    ensures { AnswersBy (λ asked. semicolons ≡ bit asked)
+        (λ _. CompactsAll LIMIT mode.Text bytes.now) out.old out.new result }
 {
     let Some(semicolons) = bit_at(semicolons) else {
         return nothing(Status::BadState);
@@ -77,24 +77,6 @@ pub extern "C" fn csicodec_compact_whole(
     put(text.as_slice(), out)
 }
 
-/// A short text of the actions that the structs stand for, or which of these stands for none.
-fn text_of(
-    alloc: Global,
-    structs: &[Struct],
-    params: &[Param],
-) -> Result<Result<Vec<u8>, usize>, AllocError>
-    ensures text { IfOk result (λ r.
-        IfOk r (λ text.
-        (actions : List Action) × AllStand structs.now params.now actions
-        × Encodes actions text.items)) }
-    ensures none { IfOk result (λ r. IfErr r (λ at. HasNone structs.now params.now at)) }
-{
-    match actions_of(alloc, structs, params)? {
-        Ok(actions) => Ok(Ok(encode_compact(alloc, actions.as_slice())?)),
-        Err(at) => Ok(Err(at)),
-    }
-}
-
 /// Puts a text of the actions that the structs stand for, where it fits: no longer than that of [`csicodec_encode`](crate::csicodec_encode).
 #[unsafe(no_mangle)]
 pub extern "C" fn csicodec_encode_compact(
@@ -106,8 +88,11 @@ pub extern "C" fn csicodec_encode_compact(
     ensures { IsCompact actions.now params.now out.old out.new result
         ⊎ RefusesActions actions.now params.now out.old out.new result }
 {
-    match text_of(alloc, actions, params) {
-        Ok(Ok(all)) => put_text(all.as_slice(), out),
+    match actions_of(alloc, actions, params) {
+        Ok(Ok(actions)) => match encode_compact(alloc, actions.as_slice()) {
+            Ok(text) => put_text(text.as_slice(), out),
+            Err(_) => refused(Status::Memory, 0),
+        },
         Ok(Err(at)) => refused(Status::NoAction, at),
         Err(_) => refused(Status::Memory, 0),
     }

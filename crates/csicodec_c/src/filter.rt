@@ -1,13 +1,13 @@
 //! A step of a filter whose state the caller keeps.
-ghost use Rattle.std.specs.Prelude.{◌≡◌, ◌≤◌, ◌<◌, ◌⊎◌, ◌↔◌, List, ℕ, length, drop, Some, IfOk};
+ghost use Rattle.std.specs.Prelude.{◌≡◌, ◌⊎◌, ◌↔◌, Some};
 ghost use Rattle.csicodec_spans.specs.declared.table.Mode.{Mode};
-ghost use Rattle.csicodec_filter.specs.Filter.{Passes};
-ghost use Rattle.csicodec_c.specs.Filter.{IsDone, IsRefused, IsStep, mode_number, refused};
+ghost use Rattle.csicodec_c.specs.Filter.{IsBadState, IsDone, IsStep, mode_number, refused};
+ghost use Rattle.csicodec_c.specs.Strip.{IsRefused};
 
 use csicodec::{NormalForm, Rewrite, append_spans};
 use csicodec_spans::Mode;
 use csicodec_structs::{Status, fill};
-use std::alloc::{AllocError, Global};
+use std::alloc::Global;
 
 /// How a step of a filter ended.
 #[repr(C)]
@@ -21,14 +21,6 @@ pub struct Filtered {
     pub used: usize,
     /// Of `Done`, the length of the text.
     pub needed: usize,
-}
-
-/// The text of the spans that are sure, how many bytes they are, and the mode behind them.
-#[derive(Drop)]
-struct Passed {
-    text: Vec<u8>,
-    used: usize,
-    mode: Mode,
 }
 
 fn refused(why: Status) -> Filtered
@@ -63,28 +55,6 @@ pub(crate) fn number_of(mode: Mode) -> u32
     mode as u32
 }
 
-/// What the spans of the bytes that are sure become.
-fn pass<T: Rewrite + Drop>(
-    alloc: Global,
-    rewrite: T,
-    mode: Mode,
-    limit: usize,
-    bytes: &[u8],
-) -> Result<Passed, AllocError>
-    requires { 0 < limit }
-    ensures within { IfOk result (λ p. p.used ≤ length bytes.now) }
-    ensures passes { IfOk result (λ p.
-        (text : List ℕ)
-        × Passes (T.writes rewrite) limit mode bytes.now text (drop p.used bytes.now) p.mode
-        × (p.text.items ≡ text)) }
-{
-    let mut rewrite = rewrite;
-    let mut params = Vec::new(alloc);
-    let mut text = Vec::new(alloc);
-    let (used, mode) = append_spans(&mut rewrite, &mut params, limit, mode, bytes, &mut text)?;
-    Ok(Passed { text, used, mode })
-}
-
 /// Puts what the spans of the bytes that are sure become, where it fits.
 pub(crate) fn step<T: Rewrite + Drop>(
     alloc: Global,
@@ -95,7 +65,7 @@ pub(crate) fn step<T: Rewrite + Drop>(
     out: &mut [u8],
 ) -> Filtered
     ensures { IsStep (T.writes rewrite) mode limit bytes.now out.old out.new result
-        ⊎ IsRefused mode limit out.old out.new result }
+        ⊎ IsRefused refused (IsBadState mode limit) out.old out.new result }
 {
     let Some(mode) = mode_at(mode) else {
         return refused(Status::BadState);
@@ -103,14 +73,17 @@ pub(crate) fn step<T: Rewrite + Drop>(
     if limit == 0 {
         return refused(Status::BadState);
     }
-    match pass(alloc, rewrite, mode, limit, bytes) {
-        Ok(passed) => {
-            fill(out, passed.text.as_slice());
+    let mut rewrite = rewrite;
+    let mut params = Vec::new(alloc);
+    let mut text = Vec::new(alloc);
+    match append_spans(&mut rewrite, &mut params, limit, mode, bytes, &mut text) {
+        Ok((used, mode)) => {
+            fill(out, text.as_slice());
             Filtered {
                 status: Status::Done.number(),
-                mode: number_of(passed.mode),
-                used: passed.used,
-                needed: passed.text.len(),
+                mode: number_of(mode),
+                used,
+                needed: text.len(),
             }
         }
         Err(_) => refused(Status::Memory),
@@ -128,7 +101,7 @@ pub extern "C" fn csicodec_filter(
     out: &mut [u8],
 ) -> Filtered
     ensures { IsDone mode limit bytes.now out.old out.new result
-        ⊎ IsRefused mode limit out.old out.new result }
+        ⊎ IsRefused refused (IsBadState mode limit) out.old out.new result }
 {
     step(alloc, NormalForm::new(alloc), mode, limit, bytes, out)
 }

@@ -1,11 +1,11 @@
 //! Pages of HTML, and each line as it stands when it ends.
-ghost use Rattle.std.specs.Prelude.{◌≡◌, ◌++◌, ◌⊎◌, List, ℕ, false, IfOk, IfSome, IfNone, map};
+ghost use Rattle.std.specs.Prelude.{◌≡◌, false, IfOk, IfSome, IfNone, map};
 ghost use Rattle.csicodec_html.specs.Page.{IsPageWith};
 ghost use Rattle.csicodec_overwrite.specs.Paint.{as_text};
 ghost use Rattle.csicodec_overwrite.specs.Reading.{Shows};
 ghost use Rattle.csicodec_c.specs.declared.html.PageSettings.{PageSettings};
-ghost use Rattle.csicodec_c.specs.Strip.{IsRefused};
-ghost use Rattle.csicodec_c.specs.Html.{IsAsked, IsHtml, IsHtmlRefused, IsLined, IsLinesRefused, IsFramed, IsPiece, IsPieceOf, IsPut, IsWhole, color_of, palette_of};
+ghost use Rattle.csicodec_c.specs.Strip.{AnswersBy, bit};
+ghost use Rattle.csicodec_c.specs.Html.{IsAsked, IsAskedIn, IsPage, IsPiece, IsPieceOf, IsWhole, color_of, palette_of};
 
 use crate::strip::{Stripped, bit_at, put, refused};
 use csicodec_base::SrgbaTuple;
@@ -144,29 +144,17 @@ fn whole_page(alloc: Global, markup: Markup, piece: Vec<u8>) -> Result<Vec<u8>, 
     Ok(page)
 }
 
-/// A piece alone, or with what stands around it on a page.
-fn around(alloc: Global, asked: PageSettings, piece: Vec<u8>) -> Result<Vec<u8>, AllocError>
-    ensures { IfOk result (λ page. IsFramed asked.fragment
-        (IsWhole UNNAMED.now HEAD.now STYLE.now BODY.now BEHIND.now asked.markup) piece.items page.items) }
+/// The piece alone, or with what stands around it on a page.
+fn page_of(alloc: Global, asked: PageSettings, bytes: &[u8]) -> Result<Vec<u8>, AllocError>
+    ensures { IfOk result (λ page.
+        IsPage (IsWhole UNNAMED.now HEAD.now STYLE.now BODY.now BEHIND.now) bytes.now asked page.items) }
 {
+    let piece = piece_of(alloc, asked, bytes)?;
     if asked.fragment {
         return Ok(piece);
     }
-    whole_page(alloc, asked.markup, piece)
-}
-
-/// Puts the page that the bytes become, where it fits.
-fn put_page(alloc: Global, asked: PageSettings, bytes: &[u8], out: &mut [u8]) -> Stripped
-    ensures { IsPut (IsWhole UNNAMED.now HEAD.now STYLE.now BODY.now BEHIND.now asked.markup) asked
-        bytes.now out.old out.new result ⊎ IsRefused out.old out.new result }
-{
-    let Ok(piece) = piece_of(alloc, asked, bytes) else {
-        return refused(Status::Memory);
-    };
-    let Ok(page) = around(alloc, asked, piece) else {
-        return refused(Status::Memory);
-    };
-    put(page.as_slice(), out)
+    let page = whole_page(alloc, asked.markup, piece)?;
+    Ok(page)
 }
 
 /// Puts the page of HTML that the bytes become, where it fits. `colors` are none, 16 or 18 numbers.
@@ -178,9 +166,9 @@ pub extern "C" fn csicodec_html(
     bytes: &[u8],
     out: &mut [u8],
 ) -> Stripped
-    ensures { IsHtml (IsWhole UNNAMED.now HEAD.now STYLE.now BODY.now BEHIND.now) choices.now colors.now
-        bytes.now out.old out.new result
-        ⊎ IsHtmlRefused choices.now colors.now out.old out.new result }
+    ensures { AnswersBy (IsAskedIn choices.now colors.now)
+        (IsPage (IsWhole UNNAMED.now HEAD.now STYLE.now BODY.now BEHIND.now) bytes.now)
+        out.old out.new result }
 {
     let Ok(palette) = palette_of(alloc, colors) else {
         return refused(Status::Memory);
@@ -191,7 +179,10 @@ pub extern "C" fn csicodec_html(
     let Some(asked) = choices_of(choices, palette) else {
         return refused(Status::BadState);
     };
-    put_page(alloc, asked, bytes, out)
+    let Ok(page) = page_of(alloc, asked, bytes) else {
+        return refused(Status::Memory);
+    };
+    put(page.as_slice(), out)
 }
 
 /// Puts each line of the bytes as it stands when it ends, where all fits: as plain text, or with how it looks.
@@ -202,8 +193,8 @@ pub extern "C" fn csicodec_overwrite(
     bytes: &[u8],
     out: &mut [u8],
 ) -> Stripped
-    ensures { IsLined styles bytes.now out.old out.new result
-        ⊎ IsLinesRefused styles out.old out.new result }
+    ensures { AnswersBy (λ painted. styles ≡ bit painted)
+        (λ painted. Shows (as_text painted) bytes.now) out.old out.new result }
 {
     let Some(painted) = bit_at(styles) else {
         return refused(Status::BadState);

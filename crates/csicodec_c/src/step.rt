@@ -1,8 +1,8 @@
 //! Untrusted text as it comes, by a state that the caller keeps.
 ghost use Rattle.std.specs.Prelude.{◌≡◌, ◌≤◌, ◌⊎◌, Bool, length, IfSome, IfNone};
 ghost use Rattle.csicodec_clean.specs.declared.step.Pause.{Pause};
-ghost use Rattle.csicodec_c.specs.Step.{IsCleanRefused, IsCleanStep, IsEnd, IsEndRefused, IsState, IsStripRefused, IsStripStep, numbers, refused};
-ghost use Rattle.csicodec_c.specs.Strip.{bit};
+ghost use Rattle.csicodec_c.specs.Step.{IsBadDepth, IsBadState, IsCleanStep, IsEnd, IsState, IsStripStep, numbers, refused};
+ghost use Rattle.csicodec_c.specs.Strip.{IsRefused, bit, refused as nothing};
 
 use crate::filter::{mode_at, number_of};
 use crate::strip::{Stripped, bit_at, depth_at, put, refused as nothing};
@@ -93,7 +93,7 @@ pub extern "C" fn csicodec_strip_step(
     out: &mut [u8],
 ) -> Cleaned
     ensures { IsStripStep state.now bytes.now out.old out.new result
-        ⊎ IsStripRefused state.now (length bytes.now) out.old out.new result }
+        ⊎ IsRefused refused (IsBadState state.now (length bytes.now)) out.old out.new result }
 {
     let Some(pause) = pause_at(state, bytes.len()) else {
         return refused(Status::BadState);
@@ -121,7 +121,7 @@ pub extern "C" fn csicodec_clean_step(
     out: &mut [u8],
 ) -> Cleaned
     ensures { IsCleanStep depth state.now bytes.now out.old out.new result
-        ⊎ IsCleanRefused depth state.now (length bytes.now) out.old out.new result }
+        ⊎ IsRefused refused (IsBadDepth depth ⊎ IsBadState state.now (length bytes.now)) out.old out.new result }
 {
     let (Some(depth), Some(pause)) = (depth_at(depth), pause_at(state, bytes.len())) else {
         return refused(Status::BadState);
@@ -148,7 +148,7 @@ pub extern "C" fn csicodec_clean_end(
     out: &mut [u8],
 ) -> Stripped
     ensures { IsEnd state.now bytes.now out.old out.new result
-        ⊎ IsEndRefused state.now (length bytes.now) out.old out.new result }
+        ⊎ IsRefused nothing (IsBadState state.now (length bytes.now)) out.old out.new result }
 {
     let Some(pause) = pause_at(state, bytes.len()) else {
         return nothing(Status::BadState);

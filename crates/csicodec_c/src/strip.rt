@@ -1,9 +1,11 @@
 //! What is left of untrusted text.
-ghost use Rattle.std.specs.Prelude.{◌≡◌, ◌⊎◌, ◌↔◌, Bool, Some, IfSome, IfNone, length};
+ghost use Rattle.std.specs.Prelude.{◌≡◌, ◌↔◌, Bool, Some, IfSome, IfNone, length};
 ghost use Rattle.csicodec_structs.specs.Room.{Fills};
 ghost use Rattle.csicodec_clean.specs.declared.colors.Depth.{Depth};
+ghost use Rattle.csicodec_clean.specs.declared.colors.Depth.TheVariants as depths;
 ghost use Rattle.csicodec_clean.specs.declared.styles.Passing.{Passing};
-ghost use Rattle.csicodec_c.specs.Strip.{IsCleaned, IsCleanedIn, IsCleanedWith, IsPassing, IsRefused, IsRefusedWith, IsStripped, bit, depth_number, refused, stripped};
+ghost use Rattle.csicodec_clean.specs.Styled.{without_links};
+ghost use Rattle.csicodec_c.specs.Strip.{Answers, AnswersBy, IsCleaned, IsPassing, IsStripped, bit, depth_number, refused, stripped};
 
 use csicodec_clean::{Depth, Passing, clean_with, strip};
 use csicodec_structs::{Status, fill};
@@ -66,20 +68,9 @@ pub(crate) fn depth_at(number: u32) -> Option<Depth>
 /// Puts the plain text of the bytes, where it fits.
 #[unsafe(no_mangle)]
 pub extern "C" fn csicodec_strip(alloc: Global, bytes: &[u8], out: &mut [u8]) -> Stripped
-    ensures { IsStripped bytes.now out.old out.new result ⊎ IsRefused out.old out.new result }
+    ensures { Answers (IsStripped bytes.now) ⊥ out.old out.new result }
 {
     let Ok(text) = strip(alloc, bytes) else {
-        return refused(Status::Memory);
-    };
-    put(text.as_slice(), out)
-}
-
-/// Puts the text of the bytes with what passes, where it fits.
-fn put_cleaned(alloc: Global, passing: Passing, bytes: &[u8], out: &mut [u8]) -> Stripped
-    ensures { IsCleanedIn passing bytes.now out.old out.new result
-        ⊎ IsRefused out.old out.new result }
-{
-    let Ok(text) = clean_with(alloc, passing, bytes) else {
         return refused(Status::Memory);
     };
     put(text.as_slice(), out)
@@ -88,11 +79,16 @@ fn put_cleaned(alloc: Global, passing: Passing, bytes: &[u8], out: &mut [u8]) ->
 /// Puts the text of the bytes with its styles, where it fits.
 #[unsafe(no_mangle)]
 pub extern "C" fn csicodec_clean(alloc: Global, bytes: &[u8], out: &mut [u8]) -> Stripped
-    ensures { IsCleaned bytes.now out.old out.new result ⊎ IsRefused out.old out.new result }
+    ensures { Answers (IsCleaned bytes.now (without_links depths.Full)) ⊥ out.old out.new result }
 {
-    let depth = Depth::Full;
-    let links = false;
-    put_cleaned(alloc, Passing { depth, links }, bytes, out)
+    let passing = Passing {
+        depth: Depth::Full,
+        links: false,
+    };
+    let Ok(text) = clean_with(alloc, passing, bytes) else {
+        return refused(Status::Memory);
+    };
+    put(text.as_slice(), out)
 }
 
 /// What passes, by its numbers.
@@ -115,11 +111,13 @@ pub extern "C" fn csicodec_clean_with(
     bytes: &[u8],
     out: &mut [u8],
 ) -> Stripped
-    ensures { IsCleanedWith depth links bytes.now out.old out.new result
-        ⊎ IsRefusedWith depth links out.old out.new result }
+    ensures { AnswersBy (IsPassing depth links) (IsCleaned bytes.now) out.old out.new result }
 {
     let Some(passing) = passing_at(depth, links) else {
         return refused(Status::BadState);
     };
-    put_cleaned(alloc, passing, bytes, out)
+    let Ok(text) = clean_with(alloc, passing, bytes) else {
+        return refused(Status::Memory);
+    };
+    put(text.as_slice(), out)
 }

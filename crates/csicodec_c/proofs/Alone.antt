@@ -3,22 +3,15 @@ use Rattle.std.specs.Prelude.{pos, is_some}
 use Rattle.std.proofs.Common.{◌≡◌, ◌≢◌, ◌+◌, ◌==◌, ◌&&◌, ◌||◌, ℕ, zero, suc, Bool, true, false, List, [], ◌∷◌, Option, Some, None, get_or, refl, arith}
 use Rattle.std.proofs.lemmas.Bool.{and_parts, eqb-true}
 use Rattle.csicodec_tokens.specs.declared.param.CsiParam.TheVariants.{Integer}
-use Rattle.csicodec_names.specs.Numbered.{with_number}
-use Rattle.csicodec_names.specs.Numbers.{all_codes, number_of}
-use Rattle.csicodec_names.specs.declared.codes.SgrCode.{SgrCode}
+use Rattle.csicodec_names.specs.{Numbered.with_number, Numbers.all_codes, Numbers.number_of, declared.codes.SgrCode.SgrCode}
+use Rattle.csicodec_names.proofs.Coded.{listed-number}
+use Rattle.csicodec_base.specs.{Attributes.action_of, FrontBy.piece, declared.sgr.Sgr.Sgr}
+use Rattle.csicodec_structs.specs.{Rows.sgr_struct, Structs.row}
+use Rattle.csicodec_c.specs.{declared.by_number.StyleRow.StyleRow, declared.attributes.AttributeParts.AttributeParts, declared.by_number.TheConstants.STYLES}
+use Rattle.csicodec_c.specs.{Private.Short.SetsAlone, Private.Short.nothing, Private.Short.plain}
 use Rattle.csicodec_names.specs.declared.codes.SgrCode.TheVariants as code
 use Rattle.csicodec_names.specs.declared.color.Underline.TheVariants as underline
-use Rattle.csicodec_names.proofs.Coded.{listed-number}
-use Rattle.csicodec_base.specs.Attributes.{action_of}
-use Rattle.csicodec_base.specs.FrontBy.{piece}
-use Rattle.csicodec_base.specs.declared.sgr.Sgr.{Sgr}
 use Rattle.csicodec_base.specs.declared.sgr.Sgr.TheVariants as sgr
-use Rattle.csicodec_structs.specs.Rows.{sgr_struct}
-use Rattle.csicodec_structs.specs.Structs.{row}
-use Rattle.csicodec_c.specs.declared.by_number.StyleRow.{StyleRow}
-use Rattle.csicodec_c.specs.declared.attributes.AttributeParts.{AttributeParts}
-use Rattle.csicodec_c.specs.declared.by_number.TheConstants.{STYLES}
-use Rattle.csicodec_c.specs.Private.Short.{SetsAlone, nothing, plain}
 
 -- ---- by its code
 

@@ -1,24 +1,18 @@
 -- Calls that clean untrusted text step by step, in turn.
 use Rattle.std.proofs.Common.{◌≡◌, ◌≤◌, ℕ, Bool, true, false, cond, List, [], ◌∷◌, ◌++◌, length, take, drop, refl, sym, ap, subst, ◌∙◌, arith}
-use Rattle.std.specs.Prelude.{◌==◌}
-use Rattle.std.specs.List.{concat}
 use Rattle.std.proofs.Math.Seq.{take-append_seam}
+use Rattle.std.specs.{Prelude.◌==◌, List.concat}
 use Rattle.csicodec_spans.specs.declared.table.Mode.{Mode}
-use Rattle.csicodec_spans.specs.declared.table.Mode.TheVariants as modes
-use Rattle.csicodec_clean.specs.declared.colors.Depth.{Depth}
-use Rattle.csicodec_clean.specs.declared.colors.Depth.TheVariants as depths
-use Rattle.csicodec_clean.specs.declared.step.Pause.{Pause}
-use Rattle.csicodec_clean.specs.Cleaned.{RuleOf, Strips, drops, longest}
-use Rattle.csicodec_clean.specs.Steps.{AreStepped, Steps, bare, beginning, ending}
-use Rattle.csicodec_clean.specs.Styled.{Keeping, StylesIn, resumed, keeps, without_links}
+use Rattle.csicodec_clean.specs.{declared.colors.Depth.Depth, declared.step.Pause.Pause, Cleaned.RuleOf, Cleaned.Strips, Cleaned.drops, Cleaned.longest}
+use Rattle.csicodec_clean.specs.{Steps.AreStepped, Steps.Steps, Steps.bare, Steps.beginning, Steps.ending, Styled.Keeping, Styled.StylesIn, Styled.resumed}
+use Rattle.csicodec_clean.specs.{Styled.keeps, Styled.without_links}
 use Rattle.csicodec_clean.proofs.Paused.{cleaned_steps, stripped_steps}
-use Rattle.csicodec_c.specs.declared.step.Cleaned.{Cleaned}
-use Rattle.csicodec_c.specs.declared.step.Cleaning.{Cleaning}
-use Rattle.csicodec_c.specs.declared.strip.Stripped.{Stripped}
-use Rattle.csicodec_c.specs.Filter.{mode_number}
-use Rattle.csicodec_c.specs.Step.{AreCalls, IsCleanStep, IsEnd, IsStep, IsStripStep, numbers, zeros}
+use Rattle.csicodec_c.specs.{declared.step.Cleaned.Cleaned, declared.step.Cleaning.Cleaning, declared.strip.Stripped.Stripped, Filter.mode_number}
+use Rattle.csicodec_c.specs.{Step.AreCalls, Step.IsCleanStep, Step.IsEnd, Step.IsStep, Step.IsStripStep, Step.numbers, Step.zeros, Strip.bit}
+use Rattle.csicodec_c.specs.{Strip.depth_number}
 use Rattle.csicodec_structs.specs.Room.{Fills}
-use Rattle.csicodec_c.specs.Strip.{bit, depth_number}
+use Rattle.csicodec_spans.specs.declared.table.Mode.TheVariants as modes
+use Rattle.csicodec_clean.specs.declared.colors.Depth.TheVariants as depths
 
 -- ---- numbers are of one state
 

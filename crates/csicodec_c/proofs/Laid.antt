@@ -2,42 +2,27 @@
 use Rattle.std.specs.Prelude.{ℤ, map, pos}
 use Rattle.std.proofs.Common.{◌≡◌, ◌⊎◌, ◌<◌, ◌+◌, ◌-◌, ℕ, List, [], ◌∷◌, ◌++◌, length, Some, None, refl, ap, sym, ◌∙◌, inl, inr, append-nil, arith}
 use Rattle.std.proofs.lemmas.List.{length-map}
-use Rattle.csicodec_tokens.specs.declared.param.CsiParam.{CsiParam}
-use Rattle.csicodec_tokens.specs.declared.param.CsiParam.TheVariants.{Integer, P}
-use Rattle.csicodec_tokens.specs.Sequence.{IsFinal}
-use Rattle.csicodec_tokens.specs.Private.Reading.{IsFirstToken}
+use Rattle.csicodec_tokens.specs.{declared.param.CsiParam.CsiParam, declared.param.CsiParam.TheVariants.Integer, declared.param.CsiParam.TheVariants.P}
+use Rattle.csicodec_tokens.specs.{Sequence.IsFinal, Private.Reading.IsFirstToken}
 use Rattle.csicodec_base.specs.declared.sgr.Sgr.{Sgr}
-use Rattle.csicodec_actions.specs.declared.cursor.Cursor.{Cursor}
-use Rattle.csicodec_actions.specs.declared.edit.Edit.{Edit}
-use Rattle.csicodec_actions.specs.declared.mode.Change.{Change}
-use Rattle.csicodec_actions.specs.declared.mode.Change.TheVariants as change
-use Rattle.csicodec_actions.specs.declared.mode.DecPrivateMode.{DecPrivateMode}
-use Rattle.csicodec_actions.specs.declared.mode.DecPrivateMode.TheVariants as dec
-use Rattle.csicodec_actions.specs.Actions.{Action, Sgr as Styled}
-use Rattle.csicodec_actions.specs.Actions as action
-use Rattle.csicodec_actions.specs.Kinds.{read}
-use Rattle.csicodec_actions.specs.Modes.{changed, dec_number}
-use Rattle.csicodec_actions.specs.Table.{unboxed, whole}
-use Rattle.csicodec_actions.specs.Table.Cursor.{as_cursor}
-use Rattle.csicodec_actions.specs.Table.Edit.{as_edit}
+use Rattle.csicodec_actions.specs.{declared.cursor.Cursor.Cursor, declared.edit.Edit.Edit, declared.mode.Change.Change}
+use Rattle.csicodec_actions.specs.{declared.mode.DecPrivateMode.DecPrivateMode, Actions.Action, Actions.Sgr as Styled, Kinds.read, Modes.changed}
+use Rattle.csicodec_actions.specs.{Modes.dec_number, Table.unboxed, Table.whole, Table.Cursor.as_cursor, Table.Edit.as_edit}
 use Rattle.csicodec_actions.proofs.Values.{dec-numbered}
-use Rattle.csicodec_parser.specs.Groups.{group}
-use Rattle.csicodec_parser.specs.declared.group.Group.TheVariants.{DecModes}
+use Rattle.csicodec_parser.specs.{Groups.group, declared.group.Group.TheVariants.DecModes}
 use Rattle.csicodec_parser.proofs.Fronts.{front_empty, front_stuck}
 use Rattle.csicodec.proofs.RowGroups.{whole-group}
-use Rattle.csicodec_structs.specs.Next.{IsDone, IsRefused, Lays, all_params, structs}
-use Rattle.csicodec_structs.specs.Private.Fronts.{PutsBehind}
-use Rattle.csicodec_structs.specs.Room.{laid}
 use Rattle.csicodec_structs.specs.Rows.{cursor_struct, edit_struct, mode_struct, params_of, sgr_struct, struct_of}
-use Rattle.csicodec_structs.specs.declared.structs.Param.{Param}
-use Rattle.csicodec_structs.specs.declared.structs.Struct.{Struct}
-use Rattle.csicodec_structs.specs.Status.{status_number}
-use Rattle.csicodec_structs.specs.declared.status.Status.TheVariants as status
-use Rattle.csicodec_structs.proofs.Fronts.{front_answer}
-use Rattle.csicodec_structs.proofs.Laid.{laid_none, lays_more, lays_none}
+use Rattle.csicodec_structs.specs.{Next.IsDone, Next.IsRefused, Next.Lays, Next.all_params, Next.structs, Private.Fronts.PutsBehind, Room.laid}
+use Rattle.csicodec_structs.specs.{declared.structs.Param.Param, declared.structs.Struct.Struct, Status.status_number}
+use Rattle.csicodec_structs.proofs.{Fronts.front_answer, Laid.laid_none, Laid.lays_more, Laid.lays_none}
 use Rattle.csicodec_c.specs.Private.Short.{AreStyles, HasLaid, HasOne, IsRow, ReadsOn, change_final, style_struct}
 use Rattle.csicodec_c.specs.declared.attributes.AttributeParts.{AttributeParts}
 use Rattle.csicodec_c.proofs.Styled.{one_token, read_whole}
+use Rattle.csicodec_actions.specs.declared.mode.Change.TheVariants as change
+use Rattle.csicodec_actions.specs.declared.mode.DecPrivateMode.TheVariants as dec
+use Rattle.csicodec_actions.specs.Actions as action
+use Rattle.csicodec_structs.specs.declared.status.Status.TheVariants as status
 
 -- ---- rows
 

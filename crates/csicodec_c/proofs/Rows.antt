@@ -1,24 +1,15 @@
 -- What one number, or two, before a final stand for.
 use Rattle.std.specs.Prelude.{pos, ◌^◌}
-use Rattle.std.proofs.Common.{◌≡◌, ◌<◌, ℕ, zero, suc, List, Some, refl, inl, inr, arith}
-use Rattle.std.proofs.lemmas.Bool.{lt-ltb}
-use Rattle.std.proofs.lemmas.Option.{same_Some}
-use Rattle.csicodec_tokens.specs.OneBased.{most, or_default}
-use Rattle.csicodec_tokens.specs.declared.param.CsiParam.{CsiParam}
+use Rattle.std.proofs.{Common.◌≡◌, Common.◌<◌, Common.ℕ, Common.zero, Common.suc, Common.List, Common.Some, Common.refl, Common.inl, Common.inr, Common.arith}
+use Rattle.std.proofs.{lemmas.Bool.lt-ltb, lemmas.Option.same_Some}
+use Rattle.csicodec_tokens.specs.{OneBased.most, OneBased.or_default, declared.param.CsiParam.CsiParam}
 use Rattle.csicodec_names.specs.EnumNumbers.{erase_in_display_number, erase_in_line_number, erases_in_display, erases_in_line}
-use Rattle.csicodec_names.specs.Numbered.{with_number}
-use Rattle.csicodec_names.specs.declared.enums.EraseInDisplay.{EraseInDisplay}
-use Rattle.csicodec_names.specs.declared.enums.EraseInLine.{EraseInLine}
-use Rattle.csicodec_actions.specs.Actions.{Cursor as Moves, Edit as Edits}
-use Rattle.csicodec_actions.specs.Kinds.{read}
-use Rattle.csicodec_actions.specs.Rows.{counted as count, given, paired as pair}
-use Rattle.csicodec_actions.specs.Table.Cursor.{as_cursor}
-use Rattle.csicodec_actions.specs.Table.Edit.{as_edit}
-use Rattle.csicodec_actions.specs.declared.cursor.Cursor.{Cursor}
-use Rattle.csicodec_actions.specs.declared.cursor.Cursor.TheVariants as cursor
-use Rattle.csicodec_actions.specs.declared.edit.Edit.{Edit}
-use Rattle.csicodec_actions.specs.declared.edit.Edit.TheVariants as edit
+use Rattle.csicodec_names.specs.{Numbered.with_number, declared.enums.EraseInDisplay.EraseInDisplay, declared.enums.EraseInLine.EraseInLine}
+use Rattle.csicodec_actions.specs.{Actions.Cursor as Moves, Actions.Edit as Edits, Kinds.read, Rows.counted as count, Rows.given, Rows.paired as pair}
+use Rattle.csicodec_actions.specs.{Table.Cursor.as_cursor, Table.Edit.as_edit, declared.cursor.Cursor.Cursor, declared.edit.Edit.Edit}
 use Rattle.csicodec_c.specs.Private.Short.{IsOne, IsTwo}
+use Rattle.csicodec_actions.specs.declared.cursor.Cursor.TheVariants as cursor
+use Rattle.csicodec_actions.specs.declared.edit.Edit.TheVariants as edit
 
 pub or_default_other : (default n : ℕ) → 0 < n → or_default default n ≡ n
 or_default_other default zero above = absurd (omega (arith, above))

@@ -1,36 +1,23 @@
 -- The tokens of attributes, and the actions of their list.
 use Rattle.std.specs.Prelude.{map, pos}
 use Rattle.std.proofs.Common.{◌≡◌, ◌<◌, ◌+◌, ℕ, false, List, [], ◌∷◌, ◌++◌, length, Some, refl, sym, ap, subst, ◌∙◌, inl, inr, arith, append-nil, append_assoc, length-append}
-use Rattle.std.proofs.lemmas.Bool.{lt-ltb}
-use Rattle.std.proofs.lemmas.List.{map-append}
-use Rattle.std.proofs.lemmas.Option.{some_pair_parts}
-use Rattle.csicodec_tokens.specs.declared.param.CsiParam.{CsiParam}
-use Rattle.csicodec_tokens.specs.declared.param.CsiParam.TheVariants.{Integer, P}
-use Rattle.csicodec_tokens.specs.Digits.{IsDigit}
-use Rattle.csicodec_tokens.specs.Sequence.{IsBodyByte, IsFinal, Reads}
-use Rattle.csicodec_tokens.specs.Private.Reading.{HasRead, IsFirstToken}
+use Rattle.std.proofs.{lemmas.Bool.lt-ltb, lemmas.List.map-append, lemmas.Option.some_pair_parts}
+use Rattle.csicodec_tokens.specs.{declared.param.CsiParam.CsiParam, declared.param.CsiParam.TheVariants.Integer, declared.param.CsiParam.TheVariants.P}
+use Rattle.csicodec_tokens.specs.{Digits.IsDigit, Sequence.IsBodyByte, Sequence.IsFinal, Sequence.Reads, Private.Reading.HasRead, Private.Reading.IsFirstToken}
 use Rattle.csicodec_tokens.proofs.Reading.{read_all, read_more, read_none}
 use Rattle.csicodec_names.specs.declared.color.ColorSpec.{ColorSpec}
-use Rattle.csicodec_names.specs.declared.color.ColorSpec.TheVariants as color
-use Rattle.csicodec_base.specs.declared.sgr.Sgr.{Sgr}
-use Rattle.csicodec_base.specs.declared.sgr.Sgr.TheVariants as sgr
-use Rattle.csicodec_base.specs.FrontBy.{color_by, piece}
-use Rattle.csicodec_base.specs.Shapes.{Plane, color_shapes, painted}
-use Rattle.csicodec_base.proofs.CodePieces.{paint}
-use Rattle.csicodec_base.proofs.Table.{is_piece}
+use Rattle.csicodec_base.specs.{declared.sgr.Sgr.Sgr, FrontBy.color_by, FrontBy.piece, Shapes.Plane, Shapes.color_shapes, Shapes.painted}
+use Rattle.csicodec_base.proofs.{CodePieces.paint, Table.is_piece}
 use Rattle.csicodec_actions.specs.Actions.{Sgr as Styled}
-use Rattle.csicodec_parser.specs.Cut.{semicolon}
-use Rattle.csicodec_parser.specs.Groups.{has_odd}
-use Rattle.csicodec_parser.specs.Segments.{Actions}
-use Rattle.csicodec_parser.specs.declared.group.Group.TheVariants.{Styles}
-use Rattle.csicodec_parser.proofs.Fronts.{front_empty, front_stuck}
-use Rattle.csicodec_parser.proofs.GroupOf.{style-list}
+use Rattle.csicodec_parser.specs.{Cut.semicolon, Groups.has_odd, Segments.Actions, declared.group.Group.TheVariants.Styles}
+use Rattle.csicodec_parser.proofs.{Fronts.front_empty, Fronts.front_stuck, GroupOf.style-list}
 use Rattle.csicodec.specs.Compose.{EndsInSemicolon}
 use Rattle.csicodec.proofs.Compose.{ends-joined, ends-part, plain-joint, sgr_compose_lem}
-use Rattle.csicodec_structs.specs.Rows.{sgr_struct}
-use Rattle.csicodec_structs.specs.Structs.{color_row}
+use Rattle.csicodec_structs.specs.{Rows.sgr_struct, Structs.color_row}
 use Rattle.csicodec_c.specs.Private.Short.{AreStyles, HasStyles, IsMark, IsOne, IsPainted, IsRow, ReadsOn, SetsAlone, style_struct}
 use Rattle.csicodec_c.specs.declared.attributes.AttributeParts.{AttributeParts}
+use Rattle.csicodec_names.specs.declared.color.ColorSpec.TheVariants as color
+use Rattle.csicodec_base.specs.declared.sgr.Sgr.TheVariants as sgr
 
 -- ---- tokens in turn
 

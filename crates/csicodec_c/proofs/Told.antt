@@ -1,25 +1,19 @@
 -- The answers of the call for an event, from the event and what the structs were laid into.
 use Rattle.std.proofs.Common.{◌≡◌, ◌⊎◌, ℕ, ◌-◌, List, [], length, take, drop, refl, sym, ap, subst, ◌∙◌, inl, inr, append-nil, arith}
 use Rattle.std.proofs.lemmas.List.{length-take, take-append-drop}
-use Rattle.csicodec_tokens.specs.declared.param.CsiParam.{CsiParam}
-use Rattle.csicodec_tokens.specs.declared.reader.ReadError.{ReadError}
-use Rattle.csicodec_tokens.specs.declared.reader.ReadError.TheVariants as reading
-use Rattle.csicodec_tokens.specs.Sequence.{Seq}
+use Rattle.csicodec_tokens.specs.{declared.param.CsiParam.CsiParam, declared.reader.ReadError.ReadError, Sequence.Seq}
 use Rattle.csicodec_tokens.proofs.Unique.{one_seq}
 use Rattle.csicodec_spans.specs.declared.table.Mode.{Mode}
-use Rattle.csicodec_spans.specs.declared.table.Mode.TheVariants as modes
 use Rattle.csicodec_spans.proofs.Sequences.{short, whole}
-use Rattle.csicodec_events.specs.declared.event.Event.TheVariants as event
-use Rattle.csicodec_events.specs.declared.event.Events.{Events}
-use Rattle.csicodec_events.specs.Events.{BeginsCsi, onward, without_controls}
+use Rattle.csicodec_events.specs.{declared.event.Events.Events, Events.BeginsCsi, Events.onward, Events.without_controls}
 use Rattle.csicodec_events.proofs.Sequences.{at_once}
-use Rattle.csicodec_structs.specs.declared.next.NextSequence.{NextSequence}
-use Rattle.csicodec_structs.specs.declared.structs.Param.{Param}
-use Rattle.csicodec_structs.specs.declared.structs.Struct.{Struct}
-use Rattle.csicodec_structs.specs.Next.{IsDone as IsLaid, IsRefused as IsUnlaid, refusal}
-use Rattle.csicodec_c.specs.declared.event.Evented.{Evented}
-use Rattle.csicodec_c.specs.Filter.{mode_number}
-use Rattle.csicodec_c.specs.Event.{HasPut, IsDone, IsRefused, IsWaiting, read_at_once, stream}
+use Rattle.csicodec_structs.specs.{declared.next.NextSequence.NextSequence, declared.structs.Param.Param, declared.structs.Struct.Struct, Next.IsDone as IsLaid}
+use Rattle.csicodec_structs.specs.{Next.IsRefused as IsUnlaid, Next.refusal}
+use Rattle.csicodec_c.specs.{declared.event.Evented.Evented, Filter.mode_number, Event.HasPut, Event.IsDone, Event.IsRefused, Event.IsWaiting}
+use Rattle.csicodec_c.specs.{Event.read_at_once, Event.stream}
+use Rattle.csicodec_tokens.specs.declared.reader.ReadError.TheVariants as reading
+use Rattle.csicodec_spans.specs.declared.table.Mode.TheVariants as modes
+use Rattle.csicodec_events.specs.declared.event.Event.TheVariants as event
 
 -- ---- what was laid
 

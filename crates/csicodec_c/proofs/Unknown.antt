@@ -1,20 +1,13 @@
 -- The struct of an unknown action, and its tokens.
 use Rattle.std.proofs.Common.{◌≡◌, ◌<◌, ◌≤◌, ◌-◌, ◌++◌, ◌+◌, ℕ, List, [], ◌∷◌, Option, None, Some, length, map, take, set, slice_index_or, refl, sym, ap, subst, ◌∙◌, arith}
-use Rattle.std.specs.Prelude.{false, replicate}
-use Rattle.std.specs.List.{All}
-use Rattle.std.proofs.lemmas.List.{drop-replicate, map-append, take_more, take_more_set}
-use Rattle.std.proofs.lemmas.List.Elements.{All-push}
+use Rattle.std.proofs.{lemmas.List.drop-replicate, lemmas.List.map-append, lemmas.List.take_more, lemmas.List.take_more_set, lemmas.List.Elements.All-push}
+use Rattle.std.specs.{Prelude.false, Prelude.replicate, List.All}
 use Rattle.csicodec_tokens.specs.declared.param.CsiParam.{CsiParam}
 use Rattle.csicodec_actions.specs.Actions.{Unspecified}
-use Rattle.csicodec_sequences.specs.declared.row.SequenceForm.{SequenceForm}
-use Rattle.csicodec_sequences.specs.Known.{reading}
+use Rattle.csicodec_sequences.specs.{declared.row.SequenceForm.SequenceForm, Known.reading}
 use Rattle.csicodec_sequences.proofs.Table.{longest}
-use Rattle.csicodec_structs.specs.declared.structs.Param.{Param}
-use Rattle.csicodec_structs.specs.declared.structs.Struct.{Struct}
-use Rattle.csicodec_structs.specs.Encode.{Stands}
-use Rattle.csicodec_structs.specs.Room.{Fills}
-use Rattle.csicodec_structs.specs.Structs.{param_of}
-use Rattle.csicodec_structs.specs.Values.{TokenInRange}
+use Rattle.csicodec_structs.specs.{declared.structs.Param.Param, declared.structs.Struct.Struct, Encode.Stands, Room.Fills, Structs.param_of}
+use Rattle.csicodec_structs.specs.{Values.TokenInRange}
 use Rattle.csicodec_structs.proofs.OneAction.{same-action}
 use Rattle.csicodec_c.specs.Recognised.{AreTokens}
 

@@ -2,12 +2,8 @@
 use Rattle.std.specs.Prelude.{ℕ, List}
 use Rattle.csicodec_actions.specs.Actions.{Action}
 use Rattle.csicodec_compact.specs.Compacts.{Compacts, Encodes}
-use Rattle.csicodec_structs.specs.declared.encode.Encoded.{Encoded}
-use Rattle.csicodec_c.specs.declared.filter.Filtered.{Filtered}
-use Rattle.csicodec_structs.specs.declared.structs.Param.{Param}
-use Rattle.csicodec_structs.specs.declared.structs.Struct.{Struct}
-use Rattle.csicodec_structs.specs.Encode.{AllStand, IsPut}
-use Rattle.csicodec_c.specs.Filter.{IsStep}
+use Rattle.csicodec_structs.specs.{declared.encode.Encoded.Encoded, declared.structs.Param.Param, declared.structs.Struct.Struct, Encode.AllStand, Encode.IsPut}
+use Rattle.csicodec_c.specs.{declared.filter.Filtered.Filtered, Filter.IsStep}
 
 -- a step of a filter that writes spellings that are read alike, and no longer
 abbrev pub IsCompacted : ℕ → ℕ → List ℕ → List ℕ → List ℕ → Filtered → Type 0

@@ -4,19 +4,12 @@ use Rattle.csicodec_tokens.specs.declared.param.CsiParam.{CsiParam}
 use Rattle.csicodec_spans.specs.declared.table.Mode.{Mode}
 use Rattle.csicodec_actions.specs.Actions.{Action}
 use Rattle.csicodec_parser.specs.Segments.{Actions}
-use Rattle.csicodec_events.specs.declared.event.Event.{Event}
+use Rattle.csicodec_events.specs.{declared.event.Event.Event, declared.event.Events.Events, Events.IsMet, Events.IsTold, Events.Waits}
+use Rattle.csicodec_structs.specs.{declared.next.NextSequence.NextSequence, declared.structs.Param.Param, declared.structs.Struct.Struct, Next.Lays}
+use Rattle.csicodec_structs.specs.{Status.status_number, declared.status.Status.Status}
+use Rattle.csicodec_c.specs.{declared.event.Evented.Evented, Filter.mode_number}
 use Rattle.csicodec_events.specs.declared.event.Event.TheVariants as event
-use Rattle.csicodec_events.specs.declared.event.Events.{Events}
-use Rattle.csicodec_events.specs.Events.{IsMet, IsTold, Waits}
-use Rattle.csicodec_structs.specs.declared.next.NextSequence.{NextSequence}
-use Rattle.csicodec_structs.specs.declared.structs.Param.{Param}
-use Rattle.csicodec_structs.specs.declared.structs.Struct.{Struct}
-use Rattle.csicodec_structs.specs.Next.{Lays}
-use Rattle.csicodec_structs.specs.Status.{status_number}
-use Rattle.csicodec_structs.specs.declared.status.Status.{Status}
 use Rattle.csicodec_structs.specs.declared.status.Status.TheVariants as status
-use Rattle.csicodec_c.specs.declared.event.Evented.{Evented}
-use Rattle.csicodec_c.specs.Filter.{mode_number}
 
 -- the numbers of `enum csicodec_event_kind`
 abbrev pub event_number : Event → ℕ

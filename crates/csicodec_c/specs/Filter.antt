@@ -1,13 +1,11 @@
 -- What a step of a filter answers a C program.
 use Rattle.std.specs.Prelude.{ℕ, ◌≡◌, ◌⊎◌, ◌≤◌, List, drop, length}
 use Rattle.csicodec_spans.specs.declared.table.Mode.{Mode}
-use Rattle.csicodec_spans.specs.declared.table.Mode.TheVariants as modes
 use Rattle.csicodec_filter.specs.Filter.{Passes}
 use Rattle.csicodec_streams.specs.Decoding.{NormalisesTo}
 use Rattle.csicodec_c.specs.declared.filter.Filtered.{Filtered}
-use Rattle.csicodec_structs.specs.Room.{Fills}
-use Rattle.csicodec_structs.specs.Status.{status_number}
-use Rattle.csicodec_structs.specs.declared.status.Status.{Status}
+use Rattle.csicodec_structs.specs.{Room.Fills, Status.status_number, declared.status.Status.Status}
+use Rattle.csicodec_spans.specs.declared.table.Mode.TheVariants as modes
 use Rattle.csicodec_structs.specs.declared.status.Status.TheVariants as status
 
 abbrev pub mode_number : Mode → ℕ

@@ -2,15 +2,10 @@
 use Rattle.std.specs.Prelude.{ℕ, ◌≡◌, ◌==◌, ◌/◌, ◌%◌, ◌||◌, Bool, true, false, Option, Some, List, ◌++◌, length, map, if◌then◌else◌}
 use Rattle.csicodec_names.specs.declared.color.SrgbaTuple.{SrgbaTuple}
 use Rattle.csicodec_clean.specs.Palette.{rgb}
-use Rattle.csicodec_html.specs.declared.markup.Markup.{Markup}
-use Rattle.csicodec_html.specs.declared.palette.Palette.{Palette}
-use Rattle.csicodec_html.specs.Given.{given_palette}
-use Rattle.csicodec_html.specs.Page.{IsPageWith, PageWith, simple}
-use Rattle.csicodec_html.specs.Sheet.{IsTitle, sheet}
+use Rattle.csicodec_html.specs.{declared.markup.Markup.Markup, declared.palette.Palette.Palette, Given.given_palette, Page.IsPageWith, Page.PageWith}
+use Rattle.csicodec_html.specs.{Page.simple, Sheet.IsTitle, Sheet.sheet}
 use Rattle.csicodec_overwrite.specs.Reading.{Paints}
-use Rattle.csicodec_c.specs.declared.html.PageSettings.{PageSettings}
-use Rattle.csicodec_c.specs.declared.html.Choices.{Choices}
-use Rattle.csicodec_c.specs.Strip.{bit}
+use Rattle.csicodec_c.specs.{declared.html.PageSettings.PageSettings, declared.html.Choices.Choices, Strip.bit}
 
 -- a colour by its number: eight bits each of red, green and blue, which are the lowest
 abbrev pub color_of : ℕ → SrgbaTuple

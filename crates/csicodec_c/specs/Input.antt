@@ -2,22 +2,15 @@
 use Rattle.std.specs.Prelude.{ℕ, ◌≡◌, ◌⊎◌, ◌++◌, List, [], length}
 use Rattle.csicodec_tokens.specs.declared.param.CsiParam.{CsiParam}
 use Rattle.csicodec_spans.specs.declared.table.Mode.{Mode}
-use Rattle.csicodec_events.specs.declared.event.Event.{Event}
+use Rattle.csicodec_events.specs.{declared.event.Event.Event, declared.event.Events.Events, declared.input.Dialect.Dialect}
+use Rattle.csicodec_events.specs.{declared.input.InputEvent.InputEvent, Input.Awaits, Input.IsSent, Input.IsSentBy, Input.paused}
+use Rattle.csicodec_structs.specs.{declared.structs.Param.Param, declared.structs.Struct.Struct, Status.status_number, declared.status.Status.Status}
+use Rattle.csicodec_c.specs.{declared.input.Received.Received, Event.IsBadState as IsNoState, Event.Puts as PutsTold, Event.event_number, Event.stream}
+use Rattle.csicodec_c.specs.{Filter.mode_number}
 use Rattle.csicodec_events.specs.declared.event.Event.TheVariants as event
-use Rattle.csicodec_events.specs.declared.event.Events.{Events}
-use Rattle.csicodec_events.specs.declared.input.Dialect.{Dialect}
 use Rattle.csicodec_events.specs.declared.input.Dialect.TheVariants as dialects
-use Rattle.csicodec_events.specs.declared.input.InputEvent.{InputEvent}
 use Rattle.csicodec_events.specs.declared.input.InputEvent.TheVariants as input
-use Rattle.csicodec_events.specs.Input.{Awaits, IsSent, IsSentBy, paused}
-use Rattle.csicodec_structs.specs.declared.structs.Param.{Param}
-use Rattle.csicodec_structs.specs.declared.structs.Struct.{Struct}
-use Rattle.csicodec_structs.specs.Status.{status_number}
-use Rattle.csicodec_structs.specs.declared.status.Status.{Status}
 use Rattle.csicodec_structs.specs.declared.status.Status.TheVariants as status
-use Rattle.csicodec_c.specs.declared.input.Received.{Received}
-use Rattle.csicodec_c.specs.Event.{IsBadState as IsNoState, Puts as PutsTold, event_number, stream}
-use Rattle.csicodec_c.specs.Filter.{mode_number}
 
 -- the numbers of `enum csicodec_dialect`
 abbrev pub dialect_number : Dialect → ℕ

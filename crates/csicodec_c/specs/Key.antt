@@ -2,25 +2,18 @@
 use Rattle.std.specs.Prelude.{ℕ, ◌≡◌, ◌⊎◌, List, [], ◌∷◌, length, Option, None, Some, option_and_then}
 use Rattle.bstr.specs.Utf8.{decoded}
 use Rattle.csicodec_tokens.specs.declared.param.CsiParam.{CsiParam}
+use Rattle.csicodec_events.specs.{declared.event.Events.Events, declared.input.InputEvent.InputEvent, Input.Awaits, Input.IsSent, Input.IsSentBy, Input.paused}
+use Rattle.csicodec_keys.specs.{declared.key.Encoding.Encoding, declared.key.KeyEvent.KeyEvent, Forms.by, Forms.read_char, Forms.read_event, Keys.Stroke}
+use Rattle.csicodec_keys.specs.{SameKeys.code_tag, SameKeys.code_value}
+use Rattle.csicodec_structs.specs.{Room.Fills, Status.status_number, declared.status.Status.Status}
+use Rattle.csicodec_c.specs.declared.key.FrontKey.{FrontKey}
 use Rattle.csicodec_spans.specs.declared.table.Mode.TheVariants as mode
 use Rattle.csicodec_events.specs.declared.event.Event.TheVariants as event
-use Rattle.csicodec_events.specs.declared.event.Events.{Events}
 use Rattle.csicodec_events.specs.declared.input.Dialect.TheVariants as dialects
-use Rattle.csicodec_events.specs.declared.input.InputEvent.{InputEvent}
 use Rattle.csicodec_events.specs.declared.input.InputEvent.TheVariants as input
-use Rattle.csicodec_events.specs.Input.{Awaits, IsSent, IsSentBy, paused}
-use Rattle.csicodec_keys.specs.declared.key.Encoding.{Encoding}
 use Rattle.csicodec_keys.specs.declared.key.Encoding.TheVariants as encoding
-use Rattle.csicodec_keys.specs.declared.key.KeyEvent.{KeyEvent}
 use Rattle.csicodec_keys.specs.declared.key.KeyEvent.TheVariants as key
-use Rattle.csicodec_keys.specs.Forms.{by, read_char, read_event}
-use Rattle.csicodec_keys.specs.Keys.{Stroke}
-use Rattle.csicodec_keys.specs.SameKeys.{code_tag, code_value}
-use Rattle.csicodec_structs.specs.Room.{Fills}
-use Rattle.csicodec_structs.specs.Status.{status_number}
-use Rattle.csicodec_structs.specs.declared.status.Status.{Status}
 use Rattle.csicodec_structs.specs.declared.status.Status.TheVariants as status
-use Rattle.csicodec_c.specs.declared.key.FrontKey.{FrontKey}
 
 -- the numbers of `enum csicodec_key_event`
 abbrev pub happens : KeyEvent → ℕ

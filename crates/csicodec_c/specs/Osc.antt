@@ -1,10 +1,9 @@
 -- What the call that reads an OSC answers a C program.
 use Rattle.std.specs.Prelude.{ℕ, ◌≡◌, ◌-◌, List, length, Option, None, Some}
-use Rattle.csicodec_osc.specs.declared.osc.Osc.{Osc}
-use Rattle.csicodec_osc.specs.declared.osc.Osc.TheVariants as osc
-use Rattle.csicodec_osc.specs.Osc.{Says, asked_text, list_text, said, value_of}
-use Rattle.csicodec_c.specs.declared.osc.Commanded.{Commanded}
+use Rattle.csicodec_osc.specs.{declared.osc.Osc.Osc, Osc.Says, Osc.asked_text, Osc.list_text, Osc.said, Osc.value_of}
 use Rattle.csicodec_c.specs.OscKinds.{clipboard_kind, dynamic_kind, dynamic_reset_kind, editor_mark_kind, folder_kind, kitty_notice_kind, link_kind, mark_kind, notice_kind, color_table_kind, color_table_reset_kind, pointer_kind, progress_kind, title_kind, titled_notice_kind}
+use Rattle.csicodec_c.specs.declared.osc.Commanded.{Commanded}
+use Rattle.csicodec_osc.specs.declared.osc.Osc.TheVariants as osc
 
 -- a command with a text that ends the content, which has so many bytes
 abbrev pub one : ℕ → ℕ → List ℕ → Commanded

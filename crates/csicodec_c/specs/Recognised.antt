@@ -1,15 +1,10 @@
 -- What the call for an unknown action answers a C program: which row of the table of further sequences reads its list.
-use Rattle.std.specs.Prelude.{ℕ, ◌≡◌, ◌-◌, ◌++◌, false, List, [], Some, None, length, map, replicate}
-use Rattle.std.specs.List.{All}
+use Rattle.std.specs.{Prelude.ℕ, Prelude.◌≡◌, Prelude.◌-◌, Prelude.◌++◌, Prelude.false, Prelude.List, Prelude.[], Prelude.Some, Prelude.None, Prelude.length}
+use Rattle.std.specs.{Prelude.map, Prelude.replicate, List.All}
 use Rattle.csicodec_tokens.specs.declared.param.CsiParam.{CsiParam}
 use Rattle.csicodec_actions.specs.Actions.{Unspecified}
-use Rattle.csicodec_sequences.specs.declared.row.SequenceForm.{SequenceForm}
-use Rattle.csicodec_sequences.specs.Known.{reading}
-use Rattle.csicodec_structs.specs.declared.structs.Param.{Param}
-use Rattle.csicodec_structs.specs.declared.structs.Struct.{Struct}
-use Rattle.csicodec_structs.specs.Encode.{Stands}
-use Rattle.csicodec_structs.specs.Structs.{param_of}
-use Rattle.csicodec_structs.specs.Values.{TokenInRange}
+use Rattle.csicodec_sequences.specs.{declared.row.SequenceForm.SequenceForm, Known.reading}
+use Rattle.csicodec_structs.specs.{declared.structs.Param.Param, declared.structs.Struct.Struct, Encode.Stands, Structs.param_of, Values.TokenInRange}
 use Rattle.csicodec_c.specs.declared.recognise.Recognised.{Recognised}
 
 -- a kind and values, with zeros behind them up to 12

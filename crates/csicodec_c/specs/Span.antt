@@ -1,16 +1,11 @@
 -- What the calls for the span at the front of a stream, and for an escape sequence, answer a C program.
 use Rattle.std.specs.Prelude.{ℕ, ◌≡◌, ◌≢◌, ◌<◌, ◌++◌, List, Some, length}
-use Rattle.csicodec_spans.specs.declared.table.Kind.{Kind}
+use Rattle.csicodec_spans.specs.{declared.table.Kind.Kind, declared.table.Mode.Mode, Parts.Cuts, Parts.IsMaximal, Parts.IsUnsure}
+use Rattle.csicodec_names.specs.{declared.esc_codes.EscCode.EscCode, Esc.esc_number, Esc.packed}
+use Rattle.csicodec_structs.specs.{Status.status_number, declared.status.Status.Status}
+use Rattle.csicodec_c.specs.{declared.span.Spanned.Spanned, Filter.IsBadState, Filter.mode_number}
 use Rattle.csicodec_spans.specs.declared.table.Kind.TheVariants as kinds
-use Rattle.csicodec_spans.specs.declared.table.Mode.{Mode}
-use Rattle.csicodec_spans.specs.Parts.{Cuts, IsMaximal, IsUnsure}
-use Rattle.csicodec_names.specs.declared.esc_codes.EscCode.{EscCode}
-use Rattle.csicodec_names.specs.Esc.{esc_number, packed}
-use Rattle.csicodec_structs.specs.Status.{status_number}
-use Rattle.csicodec_structs.specs.declared.status.Status.{Status}
 use Rattle.csicodec_structs.specs.declared.status.Status.TheVariants as status
-use Rattle.csicodec_c.specs.declared.span.Spanned.{Spanned}
-use Rattle.csicodec_c.specs.Filter.{IsBadState, mode_number}
 
 abbrev pub kind_number : Kind → ℕ
 kind_number kinds.Text = 0

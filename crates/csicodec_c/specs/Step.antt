@@ -1,19 +1,11 @@
 -- What the calls that clean untrusted text step by step answer a C program.
 use Rattle.std.specs.Prelude.{ℕ, ◌≡◌, ◌≤◌, Bool, List, [], ◌∷◌, ◌++◌, length, take, drop}
-use Rattle.csicodec_clean.specs.declared.colors.Depth.{Depth}
-use Rattle.csicodec_clean.specs.declared.step.Pause.{Pause}
-use Rattle.csicodec_clean.specs.Cleaned.{RuleOf, drops}
-use Rattle.csicodec_clean.specs.Steps.{Steps, bare, ending}
-use Rattle.csicodec_clean.specs.Styled.{Keeping, resumed, keeps}
-use Rattle.csicodec_c.specs.declared.step.Cleaned.{Cleaned}
-use Rattle.csicodec_c.specs.declared.step.Cleaning.{Cleaning}
-use Rattle.csicodec_c.specs.declared.strip.Stripped.{Stripped}
-use Rattle.csicodec_c.specs.Filter.{mode_number}
-use Rattle.csicodec_structs.specs.Room.{Fills}
-use Rattle.csicodec_structs.specs.Status.{status_number}
-use Rattle.csicodec_structs.specs.declared.status.Status.{Status}
+use Rattle.csicodec_clean.specs.{declared.colors.Depth.Depth, declared.step.Pause.Pause, Cleaned.RuleOf, Cleaned.drops, Steps.Steps, Steps.bare, Steps.ending}
+use Rattle.csicodec_clean.specs.{Styled.Keeping, Styled.resumed, Styled.keeps}
+use Rattle.csicodec_c.specs.{declared.step.Cleaned.Cleaned, declared.step.Cleaning.Cleaning, declared.strip.Stripped.Stripped, Filter.mode_number, Strip.Puts}
+use Rattle.csicodec_c.specs.{Strip.bit, Strip.depth_number}
+use Rattle.csicodec_structs.specs.{Room.Fills, Status.status_number, declared.status.Status.Status}
 use Rattle.csicodec_structs.specs.declared.status.Status.TheVariants as status
-use Rattle.csicodec_c.specs.Strip.{Puts, bit, depth_number}
 
 -- the numbers of a state
 abbrev pub numbers : Pause → Cleaning

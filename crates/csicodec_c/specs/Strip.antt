@@ -1,16 +1,10 @@
 -- What the calls that strip untrusted text answer a C program.
-use Rattle.std.specs.Prelude.{ℕ, ◌≡◌, ◌≢◌, ◌⊎◌, Bool, true, false, List, length}
-use Rattle.std.specs.List.{All}
-use Rattle.csicodec_clean.specs.declared.colors.Depth.{Depth}
-use Rattle.csicodec_clean.specs.declared.colors.Depth.TheVariants as depths
-use Rattle.csicodec_clean.specs.declared.styles.Passing.{Passing}
-use Rattle.csicodec_clean.specs.Cleaned.{Strips, longest}
-use Rattle.csicodec_clean.specs.Shown.{IsPlain}
-use Rattle.csicodec_clean.specs.Styled.{IsStyledIn, StylesIn}
+use Rattle.std.specs.{Prelude.ℕ, Prelude.◌≡◌, Prelude.◌≢◌, Prelude.◌⊎◌, Prelude.Bool, Prelude.true, Prelude.false, Prelude.List, Prelude.length, List.All}
+use Rattle.csicodec_clean.specs.{declared.colors.Depth.Depth, declared.styles.Passing.Passing, Cleaned.Strips, Cleaned.longest, Shown.IsPlain}
+use Rattle.csicodec_clean.specs.{Styled.IsStyledIn, Styled.StylesIn}
 use Rattle.csicodec_c.specs.declared.strip.Stripped.{Stripped}
-use Rattle.csicodec_structs.specs.Room.{Fills}
-use Rattle.csicodec_structs.specs.Status.{status_number}
-use Rattle.csicodec_structs.specs.declared.status.Status.{Status}
+use Rattle.csicodec_structs.specs.{Room.Fills, Status.status_number, declared.status.Status.Status}
+use Rattle.csicodec_clean.specs.declared.colors.Depth.TheVariants as depths
 use Rattle.csicodec_structs.specs.declared.status.Status.TheVariants as status
 
 abbrev pub stripped : ℕ → Stripped

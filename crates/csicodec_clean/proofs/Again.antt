@@ -1,52 +1,28 @@
 -- What `clean` left has one reading, and is left as it is.
 use Rattle.std.proofs.Common.{◌≡◌, ℕ, Bool, true, false, cond, List, [], ◌∷◌, ◌++◌, map, encode_utf8, encode_utf8_all, refl, sym, ap, subst, ◌∙◌, append_assoc, append-nil, arith}
-use Rattle.std.specs.Prelude.{filter, ◌==◌, not}
-use Rattle.std.specs.List.{AllByRecursion, flat_map}
-use Rattle.std.specs.Str.{all_scalars}
-use Rattle.std.specs.Char.{IsScalar}
-use Rattle.std.proofs.lemmas.Bool.{and_from, and_parts}
-use Rattle.std.proofs.lemmas.Bool.Decides.{nat_tests}
-use Rattle.std.proofs.lemmas.Grind.{flat_map-append}
-use Rattle.std.proofs.lemmas.List.{map-append}
+use Rattle.std.proofs.{lemmas.Bool.and_from, lemmas.Bool.and_parts, lemmas.Bool.Decides.nat_tests, lemmas.Grind.flat_map-append, lemmas.List.map-append}
+use Rattle.std.specs.{Prelude.filter, Prelude.◌==◌, Prelude.not, List.AllByRecursion, List.flat_map, Str.all_scalars, Char.IsScalar}
 use lib.Utf8.{scalar}
 use Rattle.bstr.specs.Utf8.{lossy_chars}
-use Rattle.bstr.proofs.lemmas.EncodeLemmas.{lossy_chars-encode}
-use Rattle.bstr.proofs.lemmas.PieceLemmas.{lossy_chars-nil}
-use Rattle.csicodec_clean.specs.declared.colors.Depth.{Depth}
-use Rattle.csicodec_base.specs.declared.sgr.Sgr.{Sgr}
-use Rattle.csicodec_base.specs.SgrText.{sgr_text}
-use Rattle.csicodec_actions.specs.Actions.{Action}
-use Rattle.csicodec_actions.specs.Actions as action
-use Rattle.csicodec_actions.specs.Table.{text}
+use Rattle.bstr.proofs.{lemmas.EncodeLemmas.lossy_chars-encode, lemmas.PieceLemmas.lossy_chars-nil}
+use Rattle.csicodec_clean.specs.Links.{Address, Begun, IsLink, admitted, all_behind, begun, is_param, is_visible, link_body, link_text, links_at, links_in, next, start}
+use Rattle.csicodec_clean.specs.Styled.{kept, Item, Shown, Style, Link, item_texts, shown_items, hides, Leaves, begun_behind, run_behind, items_behind, AreLeft, closed, StylesIn, IsSafe, IsStyledIn}
+use Rattle.csicodec_clean.specs.{declared.colors.Depth.Depth, Shown.shown, Shown.shown_text, Shown.IsShown, Titles.with_titles, declared.styles.Passing.Passing}
+use Rattle.csicodec_clean.specs.{Palette.reduced, Cleaned.Strips, Cleaned.stripped, Cleaned.is_text, Cleaned.longest}
+use Rattle.csicodec_base.specs.{declared.sgr.Sgr.Sgr, SgrText.sgr_text}
+use Rattle.csicodec_actions.specs.{Actions.Action, Table.text}
 use Rattle.csicodec.specs.Exact.{ReadsAlone}
 use Rattle.csicodec_terminal.proofs.Unique.{taken_once}
-use Rattle.csicodec_spans.specs.declared.table.Kind.{Kind}
+use Rattle.csicodec_spans.specs.{declared.table.Kind.Kind, declared.table.Mode.Mode, Table.Answer, Parts.Part, Parts.part, Parts.Allows, Parts.AreFirstParts}
+use Rattle.csicodec_spans.specs.{Parts.IsFirstPart, Parts.IsWhole}
+use Rattle.csicodec_spans.proofs.{OneSpan.singles, Apart.said, Agrees.opens, Kept.parts_more, Kept.parts_on, Once.whole_once}
+use Rattle.csicodec_clean.proofs.{Shows.encoded_on, Linked.body_read, Linked.itself, Coded.piece, Coded.style_taken, Plain.scalars_on, PlainBytes.all_both}
+use Rattle.csicodec_clean.proofs.{PlainBytes.all_weaker, PlainBytes.one_char, Styled.safe_closed, Styled.styled, Twice.all_kept, Twice.all_text}
+use Rattle.csicodec_clean.proofs.{Twice.whole_all}
+use Rattle.csicodec_actions.specs.Actions as action
 use Rattle.csicodec_spans.specs.declared.table.Kind.TheVariants as kind
 use Rattle.csicodec_spans.specs.declared.table.Mode.TheVariants as mode
-use Rattle.csicodec_spans.specs.declared.table.Mode.{Mode}
-use Rattle.csicodec_spans.specs.Table.{Answer}
-use Rattle.csicodec_spans.specs.Parts.{Part, part, Allows, AreFirstParts, IsFirstPart, IsWhole}
-use Rattle.csicodec_spans.proofs.OneSpan.{singles}
-use Rattle.csicodec_spans.proofs.Apart.{said}
-use Rattle.csicodec_spans.proofs.Agrees.{opens}
-use Rattle.csicodec_spans.proofs.Kept.{parts_more, parts_on}
-use Rattle.csicodec_spans.proofs.Once.{whole_once}
-use Rattle.csicodec_clean.specs.Shown.{shown, shown_text, IsShown}
-use Rattle.csicodec_clean.specs.Titles.{with_titles}
-use Rattle.csicodec_clean.specs.declared.styles.Passing.{Passing}
 use Rattle.csicodec_clean.specs.declared.links.LinkState.TheVariants as place
-use Rattle.csicodec_clean.specs.Links.{Address, Begun, IsLink, admitted, all_behind, begun, is_param, is_visible, link_body, link_text, links_at, links_in, next, start}
-use Rattle.csicodec_clean.specs.Palette.{reduced}
-use Rattle.csicodec_clean.specs.Cleaned.{Strips, stripped, is_text, longest}
-use Rattle.csicodec_clean.specs.Styled.{kept, Item, Shown, Style, Link, item_texts, shown_items, hides, Leaves, begun_behind, run_behind}
-use Rattle.csicodec_clean.specs.Styled.{items_behind, AreLeft, closed, StylesIn, IsSafe, IsStyledIn}
-use Rattle.csicodec_clean.proofs.Shows.{encoded_on}
-use Rattle.csicodec_clean.proofs.Linked.{body_read, itself}
-use Rattle.csicodec_clean.proofs.Coded.{piece, style_taken}
-use Rattle.csicodec_clean.proofs.Plain.{scalars_on}
-use Rattle.csicodec_clean.proofs.PlainBytes.{all_both, all_weaker, one_char}
-use Rattle.csicodec_clean.proofs.Styled.{safe_closed, styled}
-use Rattle.csicodec_clean.proofs.Twice.{all_kept, all_text, whole_all}
 
 -- ---- the parts of such a text
 

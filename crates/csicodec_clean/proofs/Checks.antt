@@ -1,26 +1,15 @@
 -- Where text of a class of characters ends.
-use Rattle.std.proofs.Common.{◌≡◌, ◌≢◌, ◌<◌, ◌≤◌, ◌-◌, ◌+◌, ◌^◌, ◌==◌, ℕ, Bool, true, false, None, Some, cond, min, nat_eq, List, [], ◌∷◌, ◌++◌, length}
-use Rattle.std.proofs.Common.{length-append, take, drop, encode_utf8, encode_utf8_all, refl, sym, ap, subst, ◌∙◌, arith, append_assoc, append-nil}
-use Rattle.std.specs.List.{AllByRecursion}
-use Rattle.std.specs.Str.{all_scalars}
-use Rattle.std.proofs.lemmas.Bool.{and_from, and_parts, false≢true}
-use Rattle.std.proofs.lemmas.List.{append_cancel_left}
-use Rattle.std.proofs.lemmas.Bool.Decides.{nat_tests}
-use Rattle.std.proofs.lemmas.Grind.{common_steps}
-use Rattle.std.proofs.lemmas.List.Sums.{sum_by-append}
-use Rattle.std.proofs.Math.Seq.{take-append_seam}
+use Rattle.std.proofs.Common.{◌≡◌, ◌≢◌, ◌<◌, ◌≤◌, ◌-◌, ◌+◌, ◌^◌, ◌==◌, ℕ, Bool, true, false, None, Some, cond, min, nat_eq, List, [], ◌∷◌, ◌++◌, length, length-append, take, drop, encode_utf8, encode_utf8_all, refl, sym, ap, subst, ◌∙◌, arith, append_assoc, append-nil}
+use Rattle.std.proofs.{lemmas.Bool.and_from, lemmas.Bool.and_parts, lemmas.Bool.false≢true, lemmas.List.append_cancel_left, lemmas.Bool.Decides.nat_tests}
+use Rattle.std.proofs.{lemmas.Grind.common_steps, lemmas.List.Sums.sum_by-append, Math.Seq.take-append_seam}
+use Rattle.std.specs.{List.AllByRecursion, Str.all_scalars}
 use lib.Utf8.{scalar}
 use Rattle.bstr.specs.Utf8.{Decoded, decoded, lossy_chars}
-use Rattle.bstr.proofs.lemmas.EncodeLemmas.{decoded-encode, lossy_chars-encode}
-use Rattle.bstr.proofs.lemmas.PieceLemmas.{piece-bounds}
-use Rattle.bstr.proofs.lemmas.SoundLemmas.{SpellsChar-decoded}
-use Rattle.csicodec_clean.specs.Cleaned.{Strips}
-use Rattle.csicodec_clean.specs.Check.{IsFault, IsOutside, Stands, line_ends}
-use Rattle.csicodec_clean.specs.Shown.{IsBehind, IsPlain, IsShown, IsTextOf, shown}
-use Rattle.csicodec_clean.proofs.Plain.{scalars_lossy, strips_plain, text_on}
-use Rattle.csicodec_clean.proofs.Shows.{encoded_on}
-use Rattle.csicodec_clean.proofs.Sure.{sure_piece}
-use Rattle.csicodec_clean.proofs.Told.{read_encoded}
+use Rattle.bstr.proofs.{lemmas.EncodeLemmas.decoded-encode, lemmas.EncodeLemmas.lossy_chars-encode, lemmas.PieceLemmas.piece-bounds}
+use Rattle.bstr.proofs.{lemmas.SoundLemmas.SpellsChar-decoded}
+use Rattle.csicodec_clean.specs.{Cleaned.Strips, Check.IsFault, Check.IsOutside, Check.Stands, Check.line_ends, Shown.IsBehind, Shown.IsPlain, Shown.IsShown}
+use Rattle.csicodec_clean.specs.{Shown.IsTextOf, Shown.shown}
+use Rattle.csicodec_clean.proofs.{Plain.scalars_lossy, Plain.strips_plain, Plain.text_on, Shows.encoded_on, Sure.sure_piece, Told.read_encoded}
 
 -- ---- places
 

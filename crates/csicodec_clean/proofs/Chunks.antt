@@ -1,17 +1,13 @@
 -- Chunk by chunk.
 use Rattle.std.proofs.Common.{◌≡◌, ℕ, Bool, List, [], ◌∷◌, ◌++◌, sym, subst, ⊎_elim, append_assoc, append-nil}
 use Rattle.std.specs.List.{concat}
-use Rattle.csicodec_spans.specs.declared.table.Mode.{Mode}
-use Rattle.csicodec_spans.specs.declared.table.Mode.TheVariants as mode
-use Rattle.csicodec_spans.specs.Parts.{IsUnsure}
-use Rattle.csicodec_spans.proofs.OneSpan.{none_unsure}
-use Rattle.csicodec_spans.proofs.Kept.{parts_more}
+use Rattle.csicodec_spans.specs.{declared.table.Mode.Mode, Parts.IsUnsure}
+use Rattle.csicodec_spans.proofs.{OneSpan.none_unsure, Kept.parts_more}
 use Rattle.csicodec_filter.specs.Transform.{Sends, Transforms}
-use Rattle.csicodec_clean.specs.Shown.{IsRead, shown_text}
-use Rattle.csicodec_clean.specs.Cleaned.{RuleOf, EndOf, Ends, longest}
-use Rattle.csicodec_clean.specs.Stream.{Between, start_of, Goes, Takes, AreTaken, Closing, Begins}
-use Rattle.csicodec_clean.proofs.Sure.{read_none}
-use Rattle.csicodec_clean.proofs.Stepped.{cleans, goes_none, goes_then}
+use Rattle.csicodec_clean.specs.{Shown.IsRead, Shown.shown_text, Cleaned.RuleOf, Cleaned.EndOf, Cleaned.Ends, Cleaned.longest, Stream.Between, Stream.start_of}
+use Rattle.csicodec_clean.specs.{Stream.Goes, Stream.Takes, Stream.AreTaken, Stream.Closing, Stream.Begins}
+use Rattle.csicodec_clean.proofs.{Sure.read_none, Stepped.cleans, Stepped.goes_none, Stepped.goes_then}
+use Rattle.csicodec_spans.specs.declared.table.Mode.TheVariants as mode
 
 module _ {S : Type 0} (Gives : RuleOf S) where
   -- with other bytes behind

@@ -1,48 +1,31 @@
 -- The text of a style is digits and `:`, 60 at most, in front of `m`: one control sequence, which is taken for that style.
-use Rattle.std.proofs.Common.{◌≡◌, ◌≤◌, ◌<◌, ◌+◌, ◌-◌, ◌^◌, ◌⊎◌, ℕ, suc, Bool, true, false, cond, List, [], ◌∷◌, ◌++◌, length}
-use Rattle.std.proofs.Common.{length-append, drop, inl, inr, refl, sym, ap, subst, ◌∙◌, append_assoc, append-nil, take, arith, rules}
-use Rattle.std.specs.Prelude.{◌==◌, ◌&&◌, codes, nat_le, nat_lt, slice_get}
-use Rattle.std.specs.Fmt.{decimal}
-use Rattle.std.specs.List.{AllByRecursion}
-use Rattle.std.proofs.lemmas.Bool.{and_parts, cases_Bool, cond_both, eqb-true}
-use Rattle.std.proofs.lemmas.List.{append_cancel_right}
-use Rattle.std.proofs.lemmas.Bool.Decides.{nat_tests}
-use Rattle.std.proofs.lemmas.Fmt.{digits_decimal, decimal_nonempty}
-use Rattle.std.proofs.lemmas.Str.Parse.{IsNumeralModel, numerals_by_fold}
-use Rattle.csicodec_tokens.specs.declared.param.CsiParam.{CsiParam}
-use Rattle.csicodec_tokens.specs.declared.param.CsiParam.TheVariants.{Integer, P}
-use Rattle.csicodec_tokens.specs.Digits.{AreDigits, IsDigit, value, value_after}
-use Rattle.csicodec_tokens.specs.Sequence.{Reads, Seq, Spells, SpellsToken}
+use Rattle.std.proofs.Common.{◌≡◌, ◌≤◌, ◌<◌, ◌+◌, ◌-◌, ◌^◌, ◌⊎◌, ℕ, suc, Bool, true, false, cond, List, [], ◌∷◌, ◌++◌, length, length-append, drop, inl, inr, refl, sym, ap, subst, ◌∙◌, append_assoc, append-nil, take, arith, rules}
+use Rattle.std.proofs.{lemmas.Bool.and_parts, lemmas.Bool.cases_Bool, lemmas.Bool.cond_both, lemmas.Bool.eqb-true, lemmas.List.append_cancel_right}
+use Rattle.std.proofs.{lemmas.Bool.Decides.nat_tests, lemmas.Fmt.digits_decimal, lemmas.Fmt.decimal_nonempty, lemmas.Str.Parse.IsNumeralModel}
+use Rattle.std.proofs.{lemmas.Str.Parse.numerals_by_fold}
+use Rattle.std.specs.{Prelude.◌==◌, Prelude.◌&&◌, Prelude.codes, Prelude.nat_le, Prelude.nat_lt, Prelude.slice_get, Fmt.decimal, List.AllByRecursion}
+use Rattle.csicodec_tokens.specs.{declared.param.CsiParam.CsiParam, declared.param.CsiParam.TheVariants.Integer, declared.param.CsiParam.TheVariants.P}
+use Rattle.csicodec_tokens.specs.{Digits.AreDigits, Digits.IsDigit, Digits.value, Digits.value_after, Sequence.Reads, Sequence.Seq, Sequence.Spells}
+use Rattle.csicodec_tokens.specs.{Sequence.SpellsToken}
 use Rattle.csicodec_tokens.proofs.Decimal.{length-decimal_u16}
-use Rattle.csicodec_names.specs.declared.color.Intensity.TheVariants.{Normal}
+use Rattle.csicodec_names.specs.{declared.color.Intensity.TheVariants.Normal, declared.color.ColorSpec.ColorSpec, declared.color.SrgbaTuple.SrgbaTuple}
+use Rattle.csicodec_base.specs.{declared.sgr.Sgr.Sgr, SgrText.palette_text, SgrText.sgr_text, SgrText.true_color_text}
+use Rattle.csicodec_actions.specs.{Ranges.ColorInRange, Ranges.SgrInRange, Table.text}
+use Rattle.csicodec_parser.specs.{Cut.semicolon, Groups.group, Groups.is_byte, declared.group.Group.Group, declared.group.Group.TheVariants.Styles}
+use Rattle.csicodec_streams.specs.Colors.{IsColored, IsOpaque, color_list, plane_byte}
+use Rattle.csicodec.specs.{Compose.EndsInSemicolon, Exact.ReadsAlone}
+use Rattle.csicodec.proofs.{Exactly.one-sequence, Parsed.parsed-kept}
+use Rattle.csicodec_spans.specs.Parts.{IsSequence}
+use Rattle.csicodec_terminal.specs.Terminal.{IsTakenFor, is_open}
+use Rattle.csicodec_clean.specs.{Cleaned.longest, Styled.hides}
+use Rattle.csicodec_clean.proofs.{Noted.closed_taken, PlainBytes.all_both, PlainBytes.all_weaker}
 use Rattle.csicodec_names.specs.declared.color.Underline.TheVariants as underline
 use Rattle.csicodec_names.specs.declared.color.Blink.TheVariants as blink
 use Rattle.csicodec_names.specs.declared.color.VerticalAlign.TheVariants as align
-use Rattle.csicodec_names.specs.declared.color.ColorSpec.{ColorSpec}
 use Rattle.csicodec_names.specs.declared.color.ColorSpec.TheVariants as color
-use Rattle.csicodec_names.specs.declared.color.SrgbaTuple.{SrgbaTuple}
 use Rattle.csicodec_base.specs.declared.sgr.Font.TheVariants as font
-use Rattle.csicodec_base.specs.declared.sgr.Sgr.{Sgr}
 use Rattle.csicodec_base.specs.declared.sgr.Sgr.TheVariants as sgr
-use Rattle.csicodec_base.specs.SgrText.{palette_text, sgr_text, true_color_text}
 use Rattle.csicodec_actions.specs.Actions as action
-use Rattle.csicodec_actions.specs.Ranges.{ColorInRange, SgrInRange}
-use Rattle.csicodec_actions.specs.Table.{text}
-use Rattle.csicodec_parser.specs.Cut.{semicolon}
-use Rattle.csicodec_parser.specs.Groups.{group, is_byte}
-use Rattle.csicodec_parser.specs.declared.group.Group.{Group}
-use Rattle.csicodec_parser.specs.declared.group.Group.TheVariants.{Styles}
-use Rattle.csicodec_streams.specs.Colors.{IsColored, IsOpaque, color_list, plane_byte}
-use Rattle.csicodec.specs.Compose.{EndsInSemicolon}
-use Rattle.csicodec.specs.Exact.{ReadsAlone}
-use Rattle.csicodec.proofs.Exactly.{one-sequence}
-use Rattle.csicodec.proofs.Parsed.{parsed-kept}
-use Rattle.csicodec_spans.specs.Parts.{IsSequence}
-use Rattle.csicodec_terminal.specs.Terminal.{IsTakenFor, is_open}
-use Rattle.csicodec_clean.specs.Cleaned.{longest}
-use Rattle.csicodec_clean.specs.Styled.{hides}
-use Rattle.csicodec_clean.proofs.Noted.{closed_taken}
-use Rattle.csicodec_clean.proofs.PlainBytes.{all_both, all_weaker}
 
 -- ---- bytes that are digits or `:`
 

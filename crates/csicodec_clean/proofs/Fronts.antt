@@ -1,33 +1,22 @@
 -- What went out is a front of the text of the whole stream, whatever comes behind.
 use Rattle.std.proofs.Common.{◌≡◌, ℕ, false, Option, List, [], ◌∷◌, ◌++◌, refl, sym, ap, subst, ◌∙◌, append_assoc, append-nil}
-use Rattle.std.specs.Prelude.{filter}
-use Rattle.std.specs.Io.KnownBytes.{Appends, Consumes, IsAtEnd}
 use Rattle.std.proofs.lemmas.Bool.{cond_both}
+use Rattle.std.specs.{Prelude.filter, Io.KnownBytes.Appends, Io.KnownBytes.Consumes, Io.KnownBytes.IsAtEnd}
 use Rattle.bstr.specs.Utf8.{lossy_chars}
-use Rattle.csicodec_spans.specs.declared.table.Kind.{Kind}
-use Rattle.csicodec_spans.specs.declared.table.Kind.TheVariants as kind
-use Rattle.csicodec_spans.specs.declared.table.Mode.TheVariants as mode
-use Rattle.csicodec_spans.specs.Parts.{Part, IsWhole, left_over}
-use Rattle.csicodec_spans.proofs.Kept.{parts_more}
-use Rattle.csicodec_spans.proofs.Once.{parts_front}
+use Rattle.csicodec_spans.specs.{declared.table.Kind.Kind, Parts.Part, Parts.IsWhole, Parts.left_over}
+use Rattle.csicodec_spans.proofs.{Kept.parts_more, Once.parts_front}
 use Rattle.csicodec_filter.specs.Transform.{Sends}
 use Rattle.csicodec_filter.proofs.Sent.{whole_front}
-use Rattle.csicodec_clean.specs.declared.styles.Passing.{Passing}
-use Rattle.csicodec_clean.specs.Links.{Begun, is_linked, start}
-use Rattle.csicodec_clean.specs.Shown.{shown, shown_chars, shown_text, IsRead}
-use Rattle.csicodec_clean.specs.Titles.{title_open, with_titles}
 use Rattle.csicodec_clean.specs.Cleaned.{RuleOf, AreSteps, Ends, Strips, stripped, drops, ends_bare, is_text, longest}
-use Rattle.csicodec_clean.specs.Stream.{Begins, Between, Goes, IsFrontOf, Takes, start_of}
-use Rattle.csicodec_clean.specs.Styled.{Item, item_texts, shown_items, Leaves, begun_behind, run_behind, items_behind}
-use Rattle.csicodec_clean.specs.Styled.{AreLeft, is_open, styles_of, links_of, ends_of, StylesIn, Keeping, first_kept, keeps, resets}
-use Rattle.csicodec_clean.proofs.Again.{leaves_once, one_styled}
-use Rattle.csicodec_clean.proofs.Plain.{steps_stripped, strips}
-use Rattle.csicodec_clean.proofs.Shows.{shown_read}
-use Rattle.csicodec_clean.proofs.Streams.{SentFront}
-use Rattle.csicodec_clean.proofs.Styled.{part_texts, step, styles, texts_both, texts_chars}
-use Rattle.csicodec_clean.proofs.Sure.{read_more, read_none}
-use Rattle.csicodec_clean.proofs.Titles.{titles_on}
-use Rattle.csicodec_clean.proofs.Twice.{one_text}
+use Rattle.csicodec_clean.specs.Styled.{Item, item_texts, shown_items, Leaves, begun_behind, run_behind, items_behind, AreLeft, is_open, styles_of, links_of, ends_of, StylesIn, Keeping, first_kept, keeps, resets}
+use Rattle.csicodec_clean.specs.{declared.styles.Passing.Passing, Links.Begun, Links.is_linked, Links.start, Shown.shown, Shown.shown_chars, Shown.shown_text}
+use Rattle.csicodec_clean.specs.{Shown.IsRead, Titles.title_open, Titles.with_titles, Stream.Begins, Stream.Between, Stream.Goes, Stream.IsFrontOf}
+use Rattle.csicodec_clean.specs.{Stream.Takes, Stream.start_of}
+use Rattle.csicodec_clean.proofs.{Again.leaves_once, Again.one_styled, Plain.steps_stripped, Plain.strips, Shows.shown_read, Streams.SentFront}
+use Rattle.csicodec_clean.proofs.{Styled.part_texts, Styled.step, Styled.styles, Styled.texts_both, Styled.texts_chars, Sure.read_more, Sure.read_none}
+use Rattle.csicodec_clean.proofs.{Titles.titles_on, Twice.one_text}
+use Rattle.csicodec_spans.specs.declared.table.Kind.TheVariants as kind
+use Rattle.csicodec_spans.specs.declared.table.Mode.TheVariants as mode
 
 -- the text begins with another
 abbrev pub GoesOnFrom : List ℕ → List ℕ → Type 0

@@ -1,30 +1,17 @@
 -- What is taken at a glance, step by step.
-use Rattle.std.proofs.Common.{◌≡◌, ◌-◌, ◌<◌, ◌≤◌, ℕ, zero, suc, Bool, true, false, List, [], ◌∷◌, ◌++◌, length, length-append}
-use Rattle.std.proofs.Common.{length-take, take, drop, get_or, refl, sym, ap, subst, ◌∙◌, append_assoc, append-nil, take-append-drop, arith}
+use Rattle.std.proofs.Common.{◌≡◌, ◌-◌, ◌<◌, ◌≤◌, ℕ, zero, suc, Bool, true, false, List, [], ◌∷◌, ◌++◌, length, length-append, length-take, take, drop, get_or, refl, sym, ap, subst, ◌∙◌, append_assoc, append-nil, take-append-drop, arith}
+use Rattle.std.proofs.{Math.Seq.take-append_seam, Math.Seq.drop-append_seam, lemmas.Bool.Decides.nat_tests, lemmas.List.take-take}
 use Rattle.std.specs.List.{AllByRecursion}
-use Rattle.std.proofs.Math.Seq.{take-append_seam, drop-append_seam}
-use Rattle.std.proofs.lemmas.Bool.Decides.{nat_tests}
-use Rattle.std.proofs.lemmas.List.{take-take}
 use Rattle.bstr.proofs.lemmas.PieceLemmas.{lossy_chars-nil}
-use Rattle.csicodec_tokens.specs.declared.param.CsiParam.{CsiParam}
-use Rattle.csicodec_tokens.specs.Sequence.{Reads, Seq}
-use Rattle.csicodec_spans.specs.declared.table.Kind.{Kind}
+use Rattle.csicodec_tokens.specs.{declared.param.CsiParam.CsiParam, Sequence.Reads, Sequence.Seq}
+use Rattle.csicodec_spans.specs.{declared.table.Kind.Kind, declared.table.Mode.Mode, Table.Answer, Table.Anew, Table.Sequence, Table.ahead}
+use Rattle.csicodec_spans.specs.{Private.TableBy.stays, Parts.part, Parts.Allows, Parts.Cuts, Parts.IsSequence}
+use Rattle.csicodec_spans.proofs.{Agrees.opens, Apart.said, AsOne.one_alone, OneSpan.run_cut}
+use Rattle.csicodec_clean.specs.{Shown.IsRead, Shown.shown_chars, Titles.read_as, Titles.title_behind, Cleaned.RuleOf, Private.Steps.BeginsWithEscape}
+use Rattle.csicodec_clean.specs.{Private.Steps.GoesOver, Private.Steps.GoesTo, Private.Steps.IsAppended, Private.Steps.IsOther, Private.Steps.Tells}
+use Rattle.csicodec_clean.proofs.{Shows.shown_none, Stepped.goes_none, Stepped.goes_span, Stepped.goes_then}
 use Rattle.csicodec_spans.specs.declared.table.Kind.TheVariants as kind
-use Rattle.csicodec_spans.specs.declared.table.Mode.{Mode}
 use Rattle.csicodec_spans.specs.declared.table.Mode.TheVariants as mode
-use Rattle.csicodec_spans.specs.Table.{Answer, Anew, Sequence, ahead}
-use Rattle.csicodec_spans.specs.Private.TableBy.{stays}
-use Rattle.csicodec_spans.specs.Parts.{part, Allows, Cuts, IsSequence}
-use Rattle.csicodec_spans.proofs.Agrees.{opens}
-use Rattle.csicodec_spans.proofs.Apart.{said}
-use Rattle.csicodec_spans.proofs.AsOne.{one_alone}
-use Rattle.csicodec_spans.proofs.OneSpan.{run_cut}
-use Rattle.csicodec_clean.specs.Shown.{IsRead, shown_chars}
-use Rattle.csicodec_clean.specs.Titles.{read_as, title_behind}
-use Rattle.csicodec_clean.specs.Cleaned.{RuleOf}
-use Rattle.csicodec_clean.specs.Private.Steps.{BeginsWithEscape, GoesOver, GoesTo, IsAppended, IsOther, Tells}
-use Rattle.csicodec_clean.proofs.Shows.{shown_none}
-use Rattle.csicodec_clean.proofs.Stepped.{goes_none, goes_span, goes_then}
 
 -- ---- the spans
 

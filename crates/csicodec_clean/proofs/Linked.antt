@@ -1,16 +1,12 @@
 -- Links, byte by byte, and where they lead.
 use Rattle.std.proofs.Common.{◌≡◌, ◌≤◌, ◌<◌, ◌+◌, ℕ, Bool, true, false, List, [], ◌∷◌, ◌++◌, length, length-append, refl, sym, ap, ◌∙◌, append_assoc, append-nil, arith}
-use Rattle.std.specs.Prelude.{◌==◌, ◌&&◌, codes, not}
-use Rattle.std.specs.List.{AllByRecursion}
-use Rattle.std.proofs.lemmas.Grind.{flat_map-append}
-use Rattle.std.proofs.lemmas.Bool.{and_right, cond_both}
-use Rattle.std.proofs.lemmas.Bool.Decides.{nat_tests}
-use Rattle.csicodec_clean.specs.declared.links.LinkState.{LinkState}
-use Rattle.csicodec_clean.specs.declared.links.LinkState.TheVariants as place
-use Rattle.csicodec_clean.specs.Addresses.{ends_host, has_host, is_host_byte, is_host_on, is_web, led}
-use Rattle.csicodec_clean.specs.Links.{Address, Begun, IsLink, IsWithin, admitted, all_behind, begun, behind, behind_at, ends_at, is_linked}
-use Rattle.csicodec_clean.specs.Links.{is_param, is_visible, link_body, link_texts, links_at, links_in, longest_params, longest_url, next}
+use Rattle.std.proofs.{lemmas.Grind.flat_map-append, lemmas.Bool.and_right, lemmas.Bool.cond_both, lemmas.Bool.Decides.nat_tests}
+use Rattle.std.specs.{Prelude.◌==◌, Prelude.◌&&◌, Prelude.codes, Prelude.not, List.AllByRecursion}
+use Rattle.csicodec_clean.specs.Links.{Address, Begun, IsLink, IsWithin, admitted, all_behind, begun, behind, behind_at, ends_at, is_linked, is_param, is_visible, link_body, link_texts, links_at, links_in, longest_params, longest_url, next}
+use Rattle.csicodec_clean.specs.{declared.links.LinkState.LinkState, Addresses.ends_host, Addresses.has_host, Addresses.is_host_byte, Addresses.is_host_on}
+use Rattle.csicodec_clean.specs.{Addresses.is_web, Addresses.led}
 use Rattle.csicodec_clean.proofs.PlainBytes.{all_both}
+use Rattle.csicodec_clean.specs.declared.links.LinkState.TheVariants as place
 
 -- ---- addresses that lead nowhere
 

@@ -1,24 +1,17 @@
 -- What `clean` leaves is safe by its bytes alone.
-use Rattle.std.proofs.Common.{◌≡◌, ◌<◌, ◌≤◌, ◌+◌, ◌/◌, ◌%◌, ℕ, Bool, true, false, List, [], ◌∷◌, ◌++◌, ◌⊎◌}
-use Rattle.std.proofs.Common.{inl, inr, length, refl, sym, ap, subst, ◌∙◌, append_assoc, arith}
-use Rattle.std.specs.Prelude.{not, ◌==◌, ◌&&◌}
-use Rattle.std.specs.Char.{encode_utf8}
-use Rattle.std.specs.List.{AllByRecursion}
-use Rattle.std.proofs.lemmas.Bool.{ne_eqb}
-use Rattle.std.proofs.lemmas.Bool.Decides.{nat_tests}
+use Rattle.std.proofs.Common.{◌≡◌, ◌<◌, ◌≤◌, ◌+◌, ◌/◌, ◌%◌, ℕ, Bool, true, false, List, [], ◌∷◌, ◌++◌, ◌⊎◌, inl, inr, length, refl, sym, ap, subst, ◌∙◌, append_assoc, arith}
+use Rattle.std.proofs.{lemmas.Bool.ne_eqb, lemmas.Bool.Decides.nat_tests}
+use Rattle.std.specs.{Prelude.not, Prelude.◌==◌, Prelude.◌&&◌, Char.encode_utf8, List.AllByRecursion}
 use lib.Utf8.{scalar}
 use Rattle.csicodec_base.specs.declared.sgr.Sgr.{Sgr}
+use Rattle.csicodec_actions.specs.{Ranges.SgrInRange, Table.text}
+use Rattle.csicodec_clean.specs.Styled.{hides, is_open, is_reset, Item, Shown, Style, Link, item_texts, links_of, styles_of, IsSafe, IsStyledIn, StylesIn}
+use Rattle.csicodec_clean.specs.{Shown.IsShown, Links.Address, Links.IsLink, Links.is_linked, Links.is_param, Links.is_visible, Links.link_text}
+use Rattle.csicodec_clean.specs.{declared.styles.Passing.Passing, Marked.Stand, Marked.Text, Marked.Numbers, Marked.Params, Marked.Url, Marked.stand_behind}
+use Rattle.csicodec_clean.specs.{Marked.is_marked, Marked.IsMarked}
+use Rattle.csicodec_clean.proofs.{Coded.AreCodes, Coded.IsCode, Coded.coded, Coded.style_range, Styled.styled}
 use Rattle.csicodec_base.specs.declared.sgr.Sgr.TheVariants as sgr
 use Rattle.csicodec_actions.specs.Actions as action
-use Rattle.csicodec_actions.specs.Ranges.{SgrInRange}
-use Rattle.csicodec_actions.specs.Table.{text}
-use Rattle.csicodec_clean.specs.Shown.{IsShown}
-use Rattle.csicodec_clean.specs.Links.{Address, IsLink, is_linked, is_param, is_visible, link_text}
-use Rattle.csicodec_clean.specs.declared.styles.Passing.{Passing}
-use Rattle.csicodec_clean.specs.Styled.{hides, is_open, is_reset, Item, Shown, Style, Link, item_texts, links_of, styles_of, IsSafe, IsStyledIn, StylesIn}
-use Rattle.csicodec_clean.specs.Marked.{Stand, Text, Numbers, Params, Url, stand_behind, is_marked, IsMarked}
-use Rattle.csicodec_clean.proofs.Coded.{AreCodes, IsCode, coded, style_range}
-use Rattle.csicodec_clean.proofs.Styled.{styled}
 
 -- ---- characters
 

@@ -1,29 +1,20 @@
 -- What is noted of a sequence, and what is left of it then.
 use Rattle.std.proofs.Common.{◌≡◌, ◌+◌, ◌-◌, ◌∙◌, ℕ, suc, Bool, true, false, cond, List, [], ◌∷◌, ◌++◌, map, length, get_or, take, drop, refl, sym, ap, subst, append-nil, arith}
-use Rattle.std.specs.Prelude.{◌==◌, MatchBool}
 use Rattle.std.proofs.Math.Seq.{take-append_seam}
+use Rattle.std.specs.Prelude.{◌==◌, MatchBool}
 use Rattle.csicodec_names.specs.declared.color.ColorSpec.{ColorSpec}
-use Rattle.csicodec_base.specs.Shapes.{Plane, painted}
-use Rattle.csicodec_base.specs.SgrText.{sgr_text}
-use Rattle.csicodec_base.specs.declared.sgr.Sgr.{Sgr}
-use Rattle.csicodec_tokens.specs.declared.param.CsiParam.{CsiParam}
-use Rattle.csicodec_tokens.specs.Sequence.{Seq}
-use Rattle.csicodec_actions.specs.declared.cursor.Cursor.{Cursor}
-use Rattle.csicodec_actions.specs.Actions.{Action, Cursor as Move, Sgr as SgrAction, Unspecified}
-use Rattle.csicodec_actions.specs.Table.{texts}
+use Rattle.csicodec_base.specs.{Shapes.Plane, Shapes.painted, SgrText.sgr_text, declared.sgr.Sgr.Sgr}
+use Rattle.csicodec_tokens.specs.{declared.param.CsiParam.CsiParam, Sequence.Seq}
+use Rattle.csicodec_actions.specs.{declared.cursor.Cursor.Cursor, Actions.Action, Actions.Cursor as Move, Actions.Sgr as SgrAction, Actions.Unspecified}
+use Rattle.csicodec_actions.specs.{Table.texts}
 use Rattle.csicodec_spans.specs.Parts.{IsSequence}
 use Rattle.csicodec_streams.specs.Colors.{IsColored}
-use Rattle.csicodec_clean.specs.declared.colors.Depth.{Depth}
+use Rattle.csicodec_clean.specs.{declared.colors.Depth.Depth, Styled.Keeping, Styled.is_open, Styled.keeping, Styled.keeps, Styled.kept, Private.Notes.IsLeft}
+use Rattle.csicodec_clean.specs.{Private.Notes.IsNoted, Private.Notes.depth_byte, Private.Notes.note_of, Private.Notes.open_byte}
+use Rattle.csicodec_parser.specs.{declared.group.Group.Group, declared.group.Group.TheVariants.Styles, Cut.Cut, Cut.body, Groups.group, Groups.has_odd}
+use Rattle.csicodec_parser.specs.{Segments.Actions, Segments.ActionsIn, Segments.BodyActions, Segments.remainder}
+use Rattle.csicodec_terminal.specs.Terminal.{IsTakenFor, has_unknown, is_open as leaves_out}
 use Rattle.csicodec_clean.specs.declared.colors.Depth.TheVariants as depth
-use Rattle.csicodec_parser.specs.declared.group.Group.{Group}
-use Rattle.csicodec_parser.specs.declared.group.Group.TheVariants.{Styles}
-use Rattle.csicodec_parser.specs.Cut.{Cut, body}
-use Rattle.csicodec_parser.specs.Groups.{group, has_odd}
-use Rattle.csicodec_parser.specs.Segments.{Actions, ActionsIn, BodyActions, remainder}
-use Rattle.csicodec_terminal.specs.Terminal.{IsTakenFor, has_unknown}
-use Rattle.csicodec_terminal.specs.Terminal.{is_open as leaves_out}
-use Rattle.csicodec_clean.specs.Styled.{Keeping, is_open, keeping, keeps, kept}
-use Rattle.csicodec_clean.specs.Private.Notes.{IsLeft, IsNoted, depth_byte, note_of, open_byte}
 
 same_depth : (d e : Depth) → depth_byte d ≡ depth_byte e → d ≡ e
 same_depth d e h = grind arith

@@ -1,30 +1,19 @@
 -- A stream whose state the caller keeps, step by step.
 use Rattle.std.proofs.Common.{◌≡◌, ◌≤◌, ◌<◌, ℕ, Bool, false, cond, List, [], ◌∷◌, ◌++◌, length, length-append, take, drop, ◌+◌, ◌-◌, refl, sym, ap, subst, ◌∙◌, ⊎_elim, append-nil, arith}
+use Rattle.std.proofs.{lemmas.Grind.common_steps, lemmas.List.length-take-le, lemmas.List.take-append-le, lemmas.List.drop-append-le, Math.Seq.take-append_seam}
+use Rattle.std.proofs.{Math.Seq.drop-append_seam}
 use Rattle.std.specs.List.{concat}
-use Rattle.std.proofs.lemmas.Grind.{common_steps}
-use Rattle.std.proofs.lemmas.List.{length-take-le, take-append-le, drop-append-le}
-use Rattle.std.proofs.Math.Seq.{take-append_seam, drop-append_seam}
-use Rattle.csicodec_actions.specs.Actions as action
 use Rattle.csicodec_actions.specs.Table.{text}
-use Rattle.csicodec_base.specs.declared.sgr.Sgr.TheVariants as sgr
-use Rattle.csicodec_spans.specs.declared.table.Kind.{Kind}
-use Rattle.csicodec_spans.specs.declared.table.Kind.TheVariants as kind
-use Rattle.csicodec_spans.specs.Parts.{Part, IsUnsure}
-use Rattle.csicodec_spans.proofs.Kept.{unsure_short}
-use Rattle.csicodec_spans.proofs.Spanned.{rest_is}
-use Rattle.csicodec_clean.specs.declared.colors.Depth.{Depth}
-use Rattle.csicodec_clean.specs.declared.step.Pause.{Pause}
-use Rattle.csicodec_clean.specs.declared.whole.Dropped.{Dropped}
-use Rattle.csicodec_clean.specs.Shown.{IsRead, shown_text}
-use Rattle.csicodec_clean.specs.Titles.{with_titles}
+use Rattle.csicodec_spans.specs.{declared.table.Kind.Kind, Parts.Part, Parts.IsUnsure}
+use Rattle.csicodec_spans.proofs.{Kept.unsure_short, Spanned.rest_is}
 use Rattle.csicodec_clean.specs.Cleaned.{RuleOf, AreGiven, AreSteps, IsStep, Strips, drops, ends_bare, longest}
-use Rattle.csicodec_clean.specs.Stream.{AreTaken, Goes}
-use Rattle.csicodec_clean.specs.Styled.{Keeping, StylesIn, resets, resumed, keeps, without_links}
-use Rattle.csicodec_clean.specs.Steps.{AreStepped, Resumes, Steps, bare, beginning, between, ending}
-use Rattle.csicodec_clean.proofs.Chunks.{any_chunks}
-use Rattle.csicodec_clean.proofs.Plain.{strips}
-use Rattle.csicodec_clean.proofs.Styled.{styles}
-use Rattle.csicodec_clean.proofs.Sure.{read_none}
+use Rattle.csicodec_clean.specs.{declared.colors.Depth.Depth, declared.step.Pause.Pause, declared.whole.Dropped.Dropped, Shown.IsRead, Shown.shown_text}
+use Rattle.csicodec_clean.specs.{Titles.with_titles, Stream.AreTaken, Stream.Goes, Styled.Keeping, Styled.StylesIn, Styled.resets, Styled.resumed, Styled.keeps}
+use Rattle.csicodec_clean.specs.{Styled.without_links, Steps.AreStepped, Steps.Resumes, Steps.Steps, Steps.bare, Steps.beginning, Steps.between, Steps.ending}
+use Rattle.csicodec_clean.proofs.{Chunks.any_chunks, Plain.strips, Styled.styles, Sure.read_none}
+use Rattle.csicodec_actions.specs.Actions as action
+use Rattle.csicodec_base.specs.declared.sgr.Sgr.TheVariants as sgr
+use Rattle.csicodec_spans.specs.declared.table.Kind.TheVariants as kind
 
 -- what is held is the end of the bytes
 pub last_held : (held bytes front rest new : List ℕ) → length held ≡ 0 → bytes ≡ front ++ rest → new ≡ held ++ rest → held ++ bytes ≡ front ++ new

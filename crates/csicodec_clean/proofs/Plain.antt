@@ -1,23 +1,16 @@
 -- What is shown is plain.
-use Rattle.std.proofs.Common.{◌≡◌, ◌≤◌, ℕ, zero, suc, Bool, true, false, cond, Option, None, Some, List, [], ◌∷◌, ◌++◌}
-use Rattle.std.proofs.Common.{length, length-drop, drop, encode_utf8_all, refl, sym, ap, subst, ◌∙◌, append_assoc, append-nil, arith}
-use Rattle.std.specs.Prelude.{filter}
-use Rattle.std.specs.List.{AllByRecursion}
-use Rattle.std.specs.Str.{all_scalars}
-use Rattle.std.specs.Char.{IsScalar}
-use lib.Utf8.{scalar}
+use Rattle.std.proofs.Common.{◌≡◌, ◌≤◌, ℕ, zero, suc, Bool, true, false, cond, Option, None, Some, List, [], ◌∷◌, ◌++◌, length, length-drop, drop, encode_utf8_all, refl, sym, ap, subst, ◌∙◌, append_assoc, append-nil, arith}
 use Rattle.std.proofs.lemmas.Bool.{and_from, and_parts, cond_both}
+use Rattle.std.specs.{Prelude.filter, List.AllByRecursion, Str.all_scalars, Char.IsScalar}
+use lib.Utf8.{scalar}
 use Rattle.bstr.specs.Utf8.{decoded, or_replacement, lossy_chars}
-use Rattle.bstr.proofs.lemmas.PieceLemmas.{piece-bounds, lossy_chars-step, lossy_chars-nil}
-use Rattle.bstr.proofs.lemmas.SoundLemmas.{SpellsChar-decoded}
-use Rattle.csicodec_spans.specs.declared.table.Kind.{Kind}
-use Rattle.csicodec_spans.specs.declared.table.Kind.TheVariants as kind
-use Rattle.csicodec_spans.specs.Parts.{Part}
-use Rattle.csicodec_clean.specs.Shown.{shown, shown_text, IsShown, IsPlain, IsTextOf}
-use Rattle.csicodec_clean.specs.Titles.{with_titles}
+use Rattle.bstr.proofs.{lemmas.PieceLemmas.piece-bounds, lemmas.PieceLemmas.lossy_chars-step, lemmas.PieceLemmas.lossy_chars-nil}
+use Rattle.bstr.proofs.{lemmas.SoundLemmas.SpellsChar-decoded}
+use Rattle.csicodec_spans.specs.{declared.table.Kind.Kind, Parts.Part}
 use Rattle.csicodec_clean.specs.Cleaned.{AreGiven, IsStep, AreSteps, Ends, Strips, stripped, drops, ends_bare, is_text}
-use Rattle.csicodec_clean.proofs.PlainBytes.{all_both}
-use Rattle.csicodec_clean.proofs.Shows.{encoded_on}
+use Rattle.csicodec_clean.specs.{Shown.shown, Shown.shown_text, Shown.IsShown, Shown.IsPlain, Shown.IsTextOf, Titles.with_titles}
+use Rattle.csicodec_clean.proofs.{PlainBytes.all_both, Shows.encoded_on}
+use Rattle.csicodec_spans.specs.declared.table.Kind.TheVariants as kind
 
 char_scalar : (o : Option ℕ) → ((c : ℕ) → o ≡ Some c → IsScalar c) → all_scalars (or_replacement o ∷ []) ≡ true
 char_scalar None h = refl

@@ -1,12 +1,8 @@
 -- The bytes of plain text.
-use Rattle.std.proofs.Common.{ℕ, List, [], ◌∷◌, ◌++◌, encode_utf8_all, sym, subst, arith}
-use Rattle.std.specs.Prelude.{All}
-use Rattle.std.specs.List.{AllByRecursion}
-use Rattle.std.specs.Char.{encode_utf8}
-use Rattle.std.proofs.lemmas.Bool.Decides.{nat_tests}
-use Rattle.std.proofs.lemmas.List.Elements.{All-from_recursion}
-use Rattle.csicodec_clean.specs.Shown.{IsShown, IsPlain}
-use Rattle.csicodec_clean.specs.Private.Steps.{IsOther}
+use Rattle.std.proofs.{Common.ℕ, Common.List, Common.[], Common.◌∷◌, Common.◌++◌, Common.encode_utf8_all, Common.sym, Common.subst, Common.arith}
+use Rattle.std.proofs.{lemmas.Bool.Decides.nat_tests, lemmas.List.Elements.All-from_recursion}
+use Rattle.std.specs.{Prelude.All, List.AllByRecursion, Char.encode_utf8}
+use Rattle.csicodec_clean.specs.{Shown.IsShown, Shown.IsPlain, Private.Steps.IsOther}
 
 pub one_char : (c : ℕ) → IsShown c → AllByRecursion IsOther (encode_utf8 c)
 unfolding encode_utf8

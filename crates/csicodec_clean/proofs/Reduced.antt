@@ -1,20 +1,16 @@
 -- The place of the palette that is found stays among the places.
-use Rattle.std.proofs.Common.{◌≡◌, ◌<◌, ◌≤◌, ◌+◌, ◌⊎◌, ℕ, zero, suc, false, refl, subst, arith}
-use Rattle.std.proofs.lemmas.Bool.{cond_both}
-use Rattle.std.proofs.lemmas.Bool.Decides.{nat_tests}
-use Rattle.csicodec_names.specs.declared.color.ColorSpec.{ColorSpec}
-use Rattle.csicodec_names.specs.declared.color.SrgbaTuple.{SrgbaTuple}
+use Rattle.std.proofs.{Common.◌≡◌, Common.◌<◌, Common.◌≤◌, Common.◌+◌, Common.◌⊎◌, Common.ℕ, Common.zero, Common.suc, Common.false, Common.refl, Common.subst}
+use Rattle.std.proofs.{Common.arith, lemmas.Bool.cond_both, lemmas.Bool.Decides.nat_tests}
+use Rattle.csicodec_names.specs.{declared.color.ColorSpec.ColorSpec, declared.color.SrgbaTuple.SrgbaTuple}
 use Rattle.csicodec_base.specs.declared.sgr.Sgr.{Sgr}
-use Rattle.csicodec_base.specs.declared.sgr.Sgr.TheVariants as sgr
-use Rattle.csicodec_actions.specs.Actions as action
 use Rattle.csicodec_actions.specs.Ranges.{ColorInRange}
 use Rattle.csicodec.specs.Exact.{ReadsAlone}
-use Rattle.csicodec.proofs.Alone.{canonical-alone}
-use Rattle.csicodec.proofs.RoundTrip.{alone-only}
-use Rattle.csicodec_clean.specs.declared.colors.Depth.{Depth}
+use Rattle.csicodec.proofs.{Alone.canonical-alone, RoundTrip.alone-only}
 use Rattle.csicodec_clean.specs.Palette.{IsNearest, distance, nearer, nearest_among, nearest_of_16, nearest_of_256, palette, reduced, reduced_color}
-use Rattle.csicodec_clean.specs.Styled.{hides}
+use Rattle.csicodec_clean.specs.{declared.colors.Depth.Depth, Styled.hides}
 use Rattle.csicodec_clean.proofs.Coded.{style_range}
+use Rattle.csicodec_base.specs.declared.sgr.Sgr.TheVariants as sgr
+use Rattle.csicodec_actions.specs.Actions as action
 
 -- ---- a place more
 

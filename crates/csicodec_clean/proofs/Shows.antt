@@ -1,7 +1,7 @@
 -- What is shown of characters, one run behind the other.
 use Rattle.std.proofs.Common.{◌≡◌, ℕ, List, [], ◌∷◌, ◌++◌, encode_utf8, encode_utf8_all, length, arith, refl, sym, ap, ◌∙◌, append_assoc}
-use Rattle.std.specs.Prelude.{filter}
 use Rattle.std.proofs.lemmas.List.Elements.{filter-append}
+use Rattle.std.specs.Prelude.{filter}
 use Rattle.bstr.specs.Utf8.{lossy_chars}
 use Rattle.bstr.proofs.lemmas.PieceLemmas.{lossy_chars-nil}
 use Rattle.csicodec_clean.specs.Shown.{shown, shown_chars, shown_text, IsRead}

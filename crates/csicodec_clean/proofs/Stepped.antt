@@ -1,20 +1,15 @@
 -- The parts of a stream, span by span, and what was appended for them.
 use Rattle.std.proofs.Common.{◌≡◌, ℕ, Bool, false, List, [], ◌∷◌, ◌++◌, refl, sym, ap, subst, ◌∙◌, append_assoc, append-nil, arith}
 use Rattle.std.specs.List.{AllByRecursion, flat_map}
-use Rattle.csicodec_spans.specs.declared.table.Kind.{Kind}
-use Rattle.csicodec_spans.specs.declared.table.Kind.TheVariants as kind
-use Rattle.csicodec_spans.specs.declared.table.Mode.{Mode}
-use Rattle.csicodec_spans.specs.declared.table.Mode.TheVariants as mode
-use Rattle.csicodec_spans.specs.Parts.{Part, part, bytes_of, AreAll, IsSpan, Cuts, IsUnsure}
+use Rattle.csicodec_spans.specs.{declared.table.Kind.Kind, declared.table.Mode.Mode, Parts.Part, Parts.part, Parts.bytes_of, Parts.AreAll, Parts.IsSpan}
+use Rattle.csicodec_spans.specs.{Parts.Cuts, Parts.IsUnsure}
 use Rattle.csicodec_spans.proofs.Kept.{parts_on}
-use Rattle.csicodec_clean.specs.Shown.{shown_chars, shown_text, IsRead}
-use Rattle.csicodec_clean.specs.Titles.{title_behind, title_open, read_as, with_titles}
-use Rattle.csicodec_clean.specs.Cleaned.{RuleOf, AreGiven, IsStep, AreSteps, Cleans}
-use Rattle.csicodec_clean.specs.Private.Steps.{IsAppended}
-use Rattle.csicodec_clean.specs.Stream.{Goes}
-use Rattle.csicodec_clean.proofs.Sure.{read_more, read_none}
-use Rattle.csicodec_clean.proofs.Titles.{open_on, titled, titles_on}
-use Rattle.csicodec_clean.proofs.Shows.{shown_none, shown_on, shown_read}
+use Rattle.csicodec_clean.specs.{Shown.shown_chars, Shown.shown_text, Shown.IsRead, Titles.title_behind, Titles.title_open, Titles.read_as, Titles.with_titles}
+use Rattle.csicodec_clean.specs.{Cleaned.RuleOf, Cleaned.AreGiven, Cleaned.IsStep, Cleaned.AreSteps, Cleaned.Cleans, Private.Steps.IsAppended, Stream.Goes}
+use Rattle.csicodec_clean.proofs.{Sure.read_more, Sure.read_none, Titles.open_on, Titles.titled, Titles.titles_on, Shows.shown_none, Shows.shown_on}
+use Rattle.csicodec_clean.proofs.{Shows.shown_read}
+use Rattle.csicodec_spans.specs.declared.table.Kind.TheVariants as kind
+use Rattle.csicodec_spans.specs.declared.table.Mode.TheVariants as mode
 
 module _ {S : Type 0} (Gives : RuleOf S) where
   pub steps_on : (ps qs : List Part) (s mid after : S) (run between left t u : List ℕ) → AreSteps Gives s run ps t mid between

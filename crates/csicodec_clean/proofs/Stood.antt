@@ -1,32 +1,20 @@
 -- Each link that passes stood in the stream.
 use Rattle.std.proofs.Common.{◌≡◌, ◌<◌, ◌⊎◌, ℕ, Bool, true, false, List, [], ◌∷◌, ◌++◌, length, length-append, refl, sym, ap, subst, ◌∙◌, inl, inr, append_assoc, append-nil, arith}
-use Rattle.std.specs.Prelude.{◌==◌, filter, if◌then◌else◌}
-use Rattle.std.specs.List.{AllByRecursion, Contains, flat_map}
-use Rattle.std.proofs.lemmas.Bool.{both_ways}
-use Rattle.std.proofs.lemmas.Bool.Decides.{nat_tests}
-use Rattle.std.proofs.lemmas.Grind.{flat_map-append}
-use Rattle.std.proofs.lemmas.List.Elements.{Contains-append_right}
+use Rattle.std.proofs.{lemmas.Bool.both_ways, lemmas.Bool.Decides.nat_tests, lemmas.Grind.flat_map-append, lemmas.List.Elements.Contains-append_right}
+use Rattle.std.specs.{Prelude.◌==◌, Prelude.filter, Prelude.if◌then◌else◌, List.AllByRecursion, List.Contains, List.flat_map}
 use Rattle.bstr.specs.Utf8.{lossy_chars}
-use Rattle.csicodec_spans.specs.declared.table.Kind.{Kind}
-use Rattle.csicodec_spans.specs.declared.table.Kind.TheVariants as kind
-use Rattle.csicodec_spans.specs.declared.table.Mode.{Mode}
-use Rattle.csicodec_spans.specs.declared.table.Mode.TheVariants as mode
-use Rattle.csicodec_spans.specs.Parts.{Part, part, bytes_of, AreFirstParts, IsFirstPart, left_over}
-use Rattle.csicodec_spans.proofs.Fronts.{IsPiece, in_string, is_str}
-use Rattle.csicodec_spans.proofs.Missed.{fit}
-use Rattle.csicodec_clean.specs.declared.links.LinkState.{LinkState}
-use Rattle.csicodec_clean.specs.declared.links.LinkState.TheVariants as place
-use Rattle.csicodec_clean.specs.declared.styles.Passing.{Passing}
-use Rattle.csicodec_clean.specs.Cleaned.{longest}
-use Rattle.csicodec_clean.specs.Links.{Address, Begun, IsAdmitted, IsWithin, Spells, Stood, StoodIn, admitted, all_behind, begun, behind}
-use Rattle.csicodec_clean.specs.Links.{behind_at, ends_at, link_body, links_in, opened, start}
-use Rattle.csicodec_clean.specs.Shown.{shown}
+use Rattle.csicodec_spans.specs.{declared.table.Kind.Kind, declared.table.Mode.Mode, Parts.Part, Parts.part, Parts.bytes_of, Parts.AreFirstParts}
+use Rattle.csicodec_spans.specs.{Parts.IsFirstPart, Parts.left_over}
+use Rattle.csicodec_spans.proofs.{Fronts.IsPiece, Fronts.in_string, Fronts.is_str, Missed.fit}
+use Rattle.csicodec_clean.specs.Links.{Address, Begun, IsAdmitted, IsWithin, Spells, Stood, StoodIn, admitted, all_behind, begun, behind, behind_at, ends_at, link_body, links_in, opened, start}
 use Rattle.csicodec_clean.specs.Styled.{Item, Leaves, begun_behind, run_behind, items_behind, AreLeft, links_of, StylesIn}
-use Rattle.csicodec_clean.specs.Titles.{read_as, title_behind, with_titles}
-use Rattle.csicodec_clean.proofs.Linked.{behind_on, links_none, links_on, passes}
-use Rattle.csicodec_clean.proofs.PlainBytes.{all_both}
-use Rattle.csicodec_clean.proofs.Styled.{links_chars, links_links, links_styles, part_links}
-use Rattle.csicodec_clean.proofs.Titles.{whole_each}
+use Rattle.csicodec_clean.specs.{declared.links.LinkState.LinkState, declared.styles.Passing.Passing, Cleaned.longest, Shown.shown, Titles.read_as}
+use Rattle.csicodec_clean.specs.{Titles.title_behind, Titles.with_titles}
+use Rattle.csicodec_clean.proofs.{Linked.behind_on, Linked.links_none, Linked.links_on, Linked.passes, PlainBytes.all_both, Styled.links_chars}
+use Rattle.csicodec_clean.proofs.{Styled.links_links, Styled.links_styles, Styled.part_links, Titles.whole_each}
+use Rattle.csicodec_spans.specs.declared.table.Kind.TheVariants as kind
+use Rattle.csicodec_spans.specs.declared.table.Mode.TheVariants as mode
+use Rattle.csicodec_clean.specs.declared.links.LinkState.TheVariants as place
 
 -- ---- what of a link has been read
 

@@ -1,11 +1,9 @@
 -- A run of a transform, by what its text is.
-use Rattle.std.proofs.Common.{ℕ, ◌≡◌, Option, IfSome, List, [], ◌++◌}
-use Rattle.std.specs.Prelude.{Result, OnOk, OnErr}
-use Rattle.std.specs.Io.KnownBytes.{Appends, Consumes, IsAtEnd}
-use Rattle.std.proofs.lemmas.Result.{on_err_weaker, on_ok_weaker}
+use Rattle.std.proofs.{Common.ℕ, Common.◌≡◌, Common.Option, Common.IfSome, Common.List, Common.[], Common.◌++◌, lemmas.Result.on_err_weaker}
+use Rattle.std.proofs.{lemmas.Result.on_ok_weaker}
+use Rattle.std.specs.{Prelude.Result, Prelude.OnOk, Prelude.OnErr, Io.KnownBytes.Appends, Io.KnownBytes.Consumes, Io.KnownBytes.IsAtEnd}
 use Rattle.csicodec_filter.specs.Transform.{Begins}
-use Rattle.csicodec_clean.specs.Stream.{IsFrontOf}
-use Rattle.csicodec_clean.specs.Streams.{Streams, StreamsOne}
+use Rattle.csicodec_clean.specs.{Stream.IsFrontOf, Streams.Streams, Streams.StreamsOne}
 
 -- what went out of a run is a front of the text of the whole input
 abbrev pub SentFront : (List ℕ → List ℕ → Type 0) → Option (List ℕ) → Option (List ℕ) → Option (List ℕ) → Type 0

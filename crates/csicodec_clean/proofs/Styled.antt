@@ -1,39 +1,24 @@
 -- Styles and links that stay between the runs of text.
 use Rattle.std.proofs.Common.{◌≡◌, ℕ, Bool, true, false, List, [], ◌∷◌, ◌++◌, map, encode_utf8, encode_utf8_all, length, refl, sym, ap, subst, ◌∙◌, append_assoc, append-nil, arith}
-use Rattle.std.specs.Prelude.{filter, not, ◌==◌, Option, None, Some, if◌then◌else◌}
-use Rattle.std.specs.Option.{option_or, unwrap_or}
-use Rattle.std.specs.List.{AllByRecursion}
-use Rattle.std.specs.Str.{all_scalars}
-use Rattle.std.proofs.lemmas.Bool.{and_parts, cond_both}
-use Rattle.std.proofs.lemmas.Grind.{flat_map-append}
-use Rattle.std.proofs.lemmas.List.{map-append}
+use Rattle.std.proofs.{lemmas.Bool.and_parts, lemmas.Bool.cond_both, lemmas.Grind.flat_map-append, lemmas.List.map-append}
+use Rattle.std.specs.{Prelude.filter, Prelude.not, Prelude.◌==◌, Prelude.Option, Prelude.None, Prelude.Some, Prelude.if◌then◌else◌, Option.option_or}
+use Rattle.std.specs.{Option.unwrap_or, List.AllByRecursion, Str.all_scalars}
 use lib.Utf8.{scalar}
 use Rattle.bstr.specs.Utf8.{lossy_chars}
 use Rattle.csicodec_base.specs.declared.sgr.Sgr.{Sgr}
-use Rattle.csicodec_base.specs.declared.sgr.Sgr.TheVariants as sgr
-use Rattle.csicodec_actions.specs.Actions.{Action}
-use Rattle.csicodec_actions.specs.Actions as action
-use Rattle.csicodec_actions.specs.Table.{text, texts}
+use Rattle.csicodec_actions.specs.{Actions.Action, Table.text, Table.texts}
 use Rattle.csicodec.specs.Exact.{ReadsAlone}
 use Rattle.csicodec.proofs.RoundTrip.{round_trip_lem}
-use Rattle.csicodec_spans.specs.declared.table.Kind.{Kind}
-use Rattle.csicodec_spans.specs.declared.table.Kind.TheVariants as kind
-use Rattle.csicodec_spans.specs.Parts.{Part}
-use Rattle.csicodec_clean.specs.Shown.{shown, shown_text, IsShown}
-use Rattle.csicodec_clean.specs.Titles.{with_titles}
-use Rattle.csicodec_clean.specs.Cleaned.{AreGiven, IsStep, AreSteps, Ends, longest}
-use Rattle.csicodec_clean.specs.declared.colors.Depth.{Depth}
-use Rattle.csicodec_clean.specs.Palette.{reduced}
-use Rattle.csicodec_clean.specs.declared.styles.Passing.{Passing}
+use Rattle.csicodec_spans.specs.{declared.table.Kind.Kind, Parts.Part}
 use Rattle.csicodec_clean.specs.Links.{Address, Begun, IsLink, IsWithin, all_behind, is_linked, link_text, link_texts, links_at, links_in, next, no_address, start}
-use Rattle.csicodec_clean.specs.Styled.{hides, is_reset, kept, Item, Shown, Style, Link, item_text, item_texts, shown_items, Leaves}
-use Rattle.csicodec_clean.specs.Styled.{begun_behind, run_behind, items_behind, AreLeft, is_open, styles_of, links_of, ends_of, closed}
-use Rattle.csicodec_clean.specs.Styled.{StylesIn, IsSafe, IsStyledIn, Keeping, keeping, first_kept, behind_byte, keeps, resets}
-use Rattle.csicodec_clean.proofs.Linked.{fine_behind, fine_links, linked_on, links_none}
-use Rattle.csicodec_clean.proofs.Reduced.{reduced_alone, reduced_hides, reduced_twice}
-use Rattle.csicodec_clean.proofs.Plain.{kept_shown, scalars_lossy}
-use Rattle.csicodec_clean.proofs.PlainBytes.{all_both}
-use Rattle.csicodec_clean.proofs.Taken.{StyleAlone, taken_alone}
+use Rattle.csicodec_clean.specs.Styled.{hides, is_reset, kept, Item, Shown, Style, Link, item_text, item_texts, shown_items, Leaves, begun_behind, run_behind, items_behind, AreLeft, is_open, styles_of, links_of, ends_of, closed, StylesIn, IsSafe, IsStyledIn, Keeping, keeping, first_kept, behind_byte, keeps, resets}
+use Rattle.csicodec_clean.specs.{Shown.shown, Shown.shown_text, Shown.IsShown, Titles.with_titles, Cleaned.AreGiven, Cleaned.IsStep, Cleaned.AreSteps}
+use Rattle.csicodec_clean.specs.{Cleaned.Ends, Cleaned.longest, declared.colors.Depth.Depth, Palette.reduced, declared.styles.Passing.Passing}
+use Rattle.csicodec_clean.proofs.{Linked.fine_behind, Linked.fine_links, Linked.linked_on, Linked.links_none, Reduced.reduced_alone, Reduced.reduced_hides}
+use Rattle.csicodec_clean.proofs.{Reduced.reduced_twice, Plain.kept_shown, Plain.scalars_lossy, PlainBytes.all_both, Taken.StyleAlone, Taken.taken_alone}
+use Rattle.csicodec_base.specs.declared.sgr.Sgr.TheVariants as sgr
+use Rattle.csicodec_actions.specs.Actions as action
+use Rattle.csicodec_spans.specs.declared.table.Kind.TheVariants as kind
 
 -- ---- one action behind the other
 

@@ -1,8 +1,6 @@
 -- A piece stays, whatever follows, once it is a character or bytes stand behind it.
-use Rattle.std.proofs.Common.{◌≡◌, ◌≢◌, ℕ, ◌<◌, ◌≤◌, List, [], ◌∷◌, ◌++◌, Option, None, Some}
-use Rattle.std.proofs.Common.{drop, length, length-append, slice_index, refl, sym, ap, subst, ◌∙◌, arith, append_assoc, append-nil}
-use Rattle.std.proofs.lemmas.Bool.Decides.{nat_tests}
-use Rattle.std.proofs.lemmas.List.{get_or_append_left, drop-append-le, drop_all}
+use Rattle.std.proofs.Common.{◌≡◌, ◌≢◌, ℕ, ◌<◌, ◌≤◌, List, [], ◌∷◌, ◌++◌, Option, None, Some, drop, length, length-append, slice_index, refl, sym, ap, subst, ◌∙◌, arith, append_assoc, append-nil}
+use Rattle.std.proofs.{lemmas.Bool.Decides.nat_tests, lemmas.List.get_or_append_left, lemmas.List.drop-append-le, lemmas.List.drop_all}
 use Rattle.bstr.specs.Utf8.{Decoded, decoded, decoded_by, or_replacement, replacement, lossy_chars}
 use Rattle.bstr.proofs.lemmas.PieceLemmas.{by-shape, piece-bounds, lossy_chars-step, lossy_chars-nil, value-1, value-2, value-3, value-5, value-6, value-8, value-9, value-11, value-12}
 use Rattle.csicodec_clean.specs.Shown.{IsCut, IsRead}

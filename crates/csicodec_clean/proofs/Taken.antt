@@ -1,33 +1,20 @@
 -- What holds of each action that terminals take a control sequence for: it is in range, and a style is read alone from its text.
 use Rattle.std.specs.Prelude.{MatchBool, ℤ, pos, negsuc, ◌==◌, ◌&&◌, ◌^◌, ◌≤ℤ◌, nat_lt, slice_index_or, if◌then◌else◌}
-use Rattle.std.proofs.Common.{◌≡◌, ℕ, zero, suc, ◌||◌, Bool, true, false, List, [], ◌∷◌, length, Option, None, Some, refl, inl, inr, arith}
-use Rattle.std.proofs.lemmas.Int.{ints}
-use Rattle.std.proofs.lemmas.Bool.{cond_both}
 use Rattle.std.specs.List.{AllByRecursion}
-use Rattle.csicodec_tokens.specs.declared.param.CsiParam.{CsiParam}
-use Rattle.csicodec_tokens.specs.declared.param.CsiParam.TheVariants.{Integer, P}
-use Rattle.csicodec_tokens.specs.Fields.{fields_of, with_field}
-use Rattle.csicodec_tokens.specs.OneBased.{most}
-use Rattle.csicodec_tokens.specs.Sequence.{IsFinal, IsSpellable, Spellable}
-use Rattle.csicodec_base.specs.declared.sgr.Sgr as sgr_type
-use Rattle.csicodec_actions.specs.Actions.{Action, Sgr, Unspecified}
-use Rattle.csicodec_actions.specs.Ranges.{InRange, SgrInRange}
-use Rattle.csicodec_parser.specs.Canonical.{IsCanonicalSgr}
-use Rattle.csicodec_parser.specs.declared.group.Group.{Group}
-use Rattle.csicodec_parser.specs.declared.group.Group.TheVariants.{DecModes, Modes, Styles, Whole}
-use Rattle.csicodec_parser.specs.Cut.{semicolon}
-use Rattle.csicodec_parser.specs.Groups.{Piece, group}
-use Rattle.csicodec_parser.specs.Segments.{Actions}
-use Rattle.csicodec_terminal.specs.Regular.{by_fields, first, has_one, has_two, regular, said}
-use Rattle.csicodec_terminal.specs.Terminal.{Anew, IsTakenFor, Steps, behind, has_unknown, is_open}
+use Rattle.std.proofs.Common.{◌≡◌, ℕ, zero, suc, ◌||◌, Bool, true, false, List, [], ◌∷◌, length, Option, None, Some, refl, inl, inr, arith}
+use Rattle.std.proofs.{lemmas.Int.ints, lemmas.Bool.cond_both}
+use Rattle.csicodec_tokens.specs.{declared.param.CsiParam.CsiParam, declared.param.CsiParam.TheVariants.Integer, declared.param.CsiParam.TheVariants.P}
+use Rattle.csicodec_tokens.specs.{Fields.fields_of, Fields.with_field, OneBased.most, Sequence.IsFinal, Sequence.IsSpellable, Sequence.Spellable}
+use Rattle.csicodec_actions.specs.{Actions.Action, Actions.Sgr, Actions.Unspecified, Ranges.InRange, Ranges.SgrInRange}
+use Rattle.csicodec_parser.specs.{Canonical.IsCanonicalSgr, declared.group.Group.Group, declared.group.Group.TheVariants.DecModes}
+use Rattle.csicodec_parser.specs.{declared.group.Group.TheVariants.Modes, declared.group.Group.TheVariants.Styles, declared.group.Group.TheVariants.Whole}
+use Rattle.csicodec_parser.specs.{Cut.semicolon, Groups.Piece, Groups.group, Segments.Actions}
+use Rattle.csicodec_terminal.specs.{Regular.by_fields, Regular.first, Regular.has_one, Regular.has_two, Regular.regular, Regular.said, Terminal.Anew}
+use Rattle.csicodec_terminal.specs.{Terminal.IsTakenFor, Terminal.Steps, Terminal.behind, Terminal.has_unknown, Terminal.is_open}
 use Rattle.csicodec.specs.Exact.{ReadsAlone}
-use Rattle.csicodec.proofs.Alone.{canonical-alone}
-use Rattle.csicodec.proofs.Kept.{Kept}
-use Rattle.csicodec.proofs.Parsed.{parsed-kept}
-use Rattle.csicodec.proofs.RoundTrip.{alone-only}
-use Rattle.csicodec.proofs.SgrKept.{sgr-kept}
-use Rattle.csicodec.proofs.Twins.{parsed-special, sgr-plain}
+use Rattle.csicodec.proofs.{Alone.canonical-alone, Kept.Kept, Parsed.parsed-kept, RoundTrip.alone-only, SgrKept.sgr-kept, Twins.parsed-special, Twins.sgr-plain}
 use Rattle.csicodec_clean.proofs.PlainBytes.{all_weaker}
+use Rattle.csicodec_base.specs.declared.sgr.Sgr as sgr_type
 
 -- ---- a regular list is one of a sequence
 

@@ -1,17 +1,13 @@
 -- Titles, part by part and span by span.
 use Rattle.std.proofs.Common.{◌≡◌, ◌<◌, ◌⊎◌, ℕ, suc, Bool, true, false, List, [], ◌∷◌, ◌++◌, Some, length, refl, sym, ap, subst, ◌∙◌, inl, inr, arith}
-use Rattle.std.specs.Prelude.{◌==◌, slice_get}
-use Rattle.std.specs.List.{AllByRecursion, flat_map}
 use Rattle.std.proofs.lemmas.Bool.{and_parts, eqb-true}
-use Rattle.csicodec_spans.specs.declared.table.Kind.{Kind}
-use Rattle.csicodec_spans.specs.declared.table.Kind.TheVariants as kind
-use Rattle.csicodec_spans.specs.declared.table.Mode.{Mode}
-use Rattle.csicodec_spans.specs.declared.table.Mode.TheVariants as mode
+use Rattle.std.specs.{Prelude.◌==◌, Prelude.slice_get, List.AllByRecursion, List.flat_map}
 use Rattle.csicodec_spans.specs.Parts.{Part, part, bytes_of, AreAll, AreFirstParts, IsFirstPart, IsSpan, IsWhole, left_over}
-use Rattle.csicodec_spans.proofs.Missed.{fit}
-use Rattle.csicodec_spans.proofs.OneSpan.{singles}
-use Rattle.csicodec_clean.specs.Cleaned.{longest}
-use Rattle.csicodec_clean.specs.Titles.{InTitle, IsText, title_behind, title_open, read_as, with_titles}
+use Rattle.csicodec_spans.specs.{declared.table.Kind.Kind, declared.table.Mode.Mode}
+use Rattle.csicodec_spans.proofs.{Missed.fit, OneSpan.singles}
+use Rattle.csicodec_clean.specs.{Cleaned.longest, Titles.InTitle, Titles.IsText, Titles.title_behind, Titles.title_open, Titles.read_as, Titles.with_titles}
+use Rattle.csicodec_spans.specs.declared.table.Kind.TheVariants as kind
+use Rattle.csicodec_spans.specs.declared.table.Mode.TheVariants as mode
 
 pub titles_on : (t : Bool) (ps qs : List Part) → with_titles t (ps ++ qs) ≡ with_titles t ps ++ with_titles (title_open t ps) qs
 titles_on t [] qs = refl

@@ -1,27 +1,17 @@
 -- Text that is told by its bytes.
-use Rattle.std.proofs.Common.{◌≡◌, ◌-◌, ◌<◌, ◌≤◌, ℕ, Bool, true, false, None, Some, List, [], ◌∷◌, ◌++◌, length, length-append, drop, take}
-use Rattle.std.proofs.Common.{slice_index, encode_utf8_all, refl, sym, ap, ◌∙◌, arith, lt-ltb, append_assoc, append-nil, take-append-drop, zero, suc}
-use Rattle.std.specs.List.{AllByRecursion, prefix_len}
-use Rattle.std.specs.Str.{all_scalars}
-use Rattle.std.specs.Char.{encode_utf8}
-use Rattle.std.proofs.lemmas.Bool.{and_from, and_parts}
-use Rattle.std.proofs.lemmas.Bool.Decides.{nat_tests}
-use Rattle.std.proofs.lemmas.Grind.{common_steps}
+use Rattle.std.proofs.Common.{◌≡◌, ◌-◌, ◌<◌, ◌≤◌, ℕ, Bool, true, false, None, Some, List, [], ◌∷◌, ◌++◌, length, length-append, drop, take, slice_index, encode_utf8_all, refl, sym, ap, ◌∙◌, arith, lt-ltb, append_assoc, append-nil, take-append-drop, zero, suc}
+use Rattle.std.proofs.{lemmas.Bool.and_from, lemmas.Bool.and_parts, lemmas.Bool.Decides.nat_tests, lemmas.Grind.common_steps, Math.Seq.take-append_seam}
+use Rattle.std.proofs.{Math.Seq.drop-append_seam}
+use Rattle.std.specs.{List.AllByRecursion, List.prefix_len, Str.all_scalars, Char.encode_utf8}
 use lib.Utf8.{scalar, low_scalar}
 use Rattle.bstr.specs.Utf8.{Decoded, decoded, good, or_replacement, lossy_chars, continues, second, code_of_2, code_of_3, code_of_4}
-use Rattle.bstr.proofs.lemmas.EncodeLemmas.{decoded-encode}
 use Rattle.bstr.proofs.lemmas.PieceLemmas.{lossy_chars-step, piece-bounds, value-1, value-6, value-9, value-12}
-use Rattle.std.proofs.Math.Seq.{take-append_seam, drop-append_seam}
-use Rattle.csicodec_clean.specs.Shown.{shown, shown_chars, IsBehind, IsPlain, IsRead, IsTextOf}
-use Rattle.csicodec_clean.specs.Bytes.{IsPlainByte, behind, plain_byte}
-use Rattle.csicodec_clean.specs.Private.Steps.{IsOther, IsTold, Tells, dropped_byte, IsWide}
-use Rattle.csicodec_clean.proofs.Bytes.{front_in}
-use Rattle.csicodec_clean.proofs.Plain.{text_on}
-use Rattle.csicodec_clean.proofs.PlainBytes.{all_both, all_weaker, plain_bytes}
-use Rattle.csicodec_clean.proofs.Shows.{shown_on}
-use Rattle.csicodec_clean.proofs.Sure.{read_more, read_none}
-use Rattle.csicodec_clean.proofs.Twice.{all_kept}
-use Rattle.bstr.proofs.lemmas.SoundLemmas.{SpellsChar-decoded}
+use Rattle.bstr.proofs.{lemmas.EncodeLemmas.decoded-encode, lemmas.SoundLemmas.SpellsChar-decoded}
+use Rattle.csicodec_clean.specs.{Shown.shown, Shown.shown_chars, Shown.IsBehind, Shown.IsPlain, Shown.IsRead, Shown.IsTextOf, Bytes.IsPlainByte, Bytes.behind}
+use Rattle.csicodec_clean.specs.{Bytes.plain_byte, Private.Steps.IsOther, Private.Steps.IsTold, Private.Steps.Tells, Private.Steps.dropped_byte}
+use Rattle.csicodec_clean.specs.{Private.Steps.IsWide}
+use Rattle.csicodec_clean.proofs.{Bytes.front_in, Plain.text_on, PlainBytes.all_both, PlainBytes.all_weaker, PlainBytes.plain_bytes, Shows.shown_on}
+use Rattle.csicodec_clean.proofs.{Sure.read_more, Sure.read_none, Twice.all_kept}
 
 -- ---- plain bytes
 

@@ -1,22 +1,14 @@
 -- Plain text stays as it is.
 use Rattle.std.proofs.Common.{◌≡◌, ℕ, false, cond, List, [], ◌∷◌, ◌++◌, encode_utf8_all, refl, sym, ap, subst, ◌∙◌, append_assoc, append-nil}
-use Rattle.std.specs.Prelude.{filter}
-use Rattle.std.specs.List.{AllByRecursion}
+use Rattle.std.specs.{Prelude.filter, List.AllByRecursion}
 use Rattle.bstr.proofs.lemmas.EncodeLemmas.{lossy_chars-encode}
+use Rattle.csicodec_spans.specs.{Table.Answer, Parts.Part, Parts.Allows, Parts.AreFirstParts, Parts.IsWhole}
+use Rattle.csicodec_spans.proofs.{OneSpan.none_unsure, OneSpan.singles, Agrees.text_goes_on, Once.whole_once}
+use Rattle.csicodec_clean.specs.{Shown.shown, Shown.shown_chars, Shown.shown_text, Shown.IsShown, Shown.IsPlain, Titles.with_titles, Cleaned.Strips}
+use Rattle.csicodec_clean.specs.{Cleaned.stripped, Private.Steps.IsOther}
+use Rattle.csicodec_clean.proofs.{Titles.single_texts, Plain.strips_plain, PlainBytes.plain_bytes}
 use Rattle.csicodec_spans.specs.declared.table.Kind.TheVariants as kind
 use Rattle.csicodec_spans.specs.declared.table.Mode.TheVariants as mode
-use Rattle.csicodec_spans.specs.Table.{Answer}
-use Rattle.csicodec_spans.specs.Parts.{Part, Allows, AreFirstParts, IsWhole}
-use Rattle.csicodec_spans.proofs.OneSpan.{none_unsure, singles}
-use Rattle.csicodec_spans.proofs.Agrees.{text_goes_on}
-use Rattle.csicodec_spans.proofs.Once.{whole_once}
-use Rattle.csicodec_clean.specs.Shown.{shown, shown_chars, shown_text, IsShown, IsPlain}
-use Rattle.csicodec_clean.specs.Titles.{with_titles}
-use Rattle.csicodec_clean.specs.Cleaned.{Strips, stripped}
-use Rattle.csicodec_clean.specs.Private.Steps.{IsOther}
-use Rattle.csicodec_clean.proofs.Titles.{single_texts}
-use Rattle.csicodec_clean.proofs.Plain.{strips_plain}
-use Rattle.csicodec_clean.proofs.PlainBytes.{plain_bytes}
 
 pub all_text : (limit : ℕ) (bs : List ℕ) → AllByRecursion IsOther bs → AreFirstParts limit mode.Text bs (singles kind.Text bs) [] mode.Text
 all_text limit [] h = (refl, refl)

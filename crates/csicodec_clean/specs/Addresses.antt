@@ -1,7 +1,6 @@
 -- Where a link may lead: to a host, by http or https (RFC 9110, 4.2).
 use Rattle.std.specs.Prelude.{ℕ, ◌==◌, Bool, true, false, not, ◌&&◌, ◌||◌, if◌then◌else◌, List, [], ◌∷◌, length, take, drop, codes}
-use Rattle.std.specs.Char.{is_ascii_alphanumeric}
-use Rattle.std.specs.Str.{str_eq_ignore_ascii_case}
+use Rattle.std.specs.{Char.is_ascii_alphanumeric, Str.str_eq_ignore_ascii_case}
 
 -- a byte of a host, or of the port behind it (RFC 3986, 3.2.2 and 3.2.3): a letter, a digit, `-`, `.` or `_`, `[` and `]` around an
 -- address of IPv6, and `:`

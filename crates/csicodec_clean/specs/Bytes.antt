@@ -1,7 +1,6 @@
 -- Classes of bytes: text that is told without reading its characters.
-use Rattle.std.specs.Prelude.{ℕ, ◌≡◌, ◌==◌, Bool, true, ◌&&◌, ◌||◌, if◌then◌else◌, nat_le, nat_lt, List, drop}
-use Rattle.std.specs.Int.{w64, trailing_zeros}
-use Rattle.std.specs.List.{prefix_len}
+use Rattle.std.specs.{Prelude.ℕ, Prelude.◌≡◌, Prelude.◌==◌, Prelude.Bool, Prelude.true, Prelude.◌&&◌, Prelude.◌||◌, Prelude.if◌then◌else◌, Prelude.nat_le}
+use Rattle.std.specs.{Prelude.nat_lt, Prelude.List, Prelude.drop, Int.w64, Int.trailing_zeros, List.prefix_len}
 
 -- what is behind the bytes of a class in front
 abbrev pub behind : (ℕ → Bool) → List ℕ → List ℕ

@@ -1,12 +1,10 @@
 -- What is left of the parts of a stream: the shown characters of its runs of text, each read by itself, and what a rule
 -- gives for its control sequences.
 use Rattle.std.specs.Prelude.{ℕ, ◌≡◌, Bool, true, false, if◌then◌else◌, List, [], ◌∷◌, ◌++◌}
-use Rattle.csicodec_spans.specs.declared.table.Kind.{Kind}
+use Rattle.csicodec_spans.specs.{declared.table.Kind.Kind, Parts.Part, Parts.IsWhole}
+use Rattle.csicodec_clean.specs.{Shown.shown_text, Titles.with_titles}
 use Rattle.csicodec_spans.specs.declared.table.Kind.TheVariants as kind
 use Rattle.csicodec_spans.specs.declared.table.Mode.TheVariants as mode
-use Rattle.csicodec_spans.specs.Parts.{Part, IsWhole}
-use Rattle.csicodec_clean.specs.Shown.{shown_text}
-use Rattle.csicodec_clean.specs.Titles.{with_titles}
 
 abbrev pub is_text : Kind → Bool
 is_text kind.Text = true

@@ -2,10 +2,9 @@
 -- is printed behind one leads to the URL, up to the next one, and one without a URL ends it.
 use Rattle.std.specs.Prelude.{ℕ, ◌≡◌, ◌≤◌, ◌⊎◌, ◌==◌, Bool, true, false, not, ◌&&◌, nat_le, nat_lt, List, [], ◌∷◌, ◌++◌, length, if◌then◌else◌}
 use Rattle.std.specs.List.{AllByRecursion, flat_map}
-use Rattle.csicodec_spans.specs.declared.table.Kind.TheVariants as kind
 use Rattle.csicodec_spans.specs.Parts.{Part, IsSpan}
-use Rattle.csicodec_clean.specs.Addresses.{led}
-use Rattle.csicodec_clean.specs.declared.links.LinkState.{LinkState}
+use Rattle.csicodec_clean.specs.{Addresses.led, declared.links.LinkState.LinkState}
+use Rattle.csicodec_spans.specs.declared.table.Kind.TheVariants as kind
 use Rattle.csicodec_clean.specs.declared.links.LinkState.TheVariants as place
 
 -- what a link says: its parameters, as `id=1`, by which lines of one link are joined, and where it leads

@@ -1,14 +1,11 @@
 -- A stream that is cleaned as it comes, step by step: the caller keeps what is open, and the bytes that no step used.
 use Rattle.std.specs.Prelude.{ℕ, ◌≡◌, ◌≤◌, ◌<◌, ◌+◌, Bool, false, if◌then◌else◌, List, [], ◌∷◌, ◌++◌, length, take, drop}
-use Rattle.csicodec_actions.specs.Actions as action
 use Rattle.csicodec_actions.specs.Table.{text}
+use Rattle.csicodec_clean.specs.{declared.step.Pause.Pause, declared.whole.Dropped.Dropped, Shown.shown_text, Cleaned.RuleOf, Cleaned.longest, Stream.Between}
+use Rattle.csicodec_clean.specs.{Stream.Takes}
+use Rattle.csicodec_actions.specs.Actions as action
 use Rattle.csicodec_base.specs.declared.sgr.Sgr.TheVariants as sgr
 use Rattle.csicodec_spans.specs.declared.table.Mode.TheVariants as mode
-use Rattle.csicodec_clean.specs.declared.step.Pause.{Pause}
-use Rattle.csicodec_clean.specs.declared.whole.Dropped.{Dropped}
-use Rattle.csicodec_clean.specs.Shown.{shown_text}
-use Rattle.csicodec_clean.specs.Cleaned.{RuleOf, longest}
-use Rattle.csicodec_clean.specs.Stream.{Between, Takes}
 
 -- where nothing has come
 abbrev pub beginning : Pause

@@ -1,13 +1,10 @@
 -- A stream that is cleaned as it comes, chunk by chunk.
-use Rattle.std.specs.Prelude.{ℕ, ◌≡◌, Bool, false, List, [], ◌∷◌, ◌++◌}
-use Rattle.std.specs.List.{concat}
-use Rattle.csicodec_spans.specs.declared.table.Mode.{Mode}
-use Rattle.csicodec_spans.specs.declared.table.Mode.TheVariants as mode
-use Rattle.csicodec_spans.specs.Parts.{Part, AreFirstParts, IsUnsure}
+use Rattle.std.specs.{Prelude.ℕ, Prelude.◌≡◌, Prelude.Bool, Prelude.false, Prelude.List, Prelude.[], Prelude.◌∷◌, Prelude.◌++◌, List.concat}
+use Rattle.csicodec_spans.specs.{declared.table.Mode.Mode, Parts.Part, Parts.AreFirstParts, Parts.IsUnsure}
 use Rattle.csicodec_filter.specs.Transform.{Begins as BeginsWith, EndsOf, Sends}
-use Rattle.csicodec_clean.specs.Shown.{IsRead, shown_chars, shown_text}
-use Rattle.csicodec_clean.specs.Titles.{title_open, with_titles}
-use Rattle.csicodec_clean.specs.Cleaned.{RuleOf, EndOf, AreSteps, Ends, longest}
+use Rattle.csicodec_clean.specs.{Shown.IsRead, Shown.shown_chars, Shown.shown_text, Titles.title_open, Titles.with_titles, Cleaned.RuleOf, Cleaned.EndOf}
+use Rattle.csicodec_clean.specs.{Cleaned.AreSteps, Cleaned.Ends, Cleaned.longest}
+use Rattle.csicodec_spans.specs.declared.table.Mode.TheVariants as mode
 
 -- between two pushes: the rule, what is open and whether that is a title, the bytes of which nothing is sure yet, and those of a character before them
 pub record Between (S : Type 0) : Type 0 where

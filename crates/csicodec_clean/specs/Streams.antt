@@ -1,6 +1,6 @@
 -- Runs from a reader to a writer, by what is known of both before and after.
-use Rattle.std.specs.Prelude.{ℕ, List, ◌++◌, Option, Result, OnOk, OnErr, IfSome}
-use Rattle.std.specs.Io.KnownBytes.{Appends, Consumes, IsAtEnd}
+use Rattle.std.specs.{Prelude.ℕ, Prelude.List, Prelude.◌++◌, Prelude.Option, Prelude.Result, Prelude.OnOk, Prelude.OnErr, Prelude.IfSome, Io.KnownBytes.Appends}
+use Rattle.std.specs.{Io.KnownBytes.Consumes, Io.KnownBytes.IsAtEnd}
 use Rattle.csicodec_clean.specs.Stream.{IsFrontOf}
 
 -- All was read, and its text was written, which is safe. After any error what went out is a front of such a text of bytes that were read.

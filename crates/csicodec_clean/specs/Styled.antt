@@ -1,31 +1,23 @@
 -- What is left of a stream where its styles stay: characters that are shown, known styles but concealed text and fonts, and links, where they pass.
 use Rattle.std.specs.Prelude.{ℕ, ◌≡◌, Bool, true, false, not, List, [], ◌∷◌, ◌++◌, map, filter, if◌then◌else◌, encode_utf8}
-use Rattle.std.specs.List.{AllByRecursion, flat_map}
-use Rattle.std.specs.Char.{IsScalar}
+use Rattle.std.specs.{List.AllByRecursion, List.flat_map, Char.IsScalar}
 use Rattle.bstr.specs.Utf8.{lossy_chars}
-use Rattle.csicodec_tokens.specs.declared.param.CsiParam.{CsiParam}
-use Rattle.csicodec_tokens.specs.Sequence.{Seq}
-use Rattle.csicodec_base.specs.declared.sgr.Font.TheVariants as font
+use Rattle.csicodec_tokens.specs.{declared.param.CsiParam.CsiParam, Sequence.Seq}
 use Rattle.csicodec_base.specs.declared.sgr.Sgr.{Sgr}
-use Rattle.csicodec_base.specs.declared.sgr.Sgr.TheVariants as sgr
-use Rattle.csicodec_actions.specs.Actions.{Action}
-use Rattle.csicodec_actions.specs.Actions as action
-use Rattle.csicodec_actions.specs.Table.{text, texts}
+use Rattle.csicodec_actions.specs.{Actions.Action, Table.text, Table.texts}
 use Rattle.csicodec_parser.specs.Segments.{Actions}
 use Rattle.csicodec.specs.Exact.{ReadsAlone}
 use Rattle.csicodec_terminal.specs.Terminal.{IsTakenFor}
-use Rattle.csicodec_spans.specs.declared.table.Kind.{Kind}
+use Rattle.csicodec_spans.specs.{declared.table.Kind.Kind, Parts.Part, Parts.IsWhole}
+use Rattle.csicodec_clean.specs.Links.{Address, Begun, IsLink, all_behind, is_linked, link_text, link_texts, links_at, links_in, next, no_address, start}
+use Rattle.csicodec_clean.specs.{Shown.shown, Shown.IsShown, Titles.with_titles, declared.colors.Depth.Depth, Palette.reduced, declared.styles.Passing.Passing}
+use Rattle.csicodec_clean.specs.{Cleaned.RuleOf, Cleaned.EndOf, Cleaned.longest}
+use Rattle.csicodec_base.specs.declared.sgr.Font.TheVariants as font
+use Rattle.csicodec_base.specs.declared.sgr.Sgr.TheVariants as sgr
+use Rattle.csicodec_actions.specs.Actions as action
 use Rattle.csicodec_spans.specs.declared.table.Kind.TheVariants as kind
 use Rattle.csicodec_spans.specs.declared.table.Mode.TheVariants as mode
-use Rattle.csicodec_spans.specs.Parts.{Part, IsWhole}
-use Rattle.csicodec_clean.specs.Shown.{shown, IsShown}
-use Rattle.csicodec_clean.specs.Titles.{with_titles}
-use Rattle.csicodec_clean.specs.declared.colors.Depth.{Depth}
 use Rattle.csicodec_clean.specs.declared.colors.Depth.TheVariants as depth
-use Rattle.csicodec_clean.specs.Palette.{reduced}
-use Rattle.csicodec_clean.specs.declared.styles.Passing.{Passing}
-use Rattle.csicodec_clean.specs.Links.{Address, Begun, IsLink, all_behind, is_linked, link_text, link_texts, links_at, links_in, next, no_address, start}
-use Rattle.csicodec_clean.specs.Cleaned.{RuleOf, EndOf, longest}
 
 -- the style hides what follows, or shows it in another font: on Linux' console two of the fonts change how each later byte is shown, and
 -- a reset leaves that (console_codes(4))

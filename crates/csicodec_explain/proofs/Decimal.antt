@@ -1,7 +1,6 @@
 -- How many digits a number has.
-use Rattle.std.proofs.Common.{ℕ, ◌<◌, ◌≤◌, ◌^◌, length, rules}
+use Rattle.std.proofs.{Common.ℕ, Common.◌<◌, Common.◌≤◌, Common.◌^◌, Common.length, Common.rules, lemmas.Fmt.length-decimal-le}
 use Rattle.std.specs.Fmt.{decimal}
-use Rattle.std.proofs.lemmas.Fmt.{length-decimal-le}
 
 -- one of 64 bits has at most 20
 pub twenty_digits : (n : ℕ) → n < 2 ^ 64 → length (decimal n) ≤ 20

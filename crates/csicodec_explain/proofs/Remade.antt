@@ -1,14 +1,10 @@
 -- Lines one after the other, and what is written of them.
-use Rattle.std.specs.Prelude.{slice_index}
+use Rattle.std.specs.{Prelude.slice_index, List.list_all}
 use Rattle.std.proofs.Common.{◌≡◌, ◌≢◌, inl, inr, ℕ, ◌/◌, ◌%◌, zero, suc, ◌==◌, Bool, true, false, not, List, [], ◌∷◌, ◌++◌, Err, cond, refl, sym, ap, subst, ◌∙◌, append_assoc, append-nil}
-use Rattle.std.specs.List.{list_all}
-use Rattle.std.proofs.lemmas.Bool.{and_parts, eqb-true}
-use Rattle.std.proofs.lemmas.List.Folds.{list_all-append}
+use Rattle.std.proofs.{lemmas.Bool.and_parts, lemmas.Bool.eqb-true, lemmas.List.Folds.list_all-append}
 use Rattle.hex.specs.Hex.{encode_lower, encode_with, lower_digits}
-use Rattle.csicodec_assemble.specs.declared.object.Fault.TheVariants.{NoSequence}
-use Rattle.csicodec_assemble.specs.Lines.{ended}
+use Rattle.csicodec_assemble.specs.{declared.object.Fault.TheVariants.NoSequence, Lines.ended, Object.of_line}
 use Rattle.csicodec_assemble.proofs.Joined.{Runs, run_parts}
-use Rattle.csicodec_assemble.specs.Object.{of_line}
 use Rattle.csicodec_explain.specs.Remade.{AreKept, AreRemade, Ends, HasBegun, IsRemade, Remakes, RemakesAll, line_behind, lines_over, object_of, passed}
 
 -- ---- lines

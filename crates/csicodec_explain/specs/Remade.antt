@@ -1,8 +1,7 @@
 -- What is written of lines of JSON: each as it is, but for those that have actions alone.
 use Rattle.std.specs.Prelude.{ℕ, ◌≡◌, ◌≢◌, ◌<◌, ◌≤◌, ◌==◌, ◌⊎◌, Bool, true, false, List, [], ◌∷◌, ◌++◌, Ok, Err, codes, if◌then◌else◌, length, nat_lt}
 use Rattle.hex.specs.Hex.{encode_lower}
-use Rattle.csicodec_assemble.specs.declared.object.Fault.TheVariants.{NoSequence}
-use Rattle.csicodec_assemble.specs.Object.{of_line}
+use Rattle.csicodec_assemble.specs.{declared.object.Fault.TheVariants.NoSequence, Object.of_line}
 
 -- the most bytes of a line that is made anew: 8 MiB
 abbrev pub most : ℕ

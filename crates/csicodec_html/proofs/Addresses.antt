@@ -1,10 +1,7 @@
 -- No byte of an address ends the attribute that it stands in.
-use Rattle.std.proofs.Common.{◌≡◌, ◌≢◌, ◌<◌, ℕ, true, List, [], ◌∷◌, refl, arith, lt-ltb}
-use Rattle.std.specs.Prelude.{codes, ◌==◌, if◌then◌else◌}
-use Rattle.std.specs.Char.{encode_utf8}
-use Rattle.std.specs.List.{AllByRecursion, flat_map}
-use Rattle.std.proofs.lemmas.Bool.{cond_both, eq-eqb, ne_eqb}
-use Rattle.std.proofs.lemmas.Bool.Decides.{nat_tests}
+use Rattle.std.proofs.{Common.◌≡◌, Common.◌≢◌, Common.◌<◌, Common.ℕ, Common.true, Common.List, Common.[], Common.◌∷◌, Common.refl, Common.arith, Common.lt-ltb}
+use Rattle.std.proofs.{lemmas.Bool.cond_both, lemmas.Bool.eq-eqb, lemmas.Bool.ne_eqb, lemmas.Bool.Decides.nat_tests}
+use Rattle.std.specs.{Prelude.codes, Prelude.◌==◌, Prelude.if◌then◌else◌, Char.encode_utf8, List.AllByRecursion, List.flat_map}
 use Rattle.csicodec_clean.specs.Links.{is_visible}
 use Rattle.csicodec_clean.proofs.PlainBytes.{all_both}
 use Rattle.csicodec_html.specs.Page.{IsQuoted, escaped}

@@ -1,14 +1,10 @@
 -- Each class has a name of its own: the class is known by it.
-use Rattle.std.proofs.Common.{◌≡◌, ◌<◌, ℕ, List, [], ◌∷◌, drop, get_or, cond, ◌==◌, refl, sym, ap, ◌∙◌, arith}
-use Rattle.std.specs.Fmt.{decimal}
-use Rattle.std.specs.Str.Parse.{digits_value}
-use Rattle.std.proofs.lemmas.List.{get_or_past}
-use Rattle.std.proofs.lemmas.Fmt.{decimal_is_IsNumeral, length-decimal-le}
-use Rattle.csicodec_html.specs.declared.classes.Class.{Class}
+use Rattle.std.proofs.{Common.◌≡◌, Common.◌<◌, Common.ℕ, Common.List, Common.[], Common.◌∷◌, Common.drop, Common.get_or, Common.cond, Common.◌==◌, Common.refl}
+use Rattle.std.proofs.{Common.sym, Common.ap, Common.◌∙◌, Common.arith, lemmas.List.get_or_past, lemmas.Fmt.decimal_is_IsNumeral, lemmas.Fmt.length-decimal-le}
+use Rattle.std.specs.{Fmt.decimal, Str.Parse.digits_value}
+use Rattle.csicodec_html.specs.{declared.classes.Class.Class, declared.classes.Layer.Layer, Classes.IsClass, Classes.class_name}
 use Rattle.csicodec_html.specs.declared.classes.Class.TheVariants as kind
-use Rattle.csicodec_html.specs.declared.classes.Layer.{Layer}
 use Rattle.csicodec_html.specs.declared.classes.Layer.TheVariants as part
-use Rattle.csicodec_html.specs.Classes.{IsClass, class_name}
 
 -- lines below by a letter of their kind, what is behind `fg-` or `bg-`, and any other name by its first letter
 abbrev below : ℕ → Class

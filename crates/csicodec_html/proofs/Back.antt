@@ -1,12 +1,10 @@
 -- A colour that is written is read back, and the palette of xterm has its colours.
-use Rattle.std.proofs.Common.{◌≡◌, ◌<◌, ◌-◌, ◌/◌, ◌%◌, ℕ, Bool, Some, cond, get_or, refl, arith}
+use Rattle.std.proofs.{Common.◌≡◌, Common.◌<◌, Common.◌-◌, Common.◌/◌, Common.◌%◌, Common.ℕ, Common.Bool, Common.Some, Common.cond, Common.get_or, Common.refl}
+use Rattle.std.proofs.{Common.arith, lemmas.Bool.Decides.nat_tests}
 use Rattle.std.specs.Prelude.{nat_lt, if◌then◌else◌}
-use Rattle.std.proofs.lemmas.Bool.Decides.{nat_tests}
 use Rattle.csicodec_names.specs.declared.color.SrgbaTuple.{SrgbaTuple}
 use Rattle.csicodec_clean.specs.Palette.{cube, first_places, grey, palette, rgb}
-use Rattle.csicodec_html.specs.Given.{digit_of, given_color, part_of}
-use Rattle.csicodec_html.specs.Look.{hex_color, hex_digit}
-use Rattle.csicodec_html.specs.Palette.{color_at, xterm}
+use Rattle.csicodec_html.specs.{Given.digit_of, Given.given_color, Given.part_of, Look.hex_color, Look.hex_digit, Palette.color_at, Palette.xterm}
 
 digit : (n : ℕ) → n < 16 → digit_of (hex_digit n) ≡ Some n
 digit n h = grind (arith, nat_tests)

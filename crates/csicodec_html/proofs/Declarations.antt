@@ -1,26 +1,17 @@
 -- No byte of a declaration ends the attribute that it stands in.
 use Rattle.std.proofs.Common.{◌≡◌, ◌/◌, ◌%◌, ℕ, Bool, true, zero, suc, Some, None, get_or, List, [], ◌∷◌, ◌++◌, refl, arith}
-use Rattle.std.specs.Prelude.{Option, codes, ◌&&◌, if◌then◌else◌}
-use Rattle.std.specs.List.{AllByRecursion}
-use Rattle.std.proofs.lemmas.Bool.{and_parts, cond_both}
-use Rattle.std.proofs.lemmas.Bool.Decides.{nat_tests}
+use Rattle.std.proofs.{lemmas.Bool.and_parts, lemmas.Bool.cond_both, lemmas.Bool.Decides.nat_tests}
+use Rattle.std.specs.{Prelude.Option, Prelude.codes, Prelude.◌&&◌, Prelude.if◌then◌else◌, List.AllByRecursion}
 use Rattle.csicodec_clean.proofs.PlainBytes.{all_both}
-use Rattle.csicodec_names.specs.declared.color.ColorSpec.{ColorSpec}
+use Rattle.csicodec_names.specs.{declared.color.ColorSpec.ColorSpec, declared.color.Intensity.Intensity, declared.color.SrgbaTuple.SrgbaTuple}
+use Rattle.csicodec_names.specs.{declared.color.Underline.Underline}
+use Rattle.csicodec_html.specs.Look.{color_text, colored, colors, css, has_line, hex_color, hex_digit, inverse_colors, line_color, line_kind, line_places, line_style, lines, own_name, place_text, property, property_of, some_lines, straight_colors, weight}
+use Rattle.csicodec_html.specs.{declared.classes.Layer.Layer, declared.look.Look.Look, declared.palette.Palette.Palette, Palette.color_at, Palette.ground_pairs}
+use Rattle.csicodec_html.specs.{Palette.pair_of, Palette.text_pairs, Page.IsHarmless, Page.is_harmless}
 use Rattle.csicodec_names.specs.declared.color.ColorSpec.TheVariants as color
-use Rattle.csicodec_names.specs.declared.color.Intensity.{Intensity}
 use Rattle.csicodec_names.specs.declared.color.Intensity.TheVariants as intensity
-use Rattle.csicodec_names.specs.declared.color.SrgbaTuple.{SrgbaTuple}
-use Rattle.csicodec_names.specs.declared.color.Underline.{Underline}
 use Rattle.csicodec_names.specs.declared.color.Underline.TheVariants as underline
-use Rattle.csicodec_html.specs.declared.classes.Layer.{Layer}
 use Rattle.csicodec_html.specs.declared.classes.Layer.TheVariants as part
-use Rattle.csicodec_html.specs.declared.look.Look.{Look}
-use Rattle.csicodec_html.specs.declared.palette.Palette.{Palette}
-use Rattle.csicodec_html.specs.Look.{color_text, colored, colors, css, has_line, hex_color, hex_digit}
-use Rattle.csicodec_html.specs.Look.{inverse_colors, line_color, line_kind, line_places, line_style}
-use Rattle.csicodec_html.specs.Look.{lines, own_name, place_text, property, property_of, some_lines, straight_colors, weight}
-use Rattle.csicodec_html.specs.Palette.{color_at, ground_pairs, pair_of, text_pairs}
-use Rattle.csicodec_html.specs.Page.{IsHarmless, is_harmless}
 
 abbrev pub Fine : List ℕ → Type 0
 Fine bytes = AllByRecursion IsHarmless bytes

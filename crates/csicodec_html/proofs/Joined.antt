@@ -1,12 +1,9 @@
 -- The tags of looks and links, as the first step marks them.
-use Rattle.std.proofs.Common.{◌≡◌, ℕ, List, [], ◌∷◌, ◌++◌, false, true, append_assoc, append-nil}
+use Rattle.std.proofs.{Common.◌≡◌, Common.ℕ, Common.List, Common.[], Common.◌∷◌, Common.◌++◌, Common.false, Common.true, Common.append_assoc, Common.append-nil}
+use Rattle.std.proofs.{lemmas.Grind.flat_map-append}
 use Rattle.std.specs.Prelude.{◌||◌}
-use Rattle.std.proofs.lemmas.Grind.{flat_map-append}
-use Rattle.csicodec_html.specs.declared.look.Look.{Look}
-use Rattle.csicodec_html.specs.declared.markup.Markup.{Markup}
-use Rattle.csicodec_html.specs.Look.{is_plain}
-use Rattle.csicodec_html.specs.Page.{Begin, begins, ends, leads, opens, shuts, switch}
-use Rattle.csicodec_html.specs.Private.Marked.{all_marked, link_mark, marked}
+use Rattle.csicodec_html.specs.{declared.look.Look.Look, declared.markup.Markup.Markup, Look.is_plain, Page.Begin, Page.begins, Page.ends, Page.leads}
+use Rattle.csicodec_html.specs.{Page.opens, Page.shuts, Page.switch, Private.Marked.all_marked, Private.Marked.link_mark, Private.Marked.marked}
 
 -- the tag of a look that has one
 pub begun : (m : Markup) (l : Look) → is_plain l ≡ false → all_marked (begins m l) ≡ marked (Begin m l)

@@ -1,15 +1,12 @@
 -- Links, one after the other, and where text leads behind them.
 use Rattle.std.proofs.Common.{◌≡◌, ℕ, Bool, true, false, List, [], ◌∷◌, ◌++◌, refl, sym, ap, subst, ◌∙◌, append_assoc, append-nil, arith}
-use Rattle.std.specs.Prelude.{if◌then◌else◌}
 use Rattle.std.proofs.lemmas.Grind.{flat_map-append}
-use Rattle.csicodec_clean.specs.Cleaned.{AreGiven}
-use Rattle.csicodec_clean.specs.Addresses.{led}
-use Rattle.csicodec_clean.specs.Links.{Address, Begun, all_behind, ends_at, links_at, links_in, next}
+use Rattle.std.specs.Prelude.{if◌then◌else◌}
+use Rattle.csicodec_clean.specs.{Cleaned.AreGiven, Addresses.led, Links.Address, Links.Begun, Links.all_behind, Links.ends_at, Links.links_at, Links.links_in}
+use Rattle.csicodec_clean.specs.{Links.next}
 use Rattle.csicodec_clean.proofs.Linked.{links_more}
-use Rattle.csicodec_html.specs.declared.look.Look.{Look}
-use Rattle.csicodec_html.specs.declared.markup.Markup.{Markup}
-use Rattle.csicodec_html.specs.Page.{Piece, Setting, behind_string, led_by, setting, switch, switches}
-use Rattle.csicodec_html.specs.Private.Marked.{all_marked, behind_byte, marked, turns}
+use Rattle.csicodec_html.specs.{declared.look.Look.Look, declared.markup.Markup.Markup, Page.Piece, Page.Setting, Page.behind_string, Page.led_by, Page.setting}
+use Rattle.csicodec_html.specs.{Page.switch, Page.switches, Private.Marked.all_marked, Private.Marked.behind_byte, Private.Marked.marked, Private.Marked.turns}
 
 switches_on : (m : Markup) (l : Look) (to : List ℕ) (xs ys : List Address) → switches m l to (xs ++ ys) ≡ switches m l to xs ++ switches m l (led_by to xs) ys
 switches_on m l to [] ys = refl

@@ -1,32 +1,18 @@
 -- What is left of the parts of a stream, as pieces of a page.
 use Rattle.std.proofs.Common.{◌≡◌, ℕ, Bool, true, false, List, [], ◌∷◌, ◌++◌, map, encode_utf8, encode_utf8_all, refl, sym, ap, subst, ◌∙◌, ⊎_elim, append_assoc, append-nil, arith}
-use Rattle.std.specs.Prelude.{filter, ◌||◌, if◌then◌else◌}
-use Rattle.std.specs.List.{AllByRecursion}
-use Rattle.std.specs.Str.{all_scalars}
-use Rattle.std.proofs.lemmas.Bool.{and_parts, cases_Bool, cond_both}
-use Rattle.std.proofs.lemmas.Grind.{flat_map-append}
+use Rattle.std.proofs.{lemmas.Bool.and_parts, lemmas.Bool.cases_Bool, lemmas.Bool.cond_both, lemmas.Grind.flat_map-append}
+use Rattle.std.specs.{Prelude.filter, Prelude.◌||◌, Prelude.if◌then◌else◌, List.AllByRecursion, Str.all_scalars}
 use lib.Utf8.{scalar}
 use Rattle.bstr.specs.Utf8.{lossy_chars}
-use Rattle.csicodec_spans.specs.declared.table.Kind.{Kind}
+use Rattle.csicodec_spans.specs.{declared.table.Kind.Kind, Parts.Part}
+use Rattle.csicodec_clean.specs.{Shown.shown, Shown.shown_text, Shown.IsShown, Titles.with_titles, Cleaned.IsStep, Cleaned.AreSteps, Cleaned.Ends}
+use Rattle.csicodec_clean.specs.{Cleaned.longest, Addresses.is_web, Links.Address, Links.Begun, Links.IsLink, Links.IsWithin, Links.links_in, Links.start}
+use Rattle.csicodec_clean.proofs.{Linked.fine_behind, Linked.fine_links, Linked.links_none, Plain.kept_shown, Plain.scalars_lossy, PlainBytes.all_both}
+use Rattle.csicodec_html.specs.Page.{AreLeft, Char, IsSafe, Leaves, Open, PageWith, Piece, Setting, begins, behind_actions, behind_string, closing, ends, first_set, leads, opens, pieces_behind, run_behind, shown_pieces, shuts, switch, switches, turn}
+use Rattle.csicodec_html.specs.{declared.look.Look.Look, declared.markup.Markup.Markup, Look.behind_all, Look.sets_any, Private.Marked.all_marked}
+use Rattle.csicodec_html.specs.{Private.Marked.closes, Private.Marked.marked, Private.Marked.page_bytes, Private.Marked.turns}
+use Rattle.csicodec_html.proofs.{Leads.given, Marks.pieces}
 use Rattle.csicodec_spans.specs.declared.table.Kind.TheVariants as kind
-use Rattle.csicodec_spans.specs.Parts.{Part}
-use Rattle.csicodec_clean.specs.Shown.{shown, shown_text, IsShown}
-use Rattle.csicodec_clean.specs.Titles.{with_titles}
-use Rattle.csicodec_clean.specs.Cleaned.{IsStep, AreSteps, Ends, longest}
-use Rattle.csicodec_clean.specs.Addresses.{is_web}
-use Rattle.csicodec_clean.specs.Links.{Address, Begun, IsLink, IsWithin, links_in, start}
-use Rattle.csicodec_clean.proofs.Linked.{fine_behind, fine_links, links_none}
-use Rattle.csicodec_clean.proofs.Plain.{kept_shown, scalars_lossy}
-use Rattle.csicodec_clean.proofs.PlainBytes.{all_both}
-use Rattle.csicodec_html.specs.declared.look.Look.{Look}
-use Rattle.csicodec_html.specs.declared.markup.Markup.{Markup}
-use Rattle.csicodec_html.specs.Look.{behind_all, sets_any}
-use Rattle.csicodec_html.specs.Page.{AreLeft, Char, IsSafe, Leaves, Open, PageWith, Piece, Setting}
-use Rattle.csicodec_html.specs.Page.{begins, behind_actions, behind_string, closing, ends, first_set, leads}
-use Rattle.csicodec_html.specs.Page.{opens, pieces_behind, run_behind, shown_pieces, shuts, switch, switches, turn}
-use Rattle.csicodec_html.specs.Private.Marked.{all_marked, closes, marked, page_bytes, turns}
-use Rattle.csicodec_html.proofs.Leads.{given}
-use Rattle.csicodec_html.proofs.Marks.{pieces}
 
 marked_chars : (cs : List ℕ) → all_marked (map Char cs) ≡ encode_utf8_all cs
 marked_chars [] = refl

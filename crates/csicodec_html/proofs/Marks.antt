@@ -1,24 +1,16 @@
 -- Pieces as the first step marks them are, byte by byte, what stands on the page.
 use Rattle.std.proofs.Common.{◌≡◌, ◌≤◌, ◌<◌, ℕ, Bool, true, false, List, [], ◌∷◌, ◌++◌, refl, sym, ap, ◌∙◌, ⊎_elim, append_assoc, append-nil, arith}
-use Rattle.std.specs.Prelude.{codes, encode_utf8_all, ◌==◌, if◌then◌else◌, Option, Some, None}
-use Rattle.std.specs.Char.{encode_utf8}
-use Rattle.std.specs.List.{AllByRecursion, flat_map}
-use Rattle.std.proofs.lemmas.Bool.{cases_Bool, cases_lt, ne_eqb}
-use Rattle.std.proofs.lemmas.Bool.Decides.{nat_tests}
-use Rattle.std.proofs.lemmas.Grind.{flat_map-append}
+use Rattle.std.proofs.{lemmas.Bool.cases_Bool, lemmas.Bool.cases_lt, lemmas.Bool.ne_eqb, lemmas.Bool.Decides.nat_tests, lemmas.Grind.flat_map-append}
+use Rattle.std.specs.{Prelude.codes, Prelude.encode_utf8_all, Prelude.◌==◌, Prelude.if◌then◌else◌, Prelude.Option, Prelude.Some, Prelude.None, Char.encode_utf8}
+use Rattle.std.specs.{List.AllByRecursion, List.flat_map}
 use Rattle.csicodec_clean.specs.Shown.{IsShown, shown}
-use Rattle.csicodec_html.specs.declared.look.Look.{Look}
-use Rattle.csicodec_html.specs.declared.markup.Markup.{Markup}
-use Rattle.csicodec_html.specs.declared.classes.Class.{Class}
-use Rattle.csicodec_html.specs.declared.palette.Palette.{Palette}
 use Rattle.csicodec_html.specs.Classes.{ahead, behind_slot, class_name, classes_of, has_true, names, rest_attribute, slot_text, style_attribute, true_colors}
-use Rattle.csicodec_html.specs.Look.{css, settled}
 use Rattle.csicodec_html.specs.Page.{IsHarmless, IsSafe, Piece, Char, Begin, End, Open, Shut, escaped, piece_text, piece_texts}
 use Rattle.csicodec_html.specs.Private.Marked.{all_marked, classed_mark, marked, page_byte, page_bytes, styled_mark}
-use Rattle.csicodec_html.proofs.Declarations.{Fine, css_fine}
-use Rattle.csicodec_html.proofs.Named.{name_fine, true_fine}
-use Rattle.csicodec_html.proofs.Addresses.{IsVisible, ascii, below}
-use Rattle.csicodec_html.proofs.Stood.{differs, one}
+use Rattle.csicodec_html.specs.{declared.look.Look.Look, declared.markup.Markup.Markup, declared.classes.Class.Class, declared.palette.Palette.Palette}
+use Rattle.csicodec_html.specs.{Look.css, Look.settled}
+use Rattle.csicodec_html.proofs.{Declarations.Fine, Declarations.css_fine, Named.name_fine, Named.true_fine, Addresses.IsVisible, Addresses.ascii}
+use Rattle.csicodec_html.proofs.{Addresses.below, Stood.differs, Stood.one}
 
 one_fine : (b : ℕ) → IsHarmless b → page_byte b ≡ b ∷ []
 one_fine b h = one b (grind (arith, nat_tests))

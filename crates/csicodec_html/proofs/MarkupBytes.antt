@@ -1,23 +1,15 @@
 -- A page is markup by its bytes alone.
 use Rattle.std.proofs.Common.{◌≡◌, ◌≢◌, ◌<◌, ◌≤◌, ◌+◌, ◌/◌, ◌%◌, ℕ, Bool, true, false, List, [], ◌∷◌, ◌++◌, Option, Some, None, refl, sym, ap, subst, ◌∙◌, append_assoc, arith}
-use Rattle.std.specs.Prelude.{codes, if◌then◌else◌}
-use Rattle.std.specs.Char.{encode_utf8}
-use Rattle.std.specs.List.{AllByRecursion, flat_map}
-use Rattle.std.proofs.lemmas.Bool.{cond_both}
-use Rattle.std.proofs.lemmas.Bool.Decides.{nat_tests}
+use Rattle.std.proofs.{lemmas.Bool.cond_both, lemmas.Bool.Decides.nat_tests}
+use Rattle.std.specs.{Prelude.codes, Prelude.if◌then◌else◌, Char.encode_utf8, List.AllByRecursion, List.flat_map}
 use lib.Utf8.{scalar}
 use Rattle.csicodec_clean.specs.Shown.{IsShown}
-use Rattle.csicodec_html.specs.declared.classes.Class.{Class}
-use Rattle.csicodec_html.specs.declared.look.Look.{Look}
-use Rattle.csicodec_html.specs.declared.markup.Markup.{Markup}
 use Rattle.csicodec_html.specs.Classes.{attributes, attributes_of, class_name, classes_of, has_true, names, rest_attribute, style_attribute, true_colors}
-use Rattle.csicodec_html.specs.Look.{css, settled}
 use Rattle.csicodec_html.specs.Page.{IsHarmless, IsQuoted, IsPageWith, IsSafe, PageWith, Piece, Char, Begin, End, Open, Shut, are_paired, escaped, piece_text, piece_texts}
 use Rattle.csicodec_html.specs.MarkupBytes.{Spot, Inside, Tag, begun, is_value_byte, is_markup, no_value, spot_behind, IsMarkup}
-use Rattle.csicodec_html.proofs.Addresses.{all_quoted, escaped_by}
-use Rattle.csicodec_html.proofs.Declarations.{Fine, css_fine}
-use Rattle.csicodec_html.proofs.Named.{name_fine, true_fine}
-use Rattle.csicodec_html.proofs.Paired.{is_page}
+use Rattle.csicodec_html.specs.{declared.classes.Class.Class, declared.look.Look.Look, declared.markup.Markup.Markup, Look.css, Look.settled}
+use Rattle.csicodec_html.proofs.{Addresses.all_quoted, Addresses.escaped_by, Declarations.Fine, Declarations.css_fine, Named.name_fine, Named.true_fine}
+use Rattle.csicodec_html.proofs.{Paired.is_page}
 
 -- ---- characters
 

@@ -1,21 +1,15 @@
 -- No byte of a class's name, or of the style that colours by their parts have, ends the attribute that it stands in.
-use Rattle.std.proofs.Common.{◌≡◌, ◌/◌, ◌%◌, ℕ, true, false, zero, suc, List, [], ◌∷◌, ◌++◌, refl, arith}
-use Rattle.std.specs.Prelude.{codes, ◌==◌}
-use Rattle.std.specs.Fmt.{decimal, digit_glyph, digits, digits_onto}
-use Rattle.std.proofs.lemmas.Bool.{cond_both}
-use Rattle.std.proofs.lemmas.Bool.Decides.{nat_tests}
+use Rattle.std.proofs.{Common.◌≡◌, Common.◌/◌, Common.◌%◌, Common.ℕ, Common.true, Common.false, Common.zero, Common.suc, Common.List, Common.[], Common.◌∷◌}
+use Rattle.std.proofs.{Common.◌++◌, Common.refl, Common.arith, lemmas.Bool.cond_both, lemmas.Bool.Decides.nat_tests}
+use Rattle.std.specs.{Prelude.codes, Prelude.◌==◌, Fmt.decimal, Fmt.digit_glyph, Fmt.digits, Fmt.digits_onto}
 use Rattle.csicodec_clean.proofs.PlainBytes.{all_both}
 use Rattle.csicodec_names.specs.declared.color.ColorSpec.{ColorSpec}
-use Rattle.csicodec_names.specs.declared.color.ColorSpec.TheVariants as color
-use Rattle.csicodec_html.specs.declared.classes.Class.{Class}
-use Rattle.csicodec_html.specs.declared.classes.Class.TheVariants as kind
-use Rattle.csicodec_html.specs.declared.classes.Layer.{Layer}
-use Rattle.csicodec_html.specs.declared.classes.Layer.TheVariants as part
-use Rattle.csicodec_html.specs.declared.look.Look.{Look}
-use Rattle.csicodec_html.specs.Classes.{class_name, part_name, true_color, true_colors}
-use Rattle.csicodec_html.specs.Look.{hex_color, property_of}
-use Rattle.csicodec_html.specs.Page.{IsHarmless, is_harmless}
+use Rattle.csicodec_html.specs.{declared.classes.Class.Class, declared.classes.Layer.Layer, declared.look.Look.Look, Classes.class_name, Classes.part_name}
+use Rattle.csicodec_html.specs.{Classes.true_color, Classes.true_colors, Look.hex_color, Look.property_of, Page.IsHarmless, Page.is_harmless}
 use Rattle.csicodec_html.proofs.Declarations.{Fine, checked, hex, of_property}
+use Rattle.csicodec_names.specs.declared.color.ColorSpec.TheVariants as color
+use Rattle.csicodec_html.specs.declared.classes.Class.TheVariants as kind
+use Rattle.csicodec_html.specs.declared.classes.Layer.TheVariants as part
 
 glyph : (d : ℕ) → is_harmless (digit_glyph false d) ≡ true
 glyph d = grind (arith, nat_tests)

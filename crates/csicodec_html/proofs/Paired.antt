@@ -1,28 +1,20 @@
 -- The tags of a page are in pairs, its characters those of the text that is stripped, and it is one.
 use Rattle.std.proofs.Common.{◌≡◌, ℕ, Bool, true, false, List, [], ◌∷◌, ◌++◌, map, encode_utf8_all, refl, sym, ap, subst, ◌∙◌, ⊎_elim, append_assoc, append-nil, arith}
-use Rattle.std.specs.Prelude.{filter, not, if◌then◌else◌}
 use Rattle.std.proofs.lemmas.Bool.{cases_Bool}
+use Rattle.std.specs.Prelude.{filter, not, if◌then◌else◌}
 use Rattle.csicodec_actions.specs.Actions.{Action}
 use Rattle.csicodec_terminal.proofs.Unique.{taken_once}
 use Rattle.bstr.specs.Utf8.{lossy_chars}
-use Rattle.csicodec_spans.specs.declared.table.Kind.{Kind}
+use Rattle.csicodec_spans.specs.{declared.table.Kind.Kind, Parts.Part}
+use Rattle.csicodec_spans.proofs.Once.{whole_once}
+use Rattle.csicodec_clean.specs.{Shown.shown, Shown.shown_text, Titles.with_titles, Cleaned.Strips, Cleaned.is_text, Cleaned.longest, Cleaned.stripped}
+use Rattle.csicodec_clean.specs.{Links.Address, Links.links_in}
+use Rattle.csicodec_clean.proofs.Shows.{encoded_on}
+use Rattle.csicodec_html.specs.Page.{AreLeft, Char, IsPageWith, Leaves, PageWith, Piece, Setting, are_paired, begins, behind_actions, chars_of, closing, ends, first_set, leads, led_by, piece_texts, pieces_behind, run_behind, shown_pieces, switch, switches, turn}
+use Rattle.csicodec_html.specs.{declared.look.Look.Look, declared.markup.Markup.Markup, Look.behind_all, Look.is_plain, Look.sets_any}
+use Rattle.csicodec_html.proofs.{Left.none_begun, Left.safe_left, Turned.unset}
 use Rattle.csicodec_spans.specs.declared.table.Kind.TheVariants as kind
 use Rattle.csicodec_spans.specs.declared.table.Mode.TheVariants as mode
-use Rattle.csicodec_spans.specs.Parts.{Part}
-use Rattle.csicodec_spans.proofs.Once.{whole_once}
-use Rattle.csicodec_clean.specs.Shown.{shown, shown_text}
-use Rattle.csicodec_clean.specs.Titles.{with_titles}
-use Rattle.csicodec_clean.specs.Cleaned.{Strips, is_text, longest, stripped}
-use Rattle.csicodec_clean.specs.Links.{Address, links_in}
-use Rattle.csicodec_clean.proofs.Shows.{encoded_on}
-use Rattle.csicodec_html.specs.declared.look.Look.{Look}
-use Rattle.csicodec_html.specs.declared.markup.Markup.{Markup}
-use Rattle.csicodec_html.specs.Look.{behind_all, is_plain, sets_any}
-use Rattle.csicodec_html.specs.Page.{AreLeft, Char, IsPageWith, Leaves, PageWith, Piece, Setting}
-use Rattle.csicodec_html.specs.Page.{are_paired, begins, behind_actions, chars_of, closing, ends, first_set, leads, led_by}
-use Rattle.csicodec_html.specs.Page.{piece_texts, pieces_behind, run_behind, shown_pieces, switch, switches, turn}
-use Rattle.csicodec_html.proofs.Left.{none_begun, safe_left}
-use Rattle.csicodec_html.proofs.Turned.{unset}
 
 -- whether a span is open
 abbrev inside : Look → Bool

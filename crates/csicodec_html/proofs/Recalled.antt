@@ -1,29 +1,19 @@
 -- A control sequence that came before, and comes again.
 use Rattle.std.proofs.Common.{◌≡◌, ◌≤◌, ◌∙◌, ℕ, Bool, true, false, List, ◌++◌, length, take, drop, sym, ap, subst, rules}
-use Rattle.std.proofs.Math.Seq.{drop-append_seam, take-append_seam}
-use Rattle.std.proofs.lemmas.Bool.{and_parts}
+use Rattle.std.proofs.{Math.Seq.drop-append_seam, Math.Seq.take-append_seam, lemmas.Bool.and_parts}
 use mathlib.Core.Bool.{beq}
-use Rattle.csicodec_names.specs.contracts.color.ColorSpecPartialEq.TheImpl as color_eq
-use Rattle.csicodec_names.specs.contracts.color.IntensityPartialEq.TheImpl as intensity_eq
-use Rattle.csicodec_names.specs.contracts.color.UnderlinePartialEq.TheImpl as underline_eq
-use Rattle.csicodec_names.specs.declared.color.ColorSpec.{ColorSpec}
-use Rattle.csicodec_names.specs.declared.color.Intensity.{Intensity}
-use Rattle.csicodec_names.specs.declared.color.Underline.{Underline}
-use Rattle.csicodec_tokens.specs.declared.param.CsiParam.{CsiParam}
-use Rattle.csicodec_tokens.specs.Sequence.{Seq}
+use Rattle.csicodec_names.specs.{declared.color.ColorSpec.ColorSpec, declared.color.Intensity.Intensity, declared.color.Underline.Underline}
+use Rattle.csicodec_tokens.specs.{declared.param.CsiParam.CsiParam, Sequence.Seq}
 use Rattle.csicodec_actions.specs.Actions.{Action}
 use Rattle.csicodec_terminal.specs.Terminal.{Terminal}
 use Rattle.csicodec_spans.specs.Parts.{IsSequence}
+use Rattle.csicodec_html.specs.{declared.look.Look.Look, declared.markup.Markup.Markup, declared.turns.InFront.InFront, declared.turns.Turn.Turn}
+use Rattle.csicodec_html.specs.{Look.behind_all, Look.sets_any, Page.Setting, Page.setting, Page.turn, Private.Marked.all_marked, Private.Marked.turns}
+use Rattle.csicodec_html.specs.{Private.Turns.IsTurned, Turns.Fits, Turns.IsTold, Turns.IsTurn}
+use Rattle.csicodec_names.specs.contracts.color.ColorSpecPartialEq.TheImpl as color_eq
+use Rattle.csicodec_names.specs.contracts.color.IntensityPartialEq.TheImpl as intensity_eq
+use Rattle.csicodec_names.specs.contracts.color.UnderlinePartialEq.TheImpl as underline_eq
 use Rattle.csicodec_html.specs.contracts.look.LookPartialEq.TheImpl as look_eq
-use Rattle.csicodec_html.specs.declared.look.Look.{Look}
-use Rattle.csicodec_html.specs.declared.markup.Markup.{Markup}
-use Rattle.csicodec_html.specs.declared.turns.InFront.{InFront}
-use Rattle.csicodec_html.specs.declared.turns.Turn.{Turn}
-use Rattle.csicodec_html.specs.Look.{behind_all, sets_any}
-use Rattle.csicodec_html.specs.Page.{Setting, setting, turn}
-use Rattle.csicodec_html.specs.Private.Marked.{all_marked, turns}
-use Rattle.csicodec_html.specs.Private.Turns.{IsTurned}
-use Rattle.csicodec_html.specs.Turns.{Fits, IsTold, IsTurn}
 
 -- weights, lines and colours that are equal are one
 weight : (a b : Intensity) → (intensity_eq.ghosts).eq a b ≡ true → a ≡ b

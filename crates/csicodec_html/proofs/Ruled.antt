@@ -1,17 +1,13 @@
 -- Each class has its rule in the sheet.
 use Rattle.std.proofs.Common.{◌≡◌, ◌<◌, ◌≤◌, ℕ, zero, suc, Bool, true, false, List, [], ◌++◌, codes, sym, subst, append_assoc, append-nil, ⊎_elim, arith}
-use Rattle.std.specs.Prelude.{not, ◌||◌, if◌then◌else◌}
 use Rattle.std.proofs.lemmas.Bool.{cases_lt}
-use Rattle.csicodec_names.specs.declared.color.Underline.TheVariants as underline
-use Rattle.csicodec_html.specs.declared.classes.Class.{Class}
-use Rattle.csicodec_html.specs.declared.classes.Class.TheVariants as kind
-use Rattle.csicodec_html.specs.declared.classes.Layer.{Layer}
-use Rattle.csicodec_html.specs.declared.classes.Layer.TheVariants as part
-use Rattle.csicodec_html.specs.declared.look.Look.{Look}
-use Rattle.csicodec_html.specs.declared.palette.Palette.{Palette}
-use Rattle.csicodec_html.specs.Classes.{IsClass}
-use Rattle.csicodec_html.specs.Look.{has_line, is_none, line_places}
+use Rattle.std.specs.Prelude.{not, ◌||◌, if◌then◌else◌}
 use Rattle.csicodec_html.specs.Sheet.{IsIn, class_rule, class_rules, color_rules, declaration, fixed_rules, line_rule, lined, longhand, places, selector}
+use Rattle.csicodec_html.specs.{declared.classes.Class.Class, declared.classes.Layer.Layer, declared.look.Look.Look, declared.palette.Palette.Palette}
+use Rattle.csicodec_html.specs.{Classes.IsClass, Look.has_line, Look.is_none, Look.line_places}
+use Rattle.csicodec_names.specs.declared.color.Underline.TheVariants as underline
+use Rattle.csicodec_html.specs.declared.classes.Class.TheVariants as kind
+use Rattle.csicodec_html.specs.declared.classes.Layer.TheVariants as part
 
 own : (x : List ℕ) → IsIn x x
 own x = ([], [], sym (append-nil x))

@@ -1,11 +1,9 @@
 -- The rules of the classes, as they are written.
 use Rattle.std.proofs.Common.{◌≡◌, ◌+◌, ℕ, [], ◌++◌, refl, add-one}
-use Rattle.csicodec_html.specs.declared.classes.Class.TheVariants as kind
-use Rattle.csicodec_html.specs.declared.classes.Layer.{Layer}
-use Rattle.csicodec_html.specs.declared.palette.Palette.{Palette}
-use Rattle.csicodec_html.specs.declared.sheet.TheConstants.{RULES}
-use Rattle.csicodec_html.specs.Look.{line_kind, line_places, weight}
 use Rattle.csicodec_html.specs.Sheet.{class_rule, color_rules, declaration, fixed_rules, kind_of_lines, line_rule, places}
+use Rattle.csicodec_html.specs.{declared.classes.Layer.Layer, declared.palette.Palette.Palette, declared.sheet.TheConstants.RULES, Look.line_kind}
+use Rattle.csicodec_html.specs.{Look.line_places, Look.weight}
+use Rattle.csicodec_html.specs.declared.classes.Class.TheVariants as kind
 
 pub none : (p : Palette) (of : Layer) → color_rules p of 0 ≡ []
 unfolding color_rules

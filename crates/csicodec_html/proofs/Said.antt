@@ -1,23 +1,17 @@
 -- What classes declare is what a style says.
 use Rattle.std.proofs.Common.{◌≡◌, Bool, true, false, List, ◌++◌, Option, Some, None, refl, ap, ◌∙◌, append-nil, ℕ}
 use Rattle.std.specs.Prelude.{if◌then◌else◌}
-use Rattle.csicodec_names.specs.declared.color.ColorSpec.{ColorSpec}
-use Rattle.csicodec_names.specs.declared.color.ColorSpec.TheVariants as color
-use Rattle.csicodec_names.specs.declared.color.Intensity.{Intensity}
-use Rattle.csicodec_names.specs.declared.color.Intensity.TheVariants as intensity
-use Rattle.csicodec_names.specs.declared.color.Underline.{Underline}
-use Rattle.csicodec_names.specs.declared.color.Underline.TheVariants as underline
-use Rattle.csicodec_names.specs.declared.color.SrgbaTuple.{SrgbaTuple}
-use Rattle.csicodec_html.specs.declared.classes.Class.{Class}
-use Rattle.csicodec_html.specs.declared.classes.Class.TheVariants as kind
-use Rattle.csicodec_html.specs.declared.classes.Layer.{Layer}
-use Rattle.csicodec_html.specs.declared.classes.Layer.TheVariants as part
-use Rattle.csicodec_html.specs.declared.look.Look.{Look}
-use Rattle.csicodec_html.specs.declared.palette.Palette.{Palette}
+use Rattle.csicodec_names.specs.{declared.color.ColorSpec.ColorSpec, declared.color.Intensity.Intensity, declared.color.Underline.Underline}
+use Rattle.csicodec_names.specs.{declared.color.SrgbaTuple.SrgbaTuple}
 use Rattle.csicodec_html.specs.Classes.{class_if, ground_color, ground_part, lines_class, text_color, text_part, weight_class}
 use Rattle.csicodec_html.specs.Look.{colored, colors, inverse_colors, line_color, line_kind, property, slant, straight_colors, weight}
-use Rattle.csicodec_html.specs.Palette.{or_own}
-use Rattle.csicodec_html.specs.Sheet.{color_of_lines, declaration, declares, kind_of_lines, said}
+use Rattle.csicodec_html.specs.{declared.classes.Class.Class, declared.classes.Layer.Layer, declared.look.Look.Look, declared.palette.Palette.Palette}
+use Rattle.csicodec_html.specs.{Palette.or_own, Sheet.color_of_lines, Sheet.declaration, Sheet.declares, Sheet.kind_of_lines, Sheet.said}
+use Rattle.csicodec_names.specs.declared.color.ColorSpec.TheVariants as color
+use Rattle.csicodec_names.specs.declared.color.Intensity.TheVariants as intensity
+use Rattle.csicodec_names.specs.declared.color.Underline.TheVariants as underline
+use Rattle.csicodec_html.specs.declared.classes.Class.TheVariants as kind
+use Rattle.csicodec_html.specs.declared.classes.Layer.TheVariants as part
 
 pub weights : (p : Palette) (i : Intensity) → declares p (weight_class i) ≡ weight i
 unfolding declaration weight

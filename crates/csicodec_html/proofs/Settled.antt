@@ -1,17 +1,13 @@
 -- Text that is settled stands out from its ground, and is settled once.
 use Rattle.std.proofs.Common.{◌≡◌, ◌<◌, ◌≤◌, ◌+◌, ◌*◌, ℕ, Bool, true, false, Option, Some, None, refl, sym, ◌∙◌, arith, ⊎_elim, lt-ltb, le-ltb}
+use Rattle.std.proofs.{lemmas.Bool.and_right, lemmas.Bool.cases_Bool, lemmas.Bool.cases_lt, lemmas.Bool.cond_both, lemmas.Bool.false≢true, lemmas.Bool.or_parts}
+use Rattle.std.proofs.{lemmas.Bool.Decides.nat_tests}
 use Rattle.std.specs.Prelude.{if◌then◌else◌}
-use Rattle.std.proofs.lemmas.Bool.{and_right, cases_Bool, cases_lt, cond_both, false≢true, or_parts}
-use Rattle.std.proofs.lemmas.Bool.Decides.{nat_tests}
-use Rattle.csicodec_names.specs.declared.color.ColorSpec.{ColorSpec}
-use Rattle.csicodec_names.specs.declared.color.ColorSpec.TheVariants as color
-use Rattle.csicodec_names.specs.declared.color.SrgbaTuple.{SrgbaTuple}
-use Rattle.csicodec_html.specs.declared.look.Look.{Look}
-use Rattle.csicodec_html.specs.declared.palette.Palette.{Palette}
-use Rattle.csicodec_html.specs.Classes.{ground_color, text_color}
+use Rattle.csicodec_names.specs.{declared.color.ColorSpec.ColorSpec, declared.color.SrgbaTuple.SrgbaTuple}
 use Rattle.csicodec_html.specs.Contrast.{are_near, black, black_or_white, dark, is_near, known, legible, luminance, legible_on, on_ground, on_page, place_like, white}
-use Rattle.csicodec_html.specs.Look.{is_exact, is_mixed, legible_look, settled, settled_color}
-use Rattle.csicodec_html.specs.Palette.{has_pairs}
+use Rattle.csicodec_html.specs.{declared.look.Look.Look, declared.palette.Palette.Palette, Classes.ground_color, Classes.text_color, Look.is_exact}
+use Rattle.csicodec_html.specs.{Look.is_mixed, Look.legible_look, Look.settled, Look.settled_color, Palette.has_pairs}
+use Rattle.csicodec_names.specs.declared.color.ColorSpec.TheVariants as color
 
 -- ---- black and white
 

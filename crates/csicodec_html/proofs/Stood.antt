@@ -1,7 +1,7 @@
 -- Bytes that stand on the page as they are.
 use Rattle.std.proofs.Common.{◌≡◌, ℕ, ◌==◌, Bool, true, false, List, [], ◌∷◌, ◌++◌, refl, sym, ap, ◌∙◌, append_assoc}
-use Rattle.std.specs.List.{AllByRecursion}
 use Rattle.std.proofs.lemmas.Bool.{false≢true, ne_eqb}
+use Rattle.std.specs.List.{AllByRecursion}
 use Rattle.csicodec_html.specs.Private.Marked.{Stands, page_byte, page_bytes, stands}
 
 -- a number that passes a test isn't one that doesn't

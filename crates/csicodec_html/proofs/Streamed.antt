@@ -1,13 +1,11 @@
 -- A page that is written as it comes.
-use Rattle.std.proofs.Common.{◌≡◌, ℕ, List, ◌++◌, refl, sym, ap, subst, ◌∙◌, ⊎_elim, append_assoc}
-use Rattle.std.proofs.lemmas.Grind.{flat_map-append}
+use Rattle.std.proofs.{Common.◌≡◌, Common.ℕ, Common.List, Common.◌++◌, Common.refl, Common.sym, Common.ap, Common.subst, Common.◌∙◌, Common.⊎_elim}
+use Rattle.std.proofs.{Common.append_assoc, lemmas.Grind.flat_map-append}
 use Rattle.csicodec_filter.specs.Transform.{Begins, Sends, Transforms}
-use Rattle.csicodec_clean.specs.Shown.{shown_text}
-use Rattle.csicodec_clean.specs.Stream.{Between, Takes, start_of}
+use Rattle.csicodec_clean.specs.{Shown.shown_text, Stream.Between, Stream.Takes, Stream.start_of}
 use Rattle.csicodec_clean.proofs.Chunks.{ends as at_end}
-use Rattle.csicodec_html.specs.declared.markup.Markup.{Markup}
-use Rattle.csicodec_html.specs.Page.{PageWith, Setting, closing, first_set}
 use Rattle.csicodec_html.specs.Private.Marked.{Finishes, Passes, all_marked, closes, page_byte, page_bytes, turns}
+use Rattle.csicodec_html.specs.{declared.markup.Markup.Markup, Page.PageWith, Page.Setting, Page.closing, Page.first_set}
 use Rattle.csicodec_html.proofs.Left.{page_of}
 
 ended : (m : Markup) (bytes text close page : List ℕ) (last : Between Setting) → Takes turns (start_of (first_set m)) bytes text last

@@ -1,13 +1,10 @@
 -- The tags between two looks, as they stand on the page.
 use Rattle.std.proofs.Common.{◌≡◌, ℕ, Bool, true, false, List, [], ◌∷◌, ◌++◌, sym, ap, ◌∙◌, append_assoc, append-nil}
-use Rattle.std.specs.Prelude.{codes, if◌then◌else◌}
 use Rattle.std.proofs.lemmas.Grind.{flat_map-append}
-use Rattle.csicodec_html.specs.declared.look.Look.{Look}
-use Rattle.csicodec_html.specs.declared.markup.Markup.{Markup}
-use Rattle.csicodec_html.specs.Classes.{classes_of, names, rest_attribute, style_attribute}
-use Rattle.csicodec_html.specs.Look.{css, is_plain, settled}
-use Rattle.csicodec_html.specs.Page.{Begin, begins, ends, piece_text, piece_texts, turn}
-use Rattle.csicodec_html.specs.Private.Marked.{begin_tag, classed_tag, styled_tag}
+use Rattle.std.specs.Prelude.{codes, if◌then◌else◌}
+use Rattle.csicodec_html.specs.{declared.look.Look.Look, declared.markup.Markup.Markup, Classes.classes_of, Classes.names, Classes.rest_attribute}
+use Rattle.csicodec_html.specs.{Classes.style_attribute, Look.css, Look.is_plain, Look.settled, Page.Begin, Page.begins, Page.ends, Page.piece_text}
+use Rattle.csicodec_html.specs.{Page.piece_texts, Page.turn, Private.Marked.begin_tag, Private.Marked.classed_tag, Private.Marked.styled_tag}
 
 begin_is : (m : Markup) (l : Look) → begin_tag m l ≡ piece_text (Begin m l)
 begin_is m l = by m.classes

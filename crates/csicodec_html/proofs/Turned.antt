@@ -1,11 +1,9 @@
 -- From one look to the next.
-use Rattle.std.proofs.Common.{◌≡◌, true, false, List, [], ◌∷◌, refl, sym, arith}
+use Rattle.std.proofs.{Common.◌≡◌, Common.true, Common.false, Common.List, Common.[], Common.◌∷◌, Common.refl, Common.sym, Common.arith, lemmas.Bool.false≢true}
 use Rattle.std.specs.Prelude.{if◌then◌else◌}
-use Rattle.std.proofs.lemmas.Bool.{false≢true}
 use Rattle.csicodec_actions.specs.Actions.{Action}
+use Rattle.csicodec_html.specs.{declared.look.Look.Look, Look.behind_all, Look.sets_any}
 use Rattle.csicodec_actions.specs.Actions as action
-use Rattle.csicodec_html.specs.declared.look.Look.{Look}
-use Rattle.csicodec_html.specs.Look.{behind_all, sets_any}
 
 -- one action, and then the others
 pub behind_one : (l : Look) (a : Action) (actions : List Action) → behind_all l (a ∷ actions) ≡ behind_all (behind_all l (a ∷ [])) actions

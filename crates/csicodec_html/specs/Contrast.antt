@@ -1,9 +1,8 @@
 -- How far text stands out from its ground, and a colour for text that doesn't.
 use Rattle.std.specs.Prelude.{ℕ, ◌+◌, ◌*◌, nat_lt, Bool, ◌&&◌, if◌then◌else◌, Option, Some, None}
-use Rattle.csicodec_names.specs.declared.color.ColorSpec.{ColorSpec}
-use Rattle.csicodec_names.specs.declared.color.ColorSpec.TheVariants as color
-use Rattle.csicodec_names.specs.declared.color.SrgbaTuple.{SrgbaTuple}
+use Rattle.csicodec_names.specs.{declared.color.ColorSpec.ColorSpec, declared.color.SrgbaTuple.SrgbaTuple}
 use Rattle.csicodec_clean.specs.Palette.{palette, rgb}
+use Rattle.csicodec_names.specs.declared.color.ColorSpec.TheVariants as color
 
 -- ---- the contrast of two colours (WCAG 2.2, 1.4.3), by their relative luminance
 

@@ -1,23 +1,18 @@
 -- How text looks by the attributes that are set, and the declarations of CSS that say it.
 use Rattle.std.specs.Prelude.{ℕ, ◌+◌, ◌/◌, ◌%◌, Bool, true, false, not, ◌&&◌, ◌||◌, nat_lt, List, [], ◌∷◌, ◌++◌, codes, if◌then◌else◌, Option, Some, None}
-use Rattle.csicodec_names.specs.declared.color.ColorSpec.{ColorSpec}
-use Rattle.csicodec_names.specs.declared.color.ColorSpec.TheVariants as color
-use Rattle.csicodec_names.specs.declared.color.Intensity.{Intensity}
-use Rattle.csicodec_names.specs.declared.color.Intensity.TheVariants as intensity
-use Rattle.csicodec_names.specs.declared.color.SrgbaTuple.{SrgbaTuple}
-use Rattle.csicodec_names.specs.declared.color.Underline.{Underline}
-use Rattle.csicodec_names.specs.declared.color.Underline.TheVariants as underline
+use Rattle.csicodec_names.specs.{declared.color.ColorSpec.ColorSpec, declared.color.Intensity.Intensity, declared.color.SrgbaTuple.SrgbaTuple}
+use Rattle.csicodec_names.specs.{declared.color.Underline.Underline}
 use Rattle.csicodec_base.specs.declared.sgr.Sgr.{Sgr}
-use Rattle.csicodec_base.specs.declared.sgr.Sgr.TheVariants as sgr
 use Rattle.csicodec_actions.specs.Actions.{Action}
-use Rattle.csicodec_actions.specs.Actions as action
 use Rattle.csicodec_clean.specs.Palette.{palette}
-use Rattle.csicodec_html.specs.declared.classes.Layer.{Layer}
+use Rattle.csicodec_html.specs.{declared.classes.Layer.Layer, declared.look.Look.Look, declared.palette.Palette.Palette, Contrast.legible, Palette.color_at}
+use Rattle.csicodec_html.specs.{Palette.has_pairs, Palette.or_own, Palette.pair_of}
+use Rattle.csicodec_names.specs.declared.color.ColorSpec.TheVariants as color
+use Rattle.csicodec_names.specs.declared.color.Intensity.TheVariants as intensity
+use Rattle.csicodec_names.specs.declared.color.Underline.TheVariants as underline
+use Rattle.csicodec_base.specs.declared.sgr.Sgr.TheVariants as sgr
+use Rattle.csicodec_actions.specs.Actions as action
 use Rattle.csicodec_html.specs.declared.classes.Layer.TheVariants as part
-use Rattle.csicodec_html.specs.declared.look.Look.{Look}
-use Rattle.csicodec_html.specs.declared.palette.Palette.{Palette}
-use Rattle.csicodec_html.specs.Contrast.{legible}
-use Rattle.csicodec_html.specs.Palette.{color_at, has_pairs, or_own, pair_of}
 
 -- where nothing is set
 abbrev pub plain : Look

@@ -1,24 +1,16 @@
 -- A piece of a page of HTML: the text of a stream, escaped, around what has attributes a span, and around what leads somewhere a link.
 use Rattle.std.specs.Prelude.{ℕ, ◌≡◌, ◌≤◌, ⊤, ◌==◌, Bool, true, false, not, ◌&&◌, ◌||◌, nat_lt, if◌then◌else◌, List, [], ◌∷◌, ◌++◌, length, map, filter, codes, encode_utf8}
-use Rattle.std.specs.List.{AllByRecursion, flat_map}
-use Rattle.std.specs.Char.{IsScalar}
+use Rattle.std.specs.{List.AllByRecursion, List.flat_map, Char.IsScalar}
 use Rattle.bstr.specs.Utf8.{lossy_chars}
 use Rattle.csicodec_actions.specs.Actions.{Action}
 use Rattle.csicodec_terminal.specs.Terminal.{IsTakenFor}
-use Rattle.csicodec_spans.specs.declared.table.Kind.{Kind}
+use Rattle.csicodec_spans.specs.{declared.table.Kind.Kind, Parts.Part, Parts.IsWhole}
+use Rattle.csicodec_clean.specs.{Shown.shown, Shown.IsShown, Titles.with_titles, Addresses.is_web, Links.Address, Links.Begun, Links.all_behind}
+use Rattle.csicodec_clean.specs.{Links.is_visible, Links.links_in, Links.longest_url, Links.start, Cleaned.longest}
+use Rattle.csicodec_html.specs.{declared.look.Look.Look, declared.markup.Markup.Markup, Classes.attributes, Look.behind_all, Look.is_plain, Look.plain}
+use Rattle.csicodec_html.specs.{Look.sets_any, Palette.readable}
 use Rattle.csicodec_spans.specs.declared.table.Kind.TheVariants as kind
 use Rattle.csicodec_spans.specs.declared.table.Mode.TheVariants as mode
-use Rattle.csicodec_spans.specs.Parts.{Part, IsWhole}
-use Rattle.csicodec_clean.specs.Shown.{shown, IsShown}
-use Rattle.csicodec_clean.specs.Titles.{with_titles}
-use Rattle.csicodec_clean.specs.Addresses.{is_web}
-use Rattle.csicodec_clean.specs.Links.{Address, Begun, all_behind, is_visible, links_in, longest_url, start}
-use Rattle.csicodec_clean.specs.Cleaned.{longest}
-use Rattle.csicodec_html.specs.declared.look.Look.{Look}
-use Rattle.csicodec_html.specs.declared.markup.Markup.{Markup}
-use Rattle.csicodec_html.specs.Classes.{attributes}
-use Rattle.csicodec_html.specs.Look.{behind_all, is_plain, plain, sets_any}
-use Rattle.csicodec_html.specs.Palette.{readable}
 
 -- a character on the page: one that HTML could take for markup by its name or number, any other one as UTF-8
 abbrev pub escaped : ℕ → List ℕ

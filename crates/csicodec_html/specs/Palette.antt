@@ -1,12 +1,10 @@
 -- The colours of a page by number, and the page's own.
 use Rattle.std.specs.Prelude.{ℕ, nat_lt, get_or, Bool, List, [], ◌∷◌, codes, if◌then◌else◌, Option, Some, None, is_none}
-use Rattle.csicodec_names.specs.declared.color.ColorSpec.{ColorSpec}
-use Rattle.csicodec_names.specs.declared.color.ColorSpec.TheVariants as color
-use Rattle.csicodec_names.specs.declared.color.SrgbaTuple.{SrgbaTuple}
+use Rattle.csicodec_names.specs.{declared.color.ColorSpec.ColorSpec, declared.color.SrgbaTuple.SrgbaTuple}
 use Rattle.csicodec_clean.specs.Palette.{first_places, palette, rgb}
-use Rattle.csicodec_html.specs.declared.classes.Layer.{Layer}
+use Rattle.csicodec_html.specs.{declared.classes.Layer.Layer, declared.palette.Palette.Palette}
+use Rattle.csicodec_names.specs.declared.color.ColorSpec.TheVariants as color
 use Rattle.csicodec_html.specs.declared.classes.Layer.TheVariants as part
-use Rattle.csicodec_html.specs.declared.palette.Palette.{Palette}
 
 -- where nobody chose: the first 16 colours are pairs, and the page's own colours are the browser's
 abbrev pub readable : Palette

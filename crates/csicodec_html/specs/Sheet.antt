@@ -1,25 +1,16 @@
 -- The style sheet of a page of its own.
 use Rattle.std.specs.Prelude.{ℕ, ◌≡◌, ◌==◌, zero, suc, Bool, true, false, not, List, [], ◌∷◌, ◌++◌, codes, encode_utf8_all, if◌then◌else◌, Option, Some, None}
 use Rattle.std.specs.List.{AllByRecursion, flat_map}
-use Rattle.csicodec_names.specs.declared.color.ColorSpec.{ColorSpec}
+use Rattle.csicodec_names.specs.{declared.color.ColorSpec.ColorSpec, declared.color.SrgbaTuple.SrgbaTuple, declared.color.Underline.Underline}
+use Rattle.csicodec_clean.specs.{Cleaned.Strips, Cleaned.longest, Shown.IsShown}
+use Rattle.csicodec_html.specs.Look.{hex_color, is_none, line_color, line_kind, line_places, plain, property, slant, weight}
+use Rattle.csicodec_html.specs.{declared.classes.Class.Class, declared.classes.Layer.Layer, declared.look.Look.Look, declared.markup.Markup.Markup}
+use Rattle.csicodec_html.specs.{declared.palette.Palette.Palette, Classes.class_name, Classes.color_class, Classes.true_color, Page.escaped, Palette.or_own}
 use Rattle.csicodec_names.specs.declared.color.ColorSpec.TheVariants as color
 use Rattle.csicodec_names.specs.declared.color.Intensity.TheVariants as intensity
-use Rattle.csicodec_names.specs.declared.color.SrgbaTuple.{SrgbaTuple}
-use Rattle.csicodec_names.specs.declared.color.Underline.{Underline}
 use Rattle.csicodec_names.specs.declared.color.Underline.TheVariants as underline
-use Rattle.csicodec_clean.specs.Cleaned.{Strips, longest}
-use Rattle.csicodec_clean.specs.Shown.{IsShown}
-use Rattle.csicodec_html.specs.declared.classes.Class.{Class}
 use Rattle.csicodec_html.specs.declared.classes.Class.TheVariants as kind
-use Rattle.csicodec_html.specs.declared.classes.Layer.{Layer}
 use Rattle.csicodec_html.specs.declared.classes.Layer.TheVariants as part
-use Rattle.csicodec_html.specs.declared.look.Look.{Look}
-use Rattle.csicodec_html.specs.declared.markup.Markup.{Markup}
-use Rattle.csicodec_html.specs.declared.palette.Palette.{Palette}
-use Rattle.csicodec_html.specs.Classes.{class_name, color_class, true_color}
-use Rattle.csicodec_html.specs.Look.{hex_color, is_none, line_color, line_kind, line_places, plain, property, slant, weight}
-use Rattle.csicodec_html.specs.Page.{escaped}
-use Rattle.csicodec_html.specs.Palette.{or_own}
 
 -- ---- the page's own colours
 

@@ -1,9 +1,6 @@
 -- What a table of control sequences that came before holds: how each turns text, and what is written for it.
-use Rattle.std.specs.Prelude.{ℕ, ◌≡◌, ◌≤◌, List, ◌++◌, length, take}
-use Rattle.std.specs.List.{All}
-use Rattle.csicodec_html.specs.declared.look.Look.{Look}
-use Rattle.csicodec_html.specs.declared.turns.InFront.{InFront}
-use Rattle.csicodec_html.specs.declared.turns.Turn.{Turn}
+use Rattle.std.specs.{Prelude.ℕ, Prelude.◌≡◌, Prelude.◌≤◌, Prelude.List, Prelude.◌++◌, Prelude.length, Prelude.take, List.All}
+use Rattle.csicodec_html.specs.{declared.look.Look.Look, declared.turns.InFront.InFront, declared.turns.Turn.Turn}
 
 -- it turns text of one look into text of another, and that is written for it
 abbrev pub IsTurn : (List ℕ → Look → Look → List ℕ → Type 0) → Turn → Type 0

@@ -1,19 +1,14 @@
 -- What is answered of the sequence at the front.
-use Rattle.std.proofs.Common.{◌≡◌, ◌⊎◌, ◌+◌, ◌-◌, ℕ, List, length, refl, ap, inl, inr, arith}
-use Rattle.std.proofs.lemmas.List.{length-append}
-use Rattle.csicodec_tokens.specs.declared.param.CsiParam.{CsiParam}
-use Rattle.csicodec_tokens.specs.declared.reader.ReadError.TheVariants as reading
-use Rattle.csicodec_tokens.specs.Sequence.{Reads}
-use Rattle.csicodec_structs.specs.declared.next.NextSequence.{NextSequence}
-use Rattle.csicodec_structs.specs.declared.structs.Param.{Param}
-use Rattle.csicodec_structs.specs.declared.structs.Struct.{Struct}
+use Rattle.std.proofs.{Common.◌≡◌, Common.◌⊎◌, Common.◌+◌, Common.◌-◌, Common.ℕ, Common.List, Common.length, Common.refl, Common.ap, Common.inl, Common.inr}
+use Rattle.std.proofs.{Common.arith, lemmas.List.length-append}
+use Rattle.csicodec_tokens.specs.{declared.param.CsiParam.CsiParam, Sequence.Reads}
+use Rattle.csicodec_structs.specs.{declared.next.NextSequence.NextSequence, declared.structs.Param.Param, declared.structs.Struct.Struct, Next.IsDone}
+use Rattle.csicodec_structs.specs.{Next.IsRefused, Next.refused, Terminal.IsTaken, Private.Fronts.IsAnswer}
 use Rattle.csicodec_parser.specs.Segments.{Actions}
-use Rattle.csicodec_structs.specs.Next.{IsDone, IsRefused, refused}
-use Rattle.csicodec_structs.specs.Terminal.{IsTaken}
-use Rattle.csicodec_structs.specs.declared.status.Status.TheVariants as status
 use Rattle.csicodec_terminal.specs.Terminal.{Terminal}
-use Rattle.csicodec_structs.specs.Private.Fronts.{IsAnswer}
 use Rattle.csicodec_structs.proofs.Kept.{read_kept}
+use Rattle.csicodec_tokens.specs.declared.reader.ReadError.TheVariants as reading
+use Rattle.csicodec_structs.specs.declared.status.Status.TheVariants as status
 
 refuses_memory : (bytes rest : List ℕ) (list : List CsiParam) (final : ℕ) (ao an : List Struct) (po pn : List Param) (answer : NextSequence)
     → Reads bytes list final rest → answer ≡ refused status.Memory 0 → IsRefused bytes ao an po pn answer

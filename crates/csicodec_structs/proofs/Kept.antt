@@ -1,14 +1,21 @@
 -- What is read of bytes is in range, and by its name.
-use Rattle.std.proofs.Common.{◌≡◌, ◌<◌, ℕ, List, [], ◌∷◌, Bool, false, true, rules, arith, refl, inl, inr}
-use Rattle.std.specs.Prelude.{◌==◌, ◌&&◌}
-use Rattle.std.specs.List.{All, AllByRecursion}
-use Rattle.std.proofs.Math.Utf8.{low_scalar}
-use Rattle.std.proofs.lemmas.List.Elements.{All-from_recursion, All-weaker}
-use Rattle.std.proofs.lemmas.Bool.{and_parts, cases_Bool, eqb-true}
-use Rattle.csicodec_tokens.specs.declared.param.CsiParam.{CsiParam}
-use Rattle.csicodec_tokens.specs.declared.param.CsiParam.TheVariants.{Integer, P}
-use Rattle.csicodec_tokens.specs.OneBased.{most}
-use Rattle.csicodec_tokens.specs.Sequence.{IsSpellable, Reads, Spellable}
+use Rattle.std.proofs.{Common.◌≡◌, Common.◌<◌, Common.ℕ, Common.List, Common.[], Common.◌∷◌, Common.Bool, Common.false, Common.true, Common.rules, Common.arith}
+use Rattle.std.proofs.{Common.refl, Common.inl, Common.inr, Math.Utf8.low_scalar, lemmas.List.Elements.All-from_recursion, lemmas.List.Elements.All-weaker}
+use Rattle.std.proofs.{lemmas.Bool.and_parts, lemmas.Bool.cases_Bool, lemmas.Bool.eqb-true}
+use Rattle.std.specs.{Prelude.◌==◌, Prelude.◌&&◌, List.All, List.AllByRecursion}
+use Rattle.csicodec_tokens.specs.{declared.param.CsiParam.CsiParam, declared.param.CsiParam.TheVariants.Integer, declared.param.CsiParam.TheVariants.P}
+use Rattle.csicodec_tokens.specs.{OneBased.most, Sequence.IsSpellable, Sequence.Reads, Sequence.Spellable}
+use Rattle.csicodec_actions.specs.{Actions.Action, declared.device.DeviceAttribute.DeviceAttribute, declared.xtsmgraphics.XtSmGraphicsItem.XtSmGraphicsItem}
+use Rattle.csicodec_actions.specs.{declared.mode.DecPrivateMode.DecPrivateMode, declared.mode.TerminalMode.TerminalMode, declared.mouse.MouseButton.MouseButton}
+use Rattle.csicodec_actions.specs.{Written.AllGood, Written.GoodAttribute, Written.Attribute, Written.listed, Kinds.GoodDec, Kinds.GoodItem, Kinds.GoodTerminal}
+use Rattle.csicodec_actions.specs.{Kinds.IsOneBased, Kinds.Count, Kinds.Kind, Kinds.Last, Modes.dec_number, Modes.terminal_number, Mouse.is_release}
+use Rattle.csicodec_actions.specs.{Table.Mouse.written_report}
+use Rattle.csicodec_names.specs.declared.flags.Modifiers.{Modifiers}
+use Rattle.csicodec_parser.specs.{Canonical.Canonical, Segments.Actions}
+use Rattle.csicodec.proofs.{Kept.Kept, Parsed.parsed-kept, Twins.IsParsedSpecial}
+use Rattle.csicodec_structs.proofs.ModeNumbers.{dec-fits, terminal-fits}
+use Rattle.csicodec_structs.specs.Values.{AttributeInRange, IsNamedAttribute, IsNamedDec, IsNamedItem, IsNamedTerminal, TokenInRange}
+use Rattle.csicodec_structs.specs.{Ranges.InRange, Named.IsNamed}
 use Rattle.csicodec_base.specs.declared.sgr.Font.TheVariants as font
 use Rattle.csicodec_base.specs.declared.sgr.Sgr.TheVariants as sgr
 use Rattle.csicodec_actions.specs.declared.cursor.Cursor.TheVariants as cursor
@@ -16,35 +23,14 @@ use Rattle.csicodec_actions.specs.declared.edit.Edit.TheVariants as edit
 use Rattle.csicodec_actions.specs.declared.keyboard.Keyboard.TheVariants as keyboard
 use Rattle.csicodec_actions.specs.declared.mode.Mode.TheVariants as mode
 use Rattle.csicodec_actions.specs.declared.window.Window.TheVariants as window
-use Rattle.csicodec_actions.specs.Actions.{Action}
 use Rattle.csicodec_actions.specs.Actions as action
-use Rattle.csicodec_names.specs.declared.flags.Modifiers.{Modifiers}
-use Rattle.csicodec_actions.specs.declared.device.DeviceAttribute.{DeviceAttribute}
 use Rattle.csicodec_actions.specs.declared.device.DeviceAttribute.TheVariants as attribute
-use Rattle.csicodec_actions.specs.declared.xtsmgraphics.XtSmGraphicsItem.{XtSmGraphicsItem}
 use Rattle.csicodec_actions.specs.declared.xtsmgraphics.XtSmGraphicsItem.TheVariants as item
-use Rattle.csicodec_actions.specs.declared.mode.DecPrivateMode.{DecPrivateMode}
 use Rattle.csicodec_actions.specs.declared.mode.DecPrivateMode.TheVariants as dec
-use Rattle.csicodec_actions.specs.declared.mode.TerminalMode.{TerminalMode}
 use Rattle.csicodec_actions.specs.declared.mode.TerminalMode.TheVariants as terminal
-use Rattle.csicodec_actions.specs.declared.mouse.MouseButton.{MouseButton}
 use Rattle.csicodec_actions.specs.declared.mouse.MouseReport.TheVariants as mouse
 use Rattle.csicodec_actions.specs.Devices as device
-use Rattle.csicodec_actions.specs.Written.{AllGood, GoodAttribute, Attribute, listed}
-use Rattle.csicodec_actions.specs.Kinds.{GoodDec, GoodItem, GoodTerminal, IsOneBased, Count, Kind, Last}
-use Rattle.csicodec_actions.specs.Modes.{dec_number, terminal_number}
-use Rattle.csicodec_actions.specs.Mouse.{is_release}
 use Rattle.csicodec_actions.specs.Ranges as actions_ranges
-use Rattle.csicodec_actions.specs.Table.Mouse.{written_report}
-use Rattle.csicodec_parser.specs.Canonical.{Canonical}
-use Rattle.csicodec_parser.specs.Segments.{Actions}
-use Rattle.csicodec.proofs.Kept.{Kept}
-use Rattle.csicodec.proofs.Parsed.{parsed-kept}
-use Rattle.csicodec.proofs.Twins.{IsParsedSpecial}
-use Rattle.csicodec_structs.proofs.ModeNumbers.{dec-fits, terminal-fits}
-use Rattle.csicodec_structs.specs.Ranges.{InRange}
-use Rattle.csicodec_structs.specs.Named.{IsNamed}
-use Rattle.csicodec_structs.specs.Values.{AttributeInRange, IsNamedAttribute, IsNamedDec, IsNamedItem, IsNamedTerminal, TokenInRange}
 
 most-fits : IsOneBased most
 most-fits = record { above = omega arith; fits = omega arith }

@@ -1,16 +1,10 @@
 -- Room with one item more, and with one action more.
 use Rattle.std.proofs.Common.{◌≡◌, ◌<◌, ◌≤◌, ◌+◌, ℕ, suc, List, [], ◌∷◌, ◌++◌, length, take, slice_set, Some, ap, sym, refl, ◌∙◌, arith, length-append}
+use Rattle.std.proofs.{lemmas.List.flat_map_more, lemmas.List.take_more, lemmas.Option.get_or_from_slice_get, lemmas.Option.slice_get_within}
 use Rattle.std.specs.List.{slice_get}
-use Rattle.std.proofs.lemmas.List.{flat_map_more, take_more}
-use Rattle.std.proofs.lemmas.Option.{get_or_from_slice_get, slice_get_within}
 use Rattle.csicodec_actions.specs.Actions.{Action}
-use Rattle.csicodec_structs.specs.declared.lay.Counts.{Counts}
-use Rattle.csicodec_structs.specs.declared.structs.Param.{Param}
-use Rattle.csicodec_structs.specs.declared.structs.Struct.{Struct}
-use Rattle.csicodec_structs.specs.Next.{Lays, all_params, structs}
-use Rattle.csicodec_structs.specs.Private.Fronts.{PutsBehind}
-use Rattle.csicodec_structs.specs.Room.{laid}
-use Rattle.csicodec_structs.specs.Rows.{params_of, struct_of}
+use Rattle.csicodec_structs.specs.{declared.lay.Counts.Counts, declared.structs.Param.Param, declared.structs.Struct.Struct, Next.Lays, Next.all_params}
+use Rattle.csicodec_structs.specs.{Next.structs, Private.Fronts.PutsBehind, Room.laid, Rows.params_of, Rows.struct_of}
 
 -- ---- items
 

@@ -1,25 +1,17 @@
 -- What a mode's number is read as has this number, and is by its name.
 use Rattle.std.proofs.Common.{◌≡◌, ℕ, ◌<◌, List, Option, None, Some, refl, sym, ap, ◌∙◌, inl, inr, arith, pos, nat_lt}
-use Rattle.std.specs.Prelude.{ℤ, negsuc}
-use Rattle.std.specs.Int.{FitsUnsignedBits}
-use Rattle.std.proofs.lemmas.Bool.{cases_Bool, false≢true, lt-ltb, ltb-true}
-use Rattle.std.proofs.lemmas.Int.{to_z-of_z}
-use mir.Syntax.{w64}
-use mir.Val.{SFits, of_z, to_z}
+use Rattle.std.proofs.{lemmas.Bool.cases_Bool, lemmas.Bool.false≢true, lemmas.Bool.lt-ltb, lemmas.Bool.ltb-true, lemmas.Int.to_z-of_z}
+use Rattle.std.specs.{Prelude.ℤ, Prelude.negsuc, Int.FitsUnsignedBits}
+use mir.{Syntax.w64, Val.SFits, Val.of_z, Val.to_z}
 use Rattle.csicodec_names.proofs.Coded.{Coded, decs, listed-number, small, terminals}
-use Rattle.csicodec_names.specs.ModeNumbers.{dec_mode_number, dec_codes, terminal_mode_number, terminal_codes}
-use Rattle.csicodec_names.specs.Numbered.{with_number}
-use Rattle.csicodec_names.specs.declared.modes.DecPrivateModeCode.{DecPrivateModeCode}
-use Rattle.csicodec_names.specs.declared.modes.TerminalModeCode.{TerminalModeCode}
-use Rattle.csicodec_actions.specs.declared.mode.DecPrivateMode.{DecPrivateMode}
-use Rattle.csicodec_actions.specs.declared.mode.DecPrivateMode.TheVariants as dec
-use Rattle.csicodec_actions.specs.declared.mode.TerminalMode.{TerminalMode}
-use Rattle.csicodec_actions.specs.declared.mode.TerminalMode.TheVariants as terminal
-use Rattle.csicodec_actions.specs.Kinds.{Dec, Terminal, code_or, read, short}
-use Rattle.csicodec_actions.specs.Modes.{dec_number, terminal_number}
-use Rattle.csicodec_structs.specs.Private.Candidates.{Reads, ReadsNamed}
-use Rattle.csicodec_structs.specs.Values.{IsNamedDec, IsNamedTerminal}
+use Rattle.csicodec_names.specs.{ModeNumbers.dec_mode_number, ModeNumbers.dec_codes, ModeNumbers.terminal_mode_number, ModeNumbers.terminal_codes}
+use Rattle.csicodec_names.specs.{Numbered.with_number, declared.modes.DecPrivateModeCode.DecPrivateModeCode, declared.modes.TerminalModeCode.TerminalModeCode}
+use Rattle.csicodec_actions.specs.{declared.mode.DecPrivateMode.DecPrivateMode, declared.mode.TerminalMode.TerminalMode, Kinds.Dec, Kinds.Terminal}
+use Rattle.csicodec_actions.specs.{Kinds.code_or, Kinds.read, Kinds.short, Modes.dec_number, Modes.terminal_number}
+use Rattle.csicodec_structs.specs.{Private.Candidates.Reads, Private.Candidates.ReadsNamed, Values.IsNamedDec, Values.IsNamedTerminal}
 use Rattle.csicodec_structs.proofs.OneValue.{none-has}
+use Rattle.csicodec_actions.specs.declared.mode.DecPrivateMode.TheVariants as dec
+use Rattle.csicodec_actions.specs.declared.mode.TerminalMode.TheVariants as terminal
 
 -- a number of 16 bits is itself
 short-reads : (z : ℤ) → Reads (λ n. n) (FitsUnsignedBits 16) z (short z)

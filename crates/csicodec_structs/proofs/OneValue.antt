@@ -1,40 +1,29 @@
 -- Values by their numbers and tokens: what is by its name is found again, and everything has its like that is.
 use Rattle.std.proofs.Common.{◌≡◌, ℕ, suc, List, [], ◌∷◌, Option, None, Some, length, map, refl, sym, ap, ◌∙◌, pos, inl, inr, arith}
-use Rattle.std.specs.Prelude.{ℤ, Bool, true, false, nat_abs, ◌==◌, ◌||◌, if◌then◌else◌}
-use Rattle.std.specs.List.{All, AllByRecursion}
-use Rattle.std.proofs.lemmas.Bool.{cases_Bool, eq-eqb, false≢true}
-use Rattle.std.proofs.lemmas.List.Elements.{All-cons, All-nil, recursion_from_All}
-use Rattle.csicodec_tokens.specs.declared.param.CsiParam.{CsiParam}
-use Rattle.csicodec_tokens.specs.declared.param.CsiParam.TheVariants.{Integer, P}
+use Rattle.std.proofs.{lemmas.Bool.cases_Bool, lemmas.Bool.eq-eqb, lemmas.Bool.false≢true, lemmas.List.Elements.All-cons, lemmas.List.Elements.All-nil}
+use Rattle.std.proofs.{lemmas.List.Elements.recursion_from_All}
+use Rattle.std.specs.{Prelude.ℤ, Prelude.Bool, Prelude.true, Prelude.false, Prelude.nat_abs, Prelude.◌==◌, Prelude.◌||◌, Prelude.if◌then◌else◌, List.All}
+use Rattle.std.specs.{List.AllByRecursion}
+use Rattle.csicodec_tokens.specs.{declared.param.CsiParam.CsiParam, declared.param.CsiParam.TheVariants.Integer, declared.param.CsiParam.TheVariants.P}
 use Rattle.csicodec_names.proofs.Coded.{Coded, attributes, decs, is_number-pos, listed-number, none-found, terminals}
-use Rattle.csicodec_names.specs.DeviceNumbers.{device_attribute_codes, device_attribute_number}
-use Rattle.csicodec_names.specs.ModeNumbers.{dec_codes, dec_mode_number, terminal_codes, terminal_mode_number}
-use Rattle.csicodec_names.specs.Numbered.{is_number, with_number}
-use Rattle.csicodec_names.specs.declared.color.ColorSpec.{ColorSpec}
-use Rattle.csicodec_names.specs.declared.color.ColorSpec.TheVariants as color
-use Rattle.csicodec_names.specs.declared.device.DeviceAttributeCodes.{DeviceAttributeCodes}
+use Rattle.csicodec_names.specs.{DeviceNumbers.device_attribute_codes, DeviceNumbers.device_attribute_number, ModeNumbers.dec_codes}
+use Rattle.csicodec_names.specs.{ModeNumbers.dec_mode_number, ModeNumbers.terminal_codes, ModeNumbers.terminal_mode_number, Numbered.is_number}
+use Rattle.csicodec_names.specs.{Numbered.with_number, declared.color.ColorSpec.ColorSpec, declared.device.DeviceAttributeCodes.DeviceAttributeCodes}
 use Rattle.csicodec_base.specs.declared.sgr.Font.{Font}
-use Rattle.csicodec_base.specs.declared.sgr.Font.TheVariants as font
-use Rattle.csicodec_actions.specs.Devices.{attribute_of, attribute_token, code_or_token}
-use Rattle.csicodec_actions.specs.XtSmGraphics.{item_number, item_of}
-use Rattle.csicodec_actions.specs.Modes.{dec_number, terminal_number}
-use Rattle.csicodec_actions.specs.declared.device.DeviceAttribute.{DeviceAttribute}
-use Rattle.csicodec_actions.specs.declared.device.DeviceAttribute.TheVariants as attribute
-use Rattle.csicodec_actions.specs.declared.xtsmgraphics.XtSmGraphicsItem.{XtSmGraphicsItem}
-use Rattle.csicodec_actions.specs.declared.xtsmgraphics.XtSmGraphicsItem.TheVariants as item
-use Rattle.csicodec_actions.specs.declared.mode.DecPrivateMode.{DecPrivateMode}
-use Rattle.csicodec_actions.specs.declared.mode.DecPrivateMode.TheVariants as dec
-use Rattle.csicodec_actions.specs.declared.mode.TerminalMode.{TerminalMode}
-use Rattle.csicodec_actions.specs.declared.mode.TerminalMode.TheVariants as terminal
-use Rattle.csicodec_actions.specs.Actions.{Action}
-use Rattle.csicodec_structs.specs.declared.structs.Param.{Param}
-use Rattle.csicodec_structs.specs.declared.structs.Struct.{Struct}
-use Rattle.csicodec_structs.specs.Named.{IsNamed}
-use Rattle.csicodec_structs.specs.Structs.{attribute_param, flag_number, font_number, param_of, value_param}
-use Rattle.csicodec_structs.specs.Private.Candidates.{unless}
-use Rattle.csicodec_structs.specs.Ranges.{InRange}
-use Rattle.csicodec_structs.specs.Rows.{params_of, struct_of}
+use Rattle.csicodec_actions.specs.{Devices.attribute_of, Devices.attribute_token, Devices.code_or_token, XtSmGraphics.item_number, XtSmGraphics.item_of}
+use Rattle.csicodec_actions.specs.{Modes.dec_number, Modes.terminal_number, declared.device.DeviceAttribute.DeviceAttribute}
+use Rattle.csicodec_actions.specs.{declared.xtsmgraphics.XtSmGraphicsItem.XtSmGraphicsItem, declared.mode.DecPrivateMode.DecPrivateMode}
+use Rattle.csicodec_actions.specs.{declared.mode.TerminalMode.TerminalMode, Actions.Action}
 use Rattle.csicodec_structs.specs.Values.{AttributeInRange, HasText, IsNamedAttribute, IsNamedDec, IsNamedItem, IsNamedTerminal}
+use Rattle.csicodec_structs.specs.{declared.structs.Param.Param, declared.structs.Struct.Struct, Named.IsNamed, Structs.attribute_param, Structs.flag_number}
+use Rattle.csicodec_structs.specs.{Structs.font_number, Structs.param_of, Structs.value_param, Private.Candidates.unless, Ranges.InRange, Rows.params_of}
+use Rattle.csicodec_structs.specs.{Rows.struct_of}
+use Rattle.csicodec_names.specs.declared.color.ColorSpec.TheVariants as color
+use Rattle.csicodec_base.specs.declared.sgr.Font.TheVariants as font
+use Rattle.csicodec_actions.specs.declared.device.DeviceAttribute.TheVariants as attribute
+use Rattle.csicodec_actions.specs.declared.xtsmgraphics.XtSmGraphicsItem.TheVariants as item
+use Rattle.csicodec_actions.specs.declared.mode.DecPrivateMode.TheVariants as dec
+use Rattle.csicodec_actions.specs.declared.mode.TerminalMode.TheVariants as terminal
 
 not-number : (k : ℕ) (z : ℤ) → (z ≡ pos k → ⊥) → is_number k z ≡ false
 not-number k z other = elim (cases_Bool (is_number k z)) [ inl here ↦ absurd (other (is_number-pos k z here)) | inr none ↦ none ]

@@ -1,14 +1,12 @@
 -- What a run over a list has given, with one action more, and at its end.
 use Rattle.std.proofs.Common.{◌≡◌, ℕ, false, List, [], ◌∷◌, ◌++◌, take, Option, Some, None, ap, sym, subst, ◌∙◌, inl, inr}
-use Rattle.std.proofs.lemmas.Bool.{false≢true}
-use Rattle.std.proofs.lemmas.List.{take_all}
+use Rattle.std.proofs.{lemmas.Bool.false≢true, lemmas.List.take_all}
 use Rattle.csicodec_actions.specs.Actions.{Action}
-use Rattle.csicodec_parser.specs.declared.parser.ActionRef.{ActionRef}
-use Rattle.csicodec_parser.specs.declared.parser.ActionRef.TheVariants as refs
-use Rattle.csicodec_parser.specs.Progress.{ActionsOf, HasEnded, Progress}
-use Rattle.csicodec_parser.specs.Next.{AnswersRef, IsRef, NextsRef}
+use Rattle.csicodec_parser.specs.{declared.parser.ActionRef.ActionRef, Progress.ActionsOf, Progress.HasEnded, Progress.Progress, Next.AnswersRef, Next.IsRef}
+use Rattle.csicodec_parser.specs.{Next.NextsRef}
 use Rattle.csicodec_structs.specs.Private.Fronts.{lent}
 use Rattle.csicodec_structs.proofs.Laid.{take_got}
+use Rattle.csicodec_parser.specs.declared.parser.ActionRef.TheVariants as refs
 
 pub same_list : (old new : Progress) (all : List Action) → new.list ≡ old.list → new.flag ≡ old.flag → new.final ≡ old.final → ActionsOf new all → ActionsOf old all
 same_list old new all l f c h = rw (← l, ← f, ← c) h

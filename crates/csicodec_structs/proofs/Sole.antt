@@ -2,17 +2,10 @@
 use Rattle.std.specs.Prelude.{slice_get}
 use Rattle.std.proofs.Common.{◌≡◌, ◌≤◌, ℕ, List, [], ◌∷◌, length, Option, Some, false, sym, refl, ◌∙◌, subst, inl, inr, arith, append-nil}
 use Rattle.std.proofs.lemmas.Bool.{false≢true}
-use Rattle.csicodec_tokens.specs.declared.param.CsiParam.{CsiParam}
-use Rattle.csicodec_tokens.specs.Sequence.{Reads}
-use Rattle.csicodec_actions.specs.Actions.{Action}
-use Rattle.csicodec_actions.specs.Table.{text}
-use Rattle.csicodec_parser.specs.declared.actions.CSI.{CSI}
-use Rattle.csicodec_parser.specs.declared.parser.ActionRef.{ActionRef}
-use Rattle.csicodec_parser.specs.declared.parser.ActionRef.TheVariants.{Small}
-use Rattle.csicodec_parser.specs.ActionOf.{action_of}
-use Rattle.csicodec_parser.specs.Progress.{HasEnded, Progress, begun}
-use Rattle.csicodec_parser.specs.Next.{IsRef, NextsRef}
-use Rattle.csicodec_parser.specs.Segments.{Actions}
+use Rattle.csicodec_tokens.specs.{declared.param.CsiParam.CsiParam, Sequence.Reads}
+use Rattle.csicodec_actions.specs.{Actions.Action, Table.text}
+use Rattle.csicodec_parser.specs.{declared.actions.CSI.CSI, declared.parser.ActionRef.ActionRef, declared.parser.ActionRef.TheVariants.Small}
+use Rattle.csicodec_parser.specs.{ActionOf.action_of, Progress.HasEnded, Progress.Progress, Progress.begun, Next.IsRef, Next.NextsRef, Segments.Actions}
 use Rattle.csicodec_streams.specs.Decoding.{NormalisesTo}
 use Rattle.csicodec_structs.proofs.Running.{same_list}
 

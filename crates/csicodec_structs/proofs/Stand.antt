@@ -1,18 +1,11 @@
 -- Structs that stand for actions: one more, and for which one each.
 use Rattle.std.proofs.Common.{◌≡◌, ℕ, ◌+◌, ◌<◌, ◌≤◌, List, [], ◌∷◌, ◌++◌, length, map, take, drop, slice_index_or, subst, sym, ap, refl, ◌∙◌, arith, append-nil}
 use Rattle.std.proofs.lemmas.List.{flat_map_more, map-append, take_more}
-use Rattle.csicodec_parser.specs.declared.actions.CSI.{CSI}
-use Rattle.csicodec_parser.specs.ActionOf.{action_of}
-use Rattle.csicodec_actions.specs.Actions.{Action}
-use Rattle.csicodec_actions.specs.Table.{text}
-use Rattle.csicodec_structs.specs.declared.encode.Encoded.{Encoded}
-use Rattle.csicodec_structs.specs.declared.structs.Param.{Param}
-use Rattle.csicodec_structs.specs.declared.structs.Struct.{Struct}
-use Rattle.csicodec_structs.specs.Encode.{AllStand, IsDone, IsPut, OneAction, Stands}
-use Rattle.csicodec_structs.specs.Private.Candidates.{AreTexts}
-use Rattle.csicodec_structs.specs.Named.{IsNamed}
-use Rattle.csicodec_structs.specs.Ranges.{InRange}
-use Rattle.csicodec_structs.specs.Rows.{params_of, struct_of}
+use Rattle.csicodec_parser.specs.{declared.actions.CSI.CSI, ActionOf.action_of}
+use Rattle.csicodec_actions.specs.{Actions.Action, Table.text}
+use Rattle.csicodec_structs.specs.{declared.encode.Encoded.Encoded, declared.structs.Param.Param, declared.structs.Struct.Struct, Encode.AllStand}
+use Rattle.csicodec_structs.specs.{Encode.IsDone, Encode.IsPut, Encode.OneAction, Encode.Stands, Private.Candidates.AreTexts, Named.IsNamed, Ranges.InRange}
+use Rattle.csicodec_structs.specs.{Rows.params_of, Rows.struct_of}
 use Rattle.csicodec_structs.proofs.OneAction.{action-named, same-action}
 
 stand_snoc : (structs : List Struct) (params : List Param) (actions : List Action) (p : Struct) (a : Action) → AllStand structs params actions

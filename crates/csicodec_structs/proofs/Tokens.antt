@@ -1,8 +1,7 @@
 -- Tokens of which one stands for nothing.
-use Rattle.std.proofs.Common.{◌≡◌, ◌<◌, ℕ, List, [], ◌∷◌, length, map, slice_index_or, ap, sym, ◌∙◌, arith}
+use Rattle.std.proofs.{Common.◌≡◌, Common.◌<◌, Common.ℕ, Common.List, Common.[], Common.◌∷◌, Common.length, Common.map, Common.slice_index_or, Common.ap}
+use Rattle.std.proofs.{Common.sym, Common.◌∙◌, Common.arith, lemmas.List.get_or-map, lemmas.List.length-map, lemmas.List.Elements.All-get_or}
 use Rattle.std.specs.List.{All}
-use Rattle.std.proofs.lemmas.List.{get_or-map, length-map}
-use Rattle.std.proofs.lemmas.List.Elements.{All-get_or}
 use Rattle.csicodec_structs.specs.declared.structs.Param.{Param}
 
 pub none_crosses : {A : Type 0} (crosses : A → Param) (InRange : A → Type 0) (params : List Param) (i : ℕ) (d : Param) → i < length params

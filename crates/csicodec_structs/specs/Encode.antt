@@ -1,19 +1,11 @@
 -- What the calls that take actions answer a C program.
-use Rattle.std.specs.Prelude.{ℕ, ◌≡◌, ◌⊎◌, ◌↔◌, ◌<◌, false, List, [], ◌∷◌, Some, drop, take, length}
-use Rattle.std.specs.List.{slice_get}
-use Rattle.csicodec_actions.specs.Actions.{Action}
-use Rattle.csicodec_actions.specs.Table.{texts}
+use Rattle.std.specs.{Prelude.ℕ, Prelude.◌≡◌, Prelude.◌⊎◌, Prelude.◌↔◌, Prelude.◌<◌, Prelude.false, Prelude.List, Prelude.[], Prelude.◌∷◌, Prelude.Some}
+use Rattle.std.specs.{Prelude.drop, Prelude.take, Prelude.length, List.slice_get}
+use Rattle.csicodec_actions.specs.{Actions.Action, Table.texts}
 use Rattle.csicodec_parser.specs.Canonical.{Canonical}
-use Rattle.csicodec_structs.specs.declared.canonical.Judged.{Judged}
-use Rattle.csicodec_structs.specs.declared.encode.Encoded.{Encoded}
-use Rattle.csicodec_structs.specs.declared.structs.Param.{Param}
-use Rattle.csicodec_structs.specs.declared.structs.Struct.{Struct}
-use Rattle.csicodec_structs.specs.Named.{IsNamed}
-use Rattle.csicodec_structs.specs.Ranges.{InRange}
-use Rattle.csicodec_structs.specs.Room.{Fills}
-use Rattle.csicodec_structs.specs.Rows.{params_of, struct_of}
-use Rattle.csicodec_structs.specs.Status.{status_number}
-use Rattle.csicodec_structs.specs.declared.status.Status.{Status}
+use Rattle.csicodec_structs.specs.{declared.canonical.Judged.Judged, declared.encode.Encoded.Encoded, declared.structs.Param.Param}
+use Rattle.csicodec_structs.specs.{declared.structs.Struct.Struct, Named.IsNamed, Ranges.InRange, Room.Fills, Rows.params_of, Rows.struct_of}
+use Rattle.csicodec_structs.specs.{Status.status_number, declared.status.Status.Status}
 use Rattle.csicodec_structs.specs.declared.status.Status.TheVariants as status
 
 abbrev pub refused : Status → ℕ → Encoded

@@ -1,23 +1,13 @@
 -- What the call for the sequence at the front answers a C program.
-use Rattle.std.specs.Prelude.{ℕ, ◌≡◌, ◌≢◌, ◌+◌, false, List, [], ◌∷◌, length}
-use Rattle.std.specs.List.{All, flat_map}
-use Rattle.csicodec_tokens.specs.declared.param.CsiParam.{CsiParam}
-use Rattle.csicodec_tokens.specs.declared.reader.ReadError.{ReadError}
-use Rattle.csicodec_tokens.specs.declared.reader.ReadError.TheVariants as reading
-use Rattle.csicodec_tokens.specs.Fault.{FaultOf}
-use Rattle.csicodec_tokens.specs.Sequence.{Reads}
+use Rattle.std.specs.{Prelude.ℕ, Prelude.◌≡◌, Prelude.◌≢◌, Prelude.◌+◌, Prelude.false, Prelude.List, Prelude.[], Prelude.◌∷◌, Prelude.length, List.All}
+use Rattle.std.specs.{List.flat_map}
+use Rattle.csicodec_tokens.specs.{declared.param.CsiParam.CsiParam, declared.reader.ReadError.ReadError, Fault.FaultOf, Sequence.Reads}
 use Rattle.csicodec_actions.specs.Actions.{Action}
 use Rattle.csicodec_parser.specs.Segments.{Actions}
-use Rattle.csicodec_structs.specs.declared.lay.Counts.{Counts}
-use Rattle.csicodec_structs.specs.declared.next.NextSequence.{NextSequence}
-use Rattle.csicodec_structs.specs.declared.structs.Param.{Param}
-use Rattle.csicodec_structs.specs.declared.structs.Struct.{Struct}
-use Rattle.csicodec_structs.specs.Named.{IsNamed}
-use Rattle.csicodec_structs.specs.Ranges.{InRange}
-use Rattle.csicodec_structs.specs.Room.{laid}
-use Rattle.csicodec_structs.specs.Rows.{params_of, struct_of}
-use Rattle.csicodec_structs.specs.Status.{fault_of, status_number}
-use Rattle.csicodec_structs.specs.declared.status.Status.{Status}
+use Rattle.csicodec_structs.specs.{declared.lay.Counts.Counts, declared.next.NextSequence.NextSequence, declared.structs.Param.Param}
+use Rattle.csicodec_structs.specs.{declared.structs.Struct.Struct, Named.IsNamed, Ranges.InRange, Room.laid, Rows.params_of, Rows.struct_of, Status.fault_of}
+use Rattle.csicodec_structs.specs.{Status.status_number, declared.status.Status.Status}
+use Rattle.csicodec_tokens.specs.declared.reader.ReadError.TheVariants as reading
 use Rattle.csicodec_structs.specs.declared.status.Status.TheVariants as status
 
 abbrev pub refused : Status → ℕ → NextSequence

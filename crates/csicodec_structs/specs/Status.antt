@@ -1,8 +1,8 @@
 -- How a call of C ends.
 use Rattle.std.specs.Prelude.{ℕ}
 use Rattle.csicodec_tokens.specs.declared.reader.ReadError.{ReadError}
-use Rattle.csicodec_tokens.specs.declared.reader.ReadError.TheVariants as reading
 use Rattle.csicodec_structs.specs.declared.status.Status.{Status}
+use Rattle.csicodec_tokens.specs.declared.reader.ReadError.TheVariants as reading
 use Rattle.csicodec_structs.specs.declared.status.Status.TheVariants as status
 
 -- the numbers of `enum csicodec_status`

@@ -1,27 +1,19 @@
 -- The structs that cross to C, and the numbers in them.
 use Rattle.std.specs.Prelude.{ℕ, ℤ, Bool, true, false, Option, Some, None, pos}
-use Rattle.csicodec_tokens.specs.declared.param.CsiParam.{CsiParam}
-use Rattle.csicodec_tokens.specs.declared.param.CsiParam.TheVariants.{Integer, P}
-use Rattle.csicodec_names.specs.FlagBits.{modifier_bits}
-use Rattle.csicodec_names.specs.declared.color.ColorSpec.{ColorSpec}
-use Rattle.csicodec_names.specs.declared.color.ColorSpec.TheVariants as color
-use Rattle.csicodec_names.specs.declared.color.Intensity.{Intensity}
-use Rattle.csicodec_names.specs.declared.color.Intensity.TheVariants as intensity
-use Rattle.csicodec_names.specs.declared.color.Underline.{Underline}
-use Rattle.csicodec_names.specs.declared.color.Underline.TheVariants as underline
-use Rattle.csicodec_names.specs.declared.color.Blink.{Blink}
-use Rattle.csicodec_names.specs.declared.color.Blink.TheVariants as blink
-use Rattle.csicodec_names.specs.declared.color.VerticalAlign.{VerticalAlign}
-use Rattle.csicodec_names.specs.declared.color.VerticalAlign.TheVariants as align
-use Rattle.csicodec_names.specs.declared.flags.Modifiers.{Modifiers}
+use Rattle.csicodec_tokens.specs.{declared.param.CsiParam.CsiParam, declared.param.CsiParam.TheVariants.Integer, declared.param.CsiParam.TheVariants.P}
+use Rattle.csicodec_names.specs.{FlagBits.modifier_bits, declared.color.ColorSpec.ColorSpec, declared.color.Intensity.Intensity}
+use Rattle.csicodec_names.specs.{declared.color.Underline.Underline, declared.color.Blink.Blink, declared.color.VerticalAlign.VerticalAlign}
+use Rattle.csicodec_names.specs.{declared.flags.Modifiers.Modifiers}
 use Rattle.csicodec_base.specs.declared.sgr.Font.{Font}
+use Rattle.csicodec_actions.specs.{Devices.attribute_token, declared.device.DeviceAttribute.DeviceAttribute, declared.mouse.MouseButton.MouseButton}
+use Rattle.csicodec_structs.specs.{declared.structs.Param.Param, declared.structs.Struct.Struct}
+use Rattle.csicodec_names.specs.declared.color.ColorSpec.TheVariants as color
+use Rattle.csicodec_names.specs.declared.color.Intensity.TheVariants as intensity
+use Rattle.csicodec_names.specs.declared.color.Underline.TheVariants as underline
+use Rattle.csicodec_names.specs.declared.color.Blink.TheVariants as blink
+use Rattle.csicodec_names.specs.declared.color.VerticalAlign.TheVariants as align
 use Rattle.csicodec_base.specs.declared.sgr.Font.TheVariants as font
-use Rattle.csicodec_actions.specs.Devices.{attribute_token}
-use Rattle.csicodec_actions.specs.declared.device.DeviceAttribute.{DeviceAttribute}
-use Rattle.csicodec_actions.specs.declared.mouse.MouseButton.{MouseButton}
 use Rattle.csicodec_actions.specs.declared.mouse.MouseButton.TheVariants as button
-use Rattle.csicodec_structs.specs.declared.structs.Param.{Param}
-use Rattle.csicodec_structs.specs.declared.structs.Struct.{Struct}
 
 -- ---- structs
 

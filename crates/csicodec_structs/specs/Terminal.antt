@@ -1,14 +1,10 @@
 -- What the call for a sequence's actions as terminals take it answers a C program.
 use Rattle.std.specs.Prelude.{ℕ, ◌≡◌, ◌+◌, false, List, length}
-use Rattle.csicodec_tokens.specs.declared.param.CsiParam.{CsiParam}
-use Rattle.csicodec_tokens.specs.Sequence.{Reads}
+use Rattle.csicodec_tokens.specs.{declared.param.CsiParam.CsiParam, Sequence.Reads}
 use Rattle.csicodec_actions.specs.Actions.{Action}
 use Rattle.csicodec_terminal.specs.Terminal.{Terminal}
-use Rattle.csicodec_structs.specs.declared.next.NextSequence.{NextSequence}
-use Rattle.csicodec_structs.specs.declared.structs.Param.{Param}
-use Rattle.csicodec_structs.specs.declared.structs.Struct.{Struct}
-use Rattle.csicodec_structs.specs.Next.{Lays}
-use Rattle.csicodec_structs.specs.Status.{status_number}
+use Rattle.csicodec_structs.specs.{declared.next.NextSequence.NextSequence, declared.structs.Param.Param, declared.structs.Struct.Struct, Next.Lays}
+use Rattle.csicodec_structs.specs.{Status.status_number}
 use Rattle.csicodec_structs.specs.declared.status.Status.TheVariants as status
 
 -- the actions of the sequence at the front as terminals take it, and their tokens, as many as there is room for, how many they are, and its length

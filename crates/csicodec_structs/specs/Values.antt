@@ -1,22 +1,17 @@
 -- The numbers that what crosses may have; and of two values with one number, which one is meant.
 use Rattle.std.specs.Prelude.{◌≡◌, ◌<◌, pos}
-use Rattle.csicodec_tokens.specs.declared.param.CsiParam.{CsiParam}
-use Rattle.csicodec_tokens.specs.declared.param.CsiParam.TheVariants.{Integer, P}
-use Rattle.csicodec_names.specs.DeviceNumbers.{device_attribute_number}
-use Rattle.csicodec_names.specs.ModeNumbers.{dec_mode_number, terminal_mode_number}
-use Rattle.csicodec_names.specs.declared.device.DeviceAttributeCodes.{DeviceAttributeCodes}
-use Rattle.csicodec_names.specs.declared.modes.DecPrivateModeCode.{DecPrivateModeCode}
-use Rattle.csicodec_names.specs.declared.modes.TerminalModeCode.{TerminalModeCode}
+use Rattle.csicodec_tokens.specs.{declared.param.CsiParam.CsiParam, declared.param.CsiParam.TheVariants.Integer, declared.param.CsiParam.TheVariants.P}
+use Rattle.csicodec_names.specs.{DeviceNumbers.device_attribute_number, ModeNumbers.dec_mode_number, ModeNumbers.terminal_mode_number}
+use Rattle.csicodec_names.specs.{declared.device.DeviceAttributeCodes.DeviceAttributeCodes, declared.modes.DecPrivateModeCode.DecPrivateModeCode}
+use Rattle.csicodec_names.specs.{declared.modes.TerminalModeCode.TerminalModeCode}
 use Rattle.csicodec_base.specs.declared.sgr.Font.{Font}
+use Rattle.csicodec_actions.specs.{XtSmGraphics.IsUnnamedItem, declared.device.DeviceAttribute.DeviceAttribute}
+use Rattle.csicodec_actions.specs.{declared.xtsmgraphics.XtSmGraphicsItem.XtSmGraphicsItem, declared.mode.DecPrivateMode.DecPrivateMode}
+use Rattle.csicodec_actions.specs.{declared.mode.TerminalMode.TerminalMode}
 use Rattle.csicodec_base.specs.declared.sgr.Font.TheVariants as font
-use Rattle.csicodec_actions.specs.XtSmGraphics.{IsUnnamedItem}
-use Rattle.csicodec_actions.specs.declared.device.DeviceAttribute.{DeviceAttribute}
 use Rattle.csicodec_actions.specs.declared.device.DeviceAttribute.TheVariants as attribute
-use Rattle.csicodec_actions.specs.declared.xtsmgraphics.XtSmGraphicsItem.{XtSmGraphicsItem}
 use Rattle.csicodec_actions.specs.declared.xtsmgraphics.XtSmGraphicsItem.TheVariants as item
-use Rattle.csicodec_actions.specs.declared.mode.DecPrivateMode.{DecPrivateMode}
 use Rattle.csicodec_actions.specs.declared.mode.DecPrivateMode.TheVariants as dec
-use Rattle.csicodec_actions.specs.declared.mode.TerminalMode.{TerminalMode}
 use Rattle.csicodec_actions.specs.declared.mode.TerminalMode.TheVariants as terminal
 
 -- ---- what is in range

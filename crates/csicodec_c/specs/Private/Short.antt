@@ -1,27 +1,16 @@
 -- What is read of a short sequence, behind ESC and '['.
 use Rattle.std.specs.Prelude.{ℕ, ℤ, ◌≡◌, ◌⊎◌, ◌+◌, pos, false, List, [], ◌∷◌, Some, length, map}
-use Rattle.csicodec_tokens.specs.declared.param.CsiParam.{CsiParam}
-use Rattle.csicodec_tokens.specs.declared.param.CsiParam.TheVariants.{Integer, P}
-use Rattle.csicodec_tokens.specs.Sequence.{Reads}
-use Rattle.csicodec_tokens.specs.Private.Reading.{IsFirstToken}
+use Rattle.csicodec_tokens.specs.{declared.param.CsiParam.CsiParam, declared.param.CsiParam.TheVariants.Integer, declared.param.CsiParam.TheVariants.P}
+use Rattle.csicodec_tokens.specs.{Sequence.Reads, Private.Reading.IsFirstToken}
 use Rattle.csicodec_names.specs.declared.color.ColorSpec.{ColorSpec}
-use Rattle.csicodec_base.specs.FrontBy.{color_by, piece}
-use Rattle.csicodec_base.specs.Shapes.{color_shapes}
-use Rattle.csicodec_base.specs.declared.sgr.Sgr.{Sgr}
-use Rattle.csicodec_actions.specs.Actions.{Action, Sgr as Styled}
-use Rattle.csicodec_actions.specs.declared.mode.Change.{Change}
-use Rattle.csicodec_actions.specs.declared.mode.Change.TheVariants as change
-use Rattle.csicodec_parser.specs.Groups.{has_odd}
-use Rattle.csicodec_parser.specs.Segments.{Actions}
-use Rattle.csicodec_parser.specs.declared.group.Group.TheVariants.{Styles}
+use Rattle.csicodec_base.specs.{FrontBy.color_by, FrontBy.piece, Shapes.color_shapes, declared.sgr.Sgr.Sgr}
+use Rattle.csicodec_actions.specs.{Actions.Action, Actions.Sgr as Styled, declared.mode.Change.Change}
+use Rattle.csicodec_parser.specs.{Groups.has_odd, Segments.Actions, declared.group.Group.TheVariants.Styles}
 use Rattle.csicodec.specs.Compose.{EndsInSemicolon, IsStyleList}
-use Rattle.csicodec_structs.specs.Next.{Lays}
-use Rattle.csicodec_structs.specs.Rows.{params_of, sgr_struct, struct_of}
-use Rattle.csicodec_structs.specs.Structs.{color_row, row}
-use Rattle.csicodec_structs.specs.declared.structs.Param.{Param}
-use Rattle.csicodec_structs.specs.declared.structs.Struct.{Struct}
-use Rattle.csicodec_c.specs.declared.by_number.StyleRow.{StyleRow}
-use Rattle.csicodec_c.specs.declared.attributes.AttributeParts.{AttributeParts}
+use Rattle.csicodec_structs.specs.{Next.Lays, Rows.params_of, Rows.sgr_struct, Rows.struct_of, Structs.color_row, Structs.row, declared.structs.Param.Param}
+use Rattle.csicodec_structs.specs.{declared.structs.Struct.Struct}
+use Rattle.csicodec_c.specs.{declared.by_number.StyleRow.StyleRow, declared.attributes.AttributeParts.AttributeParts}
+use Rattle.csicodec_actions.specs.declared.mode.Change.TheVariants as change
 
 -- ---- tokens in turn
 

@@ -2,12 +2,9 @@
 use Rattle.std.specs.Prelude.{ℕ, ◌≡◌, ◌≢◌, ◌==◌, ◌≤◌, Bool, not, ◌&&◌, ◌||◌, nat_lt, List, [], ◌++◌, length, slice_index}
 use Rattle.std.specs.List.{AllByRecursion}
 use Rattle.bstr.specs.Utf8.{decoded_by, good}
-use Rattle.csicodec_spans.specs.declared.table.Kind.{Kind}
+use Rattle.csicodec_spans.specs.{declared.table.Kind.Kind, declared.table.Mode.Mode}
+use Rattle.csicodec_clean.specs.{Shown.IsRead, Shown.shown_chars, Cleaned.RuleOf, Cleaned.IsStep, Stream.Goes}
 use Rattle.csicodec_spans.specs.declared.table.Kind.TheVariants as kind
-use Rattle.csicodec_clean.specs.Shown.{IsRead, shown_chars}
-use Rattle.csicodec_spans.specs.declared.table.Mode.{Mode}
-use Rattle.csicodec_clean.specs.Cleaned.{RuleOf, IsStep}
-use Rattle.csicodec_clean.specs.Stream.{Goes}
 
 -- ---- text that is told by its bytes
 

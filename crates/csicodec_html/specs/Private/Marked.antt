@@ -4,16 +4,10 @@ use Rattle.std.specs.Prelude.{ℕ, ◌≡◌, ◌==◌, nat_le, Bool, true, fals
 use Rattle.std.specs.List.{flat_map}
 use Rattle.csicodec_actions.specs.Actions.{Action}
 use Rattle.csicodec_terminal.specs.Terminal.{IsTakenFor}
-use Rattle.csicodec_clean.specs.Cleaned.{RuleOf, EndOf}
-use Rattle.csicodec_clean.specs.Links.{links_at, next}
-use Rattle.csicodec_clean.specs.Stream.{Between, Takes}
-use Rattle.csicodec_clean.specs.Shown.{shown_text}
-use Rattle.csicodec_html.specs.declared.look.Look.{Look}
-use Rattle.csicodec_html.specs.declared.markup.Markup.{Markup}
-use Rattle.csicodec_html.specs.declared.palette.Palette.{Palette}
-use Rattle.csicodec_html.specs.Classes.{classes_of, names, rest_attribute}
-use Rattle.csicodec_html.specs.Look.{behind_all, css, settled, sets_any}
+use Rattle.csicodec_clean.specs.{Cleaned.RuleOf, Cleaned.EndOf, Links.links_at, Links.next, Stream.Between, Stream.Takes, Shown.shown_text}
 use Rattle.csicodec_html.specs.Page.{Piece, Char, Begin, End, Open, Setting, Shut, behind_actions, closing, led_by, relation, setting, switches, turn}
+use Rattle.csicodec_html.specs.{declared.look.Look.Look, declared.markup.Markup.Markup, declared.palette.Palette.Palette, Classes.classes_of, Classes.names}
+use Rattle.csicodec_html.specs.{Classes.rest_attribute, Look.behind_all, Look.css, Look.settled, Look.sets_any}
 
 -- the tag that begins a span, with classes and with a style, of a look as it can be read
 abbrev pub classed_mark : Look → List ℕ

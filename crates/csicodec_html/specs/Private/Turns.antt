@@ -2,11 +2,7 @@
 use Rattle.std.specs.Prelude.{ℕ, ◌≡◌, List}
 use Rattle.csicodec_actions.specs.Actions.{Action}
 use Rattle.csicodec_terminal.specs.Terminal.{IsTakenFor}
-use Rattle.csicodec_html.specs.declared.look.Look.{Look}
-use Rattle.csicodec_html.specs.declared.markup.Markup.{Markup}
-use Rattle.csicodec_html.specs.Look.{behind_all, sets_any}
-use Rattle.csicodec_html.specs.Page.{turn}
-use Rattle.csicodec_html.specs.Private.Marked.{all_marked}
+use Rattle.csicodec_html.specs.{declared.look.Look.Look, declared.markup.Markup.Markup, Look.behind_all, Look.sets_any, Page.turn, Private.Marked.all_marked}
 
 -- the bytes are one control sequence, from one look to another, and these are the tags between
 abbrev pub IsTurned : Markup → List ℕ → Look → Look → List ℕ → Type 0

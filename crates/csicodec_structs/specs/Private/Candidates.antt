@@ -1,25 +1,14 @@
 -- What is found of a struct.
 use Rattle.std.specs.Prelude.{ℕ, ℤ, ◌≡◌, ◌<◌, Bool, Option, Some, None, IfSome, MatchOption, pos, negsuc, if◌then◌else◌, List, map}
-use Rattle.std.specs.List.{All}
-use Rattle.std.specs.Option.{option_map}
-use Rattle.csicodec_names.specs.Numbered.{is_number}
-use Rattle.csicodec_names.specs.declared.color.ColorSpec.{ColorSpec}
+use Rattle.std.specs.{List.All, Option.option_map}
+use Rattle.csicodec_names.specs.{Numbered.is_number, declared.color.ColorSpec.ColorSpec}
+use Rattle.csicodec_actions.specs.{Actions.Action, Devices.Device, Kinds.IsOneBased, Kinds.below, Table.texts}
+use Rattle.csicodec_structs.specs.{declared.structs.Param.Param, declared.structs.Struct.Struct, Encode.AllStand, Named.IsNamed, Ranges.InRange, Rows.params_of}
+use Rattle.csicodec_structs.specs.{Rows.struct_of, Values.AttributeInRange}
+use Rattle.csicodec_parser.specs.{ActionOf.action_of, declared.actions.CSI.CSI}
 use Rattle.csicodec_names.specs.declared.color.ColorSpec.TheVariants as color
-use Rattle.csicodec_actions.specs.Actions.{Action}
 use Rattle.csicodec_actions.specs.Actions as action
-use Rattle.csicodec_actions.specs.Devices.{Device}
 use Rattle.csicodec_actions.specs.Devices as device
-use Rattle.csicodec_actions.specs.Kinds.{IsOneBased, below}
-use Rattle.csicodec_actions.specs.Table.{texts}
-use Rattle.csicodec_structs.specs.declared.structs.Param.{Param}
-use Rattle.csicodec_structs.specs.declared.structs.Struct.{Struct}
-use Rattle.csicodec_structs.specs.Encode.{AllStand}
-use Rattle.csicodec_parser.specs.ActionOf.{action_of}
-use Rattle.csicodec_parser.specs.declared.actions.CSI.{CSI}
-use Rattle.csicodec_structs.specs.Named.{IsNamed}
-use Rattle.csicodec_structs.specs.Ranges.{InRange}
-use Rattle.csicodec_structs.specs.Rows.{params_of, struct_of}
-use Rattle.csicodec_structs.specs.Values.{AttributeInRange}
 
 -- what has this number, and none where there can be none
 abbrev pub Reads : {A : Type 0} → (A → ℕ) → (ℤ → Type 0) → ℤ → Option A → Type 0

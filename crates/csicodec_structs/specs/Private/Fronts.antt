@@ -1,25 +1,14 @@
 -- What is laid of an action, and what is answered of a list that was read.
 use Rattle.std.specs.Prelude.{ℕ, ◌≡◌, ◌⊎◌, ◌+◌, ◌++◌, Bool, false, List, [], ◌∷◌, length, unwrap_or}
-use Rattle.csicodec_tokens.specs.declared.param.CsiParam.{CsiParam}
-use Rattle.csicodec_tokens.specs.declared.param.CsiParam.TheVariants.{P}
-use Rattle.csicodec_actions.specs.Actions.{Action}
+use Rattle.csicodec_tokens.specs.{declared.param.CsiParam.CsiParam, declared.param.CsiParam.TheVariants.P}
+use Rattle.csicodec_actions.specs.{Actions.Action, Devices.listed_attributes, Lent.integers, Table.boxed}
+use Rattle.csicodec_parser.specs.{ActionOf.action_of, declared.parser.ActionRef.ActionRef}
+use Rattle.csicodec_structs.specs.{Next.Lays, Next.refused, declared.lay.Counts.Counts, declared.lay.Head.Head, declared.next.NextSequence.NextSequence}
+use Rattle.csicodec_structs.specs.{declared.structs.Param.Param, declared.structs.Struct.Struct, Room.laid, Status.status_number}
 use Rattle.csicodec_actions.specs.Actions as action
 use Rattle.csicodec_actions.specs.Devices as device
-use Rattle.csicodec_actions.specs.Devices.{listed_attributes}
-use Rattle.csicodec_actions.specs.Lent.{integers}
-use Rattle.csicodec_actions.specs.Table.{boxed}
-use Rattle.csicodec_parser.specs.ActionOf.{action_of}
-use Rattle.csicodec_parser.specs.declared.parser.ActionRef.{ActionRef}
 use Rattle.csicodec_parser.specs.declared.parser.ActionRef.TheVariants as refs
-use Rattle.csicodec_structs.specs.Next.{Lays, refused}
-use Rattle.csicodec_structs.specs.declared.lay.Counts.{Counts}
-use Rattle.csicodec_structs.specs.declared.lay.Head.{Head}
 use Rattle.csicodec_structs.specs.declared.lay.Head.TheVariants as head
-use Rattle.csicodec_structs.specs.declared.next.NextSequence.{NextSequence}
-use Rattle.csicodec_structs.specs.declared.structs.Param.{Param}
-use Rattle.csicodec_structs.specs.declared.structs.Struct.{Struct}
-use Rattle.csicodec_structs.specs.Room.{laid}
-use Rattle.csicodec_structs.specs.Status.{status_number}
 use Rattle.csicodec_structs.specs.declared.status.Status.TheVariants as status
 
 -- behind what is laid lies one action more, and so many there are then

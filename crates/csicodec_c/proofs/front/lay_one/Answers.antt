@@ -1,7 +1,6 @@
 use Rattle.std.proofs.Common.{arith}
 use Rattle.csicodec_streams.proofs.Positions.{byte_cut}
-use Rattle.csicodec_c.proofs.Laid.{row_laid}
-use Rattle.csicodec_c.proofs.Styled.{alone_row}
+use Rattle.csicodec_c.proofs.{Laid.row_laid, Styled.alone_row}
 use Rattle.csicodec_c.proofs.front.lay_one.Goals as goal
 
 pub returns-clause-some : goal.returns-clause-some

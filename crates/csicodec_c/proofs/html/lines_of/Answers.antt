@@ -1,6 +1,5 @@
 use Rattle.std.proofs.Common.{◌≡◌, ◌++◌, ◌∙◌, List, ℕ, ap, subst, sym}
-use Rattle.csicodec_overwrite.specs.Reading.{Shows}
-use Rattle.csicodec_overwrite.specs.Stream.{Now, Passes}
+use Rattle.csicodec_overwrite.specs.{Reading.Shows, Stream.Now, Stream.Passes}
 use Rattle.csicodec_overwrite.proofs.Written.{shows}
 use Rattle.csicodec_c.proofs.html.lines_of.Goals as goal
 

@@ -1,10 +1,8 @@
-use Rattle.std.proofs.lemmas.Result.{IfOk-weaker}
+use Rattle.std.proofs.{lemmas.Result.IfOk-weaker, Common.false}
 use Rattle.csicodec_html.specs.Page.{IsPageWith}
 use Rattle.csicodec_html.proofs.Paired.{is_page}
-use Rattle.csicodec_overwrite.specs.declared.marking.Marking.TheVariants.{Page}
-use Rattle.csicodec_overwrite.specs.Reading.{Shows}
+use Rattle.csicodec_overwrite.specs.{declared.marking.Marking.TheVariants.Page, Reading.Shows}
 use Rattle.csicodec_overwrite.proofs.Paged.{painted_page}
-use Rattle.std.proofs.Common.{false}
 use Rattle.csicodec_c.specs.Html.{IsPiece}
 use Rattle.csicodec_c.proofs.html.piece_of_lines.Goals as goal
 

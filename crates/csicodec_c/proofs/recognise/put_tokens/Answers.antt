@@ -1,5 +1,4 @@
-use Rattle.csicodec_structs.specs.Structs.{param_of}
-use Rattle.csicodec_structs.specs.Values.{TokenInRange}
+use Rattle.csicodec_structs.specs.{Structs.param_of, Values.TokenInRange}
 use Rattle.csicodec_structs.proofs.Tokens.{none_crosses}
 use Rattle.csicodec_c.proofs.recognise.put_tokens.Goals as goal
 

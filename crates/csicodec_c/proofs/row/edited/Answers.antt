@@ -1,5 +1,4 @@
-use Rattle.std.proofs.Common.{w64, arith}
-use Rattle.std.proofs.lemmas.Int.{to_z_pos}
+use Rattle.std.proofs.{Common.w64, Common.arith, lemmas.Int.to_z_pos}
 use Rattle.csicodec_c.proofs.Rows.{erase_in_display, erase_in_line}
 use Rattle.csicodec_c.proofs.row.edited.Goals as goal
 

@@ -2,8 +2,7 @@ use Rattle.std.specs.Prelude.{pos}
 use Rattle.std.proofs.Common.{◌∷◌, [], refl, inl, arith}
 use Rattle.csicodec_tokens.specs.declared.param.CsiParam.TheVariants.{Integer, P}
 use Rattle.csicodec_tokens.proofs.Reading.{first_cut}
-use Rattle.csicodec_c.proofs.Laid.{cursor_row, row_laid}
-use Rattle.csicodec_c.proofs.Styled.{one_token, reads_then}
+use Rattle.csicodec_c.proofs.{Laid.cursor_row, Laid.row_laid, Styled.one_token, Styled.reads_then}
 use Rattle.csicodec_c.proofs.row.lay_two.Goals as goal
 
 pub returns-clause-some : goal.returns-clause-some

@@ -1,5 +1,4 @@
-use Rattle.std.proofs.Common.{take, sym}
-use Rattle.std.proofs.lemmas.List.{length-take-le}
+use Rattle.std.proofs.{Common.take, Common.sym, lemmas.List.length-take-le}
 use Rattle.csicodec_c.proofs.Laid.{styles_laid}
 use Rattle.csicodec_c.proofs.styles.lay_styles.Goals as goal
 

@@ -1,8 +1,7 @@
 use Rattle.std.proofs.Common.{◌∷◌, [], refl, subst, arith}
 use Rattle.csicodec_streams.proofs.Positions.{byte_cut}
 use Rattle.csicodec_c.specs.Private.Short.{AreStyles}
-use Rattle.csicodec_c.proofs.Laid.{styles_laid}
-use Rattle.csicodec_c.proofs.Styled.{two_styles}
+use Rattle.csicodec_c.proofs.{Laid.styles_laid, Styled.two_styles}
 use Rattle.csicodec_c.proofs.styles.lay_two_styles.Goals as goal
 
 pub returns-clause-some : goal.returns-clause-some

@@ -1,5 +1,4 @@
-use Rattle.std.proofs.Common.{take, refl, inl, inr, subst, arith}
-use Rattle.std.proofs.lemmas.List.{length-set, take_more_set}
+use Rattle.std.proofs.{Common.take, Common.refl, Common.inl, Common.inr, Common.subst, Common.arith, lemmas.List.length-set, lemmas.List.take_more_set}
 use Rattle.csicodec_streams.proofs.Positions.{byte_cut}
 use Rattle.csicodec_c.specs.Private.Short.{AreStyles}
 use Rattle.csicodec_c.proofs.Styled.{styles_next}

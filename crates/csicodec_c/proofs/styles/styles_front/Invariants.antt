@@ -1,7 +1,6 @@
 use Rattle.std.specs.Prelude.{pos}
 use Rattle.std.proofs.Common.{◌≤◌, ◌-◌, length, take}
-use Rattle.csicodec_tokens.specs.declared.param.CsiParam.TheVariants.{Integer}
-use Rattle.csicodec_tokens.specs.Private.Reading.{IsFirstToken}
+use Rattle.csicodec_tokens.specs.{declared.param.CsiParam.TheVariants.Integer, Private.Reading.IsFirstToken}
 use Rattle.csicodec_c.specs.Private.Short.{HasStyles}
 use Rattle.csicodec_c.proofs.styles.styles_front.Given as goal
 

@@ -1,9 +1,7 @@
 use Rattle.std.proofs.Common.{refl}
 use Rattle.std.specs.List.{concat}
-use Rattle.csicodec_clean.specs.Cleaned.{drops}
-use Rattle.csicodec_clean.specs.Styled.{Keeping, first_kept, keeps}
-use Rattle.csicodec_clean.proofs.Chunks.{taken}
-use Rattle.csicodec_clean.proofs.Fronts.{clean_front, strip_front}
+use Rattle.csicodec_clean.specs.{Cleaned.drops, Styled.Keeping, Styled.first_kept, Styled.keeps}
+use Rattle.csicodec_clean.proofs.{Chunks.taken, Fronts.clean_front, Fronts.strip_front}
 use Rattle.csicodec_clean.proofs.laws.fronts.Goals as goal
 
 pub returns-clause-dropped : goal.returns-clause-dropped

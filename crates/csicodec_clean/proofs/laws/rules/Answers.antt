@@ -1,8 +1,6 @@
 use Rattle.std.proofs.Common.{refl}
-use Rattle.csicodec_clean.specs.Cleaned.{longest}
-use Rattle.csicodec_clean.specs.Styled.{Keeping, first_kept}
-use Rattle.csicodec_clean.proofs.Plain.{strips}
-use Rattle.csicodec_clean.proofs.Styled.{styles}
+use Rattle.csicodec_clean.specs.{Cleaned.longest, Styled.Keeping, Styled.first_kept}
+use Rattle.csicodec_clean.proofs.{Plain.strips, Styled.styles}
 use Rattle.csicodec_clean.proofs.laws.rules.Goals as goal
 
 pub returns-clause-dropped : goal.returns-clause-dropped

@@ -1,9 +1,6 @@
 use Rattle.std.proofs.Common.{◌+◌, ◌-◌, ◌++◌, ◌∙◌, true, length, take, refl, ap, sym, subst}
-use Rattle.csicodec_clean.specs.declared.colors.Depth.{Depth}
-use Rattle.csicodec_clean.specs.Private.Notes.{IsLeft}
-use Rattle.csicodec_clean.proofs.Glances.{front_read}
-use Rattle.csicodec_clean.proofs.Coded.{color_closed}
-use Rattle.csicodec_clean.proofs.Noted.{closed_taken, color_left, color_noted}
+use Rattle.csicodec_clean.specs.{declared.colors.Depth.Depth, Private.Notes.IsLeft}
+use Rattle.csicodec_clean.proofs.{Glances.front_read, Coded.color_closed, Noted.closed_taken, Noted.color_left, Noted.color_noted}
 use Rattle.csicodec_clean.proofs.notes.take_color.Goals as goal
 
 pub keep-requires-clause-noted : goal.keep-requires-clause-noted

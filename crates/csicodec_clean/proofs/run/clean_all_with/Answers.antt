@@ -1,12 +1,8 @@
 use Rattle.std.proofs.Common.{refl}
 use Rattle.csicodec_filter.specs.Transform.{Sends}
-use Rattle.csicodec_clean.specs.Cleaned.{Ends, longest}
-use Rattle.csicodec_clean.specs.Stream.{Takes, start_of}
-use Rattle.csicodec_clean.specs.Styled.{IsStyledIn, Keeping, StylesIn, keeps, resets}
-use Rattle.csicodec_clean.proofs.Styled.{styled, styles}
-use Rattle.csicodec_clean.proofs.Fronts.{clean_sent}
-use Rattle.csicodec_clean.proofs.Chunks.{begins_whole}
-use Rattle.csicodec_clean.proofs.Streams.{Texts, streams_one}
+use Rattle.csicodec_clean.specs.{Cleaned.Ends, Cleaned.longest, Stream.Takes, Stream.start_of, Styled.IsStyledIn, Styled.Keeping, Styled.StylesIn, Styled.keeps}
+use Rattle.csicodec_clean.specs.{Styled.resets}
+use Rattle.csicodec_clean.proofs.{Styled.styled, Styled.styles, Fronts.clean_sent, Chunks.begins_whole, Streams.Texts, Streams.streams_one}
 use Rattle.csicodec_clean.proofs.run.clean_all_with.Goals as goal
 
 abbrev own : Keeping → Keeping

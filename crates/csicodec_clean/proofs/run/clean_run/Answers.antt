@@ -1,5 +1,4 @@
-use Rattle.std.proofs.Common.{inl, inr, ⊎_elim}
-use Rattle.std.proofs.lemmas.Result.{MatchResult-weaker, on_err_weaker, on_ok_weaker}
+use Rattle.std.proofs.{Common.inl, Common.inr, Common.⊎_elim, lemmas.Result.MatchResult-weaker, lemmas.Result.on_err_weaker, lemmas.Result.on_ok_weaker}
 use Rattle.csicodec_clean.proofs.Chunks.{closed, takes_none}
 use Rattle.csicodec_clean.proofs.run.clean_run.Goals as goal
 

@@ -1,12 +1,7 @@
 use Rattle.std.proofs.Common.{[], refl}
 use Rattle.csicodec_filter.specs.Transform.{Sends}
-use Rattle.csicodec_clean.specs.Shown.{IsPlain}
-use Rattle.csicodec_clean.specs.Cleaned.{Ends, Strips, drops, ends_bare, longest}
-use Rattle.csicodec_clean.specs.Stream.{Takes, start_of}
-use Rattle.csicodec_clean.proofs.Plain.{strips, strips_plain}
-use Rattle.csicodec_clean.proofs.Fronts.{strip_sent}
-use Rattle.csicodec_clean.proofs.Chunks.{begins_whole}
-use Rattle.csicodec_clean.proofs.Streams.{Texts, streams_one}
+use Rattle.csicodec_clean.specs.{Shown.IsPlain, Cleaned.Ends, Cleaned.Strips, Cleaned.drops, Cleaned.ends_bare, Cleaned.longest, Stream.Takes, Stream.start_of}
+use Rattle.csicodec_clean.proofs.{Plain.strips, Plain.strips_plain, Fronts.strip_sent, Chunks.begins_whole, Streams.Texts, Streams.streams_one}
 use Rattle.csicodec_clean.proofs.run.strip_all.Goals as goal
 
 pub returns : goal.returns

@@ -1,6 +1,5 @@
 use Rattle.std.proofs.Common.{◌++◌, [], refl, ap, sym, ◌∙◌, append_assoc}
-use Rattle.csicodec_clean.proofs.Glances.{behind_both, over_none, to_on, to_span}
-use Rattle.csicodec_clean.proofs.Paused.{held_on}
+use Rattle.csicodec_clean.proofs.{Glances.behind_both, Glances.over_none, Glances.to_on, Glances.to_span, Paused.held_on}
 use Rattle.csicodec_clean.proofs.spans.append_clean.Goals as goal
 
 pub loop-rest-init : goal.loop-rest-init

@@ -1,5 +1,4 @@
-use Rattle.std.proofs.Common.{◌++◌}
-use Rattle.std.proofs.lemmas.Result.{on_ok_weaker}
+use Rattle.std.proofs.{Common.◌++◌, lemmas.Result.on_ok_weaker}
 use Rattle.csicodec_clean.proofs.Paused.{none_held}
 use Rattle.csicodec_clean.proofs.spans.append_span.Goals as goal
 

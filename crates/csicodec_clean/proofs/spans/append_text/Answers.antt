@@ -1,8 +1,6 @@
-use Rattle.std.proofs.Common.{◌≡◌, ◌++◌, ◌∙◌, ap, sym, length, arith, rules}
-use Rattle.std.proofs.lemmas.Grind.{common_steps}
+use Rattle.std.proofs.{Common.◌≡◌, Common.◌++◌, Common.◌∙◌, Common.ap, Common.sym, Common.length, Common.arith, Common.rules, lemmas.Grind.common_steps}
 use Rattle.csicodec_spans.proofs.Spanned.{rest_is}
-use Rattle.csicodec_clean.proofs.Told.{none_held}
-use Rattle.csicodec_clean.proofs.Paused.{last_held}
+use Rattle.csicodec_clean.proofs.{Told.none_held, Paused.last_held}
 use Rattle.csicodec_clean.proofs.spans.append_text.Goals as goal
 
 pub returns-then-is_empty-clause-chars : goal.returns-then-is_empty-clause-chars

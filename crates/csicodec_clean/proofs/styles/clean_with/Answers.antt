@@ -1,7 +1,6 @@
 use Rattle.std.proofs.lemmas.Result.{IfOk-weaker}
 use Rattle.csicodec_clean.specs.Styled.{Keeping}
-use Rattle.csicodec_clean.proofs.Marked.{cleaned_marked}
-use Rattle.csicodec_clean.proofs.Styled.{styled, styles}
+use Rattle.csicodec_clean.proofs.{Marked.cleaned_marked, Styled.styled, Styled.styles}
 use Rattle.csicodec_clean.proofs.styles.clean_with.Goals as goal
 
 pub returns-clause-exact : goal.returns-clause-exact

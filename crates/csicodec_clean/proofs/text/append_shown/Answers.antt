@@ -1,7 +1,6 @@
 use Rattle.std.proofs.Common.{◌≡◌, ◌<◌, length, ap, append_assoc, append-nil, rules}
 use Rattle.csicodec_clean.specs.Shown.{shown_chars}
-use Rattle.csicodec_clean.proofs.Sure.{cut_char}
-use Rattle.csicodec_clean.proofs.Shows.{shown_empty, shown_read}
+use Rattle.csicodec_clean.proofs.{Sure.cut_char, Shows.shown_empty, Shows.shown_read}
 use Rattle.csicodec_clean.proofs.text.append_shown.Goals as goal
 
 pub returns-in_ok-append_char : goal.returns-in_ok-append_char

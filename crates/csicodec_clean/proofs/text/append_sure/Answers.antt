@@ -1,8 +1,6 @@
 use Rattle.std.proofs.Common.{◌≡◌, ◌++◌, ◌∷◌, [], take, drop, sym, ap, subst, ◌∙◌, append_assoc, take-append-drop}
 use Rattle.csicodec_clean.specs.Shown.{shown_chars, IsRead}
-use Rattle.csicodec_clean.proofs.Sure.{cut_short, read_on}
-use Rattle.csicodec_clean.proofs.Shows.{shown_on}
-use Rattle.csicodec_clean.proofs.Told.{read_front}
+use Rattle.csicodec_clean.proofs.{Sure.cut_short, Sure.read_on, Shows.shown_on, Told.read_front}
 use Rattle.csicodec_clean.proofs.text.append_sure.Goals as goal
 
 pub loop-char-init : goal.loop-char-init

@@ -1,8 +1,6 @@
 use Rattle.std.proofs.Common.{◌++◌, [], ap, sym, subst, ◌∙◌}
-use Rattle.csicodec_clean.specs.Shown.{shown_text, IsRead}
-use Rattle.csicodec_clean.specs.Cleaned.{longest}
-use Rattle.csicodec_clean.proofs.Sure.{read_none}
-use Rattle.csicodec_clean.proofs.Stepped.{cleans}
+use Rattle.csicodec_clean.specs.{Shown.shown_text, Shown.IsRead, Cleaned.longest}
+use Rattle.csicodec_clean.proofs.{Sure.read_none, Stepped.cleans}
 use Rattle.csicodec_clean.proofs.whole.clean_whole.Goals as goal
 
 pub returns : goal.returns

@@ -1,7 +1,6 @@
 use Rattle.std.proofs.lemmas.Result.{IfOk-weaker}
 use Rattle.csicodec_clean.specs.Cleaned.{longest}
-use Rattle.csicodec_clean.proofs.Plain.{strips, strips_plain}
-use Rattle.csicodec_clean.proofs.PlainBytes.{no_escape}
+use Rattle.csicodec_clean.proofs.{Plain.strips, Plain.strips_plain, PlainBytes.no_escape}
 use Rattle.csicodec_clean.proofs.whole.strip.Goals as goal
 
 pub returns-clause-exact : goal.returns-clause-exact

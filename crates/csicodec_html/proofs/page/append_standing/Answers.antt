@@ -1,8 +1,6 @@
-use Rattle.std.proofs.Common.{◌≡◌, ◌+◌, ◌++◌, ◌≤◌, ◌∙◌, length, take, ap, arith}
+use Rattle.std.proofs.{Common.◌≡◌, Common.◌+◌, Common.◌++◌, Common.◌≤◌, Common.◌∙◌, Common.length, Common.take, Common.ap, Common.arith}
+use Rattle.std.proofs.{Math.Seq.take-append-add, lemmas.Grind.common_steps, lemmas.List.length-take, lemmas.List.take-take, lemmas.List.take_min}
 use Rattle.std.specs.List.{prefix_len}
-use Rattle.std.proofs.Math.Seq.{take-append-add}
-use Rattle.std.proofs.lemmas.Grind.{common_steps}
-use Rattle.std.proofs.lemmas.List.{length-take, take-take, take_min}
 use Rattle.csicodec_html.specs.Private.Marked.{stands}
 use Rattle.csicodec_html.proofs.page.append_standing.Goals as goal
 

@@ -1,12 +1,8 @@
 use Rattle.std.proofs.Common.{◌≡◌, ◌++◌, ◌∙◌, List, ℕ, ap, subst}
-use Rattle.csicodec_clean.specs.Shown.{shown_text}
-use Rattle.csicodec_clean.specs.Stream.{Between, Takes}
+use Rattle.csicodec_clean.specs.{Shown.shown_text, Stream.Between, Stream.Takes}
 use Rattle.csicodec_clean.proofs.Chunks.{ends}
-use Rattle.csicodec_html.specs.Page.{Setting}
-use Rattle.csicodec_html.specs.Private.Marked.{closes, page_bytes, turns}
-use Rattle.csicodec_html.proofs.Left.{page_of}
-use Rattle.csicodec_html.proofs.MarkupBytes.{made_markup}
-use Rattle.csicodec_html.proofs.Paired.{is_page}
+use Rattle.csicodec_html.specs.{Page.Setting, Private.Marked.closes, Private.Marked.page_bytes, Private.Marked.turns}
+use Rattle.csicodec_html.proofs.{Left.page_of, MarkupBytes.made_markup, Paired.is_page}
 use Rattle.csicodec_html.proofs.page.html_with.Goals as goal
 
 pub returns-clause-exact : goal.returns-clause-exact

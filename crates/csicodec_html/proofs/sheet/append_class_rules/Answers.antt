@@ -1,7 +1,5 @@
-use Rattle.std.proofs.Common.{◌≡◌, List, ℕ, ◌++◌, ◌∙◌, ap, append_assoc}
-use Rattle.std.proofs.lemmas.Result.{on_ok_weaker}
-use Rattle.csicodec_html.specs.declared.classes.Layer.TheVariants.{GroundAsText}
-use Rattle.csicodec_html.specs.Sheet.{class_rules, color_rules}
+use Rattle.std.proofs.{Common.◌≡◌, Common.List, Common.ℕ, Common.◌++◌, Common.◌∙◌, Common.ap, Common.append_assoc, lemmas.Result.on_ok_weaker}
+use Rattle.csicodec_html.specs.{declared.classes.Layer.TheVariants.GroundAsText, Sheet.class_rules, Sheet.color_rules}
 use Rattle.csicodec_html.proofs.Rules.{fixed}
 use Rattle.csicodec_html.proofs.sheet.append_class_rules.Goals as goal
 

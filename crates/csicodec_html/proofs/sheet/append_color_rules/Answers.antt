@@ -1,7 +1,7 @@
 use Rattle.std.proofs.Common.{◌++◌, ◌∙◌, append-nil, append_assoc, ap, sym, ℕ, List}
-use Rattle.csicodec_html.specs.declared.classes.Class.TheVariants as kind
 use Rattle.csicodec_html.specs.Sheet.{class_rule, color_rules}
 use Rattle.csicodec_html.proofs.Rules.{more, none}
+use Rattle.csicodec_html.specs.declared.classes.Class.TheVariants as kind
 use Rattle.csicodec_html.proofs.sheet.append_color_rules.Goals as goal
 
 pub loop-place-init : goal.loop-place-init

@@ -1,5 +1,4 @@
-use Rattle.std.proofs.Common.{◌≡◌, ◌++◌, append_assoc}
-use Rattle.std.proofs.lemmas.Result.{on_ok_weaker}
+use Rattle.std.proofs.{Common.◌≡◌, Common.◌++◌, Common.append_assoc, lemmas.Result.on_ok_weaker}
 use Rattle.csicodec_html.specs.Sheet.{rules_of_classes, sheet}
 use Rattle.csicodec_html.proofs.sheet.append_sheet.Goals as goal
 

@@ -2,8 +2,7 @@ use Rattle.std.proofs.Common.{◌∙◌, refl, List, false}
 use Rattle.csicodec_actions.specs.Actions.{Action}
 use Rattle.csicodec_parser.specs.Progress.{begun}
 use Rattle.csicodec_structs.specs.Next.{Lays}
-use Rattle.csicodec_structs.proofs.Laid.{lays_none}
-use Rattle.csicodec_structs.proofs.Running.{given_all, given_more, lent_is, not_failed, same_list}
+use Rattle.csicodec_structs.proofs.{Laid.lays_none, Running.given_all, Running.given_more, Running.lent_is, Running.not_failed, Running.same_list}
 use Rattle.csicodec_structs.proofs.lay.lay_list.Goals as goal
 
 pub loop-action-init : goal.loop-action-init

@@ -1,6 +1,5 @@
 use Rattle.std.proofs.Common.{take}
-use Rattle.csicodec_structs.specs.Private.Fronts.{PutsBehind, headed}
-use Rattle.csicodec_structs.specs.Rows.{params_of}
+use Rattle.csicodec_structs.specs.{Private.Fronts.PutsBehind, Private.Fronts.headed, Rows.params_of}
 use Rattle.csicodec_structs.proofs.lay.put_list.Given as goal
 
 -- what the tokens up to here say is put

@@ -1,7 +1,7 @@
 use Rattle.std.proofs.Common.{◌++◌, [], ap, sym, subst, ◌∙◌, append_assoc, append-nil, refl, arith}
 use Rattle.csicodec_events.specs.Events.{IsMet}
-use Rattle.example_callers.proofs.keys.read_events.Goals as goal
 use Rattle.example_callers.proofs.keys.read_events.Goals.{in-Some-pause+in_ok-meaning-2+in_ok-push-2, in_default-pause}
+use Rattle.example_callers.proofs.keys.read_events.Goals as goal
 
 pub loop-params-preserved : goal.loop-params-preserved
 loop-params-preserved c =

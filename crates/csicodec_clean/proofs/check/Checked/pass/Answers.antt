@@ -1,6 +1,5 @@
 use Rattle.std.proofs.Common.{◌≡◌, ◌-◌, length, subst, sym, ap, arith, rules}
-use Rattle.csicodec_clean.specs.Check.{IsOutside}
-use Rattle.csicodec_clean.specs.Shown.{IsBehind}
+use Rattle.csicodec_clean.specs.{Check.IsOutside, Shown.IsBehind}
 use Rattle.csicodec_clean.proofs.Checks.{kept_rest, passed}
 use Rattle.csicodec_clean.proofs.check.Checked.pass.Goals as goal
 

@@ -1,7 +1,6 @@
-use Rattle.std.proofs.Common.{◌≡◌, [], ◌-◌, ◌∙◌, sym, drop, length, append-nil, ⊎_elim, arith}
-use Rattle.std.proofs.lemmas.Grind.{common_steps}
-use Rattle.csicodec_spans.proofs.Kept.{unsure_short}
-use Rattle.csicodec_spans.proofs.Spanned.{rest_is}
+use Rattle.std.proofs.{Common.◌≡◌, Common.[], Common.◌-◌, Common.◌∙◌, Common.sym, Common.drop, Common.length, Common.append-nil, Common.⊎_elim, Common.arith}
+use Rattle.std.proofs.{lemmas.Grind.common_steps}
+use Rattle.csicodec_spans.proofs.{Kept.unsure_short, Spanned.rest_is}
 use Rattle.csicodec_clean.specs.Cleaned.{longest}
 use Rattle.csicodec_clean.proofs.Chunks.{takes_from, takes_nothing}
 use Rattle.csicodec_clean.proofs.cleaner.Cleaner.push.Goals as goal

@@ -1,5 +1,4 @@
-use Rattle.std.proofs.Common.{◌≡◌, ◌+◌, ◌++◌, ◌∷◌, [], get_or, take, rules}
-use Rattle.std.proofs.lemmas.List.{take_more}
+use Rattle.std.proofs.{Common.◌≡◌, Common.◌+◌, Common.◌++◌, Common.◌∷◌, Common.[], Common.get_or, Common.take, Common.rules, lemmas.List.take_more}
 use Rattle.csicodec_clean.specs.Links.{begun}
 use Rattle.csicodec_clean.proofs.Linked.{begun_more, linked_more, texts_more}
 use Rattle.csicodec_clean.proofs.links.LinkReader.append_links.Goals as goal

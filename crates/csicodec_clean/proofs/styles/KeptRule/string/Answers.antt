@@ -1,7 +1,6 @@
 use Rattle.std.proofs.Common.{◌≡◌, ◌∙◌, Bool, [], true, ap, sym, subst, append-nil}
-use Rattle.csicodec_clean.specs.Cleaned.{AreGiven}
-use Rattle.csicodec_clean.specs.Links.{Begun, all_behind, begun, is_linked, link_texts, links_in}
-use Rattle.csicodec_clean.specs.Styled.{Keeping, keeping, keeps}
+use Rattle.csicodec_clean.specs.{Cleaned.AreGiven, Links.Begun, Links.all_behind, Links.begun, Links.is_linked, Links.link_texts, Links.links_in}
+use Rattle.csicodec_clean.specs.{Styled.Keeping, Styled.keeping, Styled.keeps}
 use Rattle.csicodec_clean.proofs.Styled.{gives_links, gives_none}
 use Rattle.csicodec_clean.proofs.styles.KeptRule.string.Goals as goal
 

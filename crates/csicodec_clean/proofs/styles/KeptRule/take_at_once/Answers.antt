@@ -1,7 +1,6 @@
 use Rattle.std.proofs.Common.{◌≡◌, ◌++◌, ℕ, List, take, subst}
 use Rattle.csicodec_spans.specs.Parts.{IsSequence}
-use Rattle.csicodec_clean.specs.Links.{begun}
-use Rattle.csicodec_clean.specs.Styled.{Keeping, keeping, keeps}
+use Rattle.csicodec_clean.specs.{Links.begun, Styled.Keeping, Styled.keeping, Styled.keeps}
 use Rattle.csicodec_clean.proofs.Noted.{left_given}
 use Rattle.csicodec_clean.proofs.styles.KeptRule.take_at_once.Goals as goal
 

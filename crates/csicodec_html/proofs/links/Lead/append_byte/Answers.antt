@@ -1,10 +1,7 @@
-use Rattle.std.proofs.Common.{◌++◌, ◌∙◌, [], Bool, List, ℕ, ap}
+use Rattle.std.proofs.{Common.◌++◌, Common.◌∙◌, Common.[], Common.Bool, Common.List, Common.ℕ, Common.ap, lemmas.Result.on_ok_weaker}
 use Rattle.std.specs.Prelude.{if◌then◌else◌}
-use Rattle.std.proofs.lemmas.Result.{on_ok_weaker}
-use Rattle.csicodec_clean.specs.Addresses.{led}
-use Rattle.csicodec_clean.specs.Links.{begun}
-use Rattle.csicodec_html.specs.Page.{switch}
-use Rattle.csicodec_html.specs.Private.Marked.{all_marked}
+use Rattle.csicodec_clean.specs.{Addresses.led, Links.begun}
+use Rattle.csicodec_html.specs.{Page.switch, Private.Marked.all_marked}
 use Rattle.csicodec_html.proofs.Leads.{over_text, over_to}
 use Rattle.csicodec_html.proofs.links.Lead.append_byte.Goals as goal
 

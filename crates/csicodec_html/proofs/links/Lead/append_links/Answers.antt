@@ -1,5 +1,4 @@
-use Rattle.std.proofs.Common.{◌≡◌, ◌+◌, ◌++◌, ◌∷◌, [], get_or, take, rules}
-use Rattle.std.proofs.lemmas.List.{take_more}
+use Rattle.std.proofs.{Common.◌≡◌, Common.◌+◌, Common.◌++◌, Common.◌∷◌, Common.[], Common.get_or, Common.take, Common.rules, lemmas.List.take_more}
 use Rattle.csicodec_clean.specs.Links.{begun}
 use Rattle.csicodec_clean.proofs.Linked.{begun_more}
 use Rattle.csicodec_html.proofs.Leads.{text_more, to_more}

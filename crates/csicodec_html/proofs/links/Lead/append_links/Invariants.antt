@@ -1,7 +1,6 @@
 use Rattle.std.proofs.Common.{◌≡◌, ◌++◌, true, take}
 use Rattle.csicodec_clean.specs.Links.{all_behind, begun, links_in}
-use Rattle.csicodec_html.specs.Page.{led_by, switches}
-use Rattle.csicodec_html.specs.Private.Marked.{all_marked}
+use Rattle.csicodec_html.specs.{Page.led_by, Page.switches, Private.Marked.all_marked}
 use Rattle.csicodec_html.proofs.links.Lead.append_links.Given as goal
 
 -- the links of the bytes up to here

@@ -1,8 +1,5 @@
-use Rattle.std.proofs.Common.{◌≡◌, ◌++◌, append_assoc, refl}
-use Rattle.std.proofs.lemmas.Grind.{flat_map-append}
-use Rattle.std.proofs.lemmas.Result.{on_ok_weaker}
-use Rattle.csicodec_html.specs.Page.{closing, shuts}
-use Rattle.csicodec_html.specs.Private.Marked.{all_marked}
+use Rattle.std.proofs.{Common.◌≡◌, Common.◌++◌, Common.append_assoc, Common.refl, lemmas.Grind.flat_map-append, lemmas.Result.on_ok_weaker}
+use Rattle.csicodec_html.specs.{Page.closing, Page.shuts, Private.Marked.all_marked}
 use Rattle.csicodec_html.proofs.rule.SpanWriterRule.close.Goals as goal
 
 pub returns : goal.returns

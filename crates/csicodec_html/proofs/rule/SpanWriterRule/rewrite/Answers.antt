@@ -1,9 +1,7 @@
 use Rattle.std.proofs.Common.{◌∙◌, drop, map, ap, arith, subst}
 use Rattle.csicodec_parser.specs.ActionOf.{action_of}
 use Rattle.csicodec_clean.specs.Links.{begun}
-use Rattle.csicodec_html.specs.Look.{behind_all, sets_any}
-use Rattle.csicodec_html.specs.Page.{Setting, setting, turn}
-use Rattle.csicodec_html.specs.Private.Marked.{all_marked, turns}
+use Rattle.csicodec_html.specs.{Look.behind_all, Look.sets_any, Page.Setting, Page.setting, Page.turn, Private.Marked.all_marked, Private.Marked.turns}
 use Rattle.csicodec_html.proofs.Recalled.{appended, given, read}
 use Rattle.csicodec_html.proofs.rule.SpanWriterRule.rewrite.Goals as goal
 

@@ -1,8 +1,6 @@
 use Rattle.std.proofs.Common.{◌≡◌, ◌∙◌, List, ℕ, [], true, ap, sym, subst, append-nil}
-use Rattle.csicodec_clean.specs.Cleaned.{AreGiven}
-use Rattle.csicodec_clean.specs.Links.{Begun, all_behind, begun, links_in}
-use Rattle.csicodec_html.specs.Page.{Setting, led_by, setting, switches}
-use Rattle.csicodec_html.specs.Private.Marked.{all_marked, turns}
+use Rattle.csicodec_clean.specs.{Cleaned.AreGiven, Links.Begun, Links.all_behind, Links.begun, Links.links_in}
+use Rattle.csicodec_html.specs.{Page.Setting, Page.led_by, Page.setting, Page.switches, Private.Marked.all_marked, Private.Marked.turns}
 use Rattle.csicodec_html.proofs.Leads.{gives_links, gives_none}
 use Rattle.csicodec_html.proofs.rule.SpanWriterRule.string.Goals as goal
 

@@ -1,10 +1,8 @@
-use Rattle.std.proofs.Common.{◌≡◌, ◌++◌, ◌∙◌, List, ℕ, ap, sym, subst}
-use Rattle.std.proofs.lemmas.Grind.{flat_map-append}
-use Rattle.std.proofs.lemmas.Result.{on_ok_weaker}
+use Rattle.std.proofs.{Common.◌≡◌, Common.◌++◌, Common.◌∙◌, Common.List, Common.ℕ, Common.ap, Common.sym, Common.subst, lemmas.Grind.flat_map-append}
+use Rattle.std.proofs.{lemmas.Result.on_ok_weaker}
 use Rattle.csicodec_clean.specs.Stream.{Between, Takes}
 use Rattle.csicodec_clean.proofs.Chunks.{takes_on}
-use Rattle.csicodec_html.specs.Page.{Setting}
-use Rattle.csicodec_html.specs.Private.Marked.{page_byte, page_bytes, turns}
+use Rattle.csicodec_html.specs.{Page.Setting, Private.Marked.page_byte, Private.Marked.page_bytes, Private.Marked.turns}
 use Rattle.csicodec_html.proofs.run.PageTransform.take.Goals as goal
 
 pub returns-clause-passes : goal.returns-clause-passes

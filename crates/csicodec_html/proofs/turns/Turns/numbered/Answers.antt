@@ -1,5 +1,4 @@
-use Rattle.std.proofs.Common.{◌<◌, length, sym, subst, arith}
-use Rattle.std.proofs.lemmas.List.Elements.{All-get_or}
+use Rattle.std.proofs.{Common.◌<◌, Common.length, Common.sym, Common.subst, Common.arith, lemmas.List.Elements.All-get_or}
 use Rattle.csicodec_html.specs.Turns.{IsTurn}
 use Rattle.csicodec_html.proofs.turns.Turns.numbered.Goals as goal
 

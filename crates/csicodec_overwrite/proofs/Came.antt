@@ -1,23 +1,20 @@
 -- What `strip` leaves of the bytes comes into lines, and the law.
 use Rattle.std.proofs.Common.{◌≡◌, ◌≢◌, ◌≤◌, ℕ, ◌+◌, Bool, true, false, cond, List, [], ◌∷◌, ◌++◌, encode_utf8_all, refl, sym, ap, ◌∙◌, append_assoc, append-nil, arith}
-use Rattle.std.proofs.lemmas.{Bool.eqb-true, Grind.flat_map-append}
+use Rattle.std.proofs.{lemmas.Bool.eqb-true, lemmas.Grind.flat_map-append}
 use Rattle.std.specs.{Prelude.◌==◌, Prelude.filter, List.flat_map, Str.all_scalars}
 use Rattle.bstr.specs.Utf8.{lossy_chars}
-use Rattle.bstr.proofs.lemmas.{EncodeLemmas.lossy_chars-encode, PieceLemmas.lossy_chars-nil}
+use Rattle.bstr.proofs.{lemmas.EncodeLemmas.lossy_chars-encode, lemmas.PieceLemmas.lossy_chars-nil}
 use Rattle.csicodec_spans.specs.{declared.table.Kind.Kind, Parts.Part, Parts.left_over}
-use Rattle.csicodec_clean.specs.Cleaned.{Strips, is_text, longest, stripped}
-use Rattle.csicodec_clean.specs.Shown.{shown, shown_chars, shown_text}
-use Rattle.csicodec_clean.specs.Titles.{title_open, with_titles}
-use Rattle.csicodec_clean.proofs.{Plain.kept_shown, Plain.scalars_lossy, Plain.scalars_on, Shows.encoded_on}
-use Rattle.csicodec_clean.proofs.{Titles.titles_on, Twice.one_text, Twice.plain_stays}
-use Rattle.csicodec_overwrite.specs.declared.{line.Line.Line, pen.Pen.Pen, step.Step.Step}
-use Rattle.csicodec_overwrite.specs.{declared.marking.Marking.TheVariants.Plain, Paint.as_text}
-use Rattle.csicodec_overwrite.specs.{Cells.columns, Line.blank, Line.do_all, Line.does, Line.fresh, Line.pen_behind}
-use Rattle.csicodec_overwrite.specs.Lost.{NothingLost, NothingMade, all_came, came, times}
-use Rattle.csicodec_overwrite.specs.Reading.{AreOfParts, IsOfPart, Shows, Steps, most, shown_by}
+use Rattle.csicodec_clean.specs.{Cleaned.Strips, Cleaned.is_text, Cleaned.longest, Cleaned.stripped, Shown.shown, Shown.shown_chars, Shown.shown_text}
+use Rattle.csicodec_clean.specs.{Titles.title_open, Titles.with_titles}
+use Rattle.csicodec_clean.proofs.{Plain.kept_shown, Plain.scalars_lossy, Plain.scalars_on, Shows.encoded_on, Titles.titles_on, Twice.one_text}
+use Rattle.csicodec_clean.proofs.{Twice.plain_stays}
 use Rattle.csicodec_overwrite.specs.Steps.{of_char, of_chars, of_escape, of_run, of_sequence, of_string, of_wrong}
-use Rattle.csicodec_overwrite.proofs.{Lost.balances, Lost.both, Lost.others, Lost.text_has}
-use Rattle.csicodec_overwrite.proofs.Plain.{overwritten_plain, scalars, shown_good}
+use Rattle.csicodec_overwrite.specs.{declared.line.Line.Line, declared.pen.Pen.Pen, declared.step.Step.Step, declared.marking.Marking.TheVariants.Plain}
+use Rattle.csicodec_overwrite.specs.{Paint.as_text, Cells.columns, Line.blank, Line.do_all, Line.does, Line.fresh, Line.pen_behind, Lost.NothingLost}
+use Rattle.csicodec_overwrite.specs.{Lost.NothingMade, Lost.all_came, Lost.came, Lost.times, Reading.AreOfParts, Reading.IsOfPart, Reading.Shows, Reading.Steps}
+use Rattle.csicodec_overwrite.specs.{Reading.most, Reading.shown_by}
+use Rattle.csicodec_overwrite.proofs.{Lost.balances, Lost.both, Lost.others, Lost.text_has, Plain.overwritten_plain, Plain.scalars, Plain.shown_good}
 use Rattle.csicodec_overwrite.proofs.{Same.same_text, Texts.chars_by, Texts.shown_plain}
 use Rattle.csicodec_spans.specs.declared.table.Kind.TheVariants as kind
 use Rattle.csicodec_overwrite.specs.declared.step.Step.TheVariants as step

@@ -1,6 +1,6 @@
 -- The steps of characters, of actions and of what else comes, one behind the other.
-use Rattle.std.proofs.Common.{◌≡◌, ℕ, List, [], ◌∷◌, ◌++◌, length, sym, ap, ◌∙◌, append_assoc, append-nil}
-use Rattle.std.proofs.lemmas.{Grind.flat_map-append, List.nil_from_length}
+use Rattle.std.proofs.{Common.◌≡◌, Common.ℕ, Common.List, Common.[], Common.◌∷◌, Common.◌++◌, Common.length, Common.sym, Common.ap, Common.◌∙◌}
+use Rattle.std.proofs.{Common.append_assoc, Common.append-nil, lemmas.Grind.flat_map-append, lemmas.List.nil_from_length}
 use Rattle.std.specs.List.{flat_map}
 use Rattle.bstr.specs.Utf8.{lossy_chars, replacement}
 use Rattle.bstr.proofs.lemmas.PieceLemmas.{lossy_chars-nil}

@@ -1,14 +1,12 @@
 -- Cells that are moved or taken, one after the other.
-use Rattle.std.proofs.Common.{◌≡◌, ℕ, zero, suc, ◌-◌, ◌+◌, ◌<◌, ◌≤◌, Bool, true, false, cond, ◌==◌, nat_le, nat_lt, List, [], ◌∷◌, ◌++◌, length}
-use Rattle.std.proofs.Common.{drop, get_or, replicate, reverse, take, take-append-drop, refl, sym, ap, ◌∙◌, arith, append_assoc, append-nil}
-use Rattle.std.proofs.lemmas.Bool.Decides.{nat_tests}
+use Rattle.std.proofs.Common.{◌≡◌, ℕ, zero, suc, ◌-◌, ◌+◌, ◌<◌, ◌≤◌, Bool, true, false, cond, ◌==◌, nat_le, nat_lt, List, [], ◌∷◌, ◌++◌, length, drop, get_or, replicate, reverse, take, take-append-drop, refl, sym, ap, ◌∙◌, arith, append_assoc, append-nil}
 use Rattle.std.proofs.lemmas.List.{length-drop, nil_from_length, replicate-append-replicate, drop_at, reverse-append, reverse-reverse, take_all, take_at}
+use Rattle.std.proofs.lemmas.Bool.Decides.{nat_tests}
 use Rattle.csicodec_html.specs.declared.look.Look.{Look}
-use Rattle.csicodec_overwrite.specs.declared.{cells.Cell.Cell, cells.Cell.TheVariants.Empty, marking.Marking.Marking}
-use Rattle.csicodec_overwrite.specs.{declared.cells.Glyph.Glyph, Private.Sides.PassesBack, Private.Sides.PassesOver}
-use Rattle.csicodec_overwrite.specs.{declared.line.Line.Line, Paint.texts_of, Private.Plain.glyphs, Private.Row.back}
-use Rattle.csicodec_overwrite.specs.Cells.{columns, is_blank, narrowed, onto, takes, without}
-use Rattle.csicodec_overwrite.specs.Line.{before, behind_columns, forward, line, over, padded, put, repeat}
+use Rattle.csicodec_overwrite.specs.{declared.cells.Cell.Cell, declared.cells.Cell.TheVariants.Empty, declared.marking.Marking.Marking}
+use Rattle.csicodec_overwrite.specs.{declared.cells.Glyph.Glyph, Private.Sides.PassesBack, Private.Sides.PassesOver, declared.line.Line.Line, Paint.texts_of}
+use Rattle.csicodec_overwrite.specs.{Private.Plain.glyphs, Private.Row.back, Cells.columns, Cells.is_blank, Cells.narrowed, Cells.onto, Cells.takes}
+use Rattle.csicodec_overwrite.specs.{Cells.without, Line.before, Line.behind_columns, Line.forward, Line.line, Line.over, Line.padded, Line.put, Line.repeat}
 use Rattle.std.specs.List.{list_all}
 use Rattle.csicodec_overwrite.proofs.Texts.{texts_on}
 

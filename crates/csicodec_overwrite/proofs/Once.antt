@@ -9,15 +9,14 @@ use Rattle.csicodec_spans.proofs.{Kept.parts_more, Once.parts_front, Once.parts_
 use Rattle.csicodec_filter.proofs.Sent.{whole_front}
 use Rattle.csicodec_clean.specs.{Cleaned.longest, Shown.IsRead, Stream.IsFrontOf, Titles.title_open, Titles.with_titles}
 use Rattle.csicodec_clean.proofs.{Sure.read_none, Titles.titles_on}
-use Rattle.csicodec_overwrite.specs.declared.marking.Marking.{Marking}
-use Rattle.csicodec_overwrite.specs.{declared.step.Step.Step, Line.blank, Line.do_all, Line.fresh, Line.pen_behind_all}
-use Rattle.csicodec_overwrite.specs.Steps.{of_chars, of_escape, of_run, of_sequence, of_string, of_wrong}
-use Rattle.csicodec_overwrite.specs.Reading.{AreOfParts, IsOfPart, Shows, Steps, most, shown_by}
-use Rattle.csicodec_overwrite.specs.Stream.{Ending, Goes, Held, Now, Passes, begun_as}
+use Rattle.csicodec_overwrite.specs.{declared.marking.Marking.Marking, declared.step.Step.Step, Line.blank, Line.do_all, Line.fresh, Line.pen_behind_all}
+use Rattle.csicodec_overwrite.specs.{Steps.of_chars, Steps.of_escape, Steps.of_run, Steps.of_sequence, Steps.of_string, Steps.of_wrong, Reading.AreOfParts}
+use Rattle.csicodec_overwrite.specs.{Reading.IsOfPart, Reading.Shows, Reading.Steps, Reading.most, Reading.shown_by, Stream.Ending, Stream.Goes, Stream.Held}
+use Rattle.csicodec_overwrite.specs.{Stream.Now, Stream.Passes, Stream.begun_as}
 use Rattle.csicodec_overwrite.proofs.{Chars.run_read, Written.shown_on, Written.transformed}
+use Rattle.csicodec_filter.specs.Transform.{Begins as BeginsWith, Sends, Transforms}
 use Rattle.csicodec_spans.specs.declared.table.Kind.TheVariants as kind
 use Rattle.csicodec_spans.specs.declared.table.Mode.TheVariants as mode
-use Rattle.csicodec_filter.specs.Transform.{Begins as BeginsWith, Sends, Transforms}
 
 -- ---- one text
 

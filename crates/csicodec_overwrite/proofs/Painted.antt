@@ -5,10 +5,10 @@ use Rattle.std.specs.List.{flat_map}
 use Rattle.csicodec_base.specs.declared.sgr.Sgr.{Sgr}
 use Rattle.csicodec_html.proofs.Recalled.{same_look as look_one}
 use Rattle.csicodec_html.specs.{declared.look.Look.Look, Look.plain}
-use Rattle.csicodec_overwrite.specs.{declared.cells.Cell.Cell, Cells.chars_of, Cells.is_empty, Private.Alike.IsAlike}
-use Rattle.csicodec_overwrite.specs.declared.cells.{Cell.TheVariants.Char, Cell.TheVariants.Empty, Glyph.Glyph}
-use Rattle.csicodec_overwrite.specs.declared.marking.Marking.{Marking, TheVariants.Plain}
 use Rattle.csicodec_overwrite.specs.Paint.{attributes, further, look_of, look_text, paint, same, turn, written}
+use Rattle.csicodec_overwrite.specs.{declared.cells.Cell.Cell, Cells.chars_of, Cells.is_empty, Private.Alike.IsAlike, declared.cells.Cell.TheVariants.Char}
+use Rattle.csicodec_overwrite.specs.{declared.cells.Cell.TheVariants.Empty, declared.cells.Glyph.Glyph, declared.marking.Marking.Marking}
+use Rattle.csicodec_overwrite.specs.{declared.marking.Marking.TheVariants.Plain}
 use Rattle.csicodec_overwrite.proofs.{Alike.turn_same, Alike.written_none, Alike.written_on, Texts.plain_paint}
 
 -- a cell, and then the others

@@ -2,16 +2,14 @@
 use Rattle.std.proofs.Common.{◌≡◌, ℕ, Bool, false, List, [], ◌∷◌, ◌++◌, refl, sym, ap, subst, ◌∙◌, append_assoc, append-nil, arith}
 use Rattle.std.proofs.lemmas.Grind.{flat_map-append}
 use Rattle.std.specs.{Prelude.None, List.AllByRecursion, List.flat_map}
-use Rattle.csicodec_spans.specs.declared.table.{Kind.Kind, Mode.Mode}
-use Rattle.csicodec_spans.specs.Parts.{Part, part, bytes_of, AreAll, IsSpan, Cuts, IsUnsure}
+use Rattle.csicodec_spans.specs.{declared.table.Kind.Kind, declared.table.Mode.Mode, Parts.Part, Parts.part, Parts.bytes_of, Parts.AreAll, Parts.IsSpan}
+use Rattle.csicodec_spans.specs.{Parts.Cuts, Parts.IsUnsure}
 use Rattle.csicodec_spans.proofs.{Kept.parts_more, Kept.parts_on, OneSpan.none_unsure}
-use Rattle.csicodec_clean.specs.{Cleaned.longest, Shown.IsRead}
-use Rattle.csicodec_clean.specs.Titles.{title_behind, title_open, read_as, with_titles}
+use Rattle.csicodec_clean.specs.{Cleaned.longest, Shown.IsRead, Titles.title_behind, Titles.title_open, Titles.read_as, Titles.with_titles}
 use Rattle.csicodec_clean.proofs.{Sure.read_more, Sure.read_none, Titles.open_on, Titles.titled, Titles.titles_on}
-use Rattle.csicodec_overwrite.specs.{declared.step.Step.Step, Stream.Goes, Stream.Held, Stream.Reads, Stream.none_held}
 use Rattle.csicodec_overwrite.specs.Steps.{by_escape, of_chars, of_escape, of_run, of_sequence, of_string, of_wrong}
-use Rattle.csicodec_overwrite.specs.Reading.{AreOfParts, IsOfPart, Steps}
-use Rattle.csicodec_overwrite.specs.Private.Spans.{GoesTo, IsGiven}
+use Rattle.csicodec_overwrite.specs.{declared.step.Step.Step, Stream.Goes, Stream.Held, Stream.Reads, Stream.none_held, Reading.AreOfParts, Reading.IsOfPart}
+use Rattle.csicodec_overwrite.specs.{Reading.Steps, Private.Spans.GoesTo, Private.Spans.IsGiven}
 use Rattle.csicodec_overwrite.proofs.Chars.{chars_on, run_none, run_read}
 use Rattle.csicodec_spans.specs.declared.table.Kind.TheVariants as kind
 use Rattle.csicodec_spans.specs.declared.table.Mode.TheVariants as mode

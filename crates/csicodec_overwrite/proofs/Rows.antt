@@ -1,12 +1,10 @@
 -- A line whose cursor is still to go to its column.
-use Rattle.std.proofs.Common.{◌≡◌, ◌<◌, ◌≤◌, ℕ, zero, suc, ◌+◌, ◌-◌, Bool, true, cond, min}
-use Rattle.std.proofs.Common.{List, [], ◌∷◌, ◌++◌, length, replicate, refl, sym, ap, ◌∙◌, arith}
-use Rattle.std.proofs.lemmas.{Bool.Decides.nat_tests, List.length-append, List.length-replicate}
+use Rattle.std.proofs.Common.{◌≡◌, ◌<◌, ◌≤◌, ℕ, zero, suc, ◌+◌, ◌-◌, Bool, true, cond, min, List, [], ◌∷◌, ◌++◌, length, replicate, refl, sym, ap, ◌∙◌, arith}
+use Rattle.std.proofs.{lemmas.Bool.Decides.nat_tests, lemmas.List.length-append, lemmas.List.length-replicate}
 use Rattle.std.specs.Prelude.{◌&&◌, nat_lt, Option, Some, None}
-use Rattle.csicodec_overwrite.specs.{declared.cells.Cell.Cell, Cells.columns, Cells.onto, Cells.takes, Cells.trimmed}
-use Rattle.csicodec_overwrite.specs.{declared.cells.Cell.TheVariants.Empty, Private.Row.back, Private.Row.settled}
-use Rattle.csicodec_overwrite.specs.declared.{line.Line.Line, step.Step.Step}
 use Rattle.csicodec_overwrite.specs.Line.{alters, behind_columns, done, entered, forward, leave, line, over, size, standing, widest}
+use Rattle.csicodec_overwrite.specs.{declared.cells.Cell.Cell, Cells.columns, Cells.onto, Cells.takes, Cells.trimmed, declared.cells.Cell.TheVariants.Empty}
+use Rattle.csicodec_overwrite.specs.{Private.Row.back, Private.Row.settled, declared.line.Line.Line, declared.step.Step.Step}
 use Rattle.csicodec_overwrite.proofs.Moved.{back_zero, by_back, columns_both, columns_empty, columns_onto, takes_few}
 use Rattle.csicodec_overwrite.proofs.Room.{moved, over_size}
 

@@ -1,10 +1,9 @@
 -- Cells that are shifted, from the nearest on.
-use Rattle.std.proofs.Common.{◌≡◌, ℕ, ◌+◌, ◌<◌, ◌≤◌, Bool, true, false, cond, ◌==◌, List, [], ◌∷◌, ◌++◌, length}
-use Rattle.std.proofs.Common.{drop, get_or, reverse, set, take, refl, sym, ap, ◌∙◌, arith, append_assoc, append-nil}
-use Rattle.std.proofs.{Math.Seq.drop-length, lemmas.Grind.drop-set_at}
+use Rattle.std.proofs.Common.{◌≡◌, ℕ, ◌+◌, ◌<◌, ◌≤◌, Bool, true, false, cond, ◌==◌, List, [], ◌∷◌, ◌++◌, length, drop, get_or, reverse, set, take, refl, sym, ap, ◌∙◌, arith, append_assoc, append-nil}
 use Rattle.std.proofs.lemmas.List.{length-set, reverse-append, set-get_or, take-set-le, take-take, take_all, take_more}
-use Rattle.csicodec_overwrite.specs.declared.cells.Cell.{Cell, TheVariants.Char, TheVariants.Empty}
-use Rattle.csicodec_overwrite.specs.Cells.{columns, of_tab, shifted, takes, untabbed}
+use Rattle.std.proofs.{Math.Seq.drop-length, lemmas.Grind.drop-set_at}
+use Rattle.csicodec_overwrite.specs.{declared.cells.Cell.Cell, declared.cells.Cell.TheVariants.Char, declared.cells.Cell.TheVariants.Empty, Cells.columns}
+use Rattle.csicodec_overwrite.specs.{Cells.of_tab, Cells.shifted, Cells.takes, Cells.untabbed}
 
 stays : (x : Cell) → untabbed false x ≡ x
 stays Empty = refl

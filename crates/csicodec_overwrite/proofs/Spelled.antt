@@ -1,16 +1,15 @@
 -- The sequence of a look is one control sequence, and is read as a reset and its attributes.
-use Rattle.std.proofs.Common.{◌≡◌, ◌≤◌, ◌<◌, ◌+◌, ◌*◌, ◌-◌, ℕ, Bool, true, false, List, [], ◌∷◌, ◌++◌, length}
-use Rattle.std.proofs.Common.{length-append, take, drop, map, ⊎_elim, refl, sym, ap, subst, ◌∙◌, append_assoc, append-nil, arith}
+use Rattle.std.proofs.Common.{◌≡◌, ◌≤◌, ◌<◌, ◌+◌, ◌*◌, ◌-◌, ℕ, Bool, true, false, List, [], ◌∷◌, ◌++◌, length, length-append, take, drop, map, ⊎_elim, refl, sym, ap, subst, ◌∙◌, append_assoc, append-nil, arith}
 use Rattle.std.proofs.{Math.Seq.take-append_seam, lemmas.List.map-append}
 use Rattle.std.specs.{Prelude.codes, Prelude.not, List.AllByRecursion, List.flat_map}
-use Rattle.csicodec_tokens.specs.declared.param.CsiParam.{CsiParam, TheVariants.Integer, TheVariants.P}
+use Rattle.csicodec_tokens.specs.{declared.param.CsiParam.CsiParam, declared.param.CsiParam.TheVariants.Integer, declared.param.CsiParam.TheVariants.P}
 use Rattle.csicodec_tokens.specs.{Digits.IsDigit, Param.spells, Sequence.Seq, Sequence.Spellable, Sequence.Spells}
 use Rattle.csicodec_tokens.proofs.Printed.{printed}
-use Rattle.csicodec_names.specs.declared.color.{Intensity.Intensity, Underline.Underline}
+use Rattle.csicodec_names.specs.{declared.color.Intensity.Intensity, declared.color.Underline.Underline}
 use Rattle.csicodec_base.specs.{declared.sgr.Sgr.Sgr, SgrText.sgr_text}
 use Rattle.csicodec_actions.specs.Ranges.{SgrInRange}
-use Rattle.csicodec_parser.specs.{Canonical.IsCanonicalSgr, Segments.Actions}
-use Rattle.csicodec_parser.specs.{Cut.semicolon, Groups.group, Groups.has_odd, declared.group.Group.TheVariants.Styles}
+use Rattle.csicodec_parser.specs.{Canonical.IsCanonicalSgr, Segments.Actions, Cut.semicolon, Groups.group, Groups.has_odd}
+use Rattle.csicodec_parser.specs.{declared.group.Group.TheVariants.Styles}
 use Rattle.csicodec.specs.Compose.{EndsInSemicolon, IsStyleList}
 use Rattle.csicodec.proofs.Compose.{ends-joined, plain-joint, sgr_compose_lem, spellable-joined, spells-joined}
 use Rattle.csicodec.proofs.SgrSpelling.{sgr-spelling}

@@ -2,11 +2,10 @@
 use Rattle.std.proofs.Common.{◌≡◌, ℕ, List, [], ◌∷◌, ◌++◌, refl, sym, ap, subst, ◌∙◌, ⊎_elim, append_assoc, append-nil}
 use Rattle.std.specs.List.{concat}
 use Rattle.csicodec_filter.specs.Transform.{Begins, GoesOn, Sends, Transforms}
-use Rattle.csicodec_overwrite.specs.{declared.line.Line.Line, Paint.text_of, Paint.texts_of, Private.Seen.PassesFront}
-use Rattle.csicodec_overwrite.specs.{declared.marking.Marking.Marking, Reading.Shows, Reading.most, Reading.shown_by}
-use Rattle.csicodec_overwrite.specs.{declared.pen.Pen.Pen, declared.step.Step.Step, Cells.columns, Steps.of_run}
-use Rattle.csicodec_overwrite.specs.Line.{blank, cells_of, do_all, does, fresh, pen_behind, pen_behind_all}
-use Rattle.csicodec_overwrite.specs.Stream.{AreTaken, Ending, Now, Passes, Reads, begun_as, none_held}
+use Rattle.csicodec_overwrite.specs.{declared.line.Line.Line, Paint.text_of, Paint.texts_of, Private.Seen.PassesFront, declared.marking.Marking.Marking}
+use Rattle.csicodec_overwrite.specs.{Reading.Shows, Reading.most, Reading.shown_by, declared.pen.Pen.Pen, declared.step.Step.Step, Cells.columns, Steps.of_run}
+use Rattle.csicodec_overwrite.specs.{Line.blank, Line.cells_of, Line.do_all, Line.does, Line.fresh, Line.pen_behind, Line.pen_behind_all, Stream.AreTaken}
+use Rattle.csicodec_overwrite.specs.{Stream.Ending, Stream.Now, Stream.Passes, Stream.Reads, Stream.begun_as, Stream.none_held}
 use Rattle.csicodec_overwrite.proofs.{Read.reads_none, Read.reads_on, Read.whole_reads, Texts.texts_on}
 
 -- ---- steps, and then others

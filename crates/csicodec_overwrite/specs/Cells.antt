@@ -2,8 +2,8 @@
 use Rattle.std.specs.Prelude.{ℕ, ◌+◌, ◌-◌, ◌%◌, ◌==◌, nat_le, min, Bool, true, false, List, [], ◌∷◌, ◌++◌, replicate, unwrap_or, if◌then◌else◌, ◌||◌}
 use Rattle.unicode_width.specs.Width.{char_width}
 use Rattle.csicodec_html.specs.declared.look.Look.{Look}
-use Rattle.csicodec_overwrite.specs.declared.cells.{Cell.Cell, Glyph.Glyph}
-use Rattle.csicodec_overwrite.specs.declared.cells.Cell.TheVariants.{Behind, Char, Empty, Mark}
+use Rattle.csicodec_overwrite.specs.{declared.cells.Cell.Cell, declared.cells.Glyph.Glyph, declared.cells.Cell.TheVariants.Behind}
+use Rattle.csicodec_overwrite.specs.{declared.cells.Cell.TheVariants.Char, declared.cells.Cell.TheVariants.Empty, declared.cells.Cell.TheVariants.Mark}
 
 -- a character that looks so
 abbrev pub glyph : ℕ → Look → Glyph

@@ -2,10 +2,10 @@
 use Rattle.std.specs.Prelude.{ℕ, zero, suc, ◌+◌, ◌-◌, ◌*◌, ◌%◌, ◌≤◌, ◌==◌, nat_le, nat_lt, min, max, Bool, true, false, List, [], ◌∷◌, ◌++◌, length, replicate, MatchBool, Option, Some, None, if◌then◌else◌, ◌&&◌}
 use Rattle.std.specs.List.{list_all}
 use Rattle.csicodec_html.specs.Look.{behind, plain}
-use Rattle.csicodec_overwrite.specs.declared.{cells.Cell.Cell, cells.Glyph.Glyph, line.Line.Line, step.Step.Step}
-use Rattle.csicodec_overwrite.specs.declared.cells.Cell.TheVariants.{Behind, Char, Empty, Mark}
-use Rattle.csicodec_overwrite.specs.declared.pen.Pen.{Pen}
 use Rattle.csicodec_overwrite.specs.Cells.{begins_behind, columns, emptied, erased, glyph, gone, is_blank, onto, outside, shifted, takes, to_tab_stop, trimmed, width, without}
+use Rattle.csicodec_overwrite.specs.{declared.cells.Cell.Cell, declared.cells.Glyph.Glyph, declared.line.Line.Line, declared.step.Step.Step}
+use Rattle.csicodec_overwrite.specs.{declared.cells.Cell.TheVariants.Behind, declared.cells.Cell.TheVariants.Char, declared.cells.Cell.TheVariants.Empty}
+use Rattle.csicodec_overwrite.specs.{declared.cells.Cell.TheVariants.Mark, declared.pen.Pen.Pen}
 use Rattle.csicodec_overwrite.specs.declared.step.Step.TheVariants as step
 
 -- the cells left of the cursor and those right of it, on either side the nearest first

@@ -4,14 +4,14 @@ use Rattle.std.specs.Prelude.{ℕ, ◌-◌, Bool, true, false, not, List, [], �
 use Rattle.std.specs.List.{flat_map}
 use Rattle.csicodec_base.specs.{declared.sgr.Sgr.Sgr, SgrText.sgr_text}
 use Rattle.csicodec_actions.specs.Ranges.{ColorInRange}
-use Rattle.csicodec_html.specs.{declared.look.Look.Look, Look.is_default, Look.is_none, Look.is_normal, Look.plain}
-use Rattle.csicodec_html.specs.Page.{escaped, piece_texts}
-use Rattle.csicodec_overwrite.specs.{declared.cells.Cell.Cell, declared.marking.Marking.Marking, Cells.chars_of}
-use Rattle.csicodec_overwrite.specs.declared.cells.Cell.TheVariants.{Behind, Char, Empty, Mark}
-use Rattle.csicodec_overwrite.specs.declared.marking.Marking.TheVariants.{Page, Plain, Styled}
+use Rattle.csicodec_html.specs.{declared.look.Look.Look, Look.is_default, Look.is_none, Look.is_normal, Look.plain, Page.escaped, Page.piece_texts}
+use Rattle.csicodec_html.specs.{Page.turn as tags}
+use Rattle.csicodec_overwrite.specs.{declared.cells.Cell.Cell, declared.marking.Marking.Marking, Cells.chars_of, declared.cells.Cell.TheVariants.Behind}
+use Rattle.csicodec_overwrite.specs.{declared.cells.Cell.TheVariants.Char, declared.cells.Cell.TheVariants.Empty, declared.cells.Cell.TheVariants.Mark}
+use Rattle.csicodec_overwrite.specs.{declared.marking.Marking.TheVariants.Page, declared.marking.Marking.TheVariants.Plain}
+use Rattle.csicodec_overwrite.specs.{declared.marking.Marking.TheVariants.Styled}
 use Rattle.csicodec_base.specs.declared.sgr.Sgr.TheVariants as sgr
 use Rattle.csicodec_html.specs.contracts.look.LookPartialEq.TheImpl as look_eq
-use Rattle.csicodec_html.specs.Page.{turn as tags}
 
 -- what `==` says of two looks
 abbrev pub same : Look → Look → Bool

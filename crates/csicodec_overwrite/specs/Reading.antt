@@ -3,15 +3,13 @@
 use Rattle.std.specs.Prelude.{ℕ, ◌≡◌, false, List, [], ◌∷◌, ◌++◌}
 use Rattle.csicodec_actions.specs.Actions.{Action}
 use Rattle.csicodec_terminal.specs.Terminal.{IsTakenFor}
-use Rattle.csicodec_spans.specs.{declared.table.Kind.Kind, Parts.Part, Parts.AreFirstParts, Parts.IsUnsure}
-use Rattle.csicodec_spans.specs.declared.table.Mode.{Mode}
+use Rattle.csicodec_spans.specs.{declared.table.Kind.Kind, Parts.Part, Parts.AreFirstParts, Parts.IsUnsure, declared.table.Mode.Mode}
 use Rattle.csicodec_clean.specs.{Cleaned.longest, Titles.with_titles}
 use Rattle.csicodec_html.specs.declared.markup.Markup.{Markup}
-use Rattle.csicodec_overwrite.specs.{declared.marking.Marking.Marking, Paint.text_of, Paint.texts_of}
-use Rattle.csicodec_overwrite.specs.declared.marking.Marking.TheVariants.{Page, Plain, Styled}
-use Rattle.csicodec_overwrite.specs.declared.step.Step.{Step}
-use Rattle.csicodec_overwrite.specs.Line.{Done, blank, cells_of, do_all, fresh}
-use Rattle.csicodec_overwrite.specs.Steps.{of_escape, of_run, of_sequence, of_string, of_wrong}
+use Rattle.csicodec_overwrite.specs.{declared.marking.Marking.Marking, Paint.text_of, Paint.texts_of, declared.marking.Marking.TheVariants.Page}
+use Rattle.csicodec_overwrite.specs.{declared.marking.Marking.TheVariants.Plain, declared.marking.Marking.TheVariants.Styled, declared.step.Step.Step}
+use Rattle.csicodec_overwrite.specs.{Line.Done, Line.blank, Line.cells_of, Line.do_all, Line.fresh, Steps.of_escape, Steps.of_run, Steps.of_sequence}
+use Rattle.csicodec_overwrite.specs.{Steps.of_string, Steps.of_wrong}
 use Rattle.csicodec_spans.specs.declared.table.Kind.TheVariants as kind
 use Rattle.csicodec_spans.specs.declared.table.Mode.TheVariants as mode
 

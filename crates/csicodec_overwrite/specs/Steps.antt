@@ -2,12 +2,11 @@
 use Rattle.std.specs.Prelude.{ℕ, ◌==◌, ◌&&◌, ◌||◌, nat_lt, not, min, Bool, true, false, List, [], ◌∷◌, ◌++◌, length, slice_index, Some, None, if◌then◌else◌}
 use Rattle.std.specs.List.{flat_map, list_any}
 use Rattle.bstr.specs.Utf8.{lossy_chars}
-use Rattle.csicodec_tokens.specs.declared.param.CsiParam.{CsiParam, TheVariants.Integer, TheVariants.P}
-use Rattle.csicodec_names.specs.declared.{enums.EraseInDisplay.EraseInDisplay, modes.TerminalModeCode.TerminalModeCode}
-use Rattle.csicodec_names.specs.declared.{enums.EraseInLine.EraseInLine, modes.DecPrivateModeCode.DecPrivateModeCode}
-use Rattle.csicodec_actions.specs.{declared.cursor.Cursor.Cursor, declared.edit.Edit.Edit, Devices.Device}
-use Rattle.csicodec_actions.specs.declared.mode.{DecPrivateMode.DecPrivateMode, TerminalMode.TerminalMode, Mode.Mode}
-use Rattle.csicodec_actions.specs.Actions.{Action}
+use Rattle.csicodec_tokens.specs.{declared.param.CsiParam.CsiParam, declared.param.CsiParam.TheVariants.Integer, declared.param.CsiParam.TheVariants.P}
+use Rattle.csicodec_names.specs.{declared.enums.EraseInDisplay.EraseInDisplay, declared.modes.TerminalModeCode.TerminalModeCode}
+use Rattle.csicodec_names.specs.{declared.enums.EraseInLine.EraseInLine, declared.modes.DecPrivateModeCode.DecPrivateModeCode}
+use Rattle.csicodec_actions.specs.{declared.cursor.Cursor.Cursor, declared.edit.Edit.Edit, Devices.Device, declared.mode.DecPrivateMode.DecPrivateMode}
+use Rattle.csicodec_actions.specs.{declared.mode.TerminalMode.TerminalMode, declared.mode.Mode.Mode, Actions.Action}
 use Rattle.csicodec_clean.specs.Shown.{shown}
 use Rattle.csicodec_overwrite.specs.{Line.widest, declared.step.Step.Step}
 use Rattle.csicodec_names.specs.declared.enums.EraseInDisplay.TheVariants as display

@@ -1,12 +1,10 @@
 -- A stream as it comes, chunk by chunk.
-use Rattle.std.specs.Prelude.{ℕ, ◌≡◌, Bool, false, List, [], ◌∷◌, ◌++◌}
-use Rattle.std.specs.List.{concat}
+use Rattle.std.specs.{Prelude.ℕ, Prelude.◌≡◌, Prelude.Bool, Prelude.false, Prelude.List, Prelude.[], Prelude.◌∷◌, Prelude.◌++◌, List.concat}
 use Rattle.csicodec_spans.specs.{declared.table.Mode.Mode, Parts.Part, Parts.AreFirstParts, Parts.IsUnsure}
 use Rattle.csicodec_filter.specs.Transform.{GoesOn}
 use Rattle.csicodec_clean.specs.{Cleaned.longest, Shown.IsRead, Titles.title_open, Titles.with_titles}
-use Rattle.csicodec_overwrite.specs.{declared.line.Line.Line, Line.blank, Line.do_all, Line.fresh, Line.pen_behind_all}
-use Rattle.csicodec_overwrite.specs.declared.{marking.Marking.Marking, marking.Marking.TheVariants.Plain, pen.Pen.Pen}
-use Rattle.csicodec_overwrite.specs.{declared.step.Step.Step, Steps.of_chars, Steps.of_run}
+use Rattle.csicodec_overwrite.specs.{declared.line.Line.Line, Line.blank, Line.do_all, Line.fresh, Line.pen_behind_all, declared.marking.Marking.Marking}
+use Rattle.csicodec_overwrite.specs.{declared.marking.Marking.TheVariants.Plain, declared.pen.Pen.Pen, declared.step.Step.Step, Steps.of_chars, Steps.of_run}
 use Rattle.csicodec_overwrite.specs.{Paint.texts_of, Reading.AreOfParts, Reading.Shows, Reading.most, Reading.shown_by}
 use Rattle.csicodec_spans.specs.declared.table.Mode.TheVariants as mode
 

@@ -1,8 +1,7 @@
 -- Control sequences that do no more than to set how characters look, and what is written for them between characters.
 use Rattle.std.specs.Prelude.{ℕ, ◌≡◌, List, [], ◌∷◌}
 use Rattle.csicodec_html.specs.{declared.look.Look.Look, Look.behind}
-use Rattle.csicodec_overwrite.specs.{declared.marking.Marking.Marking, Paint.turn, Stream.Reads, Stream.none_held}
-use Rattle.csicodec_overwrite.specs.declared.step.Step.{Step}
+use Rattle.csicodec_overwrite.specs.{declared.marking.Marking.Marking, Paint.turn, Stream.Reads, Stream.none_held, declared.step.Step.Step}
 use Rattle.csicodec_overwrite.specs.declared.step.Step.TheVariants as step
 
 -- a step that does no more than to set how characters look, where nothing stands right of the cursor

@@ -1,12 +1,11 @@
 -- The front of a line that is written as it comes. No promise rests on this file.
-use Rattle.std.specs.Prelude.{ℕ, ◌≡◌, ◌≤◌, ◌*◌, List, [], ◌∷◌, ◌++◌, drop, length, take}
-use Rattle.std.specs.List.{prefix_len}
+use Rattle.std.specs.{Prelude.ℕ, Prelude.◌≡◌, Prelude.◌≤◌, Prelude.◌*◌, Prelude.List, Prelude.[], Prelude.◌∷◌, Prelude.◌++◌, Prelude.drop, Prelude.length}
+use Rattle.std.specs.{Prelude.take, List.prefix_len}
 use Rattle.csicodec_html.specs.{declared.look.Look.Look, Look.plain}
-use Rattle.csicodec_overwrite.specs.{declared.cells.Cell.Cell, Line.blank, Line.do_all, Line.line, Line.pen_behind_all}
-use Rattle.csicodec_overwrite.specs.{declared.front.LineFront.LineFront, Paint.look_of, Paint.turn, Paint.written}
-use Rattle.csicodec_overwrite.specs.{declared.marking.Marking.Marking, Cells.chars_of, Stream.Reads, Stream.none_held}
-use Rattle.csicodec_overwrite.specs.{declared.pen.Pen.Pen, declared.step.Step.Step, Turned.Sets}
-use Rattle.csicodec_overwrite.specs.{Reading.most, Private.Plain.AreFull, Private.Plain.closed, Private.Plain.line_byte}
+use Rattle.csicodec_overwrite.specs.{declared.cells.Cell.Cell, Line.blank, Line.do_all, Line.line, Line.pen_behind_all, declared.front.LineFront.LineFront}
+use Rattle.csicodec_overwrite.specs.{Paint.look_of, Paint.turn, Paint.written, declared.marking.Marking.Marking, Cells.chars_of, Stream.Reads, Stream.none_held}
+use Rattle.csicodec_overwrite.specs.{declared.pen.Pen.Pen, declared.step.Step.Step, Turned.Sets, Reading.most, Private.Plain.AreFull, Private.Plain.closed}
+use Rattle.csicodec_overwrite.specs.{Private.Plain.line_byte}
 
 -- how the last character looks, where text of one look comes behind a character of another
 abbrev pub last_of_run : Look → Look → List ℕ → Look

@@ -3,9 +3,8 @@ use Rattle.std.specs.Prelude.{ℕ, ◌≡◌, ◌≤◌, ◌==◌, ◌&&◌, ◌
 use Rattle.std.specs.List.{AllByRecursion}
 use Rattle.csicodec_clean.specs.Bytes.{IsPlainByte}
 use Rattle.csicodec_html.specs.{Look.plain, declared.look.Look.Look}
-use Rattle.csicodec_overwrite.specs.{declared.cells.Cell.Cell, declared.line.Line.Line, Cells.glyph, Cells.is_empty}
-use Rattle.csicodec_overwrite.specs.{declared.cells.Cell.TheVariants.Char, Line.do_all, Line.pen_behind_all}
-use Rattle.csicodec_overwrite.specs.{declared.pen.Pen.Pen, Steps.of_chars}
+use Rattle.csicodec_overwrite.specs.{declared.cells.Cell.Cell, declared.line.Line.Line, Cells.glyph, Cells.is_empty, declared.cells.Cell.TheVariants.Char}
+use Rattle.csicodec_overwrite.specs.{Line.do_all, Line.pen_behind_all, declared.pen.Pen.Pen, Steps.of_chars}
 
 -- characters are put in place of others, without attributes that are painted
 abbrev pub PutsPlain : Bool → Pen → Type 0

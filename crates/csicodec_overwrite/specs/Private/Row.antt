@@ -1,8 +1,8 @@
 -- A cursor that is still to go to its column. No promise rests on this file.
 use Rattle.std.specs.Prelude.{ℕ, ◌≡◌, ◌++◌, ◌-◌, ◌==◌, Option, Some, None, ⊤, List, [], ◌∷◌, if◌then◌else◌}
-use Rattle.csicodec_overwrite.specs.declared.{cells.Cell.Cell, line.Line.Line, marking.Marking.Marking, step.Step.Step}
-use Rattle.csicodec_overwrite.specs.{declared.pen.Pen.Pen, Cells.takes, Paint.texts_of, Reading.most}
-use Rattle.csicodec_overwrite.specs.Line.{Done, behind_columns, do_all, line, pen_behind_all}
+use Rattle.csicodec_overwrite.specs.{declared.cells.Cell.Cell, declared.line.Line.Line, declared.marking.Marking.Marking, declared.step.Step.Step}
+use Rattle.csicodec_overwrite.specs.{declared.pen.Pen.Pen, Cells.takes, Paint.texts_of, Reading.most, Line.Done, Line.behind_columns, Line.do_all, Line.line}
+use Rattle.csicodec_overwrite.specs.{Line.pen_behind_all}
 use Rattle.csicodec_overwrite.specs.declared.step.Step.TheVariants as step
 
 -- behind so many columns, or where it is

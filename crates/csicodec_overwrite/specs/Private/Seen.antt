@@ -1,7 +1,6 @@
 -- What a table of slices that came before holds, and what is taken of a slice. No promise rests on this file.
 use Rattle.std.specs.{Prelude.ℕ, Prelude.◌≡◌, Prelude.List, Prelude.◌++◌, List.All}
-use Rattle.csicodec_overwrite.specs.declared.seen.Slice.{Slice}
-use Rattle.csicodec_overwrite.specs.Stream.{Now, Passes, Reads, none_held}
+use Rattle.csicodec_overwrite.specs.{declared.seen.Slice.Slice, Stream.Now, Stream.Passes, Stream.Reads, Stream.none_held}
 
 -- the steps are those of the bytes
 abbrev pub IsSlice : Slice → Type 0

@@ -1,8 +1,8 @@
 -- Cells that go from one side of the cursor to the other. No promise rests on this file.
 use Rattle.std.specs.Prelude.{ℕ, zero, suc, ◌≡◌, ◌-◌, ◌*◌, min, Bool, false, List, ◌∷◌, ◌++◌, length, replicate, reverse, if◌then◌else◌}
-use Rattle.csicodec_overwrite.specs.{declared.cells.Cell.Cell, declared.line.Line.Line, Private.Row.back}
-use Rattle.csicodec_overwrite.specs.declared.cells.{Cell.TheVariants.Behind, Cell.TheVariants.Char, Glyph.Glyph}
-use Rattle.csicodec_overwrite.specs.{Cells.columns, Cells.gone, Cells.shifted, Line.line, Line.over, Line.parted}
+use Rattle.csicodec_overwrite.specs.{declared.cells.Cell.Cell, declared.line.Line.Line, Private.Row.back, declared.cells.Cell.TheVariants.Behind}
+use Rattle.csicodec_overwrite.specs.{declared.cells.Cell.TheVariants.Char, declared.cells.Glyph.Glyph, Cells.columns, Cells.gone, Cells.shifted, Line.line}
+use Rattle.csicodec_overwrite.specs.{Line.over, Line.parted}
 
 -- of the cells left of the cursor, the farthest first, so many stay where it goes so many columns to the left
 abbrev pub PassesBack : List Cell → ℕ → ℕ → Type 0

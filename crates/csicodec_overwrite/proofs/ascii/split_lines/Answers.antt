@@ -1,6 +1,6 @@
 use Rattle.std.proofs.Common.{◌≡◌, ◌++◌, ◌∷◌, [], drop, length, length-append, sym, ap, subst, ◌∙◌, append_assoc, take-append-drop, arith}
-use Rattle.std.specs.List.{AllByRecursion, prefix_len}
 use Rattle.std.proofs.Math.Seq.{drop-append_seam}
+use Rattle.std.specs.List.{AllByRecursion, prefix_len}
 use Rattle.csicodec_tokens.proofs.Runs.{All-front}
 use Rattle.csicodec_clean.specs.Bytes.{IsPlainByte, plain_byte}
 use Rattle.csicodec_clean.proofs.Bytes.{front_in}

@@ -1,10 +1,8 @@
 use Rattle.std.proofs.Common.{◌≡◌, ◌∙◌, true, sym, rules, subst, arith}
-use Rattle.csicodec_html.specs.Turns.{AreTurns}
+use Rattle.csicodec_html.specs.{Turns.AreTurns, Look.plain}
 use Rattle.csicodec_html.proofs.Recalled.{same_look}
-use Rattle.csicodec_html.specs.Look.{plain}
 use Rattle.csicodec_overwrite.specs.Turned.{Turned}
-use Rattle.csicodec_overwrite.proofs.Fronts.{front_begins, run_written, styled_written}
-use Rattle.csicodec_overwrite.proofs.Straight.{split_line}
+use Rattle.csicodec_overwrite.proofs.{Fronts.front_begins, Fronts.run_written, Fronts.styled_written, Straight.split_line}
 use Rattle.csicodec_overwrite.proofs.front.append_shown.Goals as goal
 
 pub returns-then-behind-front-clause-written : goal.returns-then-behind-front-clause-written

@@ -1,10 +1,10 @@
-use Rattle.std.proofs.Common.{◌≡◌, ◌++◌, ◌∙◌, List, ℕ, [], ◌∷◌, ⊎_elim, ap, encode_utf8_all, sym}
-use Rattle.std.proofs.lemmas.Result.{on_ok_weaker}
+use Rattle.std.proofs.{Common.◌≡◌, Common.◌++◌, Common.◌∙◌, Common.List, Common.ℕ, Common.[], Common.◌∷◌, Common.⊎_elim, Common.ap, Common.encode_utf8_all}
+use Rattle.std.proofs.{Common.sym, lemmas.Result.on_ok_weaker}
 use Rattle.std.specs.List.{AllByRecursion}
 use Rattle.csicodec_clean.specs.{Bytes.IsPlainByte, Shown.IsShown}
 use Rattle.csicodec_clean.proofs.Told.{encoded, is_shown}
-use Rattle.csicodec_overwrite.specs.declared.marking.Marking.{Marking, TheVariants.Plain, TheVariants.Styled}
-use Rattle.csicodec_overwrite.specs.Paint.{written}
+use Rattle.csicodec_overwrite.specs.{declared.marking.Marking.Marking, declared.marking.Marking.TheVariants.Plain, declared.marking.Marking.TheVariants.Styled}
+use Rattle.csicodec_overwrite.specs.{Paint.written}
 use Rattle.csicodec_overwrite.proofs.paint.append_ascii.Goals as goal
 
 all_shown : (bs : List ℕ) → AllByRecursion IsPlainByte bs → AllByRecursion IsShown bs

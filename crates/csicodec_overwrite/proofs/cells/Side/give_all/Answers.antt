@@ -1,5 +1,4 @@
-use Rattle.std.proofs.Common.{[], ◌∙◌, ap, arith, refl, reverse, sym}
-use Rattle.std.proofs.lemmas.List.{reverse-reverse}
+use Rattle.std.proofs.{Common.[], Common.◌∙◌, Common.ap, Common.arith, Common.refl, Common.reverse, Common.sym, lemmas.List.reverse-reverse}
 use Rattle.csicodec_overwrite.specs.Cells.{columns}
 use Rattle.csicodec_overwrite.proofs.Moved.{columns_back, onto_is}
 use Rattle.csicodec_overwrite.proofs.cells.Side.give_all.Goals as goal

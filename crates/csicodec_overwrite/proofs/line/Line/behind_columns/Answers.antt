@@ -1,7 +1,6 @@
 use Rattle.std.proofs.Common.{◌≡◌, ◌-◌, ◌∙◌, ap, rules, subst}
 use Rattle.std.specs.Prelude.{OnOk}
-use Rattle.csicodec_overwrite.specs.{declared.line.Line.Line, Cells.columns, Line.forward, Line.line, Private.Row.back}
-use Rattle.csicodec_overwrite.specs.Reading.{most}
+use Rattle.csicodec_overwrite.specs.{declared.line.Line.Line, Cells.columns, Line.forward, Line.line, Private.Row.back, Reading.most}
 use Rattle.csicodec_overwrite.proofs.Moved.{by_back}
 use Rattle.csicodec_overwrite.proofs.line.Line.behind_columns.Goals as goal
 

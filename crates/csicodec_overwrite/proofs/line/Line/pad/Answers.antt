@@ -1,5 +1,4 @@
-use Rattle.std.proofs.Common.{◌≤◌, ◌+◌, ◌∙◌, ap, arith, sym}
-use Rattle.std.proofs.lemmas.Bool.Decides.{nat_tests}
+use Rattle.std.proofs.{Common.◌≤◌, Common.◌+◌, Common.◌∙◌, Common.ap, Common.arith, Common.sym, lemmas.Bool.Decides.nat_tests}
 use Rattle.csicodec_overwrite.specs.{Cells.columns, Line.behind_columns, Private.Row.settled, Reading.most}
 use Rattle.csicodec_overwrite.proofs.Rows.{settled_again}
 use Rattle.csicodec_overwrite.proofs.line.Line.pad.Goals as goal

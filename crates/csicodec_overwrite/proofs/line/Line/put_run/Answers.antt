@@ -1,7 +1,6 @@
 use Rattle.std.proofs.Common.{[], ◌∷◌, ◌∙◌, List, ℕ, ap, arith, length, length-append, subst, sym}
 use Rattle.std.specs.Prelude.{Option, Some}
-use Rattle.csicodec_overwrite.specs.{declared.cells.Cell.Cell, Line.line, Private.Plain.PutsRun, Private.Plain.last_of}
-use Rattle.csicodec_overwrite.specs.Reading.{most}
+use Rattle.csicodec_overwrite.specs.{declared.cells.Cell.Cell, Line.line, Private.Plain.PutsRun, Private.Plain.last_of, Reading.most}
 use Rattle.csicodec_overwrite.proofs.Straight.{last_is, run_all, run_none}
 use Rattle.csicodec_overwrite.proofs.line.Line.put_run.Goals as goal
 

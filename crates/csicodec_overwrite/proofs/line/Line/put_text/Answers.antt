@@ -1,7 +1,6 @@
 use Rattle.std.proofs.Common.{◌≡◌, ◌++◌, ◌∷◌, ap, sym, ◌∙◌}
-use Rattle.csicodec_overwrite.specs.{declared.line.Line.Line, Cells.columns, Paint.texts_of, Steps.of_chars}
-use Rattle.csicodec_overwrite.specs.Line.{Done, do_all, does, does_here, entered, pen_behind}
-use Rattle.csicodec_overwrite.specs.Reading.{most}
+use Rattle.csicodec_overwrite.specs.{declared.line.Line.Line, Cells.columns, Paint.texts_of, Steps.of_chars, Line.Done, Line.do_all, Line.does, Line.does_here}
+use Rattle.csicodec_overwrite.specs.{Line.entered, Line.pen_behind, Reading.most}
 use Rattle.csicodec_overwrite.proofs.Moved.{both_texts, step_text}
 use Rattle.csicodec_overwrite.proofs.line.Line.put_text.Goals as goal
 

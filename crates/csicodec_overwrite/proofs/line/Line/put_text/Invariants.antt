@@ -1,7 +1,6 @@
 use Rattle.std.proofs.Common.{◌≡◌, ◌++◌, length}
 use Rattle.std.specs.List.{AllByRecursion}
-use Rattle.csicodec_overwrite.specs.{Line.do_all, Line.pen_behind_all, Paint.texts_of, Private.Plain.IsLineByte}
-use Rattle.csicodec_overwrite.specs.{Steps.of_chars, Reading.most}
+use Rattle.csicodec_overwrite.specs.{Line.do_all, Line.pen_behind_all, Paint.texts_of, Private.Plain.IsLineByte, Steps.of_chars, Reading.most}
 use Rattle.csicodec_overwrite.proofs.line.Line.put_text.Given as goal
 
 -- the characters up to here are put

@@ -1,9 +1,8 @@
 use Rattle.std.proofs.Common.{subst, ◌≡◌, ◌<◌, ◌-◌, ◌++◌, ◌==◌, [], List, ℕ, append-nil, false, ap, refl, sym, ◌∙◌, arith, rules}
 use Rattle.std.proofs.lemmas.Bool.Decides.{nat_tests}
 use Rattle.std.specs.Prelude.{Option}
-use Rattle.csicodec_overwrite.specs.{declared.line.Line.Line, declared.marking.Marking.Marking, Paint.texts_of}
-use Rattle.csicodec_overwrite.specs.{Cells.glyph, Reading.most}
-use Rattle.csicodec_overwrite.specs.{Line.Done, Line.done, Line.put, Line.repeat, Line.repeated, Private.Row.Does}
+use Rattle.csicodec_overwrite.specs.{declared.line.Line.Line, declared.marking.Marking.Marking, Paint.texts_of, Cells.glyph, Reading.most, Line.Done, Line.done}
+use Rattle.csicodec_overwrite.specs.{Line.put, Line.repeat, Line.repeated, Private.Row.Does}
 use Rattle.csicodec_overwrite.proofs.{Moved.repeat_on, Moved.step_text, Repeated.repeat_some, Repeated.width_same}
 use Rattle.csicodec_overwrite.proofs.line.Line.repeat.Goals as goal
 

@@ -1,6 +1,5 @@
-use Rattle.std.proofs.Common.{◌≡◌, ◌<◌, ◌∙◌, arith, false, length, refl, sym}
+use Rattle.std.proofs.{Common.◌≡◌, Common.◌<◌, Common.◌∙◌, Common.arith, Common.false, Common.length, Common.refl, Common.sym, lemmas.Bool.Decides.nat_tests}
 use Rattle.std.specs.Prelude.{◌==◌}
-use Rattle.std.proofs.lemmas.Bool.Decides.{nat_tests}
 use Rattle.csicodec_overwrite.proofs.Written.{pushed}
 use Rattle.csicodec_overwrite.proofs.overwriter.Overwriter.take_known.Goals as goal
 

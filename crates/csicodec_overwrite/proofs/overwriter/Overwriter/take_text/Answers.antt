@@ -1,7 +1,6 @@
 use Rattle.std.proofs.Common.{[], append-nil, refl, sym}
 use Rattle.csicodec_overwrite.specs.Steps.{of_chars}
-use Rattle.csicodec_overwrite.proofs.Straight.{lines_plain, reads_plain, split_line}
-use Rattle.csicodec_overwrite.proofs.Written.{passes_none, pushed}
+use Rattle.csicodec_overwrite.proofs.{Straight.lines_plain, Straight.reads_plain, Straight.split_line, Written.passes_none, Written.pushed}
 use Rattle.csicodec_overwrite.proofs.overwriter.Overwriter.take_text.Goals as goal
 
 pub put_text-requires : goal.put_text-requires

@@ -1,5 +1,4 @@
-use Rattle.std.proofs.Common.{◌≡◌, [], ◌∙◌, sym, append-nil, arith}
-use Rattle.std.proofs.lemmas.Grind.{common_steps}
+use Rattle.std.proofs.{Common.◌≡◌, Common.[], Common.◌∙◌, Common.sym, Common.append-nil, Common.arith, lemmas.Grind.common_steps}
 use Rattle.csicodec_spans.proofs.Spanned.{rest_is}
 use Rattle.csicodec_overwrite.proofs.Read.{reads_from, reads_nothing}
 use Rattle.csicodec_overwrite.proofs.reader.Reader.read.Goals as goal

@@ -1,6 +1,5 @@
 use Rattle.std.proofs.Common.{◌≡◌, ◌++◌, ◌∷◌, ap, ◌∙◌}
-use Rattle.csicodec_overwrite.specs.{Cells.columns, Line.do_all, Line.does, Line.pen_behind, Steps.of_chars}
-use Rattle.csicodec_overwrite.specs.Reading.{most}
+use Rattle.csicodec_overwrite.specs.{Cells.columns, Line.do_all, Line.does, Line.pen_behind, Steps.of_chars, Reading.most}
 use Rattle.csicodec_overwrite.proofs.Moved.{step_text}
 use Rattle.csicodec_overwrite.proofs.row.Row.put_bytes.Goals as goal
 

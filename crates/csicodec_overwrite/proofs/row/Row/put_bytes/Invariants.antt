@@ -1,7 +1,6 @@
 use Rattle.std.proofs.Common.{◌≡◌, ◌++◌, length}
 use Rattle.std.specs.List.{AllByRecursion}
-use Rattle.csicodec_overwrite.specs.{Line.do_all, Line.pen_behind_all, Paint.texts_of, Private.Plain.IsLineByte}
-use Rattle.csicodec_overwrite.specs.{Reading.most, Steps.of_chars}
+use Rattle.csicodec_overwrite.specs.{Line.do_all, Line.pen_behind_all, Paint.texts_of, Private.Plain.IsLineByte, Reading.most, Steps.of_chars}
 use Rattle.csicodec_overwrite.proofs.row.Row.put_bytes.Given as goal
 
 -- the steps up to here are done

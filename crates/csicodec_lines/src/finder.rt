@@ -1,8 +1,9 @@
 //! A stream that is searched as it comes.
-ghost use Rattle.std.specs.Prelude.{◌≡◌, ◌++◌, ℕ, List, OnOk, IfOk};
+ghost use Rattle.std.specs.Prelude.{IfOk};
 ghost use Rattle.csicodec_spans.specs.Parts.{IsUnsure};
+ghost use Rattle.csicodec_filter.specs.Written.{Appends, open_at};
 ghost use Rattle.csicodec_clean.specs.Cleaned.{longest};
-ghost use Rattle.csicodec_lines.specs.Private.Finder.{Goes, IsBegun};
+ghost use Rattle.csicodec_lines.specs.Private.Finder.{Finds, IsBegun};
 
 use crate::search::CutSearch;
 use csicodec_clean::{read_as, title_behind};
@@ -18,11 +19,10 @@ fn append_places<'a>(
     bytes: &'a [u8],
     out: &mut Vec<u8>,
 ) -> Result<(&'a [u8], Mode), AllocError>
-    ensures parts { IfOk result (λ (rest, after). (front : List ℕ) × (bytes.now ≡ front ++ rest.now)) }
     ensures unsure { IfOk result (λ (rest, after). IsUnsure longest after rest.now) }
-    ensures goes { IfOk result (λ (rest, after). (text : List ℕ)
-        × Goes mode titled.old search.old bytes.now text rest.now after titled.new search.new
-        × (out.new.items ≡ out.old.items ++ text)) }
+    ensures found { IfOk result (λ (rest, after). Appends Finds
+        (open_at (search.old, titled.old) longest mode bytes.now) out.old.items out.new.items
+        (open_at (search.new, titled.new) longest after rest.now)) }
 {
     let (mut rest, mut mode) = (bytes, mode);
     while let Some(cut) = next_span(LIMIT, mode, rest) {

@@ -1,5 +1,6 @@
-use Rattle.std.proofs.Common.{refl}
+use Rattle.std.proofs.Common.{ap}
 use Rattle.std.proofs.lemmas.Result.{on_err_weaker, on_ok_weaker}
+use Rattle.csicodec_filter.specs.Filter.{Held}
 use Rattle.csicodec_filter.specs.Transform.{Sends, Transforms}
 use Rattle.csicodec_filter.proofs.Sent.{whole_front}
 use Rattle.csicodec_clean.specs.Stream.{IsFrontOf}
@@ -9,7 +10,7 @@ use Rattle.csicodec_lines.proofs.Going.{Quiet, begun, front, shorter, tells, who
 use Rattle.csicodec_lines.proofs.cuts.cuts_all.Goals as goal
 
 pub transform_all-requires-clause-stands : goal.transform_all-requires-clause-stands
-transform_all-requires-clause-stands g c = rw c.new.ensures.waiting refl
+transform_all-requires-clause-stands g c = ap (λ (h : Held _). h.limit) c.new.ensures.1
 
 pub transform_all-requires-clause-begun : goal.transform_all-requires-clause-begun
 transform_all-requires-clause-begun g c = begun c.args.every c.new.result c.new.ensures
@@ -27,6 +28,6 @@ returns-clause-front g c =
     let is = c.new.ensures in
     on_err_weaker c.transform_all.result
     (λ (bytes, more, sent, consumed, begins, appended).
-    whole_front (Sends Passes first) (Transforms Passes Quiet first) (IsFrontOf (Tells every)) (shorter every first is)
+    whole_front (Sends Passes first) (Transforms Passes Quiet first) (IsFrontOf (Tells every)) (shorter (Tells every))
     (front every first is) (whole_text every first is) bytes more sent _ _ _ _ consumed begins appended)
     c.transform_all.ensures.front

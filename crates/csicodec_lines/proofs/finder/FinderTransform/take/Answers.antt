@@ -1,8 +1,9 @@
-use Rattle.std.proofs.Common.{◌≡◌, [], ◌-◌, drop, length, refl, sym, append-nil, arith}
+use Rattle.std.proofs.Common.{◌≡◌, ◌-◌, drop, length, refl, arith}
 use Rattle.std.proofs.lemmas.Grind.{common_steps}
-use Rattle.csicodec_spans.proofs.Spanned.{rest_is}
+use Rattle.csicodec_filter.proofs.Written.{appends_none, left_is, left_within}
 use Rattle.csicodec_lines.specs.declared.finder.Finder.{Finder}
-use Rattle.csicodec_lines.proofs.Going.{goes_none, takes}
+use Rattle.csicodec_lines.specs.Private.Finder.{Finds}
+use Rattle.csicodec_lines.proofs.Going.{takes}
 use Rattle.csicodec_lines.proofs.finder.FinderTransform.take.Goals as goal
 
 pub returns-in_default-clause-passes : goal.returns-in_default-clause-passes
@@ -10,27 +11,29 @@ returns-in_default-clause-passes c =
     let (same, unsure) = rw c.in_default.is at c.in_ok-all.ensures.all in
     let old = c.args.self.now in
     let new : Finder = record { search = old.search; titled = old.titled; waiting = c.add.new.self } in
-    ([], takes old new c.args.bytes.now [] (rw same (rw c.requires at unsure)) (rw same (goes_none old.waiting.mode old.titled old.search _)), sym (append-nil c.args.out.now.items))
+    takes old new c.args.bytes.now _ _ (rw same unsure) (rw same (appends_none Finds _ c.args.out.now.items))
+
+pub overflow_sub-used : goal.overflow_sub-used
+overflow_sub-used c =
+    let within = left_within Finds _ _ _ _ c.in_ok-rest.ensures.found in
+    grind (arith, common_steps, c.deref.ensures.value, c.len.ensures, within)
 
 pub keep-requires-clause-unsure : goal.keep-requires-clause-unsure
 keep-requires-clause-unsure c =
     let (taken, whole) = rw c.in-Some.is at c.in_ok-all.ensures.all in
     let rest = c.in_ok-rest.rest.now in
-    let kept = rest_is c.deref.result.now c.in_ok-rest.ensures.parts.0 rest c.in_ok-rest.ensures.parts.1 in
+    let kept = left_is Finds _ _ _ _ c.in_ok-rest.ensures.found in
     let same : drop (c.len.result - length rest) c.in-Some.all.items ≡ rest = grind (arith, common_steps, c.deref.ensures.value, c.len.ensures, kept) in
     rw (same, taken, c.requires) c.in_ok-rest.ensures.unsure
 
 pub returns-clause-passes : goal.returns-clause-passes
 returns-clause-passes c =
     let (taken, whole) = rw c.in-Some.is at c.in_ok-all.ensures.all in
-    let (more, goes, out) = c.in_ok-rest.ensures.goes in
     let rest = c.in_ok-rest.rest.now in
-    let kept = rest_is c.deref.result.now c.in_ok-rest.ensures.parts.0 rest c.in_ok-rest.ensures.parts.1 in
+    let kept = left_is Finds _ _ _ _ c.in_ok-rest.ensures.found in
     let same : c.keep.new.self.bytes ≡ rest = grind (arith, common_steps, c.keep.ensures, c.deref.ensures.value, c.len.ensures, kept) in
     let mode : c.keep.new.self.mode ≡ c.in_ok-rest.mode = rw c.keep.ensures refl in
-    let new : Finder = record { search = c.append_places.new.search; titled = c.append_places.new.titled; waiting = c.keep.new.self } in (
-      more,
-      takes c.args.self.now new c.args.bytes.now more (rw (same, mode) c.in_ok-rest.ensures.unsure)
-          (rw (same, mode) (rw (c.mode.ensures, taken, c.deref.ensures.value, whole) at goes)),
-      out,
-    )
+    let limit : c.keep.new.self.limit ≡ c.args.self.now.waiting.limit = rw (c.keep.ensures, taken) refl in
+    let new : Finder = record { search = c.append_places.new.search; titled = c.append_places.new.titled; waiting = c.keep.new.self } in
+    takes c.args.self.now new c.args.bytes.now _ _ (rw (same, mode, c.requires) c.in_ok-rest.ensures.unsure)
+    (rw (limit, same, mode, c.requires) (rw (c.mode.ensures, taken, c.deref.ensures.value, whole) at c.in_ok-rest.ensures.found))

@@ -1,9 +1,9 @@
 -- Text that any line leaves as it is.
-use Rattle.std.proofs.Common.{◌≡◌, ◌<◌, ◌≤◌, ℕ, Bool, true, false, List, [], ◌∷◌, ◌++◌, length, length-append, encode_utf8_all, refl, sym, ap, subst, ◌∙◌, append-nil, arith, ⊎_elim, inl, inr, lt-ltb, le-ltb}
+use Rattle.std.proofs.Common.{◌≡◌, ◌<◌, ◌≤◌, ℕ, Bool, true, false, List, [], ◌∷◌, ◌++◌, length, length-append, encode_utf8_all, refl, sym, ap, subst, ◌∙◌, append-nil, arith}
 use Rattle.std.specs.Char.{encode_utf8}
 use Rattle.std.specs.List.{AllByRecursion}
 use Rattle.std.specs.Str.{all_scalars}
-use Rattle.std.proofs.lemmas.Bool.{and_from, and_parts, cases_lt}
+use Rattle.std.proofs.lemmas.Bool.{and_from, and_parts}
 use Rattle.std.proofs.lemmas.Bool.Decides.{nat_tests}
 use Rattle.std.proofs.lemmas.List.{nil_from_length}
 use lib.Utf8.{scalar}
@@ -21,9 +21,6 @@ use Rattle.csicodec_lines.specs.Lines.{IsWithin, ends_line}
 use Rattle.csicodec_lines.specs.Stream.{Ending, Passes}
 use Rattle.csicodec_lines.proofs.Taken.{goes_over, goes_within}
 
-high : (b : ℕ) → 128 ≤ b → IsWithin b
-high b far = grind (arith, nat_tests)
-
 -- what got no longer is as it was
 pub unchanged : (before more after : List ℕ) → after ≡ before ++ more → length after ≤ length before → after ≡ before
 unchanged before more after out few = rw (out, nil_from_length more (omega (arith, ap length out, length-append before more, few))) (append-nil before)
@@ -35,27 +32,10 @@ some_encoded : (c : ℕ) → 0 < length (encode_utf8 c)
 unfolding encode_utf8
 some_encoded c = grind (arith, nat_tests)
 
--- a byte of a character that is no ASCII
-abbrev IsFar : ℕ → Type 0
-IsFar b = 128 ≤ b
-
-all_far : (c : ℕ) → 128 ≤ c → AllByRecursion IsFar (encode_utf8 c)
-unfolding encode_utf8
-all_far c a = elim (cases_lt c 2048) [
-  | inl b ↦ rw (le-ltb c 128 a, lt-ltb c 2048 b) (omega arith, (omega arith, tt))
-  | inr b ↦ elim (cases_lt c 65536) [
-    | inl d ↦ rw (le-ltb c 128 a, le-ltb c 2048 b, lt-ltb c 65536 d) (omega arith, (omega arith, (omega arith, tt)))
-    | inr d ↦ rw (le-ltb c 128 a, le-ltb c 2048 b, le-ltb c 65536 d) (omega arith, (omega arith, (omega arith, (omega arith, tt))))
-  ]
-]
-
-far_within : (bs : List ℕ) → AllByRecursion IsFar bs → AllByRecursion IsWithin bs
-far_within [] all = tt
-far_within (b ∷ bs) all = (high b all.0, far_within bs all.1)
-
 -- the bytes of a character that ends no line end none
 within : (c : ℕ) → ends_line c ≡ false → AllByRecursion IsWithin (encode_utf8 c)
-within c other = ⊎_elim (λ (a : c < 128). subst (AllByRecursion IsWithin) (sym (alone c a)) (other, tt)) (λ (a : 128 ≤ c). far_within (encode_utf8 c) (all_far c a)) (cases_lt c 128)
+unfolding encode_utf8
+within c other = grind (arith, nat_tests)
 
 one_char : (c : ℕ) → IsShown c → scalar c ≡ true → IsPlain (encode_utf8 c)
 one_char c shown is = (c ∷ [], and_from (scalar c) true is refl, (shown, tt), sym (append-nil (encode_utf8 c)))

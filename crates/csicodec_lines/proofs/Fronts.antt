@@ -1,7 +1,9 @@
 -- What went out is a front of the text of the whole log.
-use Rattle.std.proofs.Common.{◌≡◌, ℕ, Bool, false, Option, IfSome, List, [], ◌∷◌, ◌++◌, sym, ap, subst, ◌∙◌, append_assoc, append-nil}
-use Rattle.std.specs.Io.KnownBytes.{Appends, Consumes, IsAtEnd}
-use Rattle.csicodec_filter.specs.Transform.{Begins as BeginsWith, Sends, Transforms}
+use Rattle.std.proofs.Common.{◌≡◌, ℕ, Bool, false, Option, List, [], ◌∷◌, ◌++◌, sym, ap, subst, ◌∙◌, append_assoc, append-nil}
+use Rattle.std.specs.Prelude.{Result}
+use Rattle.csicodec_clean.specs.Streams.{StreamsOne}
+use Rattle.csicodec_clean.proofs.Streams.{Ran, Went, streams_one}
+use Rattle.csicodec_filter.specs.Transform.{Sends, Transforms}
 use Rattle.csicodec_filter.proofs.Sent.{whole_front}
 use Rattle.csicodec_clean.specs.Cleaned.{EndOf, Ends, RuleOf, longest}
 use Rattle.csicodec_clean.specs.Stream.{Between, IsFrontOf, Takes, start_of}
@@ -9,8 +11,9 @@ use Rattle.csicodec_lines.specs.declared.lines.Lines.{Lines}
 use Rattle.csicodec_lines.specs.Lines.{AreOf, ByLines, joined, lines_from, lines_of}
 use Rattle.csicodec_lines.specs.Stream.{Ending, Passes, ended}
 use Rattle.csicodec_lines.proofs.Ends.{goes_on}
+use Rattle.csicodec_lines.proofs.Going.{shorter}
 use Rattle.csicodec_lines.proofs.Texts.{by_lines_as, joined_front, of_as, one_text, parted, same_texts}
-use Rattle.csicodec_lines.proofs.Taken.{transformed}
+use Rattle.csicodec_lines.proofs.Taken.{begins, transformed}
 
 -- where the rule's text of a line is one text, and what comes of a line is a front of that, however it goes on
 module _ {S P : Type 0} (Begins : P → S) (Gives : RuleOf S) (Closes : EndOf S) (first : Lines S P) (fresh : first.returned ≡ false) (Out : List ℕ → List ℕ → Type 0)
@@ -38,15 +41,20 @@ module _ {S P : Type 0} (Begins : P → S) (Gives : RuleOf S) (Closes : EndOf S)
               ∙ sym (append_assoc (ended p.texts) p.own (longer ++ behind)) ∙ ap (λ (t : List ℕ). t ++ (longer ++ behind)) (sym p.all),
         )
 
-    shorter : (bytes sent unsent : List ℕ) → IsFrontOf (ByLines Out) bytes (sent ++ unsent) → IsFrontOf (ByLines Out) bytes sent
-    shorter bytes sent unsent h whole k = let (more, e) = h whole k in (unsent ++ more, e ∙ append_assoc sent unsent more)
-
     all_front : (bytes text : List ℕ) → Transforms Step (Ending Closes) first bytes text → IsFrontOf (ByLines Out) bytes text
     all_front bytes text h whole k =
         let own = by_lines_as (Ends Gives Closes longest (Begins first.by)) Out means bytes text (transformed Begins Gives Closes first bytes text fresh h) in
         ([], one_text Out one bytes whole text k own ∙ sym (append-nil text))
 
-    pub lines_sent : (bytes more sent : List ℕ) (i k w y : Option (List ℕ)) → Consumes i k (bytes ++ more)
-        → BeginsWith (Sends Step first) (Transforms Step (Ending Closes) first) ((more ≡ []) × IsAtEnd k) bytes sent → Appends w y sent
-        → IfSome i (λ all. (out : List ℕ) × IsFrontOf (ByLines Out) all out × Appends w y out)
-    lines_sent = whole_front (Sends Step first) (Transforms Step (Ending Closes) first) (IsFrontOf (ByLines Out)) shorter (λ read more text (last, p). lines_front read more text last p) all_front
+    -- a run, where what each text is holds of the text of all lines
+    pub lines_ran : {A E : Type 0} (Safe : List ℕ → Type 0) (result : Result A E) (i k w y : Option (List ℕ)) → ((after : S) → (close : List ℕ) × Closes after close)
+        → ((bytes text : List ℕ) → ByLines Out bytes text → Safe text) → Ran (Sends Step first) (Transforms Step (Ending Closes) first) (ByLines Out) Safe result i k w y
+        → Went (Sends Step first) (Transforms Step (Ending Closes) first) (ByLines Out) Safe result i k w y → StreamsOne (ByLines Out) Safe result i k w y
+    lines_ran Safe result i k w y always safe =
+        let mean = by_lines_as (Ends Gives Closes longest (Begins first.by)) Out means in
+        streams_one (Sends Step first) (Transforms Step (Ending Closes) first) (ByLines Out) Safe result i k w y (record {
+          whole = λ bytes text h. mean bytes text (transformed Begins Gives Closes first bytes text fresh h);
+          begins = λ all bytes sent h. (let (unsent, ends) = begins Begins Gives Closes first all bytes sent fresh always h in (unsent, mean bytes _ ends));
+          safe = safe;
+        }) (whole_front (Sends Step first) (Transforms Step (Ending Closes) first) (IsFrontOf (ByLines Out)) (shorter (ByLines Out))
+        (λ read more text (last, p). lines_front read more text last p) all_front)

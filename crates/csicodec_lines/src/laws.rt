@@ -13,6 +13,7 @@ ghost use Rattle.csicodec_lines.specs.Stream.{AnyChunks};
 use csicodec_clean::{Anew, Rule};
 
 /// It doesn't matter how a log is cut into chunks.
+#[tactic(auto, using(crate::proofs::Taken::any_chunks))]
 pub fn any_chunks<R: Rule + Anew<P>, P>()
     ensures { AnyChunks R.begins R.gives R.closes }
 {}
@@ -26,6 +27,7 @@ pub fn one_text()
 {}
 
 /// No line leaves a style or a link open: the text of each, alone, is such as `clean` leaves.
+#[tactic(auto, using(crate::proofs::Texts::each_styled))]
 pub fn none_open()
     ensures { (d : Passing) (bytes text : List ℕ) (l : ByLines (StylesIn d) bytes text)
         → AreOf (λ _ t. IsStyledIn d t) (lines_of bytes) l.texts }

@@ -1,9 +1,8 @@
 //! A stream of lines, each of which is cleaned by itself, as it comes.
 ghost use Rattle.std.specs.Prelude.{◌≡◌, ◌<◌, ◌++◌, ◌∷◌, [], ℕ, List, OnOk, IfOk, true, length, ⊤};
 ghost use Rattle.std.specs.List.{AllByRecursion};
-ghost use Rattle.csicodec_filter.specs.Transform.{GoesOn};
 ghost use Rattle.csicodec_lines.specs.Lines.{IsWithin, ends_line, joins};
-ghost use Rattle.csicodec_lines.specs.Private.Cut.{BeginsWithEnd};
+ghost use Rattle.csicodec_lines.specs.Private.Cut.{Adds, AddsFront, BeginsWithEnd};
 ghost use Rattle.csicodec_lines.specs.Stream.{Passes, begun};
 ghost use Rattle.csicodec_clean.specs.Steps.{bare};
 ghost use Rattle.csicodec_clean.specs.Stream.{start_of};
@@ -98,10 +97,8 @@ impl<R: Rule + Anew<P> + Drop, P: Copy> Lines<R, P> {
     /// Takes bytes that end no line.
     fn take_within(&mut self, bytes: &[u8], out: &mut Vec<u8>) -> Result<(), AllocError>
         requires { AllByRecursion IsWithin bytes.now }
-        ensures { OnOk result
-            ((more : List ℕ)
-            × GoesOn (Passes R.begins R.gives R.closes) self.old bytes.now more self.new
-            × (out.new.items ≡ out.old.items ++ more)) }
+        ensures { OnOk result (Adds (Passes R.begins R.gives R.closes)
+            self.old bytes.now out.old.items out.new.items self.new) }
     {
         if bytes.is_empty() {
             return Ok(());
@@ -114,10 +111,8 @@ impl<R: Rule + Anew<P> + Drop, P: Copy> Lines<R, P> {
     /// Takes a byte that ends a line, or joins the one that has. Whether a line begins behind it.
     fn take_end(&mut self, byte: u8, out: &mut Vec<u8>) -> Result<bool, AllocError>
         requires { ends_line byte ≡ true }
-        ensures taken { OnOk result
-            ((more : List ℕ)
-            × GoesOn (Passes R.begins R.gives R.closes) self.old (byte ∷ []) more self.new
-            × (out.new.items ≡ out.old.items ++ more)) }
+        ensures taken { OnOk result (Adds (Passes R.begins R.gives R.closes)
+            self.old (byte ∷ []) out.old.items out.new.items self.new) }
         ensures begun { IfOk result
             (λ begins. begins ≡ true → self.new.line ≡ start_of (R.begins self.new.by)) }
     {
@@ -136,10 +131,8 @@ impl<R: Rule + Anew<P> + Drop, P: Copy> Lines<R, P> {
     /// answers what is behind it.
     fn take_shown<'a>(&mut self, bytes: &'a [u8], out: &mut Vec<u8>) -> Result<&'a [u8], AllocError>
         requires { self.old.line ≡ start_of (R.begins self.old.by) }
-        ensures { IfOk result (λ rest. (front : List ℕ) × (more : List ℕ)
-            × (bytes.now ≡ front ++ rest.now)
-            × GoesOn (Passes R.begins R.gives R.closes) self.old front more self.new
-            × (out.new.items ≡ out.old.items ++ more)) }
+        ensures { IfOk result (λ rest. AddsFront (Passes R.begins R.gives R.closes)
+            self.old bytes.now rest.now out.old.items out.new.items self.new) }
     {
         let (front, rest) = split_shown(bytes);
         if front.len() < LANES || self.returned {
@@ -158,10 +151,8 @@ impl<R: Rule + Anew<P> + Drop, P: Copy> Lines<R, P> {
 
     /// Takes bytes up to the end of a line, and text behind that which is shown as it is, and answers what is behind it.
     fn take_line<'a>(&mut self, bytes: &'a [u8], out: &mut Vec<u8>) -> Result<&'a [u8], AllocError>
-        ensures taken { IfOk result (λ rest. (front : List ℕ) × (more : List ℕ)
-            × (bytes.now ≡ front ++ rest.now)
-            × GoesOn (Passes R.begins R.gives R.closes) self.old front more self.new
-            × (out.new.items ≡ out.old.items ++ more)) }
+        ensures taken { IfOk result (λ rest. AddsFront (Passes R.begins R.gives R.closes)
+            self.old bytes.now rest.now out.old.items out.new.items self.new) }
         ensures less { IfOk result
             (λ rest. 0 < length bytes.now → length rest.now < length bytes.now) }
     {

@@ -1,14 +1,13 @@
 use Rattle.std.proofs.Common.{◌≡◌, ◌<◌, ◌≤◌, ◌++◌, ◌∙◌, ℕ, [], length, take, refl, rules, sym, ap, append-nil}
 use Rattle.std.proofs.Math.Seq.{take-append_seam}
-use Rattle.csicodec_filter.proofs.Sent.{goes_none}
 use Rattle.csicodec_clean.specs.Shown.{shown_text}
 use Rattle.csicodec_lines.specs.Stream.{Passes}
 use Rattle.csicodec_lines.proofs.Copied.{goes_shown, is_blank, unchanged}
-use Rattle.csicodec_lines.proofs.Taken.{goes_same}
+use Rattle.csicodec_lines.proofs.Taken.{adds_none, goes_same}
 use Rattle.csicodec_lines.proofs.lines.Lines.take_shown.Goals as goal
 
 pub returns-then-front-lt-LANES : goal.returns-then-front-lt-LANES
-returns-then-front-lt-LANES g c = ([], [], refl, goes_none (Passes g.R.Anew.begins g.R.Rule.gives g.R.Rule.closes) c.args.self.now, sym (append-nil c.args.out.now.items))
+returns-then-front-lt-LANES g c = adds_none (Passes g.R.Anew.begins g.R.Rule.gives g.R.Rule.closes) c.args.self.now c.args.bytes.now c.args.out.now.items
 
 pub returns-then-len-before : goal.returns-then-len-before
 returns-then-len-before g c =
@@ -16,7 +15,7 @@ returns-then-len-before g c =
     let before = c.args.out.now.items in
     let all : c.len-before.result ≡ length before = search rules in
     let same = c.truncate.ensures.items ∙ ap (λ (n : ℕ). take n c.finish.new.out.items) all ∙ ap (take (length before)) out ∙ take-append_seam before (shown_text c.args.self.now.line.held ++ close) in
-    ([], [], refl, goes_same g.R.Anew.begins g.R.Rule.gives g.R.Rule.closes c.args.self.now _ [] (λ line more. refl) refl (c.begin.ensures ∙ sym c.requires), same ∙ sym (append-nil before))
+    ([], refl, ([], goes_same g.R.Anew.begins g.R.Rule.gives g.R.Rule.closes c.args.self.now _ [] (λ line more. refl) refl (c.begin.ensures ∙ sym c.requires), same ∙ sym (append-nil before)))
 
 pub returns : goal.returns
 returns g c =
@@ -30,9 +29,11 @@ returns g c =
     let blank = is_blank g.R.Anew.begins g.R.Rule.gives g.R.Rule.closes old close before after c.requires c.if-self.false closes out few in
     let same = unchanged before (shown_text old.line.held ++ close) after out few in (
       front,
-      front,
       c.split_shown.ensures.whole,
-      goes_shown g.R.Anew.begins g.R.Rule.gives g.R.Rule.closes old _ front some c.split_shown.ensures.shown blank
-          (record { line = c.begin.ensures; returned = c.if-self.false; closes = blank.closes }) refl,
-      c.in_ok-extend_from_slice.ensures.items ∙ ap (λ t. t ++ front) same,
+      (
+        front,
+        goes_shown g.R.Anew.begins g.R.Rule.gives g.R.Rule.closes old _ front some c.split_shown.ensures.shown blank
+            (record { line = c.begin.ensures; returned = c.if-self.false; closes = blank.closes }) refl,
+        c.in_ok-extend_from_slice.ensures.items ∙ ap (λ t. t ++ front) same,
+      ),
     )

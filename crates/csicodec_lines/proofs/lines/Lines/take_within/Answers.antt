@@ -1,20 +1,12 @@
-use Rattle.std.proofs.Common.{◌≡◌, ◌<◌, [], length, refl, rules, subst, sym, append-nil}
-use Rattle.csicodec_filter.specs.Transform.{GoesOn}
-use Rattle.csicodec_filter.proofs.Sent.{goes_none, none_left}
+use Rattle.std.proofs.Common.{◌<◌, length, refl, rules}
 use Rattle.csicodec_lines.specs.Stream.{Passes}
-use Rattle.csicodec_lines.proofs.Taken.{goes_within}
+use Rattle.csicodec_lines.proofs.Taken.{adds_all, adds_none, goes_within}
 use Rattle.csicodec_lines.proofs.lines.Lines.take_within.Goals as goal
 
 pub returns-then-is_empty : goal.returns-then-is_empty
 returns-then-is_empty g c =
-    let bytes = c.args.bytes.now in
-    let old = c.args.self.now in
-    let none : length bytes ≡ 0 = search rules in
-    let goes = goes_none (Passes g.R.Anew.begins g.R.Rule.gives g.R.Rule.closes) old in (
-      [],
-      subst (λ b. GoesOn (Passes g.R.Anew.begins g.R.Rule.gives g.R.Rule.closes) old b [] old) (none_left bytes [] bytes refl none) goes,
-      sym (append-nil c.args.out.now.items),
-    )
+    let Step = Passes g.R.Anew.begins g.R.Rule.gives g.R.Rule.closes in
+    adds_all Step _ _ _ c.args.bytes.now _ _ (adds_none Step c.args.self.now c.args.bytes.now c.args.out.now.items) (search rules)
 
 pub returns : goal.returns
 returns g c =

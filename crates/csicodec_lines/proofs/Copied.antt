@@ -1,24 +1,14 @@
 -- Text that any line leaves as it is.
 use Rattle.std.proofs.Common.{◌≡◌, ◌<◌, ◌≤◌, ℕ, Bool, true, false, List, [], ◌∷◌, ◌++◌, length, length-append, encode_utf8_all, refl, sym, ap, subst, ◌∙◌, append-nil, arith}
-use Rattle.std.specs.Char.{encode_utf8}
-use Rattle.std.specs.List.{AllByRecursion}
-use Rattle.std.specs.Str.{all_scalars}
-use Rattle.std.proofs.lemmas.Bool.{and_from, and_parts}
-use Rattle.std.proofs.lemmas.Bool.Decides.{nat_tests}
-use Rattle.std.proofs.lemmas.List.{nil_from_length}
+use Rattle.std.proofs.{lemmas.Bool.and_from, lemmas.Bool.and_parts, lemmas.Bool.Decides.nat_tests, lemmas.List.nil_from_length}
+use Rattle.std.specs.{Char.encode_utf8, List.AllByRecursion, Str.all_scalars}
 use lib.Utf8.{scalar}
 use Rattle.csicodec_filter.specs.Transform.{GoesOn}
 use Rattle.csicodec_filter.proofs.Sent.{goes_on}
-use Rattle.csicodec_clean.specs.Cleaned.{EndOf, RuleOf, longest}
-use Rattle.csicodec_clean.specs.Shown.{IsPlain, IsShown, shown_text}
-use Rattle.csicodec_clean.specs.Stream.{Between, Goes, Takes, start_of}
-use Rattle.csicodec_clean.proofs.Chunks.{takes_none}
-use Rattle.csicodec_clean.proofs.Glances.{over_told}
-use Rattle.csicodec_clean.proofs.Shows.{shown_none}
-use Rattle.csicodec_clean.proofs.Told.{alone, front_taken, tells_shown}
-use Rattle.csicodec_lines.specs.declared.lines.Lines.{Lines}
-use Rattle.csicodec_lines.specs.Lines.{IsWithin, ends_line}
-use Rattle.csicodec_lines.specs.Stream.{Ending, Passes}
+use Rattle.csicodec_clean.specs.{Cleaned.EndOf, Cleaned.RuleOf, Cleaned.longest, Shown.IsPlain, Shown.IsShown, Shown.shown_text, Stream.Between, Stream.Goes}
+use Rattle.csicodec_clean.specs.{Stream.Takes, Stream.start_of}
+use Rattle.csicodec_clean.proofs.{Chunks.takes_none, Glances.over_told, Shows.shown_none, Told.alone, Told.front_taken, Told.tells_shown}
+use Rattle.csicodec_lines.specs.{declared.lines.Lines.Lines, Lines.IsWithin, Lines.ends_line, Stream.Ending, Stream.Passes}
 use Rattle.csicodec_lines.proofs.Taken.{goes_over, goes_within}
 
 -- what got no longer is as it was

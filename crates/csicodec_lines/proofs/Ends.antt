@@ -1,12 +1,10 @@
 -- Where lines end.
 use Rattle.std.proofs.Common.{◌≡◌, ◌+◌, ◌<◌, ℕ, Bool, true, false, not, cond, List, [], ◌∷◌, ◌++◌, length, take, drop, ◌==◌, inl, inr, refl, sym, ap, subst, ◌∙◌, append_assoc, append-nil, arith}
+use Rattle.std.proofs.{lemmas.Bool.cases_Bool, lemmas.Bool.cond_both, lemmas.Bool.not-true, lemmas.Bool.Decides.nat_tests}
 use Rattle.std.specs.List.{AllByRecursion, prefix_len}
-use Rattle.std.proofs.lemmas.Bool.{cases_Bool, cond_both, not-true}
-use Rattle.std.proofs.lemmas.Bool.Decides.{nat_tests}
 use Rattle.csicodec_clean.specs.Bytes.{behind}
 use Rattle.csicodec_clean.proofs.Bytes.{behind_one, front_in}
-use Rattle.csicodec_lines.specs.Lines.{IsWithin, ends_line, joins, lines_from}
-use Rattle.csicodec_lines.specs.Private.Cut.{BeginsWithEnd, is_within}
+use Rattle.csicodec_lines.specs.{Lines.IsWithin, Lines.ends_line, Lines.joins, Lines.lines_from, Private.Cut.BeginsWithEnd, Private.Cut.is_within}
 
 -- ---- where a line is cut
 

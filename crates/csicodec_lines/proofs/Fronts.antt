@@ -1,19 +1,15 @@
 -- What went out is a front of the text of the whole log.
 use Rattle.std.proofs.Common.{◌≡◌, ℕ, Bool, false, Option, List, [], ◌∷◌, ◌++◌, sym, ap, subst, ◌∙◌, append_assoc, append-nil}
 use Rattle.std.specs.Prelude.{Result}
-use Rattle.csicodec_clean.specs.Streams.{StreamsOne}
+use Rattle.csicodec_clean.specs.{Streams.StreamsOne, Cleaned.EndOf, Cleaned.Ends, Cleaned.RuleOf, Cleaned.longest, Stream.Between, Stream.IsFrontOf}
+use Rattle.csicodec_clean.specs.{Stream.Takes, Stream.start_of}
 use Rattle.csicodec_clean.proofs.Streams.{Ran, Went, streams_one}
 use Rattle.csicodec_filter.specs.Transform.{Sends, Transforms}
 use Rattle.csicodec_filter.proofs.Sent.{whole_front}
-use Rattle.csicodec_clean.specs.Cleaned.{EndOf, Ends, RuleOf, longest}
-use Rattle.csicodec_clean.specs.Stream.{Between, IsFrontOf, Takes, start_of}
-use Rattle.csicodec_lines.specs.declared.lines.Lines.{Lines}
-use Rattle.csicodec_lines.specs.Lines.{AreOf, ByLines, joined, lines_from, lines_of}
-use Rattle.csicodec_lines.specs.Stream.{Ending, Passes, ended}
-use Rattle.csicodec_lines.proofs.Ends.{goes_on}
-use Rattle.csicodec_lines.proofs.Going.{shorter}
-use Rattle.csicodec_lines.proofs.Texts.{by_lines_as, joined_front, of_as, one_text, parted, same_texts}
-use Rattle.csicodec_lines.proofs.Taken.{begins, transformed}
+use Rattle.csicodec_lines.specs.{declared.lines.Lines.Lines, Lines.AreOf, Lines.ByLines, Lines.joined, Lines.lines_from, Lines.lines_of, Stream.Ending}
+use Rattle.csicodec_lines.specs.{Stream.Passes, Stream.ended}
+use Rattle.csicodec_lines.proofs.{Ends.goes_on, Going.shorter, Texts.by_lines_as, Texts.joined_front, Texts.of_as, Texts.one_text, Texts.parted}
+use Rattle.csicodec_lines.proofs.{Texts.same_texts, Taken.begins, Taken.transformed}
 
 -- where the rule's text of a line is one text, and what comes of a line is a front of that, however it goes on
 module _ {S P : Type 0} (Begins : P → S) (Gives : RuleOf S) (Closes : EndOf S) (first : Lines S P) (fresh : first.returned ≡ false) (Out : List ℕ → List ℕ → Type 0)

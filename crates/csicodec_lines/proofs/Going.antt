@@ -1,25 +1,17 @@
 -- A search as it goes, part by part and chunk by chunk.
 use Rattle.std.proofs.Common.{◌≡◌, ℕ, Bool, false, List, [], ◌∷◌, ◌++◌, refl, sym, ap, subst, ◌∙◌, append_assoc, append-nil}
-use Rattle.csicodec_spans.specs.declared.table.Kind.{Kind}
-use Rattle.csicodec_spans.specs.declared.table.Mode.TheVariants as mode
-use Rattle.csicodec_spans.specs.Parts.{Part, part, left_over, IsSpan, IsUnsure}
-use Rattle.csicodec_spans.proofs.Kept.{parts_more}
-use Rattle.csicodec_spans.proofs.Once.{parts_front, whole_once}
-use Rattle.csicodec_filter.specs.Filter.{Held}
-use Rattle.csicodec_filter.specs.Transform.{EndsOf, GoesOn, Sends, Transforms}
-use Rattle.csicodec_filter.specs.Written.{Appends, Since, open_at, with_more}
+use Rattle.csicodec_spans.specs.{declared.table.Kind.Kind, Parts.Part, Parts.part, Parts.left_over, Parts.IsSpan, Parts.IsUnsure}
+use Rattle.csicodec_spans.proofs.{Kept.parts_more, Once.parts_front, Once.whole_once}
+use Rattle.csicodec_filter.specs.{Filter.Held, Transform.EndsOf, Transform.GoesOn, Transform.Sends, Transform.Transforms, Written.Appends, Written.Since}
+use Rattle.csicodec_filter.specs.{Written.open_at, Written.with_more}
 use Rattle.csicodec_filter.proofs.Written.{since_none, since_on}
-use Rattle.csicodec_clean.specs.Cleaned.{longest}
-use Rattle.csicodec_clean.specs.Stream.{IsFrontOf}
-use Rattle.csicodec_clean.specs.Titles.{read_as, title_behind, title_open, with_titles}
+use Rattle.csicodec_clean.specs.{Cleaned.longest, Stream.IsFrontOf, Titles.read_as, Titles.title_behind, Titles.title_open, Titles.with_titles}
 use Rattle.csicodec_clean.proofs.Titles.{open_on, titled, titles_on}
-use Rattle.csicodec_lines.specs.declared.finder.Finder.{Finder}
-use Rattle.csicodec_lines.specs.declared.search.CutSearch.{CutSearch}
-use Rattle.csicodec_lines.specs.Cuts.{Found, Tells, behind, cuts, cuts_at, first as start, told}
-use Rattle.csicodec_lines.specs.Private.Search.{FindsAt}
-use Rattle.csicodec_lines.specs.Private.Cut.{Adds}
-use Rattle.csicodec_lines.specs.Private.Finder.{Finds, IsBegun, Passes, held}
+use Rattle.csicodec_lines.specs.{declared.finder.Finder.Finder, declared.search.CutSearch.CutSearch, Cuts.Found, Cuts.Tells, Cuts.behind, Cuts.cuts}
+use Rattle.csicodec_lines.specs.{Cuts.cuts_at, Cuts.first as start, Cuts.told, Private.Search.FindsAt, Private.Cut.Adds, Private.Finder.Finds}
+use Rattle.csicodec_lines.specs.{Private.Finder.IsBegun, Private.Finder.Passes, Private.Finder.held}
 use Rattle.csicodec_lines.proofs.Parts.{behind_on, cuts_on, spanned, told_on}
+use Rattle.csicodec_spans.specs.declared.table.Mode.TheVariants as mode
 
 -- a span more
 pub finds_span : (u : Bool) (mid new : CutSearch) (k : Kind) (span more : List ℕ) (ps : List Part) → IsSpan k span ps → FindsAt mid (part (read_as k u) span) more new

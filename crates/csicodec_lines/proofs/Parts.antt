@@ -1,17 +1,12 @@
 -- What is found, byte by byte and part by part.
 use Rattle.std.proofs.Common.{◌≡◌, ◌≢◌, ◌<◌, ◌≤◌, ◌+◌, ◌-◌, ℕ, true, false, List, [], ◌∷◌, ◌++◌, length, length-append, refl, sym, ap, ◌∙◌, append_assoc, arith}
-use Rattle.std.specs.Prelude.{suc, if◌then◌else◌}
-use Rattle.std.specs.List.{AllByRecursion, flat_map}
-use Rattle.std.proofs.lemmas.Bool.Decides.{nat_tests}
-use Rattle.std.proofs.lemmas.List.Concat.{flat_map-append}
-use Rattle.csicodec_spans.specs.declared.table.Kind.{Kind}
-use Rattle.csicodec_spans.specs.declared.table.Kind.TheVariants as kind
-use Rattle.csicodec_spans.specs.Parts.{Part, part, bytes_of, IsSpan}
-use Rattle.csicodec_clean.specs.Check.{counted}
-use Rattle.csicodec_clean.specs.Cleaned.{is_text}
-use Rattle.csicodec_lines.specs.declared.search.CutSearch.{CutSearch}
+use Rattle.std.proofs.{lemmas.Bool.Decides.nat_tests, lemmas.List.Concat.flat_map-append}
+use Rattle.std.specs.{Prelude.suc, Prelude.if◌then◌else◌, List.AllByRecursion, List.flat_map}
+use Rattle.csicodec_spans.specs.{declared.table.Kind.Kind, Parts.Part, Parts.part, Parts.bytes_of, Parts.IsSpan}
+use Rattle.csicodec_clean.specs.{Check.counted, Cleaned.is_text}
 use Rattle.csicodec_lines.specs.Cuts.{Found, behind, behind_byte, behind_part, behind_text, cuts, cuts_at, cuts_in, is_cut, line_of, passed, told}
-use Rattle.csicodec_lines.specs.Private.Search.{IsAt}
+use Rattle.csicodec_lines.specs.{declared.search.CutSearch.CutSearch, Private.Search.IsAt}
+use Rattle.csicodec_spans.specs.declared.table.Kind.TheVariants as kind
 
 pub told_on : (xs ys : List ℕ) → told (xs ++ ys) ≡ told xs ++ told ys
 told_on = flat_map-append (λ (n : ℕ). line_of (counted n))

@@ -1,30 +1,16 @@
 -- Each place that is told is one.
 use Rattle.std.proofs.Common.{◌≡◌, ℕ, Bool, true, false, List, [], ◌∷◌, ◌++◌, length, length-append, take, refl, sym, ap, ◌∙◌, append_assoc, arith, drop, append-nil, take-append-drop}
-use Rattle.std.specs.Prelude.{◌+◌, ◌==◌, nat_lt, suc}
-use Rattle.std.specs.List.{AllByRecursion, flat_map}
-use Rattle.std.proofs.Math.Seq.{take-append_seam}
-use Rattle.std.proofs.lemmas.Bool.{cond_both}
-use Rattle.std.proofs.lemmas.Bool.Decides.{nat_tests}
-use Rattle.std.proofs.lemmas.List.Concat.{flat_map-append}
-use Rattle.csicodec_spans.specs.declared.table.Kind.{Kind}
-use Rattle.csicodec_spans.specs.declared.table.Kind.TheVariants as kind
-use Rattle.csicodec_spans.specs.declared.table.Mode.{Mode}
-use Rattle.csicodec_spans.specs.declared.table.Mode.TheVariants as mode
-use Rattle.csicodec_spans.specs.Table.{Answer, More, Anew, ahead}
-use Rattle.csicodec_spans.specs.Parts.{Part, part, bytes_of, Allows, AreFirstParts, IsWhole, left_over}
-use Rattle.csicodec_spans.proofs.Agrees.{sound}
-use Rattle.csicodec_spans.proofs.Kept.{parts_join, parts_more, parts_on}
-use Rattle.csicodec_spans.proofs.Missed.{fit}
-use Rattle.csicodec_spans.proofs.Once.{whole_once}
-use Rattle.csicodec_spans.proofs.OneSpan.{none_unsure}
-use Rattle.csicodec_spans.proofs.Fronts.{Sound}
-use Rattle.csicodec_clean.specs.Cleaned.{longest}
-use Rattle.csicodec_clean.specs.Titles.{read_as, title_behind, title_open, with_titles}
-use Rattle.csicodec_clean.proofs.PlainBytes.{all_both}
-use Rattle.csicodec_clean.proofs.Titles.{open_on}
+use Rattle.std.proofs.{Math.Seq.take-append_seam, lemmas.Bool.cond_both, lemmas.Bool.Decides.nat_tests, lemmas.List.Concat.flat_map-append}
+use Rattle.std.specs.{Prelude.◌+◌, Prelude.◌==◌, Prelude.nat_lt, Prelude.suc, List.AllByRecursion, List.flat_map}
+use Rattle.csicodec_spans.specs.{declared.table.Kind.Kind, declared.table.Mode.Mode, Table.Answer, Table.More, Table.Anew, Table.ahead, Parts.Part, Parts.part}
+use Rattle.csicodec_spans.specs.{Parts.bytes_of, Parts.Allows, Parts.AreFirstParts, Parts.IsWhole, Parts.left_over}
+use Rattle.csicodec_spans.proofs.{Agrees.sound, Kept.parts_join, Kept.parts_more, Kept.parts_on, Missed.fit, Once.whole_once, OneSpan.none_unsure, Fronts.Sound}
+use Rattle.csicodec_clean.specs.{Cleaned.longest, Titles.read_as, Titles.title_behind, Titles.title_open, Titles.with_titles}
+use Rattle.csicodec_clean.proofs.{PlainBytes.all_both, Titles.open_on}
 use Rattle.csicodec_lines.specs.Cuts.{AreCuts, Found, IsPlace, behind_byte, behind_part, behind_text, cuts, cuts_at, cuts_in, first, is_cut}
-use Rattle.csicodec_lines.proofs.Going.{sure_alone}
-use Rattle.csicodec_lines.proofs.Shorter.{ends_in, parts_less}
+use Rattle.csicodec_lines.proofs.{Going.sure_alone, Shorter.ends_in, Shorter.parts_less}
+use Rattle.csicodec_spans.specs.declared.table.Kind.TheVariants as kind
+use Rattle.csicodec_spans.specs.declared.table.Mode.TheVariants as mode
 
 -- ---- how many bytes came
 

@@ -1,21 +1,15 @@
 -- What was cut is cut so of fewer bytes too, if one stands behind it.
 use Rattle.std.proofs.Common.{◌≡◌, ◌<◌, ◌≤◌, ◌⊎◌, ℕ, Bool, true, false, List, [], ◌∷◌, ◌++◌, length, length-append, refl, sym, ap, subst, ◌∙◌, inl, inr, append_assoc, arith}
-use Rattle.std.specs.Prelude.{◌+◌, ◌==◌, ◌&&◌, if◌then◌else◌}
-use Rattle.std.specs.List.{flat_map}
-use Rattle.std.proofs.Math.ListN.{get_or-append}
-use Rattle.std.proofs.lemmas.List.{take-append-le}
-use Rattle.csicodec_tokens.specs.declared.reader.ReadError.{ReadError}
-use Rattle.csicodec_tokens.specs.declared.reader.ReadError.TheVariants.{NotCsi, BadByte, NumberTooLarge}
-use Rattle.csicodec_tokens.specs.Fault.{Begins, FaultOf, IsBad, IsLeast, IsMetAt, NoSeq}
-use Rattle.csicodec_spans.specs.declared.table.Kind.{Kind}
-use Rattle.csicodec_spans.specs.declared.table.Kind.TheVariants as kind
-use Rattle.csicodec_spans.specs.declared.table.Mode.{Mode}
+use Rattle.std.proofs.{Math.ListN.get_or-append, lemmas.List.take-append-le}
+use Rattle.std.specs.{Prelude.◌+◌, Prelude.◌==◌, Prelude.◌&&◌, Prelude.if◌then◌else◌, List.flat_map}
+use Rattle.csicodec_tokens.specs.{declared.reader.ReadError.ReadError, declared.reader.ReadError.TheVariants.NotCsi}
+use Rattle.csicodec_tokens.specs.{declared.reader.ReadError.TheVariants.BadByte, declared.reader.ReadError.TheVariants.NumberTooLarge, Fault.Begins}
+use Rattle.csicodec_tokens.specs.{Fault.FaultOf, Fault.IsBad, Fault.IsLeast, Fault.IsMetAt, Fault.NoSeq}
 use Rattle.csicodec_spans.specs.Private.TableBy.{ends, escape, intermediate, is_dcs, is_string, is_within, look, meant, opened, opens_string, stays}
-use Rattle.csicodec_spans.specs.Table.{Answer, More, Anew, Sequence, Undecided, ahead}
-use Rattle.csicodec_spans.specs.Parts.{Part, part, bytes_of, Allows, AllowsCsi, AreFirstParts, IsMalformed}
-use Rattle.csicodec_spans.proofs.Agrees.{found}
-use Rattle.csicodec_spans.proofs.Kept.{parts_join}
-use Rattle.csicodec_spans.proofs.Missed.{part_some}
+use Rattle.csicodec_spans.specs.{declared.table.Kind.Kind, declared.table.Mode.Mode, Table.Answer, Table.More, Table.Anew, Table.Sequence, Table.Undecided}
+use Rattle.csicodec_spans.specs.{Table.ahead, Parts.Part, Parts.part, Parts.bytes_of, Parts.Allows, Parts.AllowsCsi, Parts.AreFirstParts, Parts.IsMalformed}
+use Rattle.csicodec_spans.proofs.{Agrees.found, Kept.parts_join, Missed.part_some}
+use Rattle.csicodec_spans.specs.declared.table.Kind.TheVariants as kind
 
 -- ---- control sequences that went wrong
 

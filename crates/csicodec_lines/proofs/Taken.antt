@@ -3,16 +3,11 @@ use Rattle.std.proofs.Common.{◌≡◌, ◌<◌, ℕ, true, false, List, [], �
 use Rattle.std.specs.List.{AllByRecursion, concat}
 use Rattle.csicodec_filter.specs.Transform.{Begins as BeginsWith, GoesOn, PassesOf, Sends, Transforms}
 use Rattle.csicodec_filter.proofs.Sent.{goes_none, goes_on, none_left}
-use Rattle.csicodec_clean.specs.Shown.{shown_text}
-use Rattle.csicodec_clean.specs.Cleaned.{EndOf, Ends, RuleOf, longest}
-use Rattle.csicodec_clean.specs.Stream.{Takes, start_of}
+use Rattle.csicodec_clean.specs.{Shown.shown_text, Cleaned.EndOf, Cleaned.Ends, Cleaned.RuleOf, Cleaned.longest, Stream.Takes, Stream.start_of}
 use Rattle.csicodec_clean.proofs.Chunks.{ends as at_end, takes_none, takes_on}
-use Rattle.csicodec_lines.specs.declared.lines.Lines.{Lines}
-use Rattle.csicodec_lines.specs.Private.Cut.{Adds, AddsFront}
-use Rattle.csicodec_lines.specs.Lines.{ByLines, IsWithin, ends_line, joins, lines_from, lines_of}
-use Rattle.csicodec_lines.specs.Stream.{AreTaken, Ending, Passes, begun, ended}
-use Rattle.csicodec_lines.proofs.Ends.{all_within_on, one_end, one_joins}
-use Rattle.csicodec_lines.proofs.Texts.{ended_on, joined_on, of_on}
+use Rattle.csicodec_lines.specs.{declared.lines.Lines.Lines, Private.Cut.Adds, Private.Cut.AddsFront, Lines.ByLines, Lines.IsWithin, Lines.ends_line}
+use Rattle.csicodec_lines.specs.{Lines.joins, Lines.lines_from, Lines.lines_of, Stream.AreTaken, Stream.Ending, Stream.Passes, Stream.begun, Stream.ended}
+use Rattle.csicodec_lines.proofs.{Ends.all_within_on, Ends.one_end, Ends.one_joins, Texts.ended_on, Texts.joined_on, Texts.of_on}
 
 module _ {S : Type 0} (Step : PassesOf S) where
   -- nothing yet, and some bytes more

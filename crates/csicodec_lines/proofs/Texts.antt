@@ -1,15 +1,10 @@
 -- Texts of lines, joined.
 use Rattle.std.proofs.Common.{◌≡◌, ℕ, false, List, [], ◌∷◌, ◌++◌, refl, sym, ap, ◌∙◌, append_assoc, append-nil}
-use Rattle.csicodec_clean.specs.Shown.{IsPlain, shown}
-use Rattle.csicodec_clean.specs.Cleaned.{Strips, longest}
-use Rattle.csicodec_clean.specs.Styled.{IsSafe, IsStyledIn, Shown, StylesIn, item_texts, links_of, styles_of}
-use Rattle.csicodec_clean.specs.declared.styles.Passing.{Passing}
-use Rattle.csicodec_clean.proofs.Linked.{linked_on}
-use Rattle.csicodec_clean.proofs.Plain.{strips_plain, text_on}
-use Rattle.csicodec_clean.proofs.PlainBytes.{all_both}
-use Rattle.csicodec_clean.proofs.Styled.{links_both, open_on, styled, styles_both, texts_both}
-use Rattle.csicodec_lines.specs.Lines.{AreOf, ByLines, joined}
-use Rattle.csicodec_lines.specs.Stream.{ended}
+use Rattle.csicodec_clean.specs.{Shown.IsPlain, Shown.shown, Cleaned.Strips, Cleaned.longest, Styled.IsSafe, Styled.IsStyledIn, Styled.Shown, Styled.StylesIn}
+use Rattle.csicodec_clean.specs.{Styled.item_texts, Styled.links_of, Styled.styles_of, declared.styles.Passing.Passing}
+use Rattle.csicodec_clean.proofs.{Linked.linked_on, Plain.strips_plain, Plain.text_on, PlainBytes.all_both, Styled.links_both, Styled.open_on, Styled.styled}
+use Rattle.csicodec_clean.proofs.{Styled.styles_both, Styled.texts_both}
+use Rattle.csicodec_lines.specs.{Lines.AreOf, Lines.ByLines, Lines.joined, Stream.ended}
 
 -- ---- a text more
 

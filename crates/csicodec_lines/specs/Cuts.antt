@@ -1,13 +1,10 @@
 -- Where a stream may be cut, so that each piece is as good as a stream of its own.
 use Rattle.std.specs.Prelude.{ℕ, suc, ◌≡◌, ◌==◌, ◌+◌, Bool, true, false, ◌&&◌, ◌||◌, nat_le, nat_lt, if◌then◌else◌, List, [], ◌∷◌, ◌++◌, length, take}
-use Rattle.std.specs.Fmt.{decimal}
-use Rattle.std.specs.List.{flat_map}
+use Rattle.std.specs.{Fmt.decimal, List.flat_map}
+use Rattle.csicodec_spans.specs.Parts.{Part, part, AreFirstParts, IsWhole}
+use Rattle.csicodec_clean.specs.{Check.counted, Cleaned.is_text, Cleaned.longest, Titles.title_open, Titles.with_titles}
 use Rattle.csicodec_spans.specs.declared.table.Kind.TheVariants as kind
 use Rattle.csicodec_spans.specs.declared.table.Mode.TheVariants as mode
-use Rattle.csicodec_spans.specs.Parts.{Part, part, AreFirstParts, IsWhole}
-use Rattle.csicodec_clean.specs.Check.{counted}
-use Rattle.csicodec_clean.specs.Cleaned.{is_text, longest}
-use Rattle.csicodec_clean.specs.Titles.{title_open, with_titles}
 
 -- So far from the start the stream may be cut: the bytes up to there are whole parts, of which the last is a byte of text, in no title,
 -- and of ASCII, behind which no character goes on.

@@ -1,11 +1,8 @@
 -- A log as it comes, chunk by chunk.
-use Rattle.std.specs.Prelude.{ℕ, ◌≡◌, false, List, [], ◌∷◌, ◌++◌}
-use Rattle.std.specs.List.{concat}
+use Rattle.std.specs.{Prelude.ℕ, Prelude.◌≡◌, Prelude.false, Prelude.List, Prelude.[], Prelude.◌∷◌, Prelude.◌++◌, List.concat}
 use Rattle.csicodec_filter.specs.Transform.{EndsOf, GoesOn, PassesOf}
-use Rattle.csicodec_clean.specs.Cleaned.{RuleOf, EndOf, Ends, longest}
-use Rattle.csicodec_clean.specs.Stream.{Closing, Takes, start_of}
-use Rattle.csicodec_lines.specs.declared.lines.Lines.{Lines}
-use Rattle.csicodec_lines.specs.Lines.{AreOf, ByLines, lines_from}
+use Rattle.csicodec_clean.specs.{Cleaned.RuleOf, Cleaned.EndOf, Cleaned.Ends, Cleaned.longest, Stream.Closing, Stream.Takes, Stream.start_of}
+use Rattle.csicodec_lines.specs.{declared.lines.Lines.Lines, Lines.AreOf, Lines.ByLines, Lines.lines_from}
 
 -- where nothing has come
 abbrev pub begun : {S P : Type 0} → (P → S) → P → Lines S P

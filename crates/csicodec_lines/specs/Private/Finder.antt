@@ -1,15 +1,10 @@
 -- A search as it goes.
 use Rattle.std.specs.Prelude.{ℕ, ◌≡◌, Bool, false, []}
+use Rattle.csicodec_filter.specs.{Filter.Held, Transform.PassesOf, Written.Since, Written.WrittenOf, Written.open_at}
+use Rattle.csicodec_clean.specs.{Cleaned.longest, Titles.title_open, Titles.with_titles}
+use Rattle.csicodec_lines.specs.{declared.finder.Finder.Finder, declared.search.CutSearch.CutSearch, Cuts.Found, Cuts.behind, Cuts.cuts, Cuts.first, Cuts.told}
+use Rattle.csicodec_lines.specs.{Private.Search.IsAt}
 use Rattle.csicodec_spans.specs.declared.table.Mode.TheVariants as mode
-use Rattle.csicodec_filter.specs.Filter.{Held}
-use Rattle.csicodec_filter.specs.Transform.{PassesOf}
-use Rattle.csicodec_filter.specs.Written.{Since, WrittenOf, open_at}
-use Rattle.csicodec_clean.specs.Cleaned.{longest}
-use Rattle.csicodec_clean.specs.Titles.{title_open, with_titles}
-use Rattle.csicodec_lines.specs.declared.finder.Finder.{Finder}
-use Rattle.csicodec_lines.specs.declared.search.CutSearch.{CutSearch}
-use Rattle.csicodec_lines.specs.Cuts.{Found, behind, cuts, first, told}
-use Rattle.csicodec_lines.specs.Private.Search.{IsAt}
 
 -- this was told of some parts, wherever the search was, by whether a title is open ahead of them, and whether one is behind them
 abbrev pub Finds : WrittenOf (CutSearch × Bool)

@@ -2,8 +2,8 @@
 use Rattle.std.specs.Prelude.{ℕ, ◌≡◌, ◌+◌, ◌-◌, List}
 use Rattle.csicodec_spans.specs.Parts.{Part}
 use Rattle.csicodec_clean.specs.Check.{counted}
-use Rattle.csicodec_lines.specs.declared.search.CutSearch.{CutSearch}
-use Rattle.csicodec_lines.specs.Cuts.{Found, behind_part, behind_text, cuts_at, cuts_in, patience, told}
+use Rattle.csicodec_lines.specs.{declared.search.CutSearch.CutSearch, Cuts.Found, Cuts.behind_part, Cuts.behind_text, Cuts.cuts_at, Cuts.cuts_in, Cuts.patience}
+use Rattle.csicodec_lines.specs.{Cuts.told}
 
 -- it counts down to the first byte that is far enough from the last place, and from there on to that where no newline is waited for
 pub record IsAt (c : CutSearch) (s : Found) : Type 0 where

@@ -1,11 +1,8 @@
-use Rattle.std.proofs.Common.{ap}
-use Rattle.std.proofs.lemmas.Result.{on_err_weaker, on_ok_weaker}
-use Rattle.csicodec_filter.specs.Filter.{Held}
-use Rattle.csicodec_filter.specs.Transform.{Sends, Transforms}
+use Rattle.std.proofs.{Common.ap, lemmas.Result.on_err_weaker, lemmas.Result.on_ok_weaker}
+use Rattle.csicodec_filter.specs.{Filter.Held, Transform.Sends, Transform.Transforms}
 use Rattle.csicodec_filter.proofs.Sent.{whole_front}
 use Rattle.csicodec_clean.specs.Stream.{IsFrontOf}
-use Rattle.csicodec_lines.specs.Cuts.{Tells}
-use Rattle.csicodec_lines.specs.Private.Finder.{Passes}
+use Rattle.csicodec_lines.specs.{Cuts.Tells, Private.Finder.Passes}
 use Rattle.csicodec_lines.proofs.Going.{Quiet, begun, front, shorter, tells, whole_text}
 use Rattle.csicodec_lines.proofs.cuts.cuts_all.Goals as goal
 

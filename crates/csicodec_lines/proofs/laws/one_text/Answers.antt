@@ -1,7 +1,5 @@
-use Rattle.csicodec_clean.specs.Cleaned.{Strips, longest}
-use Rattle.csicodec_clean.specs.Styled.{StylesIn}
-use Rattle.csicodec_clean.proofs.Again.{one_styled}
-use Rattle.csicodec_clean.proofs.Twice.{one_text as one_stripped}
+use Rattle.csicodec_clean.specs.{Cleaned.Strips, Cleaned.longest, Styled.StylesIn}
+use Rattle.csicodec_clean.proofs.{Again.one_styled, Twice.one_text as one_stripped}
 use Rattle.csicodec_lines.proofs.Texts.{one_text}
 use Rattle.csicodec_lines.proofs.laws.one_text.Goals as goal
 

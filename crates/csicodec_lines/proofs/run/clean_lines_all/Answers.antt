@@ -1,12 +1,8 @@
 use Rattle.std.proofs.Common.{refl}
 use Rattle.csicodec_clean.specs.Styled.{IsStyledIn, Keeping, StylesIn, first_kept, keeps, resets}
-use Rattle.csicodec_clean.proofs.Again.{one_styled}
-use Rattle.csicodec_clean.proofs.Fronts.{clean_front}
-use Rattle.csicodec_clean.proofs.Styled.{styles}
+use Rattle.csicodec_clean.proofs.{Again.one_styled, Fronts.clean_front, Styled.styles}
 use Rattle.csicodec_lines.specs.Stream.{begun}
-use Rattle.csicodec_lines.proofs.Fronts.{lines_ran}
-use Rattle.csicodec_lines.proofs.Taken.{passes_none}
-use Rattle.csicodec_lines.proofs.Texts.{styled_lines}
+use Rattle.csicodec_lines.proofs.{Fronts.lines_ran, Taken.passes_none, Texts.styled_lines}
 use Rattle.csicodec_lines.proofs.run.clean_lines_all.Goals as goal
 
 abbrev own : Keeping → Keeping

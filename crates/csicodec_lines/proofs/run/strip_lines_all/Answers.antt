@@ -1,15 +1,9 @@
 use Rattle.std.proofs.Common.{[], refl}
 use Rattle.std.specs.Prelude.{⊤}
-use Rattle.csicodec_clean.specs.Shown.{IsPlain}
-use Rattle.csicodec_clean.specs.Cleaned.{Strips, drops, ends_bare, longest}
-use Rattle.csicodec_clean.specs.Steps.{bare}
-use Rattle.csicodec_clean.proofs.Fronts.{strip_front}
-use Rattle.csicodec_clean.proofs.Plain.{strips}
-use Rattle.csicodec_clean.proofs.Twice.{one_text}
+use Rattle.csicodec_clean.specs.{Shown.IsPlain, Cleaned.Strips, Cleaned.drops, Cleaned.ends_bare, Cleaned.longest, Steps.bare}
+use Rattle.csicodec_clean.proofs.{Fronts.strip_front, Plain.strips, Twice.one_text}
 use Rattle.csicodec_lines.specs.Stream.{begun}
-use Rattle.csicodec_lines.proofs.Fronts.{lines_ran}
-use Rattle.csicodec_lines.proofs.Taken.{passes_none}
-use Rattle.csicodec_lines.proofs.Texts.{plain_lines}
+use Rattle.csicodec_lines.proofs.{Fronts.lines_ran, Taken.passes_none, Texts.plain_lines}
 use Rattle.csicodec_lines.proofs.run.strip_lines_all.Goals as goal
 
 pub transform_all-requires-clause-begun : goal.transform_all-requires-clause-begun

@@ -1,5 +1,4 @@
-use Rattle.std.proofs.Common.{arith}
-use Rattle.std.proofs.lemmas.Fmt.{length-decimal-le}
+use Rattle.std.proofs.{Common.arith, lemmas.Fmt.length-decimal-le}
 use Rattle.csicodec_lines.proofs.search.append_line.Goals as goal
 
 pub write_digits-begin-requires : goal.write_digits-begin-requires

@@ -1,5 +1,5 @@
-use Rattle.std.proofs.Common.{◌++◌, ◌∙◌, [], ◌∷◌, refl, sym, ap, append_assoc, append-nil}
-use Rattle.std.proofs.lemmas.Bool.{true≢false}
+use Rattle.std.proofs.{Common.◌++◌, Common.◌∙◌, Common.[], Common.◌∷◌, Common.refl, Common.sym, Common.ap, Common.append_assoc, Common.append-nil}
+use Rattle.std.proofs.{lemmas.Bool.true≢false}
 use Rattle.csicodec_clean.specs.Shown.{shown_text}
 use Rattle.csicodec_lines.proofs.Taken.{goes_joining, goes_over}
 use Rattle.csicodec_lines.proofs.lines.Lines.take_end.Goals as goal

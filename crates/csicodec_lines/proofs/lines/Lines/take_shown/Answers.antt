@@ -1,9 +1,8 @@
-use Rattle.std.proofs.Common.{◌≡◌, ◌<◌, ◌≤◌, ◌++◌, ◌∙◌, ℕ, [], length, take, refl, rules, sym, ap, append-nil}
-use Rattle.std.proofs.Math.Seq.{take-append_seam}
+use Rattle.std.proofs.{Common.◌≡◌, Common.◌<◌, Common.◌≤◌, Common.◌++◌, Common.◌∙◌, Common.ℕ, Common.[], Common.length, Common.take, Common.refl, Common.rules}
+use Rattle.std.proofs.{Common.sym, Common.ap, Common.append-nil, Math.Seq.take-append_seam}
 use Rattle.csicodec_clean.specs.Shown.{shown_text}
 use Rattle.csicodec_lines.specs.Stream.{Passes}
-use Rattle.csicodec_lines.proofs.Copied.{goes_shown, is_blank, unchanged}
-use Rattle.csicodec_lines.proofs.Taken.{adds_none, goes_same}
+use Rattle.csicodec_lines.proofs.{Copied.goes_shown, Copied.is_blank, Copied.unchanged, Taken.adds_none, Taken.goes_same}
 use Rattle.csicodec_lines.proofs.lines.Lines.take_shown.Goals as goal
 
 pub returns-then-front-lt-LANES : goal.returns-then-front-lt-LANES

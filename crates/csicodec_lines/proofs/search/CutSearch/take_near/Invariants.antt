@@ -1,6 +1,5 @@
 use Rattle.std.proofs.Common.{◌≡◌, ◌++◌, ℕ, List, length}
-use Rattle.csicodec_lines.specs.Cuts.{Found, behind_text, cuts_in, told}
-use Rattle.csicodec_lines.specs.Private.Search.{IsAt}
+use Rattle.csicodec_lines.specs.{Cuts.Found, Cuts.behind_text, Cuts.cuts_in, Cuts.told, Private.Search.IsAt}
 use Rattle.csicodec_lines.proofs.search.CutSearch.take_near.Given as goal
 
 -- what was told, and what is to be told of the rest, is what is told of all

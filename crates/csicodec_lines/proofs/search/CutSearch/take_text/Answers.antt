@@ -1,7 +1,6 @@
-use Rattle.std.proofs.Common.{◌≡◌, ◌++◌, ◌∙◌, length, ap, sym, subst, arith, take-append-drop}
-use Rattle.std.proofs.lemmas.Result.{on_ok_weaker}
-use Rattle.csicodec_lines.specs.Cuts.{passed, told}
-use Rattle.csicodec_lines.specs.Private.Search.{IsAt}
+use Rattle.std.proofs.{Common.◌≡◌, Common.◌++◌, Common.◌∙◌, Common.length, Common.ap, Common.sym, Common.subst, Common.arith, Common.take-append-drop}
+use Rattle.std.proofs.{lemmas.Result.on_ok_weaker}
+use Rattle.csicodec_lines.specs.{Cuts.passed, Cuts.told, Private.Search.IsAt}
 use Rattle.csicodec_lines.proofs.Parts.{skip, skipped}
 use Rattle.csicodec_lines.proofs.search.CutSearch.take_text.Goals as goal
 

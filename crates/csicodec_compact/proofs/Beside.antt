@@ -1,5 +1,5 @@
 -- Runs of parts, one after the other.
-use Rattle.std.proofs.Common.{◌≡◌, ◌≢◌, ◌≤◌, ◌+◌, ◌-◌, ℕ, true, false, not, List, [], ◌∷◌, ◌++◌}
+use Rattle.std.proofs.Common.{◌≡◌, ◌≢◌, ◌≤◌, ◌+◌, ◌-◌, ℕ, true, false, List, [], ◌∷◌, ◌++◌}
 use Rattle.std.proofs.Common.{inl, inr, ⊎_elim, length, take, drop, refl, sym, ap, subst, ◌∙◌, append_assoc, append-nil, arith}
 use Rattle.std.proofs.lemmas.Bool.{cases_Bool, true≢false}
 use Rattle.std.proofs.lemmas.Grind.{flat_map-append}
@@ -32,9 +32,9 @@ use Rattle.csicodec_compact.specs.Runs.{IsStaying, NoneStays, Shortens, AreRuns,
 use Rattle.csicodec_compact.specs.declared.form.TextEnding.{TextEnding}
 use Rattle.csicodec_compact.specs.declared.form.TextEnding.TheVariants as forms
 use Rattle.csicodec_compact.specs.declared.shortener.Shortener.{Shortener}
-use Rattle.csicodec_compact.specs.Private.Run.{Holds}
+use Rattle.csicodec_compact.specs.Private.Steps.{Holds}
 use Rattle.csicodec_compact.specs.Private.Steps.{Begins, form_of, closing, joint, behind, is_joined, may_join, opened, list_of}
-use Rattle.csicodec_compact.specs.Private.Steps.{IsTail, IsListed, IsOwn, IsNotedList, IsNoted, IsNote, HasFew, LeavesRoom, GoesOnFrom, IsHeld, Extends, GoesOnBy}
+use Rattle.csicodec_compact.specs.Private.Steps.{IsTail, IsListed, IsOwn, IsNotedList, IsNoted, IsNote, HasFew, LeavesRoom, GoesOnFrom, IsEnd, IsHeld, Extends, GoesOnBy}
 use Rattle.csicodec_compact.proofs.JoinedLists.{tail_joined, tail_decodes, joint_short}
 
 -- ---- bytes in front of others
@@ -94,8 +94,8 @@ free_by bytes list final s free = λ staying.
     let same = one_seq bytes bytes [] [] list other final last s t refl in
     true≢false (sym (rw (← same.1, ← same.2) at stay) ∙ free)
 
-pub one_short : (bytes own : List ℕ) (list : List CsiParam) (final : ℕ) → Seq bytes list final → Compacts bytes own → Shortens (part kind.Csi bytes ∷ []) own
-one_short bytes own list final s h =
+one_short : (bytes own : List ℕ) → IsOne bytes → Compacts bytes own → Shortens (part kind.Csi bytes ∷ []) own
+one_short bytes own (list, final, s) h =
     let xs = actions list false final in
     let came : Decodes bytes false xs = one_sequence bytes list final xs s (actions_are list false final) in
     record {
@@ -164,19 +164,16 @@ module _ (run front left : List Part) (held text list : List ℕ) (xs : List Act
     end = record { list = list; actions = xs; whole = refl; tail = tail; shorter = short; free = free; few = few };
   }
 
-closed_whole : (run : List Part) (held : List ℕ) (form : TextEnding) (room : ℕ) → (h : IsHeld run held form room) → (h.left ≡ []) × (h.tail ≡ []) → IsShortened run (held ++ [])
-closed_whole run held form room h none = rw (append-nil held, h.parts, h.whole, none.0, none.1, append-nil, append-nil) h.written
-
-closed_list : (run : List Part) (held : List ℕ) (form : TextEnding) (room : ℕ) → (h : IsHeld run held form room) → GoesOnFrom form room h.left h.tail → IsShortened run (held ++ closing form)
-closed_list run held form room h g =
-    let shut = 27 ∷ 91 ∷ (g.list ++ closing form) in
-    rw (h.parts, h.whole, g.whole, append_assoc) (shortened_on h.front h.left h.text shut h.written (shortened_run h.left shut g.shorter))
-
 -- what is held, closed
 pub closed : (run : List Part) (held : List ℕ) (form : TextEnding) (room : ℕ) → IsHeld run held form room → IsShortened run (held ++ closing form)
-closed run held forms.Whole room h = closed_whole run held forms.Whole room h h.end
-closed run held forms.Last room h = closed_whole run held forms.Last room h h.end
-closed run held form room h = closed_list run held form room h h.end
+closed run held form room h = go form h.end
+  where
+    go : (form : TextEnding) → IsEnd form room h.left h.tail → IsShortened run (held ++ closing form)
+    go forms.Whole none = rw (append-nil held, h.parts, h.whole, none.0, none.1, append-nil h.front, append-nil h.text) h.written
+    go forms.Last none = rw (append-nil held, h.parts, h.whole, none.0, none.1, append-nil h.front, append-nil h.text) h.written
+    go form g =
+        let shut = 27 ∷ 91 ∷ (g.list ++ closing form) in
+        rw (h.parts, h.whole, g.whole, append_assoc) (shortened_on h.front h.left h.text shut h.written (shortened_run h.left shut g.shorter))
 
 -- what is joined is short
 joint_few : (st form : TextEnding) (text : List ℕ) → length text ≤ 255 → length (joint st form text) ≤ 255
@@ -186,24 +183,13 @@ closing_few : (form : TextEnding) → length (closing form) ≤ 2
 closing_few forms.Whole = omega arith
 closing_few _ = omega arith
 
-one_of : (bytes own : List ℕ) → IsOne bytes → Compacts bytes own → Shortens (part kind.Csi bytes ∷ []) own
-one_of bytes own one h = one_short bytes own one.0 one.1 one.2 h
-
 module _ (run : List Part) (bytes held text : List ℕ) (st : TextEnding) (room left : ℕ) (h : IsHeld run held st room) (one : IsOne bytes) where
   -- a list begins behind it
   begun_list : (form : TextEnding) → (n : IsNotedList form bytes text) → (left ≤ 15) × (length text ≤ 255) → IsHeld (run ++ part kind.Csi bytes ∷ []) ((held ++ closing st) ++ 27 ∷ 91 ∷ drop 1 text) form left
   begun_list form n few =
       let same : 27 ∷ 91 ∷ drop 1 text ≡ 27 ∷ 91 ∷ n.list = ap (λ (l : List ℕ). 27 ∷ 91 ∷ drop 1 l) n.whole in
       held_list (run ++ part kind.Csi bytes ∷ []) run (part kind.Csi bytes ∷ []) ((held ++ closing st) ++ 27 ∷ 91 ∷ drop 1 text) (held ++ closing st) n.list n.actions left refl
-      (ap (λ (l : List ℕ). (held ++ closing st) ++ l) same) (closed run held st room h) (omega (arith, few.0, few.1, ap length n.whole)) form n.tail (one_of bytes (27 ∷ 91 ∷ (n.list ++ closing form)) one n.compacts) (n.free, tt)
-
-  -- a sequence that stands by itself
-  pub begun : (form : TextEnding) → IsNoted form bytes text → (is_joined form ≡ true → (left ≤ 15) × (length text ≤ 255))
-      → IsHeld (run ++ part kind.Csi bytes ∷ []) ((held ++ closing st) ++ opened form text) form left
-  begun forms.Whole n few =
-      held_whole (run ++ part kind.Csi bytes ∷ []) ((held ++ closing st) ++ text) left
-      (shortened_on run (part kind.Csi bytes ∷ []) (held ++ closing st) text (closed run held st room h) (shortened_run (part kind.Csi bytes ∷ []) text (one_of bytes text one n)))
-  begun form n few = begun_list form n (few refl)
+      (ap (λ (l : List ℕ). (held ++ closing st) ++ l) same) (closed run held st room h) (omega (arith, few.0, few.1, ap length n.whole)) form n.tail (one_short bytes (27 ∷ 91 ∷ (n.list ++ closing form)) one n.compacts) (n.free, tt)
 
   -- a list in the same sequence
   list_joined : (form : TextEnding) → (n : IsNotedList form bytes text) → GoesOnFrom st room h.left h.tail → may_join st form text ≡ true → (left + 1 ≤ room) × (length text ≤ 255)
@@ -224,19 +210,11 @@ module _ (run : List Part) (bytes held text : List ℕ) (st : TextEnding) (room 
       let more : length (joint st form (59 ∷ n.list)) ≤ 255 = joint_few st form (59 ∷ n.list) (subst (λ (l : List ℕ). length l ≤ 255) n.whole few.1) in
       let leaves : LeavesRoom left list = omega (arith, g.few, longer, more, few.0) in
       let within : length all ≤ most_joined = omega (arith, leaves, closing_few (behind st form), length-append list (closing (behind st form))) in
-      let short = joined_short h.left p first second all g.shorter (one_of bytes second one n.compacts) g.free (n.free, tt) (joint_short st form g.list n.list may') alike within in
+      let short = joined_short h.left p first second all g.shorter (one_short bytes second one n.compacts) g.free (n.free, tt) (joint_short st form g.list n.list may') alike within in
       let text' : held ++ joint st form text ≡ h.text ++ 27 ∷ 91 ∷ list = rw (n.whole, h.whole, g.whole) (append_assoc h.text (27 ∷ 91 ∷ g.list) (joint st form (59 ∷ n.list))) in
       held_list (run ++ p) h.front (h.left ++ p) (held ++ joint st form text) h.text list (g.actions ++ n.actions) left
       (rw h.parts (append_assoc h.front h.left p)) text' h.written leaves
       (behind st form) tail short (all-append (λ (q : Part). ¬ IsStaying q.bytes) h.left p g.free (n.free, tt))
-
-pub joined : (run : List Part) (bytes held text : List ℕ) (st form : TextEnding) (room left : ℕ) → IsHeld run held st room → IsOne bytes → IsNoted form bytes text → may_join st form text ≡ true
-    → (is_joined form ≡ true → (left + 1 ≤ room) × (length text ≤ 255))
-    → IsHeld (run ++ part kind.Csi bytes ∷ []) (held ++ joint st form text) (behind st form) left
-joined run bytes held text forms.Whole form room left h one n may few = cc
-joined run bytes held text forms.Last form room left h one n may few = cc
-joined run bytes held text st forms.Whole room left h one n may few = cc
-joined run bytes held text st form room left h one n may few = list_joined run bytes held text st room left h one form n h.end may (few refl)
 
 -- what is noted of a sequence
 pub noted : (bytes text : List ℕ) (form : TextEnding) → ¬ IsStaying bytes → Compacts bytes text → IsListed form text → IsNotedList form bytes (59 ∷ list_of form text)
@@ -285,22 +263,28 @@ note_long bytes note n = omega (arith, ap length n.3)
 -- a text that stands by itself
 pub extends_one : (st form : TextEnding) (room left count : ℕ) (bytes text : List ℕ) → IsOne bytes → IsNoted form bytes text → HasFew form count text → left ≤ 16 - count
     → Extends st room (part kind.Csi bytes ∷ []) (closing st ++ opened form text) form left
+extends_one st forms.Whole room left count bytes text one n few leaves run before h =
+    rw (← append_assoc before (closing st) text)
+    (held_whole (run ++ part kind.Csi bytes ∷ []) ((before ++ closing st) ++ text) left
+    (shortened_on run (part kind.Csi bytes ∷ []) (before ++ closing st) text (closed run before st room h) (shortened_run (part kind.Csi bytes ∷ []) text (one_short bytes text one n))))
 extends_one st form room left count bytes text one n few leaves run before h =
-    rw (← append_assoc before (closing st) (opened form text))
-    (begun run bytes before text st room left h one form n (λ joined. (omega (arith, (few joined).0, leaves), (few joined).1)))
+    rw (← append_assoc before (closing st) (opened form text)) (begun_list run bytes before text st room left h one form n (omega (arith, (few refl).0, leaves), (few refl).1))
 
 -- a sequence can be written as it came
 pub as_it_came : (bytes : List ℕ) → Compacts bytes bytes
 as_it_came bytes = record { alike = λ actions d. d; short = omega arith; kept = λ list final s stay. refl }
 
 pub shortened_one : (bytes : List ℕ) → IsOne bytes → IsShortened (part kind.Csi bytes ∷ []) bytes
-shortened_one bytes one = shortened_run (part kind.Csi bytes ∷ []) bytes (one_of bytes bytes one (as_it_came bytes))
+shortened_one bytes one = shortened_run (part kind.Csi bytes ∷ []) bytes (one_short bytes bytes one (as_it_came bytes))
 
 -- one in the same list
 pub extends_joined : (st form : TextEnding) (room left count : ℕ) (bytes text : List ℕ) → IsOne bytes → IsNoted form bytes text → may_join st form text ≡ true → HasFew form count text
     → left + count ≤ room → Extends st room (part kind.Csi bytes ∷ []) (joint st form text) (behind st form) left
+extends_joined forms.Whole form room left count bytes text one n may few leaves run before h = cc
+extends_joined forms.Last form room left count bytes text one n may few leaves run before h = cc
+extends_joined st forms.Whole room left count bytes text one n may few leaves run before h = cc
 extends_joined st form room left count bytes text one n may few leaves run before h =
-    joined run bytes before text st form room left h one n may (λ is. (omega (arith, (few is).0, leaves), (few is).1))
+    list_joined run bytes before text st room left h one form n h.end may (omega (arith, (few refl).0, leaves), (few refl).1)
 
 -- what stands as it came
 pub extends_own : (st : TextEnding) (room left : ℕ) (bytes : List ℕ) (parts : List Part) → IsShortened parts bytes → Extends st room parts (closing st ++ bytes) forms.Whole left

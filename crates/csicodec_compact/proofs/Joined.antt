@@ -20,9 +20,9 @@ each-alone : (xs : List Action) → AreAlone xs → AllByRecursion (Alone false)
 each-alone [] alone = tt
 each-alone (a ∷ xs) alone = (alone.0.back, each-alone xs alone.1)
 
-alone-parts : (xs ys : List Action) → AreAlone (xs ++ ys) → AreAlone xs × AreAlone ys
-alone-parts [] ys alone = (tt, alone)
-alone-parts (a ∷ xs) ys alone = let parts = alone-parts xs ys alone.1 in ((alone.0, parts.0), parts.1)
+pub all_parts : {T : Type 0} (P : T → Type 0) (xs ys : List T) → AllByRecursion P (xs ++ ys) → AllByRecursion P xs × AllByRecursion P ys
+all_parts P [] ys all = (tt, all)
+all_parts P (x ∷ xs) ys all = let others = all_parts P xs ys all.1 in ((all.0, others.0), others.1)
 
 pub encodes-each : (xs : List Action) (all : List ℕ) → all ≡ texts xs → Encodes xs all
 encodes-each xs all is = rw is (record { back = λ alone. decodes-each false xs (each-alone xs alone); short = omega arith })
@@ -35,7 +35,7 @@ encodes-shorter xs all short is less alike = record {
 
 pub encodes-append : (xs ys : List Action) (t u : List ℕ) → Encodes xs t → Encodes ys u → Encodes (xs ++ ys) (t ++ u)
 encodes-append xs ys t u x y = record {
-  back = λ alone. (let parts = alone-parts xs ys alone in decodes-append t u false xs ys (x.back parts.0) (y.back parts.1));
+  back = λ alone. (let parts = all_parts (λ (a : Action). ReadsAlone a false) xs ys alone in decodes-append t u false xs ys (x.back parts.0) (y.back parts.1));
   short = omega (arith, x.short, y.short, length-append t u, length-append (texts xs) (texts ys), ap length (flat_map-append text xs ys));
 }
 

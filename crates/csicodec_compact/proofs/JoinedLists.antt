@@ -1,5 +1,5 @@
 -- Lists of attributes that are joined at a `;`.
-use Rattle.std.proofs.Common.{◌≡◌, ◌≤◌, ◌+◌, ℕ, ℤ, pos, true, false, not, Some, List, [], ◌∷◌, ◌++◌, length, map, inr, refl, sym, ap, subst, ◌∙◌, append_assoc, append-nil, arith}
+use Rattle.std.proofs.Common.{◌≡◌, ◌≤◌, ℕ, ℤ, pos, true, false, not, Some, List, [], ◌∷◌, ◌++◌, length, map, inr, refl, sym, ap, subst, ◌∙◌, append_assoc, append-nil, arith}
 use Rattle.std.specs.Prelude.{◌==◌, slice_get}
 use Rattle.std.specs.List.{list_any}
 use Rattle.std.proofs.lemmas.Bool.{and_parts, eqb-true, not-false, or_parts, true≢false}
@@ -241,26 +241,21 @@ tail_decodes forms.Blank bytes ys (styles, front, is, are, o) =
     rw (is, are, map-append Sgr styles (sgr.Reset ∷ []), append_assoc) (rw append_assoc at (list_decodes (front ++ 59 ∷ 48 ∷ []) h.list _ h.is.spellable h.is.spelled h.is.means))
 tail_decodes forms.Bare bytes ys (is, are) = rw (is, are) (list_decodes [] [] (Sgr sgr.Reset ∷ []) tt refl refl)
 
-joint_few : (st form : TextEnding) (b : List ℕ) → may_join st form (59 ∷ b) ≡ true
-    → length (joint st form (59 ∷ b)) + length (closing (behind st form)) ≤ length (closing st) + (2 + (length b + length (closing form)))
-joint_few forms.Whole form b may = cc
-joint_few forms.Last form b may = cc
-joint_few forms.Open forms.Whole b may = cc
-joint_few forms.Blank forms.Whole b may = cc
-joint_few forms.Bare forms.Whole b may = cc
-joint_few _ _ b may = omega arith
-
 -- and is no longer than both
 pub joint_short : (st form : TextEnding) (bytes b : List ℕ) → may_join st form (59 ∷ b) ≡ true
     → length (27 ∷ 91 ∷ ((bytes ++ joint st form (59 ∷ b)) ++ closing (behind st form))) ≤ length ((27 ∷ 91 ∷ (bytes ++ closing st)) ++ 27 ∷ 91 ∷ (b ++ closing form))
+joint_short forms.Whole form bytes b may = cc
+joint_short forms.Last form bytes b may = cc
+joint_short st forms.Whole bytes b may = cc
 joint_short st form bytes b may =
-    let few = joint_few st form b may in
-    let new = bytes ++ joint st form (59 ∷ b) in
-    let here : length (new ++ closing (behind st form)) ≡ (length bytes + length (joint st form (59 ∷ b))) + length (closing (behind st form)) =
-    omega (arith, length-append new (closing (behind st form)), length-append bytes (joint st form (59 ∷ b))) in
-    let there : length ((27 ∷ 91 ∷ (bytes ++ closing st)) ++ 27 ∷ 91 ∷ (b ++ closing form)) ≡ (2 + (length bytes + length (closing st))) + (2 + (length b + length (closing form))) =
-    omega (arith, length-append (27 ∷ 91 ∷ (bytes ++ closing st)) (27 ∷ 91 ∷ (b ++ closing form)), length-append bytes (closing st), length-append b (closing form)) in
-    omega (arith, few, here, there)
+    omega (
+      arith,
+      length-append (bytes ++ joint st form (59 ∷ b)) (closing (behind st form)),
+      length-append bytes (joint st form (59 ∷ b)),
+      length-append (27 ∷ 91 ∷ (bytes ++ closing st)) (27 ∷ 91 ∷ (b ++ closing form)),
+      length-append bytes (closing st),
+      length-append b (closing form),
+    )
 
 -- ---- what is found of a text
 

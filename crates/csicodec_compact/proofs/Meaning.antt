@@ -15,6 +15,7 @@ use Rattle.csicodec_spans.proofs.Spanned.{whole_joined}
 use Rattle.csicodec_filter.proofs.Meaning.{AreMeant, again}
 use Rattle.csicodec_compact.specs.Runs.{AreRuns, IsRun, Shortens, CompactsAll, most_joined}
 use Rattle.csicodec_compact.specs.Meaning.{HasAgain}
+use Rattle.csicodec_compact.proofs.Joined.{all_parts}
 
 -- ---- a control sequence of the stream has no more than `limit` bytes
 
@@ -36,10 +37,6 @@ whole_within : (limit : ℕ) (m : Mode) (bytes : List ℕ) (parts : List Part) �
 whole_within limit m bytes parts w =
     subst (AllByRecursion (IsWithin limit)) (sym w.whole)
     (all-append (IsWithin limit) w.sure (left_over w.rest) (firsts_within limit m w.after bytes w.rest w.sure w.first) (left_within limit w.rest))
-
-all_parts : (P : Part → Type 0) (ps qs : List Part) → AllByRecursion P (ps ++ qs) → AllByRecursion P ps × AllByRecursion P qs
-all_parts P [] qs h = (tt, h)
-all_parts P (p ∷ ps) qs h = let others = all_parts P ps qs h.1 in ((h.0, others.0), others.1)
 
 -- ---- nor has what is written for some
 

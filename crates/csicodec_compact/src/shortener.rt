@@ -2,7 +2,7 @@
 ghost use Rattle.std.specs.Prelude.{◌≡◌, ◌≤◌, ℕ, drop, length, IfOk};
 ghost use Rattle.csicodec_spans.specs.declared.table.Mode.TheVariants.{Text as Plain};
 ghost use Rattle.csicodec_filter.specs.Written.{Appends, open_at};
-ghost use Rattle.csicodec_compact.specs.Private.Run.{Holds};
+ghost use Rattle.csicodec_compact.specs.Private.Steps.{Holds};
 
 use crate::compact::Compact;
 use crate::form::TextEnding;
@@ -77,7 +77,7 @@ impl Shortener {
 impl WriteSpans<Short> for Shortener {
     ghost use Rattle.std.specs.Prelude.{◌≡◌};
     ghost use Rattle.csicodec_compact.specs.declared.form.TextEnding.TheVariants as TextEnding;
-    ghost use Rattle.csicodec_compact.specs.Private.Run.{Holds};
+    ghost use Rattle.csicodec_compact.specs.Private.Steps.{Holds};
 
     ghost written = { Holds };
 

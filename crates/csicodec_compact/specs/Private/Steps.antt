@@ -12,9 +12,11 @@ use Rattle.csicodec_parser.specs.declared.actions.CSI.TheVariants as csi
 use Rattle.csicodec_parser.specs.Segments.{Actions}
 use Rattle.csicodec_spans.specs.Parts.{Part}
 use Rattle.csicodec_streams.specs.Known.{IsOne}
+use Rattle.csicodec_filter.specs.Written.{WrittenOf}
 use Rattle.csicodec.specs.Compose.{EndsInSemicolon, IsStyleList}
 use Rattle.csicodec_compact.specs.declared.form.TextEnding.{TextEnding}
 use Rattle.csicodec_compact.specs.declared.form.TextEnding.TheVariants as forms
+use Rattle.csicodec_compact.specs.declared.shortener.Shortener.{Shortener}
 use Rattle.csicodec_compact.specs.Compacts.{Compacts}
 use Rattle.csicodec_compact.specs.Runs.{IsStaying, NoneStays, Shortens, IsShortened}
 
@@ -196,3 +198,7 @@ Extends form room parts text after left = (run : List Part) (before : List ℕ)
 abbrev pub GoesOnBy : TextEnding → ℕ → List Part → List ℕ → List ℕ → TextEnding → ℕ → Type 0
 GoesOnBy form room parts old new after left = (text : List ℕ) × (new ≡ old ++ text)
     × Extends form room parts text after left
+
+-- so far this text is held for the parts, and its end is that of the last state
+abbrev pub Holds : WrittenOf Shortener
+Holds first parts held last = IsHeld parts held last.written.form last.written.room

@@ -1,6 +1,6 @@
 use Rattle.std.proofs.Common.{◌<◌, take, arith}
 use Rattle.csicodec_filter.proofs.Written.{appends_none}
-use Rattle.csicodec_compact.specs.Private.Run.{Holds}
+use Rattle.csicodec_compact.specs.Private.Steps.{Holds}
 use Rattle.csicodec_compact.proofs.Beside.{front_known, front_plain}
 use Rattle.csicodec_compact.proofs.shortener.ShortenerWriteSpansShort.pass.Goals as goal
 

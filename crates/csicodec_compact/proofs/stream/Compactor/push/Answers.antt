@@ -3,7 +3,7 @@ use Rattle.csicodec_spans.specs.Parts.{IsUnsure}
 use Rattle.csicodec_spans.proofs.Kept.{unsure_short}
 use Rattle.csicodec_filter.specs.Filter.{Held}
 use Rattle.csicodec_filter.specs.Written.{Adds, Appends, with_more}
-use Rattle.csicodec_compact.specs.Private.Run.{Holds}
+use Rattle.csicodec_compact.specs.Private.Steps.{Holds}
 use Rattle.csicodec_compact.specs.Runs.{Open, PassesShort}
 use Rattle.csicodec_compact.specs.declared.stream.Compactor.TheInside.{Inside}
 use Rattle.csicodec_compact.specs.declared.shortener.Shortener.{Shortener}

@@ -17,13 +17,11 @@ pub(crate) const NUMBERS: usize = 16;
 /// How many numbers an attribute is written with at most.
 fn numbers(style: &Sgr) -> usize {
     match style {
-        Sgr::Foreground(color) | Sgr::Background(color) | Sgr::UnderlineColor(color) => {
-            if matches!(color, ColorSpec::TrueColor(_)) {
-                6
-            } else {
-                3
-            }
-        }
+        Sgr::Foreground(color) | Sgr::Background(color) | Sgr::UnderlineColor(color) =>
+            match color {
+                ColorSpec::TrueColor(_) => 6,
+                _ => 3,
+            },
         _ => 1,
     }
 }

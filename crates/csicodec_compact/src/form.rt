@@ -72,11 +72,9 @@ impl TextEnding {
         ensures { result.now ≡ closing self }
     {
         match self {
-            TextEnding::Whole => b"",
-            TextEnding::Last => b"",
-            TextEnding::Open => b"m",
+            TextEnding::Whole | TextEnding::Last => b"",
+            TextEnding::Open | TextEnding::Bare => b"m",
             TextEnding::Blank => b"0m",
-            TextEnding::Bare => b"m",
         }
     }
 }

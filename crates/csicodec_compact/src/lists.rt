@@ -4,6 +4,7 @@ ghost use Rattle.std.specs.List.{list_any};
 ghost use Rattle.csicodec_tokens.specs.Sequence.{Seq};
 ghost use Rattle.csicodec_base.specs.declared.sgr.Sgr.{Sgr};
 ghost use Rattle.csicodec_actions.specs.Actions.{Sgr as Style};
+ghost use Rattle.csicodec_filter.specs.Faithful.{stays};
 ghost use Rattle.csicodec_parser.specs.Segments.{Actions};
 ghost use Rattle.csicodec.specs.Compose.{EndsInSemicolon, IsStyleList};
 ghost use Rattle.csicodec_compact.specs.Private.Steps.{IsListed, IsOwn, is_joined, is_mark, is_other};
@@ -11,6 +12,7 @@ ghost use Rattle.csicodec_compact.specs.Private.Steps.{IsListed, IsOwn, is_joine
 use crate::encode::NUMBERS;
 use crate::form::TextEnding;
 use csicodec_base::{CsiParam, ReadError, read_csi_into};
+use csicodec_filter::stays;
 use csicodec_parser::CSI;
 use csicodec_streams::parse_into;
 use std::alloc::{AllocError, Global};
@@ -36,23 +38,14 @@ fn has_mark(params: &[CsiParam]) -> bool
 fn is_plain(params: &[CsiParam]) -> bool
     ensures { result ≡ true → IsStyleList params.now }
 {
-    if params.len() == 0 || has_mark(params) {
-        return false;
-    }
-    true
+    !params.is_empty() && !has_mark(params)
 }
 
 /// Whether a list ends in a number.
 fn is_open(params: &[CsiParam]) -> bool
     ensures { result ≡ true → ¬ EndsInSemicolon params.now }
 {
-    match params.split_last() {
-        Some((last, _)) => match last {
-            CsiParam::Integer(_) => true,
-            CsiParam::P(_) => false,
-        },
-        None => false,
-    }
+    matches!(params.split_last(), Some((CsiParam::Integer(_), _)))
 }
 
 /// Whether an action is no attribute.
@@ -76,13 +69,8 @@ const LONGEST: usize = 256;
 pub(crate) fn numbers(text: &[u8]) -> u8
     ensures { 1 ≤ result }
 {
-    let mut marks = 0u8;
-    for byte in text {
-        if *byte == b';' {
-            marks = marks.saturating_add(1);
-        }
-    }
-    marks.saturating_add(1)
+    let marks = text.iter().filter(|byte| **byte == b';').count();
+    u8::try_from(marks).unwrap_or(u8::MAX).saturating_add(1)
 }
 
 /// A text without its end, where it ends so.
@@ -94,24 +82,6 @@ fn without_end<'a>(text: &'a [u8], end: &[u8]) -> Option<&'a [u8]>
     }
     let (front, back) = text.split_at(text.len() - end.len());
     if back == end { Some(front) } else { None }
-}
-
-/// Whether all actions of a list are attributes. `actions` is a buffer.
-fn are_styles(
-    alloc: Global,
-    params: &[CsiParam],
-    actions: &mut Vec<CSI>,
-) -> Result<bool, AllocError>
-    ensures { IfOk result
-        (λ yes. yes ≡ true
-        → (styles : List Sgr) × Actions params.now false 109 (map Style styles)) }
-{
-    actions.clear();
-    parse_into(alloc, params, false, 'm', actions)?;
-    if any_other(actions) {
-        return Ok(false);
-    }
-    Ok(true)
 }
 
 /// Reads texts of sequences, to see which are lists of attributes. Its buffers are kept from call to call.
@@ -139,13 +109,7 @@ impl Lists {
             → Seq text.now self.new.params.items 109 × IsStyleList self.new.params.items) }
     {
         match read_csi_into(&mut self.params, text) {
-            Ok(tail) => {
-                if tail.control == 'm' && tail.rest.is_empty() {
-                    Ok(is_plain(&self.params))
-                } else {
-                    Ok(false)
-                }
-            }
+            Ok(tail) => Ok(tail.control == 'm' && tail.rest.is_empty() && is_plain(&self.params)),
             Err(ReadError::Memory) => Err(AllocError),
             Err(_) => Ok(false),
         }
@@ -183,7 +147,9 @@ impl Lists {
         if !is_open(&self.params) {
             return Ok(false);
         }
-        are_styles(self.alloc, &self.params, &mut self.actions)
+        self.actions.clear();
+        parse_into(self.alloc, &self.params, false, 'm', &mut self.actions)?;
+        Ok(!any_other(&self.actions))
     }
 
     /// Whether a text of a list that ends in `;0` is one of known attributes without that.
@@ -205,17 +171,23 @@ impl Lists {
         Ok(true)
     }
 
-    /// The form of a text that is written for a sequence before `m`, which has these bytes and this list.
+    /// The form of a text that is written for a sequence of these bytes, which has this list and this final.
     pub(crate) fn form(
         &mut self,
         text: &[u8],
         bytes: &[u8],
         params: &[CsiParam],
+        control: char,
     ) -> Result<TextEnding, AllocError>
-        requires { Seq bytes.now params.now 109 }
+        requires { Seq bytes.now params.now control }
         ensures own { IfOk result (λ form. IsOwn form text.now) }
+        ensures free { IfOk result
+            (λ form. is_joined form ≡ true → stays params.now control ≡ false) }
         ensures few { IfOk result (λ form. is_joined form ≡ true → length text.now ≤ 256) }
     {
+        if control != 'm' || stays(params, control) {
+            return Ok(TextEnding::Whole);
+        }
         if text.len() > LONGEST {
             return Ok(TextEnding::Whole);
         }

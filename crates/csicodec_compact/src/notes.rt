@@ -1,14 +1,13 @@
 //! What is noted of a sequence: the text that is written for it, and how that may be joined to others.
-ghost use Rattle.std.specs.Prelude.{◌≡◌, ◌+◌, ◌≤◌, ℕ, List, ◌∷◌, true, false, drop, length, take, IfOk, OnOk};
+ghost use Rattle.std.specs.Prelude.{◌≡◌, ◌+◌, ◌≤◌, ℕ, List, ◌∷◌, true, false, drop, length, take, OnOk};
 ghost use Rattle.csicodec_tokens.specs.Sequence.{Seq};
-ghost use Rattle.csicodec_filter.specs.Faithful.{stays};
-ghost use Rattle.csicodec_compact.specs.Private.Steps.{IsNote, IsOwn, closing, form_of, is_joined, list_of};
+ghost use Rattle.csicodec_compact.specs.Private.Steps.{IsNote, closing, form_of, is_joined, list_of};
 
 use crate::compact::Compact;
 use crate::form::TextEnding;
 use crate::lists::{Lists, numbers};
 use csicodec_base::{CsiParam, TextBuffer};
-use csicodec_filter::{Rewrite, stays};
+use csicodec_filter::Rewrite;
 use csicodec_streams::Note;
 use std::alloc::{AllocError, Global};
 
@@ -21,14 +20,6 @@ impl Note for Short {
     ghost use Rattle.csicodec_compact.specs.Private.Steps.{IsNote};
 
     ghost notes = { λ bytes note. IsNote bytes note };
-}
-
-/// Whether a list before this final is one of attributes, which doesn't stay.
-fn are_attributes(params: &[CsiParam], control: char) -> bool
-    ensures free { result ≡ true → stays params.now control ≡ false }
-    ensures end { result ≡ true → control ≡ 109 }
-{
-    control == 'm' && !stays(params, control)
 }
 
 /// The list of a text, without what closes it.
@@ -97,28 +88,6 @@ impl Notes {
         }
     }
 
-    /// The form of the text.
-    fn form(
-        &mut self,
-        bytes: &[u8],
-        params: &[CsiParam],
-        control: char,
-    ) -> Result<TextEnding, AllocError>
-        requires { Seq bytes.now params.now control }
-        ensures own { IfOk result (λ form. IsOwn form self.old.text.items) }
-        ensures free { IfOk result
-            (λ form. is_joined form ≡ true → stays params.now control ≡ false) }
-        ensures few { IfOk result
-            (λ form. is_joined form ≡ true → length self.old.text.items ≤ 256) }
-        ensures text { self.new.text.items ≡ self.old.text.items }
-    {
-        if are_attributes(params, control) {
-            self.lists.form(&self.text, bytes, params)
-        } else {
-            Ok(TextEnding::Whole)
-        }
-    }
-
     /// Finds what is noted of a sequence, and answers it.
     pub(crate) fn find(
         &mut self,
@@ -132,7 +101,7 @@ impl Notes {
         self.text.clear();
         self.compact
             .rewrite(bytes, params, control, &mut self.text)?;
-        let form = self.form(bytes, params, control)?;
+        let form = self.lists.form(&self.text, bytes, params, control)?;
         write_note(&mut self.note, form, &self.text)?;
         Ok(())
     }

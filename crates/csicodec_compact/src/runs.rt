@@ -16,10 +16,7 @@ use std::alloc::AllocError;
 fn begins_blank(text: &[u8]) -> bool
     ensures { result ≡ is_semicolon (slice_get text.now 1) }
 {
-    match text.get(1) {
-        Some(byte) => *byte == b';',
-        None => false,
-    }
+    matches!(text.get(1), Some(b';'))
 }
 
 /// A list without the `;` in front.
@@ -40,11 +37,9 @@ fn may_join(held: TextEnding, form: TextEnding, text: &[u8]) -> bool
     ensures { result ≡ true → may_join held form text.now ≡ true }
 {
     match held {
-        TextEnding::Whole => false,
-        TextEnding::Last => false,
+        TextEnding::Whole | TextEnding::Last => false,
         TextEnding::Open => form.is_joined(),
-        TextEnding::Blank => form.is_joined() && !begins_blank(text),
-        TextEnding::Bare => form.is_joined() && !begins_blank(text),
+        TextEnding::Blank | TextEnding::Bare => form.is_joined() && !begins_blank(text),
     }
 }
 
@@ -89,11 +84,9 @@ impl Written {
         self.form = TextEnding::Whole;
         self.room = 0;
         match form {
-            TextEnding::Whole => Ok(()),
-            TextEnding::Last => Ok(()),
-            TextEnding::Open => out.push_front(b"m", 1),
+            TextEnding::Whole | TextEnding::Last => Ok(()),
+            TextEnding::Open | TextEnding::Bare => out.push_front(b"m", 1),
             TextEnding::Blank => out.push_front(b"0m", 2),
-            TextEnding::Bare => out.push_front(b"m", 1),
         }
     }
 

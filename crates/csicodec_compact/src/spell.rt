@@ -1,6 +1,7 @@
 //! Spellings that are tried. Nothing rests on how they are made: each is read before it is written.
 ghost use Rattle.std.specs.Prelude.{◌≤◌, length};
 
+use csicodec_base::CsiParam::{Integer, P};
 use csicodec_base::{CsiParam, Text, TextBuffer};
 use std::alloc::AllocError;
 
@@ -40,8 +41,8 @@ impl Defaults {
     fn leave_out(self, token: CsiParam) -> bool {
         match self {
             Defaults::Said => false,
-            Defaults::Zero => token == CsiParam::Integer(0),
-            Defaults::One => token == CsiParam::Integer(0) || token == CsiParam::Integer(1),
+            Defaults::Zero => token == Integer(0),
+            Defaults::One => token == Integer(0) || token == Integer(1),
         }
     }
 
@@ -49,7 +50,7 @@ impl Defaults {
     fn without_end(self, params: &[CsiParam]) -> &[CsiParam] {
         let mut front = params;
         while let Some((last, others)) = front.split_last() {
-            if self == Defaults::Said || *last != CsiParam::P(b';') && !self.leave_out(*last) {
+            if self == Defaults::Said || *last != P(b';') && !self.leave_out(*last) {
                 return front;
             }
             front = others;
@@ -61,13 +62,13 @@ impl Defaults {
 /// Appends a token, and `;` for a colon where it is one of a colour.
 fn append_token(token: CsiParam, colored: bool, out: &mut TextBuffer) -> Result<(), AllocError> {
     match token {
-        CsiParam::Integer(number) => {
+        Integer(number) => {
             let mut text = Text::new();
             text.push_i64(number);
             out.push_text(&text)
         }
-        CsiParam::P(b':') if colored => out.push_slice(b";"),
-        CsiParam::P(byte) => out.push_slice(&[byte]),
+        P(b':') if colored => out.push_slice(b";"),
+        P(byte) => out.push_slice(&[byte]),
     }
 }
 
@@ -91,30 +92,14 @@ fn append_final(control: char, out: &mut TextBuffer) -> Result<(), AllocError> {
 fn style_len(rest: &[CsiParam]) -> usize
     ensures { result ≤ length rest.now }
 {
-    let colored = match rest {
-        [
-            CsiParam::Integer(38 | 48 | 58),
-            CsiParam::P(b';'),
-            CsiParam::Integer(2),
-            ..
-        ] => 9,
-        [
-            CsiParam::Integer(38 | 48 | 58),
-            CsiParam::P(b';'),
-            CsiParam::Integer(5),
-            ..
-        ] => 5,
-        _ => 0,
-    };
-    if colored > 0 {
-        return rest.len().min(colored);
+    match rest {
+        [Integer(38 | 48 | 58), P(b';'), Integer(2), ..] => rest.len().min(9),
+        [Integer(38 | 48 | 58), P(b';'), Integer(5), ..] => rest.len().min(5),
+        _ => rest
+            .iter()
+            .position(|token| *token == P(b';'))
+            .unwrap_or(rest.len()),
     }
-    for (i, token) in rest.iter().enumerate() {
-        if *token == CsiParam::P(b';') {
-            return i;
-        }
-    }
-    rest.len()
 }
 
 /// Appends one style: colours of the character and the ground with semicolons, `4:0` as `24`, `4:1` as `4`, and 0 as nothing, unless
@@ -122,30 +107,11 @@ fn style_len(rest: &[CsiParam]) -> usize
 /// double line for all of them.
 fn append_style(style: &[CsiParam], last: bool, out: &mut TextBuffer) -> Result<(), AllocError> {
     match style {
-        [CsiParam::Integer(0)] if !last => Ok(()),
-        [
-            CsiParam::Integer(4),
-            CsiParam::P(b':'),
-            CsiParam::Integer(0),
-        ] => out.push_slice(b"24"),
-        [
-            CsiParam::Integer(4),
-            CsiParam::P(b':'),
-            CsiParam::Integer(1),
-        ] => out.push_slice(b"4"),
-        [
-            CsiParam::Integer(38 | 48),
-            CsiParam::P(b':'),
-            CsiParam::Integer(5),
-            ..
-        ] => { append_tokens(style, true, out) }
-        [
-            CsiParam::Integer(38 | 48),
-            CsiParam::P(b':'),
-            CsiParam::Integer(2),
-            CsiParam::P(b':'),
-            ..
-        ] if 9 <= style.len() => {
+        [Integer(0)] if !last => Ok(()),
+        [Integer(4), P(b':'), Integer(0)] => out.push_slice(b"24"),
+        [Integer(4), P(b':'), Integer(1)] => out.push_slice(b"4"),
+        [Integer(38 | 48), P(b':'), Integer(5), ..] => append_tokens(style, true, out),
+        [Integer(38 | 48), P(b':'), Integer(2), P(b':'), ..] if 9 <= style.len() => {
             append_tokens(&style[..4], true, out)?;
             append_tokens(&style[style.len() - 5..], true, out)
         }
@@ -156,7 +122,7 @@ fn append_style(style: &[CsiParam], last: bool, out: &mut TextBuffer) -> Result<
 /// Appends the styles of a list before `m`.
 fn append_styles(params: &[CsiParam], out: &mut TextBuffer) -> Result<(), AllocError> {
     let mut rest = match params {
-        [CsiParam::Integer(0)] => &[],
+        [Integer(0)] => &[],
         _ => params,
     };
     while !rest.is_empty() {
@@ -176,10 +142,8 @@ fn append_styles(params: &[CsiParam], out: &mut TextBuffer) -> Result<(), AllocE
 /// Whether a number begins with 0, or there is a colon.
 fn has_zero_or_colon(bytes: &[u8]) -> bool {
     for (i, byte) in bytes.iter().enumerate().skip(2) {
-        match *byte {
-            b':' => return true,
-            b'0' if !bytes[i - 1].is_ascii_digit() => return true,
-            _ => {}
+        if *byte == b':' || *byte == b'0' && !bytes[i - 1].is_ascii_digit() {
+            return true;
         }
     }
     false
@@ -188,7 +152,7 @@ fn has_zero_or_colon(bytes: &[u8]) -> bool {
 /// Whether another spelling may be shorter, or have other marks.
 pub(crate) fn may_be_shorter(bytes: &[u8], params: &[CsiParam], control: char) -> bool {
     has_zero_or_colon(bytes)
-        || Defaults::before(control) == Defaults::One && params.contains(&CsiParam::Integer(1))
+        || Defaults::before(control) == Defaults::One && params.contains(&Integer(1))
 }
 
 /// Writes a spelling of the list that leaves out what is a default there.

@@ -1,41 +1,28 @@
 -- Runs of parts, one after the other.
-use Rattle.std.proofs.Common.{◌≡◌, ◌≢◌, ◌≤◌, ◌+◌, ◌-◌, ℕ, true, false, List, [], ◌∷◌, ◌++◌}
-use Rattle.std.proofs.Common.{inl, inr, ⊎_elim, length, take, drop, refl, sym, ap, subst, ◌∙◌, append_assoc, append-nil, arith}
-use Rattle.std.proofs.lemmas.Bool.{cases_Bool, true≢false}
-use Rattle.std.proofs.lemmas.Grind.{flat_map-append}
-use Rattle.std.proofs.Math.Seq.{take-append_seam}
-use Rattle.std.proofs.lemmas.List.{drop-append-le, length-append, length-drop, length-take-le, take-take}
+use Rattle.std.proofs.Common.{◌≡◌, ◌≢◌, ◌≤◌, ◌+◌, ◌-◌, ℕ, true, false, List, [], ◌∷◌, ◌++◌, inl, inr, ⊎_elim, length, take, drop, refl, sym, ap, subst, ◌∙◌, append_assoc, append-nil, arith}
+use Rattle.std.proofs.{lemmas.Bool.cases_Bool, lemmas.Bool.true≢false, lemmas.Grind.flat_map-append, Math.Seq.take-append_seam, lemmas.List.drop-append-le}
+use Rattle.std.proofs.{lemmas.List.length-append, lemmas.List.length-drop, lemmas.List.length-take-le, lemmas.List.take-take}
 use Rattle.csicodec_actions.proofs.AllRows.{all-append}
 use Rattle.std.specs.List.{AllByRecursion, flat_map}
-use Rattle.csicodec_tokens.specs.declared.param.CsiParam.{CsiParam}
-use Rattle.csicodec_tokens.specs.Sequence.{Seq}
+use Rattle.csicodec_tokens.specs.{declared.param.CsiParam.CsiParam, Sequence.Seq}
 use Rattle.csicodec_tokens.proofs.Unique.{one_seq}
 use Rattle.csicodec_parser.specs.Private.Steps.{actions}
 use Rattle.csicodec_parser.proofs.Cuts.{actions_are}
-use Rattle.csicodec_streams.specs.Decoding.{Decodes}
+use Rattle.csicodec_streams.specs.{Decoding.Decodes, Known.IsOne}
 use Rattle.csicodec_actions.specs.Actions.{Action}
-use Rattle.csicodec_streams.specs.Known.{IsOne}
 use Rattle.csicodec_streams.proofs.OneReading.{decodes-append, one_decoding, one_sequence}
-use Rattle.csicodec_spans.specs.declared.table.Kind.{Kind}
-use Rattle.csicodec_spans.specs.declared.table.Kind.TheVariants as kind
-use Rattle.csicodec_spans.specs.declared.table.Mode.{Mode}
-use Rattle.csicodec_spans.specs.declared.table.Mode.TheVariants as mode
 use Rattle.csicodec_spans.specs.Parts.{Part, part, bytes_of, left_over, AreAll, IsPlainFront, IsSpan, IsUnsure}
-use Rattle.csicodec_filter.specs.Faithful.{stays}
-use Rattle.csicodec_filter.specs.Filter.{Held}
-use Rattle.csicodec_filter.specs.Meaning.{singles}
-use Rattle.csicodec_filter.specs.Written.{Adds, Appends, Leaves, Since, open_at}
-use Rattle.csicodec_filter.specs.Transform.{Begins as BeginsWith, Sends, Transforms}
+use Rattle.csicodec_spans.specs.{declared.table.Kind.Kind, declared.table.Mode.Mode}
+use Rattle.csicodec_filter.specs.{Faithful.stays, Filter.Held, Meaning.singles, Written.Adds, Written.Appends, Written.Leaves, Written.Since, Written.open_at}
+use Rattle.csicodec_filter.specs.{Transform.Begins as BeginsWith, Transform.Sends, Transform.Transforms}
 use Rattle.csicodec_filter.proofs.Written.{appends, made, makes, one_first}
-use Rattle.csicodec_compact.specs.Compacts.{Compacts, ReadsAlike}
 use Rattle.csicodec_compact.specs.Runs.{IsStaying, NoneStays, Shortens, AreRuns, IsShortened, PassesShort, CompactsAll, most_joined}
-use Rattle.csicodec_compact.specs.declared.form.TextEnding.{TextEnding}
-use Rattle.csicodec_compact.specs.declared.form.TextEnding.TheVariants as forms
-use Rattle.csicodec_compact.specs.declared.shortener.Shortener.{Shortener}
-use Rattle.csicodec_compact.specs.Private.Steps.{Holds}
-use Rattle.csicodec_compact.specs.Private.Steps.{Begins, form_of, closing, joint, behind, is_joined, may_join, opened, list_of}
-use Rattle.csicodec_compact.specs.Private.Steps.{IsTail, IsListed, IsOwn, IsNotedList, IsNoted, IsNote, HasFew, LeavesRoom, GoesOnFrom, IsEnd, IsHeld, Extends, GoesOnBy}
+use Rattle.csicodec_compact.specs.Private.Steps.{Holds, Begins, form_of, closing, joint, behind, is_joined, may_join, opened, list_of, IsTail, IsListed, IsOwn, IsNotedList, IsNoted, IsNote, HasFew, LeavesRoom, GoesOnFrom, IsEnd, IsHeld, Extends, GoesOnBy}
+use Rattle.csicodec_compact.specs.{Compacts.Compacts, Compacts.ReadsAlike, declared.form.TextEnding.TextEnding, declared.shortener.Shortener.Shortener}
 use Rattle.csicodec_compact.proofs.JoinedLists.{tail_joined, tail_decodes, joint_short}
+use Rattle.csicodec_spans.specs.declared.table.Kind.TheVariants as kind
+use Rattle.csicodec_spans.specs.declared.table.Mode.TheVariants as mode
+use Rattle.csicodec_compact.specs.declared.form.TextEnding.TheVariants as forms
 
 -- ---- bytes in front of others
 

@@ -1,21 +1,17 @@
 -- A colour with semicolons is written as it came.
 use Rattle.std.proofs.Common.{◌≡◌, ℕ, suc, ◌≤◌, ◌-◌, pos, false, List, [], ◌∷◌, ◌++◌, length, take, drop, refl, sym, ap, subst, ◌∙◌, append_assoc, length-append, arith}
-use Rattle.std.proofs.Math.Seq.{take-append_seam}
-use Rattle.std.proofs.lemmas.Bool.{true≢false}
-use Rattle.std.proofs.lemmas.List.{take-take}
+use Rattle.std.proofs.{Math.Seq.take-append_seam, lemmas.Bool.true≢false, lemmas.List.take-take}
 use Rattle.csicodec_tokens.specs.Sequence.{Seq}
-use Rattle.csicodec_names.specs.declared.color.ColorSpec.{ColorSpec}
-use Rattle.csicodec_names.specs.declared.color.ColorSpec.TheVariants.{Default, PaletteIndex, TrueColor}
-use Rattle.csicodec_base.specs.Shapes.{Plane, painted}
-use Rattle.csicodec_base.specs.declared.sgr.Sgr.{Sgr}
+use Rattle.csicodec_names.specs.{declared.color.ColorSpec.ColorSpec, declared.color.ColorSpec.TheVariants.Default}
+use Rattle.csicodec_names.specs.{declared.color.ColorSpec.TheVariants.PaletteIndex, declared.color.ColorSpec.TheVariants.TrueColor}
+use Rattle.csicodec_base.specs.{Shapes.Plane, Shapes.painted, declared.sgr.Sgr.Sgr}
 use Rattle.csicodec_streams.specs.Colors.{IsColored, IsOpaque, color_list, plane_byte}
 use Rattle.csicodec_streams.proofs.Colors.{color_means, color_short, listed, listed_spellable, listed_spelled}
 use Rattle.csicodec_filter.specs.Faithful.{stays}
 use Rattle.csicodec.specs.Compose.{EndsInSemicolon, IsStyleList}
-use Rattle.csicodec_compact.specs.declared.form.TextEnding.TheVariants as forms
 use Rattle.csicodec_compact.specs.Private.Steps.{IsListed, closing, form_of, IsNote, list_of}
-use Rattle.csicodec_compact.proofs.Beside.{as_it_came, free_by, note_of}
-use Rattle.csicodec_compact.proofs.JoinedLists.{number-last, open_listed}
+use Rattle.csicodec_compact.proofs.{Beside.as_it_came, Beside.free_by, Beside.note_of, JoinedLists.number-last, JoinedLists.open_listed}
+use Rattle.csicodec_compact.specs.declared.form.TextEnding.TheVariants as forms
 
 color_plain : (plane : Plane) (color : ColorSpec) → IsStyleList (listed plane color)
 color_plain plane Default = record { some = omega arith; plain = refl }

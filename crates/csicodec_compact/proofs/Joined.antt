@@ -1,14 +1,9 @@
 -- Texts of actions, one after the other.
-use Rattle.std.proofs.Common.{ℕ, ◌≡◌, ◌≤◌, List, [], ◌∷◌, ◌++◌, false, length, arith, ap}
-use Rattle.std.specs.Prelude.{if◌then◌else◌, OnOk}
-use Rattle.std.specs.Result.{is_ok}
-use Rattle.std.specs.declared.result.Result.{Result}
-use Rattle.std.specs.declared.result.Result.TheVariants.{Ok, Err}
-use Rattle.std.specs.List.{AllByRecursion}
-use Rattle.std.proofs.lemmas.Grind.{flat_map-append}
-use Rattle.std.proofs.lemmas.List.{length-append}
-use Rattle.csicodec_actions.specs.Actions.{Action}
-use Rattle.csicodec_actions.specs.Table.{text, texts}
+use Rattle.std.proofs.{Common.ℕ, Common.◌≡◌, Common.◌≤◌, Common.List, Common.[], Common.◌∷◌, Common.◌++◌, Common.false, Common.length, Common.arith, Common.ap}
+use Rattle.std.proofs.{lemmas.Grind.flat_map-append, lemmas.List.length-append}
+use Rattle.std.specs.{Prelude.if◌then◌else◌, Prelude.OnOk, Result.is_ok, declared.result.Result.Result, declared.result.Result.TheVariants.Ok}
+use Rattle.std.specs.{declared.result.Result.TheVariants.Err, List.AllByRecursion}
+use Rattle.csicodec_actions.specs.{Actions.Action, Table.text, Table.texts}
 use Rattle.csicodec_streams.proofs.OneReading.{Alone, decodes-append, decodes-each}
 use Rattle.csicodec.specs.Exact.{ReadsAlone}
 use Rattle.csicodec_compact.specs.Compacts.{Encodes, ReadsAlike}

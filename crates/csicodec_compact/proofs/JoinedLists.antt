@@ -1,34 +1,26 @@
 -- Lists of attributes that are joined at a `;`.
 use Rattle.std.proofs.Common.{◌≡◌, ◌≤◌, ℕ, ℤ, pos, true, false, not, Some, List, [], ◌∷◌, ◌++◌, length, map, inr, refl, sym, ap, subst, ◌∙◌, append_assoc, append-nil, arith}
-use Rattle.std.specs.Prelude.{◌==◌, slice_get}
-use Rattle.std.specs.List.{list_any}
-use Rattle.std.proofs.lemmas.Bool.{and_parts, eqb-true, not-false, or_parts, true≢false}
-use Rattle.std.proofs.lemmas.List.{append_cancel_right, length-append, map-append}
-use Rattle.csicodec_tokens.specs.declared.param.CsiParam.{CsiParam}
-use Rattle.csicodec_tokens.specs.declared.param.CsiParam.TheVariants.{Integer, P}
-use Rattle.csicodec_tokens.specs.Sequence.{Seq, Spellable, Spells}
-use Rattle.csicodec_base.specs.declared.sgr.Sgr as sgr_type
-use Rattle.csicodec_base.specs.declared.sgr.Sgr.TheVariants as sgr
+use Rattle.std.proofs.{lemmas.Bool.and_parts, lemmas.Bool.eqb-true, lemmas.Bool.not-false, lemmas.Bool.or_parts, lemmas.Bool.true≢false}
+use Rattle.std.proofs.{lemmas.List.append_cancel_right, lemmas.List.length-append, lemmas.List.map-append}
+use Rattle.std.specs.{Prelude.◌==◌, Prelude.slice_get, List.list_any}
+use Rattle.csicodec_tokens.specs.{declared.param.CsiParam.CsiParam, declared.param.CsiParam.TheVariants.Integer, declared.param.CsiParam.TheVariants.P}
+use Rattle.csicodec_tokens.specs.{Sequence.Seq, Sequence.Spellable, Sequence.Spells}
 use Rattle.csicodec_base.specs.FrontBy.{piece}
 use Rattle.csicodec_base.proofs.Table.{is_piece, piece_within}
-use Rattle.csicodec_parser.specs.ActionOf.{action_of}
-use Rattle.csicodec_parser.specs.Cut.{semicolon, NoSemicolon}
-use Rattle.csicodec_parser.specs.declared.actions.CSI.{CSI}
-use Rattle.csicodec_parser.specs.declared.actions.CSI.TheVariants as csi
-use Rattle.csicodec_parser.specs.declared.group.Group.TheVariants.{Styles}
-use Rattle.csicodec_parser.specs.Groups.{has_odd}
-use Rattle.csicodec_parser.specs.Private.Steps.{actions}
-use Rattle.csicodec_parser.specs.Segments.{Segmented, Actions}
-use Rattle.csicodec_parser.proofs.Cuts.{actions_are}
-use Rattle.csicodec_parser.proofs.GroupOf.{style-list}
+use Rattle.csicodec_parser.specs.{ActionOf.action_of, Cut.semicolon, Cut.NoSemicolon, declared.actions.CSI.CSI, declared.group.Group.TheVariants.Styles}
+use Rattle.csicodec_parser.specs.{Groups.has_odd, Private.Steps.actions, Segments.Segmented, Segments.Actions}
+use Rattle.csicodec_parser.proofs.{Cuts.actions_are, GroupOf.style-list}
 use Rattle.csicodec_actions.specs.Actions.{Action, Sgr}
 use Rattle.csicodec_streams.specs.Decoding.{Decodes}
 use Rattle.csicodec_streams.proofs.OneReading.{one_sequence}
 use Rattle.csicodec.specs.Compose.{EndsInSemicolon, IsStyleList}
 use Rattle.csicodec.proofs.Compose.{ends-joined, ends-part, plain-joint, sgr_compose_lem, spellable-joined, spells-joined}
-use Rattle.csicodec_compact.specs.declared.form.TextEnding.{TextEnding}
-use Rattle.csicodec_compact.specs.declared.form.TextEnding.TheVariants as forms
 use Rattle.csicodec_compact.specs.Private.Steps.{is_mark, is_other, is_semicolon, is_bare, is_joined, closing, may_join, joint, behind, IsList, IsOpenList, IsTail, IsListed}
+use Rattle.csicodec_compact.specs.declared.form.TextEnding.{TextEnding}
+use Rattle.csicodec_base.specs.declared.sgr.Sgr as sgr_type
+use Rattle.csicodec_base.specs.declared.sgr.Sgr.TheVariants as sgr
+use Rattle.csicodec_parser.specs.declared.actions.CSI.TheVariants as csi
+use Rattle.csicodec_compact.specs.declared.form.TextEnding.TheVariants as forms
 
 -- ---- texts and tokens
 

@@ -1,21 +1,15 @@
 -- What `compact` writes, cut as a stream once more.
 use Rattle.std.proofs.Common.{◌≡◌, ℕ, ◌<◌, ◌≤◌, ◌+◌, ◌⊎◌, List, [], ◌∷◌, ◌++◌, length, sym, ap, subst, ◌∙◌, append-nil, inl, inr, arith}
-use Rattle.std.proofs.lemmas.Grind.{flat_map-append}
-use Rattle.std.proofs.lemmas.List.{length-append}
+use Rattle.std.proofs.{lemmas.Grind.flat_map-append, lemmas.List.length-append}
 use Rattle.std.specs.List.{AllByRecursion, flat_map}
 use Rattle.csicodec_actions.proofs.AllRows.{all-append}
-use Rattle.csicodec_spans.specs.declared.table.Kind.{Kind}
-use Rattle.csicodec_spans.specs.declared.table.Kind.TheVariants as kind
-use Rattle.csicodec_spans.specs.declared.table.Mode.{Mode}
-use Rattle.csicodec_spans.specs.Table.{ahead}
-use Rattle.csicodec_spans.specs.Parts.{Part, Allows, AreFirstParts, IsWhole, bytes_of, left_over}
-use Rattle.csicodec_spans.proofs.Agrees.{sound}
-use Rattle.csicodec_spans.proofs.Missed.{allows_whole}
-use Rattle.csicodec_spans.proofs.Spanned.{whole_joined}
+use Rattle.csicodec_spans.specs.{declared.table.Kind.Kind, declared.table.Mode.Mode, Table.ahead, Parts.Part, Parts.Allows, Parts.AreFirstParts, Parts.IsWhole}
+use Rattle.csicodec_spans.specs.{Parts.bytes_of, Parts.left_over}
+use Rattle.csicodec_spans.proofs.{Agrees.sound, Missed.allows_whole, Spanned.whole_joined}
 use Rattle.csicodec_filter.proofs.Meaning.{AreMeant, again}
-use Rattle.csicodec_compact.specs.Runs.{AreRuns, IsRun, Shortens, CompactsAll, most_joined}
-use Rattle.csicodec_compact.specs.Meaning.{HasAgain}
+use Rattle.csicodec_compact.specs.{Runs.AreRuns, Runs.IsRun, Runs.Shortens, Runs.CompactsAll, Runs.most_joined, Meaning.HasAgain}
 use Rattle.csicodec_compact.proofs.Joined.{all_parts}
+use Rattle.csicodec_spans.specs.declared.table.Kind.TheVariants as kind
 
 -- ---- a control sequence of the stream has no more than `limit` bytes
 

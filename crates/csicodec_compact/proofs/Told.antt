@@ -1,33 +1,19 @@
 -- Equal normal forms are those of equal actions, where none of these is special.
 use Rattle.std.proofs.Common.{ℕ, ◌≡◌, ◌≤◌, length, List, [], ◌∷◌, ◌++◌, Bool, true, false, inl, inr, pos, refl, sym, ◌∙◌}
-use Rattle.std.specs.Prelude.{ℤ, ◌==◌, ◌&&◌, not}
-use Rattle.std.specs.Fmt.{signed_decimal}
-use Rattle.std.specs.List.{AllByRecursion, list_any}
-use Rattle.std.proofs.lemmas.Bool.{and_parts, cases_Bool, not-true, or_parts, or_right, true≢false}
-use Rattle.std.proofs.lemmas.List.Elements.{All-from_recursion}
-use Rattle.std.proofs.lemmas.List.Folds.{list_any-append}
-use Rattle.csicodec_tokens.specs.declared.param.CsiParam.{CsiParam}
-use Rattle.csicodec_tokens.specs.Sequence.{IsFinal, Seq, Spellable}
+use Rattle.std.proofs.{lemmas.Bool.and_parts, lemmas.Bool.cases_Bool, lemmas.Bool.not-true, lemmas.Bool.or_parts, lemmas.Bool.or_right, lemmas.Bool.true≢false}
+use Rattle.std.proofs.{lemmas.List.Elements.All-from_recursion, lemmas.List.Folds.list_any-append}
+use Rattle.std.specs.{Prelude.ℤ, Prelude.◌==◌, Prelude.◌&&◌, Prelude.not, Fmt.signed_decimal, List.AllByRecursion, List.list_any}
+use Rattle.csicodec_tokens.specs.{declared.param.CsiParam.CsiParam, Sequence.IsFinal, Sequence.Seq, Sequence.Spellable, Param.token_text}
 use Rattle.csicodec_tokens.proofs.Unique.{one_seq}
-use Rattle.csicodec_actions.specs.Actions.{Action, Cursor, Device}
-use Rattle.csicodec_actions.specs.Devices.{RequestTerminalParameters, attribute_token}
-use Rattle.csicodec_actions.specs.Kinds.{number}
-use Rattle.csicodec_actions.specs.Special.{IsSpecial, NoneSpecial}
-use Rattle.csicodec_actions.specs.Table.{text, texts}
-use Rattle.csicodec_actions.specs.Table.Device.{written_parameters}
-use Rattle.csicodec_actions.specs.Written.{Item, Byte, The, Unless, Attribute, shown}
+use Rattle.csicodec_actions.specs.{Actions.Action, Actions.Cursor, Actions.Device, Devices.RequestTerminalParameters, Devices.attribute_token, Kinds.number}
+use Rattle.csicodec_actions.specs.{Special.IsSpecial, Special.NoneSpecial, Table.text, Table.texts, Table.Device.written_parameters, Written.Item, Written.Byte}
+use Rattle.csicodec_actions.specs.{Written.The, Written.Unless, Written.Attribute, Written.shown}
 use Rattle.csicodec_names.specs.Numbered.{is_number}
-use Rattle.csicodec_tokens.specs.Param.{token_text}
-use Rattle.csicodec_parser.specs.Canonical.{Canonical}
-use Rattle.csicodec_parser.specs.Segments.{Actions}
+use Rattle.csicodec_parser.specs.{Canonical.Canonical, Segments.Actions}
 use Rattle.csicodec_streams.proofs.OneReading.{one_decoding, one_sequence}
-use Rattle.csicodec.proofs.Kept.{Kept}
-use Rattle.csicodec.proofs.Parsed.{parsed-kept}
-use Rattle.csicodec.proofs.RoundTrip.{round_trip_lem}
-use Rattle.csicodec.proofs.Twins.{IsParsedSpecial}
+use Rattle.csicodec.proofs.{Kept.Kept, Parsed.parsed-kept, RoundTrip.round_trip_lem, Twins.IsParsedSpecial}
 use Rattle.csicodec_filter.specs.Faithful.{stays}
-use Rattle.csicodec_compact.specs.Compacts.{Compacts, ReadsAlike}
-use Rattle.csicodec_compact.specs.Private.Steps.{IsOneNormalised}
+use Rattle.csicodec_compact.specs.{Compacts.Compacts, Compacts.ReadsAlike, Private.Steps.IsOneNormalised}
 
 -- the byte is none of the text
 abbrev pub Lacks : ℕ → List ℕ → Type 0

@@ -1,10 +1,7 @@
 -- What `compact` writes in the place of a control sequence.
-use Rattle.std.specs.Prelude.{ℕ, ◌≡◌, ◌≤◌, true, false, List, length}
-use Rattle.std.specs.List.{AllByRecursion}
-use Rattle.csicodec_tokens.specs.declared.param.CsiParam.{CsiParam}
-use Rattle.csicodec_tokens.specs.Sequence.{Seq}
-use Rattle.csicodec_actions.specs.Actions.{Action}
-use Rattle.csicodec_actions.specs.Table.{texts}
+use Rattle.std.specs.{Prelude.ℕ, Prelude.◌≡◌, Prelude.◌≤◌, Prelude.true, Prelude.false, Prelude.List, Prelude.length, List.AllByRecursion}
+use Rattle.csicodec_tokens.specs.{declared.param.CsiParam.CsiParam, Sequence.Seq}
+use Rattle.csicodec_actions.specs.{Actions.Action, Table.texts}
 use Rattle.csicodec_streams.specs.Decoding.{Decodes}
 use Rattle.csicodec_filter.specs.Faithful.{stays}
 use Rattle.csicodec.specs.Exact.{ReadsAlone}

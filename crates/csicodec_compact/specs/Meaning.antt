@@ -1,7 +1,6 @@
 -- What `compact` writes, cut as a stream once more.
 use Rattle.std.specs.Prelude.{ℕ, List}
-use Rattle.csicodec_spans.specs.declared.table.Mode.{Mode}
-use Rattle.csicodec_spans.specs.Parts.{Part, IsWhole}
+use Rattle.csicodec_spans.specs.{declared.table.Mode.Mode, Parts.Part, Parts.IsWhole}
 use Rattle.csicodec_filter.specs.Meaning.{StandInPlace}
 use Rattle.csicodec_compact.specs.Runs.{CompactsAll}
 

@@ -1,15 +1,12 @@
 -- What `compact` makes of a stream: control sequences side by side may go into one.
-use Rattle.std.specs.Prelude.{ℕ, ◌≡◌, ◌≢◌, ◌≤◌, ◌⊎◌, List, [], ◌∷◌, ◌++◌, true, false, length}
-use Rattle.std.specs.List.{AllByRecursion, flat_map}
-use Rattle.csicodec_tokens.specs.declared.param.CsiParam.{CsiParam}
-use Rattle.csicodec_tokens.specs.Sequence.{Seq}
+use Rattle.std.specs.{Prelude.ℕ, Prelude.◌≡◌, Prelude.◌≢◌, Prelude.◌≤◌, Prelude.◌⊎◌, Prelude.List, Prelude.[], Prelude.◌∷◌, Prelude.◌++◌, Prelude.true}
+use Rattle.std.specs.{Prelude.false, Prelude.length, List.AllByRecursion, List.flat_map}
+use Rattle.csicodec_tokens.specs.{declared.param.CsiParam.CsiParam, Sequence.Seq}
 use Rattle.csicodec_actions.specs.Actions.{Action}
 use Rattle.csicodec_streams.specs.Decoding.{Decodes}
+use Rattle.csicodec_spans.specs.{declared.table.Mode.Mode, Parts.Part, Parts.bytes_of}
+use Rattle.csicodec_filter.specs.{Faithful.stays, Filter.MakesBy, Filter.PassesBy}
 use Rattle.csicodec_spans.specs.declared.table.Kind.TheVariants as kind
-use Rattle.csicodec_spans.specs.declared.table.Mode.{Mode}
-use Rattle.csicodec_spans.specs.Parts.{Part, bytes_of}
-use Rattle.csicodec_filter.specs.Faithful.{stays}
-use Rattle.csicodec_filter.specs.Filter.{MakesBy, PassesBy}
 
 -- a control sequence that stays as it came
 abbrev pub IsStaying : List ℕ → Type 0

@@ -1,24 +1,19 @@
 -- What the private steps say to each other.
 use Rattle.std.specs.Prelude.{ℕ, ◌≡◌, ◌≤◌, ◌==◌, ◌+◌, ◌*◌, ◌-◌, ◌&&◌, Bool, true, List, [], ◌∷◌, ◌++◌, false, not, Option, Some, None, if◌then◌else◌, length, drop, map, slice_get, take}
-use Rattle.csicodec_tokens.specs.declared.param.CsiParam.{CsiParam}
-use Rattle.csicodec_tokens.specs.declared.param.CsiParam.TheVariants.{Integer, P}
-use Rattle.csicodec_tokens.specs.Sequence.{Seq, Spellable, Spells}
-use Rattle.csicodec_base.specs.declared.sgr.Sgr as sgr_type
-use Rattle.csicodec_base.specs.declared.sgr.Sgr.TheVariants as sgr
-use Rattle.csicodec_actions.specs.Actions.{Action, Sgr}
-use Rattle.csicodec_actions.specs.Table.{texts}
-use Rattle.csicodec_parser.specs.declared.actions.CSI.{CSI}
-use Rattle.csicodec_parser.specs.declared.actions.CSI.TheVariants as csi
-use Rattle.csicodec_parser.specs.Segments.{Actions}
+use Rattle.csicodec_tokens.specs.{declared.param.CsiParam.CsiParam, declared.param.CsiParam.TheVariants.Integer, declared.param.CsiParam.TheVariants.P}
+use Rattle.csicodec_tokens.specs.{Sequence.Seq, Sequence.Spellable, Sequence.Spells}
+use Rattle.csicodec_actions.specs.{Actions.Action, Actions.Sgr, Table.texts}
+use Rattle.csicodec_parser.specs.{declared.actions.CSI.CSI, Segments.Actions}
 use Rattle.csicodec_spans.specs.Parts.{Part}
 use Rattle.csicodec_streams.specs.Known.{IsOne}
 use Rattle.csicodec_filter.specs.Written.{WrittenOf}
 use Rattle.csicodec.specs.Compose.{EndsInSemicolon, IsStyleList}
-use Rattle.csicodec_compact.specs.declared.form.TextEnding.{TextEnding}
+use Rattle.csicodec_compact.specs.{declared.form.TextEnding.TextEnding, declared.shortener.Shortener.Shortener, Compacts.Compacts, Runs.IsStaying}
+use Rattle.csicodec_compact.specs.{Runs.NoneStays, Runs.Shortens, Runs.IsShortened}
+use Rattle.csicodec_base.specs.declared.sgr.Sgr as sgr_type
+use Rattle.csicodec_base.specs.declared.sgr.Sgr.TheVariants as sgr
+use Rattle.csicodec_parser.specs.declared.actions.CSI.TheVariants as csi
 use Rattle.csicodec_compact.specs.declared.form.TextEnding.TheVariants as forms
-use Rattle.csicodec_compact.specs.declared.shortener.Shortener.{Shortener}
-use Rattle.csicodec_compact.specs.Compacts.{Compacts}
-use Rattle.csicodec_compact.specs.Runs.{IsStaying, NoneStays, Shortens, IsShortened}
 
 -- the bytes are one control sequence, and this is its normal form
 abbrev pub IsOneNormalised : List ℕ → List ℕ → Type 0

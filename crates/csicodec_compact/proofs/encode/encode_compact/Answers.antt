@@ -1,5 +1,5 @@
-use Rattle.std.proofs.Common.{◌≡◌, ◌++◌, map, ap, refl, sym, ◌∙◌, append_assoc}
-use Rattle.std.proofs.lemmas.List.{map-append, take-append-drop}
+use Rattle.std.proofs.{Common.◌≡◌, Common.◌++◌, Common.map, Common.ap, Common.refl, Common.sym, Common.◌∙◌, Common.append_assoc, lemmas.List.map-append}
+use Rattle.std.proofs.{lemmas.List.take-append-drop}
 use Rattle.csicodec_parser.specs.ActionOf.{action_of}
 use Rattle.csicodec_compact.proofs.Joined.{encodes-append}
 use Rattle.csicodec_compact.proofs.encode.encode_compact.Goals as goal

@@ -1,5 +1,4 @@
-use Rattle.std.proofs.Common.{◌<◌, length, rules, sym, ◌∙◌, arith}
-use Rattle.std.proofs.lemmas.Bool.{not-true}
+use Rattle.std.proofs.{Common.◌<◌, Common.length, Common.rules, Common.sym, Common.◌∙◌, Common.arith, lemmas.Bool.not-true}
 use Rattle.csicodec_compact.proofs.JoinedLists.{plain_by}
 use Rattle.csicodec_compact.proofs.lists.is_plain.Goals as goal
 

@@ -1,5 +1,4 @@
-use Rattle.std.proofs.Common.{ℕ, List, ◌++◌, ap, ◌∙◌}
-use Rattle.std.proofs.lemmas.Result.{on_ok_weaker}
+use Rattle.std.proofs.{Common.ℕ, Common.List, Common.◌++◌, Common.ap, Common.◌∙◌, lemmas.Result.on_ok_weaker}
 use Rattle.csicodec_compact.proofs.Beside.{short_front}
 use Rattle.csicodec_compact.proofs.runs.append_text.Goals as goal
 

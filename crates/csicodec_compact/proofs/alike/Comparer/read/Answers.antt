@@ -1,5 +1,5 @@
-use Rattle.std.proofs.Common.{rules, ◌≡◌, ℕ, List, [], ◌++◌, length, ap, ◌∙◌, append-nil}
-use Rattle.std.proofs.lemmas.List.{nil_from_length}
+use Rattle.std.proofs.{Common.rules, Common.◌≡◌, Common.ℕ, Common.List, Common.[], Common.◌++◌, Common.length, Common.ap, Common.◌∙◌, Common.append-nil}
+use Rattle.std.proofs.{lemmas.List.nil_from_length}
 use Rattle.csicodec_compact.proofs.alike.Comparer.read.Goals as goal
 
 pub returns : goal.returns

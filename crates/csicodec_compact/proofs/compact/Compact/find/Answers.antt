@@ -1,5 +1,4 @@
-use Rattle.std.proofs.Common.{sym, ◌∙◌}
-use Rattle.std.proofs.lemmas.Result.{IfOk-weaker}
+use Rattle.std.proofs.{Common.sym, Common.◌∙◌, lemmas.Result.IfOk-weaker}
 use Rattle.csicodec_compact.proofs.Told.{compacts}
 use Rattle.csicodec_compact.proofs.compact.Compact.find.Goals as goal
 

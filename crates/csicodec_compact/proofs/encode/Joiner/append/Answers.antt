@@ -1,5 +1,4 @@
-use Rattle.std.proofs.Common.{map, ap, ◌++◌, ◌∙◌}
-use Rattle.std.proofs.lemmas.Result.{on_ok_weaker}
+use Rattle.std.proofs.{Common.map, Common.ap, Common.◌++◌, Common.◌∙◌, lemmas.Result.on_ok_weaker}
 use Rattle.csicodec_parser.specs.ActionOf.{action_of}
 use Rattle.csicodec_compact.proofs.Joined.{encodes-each, encodes-shorter, extended}
 use Rattle.csicodec_compact.proofs.encode.Joiner.append.Goals as goal

@@ -1,5 +1,4 @@
-use Rattle.std.proofs.Common.{◌++◌, ap, take, ◌∙◌, append_assoc}
-use Rattle.std.proofs.lemmas.Result.{on_ok_weaker}
+use Rattle.std.proofs.{Common.◌++◌, Common.ap, Common.take, Common.◌∙◌, Common.append_assoc, lemmas.Result.on_ok_weaker}
 use Rattle.csicodec_compact.specs.Private.Steps.{closing}
 use Rattle.csicodec_compact.proofs.Beside.{extends_own}
 use Rattle.csicodec_compact.proofs.runs.Written.pass.Goals as goal

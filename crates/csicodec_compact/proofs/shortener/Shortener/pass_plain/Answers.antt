@@ -1,9 +1,7 @@
-use Rattle.std.proofs.Common.{◌-◌, drop, length, refl, sym, take, arith}
-use Rattle.std.proofs.lemmas.List.{take-append-drop}
+use Rattle.std.proofs.{Common.◌-◌, Common.drop, Common.length, Common.refl, Common.sym, Common.take, Common.arith, lemmas.List.take-append-drop}
 use Rattle.csicodec_filter.proofs.Written.{appends_none}
 use Rattle.csicodec_compact.specs.Private.Steps.{Holds}
-use Rattle.csicodec_compact.proofs.Beside.{front_known, note_long, shortened_one}
-use Rattle.csicodec_compact.proofs.Colors.{color_note}
+use Rattle.csicodec_compact.proofs.{Beside.front_known, Beside.note_long, Beside.shortened_one, Colors.color_note}
 use Rattle.csicodec_compact.proofs.shortener.Shortener.pass_plain.Goals as goal
 
 pub returns-in_default-clause-written : goal.returns-in_default-clause-written

@@ -1,6 +1,4 @@
-use Rattle.std.proofs.Common.{◌≡◌, length, take, sym, subst, arith}
-use Rattle.std.proofs.lemmas.List.{take_all}
-use Rattle.std.proofs.lemmas.Result.{on_ok_weaker}
+use Rattle.std.proofs.{Common.◌≡◌, Common.length, Common.take, Common.sym, Common.subst, Common.arith, lemmas.List.take_all, lemmas.Result.on_ok_weaker}
 use Rattle.csicodec_compact.specs.Runs.{IsShortened}
 use Rattle.csicodec_compact.proofs.Beside.{adds, shortened_span}
 use Rattle.csicodec_compact.proofs.shortener.ShortenerWriteSpansShort.other.Goals as goal

@@ -1,5 +1,4 @@
-use Rattle.std.proofs.Common.{[]}
-use Rattle.std.proofs.lemmas.Result.{on_ok_weaker}
+use Rattle.std.proofs.{Common.[], lemmas.Result.on_ok_weaker}
 use Rattle.csicodec_compact.specs.Private.Steps.{closing}
 use Rattle.csicodec_compact.proofs.Beside.{adds, extends_close}
 use Rattle.csicodec_compact.proofs.shortener.ShortenerWriteSpansShort.pause.Goals as goal

@@ -1,6 +1,5 @@
 use Rattle.std.proofs.Common.{[], ◌∷◌, append-nil, sym, ◌∙◌}
-use Rattle.csicodec_spans.specs.Parts.{part}
-use Rattle.csicodec_spans.specs.declared.table.Kind.TheVariants.{Csi}
+use Rattle.csicodec_spans.specs.{Parts.part, declared.table.Kind.TheVariants.Csi}
 use Rattle.csicodec_compact.proofs.Beside.{adds, note_long}
 use Rattle.csicodec_compact.proofs.shortener.ShortenerWriteSpansShort.sequence.Goals as goal
 

@@ -1,12 +1,9 @@
 use Rattle.std.proofs.Common.{◌≡◌, ◌<◌, ◌⊎◌, ◌++◌, ℕ, List, [], length, ap, sym, subst}
 use Rattle.csicodec_spans.specs.Parts.{IsUnsure}
 use Rattle.csicodec_spans.proofs.Kept.{unsure_short}
-use Rattle.csicodec_filter.specs.Filter.{Held}
-use Rattle.csicodec_filter.specs.Written.{Adds, Appends, with_more}
-use Rattle.csicodec_compact.specs.Private.Steps.{Holds}
-use Rattle.csicodec_compact.specs.Runs.{Open, PassesShort}
-use Rattle.csicodec_compact.specs.declared.stream.Compactor.TheInside.{Inside}
-use Rattle.csicodec_compact.specs.declared.shortener.Shortener.{Shortener}
+use Rattle.csicodec_filter.specs.{Filter.Held, Written.Adds, Written.Appends, Written.with_more}
+use Rattle.csicodec_compact.specs.{Private.Steps.Holds, Runs.Open, Runs.PassesShort, declared.stream.Compactor.TheInside.Inside}
+use Rattle.csicodec_compact.specs.{declared.shortener.Shortener.Shortener}
 use Rattle.csicodec_compact.proofs.Beside.{passes_over}
 use Rattle.csicodec_compact.proofs.stream.Compactor.push.Goals as goal
 

@@ -38,10 +38,14 @@ pub trait Worker {
     ghost steps: { StepsOf Self };
 
     /// Which inputs are recordings.
-    fn recordings(&self) -> Recordings;
+    fn recordings(&self) -> Recordings {
+        Recordings::Known
+    }
 
     /// Whether the system's reason is told behind a read or a write that failed.
-    fn tells_reasons(&self) -> bool;
+    fn tells_reasons(&self) -> bool {
+        true
+    }
 
     /// The input of this name comes next, `-` for standard input; it could be opened.
     fn begin<W: Write>(&mut self, name: &str, output: &mut W) -> Result<(), Failure>
@@ -81,7 +85,9 @@ pub trait Alone {
     ghost goes: { GoesOf Self };
 
     /// Whether the system's reason is told behind a read or a write that failed.
-    fn gives_reasons(&self) -> bool;
+    fn gives_reasons(&self) -> bool {
+        true
+    }
 
     /// Works on this input, to its end.
     fn work<R: Read, W: Write>(
@@ -589,10 +595,7 @@ fn all_words(rt: &HostRuntime) -> Result<Vec<String>, AllocError> {
 
 /// The words of the command line behind the program's name; the status, if memory ran out.
 pub fn words_of(rt: &HostRuntime) -> Result<Vec<String>, u8> {
-    match all_words(rt) {
-        Ok(words) => Ok(words),
-        Err(_) => Err(refused(rt, Wrong::Memory)),
-    }
+    all_words(rt).map_err(|_| refused(rt, Wrong::Memory))
 }
 
 /// The work that these words ask for, or none where what they ask was told; the status, if that failed.

@@ -1,18 +1,15 @@
 -- Lines one after the other, and what they stand for.
-use Rattle.std.proofs.Common.{◌≡◌, ℕ, ◌+◌, ◌-◌, ◌^◌, ◌<◌, ◌≤◌, ◌==◌, zero, suc, min, Bool, true, false, not, List, [], ◌∷◌, ◌++◌, take}
-use Rattle.std.proofs.Common.{length, Result, Ok, Err, cond, refl, sym, ap, subst, ◌∙◌, append_assoc, append-nil, length-append, arith}
+use Rattle.std.proofs.Common.{◌≡◌, ℕ, ◌+◌, ◌-◌, ◌^◌, ◌<◌, ◌≤◌, ◌==◌, zero, suc, min, Bool, true, false, not, List, [], ◌∷◌, ◌++◌, take, length, Result, Ok, Err, cond, refl, sym, ap, subst, ◌∙◌, append_assoc, append-nil, length-append, arith}
+use Rattle.std.proofs.{lemmas.Bool.and_parts, lemmas.Bool.false_from_ne_true, lemmas.Bool.le-ltb, lemmas.Bool.lt-ltb, lemmas.Bool.not-true}
+use Rattle.std.proofs.{lemmas.List.take_all}
 use Rattle.std.specs.List.{concat, list_all}
-use Rattle.std.proofs.lemmas.Bool.{and_parts, false_from_ne_true, le-ltb, lt-ltb, not-true}
-use Rattle.std.proofs.lemmas.List.{take_all}
-use Rattle.memchr.specs.Find as find
 use Rattle.memchr.specs.Find.{Nowhere, is_byte}
-use Rattle.csicodec_assemble.specs.declared.object.Fault.{Fault}
-use Rattle.csicodec_assemble.specs.declared.object.Fault.TheVariants.{TooLong}
-use Rattle.csicodec_assemble.specs.declared.object.Refusal.{Refusal}
-use Rattle.csicodec_assemble.specs.declared.object.Refusal.TheVariants as refusal
-use Rattle.csicodec_assemble.specs.Object.{IsTold, of_line}
-use Rattle.csicodec_assemble.proofs.Shown.{read_back}
 use Rattle.csicodec_assemble.specs.Lines.{AreShown, IsLineOf, IsRefused, Passes, assembled, before, counted, ended, last_line, lines_from, most, of_bounded, of_lines, one_more}
+use Rattle.csicodec_assemble.specs.{declared.object.Fault.Fault, declared.object.Fault.TheVariants.TooLong, declared.object.Refusal.Refusal, Object.IsTold}
+use Rattle.csicodec_assemble.specs.{Object.of_line}
+use Rattle.csicodec_assemble.proofs.Shown.{read_back}
+use Rattle.memchr.specs.Find as find
+use Rattle.csicodec_assemble.specs.declared.object.Refusal.TheVariants as refusal
 
 abbrev Answer : Type 0
 Answer = Result (List ℕ) Fault

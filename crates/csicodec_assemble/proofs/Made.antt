@@ -1,27 +1,15 @@
 -- An object that has nothing but the digits of some bytes stands for these bytes.
-use Rattle.std.proofs.Common.{◌≡◌, ℕ, ◌<◌, ◌/◌, ◌%◌, suc, true, List, [], ◌∷◌, ◌++◌}
-use Rattle.std.proofs.Common.{Option, Some, Ok, refl, sym, ap, ◌∙◌, append_assoc, arith, rules, ltb-true}
-use Rattle.std.specs.Prelude.{codes, nat_lt, option_and_then, slice_index}
-use Rattle.std.specs.List.{AllPass}
-use Rattle.std.specs.Str.{IsAscii, is_utf8}
-use Rattle.std.proofs.lemmas.List.Elements.{All-cons, All-nil}
-use Rattle.std.proofs.lemmas.List.Sums.{AllPass-from_list_all}
-use Rattle.std.proofs.lemmas.Str.{IsUtf8-append, IsUtf8-from_ascii, is_utf8-from_IsUtf8}
-use Rattle.std.proofs.lemmas.Str.Ascii.{IsAscii-from_reads}
+use Rattle.std.proofs.Common.{◌≡◌, ℕ, ◌<◌, ◌/◌, ◌%◌, suc, true, List, [], ◌∷◌, ◌++◌, Option, Some, Ok, refl, sym, ap, ◌∙◌, append_assoc, arith, rules, ltb-true}
+use Rattle.std.proofs.{lemmas.List.Elements.All-cons, lemmas.List.Elements.All-nil, lemmas.List.Sums.AllPass-from_list_all, lemmas.Str.IsUtf8-append}
+use Rattle.std.proofs.{lemmas.Str.IsUtf8-from_ascii, lemmas.Str.is_utf8-from_IsUtf8, lemmas.Str.Ascii.IsAscii-from_reads}
+use Rattle.std.specs.{Prelude.codes, Prelude.nat_lt, Prelude.option_and_then, Prelude.slice_index, List.AllPass, Str.IsAscii, Str.is_utf8}
 use Rattle.hex.specs.Hex.{IsBytes, encode_lower, encode_with, lower_digits}
 use Rattle.hex.proofs.HexLemmas.{IsAscii-encode_with, decode_of-encode_lower}
-use Rattle.json.specs.Json as json
-use Rattle.json.specs.Lex.{tokens}
-use Rattle.json.specs.Print.{escape, escape_byte, print, print_from}
-use Rattle.json.specs.Run.{is_plain}
-use Rattle.json.specs.Token.{Token}
-use Rattle.json.specs.Tree.{json_tokens}
-use Rattle.json.proofs.Printed.Plain.{escape_on_plain}
-use Rattle.json.proofs.Printed.Tokens.{tokens-print}
-use Rattle.json.proofs.Printed.Trees.{ArePrintable-json_tokens, value-json_tokens}
-use Rattle.serde_json.specs.Data.{no_members, object, put, string}
-use Rattle.serde_json.specs.Read.{of_json, read}
+use Rattle.json.specs.{Lex.tokens, Print.escape, Print.escape_byte, Print.print, Print.print_from, Run.is_plain, Token.Token, Tree.json_tokens}
+use Rattle.json.proofs.{Printed.Plain.escape_on_plain, Printed.Tokens.tokens-print, Printed.Trees.ArePrintable-json_tokens, Printed.Trees.value-json_tokens}
+use Rattle.serde_json.specs.{Data.no_members, Data.object, Data.put, Data.string, Read.of_json, Read.read}
 use Rattle.csicodec_assemble.specs.Object.{of_digits, of_line}
+use Rattle.json.specs.Json as json
 
 abbrev holds : List ℕ → List ℕ
 holds digits = codes "{\"hex\":\"" ++ digits ++ codes "\"}"

@@ -1,23 +1,16 @@
 -- A line whose object begins with a place: what follows that place says what the line stands for.
-use Rattle.std.proofs.Common.{◌≡◌, ℕ, ◌-◌, Bool, true, false, List, [], ◌∷◌, ◌++◌, length, Option}
-use Rattle.std.proofs.Common.{Some, None, Ok, Err, IsSome, cond, refl, sym, ap, ◌∙◌, subst, arith, rules, Bor, IfSome}
-use Rattle.std.specs.Prelude.{IsUtf8, codes, option_map}
-use Rattle.std.specs.Str.{is_utf8}
+use Rattle.std.proofs.Common.{◌≡◌, ℕ, ◌-◌, Bool, true, false, List, [], ◌∷◌, ◌++◌, length, Option, Some, None, Ok, Err, IsSome, cond, refl, sym, ap, ◌∙◌, subst, arith, rules, Bor, IfSome}
 use Rattle.std.proofs.lemmas.Str.{IsUtf8-append, IsUtf8-from_ascii}
-use Rattle.json.specs.Token.{Token, begin_object, key, number}
-use Rattle.json.specs.Text.{content, plain}
+use Rattle.std.specs.{Prelude.IsUtf8, Prelude.codes, Prelude.option_map, Str.is_utf8}
 use Rattle.json.specs.Lex.{Lexeme, token, comma, colon, string_token, Place, fresh, after_comma, place_token, punctuate, between, in_string, lex, tokens, begins_colon}
-use Rattle.json.specs.Json.{members, parse_map, value}
-use Rattle.json.specs.Print.{IsNumber}
-use Rattle.json.proofs.Grammar.{value-begin_object, value_is}
-use Rattle.json.proofs.Printed.Numbers.{lex-number}
-use Rattle.serde_json.specs.Data as values
-use Rattle.serde_json.specs.Data.{Data, Members, Num, no_members, put, object}
-use Rattle.serde_json.specs.Read.{converted, number_of, of_json, read}
-use Rattle.csicodec_assemble.specs.declared.object.Fault.TheVariants.{NoObject}
-use Rattle.csicodec_assemble.specs.Object.{of_line, of_read}
-use Rattle.csicodec_assemble.specs.Private.Glance.{Follow, Says, Stands}
+use Rattle.json.specs.{Token.Token, Token.begin_object, Token.key, Token.number, Text.content, Text.plain, Json.members, Json.parse_map, Json.value}
+use Rattle.json.specs.{Print.IsNumber}
+use Rattle.json.proofs.{Grammar.value-begin_object, Grammar.value_is, Printed.Numbers.lex-number}
+use Rattle.serde_json.specs.{Data.Data, Data.Members, Data.Num, Data.no_members, Data.put, Data.object, Read.converted, Read.number_of, Read.of_json, Read.read}
+use Rattle.csicodec_assemble.specs.{declared.object.Fault.TheVariants.NoObject, Object.of_line, Object.of_read, Private.Glance.Follow, Private.Glance.Says}
+use Rattle.csicodec_assemble.specs.{Private.Glance.Stands}
 use Rattle.csicodec_assemble.proofs.Member.{differs, converted-object, is_there, line_is, member_read, says_object, says_other, whole_read}
+use Rattle.serde_json.specs.Data as values
 
 -- ---- the lexemes
 

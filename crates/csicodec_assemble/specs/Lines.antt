@@ -1,15 +1,11 @@
 -- The lines of a text, and the bytes that they stand for.
 use Rattle.std.specs.Prelude.{ℕ, ◌≡◌, ◌≤◌, ◌+◌, ◌-◌, ◌^◌, ◌==◌, min, not, true, List, [], ◌∷◌, ◌++◌, length, nat_lt, Some, Result, Ok, Err, if◌then◌else◌}
-use Rattle.std.specs.List.{list_all}
-use Rattle.std.specs.Str.{is_utf8}
+use Rattle.std.specs.{List.list_all, Str.is_utf8}
 use Rattle.hex.specs.Hex.{IsBytes}
-use Rattle.serde_json.specs.Data.{Data}
-use Rattle.serde_json.specs.Read.{read}
-use Rattle.csicodec_assemble.specs.declared.object.Fault.{Fault}
+use Rattle.serde_json.specs.{Data.Data, Read.read}
+use Rattle.csicodec_assemble.specs.{declared.object.Fault.Fault, declared.object.Refusal.Refusal, Object.Shows, Object.of_line}
 use Rattle.csicodec_assemble.specs.declared.object.Fault.TheVariants as fault
-use Rattle.csicodec_assemble.specs.declared.object.Refusal.{Refusal}
 use Rattle.csicodec_assemble.specs.declared.object.Refusal.TheVariants as refusal
-use Rattle.csicodec_assemble.specs.Object.{Shows, of_line}
 
 -- the most bytes of a line: 16 MiB
 abbrev pub most : ℕ

@@ -1,14 +1,10 @@
 -- Which bytes a line of JSON stands for, and what is wrong with one that stands for none.
 use Rattle.std.specs.Prelude.{ℕ, ◌≡◌, Bool, false, List, [], codes, Option, Some, None, is_some, option_and_then, Result, Ok, Err, true, if◌then◌else◌}
 use Rattle.std.specs.Str.{bytes_eq, is_utf8}
-use Rattle.hex.specs.Hex.{decode_of, encode_lower}
-use Rattle.hex.specs.declared.error.FromHexError.{FromHexError}
-use Rattle.serde_json.specs.Data.{Data, string}
-use Rattle.serde_json.specs.Find.{as_object, as_str, get}
-use Rattle.serde_json.specs.Read.{read}
-use Rattle.csicodec_assemble.specs.declared.object.Fault.{Fault}
+use Rattle.hex.specs.{Hex.decode_of, Hex.encode_lower, declared.error.FromHexError.FromHexError}
+use Rattle.serde_json.specs.{Data.Data, Data.string, Find.as_object, Find.as_str, Find.get, Read.read}
+use Rattle.csicodec_assemble.specs.{declared.object.Fault.Fault, declared.object.Refusal.Refusal}
 use Rattle.csicodec_assemble.specs.declared.object.Fault.TheVariants as fault
-use Rattle.csicodec_assemble.specs.declared.object.Refusal.{Refusal}
 use Rattle.csicodec_assemble.specs.declared.object.Refusal.TheVariants as refusal
 
 -- what is said of each fault

@@ -1,18 +1,10 @@
 -- What is left of a recording while its lines are read.
-use Rattle.std.proofs.Common.{◌≡◌, ◌≢◌, ◌==◌, ◌-◌, ◌++◌, suc, ◌∷◌, ◌∙◌, ℕ, Bool, true, false, cond, List, []}
-use Rattle.std.proofs.Common.{Option, None, Some, length, take, not, refl, sym, ap, subst, append_assoc, append-nil, arith}
-use Rattle.std.specs.Prelude.{IfSome, IsUtf8, option_map}
-use Rattle.std.specs.Str.{is_utf8, trim}
-use Rattle.std.proofs.lemmas.Str.{IsUtf8-from_is_utf8, is_utf8-from_IsUtf8}
-use Rattle.std.proofs.lemmas.Bool.{eqb-true, ne_eqb}
-use Rattle.std.proofs.Math.Dec.{eqb-suc-zero}
-use Rattle.std.specs.List.{All}
-use Rattle.std.proofs.lemmas.List.{take-append-drop}
-use Rattle.std.proofs.lemmas.List.Elements.{All-head, All-tail}
-use Rattle.std.proofs.KnownBytes.{Keeps-refl, Keeps-trans}
-use Rattle.std.specs.Io.{StartsWith, StopsAt, appended_bytes}
-use Rattle.std.specs.Io.KnownBytes.{Consumes, Keeps}
-use Rattle.std.specs.Io.BufRead.{drop_through, take_through}
+use Rattle.std.proofs.Common.{◌≡◌, ◌≢◌, ◌==◌, ◌-◌, ◌++◌, suc, ◌∷◌, ◌∙◌, ℕ, Bool, true, false, cond, List, [], Option, None, Some, length, take, not, refl, sym, ap, subst, append_assoc, append-nil, arith}
+use Rattle.std.proofs.{lemmas.Str.IsUtf8-from_is_utf8, lemmas.Str.is_utf8-from_IsUtf8, lemmas.Bool.eqb-true, lemmas.Bool.ne_eqb, Math.Dec.eqb-suc-zero}
+use Rattle.std.proofs.{lemmas.List.take-append-drop, lemmas.List.Elements.All-head, lemmas.List.Elements.All-tail, KnownBytes.Keeps-refl}
+use Rattle.std.proofs.{KnownBytes.Keeps-trans}
+use Rattle.std.specs.{Prelude.IfSome, Prelude.IsUtf8, Prelude.option_map, Str.is_utf8, Str.trim, List.All, Io.StartsWith, Io.StopsAt, Io.appended_bytes}
+use Rattle.std.specs.{Io.KnownBytes.Consumes, Io.KnownBytes.Keeps, Io.BufRead.drop_through, Io.BufRead.take_through}
 use Rattle.csicodec_assemble.specs.Lines.{last_line}
 use Rattle.csicodec_command.specs.Recorded.{Event, data_from, is_over, line_says, lines_from, lines_left, says, written}
 

@@ -1,21 +1,14 @@
 -- Turns one after the other, and what an input has behind its first bytes.
-use Rattle.std.proofs.Common.{Bor, true, false, if◌then◌else◌, ◌==◌, inl, inr, ◌⊎◌, ◌≡◌, ◌∷◌, ◌++◌, ℕ, List, [], Option, None, Some}
-use Rattle.std.proofs.Common.{Result, Ok, Err, ap, drop, length, get_or, arith, refl, sym, subst, append_assoc, append-nil, ◌≤◌, ◌+◌, ◌<◌, ◌≢◌, ◌∙◌}
-use Rattle.std.specs.Prelude.{map}
-use Rattle.std.specs.Fmt.{option_append}
-use Rattle.std.specs.Option.{option_or}
-use Rattle.std.proofs.lemmas.List.{at_drop_more, length-map}
-use Rattle.std.proofs.Math.ListN.{drop_of_length-le}
-use Rattle.std.specs.Io.KnownBytes.{Consumes, Keeps, prepend_known}
-use Rattle.std.specs.declared.io.buffered.BufReader.{BufReader}
-use Rattle.std.specs.Io.Buffered.{reader_buffer, reader_capacity, reader_inner, reader_remaining}
-use Rattle.std.specs.Result.{IsErrAnd}
+use Rattle.std.proofs.Common.{Bor, true, false, if◌then◌else◌, ◌==◌, inl, inr, ◌⊎◌, ◌≡◌, ◌∷◌, ◌++◌, ℕ, List, [], Option, None, Some, Result, Ok, Err, ap, drop, length, get_or, arith, refl, sym, subst, append_assoc, append-nil, ◌≤◌, ◌+◌, ◌<◌, ◌≢◌, ◌∙◌}
+use Rattle.std.proofs.{lemmas.List.at_drop_more, lemmas.List.length-map, Math.ListN.drop_of_length-le, KnownBytes.Consumes-nil, KnownBytes.Consumes-trans}
+use Rattle.std.proofs.{KnownBytes.Keeps-refl}
+use Rattle.std.specs.{Prelude.map, Fmt.option_append, Option.option_or, Io.KnownBytes.Consumes, Io.KnownBytes.Keeps, Io.KnownBytes.prepend_known}
+use Rattle.std.specs.{declared.io.buffered.BufReader.BufReader, Io.Buffered.reader_buffer, Io.Buffered.reader_capacity, Io.Buffered.reader_inner}
+use Rattle.std.specs.{Io.Buffered.reader_remaining, Result.IsErrAnd}
+use Rattle.csicodec_command.specs.Runs.{At, Closes, Ends, HasTurn, IsReadBy, IsRun, IsTold, IsUnread, MayBeRecording, Next, Recording, StepsOf, Stream, Through, ends_run, first_of}
+use Rattle.csicodec_command.specs.declared.failure.Failure.{Failure}
 use Rattle.csicodec_streams.specs.declared.error.RunError.TheVariants as error
 use Rattle.csicodec_command.specs.declared.failure.Failure.TheVariants as failure
-use Rattle.std.proofs.KnownBytes.{Consumes-nil, Consumes-trans, Keeps-refl}
-use Rattle.csicodec_command.specs.declared.failure.Failure.{Failure}
-use Rattle.csicodec_command.specs.Runs.{At, Closes, Ends, HasTurn, IsReadBy, IsRun, IsTold, IsUnread, MayBeRecording, Next, Recording, StepsOf, Stream, Through}
-use Rattle.csicodec_command.specs.Runs.{ends_run, first_of}
 
 abbrev pub named : List (Bor (List ℕ)) → List (List ℕ)
 named names = map (λ n. n.now) names

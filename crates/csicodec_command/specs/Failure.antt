@@ -1,11 +1,10 @@
 -- What a program tells of a run that failed.
-use Rattle.std.specs.Prelude.{ℕ, ◌-◌, ◌^◌, true, false, List, [], ◌++◌, codes}
-use Rattle.std.specs.Fmt.{decimal, digits, format_spec, padded_integral}
+use Rattle.std.specs.{Prelude.ℕ, Prelude.◌-◌, Prelude.◌^◌, Prelude.true, Prelude.false, Prelude.List, Prelude.[], Prelude.◌++◌, Prelude.codes, Fmt.decimal}
+use Rattle.std.specs.{Fmt.digits, Fmt.format_spec, Fmt.padded_integral}
 use Rattle.csicodec_assemble.specs.Object.{fault_text}
 use Rattle.csicodec_streams.specs.Words.{run_error_text, run_status}
-use Rattle.csicodec_command.specs.declared.failure.Failure.{Failure}
+use Rattle.csicodec_command.specs.{declared.failure.Failure.Failure, declared.failure.Found.Found}
 use Rattle.csicodec_command.specs.declared.failure.Failure.TheVariants as failure
-use Rattle.csicodec_command.specs.declared.failure.Found.{Found}
 use Rattle.csicodec_command.specs.declared.failure.Found.TheVariants as found
 
 -- the number of a character, as Unicode writes it: in capital digits of base 16, of which there are four at least

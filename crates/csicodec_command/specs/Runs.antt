@@ -1,13 +1,9 @@
 -- A run over inputs, one after the other: what is asked of what works on them, which turn each had, and the status at the end.
-use Rattle.std.specs.Prelude.{ℕ, Bool, true, false, ◌≡◌, ◌⊎◌, List, [], ◌∷◌, map, eqb, codes}
-use Rattle.std.specs.List.{ends_with}
-use Rattle.std.specs.Prelude.{Option, None, Some, Result, Ok, Err, IfSome, OnOk, OnErr, MatchResult}
-use Rattle.std.specs.Io.KnownBytes.{Keeps}
-use Rattle.std.specs.Borrow.{Bor}
+use Rattle.std.specs.Prelude.{ℕ, Bool, true, false, ◌≡◌, ◌⊎◌, List, [], ◌∷◌, map, eqb, codes, Option, None, Some, Result, Ok, Err, IfSome, OnOk, OnErr, MatchResult}
+use Rattle.std.specs.{List.ends_with, Io.KnownBytes.Keeps, Borrow.Bor}
+use Rattle.csicodec_command.specs.{declared.failure.Failure.Failure, Failure.status}
 use Rattle.csicodec_streams.specs.declared.error.RunError.TheVariants as error
-use Rattle.csicodec_command.specs.declared.failure.Failure.{Failure}
 use Rattle.csicodec_command.specs.declared.failure.Failure.TheVariants as failure
-use Rattle.csicodec_command.specs.Failure.{status}
 
 -- What is asked of what works on inputs. The input of a name comes next; it is to be written, whose bytes these are where they are
 -- known; it is, as a recording; there are no more.

@@ -1,40 +1,22 @@
 -- What lines that were made anew stand for, as they come.
-use Rattle.std.proofs.Common.{◌≡◌, inl, inr, ℕ, ◌-◌, ◌^◌, ◌==◌, suc, min, Bool, true, false, not}
-use Rattle.std.proofs.Common.{List, [], ◌∷◌, ◌++◌}
-use Rattle.std.proofs.Common.{Result, Ok, Err, cond, length, take, ◌<◌, ◌≤◌, refl, sym, ap, subst}
-use Rattle.std.proofs.Common.{◌∙◌, append_assoc, append-nil, arith}
-use Rattle.std.specs.Prelude.{IfErr, IfSome, None, OnErr, OnOk, Option, Some, nat_lt}
-use Rattle.std.specs.Io.KnownBytes.{Appends, Consumes, IsAtEnd}
-use Rattle.std.proofs.KnownBytes.{Appends-trans, Consumes-trans}
-use Rattle.std.specs.Result.{IsErrAnd}
-use Rattle.std.specs.List.{AllByRecursion}
-use Rattle.std.proofs.lemmas.List.{length-take-le}
-use Rattle.std.proofs.lemmas.List.Folds.{list_all-append}
-use Rattle.csicodec_assemble.specs.declared.object.Fault.{Fault}
-use Rattle.csicodec_assemble.specs.declared.object.Refusal.{Refusal}
-use Rattle.csicodec_assemble.specs.declared.object.Refusal.TheVariants as refusal
-use Rattle.csicodec_assemble.specs.Lines.{IsRefused, Passes, before, counted, ended, last_line}
-use Rattle.csicodec_assemble.specs.Lines.{lines_from, of_bounded, of_lines, one_more}
-use Rattle.csicodec_assemble.specs.Object.{IsTold}
-use Rattle.csicodec_assemble.proofs.Joined.{counted_then, numbered, passes_then}
-use Rattle.csicodec_assemble.proofs.Joined.{whole as whole_text}
-use Rattle.csicodec_assemble.proofs.Place.{of_empty}
-use Rattle.csicodec_explain.specs.Remade.{AreRemade, Ends, HasBegun, IsRemade, Remakes, RemakesAll}
-use Rattle.csicodec_explain.specs.Remade.{line_behind, lines_over, most, passed}
-use Rattle.csicodec_explain.proofs.Remade.{behind_run, behind_then, over_run, over_then}
-use Rattle.csicodec_explain.proofs.Remade.{remade_line, remade_then, remakes_then, whole}
-use Rattle.csicodec_explain.proofs.Remade.{whole_lines}
+use Rattle.std.proofs.Common.{◌≡◌, inl, inr, ℕ, ◌-◌, ◌^◌, ◌==◌, suc, min, Bool, true, false, not, List, [], ◌∷◌, ◌++◌, Result, Ok, Err, cond, length, take, ◌<◌, ◌≤◌, refl, sym, ap, subst, ◌∙◌, append_assoc, append-nil, arith}
+use Rattle.std.proofs.{KnownBytes.Appends-trans, KnownBytes.Consumes-trans, lemmas.List.length-take-le, lemmas.List.Folds.list_all-append}
+use Rattle.std.specs.{Prelude.IfErr, Prelude.IfSome, Prelude.None, Prelude.OnErr, Prelude.OnOk, Prelude.Option, Prelude.Some, Prelude.nat_lt}
+use Rattle.std.specs.{Io.KnownBytes.Appends, Io.KnownBytes.Consumes, Io.KnownBytes.IsAtEnd, Result.IsErrAnd, List.AllByRecursion}
+use Rattle.csicodec_assemble.specs.Lines.{IsRefused, Passes, before, counted, ended, last_line, lines_from, of_bounded, of_lines, one_more}
+use Rattle.csicodec_assemble.specs.{declared.object.Fault.Fault, declared.object.Refusal.Refusal, Object.IsTold}
+use Rattle.csicodec_assemble.proofs.{Joined.counted_then, Joined.numbered, Joined.passes_then, Joined.whole as whole_text, Place.of_empty}
+use Rattle.csicodec_explain.specs.Remade.{AreRemade, Ends, HasBegun, IsRemade, Remakes, RemakesAll, line_behind, lines_over, most, passed}
+use Rattle.csicodec_explain.proofs.Remade.{behind_run, behind_then, over_run, over_then, remade_line, remade_then, remakes_then, whole, whole_lines}
 use Rattle.csicodec_streams.specs.declared.error.RunError.{RunError}
 use Rattle.csicodec_command.specs.declared.failure.Failure.{Failure}
-use Rattle.csicodec_command.specs.declared.failure.Failure.TheVariants as failure
 use Rattle.csicodec_lines.specs.Lines.{AreOf}
-use Rattle.csicodec_tool.specs.Assembled.{Assembles, Fails, Refuses, Stands, Takes}
-use Rattle.csicodec_tool.specs.declared.assemble.ObjectLines.{ObjectLines}
-use Rattle.csicodec_tool.specs.Log.{IsLine}
-use Rattle.csicodec_tool.specs.Alone.{AssemblesLines}
-use Rattle.csicodec_tool.specs.Writes.{FrontsOf, IsAppended}
-use Rattle.csicodec_tool.specs.declared.assemble.Assembly.{Assembly}
+use Rattle.csicodec_tool.specs.{Assembled.Assembles, Assembled.Fails, Assembled.Refuses, Assembled.Stands, Assembled.Takes}
+use Rattle.csicodec_tool.specs.{declared.assemble.ObjectLines.ObjectLines, Log.IsLine, Alone.AssemblesLines, Writes.FrontsOf, Writes.IsAppended}
+use Rattle.csicodec_tool.specs.{declared.assemble.Assembly.Assembly}
 use Rattle.csicodec_tool.proofs.Written.{consumed_front, known_so}
+use Rattle.csicodec_assemble.specs.declared.object.Refusal.TheVariants as refusal
+use Rattle.csicodec_command.specs.declared.failure.Failure.TheVariants as failure
 
 abbrev Lines : Type 0
 Lines = List (List ℕ)

@@ -3,24 +3,17 @@ use Rattle.std.proofs.Common.{◌≡◌, ◌==◌, not, ℕ, List, [], ◌∷◌
 use Rattle.std.proofs.lemmas.List.Folds.{list_all-append}
 use Rattle.std.specs.Prelude.{IfSome}
 use Rattle.csicodec_filter.specs.Transform.{Begins, GoesOn, Sends, Transforms}
-use Rattle.csicodec_clean.specs.Shown.{shown_text}
-use Rattle.csicodec_clean.specs.Stream.{Between, Takes, start_of}
-use Rattle.csicodec_clean.specs.Styled.{Keeping, StylesIn, first_kept, keeps, resets}
-use Rattle.csicodec_clean.specs.declared.styles.Passing.{Passing}
-use Rattle.csicodec_clean.proofs.Chunks.{ends as at_end, takes_none, takes_on}
-use Rattle.csicodec_clean.proofs.PlainBytes.{all_both}
-use Rattle.csicodec_clean.proofs.Styled.{styles as styled_as}
+use Rattle.csicodec_clean.specs.{Shown.shown_text, Stream.Between, Stream.Takes, Stream.start_of, Styled.Keeping, Styled.StylesIn, Styled.first_kept}
+use Rattle.csicodec_clean.specs.{Styled.keeps, Styled.resets, declared.styles.Passing.Passing}
+use Rattle.csicodec_clean.proofs.{Chunks.ends as at_end, Chunks.takes_none, Chunks.takes_on, PlainBytes.all_both, Styled.styles as styled_as}
 use Rattle.csicodec_lines.specs.Stream.{ended}
 use Rattle.csicodec_lines.proofs.Texts.{ended_on, of_on}
-use Rattle.csicodec_overwrite.specs.declared.marking.Marking.{Marking}
-use Rattle.csicodec_overwrite.specs.declared.marking.Marking.TheVariants.{Plain, Styled}
-use Rattle.csicodec_overwrite.specs.Stream.{Ending, Now, Passes, begun_as}
+use Rattle.csicodec_overwrite.specs.{declared.marking.Marking.Marking, declared.marking.Marking.TheVariants.Plain, declared.marking.Marking.TheVariants.Styled}
+use Rattle.csicodec_overwrite.specs.{Stream.Ending, Stream.Now, Stream.Passes, Stream.begun_as}
 use Rattle.csicodec_overwrite.proofs.Written.{passes_none, passes_on, shows}
-use Rattle.csicodec_tool.specs.declared.log.Log.{Log}
-use Rattle.csicodec_tool.specs.declared.log.Overwritten.{Overwritten}
-use Rattle.csicodec_tool.specs.declared.log.Styles.{Styles}
-use Rattle.csicodec_tool.specs.Log.{IsLine, IsLogged, IsLoggedFront, LogOf, Logs, LogsSome}
 use Rattle.csicodec_tool.specs.Stream.{EndsLog, EndsOverwritten, GoesIn, IsBegun, IsIn, PassesLog, PassesOverwritten, passing_of}
+use Rattle.csicodec_tool.specs.{declared.log.Log.Log, declared.log.Overwritten.Overwritten, declared.log.Styles.Styles, Log.IsLine, Log.IsLogged}
+use Rattle.csicodec_tool.specs.{Log.IsLoggedFront, Log.LogOf, Log.Logs, Log.LogsSome}
 
 -- a part of a line behind another
 line_on : (line part : List ℕ) → IsLine line → IsLine part → IsLine (line ++ part)

@@ -1,22 +1,17 @@
 -- What a run writes of inputs that all went well.
 use Rattle.std.proofs.Common.{Bool, true, false, inl, inr, ◌≡◌, ◌∷◌, ◌++◌, ℕ, List, [], Option, None, Some, Result, Ok, Err, refl, sym, ap, subst, ◌∙◌, append_assoc, arith}
-use Rattle.std.specs.Prelude.{◌⊎◌, length, IfSome, IsErr, MatchResult, OnErr, OnOk}
-use Rattle.std.specs.List.{concat}
-use Rattle.std.proofs.lemmas.Bool.{true≢false}
-use Rattle.std.proofs.KnownBytes.{Appends-nil, Appends-trans}
-use Rattle.std.specs.Io.KnownBytes.{Appends, Keeps}
+use Rattle.std.proofs.{lemmas.Bool.true≢false, KnownBytes.Appends-nil, KnownBytes.Appends-trans}
+use Rattle.std.specs.{Prelude.◌⊎◌, Prelude.length, Prelude.IfSome, Prelude.IsErr, Prelude.MatchResult, Prelude.OnErr, Prelude.OnOk, List.concat}
+use Rattle.std.specs.{Io.KnownBytes.Appends, Io.KnownBytes.Keeps}
 use Rattle.csicodec_streams.specs.declared.error.RunError.{RunError}
-use Rattle.csicodec_streams.specs.declared.error.RunError.TheVariants as error
 use Rattle.csicodec_lines.specs.Lines.{AreOf}
-use Rattle.csicodec_command.specs.declared.failure.Failure.{Failure}
-use Rattle.csicodec_command.specs.declared.failure.Failure.TheVariants as failure
-use Rattle.csicodec_command.specs.Recorded.{recorded}
 use Rattle.csicodec_command.specs.Runs.{At, Closes, End, Ends, HasTurn, IsTold, IsUnread, MayBeRecording, Recording, Stream, Through, ends_run, first_of}
-use Rattle.csicodec_tool.specs.declared.rewrite.Job.{Job}
-use Rattle.csicodec_tool.specs.declared.rewrite.Work.{Work}
-use Rattle.csicodec_tool.specs.declared.rewrite.Work.TheVariants as work
+use Rattle.csicodec_command.specs.{declared.failure.Failure.Failure, Recorded.recorded}
 use Rattle.csicodec_tool.specs.Writes.{Heads, IsHeaded, JobSteps, Tails, Writes, Wrote as IsWritten, begun_of, makes_none, writes_data}
-use Rattle.csicodec_tool.specs.Whole.{AreKnown, AreTaken, IsTaken, WholeRuns}
+use Rattle.csicodec_tool.specs.{declared.rewrite.Job.Job, declared.rewrite.Work.Work, Whole.AreKnown, Whole.AreTaken, Whole.IsTaken, Whole.WholeRuns}
+use Rattle.csicodec_streams.specs.declared.error.RunError.TheVariants as error
+use Rattle.csicodec_command.specs.declared.failure.Failure.TheVariants as failure
+use Rattle.csicodec_tool.specs.declared.rewrite.Work.TheVariants as work
 
 -- ---- a page that has begun is written as one that hasn't
 

@@ -1,22 +1,15 @@
 -- what a run from a reader to a writer promises, where the bytes of its input are known
-use Rattle.std.proofs.Common.{Bool, true, false, Bor, inr, ◌≡◌, ◌++◌, ℕ, List, [], Option, None, Some, Result, Ok, Err, refl, ◌∙◌, subst}
-use Rattle.std.proofs.Common.{append_assoc}
-use Rattle.std.specs.Prelude.{IfSome, IsErr, OnErr, OnOk}
-use Rattle.std.proofs.KnownBytes.{Appends-nil}
-use Rattle.std.specs.Io.KnownBytes.{Appends, Consumes, IsAtEnd}
+use Rattle.std.proofs.Common.{Bool, true, false, Bor, inr, ◌≡◌, ◌++◌, ℕ, List, [], Option, None, Some, Result, Ok, Err, refl, ◌∙◌, subst, append_assoc}
+use Rattle.std.proofs.{KnownBytes.Appends-nil, lemmas.Result.on_ok_weaker}
+use Rattle.std.specs.{Prelude.IfSome, Prelude.IsErr, Prelude.OnErr, Prelude.OnOk, Io.KnownBytes.Appends, Io.KnownBytes.Consumes, Io.KnownBytes.IsAtEnd}
 use Rattle.csicodec_streams.specs.declared.error.RunError.{RunError}
 use Rattle.csicodec_streams.proofs.Streamed.{given_all}
-use Rattle.csicodec_clean.specs.Streams.{Streams}
-use Rattle.std.proofs.lemmas.Result.{on_ok_weaker}
-use Rattle.csicodec_clean.specs.declared.styles.Passing.{Passing}
+use Rattle.csicodec_clean.specs.{Streams.Streams, declared.styles.Passing.Passing}
 use Rattle.csicodec_overwrite.specs.Reading.{Paints}
-use Rattle.csicodec_html.specs.Page.{IsPageWith, PageWith}
-use Rattle.csicodec_html.specs.declared.markup.Markup.{Markup}
-use Rattle.csicodec_tool.specs.Log.{IsLogged, IsLoggedFront}
-use Rattle.csicodec_tool.specs.declared.rewrite.Work.{Work}
+use Rattle.csicodec_html.specs.{Page.IsPageWith, Page.PageWith, declared.markup.Markup.Markup}
+use Rattle.csicodec_tool.specs.Writes.{FrontsOf, FrontsOfPainted, IsHeaded, IsPageFront, IsWrittenBy, PaintedPage, Wrote, WroteBehind}
+use Rattle.csicodec_tool.specs.{Log.IsLogged, Log.IsLoggedFront, declared.rewrite.Work.Work}
 use Rattle.csicodec_tool.specs.declared.rewrite.Work.TheVariants as work
-use Rattle.csicodec_tool.specs.Writes.{FrontsOf, FrontsOfPainted, IsHeaded, IsPageFront, IsWrittenBy}
-use Rattle.csicodec_tool.specs.Writes.{PaintedPage, Wrote, WroteBehind}
 
 pub known_so : {X : Type 0} {P Q : X → Type 0} (known : Option X) → ((x : X) → P x → Q x)
     → IfSome known P → IfSome known Q

@@ -1,12 +1,10 @@
 -- What `assemble` writes: the bytes that the lines of an input stand for, where one that has actions alone is made anew.
 use Rattle.std.specs.Prelude.{ℕ, ◌≡◌, List, [], ◌∷◌, ◌++◌, length, Result, Ok, Err}
-use Rattle.csicodec_assemble.specs.Lines.{Passes, assembled, counted, ended, lines_from, of_bounded, one_more}
-use Rattle.csicodec_assemble.specs.declared.object.Fault.{Fault}
-use Rattle.csicodec_assemble.specs.declared.object.Refusal.{Refusal}
-use Rattle.csicodec_assemble.specs.declared.object.Refusal.TheVariants as refusal
+use Rattle.csicodec_assemble.specs.{Lines.Passes, Lines.assembled, Lines.counted, Lines.ended, Lines.lines_from, Lines.of_bounded, Lines.one_more}
+use Rattle.csicodec_assemble.specs.{declared.object.Fault.Fault, declared.object.Refusal.Refusal}
 use Rattle.csicodec_explain.specs.Remade.{HasBegun, IsRemade, Remakes, RemakesAll, line_behind}
-use Rattle.csicodec_tool.specs.Writes.{FrontsOf}
-use Rattle.csicodec_tool.specs.declared.assemble.ObjectLines.{ObjectLines}
+use Rattle.csicodec_tool.specs.{Writes.FrontsOf, declared.assemble.ObjectLines.ObjectLines}
+use Rattle.csicodec_assemble.specs.declared.object.Refusal.TheVariants as refusal
 
 -- the lines are made anew, and the text that this gives stands for these bytes
 abbrev pub Assembles : List ℕ → List ℕ → Type 0

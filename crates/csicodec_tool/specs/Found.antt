@@ -3,11 +3,10 @@ use Prim.Native.Char.{code}
 use Rattle.std.specs.Prelude.{ℕ, ◌≡◌, ◌==◌, Bool, not, List, [], ◌∷◌, Option, None, Some, if◌then◌else◌}
 use Rattle.bstr.specs.Utf8.{decoded}
 use Rattle.csicodec_spans.specs.Table.{openers, within}
-use Rattle.csicodec_clean.specs.Check.{IsFault}
-use Rattle.csicodec_clean.specs.Shown.{shown}
+use Rattle.csicodec_clean.specs.{Check.IsFault, Shown.shown}
 use Rattle.csicodec_command.specs.declared.failure.Found.{Found}
-use Rattle.csicodec_command.specs.declared.failure.Found.TheVariants as found
 use Rattle.csicodec_tool.specs.Visible.{is_tag, turns}
+use Rattle.csicodec_command.specs.declared.failure.Found.TheVariants as found
 
 -- by what follows ESC: `[` introduces a control sequence (ECMA-48, 5.4), and `P`, `X`, `]`, `^` and `_` open a control string (5.6)
 abbrev pub behind_esc : List ℕ → Found

@@ -1,10 +1,8 @@
 -- What `--log` writes: each line of a log by itself, as it stands when it ends.
-use Rattle.std.specs.Prelude.{ℕ, ◌≡◌, ◌==◌, not, true, List, ◌++◌, Option, None, Some}
-use Rattle.std.specs.List.{AllByRecursion, list_all}
-use Rattle.csicodec_clean.specs.Styled.{StylesIn}
-use Rattle.csicodec_clean.specs.declared.styles.Passing.{Passing}
-use Rattle.csicodec_lines.specs.Lines.{AreOf}
-use Rattle.csicodec_lines.specs.Stream.{ended}
+use Rattle.std.specs.{Prelude.ℕ, Prelude.◌≡◌, Prelude.◌==◌, Prelude.not, Prelude.true, Prelude.List, Prelude.◌++◌, Prelude.Option, Prelude.None, Prelude.Some}
+use Rattle.std.specs.{List.AllByRecursion, List.list_all}
+use Rattle.csicodec_clean.specs.{Styled.StylesIn, declared.styles.Passing.Passing}
+use Rattle.csicodec_lines.specs.{Lines.AreOf, Stream.ended}
 use Rattle.csicodec_overwrite.specs.Reading.{Overwrites, Paints}
 
 -- it has no newline

@@ -1,15 +1,10 @@
 -- A log as it comes, chunk by chunk.
 use Rattle.std.specs.Prelude.{ℕ, ◌≡◌, List, [], ◌++◌, Option, None, Some}
 use Rattle.csicodec_filter.specs.Transform.{EndsOf, PassesOf}
-use Rattle.csicodec_clean.specs.Stream.{Takes, start_of}
-use Rattle.csicodec_clean.specs.Styled.{Keeping, first_kept, keeps}
-use Rattle.csicodec_clean.specs.declared.styles.Passing.{Passing}
-use Rattle.csicodec_overwrite.specs.declared.marking.Marking.TheVariants.{Plain, Styled}
-use Rattle.csicodec_overwrite.specs.Stream.{Now, Passes, begun_as}
-use Rattle.csicodec_tool.specs.declared.log.Log.{Log}
-use Rattle.csicodec_tool.specs.declared.log.Overwritten.{Overwritten}
-use Rattle.csicodec_tool.specs.declared.log.Styles.{Styles}
-use Rattle.csicodec_tool.specs.Log.{IsLogged, LogOf}
+use Rattle.csicodec_clean.specs.{Stream.Takes, Stream.start_of, Styled.Keeping, Styled.first_kept, Styled.keeps, declared.styles.Passing.Passing}
+use Rattle.csicodec_overwrite.specs.{declared.marking.Marking.TheVariants.Plain, declared.marking.Marking.TheVariants.Styled, Stream.Now, Stream.Passes}
+use Rattle.csicodec_overwrite.specs.{Stream.begun_as}
+use Rattle.csicodec_tool.specs.{declared.log.Log.Log, declared.log.Overwritten.Overwritten, declared.log.Styles.Styles, Log.IsLogged, Log.LogOf}
 
 abbrev pub passing_of : Option Styles → Option Passing
 passing_of None = None

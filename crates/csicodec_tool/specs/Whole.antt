@@ -1,12 +1,10 @@
 -- What a run writes of inputs that all went well.
-use Rattle.std.specs.Prelude.{ℕ, ◌≡◌, ◌⊎◌, Bool, true, List, [], ◌∷◌, ◌++◌, Option, Some, Ok}
-use Rattle.std.specs.List.{concat}
+use Rattle.std.specs.{Prelude.ℕ, Prelude.◌≡◌, Prelude.◌⊎◌, Prelude.Bool, Prelude.true, Prelude.List, Prelude.[], Prelude.◌∷◌, Prelude.◌++◌, Prelude.Option}
+use Rattle.std.specs.{Prelude.Some, Prelude.Ok, List.concat}
 use Rattle.csicodec_lines.specs.Lines.{AreOf}
-use Rattle.csicodec_command.specs.Recorded.{recorded}
-use Rattle.csicodec_command.specs.Runs.{At, IsRun, MayBeRecording}
-use Rattle.csicodec_tool.specs.declared.rewrite.Job.{Job}
-use Rattle.csicodec_tool.specs.declared.rewrite.Work.{Work}
-use Rattle.csicodec_tool.specs.Writes.{Heads, IsAppended, JobSteps, Tails, Writes, begun_of, writes_data}
+use Rattle.csicodec_command.specs.{Recorded.recorded, Runs.At, Runs.IsRun, Runs.MayBeRecording}
+use Rattle.csicodec_tool.specs.{declared.rewrite.Job.Job, declared.rewrite.Work.Work, Writes.Heads, Writes.IsAppended, Writes.JobSteps, Writes.Tails}
+use Rattle.csicodec_tool.specs.{Writes.Writes, Writes.begun_of, Writes.writes_data}
 
 -- An input of a name with these bytes has these to write: the bytes themselves, or where it may be a recording, the data of that.
 abbrev pub IsTaken : List ℕ → List ℕ → List ℕ → Type 0

@@ -2,24 +2,16 @@
 use Rattle.std.specs.Prelude.{ℕ, ◌≡◌, ◌⊎◌, Bool, true, false, ◌||◌, List, [], ◌++◌, Option, Result, Ok, OnOk, OnErr, IfSome, IsErr, option_map}
 use Rattle.std.specs.Io.KnownBytes.{Appends}
 use Rattle.csicodec_spans.specs.declared.table.Mode.TheVariants.{Text as Plain}
-use Rattle.csicodec_streams.specs.declared.error.RunError.{RunError}
-use Rattle.csicodec_streams.specs.Decoding.{NormalisesTo}
-use Rattle.csicodec_filter.specs.Faithful.{IsFaithful}
-use Rattle.csicodec_filter.specs.Filter.{Filters, IsFrontOf}
+use Rattle.csicodec_streams.specs.{declared.error.RunError.RunError, Decoding.NormalisesTo}
+use Rattle.csicodec_filter.specs.{Faithful.IsFaithful, Filter.Filters, Filter.IsFrontOf}
 use Rattle.csicodec_compact.specs.Runs.{CompactsAll}
-use Rattle.csicodec_clean.specs.Cleaned.{Strips, longest}
-use Rattle.csicodec_clean.specs.Styled.{StylesIn}
+use Rattle.csicodec_clean.specs.{Cleaned.Strips, Cleaned.longest, Styled.StylesIn}
 use Rattle.csicodec_lines.specs.Lines.{ByLines}
 use Rattle.csicodec_overwrite.specs.Reading.{Paints}
-use Rattle.csicodec_html.specs.declared.markup.Markup.{Markup}
-use Rattle.csicodec_html.specs.declared.sheet.TheConstants.{BEHIND, BODY, HEAD, STYLE}
-use Rattle.csicodec_html.specs.Page.{PageWith}
-use Rattle.csicodec_html.specs.Sheet.{IsTitle, sheet}
-use Rattle.csicodec_command.specs.Recorded.{recorded}
-use Rattle.csicodec_command.specs.Runs.{StepsOf, Next, Stream, Recording, End}
-use Rattle.csicodec_tool.specs.Log.{IsLogged, IsLoggedFront, Logs, LogsSome}
-use Rattle.csicodec_tool.specs.declared.rewrite.Job.{Job}
-use Rattle.csicodec_tool.specs.declared.rewrite.Work.{Work}
+use Rattle.csicodec_html.specs.{declared.markup.Markup.Markup, declared.sheet.TheConstants.BEHIND, declared.sheet.TheConstants.BODY}
+use Rattle.csicodec_html.specs.{declared.sheet.TheConstants.HEAD, declared.sheet.TheConstants.STYLE, Page.PageWith, Sheet.IsTitle, Sheet.sheet}
+use Rattle.csicodec_command.specs.{Recorded.recorded, Runs.StepsOf, Runs.Next, Runs.Stream, Runs.Recording, Runs.End}
+use Rattle.csicodec_tool.specs.{Log.IsLogged, Log.IsLoggedFront, Log.Logs, Log.LogsSome, declared.rewrite.Job.Job, declared.rewrite.Work.Work}
 use Rattle.csicodec_tool.specs.declared.rewrite.Work.TheVariants as work
 
 -- the page of what is painted of the bytes

@@ -1,11 +1,7 @@
 -- What is known of the members of an object that were passed.
 use Rattle.std.specs.Prelude.{ℕ, ◌≡◌, ◌≤◌, false, List, ◌∷◌, ◌++◌, codes, length, IsSome, IsUtf8, Option, Some, None, option_map, option_and_then, Ok}
-use Rattle.json.specs.Token.{Token}
-use Rattle.json.specs.Json.{members, value}
-use Rattle.json.specs.Print.{IsNumber}
-use Rattle.serde_json.specs.Data.{Members, string}
-use Rattle.serde_json.specs.Find.{as_str, get_member}
-use Rattle.serde_json.specs.Read.{converted, number_of, of_members}
+use Rattle.json.specs.{Token.Token, Json.members, Json.value, Print.IsNumber}
+use Rattle.serde_json.specs.{Data.Members, Data.string, Find.as_str, Find.get_member, Read.converted, Read.number_of, Read.of_members}
 use Rattle.csicodec_assemble.specs.Object.{is_totals, of_line}
 
 -- they have this text, or none, no `hex`, and another kind than sums

@@ -1,8 +1,7 @@
-use Rattle.std.proofs.Common.{◌≡◌, ◌-◌, ◌<◌, ◌∷◌, length, Option, Some, None, refl, ap, ◌∙◌, arith}
+use Rattle.std.proofs.{Common.◌≡◌, Common.◌-◌, Common.◌<◌, Common.◌∷◌, Common.length, Common.Option, Common.Some, Common.None, Common.refl, Common.ap}
+use Rattle.std.proofs.{Common.◌∙◌, Common.arith, lemmas.Result.on_ok_weaker}
 use Rattle.std.specs.Prelude.{option_map}
-use Rattle.std.proofs.lemmas.Result.{on_ok_weaker}
-use Rattle.json.specs.Token.{Token}
-use Rattle.json.specs.Json.{parse_map, after_end_array, read_key, items, members, value}
+use Rattle.json.specs.{Token.Token, Json.parse_map, Json.after_end_array, Json.read_key, Json.items, Json.members, Json.value}
 use Rattle.json.proofs.Grammar.{value_is, value-begin_array, value-begin_object, read_key-shorter}
 use Rattle.serde_json.specs.Data.{Num, null, boolean, number, string, array, object, put, no_items, item, no_members}
 use Rattle.serde_json.specs.Read.{number_of, of_json, of_items, converted}

@@ -1,7 +1,6 @@
 use Rattle.std.proofs.Common.{◌≡◌, ℕ, ◌+◌, ◌*◌, ◌≤◌, length}
 use Rattle.json.specs.Json.{items, members, value, parse_map}
-use Rattle.serde_json.specs.Data.{Items, Members, no_members}
-use Rattle.serde_json.specs.Read.{of_items, of_members, converted}
+use Rattle.serde_json.specs.{Data.Items, Data.Members, Data.no_members, Read.of_items, Read.of_members, Read.converted}
 use Rattle.csicodec_assemble.proofs.glance.+pass.Given as goal
 
 abbrev pub decreases-pass : goal.decreases-pass

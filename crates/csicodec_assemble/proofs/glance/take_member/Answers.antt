@@ -1,12 +1,10 @@
-use Rattle.std.proofs.Common.{◌≡◌, ℕ, List, codes, false, Some, sym, subst, ap, ◌∙◌}
+use Rattle.std.proofs.{Common.◌≡◌, Common.ℕ, Common.List, Common.codes, Common.false, Common.Some, Common.sym, Common.subst, Common.ap, Common.◌∙◌}
+use Rattle.std.proofs.{lemmas.Slice.Eq.bytes_eq-Decides}
 use Rattle.std.specs.Prelude.{option_map}
-use Rattle.std.proofs.lemmas.Slice.Eq.{bytes_eq-Decides}
 use Rattle.json.specs.Json.{value}
 use Rattle.json.proofs.Grammar.{value_is}
-use Rattle.serde_json.specs.Data.{put, string}
-use Rattle.serde_json.specs.Read.{converted, of_json}
-use Rattle.csicodec_assemble.specs.Object.{is_totals}
-use Rattle.csicodec_assemble.specs.Private.Glance.{Says}
+use Rattle.serde_json.specs.{Data.put, Data.string, Read.converted, Read.of_json}
+use Rattle.csicodec_assemble.specs.{Object.is_totals, Private.Glance.Says}
 use Rattle.csicodec_assemble.proofs.Member.{differs, says_kind, says_other, says_text}
 use Rattle.csicodec_assemble.proofs.glance.take_member.Goals as goal
 

@@ -1,8 +1,7 @@
 use Rattle.std.proofs.Common.{◌≡◌, ℕ, ◌≤◌, length, None}
 use Rattle.std.specs.Prelude.{option_map}
 use Rattle.json.specs.Json.{members, value}
-use Rattle.serde_json.specs.Data.{Members}
-use Rattle.serde_json.specs.Read.{of_members, converted}
+use Rattle.serde_json.specs.{Data.Members, Read.of_members, Read.converted}
 use Rattle.csicodec_assemble.specs.Private.Glance.{Says}
 use Rattle.csicodec_assemble.proofs.glance.text_member.Given as goal
 

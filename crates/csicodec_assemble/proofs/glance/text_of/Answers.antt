@@ -1,10 +1,7 @@
-use Rattle.std.proofs.Common.{◌≡◌, ◌∷◌, length, refl, ap, ◌∙◌, arith}
-use Rattle.std.proofs.lemmas.Option.{IfSome_then}
-use Rattle.json.specs.Token.{Token}
-use Rattle.json.specs.Json.{members, parse_map, value}
+use Rattle.std.proofs.{Common.◌≡◌, Common.◌∷◌, Common.length, Common.refl, Common.ap, Common.◌∙◌, Common.arith, lemmas.Option.IfSome_then}
+use Rattle.json.specs.{Token.Token, Json.members, Json.parse_map, Json.value}
 use Rattle.json.proofs.Grammar.{value-begin_object}
-use Rattle.serde_json.specs.Data.{no_members, object}
-use Rattle.serde_json.specs.Read.{converted, of_json}
+use Rattle.serde_json.specs.{Data.no_members, Data.object, Read.converted, Read.of_json}
 use Rattle.csicodec_assemble.proofs.Member.{converted-object, says_object}
 use Rattle.csicodec_assemble.proofs.glance.text_of.Goals as goal
 

@@ -1,11 +1,8 @@
 use Rattle.std.proofs.Common.{◌≡◌, ℕ, List, Bool, true, false, None, Result, Ok, Err, IfErr, IfOk, cond, refl, sym, subst}
-use Rattle.std.specs.Prelude.{IsUtf8}
-use Rattle.std.specs.Str.{is_utf8}
 use Rattle.std.proofs.lemmas.Str.{IsUtf8-from_is_utf8}
+use Rattle.std.specs.{Prelude.IsUtf8, Str.is_utf8}
 use Rattle.serde_json.specs.Read.{read}
-use Rattle.csicodec_assemble.specs.declared.object.Fault.{Fault}
-use Rattle.csicodec_assemble.specs.declared.object.Fault.TheVariants.{NoObject}
-use Rattle.csicodec_assemble.specs.Object.{IsTold, of_read}
+use Rattle.csicodec_assemble.specs.{declared.object.Fault.Fault, declared.object.Fault.TheVariants.NoObject, Object.IsTold, Object.of_read}
 use Rattle.csicodec_assemble.proofs.Member.{line_is}
 use Rattle.csicodec_assemble.proofs.object.bytes_of_line.Goals as goal
 

@@ -1,5 +1,4 @@
-use Rattle.std.proofs.Common.{Some, inl, inr, refl, Err}
-use Rattle.std.proofs.KnownBytes.{Keeps-refl}
+use Rattle.std.proofs.{Common.Some, Common.inl, Common.inr, Common.refl, Common.Err, KnownBytes.Keeps-refl}
 use Rattle.std.specs.Io.Chain.{chain_remaining}
 use Rattle.csicodec_command.proofs.Turns.{buffered, chained, handed_on, not_begun, taken, unread}
 use Rattle.csicodec_command.proofs.run.read_through.Goals as goal

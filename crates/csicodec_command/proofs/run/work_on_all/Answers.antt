@@ -1,7 +1,7 @@
 use Rattle.std.proofs.Common.{[], arith, refl, sym, ◌∙◌}
-use Rattle.csicodec_command.proofs.Turns.{turn_failed, turn_stopped, turn_went, turns_end}
+use Rattle.csicodec_command.proofs.{Turns.turn_failed, Turns.turn_stopped, Turns.turn_went, Turns.turns_end, run.work_on_all.Goals.in-Ok}
+use Rattle.csicodec_command.proofs.{run.work_on_all.Goals.in-Err+else-ends_run}
 use Rattle.csicodec_command.proofs.run.work_on_all.Goals as goal
-use Rattle.csicodec_command.proofs.run.work_on_all.Goals.{in-Ok, in-Err+else-ends_run}
 
 pub loop-name-init : goal.loop-name-init
 loop-name-init g c = record { failed = []; is = refl; goes = λ more stop end h. h }

@@ -1,7 +1,6 @@
 use Rattle.std.proofs.Common.{◌≡◌, ◌<◌, ◌==◌, ℕ, List, [], ◌∷◌, ◌++◌, length, refl, sym, ap, inl, inr, ⊎_elim, arith}
+use Rattle.std.proofs.{lemmas.Bool.Decides.nat_tests, lemmas.Result.IfErr-weaker}
 use Rattle.std.specs.Prelude.{if◌then◌else◌}
-use Rattle.std.proofs.lemmas.Bool.Decides.{nat_tests}
-use Rattle.std.proofs.lemmas.Result.{IfErr-weaker}
 use Rattle.bstr.specs.Utf8.{Decoded}
 use Rattle.csicodec_clean.specs.Check.{IsSure}
 use Rattle.csicodec_tool.specs.Found.{behind_esc, by_char, found_at}

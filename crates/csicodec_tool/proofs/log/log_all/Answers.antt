@@ -1,5 +1,4 @@
-use Rattle.std.proofs.Common.{◌++◌, Option, subst}
-use Rattle.std.proofs.lemmas.Result.{on_err_weaker, on_ok_weaker}
+use Rattle.std.proofs.{Common.◌++◌, Common.Option, Common.subst, lemmas.Result.on_err_weaker, lemmas.Result.on_ok_weaker}
 use Rattle.csicodec_clean.specs.declared.styles.Passing.{Passing}
 use Rattle.csicodec_tool.specs.Log.{Logs, LogsSome}
 use Rattle.csicodec_tool.proofs.Logged.{log_begins, log_begun, logged}

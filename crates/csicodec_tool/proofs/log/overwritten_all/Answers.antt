@@ -1,5 +1,4 @@
-use Rattle.std.proofs.Common.{◌++◌, Option, refl, subst}
-use Rattle.std.proofs.lemmas.Result.{on_err_weaker, on_ok_weaker}
+use Rattle.std.proofs.{Common.◌++◌, Common.Option, Common.refl, Common.subst, lemmas.Result.on_err_weaker, lemmas.Result.on_ok_weaker}
 use Rattle.csicodec_clean.specs.declared.styles.Passing.{Passing}
 use Rattle.csicodec_tool.specs.Log.{IsLogged, IsLoggedFront}
 use Rattle.csicodec_tool.proofs.Logged.{overwritten, overwritten_begins}

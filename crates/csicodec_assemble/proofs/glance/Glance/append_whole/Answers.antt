@@ -1,9 +1,7 @@
-use Rattle.std.proofs.Common.{◌++◌, ℕ, List, ap, ◌∙◌}
+use Rattle.std.proofs.Common.{◌++◌, ℕ, List, ap, ◌∙◌, ◌≡◌, Some}
 use Rattle.csicodec_assemble.proofs.Member.{line_is, whole_read}
-use Rattle.json.specs.Json.{value}
-use Rattle.json.specs.Lex.{tokens}
+use Rattle.json.specs.{Json.value, Lex.tokens}
 use Rattle.serde_json.specs.Read.{read}
-use Rattle.std.proofs.Common.{◌≡◌, Some}
 use Rattle.csicodec_assemble.proofs.glance.Glance.append_whole.Goals as goal
 
 pub returns-clause-bytes : goal.returns-clause-bytes

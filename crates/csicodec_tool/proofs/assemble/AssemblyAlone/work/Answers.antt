@@ -1,10 +1,9 @@
-use Rattle.std.proofs.Common.{◌≡◌, ◌++◌, ◌∙◌, ℕ, List, Result, [], take, ap, subst, sym, arith}
+use Rattle.std.proofs.{Common.◌≡◌, Common.◌++◌, Common.◌∙◌, Common.ℕ, Common.List, Common.Result, Common.[], Common.take, Common.ap, Common.subst, Common.sym}
+use Rattle.std.proofs.{Common.arith, KnownBytes.Appends-nil, KnownBytes.Consumes-nil, KnownBytes.Consumes-trans}
 use Rattle.std.specs.Io.KnownBytes.{Appends}
-use Rattle.std.proofs.KnownBytes.{Appends-nil, Consumes-nil, Consumes-trans}
 use Rattle.csicodec_assemble.specs.declared.object.Refusal.{Refusal}
 use Rattle.csicodec_tool.specs.Assembled.{Takes}
-use Rattle.csicodec_tool.proofs.Assembled.{all_over, failed_run, goes_on, none_came, none_read}
-use Rattle.csicodec_tool.proofs.Assembled.{refused_run, stopped, stopped_behind}
+use Rattle.csicodec_tool.proofs.Assembled.{all_over, failed_run, goes_on, none_came, none_read, refused_run, stopped, stopped_behind}
 use Rattle.csicodec_tool.proofs.assemble.AssemblyAlone.work.Goals as goal
 
 -- what was appended to nothing

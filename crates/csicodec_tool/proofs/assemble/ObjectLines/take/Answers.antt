@@ -1,8 +1,6 @@
-use Rattle.std.proofs.Common.{◌++◌, ◌∙◌, ℕ, List, [], length, ap, sym, append-nil}
-use Rattle.std.proofs.lemmas.Bool.{eqb-true}
-use Rattle.std.proofs.lemmas.List.{nil_from_length}
-use Rattle.csicodec_tool.proofs.Assembled.{is_some, takes_chunk, takes_end, takes_none}
-use Rattle.csicodec_tool.proofs.Assembled.{takes_refused}
+use Rattle.std.proofs.{Common.◌++◌, Common.◌∙◌, Common.ℕ, Common.List, Common.[], Common.length, Common.ap, Common.sym, Common.append-nil, lemmas.Bool.eqb-true}
+use Rattle.std.proofs.{lemmas.List.nil_from_length}
+use Rattle.csicodec_tool.proofs.Assembled.{is_some, takes_chunk, takes_end, takes_none, takes_refused}
 use Rattle.csicodec_tool.proofs.assemble.ObjectLines.take.Goals as goal
 
 pub returns-in_err-take : goal.returns-in_err-take

@@ -1,8 +1,5 @@
-use Rattle.std.proofs.Common.{◌≡◌, ◌++◌, ◌∙◌, List, ℕ, ap, subst, append_assoc}
-use Rattle.std.proofs.lemmas.Result.{on_ok_weaker}
-use Rattle.csicodec_clean.specs.Shown.{shown_text}
-use Rattle.csicodec_clean.specs.Stream.{Takes}
-use Rattle.csicodec_clean.specs.Styled.{Keeping, keeps}
+use Rattle.std.proofs.{Common.◌≡◌, Common.◌++◌, Common.◌∙◌, Common.List, Common.ℕ, Common.ap, Common.subst, Common.append_assoc, lemmas.Result.on_ok_weaker}
+use Rattle.csicodec_clean.specs.{Shown.shown_text, Stream.Takes, Styled.Keeping, Styled.keeps}
 use Rattle.csicodec_tool.proofs.Logged.{plain_end, styled_end}
 use Rattle.csicodec_tool.proofs.log.Log.end_line.Goals as goal
 

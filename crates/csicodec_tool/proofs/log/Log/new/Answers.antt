@@ -1,7 +1,6 @@
 use Rattle.std.proofs.Common.{◌∙◌}
-use Rattle.csicodec_tool.proofs.Logged.{begun_in}
+use Rattle.csicodec_tool.proofs.{Logged.begun_in, log.Log.new.Goals.in-Some, log.Log.new.Goals.in-None}
 use Rattle.csicodec_tool.proofs.log.Log.new.Goals as goal
-use Rattle.csicodec_tool.proofs.log.Log.new.Goals.{in-Some, in-None}
 
 pub returns-clause-begun : goal.returns-clause-begun
 returns-clause-begun c =

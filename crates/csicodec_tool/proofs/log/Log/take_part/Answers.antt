@@ -1,7 +1,5 @@
-use Rattle.std.proofs.Common.{◌≡◌, ◌++◌, ◌∙◌, List, ℕ, ap, refl, subst}
-use Rattle.std.proofs.lemmas.Result.{on_ok_weaker}
-use Rattle.csicodec_clean.specs.Stream.{Takes}
-use Rattle.csicodec_clean.specs.Styled.{Keeping, keeps}
+use Rattle.std.proofs.{Common.◌≡◌, Common.◌++◌, Common.◌∙◌, Common.List, Common.ℕ, Common.ap, Common.refl, Common.subst, lemmas.Result.on_ok_weaker}
+use Rattle.csicodec_clean.specs.{Stream.Takes, Styled.Keeping, Styled.keeps}
 use Rattle.csicodec_tool.proofs.Logged.{plain_part, styled_part}
 use Rattle.csicodec_tool.proofs.log.Log.take_part.Goals as goal
 

@@ -1,5 +1,5 @@
-use Rattle.std.proofs.Common.{◌++◌, ◌∙◌, [], ◌∷◌, refl, sym, ap, subst, append_assoc, append-nil}
-use Rattle.std.proofs.lemmas.Result.{on_ok_weaker}
+use Rattle.std.proofs.{Common.◌++◌, Common.◌∙◌, Common.[], Common.◌∷◌, Common.refl, Common.sym, Common.ap, Common.subst, Common.append_assoc, Common.append-nil}
+use Rattle.std.proofs.{lemmas.Result.on_ok_weaker}
 use Rattle.csicodec_filter.specs.Transform.{GoesOn}
 use Rattle.csicodec_filter.proofs.Sent.{goes_none, goes_on}
 use Rattle.csicodec_tool.specs.Stream.{PassesLog}

@@ -1,7 +1,5 @@
-use Rattle.std.proofs.Common.{◌≡◌, ℕ, true, subst, sym, arith}
-use Rattle.std.proofs.lemmas.Bool.Decides.{nat_tests}
-use Rattle.csicodec_clean.specs.Bytes.{IsPlainByte}
-use Rattle.csicodec_clean.specs.Shown.{IsBehind}
+use Rattle.std.proofs.{Common.◌≡◌, Common.ℕ, Common.true, Common.subst, Common.sym, Common.arith, lemmas.Bool.Decides.nat_tests}
+use Rattle.csicodec_clean.specs.{Bytes.IsPlainByte, Shown.IsBehind}
 use Rattle.csicodec_clean.proofs.Told.{behind_ascii}
 use Rattle.csicodec_tool.specs.Visible.{seen}
 use Rattle.csicodec_tool.proofs.visible.VisibleTextCharClass.behind.Goals as goal

@@ -1,20 +1,19 @@
 -- What lines that were made anew stand for, as they come.
-use Rattle.std.proofs.Common.{◌≡◌, inl, inr, ℕ, ◌-◌, ◌^◌, ◌==◌, suc, min, Bool, true, false, not, List, [], ◌∷◌, ◌++◌, Result, Ok, Err, cond, length, take, ◌<◌, ◌≤◌, refl, sym, ap, subst, ◌∙◌, append_assoc, append-nil, arith}
-use Rattle.std.proofs.{KnownBytes.Appends-trans, KnownBytes.Consumes-trans, lemmas.List.length-take-le, lemmas.List.Folds.list_all-append}
-use Rattle.std.specs.{Prelude.IfErr, Prelude.IfSome, Prelude.None, Prelude.OnErr, Prelude.OnOk, Prelude.Option, Prelude.Some, Prelude.nat_lt}
-use Rattle.std.specs.{Io.KnownBytes.Appends, Io.KnownBytes.Consumes, Io.KnownBytes.IsAtEnd, Result.IsErrAnd, List.AllByRecursion}
+use Rattle.std.proofs.Common.{◌≡◌, inl, inr, ◌⊎◌, ℕ, ◌-◌, ◌^◌, ◌==◌, suc, min, false, not, List, [], ◌∷◌, ◌++◌, Option, None, Some, Result, Ok, Err, length, refl, sym, ap, subst, ◌∙◌, append_assoc, append-nil, arith}
+use Rattle.std.proofs.{KnownBytes.Appends-trans, lemmas.Bool.cases_Bool, lemmas.List.Folds.list_all-append}
+use Rattle.std.specs.{Prelude.IfErr, Prelude.MatchResult, Prelude.OnErr, Prelude.OnOk, Prelude.nat_lt, Io.KnownBytes.Appends, Io.KnownBytes.Consumes}
+use Rattle.std.specs.{Io.KnownBytes.IsAtEnd, Result.IsErrAnd, List.AllByRecursion}
 use Rattle.csicodec_assemble.specs.Lines.{IsRefused, Passes, before, counted, ended, last_line, lines_from, of_bounded, of_lines, one_more}
-use Rattle.csicodec_assemble.specs.{declared.object.Fault.Fault, declared.object.Refusal.Refusal, Object.IsTold}
+use Rattle.csicodec_assemble.specs.{declared.object.Fault.Fault, declared.lines.Assembler.Assembler, declared.object.Refusal.Refusal, Object.IsTold}
 use Rattle.csicodec_assemble.proofs.{Joined.counted_then, Joined.numbered, Joined.passes_then, Joined.whole as whole_text, Place.of_empty}
-use Rattle.csicodec_explain.specs.Remade.{AreRemade, Ends, HasBegun, IsRemade, Remakes, RemakesAll, line_behind, lines_over, most, passed}
+use Rattle.csicodec_explain.specs.Remade.{AreRemade, HasBegun, IsRemade, Remakes, RemakesAll, line_behind, lines_over, most, passed}
 use Rattle.csicodec_explain.proofs.Remade.{behind_run, behind_then, over_run, over_then, remade_line, remade_then, remakes_then, whole, whole_lines}
 use Rattle.csicodec_streams.specs.declared.error.RunError.{RunError}
 use Rattle.csicodec_command.specs.declared.failure.Failure.{Failure}
 use Rattle.csicodec_lines.specs.Lines.{AreOf}
-use Rattle.csicodec_tool.specs.{Assembled.Assembles, Assembled.Fails, Assembled.Refuses, Assembled.Stands, Assembled.Takes}
+use Rattle.csicodec_tool.specs.{Assembled.Assembles, Assembled.Became, Assembled.IsSent, Assembled.Refuses, Assembled.Stands, Assembled.answer_of}
 use Rattle.csicodec_tool.specs.{declared.assemble.ObjectLines.ObjectLines, Log.IsLine, Alone.AssemblesLines, Writes.FrontsOf, Writes.IsAppended}
 use Rattle.csicodec_tool.specs.{declared.assemble.Assembly.Assembly}
-use Rattle.csicodec_tool.proofs.Written.{consumed_front, known_so}
 use Rattle.csicodec_assemble.specs.declared.object.Refusal.TheVariants as refusal
 use Rattle.csicodec_command.specs.declared.failure.Failure.TheVariants as failure
 
@@ -23,73 +22,53 @@ Lines = List (List ℕ)
 
 -- ---- lines
 
-from-if : (t : Bool) (line x y : List ℕ) (p q xs ys : Lines) → p ≡ xs ++ last_line x
-    → q ≡ ys ++ last_line y
-    → cond t (line ∷ p) q ≡ cond t (line ∷ xs) ys ++ last_line (cond t x y)
-from-if true line x y p q xs ys e f = ap (λ (s : Lines). line ∷ s) e
-from-if false line x y p q xs ys e f = f
-
 -- those that are over, and the last
-all_lines : (bytes line : List ℕ) → lines_from line bytes ≡ lines_over line bytes ++ last_line
-    (line_behind line bytes)
+all_lines : (bytes line : List ℕ) → lines_from line bytes ≡ lines_over line bytes ++ last_line (line_behind line bytes)
 all_lines [] line = refl
-all_lines (b ∷ bytes) line =
-    from-if (b == 10) line (line_behind [] bytes) (line_behind (line ++ b ∷ []) bytes)
-    (lines_from [] bytes) (lines_from (line ++ b ∷ []) bytes)
-    (lines_over [] bytes) (lines_over (line ++ b ∷ []) bytes) (all_lines bytes [])
-    (all_lines bytes (line ++ b ∷ []))
+all_lines (b ∷ bytes) line = elim (cases_Bool (b == 10)) [
+  | inl is ↦ rw is (ap (λ (s : Lines). line ∷ s) (all_lines bytes []))
+  | inr other ↦ rw other (all_lines bytes (line ++ b ∷ []))
+]
+
+-- bytes without an LF go on with a line
+run_on : (run line more : List ℕ) → IsLine run → lines_from line (run ++ more) ≡ lines_from (line ++ run) more
+run_on run line more is =
+    rw (all_lines (run ++ more) line, over_run run line more is, behind_run run line more is) (sym (all_lines more (line ++ run)))
 
 line_more : (line : List ℕ) (b : ℕ) → IsLine line → (b == 10) ≡ false → IsLine (line ++ b ∷ [])
-line_more line b is other = list_all-append (λ (c : ℕ). not (c == 10)) line (b ∷ [])
-    ∙ rw (is, other) refl
+line_more line b is other = list_all-append (λ (c : ℕ). not (c == 10)) line (b ∷ []) ∙ rw (is, other) refl
 
-are-if : (t : Bool) (line x y : List ℕ) (xs ys : Lines) → IsLine line → AllByRecursion IsLine xs
-    × IsLine x
-    → (t ≡ false → AllByRecursion IsLine ys × IsLine y) → AllByRecursion IsLine
-    (cond t (line ∷ xs) ys) × IsLine (cond t x y)
-are-if true line x y xs ys is p q = ((is, p.0), p.1)
-are-if false line x y xs ys is p q = q refl
+-- each is one
+each_line : (bytes line : List ℕ) → IsLine line → AllByRecursion IsLine (lines_from line bytes)
+each_line [] [] is = tt
+each_line [] (l ∷ line) is = (is, tt)
+each_line (b ∷ bytes) line is = elim (cases_Bool (b == 10)) [
+  | inl end ↦ rw end (is, each_line bytes [] refl)
+  | inr other ↦ rw other (each_line bytes (line ++ b ∷ []) (line_more line b is other))
+]
 
-are_lines : (bytes line : List ℕ) → IsLine line → AllByRecursion IsLine (lines_over line bytes)
-    × IsLine (line_behind line bytes)
-are_lines [] line is = (tt, is)
-are_lines (b ∷ bytes) line is =
-    are-if (b == 10) line (line_behind [] bytes) (line_behind (line ++ b ∷ []) bytes)
-    (lines_over [] bytes) (lines_over (line ++ b ∷ []) bytes) is
-    (are_lines bytes [] refl) (λ other. are_lines bytes (line ++ b ∷ [])
-    (line_more line b is other))
+front_lines : (ahead later : Lines) → AllByRecursion IsLine (ahead ++ later) → AllByRecursion IsLine ahead
+front_lines [] later are = tt
+front_lines (a ∷ ahead) later are = (are.0, front_lines ahead later are.1)
 
--- bytes that go on with a line, up to its end
-one_line : (line more : List ℕ) → IsLine line → lines_from [] (line ++ 10 ∷ more) ≡ line
-    ∷ lines_from [] more
-one_line line more is =
-    all_lines (line ++ 10 ∷ more) []
-    ∙ ap (λ (s : Lines). s ++ last_line (line_behind [] (line ++ 10 ∷ more)))
-    (over_run line [] (10 ∷ more) is)
-    ∙ ap (λ (s : List ℕ). line ∷ (lines_over [] more ++ last_line s))
-    (behind_run line [] (10 ∷ more) is)
-    ∙ ap (λ (s : Lines). line ∷ s) (sym (all_lines more []))
+last_is : (over : Lines) (last : List ℕ) → AllByRecursion IsLine (over ++ last_line last) → IsLine last
+last_is [] [] are = refl
+last_is [] (l ∷ last) are = are.0
+last_is (o ∷ over) last are = last_is over last are.1
 
-over_ended : (lines : Lines) → AllByRecursion IsLine lines → (lines_over [] (ended lines) ≡ lines)
-    × (line_behind [] (ended lines) ≡ [])
+-- lines with their ends are these lines
+over_ended : (lines : Lines) → AllByRecursion IsLine lines → (lines_over [] (ended lines) ≡ lines) × (line_behind [] (ended lines) ≡ [])
 over_ended [] are = (refl, refl)
 over_ended (line ∷ lines) are =
-    let (over, behind) = over_ended lines are.1 in (
-      over_run line [] (10 ∷ ended lines) are.0 ∙ ap (λ (s : Lines). line ∷ s) over,
-      behind_run line
-          [] (10 ∷ ended lines) are.0 ∙ behind,
-    )
+    let (over, behind) = over_ended lines are.1 in
+    (over_run line [] (10 ∷ ended lines) are.0 ∙ ap (λ (s : Lines). line ∷ s) over, behind_run line [] (10 ∷ ended lines) are.0 ∙ behind)
 
 from_ended : (lines : Lines) → AllByRecursion IsLine lines → lines_from [] (ended lines) ≡ lines
-from_ended lines are =
-    let (over, behind) = over_ended lines are in
-    all_lines (ended lines) [] ∙ ap (λ (s : Lines). s ++ last_line (line_behind [] (ended lines)))
-    over
-    ∙ ap (λ (s : List ℕ). lines ++ last_line s) behind ∙ append-nil lines
+from_ended [] are = refl
+from_ended (line ∷ lines) are = run_on line [] (10 ∷ ended lines) are.0 ∙ ap (λ (s : Lines). line ∷ s) (from_ended lines are.1)
 
 -- lines ahead of another are a front of the bytes
-ahead_of : (over ahead behind : Lines) (last line : List ℕ) → over ++ last_line last ≡ ahead ++ line
-    ∷ behind
+ahead_of : (over ahead behind : Lines) (last line : List ℕ) → over ++ last_line last ≡ ahead ++ line ∷ behind
     → (rest : List ℕ) × (ended over ++ last ≡ ended ahead ++ rest)
 ahead_of over [] behind last line e = (ended over ++ last, refl)
 ahead_of [] (a ∷ ahead) behind [] line e = cc e
@@ -98,24 +77,12 @@ ahead_of [] (a ∷ b ∷ ahead) behind (l ∷ last) line e = cc e
 ahead_of (o ∷ over) (a ∷ ahead) behind last line e =
     let same : o ≡ a = cc e in
     let others : over ++ last_line last ≡ ahead ++ line ∷ behind = cc e in
-    let (rest, f) = ahead_of over ahead behind last line others in (
-      rest,
-      append_assoc o (10 ∷ ended over) last ∙ ap (λ (s : List ℕ). o ++ 10 ∷ s) f
-          ∙ ap (λ (s : List ℕ). s ++ 10 ∷ (ended ahead ++ rest)) same
-          ∙ sym (append_assoc a (10 ∷ ended ahead) rest),
-    )
+    let (rest, f) = ahead_of over ahead behind last line others in
+    (rest, rw same (append_assoc a (10 ∷ ended over) last ∙ ap (λ (s : List ℕ). a ++ 10 ∷ s) f ∙ sym (append_assoc a (10 ∷ ended ahead) rest)))
 
 -- ---- a line of what was made for each line
 
-of_then : (xs ys us vs : Lines) → AreOf IsRemade xs us → AreOf IsRemade ys vs
-    → AreOf IsRemade (xs ++ ys) (us ++ vs)
-of_then [] ys us vs none of = rw none of
-of_then (x ∷ xs) ys us vs first of =
-    let (u, others, e, is, each) = first in
-    (u, others ++ vs, ap (λ (s : Lines). s ++ vs) e, is, of_then xs ys others vs each of)
-
-of_last : (line text : List ℕ) → IsRemade line text → AreOf IsRemade (last_line line)
-    (last_line text)
+of_last : (line text : List ℕ) → IsRemade line text → AreOf IsRemade (last_line line) (last_line text)
 of_last [] [] is = refl
 of_last [] (t ∷ text) (inl e) = cc e
 of_last [] (t ∷ text) (inr (short, refused, made)) = cc (of_empty, refused)
@@ -123,196 +90,106 @@ of_last (l ∷ line) [] (inl e) = cc e
 of_last (l ∷ line) [] (inr (short, refused, (bytes, e, stands))) = cc e
 of_last (l ∷ line) (t ∷ text) is = (t ∷ text, [], refl, is, refl)
 
-of_over : (lines : Lines) (text last : List ℕ) → AllByRecursion IsLine lines → AreRemade lines text
-    → IsLine last
-    → (texts : Lines) × AreOf IsRemade lines texts × AllByRecursion IsLine texts
-    × (lines_from [] (text ++ last) ≡ texts ++ last_line last)
-of_over [] text last are none is =
-    ([], refl, tt, ap (λ (s : List ℕ). lines_from [] (s ++ last)) none ∙ all_lines last [] ∙ alone)
-  where
-    same : last ++ [] ≡ last
-    same = append-nil last
+of_over : (lines : Lines) (text line last : List ℕ) → AllByRecursion IsLine lines → IsLine line → AreRemade lines text → IsRemade line last
+    → AreOf IsRemade (lines ++ last_line line) (lines_from [] (text ++ last))
+of_over [] text line last are is none made =
+    let alone : lines_from [] last ≡ last_line last =
+    ap (λ (s : List ℕ). lines_from [] s) (sym (append-nil last)) ∙ run_on last [] [] (remade_line line last is made) in
+    rw none (subst (AreOf IsRemade (last_line line)) (sym alone) (of_last line last made))
+of_over (l ∷ lines) text line last are is (first, others, e, own, later) made = (
+  first,
+  lines_from [] (others ++ last),
+  ap (λ (s : List ℕ). lines_from [] (s ++ last)) e ∙ ap (λ (s : List ℕ). lines_from [] s) (append_assoc first (10 ∷ others) last)
+      ∙ run_on first [] (10 ∷ (others ++ last)) (remade_line l first are.0 own),
+  own,
+  of_over lines others line last are.1 is later made,
+)
 
-    alone : lines_over [] last ++ last_line (line_behind [] last) ≡ last_line last
-    alone =
-        ap (λ (s : List ℕ). lines_over [] s ++ last_line (line_behind [] s)) (sym same)
-        ∙ ap (λ (s : Lines). s ++ last_line (line_behind [] (last ++ []))) (over_run last [] [] is)
-        ∙ ap last_line (behind_run last [] [] is)
-of_over (line ∷ lines) text last are remade is =
-    let (first, others, e, made, later) = remade in
-    let (texts, each, are_texts, f) = of_over lines others last are.1 later is in
-    let within = remade_line line first are.0 made in (
-      first ∷ texts,
-      (first, texts, refl, made, each),
-      (within, are_texts),
-      ap (λ (s : List ℕ). lines_from [] (s ++ last)) e ∙ ap (λ (s : List ℕ). lines_from [] s)
-          (append_assoc first (10 ∷ others) last)
-          ∙ one_line first (others ++ last) within ∙ ap (λ (s : Lines). first ∷ s) f,
-    )
+of_all : (bytes text : List ℕ) → RemakesAll bytes text → AreOf IsRemade (lines_from [] bytes) (lines_from [] text)
+of_all bytes text (front, last, e, remade, made) =
+    let over = lines_over [] bytes in
+    let line = line_behind [] bytes in
+    let are : AllByRecursion IsLine (over ++ last_line line) = subst (AllByRecursion IsLine) (all_lines bytes []) (each_line bytes [] refl) in
+    rw (all_lines bytes [], e) (of_over over front line last (front_lines over (last_line line) are) (last_is over line are) remade made)
 
--- the lines of what was made
-abbrev IsOf : List ℕ → List ℕ → Type 0
-IsOf bytes text = AreOf IsRemade (lines_from [] bytes) (lines_from [] text)
+-- those of the lines in front, and the line that another was made of
+of_parts : (over behind lines : Lines) (made : List ℕ) → AreOf IsRemade lines (over ++ made ∷ behind)
+    → (ahead : Lines) × (line : List ℕ) × (later : Lines) × (lines ≡ ahead ++ line ∷ later) × AreOf IsRemade ahead over × IsRemade line made
+of_parts [] behind [] made none = cc none
+of_parts [] behind (line ∷ lines) made (text, others, e, is, each) =
+    let same : text ≡ made = cc e in
+    ([], line, lines, refl, refl, subst (IsRemade line) same is)
+of_parts (o ∷ over) behind [] made none = cc none
+of_parts (o ∷ over) behind (line ∷ lines) made (text, others, e, is, each) =
+    let same : text ≡ o = cc e in
+    let rest : others ≡ over ++ made ∷ behind = cc e in
+    let (ahead, own, later, f, front, is_made) = of_parts over behind lines made (subst (AreOf IsRemade lines) rest each) in
+    (line ∷ ahead, own, later, ap (λ (s : Lines). line ∷ s) f, (o, over, refl, subst (IsRemade line) same is, front), is_made)
 
-of_all : (bytes text : List ℕ) → RemakesAll bytes text → IsOf bytes text
-of_all bytes text all =
-    let (front, last, e, remade, is) = all in
-    let (are, is_line) = are_lines bytes [] refl in
-    let (texts, each, are_texts, f) = of_over (lines_over [] bytes) front last are remade
-    (remade_line (line_behind [] bytes) last is_line is) in
-    subst (λ (s : Lines). AreOf IsRemade s (lines_from [] text)) (sym (all_lines bytes []))
-    (subst (λ (s : Lines). AreOf IsRemade (lines_over [] bytes ++ last_line (line_behind [] bytes))
-    s)
-    (sym (ap (λ (s : List ℕ). lines_from [] s) e ∙ f))
-    (of_then (lines_over [] bytes) (last_line (line_behind [] bytes)) texts (last_line last) each
-    (of_last (line_behind [] bytes) last is)))
-
-of_parts : (over behind lines : Lines) → AreOf IsRemade lines (over ++ behind)
-    → (ahead : Lines) × (later : Lines) × (lines ≡ ahead ++ later) × AreOf IsRemade ahead over
-    × AreOf IsRemade later behind
-of_parts [] behind lines of = ([], lines, refl, refl, of)
-of_parts (o ∷ over) behind [] none = cc none
-of_parts (o ∷ over) behind (line ∷ lines) (text, others, e, is, each) =
-    let same : o ≡ text = cc e in
-    let rest : over ++ behind ≡ others = cc e in
-    let (ahead, later, f, front, back) = of_parts over behind lines
-    (subst (AreOf IsRemade lines) (sym rest) each) in (
-      line ∷ ahead,
-      later,
-      ap (λ (s : Lines). line ∷ s) f,
-      (o, over, refl, subst (IsRemade line) (sym same) is, front),
-      back,
-    )
-
-remade_of : (lines texts : Lines) → AreOf IsRemade lines texts → AreRemade lines (ended texts)
-remade_of [] texts none = ap ended none
-remade_of (line ∷ lines) texts (text, others, e, is, each) =
-    (text, ended others, ap ended e, is, remade_of lines others each)
-
-same_length : (lines texts : Lines) → AreOf IsRemade lines texts → length lines ≡ length texts
-same_length [] texts none = sym (ap length none)
-same_length (line ∷ lines) texts (text, others, e, is, each) =
-    ap suc (same_length lines others each) ∙ sym (ap length e)
-
-front_lines : (ahead later : Lines) → AllByRecursion IsLine (ahead ++ later) → AllByRecursion IsLine
-    ahead
-front_lines [] later are = tt
-front_lines (a ∷ ahead) later are = (are.0, front_lines ahead later are.1)
-
--- all lines, and the last, are lines
-each_line : (bytes : List ℕ) → AllByRecursion IsLine (lines_from [] bytes)
-each_line bytes =
-    let (over, behind) = are_lines bytes [] refl in
-    subst (AllByRecursion IsLine) (sym (all_lines bytes []))
-    (and_last (lines_over [] bytes) (line_behind [] bytes) over behind)
-  where
-    last_alone : (last : List ℕ) → IsLine last → AllByRecursion IsLine (last_line last)
-    last_alone [] is = tt
-    last_alone (l ∷ last) is = (is, tt)
-
-    and_last : (over : Lines) (last : List ℕ) → AllByRecursion IsLine over → IsLine last
-        → AllByRecursion IsLine (over ++ last_line last)
-    and_last [] last are is = last_alone last is
-    and_last (o ∷ over) last are is = (are.0, and_last over last are.1 is)
-
-remade_lines : (lines texts : Lines) → AllByRecursion IsLine lines → AreOf IsRemade lines texts
-    → AllByRecursion IsLine texts
-remade_lines [] texts are none = rw none tt
-remade_lines (line ∷ lines) texts are (text, others, e, is, each) =
-    rw e (remade_line line text are.0 is, remade_lines lines others are.1 each)
+of_texts : (lines texts : Lines) → AllByRecursion IsLine lines → AreOf IsRemade lines texts
+    → AreRemade lines (ended texts) × AllByRecursion IsLine texts × (length lines ≡ length texts)
+of_texts [] texts are none = rw none (refl, tt, refl)
+of_texts (line ∷ lines) texts are (text, others, e, is, each) =
+    let (remade, are_texts, same) = of_texts lines others are.1 each in
+    rw e ((text, ended others, refl, is, remade), (remade_line line text are.0 is, are_texts), ap suc same)
 
 -- lines that are over stand for what is made of them
-assembles_ended : (lines texts : Lines) (text : List ℕ) → AllByRecursion IsLine lines
-    → AreOf IsRemade lines texts → of_lines texts ≡ Ok text
+assembles_ended : (lines texts : Lines) (text : List ℕ) → AllByRecursion IsLine lines → AreOf IsRemade lines texts → of_lines texts ≡ Ok text
     → Assembles (ended lines) text
 assembles_ended lines texts text are each is =
-    let (over, behind) = over_ended lines are in (
+    let (over, behind) = over_ended lines are in
+    let (remade, are_texts, same) = of_texts lines texts are each in (
       ended texts,
-      (
-        ended texts,
-        [],
-        sym (append-nil (ended texts)),
-        subst (λ (s : Lines). AreRemade s (ended texts)) (sym over) (remade_of lines texts each),
-        inl (sym behind),
-      ),
-      ap of_lines (from_ended texts (remade_lines lines texts are each)) ∙ is,
+      (ended texts, [], sym (append-nil (ended texts)), subst (λ (s : Lines). AreRemade s (ended texts)) (sym over) remade, inl (sym behind)),
+      ap of_lines (from_ended texts are_texts) ∙ is,
     )
 
 -- ---- some of the lines of what was made
 
 -- Of what was made of all, so many lines stand for this text.
-abbrev pub Sure : List ℕ → Lines → Lines → List ℕ → Type 0
-Sure bytes over behind text = (made : List ℕ) × RemakesAll bytes made
-    × (lines_from [] made ≡ over ++ behind) × (of_lines over ≡ Ok text)
+abbrev Sure : List ℕ → Lines → Lines → List ℕ → Type 0
+Sure bytes over behind text = (made : List ℕ) × RemakesAll bytes made × (lines_from [] made ≡ over ++ behind) × (of_lines over ≡ Ok text)
 
-refuses : (over others : Lines) (bytes text made : List ℕ) (number : ℕ) (fault : Fault)
-    → Sure bytes over (made ∷ others) text → of_bounded made ≡ Err fault
-    → number ≡ one_more (length over) → Refuses number fault bytes text
-refuses over others bytes text made number fault (whole, all, e, is) told counted =
-    let (ahead, later, f, front, back) = of_parts over (made ∷ others) (lines_from [] bytes)
-    (subst (AreOf IsRemade (lines_from [] bytes)) e (of_all bytes whole all)) in
-    go ahead later f front back
-  where
-    go : (ahead later : Lines) → lines_from [] bytes ≡ ahead ++ later → AreOf IsRemade ahead over
-        → AreOf IsRemade later (made ∷ others) → Refuses number fault bytes text
-    go ahead [] f front none = cc none
-    go ahead (line ∷ later) f front (own, rest, split, is_made, each) = record {
+-- So do the lines ahead of the one that the next was made of.
+record Parted (bytes : List ℕ) (over : Lines) (made text : List ℕ) : Type 0 where
+  ahead : Lines
+  line : List ℕ
+  behind : Lines
+  split : lines_from [] bytes ≡ ahead ++ line ∷ behind
+  stand : Assembles (ended ahead) text
+  same : length ahead ≡ length over
+  is_made : IsRemade line made
+
+parted : (over behind : Lines) (bytes made text : List ℕ) → Sure bytes over (made ∷ behind) text → Parted bytes over made text
+parted over behind bytes made text (all, remakes, e, is) =
+    let (ahead, line, later, f, front, is_made) = of_parts over behind (lines_from [] bytes) made (subst (AreOf IsRemade (lines_from [] bytes)) e (of_all bytes all remakes)) in
+    let are = front_lines ahead (line ∷ later) (subst (AllByRecursion IsLine) f (each_line bytes [] refl)) in
+    let (remade, are_texts, same) = of_texts ahead over are front in
+    record {
       ahead = ahead;
       line = line;
       behind = later;
       split = f;
-      stand = assembles_ended ahead over text
-          (front_lines ahead (line ∷ later) (subst (AllByRecursion IsLine) f (each_line bytes)))
-          front is;
-      counted = counted ∙ ap one_more (sym (same_length ahead over front));
-      made = own;
+      stand = assembles_ended ahead over text are front is;
+      same = same;
       is_made = is_made;
-      refused = subst (λ (s : List ℕ). of_bounded s ≡ Err fault) (cc split) told;
     }
 
 -- lines ahead of another are a front of all
-front_of : (bytes text : List ℕ) (ahead later : Lines) (line : List ℕ) → lines_from [] bytes ≡ ahead
-    ++ line ∷ later → Assembles (ended ahead) text
+front_of : (bytes text : List ℕ) (ahead later : Lines) (line : List ℕ) → lines_from [] bytes ≡ ahead ++ line ∷ later → Assembles (ended ahead) text
     → FrontsOf Assembles bytes text
 front_of bytes text ahead later line e assembles =
-    let (rest, f) = ahead_of (lines_over [] bytes) ahead later (line_behind [] bytes) line
-    (sym (all_lines bytes []) ∙ e) in (
-      ended ahead,
-      rest,
-      [],
-      sym (whole_lines bytes []) ∙ f,
-      subst (Assembles (ended ahead))
-          (sym (append-nil text)) assembles,
-    )
+    let (rest, f) = ahead_of (lines_over [] bytes) ahead later (line_behind [] bytes) line (sym (all_lines bytes []) ∙ e) in
+    (ended ahead, rest, [], sym (whole_lines bytes []) ∙ f, subst (Assembles (ended ahead)) (sym (append-nil text)) assembles)
 
-pub refused_front : (number : ℕ) (fault : Fault) (bytes text : List ℕ) → Refuses number fault bytes
-    text → FrontsOf Assembles bytes text
-refused_front number fault bytes text r = front_of bytes text r.ahead r.behind r.line r.split
-    r.stand
+whole_front : (bytes text : List ℕ) → Assembles bytes text → FrontsOf Assembles bytes text
+whole_front bytes text assembles = (bytes, [], [], sym (append-nil bytes), subst (Assembles bytes) (sym (append-nil text)) assembles)
 
-sure_front : (over behind : Lines) (bytes text : List ℕ) → Sure bytes over behind text
-    → FrontsOf Assembles bytes text
-sure_front over [] bytes text (made, all, e, is) = (
-  bytes,
-  [],
-  [],
-  sym (append-nil bytes),
-  subst (Assembles bytes) (sym (append-nil text))
-      (made, all, ap of_lines (e ∙ append-nil over) ∙ is),
-)
-sure_front over (b ∷ behind) bytes text (made, all, e, is) =
-    let (ahead, later, f, front, back) = of_parts over (b ∷ behind) (lines_from [] bytes)
-    (subst (AreOf IsRemade (lines_from [] bytes)) e (of_all bytes made all)) in
-    go ahead later f front back
-  where
-    go : (ahead later : Lines) → lines_from [] bytes ≡ ahead ++ later → AreOf IsRemade ahead over
-        → AreOf IsRemade later (b ∷ behind) → FrontsOf Assembles bytes text
-    go ahead [] f front none = cc none
-    go ahead (line ∷ later) f front back =
-        front_of bytes text ahead later line f
-        (assembles_ended ahead over text
-        (front_lines ahead (line ∷ later) (subst (AllByRecursion IsLine) f (each_line bytes)))
-        front is)
+sure_front : (over behind : Lines) (bytes text : List ℕ) → Sure bytes over behind text → FrontsOf Assembles bytes text
+sure_front over [] bytes text (made, all, e, is) = whole_front bytes text (made, all, ap of_lines (e ∙ append-nil over) ∙ is)
+sure_front over (b ∷ behind) bytes text sure =
+    let p = parted over behind bytes b text sure in
+    front_of bytes text p.ahead p.behind p.line p.split p.stand
 
 -- ---- bytes that come
 
@@ -320,426 +197,234 @@ kept_lines : (lines : Lines) → AreRemade lines (ended lines)
 kept_lines [] = refl
 kept_lines (line ∷ lines) = (line, ended lines, refl, inl refl, kept_lines lines)
 
-passed-if : (t : Bool) (line bytes : List ℕ) → (more : List ℕ)
-    × (cond t line [] ++ more ≡ line ++ bytes)
-passed-if true line bytes = (bytes, refl)
-passed-if false line bytes = (line ++ bytes, refl)
+passed_on : (line bytes : List ℕ) → (more : List ℕ) × (passed line ++ more ≡ line ++ bytes)
+passed_on line bytes = elim (cases_Bool (nat_lt most (length line))) [ inl long ↦ rw long (bytes, refl) | inr short ↦ rw short (line ++ bytes, refl) ]
 
 -- what was made of some bytes begins what may be made of all
-remakes_all : (bytes unread made : List ℕ) → Remakes [] bytes made → (more : List ℕ)
-    × RemakesAll (bytes ++ unread) (made ++ more)
+remakes_all : (bytes unread made : List ℕ) → Remakes [] bytes made → (more : List ℕ) × RemakesAll (bytes ++ unread) (made ++ more)
 remakes_all bytes unread made (text, remade, e) =
     let line = line_behind [] bytes in
-    let (more, f) = passed-if (nat_lt most (length line)) line unread in
+    let (more, f) = passed_on line unread in
     let last = line_behind line unread in
     let rest = ended (lines_over line unread) in (
       more,
       (
         text ++ rest,
         last,
-        ap (λ (s : List ℕ). s ++ more) e ∙ append_assoc text (passed line) more
-            ∙ ap (λ (s : List ℕ). text ++ s) (f ∙ sym (whole_lines unread line))
+        ap (λ (s : List ℕ). s ++ more) e ∙ append_assoc text (passed line) more ∙ ap (λ (s : List ℕ). text ++ s) (f ∙ sym (whole_lines unread line))
             ∙ sym (append_assoc text rest last),
         subst (λ (s : Lines). AreRemade s (text ++ rest)) (sym (over_then [] bytes unread))
-            (remade_then (lines_over [] bytes) (lines_over line unread) text rest remade
-            (kept_lines (lines_over line unread))),
+            (remade_then (lines_over [] bytes) (lines_over line unread) text rest remade (kept_lines (lines_over line unread))),
         inl (sym (behind_then [] bytes unread)),
       ),
     )
 
--- so much of what was made passed, of these lines
-sure_of : (bytes front rest made text line : List ℕ) (p : Passes [] front text line)
-    → RemakesAll bytes made → made ≡ front ++ rest
-    → Sure bytes p.over (lines_from line rest) text
-sure_of bytes front rest made text line p all e = (
-  made,
-  all,
-  ap (λ (s : List ℕ). lines_from [] s) e
-      ∙ p.lines rest,
-  p.all,
-)
-
 one_line_more : (n : ℕ) → one_more (min n (2 ^ 64 - 1)) ≡ one_more n
 one_line_more n = omega arith
 
--- a line is refused, or memory ran out, whatever comes behind
-fails_of : (e : Refusal) (over : ℕ) (bytes front rest more made text line : List ℕ)
-    → RemakesAll bytes made → made ≡ front ++ (rest ++ more) → Passes [] front text line
-    → IsRefused e line rest → over ≡ counted 0 front → Fails e over bytes text
-fails_of (refusal.Line fault) over bytes front rest more made text line all e p refused count =
-    let (whole, others, f, told) = refused more in
-    refuses p.over others bytes text whole (one_more over) fault
-    (subst (λ (s : Lines). Sure bytes p.over s text) f (sure_of bytes front (rest ++ more) made text
-    line p all e))
-    told (ap one_more (count ∙ numbered [] front text line p) ∙ one_line_more (length p.over))
-fails_of refusal.Memory over bytes front rest more made text line all e p refused count =
-    sure_front p.over (lines_from line (rest ++ more)) bytes text
-    (sure_of bytes front (rest ++ more) made text line p all e)
+-- the first of these lines is refused, or memory ran out
+abbrev First : Refusal → Lines → Type 0
+First (refusal.Line f) lines = (line : List ℕ) × (others : Lines) × (lines ≡ line ∷ others) × (of_bounded line ≡ Err f)
+First refusal.Memory lines = Unit {0}
 
-before-told : (r : Result (List ℕ) Fault) (fault : Fault) → before r (Ok []) ≡ Err fault
-    → r ≡ Err fault
-before-told (Ok x) fault e = cc e
-before-told (Err f) fault e = cc e
+first_more : (e : Refusal) (line bytes more : List ℕ) → IsRefused e line bytes → First e (lines_from line (bytes ++ more))
+first_more (refusal.Line f) line bytes more refused = refused more
+first_more refusal.Memory line bytes more refused = tt
 
--- the last line is refused, or memory ran out
-fails_at_end : (e : Refusal) (over : ℕ) (bytes made text line : List ℕ) → RemakesAll bytes made
-    → Passes [] made text line → IsTold e (of_lines (last_line line))
-    → over ≡ counted 0 made → Fails e over bytes text
-fails_at_end (refusal.Line fault) over bytes made text [] all p told count = cc told
-fails_at_end (refusal.Line fault) over bytes made text (l ∷ line) all p told count =
-    refuses p.over [] bytes text (l ∷ line) (one_more over) fault
-    (sure_of bytes made [] made text (l ∷ line) p all (sym (append-nil made)))
-    (before-told (of_bounded (l ∷ line)) fault told)
-    (ap one_more (count ∙ numbered [] made text (l ∷ line) p) ∙ one_line_more (length p.over))
-fails_at_end refusal.Memory over bytes made text line all p told count =
-    sure_front p.over (lines_from line []) bytes text (sure_of bytes made [] made text line p all
-    (sym (append-nil made)))
+before-told : (r : Result (List ℕ) Fault) (f : Fault) → before r (Ok []) ≡ Err f → r ≡ Err f
+before-told (Ok x) f e = cc e
+before-told (Err g) f e = cc e
+
+first_last : (e : Refusal) (line : List ℕ) → IsTold e (of_lines (last_line line)) → First e (last_line line)
+first_last (refusal.Line f) [] told = cc told
+first_last (refusal.Line f) (l ∷ line) told = (l ∷ line, [], refl, before-told (of_bounded (l ∷ line)) f told)
+first_last refusal.Memory line told = tt
+
+-- behind what passed, the lines end so
+became : (e : Refusal) (over : ℕ) (bytes front rest text line : List ℕ) → Passes [] front text line → over ≡ counted 0 front → RemakesAll bytes (front ++ rest)
+    → First e (lines_from line rest) → Became (answer_of over (Err e)) bytes text
+became (refusal.Line fault) over bytes front rest text line p count all (made, others, f, told) =
+    let q = parted p.over others bytes made text (front ++ rest, all, p.lines rest ∙ ap (λ (s : Lines). p.over ++ s) f, p.all) in
+    record {
+      ahead = q.ahead;
+      line = q.line;
+      behind = q.behind;
+      split = q.split;
+      stand = q.stand;
+      counted = ap one_more (count ∙ numbered [] front text line p) ∙ one_line_more (length p.over) ∙ ap one_more (sym q.same);
+      made = made;
+      is_made = q.is_made;
+      refused = told;
+    }
+became refusal.Memory over bytes front rest text line p count all first = sure_front p.over (lines_from line rest) bytes text (front ++ rest, all, p.lines rest, p.all)
+
+became_front : (r : Result (Unit {0}) Failure) (bytes text : List ℕ) → Became r bytes text → FrontsOf Assembles bytes text
+became_front (Ok u) bytes text assembles = whole_front bytes text assembles
+became_front (Err (failure.Object n fault)) bytes text r = front_of bytes text r.ahead r.behind r.line r.split r.stand
+became_front (Err f) bytes text front = front
 
 -- ---- a chunk
 
--- there was no memory for what is made of it
-pub takes_none : (r : Result (Unit {0}) Refusal) (read chunk sure : List ℕ) (old now : ObjectLines)
-    → Stands read sure old
-    → IsErrAnd r (λ e. e ≡ refusal.Memory) → Takes r read chunk (sure ++ []) now
-takes_none (Ok u) read chunk sure old now stands failed = absurd failed
-takes_none (Err e) read chunk sure old now (remade, remakes, begun, passes, over) failed =
-    λ unread only.
-    let (more, all) = remakes_all read (chunk ++ unread) remade remakes in
-    let bytes : (read ++ chunk) ++ unread ≡ read ++ (chunk ++ unread) = append_assoc read chunk
-    unread in
-    let front = sure_front passes.over (lines_from old.assembler.line.items more)
-    (read ++ (chunk ++ unread)) sure
-    (sure_of (read ++ (chunk ++ unread)) remade more (remade ++ more) sure old.assembler.line.items
-    passes all refl) in
-    subst (λ (f : Refusal). Fails f now.assembler.over ((read ++ chunk) ++ unread) (sure ++ []))
-    (sym failed)
-    (subst (λ (b : List ℕ). FrontsOf Assembles b (sure ++ [])) (sym bytes)
-    (subst (FrontsOf Assembles (read ++ (chunk ++ unread))) (sym (append-nil sure)) front))
-
 -- what the assembler took of what was made, or what it refused
-abbrev pub Took : Result (Unit {0}) Refusal → ObjectLines → List ℕ → ObjectLines → List ℕ → List ℕ
-    → Type 0
+abbrev Took : Result (Unit {0}) Refusal → Assembler → List ℕ → Assembler → List ℕ → List ℕ → Type 0
 Took r old made now out grown =
-    OnOk r ((text : List ℕ) × Passes old.assembler.line.items made text now.assembler.line.items
-    × (grown ≡ out ++ text))
-    × OnOk r (now.assembler.over ≡ counted old.assembler.over made)
-    × IfErr r (λ e. (front : List ℕ) × (rest : List ℕ) × (text : List ℕ) × (made ≡ front ++ rest)
-    × Passes old.assembler.line.items front text now.assembler.line.items
-    × IsRefused e now.assembler.line.items rest
-    × (now.assembler.over ≡ counted old.assembler.over front) × (grown ≡ out ++ text))
+    OnOk r ((text : List ℕ) × Passes old.line.items made text now.line.items × (grown ≡ out ++ text)) × OnOk r (now.over ≡ counted old.over made)
+    × IfErr r (λ e. (front : List ℕ) × (rest : List ℕ) × (text : List ℕ) × (made ≡ front ++ rest) × Passes old.line.items front text now.line.items
+    × IsRefused e now.line.items rest × (now.over ≡ counted old.over front) × (grown ≡ out ++ text))
 
--- where so much was made, what the assembler refuses fails
-refused_in : (e : Refusal) (bytes read sure sent front rest more text : List ℕ)
-    (old now : ObjectLines) (made : List ℕ)
-    → Passes [] made sure old.assembler.line.items → old.assembler.over ≡ counted 0 made
-    → RemakesAll bytes ((made ++ sent) ++ more) → sent ≡ front ++ rest
-    → Passes old.assembler.line.items front text now.assembler.line.items
-    → IsRefused e now.assembler.line.items rest
-    → now.assembler.over ≡ counted old.assembler.over front → Fails e now.assembler.over bytes
-    (sure ++ text)
-refused_in e bytes read sure sent front rest more text old now made passes over all split taken
-    refused count =
-    fails_of e now.assembler.over bytes (made ++ front) rest more ((made ++ sent) ++ more)
-    (sure ++ text) now.assembler.line.items all
-    (ap (λ (s : List ℕ). (made ++ s) ++ more) split ∙ ap (λ (s : List ℕ). s ++ more)
-    (sym (append_assoc made front rest))
-    ∙ append_assoc (made ++ front) rest more)
-    (passes_then [] old.assembler.line.items now.assembler.line.items made front sure text passes
-    taken) refused
-    (count ∙ ap (λ (n : ℕ). counted n front) over ∙ sym (counted_then 0 made front))
+-- it took all of what was made, of which the lines stand for these bytes
+abbrev Behind : List ℕ → List ℕ → Assembler → Type 0
+Behind made bytes at = Passes [] made bytes at.line.items × (at.over ≡ counted 0 made)
 
-pub is_some : (bytes : List ℕ) → (length bytes == 0) ≡ false → bytes ≡ [] → ⊥
-is_some [] e none = cc e
-is_some (b ∷ bytes) e none = cc none
+behind_more : (made bytes more text : List ℕ) (old now : Assembler) → Behind made bytes old → Passes old.line.items more text now.line.items
+    → now.over ≡ counted old.over more → Behind (made ++ more) (bytes ++ text) now
+behind_more made bytes more text old now (passes, over) taken count = (
+  passes_then [] old.line.items now.line.items made more bytes text passes taken,
+  count ∙ ap (λ (n : ℕ). counted n more) over ∙ sym (counted_then 0 made more),
+)
 
--- a chunk came, and this was made of it
-pub takes_chunk : (r : Result (Unit {0}) Refusal) (read chunk sure made out grown : List ℕ)
-    (old now : ObjectLines) → Stands read sure old
-    → (chunk ≡ [] → ⊥)
-    → ((begun : List ℕ) → HasBegun begun old.remaker.long old.remaker.line.items → (sent : List ℕ)
-    × Remakes begun chunk sent
-    × HasBegun (line_behind begun chunk) now.remaker.long now.remaker.line.items × (made ≡ sent))
-    → Took r old made now out grown → (more : List ℕ) × Takes r read chunk (sure ++ more) now
-    × (grown ≡ out ++ more)
-takes_chunk (Ok u) read [] sure made out grown old now stands some goes took = absurd (some refl)
-takes_chunk (Ok u) read (c ∷ chunk) sure made out grown old now
-    (remade, remakes, begun, passes, over) some goes ((text, taken, grows), count, told) =
-    let (sent, remakes_more, begun_now, e) = goes (line_behind [] read) begun in (
-      text,
-      (
-        remade ++ sent,
-        remakes_then [] read (c ∷ chunk) remade sent remakes remakes_more,
-        subst (λ (s : List ℕ). HasBegun s now.remaker.long now.remaker.line.items)
-            (sym (behind_then [] read (c ∷ chunk))) begun_now,
-        passes_then [] old.assembler.line.items now.assembler.line.items remade sent sure text
-            passes
-            (subst (λ (s : List ℕ). Passes old.assembler.line.items s text now.assembler.line.items)
-            e taken),
-        count ∙ ap (counted old.assembler.over) e ∙ ap (λ (n : ℕ). counted n sent) over
-            ∙ sym (counted_then 0 remade sent),
-      ),
-      grows,
+pub took_all : (made sure sent new out grown : List ℕ) (old now : Assembler) → Behind made sure old → new ≡ sent → out ≡ [] → Took (Ok tt) old new now out grown
+    → Behind (made ++ sent) (sure ++ grown) now
+took_all made sure sent new out grown old now behind same none ((text, taken, grows), count, told) =
+    rw (← same, grows, none) (behind_more made sure new text old now behind taken count)
+
+-- or it refused a line, whatever comes then
+pub took_some : (e : Refusal) (bytes made sure sent more new out grown : List ℕ) (old now : Assembler) → Behind made sure old → new ≡ sent → out ≡ []
+    → RemakesAll bytes ((made ++ sent) ++ more) → Took (Err e) old new now out grown → Became (answer_of now.over (Err e)) bytes (sure ++ grown)
+took_some e bytes made sure sent more new out grown old now behind same none all (taken, count, (front, rest, text, split, passes, refused, counts, grows)) =
+    let whole : (made ++ sent) ++ more ≡ (made ++ front) ++ (rest ++ more) = rw (← same, split) (simp append_assoc) in
+    let (passed_then, over) = behind_more made sure front text old now behind passes counts in
+    rw (grows, none) (became e now.over bytes (made ++ front) (rest ++ more) (sure ++ text) now.line.items passed_then over
+    (subst (RemakesAll bytes) whole all) (first_more e now.line.items rest more refused))
+
+-- what the lines stand for that are over is a front
+stands_front : (read unread sure : List ℕ) (at : ObjectLines) → Stands read sure at → FrontsOf Assembles (read ++ unread) sure
+stands_front read unread sure at (remade, remakes, begun, passes, over) =
+    let (more, all) = remakes_all read unread remade remakes in
+    sure_front passes.over (lines_from at.assembler.line.items more) (read ++ unread) sure (remade ++ more, all, passes.lines more, passes.all)
+
+-- a chunk came
+abbrev pub Takes : Result (Unit {0}) Refusal → List ℕ → List ℕ → ObjectLines → Type 0
+Takes r read bytes now = MatchResult r (λ _. Stands read bytes now) (λ e. (unread : List ℕ) → Became (answer_of now.assembler.over (Err e)) (read ++ unread) bytes)
+
+-- there was no memory for what is made of it
+pub takes_none : (r : Result (Unit {0}) Refusal) (read chunk sure out : List ℕ) (old now : ObjectLines) → Stands read sure old → out ≡ []
+    → IsErrAnd r (λ e. e ≡ refusal.Memory) → Takes r (read ++ chunk) (sure ++ out) now
+takes_none (Ok u) read chunk sure out old now stands none failed = absurd failed
+takes_none (Err e) read chunk sure out old now stands none failed = λ unread.
+    rw (failed, none, append-nil sure, append_assoc read chunk unread) (stands_front read (chunk ++ unread) sure old stands)
+
+-- this was made of it
+pub takes : (r : Result (Unit {0}) Refusal) (read chunk sure made out grown : List ℕ) (old now : ObjectLines) → Stands read sure old
+    → ((begun : List ℕ) → HasBegun begun old.remaker.long old.remaker.line.items → (more : List ℕ) × Remakes begun chunk more
+    × HasBegun (line_behind begun chunk) now.remaker.long now.remaker.line.items × (made ≡ [] ++ more))
+    → out ≡ [] → Took r old.assembler made now.assembler out grown → Takes r (read ++ chunk) (sure ++ grown) now
+takes (Ok u) read chunk sure made out grown old now (remade, remakes, begun, passes, over) makes none took =
+    let (sent, more, begun_now, same) = makes (line_behind [] read) begun in
+    let (passes_now, over_now) = took_all remade sure sent made out grown old.assembler now.assembler (passes, over) same none took in (
+      remade ++ sent,
+      remakes_then [] read chunk remade sent remakes more,
+      subst (λ (s : List ℕ). HasBegun s now.remaker.long now.remaker.line.items) (sym (behind_then [] read chunk)) begun_now,
+      passes_now,
+      over_now,
     )
-takes_chunk (Err e) read chunk sure made out grown old now (remade, remakes, begun, passes, over)
-    some goes (taken, count, told) =
-    let (sent, remakes_more, begun_now, same) = goes (line_behind [] read) begun in
-    let (front, rest, text, split, front_taken, refused, counts, grows) = told in (
-      text,
-      λ unread only.
-          let (more, all) = remakes_all (read ++ chunk) unread (remade ++ sent)
-          (remakes_then [] read chunk remade sent remakes remakes_more) in
-          refused_in e ((read ++ chunk) ++ unread) read sure sent front rest more text old now
-          remade passes over all (sym same ∙ split) front_taken refused counts,
-      grows,
-    )
+takes (Err e) read chunk sure made out grown old now (remade, remakes, begun, passes, over) makes none took = λ unread.
+    let (sent, more, begun_now, same) = makes (line_behind [] read) begun in
+    let (rest, all) = remakes_all (read ++ chunk) unread (remade ++ sent) (remakes_then [] read chunk remade sent remakes more) in
+    took_some e ((read ++ chunk) ++ unread) remade sure sent rest made out grown old.assembler now.assembler (passes, over) same none all took
 
--- nothing comes any more
-at_end : (read chunk unread : List ℕ) → chunk ≡ [] → (chunk ≡ [] → unread ≡ []) → (read ++ chunk)
-    ++ unread ≡ read
-at_end read chunk unread none only = ap (λ (s : List ℕ). (read ++ s) ++ unread) none
-    ∙ ap (λ (s : List ℕ). (read ++ []) ++ s) (only none)
-    ∙ append-nil (read ++ []) ∙ append-nil read
-
--- a line is refused of what is made then
-pub takes_refused : (e : Refusal) (read chunk sure made out grown : List ℕ) (old now : ObjectLines)
-    → Stands read sure old → chunk ≡ []
-    → ((begun : List ℕ) → HasBegun begun old.remaker.long old.remaker.line.items → (sent : List ℕ)
-    × Ends begun sent × (made ≡ sent))
-    → Took (Err e) old made now out grown → (more : List ℕ) × Takes (Err e) read chunk
-    (sure ++ more) now × (grown ≡ out ++ more)
-takes_refused e read chunk sure made out grown old now (remade, remakes, begun, passes, over) none
-    ends (taken, count, told) =
-    let (sent, is, same) = ends (line_behind [] read) begun in
-    let (front, rest, text, split, front_taken, refused, counts, grows) = told in (
-      text,
-      λ unread only. subst (λ (b : List ℕ). Fails e now.assembler.over b (sure ++ text))
-          (sym (at_end read chunk unread none only))
-          (refused_in e read read sure sent front rest [] text old now remade passes over
-          (subst (RemakesAll read) (sym (append-nil (remade ++ sent)))
-          (whole read remade sent remakes is))
-          (sym same ∙ split) front_taken refused counts),
-      grows,
-    )
+-- nothing comes any more, and there is no memory for what is made then
+pub ends_none : (r : Result (Unit {0}) Refusal) (read sure out : List ℕ) (over : ℕ) (old : ObjectLines) → Stands read sure old → out ≡ []
+    → IsErrAnd r (λ e. e ≡ refusal.Memory) → Became (answer_of over r) read (sure ++ out)
+ends_none (Ok u) read sure out over old stands none failed = absurd failed
+ends_none (Err e) read sure out over old stands none failed =
+    rw (failed, none, append-nil sure) (subst (λ (b : List ℕ). FrontsOf Assembles b sure) (append-nil read) (stands_front read [] sure old stands))
 
 -- the last line is over, or is refused
-pub takes_end : (r : Result (Unit {0}) Refusal) (read chunk sure made out mid grown : List ℕ)
-    (old then now : ObjectLines) → Stands read sure old → chunk ≡ []
-    → ((begun : List ℕ) → HasBegun begun old.remaker.long old.remaker.line.items → (sent : List ℕ)
-    × Ends begun sent × (made ≡ sent))
-    → Took (Ok tt) old made then out mid
-    → OnOk r ((text : List ℕ) × (of_lines (last_line then.assembler.line.items) ≡ Ok text)
-    × (grown ≡ mid ++ text))
-    → IfErr r (λ e. IsTold e (of_lines (last_line then.assembler.line.items)))
-    → OnErr r (now.assembler.over ≡ then.assembler.over) → OnErr r (grown ≡ mid)
-    → (more : List ℕ) × Takes r read chunk (sure ++ more) now × (grown ≡ out ++ more)
-takes_end (Ok u) read (c ∷ chunk) sure made out mid grown old then now stands none ends took last
-    told same kept = cc none
-takes_end (Ok u) read [] sure made out mid grown old then now (remade, remakes, begun, passes, over)
-    none ends ((text, taken, grows), count, _) (rest, is, more) told same kept =
-    let (sent, ended, e) = ends (line_behind [] read) begun in
-    let passed_all = passes_then [] old.assembler.line.items then.assembler.line.items remade sent
-    sure text passes
-    (subst (λ (s : List ℕ). Passes old.assembler.line.items s text then.assembler.line.items) e
-    taken) in (
-      text ++ rest,
-      (
-        remade ++ sent,
-        whole read remade sent remakes ended,
-        whole_text (remade ++ sent) (sure ++ text) rest then.assembler.line.items passed_all is
-            ∙ ap Ok (append_assoc sure text rest),
-      ),
-      more ∙ ap (λ (s : List ℕ). s ++ rest) grows ∙ append_assoc out text rest,
-    )
-takes_end (Err f) read chunk sure made out mid grown old then now
-    (remade, remakes, begun, passes, over) none ends ((text, taken, grows), count, _) last told same
-    kept =
-    let (sent, ended, e) = ends (line_behind [] read) begun in
-    let passed_all = passes_then [] old.assembler.line.items then.assembler.line.items remade sent
-    sure text passes
-    (subst (λ (s : List ℕ). Passes old.assembler.line.items s text then.assembler.line.items) e
-    taken) in (
-      text,
-      λ unread only. subst (λ (b : List ℕ). Fails f now.assembler.over b (sure ++ text))
-          (sym (at_end read chunk unread none only))
-          (fails_at_end f now.assembler.over read (remade ++ sent) (sure ++ text)
-          then.assembler.line.items (whole read remade sent remakes ended) passed_all told
-          (same ∙ count ∙ ap (counted old.assembler.over) e ∙ ap (λ (n : ℕ). counted n sent) over
-          ∙ sym (counted_then 0 remade sent))),
-      kept ∙ grows,
-    )
+pub ends_line : (r : Result (Unit {0}) Refusal) (read made sure mid grown : List ℕ) (then : Assembler) (over : ℕ) → Behind made (sure ++ mid) then → RemakesAll read made
+    → OnOk r ((text : List ℕ) × (of_lines (last_line then.line.items) ≡ Ok text) × (grown ≡ mid ++ text))
+    → IfErr r (λ e. IsTold e (of_lines (last_line then.line.items))) → OnErr r (over ≡ then.over) → OnErr r (grown ≡ mid)
+    → Became (answer_of over r) read (sure ++ grown)
+ends_line (Ok u) read made sure mid grown then over (passes, count) all (text, is, grows) told stays kept = (
+  made,
+  all,
+  whole_text made (sure ++ mid) text then.line.items passes is ∙ ap Ok (append_assoc sure mid text ∙ ap (λ (s : List ℕ). sure ++ s) (sym grows)),
+)
+ends_line (Err e) read made sure mid grown then over (passes, count) all last told stays kept =
+    rw kept (became e over read made [] (sure ++ mid) then.line.items passes (stays ∙ count) (subst (RemakesAll read) (sym (append-nil made)) all)
+    (first_last e then.line.items told))
 
 -- ---- a run
 
--- what is known of a reader's bytes, of which some were read, and a chunk behind them
-rest_known : (P : List ℕ → Type 0) (before after : Option (List ℕ)) (read chunk : List ℕ)
-    → Consumes before after (read ++ chunk) → (chunk ≡ [] → IsAtEnd after)
-    → ((unread : List ℕ) → (chunk ≡ [] → unread ≡ []) → P ((read ++ chunk) ++ unread))
-    → IfSome before P
-rest_known P None after read chunk consumed end each = tt
-rest_known P (Some all) None read chunk consumed end each = absurd consumed
-rest_known P (Some all) (Some unread) read chunk consumed end each = subst P (sym consumed)
-    (each unread end)
+-- what was sent of what came
+pub sent_as : (answer result : Result (Unit {0}) Failure) (bytes sure made sent : List ℕ) → IsSent answer result made sent
+    → FrontsOf Assembles bytes (sure ++ made) → (result ≡ answer → Became answer bytes (sure ++ made)) → Became result bytes (sure ++ sent)
+sent_as answer result bytes sure made sent (inl (all, same)) front became_so = rw (same, all) (became_so same)
+sent_as answer result bytes sure made sent (inr (error, unsent, same, split)) (ahead, more, rest, e, assembles) became_so =
+    let whole : (sure ++ made) ++ rest ≡ (sure ++ sent) ++ (unsent ++ rest) = rw split (simp append_assoc) in
+    rw same (ahead, more, unsent ++ rest, e, subst (Assembles ahead) whole assembles)
 
-fronts_less : (bytes sent unsent : List ℕ) → FrontsOf Assembles bytes (sent ++ unsent)
-    → FrontsOf Assembles bytes sent
-fronts_less bytes sent unsent (front, more, rest, e, assembles) = (
-  front,
-  more,
-  unsent ++ rest,
-  e,
-  subst (Assembles front) (append_assoc sent unsent rest)
-      assembles,
-)
+-- what became of all bytes
+ran : (result : Result (Unit {0}) Failure) (read : List ℕ) (known after old new : Option (List ℕ)) (start end : Assembly) → Consumes known after read
+    → ((unread : List ℕ) → after ≡ Some unread → IsAppended (Became result (read ++ unread)) old new) → AssemblesLines known (start, old) result (end, new)
+ran (Ok u) read None after old new start end consumed became_so = ((tt, tt), tt)
+ran (Err f) read None after old new start end consumed became_so = ((tt, tt), λ n fault is. tt)
+ran result read (Some all) None old new start end consumed became_so = absurd consumed
+ran (Ok u) read (Some all) (Some unread) old new start end consumed became_so = rw consumed ((became_so unread refl, tt), tt)
+ran (Err f) read (Some all) (Some unread) old new start end consumed became_so =
+    let (text, is, appended) = became_so unread refl in
+    rw consumed (
+      (tt, (text, became_front (Err f) (read ++ unread) text is, appended)),
+      λ n fault same. (text, subst (λ (x : Failure). Became (Err x) (read ++ unread) text) same is, appended),
+    )
 
-stands_front : (read unread sure : List ℕ) (at : ObjectLines) → Stands read sure at
-    → FrontsOf Assembles (read ++ unread) sure
-stands_front read unread sure at (remade, remakes, begun, passes, over) =
-    let (more, all) = remakes_all read unread remade remakes in
-    sure_front passes.over (lines_from at.assembler.line.items more) (read ++ unread) sure
-    (sure_of (read ++ unread) remade more (remade ++ more) sure at.assembler.line.items passes all
-    refl)
-
--- what a chunk gave is a front of what all bytes stand for
-takes_front : (r : Result (Unit {0}) Refusal) (read chunk unread sure : List ℕ) (now : ObjectLines)
-    → (chunk ≡ [] → unread ≡ []) → Takes r read chunk sure now
-    → FrontsOf Assembles ((read ++ chunk) ++ unread) sure
-takes_front (Ok u) read [] unread sure now only assembles = (
-  read,
-  unread,
-  [],
-  ap (λ (s : List ℕ). s ++ unread) (append-nil read),
-  subst (Assembles read)
-      (sym (append-nil sure)) assembles,
-)
-takes_front (Ok u) read (c ∷ chunk) unread sure now only stands = stands_front (read ++ c ∷ chunk)
-    unread sure now stands
-takes_front (Err (refusal.Line fault)) read chunk unread sure now only fails =
-    refused_front (one_more now.assembler.over) fault ((read ++ chunk) ++ unread) sure
-    (fails unread only)
-takes_front (Err refusal.Memory) read chunk unread sure now only fails = fails unread only
-
--- a chunk without a byte is the end
-pub none_came : (count : ℕ) (chunk : List ℕ) → count ≤ length chunk → take count chunk ≡ []
-    → count ≡ 0
-none_came count chunk within none = omega (arith, ap length none, length-take-le count chunk within)
-
-pub none_read : (count : ℕ) (chunk : List ℕ) (after : Option (List ℕ)) → count ≤ length chunk
-    → 0 < length chunk
-    → (count ≡ 0 → 0 < length chunk → IsAtEnd after) → take count chunk ≡ [] → IsAtEnd after
-none_read count chunk after within room end none = end (none_came count chunk within none) room
-
--- a run failed ahead of a chunk
-pub stopped : (read sure : List ℕ) (at : ObjectLines) (before after old new : Option (List ℕ))
-    → Consumes before after read → Stands read sure at → Appends old new sure
-    → IfSome before (λ lines. IsAppended (FrontsOf Assembles lines) old new)
-stopped read sure at before after old new consumed stands appended =
-    known_so before
-    (λ lines (unread, e). (
-      sure,
-      subst (λ (b : List ℕ). FrontsOf Assembles b sure) (sym e)
-          (stands_front read unread sure at stands),
-      appended,
-    ))
-    (consumed_front before after read consumed)
-
--- a run failed behind it
-pub stopped_behind : (r : Result (Unit {0}) Refusal) (read chunk sure more sent unsent : List ℕ)
-    (now : ObjectLines) (before after old mid new : Option (List ℕ))
-    → Consumes before after (read ++ chunk) → (chunk ≡ [] → IsAtEnd after) → Takes r read chunk
-    (sure ++ more) now → more ≡ sent ++ unsent
-    → Appends old mid sure → Appends mid new sent
-    → IfSome before (λ lines. IsAppended (FrontsOf Assembles lines) old new)
-stopped_behind r read chunk sure more sent unsent now before after old mid new consumed end takes
-    split appended went =
-    rest_known _ before after read chunk consumed end (λ unread only. (
+-- all of them were read
+pub ended_run : (taken : Result (Unit {0}) Refusal) (result : Result (Unit {0}) Failure) (over : ℕ) (read sure made sent : List ℕ) (known after old mid new : Option (List ℕ))
+    (start end : Assembly) → Consumes known after read → IsAtEnd after → Became (answer_of over taken) read (sure ++ made) → IsSent (answer_of over taken) result made sent
+    → Appends old mid sure → Appends mid new sent → AssemblesLines known (start, old) result (end, new)
+ended_run taken result over read sure made sent known after old mid new start end consumed over_now is how appended went =
+    ran result read known after old new start end consumed (λ unread left.
+    let none : unread ≡ [] = subst IsAtEnd left over_now in (
       sure ++ sent,
-      fronts_less ((read ++ chunk) ++ unread) (sure ++ sent) unsent
-          (subst (FrontsOf Assembles ((read ++ chunk) ++ unread))
-          (ap (λ (s : List ℕ). sure ++ s) split ∙ sym (append_assoc sure sent unsent))
-          (takes_front r read chunk unread (sure ++ more) now only takes)),
+      rw (none, append-nil read) (sent_as (answer_of over taken) result read sure made sent how (became_front (answer_of over taken) read (sure ++ made) is) (λ same. is)),
       Appends-trans old mid new sure sent appended went,
     ))
 
--- a run failed otherwise than by a line
-pub failed_run : (result : Result (Unit {0}) Failure) (error : RunError)
-    (known old new : Option (List ℕ)) (start end : Assembly)
-    → IsErrAnd result (λ f. f ≡ failure.Run error)
-    → IfSome known (λ lines. IsAppended (FrontsOf Assembles lines) old new)
+-- a run failed ahead of a chunk
+pub stopped : (result : Result (Unit {0}) Failure) (error : RunError) (read sure : List ℕ) (at : ObjectLines) (known after old new : Option (List ℕ)) (start end : Assembly)
+    → Consumes known after read → Stands read sure at → Appends old new sure → IsErrAnd result (λ f. f ≡ failure.Run error) → AssemblesLines known (start, old) result (end, new)
+stopped (Ok u) error read sure at known after old new start end consumed stands appended failed = absurd failed
+stopped (Err f) error read sure at known after old new start end consumed stands appended failed =
+    ran (Err f) read known after old new start end consumed (λ unread left.
+    (sure, subst (λ (x : Failure). Became (Err x) (read ++ unread) sure) (sym failed) (stands_front read unread sure at stands), appended))
+
+-- what a chunk gave was sent as far as it was
+chunk_sent : (taken : Result (Unit {0}) Refusal) (result : Result (Unit {0}) Failure) (f : Failure) (read unread sure made sent : List ℕ) (now : ObjectLines)
+    → Takes taken read (sure ++ made) now → IsSent (answer_of now.assembler.over taken) result made sent → result ≡ Err f → Became result (read ++ unread) (sure ++ sent)
+chunk_sent (Ok u) result f read unread sure made sent now stands how is =
+    sent_as (Ok tt) result (read ++ unread) sure made sent how (stands_front read unread (sure ++ made) now stands) (λ same. cc (is, same))
+chunk_sent (Err e) result f read unread sure made sent now fails how is =
+    let answer = answer_of now.assembler.over (Err e) in
+    sent_as answer result (read ++ unread) sure made sent how (became_front answer (read ++ unread) (sure ++ made) (fails unread)) (λ same. fails unread)
+
+-- a run failed behind it
+pub stopped_behind : (taken : Result (Unit {0}) Refusal) (went result : Result (Unit {0}) Failure) (f : Failure) (read sure made sent : List ℕ) (now : ObjectLines)
+    (known after old mid new : Option (List ℕ)) (start end : Assembly) → Consumes known after read → Takes taken read (sure ++ made) now
+    → IsSent (answer_of now.assembler.over taken) went made sent → went ≡ Err f → IsErrAnd result (λ g. g ≡ f) → Appends old mid sure → Appends mid new sent
     → AssemblesLines known (start, old) result (end, new)
-failed_run (Ok u) error known old new start end failed fronts = absurd failed
-failed_run (Err f) error known old new start end failed fronts =
-    ((tt, fronts), λ number fault is. absurd (apart (sym failed ∙ is)))
-  where
-    apart : {e : RunError} {n : ℕ} {fault : Fault} → failure.Run e ≡ failure.Object n fault → ⊥
-    apart e = cc e
-
--- a line was refused, or there was no memory for it
-pub refused_run : (e : Refusal) (f : Failure) (number : ℕ) (read chunk sure more : List ℕ)
-    (now : ObjectLines) (before after old mid new : Option (List ℕ)) (start end : Assembly)
-    → Consumes before after (read ++ chunk) → (chunk ≡ [] → IsAtEnd after) → Takes (Err e) read
-    chunk (sure ++ more) now → number ≡ one_more now.assembler.over
-    → ((n : ℕ) (fault : Fault) → f ≡ failure.Object n fault → (e ≡ refusal.Line fault)
-    × (n ≡ number))
-    → Appends old mid sure → Appends mid new more → AssemblesLines before (start, old) (Err f)
-    (end, new)
-refused_run e f number read chunk sure more now before after old mid new start end consumed all
-    takes counted told appended went = (
-      (
-        tt,
-        stopped_behind (Err e) read chunk sure more more [] now before after old mid new consumed all
-            takes (sym (append-nil more)) appended went,
-      ),
-      λ n fault is.
-          let (line, same) = told n fault is in
-          rest_known _ before after read chunk consumed all (λ unread only. (
-            sure ++ more,
-            subst (λ (k : ℕ). Refuses k fault ((read ++ chunk) ++ unread) (sure ++ more))
-                (sym (same ∙ counted))
-                (subst (λ (x : Refusal). Fails x now.assembler.over ((read ++ chunk) ++ unread)
-                (sure ++ more)) line (takes unread only)),
-            Appends-trans old mid new sure more appended went,
-          )),
-    )
-
--- all lines are over
-pub all_over : (read chunk sure more : List ℕ) (now : ObjectLines)
-    (before after old mid new : Option (List ℕ)) (start end : Assembly)
-    → Consumes before after (read ++ chunk) → chunk ≡ [] → IsAtEnd after → Takes (Ok tt) read chunk
-    (sure ++ more) now
-    → Appends old mid sure → Appends mid new more → AssemblesLines before (start, old) (Ok tt)
-    (end, new)
-all_over read (c ∷ chunk) sure more now before after old mid new start end consumed none all takes
-    appended went = cc none
-all_over read [] sure more now before after old mid new start end consumed none all takes appended
-    went = (
-      (
-        rest_known _ before after read [] consumed (λ _. all) (λ unread only. (
-          sure ++ more,
-          subst (λ (b : List ℕ). Assembles b (sure ++ more)) (sym (at_end read [] unread refl only))
-              takes,
-          Appends-trans old mid new sure more appended went,
-        )),
-        tt,
-      ),
-      tt,
-    )
+stopped_behind taken went (Ok u) f read sure made sent now known after old mid new start end consumed takes how is failed appended more = absurd failed
+stopped_behind taken went (Err g) f read sure made sent now known after old mid new start end consumed takes how is failed appended more =
+    ran (Err g) read known after old new start end consumed (λ unread left. (
+      sure ++ sent,
+      subst (λ (r : Result (Unit {0}) Failure). Became r (read ++ unread) (sure ++ sent)) (is ∙ ap Err (sym failed))
+          (chunk_sent taken went f read unread sure made sent now takes how is),
+      Appends-trans old mid new sure sent appended more,
+    ))
 
 -- there are more
-pub goes_on : (read chunk sure more : List ℕ) (now : ObjectLines)
-    (before mid after old out new : Option (List ℕ)) → Consumes before mid read → Consumes mid after
-    chunk
-    → (chunk ≡ [] → ⊥) → Takes (Ok tt) read chunk (sure ++ more) now → Appends old out sure
-    → Appends out new more
-    → (bytes : List ℕ) × (text : List ℕ) × Consumes before after bytes × Stands bytes text now
-    × Appends old new text
-goes_on read [] sure more now before mid after old out new consumed chunk_read some takes appended
-    went = absurd (some refl)
-goes_on read (c ∷ chunk) sure more now before mid after old out new consumed chunk_read some takes
-    appended went = (
-      read ++ c ∷ chunk,
-      sure ++ more,
-      Consumes-trans before mid after read (c ∷ chunk) consumed
-          chunk_read,
-      takes,
-      Appends-trans old out new sure more appended went,
-    )
+pub goes_on : (taken : Result (Unit {0}) Refusal) (went : Result (Unit {0}) Failure) (read sure made sent : List ℕ) (now : ObjectLines)
+    → Takes taken read (sure ++ made) now → IsSent (answer_of now.assembler.over taken) went made sent → went ≡ Ok tt → Stands read (sure ++ sent) now
+goes_on (Ok u) went read sure made sent now stands (inl (all, same)) is = rw all stands
+goes_on (Err (refusal.Line fault)) went read sure made sent now fails (inl (all, same)) is = cc (is, same)
+goes_on (Err refusal.Memory) went read sure made sent now fails (inl (all, same)) is = cc (is, same)
+goes_on taken went read sure made sent now takes (inr (error, unsent, same, split)) is = cc (is, same)

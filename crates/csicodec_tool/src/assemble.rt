@@ -1,10 +1,8 @@
 //! What lines of JSON stand for, as they come.
-ghost use Rattle.std.specs.Prelude.{◌≡◌, ◌++◌, [], ℕ, List};
+ghost use Rattle.std.specs.Prelude.{◌≡◌, ◌++◌, [], ℕ, List, Err, MatchResult};
+ghost use Rattle.std.specs.Io.KnownBytes.{Appends};
 ghost use Rattle.csicodec_tool.specs.Alone.{AssemblesLines};
-ghost use Rattle.csicodec_tool.specs.Assembled.{Stands, Takes};
-ghost use Rattle.csicodec_assemble.specs.declared.object.Fault.{Fault};
-ghost use Rattle.csicodec_assemble.specs.declared.object.Refusal.TheVariants.{Line};
-ghost use Rattle.csicodec_command.specs.declared.failure.Failure.TheVariants.{Object};
+ghost use Rattle.csicodec_tool.specs.Assembled.{Became, IsSent, Stands, answer_of};
 
 use csicodec_assemble::{Assembler, Refusal};
 use csicodec_command::{Alone, Failure};
@@ -24,6 +22,8 @@ struct ObjectLines {
     assembler: Assembler,
     /// Lines with the bytes of each object, or what has come of one.
     made: Vec<u8>,
+    /// What the lines stand for that ended last.
+    out: Vec<u8>,
 }
 
 impl ObjectLines {
@@ -34,36 +34,53 @@ impl ObjectLines {
             remaker: Remaker::new(alloc),
             assembler: Assembler::new(alloc),
             made: Vec::new(alloc),
+            out: Vec::new(alloc),
         }
     }
 
-    /// Takes bytes, none where the input is over, and appends what the lines stand for that end there.
-    fn take(&mut self, bytes: &[u8], out: &mut Vec<u8>) -> Result<(), Refusal>
-        ensures { (read sure : List ℕ) → Stands read sure self.old → (more : List ℕ)
-            × Takes result read bytes.now (sure ++ more) self.new
-            × (out.new.items ≡ out.old.items ++ more) }
+    /// Takes bytes: what the lines stand for that end there is to be written.
+    fn take(&mut self, bytes: &[u8]) -> Result<(), Refusal>
+        ensures { (read sure : List ℕ) → Stands read sure self.old → MatchResult result
+            (λ _. Stands (read ++ bytes.now) (sure ++ self.new.out.items) self.new)
+            (λ e. (unread : List ℕ) → Became (answer_of self.new.assembler.over (Err e))
+            (read ++ bytes.now ++ unread) (sure ++ self.new.out.items)) }
     {
         self.made.clear();
-        if !bytes.is_empty() {
-            self.remaker.take(bytes, &mut self.made)?;
-            return self.assembler.take(&self.made, out);
-        }
+        self.out.clear();
+        self.remaker.take(bytes, &mut self.made)?;
+        self.assembler.take(&self.made, &mut self.out)
+    }
+
+    /// Nothing comes any more: what the rest stands for is to be written.
+    fn end(&mut self) -> Result<(), Refusal>
+        ensures { (read sure : List ℕ) → Stands read sure self.old
+            → Became (answer_of self.new.assembler.over result) read (sure ++ self.new.out.items) }
+    {
+        self.made.clear();
+        self.out.clear();
         self.remaker.end(&mut self.made)?;
-        match self.assembler.take(&self.made, out) {
-            Ok(()) => self.assembler.end(out),
-            Err(refusal) => Err(refusal),
+        self.assembler.take(&self.made, &mut self.out)?;
+        self.assembler.end(&mut self.out)
+    }
+
+    /// What fails where a line is refused.
+    fn answer(&self, taken: Result<(), Refusal>) -> Result<(), Failure>
+        ensures { result ≡ answer_of self.now.assembler.over taken }
+    {
+        match taken {
+            Ok(()) => Ok(()),
+            Err(Refusal::Line(fault)) => Err(Failure::Object(self.assembler.number(), fault)),
+            Err(Refusal::Memory) => Err(Failure::Run(RunError::Memory)),
         }
     }
-}
 
-/// What fails where a line is refused.
-fn failure_of(refusal: Refusal, line: u64) -> Failure
-    ensures { (number : ℕ) (fault : Fault) → result ≡ Object number fault
-        → (refusal ≡ Line fault) × (number ≡ line) }
-{
-    match refusal {
-        Refusal::Line(fault) => Failure::Object(line, fault),
-        Refusal::Memory => Failure::Run(RunError::Memory),
+    /// Writes what is to be written, also where a line behind it is refused.
+    fn pass_on<W: Write>(&self, taken: Result<(), Refusal>, output: &mut W) -> Result<(), Failure>
+        ensures { (sent : List ℕ) × Appends (W.contents output.old) (W.contents output.new) sent
+            × IsSent (answer_of self.now.assembler.over taken) result self.now.out.items sent }
+    {
+        send(output, &self.out)?;
+        self.answer(taken)
     }
 }
 
@@ -81,19 +98,16 @@ impl Alone for Assembly {
         input: &mut R,
         output: &mut W,
     ) -> Result<(), Failure> {
-        let (mut lines, mut out) = (ObjectLines::new(alloc), Vec::new(alloc));
+        let mut lines = ObjectLines::new(alloc);
         let mut chunk = [0u8; CHUNK];
         for _ in 0..u64::MAX {
             let len = receive(input, &mut chunk)?;
-            let taken = lines.take(&chunk[..len], &mut out);
-            send(output, &out)?;
-            out.clear();
-            if let Err(refusal) = taken {
-                return Err(failure_of(refusal, lines.assembler.number()));
-            }
             if len == 0 {
-                return Ok(());
+                let ended = lines.end();
+                return lines.pass_on(ended, output);
             }
+            let taken = lines.take(&chunk[..len]);
+            lines.pass_on(taken, output)?;
         }
         Err(Failure::Run(RunError::Read))
     }

@@ -94,10 +94,9 @@ impl<'a> Compared<'a> {
     fn keep(&mut self, explainer: &mut Explainer<'_>, text: Vec<u8>) -> Result<(), Failure> {
         let mut text = text;
         explainer.end(&mut text)?;
-        match self.texts.push(text) {
-            Ok(()) => Ok(()),
-            Err(_) => Err(Failure::Run(RunError::Memory)),
-        }
+        self.texts
+            .push(text)
+            .map_err(|_| Failure::Run(RunError::Memory))
     }
 }
 
@@ -144,13 +143,9 @@ impl<'a> Worker for Compared<'a> {
         let (Some(first), Some(second)) = (self.texts.first(), self.texts.get(1)) else {
             return Ok(());
         };
-        match told(self.alloc, first, second) {
-            Ok(told) => {
-                self.differs = !told.is_empty();
-                Ok(send(output, &told)?)
-            }
-            Err(_) => Err(Failure::Run(RunError::Memory)),
-        }
+        let told = told(self.alloc, first, second).map_err(no_memory)?;
+        self.differs = !told.is_empty();
+        Ok(send(output, &told)?)
     }
 }
 

@@ -165,10 +165,7 @@ fn style_of<'a>(rt: &HostRuntime, run: &'a Request<'a>) -> Style<'a> {
 /// The times of a file that `script` wrote, of what was typed or of what was written; the status, if it can't be read.
 fn times_of(rt: &HostRuntime, name: &str, typed: bool) -> Result<Timing, u8> {
     let text = text_of(rt, name)?;
-    match Timing::of(rt.alloc(), &text, typed) {
-        Ok(timing) => Ok(timing),
-        Err(failure) => Err(failed(rt, failure, name, None)),
-    }
+    Timing::of(rt.alloc(), &text, typed).map_err(|failure| failed(rt, failure, name, None))
 }
 
 /// What explains streams, to which nothing came yet.
@@ -189,11 +186,8 @@ fn explained_of<'a>(
         Some(name) => Some(times_of(rt, name, style.dialect.is_some())?),
         None => None,
     };
-    let Ok(explainer) = explainer_of(rt.alloc(), style) else {
-        return Err(refused(rt, Wrong::Memory));
-    };
     Ok(Explained {
-        explainer,
+        explainer: explainer_of(rt.alloc(), style).map_err(|_| refused(rt, Wrong::Memory))?,
         timing,
         named: run.files.len() > 1,
         timed: false,
@@ -223,9 +217,7 @@ fn explain(rt: &HostRuntime, run: &Request<'_>) -> Result<(), u8> {
 /// Explains what the words of the command line ask for, if they do so in names that there are; the status, if that failed.
 pub fn explain_inputs(rt: &HostRuntime, run: &Request<'_>) -> Result<(), u8> {
     if let Some(names) = run.wanted.only {
-        if let Err(wrong) = are_known(rt.alloc(), names) {
-            return Err(refused(rt, wrong));
-        }
+        are_known(rt.alloc(), names).map_err(|wrong| refused(rt, wrong))?;
     }
     explain(rt, run)
 }

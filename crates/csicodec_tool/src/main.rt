@@ -43,10 +43,7 @@ fn work_of_task(rt: &HostRuntime, run: &Request<'_>) -> Result<(), u8> {
         },
         Task::Strip => Work::strip(run),
         Task::Clean => Work::clean(run),
-        Task::Html => match Work::html(rt.alloc(), run) {
-            Ok(work) => work,
-            Err(wrong) => return Err(refused(rt, wrong)),
-        },
+        Task::Html => Work::html(rt.alloc(), run).map_err(|wrong| refused(rt, wrong))?,
     };
     let text = run.text;
     work_through(rt, &mut Job { work, text }, &run.files)

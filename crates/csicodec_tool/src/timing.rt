@@ -22,12 +22,7 @@ pub struct Timing {
 
 /// Whether a text is decimal digits.
 fn are_digits(text: &str) -> bool {
-    for digit in text.as_bytes() {
-        if !digit.is_ascii_digit() {
-            return false;
-        }
-    }
-    true
+    text.as_bytes().iter().all(|digit| digit.is_ascii_digit())
 }
 
 /// Whether a text is a number of seconds: decimal digits with at most one point.

@@ -1,56 +1,47 @@
 -- what a run from a reader to a writer promises, where the bytes of its input are known
 use Rattle.std.proofs.Common.{Bool, true, false, Bor, inr, ◌≡◌, ◌++◌, ℕ, List, [], Option, None, Some, Result, Ok, Err, refl, ◌∙◌, subst, append_assoc}
-use Rattle.std.proofs.{KnownBytes.Appends-nil, lemmas.Result.on_ok_weaker}
+use Rattle.std.proofs.{KnownBytes.Appends-nil, lemmas.Option.IfSome_then, lemmas.Result.on_err_weaker, lemmas.Result.on_ok_weaker}
 use Rattle.std.specs.{Prelude.IfSome, Prelude.IsErr, Prelude.OnErr, Prelude.OnOk, Io.KnownBytes.Appends, Io.KnownBytes.Consumes, Io.KnownBytes.IsAtEnd}
 use Rattle.csicodec_streams.specs.declared.error.RunError.{RunError}
 use Rattle.csicodec_streams.proofs.Streamed.{given_all}
 use Rattle.csicodec_clean.specs.{Streams.Streams, declared.styles.Passing.Passing}
+use Rattle.csicodec_filter.specs.Transform.{Begins, Sends, Transforms}
 use Rattle.csicodec_overwrite.specs.Reading.{Paints}
 use Rattle.csicodec_html.specs.{Page.IsPageWith, Page.PageWith, declared.markup.Markup.Markup}
-use Rattle.csicodec_tool.specs.Writes.{FrontsOf, FrontsOfPainted, IsHeaded, IsPageFront, IsWrittenBy, PaintedPage, Wrote, WroteBehind}
-use Rattle.csicodec_tool.specs.{Log.IsLogged, Log.IsLoggedFront, declared.rewrite.Work.Work}
+use Rattle.csicodec_tool.specs.Writes.{FrontsOf, FrontsOfPainted, IsAppended, IsHeaded, IsPageFront, IsWrittenBy, PaintedPage, Wrote, WroteBehind}
+use Rattle.csicodec_tool.specs.{declared.log.Log.Log, Log.IsLogged, Log.IsLoggedFront, Stream.EndsLog, Stream.LogAs, Stream.PassesLog}
+use Rattle.csicodec_tool.specs.{declared.rewrite.Work.Work}
+use Rattle.csicodec_tool.proofs.Logged.{log_begins, logged}
 use Rattle.csicodec_tool.specs.declared.rewrite.Work.TheVariants as work
 
-pub known_so : {X : Type 0} {P Q : X → Type 0} (known : Option X) → ((x : X) → P x → Q x)
-    → IfSome known P → IfSome known Q
-known_so None each h = tt
-known_so (Some x) each h = each x h
-
-pub on_ok_both : {A E P Q R : Type 0} (result : Result A E) → OnOk result P → OnOk result Q → (P → Q → R) → OnOk result R
+on_ok_both : {A E P Q R : Type 0} (result : Result A E) → OnOk result P → OnOk result Q → (P → Q → R) → OnOk result R
 on_ok_both (Ok a) p q f = f p q
 on_ok_both (Err e) p q f = tt
 
-pub on_err_so : {A E P Q : Type 0} (result : Result A E) → OnErr result P → (P → Q) → OnErr result Q
-on_err_so (Ok a) p f = tt
-on_err_so (Err e) p f = f p
-
 -- bytes that were read are a front of those that were there
-pub consumed_front : (before after : Option (List ℕ)) (bytes : List ℕ) → Consumes before after bytes
+consumed_front : (before after : Option (List ℕ)) (bytes : List ℕ) → Consumes before after bytes
     → IfSome before (λ all. (rest : List ℕ) × (all ≡ bytes ++ rest))
 consumed_front None after bytes h = tt
 consumed_front (Some all) None bytes h = absurd h
 consumed_front (Some all) (Some rest) bytes h = (rest, h)
 
-pub fronts_known : (Out : List ℕ → List ℕ → Type 0) (before after : Option (List ℕ)) (bytes more sent unsent : List ℕ)
-    → Consumes before after (bytes ++ more) → Out bytes (sent ++ unsent)
-    → IfSome before (λ all. FrontsOf Out all sent)
-fronts_known Out before after bytes more sent unsent consumed out =
-    known_so before (λ all (rest, same). (bytes, more ++ rest, unsent, same ∙ append_assoc bytes more rest, out))
-    (consumed_front before after (bytes ++ more) consumed)
+-- all were read, and their text was written
+all_written : (Out : List ℕ → List ℕ → Type 0) (before after old new : Option (List ℕ))
+    → (bytes : List ℕ) × (text : List ℕ) × Consumes before after bytes × IsAtEnd after × Out bytes text × Appends old new text
+    → IfSome before (λ all. IsAppended (Out all) old new)
+all_written Out before after old new (bytes, text, consumed, end, out, appended) =
+    IfSome_then before (given_all before after bytes consumed end)
+    (λ all same. (text, subst (λ (b : List ℕ). Out b text) same out, appended))
 
-pub streams_written : {A E : Type 0} (Out : List ℕ → List ℕ → Type 0) (Safe : List ℕ → Type 0) (result : Result A E)
-    (before after old new : Option (List ℕ)) → Streams Out Safe result before after old new
-    → IsWrittenBy Out (FrontsOf Out) result before old new
-streams_written Out Safe result before after old new s = (
-  on_ok_both result s.ok s.end (λ (bytes, text, consumed, out, safe, appended) end.
-      known_so before (λ all same. (text, subst (λ (b : List ℕ). Out b text) same out, appended))
-      (given_all before after bytes consumed end)),
-  on_err_so result s.front (λ (bytes, more, sent, unsent, consumed, out, safe, appended).
-      known_so before (λ all fronts. (sent, fronts, appended))
-      (fronts_known Out before after bytes more sent unsent consumed out)),
-)
+-- some were, and a front of their text was written
+front_written : (Out : List ℕ → List ℕ → Type 0) (before after old new : Option (List ℕ))
+    → (bytes : List ℕ) × (more : List ℕ) × (sent : List ℕ) × (unsent : List ℕ) × Consumes before after (bytes ++ more)
+    × Out bytes (sent ++ unsent) × Appends old new sent
+    → IfSome before (λ all. IsAppended (FrontsOf Out all) old new)
+front_written Out before after old new (bytes, more, sent, unsent, consumed, out, appended) =
+    IfSome_then before (consumed_front before after (bytes ++ more) consumed)
+    (λ all (rest, same). (sent, (bytes, more ++ rest, unsent, same ∙ append_assoc bytes more rest, out), appended))
 
--- the same of a run whose promises stand by themselves
 pub run_written : {A E : Type 0} (Out Front : List ℕ → List ℕ → Type 0) (result : Result A E)
     (before after old new : Option (List ℕ))
     → OnOk result ((bytes : List ℕ) × (text : List ℕ) × Consumes before after bytes × Out bytes text × Appends old new text)
@@ -59,34 +50,38 @@ pub run_written : {A E : Type 0} (Out Front : List ℕ → List ℕ → Type 0) 
     × Consumes before after (bytes ++ more) × Front bytes (sent ++ unsent) × Appends old new sent)
     → IsWrittenBy Out (FrontsOf Front) result before old new
 run_written Out Front result before after old new ok end front = (
-  on_ok_both result ok end (λ (bytes, text, consumed, out, appended) end.
-      known_so before (λ all same. (text, subst (λ (b : List ℕ). Out b text) same out, appended))
-      (given_all before after bytes consumed end)),
-  on_err_so result front (λ (bytes, more, sent, unsent, consumed, out, appended).
-      known_so before (λ all fronts. (sent, fronts, appended))
-      (fronts_known Front before after bytes more sent unsent consumed out)),
+  on_ok_both result ok end (λ (bytes, text, consumed, out, appended) at.
+      all_written Out before after old new (bytes, text, consumed, at, out, appended)),
+  on_err_weaker result (front_written Front before after old new) front,
 )
 
--- the same of a stream whose lines are written as they stand when they end
-pub logged_written : {A E : Type 0} (styles same : Option Passing) (result : Result A E)
-    (before after old new : Option (List ℕ)) → same ≡ styles
-    → OnOk result ((bytes : List ℕ) × (text : List ℕ) × Consumes before after bytes × IsLogged same bytes text
-    × Appends old new text)
-    → OnOk result (IsAtEnd after)
-    → OnErr result ((bytes : List ℕ) × (more : List ℕ) × (sent : List ℕ) × (unsent : List ℕ)
-    × Consumes before after (bytes ++ more) × IsLoggedFront same bytes (sent ++ unsent) × Appends old new sent)
-    → IsWrittenBy (IsLogged styles) (FrontsOf (IsLoggedFront styles)) result before old new
-logged_written styles same result before after old new is ok end front =
-    subst (λ (s : Option Passing). IsWrittenBy (IsLogged s) (FrontsOf (IsLoggedFront s)) result before old new) is
-    (run_written (IsLogged same) (IsLoggedFront same) result before after old new ok end front)
+-- the same of one that is safe too
+pub streams_written : {A E : Type 0} (Out : List ℕ → List ℕ → Type 0) (Safe : List ℕ → Type 0) (result : Result A E)
+    (before after old new : Option (List ℕ)) → Streams Out Safe result before after old new
+    → IsWrittenBy Out (FrontsOf Out) result before old new
+streams_written Out Safe result before after old new s =
+    run_written Out Out result before after old new
+    (on_ok_weaker result (λ (bytes, text, consumed, out, safe, appended). (bytes, text, consumed, out, appended)) s.ok) s.end
+    (on_err_weaker result
+    (λ (bytes, more, sent, unsent, consumed, out, safe, appended). (bytes, more, sent, unsent, consumed, out, appended)) s.front)
 
-pub known_all : {X : Type 0} {P : X → Type 0} (known : Option X) → ((x : X) → P x) → IfSome known P
-known_all None each = tt
-known_all (Some x) each = each x
-
-pub on_ok_all : {A E P : Type 0} (result : Result A E) → P → OnOk result P
-on_ok_all (Ok a) p = p
-on_ok_all (Err e) p = tt
+-- and of a stream whose lines are written as they stand when they end
+pub logged_written : {A E : Type 0} (log : Log) (t : Bool) (styles : Option Passing) (result : Result A E)
+    (before after old new : Option (List ℕ)) → log.each ≡ t → log.styles ≡ styles
+    → OnOk result ((bytes : List ℕ) × (text : List ℕ) × Consumes before after bytes × IsAtEnd after
+    × Transforms PassesLog EndsLog log bytes text × Appends old new text)
+    → OnErr result ((bytes : List ℕ) × (more : List ℕ) × (sent : List ℕ) × Consumes before after (bytes ++ more)
+    × Begins (Sends PassesLog log) (Transforms PassesLog EndsLog log) ((more ≡ []) × IsAtEnd after) bytes sent × Appends old new sent)
+    → IsWrittenBy (LogAs t (IsLogged styles) (IsLogged styles)) (FrontsOf (LogAs t (IsLogged styles) (IsLoggedFront styles))) result before old new
+logged_written log t styles result before after old new each same ok front = rw (← each, ← same) (
+  on_ok_weaker result (λ (bytes, text, consumed, end, whole, appended).
+      all_written (LogAs log.each (IsLogged log.styles) (IsLogged log.styles)) before after old new
+      (bytes, text, consumed, end, logged log bytes text whole, appended)) ok,
+  on_err_weaker result (λ (bytes, more, sent, consumed, begins, appended).
+      let (unsent, some) = log_begins log ((more ≡ []) × IsAtEnd after) bytes sent begins in
+      front_written (LogAs log.each (IsLogged log.styles) (IsLoggedFront log.styles)) before after old new
+      (bytes, more, sent, unsent, consumed, some, appended)) front,
+)
 
 pub on_err_all : {A E P : Type 0} (result : Result A E) → P → OnErr result P
 on_err_all (Ok a) p = tt
@@ -102,10 +97,10 @@ by_same {A} {E} {X} Out Fronts p q result known old new same written =
 -- what writes nothing writes the empty text
 pub nothing_written : {A E : Type 0} (result : Result A E) (known out : Option (List ℕ))
     → IsWrittenBy (λ bytes text. text ≡ []) (FrontsOf (λ bytes text. text ≡ [])) result known out out
-nothing_written result known out = (
-  on_ok_all result (known_all known (λ bytes. ([], refl, Appends-nil out))),
-  on_err_all result (known_all known (λ bytes. ([], ([], bytes, [], refl, refl), Appends-nil out))),
-)
+nothing_written (Ok a) None out = (tt, tt)
+nothing_written (Err e) None out = (tt, tt)
+nothing_written (Ok a) (Some bytes) out = (([], refl, Appends-nil out), tt)
+nothing_written (Err e) (Some bytes) out = (tt, ([], ([], bytes, [], refl, refl), Appends-nil out))
 
 -- what stands ahead of a page was written, or a front of it
 pub page_headed : {A E : Type 0} (w : Work) (name : Bor (List ℕ)) (markup : Markup)
@@ -118,8 +113,8 @@ page_headed w name markup overwrite fragment begun result old new text is whole 
     rw (is, whole, first) (
       refl,
       on_ok_weaker result (λ appended. (text, front, appended)) ok,
-      on_err_so result failed (λ (sent, unsent, same, appended).
-          (sent, inr (unsent, subst (λ (t : List ℕ). IsPageFront markup name.now t) same front), appended)),
+      on_err_weaker result (λ (sent, unsent, same, appended).
+          (sent, inr (unsent, subst (λ (t : List ℕ). IsPageFront markup name.now t) same front), appended)) failed,
     )
 
 -- the same of a page of what is painted
@@ -132,12 +127,12 @@ pub painted_written : {A E : Type 0} (markup : Markup) (result : Result A E) (be
     × PageWith markup painted (sent ++ unsent) × IsPageWith markup (sent ++ unsent) × Appends old new sent)
     → IsWrittenBy (PaintedPage markup) (FrontsOfPainted markup) result before old new
 painted_written markup result before after old new ok end front = (
-  on_ok_both result ok end (λ (bytes, painted, page, consumed, paints, made, safe, appended) end.
-      known_so before (λ all same. (page, (painted, subst (λ (b : List ℕ). Paints b painted) same paints, made), appended))
-      (given_all before after bytes consumed end)),
-  on_err_so result front (λ (bytes, more, painted, unpainted, sent, unsent, consumed, paints, made, safe, appended).
-      known_so before (λ all fronts. (sent, (painted, unsent, fronts, made), appended))
-      (fronts_known Paints before after bytes more painted unpainted consumed paints)),
+  on_ok_both result ok end (λ (bytes, painted, page, consumed, paints, made, safe, appended) at.
+      all_written (PaintedPage markup) before after old new (bytes, page, consumed, at, (painted, paints, made), appended)),
+  on_err_weaker result (λ (bytes, more, painted, unpainted, sent, unsent, consumed, paints, made, safe, appended).
+      IfSome_then before (consumed_front before after (bytes ++ more) consumed) (λ all (rest, same).
+      (sent, (painted, unsent, (bytes, more ++ rest, unpainted, same ∙ append_assoc bytes more rest, paints), made), appended)))
+      front,
 )
 
 -- an input failed ahead of its bytes
@@ -178,11 +173,7 @@ headed_failed w new headed written error result known old ahead out heads went i
 pub ran_well : (E : Type 0) (Out Front : List ℕ → List ℕ → Type 0) (before after old new : Option (List ℕ))
     → (bytes : List ℕ) × (text : List ℕ) × Consumes before after bytes × IsAtEnd after × Out bytes text × Appends old new text
     → IsWrittenBy {A = Unit {0}} {E = E} Out Front (Ok tt) before old new
-ran_well E Out Front before after old new (bytes, text, consumed, end, out, appended) = (
-  known_so before (λ all same. (text, subst (λ (b : List ℕ). Out b text) same out, appended))
-      (given_all before after bytes consumed end),
-  tt,
-)
+ran_well E Out Front before after old new ran = (all_written Out before after old new ran, tt)
 
 -- where it is only checked what is plain text, nothing is written
 pub check_wrote : {A E : Type 0} (w : Work) (result : Result A E) (known out : Option (List ℕ)) (visible : Bool)

@@ -1,46 +1,53 @@
 -- A log as it comes, chunk by chunk.
-use Rattle.std.specs.Prelude.{ℕ, ◌≡◌, List, [], ◌++◌, Option, None, Some}
+use Rattle.std.specs.Prelude.{ℕ, ◌≡◌, Bool, true, false, List, ◌++◌, Option, None, Some, IfSome}
 use Rattle.csicodec_filter.specs.Transform.{EndsOf, PassesOf}
-use Rattle.csicodec_clean.specs.{Stream.Takes, Stream.start_of, Styled.Keeping, Styled.first_kept, Styled.keeps, declared.styles.Passing.Passing}
-use Rattle.csicodec_overwrite.specs.{declared.marking.Marking.TheVariants.Plain, declared.marking.Marking.TheVariants.Styled, Stream.Now, Stream.Passes}
-use Rattle.csicodec_overwrite.specs.{Stream.begun_as}
-use Rattle.csicodec_tool.specs.{declared.log.Log.Log, declared.log.Overwritten.Overwritten, declared.log.Styles.Styles, Log.IsLogged, Log.LogOf}
+use Rattle.csicodec_clean.specs.{Shown.shown_text, Stream.Between, Stream.Takes, Stream.start_of, Styled.Keeping, Styled.first_kept, Styled.keeps}
+use Rattle.csicodec_clean.specs.{Styled.resets, declared.styles.Passing.Passing}
+use Rattle.csicodec_overwrite.specs.{declared.marking.Marking.TheVariants.Plain, declared.marking.Marking.TheVariants.Styled, Stream.Ending, Stream.Now}
+use Rattle.csicodec_overwrite.specs.{Stream.Passes, Stream.begun_as}
+use Rattle.csicodec_tool.specs.{declared.log.Log.Log, Log.IsLogged, Log.LogOf}
 
-abbrev pub passing_of : Option Styles → Option Passing
-passing_of None = None
-passing_of (Some s) = Some s.passing
+-- lines with what is made of each by itself and of the last, or a stream as one line
+abbrev pub LogAs : Bool → (List ℕ → List ℕ → Type 0) → (List ℕ → List ℕ → Type 0) → List ℕ → List ℕ → Type 0
+LogAs true Each Last bytes text = LogOf Each Last bytes text
+LogAs false Each Last bytes text = Last bytes text
 
 -- the line that isn't over has these bytes, and of them this text is sure
-abbrev pub IsIn : Option Styles → Now → List ℕ → List ℕ → Type 0
-IsIn None at line text = Passes (begun_as Plain) line text at
-IsIn (Some s) at line text = (painted : List ℕ) × Passes (begun_as Styled) line painted at
-    × Takes (keeps (λ (k : Keeping). k)) (start_of (first_kept s.passing)) painted text s.cleaner
+abbrev pub IsIn : Option Passing → Now → Between Keeping → List ℕ → List ℕ → Type 0
+IsIn None at cleaner line text = Passes (begun_as Plain) line text at
+IsIn (Some p) at cleaner line text = (painted : List ℕ) × Passes (begun_as Styled) line painted at
+    × Takes (keeps (λ (k : Keeping). k)) (start_of (first_kept p)) painted text cleaner
 
--- that line goes on with these bytes, of which this text is sure
+-- it goes on with these bytes, of which this text is sure
+abbrev pub Pushes : Option Passing → Now → Between Keeping → List ℕ → List ℕ → Now → Between Keeping → Type 0
+Pushes None old cleaner bytes text new behind = Passes old bytes text new
+Pushes (Some p) old cleaner bytes text new behind = (painted : List ℕ) × Passes old bytes painted new
+    × Takes (keeps (λ (k : Keeping). k)) cleaner painted text behind
+
+-- it is over, and this text is left
+abbrev pub Finishes : Option Passing → Now → Between Keeping → List ℕ → Type 0
+Finishes None at cleaner text = Ending at text
+Finishes (Some p) at cleaner text = (painted : List ℕ) × (more : List ℕ) × (close : List ℕ) × (last : Between Keeping) × Ending at painted
+    × Takes (keeps (λ (k : Keeping). k)) cleaner painted more last × resets (λ (k : Keeping). k) last.rule close
+    × (text ≡ more ++ (shown_text last.held ++ close))
+
+-- the same of a log
+abbrev pub IsSame : Log → Log → Type 0
+IsSame old new = (new.each ≡ old.each) × (new.styles ≡ old.styles)
+
 abbrev pub GoesIn : Log → List ℕ → List ℕ → Log → Type 0
-GoesIn old bytes text new = (passing_of new.styles ≡ passing_of old.styles)
-    × ((line : List ℕ) → (own : List ℕ) → IsIn old.styles old.line line own
-    → IsIn new.styles new.line (line ++ bytes) (own ++ text))
+GoesIn old bytes text new = IsSame old new × Pushes old.styles old.line old.cleaner bytes text new.line new.cleaner
 
 -- since it has begun
 abbrev pub PassesLog : PassesOf Log
-PassesLog first bytes text last = (passing_of last.styles ≡ passing_of first.styles)
-    × LogOf (IsLogged (passing_of first.styles)) (IsIn last.styles last.line) bytes text
+PassesLog first bytes text last = IsSame first last
+    × LogAs first.each (IsLogged first.styles) (IsIn first.styles last.line last.cleaner) bytes text
 
 -- at the end, what is left of the line
 abbrev pub EndsLog : EndsOf Log
-EndsLog last text = (line : List ℕ) → (own : List ℕ) → IsIn last.styles last.line line own
-    → IsLogged (passing_of last.styles) line (own ++ text)
+EndsLog last text = Finishes last.styles last.line last.cleaner text
 
 -- when the line is over, the next one begins
 abbrev pub IsBegun : Log → Log → Type 0
-IsBegun old new = (passing_of new.styles ≡ passing_of old.styles)
-    × ((line : List ℕ) → (own : List ℕ) → IsIn old.styles old.line line own → IsIn new.styles new.line [] [])
-
--- The same of a stream as one, whose lines are written as they stand when they end: since it has begun, and at its end.
-abbrev pub PassesOverwritten : PassesOf Overwritten
-PassesOverwritten first bytes text last = (passing_of last.log.styles ≡ passing_of first.log.styles)
-    × IsIn last.log.styles last.log.line bytes text
-
-abbrev pub EndsOverwritten : EndsOf Overwritten
-EndsOverwritten last text = EndsLog last.log text
+IsBegun old new = IsSame old new × (new.line ≡ begun_as old.line.marking)
+    × IfSome old.styles (λ p. new.cleaner ≡ start_of (first_kept p))

@@ -6,13 +6,13 @@ ghost use Rattle.csicodec_command.specs.Recorded.{recorded};
 ghost use Rattle.csicodec_tool.specs.Writes.{IsHeaded, JobSteps, Wrote, WroteBehind, makes_none};
 
 use crate::check::{check_cast, check_stream};
-use crate::log::{Log, Overwritten, log_all, overwritten_all};
+use crate::log::Log;
 use crate::palette::palette_of;
 use crate::rewritten_cast::{Rewriter, no_memory, rewrite_cast};
 use csicodec_clean::{Cleaner, Depth, Dropped, Kept, Passing, clean_all_with, strip_all};
 use csicodec_command::{Colors, Failure, Recorded, Recordings, Request, Worker, Wrong};
 use csicodec_compact::{Compact, Compactor, compact_all};
-use csicodec_filter::{Faithful, Filter, NormalForm, filter_all};
+use csicodec_filter::{Faithful, Filter, NormalForm, filter_all, transform_all};
 use csicodec_html::{BEHIND, Markup, Palette, UNNAMED, front, html_all_with};
 use csicodec_lines::{Lines, clean_lines_all, strip_lines_all};
 use csicodec_overwrite::html_overwritten_all;
@@ -162,8 +162,8 @@ impl<'a> Work<'a> {
             }
             Work::Strip { lines: true } => Rewriter::PlainLines(Lines::stripped(alloc)),
             Work::Strip { .. } => Rewriter::Plain(Cleaner::new(alloc, Dropped)),
-            Work::Overwrite { styles } => Rewriter::Overwritten(Overwritten::new(alloc, *styles)),
-            Work::Log { styles } => Rewriter::Logged(Log::new(alloc, *styles)),
+            Work::Overwrite { styles } => Rewriter::Logged(Log::new(alloc, *styles, false)),
+            Work::Log { styles } => Rewriter::Logged(Log::new(alloc, *styles, true)),
             Work::Clean {
                 passing,
                 lines: true,
@@ -222,8 +222,12 @@ impl<'a> Work<'a> {
             Work::Check { .. } => Ok(()),
             Work::Strip { lines: true } => strip_lines_all(alloc, input, output),
             Work::Strip { .. } => strip_all(alloc, input, output),
-            Work::Overwrite { styles } => overwritten_all(alloc, styles, input, output),
-            Work::Log { styles } => log_all(alloc, styles, input, output),
+            Work::Overwrite { styles } => {
+                transform_all(alloc, Log::new(alloc, styles, false), input, output)
+            }
+            Work::Log { styles } => {
+                transform_all(alloc, Log::new(alloc, styles, true), input, output)
+            }
             Work::Clean {
                 passing,
                 lines: true,

@@ -1,6 +1,6 @@
 //! Recordings of asciinema with other data.
 
-use crate::log::{Log, Overwritten};
+use crate::log::Log;
 use csicodec_clean::{Cleaner, Dropped, Kept, Passing, strip};
 use csicodec_command::{Failure, Recording, time_of};
 use csicodec_compact::Compactor;
@@ -29,8 +29,6 @@ pub enum Rewriter {
     /// The same with its styles.
     StyledLines(Lines<Kept, Passing>),
     /// Each line as it stands when it ends.
-    Overwritten(Overwritten),
-    /// The same, each line by itself.
     Logged(Log),
 }
 
@@ -60,7 +58,6 @@ impl Rewriter {
             Rewriter::Styled(cleaner) => cleaner.take(bytes, out),
             Rewriter::PlainLines(lines) => lines.take(bytes, out),
             Rewriter::StyledLines(lines) => lines.take(bytes, out),
-            Rewriter::Overwritten(lines) => lines.take(bytes, out),
             Rewriter::Logged(log) => log.take(bytes, out),
         }
     }
@@ -93,7 +90,6 @@ impl Rewriter {
             Rewriter::Styled(cleaner) => cleaner.finish(out),
             Rewriter::PlainLines(lines) => lines.end(out),
             Rewriter::StyledLines(lines) => lines.end(out),
-            Rewriter::Overwritten(lines) => lines.end(out),
             Rewriter::Logged(log) => log.end(out),
         }
     }

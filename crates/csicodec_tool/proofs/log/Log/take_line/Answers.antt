@@ -1,19 +1,24 @@
-use Rattle.std.proofs.Common.{◌++◌, ◌∙◌, [], ◌∷◌, ap, sym, append_assoc}
+use Rattle.std.proofs.Common.{◌++◌, ◌∙◌, [], ◌∷◌, ap, append_assoc}
 use Rattle.csicodec_filter.proofs.Sent.{goes_on}
 use Rattle.csicodec_tool.specs.Stream.{PassesLog}
-use Rattle.csicodec_tool.proofs.Logged.{begun_again, line_over, part_on}
+use Rattle.csicodec_tool.proofs.Logged.{line_over, part_on}
 use Rattle.csicodec_tool.proofs.log.Log.take_line.Goals as goal
 
 pub returns : goal.returns
 returns c =
     let (one, goes, out) = c.in_ok-take_part.ensures in
     let (rest, ends, longer) = c.in_ok-end_line.ensures.text in
+    let begun = c.in_ok-end_line.ensures.begun in
     let mid = c.take_part.new.self in
-    let new = record c.end_line.new.self { styles = c.styles_of.result } in
+    let new = c.end_line.new.self in
     let before = c.args.out.now.items in
-    let over = line_over mid new rest ends (begun_again mid new (c.styles_of.ensures.passing ∙ c.passing-passing.ensures ∙ sym goes.0) c.in_ok-end_line.ensures.line c.styles_of.ensures.begun) in (
-      one ++ (rest ++ 10 ∷ []),
-      goes_on PassesLog c.args.self.now mid new c.args.line.now (10 ∷ []) one (rest ++ 10 ∷ []) (part_on c.args.self.now mid c.args.line.now one c.requires goes) over,
-      c.in_ok-push.ensures.items ∙ ap (λ t. t ++ 10 ∷ []) (longer ∙ ap (λ t. t ++ rest) out) ∙ append_assoc (before ++ one) rest (10 ∷ [])
-          ∙ append_assoc before one (rest ++ 10 ∷ []),
-    )
+    let each = goes.0.0 ∙ c.requires.each in record {
+      goes = (
+        one ++ (rest ++ 10 ∷ []),
+        goes_on PassesLog c.args.self.now mid new c.args.line.now (10 ∷ []) one (rest ++ 10 ∷ [])
+            (part_on c.args.self.now mid c.args.line.now one (λ _. c.requires.line) goes) (line_over mid new rest each ends begun),
+        c.in_ok-push.ensures.items ∙ ap (λ t. t ++ 10 ∷ []) (longer ∙ ap (λ t. t ++ rest) out) ∙ append_assoc (before ++ one) rest (10 ∷ [])
+            ∙ append_assoc before one (rest ++ 10 ∷ []),
+      );
+      each = begun.0.0 ∙ each;
+    }

@@ -1,9 +1,10 @@
+use Rattle.std.proofs.Common.{◌∙◌}
 use Rattle.csicodec_spans.specs.declared.table.Mode.TheVariants.{Text as Plain}
 use Rattle.csicodec_compact.specs.Runs.{CompactsAll}
 use Rattle.csicodec_clean.specs.{Cleaned.longest, Styled.StylesIn}
 use Rattle.csicodec_lines.specs.Lines.{ByLines}
 use Rattle.csicodec_html.specs.Page.{PageWith}
-use Rattle.csicodec_tool.specs.{Log.Logs, Log.LogsSome, Writes.FrontsOf, Writes.FrontsOfPainted, Writes.PaintedPage}
+use Rattle.csicodec_tool.specs.Writes.{FrontsOf, FrontsOfPainted, PaintedPage}
 use Rattle.csicodec_tool.proofs.Written.{by_same, logged_written, painted_written, run_written, streams_written}
 use Rattle.csicodec_tool.proofs.rewrite.Work.write_stream.Goals as goal
 
@@ -39,17 +40,16 @@ returns-in-Strip g c =
 pub returns-in-Overwrite : goal.returns-in-Overwrite
 returns-in-Overwrite g c =
     let a = c.in-Overwrite in
-    let run = c.overwritten_all in
-    rw a.is
-    (logged_written a.styles _ run.result _ _ _ _ a.styles-is run.ensures.ok run.ensures.end run.ensures.front)
+    let run = c.transform_all in
+    let log = c.new-in-Overwrite in
+    rw a.is (logged_written log.result _ a.styles run.result _ _ _ _ log.ensures.each (log.ensures.styles ∙ a.styles-is) run.ensures.ok run.ensures.front)
 
 pub returns-in-Log : goal.returns-in-Log
 returns-in-Log g c =
     let a = c.in-Log in
-    let run = c.log_all in
-    rw a.is
-    (by_same (λ s. Logs s) (λ s. FrontsOf (LogsSome s)) _ a.styles run.result _ _ _ a.styles-is
-    (run_written (Logs _) (LogsSome _) run.result _ _ _ _ run.ensures.ok run.ensures.end run.ensures.front))
+    let run = c.transform_all-in-Log in
+    let log = c.new-in-Log in
+    rw a.is (logged_written log.result _ a.styles run.result _ _ _ _ log.ensures.each (log.ensures.styles ∙ a.styles-is) run.ensures.ok run.ensures.front)
 
 pub returns-in-Clean-default-true : goal.returns-in-Clean-default-true
 returns-in-Clean-default-true g c =

@@ -14,7 +14,8 @@ use Rattle.csicodec_actions.specs.{Table.Device.device_rows, Table.Device.as_dev
 use Rattle.csicodec_actions.specs.{Table.Keyboard.as_keyboard, Table.Mode.mode_rows, Table.Mode.as_mode, Table.Mouse.mouse_rows, Table.Mouse.as_mouse}
 use Rattle.csicodec_actions.specs.{Table.Path.path_rows, Table.Path.as_path, Table.Window.areas, Table.Window.windows, Table.Window.window_fields}
 use Rattle.csicodec_actions.specs.{Table.Window.as_window, Table.XtSmGraphics.graphics_fields, Table.XtSmGraphics.graphics_rows, Table.XtSmGraphics.as_graphics}
-use Rattle.csicodec_actions.proofs.{AllFieldRows.over-in, AllRows.AllRows, AllRows.row-in, AllRows.whole-table, Found.guarded, Found.one-of}
+use Rattle.csicodec_actions.proofs.{AllFieldRows.over-in, AllFieldRows.option_or-assoc, AllRows.AllRows, AllRows.row-in, AllRows.whole-table, Found.guarded}
+use Rattle.csicodec_actions.proofs.{Found.one-of}
 use Rattle.csicodec_parser.specs.Groups.{group_by, group, is_byte, dec_group, plain_group}
 use Rattle.csicodec.specs.WhichRules.{Rules, WhichRules, group_by_rules, last_token, read_by_rules, rules_of}
 use Rattle.csicodec_parser.specs.declared.group.Group.TheVariants as groups
@@ -109,6 +110,38 @@ groups-agree list final =
     let is : IsWholeFinal final = record { other = m; dec = rw (h, l, s, r) refl; plain = rw (h, l) refl } in
     any-whole final (slice_get list 0) is ∙ sym (all-whole (rules_of list final) final is))))))
 
+-- ---- the rules of each subject
+
+data Subject : Type 0 where
+  Cursor : Subject
+  Edit : Subject
+  Mode : Subject
+  Mouse : Subject
+  Keyboard : Subject
+  Path : Subject
+  Device : Subject
+  Window : Subject
+  Graphics : Subject
+
+-- a list with these rules can be one of this subject
+abbrev owns : Rules → Subject → Bool
+owns rule.CharacterPath Path = true
+owns rule.CursorStyle Cursor = true
+owns rule.Checksum Window = true
+owns rule.Attributes Device = true
+owns rule.MouseReport Mouse = true
+owns rule.Graphics Graphics = true
+owns rule.Query Mode = true
+owns rule.SoftReset Device = true
+owns rule.NameAndVersion Device = true
+owns rule.KeyModes Mode = true
+owns rule.Keyboard Keyboard = true
+owns rule.Plain Cursor = true
+owns rule.Plain Edit = true
+owns rule.Plain Device = true
+owns rule.Plain Window = true
+owns _ _ = false
+
 -- ---- rows over tokens
 
 -- this holds of every list of the shape
@@ -136,59 +169,15 @@ of-shape tail (One k ∷ shape) K (Integer z ∷ ts) all e =
     let both = and_parts (has_shape tail shape ts) true e in of-shape tail shape (λ ts. K (Integer z ∷ ts)) ts (all z) both.0
 of-shape tail (One k ∷ shape) K (P c ∷ ts) all e = let no : false ≡ true = (and_parts (has_shape tail shape ts) false e).1 in absurd cc
 
--- the rules of a list that one of the rows reads are of this kind
-abbrev AllChoose : (Rules → Bool) → List (Before Action) → Type 0
-AllChoose kind rows = AllRows (λ final row. OfShape row.tail row.shape (λ list. kind (rules_of list final) ≡ true)) rows
+-- the rules of a list that one of the rows reads are of this subject
+abbrev AllChoose : Subject → List (Before Action) → Type 0
+AllChoose subject rows = AllRows (λ final row. OfShape row.tail row.shape (λ list. owns (rules_of list final) subject ≡ true)) rows
 
-chosen : (kind : Rules → Bool) (rows : List (Before Action)) (list : List CsiParam) (final : ℕ) →
-    AllChoose kind rows → (a : Action) → read_by rows list final ≡ Some a → kind (rules_of list final) ≡ true
-chosen kind rows list final all a e =
-    let r = row-in (λ final row. OfShape row.tail row.shape (λ list. kind (rules_of list final) ≡ true)) rows list final a all e in
-    of-shape r.row.tail r.row.shape (λ list. kind (rules_of list final) ≡ true) list r.holds (guarded (has_shape r.row.tail r.row.shape list) _ a r.gave).0
-
--- ---- the rules of each subject
-
-abbrev of_cursor : Rules → Bool
-of_cursor rule.CursorStyle = true
-of_cursor rule.Plain = true
-of_cursor _ = false
-
-abbrev of_edit : Rules → Bool
-of_edit rule.Plain = true
-of_edit _ = false
-
-abbrev of_mode : Rules → Bool
-of_mode rule.Query = true
-of_mode rule.KeyModes = true
-of_mode _ = false
-
-abbrev of_mouse : Rules → Bool
-of_mouse rule.MouseReport = true
-of_mouse _ = false
-
-abbrev of_keyboard : Rules → Bool
-of_keyboard rule.Keyboard = true
-of_keyboard _ = false
-
-abbrev of_path : Rules → Bool
-of_path rule.CharacterPath = true
-of_path _ = false
-
-abbrev of_device : Rules → Bool
-of_device rule.Attributes = true
-of_device rule.SoftReset = true
-of_device rule.NameAndVersion = true
-of_device rule.Plain = true
-of_device _ = false
-
-abbrev of_window : Rules → Bool
-of_window rule.Checksum = true
-of_window rule.Plain = true
-of_window _ = false
-
-abbrev of_graphics : Rules → Bool
-of_graphics rule.Graphics = true
-of_graphics _ = false
+chosen : (subject : Subject) (rows : List (Before Action)) (list : List CsiParam) (final : ℕ) →
+    AllChoose subject rows → (a : Action) → read_by rows list final ≡ Some a → owns (rules_of list final) subject ≡ true
+chosen subject rows list final all a e =
+    let r = row-in (λ final row. OfShape row.tail row.shape (λ list. owns (rules_of list final) subject ≡ true)) rows list final a all e in
+    of-shape r.row.tail r.row.shape (λ list. owns (rules_of list final) subject ≡ true) list r.holds (guarded (has_shape r.row.tail r.row.shape list) _ a r.gave).0
 
 -- ---- rows over fields
 
@@ -203,15 +192,15 @@ graphics-first list a e =
     (λ fs are _. option_and_then_some fields_of (option_and_then (ahead_of_byte no_byte) (behind_byte (Some 63) list)) fs are
     (λ front cut _. option_and_then_some (ahead_of_byte no_byte) (behind_byte (Some 63) list) front cut (λ rest begins _. behind-first 63 list rest begins)))
 
-by-area : (starred : Bool) → of_window (if starred then rule.Checksum else rule.Plain) ≡ true
+by-area : (starred : Bool) → owns (if starred then rule.Checksum else rule.Plain) Window ≡ true
 by-area true = refl
 by-area false = refl
 
-by-graphics : (marked : Bool) → marked ≡ true → of_graphics (if marked then rule.Graphics else rule.Plain) ≡ true
+by-graphics : (marked : Bool) → marked ≡ true → owns (if marked then rule.Graphics else rule.Plain) Graphics ≡ true
 by-graphics true is = refl
 by-graphics false is = cc
 
-window-chosen : (list : List CsiParam) (final : ℕ) (a : Action) → read_fields window_fields list final ≡ Some a → of_window (rules_of list final) ≡ true
+window-chosen : (list : List CsiParam) (final : ℕ) (a : Action) → read_fields window_fields list final ≡ Some a → owns (rules_of list final) Window ≡ true
 window-chosen list final a e = elim (one-of (if final == 116 then read_over (over no_byte no_byte "t" windows) list else None) (read_fields (over no_byte (byte "*") "y" areas ∷ []) list final) a e) [
   | inl t ↦ let f = guarded (final == 116) _ a t in rw (eqb-true final 116 f.0) refl
   | inr other ↦ elim (one-of (if final == 121 then read_over (over no_byte (byte "*") "y" areas) list else None) None a other) [
@@ -220,7 +209,7 @@ window-chosen list final a e = elim (one-of (if final == 116 then read_over (ove
   ]
 ]
 
-graphics-chosen : (list : List CsiParam) (final : ℕ) (a : Action) → read_fields graphics_fields list final ≡ Some a → of_graphics (rules_of list final) ≡ true
+graphics-chosen : (list : List CsiParam) (final : ℕ) (a : Action) → read_fields graphics_fields list final ≡ Some a → owns (rules_of list final) Graphics ≡ true
 graphics-chosen list final a e = elim (one-of (if final == 83 then read_over (over (byte "?") no_byte "S" graphics_rows) list else None) None a e) [
   | inl s ↦ let f = guarded (final == 83) _ a s in rw (eqb-true final 83 f.0) (by-graphics (is_byte 63 (slice_get list 0)) (graphics-first list a f.1))
   | inr none ↦ cc
@@ -231,10 +220,6 @@ graphics-chosen list final a e = elim (one-of (if final == 83 then read_over (ov
 or-none : (o : Option Action) → option_or o None ≡ o
 or-none None = refl
 or-none (Some a) = refl
-
-or-assoc : (o p q : Option Action) → option_or (option_or o p) q ≡ option_or o (option_or p q)
-or-assoc None p q = refl
-or-assoc (Some a) p q = refl
 
 -- what one subject reads, where these are its rules
 abbrev only : Bool → Option Action → Option Action
@@ -256,20 +241,20 @@ first-of c e m o k p d w g = option_or (option_or c (option_or e (option_or m (o
 
 -- the first that reads anything, of those that the rules leave, is what they read
 first-left : (r : Rules) (list : List CsiParam) (final : ℕ) →
-    first-of (only (of_cursor r) (as_cursor list final)) (only (of_edit r) (as_edit list final))
-    (only (of_mode r) (as_mode list final)) (only (of_mouse r) (as_mouse list final))
-    (only (of_keyboard r) (as_keyboard list final)) (only (of_path r) (as_path list final))
-    (only (of_device r) (as_device list final)) (only (of_window r) (as_window list final))
-    (only (of_graphics r) (as_graphics list final)) ≡ read_by_rules r list final
+    first-of (only (owns r Cursor) (as_cursor list final)) (only (owns r Edit) (as_edit list final))
+    (only (owns r Mode) (as_mode list final)) (only (owns r Mouse) (as_mouse list final))
+    (only (owns r Keyboard) (as_keyboard list final)) (only (owns r Path) (as_path list final))
+    (only (owns r Device) (as_device list final)) (only (owns r Window) (as_window list final))
+    (only (owns r Graphics) (as_graphics list final)) ≡ read_by_rules r list final
 first-left rule.Graphics list final = refl
 first-left rule.PrivateModes list final = refl
-first-left rule.Plain list final = simp (or-none, or-assoc)
+first-left rule.Plain list final = simp (or-none, option_or-assoc)
 first-left _ list final = simp or-none
 
 agree : (r : Rules) (list : List CsiParam) (final : ℕ) →
-    IsOwn (of_cursor r) (as_cursor list final) → IsOwn (of_edit r) (as_edit list final) → IsOwn (of_mode r) (as_mode list final)
-    → IsOwn (of_mouse r) (as_mouse list final) → IsOwn (of_keyboard r) (as_keyboard list final) → IsOwn (of_path r) (as_path list final)
-    → IsOwn (of_device r) (as_device list final) → IsOwn (of_window r) (as_window list final) → IsOwn (of_graphics r) (as_graphics list final)
+    IsOwn (owns r Cursor) (as_cursor list final) → IsOwn (owns r Edit) (as_edit list final) → IsOwn (owns r Mode) (as_mode list final)
+    → IsOwn (owns r Mouse) (as_mouse list final) → IsOwn (owns r Keyboard) (as_keyboard list final) → IsOwn (owns r Path) (as_path list final)
+    → IsOwn (owns r Device) (as_device list final) → IsOwn (owns r Window) (as_window list final) → IsOwn (owns r Graphics) (as_graphics list final)
     → first-of (as_cursor list final) (as_edit list final) (as_mode list final) (as_mouse list final) (as_keyboard list final)
     (as_path list final) (as_device list final) (as_window list final) (as_graphics list final) ≡ read_by_rules r list final
 agree r list final c e m o k p d w g =
@@ -278,10 +263,10 @@ agree r list final c e m o k p d w g =
 rows-agree : (list : List CsiParam) (final : ℕ) → whole list final ≡ read_by_rules (rules_of list final) list final
 unfolding all_subjects
 rows-agree list final = agree (rules_of list final) list final
-    (chosen of_cursor cursor_rows list final (search rules depth 60)) (chosen of_edit edit_rows list final (search rules depth 60))
-    (chosen of_mode mode_rows list final (search rules depth 60)) (chosen of_mouse mouse_rows list final (search rules depth 60))
-    (chosen of_keyboard keyboard_rows list final (search rules depth 60)) (chosen of_path path_rows list final (search rules depth 60))
-    (chosen of_device device_rows list final (search rules depth 60)) (window-chosen list final) (graphics-chosen list final)
+    (chosen Cursor cursor_rows list final (search rules depth 60)) (chosen Edit edit_rows list final (search rules depth 60))
+    (chosen Mode mode_rows list final (search rules depth 60)) (chosen Mouse mouse_rows list final (search rules depth 60))
+    (chosen Keyboard keyboard_rows list final (search rules depth 60)) (chosen Path path_rows list final (search rules depth 60))
+    (chosen Device device_rows list final (search rules depth 60)) (window-chosen list final) (graphics-chosen list final)
 
 pub which_rules_lem : (list : List CsiParam) (final : ℕ) → WhichRules list final
 which_rules_lem list final = record { same_group = groups-agree list final; same_action = rows-agree list final }

@@ -1,12 +1,12 @@
 -- The list that an action is written as, and that is read as this action alone.
-use Rattle.std.proofs.Common.{ℕ, ◌≡◌, ◌≤◌, List, [], ◌∷◌, ◌++◌, Bool, length, refl, sym, ap, ◌∙◌, subst, Some, inl, inr, pos, arith, append-nil, true}
+use Rattle.std.proofs.Common.{ℕ, ◌≡◌, ◌≤◌, List, [], ◌∷◌, ◌++◌, Bool, length, refl, sym, ap, ◌∙◌, subst, inl, inr, pos, arith, append-nil, true}
 use Rattle.std.proofs.lemmas.Int.{ints}
 use Rattle.csicodec_tokens.specs.{Digits.largest, Param.spells, Sequence.IsFinal, Sequence.IsSpellable, Sequence.Spellable, declared.param.CsiParam.CsiParam}
 use Rattle.csicodec_tokens.specs.{declared.param.CsiParam.TheVariants.Integer, declared.param.CsiParam.TheVariants.P}
 use Rattle.csicodec_tokens.proofs.Printed.{printed}
 use Rattle.csicodec_actions.specs.{Actions.Action, Actions.Mode, Actions.Sgr, Actions.Unspecified, Kinds.Dec, Kinds.Terminal, Kinds.Good, Modes.changed}
-use Rattle.csicodec_actions.specs.{Modes.switched, Modes.dec_number, Modes.terminal_number, Table.text, Table.whole, Table.written as written_of}
-use Rattle.csicodec_actions.specs.{Table.Mode.written_mode, Written.Written, Written.tokens, Written.written_text, Written.AllGood, declared.mode.Change.Change}
+use Rattle.csicodec_actions.specs.{Modes.switched, Modes.dec_number, Modes.terminal_number, Table.text, Table.written as written_of, Table.Mode.written_mode}
+use Rattle.csicodec_actions.specs.{Written.Written, Written.tokens, Written.written_text, Written.AllGood, declared.mode.Change.Change}
 use Rattle.csicodec_actions.specs.{declared.mode.DecPrivateMode.DecPrivateMode, declared.mode.Switch.Switch, declared.mode.TerminalMode.TerminalMode}
 use Rattle.csicodec_actions.proofs.{Back.IsPiece, Back.read-back, Items.sound, Items.IsRead, Items.is_sound, Values.read-good}
 use Rattle.csicodec_parser.specs.{Canonical.IsCanonicalWritten, Cut.Cut, Cut.IsStuck, Groups.group, Groups.Piece, Segments.Actions, declared.group.Group.Group}
@@ -48,24 +48,26 @@ colon-spellable = ((omega arith, omega arith), λ digit. omega (arith, digit))
 pub question-spellable : IsSpellable (P 63)
 question-spellable = ((omega arith, omega arith), λ digit. omega (arith, digit))
 
--- ---- a list that is read whole
+-- ---- what is written
 
-pub whole-spelling : (flag : Bool) (a : Action) (list : List CsiParam) (final : ℕ) → text a ≡ 27 ∷ 91 ∷ (spells list ++ final ∷ []) → Spellable list → IsFinal final
-    → group list final ≡ groups.Whole → whole list final ≡ Some a → Spelling flag a
-whole-spelling flag a list final written ok ends read found = record {
-  list = list;
-  final = final;
-  written = written;
-  spellable = ok;
-  ends = ends;
-  read = rw read (inl (a, found, refl));
-}
+-- a list that is read as the action alone
+sound-spelling : (flag : Bool) (a : Action) (w : Written) → text a ≡ 27 ∷ 91 ∷ written_text w → is_sound w ≡ true → AllGood w.items
+    → Actions (tokens w.items) flag w.final (a ∷ []) → Spelling flag a
+sound-spelling flag a w shown test good read =
+    let s = sound w test good in
+    record {
+      list = tokens w.items;
+      final = w.final;
+      written = shown ∙ ap (λ (l : List ℕ). 27 ∷ 91 ∷ l) s.text;
+      spellable = s.spellable;
+      ends = s.ends;
+      read = read;
+    }
 
--- what is written, and read whole
-pub written-spelling : (flag : Bool) (a : Action) (w : Written) → text a ≡ 27 ∷ 91 ∷ written_text w → AllGood w.items → IsRead w a → Spelling flag a
+-- by reading it whole
+written-spelling : (flag : Bool) (a : Action) (w : Written) → text a ≡ 27 ∷ 91 ∷ written_text w → AllGood w.items → IsRead w a → Spelling flag a
 written-spelling flag a w shown good back =
-    let s = sound w back.sound good in
-    whole-spelling flag a (tokens w.items) w.final (shown ∙ ap (λ (l : List ℕ). 27 ∷ 91 ∷ l) s.text) s.spellable s.ends (whole-group (tokens w.items) w.final a back.read) back.read
+    sound-spelling flag a w shown back.sound good (rw (whole-group (tokens w.items) w.final a back.read) (inl (a, back.read, refl)))
 
 -- ---- a list that is one piece, in any group
 
@@ -103,16 +105,7 @@ terminal-read flag s final m by good =
 
 piece-spelling : (flag : Bool) (m : mode_type.Mode) → is_sound (written_mode m) ≡ true → AllGood (written_mode m).items
     → Actions (tokens (written_mode m).items) flag (written_mode m).final (Mode m ∷ []) → Spelling flag (Mode m)
-piece-spelling flag m test good read =
-    let s = sound (written_mode m) test good in
-    record {
-      list = tokens (written_mode m).items;
-      final = (written_mode m).final;
-      written = ap (λ (l : List ℕ). 27 ∷ 91 ∷ l) s.text;
-      spellable = s.spellable;
-      ends = s.ends;
-      read = read;
-    }
+piece-spelling flag m test good read = sound-spelling flag (Mode m) (written_mode m) refl test good read
 
 row-spelling : (flag : Bool) (m : mode_type.Mode) → AllGood (written_mode m).items → ¬ IsPiece (Mode m) → Spelling flag (Mode m)
 row-spelling flag m good row = written-spelling flag (Mode m) (written_mode m) refl good (read-back (Mode m) good (λ never. never) row)

@@ -1,5 +1,5 @@
 //! Lists that are read by their fields, where they stand: it takes no memory.
-ghost use Rattle.std.specs.Prelude.{◌≡◌, IfOk, IsSome, Some, drop, option_copied};
+ghost use Rattle.std.specs.Prelude.{◌≡◌, IfOk, Some, drop, option_copied};
 ghost use Rattle.std.specs.List.{list_all};
 ghost use Rattle.std.specs.Option.{option_map};
 ghost use Rattle.csicodec_tokens.specs.declared.param.CsiParam.TheVariants.{Integer};
@@ -20,15 +20,12 @@ pub struct Fields<'a> {
 }
 
 impl<'a> Model for Fields<'a> {
-    ghost use Rattle.std.specs.Prelude.{ℤ, IsSome, List, Option};
-    ghost use Rattle.csicodec_tokens.specs.Fields.{fields_of};
+    ghost use Rattle.std.specs.Prelude.{ℤ, List, Option};
     ghost use Rattle.csicodec_actions.specs.Private.FieldsBy.{fields_there};
 
     ghost Value = { List (Option ℤ) };
 
     ghost view = { λ fields. fields_there fields.list.now };
-
-    ghost invariant = { λ fields. IsSome (fields_of fields.list.now) };
 }
 
 /// Whether no byte but `;` stands in the list.
@@ -54,9 +51,7 @@ pub fn fields_in(list: &[CsiParam]) -> Option<Fields<'_>>
 
 /// What stands behind the first field of a list of fields.
 fn behind_first(list: &[CsiParam]) -> &[CsiParam]
-    requires { IsSome (fields_of list.now) }
-    ensures kept { IsSome (fields_of result.now) }
-    ensures behind { fields_there result.now ≡ behind (fields_there list.now) }
+    ensures { fields_there result.now ≡ behind (fields_there list.now) }
 {
     match list {
         [] => list,
@@ -68,9 +63,7 @@ fn behind_first(list: &[CsiParam]) -> &[CsiParam]
 
 /// A list of fields from this field on.
 fn from_field(list: &[CsiParam], idx: usize) -> &[CsiParam]
-    requires { IsSome (fields_of list.now) }
-    ensures kept { IsSome (fields_of result.now) }
-    ensures from { fields_there result.now ≡ drop idx (fields_there list.now) }
+    ensures { fields_there result.now ≡ drop idx (fields_there list.now) }
 {
     let mut rest = list;
     let mut left = idx;
@@ -83,7 +76,6 @@ fn from_field(list: &[CsiParam], idx: usize) -> &[CsiParam]
 
 /// The number of the first field, as the token that it is read from.
 fn first_number(list: &[CsiParam]) -> Option<&CsiParam>
-    requires { IsSome (fields_of list.now) }
     ensures { option_copied result ≡ option_map Integer (first (fields_there list.now)) }
 {
     match list {

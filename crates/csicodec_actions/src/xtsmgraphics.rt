@@ -286,9 +286,7 @@ impl XtSmGraphics {
 fn behind_mark(params: &[CsiParam]) -> Option<GraphicsRef<'_>>
     ensures { option_map lent_graphics result ≡ graphics_behind params.now }
 {
-    let [_, list @ ..] = params else {
-        return None;
-    };
+    let (_, list) = params.split_first()?;
     read(&fields_in(list)?)
 }
 

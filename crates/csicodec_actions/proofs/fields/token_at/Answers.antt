@@ -7,5 +7,5 @@ use Rattle.csicodec_actions.proofs.fields.token_at.Goals as goal
 
 pub returns : goal.returns
 returns c =
-    let from = c.from_field.ensures.from ∙ ap (drop c.args.idx) c.fields.view_is in
+    let from = c.from_field.ensures ∙ ap (drop c.args.idx) c.fields.view_is in
     c.first_number.ensures ∙ ap (option_map Integer) (ap first from ∙ field-from c.args.fields.now c.args.idx)

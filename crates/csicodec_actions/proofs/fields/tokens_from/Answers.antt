@@ -5,4 +5,4 @@ use Rattle.csicodec_actions.proofs.fields.tokens_from.Goals as goal
 
 pub returns : goal.returns
 returns c =
-    numbers-there c.from_field.result.now c.from_field.ensures.kept ∙ ap numbers (c.from_field.ensures.from ∙ ap (drop c.args.idx) c.fields.view_is)
+    numbers-there c.from_field.result.now ∙ ap numbers (c.from_field.ensures ∙ ap (drop c.args.idx) c.fields.view_is)

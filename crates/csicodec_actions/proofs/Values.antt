@@ -3,8 +3,7 @@ use Rattle.std.proofs.Common.{◌≡◌, ℕ, zero, suc, ◌<◌, ◌≤◌, ◌
 use Rattle.std.proofs.{lemmas.Bool.cases_Bool, lemmas.Bool.eq-eqb, lemmas.Bool.le-ltb, lemmas.Bool.lt-ltb, lemmas.Bool.ltb-true, lemmas.Int.to_z-of_z}
 use Rattle.std.proofs.{lemmas.Int.ints, lemmas.Option.same_Some, lemmas.Option.cond_some, lemmas.Nat.and_mask, lemmas.Nat.and_le_r}
 use Rattle.std.specs.{Prelude.ℤ, Prelude.negsuc, Prelude.◌↔◌, Prelude.Bool, Prelude.IsTrue, Prelude.not, Prelude.true, Prelude.false, Prelude.nat_abs}
-use Rattle.std.specs.{Prelude.Result, Prelude.Ok, Prelude.Err, Int.FitsUnsignedBits, Int.RustNames.bit_and, Option.is_some, Option.option_map, Result.OkIff}
-use Rattle.std.specs.{Result.result_ok}
+use Rattle.std.specs.{Prelude.Result, Prelude.Ok, Prelude.Err, Int.FitsUnsignedBits, Option.is_some, Result.OkIff, Result.result_ok}
 use mir.{Syntax.w64, Val.SFits, Val.of_z, Val.to_z}
 use Rattle.csicodec_tokens.specs.{declared.param.CsiParam.TheVariants.Integer, Digits.largest, OneBased.most, OneBased.number_or, Sequence.IsSpellable}
 use Rattle.csicodec_names.specs.EnumNumbers.{cursor_style_number, erase_in_display_number, erase_in_line_number, tabulation_clear_number, tabulation_control_number, cursor_styles, tabulation_controls, tabulation_clears, erases_in_display, erases_in_line}
@@ -14,7 +13,7 @@ use Rattle.csicodec_names.specs.{ModeNumbers.dec_codes, ModeNumbers.terminal_cod
 use Rattle.csicodec_actions.specs.Kinds.{Kind, Count, Last, Any, Style, Control, Clear, InDisplay, InLine, Dec, Terminal, Resource, Flags, Way, Path, Pops, Word, Pressed, Released, GraphicsItem, Value, read, number, below, short, code_or, IsOneBased, IsSaid, IsOwn, GoodDec, GoodItem, GoodTerminal, Good, kitty_mode_number, kitty_modes, path_number, paths}
 use Rattle.csicodec_actions.specs.{declared.mode.DecPrivateMode.DecPrivateMode, declared.mode.TerminalMode.TerminalMode, XtSmGraphics.item_of, Mouse.pressed}
 use Rattle.csicodec_actions.specs.{Mouse.released, Mouse.report_code, Modes.dec_number, Modes.terminal_number, Modes.resource_number, Modes.resources}
-use Rattle.csicodec_names.proofs.Coded.{is_number-pos, listed-number, none-found, Coded, found-of, small, attributes, styles, controls, clears, lines, displays, decs, terminals}
+use Rattle.csicodec_names.proofs.Coded.{is_number-pos, listed-number, none-found, Coded, found-of, AllBelow, small, attributes, styles, controls, clears, lines, displays, decs, terminals}
 use Rattle.csicodec_actions.proofs.MouseCodes.{report-back, report-read, report-small, pressed-found, released-found}
 use Rattle.csicodec_actions.proofs.Found.{map-some}
 use Rattle.csicodec_actions.specs.declared.mode.DecPrivateMode.TheVariants as dec
@@ -38,31 +37,42 @@ keys = record { each = λ r. elim r as (λ x. with_number resource_number resour
 -- ---- how the code finds the others
 
 -- a mode: the code that was found, or the number itself
-short-found : {E : Type 0} (z : ℤ) (r : Result ℕ E) → OkIff r (FitsUnsignedBits 16 z) (nat_abs z) → result_ok r ≡ short z
-short-found (pos n) (Ok k) h = rw (lt-ltb n 65536 h.0, h.1) refl
-short-found (pos n) (Err e) h = rw (le-ltb n 65536 (omega (arith, h))) refl
-short-found (negsuc n) (Ok k) h = absurd h.0
-short-found (negsuc n) (Err e) h = refl
+word-found : {E : Type 0} (z : ℤ) (r : Result ℕ E) → OkIff r (FitsUnsignedBits 16 z) (nat_abs z) → result_ok r ≡ short z
+word-found (pos n) (Ok k) h = rw (lt-ltb n 65536 h.0, h.1) refl
+word-found (pos n) (Err e) h = rw (le-ltb n 65536 (omega (arith, h))) refl
+word-found (negsuc n) (Ok k) h = absurd h.0
+word-found (negsuc n) (Err e) h = refl
 
-pub flags-found : {E : Type 0} (z : ℤ) → SFits w64 z → (r : Result ℕ E) → OkIff r (FitsUnsignedBits 16 (to_z w64 (of_z w64 z))) (nat_abs (to_z w64 (of_z w64 z)))
-    → option_map (λ n. record { bits = bit_and n 31 }) (result_ok r) ≡ read Flags z
-unfolding read
-flags-found z fits r ok = ap (option_map (λ n. record { bits = bit_and n 31 })) (short-found _ r ok ∙ ap short (to_z-of_z w64 z fits))
+pub short-found : {E : Type 0} (z : ℤ) → SFits w64 z → (r : Result ℕ E) → OkIff r (FitsUnsignedBits 16 (to_z w64 (of_z w64 z))) (nat_abs (to_z w64 (of_z w64 z))) → result_ok r ≡ short z
+short-found z fits r ok = word-found _ r ok ∙ ap short (to_z-of_z w64 z fits)
 
--- the mode of a number, by its code
-pub named : {C M : Type 0} (number : C → ℕ) (all : List C) (coded : C → M) (own : ℕ → M) → Coded number all → (z : ℤ) → SFits w64 z → (o : Option C) (c : C)
-    → ((x : C) → (o ≡ Some x) ↔ (to_z w64 (of_z w64 z) ≡ pos (number x))) → o ≡ Some c → Some (coded c) ≡ code_or coded own (with_number number all z) (short z)
-named number all coded own is z fits o c h e = rw (sym (found-of number all is z fits o h) ∙ e) refl
+-- the mode of a number of 16 bits, by the code that was found, or by itself
+pub mode-of : {C M : Type 0} (number : C → ℕ) (all : List C) (coded : C → M) (own : ℕ → M) → Coded number all → (n : ℕ) → n < 65536 → (z : ℤ) → z ≡ pos n → SFits w64 z → (o : Option C)
+    → ((x : C) → (o ≡ Some x) ↔ (to_z w64 (of_z w64 z) ≡ pos (number x))) → code_or coded own o (Some n) ≡ code_or coded own (with_number number all (pos n)) (short (pos n))
+mode-of number all coded own is n few z same fits o h =
+    let found : o ≡ with_number number all (pos n) = found-of number all is z fits o h ∙ ap (with_number number all) same in
+    rw (found, lt-ltb n 65536 few) refl
 
--- and by itself
-pub unnamed : {C M E : Type 0} (number : C → ℕ) (all : List C) (coded : C → M) (own : ℕ → M) → Coded number all → (z : ℤ) → SFits w64 z → (o : Option C) (r : Result ℕ E)
-    → ((x : C) → (o ≡ Some x) ↔ (to_z w64 (of_z w64 z) ≡ pos (number x))) → o ≡ None → OkIff r (FitsUnsignedBits 16 (to_z w64 (of_z w64 z))) (nat_abs (to_z w64 (of_z w64 z)))
-    → option_map own (result_ok r) ≡ code_or coded own (with_number number all z) (short z)
-unnamed number all coded own is z fits o r h e ok = rw (sym (found-of number all is z fits o h) ∙ e, sym (short-found _ r ok ∙ ap short (to_z-of_z w64 z fits))) (go (result_ok r))
+-- no other number is a mode's
+no-mode : {C M : Type 0} (number : C → ℕ) (all : List C) (coded : C → M) (own : ℕ → M) → Coded number all → AllBelow number 65535 all → (z : ℤ) → None ≡ short z
+    → None ≡ code_or coded own (with_number number all z) (short z)
+no-mode number all coded own is below z none = go (with_number number all z) refl
   where
-    go : (s : Option ℕ) → option_map own s ≡ code_or coded own None s
-    go None = refl
-    go (Some n) = refl
+    go : (o : Option _) → with_number number all z ≡ o → None ≡ code_or coded own o (short z)
+    go None found = rw (← none) refl
+    go (Some c) found =
+        let here : z ≡ pos (number c) = listed-number number all z c found in
+        let low = small number all is 65535 below c in
+        let some : short z ≡ Some (number c) = rw (here, lt-ltb (number c) 65536 (omega (arith, low))) refl in
+        cc (some, none)
+
+pub no-dec : (z : ℤ) → None ≡ short z → None ≡ read Dec z
+unfolding read
+no-dec z none = no-mode dec_mode_number dec_codes _ _ decs (search (rules, arith) depth 60) z none
+
+pub no-terminal : (z : ℤ) → None ≡ short z → None ≡ read Terminal z
+unfolding read
+no-terminal z none = no-mode terminal_mode_number terminal_codes _ _ terminals (search (rules, arith) depth 60) z none
 
 -- ---- how the code tells a number that nothing with a name has
 

@@ -30,10 +30,7 @@ impl DecPrivateMode {
     pub fn at(number: i64) -> Option<DecPrivateMode>
         ensures { result ≡ read Dec number }
     {
-        match DecPrivateModeCode::from_i64(number) {
-            Some(code) => Some(DecPrivateMode::Code(code)),
-            None => Some(DecPrivateMode::Unspecified(u16::try_from(number).ok()?)),
-        }
+        Some(DecPrivateMode::from(u16::try_from(number).ok()?))
     }
 
     /// The number of this mode.
@@ -89,10 +86,7 @@ impl TerminalMode {
     pub fn at(number: i64) -> Option<TerminalMode>
         ensures { result ≡ read Terminal number }
     {
-        match TerminalModeCode::from_i64(number) {
-            Some(code) => Some(TerminalMode::Code(code)),
-            None => Some(TerminalMode::Unspecified(u16::try_from(number).ok()?)),
-        }
+        Some(TerminalMode::from(u16::try_from(number).ok()?))
     }
 
     /// The number of this mode.

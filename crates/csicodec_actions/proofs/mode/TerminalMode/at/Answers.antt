@@ -1,27 +1,7 @@
-use Rattle.std.proofs.Common.{ap, sym, ◌∙◌}
-use Rattle.std.specs.Option.{option_map}
-use Rattle.csicodec_names.specs.ModeNumbers.{terminal_mode_number, terminal_codes}
-use Rattle.csicodec_actions.specs.Kinds.{read}
-use Rattle.csicodec_actions.proofs.Values.{named, unnamed}
-use Rattle.csicodec_names.proofs.Coded.{terminals}
-use Rattle.csicodec_actions.specs.declared.mode.TerminalMode.TheVariants as terminal
+use Rattle.std.proofs.Common.{◌∙◌, sym}
+use Rattle.csicodec_actions.proofs.Values.{no-terminal, short-found}
 use Rattle.csicodec_actions.proofs.mode.TerminalMode.at.Goals as goal
 
-pub returns-in-Some : goal.returns-in-Some
-unfolding read
-returns-in-Some c = named terminal_mode_number terminal_codes _ (λ n. terminal.Unspecified n) terminals c.args.number c.ranges.number c.from_i64.result c.in-Some.code c.from_i64.ensures c.in-Some.is
-
-pub returns-in_ok-ok-in-None : goal.returns-in_ok-ok-in-None
-unfolding read
-returns-in_ok-ok-in-None c =
-    ap (option_map (λ n. terminal.Unspecified n)) (sym c.in_ok-ok-in-None.was ∙ c.ok.ensures.value)
-    ∙ unnamed terminal_mode_number terminal_codes (λ x. terminal.Code x) _ terminals c.args.number
-    c.ranges.number c.from_i64.result c.try_from.result c.from_i64.ensures c.in-None.is c.try_from.ensures
-
-pub returns-in_err-ok-in-None : goal.returns-in_err-ok-in-None
-unfolding read
-returns-in_err-ok-in-None c =
-    c.from_residual.ensures
-    ∙ ap (option_map (λ n. terminal.Unspecified n)) (sym c.in_err-ok-in-None.was ∙ c.ok.ensures.value)
-    ∙ unnamed terminal_mode_number terminal_codes (λ x. terminal.Code x) _ terminals c.args.number
-    c.ranges.number c.from_i64.result c.try_from.result c.from_i64.ensures c.in-None.is c.try_from.ensures
+pub returns-in_err-ok : goal.returns-in_err-ok
+returns-in_err-ok c =
+    c.from_residual.ensures ∙ no-terminal c.args.number (sym c.in_err-ok.was ∙ c.ok.ensures.value ∙ short-found c.args.number c.ranges.number c.try_from.result c.try_from.ensures)

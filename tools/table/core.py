@@ -56,14 +56,14 @@ def arm(pattern, said):
 
 
 def write_arms(actions):
-    number = {"count": "count", "place": "col"}
+    number = {"count": ("count", "*count"), "place": ("col", "col.as_one_based()")}
     for action in actions:
         if action.form == "places":
             first, second = action.row["fields"]
             yield f"            {rust(action)} {{ {first}, {second} }} => write_pair(text, *{first}, *{second}, {byte(action.row['final'])}),"
         else:
-            of = number[action.form]
-            yield f"            {rust(action)}({of}) => {of}.write_csi(text, {byte(action.row['final'])}),"
+            of, given = number[action.form]
+            yield f"            {rust(action)}({of}) => write_count(text, {given}, {byte(action.row['final'])}),"
 
 
 def either(patterns, said):

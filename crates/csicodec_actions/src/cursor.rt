@@ -8,7 +8,7 @@ ghost use Rattle.csicodec_actions.specs.Table.Cursor.{written_cursor};
 ghost use Rattle.csicodec_actions.specs.Written.{AllGood, shown, two, written_text};
 
 use crate::canonical::{is_count, is_one_based};
-use crate::encode::{EncodeCSIParam, write_choice, write_pair};
+use crate::encode::{write_choice, write_count, write_pair};
 use csicodec_base::{CursorStyle, CursorTabulationControl, OneBased, TabulationClear, Text};
 use std::fmt;
 
@@ -115,25 +115,25 @@ impl Cursor {
         ensures { text.new ≡ text.old ++ written_text (written_cursor self.now) }
     {
         match self {
-            Cursor::Up(count) => count.write_csi(text, b'A'),
-            Cursor::Down(count) => count.write_csi(text, b'B'),
-            Cursor::Right(count) => count.write_csi(text, b'C'),
-            Cursor::Left(count) => count.write_csi(text, b'D'),
-            Cursor::NextLine(count) => count.write_csi(text, b'E'),
-            Cursor::PrecedingLine(count) => count.write_csi(text, b'F'),
-            Cursor::CharacterAbsolute(col) => col.write_csi(text, b'G'),
-            Cursor::CharacterPositionAbsolute(col) => col.write_csi(text, b'`'),
+            Cursor::Up(count) => write_count(text, *count, b'A'),
+            Cursor::Down(count) => write_count(text, *count, b'B'),
+            Cursor::Right(count) => write_count(text, *count, b'C'),
+            Cursor::Left(count) => write_count(text, *count, b'D'),
+            Cursor::NextLine(count) => write_count(text, *count, b'E'),
+            Cursor::PrecedingLine(count) => write_count(text, *count, b'F'),
+            Cursor::CharacterAbsolute(col) => write_count(text, col.as_one_based(), b'G'),
+            Cursor::CharacterPositionAbsolute(col) => write_count(text, col.as_one_based(), b'`'),
             Cursor::Position { line, col } => write_pair(text, *line, *col, b'H'),
             Cursor::ActivePositionReport { line, col } => write_pair(text, *line, *col, b'R'),
             Cursor::CharacterAndLinePosition { line, col } => write_pair(text, *line, *col, b'f'),
-            Cursor::ForwardTabulation(count) => count.write_csi(text, b'I'),
-            Cursor::BackwardTabulation(count) => count.write_csi(text, b'Z'),
-            Cursor::LineTabulation(count) => count.write_csi(text, b'Y'),
-            Cursor::CharacterPositionForward(count) => count.write_csi(text, b'a'),
-            Cursor::CharacterPositionBackward(count) => count.write_csi(text, b'j'),
-            Cursor::LinePositionAbsolute(count) => count.write_csi(text, b'd'),
-            Cursor::LinePositionForward(count) => count.write_csi(text, b'e'),
-            Cursor::LinePositionBackward(count) => count.write_csi(text, b'k'),
+            Cursor::ForwardTabulation(count) => write_count(text, *count, b'I'),
+            Cursor::BackwardTabulation(count) => write_count(text, *count, b'Z'),
+            Cursor::LineTabulation(count) => write_count(text, *count, b'Y'),
+            Cursor::CharacterPositionForward(count) => write_count(text, *count, b'a'),
+            Cursor::CharacterPositionBackward(count) => write_count(text, *count, b'j'),
+            Cursor::LinePositionAbsolute(count) => write_count(text, *count, b'd'),
+            Cursor::LinePositionForward(count) => write_count(text, *count, b'e'),
+            Cursor::LinePositionBackward(count) => write_count(text, *count, b'k'),
             Cursor::TabulationControl(control) => write_choice(text, control.to_i64() as u8, b'W'),
             Cursor::TabulationClear(clear) => write_choice(text, clear.to_i64() as u8, b'g'),
             Cursor::SetTopAndBottomMargins { top, bottom } => {

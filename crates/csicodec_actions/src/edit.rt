@@ -4,7 +4,7 @@ ghost use Rattle.csicodec_actions.specs.Table.Edit.{written_edit};
 ghost use Rattle.csicodec_actions.specs.Written.{AllGood, written_text};
 
 use crate::canonical::is_count;
-use crate::encode::{EncodeCSIParam, write_choice};
+use crate::encode::{write_choice, write_count};
 use csicodec_base::{EraseInDisplay, EraseInLine, Text};
 use std::fmt;
 
@@ -49,14 +49,14 @@ impl Edit {
         ensures { text.new ≡ text.old ++ written_text (written_edit self.now) }
     {
         match self {
-            Edit::InsertCharacter(count) => count.write_csi(text, b'@'),
-            Edit::InsertLine(count) => count.write_csi(text, b'L'),
-            Edit::DeleteCharacter(count) => count.write_csi(text, b'P'),
-            Edit::DeleteLine(count) => count.write_csi(text, b'M'),
-            Edit::EraseCharacter(count) => count.write_csi(text, b'X'),
-            Edit::ScrollUp(count) => count.write_csi(text, b'S'),
-            Edit::ScrollDown(count) => count.write_csi(text, b'T'),
-            Edit::Repeat(count) => count.write_csi(text, b'b'),
+            Edit::InsertCharacter(count) => write_count(text, *count, b'@'),
+            Edit::InsertLine(count) => write_count(text, *count, b'L'),
+            Edit::DeleteCharacter(count) => write_count(text, *count, b'P'),
+            Edit::DeleteLine(count) => write_count(text, *count, b'M'),
+            Edit::EraseCharacter(count) => write_count(text, *count, b'X'),
+            Edit::ScrollUp(count) => write_count(text, *count, b'S'),
+            Edit::ScrollDown(count) => write_count(text, *count, b'T'),
+            Edit::Repeat(count) => write_count(text, *count, b'b'),
             Edit::EraseInDisplay(part) => write_choice(text, part.to_i64() as u8, b'J'),
             Edit::EraseInLine(part) => write_choice(text, part.to_i64() as u8, b'K'),
         }

@@ -2,38 +2,20 @@
 ghost use Rattle.std.specs.Prelude.{◌≡◌, ◌==◌, ◌<◌, ◌≤◌, ◌++◌, [], ◌∷◌, if◌then◌else◌, length};
 ghost use Rattle.std.specs.Fmt.{decimal};
 ghost use Rattle.csicodec_actions.specs.Kinds.{Count};
-ghost use Rattle.csicodec_actions.specs.Written.{Item, Unless, shown, two};
+ghost use Rattle.csicodec_actions.specs.Written.{Unless, shown, two};
 
 use csicodec_base::{OneBased, Text};
 
-/// A count that is left out where it is 1.
-pub(crate) trait EncodeCSIParam {
-    ghost item: { Self → Item };
-
-    /// Appends the parameter and the final byte.
-    fn write_csi(&self, text: &mut Text, control: u8)
-        requires room { length text.old ≤ 20 }
-        requires ascii { control < 128 }
-        ensures { text.new ≡ text.old ++ shown (item self.now ∷ []) (control ∷ []) };
-}
-
-impl EncodeCSIParam for u32 {
-    ghost item = { λ n. Unless 1 Count n };
-
-    fn write_csi(&self, text: &mut Text, control: u8) {
-        if *self != 1 {
-            text.push_u32(*self);
-        }
-        text.push(control);
+/// A count, unless it is 1, and the final byte.
+pub(crate) fn write_count(text: &mut Text, count: u32, control: u8)
+    requires room { length text.old ≤ 20 }
+    requires ascii { control < 128 }
+    ensures { text.new ≡ text.old ++ shown (Unless 1 Count count ∷ []) (control ∷ []) }
+{
+    if count != 1 {
+        text.push_u32(count);
     }
-}
-
-impl EncodeCSIParam for OneBased {
-    ghost item = { λ n. Unless 1 Count n };
-
-    fn write_csi(&self, text: &mut Text, control: u8) {
-        self.as_one_based().write_csi(text, control);
-    }
+    text.push(control);
 }
 
 /// The number of a choice, unless it is 0, and the final byte.

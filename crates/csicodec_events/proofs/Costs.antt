@@ -1,10 +1,10 @@
 -- Where a reader stops, with a sequence or without one: no further than the sequence does.
-use Rattle.std.proofs.Common.{◌≡◌, ℕ, ◌+◌, ◌≤◌, ◌⊎◌, refl, subst, List, [], ◌∷◌, ◌++◌, length, take, drop, sym, ap, ◌∙◌, inl, inr, append_assoc, arith}
-use Rattle.std.proofs.lemmas.List.{length-append, length-take, take-append-drop}
+use Rattle.std.proofs.Common.{◌≡◌, ℕ, ◌+◌, ◌≤◌, subst, Some, List, [], ◌∷◌, ◌++◌, length, take, drop, sym, ap, ◌∙◌, inl, inr, append_assoc, arith}
+use Rattle.std.proofs.{lemmas.List.length-append, lemmas.List.length-take, lemmas.List.take-append-drop, lemmas.Option.same_Some}
 use Rattle.std.specs.List.{AllByRecursion, prefix_len}
 use Rattle.csicodec_tokens.specs.declared.reader.ReadError.TheVariants.{NotCsi, BadByte, NumberTooLarge, Truncated, Memory}
-use Rattle.csicodec_tokens.specs.{declared.param.CsiParam.CsiParam, declared.reader.ReadError.ReadError, Fault.Begins, Fault.FaultOf, Fault.IsLeast}
-use Rattle.csicodec_tokens.specs.{Fault.Refuses, Sequence.IsBodyByte, Sequence.Reads}
+use Rattle.csicodec_tokens.specs.{declared.param.CsiParam.CsiParam, declared.reader.ReadError.ReadError, Fault.Begins, Fault.IsLeast, Fault.Refuses}
+use Rattle.csicodec_tokens.specs.{Sequence.IsBodyByte, Sequence.Reads, Words.place}
 use Rattle.csicodec_tokens.proofs.Spelled.{IsBody-from_spelling}
 use Rattle.csicodec_events.specs.Events.{is_passed, stop}
 use Rattle.csicodec_events.proofs.Sequences.{passed_body}
@@ -33,15 +33,14 @@ all_cost limit bytes b =
     omega (arith, most, length-take limit bytes, length-take (stop 0 bytes + 1) bytes)
 
 -- they begin one up to this place, and not with it
-pub least_cost : (limit : ℕ) (bytes : List ℕ) (place : ℕ) → IsLeast (take limit bytes) place
-    → place + 1 ≤ length (take (stop 0 bytes + 1) bytes)
-least_cost limit bytes place l =
-    let near = take limit bytes in
-    let parts : bytes ≡ take place near ++ (drop place near ++ drop limit bytes) =
-    sym (take-append-drop limit bytes) ∙ ap (λ (x : List ℕ). x ++ drop limit bytes) (sym (take-append-drop place near)) ∙ append_assoc (take place near) (drop place near) (drop limit bytes) in
-    let most = begun_stop bytes (take place near) (drop place near ++ drop limit bytes) (l.before place (omega arith)) parts in
+least : (limit : ℕ) (bytes near : List ℕ) (p at : ℕ) → near ≡ take limit bytes → p ≡ at → IsLeast near p
+    → length (take (at + 1) near) ≤ length (take (stop 0 bytes + 1) bytes)
+least limit bytes near p at same is l =
+    let parts : bytes ≡ take p near ++ (drop p near ++ drop limit bytes) =
+    sym (take-append-drop limit bytes) ∙ ap (λ (x : List ℕ). x ++ drop limit bytes) (sym same ∙ sym (take-append-drop p near)) ∙ append_assoc (take p near) (drop p near) (drop limit bytes) in
+    let most = begun_stop bytes (take p near) (drop p near ++ drop limit bytes) (l.before p (omega arith)) parts in
     let within = l.within in
-    omega (arith, most, within, length-take place near, length-take limit bytes, length-take (stop 0 bytes + 1) bytes)
+    omega (arith, is, most, within, ap length same, length-take p near, length-take (at + 1) near, length-take limit bytes, length-take (stop 0 bytes + 1) bytes)
 
 -- a sequence stands in front
 pub read_cost : (limit : ℕ) (bytes rest : List ℕ) (list : List CsiParam) (final n : ℕ)
@@ -58,27 +57,14 @@ read_cost limit bytes rest list final n (front, s, split) len =
     let whole : length (take limit bytes) ≡ length front + length rest = ap length split ∙ length-append front rest in
     omega (arith, most, long, whole, len, length-take limit bytes, length-take (stop 0 bytes + 1) bytes)
 
--- ---- by the error of a reader
-
-pub refused_fault : (near : List ℕ) (room : ℕ) (e : ReadError) → Refuses near room e
-    → (e ≡ Memory → ⊥) → FaultOf near e
-refused_fault near room (NotCsi place) r other = r
-refused_fault near room (BadByte place) r other = r
-refused_fault near room (NumberTooLarge place) r other = r
-refused_fault near room (Truncated place) r other = r
-refused_fault near room Memory r other = absurd (other refl)
-
-pub truncated_cost : (limit : ℕ) (bytes : List ℕ) (e : ReadError) (place : ℕ)
-    → e ≡ Truncated place → FaultOf (take limit bytes) e
-    → place ≤ length (take (stop 0 bytes + 1) bytes)
-truncated_cost limit bytes e place is f =
-    let g = subst (FaultOf (take limit bytes)) is f in
-    let most = all_cost limit bytes g.1.0 in
-    omega (arith, most, g.1.1)
-
-pub fault_cost : (limit : ℕ) (bytes : List ℕ) (e : ReadError) (place : ℕ)
-    → (e ≡ NotCsi place) ⊎ ((e ≡ BadByte place) ⊎ (e ≡ NumberTooLarge place))
-    → FaultOf (take limit bytes) e → place + 1 ≤ length (take (stop 0 bytes + 1) bytes)
-fault_cost limit bytes e place (inl is) f = least_cost limit bytes place (subst (FaultOf (take limit bytes)) is f).1.0
-fault_cost limit bytes e place (inr (inl is)) f = least_cost limit bytes place (subst (FaultOf (take limit bytes)) is f).1.0
-fault_cost limit bytes e place (inr (inr is)) f = least_cost limit bytes place (subst (FaultOf (take limit bytes)) is f).1.0
+-- by the error of a reader
+pub fault_cost : (near : List ℕ) (room : ℕ) (e : ReadError) (limit at : ℕ) (bytes : List ℕ) → Refuses near room e
+    → near ≡ take limit bytes → place e ≡ Some at
+    → length (take (at + 1) near) ≤ length (take (stop 0 bytes + 1) bytes)
+fault_cost near room (Truncated p) limit at bytes f same is =
+    let most = all_cost limit bytes (subst Begins same f.1.0) in
+    omega (arith, most, ap length same, length-take (at + 1) near)
+fault_cost near room (NotCsi p) limit at bytes f same is = least limit bytes near p at same (same_Some p at is) f.1.0
+fault_cost near room (BadByte p) limit at bytes f same is = least limit bytes near p at same (same_Some p at is) f.1.0
+fault_cost near room (NumberTooLarge p) limit at bytes f same is = least limit bytes near p at same (same_Some p at is) f.1.0
+fault_cost near room Memory limit at bytes f same is = absurd cc

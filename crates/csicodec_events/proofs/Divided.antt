@@ -1,16 +1,17 @@
 -- A span as the smallest steps, a step for each of its parts, and any event.
-use Rattle.std.proofs.Common.{◌≡◌, ◌≢◌, ◌⊎◌, ℕ, ◌<◌, Bool, false, List, [], ◌∷◌, ◌++◌, length, refl, sym, ap, subst, ◌∙◌, inl, inr, append_assoc, arith, true, drop}
-use Rattle.std.proofs.{lemmas.Bool.cases_Bool, lemmas.Bool.eqb-true, lemmas.Bool.Decides.nat_tests}
+use Rattle.std.proofs.Common.{◌≡◌, ◌≢◌, ◌⊎◌, ℕ, ◌<◌, Bool, true, false, List, [], ◌∷◌, ◌++◌, length, drop, refl, sym, ap, subst, ◌∙◌, inl, inr, append_assoc, arith}
+use Rattle.std.proofs.{lemmas.Bool.cases_Bool, lemmas.Bool.eqb-true, lemmas.Bool.Decides.nat_tests, lemmas.Grind.flat_map-append}
+use Rattle.std.proofs.{lemmas.List.append_cancel_left, lemmas.List.length-append}
 use Rattle.std.specs.{Prelude.◌==◌, Prelude.if◌then◌else◌, List.AllByRecursion, List.flat_map}
 use Rattle.csicodec_spans.specs.Parts.{Part, part, Allows, AllowsCsi, AreAll, AreFirstParts, AreOne, IsFirstPart, IsMaximal, IsMore, bytes_of}
 use Rattle.csicodec_spans.specs.{declared.table.Kind.Kind, declared.table.Mode.Mode, Table.Answer, Table.More, Table.ahead}
-use Rattle.csicodec_spans.proofs.{Agrees.opens, Agrees.text_goes_on, Kept.parts_join, Apart.said}
-use Rattle.csicodec_events.specs.Events.{BeginsCsi, IsHeld, IsSpan, IsText, Piece, begins, byte_by_byte, divided, onward, piece, pieces_of, AreTold, GoesWrong, IsControl, IsTold, IsWrong, before_stop, from_stop, is_final, pieces}
+use Rattle.csicodec_spans.proofs.{Agrees.opens, Agrees.text_goes_on, Kept.parts_join, Apart.said, Missed.told_part, Spanned.cut_parts, Spanned.span_all}
+use Rattle.csicodec_events.specs.Events.{BeginsCsi, IsHeld, IsSpan, IsText, Piece, begins, byte_by_byte, divided, onward, piece, pieces_of, AreTold, GoesWrong, IsControl, IsTold, IsWrong, before_stop, from_stop, is_control, is_final, pieces, without_controls}
 use Rattle.csicodec_events.specs.{declared.event.Event.Event, declared.event.Events.Events, Characters.is_unfinished, declared.event.Told.Told}
-use Rattle.csicodec_events.proofs.Moves.{Divides, IsMove, IsPart, move_divides, none_divides, one_divides, one_part, divides_on}
+use Rattle.csicodec_events.proofs.Moves.{Divides, Done, Then, IsBy, IsPart, divides_on, one_divides, one_part, text_fit}
 use Rattle.csicodec_events.proofs.Looked.{AreInside, IsLooked, is_inside, looked_control, looked_met, no_control, over_inside, over_shape}
-use Rattle.csicodec_events.proofs.{Fronts.event_of, Fronts.front, Unfinished.text_sure, Run.met_within, Steps.halves}
-use Rattle.csicodec_tokens.specs.declared.param.CsiParam.{CsiParam}
+use Rattle.csicodec_events.proofs.{Fronts.event_of, Fronts.front, Fronts.is_divided, Unfinished.text_sure, Run.met_within, Steps.halves}
+use Rattle.csicodec_tokens.specs.{declared.param.CsiParam.CsiParam, Sequence.Seq}
 use Rattle.csicodec_spans.specs.declared.table.Kind.TheVariants as kind
 use Rattle.csicodec_spans.specs.declared.table.Mode.TheVariants as mode
 use Rattle.csicodec_events.specs.declared.event.Event.TheVariants as event
@@ -30,19 +31,6 @@ divided_on x a b same =
 
 pub divided_further : (x : Event) (a : List ℕ) → begins x a ≡ false → divided x a ≡ byte_by_byte x a
 divided_further x a none = ap (λ (t : Bool). (if t then piece x [] ∷ [] else []) ++ byte_by_byte x a) none
-
--- a string, or what went wrong
-abbrev IsDivided : Kind → Type 0
-IsDivided k = (k ≡ kind.Str) ⊎ (k ≡ kind.Other)
-
-pieces_divided : (k : Kind) (text : List ℕ) → IsDivided k
-    → pieces_of (event_of k) text ≡ divided (event_of k) text
-pieces_divided k text (inl str) = rw str refl
-pieces_divided k text (inr other) = rw other refl
-
-no_text : (k : Kind) → IsDivided k → k ≡ kind.Text → ⊥
-no_text k (inl str) text = cc
-no_text k (inr other) text = cc
 
 -- ---- where no sequence begins
 
@@ -65,176 +53,115 @@ kind_other limit m a bytes rest p csi other h b = elim (csi_kind limit bytes p.b
   | inr is ↦ other is
 ]
 
--- ---- parts that go on with what is open
+-- a span but for a control sequence or what went wrong stands where no sequence begins
+pub span_other : (e : Events) (k : Kind) (bytes text rest : List ℕ) (after : Events) → k ≢ kind.Csi
+    → k ≢ kind.Other → IsSpan e k bytes text rest after → BeginsCsi bytes → ⊥
+span_other e k bytes text rest after csi other s = by s.cuts.parts (span_all k text s.cuts.parts s.cuts.span) s.cuts.first
+  where
+    by : (parts : List Part) → AreAll k text parts → AreFirstParts e.limit e.mode bytes parts rest s.next → BeginsCsi bytes → ⊥
+    by [] all f = absurd (omega (arith, all.some))
+    by (p ∷ parts) all f = kind_other e.limit e.mode f.1 bytes f.0 p (λ is. csi (sym all.all.0 ∙ is)) (λ is. other (sym all.all.0 ∙ is)) f.2
 
-abbrev GoOn : ℕ → Mode → List ℕ → List Part → Type 0
-GoOn limit m bytes parts = (some more : List Part) (rest : List ℕ) (after : Mode)
-    → parts ≡ some ++ more → 0 < length more → AreFirstParts limit m bytes some rest after
-    → IsMore (ahead after rest)
-
-go_on_behind : (limit : ℕ) (m a : Mode) (bytes rest : List ℕ) (p : Part) (parts : List Part)
-    → IsFirstPart limit m bytes p rest a → AreOne limit m bytes [] (p ∷ parts)
-    → GoOn limit a rest parts
-go_on_behind limit m a bytes rest p parts first one some more behind after e second s =
-    one (p ∷ some) more behind after (ap (λ (x : List Part). p ∷ x) e) (omega arith) second (rest, a, first, s)
-
-go_on_next : (limit : ℕ) (m a : Mode) (bytes rest : List ℕ) (p : Part) (parts : List Part)
-    → IsFirstPart limit m bytes p rest a → GoOn limit m bytes (p ∷ parts) → GoOn limit a rest parts
-go_on_next limit m a bytes rest p parts first on some more behind after e second s =
-    on (p ∷ some) more behind after (ap (λ (x : List Part). p ∷ x) e) second (rest, a, first, s)
-
--- a part of one
-divided_move : (e : Events) (a : Mode) (bytes rest : List ℕ) (k : Kind) (p : Part) → IsDivided k → (BeginsCsi bytes → ⊥) → p.kind ≡ k
-    → IsFirstPart e.limit e.mode bytes p rest a → IsMove e bytes (divided (event_of k) p.bytes) rest (onward e a 0)
-divided_move e a bytes rest k p is other same first = inl (record {
-  other = other;
-  p = p;
-  next = a;
-  first = first;
-  sure = λ text. absurd (no_text k is (sym same ∙ text));
-  told = sym (pieces_divided k p.bytes is) ∙ ap (λ (j : Kind). pieces_of (event_of j) p.bytes) (sym same);
-  on = refl;
-})
+-- ---- a span of text, a string, or what went wrong
 
 abbrev pub at : Events → Mode → Events
 at e m = onward e m 0
 
-go_divides : (parts : List Part) (e : Events) (m a : Mode) (bytes rest : List ℕ) (k : Kind)
-    → IsDivided k → GoOn e.limit m bytes parts
+-- wherever the parts are divided, this holds of the bytes behind
+abbrev Along : (Mode → List ℕ → Type 0) → ℕ → Mode → List ℕ → List Part → Type 0
+Along P limit m bytes parts = (some more : List Part) (rest : List ℕ) (after : Mode)
+    → parts ≡ some ++ more → 0 < length more → AreFirstParts limit m bytes some rest after → P after rest
+
+-- of text, they are no beginning of a character
+abbrev Sure : Kind → Mode → List ℕ → Type 0
+Sure k after rest = k ≡ kind.Text → is_unfinished rest ≡ false
+
+-- .. and they go on with what is open
+abbrev GoesOn : Kind → Mode → List ℕ → Type 0
+GoesOn k after rest = IsMore (ahead after rest) × Sure k after rest
+
+divided_pieces : (k : Kind) (text : List ℕ) → is_divided k ≡ true → pieces_of (event_of k) text ≡ divided (event_of k) text
+divided_pieces kind.Csi text is = cc
+divided_pieces kind.Esc text is = cc
+divided_pieces kind.Text text is = refl
+divided_pieces kind.Str text is = refl
+divided_pieces kind.Other text is = refl
+
+-- a part of one
+part_move : (e : Events) (a : Mode) (bytes rest : List ℕ) (k : Kind) (p : Part) → is_divided k ≡ true → (BeginsCsi bytes → ⊥) → p.kind ≡ k
+    → Sure k a bytes → IsFirstPart e.limit e.mode bytes p rest a → IsPart e bytes (divided (event_of k) p.bytes) rest (at e a)
+part_move e a bytes rest k p is other same sure first = record {
+  other = other;
+  p = p;
+  next = a;
+  first = first;
+  sure = λ text. sure (sym same ∙ text);
+  told = sym (divided_pieces k p.bytes is) ∙ ap (λ (j : Kind). pieces_of (event_of j) p.bytes) (sym same);
+  on = refl;
+}
+
+further : (parts : List Part) (e : Events) (m a : Mode) (bytes rest : List ℕ) (k : Kind)
+    → is_divided k ≡ true → Along (GoesOn k) e.limit m bytes parts
     → AllByRecursion (λ (p : Part). p.kind ≡ k) parts
     → AreFirstParts e.limit m bytes parts rest a
     → Divides (at e m) bytes (byte_by_byte (event_of k) (flat_map bytes_of parts)) rest (at e a)
-go_divides [] e m a bytes rest k is on all s = rw (s.0, s.1) (none_divides (at e m) bytes)
-go_divides (p ∷ parts) e m a bytes rest k is on all s =
+further [] e m a bytes rest k is on all s = rw (s.0, s.1) Done
+further (p ∷ parts) e m a bytes rest k is on all s =
     let x = event_of k in
-    let more = on [] (p ∷ parts) bytes m refl (omega arith) (refl, refl) in
-    let other = more_other m bytes more in
-    let f = front e.limit m s.1 bytes s.0 p other s.2 in
-    let none : begins x p.bytes ≡ false = subst (λ (j : Kind). begins (event_of j) p.bytes ≡ false) all.0 (f.goes more) in
-    let others = go_divides parts e s.1 a s.0 rest k is (go_on_next e.limit m s.1 bytes s.0 p parts s.2 on) all.1 s.3 in
-    let here = subst (λ (ps : List Piece). IsMove (at e m) bytes ps s.0 (at e s.1)) (divided_further x p.bytes none) (divided_move (at e m) s.1 bytes s.0 k p is other all.0 s.2) in
-    subst (λ (ps : List Piece). Divides (at e m) bytes ps rest (at e a)) (sym (by_byte_on x p.bytes (flat_map bytes_of parts)))
-    (move_divides (at e m) (at e s.1) (at e a) bytes s.0 rest (byte_by_byte x p.bytes) (byte_by_byte x (flat_map bytes_of parts)) here others)
+    let here = on [] (p ∷ parts) bytes m refl (omega arith) (refl, refl) in
+    let other = more_other m bytes here.0 in
+    let f = front e.limit m s.1 bytes s.0 p (ap is_divided all.0 ∙ is) other s.2 in
+    let none : begins x p.bytes ≡ false = subst (λ (j : Kind). begins (event_of j) p.bytes ≡ false) all.0 (f.goes here.0) in
+    let move = subst (λ (ps : List Piece). IsPart (at e m) bytes ps s.0 (at e s.1)) (divided_further x p.bytes none) (part_move (at e m) s.1 bytes s.0 k p is other all.0 here.1 s.2) in
+    let next : Along (GoesOn k) e.limit s.1 s.0 parts = λ some more rest after same full second.
+    on (p ∷ some) more rest after (ap (λ (y : List Part). p ∷ y) same) full (s.0, s.1, s.2, second) in
+    rw (by_byte_on x p.bytes (flat_map bytes_of parts)) (Then (inl move) (further parts e s.1 a s.0 rest k is next all.1 s.3))
 
--- a string, or what went wrong
-all_divides : (parts : List Part) (e after : Events) (a : Mode) (bytes text rest : List ℕ) (k : Kind)
-    → IsDivided k → (BeginsCsi bytes → ⊥) → AreAll k text parts
-    → AreOne e.limit e.mode bytes [] parts → AreFirstParts e.limit e.mode bytes parts rest a
-    → after ≡ at e a → Divides e bytes (pieces_of (event_of k) text) rest after
-all_divides [] e after a bytes text rest k is other all one s on = absurd (omega (arith, all.some))
-all_divides (p ∷ parts) e after a bytes text rest k is other all one s on =
+all_divides : (parts : List Part) (e : Events) (a : Mode) (bytes text rest : List ℕ) (k : Kind)
+    → is_divided k ≡ true → (BeginsCsi bytes → ⊥) → AreAll k text parts
+    → AreOne e.limit e.mode bytes [] parts → Along (Sure k) e.limit e.mode bytes parts
+    → AreFirstParts e.limit e.mode bytes parts rest a → Divides e bytes (pieces_of (event_of k) text) rest (at e a)
+all_divides [] e a bytes text rest k is other all one sure s = absurd (omega (arith, all.some))
+all_divides (p ∷ parts) e a bytes text rest k is other all one sure s =
     let x = event_of k in
     let back = flat_map bytes_of parts in
-    let f = front e.limit e.mode s.1 bytes s.0 p other s.2 in
+    let f = front e.limit e.mode s.1 bytes s.0 p (ap is_divided all.all.0 ∙ is) other s.2 in
     let same : begins x (p.bytes ++ back) ≡ begins x p.bytes = subst (λ (j : Kind). begins (event_of j) (p.bytes ++ back) ≡ begins (event_of j) p.bytes) all.all.0 (f.same back) in
-    let others = go_divides parts e s.1 a s.0 rest k is (go_on_behind e.limit e.mode s.1 bytes s.0 p parts s.2 one) all.all.1 s.3 in
-    let told : pieces_of (event_of k) text ≡ divided x p.bytes ++ byte_by_byte x back = pieces_divided k text is ∙ ap (divided x) (sym all.joined) ∙ divided_on x p.bytes back same in
-    rw (told, on) (move_divides e (at e s.1) (at e a) bytes s.0 rest (divided x p.bytes) (byte_by_byte x back) (divided_move e s.1 bytes s.0 k p is other all.all.0 s.2) others)
+    let next : Along (GoesOn k) e.limit s.1 s.0 parts = λ some more rest after same full second.
+    let whole = ap (λ (y : List Part). p ∷ y) same in
+    let first : AreFirstParts e.limit e.mode bytes (p ∷ some) rest after = (s.0, s.1, s.2, second) in
+    (one (p ∷ some) more rest after whole (omega arith) full first, sure (p ∷ some) more rest after whole full first) in
+    let told : pieces_of x text ≡ divided x p.bytes ++ byte_by_byte x back = divided_pieces k text is ∙ ap (divided x) (sym all.joined) ∙ divided_on x p.bytes back same in
+    rw told (Then (inl (part_move e s.1 bytes s.0 k p is other all.all.0 (sure [] (p ∷ parts) bytes e.mode refl (omega arith) (refl, refl)) s.2))
+    (further parts e s.1 a s.0 rest k is next all.all.1 s.3))
 
-pub esc_other : (e : Events) (bytes text rest : List ℕ) (after : Events)
-    → IsSpan e kind.Esc bytes text rest after → BeginsCsi bytes → ⊥
-esc_other e bytes text rest after s =
-    let first = subst (λ (ps : List Part). AreFirstParts e.limit e.mode bytes ps rest s.next) s.cuts.span s.cuts.first in
-    kind_other e.limit e.mode s.next bytes rest (part kind.Esc text) (λ is. cc) (λ is. cc) (one_part e.limit e.mode s.next bytes rest (part kind.Esc text) first)
+-- a string, or what went wrong
+span_divides : (e : Events) (k : Kind) (bytes text rest : List ℕ) (after : Events) → is_divided k ≡ true → k ≢ kind.Text
+    → (BeginsCsi bytes → ⊥) → IsSpan e k bytes text rest after
+    → Divides e bytes (pieces_of (event_of k) text) rest after
+span_divides e k bytes text rest after is no_text other s =
+    let c = s.cuts in
+    rw s.on (all_divides c.parts e s.next bytes text rest k is other (span_all k text c.parts c.span) c.one (λ some more rest after same full first text. absurd (no_text text)) c.first)
 
 -- an escape sequence
-pub esc_divides : (e : Events) (bytes text rest : List ℕ) (after : Events)
+esc_divides : (e : Events) (bytes text rest : List ℕ) (after : Events)
     → IsSpan e kind.Esc bytes text rest after → Divides e bytes (pieces_of event.Esc text) rest after
 esc_divides e bytes text rest after s =
     let first = subst (λ (ps : List Part). AreFirstParts e.limit e.mode bytes ps rest s.next) s.cuts.span s.cuts.first in
-    let here = one_part e.limit e.mode s.next bytes rest (part kind.Esc text) first in
-    one_divides e after bytes rest (pieces_of event.Esc text) (inl (record {
-      other = esc_other e bytes text rest after s;
+    one_divides (pieces_of event.Esc text) (inl (record {
+      other = span_other e kind.Esc bytes text rest after (λ is. cc) (λ is. cc) s;
       p = part kind.Esc text;
       next = s.next;
-      first = here;
+      first = one_part e.limit e.mode s.next bytes rest (part kind.Esc text) first;
       sure = λ is. absurd cc;
       told = refl;
       on = s.on;
     }))
 
-first_other : (limit : ℕ) (m a : Mode) (bytes text rest : List ℕ) (k : Kind) (parts : List Part)
-    → k ≢ kind.Csi → k ≢ kind.Other → AreAll k text parts → AreFirstParts limit m bytes parts rest a
-    → BeginsCsi bytes → ⊥
-first_other limit m a bytes text rest k [] csi other all s = absurd (omega (arith, all.some))
-first_other limit m a bytes text rest k (p ∷ parts) csi other all s =
-    kind_other limit m s.1 bytes s.0 p (λ is. csi (sym all.all.0 ∙ is)) (λ is. other (sym all.all.0 ∙ is)) s.2
-
-pub str_other : (e : Events) (bytes text rest : List ℕ) (after : Events)
-    → IsSpan e kind.Str bytes text rest after → BeginsCsi bytes → ⊥
-str_other e bytes text rest after s =
-    first_other e.limit e.mode s.next bytes text rest kind.Str s.cuts.parts (λ is. cc) (λ is. cc) s.cuts.span s.cuts.first
-
-pub text_other : (e : Events) (bytes text rest : List ℕ) (after : Events)
-    → IsText e bytes text rest after → BeginsCsi bytes → ⊥
-text_other e bytes text rest after t = let s = t.span in
-    first_other e.limit e.mode s.next bytes (text ++ t.held) t.behind kind.Text s.cuts.parts (λ is. cc) (λ is. cc) s.cuts.span s.cuts.first
-
-pub str_divides : (e : Events) (bytes text rest : List ℕ) (after : Events)
-    → IsSpan e kind.Str bytes text rest after → Divides e bytes (pieces_of event.Str text) rest after
-str_divides e bytes text rest after s =
-    let c = s.cuts in
-    all_divides c.parts e after s.next bytes text rest kind.Str (inl refl) (str_other e bytes text rest after s) c.span c.one c.first s.on
-
-pub other_divides : (e : Events) (bytes text rest : List ℕ) (after : Events)
-    → (BeginsCsi bytes → ⊥) → IsSpan e kind.Other bytes text rest after
-    → Divides e bytes (pieces_of event.Other text) rest after
-other_divides e bytes text rest after none s =
-    let c = s.cuts in
-    all_divides c.parts e after s.next bytes text rest kind.Other (inr refl) none c.span c.one c.first s.on
-
 -- ---- text
-
--- bytes other than ESC
-abbrev AreFree : List ℕ → Type 0
-AreFree bytes = AllByRecursion (λ (b : ℕ). (b == 27) ≡ false) bytes
-
-record IsTextRun (parts : List Part) (a : Mode) : Type 0 where
-  free : AreFree (flat_map bytes_of parts)
-  text : 0 < length parts → a ≡ mode.Text
-
-last_text : (limit : ℕ) (parts : List Part) (m a : Mode) (bytes rest : List ℕ)
-    → AreFirstParts limit m bytes parts rest a → m ≡ mode.Text → (0 < length parts → a ≡ mode.Text)
-    → a ≡ mode.Text
-last_text limit [] m a bytes rest s text others = s.1 ∙ text
-last_text limit (p ∷ parts) m a bytes rest s text others = others (omega arith)
-
-text_run : (limit : ℕ) (parts : List Part) (m a : Mode) (bytes rest : List ℕ)
-    → GoOn limit m bytes parts → AllByRecursion (λ (p : Part). p.kind ≡ kind.Text) parts
-    → AreFirstParts limit m bytes parts rest a → IsTextRun parts a
-text_run limit [] m a bytes rest on all s = record { free = tt; text = λ some. absurd (omega (arith, some)) }
-text_run limit (p ∷ parts) m a bytes rest on all s =
-    let more = on [] (p ∷ parts) bytes m refl (omega arith) (refl, refl) in
-    let f = (front limit m s.1 bytes s.0 p (more_other m bytes more) s.2).text all.0 in
-    let r = text_run limit parts s.1 a s.0 rest (go_on_next limit m s.1 bytes s.0 p parts s.2 on) all.1 s.3 in
-    let back = flat_map bytes_of parts in
-    record {
-      free = subst AreFree (ap (λ (x : List ℕ). x ++ back) (sym f.0.1)) (f.0.2, r.free);
-      text = λ some. last_text limit parts s.1 a s.0 rest s.3 f.1 r.text;
-    }
 
 not_esc : (b : ℕ) → (b == 27) ≡ false → b ≢ 27
 not_esc b e is = grind arith
-
-text_bytes : (e : Events) (v held behind : List ℕ)
-    → ((u w : List ℕ) → v ≡ u ++ w → 0 < length w → is_unfinished (w ++ (held ++ behind)) ≡ false)
-    → AreFree (v ++ held)
-    → Divides (at e mode.Text) (v ++ (held ++ behind)) (byte_by_byte event.Text v) (held ++ behind) (at e mode.Text)
-text_bytes e [] held behind sure free = none_divides (at e mode.Text) (held ++ behind)
-text_bytes e (b ∷ v) held behind sure free =
-    let rest = v ++ (held ++ behind) in
-    let here : IsFirstPart e.limit mode.Text (b ∷ rest) (part kind.Text (b ∷ [])) rest mode.Text =
-    (refl, subst (λ (f : Answer). Allows f e.limit (b ∷ rest) kind.Text (b ∷ []) mode.Text) (sym (text_goes_on b rest (not_esc b free.0))) (refl, refl, refl)) in
-    let others = text_bytes e v held behind (λ u w is some. sure (b ∷ u) w (ap (λ (x : List ℕ). b ∷ x) is) some) free.1 in
-    move_divides (at e mode.Text) (at e mode.Text) (at e mode.Text) (b ∷ rest) rest (held ++ behind) (piece event.Text (b ∷ []) ∷ []) (byte_by_byte event.Text v) (inl (record {
-      other = λ begins. not_esc b free.0 (let same = begins.1 in cc);
-      p = part kind.Text (b ∷ []);
-      next = mode.Text;
-      first = here;
-      sure = λ is. sure [] (b ∷ v) refl (omega arith);
-      told = refl;
-      on = refl;
-    })) others
 
 -- behind text that is as long as it can be stands ESC
 pub esc_behind : (m : Mode) (behind more : List ℕ) (c : ℕ) → m ≡ mode.Text
@@ -246,45 +173,105 @@ esc_behind m behind more c text maximal e = elim (cases_Bool (c == 27)) [
       absurd (maximal (inl refl) (subst IsMore (sym goes) tt))
 ]
 
-text_from : (parts : List Part) (e after : Events) (last_mode : Mode) (bytes text held behind rest : List ℕ)
-    → 0 < length text → AreAll kind.Text (text ++ held) parts → AreOne e.limit e.mode bytes [] parts
-    → AreFirstParts e.limit e.mode bytes parts behind last_mode → IsMaximal kind.Text last_mode behind
-    → IsHeld text held behind → rest ≡ held ++ behind → after ≡ at e last_mode
-    → Divides e bytes (pieces_of event.Text text) rest after
-text_from parts e after last_mode bytes [] held behind rest some all one s maximal holds back on = absurd (omega (arith, some))
-text_from [] e after last_mode bytes (c ∷ v) held behind rest some all one s maximal holds back on = absurd (omega (arith, all.some))
-text_from (p ∷ parts) e after last_mode bytes (c ∷ v) held behind rest some all one s maximal holds back on =
-    let none = first_other e.limit e.mode last_mode bytes (c ∷ (v ++ held)) behind kind.Text (p ∷ parts) (λ is. cc) (λ is. cc) all s in
-    let f = (front e.limit e.mode s.1 bytes s.0 p none s.2).text all.all.0 in
-    let b = f.0.0 in
-    let others = flat_map bytes_of parts in
-    let joined : b ∷ others ≡ c ∷ (v ++ held) = ap (λ (x : List ℕ). x ++ others) (sym f.0.1) ∙ all.joined in
-    let byte : p.bytes ≡ c ∷ [] = f.0.1 ∙ ap (λ (x : ℕ). x ∷ []) (let first : b ≡ c = cc in first) in
-    let later : others ≡ v ++ held = cc in
-    let r = text_run e.limit parts s.1 last_mode s.0 behind (go_on_behind e.limit e.mode s.1 bytes s.0 p parts s.2 one) all.all.1 s.3 in
-    let is_text = last_text e.limit parts s.1 last_mode s.0 behind s.3 f.1 r.text in
-    let esc = λ (d : ℕ) (more : List ℕ) (e : behind ≡ d ∷ more). esc_behind last_mode behind more d is_text maximal e in
-    let rests : s.0 ≡ v ++ (held ++ behind) = parts_join e.limit parts s.1 s.0 behind last_mode s.3 ∙ ap (λ (x : List ℕ). x ++ behind) later ∙ append_assoc v held behind in
-    let whole : bytes ≡ (c ∷ v) ++ (held ++ behind) = s.2.0 ∙ ap (λ (x : List ℕ). x ++ s.0) byte ∙ ap (λ (x : List ℕ). c ∷ x) rests in
-    let sure = λ (u w : List ℕ) (split : c ∷ v ≡ u ++ w) (full : 0 < length w). text_sure (c ∷ v) u w held behind holds split full esc in
-    let run = text_bytes e v held behind (λ u w split full. sure (c ∷ u) w (ap (λ (x : List ℕ). c ∷ x) split) full) (subst AreFree later r.free) in
-    let first : IsPart e bytes (piece event.Text (c ∷ []) ∷ []) (v ++ (held ++ behind)) (at e mode.Text) = record {
-      other = none;
-      p = p;
-      next = mode.Text;
-      first = subst (λ (m : Mode). IsFirstPart e.limit e.mode bytes p (v ++ (held ++ behind)) m) f.1 (subst (λ (x : List ℕ). IsFirstPart e.limit e.mode bytes p x s.1) rests s.2);
-      sure = λ is. subst (λ (x : List ℕ). is_unfinished x ≡ false) (sym whole) (sure [] (c ∷ v) refl (omega arith));
-      told = sym (ap (λ (k : Kind). pieces_of (event_of k) p.bytes) all.all.0 ∙ ap (pieces_of event.Text) byte);
-      on = refl;
-    } in
-    let end : after ≡ at e mode.Text = on ∙ ap (at e) is_text in
-    rw (back, end) (move_divides e (at e mode.Text) (at e mode.Text) bytes (v ++ (held ++ behind)) (held ++ behind) (piece event.Text (c ∷ []) ∷ []) (byte_by_byte event.Text v) (inl first) run)
+-- the first of these parts are the text
+record Halved (limit : ℕ) (m : Mode) (bytes : List ℕ) (parts : List Part) (text : List ℕ) : Type 0 where
+  some : List Part
+  others : List Part
+  rest : List ℕ
+  mid : Mode
+  whole : parts ≡ some ++ others
+  joined : flat_map bytes_of some ≡ text
+  full : 0 < length text → 0 < length some
+  all : AllByRecursion (λ (p : Part). p.kind ≡ kind.Text) some
+  single : AllByRecursion (λ (p : Part). length p.bytes ≡ 1) some
+  first : AreFirstParts limit m bytes some rest mid
+  in_text : mid ≡ mode.Text
 
-pub text_divides : (e : Events) (bytes text rest : List ℕ) (after : Events)
+-- text leaves nothing open
+text_mode : (limit : ℕ) (parts : List Part) (m a : Mode) (bytes rest : List ℕ)
+    → AllByRecursion (λ (p : Part). p.kind ≡ kind.Text) parts → AreFirstParts limit m bytes parts rest a
+    → (m ≡ mode.Text) ⊎ (0 < length parts) → a ≡ mode.Text
+text_mode limit [] m a bytes rest all s (inl text) = s.1 ∙ text
+text_mode limit [] m a bytes rest all s (inr some) = absurd (omega (arith, some))
+text_mode limit (p ∷ parts) m a bytes rest all s h =
+    text_mode limit parts s.1 a s.0 rest all.1 s.3 (inl ((told_part limit m bytes p s.0 s.1 s.2).plain all.0))
+
+halved : (limit : ℕ) (parts : List Part) (m a : Mode) (bytes behind text held : List ℕ)
+    → AllByRecursion (λ (p : Part). p.kind ≡ kind.Text) parts → AreFirstParts limit m bytes parts behind a
+    → flat_map bytes_of parts ≡ text ++ held → (m ≡ mode.Text) ⊎ (0 < length text)
+    → Halved limit m bytes parts text
+halved limit parts m a bytes behind [] held all s joined (inr some) = absurd (omega (arith, some))
+halved limit parts m a bytes behind [] held all s joined (inl text) = record {
+  some = [];
+  others = parts;
+  rest = bytes;
+  mid = m;
+  whole = refl;
+  joined = refl;
+  full = λ some. absurd (omega (arith, some));
+  all = tt;
+  single = tt;
+  first = (refl, refl);
+  in_text = text;
+}
+halved limit [] m a bytes behind (c ∷ text) held all s joined h = absurd cc
+halved limit (p ∷ parts) m a bytes behind (c ∷ text) held all s joined h =
+    by p.bytes one refl joined (λ later. halved limit parts s.1 a s.0 behind text held all.1 s.3 later (inl ((told_part limit m bytes p s.0 s.1 s.2).plain all.0)))
+  where
+    one : length p.bytes ≡ 1
+    one = (text_fit limit m s.1 bytes s.0 p all.0 s.2).1
+
+    by : (front : List ℕ) → length front ≡ 1 → p.bytes ≡ front → front ++ flat_map bytes_of parts ≡ c ∷ (text ++ held)
+        → (flat_map bytes_of parts ≡ text ++ held → Halved limit s.1 s.0 parts text) → Halved limit m bytes (p ∷ parts) (c ∷ text)
+    by [] len is joined others = absurd (omega (arith, len))
+    by (b ∷ d ∷ front) len is joined others = absurd (omega (arith, len))
+    by (b ∷ []) len is joined others =
+        let byte : b ≡ c = cc in
+        let g = others cc in
+        record {
+          some = p ∷ g.some;
+          others = g.others;
+          rest = g.rest;
+          mid = g.mid;
+          whole = ap (λ (y : List Part). p ∷ y) g.whole;
+          joined = ap (λ (x : List ℕ). x ++ flat_map bytes_of g.some) (is ∙ ap (λ (x : ℕ). x ∷ []) byte) ∙ ap (λ (x : List ℕ). c ∷ x) g.joined;
+          full = λ _. omega arith;
+          all = (all.0, g.all);
+          single = (one, g.single);
+          first = (s.0, s.1, s.2, g.first);
+          in_text = g.in_text;
+        }
+
+some_bytes : (some more : List Part) → 0 < length more → AllByRecursion (λ (p : Part). length p.bytes ≡ 1) (some ++ more)
+    → 0 < length (flat_map bytes_of more)
+some_bytes (p ∷ some) more full h = some_bytes some more full h.1
+some_bytes [] [] full h = absurd (omega (arith, full))
+some_bytes [] (p ∷ more) full h = omega (arith, h.0, length-append p.bytes (flat_map bytes_of more))
+
+text_divides : (e : Events) (bytes text rest : List ℕ) (after : Events)
     → IsText e bytes text rest after → Divides e bytes (pieces_of event.Text text) rest after
 text_divides e bytes text rest after t =
     let s = t.span in
-    text_from s.cuts.parts e after s.next bytes text t.held t.behind rest t.some s.cuts.span s.cuts.one s.cuts.first s.maximal t.holds t.goes_on s.on
+    let c = s.cuts in
+    let end = t.held ++ t.behind in
+    let none = span_other e kind.Text bytes (text ++ t.held) t.behind after (λ is. cc) (λ is. cc) s in
+    let h = halved e.limit c.parts e.mode s.next bytes t.behind text t.held c.span.all c.first c.span.joined (inr t.some) in
+    let split : bytes ≡ text ++ end = cut_parts e.limit e.mode bytes kind.Text (text ++ t.held) t.behind s.next c ∙ append_assoc text t.held t.behind in
+    let front : text ++ h.rest ≡ text ++ end = ap (λ (x : List ℕ). x ++ h.rest) (sym h.joined) ∙ sym (parts_join e.limit h.some e.mode bytes h.rest h.mid h.first) ∙ split in
+    let rests : rest ≡ h.rest = t.goes_on ∙ sym (append_cancel_left text h.rest end front) in
+    let is_text = text_mode e.limit c.parts e.mode s.next bytes t.behind c.span.all c.first (inr c.span.some) in
+    let on : after ≡ at e h.mid = s.on ∙ ap (at e) (is_text ∙ sym h.in_text) in
+    let sure : Along (Sure kind.Text) e.limit e.mode bytes h.some = λ some more behind m whole full first is.
+    let u = flat_map bytes_of some in
+    let v = flat_map bytes_of more in
+    let parts : text ≡ u ++ v = sym h.joined ∙ ap (flat_map bytes_of) whole ∙ flat_map-append bytes_of some more in
+    let there : u ++ behind ≡ u ++ (v ++ end) = sym (parts_join e.limit some e.mode bytes behind m first) ∙ split ∙ ap (λ (x : List ℕ). x ++ end) parts ∙ append_assoc u v end in
+    let single = subst (AllByRecursion (λ (p : Part). length p.bytes ≡ 1)) whole h.single in
+    subst (λ (x : List ℕ). is_unfinished x ≡ false) (sym (append_cancel_left u behind (v ++ end) there))
+    (text_sure text u v t.held t.behind t.holds parts (some_bytes some more full single) (λ d more e. esc_behind s.next t.behind more d is_text s.maximal e)) in
+    rw (rests, on) (all_divides h.some e h.mid bytes text h.rest kind.Text refl none (record { some = h.full t.some; all = h.all; joined = h.joined })
+    (λ some more behind m whole full rest first. c.one some (more ++ h.others) behind m (h.whole ∙ ap (λ (x : List Part). x ++ h.others) whole ∙ append_assoc some more h.others) full (omega (arith, rest, length-append more h.others)) first)
+    sure h.first)
 
 -- ---- bytes of a sequence that went wrong
 
@@ -311,12 +298,8 @@ bad_byte e b rest m (goes, none) = record {
 
 inside_divides : (e : Events) (xs rest : List ℕ) → AreInside xs
     → Divides (at e mode.BadCsi) (xs ++ rest) (byte_by_byte event.Other xs) rest (at e mode.BadCsi)
-inside_divides e [] rest h = none_divides (at e mode.BadCsi) rest
-inside_divides e (b ∷ xs) rest h =
-    let here = bad_byte e b (xs ++ rest) mode.BadCsi (inside_goes b (xs ++ rest) h.0) in
-    move_divides (at e mode.BadCsi) (at e mode.BadCsi) (at e mode.BadCsi) (b ∷ (xs ++ rest))
-    (xs ++ rest) rest (piece event.Other (b ∷ []) ∷ []) (byte_by_byte event.Other xs) (inl here)
-    (inside_divides e xs rest h.1)
+inside_divides e [] rest h = Done
+inside_divides e (b ∷ xs) rest h = Then (inl (bad_byte e b (xs ++ rest) mode.BadCsi (inside_goes b (xs ++ rest) h.0))) (inside_divides e xs rest h.1)
 
 -- up to where it goes wrong, and with a final byte there
 goes_divides : (e : Events) (xs behind text rest : List ℕ) (m : Mode) → AreInside xs
@@ -328,8 +311,7 @@ goes_divides e xs [] text rest m h g =
 goes_divides e xs (b ∷ more) text rest m h (inl g) =
     let start = byte_by_byte event.Other xs in
     let one = piece event.Other (b ∷ []) ∷ [] in
-    let last = one_divides (at e mode.BadCsi) (at e mode.Text) (b ∷ more) more one (inl (bad_byte e b more mode.Text (final_ends b more g.0))) in
-    let all = divides_on (at e mode.BadCsi) (at e mode.BadCsi) (at e mode.Text) (xs ++ b ∷ more) (b ∷ more) more start one (inside_divides e xs (b ∷ more) h) last in
+    let all = divides_on (inside_divides e xs (b ∷ more) h) (one_divides one (inl (bad_byte e b more mode.Text (final_ends b more g.0)))) in
     (start ++ one, ap (pieces_of event.Other) g.1 ∙ ap (λ (ps : List Piece). pieces_of event.Other (27 ∷ 91 ∷ []) ++ ps) (by_byte_on event.Other xs (b ∷ [])), rw (g.2, g.3) all)
 goes_divides e xs (b ∷ more) text rest m h (inr g) =
     (byte_by_byte event.Other xs, ap (pieces_of event.Other) g.1, rw (g.2, g.3) (inside_divides e xs (b ∷ more) h))
@@ -344,13 +326,13 @@ wrong_divides e after bytes text rest begins l w =
     let form = over_shape e bytes begins in
     let g = goes_divides e xs behind text rest w.next (over_inside e bytes begins l) (subst (λ (x : List ℕ). GoesWrong x behind text rest w.next) form w.goes) in
     let whole : bytes ≡ 27 ∷ 91 ∷ (xs ++ behind) = (halves e bytes).whole ∙ ap (λ (x : List ℕ). x ++ behind) form in
-    rw (g.1, w.on) (move_divides e (at e mode.BadCsi) (at e w.next) bytes (xs ++ behind) rest (pieces_of event.Other (27 ∷ 91 ∷ [])) g.0 (inr (inr (inr (record {
+    rw (g.1, w.on) (Then (inr (inr (record {
       stands = whole;
       within = met_within e bytes (looked_met e bytes l);
       why = w.why;
       told = refl;
       on = refl;
-    })))) g.2)
+    }))) g.2)
 
 -- ---- any event
 
@@ -369,41 +351,49 @@ told_goes event.Text e bytes text rest list after l h =
     record { divides = text_divides e bytes text rest after h; looked = none_looked e after h.span.next rest h.span.on }
 told_goes (event.Control b) e bytes text rest list after l h =
     let c = h.1 in
-    let control = subst (λ (x : List ℕ). IsControl e (before_stop e bytes) (from_stop e bytes) b bytes x rest after) c.none c in
+    let told : IsBy true e bytes b c.more (piece (event.Control b) text ∷ []) rest after = (ap (λ (t : List ℕ). piece (event.Control b) t ∷ []) c.none, c.stays, c.looked) in
     record {
-      divides = rw c.none (one_divides e after bytes rest (piece (event.Control b) [] ∷ []) (inr (inl (record { begins = h.0; b = b; control = control; told = refl }))));
-      looked = looked_control e after bytes rest b h.0 l control;
+      divides = one_divides (piece (event.Control b) text ∷ []) (inr (inl (record {
+        begins = h.0;
+        b = b;
+        more = c.more;
+        stands = c.stands;
+        short = c.short;
+        told = subst (λ (t : Bool). IsBy t e bytes b c.more (piece (event.Control b) text ∷ []) rest after) (sym c.control) told;
+      })));
+      looked = looked_control e after bytes rest b h.0 l (subst (λ (x : List ℕ). IsControl e (before_stop e bytes) (from_stop e bytes) b bytes x rest after) c.none c);
     }
 told_goes (event.Csi final) e bytes text rest list after l h =
     let c = h.1 in
+    let seq = subst (λ (t : List ℕ). Seq (without_controls t) list final) c.whole c.seq in
+    let told : IsBy false e bytes c.last rest (piece (event.Csi final) text ∷ []) rest after = (list, final, seq, ap (λ (t : List ℕ). piece (event.Csi final) t ∷ []) c.whole, refl, c.closed) in
+    let other = no_control e after bytes text rest rest list final c.last h.0 l c c.stands in
     record {
-      divides = one_divides e after bytes rest (pieces_of (event.Csi final) text) (inr (inr (inl (record {
+      divides = one_divides (piece (event.Csi final) text ∷ []) (inr (inl (record {
         begins = h.0;
-        list = list;
-        final = final;
-        text = text;
-        csi = c;
-        other = λ b more stands. no_control e after bytes text rest more list final b h.0 l c stands;
-        told = refl;
-      }))));
+        b = c.last;
+        more = rest;
+        stands = c.stands;
+        short = c.short;
+        told = subst (λ (t : Bool). IsBy t e bytes c.last rest (piece (event.Csi final) text ∷ []) rest after) (sym other) told;
+      })));
       looked = none_looked e after mode.Text rest c.closed;
     }
 told_goes event.Esc e bytes text rest list after l h =
     record { divides = esc_divides e bytes text rest after h; looked = none_looked e after h.next rest h.on }
-told_goes event.Str e bytes text rest list after l h =
-    record { divides = str_divides e bytes text rest after h; looked = none_looked e after h.next rest h.on }
+told_goes event.Str e bytes text rest list after l h = record {
+  divides = span_divides e kind.Str bytes text rest after refl (λ is. cc) (span_other e kind.Str bytes text rest after (λ is. cc) (λ is. cc) h) h;
+  looked = none_looked e after h.next rest h.on;
+}
 told_goes event.Other e bytes text rest list after l (inl h) =
-    record { divides = other_divides e bytes text rest after h.0 h.1; looked = none_looked e after h.1.next rest h.1.on }
+    record { divides = span_divides e kind.Other bytes text rest after refl (λ is. cc) h.0 h.1; looked = none_looked e after h.1.next rest h.1.on }
 told_goes event.Other e bytes text rest list after l (inr h) =
     record { divides = wrong_divides e after bytes text rest h.0 l h.1; looked = none_looked e after h.1.next rest h.1.on }
 
 pub all_go : (told : List Told) (e after : Events) (bytes rest : List ℕ) → IsLooked e bytes
     → AreTold e bytes told rest after → Goes e bytes (pieces told) rest after
-all_go [] e after bytes rest l s = rw (s.0, s.1) (record { divides = none_divides e bytes; looked = l })
+all_go [] e after bytes rest l s = rw (s.0, s.1) (record { divides = Done; looked = l })
 all_go (t ∷ told) e after bytes rest l s =
     let first = told_goes t.event e bytes t.bytes.now t.rest.now s.0 s.1 l s.2 in
     let others = all_go told s.1 after t.rest.now rest first.looked s.3 in
-    record {
-      divides = divides_on e s.1 after bytes t.rest.now rest (pieces_of t.event t.bytes.now) (pieces told) first.divides others.divides;
-      looked = others.looked;
-    }
+    record { divides = divides_on first.divides others.divides; looked = others.looked }

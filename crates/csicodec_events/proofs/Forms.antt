@@ -1,258 +1,177 @@
 -- Of the forms of input: how far they go, that later bytes change nothing, and the bytes joined.
-use Rattle.std.proofs.Common.{◌≡◌, ℕ, suc, ◌+◌, ◌*◌, ◌-◌, ◌==◌, ◌<◌, ◌≤◌, ◌&&◌, ◌||◌, Bool, true, false, nat_le, if◌then◌else◌, inl, inr, List, [], ◌∷◌, ◌++◌, length, drop, refl, sym, ap, subst, ◌∙◌, append_assoc, append-nil, arith}
-use Rattle.std.proofs.{lemmas.Bool.eqb-true, lemmas.Bool.cases_Bool, lemmas.Grind.flat_map-append, lemmas.List.length-drop, lemmas.List.take-append-drop}
-use Rattle.std.proofs.{lemmas.List.drop-append-le}
-use Rattle.std.specs.List.{concat, flat_map}
+use Rattle.std.proofs.Common.{◌≡◌, ℕ, ◌+◌, ◌-◌, ◌==◌, ◌<◌, ◌&&◌, ◌||◌, Bool, true, false, nat_le, if◌then◌else◌, inl, inr, List, [], ◌∷◌, ◌++◌, length, refl, sym, ap, subst, ◌∙◌, append_assoc, append-nil, lt-ltb, arith}
+use Rattle.std.proofs.{lemmas.Bool.and_parts, lemmas.Bool.eqb-true, lemmas.Bool.ltb-true, lemmas.Bool.cases_Bool, lemmas.Grind.flat_map-append}
+use Rattle.std.proofs.{lemmas.List.take-append-drop}
+use Rattle.std.specs.{List.concat, List.flat_map, Prelude.nat_lt}
 use Rattle.csicodec_tokens.specs.declared.param.CsiParam.{CsiParam}
 use Rattle.csicodec_spans.specs.declared.table.Mode.{Mode}
-use Rattle.csicodec_events.specs.Input.{AreSent, InputChunks, IsSent, IsSentBy, IsSure, ahead, behind_escape, bytes_of, char_width, csi, escape, escape_in_string, in_input, is_digit, is_opener, is_printable, is_wide, last, last_three, last_two, linux, mouse, rxvt, second, ss3, string, two_digits}
+use Rattle.csicodec_events.specs.Input.{AreSent, InputChunks, IsSent, IsSentBy, IsSure, ahead, behind_escape, bytes_of, characters, csi, escape, escape_in_string, in_input, is_digit, is_opener, is_printable, is_wide, linux, rxvt, ss3, string, two_digits}
 use Rattle.csicodec_events.specs.{declared.event.Event.Event, declared.event.Events.Events, declared.input.Dialect.Dialect, declared.input.Form.Form}
-use Rattle.csicodec_events.specs.{declared.input.InputEvent.InputEvent, declared.input.Sent.Sent, declared.input.Width.Width, Characters.is_from, Events.IsTold}
+use Rattle.csicodec_events.specs.{declared.input.InputEvent.InputEvent, declared.input.Sent.Sent, Characters.is_from, Events.IsTold}
 use Rattle.csicodec_events.proofs.Run.{joined_on, parts_of}
 use Rattle.csicodec_spans.specs.declared.table.Mode.TheVariants as mode
 use Rattle.csicodec_events.specs.declared.input.Dialect.TheVariants as dialect
 use Rattle.csicodec_events.specs.declared.input.Form.TheVariants as form
 use Rattle.csicodec_events.specs.declared.input.InputEvent.TheVariants as input
-use Rattle.csicodec_events.specs.declared.input.Width.TheVariants as width
 
--- ---- two answers for bytes, and for the same and more: the form is none of output and no longer than the bytes, and it stays
+-- ---- two answers for bytes, and for the same and more: the form is none of output and has bytes, and it stays
 
 -- output has no such event
-abbrev IsOwn : InputEvent → Type 0
-IsOwn i = (told : Event) → i ≡ input.Output told → ⊥
+abbrev is_own : InputEvent → Bool
+is_own (input.Output told) = false
+is_own _ = true
 
-abbrev Fits : ℕ → Form → Type 0
-Fits k (form.Whole i n) = IsOwn i × (0 < n) × (n ≤ k)
-Fits k form.AsOutput = Unit {0}
-Fits k form.Unsure = Unit {0}
+abbrev fits : Form → Bool
+fits (form.Whole i n) = is_own i && nat_lt 0 n
+fits _ = true
 
 abbrev Stays : Form → Form → Type 0
 Stays (form.Whole i n) g = g ≡ form.Whole i n
 Stays form.AsOutput g = g ≡ form.AsOutput
 Stays form.Unsure g = Unit {0}
 
-record Good (k : ℕ) (f g : Form) : Type 0 where
-  fits : Fits k f
+record Good (f g : Form) : Type 0 where
+  fit : fits f ≡ true
   stays : Stays f g
 
-whole : (k n : ℕ) (i : InputEvent) → IsOwn i → 0 < n → n ≤ k → Good k (form.Whole i n) (form.Whole i n)
-whole k n i own some most = record { fits = (own, some, most); stays = refl }
+whole : {i : InputEvent} {n : ℕ} → fits (form.Whole i n) ≡ true → Good (form.Whole i n) (form.Whole i n)
+whole h = record { fit = h; stays = refl }
 
-output : (k : ℕ) → Good k form.AsOutput form.AsOutput
-output k = record { fits = tt; stays = refl }
+output : Good form.AsOutput form.AsOutput
+output = record { fit = refl; stays = refl }
 
-unsure : (k : ℕ) (g : Form) → Good k form.Unsure g
-unsure k g = record { fits = tt; stays = tt }
+unsure : {g : Form} → Good form.Unsure g
+unsure = record { fit = refl; stays = tt }
 
-either : (k : ℕ) (t : Bool) (x y x' y' : Form) → Good k x x' → Good k y y'
-    → Good k (if t then x else y) (if t then x' else y')
-either k true x y x' y' h g = h
-either k false x y x' y' h g = g
+either : {x y x' y' : Form} (t : Bool) → Good x x' → Good y y'
+    → Good (if t then x else y) (if t then x' else y')
+either true h g = h
+either false h g = g
 
--- ---- the characters of a mouse report
+-- ---- each form
 
-abbrev WidthFits : ℕ → Width → Type 0
-WidthFits k width.One = 1 ≤ k
-WidthFits k width.Two = 2 ≤ k
-WidthFits k width.Unsure = Unit {0}
-WidthFits k width.Wrong = Unit {0}
+characters_good : (d : Dialect) (left : ℕ) (begun : Bool) (n : ℕ) (bytes more : List ℕ) → 0 < n
+    → Good (characters d left begun n bytes) (characters d left begun n (bytes ++ more))
+characters_good d left begun n [] [] some = either (left == 0) (whole (lt-ltb 0 n some)) unsure
+characters_good d left begun n [] (b ∷ more) some = either (left == 0) (whole (lt-ltb 0 n some)) unsure
+characters_good d left begun n (a ∷ bytes) more some =
+    let next = characters_good d (left - 1) false (n + 1) bytes more (omega arith) in
+    either (left == 0) (whole (lt-ltb 0 n some))
+    (either begun (either (is_from 128 191 a) next output)
+    (either (is_wide d a)
+    (either (is_from 194 223 a) (characters_good d left true (n + 1) bytes more (omega arith)) output) next))
 
-abbrev WidthStays : Width → Width → Type 0
-WidthStays width.One w = w ≡ width.One
-WidthStays width.Two w = w ≡ width.Two
-WidthStays width.Unsure w = Unit {0}
-WidthStays width.Wrong w = w ≡ width.Wrong
+ss3_good : (bytes more : List ℕ) → Good (ss3 bytes) (ss3 (bytes ++ more))
+ss3_good [] more = unsure
+ss3_good (b ∷ bytes) more = either (is_printable b) (whole refl) (whole refl)
 
-record GoodWidth (k : ℕ) (v w : Width) : Type 0 where
-  fits : WidthFits k v
-  stays : WidthStays v w
-
-either_width : (k : ℕ) (t : Bool) (x y x' y' : Width) → GoodWidth k x x' → GoodWidth k y y'
-    → GoodWidth k (if t then x else y) (if t then x' else y')
-either_width k true x y x' y' h g = h
-either_width k false x y x' y' h g = g
-
-undecided : (k : ℕ) (t : Bool) (w : Width) → (t ≡ false → w ≡ width.Wrong) → GoodWidth k (if t then width.Unsure else width.Wrong) w
-undecided k true w h = record { fits = tt; stays = tt }
-undecided k false w h = record { fits = tt; stays = h refl }
-
-second_good : (a : ℕ) (bytes more : List ℕ)
-    → GoodWidth (suc (length bytes)) (second a bytes) (second a (bytes ++ more))
-second_good a [] [] = undecided 1 (is_from 194 223 a) _ (λ e. rw e refl)
-second_good a [] (b ∷ more) = undecided 1 (is_from 194 223 a) _ (λ e. rw e refl)
-second_good a (b ∷ bytes) more =
-    either_width (suc (suc (length bytes))) (is_from 194 223 a && is_from 128 191 b) width.Two
-    width.Wrong width.Two width.Wrong (record { fits = omega arith; stays = refl })
-    (record { fits = tt; stays = refl })
-
-char_good : (d : Dialect) (bytes more : List ℕ)
-    → GoodWidth (length bytes) (char_width d bytes) (char_width d (bytes ++ more))
-char_good d [] more = record { fits = tt; stays = tt }
-char_good d (a ∷ bytes) more =
-    either_width (suc (length bytes)) (is_wide d a) (second a bytes) width.One (second a (bytes ++ more)) width.One (second_good a bytes more) (record { fits = omega arith; stays = refl })
-
-last_good : (n k : ℕ) (v w : Width) → GoodWidth k v w → Good (n + k) (last n v) (last n w)
-last_good n k width.One w g = rw g.stays (whole (n + k) (n + 1) input.Mouse (λ told e. cc) (omega arith) (omega (arith, g.fits)))
-last_good n k width.Two w g = rw g.stays (whole (n + k) (n + 2) input.Mouse (λ told e. cc) (omega arith) (omega (arith, g.fits)))
-last_good n k width.Unsure w g = unsure (n + k) (last n w)
-last_good n k width.Wrong w g = rw g.stays (output (n + k))
-
--- behind a character
-behind : (n j : ℕ) (bytes more : List ℕ) → j ≤ length bytes → (f : List ℕ → Form)
-    → Good (n + j + length (drop j bytes)) (f (drop j bytes)) (f (drop j bytes ++ more))
-    → Good (n + length bytes) (f (drop j bytes)) (f (drop j (bytes ++ more)))
-behind n j bytes more le f g =
-    let same : n + j + length (drop j bytes) ≡ n + length bytes = omega (arith, length-drop j bytes, le) in
-    subst (λ (x : List ℕ). Good (n + length bytes) (f (drop j bytes)) (f x)) (sym (drop-append-le j bytes more le)) (subst (λ (k : ℕ). Good k (f (drop j bytes)) (f (drop j bytes ++ more))) same g)
-
-last_two_good : (d : Dialect) (n : ℕ) (bytes more : List ℕ) (v w : Width)
-    → GoodWidth (length bytes) v w
-    → Good (n + length bytes) (last_two d n bytes v) (last_two d n (bytes ++ more) w)
-last_two_good d n bytes more width.One w g =
-    rw g.stays (behind n 1 bytes more g.fits (λ (x : List ℕ). last (n + 1) (char_width d x)) (last_good (n + 1) (length (drop 1 bytes)) _ _ (char_good d (drop 1 bytes) more)))
-last_two_good d n bytes more width.Two w g =
-    rw g.stays (behind n 2 bytes more g.fits (λ (x : List ℕ). last (n + 2) (char_width d x)) (last_good (n + 2) (length (drop 2 bytes)) _ _ (char_good d (drop 2 bytes) more)))
-last_two_good d n bytes more width.Unsure w g = unsure (n + length bytes) (last_two d n (bytes ++ more) w)
-last_two_good d n bytes more width.Wrong w g = rw g.stays (output (n + length bytes))
-
-last_three_good : (d : Dialect) (n : ℕ) (bytes more : List ℕ) (v w : Width)
-    → GoodWidth (length bytes) v w
-    → Good (n + length bytes) (last_three d n bytes v) (last_three d n (bytes ++ more) w)
-last_three_good d n bytes more width.One w g =
-    rw g.stays (behind n 1 bytes more g.fits (λ (x : List ℕ). last_two d (n + 1) x (char_width d x)) (last_two_good d (n + 1) (drop 1 bytes) more _ _ (char_good d (drop 1 bytes) more)))
-last_three_good d n bytes more width.Two w g =
-    rw g.stays (behind n 2 bytes more g.fits (λ (x : List ℕ). last_two d (n + 2) x (char_width d x)) (last_two_good d (n + 2) (drop 2 bytes) more _ _ (char_good d (drop 2 bytes) more)))
-last_three_good d n bytes more width.Unsure w g = unsure (n + length bytes) (last_three d n (bytes ++ more) w)
-last_three_good d n bytes more width.Wrong w g = rw g.stays (output (n + length bytes))
-
-mouse_good : (d : Dialect) (bytes more : List ℕ)
-    → Good (suc (suc (suc (length bytes)))) (mouse d bytes) (mouse d (bytes ++ more))
-mouse_good d bytes more =
-    let same : 3 + length bytes ≡ suc (suc (suc (length bytes))) = omega arith in
-    subst (λ (k : ℕ). Good k (mouse d bytes) (mouse d (bytes ++ more))) same (last_three_good d 3 bytes more _ _ (char_good d bytes more))
-
--- ---- the other forms
-
-ss3_good : (bytes more : List ℕ) → Good (suc (suc (length bytes))) (ss3 bytes) (ss3 (bytes ++ more))
-ss3_good [] more = unsure _ _
-ss3_good (b ∷ bytes) more = let k = suc (suc (suc (length bytes))) in either k (is_printable b) _ _
-    _ _ (whole k 3 (input.Ss3 b) (λ told e. cc) (omega arith) (omega arith))
-    (whole k 2 (input.Alt 79) (λ told e. cc) (omega arith) (omega arith))
-
-linux_good : (bytes more : List ℕ)
-    → Good (suc (suc (suc (length bytes)))) (linux bytes) (linux (bytes ++ more))
-linux_good [] more = unsure _ _
-linux_good (b ∷ bytes) more = let k = suc (suc (suc (suc (length bytes)))) in either k (is_printable b) _ _ _ _ (whole k 4 (input.Linux b) (λ told e. cc) (omega arith) (omega arith)) (output k)
+linux_good : (bytes more : List ℕ) → Good (linux bytes) (linux (bytes ++ more))
+linux_good [] more = unsure
+linux_good (b ∷ bytes) more = either (is_printable b) (whole refl) output
 
 two_digits_good : (a b : ℕ) (bytes more : List ℕ)
-    → Good (suc (suc (suc (suc (length bytes))))) (two_digits a b bytes)
-    (two_digits a b (bytes ++ more))
-two_digits_good a b [] [] = either 4 (is_digit b) _ _ _ _ (unsure 4 _) (output 4)
-two_digits_good a b [] (c ∷ more) = elim (cases_Bool (is_digit b)) [ inl is ↦ rw is (unsure 4 _) | inr other ↦ rw other (output 4) ]
-two_digits_good a b (c ∷ bytes) more = let k = suc (suc (suc (suc (suc (length bytes))))) in
-    either k (is_digit b && c == 36) _ _ _ _ (whole k 5 (input.Rxvt (10 * (a - 48) + (b - 48))) (λ told e. cc) (omega arith) (omega arith)) (output k)
+    → Good (two_digits a b bytes) (two_digits a b (bytes ++ more))
+two_digits_good a b [] [] = either (is_digit b) unsure output
+two_digits_good a b [] (c ∷ more) = elim (cases_Bool (is_digit b)) [ inl is ↦ rw is unsure | inr other ↦ rw other output ]
+two_digits_good a b (c ∷ bytes) more = either (is_digit b && c == 36) (whole refl) output
 
-rxvt_good : (a : ℕ) (bytes more : List ℕ)
-    → Good (suc (suc (suc (length bytes)))) (rxvt a bytes) (rxvt a (bytes ++ more))
-rxvt_good a [] more = unsure _ _
-rxvt_good a (b ∷ bytes) more = let k = suc (suc (suc (suc (length bytes)))) in
-    either k (b == 36) _ _ _ _ (whole k 4 (input.Rxvt (a - 48)) (λ told e. cc) (omega arith) (omega arith)) (two_digits_good a b bytes more)
+rxvt_good : (a : ℕ) (bytes more : List ℕ) → Good (rxvt a bytes) (rxvt a (bytes ++ more))
+rxvt_good a [] more = unsure
+rxvt_good a (b ∷ bytes) more = either (b == 36) (whole refl) (two_digits_good a b bytes more)
 
-csi_good : (d : Dialect) (bytes more : List ℕ)
-    → Good (suc (suc (length bytes))) (csi d bytes) (csi d (bytes ++ more))
-csi_good d [] more = unsure _ _
-csi_good d (b ∷ bytes) more = let k = suc (suc (suc (length bytes))) in
-    either k (b == 91) _ _ _ _ (linux_good bytes more)
-    (either k (b == 77) _ _ _ _ (mouse_good d bytes more)
-    (either k (is_digit b) _ _ _ _ (rxvt_good b bytes more) (output k)))
+csi_good : (d : Dialect) (bytes more : List ℕ) → Good (csi d bytes) (csi d (bytes ++ more))
+csi_good d [] more = unsure
+csi_good d (b ∷ bytes) more =
+    either (b == 91) (linux_good bytes more)
+    (either (b == 77) (characters_good d 3 false 3 bytes more (omega arith))
+    (either (is_digit b) (rxvt_good b bytes more) output))
 
-string_good : (k : ℕ) (bytes more : List ℕ) → Good k (string bytes) (string (bytes ++ more))
-string_good k [] more = unsure _ _
-string_good k (b ∷ bytes) more = output k
+string_good : (bytes more : List ℕ) → Good (string bytes) (string (bytes ++ more))
+string_good [] more = unsure
+string_good (b ∷ bytes) more = output
 
-escape_good : (d : Dialect) (bytes more : List ℕ)
-    → Good (suc (length bytes)) (escape d bytes) (escape d (bytes ++ more))
-escape_good d [] more = unsure _ _
-escape_good d (b ∷ bytes) more = let k = suc (suc (length bytes)) in
-    either k (b == 79) _ _ _ _ (ss3_good bytes more)
-    (either k (b == 91) _ _ _ _ (csi_good d bytes more)
-    (either k (is_opener b) _ _ _ _ (string_good k bytes more)
-    (either k (b == 27 || nat_le 128 b) _ _ _ _ (whole k 1 input.Escape (λ told e. cc) (omega arith) (omega arith)) (whole k 2 (input.Alt b) (λ told e. cc) (omega arith) (omega arith)))))
+escape_good : (d : Dialect) (bytes more : List ℕ) → Good (escape d bytes) (escape d (bytes ++ more))
+escape_good d [] more = unsure
+escape_good d (b ∷ bytes) more =
+    either (b == 79) (ss3_good bytes more)
+    (either (b == 91) (csi_good d bytes more)
+    (either (is_opener b) (string_good bytes more)
+    (either (b == 27 || nat_le 128 b) (whole refl) (whole refl))))
 
 in_string_good : (d : Dialect) (bytes more : List ℕ)
-    → Good (suc (length bytes)) (escape_in_string d bytes) (escape_in_string d (bytes ++ more))
-in_string_good d [] more = unsure _ _
-in_string_good d (b ∷ bytes) more = let k = suc (suc (length bytes)) in either k (b == 92 || b == 27) _ _ _ _ (output k) (escape_good d (b ∷ bytes) more)
+    → Good (escape_in_string d bytes) (escape_in_string d (bytes ++ more))
+in_string_good d [] more = unsure
+in_string_good d (b ∷ bytes) more = either (b == 92 || b == 27) output (escape_good d (b ∷ bytes) more)
 
 behind_good : (d : Dialect) (m : Mode) (bytes more : List ℕ)
-    → Good (suc (length bytes)) (behind_escape d m bytes) (behind_escape d m (bytes ++ more))
-behind_good d mode.Text bytes more = escape_good d bytes more
+    → Good (behind_escape d m bytes) (behind_escape d m (bytes ++ more))
 behind_good d mode.Osc bytes more = in_string_good d bytes more
 behind_good d mode.Dcs bytes more = in_string_good d bytes more
 behind_good d mode.Str bytes more = in_string_good d bytes more
-behind_good d mode.BadCsi bytes more = escape_good d bytes more
-behind_good d mode.BadEsc bytes more = escape_good d bytes more
+behind_good d _ bytes more = escape_good d bytes more
 
 input_good : (d : Dialect) (m : Mode) (bytes more : List ℕ)
-    → Good (length bytes) (in_input d m bytes) (in_input d m (bytes ++ more))
-input_good d m [] more = unsure _ _
-input_good d m (b ∷ bytes) more = either (suc (length bytes)) (b == 27) _ _ _ _ (behind_good d m bytes more) (output _)
+    → Good (in_input d m bytes) (in_input d m (bytes ++ more))
+input_good d m [] more = unsure
+input_good d m (b ∷ bytes) more = either (b == 27) (behind_good d m bytes more) output
 
 -- ---- what stands in front
 
--- a form stands where no sequence waits
-fresh : (looked : ℕ) (f : Form) (i : InputEvent) (n : ℕ) → (if looked == 0 then f else form.AsOutput) ≡ form.Whole i n → looked ≡ 0
-fresh looked f i n e = elim (cases_Bool (looked == 0)) [ inl is ↦ eqb-true looked 0 is | inr other ↦ let none : form.AsOutput ≡ form.Whole i n = rw other at e in cc ]
-
-ahead_fresh : (d : Dialect) (m : Mode) (looked : ℕ) (bytes : List ℕ) (i : InputEvent) (n : ℕ) → ahead d m looked bytes ≡ form.Whole i n → looked ≡ 0
-ahead_fresh dialect.Output m looked bytes i n e = cc
-ahead_fresh dialect.Input m looked bytes i n e = fresh looked (in_input dialect.Input m bytes) i n e
-ahead_fresh dialect.Utf8Input m looked bytes i n e = fresh looked (in_input dialect.Utf8Input m bytes) i n e
-
 ahead_good : (d : Dialect) (m : Mode) (looked : ℕ) (bytes more : List ℕ)
-    → Good (length bytes) (ahead d m looked bytes) (ahead d m looked (bytes ++ more))
-ahead_good dialect.Output m looked bytes more = output _
-ahead_good dialect.Input m looked bytes more = either _ (looked == 0) _ _ _ _ (input_good dialect.Input m bytes more) (output _)
-ahead_good dialect.Utf8Input m looked bytes more = either _ (looked == 0) _ _ _ _ (input_good dialect.Utf8Input m bytes more) (output _)
-
-sure_same : (f g : Form) → IsSure f → Stays f g → g ≡ f
-sure_same (form.Whole i n) g sure same = same
-sure_same form.AsOutput g sure same = same
-sure_same form.Unsure g sure same = absurd sure
+    → Good (ahead d m looked bytes) (ahead d m looked (bytes ++ more))
+ahead_good dialect.Output m looked bytes more = output
+ahead_good d m looked bytes more = either (looked == 0) (input_good d m bytes more) output
 
 pub ahead_stays : (d : Dialect) (m : Mode) (looked : ℕ) (bytes more : List ℕ)
     → IsSure (ahead d m looked bytes) → ahead d m looked (bytes ++ more) ≡ ahead d m looked bytes
-ahead_stays d m looked bytes more sure = sure_same (ahead d m looked bytes) (ahead d m looked (bytes ++ more)) sure (ahead_good d m looked bytes more).stays
+ahead_stays d m looked bytes more sure = same (ahead d m looked bytes) sure (ahead_good d m looked bytes more).stays
+  where
+    same : {g : Form} (f : Form) → IsSure f → Stays f g → g ≡ f
+    same form.Unsure sure stays = absurd sure
+    same _ sure stays = stays
 
--- a form stands in front of the bytes
+-- a form stands in front of some bytes, of which none were looked at
 pub record IsFront (looked : ℕ) (bytes : List ℕ) (n : ℕ) : Type 0 where
   pub fresh : looked ≡ 0
   pub some : 0 < n
-  pub within : n ≤ length bytes
+  pub within : 0 < length bytes
 
-pub front : (d : Dialect) (m : Mode) (looked : ℕ) (bytes : List ℕ) (f : Form) (i : InputEvent)
-    (n : ℕ) → f ≡ ahead d m looked bytes → f ≡ form.Whole i n → IsFront looked bytes n
-front d m looked bytes f i n found is =
-    let same = sym found ∙ is in
-    let fits : Fits (length bytes) (form.Whole i n) = subst (Fits (length bytes)) same (ahead_good d m looked bytes []).fits in
-    record { fresh = ahead_fresh d m looked bytes i n same; some = fits.1; within = fits.2 }
+pub front : (d : Dialect) (m : Mode) (looked : ℕ) (bytes : List ℕ) (i : InputEvent) (n : ℕ)
+    → ahead d m looked bytes ≡ form.Whole i n → IsFront looked bytes n
+front d m looked bytes i n is = by d bytes is
+  where
+    some : 0 < n
+    some = ltb-true 0 n (and_parts (is_own i) (nat_lt 0 n) (subst (λ (f : Form). fits f ≡ true) is (ahead_good d m looked bytes []).fit)).1
+
+    either_way : (t : Bool) (f : Form) → (looked == 0) ≡ t → (if t then f else form.AsOutput) ≡ form.Whole i n → (looked ≡ 0) × (f ≡ form.Whole i n)
+    either_way true f zero is = (eqb-true looked 0 zero, is)
+    either_way false f zero is = absurd cc
+
+    stands : (d : Dialect) (bytes : List ℕ) → (looked ≡ 0) × (in_input d m bytes ≡ form.Whole i n) → IsFront looked bytes n
+    stands d [] h = let none = h.1 in absurd cc
+    stands d (b ∷ bytes) h = record { fresh = h.0; some = some; within = omega arith }
+
+    by : (d : Dialect) (bytes : List ℕ) → ahead d m looked bytes ≡ form.Whole i n → IsFront looked bytes n
+    by dialect.Output bytes is = absurd cc
+    by d bytes is = stands d bytes (either_way (looked == 0) (in_input d m bytes) refl is)
 
 -- ---- what output has too is told as in output
 
-by_output : (k : ℕ) (f : Form) (e : Events) (bytes : List ℕ) (told : Event) (text rest : List ℕ)
-    (list : List CsiParam) (after : Events) → Fits k f →
-    IsSentBy f e bytes (input.Output told) text rest list after
+by_output : (f : Form) (e : Events) (bytes : List ℕ) (told : Event) (text rest : List ℕ)
+    (list : List CsiParam) (after : Events) → fits f ≡ true
+    → IsSentBy f e bytes (input.Output told) text rest list after
     → IsTold told e bytes text rest list after
-by_output k (form.Whole i n) e bytes told text rest list after fits s = absurd (fits.0 told (sym s.0))
-by_output k form.AsOutput e bytes told text rest list after fits s =
+by_output (form.Whole i n) e bytes told text rest list after fit s =
+    let own = subst (λ (j : InputEvent). (is_own j && nat_lt 0 n) ≡ true) (sym s.0) fit in absurd cc
+by_output form.AsOutput e bytes told text rest list after fit s =
     let is : input.Output told ≡ input.Output s.0 = s.1 in
     let same : s.0 ≡ told = cc in
     subst (λ (x : Event). IsTold x e bytes text rest list after) same s.2
-by_output k form.Unsure e bytes told text rest list after fits s = absurd s
+by_output form.Unsure e bytes told text rest list after fit s = absurd s
 
 pub as_output : (d : Dialect) (e : Events) (bytes : List ℕ) (told : Event) (text rest : List ℕ) (list : List CsiParam) (after : Events) → IsSent d e bytes (input.Output told) text rest list after
     → IsTold told e bytes text rest list after
-as_output d e bytes told text rest list after s = by_output (length bytes) (ahead d e.mode e.looked bytes) e bytes told text rest list after (ahead_good d e.mode e.looked bytes []).fits s
+as_output d e bytes told text rest list after s = by_output (ahead d e.mode e.looked bytes) e bytes told text rest list after (ahead_good d e.mode e.looked bytes []).fit s
 
 -- ---- the bytes joined
 

@@ -7,7 +7,7 @@ use Rattle.std.specs.{Prelude.◌||◌, List.AllByRecursion, List.prefix_len}
 use Rattle.csicodec_tokens.specs.{declared.param.CsiParam.CsiParam, Sequence.IsFinal, Sequence.Seq}
 use Rattle.csicodec_events.specs.Events.{BeginsCsi, IsControl, IsCsi, IsMet, before_stop, from_stop, is_control, is_passed, is_read, stop, without_controls}
 use Rattle.csicodec_events.specs.declared.event.Events.{Events}
-use Rattle.csicodec_events.proofs.{Kept.begins_more, Stops.next_place, Unfinished.refuted}
+use Rattle.csicodec_events.proofs.{Kept.begins_more, Steps.next_place, Unfinished.refuted}
 
 -- a byte that a sequence goes on over
 abbrev pub is_inside : ℕ → Bool
@@ -88,7 +88,7 @@ pub looked_control : (e after : Events) (bytes rest : List ℕ) (b : ℕ) → Be
 looked_control e after bytes rest b begins l c =
     let at = stop e.looked bytes in
     let over = before_stop e bytes in
-    let p = next_place bytes at b c.more c.stands in
+    let p = next_place e bytes b c.more c.stands in
     let looked : after.looked ≡ at + 1 = ap (λ (a : Events). a.looked) c.looked ∙ ap (λ (k : ℕ). k + 1) p.len in
     let front : take after.looked bytes ≡ over ++ b ∷ [] = ap (λ (k : ℕ). take k bytes) looked ∙ p.front in
     let two : 2 ≤ length over = omega (arith, p.len) in

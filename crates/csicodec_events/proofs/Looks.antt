@@ -7,9 +7,9 @@ use Rattle.csicodec_tokens.specs.declared.param.CsiParam.{CsiParam}
 use Rattle.csicodec_spans.specs.declared.table.Mode.{Mode}
 use Rattle.csicodec_events.specs.Events.{AreTold, BeginsCsi, GoesWrong, InChunks, IsOpen, IsTold, Waits, before_stop, bytes_of, from_stop, is_passed, is_csi, looks, looks_in, looks_told, reach, stop}
 use Rattle.csicodec_events.specs.{declared.event.Event.Event, declared.event.Events.Events, declared.event.Told.Told}
-use Rattle.csicodec_events.proofs.{Divided.told_goes, Divided.esc_other, Divided.str_other, Divided.text_other, Looked.IsLooked, Looked.looked_met}
-use Rattle.csicodec_events.proofs.{Looked.looked_more, Looked.over_inside, Run.chunks_joined, Run.met_within, Steps.halves, Steps.stop_behind}
-use Rattle.csicodec_events.proofs.{Unfinished.refuted}
+use Rattle.csicodec_events.proofs.{Divided.span_other, Divided.told_goes, Looked.IsLooked, Looked.looked_met, Looked.looked_more, Looked.over_inside}
+use Rattle.csicodec_events.proofs.{Run.chunks_joined, Run.met_within, Steps.halves, Steps.stop_behind, Unfinished.refuted}
+use Rattle.csicodec_spans.specs.declared.table.Kind.TheVariants as kind
 use Rattle.csicodec_events.specs.declared.event.Event.TheVariants as event
 
 pub stops_behind : (looked : ℕ) (front other bytes : List ℕ) → 2 ≤ looked → length front ≡ looked
@@ -85,7 +85,7 @@ goes_longer over (b ∷ more) text rest m (inr g) = omega (arith, ap length g.1)
 told_counted : (x : Event) (e : Events) (bytes text rest : List ℕ) (list : List CsiParam)
     (after : Events) → IsLooked e bytes → IsTold x e bytes text rest list after
     → IsCounted e bytes text after
-told_counted event.Text e bytes text rest list after l h = none_counted e after bytes text l (text_other e bytes text rest after h)
+told_counted event.Text e bytes text rest list after l h = none_counted e after bytes text l (span_other e kind.Text bytes (text ++ h.held) h.behind after (λ is. cc) (λ is. cc) h.span)
 told_counted (event.Control b) e bytes text rest list after l h =
     let at = stop e.looked bytes in
     let c = h.1 in
@@ -100,8 +100,8 @@ told_counted (event.Csi final) e bytes text rest list after l h =
     let s = stop_behind e.looked bytes in
     let long : length text ≡ length (before_stop e bytes) + 1 = ap length c.whole ∙ length-append (before_stop e bytes) (c.last ∷ []) in
     begun_counted e after bytes text (omega (arith, place, length-take (at + 1) bytes, long)) (omega (arith, place, s.0, long)) (omega (arith, long))
-told_counted event.Esc e bytes text rest list after l h = none_counted e after bytes text l (esc_other e bytes text rest after h)
-told_counted event.Str e bytes text rest list after l h = none_counted e after bytes text l (str_other e bytes text rest after h)
+told_counted event.Esc e bytes text rest list after l h = none_counted e after bytes text l (span_other e kind.Esc bytes text rest after (λ is. cc) (λ is. cc) h)
+told_counted event.Str e bytes text rest list after l h = none_counted e after bytes text l (span_other e kind.Str bytes text rest after (λ is. cc) (λ is. cc) h)
 told_counted event.Other e bytes text rest list after l (inl h) = none_counted e after bytes text l h.0
 told_counted event.Other e bytes text rest list after l (inr h) =
     let at = stop e.looked bytes in

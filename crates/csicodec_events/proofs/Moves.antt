@@ -1,17 +1,17 @@
 -- Events in the smallest steps: each tells one piece, or a few that are never cut apart. Where no step follows the stream waits; in
 -- any state at most one follows; and it stays, whatever bytes come later.
-use Rattle.std.proofs.Common.{◌≡◌, ◌⊎◌, ℕ, ◌≤◌, false, max, List, [], ◌∷◌, ◌++◌, length, drop, refl, sym, ap, subst, ◌∙◌, inl, inr, append_assoc, append-nil, arith}
+use Rattle.std.proofs.Common.{◌≡◌, ◌⊎◌, ℕ, ◌+◌, ◌<◌, ◌≤◌, Bool, true, false, max, List, [], ◌∷◌, ◌++◌, length, drop, refl, sym, ap, subst, ◌∙◌, inl, inr, append_assoc, append-nil, arith}
 use Rattle.std.proofs.{lemmas.List.Folds.prefix_len-append, lemmas.Bool.both_ways, lemmas.List.length-append, lemmas.List.length-take}
 use Rattle.std.proofs.{lemmas.List.drop-append-le}
 use Rattle.std.specs.List.{prefix_len}
 use Rattle.csicodec_tokens.specs.{declared.param.CsiParam.CsiParam, Sequence.Seq}
 use Rattle.csicodec_tokens.proofs.Unique.{one_seq}
-use Rattle.csicodec_spans.specs.{declared.table.Mode.Mode, Parts.Part, Parts.AreFirstParts, Parts.IsFirstPart}
-use Rattle.csicodec_spans.proofs.{Kept.parts_more, Once.part_once}
-use Rattle.csicodec_events.specs.Events.{BeginsCsi, IsControl, IsCsi, IsWrongAt, Piece, before_stop, from_stop, is_control, is_passed, onward, piece, pieces_of, stop, without_controls}
+use Rattle.csicodec_spans.specs.{declared.table.Kind.Kind, declared.table.Mode.Mode, Parts.Part, Parts.AreFirstParts, Parts.IsFirstPart}
+use Rattle.csicodec_spans.proofs.{Fronts.IsFit, Fronts.in_string, Kept.parts_more, Missed.fit, Once.part_once}
+use Rattle.csicodec_events.specs.Events.{BeginsCsi, IsWrongAt, Piece, before_stop, from_stop, is_control, is_passed, onward, piece, pieces_of, stop, without_controls}
 use Rattle.csicodec_events.specs.{declared.event.Events.Events, Characters.is_unfinished}
-use Rattle.csicodec_events.proofs.{Fronts.event_of, Fronts.front, Fronts.none_sure, Kept.control_more, Kept.csi_more, Kept.same_stop, Stops.too_long}
-use Rattle.csicodec_events.proofs.{Unfinished.refuted, Unfinished.unfinished_front}
+use Rattle.csicodec_events.proofs.{Fronts.event_of, Fronts.none_sure, Kept.begins_more, Kept.same_stop, Stops.too_long, Unfinished.refuted}
+use Rattle.csicodec_events.proofs.{Unfinished.unfinished_front}
 use Rattle.csicodec_spans.specs.declared.table.Kind.TheVariants as kind
 use Rattle.csicodec_spans.specs.declared.table.Mode.TheVariants as mode
 use Rattle.csicodec_events.specs.declared.event.Event.TheVariants as event
@@ -29,24 +29,24 @@ pub record IsPart (e : Events) (bytes : List ℕ) (ps : List Piece) (rest : List
   pub told : ps ≡ pieces_of (event_of p.kind) p.bytes
   pub on : after ≡ onward e next 0
 
--- a control within a sequence
-pub record IsWithin (e : Events) (bytes : List ℕ) (ps : List Piece) (rest : List ℕ)
+-- by whether the byte where a sequence stops is a control: that control, or the whole sequence
+abbrev pub IsBy : Bool → Events → List ℕ → ℕ → List ℕ → List Piece → List ℕ → Events → Type 0
+IsBy true e bytes b more ps rest after = (ps ≡ piece (event.Control b) [] ∷ []) × (rest ≡ bytes)
+    × (after ≡ onward e e.mode (length (before_stop e bytes) + 1))
+IsBy false e bytes b more ps rest after = (list : List CsiParam) × (final : ℕ)
+    × Seq (without_controls (before_stop e bytes ++ b ∷ [])) list final
+    × (ps ≡ piece (event.Csi final) (before_stop e bytes ++ b ∷ []) ∷ []) × (rest ≡ more)
+    × (after ≡ onward e mode.Text 0)
+
+-- what is told where a sequence stops
+pub record IsStop (e : Events) (bytes : List ℕ) (ps : List Piece) (rest : List ℕ)
     (after : Events) : Type 0 where
   pub begins : BeginsCsi bytes
   pub b : ℕ
-  pub control : IsControl e (before_stop e bytes) (from_stop e bytes) b bytes [] rest after
-  pub told : ps ≡ piece (event.Control b) [] ∷ []
-
--- a whole sequence
-pub record IsOver (e : Events) (bytes : List ℕ) (ps : List Piece) (rest : List ℕ)
-    (after : Events) : Type 0 where
-  pub begins : BeginsCsi bytes
-  pub list : List CsiParam
-  pub final : ℕ
-  pub text : List ℕ
-  pub csi : IsCsi e (before_stop e bytes) (from_stop e bytes) list final text rest after
-  pub other : (b : ℕ) (more : List ℕ) → from_stop e bytes ≡ b ∷ more → is_control b ≡ false
-  pub told : ps ≡ piece (event.Csi final) text ∷ []
+  pub more : List ℕ
+  pub stands : from_stop e bytes ≡ b ∷ more
+  pub short : length (before_stop e bytes) < e.limit
+  pub told : IsBy (is_control b) e bytes b more ps rest after
 
 -- ESC and `[` of a sequence that goes wrong
 pub record IsBad (e : Events) (bytes : List ℕ) (ps : List Piece) (rest : List ℕ)
@@ -58,8 +58,8 @@ pub record IsBad (e : Events) (bytes : List ℕ) (ps : List Piece) (rest : List 
   pub on : after ≡ onward e mode.BadCsi 0
 
 abbrev pub IsMove : Events → List ℕ → List Piece → List ℕ → Events → Type 0
-IsMove e bytes ps rest after = IsPart e bytes ps rest after ⊎ (IsWithin e bytes ps rest after
-    ⊎ (IsOver e bytes ps rest after ⊎ IsBad e bytes ps rest after))
+IsMove e bytes ps rest after =
+    IsPart e bytes ps rest after ⊎ (IsStop e bytes ps rest after ⊎ IsBad e bytes ps rest after)
 
 -- ---- at most one follows
 
@@ -69,54 +69,15 @@ pub record SameMove (ps qs : List Piece) (rest rest' : List ℕ) (after after' :
     pub rests : rest ≡ rest'
     pub on : after ≡ after'
 
+same_by : {ps qs : List Piece} {rest rest' : List ℕ} {after after' : Events} (t : Bool) (e : Events) (bytes : List ℕ) (b : ℕ) (more : List ℕ)
+    → IsBy t e bytes b more ps rest after → IsBy t e bytes b more qs rest' after' → SameMove ps qs rest rest' after after'
+same_by true e bytes b more g h = record { told = g.0 ∙ sym h.0; rests = g.1 ∙ sym h.1; on = g.2 ∙ sym h.2 }
+same_by false e bytes b more g h =
+    let text = before_stop e bytes ++ b ∷ [] in
+    let final : g.1 ≡ h.1 = (one_seq (without_controls text) (without_controls text) [] [] g.0 h.0 g.1 h.1 g.2 h.2 refl).2 in
+    record { told = g.3 ∙ ap (λ (f : ℕ). piece (event.Csi f) text ∷ []) final ∙ sym h.3; rests = g.4 ∙ sym h.4; on = g.5 ∙ sym h.5 }
+
 module _ (e : Events) (bytes : List ℕ) (ps qs : List Piece) (rest rest' : List ℕ) (after after' : Events) where
-  within_over : IsWithin e bytes ps rest after → IsOver e bytes qs rest' after' → ⊥
-  within_over g h = both_ways (is_control g.b) (h.other g.b g.control.more g.control.stands) g.control.control
-
-  within_bad : IsWithin e bytes ps rest after → IsBad e bytes qs rest' after' → ⊥
-  within_bad g h =
-      let c = g.control in
-      both_ways (is_control g.b) (subst (IsWrongAt e.limit (before_stop e bytes)) c.stands h.why c.short).0 c.control
-
-  over_bad : IsOver e bytes ps rest after → IsBad e bytes qs rest' after' → ⊥
-  over_bad g h =
-      let c = g.csi in
-      (subst (IsWrongAt e.limit (before_stop e bytes)) c.stands h.why c.short).1 g.list g.final
-      (subst (λ (x : List ℕ). Seq (without_controls x) g.list g.final) c.whole c.seq)
-
-  same_within : IsWithin e bytes ps rest after → IsWithin e bytes qs rest' after' → SameMove ps qs rest rest' after after'
-  same_within g h =
-      let c = g.control in
-      let d = h.control in
-      let both : g.b ∷ c.more ≡ h.b ∷ d.more = sym c.stands ∙ d.stands in
-      let same : g.b ≡ h.b = cc in
-      record {
-        told = g.told ∙ ap (λ (b : ℕ). piece (event.Control b) [] ∷ []) same ∙ sym h.told;
-        rests = c.stays ∙ sym d.stays;
-        on = c.looked ∙ sym d.looked;
-      }
-
-  same_over : IsOver e bytes ps rest after → IsOver e bytes qs rest' after' → SameMove ps qs rest rest' after after'
-  same_over g h =
-      let c = g.csi in
-      let d = h.csi in
-      let over = before_stop e bytes in
-      let both : c.last ∷ rest ≡ d.last ∷ rest' = sym c.stands ∙ d.stands in
-      let last : c.last ≡ d.last = cc in
-      let text : g.text ≡ h.text = c.whole ∙ ap (λ (b : ℕ). over ++ b ∷ []) last ∙ sym d.whole in
-      let final : g.final ≡ h.final = (one_seq (without_controls g.text) (without_controls h.text) [] [] g.list h.list g.final h.final c.seq d.seq
-      (ap (λ (x : List ℕ). without_controls x ++ []) text)).2 in
-      record {
-        told = g.told ∙ ap (λ (f : ℕ). piece (event.Csi f) g.text ∷ []) final ∙ ap (λ (x : List ℕ). piece (event.Csi h.final) x ∷ []) text ∙ sym h.told;
-        rests = cc;
-        on = c.closed ∙ sym d.closed;
-      }
-
-  same_bad : IsBad e bytes ps rest after → IsBad e bytes qs rest' after' → SameMove ps qs rest rest' after after'
-  same_bad g h =
-      let both : 27 ∷ 91 ∷ rest ≡ 27 ∷ 91 ∷ rest' = sym g.stands ∙ h.stands in
-      record { told = g.told ∙ sym h.told; rests = cc; on = g.on ∙ sym h.on }
-
   same_part : IsPart e bytes ps rest after → IsPart e bytes qs rest' after' → SameMove ps qs rest rest' after after'
   same_part g h =
       let s = part_once e.limit e.mode bytes g.p h.p rest rest' g.next h.next g.first h.first in
@@ -126,11 +87,29 @@ module _ (e : Events) (bytes : List ℕ) (ps qs : List Piece) (rest rest' : List
         on = g.on ∙ ap (λ (m : Mode). onward e m 0) s.modes ∙ sym h.on;
       }
 
+  same_stop_move : IsStop e bytes ps rest after → IsStop e bytes qs rest' after' → SameMove ps qs rest rest' after after'
+  same_stop_move g h =
+      let both : g.b ∷ g.more ≡ h.b ∷ h.more = sym g.stands ∙ h.stands in
+      let byte : h.b ≡ g.b = cc in
+      let more : h.more ≡ g.more = cc in
+      same_by (is_control g.b) e bytes g.b g.more g.told (subst (λ (x : List ℕ). IsBy (is_control g.b) e bytes g.b x qs rest' after') more
+      (subst (λ (b : ℕ). IsBy (is_control b) e bytes b h.more qs rest' after') byte h.told))
+
+  same_bad : IsBad e bytes ps rest after → IsBad e bytes qs rest' after' → SameMove ps qs rest rest' after after'
+  same_bad g h =
+      let both : 27 ∷ 91 ∷ rest ≡ 27 ∷ 91 ∷ rest' = sym g.stands ∙ h.stands in
+      record { told = g.told ∙ sym h.told; rests = cc; on = g.on ∙ sym h.on }
+
   -- a part stands where no sequence begins
-  part_other : IsPart e bytes ps rest after → IsWithin e bytes qs rest' after' ⊎ (IsOver e bytes qs rest' after' ⊎ IsBad e bytes qs rest' after') → ⊥
+  part_other : IsPart e bytes ps rest after → IsStop e bytes qs rest' after' ⊎ IsBad e bytes qs rest' after' → ⊥
   part_other g (inl h) = g.other h.begins
-  part_other g (inr (inl h)) = g.other h.begins
-  part_other g (inr (inr h)) = g.other (rest', h.stands)
+  part_other g (inr h) = g.other (rest', h.stands)
+
+  stop_bad : IsStop e bytes ps rest after → IsBad e bytes qs rest' after' → ⊥
+  stop_bad g h =
+      let why = subst (IsWrongAt e.limit (before_stop e bytes)) g.stands h.why g.short in
+      let t = subst (λ (c : Bool). IsBy c e bytes g.b g.more ps rest after) why.0 g.told in
+      why.1 t.0 t.1 t.2
 
 move_once : (e : Events) (bytes : List ℕ) (ps qs : List Piece) (rest rest' : List ℕ)
     (after after' : Events) → IsMove e bytes ps rest after → IsMove e bytes qs rest' after'
@@ -138,15 +117,10 @@ move_once : (e : Events) (bytes : List ℕ) (ps qs : List Piece) (rest rest' : L
 move_once e bytes ps qs rest rest' after after' (inl g) (inl h) = same_part e bytes ps qs rest rest' after after' g h
 move_once e bytes ps qs rest rest' after after' (inl g) (inr h) = absurd (part_other e bytes ps qs rest rest' after after' g h)
 move_once e bytes ps qs rest rest' after after' (inr g) (inl h) = absurd (part_other e bytes qs ps rest' rest after' after h g)
-move_once e bytes ps qs rest rest' after after' (inr (inl g)) (inr (inl h)) = same_within e bytes ps qs rest rest' after after' g h
-move_once e bytes ps qs rest rest' after after' (inr (inl g)) (inr (inr (inl h))) = absurd (within_over e bytes ps qs rest rest' after after' g h)
-move_once e bytes ps qs rest rest' after after' (inr (inl g)) (inr (inr (inr h))) = absurd (within_bad e bytes ps qs rest rest' after after' g h)
-move_once e bytes ps qs rest rest' after after' (inr (inr (inl g))) (inr (inl h)) = absurd (within_over e bytes qs ps rest' rest after' after h g)
-move_once e bytes ps qs rest rest' after after' (inr (inr (inl g))) (inr (inr (inl h))) = same_over e bytes ps qs rest rest' after after' g h
-move_once e bytes ps qs rest rest' after after' (inr (inr (inl g))) (inr (inr (inr h))) = absurd (over_bad e bytes ps qs rest rest' after after' g h)
-move_once e bytes ps qs rest rest' after after' (inr (inr (inr g))) (inr (inl h)) = absurd (within_bad e bytes qs ps rest' rest after' after h g)
-move_once e bytes ps qs rest rest' after after' (inr (inr (inr g))) (inr (inr (inl h))) = absurd (over_bad e bytes qs ps rest' rest after' after h g)
-move_once e bytes ps qs rest rest' after after' (inr (inr (inr g))) (inr (inr (inr h))) = same_bad e bytes ps qs rest rest' after after' g h
+move_once e bytes ps qs rest rest' after after' (inr (inl g)) (inr (inl h)) = same_stop_move e bytes ps qs rest rest' after after' g h
+move_once e bytes ps qs rest rest' after after' (inr (inl g)) (inr (inr h)) = absurd (stop_bad e bytes ps qs rest rest' after after' g h)
+move_once e bytes ps qs rest rest' after after' (inr (inr g)) (inr (inl h)) = absurd (stop_bad e bytes qs ps rest' rest after' after h g)
+move_once e bytes ps qs rest rest' after after' (inr (inr g)) (inr (inr h)) = same_bad e bytes ps qs rest rest' after after' g h
 
 -- ---- it stays
 
@@ -163,6 +137,11 @@ other_more limit m a (c ∷ d ∷ bytes) more rest p other first b =
     let esc : c ≡ 27 = cc in
     let bracket : d ≡ 91 = cc in
     other (bytes, cc)
+
+-- a part of text is one byte
+pub text_fit : (limit : ℕ) (m a : Mode) (bytes rest : List ℕ) (p : Part) → p.kind ≡ kind.Text
+    → IsFirstPart limit m bytes p rest a → (in_string a ≡ false) × (length p.bytes ≡ 1)
+text_fit limit m a bytes rest p text first = subst (λ (k : Kind). IsFit m k p.bytes a) text (fit limit m bytes p.kind p.bytes rest a first)
 
 pub one_part : (limit : ℕ) (m a : Mode) (bytes rest : List ℕ) (p : Part)
     → AreFirstParts limit m bytes (p ∷ []) rest a → IsFirstPart limit m bytes p rest a
@@ -200,38 +179,33 @@ module _ (e : Events) (bytes more : List ℕ) (ps : List Piece) (rest : List ℕ
   part_more : IsPart e bytes ps rest after → IsPart e (bytes ++ more) ps (rest ++ more) after
   part_more g =
       let one = parts_more e.limit (g.p ∷ []) e.mode bytes more rest g.next (rest, g.next, g.first, (refl, refl)) in
-      let some = (front e.limit e.mode g.next bytes rest g.p g.other g.first).some in
       record {
         other = other_more e.limit e.mode g.next bytes more rest g.p g.other g.first;
         p = g.p;
         next = g.next;
         first = one_part e.limit e.mode g.next (bytes ++ more) (rest ++ more) g.p one;
-        sure = λ text. refuted _ (λ h. both_ways (is_unfinished bytes) (g.sure text) (unfinished_front bytes more (omega (arith, some, ap length g.first.0, length-append g.p.bytes rest)) h));
+        sure = λ text.
+            let len = (text_fit e.limit e.mode g.next bytes rest g.p text g.first).1 in
+            refuted _ (λ h. both_ways (is_unfinished bytes) (g.sure text) (unfinished_front bytes more (omega (arith, len, ap length g.first.0, length-append g.p.bytes rest)) h));
         told = g.told;
         on = g.on;
       }
 
-  within_more : IsWithin e bytes ps rest after → IsWithin e (bytes ++ more) ps (rest ++ more) after
-  within_more g =
-      let h = control_more e after bytes [] rest more [] g.b (g.begins, g.control) in
-      record { begins = h.0; b = g.b; control = h.1; told = g.told }
+  by_more : (t : Bool) (b : ℕ) (behind : List ℕ) → before_stop e (bytes ++ more) ≡ before_stop e bytes
+      → IsBy t e bytes b behind ps rest after → IsBy t e (bytes ++ more) b (behind ++ more) ps (rest ++ more) after
+  by_more true b behind same g = rw same (g.0, ap (λ (x : List ℕ). x ++ more) g.1, g.2)
+  by_more false b behind same g = rw same (g.0, g.1, g.2, g.3, ap (λ (x : List ℕ). x ++ more) g.4, g.5)
 
-  over_more : IsOver e bytes ps rest after → IsOver e (bytes ++ more) ps (rest ++ more) after
-  over_more g =
-      let c = g.csi in
-      let h = csi_more e after bytes g.text rest more g.list g.final (g.begins, c) in
-      let s = same_stop e bytes more rest c.last c.stands in
+  stop_move_more : IsStop e bytes ps rest after → IsStop e (bytes ++ more) ps (rest ++ more) after
+  stop_move_more g =
+      let s = same_stop e bytes more g.more g.b g.stands in
       record {
-        begins = h.0;
-        list = g.list;
-        final = g.final;
-        text = g.text;
-        csi = h.1;
-        other = λ b others stands.
-            let both : b ∷ others ≡ c.last ∷ (rest ++ more) = sym stands ∙ s.behind ∙ ap (λ (x : List ℕ). x ++ more) c.stands in
-            let same : c.last ≡ b = cc in
-            subst (λ (x : ℕ). is_control x ≡ false) same (g.other c.last rest c.stands);
-        told = g.told;
+        begins = begins_more bytes more g.begins;
+        b = g.b;
+        more = g.more ++ more;
+        stands = s.behind ∙ ap (λ (x : List ℕ). x ++ more) g.stands;
+        short = rw s.over g.short;
+        told = by_more (is_control g.b) g.b g.more s.over g.told;
       }
 
   bad_more : IsBad e bytes ps rest after → IsBad e (bytes ++ more) ps (rest ++ more) after
@@ -245,96 +219,49 @@ module _ (e : Events) (bytes more : List ℕ) (ps : List Piece) (rest : List ℕ
 
   move_more : IsMove e bytes ps rest after → IsMove e (bytes ++ more) ps (rest ++ more) after
   move_more (inl g) = inl (part_more g)
-  move_more (inr (inl g)) = inr (inl (within_more g))
-  move_more (inr (inr (inl g))) = inr (inr (inl (over_more g)))
-  move_more (inr (inr (inr g))) = inr (inr (inr (bad_more g)))
+  move_more (inr (inl g)) = inr (inl (stop_move_more g))
+  move_more (inr (inr g)) = inr (inr (bad_more g))
 
 -- ---- one after the other
 
-abbrev AreMoves : Events → List ℕ → List (List Piece) → List ℕ → Events → Type 0
-AreMoves e bytes [] rest after = (rest ≡ bytes) × (after ≡ e)
-AreMoves e bytes (ps ∷ moves) rest after = (behind : List ℕ) × (mid : Events)
-    × IsMove e bytes ps behind mid × AreMoves mid behind moves rest after
-
-abbrev all_of : List (List Piece) → List Piece
-all_of [] = []
-all_of (ps ∷ moves) = ps ++ all_of moves
-
 -- steps in front of the bytes tell these pieces
-pub record Divides (e : Events) (bytes : List ℕ) (ps : List Piece) (rest : List ℕ)
-    (after : Events) : Type 0 where
-  moves : List (List Piece)
-  are : AreMoves e bytes moves rest after
-  joined : all_of moves ≡ ps
+pub data Divides : Events → List ℕ → List Piece → List ℕ → Events → Type 0 where
+  Done : {e : Events} {bytes : List ℕ} → Divides e bytes [] bytes e
+  Then : {e mid after : Events} {bytes behind rest : List ℕ} {ps qs : List Piece}
+      → IsMove e bytes ps behind mid → Divides mid behind qs rest after
+      → Divides e bytes (ps ++ qs) rest after
 
-pub none_divides : (e : Events) (bytes : List ℕ) → Divides e bytes [] bytes e
-none_divides e bytes = record { moves = []; are = (refl, refl); joined = refl }
-
-pub move_divides : (e mid after : Events) (bytes behind rest : List ℕ) (ps qs : List Piece)
-    → IsMove e bytes ps behind mid → Divides mid behind qs rest after
-    → Divides e bytes (ps ++ qs) rest after
-move_divides e mid after bytes behind rest ps qs g d =
-    record { moves = ps ∷ d.moves; are = (behind, mid, g, d.are); joined = ap (λ (x : List Piece). ps ++ x) d.joined }
-
-pub one_divides : (e after : Events) (bytes rest : List ℕ) (ps : List Piece)
+pub one_divides : {e after : Events} {bytes rest : List ℕ} (ps : List Piece)
     → IsMove e bytes ps rest after → Divides e bytes ps rest after
-one_divides e after bytes rest ps g = record { moves = ps ∷ []; are = (rest, after, g, (refl, refl)); joined = append-nil ps }
+one_divides {e} {after} {bytes} {rest} ps g = subst (λ (x : List Piece). Divides e bytes x rest after) (append-nil ps) (Then g Done)
 
-moves_on : (moves others : List (List Piece)) (e mid after : Events) (bytes behind rest : List ℕ)
-    → AreMoves e bytes moves behind mid → AreMoves mid behind others rest after
-    → AreMoves e bytes (moves ++ others) rest after
-moves_on [] others e mid after bytes behind rest s t = rw (s.0, s.1) at t
-moves_on (ps ∷ moves) others e mid after bytes behind rest s t =
-    (s.0, s.1, s.2, moves_on moves others s.1 mid after s.0 behind rest s.3 t)
-
-all_on : (moves others : List (List Piece)) → all_of (moves ++ others) ≡ all_of moves ++ all_of others
-all_on [] others = refl
-all_on (ps ∷ moves) others = ap (λ (x : List Piece). ps ++ x) (all_on moves others) ∙ sym (append_assoc ps (all_of moves) (all_of others))
-
-pub divides_on : (e mid after : Events) (bytes behind rest : List ℕ) (ps qs : List Piece)
+pub divides_on : {e mid after : Events} {bytes behind rest : List ℕ} {ps qs : List Piece}
     → Divides e bytes ps behind mid → Divides mid behind qs rest after
     → Divides e bytes (ps ++ qs) rest after
-divides_on e mid after bytes behind rest ps qs d f = record {
-  moves = d.moves ++ f.moves;
-  are = moves_on d.moves f.moves e mid after bytes behind rest d.are f.are;
-  joined = let first = d.joined in let others = f.joined in all_on d.moves f.moves ∙ cc;
-}
+divides_on Done f = f
+divides_on {e} {mid} {after} {bytes} {behind} {rest} {qs = others} (Then {ps = ps} {qs = qs} g d) f =
+    subst (λ (x : List Piece). Divides e bytes x rest after) (sym (append_assoc ps qs others)) (Then g (divides_on d f))
 
-moves_more : (moves : List (List Piece)) (e after : Events) (bytes rest more : List ℕ)
-    → AreMoves e bytes moves rest after → AreMoves e (bytes ++ more) moves (rest ++ more) after
-moves_more [] e after bytes rest more s = (ap (λ (x : List ℕ). x ++ more) s.0, s.1)
-moves_more (ps ∷ moves) e after bytes rest more s =
-    (s.0 ++ more, s.1, move_more e bytes more ps s.0 s.1 s.2, moves_more moves s.1 after s.0 rest more s.3)
-
-pub divides_more : (e after : Events) (bytes rest more : List ℕ) (ps : List Piece)
+pub divides_more : {e after : Events} {bytes rest : List ℕ} {ps : List Piece} (more : List ℕ)
     → Divides e bytes ps rest after → Divides e (bytes ++ more) ps (rest ++ more) after
-divides_more e after bytes rest more ps d =
-    record { moves = d.moves; are = moves_more d.moves e after bytes rest more d.are; joined = d.joined }
+divides_more more Done = Done
+divides_more more (Then {e = e} {mid = mid} {bytes = bytes} {behind = behind} {ps = ps} g d) =
+    Then (move_more e bytes more ps behind mid g) (divides_more more d)
 
 -- no step follows
 abbrev pub IsStill : Events → List ℕ → Type 0
 IsStill e bytes = (ps : List Piece) (rest : List ℕ) (after : Events) → IsMove e bytes ps rest after → ⊥
 
-moves_once : (moves others : List (List Piece)) (e after after' : Events) (bytes rest rest' : List ℕ)
-    → AreMoves e bytes moves rest after → IsStill after rest
-    → AreMoves e bytes others rest' after' → IsStill after' rest'
-    → SameMove (all_of moves) (all_of others) rest rest' after after'
-moves_once [] [] e after after' bytes rest rest' s still t quiet =
-    record { told = refl; rests = s.0 ∙ sym t.0; on = s.1 ∙ sym t.1 }
-moves_once [] (qs ∷ others) e after after' bytes rest rest' s still t quiet =
-    absurd ((rw (s.0, s.1) at still) qs t.0 t.1 t.2)
-moves_once (ps ∷ moves) [] e after after' bytes rest rest' s still t quiet =
-    absurd ((rw (t.0, t.1) at quiet) ps s.0 s.1 s.2)
-moves_once (ps ∷ moves) (qs ∷ others) e after after' bytes rest rest' s still t quiet =
-    let one = move_once e bytes ps qs s.0 t.0 s.1 t.1 s.2 t.2 in
-    let r = moves_once moves others s.1 after after' s.0 rest rest' s.3 still (rw (sym one.rests, sym one.on) at t.3) quiet in
+pub divides_once : {e after after' : Events} {bytes rest rest' : List ℕ} {ps qs : List Piece}
+    → Divides e bytes ps rest after → IsStill after rest
+    → Divides e bytes qs rest' after' → IsStill after' rest' → SameMove ps qs rest rest' after after'
+divides_once Done still Done quiet = record { told = refl; rests = refl; on = refl }
+divides_once Done still (Then {mid = mid} {behind = behind} {ps = ps} g d) quiet = absurd (still ps behind mid g)
+divides_once (Then {mid = mid} {behind = behind} {ps = ps} g d) still Done quiet = absurd (quiet ps behind mid g)
+divides_once {e} {after} {after'} {bytes} {rest} {rest'} (Then {mid = mid} {behind = behind} {ps = ps} {qs = qs} g d) still (Then {mid = mid'} {behind = behind'} {ps = ps'} {qs = qs'} h f) quiet =
+    let one = move_once e bytes ps ps' behind behind' mid mid' g h in
+    let same : Divides mid behind qs' rest' after' = rw (one.rests, one.on) f in
+    let r = divides_once d still same quiet in
     let first = one.told in
     let next = r.told in
     record { told = cc; rests = r.rests; on = r.on }
-
-pub divides_once : (e after after' : Events) (bytes rest rest' : List ℕ) (ps qs : List Piece)
-    → Divides e bytes ps rest after → IsStill after rest
-    → Divides e bytes qs rest' after' → IsStill after' rest' → SameMove ps qs rest rest' after after'
-divides_once e after after' bytes rest rest' ps qs d still f quiet =
-    let r = moves_once d.moves f.moves e after after' bytes rest rest' d.are still f.are quiet in
-    record { told = sym d.joined ∙ r.told ∙ f.joined; rests = r.rests; on = r.on }

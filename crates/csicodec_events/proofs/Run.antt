@@ -1,5 +1,5 @@
 -- What follows of events one after the other.
-use Rattle.std.proofs.Common.{◌≡◌, ℕ, ◌+◌, ◌≤◌, max, List, [], ◌∷◌, ◌++◌, length, take, drop, refl, sym, ap, subst, ◌∙◌, inl, inr, append_assoc, append-nil, arith}
+use Rattle.std.proofs.Common.{◌≡◌, ◌⊎◌, ℕ, ◌+◌, ◌≤◌, max, List, [], ◌∷◌, ◌++◌, length, take, drop, refl, sym, ap, subst, ◌∙◌, inl, inr, append_assoc, append-nil, arith}
 use Rattle.std.proofs.{lemmas.List.Folds.prefix_len-append, lemmas.Bool.eq-eqb, lemmas.List.drop-append-le, lemmas.List.length-take, lemmas.List.length-drop}
 use Rattle.std.proofs.{Math.Seq.drop-append_seam, lemmas.Grind.flat_map-append, lemmas.List.Sums.prefix_len-le-length}
 use Rattle.std.specs.List.{concat, flat_map, prefix_len}
@@ -8,7 +8,7 @@ use Rattle.csicodec_spans.specs.{declared.table.Kind.Kind, declared.table.Mode.M
 use Rattle.csicodec_spans.proofs.Spanned.{cut_parts}
 use Rattle.csicodec_events.specs.Events.{AreTold, BeginsCsi, GoesWrong, InChunks, IsMet, IsSpan, IsText, IsTold, Tells, Waits, before_stop, bytes_of, from_stop, is_passed, onward, stop}
 use Rattle.csicodec_events.specs.{declared.event.Event.Event, declared.event.Events.Events, declared.event.Told.Told}
-use Rattle.csicodec_events.proofs.Steps.{csi_further, halves}
+use Rattle.csicodec_events.proofs.{Kept.begins_more, Steps.csi_parts, Steps.halves}
 use Rattle.csicodec_events.specs.declared.event.Event.TheVariants as event
 
 -- ---- the bytes joined
@@ -32,7 +32,7 @@ pub parts_of : (x : Event) (e : Events) (bytes text rest : List ℕ) (list : Lis
     (after : Events) → IsTold x e bytes text rest list after → bytes ≡ text ++ rest
 parts_of event.Text e bytes text rest list after h = text_parts e bytes text rest after h
 parts_of (event.Control b) e bytes text rest list after h = sym h.1.stays ∙ ap (λ (x : List ℕ). x ++ rest) (sym h.1.none)
-parts_of (event.Csi final) e bytes text rest list after h = (csi_further e bytes list final text rest after h.1).parts
+parts_of (event.Csi final) e bytes text rest list after h = csi_parts e bytes list final text rest after h.1
 parts_of event.Esc e bytes text rest list after h = span_parts e _ bytes text rest after h
 parts_of event.Str e bytes text rest list after h = span_parts e _ bytes text rest after h
 parts_of event.Other e bytes text rest list after (inl h) = span_parts e _ bytes text rest after h.1
@@ -108,17 +108,45 @@ told_back event.Other e n bytes text rest list after same (inl t) = inl (t.0, sp
 told_back event.Other e n bytes text rest list after same (inr t) = let w = t.1 in
     rw (← same) (inr (t.0, record { next = w.next; why = w.why; goes = w.goes; on = w.on }))
 
+waits_back : (e : Events) (n : ℕ) (bytes : List ℕ) (after : Events) → stop n bytes ≡ stop e.looked bytes
+    → BeginsCsi bytes → Waits (onward e e.mode n) bytes after → Waits e bytes after
+waits_back e n bytes after same begins (inl w) = let o = w.1 in
+    rw (← same) (inl (w.0, record { ends = o.ends; short = o.short; looked = o.looked }))
+waits_back e n bytes after same begins (inr (inl w)) = absurd (w.0 begins)
+waits_back e n bytes after same begins (inr (inr w)) = absurd (w.0 begins)
+
 pub met_within : (e : Events) (bytes : List ℕ) → IsMet e bytes → e.looked ≤ length bytes
 met_within e bytes (inl none) = omega (arith, none)
 met_within e bytes (inr m) = m.1
 
+-- the stream is the same, or of a sequence in front more was looked at, which stops at the same place
+abbrev pub GoesOn : Events → Events → List ℕ → Type 0
+GoesOn e waiting bytes = (waiting ≡ e)
+    ⊎ (BeginsCsi bytes × (n : ℕ) × (waiting ≡ onward e e.mode n) × (stop n bytes ≡ stop e.looked bytes))
+
+pub waits_on : (e waiting : Events) (bytes more : List ℕ) → IsMet e bytes → Waits e bytes waiting
+    → GoesOn e waiting (bytes ++ more)
+waits_on e waiting bytes more met (inl w) =
+    let o = w.1 in
+    let same = stop_on e.looked bytes more (met_within e bytes met) (omega (arith, ap length w.0.1)) o.ends in
+    inr (begins_more bytes more w.0, length (before_stop e bytes), o.looked, same)
+waits_on e waiting bytes more met (inr (inl w)) = inl w.2
+waits_on e waiting bytes more met (inr (inr w)) = inl w.2
+
+-- what is told then, and what waits, is told and waits as if it hadn't waited
+pub told_same : (e waiting after : Events) (bytes : List ℕ) (t : Told) (list : List CsiParam)
+    → GoesOn e waiting bytes → Tells waiting bytes t list after → Tells e bytes t list after
+told_same e waiting after bytes t list (inl same) h = subst (λ (x : Events). Tells x bytes t list after) same h
+told_same e waiting after bytes t list (inr (begins, n, same, stops)) h =
+    told_back t.event e n bytes t.bytes.now t.rest.now list after stops (subst (λ (x : Events). Tells x bytes t list after) same h)
+
+pub waits_same : (e waiting after : Events) (bytes : List ℕ) → GoesOn e waiting bytes
+    → Waits waiting bytes after → Waits e bytes after
+waits_same e waiting after bytes (inl same) w = subst (λ (x : Events). Waits x bytes after) same w
+waits_same e waiting after bytes (inr (begins, n, same, stops)) w =
+    waits_back e n bytes after stops begins (subst (λ (x : Events). Waits x bytes after) same w)
+
 pub told_at_once : (e waiting after : Events) (bytes more : List ℕ) (told : Told)
     (list : List CsiParam) → IsMet e bytes → BeginsCsi bytes → Waits e bytes waiting
     → Tells waiting (bytes ++ more) told list after → Tells e (bytes ++ more) told list after
-told_at_once e waiting after bytes more told list met begins (inl w) t =
-    let o = w.1 in
-    let n = length (before_stop e bytes) in
-    let same = stop_on e.looked bytes more (met_within e bytes met) (omega (arith, ap length begins.1)) o.ends in
-    told_back told.event e n (bytes ++ more) told.bytes.now told.rest.now list after same (subst (λ (x : Events). Tells x (bytes ++ more) told list after) o.looked t)
-told_at_once e waiting after bytes more told list met begins (inr (inl w)) t = absurd (w.0 begins)
-told_at_once e waiting after bytes more told list met begins (inr (inr w)) t = absurd (w.0 begins)
+told_at_once e waiting after bytes more told list met begins w t = told_same e waiting after (bytes ++ more) told list (waits_on e waiting bytes more met w) t

@@ -1,7 +1,6 @@
 -- A sequence without controls stops at its final byte, and is read as it stands.
 use Rattle.std.proofs.Common.{◌≡◌, ℕ, ◌+◌, ◌≤◌, Bool, true, false, cond, filter, List, [], ◌∷◌, ◌++◌, length, take, drop, refl, sym, ap, subst, ◌∙◌, append_assoc, arith}
-use Rattle.std.proofs.{lemmas.List.Folds.prefix_len-append, lemmas.Bool.eq-eqb, Math.Seq.take-append_seam, Math.Seq.drop-append_seam, lemmas.List.length-append}
-use Rattle.std.proofs.{lemmas.Bool.Decides.nat_tests}
+use Rattle.std.proofs.{Math.Seq.take-append_seam, Math.Seq.drop-append_seam, lemmas.List.length-append, lemmas.Bool.Decides.nat_tests}
 use Rattle.std.specs.List.{AllByRecursion, prefix_len}
 use Rattle.csicodec_tokens.specs.{declared.param.CsiParam.CsiParam, Sequence.IsBodyByte, Sequence.IsFinal, Sequence.Seq}
 use Rattle.csicodec_tokens.proofs.Spelled.{IsBody-from_spelling}
@@ -23,13 +22,10 @@ read_byte b h = grind (arith, nat_tests)
 read_final : (b : ℕ) → IsFinal b → is_read b ≡ true
 read_final b h = grind (arith, nat_tests)
 
-passed_all : (body : List ℕ) → AllByRecursion IsBodyByte body → prefix_len is_passed body ≡ length body
-passed_all [] h = refl
-passed_all (b ∷ body) h = let others = passed_all body h.1 in rw (passed_byte b h.0) (omega (arith, others))
-
 pub passed_body : (body rest : List ℕ) → AllByRecursion IsBodyByte body
     → prefix_len is_passed (body ++ rest) ≡ length body + prefix_len is_passed rest
-passed_body body rest h = prefix_len-append is_passed body rest ∙ rw (passed_all body h) (rw (eq-eqb (length body) (length body) refl) refl)
+passed_body [] rest h = omega arith
+passed_body (b ∷ body) rest h = let others = passed_body body rest h.1 in rw (passed_byte b h.0) (omega (arith, others))
 
 read_body : (body : List ℕ) (f : ℕ) → AllByRecursion IsBodyByte body → IsFinal f
     → filter is_read (body ++ f ∷ []) ≡ body ++ f ∷ []

@@ -1,13 +1,12 @@
 -- From the span in front to what a step promises.
 use Rattle.std.proofs.Common.{◌≡◌, ℕ, ◌<◌, ◌≤◌, List, [], ◌∷◌, ◌++◌, length, take, drop, refl, sym, ap, subst, ◌∙◌, inl, inr, append_assoc, append-nil, arith, ◌-◌, true, take_all, drop_of_length-le}
-use Rattle.std.proofs.{Math.Seq.take-append_seam, Math.Seq.drop-append_seam, lemmas.List.length-take, lemmas.List.take-append-drop, lemmas.List.take-append-le}
-use Rattle.std.proofs.{lemmas.List.drop-append-le, lemmas.Bool.cases_lt}
+use Rattle.std.proofs.lemmas.List.{length-append, length-take, take-append-drop, take-append-le, drop-append-le}
+use Rattle.std.proofs.{Math.Seq.take-append_seam, Math.Seq.drop-append_seam, lemmas.Bool.cases_lt}
 use Rattle.csicodec_tokens.specs.declared.param.CsiParam.{CsiParam}
 use Rattle.csicodec_spans.specs.{declared.table.Kind.Kind, declared.table.Mode.Mode, Parts.Cuts, Parts.IsMaximal, Parts.IsSequence}
 use Rattle.csicodec_spans.proofs.Spanned.{cut_parts, cut_some}
-use Rattle.csicodec_events.specs.{declared.event.Event.Event, declared.event.Events.Events, declared.event.Told.Told, Characters.is_unfinished}
-use Rattle.csicodec_events.specs.{Characters.EndsWhole, Events.BeginsCsi, Events.IsBegun, Events.IsHeld, Events.IsSpan, Events.IsTold, Events.onward}
-use Rattle.csicodec_events.specs.{Private.Steps.HasTold, Private.Steps.HasWaited}
+use Rattle.csicodec_events.specs.{declared.event.Event.Event, declared.event.Events.Events, Characters.is_unfinished, Characters.EndsWhole, Events.BeginsCsi}
+use Rattle.csicodec_events.specs.{Events.IsBegun, Events.IsHeld, Events.IsSpan, Events.IsTold, Events.onward, Private.Steps.HasFound, Private.Steps.HasWaited}
 use Rattle.csicodec_events.proofs.Steps.{told_on}
 use Rattle.csicodec_spans.specs.declared.table.Kind.TheVariants as kind
 use Rattle.csicodec_events.specs.declared.event.Event.TheVariants as event
@@ -21,48 +20,36 @@ no_csi bytes text rest other parts s =
 
 -- ---- spans but text
 
-pub span_told : (e : Events) (bytes : List ℕ) (t : Told) (list : List CsiParam) (after : Events)
-    (m : Mode) (j k : Kind) (x : Event) (text rest : List ℕ) → 0 < e.limit → e.looked ≡ 0
-    → j ≡ k → t.event ≡ x → t.bytes.now ≡ take (length text) bytes → t.rest.now ≡ drop (length text) bytes
-    → after ≡ onward e m 0 → Cuts e.limit e.mode bytes j text rest m → IsMaximal j m rest
-    → (IsSpan e k bytes t.bytes.now t.rest.now after
-    → IsTold x e bytes t.bytes.now t.rest.now list after)
-    → HasTold e bytes t.event t.bytes.now t.rest.now list after
-span_told e bytes t list after m j k x text rest limit none same is front back on cuts maximal tells =
-    let parts = cut_parts e.limit e.mode bytes j text rest m cuts in
-    let some = cut_some e.limit e.mode bytes j text rest m limit cuts in
-    let front' : t.bytes.now ≡ text = front ∙ ap (λ (l : List ℕ). take (length text) l) parts ∙ take-append_seam text rest in
-    let back' : t.rest.now ≡ rest = back ∙ ap (λ (l : List ℕ). drop (length text) l) parts ∙ drop-append_seam text rest in
-    let span : IsSpan e k bytes t.bytes.now t.rest.now after = record { next = m; cuts = rw (← same, front', back') cuts; maximal = rw (← same, back') maximal; on = on } in
-    told_on e bytes t.event t.bytes.now t.rest.now list after m x is on (tells span) (record {
-      parts = rw (front', back') parts;
-      some = omega (arith, some, ap length front');
-      further = omega (arith, some, none, ap length front');
-    })
+pub span_told : (e : Events) (bytes : List ℕ) (list : List CsiParam) (after : Events) (m : Mode) (k : Kind) (x : Event)
+    (text rest : List ℕ) → 0 < e.limit → e.looked ≡ 0 → after ≡ onward e m 0
+    → Cuts e.limit e.mode bytes k text rest m → IsMaximal k m rest
+    → (IsSpan e k bytes text rest after → IsTold x e bytes text rest list after)
+    → HasFound e bytes x (length text) list after
+span_told e bytes list after m k x text rest limit none on cuts maximal tells =
+    let parts = cut_parts e.limit e.mode bytes k text rest m cuts in
+    let some = cut_some e.limit e.mode bytes k text rest m limit cuts in
+    let front : take (length text) bytes ≡ text = ap (λ (l : List ℕ). take (length text) l) parts ∙ take-append_seam text rest in
+    let back : drop (length text) bytes ≡ rest = ap (λ (l : List ℕ). drop (length text) l) parts ∙ drop-append_seam text rest in
+    told_on e bytes x (length text) list after m on (omega (arith, ap length parts, length-append text rest)) (omega (arith, some, none))
+    (rw (front, back) (tells (record { next = m; cuts = cuts; maximal = maximal; on = on })))
 
 -- ---- text
 
-pub text_told : (e : Events) (bytes : List ℕ) (t : Told) (list : List CsiParam) (after : Events)
-    (m : Mode) (n : ℕ) (span behind : List ℕ) → e.looked ≡ 0 → t.event ≡ event.Text
-    → t.bytes.now ≡ take n bytes → t.rest.now ≡ drop n bytes → after ≡ onward e m 0
-    → Cuts e.limit e.mode bytes kind.Text span behind m → IsMaximal kind.Text m behind
-    → n ≤ length span → 0 < n → IsHeld (take n span) (drop n span) behind
-    → HasTold e bytes t.event t.bytes.now t.rest.now list after
-text_told e bytes t list after m n span behind none is front back on cuts maximal le some holds =
+pub text_told : (e : Events) (bytes : List ℕ) (list : List CsiParam) (after : Events) (m : Mode) (n : ℕ) (span behind : List ℕ)
+    → e.looked ≡ 0 → after ≡ onward e m 0 → Cuts e.limit e.mode bytes kind.Text span behind m
+    → IsMaximal kind.Text m behind → n ≤ length span → 0 < n → IsHeld (take n span) (drop n span) behind
+    → HasFound e bytes event.Text n list after
+text_told e bytes list after m n span behind none on cuts maximal le some holds =
     let parts = cut_parts e.limit e.mode bytes kind.Text span behind m cuts in
-    let halves = take-append-drop n span in
-    let front' : t.bytes.now ≡ take n span = front ∙ ap (λ (l : List ℕ). take n l) parts ∙ take-append-le n span behind le in
-    let back' : t.rest.now ≡ drop n span ++ behind = back ∙ ap (λ (l : List ℕ). drop n l) parts ∙ drop-append-le n span behind le in
-    let whole : bytes ≡ take n span ++ (drop n span ++ behind) = parts ∙ ap (λ (l : List ℕ). l ++ behind) (sym halves) ∙ append_assoc (take n span) (drop n span) behind in
-    let long : length t.bytes.now ≡ n = omega (arith, ap length front', length-take n span, le) in
-    told_on e bytes t.event t.bytes.now t.rest.now list after m event.Text is on (record {
-      some = omega (arith, long, some);
+    let front : take n bytes ≡ take n span = ap (λ (l : List ℕ). take n l) parts ∙ take-append-le n span behind le in
+    told_on e bytes event.Text n list after m on (omega (arith, le, ap length parts, length-append span behind)) (omega (arith, some, none)) (rw front (record {
+      some = omega (arith, length-take n span, le, some);
       held = drop n span;
       behind = behind;
-      span = record { next = m; cuts = rw (front', halves) cuts; maximal = maximal; on = on };
-      holds = rw front' holds;
-      goes_on = back';
-    }) (record { parts = rw (front', back') whole; some = omega (arith, long, some); further = omega (arith, long, some, none) })
+      span = record { next = m; cuts = rw (take-append-drop n span) cuts; maximal = maximal; on = on };
+      holds = holds;
+      goes_on = ap (λ (l : List ℕ). drop n l) parts ∙ drop-append-le n span behind le;
+    }))
 
 all_held : (e : Events) (m : Mode) (bytes text held behind : List ℕ)
     → Cuts e.limit e.mode bytes kind.Text held behind m → bytes ≡ held ++ behind → 0 < length held

@@ -9,17 +9,16 @@
 --   ] P X ^ _    a control string, as in output, once another byte follows
 --   c            a key with alt (xterm: metaSendsEscape), c any other byte of ASCII but ESC
 --   else         nothing: ESC is a key of its own, before ESC or a character beyond ASCII
-use Rattle.std.specs.Prelude.{ℕ, ◌≡◌, ◌+◌, ◌-◌, ◌*◌, ◌==◌, Bool, false, ◌&&◌, ◌||◌, nat_le, nat_lt, List, [], ◌∷◌, ◌++◌, take, drop, if◌then◌else◌}
+use Rattle.std.specs.Prelude.{ℕ, ◌≡◌, ◌+◌, ◌-◌, ◌*◌, ◌==◌, Bool, true, false, ◌&&◌, ◌||◌, nat_le, nat_lt, List, [], ◌∷◌, ◌++◌, take, drop, if◌then◌else◌}
 use Rattle.csicodec_tokens.specs.declared.param.CsiParam.{CsiParam}
 use Rattle.csicodec_spans.specs.declared.table.Mode.{Mode}
 use Rattle.csicodec_events.specs.{declared.event.Event.Event, declared.event.Events.Events, declared.input.Dialect.Dialect, declared.input.Form.Form}
-use Rattle.csicodec_events.specs.{declared.input.InputEvent.InputEvent, declared.input.Sent.Sent, declared.input.Width.Width, Characters.is_from, Events.IsTold}
-use Rattle.csicodec_events.specs.{Events.Waits, Events.onward}
+use Rattle.csicodec_events.specs.{declared.input.InputEvent.InputEvent, declared.input.Sent.Sent, Characters.is_from, Events.IsTold, Events.Waits}
+use Rattle.csicodec_events.specs.{Events.onward}
 use Rattle.csicodec_spans.specs.declared.table.Mode.TheVariants as mode
 use Rattle.csicodec_events.specs.declared.input.Dialect.TheVariants as dialect
 use Rattle.csicodec_events.specs.declared.input.Form.TheVariants as form
 use Rattle.csicodec_events.specs.declared.input.InputEvent.TheVariants as input
-use Rattle.csicodec_events.specs.declared.input.Width.TheVariants as width
 
 abbrev pub is_printable : ℕ → Bool
 is_printable b = is_from 32 126 b
@@ -39,38 +38,19 @@ is_wide dialect.Output b = false
 is_wide dialect.Input b = false
 is_wide dialect.Utf8Input b = nat_le 128 b
 
-abbrev pub second : ℕ → List ℕ → Width
-second a [] = if is_from 194 223 a then width.Unsure else width.Wrong
-second a (b ∷ bytes) = if is_from 194 223 a && is_from 128 191 b then width.Two else width.Wrong
-
--- how many bytes the character in front has
-abbrev pub char_width : Dialect → List ℕ → Width
-char_width d [] = width.Unsure
-char_width d (a ∷ bytes) = if is_wide d a then second a bytes else width.One
-
--- so many bytes, and then the last character
-abbrev pub last : ℕ → Width → Form
-last n width.One = form.Whole input.Mouse (n + 1)
-last n width.Two = form.Whole input.Mouse (n + 2)
-last n width.Unsure = form.Unsure
-last n width.Wrong = form.AsOutput
-
--- .. the last two
-abbrev pub last_two : Dialect → ℕ → List ℕ → Width → Form
-last_two d n bytes width.One = last (n + 1) (char_width d (drop 1 bytes))
-last_two d n bytes width.Two = last (n + 2) (char_width d (drop 2 bytes))
-last_two d n bytes width.Unsure = form.Unsure
-last_two d n bytes width.Wrong = form.AsOutput
-
--- .. all three
-abbrev pub last_three : Dialect → ℕ → List ℕ → Width → Form
-last_three d n bytes width.One = last_two d (n + 1) (drop 1 bytes) (char_width d (drop 1 bytes))
-last_three d n bytes width.Two = last_two d (n + 2) (drop 2 bytes) (char_width d (drop 2 bytes))
-last_three d n bytes width.Unsure = form.Unsure
-last_three d n bytes width.Wrong = form.AsOutput
+-- so many characters are to come behind so many bytes; where it has begun, the first of two bytes of one has come
+abbrev pub characters : Dialect → ℕ → Bool → ℕ → List ℕ → Form
+characters d left begun n [] = if left == 0 then form.Whole input.Mouse n else form.Unsure
+characters d left begun n (a ∷ bytes) =
+    if left == 0 then form.Whole input.Mouse n else
+    if begun then
+    (if is_from 128 191 a then characters d (left - 1) false (n + 1) bytes else form.AsOutput) else
+    if is_wide d a then
+    (if is_from 194 223 a then characters d left true (n + 1) bytes else form.AsOutput) else
+    characters d (left - 1) false (n + 1) bytes
 
 abbrev pub mouse : Dialect → List ℕ → Form
-mouse d bytes = last_three d 3 bytes (char_width d bytes)
+mouse d bytes = characters d 3 false 3 bytes
 
 -- ---- the other forms
 

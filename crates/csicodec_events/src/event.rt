@@ -1,11 +1,11 @@
 //! The event in front of some bytes.
-ghost use Rattle.std.specs.Prelude.{◌≡◌, ◌<◌, ◌≤◌, ◌↔◌, ◌++◌, List, ℕ, IsTrue, length, take, drop, IfSome, IfOk, MatchOption, OnErr, OnOk};
+ghost use Rattle.std.specs.Prelude.{◌≡◌, ◌<◌, ◌≤◌, ◌↔◌, ◌++◌, List, ℕ, IsTrue, IfSome, IfOk, MatchOption, OnErr, OnOk};
 ghost use Rattle.csicodec_tokens.specs.declared.param.CsiParam.{CsiParam};
 ghost use Rattle.csicodec_spans.specs.declared.table.Kind.TheVariants as kinds;
 ghost use Rattle.csicodec_spans.specs.declared.table.Mode.TheVariants.{Text as Plain};
 ghost use Rattle.csicodec_spans.specs.Parts.{Cuts, IsMaximal};
-ghost use Rattle.csicodec_events.specs.Events.{BeginsCsi, IsMet, Tells, Waits, left, onward};
-ghost use Rattle.csicodec_events.specs.Private.Steps.{HasTold, HasWaited};
+ghost use Rattle.csicodec_events.specs.Events.{BeginsCsi, IsMet, Tells, Waits, left};
+ghost use Rattle.csicodec_events.specs.Private.Steps.{HasFound, HasWaited};
 
 use crate::front::Front;
 use crate::input::behind;
@@ -88,28 +88,8 @@ impl Events {
         self.looked == 0 || begins_csi(bytes) && self.looked <= bytes.len()
     }
 
-    /// The event of the first bytes, so many, and the mode behind them.
-    pub(crate) fn tell<'a>(
-        &mut self,
-        event: Event,
-        bytes: &'a [u8],
-        len: usize,
-        mode: Mode,
-    ) -> Told<'a>
-        requires { len ≤ length bytes.now }
-        ensures event { result.event ≡ event }
-        ensures bytes { result.bytes.now ≡ take len bytes.now }
-        ensures rest { result.rest.now ≡ drop len bytes.now }
-        ensures onward { self.new ≡ onward self.old mode 0 }
-    {
-        self.mode = mode;
-        self.looked = 0;
-        let (bytes, rest) = bytes.split_at(len);
-        Told { event, bytes, rest }
-    }
-
     /// The text of a span in front, but for the beginning of a character where the bytes end.
-    fn text<'a>(&mut self, bytes: &'a [u8], cut: Cut<'a>) -> Option<Told<'a>>
+    fn text(&mut self, bytes: &[u8], cut: Cut<'_>) -> Option<(Event, usize)>
         requires limit { 0 < self.old.limit }
         requires other { BeginsCsi bytes.now → ⊥ }
         requires cut { Cuts self.old.limit self.old.mode bytes.now kinds.Text cut.span.bytes.now
@@ -118,23 +98,23 @@ impl Events {
         requires looked { self.old.looked ≡ 0 }
         ensures { (list : List CsiParam)
             → MatchOption result (HasWaited self.old bytes.now self.new)
-            (λ t. HasTold self.old bytes.now t.event t.bytes.now t.rest.now list self.new) }
+            (λ (event, len). HasFound self.old bytes.now event len list self.new) }
     {
         let len = cut.span.bytes.len() - held_len(cut.span.bytes, cut.rest);
         if len == 0 {
             return None;
         }
-        Some(self.tell(Event::Text, bytes, len, cut.mode))
+        Some(self.found(Event::Text, len, cut.mode))
     }
 
-    /// The event of a span in front.
-    fn span<'a>(&mut self, bytes: &'a [u8]) -> Option<Told<'a>>
+    /// The event of a span in front, and how many bytes it has.
+    fn span(&mut self, bytes: &[u8]) -> Option<(Event, usize)>
         requires limit { 0 < self.old.limit }
         requires other { BeginsCsi bytes.now → ⊥ }
         requires looked { self.old.looked ≡ 0 }
         ensures { (list : List CsiParam)
             → MatchOption result (HasWaited self.old bytes.now self.new)
-            (λ t. HasTold self.old bytes.now t.event t.bytes.now t.rest.now list self.new) }
+            (λ (event, len). HasFound self.old bytes.now event len list self.new) }
     {
         let Some(cut) = next_span(self.limit, self.mode, bytes) else {
             return None;
@@ -142,9 +122,9 @@ impl Events {
         let len = cut.span.bytes.len();
         match cut.span.kind {
             Kind::Text => self.text(bytes, cut),
-            Kind::Esc => Some(self.tell(Event::Esc, bytes, len, cut.mode)),
-            Kind::Str => Some(self.tell(Event::Str, bytes, len, cut.mode)),
-            Kind::Csi | Kind::Other => Some(self.tell(Event::Other, bytes, len, cut.mode)),
+            Kind::Esc => Some(self.found(Event::Esc, len, cut.mode)),
+            Kind::Str => Some(self.found(Event::Str, len, cut.mode)),
+            Kind::Csi | Kind::Other => Some(self.found(Event::Other, len, cut.mode)),
         }
     }
 
@@ -185,7 +165,14 @@ impl Events {
         ensures memory { OnErr result (self.new ≡ self.old) }
     {
         if !begins_csi(bytes) {
-            return Ok(self.span(bytes));
+            return match self.span(bytes) {
+                Some((event, len)) => Ok(Some(Told {
+                    event,
+                    bytes: near(len, bytes),
+                    rest: behind(bytes, len),
+                })),
+                None => Ok(None),
+            };
         }
         match self.next_over(&mut Front::new(bytes), params)? {
             Some((event, len)) => Ok(Some(Told {

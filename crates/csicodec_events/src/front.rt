@@ -1,12 +1,11 @@
 //! The bytes that a control sequence stands in front of, and what each look at one costs.
 ghost use Rattle.std.specs.Prelude.{◌≡◌, ◌<◌, ◌≤◌, ◌+◌, ◌*◌, ◌^◌, ◌∷◌, List, ℕ, IfOk, IfSome, IfNone, MatchOption, OnOk, drop, length, take};
 ghost use Rattle.csicodec_tokens.specs.declared.param.CsiParam.{CsiParam};
-ghost use Rattle.csicodec_tokens.specs.Fault.{FaultOf};
 ghost use Rattle.csicodec_tokens.specs.Sequence.{Reads, Seq};
 ghost use Rattle.csicodec_events.specs.Events.{BeginsCsi, stop, without_controls};
 
 use crate::sequence::{near, read_without};
-use csicodec_tokens::{Count, CsiParam, ReadError, read_csi_into};
+use csicodec_tokens::{Count, CsiParam, read_csi_into};
 use std::alloc::AllocError;
 use std::marker::Model;
 
@@ -60,26 +59,6 @@ impl<'a> Front<'a> {
         self.bytes[at]
     }
 
-    /// Counts what a reader looked at that found no sequence, by its error.
-    fn charge_fault(&mut self, error: ReadError)
-        requires begins { BeginsCsi self.old.bytes }
-        requires fault { (limit : ℕ) × FaultOf (take limit self.old.bytes) error }
-        ensures bytes { self.new.bytes ≡ self.old.bytes }
-        ensures costs { self.new.looks ≤ self.old.looks
-            + length (take (stop 0 self.old.bytes + 1) self.old.bytes) }
-    {
-        match error {
-            ReadError::NotCsi { at }
-            | ReadError::BadByte { at }
-            | ReadError::NumberTooLarge { at } => {
-                self.count.charge(1, at);
-                self.count.charge(1, 1);
-            }
-            ReadError::Truncated { at } => self.count.charge(1, at),
-            ReadError::Memory => {}
-        }
-    }
-
     /// The final byte of the sequence that the first `limit` of them begin with, and how many bytes it has; none where they begin
     /// with none. Its tokens are read into `params`. It costs a look for each byte up to the final byte, or up to the one with which
     /// they begin none; after an `Err` it isn't counted.
@@ -104,10 +83,10 @@ impl<'a> Front<'a> {
                 self.count.charge(1, len);
                 Ok(Some((tail.control, len)))
             }
-            Err(error) => match error {
-                ReadError::Memory => Err(AllocError),
-                fault => {
-                    self.charge_fault(fault);
+            Err(error) => match error.at() {
+                None => Err(AllocError),
+                Some(at) => {
+                    self.count.charge(1, near(at + 1, front).len());
                     Ok(None)
                 }
             },

@@ -1,12 +1,13 @@
 //! The event in front of what a terminal sends.
-ghost use Rattle.std.specs.Prelude.{◌≡◌, ◌<◌, ◌≤◌, ◌++◌, [], List, ℕ, length, IfNone, IfSome, IfOk, MatchOption, OnErr, OnOk, true, take, drop};
+ghost use Rattle.std.specs.Prelude.{◌≡◌, ◌<◌, ◌≤◌, ◌++◌, ◌+◌, ◌^◌, [], List, ℕ, length, IfNone, IfSome, IfOk, MatchOption, OnErr, OnOk, true, take, drop};
 ghost use Rattle.csicodec_tokens.specs.declared.param.CsiParam.{CsiParam};
 ghost use Rattle.csicodec_spans.specs.declared.table.Mode.TheVariants.{Text as Plain};
 ghost use Rattle.csicodec_events.specs.declared.input.Form.TheVariants.{Unsure};
 ghost use Rattle.csicodec_events.specs.Events.{IsMet, left, onward};
-ghost use Rattle.csicodec_events.specs.Input.{Awaits, IsSent, IsSentBy, ahead, behind_escape, char_width, csi, escape, escape_in_string, in_input, is_digit, is_opener, is_printable, is_wide, last, last_three, last_two, linux, mouse, paused, rxvt, second, ss3, string, two_digits};
+ghost use Rattle.csicodec_events.specs.Input.{Awaits, IsSent, IsSentBy, ahead, behind_escape, characters, csi, escape, escape_in_string, in_input, is_digit, is_opener, is_printable, is_wide, linux, mouse, paused, rxvt, ss3, string, two_digits};
 
 use crate::event::{Event, Events};
+use crate::sequence::near;
 use crate::text::is_from;
 use csicodec_spans::Mode;
 use csicodec_tokens::CsiParam;
@@ -65,19 +66,6 @@ pub(crate) enum Form {
     Unsure,
 }
 
-/// How many bytes a character has.
-#[derive(Clone, Copy)]
-pub(crate) enum Width {
-    /// One.
-    One,
-    /// Two.
-    Two,
-    /// It depends on what follows.
-    Unsure,
-    /// There is none.
-    Wrong,
-}
-
 fn is_printable(byte: u8) -> bool
     ensures { result ≡ is_printable byte }
 {
@@ -109,76 +97,40 @@ impl Dialect {
     }
 }
 
-/// The character of two bytes that begins with this one, by what is behind it.
-fn second(first: u8, bytes: &[u8]) -> Width
-    ensures { result ≡ second first bytes.now }
-{
-    match bytes {
-        [] if is_from(0xc2, 0xdf, first) => Width::Unsure,
-        [byte, ..] if is_from(0xc2, 0xdf, first) && is_from(0x80, 0xbf, *byte) => Width::Two,
-        _ => Width::Wrong,
-    }
-}
-
-/// How many bytes the character in front has.
-fn char_width(dialect: Dialect, bytes: &[u8]) -> Width
-    ensures { result ≡ char_width dialect bytes.now }
-{
-    match bytes {
-        [] => Width::Unsure,
-        [byte, others @ ..] if dialect.is_wide(*byte) => second(*byte, others),
-        _ => Width::One,
-    }
-}
-
 pub(crate) fn behind(bytes: &[u8], len: usize) -> &[u8]
     ensures { result.now ≡ drop len bytes.now }
 {
     bytes.get(len..).unwrap_or(&[])
 }
 
-/// A mouse report, by its last character, which stands behind so many bytes.
-fn last(len: usize, width: Width) -> Form
-    requires { len ≤ 7 }
-    ensures { result ≡ last len width }
+/// A mouse report of which so many characters are to come, behind so many bytes; `begun` says that the first of two bytes of one has
+/// come.
+fn characters(dialect: Dialect, left: usize, begun: bool, len: usize, bytes: &[u8]) -> Form
+    requires { len + length bytes.now < 2 ^ 64 }
+    ensures { result ≡ characters dialect left begun len bytes.now }
 {
-    match width {
-        Width::One => Form::Whole(InputEvent::Mouse, len + 1),
-        Width::Two => Form::Whole(InputEvent::Mouse, len + 2),
-        Width::Unsure => Form::Unsure,
-        Width::Wrong => Form::AsOutput,
-    }
-}
-
-/// The same by its last two, of which the first has this width.
-fn last_two(dialect: Dialect, len: usize, bytes: &[u8], width: Width) -> Form
-    requires { len ≤ 5 }
-    ensures { result ≡ last_two dialect len bytes.now width }
-{
-    match width {
-        Width::One => last(len + 1, char_width(dialect, behind(bytes, 1))),
-        Width::Two => last(len + 2, char_width(dialect, behind(bytes, 2))),
-        Width::Unsure => Form::Unsure,
-        Width::Wrong => Form::AsOutput,
-    }
-}
-
-/// The same by all three.
-fn last_three(dialect: Dialect, len: usize, bytes: &[u8], width: Width) -> Form
-    requires { len ≤ 3 }
-    ensures { result ≡ last_three dialect len bytes.now width }
-{
-    match width {
-        Width::One => {
-            let others = behind(bytes, 1);
-            last_two(dialect, len + 1, others, char_width(dialect, others))
+    match bytes {
+        [] if left == 0 => Form::Whole(InputEvent::Mouse, len),
+        [] => Form::Unsure,
+        [byte, others @ ..] => {
+            if left == 0 {
+                Form::Whole(InputEvent::Mouse, len)
+            } else if begun {
+                if is_from(0x80, 0xbf, *byte) {
+                    characters(dialect, left - 1, false, len + 1, others)
+                } else {
+                    Form::AsOutput
+                }
+            } else if dialect.is_wide(*byte) {
+                if is_from(0xc2, 0xdf, *byte) {
+                    characters(dialect, left, true, len + 1, others)
+                } else {
+                    Form::AsOutput
+                }
+            } else {
+                characters(dialect, left - 1, false, len + 1, others)
+            }
         }
-        Width::Two => {
-            let others = behind(bytes, 2);
-            last_two(dialect, len + 2, others, char_width(dialect, others))
-        }
-        Width::Unsure => Form::Unsure,
-        Width::Wrong => Form::AsOutput,
     }
 }
 
@@ -186,7 +138,7 @@ fn last_three(dialect: Dialect, len: usize, bytes: &[u8], width: Width) -> Form
 fn mouse(dialect: Dialect, bytes: &[u8]) -> Form
     ensures { result ≡ mouse dialect bytes.now }
 {
-    last_three(dialect, 3, bytes, char_width(dialect, bytes))
+    characters(dialect, 3, false, 3, bytes)
 }
 
 /// Behind `ESC O`.
@@ -330,7 +282,6 @@ fn paused(bytes: &[u8]) -> Form
 impl Events {
     /// The event of the first bytes, so many.
     fn sent<'a>(&mut self, event: InputEvent, bytes: &'a [u8], len: usize) -> Sent<'a>
-        requires { len ≤ length bytes.now }
         ensures event { result.event ≡ event }
         ensures bytes { result.bytes.now ≡ take len bytes.now }
         ensures rest { result.rest.now ≡ drop len bytes.now }
@@ -338,8 +289,11 @@ impl Events {
     {
         self.mode = Mode::Text;
         self.looked = 0;
-        let (bytes, rest) = bytes.split_at(len);
-        Sent { event, bytes, rest }
+        Sent {
+            event,
+            bytes: near(len, bytes),
+            rest: behind(bytes, len),
+        }
     }
 
     /// The event in front of bytes of this dialect, as [`next`](Events::next) tells those of output.

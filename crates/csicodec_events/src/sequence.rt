@@ -102,7 +102,7 @@ pub(crate) fn near(limit: usize, bytes: &[u8]) -> &[u8]
 
 impl Events {
     /// The event of the first bytes, so many, and the mode behind them.
-    fn found(&mut self, event: Event, len: usize, mode: Mode) -> (Event, usize)
+    pub(crate) fn found(&mut self, event: Event, len: usize, mode: Mode) -> (Event, usize)
         ensures event { result ≡ (event, len) }
         ensures onward { self.new ≡ onward self.old mode 0 }
     {

@@ -4,13 +4,12 @@ use Rattle.csicodec_tokens.specs.declared.param.CsiParam.{CsiParam}
 use Rattle.csicodec_events.specs.{declared.event.Events.Events, declared.event.Event.Event, Events.IsMet, Events.IsTold, Events.Waits, Events.is_passed}
 use Rattle.csicodec_events.specs.{Events.left}
 
--- an event was told
-pub record HasTold (e : Events) (bytes : List ℕ) (event : Event) (text rest : List ℕ)
-    (list : List CsiParam) (after : Events) : Type 0 where
-  pub tells : IsTold event e bytes text rest list after
-  pub parts : bytes ≡ text ++ rest
-  pub progress : left after rest < left e bytes
-  pub again : IsMet after rest
+-- an event was told of the first bytes, so many
+pub record HasFound (e : Events) (bytes : List ℕ) (event : Event) (n : ℕ) (list : List CsiParam)
+    (after : Events) : Type 0 where
+  pub tells : IsTold event e bytes (take n bytes) (drop n bytes) list after
+  pub progress : left after (drop n bytes) < left e bytes
+  pub again : IsMet after (drop n bytes)
   pub limit : after.limit ≡ e.limit
 
 -- none was
@@ -18,10 +17,6 @@ pub record HasWaited (e : Events) (bytes : List ℕ) (after : Events) : Type 0 w
   pub waits : Waits e bytes after
   pub again : (more : List ℕ) → IsMet after (bytes ++ more)
   pub limit : after.limit ≡ e.limit
-
--- .. of the first bytes, so many
-abbrev pub HasFound : Events → List ℕ → Event → ℕ → List CsiParam → Events → Type 0
-HasFound e bytes event n list after = HasTold e bytes event (take n bytes) (drop n bytes) list after
 
 -- the byte where a sequence stops, if it doesn't stop where the bytes end
 abbrev pub StandsAt : Option ℕ → List ℕ → Type 0

@@ -1,18 +1,20 @@
 use Rattle.std.proofs.Common.{[]}
-use Rattle.csicodec_events.proofs.Steps.{match_some, match_both, match_limit}
 use Rattle.csicodec_events.proofs.event.Events.next.Goals as goal
 
-pub returns-then-not-begins_csi-clause-tells : goal.returns-then-not-begins_csi-clause-tells
-returns-then-not-begins_csi-clause-tells c = match_both _ _ _ _ c.span.result (c.span.ensures _) (λ w. w.waits) (λ t h. h.tells)
+pub returns-in-Some-clause-progress : goal.returns-in-Some-clause-progress
+returns-in-Some-clause-progress c = rw c.behind.ensures (c.in-Some.ensures []).progress
 
-pub returns-then-not-begins_csi-clause-parts : goal.returns-then-not-begins_csi-clause-parts
-returns-then-not-begins_csi-clause-parts c = match_some _ _ _ c.span.result (c.span.ensures []) (λ t h. h.parts)
+pub returns-in-Some-clause-again : goal.returns-in-Some-clause-again
+returns-in-Some-clause-again c = rw c.behind.ensures (c.in-Some.ensures []).again
 
-pub returns-then-not-begins_csi-clause-progress : goal.returns-then-not-begins_csi-clause-progress
-returns-then-not-begins_csi-clause-progress c = match_some _ _ _ c.span.result (c.span.ensures []) (λ t h. h.progress)
+pub returns-in-Some-clause-limit : goal.returns-in-Some-clause-limit
+returns-in-Some-clause-limit c = (c.in-Some.ensures []).limit
 
-pub returns-then-not-begins_csi-clause-again : goal.returns-then-not-begins_csi-clause-again
-returns-then-not-begins_csi-clause-again c = match_both _ _ _ _ c.span.result (c.span.ensures []) (λ w. w.again) (λ t h. h.again)
+pub returns-in-None-clause-tells : goal.returns-in-None-clause-tells
+returns-in-None-clause-tells c = (c.in-None.ensures []).waits
 
-pub returns-then-not-begins_csi-clause-limit : goal.returns-then-not-begins_csi-clause-limit
-returns-then-not-begins_csi-clause-limit c = match_limit c.args.self.now c.args.bytes.now c.span.new.self c.span.result (c.span.ensures [])
+pub returns-in-None-clause-again : goal.returns-in-None-clause-again
+returns-in-None-clause-again c = (c.in-None.ensures []).again
+
+pub returns-in-None-clause-limit : goal.returns-in-None-clause-limit
+returns-in-None-clause-limit c = (c.in-None.ensures []).limit

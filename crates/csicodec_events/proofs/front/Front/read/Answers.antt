@@ -1,16 +1,17 @@
-use Rattle.std.proofs.Common.{◌≡◌, ℕ, List, ◌-◌, length, length-append, take, ap, subst, ◌∙◌, arith}
-use Rattle.csicodec_tokens.specs.{Fault.FaultOf, Sequence.Reads}
-use Rattle.csicodec_events.specs.Front.{Seen}
-use Rattle.csicodec_events.proofs.Costs.{read_cost, refused_fault}
+use Rattle.std.proofs.Common.{◌≡◌, ◌≤◌, ℕ, List, ◌+◌, ◌-◌, length, length-append, take, sym, ap, subst, ◌∙◌, arith}
+use Rattle.csicodec_tokens.specs.Sequence.{Reads}
+use Rattle.csicodec_events.specs.{Events.stop, Front.Seen}
+use Rattle.csicodec_events.proofs.Costs.{fault_cost, read_cost}
 use Rattle.csicodec_events.proofs.front.Front.read.Goals as goal
 
-pub charge_fault-requires : goal.charge_fault-requires
-charge_fault-requires c =
-    let near : c.near-front.result.now ≡ take c.args.limit c.args.self.now.bytes = c.near-front.ensures ∙ ap (λ (s : Seen). take c.args.limit s.bytes) c.self.view_is in
-    record {
-      begins = c.requires.begins;
-      fault = (c.args.limit, subst (λ (x : List ℕ). FaultOf x c.in-Err.error) near (refused_fault c.near-front.result.now _ c.in-Err.error c.in-Err.ensures.refused c.in_default.not-Memory));
-    }
+pub returns-in-Some-clause-costs : goal.returns-in-Some-clause-costs
+returns-in-Some-clause-costs c =
+    let bytes = c.args.self.now.bytes in
+    let near : c.near-front.result.now ≡ take c.args.limit bytes = c.near-front.ensures ∙ ap (λ (s : Seen). take c.args.limit s.bytes) c.self.view_is in
+    let cost : length (take (c.in-Some.at + 1) c.near-front.result.now) ≤ length (take (stop 0 bytes + 1) bytes) =
+    fault_cost c.near-front.result.now _ c.in-Err.error c.args.limit c.in-Some.at bytes c.in-Err.ensures.refused near (sym c.at.ensures ∙ c.in-Some.is) in
+    let total = ap (λ (s : Seen). s.looks) c.self.view_is in
+    omega (arith, cost, ap length c.near.ensures, total, c.charge-in-Some.ensures)
 
 pub returns-in-Ok-clause-read : goal.returns-in-Ok-clause-read
 returns-in-Ok-clause-read c =

@@ -2,10 +2,9 @@
 use Rattle.std.proofs.Common.{◌≡◌, ℕ, ◌≤◌, false, List, [], ◌∷◌, ◌++◌, length, refl, sym, ap, subst, ◌∙◌, inl, inr, append_assoc, append-nil, arith}
 use Rattle.std.proofs.{lemmas.Grind.flat_map-append, lemmas.Bool.both_ways}
 use Rattle.std.specs.List.{concat}
-use Rattle.csicodec_tokens.specs.declared.param.CsiParam.{CsiParam}
 use Rattle.csicodec_spans.specs.{declared.table.Mode.Mode, Parts.Part, Parts.AreAll, Parts.AreFirstParts, Parts.IsFirstPart}
 use Rattle.csicodec_spans.proofs.{Once.part_once, Once.unsure_stops, OneSpan.none_unsure}
-use Rattle.csicodec_events.specs.Events.{AreAlike, AreTold, BeginsCsi, InChunks, IsOpen, IsWrongAt, Piece, Tells, Waits, before_stop, from_stop, onward, pieces, pieces_of, stop}
+use Rattle.csicodec_events.specs.Events.{AreAlike, AreTold, BeginsCsi, InChunks, IsOpen, IsWrongAt, Piece, Waits, before_stop, from_stop, pieces, pieces_of}
 use Rattle.csicodec_events.specs.{declared.event.Events.Events, declared.event.Told.Told, Characters.is_unfinished}
 use Rattle.csicodec_events.proofs.{Moves.Divides, Moves.Done, Moves.IsStill, Moves.divides_more, Moves.divides_on, Moves.divides_once, Divided.all_go}
 use Rattle.csicodec_events.proofs.{Looked.IsLooked, Looked.looked_met, Looked.looked_more, Run.GoesOn, Run.told_same, Run.waits_on, Run.waits_same}

@@ -1,16 +1,16 @@
 -- A span as the smallest steps, a step for each of its parts, and any event.
 use Rattle.std.proofs.Common.{◌≡◌, ◌≢◌, ◌⊎◌, ℕ, ◌<◌, Bool, true, false, List, [], ◌∷◌, ◌++◌, length, drop, refl, sym, ap, subst, ◌∙◌, inl, inr, append_assoc, arith}
 use Rattle.std.proofs.{lemmas.Bool.cases_Bool, lemmas.Bool.eqb-true, lemmas.Bool.Decides.nat_tests, lemmas.Grind.flat_map-append}
-use Rattle.std.proofs.{lemmas.List.append_cancel_left, lemmas.List.length-append}
+use Rattle.std.proofs.{lemmas.List.append_cancel_left, lemmas.List.length-append, lemmas.List.take-append-drop}
 use Rattle.std.specs.{Prelude.◌==◌, Prelude.if◌then◌else◌, List.AllByRecursion, List.flat_map}
 use Rattle.csicodec_spans.specs.Parts.{Part, part, Allows, AllowsCsi, AreAll, AreFirstParts, AreOne, IsFirstPart, IsMaximal, IsMore, bytes_of}
 use Rattle.csicodec_spans.specs.{declared.table.Kind.Kind, declared.table.Mode.Mode, Table.Answer, Table.More, Table.ahead}
 use Rattle.csicodec_spans.proofs.{Agrees.opens, Agrees.text_goes_on, Kept.parts_join, Apart.said, Missed.told_part, Spanned.cut_parts, Spanned.span_all}
-use Rattle.csicodec_events.specs.Events.{BeginsCsi, IsHeld, IsSpan, IsText, Piece, begins, byte_by_byte, divided, onward, piece, pieces_of, AreTold, GoesWrong, IsControl, IsTold, IsWrong, before_stop, from_stop, is_control, is_final, pieces, without_controls}
+use Rattle.csicodec_events.specs.Events.{BeginsCsi, IsSpan, IsText, Piece, begins, byte_by_byte, divided, onward, piece, pieces_of, AreTold, GoesWrong, IsControl, IsTold, IsWrong, before_stop, from_stop, is_final, pieces, stop, without_controls}
 use Rattle.csicodec_events.specs.{declared.event.Event.Event, declared.event.Events.Events, Characters.is_unfinished, declared.event.Told.Told}
 use Rattle.csicodec_events.proofs.Moves.{Divides, Done, Then, IsBy, IsPart, divides_on, one_divides, one_part, text_fit}
 use Rattle.csicodec_events.proofs.Looked.{AreInside, IsLooked, is_inside, looked_control, looked_met, no_control, over_inside, over_shape}
-use Rattle.csicodec_events.proofs.{Fronts.event_of, Fronts.front, Fronts.is_divided, Unfinished.text_sure, Run.met_within, Steps.halves}
+use Rattle.csicodec_events.proofs.{Fronts.event_of, Fronts.front, Fronts.is_divided, Unfinished.text_sure, Run.met_within}
 use Rattle.csicodec_tokens.specs.{declared.param.CsiParam.CsiParam, Sequence.Seq}
 use Rattle.csicodec_spans.specs.declared.table.Kind.TheVariants as kind
 use Rattle.csicodec_spans.specs.declared.table.Mode.TheVariants as mode
@@ -325,7 +325,7 @@ wrong_divides e after bytes text rest begins l w =
     let xs = drop 2 over in
     let form = over_shape e bytes begins in
     let g = goes_divides e xs behind text rest w.next (over_inside e bytes begins l) (subst (λ (x : List ℕ). GoesWrong x behind text rest w.next) form w.goes) in
-    let whole : bytes ≡ 27 ∷ 91 ∷ (xs ++ behind) = (halves e bytes).whole ∙ ap (λ (x : List ℕ). x ++ behind) form in
+    let whole : bytes ≡ 27 ∷ 91 ∷ (xs ++ behind) = sym (take-append-drop (stop e.looked bytes) bytes) ∙ ap (λ (x : List ℕ). x ++ behind) form in
     rw (g.1, w.on) (Then (inr (inr (record {
       stands = whole;
       within = met_within e bytes (looked_met e bytes l);

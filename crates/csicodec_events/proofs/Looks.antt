@@ -1,14 +1,14 @@
 -- How often the bytes of control sequences are looked at: no byte again to find where one stops.
 use Rattle.std.proofs.Common.{◌≡◌, ℕ, ◌+◌, ◌-◌, ◌*◌, ◌<◌, ◌≤◌, max, List, [], ◌∷◌, ◌++◌, length, take, drop, refl, sym, ap, ◌∙◌, inl, inr, append-nil, take_all, arith}
 use Rattle.std.proofs.{lemmas.Bool.and_parts, lemmas.Bool.cases_lt, lemmas.Bool.eqb-true, lemmas.Grind.flat_map-append, lemmas.List.drop_at}
-use Rattle.std.proofs.{lemmas.List.length-append, lemmas.List.length-drop, lemmas.List.length-take}
+use Rattle.std.proofs.{lemmas.List.length-append, lemmas.List.length-drop, lemmas.List.length-take, lemmas.List.take-append-drop}
 use Rattle.std.specs.{List.concat, List.flat_map, List.prefix_len, Prelude.◌==◌, Prelude.◌&&◌, Prelude.Bool, Prelude.true, Prelude.false, Prelude.if◌then◌else◌}
 use Rattle.csicodec_tokens.specs.declared.param.CsiParam.{CsiParam}
 use Rattle.csicodec_spans.specs.declared.table.Mode.{Mode}
 use Rattle.csicodec_events.specs.Events.{AreTold, BeginsCsi, GoesWrong, InChunks, IsOpen, IsTold, Waits, before_stop, bytes_of, from_stop, is_passed, is_csi, looks, looks_in, looks_told, reach, stop}
 use Rattle.csicodec_events.specs.{declared.event.Event.Event, declared.event.Events.Events, declared.event.Told.Told}
 use Rattle.csicodec_events.proofs.{Divided.span_other, Divided.told_goes, Looked.IsLooked, Looked.looked_met, Looked.looked_more, Looked.over_inside}
-use Rattle.csicodec_events.proofs.{Run.chunks_joined, Run.met_within, Steps.halves, Steps.stop_behind, Unfinished.refuted}
+use Rattle.csicodec_events.proofs.{Run.chunks_joined, Run.met_within, Steps.next_place, Unfinished.refuted}
 use Rattle.csicodec_spans.specs.declared.table.Kind.TheVariants as kind
 use Rattle.csicodec_events.specs.declared.event.Event.TheVariants as event
 
@@ -64,13 +64,16 @@ none_counted e after bytes text (inl none) other =
     omega (arith, none, no)
 none_counted e after bytes text (inr l) other = absurd (other l.0)
 
--- .. where so much is used and noted that it is one less than what was reached, at least
-begun_counted : (e after : Events) (bytes text : List ℕ) → reach e bytes ≤ length text + (after.looked - 1) + 1
-    → e.looked ≤ length text + (after.looked - 1) + 1 → 0 < length text + (after.looked - 1)
-    → IsCounted e bytes text after
-begun_counted e after bytes text reached before some =
+-- .. where so much is used and noted that it is one less than what was reached, and than what stands before the stop, at least
+begun_counted : (e after : Events) (bytes text : List ℕ) → BeginsCsi bytes → IsLooked e bytes
+    → reach e bytes ≤ length text + (after.looked - 1) + 1
+    → length (before_stop e bytes) ≤ length text + (after.looked - 1) + 1 → IsCounted e bytes text after
+begun_counted e after bytes text begins l reached over =
     let most = looks_most e bytes (length text) in
     let once = first_most e (reach e bytes) in
+    let front = length-take (stop e.looked bytes) bytes in
+    let before : e.looked ≤ length text + (after.looked - 1) + 1 = omega (arith, over, met_within e bytes (looked_met e bytes l), front) in
+    let some : 0 < length text + (after.looked - 1) = omega (arith, over, front, ap length begins.1) in
     elim (cases_lt 0 e.looked) [
       | inl lt ↦ let no = once.1 lt in omega (arith, most, no, lt, reached, before, some)
       | inr le ↦ omega (arith, most, once.0, le, reached, before, some)
@@ -87,30 +90,22 @@ told_counted : (x : Event) (e : Events) (bytes text rest : List ℕ) (list : Lis
     → IsCounted e bytes text after
 told_counted event.Text e bytes text rest list after l h = none_counted e after bytes text l (span_other e kind.Text bytes (text ++ h.held) h.behind after (λ is. cc) (λ is. cc) h.span)
 told_counted (event.Control b) e bytes text rest list after l h =
-    let at = stop e.looked bytes in
     let c = h.1 in
-    let place = (halves e bytes).some (omega (arith, ap length c.stands)) in
-    let s = stop_behind e.looked bytes in
+    let len = (next_place e bytes b c.more c.stands).len in
     let looked : after.looked ≡ length (before_stop e bytes) + 1 = ap (λ (a : Events). a.looked) c.looked in
-    begun_counted e after bytes text (omega (arith, looked, place, length-take (at + 1) bytes)) (omega (arith, looked, place, s.0)) (omega (arith, looked, place, s.1))
+    begun_counted e after bytes text h.0 l (omega (arith, looked, len, length-take (stop e.looked bytes + 1) bytes)) (omega (arith, looked))
 told_counted (event.Csi final) e bytes text rest list after l h =
-    let at = stop e.looked bytes in
     let c = h.1 in
-    let place = (halves e bytes).some (omega (arith, ap length c.stands)) in
-    let s = stop_behind e.looked bytes in
+    let len = (next_place e bytes c.last rest c.stands).len in
     let long : length text ≡ length (before_stop e bytes) + 1 = ap length c.whole ∙ length-append (before_stop e bytes) (c.last ∷ []) in
-    begun_counted e after bytes text (omega (arith, place, length-take (at + 1) bytes, long)) (omega (arith, place, s.0, long)) (omega (arith, long))
+    begun_counted e after bytes text h.0 l (omega (arith, len, long, length-take (stop e.looked bytes + 1) bytes)) (omega (arith, long))
 told_counted event.Esc e bytes text rest list after l h = none_counted e after bytes text l (span_other e kind.Esc bytes text rest after (λ is. cc) (λ is. cc) h)
 told_counted event.Str e bytes text rest list after l h = none_counted e after bytes text l (span_other e kind.Str bytes text rest after (λ is. cc) (λ is. cc) h)
 told_counted event.Other e bytes text rest list after l (inl h) = none_counted e after bytes text l h.0
 told_counted event.Other e bytes text rest list after l (inr h) =
     let at = stop e.looked bytes in
-    let s = stop_behind e.looked bytes in
-    let met = met_within e bytes (looked_met e bytes l) in
     let long = goes_longer (before_stop e bytes) (from_stop e bytes) text rest h.1.next h.1.goes in
-    let two = ap length h.0.1 in
-    begun_counted e after bytes text (omega (arith, long, length-take at bytes, length-take (at + 1) bytes)) (omega (arith, met, long, s.0, length-take at bytes))
-    (omega (arith, long, s.1, length-take at bytes, two))
+    begun_counted e after bytes text h.0 l (omega (arith, long, length-take at bytes, length-take (at + 1) bytes)) (omega (arith, long))
 
 -- ---- where the stream waits
 
@@ -119,13 +114,8 @@ wait_counted : (e after : Events) (bytes : List ℕ) → IsLooked e bytes → Wa
 wait_counted e after bytes l (inl w) =
     let at = stop e.looked bytes in
     let o = w.1 in
-    let s = stop_behind e.looked bytes in
-    let met = met_within e bytes (looked_met e bytes l) in
     let looked : after.looked ≡ length (before_stop e bytes) = ap (λ (a : Events). a.looked) o.looked in
-    let ends = ap length o.ends in
-    let two = ap length w.0.1 in
-    begun_counted e after bytes [] (omega (arith, looked, s.1, length-take at bytes, length-take (at + 1) bytes, length-drop at bytes, ends, two))
-    (omega (arith, looked, met, s.0, length-take at bytes)) (omega (arith, looked, s.1, length-take at bytes, two))
+    begun_counted e after bytes [] w.0 l (omega (arith, looked, length-take at bytes, length-take (at + 1) bytes, length-drop at bytes, ap length o.ends)) (omega (arith, looked))
 wait_counted e after bytes l (inr (inl w)) = none_counted e after bytes [] l w.0
 wait_counted e after bytes l (inr (inr w)) = none_counted e after bytes [] l w.0
 
@@ -133,9 +123,8 @@ open_looked : (e after : Events) (bytes : List ℕ) → IsLooked e bytes → Beg
     → IsOpen e (before_stop e bytes) (from_stop e bytes) after → IsLooked after bytes
 open_looked e after bytes l begins o =
     let over = before_stop e bytes in
-    let h = halves e bytes in
     let looked : after.looked ≡ length over = ap (λ (a : Events). a.looked) o.looked in
-    let whole : bytes ≡ over = h.whole ∙ ap (λ (x : List ℕ). over ++ x) o.ends ∙ append-nil over in
+    let whole : bytes ≡ over = sym (take-append-drop (stop e.looked bytes) bytes) ∙ ap (λ (x : List ℕ). over ++ x) o.ends ∙ append-nil over in
     let front : take after.looked bytes ≡ over = take_all after.looked bytes (omega (arith, looked, ap length whole)) ∙ whole in
     inr (begins, omega (arith, looked, ap length whole), rw front (over_inside e bytes begins l))
 

@@ -1,14 +1,14 @@
 -- What follows of events one after the other.
 use Rattle.std.proofs.Common.{◌≡◌, ◌⊎◌, ℕ, ◌+◌, ◌≤◌, max, List, [], ◌∷◌, ◌++◌, length, take, drop, refl, sym, ap, subst, ◌∙◌, inl, inr, append_assoc, append-nil, arith}
 use Rattle.std.proofs.{lemmas.List.Folds.prefix_len-append, lemmas.Bool.eq-eqb, lemmas.List.drop-append-le, lemmas.List.length-take, lemmas.List.length-drop}
-use Rattle.std.proofs.{Math.Seq.drop-append_seam, lemmas.Grind.flat_map-append, lemmas.List.Sums.prefix_len-le-length}
+use Rattle.std.proofs.{lemmas.List.take-append-drop, Math.Seq.drop-append_seam, lemmas.Grind.flat_map-append, lemmas.List.Sums.prefix_len-le-length}
 use Rattle.std.specs.List.{concat, flat_map, prefix_len}
 use Rattle.csicodec_tokens.specs.declared.param.CsiParam.{CsiParam}
 use Rattle.csicodec_spans.specs.{declared.table.Kind.Kind, declared.table.Mode.Mode}
 use Rattle.csicodec_spans.proofs.Spanned.{cut_parts}
 use Rattle.csicodec_events.specs.Events.{AreTold, BeginsCsi, GoesWrong, InChunks, IsMet, IsSpan, IsText, IsTold, Tells, Waits, before_stop, bytes_of, from_stop, is_passed, onward, stop}
 use Rattle.csicodec_events.specs.{declared.event.Event.Event, declared.event.Events.Events, declared.event.Told.Told}
-use Rattle.csicodec_events.proofs.{Kept.begins_more, Steps.csi_parts, Steps.halves}
+use Rattle.csicodec_events.proofs.{Kept.begins_more, Steps.csi_parts}
 use Rattle.csicodec_events.specs.declared.event.Event.TheVariants as event
 
 -- ---- the bytes joined
@@ -36,7 +36,7 @@ parts_of (event.Csi final) e bytes text rest list after h = csi_parts e bytes li
 parts_of event.Esc e bytes text rest list after h = span_parts e _ bytes text rest after h
 parts_of event.Str e bytes text rest list after h = span_parts e _ bytes text rest after h
 parts_of event.Other e bytes text rest list after (inl h) = span_parts e _ bytes text rest after h.1
-parts_of event.Other e bytes text rest list after (inr h) = (halves e bytes).whole ∙ goes_parts (before_stop e bytes) (from_stop e bytes) text rest h.1.next h.1.goes
+parts_of event.Other e bytes text rest list after (inr h) = sym (take-append-drop (stop e.looked bytes) bytes) ∙ goes_parts (before_stop e bytes) (from_stop e bytes) text rest h.1.next h.1.goes
 
 told_joined : (told : List Told) (e : Events) (bytes rest : List ℕ) (after : Events)
     → AreTold e bytes told rest after → bytes ≡ flat_map bytes_of told ++ rest

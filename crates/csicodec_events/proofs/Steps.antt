@@ -7,31 +7,6 @@ use Rattle.csicodec_spans.specs.declared.table.Mode.{Mode}
 use Rattle.csicodec_events.specs.{declared.event.Event.Event, declared.event.Events.Events, Events.IsCsi, Events.IsTold, Events.before_stop, Events.from_stop}
 use Rattle.csicodec_events.specs.{Events.onward, Events.stop, Private.Steps.HasFound}
 
--- a sequence stops behind what was looked at, and behind ESC and `[`
-pub stop_behind : (looked : ℕ) (bytes : List ℕ)
-    → (looked ≤ stop looked bytes) × (2 ≤ stop looked bytes)
-stop_behind looked bytes = (omega arith, omega arith)
-
--- what stands before the stop and from there on
-pub record Halves (e : Events) (bytes : List ℕ) : Type 0 where
-  pub whole : bytes ≡ before_stop e bytes ++ from_stop e bytes
-  pub count : length (before_stop e bytes) + length (from_stop e bytes) ≡ length bytes
-  pub place : stop e.looked bytes ≤ length bytes
-      → length (before_stop e bytes) ≡ stop e.looked bytes
-  pub some : 0 < length (from_stop e bytes) → length (before_stop e bytes) ≡ stop e.looked bytes
-
-pub halves : (e : Events) (bytes : List ℕ) → Halves e bytes
-halves e bytes =
-    let n = stop e.looked bytes in
-    let t = length-take n bytes in
-    let d = length-drop n bytes in
-    record {
-      whole = sym (take-append-drop n bytes);
-      count = omega (arith, t, d);
-      place = λ le. omega (arith, t, le);
-      some = λ lt. omega (arith, t, d, lt);
-    }
-
 -- an event of the first bytes, of which half are more than those looked at, and behind which nothing is looked at
 pub told_on : (e : Events) (bytes : List ℕ) (x : Event) (n : ℕ) (list : List CsiParam) (after : Events) (m : Mode)
     → after ≡ onward e m 0 → n ≤ length bytes → e.looked < 2 * n
@@ -73,5 +48,5 @@ next_place e bytes b more stands =
 pub csi_parts : (e : Events) (bytes : List ℕ) (list : List CsiParam) (final : ℕ) (text rest : List ℕ) (after : Events)
     → IsCsi e (before_stop e bytes) (from_stop e bytes) list final text rest after → bytes ≡ text ++ rest
 csi_parts e bytes list final text rest after c =
-    (halves e bytes).whole ∙ ap (λ (x : List ℕ). before_stop e bytes ++ x) c.stands
+    sym (take-append-drop (stop e.looked bytes) bytes) ∙ ap (λ (x : List ℕ). before_stop e bytes ++ x) c.stands
     ∙ sym (append_assoc (before_stop e bytes) (c.last ∷ []) rest) ∙ ap (λ (x : List ℕ). x ++ rest) (sym c.whole)

@@ -1,10 +1,10 @@
 -- What is told where a sequence stops, by the byte there.
-use Rattle.std.proofs.Common.{◌≡◌, ℕ, ◌+◌, ◌-◌, ◌<◌, ◌≤◌, Bool, true, false, cond, filter, inl, inr, List, [], ◌∷◌, ◌++◌, length, take, drop, refl, sym, ap, subst, ◌∙◌, append_assoc, append-nil, arith}
-use Rattle.std.proofs.{Math.Seq.take-append_seam, Math.Seq.drop-append_seam, lemmas.List.length-append, lemmas.List.length-take, lemmas.List.length-drop}
-use Rattle.std.proofs.{lemmas.List.take-append-drop, lemmas.Bool.Decides.nat_tests, lemmas.List.Elements.filter-append}
+use Rattle.std.proofs.Common.{◌≡◌, ℕ, ◌+◌, ◌-◌, ◌<◌, ◌≤◌, Bool, true, false, cond, filter, inl, inr, List, [], ◌∷◌, ◌++◌, length, take, drop, refl, sym, ap, subst, ◌∙◌, append-nil, arith}
+use Rattle.std.proofs.{lemmas.List.length-append, lemmas.List.length-take, lemmas.List.take-append-drop, lemmas.Bool.Decides.nat_tests}
+use Rattle.std.proofs.{lemmas.List.Elements.filter-append}
 use Rattle.csicodec_tokens.specs.{declared.param.CsiParam.CsiParam, Sequence.IsFinal, Sequence.Reads, Sequence.Seq}
 use Rattle.csicodec_spans.proofs.Sequences.{short, whole}
-use Rattle.csicodec_events.specs.Events.{BeginsCsi, GoesWrong, IsCsi, IsWrongAt, before_stop, from_stop, is_control, is_final, is_passed, is_read, onward, stop, without_controls}
+use Rattle.csicodec_events.specs.Events.{BeginsCsi, IsWrongAt, before_stop, from_stop, is_control, is_final, is_passed, is_read, onward, stop, without_controls}
 use Rattle.csicodec_events.specs.{declared.event.Events.Events, Private.Steps.HasFound}
 use Rattle.csicodec_events.proofs.{Sequences.at_once, Steps.next_place, Steps.told_on}
 use Rattle.csicodec_spans.specs.declared.table.Mode.TheVariants as mode

@@ -1,5 +1,5 @@
 //! The event in front of what a terminal sends.
-ghost use Rattle.std.specs.Prelude.{◌≡◌, ◌<◌, ◌≤◌, ◌++◌, ◌+◌, ◌^◌, [], List, ℕ, length, IfNone, IfSome, IfOk, MatchOption, OnErr, OnOk, true, take, drop};
+ghost use Rattle.std.specs.Prelude.{◌≡◌, ◌<◌, ◌++◌, ◌+◌, ◌^◌, [], List, ℕ, length, IfNone, IfSome, IfOk, MatchOption, OnErr, OnOk, true, take, drop};
 ghost use Rattle.csicodec_tokens.specs.declared.param.CsiParam.{CsiParam};
 ghost use Rattle.csicodec_spans.specs.declared.table.Mode.TheVariants.{Text as Plain};
 ghost use Rattle.csicodec_events.specs.declared.input.Form.TheVariants.{Unsure};

@@ -110,6 +110,21 @@ said-same s cs c held text = rw (held, text) refl
 down-low : (e : KeyEvent) → down_of e < 2
 down-low e = grind arith
 
+-- the key of a record whose virtual key, or whose character, is that of the key
+told-fine : (s : Stroke) (vk uc enhanced : ℕ) → s.held < 256 → s.held / 8 % 8 ≡ 0 → vk < 4294967296 → uc < 65536 → enhanced < 2
+    → win32_code (win32_row vk (enhanced == 1)) (typed_unit uc) ≡ Some s.code → unit_text (typed_unit uc) ≡ s.text
+    → Fine s.text (said encoding.Win32 s) (form.Win32 (record { vk = vk; uc = uc; kd = down_of s.event; cs = state_of s.held + 256 * enhanced }))
+told-fine s vk uc enhanced low none key unit two coded text =
+    let r : Record = record { vk = vk; uc = uc; kd = down_of s.event; cs = state_of s.held + 256 * enhanced } in
+    let state = state-low s.held in
+    let down = down-low s.event in
+    let same : is_enhanced r.cs ≡ (enhanced == 1) = ap (λ n. n == 1) (omega (arith, state, two)) in
+    let small : Small r = (key, omega (arith, unit), omega (arith, down), omega (arith, state, two)) in
+    record {
+      read = told-read r s.code small (rw same coded) ∙ ap Some (said-same s r.cs (typed_unit uc) (held-back enhanced s.held two low none) text);
+      sound = small;
+    }
+
 row-fine : (s : Stroke) (r : Row) (uc : ℕ) → s.held < 256 → s.held / 8 % 8 ≡ 0 → row_of win32_keys s.code 0 ≡ Some r → unit_of s.code s.held s.text ≡ Some uc
     → Fine s.text (said encoding.Win32 s) (form.Win32 (row_record r.number (down_of s.event) (state_of s.held) uc))
 row-fine s r uc low none is unit =
@@ -117,20 +132,8 @@ row-fine s r uc low none is unit =
     let p = and_parts (nat_lt r.number 512) (r.control == 95) t.passes in
     let at : row_at win32_keys r.number 95 ≡ Some r = subst (λ c. row_at win32_keys r.number c ≡ Some r) (eqb-true r.control 95 p.1) t.at in
     let types = unit-types s.code s.held uc s.text unit in
-    let unit_small = types.small in
-    let state = state-low s.held in
-    let two : r.number / 256 % 2 < 2 = omega arith in
-    let down = down-low s.event in
-    let cs : ℕ = state_of s.held + 256 * (r.number / 256 % 2) in
-    let is_one : is_enhanced cs ≡ (r.number / 256 % 2 == 1) = ap (λ n. n == 1) (omega (arith, state, two)) in
-    let coded : win32_code (win32_row (r.number % 256) (is_enhanced cs)) (typed_unit uc) ≡ Some s.code =
-    ap (λ o. win32_code o (typed_unit uc)) (ap (win32_row (r.number % 256)) is_one ∙ row-there r.number r (ltb-true r.number 512 p.0) at) ∙ ap Some t.code_is in
-    let small : Small (row_record r.number (down_of s.event) (state_of s.held) uc) = (omega arith, omega (arith, unit_small), omega (arith, down), omega (arith, state, two)) in
-    record {
-      read = told-read (row_record r.number (down_of s.event) (state_of s.held) uc) s.code small coded
-          ∙ ap Some (said-same s cs (typed_unit uc) (held-back (r.number / 256 % 2) s.held two low none) types.gives);
-      sound = small;
-    }
+    told-fine s (r.number % 256) uc (r.number / 256 % 2) low none (omega arith) types.small (omega arith)
+    (ap (λ o. win32_code o (typed_unit uc)) (row-there r.number r (ltb-true r.number 512 p.0) at) ∙ ap Some t.code_is) types.gives
 
 -- ---- a key that has no row
 
@@ -141,20 +144,13 @@ char-fine s (code.Char c) (d ∷ []) r low none same is e =
     allowed (λ x. Fine s.text (said encoding.Win32 s) (form.Win32 x)) ((c == d) && is_typed c && nat_lt c 65536) (record { vk = 0; uc = c; kd = down_of s.event; cs = state_of s.held }) r e (λ h.
     let p = and_parts ((c == d) && is_typed c) (nat_lt c 65536) h in
     let q = and_parts (c == d) (is_typed c) p.0 in
-    let high = ltb-true c 65536 p.1 in
-    let state = state-low s.held in
-    let down = down-low s.event in
     let unit : typed_unit c ≡ Some c = rw q.1 refl in
-    let coded : win32_code (win32_row 0 (is_enhanced (state_of s.held))) (typed_unit c) ≡ Some s.code =
-    ap (λ o. win32_code o (typed_unit c)) (no-row (is_enhanced (state_of s.held))) ∙ (ap (option_map (λ x. code.Char x)) unit ∙ ap Some (sym same)) in
-    let plain : state_of s.held + 256 * 0 ≡ state_of s.held = omega arith in
-    let back = subst (λ n. held_in n ≡ s.held) plain (held-back 0 s.held (omega arith) low none) in
+    let coded : win32_code (win32_row 0 false) (typed_unit c) ≡ Some s.code =
+    ap (λ o. win32_code o (typed_unit c)) (no-row false) ∙ (ap (option_map (λ x. code.Char x)) unit ∙ ap Some (sym same)) in
     let text : unit_text (typed_unit c) ≡ s.text = ap unit_text unit ∙ (ap (λ n. n ∷ []) (eqb-true c d q.0) ∙ sym is) in
-    let small : Small (record { vk = 0; uc = c; kd = down_of s.event; cs = state_of s.held }) = (omega arith, omega (arith, high), omega (arith, down), omega (arith, state)) in
-    record {
-      read = told-read (record { vk = 0; uc = c; kd = down_of s.event; cs = state_of s.held }) s.code small coded ∙ ap Some (said-same s (state_of s.held) (typed_unit c) back text);
-      sound = small;
-    })
+    let plain : state_of s.held + 256 * 0 ≡ state_of s.held = omega arith in
+    subst (λ n. Fine s.text (said encoding.Win32 s) (form.Win32 (record { vk = 0; uc = c; kd = down_of s.event; cs = n }))) plain
+    (told-fine s 0 c 0 low none (omega arith) (ltb-true c 65536 p.1) (omega arith) coded text))
 char-fine s (code.Char c) (d ∷ x ∷ xs) r low none same is e = cc
 char-fine s _ text r low none same is e = cc
 

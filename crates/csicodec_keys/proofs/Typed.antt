@@ -5,11 +5,11 @@ use Rattle.std.specs.{Prelude.true, Prelude.false, Prelude.◌==◌, Char.encode
 use lib.Utf8.{next, scalar}
 use Rattle.csicodec_tokens.specs.declared.param.CsiParam.{CsiParam}
 use Rattle.csicodec_spans.specs.{declared.table.Kind.Kind, declared.table.Mode.Mode, Table.Answer, Parts.Allows, Parts.AreAll, Parts.AreFirstParts}
-use Rattle.csicodec_spans.specs.{Parts.IsFirstPart, Parts.IsUnsureBy, Parts.Part, Parts.part}
-use Rattle.csicodec_spans.proofs.{Agrees.text_goes_on, Spanned.cut_parts}
+use Rattle.csicodec_spans.specs.{Parts.IsUnsureBy, Parts.Part}
+use Rattle.csicodec_spans.proofs.{Agrees.text_goes_on, Missed.told_part, Spanned.cut_parts, Spanned.span_all}
 use Rattle.csicodec_events.specs.{declared.event.Event.Event, declared.event.Events.Events, Characters.is_unfinished, Events.BeginsCsi, Events.IsHeld}
-use Rattle.csicodec_events.specs.{Events.IsText, Events.IsTold, Events.Waits}
-use Rattle.csicodec_events.proofs.{Divided.esc_behind, Divided.kind_other, Fronts.front, Unfinished.unfinished_front}
+use Rattle.csicodec_events.specs.{Events.IsSpan, Events.IsText, Events.IsTold, Events.Waits}
+use Rattle.csicodec_events.proofs.{Divided.esc_behind, Unfinished.unfinished_front}
 use Rattle.csicodec_keys.specs.Sent.{IsTextFront, fresh}
 use Rattle.csicodec_spans.specs.declared.table.Kind.TheVariants as kind
 use Rattle.csicodec_spans.specs.declared.table.Mode.TheVariants as mode
@@ -98,19 +98,14 @@ begins a later more (t ∷ text) held behind n some e h stops =
 text-mode : (limit : ℕ) (ps : List Part) (m a : Mode) (bytes rest : List ℕ) → m ≡ mode.Text → AllByRecursion (λ (p : Part). p.kind ≡ kind.Text) ps → AreFirstParts limit m bytes ps rest a
     → a ≡ mode.Text
 text-mode limit [] m a bytes rest is all s = s.1 ∙ is
-text-mode limit (p ∷ ps) m a bytes rest is all s =
-    let text : p.kind ≡ kind.Text = all.0 in
-    let f = front limit m s.1 bytes s.0 p (kind_other limit m s.1 bytes s.0 p (λ is. cc) (λ is. cc) s.2) s.2 in
-    text-mode limit ps s.1 a s.0 rest (f.text text).1 all.1 s.3
+text-mode limit (p ∷ ps) m a bytes rest is all s = text-mode limit ps s.1 a s.0 rest ((told_part limit m bytes p s.0 s.1 s.2).plain all.0) all.1 s.3
 
-first-text : (limit : ℕ) (b : ℕ) (bytes rest : List ℕ) (a : Mode) (p : Part) → b ≢ 27 → IsFirstPart limit mode.Text (b ∷ bytes) p rest a → p.kind ≡ kind.Text
-first-text limit b bytes rest a p other h =
-    let here = subst (λ (f : Answer). Allows f limit (b ∷ bytes) p.kind p.bytes a) (text_goes_on b bytes other) h.1 in
-    here.0
-
-all-text : (limit : ℕ) (b : ℕ) (bytes rest text : List ℕ) (k : Kind) (a : Mode) (ps : List Part) → b ≢ 27 → AreAll k text ps → AreFirstParts limit mode.Text (b ∷ bytes) ps rest a → k ≡ kind.Text
-all-text limit b bytes rest text k a [] other s f = absurd (omega (arith, s.some))
-all-text limit b bytes rest text k a (p ∷ ps) other s f = sym s.all.0 ∙ first-text limit b bytes f.0 f.1 p other f.2
+span-text : (limit b : ℕ) (bytes text rest : List ℕ) (k : Kind) (after : Events) → b ≢ 27 → IsSpan (fresh limit) k (b ∷ bytes) text rest after → k ≡ kind.Text
+span-text limit b bytes text rest k after other t = by t.cuts.parts (span_all k text t.cuts.parts t.cuts.span) t.cuts.first
+  where
+    by : (ps : List Part) → AreAll k text ps → AreFirstParts limit mode.Text (b ∷ bytes) ps rest t.next → k ≡ kind.Text
+    by [] s f = absurd (omega (arith, s.some))
+    by (p ∷ ps) s f = sym s.all.0 ∙ (subst (λ (x : Answer). Allows x limit (b ∷ bytes) p.kind p.bytes f.1) (text_goes_on b bytes other) f.2.1).0
 
 -- ---- what is told
 
@@ -131,14 +126,9 @@ output-told : (limit a : ℕ) (later more text rest : List ℕ) (list : List Csi
 output-told limit a later more text rest list after told.Text c t = (refl, text-told limit a later more text rest after c t)
 output-told limit a later more text rest list after (told.Control b) c t = absurd (no-begin a (later ++ more) c.0 t.0)
 output-told limit a later more text rest list after (told.Csi final) c t = absurd (no-begin a (later ++ more) c.0 t.0)
-output-told limit a later more text rest list after told.Esc c t =
-    let g = subst (λ (l : List Part). AreFirstParts limit mode.Text (a ∷ (later ++ more)) l rest t.next) t.cuts.span t.cuts.first in
-    let is = first-text limit a (later ++ more) g.0 g.1 (part kind.Esc text) c.0 g.2 in absurd cc
-output-told limit a later more text rest list after told.Str c t =
-    let is = all-text limit a (later ++ more) rest text kind.Str t.next t.cuts.parts c.0 t.cuts.span t.cuts.first in absurd cc
-output-told limit a later more text rest list after told.Other c (inl t) =
-    let s = t.1 in
-    let is = all-text limit a (later ++ more) rest text kind.Other s.next s.cuts.parts c.0 s.cuts.span s.cuts.first in absurd cc
+output-told limit a later more text rest list after told.Esc c t = let is = span-text limit a (later ++ more) text rest kind.Esc after c.0 t in absurd cc
+output-told limit a later more text rest list after told.Str c t = let is = span-text limit a (later ++ more) text rest kind.Str after c.0 t in absurd cc
+output-told limit a later more text rest list after told.Other c (inl t) = let is = span-text limit a (later ++ more) text rest kind.Other after c.0 t.1 in absurd cc
 output-told limit a later more text rest list after told.Other c (inr t) = absurd (no-begin a (later ++ more) c.0 t.0)
 
 never-waits : (limit a : ℕ) (later more : List ℕ) (after : Events) → IsCharacter (a ∷ later) → Waits (fresh limit) (a ∷ (later ++ more)) after → ⊥

@@ -1,8 +1,8 @@
 -- Single parts, and runs of bytes that stay, as spans, which grow as far as what is open behind them goes on.
-use Rattle.std.proofs.Common.{◌≡◌, ◌≢◌, ◌⊎◌, ◌<◌, ◌≤◌, ◌+◌, ◌-◌, ◌%◌, ◌^◌, ◌∙◌, ℕ, zero, suc, Bool, true, false, not, ◌||◌, cond, eqb, Fits, w8, map, List, [], ◌∷◌, ◌++◌, length, take, drop, get_or, replicate, inl, inr, refl, sym, ap, subst, append_assoc, arith}
-use Rattle.std.proofs.lemmas.List.{length-take-le, take-append-drop, get_or-drop, get_or-map, get_or-take, length-map, length-replicate, map-id}
-use Rattle.std.proofs.lemmas.Simd.{Each1-get_or, get_or-replicate, get_or-zip2, leading_from_mask_l, length-zip2, map-map, mask_l-mod, tops_compared, trailing_mask_l}
-use Rattle.std.proofs.lemmas.Bool.{agree_below, agree_below_at, cases_lt}
+use Rattle.std.proofs.Common.{◌≡◌, ◌≢◌, ◌⊎◌, ◌<◌, ◌≤◌, ◌+◌, ◌-◌, ◌%◌, ◌^◌, ◌∙◌, ℕ, zero, suc, Bool, true, false, not, ◌||◌, cond, eqb, Fits, w8, map, List, [], ◌∷◌, ◌++◌, length, take, drop, get_or, inl, inr, refl, sym, ap, subst, append_assoc, arith}
+use Rattle.std.proofs.{lemmas.List.length-take-le, lemmas.List.take-append-drop, lemmas.List.get_or-drop, lemmas.List.get_or-take, lemmas.List.length-map}
+use Rattle.std.proofs.{lemmas.Simd.Each1-get_or, lemmas.Simd.first_set_mask_l, lemmas.Simd.map-map, lemmas.Simd.mask_l-mod, lemmas.Bool.agree_below}
+use Rattle.std.proofs.{lemmas.Bool.agree_below_at, lemmas.Bool.cases_lt, lemmas.List.Sums.prefix_len_passes}
 use Rattle.csicodec_tokens.specs.Fault.{Begins}
 use Rattle.csicodec_spans.specs.Parts.{Part, part, Allows, AllowsCsi, IsUnsure, IsUnsureBy, IsMore, IsMaximal, Cuts, IsPlain, IsPlainFront}
 use Rattle.csicodec_spans.specs.{declared.table.Kind.Kind, declared.table.Mode.Mode, declared.table.Ahead.Ahead, declared.table.Ahead.TheVariants.GoesOn}
@@ -10,7 +10,7 @@ use Rattle.csicodec_spans.specs.{declared.table.Ahead.TheVariants.Ends, declared
 use Rattle.csicodec_spans.specs.{declared.table.Ahead.TheVariants.Csi, declared.table.Ahead.TheVariants.Unsure, Table.Answer, Table.More, Table.Anew}
 use Rattle.csicodec_spans.specs.{Table.ahead, Private.TableBy.kind_in, Private.TableBy.stays, Private.TableBy.look, Private.TableBy.meant}
 use Rattle.csicodec_spans.proofs.{Fronts.Sound, Agrees.found, Agrees.sound, Agrees.Agrees, Agrees.agrees, AsOne.one_alone, Spanned.join_cuts, Spanned.one_span}
-use Rattle.std.specs.{List.prefix_len, Simd.Lanes.Each1, Simd.Lanes.mask_l, Simd.Lanes.top, Simd.Lanes.zip2}
+use Rattle.std.specs.Simd.Lanes.{Each1, mask_l, top}
 use lib.Count.{count_trailing_zeros}
 use Rattle.csicodec_spans.specs.declared.table.Mode.TheVariants as mode
 use Rattle.csicodec_spans.specs.declared.table.Kind.TheVariants as kind
@@ -129,63 +129,29 @@ some_more m bytes f is (inr h) = subst IsMore (sym (found m bytes (Ends h.0) (is
 
 -- ---- bytes before the first ESC, found many at once
 
--- the lanes before the first that is set aren't
-unset_before : (ms : List Bool) (i : ℕ) → i < prefix_len not ms → get_or ms i true ≡ false
-unset_before [] i lt = absurd (omega (arith, lt))
-unset_before (true ∷ ms) i lt = absurd (omega (arith, lt))
-unset_before (false ∷ ms) zero lt = refl
-unset_before (false ∷ ms) (suc i) lt = unset_before ms i (omega (arith, lt))
+below : (b : Bool) (k x y : ℕ) → k < x → k < y → k < cond b x y
+below true k x y h i = h
+below false k x y h i = i
 
-unset_lanes : (ms : List Bool) (w : ℕ) → w < 64 → length ms ≡ w → (k : ℕ) → k ≡ count_trailing_zeros 64 (mask_l ms) → (i : ℕ) → i < k → i < w → get_or ms i true ≡ false
-unset_lanes ms w few long k is i before within = go (mask_l ms) refl
-  where
-    go : (m : ℕ) → mask_l ms ≡ m → get_or ms i true ≡ false
-    go zero none =
-        let all : prefix_len not ms ≡ length ms = leading_from_mask_l (λ (b : Bool). b) ms (ap mask_l (map-id ms) ∙ none) in
-        unset_before ms i (omega (arith, all, long, within))
-    go (suc m) some =
-        let first : count_trailing_zeros 64 (mask_l ms) ≡ prefix_len not ms =
-        ap (λ (l : List Bool). count_trailing_zeros 64 (mask_l l)) (sym (map-id ms))
-        ∙ trailing_mask_l (λ (b : Bool). b) 64 ms (omega (arith, long, few)) (rw (map-id ms) (omega (arith, some))) in
-        unset_before ms i (omega (arith, before, is, first))
+other_one : (a b : Bool) → not a ≡ true → (a || b) ≡ true → b ≡ true
+other_one true b off h = cc
+other_one false b off h = h
 
--- those that are ESC
-abbrev pub are_esc : List ℕ → ℕ → List Bool
-are_esc xs w = zip2 eqb xs (replicate w 27)
-
-esc_at : (xs : List ℕ) (w i : ℕ) → length xs ≡ w → i < w → get_or (are_esc xs w) i true ≡ eqb (get_or xs i 0) 27
-esc_at xs w i long within =
-    get_or-zip2 eqb xs (replicate w 27) i 0 0 true (omega (arith, long, within)) (omega (arith, length-replicate {A = ℕ} w 27, within))
-    ∙ ap (λ (n : ℕ). eqb (get_or xs i 0) n) (get_or-replicate w i 27 0 within)
-
-pub text_lanes : (xs : List ℕ) (w : ℕ) → w < 64 → length xs ≡ w → (k : ℕ) → k ≡ count_trailing_zeros 64 (mask_l (are_esc xs w)) → (i : ℕ) → i < k → i < w → stays mode.Text (get_or xs i 0) ≡ true
-text_lanes xs w few long k is i before within =
-    let many : length (are_esc xs w) ≡ w = length-zip2 eqb xs (replicate w 27) (long ∙ sym (length-replicate {A = ℕ} w 27)) ∙ long in
-    ap not (sym (esc_at xs w i long within) ∙ unset_lanes (are_esc xs w) w few many k is i before within)
-
--- a comparison's mask, of lanes of bytes
-pub esc_mask : (xs : List ℕ) (w : ℕ) → w < 64 → length xs ≡ w
-    → count_trailing_zeros 64 (mask_l (map (top 7) (zip2 (λ a b. cond (eqb a b) 255 0) xs (replicate w 27))) % 2 ^ 64) ≡ count_trailing_zeros 64 (mask_l (are_esc xs w))
-esc_mask xs w few long =
-    ap (λ (ms : List Bool). count_trailing_zeros 64 (mask_l ms % 2 ^ 64)) (tops_compared w8 eqb xs (replicate w 27))
-    ∙ ap (count_trailing_zeros 64) (mask_l-mod (are_esc xs w) 64 (omega (arith, length-zip2 eqb xs (replicate w 27) (long ∙ sym (length-replicate {A = ℕ} w 27)), long, few)))
-
--- lanes at none of which a test is met, where that is met at each byte that ends an OSC
-pub osc_lanes : (xs z : List ℕ) (f : ℕ → ℕ) → length xs ≡ 32 → Each1 (Fits w8) xs → z ≡ map f xs
-    → agree_below (λ x. top 7 (f x) || stays mode.Osc x) (λ _. true) 256 ≡ true
-    → (k : ℕ) → k < count_trailing_zeros 64 (mask_l (map (top 7) z) % 2 ^ 64) → k < 32
-    → stays mode.Osc (get_or xs k 0) ≡ true
-osc_lanes xs z f long fits lanes all k before within =
-    let ends : List Bool = map (λ x. top 7 (f x)) xs in
-    let many : length ends ≡ 32 = length-map xs (λ x. top 7 (f x)) ∙ long in
-    let mask : mask_l (map (top 7) z) % 2 ^ 64 ≡ mask_l ends =
+-- lanes before the first at which a test is met, where that is met at each byte that doesn't stay
+pub lanes_before : (m : Mode) (w : ℕ) (xs z : List ℕ) (f : ℕ → ℕ) → w < 64 → length xs ≡ w → Each1 (Fits w8) xs → z ≡ map f xs
+    → agree_below (λ x. top 7 (f x) || stays m x) (λ _. true) 256 ≡ true
+    → (k : ℕ) → k < count_trailing_zeros 64 (mask_l (map (top 7) z) % 2 ^ 64) → k < w
+    → stays m (get_or xs k 0) ≡ true
+lanes_before m w xs z f few long fits lanes all k before within =
+    let met : ℕ → Bool = λ x. top 7 (f x) in
+    let mask : mask_l (map (top 7) z) % 2 ^ 64 ≡ mask_l (map met xs) =
     ap (λ l. mask_l l % 2 ^ 64) (ap (map (top 7)) lanes ∙ map-map (top 7) f xs)
-    ∙ mask_l-mod ends 64 (omega (arith, many)) in
-    let unset = unset_lanes ends 32 (omega arith) many _ (ap (count_trailing_zeros 64) mask) k before within in
-    let at = get_or-map (λ x. top 7 (f x)) xs k 0 true (omega (arith, long, within)) in
+    ∙ mask_l-mod (map met xs) 64 (omega (arith, length-map xs met, long, few)) in
+    let first = below (eqb (mask_l (map met xs)) 0) k w _ within (rw mask at before) in
+    let passed = subst (λ n. k < n) (first_set_mask_l met xs w long (omega (arith, few))) first in
     let byte = (Each1-get_or (Fits w8) xs k 0 (omega (arith, long, within)) fits).fits in
-    sym (ap (λ b. b || stays mode.Osc (get_or xs k 0)) (sym at ∙ unset))
-    ∙ agree_below_at (λ x. top 7 (f x) || stays mode.Osc x) (λ _. true) 256 (get_or xs k 0) all byte
+    other_one (met (get_or xs k 0)) (stays m (get_or xs k 0)) (prefix_len_passes (λ x. not (met x)) xs k 0 passed)
+    (agree_below_at (λ x. met x || stays m x) (λ _. true) 256 (get_or xs k 0) all byte)
 
 -- the bytes before a place stay, and so many behind it
 pub stays_on : (m : Mode) (bytes : List ℕ) (at n : ℕ)

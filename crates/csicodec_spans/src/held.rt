@@ -20,17 +20,6 @@ pub(crate) fn with_bytes(number: u64, bytes: &[u8]) -> Option<u64>
     }
 }
 
-/// The number that ends bytes of which nothing is sure, where they begin a control sequence's body.
-#[tactic(auto, using(crate::proofs::Waits::few_begun, crate::proofs::Waits::long_begun))]
-fn begun(bytes: &[u8]) -> Option<u64>
-    ensures { (limit : ℕ) (mode : Mode) → IsUnsure limit mode bytes.now → IsBegun bytes.now result }
-{
-    if bytes.len() < 3 {
-        return None;
-    }
-    with_bytes(0, bytes.split_at(2).1)
-}
-
 /// The bytes that wait. Each look at one, and each copy of one, is counted, in a count that contracts alone see.
 ///
 /// [`Waiting`](crate::Waiting) can get at the bytes in no other way: so that its looks stay linear in what comes is a promise about all that
@@ -108,7 +97,10 @@ impl Held {
         ensures costs { self.new ≡ record { bytes = self.old.bytes; looks = self.old.looks + length self.old.bytes } }
     {
         self.looks.charge(1, self.bytes.len());
-        begun(&self.bytes)
+        if self.bytes.len() < 3 {
+            return None;
+        }
+        with_bytes(0, self.bytes.split_at(2).1)
     }
 
     /// Appends them to others, so that none waits. It costs a look at each.

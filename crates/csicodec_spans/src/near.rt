@@ -50,20 +50,6 @@ fn text_len(bytes: &[u8]) -> usize
     48 + staying(Mode::Text, bytes.split_at(48).1)
 }
 
-/// How many bytes are an escape sequence in front, or the first byte of text.
-#[inline(always)]
-fn front_len(bytes: &[u8]) -> usize
-    ensures within { result ≤ length bytes.now }
-    ensures plain { 0 < result → IsPlainFront bytes.now result }
-    ensures none { result ≡ 0 → ¬ IsPlain (ahead Mode.Text bytes.now) }
-{
-    match look(Mode::Text, bytes) {
-        Ahead::GoesOn(len) => len,
-        Ahead::Esc(len) => len,
-        Ahead::Ends(_) | Ahead::New(..) | Ahead::Csi | Ahead::Unsure => 0,
-    }
-}
-
 /// How many bytes in front are text, or one escape sequence, where nothing is open ([`Mode::Text`]); nothing is open behind them. It is 0 where
 /// neither stands there, or where that isn't sure.
 ///
@@ -83,5 +69,9 @@ pub fn plain_len(bytes: &[u8]) -> usize
     if text > 0 {
         return text;
     }
-    front_len(bytes)
+    match look(Mode::Text, bytes) {
+        Ahead::GoesOn(len) => len,
+        Ahead::Esc(len) => len,
+        Ahead::Ends(_) | Ahead::New(..) | Ahead::Csi | Ahead::Unsure => 0,
+    }
 }

@@ -1,12 +1,12 @@
 -- Colours with semicolons are read as the attributes that their normal forms are.
-use Rattle.std.proofs.Common.{◌≡◌, ℕ, zero, suc, ◌≤◌, ◌<◌, ◌+◌, ◌*◌, ◌-◌, ◌/◌, ◌%◌, ◌^◌, pos, Bool, cond, w8, List, [], ◌∷◌, ◌++◌, false, Some, eqb, get_or, length, map, take, drop, refl, sym, ap, subst, ◌∙◌, append_assoc, append-nil, length-append, arith}
-use Rattle.std.proofs.lemmas.Fmt.{decimal_digit, decimal_nonempty, digits_decimal, digits_value-decimal, length-decimal-le}
-use Rattle.std.proofs.{Math.Seq.take-append-add, Math.Seq.take-append_seam, lemmas.Bool.lt-ltb, lemmas.Bool.ne_eqb, lemmas.Int.ints, lemmas.Simd.tops_compared}
-use Rattle.std.proofs.{lemmas.List.map-append, lemmas.List.take-map, lemmas.List.take-take, lemmas.List.take_all}
+use Rattle.std.proofs.Common.{◌≡◌, ℕ, zero, suc, ◌≤◌, ◌<◌, ◌+◌, ◌*◌, ◌-◌, ◌/◌, ◌%◌, pos, Bool, cond, w8, List, [], ◌∷◌, ◌++◌, false, Some, eqb, get_or, length, map, take, drop, refl, sym, ap, subst, ◌∙◌, append_assoc, append-nil, length-append, arith}
+use Rattle.std.proofs.{lemmas.Fmt.decimal_digit, lemmas.Fmt.digits_decimal, lemmas.Fmt.length-decimal-le, Math.Seq.take-append-add, Math.Seq.take-append_seam}
+use Rattle.std.proofs.{lemmas.Bool.lt-ltb, lemmas.Bool.ne_eqb, lemmas.Int.ints, lemmas.Simd.tops_compared, lemmas.List.map-append, lemmas.List.take-map}
+use Rattle.std.proofs.{lemmas.List.take-take, lemmas.List.take_all}
 use Rattle.std.specs.{Fmt.decimal, Prelude.Option, Prelude.None, Prelude.replicate, Simd.Lanes.sel_l, Simd.Lanes.top, Simd.Lanes.zip2}
 use Rattle.csicodec_tokens.specs.{declared.param.CsiParam.CsiParam, declared.param.CsiParam.TheVariants.Integer, declared.param.CsiParam.TheVariants.P}
-use Rattle.csicodec_tokens.specs.{Digits.AreDigits, Sequence.IsSpellable, Sequence.Reads, Sequence.Spellable, Sequence.Spells, Sequence.SpellsToken}
-use Rattle.csicodec_tokens.proofs.Decimal.{three_digits, two_digits}
+use Rattle.csicodec_tokens.specs.{Digits.AreDigits, Sequence.IsSpellable, Sequence.Reads, Sequence.Spellable, Sequence.Spells, Param.spells}
+use Rattle.csicodec_tokens.proofs.{Decimal.three_digits, Decimal.two_digits, Printed.printed}
 use Rattle.csicodec_names.specs.{declared.color.ColorSpec.ColorSpec, declared.color.ColorSpec.TheVariants.Default}
 use Rattle.csicodec_names.specs.{declared.color.ColorSpec.TheVariants.PaletteIndex, declared.color.ColorSpec.TheVariants.TrueColor}
 use Rattle.csicodec_names.specs.{declared.color.SrgbaTuple.SrgbaTuple}
@@ -47,11 +47,6 @@ part_three bytes mid last rest a b c n some fa fb fc e f g is fits =
     rw (hundreds, tens, ones) (sym (three_digits n (omega (arith, is, some)) (omega (arith, fits)))) in
     (e ∙ ap (λ (l : List ℕ). (48 + a) ∷ l) (f ∙ ap (λ (l : List ℕ). (48 + b) ∷ l) g) ∙ ap (λ (l : List ℕ). l ++ rest) same, fits)
 
-part_spelled : (n : ℕ) → n < 256 → SpellsToken (decimal n) (Integer (pos n))
-part_spelled n fits =
-    let small : n < 2 ^ 64 = omega (arith, fits) in
-    (decimal_nonempty n small, digits_decimal own n small, ap pos (sym (digits_value-decimal own n small)))
-
 part_short : (n : ℕ) → n < 256 → length (decimal n) ≤ 3
 part_short n fits = length-decimal-le 3 n (omega arith) (omega (arith, fits)) (omega (arith, fits))
 
@@ -88,10 +83,6 @@ code_of Line = 58
 abbrev pub listed : Plane → ColorSpec → List CsiParam
 listed plane color = Integer (pos (code_of plane)) ∷ P 59 ∷ color_tokens color
 
-code_spelled : (plane : Plane) → SpellsToken (plane_byte plane ∷ 56 ∷ []) (Integer (pos (code_of plane)))
-code_spelled Front = (omega arith, ((omega arith, omega arith), ((omega arith, omega arith), tt)), refl)
-code_spelled _ = (omega arith, ((omega arith, omega arith), ((omega arith, omega arith), tt)), refl)
-
 number_spellable : (n : ℕ) → n < 256 → IsSpellable (Integer (pos n))
 number_spellable n fits = (omega (arith, ints), omega (arith, ints, fits))
 
@@ -121,43 +112,29 @@ color_piece _ (PaletteIndex i) fits = rw (lt-ltb i 256 fits) refl
 color_piece Front (TrueColor c) (red, green, blue, opaque) = rw (lt-ltb c.0 256 red, lt-ltb c.1 256 green, lt-ltb c.2 256 blue) (rw (← opaque) refl)
 color_piece _ (TrueColor c) (red, green, blue, opaque) = rw (lt-ltb c.0 256 red, lt-ltb c.1 256 green, lt-ltb c.2 256 blue) (rw (← opaque) refl)
 
-color_spelled : (color : ColorSpec) → IsOpaque color → Spells (color_list color) (color_tokens color)
-color_spelled Default o = absurd o
-color_spelled (PaletteIndex i) fits = (
-  53 ∷ [],
-  59 ∷ decimal i,
-  refl,
-  (omega arith, ((omega arith, omega arith), tt), refl),
-  (59 ∷ [], decimal i, refl, refl, (decimal i, [], sym (append-nil (decimal i)), part_spelled i fits, refl)),
-)
-color_spelled (TrueColor c) (red, green, blue, opaque) =
-    let x : List ℕ = decimal c.0 in
-    let y : List ℕ = decimal c.1 in
-    let z : List ℕ = decimal c.2 in
-    let last : Spells z (Integer (pos c.2) ∷ []) = (z, [], sym (append-nil z), part_spelled c.2 blue, refl) in
-    let mid : Spells (y ++ 59 ∷ z) (Integer (pos c.1) ∷ P 59 ∷ Integer (pos c.2) ∷ []) =
-    (y, 59 ∷ z, refl, part_spelled c.1 green, (59 ∷ [], z, refl, refl, last)) in
-    let body : List ℕ = x ++ 59 ∷ (y ++ 59 ∷ z) in (
-      50 ∷ [],
-      59 ∷ body,
-      refl,
-      (omega arith, ((omega arith, omega arith), tt), refl),
-      (59 ∷ [], body, refl, refl, (x, 59 ∷ (y ++ 59 ∷ z), refl, part_spelled c.0 red, (59 ∷ [], y ++ 59 ∷ z, refl, refl, mid))),
-    )
+pub listed_spellable : (plane : Plane) (color : ColorSpec) → IsOpaque color → Spellable (listed plane color)
+listed_spellable plane color o = (code_spellable plane, tt, (mark_spellable, tt, color_spellable color o))
+
+code_text : (plane : Plane) → decimal (code_of plane) ≡ plane_byte plane ∷ 56 ∷ []
+code_text Front = two_digits 38 (omega arith) (omega arith)
+code_text Back = two_digits 48 (omega arith) (omega arith)
+code_text Line = two_digits 58 (omega arith) (omega arith)
+
+color_printed : (color : ColorSpec) → IsOpaque color → spells (color_tokens color) ≡ color_list color
+unfolding lib.Utf8.encode
+color_printed Default o = refl
+color_printed (PaletteIndex i) o = ap (λ (l : List ℕ). l ++ 59 ∷ (decimal i ++ [])) (decimal_digit 5 (omega arith))
+    ∙ ap (λ (l : List ℕ). 53 ∷ 59 ∷ l) (append-nil (decimal i))
+color_printed (TrueColor c) o = ap (λ (l : List ℕ). l ++ 59 ∷ (decimal c.0 ++ 59 ∷ (decimal c.1 ++ 59 ∷ (decimal c.2 ++ [])))) (decimal_digit 2 (omega arith))
+    ∙ ap (λ (l : List ℕ). 50 ∷ 59 ∷ (decimal c.0 ++ 59 ∷ (decimal c.1 ++ 59 ∷ l))) (append-nil (decimal c.2))
 
 -- what stands between `ESC [` and `m`
 pub listed_spelled : (plane : Plane) (color : ColorSpec) → IsOpaque color
     → Spells (plane_byte plane ∷ 56 ∷ 59 ∷ color_list color) (listed plane color)
-listed_spelled plane color o = (
-  plane_byte plane ∷ 56 ∷ [],
-  59 ∷ color_list color,
-  refl,
-  code_spelled plane,
-  (59 ∷ [], color_list color, refl, refl, color_spelled color o),
-)
-
-pub listed_spellable : (plane : Plane) (color : ColorSpec) → IsOpaque color → Spellable (listed plane color)
-listed_spellable plane color o = (code_spellable plane, tt, (mark_spellable, tt, color_spellable color o))
+unfolding lib.Utf8.encode
+listed_spelled plane color o = subst (λ (t : List ℕ). Spells t (listed plane color))
+    (ap (λ (l : List ℕ). l ++ 59 ∷ spells (color_tokens color)) (code_text plane) ∙ ap (λ (l : List ℕ). plane_byte plane ∷ 56 ∷ 59 ∷ l) (color_printed color o))
+    (printed (listed plane color) (listed_spellable plane color o))
 
 color_actions : (plane : Plane) (color : ColorSpec) (flag : Bool) → IsOpaque color → actions (listed plane color) flag 109 ≡ Sgr (painted plane color) ∷ []
 color_actions plane Default flag o = absurd o

@@ -1,8 +1,8 @@
 -- Normal forms that are known.
-use Rattle.std.proofs.Common.{◌≡◌, ℕ, zero, suc, ◌+◌, ◌-◌, ◌%◌, ◌^◌, ◌<◌, ◌≤◌, Bool, true, false, not, cond, eqb, w8, map, List, [], ◌∷◌, ◌++◌, length, take, drop, refl, sym, ap, subst, ◌∙◌, append_assoc, arith}
+use Rattle.std.proofs.Common.{◌≡◌, ℕ, suc, ◌+◌, ◌-◌, ◌%◌, ◌^◌, ◌<◌, ◌≤◌, Bool, true, false, not, cond, eqb, w8, map, List, [], ◌∷◌, ◌++◌, length, take, drop, refl, sym, ap, subst, ◌∙◌, append_assoc, arith}
 use Rattle.std.proofs.lemmas.List.{map-id, take-append-drop, take-take, take_all, length-append, length-drop, length-take}
-use Rattle.std.proofs.lemmas.Simd.{leading_from_mask_l, length-zip2, mask_l-mod, tops_compared, trailing_mask_l}
-use Rattle.std.proofs.{Math.Seq.take-append_seam, Math.Seq.take-append-add, Math.Seq.drop-append_seam, lemmas.Bool.eqb-true}
+use Rattle.std.proofs.{lemmas.Simd.first_set_mask_l, lemmas.Simd.length-zip2, lemmas.Simd.mask_l-mod, lemmas.Simd.tops_compared, Math.Seq.take-append_seam}
+use Rattle.std.proofs.{Math.Seq.take-append-add, Math.Seq.drop-append_seam, lemmas.Bool.eqb-true}
 use Rattle.std.specs.{List.prefix_len, Simd.Lanes.mask_l, Simd.Lanes.top, Simd.Lanes.zip2}
 use lib.Count.{count_trailing_zeros}
 use Rattle.csicodec_tokens.specs.{declared.param.CsiParam.CsiParam, Sequence.Reads}
@@ -19,14 +19,6 @@ texts_joined (x ∷ xs) ys = ap (λ (l : List ℕ). text x ++ l) (texts_joined x
 -- some bytes more are decoded
 pub split_known : (bytes rest : List ℕ) (len : ℕ) (xs ys : List Action) → DecodesFront bytes false rest xs → Decodes (take len rest) false ys → DecodesFront bytes false (drop len rest) (xs ++ ys)
 split_known bytes rest len xs ys s d = front_on bytes rest false (drop len rest) xs ys s (take len rest, sym (take-append-drop len rest), d)
-
-same_shorter : (bytes known : List ℕ) (len n : ℕ) → len ≤ n → take n bytes ≡ take n known → take len bytes ≡ take len known
-same_shorter bytes known len n within same = sym (take-take len n bytes within) ∙ ap (λ (l : List ℕ). take len l) same ∙ take-take len n known within
-
--- of bytes that begin as others the same is noted
-pub same_noted : (Notes : List ℕ → List ℕ → Type 0) (bytes known text : List ℕ) (len n : ℕ) → len ≤ n → take n bytes ≡ take n known → Notes (take len known) text → Notes (take len bytes) text
-same_noted Notes bytes known text len n within same k =
-    subst (λ (l : List ℕ). Notes l text) (sym (same_shorter bytes known len n within same)) k
 
 -- so many bytes are the same, where as many and more are in parts of them
 pub same_in_front : (xs ys : List ℕ) (w n len : ℕ) → len ≤ n → len ≤ w → take n (take w xs) ≡ take n (take w ys) → take len xs ≡ take len ys
@@ -89,27 +81,24 @@ same_before (x ∷ xs) (y ∷ ys) long = go (prefix_len not (zip2 differ xs ys))
     go n false is same = rw is refl
 
 pub same_lanes : (xs ys : List ℕ) (w : ℕ) → w < 64 → length xs ≡ w → length ys ≡ w → (k : ℕ) → k ≡ count_trailing_zeros 64 (mask_l (zip2 differ xs ys)) → take k xs ≡ take k ys
-same_lanes xs ys w few long short k is = go (mask_l ms) refl
+same_lanes xs ys w few long short k is = go (eqb (mask_l ms) 0) first
   where
     ms : List Bool
     ms = zip2 differ xs ys
 
-    many : length ms ≡ w
-    many = length-zip2 differ xs ys (long ∙ sym short) ∙ long
+    first : cond (eqb (mask_l ms) 0) w k ≡ prefix_len not ms
+    first = ap (λ (n : ℕ). cond (eqb (mask_l ms) 0) w n) is
+        ∙ ap (λ (l : List Bool). cond (eqb (mask_l l) 0) w (count_trailing_zeros 64 (mask_l l))) (sym (map-id ms))
+        ∙ first_set_mask_l (λ (b : Bool). b) ms w (length-zip2 differ xs ys (long ∙ sym short) ∙ long) (omega (arith, few))
 
     before : take (prefix_len not ms) xs ≡ take (prefix_len not ms) ys
     before = same_before xs ys (long ∙ sym short)
 
-    go : (m : ℕ) → mask_l ms ≡ m → take k xs ≡ take k ys
-    go zero none =
-        let all : prefix_len not ms ≡ length ms = leading_from_mask_l (λ (b : Bool). b) ms (ap mask_l (map-id ms) ∙ none) in
-        let same : xs ≡ ys = sym (take_all (prefix_len not ms) xs (omega (arith, all, many, long))) ∙ before ∙ take_all (prefix_len not ms) ys (omega (arith, all, many, short)) in
-        ap (λ (l : List ℕ). take k l) same
-    go (suc m) some =
-        let first : count_trailing_zeros 64 (mask_l ms) ≡ prefix_len not ms =
-        ap (λ (l : List Bool). count_trailing_zeros 64 (mask_l l)) (sym (map-id ms))
-        ∙ trailing_mask_l (λ (b : Bool). b) 64 ms (omega (arith, many, few)) (rw (map-id ms) (omega (arith, some))) in
-        ap (λ (n : ℕ). take n xs) (is ∙ first) ∙ before ∙ ap (λ (n : ℕ). take n ys) (sym (is ∙ first))
+    go : (none : Bool) → cond none w k ≡ prefix_len not ms → take k xs ≡ take k ys
+    go false some = subst (λ (n : ℕ). take n xs ≡ take n ys) (sym some) before
+    go true all =
+        let whole : take w xs ≡ take w ys = subst (λ (n : ℕ). take n xs ≡ take n ys) (sym all) before in
+        ap (λ (l : List ℕ). take k l) (sym (take_all w xs (omega (arith, long))) ∙ whole ∙ take_all w ys (omega (arith, short)))
 
 -- a comparison's mask, of lanes of bytes
 pub differing_mask : (xs ys : List ℕ) (w : ℕ) → w < 64 → length xs ≡ w → length ys ≡ w

@@ -1,5 +1,5 @@
 -- Bytes have one reading, and readings join.
-use Rattle.std.proofs.Common.{ℕ, ◌≡◌, ◌<◌, List, [], ◌∷◌, ◌++◌, Bool, false, length, refl, sym, ap, subst, ◌∙◌, arith, append_assoc, append-nil}
+use Rattle.std.proofs.Common.{ℕ, ◌≡◌, List, [], ◌∷◌, ◌++◌, Bool, false, length, refl, sym, ap, subst, ◌∙◌, arith, append_assoc, append-nil}
 use Rattle.std.specs.List.{AllByRecursion}
 use Rattle.csicodec_tokens.specs.{declared.param.CsiParam.CsiParam, declared.reader.ReadError.ReadError, Sequence.Seq, Fault.NoSeq, Fault.Fault}
 use Rattle.csicodec_tokens.proofs.{Unique.one_seq, OneFault.one_fault}
@@ -15,30 +15,24 @@ Sequences = List (List CsiParam × ℕ)
 not_empty : {X : Type 0} (a x : List ℕ) (list : List CsiParam) (final : ℕ) → Seq a list final → [] ≡ a ++ x → X
 not_empty a x list final s e = cc (rw s.whole at e)
 
+none_in_none : NoSeq []
+none_in_none list final rest r = not_empty r.0 rest list final r.1 r.2
+
 -- ---- one join
 
-one_join : (bytes : List ℕ) (ss ts : Sequences) → Joins bytes ss → Joins bytes ts → ss ≡ ts
-one_join bytes [] [] j k = refl
-one_join bytes [] (t ∷ ts) j k = not_empty k.0 k.1 t.0 t.1 k.3 (sym j ∙ k.2)
-one_join bytes (s ∷ ss) [] j k = not_empty j.0 j.1 s.0 s.1 j.3 (sym k ∙ j.2)
-one_join bytes ((list, final) ∷ ss) ((other, last) ∷ ts) j k =
-    let same = one_seq j.0 k.0 j.1 k.1 list other final last j.3 k.3 (sym j.2 ∙ k.2) in
-    let more = one_join j.1 ss ts j.4 (rw (← same.3) at k.4) in
-    rw (same.1, same.2, more) refl
-
--- where no sequence stands behind either, the joined bytes are the same
-one_front : (ss ts : Sequences) (f g r q : List ℕ) → Joins f ss → Joins g ts → NoSeq r → NoSeq q → f ++ r ≡ g ++ q → (f ≡ g) × (r ≡ q)
-one_front [] [] f g r q j k n m e = (j ∙ sym k, sym (ap (λ (l : List ℕ). l ++ r) j) ∙ e ∙ ap (λ (l : List ℕ). l ++ q) k)
+-- where no sequence stands behind either, the joined bytes are the same, and so are the sequences
+one_front : (ss ts : Sequences) (f g r q : List ℕ) → Joins f ss → Joins g ts → NoSeq r → NoSeq q → f ++ r ≡ g ++ q → (ss ≡ ts) × (f ≡ g) × (r ≡ q)
+one_front [] [] f g r q j k n m e = (refl, j ∙ sym k, sym (ap (λ (l : List ℕ). l ++ r) j) ∙ e ∙ ap (λ (l : List ℕ). l ++ q) k)
 one_front [] (t ∷ ts) f g r q j k n m e =
     absurd (n t.0 t.1 (k.1 ++ q) (k.0, k.3, sym (ap (λ (l : List ℕ). l ++ r) j) ∙ e ∙ ap (λ (l : List ℕ). l ++ q) k.2 ∙ append_assoc k.0 k.1 q))
 one_front (s ∷ ss) [] f g r q j k n m e =
     absurd (m s.0 s.1 (j.1 ++ r) (j.0, j.3, sym (ap (λ (l : List ℕ). l ++ q) k) ∙ sym e ∙ ap (λ (l : List ℕ). l ++ r) j.2 ∙ append_assoc j.0 j.1 r))
-one_front (s ∷ ss) (t ∷ ts) f g r q j k n m e =
+one_front ((list, final) ∷ ss) ((other, last) ∷ ts) f g r q j k n m e =
     let parts : j.0 ++ (j.1 ++ r) ≡ k.0 ++ (k.1 ++ q) =
     sym (append_assoc j.0 j.1 r) ∙ sym (ap (λ (l : List ℕ). l ++ r) j.2) ∙ e ∙ ap (λ (l : List ℕ). l ++ q) k.2 ∙ append_assoc k.0 k.1 q in
-    let same = one_seq j.0 k.0 (j.1 ++ r) (k.1 ++ q) s.0 t.0 s.1 t.1 j.3 k.3 parts in
+    let same = one_seq j.0 k.0 (j.1 ++ r) (k.1 ++ q) list other final last j.3 k.3 parts in
     let more = one_front ss ts j.1 k.1 r q j.4 k.4 n m same.3 in
-    (j.2 ∙ rw (same.0, more.0) refl ∙ sym k.2, more.1)
+    (rw (same.1, same.2, more.0) refl, j.2 ∙ rw (same.0, more.1) refl ∙ sym k.2, more.2)
 
 -- ---- one decoding
 
@@ -51,32 +45,21 @@ one_list (s ∷ ss) flag xs ys x y =
 
 pub one_decoding : (bytes : List ℕ) (flag : Bool) (xs ys : List Action) → Decodes bytes flag xs → Decodes bytes flag ys → xs ≡ ys
 one_decoding bytes flag xs ys x y =
-    let same = one_join bytes x.sequences y.sequences x.join y.join in
+    let same = (one_front x.sequences y.sequences bytes bytes [] [] x.join y.join none_in_none none_in_none refl).0 in
     one_list x.sequences flag xs ys x.each (rw (← same) at y.each)
 
 -- ---- a fault
 
-no_end : (rest : List ℕ) → 0 < length rest → rest ≡ [] → ⊥
-no_end rest some e = omega (arith, some, ap length e)
-
 -- bytes with a fault are no join of sequences
-no_join : (ss ts : Sequences) (f r bytes : List ℕ) → Joins f ss → NoSeq r → 0 < length r → Joins bytes ts → bytes ≡ f ++ r → ⊥
-no_join [] [] f r bytes j n some k e = no_end r some (sym (e ∙ ap (λ (l : List ℕ). l ++ r) j) ∙ k)
-no_join [] (t ∷ ts) f r bytes j n some k e = n t.0 t.1 k.1 (k.0, k.3, sym (e ∙ ap (λ (l : List ℕ). l ++ r) j) ∙ k.2)
-no_join (s ∷ ss) [] f r bytes j n some k e =
-    not_empty j.0 (j.1 ++ r) s.0 s.1 j.3 (sym k ∙ e ∙ ap (λ (l : List ℕ). l ++ r) j.2 ∙ append_assoc j.0 j.1 r)
-no_join (s ∷ ss) (t ∷ ts) f r bytes j n some k e =
-    let parts : k.0 ++ k.1 ≡ j.0 ++ (j.1 ++ r) = sym k.2 ∙ e ∙ ap (λ (l : List ℕ). l ++ r) j.2 ∙ append_assoc j.0 j.1 r in
-    let same = one_seq k.0 j.0 k.1 (j.1 ++ r) t.0 s.0 t.1 s.1 k.3 j.3 parts in
-    no_join ss ts j.1 r k.1 j.4 n some k.4 same.3
-
 pub fault_apart : (bytes : List ℕ) (flag : Bool) (start : ℕ) (error : ReadError) (xs : List Action) → FaultAt bytes start error → Decodes bytes flag xs → ⊥
-fault_apart bytes flag start error xs f d = no_join f.sequences d.sequences f.front f.rest bytes f.join f.fault.0 f.some d.join f.parts
+fault_apart bytes flag start error xs f d =
+    let parts : f.front ++ f.rest ≡ bytes ++ [] = sym f.parts ∙ sym (append-nil bytes) in
+    omega (arith, f.some, ap length (one_front f.sequences d.sequences f.front bytes f.rest [] f.join d.join f.fault.0 none_in_none parts).2)
 
 pub one_fault_at : (bytes : List ℕ) (s t : ℕ) (e d : ReadError) → FaultAt bytes s e → FaultAt bytes t d → (s ≡ t) × (e ≡ d)
 one_fault_at bytes s t e d f g =
     let same = one_front f.sequences g.sequences f.front g.front f.rest g.rest f.join g.join f.fault.0 g.fault.0 (sym f.parts ∙ g.parts) in
-    (f.place ∙ ap length same.0 ∙ sym g.place, one_fault g.rest e d (subst (λ (l : List ℕ). Fault l e) same.1 f.fault.1) g.fault.1)
+    (f.place ∙ ap length same.1 ∙ sym g.place, one_fault g.rest e d (subst (λ (l : List ℕ). Fault l e) same.2 f.fault.1) g.fault.1)
 
 -- ---- decodings join
 

@@ -1,5 +1,5 @@
 //! Colours: the sequence of one is read at the front, and its normal form written, without a list of its tokens.
-ghost use Rattle.std.specs.Prelude.{◌≡◌, ◌+◌, ◌-◌, ◌<◌, ◌≤◌, ◌∷◌, [], ◌++◌, ℕ, Bool, List, false, length, map, take, IfSome, OnErr, OnOk};
+ghost use Rattle.std.specs.Prelude.{◌≡◌, ◌+◌, ◌-◌, ◌<◌, ◌≤◌, ◌∷◌, [], ◌++◌, ℕ, Bool, List, false, length, take, IfSome, OnErr, OnOk};
 ghost use Rattle.csicodec_tokens.specs.declared.param.CsiParam.{CsiParam};
 ghost use Rattle.csicodec_tokens.specs.Sequence.{Reads};
 ghost use Rattle.csicodec_actions.specs.Actions.{Sgr as Styled};
@@ -9,7 +9,7 @@ ghost use Rattle.csicodec_base.specs.declared.sgr.Sgr.{Sgr as Attribute};
 ghost use Rattle.csicodec_parser.specs.Segments.{Actions};
 ghost use Rattle.csicodec_streams.specs.Colors.{IsColored, plane_byte};
 ghost use Rattle.csicodec_streams.specs.Known.{AreKnown, IsNormal};
-ghost use Rattle.csicodec_streams.specs.Private.Steps.{IsColor, IsPainted, IsPart, styles, with_colon};
+ghost use Rattle.csicodec_streams.specs.Private.Steps.{IsColor, IsPainted, IsPart, styles};
 
 use crate::memo::{Memo, Normal};
 use crate::position::take_position;
@@ -145,22 +145,6 @@ pub(crate) fn read_colors(bytes: &[u8]) -> Option<(Sgr, Option<Sgr>, &[u8])>
     }
 }
 
-/// What begins with the normal form of a true colour, by the first digit of its code, and by its parts with what is behind them.
-#[inline(always)]
-fn with_colons(digit: u8, parts: &[u8]) -> [u8; 24]
-    requires { 16 ≤ length parts.now }
-    ensures { result ≡ 27 ∷ 91 ∷ digit ∷ 56 ∷ 58 ∷ 50 ∷ 58 ∷ 58 ∷ map with_colon (take 16 parts.now) }
-{
-    let lanes = u8x16::from_slice(parts);
-    let colons = lanes
-        .simd_eq(u8x16::splat(b';'))
-        .select(u8x16::splat(b':'), lanes);
-    let mut text = [0; 24];
-    text[..8].copy_from_slice(&[0x1b, b'[', digit, b'8', b':', b'2', b':', b':']);
-    text[8..].copy_from_slice(&colons.to_array());
-    text
-}
-
 /// Appends the normal form of an attribute. On `Err`, out of memory, the bytes stay.
 #[inline(never)]
 fn append_sgr(sgr: Sgr, out: &mut TextBuffer) -> Result<(), AllocError>
@@ -180,9 +164,16 @@ pub fn color_text(bytes: &[u8]) -> Option<[u8; 24]>
         → take (length bytes.now - length rest + 1) text ≡ 27 ∷ 91 ∷ sgr_text sgr) }
 {
     match bytes {
-        [_, _, digit, _, _, b'2', _, parts @ ..] if parts.len() >= 16 => Some(with_colons(
-            *digit, parts,
-        )),
+        [_, _, digit, _, _, b'2', _, parts @ ..] if parts.len() >= 16 => {
+            let lanes = u8x16::from_slice(parts);
+            let colons = lanes
+                .simd_eq(u8x16::splat(b';'))
+                .select(u8x16::splat(b':'), lanes);
+            let mut text = [0; 24];
+            text[..8].copy_from_slice(&[0x1b, b'[', *digit, b'8', b':', b'2', b':', b':']);
+            text[8..].copy_from_slice(&colons.to_array());
+            Some(text)
+        }
         _ => None,
     }
 }

@@ -228,25 +228,9 @@ impl<N: Note> Memo<N> {
         ensures none { result ≡ 0 → out.new ≡ out.old }
         ensures known { AreKnown N.notes self.new.slots.items }
     {
-        match self.seek(bytes) {
-            Some(at) => self.append(at, bytes, out),
-            None => 0,
-        }
-    }
-
-    /// Appends the note of this slot, which is that of the sequence in front.
-    #[inline(always)]
-    fn append(&mut self, at: usize, _bytes: &[u8], out: &mut TextBuffer) -> usize
-        requires known { AreKnown N.notes self.old.slots.items }
-        requires stands { StandsAt N.notes _bytes.now self.old.slots.items at }
-        ensures within { result ≤ length _bytes.now }
-        ensures short { result ≤ 48 }
-        ensures noted { 0 < result
-            → (text : List ℕ) × N.notes (take result _bytes.now) text
-            × (out.new ≡ out.old ++ text) }
-        ensures none { result ≡ 0 → out.new ≡ out.old }
-        ensures known { AreKnown N.notes self.new.slots.items }
-    {
+        let Some(at) = self.seek(bytes) else {
+            return 0;
+        };
         let slot = &self.slots[at];
         let len = usize::from(slot.len);
         match out.push_front(&slot.text, usize::from(slot.text_len)) {
@@ -267,22 +251,9 @@ impl<N: Note> Memo<N> {
         ensures noted { 0 < result → N.notes (take result bytes.now) out.new }
         ensures known { AreKnown N.notes self.new.slots.items }
     {
-        match self.seek(bytes) {
-            Some(at) => self.copy(at, bytes, out),
-            None => 0,
-        }
-    }
-
-    /// Copies the note of this slot, which is that of the sequence in front.
-    #[inline(always)]
-    fn copy(&mut self, at: usize, _bytes: &[u8], out: &mut Noted) -> usize
-        requires known { AreKnown N.notes self.old.slots.items }
-        requires stands { StandsAt N.notes _bytes.now self.old.slots.items at }
-        ensures within { result ≤ length _bytes.now }
-        ensures short { result ≤ 48 }
-        ensures noted { 0 < result → N.notes (take result _bytes.now) out.new }
-        ensures known { AreKnown N.notes self.new.slots.items }
-    {
+        let Some(at) = self.seek(bytes) else {
+            return 0;
+        };
         let slot = &self.slots[at];
         let len = usize::from(slot.len);
         *out = Noted {

@@ -1,7 +1,6 @@
 use Rattle.std.proofs.{Common.◌≡◌, Common.◌<◌, Common.length, Common.refl, Common.subst, Common.sym, Common.take, Common.arith, lemmas.List.Elements.All-get_or}
 use Rattle.std.proofs.{lemmas.Option.slice_get_read}
 use Rattle.csicodec_streams.specs.Known.{IsKnown}
-use Rattle.csicodec_streams.proofs.Known.{same_noted}
 use Rattle.csicodec_streams.proofs.memo.Memo.has.Goals as goal
 
 pub returns : goal.returns
@@ -16,5 +15,5 @@ returns g c = λ yes.
       same.0,
       omega (arith, known.0, c.if-bytes-lt-WIDE.false),
       known.1,
-      same_noted g.N.Note.notes c.args.bytes.now slot.bytes (take slot.text_len slot.text) slot.len slot.len (omega arith) same.1 (known.2 same.0),
+      subst (λ l. g.N.Note.notes l (take slot.text_len slot.text)) (sym same.1) (known.2 same.0),
     )

@@ -43,19 +43,18 @@ least limit bytes near p at same is l =
     omega (arith, is, most, within, ap length same, length-take p near, length-take (at + 1) near, length-take limit bytes, length-take (stop 0 bytes + 1) bytes)
 
 -- a sequence stands in front
-pub read_cost : (limit : ℕ) (bytes rest : List ℕ) (list : List CsiParam) (final n : ℕ)
-    → Reads (take limit bytes) list final rest → n + length rest ≡ length (take limit bytes)
-    → n ≤ length (take (stop 0 bytes + 1) bytes)
-read_cost limit bytes rest list final n (front, s, split) len =
+pub read_cost : (limit : ℕ) (bytes near rest : List ℕ) (list : List CsiParam) (final n : ℕ) → near ≡ take limit bytes
+    → Reads near list final rest → n + length rest ≡ length near → n ≤ length (take (stop 0 bytes + 1) bytes)
+read_cost limit bytes near rest list final n same (front, s, split) len =
     let body = (IsBody-from_spelling s.body list s.spellable s.spelled).bytes in
     let behind : List ℕ = final ∷ (rest ++ drop limit bytes) in
     let parts : bytes ≡ 27 ∷ 91 ∷ (s.body ++ behind) =
-    sym (take-append-drop limit bytes) ∙ ap (λ (x : List ℕ). x ++ drop limit bytes) (split ∙ ap (λ (x : List ℕ). x ++ rest) s.whole)
+    sym (take-append-drop limit bytes) ∙ ap (λ (x : List ℕ). x ++ drop limit bytes) (sym same ∙ split ∙ ap (λ (x : List ℕ). x ++ rest) s.whole)
     ∙ ap (λ (x : List ℕ). 27 ∷ 91 ∷ x) (append_assoc (s.body ++ final ∷ []) rest (drop limit bytes) ∙ append_assoc s.body (final ∷ []) (rest ++ drop limit bytes)) in
     let most = body_stop bytes s.body behind body parts in
     let long : length front ≡ 2 + (length s.body + 1) = ap length s.whole ∙ omega (arith, length-append s.body (final ∷ [])) in
-    let whole : length (take limit bytes) ≡ length front + length rest = ap length split ∙ length-append front rest in
-    omega (arith, most, long, whole, len, length-take limit bytes, length-take (stop 0 bytes + 1) bytes)
+    let whole : length near ≡ length front + length rest = ap length split ∙ length-append front rest in
+    omega (arith, most, long, whole, len, ap length same, length-take limit bytes, length-take (stop 0 bytes + 1) bytes)
 
 -- by the error of a reader
 pub fault_cost : (near : List ℕ) (room : ℕ) (e : ReadError) (limit at : ℕ) (bytes : List ℕ) → Refuses near room e

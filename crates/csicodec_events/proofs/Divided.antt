@@ -37,20 +37,11 @@ divided_further x a none = ap (λ (t : Bool). (if t then piece x [] ∷ [] else 
 more_other : (m : Mode) (bytes : List ℕ) → IsMore (ahead m bytes) → BeginsCsi bytes → ⊥
 more_other m bytes more b = subst IsMore (ap (ahead m) b.1 ∙ opens m b.0) more
 
-csi_kind : (limit : ℕ) (bytes text : List ℕ) (k : Kind) (a : Mode) → AllowsCsi limit bytes k text a
-    → (k ≡ kind.Csi) ⊎ (k ≡ kind.Other)
-csi_kind limit bytes text k a = elim k as (λ x. AllowsCsi limit bytes x text a → (x ≡ kind.Csi) ⊎ (x ≡ kind.Other)) [
-  | kind.Csi ↦ λ h. inl refl
-  | kind.Other ↦ λ h. inr refl
-  | _ ↦ λ h. absurd h
-]
-
--- a part of another kind than these stands where no sequence begins
-pub kind_other : (limit : ℕ) (m a : Mode) (bytes rest : List ℕ) (p : Part) → p.kind ≢ kind.Csi
-    → p.kind ≢ kind.Other → IsFirstPart limit m bytes p rest a → BeginsCsi bytes → ⊥
-kind_other limit m a bytes rest p csi other h b = elim (csi_kind limit bytes p.bytes p.kind a (subst (λ (f : Answer). Allows f limit bytes p.kind p.bytes a) (ap (ahead m) b.1 ∙ opens m b.0) h.1)) [
-  | inl is ↦ csi is
-  | inr is ↦ other is
+csi_allows : (limit : ℕ) (bytes text : List ℕ) (k : Kind) (a : Mode) → k ≢ kind.Csi → k ≢ kind.Other → AllowsCsi limit bytes k text a → ⊥
+csi_allows limit bytes text k a = elim k as (λ x. x ≢ kind.Csi → x ≢ kind.Other → AllowsCsi limit bytes x text a → ⊥) [
+  | kind.Csi ↦ λ csi other h. csi refl
+  | kind.Other ↦ λ csi other h. other refl
+  | _ ↦ λ csi other h. h
 ]
 
 -- a span but for a control sequence or what went wrong stands where no sequence begins
@@ -59,8 +50,9 @@ pub span_other : (e : Events) (k : Kind) (bytes text rest : List ℕ) (after : E
 span_other e k bytes text rest after csi other s = by s.cuts.parts (span_all k text s.cuts.parts s.cuts.span) s.cuts.first
   where
     by : (parts : List Part) → AreAll k text parts → AreFirstParts e.limit e.mode bytes parts rest s.next → BeginsCsi bytes → ⊥
-    by [] all f = absurd (omega (arith, all.some))
-    by (p ∷ parts) all f = kind_other e.limit e.mode f.1 bytes f.0 p (λ is. csi (sym all.all.0 ∙ is)) (λ is. other (sym all.all.0 ∙ is)) f.2
+    by [] all f b = absurd (omega (arith, all.some))
+    by (p ∷ parts) all f b = csi_allows e.limit bytes p.bytes p.kind f.1 (λ is. csi (sym all.all.0 ∙ is)) (λ is. other (sym all.all.0 ∙ is))
+        (subst (λ (g : Answer). Allows g e.limit bytes p.kind p.bytes f.1) (ap (ahead e.mode) b.1 ∙ opens e.mode b.0) f.2.1)
 
 -- ---- a span of text, a string, or what went wrong
 
@@ -83,9 +75,7 @@ GoesOn k after rest = IsMore (ahead after rest) × Sure k after rest
 divided_pieces : (k : Kind) (text : List ℕ) → is_divided k ≡ true → pieces_of (event_of k) text ≡ divided (event_of k) text
 divided_pieces kind.Csi text is = cc
 divided_pieces kind.Esc text is = cc
-divided_pieces kind.Text text is = refl
-divided_pieces kind.Str text is = refl
-divided_pieces kind.Other text is = refl
+divided_pieces _ text is = refl
 
 -- a part of one
 part_move : (e : Events) (a : Mode) (bytes rest : List ℕ) (k : Kind) (p : Part) → is_divided k ≡ true → (BeginsCsi bytes → ⊥) → p.kind ≡ k

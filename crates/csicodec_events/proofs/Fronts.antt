@@ -127,10 +127,7 @@ alike_begun : (m : Mode) (k : Kind) (text more : List ℕ) → 0 < length text �
     → begins (event_of k) (text ++ more) ≡ begins (event_of k) text
 alike_begun m k [] more some piece = absurd (omega arith)
 alike_begun m kind.Str (a ∷ text) more some piece = str_alike m (a ∷ text) more (piece refl)
-alike_begun m kind.Text (a ∷ text) more some piece = refl
-alike_begun m kind.Csi (a ∷ text) more some piece = refl
-alike_begun m kind.Esc (a ∷ text) more some piece = refl
-alike_begun m kind.Other (a ∷ text) more some piece = refl
+alike_begun m _ (a ∷ text) more some piece = refl
 
 -- ---- the part in front
 

@@ -28,9 +28,6 @@ returns-in-Ok-clause-costs c =
     let found = c.in-Ok.ensures.found in
     let size = ap length found.2 in
     let total = ap (λ (s : Seen). s.looks) c.self.view_is in
-    let most = read_cost c.args.limit c.args.self.now.bytes tail.rest.now
-    c.read_csi_into.new.params.items tail.control
-    (length c.near-front.result.now - length tail.rest.now)
-    (subst (λ (x : List ℕ). Reads x c.read_csi_into.new.params.items tail.control tail.rest.now)
-    near found) (omega (arith, size, length-append found.0 tail.rest.now, ap length near)) in
+    let most = read_cost c.args.limit c.args.self.now.bytes c.near-front.result.now tail.rest.now c.read_csi_into.new.params.items tail.control
+    (length c.near-front.result.now - length tail.rest.now) near found (omega (arith, size, length-append found.0 tail.rest.now)) in
     omega (arith, most, total, c.charge.ensures)

@@ -1,6 +1,6 @@
 //! The declarations of CSS that say how text looks.
 ghost use Rattle.std.specs.Prelude.{◌≡◌, ◌++◌, [], OnOk, codes, if◌then◌else◌};
-ghost use Rattle.csicodec_html.specs.Look.{colored, colors, css, inverse_colors, line_color, line_kind, line_places, line_style, lines, property, slant, some_lines, straight_colors, weight};
+ghost use Rattle.csicodec_html.specs.Look.{colored, colors, css, line_color, line_kind, lines, property, slant, weight};
 
 use crate::classes::Layer;
 use crate::colors::{append_color, append_property_of};
@@ -61,37 +61,7 @@ fn append_line_color(
     append_color(palette, Layer::Line, color, out)
 }
 
-/// Appends where there are lines.
-#[tactic(auto, unfolding(crate::specs::Look::line_places))]
-fn append_line_places(look: Look, out: &mut Vec<u8>) -> Result<(), AllocError>
-    ensures { OnOk result (out.new.items ≡ out.old.items ++ line_places look) }
-{
-    append_if(!is_none(look.underline), b" underline", out)?;
-    append_if(look.overline, b" overline", out)?;
-    append_if(look.strike, b" line-through", out)
-}
-
-/// Appends how they look.
-#[tactic(auto, unfolding(crate::specs::Look::line_style))]
-fn append_line_style(palette: &Palette, look: Look, out: &mut Vec<u8>) -> Result<(), AllocError>
-    ensures { OnOk result (out.new.items ≡ out.old.items ++ line_style palette.now look) }
-{
-    append_line_kind(look.underline, out)?;
-    append_line_color(palette, look.line, out)
-}
-
-/// Appends lines, of which there is one at least.
-#[tactic(auto, unfolding(crate::specs::Look::some_lines))]
-fn append_some_lines(palette: &Palette, look: Look, out: &mut Vec<u8>) -> Result<(), AllocError>
-    ensures { OnOk result (out.new.items ≡ out.old.items ++ some_lines palette.now look) }
-{
-    out.extend_from_slice(b"text-decoration:")?;
-    append_line_places(look, out)?;
-    append_line_style(palette, look, out)?;
-    Ok(out.push(b';')?)
-}
-
-/// Appends the lines.
+/// Appends the lines: where they are, and how they look.
 #[tactic(auto, unfolding(crate::specs::Look::lines))]
 fn append_lines(palette: &Palette, look: Look, out: &mut Vec<u8>) -> Result<(), AllocError>
     ensures { OnOk result (out.new.items ≡ out.old.items ++ lines palette.now look) }
@@ -99,7 +69,13 @@ fn append_lines(palette: &Palette, look: Look, out: &mut Vec<u8>) -> Result<(), 
     if !look.has_line() {
         return Ok(());
     }
-    append_some_lines(palette, look, out)
+    out.extend_from_slice(b"text-decoration:")?;
+    append_if(!is_none(look.underline), b" underline", out)?;
+    append_if(look.overline, b" overline", out)?;
+    append_if(look.strike, b" line-through", out)?;
+    append_line_kind(look.underline, out)?;
+    append_line_color(palette, look.line, out)?;
+    Ok(out.push(b';')?)
 }
 
 /// Appends what a colour is of, and the colour.
@@ -133,36 +109,19 @@ fn append_colored(
     append_property(palette, part, color, out)
 }
 
-/// Appends the colours of text and background where they change places.
-#[tactic(auto, unfolding(crate::specs::Look::inverse_colors))]
-fn append_inverse(palette: &Palette, look: Look, out: &mut Vec<u8>) -> Result<(), AllocError>
-    ensures { OnOk result (out.new.items ≡ out.old.items ++ inverse_colors palette.now look) }
-{
-    let text = or_own(palette.background, look.background);
-    let ground = or_own(palette.foreground, look.foreground);
-    append_property(palette, Layer::TextAsGround, text, out)?;
-    append_property(palette, Layer::GroundAsText, ground, out)
-}
-
-/// Appends them where they don't.
-#[tactic(auto, unfolding(crate::specs::Look::straight_colors))]
-fn append_straight(palette: &Palette, look: Look, out: &mut Vec<u8>) -> Result<(), AllocError>
-    ensures { OnOk result (out.new.items ≡ out.old.items ++ straight_colors palette.now look) }
-{
-    append_colored(palette, Layer::Text, look.foreground, out)?;
-    append_colored(palette, Layer::Ground, look.background, out)
-}
-
-/// Appends the colours of text and background.
-#[tactic(auto, unfolding(crate::specs::Look::colors))]
+/// Appends the colours of text and background, which may have changed places.
+#[tactic(auto, unfolding(crate::specs::Look::colors, crate::specs::Look::inverse_colors, crate::specs::Look::straight_colors))]
 fn append_colors(palette: &Palette, look: Look, out: &mut Vec<u8>) -> Result<(), AllocError>
     ensures { OnOk result (out.new.items ≡ out.old.items ++ colors palette.now look) }
 {
     if look.inverse {
-        append_inverse(palette, look, out)
-    } else {
-        append_straight(palette, look, out)
+        let text = or_own(palette.background, look.background);
+        let ground = or_own(palette.foreground, look.foreground);
+        append_property(palette, Layer::TextAsGround, text, out)?;
+        return append_property(palette, Layer::GroundAsText, ground, out);
     }
+    append_colored(palette, Layer::Text, look.foreground, out)?;
+    append_colored(palette, Layer::Ground, look.background, out)
 }
 
 /// Appends the declarations of a look.

@@ -65,8 +65,11 @@ declaration p kind.GroundAsText =
     property p part.GroundAsText (or_own p.foreground color.Default)
 declaration p (kind.Color of i) = property p of (color.PaletteIndex i)
 
+abbrev pub rule_of : Class → List ℕ → List ℕ
+rule_of c declared = 46 ∷ (class_name c ++ 123 ∷ (declared ++ codes "}\n"))
+
 unfoldable pub class_rule : Palette → Class → List ℕ
-class_rule p c = codes "." ++ (class_name c ++ (codes "{" ++ (declaration p c ++ codes "}\n")))
+class_rule p c = rule_of c (declaration p c)
 
 abbrev pub selector : Bool → Class → List ℕ
 selector is_there c = if is_there then codes "." ++ class_name c else []
@@ -99,12 +102,9 @@ class_rules p = fixed_rules p ++ (class_rule p kind.TextAsGround
     ++ (color_rules p part.Ground 256 ++ (color_rules p part.Line 256
     ++ (color_rules p part.TextAsGround 256 ++ color_rules p part.GroundAsText 256))))))
 
-unfoldable pub rules_of_classes : Markup → List ℕ
-rules_of_classes m = if m.classes then class_rules m.palette else []
-
 -- what the style sheet has of the markup
 unfoldable pub sheet : Markup → List ℕ
-sheet m = own_colors m.palette ++ rules_of_classes m
+sheet m = own_colors m.palette ++ (if m.classes then class_rules m.palette else [])
 
 -- ---- what the attributes of a span say by it
 

@@ -1,6 +1,7 @@
 //! A page of its own: what stands ahead of its pieces, with its style sheet, and behind them.
 ghost use Rattle.std.specs.Prelude.{◌≡◌, ◌<◌, ◌++◌, [], ℕ, IfOk, List, OnOk};
-ghost use Rattle.csicodec_html.specs.Sheet.{IsTitle, class_rule, class_rules, color_rules, own_color, own_colors, rules_of_classes, sheet};
+ghost use Rattle.csicodec_html.specs.Look.{property};
+ghost use Rattle.csicodec_html.specs.Sheet.{IsTitle, class_rules, color_rules, own_color, own_colors, rule_of, sheet};
 
 use crate::classes::{Class, Layer, append_name};
 use crate::colors::append_parts;
@@ -92,20 +93,21 @@ fn append_own_colors(palette: &Palette, out: &mut Vec<u8>) -> Result<(), AllocEr
     Ok(())
 }
 
-/// Appends what the class of a colour means.
-fn append_color_rule(
+/// Appends what a class means that is a colour's.
+fn append_rule(
     palette: &Palette,
+    class: Class,
     part: Layer,
-    place: u8,
+    color: ColorSpec,
     out: &mut Vec<u8>,
 ) -> Result<(), AllocError>
     ensures { OnOk result
-        (out.new.items ≡ out.old.items ++ class_rule palette.now (Class.Color part place)) }
+        (out.new.items ≡ out.old.items ++ rule_of class (property palette.now part color)) }
 {
-    out.extend_from_slice(b".")?;
-    append_name(Class::Color(part, place), out)?;
-    out.extend_from_slice(b"{")?;
-    append_property(palette, part, ColorSpec::PaletteIndex(place), out)?;
+    out.push(b'.')?;
+    append_name(class, out)?;
+    out.push(b'{')?;
+    append_property(palette, part, color, out)?;
     out.extend_from_slice(b"}\n")?;
     Ok(())
 }
@@ -115,32 +117,10 @@ fn append_color_rules(palette: &Palette, part: Layer, out: &mut Vec<u8>) -> Resu
     ensures { OnOk result (out.new.items ≡ out.old.items ++ color_rules palette.now part 256) }
 {
     for place in 0..256u16 {
-        append_color_rule(palette, part, place as u8, out)?;
+        let place = place as u8;
+        let color = ColorSpec::PaletteIndex(place);
+        append_rule(palette, Class::Color(part, place), part, color, out)?;
     }
-    Ok(())
-}
-
-/// Appends what the class of text in the colour of the page's background means.
-fn append_text_rule(palette: &Palette, out: &mut Vec<u8>) -> Result<(), AllocError>
-    ensures { OnOk result
-        (out.new.items ≡ out.old.items ++ class_rule palette.now Class.TextAsGround) }
-{
-    let color = or_own(palette.background, ColorSpec::Default);
-    out.extend_from_slice(b".fg-background{")?;
-    append_property(palette, Layer::TextAsGround, color, out)?;
-    out.extend_from_slice(b"}\n")?;
-    Ok(())
-}
-
-/// Appends what the class of a background in the colour of the page's text means.
-fn append_ground_rule(palette: &Palette, out: &mut Vec<u8>) -> Result<(), AllocError>
-    ensures { OnOk result
-        (out.new.items ≡ out.old.items ++ class_rule palette.now Class.GroundAsText) }
-{
-    let color = or_own(palette.foreground, ColorSpec::Default);
-    out.extend_from_slice(b".bg-foreground{")?;
-    append_property(palette, Layer::GroundAsText, color, out)?;
-    out.extend_from_slice(b"}\n")?;
     Ok(())
 }
 
@@ -149,8 +129,16 @@ fn append_class_rules(palette: &Palette, out: &mut Vec<u8>) -> Result<(), AllocE
     ensures { OnOk result (out.new.items ≡ out.old.items ++ class_rules palette.now) }
 {
     append_text(RULES, out)?;
-    append_text_rule(palette, out)?;
-    append_ground_rule(palette, out)?;
+    let text = or_own(palette.background, ColorSpec::Default);
+    append_rule(palette, Class::TextAsGround, Layer::TextAsGround, text, out)?;
+    let ground = or_own(palette.foreground, ColorSpec::Default);
+    append_rule(
+        palette,
+        Class::GroundAsText,
+        Layer::GroundAsText,
+        ground,
+        out,
+    )?;
     append_color_rules(palette, Layer::Text, out)?;
     append_color_rules(palette, Layer::Ground, out)?;
     append_color_rules(palette, Layer::Line, out)?;
@@ -158,23 +146,16 @@ fn append_class_rules(palette: &Palette, out: &mut Vec<u8>) -> Result<(), AllocE
     append_color_rules(palette, Layer::GroundAsText, out)
 }
 
-/// Appends that, where there are classes.
-#[tactic(auto, unfolding(crate::specs::Sheet::rules_of_classes))]
-fn append_rules_of_classes(markup: &Markup, out: &mut Vec<u8>) -> Result<(), AllocError>
-    ensures { OnOk result (out.new.items ≡ out.old.items ++ rules_of_classes markup.now) }
-{
-    if !markup.classes {
-        return Ok(());
-    }
-    append_class_rules(&markup.palette, out)
-}
-
 /// Appends what the style sheet of a page has of the markup: the page's own colours, and classes.
+#[tactic(auto, unfolding(crate::specs::Sheet::sheet))]
 fn append_sheet(markup: &Markup, out: &mut Vec<u8>) -> Result<(), AllocError>
     ensures { OnOk result (out.new.items ≡ out.old.items ++ sheet markup.now) }
 {
     append_own_colors(&markup.palette, out)?;
-    append_rules_of_classes(markup, out)
+    if !markup.classes {
+        return Ok(());
+    }
+    append_class_rules(&markup.palette, out)
 }
 
 /// The title of a page by its name: what `strip` leaves of that, escaped. No tag begins in it.

@@ -1,9 +1,13 @@
-use Rattle.std.proofs.{Common.◌≡◌, Common.◌++◌, Common.append_assoc, lemmas.Result.on_ok_weaker}
-use Rattle.csicodec_html.specs.Sheet.{rules_of_classes, sheet}
+use Rattle.std.proofs.{Common.append-nil, Common.append_assoc, lemmas.Result.on_ok_weaker}
+use Rattle.csicodec_html.specs.Sheet.{sheet}
 use Rattle.csicodec_html.proofs.sheet.append_sheet.Goals as goal
+
+pub returns-then-not-markup : goal.returns-then-not-markup
+unfolding sheet
+returns-then-not-markup c = rw (c.if-not-markup.true, append-nil) c.in_ok-append_own_colors.ensures
 
 pub returns : goal.returns
 unfolding sheet
-returns c = on_ok_weaker c.append_rules_of_classes.result
-    (λ (e : c.append_rules_of_classes.new.out.items ≡ c.append_own_colors.new.out.items ++ rules_of_classes c.args.markup.now). rw (e, c.in_ok-append_own_colors.ensures) (simp append_assoc))
-    c.append_rules_of_classes.ensures
+returns c = on_ok_weaker c.append_class_rules.result
+    (λ e. rw (e, c.in_ok-append_own_colors.ensures) (simp append_assoc))
+    c.append_class_rules.ensures

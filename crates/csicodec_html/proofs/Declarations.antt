@@ -1,16 +1,19 @@
--- No byte of a declaration ends the attribute that it stands in.
-use Rattle.std.proofs.Common.{◌≡◌, ◌/◌, ◌%◌, ℕ, Bool, true, zero, suc, Some, None, get_or, List, [], ◌∷◌, ◌++◌, refl, arith}
+-- No byte of a declaration, or of a class's name, ends the attribute that it stands in.
+use Rattle.std.proofs.Common.{◌≡◌, ◌/◌, ◌%◌, ℕ, Bool, true, false, zero, suc, Some, None, get_or, List, [], ◌∷◌, ◌++◌, refl, arith}
 use Rattle.std.proofs.{lemmas.Bool.and_parts, lemmas.Bool.cond_both, lemmas.Bool.Decides.nat_tests}
-use Rattle.std.specs.{Prelude.Option, Prelude.codes, Prelude.◌&&◌, Prelude.if◌then◌else◌, List.AllByRecursion}
+use Rattle.std.specs.{Prelude.Option, Prelude.codes, Prelude.◌&&◌, Prelude.◌==◌, Prelude.if◌then◌else◌, Fmt.decimal, Fmt.digit_glyph, Fmt.digits}
+use Rattle.std.specs.{Fmt.digits_onto, List.AllByRecursion}
 use Rattle.csicodec_clean.proofs.PlainBytes.{all_both}
 use Rattle.csicodec_names.specs.{declared.color.ColorSpec.ColorSpec, declared.color.Intensity.Intensity, declared.color.SrgbaTuple.SrgbaTuple}
 use Rattle.csicodec_names.specs.{declared.color.Underline.Underline}
 use Rattle.csicodec_html.specs.Look.{color_text, colored, colors, css, has_line, hex_color, hex_digit, inverse_colors, line_color, line_kind, line_places, line_style, lines, own_name, place_text, property, property_of, some_lines, straight_colors, weight}
-use Rattle.csicodec_html.specs.{declared.classes.Layer.Layer, declared.look.Look.Look, declared.palette.Palette.Palette, Palette.color_at, Palette.ground_pairs}
-use Rattle.csicodec_html.specs.{Palette.pair_of, Palette.text_pairs, Page.IsHarmless, Page.is_harmless}
+use Rattle.csicodec_html.specs.{declared.classes.Class.Class, declared.classes.Layer.Layer, declared.look.Look.Look, declared.palette.Palette.Palette}
+use Rattle.csicodec_html.specs.{Palette.color_at, Palette.pair_of, Palette.pairs, Classes.class_name, Classes.part_name, Classes.true_color}
+use Rattle.csicodec_html.specs.{Classes.true_colors, Page.IsHarmless, Page.is_harmless}
 use Rattle.csicodec_names.specs.declared.color.ColorSpec.TheVariants as color
 use Rattle.csicodec_names.specs.declared.color.Intensity.TheVariants as intensity
 use Rattle.csicodec_names.specs.declared.color.Underline.TheVariants as underline
+use Rattle.csicodec_html.specs.declared.classes.Class.TheVariants as class
 use Rattle.csicodec_html.specs.declared.classes.Layer.TheVariants as part
 
 abbrev pub Fine : List ℕ → Type 0
@@ -43,19 +46,23 @@ of_own : (of : Layer) → Fine (own_name of)
 of_own part.Text = tt
 of_own of = checked (own_name of) refl
 
-abbrev lists_harmless : List (List ℕ) → Bool
-lists_harmless [] = true
-lists_harmless (bytes ∷ lists) = all_harmless bytes && lists_harmless lists
+abbrev pairs_harmless : List (List ℕ × List ℕ) → Bool
+pairs_harmless [] = true
+pairs_harmless (p ∷ ps) = all_harmless p.0 && (all_harmless p.1 && pairs_harmless ps)
 
-one_checked : (lists : List (List ℕ)) → lists_harmless lists ≡ true → (i : ℕ) → Fine (get_or lists i [])
-one_checked [] h i = tt
-one_checked (bytes ∷ lists) h zero = checked bytes (and_parts (all_harmless bytes) (lists_harmless lists) h).0
-one_checked (bytes ∷ lists) h (suc i) = one_checked lists (and_parts (all_harmless bytes) (lists_harmless lists) h).1 i
+one_checked : (ps : List (List ℕ × List ℕ)) → pairs_harmless ps ≡ true → (i : ℕ) → Fine (get_or ps i ([], [])).0 × Fine (get_or ps i ([], [])).1
+one_checked [] h i = (tt, tt)
+one_checked (p ∷ ps) h zero =
+    let (text, more) = and_parts (all_harmless p.0) (all_harmless p.1 && pairs_harmless ps) h in
+    (checked p.0 text, checked p.1 (and_parts (all_harmless p.1) (pairs_harmless ps) more).0)
+one_checked (p ∷ ps) h (suc i) =
+    let (text, more) = and_parts (all_harmless p.0) (all_harmless p.1 && pairs_harmless ps) h in
+    one_checked ps (and_parts (all_harmless p.1) (pairs_harmless ps) more).1 i
 
 pair : (of : Layer) (i : ℕ) → Fine (pair_of of i)
-pair part.Ground i = one_checked ground_pairs refl i
-pair part.TextAsGround i = one_checked ground_pairs refl i
-pair _ i = one_checked text_pairs refl i
+pair part.Ground i = (one_checked pairs refl i).1
+pair part.TextAsGround i = (one_checked pairs refl i).1
+pair _ i = (one_checked pairs refl i).0
 
 at_place : (of : Layer) (i : ℕ) (c : Option SrgbaTuple) → Fine (place_text of i c)
 at_place of i None = pair of i
@@ -113,3 +120,34 @@ all_colors p l = cond_both l.inverse (inverse_colors p l) (straight_colors p l) 
 
 pub css_fine : (p : Palette) (l : Look) → Fine (css p l)
 css_fine p l = search (all_both, strokes, when, checked, all_lines, all_colors)
+
+-- ---- classes, and the style that colours by their parts have
+
+glyph : (d : ℕ) → is_harmless (digit_glyph false d) ≡ true
+glyph d = grind (arith, nat_tests)
+
+onto : (k n : ℕ) (behind : List ℕ) → Fine behind → Fine (digits_onto k 10 false n behind)
+onto zero n behind h = h
+onto (suc k) n behind h =
+    let more = digit_glyph false (n % 10) ∷ behind in
+    cond_both (n / 10 == 0) more (digits_onto k 10 false (n / 10) more) Fine (λ _. (glyph (n % 10), h)) (λ _. onto k (n / 10) more (glyph (n % 10), h))
+
+number : (n : ℕ) → Fine (decimal n)
+unfolding digits
+number n = onto 64 n [] tt
+
+of_part : (p : Layer) → Fine (part_name p)
+of_part part.Text = checked (codes "fg-") refl
+of_part p = checked (part_name p) refl
+
+pub name_fine : (c : Class) → Fine (class_name c)
+name_fine (class.Color p i) = all_both IsHarmless (part_name p) (decimal i) (of_part p) (number i)
+name_fine c = checked (class_name c) refl
+
+by_parts : (p : Layer) (c : ColorSpec) → Fine (true_color p c)
+by_parts p (color.TrueColor c) = all_both IsHarmless (property_of p) (hex_color c ++ 59 ∷ []) (of_property p) (all_both IsHarmless (hex_color c) (59 ∷ []) (hex c) (refl, tt))
+by_parts p _ = tt
+
+pub true_fine : (l : Look) → Fine (true_colors l)
+unfolding true_colors
+true_fine l = search (all_both, by_parts)

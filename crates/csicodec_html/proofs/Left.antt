@@ -6,11 +6,14 @@ use lib.Utf8.{scalar}
 use Rattle.bstr.specs.Utf8.{lossy_chars}
 use Rattle.csicodec_spans.specs.{declared.table.Kind.Kind, Parts.Part}
 use Rattle.csicodec_clean.specs.{Shown.shown, Shown.shown_text, Shown.IsShown, Titles.with_titles, Cleaned.IsStep, Cleaned.AreSteps, Cleaned.Ends}
-use Rattle.csicodec_clean.specs.{Cleaned.longest, Addresses.is_web, Links.Address, Links.Begun, Links.IsLink, Links.IsWithin, Links.links_in, Links.start}
-use Rattle.csicodec_clean.proofs.{Linked.fine_behind, Linked.fine_links, Linked.links_none, Plain.kept_shown, Plain.scalars_lossy, PlainBytes.all_both}
+use Rattle.csicodec_clean.specs.{Cleaned.longest, Stream.Between, Stream.Takes, Stream.start_of, Addresses.is_web, Links.Address, Links.Begun, Links.IsLink}
+use Rattle.csicodec_clean.specs.{Links.IsWithin, Links.links_in, Links.start}
+use Rattle.csicodec_filter.specs.Transform.{Begins, Sends, Transforms}
+use Rattle.csicodec_clean.proofs.{Chunks.ends as at_end, Linked.fine_behind, Linked.fine_links, Linked.links_none, Plain.kept_shown, Plain.scalars_lossy}
+use Rattle.csicodec_clean.proofs.{PlainBytes.all_both}
 use Rattle.csicodec_html.specs.Page.{AreLeft, Char, IsSafe, Leaves, Open, PageWith, Piece, Setting, begins, behind_actions, behind_string, closing, ends, first_set, leads, opens, pieces_behind, run_behind, shown_pieces, shuts, switch, switches, turn}
-use Rattle.csicodec_html.specs.{declared.look.Look.Look, declared.markup.Markup.Markup, Look.behind_all, Look.sets_any, Private.Marked.all_marked}
-use Rattle.csicodec_html.specs.{Private.Marked.closes, Private.Marked.marked, Private.Marked.page_bytes, Private.Marked.turns}
+use Rattle.csicodec_html.specs.Private.Marked.{all_marked, Finishes, Passes, closes, marked, page_byte, page_bytes, turns}
+use Rattle.csicodec_html.specs.{declared.look.Look.Look, declared.markup.Markup.Markup, Look.behind_all, Look.sets_any}
 use Rattle.csicodec_html.proofs.{Leads.given, Marks.pieces}
 use Rattle.csicodec_spans.specs.declared.table.Kind.TheVariants as kind
 
@@ -155,3 +158,26 @@ page_of m s bytes text page starts e same =
       all = same ∙ ap page_bytes (e.all ∙ ap (λ (t : List ℕ). e.before ++ t) e.closes ∙ ap (λ (t : List ℕ). t ++ all_marked (closing e.after)) c.all ∙ r.all)
           ∙ pieces m r.pieces (safe_left (with_titles false c.parts) (first_set m) [] r.pieces none_begun left);
     }
+
+-- ---- a page that is written as it comes
+
+stream_ended : (m : Markup) (bytes text close page : List ℕ) (last : Between Setting) → Takes turns (start_of (first_set m)) bytes text last
+    → closes last.rule close → page ≡ page_bytes text ++ page_bytes (shown_text last.held ++ close) → PageWith m bytes page
+stream_ended m bytes text close page last takes closing e =
+    page_of m (first_set m) bytes (text ++ (shown_text last.held ++ close)) page refl
+    (at_end turns closes (first_set m) bytes text close last takes closing) (e ∙ sym (flat_map-append page_byte text (shown_text last.held ++ close)))
+
+pub transformed : (m : Markup) (bytes page : List ℕ) → Transforms Passes Finishes (start_of (first_set m)) bytes page → PageWith m bytes page
+transformed m bytes page (last, sure, rest, (text, takes, made), (close, closing, e), split) =
+    stream_ended m bytes text close page last takes closing (split ∙ ap (λ (t : List ℕ). t ++ rest) made ∙ ap (λ (t : List ℕ). page_bytes text ++ t) e)
+
+pub begun : (m : Markup) (AreAll : Type 0) (bytes sent : List ℕ)
+    → Begins (Sends Passes (start_of (first_set m))) (Transforms Passes Finishes (start_of (first_set m))) AreAll bytes sent → (unsent : List ℕ) × PageWith m bytes (sent ++ unsent)
+begun m AreAll bytes sent (unsent, h) = ⊎_elim
+    (λ (k : Sends Passes (start_of (first_set m)) bytes (sent ++ unsent)).
+    let (last, (text, takes, made)) = k in
+    let close = all_marked (closing last.rule) in
+    let rest = page_bytes (shown_text last.held ++ close) in
+    (unsent ++ rest, subst (PageWith m bytes) (append_assoc sent unsent rest) (stream_ended m bytes text close ((sent ++ unsent) ++ rest) last takes refl (ap (λ (t : List ℕ). t ++ rest) made))))
+    (λ (k : AreAll × Transforms Passes Finishes (start_of (first_set m)) bytes (sent ++ unsent)). (unsent, transformed m bytes (sent ++ unsent) k.1))
+    h

@@ -6,11 +6,11 @@ use Rattle.std.specs.{List.AllByRecursion, List.flat_map}
 use Rattle.csicodec_clean.specs.Shown.{IsShown, shown}
 use Rattle.csicodec_html.specs.Classes.{ahead, behind_slot, class_name, classes_of, has_true, names, rest_attribute, slot_text, style_attribute, true_colors}
 use Rattle.csicodec_html.specs.Page.{IsHarmless, IsSafe, Piece, Char, Begin, End, Open, Shut, escaped, piece_text, piece_texts}
-use Rattle.csicodec_html.specs.Private.Marked.{all_marked, classed_mark, marked, page_byte, page_bytes, styled_mark}
+use Rattle.csicodec_html.specs.Private.Marked.{all_marked, classed_mark, classed_tag, marked, page_byte, page_bytes, styled_mark, styled_tag}
 use Rattle.csicodec_html.specs.{declared.look.Look.Look, declared.markup.Markup.Markup, declared.classes.Class.Class, declared.palette.Palette.Palette}
 use Rattle.csicodec_html.specs.{Look.css, Look.settled}
-use Rattle.csicodec_html.proofs.{Declarations.Fine, Declarations.css_fine, Named.name_fine, Named.true_fine, Addresses.IsVisible, Addresses.ascii}
-use Rattle.csicodec_html.proofs.{Addresses.below, Stood.differs, Stood.one}
+use Rattle.csicodec_html.proofs.{Declarations.Fine, Declarations.css_fine, Declarations.name_fine, Declarations.true_fine, Addresses.IsVisible, Addresses.ascii}
+use Rattle.csicodec_html.proofs.{Addresses.below, Stood.differs, Stood.one, Tagged.begin_is}
 
 one_fine : (b : ℕ) → IsHarmless b → page_byte b ≡ b ∷ []
 one_fine b h = one b (grind (arith, nat_tests))
@@ -59,28 +59,21 @@ of_rest : (l : Look) → page_bytes (rest_attribute 3 l) ≡ rest_attribute 34 l
 of_rest l = ⊎_elim
     (λ (e : has_true l ≡ true). rw e (quoted (true_colors l) (true_fine l))) (λ (e : has_true l ≡ false). rw e refl) (cases_Bool (has_true l))
 
-of_classes : (l : Look) → page_bytes (classed_mark l) ≡ codes "<span" ++ ((names 34 false (classes_of l) ++ rest_attribute 34 l) ++ 62 ∷ [])
-of_classes l =
-    let slots = classes_of l in
-    let rest = rest_attribute 3 l in
-    ap (λ (t : List ℕ). codes "<span" ++ t)
-    (flat_map-append page_byte (names 3 false slots) (rest ++ 2 ∷ []) ∙ ap (λ (t : List ℕ). t ++ page_bytes (rest ++ 2 ∷ [])) (of_names false slots)
-    ∙ ap (λ (t : List ℕ). names 34 false slots ++ t) (flat_map-append page_byte rest (2 ∷ []) ∙ ap (λ (t : List ℕ). t ++ 62 ∷ []) (of_rest l))
-    ∙ sym (append_assoc (names 34 false slots) (rest_attribute 34 l) (62 ∷ [])))
+of_classes : (slots : List (Option Class)) (l : Look) → page_bytes (names 3 false slots ++ (rest_attribute 3 l ++ 2 ∷ [])) ≡ names 34 false slots ++ (rest_attribute 34 l ++ 62 ∷ [])
+of_classes slots l =
+    rw (flat_map-append page_byte (names 3 false slots) (rest_attribute 3 l ++ 2 ∷ []), of_names false slots, flat_map-append page_byte (rest_attribute 3 l) (2 ∷ []), of_rest l) refl
 
-of_style : (p : Palette) (l : Look) → page_bytes (styled_mark p l) ≡ codes "<span" ++ (style_attribute 34 (css p l) ++ 62 ∷ [])
-of_style p l =
-    rw (flat_map-append page_byte (css p l) (6 ∷ []), all_fine (css p l) (css_fine p l)) (ap (λ (t : List ℕ). codes "<span style=\"" ++ t) (sym (append_assoc (css p l) (34 ∷ []) (62 ∷ []))))
+of_style : (p : Palette) (l : Look) → page_bytes (styled_mark p l) ≡ styled_tag p l
+of_style p l = rw (flat_map-append page_byte (css p l) (6 ∷ []), all_fine (css p l) (css_fine p l)) refl
 
 begin : (m : Markup) (l : Look) → page_bytes (marked (Begin m l)) ≡ piece_text (Begin m l)
-begin m l = by m.classes
+begin m l = by m.classes ∙ begin_is m l
   where
     look : Look
     look = settled m.palette l
 
-    by : (b : Bool) → page_bytes (if b then classed_mark look else styled_mark m.palette look)
-        ≡ codes "<span" ++ ((if b then names 34 false (classes_of look) ++ rest_attribute 34 look else style_attribute 34 (css m.palette look)) ++ 62 ∷ [])
-    by true = of_classes look
+    by : (b : Bool) → page_bytes (if b then classed_mark look else styled_mark m.palette look) ≡ (if b then classed_tag look else styled_tag m.palette look)
+    by true = ap (λ (t : List ℕ). codes "<span" ++ t) (of_classes (classes_of look) look)
     by false = of_style m.palette look
 
 visible_shown : (c : ℕ) → IsVisible c → IsShown c

@@ -4,12 +4,12 @@ use Rattle.std.proofs.{lemmas.Bool.cond_both, lemmas.Bool.Decides.nat_tests}
 use Rattle.std.specs.{Prelude.codes, Prelude.if◌then◌else◌, Char.encode_utf8, List.AllByRecursion, List.flat_map}
 use lib.Utf8.{scalar}
 use Rattle.csicodec_clean.specs.Shown.{IsShown}
-use Rattle.csicodec_html.specs.Classes.{attributes, attributes_of, class_name, classes_of, has_true, names, rest_attribute, style_attribute, true_colors}
+use Rattle.csicodec_html.specs.Classes.{class_name, classes_of, has_true, names, rest_attribute, style_attribute, true_colors}
 use Rattle.csicodec_html.specs.Page.{IsHarmless, IsQuoted, IsPageWith, IsSafe, PageWith, Piece, Char, Begin, End, Open, Shut, are_paired, escaped, piece_text, piece_texts}
 use Rattle.csicodec_html.specs.MarkupBytes.{Spot, Inside, Tag, begun, is_value_byte, is_markup, no_value, spot_behind, IsMarkup}
 use Rattle.csicodec_html.specs.{declared.classes.Class.Class, declared.look.Look.Look, declared.markup.Markup.Markup, Look.css, Look.settled}
-use Rattle.csicodec_html.proofs.{Addresses.all_quoted, Addresses.escaped_by, Declarations.Fine, Declarations.css_fine, Named.name_fine, Named.true_fine}
-use Rattle.csicodec_html.proofs.{Paired.is_page}
+use Rattle.csicodec_html.proofs.{Addresses.all_quoted, Addresses.escaped_by, Declarations.Fine, Declarations.css_fine, Declarations.name_fine}
+use Rattle.csicodec_html.proofs.{Declarations.true_fine, Paired.is_page}
 
 -- ---- characters
 
@@ -66,86 +66,68 @@ fine_markup links linked spanned tag bytes more h = value_markup IsHarmless harm
 
 -- ---- the attributes of a span
 
--- the tags that begin one, with classes or without, and with a style or without
-abbrev span_tag : Bool → Bool → List ℕ
-span_tag false false = codes "span"
-span_tag false true = codes "span style=" ++ no_value
-span_tag true false = codes "span class=" ++ no_value
-span_tag true true = codes "span class=" ++ (no_value ++ (codes " style=" ++ no_value))
-
-abbrev Behind : (links linked spanned : Bool) → Bool → List ℕ → List ℕ → Type 0
-Behind links linked spanned classes bytes more =
-    (styles : Bool) × (is_markup links (Tag false (span_tag classes false)) linked spanned (bytes ++ more) ≡ is_markup links (Tag false (span_tag classes styles)) linked spanned more)
-
-style_markup : (links linked spanned classes : Bool) (style more : List ℕ) → Fine style → Behind links linked spanned classes (style_attribute 34 style) more
-style_markup links linked spanned false style more h =
-    let tag = codes "span style=" ++ 34 ∷ [] in
-    (true, ap (λ (t : List ℕ). is_markup links (Tag true tag) linked spanned t) (append_assoc style (34 ∷ []) more) ∙ fine_markup links linked spanned tag style (34 ∷ more) h)
-style_markup links linked spanned true style more h =
-    let tag = codes "span class=" ++ (no_value ++ (codes " style=" ++ 34 ∷ [])) in
-    (true, ap (λ (t : List ℕ). is_markup links (Tag true tag) linked spanned t) (append_assoc style (34 ∷ []) more) ∙ fine_markup links linked spanned tag style (34 ∷ more) h)
-
-rest_markup : (links linked spanned classes : Bool) (l : Look) (more : List ℕ) → Behind links linked spanned classes (rest_attribute 34 l) more
-rest_markup links linked spanned classes l more =
-    cond_both (has_true l) (style_attribute 34 (true_colors l)) [] (λ (t : List ℕ). Behind links linked spanned classes t more)
-    (λ _. style_markup links linked spanned classes (true_colors l) more (true_fine l)) (λ _. (false, refl))
+-- the tag that begins one, with classes or without, where no style came
+abbrev span_tag : Bool → List ℕ
+span_tag false = codes "span"
+span_tag true = codes "span class=" ++ no_value
 
 -- where classes came, their attribute is open
 abbrev named_at : Bool → Spot
 named_at false = Tag false (codes "span")
 named_at true = Tag true (codes "span class=" ++ 34 ∷ [])
 
-abbrev Names : (links linked spanned came : Bool) → List ℕ → List ℕ → Type 0
-Names links linked spanned came bytes more =
-    (classes : Bool) × (is_markup links (named_at came) linked spanned (bytes ++ more) ≡ is_markup links (Tag false (span_tag classes false)) linked spanned more)
+module _ (links linked : Bool) where
+  -- behind the tag text goes on, in a span
+  abbrev Begins : Spot → List ℕ → List ℕ → Type 0
+  Begins s bytes more = is_markup links s linked false (bytes ++ 62 ∷ more) ≡ is_markup links Inside linked true more
 
-names_markup : (links linked spanned came : Bool) (slots : List (Option Class)) (more : List ℕ) → Names links linked spanned came (names 34 came slots) more
-names_markup links linked spanned true [] more = (true, refl)
-names_markup links linked spanned false [] more = (false, refl)
-names_markup links linked spanned came (None ∷ slots) more = names_markup links linked spanned came slots more
-names_markup links linked spanned came (Some c ∷ slots) more =
-    let later = names 34 true slots in
-    let r = names_markup links linked spanned true slots more in
-    let parts : (class_name c ++ later) ++ more ≡ class_name c ++ (later ++ more) = append_assoc (class_name c) later more in
-    let named : is_markup links (named_at true) linked spanned ((class_name c ++ later) ++ more) ≡ is_markup links (Tag false (span_tag r.0 false)) linked spanned more =
-    ap (λ (t : List ℕ). is_markup links (named_at true) linked spanned t) parts
-    ∙ fine_markup links linked spanned (codes "span class=" ++ 34 ∷ []) (class_name c) (later ++ more) (name_fine c) ∙ r.1 in
-    (r.0, by came named)
-  where
-    by : {X : Bool} (b : Bool) → is_markup links (named_at true) linked spanned ((class_name c ++ names 34 true slots) ++ more) ≡ X
-        → is_markup links (named_at b) linked spanned (names 34 b (Some c ∷ slots) ++ more) ≡ X
-    by true e = e
-    by false e = e
+  style_markup : (classes : Bool) (style more : List ℕ) → Fine style → Begins (Tag false (span_tag classes)) (style_attribute 34 style) more
+  style_markup false style more h =
+      let tag = codes "span style=" ++ 34 ∷ [] in
+      ap (λ (t : List ℕ). is_markup links (Tag true tag) linked false t) (append_assoc style (34 ∷ []) (62 ∷ more)) ∙ fine_markup links linked false tag style (34 ∷ 62 ∷ more) h
+  style_markup true style more h =
+      let tag = codes "span class=" ++ (no_value ++ (codes " style=" ++ 34 ∷ [])) in
+      ap (λ (t : List ℕ). is_markup links (Tag true tag) linked false t) (append_assoc style (34 ∷ []) (62 ∷ more)) ∙ fine_markup links linked false tag style (34 ∷ 62 ∷ more) h
 
-pub record Begins (links linked spanned : Bool) (bytes more : List ℕ) : Type 0 where
-  pub classes : Bool
-  pub styles : Bool
-  pub on : is_markup links (Tag false (codes "span")) linked spanned (bytes ++ more) ≡ is_markup links (Tag false (span_tag classes styles)) linked spanned more
+  rest_markup : (classes : Bool) (l : Look) (more : List ℕ) → Begins (Tag false (span_tag classes)) (rest_attribute 34 l) more
+  rest_markup classes l more =
+      let at = Tag false (span_tag classes) in
+      cond_both (has_true l) (style_attribute 34 (true_colors l)) [] (λ (t : List ℕ). Begins at t more)
+      (λ _. style_markup classes (true_colors l) more (true_fine l)) (λ _. grind arith)
 
-attributes_markup : (links linked spanned : Bool) (m : Markup) (l : Look) (more : List ℕ) → Begins links linked spanned (attributes_of 34 m l) more
-attributes_markup links linked spanned m l more = by m.classes
-  where
-    by : (t : Bool) → Begins links linked spanned (if t then names 34 false (classes_of l) ++ rest_attribute 34 l else style_attribute 34 (css m.palette l)) more
-    by true =
-        let rest = rest_attribute 34 l in
-        let n = names_markup links linked spanned false (classes_of l) (rest ++ more) in
-        let r = rest_markup links linked spanned n.0 l more in
-        let parts = append_assoc (names 34 false (classes_of l)) rest more in
-        record { classes = n.0; styles = r.0; on = ap (λ (t : List ℕ). is_markup links (Tag false (codes "span")) linked spanned t) parts ∙ n.1 ∙ r.1 }
-    by false =
-        let r = style_markup links linked spanned false (css m.palette l) more (css_fine m.palette l) in
-        record { classes = false; styles = r.0; on = r.1 }
+  name_markup : (c : Class) (later more : List ℕ) → is_markup links (named_at true) linked false ((class_name c ++ later) ++ more) ≡ is_markup links (named_at true) linked false (later ++ more)
+  name_markup c later more =
+      ap (λ (t : List ℕ). is_markup links (named_at true) linked false t) (append_assoc (class_name c) later more)
+      ∙ fine_markup links linked false (codes "span class=" ++ 34 ∷ []) (class_name c) (later ++ more) (name_fine c)
+
+  names_markup : (came : Bool) (slots : List (Option Class)) (l : Look) (more : List ℕ)
+      → is_markup links (named_at came) linked false (names 34 came slots ++ (rest_attribute 34 l ++ 62 ∷ more)) ≡ is_markup links Inside linked true more
+  names_markup true [] l more = rest_markup true l more
+  names_markup false [] l more = rest_markup false l more
+  names_markup came (None ∷ slots) l more = names_markup came slots l more
+  names_markup true (Some c ∷ slots) l more = name_markup c (names 34 true slots) (rest_attribute 34 l ++ 62 ∷ more) ∙ names_markup true slots l more
+  names_markup false (Some c ∷ slots) l more = name_markup c (names 34 true slots) (rest_attribute 34 l ++ 62 ∷ more) ∙ names_markup true slots l more
 
 -- ---- the tags
 
-tag_ends : (links linked classes styles : Bool) (more : List ℕ) → is_markup links (Tag false (span_tag classes styles)) linked false (62 ∷ more) ≡ is_markup links Inside linked true more
-tag_ends links linked classes styles more = grind arith
-
 begin_markup : (links linked : Bool) (m : Markup) (l : Look) (more : List ℕ) → is_markup links Inside linked false (piece_text (Begin m l) ++ more) ≡ is_markup links Inside linked true more
-begin_markup links linked m l more =
-    let own = attributes 34 m l in
-    let r = attributes_markup links linked false m (settled m.palette l) (62 ∷ more) in
-    ap (λ (t : List ℕ). is_markup links (Tag false (codes "span")) linked false t) (append_assoc own (62 ∷ []) more) ∙ r.on ∙ tag_ends links linked r.classes r.styles more
+begin_markup links linked m l more = by m.classes
+  where
+    look : Look
+    look = settled m.palette l
+
+    by : (b : Bool) → is_markup links (Tag false (codes "span")) linked false
+        (((if b then names 34 false (classes_of look) ++ rest_attribute 34 look else style_attribute 34 (css m.palette look)) ++ 62 ∷ []) ++ more)
+        ≡ is_markup links Inside linked true more
+    by true =
+        let slots = names 34 false (classes_of look) in
+        let rest = rest_attribute 34 look in
+        ap (λ (t : List ℕ). is_markup links (Tag false (codes "span")) linked false t) (append_assoc (slots ++ rest) (62 ∷ []) more ∙ append_assoc slots rest (62 ∷ more))
+        ∙ names_markup links linked false (classes_of look) look more
+    by false =
+        let style = style_attribute 34 (css m.palette look) in
+        ap (λ (t : List ℕ). is_markup links (Tag false (codes "span")) linked false t) (append_assoc style (62 ∷ []) more)
+        ∙ style_markup links linked false (css m.palette look) more (css_fine m.palette look)
 
 open_markup : (url more : List ℕ) → AllByRecursion IsQuoted (flat_map escaped url) → is_markup true Inside false false (piece_text (Open url) ++ more) ≡ is_markup true Inside true false more
 open_markup url more h =

@@ -1,12 +1,13 @@
--- The tags between two looks, as they stand on the page.
+-- The tags of looks and links, as the first step marks them, and as they stand on the page.
 use Rattle.std.proofs.Common.{◌≡◌, ℕ, Bool, true, false, List, [], ◌∷◌, ◌++◌, sym, ap, ◌∙◌, append_assoc, append-nil}
 use Rattle.std.proofs.lemmas.Grind.{flat_map-append}
-use Rattle.std.specs.Prelude.{codes, if◌then◌else◌}
+use Rattle.std.specs.{Prelude.codes, Prelude.if◌then◌else◌, Prelude.◌||◌, List.flat_map}
 use Rattle.csicodec_html.specs.{declared.look.Look.Look, declared.markup.Markup.Markup, Classes.classes_of, Classes.names, Classes.rest_attribute}
-use Rattle.csicodec_html.specs.{Classes.style_attribute, Look.css, Look.is_plain, Look.settled, Page.Begin, Page.begins, Page.ends, Page.piece_text}
-use Rattle.csicodec_html.specs.{Page.piece_texts, Page.turn, Private.Marked.begin_tag, Private.Marked.classed_tag, Private.Marked.styled_tag}
+use Rattle.csicodec_html.specs.{Classes.style_attribute, Look.css, Look.settled, Page.Begin, Page.Piece, Page.begins, Page.ends, Page.leads, Page.opens}
+use Rattle.csicodec_html.specs.{Page.piece_text, Page.shuts, Page.switch, Private.Marked.all_marked, Private.Marked.begin_tag, Private.Marked.classed_tag}
+use Rattle.csicodec_html.specs.{Private.Marked.link_mark, Private.Marked.styled_tag}
 
-begin_is : (m : Markup) (l : Look) → begin_tag m l ≡ piece_text (Begin m l)
+pub begin_is : (m : Markup) (l : Look) → begin_tag m l ≡ piece_text (Begin m l)
 begin_is m l = by m.classes
   where
     look : Look
@@ -17,10 +18,16 @@ begin_is m l = by m.classes
     by true = ap (λ (t : List ℕ). codes "<span" ++ t) (sym (append_assoc (names 34 false (classes_of look)) (rest_attribute 34 look) (62 ∷ [])))
     by false = ap (λ (t : List ℕ). codes "<span style=\"" ++ t) (sym (append_assoc (css m.palette look) (34 ∷ []) (62 ∷ [])))
 
--- of a look that has a tag
-pub begun : (m : Markup) (l : Look) → is_plain l ≡ false → piece_texts (begins m l) ≡ begin_tag m l
-begun m l h = rw h (append-nil _ ∙ sym (begin_is m l))
+-- between two looks, by the text of each tag
+pub turned : (f : Piece → List ℕ) (m : Markup) (old new : Look) (before mid after : List ℕ) → mid ≡ before ++ flat_map f (ends old)
+    → after ≡ mid ++ flat_map f (begins m new) → after ≡ before ++ flat_map f (ends old ++ begins m new)
+turned f m old new before mid after h k = simp (k, h, append_assoc, flat_map-append)
 
-pub turned : (m : Markup) (old new : Look) (before mid after : List ℕ) → mid ≡ before ++ piece_texts (ends old)
-    → after ≡ mid ++ piece_texts (begins m new) → after ≡ before ++ piece_texts (turn m true old new)
-turned m old new before mid after h k = simp (k, h, append_assoc, flat_map-append)
+-- the tag of a link that leads somewhere
+pub opened : (to : List ℕ) → leads to ≡ true → all_marked (opens to) ≡ link_mark ++ (to ++ 3 ∷ 2 ∷ [])
+opened to h = rw h (append-nil _)
+
+pub switched : (m : Markup) (l : Look) (old new before first second third after : List ℕ) → (leads old || leads new) ≡ true
+    → first ≡ before ++ all_marked (ends l) → second ≡ first ++ all_marked (shuts old)
+    → third ≡ second ++ all_marked (opens new) → after ≡ third ++ all_marked (begins m l) → after ≡ before ++ all_marked (switch m l old new)
+switched m l old new before first second third after comes h i j k = rw (comes, k, j, i, h) (simp (append_assoc, flat_map-append))

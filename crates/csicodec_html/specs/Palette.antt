@@ -36,47 +36,28 @@ or_own given (color.TrueColor c) = color.TrueColor c
 -- ---- pairs: a colour on a light page, and one on a dark page (CSS Color, level 5, `light-dark`). Of text, and of what is behind it:
 -- each text has a contrast of at least 4.5 to 1 (WCAG 2.2, 1.4.3) to each ground, and to the page's own; `.ci/contrast` measures it
 
-abbrev pub text_pairs : List (List ℕ)
-text_pairs =
-    codes "light-dark(#000000,#a9b1ba)"
-    ∷ codes "light-dark(#9f0017,#ff8e86)"
-    ∷ codes "light-dark(#015a14,#5fc366)"
-    ∷ codes "light-dark(#634901,#dca603)"
-    ∷ codes "light-dark(#0049a3,#7ab0ff)"
-    ∷ codes "light-dark(#890092,#e68eec)"
-    ∷ codes "light-dark(#03565e,#00c0cf)"
-    ∷ codes "light-dark(#3d444d,#d5dbe1)"
-    ∷ codes "light-dark(#57606a,#b4bcc5)"
-    ∷ codes "light-dark(#bf001d,#ffb3ac)"
-    ∷ codes "light-dark(#006e1a,#77db7d)"
-    ∷ codes "light-dark(#795900,#f6bd2a)"
-    ∷ codes "light-dark(#005ac4,#a3c8fe)"
-    ∷ codes "light-dark(#a600b1,#faaafe)"
-    ∷ codes "light-dark(#046871,#04daeb)"
-    ∷ codes "light-dark(#24292f,#ffffff)" ∷ []
-
-abbrev pub ground_pairs : List (List ℕ)
-ground_pairs =
-    codes "light-dark(#d8dde2,#000000)"
-    ∷ codes "light-dark(#fed3ce,#581c1a)"
-    ∷ codes "light-dark(#b7eab8,#04390c)"
-    ∷ codes "light-dark(#f7da9c,#3f2d00)"
-    ∷ codes "light-dark(#c9dffe,#0f2f5d)"
-    ∷ codes "light-dark(#fdceff,#49204c)"
-    ∷ codes "light-dark(#93ebf4,#00363b)"
-    ∷ codes "light-dark(#eef0f2,#31373d)"
-    ∷ codes "light-dark(#e2e6ea,#262b31)"
-    ∷ codes "light-dark(#ffe4e1,#6f2120)"
-    ∷ codes "light-dark(#bdf9bd,#00470d)"
-    ∷ codes "light-dark(#ffe8b8,#4f3900)"
-    ∷ codes "light-dark(#deebfe,#123b76)"
-    ∷ codes "light-dark(#fee1ff,#5c2760)"
-    ∷ codes "light-dark(#aef6fe,#00434a)"
-    ∷ codes "light-dark(#ffffff,#3a4148)" ∷ []
+abbrev pub pairs : List (List ℕ × List ℕ)
+pairs =
+    (codes "light-dark(#000000,#a9b1ba)", codes "light-dark(#d8dde2,#000000)")
+    ∷ (codes "light-dark(#9f0017,#ff8e86)", codes "light-dark(#fed3ce,#581c1a)")
+    ∷ (codes "light-dark(#015a14,#5fc366)", codes "light-dark(#b7eab8,#04390c)")
+    ∷ (codes "light-dark(#634901,#dca603)", codes "light-dark(#f7da9c,#3f2d00)")
+    ∷ (codes "light-dark(#0049a3,#7ab0ff)", codes "light-dark(#c9dffe,#0f2f5d)")
+    ∷ (codes "light-dark(#890092,#e68eec)", codes "light-dark(#fdceff,#49204c)")
+    ∷ (codes "light-dark(#03565e,#00c0cf)", codes "light-dark(#93ebf4,#00363b)")
+    ∷ (codes "light-dark(#3d444d,#d5dbe1)", codes "light-dark(#eef0f2,#31373d)")
+    ∷ (codes "light-dark(#57606a,#b4bcc5)", codes "light-dark(#e2e6ea,#262b31)")
+    ∷ (codes "light-dark(#bf001d,#ffb3ac)", codes "light-dark(#ffe4e1,#6f2120)")
+    ∷ (codes "light-dark(#006e1a,#77db7d)", codes "light-dark(#bdf9bd,#00470d)")
+    ∷ (codes "light-dark(#795900,#f6bd2a)", codes "light-dark(#ffe8b8,#4f3900)")
+    ∷ (codes "light-dark(#005ac4,#a3c8fe)", codes "light-dark(#deebfe,#123b76)")
+    ∷ (codes "light-dark(#a600b1,#faaafe)", codes "light-dark(#fee1ff,#5c2760)")
+    ∷ (codes "light-dark(#046871,#04daeb)", codes "light-dark(#aef6fe,#00434a)")
+    ∷ (codes "light-dark(#24292f,#ffffff)", codes "light-dark(#ffffff,#3a4148)") ∷ []
 
 abbrev pub pair_of : Layer → ℕ → List ℕ
-pair_of part.Text i = get_or text_pairs i []
-pair_of part.Ground i = get_or ground_pairs i []
-pair_of part.Line i = get_or text_pairs i []
-pair_of part.TextAsGround i = get_or ground_pairs i []
-pair_of part.GroundAsText i = get_or text_pairs i []
+pair_of part.Text i = (get_or pairs i ([], [])).0
+pair_of part.Ground i = (get_or pairs i ([], [])).1
+pair_of part.Line i = (get_or pairs i ([], [])).0
+pair_of part.TextAsGround i = (get_or pairs i ([], [])).1
+pair_of part.GroundAsText i = (get_or pairs i ([], [])).0

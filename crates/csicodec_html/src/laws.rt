@@ -30,7 +30,7 @@ pub fn text_stays()
 {}
 
 /// No byte of an attribute ends it, or begins a tag; a reference is one of the five by which characters are escaped, in an address.
-#[tactic(auto, using(crate::proofs::Declarations::css_fine, crate::proofs::Addresses::all_quoted, crate::proofs::Named::name_fine, crate::proofs::Named::true_fine))]
+#[tactic(auto, using(crate::proofs::Declarations::css_fine, crate::proofs::Addresses::all_quoted, crate::proofs::Declarations::name_fine, crate::proofs::Declarations::true_fine))]
 pub fn attributes_end()
     ensures styles { (p : Palette) (l : Look) → AllByRecursion IsHarmless (css p l) }
     ensures addresses { (url : List ℕ) → AllByRecursion (λ b. is_visible b ≡ true) url

@@ -2,7 +2,7 @@
 ghost use Rattle.std.specs.Prelude.{◌≡◌, ◌++◌, List, ℕ, OnOk, encode_utf8_all, true};
 ghost use Rattle.std.specs.List.{AllByRecursion, flat_map};
 ghost use Rattle.csicodec_clean.specs.Shown.{IsShown};
-ghost use Rattle.csicodec_html.specs.Page.{begins, ends, escaped, piece_texts, turn};
+ghost use Rattle.csicodec_html.specs.Page.{ends, escaped, piece_texts, turn};
 ghost use Rattle.csicodec_html.specs.Private.Marked.{begin_tag, classed_tag, styled_tag};
 
 use crate::attributes::{append_rest, settled};
@@ -48,16 +48,6 @@ fn append_span(markup: &Markup, look: Look, out: &mut Vec<u8>) -> Result<(), All
     }
 }
 
-/// Appends it, if the look has one.
-fn append_begin(markup: &Markup, look: Look, out: &mut Vec<u8>) -> Result<(), AllocError>
-    ensures { OnOk result (out.new.items ≡ out.old.items ++ piece_texts (begins markup.now look)) }
-{
-    if look.is_plain() {
-        return Ok(());
-    }
-    append_span(markup, look, out)
-}
-
 /// Appends the tag that ends a span of this look, if that has one.
 fn append_end(look: Look, out: &mut Vec<u8>) -> Result<(), AllocError>
     ensures { OnOk result (out.new.items ≡ out.old.items ++ piece_texts (ends look)) }
@@ -83,7 +73,10 @@ pub fn append_turn(
     ensures { OnOk result (out.new.items ≡ out.old.items ++ piece_texts (turn markup.now true old new)) }
 {
     append_end(old, out)?;
-    append_begin(markup, new, out)
+    if new.is_plain() {
+        return Ok(());
+    }
+    append_span(markup, new, out)
 }
 
 /// Appends a character.

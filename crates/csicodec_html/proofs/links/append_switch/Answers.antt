@@ -1,5 +1,5 @@
 use Rattle.std.proofs.{Common.sym, Common.◌∙◌, lemmas.Result.on_ok_weaker}
-use Rattle.csicodec_html.proofs.Joined.{switched}
+use Rattle.csicodec_html.proofs.Tagged.{switched}
 use Rattle.csicodec_html.proofs.links.append_switch.Goals as goal
 
 pub returns : goal.returns

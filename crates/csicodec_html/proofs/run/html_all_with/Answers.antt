@@ -3,7 +3,7 @@ use Rattle.csicodec_filter.specs.Transform.{Sends, Transforms}
 use Rattle.csicodec_clean.specs.Stream.{start_of}
 use Rattle.csicodec_clean.proofs.{Chunks.takes_none, Streams.Texts, Streams.streams}
 use Rattle.csicodec_html.specs.{Page.IsPageWith, Page.PageWith, Page.first_set, Private.Marked.Finishes, Private.Marked.Passes, Private.Marked.turns}
-use Rattle.csicodec_html.proofs.{Paired.is_page, Streamed.begun, Streamed.transformed}
+use Rattle.csicodec_html.proofs.{Left.begun, Left.transformed, Paired.is_page}
 use Rattle.csicodec_html.proofs.run.html_all_with.Goals as goal
 
 pub transform_all-requires-clause-begun : goal.transform_all-requires-clause-begun

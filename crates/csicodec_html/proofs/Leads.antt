@@ -2,9 +2,8 @@
 use Rattle.std.proofs.Common.{◌≡◌, ℕ, Bool, true, false, List, [], ◌∷◌, ◌++◌, refl, sym, ap, subst, ◌∙◌, append_assoc, append-nil, arith}
 use Rattle.std.proofs.lemmas.Grind.{flat_map-append}
 use Rattle.std.specs.Prelude.{if◌then◌else◌}
-use Rattle.csicodec_clean.specs.{Cleaned.AreGiven, Addresses.led, Links.Address, Links.Begun, Links.all_behind, Links.ends_at, Links.links_at, Links.links_in}
-use Rattle.csicodec_clean.specs.{Links.next}
-use Rattle.csicodec_clean.proofs.Linked.{links_more}
+use Rattle.csicodec_clean.specs.{Cleaned.AreGiven, Addresses.led, Links.Address, Links.Begun, Links.all_behind, Links.behind, Links.ends_at, Links.links_at}
+use Rattle.csicodec_clean.specs.{Links.links_in, Links.next}
 use Rattle.csicodec_html.specs.{declared.look.Look.Look, declared.markup.Markup.Markup, Page.Piece, Page.Setting, Page.behind_string, Page.led_by, Page.setting}
 use Rattle.csicodec_html.specs.{Page.switch, Page.switches, Private.Marked.all_marked, Private.Marked.behind_byte, Private.Marked.marked, Private.Marked.turns}
 
@@ -24,23 +23,22 @@ marked_on m l to xs ys = ap all_marked (switches_on m l to xs ys) ∙ flat_map-a
 -- ---- a byte of a control string
 
 -- the link that is over with it
-pub over_text : (m : Markup) (l : Look) (to : List ℕ) (b : Begun) (c : ℕ)
+over_text : (m : Markup) (l : Look) (to : List ℕ) (b : Begun) (c : ℕ)
     → all_marked (if ends_at b.place c then switch m l to (led b.address.url) else []) ≡ all_marked (switches m l to (links_at true b c))
 over_text m l to b c = grind (arith, append-nil {A = Piece})
 
-pub over_to : (to : List ℕ) (b : Begun) (c : ℕ) → (if ends_at b.place c then led b.address.url else to) ≡ led_by to (links_at true b c)
+over_to : (to : List ℕ) (b : Begun) (c : ℕ) → (if ends_at b.place c then led b.address.url else to) ≡ led_by to (links_at true b c)
 over_to to b c = grind arith
 
--- a byte more
-pub text_more : (m : Markup) (l : Look) (b old : Begun) (xs first to mid out text : List ℕ) (c : ℕ) → old ≡ all_behind true b xs
-    → mid ≡ led_by to (links_in true b xs) → out ≡ first ++ all_marked (switches m l to (links_in true b xs))
-    → text ≡ out ++ all_marked (switches m l mid (links_at true old c)) → text ≡ first ++ all_marked (switches m l to (links_in true b (xs ++ c ∷ [])))
-text_more m l b old xs first to mid out text c here led was now =
-    rw (now, was, led, links_more b old xs c here, marked_on m l to (links_in true b xs) (links_at true old c)) (simp append_assoc)
-
-pub to_more : (b old : Begun) (xs to mid after : List ℕ) (c : ℕ) → old ≡ all_behind true b xs → mid ≡ led_by to (links_in true b xs)
-    → after ≡ led_by mid (links_at true old c) → after ≡ led_by to (links_in true b (xs ++ c ∷ []))
-to_more b old xs to mid after c here was now = rw (now, was, links_more b old xs c here, led_on to (links_in true b xs) (links_at true old c)) refl
+-- where links pass, what becomes of it
+pub byte_gives : (m : Markup) (l : Look) (to after : List ℕ) (b new : Begun) (c : ℕ) → m.links ≡ true
+    → after ≡ (if ends_at b.place c then led b.address.url else to) → new ≡ behind b c
+    → turns.byte (setting m l to b) c (all_marked (if ends_at b.place c then switch m l to (led b.address.url) else [])) (setting m l after new)
+byte_gives m l to after b new c pass leads here = (
+  over_text m l to b c ∙ ap (λ (p : Bool). all_marked (switches m l to (links_at p b c))) (sym pass),
+  ap (λ (t : List ℕ). setting m l t new) (leads ∙ over_to to b c ∙ ap (λ (p : Bool). led_by to (links_at p b c)) (sym pass))
+      ∙ ap (λ (n : Begun). setting m l (led_by to (links_at m.links b c)) n) (here ∙ ap (λ (p : Bool). next p b c) (sym pass)),
+)
 
 -- ---- a control string
 
@@ -57,32 +55,14 @@ given (c ∷ bytes) s after text (first, mid, others, here, e, rest) =
       r.1 ∙ ap (λ (t : List ℕ). setting s.markup s.look t (all_behind s.markup.links (next s.markup.links s.begun c) bytes)) (sym (led_on s.to links more)),
     )
 
-gives : (bytes : List ℕ) (s : Setting) → AreGiven turns s bytes (all_marked (switches s.markup s.look s.to (links_in s.markup.links s.begun bytes))) (behind_string s bytes)
-gives [] s = (refl, refl)
-gives (c ∷ bytes) s =
-    let mid = behind_byte s c in
-    let links = links_at s.markup.links s.begun c in
-    let more = links_in s.markup.links (next s.markup.links s.begun c) bytes in
-    let others = all_marked (switches s.markup s.look mid.to more) in (
-      all_marked (switches s.markup s.look s.to links),
-      mid,
-      others,
-      (refl, refl),
-      marked_on s.markup s.look s.to links more,
-      subst (λ (t : List ℕ). AreGiven turns mid bytes others (setting s.markup s.look t (all_behind s.markup.links (next s.markup.links s.begun c) bytes)))
-          (sym (led_on s.to links more)) (gives bytes mid),
-    )
+-- a byte more
+pub given_more : (xs : List ℕ) (s mid after : Setting) (c : ℕ) (text more : List ℕ) → AreGiven turns s xs text mid → turns.byte mid c more after
+    → AreGiven turns s (xs ++ c ∷ []) (text ++ more) after
+given_more [] s mid after c text more (none, same) one = (more, after, [], subst (λ (x : Setting). turns.byte x c more after) same one, rw none (sym (append-nil more)), (refl, refl))
+given_more (x ∷ xs) s mid after c text more (first, next, others, here, e, rest) one =
+    (first, next, others ++ more, here, rw e (append_assoc first others more), given_more xs next mid after c others more rest one)
 
--- where links pass, and where they don't
-pub gives_links : (bytes : List ℕ) (s : Setting) → s.markup.links ≡ true
-    → AreGiven turns s bytes (all_marked (switches s.markup s.look s.to (links_in true s.begun bytes)))
-    (setting s.markup s.look (led_by s.to (links_in true s.begun bytes)) (all_behind true s.begun bytes))
-gives_links bytes s e = subst
-    (λ (b : Bool).
-    AreGiven turns s bytes (all_marked (switches s.markup s.look s.to (links_in b s.begun bytes))) (setting s.markup s.look (led_by s.to (links_in b s.begun bytes)) (all_behind b s.begun bytes)))
-    e
-    (gives bytes s)
-
+-- where links don't pass
 pub gives_none : (bytes : List ℕ) (s : Setting) → s.markup.links ≡ false → AreGiven turns s bytes [] s
 gives_none [] s e = (refl, refl)
 gives_none (c ∷ bytes) s e =

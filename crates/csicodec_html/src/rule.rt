@@ -1,18 +1,18 @@
 //! What stands in the place of a control sequence, and of a control string.
-ghost use Rattle.std.specs.Prelude.{◌≡◌, ◌++◌, ◌∷◌, [], map, OnOk};
+ghost use Rattle.std.specs.Prelude.{◌≡◌, ◌++◌, ◌∷◌, ℕ, List, [], map, true, OnOk};
 ghost use Rattle.csicodec_parser.specs.ActionOf.{action_of};
 ghost use Rattle.csicodec_html.specs.Look.{behind_all, sets_any};
 ghost use Rattle.csicodec_html.specs.Page.{first_set, turn};
-ghost use Rattle.csicodec_html.specs.Private.Marked.{all_marked};
+ghost use Rattle.csicodec_html.specs.Private.Marked.{all_marked, turns as marks};
 
-use crate::links::Lead;
+use crate::links::follow;
 use crate::look::Look;
 use crate::markup::Markup;
 use crate::tags::{append_begin, append_end, append_shut};
 use crate::turns::{InFront, Turning, Turns};
 use csicodec::CSI;
 use csicodec_base::CsiParam;
-use csicodec_clean::Rule;
+use csicodec_clean::{LinkReader, Rule, ends_link};
 use csicodec_terminal::terminal_actions_into;
 use std::alloc::{AllocError, Global};
 use std::marker::Model;
@@ -23,15 +23,7 @@ fn behind(look: Look, action: &CSI) -> Look
 {
     match action {
         CSI::Sgr(attribute) => look.behind(attribute),
-        CSI::Cursor(_)
-        | CSI::Edit(_)
-        | CSI::Mode(_)
-        | CSI::Device(_)
-        | CSI::Keyboard(_)
-        | CSI::SelectCharacterPath(..)
-        | CSI::Mouse(_)
-        | CSI::Window(_)
-        | CSI::Unspecified(_) => look,
+        _ => look,
     }
 }
 
@@ -84,25 +76,23 @@ fn append_turn(
     append_begin(markup, new, out)
 }
 
-/// What becomes markup, as tags that are marked.
-#[derive(Clone, Copy)]
-struct Marks {
-    markup: Markup,
-}
-
-impl Turning for Marks {
+/// A sequence turns looks by the tags that are marked between them.
+impl Turning for Markup {
     ghost use Rattle.csicodec_html.specs.Private.Turns.{IsTurned};
 
-    ghost turns = { λ marks. IsTurned marks.markup };
+    ghost turns = { IsTurned };
 }
 
 /// The rule that turns attributes into spans, and links, where they pass, into links of the page.
 #[derive(Drop)]
 pub(crate) struct SpanWriter {
     alloc: Global,
-    marks: Marks,
+    markup: Markup,
     look: Look,
-    lead: Lead,
+    /// Where text leads; no bytes where it leads nowhere.
+    to: Vec<u8>,
+    /// What has come of the next link.
+    next: LinkReader,
     /// A place that is kept for the actions of a sequence.
     actions: Vec<CSI>,
     /// Sequences that came before.
@@ -118,10 +108,10 @@ impl Model for SpanWriter {
     ghost use Rattle.csicodec_html.specs.Private.Turns.{IsTurned};
     ghost use Rattle.csicodec_html.specs.Turns.{AreTurns};
 
-    ghost view = { λ s. setting s.marks.markup s.look s.lead.to.items
-        (begun s.lead.next.place s.lead.next.params.items s.lead.next.url.items) };
+    ghost view = { λ s. setting s.markup s.look s.to.items
+        (begun s.next.place s.next.params.items s.next.url.items) };
 
-    ghost invariant = { λ s. AreTurns (IsTurned s.marks.markup) s.turns.kept.items };
+    ghost invariant = { λ s. AreTurns (IsTurned s.markup) s.turns.kept.items };
 }
 
 impl SpanWriter {
@@ -129,15 +119,28 @@ impl SpanWriter {
     pub(crate) fn new(alloc: Global, markup: Markup) -> SpanWriter
         ensures { result ≡ first_set markup }
     {
-        let marks = Marks { markup };
         SpanWriter {
             alloc,
-            marks,
+            markup,
             look: Look::plain(),
-            lead: Lead::new(alloc),
+            to: Vec::new(alloc),
+            next: LinkReader::new(alloc),
             actions: Vec::new(alloc),
-            turns: Turns::new(alloc, &marks),
+            turns: Turns::new(alloc, &markup),
         }
+    }
+
+    /// Takes the next byte of a control string, where links pass: appends the tags for the link that is over with it.
+    fn take_byte(&mut self, byte: u8, out: &mut Vec<u8>) -> Result<(), AllocError>
+        requires { self.old.markup.links ≡ true }
+        ensures { OnOk result
+            ((text : List ℕ) × marks.byte self.old byte text self.new
+            × (out.new.items ≡ out.old.items ++ text)) }
+    {
+        let over = ends_link(self.next.place, byte);
+        let markup = &self.markup;
+        follow(over, &self.next.url, markup, self.look, &mut self.to, out)?;
+        self.next.take(byte)
     }
 }
 
@@ -158,15 +161,10 @@ impl Rule for SpanWriter {
         terminal_actions_into(self.alloc, params, false, control, &mut self.actions)?;
         let new = behind_each(self.look, &self.actions);
         let before = out.len();
-        append_turn(
-            &self.marks.markup,
-            sets_any(&self.actions),
-            self.look,
-            new,
-            out,
-        )?;
+        let comes = sets_any(&self.actions);
+        append_turn(&self.markup, comes, self.look, new, out)?;
         let tags = out.split_at(before).1;
-        self.turns.keep(&self.marks, bytes, self.look, new, tags)?;
+        self.turns.keep(&self.markup, bytes, self.look, new, tags)?;
         self.look = new;
         Ok(())
     }
@@ -183,21 +181,22 @@ impl Rule for SpanWriter {
             least: 1,
             most: limit,
         };
-        let len = self.turns.recall(&self.marks, &mut self.look, front, out)?;
+        let len = self.turns.recall(&self.markup, &mut self.look, front, out)?;
         Ok(len)
     }
 
     fn string(&mut self, bytes: &[u8], out: &mut Vec<u8>) -> Result<(), AllocError> {
-        if !self.marks.markup.links {
+        if !self.markup.links {
             return Ok(());
         }
-        self.lead
-            .append_links(&self.marks.markup, self.look, bytes, out)?;
+        for byte in bytes {
+            self.take_byte(*byte, out)?;
+        }
         Ok(())
     }
 
     fn close(&self, out: &mut Vec<u8>) -> Result<(), AllocError> {
         append_end(self.look, out)?;
-        append_shut(&self.lead.to, out)
+        append_shut(&self.to, out)
     }
 }

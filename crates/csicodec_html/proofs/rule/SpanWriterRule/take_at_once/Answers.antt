@@ -7,11 +7,11 @@ use Rattle.csicodec_html.proofs.rule.SpanWriterRule.take_at_once.Goals as goal
 pub returns-clause-taken : goal.returns-clause-taken
 returns-clause-taken c = λ some.
     let inside = c.self.inside in
-    let come = begun inside.lead.next.place inside.lead.next.params.items inside.lead.next.url.items in
-    let first = setting inside.marks.markup inside.look inside.lead.to.items come in
+    let come = begun inside.next.place inside.next.params.items inside.next.url.items in
+    let first = setting inside.markup inside.look inside.to.items come in
     let own = take c.in_ok-len.len c.args.bytes.now in
     let new = c.recall.new.look in
-    let after = setting inside.marks.markup new inside.lead.to.items come in
+    let after = setting inside.markup new inside.to.items come in
     let (least, most, within, tags, is, longer) = c.in_ok-len.ensures.told some in
     let (one, gives) = given first own tags new is in
     (tags, one, subst (λ (s : Setting). turns.sequence s own tags after) c.self.view_is gives, longer)

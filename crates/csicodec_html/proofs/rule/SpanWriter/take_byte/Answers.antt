@@ -1,0 +1,25 @@
+use Rattle.std.proofs.{Common.◌≡◌, Common.◌∙◌, Common.[], Common.true, Common.ap, Common.subst, lemmas.Result.on_ok_weaker}
+use Rattle.std.specs.Prelude.{if◌then◌else◌}
+use Rattle.csicodec_clean.specs.{Addresses.led, Links.begun, Links.ends_at}
+use Rattle.csicodec_html.specs.{Page.Setting, Page.setting, Page.switch, Private.Marked.all_marked, Private.Marked.turns}
+use Rattle.csicodec_html.proofs.Leads.{byte_gives}
+use Rattle.csicodec_html.proofs.rule.SpanWriter.take_byte.Goals as goal
+
+pub returns : goal.returns
+returns c =
+    let inside = c.self.inside in
+    let m = inside.markup in
+    let to = inside.to.items in
+    let b = begun inside.next.place inside.next.params.items inside.next.url.items in
+    let byte = c.args.byte in
+    let text = all_marked (if ends_at b.place byte then switch m inside.look to (led b.address.url) else []) in
+    let new = begun c.take.new.self.place c.take.new.self.params.items c.take.new.self.url.items in
+    let passes : m.links ≡ true = ap (λ (s : Setting). s.markup.links) c.self.view_is ∙ c.requires in
+    let leads = rw (c.deref.ensures.value, c.ends_link-over.ensures) at c.in_ok-follow.ensures.to in
+    on_ok_weaker c.take.result
+    (λ e. (
+      text,
+      subst (λ (s : Setting). turns.byte s byte text (setting m inside.look c.follow.new.to.items new)) c.self.view_is (byte_gives m inside.look to c.follow.new.to.items b new byte passes leads e),
+      rw (c.deref.ensures.value, c.ends_link-over.ensures) at c.in_ok-follow.ensures.text,
+    ))
+    c.take.ensures

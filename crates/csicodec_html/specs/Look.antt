@@ -1,12 +1,12 @@
 -- How text looks by the attributes that are set, and the declarations of CSS that say it.
-use Rattle.std.specs.Prelude.{ℕ, ◌+◌, ◌/◌, ◌%◌, Bool, true, false, not, ◌&&◌, ◌||◌, nat_lt, List, [], ◌∷◌, ◌++◌, codes, if◌then◌else◌, Option, Some, None}
+use Rattle.std.specs.Prelude.{ℕ, ◌+◌, ◌/◌, ◌%◌, Bool, true, false, not, ◌&&◌, ◌||◌, nat_lt, List, [], ◌∷◌, ◌++◌, codes, if◌then◌else◌, Option, Some, None, is_some}
 use Rattle.csicodec_names.specs.{declared.color.ColorSpec.ColorSpec, declared.color.Intensity.Intensity, declared.color.SrgbaTuple.SrgbaTuple}
 use Rattle.csicodec_names.specs.{declared.color.Underline.Underline}
 use Rattle.csicodec_base.specs.declared.sgr.Sgr.{Sgr}
 use Rattle.csicodec_actions.specs.Actions.{Action}
 use Rattle.csicodec_clean.specs.Palette.{palette}
-use Rattle.csicodec_html.specs.{declared.classes.Layer.Layer, declared.look.Look.Look, declared.palette.Palette.Palette, Contrast.legible, Palette.color_at}
-use Rattle.csicodec_html.specs.{Palette.has_pairs, Palette.or_own, Palette.pair_of}
+use Rattle.csicodec_html.specs.{declared.classes.Layer.Layer, declared.look.Look.Look, declared.palette.Palette.Palette, Contrast.known, Contrast.legible}
+use Rattle.csicodec_html.specs.{Palette.color_at, Palette.has_pairs, Palette.or_own, Palette.pair_of}
 use Rattle.csicodec_names.specs.declared.color.ColorSpec.TheVariants as color
 use Rattle.csicodec_names.specs.declared.color.Intensity.TheVariants as intensity
 use Rattle.csicodec_names.specs.declared.color.Underline.TheVariants as underline
@@ -89,9 +89,7 @@ is_plain l = is_normal l.intensity &&
 
 -- one that is the same on a light and on a dark page
 abbrev pub is_exact : ColorSpec → Bool
-is_exact color.Default = false
-is_exact (color.PaletteIndex i) = nat_lt 15 i
-is_exact (color.TrueColor c) = true
+is_exact c = is_some (known c)
 
 abbrev pub settled_color : ColorSpec → ColorSpec
 settled_color color.Default = color.Default

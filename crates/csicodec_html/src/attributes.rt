@@ -1,13 +1,13 @@
 //! The tag that begins a span, with controls in place of its markup.
 ghost use Rattle.std.specs.Prelude.{◌≡◌, ◌++◌, OnOk};
 ghost use Rattle.csicodec_html.specs.Classes.{has_true, is_true, rest_attribute, true_color, true_colors};
-ghost use Rattle.csicodec_html.specs.Look.{is_exact, is_mixed, legible_look, settled, settled_color};
+ghost use Rattle.csicodec_html.specs.Look.{is_exact, legible_look, settled, settled_color};
 ghost use Rattle.csicodec_html.specs.Page.{Begin};
 ghost use Rattle.csicodec_html.specs.Private.Marked.{classed_mark, marked, styled_mark};
 
 use crate::classes::{Layer, append_classes};
 use crate::colors::{append_parts, append_property_of};
-use crate::contrast::legible;
+use crate::contrast::{known, legible};
 use crate::css::append_css;
 use crate::look::Look;
 use crate::markup::Markup;
@@ -69,11 +69,7 @@ pub(crate) fn append_rest(look: Look, quote: u8, out: &mut Vec<u8>) -> Result<()
 fn is_exact(color: ColorSpec) -> bool
     ensures { result ≡ is_exact color }
 {
-    match color {
-        ColorSpec::Default => false,
-        ColorSpec::PaletteIndex(index) => 15 < index,
-        ColorSpec::TrueColor(_) => true,
-    }
+    known(color).is_some()
 }
 
 /// The colour, for which xterm's stands where each page may have its own.
@@ -81,22 +77,9 @@ fn settled_color(color: ColorSpec) -> ColorSpec
     ensures { result ≡ settled_color color }
 {
     match color {
-        ColorSpec::PaletteIndex(index) => {
-            if index < 16 {
-                ColorSpec::TrueColor(palette(index))
-            } else {
-                color
-            }
-        }
-        ColorSpec::Default | ColorSpec::TrueColor(_) => color,
+        ColorSpec::PaletteIndex(index) if index < 16 => ColorSpec::TrueColor(palette(index)),
+        _ => color,
     }
-}
-
-/// Whether text or what is behind it has such a colour, and pairs could stand beside that.
-fn is_mixed(palette: &Palette, look: Look) -> bool
-    ensures { result ≡ is_mixed palette.now look }
-{
-    palette.has_pairs() && (is_exact(look.foreground) || is_exact(look.background))
 }
 
 /// The look with text that can be read on its ground, with which it may have changed places.
@@ -121,7 +104,7 @@ fn legible_look(look: Look) -> Look
 pub(crate) fn settled(palette: &Palette, look: Look) -> Look
     ensures { result ≡ settled palette.now look }
 {
-    if is_mixed(palette, look) {
+    if palette.first.is_none() && (is_exact(look.foreground) || is_exact(look.background)) {
         return legible_look(Look {
             foreground: settled_color(look.foreground),
             background: settled_color(look.background),

@@ -173,16 +173,6 @@ fn append_part(part: Layer, out: &mut Vec<u8>) -> Result<(), AllocError>
     }
 }
 
-/// Appends the name of a colour by its number.
-fn append_color_name(part: Layer, place: u8, out: &mut Vec<u8>) -> Result<(), AllocError>
-    ensures { OnOk result (out.new.items ≡ out.old.items ++ class_name (Class.Color part place)) }
-{
-    append_part(part, out)?;
-    let mut number = Short::new();
-    number.push_u8(place);
-    number.append_to(out)
-}
-
 /// Appends the name of a class.
 pub(crate) fn append_name(class: Class, out: &mut Vec<u8>) -> Result<(), AllocError>
     ensures { OnOk result (out.new.items ≡ out.old.items ++ class_name class) }
@@ -200,7 +190,12 @@ pub(crate) fn append_name(class: Class, out: &mut Vec<u8>) -> Result<(), AllocEr
         Class::Strike => out.extend_from_slice(b"strike"),
         Class::TextAsGround => out.extend_from_slice(b"fg-background"),
         Class::GroundAsText => out.extend_from_slice(b"bg-foreground"),
-        Class::Color(part, place) => append_color_name(part, place, out),
+        Class::Color(part, place) => {
+            append_part(part, out)?;
+            let mut number = Short::new();
+            number.push_u8(place);
+            number.append_to(out)
+        }
     }
 }
 

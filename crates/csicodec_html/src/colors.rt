@@ -1,5 +1,5 @@
 //! Colours as CSS has them.
-ghost use Rattle.std.specs.Prelude.{◌≡◌, ◌<◌, ◌/◌, ◌%◌, ◌++◌, OnOk};
+ghost use Rattle.std.specs.Prelude.{◌≡◌, ◌<◌, ◌++◌, OnOk};
 ghost use Rattle.csicodec_html.specs.Look.{color_text, hex_color, hex_digit, own_name, place_text, property_of};
 ghost use Rattle.csicodec_html.specs.Palette.{color_at};
 
@@ -18,32 +18,18 @@ fn hex_digit(value: u8) -> u8
     if value < 10 { value + 48 } else { value + 87 }
 }
 
-/// The first of the two digits of a part of a colour.
-fn high_digit(part: u8) -> u8
-    ensures { result ≡ hex_digit (part / 16) }
-{
-    hex_digit(part / 16)
-}
-
-/// And the second.
-fn low_digit(part: u8) -> u8
-    ensures { result ≡ hex_digit (part % 16) }
-{
-    hex_digit(part % 16)
-}
-
 /// Appends a colour by its parts. Its alpha isn't looked at.
 pub(crate) fn append_parts(color: SrgbaTuple, out: &mut Vec<u8>) -> Result<(), AllocError>
     ensures { OnOk result (out.new.items ≡ out.old.items ++ hex_color color) }
 {
     out.extend_from_slice(&[
         b'#',
-        high_digit(color.0),
-        low_digit(color.0),
-        high_digit(color.1),
-        low_digit(color.1),
-        high_digit(color.2),
-        low_digit(color.2),
+        hex_digit(color.0 / 16),
+        hex_digit(color.0 % 16),
+        hex_digit(color.1 / 16),
+        hex_digit(color.1 % 16),
+        hex_digit(color.2 / 16),
+        hex_digit(color.2 % 16),
     ])
 }
 

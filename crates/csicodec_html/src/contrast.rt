@@ -50,17 +50,13 @@ fn is_near(one: SrgbaTuple, other: SrgbaTuple) -> bool
 }
 
 /// The colour, if it is the same on a light and on a dark page.
-fn known(color: ColorSpec) -> Option<SrgbaTuple>
+pub(crate) fn known(color: ColorSpec) -> Option<SrgbaTuple>
     ensures { result ≡ known color }
 {
     match color {
         ColorSpec::Default => None,
-        ColorSpec::PaletteIndex(index) => {
-            if index < 16 {
-                return None;
-            }
-            Some(palette(index))
-        }
+        ColorSpec::PaletteIndex(index) if index < 16 => None,
+        ColorSpec::PaletteIndex(index) => Some(palette(index)),
         ColorSpec::TrueColor(color) => Some(color),
     }
 }

@@ -21,10 +21,7 @@ fn digit_of(code: u8) -> Option<u8>
 fn part_of(high: u8, low: u8) -> Option<u8>
     ensures { result ≡ part_of (digit_of high) (digit_of low) }
 {
-    match (digit_of(high), digit_of(low)) {
-        (Some(high), Some(low)) => Some(high * 16 + low),
-        _ => None,
-    }
+    Some(digit_of(high)? * 16 + digit_of(low)?)
 }
 
 /// The colour of six digits.
@@ -34,10 +31,7 @@ fn digits_color(text: &[u8]) -> Option<SrgbaTuple>
     let [a, b, c, d, e, f] = text else {
         return None;
     };
-    match (part_of(*a, *b), part_of(*c, *d), part_of(*e, *f)) {
-        (Some(red), Some(green), Some(blue)) => Some(SrgbaTuple(red, green, blue, 255)),
-        _ => None,
-    }
+    Some(SrgbaTuple(part_of(*a, *b)?, part_of(*c, *d)?, part_of(*e, *f)?, 255))
 }
 
 /// The colour that is given by `#rrggbb`, in digits of base sixteen of either case; none by any other text.

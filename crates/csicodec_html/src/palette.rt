@@ -1,6 +1,6 @@
 //! The colours of a page by number, and the page's own.
 ghost use Rattle.std.specs.Prelude.{◌<◌, ◌≡◌};
-ghost use Rattle.csicodec_html.specs.Palette.{color_at, first_color, has_pairs, or_own, readable, xterm};
+ghost use Rattle.csicodec_html.specs.Palette.{color_at, first_color, or_own, readable, xterm};
 
 use csicodec_base::{ColorSpec, SrgbaTuple};
 use csicodec_clean::palette;
@@ -45,13 +45,6 @@ pub(crate) fn or_own(given: Option<SrgbaTuple>, color: ColorSpec) -> ColorSpec
 }
 
 impl Palette {
-    /// Whether each of the first 16 places has a colour for a light page and one for a dark one.
-    pub(crate) fn has_pairs(&self) -> bool
-        ensures { result ≡ has_pairs self.now }
-    {
-        self.first.is_none()
-    }
-
     /// xterm's colours, and the browser's own.
     pub fn xterm() -> Palette
         ensures { result ≡ xterm }

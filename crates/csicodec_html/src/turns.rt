@@ -160,9 +160,7 @@ impl Turns {
         requires { AreTurns (T.turns by.now) self.now.kept.items }
         ensures { IfSome result (λ turn. IsTurn (T.turns by.now) turn.now × Fits turn.now look.now front.entry) }
     {
-        let Some([newer, older]) = self.places.get(self.place) else {
-            return None;
-        };
+        let [newer, older] = self.places.get(self.place)?;
         if let Some(turn) = self.numbered(*newer, by, look, front) {
             return Some(turn);
         }
@@ -297,12 +295,8 @@ fn up_to_final(word: u64) -> Option<u64> {
 /// A number for the sequence in front, by its bytes up to the final one; none where it isn't short, or the bytes end soon.
 #[inline(always)]
 fn number(bytes: &[u8]) -> Option<u64> {
-    let Some((_, behind)) = bytes.split_first_chunk::<2>() else {
-        return None;
-    };
-    let Some((front, others)) = behind.split_first_chunk::<8>() else {
-        return None;
-    };
+    let (_, behind) = bytes.split_first_chunk::<2>()?;
+    let (front, others) = behind.split_first_chunk::<8>()?;
     let word = u64::from_le_bytes(*front);
     match up_to_final(word) {
         Some(number) => Some(number),
@@ -315,9 +309,7 @@ fn long_number(first: u64, bytes: &[u8]) -> Option<u64> {
     let mut number = first;
     let mut rest = bytes;
     for _ in 0..LONGEST / 8 {
-        let Some((front, others)) = rest.split_first_chunk::<8>() else {
-            return None;
-        };
+        let (front, others) = rest.split_first_chunk::<8>()?;
         let word = u64::from_le_bytes(*front);
         number = number.wrapping_mul(SPREAD).rotate_left(9);
         if let Some(last) = up_to_final(word) {

@@ -17,8 +17,8 @@ use Rattle.csicodec_spans.specs.{declared.table.Kind.Kind, declared.table.Mode.M
 use Rattle.csicodec_spans.specs.{Parts.IsFirstPart, Parts.IsWhole}
 use Rattle.csicodec_spans.proofs.{OneSpan.singles, Apart.said, Agrees.opens, Kept.parts_more, Kept.parts_on, Once.whole_once}
 use Rattle.csicodec_clean.proofs.{Shows.encoded_on, Linked.body_read, Linked.itself, Coded.piece, Coded.style_taken, Plain.scalars_on, PlainBytes.all_both}
-use Rattle.csicodec_clean.proofs.{PlainBytes.all_weaker, PlainBytes.one_char, Styled.safe_closed, Styled.styled, Twice.all_kept, Twice.all_text}
-use Rattle.csicodec_clean.proofs.{Twice.whole_all}
+use Rattle.csicodec_clean.proofs.{PlainBytes.all_weaker, PlainBytes.one_char, Styled.each_in, Styled.none_in, Styled.safe_closed, Styled.styled, Twice.all_kept}
+use Rattle.csicodec_clean.proofs.{Twice.all_text, Twice.whole_all}
 use Rattle.csicodec_actions.specs.Actions as action
 use Rattle.csicodec_spans.specs.declared.table.Kind.TheVariants as kind
 use Rattle.csicodec_spans.specs.declared.table.Mode.TheVariants as mode
@@ -116,22 +116,14 @@ chars_of items = flat_map char_in items
 chars_both : (xs ys : List Item) → chars_of (xs ++ ys) ≡ chars_of xs ++ chars_of ys
 chars_both xs ys = flat_map-append char_in xs ys
 
-chars_shown : (cs : List ℕ) → chars_of (map Shown cs) ≡ cs
-chars_shown [] = refl
-chars_shown (c ∷ cs) = ap (λ (t : List ℕ). c ∷ t) (chars_shown cs)
-
-none_in : {T : Type 0} (f : T → Item) → ((t : T) → char_in (f t) ≡ []) → (ts : List T) → chars_of (map f ts) ≡ []
-none_in f none [] = refl
-none_in f none (t ∷ ts) = rw (none t) (none_in f none ts)
-
 -- what a part leaves has no characters
 leaves_chars : (d : Passing) (b : Begun) (k : Kind) (bytes : List ℕ) (own : List Item) → Leaves d b k bytes own → chars_of own ≡ []
-leaves_chars d b kind.Csi bytes own (actions, one, e) = ap chars_of e ∙ none_in Style (λ s. refl) (kept d.depth actions)
-leaves_chars d b kind.Str bytes own e = ap chars_of e ∙ none_in Link (λ a. refl) (links_in d.links b bytes)
+leaves_chars d b kind.Csi bytes own (actions, one, e) = ap chars_of e ∙ none_in char_in Style (λ s. refl) (kept d.depth actions)
+leaves_chars d b kind.Str bytes own e = ap chars_of e ∙ none_in char_in Link (λ a. refl) (links_in d.links b bytes)
 leaves_chars d b _ bytes own e = ap chars_of e
 
 chars_part : (run : List ℕ) (own others : List Item) → chars_of own ≡ [] → chars_of (shown_items run ++ (own ++ others)) ≡ filter shown (lossy_chars run) ++ chars_of others
-chars_part run own others none = simp (chars_both, chars_shown, none)
+chars_part run own others none = simp (chars_both, each_in char_in Shown (λ c. refl), none)
 
 chars_closed : (items : List Item) → chars_of (closed items) ≡ chars_of items
 chars_closed items = grind (arith, chars_both, append-nil {A = ℕ})
@@ -149,7 +141,7 @@ stripped_part _ run bytes own others ps none rest = ended_stripped run own other
 
 -- the characters that are left of parts are what is shown of them
 left_stripped : (d : Passing) (b : Begun) (ps : List Part) (run : List ℕ) (items : List Item) → AreLeft d b run ps items → encode_utf8_all (chars_of items) ≡ stripped run ps
-left_stripped d b [] run items e = ap (λ (xs : List Item). encode_utf8_all (chars_of xs)) e ∙ ap encode_utf8_all (chars_shown (filter shown (lossy_chars run)))
+left_stripped d b [] run items e = ap (λ (xs : List Item). encode_utf8_all (chars_of xs)) e ∙ ap encode_utf8_all (each_in char_in Shown (λ c. refl) (filter shown (lossy_chars run)))
 left_stripped d b (p ∷ ps) run items (own, others, leaves, e, rest) =
     ap (λ (xs : List Item). encode_utf8_all (chars_of xs)) e
     ∙ stripped_part p.kind run p.bytes own others ps (leaves_chars d b p.kind p.bytes own leaves) (left_stripped d (begun_behind d b p.kind p.bytes) ps (run_behind p.kind run p.bytes) others rest)

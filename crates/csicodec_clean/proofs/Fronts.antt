@@ -1,20 +1,19 @@
 -- What went out is a front of the text of the whole stream, whatever comes behind.
 use Rattle.std.proofs.Common.{◌≡◌, ℕ, false, Option, List, [], ◌∷◌, ◌++◌, refl, sym, ap, subst, ◌∙◌, append_assoc, append-nil}
 use Rattle.std.proofs.lemmas.Bool.{cond_both}
-use Rattle.std.specs.{Prelude.filter, Io.KnownBytes.Appends, Io.KnownBytes.Consumes, Io.KnownBytes.IsAtEnd}
+use Rattle.std.specs.Prelude.{Result, filter}
 use Rattle.bstr.specs.Utf8.{lossy_chars}
 use Rattle.csicodec_spans.specs.{declared.table.Kind.Kind, Parts.Part, Parts.IsWhole, Parts.left_over}
 use Rattle.csicodec_spans.proofs.{Kept.parts_more, Once.parts_front}
 use Rattle.csicodec_filter.specs.Transform.{Sends}
-use Rattle.csicodec_filter.proofs.Sent.{whole_front}
-use Rattle.csicodec_clean.specs.Cleaned.{RuleOf, AreSteps, Ends, Strips, stripped, drops, ends_bare, is_text, longest}
-use Rattle.csicodec_clean.specs.Styled.{Item, item_texts, shown_items, Leaves, begun_behind, run_behind, items_behind, AreLeft, is_open, styles_of, links_of, ends_of, StylesIn, Keeping, first_kept, keeps, resets}
+use Rattle.csicodec_clean.specs.Cleaned.{EndOf, RuleOf, AreSteps, Ends, Strips, stripped, drops, is_text, longest}
+use Rattle.csicodec_clean.specs.Styled.{Item, item_texts, shown_items, Leaves, begun_behind, run_behind, items_behind, AreLeft, is_open, styles_of, links_of, ends_of, StylesIn, Keeping, keeps}
 use Rattle.csicodec_clean.specs.{declared.styles.Passing.Passing, Links.Begun, Links.is_linked, Links.start, Shown.shown, Shown.shown_chars, Shown.shown_text}
-use Rattle.csicodec_clean.specs.{Shown.IsRead, Titles.title_open, Titles.with_titles, Stream.Begins, Stream.Between, Stream.Goes, Stream.IsFrontOf}
-use Rattle.csicodec_clean.specs.{Stream.Takes, Stream.start_of}
-use Rattle.csicodec_clean.proofs.{Again.leaves_once, Again.one_styled, Plain.steps_stripped, Plain.strips, Shows.shown_read, Streams.SentFront}
+use Rattle.csicodec_clean.specs.{Shown.IsRead, Titles.title_open, Titles.with_titles, Stream.Between, Stream.Closing, Stream.Goes, Stream.IsFrontOf}
+use Rattle.csicodec_clean.specs.{Stream.Takes, Stream.start_of, Stream.with_more, Streams.StreamsOne}
+use Rattle.csicodec_clean.proofs.{Again.leaves_once, Plain.steps_stripped, Shows.shown_read, Chunks.ends, Streams.Ran, Streams.Went, Streams.one_ran}
 use Rattle.csicodec_clean.proofs.{Styled.part_texts, Styled.step, Styled.styles, Styled.texts_both, Styled.texts_chars, Sure.read_more, Sure.read_none}
-use Rattle.csicodec_clean.proofs.{Titles.titles_on, Twice.one_text}
+use Rattle.csicodec_clean.proofs.{Titles.titles_on}
 use Rattle.csicodec_spans.specs.declared.table.Kind.TheVariants as kind
 use Rattle.csicodec_spans.specs.declared.table.Mode.TheVariants as mode
 
@@ -49,7 +48,7 @@ record Behind (limit : ℕ) (parts all : List Part) : Type 0 where
   whole : with_titles false all ≡ with_titles false parts ++ later
 
 behind : {S : Type 0} (Gives : RuleOf S) (s : S) (read more text : List ℕ) (last : Between S) (all : List Part)
-    (g : Goes Gives longest mode.Text false s [] [] read text last.bytes last.mode last.titled last.rule last.held)
+    (g : Goes Gives longest [] [] (with_more (start_of s) read) text last)
     → IsWhole longest mode.Text (read ++ more) all → Behind longest g.parts all
 behind Gives s read more text last all g w =
     let (others, e) =
@@ -61,7 +60,7 @@ behind Gives s read more text last all g w =
 
 -- what was appended, and the characters of the run that were read, are those of the parts
 goes_front : {S : Type 0} (Gives : RuleOf S) (s : S) (read text : List ℕ) (last : Between S) (rest whole : List ℕ)
-    (g : Goes Gives longest mode.Text false s [] [] read text last.bytes last.mode last.titled last.rule last.held)
+    (g : Goes Gives longest [] [] (with_more (start_of s) read) text last)
     → whole ≡ g.text ++ rest → GoesOnFrom rest (shown_chars g.read) → GoesOnFrom whole text
 goes_front Gives s read text last rest whole g e (more, f) =
     (more, e ∙ ap (λ (t : List ℕ). g.text ++ t) f ∙ sym (append_assoc g.text (shown_chars g.read) more) ∙ ap (λ (t : List ℕ). t ++ more) (sym g.same))
@@ -129,25 +128,14 @@ module _ {S : Type 0} (of : S → Keeping) where
 
 -- ---- from a reader to a writer
 
-shorter : (Out : List ℕ → List ℕ → Type 0) (bytes sent unsent : List ℕ) → IsFrontOf Out bytes (sent ++ unsent) → IsFrontOf Out bytes sent
-shorter Out bytes sent unsent h whole k = let (more, e) = h whole k in (unsent ++ more, e ∙ append_assoc sent unsent more)
-
-same_front : (Out : List ℕ → List ℕ → Type 0) (bytes text : List ℕ) → ((other : List ℕ) → Out bytes other → other ≡ text) → IsFrontOf Out bytes text
-same_front Out bytes text one whole k = ([], one whole k ∙ sym (append-nil text))
-
-pub strip_sent : {S : Type 0} (s : S) (bytes more sent : List ℕ) (i k w y : Option (List ℕ)) → Consumes i k (bytes ++ more)
-    → Begins drops ends_bare s ((more ≡ []) × IsAtEnd k) bytes sent → Appends w y sent
-    → SentFront (Strips longest) i w y
-strip_sent s =
-    whole_front (Sends (Takes drops) (start_of s)) (Ends drops ends_bare longest s) (IsFrontOf (Strips longest)) (shorter (Strips longest))
-    (λ read more text (last, h). strip_front s read more text last h)
-    (λ bytes text e. same_front (Strips longest) bytes text (λ other k. one_text longest bytes other text k (strips longest s bytes text e)))
-
-pub clean_sent : {S : Type 0} (of : S → Keeping) (d : Passing) (s : S) → of s ≡ first_kept d → (bytes more sent : List ℕ) (i k w y : Option (List ℕ)) → Consumes i k (bytes ++ more)
-    → Begins (keeps of) (resets of) s ((more ≡ []) × IsAtEnd k) bytes sent → Appends w y sent → SentFront (StylesIn d) i w y
-clean_sent of d s begins =
-    let same : (of s).passing ≡ d = ap (λ (x : Keeping). x.passing) begins in
-    let first : (of s).begun ≡ start = ap (λ (x : Keeping). x.begun) begins in
-    whole_front (Sends (Takes (keeps of)) (start_of s)) (Ends (keeps of) (resets of) longest s) (IsFrontOf (StylesIn d)) (shorter (StylesIn d))
-    (λ read more text (last, h). subst (λ (x : Passing). IsFrontOf (StylesIn x) (read ++ more) text) same (clean_front of s read more text last first h))
-    (λ bytes text e. same_front (StylesIn d) bytes text (λ other k. one_styled d bytes other text k (styles of d s bytes text begins e)))
+-- a run of a cleaner, by a rule whose text is one and is that of each stream, and that what it appends begins
+pub rule_ran : {S : Type 0} (Gives : RuleOf S) (Closes : EndOf S) (s : S) (Out : List ℕ → List ℕ → Type 0) (Safe : List ℕ → Type 0)
+    → ((bytes text : List ℕ) → Ends Gives Closes longest s bytes text → Out bytes text) → ((after : S) → (close : List ℕ) × Closes after close)
+    → ((bytes text : List ℕ) → Out bytes text → Safe text) → ((bytes text other : List ℕ) → Out bytes text → Out bytes other → text ≡ other)
+    → ((read more text : List ℕ) (last : Between S) → Takes Gives (start_of s) read text last → IsFrontOf Out (read ++ more) text)
+    → {A E : Type 0} (result : Result A E) (i k w y : Option (List ℕ)) → Ran (Sends (Takes Gives) (start_of s)) (Ends Gives Closes longest s) Out Safe result i k w y
+    → Went (Sends (Takes Gives) (start_of s)) (Ends Gives Closes longest s) Out Safe result i k w y → StreamsOne Out Safe result i k w y
+rule_ran Gives Closes s Out Safe means always safe =
+    one_ran (Takes Gives) (Closing Closes) (start_of s) (Ends Gives Closes longest s) Out Safe
+    (λ bytes text rest last takes (close, closes, shown). rw shown (means bytes _ (ends Gives Closes s bytes text close last takes closes))) means
+    (λ last. (let (close, closes) = always last.rule in (shown_text last.held ++ close, (close, closes, refl)))) safe

@@ -1,15 +1,16 @@
 -- What is taken at a glance, step by step.
-use Rattle.std.proofs.Common.{◌≡◌, ◌-◌, ◌<◌, ◌≤◌, ℕ, zero, suc, Bool, true, false, List, [], ◌∷◌, ◌++◌, length, length-append, length-take, take, drop, get_or, refl, sym, ap, subst, ◌∙◌, append_assoc, append-nil, take-append-drop, arith}
+use Rattle.std.proofs.Common.{◌≡◌, ◌-◌, ◌<◌, ◌≤◌, ℕ, zero, suc, true, List, [], ◌∷◌, ◌++◌, length, length-append, length-take, take, drop, get_or, refl, sym, ap, subst, ◌∙◌, append_assoc, append-nil, take-append-drop, arith}
 use Rattle.std.proofs.{Math.Seq.take-append_seam, Math.Seq.drop-append_seam, lemmas.Bool.Decides.nat_tests, lemmas.List.take-take}
 use Rattle.std.specs.List.{AllByRecursion}
 use Rattle.bstr.proofs.lemmas.PieceLemmas.{lossy_chars-nil}
 use Rattle.csicodec_tokens.specs.{declared.param.CsiParam.CsiParam, Sequence.Reads, Sequence.Seq}
-use Rattle.csicodec_spans.specs.{declared.table.Kind.Kind, declared.table.Mode.Mode, Table.Answer, Table.Anew, Table.Sequence, Table.ahead}
-use Rattle.csicodec_spans.specs.{Private.TableBy.stays, Parts.part, Parts.Allows, Parts.Cuts, Parts.IsSequence}
-use Rattle.csicodec_spans.proofs.{Agrees.opens, Apart.said, AsOne.one_alone, OneSpan.run_cut}
+use Rattle.csicodec_spans.specs.{declared.table.Kind.Kind, Table.Answer, Table.Anew, Table.Sequence, Table.ahead, Private.TableBy.stays, Parts.part}
+use Rattle.csicodec_spans.specs.{Parts.Allows, Parts.Cuts, Parts.IsSequence}
+use Rattle.csicodec_spans.proofs.{Agrees.opens, Apart.said, AsOne.one_alone, OneSpan.run_cut, Spanned.cut_parts}
 use Rattle.csicodec_clean.specs.{Shown.IsRead, Shown.shown_chars, Titles.read_as, Titles.title_behind, Cleaned.RuleOf, Private.Steps.BeginsWithEscape}
-use Rattle.csicodec_clean.specs.{Private.Steps.GoesOver, Private.Steps.GoesTo, Private.Steps.IsAppended, Private.Steps.IsOther, Private.Steps.Tells}
-use Rattle.csicodec_clean.proofs.{Shows.shown_none, Stepped.goes_none, Stepped.goes_span, Stepped.goes_then}
+use Rattle.csicodec_clean.specs.{Private.Steps.GoesTo, Private.Steps.IsAppended, Private.Steps.IsOther, Private.Steps.Tells, Private.Steps.bare_at}
+use Rattle.csicodec_clean.specs.{Stream.Between}
+use Rattle.csicodec_clean.proofs.{Shows.shown_none, Chunks.goes_none, Chunks.goes_span, Chunks.goes_split, Chunks.goes_then}
 use Rattle.csicodec_spans.specs.declared.table.Kind.TheVariants as kind
 use Rattle.csicodec_spans.specs.declared.table.Mode.TheVariants as mode
 
@@ -84,67 +85,57 @@ no_chars : (chars : List ℕ) → IsRead [] chars [] → chars ≡ []
 no_chars chars read = sym (append-nil chars) ∙ ap (λ t. chars ++ t) (sym lossy_chars-nil) ∙ sym (read []) ∙ lossy_chars-nil
 
 module _ {S : Type 0} (Gives : RuleOf S) (limit : ℕ) where
-  pub over_none : (m : Mode) (t : Bool) (held : List ℕ) (s : S) (bytes old : List ℕ) → GoesOver Gives limit m t held s bytes bytes s old old
-  over_none m t held s bytes old = ([], sym (append-nil old), λ run chars read. goes_none Gives limit m t s run chars bytes held read)
+  pub to_none : (it : Between S) (out : List ℕ) → GoesTo Gives limit it it out out
+  to_none it out = ([], sym (append-nil out), goes_none Gives limit it, [], refl)
 
-  pub to_on : (m n a : Mode) (t u v : Bool) (held between left : List ℕ) (s mid after : S) (bytes behind rest old now new : List ℕ) → GoesTo Gives limit m t held s bytes behind n u between mid old now
-      → GoesTo Gives limit n u between mid behind rest a v left after now new → GoesTo Gives limit m t held s bytes rest a v left after old new
-  to_on m n a t u v held between left s mid after bytes behind rest old now new (one, out, goes) (two, longer, further) = (
-    one ++ two,
-    longer ∙ ap (λ l. l ++ two) out ∙ append_assoc old one two,
-    λ run chars read. let g = goes run chars read in goes_then Gives limit m n a t u v s mid after run chars bytes one behind between two rest left g (further g.left g.read g.is_read),
-  )
+  pub to_on : (old mid new : Between S) (before now after : List ℕ) → GoesTo Gives limit old mid before now → GoesTo Gives limit mid new now after → GoesTo Gives limit old new before after
+  to_on old mid new before now after (one, out, goes, xs, e) (two, longer, further, ys, f) =
+      let (front, both) = behind_both (old.held ++ old.bytes) xs (mid.held ++ mid.bytes) ys (new.held ++ new.bytes) e f in
+      (one ++ two, longer ∙ ap (λ l. l ++ two) out ∙ append_assoc before one two, goes_then Gives limit old mid new one two goes further, front, both)
 
-  pub to_span : (m a : Mode) (t : Bool) (k : Kind) (held left : List ℕ) (s after : S) (bytes span rest more old new : List ℕ)
-      → Cuts limit m bytes k span rest a → IsAppended Gives (read_as k t) s held span more after left
-      → new ≡ old ++ more → GoesTo Gives limit m t held s bytes rest a (title_behind t k span) left after old new
-  to_span m a t k held left s after bytes span rest more old new cut h longer =
-      (more, longer, λ run chars read. goes_span Gives limit m a t k s after run chars bytes held span rest more left read cut h)
+  -- a span that is no text is held no more
+  ends_in : (k : Kind) (s : S) (held span text : List ℕ) (after : S) (left : List ℕ) → IsAppended Gives k s held span text after left → (front : List ℕ) × (held ++ span ≡ front ++ left)
+  ends_in kind.Text s held span text after left (chars, reads, e, same) = (reads.1, reads.2)
+  ends_in kind.Csi s held span text after left (own, gives, e, none) = (held ++ span, rw none (sym (append-nil (held ++ span))))
+  ends_in kind.Str s held span text after left (own, gives, e, none) = (held ++ span, rw none (sym (append-nil (held ++ span))))
+  ends_in _ s held span text after left h = (held ++ span, rw h.2 (sym (append-nil (held ++ span))))
 
-  pub over_on : (s mid after : S) (bytes behind rest old now new : List ℕ) → GoesOver Gives limit mode.Text false [] s bytes behind mid old now
-      → GoesOver Gives limit mode.Text false [] mid behind rest after now new → GoesOver Gives limit mode.Text false [] s bytes rest after old new
-  over_on s mid after bytes behind rest old now new = to_on mode.Text mode.Text mode.Text false false false [] [] [] s mid after bytes behind rest old now new
+  pub to_span : (old new : Between S) (k : Kind) (span more before after : List ℕ) → Cuts limit old.mode old.bytes k span new.bytes new.mode
+      → IsAppended Gives (read_as k old.titled) old.rule old.held span more new.rule new.held → new.titled ≡ title_behind old.titled k span → after ≡ before ++ more → GoesTo Gives limit old new before after
+  to_span old new k span more before after cut h titles longer =
+      let (front, e) = ends_in (read_as k old.titled) old.rule old.held span more new.rule new.held h in
+      let split = cut_parts limit old.mode old.bytes k span new.bytes new.mode cut in (
+        more,
+        longer,
+        goes_span Gives limit old new k span more cut h titles,
+        front,
+        ap (λ t. old.held ++ t) split ∙ sym (append_assoc old.held span new.bytes) ∙ ap (λ t. t ++ new.bytes) e ∙ append_assoc front new.held new.bytes,
+      )
 
-  -- a span that leaves nothing open
-  over_span : (k : Kind) (s after : S) (bytes span rest more old : List ℕ) → Cuts limit mode.Text bytes k span rest mode.Text
-      → title_behind false k span ≡ false → IsAppended Gives (read_as k false) s [] span more after []
-      → GoesOver Gives limit mode.Text false [] s bytes rest after old (old ++ more)
-  over_span k s after bytes span rest more old cut none h =
-      subst (λ (b : Bool). GoesTo Gives limit mode.Text false [] s bytes rest mode.Text b [] after old (old ++ more)) none
-      (to_span mode.Text mode.Text false k [] [] s after bytes span rest more old (old ++ more) cut h refl)
+  -- the bytes behind are the last of them
+  pub to_split : (old new : Between S) (before after : List ℕ) → GoesTo Gives limit old new before after → (front : List ℕ) × (old.bytes ≡ front ++ new.bytes)
+  to_split old new before after (more, longer, goes, front, e) = goes_split Gives limit old new more goes
 
-  told_over : (text chars rest old : List ℕ) (s : S) → AllByRecursion IsOther text → IsRead text chars []
-      → GoesOver Gives limit mode.Text false [] s (text ++ rest) rest s old (old ++ shown_chars chars)
-  told_over [] chars rest old s other read = rw (no_chars chars read, append-nil old) (over_none mode.Text false [] s rest old)
-  told_over (b ∷ text) chars rest old s other read =
-      over_span kind.Text s s ((b ∷ text) ++ rest) (b ∷ text) rest (shown_chars chars) old (told_cut limit (b ∷ text) rest (omega arith) other) refl (chars, read, refl, refl)
+  pub over_told : (s : S) (bytes rest old new : List ℕ) → Tells bytes rest old new → GoesTo Gives limit (bare_at s bytes) (bare_at s rest) old new
+  over_told s bytes rest old new ([], chars, parts, (other, read), longer) = rw (longer, parts, no_chars chars read, append-nil old) (to_none (bare_at s rest) old)
+  over_told s bytes rest old new (b ∷ text, chars, parts, (other, read), longer) =
+      to_span (bare_at s bytes) (bare_at s rest) kind.Text (b ∷ text) (shown_chars chars) old new (rw parts (told_cut limit (b ∷ text) rest (omega arith) other))
+      (chars, (read, b ∷ text, sym (append-nil (b ∷ text))), refl, refl) refl longer
 
-  pub over_told : (s : S) (bytes rest old new : List ℕ) → Tells bytes rest old new → GoesOver Gives limit mode.Text false [] s bytes rest s old new
-  over_told s bytes rest old new (text, chars, parts, (other, read), longer) = rw (parts, longer) (told_over text chars rest old s other read)
-
-  escape_over : (s : S) (b c : ℕ) (more old : List ℕ) → 32 ≤ b → b ≤ 47 → 48 ≤ c → c ≤ 126 → GoesOver Gives limit mode.Text false [] s (27 ∷ b ∷ c ∷ more) more s old old
-  escape_over s b c more old from to low high =
-      let all = 27 ∷ b ∷ c ∷ more in
-      let over = over_span kind.Esc s s all (27 ∷ b ∷ c ∷ []) more [] old (escape_cut limit b c more from to low high) refl (sym shown_none, refl, refl) in
-      subst (λ (l : List ℕ). GoesOver Gives limit mode.Text false [] s all more s old l) (append-nil old) over
-
-  pub over_escape : (s : S) (bytes old : List ℕ) → BeginsWithEscape bytes → GoesOver Gives limit mode.Text false [] s bytes (drop 3 bytes) s old old
+  pub over_escape : (s : S) (bytes old : List ℕ) → BeginsWithEscape bytes → GoesTo Gives limit (bare_at s bytes) (bare_at s (drop 3 bytes)) old old
   over_escape s [] old h = absurd (omega (arith, h.0))
   over_escape s (a ∷ []) old h = absurd (omega (arith, h.0))
   over_escape s (a ∷ b ∷ []) old h = absurd (omega (arith, h.0))
   over_escape s (a ∷ b ∷ c ∷ more) old (long, first, from, to, low, high) =
-      subst (λ (x : ℕ). GoesOver Gives limit mode.Text false [] s (x ∷ b ∷ c ∷ more) more s old old) (sym first) (escape_over s b c more old from to low high)
-
-  over_sequence : (len : ℕ) (s after : S) (bytes text old : List ℕ) → IsSequence (take len bytes) → len ≤ limit → Gives.sequence s (take len bytes) text after
-      → GoesOver Gives limit mode.Text false [] s bytes (drop len bytes) after old (old ++ text)
-  over_sequence len s after bytes text old one short gives =
-      over_span kind.Csi s after bytes (take len bytes) (drop len bytes) text old (sequence_cut limit len bytes one short) refl (text, gives, ap (λ t. t ++ text) (sym shown_none), refl)
+      to_span (bare_at s (a ∷ b ∷ c ∷ more)) (bare_at s more) kind.Esc (27 ∷ b ∷ c ∷ []) [] old old (rw first (escape_cut limit b c more from to low high)) (sym shown_none, refl, refl) refl
+      (sym (append-nil old))
 
   -- a sequence that a rule took at once, or none
   pub over_taken : (len : ℕ) (s after : S) (bytes old new : List ℕ) → len ≤ limit
       → (0 < len → (text : List ℕ) × IsSequence (take len bytes) × Gives.sequence s (take len bytes) text after × (new ≡ old ++ text))
-      → (len ≡ 0 → (after ≡ s) × (new ≡ old)) → GoesOver Gives limit mode.Text false [] s bytes (drop len bytes) after old new
-  over_taken zero s after bytes old new short taken none = let h = none refl in rw (h.0, h.1) (over_none mode.Text false [] s bytes old)
+      → (len ≡ 0 → (after ≡ s) × (new ≡ old)) → GoesTo Gives limit (bare_at s bytes) (bare_at after (drop len bytes)) old new
+  over_taken zero s after bytes old new short taken none = let h = none refl in rw (h.0, h.1) (to_none (bare_at s bytes) old)
   over_taken (suc n) s after bytes old new short taken none =
       let (text, one, gives, longer) = taken (omega arith) in
-      rw longer (over_sequence (suc n) s after bytes text old one short gives)
+      to_span (bare_at s bytes) (bare_at after (drop (suc n) bytes)) kind.Csi (take (suc n) bytes) text old new (sequence_cut limit (suc n) bytes one short)
+      (text, gives, ap (λ t. t ++ text) (sym shown_none), refl) refl longer

@@ -1,63 +1,40 @@
 -- A stream whose state the caller keeps, step by step.
-use Rattle.std.proofs.Common.{◌≡◌, ◌≤◌, ◌<◌, ℕ, Bool, false, cond, List, [], ◌∷◌, ◌++◌, length, length-append, take, drop, ◌+◌, ◌-◌, refl, sym, ap, subst, ◌∙◌, ⊎_elim, append-nil, arith}
-use Rattle.std.proofs.{lemmas.Grind.common_steps, lemmas.List.length-take-le, lemmas.List.take-append-le, lemmas.List.drop-append-le, Math.Seq.take-append_seam}
-use Rattle.std.proofs.{Math.Seq.drop-append_seam}
+use Rattle.std.proofs.Common.{◌≡◌, ◌≤◌, ℕ, Bool, false, cond, List, [], ◌∷◌, ◌++◌, length, length-append, take, drop, ◌+◌, ◌-◌, refl, sym, ap, subst, ◌∙◌, append-nil, take-append-drop, arith}
+use Rattle.std.proofs.{lemmas.List.length-take-le, lemmas.List.take-append-le, lemmas.List.drop-append-le, Math.Seq.take-append_seam, Math.Seq.drop-append_seam}
 use Rattle.std.specs.List.{concat}
 use Rattle.csicodec_actions.specs.Table.{text}
 use Rattle.csicodec_spans.specs.{declared.table.Kind.Kind, Parts.Part, Parts.IsUnsure}
-use Rattle.csicodec_spans.proofs.{Kept.unsure_short, Spanned.rest_is}
+use Rattle.csicodec_spans.proofs.Spanned.{rest_is}
 use Rattle.csicodec_clean.specs.Cleaned.{RuleOf, AreGiven, AreSteps, IsStep, Strips, drops, ends_bare, longest}
-use Rattle.csicodec_clean.specs.{declared.colors.Depth.Depth, declared.step.Pause.Pause, declared.whole.Dropped.Dropped, Shown.IsRead, Shown.shown_text}
-use Rattle.csicodec_clean.specs.{Titles.with_titles, Stream.AreTaken, Stream.Goes, Styled.Keeping, Styled.StylesIn, Styled.resets, Styled.resumed, Styled.keeps}
-use Rattle.csicodec_clean.specs.{Styled.without_links, Steps.AreStepped, Steps.Resumes, Steps.Steps, Steps.bare, Steps.beginning, Steps.between, Steps.ending}
-use Rattle.csicodec_clean.proofs.{Chunks.any_chunks, Plain.strips, Styled.styles, Sure.read_none}
+use Rattle.csicodec_clean.specs.{declared.colors.Depth.Depth, declared.step.Pause.Pause, declared.whole.Dropped.Dropped, Shown.shown_text, Titles.with_titles}
+use Rattle.csicodec_clean.specs.{Stream.AreTaken, Stream.GoesBy, Stream.Takes, Private.Steps.state_of, Styled.Keeping, Styled.StylesIn, Styled.resets}
+use Rattle.csicodec_clean.specs.{Styled.resumed, Styled.keeps, Styled.without_links, Steps.AreStepped, Steps.Resumes, Steps.Steps, Steps.bare, Steps.beginning}
+use Rattle.csicodec_clean.specs.{Steps.between, Steps.ending}
+use Rattle.csicodec_clean.proofs.{Chunks.any_chunks, Chunks.unsure_few, Plain.strips, Styled.styles, Sure.read_none}
 use Rattle.csicodec_actions.specs.Actions as action
 use Rattle.csicodec_base.specs.declared.sgr.Sgr.TheVariants as sgr
 use Rattle.csicodec_spans.specs.declared.table.Kind.TheVariants as kind
 
--- what is held is the end of the bytes
-pub last_held : (held bytes front rest new : List ℕ) → length held ≡ 0 → bytes ≡ front ++ rest → new ≡ held ++ rest → held ++ bytes ≡ front ++ new
-last_held held bytes front rest new none split e = grind (arith, common_steps)
-
-pub none_held : (bytes held : List ℕ) → held ≡ [] → bytes ≡ bytes ++ held
-none_held bytes held e = sym (append-nil bytes) ∙ ap (λ (t : List ℕ). bytes ++ t) (sym e)
-
--- what is held stands before the rest, a span more
-pub held_on : (before gone held span kept rest left all : List ℕ) → all ≡ before ++ (held ++ rest) → rest ≡ span ++ left → held ++ span ≡ gone ++ kept → all ≡ (before ++ gone) ++ (kept ++ left)
-held_on before gone held span kept rest left all e split now = grind (arith, common_steps)
-
--- the bytes that a step leaves
-parted : (n : ℕ) (bytes held behind before left : List ℕ) → held ≡ take n bytes → behind ≡ drop n bytes → held ++ behind ≡ before ++ left → bytes ≡ before ++ left
-parted n bytes held behind before left h b e = grind (arith, common_steps)
-
 module _ {S : Type 0} (Gives : RuleOf S) where
   -- a step, by what goes behind the bytes that are held
-  pub resumes : (s t : S) (p q : Pause) (bytes held behind text left rest : List ℕ) → held ≡ take p.held bytes → behind ≡ drop p.held bytes → q.held ≡ length left → IsUnsure longest q.mode rest
-      → ((run chars : List ℕ) → IsRead run chars held → Goes Gives longest p.mode p.titled s run chars behind text rest q.mode q.titled t left)
-      → Resumes Gives s p bytes text t q (left ++ rest)
-  resumes s t p q bytes held behind text left rest h b n unsure goes again more e low =
-      let first : held ≡ take p.held again = h ∙ ap (λ (x : List ℕ). take p.held x) e ∙ take-append-le p.held again more low in
-      let others : behind ≡ drop p.held again ++ more = b ∙ ap (λ (x : List ℕ). drop p.held x) e ∙ drop-append-le p.held again more low in
-      let now : take q.held (left ++ rest) ≡ left = ap (λ (i : ℕ). take i (left ++ rest)) n ∙ take-append_seam left rest in
-      let later : drop q.held (left ++ rest) ≡ rest = ap (λ (i : ℕ). drop i (left ++ rest)) n ∙ drop-append_seam left rest in
-      record {
-        unsure = rw later unsure;
-        goes = λ run chars read. rw (now, later, ← others) (goes run chars (rw first read));
-      }
+  resumes : (s t : S) (p q : Pause) (bytes text left rest : List ℕ) → q.held ≡ length left → IsUnsure longest q.mode rest
+      → GoesBy Gives longest (between s p bytes) text (state_of t q.mode q.titled rest left) → Resumes Gives s p bytes text t q (left ++ rest)
+  resumes s t p q bytes text left rest n unsure goes again more e low =
+      let now : take q.held (left ++ rest) ≡ left = rw n (take-append_seam left rest) in
+      let later : drop q.held (left ++ rest) ≡ rest = rw n (drop-append_seam left rest) in
+      record { unsure = rw later unsure; goes = rw (now, later) (rw (e, take-append-le p.held again more low, drop-append-le p.held again more low) at goes) }
 
-  pub stepped : (s t : S) (p q : Pause) (bytes held behind text before left rest : List ℕ) (used : ℕ) → held ≡ take p.held bytes
-      → behind ≡ drop p.held bytes → held ++ behind ≡ before ++ (left ++ rest)
-      → p.held ≤ length bytes → q.held ≡ length left → used ≡ length bytes - (length left + length rest) → (length held ≤ 3 → length left ≤ 3) → IsUnsure longest q.mode rest
-      → ((run chars : List ℕ) → IsRead run chars held → Goes Gives longest p.mode p.titled s run chars behind text rest q.mode q.titled t left)
-      → Steps Gives s p bytes text t q (drop used bytes)
-  stepped s t p q bytes held behind text before left rest used h b e fits n u few unsure goes =
-      let whole = parted p.held bytes held behind before (left ++ rest) h b e in
+  pub stepped : (s t : S) (p q : Pause) (bytes text before left rest : List ℕ) (used : ℕ) → take p.held bytes ++ drop p.held bytes ≡ before ++ (left ++ rest)
+      → p.held ≤ length bytes → q.held ≡ length left → used ≡ length bytes - (length left + length rest) → (length (take p.held bytes) ≤ 3 → length left ≤ 3) → IsUnsure longest q.mode rest
+      → GoesBy Gives longest (between s p bytes) text (state_of t q.mode q.titled rest left) → Steps Gives s p bytes text t q (drop used bytes)
+  stepped s t p q bytes text before left rest used split fits n u few unsure goes =
       let size : length (left ++ rest) ≡ length left + length rest = length-append left rest in
+      let whole : bytes ≡ before ++ (left ++ rest) = sym (take-append-drop p.held bytes) ∙ split in
       let same : drop used bytes ≡ left ++ rest = ap (λ (i : ℕ). drop i bytes) (u ∙ ap (λ (i : ℕ). length bytes - i) (sym size)) ∙ rest_is bytes before (left ++ rest) whole in
-      let low : length rest < longest = ⊎_elim (λ x. x) (λ x. omega (arith, x)) (unsure_short longest q.mode rest unsure) in
-      let first : length held ≡ p.held = ap length h ∙ length-take-le p.held bytes fits in
+      let low = unsure_few q.mode rest unsure in
+      let first : length (take p.held bytes) ≡ p.held = length-take-le p.held bytes fits in
       subst (λ (x : List ℕ). Steps Gives s p bytes text t q x) (sym same) (record {
-        takes = resumes s t p q bytes held behind text left rest h b n unsure goes;
+        takes = resumes s t p q bytes text left rest n unsure goes;
         held = omega (arith, n, size);
         few = λ three. omega (arith, n, few (omega (arith, three, first)));
         short = omega (arith, low, n, size);
@@ -65,7 +42,7 @@ module _ {S : Type 0} (Gives : RuleOf S) where
 
   -- steps in turn are chunks in turn
   pub stepped_taken : (rule : Bool → S) (p q : Pause) (again : List ℕ) (chunks : List (List ℕ)) (text rest : List ℕ) → p.held ≤ length again → AreStepped Gives rule p again chunks text q rest
-      → AreTaken Gives (between (rule p.styled) p again) chunks text (between (rule q.styled) q rest)
+      → AreTaken (Takes Gives) (between (rule p.styled) p again) chunks text (between (rule q.styled) q rest)
   stepped_taken rule p q again [] text rest low (none, same, e) = (none, ap (λ (x : Pause). between (rule x.styled) x rest) same ∙ ap (λ (x : List ℕ). between (rule p.styled) p x) e)
   stepped_taken rule p q again (chunk ∷ chunks) text rest low (mid, left, first, others, step, e, more) =
       (between (rule mid.styled) mid left, first, others, step.takes again chunk refl low, e, stepped_taken rule mid q left chunks others rest step.held more)

@@ -1,5 +1,5 @@
 -- Each link that passes stood in the stream.
-use Rattle.std.proofs.Common.{◌≡◌, ◌<◌, ◌⊎◌, ℕ, Bool, true, false, List, [], ◌∷◌, ◌++◌, length, length-append, refl, sym, ap, subst, ◌∙◌, inl, inr, append_assoc, append-nil, arith}
+use Rattle.std.proofs.Common.{◌≡◌, ◌⊎◌, ℕ, Bool, true, false, List, [], ◌∷◌, ◌++◌, length-append, refl, sym, ap, subst, ◌∙◌, inl, inr, append_assoc, append-nil, arith}
 use Rattle.std.proofs.{lemmas.Bool.both_ways, lemmas.Bool.Decides.nat_tests, lemmas.Grind.flat_map-append, lemmas.List.Elements.Contains-append_right}
 use Rattle.std.specs.{Prelude.◌==◌, Prelude.filter, Prelude.if◌then◌else◌, List.AllByRecursion, List.Contains, List.flat_map}
 use Rattle.bstr.specs.Utf8.{lossy_chars}
@@ -7,11 +7,11 @@ use Rattle.csicodec_spans.specs.{declared.table.Kind.Kind, declared.table.Mode.M
 use Rattle.csicodec_spans.specs.{Parts.IsFirstPart, Parts.left_over}
 use Rattle.csicodec_spans.proofs.{Fronts.IsPiece, Fronts.in_string, Fronts.is_str, Missed.fit}
 use Rattle.csicodec_clean.specs.Links.{Address, Begun, IsAdmitted, IsWithin, Spells, Stood, StoodIn, admitted, all_behind, begun, behind, behind_at, ends_at, link_body, links_in, opened, start}
-use Rattle.csicodec_clean.specs.Styled.{Item, Leaves, begun_behind, run_behind, items_behind, AreLeft, links_of, StylesIn}
+use Rattle.csicodec_clean.specs.Styled.{Item, Link, Shown, Style, Leaves, begun_behind, run_behind, items_behind, AreLeft, link_in, links_of, StylesIn}
 use Rattle.csicodec_clean.specs.{declared.links.LinkState.LinkState, declared.styles.Passing.Passing, Cleaned.longest, Shown.shown, Titles.read_as}
 use Rattle.csicodec_clean.specs.{Titles.title_behind, Titles.with_titles}
-use Rattle.csicodec_clean.proofs.{Linked.behind_on, Linked.links_none, Linked.links_on, Linked.passes, PlainBytes.all_both, Styled.links_chars}
-use Rattle.csicodec_clean.proofs.{Styled.links_links, Styled.links_styles, Styled.part_links, Titles.whole_each}
+use Rattle.csicodec_clean.proofs.{Linked.behind_on, Linked.links_none, Linked.links_on, Linked.passes, PlainBytes.all_both, Styled.each_in, Styled.none_in}
+use Rattle.csicodec_clean.proofs.{Styled.part_links, Titles.whole_each}
 use Rattle.csicodec_spans.specs.declared.table.Kind.TheVariants as kind
 use Rattle.csicodec_spans.specs.declared.table.Mode.TheVariants as mode
 use Rattle.csicodec_clean.specs.declared.links.LinkState.TheVariants as place
@@ -227,12 +227,12 @@ one_left : (d : Passing) (b : Begun) (k : Kind) (t : Bool) (run bytes rest : Lis
     → links_of (items_behind (read_as k t) run ++ (own ++ others)) ≡ links_in d.links b (string_of (part k bytes) ++ rest)
 one_left d b kind.Text true run bytes rest own others l e = rw (part_links kind.Other run own others, l, e) refl
 one_left d b kind.Text false run bytes rest own others l e = rw (l, e) refl
-one_left d b kind.Csi t run bytes rest own others (actions, is, l) e = rw (part_links kind.Csi run own others, l, links_styles, e) refl
-one_left d b kind.Str t run bytes rest own others l e = rw (part_links kind.Str run own others, l, links_links, e) (sym (links_on d.links bytes rest b))
+one_left d b kind.Csi t run bytes rest own others (actions, is, l) e = rw (part_links kind.Csi run own others, l, none_in link_in Style (λ s. refl) _, e) refl
+one_left d b kind.Str t run bytes rest own others l e = rw (part_links kind.Str run own others, l, each_in link_in Link (λ a. refl) _, e) (sym (links_on d.links bytes rest b))
 one_left d b k t run bytes rest own others l e = rw (part_links k run own others, l, e) refl
 
 links_left : (d : Passing) (b : Begun) (t : Bool) (run : List ℕ) (ps : List Part) (items : List Item) → AreLeft d b run (with_titles t ps) items → links_of items ≡ links_in d.links b (strings ps)
-links_left d b t run [] items e = ap links_of e ∙ links_chars (filter shown (lossy_chars run))
+links_left d b t run [] items e = ap links_of e ∙ none_in link_in Shown (λ c. refl) (filter shown (lossy_chars run))
 links_left d b t run (p ∷ ps) items (own, others, leaves, e, left) =
     ap links_of e ∙ one_left d b p.kind t run p.bytes (strings ps) own others leaves
     (links_left d (begun_behind d b (read_as p.kind t) p.bytes) (title_behind t p.kind p.bytes) (run_behind (read_as p.kind t) run p.bytes) ps others left)

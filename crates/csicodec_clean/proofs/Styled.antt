@@ -2,7 +2,7 @@
 use Rattle.std.proofs.Common.{◌≡◌, ℕ, Bool, true, false, List, [], ◌∷◌, ◌++◌, map, encode_utf8, encode_utf8_all, length, refl, sym, ap, subst, ◌∙◌, append_assoc, append-nil, arith}
 use Rattle.std.proofs.{lemmas.Bool.and_parts, lemmas.Bool.cond_both, lemmas.Grind.flat_map-append, lemmas.List.map-append}
 use Rattle.std.specs.{Prelude.filter, Prelude.not, Prelude.◌==◌, Prelude.Option, Prelude.None, Prelude.Some, Prelude.if◌then◌else◌, Option.option_or}
-use Rattle.std.specs.{Option.unwrap_or, List.AllByRecursion, Str.all_scalars}
+use Rattle.std.specs.{Option.unwrap_or, List.AllByRecursion, List.flat_map, Str.all_scalars}
 use lib.Utf8.{scalar}
 use Rattle.bstr.specs.Utf8.{lossy_chars}
 use Rattle.csicodec_base.specs.declared.sgr.Sgr.{Sgr}
@@ -11,7 +11,7 @@ use Rattle.csicodec.specs.Exact.{ReadsAlone}
 use Rattle.csicodec.proofs.RoundTrip.{round_trip_lem}
 use Rattle.csicodec_spans.specs.{declared.table.Kind.Kind, Parts.Part}
 use Rattle.csicodec_clean.specs.Links.{Address, Begun, IsLink, IsWithin, all_behind, is_linked, link_text, link_texts, links_at, links_in, next, no_address, start}
-use Rattle.csicodec_clean.specs.Styled.{hides, is_reset, kept, Item, Shown, Style, Link, item_text, item_texts, shown_items, Leaves, begun_behind, run_behind, items_behind, AreLeft, is_open, styles_of, links_of, ends_of, closed, StylesIn, IsSafe, IsStyledIn, Keeping, keeping, first_kept, behind_byte, keeps, resets}
+use Rattle.csicodec_clean.specs.Styled.{hides, is_reset, kept, Item, Shown, Style, Link, item_text, item_texts, shown_items, Leaves, begun_behind, run_behind, items_behind, AreLeft, is_open, style_in, styles_of, link_in, links_of, ends_of, closed, StylesIn, IsSafe, IsStyledIn, Keeping, keeping, first_kept, behind_byte, keeps, resets}
 use Rattle.csicodec_clean.specs.{Shown.shown, Shown.shown_text, Shown.IsShown, Titles.with_titles, Cleaned.AreGiven, Cleaned.IsStep, Cleaned.AreSteps}
 use Rattle.csicodec_clean.specs.{Cleaned.Ends, Cleaned.longest, declared.colors.Depth.Depth, Palette.reduced, declared.styles.Passing.Passing}
 use Rattle.csicodec_clean.proofs.{Linked.fine_behind, Linked.fine_links, Linked.linked_on, Linked.links_none, Reduced.reduced_alone, Reduced.reduced_hides}
@@ -40,14 +40,19 @@ pub texts_both : (xs ys : List Item) → item_texts (xs ++ ys) ≡ item_texts xs
 texts_both xs ys = flat_map-append item_text xs ys
 
 pub styles_both : (xs ys : List Item) → styles_of (xs ++ ys) ≡ styles_of xs ++ styles_of ys
-styles_both [] ys = refl
-styles_both (Style s ∷ xs) ys = ap (λ t. s ∷ t) (styles_both xs ys)
-styles_both (_ ∷ xs) ys = styles_both xs ys
+styles_both xs ys = flat_map-append style_in xs ys
 
 pub links_both : (xs ys : List Item) → links_of (xs ++ ys) ≡ links_of xs ++ links_of ys
-links_both [] ys = refl
-links_both (Link a ∷ xs) ys = ap (λ (t : List Address). a ∷ t) (links_both xs ys)
-links_both (_ ∷ xs) ys = links_both xs ys
+links_both xs ys = flat_map-append link_in xs ys
+
+-- of items of one kind, what they have none of, and what each is one of
+pub none_in : {T X : Type 0} (f : Item → List X) (kind : T → Item) → ((t : T) → f (kind t) ≡ []) → (ts : List T) → flat_map f (map kind ts) ≡ []
+none_in f kind none [] = refl
+none_in f kind none (t ∷ ts) = rw (none t) (none_in f kind none ts)
+
+pub each_in : {T : Type 0} (f : Item → List T) (kind : T → Item) → ((t : T) → f (kind t) ≡ t ∷ []) → (ts : List T) → flat_map f (map kind ts) ≡ ts
+each_in f kind each [] = refl
+each_in f kind each (t ∷ ts) = rw (each t) (ap (λ (us : List _). t ∷ us) (each_in f kind each ts))
 
 pub texts_chars : (cs : List ℕ) → item_texts (map Shown cs) ≡ encode_utf8_all cs
 texts_chars [] = refl
@@ -61,41 +66,17 @@ pub texts_links : (links : List Address) → item_texts (map Link links) ≡ lin
 texts_links [] = refl
 texts_links (a ∷ links) = ap (λ (t : List ℕ). link_text a ++ t) (texts_links links)
 
-styles_chars : (cs : List ℕ) → styles_of (map Shown cs) ≡ []
-styles_chars [] = refl
-styles_chars (c ∷ cs) = styles_chars cs
-
-styles_styles : (ss : List Sgr) → styles_of (map Style ss) ≡ ss
-styles_styles [] = refl
-styles_styles (s ∷ ss) = ap (λ t. s ∷ t) (styles_styles ss)
-
-styles_links : (links : List Address) → styles_of (map Link links) ≡ []
-styles_links [] = refl
-styles_links (a ∷ links) = styles_links links
-
-pub links_chars : (cs : List ℕ) → links_of (map Shown cs) ≡ []
-links_chars [] = refl
-links_chars (c ∷ cs) = links_chars cs
-
-pub links_styles : (ss : List Sgr) → links_of (map Style ss) ≡ []
-links_styles [] = refl
-links_styles (s ∷ ss) = links_styles ss
-
-pub links_links : (links : List Address) → links_of (map Link links) ≡ links
-links_links [] = refl
-links_links (a ∷ links) = ap (λ (t : List Address). a ∷ t) (links_links links)
-
 -- what a part leaves, and then the others
 pub part_texts : (run : List ℕ) (own others : List Item) → item_texts (shown_items run ++ (own ++ others)) ≡ shown_text run ++ (item_texts own ++ item_texts others)
 part_texts run own others = simp (texts_both, texts_chars)
 
 part_styles : (k : Kind) (run : List ℕ) (own others : List Item) → styles_of (items_behind k run ++ (own ++ others)) ≡ styles_of own ++ styles_of others
 part_styles kind.Text run own others = styles_both own others
-part_styles _ run own others = simp (styles_both, styles_chars)
+part_styles _ run own others = simp (styles_both, none_in style_in Shown (λ c. refl))
 
 pub part_links : (k : Kind) (run : List ℕ) (own others : List Item) → links_of (items_behind k run ++ (own ++ others)) ≡ links_of own ++ links_of others
 part_links kind.Text run own others = links_both own others
-part_links _ run own others = simp (links_both, links_chars)
+part_links _ run own others = simp (links_both, none_in link_in Shown (λ c. refl))
 
 -- what ends a link and a style
 abbrev pub end_text : Bool → Bool → List ℕ
@@ -182,7 +163,7 @@ module _ {S : Type 0} (of : S → Keeping) where
         leaves = (actions, is, refl);
         text = λ others. ended run first given (map Style ss) others e (texts_styles ss ∙ sym same);
         next_run = none;
-        state = rw (state, styles_styles, links_styles) refl;
+        state = rw (state, each_in style_in Style (λ s. refl) ss, none_in link_in Style (λ s. refl) ss) refl;
       }
   step kind.Str s mid run bytes first next (given, steps, e, none) =
       let g = given_string bytes s mid given steps in
@@ -192,7 +173,7 @@ module _ {S : Type 0} (of : S → Keeping) where
         leaves = refl;
         text = λ others. ended run first given (map Link links) others e (texts_links links ∙ sym g.told);
         next_run = none;
-        state = rw (g.state, links_links, styles_links) refl;
+        state = rw (g.state, each_in link_in Link (λ a. refl) links, none_in style_in Link (λ a. refl) links) refl;
       }
   step _ s mid run bytes first next h =
       record { own = []; leaves = refl; text = λ others. ended run first [] [] others (h.0 ∙ sym (append-nil (shown_text run))) refl; next_run = h.2; state = ap of h.1 }
@@ -204,8 +185,8 @@ module _ {S : Type 0} (of : S → Keeping) where
         items = shown_items run;
         left = refl;
         all = rw (none, e) (sym (texts_chars chars));
-        styled = rw (same, styles_chars chars) refl;
-        linked = rw (same, links_chars chars) refl;
+        styled = rw (same, none_in style_in Shown (λ c. refl) chars) refl;
+        linked = rw (same, none_in link_in Shown (λ c. refl) chars) refl;
       }
   left_of (p ∷ parts) s after run text last (first, mid, next, others, is, e, rest) =
       let h = step p.kind s mid run p.bytes first next is in

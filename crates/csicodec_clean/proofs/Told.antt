@@ -1,5 +1,5 @@
 -- Text that is told by its bytes.
-use Rattle.std.proofs.Common.{◌≡◌, ◌-◌, ◌<◌, ◌≤◌, ℕ, Bool, true, false, None, Some, List, [], ◌∷◌, ◌++◌, length, length-append, drop, take, slice_index, encode_utf8_all, refl, sym, ap, ◌∙◌, arith, lt-ltb, append_assoc, append-nil, take-append-drop, zero, suc}
+use Rattle.std.proofs.Common.{◌≡◌, ◌-◌, ◌<◌, ◌≤◌, ℕ, Bool, true, false, None, Some, List, [], ◌∷◌, ◌++◌, length, length-append, drop, take, slice_index, encode_utf8_all, refl, sym, ap, subst, ◌∙◌, arith, lt-ltb, append_assoc, append-nil, take-append-drop, zero, suc}
 use Rattle.std.proofs.{lemmas.Bool.and_from, lemmas.Bool.and_parts, lemmas.Bool.Decides.nat_tests, lemmas.Grind.common_steps, Math.Seq.take-append_seam}
 use Rattle.std.proofs.{Math.Seq.drop-append_seam}
 use Rattle.std.specs.{List.AllByRecursion, List.prefix_len, Str.all_scalars, Char.encode_utf8}
@@ -8,10 +8,10 @@ use Rattle.bstr.specs.Utf8.{Decoded, decoded, good, or_replacement, lossy_chars,
 use Rattle.bstr.proofs.lemmas.PieceLemmas.{lossy_chars-step, piece-bounds, value-1, value-6, value-9, value-12}
 use Rattle.bstr.proofs.{lemmas.EncodeLemmas.decoded-encode, lemmas.SoundLemmas.SpellsChar-decoded}
 use Rattle.csicodec_clean.specs.{Shown.shown, Shown.shown_chars, Shown.IsBehind, Shown.IsPlain, Shown.IsRead, Shown.IsTextOf, Bytes.IsPlainByte, Bytes.behind}
-use Rattle.csicodec_clean.specs.{Bytes.plain_byte, Private.Steps.IsOther, Private.Steps.IsTold, Private.Steps.Tells, Private.Steps.dropped_byte}
-use Rattle.csicodec_clean.specs.{Private.Steps.IsWide}
+use Rattle.csicodec_clean.specs.{Bytes.plain_byte, Private.Steps.IsOther, Private.Steps.IsTold, Private.Steps.ReadsTo, Private.Steps.Tells}
+use Rattle.csicodec_clean.specs.{Private.Steps.dropped_byte, Private.Steps.IsWide}
 use Rattle.csicodec_clean.proofs.{Bytes.front_in, Plain.text_on, PlainBytes.all_both, PlainBytes.all_weaker, PlainBytes.plain_bytes, Shows.shown_on}
-use Rattle.csicodec_clean.proofs.{Sure.read_more, Sure.read_none, Twice.all_kept}
+use Rattle.csicodec_clean.proofs.{Sure.read_more, Sure.read_none, Sure.read_on, Twice.all_kept}
 
 -- ---- plain bytes
 
@@ -121,13 +121,30 @@ tells_dropped b bytes rest old e d =
     (b ∷ [], b ∷ [], e, ((other, tt), λ more. one_read b more (grind (arith, nat_tests))), rw (hidden, append-nil) refl)
 
 -- what is told is read in front of the rest
-pub read_front : (text rest chars : List ℕ) → IsRead text chars [] → IsRead (text ++ rest) chars rest
+read_front : (text rest chars : List ℕ) → IsRead text chars [] → IsRead (text ++ rest) chars rest
 read_front text rest chars read more = ap lossy_chars (append_assoc text rest more) ∙ read (rest ++ more)
 
+pub tells_read : (bytes rest old new : List ℕ) → Tells bytes rest old new → (chars : List ℕ) × ReadsTo bytes chars rest × (new ≡ old ++ shown_chars chars)
+tells_read bytes rest old new (text, chars, parts, (other, read), out) = (chars, (rw parts (read_front text rest chars read), text, parts), out)
+
+-- one after the other
+pub reads_on : (run mid rest first later : List ℕ) → ReadsTo run first mid → ReadsTo mid later rest → ReadsTo run (first ++ later) rest
+reads_on run mid rest first later (h, xs, e) (k, ys, f) = (read_on run mid rest first later h k, xs ++ ys, e ∙ ap (λ t. xs ++ t) f ∙ sym (append_assoc xs ys rest))
+
+-- and told behind what was read
+pub tells_more : (bytes mid from rest chars old out new : List ℕ) → ReadsTo bytes chars mid → from ≡ mid → out ≡ old ++ shown_chars chars → Tells from rest out new
+    → (all : List ℕ) × ReadsTo bytes all rest × (new ≡ old ++ shown_chars all)
+tells_more bytes mid from rest chars old out new reads same was tells =
+    let (more, told, longer) = tells_read mid rest out new (subst (λ b. Tells b rest out new) same tells) in (
+      chars ++ more,
+      reads_on bytes mid rest chars more reads told,
+      longer ∙ ap (λ t. t ++ shown_chars more) was ∙ append_assoc old (shown_chars chars) (shown_chars more) ∙ ap (λ t. old ++ t) (sym (shown_on chars more)),
+    )
+
 -- where nothing was held
-pub none_held : (held bytes chars rest new : List ℕ) → length held ≡ 0 → IsRead bytes chars rest → new ≡ held ++ rest → IsRead (held ++ bytes) chars new
-none_held [] bytes chars rest new none read e = rw e read
-none_held (h ∷ held) bytes chars rest new none read e = absurd (omega (arith, none))
+pub none_held : (held bytes chars rest new : List ℕ) → length held ≡ 0 → ReadsTo bytes chars rest → new ≡ held ++ rest → ReadsTo (held ++ bytes) chars new
+none_held [] bytes chars rest new none reads e = rw e reads
+none_held (h ∷ held) bytes chars rest new none reads e = absurd (omega (arith, none))
 
 -- ---- characters that are told by their bytes
 

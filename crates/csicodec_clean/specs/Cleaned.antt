@@ -8,10 +8,7 @@ use Rattle.csicodec_spans.specs.declared.table.Mode.TheVariants as mode
 
 abbrev pub is_text : Kind → Bool
 is_text kind.Text = true
-is_text kind.Csi = false
-is_text kind.Esc = false
-is_text kind.Str = false
-is_text kind.Other = false
+is_text k = false
 
 -- what is shown of the parts, behind a run of text: text goes on with the run, and any other part ends it, and is dropped
 abbrev pub stripped : List ℕ → List Part → List ℕ
@@ -49,11 +46,9 @@ IsStep Gives kind.Text s run bytes text after left = (text ≡ []) × (after ≡
     × (left ≡ run ++ bytes)
 IsStep Gives kind.Csi s run bytes text after left = (own : List ℕ)
     × Gives.sequence s bytes own after × (text ≡ shown_text run ++ own) × (left ≡ [])
-IsStep Gives kind.Esc s run bytes text after left = (text ≡ shown_text run) × (after ≡ s)
-    × (left ≡ [])
 IsStep Gives kind.Str s run bytes text after left = (own : List ℕ)
     × AreGiven Gives s bytes own after × (text ≡ shown_text run ++ own) × (left ≡ [])
-IsStep Gives kind.Other s run bytes text after left = (text ≡ shown_text run) × (after ≡ s)
+IsStep Gives k s run bytes text after left = (text ≡ shown_text run) × (after ≡ s)
     × (left ≡ [])
 
 -- the parts in turn: their text, the state behind them, and the run of text that they end in

@@ -3,7 +3,7 @@
 use Rattle.std.specs.Prelude.{ℕ, ◌≡◌, ◌≤◌, ◌⊎◌, ◌==◌, Bool, true, false, not, ◌&&◌, nat_le, nat_lt, List, [], ◌∷◌, ◌++◌, length, if◌then◌else◌}
 use Rattle.std.specs.List.{AllByRecursion, flat_map}
 use Rattle.csicodec_spans.specs.Parts.{Part, IsSpan}
-use Rattle.csicodec_clean.specs.{Addresses.led, declared.links.LinkState.LinkState}
+use Rattle.csicodec_clean.specs.{Addresses.led, declared.links.LinkReader.LinkReader, declared.links.LinkState.LinkState}
 use Rattle.csicodec_spans.specs.declared.table.Kind.TheVariants as kind
 use Rattle.csicodec_clean.specs.declared.links.LinkState.TheVariants as place
 
@@ -99,6 +99,10 @@ pub record Begun : Type 0 where
 abbrev pub begun : LinkState → List ℕ → List ℕ → Begun
 begun p params url = record { place = p; address = record { params = params; url = url } }
 
+-- what has come to a reader
+abbrev pub come : LinkReader → Begun
+come r = begun r.place r.params.items r.url.items
+
 -- where no control string is open
 abbrev pub start : Begun
 start = begun place.Outside [] []
@@ -132,13 +136,9 @@ behind b c = behind_at b.place b.address.params b.address.url c
 
 -- BEL, or the `\` of ST, ends a link
 abbrev pub ends_at : LinkState → ℕ → Bool
-ends_at place.Outside c = false
-ends_at place.Escape c = false
-ends_at place.Opened c = false
-ends_at place.Eight c = false
-ends_at place.Params c = false
 ends_at place.Url c = c == 7
 ends_at place.Ending c = c == 92
+ends_at p c = false
 
 -- what passes of the link that is over with the byte, where links pass
 abbrev pub links_at : Bool → Begun → ℕ → List Address

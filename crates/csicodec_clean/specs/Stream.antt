@@ -1,7 +1,7 @@
 -- A stream that is cleaned as it comes, chunk by chunk.
 use Rattle.std.specs.{Prelude.ℕ, Prelude.◌≡◌, Prelude.Bool, Prelude.false, Prelude.List, Prelude.[], Prelude.◌∷◌, Prelude.◌++◌, List.concat}
 use Rattle.csicodec_spans.specs.{declared.table.Mode.Mode, Parts.Part, Parts.AreFirstParts, Parts.IsUnsure}
-use Rattle.csicodec_filter.specs.Transform.{Begins as BeginsWith, EndsOf, Sends}
+use Rattle.csicodec_filter.specs.Transform.{Begins as BeginsWith, EndsOf, PassesOf, Sends}
 use Rattle.csicodec_clean.specs.{Shown.IsRead, Shown.shown_chars, Shown.shown_text, Titles.title_open, Titles.with_titles, Cleaned.RuleOf, Cleaned.EndOf}
 use Rattle.csicodec_clean.specs.{Cleaned.AreSteps, Cleaned.Ends, Cleaned.longest}
 use Rattle.csicodec_spans.specs.declared.table.Mode.TheVariants as mode
@@ -17,41 +17,46 @@ pub record Between (S : Type 0) : Type 0 where
 abbrev pub start_of : {S : Type 0} → S → Between S
 start_of s = record { rule = s; mode = mode.Text; titled = false; bytes = []; held = [] }
 
--- Behind a run of text that reads as the characters and then the bytes that were held, of which the characters have been
--- written: the parts in front of the bytes, and what was appended for them.
-pub record Goes {S : Type 0} (Gives : RuleOf S) (limit : ℕ) (m : Mode) (t : Bool) (s : S)
-    (run chars bytes appended rest : List ℕ) (a : Mode) (later : Bool) (after : S)
-    (held : List ℕ) : Type 0 where
+-- more bytes have come
+abbrev pub with_more : {S : Type 0} → Between S → List ℕ → Between S
+with_more old bytes = record old { bytes = old.bytes ++ bytes }
+
+-- From one state to another, behind a run of text that reads as the characters and then the bytes that are held, of which the
+-- characters have been written: the parts in front of the bytes, and what was appended for them.
+pub record Goes {S : Type 0} (Gives : RuleOf S) (limit : ℕ) (run chars : List ℕ)
+    (old : Between S) (appended : List ℕ) (new : Between S) : Type 0 where
   pub parts : List Part
   pub text : List ℕ
   pub left : List ℕ
   pub read : List ℕ
-  pub first : AreFirstParts limit m bytes parts rest a
-  pub titles : later ≡ title_open t parts
-  pub steps : AreSteps Gives s run (with_titles t parts) text after left
-  pub is_read : IsRead left read held
+  pub first : AreFirstParts limit old.mode old.bytes parts new.bytes new.mode
+  pub titles : new.titled ≡ title_open old.titled parts
+  pub steps : AreSteps Gives old.rule run (with_titles old.titled parts) text new.rule left
+  pub is_read : IsRead left read new.held
   pub same : shown_chars chars ++ appended ≡ text ++ shown_chars read
+
+-- so it is behind any such run
+abbrev pub GoesBy : {S : Type 0} → RuleOf S → ℕ → Between S → List ℕ → Between S → Type 0
+GoesBy Gives limit old appended new = (run chars : List ℕ) → IsRead run chars old.held
+    → Goes Gives limit run chars old appended new
 
 -- a push of these bytes appends the text
 pub record Takes {S : Type 0} (Gives : RuleOf S) (old : Between S) (bytes text : List ℕ)
     (new : Between S) : Type 0 where
   pub unsure : IsUnsure longest new.mode new.bytes
-  pub goes : (run chars : List ℕ) → IsRead run chars old.held
-      → Goes Gives longest old.mode old.titled old.rule run chars
-      (old.bytes ++ bytes) text new.bytes new.mode new.titled new.rule new.held
+  pub goes : GoesBy Gives longest (with_more old bytes) text new
 
 -- chunks pushed in turn, and all that they append
-abbrev pub AreTaken : {S : Type 0} → RuleOf S → Between S → List (List ℕ) → List ℕ → Between S
-    → Type 0
-AreTaken Gives old [] text new = (text ≡ []) × (new ≡ old)
-AreTaken {S} Gives old (chunk ∷ chunks) text new =
-    (mid : Between S) × (first : List ℕ) × (others : List ℕ) × Takes Gives old chunk first mid
-    × (text ≡ first ++ others) × AreTaken Gives mid chunks others new
+abbrev pub AreTaken : {S : Type 0} → PassesOf S → S → List (List ℕ) → List ℕ → S → Type 0
+AreTaken Step old [] text new = (text ≡ []) × (new ≡ old)
+AreTaken {S} Step old (chunk ∷ chunks) text new =
+    (mid : S) × (first : List ℕ) × (others : List ℕ) × Step old chunk first mid
+    × (text ≡ first ++ others) × AreTaken Step mid chunks others new
 
 -- it doesn't matter how a stream is cut into chunks: what they append, and the end, is what is made of all of it at once
 abbrev pub AnyChunks : {S : Type 0} → RuleOf S → EndOf S → Type 0
 AnyChunks {S} Gives Closes = (s : S) (chunks : List (List ℕ)) (text close : List ℕ)
-    (last : Between S) → AreTaken Gives (start_of s) chunks text last → Closes last.rule close
+    (last : Between S) → AreTaken (Takes Gives) (start_of s) chunks text last → Closes last.rule close
     → Ends Gives Closes longest s (concat chunks) (text ++ (shown_text last.held ++ close))
 
 -- at the end: what is shown of the bytes that are held, and what the rule writes

@@ -65,9 +65,7 @@ abbrev pub Leaves : Passing → Begun → Kind → List ℕ → List Item → Ty
 Leaves d b kind.Csi bytes own = (actions : List Action) × IsTakenFor bytes actions
     × (own ≡ map Style (kept d.depth actions))
 Leaves d b kind.Str bytes own = own ≡ map Link (links_in d.links b bytes)
-Leaves d b kind.Text bytes own = own ≡ []
-Leaves d b kind.Esc bytes own = own ≡ []
-Leaves d b kind.Other bytes own = own ≡ []
+Leaves d b k bytes own = own ≡ []
 
 abbrev pub begun_behind : Passing → Begun → Kind → List ℕ → Begun
 begun_behind d b kind.Str bytes = all_behind d.links b bytes
@@ -94,17 +92,19 @@ abbrev pub is_open : Bool → List Sgr → Bool
 is_open styled [] = styled
 is_open styled (s ∷ styles) = is_open (not (is_reset s)) styles
 
+abbrev pub style_in : Item → List Sgr
+style_in (Style s) = s ∷ []
+style_in item = []
+
 abbrev pub styles_of : List Item → List Sgr
-styles_of [] = []
-styles_of (Shown c ∷ items) = styles_of items
-styles_of (Style s ∷ items) = s ∷ styles_of items
-styles_of (Link a ∷ items) = styles_of items
+styles_of items = flat_map style_in items
+
+abbrev pub link_in : Item → List Address
+link_in (Link a) = a ∷ []
+link_in item = []
 
 abbrev pub links_of : List Item → List Address
-links_of [] = []
-links_of (Shown c ∷ items) = links_of items
-links_of (Style s ∷ items) = links_of items
-links_of (Link a ∷ items) = a ∷ links_of items
+links_of items = flat_map link_in items
 
 -- what ends a link and a style, where they are left open
 abbrev pub ends_of : Bool → Bool → List Item

@@ -1,7 +1,7 @@
 //! What is taken at a glance, where nothing is open and no byte is held: text, escape sequences, and
 //! control sequences that a rule takes at once.
 ghost use Rattle.std.specs.Prelude.{◌≡◌, ◌≤◌, ◌++◌, ℕ, List, [], length, drop, true, false, IfOk};
-ghost use Rattle.csicodec_clean.specs.Private.Steps.{BeginsWithEscape, GoesOver};
+ghost use Rattle.csicodec_clean.specs.Private.Steps.{BeginsWithEscape, GoesTo, bare_at, state_of};
 ghost use Rattle.csicodec_spans.specs.declared.table.Mode.TheVariants.{Text as NothingOpen};
 
 use crate::rule::Rule;
@@ -37,8 +37,8 @@ fn take_control<T: Rule>(
     out: &mut Vec<u8>,
 ) -> Result<usize, AllocError>
     ensures within { IfOk result (λ len. len ≤ length bytes.now) }
-    ensures goes { IfOk result (λ len. GoesOver T.gives limit NothingOpen false []
-        rule.old bytes.now (drop len bytes.now) rule.new out.old.items out.new.items) }
+    ensures goes { IfOk result (λ len. GoesTo T.gives limit (bare_at rule.old bytes.now)
+        (bare_at rule.new (drop len bytes.now)) out.old.items out.new.items) }
 {
     if is_opened(bytes) {
         let len = rule.take_at_once(limit, bytes, out)?;
@@ -57,9 +57,8 @@ fn append_glance<'a, T: Rule>(
     bytes: &'a [u8],
     out: &mut Vec<u8>,
 ) -> Result<&'a [u8], AllocError>
-    ensures parts { IfOk result (λ rest. (front : List ℕ) × (bytes.now ≡ front ++ rest.now)) }
-    ensures goes { IfOk result (λ rest. GoesOver T.gives limit NothingOpen false []
-        rule.old bytes.now rest.now rule.new out.old.items out.new.items) }
+    ensures { IfOk result (λ rest. GoesTo T.gives limit (bare_at rule.old bytes.now)
+        (bare_at rule.new rest.now) out.old.items out.new.items) }
 {
     let mut rest = bytes;
     let mut more = true;
@@ -89,12 +88,8 @@ pub(crate) fn append_front<'a, T: Rule>(
     bytes: &'a [u8],
     out: &mut Vec<u8>,
 ) -> Result<&'a [u8], AllocError>
-    ensures parts { IfOk result (λ rest. (front : List ℕ) × (bytes.now ≡ front ++ rest.now)) }
-    ensures goes { IfOk result (λ rest. GoesOver T.gives limit mode titled held.now
-        rule.old bytes.now rest.now rule.new out.old.items out.new.items) }
-    // What is held stands directly before the rest.
-    ensures last { IfOk result
-        (λ rest. (front : List ℕ) × (held.now ++ bytes.now ≡ front ++ (held.now ++ rest.now))) }
+    ensures { IfOk result (λ rest. GoesTo T.gives limit (state_of rule.old mode titled bytes.now held.now)
+        (state_of rule.new mode titled rest.now held.now) out.old.items out.new.items) }
 {
     if !is_bare(mode, titled, held) {
         return Ok(bytes);

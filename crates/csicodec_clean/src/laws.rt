@@ -18,7 +18,7 @@ ghost use Rattle.csicodec_clean.specs.Titles.{InTitle, IsText, with_titles};
 ghost use Rattle.csicodec_spans.specs.Parts.{IsWhole, Part, part};
 ghost use Rattle.csicodec_spans.specs.declared.table.Kind.TheVariants.{Other};
 ghost use Rattle.csicodec_spans.specs.declared.table.Mode.TheVariants.{Text};
-ghost use Rattle.csicodec_clean.specs.Stream.{AnyChunks, AreTaken, Between, IsFrontOf, start_of};
+ghost use Rattle.csicodec_clean.specs.Stream.{AnyChunks, AreTaken, Between, IsFrontOf, Takes, start_of};
 ghost use Rattle.csicodec_clean.specs.Steps.{AreStepped, bare, beginning, ending};
 ghost use Rattle.csicodec_clean.specs.Styled.{IsStyledIn, Keeping, StylesIn, first_kept, links_of, resets, resumed, keeps, without_links};
 
@@ -168,10 +168,10 @@ pub fn rules()
 /// behind them.
 pub fn fronts()
     ensures dropped { (s : Dropped) (chunks : List (List ℕ)) (more text : List ℕ)
-        (last : Between Dropped) → AreTaken drops (start_of s) chunks text last
+        (last : Between Dropped) → AreTaken (Takes drops) (start_of s) chunks text last
         → IsFrontOf (Strips longest) (concat chunks ++ more) text }
     ensures kept { (d : Passing) (chunks : List (List ℕ)) (more text : List ℕ)
         (last : Between Keeping)
-        → AreTaken (keeps (λ (k : Keeping). k)) (start_of (first_kept d)) chunks text last
+        → AreTaken (Takes (keeps (λ (k : Keeping). k))) (start_of (first_kept d)) chunks text last
         → IsFrontOf (StylesIn d) (concat chunks ++ more) text }
 {}

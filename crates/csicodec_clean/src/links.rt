@@ -1,6 +1,6 @@
 //! Links, read byte by byte.
 ghost use Rattle.std.specs.Prelude.{◌≡◌, ◌++◌, ℕ, List, Bool, true, [], OnOk, IfOk};
-ghost use Rattle.csicodec_clean.specs.Links.{admitted, all_behind, anew, begun, behind, ends_at, is_linked, is_param, is_visible, link_text, link_texts, links_at, links_in, no_address, opened, start};
+ghost use Rattle.csicodec_clean.specs.Links.{admitted, all_behind, anew, behind, come, ends_at, is_linked, is_param, is_visible, link_text, link_texts, links_at, links_in, no_address, opened, start};
 
 use crate::addresses::led;
 use std::alloc::{AllocError, Global};
@@ -70,15 +70,10 @@ fn opened(byte: u8) -> LinkState
 pub fn ends_link(place: LinkState, byte: u8) -> bool
     ensures { result ≡ ends_at place byte }
 {
-    match place {
-        LinkState::Outside
-        | LinkState::Escape
-        | LinkState::Opened
-        | LinkState::Eight
-        | LinkState::Params => false,
-        LinkState::Url => byte == 0x07,
-        LinkState::Ending => byte == b'\\',
-    }
+    matches!(
+        (place, byte),
+        (LinkState::Url, 0x07) | (LinkState::Ending, b'\\')
+    )
 }
 
 /// Appends what ends a link.
@@ -102,7 +97,7 @@ pub struct LinkReader {
 impl LinkReader {
     /// Where no control string is open.
     pub fn new(alloc: Global) -> LinkReader
-        ensures { begun result.place result.params.items result.url.items ≡ start }
+        ensures { come result ≡ start }
     {
         LinkReader {
             place: LinkState::Outside,
@@ -113,7 +108,7 @@ impl LinkReader {
 
     /// Goes back to where no control string is open.
     pub(crate) fn clear(&mut self)
-        ensures { begun self.new.place self.new.params.items self.new.url.items ≡ start }
+        ensures { come self.new ≡ start }
     {
         self.place = LinkState::Outside;
         self.params.clear();
@@ -122,9 +117,7 @@ impl LinkReader {
 
     /// Takes the next byte of a control string.
     pub fn take(&mut self, byte: u8) -> Result<(), AllocError>
-        ensures { OnOk result
-            (begun self.new.place self.new.params.items self.new.url.items
-            ≡ behind (begun self.old.place self.old.params.items self.old.url.items) byte) }
+        ensures { OnOk result (come self.new ≡ behind (come self.old) byte) }
     {
         match self.place {
             LinkState::Escape | LinkState::Ending => self.place = opened(byte),
@@ -155,10 +148,7 @@ impl LinkReader {
     /// Appends what passes of the link, in its normal form.
     fn append(&self, out: &mut Vec<u8>) -> Result<(), AllocError>
         ensures { OnOk result
-            (out.new.items
-            ≡ out.old.items
-            ++ link_text
-            (admitted (record { params = self.now.params.items; url = self.now.url.items }))) }
+            (out.new.items ≡ out.old.items ++ link_text (admitted (come self.now).address)) }
     {
         out.extend_from_slice(b"\x1b]8;")?;
         out.extend_from_slice(&self.params)?;
@@ -170,17 +160,10 @@ impl LinkReader {
     /// Takes the next byte of a control string, appends what passes of the link that is over with it, and answers whether one is open then.
     fn append_byte(&mut self, byte: u8, linked: bool, out: &mut Vec<u8>) -> Result<bool, AllocError>
         ensures text { OnOk result
-            (out.new.items
-            ≡ out.old.items
-            ++ link_texts
-            (links_at true (begun self.old.place self.old.params.items self.old.url.items) byte)) }
+            (out.new.items ≡ out.old.items ++ link_texts (links_at true (come self.old) byte)) }
         ensures linked { IfOk result
-            (λ after. after
-            ≡ is_linked linked
-            (links_at true (begun self.old.place self.old.params.items self.old.url.items) byte)) }
-        ensures begun { OnOk result
-            (begun self.new.place self.new.params.items self.new.url.items
-            ≡ behind (begun self.old.place self.old.params.items self.old.url.items) byte) }
+            (λ after. after ≡ is_linked linked (links_at true (come self.old) byte)) }
+        ensures begun { OnOk result (come self.new ≡ behind (come self.old) byte) }
     {
         let mut linked = linked;
         if ends_link(self.place, byte) {
@@ -199,20 +182,10 @@ impl LinkReader {
         out: &mut Vec<u8>,
     ) -> Result<bool, AllocError>
         ensures text { OnOk result
-            (out.new.items
-            ≡ out.old.items
-            ++ link_texts
-            (links_in true
-            (begun self.old.place self.old.params.items self.old.url.items) bytes.now)) }
+            (out.new.items ≡ out.old.items ++ link_texts (links_in true (come self.old) bytes.now)) }
         ensures linked { IfOk result
-            (λ after. after
-            ≡ is_linked linked
-            (links_in true
-            (begun self.old.place self.old.params.items self.old.url.items) bytes.now)) }
-        ensures begun { OnOk result
-            (begun self.new.place self.new.params.items self.new.url.items
-            ≡ all_behind true
-            (begun self.old.place self.old.params.items self.old.url.items) bytes.now) }
+            (λ after. after ≡ is_linked linked (links_in true (come self.old) bytes.now)) }
+        ensures begun { OnOk result (come self.new ≡ all_behind true (come self.old) bytes.now) }
     {
         let mut leads = linked;
         for byte in bytes {

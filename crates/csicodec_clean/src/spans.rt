@@ -3,9 +3,8 @@ ghost use Rattle.std.specs.Prelude.{◌≡◌, ◌≢◌, ◌<◌, ◌≤◌, �
 ghost use Rattle.csicodec_tokens.specs.Sequence.{Seq};
 ghost use Rattle.csicodec_spans.specs.declared.table.Kind.TheVariants.{Csi as Sequence};
 ghost use Rattle.csicodec_spans.specs.Parts.{IsUnsure};
-ghost use Rattle.csicodec_clean.specs.Shown.{shown_chars, IsRead};
-ghost use Rattle.csicodec_clean.specs.Private.Steps.{IsAppended};
-ghost use Rattle.csicodec_clean.specs.Stream.{Goes};
+ghost use Rattle.csicodec_clean.specs.Shown.{shown_chars};
+ghost use Rattle.csicodec_clean.specs.Private.Steps.{GoesTo, IsAppended, ReadsTo, state_of};
 
 use crate::glance::append_front;
 use crate::rule::Rule;
@@ -21,11 +20,9 @@ use std::alloc::AllocError;
 /// end.
 fn append_text(held: &mut Vec<u8>, bytes: &[u8], out: &mut Vec<u8>) -> Result<(), AllocError>
     ensures chars { OnOk result
-        ((chars : List ℕ) × IsRead (held.old.items ++ bytes.now) chars held.new.items
+        ((chars : List ℕ) × ReadsTo (held.old.items ++ bytes.now) chars held.new.items
         × (out.new.items ≡ out.old.items ++ shown_chars chars)) }
     ensures short { OnOk result (length held.new.items ≤ 3) }
-    ensures last { OnOk result
-        ((front : List ℕ) × (held.old.items ++ bytes.now ≡ front ++ held.new.items)) }
 {
     if held.is_empty() {
         let rest = append_sure(bytes, out)?;
@@ -55,8 +52,6 @@ fn append_span<T: Rule>(
         × IsAppended T.gives kind rule.old held.old.items bytes.now more rule.new held.new.items
         × (out.new.items ≡ out.old.items ++ more)) }
     ensures short { OnOk result (length held.new.items ≤ 3) }
-    ensures last { OnOk result
-        ((front : List ℕ) × (held.old.items ++ bytes.now ≡ front ++ held.new.items)) }
 {
     if kind == Kind::Text {
         return append_text(held, bytes, out);
@@ -84,18 +79,11 @@ pub(crate) fn append_clean<'a, T: Rule>(
     out: &mut Vec<u8>,
 ) -> Result<(&'a [u8], Mode), AllocError>
     requires { 0 < limit }
-    ensures parts { IfOk result
-        (λ (rest, after). (front : List ℕ) × (bytes.now ≡ front ++ rest.now)) }
     ensures unsure { IfOk result (λ (rest, after). IsUnsure limit after rest.now) }
     ensures goes { IfOk result
-        (λ (rest, after). (appended : List ℕ) × (out.new.items ≡ out.old.items ++ appended)
-        × ((run chars : List ℕ) → IsRead run chars held.old.items
-        → Goes T.gives limit mode titled.old rule.old run chars bytes.now appended rest.now after titled.new rule.new held.new.items)) }
+        (λ (rest, after). GoesTo T.gives limit (state_of rule.old mode titled.old bytes.now held.old.items)
+        (state_of rule.new after titled.new rest.now held.new.items) out.old.items out.new.items) }
     ensures short { OnOk result (length held.old.items ≤ 3 → length held.new.items ≤ 3) }
-    // What is held stands directly before the rest.
-    ensures last { IfOk result
-        (λ (rest, after). (front : List ℕ)
-        × (held.old.items ++ bytes.now ≡ front ++ (held.new.items ++ rest.now))) }
 {
     let mut looks = Count::new();
     let mut cutter = Cutter { mode, rest: bytes };

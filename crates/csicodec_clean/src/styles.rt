@@ -5,7 +5,6 @@ ghost use Rattle.csicodec_actions.specs.Actions.{Sgr as SgrAction};
 ghost use Rattle.csicodec_actions.specs.Table.{texts};
 ghost use Rattle.csicodec_parser.specs.ActionOf.{action_of};
 ghost use Rattle.csicodec_clean.specs.declared.colors.Depth.TheVariants.{Full as AllColors};
-ghost use Rattle.csicodec_clean.specs.Links.{begun};
 ghost use Rattle.csicodec_clean.specs.Marked.{IsMarked};
 ghost use Rattle.csicodec_clean.specs.Styled.{Styles, StylesIn, IsStyled, IsStyledIn, Keeping, first_kept, hides, is_open, is_reset, keeping, kept, resumed, without_links};
 
@@ -102,7 +101,7 @@ pub struct Kept {
 }
 
 impl Model for Kept {
-    ghost use Rattle.csicodec_clean.specs.Links.{begun};
+    ghost use Rattle.csicodec_clean.specs.Links.{come};
     ghost use Rattle.csicodec_clean.specs.Styled.{Keeping, keeping};
 
     ghost Value = { Keeping };
@@ -110,8 +109,7 @@ impl Model for Kept {
     ghost use Rattle.csicodec_clean.specs.Private.Notes.{IsNoted};
     ghost use Rattle.csicodec_streams.specs.Known.{AreKnown};
 
-    ghost view = { λ k. keeping k.passing k.styled k.linked
-        (begun k.link.place k.link.params.items k.link.url.items) };
+    ghost view = { λ k. keeping k.passing k.styled k.linked (come k.link) };
 
     ghost invariant = { λ k. AreKnown IsNoted k.known.memo.slots.items };
 }

@@ -2,7 +2,7 @@
 ghost use Rattle.std.specs.Prelude.{◌≡◌, ◌<◌, ◌≤◌, ◌-◌, ◌++◌, ◌∷◌, [], ℕ, List, length, take, drop, OnOk, IfOk, IfSome, IfNone};
 ghost use Rattle.bstr.specs.Utf8.{decoded};
 ghost use Rattle.csicodec_clean.specs.Shown.{shown, shown_chars, shown_text, IsCut, IsRead};
-ghost use Rattle.csicodec_clean.specs.Private.Steps.{Tells, dropped_byte};
+ghost use Rattle.csicodec_clean.specs.Private.Steps.{ReadsTo, Tells, dropped_byte};
 
 use crate::class::LANES;
 use crate::wide::behind_shown;
@@ -118,9 +118,8 @@ pub(crate) fn append_told<'a>(bytes: &'a [u8], out: &mut Vec<u8>) -> Result<&'a 
 
 /// Appends what is shown of the characters that are sure, whatever follows, and answers the others: three bytes at most.
 pub(crate) fn append_sure<'a>(bytes: &'a [u8], out: &mut Vec<u8>) -> Result<&'a [u8], AllocError>
-    ensures parts { IfOk result (λ rest. (front : List ℕ) × (bytes.now ≡ front ++ rest.now)) }
     ensures chars { IfOk result
-        (λ rest. (chars : List ℕ) × IsRead bytes.now chars rest.now
+        (λ rest. (chars : List ℕ) × ReadsTo bytes.now chars rest.now
         × (out.new.items ≡ out.old.items ++ shown_chars chars)) }
     ensures cut { IfOk result (λ rest. IsCut rest.now) }
     ensures short { IfOk result (λ rest. length rest.now ≤ 3) }

@@ -1,10 +1,11 @@
 -- What private steps say of each other. No promise rests on this file.
-use Rattle.std.specs.Prelude.{ℕ, ◌≡◌, ◌≢◌, ◌==◌, ◌≤◌, Bool, not, ◌&&◌, ◌||◌, nat_lt, List, [], ◌++◌, length, slice_index}
+use Rattle.std.specs.Prelude.{ℕ, ◌≡◌, ◌≢◌, ◌==◌, ◌≤◌, Bool, false, not, ◌&&◌, ◌||◌, nat_lt, List, [], ◌++◌, length, slice_index}
 use Rattle.std.specs.List.{AllByRecursion}
 use Rattle.bstr.specs.Utf8.{decoded_by, good}
 use Rattle.csicodec_spans.specs.{declared.table.Kind.Kind, declared.table.Mode.Mode}
-use Rattle.csicodec_clean.specs.{Shown.IsRead, Shown.shown_chars, Cleaned.RuleOf, Cleaned.IsStep, Stream.Goes}
+use Rattle.csicodec_clean.specs.{Shown.IsRead, Shown.shown_chars, Cleaned.RuleOf, Cleaned.IsStep, Stream.Between, Stream.GoesBy}
 use Rattle.csicodec_spans.specs.declared.table.Kind.TheVariants as kind
+use Rattle.csicodec_spans.specs.declared.table.Mode.TheVariants as mode
 
 -- ---- text that is told by its bytes
 
@@ -19,6 +20,10 @@ IsWide b c d e len = (char : ℕ) × (160 ≤ char)
 
 abbrev pub IsOther : ℕ → Type 0
 IsOther b = b ≢ 27
+
+-- a run reads as these characters, and then as the rest, which is its end
+abbrev pub ReadsTo : List ℕ → List ℕ → List ℕ → Type 0
+ReadsTo run chars rest = IsRead run chars rest × (front : List ℕ) × (run ≡ front ++ rest)
 
 -- text of which all is told: no ESC is among it, and it is read as these characters whatever follows
 abbrev pub IsTold : List ℕ → List ℕ → Type 0
@@ -36,7 +41,7 @@ Tells bytes rest old new =
 abbrev pub IsAppended : {S : Type 0} → RuleOf S → Kind → S → List ℕ → List ℕ → List ℕ → S → List ℕ
     → Type 0
 IsAppended Gives kind.Text s held bytes text after left = (chars : List ℕ)
-    × IsRead (held ++ bytes) chars left × (text ≡ shown_chars chars) × (after ≡ s)
+    × ReadsTo (held ++ bytes) chars left × (text ≡ shown_chars chars) × (after ≡ s)
 IsAppended Gives k s held bytes text after left = IsStep Gives k s held bytes text after left
 
 -- ESC, an intermediate byte and a final byte stand in front
@@ -45,16 +50,17 @@ BeginsWithEscape bytes =
     (3 ≤ length bytes) × (slice_index bytes 0 ≡ 27) × (32 ≤ slice_index bytes 1)
     × (slice_index bytes 1 ≤ 47) × (48 ≤ slice_index bytes 2) × (slice_index bytes 2 ≤ 126)
 
--- from what is open and held, and a rule's state, to what is then: the parts in front of the rest, and what was appended for them
-abbrev pub GoesTo : {S : Type 0} → RuleOf S → ℕ → Mode → Bool → List ℕ → S → List ℕ → List ℕ → Mode
-    → Bool → List ℕ → S → List ℕ → List ℕ → Type 0
-GoesTo Gives limit m t held s bytes rest a later left after old new =
-    (appended : List ℕ) × (new ≡ old ++ appended)
-    × ((run chars : List ℕ) → IsRead run chars held
-    → Goes Gives limit m t s run chars bytes appended rest a later after left)
+-- what is open and held
+abbrev pub state_of : {S : Type 0} → S → Mode → Bool → List ℕ → List ℕ → Between S
+state_of s m titled bytes held = record { rule = s; mode = m; titled = titled; bytes = bytes; held = held }
 
--- the same where what is open and held stays
-abbrev pub GoesOver : {S : Type 0} → RuleOf S → ℕ → Mode → Bool → List ℕ → S → List ℕ → List ℕ → S
-    → List ℕ → List ℕ → Type 0
-GoesOver Gives limit m t held s bytes rest after old new =
-    GoesTo Gives limit m t held s bytes rest m t held after old new
+-- where nothing is
+abbrev pub bare_at : {S : Type 0} → S → List ℕ → Between S
+bare_at s bytes = state_of s mode.Text false bytes []
+
+-- from one state to another: what is left of the parts between is appended, and what is held stands directly before the rest
+abbrev pub GoesTo : {S : Type 0} → RuleOf S → ℕ → Between S → Between S → List ℕ → List ℕ
+    → Type 0
+GoesTo Gives limit old new before after = (appended : List ℕ) × (after ≡ before ++ appended)
+    × GoesBy Gives limit old appended new
+    × (front : List ℕ) × (old.held ++ old.bytes ≡ front ++ (new.held ++ new.bytes))

@@ -1,14 +1,12 @@
-use Rattle.std.proofs.Common.{◌≡◌, ◌≤◌, ℕ, List, ◌++◌, length}
-use Rattle.csicodec_clean.specs.Private.Steps.{GoesTo}
+use Rattle.std.proofs.Common.{◌≤◌, length}
+use Rattle.csicodec_clean.specs.Private.Steps.{GoesTo, state_of}
 use Rattle.csicodec_clean.proofs.spans.append_clean.Given as goal
 
 -- some parts were cut, and what is left of them appended
 abbrev pub invariant-loop-rest : goal.invariant-loop-rest
 invariant-loop-rest g l = record {
-  parts : (front : List ℕ) × (l.bytes ≡ front ++ l.cutter.rest.now);
-  goes : GoesTo g.T.Rule.gives l.limit l.fn.mode l.initial.titled l.initial.held.items l.initial.rule l.bytes l.cutter.rest.now l.cutter.mode
-      l.titled l.held.items l.rule l.initial.out.items l.out.items;
-  last : (front : List ℕ) × (l.initial.held.items ++ l.bytes ≡ front ++ (l.held.items ++ l.cutter.rest.now));
+  goes : GoesTo g.T.Rule.gives l.limit (state_of l.initial.rule l.fn.mode l.initial.titled l.bytes l.initial.held.items)
+      (state_of l.rule l.cutter.mode l.titled l.cutter.rest.now l.held.items) l.initial.out.items l.out.items;
   short : length l.initial.held.items ≤ 3 → length l.held.items ≤ 3;
 }
 

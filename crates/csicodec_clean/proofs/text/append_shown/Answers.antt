@@ -5,7 +5,7 @@ use Rattle.csicodec_clean.proofs.text.append_shown.Goals as goal
 
 pub returns-in_ok-append_char : goal.returns-in_ok-append_char
 returns-in_ok-append_char c =
-    let (chars, read, out) = c.in_ok-rest.ensures.chars in
+    let (chars, (read, front, parts), out) = c.in_ok-rest.ensures.chars in
     let rest = c.in_ok-rest.rest.now in
     let some : 0 < length rest = search rules in
     let last = ap shown_chars (cut_char rest some c.in_ok-rest.ensures.cut) in
@@ -13,7 +13,7 @@ returns-in_ok-append_char c =
 
 pub returns-else-not-is_empty : goal.returns-else-not-is_empty
 returns-else-not-is_empty c =
-    let (chars, read, out) = c.in_ok-rest.ensures.chars in
+    let (chars, (read, front, parts), out) = c.in_ok-rest.ensures.chars in
     let rest = c.in_ok-rest.rest.now in
     let none : length rest ≡ 0 = search rules in
     rw (out, shown_read c.args.bytes.now chars rest read, shown_empty rest none, append-nil (shown_chars chars))

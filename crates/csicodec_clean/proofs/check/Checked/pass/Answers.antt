@@ -3,23 +3,16 @@ use Rattle.csicodec_clean.specs.{Check.IsOutside, Shown.IsBehind}
 use Rattle.csicodec_clean.proofs.Checks.{kept_rest, passed}
 use Rattle.csicodec_clean.proofs.check.Checked.pass.Goals as goal
 
-pub returns-clause-stands : goal.returns-clause-stands
-returns-clause-stands g c = λ bytes s.
+pub returns : goal.returns
+returns g c =
     let class = g.C.CharClass.class in
     let held = c.args.self.now.rest.items in
     let rest = c.behind_text-behind.result.now in
     let len = c.len.result - length rest in
     let behind = subst (λ t. IsBehind class t rest) c.deref.ensures.value c.behind_text-behind.ensures.behind in
     let long : len ≡ length held - length rest = omega (arith, ap length c.deref.ensures.value, c.deref.ensures.len, c.len.ensures) in
-    passed class bytes held rest c.keep_from.new.bytes.items c.args.self.now.at c.args.self.now.line len c.line_ends-ends.result c.saturating_add-self.result c.saturating_add-self-2.result
-    s behind long c.keep_from.ensures (search rules) c.saturating_add-self.ensures c.saturating_add-self-2.ensures
-
-pub returns-clause-outside : goal.returns-clause-outside
-returns-clause-outside g c =
-    let class = g.C.CharClass.class in
-    let held = c.args.self.now.rest.items in
-    let rest = c.behind_text-behind.result.now in
-    let len = c.len.result - length rest in
-    let behind = subst (λ t. IsBehind class t rest) c.deref.ensures.value c.behind_text-behind.ensures.behind in
-    let long : len ≡ length held - length rest = omega (arith, ap length c.deref.ensures.value, c.deref.ensures.len, c.len.ensures) in
-    subst (IsOutside class) (sym (kept_rest class held rest c.keep_from.new.bytes.items len behind long c.keep_from.ensures)) c.behind_text-behind.ensures.outside
+    record {
+      stands = λ bytes s.
+          passed class bytes held rest c.keep_from.new.bytes.items _ _ len c.line_ends-ends.result _ _ s behind long c.keep_from.ensures (search rules) c.saturating_add-self.ensures c.saturating_add-self-2.ensures;
+      outside = subst (IsOutside class) (sym (kept_rest class held rest c.keep_from.new.bytes.items len behind long c.keep_from.ensures)) c.behind_text-behind.ensures.outside;
+    }

@@ -1,54 +1,47 @@
-use Rattle.std.proofs.{Common.◌≡◌, Common.[], Common.◌-◌, Common.◌∙◌, Common.sym, Common.drop, Common.length, Common.append-nil, Common.⊎_elim, Common.arith}
-use Rattle.std.proofs.{lemmas.Grind.common_steps}
-use Rattle.csicodec_spans.proofs.{Kept.unsure_short, Spanned.rest_is}
-use Rattle.csicodec_clean.specs.Cleaned.{longest}
-use Rattle.csicodec_clean.proofs.Chunks.{takes_from, takes_nothing}
+use Rattle.std.proofs.Common.{◌≡◌, ◌≤◌, [], ap, length-append, ◌-◌, refl, sym, drop, length, append-nil, arith}
+use Rattle.std.proofs.lemmas.Grind.{common_steps}
+use Rattle.csicodec_spans.proofs.Spanned.{rest_is}
+use Rattle.csicodec_clean.specs.{Cleaned.longest, Private.Steps.state_of, Stream.with_more}
+use Rattle.csicodec_clean.proofs.{Chunks.unsure_few, Chunks.goes_none, Glances.to_split}
 use Rattle.csicodec_clean.proofs.cleaner.Cleaner.push.Goals as goal
 
-pub returns-in_default-clause-takes : goal.returns-in_default-clause-takes
-returns-in_default-clause-takes g c =
-    let (same, unsure) = rw c.in_default.is at c.in_ok-all.ensures.all in
-    let now = c.self.inside in (
-      [],
-      rw (← c.self.view_is, same)
-          (takes_nothing g.R.Rule.gives
-          (record { rule = now.rule; mode = now.waiting.mode; titled = now.titled; bytes = now.waiting.bytes; held = now.held.items }) c.args.bytes.now (rw c.self.invariant at unsure)),
-      sym (append-nil c.args.out.now.items),
-    )
+pub returns-in_default : goal.returns-in_default
+returns-in_default g c =
+    let (same, unsure) = rw (c.self.invariant, c.in_default.is) at c.in_ok-all.ensures.all in
+    let now = c.self.inside in
+    let old = state_of now.rule now.waiting.mode now.titled now.waiting.bytes now.held.items in
+    rw (← c.self.view_is, same) (record {
+      takes = ([], record { unsure = unsure; goes = goes_none g.R.Rule.gives longest (with_more old c.args.bytes.now) }, sym (append-nil c.args.out.now.items));
+      held = λ few. few;
+      pending = unsure_few now.waiting.mode _ unsure;
+    })
 
-pub returns-in_default-clause-pending : goal.returns-in_default-clause-pending
-returns-in_default-clause-pending g c =
-    let (same, unsure) = rw c.in_default.is at c.in_ok-all.ensures.all in
-    rw same (⊎_elim (λ h. h) (λ h. omega (arith, h)) (unsure_short longest c.self.inside.waiting.mode _ (rw c.self.invariant at unsure)))
+pub overflow_sub-used : goal.overflow_sub-used
+overflow_sub-used g c =
+    let (front, split) = to_split g.R.Rule.gives longest _ _ _ _ c.in_ok-rest.ensures.goes in
+    let within : length c.in_ok-rest.rest.now ≤ length c.deref.result.now = omega (arith, ap length split, length-append front c.in_ok-rest.rest.now) in
+    grind (arith, common_steps, c.deref.ensures.value, c.len.ensures, within)
 
 pub keep-requires-clause-unsure : goal.keep-requires-clause-unsure
 keep-requires-clause-unsure g c =
     let (taken, whole) = rw c.in-Some.is at c.in_ok-all.ensures.all in
     let rest = c.in_ok-rest.rest.now in
-    let kept = rest_is c.deref.result.now c.in_ok-rest.ensures.parts.0 rest c.in_ok-rest.ensures.parts.1 in
+    let (front, split) = to_split g.R.Rule.gives longest _ _ _ _ c.in_ok-rest.ensures.goes in
+    let kept = rest_is c.deref.result.now front rest split in
     let same : drop (c.len.result - length rest) c.in-Some.all.items ≡ rest = grind (arith, common_steps, c.deref.ensures.value, c.len.ensures, kept) in
     rw (same, taken, c.self.invariant) c.in_ok-rest.ensures.unsure
 
-pub returns-clause-takes : goal.returns-clause-takes
-returns-clause-takes g c =
+pub returns : goal.returns
+returns g c =
     let (taken, whole) = rw c.in-Some.is at c.in_ok-all.ensures.all in
-    let (text, out, goes) = c.in_ok-rest.ensures.goes in
-    let now = c.self.inside in
+    let (text, out, goes, ahead, last) = c.in_ok-rest.ensures.goes in
     let rest = c.in_ok-rest.rest.now in
-    let kept = rest_is c.deref.result.now c.in_ok-rest.ensures.parts.0 rest c.in_ok-rest.ensures.parts.1 in
-    let same : c.keep.new.self.bytes ≡ rest = grind (arith, common_steps, c.keep.ensures, c.deref.ensures.value, c.len.ensures, kept) in (
-      text,
-      rw (← c.self.view_is)
-          (takes_from g.R.Rule.gives (record { rule = now.rule; mode = now.waiting.mode; titled = now.titled; bytes = now.waiting.bytes; held = now.held.items })
-          (record { rule = c.append_clean.new.rule; mode = c.keep.new.self.mode; titled = c.append_clean.new.titled; bytes = c.keep.new.self.bytes; held = c.append_clean.new.held.items })
-          c.args.bytes.now text c.deref.result.now rest
-          (c.deref.ensures.value ∙ whole) same (rw c.keep.ensures c.in_ok-rest.ensures.unsure) (rw (c.keep.ensures) (rw (c.mode.ensures, taken) at goes))),
-      out,
-    )
-
-pub returns-clause-pending : goal.returns-clause-pending
-returns-clause-pending g c =
-    let rest = c.in_ok-rest.rest.now in
-    let kept = rest_is c.deref.result.now c.in_ok-rest.ensures.parts.0 rest c.in_ok-rest.ensures.parts.1 in
+    let (front, split) = to_split g.R.Rule.gives longest _ _ _ _ c.in_ok-rest.ensures.goes in
+    let kept = rest_is c.deref.result.now front rest split in
     let same : c.keep.new.self.bytes ≡ rest = grind (arith, common_steps, c.keep.ensures, c.deref.ensures.value, c.len.ensures, kept) in
-    rw same (⊎_elim (λ h. h) (λ h. omega (arith, h)) (unsure_short longest c.in_ok-rest.mode rest c.in_ok-rest.ensures.unsure))
+    let mode : c.keep.new.self.mode ≡ c.in_ok-rest.mode = rw c.keep.ensures refl in
+    rw (← c.self.view_is, same, mode) (record {
+      takes = (text, record { unsure = c.in_ok-rest.ensures.unsure; goes = rw (c.mode.ensures, taken, c.deref.ensures.value, whole) at goes }, out);
+      held = c.in_ok-rest.ensures.short;
+      pending = unsure_few c.in_ok-rest.mode rest c.in_ok-rest.ensures.unsure;
+    })

@@ -5,8 +5,8 @@ use Rattle.std.specs.{Char.encode_utf8, List.AllByRecursion, Str.all_scalars}
 use lib.Utf8.{scalar}
 use Rattle.csicodec_filter.specs.Transform.{GoesOn}
 use Rattle.csicodec_filter.proofs.Sent.{goes_on}
-use Rattle.csicodec_clean.specs.{Cleaned.EndOf, Cleaned.RuleOf, Cleaned.longest, Shown.IsPlain, Shown.IsShown, Shown.shown_text, Stream.Between, Stream.Goes}
-use Rattle.csicodec_clean.specs.{Stream.Takes, Stream.start_of}
+use Rattle.csicodec_clean.specs.{Cleaned.EndOf, Cleaned.RuleOf, Cleaned.longest, Shown.IsPlain, Shown.IsShown, Shown.shown_text, Stream.Between, Stream.GoesBy}
+use Rattle.csicodec_clean.specs.{Stream.Takes, Stream.start_of, Private.Steps.bare_at}
 use Rattle.csicodec_clean.proofs.{Chunks.takes_none, Glances.over_told, Shows.shown_none, Told.alone, Told.front_taken, Told.tells_shown}
 use Rattle.csicodec_lines.specs.{declared.lines.Lines.Lines, Lines.IsWithin, Lines.ends_line, Stream.Ending, Stream.Passes}
 use Rattle.csicodec_lines.proofs.Taken.{goes_over, goes_within}
@@ -38,11 +38,8 @@ module _ {S P : Type 0} (Begins : P → S) (Gives : RuleOf S) (Closes : EndOf S)
   takes_shown : (s : S) (bytes : List ℕ) → IsPlain bytes → Takes Gives (start_of s) bytes bytes (start_of s)
   takes_shown s bytes plain =
       let whole = sym (append-nil bytes) in
-      let (appended, out, goes) = over_told Gives longest s bytes [] [] bytes (tells_shown bytes [] [] bytes (bytes, whole, plain) (sym (front_taken bytes bytes [] whole))) in
-      record {
-        unsure = (takes_none Gives s).unsure;
-        goes = λ run chars read. subst (λ (t : List ℕ). Goes Gives longest (start_of s).mode false s run chars bytes t [] (start_of s).mode false s []) (sym out) (goes run chars read);
-      }
+      let (appended, out, goes, front, last) = over_told Gives longest s bytes [] [] bytes (tells_shown bytes [] [] bytes (bytes, whole, plain) (sym (front_taken bytes bytes [] whole))) in
+      record { unsure = (takes_none Gives s).unsure; goes = subst (λ (t : List ℕ). GoesBy Gives longest (bare_at s bytes) t (bare_at s [])) (sym out) goes }
 
   -- a line begins, and its rule ends it without a byte
   pub record IsBlank (it : Lines S P) : Type 0 where

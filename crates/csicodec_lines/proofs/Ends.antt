@@ -3,18 +3,14 @@ use Rattle.std.proofs.Common.{◌≡◌, ◌+◌, ◌<◌, ℕ, Bool, true, fals
 use Rattle.std.proofs.{lemmas.Bool.cases_Bool, lemmas.Bool.cond_both, lemmas.Bool.not-true, lemmas.Bool.Decides.nat_tests}
 use Rattle.std.specs.List.{AllByRecursion, prefix_len}
 use Rattle.csicodec_clean.specs.Bytes.{behind}
-use Rattle.csicodec_clean.proofs.Bytes.{behind_one, front_in}
+use Rattle.csicodec_clean.proofs.{Bytes.behind_one, Bytes.front_in, PlainBytes.all_weaker}
 use Rattle.csicodec_lines.specs.{Lines.IsWithin, Lines.ends_line, Lines.joins, Lines.lines_from, Private.Cut.BeginsWithEnd, Private.Cut.is_within}
 
 -- ---- where a line is cut
 
 -- ahead of the first end
-none_end : (bs : List ℕ) → AllByRecursion (λ b. is_within b ≡ true) bs → AllByRecursion IsWithin bs
-none_end [] all = tt
-none_end (b ∷ bs) all = (not-true (ends_line b) all.0, none_end bs all.1)
-
 pub all_within : (bs : List ℕ) → AllByRecursion IsWithin (take (prefix_len is_within bs) bs)
-all_within bs = none_end (take (prefix_len is_within bs) bs) (front_in is_within bs)
+all_within bs = all_weaker (λ b. is_within b ≡ true) IsWithin (λ b h. not-true (ends_line b) h) (take (prefix_len is_within bs) bs) (front_in is_within bs)
 
 -- and it
 pub begins_with_end : (bs : List ℕ) → BeginsWithEnd (behind is_within bs)

@@ -1,15 +1,14 @@
 -- What went out is a front of the text of the whole log.
-use Rattle.std.proofs.Common.{◌≡◌, ℕ, Bool, false, Option, List, [], ◌∷◌, ◌++◌, sym, ap, subst, ◌∙◌, append_assoc, append-nil}
+use Rattle.std.proofs.Common.{◌≡◌, ℕ, Bool, false, Option, List, [], ◌∷◌, ◌++◌, refl, sym, ap, subst, ◌∙◌, append_assoc}
 use Rattle.std.specs.Prelude.{Result}
 use Rattle.csicodec_clean.specs.{Streams.StreamsOne, Cleaned.EndOf, Cleaned.Ends, Cleaned.RuleOf, Cleaned.longest, Stream.Between, Stream.IsFrontOf}
-use Rattle.csicodec_clean.specs.{Stream.Takes, Stream.start_of}
-use Rattle.csicodec_clean.proofs.Streams.{Ran, Went, streams_one}
+use Rattle.csicodec_clean.specs.{Stream.Takes, Stream.start_of, Shown.shown_text}
+use Rattle.csicodec_clean.proofs.Streams.{Ran, Went, one_ran}
 use Rattle.csicodec_filter.specs.Transform.{Sends, Transforms}
-use Rattle.csicodec_filter.proofs.Sent.{whole_front}
 use Rattle.csicodec_lines.specs.{declared.lines.Lines.Lines, Lines.AreOf, Lines.ByLines, Lines.joined, Lines.lines_from, Lines.lines_of, Stream.Ending}
 use Rattle.csicodec_lines.specs.{Stream.Passes, Stream.ended}
-use Rattle.csicodec_lines.proofs.{Ends.goes_on, Going.shorter, Texts.by_lines_as, Texts.joined_front, Texts.of_as, Texts.one_text, Texts.parted}
-use Rattle.csicodec_lines.proofs.{Texts.same_texts, Taken.begins, Taken.transformed}
+use Rattle.csicodec_lines.proofs.{Ends.goes_on, Texts.by_lines_as, Texts.joined_front, Texts.of_as, Texts.one_text, Texts.parted, Texts.same_texts}
+use Rattle.csicodec_lines.proofs.{Taken.by_lines, Taken.transformed}
 
 -- where the rule's text of a line is one text, and what comes of a line is a front of that, however it goes on
 module _ {S P : Type 0} (Begins : P → S) (Gives : RuleOf S) (Closes : EndOf S) (first : Lines S P) (fresh : first.returned ≡ false) (Out : List ℕ → List ℕ → Type 0)
@@ -37,20 +36,13 @@ module _ {S P : Type 0} (Begins : P → S) (Gives : RuleOf S) (Closes : EndOf S)
               ∙ sym (append_assoc (ended p.texts) p.own (longer ++ behind)) ∙ ap (λ (t : List ℕ). t ++ (longer ++ behind)) (sym p.all),
         )
 
-    all_front : (bytes text : List ℕ) → Transforms Step (Ending Closes) first bytes text → IsFrontOf (ByLines Out) bytes text
-    all_front bytes text h whole k =
-        let own = by_lines_as (Ends Gives Closes longest (Begins first.by)) Out means bytes text (transformed Begins Gives Closes first bytes text fresh h) in
-        ([], one_text Out one bytes whole text k own ∙ sym (append-nil text))
-
     -- a run, where what each text is holds of the text of all lines
-    pub lines_ran : {A E : Type 0} (Safe : List ℕ → Type 0) (result : Result A E) (i k w y : Option (List ℕ)) → ((after : S) → (close : List ℕ) × Closes after close)
-        → ((bytes text : List ℕ) → ByLines Out bytes text → Safe text) → Ran (Sends Step first) (Transforms Step (Ending Closes) first) (ByLines Out) Safe result i k w y
+    pub lines_ran : ((after : S) → (close : List ℕ) × Closes after close) → (Safe : List ℕ → Type 0) → ((bytes text : List ℕ) → ByLines Out bytes text → Safe text)
+        → {A E : Type 0} (result : Result A E) (i k w y : Option (List ℕ)) → Ran (Sends Step first) (Transforms Step (Ending Closes) first) (ByLines Out) Safe result i k w y
         → Went (Sends Step first) (Transforms Step (Ending Closes) first) (ByLines Out) Safe result i k w y → StreamsOne (ByLines Out) Safe result i k w y
-    lines_ran Safe result i k w y always safe =
+    lines_ran always Safe safe =
         let mean = by_lines_as (Ends Gives Closes longest (Begins first.by)) Out means in
-        streams_one (Sends Step first) (Transforms Step (Ending Closes) first) (ByLines Out) Safe result i k w y (record {
-          whole = λ bytes text h. mean bytes text (transformed Begins Gives Closes first bytes text fresh h);
-          begins = λ all bytes sent h. (let (unsent, ends) = begins Begins Gives Closes first all bytes sent fresh always h in (unsent, mean bytes _ ends));
-          safe = safe;
-        }) (whole_front (Sends Step first) (Transforms Step (Ending Closes) first) (IsFrontOf (ByLines Out)) (shorter (ByLines Out))
-        (λ read more text (last, p). lines_front read more text last p) all_front)
+        one_ran Step (Ending Closes) first (Transforms Step (Ending Closes) first) (ByLines Out) Safe
+        (λ bytes text rest last passed ending. mean bytes (text ++ rest) (by_lines Begins Gives Closes first last bytes text rest fresh passed ending))
+        (λ bytes text h. mean bytes text (transformed Begins Gives Closes first bytes text fresh h))
+        (λ last. (let (close, closes) = always last.line.rule in (shown_text last.line.held ++ close, (close, closes, refl)))) safe (one_text Out one) lines_front

@@ -2,8 +2,8 @@
 use Rattle.std.proofs.Common.{◌≡◌, ℕ, Bool, false, List, [], ◌∷◌, ◌++◌, refl, sym, ap, subst, ◌∙◌, append_assoc, append-nil}
 use Rattle.csicodec_spans.specs.{declared.table.Kind.Kind, Parts.Part, Parts.part, Parts.left_over, Parts.IsSpan, Parts.IsUnsure}
 use Rattle.csicodec_spans.proofs.{Kept.parts_more, Once.parts_front, Once.whole_once}
-use Rattle.csicodec_filter.specs.{Filter.Held, Transform.EndsOf, Transform.GoesOn, Transform.Sends, Transform.Transforms, Written.Appends, Written.Since}
-use Rattle.csicodec_filter.specs.{Written.open_at, Written.with_more}
+use Rattle.csicodec_filter.specs.{Filter.Held, Transform.EndsOf, Transform.GoesOn, Transform.Transforms, Written.Appends, Written.Since, Written.open_at}
+use Rattle.csicodec_filter.specs.{Written.with_more}
 use Rattle.csicodec_filter.proofs.Written.{since_none, since_on}
 use Rattle.csicodec_clean.specs.{Cleaned.longest, Stream.IsFrontOf, Titles.read_as, Titles.title_behind, Titles.title_open, Titles.with_titles}
 use Rattle.csicodec_clean.proofs.Titles.{open_on, titled, titles_on}
@@ -38,9 +38,6 @@ takes old new chunk before after unsure x = (x.0, (λ first read text since. sin
 
 -- ---- the text of a whole stream
 
-pub shorter : (Out : List ℕ → List ℕ → Type 0) (bytes sent unsent : List ℕ) → IsFrontOf Out bytes (sent ++ unsent) → IsFrontOf Out bytes sent
-shorter Out bytes sent unsent h whole k = let (more, e) = h whole k in (unsent ++ more, e ∙ append_assoc sent unsent more)
-
 abbrev pub Quiet : EndsOf Finder
 Quiet last text = text ≡ []
 
@@ -65,7 +62,7 @@ module _ (every : ℕ) (f : Finder) (is : IsBegun every f) where
   pub begun : Passes f [] [] f
   begun = subst (λ (h : Held (CutSearch × Bool)). Since Finds h [] [] h) (sym is.1) (since_none Finds (f.search, false) longest (refl, λ s at. (at, refl)))
 
-  of_all : (read : List ℕ) (text : List ℕ) (last : Finder) → Passes f read text last → Tells every read text
+  pub of_all : (read text : List ℕ) (last : Finder) → Passes f read text last → Tells every read text
   of_all read text last p =
       let g = since read text last p in
       let rest = last.waiting.bytes in
@@ -86,8 +83,8 @@ module _ (every : ℕ) (f : Finder) (is : IsBegun every f) where
       rw (e, f, h.all, k.all, same) refl
 
   -- and what was told before the end is a front of it
-  pub front : (read more text : List ℕ) → Sends Passes f read text → IsFrontOf (Tells every) (read ++ more) text
-  front read more text (last, p) whole (places, k, e) =
+  pub front : (read more text : List ℕ) (last : Finder) → Passes f read text last → IsFrontOf (Tells every) (read ++ more) text
+  front read more text last p whole (places, k, e) =
       let g = since read text last p in
       let w = k.whole in
       let s = start every in
@@ -102,6 +99,3 @@ module _ (every : ℕ) (f : Finder) (is : IsBegun every f) where
         rw (e, k.all, parts, titles_on false g.parts qs, cuts_on s ps (with_titles (title_open false g.parts) qs))
             (told_on (cuts s ps) later ∙ ap (λ (t : List ℕ). t ++ told later) (sym (g.written.1 s is.0).1)),
       )
-
-  pub whole_text : (bytes text : List ℕ) → Transforms Passes Quiet f bytes text → IsFrontOf (Tells every) bytes text
-  whole_text bytes text h whole k = ([], one_text bytes whole text k (tells bytes text h) ∙ sym (append-nil text))

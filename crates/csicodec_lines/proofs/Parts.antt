@@ -95,33 +95,20 @@ texts s (p ∷ ps) h =
       cuts = rw later.cuts (sym (cuts_in_on s p.bytes rest));
     })
 
-other_behind : (s : Found) (k : Kind) (bytes : List ℕ) → is_text k ≡ false → behind_part s (part k bytes) ≡ passed (length bytes) s
-other_behind s k bytes none = rw none refl
-
-pub other_none : (s : Found) (k : Kind) (bytes : List ℕ) → is_text k ≡ false → cuts_at s (part k bytes) ≡ []
-other_none s k bytes none = rw none refl
-
 others : (s : Found) (k : Kind) (ps : List Part) → is_text k ≡ false → AllByRecursion (λ (p : Part). p.kind ≡ k) ps
-    → Spanned s k (flat_map bytes_of ps) ps
-others s k [] none h = record { behind = sym (passed_none s) ∙ sym (other_behind s k [] none); cuts = sym (other_none s k [] none) }
+    → (behind s ps ≡ passed (length (flat_map bytes_of ps)) s) × (cuts s ps ≡ [])
+others s k [] none h = (sym (passed_none s), refl)
 others s k (p ∷ ps) none h =
     let rest = flat_map bytes_of ps in
-    let own : is_text p.kind ≡ false = ap is_text h.0 ∙ none in
-    let next = other_behind s p.kind p.bytes own in
-    let later = others (passed (length p.bytes) s) k ps none h.1 in
-    record {
-      behind = ap (λ (t : Found). behind t ps) next ∙ later.behind ∙ other_behind (passed (length p.bytes) s) k rest none
-          ∙ passed_on s (length p.bytes) (length rest)
-          ∙ ap (λ (n : ℕ). passed n s) (sym (length-append p.bytes rest)) ∙ sym (other_behind s k (p.bytes ++ rest) none);
-      cuts = ap (λ (t : List ℕ). t ++ cuts (behind_part s p) ps) (other_none s p.kind p.bytes own)
-          ∙ ap (λ (t : Found). cuts t ps) next ∙ later.cuts ∙ other_none (passed (length p.bytes) s) k rest none
-          ∙ sym (other_none s k (p.bytes ++ rest) none);
-    }
+    let step : behind_part s p ≡ passed (length p.bytes) s = rw (h.0, none) refl in
+    let here : cuts_at s p ≡ [] = rw (h.0, none) refl in
+    let (later, no_more) = others (passed (length p.bytes) s) k ps none h.1 in
+    (rw step (later ∙ passed_on s (length p.bytes) (length rest) ∙ ap (λ (n : ℕ). passed n s) (sym (length-append p.bytes rest))), rw (here, step) no_more)
 
 pub spanned : (s : Found) (k : Kind) (bytes : List ℕ) (ps : List Part) → IsSpan k bytes ps → Spanned s k bytes ps
 spanned s kind.Text bytes ps h = rw (← h.joined) (texts s ps h.all)
-spanned s kind.Str bytes ps h = rw (← h.joined) (others s kind.Str ps refl h.all)
-spanned s kind.Other bytes ps h = rw (← h.joined) (others s kind.Other ps refl h.all)
+spanned s kind.Str bytes ps h = let (last, none) = others s kind.Str ps refl h.all in rw (← h.joined) (record { behind = last; cuts = none })
+spanned s kind.Other bytes ps h = let (last, none) = others s kind.Other ps refl h.all in rw (← h.joined) (record { behind = last; cuts = none })
 spanned s _ bytes ps h = rw h (record { behind = refl; cuts = refl })
 
 -- what is no text, where the search is told apart from it

@@ -1,13 +1,13 @@
 -- What was cut is cut so of fewer bytes too, if one stands behind it.
-use Rattle.std.proofs.Common.{◌≡◌, ◌<◌, ◌≤◌, ◌⊎◌, ℕ, Bool, true, false, List, [], ◌∷◌, ◌++◌, length, length-append, refl, sym, ap, subst, ◌∙◌, inl, inr, append_assoc, arith}
+use Rattle.std.proofs.Common.{◌≡◌, ◌<◌, ◌≤◌, ◌⊎◌, ℕ, false, List, [], ◌∷◌, ◌++◌, length, length-append, refl, sym, ap, subst, ◌∙◌, inl, inr, append_assoc, arith}
 use Rattle.std.proofs.{Math.ListN.get_or-append, lemmas.List.take-append-le}
-use Rattle.std.specs.{Prelude.◌+◌, Prelude.◌==◌, Prelude.◌&&◌, Prelude.if◌then◌else◌, List.flat_map}
+use Rattle.std.specs.{Prelude.◌+◌, Prelude.◌==◌, List.flat_map}
 use Rattle.csicodec_tokens.specs.{declared.reader.ReadError.ReadError, declared.reader.ReadError.TheVariants.NotCsi}
 use Rattle.csicodec_tokens.specs.{declared.reader.ReadError.TheVariants.BadByte, declared.reader.ReadError.TheVariants.NumberTooLarge, Fault.Begins}
 use Rattle.csicodec_tokens.specs.{Fault.FaultOf, Fault.IsBad, Fault.IsLeast, Fault.IsMetAt, Fault.NoSeq}
-use Rattle.csicodec_spans.specs.Private.TableBy.{ends, escape, intermediate, is_dcs, is_string, is_within, look, meant, opened, opens_string, stays}
-use Rattle.csicodec_spans.specs.{declared.table.Kind.Kind, declared.table.Mode.Mode, Table.Answer, Table.More, Table.Anew, Table.Sequence, Table.Undecided}
-use Rattle.csicodec_spans.specs.{Table.ahead, Parts.Part, Parts.part, Parts.bytes_of, Parts.Allows, Parts.AllowsCsi, Parts.AreFirstParts, Parts.IsMalformed}
+use Rattle.csicodec_spans.specs.{Private.TableBy.look, Private.TableBy.meant, declared.table.Kind.Kind, declared.table.Mode.Mode, Table.Answer, Table.More}
+use Rattle.csicodec_spans.specs.{Table.Anew, Table.Sequence, Table.Undecided, Table.ahead, Parts.Part, Parts.part, Parts.bytes_of, Parts.Allows}
+use Rattle.csicodec_spans.specs.{Parts.AllowsCsi, Parts.AreFirstParts, Parts.IsMalformed}
 use Rattle.csicodec_spans.proofs.{Agrees.found, Kept.parts_join, Missed.part_some}
 use Rattle.csicodec_spans.specs.declared.table.Kind.TheVariants as kind
 
@@ -65,40 +65,11 @@ TakesTwo Undecided = Unit {0}
 abbrev Near : List ℕ → Answer → Answer → Type 0
 Near rest f g = (f ≡ g) ⊎ ((rest ≡ []) × TakesTwo g)
 
--- the tests of a byte are the same
-module _ {A : Type 0} (f : A → Answer) where
-  both : (rest : List ℕ) (b : Bool) (x y v w : A) → Near rest (f x) (f v) → Near rest (f y) (f w)
-      → Near rest (f (if b then x else y)) (f (if b then v else w))
-  both rest true x y v w h k = h
-  both rest false x y v w h k = k
-
-  same : (rest : List ℕ) (b : Bool) (x y w : A) → Near rest (f y) (f w) → Near rest (f (if b then x else y)) (f (if b then x else w))
-  same rest b x y w k = both rest b x y x w (inl refl) k
-
-  two : (b : Bool) (x y : A) → TakesTwo (f x) → TakesTwo (f y) → TakesTwo (f (if b then x else y))
-  two true x y h k = h
-  two false x y h k = k
-
-near_intermediate : (m : Mode) (rest more : List ℕ) → Near rest (meant m (intermediate rest)) (meant m (intermediate (rest ++ more)))
-near_intermediate m (b ∷ rest) more = inl refl
-near_intermediate m [] [] = inl refl
-near_intermediate m [] (b ∷ more) = inr (refl, two (meant m) (is_within 48 126 b) _ _ (omega arith) (omega arith))
-
-near_opened : (m : Mode) (b : ℕ) (rest more : List ℕ) → Near rest (meant m (opened b rest)) (meant m (opened b (rest ++ more)))
-near_opened m b rest more =
-    same (meant m) rest (b == 91) _ _ _ (same (meant m) rest (b == 93) _ _ _ (same (meant m) rest (b == 80) _ _ _
-    (same (meant m) rest (opens_string b) _ _ _ (same (meant m) rest (is_within 48 126 b) _ _ _
-    (both (meant m) rest (is_within 32 47 b) (intermediate rest) _ (intermediate (rest ++ more)) _ (near_intermediate m rest more) (inl refl))))))
-
-near_escape : (m : Mode) (b : ℕ) (rest more : List ℕ) → Near rest (meant m (escape m (b ∷ rest))) (meant m (escape m (b ∷ (rest ++ more))))
-near_escape m b rest more =
-    same (meant m) rest (is_string m && b == 92) _ _ _ (same (meant m) rest (is_dcs m && b == 27) _ (opened b rest) (opened b (rest ++ more)) (near_opened m b rest more))
-
 near_look : (m : Mode) (b c : ℕ) (rest more : List ℕ)
     → Near rest (meant m (look m (b ∷ c ∷ rest))) (meant m (look m (b ∷ c ∷ (rest ++ more))))
-near_look m b c rest more =
-    same (meant m) rest (stays m b) _ _ _ (same (meant m) rest (ends m b) _ _ _
-    (both (meant m) rest (b == 27) (escape m (c ∷ rest)) _ (escape m (c ∷ (rest ++ more))) _ (near_escape m c rest more) (inl refl)))
+near_look m b c (d ∷ rest) more = inl refl
+near_look m b c [] [] = inl refl
+near_look m b c [] (d ∷ more) = grind arith
 
 -- ---- one part
 

@@ -1,12 +1,12 @@
 -- A log as it comes.
-use Rattle.std.proofs.Common.{◌≡◌, ◌<◌, ℕ, true, false, List, [], ◌∷◌, ◌++◌, length, ◌==◌, refl, sym, subst, ◌∙◌, ⊎_elim, append_assoc, append-nil}
+use Rattle.std.proofs.Common.{◌≡◌, ◌<◌, ℕ, true, false, List, [], ◌∷◌, ◌++◌, length, ◌==◌, refl, sym, subst, ◌∙◌, append_assoc, append-nil}
 use Rattle.std.specs.List.{AllByRecursion, concat}
-use Rattle.csicodec_filter.specs.Transform.{Begins as BeginsWith, GoesOn, PassesOf, Sends, Transforms}
+use Rattle.csicodec_filter.specs.Transform.{GoesOn, PassesOf, Transforms}
 use Rattle.csicodec_filter.proofs.Sent.{goes_none, goes_on, none_left}
-use Rattle.csicodec_clean.specs.{Shown.shown_text, Cleaned.EndOf, Cleaned.Ends, Cleaned.RuleOf, Cleaned.longest, Stream.Takes, Stream.start_of}
-use Rattle.csicodec_clean.proofs.Chunks.{ends as at_end, takes_none, takes_on}
+use Rattle.csicodec_clean.specs.{Cleaned.EndOf, Cleaned.Ends, Cleaned.RuleOf, Cleaned.longest, Stream.AreTaken, Stream.Takes, Stream.start_of}
+use Rattle.csicodec_clean.proofs.Chunks.{ends as at_end, taken_on, takes_none, takes_on}
 use Rattle.csicodec_lines.specs.{declared.lines.Lines.Lines, Private.Cut.Adds, Private.Cut.AddsFront, Lines.ByLines, Lines.IsWithin, Lines.ends_line}
-use Rattle.csicodec_lines.specs.{Lines.joins, Lines.lines_from, Lines.lines_of, Stream.AreTaken, Stream.Ending, Stream.Passes, Stream.begun, Stream.ended}
+use Rattle.csicodec_lines.specs.{Lines.joins, Lines.lines_from, Lines.lines_of, Stream.Ending, Stream.Passes, Stream.begun, Stream.ended}
 use Rattle.csicodec_lines.proofs.{Ends.all_within_on, Ends.one_end, Ends.one_joins, Texts.ended_on, Texts.joined_on, Texts.of_on}
 
 module _ {S : Type 0} (Step : PassesOf S) where
@@ -115,30 +115,9 @@ module _ {S P : Type 0} (Begins : P → S) (Gives : RuleOf S) (Closes : EndOf S)
       → ByLines (Ends Gives Closes longest (Begins first.by)) bytes text
   transformed first bytes text fresh (last, sure, rest, passed, ending, split) = rw split (by_lines first last bytes sure rest fresh passed ending)
 
-  -- with what a rule writes at any end, the front is one of a whole text
-  pub begins : (first : Lines S P) (AreAll : Type 0) (bytes sent : List ℕ) → first.returned ≡ false → ((after : S) → (close : List ℕ) × Closes after close)
-      → BeginsWith (Sends Step first) (Transforms Step (Ending Closes) first) AreAll bytes sent → (unsent : List ℕ) × ByLines (Ends Gives Closes longest (Begins first.by)) bytes (sent ++ unsent)
-  begins first AreAll bytes sent fresh always (unsent, h) = ⊎_elim
-      (λ (k : Sends Step first bytes (sent ++ unsent)).
-      let (last, passed) = k in
-      let (close, closes) = always last.line.rule in
-      let rest = shown_text last.line.held ++ close in (
-        unsent ++ rest,
-        subst (ByLines (Ends Gives Closes longest (Begins first.by)) bytes) (append_assoc sent unsent rest) (by_lines first last bytes (sent ++ unsent) rest fresh passed (close, closes, refl)),
-      ))
-      (λ (k : AreAll × Transforms Step (Ending Closes) first bytes (sent ++ unsent)). (unsent, transformed first bytes (sent ++ unsent) fresh k.1))
-      h
-
-  -- chunks in turn
-  taken_on : (first old last : Lines S P) (bytes text : List ℕ) (chunks : List (List ℕ)) (more : List ℕ) → Step first bytes text old → AreTaken Step old chunks more last
-      → Step first (bytes ++ concat chunks) (text ++ more) last
-  taken_on first old last bytes text [] more p (none, same) = rw (none, same, append-nil bytes, append-nil text) p
-  taken_on first old last bytes text (chunk ∷ chunks) more p (mid, one, others, goes, e, rest) =
-      let all = taken_on first mid last (bytes ++ chunk) (text ++ one) chunks others (goes first bytes text p) rest in
-      rw (← append_assoc bytes chunk (concat chunks), e, ← append_assoc text one others) all
-
-  pub any_chunks : (by : P) (chunks : List (List ℕ)) (text rest : List ℕ) (last : Lines S P) → AreTaken Step (begun Begins by) chunks text last → Ending Closes last rest
+  pub any_chunks : (by : P) (chunks : List (List ℕ)) (text rest : List ℕ) (last : Lines S P) → AreTaken (GoesOn Step) (begun Begins by) chunks text last → Ending Closes last rest
       → ByLines (Ends Gives Closes longest (Begins by)) (concat chunks) (text ++ rest)
   any_chunks by chunks text rest last taken ending =
       let first = begun Begins by in
-      by_lines first last (concat chunks) text rest refl (taken_on first first last [] [] chunks text (passes_none by) taken) ending
+      let passed = taken_on Step (GoesOn Step) first (λ bytes text old new chunk more p goes. goes first bytes text p) [] [] first last chunks text (passes_none by) taken in
+      by_lines first last (concat chunks) text rest refl passed ending

@@ -1,7 +1,7 @@
 -- A log as it comes, chunk by chunk.
 use Rattle.std.specs.{Prelude.ℕ, Prelude.◌≡◌, Prelude.false, Prelude.List, Prelude.[], Prelude.◌∷◌, Prelude.◌++◌, List.concat}
-use Rattle.csicodec_filter.specs.Transform.{EndsOf, GoesOn, PassesOf}
-use Rattle.csicodec_clean.specs.{Cleaned.RuleOf, Cleaned.EndOf, Cleaned.Ends, Cleaned.longest, Stream.Closing, Stream.Takes, Stream.start_of}
+use Rattle.csicodec_filter.specs.Transform.{EndsOf, GoesOn}
+use Rattle.csicodec_clean.specs.{Cleaned.RuleOf, Cleaned.EndOf, Cleaned.Ends, Cleaned.longest, Stream.AreTaken, Stream.Closing, Stream.Takes, Stream.start_of}
 use Rattle.csicodec_lines.specs.{declared.lines.Lines.Lines, Lines.AreOf, Lines.ByLines, Lines.lines_from}
 
 -- where nothing has come
@@ -32,17 +32,9 @@ pub record Passes {S P : Type 0} (Begins : P → S) (Gives : RuleOf S) (Closes :
 abbrev pub Ending : {S P : Type 0} → EndOf S → EndsOf (Lines S P)
 Ending Closes last text = Closing Closes last.line text
 
--- chunks in turn, and all that they append
-abbrev pub AreTaken : {S P : Type 0} → PassesOf (Lines S P) → Lines S P → List (List ℕ) → List ℕ
-    → Lines S P → Type 0
-AreTaken Step old [] text new = (text ≡ []) × (new ≡ old)
-AreTaken {S} {P} Step old (chunk ∷ chunks) text new =
-    (mid : Lines S P) × (first : List ℕ) × (others : List ℕ) × GoesOn Step old chunk first mid
-    × (text ≡ first ++ others) × AreTaken Step mid chunks others new
-
 -- it doesn't matter how a log is cut into chunks: what they append, and the end, is the text of all of it
 abbrev pub AnyChunks : {S P : Type 0} → (P → S) → RuleOf S → EndOf S → Type 0
 AnyChunks {S} {P} Begins Gives Closes = (by : P) (chunks : List (List ℕ)) (text rest : List ℕ)
-    (last : Lines S P) → AreTaken (Passes Begins Gives Closes) (begun Begins by) chunks text last
+    (last : Lines S P) → AreTaken (GoesOn (Passes Begins Gives Closes)) (begun Begins by) chunks text last
     → Ending Closes last rest
     → ByLines (Ends Gives Closes longest (Begins by)) (concat chunks) (text ++ rest)

@@ -1,9 +1,9 @@
-use Rattle.std.proofs.{Common.ap, lemmas.Result.on_err_weaker, lemmas.Result.on_ok_weaker}
-use Rattle.csicodec_filter.specs.{Filter.Held, Transform.Sends, Transform.Transforms}
-use Rattle.csicodec_filter.proofs.Sent.{whole_front}
-use Rattle.csicodec_clean.specs.Stream.{IsFrontOf}
+use Rattle.std.proofs.{Common.[], Common.ap, Common.append-nil, Common.refl, lemmas.Result.on_ok_weaker}
+use Rattle.std.specs.Prelude.{⊤}
+use Rattle.csicodec_filter.specs.{Filter.Held, Transform.Transforms}
+use Rattle.csicodec_clean.proofs.Streams.{one_ran}
 use Rattle.csicodec_lines.specs.{Cuts.Tells, Private.Finder.Passes}
-use Rattle.csicodec_lines.proofs.Going.{Quiet, begun, front, shorter, tells, whole_text}
+use Rattle.csicodec_lines.proofs.Going.{Quiet, begun, front, of_all, one_text, tells}
 use Rattle.csicodec_lines.proofs.cuts.cuts_all.Goals as goal
 
 pub transform_all-requires-clause-stands : goal.transform_all-requires-clause-stands
@@ -12,19 +12,13 @@ transform_all-requires-clause-stands g c = ap (λ (h : Held _). h.limit) c.new.e
 pub transform_all-requires-clause-begun : goal.transform_all-requires-clause-begun
 transform_all-requires-clause-begun g c = begun c.args.every c.new.result c.new.ensures
 
-pub returns-clause-ok : goal.returns-clause-ok
-returns-clause-ok g c = on_ok_weaker c.transform_all.result
-    (λ (bytes, text, consumed, end, whole, appended).
-    (bytes, text, consumed, end, tells c.args.every c.new.result c.new.ensures bytes text whole, appended))
-    c.transform_all.ensures.ok
-
-pub returns-clause-front : goal.returns-clause-front
-returns-clause-front g c =
+pub returns : goal.returns
+returns g c =
     let every = c.args.every in
     let first = c.new.result in
     let is = c.new.ensures in
-    on_err_weaker c.transform_all.result
-    (λ (bytes, more, sent, consumed, begins, appended).
-    whole_front (Sends Passes first) (Transforms Passes Quiet first) (IsFrontOf (Tells every)) (shorter (Tells every))
-    (front every first is) (whole_text every first is) bytes more sent _ _ _ _ consumed begins appended)
-    c.transform_all.ensures.front
+    let ran = one_ran Passes Quiet first (Transforms Passes Quiet first) (Tells every) (λ text. ⊤)
+    (λ bytes text rest last passed none. rw (none, append-nil text) (of_all every first is bytes text last passed)) (tells every first is) (λ last. ([], refl)) (λ bytes text told. tt)
+    (one_text every first is) (front every first is) c.transform_all.result _ _ _ _ in
+    let ok = on_ok_weaker c.transform_all.result (λ (bytes, text, consumed, end, whole, appended). (bytes, text, consumed, end, tells every first is bytes text whole, appended)) c.transform_all.ensures.ok in
+    record { ok = ok; front = (ran c.transform_all.ensures.ok c.transform_all.ensures.front).whole }

@@ -15,5 +15,5 @@ pub returns : goal.returns
 returns g c =
     let d = c.args.passing in
     lines_ran first_kept (keeps own) (resets own) (begun first_kept d) refl (StylesIn d) (λ line text ends. styles own d (first_kept d) line text refl ends) (one_styled d)
-    (λ line later t last. clean_front own (first_kept d) line later t last refl) (IsStyledIn d) c.transform_all.result _ _ _ _ (λ after. (_, refl)) (styled_lines d)
-    (rw c.cleaned.ensures at c.transform_all.ensures.ok) (rw c.cleaned.ensures at c.transform_all.ensures.front)
+    (λ line later t last. clean_front own (first_kept d) line later t last refl) (λ after. (_, refl)) (IsStyledIn d) (styled_lines d)
+    c.transform_all.result _ _ _ _ (rw c.cleaned.ensures at c.transform_all.ensures.ok) (rw c.cleaned.ensures at c.transform_all.ensures.front)

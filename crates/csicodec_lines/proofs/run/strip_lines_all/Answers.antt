@@ -12,5 +12,4 @@ transform_all-requires-clause-begun g c = rw c.stripped.ensures (passes_none (λ
 pub returns : goal.returns
 returns g c =
     lines_ran (λ (_ : ⊤). bare) drops ends_bare (begun (λ (_ : ⊤). bare) tt) refl (Strips longest) (strips longest bare) (one_text longest) (strip_front bare)
-    IsPlain c.transform_all.result _ _ _ _ (λ after. ([], refl)) plain_lines
-    (rw c.stripped.ensures at c.transform_all.ensures.ok) (rw c.stripped.ensures at c.transform_all.ensures.front)
+    (λ after. ([], refl)) IsPlain plain_lines c.transform_all.result _ _ _ _ (rw c.stripped.ensures at c.transform_all.ensures.ok) (rw c.stripped.ensures at c.transform_all.ensures.front)

@@ -2,7 +2,7 @@
 words."""
 from declared import Type, Variant
 from checks import check_columns, check_once, refuse
-from layout import array, byte, code, page_line, page_table, pair, string
+from layout import array, code, page_line, page_table, pair, string
 from read import first_line, rows_of
 
 TABLE = "escapes.toml"
@@ -90,28 +90,22 @@ def words(rows):
     return array(about, "CODES", "(i64, &str)", pairs)
 
 
-def parts(key, row):
-    """A row by its intermediate bytes and its last one."""
-    return pair(f"b{string(key[:-1])}", byte(key[-1]), string(row["words"]))
+def parts(rows):
+    """Rows by the bytes that they are of."""
+    return [pair(f"b{string(key)}", string(row["words"])) for key, row in rows.items()]
 
 
 def sequences(rows):
     """src/escape_rows.rt of csicodec_words: those with a code, those without one, and the sets."""
-    kind = "(&[u8], u8, &str)"
-    others = [parts(key, row) for key, row in rows["code"].items() if "name" not in row]
-    between = [pair(f"b{string(key)}", string(row["words"])) for key, row in rows["other"].items()]
-    sets = [(name, about, [parts(key, row) for key, row in rows[table].items()]) for name, about, table in (
-        ("SETS", "Sets of 94 characters, by what stands behind the byte that says what they become.", "sets_94"),
-        ("SETS_OF_96", "Sets of 96 characters.", "sets_96"),
-        ("SETS_OF_SEVERAL", "Sets of which each character has several bytes.", "sets_several"),
-    )]
-    return "\n".join([
-        "//! Escape sequences and character sets in words.\n",
-        words(rows),
-        array("Those without a code, by their intermediate bytes and their last one.", "NAMES", kind, others),
-        array("What any other sequence is that has these intermediate bytes.", "OTHERS", "(&[u8], &str)", between),
-        *(array(about, name, kind, pairs) for name, about, pairs in sets),
-    ])
+    arrays = (
+        ("NAMES", "Those without a code, by their bytes behind ESC.", {key: row for key, row in rows["code"].items() if "name" not in row}),
+        ("OTHERS", "What any other sequence is that has these intermediate bytes.", rows["other"]),
+        ("SETS", "Sets of 94 characters, by what stands behind the byte that says what they become.", rows["sets_94"]),
+        ("SETS_OF_96", "Sets of 96 characters.", rows["sets_96"]),
+        ("SETS_OF_SEVERAL", "Sets of which each character has several bytes.", rows["sets_several"]),
+    )
+    text = ["//! Escape sequences and character sets in words.\n", words(rows)]
+    return "\n".join([*text, *(array(about, name, "(&[u8], &str)", parts(of)) for name, about, of in arrays)])
 
 
 PAGE = """\

@@ -1,6 +1,6 @@
 //! What a terminal can do, and its graphics, in words.
 
-use crate::action_words::device::EXTENSIONS;
+use crate::action_words::EXTENSIONS;
 use crate::numbered::words_of;
 use crate::values::Values;
 use csicodec_actions::DeviceAttribute;

@@ -1,42 +1,87 @@
-//! Escape sequences in words: those that the codec has a code for, and names of others that designate no character set.
+//! Escape sequences in words: those that the codec has a code for, those that designate a character set, and others with a name.
 
 use crate::describe::Describe;
-use crate::escape_rows::{CODES, NAMES, OTHERS};
+use crate::escape_rows::{CODES, NAMES, OTHERS, SETS, SETS_OF_96, SETS_OF_SEVERAL};
 use crate::numbered::words_of;
-use crate::other_sets::{Escape, designated, designated_of_several, find};
-use csicodec_base::{Esc, EscCode};
+use csicodec_base::Esc;
 use std::fmt;
 
-/// What a sequence is that is told by its intermediate bytes alone.
-fn other(between: &[u8]) -> Option<&'static str> {
-    for (known, words) in &OTHERS {
-        if *known == between {
+/// What an escape sequence is that has no code.
+#[derive(Clone, Copy)]
+pub enum Escape {
+    /// One whose name and deed stand in a table.
+    Named(&'static str),
+    /// One that designates a set: which of G0 to G3 it becomes, and the set.
+    Set(&'static str, &'static str),
+}
+
+impl fmt::Display for Escape {
+    fn fmt<W: fmt::Write>(&self, f: &mut fmt::Formatter<W>) -> fmt::Result {
+        match self {
+            Escape::Named(words) => f.write_str(words),
+            Escape::Set(place, set) => write!(f, "SCS  {place}: {set}"),
+        }
+    }
+}
+
+/// The words of these bytes, where the table has them.
+fn find(table: &'static [(&'static [u8], &'static str)], bytes: &[u8]) -> Option<&'static str> {
+    for (known, words) in table {
+        if *known == bytes {
             return Some(*words);
         }
     }
     None
 }
 
-/// What an escape sequence is that designates no set, by its intermediate bytes and its last byte.
-pub fn named(between: &[u8], last: u8) -> Option<Escape> {
-    let words = find(&NAMES, between, last).or(other(between))?;
-    Some(Escape::Named(words))
+/// Which of G0 to G3 an intermediate byte means, and whether the set has 96 characters (ECMA-35, 14.3.2).
+fn place_of(byte: u8) -> Option<(&'static str, bool)> {
+    Some(match byte {
+        b'(' => ("G0", false),
+        b')' => ("G1", false),
+        b'*' => ("G2", false),
+        b'+' => ("G3", false),
+        b'-' => ("G1", true),
+        b'.' => ("G2", true),
+        b'/' => ("G3", true),
+        _ => return None,
+    })
 }
 
-/// What an escape sequence is by its intermediate byte, 0 where there is none, and its last byte.
-pub fn escape_of(intermediate: u8, control: u8) -> Option<Escape> {
-    match intermediate {
-        b'$' => designated_of_several(b"", control),
-        0 => named(b"", control),
-        b' '..=b'#' | b'%' | b'&' => named(&[intermediate], control),
-        _ => designated(intermediate, b"", control),
+/// A set of several bytes a character, by what stands behind `$`; it becomes G0 where no intermediate byte stands there.
+fn designated_of_several(bytes: &[u8]) -> Option<Escape> {
+    let (place, bytes) = match bytes {
+        [place, set @ ..] if !set.is_empty() => (place_of(*place)?.0, set),
+        _ => ("G0", bytes),
+    };
+    let set = find(&SETS_OF_SEVERAL, bytes).unwrap_or("a set of several bytes a character");
+    Some(Escape::Set(place, set))
+}
+
+/// What an escape sequence is that has no code, by its bytes behind ESC.
+pub fn escape_of(bytes: &[u8]) -> Option<Escape> {
+    let (first, behind) = bytes.split_first()?;
+    let (_, between) = bytes.split_last()?;
+    if *first == b'$' {
+        return designated_of_several(behind);
     }
+    Some(match place_of(*first) {
+        Some((place, false)) => Escape::Set(place, find(&SETS, behind).unwrap_or("another set")),
+        Some((place, true)) => Escape::Set(
+            place,
+            find(&SETS_OF_96, behind).unwrap_or("another set of 96"),
+        ),
+        None => Escape::Named(find(&NAMES, bytes).or(find(&OTHERS, between))?),
+    })
 }
 
 impl Describe for Esc {
     fn describe<W: fmt::Write>(&self, f: &mut fmt::Formatter<W>) -> fmt::Result {
         match self {
-            Esc::Code(code) => f.write_str(words(code)),
+            Esc::Code(code) => {
+                let words = words_of(&CODES, i64::from(code.to_u16()));
+                f.write_str(words.unwrap_or("unnamed"))
+            }
             Esc::Unspecified {
                 intermediate,
                 control,
@@ -50,13 +95,8 @@ impl Describe for Esc {
                     }
                     None => {}
                 }
-                let last = char::from(*control);
-                write!(f, "{last}")
+                f.write_char(char::from(*control))
             }
         }
     }
-}
-
-fn words(code: &EscCode) -> &'static str {
-    words_of(&CODES, i64::from(code.to_u16())).unwrap_or("unnamed")
 }

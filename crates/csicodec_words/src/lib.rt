@@ -23,7 +23,6 @@ mod device;
 mod escape_rows;
 mod escapes;
 mod input;
-mod intermediates;
 mod key_words;
 mod keys;
 mod list;
@@ -31,8 +30,6 @@ mod mode;
 mod mode_words;
 mod mouse;
 mod numbered;
-mod other_sets;
-mod otherwise;
 mod reading;
 mod sent_rows;
 mod sequence_rows;
@@ -53,13 +50,7 @@ use std::fmt;
 
 impl Describe for CSI {
     fn describe<W: fmt::Write>(&self, f: &mut fmt::Formatter<W>) -> fmt::Result {
-        if let CSI::Unspecified(unspecified) = self {
-            return (**unspecified).describe(f);
-        }
-        match words_of_action(self) {
-            Some(said) => said.tell(f),
-            None => Ok(()),
-        }
+        words_of_action(self).tell(f)
     }
 }
 

@@ -2,14 +2,12 @@
 //! it otherwise than the codec, or the codec has no action for it, the words of what terminals make of it.
 
 use crate::describe::Describe;
-use crate::escapes::escape_of;
-use crate::intermediates::escape_of_bytes;
+use crate::escapes::{Escape, escape_of};
 use crate::keys::{key_by_number, key_of};
-use crate::list::{is_regular, marker};
+use crate::list::{intermediate, is_regular, marker};
 use crate::numbered::words_of;
-use crate::other_sets::Escape;
-use crate::otherwise::{Otherwise, read_otherwise};
-use crate::sequences::words;
+use crate::sent_rows::SENT;
+use crate::sequences::{words, words_instead};
 use crate::sgr_words::UNREAD;
 use crate::template::fill;
 use crate::values::Values;
@@ -39,14 +37,27 @@ impl<'a> Describe for Reading<'a> {
                 unknown.describe(f)
             };
         }
-        match read_otherwise(self.params, self.control) {
-            Some(Otherwise::Instead(words)) => fill(f, words, &Values::List(self.params)),
-            Some(Otherwise::Or(also)) => {
-                self.action.describe(f)?;
-                f.write_str(also)
-            }
-            None => self.action.describe(f),
+        // The codec's table is termwiz's.
+        if let Some(words) = words_instead(self.params, self.control) {
+            return fill(f, words, &Values::List(self.params));
         }
+        self.action.describe(f)?;
+        f.write_str(read_also(self.params, self.control).unwrap_or(""))
+    }
+}
+
+/// What terminals make of a list beside the action that the codec reads it as.
+fn read_also(params: &[CsiParam], control: char) -> Option<&'static str> {
+    match (marker(params), intermediate(params), control, params) {
+        (0, 0, 't', [_, _, _, ..]) if Values::List(params).number(0) == Some(5) => {
+            Some(" (or answer: the display's size in pixels)")
+        }
+        // Behind a `;` stands a 0 (ECMA-48, 5.4.2).
+        (0, 0, 'm', [CsiParam::Integer(1..), CsiParam::P(b';')]) => Some(
+            " (and then all attributes off)",
+        ),
+        (0, 0, _, []) => words_of(&SENT, i64::from(u32::from(control))),
+        _ => None,
     }
 }
 
@@ -61,7 +72,11 @@ impl Describe for EscReading {
             control,
         } = self.0
         {
-            if let Some(escape) = escape_of(intermediate.unwrap_or(0), control) {
+            let known = match intermediate {
+                Some(between) => escape_of(&[between, control]),
+                None => escape_of(&[control]),
+            };
+            if let Some(escape) = known {
                 return write!(f, "{escape}");
             }
         }
@@ -74,9 +89,18 @@ impl Describe for EscReading {
 pub struct LongEscReading(Escape);
 
 impl LongEscReading {
-    /// What these bytes are; none where they aren't such a sequence, whole.
+    /// What these bytes are; none where they aren't such a sequence, whole (ECMA-35, 13.2.1).
     pub fn of(bytes: &[u8]) -> Option<LongEscReading> {
-        Some(LongEscReading(escape_of_bytes(bytes)?))
+        let behind = bytes.strip_prefix(b"\x1b".as_slice())?;
+        let (last, between) = behind.split_last()?;
+        let is_whole = between.len() > 1
+            && (0x30..=0x7e).contains(last)
+            && between.iter().all(|byte| (0x20..=0x2f).contains(byte));
+        if !is_whole {
+            return None;
+        }
+        let unknown = Escape::Named("unknown  escape sequence");
+        Some(LongEscReading(escape_of(behind).unwrap_or(unknown)))
     }
 }
 

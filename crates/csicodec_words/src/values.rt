@@ -1,12 +1,14 @@
 //! The numbers that stand in words, and what else is told there.
 
+use crate::describe::Describe;
 use crate::numbered::{Numbered, words_of};
 use crate::sgr::tell_color;
 use crate::template::{counted, fill_hole};
 use crate::told::tell_by_code;
 use bitflags::Flags;
-use csicodec_actions::{DeviceAttribute, DeviceAttributeFlags, MouseButton, XtSmGraphics};
+use csicodec_actions::{DeviceAttribute, MouseButton, XtSmGraphics};
 use csicodec_base::{ColorSpec, CsiParam, Modifiers, OneBased};
+use csicodec_parser::Unspecified;
 use itoa::Buffer;
 use std::fmt;
 
@@ -102,13 +104,14 @@ impl Piece {
     }
 }
 
-/// What is said: words alone, with a number or a colour behind them, or parts and what numbers stand in them.
+/// What is said: words alone, with a number or a colour behind them, or parts and what numbers stand in them; or what no table has.
 #[derive(Clone, Copy)]
 pub(crate) enum Said<'a> {
     Alone(&'static str),
     Number(&'static str, u8),
     Color(&'static str, &'a ColorSpec),
     Parts(&'static [Piece], Values<'a>),
+    Unknown(&'a Unspecified),
 }
 
 impl<'a> Said<'a> {
@@ -130,75 +133,65 @@ impl<'a> Said<'a> {
                 }
                 Ok(())
             }
+            Said::Unknown(unspecified) => unspecified.describe(f),
         }
     }
 }
 
-/// Words with two numbers.
-pub(crate) fn row(words: &'static [Piece], first: i64, second: i64) -> Said<'static> {
-    sized_row(words, Some(first), Some(second))
+/// Those words of a subject's at this place, with what stands in them.
+pub(crate) fn parts_at<'a>(
+    words: &'static [&'static [Piece]],
+    at: usize,
+    values: Values<'a>,
+) -> Said<'a> {
+    Said::Parts(words.get(at).copied().unwrap_or(&[]), values)
 }
 
-/// Words with a count or a place.
-pub(crate) fn count_row(words: &'static [Piece], count: u32) -> Said<'static> {
-    row(words, i64::from(count), 0)
+/// The place of a subject's words, and what stands in them: here two numbers.
+pub(crate) fn row(at: usize, first: i64, second: i64) -> (usize, Values<'static>) {
+    sized_row(at, Some(first), Some(second))
 }
 
-/// Words with two places.
-pub(crate) fn places_row(
-    words: &'static [Piece],
-    first: OneBased,
-    second: OneBased,
-) -> Said<'static> {
+/// The same with a count or a place.
+pub(crate) fn count_row(at: usize, count: u32) -> (usize, Values<'static>) {
+    row(at, i64::from(count), 0)
+}
+
+/// With two places.
+pub(crate) fn places_row(at: usize, first: OneBased, second: OneBased) -> (usize, Values<'static>) {
     let (first, second) = (first.as_one_based(), second.as_one_based());
-    row(words, i64::from(first), i64::from(second))
+    row(at, i64::from(first), i64::from(second))
 }
 
-/// Words with two numbers that may be left out.
+/// With two numbers that may be left out.
 pub(crate) fn sized_row(
-    words: &'static [Piece],
+    at: usize,
     first: Option<i64>,
     second: Option<i64>,
-) -> Said<'static> {
-    Said::Parts(words, Values::Two(first, second))
+) -> (usize, Values<'static>) {
+    (at, Values::Two(first, second))
 }
 
-/// Words with a place, a button by its turn in the type, and the bits of the keys that are held.
+/// With a place, a button by its turn in the type, and the bits of the keys that are held.
 pub(crate) fn report_row(
-    words: &'static [Piece],
+    at: usize,
     x: u16,
     y: u16,
     button: MouseButton,
     modifiers: Modifiers,
-) -> Said<'static> {
+) -> (usize, Values<'static>) {
     let (x, y) = (i64::from(x), i64::from(y));
     let held = i64::from(modifiers.bits());
-    Said::Parts(words, Values::Six([x, y, button as i64, held, 0, 0]))
+    (at, Values::Six([x, y, button as i64, held, 0, 0]))
 }
 
-/// Words with two numbers, and the sides of an area.
+/// With two numbers, and the sides of an area.
 pub(crate) fn area_row(
-    words: &'static [Piece],
+    at: usize,
     first: i64,
     second: i64,
     sides: [OneBased; 4],
-) -> Said<'static> {
+) -> (usize, Values<'static>) {
     let [top, left, bottom, right] = sides.map(|side| i64::from(side.as_one_based()));
-    Said::Parts(
-        words,
-        Values::Six([first, second, top, left, bottom, right]),
-    )
-}
-
-/// Words with what a terminal can do.
-pub(crate) fn extensions_row<'a>(
-    words: &'static [Piece],
-    flags: &'a DeviceAttributeFlags,
-) -> Said<'a> {
-    Said::Parts(words, Values::Extensions(&flags.attributes))
-}
-
-/// Words with what is asked or answered of graphics.
-pub(crate) fn graphics_row<'a>(words: &'static [Piece], graphics: &'a XtSmGraphics) -> Said<'a> {
-    Said::Parts(words, Values::Graphics(graphics))
+    (at, Values::Six([first, second, top, left, bottom, right]))
 }

@@ -1,7 +1,6 @@
 """Which files follow from the actions, from the values that they have, and from the other tables: whole files of csicodec_structs, of csicodec_words, of csicodec_explain, of include/, of c/,
 of python/, of web/ and of rust/ (FILES), in which nothing else stands, and the numbers of new names in include/numbers.txt. A number that was given
 isn't changed."""
-import functools
 import os
 import subprocess
 import sys
@@ -20,8 +19,7 @@ from bindings.rust import rust_known, rust_rows, rust_types
 from bindings.said import rust_keys, rust_osc
 from bindings.source import candidates, rows
 from bindings.specs import named, ranges, specs
-from bindings.words import WORDED, subject_words, words
-from layout import low
+from bindings.words import words
 
 HEADER = "include/csicodec_kinds.h"
 FILES = {
@@ -32,7 +30,6 @@ FILES = {
     "crates/csicodec_structs/src/rows.rt": rows,
     "crates/csicodec_structs/src/candidates.rt": candidates,
     "crates/csicodec_words/src/action_words.rt": words,
-    **{f"crates/csicodec_words/src/action_words/{low(group)}.rt": functools.partial(subject_words, group) for group in WORDED},
     "crates/csicodec_explain/src/patterns.rt": patterns,
     "crates/csicodec_explain/src/digits.rt": digits,
     HEADER: header,

@@ -1,5 +1,5 @@
-"""The sources of csicodec_words that have a line for each kind, a file for each subject: the words of an action with holes, and what these stand for."""
-from bindings.library import BY_NUMBER, IN_TURN, SUBJECTS, low, number_of, of, type_of, used
+"""The source of csicodec_words that has a line for each kind: the words of an action with holes, and what these stand for."""
+from bindings.library import BY_NUMBER, IN_TURN, SUBJECTS, low, number_of, of, type_of
 from bindings.source import source_name, struct_arm
 from forms import LARGEST, Form, Slot
 from layout import packed, string
@@ -13,31 +13,37 @@ OWN = {
     "enum": lambda names: number_of(names[0])[1],
     "keys": "i64::from(resource.number())",
     "state": "i64::from(mode.number())",
-    "extensions": "extensions_row({}, flags)",
-    "graphics": "graphics_row({}, graphics)",
+    "extensions": "({}, Values::Extensions(&flags.attributes))",
+    "graphics": "({}, Values::Graphics(graphics))",
 }
-# What the words of actions need of csicodec_words.
-VALUES = ("Piece", "Said", "area_row", "count_row", "extensions_row", "graphics_row", "places_row", "report_row", "row", "sized_row")
 # The subjects with words here; those of SGR are of table/sgr.toml.
 WORDED = [group for group in BY_NUMBER if group != "Sgr"]
 # What holes are called in the words of forms that have no fields, each with its type.
 SLOTS = {"unit": [], "count": ["n"], "place": ["n"], "int": ["n"], "bits": ["flags"], "extensions": ["attributes"], "graphics": ["action", "item", "values"]}
 
 TEXT = """\
-//! Actions in words, a file for each subject.
+//! Actions in words.
 
-{mods}use crate::sgr_words::words_of_attribute;
-use crate::values::{{Piece, Said, row}};
+use crate::sgr_words::words_of_attribute;
+use crate::values::{{
+    Piece, Said, Values, area_row, count_row, parts_at, places_row, report_row, row, sized_row,
+}};
+use bitflags::Flags;
+use csicodec_actions::{{{types}}};
 use csicodec_parser::CSI;
-{uses}
-/// The words of an action; none of one that no rule reads.
-pub(crate) fn words_of_action(action: &CSI) -> Option<Said<'_>> {{
-    Some(match action {{
-{arms}        CSI::SelectCharacterPath(path, effect) => row(PATH, i64::from(path.number()), *effect),
-        CSI::Unspecified(_) => return None,
-    }})
+
+/// The words of an action.
+pub(crate) fn words_of_action(action: &CSI) -> Said<'_> {{
+    match action {{
+{arms}        CSI::SelectCharacterPath(path, effect) =>
+            whole! {{ Said::Parts(PATH_PARTS, Values::Two(Some(i64::from(path.number())), Some(*effect))) }},
+        CSI::Unspecified(unspecified) => Said::Unknown(unspecified),
+    }}
 }}
-"""
+
+static PATH_PARTS: &[Piece] = {path};
+
+{subjects}"""
 
 
 def words_of(name):
@@ -67,9 +73,9 @@ def arm(kind, action, lists, parts):
     name, tail = source_name(group, variant)
     words = filled(f"{action.row.get('shown', action.row['name'])}  {action.row['words']}", slots(action), lists)
     if form == "unit":
-        return f"{name}{tail} => Said::Alone({string(words)}),\n"
+        return f"{name}{tail} => return Said::Alone({string(words)}),\n"
     parts.append(f"    {pieces(words)},\n")
-    at, fields = f"WORDS[{len(parts) - 1}]", list(action.row.get("fields", []))
+    at, fields = len(parts) - 1, list(action.row.get("fields", []))
     if form == "area":
         first, second, *sides = fields
         return f"{name} {{ {', '.join(fields)} }} => area_row({at}, *{first}, *{second}, [{', '.join('*' + side for side in sides)}]),\n"
@@ -85,12 +91,6 @@ def in_line(arm):
     return arm if fits else f"{pattern} => whole! {{ {answer} }},\n"
 
 
-def whole(about, body, *needs):
-    """A file, with the imports that its body needs: those of this crate, and of others."""
-    lines = [f"use {path}::{{{used(names, body)}}};" for path, names in needs] + ["use bitflags::Flags;"] * (".bits()" in body)
-    return first_line("actions.toml") + f"//! {about}\n\n" + "\n".join(lines) + "\n\n" + body
-
-
 def extensions():
     """The words of what a terminal says that it can do."""
     codes = rows_of("values.toml")["DeviceAttributeCodes"]
@@ -99,20 +99,19 @@ def extensions():
 
 
 def subject_words(group):
-    """The file of a subject: the words of its actions."""
-    subject, said, kind = SUBJECTS[group], low(group), type_of(group)
-    parts = []
+    """The words of a subject's actions, and their parts."""
+    subject, said, parts = SUBJECTS[group], low(group), []
     arms = [in_line(arm(kind, action, subject.row.get("lists", {}), parts)) for kind, action in zip(of(group), subject.actions)]
-    body = f"/// The words of an action.\npub(crate) fn {said}_words({said}: &{kind}) -> Said<'_> {{\n    match {said} {{\n{''.join(arms)}    }}\n}}\n"
-    body += f"\nstatic WORDS: [&[Piece]; {len(parts)}] = [\n{''.join(parts)}];\n" + ("\n" + extensions() if group == "Device" else "")
-    return whole(f"Actions of {kind} in words.", body, ("crate::values", VALUES), ("csicodec_actions", [kind, "DeviceAttributes"]))
+    head = f"fn {said}_words({said}: &{type_of(group)}) -> Said<'_> {{\n    let (at, values) = match {said} {{\n"
+    function = f"{head}{''.join(arms)}    }};\n    parts_at(&{said.upper()}_PARTS, at, values)\n}}\n"
+    return f"{function}\nstatic {said.upper()}_PARTS: [&[Piece]; {len(parts)}] = [\n{''.join(parts)}];\n"
 
 
 def words():
-    """The file that knows the subjects, and the one action that CSI has beside them."""
-    mods = "".join(f"{'pub(crate) ' * (group == 'Device')}mod {low(group)};\n" for group in sorted(WORDED)) + "\n"
-    uses = "".join(f"use {low(group)}::{low(group)}_words;\n" for group in sorted(WORDED))
+    """The file."""
     path = next(variant for variant in rows_of("values.toml")["CSI"]["variants"].items() if variant[0] == "SelectCharacterPath")[1]
     said = filled(path["words"], {"path": "CharacterPath", "effect": ""}, {})
     arms = "".join(f"        CSI::{group}({low(group)}) => {'words_of_attribute' if group == 'Sgr' else low(group) + '_words'}({low(group)}),\n" for group in IN_TURN)
-    return first_line("actions.toml") + TEXT.format(mods=mods, uses=uses, arms=arms) + f"\nstatic PATH: &[Piece] = {pieces(said)};\n"
+    types = ", ".join(sorted({type_of(group) for group in WORDED} | {"DeviceAttributes"}))
+    subjects = "\n".join([*map(subject_words, WORDED), extensions()])
+    return first_line("actions.toml") + TEXT.format(types=types, arms=arms, path=pieces(said), subjects=subjects)

@@ -13,7 +13,7 @@ use std::fmt;
 pub const GONE: u8 = 141;
 
 /// What stands where a stream is plain text no more.
-#[derive(Clone, Copy, Debug, PartialEq, Eq)]
+#[derive(Clone, Copy)]
 pub enum Found {
     /// ESC and `[`.
     Sequence,

@@ -57,13 +57,8 @@ fn no_memory(_: AllocError) -> Failure
 
 /// The first line with its end, and what is behind it.
 pub fn line_front(bytes: &[u8]) -> (&[u8], &[u8]) {
-    let mut len = 0usize;
-    for byte in bytes {
-        len = len.saturating_add(1);
-        if *byte == b'\n' {
-            break;
-        }
-    }
+    let end = bytes.iter().position(|byte| *byte == b'\n');
+    let len = end.unwrap_or(bytes.len()).saturating_add(1);
     bytes.split_at_checked(len).unwrap_or((bytes, &[]))
 }
 

@@ -22,7 +22,7 @@ use std::io::{self, BufRead, BufReader, ErrorKind, IsTerminal, Read, Stdin, Writ
 const INPUT: &str = "-";
 
 /// Which inputs are recordings of asciinema.
-#[derive(Clone, Copy, PartialEq, Eq)]
+#[derive(Clone, Copy)]
 pub enum Recordings {
     /// None, whatever the input has.
     Never,

@@ -9,6 +9,7 @@ use Rattle.csicodec_names.specs.{Numbered.with_number, declared.modes.DecPrivate
 use Rattle.csicodec_actions.specs.{declared.mode.DecPrivateMode.DecPrivateMode, declared.mode.TerminalMode.TerminalMode, Kinds.Dec, Kinds.Terminal}
 use Rattle.csicodec_actions.specs.{Kinds.code_or, Kinds.read, Kinds.short, Modes.dec_number, Modes.terminal_number}
 use Rattle.csicodec_structs.specs.{Private.Candidates.Reads, Private.Candidates.ReadsNamed, Values.IsNamedDec, Values.IsNamedTerminal}
+use Rattle.csicodec_actions.proofs.Values.{dec-numbered, read-good, terminal-numbered}
 use Rattle.csicodec_structs.proofs.OneValue.{none-has}
 use Rattle.csicodec_actions.specs.declared.mode.DecPrivateMode.TheVariants as dec
 use Rattle.csicodec_actions.specs.declared.mode.TerminalMode.TheVariants as terminal
@@ -40,14 +41,41 @@ dec-fits c = omega (arith, small dec_mode_number dec_codes decs 65535 (search ar
 pub terminal-fits : (c : TerminalModeCode) → terminal_mode_number c < 65536
 terminal-fits c = omega (arith, small terminal_mode_number terminal_codes terminals 65535 (search arith) c)
 
-pub dec_reads : (z : ℤ) (o : Option DecPrivateMode) → SFits w64 z → o ≡ read Dec (to_z w64 (of_z w64 z)) → ReadsNamed dec_number IsNamedDec (FitsUnsignedBits 16) z o
+dec-reads : (z : ℤ) → ReadsNamed dec_number IsNamedDec (FitsUnsignedBits 16) z (read Dec z)
 unfolding read
-dec_reads z o fits is =
-    rw (is, to_z-of_z w64 z fits) (code-reads dec_mode_number dec_codes decs (λ c. dec.Code c) (λ n. dec.Unspecified n) dec_number IsNamedDec z (λ c. refl) (λ n. refl) dec-fits (λ c. tt) (λ n h. h))
+dec-reads z = code-reads dec_mode_number dec_codes decs (λ c. dec.Code c) (λ n. dec.Unspecified n) dec_number IsNamedDec z (λ c. refl) (λ n. refl) dec-fits (λ c. tt) (λ n h. h)
+
+terminal-reads : (z : ℤ) → ReadsNamed terminal_number IsNamedTerminal (FitsUnsignedBits 16) z (read Terminal z)
+unfolding read
+terminal-reads z =
+    code-reads terminal_mode_number terminal_codes terminals (λ c. terminal.Code c) (λ n. terminal.Unspecified n) terminal_number IsNamedTerminal z
+    (λ c. refl) (λ n. refl) terminal-fits (λ c. tt) (λ n h. h)
+
+-- so of a number as it is passed
+pub dec_reads : (z : ℤ) (o : Option DecPrivateMode) → SFits w64 z → o ≡ read Dec (to_z w64 (of_z w64 z)) → ReadsNamed dec_number IsNamedDec (FitsUnsignedBits 16) z o
+dec_reads z o fits is = rw (is, to_z-of_z w64 z fits) (dec-reads z)
 
 pub terminal_reads : (z : ℤ) (o : Option TerminalMode) → SFits w64 z → o ≡ read Terminal (to_z w64 (of_z w64 z)) → ReadsNamed terminal_number IsNamedTerminal (FitsUnsignedBits 16) z o
-unfolding read
-terminal_reads z o fits is =
-    rw (is, to_z-of_z w64 z fits)
-    (code-reads terminal_mode_number terminal_codes terminals (λ c. terminal.Code c) (λ n. terminal.Unspecified n) terminal_number IsNamedTerminal z
-    (λ c. refl) (λ n. refl) terminal-fits (λ c. tt) (λ n h. h))
+terminal_reads z o fits is = rw (is, to_z-of_z w64 z fits) (terminal-reads z)
+
+-- a mode by its name is read back from its number
+pub dec-back : (m : DecPrivateMode) → IsNamedDec m → dec_number m < 65536 → read Dec (pos (dec_number m)) ≡ Some m
+dec-back (dec.Code c) h low = read-good Dec (dec.Code c) tt
+dec-back (dec.Unspecified n) h low = read-good Dec (dec.Unspecified n) (record { fits = low; own = h })
+
+pub terminal-back : (m : TerminalMode) → IsNamedTerminal m → terminal_number m < 65536 → read Terminal (pos (terminal_number m)) ≡ Some m
+terminal-back (terminal.Code c) h low = read-good Terminal (terminal.Code c) tt
+terminal-back (terminal.Unspecified n) h low = read-good Terminal (terminal.Unspecified n) (record { fits = low; own = h })
+
+-- any mode has its like by its name
+pub dec-named : (m : DecPrivateMode) → dec_number m < 65536 → (one : DecPrivateMode) × IsNamedDec one × (dec_number one ≡ dec_number m)
+dec-named m low =
+    let (one, found, is) = dec-numbered (dec_number m) low in
+    let reads = rw found at (dec-reads (pos (dec_number m))) in
+    (one, reads.2, is)
+
+pub terminal-named : (m : TerminalMode) → terminal_number m < 65536 → (one : TerminalMode) × IsNamedTerminal one × (terminal_number one ≡ terminal_number m)
+terminal-named m low =
+    let (one, found, is) = terminal-numbered (terminal_number m) low in
+    let reads = rw found at (terminal-reads (pos (terminal_number m))) in
+    (one, reads.2, is)

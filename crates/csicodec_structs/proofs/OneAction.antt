@@ -15,9 +15,6 @@ use Rattle.csicodec_names.specs.declared.color.Underline.{Underline}
 use Rattle.csicodec_names.specs.declared.color.Underline.TheVariants as underline
 use Rattle.csicodec_names.specs.declared.color.VerticalAlign.{VerticalAlign}
 use Rattle.csicodec_names.specs.declared.color.VerticalAlign.TheVariants as vertical_align
-use Rattle.csicodec_names.specs.EnumNumbers.{cursor_style_number, cursor_styles, erase_in_display_number, erase_in_line_number, erases_in_display}
-use Rattle.csicodec_names.specs.EnumNumbers.{erases_in_line, tabulation_clear_number, tabulation_clears, tabulation_control_number, tabulation_controls}
-use Rattle.csicodec_names.proofs.Coded.{clears, controls, displays, lines, styles}
 use Rattle.csicodec_base.specs.declared.sgr.Sgr.TheVariants as sgr
 use Rattle.csicodec_actions.specs.declared.cursor.Cursor.TheVariants as cursor
 use Rattle.csicodec_actions.specs.declared.edit.Edit.TheVariants as edit
@@ -28,18 +25,18 @@ use Rattle.csicodec_actions.specs.declared.window.Window.TheVariants as window
 use Rattle.csicodec_actions.specs.declared.keyboard.Keyboard.TheVariants as keyboard
 use Rattle.csicodec_actions.specs.Actions.{Action}
 use Rattle.csicodec_actions.specs.Actions as action
-use Rattle.csicodec_actions.proofs.Values.{keys, tracks, ways}
+use Rattle.csicodec_actions.proofs.Values.{read-good}
 use Rattle.csicodec_actions.specs.XtSmGraphics.{item_number, item_of}
-use Rattle.csicodec_actions.specs.Kinds.{kitty_mode_number, kitty_modes, path_number, paths}
-use Rattle.csicodec_actions.specs.Modes.{dec_number, resource_number, resources, terminal_number}
+use Rattle.csicodec_actions.specs.Kinds.{Clear, Control, Dec, InDisplay, InLine, Path, Resource, Style, Terminal, Way, read}
 use Rattle.csicodec_structs.specs.declared.structs.Param.{Param}
 use Rattle.csicodec_structs.specs.declared.structs.Struct.{Struct}
 use Rattle.csicodec_structs.specs.Named.{IsNamed}
 use Rattle.csicodec_structs.specs.Structs.{align_number, blink_number, button_number, intensity_number, underline_number}
 use Rattle.csicodec_structs.specs.Ranges.{InRange}
 use Rattle.csicodec_structs.specs.Rows.{params_of, struct_of}
-use Rattle.csicodec_structs.proofs.OneValue.{ByName, attribute_at, attributes-back, attributes-named, color_at, dec-back, dec-named, dec_at, first_at, flag-back, flag_at}
-use Rattle.csicodec_structs.proofs.OneValue.{font-back, font_at, item-back, item-named, second_at, terminal-back, terminal-named, terminal_at, token_at, tokens-back, value_at, values-back}
+use Rattle.csicodec_structs.proofs.ModeNumbers.{dec-back, dec-named, terminal-back, terminal-named}
+use Rattle.csicodec_structs.proofs.OneValue.{ByName, attribute_at, attributes-back, attributes-named, color_at, first_at, flag-back, flag_at}
+use Rattle.csicodec_structs.proofs.OneValue.{font-back, font_at, item-back, item-named, second_at, token_at, tokens-back, value_at, values-back}
 
 abbrev blink_all : List Blink
 blink_all = blink.None ∷ blink.Slow ∷ blink.Rapid ∷ []
@@ -117,14 +114,14 @@ action_at given params =
     if given.kind == 117 then Some (action.Cursor (cursor.LinePositionAbsolute (nat_abs given.first))) else
     if given.kind == 118 then Some (action.Cursor (cursor.LinePositionForward (nat_abs given.first))) else
     if given.kind == 119 then Some (action.Cursor (cursor.LinePositionBackward (nat_abs given.first))) else
-    if given.kind == 120 then option_map (λ v. action.Cursor (cursor.TabulationControl v)) (with_number tabulation_control_number tabulation_controls given.first) else
-    if given.kind == 121 then option_map (λ v. action.Cursor (cursor.TabulationClear v)) (with_number tabulation_clear_number tabulation_clears given.first) else
+    if given.kind == 120 then option_map (λ v. action.Cursor (cursor.TabulationControl v)) (read Control given.first) else
+    if given.kind == 121 then option_map (λ v. action.Cursor (cursor.TabulationClear v)) (read Clear given.first) else
     if given.kind == 122 then Some (action.Cursor (cursor.SetTopAndBottomMargins (nat_abs given.first) (nat_abs given.second))) else
     if given.kind == 123 then Some (action.Cursor (cursor.SetLeftAndRightMargins (nat_abs given.first) (nat_abs given.second))) else
     if given.kind == 124 then Some (action.Cursor cursor.SaveCursor) else
     if given.kind == 125 then Some (action.Cursor cursor.RestoreCursor) else
     if given.kind == 126 then Some (action.Cursor cursor.RequestActivePositionReport) else
-    if given.kind == 127 then option_map (λ v. action.Cursor (cursor.CursorStyle v)) (with_number cursor_style_number cursor_styles given.first) else
+    if given.kind == 127 then option_map (λ v. action.Cursor (cursor.CursorStyle v)) (read Style given.first) else
     if given.kind == 201 then Some (action.Edit (edit.InsertCharacter (nat_abs given.first))) else
     if given.kind == 202 then Some (action.Edit (edit.InsertLine (nat_abs given.first))) else
     if given.kind == 203 then Some (action.Edit (edit.DeleteCharacter (nat_abs given.first))) else
@@ -133,17 +130,17 @@ action_at given params =
     if given.kind == 206 then Some (action.Edit (edit.ScrollUp (nat_abs given.first))) else
     if given.kind == 207 then Some (action.Edit (edit.ScrollDown (nat_abs given.first))) else
     if given.kind == 208 then Some (action.Edit (edit.Repeat (nat_abs given.first))) else
-    if given.kind == 209 then option_map (λ v. action.Edit (edit.EraseInDisplay v)) (with_number erase_in_display_number erases_in_display given.first) else
-    if given.kind == 210 then option_map (λ v. action.Edit (edit.EraseInLine v)) (with_number erase_in_line_number erases_in_line given.first) else
-    if given.kind == 301 then Some (action.Mode (mode.SetDecPrivateMode (dec_at given.first))) else
-    if given.kind == 302 then Some (action.Mode (mode.ResetDecPrivateMode (dec_at given.first))) else
-    if given.kind == 303 then Some (action.Mode (mode.SaveDecPrivateMode (dec_at given.first))) else
-    if given.kind == 304 then Some (action.Mode (mode.RestoreDecPrivateMode (dec_at given.first))) else
-    if given.kind == 305 then Some (action.Mode (mode.QueryDecPrivateMode (dec_at given.first))) else
-    if given.kind == 306 then Some (action.Mode (mode.SetMode (terminal_at given.first))) else
-    if given.kind == 307 then Some (action.Mode (mode.ResetMode (terminal_at given.first))) else
-    if given.kind == 308 then Some (action.Mode (mode.QueryMode (terminal_at given.first))) else
-    if given.kind == 309 then option_map (λ v. action.Mode (mode.XtermKeyMode v (second_at given))) (with_number resource_number resources given.first) else
+    if given.kind == 209 then option_map (λ v. action.Edit (edit.EraseInDisplay v)) (read InDisplay given.first) else
+    if given.kind == 210 then option_map (λ v. action.Edit (edit.EraseInLine v)) (read InLine given.first) else
+    if given.kind == 301 then option_map (λ v. action.Mode (mode.SetDecPrivateMode v)) (read Dec given.first) else
+    if given.kind == 302 then option_map (λ v. action.Mode (mode.ResetDecPrivateMode v)) (read Dec given.first) else
+    if given.kind == 303 then option_map (λ v. action.Mode (mode.SaveDecPrivateMode v)) (read Dec given.first) else
+    if given.kind == 304 then option_map (λ v. action.Mode (mode.RestoreDecPrivateMode v)) (read Dec given.first) else
+    if given.kind == 305 then option_map (λ v. action.Mode (mode.QueryDecPrivateMode v)) (read Dec given.first) else
+    if given.kind == 306 then option_map (λ v. action.Mode (mode.SetMode v)) (read Terminal given.first) else
+    if given.kind == 307 then option_map (λ v. action.Mode (mode.ResetMode v)) (read Terminal given.first) else
+    if given.kind == 308 then option_map (λ v. action.Mode (mode.QueryMode v)) (read Terminal given.first) else
+    if given.kind == 309 then option_map (λ v. action.Mode (mode.XtermKeyMode v (second_at given))) (read Resource given.first) else
     if given.kind == 401 then Some (action.Device (device.DeviceAttributes device.Vt100WithAdvancedVideoOption)) else
     if given.kind == 402 then Some (action.Device (device.DeviceAttributes device.Vt101WithNoOptions)) else
     if given.kind == 403 then Some (action.Device (device.DeviceAttributes device.Vt102)) else
@@ -196,12 +193,12 @@ action_at given params =
     if given.kind == 632 then Some (action.Window window.PopIconTitle) else
     if given.kind == 633 then Some (action.Window window.PopWindowTitle) else
     if given.kind == 634 then Some (action.Window (window.ChecksumRectangularArea given.first given.second given.top given.left given.bottom given.right)) else
-    if given.kind == 701 then option_map (λ v. action.Keyboard (keyboard.SetKittyState (record { bits = (nat_abs given.first) }) v)) (with_number kitty_mode_number kitty_modes given.second) else
-    if given.kind == 702 then option_map (λ v. action.Keyboard (keyboard.PushKittyState (record { bits = (nat_abs given.first) }) v)) (with_number kitty_mode_number kitty_modes given.second) else
+    if given.kind == 701 then option_map (λ v. action.Keyboard (keyboard.SetKittyState (record { bits = (nat_abs given.first) }) v)) (read Way given.second) else
+    if given.kind == 702 then option_map (λ v. action.Keyboard (keyboard.PushKittyState (record { bits = (nat_abs given.first) }) v)) (read Way given.second) else
     if given.kind == 703 then Some (action.Keyboard (keyboard.PopKittyState (nat_abs given.first))) else
     if given.kind == 704 then Some (action.Keyboard keyboard.QueryKittySupport) else
     if given.kind == 705 then Some (action.Keyboard (keyboard.ReportKittyState (record { bits = (nat_abs given.first) }))) else
-    if given.kind == 801 then option_map (λ v. action.SelectCharacterPath v given.second) (with_number path_number paths given.first) else
+    if given.kind == 801 then option_map (λ v. action.SelectCharacterPath v given.second) (read Path given.first) else
     None
 
 action-back : (place : ℕ) (a : Action) → InRange a → IsNamed a → action_at (struct_of place a) (params_of a) ≡ Some a
@@ -219,21 +216,21 @@ action-back place (action.Sgr (sgr.Foreground color.Default)) range named = refl
 action-back place (action.Sgr (sgr.Background color.Default)) range named = refl
 action-back place (action.Sgr (sgr.Overline v)) range named = ap (λ v. Some (action.Sgr (sgr.Overline v))) (flag-back v)
 action-back place (action.Sgr (sgr.VerticalAlign v)) range named = ap (option_map (λ v. action.Sgr (sgr.VerticalAlign v))) (vertical_align-found v)
-action-back place (action.Cursor (cursor.TabulationControl v)) range named = ap (option_map (λ v. action.Cursor (cursor.TabulationControl v))) (controls.each v)
-action-back place (action.Cursor (cursor.TabulationClear v)) range named = ap (option_map (λ v. action.Cursor (cursor.TabulationClear v))) (clears.each v)
-action-back place (action.Cursor (cursor.CursorStyle v)) range named = ap (option_map (λ v. action.Cursor (cursor.CursorStyle v))) (styles.each v)
-action-back place (action.Edit (edit.EraseInDisplay v)) range named = ap (option_map (λ v. action.Edit (edit.EraseInDisplay v))) (displays.each v)
-action-back place (action.Edit (edit.EraseInLine v)) range named = ap (option_map (λ v. action.Edit (edit.EraseInLine v))) (lines.each v)
-action-back place (action.Mode (mode.SetDecPrivateMode v)) range named = ap (λ v. Some (action.Mode (mode.SetDecPrivateMode v))) (dec-back v named)
-action-back place (action.Mode (mode.ResetDecPrivateMode v)) range named = ap (λ v. Some (action.Mode (mode.ResetDecPrivateMode v))) (dec-back v named)
-action-back place (action.Mode (mode.SaveDecPrivateMode v)) range named = ap (λ v. Some (action.Mode (mode.SaveDecPrivateMode v))) (dec-back v named)
-action-back place (action.Mode (mode.RestoreDecPrivateMode v)) range named = ap (λ v. Some (action.Mode (mode.RestoreDecPrivateMode v))) (dec-back v named)
-action-back place (action.Mode (mode.QueryDecPrivateMode v)) range named = ap (λ v. Some (action.Mode (mode.QueryDecPrivateMode v))) (dec-back v named)
-action-back place (action.Mode (mode.SetMode v)) range named = ap (λ v. Some (action.Mode (mode.SetMode v))) (terminal-back v named)
-action-back place (action.Mode (mode.ResetMode v)) range named = ap (λ v. Some (action.Mode (mode.ResetMode v))) (terminal-back v named)
-action-back place (action.Mode (mode.QueryMode v)) range named = ap (λ v. Some (action.Mode (mode.QueryMode v))) (terminal-back v named)
-action-back place (action.Mode (mode.XtermKeyMode v None)) range named = ap (option_map (λ v. action.Mode (mode.XtermKeyMode v None))) (keys.each v)
-action-back place (action.Mode (mode.XtermKeyMode v (Some z))) range named = ap (option_map (λ v. action.Mode (mode.XtermKeyMode v (Some z)))) (keys.each v)
+action-back place (action.Cursor (cursor.TabulationControl v)) range named = ap (option_map (λ v. action.Cursor (cursor.TabulationControl v))) (read-good Control v tt)
+action-back place (action.Cursor (cursor.TabulationClear v)) range named = ap (option_map (λ v. action.Cursor (cursor.TabulationClear v))) (read-good Clear v tt)
+action-back place (action.Cursor (cursor.CursorStyle v)) range named = ap (option_map (λ v. action.Cursor (cursor.CursorStyle v))) (read-good Style v tt)
+action-back place (action.Edit (edit.EraseInDisplay v)) range named = ap (option_map (λ v. action.Edit (edit.EraseInDisplay v))) (read-good InDisplay v tt)
+action-back place (action.Edit (edit.EraseInLine v)) range named = ap (option_map (λ v. action.Edit (edit.EraseInLine v))) (read-good InLine v tt)
+action-back place (action.Mode (mode.SetDecPrivateMode v)) range named = ap (option_map (λ v. action.Mode (mode.SetDecPrivateMode v))) (dec-back v named range)
+action-back place (action.Mode (mode.ResetDecPrivateMode v)) range named = ap (option_map (λ v. action.Mode (mode.ResetDecPrivateMode v))) (dec-back v named range)
+action-back place (action.Mode (mode.SaveDecPrivateMode v)) range named = ap (option_map (λ v. action.Mode (mode.SaveDecPrivateMode v))) (dec-back v named range)
+action-back place (action.Mode (mode.RestoreDecPrivateMode v)) range named = ap (option_map (λ v. action.Mode (mode.RestoreDecPrivateMode v))) (dec-back v named range)
+action-back place (action.Mode (mode.QueryDecPrivateMode v)) range named = ap (option_map (λ v. action.Mode (mode.QueryDecPrivateMode v))) (dec-back v named range)
+action-back place (action.Mode (mode.SetMode v)) range named = ap (option_map (λ v. action.Mode (mode.SetMode v))) (terminal-back v named range)
+action-back place (action.Mode (mode.ResetMode v)) range named = ap (option_map (λ v. action.Mode (mode.ResetMode v))) (terminal-back v named range)
+action-back place (action.Mode (mode.QueryMode v)) range named = ap (option_map (λ v. action.Mode (mode.QueryMode v))) (terminal-back v named range)
+action-back place (action.Mode (mode.XtermKeyMode v None)) range named = ap (option_map (λ v. action.Mode (mode.XtermKeyMode v None))) (read-good Resource v tt)
+action-back place (action.Mode (mode.XtermKeyMode v (Some z))) range named = ap (option_map (λ v. action.Mode (mode.XtermKeyMode v (Some z)))) (read-good Resource v tt)
 action-back place (action.Device (device.DeviceAttributes (device.Vt220 list))) range named = ap (λ v. Some (action.Device (device.DeviceAttributes (device.Vt220 v)))) (attributes-back list named)
 action-back place (action.Device (device.DeviceAttributes (device.Vt320 list))) range named = ap (λ v. Some (action.Device (device.DeviceAttributes (device.Vt320 v)))) (attributes-back list named)
 action-back place (action.Device (device.DeviceAttributes (device.Vt420 list))) range named = ap (λ v. Some (action.Device (device.DeviceAttributes (device.Vt420 v)))) (attributes-back list named)
@@ -246,9 +243,9 @@ action-back place (action.Window (window.ReportCellSizePixelsResponse None None)
 action-back place (action.Window (window.ReportCellSizePixelsResponse (Some a) None)) range named = refl
 action-back place (action.Window (window.ResizeWindowCells None None)) range named = refl
 action-back place (action.Window (window.ResizeWindowCells (Some a) None)) range named = refl
-action-back place (action.Keyboard (keyboard.SetKittyState flags v)) range named = ap (option_map (λ v. action.Keyboard (keyboard.SetKittyState flags v))) (ways.each v)
-action-back place (action.Keyboard (keyboard.PushKittyState flags v)) range named = ap (option_map (λ v. action.Keyboard (keyboard.PushKittyState flags v))) (ways.each v)
-action-back place (action.SelectCharacterPath v effect) range named = ap (option_map (λ v. action.SelectCharacterPath v effect)) (tracks.each v)
+action-back place (action.Keyboard (keyboard.SetKittyState flags v)) range named = ap (option_map (λ v. action.Keyboard (keyboard.SetKittyState flags v))) (read-good Way v tt)
+action-back place (action.Keyboard (keyboard.PushKittyState flags v)) range named = ap (option_map (λ v. action.Keyboard (keyboard.PushKittyState flags v))) (read-good Way v tt)
+action-back place (action.SelectCharacterPath v effect) range named = ap (option_map (λ v. action.SelectCharacterPath v effect)) (read-good Path v tt)
 action-back place (action.Unspecified params flag final) range named = rw (tokens-back params, named) refl
 action-back place other range named = refl
 
@@ -263,21 +260,21 @@ like one in_range named given params = record { one = one; in_range = in_range; 
 
 pub action-named : (place : ℕ) (a : Action) → InRange a → ByName place a
 action-named place (action.Mode (mode.SetDecPrivateMode v)) range =
-    let h = dec-named v in like (action.Mode (mode.SetDecPrivateMode (dec_at (pos (dec_number v))))) (rw h.1 range) h.0 (rw h.1) refl
+    let h = dec-named v range in like (action.Mode (mode.SetDecPrivateMode h.0)) (rw h.2 range) h.1 (rw h.2) refl
 action-named place (action.Mode (mode.ResetDecPrivateMode v)) range =
-    let h = dec-named v in like (action.Mode (mode.ResetDecPrivateMode (dec_at (pos (dec_number v))))) (rw h.1 range) h.0 (rw h.1) refl
+    let h = dec-named v range in like (action.Mode (mode.ResetDecPrivateMode h.0)) (rw h.2 range) h.1 (rw h.2) refl
 action-named place (action.Mode (mode.SaveDecPrivateMode v)) range =
-    let h = dec-named v in like (action.Mode (mode.SaveDecPrivateMode (dec_at (pos (dec_number v))))) (rw h.1 range) h.0 (rw h.1) refl
+    let h = dec-named v range in like (action.Mode (mode.SaveDecPrivateMode h.0)) (rw h.2 range) h.1 (rw h.2) refl
 action-named place (action.Mode (mode.RestoreDecPrivateMode v)) range =
-    let h = dec-named v in like (action.Mode (mode.RestoreDecPrivateMode (dec_at (pos (dec_number v))))) (rw h.1 range) h.0 (rw h.1) refl
+    let h = dec-named v range in like (action.Mode (mode.RestoreDecPrivateMode h.0)) (rw h.2 range) h.1 (rw h.2) refl
 action-named place (action.Mode (mode.QueryDecPrivateMode v)) range =
-    let h = dec-named v in like (action.Mode (mode.QueryDecPrivateMode (dec_at (pos (dec_number v))))) (rw h.1 range) h.0 (rw h.1) refl
+    let h = dec-named v range in like (action.Mode (mode.QueryDecPrivateMode h.0)) (rw h.2 range) h.1 (rw h.2) refl
 action-named place (action.Mode (mode.SetMode v)) range =
-    let h = terminal-named v in like (action.Mode (mode.SetMode (terminal_at (pos (terminal_number v))))) (rw h.1 range) h.0 (rw h.1) refl
+    let h = terminal-named v range in like (action.Mode (mode.SetMode h.0)) (rw h.2 range) h.1 (rw h.2) refl
 action-named place (action.Mode (mode.ResetMode v)) range =
-    let h = terminal-named v in like (action.Mode (mode.ResetMode (terminal_at (pos (terminal_number v))))) (rw h.1 range) h.0 (rw h.1) refl
+    let h = terminal-named v range in like (action.Mode (mode.ResetMode h.0)) (rw h.2 range) h.1 (rw h.2) refl
 action-named place (action.Mode (mode.QueryMode v)) range =
-    let h = terminal-named v in like (action.Mode (mode.QueryMode (terminal_at (pos (terminal_number v))))) (rw h.1 range) h.0 (rw h.1) refl
+    let h = terminal-named v range in like (action.Mode (mode.QueryMode h.0)) (rw h.2 range) h.1 (rw h.2) refl
 action-named place (action.Device (device.DeviceAttributes (device.Vt220 list))) range =
     let l = attributes-named list range in like (action.Device (device.DeviceAttributes (device.Vt220 l.others))) l.in_range l.named (rw l.long) l.same
 action-named place (action.Device (device.DeviceAttributes (device.Vt320 list))) range =

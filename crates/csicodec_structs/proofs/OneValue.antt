@@ -5,25 +5,19 @@ use Rattle.std.proofs.{lemmas.List.Elements.recursion_from_All}
 use Rattle.std.specs.{Prelude.ℤ, Prelude.Bool, Prelude.true, Prelude.false, Prelude.nat_abs, Prelude.◌==◌, Prelude.◌||◌, Prelude.if◌then◌else◌, List.All}
 use Rattle.std.specs.{List.AllByRecursion}
 use Rattle.csicodec_tokens.specs.{declared.param.CsiParam.CsiParam, declared.param.CsiParam.TheVariants.Integer, declared.param.CsiParam.TheVariants.P}
-use Rattle.csicodec_names.proofs.Coded.{Coded, attributes, decs, is_number-pos, listed-number, none-found, terminals}
-use Rattle.csicodec_names.specs.{DeviceNumbers.device_attribute_codes, DeviceNumbers.device_attribute_number, ModeNumbers.dec_codes}
-use Rattle.csicodec_names.specs.{ModeNumbers.dec_mode_number, ModeNumbers.terminal_codes, ModeNumbers.terminal_mode_number, Numbered.is_number}
-use Rattle.csicodec_names.specs.{Numbered.with_number, declared.color.ColorSpec.ColorSpec, declared.device.DeviceAttributeCodes.DeviceAttributeCodes}
+use Rattle.csicodec_names.proofs.Coded.{Coded, attributes, is_number-pos, listed-number, none-found}
+use Rattle.csicodec_names.specs.{DeviceNumbers.device_attribute_codes, DeviceNumbers.device_attribute_number, Numbered.is_number, Numbered.with_number}
+use Rattle.csicodec_names.specs.{declared.color.ColorSpec.ColorSpec, declared.device.DeviceAttributeCodes.DeviceAttributeCodes}
 use Rattle.csicodec_base.specs.declared.sgr.Font.{Font}
 use Rattle.csicodec_actions.specs.{Devices.attribute_of, Devices.attribute_token, Devices.code_or_token, XtSmGraphics.item_number, XtSmGraphics.item_of}
-use Rattle.csicodec_actions.specs.{Modes.dec_number, Modes.terminal_number, declared.device.DeviceAttribute.DeviceAttribute}
-use Rattle.csicodec_actions.specs.{declared.xtsmgraphics.XtSmGraphicsItem.XtSmGraphicsItem, declared.mode.DecPrivateMode.DecPrivateMode}
-use Rattle.csicodec_actions.specs.{declared.mode.TerminalMode.TerminalMode, Actions.Action}
-use Rattle.csicodec_structs.specs.Values.{AttributeInRange, HasText, IsNamedAttribute, IsNamedDec, IsNamedItem, IsNamedTerminal}
-use Rattle.csicodec_structs.specs.{declared.structs.Param.Param, declared.structs.Struct.Struct, Named.IsNamed, Structs.attribute_param, Structs.flag_number}
-use Rattle.csicodec_structs.specs.{Structs.font_number, Structs.param_of, Structs.value_param, Private.Candidates.unless, Ranges.InRange, Rows.params_of}
-use Rattle.csicodec_structs.specs.{Rows.struct_of}
+use Rattle.csicodec_actions.specs.{declared.device.DeviceAttribute.DeviceAttribute, declared.xtsmgraphics.XtSmGraphicsItem.XtSmGraphicsItem, Actions.Action}
+use Rattle.csicodec_structs.specs.{Values.AttributeInRange, Values.HasText, Values.IsNamedAttribute, Values.IsNamedItem, declared.structs.Param.Param}
+use Rattle.csicodec_structs.specs.{declared.structs.Struct.Struct, Named.IsNamed, Structs.attribute_param, Structs.flag_number, Structs.font_number}
+use Rattle.csicodec_structs.specs.{Structs.param_of, Structs.value_param, Private.Candidates.unless, Ranges.InRange, Rows.params_of, Rows.struct_of}
 use Rattle.csicodec_names.specs.declared.color.ColorSpec.TheVariants as color
 use Rattle.csicodec_base.specs.declared.sgr.Font.TheVariants as font
 use Rattle.csicodec_actions.specs.declared.device.DeviceAttribute.TheVariants as attribute
 use Rattle.csicodec_actions.specs.declared.xtsmgraphics.XtSmGraphicsItem.TheVariants as item
-use Rattle.csicodec_actions.specs.declared.mode.DecPrivateMode.TheVariants as dec
-use Rattle.csicodec_actions.specs.declared.mode.TerminalMode.TheVariants as terminal
 
 not-number : (k : ℕ) (z : ℤ) → (z ≡ pos k → ⊥) → is_number k z ≡ false
 not-number k z other = elim (cases_Bool (is_number k z)) [ inl here ↦ absurd (other (is_number-pos k z here)) | inr none ↦ none ]
@@ -58,46 +52,9 @@ font-back (font.Alternate n) h = rw (not-number 0 (pos n) (λ e. (let zero : n �
 
 -- ---- modes
 
--- by its code, and else by itself
-abbrev pub coded_at : {C M : Type 0} → (C → M) → (ℕ → M) → Option C → ℤ → M
-coded_at coded own (Some c) z = coded c
-coded_at coded own None z = own (nat_abs z)
-
-abbrev pub dec_at : ℤ → DecPrivateMode
-dec_at z = coded_at (λ c. dec.Code c) (λ n. dec.Unspecified n) (with_number dec_mode_number dec_codes z) z
-
-abbrev pub terminal_at : ℤ → TerminalMode
-terminal_at z = coded_at (λ c. terminal.Code c) (λ n. terminal.Unspecified n) (with_number terminal_mode_number terminal_codes z) z
-
-pub dec-back : (m : DecPrivateMode) → IsNamedDec m → dec_at (pos (dec_number m)) ≡ m
-dec-back (dec.Code c) h = rw (decs.each c) refl
-dec-back (dec.Unspecified n) h = rw (none-found dec_mode_number dec_codes (pos n) (λ c same. h c (ap nat_abs same))) refl
-
-pub terminal-back : (m : TerminalMode) → IsNamedTerminal m → terminal_at (pos (terminal_number m)) ≡ m
-terminal-back (terminal.Code c) h = rw (terminals.each c) refl
-terminal-back (terminal.Unspecified n) h = rw (none-found terminal_mode_number terminal_codes (pos n) (λ c same. h c (ap nat_abs same))) refl
-
 -- what finds none has the number of none
 pub none-has : {C : Type 0} (number : C → ℕ) (all : List C) → Coded number all → (z : ℤ) → with_number number all z ≡ None → (c : C) → z ≡ pos (number c) → ⊥
 none-has number all is z none c same = (let both : None ≡ Some c = sym none ∙ ap (with_number number all) same ∙ is.each c in cc)
-
--- the mode that a number counts as has the number, and is by its name
-at-named : {C M : Type 0} (number : C → ℕ) (all : List C) (coded : C → M) (own : ℕ → M) (written : M → ℕ) (Named : M → Type 0) → Coded number all
-    → ((c : C) → written (coded c) ≡ number c) → ((k : ℕ) → written (own k) ≡ k) → ((c : C) → Named (coded c)) → ((k : ℕ) → ((c : C) → k ≡ number c → ⊥) → Named (own k))
-    → (n : ℕ) → Named (coded_at coded own (with_number number all (pos n)) (pos n)) × (written (coded_at coded own (with_number number all (pos n)) (pos n)) ≡ n)
-at-named number all coded own written Named is by_code by_self named_code named_own n = go (with_number number all (pos n)) refl
-  where
-    go : (o : Option _) → with_number number all (pos n) ≡ o → Named (coded_at coded own o (pos n)) × (written (coded_at coded own o (pos n)) ≡ n)
-    go (Some c) found = (named_code c, by_code c ∙ sym (ap nat_abs (listed-number number all (pos n) c found)))
-    go None none = (named_own n (λ c same. none-has number all is (pos n) none c (ap pos same)), by_self n)
-
-pub dec-named : (m : DecPrivateMode) → IsNamedDec (dec_at (pos (dec_number m))) × (dec_number (dec_at (pos (dec_number m))) ≡ dec_number m)
-dec-named m = at-named dec_mode_number dec_codes (λ c. dec.Code c) (λ n. dec.Unspecified n) dec_number IsNamedDec decs (λ c. refl) (λ k. refl) (λ c. tt) (λ k h. h) (dec_number m)
-
-pub terminal-named : (m : TerminalMode) → IsNamedTerminal (terminal_at (pos (terminal_number m))) × (terminal_number (terminal_at (pos (terminal_number m))) ≡ terminal_number m)
-terminal-named m =
-    at-named terminal_mode_number terminal_codes (λ c. terminal.Code c) (λ n. terminal.Unspecified n) terminal_number IsNamedTerminal terminals
-    (λ c. refl) (λ k. refl) (λ c. tt) (λ k h. h) (terminal_number m)
 
 -- ---- items of graphics
 

@@ -11,8 +11,8 @@ ghost use Rattle.csicodec_structs.specs.Ranges.{CursorInRange, DeviceInRange, Ed
 ghost use Rattle.csicodec_structs.specs.Rows.{cursor_struct, device_params, device_struct, edit_struct, keyboard_struct, mode_struct, mouse_struct, params_of, sgr_struct, struct_of, window_struct};
 
 use crate::numbers::{
-    align, blink, button, color, count, first, first_place, first_word, flag, flags, font,
-    intensity, private_mode, second, second_place, second_word, side, terminal_mode, underline,
+    align, blink, button, color, count, first, flag, flags, font, intensity, place, private_mode,
+    second, side, terminal_mode, underline, word,
 };
 use crate::structs::Struct;
 use bitflags::Flags;
@@ -68,19 +68,19 @@ fn cursor_candidate(given: &Struct) -> Option<Cursor>
         104 => Some(Cursor::Left(count(given)?)),
         105 => Some(Cursor::NextLine(count(given)?)),
         106 => Some(Cursor::PrecedingLine(count(given)?)),
-        107 => Some(Cursor::CharacterAbsolute(first_place(given)?)),
-        108 => Some(Cursor::CharacterPositionAbsolute(first_place(given)?)),
+        107 => Some(Cursor::CharacterAbsolute(place(given.first)?)),
+        108 => Some(Cursor::CharacterPositionAbsolute(place(given.first)?)),
         109 => Some(Cursor::Position {
-            line: first_place(given)?,
-            col: second_place(given)?,
+            line: place(given.first)?,
+            col: place(given.second)?,
         }),
         110 => Some(Cursor::ActivePositionReport {
-            line: first_place(given)?,
-            col: second_place(given)?,
+            line: place(given.first)?,
+            col: place(given.second)?,
         }),
         111 => Some(Cursor::CharacterAndLinePosition {
-            line: first_place(given)?,
-            col: second_place(given)?,
+            line: place(given.first)?,
+            col: place(given.second)?,
         }),
         112 => Some(Cursor::ForwardTabulation(count(given)?)),
         113 => Some(Cursor::BackwardTabulation(count(given)?)),
@@ -93,12 +93,12 @@ fn cursor_candidate(given: &Struct) -> Option<Cursor>
         120 => Some(Cursor::TabulationControl(CursorTabulationControl::from_i64(given.first)?)),
         121 => Some(Cursor::TabulationClear(TabulationClear::from_i64(given.first)?)),
         122 => Some(Cursor::SetTopAndBottomMargins {
-            top: first_place(given)?,
-            bottom: second_place(given)?,
+            top: place(given.first)?,
+            bottom: place(given.second)?,
         }),
         123 => Some(Cursor::SetLeftAndRightMargins {
-            left: first_place(given)?,
-            right: second_place(given)?,
+            left: place(given.first)?,
+            right: place(given.second)?,
         }),
         124 => Some(Cursor::SaveCursor),
         125 => Some(Cursor::RestoreCursor),
@@ -177,14 +177,14 @@ fn mouse_candidate(given: &Struct) -> Option<MouseReport>
 {
     match given.kind {
         501 => Some(MouseReport::SGR1006 {
-            x: first_word(given)?,
-            y: second_word(given)?,
+            x: word(given.first)?,
+            y: word(given.second)?,
             button: button(given.button)?,
             modifiers: Modifiers::from_bits_retain(given.modifiers),
         }),
         502 => Some(MouseReport::SGR1016 {
-            x_pixels: first_word(given)?,
-            y_pixels: second_word(given)?,
+            x_pixels: word(given.first)?,
+            y_pixels: word(given.second)?,
             button: button(given.button)?,
             modifiers: Modifiers::from_bits_retain(given.modifiers),
         }),

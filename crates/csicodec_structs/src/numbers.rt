@@ -86,18 +86,11 @@ pub(crate) fn count(given: &Struct) -> Option<u32>
     u32::try_from(given.first).ok()
 }
 
-/// The first number, of 16 bits.
-pub(crate) fn first_word(given: &Struct) -> Option<u16>
-    ensures { Reads itself (FitsUnsignedBits 16) given.now.first result }
+/// A number of 16 bits.
+pub(crate) fn word(number: i64) -> Option<u16>
+    ensures { Reads itself (FitsUnsignedBits 16) number result }
 {
-    u16::try_from(given.first).ok()
-}
-
-/// The second number, of 16 bits.
-pub(crate) fn second_word(given: &Struct) -> Option<u16>
-    ensures { Reads itself (FitsUnsignedBits 16) given.now.second result }
-{
-    u16::try_from(given.second).ok()
+    u16::try_from(number).ok()
 }
 
 /// A side of an area.
@@ -107,18 +100,11 @@ pub(crate) fn side(number: u32) -> Option<OneBased>
     OneBased::try_from(number).ok()
 }
 
-/// The first number, as a line or a column.
-pub(crate) fn first_place(given: &Struct) -> Option<OneBased>
-    ensures { Reads itself IsPlace given.now.first result }
+/// A line or a column.
+pub(crate) fn place(number: i64) -> Option<OneBased>
+    ensures { Reads itself IsPlace number result }
 {
-    side(u32::try_from(given.first).ok()?)
-}
-
-/// The second number, as a line or a column.
-pub(crate) fn second_place(given: &Struct) -> Option<OneBased>
-    ensures { Reads itself IsPlace given.now.second result }
-{
-    side(u32::try_from(given.second).ok()?)
+    side(u32::try_from(number).ok()?)
 }
 
 /// The first number, as 1 for on and 0 for off.
@@ -136,7 +122,7 @@ pub(crate) fn flag(given: &Struct) -> Option<bool>
 pub(crate) fn flags(given: &Struct) -> Option<KittyKeyboardFlags>
     ensures { Reads kitty_bits (FitsUnsignedBits 16) given.now.first result }
 {
-    Some(KittyKeyboardFlags::from_bits_retain(first_word(given)?))
+    Some(KittyKeyboardFlags::from_bits_retain(word(given.first)?))
 }
 
 /// The first number, as that of a private mode, by its code where it has one.

@@ -5,7 +5,9 @@ ghost use Rattle.csicodec_parser.specs.ActionOf.{action_of};
 ghost use Rattle.csicodec_structs.specs.Rows.{cursor_struct, device_struct, edit_struct, keyboard_struct, mode_struct, mouse_struct, sgr_struct, struct_of, window_struct};
 
 use crate::numbers::{font_number, item_number};
-use crate::structs::{Struct, color_row, list_row, report_row, row, sized_row, unknown_row};
+use crate::structs::{
+    Struct, color_row, flags_row, list_row, places_row, report_row, row, sized_row, unknown_row,
+};
 use bitflags::Flags;
 use csicodec::{
     CSI, Cursor, Device, DeviceAttributes, Edit, Keyboard, Mode, MouseReport, Sgr, Window,
@@ -48,21 +50,9 @@ pub fn cursor_struct(cursor: &Cursor) -> Struct
         Cursor::PrecedingLine(count) => row(106, i64::from(*count), 0),
         Cursor::CharacterAbsolute(place) => row(107, i64::from(place.as_one_based()), 0),
         Cursor::CharacterPositionAbsolute(place) => row(108, i64::from(place.as_one_based()), 0),
-        Cursor::Position { line, col } => row(
-            109,
-            i64::from(line.as_one_based()),
-            i64::from(col.as_one_based()),
-        ),
-        Cursor::ActivePositionReport { line, col } => row(
-            110,
-            i64::from(line.as_one_based()),
-            i64::from(col.as_one_based()),
-        ),
-        Cursor::CharacterAndLinePosition { line, col } => row(
-            111,
-            i64::from(line.as_one_based()),
-            i64::from(col.as_one_based()),
-        ),
+        Cursor::Position { line, col } => places_row(109, *line, *col),
+        Cursor::ActivePositionReport { line, col } => places_row(110, *line, *col),
+        Cursor::CharacterAndLinePosition { line, col } => places_row(111, *line, *col),
         Cursor::ForwardTabulation(count) => row(112, i64::from(*count), 0),
         Cursor::BackwardTabulation(count) => row(113, i64::from(*count), 0),
         Cursor::LineTabulation(count) => row(114, i64::from(*count), 0),
@@ -73,16 +63,8 @@ pub fn cursor_struct(cursor: &Cursor) -> Struct
         Cursor::LinePositionBackward(count) => row(119, i64::from(*count), 0),
         Cursor::TabulationControl(value) => row(120, value.to_i64(), 0),
         Cursor::TabulationClear(value) => row(121, value.to_i64(), 0),
-        Cursor::SetTopAndBottomMargins { top, bottom } => row(
-            122,
-            i64::from(top.as_one_based()),
-            i64::from(bottom.as_one_based()),
-        ),
-        Cursor::SetLeftAndRightMargins { left, right } => row(
-            123,
-            i64::from(left.as_one_based()),
-            i64::from(right.as_one_based()),
-        ),
+        Cursor::SetTopAndBottomMargins { top, bottom } => places_row(122, *top, *bottom),
+        Cursor::SetLeftAndRightMargins { left, right } => places_row(123, *left, *right),
         Cursor::SaveCursor => row(124, 0, 0),
         Cursor::RestoreCursor => row(125, 0, 0),
         Cursor::RequestActivePositionReport => row(126, 0, 0),
@@ -138,27 +120,9 @@ pub(crate) fn device_struct(place: usize, device: &Device) -> Struct
         Device::DeviceAttributes(DeviceAttributes::Vt100WithAdvancedVideoOption) => row(401, 0, 0),
         Device::DeviceAttributes(DeviceAttributes::Vt101WithNoOptions) => row(402, 0, 0),
         Device::DeviceAttributes(DeviceAttributes::Vt102) => row(403, 0, 0),
-        Device::DeviceAttributes(DeviceAttributes::Vt220(flags)) => list_row(
-            404,
-            0,
-            0,
-            place,
-            flags.attributes.len(),
-        ),
-        Device::DeviceAttributes(DeviceAttributes::Vt320(flags)) => list_row(
-            405,
-            0,
-            0,
-            place,
-            flags.attributes.len(),
-        ),
-        Device::DeviceAttributes(DeviceAttributes::Vt420(flags)) => list_row(
-            406,
-            0,
-            0,
-            place,
-            flags.attributes.len(),
-        ),
+        Device::DeviceAttributes(DeviceAttributes::Vt220(flags)) => flags_row(404, place, flags),
+        Device::DeviceAttributes(DeviceAttributes::Vt320(flags)) => flags_row(405, place, flags),
+        Device::DeviceAttributes(DeviceAttributes::Vt420(flags)) => flags_row(406, place, flags),
         Device::SoftReset => row(407, 0, 0),
         Device::RequestPrimaryDeviceAttributes => row(408, 0, 0),
         Device::RequestSecondaryDeviceAttributes => row(409, 0, 0),

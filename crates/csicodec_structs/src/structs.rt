@@ -1,10 +1,10 @@
 //! The structs that cross to C.
-ghost use Rattle.std.specs.Prelude.{◌≡◌};
+ghost use Rattle.std.specs.Prelude.{◌≡◌, length, pos};
 ghost use Rattle.csicodec_structs.specs.Structs.{color_row, list_row, report_row, row, sized_row, unknown_row};
 
 use crate::numbers::button_number;
 use bitflags::Flags;
-use csicodec::{ColorSpec, Modifiers, MouseButton};
+use csicodec::{ColorSpec, DeviceAttributeFlags, Modifiers, MouseButton, OneBased};
 
 /// An action. A field that its kind has no use for is 0. It has 64 bytes, and no gaps.
 #[repr(C)]
@@ -82,6 +82,15 @@ pub fn row(kind: u32, first: i64, second: i64) -> Struct
     }
 }
 
+/// A line and a column, or two margins.
+#[inline(always)]
+pub(crate) fn places_row(kind: u32, first: OneBased, second: OneBased) -> Struct
+    ensures { result ≡ row kind (pos first) (pos second) }
+{
+    let first = i64::from(first.as_one_based());
+    row(kind, first, i64::from(second.as_one_based()))
+}
+
 /// With tokens from this place on.
 pub(crate) fn list_row(kind: u32, first: i64, second: i64, place: usize, len: usize) -> Struct
     ensures { result ≡ list_row kind first second place len }
@@ -91,6 +100,13 @@ pub(crate) fn list_row(kind: u32, first: i64, second: i64, place: usize, len: us
         len,
         ..row(kind, first, second)
     }
+}
+
+/// A service class, whose extensions stand from this place on.
+pub(crate) fn flags_row(kind: u32, place: usize, flags: &DeviceAttributeFlags) -> Struct
+    ensures { result ≡ list_row kind (pos 0) (pos 0) place (length flags.now.attributes.items) }
+{
+    list_row(kind, 0, 0, place, flags.attributes.len())
 }
 
 /// What none of the rules reads.

@@ -5,45 +5,49 @@ from bindings.library import BY_NUMBER, PATH, has_tokens, kinds, low, module, nu
 from bindings.specs import can_be_named, named_row, names_in, own_use, spec_row, spec_use, type_uses, value
 from layout import folded
 
-# The enumerations of these forms, how the specs give their numbers, and the number that is one.
+# The enumerations of these forms, and the number that is one.
 HIDDEN = {
-    "keys": ("XtermKeyModifierResource", "resource_number", "given.first"),
-    "report": ("MouseButton", "button_number", "(pos given.button)"),
-    "state": ("KittyKeyboardMode", "kitty_mode_number", "given.second"),
-    "path": ("CharacterPath", "path_number", "given.first"),
+    "keys": ("XtermKeyModifierResource", "given.first"),
+    "report": ("MouseButton", "(pos given.button)"),
+    "state": ("KittyKeyboardMode", "given.second"),
+    "path": ("CharacterPath", "given.first"),
 }
-# Of an enumeration that other crates read by its number, the list of its variants there, and the proof that each is found in it.
-LISTED = {
-    "CursorStyle": ("cursor_styles", "styles"),
-    "CursorTabulationControl": ("tabulation_controls", "controls"),
-    "EraseInDisplay": ("erases_in_display", "displays"),
-    "EraseInLine": ("erases_in_line", "lines"),
-    "TabulationClear": ("tabulation_clears", "clears"),
-    "CharacterPath": ("paths", "tracks"),
-    "KittyKeyboardMode": ("kitty_modes", "ways"),
-    "XtermKeyModifierResource": ("resources", "keys"),
+# How the specs give the number of an enumeration that no row has alone.
+NUMBERS = {"MouseButton": "button_number"}
+# Of an enumeration whose numbers csicodec_actions reads, the kind of these there, and that what is read of one's number is this one.
+READ = {
+    "CursorStyle": ("Style", "read-good Style v tt"),
+    "CursorTabulationControl": ("Control", "read-good Control v tt"),
+    "EraseInDisplay": ("InDisplay", "read-good InDisplay v tt"),
+    "EraseInLine": ("InLine", "read-good InLine v tt"),
+    "TabulationClear": ("Clear", "read-good Clear v tt"),
+    "CharacterPath": ("Path", "read-good Path v tt"),
+    "KittyKeyboardMode": ("Way", "read-good Way v tt"),
+    "XtermKeyModifierResource": ("Resource", "read-good Resource v tt"),
+    "DecPrivateMode": ("Dec", "dec-back v named range"),
+    "TerminalMode": ("Terminal", "terminal-back v named range"),
 }
-# What stands by a number that isn't one of a list: how it is found again.
-FOUND = {"Font": ("font_at", "font-back v range"), "DecPrivateMode": ("dec_at", "dec-back v named"), "TerminalMode": ("terminal_at", "terminal-back v named")}
 
 
 def coded(form, names):
-    """The enumeration in a form that is found in the list of its variants: its name, how its number is given, and the number."""
-    if form == "enum" and names[0] not in FOUND:
-        return names[0], number_of(names[0])[0], "given.first"
+    """The enumeration in a form that is found by its number: its name, and the number."""
+    if form == "enum" and names[0] != "Font":
+        return names[0], "given.first"
     return HIDDEN.get(form)
 
 
-def listed(name):
-    """The list of the variants of an enumeration, and that one of them is found in it."""
-    list_, each = LISTED.get(name, (f"{low(name)}_all", ""))
-    return list_, f"{each}.each v" if each else f"{low(name)}-found v"
+def listed(name, place):
+    """What is found of a number, and that each variant is found by its own."""
+    if name in READ:
+        kind, back = READ[name]
+        return f"(read {kind} {place})", back
+    return f"(with_number {NUMBERS.get(name) or number_of(name)[0]} {low(name)}_all {place})", f"{low(name)}-found v"
 
 
 def enumerations():
-    """Those whose lists stand here."""
+    """Those whose lists stand here, and how the specs give their numbers."""
     forms = [coded(form, names) for _, _, _, form, names in kinds()]
-    return sorted({found_[:2] for found_ in forms if found_ and found_[0] not in LISTED})
+    return sorted({(found_[0], NUMBERS.get(found_[0]) or number_of(found_[0])[0]) for found_ in forms if found_ and found_[0] not in READ})
 
 
 def action(group, variant, left):
@@ -71,7 +75,7 @@ def found_row(number, group, variant, form, names):
         "int": " given.first",
         "ints": " given.first given.second",
         "sizes": " (first_at given) (second_at given)",
-        "enum": f" ({FOUND[names[0]][0]} given.first)" if form == "enum" and names[0] in FOUND else " v",
+        "enum": " v" if coded(form, names) else " (font_at given.first)",
         "flag": " (flag_at given.first)",
         "color": " (color_at given)",
         "keys": " v (second_at given)",
@@ -84,8 +88,7 @@ def found_row(number, group, variant, form, names):
     }[form]
     one = action(group, variant, left)
     if coded(form, names):
-        name, number_, place = coded(form, names)
-        found = f"option_map (λ v. {one})", f"(with_number {number_} {listed(name)[0]} {place})"
+        found = f"option_map (λ v. {one})", listed(*coded(form, names))[0]
         return ("\n    " if len(" ".join(found)) > 160 else " ").join(found)
     return f"Some ({one})"
 
@@ -94,9 +97,9 @@ def back_rows(number, group, variant, form, names):
     """That it is found again, where it isn't by computing alone: what stands behind the name of its variant, and why."""
     a, b = names_in(names)
     some = lambda left: f"λ v. Some ({action(group, variant, left)})"
-    mapped = lambda left: (left, f"ap (option_map (λ v. {action(group, variant, left)})) ({listed(coded(form, names)[0])[1]})")
+    mapped = lambda left: (left, f"ap (option_map (λ v. {action(group, variant, left)})) ({listed(*coded(form, names))[1]})")
     if form == "enum":
-        return [(" v", f"ap ({some(' v')}) ({FOUND[names[0]][1]})") if names[0] in FOUND else mapped(" v")]
+        return [mapped(" v") if coded(form, names) else (" v", f"ap ({some(' v')}) (font-back v range)")]
     return {
         "sizes": [(" None None", "refl"), (" (Some a) None", "refl")],
         "flag": [(" v", f"ap ({some(' v')}) (flag-back v)")],
@@ -115,11 +118,11 @@ def found():
     out += "    if given.kind == 0 then Some (action.Unspecified (map token_at params) false given.final_char) else\n"
     for kind in kinds():
         out += f"    if given.kind == {kind[0]} then {found_row(*kind)} else\n"
-    out += f"    if given.kind == {PATH} then option_map (λ v. action.SelectCharacterPath v given.second) (with_number path_number {listed('CharacterPath')[0]} given.first) else\n    None\n"
+    out += f"    if given.kind == {PATH} then option_map (λ v. action.SelectCharacterPath v given.second) {listed('CharacterPath', 'given.first')[0]} else\n    None\n"
     out += "\naction-back : (place : ℕ) (a : Action) → InRange a → IsNamed a → action_at (struct_of place a) (params_of a) ≡ Some a\nunfolding action_at\n"
     for kind in kinds():
         out += "".join(f"action-back place ({action(kind[1], kind[2], left)}) range named = {right}\n" for left, right in back_rows(*kind))
-    out += f"""action-back place (action.SelectCharacterPath v effect) range named = ap (option_map (λ v. action.SelectCharacterPath v effect)) ({listed('CharacterPath')[1]})
+    out += f"""action-back place (action.SelectCharacterPath v effect) range named = ap (option_map (λ v. action.SelectCharacterPath v effect)) ({listed('CharacterPath', 'given.first')[1]})
 action-back place (action.Unspecified params flag final) range named = rw (tokens-back params, named) refl
 action-back place other range named = refl
 """
@@ -129,9 +132,8 @@ action-back place other range named = refl
 def like_row(number, group, variant, form, names):
     """What stands behind the name of its variant, and the one by its name that has the struct and the tokens of this one."""
     if form == "enum":
-        at = FOUND[names[0]][0]
-        by, has = at.replace("_at", "-named"), at.replace("_at", "_number")
-        return " v", f"let h = {by} v in like ({action(group, variant, f' ({at} (pos ({has} v)))')}) (rw h.1 range) h.0 (rw h.1) refl"
+        by = READ[names[0]][1].split("-")[0]
+        return " v", f"let h = {by}-named v range in like ({action(group, variant, ' h.0')}) (rw h.2 range) h.1 (rw h.2) refl"
     if form == "extensions":
         return " list", f"let l = attributes-named list range in like ({action(group, variant, ' l.others')}) l.in_range l.named (rw l.long) l.same"
     return " item action_or_status list", f"let h = item-named (item_number item) in\n    like ({action(group, variant, ' (item_of (item_number item)) action_or_status list')}) range h.0 (rw h.1) refl"
@@ -152,12 +154,6 @@ pub action-named : (place : ℕ) (a : Action) → InRange a → ByName place a
 action-named place other range = like other range tt refl refl
 """
     return out
-
-
-def listed_use(crate, file, body):
-    """The `use` line of what the body says of the proofs that variants are found in the lists of another crate."""
-    names = re.findall(r"^pub (\w+) : Coded ", text_of(f"crates/{crate}/proofs/{file}.antt"), re.M)
-    return f"use Rattle.{crate}.proofs.{file}.{{{used([name + '.each' for name in names], body).replace('.each', '')}}}\n"
 
 
 def halved(line):
@@ -181,6 +177,7 @@ same-action place a b in_a named_a in_b named_b given params =
     uses = ""
     for name, _ in enumerations():
         uses += f"use {module(name)}.{{{name}}}\nuse {module(name)}.TheVariants as {low(name)}\n"
+    kinds_read = ", ".join(sorted(kind for kind, _ in READ.values()))
     values = used(re.findall(r"^(?:abbrev )?pub (?:record )?([\w-]+) ", text_of("crates/csicodec_structs/proofs/OneValue.antt"), re.M), body)
     return f"""-- A struct and its tokens are those of one action by its name, whatever action has them. Written by tools/table.
 use Rattle.std.proofs.Common.{{◌≡◌, ℕ, List, [], ◌∷◌, Option, None, Some, map, refl, sym, ap, ◌∙◌, pos}}
@@ -189,9 +186,12 @@ use Rattle.std.specs.Option.{{option_map}}
 use Rattle.std.proofs.lemmas.Option.{{same_Some}}
 use Rattle.csicodec_names.specs.Numbered.{{with_number}}
 use Rattle.csicodec_names.specs.declared.color.ColorSpec.TheVariants as color
-{uses}{halved(spec_use("csicodec_names", "EnumNumbers", body))}{listed_use("csicodec_names", "Coded", body)}{type_uses(body)}{listed_use("csicodec_actions", "Values", body)}\
-{spec_use("csicodec_actions", "XtSmGraphics", body)}{spec_use("csicodec_actions", "Kinds", body)}{spec_use("csicodec_actions", "Modes", body)}\
+{uses}{type_uses(body)}\
+use Rattle.csicodec_actions.proofs.Values.{{read-good}}
+{spec_use("csicodec_actions", "XtSmGraphics", body)}\
+use Rattle.csicodec_actions.specs.Kinds.{{{kinds_read}, read}}
 use Rattle.csicodec_structs.specs.declared.structs.Param.{{Param}}
 use Rattle.csicodec_structs.specs.declared.structs.Struct.{{Struct}}
 {own_use("Named", body)}{spec_use("csicodec_structs", "Structs", body)}{own_use("Ranges", body)}{own_use("Rows", body)}{spec_use("csicodec_structs", "Values", body)}\
+use Rattle.csicodec_structs.proofs.ModeNumbers.{{dec-back, dec-named, terminal-back, terminal-named}}
 {halved(f"use Rattle.csicodec_structs.proofs.OneValue.{{{values}}}" + chr(10))}""" + body

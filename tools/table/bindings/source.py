@@ -32,7 +32,7 @@ def struct_arm(kind, own):
         "unit": ("", f"row({number}, 0, 0)"),
         "count": ("(count)", f"row({number}, i64::from(*count), 0)"),
         "place": ("(place)", f"row({number}, i64::from(place.as_one_based()), 0)"),
-        "places": (f" {{ {a}, {b} }}", f"row({number}, i64::from({a}.as_one_based()), i64::from({b}.as_one_based()))"),
+        "places": (f" {{ {a}, {b} }}", own.get("places", "row({0}, i64::from({1}.as_one_based()), i64::from({2}.as_one_based()))").format(number, a, b)),
         "int": ("(number)", f"row({number}, *number, 0)"),
         "ints": (f" {{ {a}, {b} }}", f"row({number}, *{a}, *{b})"),
         "sizes": (f" {{ {a}, {b} }}", f"sized_row({number}, *{a}, *{b})"),
@@ -52,11 +52,12 @@ def struct_arm(kind, own):
 
 OWN = {
     "enum": lambda names: number_of(names[0])[1],
+    "places": "places_row({}, *{}, *{})",
     "flag": "i64::from(*value)",
     "keys": "i64::from(resource.number())",
     "area": "Struct",
     "state": "i64::from(mode.number())",
-    "extensions": "list_row({}, 0, 0, place, flags.attributes.len())",
+    "extensions": "flags_row({}, place, flags)",
     "graphics": "list_row({}, item_number(graphics.item), graphics.action_or_status, place, graphics.value.len())",
 }
 
@@ -101,7 +102,9 @@ ghost use Rattle.csicodec_actions.specs.Devices.{{device_of}};
 ghost use Rattle.csicodec_parser.specs.ActionOf.{{action_of}};
 ghost use Rattle.csicodec_structs.specs.Rows.{{{", ".join(sorted([f"{low(group)}_struct" for group in IN_TURN] + ["struct_of"]))}}};
 
-{numbers_use(body)}use crate::structs::{{Struct, color_row, list_row, report_row, row, sized_row, unknown_row}};
+{numbers_use(body)}use crate::structs::{{
+    Struct, color_row, flags_row, list_row, places_row, report_row, row, sized_row, unknown_row,
+}};
 use bitflags::Flags;
 {source_use(body)}""" + body
 
@@ -112,8 +115,8 @@ def candidate(number, group, variant, form, names):
     right = {
         "unit": "",
         "count": "(count(given)?)",
-        "place": "(first_place(given)?)",
-        "places": f" {{ {a}: first_place(given)?, {b}: second_place(given)? }}",
+        "place": "(place(given.first)?)",
+        "places": f" {{ {a}: place(given.first)?, {b}: place(given.second)? }}",
         "int": "(given.first)",
         "ints": f" {{ {a}: given.first, {b}: given.second }}",
         "sizes": f" {{ {a}: first(given), {b}: second(given) }}",
@@ -122,7 +125,7 @@ def candidate(number, group, variant, form, names):
         "color": "(color(given)?)",
         "keys": " { resource: XtermKeyModifierResource::parse(given.first)?, value: second(given) }",
         "area": " { request_id: given.first, page_number: given.second, top: side(given.top)?, left: side(given.left)?, bottom: side(given.bottom)?, right: side(given.right)? }",
-        "report": f" {{ {a}: first_word(given)?, {b}: second_word(given)?, button: button(given.button)?, modifiers: Modifiers::from_bits_retain(given.modifiers) }}",
+        "report": f" {{ {a}: word(given.first)?, {b}: word(given.second)?, button: button(given.button)?, modifiers: Modifiers::from_bits_retain(given.modifiers) }}",
         "state": " { flags: flags(given)?, mode: KittyKeyboardMode::from_i64(given.second)? }",
         "bits": "(flags(given)?)",
     }[form]

@@ -1,5 +1,5 @@
-use Rattle.std.proofs.{Common.◌≡◌, Common.◌+◌, Common.◌++◌, Common.◌∷◌, Common.[], Common.map, Common.take, Common.ap, Common.◌∙◌, Common.rules}
-use Rattle.std.proofs.{lemmas.List.map-append, lemmas.List.take_more}
+use Rattle.std.proofs.{Common.◌≡◌, Common.◌+◌, Common.◌++◌, Common.◌∷◌, Common.[], Common.map, Common.take, Common.rules, lemmas.List.map-append}
+use Rattle.std.proofs.{lemmas.List.take_more}
 use Rattle.csicodec_parser.specs.ActionOf.{action_of}
 use Rattle.csicodec_structs.proofs.Laid.{lays_none}
 use Rattle.csicodec_structs.proofs.terminal.lay_all.Goals as goal

@@ -3,6 +3,5 @@ pub mod Spans
 pub mod Seen
 pub mod Plain
 pub mod Front
-pub mod Alike
 pub mod Row
 pub mod Sides

@@ -1,9 +1,9 @@
 //! A line as it is written: its characters alone, or with what says how they look.
-ghost use Rattle.std.specs.Prelude.{◌≡◌, ◌≤◌, ◌-◌, ◌∷◌, ◌++◌, [], ℕ, List, IfOk, IfSome, OnOk, encode_utf8, encode_utf8_all, false, length, not, replicate};
+ghost use Rattle.std.specs.Prelude.{◌≡◌, ◌≤◌, ◌-◌, ◌∷◌, ◌++◌, [], IfOk, IfSome, OnOk, encode_utf8, encode_utf8_all, false, length, not, replicate};
 ghost use Rattle.std.specs.List.{AllByRecursion, flat_map};
 ghost use Rattle.csicodec_clean.specs.Bytes.{IsPlainByte};
 ghost use Rattle.csicodec_html.specs.{Look.is_default, Look.is_none, Look.is_normal, Look.plain, Page.escaped};
-ghost use Rattle.csicodec_overwrite.specs.{Cells.chars_of, Cells.glyph, Private.Alike.IsAlike};
+ghost use Rattle.csicodec_overwrite.specs.{Cells.chars_of, Cells.glyph};
 ghost use Rattle.csicodec_overwrite.specs.declared.cells.Cell.TheVariants.{Char, Empty};
 ghost use Rattle.csicodec_overwrite.specs.Paint.{further, given, look_of, look_text, paint, same, text_of, turn, written};
 ghost use Rattle.csicodec_overwrite.specs.declared.marking.Marking.TheVariants.{Page, Styled};
@@ -282,8 +282,8 @@ fn append_alike<'a>(
     behind: &'a [Cell],
     out: &mut Vec<u8>,
 ) -> Result<&'a [Cell], AllocError>
-    ensures text { IfOk result (λ rest. (text : List ℕ) × IsAlike marking.now cell behind.now text rest.now
-        × (out.new.items ≡ out.old.items ++ text)) }
+    ensures text { IfOk result (λ rest. (look : _) → out.new.items ++ paint marking.now (look_of look cell) rest.now
+        ≡ out.old.items ++ (written marking.now (chars_of cell) ++ paint marking.now (look_of look cell) behind.now)) }
     ensures fewer { IfOk result (λ rest. length rest.now ≤ length behind.now) }
 {
     if cell.is_empty() {
@@ -327,20 +327,7 @@ fn append_ascii_front<'a>(cells: &'a [Cell], out: &mut Vec<u8>) -> Result<&'a [C
     Ok(rest)
 }
 
-/// Appends the characters of cells.
-fn append_plain(cells: &[Cell], out: &mut Vec<u8>) -> Result<(), AllocError>
-    ensures { OnOk result
-        (out.new.items ≡ out.old.items ++ encode_utf8_all (flat_map chars_of cells.now)) }
-{
-    let mut rest = cells;
-    while let Some((cell, behind)) = rest.split_first() {
-        let others = append_alike(&Marking::Plain, *cell, behind, out)?;
-        rest = append_ascii_front(others, out)?;
-    }
-    Ok(())
-}
-
-/// Appends the characters in front that look so, and answers the cells behind them.
+/// Appends the characters in front that look so, or those of ASCII where no looks are shown, and answers the cells behind them.
 #[inline(never)]
 fn append_same_look<'a>(
     marking: &Marking,
@@ -348,11 +335,14 @@ fn append_same_look<'a>(
     cells: &'a [Cell],
     out: &mut Vec<u8>,
 ) -> Result<&'a [Cell], AllocError>
-    ensures text { IfOk result (λ rest. (text : List ℕ)
-        × (paint marking.now look.now cells.now ≡ text ++ paint marking.now look.now rest.now)
-        × (out.new.items ≡ out.old.items ++ text)) }
+    ensures text { IfOk result (λ rest. out.new.items ++ paint marking.now look.now rest.now
+        ≡ out.old.items ++ paint marking.now look.now cells.now) }
     ensures fewer { IfOk result (λ rest. length rest.now ≤ length cells.now) }
 {
+    if !marking.shows_looks() {
+        let rest = append_ascii_front(cells, out)?;
+        return Ok(rest);
+    }
     let mut rest = cells;
     while let Some((cell, behind)) = rest.split_first() {
         match cell {
@@ -367,9 +357,13 @@ fn append_same_look<'a>(
     Ok(rest)
 }
 
-/// Appends the characters of cells, painted: at the end nothing is set.
-fn append_painted(cells: &[Cell], marking: &Marking, out: &mut Vec<u8>) -> Result<(), AllocError>
-    ensures { OnOk result (out.new.items ≡ out.old.items ++ paint marking.now plain cells.now) }
+/// Appends cells, as lines are written: at the end nothing is set.
+pub(crate) fn append_cells(
+    cells: &[Cell],
+    marking: &Marking,
+    out: &mut Vec<u8>,
+) -> Result<(), AllocError>
+    ensures { OnOk result (out.new.items ≡ out.old.items ++ text_of marking.now cells.now) }
 {
     let none = Look::plain();
     let mut now = &none;
@@ -382,19 +376,4 @@ fn append_painted(cells: &[Cell], marking: &Marking, out: &mut Vec<u8>) -> Resul
         now = next;
     }
     append_turn(marking, now, &none, out)
-}
-
-/// Appends cells, as lines are written.
-pub(crate) fn append_cells(
-    cells: &[Cell],
-    marking: &Marking,
-    out: &mut Vec<u8>,
-) -> Result<(), AllocError>
-    ensures { OnOk result (out.new.items ≡ out.old.items ++ text_of marking.now cells.now) }
-{
-    if marking.shows_looks() {
-        append_painted(cells, marking, out)
-    } else {
-        append_plain(cells, out)
-    }
 }

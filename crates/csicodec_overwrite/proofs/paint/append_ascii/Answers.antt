@@ -1,19 +1,14 @@
-use Rattle.std.proofs.{Common.◌≡◌, Common.◌++◌, Common.◌∙◌, Common.List, Common.ℕ, Common.[], Common.◌∷◌, Common.⊎_elim, Common.ap, Common.encode_utf8_all}
-use Rattle.std.proofs.{Common.sym, lemmas.Result.on_ok_weaker}
-use Rattle.std.specs.List.{AllByRecursion}
+use Rattle.std.proofs.{Common.◌≡◌, Common.◌++◌, Common.◌∙◌, Common.List, Common.ℕ, Common.⊎_elim, Common.ap, Common.encode_utf8_all, Common.sym}
+use Rattle.std.proofs.{lemmas.Result.on_ok_weaker}
 use Rattle.csicodec_clean.specs.{Bytes.IsPlainByte, Shown.IsShown}
-use Rattle.csicodec_clean.proofs.Told.{encoded, is_shown}
+use Rattle.csicodec_clean.proofs.{PlainBytes.all_weaker, Told.encoded, Told.is_shown}
 use Rattle.csicodec_overwrite.specs.{declared.marking.Marking.Marking, declared.marking.Marking.TheVariants.Plain, declared.marking.Marking.TheVariants.Styled}
 use Rattle.csicodec_overwrite.specs.{Paint.written}
 use Rattle.csicodec_overwrite.proofs.paint.append_ascii.Goals as goal
 
-all_shown : (bs : List ℕ) → AllByRecursion IsPlainByte bs → AllByRecursion IsShown bs
-all_shown [] h = tt
-all_shown (b ∷ bs) h = (is_shown b h.0, all_shown bs h.1)
-
 pub returns-in-Page : goal.returns-in-Page
 returns-in-Page c = rw c.in-Page.is (on_ok_weaker c.append_text.result
-    (λ e plain. e c.args.text.now (all_shown c.args.text.now plain) (encoded c.args.text.now plain))
+    (λ e plain. e c.args.text.now (all_weaker IsPlainByte IsShown is_shown c.args.text.now plain) (encoded c.args.text.now plain))
     c.append_text.ensures)
 
 pub returns-in_ok-extend_from_slice-in-Plain : goal.returns-in_ok-extend_from_slice-in-Plain

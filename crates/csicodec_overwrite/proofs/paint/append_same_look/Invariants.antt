@@ -1,11 +1,11 @@
-use Rattle.std.proofs.Common.{◌≡◌, ◌≤◌, ◌++◌, ℕ, List, length}
+use Rattle.std.proofs.Common.{◌≡◌, ◌≤◌, ◌++◌, length}
 use Rattle.csicodec_overwrite.specs.Paint.{paint}
 use Rattle.csicodec_overwrite.proofs.paint.append_same_look.Given as goal
 
 -- some that look so are painted
 abbrev pub invariant-loop-cell : goal.invariant-loop-cell
 invariant-loop-cell l = record {
-  some : (text : List ℕ) × (paint l.marking l.look l.cells ≡ text ++ paint l.marking l.look l.rest) × (l.out.items ≡ l.fn.out.items ++ text);
+  text : l.out.items ++ paint l.marking l.look l.rest ≡ l.fn.out.items ++ paint l.marking l.look l.cells;
   fewer : length l.rest ≤ length l.cells;
 }
 

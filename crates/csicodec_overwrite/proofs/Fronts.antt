@@ -248,24 +248,17 @@ module _ (marking : Marking) (pen : Pen) (bytes before : List ℕ) where
         longer ∙ ap (λ (t : List ℕ). t ++ told) out ∙ append_assoc before text told,
       )
 
-  -- a sequence in front of it
-  pub sets_written : (rest sequence others mid : List ℕ) (last now after : Look) → IsWrittenTo marking pen bytes before rest last now mid
-      → rest ≡ sequence ++ others → Sets sequence now after → IsWrittenTo marking pen bytes before others last after mid
-  sets_written rest sequence others mid last now after (front, text, split, f, out) parts sets = (
-    front ++ sequence,
-    text,
-    split ∙ ap (λ (t : List ℕ). front ++ t) parts ∙ sym (append_assoc front sequence others),
-    sets_on marking pen front text last now f sequence after sets,
-    out,
-  )
-
-  -- and both
+  -- a sequence in front of it, and the text behind that
   pub styled_written : (mid after text : List ℕ) (old new : LineFront) → pen.inserts ≡ false → new.least ≡ length bytes - most / 8
       → IsWritten marking pen bytes before old mid → IsStyled marking old text new → after ≡ mid ++ text → IsWritten marking pen bytes before new after
-  styled_written mid after text old new over least w s longer =
-      run_written s.others (take (prefix_len line_byte s.others) s.others) new.rest.now mid after old.last new.now new.last over
-      (sets_written old.rest.now s.sequence s.others mid old.last old.now new.now w s.parts s.sets) refl s.rest (omega (arith, least, s.room)) s.looks
-      (longer ∙ ap (λ (t : List ℕ). mid ++ t) s.text)
+  styled_written mid after text old new over least (front, told, split, f, out) s longer =
+      run_written s.others (take (prefix_len line_byte s.others) s.others) new.rest.now mid after old.last new.now new.last over (
+        front ++ s.sequence,
+        told,
+        split ∙ ap (λ (t : List ℕ). front ++ t) s.parts ∙ sym (append_assoc front s.sequence s.others),
+        sets_on marking pen front told old.last old.now f s.sequence new.now s.sets,
+        out,
+      ) refl s.rest (omega (arith, least, s.room)) s.looks (longer ∙ ap (λ (t : List ℕ). mid ++ t) s.text)
 
 -- ---- the end of the line
 

@@ -5,7 +5,8 @@ use Rattle.csicodec_filter.specs.Transform.{Begins, GoesOn, Sends, Transforms}
 use Rattle.csicodec_overwrite.specs.{declared.line.Line.Line, Paint.text_of, Paint.texts_of, Private.Seen.PassesFront, declared.marking.Marking.Marking}
 use Rattle.csicodec_overwrite.specs.{Reading.Shows, Reading.most, Reading.shown_by, declared.pen.Pen.Pen, declared.step.Step.Step, Cells.columns, Steps.of_run}
 use Rattle.csicodec_overwrite.specs.{Line.blank, Line.cells_of, Line.do_all, Line.does, Line.fresh, Line.pen_behind, Line.pen_behind_all, Stream.AreTaken}
-use Rattle.csicodec_overwrite.specs.{Stream.Ending, Stream.Now, Stream.Passes, Stream.Reads, Stream.begun_as, Stream.none_held}
+use Rattle.csicodec_overwrite.specs.{Stream.Ending, Stream.Held, Stream.Now, Stream.Passes, Stream.Reads, Stream.begun_as, Stream.none_held}
+use Rattle.csicodec_overwrite.specs.{Private.Row.DoesAll}
 use Rattle.csicodec_overwrite.proofs.{Read.reads_none, Read.reads_on, Read.whole_reads, Texts.texts_on}
 
 -- ---- steps, and then others
@@ -49,16 +50,20 @@ passes_on old mid new first second one two p q = record {
 pub goes : (old new : Now) (bytes text : List ℕ) → Passes old bytes text new → GoesOn Passes old bytes text new
 goes old new bytes text q first read written p = passes_on first old new read bytes written text p q
 
+-- nothing is taken, where nothing is held
+pub none_taken : (now : Now) (bytes out : List ℕ) → now.reader ≡ none_held → PassesFront now bytes bytes now out out
+none_taken now bytes out bare = record { front = []; text = []; split = refl; passes = passes_none now bare; out = sym (append-nil out) }
+
 -- what is taken in front, and then of the rest
-pub front_on : (old mid new : Now) (bytes between rest before now after : List ℕ) → PassesFront old bytes between mid before now
+pub front_on : {old mid new : Now} {bytes between rest before now after : List ℕ} → PassesFront old bytes between mid before now
     → PassesFront mid between rest new now after → PassesFront old bytes rest new before after
-front_on old mid new bytes between rest before now after (front, text, split, passes, out) (here, more, next, then, longer) = (
-  front ++ here,
-  text ++ more,
-  split ∙ ap (λ (t : List ℕ). front ++ t) next ∙ sym (append_assoc front here rest),
-  passes_on old mid new front here text more passes then,
-  longer ∙ ap (λ (t : List ℕ). t ++ more) out ∙ append_assoc before text more,
-)
+front_on {old} {mid} {new} {rest} {before} p q = record {
+  front = p.front ++ q.front;
+  text = p.text ++ q.text;
+  split = p.split ∙ ap (λ (t : List ℕ). p.front ++ t) q.split ∙ sym (append_assoc p.front q.front rest);
+  passes = passes_on old mid new p.front q.front p.text q.text p.passes q.passes;
+  out = q.out ∙ ap (λ (t : List ℕ). t ++ q.text) p.out ∙ append_assoc before p.text q.text;
+}
 
 -- the end
 pub shows : (marking : Marking) (bytes text rest : List ℕ) (last : Now) → Passes (begun_as marking) bytes text last → Ending last rest → Shows marking bytes (text ++ rest)
@@ -84,12 +89,17 @@ begins marking AreAll bytes sent (unsent, h) = ⊎_elim
 
 -- ---- what is appended
 
-pub pushed : (old new : Now) (bytes : List ℕ) (steps : List Step) (before after : List ℕ) → Reads old.reader bytes steps new.reader
-    → new.pen ≡ pen_behind_all most old.pen steps old.line → new.marking ≡ old.marking
-    → new.line ≡ (do_all most old.pen steps old.line).line → after ≡ before ++ texts_of old.marking (do_all most old.pen steps old.line).lines
-    → (text : List ℕ) × Passes old bytes text new × (after ≡ before ++ text)
-pushed old new bytes steps before after reads pen marking line out =
-    (texts_of old.marking (do_all most old.pen steps old.line).lines, record { steps = steps; reads = reads; pen = pen; marking = marking; line = line; all = refl }, out)
+-- the steps of bytes in front are done
+pub taken : {old : Now} {reader : Held} {pen : Pen} {line : Line} {steps : List Step} {bytes rest before after : List ℕ} (front : List ℕ)
+    → bytes ≡ front ++ rest → Reads old.reader front steps reader → DoesAll old.marking steps old.pen pen old.line line before after
+    → PassesFront old bytes rest (record { reader = reader; pen = pen; marking = old.marking; line = line }) before after
+taken {old} {steps} front split reads does = record {
+  front = front;
+  text = texts_of old.marking (do_all most old.pen steps old.line).lines;
+  split = split;
+  passes = record { steps = steps; reads = reads; pen = does.pen; marking = refl; line = does.line; all = refl };
+  out = does.text;
+}
 
 pub finished : (last : Now) (steps : List Step) (line : Line) (before now after : List ℕ) → steps ≡ of_run last.reader.held → line ≡ (do_all most last.pen steps last.line).line
     → now ≡ before ++ texts_of last.marking (do_all most last.pen steps last.line).lines → after ≡ now ++ text_of last.marking (cells_of line)

@@ -185,7 +185,7 @@ fn append_styled<'a>(
     if len == 0 || behind.len() < front.least {
         return Ok(false);
     }
-    if front.even && !run.is_empty() {
+    if front.even && marking.shows_looks() && !run.is_empty() {
         if !append_even(reader, steps, turns, marking, front, len, out)? {
             return Ok(false);
         }
@@ -204,55 +204,8 @@ fn append_styled<'a>(
 }
 
 /// Appends the front of a line that was blank, up to the first byte that is no text of ASCII, nor of a sequence that sets how it looks.
-/// A line has room for it.
+/// A line has room for it. Where lines show that, what sequences turn is looked up in `turns`, and kept there.
 pub(crate) fn append_front<'a>(
-    reader: &mut Reader,
-    steps: &mut Vec<Step>,
-    pen: Pen,
-    marking: &Marking,
-    bytes: &'a [u8],
-    out: &mut Vec<u8>,
-) -> Result<LineFront<'a>, AllocError>
-    requires bare { reader.old ≡ none_held }
-    requires over { pen.inserts ≡ false }
-    ensures written { IfOk result (λ f. IsWritten marking.now pen bytes.now out.old.items f out.new.items) }
-    ensures bare { OnOk result (reader.new ≡ none_held) }
-{
-    let start = LineFront {
-        rest: bytes,
-        last: Look::plain(),
-        now: pen.look,
-        even: false,
-        least: 0,
-    };
-    let (mut rest, mut last, mut now) = (bytes, start.last, start.now);
-    loop {
-        let (run, behind) = split_front::<InLine>(rest);
-        if LIMIT / 8 < bytes.len().saturating_sub(behind.len()) {
-            return Ok(LineFront {
-                rest,
-                last,
-                now,
-                ..start
-            });
-        }
-        append_run(&mut last, &now, run, marking, out)?;
-        rest = behind;
-        let (sequence, others) = rest.split_at(style_len(rest));
-        if !turn_bytes(reader, steps, &mut now, sequence)? {
-            return Ok(LineFront {
-                rest,
-                last,
-                now,
-                ..start
-            });
-        }
-        rest = others;
-    }
-}
-
-/// The same where lines show how characters look: what sequences turn is looked up in `turns`, and kept there.
-pub(crate) fn append_shown<'a>(
     reader: &mut Reader,
     steps: &mut Vec<Step>,
     turns: &mut Turns,

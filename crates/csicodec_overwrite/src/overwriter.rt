@@ -5,7 +5,7 @@ ghost use Rattle.csicodec_overwrite.specs.Private.{Front.IsWritten, Plain.PutsPl
 ghost use Rattle.csicodec_overwrite.specs.Stream.{Ending, Passes, begun, begun_as, none_held};
 
 use crate::ascii::{InLine, begins_sequence, behind_end, odd_len, split_lines};
-use crate::front::{LineFront, append_front, append_shown};
+use crate::front::{LineFront, append_front};
 use crate::marking::Marking;
 use crate::paint::{append_ascii, append_turn};
 use crate::pen::Pen;
@@ -96,13 +96,6 @@ impl Overwriter {
         self.crooked = usize::MAX;
     }
 
-    /// Whether nothing is open or held.
-    fn is_bare(&self) -> bool
-        ensures { result ≡ true → self.now.reader ≡ none_held }
-    {
-        self.reader.is_bare()
-    }
-
     /// Takes the text of ASCII in front, and answers what is behind it.
     #[inline(always)]
     fn take_text<'a>(&mut self, bytes: &'a [u8], out: &mut Vec<u8>) -> Result<&'a [u8], AllocError>
@@ -118,20 +111,6 @@ impl Overwriter {
         let (text, rest) = split_front::<InLine>(bytes);
         self.line.put_text(&mut self.pen, text, &self.marking, out)?;
         Ok(rest)
-    }
-
-    /// Takes bytes step by step, whatever they are.
-    fn take_steps(&mut self, bytes: &[u8], out: &mut Vec<u8>) -> Result<(), AllocError>
-        ensures passes { OnOk result ((text : List ℕ) × Passes self.old bytes.now text self.new
-            × (out.new.items ≡ out.old.items ++ text)) }
-        ensures held { OnOk result
-            (length self.old.reader.held ≤ 3 → length self.new.reader.held ≤ 3) }
-    {
-        self.steps.clear();
-        self.reader.push(bytes, &mut self.steps)?;
-        self.line
-            .take_all(&mut self.pen, &self.steps, &self.marking, out)?;
-        Ok(())
     }
 
     /// Takes a slice in front that came before, and answers what is behind it. It takes nothing where the end of a line stands.
@@ -188,7 +167,7 @@ impl Overwriter {
         }
     }
 
-    /// Takes some bytes in front step by step, and answers the others.
+    /// Takes some bytes in front step by step, whatever they are, and answers the others.
     fn take_odd<'a>(&mut self, bytes: &'a [u8], out: &mut Vec<u8>) -> Result<&'a [u8], AllocError>
         ensures passes { IfOk result (λ rest. PassesFront self.old bytes.now rest.now self.new
             out.old.items out.new.items) }
@@ -197,21 +176,20 @@ impl Overwriter {
         ensures held { OnOk result
             (length self.old.reader.held ≤ 3 → length self.new.reader.held ≤ 3) }
     {
-        let (front, rest) = bytes.split_at(odd_len(bytes, !self.is_bare()));
-        self.take_steps(front, out)?;
+        let (front, rest) = bytes.split_at(odd_len(bytes, !self.reader.is_bare()));
+        self.steps.clear();
+        self.reader.push(front, &mut self.steps)?;
+        self.line
+            .take_all(&mut self.pen, &self.steps, &self.marking, out)?;
         Ok(rest)
     }
 
-    /// Whether a line is tried that is written as it comes.
-    fn is_tried(&self, bytes: &[u8]) -> bool {
-        bytes.len() <= self.crooked && (self.missed < PATIENCE || bytes.len() % EVERY == 0)
-    }
-
-    /// Whether such a line may begin here, and is tried.
+    /// Whether a line that is written as it comes may begin here, and is tried.
     fn begins_line(&self, bytes: &[u8]) -> bool
         ensures { result ≡ true → (self.now.line ≡ blank) × (self.now.pen.inserts ≡ false) }
     {
-        self.is_tried(bytes) && self.line.is_blank() && !self.pen.inserts
+        let is_tried = self.missed < PATIENCE || bytes.len() % EVERY == 0;
+        bytes.len() <= self.crooked && is_tried && self.line.is_blank() && !self.pen.inserts
     }
 
     /// Ends the line.
@@ -238,12 +216,8 @@ impl Overwriter {
         ensures written { IfOk result (λ f. IsWritten self.old.marking self.old.pen bytes.now out.old.items f out.new.items) }
         ensures same { OnOk result (self.new ≡ self.old) }
     {
-        let (reader, steps) = (&mut self.reader, &mut self.steps);
-        let (pen, marking) = (self.pen, &self.marking);
-        if marking.shows_looks() {
-            return append_shown(reader, steps, &mut self.turns, pen, marking, bytes, out);
-        }
-        append_front(reader, steps, pen, marking, bytes, out)
+        let (reader, steps, turns) = (&mut self.reader, &mut self.steps, &mut self.turns);
+        append_front(reader, steps, turns, self.pen, &self.marking, bytes, out)
     }
 
     /// Takes the line in front, written as it comes, and answers what is behind it. Where it can't be, it takes nothing.
@@ -343,7 +317,7 @@ impl Overwriter {
         ensures held { OnOk result
             (length self.old.reader.held ≤ 3 → length self.new.reader.held ≤ 3) }
     {
-        if !self.is_bare() {
+        if !self.reader.is_bare() {
             return self.take_odd(bytes, out);
         }
         let rest = self.take_ready(bytes, out)?;

@@ -11,6 +11,9 @@ abbrev pub AreSlices : List Slice → Type 0
 AreSlices kept = All IsSlice kept
 
 -- the bytes in front of the rest pass, and their text is appended
-abbrev pub PassesFront : Now → List ℕ → List ℕ → Now → List ℕ → List ℕ → Type 0
-PassesFront old bytes rest new before after = (front : List ℕ) × (text : List ℕ) × (bytes ≡ front ++ rest)
-    × Passes old front text new × (after ≡ before ++ text)
+pub record PassesFront (old : Now) (bytes rest : List ℕ) (new : Now) (before after : List ℕ) : Type 0 where
+  pub front : List ℕ
+  pub text : List ℕ
+  pub split : bytes ≡ front ++ rest
+  pub passes : Passes old front text new
+  pub out : after ≡ before ++ text

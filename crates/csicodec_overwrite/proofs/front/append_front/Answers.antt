@@ -1,41 +1,43 @@
-use Rattle.std.proofs.Common.{◌≡◌, true, false, rules, sym, subst, arith}
-use Rattle.csicodec_html.specs.declared.look.Look.{Look}
-use Rattle.csicodec_overwrite.specs.Private.Front.{IsWrittenTo}
-use Rattle.csicodec_overwrite.proofs.{Fronts.front_begins, Fronts.run_written, Fronts.sets_written, Straight.split_line}
+use Rattle.std.proofs.Common.{◌≡◌, ◌∙◌, true, sym, rules, subst, arith}
+use Rattle.csicodec_html.specs.{Turns.AreTurns, Look.plain}
+use Rattle.csicodec_html.proofs.Recalled.{same_look}
+use Rattle.csicodec_overwrite.specs.Turned.{Turned}
+use Rattle.csicodec_overwrite.proofs.{Fronts.front_begins, Fronts.run_written, Fronts.styled_written, Straight.split_line}
 use Rattle.csicodec_overwrite.proofs.front.append_front.Goals as goal
 
-pub loop-run-init : goal.loop-run-init
-loop-run-init c = record {
-  front = rw c.plain.ensures (front_begins c.args.marking.now c.args.pen c.args.bytes.now c.args.out.now.items);
-  bare = c.requires.bare;
-}
+pub returns-then-behind-front-clause-written : goal.returns-then-behind-front-clause-written
+returns-then-behind-front-clause-written c =
+    rw c.plain.ensures (front_begins c.args.marking.now c.args.pen c.args.bytes.now c.args.out.now.items)
 
-pub loop-run-preserved : goal.loop-run-preserved
-loop-run-preserved c =
-    let l = c.loop-run in
+pub loop-init : goal.loop-init
+loop-init c =
+    let bytes = c.args.bytes.now in
+    let out = c.args.out.now.items in
     let run = c.split_front.result.0.now in
     let behind = c.split_front.result.1.now in
-    let lines = (split_line l.rest.now run behind c.split_front.ensures.front c.split_front.ensures.rest).1 in
-    let turned : c.in_ok-turn_bytes.field-0 ≡ true = search rules in
+    let lines = (split_line bytes run behind c.split_front.ensures.front c.split_front.ensures.rest).1 in
     record {
-      front = sets_written c.args.marking.now c.args.pen c.args.bytes.now c.args.out.now.items behind c.split_at.result.0.now c.split_at.result.1.now
-          c.append_run.new.out.items c.append_run.new.last l.now c.turn_bytes.new.look
-          (run_written c.args.marking.now c.args.pen c.args.bytes.now c.args.out.now.items l.rest.now run behind l.out.items c.append_run.new.out.items
-          l.last l.now c.append_run.new.last c.requires.over l.invariant.front c.split_front.ensures.front c.split_front.ensures.rest
-          (omega (arith, c.if-saturating_sub.false, c.saturating_sub.ensures)) c.in_ok-append_run.ensures.looks (c.in_ok-append_run.ensures.text lines))
-          c.split_at.ensures.by_index.0 (c.in_ok-turn_bytes.ensures.sets turned);
-      bare = c.in_ok-turn_bytes.ensures.bare;
+      bare = c.requires.bare;
+      known = subst (AreTurns (Turned c.args.marking.now)) (sym c.stand.ensures) c.requires.known;
+      even = λ is. same_look _ _ (rw c.eq.ensures at is);
+      least = c.saturating_sub.ensures;
+      written = run_written c.args.marking.now c.args.pen bytes out bytes run behind out c.append_run.new.out.items plain c.args.pen.look
+          c.append_run.new.last c.requires.over (front_begins c.args.marking.now c.args.pen bytes out) c.split_front.ensures.front
+          c.split_front.ensures.rest (omega (arith, c.if-behind-front.false, c.saturating_sub.ensures))
+          (rw c.plain.ensures at c.in_ok-append_run.ensures.looks) (rw c.plain.ensures at c.in_ok-append_run.ensures.text lines);
     }
 
-pub returns-then-not-branch-clause-written : goal.returns-then-not-branch-clause-written
-returns-then-not-branch-clause-written c =
-    let l = c.loop-run in
-    let run = c.split_front.result.0.now in
-    let behind = c.split_front.result.1.now in
-    let lines = (split_line l.rest.now run behind c.split_front.ensures.front c.split_front.ensures.rest).1 in
-    let turned : c.in_ok-turn_bytes.field-0 ≡ false = search rules in
-    subst (λ (now : Look). IsWrittenTo c.args.marking.now c.args.pen c.args.bytes.now c.args.out.now.items behind c.append_run.new.last now c.append_run.new.out.items)
-    (sym (c.in_ok-turn_bytes.ensures.kept turned))
-    (run_written c.args.marking.now c.args.pen c.args.bytes.now c.args.out.now.items l.rest.now run behind l.out.items c.append_run.new.out.items
-    l.last l.now c.append_run.new.last c.requires.over l.invariant.front c.split_front.ensures.front c.split_front.ensures.rest
-    (omega (arith, c.if-saturating_sub.false, c.saturating_sub.ensures)) c.in_ok-append_run.ensures.looks (c.in_ok-append_run.ensures.text lines))
+pub loop-preserved : goal.loop-preserved
+loop-preserved c =
+    let kept = c.loop.invariant in
+    let more : c.in_ok-append_styled.field-0 ≡ true = search rules in
+    let (text, s, longer) = c.in_ok-append_styled.ensures.styled more in
+    record {
+      bare = c.in_ok-append_styled.ensures.bare;
+      known = c.in_ok-append_styled.ensures.known;
+      even = c.in_ok-append_styled.ensures.even;
+      least = s.least ∙ kept.least;
+      written = styled_written c.args.marking.now c.args.pen c.args.bytes.now c.args.out.now.items c.loop.out.items
+          c.append_styled.new.out.items text c.loop.front c.append_styled.new.front c.requires.over (s.least ∙ kept.least)
+          kept.written s longer;
+    }

@@ -1,13 +1,17 @@
-use Rattle.std.proofs.Common.{◌≡◌, length}
-use Rattle.csicodec_overwrite.specs.{Private.Front.IsWrittenTo, Stream.none_held}
+use Rattle.std.proofs.Common.{◌≡◌, ◌-◌, ◌/◌, true, length}
+use Rattle.csicodec_html.specs.Turns.{AreTurns}
+use Rattle.csicodec_overwrite.specs.{Private.Front.IsWritten, Turned.Turned, Reading.most, Stream.none_held}
 use Rattle.csicodec_overwrite.proofs.front.append_front.Given as goal
 
 -- a front is written
-abbrev pub invariant-loop-run : goal.invariant-loop-run
-invariant-loop-run l = record {
-  front : IsWrittenTo l.fn.marking l.fn.pen l.bytes l.fn.out.items l.rest l.last l.now l.out.items;
+abbrev pub invariant-loop : goal.invariant-loop
+invariant-loop l = record {
   bare : l.reader ≡ none_held;
+  known : AreTurns (Turned l.fn.marking) l.turns.kept.items;
+  even : l.front.even ≡ true → l.front.last ≡ l.front.now;
+  least : l.front.least ≡ length l.fn.bytes - most / 8;
+  written : IsWritten l.fn.marking l.fn.pen l.fn.bytes l.fn.out.items l.front l.out.items;
 }
 
-abbrev pub decreases-loop-run : goal.decreases-loop-run
-decreases-loop-run l = length l.rest
+abbrev pub decreases-loop : goal.decreases-loop
+decreases-loop l = length l.front.rest.now

@@ -11,12 +11,11 @@ pub loop-rest-preserved : goal.loop-rest-preserved
 loop-rest-preserved c =
     let l = c.loop-rest in
     record {
-      passes = front_on c.args.self.now l.self c.take_front-in-loop-rest.new.self c.args.bytes.now l.rest.now c.in_ok-rest-2.rest.now c.args.out.now.items
-          l.out.items c.take_front-in-loop-rest.new.out.items l.invariant.passes c.in_ok-rest-2.ensures.passes;
+      passes = front_on l.invariant.passes c.in_ok-rest-2.ensures.passes;
       held = λ few. c.in_ok-rest-2.ensures.held (l.invariant.held few);
     }
 
 pub returns-clause-passes : goal.returns-clause-passes
 returns-clause-passes c =
-    let (front, text, split, passes, out) = c.loop-rest.invariant.passes in
-    (text, subst (λ t. Passes c.args.self.now t text c.loop-rest.self) (none_left c.args.bytes.now front c.loop-rest.rest.now split (search rules)) passes, out)
+    let p = c.loop-rest.invariant.passes in
+    (p.text, subst (λ t. Passes c.args.self.now t p.text c.loop-rest.self) (none_left c.args.bytes.now p.front c.loop-rest.rest.now p.split (search rules)) p.passes, p.out)

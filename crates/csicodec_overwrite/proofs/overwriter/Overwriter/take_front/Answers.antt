@@ -3,16 +3,14 @@ use Rattle.csicodec_overwrite.proofs.Written.{front_on}
 use Rattle.csicodec_overwrite.proofs.overwriter.Overwriter.take_front.Goals as goal
 
 pub returns-clause-passes : goal.returns-clause-passes
-returns-clause-passes c =
-    front_on c.args.self.now c.take_ready.new.self c.take_odd-2.new.self c.args.bytes.now c.in_ok-rest.rest.now c.in_ok-odd.odd.now c.args.out.now.items
-    c.take_ready.new.out.items c.take_odd-2.new.out.items c.in_ok-rest.ensures.passes c.in_ok-odd.ensures.passes
+returns-clause-passes c = front_on c.in_ok-rest.ensures.passes c.in_ok-odd.ensures.passes
 
 pub returns-clause-fewer : goal.returns-clause-fewer
 returns-clause-fewer c = λ some.
-    let (front, text, split, passes, out) = c.in_ok-rest.ensures.passes in
+    let p = c.in_ok-rest.ensures.passes in
     omega (
       arith,
       c.in_ok-odd.ensures.fewer (omega (arith, some, c.if-rest-bytes.false)),
-      ap length split,
-      length-append front c.in_ok-rest.rest.now,
+      ap length p.split,
+      length-append p.front c.in_ok-rest.rest.now,
     )

@@ -1,18 +1,16 @@
-use Rattle.std.proofs.{Common.◌≡◌, Common.◌<◌, Common.◌∙◌, Common.arith, Common.false, Common.length, Common.refl, Common.sym, lemmas.Bool.Decides.nat_tests}
+use Rattle.std.proofs.{Common.◌≡◌, Common.◌<◌, Common.◌∙◌, Common.arith, Common.false, Common.length, Common.sym, lemmas.Bool.Decides.nat_tests}
 use Rattle.std.specs.Prelude.{◌==◌}
-use Rattle.csicodec_overwrite.proofs.Written.{pushed}
+use Rattle.csicodec_overwrite.specs.Stream.{Reads}
+use Rattle.csicodec_overwrite.proofs.Written.{taken}
 use Rattle.csicodec_overwrite.proofs.overwriter.Overwriter.take_known.Goals as goal
 
 pub returns-clause-passes : goal.returns-clause-passes
 returns-clause-passes c =
-    let now = c.self.inside in
-    let bare = rw (← c.self.view_is) at c.requires in
+    let held = c.self.inside.reader in
     let front = c.split_at.result.0.now in
-    let (text, passes, out) =
-    pushed (record { reader = now.reader; pen = now.pen; marking = now.marking; line = now.line })
-    (record { reader = now.reader; pen = c.take_all.new.pen; marking = now.marking; line = c.take_all.new.self }) front c.in-Some.known.now c.args.out.now.items
-    c.take_all.new.out.items (rw bare c.in-Some.ensures) c.in_ok-take_all.ensures.pen refl c.in_ok-take_all.ensures.line c.in_ok-take_all.ensures.text in
-    rw (← c.self.view_is) (front, text, c.split_at.ensures.by_index.0, passes, out)
+    let bare = rw (← c.self.view_is) at c.requires in
+    let reads : Reads held front c.in-Some.known.now held = rw bare c.in-Some.ensures in
+    rw (← c.self.view_is) (taken front c.split_at.ensures.by_index.0 reads c.in_ok-take_all.ensures)
 
 pub returns-clause-fewer : goal.returns-clause-fewer
 returns-clause-fewer c =

@@ -15,15 +15,15 @@ returns-clause-passes c =
     let before = c.args.out.now.items in
     let bare = rw (← is) at c.requires.bare in
     let blank = rw (← is) at c.requires.blank in
-    rw (← is) (
-      front ++ end_of returned,
-      text ++ (end ++ 10 ∷ []),
-      split ∙ ap (λ t. front ++ t) ends ∙ sym (append_assoc front (end_of returned) c.in-Some.rest.now),
-      line_passes (record { reader = c.self.inside.reader; pen = c.self.inside.pen; marking = marking; line = c.self.inside.line })
+    rw (← is) (record {
+      front = front ++ end_of returned;
+      text = text ++ (end ++ 10 ∷ []);
+      split = split ∙ ap (λ t. front ++ t) ends ∙ sym (append_assoc front (end_of returned) c.in-Some.rest.now);
+      passes = line_passes (record { reader = c.self.inside.reader; pen = c.self.inside.pen; marking = marking; line = c.self.inside.line })
           (record { reader = c.self.inside.reader; pen = c.take.new.self; marking = marking; line = c.self.inside.line }) front
-          text line.last line.now returned bare refl blank refl refl c.take.ensures f,
-      c.in_ok-push.ensures.items ∙ ap (λ t. t ++ 10 ∷ [])
+          text line.last line.now returned bare refl blank refl refl c.take.ensures f;
+      out = c.in_ok-push.ensures.items ∙ ap (λ t. t ++ 10 ∷ [])
           (c.in_ok-append_turn.ensures ∙ ap (λ l. c.append_front.new.out.items ++ turn marking line.last l) c.plain.ensures
           ∙ ap (λ t. t ++ end) out)
-          ∙ append_assoc (before ++ text) end (10 ∷ []) ∙ append_assoc before text (end ++ 10 ∷ []),
-    )
+          ∙ append_assoc (before ++ text) end (10 ∷ []) ∙ append_assoc before text (end ++ 10 ∷ []);
+    })

@@ -13,7 +13,7 @@ use Rattle.csicodec_base.specs.declared.sgr.Sgr.{Sgr}
 use Rattle.csicodec_terminal.specs.Terminal.{IsTakenFor}
 use Rattle.csicodec_spans.specs.{declared.table.Kind.Kind, Parts.Part}
 use Rattle.csicodec_clean.specs.{Shown.IsPlain, Shown.IsShown, Titles.with_titles}
-use Rattle.csicodec_clean.proofs.{Plain.scalars_lossy, Taken.taken_range}
+use Rattle.csicodec_clean.proofs.{Plain.scalars_lossy, PlainBytes.all_weaker, Taken.taken_range}
 use Rattle.csicodec_html.specs.{declared.look.Look.Look, Look.behind, Look.plain}
 use Rattle.csicodec_overwrite.specs.Steps.{by_code, of_action, of_actions, of_char, of_chars, of_code, of_control, of_cursor, of_device, of_display, of_edit, of_escape, of_final, of_mode, of_part, of_reset, of_run, by_escape, of_sequence, of_set, of_string, of_terminal_code, of_terminal_mode, of_wrong}
 use Rattle.csicodec_overwrite.specs.{declared.step.Step.Step, Line.blank, Line.do_all, Line.fresh, Paint.IsInRange, Reading.AreOfParts, Reading.IsOfPart}
@@ -187,10 +187,6 @@ pub scalars : (cs : List ℕ) → AllByRecursion IsGood cs → all_scalars cs �
 scalars [] h = refl
 scalars (c ∷ cs) h = and_from (scalar c) (all_scalars cs) h.0.1 (scalars cs h.1)
 
-all_shown : (cs : List ℕ) → AllByRecursion IsGood cs → AllByRecursion IsShown cs
-all_shown [] h = tt
-all_shown (c ∷ cs) h = (h.0.0, all_shown cs h.1)
-
 pub shown_good : (bytes : List ℕ) (steps : List Step) → Steps bytes steps → AllByRecursion IsGood (chars_by (do_all most fresh steps blank))
 shown_good bytes steps s = of_shown IsGood IsInRange SgrInRange (refl, refl) (refl, refl) plain_kept kept (refl, refl) most steps (steps_good bytes steps s)
 
@@ -198,4 +194,4 @@ pub overwritten_plain : (bytes text : List ℕ) → Overwrites bytes text → Is
 overwritten_plain bytes text o =
     let d = do_all most fresh o.steps blank in
     let good = shown_good bytes o.steps o.read in
-    (chars_by d, scalars (chars_by d) good, all_shown (chars_by d) good, o.all ∙ shown_plain d)
+    (chars_by d, scalars (chars_by d) good, all_weaker IsGood IsShown (λ c h. h.0) (chars_by d) good, o.all ∙ shown_plain d)

@@ -2,11 +2,29 @@
 use Rattle.std.proofs.Common.{◌≡◌, ◌<◌, ◌≤◌, ℕ, zero, suc, ◌+◌, ◌-◌, Bool, true, cond, min, List, [], ◌∷◌, ◌++◌, length, replicate, refl, sym, ap, ◌∙◌, arith}
 use Rattle.std.proofs.{lemmas.Bool.Decides.nat_tests, lemmas.List.length-append, lemmas.List.length-replicate}
 use Rattle.std.specs.Prelude.{◌&&◌, nat_lt, Option, Some, None}
-use Rattle.csicodec_overwrite.specs.Line.{alters, behind_columns, done, entered, forward, leave, line, over, size, standing, widest}
+use Rattle.csicodec_overwrite.specs.Line.{alters, behind_columns, do_all, does, done, entered, forward, leave, line, over, pen_behind, size, standing, widest}
 use Rattle.csicodec_overwrite.specs.{declared.cells.Cell.Cell, Cells.columns, Cells.onto, Cells.takes, Cells.trimmed, declared.cells.Cell.TheVariants.Empty}
-use Rattle.csicodec_overwrite.specs.{Private.Row.back, Private.Row.settled, declared.line.Line.Line, declared.step.Step.Step}
-use Rattle.csicodec_overwrite.proofs.Moved.{back_zero, by_back, columns_both, columns_empty, columns_onto, takes_few}
+use Rattle.csicodec_overwrite.specs.{Private.Row.Does, Private.Row.StillDoes, Private.Row.back, Private.Row.settled, Reading.most, declared.line.Line.Line}
+use Rattle.csicodec_overwrite.specs.{declared.marking.Marking.Marking, declared.pen.Pen.Pen, declared.step.Step.Step}
+use Rattle.csicodec_overwrite.proofs.Moved.{back_zero, by_back, columns_both, columns_empty, columns_onto, step_text, takes_few}
 use Rattle.csicodec_overwrite.proofs.Room.{moved, over_size}
+
+-- ---- steps in turn
+
+-- one more is done
+pub does_on : {marking : Marking} {steps : List Step} {first pen next : Pen} {l m n : Line}
+    {before now after : List ℕ} (s : Step) (rest : List Step)
+    → StillDoes marking steps (s ∷ rest) first pen l m before now
+    → Does marking (does most pen s m) n now after → next ≡ pen_behind pen s (columns m.left)
+    → StillDoes marking steps rest first next l n before after
+does_on {marking} {pen} {m} {now} {after} s rest still d e =
+    let first = does most pen s m in
+    let later = do_all most (pen_behind pen s (columns m.left)) rest first.line in
+    record {
+      line = rw (d.line, e) still.line;
+      pen = rw (d.line, e) still.pen;
+      text = rw (d.line, e) (step_text marking now after first.lines later.lines _ d.text still.text);
+    }
 
 -- ---- tests
 

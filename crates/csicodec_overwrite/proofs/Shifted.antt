@@ -1,7 +1,7 @@
 -- Cells that are shifted, from the nearest on.
 use Rattle.std.proofs.Common.{◌≡◌, ℕ, ◌+◌, ◌<◌, ◌≤◌, Bool, true, false, cond, ◌==◌, List, [], ◌∷◌, ◌++◌, length, drop, get_or, reverse, set, take, refl, sym, ap, ◌∙◌, arith, append_assoc, append-nil}
-use Rattle.std.proofs.lemmas.List.{length-set, reverse-append, set-get_or, take-set-le, take-take, take_all, take_more}
-use Rattle.std.proofs.{Math.Seq.drop-length, lemmas.Grind.drop-set_at}
+use Rattle.std.proofs.{lemmas.List.length-set, lemmas.List.reverse-append, lemmas.List.set-get_or, lemmas.List.take-set-le, lemmas.List.take_all}
+use Rattle.std.proofs.{lemmas.List.take_more, Math.Seq.drop-length, lemmas.Grind.drop-set_at}
 use Rattle.csicodec_overwrite.specs.{declared.cells.Cell.Cell, declared.cells.Cell.TheVariants.Char, declared.cells.Cell.TheVariants.Empty, Cells.columns}
 use Rattle.csicodec_overwrite.specs.{Cells.of_tab, Cells.shifted, Cells.takes, Cells.untabbed}
 
@@ -29,16 +29,13 @@ shifted_stays t (x ∷ xs) =
 
 -- ---- the loop
 
--- up to here they are as they were, and all others are shifted
+-- up to here they are still to be shifted, and all others are
 abbrev pub Shifts : List Cell → ℕ → Bool → List Cell → Type 0
-Shifts old at tab cells = (at ≤ length cells) × (length cells ≡ length old) × (take at cells ≡ take at old)
-    × (shifted false (reverse old) ≡ reverse (drop at cells) ++ shifted tab (reverse (take at cells)))
+Shifts old at tab cells = (at ≤ length cells) × (shifted false (reverse old) ≡ reverse (drop at cells) ++ shifted tab (reverse (take at cells)))
 
 pub none_shifted : (old : List Cell) → Shifts old (length old) false old
 none_shifted old = (
   omega arith,
-  refl,
-  refl,
   ap (λ (t : List Cell). shifted false (reverse t)) (sym (take_all (length old) old (omega arith)))
       ∙ ap (λ (t : List Cell). reverse t ++ shifted false (reverse (take (length old) old))) (sym (drop-length old)),
 )
@@ -55,9 +52,7 @@ one_shifted old cells at n tab d e h =
     let last : reverse (take at cells) ≡ x ∷ reverse (take n cells) = ap (λ (m : ℕ). reverse (take m cells)) e ∙ ap reverse (take_more cells n d less) ∙ reverse-append (take n cells) (x ∷ []) in
     let both : reverse (drop n new) ≡ reverse (drop at cells) ++ untabbed t x ∷ [] = ap reverse rest ∙ reverse-append (untabbed t x ∷ []) (drop (n + 1) cells) ∙ ap (λ (m : ℕ). reverse (drop m cells) ++ untabbed t x ∷ []) (sym e) in (
       omega (arith, less, length-set cells n (untabbed t x)),
-      length-set cells n (untabbed t x) ∙ h.1,
-      front ∙ sym (take-take n at cells (omega (arith, e))) ∙ ap (take n) h.2 ∙ take-take n at old (omega (arith, e)),
-      h.3 ∙ ap (λ (zs : List Cell). reverse (drop at cells) ++ shifted tab zs) last
+      h.1 ∙ ap (λ (zs : List Cell). reverse (drop at cells) ++ shifted tab zs) last
           ∙ sym (append_assoc (reverse (drop at cells)) (untabbed t x ∷ []) (shifted t (reverse (take n cells))))
           ∙ ap (λ (zs : List Cell). zs ++ shifted t (reverse (take n cells))) (sym both)
           ∙ ap (λ (zs : List Cell). reverse (drop n new) ++ shifted t (reverse zs)) (sym front),
@@ -71,7 +66,7 @@ one_kept old cells at n tab d e h none =
     rw (← same) (rw none at (one_shifted old cells at n tab d e h))
 
 pub all_shifted : (old cells : List Cell) (tab : Bool) → Shifts old 0 tab cells → reverse cells ≡ shifted false (reverse old)
-all_shifted old cells tab h = sym (h.3 ∙ append-nil (reverse cells))
+all_shifted old cells tab h = sym (h.1 ∙ append-nil (reverse cells))
 
 -- ---- what stays as it is
 

@@ -8,8 +8,8 @@ use Rattle.bstr.specs.Utf8.{lossy_chars}
 use Rattle.csicodec_spans.specs.Parts.{Part}
 use Rattle.csicodec_spans.proofs.OneSpan.{none_unsure, singles}
 use Rattle.csicodec_clean.specs.{Cleaned.longest, Private.Steps.IsOther, Bytes.IsPlainByte}
-use Rattle.csicodec_clean.proofs.{Bytes.front_in, PlainBytes.plain_bytes, Sure.read_more, Titles.single_texts, Told.ascii_shown, Told.encoded, Told.is_shown}
-use Rattle.csicodec_clean.proofs.{Told.read_encoded, Told.scalars, Twice.all_text}
+use Rattle.csicodec_clean.proofs.{Bytes.front_in, PlainBytes.all_weaker, PlainBytes.plain_bytes, Sure.read_more, Titles.single_texts, Told.ascii_shown}
+use Rattle.csicodec_clean.proofs.{Told.encoded, Told.is_shown, Told.read_encoded, Told.scalars, Twice.all_text}
 use Rattle.csicodec_overwrite.specs.Line.{Done, before, do_all, does, done, line, pen_behind, pen_behind_all, put}
 use Rattle.csicodec_overwrite.specs.Private.Plain.{IsLineByte, IsUntabbed, PutsRun, end_of, glyphs, last_of, line_byte}
 use Rattle.csicodec_overwrite.specs.{declared.cells.Cell.Cell, declared.line.Line.Line, declared.pen.Pen.Pen, declared.step.Step.Step}
@@ -53,8 +53,7 @@ pub line_plain : (b : ℕ) → IsLineByte b → IsPlainByte b
 line_plain b h = grind (arith, nat_tests)
 
 pub lines_plain : (bs : List ℕ) → AllByRecursion IsLineByte bs → AllByRecursion IsPlainByte bs
-lines_plain [] h = tt
-lines_plain (b ∷ bs) h = (line_plain b h.0, lines_plain bs h.1)
+lines_plain = all_weaker IsLineByte IsPlainByte line_plain
 
 -- such text in front, and what is behind it
 pub split_line : (bytes text rest : List ℕ) → text ≡ take (prefix_len line_byte bytes) bytes → rest ≡ drop (prefix_len line_byte bytes) bytes → (bytes ≡ text ++ rest) × AllByRecursion IsLineByte text

@@ -56,28 +56,14 @@ impl ByteClass for Untabbed {
     }
 }
 
-/// How much of the text its lines are that end in it.
-fn lines_len(text: &[u8]) -> usize
-    ensures { result ≤ length text.now }
-{
-    match memrchr(b'\n', text) {
-        Some(last) => last + 1,
-        None => 0,
-    }
-}
-
 /// The lines of text alone in front, of at most so many bytes, and what is behind them, if there is one.
 pub(crate) fn split_lines(bytes: &[u8], most: usize) -> Option<(&[u8], &[u8])>
     ensures { IfSome result (λ (lines, rest). AreLines most bytes.now lines.now rest.now) }
 {
     let near = bytes.split_at(most.min(bytes.len())).0;
     let text = split_front::<PlainAscii>(near).0;
-    let lines = text.split_at(lines_len(text)).0;
-    let (end, _front) = lines.split_last()?;
-    if *end != b'\n' {
-        return None;
-    }
-    Some((lines, bytes.split_at(lines.len()).1))
+    let last = memrchr(b'\n', text)?;
+    Some(bytes.split_at(last + 1))
 }
 
 /// What is behind the end of a line in front, if one stands there: a newline, or a return and a newline.
@@ -120,18 +106,14 @@ pub(crate) fn split_run(text: &[u8], room: usize) -> (&[u8], &[u8])
     (run, text.split_at(run.len()).1)
 }
 
-/// What is behind the bytes in front from `low` to `high`.
-fn behind_range<'a>(bytes: &'a [u8], low: u8, high: u8) -> &'a [u8]
-    ensures { length result.now ≤ length bytes.now }
+/// How many bytes in front are from `low` to `high`.
+fn range_len(bytes: &[u8], low: u8, high: u8) -> usize
+    ensures { result ≤ length bytes.now }
 {
-    let mut rest = bytes;
-    while let Some((byte, behind)) = rest.split_first() {
-        if *byte < low || high < *byte {
-            return rest;
-        }
-        rest = behind;
+    match bytes.iter().position(|byte| *byte < low || high < *byte) {
+        Some(len) => len,
+        None => bytes.len(),
     }
-    rest
 }
 
 /// How many bytes in front are from 20 to 3f, as those of a list of parameters.
@@ -145,14 +127,7 @@ fn list_len(bytes: &[u8]) -> usize
             return others.trailing_zeros() as usize / 8;
         }
     }
-    bytes.len() - behind_range(bytes, b' ', b'?').len()
-}
-
-/// How many bytes in front are from 20 to 2f, as those between an ESC and the final byte of its sequence.
-fn marks_len(bytes: &[u8]) -> usize
-    ensures { result ≤ length bytes.now }
-{
-    bytes.len() - behind_range(bytes, b' ', b'/').len()
+    range_len(bytes, b' ', b'?')
 }
 
 /// How many bytes are read at once where no such text stands in front: a sequence that is introduced there, or characters that aren't of
@@ -163,13 +138,12 @@ pub(crate) fn odd_len(bytes: &[u8], open: bool) -> usize
     ensures some { min 1 (length bytes.now) ≤ result }
 {
     if open {
-        let len = bytes.len() - behind_range(bytes, b' ', 0xff).len();
-        return len.max(1).min(bytes.len());
+        return range_len(bytes, b' ', 0xff).max(1).min(bytes.len());
     }
     match bytes {
         [0x1b, b'[', rest @ ..] => (3 + list_len(rest)).min(bytes.len()),
-        [0x1b, rest @ ..] => (2 + marks_len(rest)).min(bytes.len()),
-        [_, rest @ ..] => bytes.len() - behind_range(rest, 0x80, 0xff).len(),
+        [0x1b, rest @ ..] => (2 + range_len(rest, b' ', b'/')).min(bytes.len()),
+        [_, rest @ ..] => 1 + range_len(rest, 0x80, 0xff),
         [] => 0,
     }
 }

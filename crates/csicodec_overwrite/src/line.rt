@@ -1,8 +1,8 @@
 //! A line and its cursor.
-ghost use Rattle.std.specs.Prelude.{◌≡◌, ◌<◌, ◌≤◌, ◌*◌, ◌-◌, ◌++◌, ◌+◌, [], false, length, nat_le, nat_lt, true, IfOk, OnOk};
+ghost use Rattle.std.specs.Prelude.{◌≡◌, ◌<◌, ◌≤◌, ◌*◌, ◌-◌, ◌++◌, ◌+◌, [], false, length, nat_lt, true, IfOk, OnOk};
 ghost use Rattle.std.specs.List.{AllByRecursion};
 ghost use Rattle.csicodec_overwrite.specs.{Cells.columns, Cells.glyph, Cells.onto, declared.step.Step.TheVariants.Tab};
-ghost use Rattle.csicodec_overwrite.specs.Line.{alters, behind_columns, blank, cells_of, delete, does_here, entered, erase, erase_all, erase_left, erase_right, fits, forward, insert, lines_of, parted, placed, put, repeated, size, widest};
+ghost use Rattle.csicodec_overwrite.specs.Line.{alters, behind_columns, blank, cells_of, delete, does_here, entered, erase, fits, forward, insert, lines_of, parted, placed, put, repeated, size, widest};
 ghost use Rattle.csicodec_overwrite.specs.{Paint.ended, Paint.text_of, Paint.texts_of, Reading.most};
 ghost use Rattle.csicodec_overwrite.specs.{Private.Plain.IsLineByte, Private.Plain.PutsRun, Steps.of_chars};
 ghost use Rattle.csicodec_overwrite.specs.Private.{Row.Does, Row.DoesAll, Row.IsHere, Row.settled, Sides.placed_many};
@@ -70,20 +70,19 @@ impl Line {
         self.left.push_empty(some)
     }
 
-    /// Whether it has so many columns.
-    fn has_columns(&self, count: usize) -> bool
-        ensures { result ≡ nat_le count (columns self.now.left + columns self.now.right) }
+    /// How many columns it lacks of so many.
+    fn missing(&self, count: usize) -> usize
+        ensures { result ≡ count - columns self.now.left - columns self.now.right }
     {
-        count.saturating_sub(self.left.columns()) <= self.right.columns()
+        let missing = count.saturating_sub(self.left.columns());
+        missing.saturating_sub(self.right.columns())
     }
 
     /// The columns left of the cursor, where it is to go behind so many.
     fn reached(&self, count: usize) -> usize
         ensures { result ≡ columns (behind_columns most count self.now).left }
     {
-        let missing = count.saturating_sub(self.left.columns());
-        let missing = missing.saturating_sub(self.right.columns());
-        count.saturating_sub(missing.saturating_sub(self.room()))
+        count.saturating_sub(self.missing(count).saturating_sub(self.room()))
     }
 
     /// The columns left of the cursor, where it stands or is to go.
@@ -114,7 +113,7 @@ impl Line {
         let Some(at) = to else {
             return Ok(());
         };
-        if self.has_columns(at) {
+        if self.missing(at) == 0 {
             return Ok(());
         }
         self.behind_columns(at)
@@ -139,9 +138,7 @@ impl Line {
         let Some(count) = to else {
             return (WIDEST as usize) < len;
         };
-        let missing = count.saturating_sub(self.left.columns());
-        let missing = missing.saturating_sub(self.right.columns());
-        (WIDEST as usize) < len.saturating_add(missing.min(self.room()))
+        (WIDEST as usize) < len.saturating_add(self.missing(count).min(self.room()))
     }
 
     /// Whether something stands right of the cursor where it stands or is to go.
@@ -203,31 +200,6 @@ impl Line {
             self.right.loosen()?;
         }
         Ok(())
-    }
-
-    /// Erases from the cursor on.
-    fn erase_right(&mut self) -> Result<(), AllocError>
-        ensures { OnOk result (self.new ≡ erase_right self.old) }
-    {
-        self.part()?;
-        self.right.clear();
-        Ok(())
-    }
-
-    /// Erases up to the cursor.
-    fn erase_left(&mut self) -> Result<(), AllocError>
-        ensures { OnOk result (self.new ≡ erase_left self.old) }
-    {
-        self.left.empty()?;
-        self.right.erase_columns(1)
-    }
-
-    /// Erases the whole line.
-    fn erase_all(&mut self) -> Result<(), AllocError>
-        ensures { OnOk result (self.new ≡ erase_all self.old) }
-    {
-        self.right.clear();
-        self.left.empty()
     }
 
     /// Erases so many columns from the cursor on.
@@ -445,9 +417,19 @@ impl Line {
             Step::Put(char) => self.put(pen, char, marking, out),
             Step::Repeat(count) => self.repeat(pen, count, marking, out),
             Step::Tab => self.tab(pen, marking, out),
-            Step::EraseRight => self.erase_right(),
-            Step::EraseLeft => self.erase_left(),
-            Step::EraseAll => self.erase_all(),
+            Step::EraseRight => {
+                self.part()?;
+                self.right.clear();
+                Ok(())
+            }
+            Step::EraseLeft => {
+                self.left.empty()?;
+                self.right.erase_columns(1)
+            }
+            Step::EraseAll => {
+                self.right.clear();
+                self.left.empty()
+            }
             Step::Erase(count) => self.erase(count),
             Step::Delete(count) => self.delete(count),
             Step::Insert(count) => self.insert(count),

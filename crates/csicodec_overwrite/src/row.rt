@@ -1,7 +1,7 @@
 //! A line whose cursor goes to a column only where something is done there, so that going to and fro costs nothing.
 ghost use Rattle.std.specs.{Prelude.◌≡◌, Prelude.◌++◌, Prelude.true, Prelude.OnOk, List.AllByRecursion};
 ghost use Rattle.csicodec_overwrite.specs.{Cells.columns, Reading.most, Steps.of_chars};
-ghost use Rattle.csicodec_overwrite.specs.Line.{backward, behind_columns, blank, cells_of, done, does, forward, from_stop, in_row, leave, lines_of, pen_behind, restored, rightward, target, to_stop};
+ghost use Rattle.csicodec_overwrite.specs.Line.{backward, behind_columns, blank, cells_of, done, does, forward, from_stop, in_row, lines_of, pen_behind, restored, rightward, target, to_stop};
 ghost use Rattle.csicodec_overwrite.specs.{Paint.ended, Paint.text_of, declared.step.Step.TheVariants.Tab};
 ghost use Rattle.csicodec_overwrite.specs.Private.{Plain.IsLineByte, Row.Does, Row.DoesAll, Row.IsHere};
 
@@ -138,20 +138,6 @@ impl Row {
         column.min(WIDEST as usize - 1)
     }
 
-    /// To another row, or maybe so: to this column, or to the same.
-    fn leave(
-        &mut self,
-        to: Option<u32>,
-        marking: &Marking,
-        out: &mut Vec<u8>,
-    ) -> Result<(), AllocError>
-        ensures { OnOk result (Does marking.now (leave most to self.old)
-            self.new out.old.items out.new.items) }
-    {
-        let column = self.target(to);
-        self.go_on(column, marking, out)
-    }
-
     /// To this column of the same row, or to the same column.
     fn in_row(&mut self, to: Option<u32>) -> Result<(), AllocError>
         ensures { OnOk result (self.new ≡ in_row most to self.old) }
@@ -246,7 +232,10 @@ impl Row {
             Step::TabsBack(count) => self.tabs_back(count),
             Step::Restore => self.restore(pen, marking, out),
             Step::Row(row, to) if pen.is_in(row) => self.in_row(to),
-            Step::Row(_, to) | Step::Leave(to) => self.leave(to, marking, out),
+            Step::Row(_, to) | Step::Leave(to) => {
+                let column = self.target(to);
+                self.go_on(column, marking, out)
+            }
             Step::NewLine => self.end(marking, out),
             Step::Tab => self.tab(pen, marking, out),
             Step::Save | Step::Inserts(_) | Step::Reset => Ok(()),

@@ -21,6 +21,12 @@ pub record DoesAll (marking : Marking) (steps : List Step) (first behind : Pen) 
   pub pen : behind ≡ pen_behind_all most first steps l
   pub text : after ≡ before ++ texts_of marking (do_all most first steps l).lines
 
+-- what is still to do of steps gives what all of them give
+pub record StillDoes (marking : Marking) (steps rest : List Step) (first now : Pen) (l m : Line) (before out : List ℕ) : Type 0 where
+  pub line : (do_all most now rest m).line ≡ (do_all most first steps l).line
+  pub pen : pen_behind_all most now rest m ≡ pen_behind_all most first steps l
+  pub text : out ++ texts_of marking (do_all most now rest m).lines ≡ before ++ texts_of marking (do_all most first steps l).lines
+
 -- over so many columns to the left, and no further than the first
 abbrev pub back : ℕ → List Cell → List Cell → Line
 back n [] right = line [] right

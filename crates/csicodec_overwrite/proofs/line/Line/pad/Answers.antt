@@ -3,8 +3,8 @@ use Rattle.csicodec_overwrite.specs.{Cells.columns, Line.behind_columns, Private
 use Rattle.csicodec_overwrite.proofs.Rows.{settled_again}
 use Rattle.csicodec_overwrite.proofs.line.Line.pad.Goals as goal
 
-pub returns-then-has_columns : goal.returns-then-has_columns
-returns-then-has_columns c =
+pub returns-then-missing-eq0 : goal.returns-then-missing-eq0
+returns-then-missing-eq0 c =
     let l = c.args.self.now in
     let few : c.in-Some.at ≤ columns l.left + columns l.right = grind (arith, nat_tests) in
     λ n. sym (settled_again most n c.in-Some.at l few)

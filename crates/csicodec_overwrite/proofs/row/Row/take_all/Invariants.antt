@@ -1,13 +1,11 @@
-use Rattle.std.proofs.Common.{◌≡◌, ◌++◌, length}
-use Rattle.csicodec_overwrite.specs.{Line.do_all, Line.pen_behind_all, Paint.texts_of, Reading.most}
+use Rattle.std.proofs.Common.{length}
+use Rattle.csicodec_overwrite.specs.Private.Row.{StillDoes}
 use Rattle.csicodec_overwrite.proofs.row.Row.take_all.Given as goal
 
 -- the steps up to here are done
 abbrev pub invariant-loop-step : goal.invariant-loop-step
 invariant-loop-step l = record {
-  line : (do_all most l.pen l.rest l.self).line ≡ (do_all most l.initial.pen l.steps l.initial.self).line;
-  pen : pen_behind_all most l.pen l.rest l.self ≡ pen_behind_all most l.initial.pen l.steps l.initial.self;
-  text : l.out.items ++ texts_of l.marking (do_all most l.pen l.rest l.self).lines ≡ l.initial.out.items ++ texts_of l.marking (do_all most l.initial.pen l.steps l.initial.self).lines;
+  still : StillDoes l.marking l.steps l.rest l.initial.pen l.pen l.initial.self l.self l.initial.out.items l.out.items;
 }
 
 abbrev pub decreases-loop-step : goal.decreases-loop-step

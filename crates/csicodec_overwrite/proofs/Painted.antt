@@ -59,13 +59,6 @@ pub same_on : (marking : Marking) (look : Look) (cell : Cell) (behind : List Cel
     → new ≡ old ++ written marking (chars_of cell) → new ++ paint marking look behind ≡ old ++ paint marking look (cell ∷ behind)
 same_on marking look cell behind old new is e = rw (e, is, turn_same marking look, append_assoc) refl
 
--- where no looks are shown, all do
-pub plain_front : (marking : Marking) (look : Look) (cells rest : List Cell) (old new : List ℕ) → shows_looks marking ≡ false
-    → new ++ encode_utf8_all (flat_map chars_of rest) ≡ old ++ encode_utf8_all (flat_map chars_of cells)
-    → new ++ paint marking look rest ≡ old ++ paint marking look cells
-plain_front Plain look cells rest old new none h = rw (plain_paint look cells, plain_paint look rest) h
-plain_front _ look cells rest old new none h = cc
-
 -- ---- the sequence of a look
 
 pub look_begins : (look : Look) (old new : List ℕ) → new ≡ old ++ 27 ∷ 91 ∷ 48 ∷ [] → new ++ (flat_map further (attributes look) ++ 109 ∷ []) ≡ old ++ look_text look

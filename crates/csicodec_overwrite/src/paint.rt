@@ -327,7 +327,20 @@ fn append_ascii_front<'a>(cells: &'a [Cell], out: &mut Vec<u8>) -> Result<&'a [C
     Ok(rest)
 }
 
-/// Appends the characters in front that look so, or those of ASCII where no looks are shown, and answers the cells behind them.
+/// Appends the characters of cells.
+fn append_plain(cells: &[Cell], out: &mut Vec<u8>) -> Result<(), AllocError>
+    ensures { OnOk result
+        (out.new.items ≡ out.old.items ++ encode_utf8_all (flat_map chars_of cells.now)) }
+{
+    let mut rest = cells;
+    while let Some((cell, behind)) = rest.split_first() {
+        let others = append_alike(&Marking::Plain, *cell, behind, out)?;
+        rest = append_ascii_front(others, out)?;
+    }
+    Ok(())
+}
+
+/// Appends the characters in front that look so, and answers the cells behind them.
 #[inline(never)]
 fn append_same_look<'a>(
     marking: &Marking,
@@ -339,10 +352,6 @@ fn append_same_look<'a>(
         ≡ out.old.items ++ paint marking.now look.now cells.now) }
     ensures fewer { IfOk result (λ rest. length rest.now ≤ length cells.now) }
 {
-    if !marking.shows_looks() {
-        let rest = append_ascii_front(cells, out)?;
-        return Ok(rest);
-    }
     let mut rest = cells;
     while let Some((cell, behind)) = rest.split_first() {
         match cell {
@@ -365,6 +374,9 @@ pub(crate) fn append_cells(
 ) -> Result<(), AllocError>
     ensures { OnOk result (out.new.items ≡ out.old.items ++ text_of marking.now cells.now) }
 {
+    if !marking.shows_looks() {
+        return append_plain(cells, out);
+    }
     let none = Look::plain();
     let mut now = &none;
     let mut rest = cells;

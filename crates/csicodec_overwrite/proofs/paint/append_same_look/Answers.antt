@@ -1,12 +1,7 @@
-use Rattle.std.proofs.Common.{◌≡◌, ◌++◌, ap, arith, false, length, rules, sym, ◌∙◌}
+use Rattle.std.proofs.Common.{◌++◌, ap, arith, length, rules, sym, ◌∙◌}
 use Rattle.csicodec_overwrite.specs.{Cells.chars_of, Paint.look_of, Paint.paint, Paint.written}
-use Rattle.csicodec_overwrite.proofs.{Alike.nothing_written, Painted.plain_front, Painted.same_look, Painted.same_on}
+use Rattle.csicodec_overwrite.proofs.{Alike.nothing_written, Painted.same_look, Painted.same_on}
 use Rattle.csicodec_overwrite.proofs.paint.append_same_look.Goals as goal
-
-pub returns-then-not-shows_looks-clause-text : goal.returns-then-not-shows_looks-clause-text
-returns-then-not-shows_looks-clause-text c =
-    let none : c.shows_looks.result ≡ false = search rules in
-    plain_front c.args.marking.now c.args.look.now c.args.cells.now _ c.args.out.now.items _ (sym c.shows_looks.ensures ∙ none) c.in_ok-rest.ensures.text
 
 pub loop-cell-preserved-in_ok-append_written-in-Char : goal.loop-cell-preserved-in_ok-append_written-in-Char
 loop-cell-preserved-in_ok-append_written-in-Char c =

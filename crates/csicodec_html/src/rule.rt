@@ -76,11 +76,16 @@ fn append_turn(
     append_begin(markup, new, out)
 }
 
-/// A sequence turns looks by the tags that are marked between them.
-impl Turning for Markup {
+/// What becomes markup, as tags that are marked.
+#[derive(Clone, Copy)]
+struct Marks {
+    markup: Markup,
+}
+
+impl Turning for Marks {
     ghost use Rattle.csicodec_html.specs.Private.Turns.{IsTurned};
 
-    ghost turns = { IsTurned };
+    ghost turns = { λ marks. IsTurned marks.markup };
 }
 
 /// The rule that turns attributes into spans, and links, where they pass, into links of the page.
@@ -126,7 +131,7 @@ impl SpanWriter {
             to: Vec::new(alloc),
             next: LinkReader::new(alloc),
             actions: Vec::new(alloc),
-            turns: Turns::new(alloc, &markup),
+            turns: Turns::new(alloc, &Marks { markup }),
         }
     }
 
@@ -164,7 +169,10 @@ impl Rule for SpanWriter {
         let comes = sets_any(&self.actions);
         append_turn(&self.markup, comes, self.look, new, out)?;
         let tags = out.split_at(before).1;
-        self.turns.keep(&self.markup, bytes, self.look, new, tags)?;
+        let marks = Marks {
+            markup: self.markup,
+        };
+        self.turns.keep(&marks, bytes, self.look, new, tags)?;
         self.look = new;
         Ok(())
     }
@@ -181,7 +189,10 @@ impl Rule for SpanWriter {
             least: 1,
             most: limit,
         };
-        let len = self.turns.recall(&self.markup, &mut self.look, front, out)?;
+        let marks = Marks {
+            markup: self.markup,
+        };
+        let len = self.turns.recall(&marks, &mut self.look, front, out)?;
         Ok(len)
     }
 

@@ -10,5 +10,5 @@ pub returns : goal.returns
 unfolding sheet
 returns c = on_ok_weaker c.append_class_rules.result
     (λ (e : c.append_class_rules.new.out.items ≡ c.append_own_colors.new.out.items ++ class_rules c.args.markup.now.palette).
-        rw (e, c.in_ok-append_own_colors.ensures, c.if-not-markup.false) (simp append_assoc))
+    rw (e, c.in_ok-append_own_colors.ensures, c.if-not-markup.false) (simp append_assoc))
     c.append_class_rules.ensures

@@ -1,5 +1,5 @@
 //! The codec: sequences, lists of tokens, values and keys, what each stands for, how that is written, and calls of the library with
-//! their answers: a table.
+//! their answers: a table. What the programs make of bytes stands in `.ci/rows.tsv`.
 //!
 //! A line of standard input that begins with `\` is a sequence, or bytes that are none. The program writes the line, and behind it, with tabs
 //! between, the actions that the sequence stands for, as `{:?}` writes them, and the text of these (`shown.rt`); and `parsed otherwise` where
@@ -7,7 +7,8 @@
 //! place stands their normal form: 2,000 distinct sequences that some eighty terminal programs (vim, emacs, htop, tmux, git, mc, ncurses' own
 //! tests, vttest and others) wrote under a pty, and the texts that the Rust crate termwiz 0.23.3 prints for the actions that it parses from them.
 //! Any other line is a word for a call, for values or for what is printed, and what it is made with; behind it stand the answers, and
-//! `otherwise` where a law is broken. An empty line, and one that begins with `#`, stays as it is.
+//! `otherwise` where a law is broken. An empty line, and one that begins with `#`, stays as it is. `faults.rt` has the lines of readers
+//! and writers that fail, and what a number alone does.
 //!
 //! Bytes are spelled with `\e` for ESC, `\r` for CR, `\x07` for BEL and `\\` for `\`, and in the answers as `explain` shows them; tokens stand
 //! between spaces: a number, or one character for a byte, where `#53` is the character 53. The files `stdin` and `stdout` beside `src/` are the
@@ -17,6 +18,8 @@
 mod built;
 mod bytes;
 mod calls;
+mod events;
+mod faults;
 mod keys;
 mod known;
 mod lists;
@@ -24,7 +27,9 @@ mod mouse;
 mod numbers;
 mod parts;
 mod readme;
+mod reads;
 mod shown;
+mod spans;
 mod spelling;
 mod texts;
 mod values;
@@ -33,6 +38,7 @@ use csicodec::{CSI, Esc, decode_all, normalise, parse_all, read_csi};
 use shown::shown;
 use spelling::{bytes_of, spelled};
 use std::alloc::{AllocError, Global};
+use std::io::Read;
 
 /// Whether bytes that are one sequence stand for these actions by its list alone, too.
 fn is_parsed(alloc: Global, bytes: &[u8], actions: &[CSI]) -> Result<bool, AllocError> {
@@ -88,21 +94,41 @@ fn told(alloc: Global, row: &str) -> Result<String, AllocError> {
         "escape" => bytes::escape(alloc, rest),
         "within" => bytes::within(alloc, rest),
         "still" => bytes::still(alloc, rest),
+        "read" => reads::read(alloc, rest),
+        "spans" => spans::spans(alloc, rest),
+        "events" => events::events(alloc, rest),
+        "keys" => events::keys(alloc, rest),
+        "keys1005" => events::keys1005(alloc, rest),
+        "filter_stream" => faults::filtered(alloc, rest),
+        "normalise_stream" => faults::normalised(alloc, rest),
         _ => calls::told(alloc, word, rest),
     }
 }
 
+/// A line, and what came of it.
+fn tell(rt: &HostRuntime, line: &str) -> anyhow::Result<()> {
+    if line.is_empty() || line.starts_with('#') {
+        println!(rt; "{line}")?;
+    } else if line.starts_with('\u{1b}') {
+        normalise(rt.alloc(), &mut line.as_bytes(), &mut rt.stdout())?;
+        println!(rt; "")?;
+    } else if line == "dry" {
+        println!(rt; "{line}\t{:?}", faults::wrong_call(rt.alloc())?)?;
+    } else {
+        println!(rt; "{line}\t{}", told(rt.alloc(), line)?)?;
+    }
+    Ok(())
+}
+
 fn main(rt: HostRuntime) -> anyhow::Result<()> {
-    for line in rt.lines(rt.alloc()) {
-        let line = line?;
-        if line.is_empty() || line.starts_with('#') {
-            println!(rt; "{line}")?;
-        } else if line.starts_with('\u{1b}') {
-            normalise(rt.alloc(), &mut line.as_bytes(), &mut rt.stdout())?;
-            println!(rt; "")?;
-        } else {
-            println!(rt; "{line}\t{}", told(rt.alloc(), line.as_str())?)?;
-        }
+    let mut bytes = Vec::new(rt.alloc());
+    rt.stdin().read_to_end(&mut bytes)?;
+    let text = str::from_utf8(&bytes).unwrap_or("");
+    if let Ok(count) = text.trim().parse() {
+        return faults::starved(&rt, count);
+    }
+    for line in text.lines() {
+        tell(&rt, line)?;
     }
     Ok(())
 }

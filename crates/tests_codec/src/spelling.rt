@@ -49,3 +49,8 @@ pub(crate) fn spelled(alloc: Global, bytes: &[u8]) -> Result<String, AllocError>
     append_escaped(&mut text, bytes)?;
     Ok(String::from_utf8(text).unwrap_or(String::new(alloc)))
 }
+
+/// The end of a line: nothing where the law holds.
+pub(crate) fn law(holds: bool) -> &'static str {
+    if holds { "" } else { "\totherwise" }
+}

@@ -1,5 +1,5 @@
 use Rattle.std.proofs.Common.{◌<◌}
-use Rattle.tests_streams.proofs.events.told_by.Given as goal
+use Rattle.tests_codec.proofs.events.told_by.Given as goal
 
 abbrev pub invariant-loop : goal.invariant-loop
 invariant-loop l = 0 < l.events.limit

@@ -2,7 +2,7 @@
 ghost use Rattle.std.specs.Prelude.{◌<◌};
 
 use crate::spelling::{bytes_of, law, spelled};
-use csicodec_base::CsiParam;
+use csicodec::CsiParam;
 use csicodec_events::{Dialect, Event, Events, InputEvent, Sent};
 use csicodec_streams::keep_from;
 use std::alloc::{AllocError, Global};

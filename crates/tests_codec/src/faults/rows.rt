@@ -4,17 +4,10 @@
 //! |---|---|
 //! | `filter_stream LIMIT READER WRITER BYTES` | of `filter_all` of these bytes to their normal form, with sequences of at most `LIMIT` bytes: the answer, what was written, and `flushed` where the writer was flushed behind it |
 //! | `normalise_stream READER WRITER BYTES` | of `normalise`, the same |
-//! | `still BYTES BYTES ..` | what a filter without blinking makes of them, pushed one after the other |
-ghost use Rattle.std.specs.Prelude.{◌≡◌, List};
-ghost use Rattle.csicodec.specs.Actions.{Action};
-ghost use Rattle.csicodec.specs.Table.{texts};
 
 use crate::faults::fakes::{Reader, Writer, manner_of};
 use crate::spelling::{bytes_of, spelled};
-use csicodec::{
-    CSI, CsiParam, Filter, NormalForm, Rewrite, RunError, Sgr, encode_all, filter_all, normalise,
-    parse_all,
-};
+use csicodec::{NormalForm, RunError, filter_all, normalise};
 use std::alloc::{AllocError, Global};
 
 /// The answer, and what the writer has.
@@ -49,42 +42,4 @@ pub(crate) fn filtered(alloc: Global, words: &str) -> Result<String, AllocError>
     let rewrite = NormalForm::new(alloc);
     let answer = filter_all(alloc, limit.max(1), rewrite, &mut reader, &mut writer);
     told(alloc, answer, &writer)
-}
-
-/// Each action but blinking.
-#[derive(Drop)]
-struct WithoutBlink {
-    alloc: Global,
-}
-
-impl Rewrite for WithoutBlink {
-    ghost writes = { λ _ _ text. (kept : List Action) × (text ≡ texts kept) };
-
-    fn rewrite(
-        &mut self,
-        _bytes: &[u8],
-        params: &[CsiParam],
-        control: char,
-        out: &mut Vec<u8>,
-    ) -> Result<(), AllocError> {
-        let mut kept = Vec::new(self.alloc);
-        for action in parse_all(self.alloc, params, false, control)? {
-            if !matches!(&action, CSI::Sgr(Sgr::Blink(_))) {
-                kept.push(action)?;
-            }
-        }
-        let text = encode_all(self.alloc, &kept)?;
-        out.extend_from_slice(&text)?;
-        Ok(())
-    }
-}
-
-pub(crate) fn still(alloc: Global, words: &str) -> Result<String, AllocError> {
-    let mut filter = Filter::new(alloc, 64, WithoutBlink { alloc });
-    let mut out = Vec::new(alloc);
-    for word in words.split(' ') {
-        filter.push(&bytes_of(alloc, word)?, &mut out)?;
-    }
-    filter.finish(&mut out)?;
-    spelled(alloc, &out)
 }

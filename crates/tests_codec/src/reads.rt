@@ -1,7 +1,7 @@
 //! Sequences that are read, and where one is refused.
 
 use crate::spelling::bytes_of;
-use csicodec_base::{CsiParam, ReadError, read_csi, read_csi_into};
+use csicodec::{CsiParam, ReadError, read_csi, read_csi_into};
 use std::alloc::{AllocError, Global};
 
 /// Whether each beginning of a sequence is told to be one.

@@ -1,6 +1,6 @@
 //! Readers and writers that fail, and each call of `csicodec` that takes memory, out of memory.
 //!
-//! `dry` tells which call is wrong where memory runs out, and no memory is left behind that row: it is the last of the table.
+//! `dry` tells which call is wrong where memory runs out, and no memory is left behind that line: it is the last of the table.
 //!
 //! Where standard input is a number alone, so many requests for memory are made, and then each call, once. `.ci/starve` has
 //! one request refused, always of the same number, and so with ever more of them before the calls each request of a call in
@@ -19,7 +19,7 @@ mod writes;
 
 use ample::Ample;
 use calls::{CALLS, Call, Outcome, run};
-pub(crate) use rows::{filtered, normalised, still};
+pub(crate) use rows::{filtered, normalised};
 use std::alloc::{AllocError, Global};
 
 /// Which call was out of memory, at most one; or what is wrong.

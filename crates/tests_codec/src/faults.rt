@@ -18,21 +18,21 @@ mod streams;
 mod writes;
 
 use ample::Ample;
-use calls::{CALLS, Call, Outcome, run};
+use calls::{CALLS, Outcome, run};
 pub(crate) use rows::{filtered, normalised};
 use std::alloc::{AllocError, Global};
 
 /// Which call was out of memory, at most one; or what is wrong.
-fn refused(ample: &Ample, alloc: Global) -> Result<Option<Call>, &'static str> {
+fn refused(ample: &Ample, alloc: Global) -> Result<Option<&'static str>, &'static str> {
     let mut refused = None;
-    for call in &CALLS {
-        match run(*call, ample, alloc) {
-            Outcome::Refused if refused.is_some() => {
+    for number in 0..CALLS {
+        match run(number, ample, alloc) {
+            (_, Outcome::Refused) if refused.is_some() => {
                 return Err("one refused request, and more than one call out of memory");
             }
-            Outcome::Refused => refused = Some(*call),
-            Outcome::Right => {}
-            Outcome::Wrong => return Err("a wrong answer"),
+            (name, Outcome::Refused) => refused = Some(name),
+            (_, Outcome::Right) => {}
+            (_, Outcome::Wrong) => return Err("a wrong answer"),
         }
     }
     Ok(refused)
@@ -51,14 +51,14 @@ pub(crate) fn starved(rt: &HostRuntime, count: u32) -> anyhow::Result<()> {
     ask(rt.alloc(), count);
     match refused(&ample, rt.alloc()) {
         Ok(None) => {}
-        Ok(Some(call)) => println!(rt; "{call:?}")?,
+        Ok(Some(name)) => println!(rt; "{name}")?,
         Err(wrong) => println!(rt; "{wrong}")?,
     }
     Ok(())
 }
 
-/// The first call that is wrong where memory runs out.
-pub(crate) fn wrong_call(alloc: Global) -> Result<Option<Call>, AllocError> {
+/// The number of the first call that is wrong where memory runs out.
+pub(crate) fn wrong_call(alloc: Global) -> Result<Option<usize>, AllocError> {
     let ample = Ample::new(alloc)?;
     dry::wrong_call(&ample, alloc)
 }

@@ -5,7 +5,7 @@
 //! touched.
 
 use crate::faults::ample::Ample;
-use crate::faults::calls::{CALLS, Call, Outcome, run};
+use crate::faults::calls::{CALLS, Outcome, run};
 use std::alloc::{AllocError, Global};
 use std::mem::forget;
 
@@ -42,13 +42,13 @@ fn take_all(alloc: Global, most: u32) -> u32 {
 
 /// Runs the call with ever more of the last `ROOM` bytes that are free: whether it is refused at first, and is right as soon
 /// as it isn't.
-fn is_right_in_the_end(call: Call, ample: &Ample, alloc: Global) -> bool {
+fn is_right_in_the_end(number: usize, ample: &Ample, alloc: Global) -> bool {
     let mut refused = false;
     for steps in 0usize..960 {
         let Ok(_filler) = Vec::<u8>::with_capacity(alloc, ROOM - 16 * steps) else {
             continue;
         };
-        match run(call, ample, alloc) {
+        match run(number, ample, alloc).1 {
             Outcome::Refused => refused = true,
             Outcome::Right => return refused,
             Outcome::Wrong => return false,
@@ -57,18 +57,18 @@ fn is_right_in_the_end(call: Call, ample: &Ample, alloc: Global) -> bool {
     false
 }
 
-/// The first call that isn't refused at first and then right. No memory is left behind this.
-pub(crate) fn wrong_call(ample: &Ample, alloc: Global) -> Result<Option<Call>, AllocError> {
-    let mut rooms: Vec<Vec<u8>> = Vec::with_capacity(alloc, CALLS.len())?;
-    for _ in &CALLS {
+/// The number of the first call that isn't refused at first and then right. No memory is left behind this.
+pub(crate) fn wrong_call(ample: &Ample, alloc: Global) -> Result<Option<usize>, AllocError> {
+    let mut rooms: Vec<Vec<u8>> = Vec::with_capacity(alloc, CALLS)?;
+    for _ in 0..CALLS {
         rooms.push(Vec::with_capacity(alloc, ROOM)?)?;
     }
     let mut left = BLOCKS;
-    for call in &CALLS {
+    for number in 0..CALLS {
         left = left.saturating_sub(take_all(alloc, left));
         drop(rooms.pop());
-        if !is_right_in_the_end(*call, ample, alloc) {
-            return Ok(Some(*call));
+        if !is_right_in_the_end(number, ample, alloc) {
+            return Ok(Some(number));
         }
     }
     Ok(None)

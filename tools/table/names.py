@@ -37,6 +37,6 @@ def files(table):
             refuse(TABLE, name, "it stands twice, or a row of another table has it")
     others = {name for name in others if name in numbered or name.split(" ")[0] not in numbered}
     everyone = sorted([*names, *others], key=lambda name: (name.lower(), name))
-    return {"crates/csicodec_tool/src/all_names.rt": first_line(TABLE) + "//! The names that things are told by.\n\n" + text(
+    return {"crates/csicodec_inspect/src/all_names.rt": first_line(TABLE) + "//! The names that things are told by.\n\n" + text(
         "The names, but for the numbers that some have behind them, with commas between them.", "NAMES", everyone
     ) + "\n" + text("Those that a number or a letter may follow.", "NUMBERED", numbered)}

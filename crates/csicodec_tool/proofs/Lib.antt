@@ -1,4 +1,3 @@
-pub mod Assembled
 pub mod Logged
 pub mod Whole
 pub mod Written

@@ -3,12 +3,13 @@ use Rattle.std.proofs.Common.{Bool, true, false, Bor, inr, ◌≡◌, ◌++◌, 
 use Rattle.std.proofs.{KnownBytes.Appends-nil, lemmas.Option.IfSome_then, lemmas.Result.on_err_weaker, lemmas.Result.on_ok_weaker}
 use Rattle.std.specs.{Prelude.IfSome, Prelude.IsErr, Prelude.OnErr, Prelude.OnOk, Io.KnownBytes.Appends, Io.KnownBytes.Consumes, Io.KnownBytes.IsAtEnd}
 use Rattle.csicodec_streams.specs.declared.error.RunError.{RunError}
-use Rattle.csicodec_streams.proofs.Streamed.{given_all}
 use Rattle.csicodec_clean.specs.{Streams.Streams, declared.styles.Passing.Passing}
 use Rattle.csicodec_filter.specs.Transform.{Begins, Sends, Transforms}
 use Rattle.csicodec_overwrite.specs.Reading.{Paints}
 use Rattle.csicodec_html.specs.{Page.IsPageWith, Page.PageWith, declared.markup.Markup.Markup}
-use Rattle.csicodec_tool.specs.Writes.{FrontsOf, FrontsOfPainted, IsAppended, IsHeaded, IsPageFront, IsWrittenBy, PaintedPage, Wrote, WroteBehind}
+use Rattle.csicodec_inspect.specs.Sent.{FrontsOf, IsAppended, IsWrittenBy}
+use Rattle.csicodec_inspect.proofs.Sent.{all_written, not_ok, on_err_all}
+use Rattle.csicodec_tool.specs.Writes.{FrontsOfPainted, IsHeaded, IsPageFront, PaintedPage, Wrote, WroteBehind}
 use Rattle.csicodec_tool.specs.{declared.log.Log.Log, Log.IsLogged, Log.IsLoggedFront, Stream.EndsLog, Stream.LogAs, Stream.PassesLog}
 use Rattle.csicodec_tool.specs.{declared.rewrite.Work.Work}
 use Rattle.csicodec_tool.proofs.Logged.{log_begins, logged}
@@ -24,14 +25,6 @@ consumed_front : (before after : Option (List ℕ)) (bytes : List ℕ) → Consu
 consumed_front None after bytes h = tt
 consumed_front (Some all) None bytes h = absurd h
 consumed_front (Some all) (Some rest) bytes h = (rest, h)
-
--- all were read, and their text was written
-all_written : (Out : List ℕ → List ℕ → Type 0) (before after old new : Option (List ℕ))
-    → (bytes : List ℕ) × (text : List ℕ) × Consumes before after bytes × IsAtEnd after × Out bytes text × Appends old new text
-    → IfSome before (λ all. IsAppended (Out all) old new)
-all_written Out before after old new (bytes, text, consumed, end, out, appended) =
-    IfSome_then before (given_all before after bytes consumed end)
-    (λ all same. (text, subst (λ (b : List ℕ). Out b text) same out, appended))
 
 -- some were, and a front of their text was written
 front_written : (Out : List ℕ → List ℕ → Type 0) (before after old new : Option (List ℕ))
@@ -82,10 +75,6 @@ logged_written log t styles result before after old new each same ok front = rw 
       front_written (LogAs log.each (IsLogged log.styles) (IsLoggedFront log.styles)) before after old new
       (bytes, more, sent, unsent, consumed, some, appended)) front,
 )
-
-pub on_err_all : {A E P : Type 0} (result : Result A E) → P → OnErr result P
-on_err_all (Ok a) p = tt
-on_err_all (Err e) p = p
 
 -- what is written by one thing is written by another that is the same
 pub by_same : {A E X : Type 0} (Out Fronts : X → List ℕ → List ℕ → Type 0) (p q : X) (result : Result A E)
@@ -149,10 +138,6 @@ pub headed_whole : {A E : Type 0} (w new : Work) (headed : Result (Unit {0}) Run
 headed_whole w new headed result known old ahead out heads went wrote =
     record { headed = headed; ahead = ahead; heads = heads; wrote = rw went wrote; failed = rw went tt }
 
-pub not_ok : {A E : Type 0} (Q : Type 0) (result : Result A E) → IsErr result → OnOk result Q
-not_ok Q (Err e) h = tt
-not_ok Q (Ok a) h = absurd cc
-
 -- the same where they were written to their end
 pub headed_well : {E F : Type 0} (w new : Work) (headed : Result (Unit {0}) RunError) (written : Result (Unit {0}) E)
     (known old ahead out : Option (List ℕ))
@@ -168,12 +153,6 @@ pub headed_failed : {E F : Type 0} (w new : Work) (headed : Result (Unit {0}) Ru
     → WroteBehind w result new known old out
 headed_failed w new headed written error result known old ahead out heads went is failed wrote =
     headed_whole w new headed result known old ahead out heads went (not_ok _ result failed, on_err_all result (rw is at wrote.1))
-
--- all was read, and its text was written
-pub ran_well : (E : Type 0) (Out Front : List ℕ → List ℕ → Type 0) (before after old new : Option (List ℕ))
-    → (bytes : List ℕ) × (text : List ℕ) × Consumes before after bytes × IsAtEnd after × Out bytes text × Appends old new text
-    → IsWrittenBy {A = Unit {0}} {E = E} Out Front (Ok tt) before old new
-ran_well E Out Front before after old new ran = (all_written Out before after old new ran, tt)
 
 -- where it is only checked what is plain text, nothing is written
 pub check_wrote : {A E : Type 0} (w : Work) (result : Result A E) (known out : Option (List ℕ)) (visible : Bool)

@@ -3,8 +3,9 @@ use Rattle.std.specs.{Prelude.ℕ, Prelude.◌≡◌, Prelude.◌⊎◌, Prelude
 use Rattle.std.specs.{Prelude.Some, Prelude.Ok, List.concat}
 use Rattle.csicodec_lines.specs.Lines.{AreOf}
 use Rattle.csicodec_command.specs.{Recorded.recorded, Runs.At, Runs.IsRun, Runs.MayBeRecording}
-use Rattle.csicodec_tool.specs.{declared.rewrite.Job.Job, declared.rewrite.Work.Work, Writes.Heads, Writes.IsAppended, Writes.JobSteps, Writes.Tails}
-use Rattle.csicodec_tool.specs.{Writes.Writes, Writes.begun_of, Writes.writes_data}
+use Rattle.csicodec_inspect.specs.Sent.{IsAppended}
+use Rattle.csicodec_tool.specs.{declared.rewrite.Job.Job, declared.rewrite.Work.Work, Writes.Heads, Writes.JobSteps, Writes.Tails, Writes.Writes}
+use Rattle.csicodec_tool.specs.{Writes.begun_of, Writes.writes_data}
 
 -- An input of a name with these bytes has these to write: the bytes themselves, or where it may be a recording, the data of that.
 abbrev pub IsTaken : List ℕ → List ℕ → List ℕ → Type 0

@@ -11,6 +11,7 @@ use Rattle.csicodec_overwrite.specs.Reading.{Paints}
 use Rattle.csicodec_html.specs.{declared.markup.Markup.Markup, declared.sheet.TheConstants.BEHIND, declared.sheet.TheConstants.BODY}
 use Rattle.csicodec_html.specs.{declared.sheet.TheConstants.HEAD, declared.sheet.TheConstants.STYLE, Page.PageWith, Sheet.IsTitle, Sheet.sheet}
 use Rattle.csicodec_command.specs.{Recorded.recorded, Runs.StepsOf, Runs.Next, Runs.Stream, Runs.Recording, Runs.End}
+use Rattle.csicodec_inspect.specs.Sent.{FrontsOf, IsAppended, IsWrittenBy}
 use Rattle.csicodec_tool.specs.{Log.IsLogged, Log.IsLoggedFront, Log.Logs, Log.LogsSome, declared.rewrite.Job.Job, declared.rewrite.Work.Work}
 use Rattle.csicodec_tool.specs.declared.rewrite.Work.TheVariants as work
 
@@ -33,11 +34,6 @@ Writes (work.Clean passing false) bytes text = StylesIn passing bytes text
 Writes (work.Html name markup true fragment begun) bytes text = PaintedPage markup bytes text
 Writes (work.Html name markup false fragment begun) bytes text = PageWith markup bytes text
 
--- the text of a front of the bytes begins with what was sent
-abbrev pub FrontsOf : (List ℕ → List ℕ → Type 0) → List ℕ → List ℕ → Type 0
-FrontsOf Out bytes sent = (front : List ℕ) × (more : List ℕ) × (unsent : List ℕ)
-    × (bytes ≡ front ++ more) × Out front (sent ++ unsent)
-
 -- The same of a painted page: it is of a front of what is painted of a front of the bytes.
 abbrev pub FrontsOfPainted : Markup → List ℕ → List ℕ → Type 0
 FrontsOfPainted markup bytes sent = (painted : List ℕ) × (unsent : List ℕ) × FrontsOf Paints bytes painted
@@ -51,17 +47,6 @@ Sends (work.Html name markup true fragment begun) bytes sent = FrontsOfPainted m
 Sends (work.Overwrite styles) bytes sent = FrontsOf (IsLoggedFront styles) bytes sent
 Sends (work.Log styles) bytes sent = FrontsOf (LogsSome styles) bytes sent
 Sends w bytes sent = FrontsOf (Writes w) bytes sent
-
--- a text that is so was appended to what was known of the output
-abbrev pub IsAppended : (List ℕ → Type 0) → Option (List ℕ) → Option (List ℕ) → Type 0
-IsAppended Is old new = (text : List ℕ) × Is text × Appends old new text
-
--- an input of known bytes was written, or went out as far as it did until something failed
-abbrev pub IsWrittenBy : {A E : Type 0} → (List ℕ → List ℕ → Type 0) → (List ℕ → List ℕ → Type 0)
-    → Result A E → Option (List ℕ) → Option (List ℕ) → Option (List ℕ) → Type 0
-IsWrittenBy Out Fronts result known old new =
-    OnOk result (IfSome known (λ bytes. IsAppended (Out bytes) old new))
-    × OnErr result (IfSome known (λ bytes. IsAppended (Fronts bytes) old new))
 
 -- an input was written as the work has it
 abbrev pub Wrote : {A E : Type 0} → Work → Result A E → Option (List ℕ) → Option (List ℕ)

@@ -2,29 +2,14 @@
 //! sequences alone.
 #![tactic(auto)]
 
-mod all_names;
-mod assemble;
-mod check;
-mod compare;
-mod cuts;
-mod diff;
-mod explain;
-mod explained_cast;
 mod laws;
 mod log;
-mod names;
-mod normal;
 mod palette;
 mod rewrite;
 mod rewritten_cast;
-mod timing;
-mod visible;
 
-use assemble::Assembly;
 use csicodec_command::{Request, Task, asked, refused, words_of, work_through};
-use cuts::Cuts;
-use explain::explain_inputs;
-use normal::Normaliser;
+use csicodec_inspect::{Assembly, Cuts, Normaliser, explain_inputs};
 use rewrite::{Job, Work};
 use std::process::ExitCode;
 

@@ -5,15 +5,15 @@ ghost use Rattle.std.specs.Prelude.{◌≡◌, false, IfOk, IfSome, OnErr, optio
 ghost use Rattle.csicodec_command.specs.Recorded.{recorded};
 ghost use Rattle.csicodec_tool.specs.Writes.{IsHeaded, JobSteps, Wrote, WroteBehind, makes_none};
 
-use crate::check::{check_cast, check_stream};
 use crate::log::Log;
 use crate::palette::palette_of;
-use crate::rewritten_cast::{Rewriter, no_memory, rewrite_cast};
+use crate::rewritten_cast::{Rewriter, rewrite_cast};
 use csicodec_clean::{Cleaner, Depth, Dropped, Kept, Passing, clean_all_with, strip_all};
 use csicodec_command::{Colors, Failure, Recorded, Recordings, Request, Worker, Wrong};
 use csicodec_compact::{Compact, Compactor, compact_all};
 use csicodec_filter::{Faithful, Filter, NormalForm, filter_all, transform_all};
 use csicodec_html::{BEHIND, Markup, Palette, UNNAMED, front, html_all_with};
+use csicodec_inspect::{check_cast, check_stream, no_memory};
 use csicodec_lines::{Lines, clean_lines_all, strip_lines_all};
 use csicodec_overwrite::html_overwritten_all;
 use csicodec_spans::LIMIT;

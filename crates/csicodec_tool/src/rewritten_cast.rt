@@ -5,6 +5,7 @@ use csicodec_clean::{Cleaner, Dropped, Kept, Passing, strip};
 use csicodec_command::{Failure, Recording, time_of};
 use csicodec_compact::Compactor;
 use csicodec_filter::{Faithful, Filter, NormalForm, Transform};
+use csicodec_inspect::no_memory;
 use csicodec_lines::Lines;
 use csicodec_streams::{RunError, send};
 use serde_json::Value;
@@ -93,11 +94,6 @@ impl Rewriter {
             Rewriter::Logged(log) => log.end(out),
         }
     }
-}
-
-/// What went wrong where memory ran out.
-pub(crate) fn no_memory(_: AllocError) -> Failure {
-    Failure::Run(RunError::Memory)
 }
 
 /// A line as it is; where the data are made safe as `strip` leaves it, since a comment, a header or an event of another kind may

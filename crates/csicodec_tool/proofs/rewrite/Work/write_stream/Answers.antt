@@ -4,7 +4,8 @@ use Rattle.csicodec_compact.specs.Runs.{CompactsAll}
 use Rattle.csicodec_clean.specs.{Cleaned.longest, Styled.StylesIn}
 use Rattle.csicodec_lines.specs.Lines.{ByLines}
 use Rattle.csicodec_html.specs.Page.{PageWith}
-use Rattle.csicodec_tool.specs.Writes.{FrontsOf, FrontsOfPainted, PaintedPage}
+use Rattle.csicodec_inspect.specs.Sent.{FrontsOf}
+use Rattle.csicodec_tool.specs.Writes.{FrontsOfPainted, PaintedPage}
 use Rattle.csicodec_tool.proofs.Written.{by_same, logged_written, painted_written, run_written, streams_written}
 use Rattle.csicodec_tool.proofs.rewrite.Work.write_stream.Goals as goal
 

@@ -1,0 +1,11 @@
+use Rattle.std.proofs.{Common.◌≡◌, Common.ℕ, Common.true, Common.subst, Common.sym, Common.arith, lemmas.Bool.Decides.nat_tests}
+use Rattle.csicodec_clean.specs.{Bytes.IsPlainByte, Shown.IsBehind}
+use Rattle.csicodec_clean.proofs.Told.{behind_ascii}
+use Rattle.csicodec_inspect.specs.Visible.{seen}
+use Rattle.csicodec_inspect.proofs.visible.VisibleTextCharClass.behind.Goals as goal
+
+plain_seen : (b : ℕ) → IsPlainByte b → seen b ≡ true
+plain_seen b h = grind (arith, nat_tests)
+
+pub returns : goal.returns
+returns c = subst (IsBehind seen c.args.bytes.now) (sym c.split_front.ensures.rest) (behind_ascii seen plain_seen c.args.bytes.now)

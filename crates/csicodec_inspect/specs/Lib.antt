@@ -1,0 +1,5 @@
+pub mod Alone
+pub mod Assembled
+pub mod Found
+pub mod Sent
+pub mod Visible

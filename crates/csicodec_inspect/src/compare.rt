@@ -1,0 +1,170 @@
+//! What differs between two streams in words.
+ghost use Rattle.std.specs.Prelude.{⊤};
+
+use crate::check::no_memory;
+use crate::diff::{DiffLine, Origin, lines_of};
+use crate::explain::explainer_of;
+use crate::explained_cast::explain_cast;
+use csicodec_command::{Failure, Recordings, Worker, work_through};
+use csicodec_explain::{Explainer, Style};
+use csicodec_streams::{RunError, send};
+use std::alloc::{AllocError, Global};
+use std::io::{BufRead, Read, Write};
+
+/// So many lines that are the same stand on each side of one that differs.
+const NEAR: usize = 3;
+
+/// What is told of two streams, one after the other.
+#[derive(Drop)]
+struct Compared<'a> {
+    alloc: Global,
+    style: Style<'a>,
+    /// What was told of those that were read to their end.
+    texts: Vec<Vec<u8>>,
+    /// Whether a line differs.
+    differs: bool,
+}
+
+/// The lines of a text.
+fn split(alloc: Global, text: &[u8]) -> Result<Vec<&[u8]>, AllocError> {
+    let mut lines = Vec::new(alloc);
+    for line in text.split_inclusive(|byte| *byte == b'\n') {
+        lines.push(line)?;
+    }
+    Ok(lines)
+}
+
+/// Marks a place and those near it.
+fn mark_near(near: &mut [bool], place: usize) {
+    let behind = place.saturating_add(NEAR).saturating_add(1);
+    for at in place.saturating_sub(NEAR)..behind {
+        if let Some(it) = near.get_mut(at) {
+            *it = true;
+        }
+    }
+}
+
+/// Whether each line stands near one that differs.
+fn shown(alloc: Global, lines: &[DiffLine<'_>]) -> Result<Vec<bool>, AllocError> {
+    let mut near = vec![in alloc; false; lines.len()]?;
+    for (place, line) in lines.iter().enumerate() {
+        if line.side != Origin::Both {
+            mark_near(&mut near, place);
+        }
+    }
+    Ok(near)
+}
+
+/// A line behind the mark of where it is.
+fn append_marked(out: &mut Vec<u8>, line: DiffLine<'_>) -> Result<(), AllocError> {
+    out.push(match line.side {
+        Origin::Both => b' ',
+        Origin::First => b'-',
+        Origin::Second => b'+',
+    })?;
+    out.extend_from_slice(line.text)
+}
+
+/// The lines that are shown, with `@@` ahead of each run of them.
+fn runs(alloc: Global, lines: &[DiffLine<'_>], shown: &[bool]) -> Result<Vec<u8>, AllocError> {
+    let mut out = Vec::new(alloc);
+    let mut before = false;
+    for (place, line) in lines.iter().enumerate() {
+        let is_shown = shown.get(place).copied().unwrap_or(false);
+        if is_shown && !before {
+            out.extend_from_slice(b"@@\n")?;
+        }
+        if is_shown {
+            append_marked(&mut out, *line)?;
+        }
+        before = is_shown;
+    }
+    Ok(out)
+}
+
+/// The lines that differ and those near them, as `diff -u` marks them, with `@@` ahead of each run of them; nothing where none does.
+fn told<'b>(alloc: Global, first: &'b [u8], second: &'b [u8]) -> Result<Vec<u8>, AllocError> {
+    let (first, second) = (split(alloc, first)?, split(alloc, second)?);
+    let lines = lines_of(alloc, &first, &second)?;
+    runs(alloc, &lines, &shown(alloc, &lines)?)
+}
+
+impl<'a> Compared<'a> {
+    /// What is told of a whole input.
+    fn keep(&mut self, explainer: &mut Explainer<'_>, text: Vec<u8>) -> Result<(), Failure> {
+        let mut text = text;
+        explainer.end(&mut text)?;
+        self.texts
+            .push(text)
+            .map_err(|_| Failure::Run(RunError::Memory))
+    }
+}
+
+impl<'a> Worker for Compared<'a> {
+    ghost steps = { λ _ _ _ _. ⊤ };
+
+    fn recordings(&self) -> Recordings {
+        Recordings::Known
+    }
+
+    fn tells_reasons(&self) -> bool {
+        true
+    }
+
+    fn begin<W: Write>(&mut self, _name: &str, _output: &mut W) -> Result<(), Failure> {
+        Ok(())
+    }
+
+    fn read<R: Read, W: Write>(
+        &mut self,
+        alloc: Global,
+        input: &mut R,
+        _output: &mut W,
+    ) -> Result<(), Failure> {
+        let mut explainer = explainer_of(alloc, self.style).map_err(no_memory)?;
+        let mut text = Vec::new(alloc);
+        explainer.read(input, &mut text)?;
+        self.keep(&mut explainer, text)
+    }
+
+    fn read_cast<R: BufRead, W: Write>(
+        &mut self,
+        alloc: Global,
+        input: &mut R,
+        _output: &mut W,
+    ) -> Result<(), Failure> {
+        let mut explainer = explainer_of(alloc, self.style).map_err(no_memory)?;
+        let mut text = Vec::new(alloc);
+        explain_cast(alloc, &mut explainer, input, &mut text)?;
+        self.keep(&mut explainer, text)
+    }
+
+    fn end<W: Write>(&mut self, output: &mut W) -> Result<(), Failure> {
+        let (Some(first), Some(second)) = (self.texts.first(), self.texts.get(1)) else {
+            return Ok(());
+        };
+        let told = told(self.alloc, first, second).map_err(no_memory)?;
+        self.differs = !told.is_empty();
+        Ok(send(output, &told)?)
+    }
+}
+
+/// Writes what differs between two streams, as lines; the status, which is 1 where something does.
+pub fn explain_diff(rt: &HostRuntime, style: Style<'_>, files: &[&str]) -> Result<(), u8> {
+    let style = Style {
+        json: false,
+        count: false,
+        stats: false,
+        color: false,
+        live: false,
+        ..style
+    };
+    let mut work = Compared {
+        alloc: rt.alloc(),
+        style,
+        texts: Vec::new(rt.alloc()),
+        differs: false,
+    };
+    work_through(rt, &mut work, files)?;
+    if work.differs { Err(1) } else { Ok(()) }
+}

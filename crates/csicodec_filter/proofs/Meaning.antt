@@ -1,74 +1,26 @@
 -- What a filter writes, cut as a stream once more.
 use Rattle.std.proofs.Common.{◌≡◌, ◌≢◌, ℕ, ◌+◌, ◌<◌, ◌≤◌, ◌⊎◌, List, [], ◌∷◌, ◌++◌, false, length, refl, sym, ap, subst, ◌∙◌, inl, inr, append_assoc, append-nil, arith}
-use Rattle.std.proofs.{Math.ListN.get_or-append, lemmas.List.length-append, lemmas.List.take-append-le}
+use Rattle.std.proofs.lemmas.List.{length-append}
 use Rattle.std.specs.List.{flat_map}
-use Rattle.csicodec_tokens.specs.{Fault.Begins, Fault.NoSeq, Fault.IsLeast, Fault.IsBad, Fault.FaultOf, Fault.IsMetAt, declared.param.CsiParam.CsiParam}
-use Rattle.csicodec_tokens.specs.{declared.reader.ReadError.ReadError, declared.reader.ReadError.TheVariants.NotCsi}
-use Rattle.csicodec_tokens.specs.{declared.reader.ReadError.TheVariants.BadByte, declared.reader.ReadError.TheVariants.NumberTooLarge}
+use Rattle.csicodec_tokens.specs.declared.param.CsiParam.{CsiParam}
 use Rattle.csicodec_actions.specs.Actions.{Action}
 use Rattle.csicodec_parser.proofs.Cuts.{actions_count}
 use Rattle.csicodec_streams.specs.Decoding.{AreActions, Decodes, Joins}
-use Rattle.csicodec_spans.specs.Parts.{Part, part, bytes_of, left_over, IsSequence, IsMalformed, AllowsCsi, Allows, IsFirstPart, AreFirstParts, IsUnsure, IsWhole}
-use Rattle.csicodec_spans.specs.{Table.Answer, Table.Sequence, Table.ahead, declared.table.Kind.Kind, declared.table.Mode.Mode}
-use Rattle.csicodec_spans.proofs.{Agrees.kept, Agrees.opens, Agrees.sound, Fronts.Sound, Kept.parts_more, Kept.parts_on, Missed.allows_whole, Missed.part_some}
-use Rattle.csicodec_spans.proofs.{Once.whole_once, OneSpan.none_unsure, Spanned.whole_joined}
+use Rattle.csicodec_spans.specs.Parts.{Part, part, bytes_of, left_over, Allows, IsFirstPart, AreFirstParts, IsUnsure, IsWhole}
+use Rattle.csicodec_spans.specs.{Table.ahead, declared.table.Kind.Kind, declared.table.Mode.Mode}
+use Rattle.csicodec_spans.proofs.{Agrees.sound, Iterated.more_whole, Iterated.none_left as whole_none, Kept.parts_more, Missed.allows_whole, Missed.part_some}
+use Rattle.csicodec_spans.proofs.{Once.whole_once, Spanned.whole_joined}
 use Rattle.csicodec_filter.specs.Meaning.{AreCsi, Means, MeanTheSame, StandInPlace, singles, KeepsMeaning, Within}
 use Rattle.csicodec_filter.specs.Filter.{AreWritten, IsWritten}
+use Rattle.csicodec_filter.proofs.{Shorter.ahead_less, Written.first_csi}
 use Rattle.csicodec_spans.specs.declared.table.Kind.TheVariants as kind
 use Rattle.csicodec_spans.specs.declared.table.Mode.TheVariants as mode
 
--- ---- a part depends on what is behind it as far as two bytes
-
-least_less : (s x : List ℕ) (n : ℕ) → n < length s → IsLeast (s ++ x) n → IsLeast s n
-least_less s x n within least = record {
-  within = within;
-  before = λ k le. subst Begins (take-append-le k s x (omega (arith, le, within))) (least.before k le);
-  there = λ t. least.there (subst Begins (sym (take-append-le (n + 1) s x (omega (arith, within)))) t);
-}
-
-none_less : (s x : List ℕ) → NoSeq (s ++ x) → NoSeq s
-none_less s x none list final rest r =
-    none list final (rest ++ x) (r.0, r.1, ap (λ (t : List ℕ). t ++ x) r.2 ∙ append_assoc r.0 rest x)
-
-fault_less : (s x : List ℕ) (e : ReadError) (n : ℕ) → n < length s → IsMetAt e n → FaultOf (s ++ x) e → FaultOf s e
-fault_less s x (NotCsi place) n within at f = (none_less s x f.0, (least_less s x place (omega (arith, within, at)) f.1.0, f.1.1))
-fault_less s x (BadByte place) n within at f =
-    let here : place < length s = omega (arith, within, at) in
-    (none_less s x f.0, (least_less s x place here f.1.0, f.1.1, subst IsBad (get_or-append s x 0 place here) f.1.2))
-fault_less s x (NumberTooLarge place) n within at f =
-    let here : place < length s = omega (arith, within, at) in
-    (none_less s x f.0, (least_less s x place here f.1.0, f.1.1, λ bad. f.1.2 (subst IsBad (sym (get_or-append s x 0 place here)) bad)))
-fault_less s x _ n within at f = absurd at
-
-malformed_less : (limit : ℕ) (s x : List ℕ) (n : ℕ) → n < length s → IsMalformed limit (s ++ x) n → IsMalformed limit s n
-malformed_less limit s x n within (inl h) = inl (h.0, fault_less s x h.0 n within h.2 h.1, h.2, h.3)
-malformed_less limit s x n within (inr h) =
-    let long : limit ≤ length s = omega (arith, within, h.2) in
-    inr (subst Begins (take-append-le limit s x long) h.0, long, h.2)
-
-csi_less : (limit : ℕ) (s x : List ℕ) (k : Kind) (text : List ℕ) (a : Mode) → length text < length s → AllowsCsi limit (s ++ x) k text a → AllowsCsi limit s k text a
-csi_less limit s x kind.Csi text a within h = h
-csi_less limit s x kind.Other text a within h = (malformed_less limit s x (length text) within h.0, h.1)
-csi_less limit s x _ text a within h = absurd h
-
-allows_less : (f : Answer) (limit : ℕ) (s x : List ℕ) (k : Kind) (text : List ℕ) (a : Mode) → length text < length s → Allows f limit (s ++ x) k text a → Allows f limit s k text a
-allows_less Sequence limit s x k text a within h = csi_less limit s x k text a within h
-allows_less _ limit s x k text a within h = h
-
--- what stands in front of more bytes stands there already with the first two of them
-part_less : (limit : ℕ) (m : Mode) (p : Part) (s x : List ℕ) (a : Mode) → 0 < limit → 2 ≤ length s → IsFirstPart limit m (p.bytes ++ (s ++ x)) p (s ++ x) a → IsFirstPart limit m (p.bytes ++ s) p s a
-part_less limit m p s x a l two h =
-    let short : List ℕ = p.bytes ++ s in
-    let some : 0 < length p.bytes = part_some limit m (p.bytes ++ (s ++ x)) p (s ++ x) a l h in
-    let long : length short ≡ length p.bytes + length s = length-append p.bytes s in
-    let all : p.bytes ++ (s ++ x) ≡ short ++ x = sym (append_assoc p.bytes s x) in
-    let allows : Allows (ahead m (short ++ x)) limit (short ++ x) p.kind p.bytes a = subst (λ (t : List ℕ). Allows (ahead m t) limit t p.kind p.bytes a) all h.1 in (
-      refl,
-      elim (kept m short x) [
-        | inl e ↦ let few = (subst (λ (f : Answer). Sound m short f) e (sound m short)).0 in absurd (omega (arith, some, two, long, few))
-        | inr e ↦ allows_less (ahead m short) limit short x p.kind p.bytes a (omega (arith, some, two, long)) (subst (λ (f : Answer). Allows f limit (short ++ x) p.kind p.bytes a) e allows)
-      ],
-    )
+-- what stands in front of more bytes stands there already with the first of them
+part_less : (limit : ℕ) (m : Mode) (p : Part) (s x : List ℕ) (a : Mode) → 0 < limit → 0 < length s → IsFirstPart limit m (p.bytes ++ (s ++ x)) p (s ++ x) a → IsFirstPart limit m (p.bytes ++ s) p s a
+part_less limit m p s x a l one h =
+    let allows = subst (λ (t : List ℕ). Allows (ahead m t) limit t p.kind p.bytes a) (sym (append_assoc p.bytes s x)) h.1 in
+    (refl, ahead_less m p.bytes s x limit p.kind a (part_some limit m (p.bytes ++ (s ++ x)) p (s ++ x) a l h) one allows)
 
 -- ---- bytes that are the same up to a control sequence
 
@@ -90,23 +42,10 @@ part_beside : (limit : ℕ) (m : Mode) (p : Part) (bytes text : List ℕ) (a : M
     IsFirstPart limit m (p.bytes ++ text) p text a
 part_beside limit m p bytes text a l (inl e) h = subst (λ (t : List ℕ). IsFirstPart limit m (p.bytes ++ t) p t a) e h
 part_beside limit m p bytes text a l (inr (s, x, y, two, is, was)) h =
-    let short = part_less limit m p s x a l two (subst (λ (t : List ℕ). IsFirstPart limit m (p.bytes ++ t) p t a) is h) in
+    let short = part_less limit m p s x a l (omega (arith, two)) (subst (λ (t : List ℕ). IsFirstPart limit m (p.bytes ++ t) p t a) is h) in
     subst (λ (t : List ℕ). IsFirstPart limit m (p.bytes ++ t) p t a) (sym was) (part_behind limit m p s y a short)
 
 -- ---- the first part of a whole stream, and the others
-
-whole_on : (limit : ℕ) (first later : List Part) (m n : Mode) (bytes mid : List ℕ) → AreFirstParts limit m bytes first mid n → IsWhole limit n mid later → IsWhole limit m bytes (first ++ later)
-whole_on limit first later m n bytes mid f w = record {
-  sure = first ++ w.sure;
-  rest = w.rest;
-  after = w.after;
-  first = parts_on limit first w.sure m bytes mid w.rest n w.after f w.first;
-  unsure = w.unsure;
-  whole = ap (λ (t : List Part). first ++ t) w.whole ∙ sym (append_assoc first w.sure (left_over w.rest));
-}
-
-whole_none : (limit : ℕ) (m : Mode) → IsWhole limit m [] []
-whole_none limit m = record { sure = []; rest = []; after = m; first = (refl, refl); unsure = none_unsure limit m; whole = refl }
 
 -- it is sure, and the others follow it, or it is what is left at the end
 abbrev IsSureFirst : ℕ → Mode → List ℕ → Part → List Part → Type 0
@@ -159,11 +98,6 @@ csi_joined (s ∷ ss) bytes j = ap (λ (t : List ℕ). j.0 ++ t) (csi_joined ss 
 
 join_opens : (s : List CsiParam × ℕ) (ss : Sequences) (bytes : List ℕ) → Joins bytes (s ∷ ss) → (more : List ℕ) × (bytes ≡ 27 ∷ 91 ∷ more)
 join_opens s ss bytes j = ((j.3.body ++ s.1 ∷ []) ++ j.1, j.2 ∙ ap (λ (t : List ℕ). t ++ j.1) j.3.whole)
-
-first_csi : (limit : ℕ) (m : Mode) (text rest : List ℕ) (s : IsSequence text) → length text ≤ limit → IsFirstPart limit m (text ++ rest) (part kind.Csi text) rest mode.Text
-first_csi limit m text rest s short =
-    let is : ahead m (text ++ rest) ≡ Sequence = ap (λ (t : List ℕ). ahead m (t ++ rest)) s.2.whole ∙ opens m ((s.2.body ++ s.1 ∷ []) ++ rest) in
-    (refl, subst (λ (f : Answer). Allows f limit (text ++ rest) kind.Csi text mode.Text) (sym is) (s, short, refl))
 
 first_csis : (limit : ℕ) (ss : Sequences) (m : Mode) (bytes more : List ℕ) (j : Joins bytes ss) →
     length bytes ≤ limit → AreFirstParts limit m (bytes ++ more) (csi_parts ss bytes j) more (behind_csi m bytes)
@@ -266,7 +200,7 @@ plain_again limit runs m p behind bytes later l ne w next = by (whole_first limi
         let sure : AreFirstParts limit m (p.bytes ++ later) (p ∷ []) later n = (later, n, same, (refl, refl)) in
         record {
           others = p ∷ a.others;
-          whole = whole_on limit (p ∷ []) a.others m n (p.bytes ++ later) later sure a.whole;
+          whole = more_whole limit m n (p.bytes ++ later) later (p ∷ []) a.others sure a.whole;
           placed = (behind, p ∷ [], a.others, refl, refl, inr (p, refl, ne, refl), a.placed);
           beside = subst (λ (t : List ℕ). Beside t (p.bytes ++ later)) (sym first.0) (beside_on p.bytes rest later a.beside);
         }
@@ -301,7 +235,7 @@ run_again limit runs m run behind bytes first later s within w next =
     } in
     record {
       others = parts ++ a.others;
-      whole = whole_on limit parts a.others m (behind_csi m (flat_map bytes_of run)) (first ++ later) later csis a.whole;
+      whole = more_whole limit m (behind_csi m (flat_map bytes_of run)) (first ++ later) later parts a.others csis a.whole;
       placed = (behind, parts, a.others, refl, refl, inl mean, a.placed);
       beside = subst (λ (t : List ℕ). Beside t (first ++ later)) (sym joined) (same.beside rest later a.beside);
     }

@@ -27,9 +27,26 @@ goes_on P s t u chunk next more later h k first bytes text passed =
     rw (← append_assoc bytes chunk next, ← append_assoc text more later)
     (k first (bytes ++ chunk) (text ++ more) (h first bytes text passed))
 
--- a chunk that is over
-pub goes_over : {S : Type 0} (P : PassesOf S) (s t u : S) (chunk more later : List ℕ) → GoesOn P s chunk more t → GoesOn P t [] later u → GoesOn P s chunk (more ++ later) u
-goes_over P s t u chunk more later h k = subst (λ (c : List ℕ). GoesOn P s c (more ++ later) u) (append-nil chunk) (goes_on P s t u chunk [] more later h k)
+-- for bytes in front of a rest this was appended, and what passed goes on so
+abbrev pub AddsFront : {S : Type 0} → PassesOf S → S → List ℕ → List ℕ → List ℕ → List ℕ → S → Type 0
+AddsFront P old bytes rest before after new = (front : List ℕ) × (bytes ≡ front ++ rest)
+    × ((more : List ℕ) × GoesOn P old front more new × (after ≡ before ++ more))
+
+module _ {S : Type 0} (P : PassesOf S) where
+  -- nothing yet, and some bytes more
+  pub adds_none : (s : S) (bytes out : List ℕ) → AddsFront P s bytes bytes out out s
+  adds_none s bytes out = ([], refl, ([], goes_none P s, sym (append-nil out)))
+
+  pub adds_on : (s t u : S) (bytes mid rest a b c : List ℕ) → AddsFront P s bytes mid a b t → AddsFront P t mid rest b c u → AddsFront P s bytes rest a c u
+  adds_on s t u bytes mid rest a b c (front, whole, (more, goes, out)) (next, behind, (later, goes_then, longer)) = (
+    front ++ next,
+    rw (whole, behind) (sym (append_assoc front next rest)),
+    (more ++ later, goes_on P s t u front next more later goes goes_then, rw (longer, out) (append_assoc a more later)),
+  )
+
+  -- all of them
+  pub adds_all : (s t : S) (bytes rest a b : List ℕ) → AddsFront P s bytes rest a b t → length rest ≡ 0 → (more : List ℕ) × GoesOn P s bytes more t × (b ≡ a ++ more)
+  adds_all s t bytes rest a b (front, whole, (more, goes, out)) none = (more, subst (λ (l : List ℕ). GoesOn P s l more t) (none_left bytes front rest whole none) goes, out)
 
 -- since a state some bytes were read, and all that is sure of them was written
 pub record SoFar {S : Type 0} (P : PassesOf S) (s now : S) (i j w x : Option (List ℕ)) : Type 0 where

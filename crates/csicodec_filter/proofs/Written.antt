@@ -2,8 +2,8 @@
 use Rattle.std.proofs.Common.{◌≡◌, ◌≢◌, ◌<◌, ◌≤◌, ◌-◌, ℕ, zero, suc, Option, IfSome, List, [], ◌∷◌, ◌++◌, length, take, drop, refl, sym, ap, subst, ◌∙◌, append_assoc, append-nil, arith}
 use Rattle.std.proofs.lemmas.List.{length-append, length-take, take-append-drop}
 use Rattle.std.specs.{Io.KnownBytes.Appends as Gets, Io.KnownBytes.Consumes, Io.KnownBytes.IsAtEnd, List.AllByRecursion, List.flat_map, Prelude.⊤}
-use Rattle.csicodec_spans.specs.Parts.{Part, part, bytes_of, left_over, Allows, AreFirstParts, IsPlainFront, IsSpan, IsUnsure}
-use Rattle.csicodec_spans.specs.{Table.Sequence, Table.ahead, declared.table.Kind.Kind, declared.table.Mode.Mode}
+use Rattle.csicodec_spans.specs.Parts.{Part, part, bytes_of, left_over, Allows, AreFirstParts, IsFirstPart, IsPlainFront, IsSpan, IsUnsure}
+use Rattle.csicodec_spans.specs.{Table.Answer, Table.Sequence, Table.ahead, declared.table.Kind.Kind, declared.table.Mode.Mode}
 use Rattle.csicodec_spans.proofs.{Agrees.opens, Kept.parts_join, Kept.parts_more, Kept.parts_on, Once.parts_front, Once.whole_once, OneSpan.none_unsure}
 use Rattle.csicodec_spans.proofs.{Spanned.rest_is}
 use Rattle.csicodec_streams.specs.Known.{IsOne}
@@ -14,17 +14,19 @@ use Rattle.csicodec_filter.proofs.Sent.{goes_none, goes_on, whole_front}
 use Rattle.csicodec_spans.specs.declared.table.Kind.TheVariants as kind
 use Rattle.csicodec_spans.specs.declared.table.Mode.TheVariants as mode
 
--- a sequence in front is a part, in any mode
+-- a sequence is a part, in any mode
+pub first_csi : (limit : ℕ) (m : Mode) (text rest : List ℕ) → IsOne text → length text ≤ limit → IsFirstPart limit m (text ++ rest) (part kind.Csi text) rest mode.Text
+first_csi limit m text rest s short =
+    let is : ahead m (text ++ rest) ≡ Sequence = ap (λ (t : List ℕ). ahead m (t ++ rest)) s.2.whole ∙ opens m ((s.2.body ++ s.1 ∷ []) ++ rest) in
+    (refl, subst (λ (f : Answer). Allows f limit (text ++ rest) kind.Csi text mode.Text) (sym is) (s, short, refl))
+
+-- so many bytes in front, which are one
 pub one_first : (limit : ℕ) (n : Mode) (rest : List ℕ) (len : ℕ) → IsOne (take len rest) →
     len ≤ limit → len ≤ length rest →
     AreFirstParts limit n rest (part kind.Csi (take len rest) ∷ []) (drop len rest) mode.Text
 one_first limit n rest len one short within =
-    let front = take len rest in
-    let long : length front ≤ limit = omega (arith, length-take len rest, short) in
-    let whole : rest ≡ 27 ∷ 91 ∷ ((one.2.body ++ one.1 ∷ []) ++ drop len rest) = sym (take-append-drop len rest) ∙ ap (λ (t : List ℕ). t ++ drop len rest) one.2.whole in
-    let csi : ahead n rest ≡ Sequence = ap (ahead n) whole ∙ opens n ((one.2.body ++ one.1 ∷ []) ++ drop len rest) in
-    let allowed : Allows (ahead n rest) limit rest kind.Csi front mode.Text = rw csi (one, long, refl) in
-    (drop len rest, mode.Text, (sym (take-append-drop len rest), allowed), (refl, refl))
+    let first = first_csi limit n (take len rest) (drop len rest) one (omega (arith, length-take len rest, short)) in
+    (drop len rest, mode.Text, subst (λ (t : List ℕ). IsFirstPart limit n t (part kind.Csi (take len rest)) (drop len rest) mode.Text) (take-append-drop len rest) first, (refl, refl))
 
 module _ {S : Type 0} (Own : WrittenOf S) where
   -- no parts

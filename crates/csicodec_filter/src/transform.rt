@@ -47,10 +47,11 @@ pub trait Transform {
 /// How many bytes are asked of a reader at once.
 const READ: usize = 65536;
 
-/// Takes some bytes in pieces: a longer copy costs more for each byte.
-fn take_pieces<T: Transform>(
+/// Takes what was read, in pieces, since a longer copy costs more for each byte; if that is all that is there now, nothing is put off.
+fn take_read<T: Transform>(
     transform: &mut T,
     bytes: &[u8],
+    is_all: bool,
     out: &mut Vec<u8>,
 ) -> Result<(), AllocError>
     requires { T.stands transform.old }
@@ -65,23 +66,6 @@ fn take_pieces<T: Transform>(
         transform.take(piece, out)?;
         rest = behind;
     }
-    Ok(())
-}
-
-/// Takes what was read; if that is all that is there now, nothing is put off.
-fn take_read<T: Transform>(
-    transform: &mut T,
-    bytes: &[u8],
-    is_all: bool,
-    out: &mut Vec<u8>,
-) -> Result<(), AllocError>
-    requires { T.stands transform.old }
-    ensures stands { OnOk result (T.stands transform.new) }
-    ensures passes { OnOk result
-        ((more : List ℕ) × GoesOn T.passes transform.old bytes.now more transform.new
-        × (out.new.items ≡ out.old.items ++ more)) }
-{
-    take_pieces(transform, bytes, out)?;
     if is_all {
         return transform.pause(out);
     }

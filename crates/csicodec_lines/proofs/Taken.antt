@@ -1,29 +1,12 @@
 -- A log as it comes.
-use Rattle.std.proofs.Common.{◌≡◌, ◌<◌, ℕ, true, false, List, [], ◌∷◌, ◌++◌, length, ◌==◌, refl, sym, subst, ◌∙◌, append_assoc, append-nil}
+use Rattle.std.proofs.Common.{◌≡◌, ◌<◌, ℕ, true, false, List, [], ◌∷◌, ◌++◌, length, ◌==◌, refl, sym, ◌∙◌, append_assoc, append-nil}
 use Rattle.std.specs.List.{AllByRecursion, concat}
-use Rattle.csicodec_filter.specs.Transform.{GoesOn, PassesOf, Transforms}
-use Rattle.csicodec_filter.proofs.Sent.{goes_none, goes_on, none_left}
+use Rattle.csicodec_filter.specs.Transform.{GoesOn, Transforms}
 use Rattle.csicodec_clean.specs.{Cleaned.EndOf, Cleaned.Ends, Cleaned.RuleOf, Cleaned.longest, Stream.AreTaken, Stream.Takes, Stream.start_of}
 use Rattle.csicodec_clean.proofs.Chunks.{ends as at_end, taken_on, takes_none, takes_on}
-use Rattle.csicodec_lines.specs.{declared.lines.Lines.Lines, Private.Cut.Adds, Private.Cut.AddsFront, Lines.ByLines, Lines.IsWithin, Lines.ends_line}
-use Rattle.csicodec_lines.specs.{Lines.joins, Lines.lines_from, Lines.lines_of, Stream.Ending, Stream.Passes, Stream.begun, Stream.ended}
+use Rattle.csicodec_lines.specs.{declared.lines.Lines.Lines, Lines.ByLines, Lines.IsWithin, Lines.ends_line, Lines.joins, Lines.lines_from, Lines.lines_of}
+use Rattle.csicodec_lines.specs.{Stream.Ending, Stream.Passes, Stream.begun, Stream.ended}
 use Rattle.csicodec_lines.proofs.{Ends.all_within_on, Ends.one_end, Ends.one_joins, Texts.ended_on, Texts.joined_on, Texts.of_on}
-
-module _ {S : Type 0} (Step : PassesOf S) where
-  -- nothing yet, and some bytes more
-  pub adds_none : (s : S) (bytes out : List ℕ) → AddsFront Step s bytes bytes out out s
-  adds_none s bytes out = ([], refl, ([], goes_none Step s, sym (append-nil out)))
-
-  pub adds_on : (s t u : S) (bytes mid rest a b c : List ℕ) → AddsFront Step s bytes mid a b t → AddsFront Step t mid rest b c u → AddsFront Step s bytes rest a c u
-  adds_on s t u bytes mid rest a b c (front, whole, (more, goes, out)) (next, behind, (later, goes_then, longer)) = (
-    front ++ next,
-    rw (whole, behind) (sym (append_assoc front next rest)),
-    (more ++ later, goes_on Step s t u front next more later goes goes_then, rw (longer, out) (append_assoc a more later)),
-  )
-
-  -- all of them
-  pub adds_all : (s t : S) (bytes rest a b : List ℕ) → AddsFront Step s bytes rest a b t → length rest ≡ 0 → Adds Step s bytes a b t
-  adds_all s t bytes rest a b (front, whole, (more, goes, out)) none = (more, subst (λ (l : List ℕ). GoesOn Step s l more t) (none_left bytes front rest whole none) goes, out)
 
 module _ {S P : Type 0} (Begins : P → S) (Gives : RuleOf S) (Closes : EndOf S) where
   abbrev Step : Lines S P → List ℕ → List ℕ → Lines S P → Type 0

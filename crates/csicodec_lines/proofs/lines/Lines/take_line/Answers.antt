@@ -1,6 +1,6 @@
 use Rattle.std.proofs.Common.{[], ◌∷◌}
+use Rattle.csicodec_filter.proofs.Sent.{adds_on}
 use Rattle.csicodec_lines.specs.Stream.{Passes}
-use Rattle.csicodec_lines.proofs.Taken.{adds_on}
 use Rattle.csicodec_lines.proofs.lines.Lines.take_line.Goals as goal
 
 pub returns-then-not-branch-clause-taken : goal.returns-then-not-branch-clause-taken

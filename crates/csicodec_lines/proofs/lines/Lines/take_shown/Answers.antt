@@ -1,8 +1,9 @@
 use Rattle.std.proofs.{Common.◌≡◌, Common.◌<◌, Common.◌≤◌, Common.◌++◌, Common.◌∙◌, Common.ℕ, Common.[], Common.length, Common.take, Common.refl, Common.rules}
 use Rattle.std.proofs.{Common.sym, Common.ap, Common.append-nil, Math.Seq.take-append_seam}
+use Rattle.csicodec_filter.proofs.Sent.{adds_none}
 use Rattle.csicodec_clean.specs.Shown.{shown_text}
 use Rattle.csicodec_lines.specs.Stream.{Passes}
-use Rattle.csicodec_lines.proofs.{Copied.goes_shown, Copied.is_blank, Copied.unchanged, Taken.adds_none, Taken.goes_same}
+use Rattle.csicodec_lines.proofs.{Copied.goes_shown, Copied.is_blank, Copied.unchanged, Taken.goes_same}
 use Rattle.csicodec_lines.proofs.lines.Lines.take_shown.Goals as goal
 
 pub returns-then-front-lt-LANES : goal.returns-then-front-lt-LANES

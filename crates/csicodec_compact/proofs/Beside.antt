@@ -27,15 +27,15 @@ use Rattle.csicodec_compact.specs.declared.form.TextEnding.TheVariants as forms
 -- ---- bytes in front of others
 
 pub begins_one : (bytes wide : List ℕ) → Begins bytes wide → Begins (drop 1 bytes) (drop 1 wide)
-begins_one [] wide h = (drop 1 wide, refl)
-begins_one (b ∷ bytes) wide h = (h.0, ap (λ (l : List ℕ). drop 1 l) h.1)
+begins_one [] wide h = record { more = drop 1 wide; whole = refl }
+begins_one (b ∷ bytes) wide h = record { more = h.more; whole = ap (λ (l : List ℕ). drop 1 l) h.whole }
 
 pub begins_two : (bytes wide : List ℕ) → 2 ≤ length bytes → Begins bytes wide → Begins (drop 2 bytes) (drop 2 wide)
-begins_two bytes wide long h = (h.0, ap (λ (l : List ℕ). drop 2 l) h.1 ∙ drop-append-le 2 bytes h.0 long)
+begins_two bytes wide long h = record { more = h.more; whole = ap (λ (l : List ℕ). drop 2 l) h.whole ∙ drop-append-le 2 bytes h.more long }
 
 pub short_front : (bytes wide front : List ℕ) → Begins bytes wide → front ≡ take 32 wide → length bytes ≤ 32 → take (length bytes) front ≡ bytes
 short_front bytes wide front h is short =
-    ap (λ (l : List ℕ). take (length bytes) l) is ∙ take-take (length bytes) 32 wide short ∙ ap (λ (l : List ℕ). take (length bytes) l) h.1 ∙ take-append_seam bytes h.0
+    ap (λ (l : List ℕ). take (length bytes) l) is ∙ take-take (length bytes) 32 wide short ∙ ap (λ (l : List ℕ). take (length bytes) l) h.whole ∙ take-append_seam bytes h.more
 
 -- ---- runs
 

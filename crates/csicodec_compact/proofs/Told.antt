@@ -4,7 +4,6 @@ use Rattle.std.proofs.{lemmas.Bool.and_parts, lemmas.Bool.cases_Bool, lemmas.Boo
 use Rattle.std.proofs.{lemmas.List.Elements.All-from_recursion, lemmas.List.Folds.list_any-append}
 use Rattle.std.specs.{Prelude.ℤ, Prelude.◌==◌, Prelude.◌&&◌, Prelude.not, Fmt.signed_decimal, List.AllByRecursion, List.list_any}
 use Rattle.csicodec_tokens.specs.{declared.param.CsiParam.CsiParam, Sequence.IsFinal, Sequence.Seq, Sequence.Spellable, Param.token_text}
-use Rattle.csicodec_tokens.proofs.Unique.{one_seq}
 use Rattle.csicodec_actions.specs.{Actions.Action, Actions.Cursor, Actions.Device, Devices.RequestTerminalParameters, Devices.attribute_token, Kinds.number}
 use Rattle.csicodec_actions.specs.{Special.IsSpecial, Special.NoneSpecial, Table.text, Table.texts, Table.Device.written_parameters, Written.Item, Written.Byte}
 use Rattle.csicodec_actions.specs.{Written.The, Written.Unless, Written.Attribute, Written.shown}
@@ -14,6 +13,7 @@ use Rattle.csicodec_streams.proofs.OneReading.{one_decoding, one_sequence}
 use Rattle.csicodec.proofs.{Kept.Kept, Parsed.parsed-kept, RoundTrip.round_trip_lem, Twins.IsParsedSpecial}
 use Rattle.csicodec_filter.specs.Faithful.{stays}
 use Rattle.csicodec_compact.specs.{Compacts.Compacts, Compacts.ReadsAlike, Private.Steps.IsOneNormalised}
+use Rattle.csicodec_compact.proofs.Beside.{free_by}
 
 -- the byte is none of the text
 abbrev pub Lacks : ℕ → List ℕ → Type 0
@@ -91,10 +91,5 @@ reads-alike bytes other list final xs normal text s read made one told same = λ
 
 -- what stands in the place of a sequence that doesn't stay
 pub compacts : (bytes text : List ℕ) (list : List CsiParam) (final : ℕ) → Seq bytes list final → stays list final ≡ false → ReadsAlike bytes text → length text ≤ length bytes → Compacts bytes text
-compacts bytes text list final s free alike short = record {
-  alike = alike;
-  short = short;
-  kept = λ other last t stay.
-      let same = one_seq bytes bytes [] [] list other final last s t refl in
-      absurd (true≢false (sym (rw (← same.1, ← same.2) at stay) ∙ free));
-}
+compacts bytes text list final s free alike short =
+    record { alike = alike; short = short; kept = λ other last t stay. absurd (free_by bytes list final s free (other, last, t, stay)) }

@@ -1,9 +1,9 @@
 //! The forms of a text that is written for a sequence: what may be joined to it.
 ghost use Rattle.std.specs.Prelude.{◌≡◌};
-ghost use Rattle.csicodec_compact.specs.Private.Steps.{closing, form_of, is_bare, is_joined, is_open};
+ghost use Rattle.csicodec_compact.specs.Private.Steps.{closing, form_of, is_joined};
 
 /// How a text that is held ends.
-#[derive(Clone, Copy, Debug, PartialEq, Eq)]
+#[derive(Clone, Copy)]
 pub(crate) enum TextEnding {
     /// A sequence, to which nothing is joined, and which is joined to none.
     Whole,
@@ -51,20 +51,6 @@ impl TextEnding {
         ensures { result ≡ is_joined self }
     {
         !matches!(self, TextEnding::Whole)
-    }
-
-    #[inline(always)]
-    pub(crate) fn is_bare(self) -> bool
-        ensures { result ≡ is_bare self }
-    {
-        matches!(self, TextEnding::Bare)
-    }
-
-    #[inline(always)]
-    pub(crate) fn is_open(self) -> bool
-        ensures { result ≡ is_open self }
-    {
-        matches!(self, TextEnding::Open)
     }
 
     /// What closes it.

@@ -1,5 +1,5 @@
 //! Which texts are lists of attributes that may be joined.
-ghost use Rattle.std.specs.Prelude.{◌≡◌, ◌≤◌, ◌++◌, List, true, false, length, map, IfOk, IfSome};
+ghost use Rattle.std.specs.Prelude.{◌≡◌, ◌≤◌, List, true, false, length, map, IfOk};
 ghost use Rattle.std.specs.List.{list_any};
 ghost use Rattle.csicodec_tokens.specs.Sequence.{Seq};
 ghost use Rattle.csicodec_base.specs.declared.sgr.Sgr.{Sgr};
@@ -35,6 +35,7 @@ fn has_mark(params: &[CsiParam]) -> bool
 }
 
 /// Whether a list is of numbers and `;`, at least one of them.
+#[tactic(auto, using(crate::proofs::JoinedLists::plain_by))]
 fn is_plain(params: &[CsiParam]) -> bool
     ensures { result ≡ true → IsStyleList params.now }
 {
@@ -71,17 +72,6 @@ pub(crate) fn numbers(text: &[u8]) -> u8
 {
     let marks = text.iter().filter(|byte| **byte == b';').count();
     u8::try_from(marks).unwrap_or(u8::MAX).saturating_add(1)
-}
-
-/// A text without its end, where it ends so.
-fn without_end<'a>(text: &'a [u8], end: &[u8]) -> Option<&'a [u8]>
-    ensures { IfSome result (λ front. text.now ≡ front.now ++ end.now) }
-{
-    if text.len() < end.len() {
-        return None;
-    }
-    let (front, back) = text.split_at(text.len() - end.len());
-    if back == end { Some(front) } else { None }
 }
 
 /// Reads texts of sequences, to see which are lists of attributes. Its buffers are kept from call to call.
@@ -156,7 +146,7 @@ impl Lists {
     fn is_blank(&mut self, text: &[u8]) -> Result<bool, AllocError>
         ensures { IfOk result (λ yes. yes ≡ true → IsListed TextEnding.Blank text.now) }
     {
-        let Some(front) = without_end(text, b";0m") else {
+        let Some(front) = text.strip_suffix(b";0m".as_slice()) else {
             return Ok(false);
         };
         let mut other = Vec::new(self.alloc);

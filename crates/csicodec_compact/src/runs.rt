@@ -103,6 +103,7 @@ impl Written {
 
     /// Goes on with a text that stands by itself.
     #[inline(always)]
+    #[tactic(auto, using(crate::proofs::Beside::begins_one))]
     fn start(
         &mut self,
         form: TextEnding,
@@ -140,12 +141,12 @@ impl Written {
         ensures form { OnOk result (self.new.form ≡ behind self.old.form form) }
         ensures room { self.new.room ≡ self.old.room }
     {
-        if !form.is_bare() {
+        if !matches!(form, TextEnding::Bare) {
             self.form = form;
             append_text(text, wide, out)?;
             return Ok(());
         }
-        if self.form.is_open() {
+        if matches!(self.form, TextEnding::Open) {
             self.form = TextEnding::Blank;
             append_text(text, wide, out)?;
             return Ok(());
@@ -157,6 +158,7 @@ impl Written {
 
     /// Writes what is noted of one control sequence: joined to what was written, or behind it. `wide` begins with the note.
     #[inline(always)]
+    #[tactic(auto, using(crate::proofs::Beside::begins_two))]
     pub(crate) fn take(
         &mut self,
         note: &[u8],

@@ -6,7 +6,7 @@ use csicodec_base::{CsiParam, Text, TextBuffer};
 use std::alloc::AllocError;
 
 /// Which numbers are left out of a list.
-#[derive(Clone, Copy, Debug, PartialEq, Eq)]
+#[derive(Clone, Copy, PartialEq)]
 enum Defaults {
     /// None.
     Said,

@@ -37,8 +37,9 @@ is_semicolon None = false
 is_semicolon (Some b) = b == 59
 
 -- the bytes stand in front of some
-abbrev pub Begins : List ℕ → List ℕ → Type 0
-Begins bytes wide = (more : List ℕ) × (wide ≡ bytes ++ more)
+pub record Begins (bytes wide : List ℕ) : Type 0 where
+  pub more : List ℕ
+  pub whole : wide ≡ bytes ++ more
 
 -- ---- forms
 

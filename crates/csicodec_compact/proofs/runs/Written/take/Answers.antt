@@ -1,6 +1,6 @@
 use Rattle.std.proofs.Common.{◌≡◌, ◌≤◌, ◌+◌, ◌++◌, ℕ, List, drop, get_or, take, ap, ◌∙◌, append_assoc, arith}
 use Rattle.csicodec_compact.specs.Private.Steps.{closing, form_of, opened}
-use Rattle.csicodec_compact.proofs.Beside.{begins_two, extends_joined, extends_one}
+use Rattle.csicodec_compact.proofs.Beside.{extends_joined, extends_one}
 use Rattle.csicodec_compact.proofs.runs.Written.take.Goals as goal
 
 pub returns-then-may_join : goal.returns-then-may_join
@@ -29,9 +29,3 @@ returns c = λ bytes n.
       c.in_ok-start.ensures.text ∙ append_assoc old (closing st) (opened c.of-form.result c.split_at.result.1.now),
       rw (c.in_ok-start.ensures.form, form, back) (extends_one st (form_of mark) c.args.self.now.room c.saturating_sub-self.result count bytes text one noted few (omega (arith, c.saturating_sub-self.ensures, many))),
     )
-
-pub join-requires : goal.join-requires
-join-requires c = rw (c.split_at.ensures.back, c.split_at-2.ensures.back) (begins_two c.args.note.now c.args.wide.now c.requires.long c.requires.wide)
-
-pub start-requires : goal.start-requires
-start-requires c = rw (c.split_at.ensures.back, c.split_at-2.ensures.back) (begins_two c.args.note.now c.args.wide.now c.requires.long c.requires.wide)

@@ -18,7 +18,7 @@ take-requires-clause-long c =
 pub take-requires-clause-wide : goal.take-requires-clause-wide
 take-requires-clause-wide c =
     let len = length c.args.bytes.now - length c.in-Some.rest.now in
-    (drop len c.open_note-wide.result, sym (take-append-drop len c.open_note-wide.result))
+    record { more = drop len c.open_note-wide.result; whole = sym (take-append-drop len c.open_note-wide.result) }
 
 pub keep-requires-clause-noted : goal.keep-requires-clause-noted
 keep-requires-clause-noted c =

@@ -1,8 +1,11 @@
-use Rattle.std.proofs.Common.{◌<◌, take, arith}
+use Rattle.std.proofs.Common.{◌<◌, ◌++◌, ◌∙◌, ap, sym, take, arith}
 use Rattle.csicodec_filter.proofs.Written.{appends_none}
 use Rattle.csicodec_compact.specs.Private.Steps.{Holds}
 use Rattle.csicodec_compact.proofs.Beside.{front_known, front_plain}
 use Rattle.csicodec_compact.proofs.shortener.ShortenerWriteSpansShort.pass.Goals as goal
+
+pub take-requires-clause-wide : goal.take-requires-clause-wide
+take-requires-clause-wide c = record { more = c.wide.ensures.0; whole = c.wide.ensures.1 ∙ ap (λ l. l ++ c.wide.ensures.0) (sym c.noted.ensures) }
 
 pub returns-then-matches-clause-written : goal.returns-then-matches-clause-written
 returns-then-matches-clause-written c =

@@ -10,7 +10,7 @@ pub take-requires-clause-long : goal.take-requires-clause-long
 take-requires-clause-long c = note_long c.split_at.result.0.now c.note.result.now (rw (← c.note.ensures) at c.in_ok-find.ensures)
 
 pub take-requires-clause-wide : goal.take-requires-clause-wide
-take-requires-clause-wide c = ([], c.note-2.ensures ∙ sym c.note.ensures ∙ sym (append-nil c.note.result.now))
+take-requires-clause-wide c = record { more = []; whole = c.note-2.ensures ∙ sym c.note.ensures ∙ sym (append-nil c.note.result.now) }
 
 pub keep-requires-clause-noted : goal.keep-requires-clause-noted
 keep-requires-clause-noted c = rw (c.split_at.ensures.front) at (rw (← c.note-3.ensures) at c.in_ok-find.ensures)

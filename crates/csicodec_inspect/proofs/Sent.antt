@@ -1,6 +1,6 @@
 -- what a run that went well wrote, and what one that failed did
 use Rattle.std.proofs.{Common.ℕ, Common.List, Common.Option, Common.Result, Common.Ok, Common.Err, Common.subst, lemmas.Option.IfSome_then}
-use Rattle.std.specs.{Prelude.IfSome, Prelude.IsErr, Prelude.OnErr, Prelude.OnOk, Io.KnownBytes.Appends, Io.KnownBytes.Consumes, Io.KnownBytes.IsAtEnd}
+use Rattle.std.specs.{Prelude.IfSome, Prelude.OnErr, Prelude.OnOk, Io.KnownBytes.Appends, Io.KnownBytes.Consumes, Io.KnownBytes.IsAtEnd}
 use Rattle.csicodec_streams.proofs.Streamed.{given_all}
 use Rattle.csicodec_inspect.specs.Sent.{IsAppended, IsWrittenBy}
 
@@ -15,10 +15,6 @@ all_written Out before after old new (bytes, text, consumed, end, out, appended)
 pub on_err_all : {A E P : Type 0} (result : Result A E) → P → OnErr result P
 on_err_all (Ok a) p = tt
 on_err_all (Err e) p = p
-
-pub not_ok : {A E : Type 0} (Q : Type 0) (result : Result A E) → IsErr result → OnOk result Q
-not_ok Q (Err e) h = tt
-not_ok Q (Ok a) h = absurd cc
 
 -- all was read, and its text was written
 pub ran_well : (E : Type 0) (Out Front : List ℕ → List ℕ → Type 0) (before after old new : Option (List ℕ))

@@ -87,10 +87,6 @@ impl ObjectLines {
 impl Alone for Assembly {
     ghost goes = { AssemblesLines };
 
-    fn gives_reasons(&self) -> bool {
-        true
-    }
-
     /// Each read's lines are written before the next, those ahead of one that is refused too.
     fn work<R: Read, W: Write>(
         &mut self,

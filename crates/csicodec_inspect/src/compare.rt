@@ -5,7 +5,7 @@ use crate::check::no_memory;
 use crate::diff::{DiffLine, Origin, lines_of};
 use crate::explain::explainer_of;
 use crate::explained_cast::explain_cast;
-use csicodec_command::{Failure, Recordings, Worker, work_through};
+use csicodec_command::{Failure, Worker, work_through};
 use csicodec_explain::{Explainer, Style};
 use csicodec_streams::{RunError, send};
 use std::alloc::{AllocError, Global};
@@ -102,14 +102,6 @@ impl<'a> Compared<'a> {
 
 impl<'a> Worker for Compared<'a> {
     ghost steps = { λ _ _ _ _. ⊤ };
-
-    fn recordings(&self) -> Recordings {
-        Recordings::Known
-    }
-
-    fn tells_reasons(&self) -> bool {
-        true
-    }
 
     fn begin<W: Write>(&mut self, _name: &str, _output: &mut W) -> Result<(), Failure> {
         Ok(())

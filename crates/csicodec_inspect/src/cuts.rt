@@ -25,10 +25,6 @@ impl Cuts {
 impl Alone for Cuts {
     ghost goes = { TellsCuts };
 
-    fn gives_reasons(&self) -> bool {
-        true
-    }
-
     fn work<R: Read, W: Write>(
         &mut self,
         alloc: Global,

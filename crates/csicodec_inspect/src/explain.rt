@@ -67,10 +67,6 @@ impl<'a> Worker for Explained<'a> {
         }
     }
 
-    fn tells_reasons(&self) -> bool {
-        true
-    }
-
     fn begin<W: Write>(&mut self, name: &str, output: &mut W) -> Result<(), Failure> {
         self.timed = self.timing.is_some() || is_cast(name);
         let answer = &mut self.answer;

@@ -1,16 +1,13 @@
 -- What a run writes of inputs that all went well.
-use Rattle.std.proofs.Common.{Bool, true, false, inl, inr, ◌≡◌, ◌∷◌, ◌++◌, ℕ, List, [], Option, None, Some, Result, Ok, Err, refl, sym, ap, subst, ◌∙◌, append_assoc, arith}
+use Rattle.std.proofs.Common.{Bool, true, false, inl, inr, ◌≡◌, ◌∷◌, ◌++◌, ℕ, List, [], Option, None, Some, Result, Ok, Err, refl, sym, ap, subst, ◌∙◌, append_assoc}
 use Rattle.std.proofs.{lemmas.Bool.true≢false, KnownBytes.Appends-nil, KnownBytes.Appends-trans}
-use Rattle.std.specs.{Prelude.◌⊎◌, Prelude.length, Prelude.IfSome, Prelude.IsErr, Prelude.MatchResult, Prelude.OnErr, Prelude.OnOk, List.concat}
-use Rattle.std.specs.{Io.KnownBytes.Appends, Io.KnownBytes.Keeps}
+use Rattle.std.specs.{Prelude.◌⊎◌, Prelude.IsErr, Prelude.MatchResult, Prelude.OnErr, Prelude.OnOk, List.concat, Io.KnownBytes.Appends, Io.KnownBytes.Keeps}
 use Rattle.csicodec_streams.specs.declared.error.RunError.{RunError}
 use Rattle.csicodec_lines.specs.Lines.{AreOf}
 use Rattle.csicodec_command.specs.Runs.{At, Closes, End, Ends, HasTurn, IsTold, IsUnread, MayBeRecording, Recording, Stream, Through, ends_run, first_of}
 use Rattle.csicodec_command.specs.{declared.failure.Failure.Failure, Recorded.recorded}
 use Rattle.csicodec_tool.specs.Writes.{Heads, IsHeaded, JobSteps, Tails, Writes, Wrote as IsWritten, begun_of, makes_none, writes_data}
 use Rattle.csicodec_tool.specs.{declared.rewrite.Job.Job, declared.rewrite.Work.Work, Whole.AreKnown, Whole.AreTaken, Whole.IsTaken, Whole.WholeRuns}
-use Rattle.csicodec_streams.specs.declared.error.RunError.TheVariants as error
-use Rattle.csicodec_command.specs.declared.failure.Failure.TheVariants as failure
 use Rattle.csicodec_tool.specs.declared.rewrite.Work.TheVariants as work
 
 -- ---- a page that has begun is written as one that hasn't
@@ -46,9 +43,6 @@ pub record Wrote (w : Work) (bytes : List ℕ) (new : Work) (old out : Option (L
   pub begun : new ≡ begun_of w
   pub appended : Appends old out (head ++ text)
 
-no_failure : {A E : Type 0} (a : A) (e : E) → Ok a ≡ Err e → ⊥
-no_failure {A} {E} a e is = subst (λ (r : Result A E). OnErr r ⊥) is tt
-
 -- no failure of a run
 abbrev well : Result (Unit {0}) Failure
 well = Ok tt
@@ -82,7 +76,7 @@ record Turned (name bytes : List ℕ) (at next : At Job) : Type 0 where
 
 turn_written : (holds : List ℕ → Option (List ℕ)) (name bytes : List ℕ) (unwraps : Bool) (at next : At Job) → holds name ≡ Some bytes
     → writes_data at.0 ≡ unwraps → May unwraps name bytes → HasTurn JobSteps holds name at (Ok tt) next → Turned name bytes at next
-turn_written holds name bytes unwraps at next is of_data may (inl (e, same)) = absurd (no_failure tt failure.Open e)
+turn_written holds name bytes unwraps at next is of_data may (inl (e, same)) = cc e
 turn_written holds name bytes unwraps at next is of_data may (inr r) = read r.ahead r.bytes r.begins.1 kept (ok_of r.begun tt r.begins.0 r.reads)
   where
     kept : Keeps (Some bytes) r.bytes
@@ -98,8 +92,8 @@ turn_written holds name bytes unwraps at next is of_data may (inr r) = read r.ah
     read : (ahead : At Job) (known : Option (List ℕ)) → ahead ≡ at → Keeps (Some bytes) known
         → (IsUnread (Ok tt) × (next ≡ ahead)) ⊎ (JobSteps (Stream known) ahead (Ok tt) next
         ⊎ (MayBeRecording name (holds name) × JobSteps (Recording known) ahead (Ok tt) next)) → Turned name bytes at next
-    read ahead known same keeps (inl (inl e, stays)) = absurd (no_failure tt (failure.Run error.Read) e)
-    read ahead known same keeps (inl (inr e, stays)) = absurd (no_failure tt (failure.Run error.Memory) e)
+    read ahead known same keeps (inl (inl e, stays)) = cc e
+    read ahead known same keeps (inl (inr e, stays)) = cc e
     read ahead None same keeps (inr step) = absurd keeps
     read ahead (Some all) same keeps (inr (inl (still, d))) = record {
       own = bytes;
@@ -136,8 +130,8 @@ first_went : (holds : List ℕ → Option (List ℕ)) (names : List (List ℕ)) 
     ⊎ ((ends_run f ≡ false) × ((others : List ℕ) × (nobody ≡ n ∷ others) × Through JobSteps holds names next others None end))))
     → (result ≡ Ok tt) × Through JobSteps holds names next [] None end
 first_went holds names next end (Ok tt) rest = (refl, rest)
-first_went holds names next end (Err f) (n, told, inl (ends, none, stop, same)) = absurd (subst (λ (o : Option ℕ). IfSome o (λ _. ⊥)) stop tt)
-first_went holds names next end (Err f) (n, told, inr (goes, (others, none, rest))) = absurd (omega (arith, ap length none))
+first_went holds names next end (Err f) (n, told, inl (ends, none, stop, same)) = cc stop
+first_went holds names next end (Err f) (n, told, inr (goes, (others, none, rest))) = cc none
 
 record Went (holds : List ℕ → Option (List ℕ)) (w : Work) (names : List (List ℕ)) (new : Work) (old out : Option (List ℕ)) : Type 0 where
   inputs : List (List ℕ)
@@ -173,18 +167,18 @@ others_went holds w unwraps (name ∷ names) at end begun of_data (bytes, is, ma
 
 closed_well : (first : Option ℕ) (last end : At Job) → Closes JobSteps first last (Ok tt) end → (first ≡ None) × JobSteps End last (Ok tt) end
 closed_well None last end (Ok u, step, e) = (refl, step)
-closed_well (Some n) last end (Ok u, step, e) = absurd (no_failure tt n e)
-closed_well first last end (Err f, step, (n, told, e)) = absurd (no_failure tt n e)
+closed_well (Some n) last end (Ok u, step, e) = cc e
+closed_well first last end (Err f, step, (n, told, e)) = cc e
 
 -- a run that ended well
 ended_well : (name : List ℕ) (names : List (List ℕ)) (failed : List ℕ) (stop : Option ℕ) (last end : At Job)
     → Ends JobSteps (name ∷ names) (first_of failed) stop last (Ok tt) end → (failed ≡ []) × (stop ≡ None) × JobSteps End last (Ok tt) end
-ended_well name [] failed (Some n) last end (e, same) = absurd (no_failure tt n e)
-ended_well name (next ∷ names) failed (Some n) last end (e, same) = absurd (no_failure tt n e)
+ended_well name [] failed (Some n) last end (e, same) = cc e
+ended_well name (next ∷ names) failed (Some n) last end (e, same) = cc e
 ended_well name [] [] None last end closes = (refl, refl, (closed_well None last end closes).1)
-ended_well name [] (n ∷ failed) None last end (e, same) = absurd (no_failure tt n e)
+ended_well name [] (n ∷ failed) None last end (e, same) = cc e
 ended_well name (next ∷ names) [] None last end closes = (refl, refl, (closed_well None last end closes).1)
-ended_well name (next ∷ names) (n ∷ failed) None last end closes = absurd (subst (λ (o : Option ℕ). IfSome o (λ _. ⊥)) (sym (closed_well (Some n) last end closes).0) tt)
+ended_well name (next ∷ names) (n ∷ failed) None last end closes = cc (closed_well (Some n) last end closes).0
 
 pub whole : WholeRuns
 whole holds name names start end (bytes, is, may, known) run =

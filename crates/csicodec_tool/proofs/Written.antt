@@ -1,6 +1,6 @@
 -- what a run from a reader to a writer promises, where the bytes of its input are known
 use Rattle.std.proofs.Common.{Bool, true, false, Bor, inr, ◌≡◌, ◌++◌, ℕ, List, [], Option, None, Some, Result, Ok, Err, refl, ◌∙◌, subst, append_assoc}
-use Rattle.std.proofs.{KnownBytes.Appends-nil, lemmas.Option.IfSome_then, lemmas.Result.on_err_weaker, lemmas.Result.on_ok_weaker}
+use Rattle.std.proofs.{KnownBytes.Appends-nil, lemmas.Option.IfSome_then, lemmas.Result.IfOk-from_err, lemmas.Result.on_err_weaker, lemmas.Result.on_ok_weaker}
 use Rattle.std.specs.{Prelude.IfSome, Prelude.IsErr, Prelude.OnErr, Prelude.OnOk, Io.KnownBytes.Appends, Io.KnownBytes.Consumes, Io.KnownBytes.IsAtEnd}
 use Rattle.csicodec_streams.specs.declared.error.RunError.{RunError}
 use Rattle.csicodec_clean.specs.{Streams.Streams, declared.styles.Passing.Passing}
@@ -8,7 +8,7 @@ use Rattle.csicodec_filter.specs.Transform.{Begins, Sends, Transforms}
 use Rattle.csicodec_overwrite.specs.Reading.{Paints}
 use Rattle.csicodec_html.specs.{Page.IsPageWith, Page.PageWith, declared.markup.Markup.Markup}
 use Rattle.csicodec_inspect.specs.Sent.{FrontsOf, IsAppended, IsWrittenBy}
-use Rattle.csicodec_inspect.proofs.Sent.{all_written, not_ok, on_err_all}
+use Rattle.csicodec_inspect.proofs.Sent.{all_written, on_err_all}
 use Rattle.csicodec_tool.specs.Writes.{FrontsOfPainted, IsHeaded, IsPageFront, PaintedPage, Wrote, WroteBehind}
 use Rattle.csicodec_tool.specs.{declared.log.Log.Log, Log.IsLogged, Log.IsLoggedFront, Stream.EndsLog, Stream.LogAs, Stream.PassesLog}
 use Rattle.csicodec_tool.specs.{declared.rewrite.Work.Work}
@@ -152,7 +152,7 @@ pub headed_failed : {E F : Type 0} (w new : Work) (headed : Result (Unit {0}) Ru
     → IsHeaded w headed new old ahead → headed ≡ Ok tt → written ≡ Err error → IsErr result → Wrote new written known ahead out
     → WroteBehind w result new known old out
 headed_failed w new headed written error result known old ahead out heads went is failed wrote =
-    headed_whole w new headed result known old ahead out heads went (not_ok _ result failed, on_err_all result (rw is at wrote.1))
+    headed_whole w new headed result known old ahead out heads went (IfOk-from_err result _ failed, on_err_all result (rw is at wrote.1))
 
 -- where it is only checked what is plain text, nothing is written
 pub check_wrote : {A E : Type 0} (w : Work) (result : Result A E) (known out : Option (List ℕ)) (visible : Bool)

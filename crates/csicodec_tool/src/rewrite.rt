@@ -9,7 +9,7 @@ use crate::log::Log;
 use crate::palette::palette_of;
 use crate::rewritten_cast::{Rewriter, rewrite_cast};
 use csicodec_clean::{Cleaner, Depth, Dropped, Kept, Passing, clean_all_with, strip_all};
-use csicodec_command::{Colors, Failure, Recorded, Recordings, Request, Worker, Wrong};
+use csicodec_command::{Colors, Failure, Recorded, Request, Worker, Wrong};
 use csicodec_compact::{Compact, Compactor, compact_all};
 use csicodec_filter::{Faithful, Filter, NormalForm, filter_all, transform_all};
 use csicodec_html::{BEHIND, Markup, Palette, UNNAMED, front, html_all_with};
@@ -260,6 +260,7 @@ impl<'a> Work<'a> {
     }
 
     /// Writes what becomes of the data of a recording, and no recording.
+    #[tactic(auto, using(crate::proofs::Written::check_wrote))]
     fn write_cast<R: BufRead, W: Write>(
         &mut self,
         alloc: Global,
@@ -287,14 +288,6 @@ pub struct Job<'a> {
 
 impl<'a> Worker for Job<'a> {
     ghost steps = { JobSteps };
-
-    fn recordings(&self) -> Recordings {
-        Recordings::Known
-    }
-
-    fn tells_reasons(&self) -> bool {
-        true
-    }
 
     fn begin<W: Write>(&mut self, _name: &str, _output: &mut W) -> Result<(), Failure> {
         Ok(())

@@ -1,7 +1,6 @@
-use Rattle.std.proofs.{Common.◌++◌, Common.◌∙◌, Common.[], Common.◌∷◌, Common.refl, Common.sym, Common.ap, Common.subst, Common.append_assoc, Common.append-nil}
+use Rattle.std.proofs.{Common.◌++◌, Common.◌∙◌, Common.[], Common.◌∷◌, Common.refl, Common.sym, Common.append_assoc, Common.append-nil}
 use Rattle.std.proofs.{lemmas.Result.on_ok_weaker}
-use Rattle.csicodec_filter.specs.Transform.{GoesOn}
-use Rattle.csicodec_filter.proofs.Sent.{goes_none, goes_on}
+use Rattle.csicodec_filter.proofs.Sent.{adds_all, adds_none, adds_on}
 use Rattle.csicodec_tool.specs.Stream.{PassesLog}
 use Rattle.csicodec_tool.proofs.Logged.{part_on}
 use Rattle.csicodec_tool.proofs.log.LogTransform.take.Goals as goal
@@ -13,33 +12,22 @@ returns-then-not-self-clause-passes c =
     c.take_part.ensures
 
 pub loop-line-init : goal.loop-line-init
-loop-line-init c = ([], [], c.if-not-self.false, refl, goes_none PassesLog c.args.self.now, sym (append-nil c.args.out.now.items))
+loop-line-init c = (c.if-not-self.false, adds_none PassesLog c.args.self.now c.args.bytes.now c.args.out.now.items)
 
 pub loop-line-preserved : goal.loop-line-preserved
 loop-line-preserved c =
-    let (taken, more, each, parts, goes, out) = c.loop-line.invariant in
-    let (later, next, longer) = c.in_ok-take_line.ensures.goes in
     let line = c.in-Some.line.now in
-    let behind = c.in-Some.behind.now in (
-      taken ++ (line ++ 10 ∷ []),
-      more ++ later,
+    let parts = c.in-Some.ensures.whole ∙ sym (append_assoc line (10 ∷ []) c.in-Some.behind.now) in (
       c.in_ok-take_line.ensures.each,
-      parts ∙ ap (λ t. taken ++ t) (c.in-Some.ensures.whole ∙ sym (append_assoc line (10 ∷ []) behind)) ∙ sym (append_assoc taken (line ++ 10 ∷ []) behind),
-      goes_on PassesLog c.args.self.now c.loop-line.self c.take_line.new.self taken (line ++ 10 ∷ []) more later goes next,
-      longer ∙ ap (λ t. t ++ later) out ∙ append_assoc c.args.out.now.items more later,
+      adds_on PassesLog c.args.self.now c.loop-line.self c.take_line.new.self _ _ _ _ _ _ c.loop-line.invariant.1 (line ++ 10 ∷ [], parts, c.in_ok-take_line.ensures.goes),
     )
 
 pub returns-clause-passes : goal.returns-clause-passes
 returns-clause-passes c =
-    let (taken, more, each, parts, goes, out) = c.loop-line.invariant in
     let l = c.loop-line in
+    let new = c.take_part-2.new.self in
     let rest = l.rest.now in
     on_ok_weaker c.take_part-2.result
-    (λ (later, on, longer). (
-      more ++ later,
-      subst (λ t. GoesOn PassesLog c.args.self.now t (more ++ later) c.take_part-2.new.self) (sym parts)
-          (goes_on PassesLog c.args.self.now l.self c.take_part-2.new.self taken rest more later goes
-          (part_on l.self c.take_part-2.new.self rest later (λ _. c.in_default.ensures.none) on)),
-      longer ∙ ap (λ t. t ++ later) out ∙ append_assoc c.args.out.now.items more later,
-    ))
+    (λ (later, on, longer). adds_all PassesLog c.args.self.now new _ [] _ _ (adds_on PassesLog c.args.self.now l.self new _ _ _ _ _ _ l.invariant.1
+    (rest, sym (append-nil rest), (later, part_on l.self new rest later (λ _. c.in_default.ensures.none) on, longer))) refl)
     c.take_part-2.ensures

@@ -1,12 +1,11 @@
-use Rattle.std.proofs.Common.{◌≡◌, ℕ, List, true, ◌++◌, length}
-use Rattle.csicodec_filter.specs.Transform.{GoesOn}
+use Rattle.std.proofs.Common.{◌≡◌, true, length}
+use Rattle.csicodec_filter.proofs.Sent.{AddsFront}
 use Rattle.csicodec_tool.specs.Stream.{PassesLog}
 use Rattle.csicodec_tool.proofs.log.LogTransform.take.Given as goal
 
 -- the lines in front were taken
 abbrev pub invariant-loop-line : goal.invariant-loop-line
-invariant-loop-line l = (taken : List ℕ) × (more : List ℕ) × (l.self.each ≡ true) × (l.bytes ≡ taken ++ l.rest)
-    × GoesOn PassesLog l.initial.self taken more l.self × (l.out.items ≡ l.initial.out.items ++ more)
+invariant-loop-line l = (l.self.each ≡ true) × AddsFront PassesLog l.initial.self l.bytes l.rest l.initial.out.items l.out.items l.self
 
 abbrev pub decreases-loop-line : goal.decreases-loop-line
 decreases-loop-line l = length l.rest

@@ -9,7 +9,7 @@ use std::alloc::Global;
 
 /// Whether an action is read back from its text.
 #[repr(C)]
-#[derive(Clone, Copy, Debug, PartialEq, Eq)]
+#[derive(Clone, Copy)]
 pub struct Judged {
     /// `Done` where it is known, `Memory`, or `NoAction` for a struct that stands for none.
     pub status: u32,

@@ -25,7 +25,7 @@ use std::alloc::{AllocError, Global};
 
 /// How a writing of actions ended.
 #[repr(C)]
-#[derive(Clone, Copy, Debug, PartialEq, Eq)]
+#[derive(Clone, Copy)]
 pub struct Encoded {
     /// The number of a `Status`: `Done`, `Memory`, or `NoAction` for a struct that stands for none.
     pub status: u32,

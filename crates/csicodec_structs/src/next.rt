@@ -12,7 +12,7 @@ use std::alloc::Global;
 
 /// What stands at the front of some bytes, or why no sequence does.
 #[repr(C)]
-#[derive(Clone, Copy, Debug, PartialEq, Eq)]
+#[derive(Clone, Copy)]
 pub struct NextSequence {
     /// The number of a `Status`: `Done` where a sequence stands there, else as in `Normalised`.
     pub status: u32,
@@ -80,6 +80,7 @@ fn answer(
 /// Puts the actions of the sequence at the front, however many tokens it has: they take memory here.
 #[cold]
 #[inline(never)]
+#[tactic(auto, using(crate::proofs::Fronts::front_answer))]
 fn next_long(
     alloc: Global,
     bytes: &[u8],
@@ -100,6 +101,7 @@ fn next_long(
 
 /// Puts the actions of the sequence at the front, whose tokens are read into a room of 32, or into memory.
 #[inline(never)]
+#[tactic(auto, using(crate::proofs::Fronts::front_answer))]
 fn lay_within(
     alloc: Global,
     bytes: &[u8],

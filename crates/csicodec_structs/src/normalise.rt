@@ -19,7 +19,7 @@ const SHORT: usize = 32;
 
 /// How a normalisation ended, or why the bytes are refused.
 #[repr(C)]
-#[derive(Clone, Copy, Debug, PartialEq, Eq)]
+#[derive(Clone, Copy)]
 pub struct Normalised {
     /// The number of a `Status`: `Done`, `NotCsi`, `BadByte`, `NumberTooLarge`, `Truncated` or `Memory`.
     pub status: u32,

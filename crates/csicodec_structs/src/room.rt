@@ -13,6 +13,7 @@ pub fn fill<T: Copy>(room: &mut [T], items: &[T])
 
 /// Puts an item behind those that are there, if there is room for it.
 #[inline(always)]
+#[tactic(auto, using(crate::proofs::Laid::put_full, crate::proofs::Laid::put_more))]
 pub fn put<T: Copy>(room: &mut [T], place: usize, item: T)
     ensures { (old before : List T) → room.old ≡ laid old before → place ≡ length before
         → room.new ≡ laid old (before ++ item ∷ []) }

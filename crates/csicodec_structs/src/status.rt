@@ -5,7 +5,7 @@ ghost use Rattle.csicodec_structs.specs.Status.{fault_of, status_number};
 use csicodec::ReadError;
 
 /// How a call ended, with the numbers of `enum csicodec_status`, which never change.
-#[derive(Clone, Copy, Debug, PartialEq, Eq)]
+#[derive(Clone, Copy)]
 pub enum Status {
     /// It is done.
     Done = 0,

@@ -8,7 +8,7 @@ use csicodec::{ColorSpec, DeviceAttributeFlags, Modifiers, MouseButton, OneBased
 
 /// An action. A field that its kind has no use for is 0. It has 64 bytes, and no gaps.
 #[repr(C)]
-#[derive(Clone, Copy, Debug, PartialEq, Eq)]
+#[derive(Clone, Copy, PartialEq)]
 pub struct Struct {
     /// Which action; 0 for one that none of the rules reads.
     pub kind: u32,
@@ -48,7 +48,7 @@ pub struct Struct {
 
 /// A token of a list, or a value.
 #[repr(C)]
-#[derive(Clone, Copy, Debug, PartialEq, Eq)]
+#[derive(Clone, Copy)]
 pub struct Param {
     /// 0 for a number, 1 for a byte.
     pub kind: u64,

@@ -50,6 +50,7 @@ fn taken(
 }
 
 /// Puts the actions that terminals take the sequence at the front for, and their tokens, as many as there is room for.
+#[tactic(auto, using(crate::proofs::Fronts::front_taken))]
 pub fn lay_as_terminals(
     alloc: Global,
     bytes: &[u8],

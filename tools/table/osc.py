@@ -2,7 +2,7 @@
 import sys
 
 from examples import all_examples
-from layout import low, packed, pair, string
+from layout import low, packed, string
 from read import first_line
 
 TABLE = "osc.toml"
@@ -10,7 +10,12 @@ TABLE = "osc.toml"
 OF_WORDS = ("ahead", "form", "source")
 OF_TABLE = ("doc", "command", "resets", "further", "source", "form")
 FORMS = ("OneText", "Message", "Several", "TwoTexts", "TextAsked")
-ALONE = ("Bare", "OneText", "Several", "Value", "Rest", "Whole")
+# What stands behind a content's begin, as the last byte of its front says it.
+ALONE = {"Bare": ".", "OneText": ";", "Several": "?", "Value": "=", "Rest": "*", "Whole": "#"}
+
+
+FRONTS = """What a content begins with that has words alone, and a byte for what stands behind that: `.` for nothing, `;` for `;` and a text, `?` for
+either, `=` for nothing or `=` and a text, `*` for a text at once, and `#` for one that is all that is behind the number. The first that fits is told."""
 
 
 class Group:
@@ -51,7 +56,7 @@ def row_faults(name, of, wanted, may, forms):
         yield f"{name}: no {', '.join(sorted(lacks))}"
     if more := of.keys() - wanted - may:
         yield f"{name}: nothing reads {', '.join(sorted(more))}"
-    if of.get("form", forms[0]) not in forms:
+    if of.get("form") not in (None, *forms):
         yield f"{name}: there is no form {of['form']}"
 
 
@@ -160,16 +165,8 @@ def words_rt(groups, single, alone):
     for name, row in single.items():
         if "words" in row:
             lines += [f"pub const {low(name).upper()}: &str = {string(row['words'])};", ""]
-    lines += ["/// What stands behind the front of a content that has words alone.", "#[derive(Clone, Copy, PartialEq, Eq)]", "pub enum ContentTail {",
-              "    /// Nothing.", "    Bare,", "    /// `;` and a text.", "    OneText,", "    /// Nothing, or `;` and a text.", "    Several,",
-              "    /// Nothing, or `=` and a text.", "    Value,", "    /// A text at once.", "    Rest,",
-              "    /// A text at once, which is all that is behind the number.", "    Whole,", "}", "",
-              "/// What a content begins with that has words alone, what stands behind that, and the words. The first that fits is told.",
-              f"pub static ALONE: [(&[u8], ContentTail, &str); {len(alone)}] = ["]
-    for begins, row in alone.items():
-        cells = [f"b{string(begins)}", f"ContentTail::{row['form']}", string(row["words"])]
-        lines += pair(*cells)
-    return "\n".join([*lines, "];"]) + "\n"
+    return "\n".join(lines) + "\n" + packed(FRONTS, "FRONTS", "&str", [string(begins + ALONE[row["form"]]) for begins, row in alone.items()]) + "\n" + packed(
+        "The words of each front, at the same place.", "ALONE", "&str", [string(row["words"]) for row in alone.values()])
 
 
 def numbered(groups, single):

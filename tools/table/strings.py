@@ -3,27 +3,20 @@ import re
 
 from examples import all_examples
 from checks import refuse
-from layout import array, byte, pair, string
+from layout import packed, string
 from read import first_line
 
 TABLE = "strings.toml"
 COLUMNS = ("words", "tells", "source")
-# What is told of the data of a device control string.
-TELLS = {"data": "Data", "nothing": "Nothing", "picture": "Picture", "setting_asked": "SettingAsked", "setting_told": "SettingTold", "capabilities": "Capabilities"}
+# What is told of the data of a device control string, as the first byte of its row says it.
+TELLS = {"data": "d", "nothing": "n", "picture": "p", "setting_asked": "a", "setting_told": "t", "capabilities": "c"}
 
-TEXT = """\
-//! Control strings in words.
-
-use crate::device::{ControlRow, Tells};
-use crate::kitty_graphics::{KeyRow, Says};
-
-macro_rules! row {
-    ($params:literal, $between:expr, $last:literal, $words:literal, $tells:ident) => {
-        ControlRow { params: $params, between: $between, last: $last, words: $words, tells: Tells::$tells }
-    };
-}
-
-"""
+TEXT = "//! Control strings in words.\n\n"
+CONTROLS = """Device control strings, the first that fits: a letter for what is told of the data, parameters, an intermediate byte and a final one. The letter is `d`
+where that stands between quotation marks, `n` for nothing, `p` for a picture's size, `a` for a setting that is asked for, `t` for one that is told, and `c`
+for capabilities. No parameters stand for any that don't begin with `>`, and `>` for those that do."""
+GRAPHICS = """What a key of kitty's graphics says, the first that fits: the action that it is of, `-` where it is of any; the key, or the key with a value; and
+behind `|` its words. In them `{}` stands for the value, and `{ pixel}` for the value and what that counts."""
 
 
 def rows_of(name, table, common=()):
@@ -42,33 +35,31 @@ def rows_of(name, table, common=()):
         yield key, row
 
 
-def bytes_of(text):
-    return f"b{string(text)}"
-
-
 def control(key, row):
-    """The row of a device control string."""
-    found = re.fullmatch(r"([0-?]*)([ -/]?)([@-~])", key)
-    if not found or row["tells"] not in TELLS:
+    """The front of a device control string."""
+    if not re.fullmatch(r"([0-?]*)([ -/]?)([@-~])", key) or row["tells"] not in TELLS:
         refuse(TABLE, f"[dcs] {key}", "it is no string's begin, or nothing tells so of its data")
-    params, between, last = found.groups()
-    return f"    row! {{ {bytes_of(params)}, {byte(between)}, {byte(last)}, {string(row['words'])}, {TELLS[row['tells']]} }},"
+    return string(TELLS[row["tells"]] + key)
+
+
+def cells(*parts, between):
+    """A row as one text, which has the byte between its parts once."""
+    text = between.join(parts)
+    if text.count(between) > 1:
+        refuse(TABLE, text, f"it has {between}")
+    return string(text)
 
 
 def says(words):
-    """What a key says, in code."""
-    ahead, hole, rest = words.partition("{")
-    if not hole:
-        return f"Says::Words({string(words)})"
-    unit, _, behind = rest.partition("}")
-    return f"Says::Value({string(ahead)}, {string(' ' + unit if unit else '')}, {string(behind)})"
+    """What a key says, with a blank ahead of what its value counts."""
+    return re.sub(r"\{(?=\w)", "{ ", words)
 
 
 def keys(graphics):
     """The rows of keys, those of one action first."""
     for name, table in sorted(graphics.items(), key=lambda item: "action" not in item[1]):
         for key, row in rows_of(f"graphics.{name}", table):
-            yield pair(byte(row.get("action", "")), bytes_of(key), says(row["words"]))
+            yield cells(row.get("action", "-") + key, says(row["words"]), between="|")
 
 
 def check(controls):
@@ -82,10 +73,11 @@ def check(controls):
 def files(tables):
     controls = list(rows_of("dcs", tables["dcs"]))
     check(controls)
-    settings = [pair(bytes_of(key), string(row["words"])) for key, row in rows_of("settings", tables["settings"])]
+    settings = [cells(key, row["words"], between="=") for key, row in rows_of("settings", tables["settings"])]
     text = first_line(TABLE) + TEXT + "\n".join([
-        array("Device control strings, the first that fits.", "CONTROLS", "ControlRow", [[control(*row)] for row in controls]),
-        array("Settings, by the last bytes of what sets them, the first that fits.", "SETTINGS", "(&[u8], &str)", settings),
-        array("What a key of kitty's graphics says, the first that fits.", "GRAPHICS", "KeyRow", list(keys(tables["graphics"]))),
+        packed(CONTROLS, "CONTROLS", "&str", [control(*row) for row in controls]),
+        packed("The words of each, at the same place.", "CONTROL_WORDS", "&str", [string(row["words"]) for _, row in controls]),
+        packed("Settings, the first that fits: the last bytes of what sets one, and behind `=` its words.", "SETTINGS", "&str", settings),
+        packed(GRAPHICS, "GRAPHICS", "&str", list(keys(tables["graphics"]))),
     ])
     return {"crates/csicodec_osc/src/string_rows.rt": text}

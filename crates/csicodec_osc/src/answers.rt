@@ -8,9 +8,10 @@ use std::fmt;
 
 /// The setting that ends in these bytes.
 fn setting(text: &[u8]) -> Option<&'static str> {
-    for (finals, words) in &SETTINGS {
-        if text.ends_with(*finals) {
-            return Some(*words);
+    for row in &SETTINGS {
+        let (finals, words) = row.split_once('=')?;
+        if text.ends_with(finals.as_bytes()) {
+            return Some(words);
         }
     }
     None

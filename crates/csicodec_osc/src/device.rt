@@ -3,7 +3,7 @@
 use crate::answers::{capabilities, setting_asked, setting_told};
 use crate::body::{Body, halves, number, tell};
 use crate::shown::Shown;
-use crate::string_rows::CONTROLS;
+use crate::string_rows::{CONTROL_WORDS, CONTROLS};
 use std::fmt;
 
 /// The parts of a DCS.
@@ -44,62 +44,42 @@ fn parts(body: Body<'_>) -> Option<Control<'_>> {
     })
 }
 
-/// What is told of the data.
-#[derive(Clone, Copy)]
-pub(crate) enum Tells {
-    /// It stands between quotation marks.
-    Data,
-    /// Nothing.
-    Nothing,
-    /// How large the picture is.
-    Picture,
-    /// The setting that is asked for.
-    SettingAsked,
-    /// A setting, and its value.
-    SettingTold,
-    /// Names, and values.
-    Capabilities,
-}
-
-/// The words of a DCS.
-pub(crate) struct ControlRow {
-    /// Its parameters. No bytes stand for any that don't begin with `>`, and `>` for those that do.
-    pub params: &'static [u8],
-    /// Its intermediate byte, 0 where there is none.
-    pub between: u8,
-    /// Its final byte.
-    pub last: u8,
-    /// The words, and what is told behind them.
-    pub words: &'static str,
-    pub tells: Tells,
-}
-
-impl ControlRow {
-    /// Whether it is of a string with these parts. Of one whose data is more than quoted the parameters say nothing.
-    fn is_of(&self, control: Control<'_>) -> bool {
-        let is_marked = control.params.first().copied() == Some(b'>');
-        let is_between = self.between == control.between;
-        self.last == control.last
-            && match self.params {
-                b">" => is_marked,
-                b"" => is_between && !(is_marked && matches!(self.tells, Tells::Data)),
-                params => is_between && params == control.params,
-            }
+/// What is told of the data of a string with these parts, where a row is of it. Of one whose data is more than quoted the parameters
+/// say nothing.
+fn told_by(row: &[u8], control: Control<'_>) -> Option<u8> {
+    let (last, front) = row.split_last()?;
+    if *last != control.last {
+        return None;
     }
+    let (tells, front) = front.split_first()?;
+    let (params, between) = while_in(front, b'0', b'?');
+    let is_marked = control.params.first().copied() == Some(b'>');
+    let is_between = between.first().copied().unwrap_or(0) == control.between;
+    let is_of = match params {
+        b">" => is_marked,
+        b"" => is_between && !(is_marked && *tells == b'd'),
+        params => is_between && params == control.params,
+    };
+    is_of.then_some(*tells)
+}
 
-    /// Tells a string that it is of.
-    fn tell<W: fmt::Write>(&self, f: &mut fmt::Formatter<W>, control: Control<'_>) -> fmt::Result {
-        if let Tells::Data = self.tells {
-            return tell(f, self.words, control.data);
-        }
-        f.write_str(self.words)?;
-        match self.tells {
-            Tells::Data | Tells::Nothing => Ok(()),
-            Tells::Picture => sixel(f, control.data),
-            Tells::SettingAsked => setting_asked(f, control.data),
-            Tells::SettingTold => setting_told(f, control.params, control.data),
-            Tells::Capabilities => capabilities(f, control.data),
-        }
+/// Tells words, and what is told of the data.
+fn tell_control<W: fmt::Write>(
+    f: &mut fmt::Formatter<W>,
+    words: &str,
+    tells: u8,
+    control: Control<'_>,
+) -> fmt::Result {
+    if tells == b'd' {
+        return tell(f, words, control.data);
+    }
+    f.write_str(words)?;
+    match tells {
+        b'p' => sixel(f, control.data),
+        b'a' => setting_asked(f, control.data),
+        b't' => setting_told(f, control.params, control.data),
+        b'c' => capabilities(f, control.data),
+        _ => Ok(()),
     }
 }
 
@@ -115,9 +95,10 @@ pub fn device_control<W: fmt::Write>(f: &mut fmt::Formatter<W>, body: Body<'_>) 
         return f.write_str("DCS  empty");
     }
     if let Some(control) = parts(body) {
-        for row in &CONTROLS {
-            if row.is_of(control) {
-                return row.tell(f, control);
+        for (place, row) in CONTROLS.iter().enumerate() {
+            if let Some(tells) = told_by(row.as_bytes(), control) {
+                let words = CONTROL_WORDS.get(place).copied().unwrap_or("");
+                return tell_control(f, words, tells, control);
             }
         }
     }

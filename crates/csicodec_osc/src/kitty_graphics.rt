@@ -5,23 +5,14 @@ use crate::shown::Shown;
 use crate::string_rows::GRAPHICS;
 use std::fmt;
 
-/// What a key says.
-#[derive(Clone, Copy)]
-pub(crate) enum Says {
-    /// These words.
-    Words(&'static str),
-    /// Words ahead of its value, what that counts, and words behind.
-    Value(&'static str, &'static str, &'static str),
-}
-
-/// The action that a key is of, 0 where it is of any; the key, or the key with a value; and what it says.
-pub(crate) type KeyRow = (u8, &'static [u8], Says);
-
 /// What a key, or a key with a value, says behind this action.
-fn said_of(action: u8, key: &[u8]) -> Option<Says> {
-    for (of, known, says) in &GRAPHICS {
-        if (*of == 0 || *of == action) && *known == key {
-            return Some(*says);
+fn said_of(action: u8, key: &[u8]) -> Option<&'static str> {
+    for row in &GRAPHICS {
+        if let Some((of, known)) = row.as_bytes().split_first() {
+            let is_of = *of == b'-' || *of == action;
+            if is_of && matches!(known.strip_prefix(key), Some([b'|', ..])) {
+                return Some(row.split_once('|')?.1);
+            }
         }
     }
     None
@@ -30,18 +21,17 @@ fn said_of(action: u8, key: &[u8]) -> Option<Says> {
 /// A key with its value: what they say, or themselves.
 fn write_key<W: fmt::Write>(f: &mut fmt::Formatter<W>, action: u8, field: &[u8]) -> fmt::Result {
     let (key, value) = halves(field, b'=');
-    match said_of(action, field).or(said_of(action, key)) {
-        Some(Says::Words(words)) => f.write_str(words),
-        Some(Says::Value(ahead, unit, behind)) => {
-            let is_one = unit.is_empty() || value == b"1".as_slice();
-            let (value, ending) = (Shown(value), if is_one { "" } else { "s" });
-            write!(f, "{ahead}{value}{unit}{ending}{behind}")
-        }
-        None => {
-            let (key, value) = (Shown(key), Shown(value));
-            write!(f, "{key}={value}")
-        }
-    }
+    let Some(words) = said_of(action, field).or(said_of(action, key)) else {
+        let (key, value) = (Shown(key), Shown(value));
+        return write!(f, "{key}={value}");
+    };
+    let Some((ahead, rest)) = words.split_once('{') else {
+        return f.write_str(words);
+    };
+    let (unit, behind) = rest.split_once('}').unwrap_or((rest, ""));
+    let is_one = unit.is_empty() || value == b"1".as_slice();
+    let (value, ending) = (Shown(value), if is_one { "" } else { "s" });
+    write!(f, "{ahead}{value}{unit}{ending}{behind}")
 }
 
 /// Whether a byte is the comma that stands between keys.

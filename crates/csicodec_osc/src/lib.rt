@@ -11,11 +11,6 @@
 //! ```
 #![tactic(auto)]
 
-/// A row of a table on one line.
-macro_rules! entry {
-    ($($part:tt)*) => { ($($part)*) };
-}
-
 /// Several rows on one line.
 macro_rules! pieces {
     ($($row:tt)*) => { [$($row)*] };

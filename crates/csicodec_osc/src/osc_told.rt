@@ -7,7 +7,7 @@ use crate::command::{EditorMark, Progress};
 use crate::fields::OscFields;
 use crate::osc::Osc;
 use crate::osc_words::{
-    ALONE, ContentTail, KITTY_NOTICE, POINTER, editor_mark_words, folder_words, mark_words,
+    ALONE, FRONTS, KITTY_NOTICE, POINTER, editor_mark_words, folder_words, mark_words,
     progress_words, title_words,
 };
 use crate::shown::Quoted;
@@ -77,24 +77,23 @@ fn plain<W: fmt::Write>(f: &mut fmt::Formatter<W>, words: &str, text: Body<'_>) 
     }
 }
 
-/// The text of what has words alone and begins so.
-fn behind<'a>(body: Body<'a>, rest: Body<'a>, front: &[u8], form: ContentTail) -> Option<Body<'a>> {
+/// The text of what has words alone and begins so. The last byte of a front says what stands behind it.
+fn behind<'a>(body: Body<'a>, rest: Body<'a>, front: &[u8]) -> Option<Body<'a>> {
+    let (form, front) = front.split_last()?;
     let text = body.behind(front)?;
-    match (form, text.bytes) {
-        (ContentTail::Whole, _) => Some(rest),
-        (ContentTail::Rest, _)
-        | (ContentTail::Bare | ContentTail::Several | ContentTail::Value, []) => Some(text),
-        (ContentTail::OneText | ContentTail::Several, [b';', bytes @ ..])
-        | (ContentTail::Value, [b'=', bytes @ ..]) => Some(text.with(bytes)),
+    match (*form, text.bytes) {
+        (b'#', _) => Some(rest),
+        (b'*', _) | (b'.' | b'?' | b'=', []) => Some(text),
+        (b';' | b'?', [b';', bytes @ ..]) | (b'=', [b'=', bytes @ ..]) => Some(text.with(bytes)),
         _ => None,
     }
 }
 
 /// The words and the text of what has words alone.
 fn alone<'a>(body: Body<'a>, rest: Body<'a>) -> Option<(&'static str, Body<'a>)> {
-    for (front, form, words) in &ALONE {
-        if let Some(text) = behind(body, rest, *front, *form) {
-            return Some((*words, text));
+    for (place, front) in FRONTS.iter().enumerate() {
+        if let Some(text) = behind(body, rest, front.as_bytes()) {
+            return Some((ALONE.get(place).copied()?, text));
         }
     }
     None

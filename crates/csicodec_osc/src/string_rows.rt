@@ -1,136 +1,59 @@
 // Written by tools/table from table/strings.toml: change that, and run python3 tools/table.
 //! Control strings in words.
 
-use crate::device::{ControlRow, Tells};
-use crate::kitty_graphics::{KeyRow, Says};
+/// Device control strings, the first that fits: a letter for what is told of the data, parameters, an intermediate byte
+/// and a final one. The letter is `d` where that stands between quotation marks, `n` for nothing, `p` for a picture's
+/// size, `a` for a setting that is asked for, `t` for one that is told, and `c` for capabilities. No parameters stand
+/// for any that don't begin with `>`, and `>` for those that do.
+pub(crate) static CONTROLS: [&str; 35] = pieces! {
+    "n=1s", "n=2s", "n1000p", "d2$p", "d2$s", "d1$t", "d2$t", "d1$u", "d2$u", "pq", "a$q", "t$r", "c+q", "c1+r",
+    "c+r", "d>|", "dp", "dr", "dv", "d{", "d|", "d!u", "d!z", "d!{", "d!|", "d!~", "d\"x", "d\"y", "d\"}", "d\"~",
+    "d$p", "d$s", "d+p", "d+Q", "d+R",
+};
 
-macro_rules! row {
-    ($params:literal, $between:expr, $last:literal, $words:literal, $tells:ident) => {
-        ControlRow { params: $params, between: $between, last: $last, words: $words, tells: Tells::$tells }
-    };
-}
+/// The words of each, at the same place.
+pub(crate) static CONTROL_WORDS: [&str; 35] = pieces! {
+    "synchronized updates  start of an update", "synchronized updates  end of an update", "tmux  control mode on",
+    "DECRSTS  restore the colour table", "DECCTR  answer: the colour table",
+    "DECRSPS  restore the cursor's state", "DECRSPS  restore the tab stops", "DECCIR  answer: the cursor's state",
+    "DECTABSR  answer: the tab stops", "sixel  picture", "DECRQSS  ask for ", "DECRPSS  answer: ",
+    "XTGETTCAP  ask for ", "XTGETTCAP  answer: ", "XTGETTCAP  answer: not known: ",
+    "XTVERSION  answer: the terminal's name and version", "ReGIS  drawing", "DECLBAN  banner message",
+    "DECLANS  answerback message", "DECDLD  characters of a font", "DECUDK  user-defined keys",
+    "DECAUPSS  the user's supplemental set", "DECDMAC  define a macro", "DECSTUI  set the unit's ID",
+    "DECRPTUI  answer: the unit's ID", "DECCKSR  answer: checksum", "DECPFK  program a function key",
+    "DECPAK  program an alphanumeric key", "DECPFKR  answer: function key", "DECPAKR  answer: alphanumeric key",
+    "DECRSTS  restore the terminal's state", "DECTSR  answer: the terminal's state",
+    "XTSETTCAP  set the terminfo entry", "XTGETXRES  ask for a resource", "XTGETXRES  answer: resource",
+};
 
-/// Device control strings, the first that fits.
-pub(crate) static CONTROLS: [ControlRow; 35] = [
-    row! { b"=1", 0, b's', "synchronized updates  start of an update", Nothing },
-    row! { b"=2", 0, b's', "synchronized updates  end of an update", Nothing },
-    row! { b"1000", 0, b'p', "tmux  control mode on", Nothing },
-    row! { b"2", b'$', b'p', "DECRSTS  restore the colour table", Data },
-    row! { b"2", b'$', b's', "DECCTR  answer: the colour table", Data },
-    row! { b"1", b'$', b't', "DECRSPS  restore the cursor's state", Data },
-    row! { b"2", b'$', b't', "DECRSPS  restore the tab stops", Data },
-    row! { b"1", b'$', b'u', "DECCIR  answer: the cursor's state", Data },
-    row! { b"2", b'$', b'u', "DECTABSR  answer: the tab stops", Data },
-    row! { b"", 0, b'q', "sixel  picture", Picture },
-    row! { b"", b'$', b'q', "DECRQSS  ask for ", SettingAsked },
-    row! { b"", b'$', b'r', "DECRPSS  answer: ", SettingTold },
-    row! { b"", b'+', b'q', "XTGETTCAP  ask for ", Capabilities },
-    row! { b"1", b'+', b'r', "XTGETTCAP  answer: ", Capabilities },
-    row! { b"", b'+', b'r', "XTGETTCAP  answer: not known: ", Capabilities },
-    row! { b">", 0, b'|', "XTVERSION  answer: the terminal's name and version", Data },
-    row! { b"", 0, b'p', "ReGIS  drawing", Data },
-    row! { b"", 0, b'r', "DECLBAN  banner message", Data },
-    row! { b"", 0, b'v', "DECLANS  answerback message", Data },
-    row! { b"", 0, b'{', "DECDLD  characters of a font", Data },
-    row! { b"", 0, b'|', "DECUDK  user-defined keys", Data },
-    row! { b"", b'!', b'u', "DECAUPSS  the user's supplemental set", Data },
-    row! { b"", b'!', b'z', "DECDMAC  define a macro", Data },
-    row! { b"", b'!', b'{', "DECSTUI  set the unit's ID", Data },
-    row! { b"", b'!', b'|', "DECRPTUI  answer: the unit's ID", Data },
-    row! { b"", b'!', b'~', "DECCKSR  answer: checksum", Data },
-    row! { b"", b'"', b'x', "DECPFK  program a function key", Data },
-    row! { b"", b'"', b'y', "DECPAK  program an alphanumeric key", Data },
-    row! { b"", b'"', b'}', "DECPFKR  answer: function key", Data },
-    row! { b"", b'"', b'~', "DECPAKR  answer: alphanumeric key", Data },
-    row! { b"", b'$', b'p', "DECRSTS  restore the terminal's state", Data },
-    row! { b"", b'$', b's', "DECTSR  answer: the terminal's state", Data },
-    row! { b"", b'+', b'p', "XTSETTCAP  set the terminfo entry", Data },
-    row! { b"", b'+', b'Q', "XTGETXRES  ask for a resource", Data },
-    row! { b"", b'+', b'R', "XTGETXRES  answer: resource", Data },
-];
+/// Settings, the first that fits: the last bytes of what sets one, and behind `=` its words.
+pub(crate) static SETTINGS: [&str; 14] = pieces! {
+    " q=the cursor's shape (DECSCUSR)", "\"p=the conformance level (DECSCL)",
+    "\"q=the protection of characters (DECSCA)", "$|=the columns a page (DECSCPP)",
+    "$}=the active display (DECSASD)", "$~=the kind of status line (DECSSDT)",
+    "*x=what attribute changes extend to (DECSACE)", "*|=the lines on the screen (DECSNLS)",
+    ",|=the colours (DECAC)", ",}=the alternate colours (DECATC)", "m=the attributes (SGR)",
+    "r=the top and bottom margins (DECSTBM)", "s=the left and right margins (DECSLRM)",
+    "t=the lines a page (DECSLPP)",
+};
 
-/// Settings, by the last bytes of what sets them, the first that fits.
-pub(crate) static SETTINGS: [(&[u8], &str); 14] = [
-    (b" q", "the cursor's shape (DECSCUSR)"),
-    (b"\"p", "the conformance level (DECSCL)"),
-    (b"\"q", "the protection of characters (DECSCA)"),
-    (b"$|", "the columns a page (DECSCPP)"),
-    (b"$}", "the active display (DECSASD)"),
-    (b"$~", "the kind of status line (DECSSDT)"),
-    (b"*x", "what attribute changes extend to (DECSACE)"),
-    (b"*|", "the lines on the screen (DECSNLS)"),
-    (b",|", "the colours (DECAC)"),
-    (b",}", "the alternate colours (DECATC)"),
-    (b"m", "the attributes (SGR)"),
-    (b"r", "the top and bottom margins (DECSTBM)"),
-    (b"s", "the left and right margins (DECSLRM)"),
-    (b"t", "the lines a page (DECSLPP)"),
-];
-
-/// What a key of kitty's graphics says, the first that fits.
-pub(crate) static GRAPHICS: [KeyRow; 64] = [
-    (b'a', b"s=1", Says::Words("stop")),
-    (b'a', b"s=2", Says::Words("run, and wait for more frames")),
-    (b'a', b"s=3", Says::Words("run")),
-    (b'a', b"v=1", Says::Words("loops without end")),
-    (b'a', b"v", Says::Value("loops: ", "", "")),
-    (b'a', b"r", Says::Value("frame ", "", "")),
-    (b'a', b"z", Says::Value("gap of ", " millisecond", "")),
-    (b'a', b"c", Says::Value("to frame ", "", "")),
-    (b'f', b"X=0", Says::Words("blended")),
-    (b'f', b"X=1", Says::Words("replaced")),
-    (b'f', b"r", Says::Value("frame ", "", "")),
-    (b'f', b"z", Says::Value("gap of ", " millisecond", "")),
-    (b'f', b"c", Says::Value("on frame ", "", "")),
-    (b'f', b"x", Says::Value("from column ", "", "")),
-    (b'f', b"y", Says::Value("from line ", "", "")),
-    (b'f', b"Y", Says::Value("background colour ", "", "")),
-    (b'c', b"C=0", Says::Words("blended")),
-    (b'c', b"C=1", Says::Words("replaced")),
-    (b'c', b"c", Says::Value("from frame ", "", "")),
-    (b'c', b"r", Says::Value("to frame ", "", "")),
-    (b'c', b"x", Says::Value("to column ", "", "")),
-    (b'c', b"y", Says::Value("to line ", "", "")),
-    (b'c', b"X", Says::Value("from column ", "", "")),
-    (b'c', b"Y", Says::Value("from line ", "", "")),
-    (b'c', b"w", Says::Value("", " pixel", " wide")),
-    (b'c', b"h", Says::Value("", " pixel", " high")),
-    (0, b"a=t", Says::Words("send")),
-    (0, b"a=T", Says::Words("send and show")),
-    (0, b"a=q", Says::Words("ask whether it could be shown")),
-    (0, b"a=p", Says::Words("show")),
-    (0, b"a=d", Says::Words("delete")),
-    (0, b"a=f", Says::Words("send a frame")),
-    (0, b"a=a", Says::Words("control an animation")),
-    (0, b"a=c", Says::Words("compose frames")),
-    (0, b"a", Says::Words("other action")),
-    (0, b"f=24", Says::Words("RGB")),
-    (0, b"f=32", Says::Words("RGBA")),
-    (0, b"f=100", Says::Words("PNG")),
-    (0, b"f", Says::Words("other format")),
-    (0, b"t=d", Says::Words("data here")),
-    (0, b"t=f", Says::Words("data in a file")),
-    (0, b"t=t", Says::Words("data in a temporary file")),
-    (0, b"t=s", Says::Words("data in shared memory")),
-    (0, b"t", Says::Words("data elsewhere")),
-    (0, b"m=0", Says::Words("last part")),
-    (0, b"m", Says::Words("more to come")),
-    (0, b"q=1", Says::Words("no answer where it works")),
-    (0, b"q=2", Says::Words("no answer")),
-    (0, b"o=z", Says::Words("compressed")),
-    (0, b"C=1", Says::Words("the cursor stays")),
-    (0, b"U=1", Says::Words("for placeholders")),
-    (0, b"i", Says::Value("picture ", "", "")),
-    (0, b"I", Says::Value("picture number ", "", "")),
-    (0, b"p", Says::Value("placement ", "", "")),
-    (0, b"s", Says::Value("", " pixel", " wide")),
-    (0, b"v", Says::Value("", " pixel", " high")),
-    (0, b"S", Says::Value("", " byte", " of the data")),
-    (0, b"O", Says::Value("from byte ", "", " of the data")),
-    (0, b"c", Says::Value("", " column", "")),
-    (0, b"r", Says::Value("", " line", "")),
-    (0, b"w", Says::Value("part of ", " pixel", " wide")),
-    (0, b"h", Says::Value("part of ", " pixel", " high")),
-    (0, b"z", Says::Value("layer ", "", "")),
-    (0, b"d", Says::Value("what: ", "", "")),
-];
+/// What a key of kitty's graphics says, the first that fits: the action that it is of, `-` where it is of any; the key,
+/// or the key with a value; and behind `|` its words. In them `{}` stands for the value, and `{ pixel}` for the value
+/// and what that counts.
+pub(crate) static GRAPHICS: [&str; 64] = pieces! {
+    "as=1|stop", "as=2|run, and wait for more frames", "as=3|run", "av=1|loops without end", "av|loops: {}",
+    "ar|frame {}", "az|gap of { millisecond}", "ac|to frame {}", "fX=0|blended", "fX=1|replaced", "fr|frame {}",
+    "fz|gap of { millisecond}", "fc|on frame {}", "fx|from column {}", "fy|from line {}",
+    "fY|background colour {}", "cC=0|blended", "cC=1|replaced", "cc|from frame {}", "cr|to frame {}",
+    "cx|to column {}", "cy|to line {}", "cX|from column {}", "cY|from line {}", "cw|{ pixel} wide",
+    "ch|{ pixel} high", "-a=t|send", "-a=T|send and show", "-a=q|ask whether it could be shown", "-a=p|show",
+    "-a=d|delete", "-a=f|send a frame", "-a=a|control an animation", "-a=c|compose frames", "-a|other action",
+    "-f=24|RGB", "-f=32|RGBA", "-f=100|PNG", "-f|other format", "-t=d|data here", "-t=f|data in a file",
+    "-t=t|data in a temporary file", "-t=s|data in shared memory", "-t|data elsewhere", "-m=0|last part",
+    "-m|more to come", "-q=1|no answer where it works", "-q=2|no answer", "-o=z|compressed",
+    "-C=1|the cursor stays", "-U=1|for placeholders", "-i|picture {}", "-I|picture number {}", "-p|placement {}",
+    "-s|{ pixel} wide", "-v|{ pixel} high", "-S|{ byte} of the data", "-O|from byte {} of the data",
+    "-c|{ column}", "-r|{ line}", "-w|part of { pixel} wide", "-h|part of { pixel} high", "-z|layer {}",
+    "-d|what: {}",
+};

@@ -7,7 +7,7 @@ from dataclasses import dataclass
 import core
 from declared import Type, Variant, declaration
 from checks import check_columns, check_once, refuse
-from layout import array, pair, string
+from layout import numbered
 from read import first_line, rows_of
 from values import types as value_types
 
@@ -149,7 +149,7 @@ SENT = "//! What terminals send by the same sequences as actions, in words.\n\n"
 def sent():
     """src/sent_rows.rt of csicodec_words."""
     rows = {ord(action.row["final"]): action.row["sent"] for subject in subjects() for action in subject.actions if "sent" in action.row}
-    return first_line(TABLE) + SENT + array("What a terminal sends by a list without numbers, by its final byte.", "SENT", "(i64, &str)", [pair(hex(final), string(f" (or {words})")) for final, words in sorted(rows.items())])
+    return first_line(TABLE) + SENT + numbered("What a terminal sends by a list without numbers, by its final byte.", "SENT", [(hex(final), f" (or {words})") for final, words in sorted(rows.items())])
 
 
 def files(rows):

@@ -2,7 +2,7 @@
 words."""
 from declared import Type, Variant
 from checks import check_columns, check_once, refuse
-from layout import array, code, page_line, page_table, pair, string
+from layout import code, numbered, packed, page_line, page_table, string
 from read import first_line, rows_of
 
 TABLE = "escapes.toml"
@@ -85,27 +85,26 @@ def said(rows, key):
 
 def words(rows):
     """Those that have a code."""
-    pairs = [pair(number(key), string(said(rows, key))) for key in named(rows)]
     about = "Those that the codec has a code for, by their numbers: that of the last character, and 256 times that of the one before it."
-    return array(about, "CODES", "(i64, &str)", pairs)
+    return numbered(about, "CODES", [(number(key), said(rows, key)) for key in named(rows)])
 
 
 def parts(rows):
-    """Rows by the bytes that they are of."""
-    return [pair(f"b{string(key)}", string(row["words"])) for key, row in rows.items()]
+    """Rows, each its bytes and its words with a tab between."""
+    return [string(key)[:-1] + r"\t" + string(row["words"])[1:] for key, row in rows.items()]
 
 
 def sequences(rows):
     """src/escape_rows.rt of csicodec_words: those with a code, those without one, and the sets."""
     arrays = (
-        ("NAMES", "Those without a code, by their bytes behind ESC.", {key: row for key, row in rows["code"].items() if "name" not in row}),
+        ("NAMES", "Those without a code: their bytes behind ESC, a tab and the words, as all that follow.", {key: row for key, row in rows["code"].items() if "name" not in row}),
         ("OTHERS", "What any other sequence is that has these intermediate bytes.", rows["other"]),
         ("SETS", "Sets of 94 characters, by what stands behind the byte that says what they become.", rows["sets_94"]),
         ("SETS_OF_96", "Sets of 96 characters.", rows["sets_96"]),
         ("SETS_OF_SEVERAL", "Sets of which each character has several bytes.", rows["sets_several"]),
     )
     text = ["//! Escape sequences and character sets in words.\n", words(rows)]
-    return "\n".join([*text, *(array(about, name, "(&[u8], &str)", parts(of)) for name, about, of in arrays)])
+    return "\n".join([*text, *(packed(about, name, "&str", parts(of)) for name, about, of in arrays)])
 
 
 PAGE = """\

@@ -41,17 +41,18 @@ def low(name, between="_"):
     return re.sub(r"([A-Z])([A-Z][a-z])", rf"\1{between}\2", name).lower()
 
 
-def pair(*parts):
-    """A row of an array: parts between parentheses, or in braces, which `rt fmt` leaves on their line, where they are longer than a line may be."""
-    inside = ", ".join(parts)
-    return [f"    ({inside})," if len(inside) <= 60 else f"    entry! {{ {inside} }},"]
+def numbered(said, name, rows):
+    """An array of words by their numbers."""
+    return packed(said, name, "(i64, &str)", [f"({number}, {string(words)})" for number, words in rows])
 
 
 def packed(said, name, kind, parts):
     """An array of what is short, in lines of some 110 columns."""
     rows = textwrap.wrap(" ".join(part.replace(" ", "\0") + "," for part in parts), 110, break_long_words=False, break_on_hyphens=False)
     rows = ["    " + row.replace("\0", " ") for row in rows]
-    return "\n".join([*comment(said), f"pub(crate) static {name}: [{kind}; {len(parts)}] = pieces! {{", *rows, "};"]) + "\n"
+    ahead = f"pub(crate) static {name}: [{kind}; {len(parts)}] = "
+    whole = [f"{ahead}[{parts[0]}];"] if len(parts) == 1 else [f"{ahead}pieces! {{", *rows, "};"]
+    return "\n".join([*comment(said), *whole]) + "\n"
 
 
 def array(said, name, kind, rows, public="pub(crate)"):

@@ -1,7 +1,7 @@
 """table/modes.toml: what modes are called. Their names become two enumerations with their numbers, their words two arrays."""
 from declared import Type, Variant, in_turn
 from checks import check_columns, check_once
-from layout import array, page_line, page_table, pair, string
+from layout import numbered, page_line, page_table
 from read import first_line, rows_of
 
 TABLE = "modes.toml"
@@ -106,7 +106,7 @@ def specs(private, terminal):
 
 
 def words(said, name, rows, column):
-    return "\n" + array(said, name, "(i64, &str)", [pair(number, string(row[column])) for number, row in rows.items() if column in row])
+    return "\n" + numbered(said, name, [(number, row[column]) for number, row in rows.items() if column in row])
 
 
 PAGE = """\

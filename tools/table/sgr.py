@@ -6,7 +6,7 @@ import actions
 from attributes import Attributes, all_attributes, parts as line_parts
 from checks import check_columns, check_once, refuse
 from declared import Variant
-from layout import arm, array, comment, packed, page_line, page_table, pair, string
+from layout import arm, array, comment, numbered, packed, page_line, page_table, string
 from read import first_line
 
 TABLE = "sgr.toml"
@@ -301,8 +301,8 @@ def page(table):
 
 
 def unread(table):
-    rows = [pair(str(number), string(f"SGR  {row['words']}")) for number, row in table.code.items() if "name" not in row]
-    return array("Attributes that no action sets, each alone.", "UNREAD", "(i64, &str)", rows)
+    rows = [(number, f"SGR  {row['words']}") for number, row in table.code.items() if "name" not in row]
+    return numbered("Attributes that no action sets, each alone.", "UNREAD", rows)
 
 
 def files(rows):

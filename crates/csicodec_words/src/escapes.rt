@@ -24,11 +24,11 @@ impl fmt::Display for Escape {
     }
 }
 
-/// The words of these bytes, where the table has them.
-fn find(table: &'static [(&'static [u8], &'static str)], bytes: &[u8]) -> Option<&'static str> {
-    for (known, words) in table {
-        if *known == bytes {
-            return Some(*words);
+/// The words of these bytes, where the table has them. In each row a tab stands behind the bytes.
+fn find(table: &'static [&'static str], bytes: &[u8]) -> Option<&'static str> {
+    for row in table {
+        if matches!(row.as_bytes().strip_prefix(bytes), Some([b'\t', ..])) {
+            return Some(row.split_once('\t')?.1);
         }
     }
     None

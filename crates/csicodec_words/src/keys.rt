@@ -92,19 +92,18 @@ impl fmt::Display for KeyWords {
     }
 }
 
+/// What modifiers are called, in the order in which they are told.
+static HELD: [&str; 6] = ["Ctrl-", "Alt-", "Shift-", "Super-", "Hyper-", "Meta-"];
+
+/// The bit of each, at the same place.
+static BITS: [u8; 6] = [4, 2, 1, 8, 16, 32];
+
 /// The modifiers, each with a hyphen behind it.
 fn write_held<W: fmt::Write>(f: &mut fmt::Formatter<W>, modifiers: KeyModifiers) -> fmt::Result {
     let held = modifiers.bits();
-    for (bit, name) in [
-        (4u8, "Ctrl-"),
-        (2, "Alt-"),
-        (1, "Shift-"),
-        (8, "Super-"),
-        (16, "Hyper-"),
-        (32, "Meta-"),
-    ] {
-        if held & bit != 0 {
-            f.write_str(name)?;
+    for (place, bit) in BITS.iter().enumerate() {
+        if held & *bit != 0 {
+            f.write_str(HELD.get(place).copied().unwrap_or(""))?;
         }
     }
     Ok(())

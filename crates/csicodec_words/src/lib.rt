@@ -7,11 +7,6 @@ macro_rules! pieces {
     ($($piece:tt)*) => { [$($piece)*] };
 }
 
-/// A row of a table on one line.
-macro_rules! entry {
-    ($($part:tt)*) => { ($($part)*) };
-}
-
 /// An expression on one line.
 macro_rules! whole {
     ($($part:tt)*) => { $($part)* };

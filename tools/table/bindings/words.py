@@ -2,7 +2,7 @@
 from bindings.library import BY_NUMBER, IN_TURN, SUBJECTS, low, number_of, of, type_of
 from bindings.source import source_name, struct_arm
 from forms import LARGEST, Form, Slot
-from layout import packed, string
+from layout import numbered, string
 from read import first_line, rows_of
 from templates import pieces, template_of
 
@@ -95,7 +95,7 @@ def extensions():
     """The words of what a terminal says that it can do."""
     codes = rows_of("values.toml")["DeviceAttributeCodes"]
     said = {row["number"]: row["words"] for row in codes["variants"].values()} | {int(number): words for number, words in codes["others"].items()}
-    return packed("Extensions of terminals, by their numbers.", "EXTENSIONS", "(i64, &str)", [f"({number}, {string(said[number])})" for number in sorted(said)])
+    return numbered("Extensions of terminals, by their numbers.", "EXTENSIONS", sorted(said.items()))
 
 
 def subject_words(group):

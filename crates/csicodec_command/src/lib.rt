@@ -10,11 +10,8 @@ mod recorded;
 mod recording;
 mod run;
 
-pub use command::{
-    ColorWhen, Colors, Invocation, Request, Task, Wanted, Wrong, command_of, nearest,
-};
+pub use command::{ColorWhen, Colors, Request, Task, Wrong, nearest};
 pub use failure::{Failure, Found};
-pub use options::{USAGE, VERSION};
 pub use recorded::Recorded;
 pub use recording::{Recording, line_front, micros, time_of};
 pub use run::{

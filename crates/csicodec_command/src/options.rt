@@ -3,61 +3,61 @@
 
 use crate::command::Task;
 
-/// The words that say what is to be done, with what `--help` behind one says.
-pub(crate) static TASKS: [(&str, Task, &str); 8] = [
-    ("filter", Task::Filter, FILTER),
-    ("compact", Task::Compact, COMPACT),
-    ("strip", Task::Strip, STRIP),
-    ("clean", Task::Clean, CLEAN),
-    ("html", Task::Html, HTML),
-    ("explain", Task::Explain, EXPLAIN),
-    ("assemble", Task::Assemble, ASSEMBLE),
-    ("cuts", Task::Cuts, CUTS),
+/// The words that say what is to be done.
+pub(crate) static WORDS: [&str; 8] = [
+    "filter", "compact", "strip", "clean", "html", "explain", "assemble", "cuts",
 ];
 
-/// The options: how each stands in a command line, the words that have it, none where all have, and which values it has, none
-/// where it has no value.
-pub(crate) static OPTIONS: [(&str, &str, &str); 32] = [
-    (
-        "--at",
-        "explain",
-        "offsets such as 120, 120-180 or 120-, separated by commas",
-    ),
-    ("--check", "strip", "visible"),
-    ("--classes", "html", ""),
-    ("--color", "explain", "always, never or auto"),
-    ("--colors", "clean", "256 or 16"),
-    ("--count", "explain", ""),
-    ("--decode", "explain", ""),
-    ("--diff", "explain", ""),
-    ("--every", "cuts", "a size such as 64M"),
-    ("--faithful", "filter", ""),
-    ("--fragment", "html", ""),
-    ("--full", "explain", ""),
-    ("--grep", "explain", "a text"),
-    ("--help", "", ""),
-    ("--ignore-case", "explain", ""),
-    ("--input", "explain", ""),
-    ("--json", "explain", ""),
-    ("--lines", "strip clean", ""),
-    ("--links", "clean html", ""),
-    ("--log", "strip clean", ""),
-    ("--no-overwrite", "html", ""),
-    ("--only", "explain", "names such as SGR,CUP"),
-    ("--overwrite", "strip clean html", ""),
-    (
-        "--palette",
-        "html",
-        "xterm, or 16 or 18 colours as #rrggbb, separated by commas",
-    ),
-    ("--quiet", "explain", ""),
-    ("--semicolons", "compact", ""),
-    ("--stats", "explain", ""),
-    ("--text", "filter compact strip clean", ""),
-    ("--timing", "explain", "the file of times that script wrote"),
-    ("--unknown", "explain", ""),
-    ("--utf8-mouse", "explain", ""),
-    ("--version", "", ""),
+/// What one of these words asks for, and what `--help` behind it says.
+pub(crate) fn task_of(word: &str) -> Option<(Task, &'static str)> {
+    Some(match word {
+        "filter" => (Task::Filter, FILTER),
+        "compact" => (Task::Compact, COMPACT),
+        "strip" => (Task::Strip, STRIP),
+        "clean" => (Task::Clean, CLEAN),
+        "html" => (Task::Html, HTML),
+        "explain" => (Task::Explain, EXPLAIN),
+        "assemble" => (Task::Assemble, ASSEMBLE),
+        "cuts" => (Task::Cuts, CUTS),
+        _ => return None,
+    })
+}
+
+/// The options, each as it stands in a command line. Behind a blank stand the words that have it, unless all have, and behind a
+/// colon which values it has, if it has one.
+pub(crate) static OPTIONS: [&str; 32] = [
+    "--at explain: offsets such as 120, 120-180 or 120-, separated by commas",
+    "--check strip: visible",
+    "--classes html",
+    "--color explain: always, never or auto",
+    "--colors clean: 256 or 16",
+    "--count explain",
+    "--decode explain",
+    "--diff explain",
+    "--every cuts: a size such as 64M",
+    "--faithful filter",
+    "--fragment html",
+    "--full explain",
+    "--grep explain: a text",
+    "--help",
+    "--ignore-case explain",
+    "--input explain",
+    "--json explain",
+    "--lines strip and clean",
+    "--links clean and html",
+    "--log strip and clean",
+    "--no-overwrite html",
+    "--only explain: names such as SGR,CUP",
+    "--overwrite strip, clean and html",
+    "--palette html: xterm, or 16 or 18 colours as #rrggbb, separated by commas",
+    "--quiet explain",
+    "--semicolons compact",
+    "--stats explain",
+    "--text filter, compact, strip and clean",
+    "--timing explain: the file of times that script wrote",
+    "--unknown explain",
+    "--utf8-mouse explain",
+    "--version",
 ];
 
 /// Those that also stand without their value, so that it only stands behind `=`.

@@ -9,8 +9,8 @@ ghost use Rattle.csicodec_command.specs.Runs.{Asked, Closes, GoesOf, HasTurn, Is
 
 use crate::command::{Invocation, Request, UNREADABLE, Wrong, command_of};
 use crate::failure::{Failure, GONE};
-use crate::note::{UsageError, advice_of};
-use crate::options::{VERSION, WAITS};
+use crate::note::advice_of;
+use crate::options::WAITS;
 use crate::recording::is_recording;
 use csicodec_streams::{CHUNK, RunError, receive};
 use std::alloc::{AllocError, Global};
@@ -533,13 +533,12 @@ fn is_file(rt: &HostRuntime, word: &str) -> bool {
 /// Says what is wrong with the command line, and how the program is used; the status that it ends with.
 pub fn refused(rt: &HostRuntime, wrong: Wrong<'_>) -> u8 {
     let failure = wrong.failure();
-    let is_file = match wrong {
-        Wrong::NoCommand(word, _) => is_file(rt, word),
-        _ => false,
+    let wrong = match wrong {
+        Wrong::NoCommand(word, _) if is_file(rt, word) => Wrong::File(word),
+        _ => wrong,
     };
-    let refusal = UsageError { wrong, is_file };
     let _told = match advice_of(wrong) {
-        Some(advice) => eprintln!(rt; "{failure}{refusal}\n{advice}"),
+        Some(advice) => eprintln!(rt; "{failure}{wrong}\n{advice}"),
         None => eprintln!(rt; "{failure}"),
     };
     failure.status()
@@ -602,12 +601,8 @@ pub fn words_of(rt: &HostRuntime) -> Result<Vec<String>, u8> {
 pub fn asked<'a>(rt: &HostRuntime, words: &'a [String]) -> Result<Option<Request<'a>>, u8> {
     match command_of(rt.alloc(), words) {
         Ok(Invocation::Run(run)) => Ok(Some(run)),
-        Ok(Invocation::Help(text)) => {
+        Ok(Invocation::Tell(text)) => {
             say(rt, text)?;
-            Ok(None)
-        }
-        Ok(Invocation::Version) => {
-            say(rt, VERSION)?;
             Ok(None)
         }
         Err(wrong) => Err(refused(rt, wrong)),

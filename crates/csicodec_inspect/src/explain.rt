@@ -6,8 +6,8 @@ use crate::explained_cast::explain_cast;
 use crate::names::are_known;
 use crate::timing::Timing;
 use csicodec_command::{
-    ColorWhen, Failure, Recordings, Request, Wanted, Worker, Wrong, failed, is_cast, refused,
-    text_of, work_through,
+    ColorWhen, Failure, Recordings, Request, Worker, Wrong, failed, is_cast, refused, text_of,
+    work_through,
 };
 use csicodec_events::Dialect;
 use csicodec_explain::{Explainer, Style};
@@ -116,10 +116,10 @@ impl<'a> Worker for Explained<'a> {
 }
 
 /// Which input is explained; none where it is output.
-fn dialect_of(wanted: Wanted<'_>) -> Option<Dialect> {
-    if wanted.utf8_mouse {
+fn dialect_of(run: &Request<'_>) -> Option<Dialect> {
+    if run.has("--utf8-mouse") {
         Some(Dialect::Utf8Input)
-    } else if wanted.input {
+    } else if run.has("--input") {
         Some(Dialect::Input)
     } else {
         None
@@ -138,23 +138,22 @@ fn is_colored(rt: &HostRuntime, color: ColorWhen, live: bool) -> bool {
 
 /// How the streams of a run are explained.
 fn style_of<'a>(rt: &HostRuntime, run: &'a Request<'a>) -> Style<'a> {
-    let wanted = run.wanted;
-    let live = rt.stdout().is_terminal();
+    let (json, live) = (run.has("--json"), rt.stdout().is_terminal());
     Style {
-        full: wanted.full,
-        json: wanted.json,
-        count: wanted.count,
-        stats: wanted.stats,
-        unknown: wanted.unknown,
-        decode: wanted.decode,
-        color: !wanted.json && is_colored(rt, run.color, live),
+        full: run.has("--full"),
+        json,
+        count: run.has("--count"),
+        stats: run.has("--stats"),
+        unknown: run.has("--unknown"),
+        decode: run.has("--decode"),
+        color: !json && is_colored(rt, run.color, live),
         timed: false,
         live,
-        only: wanted.only,
+        only: run.only,
         at: &run.at,
-        grep: wanted.grep,
-        ignore_case: wanted.ignore_case,
-        dialect: dialect_of(wanted),
+        grep: run.grep,
+        ignore_case: run.has("--ignore-case"),
+        dialect: dialect_of(run),
     }
 }
 
@@ -188,7 +187,7 @@ fn explained_of<'a>(
         named: run.files.len() > 1,
         timed: false,
         answer: Answer {
-            quiet: run.wanted.quiet,
+            quiet: run.has("--quiet"),
             any: false,
         },
     })
@@ -197,12 +196,12 @@ fn explained_of<'a>(
 /// Tells what is wanted; the status, which is 1 where something is looked for and isn't there.
 fn explain(rt: &HostRuntime, run: &Request<'_>) -> Result<(), u8> {
     let style = style_of(rt, run);
-    if run.wanted.diff {
+    if run.has("--diff") {
         return explain_diff(rt, style, &run.files);
     }
     let mut work = explained_of(rt, run, style)?;
     work_through(rt, &mut work, &run.files)?;
-    let asks = run.wanted.quiet || run.wanted.unknown || run.wanted.grep.is_some();
+    let asks = run.has("--quiet") || run.has("--unknown") || run.grep.is_some();
     if asks && !work.answer.any {
         Err(1)
     } else {
@@ -212,7 +211,7 @@ fn explain(rt: &HostRuntime, run: &Request<'_>) -> Result<(), u8> {
 
 /// Explains what the words of the command line ask for, if they do so in names that there are; the status, if that failed.
 pub fn explain_inputs(rt: &HostRuntime, run: &Request<'_>) -> Result<(), u8> {
-    if let Some(names) = run.wanted.only {
+    if let Some(names) = run.only {
         are_known(rt.alloc(), names).map_err(|wrong| refused(rt, wrong))?;
     }
     explain(rt, run)

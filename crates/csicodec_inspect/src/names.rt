@@ -21,8 +21,8 @@ fn unknown<'a>(alloc: Global, name: &'a str) -> Wrong<'a> {
         }
     }
     match best {
-        Some((known, _)) => Wrong::NoName(name, Some(known)),
-        None => Wrong::NoName(name, None),
+        Some((known, _)) => Wrong::NoName(name, known),
+        None => Wrong::NotValue("--only", name, "names such as SGR,CUP"),
     }
 }
 

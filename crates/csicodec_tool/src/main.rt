@@ -21,16 +21,16 @@ fn work_of_task(rt: &HostRuntime, run: &Request<'_>) -> Result<(), u8> {
         Task::Assemble => return work_through(rt, &mut Assembly, &run.files),
         Task::Cuts => return work_through(rt, &mut Cuts::of(run), &run.files),
         Task::Filter => Work::Filter {
-            faithful: run.faithful,
+            faithful: run.has("--faithful"),
         },
         Task::Compact => Work::Compact {
-            semicolons: run.semicolons,
+            semicolons: run.has("--semicolons"),
         },
         Task::Strip => Work::strip(run),
         Task::Clean => Work::clean(run),
         Task::Html => Work::html(rt.alloc(), run).map_err(|wrong| refused(rt, wrong))?,
     };
-    let text = run.text;
+    let text = run.has("--text");
     work_through(rt, &mut Job { work, text }, &run.files)
 }
 

@@ -85,7 +85,7 @@ fn markup_of<'a>(alloc: Global, run: &Request<'a>) -> Result<Markup, Wrong<'a>> 
     };
     Ok(Markup {
         links: run.links,
-        classes: run.classes,
+        classes: run.has("--classes"),
         palette,
     })
 }
@@ -101,16 +101,18 @@ fn name_of<'a>(files: &[&'a str]) -> &'a [u8] {
 impl<'a> Work<'a> {
     /// Plain text, as the options of `strip` want it.
     pub fn strip(run: &Request<'a>) -> Work<'a> {
-        if run.check {
+        if run.has("--check") {
             Work::Check {
                 visible: run.visible,
             }
         } else if run.overwrites() {
             Work::Overwrite { styles: None }
-        } else if run.log {
+        } else if run.has("--log") {
             Work::Log { styles: None }
         } else {
-            Work::Strip { lines: run.lines }
+            Work::Strip {
+                lines: run.has("--lines"),
+            }
         }
     }
 
@@ -122,12 +124,12 @@ impl<'a> Work<'a> {
         if run.overwrites() {
             return Work::Overwrite { styles };
         }
-        if run.log {
+        if run.has("--log") {
             return Work::Log { styles };
         }
         Work::Clean {
             passing,
-            lines: run.lines,
+            lines: run.has("--lines"),
         }
     }
 
@@ -137,7 +139,7 @@ impl<'a> Work<'a> {
             name: name_of(&run.files),
             markup: markup_of(alloc, run)?,
             overwrite: run.overwrites(),
-            fragment: run.fragment,
+            fragment: run.has("--fragment"),
             begun: false,
         })
     }

@@ -9,38 +9,16 @@
 //!
 //! A struct of one field stands as that field's value, `Some(x)` as `x`, `None` as `null`, a name alone and a character as a text.
 
+use crate::json::append_plain;
+use memchr::memchr;
 use std::alloc::{AllocError, Global};
 
-/// What closes something.
-#[derive(Clone, Copy)]
-enum Closer {
-    Nothing,
-    Brace,
-    Bracket,
-    Both,
-}
-
-impl Closer {
-    fn append_to(self, out: &mut Vec<u8>) -> Result<(), AllocError> {
-        match self {
-            Closer::Nothing => Ok(()),
-            Closer::Brace => Ok(out.push(b'}')?),
-            Closer::Bracket => Ok(out.push(b']')?),
-            Closer::Both => out.extend_from_slice(b"]}"),
-        }
-    }
-}
-
-/// A `Debug` text that is written as JSON, byte by byte.
+/// A `Debug` text that is written as JSON, word by word.
 #[derive(Drop)]
 pub struct JsonFields {
     out: Vec<u8>,
-    /// The word that is read: a name, a number or a character between its marks.
-    word: Vec<u8>,
     /// What closes all that is open, the innermost last.
-    closers: Vec<Closer>,
-    /// Whether a character's mark was opened.
-    marked: bool,
+    closers: Vec<&'static str>,
     /// Whether the name of the next field is left out.
     bare: bool,
 }
@@ -57,40 +35,30 @@ fn name_front(text: &[u8]) -> (&[u8], &[u8]) {
         .unwrap_or((text, &[]))
 }
 
-/// Whether a word stands as it is: a number, or whether something is so.
-fn is_bare(word: &[u8]) -> bool {
-    match word.first() {
-        Some(b'0'..=b'9' | b'-') => true,
-        _ => word == b"true".as_slice() || word == b"false".as_slice(),
-    }
+/// The word in front, which may be empty, the byte that ends it, and what is behind that. A character stands between its marks.
+fn word_front(text: &[u8]) -> Option<(&[u8], u8, &[u8])> {
+    let text = text.trim_ascii_start();
+    let (word, behind) = match text {
+        [b'\'', marked @ ..] => {
+            let len = memchr(b'\'', marked)?.saturating_add(2);
+            text.split_at_checked(len)?
+        }
+        _ => name_front(text),
+    };
+    let (byte, behind) = behind.trim_ascii_start().split_first()?;
+    Some((word, *byte, behind))
 }
 
-/// A character without its marks; a word without marks as it is.
-fn without_marks(word: &[u8]) -> &[u8] {
-    match word.strip_prefix(b"'".as_slice()) {
-        Some(rest) => rest.strip_suffix(b"'".as_slice()).unwrap_or(word),
-        None => word,
-    }
-}
-
-/// A text between quotation marks, unless it is empty.
-fn append_text(out: &mut Vec<u8>, text: &[u8]) -> Result<(), AllocError> {
-    if text.is_empty() {
-        return Ok(());
-    }
-    out.push(b'"')?;
-    out.extend_from_slice(text)?;
-    Ok(out.push(b'"')?)
-}
-
-/// A word as a value.
+/// A word as a value; nothing where it is empty.
 fn append_word(out: &mut Vec<u8>, word: &[u8]) -> Result<(), AllocError> {
-    if word == b"None".as_slice() {
-        out.extend_from_slice(b"null")
-    } else if is_bare(word) {
-        out.extend_from_slice(word)
-    } else {
-        append_text(out, without_marks(word))
+    let is_truth = word == b"true".as_slice() || word == b"false".as_slice();
+    match word {
+        [] => Ok(()),
+        [b'0'..=b'9' | b'-', ..] => out.extend_from_slice(word),
+        [b'\'', character @ .., b'\''] => append_plain(out, character),
+        _ if is_truth => out.extend_from_slice(word),
+        _ if word == b"None".as_slice() => out.extend_from_slice(b"null"),
+        _ => append_plain(out, word),
     }
 }
 
@@ -139,9 +107,7 @@ impl JsonFields {
     pub fn new(alloc: Global) -> JsonFields {
         JsonFields {
             out: Vec::new(alloc),
-            word: Vec::new(alloc),
             closers: Vec::new(alloc),
-            marked: false,
             bare: false,
         }
     }
@@ -154,9 +120,7 @@ impl JsonFields {
     /// Takes away what was written.
     pub fn clear(&mut self) {
         self.out.clear();
-        self.word.clear();
         self.closers.clear();
-        self.marked = false;
         self.bare = false;
     }
 
@@ -173,11 +137,11 @@ impl JsonFields {
         self.out.push(b'"')?;
         if let Some(items) = rest.strip_prefix(b"(".as_slice()) {
             self.out.extend_from_slice(b",\"value\":")?;
-            self.open(has_comma(items), b'[', Closer::Bracket)?;
+            self.open(has_comma(items), b'[', "]")?;
             return self.write_all(items);
         }
         if let Some(members) = rest.strip_prefix(b" { ".as_slice()) {
-            self.open(true, b',', Closer::Nothing)?;
+            self.open(true, b',', "")?;
             self.write_all(members)?;
         }
         Ok(())
@@ -186,98 +150,60 @@ impl JsonFields {
     fn write_all(&mut self, text: &[u8]) -> Result<(), AllocError> {
         let mut rest = text;
         for _ in 0..text.len() {
-            let (word, behind) = if self.marked {
-                rest.split_at(0)
-            } else {
-                name_front(rest)
-            };
-            if !word.is_empty() {
-                self.word.extend_from_slice(word)?;
-                rest = behind;
-                continue;
-            }
-            let Some((byte, behind)) = rest.split_first() else {
+            let Some((word, byte, behind)) = word_front(rest) else {
                 return Ok(());
             };
-            self.step(*byte, behind)?;
+            self.step(word, byte, behind)?;
             rest = behind;
         }
         Ok(())
     }
 
     /// Opens a list or an object, and remembers what closes it; if it isn't wanted, neither is written.
-    fn open(&mut self, wanted: bool, opener: u8, closer: Closer) -> Result<(), AllocError> {
+    fn open(&mut self, wanted: bool, opener: u8, closer: &'static str) -> Result<(), AllocError> {
         if wanted {
             self.out.push(opener)?;
         }
-        Ok(
-            self.closers
-                .push(if wanted { closer } else { Closer::Nothing })?,
-        )
+        Ok(self.closers.push(if wanted { closer } else { "" })?)
     }
 
-    /// The next byte of the text, and what is behind it.
-    fn step(&mut self, byte: u8, behind: &[u8]) -> Result<(), AllocError> {
-        if self.marked || byte == b'\'' || is_word(byte) {
-            if byte == b'\'' {
-                self.marked = !self.marked;
-            }
-            return Ok(self.word.push(byte)?);
-        }
+    /// A word, the byte that ends it, and what is behind that.
+    fn step(&mut self, word: &[u8], byte: u8, behind: &[u8]) -> Result<(), AllocError> {
         match byte {
-            b'(' => self.open_tuple(has_comma(behind)),
+            b'(' => self.open_tuple(word, has_comma(behind)),
             b'{' => {
-                let several = has_comma(behind);
-                self.word.clear();
-                self.bare = !several;
-                self.open(several, b'{', Closer::Brace)
+                self.bare = !has_comma(behind);
+                self.open(!self.bare, b'{', "}")
             }
-            b'[' => self.open(true, b'[', Closer::Bracket),
-            b':' => self.write_key(),
-            b',' => {
-                self.write_word()?;
-                Ok(self.out.push(b',')?)
+            b'[' => self.open(true, b'[', "]"),
+            b':' if self.bare => {
+                self.bare = false;
+                Ok(())
             }
-            b')' | b'}' | b']' => {
-                self.write_word()?;
-                let closer = self.closers.pop().unwrap_or(Closer::Nothing);
-                closer.append_to(&mut self.out)
+            b':' | b',' => {
+                append_word(&mut self.out, word)?;
+                Ok(self.out.push(byte)?)
             }
-            _ => Ok(()),
+            _ => {
+                append_word(&mut self.out, word)?;
+                let closer = self.closers.pop().unwrap_or("");
+                self.out.extend_from_slice(closer.as_bytes())
+            }
         }
     }
 
     /// A variant with values: an object of its name, unless it is `Some`.
-    fn open_tuple(&mut self, several: bool) -> Result<(), AllocError> {
-        if self.word.as_slice() == b"Some".as_slice() {
-            self.word.clear();
-            return self.open(false, b'(', Closer::Nothing);
+    fn open_tuple(&mut self, word: &[u8], several: bool) -> Result<(), AllocError> {
+        if word == b"Some".as_slice() {
+            return self.open(false, b'(', "");
         }
         self.out.push(b'{')?;
-        self.write_word()?;
+        append_word(&mut self.out, word)?;
         self.out.push(b':')?;
         if several {
-            self.open(true, b'[', Closer::Both)
+            self.open(true, b'[', "]}")
         } else {
-            Ok(self.closers.push(Closer::Brace)?)
+            Ok(self.closers.push("}")?)
         }
-    }
-
-    /// The name of a field.
-    fn write_key(&mut self) -> Result<(), AllocError> {
-        if self.bare {
-            self.bare = false;
-            self.word.clear();
-            return Ok(());
-        }
-        self.write_word()?;
-        Ok(self.out.push(b':')?)
-    }
-
-    /// The word that is read, as a value.
-    fn write_word(&mut self) -> Result<(), AllocError> {
-        append_word(&mut self.out, &self.word)?;
-        self.word.clear();
-        Ok(())
     }
 }

@@ -45,7 +45,7 @@ fn append_character(text: &mut Vec<u8>, character: char) -> Result<(), AllocErro
 }
 
 /// Bytes that stand for themselves, between quotation marks.
-fn append_plain(out: &mut Vec<u8>, bytes: &[u8]) -> Result<(), AllocError> {
+pub(crate) fn append_plain(out: &mut Vec<u8>, bytes: &[u8]) -> Result<(), AllocError> {
     out.push(b'"')?;
     out.extend_from_slice(bytes)?;
     Ok(out.push(b'"')?)

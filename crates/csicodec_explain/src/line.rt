@@ -37,7 +37,7 @@ pub const CYAN: &[u8; 5] = b"\x1b[36m";
 pub const PLAIN: &[u8; 3] = b"\x1b[m";
 
 /// What a span is told as.
-#[derive(Clone, Copy, PartialEq, Eq)]
+#[derive(Clone, Copy)]
 pub enum Sort {
     Text,
     /// A control character that stands in text, or a carriage return with a line feed.
@@ -331,7 +331,7 @@ fn append_most(
     span: &ToldSpan<'_>,
     columns: usize,
 ) -> Result<(usize, usize), AllocError> {
-    let quoted = span.sort == Sort::Text;
+    let quoted = matches!(span.sort, Sort::Text);
     // The count has a digit at least, and twelve columns with that.
     let digits = span.len.checked_ilog10().unwrap_or(0) as usize;
     let few = columns.saturating_sub(digits.saturating_add(12));
@@ -360,12 +360,13 @@ pub fn append_shown(
     let marks = span.end.len().saturating_add(1).saturating_mul(2);
     let room = columns.saturating_sub(marks);
     let is_whole = bytes.len() as u64 == span.len;
+    let quoted = matches!(span.sort, Sort::Text);
     // Where no text is, a byte takes at most four columns.
-    if is_whole && span.sort != Sort::Text && bytes.len().saturating_mul(4) <= room {
+    if is_whole && !quoted && bytes.len().saturating_mul(4) <= room {
         append_escaped(text, bytes)?;
         return Ok(text.len().saturating_sub(begin));
     }
-    let mark: &[u8] = if span.sort == Sort::Text { b"\"" } else { b"" };
+    let mark: &[u8] = if quoted { b"\"" } else { b"" };
     text.extend_from_slice(mark)?;
     let (shown, hidden) = if is_whole && bytes.len() <= room && are_plain(bytes) {
         text.extend_from_slice(bytes)?;

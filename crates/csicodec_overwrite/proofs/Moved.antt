@@ -1,19 +1,16 @@
 -- Cells that are moved or taken, one after the other.
-use Rattle.std.proofs.Common.{◌≡◌, ℕ, zero, suc, ◌-◌, ◌+◌, ◌<◌, ◌≤◌, Bool, true, false, cond, ◌==◌, nat_le, nat_lt, List, [], ◌∷◌, ◌++◌, length, drop, get_or, replicate, reverse, take, take-append-drop, refl, sym, ap, ◌∙◌, arith, append_assoc, append-nil}
-use Rattle.std.proofs.lemmas.List.{length-drop, nil_from_length, replicate-append-replicate, drop_at, reverse-append, reverse-reverse, take_all, take_at}
+use Rattle.std.proofs.Common.{◌≡◌, ℕ, zero, suc, ◌-◌, ◌+◌, ◌<◌, ◌≤◌, Bool, true, false, cond, ◌==◌, nat_le, nat_lt, List, [], ◌∷◌, ◌++◌, length, drop, get_or, min, replicate, reverse, take, take-append-drop, refl, sym, ap, ◌∙◌, arith, append_assoc, append-nil}
+use Rattle.std.proofs.lemmas.List.{length-drop, length-reverse, nil_from_length, replicate-append-replicate, drop_at, reverse-append, reverse-reverse, take_all, take_at}
 use Rattle.std.proofs.lemmas.Bool.Decides.{nat_tests}
 use Rattle.csicodec_html.specs.declared.look.Look.{Look}
 use Rattle.csicodec_overwrite.specs.{declared.cells.Cell.Cell, declared.cells.Cell.TheVariants.Empty, declared.marking.Marking.Marking}
-use Rattle.csicodec_overwrite.specs.{declared.cells.Glyph.Glyph, Private.Sides.PassesBack, Private.Sides.PassesOver, declared.line.Line.Line, Paint.texts_of}
-use Rattle.csicodec_overwrite.specs.{Private.Plain.glyphs, Private.Row.back, Cells.columns, Cells.is_blank, Cells.narrowed, Cells.onto, Cells.takes}
-use Rattle.csicodec_overwrite.specs.{Cells.without, Line.before, Line.behind_columns, Line.forward, Line.line, Line.over, Line.padded, Line.put, Line.repeat}
+use Rattle.csicodec_overwrite.specs.{declared.cells.Glyph.Glyph, Private.Sides.passed, declared.line.Line.Line, Paint.texts_of, Private.Plain.glyphs}
+use Rattle.csicodec_overwrite.specs.{Cells.columns, Cells.is_blank, Cells.narrowed, Cells.onto, Cells.takes, Cells.without, Line.before, Line.behind_columns}
+use Rattle.csicodec_overwrite.specs.{Line.forward, Line.line, Line.over, Line.padded, Line.put, Line.repeat}
 use Rattle.std.specs.List.{list_all}
 use Rattle.csicodec_overwrite.proofs.Texts.{texts_on}
 
--- a test that holds, and one that fails
-holds : {A : Type 0} (t : Bool) (x y : A) → t ≡ true → cond t x y ≡ x
-holds t x y e = rw e refl
-
+-- a test that fails
 pub fails : {A : Type 0} (t : Bool) (x y : A) → t ≡ false → cond t x y ≡ y
 fails t x y e = rw e refl
 
@@ -23,13 +20,6 @@ some_left n h = grind (arith, nat_tests)
 pub without_zero : (cells : List Cell) → without 0 cells ≡ cells
 without_zero [] = refl
 without_zero (cell ∷ cells) = refl
-
-pub back_zero : (left right : List Cell) → back 0 left right ≡ line left right
-back_zero [] right = refl
-back_zero (cell ∷ left) right = refl
-
-pub back_on : (n : ℕ) (cell : Cell) (left right : List Cell) → 0 < n → back n (cell ∷ left) right ≡ back (n - takes cell) left (cell ∷ right)
-back_on n cell left right h = grind (arith, nat_tests)
 
 pub over_on : (n : ℕ) (cell : Cell) (left right : List Cell) → takes cell ≤ n → over n left (cell ∷ right) ≡ over (n - takes cell) (cell ∷ left) right
 over_on n cell left right h = grind (arith, nat_tests)
@@ -52,42 +42,17 @@ over_onto n [] right few = ap (λ (m : ℕ). over m [] right) (omega arith)
 over_onto n (cell ∷ left) right few =
     over_onto n left (cell ∷ right) (omega (arith, few)) ∙ over_on (n - columns left) cell left right (omega (arith, few)) ∙ ap (λ (m : ℕ). over m (cell ∷ left) right) (omega arith)
 
-abbrev within : Line → Line
-within l = over 0 l.left l.right
-
-over_back : (n : ℕ) (left right : List Cell) → n < columns left → within (back (columns left - n) left right) ≡ over n [] (onto left right)
-over_back n [] right h = absurd (omega (arith, h))
-over_back n (cell ∷ left) right h = ap within (back_on (columns (cell ∷ left) - n) cell left right (omega (arith, h))) ∙ by (nat_lt n (columns left)) refl (over_back n left (cell ∷ right))
-  where
-    by : (t : Bool) → nat_lt n (columns left) ≡ t
-        → (n < columns left → within (back (columns left - n) left (cell ∷ right)) ≡ over n [] (onto left (cell ∷ right)))
-        → within (back (columns (cell ∷ left) - n - takes cell) left (cell ∷ right)) ≡ over n [] (onto left (cell ∷ right))
-    by true is same =
-        let less : n < columns left = grind (arith, nat_tests) in
-        ap (λ (m : ℕ). within (back m left (cell ∷ right))) (omega (arith, less)) ∙ same less
-    by false is same =
-        let few : columns left ≤ n = grind (arith, nat_tests) in
-        ap (λ (m : ℕ). within (back m left (cell ∷ right))) (omega (arith, few, h, takes_few cell)) ∙ ap within (back_zero left (cell ∷ right))
-        ∙ ap (λ (m : ℕ). over m left (cell ∷ right)) (omega (arith, few, h, takes_few cell)) ∙ sym (over_onto n left (cell ∷ right) few)
-
-module _ (limit n : ℕ) (left right : List Cell) where
-  by_some : (t : Bool) → nat_lt n (columns left) ≡ t → forward limit (n - columns left) (back (columns left - n) left right) ≡ forward limit n (line [] (onto left right))
-  by_some true is =
-      let b = back (columns left - n) left right in
-      let less : n < columns left = grind (arith, nat_tests) in
-      let none : n - columns left ≡ 0 = omega (arith, less) in
-      let more : 0 - columns b.right ≡ n - columns (onto left right) = omega (arith, less, columns_onto left right) in
-      ap (λ (m : ℕ). forward limit m b) none ∙ ap (λ (m : ℕ). padded limit m (within b)) more ∙ ap (padded limit (n - columns (onto left right))) (over_back n left right less)
-  by_some false is =
-      let few : columns left ≤ n = grind (arith, nat_tests) in
-      let none : columns left - n ≡ 0 = omega (arith, few) in
-      let more : n - columns left - columns right ≡ n - columns (onto left right) = omega (arith, few, columns_onto left right) in
-      ap (λ (m : ℕ). forward limit (n - columns left) (back m left right)) none ∙ ap (forward limit (n - columns left)) (back_zero left right)
-      ∙ ap (λ (m : ℕ). padded limit m (over (n - columns left) left right)) more
-      ∙ ap (padded limit (n - columns (onto left right))) (sym (over_onto n left right few))
-
-  pub by_back : forward limit (n - columns left) (back (columns left - n) left right) ≡ behind_columns limit n (line left right)
-  by_back = by_some (nat_lt n (columns left)) refl
+-- where the cursor stands no further
+pub from_there : (limit n : ℕ) (old l : Line) → onto l.left l.right ≡ onto old.left old.right → columns l.left ≡ columns old.left - (columns old.left - n)
+    → forward limit (n - columns old.left) l ≡ behind_columns limit n old
+from_there limit n old l same there =
+    let all = onto l.left l.right in
+    let more : n - columns old.left ≡ n - columns l.left = omega (arith, there) in
+    let far : n - columns l.left - columns l.right ≡ n - columns all = omega (arith, columns_onto l.left l.right) in
+    ap (λ (m : ℕ). forward limit m l) more
+    ∙ ap (λ (m : ℕ). padded limit m (over (n - columns l.left) l.left l.right)) far
+    ∙ ap (padded limit (n - columns all)) (sym (over_onto n l.left l.right (omega (arith, there))))
+    ∙ ap (λ (cells : List Cell). forward limit n (line [] cells)) same
 
 -- ---- all of them, the farthest first
 
@@ -141,71 +106,45 @@ module _ (items more new : List Cell) (e : new ≡ items ++ more) where
 
 -- ---- cells that are given from one side to the other
 
-pub columns_back : (xs : List Cell) → columns (reverse xs) ≡ columns xs
-columns_back xs = ap columns (sym (append-nil (reverse xs)) ∙ sym (onto_is xs [])) ∙ columns_onto xs [] ∙ omega arith
+pub given_all : (n : ℕ) (side to : List Cell) → onto (drop n side) (onto (take n side) to) ≡ onto side to
+given_all zero side to = refl
+given_all (suc n) [] to = refl
+given_all (suc n) (x ∷ side) to = given_all n side (x ∷ to)
 
-last_first : (rest front : List Cell) (cell : Cell) → rest ≡ front ++ cell ∷ [] → reverse rest ≡ cell ∷ reverse front
-last_first rest front cell e = ap reverse e ∙ reverse-append front (cell ∷ [])
+pub columns_parts : (n : ℕ) (side : List Cell) → columns (take n side) + columns (drop n side) ≡ columns side
+columns_parts n side = sym (columns_both (take n side) (drop n side)) ∙ ap columns (take-append-drop n side)
 
--- some are passed, and what is left is to do over the rest
-abbrev pub Passing : (ℕ → List Cell → List Cell → Line) → List Cell → ℕ → List Cell → ℕ → Type 0
-Passing go cells count rest left = (near : List Cell) × (cells ≡ rest ++ near) × (columns near + left ≡ count)
-    × ((others : List Cell) → go left (reverse rest) (near ++ others) ≡ go count (reverse cells) others)
+pub passed_few : (marks : Bool) (n : ℕ) (side : List Cell) → passed marks n side ≤ length side
+passed_few marks n [] = omega arith
+passed_few marks n (x ∷ side) = grind (arith, passed_few marks (n - takes x) side)
 
-abbrev pub PassingBack : List Cell → ℕ → List Cell → ℕ → Type 0
-PassingBack = Passing back
+pub passed_columns : (marks : Bool) (n : ℕ) (side : List Cell) → columns (take (passed marks n side) side) ≡ min n (columns side)
+passed_columns marks n [] = omega arith
+passed_columns marks n (x ∷ side) = grind (arith, nat_tests, takes_few x, passed_columns marks (n - takes x) side)
 
--- the same from the other side
-abbrev pub PassingOver : List Cell → ℕ → List Cell → ℕ → Type 0
-PassingOver = Passing (λ n right left. over n left right)
+-- the columns that stay
+pub passed_left : (marks : Bool) (n : ℕ) (side : List Cell) → columns (drop (passed marks n side) side) ≡ columns side - n
+passed_left marks n side = omega (arith, passed_columns marks n side, columns_parts (passed marks n side) side)
 
-pub first_passing : (go : ℕ → List Cell → List Cell → Line) (cells : List Cell) (count : ℕ) → Passing go cells count cells count
-first_passing go cells count = ([], sym (append-nil cells), omega arith, λ others. refl)
+pub passed_over : (n : ℕ) (left right : List Cell) → let k = passed true n right in line (onto (take k right) left) (drop k right) ≡ over n left right
+passed_over n left [] = refl
+passed_over n left (x ∷ right) = grind (arith, passed_over (n - takes x) (x ∷ left) right)
 
-module _ (cells : List Cell) (count : ℕ) (rest : List Cell) (left : ℕ) where
-  -- the columns of those that are passed
-  passed : (near : List Cell) → cells ≡ rest ++ near → columns cells ≡ columns rest + columns near
-  passed near e = ap columns e ∙ columns_both rest near
+-- so many of the nearest cells are given to another side
+module _ (items side to new : List Cell) (n kept : ℕ) (is : reverse items ≡ side) (few : n ≤ length side) (k : kept ≡ length items - n) where
+  parts_are : side ≡ reverse (drop kept items) ++ reverse (take kept items)
+  parts_are = sym is ∙ ap reverse (sym (take-append-drop kept items)) ∙ reverse-append (take kept items) (drop kept items)
 
-  next_passing : (go : ℕ → List Cell → List Cell → Line) → Passing go cells count rest left → (front : List Cell) (cell : Cell) → rest ≡ front ++ cell ∷ []
-      → takes cell ≤ left → ((others : List Cell) → go left (cell ∷ reverse front) others ≡ go (left - takes cell) (reverse front) (cell ∷ others))
-      → Passing go cells count front (left - takes cell)
-  next_passing go h front cell e some on = (
-    cell ∷ h.0,
-    h.1 ∙ ap (λ (t : List Cell). t ++ h.0) e ∙ append_assoc front (cell ∷ []) h.0,
-    omega (arith, h.2, some),
-    λ others. sym (on (h.0 ++ others)) ∙ ap (λ (t : List Cell). go left t (h.0 ++ others)) (sym (last_first rest front cell e)) ∙ h.3 others,
-  )
+  many : length (reverse (drop kept items)) ≡ n
+  many = omega (arith, length-reverse (drop kept items), length-drop kept items, k, few, ap length is, length-reverse items)
 
-  module _ (h : PassingBack cells count rest left) where
-    pub next_back : (front : List Cell) (cell : Cell) → rest ≡ front ++ cell ∷ [] → 0 < left → PassingBack cells count front (left - takes cell)
-    next_back front cell e some = next_passing back h front cell e (omega (arith, takes_few cell, some)) (λ right. back_on left cell (reverse front) right some)
+  pub far_is : reverse (take kept items) ≡ drop n side
+  far_is = sym (ap (drop n) parts_are ∙ drop_at (reverse (drop kept items)) (reverse (take kept items)) n many)
 
-    pub last_back : left ≡ 0 → PassesBack cells count (length rest)
-    last_back none =
-        (rest, h.0, h.1, refl, omega (arith, h.2, none, passed h.0 h.1), λ right. sym (h.3 right) ∙ rw none (back_zero (reverse rest) (h.0 ++ right)))
-
-    pub all_back : rest ≡ [] → PassesBack cells count 0
-    all_back none = ([], h.0, rw none at h.1, refl, omega (arith, h.2, ap columns none, passed h.0 h.1), λ right. sym (rw none at h.3 right))
-
-  module _ (h : PassingOver cells count rest left) where
-    pub next_over : (front : List Cell) (cell : Cell) → rest ≡ front ++ cell ∷ [] → takes cell ≤ left → PassingOver cells count front (left - takes cell)
-    next_over front cell e some = next_passing (λ n right side. over n side right) h front cell e some (λ side. over_on left cell side (reverse front) some)
-
-    pub last_over : (front : List Cell) (cell : Cell) → rest ≡ front ++ cell ∷ [] → left < takes cell → PassesOver cells count (length rest)
-    last_over front cell e few = (
-      rest,
-      h.0,
-      h.1,
-      refl,
-      omega (arith, h.2, few, takes_few cell, passed h.0 h.1, ap columns e, columns_both front (cell ∷ [])),
-      λ side. sym (h.3 side) ∙ ap (over left (h.0 ++ side)) (last_first rest front cell e)
-          ∙ holds (nat_lt left (takes cell)) (line (h.0 ++ side) (cell ∷ reverse front)) (over (left - takes cell) (cell ∷ (h.0 ++ side)) (reverse front)) (grind (arith, nat_tests))
-          ∙ ap (line (h.0 ++ side)) (sym (last_first rest front cell e)),
-    )
-
-    pub all_over : rest ≡ [] → PassesOver cells count 0
-    all_over none = ([], h.0, rw none at h.1, refl, omega (arith, h.2, ap columns none, passed h.0 h.1), λ side. sym (rw none at h.3 side))
+  pub given_are : new ≡ to ++ reverse (drop kept items) → reverse new ≡ onto (take n side) (reverse to)
+  given_are e =
+      side_more to (reverse (drop kept items)) new e
+      ∙ ap (λ (t : List Cell). onto t (reverse to)) (sym (ap (take n) parts_are ∙ take_at (reverse (drop kept items)) (reverse (take kept items)) n many))
 
 -- four cells behind others, the last first
 four_more : (cells front rest : List Cell) (a b c d : Cell) → rest ≡ front ++ (a ∷ (b ∷ (c ∷ (d ∷ []))))
@@ -230,23 +169,6 @@ pub four_come : (cells one two three all front rest four whole : List Cell) (d :
     → cells ++ reverse rest ≡ whole → all ++ reverse front ≡ whole
 four_come cells one two three all front rest four whole d e f g h parts before =
     rw (h, g, f, e) (four_more cells front rest (get_or four 0 d) (get_or four 1 d) (get_or four 2 d) (get_or four 3 d) (four_parts rest front four d parts) ∙ before)
-
--- a side of which so many cells stay
-module _ (items far near : List Cell) (kept : ℕ) (e : reverse items ≡ reverse (far ++ near)) (k : length far ≡ kept) where
-  parts_are : items ≡ far ++ near
-  parts_are = sym (reverse-reverse items) ∙ ap reverse e ∙ reverse-reverse (far ++ near)
-
-  pub far_is : take kept items ≡ far
-  far_is = ap (take kept) parts_are ∙ take_at far near kept k
-
-  pub near_is : drop kept items ≡ near
-  near_is = ap (drop kept) parts_are ∙ drop_at far near kept k
-
-  pub columns_split : columns (reverse items) ≡ columns (reverse far) + columns near
-  columns_split = omega (arith, ap columns e, columns_back (far ++ near), columns_both far near, columns_back far)
-
-pub given_more : (items near new : List Cell) → new ≡ items ++ reverse near → reverse new ≡ near ++ reverse items
-given_more items near new e = ap reverse e ∙ reverse-append items (reverse near) ∙ ap (λ (t : List Cell). t ++ reverse items) (reverse-reverse near)
 
 pub columns_glyphs : (look : Look) (cs : List ℕ) → columns (glyphs look cs) ≡ length cs
 columns_glyphs look [] = refl

@@ -4,9 +4,9 @@ use Rattle.std.proofs.{lemmas.Bool.Decides.nat_tests, lemmas.List.length-append,
 use Rattle.std.specs.Prelude.{◌&&◌, nat_lt, Option, Some, None}
 use Rattle.csicodec_overwrite.specs.Line.{alters, behind_columns, do_all, does, done, entered, forward, leave, line, over, pen_behind, size, standing, widest}
 use Rattle.csicodec_overwrite.specs.{declared.cells.Cell.Cell, Cells.columns, Cells.onto, Cells.takes, Cells.trimmed, declared.cells.Cell.TheVariants.Empty}
-use Rattle.csicodec_overwrite.specs.{Private.Row.Does, Private.Row.StillDoes, Private.Row.back, Private.Row.settled, Reading.most, declared.line.Line.Line}
+use Rattle.csicodec_overwrite.specs.{Private.Row.Does, Private.Row.StillDoes, Private.Row.settled, Reading.most, declared.line.Line.Line}
 use Rattle.csicodec_overwrite.specs.{declared.marking.Marking.Marking, declared.pen.Pen.Pen, declared.step.Step.Step}
-use Rattle.csicodec_overwrite.proofs.Moved.{back_zero, by_back, columns_both, columns_empty, columns_onto, step_text, takes_few}
+use Rattle.csicodec_overwrite.proofs.Moved.{columns_both, columns_empty, columns_onto, from_there, step_text, takes_few}
 use Rattle.csicodec_overwrite.proofs.Room.{moved, over_size}
 
 -- ---- steps in turn
@@ -114,11 +114,7 @@ pub ahead : (limit k : ℕ) (l : Line)
 ahead limit k l =
     let n = columns l.left + k in
     let more : k ≡ n - columns l.left = omega arith in
-    let none : 0 ≡ columns l.left - n = omega arith in
-    ap (λ (m : ℕ). forward limit m l) more
-    ∙ ap (forward limit (n - columns l.left))
-    (sym (back_zero l.left l.right) ∙ ap (λ (m : ℕ). back m l.left l.right) none)
-    ∙ by_back limit n l.left l.right
+    ap (λ (m : ℕ). forward limit m l) more ∙ from_there limit n l l refl (omega arith)
 
 -- ---- what stands right of the cursor then, and how many cells there are
 

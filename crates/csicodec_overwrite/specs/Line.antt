@@ -223,14 +223,10 @@ does_here limit pen step.EraseAll l = done [] (erase_all l)
 does_here limit pen (step.Erase n) l = done [] (erase n l)
 does_here limit pen (step.Delete n) l = done [] (delete n l)
 does_here limit pen (step.Insert n) l = done [] (insert limit n l)
-does_here limit pen (step.Attribute s) l = done [] l
-does_here limit pen (step.Inserts inserts) l = done [] l
-does_here limit pen step.Save l = done [] l
 does_here limit pen step.Restore l = restored limit pen l
-does_here limit pen step.Reset l = done [] l
 does_here limit pen (step.Leave to) l = leave limit to l
 does_here limit pen (step.Row row to) l = placed_in limit pen row to l
-does_here limit pen step.Other l = done [] l
+does_here limit pen s l = done [] l
 
 -- what stands in the line is overwritten, erased or shifted with the step
 abbrev pub alters : Step → Line → Bool

@@ -1,10 +1,9 @@
 //! What stands in a line, cell by cell.
-ghost use Rattle.std.specs.Prelude.{◌≡◌, ◌≤◌, ◌*◌, ◌+◌, ◌++◌, ◌∷◌, [], false, OnOk, MatchOption, length, replicate, reverse, vec_capacity, vec_len};
+ghost use Rattle.std.specs.Prelude.{◌≡◌, ◌≤◌, ◌*◌, ◌+◌, ◌-◌, ◌++◌, ◌∷◌, [], drop, false, OnOk, MatchOption, length, replicate, reverse, take, vec_capacity, vec_len};
 ghost use Rattle.std.specs.List.{list_all};
 ghost use Rattle.csicodec_overwrite.specs.Cells.{begins_behind, belongs, columns, emptied, erased, gone, is_blank, is_empty, of_tab, onto, outside, shifted, takes, trimmed, untabbed, without};
 ghost use Rattle.csicodec_overwrite.specs.{Line.line, Line.over, declared.cells.Cell.TheVariants.Empty};
-ghost use Rattle.csicodec_overwrite.specs.Private.{Plain.glyphs, Row.back};
-ghost use Rattle.csicodec_overwrite.specs.Private.Sides.{Gives, IsKept, PassesBack, PassesOver, put_many};
+ghost use Rattle.csicodec_overwrite.specs.Private.{Plain.glyphs, Sides.passed, Sides.put_many};
 
 use csicodec_html::Look;
 use std::alloc::{AllocError, Global};
@@ -146,34 +145,21 @@ fn append_wide(cells: &mut Vec<Cell>, glyph: Glyph, count: usize)
     }
 }
 
-/// How many cells stay where the last are passed by so many columns, but for marks behind those that stay.
-fn len_before(cells: &[Cell], count: usize) -> usize
-    ensures { PassesBack cells.now count result }
-{
-    let (mut rest, mut left) = (cells, count);
-    while left > 0 {
-        let Some((cell, front)) = rest.split_last() else {
-            return 0;
-        };
-        left = left.saturating_sub(cell.takes());
-        rest = front;
-    }
-    rest.len()
-}
-
-/// How many cells stay where the last are passed by so many columns, with the marks behind those.
-fn len_behind(cells: &[Cell], count: usize) -> usize
-    ensures { PassesOver cells.now count result }
+/// How many of the last cells are passed over so many columns, and with `marks` those of no column behind them.
+#[inline(always)]
+fn passed(cells: &[Cell], count: usize, marks: bool) -> usize
+    ensures { result ≡ passed marks count (reverse cells.now) }
 {
     let (mut rest, mut left) = (cells, count);
     while let Some((cell, front)) = rest.split_last() {
-        if left < cell.takes() {
-            return rest.len();
+        let least = if marks { cell.takes() } else { 1 };
+        if left < least {
+            return cells.len() - rest.len();
         }
         left = left.saturating_sub(cell.takes());
         rest = front;
     }
-    0
+    cells.len()
 }
 
 /// Empties the columns of tabs.
@@ -304,20 +290,23 @@ impl Side {
         self.width = 0;
     }
 
-    /// Gives the nearest cells, which take so many columns, to another side, and keeps so many of the farthest.
-    fn give(&mut self, to: &mut Side, kept: usize, columns: usize) -> Result<(), AllocError>
-        requires { IsKept self.old kept columns }
-        ensures { OnOk result (Gives self.old to.old kept self.new to.new) }
+    /// Gives so many of the nearest cells to another side, which take so many columns.
+    fn give(&mut self, to: &mut Side, count: usize, wide: usize) -> Result<(), AllocError>
+        requires few { count ≤ length self.old }
+        requires wide { columns (take count self.old) ≡ wide }
+        ensures kept { OnOk result (self.new ≡ drop count self.old) }
+        ensures given { OnOk result (to.new ≡ onto (take count self.old) to.old) }
     {
-        let Some(width) = to.width.checked_add(columns) else {
+        let Some(width) = to.width.checked_add(wide) else {
             return Err(AllocError);
         };
+        let kept = self.cells.len() - count;
         let near = self.cells.split_at(kept).1;
         to.cells.reserve(near.len())?;
         append_back(&mut to.cells, near);
         to.width = width;
         self.cells.truncate(kept);
-        self.width -= columns;
+        self.width -= wide;
         Ok(())
     }
 
@@ -326,27 +315,36 @@ impl Side {
         ensures cells { OnOk result (to.new ≡ onto self.old to.old) }
         ensures none { OnOk result (self.new ≡ []) }
     {
-        let columns = self.width;
-        self.give(to, 0, columns)?;
-        Ok(())
+        let (count, wide) = (self.cells.len(), self.width);
+        self.give(to, count, wide)
+    }
+
+    /// Gives so many columns to another side, and with `marks` what stands behind them and takes none.
+    #[tactic(auto, using(crate::proofs::Moved::passed_few, crate::proofs::Moved::passed_columns))]
+    fn pass(&mut self, to: &mut Side, count: usize, marks: bool) -> Result<(), AllocError>
+        ensures kept { OnOk result (self.new ≡ drop (passed marks count self.old) self.old) }
+        ensures given { OnOk result (to.new ≡ onto (take (passed marks count self.old) self.old) to.old) }
+    {
+        let cells = passed(&self.cells, count, marks);
+        let wide = count.min(self.width);
+        self.give(to, cells, wide)
     }
 
     /// Gives so many columns to the right side, of which this is the left.
+    #[tactic(auto, using(crate::proofs::Moved::given_all, crate::proofs::Moved::passed_left))]
     pub(crate) fn give_back(&mut self, to: &mut Side, count: usize) -> Result<(), AllocError>
-        ensures { OnOk result (line self.new to.new ≡ back count self.old to.old) }
+        ensures same { OnOk result (onto self.new to.new ≡ onto self.old to.old) }
+        ensures left { OnOk result (columns self.new ≡ columns self.old - count) }
     {
-        let kept = len_before(&self.cells, count);
-        let columns = count.min(self.width);
-        self.give(to, kept, columns)
+        self.pass(to, count, false)
     }
 
     /// Gives so many columns to the left side, of which this is the right.
+    #[tactic(auto, using(crate::proofs::Moved::passed_over))]
     pub(crate) fn give_over(&mut self, to: &mut Side, count: usize) -> Result<(), AllocError>
         ensures { OnOk result (line to.new self.new ≡ over count to.old self.old) }
     {
-        let kept = len_behind(&self.cells, count);
-        let columns = count.min(self.width);
-        self.give(to, kept, columns)
+        self.pass(to, count, true)
     }
 
     /// Puts a run of characters nearest, which look so, in turn.

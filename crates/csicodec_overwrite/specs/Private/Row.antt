@@ -1,8 +1,7 @@
 -- A cursor that is still to go to its column. No promise rests on this file.
-use Rattle.std.specs.Prelude.{ℕ, ◌≡◌, ◌++◌, ◌-◌, ◌==◌, Option, Some, None, ⊤, List, [], ◌∷◌, if◌then◌else◌}
-use Rattle.csicodec_overwrite.specs.{declared.cells.Cell.Cell, declared.line.Line.Line, declared.marking.Marking.Marking, declared.step.Step.Step}
-use Rattle.csicodec_overwrite.specs.{declared.pen.Pen.Pen, Cells.takes, Paint.texts_of, Reading.most, Line.Done, Line.behind_columns, Line.do_all, Line.line}
-use Rattle.csicodec_overwrite.specs.{Line.pen_behind_all}
+use Rattle.std.specs.Prelude.{ℕ, ◌≡◌, ◌++◌, Option, Some, None, ⊤, List}
+use Rattle.csicodec_overwrite.specs.{declared.line.Line.Line, declared.marking.Marking.Marking, declared.step.Step.Step, declared.pen.Pen.Pen, Paint.texts_of}
+use Rattle.csicodec_overwrite.specs.{Reading.most, Line.Done, Line.behind_columns, Line.do_all, Line.pen_behind_all}
 use Rattle.csicodec_overwrite.specs.declared.step.Step.TheVariants as step
 
 -- behind so many columns, or where it is
@@ -26,12 +25,6 @@ pub record StillDoes (marking : Marking) (steps rest : List Step) (first now : P
   pub line : (do_all most now rest m).line ≡ (do_all most first steps l).line
   pub pen : pen_behind_all most now rest m ≡ pen_behind_all most first steps l
   pub text : out ++ texts_of marking (do_all most now rest m).lines ≡ before ++ texts_of marking (do_all most first steps l).lines
-
--- over so many columns to the left, and no further than the first
-abbrev pub back : ℕ → List Cell → List Cell → Line
-back n [] right = line [] right
-back n (cell ∷ left) right = if n == 0 then line (cell ∷ left) right
-    else back (n - takes cell) left (cell ∷ right)
 
 -- a step that neither moves the cursor alone nor leaves the line
 abbrev pub IsHere : Step → Type 0

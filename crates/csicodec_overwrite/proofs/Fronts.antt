@@ -21,7 +21,7 @@ use Rattle.csicodec_overwrite.specs.{Paint.text_of, Paint.texts_of, Paint.turn, 
 use Rattle.csicodec_overwrite.proofs.Straight.{few_cells, line_plain, lines_plain, narrow, reads_end, reads_plain, split_line}
 use Rattle.csicodec_overwrite.proofs.{Alike.newline_written, Alike.turn_same, Alike.written_none, Alike.written_on, Read.reads_none, Read.reads_on}
 use Rattle.csicodec_overwrite.proofs.{Rows.standing_settled, Texts.text_painted, Stays.cells, Stays.cells_full, Stays.cells_length, Stays.full_trimmed}
-use Rattle.csicodec_overwrite.proofs.{Stays.put_cells, Stays.puts, Written.line_on, Written.lines_on, Written.passes_on, Written.pen_on}
+use Rattle.csicodec_overwrite.proofs.{Stays.put_cells, Stays.puts, Written.all_on, Written.passes_on, Written.pen_on}
 use Rattle.csicodec_overwrite.specs.declared.step.Step.TheVariants as step
 
 -- ---- what is written of cells
@@ -188,8 +188,8 @@ module _ (marking : Marking) (pen : Pen) (bytes text : List ℕ) (last now : Loo
     steps = f.steps ++ steps;
     cells = cells;
     reads = reads_on none_held none_held none_held bytes more f.steps steps f.reads reads;
-    lines = rw (lines_on most f.steps steps pen blank, f.lines, f.line) lines;
-    line = rw (line_on most f.steps steps pen blank, f.line) is;
+    lines = rw (all_on most f.steps steps pen blank, f.lines, f.line) lines;
+    line = rw (all_on most f.steps steps pen blank, f.line) is;
     pens = rw (pen_on most f.steps steps pen blank, f.line) pens;
     full = full;
     few = omega (arith, few, f.few, length-append bytes more);

@@ -17,9 +17,9 @@ fails t x y e = rw e refl
 pub some_left : (n : ℕ) → 0 < n → (n == 0) ≡ false
 some_left n h = grind (arith, nat_tests)
 
-pub without_zero : (cells : List Cell) → without 0 cells ≡ cells
-without_zero [] = refl
-without_zero (cell ∷ cells) = refl
+pub without_zero : (n : ℕ) (cells : List Cell) → n ≡ 0 → without n cells ≡ cells
+without_zero n [] e = refl
+without_zero n (cell ∷ cells) e = rw e refl
 
 pub over_on : (n : ℕ) (cell : Cell) (left right : List Cell) → takes cell ≤ n → over n left (cell ∷ right) ≡ over (n - takes cell) (cell ∷ left) right
 over_on n cell left right h = grind (arith, nat_tests)
@@ -75,9 +75,6 @@ columns_both (x ∷ xs) ys = omega (arith, columns_both xs ys)
 pub columns_same : (x : Cell) → takes x ≡ 1 → (n : ℕ) → columns (replicate n x) ≡ n
 columns_same x one zero = refl
 columns_same x one (suc n) = omega (arith, one, columns_same x one n)
-
-pub columns_empty : (n : ℕ) → columns (replicate n Empty) ≡ n
-columns_empty n = columns_same Empty refl n
 
 reverse_same : (x : Cell) (n : ℕ) → reverse (replicate n x) ≡ replicate n x
 reverse_same x zero = refl
@@ -147,28 +144,22 @@ module _ (items side to new : List Cell) (n kept : ℕ) (is : reverse items ≡ 
       ∙ ap (λ (t : List Cell). onto t (reverse to)) (sym (ap (take n) parts_are ∙ take_at (reverse (drop kept items)) (reverse (take kept items)) n many))
 
 -- four cells behind others, the last first
-four_more : (cells front rest : List Cell) (a b c d : Cell) → rest ≡ front ++ (a ∷ (b ∷ (c ∷ (d ∷ []))))
-    → ((((cells ++ (d ∷ [])) ++ (c ∷ [])) ++ (b ∷ [])) ++ (a ∷ [])) ++ reverse front ≡ cells ++ reverse rest
-four_more cells front rest a b c d e = rw (e, reverse-append front (a ∷ (b ∷ (c ∷ (d ∷ []))))) (simp append_assoc)
-
-four_are : (xs : List Cell) (d : Cell) → length xs ≡ 4 → xs ≡ get_or xs 0 d ∷ (get_or xs 1 d ∷ (get_or xs 2 d ∷ (get_or xs 3 d ∷ [])))
-four_are (a ∷ (b ∷ (c ∷ (f ∷ [])))) d e = refl
-four_are _ d e = absurd (omega (arith, e))
-
--- the last four behind others
-four_parts : (rest front four : List Cell) (d : Cell)
-    → (front ≡ take (length rest - 4) rest) × (four ≡ drop (length rest - 4) rest) × (length front + 4 ≡ length rest)
-    → rest ≡ front ++ (get_or four 0 d ∷ (get_or four 1 d ∷ (get_or four 2 d ∷ (get_or four 3 d ∷ []))))
-four_parts rest front four d e =
-    let some : length four ≡ 4 = omega (arith, ap length e.1, length-drop (length rest - 4) rest, e.2) in
-    sym (take-append-drop (length rest - 4) rest) ∙ ap (λ (t : List Cell). t ++ drop (length rest - 4) rest) (sym e.0) ∙ ap (λ (t : List Cell). front ++ t) (sym e.1 ∙ four_are four d some)
+four_back : (xs : List Cell) (d : Cell) → length xs ≡ 4 → reverse xs ≡ get_or xs 3 d ∷ (get_or xs 2 d ∷ (get_or xs 1 d ∷ (get_or xs 0 d ∷ [])))
+four_back (a ∷ (b ∷ (c ∷ (f ∷ [])))) d e = refl
+four_back _ d e = absurd (omega (arith, e))
 
 pub four_come : (cells one two three all front rest four whole : List Cell) (d : Cell)
     → one ≡ cells ++ (get_or four 3 d ∷ []) → two ≡ one ++ (get_or four 2 d ∷ []) → three ≡ two ++ (get_or four 1 d ∷ []) → all ≡ three ++ (get_or four 0 d ∷ [])
     → (front ≡ take (length rest - 4) rest) × (four ≡ drop (length rest - 4) rest) × (length front + 4 ≡ length rest)
     → cells ++ reverse rest ≡ whole → all ++ reverse front ≡ whole
 four_come cells one two three all front rest four whole d e f g h parts before =
-    rw (h, g, f, e) (four_more cells front rest (get_or four 0 d) (get_or four 1 d) (get_or four 2 d) (get_or four 3 d) (four_parts rest front four d parts) ∙ before)
+    let k = length rest - 4 in
+    let some : length four ≡ 4 = omega (arith, ap length parts.1, length-drop k rest, parts.2) in
+    let split : reverse rest ≡ reverse four ++ reverse front =
+    ap reverse (sym (take-append-drop k rest)) ∙ reverse-append (take k rest) (drop k rest)
+    ∙ ap (λ (t : List Cell). reverse t ++ reverse (take k rest)) (sym parts.1) ∙ ap (λ (t : List Cell). reverse four ++ reverse t) (sym parts.0) in
+    let back = ap (λ (t : List Cell). cells ++ t) (sym (split ∙ ap (λ (t : List Cell). t ++ reverse front) (four_back four d some))) in
+    rw (h, g, f, e) (simp append_assoc (back ∙ before))
 
 pub columns_glyphs : (look : Look) (cs : List ℕ) → columns (glyphs look cs) ≡ length cs
 columns_glyphs look [] = refl

@@ -56,9 +56,9 @@ gone_mark c n xs some =
 gone_emptied : (n : ℕ) (xs : List Cell) → gone n (emptied xs (outside xs)) ≡ gone n xs
 gone_emptied zero xs =
     let e = emptied xs (outside xs) in
-    ap (λ (ys : List Cell). emptied ys (outside ys)) (without_zero e)
+    ap (λ (ys : List Cell). emptied ys (outside ys)) (without_zero 0 e refl)
     ∙ ap (emptied e) (emptied_apart (columns xs - columns (outside xs)) (outside xs) (outside_twice xs)) ∙ whole e
-    ∙ sym (ap (λ (ys : List Cell). emptied ys (outside ys)) (without_zero xs))
+    ∙ sym (ap (λ (ys : List Cell). emptied ys (outside ys)) (without_zero 0 xs refl))
 gone_emptied (suc n) [] = refl
 gone_emptied (suc n) (Empty ∷ xs) = ap (gone (suc n)) (whole (Empty ∷ xs))
 gone_emptied (suc n) (Char g ∷ xs) = ap (gone (suc n)) (whole (Char g ∷ xs))

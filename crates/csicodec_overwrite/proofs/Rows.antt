@@ -6,7 +6,7 @@ use Rattle.csicodec_overwrite.specs.Line.{alters, behind_columns, do_all, does, 
 use Rattle.csicodec_overwrite.specs.{declared.cells.Cell.Cell, Cells.columns, Cells.onto, Cells.takes, Cells.trimmed, declared.cells.Cell.TheVariants.Empty}
 use Rattle.csicodec_overwrite.specs.{Private.Row.Does, Private.Row.StillDoes, Private.Row.settled, Reading.most, declared.line.Line.Line}
 use Rattle.csicodec_overwrite.specs.{declared.marking.Marking.Marking, declared.pen.Pen.Pen, declared.step.Step.Step}
-use Rattle.csicodec_overwrite.proofs.Moved.{columns_both, columns_empty, columns_onto, from_there, step_text, takes_few}
+use Rattle.csicodec_overwrite.proofs.Moved.{columns_both, columns_onto, columns_same, from_there, step_text, takes_few}
 use Rattle.csicodec_overwrite.proofs.Room.{moved, over_size}
 
 -- ---- steps in turn
@@ -28,15 +28,9 @@ does_on {marking} {pen} {m} {now} {after} s rest still d e =
 
 -- ---- tests
 
-less_is : (n k : ℕ) → n < k → nat_lt n k ≡ true
-less_is n k h = grind (arith, nat_tests)
-
 -- a sum that is cut off far behind a row
 pub long_same : (n k : ℕ) → n ≡ min k 18446744073709551615 → nat_lt 512 n ≡ nat_lt 512 k
 long_same n k e = grind (arith, nat_tests)
-
-less_on : (n k m : ℕ) → k ≤ n → nat_lt (n - k) m ≡ nat_lt n (k + m)
-less_on n k m some = grind (arith, nat_tests)
 
 -- ---- all that stands in a line stands there wherever the cursor is
 
@@ -100,7 +94,7 @@ reached limit n l =
     omega (
       arith,
       columns_both (replicate k Empty) now.left,
-      columns_empty k,
+      columns_same Empty refl k,
       columns_over n [] all,
       columns_onto l.left l.right,
       over_size n [] all,
@@ -123,23 +117,11 @@ over_right : (n : ℕ) (left right : List Cell)
 over_right n left [] = grind (arith, nat_tests)
 over_right n left (x ∷ right) = grind (arith, nat_tests, over_right (n - takes x) (x ∷ left) right)
 
-settled_right : (limit n : ℕ) (l : Line)
+pub settled_right : (limit n : ℕ) (l : Line)
     → nat_lt 0 (length (behind_columns limit n l).right) ≡ nat_lt n (columns l.left + columns l.right)
 settled_right limit n l =
     over_right n [] (onto l.left l.right)
     ∙ ap (nat_lt n) (columns_onto l.left l.right)
-
-pub right_near : (limit n : ℕ) (l : Line) → n < columns l.right
-    → nat_lt n (columns l.right) ≡ nat_lt 0 (length (behind_columns limit n l).right)
-right_near limit n l some =
-    less_is n (columns l.right) some
-    ∙ sym (settled_right limit n l ∙ less_is n (columns l.left + columns l.right) (omega (arith, some)))
-
-pub right_far : (limit n : ℕ) (l : Line) → columns l.right ≤ n
-    → nat_lt (n - columns l.right) (columns l.left) ≡ nat_lt 0 (length (behind_columns limit n l).right)
-right_far limit n l few =
-    less_on n (columns l.right) (columns l.left) few ∙ ap (nat_lt n) (omega arith)
-    ∙ sym (settled_right limit n l)
 
 pub settled_size : (limit n : ℕ) (l : Line)
     → size (behind_columns limit n l)

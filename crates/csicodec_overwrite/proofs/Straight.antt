@@ -68,68 +68,43 @@ put_step b h tab = put_of b (grind (arith, nat_tests)) (grind (arith, nat_tests)
 pub few_cells : (c column : ℕ) → max (width c column) 1 ≤ 8
 few_cells c column = cond_both (c == 9) _ _ (λ (n : ℕ). max n 1 ≤ 8) (λ e. omega arith) (λ e. omega (arith, narrow_few (unwrap_or (char_width false c) 0)))
 
--- ---- a character behind all others
-
--- a character of ASCII that is no control comes behind all cells of a line that has room for it
-abbrev GoesBehind : ℕ → Pen → ℕ → Line → Type 0
-GoesBehind limit pen c l = (32 ≤ c) × (c < 127) × (pen.inserts ≡ false) × (l.right ≡ []) × (length l.left < limit)
+-- ---- a run of characters behind all others
 
 pub narrow : (c column : ℕ) → 32 ≤ c → c < 127 → width c column ≡ 1
 unfolding char_width
 narrow c column low high = grind (arith, nat_tests)
 
-goes : (limit : ℕ) (pen : Pen) (c : ℕ) (l : Line) → GoesBehind limit pen c l → put limit pen.inserts (glyph c pen.look) l ≡ done [] (line (Char (glyph c pen.look) ∷ l.left) [])
-goes limit pen c l (low, high, over, none, few) =
-    let g = glyph c pen.look in
-    let one = narrow c (columns l.left) low high in
-    ap (λ (b : Bool). put limit b g l) over ∙ ap (λ (right : List Cell). put limit false g (line l.left right)) none
-    ∙ put_cells limit g l.left (omega (arith, one, few)) ∙ ap (λ (n : ℕ). done [] (line (cells g n l.left) [])) one
-
--- where nothing stands on the right, the line isn't left
-puts_here : (limit : ℕ) (pen : Pen) (c : ℕ) (l : Line) → l.right ≡ [] → does limit pen (step.Put c) l ≡ put limit pen.inserts (glyph c pen.look) l
-puts_here limit pen c l none =
-    ap (λ (right : List Cell). does limit pen (step.Put c) (line l.left right)) none
-    ∙ ap (λ (right : List Cell). put limit pen.inserts (glyph c pen.look) (line l.left right)) (sym none)
-
-goes_pen : (limit : ℕ) (pen : Pen) (c : ℕ) (l : Line) → GoesBehind limit pen c l → record pen { last = Some c } ≡ pen_behind pen (step.Put c) (columns l.left)
-goes_pen limit pen c l (low, high, over, none, few) = ap (λ (n : ℕ). record pen { last = cond (n == 0) pen.last (Some c) }) (sym (narrow c 0 low high))
-
--- ---- a run of such characters
-
 pub run_none : (limit : ℕ) (pen : Pen) (l : Line) (text : List ℕ) → AllByRecursion IsLineByte text → PutsRun limit pen l text text pen l
 run_none limit pen l text h = record { plain = h; fewer = omega arith; same = refl; pens = refl }
 
--- behind others one more is put, and the rest comes
-module _ (limit : ℕ) (first : Pen) (blank : Line) (text : List ℕ) (pen : Pen) (c : ℕ) (cs : List ℕ) (l m : Line) where
-  pub run_on : PutsRun limit first blank text (c ∷ cs) pen l → (c == 9) ≡ false → pen.inserts ≡ false → l.right ≡ [] → length l.left < limit → m ≡ line (Char (glyph c pen.look) ∷ l.left) l.right
-      → PutsRun limit first blank text cs (record pen { last = Some c }) m
-  run_on run other over none few e =
+-- each that takes one cell is put where the line has room for it, and the rest comes
+module _ (limit : ℕ) (first : Pen) (blank : Line) (text rest : List ℕ) where
+  pub run_all : (cs : List ℕ) (pen : Pen) (left : List Cell) → PutsRun limit first blank text (cs ++ rest) pen (line left []) → AllByRecursion IsUntabbed cs
+      → pen.inserts ≡ false → length left + length cs ≤ limit
+      → PutsRun limit first blank text rest (record pen { last = last_of pen.last cs }) (line (onto (glyphs pen.look cs) left) [])
+  run_all [] pen left run h over few = run
+  run_all (c ∷ cs) pen left run h over few =
       let is : IsLineByte c = run.plain.0 in
-      let behind : GoesBehind limit pen c l = (grind (arith, nat_tests), grind (arith, nat_tests), over, none, few) in
+      let other : (c == 9) ≡ false = grind (arith, nat_tests, h.0) in
+      let low : 32 ≤ c = grind (arith, nat_tests) in
+      let high : c < 127 = grind (arith, nat_tests) in
+      let g = glyph c pen.look in
+      let next = pen_behind pen (step.Put c) (columns left) in
+      let later = of_chars (cs ++ rest) in
+      let single = narrow c (columns left) low high in
       let of = put_step c is (λ tab. absurd (let yes : (9 == 9) ≡ false = subst (λ (x : ℕ). (x == 9) ≡ false) tab other in cc)) in
-      let next = pen_behind pen (step.Put c) (columns l.left) in
-      let one : does limit pen (step.Put c) l ≡ done [] m =
-      puts_here limit pen c l none ∙ goes limit pen c l behind ∙ ap (λ (right : List Cell). done [] (line (Char (glyph c pen.look) ∷ l.left) right)) (sym none) ∙ ap (done []) (sym e) in
-      record {
+      let one : does limit pen (step.Put c) (line left []) ≡ done [] (line (Char g ∷ left) []) =
+      ap (λ (b : Bool). put limit b g (line left [])) over ∙ put_cells limit g left (omega (arith, few, single))
+      ∙ ap (λ (n : ℕ). done [] (line (cells g n left) [])) single in
+      let pens : next ≡ record pen { last = Some c } = ap (λ (n : ℕ). record pen { last = cond (n == 0) pen.last (Some c) }) (narrow c 0 low high) in
+      run_all cs (record pen { last = Some c }) (Char g ∷ left) (record {
         plain = run.plain.1;
         fewer = omega (arith, run.fewer);
-        same = run.same ∙ ap (λ (s : List Step). do_all limit pen (s ++ of_chars cs) l) of
-            ∙ ap (λ (d : Done). before d.lines (do_all limit next (of_chars cs) d.line)) one
-            ∙ ap (λ (p : Pen). do_all limit p (of_chars cs) m) (sym (goes_pen limit pen c l behind));
-        pens = run.pens ∙ ap (λ (s : List Step). pen_behind_all limit pen (s ++ of_chars cs) l) of
-            ∙ ap (λ (d : Done). pen_behind_all limit next (of_chars cs) d.line) one
-            ∙ ap (λ (p : Pen). pen_behind_all limit p (of_chars cs) m) (sym (goes_pen limit pen c l behind));
-      }
-
--- and so are all characters of a run that takes one cell each
-module _ (limit : ℕ) (first : Pen) (blank : Line) (text rest : List ℕ) where
-  pub run_all : (cs : List ℕ) (pen : Pen) (l : Line) → PutsRun limit first blank text (cs ++ rest) pen l → AllByRecursion IsUntabbed cs → pen.inserts ≡ false → l.right ≡ []
-      → length l.left + length cs ≤ limit → PutsRun limit first blank text rest (record pen { last = last_of pen.last cs }) (line (onto (glyphs pen.look cs) l.left) l.right)
-  run_all [] pen l run h over none few = run
-  run_all (c ∷ cs) pen l run h over none few =
-      run_all cs (record pen { last = Some c }) (line (Char (glyph c pen.look) ∷ l.left) l.right)
-      (run_on limit first blank text pen c (cs ++ rest) l (line (Char (glyph c pen.look) ∷ l.left) l.right) run (grind (arith, nat_tests, h.0)) over none (omega (arith, few)) refl)
-      h.1 over none (omega (arith, few))
+        same = run.same ∙ ap (λ (s : List Step). do_all limit pen (s ++ later) (line left [])) of
+            ∙ ap (λ (d : Done). before d.lines (do_all limit next later d.line)) one ∙ ap (λ (p : Pen). do_all limit p later (line (Char g ∷ left) [])) pens;
+        pens = run.pens ∙ ap (λ (s : List Step). pen_behind_all limit pen (s ++ later) (line left [])) of
+            ∙ ap (λ (d : Done). pen_behind_all limit next later d.line) one ∙ ap (λ (p : Pen). pen_behind_all limit p later (line (Char g ∷ left) [])) pens;
+      }) h.1 over (omega (arith, few))
 
 -- the last of some characters
 pub last_is : (last : Option ℕ) (cs : List ℕ) (c : ℕ) → last_of last (cs ++ c ∷ []) ≡ Some c

@@ -2,9 +2,11 @@
 use Rattle.std.proofs.Common.{◌≡◌, ℕ, List, [], ◌∷◌, ◌++◌, refl, sym, ap, subst, ◌∙◌, ⊎_elim, append_assoc, append-nil}
 use Rattle.std.specs.List.{concat}
 use Rattle.csicodec_filter.specs.Transform.{Begins, GoesOn, Sends, Transforms}
+use Rattle.csicodec_clean.specs.Stream.{AreTaken}
+use Rattle.csicodec_clean.proofs.Chunks.{taken_on}
+use Rattle.csicodec_overwrite.specs.Line.{before, blank, cells_of, do_all, does, fresh, pen_behind, pen_behind_all}
 use Rattle.csicodec_overwrite.specs.{declared.line.Line.Line, Paint.text_of, Paint.texts_of, Private.Seen.PassesFront, declared.marking.Marking.Marking}
 use Rattle.csicodec_overwrite.specs.{Reading.Shows, Reading.most, Reading.shown_by, declared.pen.Pen.Pen, declared.step.Step.Step, Cells.columns, Steps.of_run}
-use Rattle.csicodec_overwrite.specs.{Line.blank, Line.cells_of, Line.do_all, Line.does, Line.fresh, Line.pen_behind, Line.pen_behind_all, Stream.AreTaken}
 use Rattle.csicodec_overwrite.specs.{Stream.Ending, Stream.Held, Stream.Now, Stream.Passes, Stream.Reads, Stream.begun_as, Stream.none_held}
 use Rattle.csicodec_overwrite.specs.{Private.Row.DoesAll}
 use Rattle.csicodec_overwrite.proofs.{Read.reads_none, Read.reads_on, Read.whole_reads, Texts.texts_on}
@@ -15,20 +17,16 @@ pub pen_on : (limit : ℕ) (xs ys : List Step) (pen : Pen) (l : Line) → pen_be
 pen_on limit [] ys pen l = refl
 pen_on limit (x ∷ xs) ys pen l = pen_on limit xs ys (pen_behind pen x (columns l.left)) (does limit pen x l).line
 
-pub line_on : (limit : ℕ) (xs ys : List Step) (pen : Pen) (l : Line) → (do_all limit pen (xs ++ ys) l).line ≡ (do_all limit (pen_behind_all limit pen xs l) ys (do_all limit pen xs l).line).line
-line_on limit [] ys pen l = refl
-line_on limit (x ∷ xs) ys pen l = line_on limit xs ys (pen_behind pen x (columns l.left)) (does limit pen x l).line
-
-pub lines_on : (limit : ℕ) (xs ys : List Step) (pen : Pen) (l : Line)
-    → (do_all limit pen (xs ++ ys) l).lines ≡ (do_all limit pen xs l).lines ++ (do_all limit (pen_behind_all limit pen xs l) ys (do_all limit pen xs l).line).lines
-lines_on limit [] ys pen l = refl
-lines_on limit (x ∷ xs) ys pen l = rw (lines_on limit xs ys (pen_behind pen x (columns l.left)) (does limit pen x l).line) (simp append_assoc)
+pub all_on : (limit : ℕ) (xs ys : List Step) (pen : Pen) (l : Line)
+    → do_all limit pen (xs ++ ys) l ≡ before (do_all limit pen xs l).lines (do_all limit (pen_behind_all limit pen xs l) ys (do_all limit pen xs l).line)
+all_on limit [] ys pen l = refl
+all_on limit (x ∷ xs) ys pen l = rw (all_on limit xs ys (pen_behind pen x (columns l.left)) (does limit pen x l).line) (simp append_assoc)
 
 -- all that they show
 pub shown_on : (marking : Marking) (limit : ℕ) (xs ys : List Step) (pen : Pen) (l : Line)
     → shown_by marking (do_all limit pen (xs ++ ys) l)
     ≡ texts_of marking (do_all limit pen xs l).lines ++ shown_by marking (do_all limit (pen_behind_all limit pen xs l) ys (do_all limit pen xs l).line)
-shown_on marking limit xs ys pen l = rw (lines_on limit xs ys pen l, line_on limit xs ys pen l, texts_on marking, append_assoc)
+shown_on marking limit xs ys pen l = rw (all_on limit xs ys pen l, texts_on marking, append_assoc)
 
 -- ---- a stream
 
@@ -43,8 +41,8 @@ passes_on old mid new first second one two p q = record {
   reads = reads_on old.reader mid.reader new.reader first second p.steps q.steps p.reads q.reads;
   pen = rw (q.pen, p.pen, p.line, pen_on most p.steps q.steps old.pen old.line);
   marking = q.marking ∙ p.marking;
-  line = rw (q.line, p.pen, p.line, line_on most p.steps q.steps old.pen old.line);
-  all = rw (p.all, q.all, p.marking, p.pen, p.line, lines_on most p.steps q.steps old.pen old.line, texts_on old.marking);
+  line = rw (q.line, p.pen, p.line, all_on most p.steps q.steps old.pen old.line);
+  all = rw (p.all, q.all, p.marking, p.pen, p.line, all_on most p.steps q.steps old.pen old.line, texts_on old.marking);
 }
 
 pub goes : (old new : Now) (bytes text : List ℕ) → Passes old bytes text new → GoesOn Passes old bytes text new
@@ -110,14 +108,9 @@ finished last steps line before now after held same out shown =
 
 -- ---- chunks in turn
 
-taken_on : (first old last : Now) (bytes text : List ℕ) (chunks : List (List ℕ)) (more : List ℕ) → Passes first bytes text old
-    → AreTaken old chunks more last → Passes first (bytes ++ concat chunks) (text ++ more) last
-taken_on first old last bytes text [] more p (none, same) = rw (none, same, append-nil bytes, append-nil text) p
-taken_on first old last bytes text (chunk ∷ chunks) more p (mid, one, others, goes, e, rest) =
-    let all = taken_on first mid last (bytes ++ chunk) (text ++ one) chunks others (goes first bytes text p) rest in
-    rw (← append_assoc bytes chunk (concat chunks), e, ← append_assoc text one others) all
-
-pub any_chunks : (marking : Marking) (chunks : List (List ℕ)) (text rest : List ℕ) (last : Now) → AreTaken (begun_as marking) chunks text last
+pub any_chunks : (marking : Marking) (chunks : List (List ℕ)) (text rest : List ℕ) (last : Now) → AreTaken (GoesOn Passes) (begun_as marking) chunks text last
     → Ending last rest → Shows marking (concat chunks) (text ++ rest)
 any_chunks marking chunks text rest last taken ending =
-    shows marking (concat chunks) text rest last (taken_on (begun_as marking) (begun_as marking) last [] [] chunks text (passes_none (begun_as marking) refl) taken) ending
+    let first = begun_as marking in
+    let passed = taken_on Passes (GoesOn Passes) first (λ bytes text old new chunk more p goes. goes first bytes text p) [] [] first last chunks text (passes_none first refl) taken in
+    shows marking (concat chunks) text rest last passed ending

@@ -2,7 +2,7 @@
 use Rattle.std.specs.{Prelude.ℕ, Prelude.◌≡◌, Prelude.Bool, Prelude.false, Prelude.List, Prelude.[], Prelude.◌∷◌, Prelude.◌++◌, List.concat}
 use Rattle.csicodec_spans.specs.{declared.table.Mode.Mode, Parts.Part, Parts.AreFirstParts, Parts.IsUnsure}
 use Rattle.csicodec_filter.specs.Transform.{GoesOn}
-use Rattle.csicodec_clean.specs.{Cleaned.longest, Shown.IsRead, Titles.title_open, Titles.with_titles}
+use Rattle.csicodec_clean.specs.{Cleaned.longest, Shown.IsRead, Stream.AreTaken, Titles.title_open, Titles.with_titles}
 use Rattle.csicodec_overwrite.specs.{declared.line.Line.Line, Line.blank, Line.do_all, Line.fresh, Line.pen_behind_all, declared.marking.Marking.Marking}
 use Rattle.csicodec_overwrite.specs.{declared.marking.Marking.TheVariants.Plain, declared.pen.Pen.Pen, declared.step.Step.Step, Steps.of_chars, Steps.of_run}
 use Rattle.csicodec_overwrite.specs.{Paint.texts_of, Reading.AreOfParts, Reading.Shows, Reading.most, Reading.shown_by}
@@ -66,15 +66,8 @@ abbrev pub Ending : Now → List ℕ → Type 0
 Ending last text = text
     ≡ shown_by last.marking (do_all most last.pen (of_run last.reader.held) last.line)
 
--- chunks in turn, and all that they append
-abbrev pub AreTaken : Now → List (List ℕ) → List ℕ → Now → Type 0
-AreTaken old [] text new = (text ≡ []) × (new ≡ old)
-AreTaken old (chunk ∷ chunks) text new =
-    (mid : Now) × (first : List ℕ) × (others : List ℕ) × GoesOn Passes old chunk first mid
-    × (text ≡ first ++ others) × AreTaken mid chunks others new
-
 -- it doesn't matter how a stream is cut into chunks: what they append, and the end, is the text of all of it
 abbrev pub AnyChunks : Type 0
 AnyChunks = (marking : Marking) (chunks : List (List ℕ)) (text rest : List ℕ) (last : Now)
-    → AreTaken (begun_as marking) chunks text last → Ending last rest
+    → AreTaken (GoesOn Passes) (begun_as marking) chunks text last → Ending last rest
     → Shows marking (concat chunks) (text ++ rest)

@@ -348,6 +348,7 @@ impl Side {
     }
 
     /// Puts a run of characters nearest, which look so, in turn.
+    #[tactic(auto, using(crate::proofs::Moved::side_more, crate::proofs::Moved::side_columns, crate::proofs::Moved::columns_glyphs))]
     pub(crate) fn push_run(&mut self, run: &[u8], look: Look) -> Result<(), AllocError>
         ensures { OnOk result (self.new ≡ onto (glyphs look run.now) self.old) }
     {
@@ -361,6 +362,7 @@ impl Side {
     }
 
     /// Puts so many of the same cell nearest, which is no mark.
+    #[tactic(auto, using(crate::proofs::Moved::columns_more, crate::proofs::Moved::reverse_more))]
     pub(crate) fn push_many(&mut self, cell: Cell, count: usize) -> Result<(), AllocError>
         requires { takes cell ≡ 1 }
         ensures { OnOk result (self.new ≡ replicate count cell ++ self.old) }
@@ -384,6 +386,7 @@ impl Side {
     }
 
     /// Puts a character of two columns nearest, so many times.
+    #[tactic(auto, using(crate::proofs::Repeated::many_wide))]
     fn push_wide(&mut self, glyph: Glyph, count: usize) -> Result<(), AllocError>
         ensures { OnOk result (self.new ≡ put_many glyph 2 count self.old) }
     {
@@ -400,6 +403,7 @@ impl Side {
     }
 
     /// Puts a character of some columns nearest, so many times.
+    #[tactic(auto, using(crate::proofs::Repeated::many_single))]
     pub(crate) fn push_glyphs(
         &mut self,
         glyph: Glyph,
@@ -439,6 +443,7 @@ impl Side {
     }
 
     /// Takes so many columns, as far as there are some.
+    #[tactic(auto, using(crate::proofs::Moved::without_zero))]
     pub(crate) fn take_columns(&mut self, count: usize)
         ensures { self.new ≡ without count self.old }
     {

@@ -79,6 +79,7 @@ impl Line {
     }
 
     /// The columns left of the cursor, where it is to go behind so many.
+    #[tactic(auto, using(crate::proofs::Rows::reached))]
     fn reached(&self, count: usize) -> usize
         ensures { result ≡ columns (behind_columns most count self.now).left }
     {
@@ -131,6 +132,7 @@ impl Line {
     }
 
     /// Whether it is longer than a terminal's row, with the cursor where it stands or is to go.
+    #[tactic(auto, using(crate::proofs::Rows::long_same, crate::proofs::Rows::settled_size))]
     fn is_long(&self, to: Option<usize>) -> bool
         ensures { result ≡ nat_lt widest (size (settled most to self.now)) }
     {
@@ -283,6 +285,7 @@ impl Line {
     }
 
     /// Ends the line.
+    #[tactic(auto, using(crate::proofs::Moved::line_ends))]
     pub(crate) fn end(&mut self, marking: &Marking, out: &mut Vec<u8>) -> Result<(), AllocError>
         ensures text { OnOk result
             (out.new.items ≡ out.old.items ++ ended marking.now (cells_of self.old)) }
@@ -294,6 +297,7 @@ impl Line {
     }
 
     /// Appends what stands on the left, the farthest first, and a newline.
+    #[tactic(auto, using(crate::proofs::Moved::line_ends))]
     fn end_left(&mut self, marking: &Marking, out: &mut Vec<u8>) -> Result<(), AllocError>
         requires { self.old.right ≡ [] }
         ensures text { OnOk result

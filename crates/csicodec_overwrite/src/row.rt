@@ -69,6 +69,7 @@ impl Row {
     }
 
     /// So many columns to the right.
+    #[tactic(auto, using(crate::proofs::Rows::ahead))]
     fn forward(&mut self, count: usize) -> Result<(), AllocError>
         ensures { OnOk result (self.new ≡ forward most count self.old) }
     {
@@ -113,6 +114,7 @@ impl Row {
     }
 
     /// Ends the line, if more than blanks stands in it, and goes behind so many columns of another.
+    #[tactic(auto, using(crate::proofs::Rows::standing_row))]
     fn go_on(
         &mut self,
         count: usize,
@@ -160,6 +162,7 @@ impl Row {
     }
 
     /// Takes all that stands there, and appends its text.
+    #[tactic(auto, using(crate::proofs::Rows::standing_row))]
     pub(crate) fn take_text(
         &mut self,
         marking: &Marking,
@@ -175,6 +178,7 @@ impl Row {
     }
 
     /// Ends the line.
+    #[tactic(auto, using(crate::proofs::Rows::standing_row))]
     pub(crate) fn end(&mut self, marking: &Marking, out: &mut Vec<u8>) -> Result<(), AllocError>
         ensures text { OnOk result
             (out.new.items ≡ out.old.items ++ ended marking.now (cells_of self.old)) }

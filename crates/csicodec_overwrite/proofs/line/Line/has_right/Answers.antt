@@ -1,20 +1,10 @@
-use Rattle.std.proofs.Common.{◌<◌, ◌≤◌, ◌-◌, ◌∙◌, ap, length, nat_lt, rules, sym}
-use Rattle.csicodec_overwrite.specs.{Cells.columns, Private.Row.settled, Reading.most}
-use Rattle.csicodec_overwrite.proofs.Rows.{right_far, right_near}
+use Rattle.std.proofs.{Common.arith, lemmas.Bool.Decides.nat_tests}
+use Rattle.csicodec_overwrite.specs.Reading.{most}
+use Rattle.csicodec_overwrite.proofs.Rows.{settled_right}
 use Rattle.csicodec_overwrite.proofs.line.Line.has_right.Goals as goal
 
 pub returns-then-count-right : goal.returns-then-count-right
-returns-then-count-right c =
-    let l = c.args.self.now in
-    let n = c.in-Some.count in
-    let some : n < columns l.right = search rules in
-    ap (nat_lt n) c.columns-right.ensures ∙ right_near most n l some
-    ∙ ap (λ to. nat_lt 0 (length (settled most to l).right)) (sym c.in-Some.is)
+returns-then-count-right c = rw (c.in-Some.is, settled_right most c.in-Some.count c.args.self.now) (grind (arith, nat_tests, c.columns-right.ensures))
 
 pub returns-else-count-right : goal.returns-else-count-right
-returns-else-count-right c =
-    let l = c.args.self.now in
-    let n = c.in-Some.count in
-    let few : columns l.right ≤ n = search rules in
-    ap (λ k. nat_lt (n - k) c.columns.result) c.columns-right.ensures ∙ ap (nat_lt (n - columns l.right)) c.columns.ensures ∙ right_far most n l few
-    ∙ ap (λ to. nat_lt 0 (length (settled most to l).right)) (sym c.in-Some.is)
+returns-else-count-right c = rw (c.in-Some.is, settled_right most c.in-Some.count c.args.self.now) (grind (arith, nat_tests, c.columns-right.ensures, c.columns.ensures))

@@ -1,6 +1,6 @@
 use Rattle.std.proofs.Common.{[], ◌∷◌, ◌∙◌, List, ℕ, ap, arith, length, length-append, subst, sym}
 use Rattle.std.specs.Prelude.{Option, Some}
-use Rattle.csicodec_overwrite.specs.{declared.cells.Cell.Cell, Line.line, Private.Plain.PutsRun, Private.Plain.last_of, Reading.most}
+use Rattle.csicodec_overwrite.specs.{declared.cells.Cell.Cell, declared.line.Line.Line, Line.line, Private.Plain.PutsRun, Private.Plain.last_of, Reading.most}
 use Rattle.csicodec_overwrite.proofs.Straight.{last_is, run_all, run_none}
 use Rattle.csicodec_overwrite.proofs.line.Line.put_run.Goals as goal
 
@@ -12,9 +12,9 @@ returns c =
     let run = c.split_run.result.0.now in
     let rest = c.split_run.result.1.now in
     let goes = c.goes_behind.ensures c.if-not-goes_behind.false in
-    let none = run_none most pen l text c.requires in
-    let all = run_all most pen l text rest run pen l (subst (λ (t : List ℕ). PutsRun most pen l text t pen l) c.split_run.ensures.parts none)
-    c.split_run.ensures.untabbed goes.0 goes.1
+    let start = subst (λ (m : Line). PutsRun most pen l text text pen m) (ap (line l.left) goes.1) (run_none most pen l text c.requires) in
+    let all = run_all most pen l text rest run pen l.left (subst (λ (t : List ℕ). PutsRun most pen l text t pen (line l.left [])) c.split_run.ensures.parts start)
+    c.split_run.ensures.untabbed goes.0
     (omega (
       arith,
       c.split_run.ensures.room,
@@ -24,4 +24,5 @@ returns c =
     )) in
     let last = ap (last_of pen.last) c.in-Some.ensures.cases.0 ∙ last_is pen.last c.in-Some._front.now c.in-Some.last.now ∙ ap Some (sym c.from.ensures) in
     subst (λ (t : Option ℕ). PutsRun most pen l text rest (record pen { last = t }) (line c.push_run.new.self l.right)) last
-    (subst (λ (t : List Cell). PutsRun most pen l text rest (record pen { last = last_of pen.last run }) (line t l.right)) (sym c.in_ok-push_run.ensures) all)
+    (subst (λ (m : Line). PutsRun most pen l text rest (record pen { last = last_of pen.last run }) m)
+    (ap (λ (t : List Cell). line t []) (sym c.in_ok-push_run.ensures) ∙ ap (line c.push_run.new.self) (sym goes.1)) all)

@@ -206,9 +206,8 @@ def kinds_rt(groups, single):
         for command, column, function in group.commands():
             name, again = kind_function(group, function), " that sets it back" if column == "resets" else ""
             lines += ["", f"/// The number of a command{again}.", f"pub(crate) fn {name}({group.snake}: {group.name}) -> u32",
-                      f"    ensures {{ result ≡ {name} {group.snake} }}", "{", f"    match {group.snake} {{"]
-            lines += [f"        {group.name}::{variant} => {numbers[command, variant]}," for variant in group.rows]
-            lines += ["    }", "}"]
+                      f"    ensures {{ result ≡ {name} {group.snake} }}", "{",
+                      f"    {numbers[command, next(iter(group.rows))]} + {group.snake} as u32", "}"]
     lines += [line for name in single for line in ("", f"pub(crate) const {low(name).upper()}: u32 = {numbers[name, '']};")]
     return "\n".join(lines) + "\n"
 
@@ -217,14 +216,16 @@ def kinds_antt(groups, single):
     """specs/OscKinds.antt of csicodec_c."""
     numbers = {(command, variant): number for _, command, variant, _, number in numbered(groups, single)}
     declared = "use Rattle.csicodec_osc.specs.declared.command"
-    lines = ["-- The numbers of `enum csicodec_osc_kind`, of what lists its commands.", "use Rattle.std.specs.Prelude.{ℕ}"]
+    lines = ["-- The numbers of `enum csicodec_osc_kind`, of what lists its commands: 16 are kept for each list.", "use Rattle.std.specs.Prelude.{ℕ, ◌+◌}",
+             f"{declared}.{{{', '.join(f'{group.name}.{group.name}' for group in groups)}}}"]
+    lines += [f"{declared}.{group.name}.TheVariants as {group.snake}" for group in groups]
     for group in groups:
-        lines += [f"{declared}.{group.name}.{{{group.name}}}", f"{declared}.{group.name}.TheVariants as {group.snake}"]
-    for group in groups:
-        for command, _, function in group.commands():
-            name = kind_function(group, function)
-            lines += ["", f"abbrev pub {name} : {group.name} → ℕ"]
-            lines += [f"{name} {group.snake}.{variant} = {numbers[command, variant]}" for variant in group.rows]
+        (_, _, function), *others = group.commands()
+        name = kind_function(group, function)
+        lines += ["", f"abbrev pub {name} : {group.name} → ℕ"]
+        lines += [f"{name} {group.snake}.{variant} = {numbers[group.command, variant]}" for variant in group.rows]
+        for _, _, function in others:
+            lines += ["", f"abbrev pub {kind_function(group, function)} : {group.name} → ℕ", f"{kind_function(group, function)} command = {name} command + 16"]
     for name in single:
         lines += ["", f"abbrev pub {low(name)}_kind : ℕ", f"{low(name)}_kind = {numbers[name, '']}"]
     return "\n".join(lines) + "\n"

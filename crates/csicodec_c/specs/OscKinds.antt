@@ -1,19 +1,13 @@
 -- Written by tools/table from table/osc.toml: change that, and run python3 tools/table.
--- The numbers of `enum csicodec_osc_kind`, of what lists its commands.
-use Rattle.std.specs.Prelude.{ℕ}
-use Rattle.csicodec_osc.specs.declared.command.Title.{Title}
+-- The numbers of `enum csicodec_osc_kind`, of what lists its commands: 16 are kept for each list.
+use Rattle.std.specs.Prelude.{ℕ, ◌+◌}
+use Rattle.csicodec_osc.specs.declared.command.{Title.Title, ColorTable.ColorTable, Dynamic.Dynamic, Folder.Folder, Mark.Mark, EditorMark.EditorMark, Progress.Progress}
 use Rattle.csicodec_osc.specs.declared.command.Title.TheVariants as title
-use Rattle.csicodec_osc.specs.declared.command.ColorTable.{ColorTable}
 use Rattle.csicodec_osc.specs.declared.command.ColorTable.TheVariants as color_table
-use Rattle.csicodec_osc.specs.declared.command.Dynamic.{Dynamic}
 use Rattle.csicodec_osc.specs.declared.command.Dynamic.TheVariants as dynamic
-use Rattle.csicodec_osc.specs.declared.command.Folder.{Folder}
 use Rattle.csicodec_osc.specs.declared.command.Folder.TheVariants as folder
-use Rattle.csicodec_osc.specs.declared.command.Mark.{Mark}
 use Rattle.csicodec_osc.specs.declared.command.Mark.TheVariants as mark
-use Rattle.csicodec_osc.specs.declared.command.EditorMark.{EditorMark}
 use Rattle.csicodec_osc.specs.declared.command.EditorMark.TheVariants as editor_mark
-use Rattle.csicodec_osc.specs.declared.command.Progress.{Progress}
 use Rattle.csicodec_osc.specs.declared.command.Progress.TheVariants as progress
 
 abbrev pub title_kind : Title → ℕ
@@ -26,8 +20,7 @@ color_table_kind color_table.Indexed = 32
 color_table_kind color_table.Special = 33
 
 abbrev pub color_table_reset_kind : ColorTable → ℕ
-color_table_reset_kind color_table.Indexed = 48
-color_table_reset_kind color_table.Special = 49
+color_table_reset_kind command = color_table_kind command + 16
 
 abbrev pub dynamic_kind : Dynamic → ℕ
 dynamic_kind dynamic.Foreground = 64
@@ -42,16 +35,7 @@ dynamic_kind dynamic.TektronixCursor = 72
 dynamic_kind dynamic.HighlightForeground = 73
 
 abbrev pub dynamic_reset_kind : Dynamic → ℕ
-dynamic_reset_kind dynamic.Foreground = 80
-dynamic_reset_kind dynamic.Background = 81
-dynamic_reset_kind dynamic.Cursor = 82
-dynamic_reset_kind dynamic.PointerForeground = 83
-dynamic_reset_kind dynamic.PointerBackground = 84
-dynamic_reset_kind dynamic.TektronixForeground = 85
-dynamic_reset_kind dynamic.TektronixBackground = 86
-dynamic_reset_kind dynamic.HighlightBackground = 87
-dynamic_reset_kind dynamic.TektronixCursor = 88
-dynamic_reset_kind dynamic.HighlightForeground = 89
+dynamic_reset_kind command = dynamic_kind command + 16
 
 abbrev pub folder_kind : Folder → ℕ
 folder_kind folder.Address = 96

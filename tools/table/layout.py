@@ -46,12 +46,12 @@ def numbered(said, name, rows):
     return packed(said, name, "(i64, &str)", [f"({number}, {string(words)})" for number, words in rows])
 
 
-def packed(said, name, kind, parts):
-    """An array of what is short, in lines of some 110 columns."""
+def packed(said, name, kind, parts, macro="pieces"):
+    """An array of what is short, in lines of some 110 columns, made by a macro, which `rt fmt` leaves as it is."""
     rows = textwrap.wrap(" ".join(part.replace(" ", "\0") + "," for part in parts), 110, break_long_words=False, break_on_hyphens=False)
     rows = ["    " + row.replace("\0", " ") for row in rows]
     ahead = f"pub(crate) static {name}: [{kind}; {len(parts)}] = "
-    whole = [f"{ahead}[{parts[0]}];"] if len(parts) == 1 else [f"{ahead}pieces! {{", *rows, "};"]
+    whole = [f"{ahead}[{parts[0]}];"] if len(parts) == 1 else [f"{ahead}{macro}! {{", *rows, "};"]
     return "\n".join([*comment(said), *whole]) + "\n"
 
 

@@ -88,6 +88,11 @@ ALONE = """\
 #[derive(Clone, Copy)]
 pub(crate) struct StyleRow(pub u8, pub u8, pub u8);
 
+/// Rows, several on a line.
+macro_rules! rows {
+    ($(($($number:expr),*),)*) => { [$(StyleRow($($number),*)),*] };
+}
+
 """
 
 WORDS = """\
@@ -240,8 +245,8 @@ def attributes(table):
 
 
 def alone(table):
-    rows = [["    StyleRow(%d, %d, %d)," % (table.sets[place].struct() if place in table.sets else (0, 0, 0))] for place in table.places]
-    return ALONE + array(f"What each number from 0 to {table.places[-1]} sets, where no `:` is behind it.", "STYLES", "StyleRow", rows)
+    rows = ["(%d, %d, %d)" % (table.sets[place].struct() if place in table.sets else (0, 0, 0)) for place in table.places]
+    return ALONE + packed(f"What each number from 0 to {table.places[-1]} sets, where no `:` is behind it.", "STYLES", "StyleRow", rows, "rows")
 
 
 def arms(table):

@@ -35,16 +35,11 @@ depth_back depths.Full = refl
 depth_back depths.Palette = refl
 depth_back depths.Ansi = refl
 
-abbrev made : Mode → Bool → Bool → ℕ → Pause
-made m t s n = record { mode = m; titled = t; styled = s; held = n }
-
 abbrev pause_of : Cleaning → Pause
-pause_of c = made (mode_of c.mode) (c.titled == 1) (c.styled == 1) c.held
+pause_of c = record { mode = mode_of c.mode; titled = c.titled == 1; styled = c.styled == 1; held = c.held }
 
 pause_back : (p : Pause) → pause_of (numbers p) ≡ p
-pause_back p =
-    ap (λ (m : Mode). made m (bit p.titled == 1) (bit p.styled == 1) p.held) (mode_back p.mode) ∙ ap (λ (t : Bool). made p.mode t (bit p.styled == 1) p.held) (bit_back p.titled)
-    ∙ ap (λ (s : Bool). made p.mode p.titled s p.held) (bit_back p.styled)
+pause_back p = rw (mode_back p.mode, bit_back p.titled, bit_back p.styled) refl
 
 same_pause : (state : Cleaning) (p q : Pause) → state ≡ numbers p → state ≡ numbers q → p ≡ q
 same_pause state p q e f = sym (pause_back p) ∙ ap pause_of (sym e ∙ f) ∙ pause_back q
@@ -68,22 +63,9 @@ module _ {S : Type 0} (Gives : RuleOf S) (rule : Bool → S) (IsCall : Cleaning 
       let one : s.before ≡ p = same_pause state s.before p s.began is in
       let used : s.used ≡ answer.used = sym (ap (λ (a : Cleaned). a.used) s.tells) in
       let (q, ends, stepped) = calls_stepped f chunks answer.state s.after (drop answer.used bytes) others last left (ap (λ (a : Cleaned). a.state) s.tells) rest in
-      let from : Steps Gives (rule p.styled) p bytes s.text (rule s.after.styled) s.after (drop s.used bytes) =
-      subst (λ (x : Pause). Steps Gives (rule x.styled) x bytes s.text (rule s.after.styled) s.after (drop s.used bytes)) one s.steps in
-      let step : Steps Gives (rule p.styled) p bytes s.text (rule s.after.styled) s.after (drop answer.used bytes) =
-      subst (λ (i : ℕ). Steps Gives (rule p.styled) p bytes s.text (rule s.after.styled) s.after (drop i bytes)) used from in (
-        q,
-        ends,
-        (
-          s.after,
-          drop answer.used bytes,
-          s.text,
-          others,
-          step,
-          e ∙ ap (λ (t : List ℕ). t ++ others) (shows old new s.text answer.needed s.fills (ap (λ (a : Cleaned). a.needed) s.tells) room),
-          stepped,
-        ),
-      )
+      let step = subst (λ (i : ℕ). Steps Gives (rule p.styled) p bytes s.text (rule s.after.styled) s.after (drop i bytes)) used (rw (← one) s.steps) in
+      let shown : all ≡ s.text ++ others = e ∙ ap (λ (t : List ℕ). t ++ others) (shows old new s.text answer.needed s.fills (ap (λ (a : Cleaned). a.needed) s.tells) room) in
+      (q, ends, (s.after, drop answer.used bytes, s.text, others, step, shown, stepped))
 
 none_styled : (chunks : List (List ℕ)) (state : Cleaning) (again all : List ℕ) (last : Cleaning) (left : List ℕ) → AreCalls IsStripStep state again chunks all last left → last.styled ≡ state.styled
 none_styled [] state again all last left (none, same, e) = ap (λ (s : Cleaning). s.styled) same

@@ -119,11 +119,15 @@ def read_arms(actions):
             yield f"        {byte(action.row['final'])[1:]} => Some({rust(action)}({action.form}(params)?)),"
 
 
-def together(called, kinds, makes, actions, constructor):
-    """One proof for all these finals: what the rows before each read. `kinds` and `makes` are those of one number and of two."""
+def together(called, kinds, makes, actions, constructor=None):
+    """One proof for all these finals: what the rows before each read. `kinds` and `makes` are those of one number and of two. Without a constructor the
+    lemmas find by themselves what is made of numbers."""
     said = [f"{kinds[action.form == 'places']} {ord(action.row['final'])} {value(action)}" for action in actions]
     yield from folded(f"pub {called} :", said, "×").replace(": =\n   ", ":", 1).replace(": =", ":", 1).split("\n")
     yield f"unfolding as_{actions[0].subject.lower()}"
+    if constructor is None:
+        yield from (f"{called} = ({', '.join(makes[action.form == 'places'] + ' _' for action in actions)})", "")
+        return
     yield f"{called} = ("
     yield from (f"  {makes[action.form == 'places']} (λ {numbers(action)}. {constructor} ({value(action)} {numbers(action)}))," for action in actions)
     yield from (")", "")
@@ -230,7 +234,7 @@ def of_cursor(actions):
     counts = list(together("finals", ("Counts", "TwoCounts"), ("one-count", "two-counts"), one + two, "Cursor"))[:-1]
     yield "crates/csicodec_actions/proofs/Finals.antt", Part(counts, (lists, ""), None)
     kinds, makes = ("OneMove", "TwoMoves"), ("one_count", "two_counts")
-    moves = [*together("counted", kinds, makes, one, "Moves"), *together("twos", kinds, makes, two, "Moves")]
+    moves = [*together("counted", kinds, makes, one), *together("twos", kinds, makes, two)]
     margins = "pub margins : (a b j k : ℕ) → j ≡ or_default 1 a → k ≡ or_default most b → a < 2 ^ 32 → b < 2 ^ 32 → (list : List CsiParam) → IsTwo a b list"
     yield rows, Part(moves, ("    → as_cursor list final ≡ Some (Moves (make j k))", ""), margins)
 
@@ -239,7 +243,7 @@ def of_edit(actions):
     yield "crates/csicodec_c/src/row.rt", Part(list(front_arms(actions)), ("fn edited(number: u32, control: u8) -> Option<Edit>", "    match control {"), "        b'J' => Some(Edit::EraseInDisplay(EraseInDisplay::from_i64(i64::from(number))?)),")
     head = "OneEdit final make = (n k : ℕ) → k ≡ or_default 1 n → n < 2 ^ 32 → (list : List CsiParam) → IsOne n list → as_edit list final ≡ Some (Edits (make k))"
     behind = "pub erase_in_display : (n : ℕ) (v : EraseInDisplay) → Some v ≡ with_number erase_in_display_number erases_in_display (pos n) → (list : List CsiParam)"
-    yield "crates/csicodec_c/proofs/Rows.antt", Part(list(together("edits", ("OneEdit", ""), ("one_count", ""), actions, "Edits")), (head, ""), behind)
+    yield "crates/csicodec_c/proofs/Rows.antt", Part(list(together("edits", ("OneEdit", ""), ("one_count", ""), actions)), (head, ""), behind)
 
 
 # Where csicodec_overwrite says what acts within a line, and by which name.

@@ -44,32 +44,11 @@ pub counted : OneMove 65 cursor.Up × OneMove 66 cursor.Down × OneMove 67 curso
     × OneMove 97 cursor.CharacterPositionForward × OneMove 106 cursor.CharacterPositionBackward × OneMove 100 cursor.LinePositionAbsolute
     × OneMove 101 cursor.LinePositionForward × OneMove 107 cursor.LinePositionBackward
 unfolding as_cursor
-counted = (
-  one_count (λ n. Moves (cursor.Up n)),
-  one_count (λ n. Moves (cursor.Down n)),
-  one_count (λ n. Moves (cursor.Right n)),
-  one_count (λ n. Moves (cursor.Left n)),
-  one_count (λ n. Moves (cursor.NextLine n)),
-  one_count (λ n. Moves (cursor.PrecedingLine n)),
-  one_count (λ n. Moves (cursor.CharacterAbsolute n)),
-  one_count (λ n. Moves (cursor.CharacterPositionAbsolute n)),
-  one_count (λ n. Moves (cursor.ForwardTabulation n)),
-  one_count (λ n. Moves (cursor.BackwardTabulation n)),
-  one_count (λ n. Moves (cursor.LineTabulation n)),
-  one_count (λ n. Moves (cursor.CharacterPositionForward n)),
-  one_count (λ n. Moves (cursor.CharacterPositionBackward n)),
-  one_count (λ n. Moves (cursor.LinePositionAbsolute n)),
-  one_count (λ n. Moves (cursor.LinePositionForward n)),
-  one_count (λ n. Moves (cursor.LinePositionBackward n)),
-)
+counted = (one_count _, one_count _, one_count _, one_count _, one_count _, one_count _, one_count _, one_count _, one_count _, one_count _, one_count _, one_count _, one_count _, one_count _, one_count _, one_count _)
 
 pub twos : TwoMoves 72 cursor.Position × TwoMoves 82 cursor.ActivePositionReport × TwoMoves 102 cursor.CharacterAndLinePosition
 unfolding as_cursor
-twos = (
-  two_counts (λ a b. Moves (cursor.Position a b)),
-  two_counts (λ a b. Moves (cursor.ActivePositionReport a b)),
-  two_counts (λ a b. Moves (cursor.CharacterAndLinePosition a b)),
-)
+twos = (two_counts _, two_counts _, two_counts _)
 
 pub margins : (a b j k : ℕ) → j ≡ or_default 1 a → k ≡ or_default most b → a < 2 ^ 32 → b < 2 ^ 32 → (list : List CsiParam) → IsTwo a b list
     → as_cursor list 114 ≡ Some (Moves (cursor.SetTopAndBottomMargins j k))
@@ -88,16 +67,7 @@ OneEdit final make = (n k : ℕ) → k ≡ or_default 1 n → n < 2 ^ 32 → (li
 pub edits : OneEdit 64 edit.InsertCharacter × OneEdit 76 edit.InsertLine × OneEdit 80 edit.DeleteCharacter × OneEdit 77 edit.DeleteLine
     × OneEdit 88 edit.EraseCharacter × OneEdit 83 edit.ScrollUp × OneEdit 84 edit.ScrollDown × OneEdit 98 edit.Repeat
 unfolding as_edit
-edits = (
-  one_count (λ n. Edits (edit.InsertCharacter n)),
-  one_count (λ n. Edits (edit.InsertLine n)),
-  one_count (λ n. Edits (edit.DeleteCharacter n)),
-  one_count (λ n. Edits (edit.DeleteLine n)),
-  one_count (λ n. Edits (edit.EraseCharacter n)),
-  one_count (λ n. Edits (edit.ScrollUp n)),
-  one_count (λ n. Edits (edit.ScrollDown n)),
-  one_count (λ n. Edits (edit.Repeat n)),
-)
+edits = (one_count _, one_count _, one_count _, one_count _, one_count _, one_count _, one_count _, one_count _)
 
 pub erase_in_display : (n : ℕ) (v : EraseInDisplay) → Some v ≡ with_number erase_in_display_number erases_in_display (pos n) → (list : List CsiParam)
     → IsOne n list → as_edit list 74 ≡ Some (Edits (edit.EraseInDisplay v))

@@ -156,8 +156,9 @@ pub styles_next : (body text rest : List ℕ) (styles : List AttributeParts) (st
 styles_next body text rest styles style (inl (none, same)) k = rw (none, ← same) k
 styles_next body text rest styles style (inr h) k = styles_more body text rest styles (style ∷ []) h k
 
-pub two_styles : (body text behind : List ℕ) (a b : ℕ) (one two : AttributeParts) → ReadsOn body (Integer (pos a) ∷ P 59 ∷ []) text → IsFirstToken text (Integer (pos b)) behind
+pub two_styles : (body behind : List ℕ) (a b : ℕ) (one two : AttributeParts) → ReadsOn body (Integer (pos a) ∷ P 59 ∷ Integer (pos b) ∷ []) behind
     → SetsAlone a one → SetsAlone b two → AreStyles body (one ∷ two ∷ []) behind
-two_styles body text behind a b one two (mid, first, (next, mark, last)) second sets also =
-    let e : mid ≡ 59 ∷ text = mark.parts ∙ rw (mark.spelled, last) refl in
-    styles_more body text behind (one ∷ []) (two ∷ []) (subst (λ (t : List ℕ). AreStyles body (one ∷ []) t) e (alone_style body mid a one first sets)) (alone_style text behind b two second also)
+two_styles body behind a b one two (mid, first, (text, mark, (rest, second, last))) sets also =
+    let e : mid ≡ 59 ∷ text = mark.parts ∙ rw mark.spelled refl in
+    styles_more body text behind (one ∷ []) (two ∷ []) (subst (λ (t : List ℕ). AreStyles body (one ∷ []) t) e (alone_style body mid a one first sets))
+    (alone_style text behind b two (rw last at second) also)

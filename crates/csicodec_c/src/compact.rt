@@ -42,14 +42,8 @@ pub extern "C" fn csicodec_compact_semicolons(
     ensures { IsCompacted mode limit bytes.now out.old out.new result
         ⊎ IsRefused unfiltered (IsBadState mode limit) out.old out.new result }
 {
-    step(
-        alloc,
-        Compact::with_semicolons(alloc),
-        mode,
-        limit,
-        bytes,
-        out,
-    )
+    let rule = Compact::with_semicolons(alloc);
+    step(alloc, rule, mode, limit, bytes, out)
 }
 
 /// Puts a stream that is no longer in the place of one that is all there, where it fits: control sequences side by side may go into one.

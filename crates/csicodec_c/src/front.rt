@@ -25,11 +25,10 @@ fn lay_pair<'a>(
     ensures some { IfSome result (λ x. HasLaid body.now actions.old actions.new x.0 x.1.now) }
     ensures none { IfNone result (actions.new ≡ actions.old) }
 {
-    let text = behind_mark(b';', behind)?;
-    let (second, rest) = number_front(text)?;
+    let (second, rest) = number_front(behind_mark(b';', behind)?)?;
     match rest {
-        [b'm', ..] => lay_two_styles(body, first, text, second, rest, actions),
-        _ => lay_two(body, first, text, second, rest, actions),
+        [b'm', ..] => lay_two_styles(body, first, second, rest, actions),
+        _ => lay_two(body, first, second, rest, actions),
     }
 }
 

@@ -5,7 +5,6 @@ ghost use Rattle.csicodec_actions.specs.Actions.{Cursor as Moves, Edit as Edits}
 ghost use Rattle.csicodec_actions.specs.Table.Cursor.{as_cursor};
 ghost use Rattle.csicodec_actions.specs.Table.Edit.{as_edit};
 ghost use Rattle.csicodec_tokens.specs.declared.param.CsiParam.TheVariants.{Integer, P};
-ghost use Rattle.csicodec_tokens.specs.Private.Reading.{IsFirstToken};
 ghost use Rattle.csicodec_c.specs.Private.Short.{HasLaid, HasOne, IsOne, IsRow, IsTwo, ReadsOn};
 
 use crate::numbers::or_default;
@@ -128,13 +127,11 @@ pub(crate) fn lay_row<'a>(
 pub(crate) fn lay_two<'a>(
     body: &[u8],
     first: u32,
-    text: &[u8],
     second: u32,
     behind: &'a [u8],
     actions: &mut [Struct],
 ) -> Option<(usize, &'a [u8])>
-    requires first { ReadsOn body.now (Integer (pos first) ∷ P 59 ∷ []) text.now }
-    requires second { IsFirstToken text.now (Integer (pos second)) behind.now }
+    requires { ReadsOn body.now (Integer (pos first) ∷ P 59 ∷ Integer (pos second) ∷ []) behind.now }
     ensures some { IfSome result (λ x. HasLaid body.now actions.old actions.new x.0 x.1.now) }
     ensures none { IfNone result (actions.new ≡ actions.old) }
 {

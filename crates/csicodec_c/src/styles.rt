@@ -80,13 +80,11 @@ pub(crate) fn lay_styles<'a>(
 pub(crate) fn lay_two_styles<'a>(
     body: &[u8],
     first: u32,
-    text: &[u8],
     second: u32,
     behind: &'a [u8],
     actions: &mut [Struct],
 ) -> Option<(usize, &'a [u8])>
-    requires first { ReadsOn body.now (Integer (pos first) ∷ P 59 ∷ []) text.now }
-    requires second { IsFirstToken text.now (Integer (pos second)) behind.now }
+    requires { ReadsOn body.now (Integer (pos first) ∷ P 59 ∷ Integer (pos second) ∷ []) behind.now }
     ensures some { IfSome result (λ x. HasLaid body.now actions.old actions.new x.0 x.1.now) }
     ensures none { IfNone result (actions.new ≡ actions.old) }
 {

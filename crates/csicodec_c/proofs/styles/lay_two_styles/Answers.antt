@@ -10,6 +10,6 @@ returns-clause-some c =
     let behind = c.args.behind.now in
     let one = c.in_ok-style_alone in
     let two = c.in_ok-style_alone-2 in
-    let both = two_styles body c.args.text.now behind c.args.first c.args.second one.field-0 two.field-0 c.requires.first c.requires.second one.ensures two.ensures in
+    let both = two_styles body behind c.args.first c.args.second one.field-0 two.field-0 c.requires one.ensures two.ensures in
     styles_laid body _ c.args.actions.now c.put_styles.new.actions (one.field-0 ∷ two.field-0 ∷ []) 2
     (subst (AreStyles _ _) (byte_cut behind 109 c.in-109.len_at_least (omega arith)) both) refl c.put_styles.ensures

@@ -9,11 +9,13 @@ use Rattle.csicodec_events.specs.{declared.event.Events.Events, Events.BeginsCsi
 use Rattle.csicodec_events.proofs.Sequences.{at_once}
 use Rattle.csicodec_structs.specs.{declared.next.NextSequence.NextSequence, declared.structs.Param.Param, declared.structs.Struct.Struct, Next.IsDone as IsLaid}
 use Rattle.csicodec_structs.specs.{Next.IsRefused as IsUnlaid, Next.refusal}
-use Rattle.csicodec_c.specs.{declared.event.Evented.Evented, Filter.mode_number, Event.HasPut, Event.IsDone, Event.IsRefused, Event.IsWaiting}
-use Rattle.csicodec_c.specs.{Event.read_at_once, Event.stream}
+use Rattle.csicodec_c.specs.{declared.event.Evented.Evented, declared.input.Received.Received, Event.AnswersOutput, Event.HasPut, Event.read_at_once}
+use Rattle.csicodec_c.specs.{Event.stream, Filter.mode_number}
 use Rattle.csicodec_tokens.specs.declared.reader.ReadError.TheVariants as reading
 use Rattle.csicodec_spans.specs.declared.table.Mode.TheVariants as modes
 use Rattle.csicodec_events.specs.declared.event.Event.TheVariants as event
+use Rattle.csicodec_events.specs.declared.input.Dialect.TheVariants as dialects
+use Rattle.csicodec_events.specs.declared.input.InputEvent.TheVariants as input
 
 -- ---- what was laid
 
@@ -51,7 +53,7 @@ put_read read bytes list final a b p q front is s d =
 
 pub read_done : (number limit looked : ℕ) (bytes near : List ℕ) (m : Mode) (a b : List Struct) (p q : List Param) (front : NextSequence) (answer : Evented)
     → number ≡ mode_number m → looked ≡ 0 → BeginsCsi bytes
-    → near ≡ take limit bytes → IsLaid near a b p q front → answer ≡ read_at_once front → IsDone number limit looked bytes a b p q answer
+    → near ≡ take limit bytes → IsLaid near a b p q front → answer ≡ read_at_once front → AnswersOutput number limit looked bytes a b p q answer
 read_done number limit looked bytes near m a b p q front answer began none begins is laid e =
     let d = subst (λ (x : List ℕ). IsLaid x a b p q front) is laid in
     let f = d.front in
@@ -59,30 +61,33 @@ read_done number limit looked bytes near m a b p q front answer began none begin
     let n = length (take limit bytes) - length d.rest in
     let seq = whole limit bytes d.rest f.list f.final f.reads in
     let csi = at_once s bytes (take n bytes) (drop n bytes) f.list f.final none seq (sym (take-append-drop n bytes)) (short limit bytes d.rest) in
-    rw e (record {
-      before = m;
-      after = onward s modes.Text 0;
-      told = event.Csi f.final;
-      list = f.list;
-      text = take n bytes;
-      rest = drop n bytes;
-      began = began;
-      tells = (begins, csi);
-      parts = sym (take-append-drop n bytes);
-      ok = refl;
-      is = refl;
-      mode = refl;
-      looks = refl;
-      used = omega (arith, d.used, length-take limit bytes, length-take n bytes);
-      puts = (d.actions, f.are, record { actions = d.count; params = d.params; lays_actions = d.lays_actions; lays_params = d.lays_params });
-    })
+    let full : Received = record { status = 0; kind = 2; mode = 0; value = 0; looked = 0; used = front.used; actions = front.actions; params = front.params } in (
+      full,
+      e,
+      inl (record {
+        who = dialects.Output;
+        before = m;
+        after = onward s modes.Text 0;
+        sent = input.Output (event.Csi f.final);
+        list = f.list;
+        text = take n bytes;
+        rest = drop n bytes;
+        wrote = refl;
+        began = began;
+        sends = (event.Csi f.final, refl, (begins, csi));
+        parts = sym (take-append-drop n bytes);
+        ok = refl;
+        is = refl;
+        mode = refl;
+        value = refl;
+        looks = refl;
+        used = omega (arith, d.used, length-take limit bytes, length-take n bytes);
+        puts = (d.actions, f.are, record { actions = d.count; params = d.params; lays_actions = d.lays_actions; lays_params = d.lays_params });
+      }),
+    )
 
 -- ---- how it ends
 
-abbrev pub Ends : ℕ → ℕ → ℕ → List ℕ → List Struct → List Struct → List Param → List Param → Evented → Type 0
-Ends number limit looked bytes a b p q answer =
-    IsDone number limit looked bytes a b p q answer ⊎ (IsWaiting number limit looked bytes a b p q answer ⊎ IsRefused number limit looked bytes answer)
-
 pub same_room : (number limit looked : ℕ) (bytes : List ℕ) (m : Mode) (a c b : List Struct) (p r q : List Param) (answer : Evented) → number ≡ mode_number m → c ≡ a → r ≡ p
-    → Ends (mode_number m) limit looked bytes c b r q answer → Ends number limit looked bytes a b p q answer
+    → AnswersOutput (mode_number m) limit looked bytes c b r q answer → AnswersOutput number limit looked bytes a b p q answer
 same_room number limit looked bytes m a c b p r q answer began actions params h = rw (began, ← actions, ← params) h

@@ -1,40 +1,59 @@
--- What the call for the event at the front of a stream answers a C program.
-use Rattle.std.specs.Prelude.{ℕ, ◌≡◌, ◌⊎◌, ◌++◌, false, List, length}
+-- What the calls for the events of a stream answer a C program, of output and of what a terminal sends.
+use Rattle.std.specs.Prelude.{ℕ, ◌≡◌, ◌⊎◌, ◌++◌, false, List, [], length}
 use Rattle.csicodec_tokens.specs.declared.param.CsiParam.{CsiParam}
 use Rattle.csicodec_spans.specs.declared.table.Mode.{Mode}
 use Rattle.csicodec_actions.specs.Actions.{Action}
 use Rattle.csicodec_parser.specs.Segments.{Actions}
-use Rattle.csicodec_events.specs.{declared.event.Event.Event, declared.event.Events.Events, Events.IsMet, Events.IsTold, Events.Waits}
+use Rattle.csicodec_events.specs.{declared.event.Events.Events, declared.input.Dialect.Dialect, declared.input.InputEvent.InputEvent, Events.IsMet}
+use Rattle.csicodec_events.specs.{Input.Awaits, Input.IsSent, Input.IsSentBy, Input.paused}
 use Rattle.csicodec_structs.specs.{declared.next.NextSequence.NextSequence, declared.structs.Param.Param, declared.structs.Struct.Struct, Next.Lays}
 use Rattle.csicodec_structs.specs.{Status.status_number, declared.status.Status.Status}
-use Rattle.csicodec_c.specs.{declared.event.Evented.Evented, Filter.mode_number}
+use Rattle.csicodec_c.specs.{declared.event.Evented.Evented, declared.input.Received.Received, Filter.mode_number}
 use Rattle.csicodec_events.specs.declared.event.Event.TheVariants as event
+use Rattle.csicodec_events.specs.declared.input.Dialect.TheVariants as dialects
+use Rattle.csicodec_events.specs.declared.input.InputEvent.TheVariants as input
 use Rattle.csicodec_structs.specs.declared.status.Status.TheVariants as status
 
--- the numbers of `enum csicodec_event_kind`
-abbrev pub event_number : Event → ℕ
-event_number event.Text = 1
-event_number (event.Csi final) = 2
-event_number event.Esc = 3
-event_number event.Str = 4
-event_number event.Other = 5
-event_number (event.Control b) = 6
+-- the numbers of `enum csicodec_dialect`
+abbrev pub dialect_number : Dialect → ℕ
+dialect_number dialects.Output = 0
+dialect_number dialects.Input = 1
+dialect_number dialects.Utf8Input = 2
 
-abbrev pub refused : Status → Evented
-refused why = record { status = status_number why; kind = 0; mode = 0; looked = 0; used = 0; actions = 0; params = 0 }
+-- the numbers of `enum csicodec_event_kind`: those of output, and behind them those of input
+abbrev pub event_number : InputEvent → ℕ
+event_number (input.Output event.Text) = 1
+event_number (input.Output (event.Csi final)) = 2
+event_number (input.Output event.Esc) = 3
+event_number (input.Output event.Str) = 4
+event_number (input.Output event.Other) = 5
+event_number (input.Output (event.Control b)) = 6
+event_number (input.Ss3 b) = 7
+event_number (input.Linux b) = 8
+event_number (input.Rxvt n) = 9
+event_number input.Mouse = 10
+event_number (input.Alt b) = 11
+event_number input.Escape = 12
+
+-- the control within a control sequence, the character of a key, or its number
+abbrev pub value_of : InputEvent → ℕ
+value_of (input.Output (event.Control b)) = b
+value_of (input.Ss3 b) = b
+value_of (input.Linux b) = b
+value_of (input.Rxvt n) = n
+value_of (input.Alt b) = b
+value_of _ = 0
 
 abbrev pub stream : ℕ → Mode → ℕ → Events
 stream limit mode looked = record { limit = limit; mode = mode; looked = looked }
 
--- an answer without actions
-abbrev pub answered : Status → ℕ → Events → ℕ → Evented
-answered why kind after used =
-    record { status = status_number why; kind = kind; mode = mode_number after.mode; looked = after.looked; used = used; actions = 0; params = 0 }
+abbrev pub refused : Status → Received
+refused why = record { status = status_number why; kind = 0; mode = 0; value = 0; looked = 0; used = 0; actions = 0; params = 0 }
 
--- a sequence behind which nothing is open
-abbrev pub read_at_once : NextSequence → Evented
-read_at_once front =
-    record { status = status_number status.Done; kind = 2; mode = 0; looked = 0; used = front.used; actions = front.actions; params = front.params }
+-- an answer without actions
+abbrev pub answered : Status → ℕ → ℕ → Events → ℕ → Received
+answered why kind value after used =
+    record { status = status_number why; kind = kind; mode = mode_number after.mode; value = value; looked = after.looked; used = used; actions = 0; params = 0 }
 
 -- the actions of a list, and their tokens, as many as there is room for, and how many they are
 abbrev pub HasPut : List CsiParam → ℕ → List Struct → List Struct → List Param → List Param → ℕ → ℕ → Type 0
@@ -42,48 +61,93 @@ HasPut list final actions_old actions_new params_old params_new actions params =
     (all : List Action) × Actions list false final all × Lays actions_old actions_new params_old params_new (record { actions = actions; params = params }) all
 
 -- of a control sequence its actions, as many as there is room for; of any other event none
-abbrev pub Puts : Event → List CsiParam → List Struct → List Struct → List Param → List Param → ℕ → ℕ → Type 0
-Puts (event.Csi final) list actions_old actions_new params_old params_new actions params =
+abbrev pub Puts : InputEvent → List CsiParam → List Struct → List Struct → List Param → List Param → ℕ → ℕ → Type 0
+Puts (input.Output (event.Csi final)) list actions_old actions_new params_old params_new actions params =
     HasPut list final actions_old actions_new params_old params_new actions params
 Puts _ list actions_old actions_new params_old params_new actions params =
     (actions ≡ 0) × (params ≡ 0) × (actions_new ≡ actions_old) × (params_new ≡ params_old)
 
--- the event at the front, and how the stream goes on behind it
-pub record IsDone (number limit looked : ℕ) (bytes : List ℕ) (actions_old actions_new : List Struct) (params_old params_new : List Param) (answer : Evented) : Type 0 where
+-- the event at the front in this dialect, and how the stream goes on behind it
+pub record IsDone (dialect number limit looked : ℕ) (bytes : List ℕ) (actions_old actions_new : List Struct) (params_old params_new : List Param) (answer : Received) : Type 0 where
+  pub who : Dialect
   pub before : Mode
   pub after : Events
-  pub told : Event
+  pub sent : InputEvent
   pub list : List CsiParam
   pub text : List ℕ
   pub rest : List ℕ
+  pub wrote : dialect ≡ dialect_number who
   pub began : number ≡ mode_number before
-  pub tells : IsTold told (stream limit before looked) bytes text rest list after
+  pub sends : IsSent who (stream limit before looked) bytes sent text rest list after
   pub parts : bytes ≡ text ++ rest
   pub ok : answer.status ≡ status_number status.Done
-  pub is : answer.kind ≡ event_number told
+  pub is : answer.kind ≡ event_number sent
   pub mode : answer.mode ≡ mode_number after.mode
+  pub value : answer.value ≡ value_of sent
   pub looks : answer.looked ≡ after.looked
   pub used : answer.used ≡ length text
-  pub puts : Puts told list actions_old actions_new params_old params_new answer.actions answer.params
+  pub puts : Puts sent list actions_old actions_new params_old params_new answer.actions answer.params
 
 -- or nothing is told before more bytes come
-pub record IsWaiting (number limit looked : ℕ) (bytes : List ℕ) (actions_old actions_new : List Struct) (params_old params_new : List Param) (answer : Evented) : Type 0 where
+pub record IsWaiting (dialect number limit looked : ℕ) (bytes : List ℕ) (actions_old actions_new : List Struct) (params_old params_new : List Param) (answer : Received) : Type 0 where
+  pub who : Dialect
   pub before : Mode
   pub after : Events
+  pub wrote : dialect ≡ dialect_number who
   pub began : number ≡ mode_number before
-  pub waits : Waits (stream limit before looked) bytes after
-  pub truncated : answer.status ≡ status_number status.Truncated
-  pub mode : answer.mode ≡ mode_number after.mode
-  pub looks : answer.looked ≡ after.looked
-  pub none : answer.used ≡ 0
+  pub awaits : Awaits who (stream limit before looked) bytes after
+  pub tells : answer ≡ answered status.Truncated 0 0 after 0
   pub actions : actions_new ≡ actions_old
   pub params : params_new ≡ params_old
 
--- the state is none: an unknown mode, a limit of 0, or more looked at than stands there
-abbrev pub IsBadState : ℕ → ℕ → ℕ → List ℕ → Type 0
-IsBadState number limit looked bytes = (limit ≡ 0) ⊎ (((mode : Mode) → number ≡ mode_number mode → ⊥) ⊎ ((mode : Mode) → IsMet (stream limit mode looked) bytes → ⊥))
+-- the dialect or the state is none: an unknown number, a limit of 0, or more looked at than stands there
+abbrev pub IsBadState : ℕ → ℕ → ℕ → ℕ → List ℕ → Type 0
+IsBadState dialect number limit looked bytes =
+    ((who : Dialect) → dialect ≡ dialect_number who → ⊥) ⊎ ((limit ≡ 0) ⊎ (((mode : Mode) → number ≡ mode_number mode → ⊥)
+    ⊎ ((mode : Mode) → IsMet (stream limit mode looked) bytes → ⊥)))
 
 -- or it is refused
-abbrev pub IsRefused : ℕ → ℕ → ℕ → List ℕ → Evented → Type 0
-IsRefused number limit looked bytes answer =
-    (answer ≡ refused status.Memory) ⊎ ((answer ≡ refused status.BadState) × IsBadState number limit looked bytes)
+abbrev pub IsRefused : ℕ → ℕ → ℕ → ℕ → List ℕ → Received → Type 0
+IsRefused dialect number limit looked bytes answer =
+    (answer ≡ refused status.Memory) ⊎ ((answer ≡ refused status.BadState) × IsBadState dialect number limit looked bytes)
+
+-- one of these
+abbrev pub Answers : ℕ → ℕ → ℕ → ℕ → List ℕ → List Struct → List Struct → List Param → List Param → Received → Type 0
+Answers dialect number limit looked bytes actions_old actions_new params_old params_new answer =
+    IsDone dialect number limit looked bytes actions_old actions_new params_old params_new answer
+    ⊎ (IsWaiting dialect number limit looked bytes actions_old actions_new params_old params_new answer ⊎ IsRefused dialect number limit looked bytes answer)
+
+-- ---- output
+
+-- an answer without its value
+abbrev pub without_value : Received → Evented
+without_value r =
+    record { status = r.status; kind = r.kind; mode = r.mode; looked = r.looked; used = r.used; actions = r.actions; params = r.params }
+
+-- a sequence behind which nothing is open
+abbrev pub read_at_once : NextSequence → Evented
+read_at_once front =
+    record { status = status_number status.Done; kind = 2; mode = 0; looked = 0; used = front.used; actions = front.actions; params = front.params }
+
+-- what is answered of output, without its value, which is the control there
+abbrev pub AnswersOutput : ℕ → ℕ → ℕ → List ℕ → List Struct → List Struct → List Param → List Param → Evented → Type 0
+AnswersOutput number limit looked bytes actions_old actions_new params_old params_new answer =
+    (whole : Received) × (answer ≡ without_value whole)
+    × Answers (dialect_number dialects.Output) number limit looked bytes actions_old actions_new params_old params_new whole
+
+-- ---- where no more bytes come
+
+-- the event that waiting bytes are where no more came in time
+pub record IsPaused (bytes : List ℕ) (answer : Received) : Type 0 where
+  pub before : Events
+  pub after : Events
+  pub sent : InputEvent
+  pub text : List ℕ
+  pub rest : List ℕ
+  pub sends : IsSentBy (paused bytes) before bytes sent text rest [] after
+  pub tells : answer ≡ answered status.Done (event_number sent) (value_of sent) after (length text)
+
+-- or they are none, and go on waiting
+pub record IsStill (bytes : List ℕ) (answer : Received) : Type 0 where
+  pub none : (before after : Events) (sent : InputEvent) (text rest : List ℕ) → IsSentBy (paused bytes) before bytes sent text rest [] after → ⊥
+  pub tells : answer ≡ refused status.Truncated

@@ -3,7 +3,6 @@ pub mod Recognised
 pub mod Filter
 pub mod Span
 pub mod Event
-pub mod Input
 pub mod Strip
 pub mod Html
 pub mod Key

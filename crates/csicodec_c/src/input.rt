@@ -1,16 +1,17 @@
 //! The event at the front of what a terminal sends, where the caller keeps the state.
 ghost use Rattle.std.specs.Prelude.{◌≡◌, ◌⊎◌, ◌<◌, ◌↔◌, ℕ, List, Some, IfSome};
 ghost use Rattle.csicodec_tokens.specs.declared.param.CsiParam.{CsiParam};
+ghost use Rattle.csicodec_tokens.specs.Sequence.{Seq};
 ghost use Rattle.csicodec_events.specs.declared.input.Dialect.{Dialect};
 ghost use Rattle.csicodec_events.specs.declared.event.Events.{Events};
-ghost use Rattle.csicodec_events.specs.Events.{IsMet};
+ghost use Rattle.csicodec_events.specs.Events.{IsMet, without_controls};
 ghost use Rattle.csicodec_events.specs.Input.{IsSent};
 ghost use Rattle.csicodec_c.specs.Filter.{mode_number};
-ghost use Rattle.csicodec_c.specs.Input.{IsDone, IsPaused, IsRefused, IsStill, IsWaiting, Puts, answered, control_of, dialect_number, input_number, refused, value_of};
+ghost use Rattle.csicodec_c.specs.Event.{Answers, HasPut, IsPaused, IsStill, Puts, answered, dialect_number, event_number, refused, value_of};
 
-use crate::event::{event_number, put_event};
 use crate::filter::{mode_at, number_of};
-use csicodec_events::{Dialect, Event, Events, InputEvent};
+use crate::front::lay_front;
+use csicodec_events::{Dialect, Event, Events, InputEvent, append_read};
 use csicodec_structs::{Param, Status, Struct};
 use std::alloc::Global;
 
@@ -36,21 +37,6 @@ pub struct Received {
     pub params: usize,
 }
 
-fn refused(why: Status) -> Received
-    ensures { result ≡ refused why }
-{
-    Received {
-        status: why.number(),
-        kind: 0,
-        mode: 0,
-        value: 0,
-        looked: 0,
-        used: 0,
-        actions: 0,
-        params: 0,
-    }
-}
-
 /// An answer without actions: how the stream goes on behind so many bytes.
 fn answer(status: Status, kind: u32, value: u8, after: Events, used: usize) -> Received
     ensures { result ≡ answered status kind value after used }
@@ -67,6 +53,12 @@ fn answer(status: Status, kind: u32, value: u8, after: Events, used: usize) -> R
     }
 }
 
+pub(crate) fn refused(why: Status) -> Received
+    ensures { result ≡ refused why }
+{
+    answer(why, 0, 0, Events::new(1), 0)
+}
+
 /// The dialect of a number.
 fn dialect_at(number: u32) -> Option<Dialect>
     ensures { (dialect : Dialect) → (result ≡ Some dialect) ↔ (number ≡ dialect_number dialect) }
@@ -79,11 +71,16 @@ fn dialect_at(number: u32) -> Option<Dialect>
     }
 }
 
-fn input_number(sent: InputEvent) -> u32
-    ensures { result ≡ input_number sent }
+fn event_number(sent: InputEvent) -> u32
+    ensures { result ≡ event_number sent }
 {
     match sent {
-        InputEvent::Output(told) => event_number(told),
+        InputEvent::Output(Event::Text) => 1,
+        InputEvent::Output(Event::Csi(_)) => 2,
+        InputEvent::Output(Event::Esc) => 3,
+        InputEvent::Output(Event::Str) => 4,
+        InputEvent::Output(Event::Other) => 5,
+        InputEvent::Output(Event::Control(_)) => 6,
         InputEvent::Ss3(_) => 7,
         InputEvent::Linux(_) => 8,
         InputEvent::Rxvt(_) => 9,
@@ -93,31 +90,43 @@ fn input_number(sent: InputEvent) -> u32
     }
 }
 
-fn control_of(told: Event) -> u8
-    ensures { result ≡ control_of told }
-{
-    match told {
-        Event::Text | Event::Csi(_) | Event::Esc | Event::Str | Event::Other => 0,
-        Event::Control(byte) => byte,
-    }
-}
-
 fn value_of(sent: InputEvent) -> u8
     ensures { result ≡ value_of sent }
 {
     match sent {
-        InputEvent::Output(told) => control_of(told),
+        InputEvent::Output(Event::Control(byte)) => byte,
         InputEvent::Ss3(byte) | InputEvent::Linux(byte) | InputEvent::Alt(byte) => byte,
         InputEvent::Rxvt(number) => number,
-        InputEvent::Mouse | InputEvent::Escape => 0,
+        _ => 0,
     }
 }
 
-/// Puts the actions of a control sequence and their tokens, as many as there is room for: how many they are, unless memory ran out.
-/// What is none has none.
+/// How many actions and tokens the sequence has that the bytes are without the controls in them, and puts them, as many as there is
+/// room for; none where memory ran out.
+fn lay_read(
+    alloc: Global,
+    bytes: &[u8],
+    actions: &mut [Struct],
+    params: &mut [Param],
+) -> Option<(usize, usize)>
+    ensures { (list : List CsiParam) (final : ℕ) → Seq (without_controls bytes.now) list final
+        → IfSome result (λ n. HasPut list final actions.old actions.new params.old params.new n.0 n.1) }
+{
+    let mut read = Vec::new(alloc);
+    let Ok(()) = append_read(bytes, &mut read) else {
+        return None;
+    };
+    let front = lay_front(alloc, &read, actions, params);
+    if front.status == Status::Done.number() {
+        Some((front.actions, front.params))
+    } else {
+        None
+    }
+}
+
+/// The same of an event of these bytes: what is no control sequence has none.
 #[inline(always)]
-#[tactic(auto, using(csicodec_events::proofs::Forms::as_output))]
-fn put_sent(
+fn put_event(
     alloc: Global,
     sent: InputEvent,
     bytes: &[u8],
@@ -129,18 +138,14 @@ fn put_sent(
         → IfSome result (λ n. Puts sent list actions.old actions.new params.old params.new n.0 n.1) }
 {
     match sent {
-        InputEvent::Output(told) => put_event(alloc, told, bytes, actions, params),
-        InputEvent::Ss3(_)
-        | InputEvent::Linux(_)
-        | InputEvent::Rxvt(_)
-        | InputEvent::Mouse
-        | InputEvent::Alt(_)
-        | InputEvent::Escape => Some((0, 0)),
+        InputEvent::Output(Event::Csi(_)) => lay_read(alloc, bytes, actions, params),
+        _ => Some((0, 0)),
     }
 }
 
 /// The event at the front, and of a sequence its actions.
-fn step(
+#[inline(always)]
+pub(crate) fn step(
     alloc: Global,
     dialect: Dialect,
     events: Events,
@@ -150,9 +155,8 @@ fn step(
 ) -> Received
     requires limit { 0 < events.limit }
     requires met { IsMet events bytes.now }
-    ensures { IsDone (dialect_number dialect) (mode_number events.mode) events.limit events.looked bytes.now actions.old actions.new params.old params.new result
-        ⊎ (IsWaiting (dialect_number dialect) (mode_number events.mode) events.limit events.looked bytes.now actions.old actions.new params.old params.new result
-        ⊎ IsRefused (dialect_number dialect) (mode_number events.mode) events.limit events.looked bytes.now result) }
+    ensures { Answers (dialect_number dialect) (mode_number events.mode) events.limit events.looked
+        bytes.now actions.old actions.new params.old params.new result }
 {
     let mut events = events;
     let mut list = Vec::new(alloc);
@@ -163,12 +167,12 @@ fn step(
     };
     let answer = answer(
         Status::Done,
-        input_number(sent.event),
+        event_number(sent.event),
         value_of(sent.event),
         events,
         sent.bytes.len(),
     );
-    match put_sent(alloc, sent.event, sent.bytes, actions, params) {
+    match put_event(alloc, sent.event, sent.bytes, actions, params) {
         Some((count, tokens)) => Received {
             actions: count,
             params: tokens,
@@ -191,9 +195,7 @@ pub extern "C" fn csicodec_input(
     actions: &mut [Struct],
     params: &mut [Param],
 ) -> Received
-    ensures { IsDone dialect mode limit looked bytes.now actions.old actions.new params.old params.new result
-        ⊎ (IsWaiting dialect mode limit looked bytes.now actions.old actions.new params.old params.new result
-        ⊎ IsRefused dialect mode limit looked bytes.now result) }
+    ensures { Answers dialect mode limit looked bytes.now actions.old actions.new params.old params.new result }
 {
     let Some(dialect) = dialect_at(dialect) else {
         return refused(Status::BadState);
@@ -221,7 +223,7 @@ pub extern "C" fn csicodec_pause(bytes: &[u8]) -> Received
     match events.pause(bytes) {
         Some(sent) => answer(
             Status::Done,
-            input_number(sent.event),
+            event_number(sent.event),
             value_of(sent.event),
             events,
             sent.bytes.len(),

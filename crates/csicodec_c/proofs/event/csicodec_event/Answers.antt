@@ -1,4 +1,4 @@
-use Rattle.std.proofs.Common.{◌≡◌, refl, inl, sym, ◌∙◌}
+use Rattle.std.proofs.Common.{◌≡◌, refl, sym, ◌∙◌}
 use Rattle.csicodec_c.specs.Filter.{mode_number}
 use Rattle.csicodec_c.proofs.event.csicodec_event.Goals.{then-looked-eq0+then-begins_csi+else-front-number+else-front-number-2, else-looked-eq0}
 use Rattle.csicodec_c.proofs.Told.{laid, read_done, same_room, unlaid}
@@ -11,9 +11,9 @@ returns-then-front-number c =
     let done =
     laid c.near.result.now c.args.actions.now c.lay_front-front.new.actions c.args.params.now c.lay_front-front.new.params front
     c.lay_front-front.ensures (c.if-front-number.true ∙ c.number.ensures) in
-    inl (read_done c.args.mode c.args.limit c.args.looked c.args.bytes.now c.near.result.now c.in-Some.mode c.args.actions.now
+    read_done c.args.mode c.args.limit c.args.looked c.args.bytes.now c.near.result.now c.in-Some.mode c.args.actions.now
     c.lay_front-front.new.actions c.args.params.now c.lay_front-front.new.params front
-    c.sequence.result began c.if-looked-eq0.true (c.begins_csi.ensures.0 c.if-begins_csi.true) c.near.ensures done c.sequence.ensures)
+    c.sequence.result began c.if-looked-eq0.true (c.begins_csi.ensures.0 c.if-begins_csi.true) c.near.ensures done c.sequence.ensures
 
 pub returns : goal.returns
 returns c =
@@ -26,6 +26,6 @@ returns c =
           (w.actions-is ∙ same.0, w.params-is ∙ same.1)
       | else-looked-eq0 w ↦ (w.actions-is, w.params-is)
     ] in
-    same_room c.args.mode c.args.limit c.args.looked c.args.bytes.now c.in-Some.mode c.args.actions.now c.if-looked-eq0.actions c.step.new.actions
-    c.args.params.now c.if-looked-eq0.params c.step.new.params
-    c.step.result began room.0 room.1 c.step.ensures
+    same_room c.args.mode c.args.limit c.args.looked c.args.bytes.now c.in-Some.mode c.args.actions.now c.if-looked-eq0.actions c.step_output.new.actions
+    c.args.params.now c.if-looked-eq0.params c.step_output.new.params
+    c.step_output.result began room.0 room.1 c.step_output.ensures

@@ -1,7 +1,7 @@
 use Rattle.std.proofs.Common.{◌≡◌, ◌++◌, List, ℕ, ap, ◌∙◌}
 use Rattle.csicodec_events.specs.Events.{without_controls}
 use Rattle.csicodec_c.proofs.Told.{laid, put_read}
-use Rattle.csicodec_c.proofs.event.lay_read.Goals as goal
+use Rattle.csicodec_c.proofs.input.lay_read.Goals as goal
 
 pub returns-then-front-number : goal.returns-then-front-number
 returns-then-front-number c = λ list final s.

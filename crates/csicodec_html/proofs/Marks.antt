@@ -6,9 +6,9 @@ use Rattle.std.specs.{List.AllByRecursion, List.flat_map}
 use Rattle.csicodec_clean.specs.Shown.{IsShown, shown}
 use Rattle.csicodec_html.specs.Classes.{ahead, behind_slot, class_name, classes_of, has_true, names, rest_attribute, slot_text, style_attribute, true_colors}
 use Rattle.csicodec_html.specs.Page.{IsHarmless, IsSafe, Piece, Char, Begin, End, Open, Shut, escaped, piece_text, piece_texts}
-use Rattle.csicodec_html.specs.Private.Marked.{all_marked, classed_mark, classed_tag, marked, page_byte, page_bytes, styled_mark, styled_tag}
-use Rattle.csicodec_html.specs.{declared.look.Look.Look, declared.markup.Markup.Markup, declared.classes.Class.Class, declared.palette.Palette.Palette}
-use Rattle.csicodec_html.specs.{Look.css, Look.settled}
+use Rattle.csicodec_html.specs.{Private.Marked.all_marked, Private.Marked.classed, Private.Marked.marked, Private.Marked.page_byte, Private.Marked.page_bytes}
+use Rattle.csicodec_html.specs.{Private.Marked.styled, declared.look.Look.Look, declared.markup.Markup.Markup, declared.classes.Class.Class}
+use Rattle.csicodec_html.specs.{declared.palette.Palette.Palette, Look.css, Look.settled}
 use Rattle.csicodec_html.proofs.{Declarations.Fine, Declarations.css_fine, Declarations.name_fine, Declarations.true_fine, Addresses.IsVisible, Addresses.ascii}
 use Rattle.csicodec_html.proofs.{Addresses.below, Stood.differs, Stood.one, Tagged.begin_is}
 
@@ -63,7 +63,7 @@ of_classes : (slots : List (Option Class)) (l : Look) → page_bytes (names 3 fa
 of_classes slots l =
     rw (flat_map-append page_byte (names 3 false slots) (rest_attribute 3 l ++ 2 ∷ []), of_names false slots, flat_map-append page_byte (rest_attribute 3 l) (2 ∷ []), of_rest l) refl
 
-of_style : (p : Palette) (l : Look) → page_bytes (styled_mark p l) ≡ styled_tag p l
+of_style : (p : Palette) (l : Look) → page_bytes (styled (5 ∷ []) (6 ∷ []) p l) ≡ styled (codes "<span style=\"") (codes "\">") p l
 of_style p l = rw (flat_map-append page_byte (css p l) (6 ∷ []), all_fine (css p l) (css_fine p l)) refl
 
 begin : (m : Markup) (l : Look) → page_bytes (marked (Begin m l)) ≡ piece_text (Begin m l)
@@ -72,7 +72,8 @@ begin m l = by m.classes ∙ begin_is m l
     look : Look
     look = settled m.palette l
 
-    by : (b : Bool) → page_bytes (if b then classed_mark look else styled_mark m.palette look) ≡ (if b then classed_tag look else styled_tag m.palette look)
+    by : (b : Bool) → page_bytes (if b then classed 1 3 2 look else styled (5 ∷ []) (6 ∷ []) m.palette look)
+        ≡ (if b then classed 60 34 62 look else styled (codes "<span style=\"") (codes "\">") m.palette look)
     by true = ap (λ (t : List ℕ). codes "<span" ++ t) (of_classes (classes_of look) look)
     by false = of_style m.palette look
 

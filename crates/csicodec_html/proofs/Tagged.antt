@@ -4,16 +4,16 @@ use Rattle.std.proofs.lemmas.Grind.{flat_map-append}
 use Rattle.std.specs.{Prelude.codes, Prelude.if◌then◌else◌, Prelude.◌||◌, List.flat_map}
 use Rattle.csicodec_html.specs.{declared.look.Look.Look, declared.markup.Markup.Markup, Classes.classes_of, Classes.names, Classes.rest_attribute}
 use Rattle.csicodec_html.specs.{Classes.style_attribute, Look.css, Look.settled, Page.Begin, Page.Piece, Page.begins, Page.ends, Page.leads, Page.opens}
-use Rattle.csicodec_html.specs.{Page.piece_text, Page.shuts, Page.switch, Private.Marked.all_marked, Private.Marked.begin_tag, Private.Marked.classed_tag}
-use Rattle.csicodec_html.specs.{Private.Marked.link_mark, Private.Marked.styled_tag}
+use Rattle.csicodec_html.specs.{Page.piece_text, Page.shuts, Page.switch, Private.Marked.all_marked, Private.Marked.begin_tag, Private.Marked.classed}
+use Rattle.csicodec_html.specs.{Private.Marked.link_mark, Private.Marked.styled}
 
-pub begin_is : (m : Markup) (l : Look) → begin_tag m l ≡ piece_text (Begin m l)
+pub begin_is : (m : Markup) (l : Look) → begin_tag false m l ≡ piece_text (Begin m l)
 begin_is m l = by m.classes
   where
     look : Look
     look = settled m.palette l
 
-    by : (b : Bool) → (if b then classed_tag look else styled_tag m.palette look)
+    by : (b : Bool) → (if b then classed 60 34 62 look else styled (codes "<span style=\"") (codes "\">") m.palette look)
         ≡ codes "<span" ++ ((if b then names 34 false (classes_of look) ++ rest_attribute 34 look else style_attribute 34 (css m.palette look)) ++ 62 ∷ [])
     by true = ap (λ (t : List ℕ). codes "<span" ++ t) (sym (append_assoc (names 34 false (classes_of look)) (rest_attribute 34 look) (62 ∷ [])))
     by false = ap (λ (t : List ℕ). codes "<span style=\"" ++ t) (sym (append_assoc (css m.palette look) (34 ∷ []) (62 ∷ [])))

@@ -2,8 +2,7 @@
 ghost use Rattle.std.specs.Prelude.{◌≡◌, ◌++◌, OnOk};
 ghost use Rattle.csicodec_html.specs.Classes.{has_true, is_true, rest_attribute, true_color, true_colors};
 ghost use Rattle.csicodec_html.specs.Look.{is_exact, legible_look, settled, settled_color};
-ghost use Rattle.csicodec_html.specs.Page.{Begin};
-ghost use Rattle.csicodec_html.specs.Private.Marked.{classed_mark, marked, styled_mark};
+ghost use Rattle.csicodec_html.specs.Private.Marked.{begin_tag, classed, styled};
 
 use crate::classes::{Layer, append_classes};
 use crate::colors::{append_parts, append_property_of};
@@ -53,7 +52,7 @@ fn append_true_colors(look: Look, out: &mut Vec<u8>) -> Result<(), AllocError>
 }
 
 /// Appends the style of what no class says, if there is anything. `quote` stands for a quotation mark.
-pub(crate) fn append_rest(look: Look, quote: u8, out: &mut Vec<u8>) -> Result<(), AllocError>
+fn append_rest(look: Look, quote: u8, out: &mut Vec<u8>) -> Result<(), AllocError>
     ensures { OnOk result (out.new.items ≡ out.old.items ++ rest_attribute quote look) }
 {
     if !has_true(look) {
@@ -101,7 +100,7 @@ fn legible_look(look: Look) -> Look
 
 /// The look with colours that can be read beside each other: where one of them is the same on a light and on a dark page, both are,
 /// and text that would be too near to its ground has another one.
-pub(crate) fn settled(palette: &Palette, look: Look) -> Look
+fn settled(palette: &Palette, look: Look) -> Look
     ensures { result ≡ settled palette.now look }
 {
     if palette.first.is_none() && (is_exact(look.foreground) || is_exact(look.background)) {
@@ -114,33 +113,56 @@ pub(crate) fn settled(palette: &Palette, look: Look) -> Look
     look
 }
 
-/// Appends the tag that begins a span of this look, which has classes, and a style for colours by their parts.
-fn append_classed(look: Look, out: &mut Vec<u8>) -> Result<(), AllocError>
-    ensures { OnOk result (out.new.items ≡ out.old.items ++ classed_mark look) }
+/// Appends the tag that begins a span of this look, which has classes, and a style for colours by their parts. `less`, `quote` and `more`
+/// stand for its markup.
+fn append_classed(
+    less: u8,
+    quote: u8,
+    more: u8,
+    look: Look,
+    out: &mut Vec<u8>,
+) -> Result<(), AllocError>
+    ensures { OnOk result (out.new.items ≡ out.old.items ++ classed less quote more look) }
 {
-    out.extend_from_slice(b"\x01span")?;
-    append_classes(&look.classes(), 3, out)?;
-    append_rest(look, 3, out)?;
-    Ok(out.push(2)?)
+    out.push(less)?;
+    out.extend_from_slice(b"span")?;
+    append_classes(&look.classes(), quote, out)?;
+    append_rest(look, quote, out)?;
+    Ok(out.push(more)?)
 }
 
-/// The same with a style for all.
-fn append_styled(palette: &Palette, look: Look, out: &mut Vec<u8>) -> Result<(), AllocError>
-    ensures { OnOk result (out.new.items ≡ out.old.items ++ styled_mark palette.now look) }
+/// The same with a style for all, between these bytes.
+fn append_styled(
+    front: &[u8],
+    back: &[u8],
+    palette: &Palette,
+    look: Look,
+    out: &mut Vec<u8>,
+) -> Result<(), AllocError>
+    ensures { OnOk result (out.new.items ≡ out.old.items ++ styled front.now back.now palette.now look) }
 {
-    out.push(5)?;
+    out.extend_from_slice(front)?;
     append_css(palette, look, out)?;
-    Ok(out.push(6)?)
+    out.extend_from_slice(back)?;
+    Ok(())
 }
 
-/// Appends the tag that begins a span that looks so, with colours that can be read beside each other.
-pub(crate) fn append_span(markup: &Markup, look: Look, out: &mut Vec<u8>) -> Result<(), AllocError>
-    ensures { OnOk result (out.new.items ≡ out.old.items ++ marked (Begin markup.now look)) }
+/// Appends the tag that begins a span that looks so, with colours that can be read beside each other. Where it is `marked`, controls stand
+/// in place of its markup.
+#[inline(never)]
+pub(crate) fn append_span(
+    marked: bool,
+    markup: &Markup,
+    look: Look,
+    out: &mut Vec<u8>,
+) -> Result<(), AllocError>
+    ensures { OnOk result (out.new.items ≡ out.old.items ++ begin_tag marked markup.now look) }
 {
     let shown = settled(&markup.palette, look);
-    if markup.classes {
-        append_classed(shown, out)
-    } else {
-        append_styled(&markup.palette, shown, out)
+    match (markup.classes, marked) {
+        (true, true) => append_classed(1, 3, 2, shown, out),
+        (true, false) => append_classed(b'<', b'"', b'>', shown, out),
+        (false, true) => append_styled(b"\x05", b"\x06", &markup.palette, shown, out),
+        (false, false) => append_styled(b"<span style=\"", b"\">", &markup.palette, shown, out),
     }
 }

@@ -15,7 +15,7 @@ pub(crate) fn append_begin(markup: &Markup, look: Look, out: &mut Vec<u8>) -> Re
     if look.is_plain() {
         return Ok(());
     }
-    append_span(markup, look, out)
+    append_span(true, markup, look, out)
 }
 
 /// Appends the tag that ends a span of this look, if that has one.

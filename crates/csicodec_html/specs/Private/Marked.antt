@@ -9,15 +9,21 @@ use Rattle.csicodec_html.specs.Page.{Piece, Char, Begin, End, Open, Setting, Shu
 use Rattle.csicodec_html.specs.{declared.look.Look.Look, declared.markup.Markup.Markup, declared.palette.Palette.Palette, Classes.classes_of, Classes.names}
 use Rattle.csicodec_html.specs.{Classes.rest_attribute, Look.behind_all, Look.css, Look.settled, Look.sets_any}
 
--- the tag that begins a span, with classes and with a style, of a look as it can be read
-abbrev pub classed_mark : Look → List ℕ
-classed_mark l = 1 ∷ (codes "span" ++ (names 3 false (classes_of l) ++ (rest_attribute 3 l ++ 2 ∷ [])))
+-- the tag that begins a span with classes, by what stands for its markup
+abbrev pub classed : ℕ → ℕ → ℕ → Look → List ℕ
+classed less quote more l = less ∷ (codes "span" ++ (names quote false (classes_of l) ++ (rest_attribute quote l ++ more ∷ [])))
 
-abbrev pub styled_mark : Palette → Look → List ℕ
-styled_mark p l = 5 ∷ (css p l ++ 6 ∷ [])
+-- and with a style
+abbrev pub styled : List ℕ → List ℕ → Palette → Look → List ℕ
+styled front back p l = front ++ (css p l ++ back)
 
-abbrev pub begin_mark : Markup → Look → List ℕ
-begin_mark m l = if m.classes then classed_mark l else styled_mark m.palette l
+-- of a look as it can be read, marked or as it stands on the page
+abbrev pub begin_tag : Bool → Markup → Look → List ℕ
+begin_tag mark m l =
+    if m.classes
+    then (if mark then classed 1 3 2 (settled m.palette l) else classed 60 34 62 (settled m.palette l))
+    else if mark then styled (5 ∷ []) (6 ∷ []) m.palette (settled m.palette l)
+    else styled (codes "<span style=\"") (codes "\">") m.palette (settled m.palette l)
 
 -- the tag of a link, up to its address
 abbrev pub link_mark : List ℕ
@@ -25,25 +31,13 @@ link_mark = 1 ∷ (codes "a rel=" ++ (3 ∷ (relation ++ (3 ∷ (codes " href=" 
 
 abbrev pub marked : Piece → List ℕ
 marked (Char c) = encode_utf8 c
-marked (Begin m l) = begin_mark m (settled m.palette l)
+marked (Begin m l) = begin_tag true m l
 marked End = 4 ∷ []
 marked (Open url) = link_mark ++ (url ++ 3 ∷ 2 ∷ [])
 marked Shut = 1 ∷ (codes "/a" ++ 2 ∷ [])
 
 abbrev pub all_marked : List Piece → List ℕ
 all_marked pieces = flat_map marked pieces
-
--- the same as it stands on the page
-abbrev pub classed_tag : Look → List ℕ
-classed_tag l = codes "<span" ++ (names 34 false (classes_of l) ++ (rest_attribute 34 l ++ 62 ∷ []))
-
-abbrev pub styled_tag : Palette → Look → List ℕ
-styled_tag p l = codes "<span style=\"" ++ (css p l ++ codes "\">")
-
-abbrev pub begin_tag : Markup → Look → List ℕ
-begin_tag m l =
-    if m.classes then classed_tag (settled m.palette l)
-    else styled_tag m.palette (settled m.palette l)
 
 -- a byte on the page
 abbrev pub page_byte : ℕ → List ℕ

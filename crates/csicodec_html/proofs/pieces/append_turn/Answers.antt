@@ -14,7 +14,7 @@ returns c =
     let m = c.args.markup.now in
     let mid = c.append_end.new.out.items in
     let plain : is_plain c.args.new ≡ false = sym c.is_plain.ensures ∙ c.if-is_plain.false in
-    let begun : piece_texts (begins m c.args.new) ≡ begin_tag m c.args.new = rw plain (append-nil _ ∙ sym (begin_is m c.args.new)) in
+    let begun : piece_texts (begins m c.args.new) ≡ begin_tag false m c.args.new = rw plain (append-nil _ ∙ sym (begin_is m c.args.new)) in
     on_ok_weaker c.append_span.result
     (λ e. turned piece_text m c.args.old c.args.new c.args.out.now.items mid c.append_span.new.out.items c.in_ok-append_end.ensures (e ∙ ap (λ (t : List ℕ). mid ++ t) (sym begun)))
     c.append_span.ensures

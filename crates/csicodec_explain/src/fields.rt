@@ -13,12 +13,32 @@ use crate::json::append_plain;
 use memchr::memchr;
 use std::alloc::{AllocError, Global};
 
+/// What closes something.
+#[derive(Clone, Copy)]
+enum Closer {
+    Nothing,
+    Brace,
+    Bracket,
+    Both,
+}
+
+impl Closer {
+    fn append_to(self, out: &mut Vec<u8>) -> Result<(), AllocError> {
+        match self {
+            Closer::Nothing => Ok(()),
+            Closer::Brace => Ok(out.push(b'}')?),
+            Closer::Bracket => Ok(out.push(b']')?),
+            Closer::Both => out.extend_from_slice(b"]}"),
+        }
+    }
+}
+
 /// A `Debug` text that is written as JSON, word by word.
 #[derive(Drop)]
 pub struct JsonFields {
     out: Vec<u8>,
     /// What closes all that is open, the innermost last.
-    closers: Vec<&'static str>,
+    closers: Vec<Closer>,
     /// Whether the name of the next field is left out.
     bare: bool,
 }
@@ -137,11 +157,11 @@ impl JsonFields {
         self.out.push(b'"')?;
         if let Some(items) = rest.strip_prefix(b"(".as_slice()) {
             self.out.extend_from_slice(b",\"value\":")?;
-            self.open(has_comma(items), b'[', "]")?;
+            self.open(has_comma(items), b'[', Closer::Bracket)?;
             return self.write_all(items);
         }
         if let Some(members) = rest.strip_prefix(b" { ".as_slice()) {
-            self.open(true, b',', "")?;
+            self.open(true, b',', Closer::Nothing)?;
             self.write_all(members)?;
         }
         Ok(())
@@ -160,11 +180,14 @@ impl JsonFields {
     }
 
     /// Opens a list or an object, and remembers what closes it; if it isn't wanted, neither is written.
-    fn open(&mut self, wanted: bool, opener: u8, closer: &'static str) -> Result<(), AllocError> {
+    fn open(&mut self, wanted: bool, opener: u8, closer: Closer) -> Result<(), AllocError> {
         if wanted {
             self.out.push(opener)?;
         }
-        Ok(self.closers.push(if wanted { closer } else { "" })?)
+        Ok(
+            self.closers
+                .push(if wanted { closer } else { Closer::Nothing })?,
+        )
     }
 
     /// A word, the byte that ends it, and what is behind that.
@@ -173,9 +196,9 @@ impl JsonFields {
             b'(' => self.open_tuple(word, has_comma(behind)),
             b'{' => {
                 self.bare = !has_comma(behind);
-                self.open(!self.bare, b'{', "}")
+                self.open(!self.bare, b'{', Closer::Brace)
             }
-            b'[' => self.open(true, b'[', "]"),
+            b'[' => self.open(true, b'[', Closer::Bracket),
             b':' if self.bare => {
                 self.bare = false;
                 Ok(())
@@ -186,8 +209,8 @@ impl JsonFields {
             }
             _ => {
                 append_word(&mut self.out, word)?;
-                let closer = self.closers.pop().unwrap_or("");
-                self.out.extend_from_slice(closer.as_bytes())
+                let closer = self.closers.pop().unwrap_or(Closer::Nothing);
+                closer.append_to(&mut self.out)
             }
         }
     }
@@ -195,15 +218,15 @@ impl JsonFields {
     /// A variant with values: an object of its name, unless it is `Some`.
     fn open_tuple(&mut self, word: &[u8], several: bool) -> Result<(), AllocError> {
         if word == b"Some".as_slice() {
-            return self.open(false, b'(', "");
+            return self.open(false, b'(', Closer::Nothing);
         }
         self.out.push(b'{')?;
         append_word(&mut self.out, word)?;
         self.out.push(b':')?;
         if several {
-            self.open(true, b'[', "]}")
+            self.open(true, b'[', Closer::Both)
         } else {
-            Ok(self.closers.push("}")?)
+            Ok(self.closers.push(Closer::Brace)?)
         }
     }
 }

@@ -10,7 +10,8 @@ fn said_of(action: u8, key: &[u8]) -> Option<&'static str> {
     for row in &GRAPHICS {
         if let Some((of, known)) = row.as_bytes().split_first() {
             let is_of = *of == b'-' || *of == action;
-            if is_of && matches!(known.strip_prefix(key), Some([b'|', ..])) {
+            let is_as_long = known.get(key.len()).copied() == Some(b'|');
+            if is_of && is_as_long && known.starts_with(key) {
                 return Some(row.split_once('|')?.1);
             }
         }

@@ -27,7 +27,8 @@ impl fmt::Display for Escape {
 /// The words of these bytes, where the table has them. In each row a tab stands behind the bytes.
 fn find(table: &'static [&'static str], bytes: &[u8]) -> Option<&'static str> {
     for row in table {
-        if matches!(row.as_bytes().strip_prefix(bytes), Some([b'\t', ..])) {
+        let is_as_long = row.as_bytes().get(bytes.len()).copied() == Some(b'\t');
+        if is_as_long && row.as_bytes().starts_with(bytes) {
             return Some(row.split_once('\t')?.1);
         }
     }

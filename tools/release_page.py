@@ -20,7 +20,7 @@ from release_build import TOP, Stop, version  # noqa: E402
 sys.path.insert(0, f"{TOP}/tools/table")
 from examples import all_examples  # noqa: E402
 
-MOST = 710_000
+MOST = 700_000
 
 
 def read(path):

@@ -1,11 +1,11 @@
 -- What holds of all that the rows over fields give: said for each row, and proved of any list.
-use Rattle.std.proofs.Common.{◌≡◌, ℕ, List, [], ◌∷◌, ◌++◌, Option, None, Some, refl, sym, ap, ◌∙◌, inl, inr, subst}
-use Rattle.std.proofs.{lemmas.Bool.cases_Bool, lemmas.Bool.eqb-true, lemmas.Bool.ne_eqb, lemmas.Option.same_Some, lemmas.Option.option_and_then_some}
+use Rattle.std.proofs.{Common.◌≡◌, Common.ℕ, Common.List, Common.[], Common.◌∷◌, Common.◌++◌, Common.Option, Common.None, Common.Some, Common.refl, Common.sym}
+use Rattle.std.proofs.{Common.ap, Common.◌∙◌, Common.subst, lemmas.Bool.eqb-true, lemmas.Option.same_Some, lemmas.Option.option_and_then_some}
 use Rattle.std.specs.{Prelude.ℤ, Prelude.◌==◌, Prelude.if◌then◌else◌, Prelude.option_and_then, List.AllByRecursion, Option.option_or}
 use Rattle.csicodec_tokens.specs.{declared.param.CsiParam.CsiParam, declared.param.CsiParam.TheVariants.Integer, declared.param.CsiParam.TheVariants.P}
 use Rattle.csicodec_tokens.specs.{Fields.fields_of, Fields.with_field}
 use Rattle.csicodec_actions.specs.FieldRows.{Slot, This, Empty, End, Maybe, There, Must, Or, Rest, Makes, first, behind, numbers, value_or, have_shape, made, FieldRow, gives, given, Over, ahead_of_byte, behind_byte, fields_over, read_over, read_fields}
-use Rattle.csicodec_actions.specs.{Actions.Action, Kinds.Kind, Kinds.Any, Kinds.Value, Kinds.read}
+use Rattle.csicodec_actions.specs.{Actions.Action, Kinds.Kind, Kinds.Any, Kinds.Value, Kinds.read, Rows.first_of}
 use Rattle.csicodec_actions.proofs.{Found.guarded, Found.map-some, Values.read_any}
 
 -- ---- several tables as one
@@ -14,25 +14,12 @@ pub option_or-assoc : {R : Type 0} (a b c : Option R) → option_or (option_or a
 option_or-assoc None b c = refl
 option_or-assoc (Some x) b c = refl
 
-pub given-append : {R : Type 0} (xs ys : List (FieldRow R)) (fs : List (Option ℤ)) → given (xs ++ ys) fs ≡ option_or (given xs fs) (given ys fs)
-given-append [] ys fs = refl
-given-append (r ∷ rows) ys fs = ap (option_or (gives r fs)) (given-append rows ys fs) ∙ sym (option_or-assoc (gives r fs) (given rows fs) (given ys fs))
+pub first-append : {A R : Type 0} (give : A → Option R) (xs ys : List A) → first_of give (xs ++ ys) ≡ option_or (first_of give xs) (first_of give ys)
+first-append give [] ys = refl
+first-append give (x ∷ xs) ys = ap (option_or (give x)) (first-append give xs ys) ∙ sym (option_or-assoc (give x) (first_of give xs) (first_of give ys))
 
 pub fields-append : {R : Type 0} (xs ys : List (Over R)) (list : List CsiParam) (final : ℕ) → read_fields (xs ++ ys) list final ≡ option_or (read_fields xs list final) (read_fields ys list final)
-fields-append [] ys list final = refl
-fields-append (o ∷ others) ys list final =
-    ap (option_or (if final == o.final then read_over o list else None)) (fields-append others ys list final)
-    ∙ sym (option_or-assoc (if final == o.final then read_over o list else None) (read_fields others list final) (read_fields ys list final))
-
--- ---- which final has no row
-
-abbrev pub HasNone : {R : Type 0} → List (Over R) → ℕ → Type 0
-HasNone [] final = Unit {0}
-HasNone (o ∷ others) final = (final ≡ o.final → ⊥) × HasNone others final
-
-pub no-row : {R : Type 0} (entries : List (Over R)) (list : List CsiParam) (final : ℕ) → HasNone entries final → read_fields entries list final ≡ None
-no-row [] list final none = refl
-no-row (o ∷ others) list final none = rw (ne_eqb final o.final none.0) (no-row others list final none.1)
+fields-append {R} xs ys list final = first-append (λ (o : Over R). if final == o.final then read_over o list else None) xs ys
 
 -- ---- the row that gave an action
 
@@ -46,13 +33,11 @@ pub record RowOf {R : Type 0} (Q : R → Type 0) (give : R → Option Action) (a
   pub gave : give row ≡ Some a
 
 -- what all give is what the first of them gives that gives something
-pub row-of : {R : Type 0} (Q : R → Type 0) (give : R → Option Action) (all : List R → Option Action) → all [] ≡ None →
-    ((r : R) (rows : List R) → all (r ∷ rows) ≡ option_or (give r) (all rows))
-    → (rows : List R) (a : Action) → AllByRecursion Q rows → all rows ≡ Some a → RowOf Q give a
-row-of Q give all none first [] a hold e = cc
-row-of Q give all none first (r ∷ rows) a hold e = go (give r) refl (sym (first r rows) ∙ e) (row-of Q give all none first rows a hold.1)
+pub row-of : {R : Type 0} (Q : R → Type 0) (give : R → Option Action) (rows : List R) (a : Action) → AllByRecursion Q rows → first_of give rows ≡ Some a → RowOf Q give a
+row-of Q give [] a hold e = cc
+row-of Q give (r ∷ rows) a hold e = go (give r) refl e (row-of Q give rows a hold.1)
   where
-    go : (o : Option Action) → give r ≡ o → option_or o (all rows) ≡ Some a → (all rows ≡ Some a → RowOf Q give a) → RowOf Q give a
+    go : (o : Option Action) → give r ≡ o → option_or o (first_of give rows) ≡ Some a → (first_of give rows ≡ Some a → RowOf Q give a) → RowOf Q give a
     go (Some x) gave e later = record { row = r; holds = hold.0; gave = gave ∙ e }
     go None gave e later = later e
 
@@ -68,23 +53,16 @@ over-row : (Q : Over Action → FieldRow Action → Type 0) (o : Over Action) (l
     → OverOf Q list final a
 over-row Q o list final a all here e =
     option_and_then_some (given o.rows) (fields_over o list) a e
-    (λ fs are is. record { entry = o; here = here; fields = fs; are = are; found = row-of (Q o) _ (λ rows. given rows fs) refl (λ r rows. refl) o.rows a all is })
+    (λ fs are is. record { entry = o; here = here; fields = fs; are = are; found = row-of (Q o) _ o.rows a all is })
 
 pub over-in : (Q : Over Action → FieldRow Action → Type 0) (entries : List (Over Action))
     (list : List CsiParam) (final : ℕ) (a : Action) → AllFieldRows Q entries →
     read_fields entries list final ≡ Some a
     → OverOf Q list final a
-over-in Q [] list final a all e = cc
-over-in Q (o ∷ others) list final a all e = elim (cases_Bool (final == o.final)) [
-  | inl here ↦ go (read_over o list) refl (rw here at e) (eqb-true final o.final here) (λ next. over-in Q others list final a all.1 next)
-  | inr later ↦ over-in Q others list final a all.1 (rw later at e)
-]
-  where
-    go : (r : Option Action) → read_over o list ≡ r →
-        option_or r (read_fields others list final) ≡ Some a → final ≡ o.final →
-        (read_fields others list final ≡ Some a → OverOf Q list final a) → OverOf Q list final a
-    go (Some x) gave e here later = over-row Q o list final a all.0 here (gave ∙ e)
-    go None gave e here later = later e
+over-in Q entries list final a all e =
+    let o = row-of (λ (o : Over Action). AllByRecursion (Q o) o.rows) (λ o. if final == o.final then read_over o list else None) entries a all e in
+    let g = guarded (final == o.row.final) _ a o.gave in
+    over-row Q o.row list final a o.holds (eqb-true final o.row.final g.0) g.1
 
 -- ---- what the rows make
 

@@ -8,15 +8,10 @@ use Rattle.csicodec_tokens.specs.{Sequence.IsSpellable, Sequence.Spellable}
 use Rattle.csicodec_actions.specs.Rows.{Slot, Byte, Number, One, Makes, AtEnd, ended, has_shape, made, gives, Row, given, Before, rows_before, read_by}
 use Rattle.csicodec_actions.specs.{Actions.Action, FieldRows.read_fields, Kinds.Kind, Kinds.Value, Kinds.read, Table.XtSmGraphics.graphics_fields}
 use Rattle.csicodec_actions.specs.{Table.Window.window_fields, Table.all_subjects, Table.table, Table.field_table, Table.whole}
-use Rattle.csicodec_actions.proofs.AllFieldRows.{FieldRowsKeep, RowOf, fields-append, fields-keep, option_or-assoc, row-of}
+use Rattle.csicodec_actions.proofs.AllFieldRows.{FieldRowsKeep, RowOf, fields-append, fields-keep, first-append, option_or-assoc, row-of}
 use Rattle.csicodec_actions.proofs.Found.{guarded, one-of}
 
 -- ---- several tables as one
-
-pub given-append : {R : Type 0} (xs ys : List (Row R)) (list : List CsiParam) → given (xs ++ ys) list ≡ option_or (given xs list) (given ys list)
-given-append [] ys list = refl
-given-append (r ∷ rows) ys list =
-    ap (option_or (gives r list)) (given-append rows ys list) ∙ sym (option_or-assoc (gives r list) (given rows list) (given ys list))
 
 before-append : {R : Type 0} (xs ys : List (Before R)) (final : ℕ) → rows_before (xs ++ ys) final ≡ rows_before xs final ++ rows_before ys final
 before-append [] ys final = refl
@@ -26,7 +21,7 @@ before-append (b ∷ others) ys final =
     (rows_before ys final))
 
 read-append : {R : Type 0} (xs ys : List (Before R)) (list : List CsiParam) (final : ℕ) → read_by (xs ++ ys) list final ≡ option_or (read_by xs list final) (read_by ys list final)
-read-append xs ys list final = ap (λ rows. given rows list) (before-append xs ys final) ∙ given-append (rows_before xs final) (rows_before ys final) list
+read-append {R} xs ys list final = ap (λ rows. given rows list) (before-append xs ys final) ∙ first-append (λ (r : Row R). gives r list) (rows_before xs final) (rows_before ys final)
 
 whole-parts : (list : List CsiParam) (final : ℕ) → whole list final ≡ option_or (read_by table list final) (option_or (read_fields window_fields list final) (read_fields graphics_fields list final))
 unfolding all_subjects
@@ -56,7 +51,7 @@ rows-of Q (b ∷ others) final all = elim (cases_Bool (final == b.final)) [
 
 pub row-in : (Q : ℕ → Row Action → Type 0) (rows : List (Before Action)) (list : List CsiParam) (final : ℕ) (a : Action) → AllRows Q rows → read_by rows list final ≡ Some a
     → RowOf (Q final) (λ (r : Row Action). gives r list) a
-row-in Q rows list final a all e = row-of (Q final) _ (λ rows. given rows list) refl (λ r rows. refl) (rows_before rows final) a (rows-of Q rows final all) e
+row-in Q rows list final a all e = row-of (Q final) _ (rows_before rows final) a (rows-of Q rows final all) e
 
 -- ---- what the rows make
 

@@ -4,16 +4,12 @@ use Rattle.std.proofs.{lemmas.Bool.cases_Bool, lemmas.Bool.and_parts, lemmas.Boo
 use Rattle.std.specs.{Prelude.ℤ, Prelude.◌==◌, Prelude.◌&&◌, Prelude.◌||◌, Prelude.Bool, Prelude.true, Prelude.false, Prelude.not, Prelude.slice_get}
 use Rattle.std.specs.{Option.option_or}
 use Rattle.csicodec_tokens.specs.{declared.param.CsiParam.CsiParam, declared.param.CsiParam.TheVariants.Integer, declared.param.CsiParam.TheVariants.P}
-use Rattle.csicodec_actions.specs.Rows.{Slot, Byte, Number, One, Row, fits, has_shape, gives, given, Before, rows_before, read_by}
+use Rattle.csicodec_actions.specs.Rows.{first_of, Slot, Byte, Number, One, Row, fits, has_shape, gives, given, Before, rows_before, read_by}
 use Rattle.csicodec_actions.specs.{Actions.Action, FieldRows.read_fields, Table.table, Table.field_table, Table.whole, Table.RowsDecide}
 use Rattle.csicodec_actions.proofs.{AllRows.whole-table, Found.guarded}
 use Rattle.csicodec_names.proofs.Coded.{is_number-pos}
 
 -- ---- the first of several that gives something
-
-abbrev pub picks : {A R : Type 0} → (A → Option R) → List A → Option R
-picks give [] = None
-picks give (x ∷ xs) = option_or (give x) (picks give xs)
 
 abbrev pub apart_from : {A : Type 0} → (A → A → Bool) → A → List A → Bool
 apart_from apart x [] = true
@@ -40,7 +36,7 @@ apart-one apart fit give are x _ _ y d at f g = cc
 pub picked : {A R : Type 0} (apart : A → A → Bool) (fit : A → Bool) (give : A → Option R) →
     AreApart apart fit give → (xs : List A) (i : ℕ) (x : A) (r : R) → all_apart apart xs ≡ true →
     slice_get xs i ≡ Some x
-    → give x ≡ Some r → picks give xs ≡ Some r
+    → give x ≡ Some r → first_of give xs ≡ Some r
 picked apart fit give are (y ∷ ys) zero x r d at e =
     let same : y ≡ x = same_Some y x at in
     rw (same, e) refl
@@ -48,7 +44,7 @@ picked apart fit give are (y ∷ ys) (suc i) x r d at e =
     let p = and_parts (apart_from apart y ys) (all_apart apart ys) d in
     go (give y) refl (picked apart fit give are ys i x r p.1 at e)
   where
-    go : (o : Option _) → give y ≡ o → picks give ys ≡ Some r → option_or o (picks give ys) ≡ Some r
+    go : (o : Option _) → give y ≡ o → first_of give ys ≡ Some r → option_or o (first_of give ys) ≡ Some r
     go None gave later = later
     go (Some s) gave later = absurd (apart-one apart fit give are y ys i x (and_parts (apart_from apart y ys) (all_apart apart ys) d).0 at (are.gave y s gave) (are.gave x r e))
 picked apart fit give are _ _ x r d at e = cc
@@ -118,10 +114,6 @@ has r list = has_shape r.tail r.shape list
 rows-are-apart : (list : List CsiParam) → AreApart are_apart (λ (r : Row Action). has r list) (λ (r : Row Action). gives r list)
 rows-are-apart list = record { gave = λ r a e. (guarded (has r list) _ a e).0; one = λ q r d e f. apart-shapes q.tail q.shape r.tail r.shape list d e f }
 
-given-picks : (rows : List (Row Action)) (list : List CsiParam) → given rows list ≡ picks (λ (r : Row Action). gives r list) rows
-given-picks [] list = refl
-given-picks (r ∷ rows) list = ap (option_or (gives r list)) (given-picks rows list)
-
 rows-apart : (all others : List (Before Action)) (final : ℕ) → finals_apart all others ≡ true → (rows_before others final ≡ []) ⊎ (all_apart are_apart (rows_before all final) ≡ true)
 rows-apart all [] final d = inl refl
 rows-apart all (b ∷ others) final d =
@@ -137,8 +129,7 @@ row-whole list final a e = whole-table list final ∙ ap (λ o. option_or o (rea
 pub rows_lem : (list : List CsiParam) (final : ℕ) → RowsDecide list final
 rows_lem list final r a listed e =
     row-whole list final a
-    (given-picks (rows_before table final) list
-    ∙ picked are_apart _ _ (rows-are-apart list) (rows_before table final) listed.0 r a (table-apart final)
+    (picked are_apart _ _ (rows-are-apart list) (rows_before table final) listed.0 r a (table-apart final)
     (slice_get_read (rows_before table final) _ listed.0 r refl listed.1 (sym listed.2)) e)
 
 -- the row that gave something fits, so no row apart from it does

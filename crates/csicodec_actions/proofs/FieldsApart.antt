@@ -9,7 +9,7 @@ use Rattle.csicodec_names.proofs.Coded.{is_number-pos}
 use Rattle.csicodec_actions.specs.FieldRows.{Slot, This, Empty, End, behind, ahead_of_byte, behind_byte, fits, have_shape, FieldRow, gives, given, Over, over, no_byte, byte, fields_over, read_over, read_fields}
 use Rattle.csicodec_actions.specs.{Actions.Action, Rows.Row, Rows.Byte, Rows.open_row, Rows.rows_before, Rows.read_by, Table.XtSmGraphics.graphics_rows}
 use Rattle.csicodec_actions.specs.{Table.Window.areas, Table.Window.windows, Table.table, Table.field_table, Table.whole, Table.FieldRowsDecide}
-use Rattle.csicodec_actions.proofs.Disjoint.{AreApart, all_apart, apart-given, apart_from, are_apart as token_rows_apart, has, picked, picks}
+use Rattle.csicodec_actions.proofs.Disjoint.{AreApart, all_apart, apart-given, apart_from, are_apart as token_rows_apart, has, picked}
 use Rattle.csicodec_actions.proofs.{AllFieldRows.AllFieldRows, AllFieldRows.over-in, AllRows.whole-table, Found.guarded}
 
 -- ---- slots
@@ -86,10 +86,6 @@ rows_apart r s = are_apart r.slots s.slots
 rows-are-apart : (fs : List (Option ℤ)) → AreApart rows_apart (λ (r : FieldRow Action). have_shape r.slots fs) (λ (r : FieldRow Action). gives r fs)
 rows-are-apart fs = record { gave = λ r a e. (guarded (have_shape r.slots fs) _ a e).0; one = λ r s d e f. apart-shapes r.slots s.slots fs d e f }
 
-given-picks : (rows : List (FieldRow Action)) (fs : List (Option ℤ)) → given rows fs ≡ picks (λ (r : FieldRow Action). gives r fs) rows
-given-picks [] fs = refl
-given-picks (r ∷ rows) fs = ap (option_or (gives r fs)) (given-picks rows fs)
-
 -- ---- the entries
 
 -- they have different finals
@@ -104,10 +100,6 @@ finals-are-apart list final = record {
   gave = λ o a e. (guarded (final == o.final) _ a e).0;
   one = λ o p d e f. (let same : o.final ≡ p.final = sym (eqb-true final o.final e) ∙ eqb-true final p.final f in not-fits (o.final == p.final) d (eq-eqb o.final p.final same));
 }
-
-fields-pick : (entries : List (Over Action)) (list : List CsiParam) (final : ℕ) → read_fields entries list final ≡ picks (given_over list final) entries
-fields-pick [] list final = refl
-fields-pick (o ∷ others) list final = ap (option_or (given_over list final o)) (fields-pick others list final)
 
 -- the row of all lists that begin with the byte ahead, or of all
 abbrev begun : Option ℕ → Action → Row Action
@@ -160,12 +152,12 @@ field_rows_lem list final o r fs a listed ends row are e =
     let at : slice_get field_table listed.0 ≡ Some o = slice_get_read field_table _ listed.0 o refl listed.1 (sym listed.2) in
     let apart = all-at IsApart field_table listed.0 o are-apart at in
     let here : given o.rows fs ≡ Some a =
-    given-picks o.rows fs ∙ picked rows_apart _ _ (rows-are-apart fs) o.rows row.0 r a apart.rows (slice_get_read o.rows _ row.0 r refl row.1 (sym row.2)) e
+    picked rows_apart _ _ (rows-are-apart fs) o.rows row.0 r a apart.rows (slice_get_read o.rows _ row.0 r refl row.1 (sym row.2)) e
     in
     let over : read_over o list ≡ Some a = ap (option_and_then (given o.rows)) are ∙ here in
     let gave : given_over list o.final o ≡ Some a = rw (eq-eqb o.final o.final refl) over in
     rw (← ends)
-    (fields-decide o list fs a apart.tokens are (fields-pick field_table list o.final ∙ picked finals_apart _ _ (finals-are-apart list o.final) field_table listed.0 o a refl at gave))
+    (fields-decide o list fs a apart.tokens are (picked finals_apart _ _ (finals-are-apart list o.final) field_table listed.0 o a refl at gave))
 
 -- of each row of these entries
 rows-tokens : (o : Over Action) (rows : List (FieldRow Action)) → AreNotTokens o → AllByRecursion (λ (r : FieldRow Action). AreNotTokens o) rows

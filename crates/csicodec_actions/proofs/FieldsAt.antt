@@ -1,12 +1,10 @@
 -- What the code finds in the fields of a list.
-use Rattle.std.proofs.Common.{◌≡◌, ◌-◌, ◌<◌, ◌≤◌, length, ℕ, zero, suc, List, [], ◌∷◌, ◌++◌, inl, inr, drop, Option, None, Some, refl, sym, ap, ◌∙◌, Bor, false, true, arith}
-use Rattle.std.proofs.{lemmas.Bool.cases_Bool, lemmas.Option.same_Some}
-use Rattle.std.specs.{Prelude.ℤ, Prelude.◌==◌, Prelude.◌&&◌, Prelude.Bool, Prelude.if◌then◌else◌, Prelude.IsNone, Prelude.IfSome, Prelude.Result, Prelude.Ok}
-use Rattle.std.specs.{Bool.then_some, List.list_all, Option.ok_or, Option.option_copied, Option.option_map, Result.result_ok}
+use Rattle.std.proofs.Common.{◌≡◌, ℕ, List, [], ◌∷◌, ◌++◌, inl, inr, Option, None, Some, refl, ap, ◌∙◌, Bor, false, true}
+use Rattle.std.proofs.lemmas.Bool.{cases_Bool}
+use Rattle.std.specs.{Prelude.ℤ, Prelude.◌==◌, Prelude.◌&&◌, Prelude.Bool, Prelude.if◌then◌else◌, Bool.then_some, List.list_all, Option.option_map}
 use Rattle.csicodec_tokens.specs.{declared.param.CsiParam.CsiParam, declared.param.CsiParam.TheVariants.Integer, declared.param.CsiParam.TheVariants.P}
-use Rattle.csicodec_tokens.specs.{Fields.fields_of, Fields.with_field, OneBased.number_or}
-use Rattle.csicodec_actions.specs.FieldRows.{ahead_of_byte, behind, field, first, has_field, is_there, numbers, value_or}
-use Rattle.csicodec_actions.specs.{Kinds.Count, Kinds.read, Lent.integers, Private.FieldsBy.fields_there, Private.FieldsBy.is_field_token}
+use Rattle.csicodec_tokens.specs.{Fields.fields_of, Fields.with_field, Private.FieldsBy.is_field_token}
+use Rattle.csicodec_actions.specs.{FieldRows.ahead_of_byte, FieldRows.numbers, Lent.integers, Private.FieldsBy.fields_there}
 
 -- ---- a list that has fields
 
@@ -24,63 +22,15 @@ fields-are (Integer z ∷ P b ∷ list) = rw (fields-are list) (guarded-with (b 
 fields-are (Integer z ∷ Integer y ∷ list) =
     rw (fields-are (Integer y ∷ list)) (guarded-with true (list_all is_field_token (Integer y ∷ list)) (Some z) (fields_there (Integer y ∷ list)))
 
--- ---- a field by its place
-
-drop-none : (n : ℕ) → drop {A = Option ℤ} n [] ≡ []
-drop-none zero = refl
-drop-none (suc n) = refl
-
-pub drop-behind : (fs gs : List (Option ℤ)) (n : ℕ) → gs ≡ behind fs → 0 < n → drop (n - 1) gs ≡ drop n fs
-drop-behind fs gs zero e h = absurd (omega (arith, h))
-drop-behind [] gs (suc n) e h = let one : suc n - 1 ≡ n = omega arith in rw (one, e) (drop-none n)
-drop-behind (f ∷ fs) gs (suc n) e h = let one : suc n - 1 ≡ n = omega arith in rw (one, e) refl
-
-pub field-from : (fs : List (Option ℤ)) (i : ℕ) → first (drop i fs) ≡ field fs i
-field-from fs zero = refl
-field-from [] (suc i) = ap first (sym (drop-none i)) ∙ field-from [] i
-field-from (f ∷ fs) (suc i) = field-from fs i
-
-pub there-from : (fs : List (Option ℤ)) (i : ℕ) → is_there (drop i fs) ≡ has_field fs i
-there-from fs zero = refl
-there-from [] (suc i) = ap is_there (sym (drop-none i)) ∙ there-from [] i
-there-from (f ∷ fs) (suc i) = there-from fs i
-
-there-more : (t : CsiParam) (list : List CsiParam) → true ≡ is_there (fields_there (t ∷ list))
-there-more (P b) list = refl
-there-more (Integer z) [] = refl
-there-more (Integer z) (P b ∷ list) = refl
-there-more (Integer z) (Integer y ∷ list) = refl
-
-ok-of : {T E : Type 0} (o : Option T) (e : E) → result_ok (ok_or o e) ≡ o
-ok-of None e = refl
-ok-of (Some x) e = refl
-
-pub place-read : {E : Type 0} (o : Option (Bor CsiParam)) (z : Option ℤ) (r : Result ℕ E) (e : E) → option_copied o ≡ option_map Integer z → (IsNone o → r ≡ Ok 1)
-    → IfSome o (λ token. r ≡ ok_or (number_or 1 token.now) e) → result_ok r ≡ value_or Count 1 z
-unfolding read
-place-read None None r e same none some = rw (none refl) refl
-place-read None (Some z) r e same none some = cc
-place-read (Some t) None r e same none some = cc
-place-read (Some t) (Some z) r e same none some = let is : t.now ≡ Integer z = same_Some _ _ same in rw (some, is) (ok-of (number_or 1 (Integer z)) e)
-
--- a field is there exactly where tokens are left
-pub none-left : (list : List CsiParam) (fs : List (Option ℤ)) (i : ℕ) → length list < 1 → fields_there list ≡ drop i fs → false ≡ has_field fs i
-none-left [] fs i low e = ap is_there e ∙ there-from fs i
-none-left (t ∷ list) fs i low e = absurd (omega (arith, low))
-
-pub some-left : (list : List CsiParam) (fs : List (Option ℤ)) (i : ℕ) → 1 ≤ length list → fields_there list ≡ drop i fs → true ≡ has_field fs i
-some-left [] fs i high e = absurd (omega (arith, high))
-some-left (t ∷ list) fs i high e = there-more t list ∙ (ap is_there e ∙ there-from fs i)
-
 -- ---- the numbers of fields
 
 -- they are those among its tokens
-pub numbers-there : (list : List CsiParam) → integers list ≡ numbers (fields_there list)
-numbers-there [] = refl
-numbers-there (P b ∷ list) = numbers-there list
-numbers-there (Integer z ∷ []) = refl
-numbers-there (Integer z ∷ P b ∷ list) = ap (λ l. z ∷ l) (numbers-there list)
-numbers-there (Integer z ∷ Integer y ∷ list) = ap (λ l. z ∷ l) (numbers-there (Integer y ∷ list))
+pub numbers_there : (list : List CsiParam) → integers list ≡ numbers (fields_there list)
+numbers_there [] = refl
+numbers_there (P b ∷ list) = numbers_there list
+numbers_there (Integer z ∷ []) = refl
+numbers_there (Integer z ∷ P b ∷ list) = ap (λ l. z ∷ l) (numbers_there list)
+numbers_there (Integer z ∷ Integer y ∷ list) = ap (λ l. z ∷ l) (numbers_there (Integer y ∷ list))
 
 -- ---- the byte at the end
 

@@ -1,11 +1,11 @@
 -- Rows over the fields of a list: a row is a field for each slot, and what is made of their numbers. Fields behind the row are ignored.
 use Prim.Native.Char.{Char, code}
-use Rattle.std.specs.Prelude.{ℕ, zero, suc, ℤ, ◌==◌, ◌&&◌, Bool, true, false, not, List, [], ◌∷◌, Option, Some, None, option_and_then, option_map, if◌then◌else◌}
-use Rattle.std.specs.Option.{option_or, is_some}
+use Rattle.std.specs.Prelude.{ℕ, ℤ, ◌==◌, ◌&&◌, Bool, true, false, not, List, [], ◌∷◌, Option, Some, None, option_and_then, option_map, if◌then◌else◌}
+use Rattle.std.specs.Option.{is_some}
 use Rattle.csicodec_names.specs.Numbered.{is_number}
 use Rattle.csicodec_tokens.specs.{declared.param.CsiParam.CsiParam, declared.param.CsiParam.TheVariants.Integer, declared.param.CsiParam.TheVariants.P}
 use Rattle.csicodec_tokens.specs.{Fields.fields_of}
-use Rattle.csicodec_actions.specs.Kinds.{Kind, Value, read}
+use Rattle.csicodec_actions.specs.{Kinds.Kind, Kinds.Value, Kinds.read, Rows.first_of}
 
 -- ---- fields
 
@@ -22,15 +22,6 @@ behind (f ∷ fs) = fs
 abbrev pub is_there : List (Option ℤ) → Bool
 is_there [] = false
 is_there (f ∷ fs) = true
-
--- the number of the field at an index from 0 on, and whether the field stands there
-abbrev pub field : List (Option ℤ) → ℕ → Option ℤ
-field fs zero = first fs
-field fs (suc i) = field (behind fs) i
-
-abbrev pub has_field : List (Option ℤ) → ℕ → Bool
-has_field fs zero = is_there fs
-has_field fs (suc i) = has_field (behind fs) i
 
 -- the numbers of fields, of which empty ones have none
 abbrev pub numbers : List (Option ℤ) → List ℤ
@@ -118,8 +109,7 @@ gives r fs = if have_shape r.slots fs then made r.slots r.make fs else None
 
 -- what the row gives that gives something; no two rows do
 abbrev pub given : {R : Type 0} → List (FieldRow R) → List (Option ℤ) → Option R
-given [] fs = None
-given (r ∷ rows) fs = option_or (gives r fs) (given rows fs)
+given rows fs = first_of (λ r. gives r fs) rows
 
 -- ---- the rows before a final character
 
@@ -165,6 +155,5 @@ read_over o list = option_and_then (given o.rows) (fields_over o list)
 
 -- what is read by these entries
 abbrev pub read_fields : {R : Type 0} → List (Over R) → List CsiParam → ℕ → Option R
-read_fields [] list final = None
-read_fields (o ∷ others) list final =
-    option_or (if final == o.final then read_over o list else None) (read_fields others list final)
+read_fields entries list final =
+    first_of (λ o. if final == o.final then read_over o list else None) entries

@@ -6,6 +6,11 @@ use Rattle.csicodec_tokens.specs.{declared.param.CsiParam.CsiParam, declared.par
 use Rattle.csicodec_actions.specs.Kinds.{Kind, Count, Value, read}
 use Rattle.csicodec_names.specs.Numbered.{is_number}
 
+-- what the first of these gives that gives something
+abbrev pub first_of : {A R : Type 0} → (A → Option R) → List A → Option R
+first_of give [] = None
+first_of give (x ∷ xs) = option_or (give x) (first_of give xs)
+
 -- one token of a shape: this byte, this number, or a number that counts as a value of this kind
 pub data Slot : Type 0 where
   Byte : ℕ → Slot
@@ -81,8 +86,7 @@ open_row shape make = record { tail = true; shape = shape; make = make }
 
 -- what the row gives that gives something; no two rows of a final do
 abbrev pub given : {R : Type 0} → List (Row R) → List CsiParam → Option R
-given [] list = None
-given (r ∷ rows) list = option_or (gives r list) (given rows list)
+given rows list = first_of (λ r. gives r list) rows
 
 -- ---- rows that many finals have
 

@@ -14,7 +14,7 @@ ghost use Rattle.csicodec_actions.specs.Lent.{lent_graphics};
 ghost use Rattle.csicodec_actions.specs.Table.XtSmGraphics.{RefusesGraphics, as_graphics, graphics_behind, graphics_rows, written_graphics};
 
 use crate::canonical::is_said;
-use crate::fields::{Fields, fields_in, integers_in, number, tokens_from};
+use crate::fields::{Fields, fields_in, integers_in};
 use csicodec_base::{CsiParam, ParseRefusal};
 use std::alloc::{AllocError, Global};
 use std::fmt;
@@ -240,11 +240,12 @@ impl<'a> GraphicsRef<'a> {
 }
 
 /// What is asked or said of graphics before this final character, if a row reads the list. It takes no memory.
+#[tactic(auto, unfolding(crate::specs::Table::XtSmGraphics::as_graphics))]
 pub fn graphics_ref(params: &[CsiParam], control: char) -> Option<GraphicsRef<'_>>
     ensures { option_map lent_graphics result ≡ as_graphics params.now control }
 {
-    match control {
-        'S' => graphics(params),
+    match (control, params) {
+        ('S', [CsiParam::P(b'?'), list @ ..]) => read(fields_in(list)?),
         _ => None,
     }
 }
@@ -287,30 +288,17 @@ fn behind_mark(params: &[CsiParam]) -> Option<GraphicsRef<'_>>
     ensures { option_map lent_graphics result ≡ graphics_behind params.now }
 {
     let (_, list) = params.split_first()?;
-    read(&fields_in(list)?)
-}
-
-#[tactic(auto, unfolding(crate::specs::Table::XtSmGraphics::as_graphics))]
-fn graphics(params: &[CsiParam]) -> Option<GraphicsRef<'_>>
-    ensures { option_map lent_graphics result ≡ as_graphics params.now 83 }
-{
-    let [CsiParam::P(b'?'), list @ ..] = params else {
-        return None;
-    };
-    read(&fields_in(list)?)
+    read(fields_in(list)?)
 }
 
 /// An item, an action or a status, and the values.
 #[tactic(auto, unfolding(crate::specs::Kinds::read))]
-fn read<'a>(fields: &Fields<'a>) -> Option<GraphicsRef<'a>>
-    ensures { option_map lent_graphics result ≡ given graphics_rows fields.now }
+fn read<'a>(mut fields: Fields<'a>) -> Option<GraphicsRef<'a>>
+    ensures { option_map lent_graphics result ≡ given graphics_rows fields.entry }
 {
-    let (Some(item), Some(action_or_status)) = (number(fields, 0), number(fields, 1)) else {
-        return None;
-    };
     Some(GraphicsRef {
-        item: XtSmGraphicsItem::of(item),
-        action_or_status,
-        values: tokens_from(fields, 2),
+        item: XtSmGraphicsItem::of(fields.number()?),
+        action_or_status: fields.number()?,
+        values: fields.tokens(),
     })
 }

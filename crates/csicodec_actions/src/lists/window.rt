@@ -6,7 +6,7 @@ ghost use Rattle.csicodec_actions.specs.FieldRows.{given};
 ghost use Rattle.csicodec_actions.specs.Table.Window.{alone_rows, areas, as_window, two_rows, which_rows, windows};
 
 use crate::Window;
-use crate::fields::{Fields, ahead_of, fields_in, is_there, number, place};
+use crate::fields::{Fields, ahead_of, fields_in};
 use csicodec_base::CsiParam;
 
 /// What is done to a window before this final character, if a row reads the list. It takes no memory.
@@ -15,25 +15,10 @@ pub fn window_action(params: &[CsiParam], control: char) -> Option<Window>
     ensures { option_map (λ w. Windows w) result ≡ as_window params.now control }
 {
     match control {
-        't' => window(params),
-        'y' => area(params),
+        't' => window_of(&fields_in(params)?),
+        'y' => area_of(fields_in(ahead_of(params, b'*')?)?),
         _ => None,
     }
-}
-
-#[tactic(auto, unfolding(crate::specs::Table::Window::as_window))]
-fn window(params: &[CsiParam]) -> Option<Window>
-    ensures { option_map (λ w. Windows w) result ≡ as_window params.now 116 }
-{
-    window_of(&fields_in(params)?)
-}
-
-#[tactic(auto, unfolding(crate::specs::Table::Window::as_window))]
-fn area(params: &[CsiParam]) -> Option<Window>
-    ensures { option_map (λ w. Windows w) result ≡ as_window params.now 121 }
-{
-    let front = ahead_of(params, b'*')?;
-    area_of(&fields_in(front)?)
 }
 
 fn window_of(fields: &Fields<'_>) -> Option<Window>
@@ -52,7 +37,7 @@ fn window_of(fields: &Fields<'_>) -> Option<Window>
 fn alone(fields: &Fields<'_>) -> Option<Window>
     ensures { option_map (λ w. Windows w) result ≡ given alone_rows fields.now }
 {
-    match number(fields, 0)? {
+    match fields.again().number()? {
         1 => Some(Window::DeIconify),
         2 => Some(Window::Iconify),
         5 => Some(Window::RaiseWindow),
@@ -72,7 +57,8 @@ fn alone(fields: &Fields<'_>) -> Option<Window>
 fn which(fields: &Fields<'_>) -> Option<Window>
     ensures { option_map (λ w. Windows w) result ≡ given which_rows fields.now }
 {
-    match (number(fields, 0)?, number(fields, 1)) {
+    let mut fields = fields.again();
+    match (fields.number()?, fields.number()) {
         (9, Some(0)) => Some(Window::RestoreMaximizedWindow),
         (9, Some(1)) => Some(Window::MaximizeWindow),
         (9, Some(2)) => Some(Window::MaximizeWindowVertically),
@@ -99,8 +85,10 @@ fn which(fields: &Fields<'_>) -> Option<Window>
 fn two(fields: &Fields<'_>) -> Option<Window>
     ensures { option_map (λ w. Windows w) result ≡ given two_rows fields.now }
 {
-    let code = number(fields, 0)?;
-    let (first, second) = (number(fields, 1), number(fields, 2));
+    let mut fields = fields.again();
+    let code = fields.number()?;
+    let is_answer = fields.is_there();
+    let (first, second) = (fields.number(), fields.number());
     match code {
         3 => Some(Window::MoveWindow {
             x: first.unwrap_or(0),
@@ -110,7 +98,7 @@ fn two(fields: &Fields<'_>) -> Option<Window>
             width: second,
             height: first,
         }),
-        6 if is_there(fields, 1) => Some(Window::ReportCellSizePixelsResponse {
+        6 if is_answer => Some(Window::ReportCellSizePixelsResponse {
             width: second,
             height: first,
         }),
@@ -124,15 +112,15 @@ fn two(fields: &Fields<'_>) -> Option<Window>
 }
 
 #[tactic(auto, unfolding(crate::specs::Kinds::read))]
-fn area_of(fields: &Fields<'_>) -> Option<Window>
-    ensures { option_map (λ w. Windows w) result ≡ given areas fields.now }
+fn area_of(mut fields: Fields<'_>) -> Option<Window>
+    ensures { option_map (λ w. Windows w) result ≡ given areas fields.entry }
 {
     Some(Window::ChecksumRectangularArea {
-        request_id: number(fields, 0)?,
-        page_number: number(fields, 1)?,
-        top: place(fields, 2)?,
-        left: place(fields, 3)?,
-        bottom: place(fields, 4)?,
-        right: place(fields, 5)?,
+        request_id: fields.number()?,
+        page_number: fields.number()?,
+        top: fields.place()?,
+        left: fields.place()?,
+        bottom: fields.place()?,
+        right: fields.place()?,
     })
 }

@@ -1,13 +1,14 @@
 use Rattle.std.proofs.Common.{◌≡◌, ◌++◌, ◌∙◌, List, ap, refl, sym}
 use Rattle.std.specs.Option.{option_or}
 use Rattle.csicodec_tokens.specs.declared.param.CsiParam.{CsiParam}
-use Rattle.csicodec_actions.specs.{Rows.given, Table.Device.as_device, Table.Device.classes, Table.Device.requests, Table.Device.terminals}
-use Rattle.csicodec_actions.proofs.AllRows.{given-append}
+use Rattle.csicodec_actions.specs.{Actions.Action, Rows.Row, Rows.given, Rows.gives, Table.Device.as_device, Table.Device.classes, Table.Device.requests}
+use Rattle.csicodec_actions.specs.{Table.Device.terminals}
+use Rattle.csicodec_actions.proofs.AllFieldRows.{first-append}
 use Rattle.csicodec_actions.proofs.lists.device.attributes.Goals as goal
 
 split : (list : List CsiParam) → as_device list 99 ≡ option_or (given requests list) (option_or (given terminals list) (given classes list))
 unfolding as_device
-split list = given-append requests (terminals ++ classes) list ∙ ap (option_or (given requests list)) (given-append terminals classes list)
+split list = first-append (λ (r : Row Action). gives r list) requests (terminals ++ classes) ∙ ap (option_or (given requests list)) (first-append (λ (r : Row Action). gives r list) terminals classes)
 
 pub returns-in-Some-clause-ok : goal.returns-in-Some-clause-ok
 returns-in-Some-clause-ok c = rw (split c.args.params.now, sym (rw c.in-Some.is at c.request.ensures)) refl

@@ -119,18 +119,13 @@ def read_arms(actions):
             yield f"        {byte(action.row['final'])[1:]} => Some({rust(action)}({action.form}(params)?)),"
 
 
-def together(called, kinds, makes, actions, constructor=None):
-    """One proof for all these finals: what the rows before each read. `kinds` and `makes` are those of one number and of two. Without a constructor the
-    lemmas find by themselves what is made of numbers."""
+def together(called, kinds, makes, actions):
+    """One proof for all these finals: what the rows before each read. `kinds` and `makes` are those of one number and of two, which find by themselves
+    what is made of numbers."""
     said = [f"{kinds[action.form == 'places']} {ord(action.row['final'])} {value(action)}" for action in actions]
     yield from folded(f"pub {called} :", said, "×").replace(": =\n   ", ":", 1).replace(": =", ":", 1).split("\n")
     yield f"unfolding as_{actions[0].subject.lower()}"
-    if constructor is None:
-        yield from (f"{called} = ({', '.join(makes[action.form == 'places'] + ' _' for action in actions)})", "")
-        return
-    yield f"{called} = ("
-    yield from (f"  {makes[action.form == 'places']} (λ {numbers(action)}. {constructor} ({value(action)} {numbers(action)}))," for action in actions)
-    yield from (")", "")
+    yield from (f"{called} = ({', '.join(makes[action.form == 'places'] + ' _' for action in actions)})", "")
 
 
 def front_arms(actions):
@@ -231,7 +226,7 @@ def of_cursor(actions):
     yield front, Part(list(front_arms(one)), ("fn moved_by(number: u32, control: u8) -> Option<Cursor>", "    match control {"), "        _ => None,")
     yield front, Part(list(front_arms(two)), ("fn moved_to(first: u32, second: u32, control: u8) -> Option<Cursor>", "    match control {"), "        b'r' => Some(Cursor::SetTopAndBottomMargins {")
     lists = "TwoCounts final make = (list : List CsiParam) → as_cursor list final ≡ option_map (λ (p : ℕ × ℕ). Cursor (make p.0 p.1)) (given (paired (λ a b. (a, b))) list)"
-    counts = list(together("finals", ("Counts", "TwoCounts"), ("one-count", "two-counts"), one + two, "Cursor"))[:-1]
+    counts = list(together("finals", ("Counts", "TwoCounts"), ("one-count", "two-counts"), one + two))[:-1]
     yield "crates/csicodec_actions/proofs/Finals.antt", Part(counts, (lists, ""), None)
     kinds, makes = ("OneMove", "TwoMoves"), ("one_count", "two_counts")
     moves = [*together("counted", kinds, makes, one), *together("twos", kinds, makes, two)]

@@ -88,24 +88,4 @@ pub finals : Counts 65 cursor.Up × Counts 66 cursor.Down × Counts 67 cursor.Ri
     × Counts 101 cursor.LinePositionForward × Counts 107 cursor.LinePositionBackward × TwoCounts 72 cursor.Position
     × TwoCounts 82 cursor.ActivePositionReport × TwoCounts 102 cursor.CharacterAndLinePosition
 unfolding as_cursor
-finals = (
-  one-count (λ n. Cursor (cursor.Up n)),
-  one-count (λ n. Cursor (cursor.Down n)),
-  one-count (λ n. Cursor (cursor.Right n)),
-  one-count (λ n. Cursor (cursor.Left n)),
-  one-count (λ n. Cursor (cursor.NextLine n)),
-  one-count (λ n. Cursor (cursor.PrecedingLine n)),
-  one-count (λ n. Cursor (cursor.CharacterAbsolute n)),
-  one-count (λ n. Cursor (cursor.CharacterPositionAbsolute n)),
-  one-count (λ n. Cursor (cursor.ForwardTabulation n)),
-  one-count (λ n. Cursor (cursor.BackwardTabulation n)),
-  one-count (λ n. Cursor (cursor.LineTabulation n)),
-  one-count (λ n. Cursor (cursor.CharacterPositionForward n)),
-  one-count (λ n. Cursor (cursor.CharacterPositionBackward n)),
-  one-count (λ n. Cursor (cursor.LinePositionAbsolute n)),
-  one-count (λ n. Cursor (cursor.LinePositionForward n)),
-  one-count (λ n. Cursor (cursor.LinePositionBackward n)),
-  two-counts (λ a b. Cursor (cursor.Position a b)),
-  two-counts (λ a b. Cursor (cursor.ActivePositionReport a b)),
-  two-counts (λ a b. Cursor (cursor.CharacterAndLinePosition a b)),
-)
+finals = (one-count _, one-count _, one-count _, one-count _, one-count _, one-count _, one-count _, one-count _, one-count _, one-count _, one-count _, one-count _, one-count _, one-count _, one-count _, one-count _, two-counts _, two-counts _, two-counts _)

@@ -47,11 +47,21 @@ pub short-found : {E : Type 0} (z : ℤ) → SFits w64 z → (r : Result ℕ E) 
 short-found z fits r ok = word-found _ r ok ∙ ap short (to_z-of_z w64 z fits)
 
 -- the mode of a number of 16 bits, by the code that was found, or by itself
-pub mode-of : {C M : Type 0} (number : C → ℕ) (all : List C) (coded : C → M) (own : ℕ → M) → Coded number all → (n : ℕ) → n < 65536 → (z : ℤ) → z ≡ pos n → SFits w64 z → (o : Option C)
+mode-of : {C M : Type 0} (number : C → ℕ) (all : List C) (coded : C → M) (own : ℕ → M) → Coded number all → (n : ℕ) → n < 65536 → (z : ℤ) → z ≡ pos n → SFits w64 z → (o : Option C)
     → ((x : C) → (o ≡ Some x) ↔ (to_z w64 (of_z w64 z) ≡ pos (number x))) → code_or coded own o (Some n) ≡ code_or coded own (with_number number all (pos n)) (short (pos n))
 mode-of number all coded own is n few z same fits o h =
     let found : o ≡ with_number number all (pos n) = found-of number all is z fits o h ∙ ap (with_number number all) same in
     rw (found, lt-ltb n 65536 few) refl
+
+pub dec-of : (n : ℕ) → n < 65536 → (z : ℤ) → z ≡ pos n → SFits w64 z → (o : Option _) → ((x : _) → (o ≡ Some x) ↔ (to_z w64 (of_z w64 z) ≡ pos (dec_mode_number x)))
+    → code_or (λ c. dec.Code c) (λ k. dec.Unspecified k) o (Some n) ≡ read Dec (pos n)
+unfolding read
+dec-of n few z same fits o h = mode-of dec_mode_number dec_codes _ _ decs n few z same fits o h
+
+pub terminal-of : (n : ℕ) → n < 65536 → (z : ℤ) → z ≡ pos n → SFits w64 z → (o : Option _) → ((x : _) → (o ≡ Some x) ↔ (to_z w64 (of_z w64 z) ≡ pos (terminal_mode_number x)))
+    → code_or (λ c. terminal.Code c) (λ k. terminal.Unspecified k) o (Some n) ≡ read Terminal (pos n)
+unfolding read
+terminal-of n few z same fits o h = mode-of terminal_mode_number terminal_codes _ _ terminals n few z same fits o h
 
 -- no other number is a mode's
 no-mode : {C M : Type 0} (number : C → ℕ) (all : List C) (coded : C → M) (own : ℕ → M) → Coded number all → AllBelow number 65535 all → (z : ℤ) → None ≡ short z

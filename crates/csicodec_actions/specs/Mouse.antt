@@ -75,13 +75,6 @@ abbrev pub report_code : MouseButton × Modifiers → ℕ
 report_code v = button_code v.0 + modifiers_code v.1
 
 abbrev pub is_release : MouseButton → Bool
-is_release button.Button1Press = false
-is_release button.Button2Press = false
-is_release button.Button3Press = false
-is_release button.Button4Press = false
-is_release button.Button5Press = false
-is_release button.Button6Press = false
-is_release button.Button7Press = false
 is_release button.Button1Release = true
 is_release button.Button2Release = true
 is_release button.Button3Release = true
@@ -89,10 +82,7 @@ is_release button.Button4Release = true
 is_release button.Button5Release = true
 is_release button.Button6Release = true
 is_release button.Button7Release = true
-is_release button.Button1Drag = false
-is_release button.Button2Drag = false
-is_release button.Button3Drag = false
-is_release button.None = false
+is_release b = false
 
 -- the bits of what is held: LEFT 1, RIGHT 2, MIDDLE 4; the wheels VERT_WHEEL 8 and HORZ_WHEEL 16, and WHEEL_POSITIVE 32. A release holds nothing
 abbrev pub held_buttons : MouseButton → ℕ
@@ -106,11 +96,4 @@ held_buttons button.Button7Press = 16
 held_buttons button.Button1Drag = 1
 held_buttons button.Button2Drag = 4
 held_buttons button.Button3Drag = 2
-held_buttons button.Button1Release = 0
-held_buttons button.Button2Release = 0
-held_buttons button.Button3Release = 0
-held_buttons button.Button4Release = 0
-held_buttons button.Button5Release = 0
-held_buttons button.Button6Release = 0
-held_buttons button.Button7Release = 0
-held_buttons button.None = 0
+held_buttons b = 0

@@ -24,10 +24,23 @@ pub fn device_action(
 {
     match control {
         'c' => attributes(alloc, params),
-        'p' => Ok(reset(params)),
-        'n' => Ok(report(params)),
-        'q' => Ok(name(params)),
-        'x' => Ok(parameters(params)),
+        'p' => match params {
+            [P(b'!')] => Ok(Some(Device::SoftReset)),
+            _ => Ok(None),
+        },
+        'n' => match params {
+            [Integer(5)] => Ok(Some(Device::StatusReport)),
+            _ => Ok(None),
+        },
+        'q' => match params {
+            [P(b'>')] | [P(b'>'), Integer(0)] => Ok(Some(Device::RequestTerminalNameAndVersion)),
+            _ => Ok(None),
+        },
+        'x' => match params {
+            [] | [Integer(0)] => Ok(Some(Device::RequestTerminalParameters(0))),
+            [Integer(1)] => Ok(Some(Device::RequestTerminalParameters(1))),
+            _ => Ok(None),
+        },
         _ => Ok(None),
     }
 }
@@ -100,51 +113,12 @@ fn extensions(alloc: Global, list: &[CsiParam]) -> Result<DeviceAttributeFlags, 
     ensures { IfOk result (λ flags. flags.attributes.items ≡ listed_attributes list.now) }
 {
     let mut attributes = Vec::new(alloc);
-    for token in list {
+    let mut rest = list;
+    while let [token, others @ ..] = rest {
         if *token != P(b';') {
             attributes.push(DeviceAttribute::of(*token))?;
         }
+        rest = others;
     }
     Ok(DeviceAttributeFlags::new(attributes))
-}
-
-#[tactic(auto, unfolding(crate::specs::Table::Device::as_device))]
-fn reset(params: &[CsiParam]) -> Option<Device>
-    ensures { option_map (λ d. Devices (device_of d)) result ≡ as_device params.now 112 }
-{
-    match params {
-        [P(b'!')] => Some(Device::SoftReset),
-        _ => None,
-    }
-}
-
-#[tactic(auto, unfolding(crate::specs::Table::Device::as_device))]
-fn report(params: &[CsiParam]) -> Option<Device>
-    ensures { option_map (λ d. Devices (device_of d)) result ≡ as_device params.now 110 }
-{
-    match params {
-        [Integer(5)] => Some(Device::StatusReport),
-        _ => None,
-    }
-}
-
-#[tactic(auto, unfolding(crate::specs::Table::Device::as_device))]
-fn name(params: &[CsiParam]) -> Option<Device>
-    ensures { option_map (λ d. Devices (device_of d)) result ≡ as_device params.now 113 }
-{
-    match params {
-        [P(b'>')] | [P(b'>'), Integer(0)] => Some(Device::RequestTerminalNameAndVersion),
-        _ => None,
-    }
-}
-
-#[tactic(auto, unfolding(crate::specs::Table::Device::as_device))]
-fn parameters(params: &[CsiParam]) -> Option<Device>
-    ensures { option_map (λ d. Devices (device_of d)) result ≡ as_device params.now 120 }
-{
-    match params {
-        [] | [Integer(0)] => Some(Device::RequestTerminalParameters(0)),
-        [Integer(1)] => Some(Device::RequestTerminalParameters(1)),
-        _ => None,
-    }
 }

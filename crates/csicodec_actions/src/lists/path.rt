@@ -8,20 +8,13 @@ use crate::CharacterPath;
 use csicodec_base::CsiParam::{self, Integer, P};
 
 /// The path before this final character, if a row reads the list.
-#[tactic(auto, unfolding(crate::specs::Table::Path::as_path))]
+#[tactic(auto, unfolding(crate::specs::Kinds::read, crate::specs::Table::Path::as_path))]
 pub fn path_action(params: &[CsiParam], control: char) -> Option<(CharacterPath, i64)>
     ensures { option_map (λ p. SelectCharacterPath p.0 p.1) result ≡ as_path params.now control }
 {
-    match control {
-        'k' => path(params),
-        _ => None,
+    if control != 'k' {
+        return None;
     }
-}
-
-#[tactic(auto, unfolding(crate::specs::Kinds::read, crate::specs::Table::Path::as_path))]
-fn path(params: &[CsiParam]) -> Option<(CharacterPath, i64)>
-    ensures { option_map (λ p. SelectCharacterPath p.0 p.1) result ≡ as_path params.now 107 }
-{
     match params {
         [P(b' ')] => Some((CharacterPath::ImplementationDefault, 0)),
         [Integer(path), P(b' ')] => Some((CharacterPath::from_i64(*path)?, 0)),

@@ -1,6 +1,6 @@
 -- The block at the front, and the actions that follow it.
 use Rattle.std.specs.{Prelude.IfSome, Prelude.IfNone, Prelude.slice_get, Prelude.unwrap_or, Option.option_map}
-use Rattle.std.proofs.Common.{◌≡◌, ℕ, zero, suc, ◌+◌, ◌*◌, ◌-◌, ◌<◌, ◌≤◌, Bool, true, false, cond, List, [], ◌∷◌, length, drop, take, Some, None, Option, refl, sym, ap, ◌∙◌, arith, length-drop}
+use Rattle.std.proofs.Common.{◌≡◌, ℕ, zero, suc, ◌+◌, ◌*◌, ◌-◌, ◌<◌, ◌≤◌, Bool, true, false, cond, List, [], ◌∷◌, length, drop, take, Some, None, Option, refl, sym, ap, ◌∙◌, arith, add-zero, length-drop}
 use Rattle.std.proofs.{lemmas.List.drop-drop, lemmas.List.drop_all, lemmas.List.take_all, lemmas.Option.slice_get_within}
 use Rattle.csicodec_tokens.specs.{declared.param.CsiParam.CsiParam, declared.param.CsiParam.TheVariants.Integer, declared.param.CsiParam.TheVariants.P}
 use Rattle.csicodec_actions.specs.{declared.mode.Change.Change, Actions.Action, Actions.Sgr, Actions.Unspecified, Actions.TakesMemory, Table.boxed}
@@ -195,11 +195,13 @@ cut_leaves s None g list final p m q before mid after cut by (plain, is) far w f
 
 -- ---- a list that is read whole
 
--- what is lent is the whole list
+-- what is lent is all that is unread
+pub lent_rest : (tokens lent : List CsiParam) (p len : ℕ) → p + len ≡ length tokens → lent ≡ take len (drop (p + 0) tokens) → lent ≡ drop p tokens
+lent_rest tokens lent p len h l = l ∙ ap (λ q. take len (drop q tokens)) (add-zero p) ∙ take_all len (drop p tokens) (omega (arith, length-drop p tokens))
+
+-- and where none was passed the whole list
 pub lent_all : (tokens lent : List CsiParam) (p len : ℕ) → p ≡ 0 → p + len ≡ length tokens → lent ≡ take len (drop (p + 0) tokens) → lent ≡ tokens
-lent_all tokens lent p len z h l =
-    let whole_length : len ≡ length tokens = omega (arith, z) in
-    l ∙ ap (λ (q : ℕ). take len (drop (q + 0) tokens)) z ∙ ap (λ (n : ℕ). take n tokens) whole_length ∙ take_all (length tokens) tokens (omega arith)
+lent_all tokens lent p len z h l = lent_rest tokens lent p len h l ∙ ap (λ q. drop q tokens) z
 
 pub lent_none : (tokens lent : List CsiParam) (final : ℕ) (r : Option CSI) → lent ≡ tokens → option_map action_of r ≡ unboxed lent final → r ≡ None → unboxed tokens final ≡ None
 lent_none tokens lent final r all told none = ap (λ (l : List CsiParam). unboxed l final) (sym all) ∙ sym told ∙ ap (option_map action_of) none

@@ -9,8 +9,8 @@ use Rattle.csicodec_parser.specs.Private.Steps.{front, block, block_of, with_sem
 use Rattle.csicodec_parser.specs.{declared.group.Group.Group, declared.group.Group.TheVariants.Whole, Groups.group, Groups.start, Groups.has_odd, Cut.semicolon}
 use Rattle.csicodec_parser.specs.{Cut.NoSemicolon, Cut.IsBlock, Cut.body, Cut.Cut, Cut.IsStuck, Cut.IsRestAfter}
 use Rattle.csicodec_actions.specs.{Actions.Action, Actions.Unspecified, Table.whole}
-use Rattle.csicodec_parser.proofs.Fronts.{is_none, piece_front, front_piece, stuck_front, front_stuck, front_fits}
 use Rattle.csicodec_parser.proofs.Blocks.{segments_block, segments_unknown, semicolon_from, after_some, rest_unknown}
+use Rattle.csicodec_parser.proofs.Fronts.{piece_front, front_piece, stuck_front, front_stuck, front_fits}
 
 -- ---- a block by the relation, and by the function
 
@@ -114,56 +114,41 @@ cut_up_to g (suc n) body h (Some p) e =
 
 -- ---- the actions of a list
 
-segmented : (g : Group) (list : List CsiParam) (flag : Bool) (final : ℕ) → (g ≡ Whole → ⊥) → Segmented g list flag final (actions_after g flag final list)
+-- these are so, and no others
+abbrev Only : (List Action → Type 0) → List Action → Type 0
+Only Q these = Q these × ((xs : List Action) → Q xs → xs ≡ these)
+
+segmented : (g : Group) (list : List CsiParam) (flag : Bool) (final : ℕ) → (g ≡ Whole → ⊥) → Only (Segmented g list flag final) (actions_after g flag final list)
 segmented g list flag final cut =
-    let c = cut_up_to g (length list) list (omega arith) (front g list) refl in
-    record { pieces = c.0; rest = c.1; cut = c.2; stuck = c.3; all = actions_of_cut g flag final list c.0 c.1 cut c.2 c.3 }
+    let c = cut_up_to g (length list) list (omega arith) (front g list) refl in (
+      record { pieces = c.0; rest = c.1; cut = c.2; stuck = c.3; all = actions_of_cut g flag final list c.0 c.1 cut c.2 c.3 },
+      λ xs s. s.all ∙ sym (actions_of_cut g flag final list s.pieces s.rest cut s.cut s.stuck),
+    )
 
-segmented_only : (g : Group) (list : List CsiParam) (flag : Bool) (final : ℕ) (xs : List Action) → (g ≡ Whole → ⊥) → Segmented g list flag final xs → xs ≡ actions_after g flag final list
-segmented_only g list flag final xs cut s = s.all ∙ sym (actions_of_cut g flag final list s.pieces s.rest cut s.cut s.stuck)
+whole_are : (list : List CsiParam) (flag : Bool) (final : ℕ) (o : Option Action) → whole list final ≡ o → Only (WholeActions list flag final) (unwrap_or o (Unspecified list flag final) ∷ [])
+whole_are list flag final (Some a) e = (inl (a, e, refl), λ xs w. elim w [ inl h ↦ (let same : h.0 ≡ a = cc (h.1, e) in h.2 ∙ ap (λ (b : Action). b ∷ []) same) | inr h ↦ absurd (h.0 a e) ])
+whole_are list flag final None e = (inr (λ a w. cc (e, w), refl), λ xs w. elim w [ inl h ↦ cc (e, h.1) | inr h ↦ h.1 ])
 
-whole_are : (list : List CsiParam) (flag : Bool) (final : ℕ) (o : Option Action) → whole list final ≡ o → WholeActions list flag final (unwrap_or o (Unspecified list flag final) ∷ [])
-whole_are list flag final (Some a) e = inl (a, e, refl)
-whole_are list flag final None e = inr (λ a w. cc (e, w), refl)
-
-whole_only : (list : List CsiParam) (flag : Bool) (final : ℕ) (xs : List Action) → WholeActions list flag final xs → xs ≡ unwrap_or (whole list final) (Unspecified list flag final) ∷ []
-whole_only list flag final xs (inl h) = h.2 ∙ ap (λ o. unwrap_or o (Unspecified list flag final) ∷ []) (sym h.1)
-whole_only list flag final xs (inr h) = h.1 ∙ ap (λ o. unwrap_or o (Unspecified list flag final) ∷ []) (sym (is_none (whole list final) h.0))
-
-body_are : (g : Group) (list body : List CsiParam) (flag : Bool) (final : ℕ) → (g ≡ Whole → ⊥) → BodyActions g list body flag final (body_actions g list flag final body)
-body_are g list [] flag final cut = refl
+body_are : (g : Group) (list body : List CsiParam) (flag : Bool) (final : ℕ) → (g ≡ Whole → ⊥) → Only (BodyActions g list body flag final) (body_actions g list flag final body)
+body_are g list [] flag final cut = (refl, λ xs h. h)
 body_are g list (t ∷ ts) flag final cut = segmented g (t ∷ ts) flag final cut
 
-body_only : (g : Group) (list body : List CsiParam) (flag : Bool) (final : ℕ) (xs : List Action) → (g ≡ Whole → ⊥) → BodyActions g list body flag final xs → xs ≡ body_actions g list flag final body
-body_only g list [] flag final xs cut h = h
-body_only g list (t ∷ ts) flag final xs cut h = segmented_only g (t ∷ ts) flag final xs cut h
-
-cut_are : (g : Group) (list : List CsiParam) (flag : Bool) (final : ℕ) → (g ≡ Whole → ⊥) → CutActions g list flag final (cut_actions g list flag final)
+cut_are : (g : Group) (list : List CsiParam) (flag : Bool) (final : ℕ) → (g ≡ Whole → ⊥) → Only (CutActions g list flag final) (cut_actions g list flag final)
 cut_are g list flag final cut = elim (cases_Bool (has_odd g list)) [
-  | inl odd ↦ rw odd refl
+  | inl odd ↦ rw odd (refl, λ xs h. h)
   | inr plain ↦ rw plain (body_are g list (body g list) flag final cut)
 ]
 
-cut_only : (g : Group) (list : List CsiParam) (flag : Bool) (final : ℕ) (xs : List Action) → (g ≡ Whole → ⊥) → CutActions g list flag final xs → xs ≡ cut_actions g list flag final
-cut_only g list flag final xs cut h = elim (cases_Bool (has_odd g list)) [
-  | inl odd ↦ (let e : xs ≡ Unspecified list flag final ∷ [] = rw odd at h in rw odd e)
-  | inr plain ↦ (let b : BodyActions g list (body g list) flag final xs = rw plain at h in rw plain (body_only g list (body g list) flag final xs cut b))
-]
-
-in_are : (g : Group) (list : List CsiParam) (flag : Bool) (final : ℕ) → ActionsIn g list flag final (actions_in g list flag final)
+in_are : (g : Group) (list : List CsiParam) (flag : Bool) (final : ℕ) → Only (ActionsIn g list flag final) (actions_in g list flag final)
 in_are Whole list flag final = whole_are list flag final (whole list final) refl
 in_are g list flag final = cut_are g list flag final (λ e. cc)
 
-in_only : (g : Group) (list : List CsiParam) (flag : Bool) (final : ℕ) (xs : List Action) → ActionsIn g list flag final xs → xs ≡ actions_in g list flag final
-in_only Whole list flag final xs h = whole_only list flag final xs h
-in_only g list flag final xs h = cut_only g list flag final xs (λ e. cc) h
-
 -- the computed actions are the actions of the list, and there are no others
 pub actions_are : (list : List CsiParam) (flag : Bool) (final : ℕ) → Actions list flag final (actions list flag final)
-actions_are list flag final = in_are (group list final) list flag final
+actions_are list flag final = (in_are (group list final) list flag final).0
 
 pub actions_only : (list : List CsiParam) (flag : Bool) (final : ℕ) (xs : List Action) → Actions list flag final xs → xs ≡ actions list flag final
-actions_only list flag final xs h = in_only (group list final) list flag final xs h
+actions_only list flag final xs h = (in_are (group list final) list flag final).1 xs h
 
 pub one_segmentation : (list : List CsiParam) (flag : Bool) (final : ℕ) (xs ys : List Action) → Actions list flag final xs → Actions list flag final ys → xs ≡ ys
 one_segmentation list flag final xs ys h k = actions_only list flag final xs h ∙ sym (actions_only list flag final ys k)

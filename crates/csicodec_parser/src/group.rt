@@ -1,9 +1,9 @@
 //! Which rules a list falls under, and the pieces at its front.
-ghost use Rattle.std.specs.Prelude.{◌≡◌, ◌<◌, ◌≤◌, List, length, take, option_and_then, IfNone, IfSome};
+ghost use Rattle.std.specs.Prelude.{◌≡◌, ◌<◌, ◌≤◌, ◌++◌, List, IfOk, length, take, option_and_then, IfNone, IfSome};
 ghost use Rattle.csicodec_tokens.specs.declared.param.CsiParam.{CsiParam};
 ghost use Rattle.csicodec_parser.specs.ActionOf.{action_of};
 ghost use Rattle.csicodec_parser.specs.Cut.{IsStuck};
-ghost use Rattle.csicodec_parser.specs.Groups.{Piece, group_by, start};
+ghost use Rattle.csicodec_parser.specs.Groups.{Piece, group_by, marked, start};
 ghost use Rattle.csicodec_actions.specs.Kinds.{read, Dec, Terminal};
 ghost use Rattle.csicodec_parser.specs.Private.Steps.{found, front, is_odd_at, number_at, styled};
 ghost use Rattle.csicodec_parser.specs.declared.group.Group.TheVariants.{Styles};
@@ -11,6 +11,7 @@ ghost use Rattle.csicodec_parser.specs.declared.group.Group.TheVariants.{Styles}
 use crate::actions::CSI;
 use csicodec_actions::{Change, DecPrivateMode, Switch, TerminalMode};
 use csicodec_base::{CsiParam, Sgr, sgr_front};
+use std::alloc::{AllocError, Global};
 
 /// How a list is read.
 #[derive(Clone, Copy)]
@@ -56,6 +57,18 @@ impl Group {
             Group::DecModes(_) => 1,
             Group::Whole | Group::Styles | Group::Modes(_) => 0,
         }
+    }
+
+    /// What stands before the pieces, in a list of its own. Where nothing does it takes no memory.
+    pub(crate) fn front_tokens(self, alloc: Global) -> Result<Vec<CsiParam>, AllocError>
+        ensures { IfOk result (λ tokens. (rest : List CsiParam)
+            → tokens.items ++ rest ≡ marked self rest) }
+    {
+        let mut tokens = Vec::new(alloc);
+        if let Group::DecModes(_) = self {
+            tokens.push(CsiParam::P(b'?'))?;
+        }
+        Ok(tokens)
     }
 
     /// Whether a token is there, and is a byte that makes the whole list unknown.

@@ -182,10 +182,7 @@ fn unspecified<L: Look>(group: Group, look: &mut L, end: End) -> Result<CSI, All
     ensures costs { L.looks look.new + 2 * L.passed look.old
         ≤ L.looks look.old + 2 * length (L.tokens look.old) }
 {
-    let mut params = Vec::new(end.alloc);
-    if let Group::DecModes(_) = group {
-        params.push(CsiParam::P(b'?'))?;
-    }
+    let mut params = group.front_tokens(end.alloc)?;
     look.copy_to(&mut params)?;
     let control = end.control;
     let unspecified = Unspecified {

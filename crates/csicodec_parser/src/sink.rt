@@ -92,10 +92,7 @@ impl Sink for Vec<CSI> {
         truncated: bool,
         control: char,
     ) -> Result<(), AllocError> {
-        let mut params = Vec::new(alloc);
-        if let Group::DecModes(_) = group {
-            params.push(CsiParam::P(b'?'))?;
-        }
+        let mut params = group.front_tokens(alloc)?;
         params.extend_from_slice(rest)?;
         let unspecified = Unspecified {
             params,

@@ -11,9 +11,12 @@ void *__real_realloc(void *block, size_t size);
 void __real_free(void *block);
 
 static long left = -1, held, refused, asked;
+/* Whether all requests behind the one that is refused are refused, too. */
+static int for_good;
 
 static int fails(void) {
-    int now = left >= 0 && left-- == 0;
+    int now = left == 0 || (for_good && left < -1);
+    if (left >= 0) left = left ? left - 1 : -1 - for_good;
     refused += now;
     asked++;
     return now;
@@ -162,7 +165,7 @@ static uint32_t clean_end(const uint8_t *text, size_t len) {
 }
 
 /* Whether the call answers that memory ran out exactly where it was refused, with nothing put, until none is refused. */
-static int starves(uint32_t (*call)(const uint8_t *, size_t), const uint8_t *text, size_t len) {
+static int starves_so(uint32_t (*call)(const uint8_t *, size_t), const uint8_t *text, size_t len) {
     for (long nth = 0; nth < 1000; nth++) {
         memset(out, 0xaa, sizeof out);
         left = nth, held = 0, refused = 0;
@@ -173,6 +176,14 @@ static int starves(uint32_t (*call)(const uint8_t *, size_t), const uint8_t *tex
         if (status != CSICODEC_MEMORY || out[0] != 0xaa) return 0;
     }
     return 0;
+}
+
+/* Where each request is refused alone, and where all behind it are refused, too; a call that is made again has to find memory. */
+static int starves(uint32_t (*call)(const uint8_t *, size_t), const uint8_t *text, size_t len) {
+    for_good = call != event_as_terminals;
+    int right = starves_so(call, text, len);
+    for_good = 0;
+    return right && starves_so(call, text, len);
 }
 
 static uint8_t written[256];

@@ -45,6 +45,18 @@ def joined(events):
     return out
 
 
+def rows(name):
+    """The rows of a table beside this file."""
+    for line in (REPOSITORY / "python/tests" / name).read_text(encoding="utf-8").splitlines():
+        if line and not line.startswith("#"):
+            yield line.split("\t")
+
+
+def spelled(text):
+    """The bytes of a row, with \\e for ESC."""
+    return text.replace("\\e", "\\x1b").encode().decode("unicode_escape").encode("latin-1")
+
+
 class Codec(unittest.TestCase):
     def test_each_kind_there_and_back(self):
         table = (REPOSITORY / "rust/tests/kinds/table.rs").read_text(encoding="utf-8")
@@ -60,6 +72,27 @@ class Codec(unittest.TestCase):
                 self.assertEqual(eval(re.sub(r"<(\w+)[^:<>]*: (\d+)>", r"\1(\2)", repr(action)), {name: getattr(csicodec, name) for name in csicodec.__all__}), action)
                 kinds.add(type(action).__qualname__)
         self.assertGreater(len(kinds), 100)
+
+    def test_values_by_hand(self):
+        names = {name: getattr(csicodec, name) for name in csicodec.__all__}
+        for value, text, *mark in rows("values.tsv"):
+            action, written = eval(value, names), spelled(text)
+            self.assertEqual(csicodec.encode([action]), written, value)
+            self.assertEqual(action.is_canonical, mark == ["reads back"], value)
+            self.assertEqual(list(csicodec.events(written)) == [action], action.is_canonical, value)
+
+    def test_events_by_hand(self):
+        for dialect, limit, given, *wanted in rows("events.tsv"):
+            data = spelled(given)
+            for size in (1, 7, 64):
+                parser = Parser(int(limit)) if dialect == "Output" else InputParser(csicodec.Dialect[dialect], int(limit))
+                told = joined(event for at in range(0, len(data), size) for event in parser.feed(data[at : at + size]))
+                paused = [] if dialect == "Output" else parser.pause()
+                self.assertEqual([repr(it) for it in (told, paused, parser.finish())], wanted, (given, size))
+
+    def test_limits(self):
+        self.assertEqual(Parser(limit=4).feed(b"\x1b[12m\x1b[1m"), [Malformed(b"\x1b[12m"), Sgr.Intensity(csicodec.Intensity.Bold)])
+        self.assertEqual([(it.kind.name, it.data) for it in csicodec.spans(b"\x1b$(Ca")], [("Other", b"\x1b$(C"), ("Text", b"a")])
 
     def test_matching(self):
         [action] = csicodec.events("\x1b[5;7H")

@@ -9,8 +9,6 @@ from parts import Part
 from read import TOP
 
 WIDTH = 100
-# The crate whose tests have lines for each.
-TESTS = "crates/tests_codec"
 # What each of the two subjects is called in the specs, and the first lines behind the parts, which stand there by hand.
 CURSOR = {
     "name": "cursor",
@@ -159,23 +157,15 @@ def default_arms(actions):
 
 
 def tests(actions, subject):
-    """Lines of tests_codec: a list without a number, and a count of 0, that no text gives."""
+    """Rows of .ci/rows and of the tests in Python: a list without a number, and a count of 0, that no text gives."""
     counts = [action for action in actions if action.form == "count"]
     lists = [f"\\e[{action.row['final']}" for action in counts]
-    said = [f"{text}\t[{action.subject}({action.variant[0]}(1))]\t{text}" for action, text in zip(counts, lists)]
-    zeros = [f"[{action.subject}({action.variant[0]}(0))]\t\\e[0{action.row['final']}\tread otherwise" for action in counts]
-    title, behind, full = {"cursor": ("# The cursor", "A", "Cursor(Up(4294967295))"), "edit": ("# Editing", "b", "Edit(Repeat(4294967295))")}[subject]
-    last = {"cursor": "[Cursor(SetLeftAndRightMargins { left: OneBased { value: 1 }, right: OneBased { value: 4294967295 } })]\t\\e[s\tread otherwise", "edit": "values cursors\t"}[subject]
+    said = [f"{text}\t{rust(action)}(1)\t{text}" for action, text in zip(counts, lists)]
+    zeros = [f"{action.subject}.{action.variant[0]}(0)\t\\e[0{action.row['final']}" for action in counts]
+    title, of_what, behind, full = {"cursor": ("# The cursor", "the cursor", "A", "Cursor::Up"), "edit": ("# Editing", "edits", "b", "Edit::Repeat")}[subject]
     longest = f"\\e[4294967295{behind}"
-    yield f"{TESTS}/stdin", Part(lists, (title,), longest)
-    yield f"{TESTS}/stdout", Part(said, (title,), f"{longest}\t[{full}]\t{longest}")
-    yield f"{TESTS}/stdout", Part(zeros, (f"values {subject}s\t",), last)
-    values = [f"{rust(action)}(0)," for action in counts]
-    if subject == "cursor":
-        yield f"{TESTS}/src/values.rt", Part([f"fn cursors() -> [Cursor; {len(values) + 1}] {{"], ("/// Counts of 0, and the margins at the edges, whose text saves the cursor.",), "    let margins = Cursor::SetLeftAndRightMargins {")
-        yield f"{TESTS}/src/values.rt", Part([f"        {value}" for value in values], ("        right: OneBased::new(u32::MAX),", "    };", "    ["), "        margins,")
-    else:
-        yield f"{TESTS}/src/values.rt", Part([f"static EDITS: [Edit; {len(values)}] = [", *(f"    {value}" for value in values)], ("/// Counts of 0, which are read as 1.",), "];")
+    yield ".ci/actions.tsv", Part(said, (title,), f"{longest}\t{full}(4294967295)\t{longest}")
+    yield "python/tests/values.tsv", Part(zeros, (f"# Counts of 0 of {of_what}, which are read as 1.",), "")
 
 
 def code(text):

@@ -4,7 +4,6 @@ import sys
 from dataclasses import dataclass
 
 from actions import subjects
-from core import TESTS
 from examples import all_examples
 from checks import refuse
 from forms import Form, form_of
@@ -146,7 +145,7 @@ def page(rows):
 
 
 def known_lines(rows):
-    """Lines of tests_codec: each control sequence of an example, and what the row that reads it has, or `-`."""
+    """Rows of tried/: each control sequence of an example, and what the row that reads it has, or `-`."""
     for text in dict.fromkeys(found[1] for sequence, *_ in all_examples() if (found := re.fullmatch(r"\\e\[([0-?]*[ -/]*[@-~])", sequence))):
         row, values = next(((row, values) for row in rows if (values := row.form.read(text)) is not None), (None, []))
         form = row and row.form
@@ -155,12 +154,8 @@ def known_lines(rows):
 
 
 def tests(rows):
-    lines = list(known_lines(rows))
-    marks = ("# Which row of the second table reads a list: the examples",), ""
-    return {
-        f"{TESTS}/stdin": [Part([f"known {text}" for text, _ in lines], *marks)],
-        f"{TESTS}/stdout": [Part([f"known {text}\t{said}" for text, said in lines], *marks)],
-    }
+    lines = [f"known {text}\t{said}" for text, said in known_lines(rows)]
+    return {"tried/rows.tsv": [Part(lines, ("# Which row of the second table reads a list: the examples",), "")]}
 
 
 def check(table, rows):

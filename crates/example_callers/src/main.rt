@@ -1,4 +1,4 @@
-//! Five callers of the library, each in a file of its own.
+//! Six callers of the library, each in a file of its own.
 //!
 //! A line of standard input names one of them, and has the bytes that it gets, with `\e` for ESC and else as `bstr` spells bytes. The program
 //! writes what that caller makes of them. Behind `measure` stand a call, and how often it is done, ahead of the bytes.
@@ -9,6 +9,8 @@ mod keys;
 mod measure;
 mod recorder;
 mod renderer;
+mod sequences;
+mod styles;
 
 use bstr::ByteVec;
 use std::alloc::{AllocError, Global};
@@ -31,8 +33,10 @@ fn run(rt: &HostRuntime, line: &str) -> anyhow::Result<()> {
         "keys" => keys::run(rt, &bytes),
         "recorder" => recorder::run(rt, &bytes),
         "renderer" => renderer::run(rt, &bytes),
+        "sequences" => sequences::run(rt, &bytes),
+        "styles" => Ok(styles::run(rt.alloc(), &mut bytes.as_slice(), &mut rt.stdout())?),
         _ => Err(anyhow::Error::msg(
-            "a line begins with emulator, keys, measure, recorder or renderer",
+            "a line begins with emulator, keys, measure, recorder, renderer, sequences or styles",
         )),
     }
 }

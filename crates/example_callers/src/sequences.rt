@@ -1,10 +1,11 @@
-//! The use as a library of README.md.
+//! The loop over the sequences of a whole input.
 
 use csicodec::{CSI, ReadError, Sgr, encode, read_csi_into};
 use std::alloc::Global;
+use std::io::Write;
 
 /// The normal form of the sequences, without what sets or ends blinking.
-pub fn without_blink(alloc: Global, bytes: &[u8]) -> Result<Vec<u8>, ReadError> {
+fn without_blink(alloc: Global, bytes: &[u8]) -> Result<Vec<u8>, ReadError> {
     let mut out = Vec::new(alloc);
     let mut params = Vec::new(alloc);
     let mut rest = bytes;
@@ -19,4 +20,11 @@ pub fn without_blink(alloc: Global, bytes: &[u8]) -> Result<Vec<u8>, ReadError> 
         rest = tail.rest;
     }
     Ok(out)
+}
+
+/// Writes sequences without blinking.
+pub(crate) fn run(rt: &HostRuntime, bytes: &[u8]) -> anyhow::Result<()> {
+    rt.stdout().write_all(&without_blink(rt.alloc(), bytes)?)?;
+    println!(rt; "")?;
+    Ok(())
 }

@@ -1,12 +1,11 @@
 //! Any stream with its styles alone: of its control sequences those before `m` stay, and no other; all else is as it came.
-#![tactic(auto)]
-
+//! `./csicodec new` begins a project with this file.
 ghost use Rattle.std.specs.Prelude.{ℕ, List};
-ghost use Rattle.example_styles.specs.Kept.{StyleOrNothing};
+ghost use Rattle.example_callers.specs.Kept.{StyleOrNothing};
 
 use csicodec::{CsiParam, Rewrite, RunError, filter_all};
 use std::alloc::{AllocError, Global};
-use std::process::ExitCode;
+use std::io::{Read, Write};
 
 /// A longer control sequence is passed on as it is.
 const LIMIT: usize = 4096;
@@ -32,14 +31,11 @@ impl Rewrite for StylesAlone {
     }
 }
 
-fn main(rt: HostRuntime) -> ExitCode {
-    let mut output = rt.stdout();
-    match filter_all(rt.alloc(), LIMIT, StylesAlone, &mut rt.stdin(), &mut output) {
-        Ok(()) => ExitCode::SUCCESS,
-        Err(error) => {
-            // Where standard error is gone too, the status is all that can be told.
-            let _told = eprintln!(rt; "{error}");
-            ExitCode::from(error.status())
-        }
-    }
+/// Writes what it makes of a stream.
+pub(crate) fn run<R: Read, W: Write>(
+    alloc: Global,
+    input: &mut R,
+    output: &mut W,
+) -> Result<(), RunError> {
+    filter_all(alloc, LIMIT, StylesAlone, input, output)
 }

@@ -1,25 +1,54 @@
 -- What xterm's encoding, modifyOtherKeys, rxvt and Linux' console write of a key is read as what they say of it.
-use Rattle.std.proofs.Common.{◌≡◌, ℕ, ◌-◌, ◌<◌, ◌≤◌, List, [], ◌∷◌, Option, None, Some, refl, sym, ap, ◌∙◌, inl, inr, arith, subst}
-use Rattle.std.proofs.lemmas.Bool.{and_parts, cases_Bool, eqb-true, ltb-true, ltb-false, not-true, and_left, and_from, and_right}
+use Rattle.std.proofs.Common.{◌≡◌, ℕ, ◌-◌, ◌<◌, ◌≤◌, List, [], ◌∷◌, Option, None, Some, refl, ap, ◌∙◌, inl, inr, arith, subst, lt-ltb}
+use Rattle.std.proofs.lemmas.Bool.{and_parts, cases_Bool, eqb-true, ltb-false, not-true, and_left, and_from, and_right}
 use Rattle.std.proofs.lemmas.Option.{same_Some}
-use Rattle.std.specs.{Prelude.Bool, Prelude.true, Prelude.false, Prelude.not, Prelude.◌==◌, Prelude.◌&&◌, Prelude.nat_lt, Prelude.is_none}
-use Rattle.std.specs.{Prelude.option_and_then, Option.option_map, Option.option_or}
-use Rattle.csicodec_events.specs.Input.{is_printable}
-use Rattle.csicodec_keys.specs.Tables.{controls, csi_keys, kitty_keys, ss3_keys, linux_keys, other_keys, rxvt_keys, rxvt_ss3, ss3_cursor}
-use Rattle.csicodec_keys.specs.Forms.{alt_control, char_form, control_form, csi_form, held_by, legacy_form, legacy_said, pressed, pressed_row, read_alt, read_ss3, ss3_by, ss3_form, text_form, text_of, typed_or, typing, with_alt, by, char_number, csi_row, key_alone, linux_form, numbered, other_form, other_key, other_number, read_listed, row_key, rxvt_form, rxvt_row, said_key, told_by}
-use Rattle.csicodec_keys.specs.{declared.code.KeyCode.KeyCode, declared.tables.Row.Row, declared.writing.KeySpelling.KeySpelling, Characters.is_alt}
-use Rattle.csicodec_keys.specs.{Characters.is_typed, Fields.Says, Fields.written_list, Keys.Stroke, Rows.row_at, Rows.row_of, SameKeys.same_code}
-use Rattle.csicodec_keys.specs.{Win32.read_win32}
-use Rattle.csicodec_keys.proofs.EachTable.{controls-table, csi-table, is_char, is_control, is_csi, is_listed, is_no_text, is_ss3, ss3-table, is_linux, is_other, is_read, is_rxvt, is_rxvt_ss3, is_same, linux-table, other-table, rxvt-table, rxvt-ss3-table}
-use Rattle.csicodec_keys.proofs.{AnyTable.Found, AnyTable.alone-at, AnyTable.found, AnyTable.pressed-row, Options.allowed, Options.either, Options.four}
-use Rattle.csicodec_keys.proofs.{Options.made, Options.three, Options.unless, Options.none-is, Sound.Fine, Sound.alt-free, Sound.alt-typed, Sound.free-scalar}
-use Rattle.csicodec_keys.proofs.{Sound.typed-text, Sound.typed-scalar, Lists.list-read, Fronts.is_end, Fronts.is_free, Kitty.csi-at, Kitty.key-alone}
-use Rattle.csicodec_keys.proofs.{Kitty.row-said, Kitty.said-read, Kitty.first-read, SameKeys.same-code}
+use Rattle.std.specs.{Prelude.true, Prelude.false, Prelude.not, Prelude.◌==◌, Prelude.◌&&◌, Prelude.nat_lt, Prelude.is_none, Prelude.option_and_then}
+use Rattle.std.specs.{List.list_all, Option.option_map, Option.option_or}
+use Rattle.csicodec_keys.specs.Tables.{controls, csi_keys, kitty_keys, ss3_keys, linux_keys, other_keys, rxvt_keys, rxvt_ss3}
+use Rattle.csicodec_keys.specs.Forms.{alt_control, char_form, control_form, legacy_form, legacy_said, pressed, ss3_form, text_form, text_of, typed_or, typing, with_alt, by, char_number, key_alone, linux_form, numbered, read_form, other_form, other_key, other_number, read_listed, rxvt_form, rxvt_row, said_key, told_by}
+use Rattle.csicodec_keys.specs.{declared.code.KeyCode.KeyCode, declared.key.KeyEvent.KeyEvent, Fields.is_plain, Fields.Says, Fields.written_list}
+use Rattle.csicodec_keys.specs.{declared.tables.Row.Row, declared.writing.KeySpelling.KeySpelling, Characters.is_alt, Characters.is_typed, Keys.Stroke}
+use Rattle.csicodec_keys.specs.{Rows.row_at, Rows.row_of, SameKeys.same_code, Win32.read_win32}
+use Rattle.csicodec_keys.proofs.EachTable.{alt_back, as_csi, as_linux, as_ss3, as_text, comes_back, controls-alt, controls-back, csi-back, csi-read, is_char, is_csi, is_key, is_no_text, is_other, is_pressed, is_read, is_short, linux-back, other-read, rxvt-back, rxvt-ss3-back, ss3-back}
+use Rattle.csicodec_keys.proofs.{AnyTable.is_same, AnyTable.of-rows, AnyTable.same-row, Options.allowed, Options.either, Options.made, Options.none-is}
+use Rattle.csicodec_keys.proofs.{Options.three, Options.unless, Sound.Fine, Sound.alt-free, Sound.alt-typed, Sound.is_sound, Sound.typed-text}
+use Rattle.csicodec_keys.proofs.{Sound.typed-scalar, Lists.list-read, Lists.plain-parts, Kitty.first-read, Kitty.row-with, SameKeys.same-code}
 use lib.Utf8.{scalar}
 use Rattle.csicodec_keys.specs.declared.code.KeyCode.TheVariants as code
 use Rattle.csicodec_keys.specs.declared.key.Encoding.TheVariants as encoding
 use Rattle.csicodec_keys.specs.declared.key.KeyEvent.TheVariants as event
 use Rattle.csicodec_keys.specs.declared.writing.KeySpelling.TheVariants as form
+
+-- ---- rows of a key alone
+
+press-is : (k : KeyCode) (held : ℕ) (o : Option Stroke) → is_pressed k held o ≡ true → o ≡ Some (pressed k held)
+press-is k held None h = cc
+press-is k held (Some s) h =
+    let p = three (same_code s.code k) (s.held == held) (is_plain 0 s.event s.text) h in
+    let q = plain-parts 0 s.event s.text p.2 in
+    same s.code s.held s.event s.text (same-code s.code k p.0) (eqb-true s.held held p.1) q.1 q.2
+  where
+    same : (c : KeyCode) (n : ℕ) (e : KeyEvent) (t : List ℕ) → c ≡ k → n ≡ held → e ≡ event.Press → t ≡ []
+        → Some (record { code = c; held = n; event = e; text = t }) ≡ Some (pressed k held)
+    same c n e t is down goes types = rw (is, down, goes, types) refl
+
+-- a form that says nothing of a text is read alike with any
+short-read : (f : KeySpelling) (text : List ℕ) → is_short f ≡ true → read_form f text ≡ read_form f []
+short-read (form.Typed n held e control) text h = cc
+short-read _ text h = refl
+
+form-fine : (f : KeySpelling) (k : KeyCode) (held : ℕ) (text : List ℕ) → is_key k held f ≡ true → Fine text (pressed k held) f
+form-fine f k held text h =
+    let p = three (is_sound f) (is_short f) (is_pressed k held (read_form f [])) h in
+    record { read = short-read f text p.1 ∙ press-is k held (read_form f []) p.2; sound = p.0 }
+
+-- what is said of the key of a row is a press of it
+row-fine : (g : Row → KeySpelling) (rows : List Row) (k : KeyCode) (held : ℕ) (text : List ℕ) (s : Stroke) (f : KeySpelling) → list_all (comes_back g) rows ≡ true
+    → ((is_char k && nat_lt held 2) ≡ false → s ≡ pressed k held) → option_map g (row_of rows k held) ≡ Some f → Fine text s f
+row-fine g rows k held text s f all said e =
+    of-rows (comes_back g) (λ c n x. ((is_char c && nat_lt n 2) ≡ false → s ≡ pressed c n) → Fine text s x) g rows k held f all (λ r h said.
+    let p = and_parts (is_no_text r) (is_key r.code r.held (g r)) h in
+    rw (said (not-true (is_char r.code && nat_lt r.held 2) p.0)) (form-fine (g r) r.code r.held text p.1)) e said
 
 -- ---- xterm
 
@@ -27,22 +56,6 @@ use Rattle.csicodec_keys.specs.declared.writing.KeySpelling.TheVariants as form
 said-pressed : (c : KeyCode) (held : ℕ) (text : List ℕ) → (is_char c && nat_lt held 2) ≡ false → legacy_said c held text ≡ pressed c held
 said-pressed (code.Char c) held text h = rw h refl
 said-pressed _ held text h = refl
-
--- of a row that is no text
-row-pressed : {test : Row → Bool} {rows : List Row} (r : Row) (c : KeyCode) (held : ℕ) (text : List ℕ) → Found test rows c held r → is_no_text r ≡ true
-    → pressed_row r ≡ legacy_said c held text
-row-pressed r c held text t h =
-    let other = subst (λ n. (is_char r.code && nat_lt n 2) ≡ false) t.held_is (not-true (is_char r.code && nat_lt r.held 2) h) in
-    pressed-row c held r t ∙ sym (said-pressed c held text (subst (λ x. (is_char x && nat_lt held 2) ≡ false) t.code_is other))
-
-control-fine : (c : KeyCode) (held : ℕ) (text : List ℕ) (f : KeySpelling) → control_form c held ≡ Some f → Fine text (legacy_said c held text) f
-control-fine c held text f e = made (Fine text (legacy_said c held text)) (λ (r : Row). form.Text r.control) (row_of controls c held) f e (λ r is.
-    let t = found is_control controls c held r controls-table is in
-    let p = four (r.number == 0) (not (is_typed r.control)) (is_free r.control) (is_no_text r) t.passes in
-    record {
-      read = rw (not-true (is_typed r.control) p.1, alone-at controls r p.0 t.at) (ap Some (row-pressed r c held text t p.3));
-      sound = free-scalar r.control p.2;
-    })
 
 with-alt : (held n : ℕ) → 2 ≤ held → held < 8 → n ≡ held - 2 → with_alt n ≡ held
 with-alt held n low high e = grind arith
@@ -54,25 +67,8 @@ alt-fine : (c : KeyCode) (held : ℕ) (text : List ℕ) (f : KeySpelling) → he
 alt-fine c held text f high e =
     let u = unless (nat_lt held 2) (option_map (λ (r : Row). form.Alt r.control) (row_of controls c (held - 2))) f e in
     let low : 2 ≤ held = ltb-false held 2 u.0 in
-    made (Fine text (legacy_said c held text)) (λ (r : Row). form.Alt r.control) (row_of controls c (held - 2)) f u.1 (λ r is.
-    let t = found is_control controls c (held - 2) r controls-table is in
-    let p = four (r.number == 0) (not (is_typed r.control)) (is_free r.control) (is_no_text r) t.passes in
-    record {
-      read =
-          key-alone encoding.Legacy (read_alt r.control) ∙ (rw (not-true (is_typed r.control) p.1, alone-at controls r p.0 t.at) refl
-          ∙ (ap (λ (k : KeyCode). Some (pressed k (with_alt r.held))) t.code_is
-          ∙ (ap (λ (n : ℕ). Some (pressed c n)) (with-alt held r.held low high t.held_is) ∙ ap Some (sym (two-held c held text low)))));
-      sound = p.2;
-    })
-
-ss3-fine : (c : KeyCode) (held : ℕ) (text : List ℕ) (f : KeySpelling) → ss3_form c held ≡ Some f → Fine text (legacy_said c held text) f
-ss3-fine c held text f e = made (Fine text (legacy_said c held text)) (λ (r : Row). form.Ss3 r.control) (row_of ss3_keys c held) f e (λ r is.
-    let t = found is_ss3 ss3_keys c held r ss3-table is in
-    let p = three (r.number == 0) (is_printable r.control) (is_no_text r) t.passes in
-    record {
-      read = key-alone (ss3_by r.control) (read_ss3 r.control) ∙ rw (alone-at ss3_keys r p.0 t.at) (ap Some (row-pressed r c held text t p.2));
-      sound = p.1;
-    })
+    of-rows alt_back (λ k n x. n ≡ held - 2 → Fine text (legacy_said k held text) x) (λ (r : Row). form.Alt r.control) controls c (held - 2) f controls-alt (λ r h n.
+    rw (two-held r.code held text low) (subst (λ m. Fine text (pressed r.code m) (form.Alt r.control)) (with-alt held r.held low high n) (form-fine (form.Alt r.control) r.code (with_alt r.held) text h))) u.1 refl
 
 -- text is what a key types
 text-is : (c held d : ℕ) (text : List ℕ) → text_of c held text ≡ Some d → typed_or c text ≡ d
@@ -93,114 +89,39 @@ char-fine (code.Char c) held text f e = elim (cases_Bool (nat_lt held 2)) [
       record { read = rw (alt-typed c p.1, eqb-true held 2 p.0) refl; sound = alt-free c p.1 })
 ]
 char-fine code.Escape held text f e =
-    allowed (Fine text (legacy_said code.Escape held text)) (held == 0) form.Escape f e (λ h. record { read = rw (eqb-true held 0 h) refl; sound = tt })
+    allowed (Fine text (legacy_said code.Escape held text)) (held == 0) form.Escape f e (λ h. record { read = rw (eqb-true held 0 h) refl; sound = refl })
 char-fine _ held text f e = cc
 
-held-own : (h : ℕ) → held_by h 0 ≡ Some h
-held-own h = elim (cases_Bool (h == 0)) [ inl none ↦ rw (none, eqb-true h 0 none) refl | inr some ↦ rw some refl ]
-
-no-char : (c : KeyCode) (held : ℕ) → not (is_char c) ≡ true → (is_char c && nat_lt held 2) ≡ false
-no-char c held h = and_left (is_char c) (nat_lt held 2) (not-true (is_char c) h)
-
--- a control sequence of a row, with these modifiers in its list
-csi-row : (r : Row) (c : KeyCode) (own held all : ℕ) (text : List ℕ) → row_of csi_keys c own ≡ Some r → held < 256 → held_by own held ≡ Some all
-    → Fine text (legacy_said c all text) (form.Csi r.number held r.control)
-csi-row r c own held all text e h says =
-    let t = found is_csi csi_keys c own r csi-table e in
-    let p = three (is_listed r) (is_none (row_at kitty_keys r.number r.control)) (not (is_char r.code)) t.passes in
-    let q = and_parts (nat_lt r.number 4294967296) (is_end r.control) p.0 in
-    let x : Says = record { number = r.number; held = held; event = event.Press; text = [] } in
-    let named = said-pressed c all text (no-char c all (subst (λ k. not (is_char k) ≡ true) t.code_is p.2)) in
-    record {
-      read = said-read (written_list r.number held event.Press []) r.control x (pressed c all) (list-read r.number held event.Press [] q.0 h refl (omega arith))
-          (row-said r x r.control (csi-at r p.1 t.at) (pressed c all) (rw (t.held_is, says, t.code_is) refl))
-          ∙ ap Some (sym named);
-      sound = (ltb-true r.number 4294967296 q.0, h, q.1);
-    }
-
-csi-fine : (c : KeyCode) (held : ℕ) (text : List ℕ) (f : KeySpelling) → held < 8 → csi_form c held ≡ Some f → Fine text (legacy_said c held text) f
-csi-fine c held text f h e =
-    let P = Fine text (legacy_said c held text) in
-    either (P f) (option_map (λ (r : Row). form.Csi r.number 0 r.control) (row_of csi_keys c held)) _ f e
-    (λ own. made P (λ (r : Row). form.Csi r.number 0 r.control) (row_of csi_keys c held) f own (λ r is. csi-row r c held 0 held text is (omega arith) (held-own held)))
-    (λ list. made P (λ (r : Row). form.Csi r.number held r.control) (row_of csi_keys c 0) f list (λ r is. csi-row r c 0 held held text is (omega arith) refl))
+-- a row whose modifiers are in its list
+listed-fine : (c : KeyCode) (held : ℕ) (text : List ℕ) (f : KeySpelling) → held < 8 → option_map (λ (r : Row). form.Csi r.number held r.control) (row_of csi_keys c 0) ≡ Some f
+    → Fine text (legacy_said c held text) f
+listed-fine c held text f low e = of-rows is_csi (λ k n x. n ≡ 0 → Fine text (legacy_said k held text) x) (λ (r : Row). form.Csi r.number held r.control) csi_keys c 0 f csi-read (λ r h none.
+    let p = and_parts (not (is_char r.code)) (is_read r) h in
+    let w = row-with r (pressed r.code held) (record { held = omega (arith, low); text = refl; short = omega arith }) p.1 none in
+    rw (said-pressed r.code held text (and_left (is_char r.code) (nat_lt held 2) (not-true (is_char r.code) p.0))) (record { read = w.read; sound = w.sound })) e refl
 
 pub legacy-fine : (s : Stroke) (held : ℕ) (f : KeySpelling) → held < 8 → legacy_form s held ≡ Some f → Fine s.text (legacy_said s.code held s.text) f
 legacy-fine s held f h e =
-    let P = Fine s.text (legacy_said s.code held s.text) f in
-    either P (control_form s.code held) _ f e (control-fine s.code held s.text f)
-    (λ e. either P (alt_control s.code held) _ f e (alt-fine s.code held s.text f h)
-    (λ e. either P (ss3_form s.code held) _ f e (ss3-fine s.code held s.text f)
-    (λ e. either P (char_form s.code held s.text) (csi_form s.code held) f e (char-fine s.code held s.text f) (csi-fine s.code held s.text f h))))
+    let c = s.code in
+    let said = legacy_said c held s.text in
+    let P = Fine s.text said f in
+    either P (control_form c held) _ f e (row-fine as_text controls c held s.text said f controls-back (said-pressed c held s.text))
+    (λ e. either P (alt_control c held) _ f e (alt-fine c held s.text f h)
+    (λ e. either P (ss3_form c held) _ f e (row-fine as_ss3 ss3_keys c held s.text said f ss3-back (said-pressed c held s.text))
+    (λ e. either P (char_form c held s.text) _ f e (char-fine c held s.text f)
+    (λ e. either P (option_map as_csi (row_of csi_keys c held)) _ f e (row-fine as_csi csi_keys c held s.text said f csi-back (said-pressed c held s.text))
+    (listed-fine c held s.text f h)))))
 
--- ---- Linux' console
+-- ---- rxvt and Linux' console
 
 pub linux-fine : (k : KeyCode) (held : ℕ) (text : List ℕ) (f : KeySpelling) → linux_form k held ≡ Some f → Fine text (pressed k held) f
-linux-fine k held text f e = made (Fine text (pressed k held)) (λ (r : Row). form.Linux r.control) (row_of linux_keys k held) f e (λ r is.
-    let t = found is_linux linux_keys k held r linux-table is in
-    let p = and_parts (r.number == 0) (is_printable r.control) t.passes in
-    record {
-      read = key-alone encoding.Linux (option_map pressed_row (row_at linux_keys 0 r.control)) ∙ (ap (option_map pressed_row) (alone-at linux_keys r p.0 t.at) ∙ ap Some (pressed-row k held r t));
-      sound = p.1;
-    })
-
--- ---- rxvt
-
-rxvt-ss3-fine : (k : KeyCode) (held : ℕ) (text : List ℕ) (r : Row) → row_of rxvt_ss3 k held ≡ Some r → Fine text (pressed k held) (form.Ss3 r.control)
-rxvt-ss3-fine k held text r e =
-    let t = found is_rxvt_ss3 rxvt_ss3 k held r rxvt-ss3-table e in
-    let p = four (r.number == 0) (is_printable r.control) (is_none (row_at ss3_keys 0 r.control)) (is_none (row_at ss3_cursor 0 r.control)) t.passes in
-    record {
-      read =
-          key-alone (ss3_by r.control) (read_ss3 r.control)
-          ∙ rw (none-is (row_at ss3_keys 0 r.control) p.2, none-is (row_at ss3_cursor 0 r.control) p.3, alone-at rxvt_ss3 r p.0 t.at) (ap Some (pressed-row k held r t));
-      sound = p.1;
-    }
-
--- the row that is found
-same-row : (o : Option Row) (r : Row) → is_same o r ≡ true → (q : Row) × (o ≡ Some q) × (q.code ≡ r.code) × (q.held ≡ r.held)
-same-row None r h = cc
-same-row (Some q) r h =
-    let p = and_parts (same_code q.code r.code) (q.held == r.held) h in (q, refl, same-code q.code r.code p.0, eqb-true q.held r.held p.1)
-
-rxvt-csi-fine : (k : KeyCode) (held : ℕ) (text : List ℕ) (r : Row) → row_of rxvt_keys k held ≡ Some r → is_read r ≡ true → Fine text (pressed k held) (form.Csi r.number 0 r.control)
-rxvt-csi-fine k held text r e read =
-    let t = found is_rxvt rxvt_keys k held r rxvt-table e in
-    let p = and_parts (is_listed r) (is_same (csi_row r.number r.control) r) read in
-    let q = and_parts (nat_lt r.number 4294967296) (is_end r.control) p.0 in
-    let s = same-row (csi_row r.number r.control) r p.1 in
-    let x : Says = record { number = r.number; held = 0; event = event.Press; text = [] } in
-    record {
-      read =
-          said-read (written_list r.number 0 event.Press []) r.control x (pressed k held) (list-read r.number 0 event.Press [] q.0 (omega arith) refl (omega arith))
-          (row-said s.0 x r.control s.1 (pressed k held) (own s.0 (s.2 ∙ t.code_is) (s.3 ∙ t.held_is)));
-      sound = (ltb-true r.number 4294967296 q.0, omega arith, q.1);
-    }
-  where
-    own : (q : Row) → q.code ≡ k → q.held ≡ held → row_key (record { number = r.number; held = 0; event = event.Press; text = [] }) q ≡ Some (pressed k held)
-    own q same down = elim (cases_Bool (q.held == 0)) [
-      | inl none ↦ rw (none, same, sym (eqb-true q.held 0 none) ∙ down) refl
-      | inr some ↦ rw (some, same, down) refl
-    ]
-
-rxvt-row-fine : (k : KeyCode) (held : ℕ) (text : List ℕ) (r : Row) → row_of rxvt_keys k held ≡ Some r → Fine text (pressed k held) (rxvt_row r)
-rxvt-row-fine k held text r e =
-    let t = found is_rxvt rxvt_keys k held r rxvt-table e in
-    elim (cases_Bool (r.control == 36)) [
-      | inl dollar ↦
-          let at : row_at rxvt_keys r.number 36 ≡ Some r = subst (λ n. row_at rxvt_keys r.number n ≡ Some r) (eqb-true r.control 36 dollar) t.at in
-          rw dollar (record {
-            read = key-alone encoding.Rxvt (option_map pressed_row (row_at rxvt_keys r.number 36)) ∙ (ap (option_map pressed_row) at ∙ ap Some (pressed-row k held r t));
-            sound = rw dollar at t.passes;
-          })
-      | inr other ↦ rw other (rxvt-csi-fine k held text r e (rw other at t.passes))
-    ]
+linux-fine k held text f e = row-fine as_linux linux_keys k held text (pressed k held) f linux-back (λ _. refl) e
 
 pub rxvt-fine : (k : KeyCode) (held : ℕ) (text : List ℕ) (f : KeySpelling) → rxvt_form k held ≡ Some f → Fine text (pressed k held) f
 rxvt-fine k held text f e =
-    let P = Fine text (pressed k held) in
-    either (P f) (option_map rxvt_row (row_of rxvt_keys k held)) _ f e (λ row. made P rxvt_row (row_of rxvt_keys k held) f row (rxvt-row-fine k held text))
-    (λ ss3. made P (λ (r : Row). form.Ss3 r.control) (row_of rxvt_ss3 k held) f ss3 (rxvt-ss3-fine k held text))
+    let s = pressed k held in
+    either (Fine text s f) (option_map rxvt_row (row_of rxvt_keys k held)) _ f e (row-fine rxvt_row rxvt_keys k held text s f rxvt-back (λ _. refl))
+    (row-fine as_ss3 rxvt_ss3 k held text s f rxvt-ss3-back (λ _. refl))
 
 -- ---- modifyOtherKeys
 
@@ -216,11 +137,10 @@ char-numbered _ n e = cc
 
 other-numbered : (k : KeyCode) (n : ℕ) → other_number k ≡ Some n → Numbered k n
 other-numbered k n e = either (Numbered k n) (option_map (λ (r : Row). r.number) (row_of other_keys k 0)) (char_number k) n e
-    (λ row. made (Numbered k) (λ (r : Row). r.number) (row_of other_keys k 0) n row (λ r is.
-    let t = found is_other other_keys k 0 r other-table is in
-    let p = and_parts (scalar r.number) (r.control == 126) t.passes in
-    let at : row_at other_keys r.number 126 ≡ Some r = subst (λ c. row_at other_keys r.number c ≡ Some r) (eqb-true r.control 126 p.1) t.at in
-    record { is = rw at (ap Some t.code_is); character = p.0 })) (char-numbered k n)
+    (of-rows is_other (λ c _. Numbered c) (λ (r : Row). r.number) other_keys k 0 n other-read (λ r h.
+    let p = and_parts (scalar r.number) (is_same (row_at other_keys r.number 126) r) h in
+    let (q, at, code, held) = same-row (row_at other_keys r.number 126) r p.1 in
+    record { is = rw at (ap Some code); character = p.0 })) (char-numbered k n)
 
 -- no row has 27 before `~`
 none-said : (held : ℕ) (text : List ℕ) → said_key (record { number = 27; held = held; event = event.Press; text = text }) 126 ≡ None
@@ -240,5 +160,5 @@ other-fine k held text f h e =
           (ap (λ o. key_alone (option_and_then (λ (x : Says). option_or (by (told_by x 126) (said_key x 126)) (by encoding.ModifyOtherKeys (other_key x 126 x.text))) o)) list
           ∙ (ap (λ o. key_alone (option_or (by (told_by says 126) o) (by encoding.ModifyOtherKeys (other_key says 126 (n ∷ []))))) (none-said held (n ∷ []))
           ∙ ap (λ o. key_alone (by encoding.ModifyOtherKeys (option_map (λ (c : KeyCode). pressed c held) o))) is.is));
-      sound = (is.character, omega (arith, h));
+      sound = and_from (scalar n) (nat_lt held 256) is.character (lt-ltb held 256 (omega (arith, h)));
     })

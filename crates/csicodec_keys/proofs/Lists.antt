@@ -49,7 +49,7 @@ with-number n held e text small h s short =
     let s' = separated held e text h in rw (small, s'.0, s'.1, text-read text s short) refl
 
 -- nothing is said but a key of number 1
-plain-parts : (held : ℕ) (e : KeyEvent) (text : List ℕ) → is_plain held e text ≡ true → (held ≡ 0) × (e ≡ event.Press) × (text ≡ [])
+pub plain-parts : (held : ℕ) (e : KeyEvent) (text : List ℕ) → is_plain held e text ≡ true → (held ≡ 0) × (e ≡ event.Press) × (text ≡ [])
 plain-parts held event.Press [] h = (eqb-true held 0 (and_parts (held == 0) true h).0, refl, refl)
 plain-parts held event.Press (c ∷ cs) h = absurd (grind arith)
 plain-parts held event.Repeat text h = absurd (grind arith)

@@ -1,7 +1,6 @@
 -- Values that may be none.
 use Rattle.std.proofs.{Common.◌≡◌, Common.Option, Common.None, Common.Some, Common.refl, Common.subst, Common.arith, lemmas.Option.same_Some}
-use Rattle.std.specs.{Prelude.Bool, Prelude.true, Prelude.false, Prelude.◌&&◌, Prelude.◌||◌, Prelude.not, Prelude.is_none, Prelude.if◌then◌else◌}
-use Rattle.std.specs.{Option.option_map, Option.option_or}
+use Rattle.std.specs.{Prelude.Bool, Prelude.true, Prelude.false, Prelude.◌&&◌, Prelude.is_none, Prelude.if◌then◌else◌, Option.option_map, Option.option_or}
 
 -- what holds of each that it may be made of holds of it
 pub made : {A B : Type 0} (P : B → Type 0) (g : A → B) (o : Option A) (b : B) → option_map g o ≡ Some b → ((a : A) → o ≡ Some a → P (g a)) → P b
@@ -27,9 +26,6 @@ unless false x y e = (refl, e)
 pub none-is : {X : Type 0} (o : Option X) → is_none o ≡ true → o ≡ None
 none-is None e = refl
 none-is (Some x) e = cc
-
-pub not-both : (a b : Bool) → (not a || not b) ≡ true → (a && b) ≡ false
-not-both a b h = grind arith
 
 pub three : (a b c : Bool) → (a && (b && c)) ≡ true → (a ≡ true) × (b ≡ true) × (c ≡ true)
 three a b c h = (grind arith, grind arith, grind arith)

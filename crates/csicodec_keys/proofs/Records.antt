@@ -1,16 +1,15 @@
 -- What Win32-input-mode writes of a key is read as what it says of it.
-use Rattle.std.proofs.Common.{◌≡◌, ℕ, pos, ◌+◌, ◌*◌, ◌/◌, ◌%◌, ◌<◌, List, [], ◌∷◌, Option, None, Some, refl, sym, ap, ◌∙◌, inl, inr, arith, subst}
-use Rattle.std.proofs.lemmas.Bool.{agree_below, agree_below_at, and_parts, cases_Bool, eqb-false, eqb-true, lt-ltb, ltb-true}
-use Rattle.std.proofs.lemmas.Option.{same_Some}
+use Rattle.std.proofs.Common.{◌≡◌, ℕ, ◌+◌, ◌*◌, ◌/◌, ◌%◌, ◌<◌, List, [], ◌∷◌, Option, None, Some, refl, sym, ap, ◌∙◌, arith, subst}
+use Rattle.std.proofs.{lemmas.Bool.agree_below, lemmas.Bool.agree_below_at, lemmas.Bool.and_parts, lemmas.Bool.eqb-true, lemmas.Bool.lt-ltb}
+use Rattle.std.proofs.{lemmas.Bool.ltb-true, lemmas.Option.same_Some}
 use Rattle.std.specs.{Prelude.Bool, Prelude.true, Prelude.false, Prelude.not, Prelude.◌==◌, Prelude.◌&&◌, Prelude.◌||◌, Prelude.nat_lt, Prelude.option_and_then}
 use Rattle.std.specs.{Option.option_map, Option.option_or}
 use Rattle.csicodec_keys.specs.Win32.{char_record, control_unit, ctrl_unit, down_of, held_in, is_enhanced, key_record, read_record, read_win32, record_list, record_of, row_record, state_of, typed_key, typed_unit, unit_of, unit_text, win32_code, win32_key, win32_row}
 use Rattle.csicodec_keys.specs.{declared.code.KeyCode.KeyCode, declared.key.Encoding.Encoding, declared.key.KeyEvent.KeyEvent, declared.tables.Row.Row}
-use Rattle.csicodec_keys.specs.{declared.win32.Record.Record, Characters.is_typed, Fields.Says, Fields.number_of, Fields.read_list, Forms.by, Forms.key_alone}
-use Rattle.csicodec_keys.specs.{Forms.other_key, Forms.read_csi, Forms.said, Forms.said_key, Forms.told_by, Keys.Stroke, Rows.row_at, Rows.row_of}
-use Rattle.csicodec_keys.specs.{Tables.win32_keys}
-use Rattle.csicodec_keys.proofs.{AnyTable.found, EachTable.is_win32, EachTable.win32-table, Sound.Fine, Sound.Small, Options.allowed, Options.guarded}
-use Rattle.csicodec_keys.proofs.{Options.made}
+use Rattle.csicodec_keys.specs.{declared.win32.Record.Record, Characters.is_typed, Fields.Says, Fields.read_list, Forms.by, Forms.key_alone, Forms.other_key}
+use Rattle.csicodec_keys.specs.{Forms.read_csi, Forms.said, Forms.said_key, Forms.told_by, Keys.Stroke, Rows.row_at, Rows.row_of, Tables.win32_keys}
+use Rattle.csicodec_keys.proofs.{AnyTable.of-rows, AnyTable.same-row, EachTable.is_win32, EachTable.win32-read, Sound.Fine, Sound.is_small, Options.allowed}
+use Rattle.csicodec_keys.proofs.{Options.four, Options.guarded, Options.made}
 use Rattle.csicodec_keys.specs.declared.code.KeyCode.TheVariants as code
 use Rattle.csicodec_keys.specs.declared.key.Encoding.TheVariants as encoding
 use Rattle.csicodec_keys.specs.declared.writing.KeySpelling.TheVariants as form
@@ -23,21 +22,22 @@ no-row false = refl
 
 -- ---- a record is read as it is
 
-number-of : (n : ℕ) → n < 4294967296 → number_of (pos n) ≡ Some n
-number-of n h = rw (lt-ltb n 4294967296 h) refl
+pub small-parts : (r : Record) → is_small r ≡ true
+    → (nat_lt r.vk 4294967296 ≡ true) × (nat_lt r.uc 4294967296 ≡ true) × (nat_lt r.kd 4294967296 ≡ true) × (nat_lt r.cs 4294967296 ≡ true)
+small-parts r h = four (nat_lt r.vk 4294967296) (nat_lt r.uc 4294967296) (nat_lt r.kd 4294967296) (nat_lt r.cs 4294967296) h
 
 -- it is no list of another encoding, which has no modifiers 0
-not-listed : (r : Record) → Small r → read_list (record_list r) ≡ None
-not-listed r h = rw (number-of r.vk h.0) refl
+not-listed : (r : Record) → is_small r ≡ true → read_list (record_list r) ≡ None
+not-listed r h = rw (small-parts r h).0 refl
 
-read-back : (r : Record) → Small r → read_record (record_list r) ≡ Some r
-read-back r h = rw (number-of r.vk h.0, number-of r.uc h.1, number-of r.kd h.2, number-of r.cs h.3) refl
+read-back : (r : Record) → is_small r ≡ true → read_record (record_list r) ≡ Some r
+read-back r h = let p = small-parts r h in rw (p.0, p.1, p.2, p.3) refl
 
 -- what other encodings make of a list
 abbrev others : Says → Option (Encoding × Stroke)
 others says = option_or (by (told_by says 95) (said_key says 95)) (by encoding.ModifyOtherKeys (other_key says 95 says.text))
 
-told-read : (r : Record) (k : KeyCode) → Small r → win32_code (win32_row r.vk (is_enhanced r.cs)) (typed_unit r.uc) ≡ Some k
+told-read : (r : Record) (k : KeyCode) → is_small r ≡ true → win32_code (win32_row r.vk (is_enhanced r.cs)) (typed_unit r.uc) ≡ Some k
     → key_alone (read_csi (record_list r) 95) ≡ Some (typed_key r.cs r.kd (typed_unit r.uc) k)
 told-read r k h e =
     ap (λ o. key_alone (option_or (option_and_then others o) (by encoding.Win32 (read_win32 (record_list r) 95)))) (not-listed r h)
@@ -90,19 +90,10 @@ state-low held = omega arith
 
 -- ---- the key of a row
 
-row-there : (number : ℕ) (r : Row) → number < 512 → row_at win32_keys number 95 ≡ Some r → win32_row (number % 256) (number / 256 % 2 == 1) ≡ Some r
-row-there number r h at =
-    let low : nat_lt (number % 256) 256 ≡ true = lt-ltb (number % 256) 256 (omega arith) in
-    elim (cases_Bool (number / 256 % 2 == 1)) [
-      | inl holds ↦
-          let one = eqb-true (number / 256 % 2) 1 holds in
-          let whole : number % 256 + 256 ≡ number = omega (arith, h, one) in
-          rw (low, holds, whole, at) refl
-      | inr fails ↦
-          let other = eqb-false (number / 256 % 2) 1 fails in
-          let whole : number % 256 ≡ number = omega (arith, h, other) in
-          rw (low, fails, whole, at) refl
-    ]
+row-coded : (k : KeyCode) (r : Row) (c : Option ℕ) → row_of win32_keys k 0 ≡ Some r → win32_code (win32_row (r.number % 256) (r.number / 256 % 2 == 1)) c ≡ Some k
+row-coded k r c is =
+    of-rows is_win32 (λ j _ x. win32_code (win32_row (x.number % 256) (x.number / 256 % 2 == 1)) c ≡ Some j) (λ (x : Row). x) win32_keys k 0 r win32-read (λ q h.
+    let (p, at, code, held) = same-row (win32_row (q.number % 256) (q.number / 256 % 2 == 1)) q h in rw at (ap Some code)) (ap (option_map (λ (x : Row). x)) is)
 
 said-same : (s : Stroke) (cs : ℕ) (c : Option ℕ) → held_in cs ≡ s.held → unit_text c ≡ s.text → typed_key cs (down_of s.event) c s.code ≡ said encoding.Win32 s
 said-same s cs c held text = rw (held, text) refl
@@ -119,7 +110,8 @@ told-fine s vk uc enhanced low none key unit two coded text =
     let state = state-low s.held in
     let down = down-low s.event in
     let same : is_enhanced r.cs ≡ (enhanced == 1) = ap (λ n. n == 1) (omega (arith, state, two)) in
-    let small : Small r = (key, omega (arith, unit), omega (arith, down), omega (arith, state, two)) in
+    let small : is_small r ≡ true =
+    rw (lt-ltb vk 4294967296 key, lt-ltb uc 4294967296 (omega (arith, unit)), lt-ltb r.kd 4294967296 (omega (arith, down)), lt-ltb r.cs 4294967296 (omega (arith, state, two))) refl in
     record {
       read = told-read r s.code small (rw same coded) ∙ ap Some (said-same s r.cs (typed_unit uc) (held-back enhanced s.held two low none) text);
       sound = small;
@@ -128,12 +120,8 @@ told-fine s vk uc enhanced low none key unit two coded text =
 row-fine : (s : Stroke) (r : Row) (uc : ℕ) → s.held < 256 → s.held / 8 % 8 ≡ 0 → row_of win32_keys s.code 0 ≡ Some r → unit_of s.code s.held s.text ≡ Some uc
     → Fine s.text (said encoding.Win32 s) (form.Win32 (row_record r.number (down_of s.event) (state_of s.held) uc))
 row-fine s r uc low none is unit =
-    let t = found is_win32 win32_keys s.code 0 r win32-table is in
-    let p = and_parts (nat_lt r.number 512) (r.control == 95) t.passes in
-    let at : row_at win32_keys r.number 95 ≡ Some r = subst (λ c. row_at win32_keys r.number c ≡ Some r) (eqb-true r.control 95 p.1) t.at in
     let types = unit-types s.code s.held uc s.text unit in
-    told-fine s (r.number % 256) uc (r.number / 256 % 2) low none (omega arith) types.small (omega arith)
-    (ap (λ o. win32_code o (typed_unit uc)) (row-there r.number r (ltb-true r.number 512 p.0) at) ∙ ap Some t.code_is) types.gives
+    told-fine s (r.number % 256) uc (r.number / 256 % 2) low none (omega arith) types.small (omega arith) (row-coded s.code r (typed_unit uc) is) types.gives
 
 -- ---- a key that has no row
 

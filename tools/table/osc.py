@@ -34,9 +34,6 @@ class Group:
         if self.resets:
             yield self.resets, "resets", "reset_number"
 
-    def spec(self, function):
-        return f"{self.snake}_{function}"
-
 
 def alone_of(tables):
     """The rows of words alone, by what a content begins with: its form, words and source."""
@@ -80,25 +77,16 @@ def faults(groups, single, alone):
 
 
 def enumeration(group):
-    """Its type, and what its variants begin with."""
+    """Its type."""
     lines = [f"/// {group.doc}", "#[derive(Clone, Copy, Debug, PartialEq, Eq)]", f"pub enum {group.name} {{"]
     for variant, row in group.rows.items():
         lines += [f"    /// {row['doc']}", f"    {variant},"]
-    lines += ["}", "", f"impl {group.name} {{"]
-    for _, column, function in group.commands():
-        again = " that sets it back" if column == "resets" else ""
-        lines += [f"    /// What a command begins with{again}.", f"    pub(crate) fn {function}(self) -> &'static [u8]",
-                  f"        ensures {{ result.now ≡ {group.spec(function)} self }}", "    {", "        match self {"]
-        lines += [f'            {group.name}::{variant} => b"{row[column]}",' for variant, row in group.rows.items()]
-        lines += ["        }", "    }", ""]
-    return lines[:-1] + ["}", ""]
+    return lines + ["}", ""]
 
 
 def command_rt(groups, single):
     """src/command.rt of csicodec_osc."""
-    specs = sorted(group.spec(function) for group in groups for _, _, function in group.commands())
-    lines = ["//! Commands: what each begins with.", "ghost use Rattle.std.specs.Prelude.{◌≡◌};",
-             f"ghost use Rattle.csicodec_osc.specs.Commands.{{{', '.join(sorted([*specs, 'number']))}}};", ""]
+    lines = ["//! Commands: what each begins with.", "ghost use Rattle.std.specs.Prelude.{◌≡◌};", "ghost use Rattle.csicodec_osc.specs.Commands.{number};", ""]
     for group in groups:
         lines += enumeration(group)
     lines += ["/// A command, without what stands behind its number.", "#[derive(Clone, Copy)]", "pub(crate) enum Command {"]
@@ -106,7 +94,7 @@ def command_rt(groups, single):
     lines += [f"    {name}," for name in single]
     lines += ["}", "", "impl Command {", "    /// What it begins with.", "    pub(crate) fn number(self) -> &'static [u8]",
               "        ensures { result.now ≡ number self }", "    {", "        match self {"]
-    lines += [f"            Command::{command}({group.snake}) => {group.snake}.{function}()," for group in groups for command, _, function in group.commands()]
+    lines += [f'            Command::{command}({group.name}::{variant}) => b"{row[column]}",' for group in groups for command, column, _ in group.commands() for variant, row in group.rows.items()]
     lines += [f'            Command::{name} => b"{row["begins"]}",' for name, row in single.items()]
     all_of = [f"Command::{command}({group.name}::{variant})" for group in groups for command, _, _ in group.commands() for variant in group.rows]
     all_of += [f"Command::{name}" for name in single]
@@ -120,15 +108,11 @@ def commands_antt(groups, single):
     declared = "use Rattle.csicodec_osc.specs.declared.command"
     lines = ["-- The commands: the number of each, and the form of what stands behind it, each with its document.",
              "use Rattle.std.specs.Prelude.{ℕ, List, codes}", "use Rattle.csicodec_osc.specs.Forms.{Form, OneText, Message, Several, TwoTexts, TextAsked}"]
-    for name, word in [("Command", "command"), *((group.name, group.snake) for group in groups)]:
-        lines += [f"{declared}.{name}.{{{name}}}", f"{declared}.{name}.TheVariants as {word}"]
-    for group in groups:
-        for _, column, function in group.commands():
-            spec = group.spec(function)
-            lines += ["", f"abbrev pub {spec} : {group.name} → List ℕ"]
-            lines += [f'{spec} {group.snake}.{variant} = codes "{row[column]}"  -- {row["source"]}' for variant, row in group.rows.items()]
+    lines += [f"{declared}.Command.{{Command}}", f"{declared}.Command.TheVariants as command"]
+    lines += [f"{declared}.{group.name}.TheVariants as {group.snake}" for group in groups]
     lines += ["", "-- What a command begins with: its number, and a letter, a word or a further number where it has one.", "abbrev pub number : Command → List ℕ"]
-    lines += [f"number (command.{command} v) = {group.spec(function)} v" for group in groups for command, _, function in group.commands()]
+    lines += [f'number (command.{command} {group.snake}.{variant}) = codes "{row[column]}"  -- {row["source"]}'
+              for group in groups for command, column, _ in group.commands() for variant, row in group.rows.items()]
     lines += [f'number command.{name} = codes "{row["begins"]}"  -- {row["source"]}' for name, row in single.items()]
     lines += ["", "-- The form of what stands behind it.", "abbrev pub form : Command → Form"]
     lines += [f"form (command.{command} v) = {group.form}" for group in groups for command, _, _ in group.commands()]

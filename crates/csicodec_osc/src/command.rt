@@ -1,7 +1,7 @@
 // Written by tools/table from table/osc.toml: change that, and run python3 tools/table.
 //! Commands: what each begins with.
 ghost use Rattle.std.specs.Prelude.{◌≡◌};
-ghost use Rattle.csicodec_osc.specs.Commands.{color_table_number, color_table_reset_number, dynamic_number, dynamic_reset_number, editor_mark_number, folder_number, mark_number, number, progress_number, title_number};
+ghost use Rattle.csicodec_osc.specs.Commands.{number};
 
 /// Which title.
 #[derive(Clone, Copy, Debug, PartialEq, Eq)]
@@ -14,19 +14,6 @@ pub enum Title {
     Window,
 }
 
-impl Title {
-    /// What a command begins with.
-    pub(crate) fn number(self) -> &'static [u8]
-        ensures { result.now ≡ title_number self }
-    {
-        match self {
-            Title::Both => b"0",
-            Title::Icon => b"1",
-            Title::Window => b"2",
-        }
-    }
-}
-
 /// Colours that have an index.
 #[derive(Clone, Copy, Debug, PartialEq, Eq)]
 pub enum ColorTable {
@@ -34,28 +21,6 @@ pub enum ColorTable {
     Indexed,
     /// Those of text that is bold (0), underlined (1), blinking (2), inverse (3) or italic (4).
     Special,
-}
-
-impl ColorTable {
-    /// What a command begins with.
-    pub(crate) fn number(self) -> &'static [u8]
-        ensures { result.now ≡ color_table_number self }
-    {
-        match self {
-            ColorTable::Indexed => b"4",
-            ColorTable::Special => b"5",
-        }
-    }
-
-    /// What a command begins with that sets it back.
-    pub(crate) fn reset_number(self) -> &'static [u8]
-        ensures { result.now ≡ color_table_reset_number self }
-    {
-        match self {
-            ColorTable::Indexed => b"104",
-            ColorTable::Special => b"105",
-        }
-    }
 }
 
 /// Colours that have a name.
@@ -83,44 +48,6 @@ pub enum Dynamic {
     HighlightForeground,
 }
 
-impl Dynamic {
-    /// What a command begins with.
-    pub(crate) fn number(self) -> &'static [u8]
-        ensures { result.now ≡ dynamic_number self }
-    {
-        match self {
-            Dynamic::Foreground => b"10",
-            Dynamic::Background => b"11",
-            Dynamic::Cursor => b"12",
-            Dynamic::PointerForeground => b"13",
-            Dynamic::PointerBackground => b"14",
-            Dynamic::TektronixForeground => b"15",
-            Dynamic::TektronixBackground => b"16",
-            Dynamic::HighlightBackground => b"17",
-            Dynamic::TektronixCursor => b"18",
-            Dynamic::HighlightForeground => b"19",
-        }
-    }
-
-    /// What a command begins with that sets it back.
-    pub(crate) fn reset_number(self) -> &'static [u8]
-        ensures { result.now ≡ dynamic_reset_number self }
-    {
-        match self {
-            Dynamic::Foreground => b"110",
-            Dynamic::Background => b"111",
-            Dynamic::Cursor => b"112",
-            Dynamic::PointerForeground => b"113",
-            Dynamic::PointerBackground => b"114",
-            Dynamic::TektronixForeground => b"115",
-            Dynamic::TektronixBackground => b"116",
-            Dynamic::HighlightBackground => b"117",
-            Dynamic::TektronixCursor => b"118",
-            Dynamic::HighlightForeground => b"119",
-        }
-    }
-}
-
 /// How the current folder is said.
 #[derive(Clone, Copy, Debug, PartialEq, Eq)]
 pub enum Folder {
@@ -128,18 +55,6 @@ pub enum Folder {
     Address,
     /// As a path, with or without quotation marks (ConEmu, Windows Terminal).
     Path,
-}
-
-impl Folder {
-    /// What a command begins with.
-    pub(crate) fn number(self) -> &'static [u8]
-        ensures { result.now ≡ folder_number self }
-    {
-        match self {
-            Folder::Address => b"7",
-            Folder::Path => b"9;9",
-        }
-    }
 }
 
 /// A mark of a shell.
@@ -161,24 +76,6 @@ pub enum Mark {
     NextPrompt,
     /// A prompt begins, of the kind that its fields say.
     PromptPart,
-}
-
-impl Mark {
-    /// What a command begins with.
-    pub(crate) fn number(self) -> &'static [u8]
-        ensures { result.now ≡ mark_number self }
-    {
-        match self {
-            Mark::Prompt => b"133;A",
-            Mark::Command => b"133;B",
-            Mark::Output => b"133;C",
-            Mark::End => b"133;D",
-            Mark::CommandLine => b"133;I",
-            Mark::FreshLine => b"133;L",
-            Mark::NextPrompt => b"133;N",
-            Mark::PromptPart => b"133;P",
-        }
-    }
 }
 
 /// A mark of a shell for VS Code.
@@ -206,26 +103,6 @@ pub enum EditorMark {
     Property,
 }
 
-impl EditorMark {
-    /// What a command begins with.
-    pub(crate) fn number(self) -> &'static [u8]
-        ensures { result.now ≡ editor_mark_number self }
-    {
-        match self {
-            EditorMark::Prompt => b"633;A",
-            EditorMark::Command => b"633;B",
-            EditorMark::Output => b"633;C",
-            EditorMark::End => b"633;D",
-            EditorMark::CommandText => b"633;E",
-            EditorMark::Continuation => b"633;F",
-            EditorMark::ContinuationEnd => b"633;G",
-            EditorMark::RightPrompt => b"633;H",
-            EditorMark::RightPromptEnd => b"633;I",
-            EditorMark::Property => b"633;P",
-        }
-    }
-}
-
 /// How the progress is shown.
 #[derive(Clone, Copy, Debug, PartialEq, Eq)]
 pub enum Progress {
@@ -239,21 +116,6 @@ pub enum Progress {
     Busy,
     /// As paused.
     Paused,
-}
-
-impl Progress {
-    /// What a command begins with.
-    pub(crate) fn number(self) -> &'static [u8]
-        ensures { result.now ≡ progress_number self }
-    {
-        match self {
-            Progress::Off => b"9;4;0",
-            Progress::Shown => b"9;4;1",
-            Progress::Failed => b"9;4;2",
-            Progress::Busy => b"9;4;3",
-            Progress::Paused => b"9;4;4",
-        }
-    }
 }
 
 /// A command, without what stands behind its number.
@@ -282,15 +144,58 @@ impl Command {
         ensures { result.now ≡ number self }
     {
         match self {
-            Command::Title(title) => title.number(),
-            Command::Colors(color_table) => color_table.number(),
-            Command::ResetColors(color_table) => color_table.reset_number(),
-            Command::Color(dynamic) => dynamic.number(),
-            Command::ResetColor(dynamic) => dynamic.reset_number(),
-            Command::Folder(folder) => folder.number(),
-            Command::Prompt(mark) => mark.number(),
-            Command::Editor(editor_mark) => editor_mark.number(),
-            Command::Progress(progress) => progress.number(),
+            Command::Title(Title::Both) => b"0",
+            Command::Title(Title::Icon) => b"1",
+            Command::Title(Title::Window) => b"2",
+            Command::Colors(ColorTable::Indexed) => b"4",
+            Command::Colors(ColorTable::Special) => b"5",
+            Command::ResetColors(ColorTable::Indexed) => b"104",
+            Command::ResetColors(ColorTable::Special) => b"105",
+            Command::Color(Dynamic::Foreground) => b"10",
+            Command::Color(Dynamic::Background) => b"11",
+            Command::Color(Dynamic::Cursor) => b"12",
+            Command::Color(Dynamic::PointerForeground) => b"13",
+            Command::Color(Dynamic::PointerBackground) => b"14",
+            Command::Color(Dynamic::TektronixForeground) => b"15",
+            Command::Color(Dynamic::TektronixBackground) => b"16",
+            Command::Color(Dynamic::HighlightBackground) => b"17",
+            Command::Color(Dynamic::TektronixCursor) => b"18",
+            Command::Color(Dynamic::HighlightForeground) => b"19",
+            Command::ResetColor(Dynamic::Foreground) => b"110",
+            Command::ResetColor(Dynamic::Background) => b"111",
+            Command::ResetColor(Dynamic::Cursor) => b"112",
+            Command::ResetColor(Dynamic::PointerForeground) => b"113",
+            Command::ResetColor(Dynamic::PointerBackground) => b"114",
+            Command::ResetColor(Dynamic::TektronixForeground) => b"115",
+            Command::ResetColor(Dynamic::TektronixBackground) => b"116",
+            Command::ResetColor(Dynamic::HighlightBackground) => b"117",
+            Command::ResetColor(Dynamic::TektronixCursor) => b"118",
+            Command::ResetColor(Dynamic::HighlightForeground) => b"119",
+            Command::Folder(Folder::Address) => b"7",
+            Command::Folder(Folder::Path) => b"9;9",
+            Command::Prompt(Mark::Prompt) => b"133;A",
+            Command::Prompt(Mark::Command) => b"133;B",
+            Command::Prompt(Mark::Output) => b"133;C",
+            Command::Prompt(Mark::End) => b"133;D",
+            Command::Prompt(Mark::CommandLine) => b"133;I",
+            Command::Prompt(Mark::FreshLine) => b"133;L",
+            Command::Prompt(Mark::NextPrompt) => b"133;N",
+            Command::Prompt(Mark::PromptPart) => b"133;P",
+            Command::Editor(EditorMark::Prompt) => b"633;A",
+            Command::Editor(EditorMark::Command) => b"633;B",
+            Command::Editor(EditorMark::Output) => b"633;C",
+            Command::Editor(EditorMark::End) => b"633;D",
+            Command::Editor(EditorMark::CommandText) => b"633;E",
+            Command::Editor(EditorMark::Continuation) => b"633;F",
+            Command::Editor(EditorMark::ContinuationEnd) => b"633;G",
+            Command::Editor(EditorMark::RightPrompt) => b"633;H",
+            Command::Editor(EditorMark::RightPromptEnd) => b"633;I",
+            Command::Editor(EditorMark::Property) => b"633;P",
+            Command::Progress(Progress::Off) => b"9;4;0",
+            Command::Progress(Progress::Shown) => b"9;4;1",
+            Command::Progress(Progress::Failed) => b"9;4;2",
+            Command::Progress(Progress::Busy) => b"9;4;3",
+            Command::Progress(Progress::Paused) => b"9;4;4",
             Command::Link => b"8",
             Command::Clipboard => b"52",
             Command::Pointer => b"22",

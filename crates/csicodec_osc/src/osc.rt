@@ -1,6 +1,6 @@
 //! What an OSC says.
 ghost use Rattle.std.specs.Prelude.{◌≡◌, ◌++◌, [], ◌∷◌, OnOk, Some, option_map};
-ghost use Rattle.csicodec_osc.specs.Commands.{form};
+ghost use Rattle.csicodec_osc.specs.Commands.{form, number};
 ghost use Rattle.csicodec_osc.specs.Osc.{Known, Says, is_message, said, tail_text, written};
 ghost use Rattle.csicodec_osc.specs.Private.Reading.{behind, read_body, read_by};
 
@@ -87,23 +87,37 @@ impl<'a> Osc<'a> {
         ensures { OnOk result (out.new.items ≡ out.old.items ++ written (said self.now)) }
     {
         match *self {
-            Osc::Title(title, text) => append(out, title.number(), Some(text)),
-            Osc::Colors(palette, list) => append(out, palette.number(), list.text),
-            Osc::Color(color, list) => append(out, color.number(), list.text),
-            Osc::ResetColors(palette, list) => append(out, palette.reset_number(), list.text),
-            Osc::ResetColor(color, list) => append(out, color.reset_number(), list.text),
-            Osc::Link { params, address } => append_pair(out, b"8", params, address),
+            Osc::Title(title, text) => append(out, Command::Title(title), Some(text)),
+            Osc::Colors(palette, list) => append(out, Command::Colors(palette), list.text),
+            Osc::Color(color, list) => append(out, Command::Color(color), list.text),
+            Osc::ResetColors(palette, list) => append(
+                out,
+                Command::ResetColors(palette),
+                list.text,
+            ),
+            Osc::ResetColor(color, list) => append(out, Command::ResetColor(color), list.text),
+            Osc::Link { params, address } => append_pair(out, Command::Link, params, address),
             Osc::Clipboard { selection, content } => {
-                append_pair(out, b"52", selection, content.as_bytes())
+                append_pair(out, Command::Clipboard, selection, content.as_bytes())
             }
-            Osc::Folder(folder, text) => append(out, folder.number(), Some(text)),
-            Osc::Prompt(mark, list) => append(out, mark.number(), list.text),
-            Osc::Editor(mark, list) => append(out, mark.number(), list.text),
-            Osc::Progress(progress, list) => append(out, progress.number(), list.text),
-            Osc::Pointer(text) => append(out, b"22", Some(text)),
-            Osc::KittyNotice { metadata, payload } => append_pair(out, b"99", metadata, payload),
-            Osc::TitledNotice { title, text } => append_pair(out, b"777;notify", title, text),
-            Osc::Notice(text) => append(out, b"9", Some(text)),
+            Osc::Folder(folder, text) => append(out, Command::Folder(folder), Some(text)),
+            Osc::Prompt(mark, list) => append(out, Command::Prompt(mark), list.text),
+            Osc::Editor(mark, list) => append(out, Command::Editor(mark), list.text),
+            Osc::Progress(progress, list) => append(out, Command::Progress(progress), list.text),
+            Osc::Pointer(text) => append(out, Command::Pointer, Some(text)),
+            Osc::KittyNotice { metadata, payload } => append_pair(
+                out,
+                Command::KittyNotice,
+                metadata,
+                payload,
+            ),
+            Osc::TitledNotice { title, text } => append_pair(
+                out,
+                Command::TitledNotice,
+                title,
+                text,
+            ),
+            Osc::Notice(text) => append(out, Command::Notice, Some(text)),
             Osc::Unknown(bytes) => out.extend_from_slice(bytes),
         }
     }
@@ -190,12 +204,12 @@ fn is_message(text: &[u8]) -> bool
     !matches!(text, [b'4' | b'9'] | [b'4' | b'9', b';', ..])
 }
 
-/// Appends a number, and a text behind a `;` where there is one.
-fn append(out: &mut Vec<u8>, number: &[u8], text: Option<&[u8]>) -> Result<(), AllocError>
+/// Appends the number of a command, and a text behind a `;` where there is one.
+fn append(out: &mut Vec<u8>, command: Command, text: Option<&[u8]>) -> Result<(), AllocError>
     ensures { OnOk result (out.new.items
-        ≡ out.old.items ++ (number.now ++ tail_text (option_map (λ t. t.now) text.entry))) }
+        ≡ out.old.items ++ (number command ++ tail_text (option_map (λ t. t.now) text.entry))) }
 {
-    out.extend_from_slice(number)?;
+    out.extend_from_slice(command.number())?;
     let Some(text) = text else {
         return Ok(());
     };
@@ -203,17 +217,17 @@ fn append(out: &mut Vec<u8>, number: &[u8], text: Option<&[u8]>) -> Result<(), A
     out.extend_from_slice(text)
 }
 
-/// Appends a number, and two texts, each behind a `;`.
+/// Appends the number of a command, and two texts, each behind a `;`.
 fn append_pair(
     out: &mut Vec<u8>,
-    number: &[u8],
+    command: Command,
     first: &[u8],
     second: &[u8],
 ) -> Result<(), AllocError>
     ensures { OnOk result (out.new.items
-        ≡ out.old.items ++ (number.now ++ 59 ∷ (first.now ++ 59 ∷ second.now))) }
+        ≡ out.old.items ++ (number command ++ 59 ∷ (first.now ++ 59 ∷ second.now))) }
 {
-    append(out, number, Some(first))?;
+    append(out, command, Some(first))?;
     out.push(b';')?;
     out.extend_from_slice(second)
 }

@@ -1,4 +1,5 @@
 """The keys: csicodec_keys' type and tables, and what `explain` calls a key."""
+import itertools
 import re
 import sys
 
@@ -103,10 +104,20 @@ def rows_rt(keys):
     lines = ["//! The tables: which number and which final character stand for a key, a row each.", "ghost use Rattle.std.specs.Prelude.{◌≡◌};",
              f"ghost use Rattle.csicodec_keys.specs.Tables.{{{', '.join(names)}}};", "", "use crate::code::KeyCode;", "use crate::tables::Row;", "",
              "macro_rules! row {", "    ($code:expr, $held:expr, $number:expr, $control:expr) => {",
-             "        Row { code: $code, held: $held, number: $number, control: $control }", "    };", "}", ""]
+             "        Row { code: $code, held: $held, number: $number, control: $control }", "    };", "}", "",
+             "/// Keys whose number has a final character for each of several modifiers: what is held down, and the character.", "macro_rules! finals {",
+             "    ($($code:expr, $number:expr, [$($held:expr => $control:expr),*];)*) => {",
+             "        [$($(row!($code, $held, $number, $control),)*)*]", "    };", "}", ""]
     for column, (name, _, doc) in COLUMNS.items():
-        rows = [f"    row!({key.code}, {form.held}, {form.number}, {literal(form.control)})," for key in keys for form in key.forms.get(column, [])]
-        lines += [f"/// {doc}", f"static {name.upper()}: [Row; {len(rows)}] = [", *rows, "];", "", f"#[tactic(auto, unfolding(crate::specs::Tables::{name}))]",
+        forms = [(key.code, form) for key in keys for form in key.forms.get(column, [])]
+        if column == "rxvt":
+            rows = [f"    {code}, {number}, [{', '.join(f'{form.held} => {literal(form.control)}' for _, form in several)}];"
+                    for (code, number), several in itertools.groupby(forms, lambda row: (row[0], row[1].number))]
+            ahead, end = "finals! {", "};"
+        else:
+            rows = [f"    row!({code}, {form.held}, {form.number}, {literal(form.control)})," for code, form in forms]
+            ahead, end = "[", "];"
+        lines += [f"/// {doc}", f"static {name.upper()}: [Row; {len(forms)}] = {ahead}", *rows, end, "", f"#[tactic(auto, unfolding(crate::specs::Tables::{name}))]",
                   f"pub(crate) fn {name}<'a>() -> &'a [Row]", f"    ensures {{ result.now ≡ {name} }}", "{", f"    &{name.upper()}", "}", ""]
     return "\n".join(lines)
 

@@ -12,6 +12,13 @@ macro_rules! row {
     };
 }
 
+/// Keys whose number has a final character for each of several modifiers: what is held down, and the character.
+macro_rules! finals {
+    ($($code:expr, $number:expr, [$($held:expr => $control:expr),*];)*) => {
+        [$($(row!($code, $held, $number, $control),)*)*]
+    };
+}
+
 /// C0 controls and DEL (xterm, as a keyboard of ASCII sends them; ctrl takes 64 off).
 static CONTROLS: [Row; 32] = [
     row!(KeyCode::Enter, 0, 0, '\r'),
@@ -277,102 +284,40 @@ pub(crate) fn other_keys<'a>() -> &'a [Row]
 }
 
 /// rxvt's own, before `~`, `$` with shift, `^` with ctrl and `@` with both, and its arrows with shift (rxvt, Key codes).
-static RXVT_KEYS: [Row; 94] = [
-    row!(KeyCode::Insert, 0, 2, '~'),
-    row!(KeyCode::Insert, 1, 2, '$'),
-    row!(KeyCode::Insert, 4, 2, '^'),
-    row!(KeyCode::Insert, 5, 2, '@'),
-    row!(KeyCode::Delete, 0, 3, '~'),
-    row!(KeyCode::Delete, 1, 3, '$'),
-    row!(KeyCode::Delete, 4, 3, '^'),
-    row!(KeyCode::Delete, 5, 3, '@'),
-    row!(KeyCode::Left, 1, 1, 'd'),
-    row!(KeyCode::Right, 1, 1, 'c'),
-    row!(KeyCode::Up, 1, 1, 'a'),
-    row!(KeyCode::Down, 1, 1, 'b'),
-    row!(KeyCode::PageUp, 0, 5, '~'),
-    row!(KeyCode::PageUp, 1, 5, '$'),
-    row!(KeyCode::PageUp, 4, 5, '^'),
-    row!(KeyCode::PageUp, 5, 5, '@'),
-    row!(KeyCode::PageDown, 0, 6, '~'),
-    row!(KeyCode::PageDown, 1, 6, '$'),
-    row!(KeyCode::PageDown, 4, 6, '^'),
-    row!(KeyCode::PageDown, 5, 6, '@'),
-    row!(KeyCode::Home, 0, 7, '~'),
-    row!(KeyCode::Home, 1, 7, '$'),
-    row!(KeyCode::Home, 4, 7, '^'),
-    row!(KeyCode::Home, 5, 7, '@'),
-    row!(KeyCode::Home, 0, 1, '~'),
-    row!(KeyCode::Home, 1, 1, '$'),
-    row!(KeyCode::End, 0, 8, '~'),
-    row!(KeyCode::End, 1, 8, '$'),
-    row!(KeyCode::End, 4, 8, '^'),
-    row!(KeyCode::End, 5, 8, '@'),
-    row!(KeyCode::End, 0, 4, '~'),
-    row!(KeyCode::End, 1, 4, '$'),
-    row!(KeyCode::End, 4, 4, '^'),
-    row!(KeyCode::End, 5, 4, '@'),
-    row!(KeyCode::F(1), 0, 11, '~'),
-    row!(KeyCode::F(1), 4, 11, '^'),
-    row!(KeyCode::F(2), 0, 12, '~'),
-    row!(KeyCode::F(2), 4, 12, '^'),
-    row!(KeyCode::F(3), 0, 13, '~'),
-    row!(KeyCode::F(3), 4, 13, '^'),
-    row!(KeyCode::F(4), 0, 14, '~'),
-    row!(KeyCode::F(4), 4, 14, '^'),
-    row!(KeyCode::F(5), 0, 15, '~'),
-    row!(KeyCode::F(5), 4, 15, '^'),
-    row!(KeyCode::F(6), 0, 17, '~'),
-    row!(KeyCode::F(6), 4, 17, '^'),
-    row!(KeyCode::F(7), 0, 18, '~'),
-    row!(KeyCode::F(7), 4, 18, '^'),
-    row!(KeyCode::F(8), 0, 19, '~'),
-    row!(KeyCode::F(8), 4, 19, '^'),
-    row!(KeyCode::F(9), 0, 20, '~'),
-    row!(KeyCode::F(9), 4, 20, '^'),
-    row!(KeyCode::F(10), 0, 21, '~'),
-    row!(KeyCode::F(10), 4, 21, '^'),
-    row!(KeyCode::F(11), 0, 23, '~'),
-    row!(KeyCode::F(11), 4, 23, '^'),
-    row!(KeyCode::F(11), 1, 23, '$'),
-    row!(KeyCode::F(11), 5, 23, '@'),
-    row!(KeyCode::F(12), 0, 24, '~'),
-    row!(KeyCode::F(12), 4, 24, '^'),
-    row!(KeyCode::F(12), 1, 24, '$'),
-    row!(KeyCode::F(12), 5, 24, '@'),
-    row!(KeyCode::F(13), 0, 25, '~'),
-    row!(KeyCode::F(13), 1, 25, '$'),
-    row!(KeyCode::F(13), 4, 25, '^'),
-    row!(KeyCode::F(13), 5, 25, '@'),
-    row!(KeyCode::F(14), 0, 26, '~'),
-    row!(KeyCode::F(14), 1, 26, '$'),
-    row!(KeyCode::F(14), 4, 26, '^'),
-    row!(KeyCode::F(14), 5, 26, '@'),
-    row!(KeyCode::F(15), 0, 28, '~'),
-    row!(KeyCode::F(15), 1, 28, '$'),
-    row!(KeyCode::F(15), 4, 28, '^'),
-    row!(KeyCode::F(15), 5, 28, '@'),
-    row!(KeyCode::F(16), 0, 29, '~'),
-    row!(KeyCode::F(16), 1, 29, '$'),
-    row!(KeyCode::F(16), 4, 29, '^'),
-    row!(KeyCode::F(16), 5, 29, '@'),
-    row!(KeyCode::F(17), 0, 31, '~'),
-    row!(KeyCode::F(17), 1, 31, '$'),
-    row!(KeyCode::F(17), 4, 31, '^'),
-    row!(KeyCode::F(17), 5, 31, '@'),
-    row!(KeyCode::F(18), 0, 32, '~'),
-    row!(KeyCode::F(18), 1, 32, '$'),
-    row!(KeyCode::F(18), 4, 32, '^'),
-    row!(KeyCode::F(18), 5, 32, '@'),
-    row!(KeyCode::F(19), 0, 33, '~'),
-    row!(KeyCode::F(19), 1, 33, '$'),
-    row!(KeyCode::F(19), 4, 33, '^'),
-    row!(KeyCode::F(19), 5, 33, '@'),
-    row!(KeyCode::F(20), 0, 34, '~'),
-    row!(KeyCode::F(20), 1, 34, '$'),
-    row!(KeyCode::F(20), 4, 34, '^'),
-    row!(KeyCode::F(20), 5, 34, '@'),
-];
+static RXVT_KEYS: [Row; 94] = finals! {
+    KeyCode::Insert, 2, [0 => '~', 1 => '$', 4 => '^', 5 => '@'];
+    KeyCode::Delete, 3, [0 => '~', 1 => '$', 4 => '^', 5 => '@'];
+    KeyCode::Left, 1, [1 => 'd'];
+    KeyCode::Right, 1, [1 => 'c'];
+    KeyCode::Up, 1, [1 => 'a'];
+    KeyCode::Down, 1, [1 => 'b'];
+    KeyCode::PageUp, 5, [0 => '~', 1 => '$', 4 => '^', 5 => '@'];
+    KeyCode::PageDown, 6, [0 => '~', 1 => '$', 4 => '^', 5 => '@'];
+    KeyCode::Home, 7, [0 => '~', 1 => '$', 4 => '^', 5 => '@'];
+    KeyCode::Home, 1, [0 => '~', 1 => '$'];
+    KeyCode::End, 8, [0 => '~', 1 => '$', 4 => '^', 5 => '@'];
+    KeyCode::End, 4, [0 => '~', 1 => '$', 4 => '^', 5 => '@'];
+    KeyCode::F(1), 11, [0 => '~', 4 => '^'];
+    KeyCode::F(2), 12, [0 => '~', 4 => '^'];
+    KeyCode::F(3), 13, [0 => '~', 4 => '^'];
+    KeyCode::F(4), 14, [0 => '~', 4 => '^'];
+    KeyCode::F(5), 15, [0 => '~', 4 => '^'];
+    KeyCode::F(6), 17, [0 => '~', 4 => '^'];
+    KeyCode::F(7), 18, [0 => '~', 4 => '^'];
+    KeyCode::F(8), 19, [0 => '~', 4 => '^'];
+    KeyCode::F(9), 20, [0 => '~', 4 => '^'];
+    KeyCode::F(10), 21, [0 => '~', 4 => '^'];
+    KeyCode::F(11), 23, [0 => '~', 4 => '^', 1 => '$', 5 => '@'];
+    KeyCode::F(12), 24, [0 => '~', 4 => '^', 1 => '$', 5 => '@'];
+    KeyCode::F(13), 25, [0 => '~', 1 => '$', 4 => '^', 5 => '@'];
+    KeyCode::F(14), 26, [0 => '~', 1 => '$', 4 => '^', 5 => '@'];
+    KeyCode::F(15), 28, [0 => '~', 1 => '$', 4 => '^', 5 => '@'];
+    KeyCode::F(16), 29, [0 => '~', 1 => '$', 4 => '^', 5 => '@'];
+    KeyCode::F(17), 31, [0 => '~', 1 => '$', 4 => '^', 5 => '@'];
+    KeyCode::F(18), 32, [0 => '~', 1 => '$', 4 => '^', 5 => '@'];
+    KeyCode::F(19), 33, [0 => '~', 1 => '$', 4 => '^', 5 => '@'];
+    KeyCode::F(20), 34, [0 => '~', 1 => '$', 4 => '^', 5 => '@'];
+};
 
 #[tactic(auto, unfolding(crate::specs::Tables::rxvt_keys))]
 pub(crate) fn rxvt_keys<'a>() -> &'a [Row]

@@ -79,50 +79,25 @@ impl KnownSequence {
     pub fn read(params: &[CsiParam], control: char) -> Option<KnownSequence>
         ensures { option_map reading_of result ≡ reading params.now control }
     {
-        if let Some((index, form, values)) = first_known(&DEC_FORMS, &DEC_SLOTS, params, control) {
-            let place = RowPlace {
-                table: Table::Dec,
-                index,
-            };
-            return Some(KnownSequence {
-                form,
-                place,
-                values,
-            });
+        if let Some(known) = first_known(Table::Dec, &DEC_FORMS, &DEC_SLOTS, params, control) {
+            return Some(known);
         }
-        if let Some((index, form, values)) = first_known(
+        if let Some(known) = first_known(
+            Table::Others,
             &OTHER_FORMS,
             &OTHER_SLOTS,
             params,
             control,
         ) {
-            let place = RowPlace {
-                table: Table::Others,
-                index,
-            };
-            return Some(KnownSequence {
-                form,
-                place,
-                values,
-            });
+            return Some(known);
         }
-        if let Some((index, form, values)) = first_known(
+        first_known(
+            Table::Reports,
             &REPORT_FORMS,
             &REPORT_SLOTS,
             params,
             control,
-        ) {
-            let place = RowPlace {
-                table: Table::Reports,
-                index,
-            };
-            return Some(KnownSequence {
-                form,
-                place,
-                values,
-            });
-        }
-        None
+        )
     }
 
     /// The form.
@@ -172,22 +147,28 @@ impl KnownSequence {
     }
 }
 
-/// The first row of these that reads a list: its place, its form and the values.
+/// The values of a list by the first row of a table that reads it; these are the table's forms and slots.
 fn first_known(
+    table: Table,
     forms: &[SequenceForm],
     slots: &[[NumberSlot; MOST]],
     params: &[CsiParam],
     control: char,
-) -> Option<(usize, SequenceForm, SlotValues)>
+) -> Option<KnownSequence>
     requires { length forms.now ≡ length slots.now }
-    ensures first { option_map (λ known. (known.1, known.2.items)) result
+    ensures first { option_map reading_of result
         ≡ first_reading (rows_of forms.now slots.now) params.now control }
-    ensures within { IfSome result (λ known. known.0 < length forms.now) }
+    ensures within { IfSome result (λ known. known.place.index < length forms.now) }
 {
-    for place in 0..forms.len() {
-        let form = &forms[place];
-        if let Some(values) = form.read(&slots[place], params, control) {
-            return Some((place, *form, values));
+    for index in 0..forms.len() {
+        let form = forms[index];
+        if let Some(values) = form.read(&slots[index], params, control) {
+            let place = RowPlace { table, index };
+            return Some(KnownSequence {
+                form,
+                place,
+                values,
+            });
         }
     }
     None

@@ -4,15 +4,15 @@ use Rattle.csicodec_sequences.proofs.known.first_known.Goals as goal
 
 pub returns-in-Some-clause-first : goal.returns-in-Some-clause-first
 returns-in-Some-clause-first c =
-    sym (c.loop-place.invariant.first ∙ row_read c.args.forms.now c.args.slots.now c.loop-place.place _ _ c.args.params.now c.args.control _ (omega arith) (omega (arith, c.requires)) c.in-Some.ensures)
+    sym (c.loop-index.invariant.first ∙ row_read c.args.forms.now c.args.slots.now c.loop-index.index _ _ c.args.params.now c.args.control _ (omega arith) (omega (arith, c.requires)) c.in-Some.ensures)
 
-pub loop-place-preserved : goal.loop-place-preserved
-loop-place-preserved c = record {
+pub loop-index-preserved : goal.loop-index-preserved
+loop-index-preserved c = record {
   end = refl;
-  first = c.loop-place.invariant.first
-      ∙ row_read c.args.forms.now c.args.slots.now c.loop-place.place _ _ c.args.params.now c.args.control _ (omega arith) (omega (arith, c.requires)) c.in_default.ensures;
+  first = c.loop-index.invariant.first
+      ∙ row_read c.args.forms.now c.args.slots.now c.loop-index.index _ _ c.args.params.now c.args.control _ (omega arith) (omega (arith, c.requires)) c.in_default.ensures;
 }
 
 pub returns-clause-first : goal.returns-clause-first
 returns-clause-first c =
-    none_left c.args.forms.now _ c.loop-place.place c.args.params.now c.args.control (omega arith) ∙ sym c.loop-place.invariant.first
+    none_left c.args.forms.now _ c.loop-index.index c.args.params.now c.args.control (omega arith) ∙ sym c.loop-index.invariant.first

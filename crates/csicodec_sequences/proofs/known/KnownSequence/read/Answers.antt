@@ -7,9 +7,5 @@ returns-in-Some c = or-first _ _ _ c.in-Some.ensures.first
 pub returns-in-Some-first_known : goal.returns-in-Some-first_known
 returns-in-Some-first_known c = or-later _ _ _ c.in_default.ensures.first (or-first _ _ _ c.in-Some-first_known.ensures.first)
 
-pub returns-in-Some-first_known-2 : goal.returns-in-Some-first_known-2
-returns-in-Some-first_known-2 c =
-    or-later _ _ _ c.in_default.ensures.first (or-later _ _ _ c.in_default-first_known.ensures.first c.in-Some-first_known-2.ensures.first)
-
 pub returns : goal.returns
-returns c = or-later _ _ _ c.in_default.ensures.first (or-later _ _ _ c.in_default-first_known.ensures.first c.in_default-first_known-2.ensures.first)
+returns c = or-later _ _ _ c.in_default.ensures.first (or-later _ _ _ c.in_default-first_known.ensures.first c.first_known-3.ensures.first)

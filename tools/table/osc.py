@@ -138,14 +138,10 @@ def places_antt(groups):
 def words_rt(groups, single, alone):
     """src/osc_words.rt of csicodec_osc."""
     worded = [group for group in groups if all("words" in row for row in group.rows.values())]
-    lines = ["//! Words of the commands of OSC.", "", f"use crate::command::{{{', '.join(sorted(group.name for group in worded if not group.further))}}};", ""]
+    lines = ["//! Words of the commands of OSC.", ""]
     for group in worded:
-        if group.further:
-            lines.append(packed("By their place among the others.", group.snake.upper(), "&str", [string(row["words"]) for row in group.rows.values()]))
-            continue
-        lines += [f"pub fn {group.snake}_words({group.snake}: {group.name}) -> &'static str {{", f"    match {group.snake} {{"]
-        lines += [f"        {group.name}::{variant} => {string(row['words'])}," for variant, row in group.rows.items()]
-        lines += ["    }", "}", ""]
+        said = f"Those of [`{group.name}`](crate::command::{group.name}), by their place among the others."
+        lines.append(packed(said, f"{group.snake.upper()}_WORDS", "&str", [string(row["words"]) for row in group.rows.values()]))
     for name, row in single.items():
         if "words" in row:
             lines += [f"pub const {low(name).upper()}: &str = {string(row['words'])};", ""]

@@ -4,7 +4,7 @@ use crate::asked::Asked;
 use crate::body::{is_semicolon, number, write_comma};
 use crate::command::ColorTable;
 use crate::fields::OscFields;
-use crate::osc_words::DYNAMIC;
+use crate::osc_words::DYNAMIC_WORDS;
 use crate::shown::Shown;
 use std::fmt;
 
@@ -23,7 +23,7 @@ fn special_name(place: Option<u32>) -> &'static str {
 }
 
 fn dynamic_name(place: usize) -> &'static str {
-    DYNAMIC.get(place).copied().unwrap_or("colour")
+    DYNAMIC_WORDS.get(place).copied().unwrap_or("colour")
 }
 
 /// Which colour an index means; behind the 256 of the palette stand the special ones (xterm).

@@ -7,8 +7,8 @@ use crate::command::{EditorMark, Progress};
 use crate::fields::OscFields;
 use crate::osc::Osc;
 use crate::osc_words::{
-    ALONE, FRONTS, KITTY_NOTICE, POINTER, editor_mark_words, folder_words, mark_words,
-    progress_words, title_words,
+    ALONE, EDITOR_MARK_WORDS, FOLDER_WORDS, FRONTS, KITTY_NOTICE, MARK_WORDS, POINTER,
+    PROGRESS_WORDS, TITLE_WORDS,
 };
 use crate::shown::Quoted;
 use std::fmt;
@@ -42,15 +42,19 @@ fn numbered<W: fmt::Write>(
     rest: Body<'_>,
 ) -> fmt::Result {
     match Osc::read(body.bytes) {
-        Osc::Title(title, text) => tell(f, title_words(title), body.with(text)),
+        Osc::Title(title, text) => tell(f, word(&TITLE_WORDS, title as usize), body.with(text)),
         Osc::Colors(palette, list) => pairs(f, palette, list),
         Osc::Color(_, list) => dynamic(f, code, list),
         Osc::ResetColors(palette, list) => resets(f, palette, list),
         Osc::ResetColor(_, _) => dynamic_reset(f, code),
         Osc::Link { params, address } => link(f, params, body.with(address)),
         Osc::Clipboard { selection, content } => clipboard(f, selection, content, body.more),
-        Osc::Folder(folder, text) => plain(f, folder_words(folder), body.with(text)),
-        Osc::Prompt(mark, list) => marked(f, mark_words(mark), list, body.more),
+        Osc::Folder(folder, text) => plain(
+            f,
+            word(&FOLDER_WORDS, folder as usize),
+            body.with(text),
+        ),
+        Osc::Prompt(mark, list) => marked(f, word(&MARK_WORDS, mark as usize), list, body.more),
         Osc::Editor(mark, list) => edited(f, mark, list, body),
         Osc::Progress(progress, list) => done(f, progress, list, rest),
         Osc::Pointer(text) => plain(f, POINTER, body.with(text)),
@@ -66,6 +70,11 @@ fn numbered<W: fmt::Write>(
             (None, None) => plain(f, "unknown", rest),
         },
     }
+}
+
+/// The words at a place.
+fn word(words: &'static [&'static str], place: usize) -> &'static str {
+    words.get(place).copied().unwrap_or("")
 }
 
 /// Words, and a text where there is one.
@@ -128,7 +137,7 @@ fn edited<W: fmt::Write>(
     list: OscFields<'_>,
     body: Body<'_>,
 ) -> fmt::Result {
-    let words = editor_mark_words(mark);
+    let words = word(&EDITOR_MARK_WORDS, mark as usize);
     match mark {
         EditorMark::CommandText | EditorMark::Property => {
             tell(f, words, body.with(list.text.unwrap_or(&[])))
@@ -149,7 +158,7 @@ fn done<W: fmt::Write>(
         (None, None | Some([])) => 0,
         (None, Some(_)) => return plain(f, "unknown", rest),
     };
-    f.write_str(progress_words(progress))?;
+    f.write_str(word(&PROGRESS_WORDS, progress as usize))?;
     match progress {
         Progress::Shown => write!(f, ": {percent} %"),
         _ => Ok(()),

@@ -1,67 +1,41 @@
 // Written by tools/table from table/osc.toml: change that, and run python3 tools/table.
 //! Words of the commands of OSC.
 
-use crate::command::{EditorMark, Folder, Mark, Progress, Title};
+/// Those of [`Title`](crate::command::Title), by their place among the others.
+pub(crate) static TITLE_WORDS: [&str; 3] = pieces! {
+    "window title and icon name", "icon name", "window title",
+};
 
-pub fn title_words(title: Title) -> &'static str {
-    match title {
-        Title::Both => "window title and icon name",
-        Title::Icon => "icon name",
-        Title::Window => "window title",
-    }
-}
-
-/// By their place among the others.
-pub(crate) static DYNAMIC: [&str; 10] = pieces! {
+/// Those of [`Dynamic`](crate::command::Dynamic), by their place among the others.
+pub(crate) static DYNAMIC_WORDS: [&str; 10] = pieces! {
     "foreground colour", "background colour", "cursor colour", "pointer foreground colour",
     "pointer background colour", "Tektronix foreground colour", "Tektronix background colour",
     "highlight background colour", "Tektronix cursor colour", "highlight foreground colour",
 };
 
-pub fn folder_words(folder: Folder) -> &'static str {
-    match folder {
-        Folder::Address => "current folder",
-        Folder::Path => "current folder (ConEmu)",
-    }
-}
+/// Those of [`Folder`](crate::command::Folder), by their place among the others.
+pub(crate) static FOLDER_WORDS: [&str; 2] = pieces! {
+    "current folder", "current folder (ConEmu)",
+};
 
-pub fn mark_words(mark: Mark) -> &'static str {
-    match mark {
-        Mark::Prompt => "start of the prompt",
-        Mark::Command => "start of the command line",
-        Mark::Output => "start of the output",
-        Mark::End => "end of the command",
-        Mark::CommandLine => "start of the command line, to the end of the line",
-        Mark::FreshLine => "to a fresh line",
-        Mark::NextPrompt => "start of the prompt, end of the last command",
-        Mark::PromptPart => "start of a prompt",
-    }
-}
+/// Those of [`Mark`](crate::command::Mark), by their place among the others.
+pub(crate) static MARK_WORDS: [&str; 8] = pieces! {
+    "start of the prompt", "start of the command line", "start of the output", "end of the command",
+    "start of the command line, to the end of the line", "to a fresh line",
+    "start of the prompt, end of the last command", "start of a prompt",
+};
 
-pub fn editor_mark_words(editor_mark: EditorMark) -> &'static str {
-    match editor_mark {
-        EditorMark::Prompt => "start of the prompt",
-        EditorMark::Command => "start of the command line",
-        EditorMark::Output => "start of the output",
-        EditorMark::End => "end of the command",
-        EditorMark::CommandText => "command line (VS Code)",
-        EditorMark::Continuation => "start of the prompt for a further line",
-        EditorMark::ContinuationEnd => "end of the prompt for a further line",
-        EditorMark::RightPrompt => "start of the prompt at the right",
-        EditorMark::RightPromptEnd => "end of the prompt at the right",
-        EditorMark::Property => "property (VS Code)",
-    }
-}
+/// Those of [`EditorMark`](crate::command::EditorMark), by their place among the others.
+pub(crate) static EDITOR_MARK_WORDS: [&str; 10] = pieces! {
+    "start of the prompt", "start of the command line", "start of the output", "end of the command",
+    "command line (VS Code)", "start of the prompt for a further line", "end of the prompt for a further line",
+    "start of the prompt at the right", "end of the prompt at the right", "property (VS Code)",
+};
 
-pub fn progress_words(progress: Progress) -> &'static str {
-    match progress {
-        Progress::Off => "progress: none",
-        Progress::Shown => "progress",
-        Progress::Failed => "progress: failed",
-        Progress::Busy => "progress: going on",
-        Progress::Paused => "progress: paused",
-    }
-}
+/// Those of [`Progress`](crate::command::Progress), by their place among the others.
+pub(crate) static PROGRESS_WORDS: [&str; 5] = pieces! {
+    "progress: none", "progress", "progress: failed", "progress: going on", "progress: paused",
+};
 
 pub const POINTER: &str = "shape of the mouse pointer";
 

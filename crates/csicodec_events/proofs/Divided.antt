@@ -1,7 +1,8 @@
 -- A span as the smallest steps, a step for each of its parts, and any event.
-use Rattle.std.proofs.Common.{◌≡◌, ◌≢◌, ◌⊎◌, ℕ, ◌<◌, Bool, true, false, List, [], ◌∷◌, ◌++◌, length, drop, refl, sym, ap, subst, ◌∙◌, inl, inr, append_assoc, arith}
+use Rattle.std.proofs.Common.{◌≡◌, ◌≢◌, ◌⊎◌, ℕ, ◌<◌, zero, suc, Bool, true, false, List, [], ◌∷◌, ◌++◌, length, take, drop, refl, sym, ap, subst, ◌∙◌, inl, inr, append_assoc, arith}
 use Rattle.std.proofs.{lemmas.Bool.cases_Bool, lemmas.Bool.eqb-true, lemmas.Bool.Decides.nat_tests, lemmas.Grind.flat_map-append}
-use Rattle.std.proofs.{lemmas.List.append_cancel_left, lemmas.List.length-append, lemmas.List.take-append-drop}
+use Rattle.std.proofs.{lemmas.List.append_cancel_left, lemmas.List.length-append, lemmas.List.length-take, lemmas.List.take-append-drop}
+use Rattle.std.proofs.{Math.Seq.take-append_seam}
 use Rattle.std.specs.{Prelude.◌==◌, Prelude.if◌then◌else◌, List.AllByRecursion, List.flat_map}
 use Rattle.csicodec_spans.specs.Parts.{Part, part, Allows, AllowsCsi, AreAll, AreFirstParts, AreOne, IsFirstPart, IsMaximal, IsMore, bytes_of}
 use Rattle.csicodec_spans.specs.{declared.table.Kind.Kind, declared.table.Mode.Mode, Table.Answer, Table.More, Table.ahead}
@@ -163,22 +164,46 @@ esc_behind m behind more c text maximal e = elim (cases_Bool (c == 27)) [
       absurd (maximal (inl refl) (subst IsMore (sym goes) tt))
 ]
 
--- the first of these parts are the text
-record Halved (limit : ℕ) (m : Mode) (bytes : List ℕ) (parts : List Part) (text : List ℕ) : Type 0 where
-  some : List Part
-  others : List Part
-  rest : List ℕ
-  mid : Mode
-  whole : parts ≡ some ++ others
-  joined : flat_map bytes_of some ≡ text
-  full : 0 < length text → 0 < length some
-  all : AllByRecursion (λ (p : Part). p.kind ≡ kind.Text) some
-  single : AllByRecursion (λ (p : Part). length p.bytes ≡ 1) some
-  first : AreFirstParts limit m bytes some rest mid
-  in_text : mid ≡ mode.Text
+-- parts of text are single bytes
+abbrev AreSingle : List Part → Type 0
+AreSingle parts = AllByRecursion (λ (p : Part). length p.bytes ≡ 1) parts
+
+single : (limit : ℕ) (parts : List Part) (m a : Mode) (bytes rest : List ℕ)
+    → AllByRecursion (λ (p : Part). p.kind ≡ kind.Text) parts → AreFirstParts limit m bytes parts rest a → AreSingle parts
+single limit [] m a bytes rest all s = tt
+single limit (p ∷ parts) m a bytes rest all s = ((text_fit limit m s.1 bytes s.0 p all.0 s.2).1, single limit parts s.1 a s.0 rest all.1 s.3)
+
+single_length : (parts : List Part) → AreSingle parts → length (flat_map bytes_of parts) ≡ length parts
+single_length [] h = refl
+single_length (p ∷ parts) h = omega (arith, h.0, length-append p.bytes (flat_map bytes_of parts), single_length parts h.1)
+
+-- the first of parts
+all_take : (P : Part → Type 0) (n : ℕ) (parts : List Part) → AllByRecursion P parts → AllByRecursion P (take n parts)
+all_take P zero parts h = tt
+all_take P (suc n) [] h = tt
+all_take P (suc n) (p ∷ parts) h = (h.0, all_take P n parts h.1)
+
+first_take : (n limit : ℕ) (parts : List Part) (m a : Mode) (bytes rest : List ℕ) → AreFirstParts limit m bytes parts rest a
+    → (behind : List ℕ) × (mid : Mode) × AreFirstParts limit m bytes (take n parts) behind mid
+first_take zero limit parts m a bytes rest s = (bytes, m, (refl, refl))
+first_take (suc n) limit [] m a bytes rest s = (bytes, m, (refl, refl))
+first_take (suc n) limit (p ∷ parts) m a bytes rest s =
+    let (behind, mid, first) = first_take n limit parts s.1 a s.0 rest s.3 in (behind, mid, (s.0, s.1, s.2, first))
+
+-- as many as the bytes of a text in front are that text
+front_text : (parts : List Part) (text held : List ℕ) → AreSingle parts → flat_map bytes_of parts ≡ text ++ held
+    → flat_map bytes_of (take (length text) parts) ≡ text
+front_text parts text held h joined =
+    let n = length text in
+    let some = flat_map bytes_of (take n parts) in
+    let others = flat_map bytes_of (drop n parts) in
+    let whole : some ++ others ≡ text ++ held = sym (flat_map-append bytes_of (take n parts) (drop n parts)) ∙ ap (flat_map bytes_of) (take-append-drop n parts) ∙ joined in
+    let len : length some ≡ n =
+    omega (arith, single_length (take n parts) (all_take _ n parts h), length-take n parts, single_length parts h, ap length joined, length-append text held) in
+    sym (take-append_seam some others) ∙ ap (λ (k : ℕ). take k (some ++ others)) len ∙ ap (take n) whole ∙ take-append_seam text held
 
 -- text leaves nothing open
-text_mode : (limit : ℕ) (parts : List Part) (m a : Mode) (bytes rest : List ℕ)
+pub text_mode : (limit : ℕ) (parts : List Part) (m a : Mode) (bytes rest : List ℕ)
     → AllByRecursion (λ (p : Part). p.kind ≡ kind.Text) parts → AreFirstParts limit m bytes parts rest a
     → (m ≡ mode.Text) ⊎ (0 < length parts) → a ≡ mode.Text
 text_mode limit [] m a bytes rest all s (inl text) = s.1 ∙ text
@@ -186,54 +211,7 @@ text_mode limit [] m a bytes rest all s (inr some) = absurd (omega (arith, some)
 text_mode limit (p ∷ parts) m a bytes rest all s h =
     text_mode limit parts s.1 a s.0 rest all.1 s.3 (inl ((told_part limit m bytes p s.0 s.1 s.2).plain all.0))
 
-halved : (limit : ℕ) (parts : List Part) (m a : Mode) (bytes behind text held : List ℕ)
-    → AllByRecursion (λ (p : Part). p.kind ≡ kind.Text) parts → AreFirstParts limit m bytes parts behind a
-    → flat_map bytes_of parts ≡ text ++ held → (m ≡ mode.Text) ⊎ (0 < length text)
-    → Halved limit m bytes parts text
-halved limit parts m a bytes behind [] held all s joined (inr some) = absurd (omega (arith, some))
-halved limit parts m a bytes behind [] held all s joined (inl text) = record {
-  some = [];
-  others = parts;
-  rest = bytes;
-  mid = m;
-  whole = refl;
-  joined = refl;
-  full = λ some. absurd (omega (arith, some));
-  all = tt;
-  single = tt;
-  first = (refl, refl);
-  in_text = text;
-}
-halved limit [] m a bytes behind (c ∷ text) held all s joined h = absurd cc
-halved limit (p ∷ parts) m a bytes behind (c ∷ text) held all s joined h =
-    by p.bytes one refl joined (λ later. halved limit parts s.1 a s.0 behind text held all.1 s.3 later (inl ((told_part limit m bytes p s.0 s.1 s.2).plain all.0)))
-  where
-    one : length p.bytes ≡ 1
-    one = (text_fit limit m s.1 bytes s.0 p all.0 s.2).1
-
-    by : (front : List ℕ) → length front ≡ 1 → p.bytes ≡ front → front ++ flat_map bytes_of parts ≡ c ∷ (text ++ held)
-        → (flat_map bytes_of parts ≡ text ++ held → Halved limit s.1 s.0 parts text) → Halved limit m bytes (p ∷ parts) (c ∷ text)
-    by [] len is joined others = absurd (omega (arith, len))
-    by (b ∷ d ∷ front) len is joined others = absurd (omega (arith, len))
-    by (b ∷ []) len is joined others =
-        let byte : b ≡ c = cc in
-        let g = others cc in
-        record {
-          some = p ∷ g.some;
-          others = g.others;
-          rest = g.rest;
-          mid = g.mid;
-          whole = ap (λ (y : List Part). p ∷ y) g.whole;
-          joined = ap (λ (x : List ℕ). x ++ flat_map bytes_of g.some) (is ∙ ap (λ (x : ℕ). x ∷ []) byte) ∙ ap (λ (x : List ℕ). c ∷ x) g.joined;
-          full = λ _. omega arith;
-          all = (all.0, g.all);
-          single = (one, g.single);
-          first = (s.0, s.1, s.2, g.first);
-          in_text = g.in_text;
-        }
-
-some_bytes : (some more : List Part) → 0 < length more → AllByRecursion (λ (p : Part). length p.bytes ≡ 1) (some ++ more)
-    → 0 < length (flat_map bytes_of more)
+some_bytes : (some more : List Part) → 0 < length more → AreSingle (some ++ more) → 0 < length (flat_map bytes_of more)
 some_bytes (p ∷ some) more full h = some_bytes some more full h.1
 some_bytes [] [] full h = absurd (omega (arith, full))
 some_bytes [] (p ∷ more) full h = omega (arith, h.0, length-append p.bytes (flat_map bytes_of more))
@@ -245,23 +223,31 @@ text_divides e bytes text rest after t =
     let c = s.cuts in
     let end = t.held ++ t.behind in
     let none = span_other e kind.Text bytes (text ++ t.held) t.behind after (λ is. cc) (λ is. cc) s in
-    let h = halved e.limit c.parts e.mode s.next bytes t.behind text t.held c.span.all c.first c.span.joined (inr t.some) in
+    let n = length text in
+    let some = take n c.parts in
+    let (behind, mid, first) = first_take n e.limit c.parts e.mode s.next bytes t.behind c.first in
+    let all_single = single e.limit c.parts e.mode s.next bytes t.behind c.span.all c.first in
+    let some_single : AreSingle some = all_take _ n c.parts all_single in
+    let some_text = all_take (λ (p : Part). p.kind ≡ kind.Text) n c.parts c.span.all in
+    let joined : flat_map bytes_of some ≡ text = front_text c.parts text t.held all_single c.span.joined in
+    let full : 0 < length some = omega (arith, t.some, ap length joined, single_length some some_single) in
+    let in_text = text_mode e.limit some e.mode mid bytes behind some_text first (inr full) in
+    let whole : c.parts ≡ some ++ drop n c.parts = sym (take-append-drop n c.parts) in
     let split : bytes ≡ text ++ end = cut_parts e.limit e.mode bytes kind.Text (text ++ t.held) t.behind s.next c ∙ append_assoc text t.held t.behind in
-    let front : text ++ h.rest ≡ text ++ end = ap (λ (x : List ℕ). x ++ h.rest) (sym h.joined) ∙ sym (parts_join e.limit h.some e.mode bytes h.rest h.mid h.first) ∙ split in
-    let rests : rest ≡ h.rest = t.goes_on ∙ sym (append_cancel_left text h.rest end front) in
+    let front : text ++ behind ≡ text ++ end = ap (λ (x : List ℕ). x ++ behind) (sym joined) ∙ sym (parts_join e.limit some e.mode bytes behind mid first) ∙ split in
+    let rests : rest ≡ behind = t.goes_on ∙ sym (append_cancel_left text behind end front) in
     let is_text = text_mode e.limit c.parts e.mode s.next bytes t.behind c.span.all c.first (inr c.span.some) in
-    let on : after ≡ at e h.mid = s.on ∙ ap (at e) (is_text ∙ sym h.in_text) in
-    let sure : Along (Sure kind.Text) e.limit e.mode bytes h.some = λ some more behind m whole full first is.
-    let u = flat_map bytes_of some in
+    let on : after ≡ at e mid = s.on ∙ ap (at e) (is_text ∙ sym in_text) in
+    let sure : Along (Sure kind.Text) e.limit e.mode bytes some = λ before more later m parted full first is.
+    let u = flat_map bytes_of before in
     let v = flat_map bytes_of more in
-    let parts : text ≡ u ++ v = sym h.joined ∙ ap (flat_map bytes_of) whole ∙ flat_map-append bytes_of some more in
-    let there : u ++ behind ≡ u ++ (v ++ end) = sym (parts_join e.limit some e.mode bytes behind m first) ∙ split ∙ ap (λ (x : List ℕ). x ++ end) parts ∙ append_assoc u v end in
-    let single = subst (AllByRecursion (λ (p : Part). length p.bytes ≡ 1)) whole h.single in
-    subst (λ (x : List ℕ). is_unfinished x ≡ false) (sym (append_cancel_left u behind (v ++ end) there))
-    (text_sure text u v t.held t.behind t.holds parts (some_bytes some more full single) (λ d more e. esc_behind s.next t.behind more d is_text s.maximal e)) in
-    rw (rests, on) (all_divides h.some e h.mid bytes text h.rest kind.Text refl none (record { some = h.full t.some; all = h.all; joined = h.joined })
-    (λ some more behind m whole full rest first. c.one some (more ++ h.others) behind m (h.whole ∙ ap (λ (x : List Part). x ++ h.others) whole ∙ append_assoc some more h.others) full (omega (arith, rest, length-append more h.others)) first)
-    sure h.first)
+    let parts : text ≡ u ++ v = sym joined ∙ ap (flat_map bytes_of) parted ∙ flat_map-append bytes_of before more in
+    let there : u ++ later ≡ u ++ (v ++ end) = sym (parts_join e.limit before e.mode bytes later m first) ∙ split ∙ ap (λ (x : List ℕ). x ++ end) parts ∙ append_assoc u v end in
+    subst (λ (x : List ℕ). is_unfinished x ≡ false) (sym (append_cancel_left u later (v ++ end) there))
+    (text_sure text u v t.held t.behind t.holds parts (some_bytes before more full (subst AreSingle parted some_single)) (λ d more e. esc_behind s.next t.behind more d is_text s.maximal e)) in
+    rw (rests, on) (all_divides some e mid bytes text behind kind.Text refl none (record { some = full; all = some_text; joined = joined })
+    (λ before more later m parted full rest first. c.one before (more ++ drop n c.parts) later m (whole ∙ ap (λ (x : List Part). x ++ drop n c.parts) parted ∙ append_assoc before more (drop n c.parts)) full (omega (arith, rest, length-append more (drop n c.parts))) first)
+    sure first)
 
 -- ---- bytes of a sequence that went wrong
 

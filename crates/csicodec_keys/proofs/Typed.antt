@@ -4,12 +4,11 @@ use Rattle.std.proofs.lemmas.Bool.{cases_lt, both_ways}
 use Rattle.std.specs.{Prelude.true, Prelude.false, Prelude.◌==◌, Char.encode_utf8, List.AllByRecursion}
 use lib.Utf8.{next, scalar}
 use Rattle.csicodec_tokens.specs.declared.param.CsiParam.{CsiParam}
-use Rattle.csicodec_spans.specs.{declared.table.Kind.Kind, declared.table.Mode.Mode, Table.Answer, Parts.Allows, Parts.AreAll, Parts.AreFirstParts}
-use Rattle.csicodec_spans.specs.{Parts.IsUnsureBy, Parts.Part}
-use Rattle.csicodec_spans.proofs.{Agrees.text_goes_on, Missed.told_part, Spanned.cut_parts, Spanned.span_all}
+use Rattle.csicodec_spans.specs.{declared.table.Kind.Kind, Table.Answer, Parts.Allows, Parts.AreAll, Parts.AreFirstParts, Parts.IsUnsureBy, Parts.Part}
+use Rattle.csicodec_spans.proofs.{Agrees.text_goes_on, Spanned.cut_parts, Spanned.span_all}
 use Rattle.csicodec_events.specs.{declared.event.Event.Event, declared.event.Events.Events, Characters.is_unfinished, Events.BeginsCsi, Events.IsHeld}
 use Rattle.csicodec_events.specs.{Events.IsSpan, Events.IsText, Events.IsTold, Events.Waits}
-use Rattle.csicodec_events.proofs.{Divided.esc_behind, Unfinished.unfinished_front}
+use Rattle.csicodec_events.proofs.{Divided.esc_behind, Divided.text_mode, Unfinished.unfinished_front}
 use Rattle.csicodec_keys.specs.Sent.{IsTextFront, fresh}
 use Rattle.csicodec_spans.specs.declared.table.Kind.TheVariants as kind
 use Rattle.csicodec_spans.specs.declared.table.Mode.TheVariants as mode
@@ -95,11 +94,6 @@ begins a later more (t ∷ text) held behind n some e h stops =
 
 -- ---- spans where nothing is open
 
-text-mode : (limit : ℕ) (ps : List Part) (m a : Mode) (bytes rest : List ℕ) → m ≡ mode.Text → AllByRecursion (λ (p : Part). p.kind ≡ kind.Text) ps → AreFirstParts limit m bytes ps rest a
-    → a ≡ mode.Text
-text-mode limit [] m a bytes rest is all s = s.1 ∙ is
-text-mode limit (p ∷ ps) m a bytes rest is all s = text-mode limit ps s.1 a s.0 rest ((told_part limit m bytes p s.0 s.1 s.2).plain all.0) all.1 s.3
-
 span-text : (limit b : ℕ) (bytes text rest : List ℕ) (k : Kind) (after : Events) → b ≢ 27 → IsSpan (fresh limit) k (b ∷ bytes) text rest after → k ≡ kind.Text
 span-text limit b bytes text rest k after other t = by t.cuts.parts (span_all k text t.cuts.parts t.cuts.span) t.cuts.first
   where
@@ -114,7 +108,7 @@ text-told : (limit a : ℕ) (later more text rest : List ℕ) (after : Events) �
 text-told limit a later more text rest after c t =
     let cuts = t.span.cuts in
     let parts = cut_parts limit mode.Text (a ∷ (later ++ more)) kind.Text (text ++ t.held) t.behind t.span.next cuts in
-    let here : t.span.next ≡ mode.Text = text-mode limit cuts.parts mode.Text t.span.next (a ∷ (later ++ more)) t.behind refl cuts.span.all cuts.first in
+    let here : t.span.next ≡ mode.Text = text_mode limit cuts.parts mode.Text t.span.next (a ∷ (later ++ more)) t.behind cuts.span.all cuts.first (inl refl) in
     let stops : Stops t.behind = λ x xs n e. let esc = esc_behind t.span.next t.behind xs x here t.span.maximal e in omega (arith, esc, n.0) in
     begins a later more text t.held t.behind c.1 t.some (sym (append_assoc text t.held t.behind) ∙ sym parts) t.holds stops
 

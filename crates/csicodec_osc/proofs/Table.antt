@@ -75,8 +75,8 @@ first-says (k ∷ commands) content s e = go (read_by k content) (λ t f. says k
     go None here later f = later f
     go (Some body) here later f = here s (sym f)
 
-pub each-says : (content : List ℕ) → (s : Said) × Says content s
-each-says content = go (first_read COMMANDS content) refl
+pub each_says : (content : List ℕ) → (s : Said) × Says content s
+each_says content = go (first_read COMMANDS content) refl
   where
     go : (o : Option Said) → first_read COMMANDS content ≡ o → (s : Said) × Says content s
     go None e = (Unknown content, none-says content e)

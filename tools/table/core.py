@@ -106,7 +106,7 @@ def written_lines(actions):
         yield f"written_{action.subject.lower()} ({value(action)} {numbers(action)}) = {said}"
 
 
-# ---- the lists of csicodec_actions, and csicodec_c
+# ---- the lists of csicodec_actions, and csicodec_structs
 
 
 def read_arms(actions):
@@ -212,7 +212,7 @@ def of_subject(subject, said):
 
 def of_cursor(actions):
     one, two = single(actions)
-    front, rows = "crates/csicodec_c/src/row.rt", "crates/csicodec_c/proofs/Rows.antt"
+    front, rows = "crates/csicodec_structs/src/movement.rt", "crates/csicodec_structs/proofs/Moved.antt"
     yield front, Part(list(front_arms(one)), ("fn moved_by(number: u32, control: u8) -> Option<Cursor>", "    match control {"), "        _ => None,")
     yield front, Part(list(front_arms(two)), ("fn moved_to(first: u32, second: u32, control: u8) -> Option<Cursor>", "    match control {"), "        b'r' => Some(Cursor::SetTopAndBottomMargins {")
     lists = "TwoCounts final make = (list : List CsiParam) → as_cursor list final ≡ option_map (λ (p : ℕ × ℕ). Cursor (make p.0 p.1)) (given (paired (λ a b. (a, b))) list)"
@@ -225,10 +225,10 @@ def of_cursor(actions):
 
 
 def of_edit(actions):
-    yield "crates/csicodec_c/src/row.rt", Part(list(front_arms(actions)), ("fn edited(number: u32, control: u8) -> Option<Edit>", "    match control {"), "        b'J' => Some(Edit::EraseInDisplay(EraseInDisplay::from_i64(i64::from(number))?)),")
+    yield "crates/csicodec_structs/src/movement.rt", Part(list(front_arms(actions)), ("fn edited(number: u32, control: u8) -> Option<Edit>", "    match control {"), "        b'J' => Some(Edit::EraseInDisplay(EraseInDisplay::from_i64(i64::from(number))?)),")
     head = "OneEdit final make = (n k : ℕ) → k ≡ or_default 1 n → n < 2 ^ 32 → (list : List CsiParam) → IsOne n list → as_edit list final ≡ Some (Edits (make k))"
     behind = "pub erase_in_display : (n : ℕ) (v : EraseInDisplay) → Some v ≡ with_number erase_in_display_number erases_in_display (pos n) → (list : List CsiParam)"
-    yield "crates/csicodec_c/proofs/Rows.antt", Part(list(together("edits", ("OneEdit", ""), ("one_count", ""), actions)), (head, ""), behind)
+    yield "crates/csicodec_structs/proofs/Moved.antt", Part(list(together("edits", ("OneEdit", ""), ("one_count", ""), actions)), (head, ""), behind)
 
 
 # Where csicodec_overwrite says what acts within a line, and by which name.

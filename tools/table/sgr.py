@@ -316,7 +316,7 @@ def files(rows):
     written = {
         "csicodec_names/src/codes.rt": codes, "csicodec_names/specs/Numbers.antt": numbers,
         "csicodec_base/src/entries.rt": entries, "csicodec_base/specs/Attributes.antt": attributes,
-        "csicodec_c/src/by_number.rt": alone, "csicodec_words/src/sgr_words.rt": words,
+        "csicodec_structs/src/by_number.rt": alone, "csicodec_words/src/sgr_words.rt": words,
     }
     texts = {f"crates/{path}": first_line(TABLE, "--" if path.endswith(".antt") else "//") + of(table) for path, of in written.items()}
     return {**texts, **line_parts(table.attributes()), "docs/SGR.md": page_line(TABLE) + page(table)}

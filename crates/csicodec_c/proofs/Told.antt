@@ -32,7 +32,7 @@ laid bytes a b p q front (inr r) ok = absurd (no_done r.error (ap (λ (f : NextS
 pub unlaid : (bytes : List ℕ) (a b : List Struct) (p q : List Param) (front : NextSequence)
     → (IsLaid bytes a b p q front ⊎ IsUnlaid bytes a b p q front) → (front.status ≡ 0 → ⊥) → (front.status ≡ 5 → ⊥)
     → (b ≡ a) × (q ≡ p)
-unlaid bytes a b p q front (inl d) done memory = absurd (done d.ok)
+unlaid bytes a b p q front (inl d) done memory = absurd (done d.taken.ok)
 unlaid bytes a b p q front (inr r) done memory =
     let other : r.error ≡ reading.Memory → ⊥ = λ m. memory (ap (λ (f : NextSequence). f.status) r.tells ∙ ap (λ (x : ReadError). (refusal x).status) m) in
     (r.actions_stay other, r.params_stay other)
@@ -43,11 +43,11 @@ pub put_read : (read bytes : List ℕ) (list : List CsiParam) (final : ℕ) (a b
     → read ≡ without_controls bytes → Seq (without_controls bytes) list final
     → IsLaid read a b p q front → HasPut list final a b p q front.actions front.params
 put_read read bytes list final a b p q front is s d =
-    let f = d.front in
+    let f = d.taken in
     let (text, seq, split) = f.reads in
     let here : Seq read list final = subst (λ (x : List ℕ). Seq x list final) (sym is) s in
-    let same = one_seq text read d.rest [] f.list list f.final final seq here (sym split ∙ sym (append-nil read)) in
-    (d.actions, rw (← same.1, ← same.2) f.are, record { actions = d.count; params = d.params; lays_actions = d.lays_actions; lays_params = d.lays_params })
+    let same = one_seq text read f.rest [] f.list list f.final final seq here (sym split ∙ sym (append-nil read)) in
+    (f.actions, rw (← same.1, ← same.2) f.are, f.lays)
 
 -- ---- a sequence that is read at once
 
@@ -55,12 +55,11 @@ pub read_done : (number limit looked : ℕ) (bytes near : List ℕ) (m : Mode) (
     → number ≡ mode_number m → looked ≡ 0 → BeginsCsi bytes
     → near ≡ take limit bytes → IsLaid near a b p q front → answer ≡ read_at_once front → AnswersOutput number limit looked bytes a b p q answer
 read_done number limit looked bytes near m a b p q front answer began none begins is laid e =
-    let d = subst (λ (x : List ℕ). IsLaid x a b p q front) is laid in
-    let f = d.front in
+    let f = (subst (λ (x : List ℕ). IsLaid x a b p q front) is laid).taken in
     let s : Events = stream limit m looked in
-    let n = length (take limit bytes) - length d.rest in
-    let seq = whole limit bytes d.rest f.list f.final f.reads in
-    let csi = at_once s bytes (take n bytes) (drop n bytes) f.list f.final none seq (sym (take-append-drop n bytes)) (short limit bytes d.rest) in
+    let n = length (take limit bytes) - length f.rest in
+    let seq = whole limit bytes f.rest f.list f.final f.reads in
+    let csi = at_once s bytes (take n bytes) (drop n bytes) f.list f.final none seq (sym (take-append-drop n bytes)) (short limit bytes f.rest) in
     let full : Received = record { status = 0; kind = 2; mode = 0; value = 0; looked = 0; used = front.used; actions = front.actions; params = front.params } in (
       full,
       e,
@@ -81,8 +80,8 @@ read_done number limit looked bytes near m a b p q front answer began none begin
         mode = refl;
         value = refl;
         looks = refl;
-        used = omega (arith, d.used, length-take limit bytes, length-take n bytes);
-        puts = (d.actions, f.are, record { actions = d.count; params = d.params; lays_actions = d.lays_actions; lays_params = d.lays_params });
+        used = omega (arith, f.used, length-take limit bytes, length-take n bytes);
+        puts = (f.actions, f.are, f.lays);
       }),
     )
 

@@ -1,15 +1,13 @@
 -- The struct of an unknown action, and its tokens.
-use Rattle.std.proofs.Common.{◌≡◌, ◌<◌, ◌≤◌, ◌-◌, ◌++◌, ◌+◌, ℕ, List, [], ◌∷◌, Option, None, Some, length, map, take, set, slice_index_or, refl, sym, ap, subst, ◌∙◌, arith}
-use Rattle.std.proofs.{lemmas.List.drop-replicate, lemmas.List.map-append, lemmas.List.take_more, lemmas.List.take_more_set, lemmas.List.Elements.All-push}
-use Rattle.std.specs.{Prelude.false, Prelude.replicate, List.All}
+use Rattle.std.proofs.Common.{◌≡◌, ◌<◌, ◌≤◌, ◌-◌, ◌++◌, ◌+◌, ℕ, List, Option, None, Some, length, refl, sym, ap, ◌∙◌, arith}
+use Rattle.std.proofs.lemmas.List.{drop-replicate}
+use Rattle.std.specs.Prelude.{false, replicate}
 use Rattle.csicodec_tokens.specs.declared.param.CsiParam.{CsiParam}
 use Rattle.csicodec_actions.specs.Actions.{Unspecified}
 use Rattle.csicodec_sequences.specs.{declared.row.SequenceForm.SequenceForm, Known.reading}
 use Rattle.csicodec_sequences.proofs.Table.{longest}
-use Rattle.csicodec_structs.specs.{declared.structs.Param.Param, declared.structs.Struct.Struct, Encode.Stands, Room.Fills, Structs.param_of}
-use Rattle.csicodec_structs.specs.{Values.TokenInRange}
+use Rattle.csicodec_structs.specs.{declared.structs.Param.Param, declared.structs.Struct.Struct, Encode.Stands, Room.Fills}
 use Rattle.csicodec_structs.proofs.OneAction.{same-action}
-use Rattle.csicodec_c.specs.Recognised.{AreTokens}
 
 -- values in room of 12 zeros
 pub padded : (values new : List ℕ) → length values ≤ 12 → Fills (replicate 12 0) new values → new ≡ values ++ replicate (12 - length values) 0
@@ -28,14 +26,3 @@ too-long list final long = go (reading list final) refl
     go : (o : Option (SequenceForm × List ℕ)) → reading list final ≡ o → o ≡ None
     go None e = refl
     go (Some known) e = (let few = longest list final known e in absurd (omega (arith, long, few)))
-
--- a token more
-pub one_more : (room : List CsiParam) (params : List Param) (i : ℕ) (d : Param) (t : CsiParam) → i < length room → i < length params
-    → AreTokens (take i room) (take i params) → TokenInRange t → param_of t ≡ slice_index_or params i d
-    → AreTokens (take (i + 1) (set room i t)) (take (i + 1) params)
-one_more room params i d t low few are in_range same =
-    let list = sym (take_more_set room i t low) in (
-      subst (λ (l : List CsiParam). All TokenInRange l) list (All-push TokenInRange (take i room) t are.0 in_range),
-      ap (map param_of) (sym list) ∙ map-append param_of (take i room) (t ∷ []) ∙ ap (λ (l : List Param). l ++ param_of t ∷ []) are.1
-          ∙ ap (λ (p : Param). take i params ++ p ∷ []) same ∙ sym (take_more params i d few),
-    )

@@ -1,4 +1,3 @@
-pub mod Private
 pub mod Recognised
 pub mod Filter
 pub mod Span

@@ -1,10 +1,9 @@
 -- What the call for an unknown action answers a C program: which row of the table of further sequences reads its list.
-use Rattle.std.specs.{Prelude.ℕ, Prelude.◌≡◌, Prelude.◌-◌, Prelude.◌++◌, Prelude.false, Prelude.List, Prelude.[], Prelude.Some, Prelude.None, Prelude.length}
-use Rattle.std.specs.{Prelude.map, Prelude.replicate, List.All}
+use Rattle.std.specs.Prelude.{ℕ, ◌≡◌, ◌-◌, ◌++◌, false, List, [], Some, None, length, replicate}
 use Rattle.csicodec_tokens.specs.declared.param.CsiParam.{CsiParam}
 use Rattle.csicodec_actions.specs.Actions.{Unspecified}
 use Rattle.csicodec_sequences.specs.{declared.row.SequenceForm.SequenceForm, Known.reading}
-use Rattle.csicodec_structs.specs.{declared.structs.Param.Param, declared.structs.Struct.Struct, Encode.Stands, Structs.param_of, Values.TokenInRange}
+use Rattle.csicodec_structs.specs.{declared.structs.Param.Param, declared.structs.Struct.Struct, Encode.Stands}
 use Rattle.csicodec_c.specs.declared.recognise.Recognised.{Recognised}
 
 -- a kind and values, with zeros behind them up to 12
@@ -26,7 +25,3 @@ pub record IsKnown (given : Struct) (params : List Param) (answer : Recognised) 
 abbrev pub IsUnknown : Struct → List Param → Recognised → Type 0
 IsUnknown given params answer = (answer ≡ recognised 0 []) × ((list : List CsiParam) (final : ℕ)
     → Stands given params (Unspecified list false final) → reading list final ≡ None)
-
--- the structs of these tokens, each a byte or a number
-abbrev pub AreTokens : List CsiParam → List Param → Type 0
-AreTokens list params = All TokenInRange list × (map param_of list ≡ params)

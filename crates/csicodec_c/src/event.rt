@@ -5,10 +5,9 @@ ghost use Rattle.csicodec_c.specs.Filter.{mode_number};
 ghost use Rattle.csicodec_c.specs.Event.{AnswersOutput, read_at_once, without_value};
 
 use crate::filter::mode_at;
-use crate::front::lay_front;
 use crate::input::{Received, refused, step};
 use csicodec_events::{Dialect, Events, begins_csi};
-use csicodec_structs::{NextSequence, Param, Status, Struct};
+use csicodec_structs::{NextSequence, Param, Status, Struct, lay_front};
 use std::alloc::Global;
 
 /// What comes next in a stream.

@@ -10,9 +10,8 @@ ghost use Rattle.csicodec_c.specs.Filter.{mode_number};
 ghost use Rattle.csicodec_c.specs.Event.{Answers, HasPut, IsPaused, IsStill, Puts, answered, dialect_number, event_number, refused, value_of};
 
 use crate::filter::{mode_at, number_of};
-use crate::front::lay_front;
 use csicodec_events::{Dialect, Event, Events, InputEvent, append_read};
-use csicodec_structs::{Param, Status, Struct};
+use csicodec_structs::{Param, Status, Struct, lay_front};
 use std::alloc::Global;
 
 /// What comes next in what a terminal sends.

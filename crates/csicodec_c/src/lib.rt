@@ -1,27 +1,20 @@
 //! The codec for C, and for every language that calls C.
 #![tactic(auto)]
 
-mod attributes;
-mod by_number;
 mod compact;
 mod event;
 mod filter;
-mod front;
 mod html;
 mod input;
 mod key;
 pub mod laws;
-mod mode;
-mod numbers;
 mod osc;
 mod osc_kinds;
 mod recognise;
-mod row;
 mod sequences;
 mod span;
 mod step;
 mod strip;
-mod styles;
 mod version;
 
 pub use compact::{

@@ -3,15 +3,14 @@ ghost use Rattle.std.specs.Prelude.{◌≡◌, ◌⊎◌};
 ghost use Rattle.csicodec_events.specs.Events.{without_controls};
 ghost use Rattle.csicodec_structs.specs.Normalise.{IsDone as IsNormalised, IsRefused as RefusesToNormalise};
 ghost use Rattle.csicodec_structs.specs.Encode.{IsDone as IsEncoded, IsJudged, IsRefused as RefusesToEncode, IsUnjudged};
-ghost use Rattle.csicodec_structs.specs.Next.{IsDone as IsLaid, IsRefused as RefusesToLay, refused};
-ghost use Rattle.csicodec_structs.specs.Terminal.{IsTaken};
+ghost use Rattle.csicodec_structs.specs.Next.{IsDone as IsLaid, IsRefused as RefusesToLay, IsTaken, refused};
+ghost use Rattle.csicodec_terminal.specs.Terminal.{Terminal};
 ghost use Rattle.csicodec_structs.specs.declared.status.Status.TheVariants as status;
 
-use crate::front::lay_front;
 use csicodec_events::append_read;
 use csicodec_structs::{
     Encoded, Judged, NextSequence, Normalised, Param, Status, Struct, judge, lay_as_terminals,
-    put_normal_form, put_texts,
+    lay_front, put_normal_form, put_texts, unlaid,
 };
 use std::alloc::Global;
 
@@ -47,20 +46,14 @@ pub extern "C" fn csicodec_terminal_actions(
     actions: &mut [Struct],
     params: &mut [Param],
 ) -> NextSequence
-    ensures { (IsTaken (without_controls bytes.now) actions.old actions.new params.old params.new result
+    ensures { (IsTaken Terminal (without_controls bytes.now) actions.old actions.new params.old params.new result
         ⊎ RefusesToLay (without_controls bytes.now) actions.old actions.new params.old params.new result)
         ⊎ (result ≡ refused status.Memory 0) }
 {
     let mut read = Vec::new(alloc);
     match append_read(bytes, &mut read) {
         Ok(()) => lay_as_terminals(alloc, &read, actions, params),
-        Err(_) => NextSequence {
-            status: Status::Memory.number(),
-            at: 0,
-            used: 0,
-            actions: 0,
-            params: 0,
-        },
+        Err(_) => unlaid(Status::Memory, 0),
     }
 }
 

@@ -5,7 +5,6 @@ pub mod Structs
 pub mod Values
 pub mod Rows
 pub mod Next
-pub mod Terminal
 pub mod Encode
 pub mod Ranges
 pub mod Named

@@ -1,6 +1,6 @@
--- What the call for the sequence at the front answers a C program.
-use Rattle.std.specs.{Prelude.ℕ, Prelude.◌≡◌, Prelude.◌≢◌, Prelude.◌+◌, Prelude.false, Prelude.List, Prelude.[], Prelude.◌∷◌, Prelude.length, List.All}
-use Rattle.std.specs.{List.flat_map}
+-- What the calls for the sequence at the front answer a C program.
+use Rattle.std.specs.{Prelude.ℕ, Prelude.◌≡◌, Prelude.◌≢◌, Prelude.◌+◌, Prelude.Bool, Prelude.false, Prelude.List, Prelude.[], Prelude.◌∷◌, Prelude.length}
+use Rattle.std.specs.{List.All, List.flat_map}
 use Rattle.csicodec_tokens.specs.{declared.param.CsiParam.CsiParam, declared.reader.ReadError.ReadError, Fault.FaultOf, Sequence.Reads}
 use Rattle.csicodec_actions.specs.Actions.{Action}
 use Rattle.csicodec_parser.specs.Segments.{Actions}
@@ -23,13 +23,6 @@ IsWhy bytes reading.Memory =
     (list : List CsiParam) × (final : ℕ) × (rest : List ℕ) × Reads bytes list final rest
 IsWhy bytes error = FaultOf bytes error
 
--- actions, and the bytes that are left, of the sequence at the front
-pub record IsFront (bytes : List ℕ) (actions : List Action) (rest : List ℕ) : Type 0 where
-  pub list : List CsiParam
-  pub final : ℕ
-  pub reads : Reads bytes list final rest
-  pub are : Actions list false final actions
-
 -- the structs of actions in turn, whose tokens stand one behind the other from this place on
 abbrev pub structs : ℕ → List Action → List Struct
 structs place [] = []
@@ -47,21 +40,30 @@ pub record Lays (actions_old actions_new : List Struct) (params_old params_new :
   pub lays_actions : actions_new ≡ laid actions_old (structs 0 all)
   pub lays_params : params_new ≡ laid params_old (all_params all)
 
--- the actions of the sequence at the front and their tokens, as many as there is room for, how many they are, and its length
-pub record IsDone (bytes : List ℕ) (actions_old actions_new : List Struct)
+-- the actions of a list, by a reading of lists
+abbrev pub Reading : Type 1
+Reading = List CsiParam → Bool → ℕ → List Action → Type 0
+
+-- by a reading the actions of the sequence at the front and their tokens, as many as there is room for, how many they are, and its length
+pub record IsTaken (reading : Reading) (bytes : List ℕ) (actions_old actions_new : List Struct)
     (params_old params_new : List Param) (answer : NextSequence) : Type 0 where
-  pub actions : List Action
+  pub list : List CsiParam
+  pub final : ℕ
   pub rest : List ℕ
-  pub front : IsFront bytes actions rest
-  pub in_range : All InRange actions
-  pub named : All IsNamed actions
+  pub actions : List Action
+  pub reads : Reads bytes list final rest
+  pub are : reading list false final actions
   pub ok : answer.status ≡ status_number status.Done
   pub no_fault : answer.at ≡ 0
   pub used : answer.used + length rest ≡ length bytes
-  pub count : answer.actions ≡ length actions
-  pub params : answer.params ≡ length (all_params actions)
-  pub lays_actions : actions_new ≡ laid actions_old (structs 0 actions)
-  pub lays_params : params_new ≡ laid params_old (all_params actions)
+  pub lays : Lays actions_old actions_new params_old params_new (record { actions = answer.actions; params = answer.params }) actions
+
+-- so by the rules, by which each action is in range and by its name
+pub record IsDone (bytes : List ℕ) (actions_old actions_new : List Struct)
+    (params_old params_new : List Param) (answer : NextSequence) : Type 0 where
+  pub taken : IsTaken Actions bytes actions_old actions_new params_old params_new answer
+  pub in_range : All InRange taken.actions
+  pub named : All IsNamed taken.actions
 
 -- or the refusal of the bytes, and then nothing is put, unless memory is refused
 pub record IsRefused (bytes : List ℕ) (actions_old actions_new : List Struct)

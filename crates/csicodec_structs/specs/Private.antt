@@ -1,3 +1,4 @@
 -- What private steps say of each other. No promise rests on these files.
 pub mod Candidates
 pub mod Fronts
+pub mod Short

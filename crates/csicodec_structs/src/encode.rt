@@ -60,7 +60,7 @@ pub fn put_text(text: &[u8], out: &mut [u8]) -> Encoded
 }
 
 /// Whether two structs are the same, field by field.
-fn is_same(one: &Struct, other: &Struct) -> bool
+pub(crate) fn is_same(one: &Struct, other: &Struct) -> bool
     ensures { result ≡ true ↔ one.now ≡ other.now }
 {
     *one == Struct {

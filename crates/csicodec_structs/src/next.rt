@@ -26,7 +26,8 @@ pub struct NextSequence {
     pub params: usize,
 }
 
-pub(crate) fn refused(why: Status, at: usize) -> NextSequence
+/// Of a sequence that isn't laid.
+pub fn refused(why: Status, at: usize) -> NextSequence
     ensures { result ≡ refused why at }
 {
     NextSequence {

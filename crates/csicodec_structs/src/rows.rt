@@ -15,7 +15,7 @@ use csicodec::{
 
 /// The struct of an attribute.
 #[inline(always)]
-pub fn sgr_struct(sgr: &Sgr) -> Struct
+pub(crate) fn sgr_struct(sgr: &Sgr) -> Struct
     ensures { result ≡ sgr_struct sgr.now }
 {
     match sgr {
@@ -38,7 +38,7 @@ pub fn sgr_struct(sgr: &Sgr) -> Struct
 
 /// The struct of an action of the cursor.
 #[inline(always)]
-pub fn cursor_struct(cursor: &Cursor) -> Struct
+pub(crate) fn cursor_struct(cursor: &Cursor) -> Struct
     ensures { result ≡ cursor_struct cursor.now }
 {
     match cursor {
@@ -74,7 +74,7 @@ pub fn cursor_struct(cursor: &Cursor) -> Struct
 
 /// The struct of an edit.
 #[inline(always)]
-pub fn edit_struct(edit: &Edit) -> Struct
+pub(crate) fn edit_struct(edit: &Edit) -> Struct
     ensures { result ≡ edit_struct edit.now }
 {
     match edit {
@@ -93,7 +93,7 @@ pub fn edit_struct(edit: &Edit) -> Struct
 
 /// The struct of a change of a mode, or of a question for one.
 #[inline(always)]
-pub fn mode_struct(mode: &Mode) -> Struct
+pub(crate) fn mode_struct(mode: &Mode) -> Struct
     ensures { result ≡ mode_struct mode.now }
 {
     match mode {

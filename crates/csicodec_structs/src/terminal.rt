@@ -1,9 +1,8 @@
 //! The sequence at the front of some bytes, with the actions that terminals take it for.
 ghost use Rattle.std.specs.Prelude.{◌≡◌, ◌⊎◌, IfSome, map};
 ghost use Rattle.csicodec_parser.specs.ActionOf.{action_of};
-ghost use Rattle.csicodec_structs.specs.Next.{IsRefused, Lays};
+ghost use Rattle.csicodec_structs.specs.Next.{IsRefused, IsTaken, Lays};
 ghost use Rattle.csicodec_structs.specs.Private.Fronts.{IsAnswer};
-ghost use Rattle.csicodec_structs.specs.Terminal.{IsTaken};
 ghost use Rattle.csicodec_terminal.specs.Terminal.{Terminal};
 
 use crate::lay::{Counts, lay_one};
@@ -57,7 +56,7 @@ pub fn lay_as_terminals(
     actions: &mut [Struct],
     params: &mut [Param],
 ) -> NextSequence
-    ensures { IsTaken bytes.now actions.old actions.new params.old params.new result
+    ensures { IsTaken Terminal bytes.now actions.old actions.new params.old params.new result
         ⊎ IsRefused bytes.now actions.old actions.new params.old params.new result }
 {
     match read_csi(alloc, bytes) {

@@ -62,7 +62,7 @@ OWN = {
 }
 
 
-# What is public, and what is said of it.
+# What a short sequence has, and what is said of it.
 SAID = {
     "Sgr": "/// The struct of an attribute.\n#[inline(always)]\n",
     "Cursor": "/// The struct of an action of the cursor.\n#[inline(always)]\n",
@@ -76,8 +76,8 @@ def rows():
     for group in BY_NUMBER:
         value = f"place ({low(group)}_of {low(group)}.now)" if has_tokens(group) else f"{low(group)}.now"
         place = "place: usize, " if has_tokens(group) else ""
-        # What takes memory is laid by other calls than `struct_of`, and most of what a stream has by another crate.
-        public = "pub " if group in SAID else "pub(crate) " if is_boxed(group) else ""
+        # What takes memory is laid by other calls than `struct_of`, and so is a short sequence.
+        public = "pub(crate) " if group in SAID or is_boxed(group) else ""
         body += f"\n{SAID.get(group, '')}{public}fn {low(group)}_struct({place}{low(group)}: &{type_of(group)}) -> Struct\n    ensures {{ result ≡ {low(group)}_struct {value} }}\n{{\n    match {low(group)} {{\n"
         for kind in of(group):
             body += struct_arm(kind, OWN)

@@ -1,10 +1,11 @@
 -- What is laid of an action, and what is answered of a list that was read.
-use Rattle.std.specs.Prelude.{ℕ, ◌≡◌, ◌⊎◌, ◌+◌, ◌++◌, Bool, false, List, [], ◌∷◌, length, unwrap_or}
+use Rattle.std.specs.Prelude.{ℕ, ◌≡◌, ◌⊎◌, ◌+◌, ◌++◌, false, List, [], ◌∷◌, length, unwrap_or}
 use Rattle.csicodec_tokens.specs.{declared.param.CsiParam.CsiParam, declared.param.CsiParam.TheVariants.P}
 use Rattle.csicodec_actions.specs.{Actions.Action, Devices.listed_attributes, Lent.integers, Table.boxed}
 use Rattle.csicodec_parser.specs.{ActionOf.action_of, declared.parser.ActionRef.ActionRef}
-use Rattle.csicodec_structs.specs.{Next.Lays, Next.refused, declared.lay.Counts.Counts, declared.lay.Head.Head, declared.next.NextSequence.NextSequence}
-use Rattle.csicodec_structs.specs.{declared.structs.Param.Param, declared.structs.Struct.Struct, Room.laid, Status.status_number}
+use Rattle.csicodec_structs.specs.{Next.Lays, Next.Reading, Next.refused, declared.lay.Counts.Counts, declared.lay.Head.Head}
+use Rattle.csicodec_structs.specs.{declared.next.NextSequence.NextSequence, declared.structs.Param.Param, declared.structs.Struct.Struct, Room.laid}
+use Rattle.csicodec_structs.specs.{Status.status_number}
 use Rattle.csicodec_actions.specs.Actions as action
 use Rattle.csicodec_actions.specs.Devices as device
 use Rattle.csicodec_parser.specs.declared.parser.ActionRef.TheVariants as refs
@@ -48,10 +49,6 @@ lent (refs.UnknownMode list) final = action.Unspecified (P 63 ∷ list.now) fals
 -- the answer of a sequence of so many bytes and actions
 abbrev pub done : ℕ → Counts → NextSequence
 done used count = record { status = status_number status.Done; at = 0; used = used; actions = count.actions; params = count.params }
-
--- the actions of a list by a reading of lists
-abbrev pub Reading : Type 1
-Reading = List CsiParam → Bool → ℕ → List Action → Type 0
 
 -- its actions are put
 pub record IsLaid (reading : Reading) (list : List CsiParam) (final used : ℕ) (actions_old actions_new : List Struct)

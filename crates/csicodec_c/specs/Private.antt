@@ -1,2 +1,0 @@
--- What the private functions say of each other. No promise rests on these files.
-pub mod Short

@@ -1,19 +1,21 @@
 -- A struct and its tokens are those of one action by its name, whatever action has them. Written by tools/table.
-use Rattle.std.proofs.Common.{◌≡◌, ℕ, List, [], ◌∷◌, Option, None, Some, map, refl, sym, ap, ◌∙◌, pos}
-use Rattle.std.specs.Prelude.{false, nat_abs, ◌==◌, if◌then◌else◌}
-use Rattle.std.specs.Option.{option_map}
-use Rattle.std.proofs.lemmas.Option.{same_Some}
-use Rattle.csicodec_names.specs.Numbered.{with_number}
+use Rattle.std.proofs.{Common.◌≡◌, Common.ℕ, Common.List, Common.[], Common.◌∷◌, Common.Option, Common.None, Common.Some, Common.map, Common.refl, Common.sym}
+use Rattle.std.proofs.{Common.ap, Common.◌∙◌, Common.pos, lemmas.Option.same_Some}
+use Rattle.std.specs.{Prelude.false, Prelude.nat_abs, Prelude.◌==◌, Prelude.if◌then◌else◌, Option.option_map}
+use Rattle.csicodec_names.specs.{Numbered.with_number, declared.color.Blink.Blink, declared.color.Intensity.Intensity, declared.color.Underline.Underline}
+use Rattle.csicodec_names.specs.{declared.color.VerticalAlign.VerticalAlign}
+use Rattle.csicodec_actions.specs.Kinds.{Clear, Control, Dec, InDisplay, InLine, Path, Resource, Style, Terminal, Way, read}
+use Rattle.csicodec_actions.specs.{declared.mouse.MouseButton.MouseButton, Actions.Action, XtSmGraphics.item_number, XtSmGraphics.item_of}
+use Rattle.csicodec_actions.proofs.Values.{read-good}
+use Rattle.csicodec_structs.specs.Structs.{align_number, blink_number, button_number, intensity_number, underline_number}
+use Rattle.csicodec_structs.specs.{declared.structs.Param.Param, declared.structs.Struct.Struct, Named.IsNamed, Ranges.InRange, Rows.params_of, Rows.struct_of}
+use Rattle.csicodec_structs.proofs.OneValue.{ByName, attribute_at, attributes-back, attributes-named, color_at, first_at, flag-back, flag_at, font-back, font_at, item-back, item-named, second_at, token_at, tokens-back, value_at, values-back}
+use Rattle.csicodec_structs.proofs.ModeNumbers.{dec-back, dec-named, terminal-back, terminal-named}
 use Rattle.csicodec_names.specs.declared.color.ColorSpec.TheVariants as color
-use Rattle.csicodec_names.specs.declared.color.Blink.{Blink}
 use Rattle.csicodec_names.specs.declared.color.Blink.TheVariants as blink
-use Rattle.csicodec_names.specs.declared.color.Intensity.{Intensity}
 use Rattle.csicodec_names.specs.declared.color.Intensity.TheVariants as intensity
-use Rattle.csicodec_actions.specs.declared.mouse.MouseButton.{MouseButton}
 use Rattle.csicodec_actions.specs.declared.mouse.MouseButton.TheVariants as mouse_button
-use Rattle.csicodec_names.specs.declared.color.Underline.{Underline}
 use Rattle.csicodec_names.specs.declared.color.Underline.TheVariants as underline
-use Rattle.csicodec_names.specs.declared.color.VerticalAlign.{VerticalAlign}
 use Rattle.csicodec_names.specs.declared.color.VerticalAlign.TheVariants as vertical_align
 use Rattle.csicodec_base.specs.declared.sgr.Sgr.TheVariants as sgr
 use Rattle.csicodec_actions.specs.declared.cursor.Cursor.TheVariants as cursor
@@ -23,20 +25,7 @@ use Rattle.csicodec_actions.specs.declared.mouse.MouseReport.TheVariants as mous
 use Rattle.csicodec_actions.specs.Devices as device
 use Rattle.csicodec_actions.specs.declared.window.Window.TheVariants as window
 use Rattle.csicodec_actions.specs.declared.keyboard.Keyboard.TheVariants as keyboard
-use Rattle.csicodec_actions.specs.Actions.{Action}
 use Rattle.csicodec_actions.specs.Actions as action
-use Rattle.csicodec_actions.proofs.Values.{read-good}
-use Rattle.csicodec_actions.specs.XtSmGraphics.{item_number, item_of}
-use Rattle.csicodec_actions.specs.Kinds.{Clear, Control, Dec, InDisplay, InLine, Path, Resource, Style, Terminal, Way, read}
-use Rattle.csicodec_structs.specs.declared.structs.Param.{Param}
-use Rattle.csicodec_structs.specs.declared.structs.Struct.{Struct}
-use Rattle.csicodec_structs.specs.Named.{IsNamed}
-use Rattle.csicodec_structs.specs.Structs.{align_number, blink_number, button_number, intensity_number, underline_number}
-use Rattle.csicodec_structs.specs.Ranges.{InRange}
-use Rattle.csicodec_structs.specs.Rows.{params_of, struct_of}
-use Rattle.csicodec_structs.proofs.ModeNumbers.{dec-back, dec-named, terminal-back, terminal-named}
-use Rattle.csicodec_structs.proofs.OneValue.{ByName, attribute_at, attributes-back, attributes-named, color_at, first_at, flag-back, flag_at}
-use Rattle.csicodec_structs.proofs.OneValue.{font-back, font_at, item-back, item-named, second_at, token_at, tokens-back, value_at, values-back}
 
 abbrev blink_all : List Blink
 blink_all = blink.None ∷ blink.Slow ∷ blink.Rapid ∷ []

@@ -1,14 +1,11 @@
 -- Which action is meant, of those that have one struct: a mode, an extension of a terminal and an item of graphics are by their names
 -- where they have one, and the flag of an unknown action isn't set. Any other action has no like. Written by tools/table.
-use Rattle.std.specs.Prelude.{◌≡◌, false}
-use Rattle.std.specs.List.{All}
-use Rattle.csicodec_actions.specs.declared.mode.Mode.{Mode}
-use Rattle.csicodec_actions.specs.declared.mode.Mode.TheVariants as mode
-use Rattle.csicodec_actions.specs.Devices.{Device}
-use Rattle.csicodec_actions.specs.Devices as device
-use Rattle.csicodec_actions.specs.Actions.{Action}
-use Rattle.csicodec_actions.specs.Actions as action
+use Rattle.std.specs.{Prelude.◌≡◌, Prelude.false, List.All}
+use Rattle.csicodec_actions.specs.{declared.mode.Mode.Mode, Devices.Device, Actions.Action}
 use Rattle.csicodec_structs.specs.Values.{IsNamedAttribute, IsNamedDec, IsNamedItem, IsNamedTerminal}
+use Rattle.csicodec_actions.specs.declared.mode.Mode.TheVariants as mode
+use Rattle.csicodec_actions.specs.Devices as device
+use Rattle.csicodec_actions.specs.Actions as action
 
 abbrev pub IsNamedMode : Mode → Type 0
 IsNamedMode (mode.SetDecPrivateMode v) = IsNamedDec v

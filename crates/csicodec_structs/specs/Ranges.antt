@@ -1,31 +1,22 @@
 -- The actions that a struct can stand for: each number is one that its type lets stand, and a font has a text. What isn't
 -- listed is in range. Written by tools/table.
-use Rattle.std.specs.Prelude.{◌<◌, ◌^◌}
-use Rattle.std.specs.Char.{IsScalar}
-use Rattle.std.specs.List.{All}
+use Rattle.std.specs.{Prelude.◌<◌, Prelude.◌^◌, Char.IsScalar, List.All}
 use Rattle.csicodec_names.specs.FlagBits.{kitty_bits}
 use Rattle.csicodec_base.specs.declared.sgr.Sgr.{Sgr}
-use Rattle.csicodec_base.specs.declared.sgr.Sgr.TheVariants as sgr
-use Rattle.csicodec_actions.specs.declared.cursor.Cursor.{Cursor}
-use Rattle.csicodec_actions.specs.declared.cursor.Cursor.TheVariants as cursor
-use Rattle.csicodec_actions.specs.declared.edit.Edit.{Edit}
-use Rattle.csicodec_actions.specs.declared.edit.Edit.TheVariants as edit
-use Rattle.csicodec_actions.specs.declared.mode.Mode.{Mode}
-use Rattle.csicodec_actions.specs.declared.mode.Mode.TheVariants as mode
-use Rattle.csicodec_actions.specs.declared.mouse.MouseReport.{MouseReport}
-use Rattle.csicodec_actions.specs.declared.mouse.MouseReport.TheVariants as mouse
-use Rattle.csicodec_actions.specs.Devices.{Device}
-use Rattle.csicodec_actions.specs.Devices as device
-use Rattle.csicodec_actions.specs.declared.window.Window.{Window}
-use Rattle.csicodec_actions.specs.declared.window.Window.TheVariants as window
-use Rattle.csicodec_actions.specs.declared.keyboard.Keyboard.{Keyboard}
-use Rattle.csicodec_actions.specs.declared.keyboard.Keyboard.TheVariants as keyboard
-use Rattle.csicodec_actions.specs.Actions.{Action}
-use Rattle.csicodec_actions.specs.Actions as action
-use Rattle.csicodec_actions.specs.Kinds.{IsOneBased}
-use Rattle.csicodec_actions.specs.Modes.{dec_number, terminal_number}
-use Rattle.csicodec_actions.specs.Ranges as typed
+use Rattle.csicodec_actions.specs.{declared.cursor.Cursor.Cursor, declared.edit.Edit.Edit, declared.mode.Mode.Mode, declared.mouse.MouseReport.MouseReport}
+use Rattle.csicodec_actions.specs.{Devices.Device, declared.window.Window.Window, declared.keyboard.Keyboard.Keyboard, Actions.Action, Kinds.IsOneBased}
+use Rattle.csicodec_actions.specs.{Modes.dec_number, Modes.terminal_number}
 use Rattle.csicodec_structs.specs.Values.{AttributeInRange, HasText, TokenInRange}
+use Rattle.csicodec_base.specs.declared.sgr.Sgr.TheVariants as sgr
+use Rattle.csicodec_actions.specs.declared.cursor.Cursor.TheVariants as cursor
+use Rattle.csicodec_actions.specs.declared.edit.Edit.TheVariants as edit
+use Rattle.csicodec_actions.specs.declared.mode.Mode.TheVariants as mode
+use Rattle.csicodec_actions.specs.declared.mouse.MouseReport.TheVariants as mouse
+use Rattle.csicodec_actions.specs.Devices as device
+use Rattle.csicodec_actions.specs.declared.window.Window.TheVariants as window
+use Rattle.csicodec_actions.specs.declared.keyboard.Keyboard.TheVariants as keyboard
+use Rattle.csicodec_actions.specs.Actions as action
+use Rattle.csicodec_actions.specs.Ranges as typed
 
 abbrev pub SgrInRange : Sgr → Type 0
 SgrInRange (sgr.Font v) = HasText v

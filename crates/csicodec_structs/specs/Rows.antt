@@ -3,29 +3,20 @@ use Rattle.std.specs.Prelude.{ℕ, List, [], map, length, pos, Some}
 use Rattle.csicodec_names.specs.EnumNumbers.{cursor_style_number, erase_in_display_number, erase_in_line_number, tabulation_clear_number, tabulation_control_number}
 use Rattle.csicodec_names.specs.FlagBits.{kitty_bits}
 use Rattle.csicodec_base.specs.declared.sgr.Sgr.{Sgr}
-use Rattle.csicodec_base.specs.declared.sgr.Sgr.TheVariants as sgr
-use Rattle.csicodec_actions.specs.declared.cursor.Cursor.{Cursor}
-use Rattle.csicodec_actions.specs.declared.cursor.Cursor.TheVariants as cursor
-use Rattle.csicodec_actions.specs.declared.edit.Edit.{Edit}
-use Rattle.csicodec_actions.specs.declared.edit.Edit.TheVariants as edit
-use Rattle.csicodec_actions.specs.declared.mode.Mode.{Mode}
-use Rattle.csicodec_actions.specs.declared.mode.Mode.TheVariants as mode
-use Rattle.csicodec_actions.specs.declared.mouse.MouseReport.{MouseReport}
-use Rattle.csicodec_actions.specs.declared.mouse.MouseReport.TheVariants as mouse
-use Rattle.csicodec_actions.specs.Devices.{Device}
-use Rattle.csicodec_actions.specs.Devices as device
-use Rattle.csicodec_actions.specs.declared.window.Window.{Window}
-use Rattle.csicodec_actions.specs.declared.window.Window.TheVariants as window
-use Rattle.csicodec_actions.specs.declared.keyboard.Keyboard.{Keyboard}
-use Rattle.csicodec_actions.specs.declared.keyboard.Keyboard.TheVariants as keyboard
-use Rattle.csicodec_actions.specs.Actions.{Action}
-use Rattle.csicodec_actions.specs.Actions as action
-use Rattle.csicodec_actions.specs.XtSmGraphics.{item_number}
-use Rattle.csicodec_actions.specs.Kinds.{kitty_mode_number, path_number}
-use Rattle.csicodec_actions.specs.Modes.{dec_number, resource_number, terminal_number}
-use Rattle.csicodec_structs.specs.declared.structs.Param.{Param}
-use Rattle.csicodec_structs.specs.declared.structs.Struct.{Struct}
+use Rattle.csicodec_actions.specs.{declared.cursor.Cursor.Cursor, declared.edit.Edit.Edit, declared.mode.Mode.Mode, declared.mouse.MouseReport.MouseReport}
+use Rattle.csicodec_actions.specs.{Devices.Device, declared.window.Window.Window, declared.keyboard.Keyboard.Keyboard, Actions.Action, XtSmGraphics.item_number}
+use Rattle.csicodec_actions.specs.{Kinds.kitty_mode_number, Kinds.path_number, Modes.dec_number, Modes.resource_number, Modes.terminal_number}
 use Rattle.csicodec_structs.specs.Structs.{align_number, area_row, attribute_param, blink_number, color_row, flag_number, font_number, intensity_number, list_row, param_of, report_row, row, sized_row, underline_number, unknown_row, value_param}
+use Rattle.csicodec_structs.specs.{declared.structs.Param.Param, declared.structs.Struct.Struct}
+use Rattle.csicodec_base.specs.declared.sgr.Sgr.TheVariants as sgr
+use Rattle.csicodec_actions.specs.declared.cursor.Cursor.TheVariants as cursor
+use Rattle.csicodec_actions.specs.declared.edit.Edit.TheVariants as edit
+use Rattle.csicodec_actions.specs.declared.mode.Mode.TheVariants as mode
+use Rattle.csicodec_actions.specs.declared.mouse.MouseReport.TheVariants as mouse
+use Rattle.csicodec_actions.specs.Devices as device
+use Rattle.csicodec_actions.specs.declared.window.Window.TheVariants as window
+use Rattle.csicodec_actions.specs.declared.keyboard.Keyboard.TheVariants as keyboard
+use Rattle.csicodec_actions.specs.Actions as action
 
 abbrev pub sgr_struct : Sgr → Struct
 sgr_struct sgr.Reset = row 1 (pos 0) (pos 0)

@@ -1,6 +1,8 @@
 """Which files follow from the actions, from the values that they have, and from the other tables: whole files of csicodec_structs, of csicodec_words, of csicodec_explain, of include/, of c/,
 of python/, of web/ and of rust/ (FILES), in which nothing else stands, and the numbers of new names in include/numbers.txt. A number that was given
 isn't changed."""
+import importlib.machinery
+import importlib.util
 import os
 import subprocess
 import sys
@@ -10,7 +12,7 @@ from bindings.digits import digits
 from bindings.examples import c_examples, rust_examples
 from bindings.header import header, header_names, meaning
 from bindings.javascript import javascript_actions, javascript_types
-from bindings.library import ESCAPES, IN_TURN, NAMED, acting, kinds, numbers_of, types
+from bindings.library import ESCAPES, IN_TURN, NAMED, TOP, acting, kinds, numbers_of, types
 from bindings.numbers import LIST, changes, grown, pairs, read, table_faults
 from bindings.patterns import patterns
 from bindings.proofs import proof
@@ -81,9 +83,17 @@ def run(words, **more):
         sys.exit(f"table: {' '.join(words)}: {error.stderr or error.stdout}")
 
 
+def settled(text):
+    """The text of a file of definitions or proofs, with its imports laid out by tools/imports."""
+    loader = importlib.machinery.SourceFileLoader("imports", os.path.join(TOP, "tools/imports"))
+    module = importlib.util.module_from_spec(importlib.util.spec_from_loader("imports", loader))
+    loader.exec_module(module)
+    return module.settled(text)
+
+
 def laid_out(texts):
-    """The texts as they stand in their files: Rattle as `rt fmt` lays it out, in a crate of its own, and Rust as `rustfmt` does."""
-    out = dict(texts)
+    """The texts as they stand in their files: Rattle as `rt fmt` lays it out, in a crate of its own, imports as tools/imports does, and Rust as `rustfmt` does."""
+    out = {path: settled(text) if path.endswith(".antt") else text for path, text in texts.items()}
     with tempfile.TemporaryDirectory() as room:
         source = os.path.join(room, "crates/kinds/src")
         os.makedirs(source)

@@ -156,16 +156,6 @@ action-named place other range = like other range tt refl refl
     return out
 
 
-def halved(line):
-    """A `use` line, in two where it is long."""
-    if len(line) < 200:
-        return line
-    where, _, names = line.strip("}\n").partition("{")
-    names = names.split(", ")
-    half = len(names) // 2
-    return "".join(f"{where}{{{', '.join(some)}}}\n" for some in (names[:half], names[half:]))
-
-
 def proof():
     body = lists() + found() + """
 -- so two by their names with one struct and its tokens are one
@@ -194,4 +184,5 @@ use Rattle.csicodec_structs.specs.declared.structs.Param.{{Param}}
 use Rattle.csicodec_structs.specs.declared.structs.Struct.{{Struct}}
 {own_use("Named", body)}{spec_use("csicodec_structs", "Structs", body)}{own_use("Ranges", body)}{own_use("Rows", body)}{spec_use("csicodec_structs", "Values", body)}\
 use Rattle.csicodec_structs.proofs.ModeNumbers.{{dec-back, dec-named, terminal-back, terminal-named}}
-{halved(f"use Rattle.csicodec_structs.proofs.OneValue.{{{values}}}" + chr(10))}""" + body
+use Rattle.csicodec_structs.proofs.OneValue.{{{values}}}
+""" + body

@@ -1,11 +1,10 @@
 //! Streams and actions in fewer bytes.
 ghost use Rattle.std.specs.Prelude.{◌≡◌, ◌⊎◌};
 ghost use Rattle.csicodec_compact.specs.Runs.{CompactsAll};
-ghost use Rattle.csicodec_spans.specs.declared.table.Mode.TheVariants as mode;
-ghost use Rattle.csicodec_c.specs.Compact.{IsCompact, IsCompacted};
-ghost use Rattle.csicodec_c.specs.Strip.{AnswersBy, IsRefused, bit};
+ghost use Rattle.csicodec_c.specs.{Compact.IsCompact, Compact.IsCompacted, Strip.AnswersBy, Strip.IsRefused, Strip.bit, Filter.IsBadState};
+ghost use Rattle.csicodec_c.specs.{Filter.refused as unfiltered};
 ghost use Rattle.csicodec_structs.specs.Encode.{IsRefused as RefusesActions};
-ghost use Rattle.csicodec_c.specs.Filter.{IsBadState, refused as unfiltered};
+ghost use Rattle.csicodec_spans.specs.declared.table.Mode.TheVariants as mode;
 
 use crate::filter::{Filtered, step};
 use crate::strip::{Stripped, bit_at, put, refused as nothing};

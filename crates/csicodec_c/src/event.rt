@@ -1,8 +1,7 @@
 //! The event at the front of a stream whose state the caller keeps.
 ghost use Rattle.std.specs.Prelude.{◌≡◌, ◌<◌, take};
 ghost use Rattle.csicodec_events.specs.Events.{IsMet};
-ghost use Rattle.csicodec_c.specs.Filter.{mode_number};
-ghost use Rattle.csicodec_c.specs.Event.{AnswersOutput, read_at_once, without_value};
+ghost use Rattle.csicodec_c.specs.{Filter.mode_number, Event.AnswersOutput, Event.read_at_once, Event.without_value};
 
 use crate::filter::mode_at;
 use crate::input::{Received, refused, step};

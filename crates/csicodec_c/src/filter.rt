@@ -1,8 +1,7 @@
 //! A step of a filter whose state the caller keeps.
 ghost use Rattle.std.specs.Prelude.{◌≡◌, ◌⊎◌, ◌↔◌, Some};
 ghost use Rattle.csicodec_spans.specs.declared.table.Mode.{Mode};
-ghost use Rattle.csicodec_c.specs.Filter.{IsBadState, IsDone, IsStep, mode_number, refused};
-ghost use Rattle.csicodec_c.specs.Strip.{IsRefused};
+ghost use Rattle.csicodec_c.specs.{Filter.IsBadState, Filter.IsDone, Filter.IsStep, Filter.mode_number, Filter.refused, Strip.IsRefused};
 
 use csicodec::{NormalForm, Rewrite, append_spans};
 use csicodec_spans::Mode;

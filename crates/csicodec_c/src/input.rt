@@ -1,13 +1,9 @@
 //! The event at the front of what a terminal sends, where the caller keeps the state.
 ghost use Rattle.std.specs.Prelude.{◌≡◌, ◌⊎◌, ◌<◌, ◌↔◌, ℕ, List, Some, IfSome};
-ghost use Rattle.csicodec_tokens.specs.declared.param.CsiParam.{CsiParam};
-ghost use Rattle.csicodec_tokens.specs.Sequence.{Seq};
-ghost use Rattle.csicodec_events.specs.declared.input.Dialect.{Dialect};
-ghost use Rattle.csicodec_events.specs.declared.event.Events.{Events};
-ghost use Rattle.csicodec_events.specs.Events.{IsMet, without_controls};
-ghost use Rattle.csicodec_events.specs.Input.{IsSent};
-ghost use Rattle.csicodec_c.specs.Filter.{mode_number};
+ghost use Rattle.csicodec_tokens.specs.{declared.param.CsiParam.CsiParam, Sequence.Seq};
+ghost use Rattle.csicodec_events.specs.{declared.input.Dialect.Dialect, declared.event.Events.Events, Events.IsMet, Events.without_controls, Input.IsSent};
 ghost use Rattle.csicodec_c.specs.Event.{Answers, HasPut, IsPaused, IsStill, Puts, answered, dialect_number, event_number, refused, value_of};
+ghost use Rattle.csicodec_c.specs.Filter.{mode_number};
 
 use crate::filter::{mode_at, number_of};
 use csicodec_events::{Dialect, Event, Events, InputEvent, append_read};

@@ -1,11 +1,10 @@
 //! The key in front of what a terminal sends.
 ghost use Rattle.std.specs.Prelude.{◌≡◌, ◌⊎◌, List, IfOk, option_map, option_and_then};
 ghost use Rattle.bstr.specs.Utf8.{decoded};
-ghost use Rattle.csicodec_keys.specs.declared.key.Encoding.TheVariants as encoding;
-ghost use Rattle.csicodec_keys.specs.Forms.{by, read_char};
-ghost use Rattle.csicodec_keys.specs.Keys.{stroke_of};
-ghost use Rattle.csicodec_structs.specs.declared.status.Status.TheVariants as status;
+ghost use Rattle.csicodec_keys.specs.{Forms.by, Forms.read_char, Keys.stroke_of};
 ghost use Rattle.csicodec_c.specs.Key.{Answers, IsKey, IsNoKey, encoding_number, happens, key_of, told, used_by, without};
+ghost use Rattle.csicodec_keys.specs.declared.key.Encoding.TheVariants as encoding;
+ghost use Rattle.csicodec_structs.specs.declared.status.Status.TheVariants as status;
 
 use bitflags::Flags;
 use bstr::decode_utf8;

@@ -1,13 +1,8 @@
 //! Laws of the definitions. Each is the contract of a function that does nothing.
-ghost use Rattle.std.specs.Prelude.{◌≤◌, ◌++◌, ℕ, List, [], length, take};
-ghost use Rattle.std.specs.List.{concat};
-ghost use Rattle.csicodec_clean.specs.declared.colors.Depth.{Depth};
-ghost use Rattle.csicodec_clean.specs.Cleaned.{Strips, longest};
-ghost use Rattle.csicodec_clean.specs.Styled.{StylesIn, without_links};
-ghost use Rattle.csicodec_c.specs.Step.{AreCalls, IsCleanStep, IsEnd, IsStripStep, zeros};
-ghost use Rattle.csicodec_c.specs.Strip.{depth_number};
-ghost use Rattle.csicodec_c.specs.declared.step.Cleaning.{Cleaning};
-ghost use Rattle.csicodec_c.specs.declared.strip.Stripped.{Stripped};
+ghost use Rattle.std.specs.{Prelude.◌≤◌, Prelude.◌++◌, Prelude.ℕ, Prelude.List, Prelude.[], Prelude.length, Prelude.take, List.concat};
+ghost use Rattle.csicodec_clean.specs.{declared.colors.Depth.Depth, Cleaned.Strips, Cleaned.longest, Styled.StylesIn, Styled.without_links};
+ghost use Rattle.csicodec_c.specs.{Step.AreCalls, Step.IsCleanStep, Step.IsEnd, Step.IsStripStep, Step.zeros, Strip.depth_number, declared.step.Cleaning.Cleaning};
+ghost use Rattle.csicodec_c.specs.{declared.strip.Stripped.Stripped};
 
 /// However untrusted text is cut into steps, what they put and the end is what `strip` makes of all of it, or `clean` in a depth.
 pub fn any_steps()

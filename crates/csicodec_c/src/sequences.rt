@@ -1,9 +1,9 @@
 //! Sequences and their actions, which are structs.
 ghost use Rattle.std.specs.Prelude.{◌≡◌, ◌⊎◌};
 ghost use Rattle.csicodec_events.specs.Events.{without_controls};
-ghost use Rattle.csicodec_structs.specs.Normalise.{IsDone as IsNormalised, IsRefused as RefusesToNormalise};
 ghost use Rattle.csicodec_structs.specs.Encode.{IsDone as IsEncoded, IsJudged, IsRefused as RefusesToEncode, IsUnjudged};
-ghost use Rattle.csicodec_structs.specs.Next.{IsDone as IsLaid, IsRefused as RefusesToLay, IsTaken, refused};
+ghost use Rattle.csicodec_structs.specs.{Normalise.IsDone as IsNormalised, Normalise.IsRefused as RefusesToNormalise, Next.IsDone as IsLaid};
+ghost use Rattle.csicodec_structs.specs.{Next.IsRefused as RefusesToLay, Next.IsTaken, Next.refused};
 ghost use Rattle.csicodec_terminal.specs.Terminal.{Terminal};
 ghost use Rattle.csicodec_structs.specs.declared.status.Status.TheVariants as status;
 

@@ -1,7 +1,6 @@
 //! One attribute before `m`, straight from its bytes.
 ghost use Rattle.std.specs.Prelude.{◌≡◌, ◌∷◌, [], IfSome, pos};
-ghost use Rattle.csicodec_tokens.specs.declared.param.CsiParam.TheVariants.{Integer, P};
-ghost use Rattle.csicodec_tokens.specs.Private.Reading.{IsFirstToken};
+ghost use Rattle.csicodec_tokens.specs.{declared.param.CsiParam.TheVariants.Integer, declared.param.CsiParam.TheVariants.P, Private.Reading.IsFirstToken};
 ghost use Rattle.csicodec_structs.specs.Private.Short.{AreStyles, IsMark, IsPainted, ReadsOn, SetsAlone, plain, style_struct};
 
 use crate::by_number::{STYLES, StyleRow};

@@ -2,9 +2,8 @@
 ghost use Rattle.std.specs.Prelude.{◌≡◌, ◌⊎◌, ◌↔◌, ◌<◌, List, [], ◌∷◌, drop, take, map, length, true, IfOk, IfErr, IfSome, MatchOption};
 ghost use Rattle.csicodec_parser.specs.ActionOf.{action_of};
 ghost use Rattle.csicodec_structs.specs.Encode.{AllStand, HasNone, IsDone, IsPut, IsRefused, Stands, StandsForNone, refused};
-ghost use Rattle.csicodec_structs.specs.Private.Candidates.{AreTexts, IsExtended, IsGraphics, IsMade, IsUnknown};
-ghost use Rattle.csicodec_structs.specs.Ranges.{InRange};
-ghost use Rattle.csicodec_structs.specs.declared.structs.Param.{Param};
+ghost use Rattle.csicodec_structs.specs.{Private.Candidates.AreTexts, Private.Candidates.IsExtended, Private.Candidates.IsGraphics, Private.Candidates.IsMade};
+ghost use Rattle.csicodec_structs.specs.{Private.Candidates.IsUnknown, Ranges.InRange, declared.structs.Param.Param};
 
 use crate::candidates::{
     UNSPECIFIED, VT220, VT320, VT420, XT_SM_GRAPHICS, candidate, small_candidate,

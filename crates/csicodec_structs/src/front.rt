@@ -1,9 +1,7 @@
 //! The sequence at the front of some bytes.
 ghost use Rattle.std.specs.Prelude.{◌≡◌, ◌⊎◌, IfNone, IfSome, pos};
-ghost use Rattle.csicodec_tokens.specs.declared.param.CsiParam.TheVariants.{Integer};
-ghost use Rattle.csicodec_tokens.specs.Private.Reading.{IsFirstToken};
-ghost use Rattle.csicodec_structs.specs.Next.{IsDone, IsRefused};
-ghost use Rattle.csicodec_structs.specs.Private.Short.{HasLaid, HasOne};
+ghost use Rattle.csicodec_tokens.specs.{declared.param.CsiParam.TheVariants.Integer, Private.Reading.IsFirstToken};
+ghost use Rattle.csicodec_structs.specs.{Next.IsDone, Next.IsRefused, Private.Short.HasLaid, Private.Short.HasOne};
 
 use crate::attributes::{behind_mark, style_alone, style_struct};
 use crate::digits::number_front;

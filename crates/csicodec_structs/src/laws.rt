@@ -1,8 +1,6 @@
 //! Laws of the definitions. Each is the contract of a function that does nothing.
 ghost use Rattle.std.specs.Prelude.{List};
-ghost use Rattle.csicodec_structs.specs.Encode.{OneAction};
-ghost use Rattle.csicodec_structs.specs.declared.structs.Param.{Param};
-ghost use Rattle.csicodec_structs.specs.declared.structs.Struct.{Struct};
+ghost use Rattle.csicodec_structs.specs.{Encode.OneAction, declared.structs.Param.Param, declared.structs.Struct.Struct};
 
 /// A struct with its tokens stands for one action, where any action has them: for the one that says by its name what has a
 /// name, and for no other.

@@ -1,14 +1,9 @@
 //! The actions of a list as structs, and their tokens, put into room that a caller lends: as many as there is room for.
 ghost use Rattle.std.specs.Prelude.{◌≡◌, false, List, [], ◌++◌, ◌∷◌, length, unwrap_or, Some, IfSome};
-ghost use Rattle.csicodec_actions.specs.Actions.{Action, Unspecified as Unknown};
-ghost use Rattle.csicodec_actions.specs.Devices.{device_of};
-ghost use Rattle.csicodec_actions.specs.Table.{boxed};
-ghost use Rattle.csicodec_parser.specs.ActionOf.{action_of};
-ghost use Rattle.csicodec_parser.specs.Segments.{Actions};
-ghost use Rattle.csicodec_structs.specs.Next.{Lays};
-ghost use Rattle.csicodec_structs.specs.Private.Fronts.{LaysOne, PutsBehind, headed, lent};
-ghost use Rattle.csicodec_structs.specs.Rows.{device_params, params_of, struct_of};
-ghost use Rattle.csicodec_structs.specs.declared.structs.Param.{Param};
+ghost use Rattle.csicodec_actions.specs.{Actions.Action, Actions.Unspecified as Unknown, Devices.device_of, Table.boxed};
+ghost use Rattle.csicodec_parser.specs.{ActionOf.action_of, Segments.Actions};
+ghost use Rattle.csicodec_structs.specs.{Next.Lays, Private.Fronts.LaysOne, Private.Fronts.PutsBehind, Private.Fronts.headed, Private.Fronts.lent, Rows.device_params};
+ghost use Rattle.csicodec_structs.specs.{Rows.params_of, Rows.struct_of, declared.structs.Param.Param};
 ghost use Rattle.csicodec_tokens.specs.declared.param.CsiParam.{CsiParam};
 
 use crate::candidates::{VT220, VT320, VT420, XT_SM_GRAPHICS};

@@ -1,10 +1,7 @@
 //! What moves the cursor or edits by two numbers, by one, or by none: a number that is left out reads as 0.
 ghost use Rattle.std.specs.Prelude.{◌≡◌, ◌∷◌, [], List, IfNone, IfSome, None, Some, pos};
-ghost use Rattle.csicodec_tokens.specs.declared.param.CsiParam.{CsiParam};
-ghost use Rattle.csicodec_actions.specs.Actions.{Cursor as Moves, Edit as Edits};
-ghost use Rattle.csicodec_actions.specs.Table.Cursor.{as_cursor};
-ghost use Rattle.csicodec_actions.specs.Table.Edit.{as_edit};
-ghost use Rattle.csicodec_tokens.specs.declared.param.CsiParam.TheVariants.{Integer, P};
+ghost use Rattle.csicodec_tokens.specs.{declared.param.CsiParam.CsiParam, declared.param.CsiParam.TheVariants.Integer, declared.param.CsiParam.TheVariants.P};
+ghost use Rattle.csicodec_actions.specs.{Actions.Cursor as Moves, Actions.Edit as Edits, Table.Cursor.as_cursor, Table.Edit.as_edit};
 ghost use Rattle.csicodec_structs.specs.Private.Short.{HasLaid, HasOne, IsOne, IsRow, IsTwo, ReadsOn};
 
 use crate::digits::or_default;

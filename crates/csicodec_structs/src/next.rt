@@ -1,8 +1,7 @@
 //! The sequence at the front of some bytes.
 ghost use Rattle.std.specs.Prelude.{◌≡◌, ◌⊎◌};
 ghost use Rattle.csicodec_parser.specs.Segments.{Actions};
-ghost use Rattle.csicodec_structs.specs.Private.Fronts.{IsAnswer, done};
-ghost use Rattle.csicodec_structs.specs.Next.{IsDone, IsRefused, refusal, refused};
+ghost use Rattle.csicodec_structs.specs.{Private.Fronts.IsAnswer, Private.Fronts.done, Next.IsDone, Next.IsRefused, Next.refusal, Next.refused};
 
 use crate::lay::{Counts, lay_list};
 use crate::status::{Status, fault_of};

@@ -1,8 +1,6 @@
 //! The normal form of some bytes.
 ghost use Rattle.std.specs.Prelude.{◌≡◌, ◌⊎◌, ◌∷◌, [], false, IfSome};
-ghost use Rattle.csicodec_parser.specs.ActionOf.{action_of};
-ghost use Rattle.csicodec_parser.specs.declared.parser.ActionRef.TheVariants.{Small};
-ghost use Rattle.csicodec_parser.specs.Segments.{Actions};
+ghost use Rattle.csicodec_parser.specs.{ActionOf.action_of, declared.parser.ActionRef.TheVariants.Small, Segments.Actions};
 ghost use Rattle.csicodec_streams.specs.Decoding.{NormalisesTo};
 ghost use Rattle.csicodec_structs.specs.Normalise.{IsDone, IsRefused, normalised, refusal, refused};
 

@@ -1,20 +1,12 @@
 //! What stands as a number in a struct, both ways.
-ghost use Rattle.std.specs.Prelude.{◌≡◌, ◌↔◌, ◌==◌, ◌||◌, IfSome, MatchOption, pos};
-ghost use Rattle.std.specs.Int.{FitsUnsignedBits};
-ghost use Rattle.csicodec_names.specs.FlagBits.{kitty_bits};
-ghost use Rattle.csicodec_actions.specs.Devices.{attribute_token};
-ghost use Rattle.csicodec_actions.specs.Kinds.{IsOneBased};
-ghost use Rattle.csicodec_actions.specs.XtSmGraphics.{item_number};
-ghost use Rattle.csicodec_actions.specs.Modes.{dec_number, terminal_number};
-ghost use Rattle.csicodec_actions.specs.declared.mouse.MouseButton.{MouseButton};
-ghost use Rattle.csicodec_names.specs.declared.color.Blink.{Blink};
-ghost use Rattle.csicodec_names.specs.declared.color.Intensity.{Intensity};
-ghost use Rattle.csicodec_names.specs.declared.color.Underline.{Underline};
-ghost use Rattle.csicodec_names.specs.declared.color.VerticalAlign.{VerticalAlign};
-ghost use Rattle.csicodec_actions.specs.Ranges.{ColorInRange};
-ghost use Rattle.csicodec_structs.specs.Values.{HasText, IsNamedDec, IsNamedItem, IsNamedTerminal};
+ghost use Rattle.std.specs.{Prelude.◌≡◌, Prelude.◌↔◌, Prelude.◌==◌, Prelude.◌||◌, Prelude.IfSome, Prelude.MatchOption, Prelude.pos, Int.FitsUnsignedBits};
+ghost use Rattle.csicodec_names.specs.{FlagBits.kitty_bits, declared.color.Blink.Blink, declared.color.Intensity.Intensity, declared.color.Underline.Underline};
+ghost use Rattle.csicodec_names.specs.{declared.color.VerticalAlign.VerticalAlign};
+ghost use Rattle.csicodec_actions.specs.{Devices.attribute_token, Kinds.IsOneBased, XtSmGraphics.item_number, Modes.dec_number, Modes.terminal_number};
+ghost use Rattle.csicodec_actions.specs.{declared.mouse.MouseButton.MouseButton, Ranges.ColorInRange};
 ghost use Rattle.csicodec_structs.specs.Private.Candidates.{IsPlace, IsTen, Reads, ReadsNamed, color_of, itself, unless};
 ghost use Rattle.csicodec_structs.specs.Structs.{align_number, blink_number, button_number, flag_number, font_number, intensity_number, underline_number};
+ghost use Rattle.csicodec_structs.specs.Values.{HasText, IsNamedDec, IsNamedItem, IsNamedTerminal};
 
 use crate::structs::Struct;
 use bitflags::Flags;

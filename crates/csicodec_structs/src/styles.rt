@@ -1,9 +1,7 @@
 //! A few attributes before `m`.
 ghost use Rattle.std.specs.Prelude.{◌≡◌, ◌≤◌, ◌∷◌, [], length, map, take, IfNone, IfSome, pos};
-ghost use Rattle.csicodec_tokens.specs.declared.param.CsiParam.TheVariants.{Integer, P};
-ghost use Rattle.csicodec_tokens.specs.Private.Reading.{IsFirstToken};
-ghost use Rattle.csicodec_structs.specs.Room.{laid};
-ghost use Rattle.csicodec_structs.specs.Private.Short.{AreStyles, HasLaid, ReadsOn, style_struct};
+ghost use Rattle.csicodec_tokens.specs.{declared.param.CsiParam.TheVariants.Integer, declared.param.CsiParam.TheVariants.P, Private.Reading.IsFirstToken};
+ghost use Rattle.csicodec_structs.specs.{Room.laid, Private.Short.AreStyles, Private.Short.HasLaid, Private.Short.ReadsOn, Private.Short.style_struct};
 
 use crate::attributes::{AttributeParts, plain, style_alone, style_front, style_struct};
 use crate::digits::number_front;

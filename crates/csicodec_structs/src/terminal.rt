@@ -1,8 +1,7 @@
 //! The sequence at the front of some bytes, with the actions that terminals take it for.
 ghost use Rattle.std.specs.Prelude.{◌≡◌, ◌⊎◌, IfSome, map};
 ghost use Rattle.csicodec_parser.specs.ActionOf.{action_of};
-ghost use Rattle.csicodec_structs.specs.Next.{IsRefused, IsTaken, Lays};
-ghost use Rattle.csicodec_structs.specs.Private.Fronts.{IsAnswer};
+ghost use Rattle.csicodec_structs.specs.{Next.IsRefused, Next.IsTaken, Next.Lays, Private.Fronts.IsAnswer};
 ghost use Rattle.csicodec_terminal.specs.Terminal.{Terminal};
 
 use crate::lay::{Counts, lay_one};

@@ -1,11 +1,8 @@
 //! Tokens of a list, extensions of a terminal and values of graphics: what crosses as a `Param`, both ways.
-ghost use Rattle.std.specs.Prelude.{◌≡◌, [], ◌∷◌, map, ⊤, IfOk, IfSome};
-ghost use Rattle.std.specs.Option.{option_map};
-ghost use Rattle.csicodec_structs.specs.Private.Candidates.{FindsToken, FindsTokens};
-ghost use Rattle.csicodec_structs.specs.Private.Fronts.{PutsBehind};
-ghost use Rattle.csicodec_structs.specs.Values.{AttributeInRange, IsNamedAttribute, TokenInRange};
-ghost use Rattle.csicodec_structs.specs.Structs.{attribute_param, param_of, value_param};
-ghost use Rattle.csicodec_structs.specs.declared.structs.Param.{Param};
+ghost use Rattle.std.specs.{Prelude.◌≡◌, Prelude.[], Prelude.◌∷◌, Prelude.map, Prelude.⊤, Prelude.IfOk, Prelude.IfSome, Option.option_map};
+ghost use Rattle.csicodec_structs.specs.{Private.Candidates.FindsToken, Private.Candidates.FindsTokens, Private.Fronts.PutsBehind, Values.AttributeInRange};
+ghost use Rattle.csicodec_structs.specs.{Values.IsNamedAttribute, Values.TokenInRange, Structs.attribute_param, Structs.param_of, Structs.value_param};
+ghost use Rattle.csicodec_structs.specs.{declared.structs.Param.Param};
 
 use crate::numbers::attribute_token;
 use crate::room::put;

@@ -1,11 +1,9 @@
 //! The list of an unknown action, put into room that a caller lends.
-ghost use Rattle.std.specs.Prelude.{◌≡◌, ◌<◌, ◌≤◌, ℕ, List, false, length, map, take, MatchOption};
-ghost use Rattle.std.specs.List.{All};
+ghost use Rattle.std.specs.{Prelude.◌≡◌, Prelude.◌<◌, Prelude.◌≤◌, Prelude.ℕ, Prelude.List, Prelude.false, Prelude.length, Prelude.map, Prelude.take};
+ghost use Rattle.std.specs.{Prelude.MatchOption, List.All};
 ghost use Rattle.csicodec_actions.specs.Actions.{Unspecified};
 ghost use Rattle.csicodec_tokens.specs.declared.param.CsiParam.{CsiParam};
-ghost use Rattle.csicodec_structs.specs.Encode.{Stands};
-ghost use Rattle.csicodec_structs.specs.Structs.{param_of};
-ghost use Rattle.csicodec_structs.specs.Values.{TokenInRange};
+ghost use Rattle.csicodec_structs.specs.{Encode.Stands, Structs.param_of, Values.TokenInRange};
 
 use crate::encode::{is_same, part};
 use crate::structs::{Param, Struct, unknown_row};

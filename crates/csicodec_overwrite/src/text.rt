@@ -1,9 +1,10 @@
 //! The steps of text, of escape sequences and of actions.
-ghost use Rattle.std.specs.Prelude.{◌≡◌, ◌≤◌, ◌++◌, ℕ, List, length, map, OnOk, IfOk};
+ghost use Rattle.std.specs.Prelude.{◌≡◌, ◌≤◌, ◌++◌, ◌∷◌, [], ℕ, List, length, map, OnOk, IfOk};
 ghost use Rattle.std.specs.List.{flat_map, list_any};
 ghost use Rattle.csicodec_actions.specs.Devices.{device_of};
 ghost use Rattle.csicodec_parser.specs.ActionOf.{action_of};
 ghost use Rattle.csicodec_clean.specs.Shown.{IsCut, IsRead};
+ghost use Rattle.csicodec_overwrite.specs.Private.Spans.{if_some};
 ghost use Rattle.csicodec_overwrite.specs.Steps.{as_far, by_code, by_escape, is_mark, may_move, of_action, of_actions, of_char, of_chars, of_code, of_control, of_cursor, of_device, of_edit, of_escape, of_final, of_mode, of_reset, of_run, of_set, of_terminal_mode, of_unread, stops};
 
 use crate::step::{Step, WIDEST};
@@ -31,31 +32,39 @@ fn stops(count: u32) -> u32
     count.min(WIDEST / 8)
 }
 
-/// Appends what a control does that isn't shown.
-fn append_control(char: char, steps: &mut Vec<Step>) -> Result<(), AllocError>
-    ensures { OnOk result (steps.new.items ≡ steps.old.items ++ of_control char) }
+/// Appends a step, if there is one.
+fn append_some(step: Option<Step>, steps: &mut Vec<Step>) -> Result<(), AllocError>
+    ensures { OnOk result (steps.new.items ≡ steps.old.items ++ if_some step) }
 {
-    match char {
-        '\u{b}' | '\u{c}' | '\u{84}' | '\u{8d}' | '\u{9b}' => steps.push(Step::Leave(None))?,
-        '\u{85}' => steps.push(Step::Leave(Some(1)))?,
-        _ => steps.push(Step::Other)?,
+    if let Some(step) = step {
+        steps.push(step)?;
     }
     Ok(())
 }
 
-/// Appends what the character does.
-fn append_char(char: char, steps: &mut Vec<Step>) -> Result<(), AllocError>
-    ensures { OnOk result (steps.new.items ≡ steps.old.items ++ of_char char) }
+/// What a control does that isn't shown.
+fn control_step(char: char) -> Step
+    ensures { of_control char ≡ result ∷ [] }
 {
     match char {
-        '\n' => steps.push(Step::NewLine)?,
-        '\r' => steps.push(Step::Column(1))?,
-        '\u{8}' => steps.push(Step::Left(1))?,
-        '\t' => steps.push(Step::Tab)?,
-        '\0'..='\u{1f}' | '\u{7f}'..='\u{9f}' => append_control(char, steps)?,
-        _ => steps.push(Step::Put(char))?,
+        '\u{b}' | '\u{c}' | '\u{84}' | '\u{8d}' | '\u{9b}' => Step::Leave(None),
+        '\u{85}' => Step::Leave(Some(1)),
+        _ => Step::Other,
     }
-    Ok(())
+}
+
+/// What a character does.
+pub(crate) fn char_step(char: char) -> Step
+    ensures { of_char char ≡ result ∷ [] }
+{
+    match char {
+        '\n' => Step::NewLine,
+        '\r' => Step::Column(1),
+        '\u{8}' => Step::Left(1),
+        '\t' => Step::Tab,
+        '\0'..='\u{1f}' | '\u{7f}'..='\u{9f}' => control_step(char),
+        _ => Step::Put(char),
+    }
 }
 
 /// Appends what an escape sequence without an intermediate byte does.
@@ -114,81 +123,76 @@ pub(crate) fn append_by_escape(
     Ok(())
 }
 
-/// Appends what moving the cursor does.
-fn append_cursor(cursor: &Cursor, steps: &mut Vec<Step>) -> Result<(), AllocError>
-    ensures { OnOk result (steps.new.items ≡ steps.old.items ++ of_cursor cursor.now) }
+/// What moving the cursor does.
+fn cursor_step(cursor: &Cursor) -> Option<Step>
+    ensures { of_cursor cursor.now ≡ if_some result }
 {
     match cursor {
         Cursor::Right(count) | Cursor::CharacterPositionForward(count) => {
-            steps.push(Step::Right(as_far(*count)))?;
+            Some(Step::Right(as_far(*count)))
         }
         Cursor::Left(count) | Cursor::CharacterPositionBackward(count) => {
-            steps.push(Step::Left(as_far(*count)))?;
+            Some(Step::Left(as_far(*count)))
         }
         Cursor::CharacterAbsolute(col) | Cursor::CharacterPositionAbsolute(col) => {
-            steps.push(Step::Column(as_far(col.as_one_based())))?;
+            Some(Step::Column(as_far(col.as_one_based())))
         }
-        Cursor::ForwardTabulation(count) => steps.push(Step::Tabs(stops(*count)))?,
-        Cursor::BackwardTabulation(count) => steps.push(Step::TabsBack(stops(*count)))?,
-        Cursor::SaveCursor => steps.push(Step::Save)?,
-        Cursor::RestoreCursor => steps.push(Step::Restore)?,
+        Cursor::ForwardTabulation(count) => Some(Step::Tabs(stops(*count))),
+        Cursor::BackwardTabulation(count) => Some(Step::TabsBack(stops(*count))),
+        Cursor::SaveCursor => Some(Step::Save),
+        Cursor::RestoreCursor => Some(Step::Restore),
         Cursor::Position { line, col } | Cursor::CharacterAndLinePosition { line, col } => {
             let column = as_far(col.as_one_based());
-            steps.push(Step::Row(line.as_one_based(), Some(column)))?;
+            Some(Step::Row(line.as_one_based(), Some(column)))
         }
-        Cursor::LinePositionAbsolute(row) => steps.push(Step::Row(*row, None))?,
+        Cursor::LinePositionAbsolute(row) => Some(Step::Row(*row, None)),
         Cursor::Up(_)
         | Cursor::Down(_)
         | Cursor::LinePositionForward(_)
         | Cursor::LinePositionBackward(_)
-        | Cursor::LineTabulation(_) => steps.push(Step::Leave(None))?,
+        | Cursor::LineTabulation(_) => Some(Step::Leave(None)),
         Cursor::NextLine(_) | Cursor::PrecedingLine(_) | Cursor::SetTopAndBottomMargins { .. } =>
-            steps.push(Step::Leave(Some(1)))?,
-        _ => {}
+            Some(Step::Leave(Some(1))),
+        _ => None,
     }
-    Ok(())
 }
 
-/// Appends what an edit does.
-fn append_edit(edit: &Edit, steps: &mut Vec<Step>) -> Result<(), AllocError>
-    ensures { OnOk result (steps.new.items ≡ steps.old.items ++ of_edit edit.now) }
+/// What an edit does.
+fn edit_step(edit: &Edit) -> Option<Step>
+    ensures { of_edit edit.now ≡ if_some result }
 {
     match edit {
-        Edit::EraseCharacter(count) => steps.push(Step::Erase(as_far(*count)))?,
-        Edit::DeleteCharacter(count) => steps.push(Step::Delete(as_far(*count)))?,
-        Edit::InsertCharacter(count) => steps.push(Step::Insert(as_far(*count)))?,
-        Edit::Repeat(count) => steps.push(Step::Repeat(as_far(*count)))?,
+        Edit::EraseCharacter(count) => Some(Step::Erase(as_far(*count))),
+        Edit::DeleteCharacter(count) => Some(Step::Delete(as_far(*count))),
+        Edit::InsertCharacter(count) => Some(Step::Insert(as_far(*count))),
+        Edit::Repeat(count) => Some(Step::Repeat(as_far(*count))),
         Edit::EraseInLine(EraseInLine::EraseToEndOfLine)
-        | Edit::EraseInDisplay(EraseInDisplay::EraseToEndOfDisplay) => {
-            steps.push(Step::EraseRight)?;
-        }
-        Edit::EraseInLine(EraseInLine::EraseToStartOfLine) => steps.push(Step::EraseLeft)?,
-        Edit::EraseInLine(EraseInLine::EraseLine) => steps.push(Step::EraseAll)?,
+        | Edit::EraseInDisplay(EraseInDisplay::EraseToEndOfDisplay) => Some(Step::EraseRight),
+        Edit::EraseInLine(EraseInLine::EraseToStartOfLine) => Some(Step::EraseLeft),
+        Edit::EraseInLine(EraseInLine::EraseLine) => Some(Step::EraseAll),
         Edit::ScrollUp(_)
         | Edit::ScrollDown(_)
         | Edit::EraseInDisplay(EraseInDisplay::EraseToStartOfDisplay)
-        | Edit::EraseInDisplay(EraseInDisplay::EraseDisplay) => steps.push(Step::Leave(None))?,
-        Edit::InsertLine(_) | Edit::DeleteLine(_) => steps.push(Step::Leave(Some(1)))?,
-        _ => {}
+        | Edit::EraseInDisplay(EraseInDisplay::EraseDisplay) => Some(Step::Leave(None)),
+        Edit::InsertLine(_) | Edit::DeleteLine(_) => Some(Step::Leave(Some(1))),
+        _ => None,
     }
-    Ok(())
 }
 
-/// Appends what a private mode does, whatever becomes of it.
-fn append_code(code: DecPrivateModeCode, steps: &mut Vec<Step>) -> Result<(), AllocError>
-    ensures { OnOk result (steps.new.items ≡ steps.old.items ++ of_code code) }
+/// What a private mode does, whatever becomes of it.
+fn code_step(code: DecPrivateModeCode) -> Option<Step>
+    ensures { of_code code ≡ if_some result }
 {
     match code {
         DecPrivateModeCode::Select132Columns | DecPrivateModeCode::OriginMode => {
-            steps.push(Step::Leave(Some(1)))?;
+            Some(Step::Leave(Some(1)))
         }
         DecPrivateModeCode::EnableAlternateScreen
         | DecPrivateModeCode::OptEnableAlternateScreen
         | DecPrivateModeCode::SaveCursor
-        | DecPrivateModeCode::ClearAndEnableAlternateScreen => steps.push(Step::Leave(None))?,
-        _ => {}
+        | DecPrivateModeCode::ClearAndEnableAlternateScreen => Some(Step::Leave(None)),
+        _ => None,
     }
-    Ok(())
 }
 
 /// Appends what a private mode does that is set.
@@ -201,7 +205,7 @@ fn append_set(mode: DecPrivateMode, steps: &mut Vec<Step>) -> Result<(), AllocEr
             steps.push(Step::Save)?;
             steps.push(Step::Leave(None))?;
         }
-        DecPrivateMode::Code(code) => append_code(code, steps)?,
+        DecPrivateMode::Code(code) => append_some(code_step(code), steps)?,
         DecPrivateMode::Unspecified(_) => {}
     }
     Ok(())
@@ -217,25 +221,20 @@ fn append_reset(mode: DecPrivateMode, steps: &mut Vec<Step>) -> Result<(), Alloc
             steps.push(Step::Leave(None))?;
             steps.push(Step::Restore)?;
         }
-        DecPrivateMode::Code(code) => append_code(code, steps)?,
+        DecPrivateMode::Code(code) => append_some(code_step(code), steps)?,
         DecPrivateMode::Unspecified(_) => {}
     }
     Ok(())
 }
 
-/// Appends what a mode does that isn't private, and is set or reset.
-fn append_terminal_mode(
-    set: bool,
-    mode: TerminalMode,
-    steps: &mut Vec<Step>,
-) -> Result<(), AllocError>
-    ensures { OnOk result (steps.new.items ≡ steps.old.items ++ of_terminal_mode set mode) }
+/// What a mode does that isn't private, and is set or reset.
+fn terminal_step(set: bool, mode: TerminalMode) -> Option<Step>
+    ensures { of_terminal_mode set mode ≡ if_some result }
 {
     match mode {
-        TerminalMode::Code(TerminalModeCode::Insert) => steps.push(Step::Inserts(set))?,
-        _ => {}
+        TerminalMode::Code(TerminalModeCode::Insert) => Some(Step::Inserts(set)),
+        _ => None,
     }
-    Ok(())
 }
 
 /// Appends what a mode does.
@@ -245,22 +244,23 @@ fn append_mode(mode: &Mode, steps: &mut Vec<Step>) -> Result<(), AllocError>
     match mode {
         Mode::SetDecPrivateMode(mode) => append_set(*mode, steps),
         Mode::ResetDecPrivateMode(mode) => append_reset(*mode, steps),
-        Mode::RestoreDecPrivateMode(DecPrivateMode::Code(code)) => append_code(*code, steps),
-        Mode::SetMode(mode) => append_terminal_mode(true, *mode, steps),
-        Mode::ResetMode(mode) => append_terminal_mode(false, *mode, steps),
+        Mode::RestoreDecPrivateMode(DecPrivateMode::Code(code)) => {
+            append_some(code_step(*code), steps)
+        }
+        Mode::SetMode(mode) => append_some(terminal_step(true, *mode), steps),
+        Mode::ResetMode(mode) => append_some(terminal_step(false, *mode), steps),
         _ => Ok(()),
     }
 }
 
-/// Appends what a device does.
-fn append_device(device: &Device, steps: &mut Vec<Step>) -> Result<(), AllocError>
-    ensures { OnOk result (steps.new.items ≡ steps.old.items ++ of_device (device_of device.now)) }
+/// What a device does.
+fn device_step(device: &Device) -> Option<Step>
+    ensures { of_device (device_of device.now) ≡ if_some result }
 {
     match device {
-        Device::SoftReset => steps.push(Step::Reset)?,
-        _ => {}
+        Device::SoftReset => Some(Step::Reset),
+        _ => None,
     }
-    Ok(())
 }
 
 /// Whether a token is a private marker or an intermediate byte.
@@ -291,15 +291,14 @@ fn may_move(params: &[CsiParam], control: char) -> bool
     }
 }
 
-/// Appends what a list does of which no action is read.
-fn append_unread(unread: &Unspecified, steps: &mut Vec<Step>) -> Result<(), AllocError>
-    ensures { OnOk result
-        (steps.new.items ≡ steps.old.items ++ of_unread unread.now.params.items unread.now.control) }
+/// What a list does of which no action is read.
+fn unread_step(unread: &Unspecified) -> Option<Step>
+    ensures { of_unread unread.now.params.items unread.now.control ≡ if_some result }
 {
     if may_move(&unread.params, unread.control) {
-        steps.push(Step::Leave(None))?;
+        return Some(Step::Leave(None));
     }
-    Ok(())
+    None
 }
 
 /// Appends what an action does.
@@ -308,12 +307,12 @@ fn append_action(action: &CSI, steps: &mut Vec<Step>) -> Result<(), AllocError>
         (steps.new.items ≡ steps.old.items ++ of_action (action_of action.now)) }
 {
     match action {
-        CSI::Cursor(cursor) => append_cursor(cursor, steps),
-        CSI::Edit(edit) => append_edit(edit, steps),
+        CSI::Cursor(cursor) => append_some(cursor_step(cursor), steps),
+        CSI::Edit(edit) => append_some(edit_step(edit), steps),
         CSI::Sgr(attribute) => Ok(steps.push(Step::Attribute(*attribute))?),
         CSI::Mode(mode) => append_mode(mode, steps),
-        CSI::Device(device) => append_device(device, steps),
-        CSI::Unspecified(unread) => append_unread(unread, steps),
+        CSI::Device(device) => append_some(device_step(device), steps),
+        CSI::Unspecified(unread) => append_some(unread_step(unread), steps),
         CSI::Keyboard(_) | CSI::SelectCharacterPath(..) | CSI::Mouse(_) | CSI::Window(_) => Ok(()),
     }
 }
@@ -340,7 +339,7 @@ fn append_sure<'a>(bytes: &'a [u8], steps: &mut Vec<Step>) -> Result<&'a [u8], A
 {
     let mut rest = bytes;
     while let Some((char, size)) = first_sure(rest) {
-        append_char(char, steps)?;
+        steps.push(char_step(char))?;
         rest = rest.split_at(size).1;
     }
     Ok(rest)
@@ -352,7 +351,7 @@ pub(crate) fn append_run(bytes: &[u8], steps: &mut Vec<Step>) -> Result<(), Allo
 {
     let rest = append_sure(bytes, steps)?;
     if !rest.is_empty() {
-        append_char('\u{FFFD}', steps)?;
+        steps.push(char_step('\u{FFFD}'))?;
     }
     Ok(())
 }

@@ -1,5 +1,5 @@
 -- What the private steps of a reader say of each other. No promise rests on this file.
-use Rattle.std.specs.Prelude.{ℕ, ◌≡◌, Bool, List, [], ◌++◌}
+use Rattle.std.specs.Prelude.{ℕ, ◌≡◌, Bool, List, [], ◌∷◌, ◌++◌, Option, Some, None}
 use Rattle.csicodec_actions.specs.Actions.{Action}
 use Rattle.csicodec_spans.specs.{declared.table.Kind.Kind, declared.table.Mode.Mode}
 use Rattle.csicodec_terminal.specs.Terminal.{IsTakenFor}
@@ -7,6 +7,11 @@ use Rattle.csicodec_clean.specs.Shown.{IsRead}
 use Rattle.csicodec_overwrite.specs.{declared.step.Step.Step, Stream.Goes, Steps.of_chars, Steps.of_escape, Steps.of_run, Steps.of_sequence, Steps.of_string}
 use Rattle.csicodec_overwrite.specs.{Steps.of_wrong}
 use Rattle.csicodec_spans.specs.declared.table.Kind.TheVariants as kind
+
+-- a step, if there is one
+abbrev pub if_some : Option Step → List Step
+if_some None = []
+if_some (Some s) = s ∷ []
 
 -- a span behind a run of which some bytes are held: the steps that come, and what is held then
 abbrev pub IsGiven : Kind → List ℕ → List ℕ → List Step → List ℕ → Type 0

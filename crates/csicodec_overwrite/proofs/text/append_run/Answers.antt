@@ -3,12 +3,13 @@ use Rattle.csicodec_clean.proofs.Sure.{cut_char}
 use Rattle.csicodec_overwrite.proofs.Chars.{run_all, run_cut}
 use Rattle.csicodec_overwrite.proofs.text.append_run.Goals as goal
 
-pub returns-in_ok-append_char : goal.returns-in_ok-append_char
-returns-in_ok-append_char c =
+pub returns-in_ok-push : goal.returns-in_ok-push
+returns-in_ok-push c =
     let (chars, read, out) = c.in_ok-rest.ensures.chars in
     let rest = c.in_ok-rest.rest.now in
     let some : 0 < length rest = search rules in
-    run_cut c.args.bytes.now chars rest c.args.steps.now.items _ _ read (cut_char rest some c.in_ok-rest.ensures.cut) out c.in_ok-append_char.ensures
+    run_cut c.args.bytes.now chars rest c.args.steps.now.items _ _ read (cut_char rest some c.in_ok-rest.ensures.cut) out
+    (rw c.char_step.ensures c.in_ok-push.ensures.items)
 
 pub returns-else-not-is_empty : goal.returns-else-not-is_empty
 returns-else-not-is_empty c =

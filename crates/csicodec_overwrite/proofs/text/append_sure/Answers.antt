@@ -24,7 +24,8 @@ loop-char-preserved c =
       chars = (
         chars ++ one,
         subst (λ t. IsRead bytes (chars ++ one) t) (sym behind) here,
-        one_on of_char c.in-Some.char chars old c.loop-char.steps.items c.append_char.new.steps.items out c.in_ok-append_char.ensures,
+        one_on of_char c.in-Some.char chars old c.loop-char.steps.items c.push.new.self.items out
+            (rw (c.char_step.ensures) c.in_ok-push.ensures.items),
       );
     }
 

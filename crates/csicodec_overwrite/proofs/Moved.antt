@@ -181,11 +181,6 @@ pub step_text : (marking : Marking) (now new : List ℕ) (first later : List (Li
     → new ++ texts_of marking later ≡ whole
 step_text marking now new first later whole e f = rw (e, append_assoc, ← texts_on marking first later) f
 
--- the lines of two steps, one after the other
-pub both_texts : (marking : Marking) (now mid new : List ℕ) (first later : List (List Cell)) → mid ≡ now ++ texts_of marking first → new ≡ mid ++ texts_of marking later
-    → new ≡ now ++ texts_of marking (first ++ later)
-both_texts marking now mid new first later e f = rw (f, e, append_assoc, texts_on marking first later)
-
 -- ---- so many times
 
 pub repeat_on : (limit : ℕ) (inserts : Bool) (g : Glyph) (n : ℕ) (l : Line) → 0 < n

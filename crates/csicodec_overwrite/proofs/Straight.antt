@@ -1,5 +1,5 @@
 -- Text of ASCII, which takes no reading.
-use Rattle.std.proofs.Common.{drop, take, take-append-drop, ◌≡◌, ◌≢◌, ◌<◌, ◌≤◌, ℕ, Bool, true, false, cond, List, [], ◌∷◌, ◌++◌, length, encode_utf8_all, refl, sym, ap, subst, ◌∙◌, arith, ne_eqb}
+use Rattle.std.proofs.Common.{drop, take, take-append-drop, ◌≡◌, ◌<◌, ◌≤◌, ℕ, Bool, true, false, cond, List, [], ◌∷◌, ◌++◌, length, encode_utf8_all, refl, sym, ap, subst, ◌∙◌, arith}
 use Rattle.std.proofs.{lemmas.Bool.cond_both, lemmas.Bool.Decides.nat_tests}
 use Rattle.std.specs.{Prelude.◌==◌, Prelude.◌+◌, Prelude.max, Prelude.unwrap_or, Prelude.Option, Prelude.Some, Char.encode_utf8, List.AllByRecursion}
 use Rattle.std.specs.{List.prefix_len, Str.all_scalars}
@@ -59,12 +59,6 @@ lines_plain = all_weaker IsLineByte IsPlainByte line_plain
 pub split_line : (bytes text rest : List ℕ) → text ≡ take (prefix_len line_byte bytes) bytes → rest ≡ drop (prefix_len line_byte bytes) bytes → (bytes ≡ text ++ rest) × AllByRecursion IsLineByte text
 split_line bytes text rest e f = rw (e, f) (sym (take-append-drop (prefix_len line_byte bytes) bytes), front_in line_byte bytes)
 
-pub tab_step : (b : ℕ) → b ≡ 9 → of_char b ≡ step.Tab ∷ []
-tab_step b is = rw is refl
-
-pub put_step : (b : ℕ) → IsLineByte b → b ≢ 9 → of_char b ≡ step.Put b ∷ []
-put_step b h tab = put_of b (grind (arith, nat_tests)) (grind (arith, nat_tests)) (grind (arith, nat_tests)) (ne_eqb b 9 tab) (is_shown b (line_plain b h))
-
 pub few_cells : (c column : ℕ) → max (width c column) 1 ≤ 8
 few_cells c column = cond_both (c == 9) _ _ (λ (n : ℕ). max n 1 ≤ 8) (λ e. omega arith) (λ e. omega (arith, narrow_few (unwrap_or (char_width false c) 0)))
 
@@ -92,7 +86,7 @@ module _ (limit : ℕ) (first : Pen) (blank : Line) (text rest : List ℕ) where
       let next = pen_behind pen (step.Put c) (columns left) in
       let later = of_chars (cs ++ rest) in
       let single = narrow c (columns left) low high in
-      let of = put_step c is (λ tab. absurd (let yes : (9 == 9) ≡ false = subst (λ (x : ℕ). (x == 9) ≡ false) tab other in cc)) in
+      let of = put_of c (grind (arith, nat_tests)) (grind (arith, nat_tests)) (grind (arith, nat_tests)) other (is_shown c (line_plain c is)) in
       let one : does limit pen (step.Put c) (line left []) ≡ done [] (line (Char g ∷ left) []) =
       ap (λ (b : Bool). put limit b g (line left [])) over ∙ put_cells limit g left (omega (arith, few, single))
       ∙ ap (λ (n : ℕ). done [] (line (cells g n left) [])) single in

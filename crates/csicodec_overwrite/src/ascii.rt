@@ -1,10 +1,8 @@
 //! Text of ASCII, which takes no reading.
-ghost use Rattle.std.specs.Prelude.{◌≡◌, ◌∷◌, ◌++◌, [], ◌≤◌, length, min, IfSome};
+ghost use Rattle.std.specs.Prelude.{◌≡◌, ◌++◌, ◌≤◌, length, min, IfSome};
 ghost use Rattle.std.specs.List.{AllByRecursion};
-ghost use Rattle.csicodec_overwrite.specs.Private.Plain.{AreLines, IsLineByte, IsUntabbed, end_of};
-ghost use Rattle.csicodec_overwrite.specs.{Private.Row.IsHere, Steps.of_char};
+ghost use Rattle.csicodec_overwrite.specs.Private.Plain.{AreLines, IsUntabbed, end_of};
 
-use crate::step::Step;
 use csicodec_clean::{ByteClass, PlainAscii, first_set, split_front};
 use memchr::memrchr;
 use std::simd::prelude::*;
@@ -81,17 +79,6 @@ pub(crate) fn behind_end(bytes: &[u8]) -> Option<&[u8]>
 #[inline(always)]
 pub(crate) fn begins_sequence(bytes: &[u8]) -> bool {
     matches!(bytes, [0x1b, ..])
-}
-
-/// What such a byte does.
-pub(crate) fn plain_step(byte: u8) -> Step
-    ensures step { IsLineByte byte → of_char byte ≡ result ∷ [] }
-    ensures here { IsHere result }
-{
-    if byte == b'\t' {
-        return Step::Tab;
-    }
-    Step::Put(byte as char)
 }
 
 /// The bytes in front that are no tabs, so many at most, and what is behind them.

@@ -1,13 +1,12 @@
 //! A line and its cursor.
 ghost use Rattle.std.specs.Prelude.{◌≡◌, ◌<◌, ◌≤◌, ◌*◌, ◌-◌, ◌++◌, ◌+◌, [], false, length, nat_lt, true, IfOk, OnOk};
 ghost use Rattle.std.specs.List.{AllByRecursion};
-ghost use Rattle.csicodec_overwrite.specs.{Cells.columns, Cells.glyph, Cells.onto, declared.step.Step.TheVariants.Tab};
+ghost use Rattle.csicodec_overwrite.specs.{Cells.columns, Cells.glyph, Cells.onto};
 ghost use Rattle.csicodec_overwrite.specs.Line.{alters, behind_columns, blank, cells_of, delete, does_here, entered, erase, fits, forward, insert, lines_of, parted, placed, put, repeated, size, widest};
 ghost use Rattle.csicodec_overwrite.specs.{Paint.ended, Paint.text_of, Paint.texts_of, Reading.most};
-ghost use Rattle.csicodec_overwrite.specs.{Private.Plain.IsLineByte, Private.Plain.PutsRun, Steps.of_chars};
-ghost use Rattle.csicodec_overwrite.specs.Private.{Row.Does, Row.DoesAll, Row.IsHere, Row.settled, Sides.placed_many};
+ghost use Rattle.csicodec_overwrite.specs.Private.{Plain.IsLineByte, Plain.PutsRun, Row.Does, Row.IsHere, Row.settled, Sides.placed_many};
 
-use crate::ascii::{plain_step, split_run};
+use crate::ascii::split_run;
 use crate::cells::{Cell, Glyph, Side};
 use crate::marking::Marking;
 use crate::paint::append_cells;
@@ -330,7 +329,7 @@ impl Line {
     }
 
     /// Puts a character, on a line of its own where this has no room for it.
-    fn put(
+    pub(crate) fn put(
         &mut self,
         pen: &Pen,
         char: char,
@@ -393,18 +392,6 @@ impl Line {
         Ok(())
     }
 
-    /// On to the next tab stop.
-    fn tab(&mut self, pen: &Pen, marking: &Marking, out: &mut Vec<u8>) -> Result<(), AllocError>
-        ensures { OnOk result (Does marking.now (does_here most pen.now Tab self.old)
-            self.new out.old.items out.new.items) }
-    {
-        if self.right.len() == 0 {
-            return self.put(pen, '\t', marking, out);
-        }
-        let count = width('\t', self.left.columns());
-        self.forward(count)
-    }
-
     /// Does a step where the cursor stands, and appends the lines that are over with it.
     pub(crate) fn act(
         &mut self,
@@ -420,7 +407,6 @@ impl Line {
         match *step {
             Step::Put(char) => self.put(pen, char, marking, out),
             Step::Repeat(count) => self.repeat(pen, count, marking, out),
-            Step::Tab => self.tab(pen, marking, out),
             Step::EraseRight => {
                 self.part()?;
                 self.right.clear();
@@ -441,31 +427,20 @@ impl Line {
         }
     }
 
-    /// Whether characters go behind all that stands there.
-    #[tactic(auto, using(std::proofs::lemmas::List::nil_from_length))]
-    fn goes_behind(&self, pen: &Pen) -> bool
-        ensures { result ≡ true → (pen.now.inserts ≡ false) × (self.now.right ≡ []) }
-    {
-        if pen.inserts {
-            return false;
-        }
-        if self.right.len() > 0 {
-            return false;
-        }
-        true
-    }
-
-    /// Puts the characters in front that take one cell each, behind all that stands there, and answers the others.
+    /// Puts the characters in front that take one cell each, where nothing stands right of the cursor, and answers the others.
     #[inline(always)]
     #[tactic(auto, using(crate::proofs::Straight::run_none))]
-    fn put_run<'a>(&mut self, pen: &mut Pen, text: &'a [u8]) -> Result<&'a [u8], AllocError>
-        requires { AllByRecursion IsLineByte text.now }
+    pub(crate) fn put_run<'a>(
+        &mut self,
+        pen: &mut Pen,
+        text: &'a [u8],
+    ) -> Result<&'a [u8], AllocError>
+        requires plain { AllByRecursion IsLineByte text.now }
+        requires over { pen.old.inserts ≡ false }
+        requires last { self.old.right ≡ [] }
         ensures { IfOk result
             (λ rest. PutsRun most pen.old self.old text.now rest.now pen.new self.new) }
     {
-        if !self.goes_behind(pen) {
-            return Ok(text);
-        }
         let (run, rest) = split_run(text, self.room());
         let Some((last, _front)) = run.split_last() else {
             return Ok(text);
@@ -473,29 +448,5 @@ impl Line {
         self.left.push_run(run, pen.look)?;
         pen.last = Some(char::from(*last));
         Ok(rest)
-    }
-
-    /// The same of the steps of text of ASCII without a control but tabs.
-    pub(crate) fn put_text(
-        &mut self,
-        pen: &mut Pen,
-        text: &[u8],
-        marking: &Marking,
-        out: &mut Vec<u8>,
-    ) -> Result<(), AllocError>
-        requires { AllByRecursion IsLineByte text.now }
-        ensures { OnOk result (DoesAll marking.now (of_chars text.now)
-            pen.old pen.new self.old self.new out.old.items out.new.items) }
-    {
-        let mut rest = self.put_run(pen, text)?;
-        while let Some((byte, behind)) = rest.split_first() {
-            let step = plain_step(*byte);
-            let column = self.left.columns();
-            self.enter(None, &step, marking, out)?;
-            self.act(pen, &step, marking, out)?;
-            pen.take(step, column);
-            rest = self.put_run(pen, behind)?;
-        }
-        Ok(())
     }
 }

@@ -1,15 +1,15 @@
 //! A line whose cursor goes to a column only where something is done there, so that going to and fro costs nothing.
-ghost use Rattle.std.specs.{Prelude.◌≡◌, Prelude.◌++◌, Prelude.true, Prelude.OnOk, List.AllByRecursion};
+ghost use Rattle.std.specs.{Prelude.◌≡◌, Prelude.◌++◌, Prelude.true, Prelude.IfOk, Prelude.OnOk, List.AllByRecursion};
 ghost use Rattle.csicodec_overwrite.specs.{Cells.columns, Reading.most, Steps.of_chars};
 ghost use Rattle.csicodec_overwrite.specs.Line.{backward, behind_columns, blank, cells_of, done, does, forward, from_stop, in_row, lines_of, pen_behind, restored, rightward, target, to_stop};
 ghost use Rattle.csicodec_overwrite.specs.{Paint.ended, Paint.text_of, declared.step.Step.TheVariants.Tab};
-ghost use Rattle.csicodec_overwrite.specs.Private.{Plain.IsLineByte, Row.Does, Row.DoesAll, Row.IsHere};
+ghost use Rattle.csicodec_overwrite.specs.Private.{Plain.IsLineByte, Plain.PutsRun, Row.Does, Row.DoesAll, Row.IsHere};
 
-use crate::ascii::plain_step;
 use crate::line::Line;
 use crate::marking::Marking;
 use crate::pen::{Pen, set_look};
 use crate::step::{Step, WIDEST};
+use crate::text::char_step;
 use crate::width::width;
 use std::alloc::{AllocError, Global};
 use std::marker::Model;
@@ -214,7 +214,9 @@ impl Row {
         if self.line.has_right(self.to) {
             return self.forward(width('\t', self.column()));
         }
-        self.act_here(pen, &Step::Tab, marking, out)
+        self.line.settle(self.to)?;
+        self.to = None;
+        self.line.put(pen, '\t', marking, out)
     }
 
     /// Does a step where characters are put so, and appends the lines that are over with it.
@@ -295,27 +297,23 @@ impl Row {
         Ok(())
     }
 
-    /// Does the steps of text of ASCII without a control but tabs, one by one.
-    fn put_bytes(
-        &mut self,
-        pen: &mut Pen,
-        text: &[u8],
-        marking: &Marking,
-        out: &mut Vec<u8>,
-    ) -> Result<(), AllocError>
+    /// Puts the characters in front at once that take one cell each and come behind all that stands there, and answers the others.
+    #[inline(always)]
+    #[tactic(auto, using(crate::proofs::Straight::run_none, std::proofs::lemmas::List::nil_from_length))]
+    fn put_run<'a>(&mut self, pen: &mut Pen, text: &'a [u8]) -> Result<&'a [u8], AllocError>
         requires { AllByRecursion IsLineByte text.now }
-        ensures { OnOk result (DoesAll marking.now (of_chars text.now)
-            pen.old pen.new self.old self.new out.old.items out.new.items) }
+        ensures { IfOk result
+            (λ rest. PutsRun most pen.old self.old text.now rest.now pen.new self.new) }
     {
-        let mut rest = text;
-        while let Some((byte, behind)) = rest.split_first() {
-            self.take(pen, &plain_step(*byte), marking, out)?;
-            rest = behind;
+        if pen.inserts || self.line.has_right(self.to) {
+            return Ok(text);
         }
-        Ok(())
+        self.line.settle(self.to)?;
+        self.to = None;
+        self.line.put_run(pen, text)
     }
 
-    /// The same, at once where that can be.
+    /// Does the steps of text of ASCII without a control but tabs.
     pub(crate) fn put_text(
         &mut self,
         pen: &mut Pen,
@@ -327,15 +325,11 @@ impl Row {
         ensures { OnOk result (DoesAll marking.now (of_chars text.now)
             pen.old pen.new self.old self.new out.old.items out.new.items) }
     {
-        let Some(first) = text.first() else {
-            return Ok(());
-        };
-        // A tab over what stands there moves the cursor alone.
-        if *first == b'\t' && self.line.has_right(self.to) {
-            return self.put_bytes(pen, text, marking, out);
+        let mut rest = self.put_run(pen, text)?;
+        while let Some((byte, behind)) = rest.split_first() {
+            self.take(pen, &char_step(*byte as char), marking, out)?;
+            rest = self.put_run(pen, behind)?;
         }
-        self.line.enter(self.to, &plain_step(*first), marking, out)?;
-        self.to = None;
-        self.line.put_text(pen, text, marking, out)
+        Ok(())
     }
 }

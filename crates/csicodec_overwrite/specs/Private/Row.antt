@@ -33,6 +33,7 @@ IsHere step.Restore = ⊥
 IsHere (step.Row row to) = ⊥
 IsHere (step.Leave to) = ⊥
 IsHere step.NewLine = ⊥
+IsHere step.Tab = ⊥
 IsHere (step.Right n) = ⊥
 IsHere (step.Left n) = ⊥
 IsHere (step.Tabs n) = ⊥

@@ -11,10 +11,9 @@ returns c =
     let text = c.args.text.now in
     let run = c.split_run.result.0.now in
     let rest = c.split_run.result.1.now in
-    let goes = c.goes_behind.ensures c.if-not-goes_behind.false in
-    let start = subst (λ (m : Line). PutsRun most pen l text text pen m) (ap (line l.left) goes.1) (run_none most pen l text c.requires) in
+    let start = subst (λ (m : Line). PutsRun most pen l text text pen m) (ap (line l.left) c.requires.last) (run_none most pen l text c.requires.plain) in
     let all = run_all most pen l text rest run pen l.left (subst (λ (t : List ℕ). PutsRun most pen l text t pen (line l.left [])) c.split_run.ensures.parts start)
-    c.split_run.ensures.untabbed goes.0
+    c.split_run.ensures.untabbed c.requires.over
     (omega (
       arith,
       c.split_run.ensures.room,
@@ -25,4 +24,4 @@ returns c =
     let last = ap (last_of pen.last) c.in-Some.ensures.cases.0 ∙ last_is pen.last c.in-Some._front.now c.in-Some.last.now ∙ ap Some (sym c.from.ensures) in
     subst (λ (t : Option ℕ). PutsRun most pen l text rest (record pen { last = t }) (line c.push_run.new.self l.right)) last
     (subst (λ (m : Line). PutsRun most pen l text rest (record pen { last = last_of pen.last run }) m)
-    (ap (λ (t : List Cell). line t []) (sym c.in_ok-push_run.ensures) ∙ ap (line c.push_run.new.self) (sym goes.1)) all)
+    (ap (λ (t : List Cell). line t []) (sym c.in_ok-push_run.ensures) ∙ ap (line c.push_run.new.self) (sym c.requires.last)) all)

@@ -1,7 +1,7 @@
 use Rattle.std.proofs.Common.{length}
 use Rattle.std.specs.List.{AllByRecursion}
 use Rattle.csicodec_overwrite.specs.{Private.Plain.IsLineByte, Private.Row.StillDoes, Steps.of_chars}
-use Rattle.csicodec_overwrite.proofs.line.Line.put_text.Given as goal
+use Rattle.csicodec_overwrite.proofs.row.Row.put_text.Given as goal
 
 -- the characters up to here are put
 abbrev pub invariant-loop-byte : goal.invariant-loop-byte

@@ -1,15 +1,25 @@
 -- Between characters that look the same nothing is written. Of characters none are written as nothing, and some behind others.
-use Rattle.std.proofs.{Common.◌≡◌, Common.ℕ, Common.Bool, Common.true, Common.cond, Common.List, Common.[], Common.◌∷◌, Common.◌++◌, Common.refl, Common.sym}
-use Rattle.std.proofs.{Common.ap, Common.◌∙◌, Common.append-nil, lemmas.Grind.flat_map-append}
+use Rattle.std.proofs.Common.{◌≡◌, ℕ, Bool, true, false, cond, List, [], ◌∷◌, ◌++◌, refl, sym, ap, ◌∙◌, append-nil}
+use Rattle.std.proofs.lemmas.Grind.{flat_map-append}
 use Rattle.csicodec_clean.proofs.Shows.{encoded_on}
 use Rattle.csicodec_html.specs.{declared.look.Look.Look, Page.escaped, Page.piece_texts, Page.turn as tags, contracts.look.LookEq.TheImpl.Laws.laws-law}
 use Rattle.csicodec_overwrite.specs.{declared.marking.Marking.Marking, declared.marking.Marking.TheVariants.Page, declared.marking.Marking.TheVariants.Plain}
-use Rattle.csicodec_overwrite.specs.{declared.marking.Marking.TheVariants.Styled, Paint.look_text, Paint.turn, Paint.written}
+use Rattle.csicodec_overwrite.specs.{declared.marking.Marking.TheVariants.Styled, Paint.look_text, Paint.same, Paint.shows_looks, Paint.turn, Paint.written}
 
 pub turn_same : (marking : Marking) (l : Look) → turn marking l l ≡ []
 turn_same Plain l = refl
 turn_same Styled l = ap (λ (b : Bool). cond b [] (look_text l)) (laws-law.refl l)
 turn_same (Page m) l = ap (λ (b : Bool). cond b [] (piece_texts (tags m true l l))) (laws-law.refl l)
+
+-- nor where looks aren't written
+pub unturned : (marking : Marking) (old new : Look) (out : List ℕ) → shows_looks marking ≡ false → out ≡ out ++ turn marking old new
+unturned Plain old new out e = sym (append-nil out)
+unturned _ old new out e = cc
+
+-- and between looks that are one
+pub turned_alike : (marking : Marking) (old new : Look) (out : List ℕ) → same old new ≡ true → out ≡ out ++ turn marking old new
+turned_alike Plain old new out e = sym (append-nil out)
+turned_alike _ old new out e = rw e (sym (append-nil out))
 
 -- ---- characters
 

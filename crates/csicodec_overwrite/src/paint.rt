@@ -6,12 +6,11 @@ ghost use Rattle.csicodec_html.specs.{Look.is_default, Look.is_none, Look.is_nor
 ghost use Rattle.csicodec_overwrite.specs.{Cells.chars_of, Cells.glyph};
 ghost use Rattle.csicodec_overwrite.specs.declared.cells.Cell.TheVariants.{Char, Empty};
 ghost use Rattle.csicodec_overwrite.specs.Paint.{further, given, look_of, look_text, paint, same, text_of, turn, written};
-ghost use Rattle.csicodec_overwrite.specs.declared.marking.Marking.TheVariants.{Page, Styled};
 
 use crate::cells::Cell;
 use crate::marking::Marking;
 use csicodec_base::{ColorSpec, Intensity, Sgr, Underline};
-use csicodec_html::{Look, Markup, append_text, append_turn as append_tags};
+use csicodec_html::{Look, append_text, append_turn as append_tags};
 use csicodec_tokens::Text;
 use std::alloc::AllocError;
 
@@ -98,35 +97,9 @@ fn append_look(look: &Look, out: &mut Vec<u8>) -> Result<(), AllocError>
     Ok(out.push(b'm')?)
 }
 
-/// Appends the sequence between two looks, where they aren't one.
+/// Appends what is written between two looks, where they aren't one.
 #[inline(always)]
-fn append_styled_turn(old: &Look, new: &Look, out: &mut Vec<u8>) -> Result<(), AllocError>
-    ensures { OnOk result (out.new.items ≡ out.old.items ++ turn Styled old.now new.now) }
-{
-    if same(old, new) {
-        return Ok(());
-    }
-    append_look(new, out)
-}
-
-/// The same with the tags of a page.
-#[inline(always)]
-fn append_paged_turn(
-    markup: &Markup,
-    old: &Look,
-    new: &Look,
-    out: &mut Vec<u8>,
-) -> Result<(), AllocError>
-    ensures { OnOk result (out.new.items ≡ out.old.items ++ turn (Page markup.now) old.now new.now) }
-{
-    if same(old, new) {
-        return Ok(());
-    }
-    append_tags(markup, *old, *new, out)
-}
-
-/// Appends what is written between two looks.
-#[inline(always)]
+#[tactic(auto, using(crate::proofs::Alike::unturned, crate::proofs::Alike::turned_alike))]
 pub(crate) fn append_turn(
     marking: &Marking,
     old: &Look,
@@ -135,10 +108,13 @@ pub(crate) fn append_turn(
 ) -> Result<(), AllocError>
     ensures { OnOk result (out.new.items ≡ out.old.items ++ turn marking.now old.now new.now) }
 {
+    if !marking.shows_looks() || same(old, new) {
+        return Ok(());
+    }
     match marking {
         Marking::Plain => Ok(()),
-        Marking::Styled => append_styled_turn(old, new, out),
-        Marking::Page(markup) => append_paged_turn(markup, old, new, out),
+        Marking::Styled => append_look(new, out),
+        Marking::Page(markup) => append_tags(markup, *old, *new, out),
     }
 }
 

@@ -2,4 +2,3 @@ pub mod Shown
 pub mod Joined
 pub mod Member
 pub mod Place
-pub mod Made

@@ -1,14 +1,13 @@
 -- A line whose object begins with a place: what follows that place says what the line stands for.
-use Rattle.std.proofs.Common.{◌≡◌, ℕ, ◌-◌, Bool, true, false, List, [], ◌∷◌, ◌++◌, length, Option, Some, None, Ok, Err, IsSome, cond, refl, sym, ap, ◌∙◌, subst, arith, rules, Bor, IfSome}
+use Rattle.std.proofs.Common.{◌≡◌, ℕ, ◌-◌, Bool, true, false, List, [], ◌∷◌, ◌++◌, length, Option, Some, None, Ok, IsSome, refl, sym, ap, ◌∙◌, subst, arith, rules, Bor, IfSome}
 use Rattle.std.proofs.lemmas.Str.{IsUtf8-append, IsUtf8-from_ascii}
-use Rattle.std.specs.{Prelude.IsUtf8, Prelude.codes, Prelude.option_map, Str.is_utf8}
+use Rattle.std.specs.Prelude.{IsUtf8, codes, option_map}
 use Rattle.json.specs.Lex.{Lexeme, token, comma, colon, string_token, Place, fresh, after_comma, place_token, punctuate, between, in_string, lex, tokens, begins_colon}
 use Rattle.json.specs.{Token.Token, Token.begin_object, Token.key, Token.number, Text.content, Text.plain, Json.members, Json.parse_map, Json.value}
 use Rattle.json.specs.{Print.IsNumber}
 use Rattle.json.proofs.{Grammar.value-begin_object, Grammar.value_is, Printed.Numbers.lex-number}
 use Rattle.serde_json.specs.{Data.Data, Data.Members, Data.Num, Data.no_members, Data.put, Data.object, Read.converted, Read.number_of, Read.of_json, Read.read}
-use Rattle.csicodec_assemble.specs.{declared.object.Fault.TheVariants.NoObject, Object.of_line, Object.of_read, Private.Glance.Follow, Private.Glance.Says}
-use Rattle.csicodec_assemble.specs.{Private.Glance.Stands}
+use Rattle.csicodec_assemble.specs.{Object.of_line, Private.Glance.Follow, Private.Glance.Says, Private.Glance.Stands}
 use Rattle.csicodec_assemble.proofs.Member.{differs, converted-object, is_there, line_is, member_read, says_object, says_other, whole_read}
 use Rattle.serde_json.specs.Data as values
 
@@ -112,13 +111,3 @@ pub stands_read : (rest line text given : List ℕ) (ts : List Token) → IsUtf8
 stands_read rest line text given ts utf8 read_of same is follow =
     let of_rest : ts ≡ tokens rest = read_of ∙ ap tokens same in
     subst (λ (t : List ℕ). Stands rest t) (sym is) (stands rest text utf8 (subst (λ (l : List Token). Follow l [] (Some text)) of_rest follow))
-
--- ---- no line
-
-read_empty : (t : Bool) → of_read (cond t (read []) None) ≡ Err NoObject
-unfolding lex punctuate value
-read_empty true = refl
-read_empty false = refl
-
-pub of_empty : of_line [] ≡ Err NoObject
-of_empty = read_empty (is_utf8 [])

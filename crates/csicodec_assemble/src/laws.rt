@@ -1,11 +1,11 @@
 //! Laws of lines and of what they show. Each is the contract of a function that does nothing.
-ghost use Rattle.std.specs.Prelude.{◌≡◌, ◌-◌, ◌^◌, ◌++◌, [], ℕ, List, Ok, Err, length, min};
+ghost use Rattle.std.specs.Prelude.{◌≡◌, ◌-◌, ◌^◌, ◌++◌, [], ℕ, List, Ok, length, min};
 ghost use Rattle.std.specs.List.{concat};
 ghost use Rattle.hex.specs.Hex.{IsBytes};
 ghost use Rattle.serde_json.specs.Data.{Data};
 ghost use Rattle.csicodec_assemble.specs.declared.object.Fault.{Fault};
 ghost use Rattle.csicodec_assemble.specs.declared.object.Refusal.TheVariants as refusal;
-ghost use Rattle.csicodec_assemble.specs.Lines.{AreShown, IsRefused, Passes, assembled, counted, ended, last_line, of_lines};
+ghost use Rattle.csicodec_assemble.specs.Lines.{AreKept, AreShown, Assembles, GiveAll, IsRefused, Passes, Refuses, assembled, counted, ended, last_line, of_lines, one_more};
 ghost use Rattle.csicodec_assemble.specs.Object.{Shows, of_object};
 
 /// An object that shows bytes as `explain --json` does stands for them.
@@ -22,28 +22,36 @@ pub fn unedited()
 {}
 
 /// It doesn't matter how a text is cut into chunks: what passes in turn passes as one.
-#[tactic(auto, using(crate::proofs::Joined::counted_then, crate::proofs::Joined::passes_then))]
+#[tactic(auto, using(crate::proofs::Joined::counted_then))]
 pub fn goes_on()
-    ensures text { (first middle last one other text more : List ℕ) → Passes first one text middle
-        → Passes middle other more last → Passes first (one ++ other) (text ++ more) last }
-    ensures lines { (over : ℕ) (one other : List ℕ)
-        → counted over (one ++ other) ≡ counted (counted over one) other }
+    ensures text { (first middle last one other text more : List ℕ) (over later : List (List ℕ))
+        → Passes first one over text middle → Passes middle other later more last
+        → Passes first (one ++ other) (over ++ later) (text ++ more) last }
+    ensures lines { (before : ℕ) (over later : List (List ℕ))
+        → counted before (over ++ later) ≡ counted (counted before over) later }
 {}
 
 /// The lines that are over are counted, as far as 64 bits go.
 pub fn numbered()
-    ensures { (first bytes text last : List ℕ) (p : Passes first bytes text last)
-        → counted 0 bytes ≡ min (length p.over) (2 ^ 64 - 1) }
+    ensures { (over : List (List ℕ)) → counted 0 over ≡ min (length over) (2 ^ 64 - 1) }
 {}
 
-/// What passed of a whole text, and the line at its end, are what it stands for.
+/// What passed of a whole text, and what the line at its end gives, are what it gives.
 pub fn whole()
-    ensures { (bytes text rest line : List ℕ) → Passes [] bytes text line
-        → of_lines (last_line line) ≡ Ok rest → assembled bytes ≡ Ok (text ++ rest) }
+    ensures { (bytes text rest line : List ℕ) (over : List (List ℕ)) → Passes [] bytes over text line
+        → GiveAll (last_line line) rest → Assembles bytes (text ++ rest) }
 {}
 
-/// A text of which a line is refused stands for nothing, whatever follows.
+/// A text of which a line is refused has that line behind those that are over, whatever follows.
 pub fn refused()
-    ensures { (f : Fault) (front rest text line more : List ℕ) → Passes [] front text line
-        → IsRefused (refusal.Line f) line rest → assembled (front ++ rest ++ more) ≡ Err f }
+    ensures { (f : Fault) (front rest text line more : List ℕ) (over : List (List ℕ))
+        → Passes [] front over text line → IsRefused (refusal.Line f) line rest
+        → Refuses (one_more (counted 0 over)) f (front ++ rest ++ more) text }
+{}
+
+/// Lines of which none is refused for its actions give the bytes that they stand for.
+#[tactic(auto, using(crate::proofs::Joined::kept_lines))]
+pub fn kept_lines()
+    ensures { (lines : List (List ℕ)) (text : List ℕ) → AreKept lines → GiveAll lines text
+        → of_lines lines ≡ Ok text }
 {}

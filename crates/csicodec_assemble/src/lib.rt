@@ -16,4 +16,4 @@ mod object;
 mod rests;
 
 pub use lines::{Assembler, split_line};
-pub use object::{Fault, Refusal, bytes_of, bytes_of_line};
+pub use object::{Fault, Finds, Refusal, bytes_of, bytes_of_line};

@@ -1,11 +1,11 @@
 //! Lines as they come, and the bytes that they stand for.
 ghost use Rattle.std.specs.Prelude.{◌≡◌, ◌≤◌, ◌==◌, ◌++◌, ◌∷◌, [], ℕ, List, IfErr, IfNone, IfSome, OnErr, OnOk, not, true, vec_len};
 ghost use Rattle.std.specs.List.{list_all};
-ghost use Rattle.csicodec_assemble.specs.Lines.{IsRefused, Passes, counted, last_line, most, of_lines, one_more};
+ghost use Rattle.csicodec_assemble.specs.Lines.{GiveAll, Gives, IsFirst, IsRefused, Passes, counted, last_line, most, one_more};
 ghost use Rattle.csicodec_assemble.specs.Object.{IsTold, of_line};
 
 use crate::glance::Glance;
-use crate::object::{Fault, Refusal, append_bytes};
+use crate::object::{Fault, Finds, Refusal, append_bytes};
 use memchr::memchr;
 use std::alloc::Global;
 
@@ -27,10 +27,12 @@ pub fn split_line(bytes: &[u8]) -> Option<(&[u8], &[u8])>
 /// Lines of which some have come. It holds no more than the line that has begun, as much room to read it, and what it knows of some
 /// lines that were short.
 #[derive(Drop)]
-pub struct Assembler {
+pub struct Assembler<F> {
     alloc: Global,
     /// Reads a line.
     glance: Glance,
+    /// Finds bytes for a line that has actions alone.
+    finder: F,
     /// What has come of the line.
     line: Vec<u8>,
     /// How many lines are over.
@@ -38,15 +40,16 @@ pub struct Assembler {
     ghost bounded: { vec_len line ≤ most },
 }
 
-impl Assembler {
+impl<F: Finds> Assembler<F> {
     /// Of which nothing has come.
-    pub fn new(alloc: Global) -> Assembler
+    pub fn new(alloc: Global, finder: F) -> Assembler<F>
         ensures line { result.line.items ≡ [] }
         ensures over { result.over ≡ 0 }
     {
         Assembler {
             alloc,
             glance: Glance::new(alloc),
+            finder,
             line: Vec::new(alloc),
             over: 0,
         }
@@ -65,12 +68,18 @@ impl Assembler {
         ensures over { OnOk result (self.new.over ≡ one_more self.old.over) }
         ensures stays { OnErr result (self.new.over ≡ self.old.over) }
         ensures same { OnErr result (self.new.line.items ≡ self.old.line.items) }
-        ensures bytes { OnOk result ((text : List ℕ) × (of_line self.old.line.items ≡ Ok text)
+        ensures bytes { OnOk result ((text : List ℕ) × Gives self.old.line.items text
             × (out.new.items ≡ out.old.items ++ text)) }
         ensures told { IfErr result (λ e. IsTold e (of_line self.old.line.items)) }
         ensures kept { OnErr result (out.new.items ≡ out.old.items) }
     {
-        append_bytes(self.alloc, &mut self.glance, &self.line, out)?;
+        append_bytes(
+            self.alloc,
+            &mut self.glance,
+            &mut self.finder,
+            &self.line,
+            out,
+        )?;
         self.line.clear();
         self.over = self.over.saturating_add(1);
         Ok(())
@@ -94,15 +103,15 @@ impl Assembler {
     /// Takes bytes, and appends what the lines stand for that end in them. On `Err` that of the lines ahead of the one that is
     /// refused has been appended, `number` is that one's, and nothing more is to be taken.
     pub fn take(&mut self, bytes: &[u8], out: &mut Vec<u8>) -> Result<(), Refusal>
-        ensures bytes { OnOk result ((text : List ℕ)
-            × Passes self.old.line.items bytes.now text self.new.line.items
+        ensures bytes { OnOk result ((over : List (List ℕ)) × (text : List ℕ)
+            × Passes self.old.line.items bytes.now over text self.new.line.items
+            × (self.new.over ≡ counted self.old.over over)
             × (out.new.items ≡ out.old.items ++ text)) }
-        ensures over { OnOk result (self.new.over ≡ counted self.old.over bytes.now) }
-        ensures told { IfErr result (λ e. (front rest text : List ℕ)
+        ensures told { IfErr result (λ e. (front rest text : List ℕ) × (over : List (List ℕ))
             × (bytes.now ≡ front ++ rest)
-            × Passes self.old.line.items front text self.new.line.items
+            × Passes self.old.line.items front over text self.new.line.items
             × IsRefused e self.new.line.items rest
-            × (self.new.over ≡ counted self.old.over front)
+            × (self.new.over ≡ counted self.old.over over)
             × (out.new.items ≡ out.old.items ++ text)) }
     {
         let mut rest = bytes;
@@ -118,9 +127,9 @@ impl Assembler {
     pub fn end(&mut self, out: &mut Vec<u8>) -> Result<(), Refusal>
         ensures begins { OnOk result (self.new.line.items ≡ []) }
         ensures bytes { OnOk result ((text : List ℕ)
-            × (of_lines (last_line self.old.line.items) ≡ Ok text)
+            × GiveAll (last_line self.old.line.items) text
             × (out.new.items ≡ out.old.items ++ text)) }
-        ensures told { IfErr result (λ e. IsTold e (of_lines (last_line self.old.line.items))) }
+        ensures told { IfErr result (λ e. IsFirst e (last_line self.old.line.items)) }
         ensures stays { OnErr result (self.new.over ≡ self.old.over) }
         ensures kept { OnErr result (out.new.items ≡ out.old.items) }
     {

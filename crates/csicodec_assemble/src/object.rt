@@ -1,7 +1,10 @@
 //! One object, and the line that it stands in.
-ghost use Rattle.std.specs.Prelude.{◌≡◌, ◌++◌, ℕ, List, IfErr, IfOk, Ok, OnErr, OnOk, Some};
+ghost use Rattle.std.specs.Prelude.{◌≡◌, ◌++◌, ℕ, List, Err, IfErr, IfOk, Ok, OnErr, OnOk, Some};
+ghost use Rattle.csicodec_assemble.specs.declared.object.Fault.TheVariants.{NoSequence};
+ghost use Rattle.hex.specs.Hex.{IsBytes};
 ghost use Rattle.serde_json.specs.Find.{as_str};
 ghost use Rattle.serde_json.specs.View.{view};
+ghost use Rattle.csicodec_assemble.specs.Lines.{Gives};
 ghost use Rattle.csicodec_assemble.specs.Object.{IsTold, fault_text, of_hex, of_line, of_object, of_text};
 ghost use Rattle.csicodec_assemble.specs.declared.object.Refusal.TheVariants.{Memory};
 
@@ -12,7 +15,7 @@ use std::alloc::{AllocError, Global};
 use std::fmt;
 
 /// What is wrong with a line.
-#[derive(Clone, Copy, Debug, PartialEq, Eq)]
+#[derive(Clone, Copy)]
 pub enum Fault {
     /// It is no object of JSON (RFC 8259).
     NoObject,
@@ -46,7 +49,7 @@ impl fmt::Display for Fault {
 }
 
 /// Why a line gives no bytes.
-#[derive(Clone, Copy, Debug, PartialEq, Eq)]
+#[derive(Clone, Copy)]
 pub enum Refusal {
     /// What is wrong with it.
     Line(Fault),
@@ -124,20 +127,59 @@ pub fn bytes_of_line(alloc: Global, line: &[u8]) -> Result<Vec<u8>, Refusal>
     }
 }
 
-/// Appends the bytes that a line stands for.
-pub(crate) fn append_bytes(
-    alloc: Global,
-    glance: &mut Glance,
-    line: &[u8],
-    out: &mut Vec<u8>,
-) -> Result<(), Refusal>
-    ensures bytes { OnOk result ((text : List ℕ) × (of_line line.now ≡ Ok text)
+/// What finds bytes for an object that has actions alone.
+pub trait Finds {
+    /// The bytes that have the actions of a line's object, one behind the other, if each has a text.
+    fn bytes_of_line(&mut self, line: &[u8]) -> Result<Option<Vec<u8>>, AllocError>;
+}
+
+/// The most bytes of a line for which some are found, 8 MiB: all actions of the longest control sequence are less.
+const MOST: usize = 8_388_608;
+
+/// Appends bytes that were found.
+fn append(bytes: &[u8], out: &mut Vec<u8>) -> Result<(), AllocError>
+    ensures fit { IsBytes bytes.now }
+    ensures appends { OnOk result (out.new.items ≡ out.old.items ++ bytes.now) }
+    ensures kept { OnErr result (out.new.items ≡ out.old.items) }
+{
+    out.extend_from_slice(bytes)
+}
+
+/// Appends the bytes that are found for a line that has actions alone.
+fn append_found<F: Finds>(finder: &mut F, line: &[u8], out: &mut Vec<u8>) -> Result<(), Refusal>
+    requires { of_line line.now ≡ Err NoSequence }
+    ensures bytes { OnOk result ((text : List ℕ) × Gives line.now text
         × (out.new.items ≡ out.old.items ++ text)) }
     ensures told { IfErr result (λ e. IsTold e (of_line line.now)) }
     ensures kept { OnErr result (out.new.items ≡ out.old.items) }
 {
-    if !glance.append_text(line, out)? {
-        out.extend_from_slice(&bytes_of_line(alloc, line)?)?;
+    if line.len() <= MOST {
+        if let Some(bytes) = finder.bytes_of_line(line)? {
+            return Ok(append(&bytes, out)?);
+        }
     }
-    Ok(())
+    Err(Refusal::Line(Fault::NoSequence))
+}
+
+/// Appends the bytes that a line gives.
+pub(crate) fn append_bytes<F: Finds>(
+    alloc: Global,
+    glance: &mut Glance,
+    finder: &mut F,
+    line: &[u8],
+    out: &mut Vec<u8>,
+) -> Result<(), Refusal>
+    ensures bytes { OnOk result ((text : List ℕ) × Gives line.now text
+        × (out.new.items ≡ out.old.items ++ text)) }
+    ensures told { IfErr result (λ e. IsTold e (of_line line.now)) }
+    ensures kept { OnErr result (out.new.items ≡ out.old.items) }
+{
+    if glance.append_text(line, out)? {
+        return Ok(());
+    }
+    match bytes_of_line(alloc, line) {
+        Ok(bytes) => Ok(out.extend_from_slice(&bytes)?),
+        Err(Refusal::Line(Fault::NoSequence)) => append_found(finder, line, out),
+        Err(refusal) => Err(refusal),
+    }
 }

@@ -1,9 +1,15 @@
-//! The text of an action, found by trying.
+//! The text of an action, found by trying. A text is taken only if `explain` says of it what the object does.
+//!
+//! ```text
+//! {"actions":[{"action":"Cursor::Up","value":7}]}            ESC [ 7 A
+//! {"actions":[{"action":"Cursor::Up","value":"seven"}]}      none, and csicodec_assemble refuses the line
+//! ```
 
 use crate::explain::Explainer;
 use crate::fill::append_filled;
 use crate::patterns::PATTERNS;
 use crate::style::Style;
+use csicodec_assemble::Finds;
 use csicodec_spans::LIMIT;
 use csicodec_streams::RunError;
 use memchr::memmem::find;
@@ -15,7 +21,7 @@ const MOST: u8 = 255;
 
 /// Finds texts of actions, and what is read from each that it tries.
 #[derive(Drop)]
-pub(crate) struct Maker {
+pub struct Maker {
     alloc: Global,
     explainer: Explainer<'static>,
     /// The text that is tried, and what is told of it.
@@ -60,7 +66,7 @@ fn has_all(action: &Value, other: &Value) -> bool {
 
 impl Maker {
     /// Nothing was tried.
-    pub(crate) fn new(alloc: Global) -> Maker {
+    pub fn new(alloc: Global) -> Maker {
         let style = Style {
             json: true,
             ..Style::default()
@@ -130,9 +136,10 @@ impl Maker {
         }
         Ok(false)
     }
+}
 
-    /// The bytes that have the actions of a line's object, one behind the other, if it is one and each has a text.
-    pub(crate) fn bytes_of_line(&mut self, line: &[u8]) -> Result<Option<Vec<u8>>, AllocError> {
+impl Finds for Maker {
+    fn bytes_of_line(&mut self, line: &[u8]) -> Result<Option<Vec<u8>>, AllocError> {
         let Some(object) = value_of(self.alloc, line)? else {
             return Ok(None);
         };

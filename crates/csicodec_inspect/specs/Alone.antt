@@ -2,12 +2,12 @@
 -- stand for.
 use Rattle.std.specs.Prelude.{ℕ, ◌≡◌, ◌≢◌, IfErr, IfSome, OnOk}
 use Rattle.csicodec_streams.specs.{declared.error.RunError.RunError, Decoding.NormalisesTo, Refusals.RefusesRun}
-use Rattle.csicodec_assemble.specs.declared.object.Fault.{Fault}
+use Rattle.csicodec_assemble.specs.{Lines.Assembles, Lines.Refuses, declared.object.Fault.Fault}
 use Rattle.csicodec_clean.specs.Stream.{IsFrontOf}
 use Rattle.csicodec_lines.specs.Cuts.{Tells}
 use Rattle.csicodec_command.specs.Runs.{GoesOf}
-use Rattle.csicodec_inspect.specs.{Assembled.Assembles, Assembled.Refuses, declared.assemble.Assembly.Assembly, declared.cuts.Cuts.Cuts}
-use Rattle.csicodec_inspect.specs.{declared.normal.Normaliser.Normaliser, Sent.FrontsOf, Sent.IsAppended, Sent.IsWrittenBy}
+use Rattle.csicodec_inspect.specs.{declared.assemble.Assembly.Assembly, declared.cuts.Cuts.Cuts, declared.normal.Normaliser.Normaliser, Sent.FrontsOf}
+use Rattle.csicodec_inspect.specs.{Sent.IsAppended, Sent.IsWrittenBy}
 use Rattle.csicodec_streams.specs.declared.error.RunError.TheVariants as error
 use Rattle.csicodec_command.specs.declared.failure.Failure.TheVariants as failure
 
@@ -21,7 +21,7 @@ abbrev pub TellsCuts : GoesOf Cuts
 TellsCuts known start result end = (end.0 ≡ start.0)
     × IsWrittenBy (Tells start.0.every) (IsFrontOf (Tells start.0.every)) result known start.1 end.1
 
--- The bytes that the lines stand for are written, or a front of those of a front of the lines. Where a line is refused, these are all bytes
+-- The bytes that the lines give are written, or a front of those of a front of the lines. Where a line is refused, these are all bytes
 -- of the lines ahead of it, and its number and what is wrong with it are told.
 abbrev pub AssemblesLines : GoesOf Assembly
 AssemblesLines known start result end = IsWrittenBy Assembles (FrontsOf Assembles) result known start.1 end.1

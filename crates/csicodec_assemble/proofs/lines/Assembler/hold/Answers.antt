@@ -3,7 +3,7 @@ use Rattle.csicodec_assemble.proofs.Joined.{refused_long}
 use Rattle.csicodec_assemble.proofs.lines.Assembler.hold.Goals as goal
 
 pub returns-then-bytes-len-clause-told : goal.returns-then-bytes-len-clause-told
-returns-then-bytes-len-clause-told c =
+returns-then-bytes-len-clause-told g c =
     let same = c.args.self.now.line.ok.0 in
     let bound = c.args.self.now.bounded in
     let len = c.len.ensures in

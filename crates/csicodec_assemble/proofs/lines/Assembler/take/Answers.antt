@@ -4,17 +4,18 @@ use Rattle.csicodec_assemble.proofs.Joined.{at_end, at_refusal, one_end, one_run
 use Rattle.csicodec_assemble.proofs.lines.Assembler.take.Goals as goal
 
 pub loop-line-init : goal.loop-line-init
-loop-line-init c = record {
+loop-line-init g c = record {
   front = [];
+  lines = [];
   text = [];
   parts = refl;
-  passes = record { over = []; lines = λ more. refl; all = refl };
+  passes = record { lines = λ more. refl; all = refl };
   counts = refl;
   appends = sym (append-nil c.args.out.now.items);
 }
 
 pub loop-line-preserved : goal.loop-line-preserved
-loop-line-preserved c =
+loop-line-preserved g c =
     let split = c.in-Some.ensures in
     let held = c.in_ok-hold.ensures in
     let ended = c.in_ok-end_line.ensures in
@@ -25,13 +26,13 @@ loop-line-preserved c =
     (omega (arith, same, bound)) ended.begins ended.over ended.bytes
 
 pub returns-in_err-hold-clause-told : goal.returns-in_err-hold-clause-told
-returns-in_err-hold-clause-told c =
+returns-in_err-hold-clause-told g c =
     let held = c.in_err-hold.ensures in
     let e = err_from_is_err_and c.from_residual.result c.from_residual.ensures.1 in
-    rw (e.1, e.2) (at_refusal _ c.loop-line.invariant (refused_then _ _ _ _ _ c.in-Some.ensures.whole held.told) held.same held.over refl)
+    rw (e.1, e.2) (at_refusal _ c.loop-line.invariant (refused_then _ c.loop-line.self.line.items c.in-Some.line.now (10 ∷ c.in-Some.behind.now) _ c.in-Some.ensures.whole held.told) held.same held.over refl)
 
 pub returns-in_err-end_line-clause-told : goal.returns-in_err-end_line-clause-told
-returns-in_err-end_line-clause-told c =
+returns-in_err-end_line-clause-told g c =
     let split = c.in-Some.ensures in
     let held = c.in_ok-hold.ensures in
     let ended = c.in_err-end_line.ensures in
@@ -46,13 +47,7 @@ returns-in_err-end_line-clause-told c =
     (refused_then _ now.line.items (10 ∷ []) behind _ refl (refused_by _ now.line.items (omega (arith, same, bound)) ended.told)) ended.same ended.stays ended.kept)
 
 pub returns-clause-bytes : goal.returns-clause-bytes
-returns-clause-bytes c =
+returns-clause-bytes g c =
     let rest = c.loop-line.rest.now in
     on_ok_weaker c.hold-2.result (λ held.
-    (at_end (one_run rest [] c.loop-line.invariant (sym (append-nil rest)) c.in_default.ensures.none held c.hold-2.ensures.over)).0) c.hold-2.ensures.held
-
-pub returns-clause-over : goal.returns-clause-over
-returns-clause-over c =
-    let rest = c.loop-line.rest.now in
-    on_ok_weaker c.hold-2.result (λ held.
-    (at_end (one_run rest [] c.loop-line.invariant (sym (append-nil rest)) c.in_default.ensures.none held c.hold-2.ensures.over)).1) c.hold-2.ensures.held
+    at_end (one_run rest [] c.loop-line.invariant (sym (append-nil rest)) c.in_default.ensures.none held c.hold-2.ensures.over)) c.hold-2.ensures.held

@@ -54,6 +54,16 @@ module _ {S : Type 0} (Gives : RuleOf S) where
       let (first, last, more, one, two, f) = given_on xs ys mid after others rest in
       (head ++ first, last, more, (head, mid, first, here, refl, one), two, e ∙ ap (λ (t : List ℕ). head ++ t) f ∙ sym (append_assoc head first more))
 
+  -- bytes that give nothing, and a byte more
+  pub given_none : (bytes : List ℕ) (s : S) → ((b : ℕ) → Gives.byte s b [] s) → AreGiven Gives s bytes [] s
+  given_none [] s none = (refl, refl)
+  given_none (b ∷ bytes) s none = ([], s, [], none b, refl, given_none bytes s none)
+
+  pub given_more : (xs : List ℕ) (s mid after : S) (c : ℕ) (text more : List ℕ) → AreGiven Gives s xs text mid → Gives.byte mid c more after → AreGiven Gives s (xs ++ c ∷ []) (text ++ more) after
+  given_more [] s mid after c text more (none, same) one = (more, after, [], subst (λ (x : S). Gives.byte x c more after) same one, rw none (sym (append-nil more)), (refl, refl))
+  given_more (x ∷ xs) s mid after c text more (first, next, others, here, e, rest) one =
+      (first, next, others ++ more, here, rw e (append_assoc first others more), given_more xs next mid after c others more rest one)
+
   -- parts of a kind that ends a run
   parts_end : (k : Kind) (G : S → List ℕ → List ℕ → S → Type 0) → Divides G → ((s mid : S) (run bytes own : List ℕ) → G s bytes own mid → IsStep Gives k s run bytes (shown_text run ++ own) mid [])
       → (ps : List Part) (s after : S) (run own : List ℕ) → 0 < length ps → AllByRecursion (λ (p : Part). p.kind ≡ k) ps → G s (flat_map bytes_of ps) own after

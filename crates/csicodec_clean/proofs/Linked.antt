@@ -56,24 +56,6 @@ pub links_none : (bytes : List ℕ) (b : Begun) → links_in false b bytes ≡ [
 links_none [] b = refl
 links_none (c ∷ bytes) b = links_none bytes b
 
--- a byte more
-pub links_more : (b old : Begun) (xs : List ℕ) (c : ℕ) → old ≡ all_behind true b xs → links_in true b (xs ++ c ∷ []) ≡ links_in true b xs ++ links_at true old c
-links_more b old xs c here =
-    links_on true xs (c ∷ []) b ∙ ap (λ (t : List Address). links_in true b xs ++ t) (append-nil (links_at true (all_behind true b xs) c))
-    ∙ ap (λ (t : Begun). links_in true b xs ++ links_at true t c) (sym here)
-
-pub texts_more : (b old : Begun) (xs : List ℕ) (c : ℕ) (first out text : List ℕ) → old ≡ all_behind true b xs
-    → out ≡ first ++ link_texts (links_in true b xs) → text ≡ out ++ link_texts (links_at true old c)
-    → text ≡ first ++ link_texts (links_in true b (xs ++ c ∷ []))
-texts_more b old xs c first out text here was now = rw (now, was, links_more b old xs c here, flat_map-append) (simp append_assoc)
-
-pub linked_more : (b old : Begun) (xs : List ℕ) (c : ℕ) (first was now : Bool) → old ≡ all_behind true b xs
-    → was ≡ is_linked first (links_in true b xs) → now ≡ is_linked was (links_at true old c) → now ≡ is_linked first (links_in true b (xs ++ c ∷ []))
-linked_more b old xs c first was now here e f = rw (f, e, links_more b old xs c here, linked_on) refl
-
-pub begun_more : (b old new : Begun) (xs : List ℕ) (c : ℕ) → old ≡ all_behind true b xs → new ≡ behind old c → new ≡ all_behind true b (xs ++ c ∷ [])
-begun_more b old new xs c here now = now ∙ ap (λ (t : Begun). behind t c) here ∙ sym (behind_on true xs (c ∷ []) b)
-
 -- ---- what has come of a link may pass
 
 fine_at : (p : LinkState) (params url : List ℕ) (c : ℕ) → IsWithin (begun p params url).address → IsWithin (behind_at p params url c).address

@@ -60,10 +60,6 @@ plain_stripped (p ∷ parts) run =
 
 module _ {S : Type 0} where
   -- the rule that drops gives nothing for a string
-  pub drops_string : (bytes : List ℕ) (s : S) → AreGiven {S = S} drops s bytes [] s
-  drops_string [] s = (refl, refl)
-  drops_string (b ∷ bytes) s = ([], s, [], refl, refl, drops_string bytes s)
-
   none_given : (bytes : List ℕ) (s after : S) (text : List ℕ) → AreGiven {S = S} drops s bytes text after → text ≡ []
   none_given [] s after text h = h.0
   none_given (b ∷ bytes) s after text (first, mid, others, none, e, rest) = e ∙ ap (λ (t : List ℕ). t ++ others) none ∙ none_given bytes mid after others rest

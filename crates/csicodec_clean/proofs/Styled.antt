@@ -10,7 +10,7 @@ use Rattle.csicodec_actions.specs.{Actions.Action, Table.text, Table.texts}
 use Rattle.csicodec.specs.Exact.{ReadsAlone}
 use Rattle.csicodec.proofs.RoundTrip.{round_trip_lem}
 use Rattle.csicodec_spans.specs.{declared.table.Kind.Kind, Parts.Part}
-use Rattle.csicodec_clean.specs.Links.{Address, Begun, IsLink, IsWithin, all_behind, is_linked, link_text, link_texts, links_at, links_in, next, no_address, start}
+use Rattle.csicodec_clean.specs.Links.{Address, Begun, IsLink, IsWithin, all_behind, behind, is_linked, link_text, link_texts, links_at, links_in, next, no_address, start}
 use Rattle.csicodec_clean.specs.Styled.{hides, is_reset, kept, Item, Shown, Style, Link, item_text, item_texts, shown_items, Leaves, begun_behind, run_behind, items_behind, AreLeft, is_open, style_in, styles_of, link_in, links_of, ends_of, closed, StylesIn, IsSafe, IsStyledIn, Keeping, keeping, first_kept, behind_byte, keeps, resets}
 use Rattle.csicodec_clean.specs.{Shown.shown, Shown.shown_text, Shown.IsShown, Titles.with_titles, Cleaned.AreGiven, Cleaned.IsStep, Cleaned.AreSteps}
 use Rattle.csicodec_clean.specs.{Cleaned.Ends, Cleaned.longest, declared.colors.Depth.Depth, Palette.reduced, declared.styles.Passing.Passing}
@@ -92,29 +92,19 @@ behind_string k bytes = keeping k.passing k.styled (is_linked k.linked (links_in
 behind_one : (k : Keeping) (c : ℕ) (bytes : List ℕ) → behind_string (behind_byte k c) bytes ≡ behind_string k (c ∷ bytes)
 behind_one k c bytes = rw linked_on refl
 
--- the rule that keeps, on bytes of a control string
-pub gives_string : (bytes : List ℕ) (k : Keeping) → AreGiven (keeps (λ (x : Keeping). x)) k bytes (link_texts (links_in k.passing.links k.begun bytes)) (behind_string k bytes)
-gives_string [] k = (refl, refl)
-gives_string (c ∷ bytes) k =
-    let mid = behind_byte k c in
-    let rest = subst (AreGiven (keeps (λ (x : Keeping). x)) mid bytes (link_texts (links_in mid.passing.links mid.begun bytes))) (behind_one k c bytes) (gives_string bytes mid) in
-    (link_texts (links_at k.passing.links k.begun c), mid, link_texts (links_in mid.passing.links mid.begun bytes), (refl, refl), flat_map-append link_text (links_at k.passing.links k.begun c) (links_in k.passing.links (next k.passing.links k.begun c) bytes), rest)
-
--- where links pass, and where they don't
-pub gives_links : (bytes : List ℕ) (k : Keeping) → k.passing.links ≡ true
-    → AreGiven (keeps (λ (x : Keeping). x)) k bytes (link_texts (links_in true k.begun bytes))
-    (keeping k.passing k.styled (is_linked k.linked (links_in true k.begun bytes)) (all_behind true k.begun bytes))
-gives_links bytes k e =
+-- the rule that keeps, on a byte of a control string, where links pass
+pub gives_link : (k : Keeping) (c : ℕ) → k.passing.links ≡ true
+    → (keeps (λ (x : Keeping). x)).byte k c (link_texts (links_at true k.begun c)) (keeping k.passing k.styled (is_linked k.linked (links_at true k.begun c)) (behind k.begun c))
+gives_link k c e =
     subst (λ (l : Bool).
-    AreGiven (keeps (λ (x : Keeping). x)) k bytes (link_texts (links_in l k.begun bytes))
-    (keeping k.passing k.styled (is_linked k.linked (links_in l k.begun bytes)) (all_behind l k.begun bytes))) e (gives_string bytes k)
+    (keeps (λ (x : Keeping). x)).byte k c (link_texts (links_at l k.begun c)) (keeping k.passing k.styled (is_linked k.linked (links_at l k.begun c)) (next l k.begun c))) e (refl, refl)
 
-pub gives_none : (bytes : List ℕ) (k : Keeping) → k.passing.links ≡ false → AreGiven (keeps (λ (x : Keeping). x)) k bytes [] k
-gives_none [] k e = (refl, refl)
-gives_none (c ∷ bytes) k e =
-    let text : [] ≡ link_texts (links_at k.passing.links k.begun c) = ap (λ (l : Bool). link_texts (links_at l k.begun c)) (sym e) in
-    let state : k ≡ behind_byte k c = ap (λ (l : Bool). keeping k.passing k.styled (is_linked k.linked (links_at l k.begun c)) (next l k.begun c)) (sym e) in
-    ([], k, [], (text, state), refl, gives_none bytes k e)
+-- and where they don't
+pub gives_none : (k : Keeping) (c : ℕ) → k.passing.links ≡ false → (keeps (λ (x : Keeping). x)).byte k c [] k
+gives_none k c e = (
+  ap (λ (l : Bool). link_texts (links_at l k.begun c)) (sym e),
+  ap (λ (l : Bool). keeping k.passing k.styled (is_linked k.linked (links_at l k.begun c)) (next l k.begun c)) (sym e),
+)
 
 module _ {S : Type 0} (of : S → Keeping) where
   pub record GivenString (s : S) (bytes text : List ℕ) (after : S) : Type 0 where

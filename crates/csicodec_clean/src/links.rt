@@ -158,7 +158,12 @@ impl LinkReader {
     }
 
     /// Takes the next byte of a control string, appends what passes of the link that is over with it, and answers whether one is open then.
-    fn append_byte(&mut self, byte: u8, linked: bool, out: &mut Vec<u8>) -> Result<bool, AllocError>
+    pub(crate) fn append_byte(
+        &mut self,
+        byte: u8,
+        linked: bool,
+        out: &mut Vec<u8>,
+    ) -> Result<bool, AllocError>
         ensures text { OnOk result
             (out.new.items ≡ out.old.items ++ link_texts (links_at true (come self.old) byte)) }
         ensures linked { IfOk result
@@ -172,25 +177,5 @@ impl LinkReader {
         }
         self.take(byte)?;
         Ok(linked)
-    }
-
-    /// Takes bytes of a control string in turn, appends what passes of those that are over with them, and answers whether one is open then.
-    pub(crate) fn append_links(
-        &mut self,
-        bytes: &[u8],
-        linked: bool,
-        out: &mut Vec<u8>,
-    ) -> Result<bool, AllocError>
-        ensures text { OnOk result
-            (out.new.items ≡ out.old.items ++ link_texts (links_in true (come self.old) bytes.now)) }
-        ensures linked { IfOk result
-            (λ after. after ≡ is_linked linked (links_in true (come self.old) bytes.now)) }
-        ensures begun { OnOk result (come self.new ≡ all_behind true (come self.old) bytes.now) }
-    {
-        let mut leads = linked;
-        for byte in bytes {
-            leads = self.append_byte(*byte, leads, out)?;
-        }
-        Ok(leads)
     }
 }

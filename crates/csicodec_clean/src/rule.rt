@@ -1,8 +1,8 @@
 //! What is written for a control sequence, and for a control string.
-ghost use Rattle.std.specs.Prelude.{◌≡◌, ◌<◌, ◌≤◌, ◌++◌, ℕ, List, OnOk, IfOk, length, take};
+ghost use Rattle.std.specs.Prelude.{◌≡◌, ◌<◌, ◌≤◌, ◌++◌, ℕ, List, OnOk, IfOk, false, length, take};
 ghost use Rattle.csicodec_tokens.specs.Sequence.{Seq};
 ghost use Rattle.csicodec_spans.specs.Parts.{IsSequence};
-ghost use Rattle.csicodec_clean.specs.Cleaned.{AreGiven, RuleOf};
+ghost use Rattle.csicodec_clean.specs.Cleaned.{RuleOf};
 
 use csicodec_base::CsiParam;
 use std::alloc::AllocError;
@@ -44,10 +44,14 @@ pub trait Rule {
         ensures none { IfOk result
             (λ len. len ≡ 0 → (self.new ≡ self.old) × (out.new.items ≡ out.old.items)) };
 
-    /// Appends what stands in the place of some bytes of a control string: one comes in any cut, from the ESC on that opens it.
-    fn string(&mut self, bytes: &[u8], out: &mut Vec<u8>) -> Result<(), AllocError>
+    /// Whether the bytes of control strings are read. Where they aren't, each gives nothing and changes nothing.
+    fn reads_strings(&self) -> bool
+        ensures { result ≡ false → (byte : ℕ) → gives.byte self.now byte [] self.now };
+
+    /// Appends what stands in the place of the next byte of a control string: one comes in any cut, from the ESC on that opens it.
+    fn take_byte(&mut self, byte: u8, out: &mut Vec<u8>) -> Result<(), AllocError>
         ensures { OnOk result
-            ((text : List ℕ) × AreGiven gives self.old bytes.now text self.new
+            ((text : List ℕ) × gives.byte self.old byte text self.new
             × (out.new.items ≡ out.old.items ++ text)) };
 
     /// Appends what ends the output: nothing comes any more.

@@ -3,6 +3,7 @@ ghost use Rattle.std.specs.Prelude.{◌≡◌, ◌≢◌, ◌<◌, ◌≤◌, �
 ghost use Rattle.csicodec_tokens.specs.Sequence.{Seq};
 ghost use Rattle.csicodec_spans.specs.declared.table.Kind.TheVariants.{Csi as Sequence};
 ghost use Rattle.csicodec_spans.specs.Parts.{IsUnsure};
+ghost use Rattle.csicodec_clean.specs.Cleaned.{AreGiven};
 ghost use Rattle.csicodec_clean.specs.Shown.{shown_chars};
 ghost use Rattle.csicodec_clean.specs.Private.Steps.{GoesTo, IsAppended, ReadsTo, state_of};
 
@@ -35,6 +36,21 @@ fn append_text(held: &mut Vec<u8>, bytes: &[u8], out: &mut Vec<u8>) -> Result<()
     Ok(())
 }
 
+/// Appends what stands in the place of bytes of a control string.
+fn append_string<T: Rule>(rule: &mut T, bytes: &[u8], out: &mut Vec<u8>) -> Result<(), AllocError>
+    ensures { OnOk result
+        ((text : List ℕ) × AreGiven T.gives rule.old bytes.now text rule.new
+        × (out.new.items ≡ out.old.items ++ text)) }
+{
+    if !rule.reads_strings() {
+        return Ok(());
+    }
+    for byte in bytes {
+        rule.take_byte(*byte, out)?;
+    }
+    Ok(())
+}
+
 /// Appends what is left of a span. A span that is no text ends the run of text before it.
 fn append_span<T: Rule>(
     rule: &mut T,
@@ -60,7 +76,7 @@ fn append_span<T: Rule>(
     held.clear();
     match control {
         Some(control) => rule.rewrite(bytes, params, control, out),
-        None if kind == Kind::Str => rule.string(bytes, out),
+        None if kind == Kind::Str => append_string(rule, bytes, out),
         None => Ok(()),
     }
 }

@@ -209,9 +209,13 @@ impl Rule for Kept {
         }
     }
 
-    fn string(&mut self, bytes: &[u8], out: &mut Vec<u8>) -> Result<(), AllocError> {
+    fn reads_strings(&self) -> bool {
+        self.passing.links
+    }
+
+    fn take_byte(&mut self, byte: u8, out: &mut Vec<u8>) -> Result<(), AllocError> {
         if self.passing.links {
-            self.linked = self.link.append_links(bytes, self.linked, out)?;
+            self.linked = self.link.append_byte(byte, self.linked, out)?;
         }
         Ok(())
     }

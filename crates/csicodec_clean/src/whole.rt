@@ -89,7 +89,11 @@ impl Rule for Dropped {
         Ok(sequence_len(limit, bytes))
     }
 
-    fn string(&mut self, _bytes: &[u8], _out: &mut Vec<u8>) -> Result<(), AllocError> {
+    fn reads_strings(&self) -> bool {
+        false
+    }
+
+    fn take_byte(&mut self, _byte: u8, _out: &mut Vec<u8>) -> Result<(), AllocError> {
         Ok(())
     }
 

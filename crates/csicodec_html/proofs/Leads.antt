@@ -55,17 +55,9 @@ given (c ∷ bytes) s after text (first, mid, others, here, e, rest) =
       r.1 ∙ ap (λ (t : List ℕ). setting s.markup s.look t (all_behind s.markup.links (next s.markup.links s.begun c) bytes)) (sym (led_on s.to links more)),
     )
 
--- a byte more
-pub given_more : (xs : List ℕ) (s mid after : Setting) (c : ℕ) (text more : List ℕ) → AreGiven turns s xs text mid → turns.byte mid c more after
-    → AreGiven turns s (xs ++ c ∷ []) (text ++ more) after
-given_more [] s mid after c text more (none, same) one = (more, after, [], subst (λ (x : Setting). turns.byte x c more after) same one, rw none (sym (append-nil more)), (refl, refl))
-given_more (x ∷ xs) s mid after c text more (first, next, others, here, e, rest) one =
-    (first, next, others ++ more, here, rw e (append_assoc first others more), given_more xs next mid after c others more rest one)
-
--- where links don't pass
-pub gives_none : (bytes : List ℕ) (s : Setting) → s.markup.links ≡ false → AreGiven turns s bytes [] s
-gives_none [] s e = (refl, refl)
-gives_none (c ∷ bytes) s e =
-    let text : [] ≡ all_marked (switches s.markup s.look s.to (links_at s.markup.links s.begun c)) = ap (λ (b : Bool). all_marked (switches s.markup s.look s.to (links_at b s.begun c))) (sym e) in
-    let same : s ≡ behind_byte s c = ap (λ (b : Bool). setting s.markup s.look (led_by s.to (links_at b s.begun c)) (next b s.begun c)) (sym e) in
-    ([], s, [], (text, same), refl, gives_none bytes s e)
+-- where links don't pass, a byte gives nothing
+pub gives_none : (s : Setting) (c : ℕ) → s.markup.links ≡ false → turns.byte s c [] s
+gives_none s c e = (
+  ap (λ (b : Bool). all_marked (switches s.markup s.look s.to (links_at b s.begun c))) (sym e),
+  ap (λ (b : Bool). setting s.markup s.look (led_by s.to (links_at b s.begun c)) (next b s.begun c)) (sym e),
+)

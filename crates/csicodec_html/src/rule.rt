@@ -1,9 +1,9 @@
 //! What stands in the place of a control sequence, and of a control string.
-ghost use Rattle.std.specs.Prelude.{◌≡◌, ◌++◌, ◌∷◌, ℕ, List, [], map, true, OnOk};
+ghost use Rattle.std.specs.Prelude.{◌≡◌, ◌++◌, ◌∷◌, [], map, OnOk};
 ghost use Rattle.csicodec_parser.specs.ActionOf.{action_of};
 ghost use Rattle.csicodec_html.specs.Look.{behind_all, sets_any};
 ghost use Rattle.csicodec_html.specs.Page.{first_set, turn};
-ghost use Rattle.csicodec_html.specs.Private.Marked.{all_marked, turns as marks};
+ghost use Rattle.csicodec_html.specs.Private.Marked.{all_marked};
 
 use crate::links::follow;
 use crate::look::Look;
@@ -134,19 +134,6 @@ impl SpanWriter {
             turns: Turns::new(alloc, &Marks { markup }),
         }
     }
-
-    /// Takes the next byte of a control string, where links pass: appends the tags for the link that is over with it.
-    fn take_byte(&mut self, byte: u8, out: &mut Vec<u8>) -> Result<(), AllocError>
-        requires { self.old.markup.links ≡ true }
-        ensures { OnOk result
-            ((text : List ℕ) × marks.byte self.old byte text self.new
-            × (out.new.items ≡ out.old.items ++ text)) }
-    {
-        let over = ends_link(self.next.place, byte);
-        let markup = &self.markup;
-        follow(over, &self.next.url, markup, self.look, &mut self.to, out)?;
-        self.next.take(byte)
-    }
 }
 
 impl Rule for SpanWriter {
@@ -196,14 +183,18 @@ impl Rule for SpanWriter {
         Ok(len)
     }
 
-    fn string(&mut self, bytes: &[u8], out: &mut Vec<u8>) -> Result<(), AllocError> {
+    fn reads_strings(&self) -> bool {
+        self.markup.links
+    }
+
+    fn take_byte(&mut self, byte: u8, out: &mut Vec<u8>) -> Result<(), AllocError> {
         if !self.markup.links {
             return Ok(());
         }
-        for byte in bytes {
-            self.take_byte(*byte, out)?;
-        }
-        Ok(())
+        let over = ends_link(self.next.place, byte);
+        let markup = &self.markup;
+        follow(over, &self.next.url, markup, self.look, &mut self.to, out)?;
+        self.next.take(byte)
     }
 
     fn close(&self, out: &mut Vec<u8>) -> Result<(), AllocError> {

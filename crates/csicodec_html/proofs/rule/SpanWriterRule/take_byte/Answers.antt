@@ -1,9 +1,14 @@
-use Rattle.std.proofs.{Common.◌≡◌, Common.◌∙◌, Common.[], Common.true, Common.ap, Common.subst, lemmas.Result.on_ok_weaker}
+use Rattle.std.proofs.{Common.◌≡◌, Common.◌∙◌, Common.[], Common.ap, Common.append-nil, Common.sym, Common.subst, lemmas.Result.on_ok_weaker}
 use Rattle.std.specs.Prelude.{if◌then◌else◌}
 use Rattle.csicodec_clean.specs.{Addresses.led, Links.begun, Links.ends_at}
 use Rattle.csicodec_html.specs.{Page.Setting, Page.setting, Page.switch, Private.Marked.all_marked, Private.Marked.turns}
-use Rattle.csicodec_html.proofs.Leads.{byte_gives}
-use Rattle.csicodec_html.proofs.rule.SpanWriter.take_byte.Goals as goal
+use Rattle.csicodec_html.proofs.Leads.{byte_gives, gives_none}
+use Rattle.csicodec_html.proofs.rule.SpanWriterRule.take_byte.Goals as goal
+
+pub returns-then-not-self : goal.returns-then-not-self
+returns-then-not-self c =
+    let links = ap (λ (s : Setting). s.markup.links) c.self.view_is in
+    ([], gives_none c.args.self.now c.args.byte (sym links ∙ c.if-not-self.true), sym (append-nil c.args.out.now.items))
 
 pub returns : goal.returns
 returns c =
@@ -14,12 +19,11 @@ returns c =
     let byte = c.args.byte in
     let text = all_marked (if ends_at b.place byte then switch m inside.look to (led b.address.url) else []) in
     let new = begun c.take.new.self.place c.take.new.self.params.items c.take.new.self.url.items in
-    let passes : m.links ≡ true = ap (λ (s : Setting). s.markup.links) c.self.view_is ∙ c.requires in
     let leads = rw (c.deref.ensures.value, c.ends_link-over.ensures) at c.in_ok-follow.ensures.to in
     on_ok_weaker c.take.result
     (λ e. (
       text,
-      subst (λ (s : Setting). turns.byte s byte text (setting m inside.look c.follow.new.to.items new)) c.self.view_is (byte_gives m inside.look to c.follow.new.to.items b new byte passes leads e),
+      subst (λ (s : Setting). turns.byte s byte text (setting m inside.look c.follow.new.to.items new)) c.self.view_is (byte_gives m inside.look to c.follow.new.to.items b new byte c.if-not-self.false leads e),
       rw (c.deref.ensures.value, c.ends_link-over.ensures) at c.in_ok-follow.ensures.text,
     ))
     c.take.ensures

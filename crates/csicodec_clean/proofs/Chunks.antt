@@ -5,12 +5,12 @@ use Rattle.csicodec_spans.specs.{declared.table.Kind.Kind, declared.table.Mode.M
 use Rattle.csicodec_spans.specs.{Parts.IsUnsure, Parts.left_over}
 use Rattle.csicodec_spans.proofs.{OneSpan.none_unsure, Kept.parts_join, Kept.parts_more, Kept.parts_on, Kept.unsure_short}
 use Rattle.csicodec_filter.specs.Transform.{PassesOf, Transforms}
-use Rattle.csicodec_clean.specs.{Shown.shown_chars, Shown.shown_text, Shown.IsRead, Titles.title_behind, Titles.title_open, Titles.read_as, Titles.with_titles}
+use Rattle.csicodec_clean.specs.{Shown.chars_as, Shown.run_as, Shown.IsRead, Titles.title_behind, Titles.title_open, Titles.read_as, Titles.with_titles}
 use Rattle.csicodec_clean.specs.{Cleaned.RuleOf, Cleaned.EndOf, Cleaned.Ends, Cleaned.longest, Cleaned.AreGiven, Cleaned.IsStep, Cleaned.AreSteps}
 use Rattle.csicodec_clean.specs.{Cleaned.Cleans, Private.Steps.IsAppended, Stream.Between, Stream.GoesBy, Stream.Takes, Stream.AreTaken, Stream.Closing}
 use Rattle.csicodec_clean.specs.{Stream.start_of, Stream.with_more}
 use Rattle.csicodec_clean.proofs.{Sure.read_more, Sure.read_none, Titles.open_on, Titles.titled, Titles.titles_on, Shows.shown_none, Shows.shown_on}
-use Rattle.csicodec_clean.proofs.{Shows.shown_read}
+use Rattle.csicodec_clean.proofs.{Shows.shown_read, Shows.written_none}
 use Rattle.csicodec_spans.specs.declared.table.Kind.TheVariants as kind
 use Rattle.csicodec_spans.specs.declared.table.Mode.TheVariants as mode
 
@@ -65,18 +65,18 @@ module _ {S : Type 0} (Gives : RuleOf S) where
       (first, next, others ++ more, here, rw e (append_assoc first others more), given_more xs next mid after c others more rest one)
 
   -- parts of a kind that ends a run
-  parts_end : (k : Kind) (G : S → List ℕ → List ℕ → S → Type 0) → Divides G → ((s mid : S) (run bytes own : List ℕ) → G s bytes own mid → IsStep Gives k s run bytes (shown_text run ++ own) mid [])
+  parts_end : (k : Kind) (G : S → List ℕ → List ℕ → S → Type 0) → Divides G → ((s mid : S) (run bytes own : List ℕ) → G s bytes own mid → IsStep Gives k s run bytes (run_as Gives.writing run ++ own) mid [])
       → (ps : List Part) (s after : S) (run own : List ℕ) → 0 < length ps → AllByRecursion (λ (p : Part). p.kind ≡ k) ps → G s (flat_map bytes_of ps) own after
-      → AreSteps Gives s run ps (shown_text run ++ own) after []
+      → AreSteps Gives s run ps (run_as Gives.writing run ++ own) after []
   parts_end k G divides step [] s after run own some all given = absurd (omega (arith, some))
   parts_end k G divides step (p ∷ []) s after run own some all given =
-      (shown_text run ++ own, after, [], [], rw all.0 (step s after run p.bytes own (rw append-nil at given)), sym (append-nil (shown_text run ++ own)), (refl, refl, refl))
+      (run_as Gives.writing run ++ own, after, [], [], rw all.0 (step s after run p.bytes own (rw append-nil at given)), sym (append-nil (run_as Gives.writing run ++ own)), (refl, refl, refl))
   parts_end k G divides step (p ∷ q ∷ ps) s after run own some all given =
       let (first, mid, others, one, two, e) = divides p.bytes (flat_map bytes_of (q ∷ ps)) s after own given in
       let later = parts_end k G divides step (q ∷ ps) mid after [] others (omega arith) all.1 two in
-      let whole : shown_text run ++ own ≡ (shown_text run ++ first) ++ (shown_text [] ++ others) =
-      ap (λ (t : List ℕ). shown_text run ++ t) e ∙ sym (append_assoc (shown_text run) first others) ∙ ap (λ (t : List ℕ). (shown_text run ++ first) ++ (t ++ others)) (sym shown_none) in
-      (shown_text run ++ first, mid, [], shown_text [] ++ others, rw all.0 (step s mid run p.bytes first one), whole, later)
+      let whole : run_as Gives.writing run ++ own ≡ (run_as Gives.writing run ++ first) ++ (run_as Gives.writing [] ++ others) =
+      ap (λ (t : List ℕ). run_as Gives.writing run ++ t) e ∙ sym (append_assoc (run_as Gives.writing run) first others) ∙ ap (λ (t : List ℕ). (run_as Gives.writing run ++ first) ++ (t ++ others)) (sym (shown_none Gives.writing)) in
+      (run_as Gives.writing run ++ first, mid, [], run_as Gives.writing [] ++ others, rw all.0 (step s mid run p.bytes first one), whole, later)
 
   pub record Spanned (s : S) (run chars : List ℕ) (ps : List Part) (more : List ℕ) (after : S) (held : List ℕ) : Type 0 where
     pub text : List ℕ
@@ -84,20 +84,21 @@ module _ {S : Type 0} (Gives : RuleOf S) where
     pub read : List ℕ
     pub steps : AreSteps Gives s run ps text after left
     pub is_read : IsRead left read held
-    pub same : shown_chars chars ++ more ≡ text ++ shown_chars read
+    pub same : chars_as Gives.writing chars ++ more ≡ text ++ chars_as Gives.writing read
 
   -- a span that ends the run
-  ended : (s : S) (run chars held : List ℕ) (ps : List Part) (own more : List ℕ) (after : S) (left : List ℕ) → IsRead run chars held → more ≡ shown_text held ++ own → left ≡ []
-      → AreSteps Gives s run ps (shown_text run ++ own) after [] → Spanned s run chars ps more after left
+  ended : (s : S) (run chars held : List ℕ) (ps : List Part) (own more : List ℕ) (after : S) (left : List ℕ) → IsRead run chars held → more ≡ run_as Gives.writing held ++ own → left ≡ []
+      → AreSteps Gives s run ps (run_as Gives.writing run ++ own) after [] → Spanned s run chars ps more after left
   ended s run chars held ps own more after left read e none steps = record {
-    text = shown_text run ++ own;
+    text = run_as Gives.writing run ++ own;
     left = [];
     read = [];
     steps = steps;
     is_read = rw none (read_none []);
     same =
-        ap (λ t. shown_chars chars ++ t) e ∙ sym (append_assoc (shown_chars chars) (shown_text held) own)
-        ∙ ap (λ t. t ++ own) (sym (shown_read run chars held read)) ∙ sym (append-nil (shown_text run ++ own));
+        ap (λ t. chars_as Gives.writing chars ++ t) e ∙ sym (append_assoc (chars_as Gives.writing chars) (run_as Gives.writing held) own)
+        ∙ ap (λ t. t ++ own) (sym (shown_read Gives.writing run chars held read)) ∙ sym (append-nil (run_as Gives.writing run ++ own))
+        ∙ ap (λ t. (run_as Gives.writing run ++ own) ++ t) (sym (written_none Gives.writing));
   }
 
   pub spanned : (k : Kind) (s : S) (run chars held bytes more : List ℕ) (ps : List Part) (after : S) (left : List ℕ) → IsSpan k bytes ps
@@ -109,24 +110,24 @@ module _ {S : Type 0} (Gives : RuleOf S) where
     read = chars ++ now;
     steps = rw same (subst (λ (x : List ℕ). AreSteps Gives s run ps [] s (run ++ x)) span.joined (texts ps s run span.all));
     is_read = read_more run held bytes left chars now read later.0;
-    same = ap (λ t. shown_chars chars ++ t) e ∙ sym (shown_on chars now);
+    same = ap (λ t. chars_as Gives.writing chars ++ t) e ∙ sym (shown_on Gives.writing chars now);
   }
   spanned kind.Csi s run chars held bytes more ps after left span read (own, gives, e, none) =
-      ended s run chars held ps own more after left read e none (only kind.Csi bytes (shown_text run ++ own) ps s after run span (own, gives, refl, refl))
+      ended s run chars held ps own more after left read e none (only kind.Csi bytes (run_as Gives.writing run ++ own) ps s after run span (own, gives, refl, refl))
   spanned kind.Esc s run chars held bytes more ps after left span read (e, same, none) =
-      ended s run chars held ps [] more after left read (e ∙ sym (append-nil (shown_text held))) none (only kind.Esc bytes (shown_text run ++ []) ps s after run span (append-nil (shown_text run), same, refl))
+      ended s run chars held ps [] more after left read (e ∙ sym (append-nil (run_as Gives.writing held))) none (only kind.Esc bytes (run_as Gives.writing run ++ []) ps s after run span (append-nil (run_as Gives.writing run), same, refl))
   spanned kind.Str s run chars held bytes more ps after left span read (own, given, e, none) =
       ended s run chars held ps own more after left read e none
       (parts_end kind.Str (AreGiven Gives) given_on (λ s mid run bytes own g. (own, g, refl, refl)) ps s after run own span.some span.all (rw span.joined given))
   spanned kind.Other s run chars held bytes more ps after left span read (e, same, none) =
-      ended s run chars held ps [] more after left read (e ∙ sym (append-nil (shown_text held))) none
+      ended s run chars held ps [] more after left read (e ∙ sym (append-nil (run_as Gives.writing held))) none
       (parts_end kind.Other (λ s bytes own after. (own ≡ []) × (after ≡ s)) (λ xs ys s after text h. ([], s, text, (refl, refl), h, refl))
-      (λ s mid run bytes own h. (rw h.0 (append-nil (shown_text run)), h.1, refl)) ps s after run [] span.some span.all (refl, same))
+      (λ s mid run bytes own h. (rw h.0 (append-nil (run_as Gives.writing run)), h.1, refl)) ps s after run [] span.some span.all (refl, same))
 
   -- nothing yet
   pub goes_none : (limit : ℕ) (it : Between S) → GoesBy Gives limit it [] it
   goes_none limit it run chars read =
-      record { parts = []; text = []; left = run; read = chars; first = (refl, refl); titles = refl; steps = (refl, refl, refl); is_read = read; same = append-nil (shown_chars chars) }
+      record { parts = []; text = []; left = run; read = chars; first = (refl, refl); titles = refl; steps = (refl, refl, refl); is_read = read; same = append-nil (chars_as Gives.writing chars) }
 
   -- and then more
   pub goes_then : (limit : ℕ) (old mid new : Between S) (one two : List ℕ) → GoesBy Gives limit old one mid → GoesBy Gives limit mid two new → GoesBy Gives limit old (one ++ two) new
@@ -145,8 +146,8 @@ module _ {S : Type 0} (Gives : RuleOf S) where
         steps = subst (λ (ps : List Part). AreSteps Gives old.rule run ps (g.text ++ k.text) new.rule k.left) (sym all)
             (steps_on (with_titles old.titled g.parts) (with_titles mid.titled k.parts) old.rule mid.rule new.rule run g.left k.left g.text k.text g.steps k.steps);
         is_read = k.is_read;
-        same = sym (append_assoc (shown_chars chars) one two) ∙ ap (λ (x : List ℕ). x ++ two) g.same ∙ append_assoc g.text (shown_chars g.read) two
-            ∙ ap (λ (x : List ℕ). g.text ++ x) k.same ∙ sym (append_assoc g.text k.text (shown_chars k.read));
+        same = sym (append_assoc (chars_as Gives.writing chars) one two) ∙ ap (λ (x : List ℕ). x ++ two) g.same ∙ append_assoc g.text (chars_as Gives.writing g.read) two
+            ∙ ap (λ (x : List ℕ). g.text ++ x) k.same ∙ sym (append_assoc g.text k.text (chars_as Gives.writing k.read));
       }
 
   -- a span
@@ -162,15 +163,15 @@ module _ {S : Type 0} (Gives : RuleOf S) where
   goes_split limit old new more goes = let g = goes old.held [] (read_none old.held) in (flat_map bytes_of g.parts, parts_join limit g.parts old.mode old.bytes new.bytes new.mode g.first)
 
   -- what is left over at the end
-  over : (rest : List ℕ) (t : Bool) (s : S) (run : List ℕ) → (text : List ℕ) × (left : List ℕ) × AreSteps Gives s run (with_titles t (left_over rest)) text s left × (shown_text run ≡ text ++ shown_text left)
+  over : (rest : List ℕ) (t : Bool) (s : S) (run : List ℕ) → (text : List ℕ) × (left : List ℕ) × AreSteps Gives s run (with_titles t (left_over rest)) text s left × (run_as Gives.writing run ≡ text ++ run_as Gives.writing left)
   over [] t s run = ([], run, (refl, refl, refl), refl)
   over (b ∷ rest) t s run =
-      let none = append-nil (shown_text run) in
-      (shown_text run, [], (shown_text run, s, [], [], (refl, refl, refl), sym none, (refl, refl, refl)), sym none ∙ ap (λ t. shown_text run ++ t) (sym shown_none))
+      let none = append-nil (run_as Gives.writing run) in
+      (run_as Gives.writing run, [], (run_as Gives.writing run, s, [], [], (refl, refl, refl), sym none, (refl, refl, refl)), sym none ∙ ap (λ t. run_as Gives.writing run ++ t) (sym (shown_none Gives.writing)))
 
   -- the whole stream
   pub cleans : (limit : ℕ) (s : S) (bytes appended : List ℕ) (last : Between S) → GoesBy Gives limit (record (start_of s) { bytes = bytes }) appended last → IsUnsure limit last.mode last.bytes
-      → Cleans Gives limit s bytes (appended ++ shown_text last.held) last.rule
+      → Cleans Gives limit s bytes (appended ++ run_as Gives.writing last.held) last.rule
   cleans limit s bytes appended last goes unsure =
       let g = goes [] [] (read_none []) in
       let end = left_over last.bytes in
@@ -181,8 +182,8 @@ module _ {S : Type 0} (Gives : RuleOf S) where
         before = g.text ++ text;
         run = left;
         steps = rw (titles_on false g.parts end, ← g.titles) (steps_on (with_titles false g.parts) (with_titles last.titled end) s last.rule last.rule [] g.left left g.text text g.steps steps);
-        all = ap (λ t. t ++ shown_text last.held) g.same ∙ append_assoc g.text (shown_chars g.read) (shown_text last.held)
-            ∙ ap (λ t. g.text ++ t) (sym (shown_read g.left g.read last.held g.is_read) ∙ shown) ∙ sym (append_assoc g.text text (shown_text left));
+        all = ap (λ t. (t ++ appended) ++ run_as Gives.writing last.held) (sym (written_none Gives.writing)) ∙ ap (λ t. t ++ run_as Gives.writing last.held) g.same ∙ append_assoc g.text (chars_as Gives.writing g.read) (run_as Gives.writing last.held)
+            ∙ ap (λ t. g.text ++ t) (sym (shown_read Gives.writing g.left g.read last.held g.is_read) ∙ shown) ∙ sym (append_assoc g.text text (run_as Gives.writing left));
       }
 
   -- with other bytes behind
@@ -204,17 +205,17 @@ module _ {S : Type 0} (Gives : RuleOf S) where
 
   -- the end
   pub ends : (Closes : EndOf S) (s : S) (bytes text close : List ℕ) (last : Between S) → Takes Gives (start_of s) bytes text last → Closes last.rule close
-      → Ends Gives Closes longest s bytes (text ++ (shown_text last.held ++ close))
+      → Ends Gives Closes longest s bytes (text ++ (run_as Gives.writing last.held ++ close))
   ends Closes s bytes text close last h k = record {
-    before = text ++ shown_text last.held;
+    before = text ++ run_as Gives.writing last.held;
     after = last.rule;
     close = close;
     cleans = cleans longest s bytes text last h.goes h.unsure;
     closes = k;
-    all = sym (append_assoc text (shown_text last.held) close);
+    all = sym (append_assoc text (run_as Gives.writing last.held) close);
   }
 
-  pub closed : (Closes : EndOf S) (s : S) (bytes text : List ℕ) → Transforms (Takes Gives) (Closing Closes) (start_of s) bytes text → Ends Gives Closes longest s bytes text
+  pub closed : (Closes : EndOf S) (s : S) (bytes text : List ℕ) → Transforms (Takes Gives) (Closing Gives Closes) (start_of s) bytes text → Ends Gives Closes longest s bytes text
   closed Closes s bytes text (last, sure, rest, takes, (close, closes, shown), split) = rw (split, shown) (ends Closes s bytes sure close last takes closes)
 
   -- chunks in turn are one of them all
@@ -223,5 +224,5 @@ module _ {S : Type 0} (Gives : RuleOf S) where
       taken_on (Takes Gives) (Takes Gives) (start_of s) (λ bytes text old new chunk more h k. takes_on (start_of s) old new bytes chunk text more h k) [] [] (start_of s) last chunks text (takes_none s) h
 
   pub any_chunks : (Closes : EndOf S) (s : S) (chunks : List (List ℕ)) (text close : List ℕ) (last : Between S) → AreTaken (Takes Gives) (start_of s) chunks text last → Closes last.rule close
-      → Ends Gives Closes longest s (concat chunks) (text ++ (shown_text last.held ++ close))
+      → Ends Gives Closes longest s (concat chunks) (text ++ (run_as Gives.writing last.held ++ close))
   any_chunks Closes s chunks text close last h k = ends Closes s (concat chunks) text close last (taken s chunks text last h) k

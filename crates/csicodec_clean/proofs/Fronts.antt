@@ -1,17 +1,17 @@
 -- What went out is a front of the text of the whole stream, whatever comes behind.
 use Rattle.std.proofs.Common.{◌≡◌, ℕ, false, Option, List, [], ◌∷◌, ◌++◌, refl, sym, ap, subst, ◌∙◌, append_assoc, append-nil}
 use Rattle.std.proofs.lemmas.Bool.{cond_both}
-use Rattle.std.specs.Prelude.{Result, filter}
+use Rattle.std.specs.Prelude.{None, Result, filter}
 use Rattle.bstr.specs.Utf8.{lossy_chars}
 use Rattle.csicodec_spans.specs.{declared.table.Kind.Kind, Parts.Part, Parts.IsWhole, Parts.left_over}
 use Rattle.csicodec_spans.proofs.{Kept.parts_more, Once.parts_front}
 use Rattle.csicodec_filter.specs.Transform.{Sends}
 use Rattle.csicodec_clean.specs.Cleaned.{EndOf, RuleOf, AreSteps, Ends, Strips, stripped, drops, is_text, longest}
 use Rattle.csicodec_clean.specs.Styled.{Item, item_texts, shown_items, Leaves, begun_behind, run_behind, items_behind, AreLeft, is_open, styles_of, links_of, ends_of, StylesIn, Keeping, keeps}
-use Rattle.csicodec_clean.specs.{declared.styles.Passing.Passing, Links.Begun, Links.is_linked, Links.start, Shown.shown, Shown.shown_chars, Shown.shown_text}
+use Rattle.csicodec_clean.specs.{declared.styles.Passing.Passing, Links.Begun, Links.is_linked, Links.start, Shown.shown, Shown.chars_as, Shown.run_as, Shown.shown_chars, Shown.shown_text}
 use Rattle.csicodec_clean.specs.{Shown.IsRead, Titles.title_open, Titles.with_titles, Stream.Between, Stream.Closing, Stream.Goes, Stream.IsFrontOf}
 use Rattle.csicodec_clean.specs.{Stream.Takes, Stream.start_of, Stream.with_more, Streams.StreamsOne}
-use Rattle.csicodec_clean.proofs.{Again.leaves_once, Plain.steps_stripped, Shows.shown_read, Chunks.ends, Streams.Ran, Streams.Went, Streams.one_ran}
+use Rattle.csicodec_clean.proofs.{Again.leaves_once, Plain.steps_stripped, Shows.shown_read, Shows.written_none, Chunks.ends, Streams.Ran, Streams.Went, Streams.one_ran}
 use Rattle.csicodec_clean.proofs.{Styled.part_texts, Styled.step, Styled.styles, Styled.texts_both, Styled.texts_chars, Sure.read_more, Sure.read_none}
 use Rattle.csicodec_clean.proofs.{Titles.titles_on}
 use Rattle.csicodec_spans.specs.declared.table.Kind.TheVariants as kind
@@ -30,7 +30,7 @@ read_longer run chars rest bytes h =
     subst (λ (cs : List ℕ). IsRead (run ++ bytes) cs (rest ++ bytes)) (append-nil chars) (read_more run rest bytes (rest ++ bytes) chars [] h (read_none (rest ++ bytes)))
 
 run_begins : (run chars rest : List ℕ) → IsRead run chars rest → GoesOnFrom (shown_text run) (shown_chars chars)
-run_begins run chars rest h = (shown_text rest, shown_read run chars rest h)
+run_begins run chars rest h = (shown_text rest, shown_read None run chars rest h)
 
 -- ---- stripped
 
@@ -61,9 +61,10 @@ behind Gives s read more text last all g w =
 -- what was appended, and the characters of the run that were read, are those of the parts
 goes_front : {S : Type 0} (Gives : RuleOf S) (s : S) (read text : List ℕ) (last : Between S) (rest whole : List ℕ)
     (g : Goes Gives longest [] [] (with_more (start_of s) read) text last)
-    → whole ≡ g.text ++ rest → GoesOnFrom rest (shown_chars g.read) → GoesOnFrom whole text
+    → whole ≡ g.text ++ rest → GoesOnFrom rest (chars_as Gives.writing g.read) → GoesOnFrom whole text
 goes_front Gives s read text last rest whole g e (more, f) =
-    (more, e ∙ ap (λ (t : List ℕ). g.text ++ t) f ∙ sym (append_assoc g.text (shown_chars g.read) more) ∙ ap (λ (t : List ℕ). t ++ more) (sym g.same))
+    (more, e ∙ ap (λ (t : List ℕ). g.text ++ t) f ∙ sym (append_assoc g.text (chars_as Gives.writing g.read) more) ∙ ap (λ (t : List ℕ). t ++ more) (sym g.same)
+    ∙ ap (λ (t : List ℕ). (t ++ text) ++ more) (written_none Gives.writing))
 
 module _ {S : Type 0} where
   pub strip_front : (s : S) (read more text : List ℕ) (last : Between S) → Takes drops (start_of s) read text last → IsFrontOf (Strips longest) (read ++ more) text
@@ -136,6 +137,6 @@ pub rule_ran : {S : Type 0} (Gives : RuleOf S) (Closes : EndOf S) (s : S) (Out :
     → {A E : Type 0} (result : Result A E) (i k w y : Option (List ℕ)) → Ran (Sends (Takes Gives) (start_of s)) (Ends Gives Closes longest s) Out Safe result i k w y
     → Went (Sends (Takes Gives) (start_of s)) (Ends Gives Closes longest s) Out Safe result i k w y → StreamsOne Out Safe result i k w y
 rule_ran Gives Closes s Out Safe means always safe =
-    one_ran (Takes Gives) (Closing Closes) (start_of s) (Ends Gives Closes longest s) Out Safe
+    one_ran (Takes Gives) (Closing Gives Closes) (start_of s) (Ends Gives Closes longest s) Out Safe
     (λ bytes text rest last takes (close, closes, shown). rw shown (means bytes _ (ends Gives Closes s bytes text close last takes closes))) means
-    (λ last. (let (close, closes) = always last.rule in (shown_text last.held ++ close, (close, closes, refl)))) safe
+    (λ last. (let (close, closes) = always last.rule in (run_as Gives.writing last.held ++ close, (close, closes, refl)))) safe

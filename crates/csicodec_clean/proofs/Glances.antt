@@ -7,10 +7,10 @@ use Rattle.csicodec_tokens.specs.{declared.param.CsiParam.CsiParam, Sequence.Rea
 use Rattle.csicodec_spans.specs.{declared.table.Kind.Kind, Table.Answer, Table.Anew, Table.Sequence, Table.ahead, Private.TableBy.stays, Parts.part}
 use Rattle.csicodec_spans.specs.{Parts.Allows, Parts.Cuts, Parts.IsSequence}
 use Rattle.csicodec_spans.proofs.{Agrees.opens, Apart.said, AsOne.one_alone, OneSpan.run_cut, Spanned.cut_parts}
-use Rattle.csicodec_clean.specs.{Shown.IsRead, Shown.shown_chars, Titles.read_as, Titles.title_behind, Cleaned.RuleOf, Private.Steps.BeginsWithEscape}
+use Rattle.csicodec_clean.specs.{Shown.IsRead, Shown.chars_as, Titles.read_as, Titles.title_behind, Cleaned.RuleOf, Private.Steps.BeginsWithEscape}
 use Rattle.csicodec_clean.specs.{Private.Steps.GoesTo, Private.Steps.IsAppended, Private.Steps.IsOther, Private.Steps.Tells, Private.Steps.bare_at}
 use Rattle.csicodec_clean.specs.{Stream.Between}
-use Rattle.csicodec_clean.proofs.{Shows.shown_none, Chunks.goes_none, Chunks.goes_span, Chunks.goes_split, Chunks.goes_then}
+use Rattle.csicodec_clean.proofs.{Shows.shown_none, Shows.written_none, Chunks.goes_none, Chunks.goes_span, Chunks.goes_split, Chunks.goes_then}
 use Rattle.csicodec_spans.specs.declared.table.Kind.TheVariants as kind
 use Rattle.csicodec_spans.specs.declared.table.Mode.TheVariants as mode
 
@@ -116,10 +116,10 @@ module _ {S : Type 0} (Gives : RuleOf S) (limit : ℕ) where
   pub to_split : (old new : Between S) (before after : List ℕ) → GoesTo Gives limit old new before after → (front : List ℕ) × (old.bytes ≡ front ++ new.bytes)
   to_split old new before after (more, longer, goes, front, e) = goes_split Gives limit old new more goes
 
-  pub over_told : (s : S) (bytes rest old new : List ℕ) → Tells bytes rest old new → GoesTo Gives limit (bare_at s bytes) (bare_at s rest) old new
-  over_told s bytes rest old new ([], chars, parts, (other, read), longer) = rw (longer, parts, no_chars chars read, append-nil old) (to_none (bare_at s rest) old)
+  pub over_told : (s : S) (bytes rest old new : List ℕ) → Tells Gives.writing bytes rest old new → GoesTo Gives limit (bare_at s bytes) (bare_at s rest) old new
+  over_told s bytes rest old new ([], chars, parts, (other, read), longer) = rw (longer, parts, no_chars chars read, written_none Gives.writing, append-nil old) (to_none (bare_at s rest) old)
   over_told s bytes rest old new (b ∷ text, chars, parts, (other, read), longer) =
-      to_span (bare_at s bytes) (bare_at s rest) kind.Text (b ∷ text) (shown_chars chars) old new (rw parts (told_cut limit (b ∷ text) rest (omega arith) other))
+      to_span (bare_at s bytes) (bare_at s rest) kind.Text (b ∷ text) (chars_as Gives.writing chars) old new (rw parts (told_cut limit (b ∷ text) rest (omega arith) other))
       (chars, (read, b ∷ text, sym (append-nil (b ∷ text))), refl, refl) refl longer
 
   pub over_escape : (s : S) (bytes old : List ℕ) → BeginsWithEscape bytes → GoesTo Gives limit (bare_at s bytes) (bare_at s (drop 3 bytes)) old old
@@ -127,7 +127,7 @@ module _ {S : Type 0} (Gives : RuleOf S) (limit : ℕ) where
   over_escape s (a ∷ []) old h = absurd (omega (arith, h.0))
   over_escape s (a ∷ b ∷ []) old h = absurd (omega (arith, h.0))
   over_escape s (a ∷ b ∷ c ∷ more) old (long, first, from, to, low, high) =
-      to_span (bare_at s (a ∷ b ∷ c ∷ more)) (bare_at s more) kind.Esc (27 ∷ b ∷ c ∷ []) [] old old (rw first (escape_cut limit b c more from to low high)) (sym shown_none, refl, refl) refl
+      to_span (bare_at s (a ∷ b ∷ c ∷ more)) (bare_at s more) kind.Esc (27 ∷ b ∷ c ∷ []) [] old old (rw first (escape_cut limit b c more from to low high)) (sym (shown_none Gives.writing), refl, refl) refl
       (sym (append-nil old))
 
   -- a sequence that a rule took at once, or none
@@ -138,4 +138,4 @@ module _ {S : Type 0} (Gives : RuleOf S) (limit : ℕ) where
   over_taken (suc n) s after bytes old new short taken none =
       let (text, one, gives, longer) = taken (omega arith) in
       to_span (bare_at s bytes) (bare_at after (drop (suc n) bytes)) kind.Csi (take (suc n) bytes) text old new (sequence_cut limit (suc n) bytes one short)
-      (text, gives, ap (λ t. t ++ text) (sym shown_none), refl) refl longer
+      (text, gives, ap (λ t. t ++ text) (sym (shown_none Gives.writing)), refl) refl longer

@@ -60,9 +60,16 @@ module _ {S : Type 0} (P : PassesOf S) (E : EndsOf S) (s : S) (Whole Out : List 
         let (rest, over) = always last in (unsent ++ rest, subst (Out bytes) (append_assoc sent unsent rest) (ends bytes (sent ++ unsent) rest last passed over))
     begins AreAll bytes sent (unsent, inr (all, is)) = (unsent, whole bytes (sent ++ unsent) is)
 
+    texts : Texts (Sends P s) Whole Out Safe
+    texts = record { whole = whole; begins = begins; safe = safe }
+
+    pub ran : {A E : Type 0} (result : Result A E) (i k w y : Option (List ℕ)) → Ran (Sends P s) Whole Out Safe result i k w y → Went (Sends P s) Whole Out Safe result i k w y
+        → Streams Out Safe result i k w y
+    ran result i k w y = streams (Sends P s) Whole Out Safe result i k w y texts
+
     pub one_ran : ((bytes text other : List ℕ) → Out bytes text → Out bytes other → text ≡ other) → ((read more text : List ℕ) (last : S) → P s read text last → IsFrontOf Out (read ++ more) text)
         → {A E : Type 0} (result : Result A E) (i k w y : Option (List ℕ)) → Ran (Sends P s) Whole Out Safe result i k w y → Went (Sends P s) Whole Out Safe result i k w y
         → StreamsOne Out Safe result i k w y
-    one_ran one front result i k w y = streams_one (Sends P s) Whole Out Safe result i k w y (record { whole = whole; begins = begins; safe = safe })
+    one_ran one front result i k w y = streams_one (Sends P s) Whole Out Safe result i k w y texts
         (whole_front (Sends P s) Whole (IsFrontOf Out) (λ bytes sent unsent h all o. (let (more, e) = h all o in (unsent ++ more, e ∙ append_assoc sent unsent more)))
         (λ read more text (last, passed). front read more text last passed) (λ bytes text h all o. ([], one bytes all text o (whole bytes text h) ∙ sym (append-nil text))))

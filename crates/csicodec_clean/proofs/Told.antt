@@ -7,10 +7,10 @@ use lib.Utf8.{scalar, low_scalar}
 use Rattle.bstr.specs.Utf8.{Decoded, decoded, good, or_replacement, lossy_chars, continues, second, code_of_2, code_of_3, code_of_4}
 use Rattle.bstr.proofs.lemmas.PieceLemmas.{lossy_chars-step, piece-bounds, value-1, value-6, value-9, value-12}
 use Rattle.bstr.proofs.{lemmas.EncodeLemmas.decoded-encode, lemmas.SoundLemmas.SpellsChar-decoded}
-use Rattle.csicodec_clean.specs.{Shown.shown, Shown.shown_chars, Shown.IsBehind, Shown.IsPlain, Shown.IsRead, Shown.IsTextOf, Bytes.IsPlainByte, Bytes.behind}
+use Rattle.csicodec_clean.specs.{Shown.shown, Shown.Writing, Shown.chars_as, Shown.written, Shown.IsBehind, Shown.IsPlain, Shown.IsRead, Shown.IsTextOf, Shown.IsWritten, Bytes.IsPlainByte, Bytes.behind}
 use Rattle.csicodec_clean.specs.{Bytes.plain_byte, Private.Steps.IsOther, Private.Steps.IsTold, Private.Steps.ReadsTo, Private.Steps.Tells}
 use Rattle.csicodec_clean.specs.{Private.Steps.dropped_byte, Private.Steps.IsWide}
-use Rattle.csicodec_clean.proofs.{Bytes.front_in, Plain.text_on, PlainBytes.all_both, PlainBytes.all_weaker, PlainBytes.plain_bytes, Shows.shown_on}
+use Rattle.csicodec_clean.proofs.{Bytes.front_in, Plain.text_on, PlainBytes.all_both, PlainBytes.all_weaker, PlainBytes.plain_bytes, Shows.shown_on, Shows.written_none}
 use Rattle.csicodec_clean.proofs.{Sure.read_more, Sure.read_none, Sure.read_on, Twice.all_kept}
 
 -- ---- plain bytes
@@ -78,12 +78,9 @@ read_encoded (c ∷ cs) more all =
     ∙ ap (λ (p : Decoded). or_replacement p.char ∷ lossy_chars (drop p.size (first ++ behind))) (decoded-encode c behind both.0)
     ∙ ap (λ t. c ∷ lossy_chars t) (drop-append_seam first behind) ∙ ap (λ t. c ∷ t) (read_encoded cs more both.1)
 
--- characters that are shown are told, and shown as they are
-plain_told : (text : List ℕ) (p : IsPlain text) → IsTold text p.0 × (shown_chars p.0 ≡ text)
-plain_told text (cs, scalars, all, e) = (
-  (plain_bytes text (cs, scalars, all, e), λ more. ap (λ t. lossy_chars (t ++ more)) e ∙ read_encoded cs more scalars),
-  ap encode_utf8_all (all_kept cs all) ∙ sym e,
-)
+-- characters that are shown are told
+pub plain_told : (text : List ℕ) (p : IsPlain text) → IsTold text p.0
+plain_told text (cs, scalars, all, e) = (plain_bytes text (cs, scalars, all, e), λ more. ap (λ t. lossy_chars (t ++ more)) e ∙ read_encoded cs more scalars)
 
 one_read : (b : ℕ) (bs : List ℕ) → b < 128 → lossy_chars (b ∷ bs) ≡ b ∷ lossy_chars bs
 one_read b bs a =
@@ -93,52 +90,52 @@ one_read b bs a =
 
 -- ---- what is appended for it
 
-pub tells_none : (bytes old : List ℕ) → Tells bytes bytes old old
-tells_none bytes old = ([], [], refl, (tt, read_none []), sym (append-nil old))
+pub tells_none : (w : Writing) (bytes old : List ℕ) → Tells w bytes bytes old old
+tells_none w bytes old = ([], [], refl, (tt, read_none []), sym (ap (λ t. old ++ t) (written_none w) ∙ append-nil old))
 
-pub tells_on : (bytes mid rest old one new : List ℕ) → Tells bytes mid old one → Tells mid rest one new → Tells bytes rest old new
-tells_on bytes mid rest old one new (xs, cs, e, (h, r), o) (ys, ds, f, (k, t), n) = (
+pub tells_on : (w : Writing) (bytes mid rest old one new : List ℕ) → Tells w bytes mid old one → Tells w mid rest one new → Tells w bytes rest old new
+tells_on w bytes mid rest old one new (xs, cs, e, (h, r), o) (ys, ds, f, (k, t), n) = (
   xs ++ ys,
   cs ++ ds,
   e ∙ ap (λ l. xs ++ l) f ∙ sym (append_assoc xs ys rest),
   (all_both IsOther xs ys h k, read_more xs [] ys [] cs ds r t),
-  n ∙ ap (λ l. l ++ shown_chars ds) o ∙ append_assoc old (shown_chars cs) (shown_chars ds) ∙ ap (λ l. old ++ l) (sym (shown_on cs ds)),
+  n ∙ ap (λ l. l ++ chars_as w ds) o ∙ append_assoc old (chars_as w cs) (chars_as w ds) ∙ ap (λ l. old ++ l) (sym (shown_on w cs ds)),
 )
 
 -- the plain bytes in front are what is before the others
 pub front_taken : (bytes front rest : List ℕ) → bytes ≡ front ++ rest → take (length bytes - length rest) bytes ≡ front
 front_taken bytes front rest e = grind (arith, common_steps)
 
-pub tells_shown : (bytes rest old new : List ℕ) → IsBehind shown bytes rest → new ≡ old ++ take (length bytes - length rest) bytes → Tells bytes rest old new
-tells_shown bytes rest old new (text, e, p) n =
-    let told = plain_told text p in
-    (text, p.0, e, told.0, n ∙ ap (λ t. old ++ t) (front_taken bytes text rest e ∙ sym told.1))
+pub tells_shown : (w : Writing) (bytes rest old new : List ℕ) → IsBehind shown bytes rest → IsWritten w (take (length bytes - length rest) bytes) old new
+    → Tells w bytes rest old new
+tells_shown w bytes rest old new (text, e, (cs, scalars, all, is)) h =
+    (text, cs, e, plain_told text (cs, scalars, all, is), h cs all (front_taken bytes text rest e ∙ is) ∙ ap (λ t. old ++ written w t) (sym (all_kept cs all)))
 
-pub tells_dropped : (b : ℕ) (bytes rest old : List ℕ) → bytes ≡ b ∷ rest → dropped_byte b ≡ true → Tells bytes rest old old
-tells_dropped b bytes rest old e d =
+pub tells_dropped : (w : Writing) (b : ℕ) (bytes rest old : List ℕ) → bytes ≡ b ∷ rest → dropped_byte b ≡ true → Tells w bytes rest old old
+tells_dropped w b bytes rest old e d =
     let other : IsOther b = λ is. absurd (grind (arith, nat_tests)) in
     let hidden : shown b ≡ false = grind (arith, nat_tests) in
-    (b ∷ [], b ∷ [], e, ((other, tt), λ more. one_read b more (grind (arith, nat_tests))), rw (hidden, append-nil) refl)
+    (b ∷ [], b ∷ [], e, ((other, tt), λ more. one_read b more (grind (arith, nat_tests))), rw (hidden, written_none w, append-nil) refl)
 
 -- what is told is read in front of the rest
 read_front : (text rest chars : List ℕ) → IsRead text chars [] → IsRead (text ++ rest) chars rest
 read_front text rest chars read more = ap lossy_chars (append_assoc text rest more) ∙ read (rest ++ more)
 
-pub tells_read : (bytes rest old new : List ℕ) → Tells bytes rest old new → (chars : List ℕ) × ReadsTo bytes chars rest × (new ≡ old ++ shown_chars chars)
-tells_read bytes rest old new (text, chars, parts, (other, read), out) = (chars, (rw parts (read_front text rest chars read), text, parts), out)
+pub tells_read : (w : Writing) (bytes rest old new : List ℕ) → Tells w bytes rest old new → (chars : List ℕ) × ReadsTo bytes chars rest × (new ≡ old ++ chars_as w chars)
+tells_read w bytes rest old new (text, chars, parts, (other, read), out) = (chars, (rw parts (read_front text rest chars read), text, parts), out)
 
 -- one after the other
 pub reads_on : (run mid rest first later : List ℕ) → ReadsTo run first mid → ReadsTo mid later rest → ReadsTo run (first ++ later) rest
 reads_on run mid rest first later (h, xs, e) (k, ys, f) = (read_on run mid rest first later h k, xs ++ ys, e ∙ ap (λ t. xs ++ t) f ∙ sym (append_assoc xs ys rest))
 
 -- and told behind what was read
-pub tells_more : (bytes mid from rest chars old out new : List ℕ) → ReadsTo bytes chars mid → from ≡ mid → out ≡ old ++ shown_chars chars → Tells from rest out new
-    → (all : List ℕ) × ReadsTo bytes all rest × (new ≡ old ++ shown_chars all)
-tells_more bytes mid from rest chars old out new reads same was tells =
-    let (more, told, longer) = tells_read mid rest out new (subst (λ b. Tells b rest out new) same tells) in (
+pub tells_more : (w : Writing) (bytes mid from rest chars old out new : List ℕ) → ReadsTo bytes chars mid → from ≡ mid → out ≡ old ++ chars_as w chars → Tells w from rest out new
+    → (all : List ℕ) × ReadsTo bytes all rest × (new ≡ old ++ chars_as w all)
+tells_more w bytes mid from rest chars old out new reads same was tells =
+    let (more, told, longer) = tells_read w mid rest out new (subst (λ b. Tells w b rest out new) same tells) in (
       chars ++ more,
       reads_on bytes mid rest chars more reads told,
-      longer ∙ ap (λ t. t ++ shown_chars more) was ∙ append_assoc old (shown_chars chars) (shown_chars more) ∙ ap (λ t. old ++ t) (sym (shown_on chars more)),
+      longer ∙ ap (λ t. t ++ chars_as w more) was ∙ append_assoc old (chars_as w chars) (chars_as w more) ∙ ap (λ t. old ++ t) (sym (shown_on w chars more)),
     )
 
 -- where nothing was held

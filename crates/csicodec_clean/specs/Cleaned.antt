@@ -1,8 +1,8 @@
 -- What is left of the parts of a stream: the shown characters of its runs of text, each read by itself, and what a rule
 -- gives for its control sequences.
-use Rattle.std.specs.Prelude.{ℕ, ◌≡◌, Bool, true, false, if◌then◌else◌, List, [], ◌∷◌, ◌++◌}
+use Rattle.std.specs.Prelude.{ℕ, ◌≡◌, None, Bool, true, false, if◌then◌else◌, List, [], ◌∷◌, ◌++◌}
 use Rattle.csicodec_spans.specs.{declared.table.Kind.Kind, Parts.Part, Parts.IsWhole}
-use Rattle.csicodec_clean.specs.{Shown.shown_text, Titles.with_titles}
+use Rattle.csicodec_clean.specs.{Shown.Writing, Shown.run_as, Shown.shown_text, Titles.with_titles}
 use Rattle.csicodec_spans.specs.declared.table.Kind.TheVariants as kind
 use Rattle.csicodec_spans.specs.declared.table.Mode.TheVariants as mode
 
@@ -26,9 +26,10 @@ pub record Strips (limit : ℕ) (bytes text : List ℕ) : Type 0 where
 abbrev pub longest : ℕ
 longest = 65536
 
--- what a rule gives: in the place of a control sequence, and for each byte of a control string. From a state, for what came, this
--- text, and the state then.
+-- what a rule gives: how it writes text, and what in the place of a control sequence, and for each byte of a control string. From a
+-- state, for what came, this text, and the state then.
 pub record RuleOf (S : Type 0) : Type 1 where
+  pub writing : Writing
   pub sequence : S → List ℕ → List ℕ → S → Type 0
   pub byte : S → ℕ → List ℕ → S → Type 0
 
@@ -45,10 +46,10 @@ abbrev pub IsStep : {S : Type 0} → RuleOf S → Kind → S → List ℕ → Li
 IsStep Gives kind.Text s run bytes text after left = (text ≡ []) × (after ≡ s)
     × (left ≡ run ++ bytes)
 IsStep Gives kind.Csi s run bytes text after left = (own : List ℕ)
-    × Gives.sequence s bytes own after × (text ≡ shown_text run ++ own) × (left ≡ [])
+    × Gives.sequence s bytes own after × (text ≡ run_as Gives.writing run ++ own) × (left ≡ [])
 IsStep Gives kind.Str s run bytes text after left = (own : List ℕ)
-    × AreGiven Gives s bytes own after × (text ≡ shown_text run ++ own) × (left ≡ [])
-IsStep Gives k s run bytes text after left = (text ≡ shown_text run) × (after ≡ s)
+    × AreGiven Gives s bytes own after × (text ≡ run_as Gives.writing run ++ own) × (left ≡ [])
+IsStep Gives k s run bytes text after left = (text ≡ run_as Gives.writing run) × (after ≡ s)
     × (left ≡ [])
 
 -- the parts in turn: their text, the state behind them, and the run of text that they end in
@@ -68,7 +69,7 @@ pub record Cleans {S : Type 0} (Gives : RuleOf S) (limit : ℕ) (s : S) (bytes t
   pub before : List ℕ
   pub run : List ℕ
   pub steps : AreSteps Gives s [] (with_titles false parts) before after run
-  pub all : text ≡ before ++ shown_text run
+  pub all : text ≡ before ++ run_as Gives.writing run
 
 -- what a rule writes at the end of a stream, by its state there
 abbrev pub EndOf : Type 0 → Type 1
@@ -86,7 +87,11 @@ pub record Ends {S : Type 0} (Gives : RuleOf S) (Closes : EndOf S) (limit : ℕ)
 
 -- the rule that drops every control sequence and every control string
 abbrev pub drops : {S : Type 0} → RuleOf S
-drops = record { sequence = λ s bytes text after. text ≡ []; byte = λ s b text after. text ≡ [] }
+drops = record {
+  writing = None;
+  sequence = λ s bytes text after. text ≡ [];
+  byte = λ s b text after. text ≡ [];
+}
 
 -- and writes nothing at the end
 abbrev pub ends_bare : {S : Type 0} → EndOf S

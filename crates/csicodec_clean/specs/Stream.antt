@@ -2,7 +2,7 @@
 use Rattle.std.specs.{Prelude.ℕ, Prelude.◌≡◌, Prelude.Bool, Prelude.false, Prelude.List, Prelude.[], Prelude.◌∷◌, Prelude.◌++◌, List.concat}
 use Rattle.csicodec_spans.specs.{declared.table.Mode.Mode, Parts.Part, Parts.AreFirstParts, Parts.IsUnsure}
 use Rattle.csicodec_filter.specs.Transform.{Begins as BeginsWith, EndsOf, PassesOf, Sends}
-use Rattle.csicodec_clean.specs.{Shown.IsRead, Shown.shown_chars, Shown.shown_text, Titles.title_open, Titles.with_titles, Cleaned.RuleOf, Cleaned.EndOf}
+use Rattle.csicodec_clean.specs.{Shown.IsRead, Shown.chars_as, Shown.run_as, Titles.title_open, Titles.with_titles, Cleaned.RuleOf, Cleaned.EndOf}
 use Rattle.csicodec_clean.specs.{Cleaned.AreSteps, Cleaned.Ends, Cleaned.longest}
 use Rattle.csicodec_spans.specs.declared.table.Mode.TheVariants as mode
 
@@ -33,7 +33,7 @@ pub record Goes {S : Type 0} (Gives : RuleOf S) (limit : ℕ) (run chars : List 
   pub titles : new.titled ≡ title_open old.titled parts
   pub steps : AreSteps Gives old.rule run (with_titles old.titled parts) text new.rule left
   pub is_read : IsRead left read new.held
-  pub same : shown_chars chars ++ appended ≡ text ++ shown_chars read
+  pub same : chars_as Gives.writing chars ++ appended ≡ text ++ chars_as Gives.writing read
 
 -- so it is behind any such run
 abbrev pub GoesBy : {S : Type 0} → RuleOf S → ℕ → Between S → List ℕ → Between S → Type 0
@@ -57,12 +57,12 @@ AreTaken {S} Step old (chunk ∷ chunks) text new =
 abbrev pub AnyChunks : {S : Type 0} → RuleOf S → EndOf S → Type 0
 AnyChunks {S} Gives Closes = (s : S) (chunks : List (List ℕ)) (text close : List ℕ)
     (last : Between S) → AreTaken (Takes Gives) (start_of s) chunks text last → Closes last.rule close
-    → Ends Gives Closes longest s (concat chunks) (text ++ (shown_text last.held ++ close))
+    → Ends Gives Closes longest s (concat chunks) (text ++ (run_as Gives.writing last.held ++ close))
 
 -- at the end: what is shown of the bytes that are held, and what the rule writes
-abbrev pub Closing : {S : Type 0} → EndOf S → EndsOf (Between S)
-Closing Closes last text = (close : List ℕ) × Closes last.rule close
-    × (text ≡ shown_text last.held ++ close)
+abbrev pub Closing : {S : Type 0} → RuleOf S → EndOf S → EndsOf (Between S)
+Closing Gives Closes last text = (close : List ℕ) × Closes last.rule close
+    × (text ≡ run_as Gives.writing last.held ++ close)
 
 -- what went out is a front of the text of these bytes: as far as it is sure, or, where they are all, with its end
 abbrev pub Begins : {S : Type 0} → RuleOf S → EndOf S → S → Type 0 → List ℕ → List ℕ → Type 0

@@ -1,5 +1,5 @@
 -- What is left of a stream where its styles stay: characters that are shown, known styles but concealed text and fonts, and links, where they pass.
-use Rattle.std.specs.Prelude.{ℕ, ◌≡◌, Bool, true, false, not, List, [], ◌∷◌, ◌++◌, map, filter, if◌then◌else◌, encode_utf8}
+use Rattle.std.specs.Prelude.{ℕ, ◌≡◌, None, Bool, true, false, not, List, [], ◌∷◌, ◌++◌, map, filter, if◌then◌else◌, encode_utf8}
 use Rattle.std.specs.{List.AllByRecursion, List.flat_map, Char.IsScalar}
 use Rattle.bstr.specs.Utf8.{lossy_chars}
 use Rattle.csicodec_tokens.specs.{declared.param.CsiParam.CsiParam, Sequence.Seq}
@@ -176,6 +176,7 @@ behind_byte k c = keeping k.passing k.styled
 -- the rule, over a state of which that is a part
 abbrev pub keeps : {S : Type 0} → (S → Keeping) → RuleOf S
 keeps of = record {
+  writing = None;
   sequence = λ s bytes out after.
       (actions : List Action) × IsTakenFor bytes actions
       × (out ≡ texts (map action.Sgr (kept (of s).passing.depth actions)))

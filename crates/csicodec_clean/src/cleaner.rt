@@ -1,6 +1,6 @@
 //! A stream that is cleaned as it comes.
 ghost use Rattle.std.specs.Prelude.{◌≡◌, ◌<◌, ◌≤◌, ◌++◌, ℕ, List, [], length, OnOk};
-ghost use Rattle.csicodec_clean.specs.Shown.{shown_text};
+ghost use Rattle.csicodec_clean.specs.Shown.{run_as};
 ghost use Rattle.csicodec_clean.specs.Cleaned.{longest};
 ghost use Rattle.csicodec_clean.specs.Stream.{Takes, start_of};
 
@@ -83,9 +83,9 @@ impl<R: Rule + Drop> Cleaner<R> {
     pub fn finish(&mut self, out: &mut Vec<u8>) -> Result<(), AllocError>
         ensures { OnOk result
             ((close : List ℕ) × R.closes self.old.rule close
-            × (out.new.items ≡ out.old.items ++ (shown_text self.old.held ++ close))) }
+            × (out.new.items ≡ out.old.items ++ (run_as R.gives.writing self.old.held ++ close))) }
     {
-        append_shown(&self.held, out)?;
+        append_shown::<R>(&self.held, out)?;
         self.rule.close(out)
     }
 }

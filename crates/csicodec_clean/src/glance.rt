@@ -63,7 +63,7 @@ fn append_glance<'a, T: Rule>(
     let mut rest = bytes;
     let mut more = true;
     while more {
-        let told = append_told(rest, out)?;
+        let told = append_told::<T>(rest, out)?;
         let len = take_control(rule, limit, told, out)?;
         rest = told.split_at(len).1;
         more = len > 0;

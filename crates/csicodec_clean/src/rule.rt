@@ -1,19 +1,31 @@
-//! What is written for a control sequence, and for a control string.
-ghost use Rattle.std.specs.Prelude.{◌≡◌, ◌<◌, ◌≤◌, ◌++◌, ℕ, List, OnOk, IfOk, false, length, take};
+//! How text is written, and what for a control sequence, and for a control string.
+ghost use Rattle.std.specs.Prelude.{◌≡◌, ◌<◌, ◌≤◌, ◌++◌, ◌∷◌, [], ℕ, List, OnOk, IfOk, false, encode_utf8_all, length, take};
 ghost use Rattle.csicodec_tokens.specs.Sequence.{Seq};
 ghost use Rattle.csicodec_spans.specs.Parts.{IsSequence};
 ghost use Rattle.csicodec_clean.specs.Cleaned.{RuleOf};
+ghost use Rattle.csicodec_clean.specs.Shown.{IsWritten, written};
 
 use csicodec_base::CsiParam;
 use std::alloc::AllocError;
 
-/// What is written in the place of a control sequence and of a control string, and at the end of the stream.
+/// How text is written, and what in the place of a control sequence and of a control string, and at the end of the stream.
 pub trait Rule {
-    /// From a state, in the place of a control sequence or of a byte of a control string, a text, and the state then.
+    /// How text is written; from a state, in the place of a control sequence or of a byte of a control string, a text, and the state then.
     ghost gives: { RuleOf Self };
 
     /// In this state, this text ends the output.
     ghost closes: { Self → List ℕ → Type 0 };
+
+    /// Appends so many of the first bytes, which are UTF-8 of characters that are shown.
+    fn append_text(bytes: &[u8], len: usize, out: &mut Vec<u8>) -> Result<(), AllocError>
+        requires { len ≤ length bytes.now }
+        ensures { OnOk result
+            (IsWritten gives.writing (take len bytes.now) out.old.items out.new.items) };
+
+    /// Appends a character that is shown.
+    fn append_char(char: char, out: &mut Vec<u8>) -> Result<(), AllocError>
+        ensures { OnOk result
+            (out.new.items ≡ out.old.items ++ written gives.writing (char ∷ [])) };
 
     /// Appends what stands in the place of one control sequence.
     fn rewrite(
@@ -58,6 +70,9 @@ pub trait Rule {
     fn close(&self, out: &mut Vec<u8>) -> Result<(), AllocError>
         ensures { OnOk result
             ((text : List ℕ) × closes self.now text × (out.new.items ≡ out.old.items ++ text)) };
+
+    /// A newline is written as it is.
+    ghost newline: { written gives.writing (10 ∷ []) ≡ encode_utf8_all (10 ∷ []) };
 }
 
 /// What can go back to where nothing has come, by what it is told: a rule, and a stream that one cleans.

@@ -27,7 +27,7 @@ impl<T: Rule + Drop> Transform for Cleaner<T> {
 
     ghost rests = { λ _. ⊤ };
 
-    ghost ends = { Closing T.closes };
+    ghost ends = { Closing T.gives T.closes };
 
     fn take(&mut self, bytes: &[u8], out: &mut Vec<u8>) -> Result<(), AllocError> {
         self.push(bytes, out)?;

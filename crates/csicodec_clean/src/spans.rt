@@ -4,7 +4,7 @@ ghost use Rattle.csicodec_tokens.specs.Sequence.{Seq};
 ghost use Rattle.csicodec_spans.specs.declared.table.Kind.TheVariants.{Csi as Sequence};
 ghost use Rattle.csicodec_spans.specs.Parts.{IsUnsure};
 ghost use Rattle.csicodec_clean.specs.Cleaned.{AreGiven};
-ghost use Rattle.csicodec_clean.specs.Shown.{shown_chars};
+ghost use Rattle.csicodec_clean.specs.Shown.{chars_as};
 ghost use Rattle.csicodec_clean.specs.Private.Steps.{GoesTo, IsAppended, ReadsTo, state_of};
 
 use crate::glance::append_front;
@@ -19,19 +19,23 @@ use std::alloc::AllocError;
 
 /// Appends what is shown of the text, as far as it is sure; `held` are the bytes before it that aren't, and then those at its
 /// end.
-fn append_text(held: &mut Vec<u8>, bytes: &[u8], out: &mut Vec<u8>) -> Result<(), AllocError>
+fn append_text<T: Rule>(
+    held: &mut Vec<u8>,
+    bytes: &[u8],
+    out: &mut Vec<u8>,
+) -> Result<(), AllocError>
     ensures chars { OnOk result
         ((chars : List ℕ) × ReadsTo (held.old.items ++ bytes.now) chars held.new.items
-        × (out.new.items ≡ out.old.items ++ shown_chars chars)) }
+        × (out.new.items ≡ out.old.items ++ chars_as T.gives.writing chars)) }
     ensures short { OnOk result (length held.new.items ≤ 3) }
 {
     if held.is_empty() {
-        let rest = append_sure(bytes, out)?;
+        let rest = append_sure::<T>(bytes, out)?;
         held.extend_from_slice(rest)?;
         return Ok(());
     }
     held.extend_from_slice(bytes)?;
-    let sure = held.len() - append_sure(held, out)?.len();
+    let sure = held.len() - append_sure::<T>(held, out)?.len();
     keep_from(held, sure);
     Ok(())
 }
@@ -70,9 +74,9 @@ fn append_span<T: Rule>(
     ensures short { OnOk result (length held.new.items ≤ 3) }
 {
     if kind == Kind::Text {
-        return append_text(held, bytes, out);
+        return append_text::<T>(held, bytes, out);
     }
-    append_shown(held, out)?;
+    append_shown::<T>(held, out)?;
     held.clear();
     match control {
         Some(control) => rule.rewrite(bytes, params, control, out),

@@ -147,7 +147,7 @@ pub fn append_ending(pause: Pause, bytes: &[u8], out: &mut Vec<u8>) -> Result<()
     requires { pause.held ≤ length bytes.now }
     ensures { OnOk result (out.new.items ≡ out.old.items ++ ending pause bytes.now) }
 {
-    append_shown(bytes.split_at(pause.held).0, out)?;
+    append_shown::<Dropped>(bytes.split_at(pause.held).0, out)?;
     if pause.styled {
         encode(&CSI::Sgr(Sgr::Reset), out)?;
     }

@@ -8,11 +8,14 @@ ghost use Rattle.csicodec_clean.specs.declared.colors.Depth.TheVariants.{Full as
 ghost use Rattle.csicodec_clean.specs.Marked.{IsMarked};
 ghost use Rattle.csicodec_clean.specs.Styled.{Styles, StylesIn, IsStyled, IsStyledIn, Keeping, first_kept, hides, is_open, is_reset, keeping, kept, resumed, without_links};
 
+use crate::class::LANES;
 use crate::colors::{Depth, reduced};
 use crate::links::{LinkReader, append_end};
 use crate::notes::{SequenceBuffers, StyleNote, append_noted};
 use crate::rule::{Anew, Rule};
+use crate::text::append_front;
 use crate::whole::clean_whole;
+use bstr::ByteVec;
 use csicodec::{CSI, encode};
 use csicodec_base::{CsiParam, Font, Sgr};
 use csicodec_filter::Known;
@@ -157,11 +160,21 @@ impl Kept {
 }
 
 impl Rule for Kept {
+    ghost use Rattle.std.specs.Prelude.{refl};
     ghost use Rattle.csicodec_clean.specs.Styled.{resets, keeps};
 
     ghost gives = { keeps (λ k. k) };
 
     ghost closes = { resets (λ k. k) };
+
+    #[inline(always)]
+    fn append_text(bytes: &[u8], len: usize, out: &mut Vec<u8>) -> Result<(), AllocError> {
+        append_front::<LANES>(bytes, len, out)
+    }
+
+    fn append_char(char: char, out: &mut Vec<u8>) -> Result<(), AllocError> {
+        out.push_char(char)
+    }
 
     fn rewrite(
         &mut self,
@@ -229,6 +242,8 @@ impl Rule for Kept {
         }
         Ok(())
     }
+
+    ghost newline = { refl };
 }
 
 impl Anew<Passing> for Kept {

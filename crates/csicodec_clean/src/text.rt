@@ -1,12 +1,12 @@
 //! The characters of a run of text that are shown.
 ghost use Rattle.std.specs.Prelude.{◌≡◌, ◌<◌, ◌≤◌, ◌-◌, ◌++◌, ◌∷◌, [], ℕ, List, length, take, drop, OnOk, IfOk, IfSome, IfNone};
 ghost use Rattle.bstr.specs.Utf8.{decoded};
-ghost use Rattle.csicodec_clean.specs.Shown.{shown, shown_chars, shown_text, IsCut, IsRead};
+ghost use Rattle.csicodec_clean.specs.Shown.{chars_as, run_as, shown, IsCut, IsRead};
 ghost use Rattle.csicodec_clean.specs.Private.Steps.{ReadsTo, Tells, dropped_byte};
 
-use crate::class::LANES;
+use crate::rule::Rule;
 use crate::wide::behind_shown;
-use bstr::{ByteVec, decode_utf8};
+use bstr::decode_utf8;
 use std::alloc::AllocError;
 
 /// Whether the character is a newline, a tab, or no control.
@@ -28,11 +28,12 @@ fn is_dropped(byte: u8) -> bool
 }
 
 /// Appends the character, if it is shown.
-fn append_char(char: char, out: &mut Vec<u8>) -> Result<(), AllocError>
-    ensures { OnOk result (out.new.items ≡ out.old.items ++ shown_chars (char ∷ [])) }
+fn append_char<T: Rule>(char: char, out: &mut Vec<u8>) -> Result<(), AllocError>
+    ensures { OnOk result
+        (out.new.items ≡ out.old.items ++ chars_as T.gives.writing (char ∷ [])) }
 {
     if is_shown(char) {
-        out.push_char(char)?;
+        T::append_char(char, out)?;
     }
     Ok(())
 }
@@ -84,28 +85,33 @@ pub(crate) fn append_front<const N: usize>(
     Ok(())
 }
 
-/// Appends the bytes in front that are shown as they are, and answers the others.
+/// Appends the characters in front that are shown, and answers the bytes behind them.
 #[tactic(auto, using(crate::proofs::Told::tells_shown))]
 #[inline(always)]
-fn append_plain<'a>(bytes: &'a [u8], out: &mut Vec<u8>) -> Result<&'a [u8], AllocError>
-    ensures { IfOk result (λ rest. Tells bytes.now rest.now out.old.items out.new.items) }
+fn append_plain<'a, T: Rule>(bytes: &'a [u8], out: &mut Vec<u8>) -> Result<&'a [u8], AllocError>
+    ensures { IfOk result
+        (λ rest. Tells T.gives.writing bytes.now rest.now out.old.items out.new.items) }
 {
     let rest = behind_shown(bytes);
-    append_front::<LANES>(bytes, bytes.len() - rest.len(), out)?;
+    T::append_text(bytes, bytes.len() - rest.len(), out)?;
     Ok(rest)
 }
 
 /// Appends what is shown of the text in front, up to an ESC, a control of C1 or what is no UTF-8, and answers what is behind it.
 #[inline(always)]
-pub(crate) fn append_told<'a>(bytes: &'a [u8], out: &mut Vec<u8>) -> Result<&'a [u8], AllocError>
-    ensures { IfOk result (λ rest. Tells bytes.now rest.now out.old.items out.new.items) }
+pub(crate) fn append_told<'a, T: Rule>(
+    bytes: &'a [u8],
+    out: &mut Vec<u8>,
+) -> Result<&'a [u8], AllocError>
+    ensures { IfOk result
+        (λ rest. Tells T.gives.writing bytes.now rest.now out.old.items out.new.items) }
 {
     if bytes.first() == Some(&0x1b) {
         return Ok(bytes);
     }
     let mut rest = bytes;
     loop {
-        let behind = append_plain(rest, out)?;
+        let behind = append_plain::<T>(rest, out)?;
         let Some((byte, others)) = behind.split_first() else {
             return Ok(behind);
         };
@@ -117,29 +123,33 @@ pub(crate) fn append_told<'a>(bytes: &'a [u8], out: &mut Vec<u8>) -> Result<&'a 
 }
 
 /// Appends what is shown of the characters that are sure, whatever follows, and answers the others: three bytes at most.
-pub(crate) fn append_sure<'a>(bytes: &'a [u8], out: &mut Vec<u8>) -> Result<&'a [u8], AllocError>
+pub(crate) fn append_sure<'a, T: Rule>(
+    bytes: &'a [u8],
+    out: &mut Vec<u8>,
+) -> Result<&'a [u8], AllocError>
     ensures chars { IfOk result
         (λ rest. (chars : List ℕ) × ReadsTo bytes.now chars rest.now
-        × (out.new.items ≡ out.old.items ++ shown_chars chars)) }
+        × (out.new.items ≡ out.old.items ++ chars_as T.gives.writing chars)) }
     ensures cut { IfOk result (λ rest. IsCut rest.now) }
     ensures short { IfOk result (λ rest. length rest.now ≤ 3) }
 {
-    let told = append_told(bytes, out)?;
+    let told = append_told::<T>(bytes, out)?;
     let mut rest = told;
     while let Some((char, size)) = first_sure(rest) {
-        append_char(char, out)?;
-        rest = append_told(rest.split_at(size).1, out)?;
+        append_char::<T>(char, out)?;
+        rest = append_told::<T>(rest.split_at(size).1, out)?;
     }
     Ok(rest)
 }
 
 /// Appends what is shown of the run: nothing follows it.
-pub(crate) fn append_shown(bytes: &[u8], out: &mut Vec<u8>) -> Result<(), AllocError>
-    ensures { OnOk result (out.new.items ≡ out.old.items ++ shown_text bytes.now) }
+pub(crate) fn append_shown<T: Rule>(bytes: &[u8], out: &mut Vec<u8>) -> Result<(), AllocError>
+    ensures { OnOk result
+        (out.new.items ≡ out.old.items ++ run_as T.gives.writing bytes.now) }
 {
-    let rest = append_sure(bytes, out)?;
+    let rest = append_sure::<T>(bytes, out)?;
     if !rest.is_empty() {
-        append_char('\u{FFFD}', out)?;
+        append_char::<T>('\u{FFFD}', out)?;
     }
     Ok(())
 }

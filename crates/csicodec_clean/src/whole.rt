@@ -4,16 +4,18 @@ ghost use Rattle.csicodec_spans.specs.Parts.{IsSequence};
 ghost use Rattle.csicodec_clean.specs.Shown.{IsPlain};
 ghost use Rattle.csicodec_clean.specs.Cleaned.{Ends, Strips, longest};
 
+use crate::class::LANES;
 use crate::rule::{Anew, Rule};
 use crate::spans::append_clean;
-use crate::text::append_shown;
+use crate::text::{append_front, append_shown};
+use bstr::ByteVec;
 use csicodec_base::CsiParam;
 use csicodec_spans::{LIMIT, Mode};
 use csicodec_tokens::behind_csi;
 use std::alloc::{AllocError, Global};
 
 /// What the rule leaves of the bytes, and what ends it. What isn't over at their end is dropped.
-pub(crate) fn clean_whole<T: Rule>(
+pub fn clean_whole<T: Rule>(
     alloc: Global,
     rule: &mut T,
     bytes: &[u8],
@@ -33,7 +35,7 @@ pub(crate) fn clean_whole<T: Rule>(
         bytes,
         &mut out,
     )?;
-    append_shown(&held, &mut out)?;
+    append_shown::<T>(&held, &mut out)?;
     rule.close(&mut out)?;
     Ok(out)
 }
@@ -63,11 +65,21 @@ fn sequence_len(limit: usize, bytes: &[u8]) -> usize
 pub struct Dropped;
 
 impl Rule for Dropped {
+    ghost use Rattle.std.specs.Prelude.{refl};
     ghost use Rattle.csicodec_clean.specs.Cleaned.{drops, ends_bare};
 
     ghost gives = { drops };
 
     ghost closes = { ends_bare };
+
+    #[inline(always)]
+    fn append_text(bytes: &[u8], len: usize, out: &mut Vec<u8>) -> Result<(), AllocError> {
+        append_front::<LANES>(bytes, len, out)
+    }
+
+    fn append_char(char: char, out: &mut Vec<u8>) -> Result<(), AllocError> {
+        out.push_char(char)
+    }
 
     fn rewrite(
         &mut self,
@@ -100,6 +112,8 @@ impl Rule for Dropped {
     fn close(&self, _out: &mut Vec<u8>) -> Result<(), AllocError> {
         Ok(())
     }
+
+    ghost newline = { refl };
 }
 
 impl Anew<()> for Dropped {

@@ -1,69 +1,20 @@
 -- What is left of the parts of a stream, as pieces of a page.
-use Rattle.std.proofs.Common.{◌≡◌, ℕ, Bool, true, false, List, [], ◌∷◌, ◌++◌, map, encode_utf8, encode_utf8_all, refl, sym, ap, subst, ◌∙◌, ⊎_elim, append_assoc, append-nil, arith}
+use Rattle.std.proofs.Common.{◌≡◌, ℕ, Bool, true, false, List, [], ◌∷◌, ◌++◌, map, refl, sym, ap, subst, ◌∙◌, ⊎_elim, append_assoc, append-nil, arith}
 use Rattle.std.proofs.{lemmas.Bool.and_parts, lemmas.Bool.cases_Bool, lemmas.Bool.cond_both, lemmas.Grind.flat_map-append}
-use Rattle.std.specs.{Prelude.filter, Prelude.◌||◌, Prelude.if◌then◌else◌, List.AllByRecursion, Str.all_scalars}
+use Rattle.std.specs.{Prelude.filter, Prelude.◌||◌, Prelude.if◌then◌else◌, List.AllByRecursion, List.flat_map, Str.all_scalars}
 use lib.Utf8.{scalar}
 use Rattle.bstr.specs.Utf8.{lossy_chars}
 use Rattle.csicodec_spans.specs.{declared.table.Kind.Kind, Parts.Part}
-use Rattle.csicodec_clean.specs.{Shown.shown, Shown.shown_text, Shown.IsShown, Titles.with_titles, Cleaned.IsStep, Cleaned.AreSteps, Cleaned.Ends}
-use Rattle.csicodec_clean.specs.{Cleaned.longest, Stream.Between, Stream.Takes, Stream.start_of, Addresses.is_web, Links.Address, Links.Begun, Links.IsLink}
+use Rattle.csicodec_clean.specs.{Shown.run_as, Shown.shown, Shown.IsShown, Titles.with_titles, Cleaned.IsStep, Cleaned.AreSteps, Cleaned.Ends}
+use Rattle.csicodec_clean.specs.{Cleaned.longest, Addresses.is_web, Links.Address, Links.Begun, Links.IsLink}
 use Rattle.csicodec_clean.specs.{Links.IsWithin, Links.links_in, Links.start}
-use Rattle.csicodec_filter.specs.Transform.{Begins, Sends, Transforms}
-use Rattle.csicodec_clean.proofs.{Chunks.ends as at_end, Linked.fine_behind, Linked.fine_links, Linked.links_none, Plain.kept_shown, Plain.scalars_lossy}
+use Rattle.csicodec_clean.proofs.{Linked.fine_behind, Linked.fine_links, Linked.links_none, Plain.kept_shown, Plain.scalars_lossy}
 use Rattle.csicodec_clean.proofs.{PlainBytes.all_both}
-use Rattle.csicodec_html.specs.Page.{AreLeft, Char, IsSafe, Leaves, Open, PageWith, Piece, Setting, begins, behind_actions, behind_string, closing, ends, first_set, leads, opens, pieces_behind, run_behind, shown_pieces, shuts, switch, switches, turn}
-use Rattle.csicodec_html.specs.Private.Marked.{all_marked, Finishes, Passes, closes, marked, page_byte, page_bytes, turns}
+use Rattle.csicodec_html.specs.Page.{AreLeft, Char, IsSafe, Leaves, Open, PageWith, Piece, Setting, begins, behind_actions, behind_string, closing, ends, escaped, first_set, leads, piece_text, piece_texts, opens, pieces_behind, run_behind, shown_pieces, shuts, switch, switches, turn}
+use Rattle.csicodec_html.specs.Private.Rule.{closes, pieces_bytes, turns}
 use Rattle.csicodec_html.specs.{declared.look.Look.Look, declared.markup.Markup.Markup, Look.behind_all, Look.sets_any}
 use Rattle.csicodec_html.proofs.{Leads.given, Marks.pieces}
 use Rattle.csicodec_spans.specs.declared.table.Kind.TheVariants as kind
-
-marked_chars : (cs : List ℕ) → all_marked (map Char cs) ≡ encode_utf8_all cs
-marked_chars [] = refl
-marked_chars (c ∷ cs) = ap (λ (t : List ℕ). encode_utf8 c ++ t) (marked_chars cs)
-
-marked_part : (run : List ℕ) (own others : List Piece) → all_marked (shown_pieces run ++ (own ++ others)) ≡ shown_text run ++ (all_marked own ++ all_marked others)
-marked_part run own others = simp (flat_map-append, marked_chars)
-
-record Left (parts : List Part) (s : Setting) (run text : List ℕ) (after : Setting) (last : List ℕ) : Type 0 where
-  pieces : List Piece
-  left : AreLeft s run parts pieces
-  all : (text ++ shown_text last) ++ all_marked (closing after) ≡ all_marked pieces
-
--- a part that ends the run
-ended : (p : Part) (parts : List Part) (s mid after : Setting) (run first others text last : List ℕ) (own : List Piece) → Leaves s p.kind p.bytes own mid → pieces_behind p.kind run ≡ shown_pieces run
-    → run_behind p.kind run p.bytes ≡ [] → first ≡ shown_text run ++ all_marked own → text ≡ first ++ others → Left parts mid [] others after last → Left (p ∷ parts) s run text after last
-ended p parts s mid after run first others text last own leaves before behind e all r =
-    record {
-      pieces = shown_pieces run ++ (own ++ r.pieces);
-      left = (own, mid, r.pieces, leaves, ap (λ (t : List Piece). t ++ (own ++ r.pieces)) (sym before), rw behind r.left);
-      all = rw (all, e, marked_part run own r.pieces, ← r.all) (simp append_assoc);
-    }
-
-goes : (p : Part) (parts : List Part) (k : Kind) (s mid after : Setting) (run first next others text last : List ℕ) → p.kind ≡ k → IsStep turns k s run p.bytes first mid next → text ≡ first ++ others
-    → Left parts mid next others after last → Left (p ∷ parts) s run text after last
-goes p parts kind.Text s mid after run first next others text last is (none, same, on) all r = record {
-  pieces = r.pieces;
-  left = ([], mid, r.pieces, rw is (refl, same), rw is refl, rw (is, ← on) r.left);
-  all = ap (λ (t : List ℕ). (t ++ shown_text last) ++ all_marked (closing after)) (all ∙ ap (λ (t : List ℕ). t ++ others) none) ∙ r.all;
-}
-goes p parts kind.Csi s mid after run first next others text last is (out, (actions, isof, behind, e), made, none) all r =
-    ended p parts s mid after run first others text last (turn s.markup (sets_any actions) s.look (behind_all s.look actions)) (rw is (actions, isof, behind, refl)) (rw is refl) (rw is refl)
-    (made ∙ ap (λ (t : List ℕ). shown_text run ++ t) e) all (rw none at r)
-goes p parts kind.Str s mid after run first next others text last is (out, gives, made, none) all r =
-    let g = given p.bytes s mid out gives in
-    ended p parts s mid after run first others text last (switches s.markup s.look s.to (links_in s.markup.links s.begun p.bytes)) (rw is (refl, g.1)) (rw is refl) (rw is refl)
-    (made ∙ ap (λ (t : List ℕ). shown_text run ++ t) g.0) all (rw none at r)
-goes p parts _ s mid after run first next others text last is h all r =
-    ended p parts s mid after run first others text last [] (rw is (refl, h.1)) (rw is refl) (rw is refl) (h.0 ∙ sym (append-nil (shown_text run))) all (rw h.2 at r)
-
-left_of : (parts : List Part) (s after : Setting) (run text last : List ℕ) → AreSteps turns s run parts text after last → Left parts s run text after last
-left_of [] s after run text last (none, same, e) = record {
-  pieces = shown_pieces run ++ closing s;
-  left = refl;
-  all = rw (none, same, e) (sym (flat_map-append marked (shown_pieces run) (closing s) ∙ ap (λ (t : List ℕ). t ++ all_marked (closing s)) (marked_chars (filter shown (lossy_chars run)))));
-}
-left_of (p ∷ parts) s after run text last (first, mid, next, others, step, e, rest) =
-    goes p parts p.kind s mid after run first next others text last refl step e (left_of parts mid after next others last rest)
 
 -- ---- safe
 
@@ -144,40 +95,69 @@ safe_left (p ∷ parts) s run ps h (own, after, others, leaves, e, rest) =
 pub none_begun : IsWithin start.address
 none_begun = record { params = tt; few = omega arith; url = tt; short = omega arith }
 
--- what the rule leaves, byte by byte, is the page
-pub page_of : (m : Markup) (s : Setting) (bytes text page : List ℕ) → s ≡ first_set m → Ends turns closes longest s bytes text → page ≡ page_bytes text → PageWith m bytes page
-page_of m s bytes text page starts e same =
+-- ---- what the rule leaves
+
+abbrev run_text : List ℕ → List ℕ
+run_text = run_as turns.writing
+
+chars_text : (cs : List ℕ) → piece_texts (map Char cs) ≡ flat_map escaped cs
+chars_text [] = refl
+chars_text (c ∷ cs) = ap (λ (t : List ℕ). escaped c ++ t) (chars_text cs)
+
+-- what a step of the rule gives is the text of what its part leaves
+record Step (k : Kind) (s mid : Setting) (run bytes first next : List ℕ) : Type 0 where
+  own : List Piece
+  leaves : Leaves s k bytes own mid
+  text : (others : List Piece) → piece_texts (pieces_behind k run ++ (own ++ others)) ≡ first ++ piece_texts others
+  next_run : next ≡ run_behind k run bytes
+
+-- where it ends the run
+ended : (run first given : List ℕ) (own others : List Piece) → first ≡ run_text run ++ given → piece_texts own ≡ given → piece_texts (shown_pieces run ++ (own ++ others)) ≡ first ++ piece_texts others
+ended run first given own others e same = rw (e, ← same) (simp (append_assoc, flat_map-append, chars_text))
+
+step : (k : Kind) (s mid : Setting) (run bytes first next : List ℕ) → IsWithin s.begun.address → IsStep turns k s run bytes first mid next → Step k s mid run bytes first next
+step kind.Text s mid run bytes first next h (none, same, on) = record { own = []; leaves = (refl, same); text = λ others. rw none refl; next_run = on }
+step kind.Csi s mid run bytes first next h (given, (actions, is, behind, e), made, none) =
+    let own = turn s.markup (sets_any actions) s.look (behind_all s.look actions) in
+    record { own = own; leaves = (actions, is, behind, refl); text = λ others. ended run first given own others made (sym e); next_run = none }
+step kind.Str s mid run bytes first next h (out, gives, made, none) =
+    let own = switches s.markup s.look s.to (links_in s.markup.links s.begun bytes) in
+    let g = given bytes s mid out gives in
+    let stands = pieces s.markup own (safe_string s.markup s.look s.to s.begun bytes h) in
+    record { own = own; leaves = (refl, g.1); text = λ others. ended run first out own others made (sym (g.0 ∙ stands)); next_run = none }
+step _ s mid run bytes first next h i =
+    record { own = []; leaves = (refl, i.1); text = λ others. ended run first [] [] others (i.0 ∙ sym (append-nil (run_text run))) refl; next_run = i.2 }
+
+record Left (parts : List Part) (s : Setting) (run text : List ℕ) (after : Setting) (last : List ℕ) : Type 0 where
+  pieces : List Piece
+  left : AreLeft s run parts pieces
+  all : (text ++ run_text last) ++ piece_texts (closing after) ≡ piece_texts pieces
+
+left_of : (parts : List Part) (s after : Setting) (run text last : List ℕ) → IsWithin s.begun.address → AreSteps turns s run parts text after last → Left parts s run text after last
+left_of [] s after run text last h (none, same, e) = record {
+  pieces = shown_pieces run ++ closing s;
+  left = refl;
+  all = rw (none, same, e) (sym (flat_map-append piece_text (shown_pieces run) (closing s) ∙ ap (λ (t : List ℕ). t ++ piece_texts (closing s)) (chars_text (filter shown (lossy_chars run)))));
+}
+left_of (p ∷ parts) s after run text last h (first, mid, next, others, is, e, rest) =
+    let x = step p.kind s mid run p.bytes first next h is in
+    let r = left_of parts mid after next others last (stays_behind s mid p.kind p.bytes x.own h x.leaves).fine rest in
+    record {
+      pieces = pieces_behind p.kind run ++ (x.own ++ r.pieces);
+      left = (x.own, mid, r.pieces, x.leaves, refl, subst (λ (y : List ℕ). AreLeft mid y parts r.pieces) x.next_run r.left);
+      all = rw (e, x.text r.pieces, ← r.all) (simp append_assoc);
+    }
+
+-- it is the page
+pub page_of : (m : Markup) (s : Setting) (bytes page : List ℕ) → s ≡ first_set m → Ends turns closes longest s bytes page → PageWith m bytes page
+page_of m s bytes page starts e =
     let c = e.cleans in
-    let r = left_of (with_titles false c.parts) s e.after [] c.before c.run c.steps in
-    let left = subst (λ (x : Setting). AreLeft x [] (with_titles false c.parts) r.pieces) starts r.left in
+    let fine = subst (λ (x : Setting). IsWithin x.begun.address) (sym starts) none_begun in
+    let r = left_of (with_titles false c.parts) s e.after [] c.before c.run fine c.steps in
     record {
       parts = c.parts;
       whole = c.whole;
       pieces = r.pieces;
-      left = left;
-      all = same ∙ ap page_bytes (e.all ∙ ap (λ (t : List ℕ). e.before ++ t) e.closes ∙ ap (λ (t : List ℕ). t ++ all_marked (closing e.after)) c.all ∙ r.all)
-          ∙ pieces m r.pieces (safe_left (with_titles false c.parts) (first_set m) [] r.pieces none_begun left);
+      left = subst (λ (x : Setting). AreLeft x [] (with_titles false c.parts) r.pieces) starts r.left;
+      all = e.all ∙ ap (λ (t : List ℕ). e.before ++ t) e.closes ∙ ap (λ (t : List ℕ). t ++ piece_texts (closing e.after)) c.all ∙ r.all;
     }
-
--- ---- a page that is written as it comes
-
-stream_ended : (m : Markup) (bytes text close page : List ℕ) (last : Between Setting) → Takes turns (start_of (first_set m)) bytes text last
-    → closes last.rule close → page ≡ page_bytes text ++ page_bytes (shown_text last.held ++ close) → PageWith m bytes page
-stream_ended m bytes text close page last takes closing e =
-    page_of m (first_set m) bytes (text ++ (shown_text last.held ++ close)) page refl
-    (at_end turns closes (first_set m) bytes text close last takes closing) (e ∙ sym (flat_map-append page_byte text (shown_text last.held ++ close)))
-
-pub transformed : (m : Markup) (bytes page : List ℕ) → Transforms Passes Finishes (start_of (first_set m)) bytes page → PageWith m bytes page
-transformed m bytes page (last, sure, rest, (text, takes, made), (close, closing, e), split) =
-    stream_ended m bytes text close page last takes closing (split ∙ ap (λ (t : List ℕ). t ++ rest) made ∙ ap (λ (t : List ℕ). page_bytes text ++ t) e)
-
-pub begun : (m : Markup) (AreAll : Type 0) (bytes sent : List ℕ)
-    → Begins (Sends Passes (start_of (first_set m))) (Transforms Passes Finishes (start_of (first_set m))) AreAll bytes sent → (unsent : List ℕ) × PageWith m bytes (sent ++ unsent)
-begun m AreAll bytes sent (unsent, h) = ⊎_elim
-    (λ (k : Sends Passes (start_of (first_set m)) bytes (sent ++ unsent)).
-    let (last, (text, takes, made)) = k in
-    let close = all_marked (closing last.rule) in
-    let rest = page_bytes (shown_text last.held ++ close) in
-    (unsent ++ rest, subst (PageWith m bytes) (append_assoc sent unsent rest) (stream_ended m bytes text close ((sent ++ unsent) ++ rest) last takes refl (ap (λ (t : List ℕ). t ++ rest) made))))
-    (λ (k : AreAll × Transforms Passes Finishes (start_of (first_set m)) bytes (sent ++ unsent)). (unsent, transformed m bytes (sent ++ unsent) k.1))
-    h

@@ -81,7 +81,7 @@ module _ (links linked : Bool) where
   abbrev Begins : Spot → List ℕ → List ℕ → Type 0
   Begins s bytes more = is_markup links s linked false (bytes ++ 62 ∷ more) ≡ is_markup links Inside linked true more
 
-  style_markup : (classes : Bool) (style more : List ℕ) → Fine style → Begins (Tag false (span_tag classes)) (style_attribute 34 style) more
+  style_markup : (classes : Bool) (style more : List ℕ) → Fine style → Begins (Tag false (span_tag classes)) (style_attribute style) more
   style_markup false style more h =
       let tag = codes "span style=" ++ 34 ∷ [] in
       ap (λ (t : List ℕ). is_markup links (Tag true tag) linked false t) (append_assoc style (34 ∷ []) (62 ∷ more)) ∙ fine_markup links linked false tag style (34 ∷ 62 ∷ more) h
@@ -89,10 +89,10 @@ module _ (links linked : Bool) where
       let tag = codes "span class=" ++ (no_value ++ (codes " style=" ++ 34 ∷ [])) in
       ap (λ (t : List ℕ). is_markup links (Tag true tag) linked false t) (append_assoc style (34 ∷ []) (62 ∷ more)) ∙ fine_markup links linked false tag style (34 ∷ 62 ∷ more) h
 
-  rest_markup : (classes : Bool) (l : Look) (more : List ℕ) → Begins (Tag false (span_tag classes)) (rest_attribute 34 l) more
+  rest_markup : (classes : Bool) (l : Look) (more : List ℕ) → Begins (Tag false (span_tag classes)) (rest_attribute l) more
   rest_markup classes l more =
       let at = Tag false (span_tag classes) in
-      cond_both (has_true l) (style_attribute 34 (true_colors l)) [] (λ (t : List ℕ). Begins at t more)
+      cond_both (has_true l) (style_attribute (true_colors l)) [] (λ (t : List ℕ). Begins at t more)
       (λ _. style_markup classes (true_colors l) more (true_fine l)) (λ _. grind arith)
 
   name_markup : (c : Class) (later more : List ℕ) → is_markup links (named_at true) linked false ((class_name c ++ later) ++ more) ≡ is_markup links (named_at true) linked false (later ++ more)
@@ -101,12 +101,12 @@ module _ (links linked : Bool) where
       ∙ fine_markup links linked false (codes "span class=" ++ 34 ∷ []) (class_name c) (later ++ more) (name_fine c)
 
   names_markup : (came : Bool) (slots : List (Option Class)) (l : Look) (more : List ℕ)
-      → is_markup links (named_at came) linked false (names 34 came slots ++ (rest_attribute 34 l ++ 62 ∷ more)) ≡ is_markup links Inside linked true more
+      → is_markup links (named_at came) linked false (names came slots ++ (rest_attribute l ++ 62 ∷ more)) ≡ is_markup links Inside linked true more
   names_markup true [] l more = rest_markup true l more
   names_markup false [] l more = rest_markup false l more
   names_markup came (None ∷ slots) l more = names_markup came slots l more
-  names_markup true (Some c ∷ slots) l more = name_markup c (names 34 true slots) (rest_attribute 34 l ++ 62 ∷ more) ∙ names_markup true slots l more
-  names_markup false (Some c ∷ slots) l more = name_markup c (names 34 true slots) (rest_attribute 34 l ++ 62 ∷ more) ∙ names_markup true slots l more
+  names_markup true (Some c ∷ slots) l more = name_markup c (names true slots) (rest_attribute l ++ 62 ∷ more) ∙ names_markup true slots l more
+  names_markup false (Some c ∷ slots) l more = name_markup c (names true slots) (rest_attribute l ++ 62 ∷ more) ∙ names_markup true slots l more
 
 -- ---- the tags
 
@@ -117,15 +117,15 @@ begin_markup links linked m l more = by m.classes
     look = settled m.palette l
 
     by : (b : Bool) → is_markup links (Tag false (codes "span")) linked false
-        (((if b then names 34 false (classes_of look) ++ rest_attribute 34 look else style_attribute 34 (css m.palette look)) ++ 62 ∷ []) ++ more)
+        (((if b then names false (classes_of look) ++ rest_attribute look else style_attribute (css m.palette look)) ++ 62 ∷ []) ++ more)
         ≡ is_markup links Inside linked true more
     by true =
-        let slots = names 34 false (classes_of look) in
-        let rest = rest_attribute 34 look in
+        let slots = names false (classes_of look) in
+        let rest = rest_attribute look in
         ap (λ (t : List ℕ). is_markup links (Tag false (codes "span")) linked false t) (append_assoc (slots ++ rest) (62 ∷ []) more ∙ append_assoc slots rest (62 ∷ more))
         ∙ names_markup links linked false (classes_of look) look more
     by false =
-        let style = style_attribute 34 (css m.palette look) in
+        let style = style_attribute (css m.palette look) in
         ap (λ (t : List ℕ). is_markup links (Tag false (codes "span")) linked false t) (append_assoc style (62 ∷ []) more)
         ∙ style_markup links linked false (css m.palette look) more (css_fine m.palette look)
 

@@ -8,7 +8,7 @@ use Rattle.csicodec_actions.specs.Actions.{Action}
 use Rattle.csicodec_terminal.specs.Terminal.{Terminal}
 use Rattle.csicodec_spans.specs.Parts.{IsSequence}
 use Rattle.csicodec_html.specs.{declared.look.Look.Look, declared.markup.Markup.Markup, declared.turns.InFront.InFront, declared.turns.Turn.Turn}
-use Rattle.csicodec_html.specs.{Look.behind_all, Look.sets_any, Page.Setting, Page.setting, Page.turn, Private.Marked.all_marked, Private.Marked.turns}
+use Rattle.csicodec_html.specs.{Look.behind_all, Look.sets_any, Page.Setting, Page.piece_texts, Page.setting, Page.turn, Private.Rule.turns}
 use Rattle.csicodec_html.specs.{Private.Turns.IsTurned, Turns.Fits, Turns.IsTold, Turns.IsTurn}
 use Rattle.csicodec_names.specs.contracts.color.ColorSpecPartialEq.TheImpl as color_eq
 use Rattle.csicodec_names.specs.contracts.color.IntensityPartialEq.TheImpl as intensity_eq
@@ -83,12 +83,12 @@ given s bytes tags new (actions, is, behind, same) =
 -- from what was read
 pub read : (m : Markup) (bytes : List ℕ) (list : List CsiParam) (final : ℕ) (old new : Look) (comes : Bool) (actions : List Action)
     → Seq bytes list final → Terminal list false final actions
-    → new ≡ behind_all old actions → comes ≡ sets_any actions → IsTurned m bytes old new (all_marked (turn m comes old new))
+    → new ≡ behind_all old actions → comes ≡ sets_any actions → IsTurned m bytes old new (piece_texts (turn m comes old new))
 read m bytes list final old new comes actions seq are behind sets = (
   actions,
   (list, final, seq, are),
   behind,
-  ap (λ (b : Bool). all_marked (turn m b old new)) sets ∙ ap (λ (l : Look). all_marked (turn m (sets_any actions) old l)) behind,
+  ap (λ (b : Bool). piece_texts (turn m b old new)) sets ∙ ap (λ (l : Look). piece_texts (turn m (sets_any actions) old l)) behind,
 )
 
 -- what was appended last

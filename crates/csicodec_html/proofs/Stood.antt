@@ -2,7 +2,7 @@
 use Rattle.std.proofs.Common.{◌≡◌, ℕ, ◌==◌, Bool, true, false, List, [], ◌∷◌, ◌++◌, refl, sym, ap, ◌∙◌, append_assoc}
 use Rattle.std.proofs.lemmas.Bool.{false≢true, ne_eqb}
 use Rattle.std.specs.List.{AllByRecursion}
-use Rattle.csicodec_html.specs.Private.Marked.{Stands, page_byte, page_bytes, stands}
+use Rattle.csicodec_html.specs.Private.Rule.{Stands, page_byte, page_bytes, stands}
 
 -- a number that passes a test isn't one that doesn't
 pub differs : (test : ℕ → Bool) (b k : ℕ) → test b ≡ true → test k ≡ false → (b == k) ≡ false
@@ -11,7 +11,7 @@ differs test b k h f = ne_eqb b k (λ e. false≢true (sym f ∙ (ap test (sym e
 pub one : (b : ℕ) → Stands b → page_byte b ≡ b ∷ []
 one b h =
     let d = λ (k : ℕ) (f : stands k ≡ false). differs stands b k h f in
-    rw (d 38 refl, d 60 refl, d 62 refl, d 34 refl, d 39 refl, d 1 refl, d 2 refl, d 3 refl, d 4 refl, d 5 refl, d 6 refl) refl
+    rw (d 38 refl, d 60 refl, d 62 refl, d 34 refl, d 39 refl) refl
 
 pub run_stands : (front rest : List ℕ) → AllByRecursion Stands front → page_bytes (front ++ rest) ≡ front ++ page_bytes rest
 run_stands [] rest h = refl

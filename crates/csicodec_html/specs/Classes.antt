@@ -92,24 +92,24 @@ classes_of l =
     ∷ color_class (ground_part l) (class_if l.inverse kind.GroundAsText) (ground_color l)
     ∷ color_class part.Line None (lines_color l) ∷ []
 
--- ---- the attributes of a span, where `q` is the byte that stands for a quotation mark
+-- ---- the attributes of a span
 
 -- what stands ahead of a class, by whether one came before
-abbrev pub ahead : ℕ → Bool → List ℕ
-ahead q came = if came then 32 ∷ [] else codes " class=" ++ q ∷ []
+abbrev pub ahead : Bool → List ℕ
+ahead came = if came then 32 ∷ [] else codes " class=\""
 
-abbrev pub slot_text : ℕ → Bool → Option Class → List ℕ
-slot_text q came None = []
-slot_text q came (Some c) = ahead q came ++ class_name c
+abbrev pub slot_text : Bool → Option Class → List ℕ
+slot_text came None = []
+slot_text came (Some c) = ahead came ++ class_name c
 
 abbrev pub behind_slot : Bool → Option Class → Bool
 behind_slot came None = came
 behind_slot came (Some c) = true
 
 -- the names of the classes that are there, with a blank between two; no attribute where there are none
-abbrev pub names : ℕ → Bool → List (Option Class) → List ℕ
-names q came [] = if came then q ∷ [] else []
-names q came (slot ∷ slots) = slot_text q came slot ++ names q (behind_slot came slot) slots
+abbrev pub names : Bool → List (Option Class) → List ℕ
+names came [] = if came then 34 ∷ [] else []
+names came (slot ∷ slots) = slot_text came slot ++ names (behind_slot came slot) slots
 
 abbrev pub is_true : ColorSpec → Bool
 is_true color.Default = false
@@ -130,18 +130,18 @@ true_colors l =
 abbrev pub has_true : Look → Bool
 has_true l = is_true (text_color l) || (is_true (ground_color l) || is_true (lines_color l))
 
-abbrev pub style_attribute : ℕ → List ℕ → List ℕ
-style_attribute q style = codes " style=" ++ (q ∷ (style ++ q ∷ []))
+abbrev pub style_attribute : List ℕ → List ℕ
+style_attribute style = codes " style=\"" ++ (style ++ 34 ∷ [])
 
 -- colours by their parts stand in a style where all else is a class
-abbrev pub rest_attribute : ℕ → Look → List ℕ
-rest_attribute q l = if has_true l then style_attribute q (true_colors l) else []
+abbrev pub rest_attribute : Look → List ℕ
+rest_attribute l = if has_true l then style_attribute (true_colors l) else []
 
-abbrev pub attributes_of : ℕ → Markup → Look → List ℕ
-attributes_of q m l =
-    if m.classes then names q false (classes_of l) ++ rest_attribute q l
-    else style_attribute q (css m.palette l)
+abbrev pub attributes_of : Markup → Look → List ℕ
+attributes_of m l =
+    if m.classes then names false (classes_of l) ++ rest_attribute l
+    else style_attribute (css m.palette l)
 
 -- of the look as it can be read
-abbrev pub attributes : ℕ → Markup → Look → List ℕ
-attributes q m l = attributes_of q m (settled m.palette l)
+abbrev pub attributes : Markup → Look → List ℕ
+attributes m l = attributes_of m (settled m.palette l)

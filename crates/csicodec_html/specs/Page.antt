@@ -38,7 +38,7 @@ pub data Piece : Type 0 where
 
 abbrev pub piece_text : Piece → List ℕ
 piece_text (Char c) = escaped c
-piece_text (Begin m l) = codes "<span" ++ (attributes 34 m l ++ 62 ∷ [])
+piece_text (Begin m l) = codes "<span" ++ (attributes m l ++ 62 ∷ [])
 piece_text End = codes "</span>"
 piece_text (Open url) = codes "<a rel=" ++ (34 ∷ (relation ++ (34 ∷ (codes " href=" ++ (34 ∷ (flat_map escaped url ++ 34 ∷ 62 ∷ []))))))
 piece_text Shut = codes "</a>"

@@ -1,2 +1,2 @@
-pub mod Marked
+pub mod Rule
 pub mod Turns

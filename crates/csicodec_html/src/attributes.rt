@@ -1,8 +1,8 @@
-//! The tag that begins a span, with controls in place of its markup.
-ghost use Rattle.std.specs.Prelude.{◌≡◌, ◌++◌, OnOk};
-ghost use Rattle.csicodec_html.specs.Classes.{has_true, is_true, rest_attribute, true_color, true_colors};
-ghost use Rattle.csicodec_html.specs.Look.{is_exact, legible_look, settled, settled_color};
-ghost use Rattle.csicodec_html.specs.Private.Marked.{begin_tag, classed, styled};
+//! The tag that begins a span.
+ghost use Rattle.std.specs.Prelude.{◌≡◌, ◌++◌, false, OnOk};
+ghost use Rattle.csicodec_html.specs.Classes.{attributes, classes_of, has_true, is_true, names, rest_attribute, style_attribute, true_color, true_colors};
+ghost use Rattle.csicodec_html.specs.Look.{css, is_exact, legible_look, settled, settled_color};
+ghost use Rattle.csicodec_html.specs.Page.{Begin, piece_text};
 
 use crate::classes::{Layer, append_classes};
 use crate::colors::{append_parts, append_property_of};
@@ -51,17 +51,16 @@ fn append_true_colors(look: Look, out: &mut Vec<u8>) -> Result<(), AllocError>
     append_true(Layer::Line, look.lines_color(), out)
 }
 
-/// Appends the style of what no class says, if there is anything. `quote` stands for a quotation mark.
-fn append_rest(look: Look, quote: u8, out: &mut Vec<u8>) -> Result<(), AllocError>
-    ensures { OnOk result (out.new.items ≡ out.old.items ++ rest_attribute quote look) }
+/// Appends the style of what no class says, if there is anything.
+fn append_rest(look: Look, out: &mut Vec<u8>) -> Result<(), AllocError>
+    ensures { OnOk result (out.new.items ≡ out.old.items ++ rest_attribute look) }
 {
     if !has_true(look) {
         return Ok(());
     }
-    out.extend_from_slice(b" style=")?;
-    out.push(quote)?;
+    out.extend_from_slice(b" style=\"")?;
     append_true_colors(look, out)?;
-    Ok(out.push(quote)?)
+    Ok(out.push(b'"')?)
 }
 
 /// Whether a colour is the same on a light and on a dark page.
@@ -113,56 +112,43 @@ fn settled(palette: &Palette, look: Look) -> Look
     look
 }
 
-/// Appends the tag that begins a span of this look, which has classes, and a style for colours by their parts. `less`, `quote` and `more`
-/// stand for its markup.
-fn append_classed(
-    less: u8,
-    quote: u8,
-    more: u8,
-    look: Look,
-    out: &mut Vec<u8>,
-) -> Result<(), AllocError>
-    ensures { OnOk result (out.new.items ≡ out.old.items ++ classed less quote more look) }
+/// Appends the attributes of a span of this look: classes, and a style for colours by their parts.
+fn append_classed(look: Look, out: &mut Vec<u8>) -> Result<(), AllocError>
+    ensures { OnOk result
+        (out.new.items ≡ out.old.items ++ (names false (classes_of look) ++ rest_attribute look)) }
 {
-    out.push(less)?;
-    out.extend_from_slice(b"span")?;
-    append_classes(&look.classes(), quote, out)?;
-    append_rest(look, quote, out)?;
-    Ok(out.push(more)?)
+    append_classes(&look.classes(), out)?;
+    append_rest(look, out)
 }
 
-/// The same with a style for all, between these bytes.
-fn append_styled(
-    front: &[u8],
-    back: &[u8],
-    palette: &Palette,
-    look: Look,
-    out: &mut Vec<u8>,
-) -> Result<(), AllocError>
-    ensures { OnOk result (out.new.items ≡ out.old.items ++ styled front.now back.now palette.now look) }
+/// The same with a style for all.
+fn append_styled(palette: &Palette, look: Look, out: &mut Vec<u8>) -> Result<(), AllocError>
+    ensures { OnOk result
+        (out.new.items ≡ out.old.items ++ style_attribute (css palette.now look)) }
 {
-    out.extend_from_slice(front)?;
+    out.extend_from_slice(b" style=\"")?;
     append_css(palette, look, out)?;
-    out.extend_from_slice(back)?;
-    Ok(())
+    Ok(out.push(b'"')?)
 }
 
-/// Appends the tag that begins a span that looks so, with colours that can be read beside each other. Where it is `marked`, controls stand
-/// in place of its markup.
-#[inline(never)]
-pub(crate) fn append_span(
-    marked: bool,
-    markup: &Markup,
-    look: Look,
-    out: &mut Vec<u8>,
-) -> Result<(), AllocError>
-    ensures { OnOk result (out.new.items ≡ out.old.items ++ begin_tag marked markup.now look) }
+/// Appends the attributes of a span that looks so, with colours that can be read beside each other.
+fn append_attributes(markup: &Markup, look: Look, out: &mut Vec<u8>) -> Result<(), AllocError>
+    ensures { OnOk result (out.new.items ≡ out.old.items ++ attributes markup.now look) }
 {
     let shown = settled(&markup.palette, look);
-    match (markup.classes, marked) {
-        (true, true) => append_classed(1, 3, 2, shown, out),
-        (true, false) => append_classed(b'<', b'"', b'>', shown, out),
-        (false, true) => append_styled(b"\x05", b"\x06", &markup.palette, shown, out),
-        (false, false) => append_styled(b"<span style=\"", b"\">", &markup.palette, shown, out),
+    if markup.classes {
+        append_classed(shown, out)
+    } else {
+        append_styled(&markup.palette, shown, out)
     }
+}
+
+/// Appends the tag that begins a span that looks so.
+#[inline(never)]
+pub(crate) fn append_span(markup: &Markup, look: Look, out: &mut Vec<u8>) -> Result<(), AllocError>
+    ensures { OnOk result (out.new.items ≡ out.old.items ++ piece_text (Begin markup.now look)) }
+{
+    out.extend_from_slice(b"<span")?;
+    append_attributes(markup, look, out)?;
+    Ok(out.push(b'>')?)
 }

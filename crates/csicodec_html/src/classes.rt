@@ -200,50 +200,40 @@ pub(crate) fn append_name(class: Class, out: &mut Vec<u8>) -> Result<(), AllocEr
 }
 
 /// Appends what stands ahead of a class: of the first the begin of the attribute.
-fn append_ahead(came: bool, quote: u8, out: &mut Vec<u8>) -> Result<(), AllocError>
-    ensures { OnOk result (out.new.items ≡ out.old.items ++ ahead quote came) }
+fn append_ahead(came: bool, out: &mut Vec<u8>) -> Result<(), AllocError>
+    ensures { OnOk result (out.new.items ≡ out.old.items ++ ahead came) }
 {
     if came {
         return Ok(out.push(b' ')?);
     }
-    out.extend_from_slice(b" class=")?;
-    Ok(out.push(quote)?)
+    out.extend_from_slice(b" class=\"")
 }
 
 /// Appends a class, if it is there; whether one came by now.
-fn append_slot(
-    came: bool,
-    slot: Option<Class>,
-    quote: u8,
-    out: &mut Vec<u8>,
-) -> Result<bool, AllocError>
-    ensures text { OnOk result (out.new.items ≡ out.old.items ++ slot_text quote came slot) }
+fn append_slot(came: bool, slot: Option<Class>, out: &mut Vec<u8>) -> Result<bool, AllocError>
+    ensures text { OnOk result (out.new.items ≡ out.old.items ++ slot_text came slot) }
     ensures came { IfOk result (λ now. now ≡ behind_slot came slot) }
 {
     let Some(class) = slot else {
         return Ok(came);
     };
-    append_ahead(came, quote, out)?;
+    append_ahead(came, out)?;
     append_name(class, out)?;
     Ok(true)
 }
 
-/// Appends the attribute of these classes, if one is there. `quote` stands for a quotation mark.
-pub(crate) fn append_classes(
-    slots: &[Option<Class>],
-    quote: u8,
-    out: &mut Vec<u8>,
-) -> Result<(), AllocError>
-    ensures { OnOk result (out.new.items ≡ out.old.items ++ names quote false slots.now) }
+/// Appends the attribute of these classes, if one is there.
+pub(crate) fn append_classes(slots: &[Option<Class>], out: &mut Vec<u8>) -> Result<(), AllocError>
+    ensures { OnOk result (out.new.items ≡ out.old.items ++ names false slots.now) }
 {
     let mut came = false;
     let mut rest = slots;
     while let Some((slot, behind)) = rest.split_first() {
-        came = append_slot(came, *slot, quote, out)?;
+        came = append_slot(came, *slot, out)?;
         rest = behind;
     }
     if came {
-        out.push(quote)?;
+        out.push(b'"')?;
     }
     Ok(())
 }

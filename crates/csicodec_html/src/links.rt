@@ -2,7 +2,7 @@
 ghost use Rattle.std.specs.Prelude.{◌≡◌, ◌++◌, ◌||◌, [], OnOk, if◌then◌else◌};
 ghost use Rattle.csicodec_clean.specs.Addresses.{led};
 ghost use Rattle.csicodec_html.specs.Page.{leads, switch};
-ghost use Rattle.csicodec_html.specs.Private.Marked.{all_marked};
+ghost use Rattle.csicodec_html.specs.Private.Rule.{pieces_bytes};
 
 use crate::look::Look;
 use crate::markup::Markup;
@@ -26,7 +26,7 @@ fn append_switch(
     out: &mut Vec<u8>,
 ) -> Result<(), AllocError>
     ensures { OnOk result
-        (out.new.items ≡ out.old.items ++ all_marked (switch markup.now look old.now new.now)) }
+        (out.new.items ≡ out.old.items ++ pieces_bytes (switch markup.now look old.now new.now)) }
 {
     let comes = leads_any(old, new);
     if !comes {
@@ -50,7 +50,7 @@ pub(crate) fn follow(
     ensures text { OnOk result
         (out.new.items
         ≡ out.old.items
-        ++ all_marked (if over then switch markup.now look to.old.items (led url.now) else [])) }
+        ++ pieces_bytes (if over then switch markup.now look to.old.items (led url.now) else [])) }
     ensures to { OnOk result (to.new.items ≡ (if over then led url.now else to.old.items)) }
 {
     if !over {

@@ -4,12 +4,12 @@ ghost use Rattle.std.specs.List.{prefix_len};
 ghost use Rattle.csicodec_clean.specs.Bytes.{behind};
 ghost use Rattle.csicodec_html.specs.MarkupBytes.{IsMarkup};
 ghost use Rattle.csicodec_html.specs.Page.{IsPage, IsPageWith, PageOf, PageWith};
-ghost use Rattle.csicodec_html.specs.Private.Marked.{page_byte, page_bytes, stands};
+ghost use Rattle.csicodec_html.specs.Private.Rule.{page_byte, page_bytes, stands};
 
 use crate::markup::Markup;
 use crate::rule::SpanWriter;
 use crate::standing::Standing;
-use csicodec_clean::{Cleaner, LANES, split_front};
+use csicodec_clean::{LANES, clean_whole, split_front};
 use std::alloc::{AllocError, Global};
 
 /// Appends a byte as it stands on the page.
@@ -22,12 +22,6 @@ fn append_byte(byte: u8, out: &mut Vec<u8>) -> Result<(), AllocError>
         b'>' => out.extend_from_slice(b"&gt;"),
         b'"' => out.extend_from_slice(b"&quot;"),
         b'\'' => out.extend_from_slice(b"&#39;"),
-        0x01 => Ok(out.push(b'<')?),
-        0x02 => Ok(out.push(b'>')?),
-        0x03 => Ok(out.push(b'"')?),
-        0x04 => out.extend_from_slice(b"</span>"),
-        0x05 => out.extend_from_slice(b"<span style=\""),
-        0x06 => out.extend_from_slice(b"\">"),
         _ => Ok(out.push(byte)?),
     }
 }
@@ -96,11 +90,5 @@ pub fn html_with(alloc: Global, markup: Markup, bytes: &[u8]) -> Result<Vec<u8>,
     ensures safe { IfOk result (λ out. IsPageWith markup out.items) }
     ensures tags { IfOk result (λ out. IsMarkup markup.links out.items) }
 {
-    let mut cleaner = Cleaner::new(alloc, SpanWriter::new(alloc, markup));
-    let mut marked = Vec::new(alloc);
-    cleaner.push(bytes, &mut marked)?;
-    cleaner.finish(&mut marked)?;
-    let mut out = Vec::new(alloc);
-    append_page(&marked, &mut out)?;
-    Ok(out)
+    clean_whole(alloc, &mut SpanWriter::new(alloc, markup), bytes)
 }

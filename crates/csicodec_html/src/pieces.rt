@@ -2,24 +2,14 @@
 ghost use Rattle.std.specs.Prelude.{◌≡◌, ◌++◌, List, ℕ, OnOk, encode_utf8_all, true};
 ghost use Rattle.std.specs.List.{AllByRecursion, flat_map};
 ghost use Rattle.csicodec_clean.specs.Shown.{IsShown};
-ghost use Rattle.csicodec_html.specs.Page.{ends, escaped, piece_texts, turn};
+ghost use Rattle.csicodec_html.specs.Page.{escaped, piece_texts, turn};
 
-use crate::attributes::append_span;
 use crate::look::Look;
 use crate::markup::Markup;
 use crate::page::append_page;
+use crate::tags::{append_begin, append_end};
 use bstr::ByteVec;
 use std::alloc::AllocError;
-
-/// Appends the tag that ends a span of this look, if that has one.
-fn append_end(look: Look, out: &mut Vec<u8>) -> Result<(), AllocError>
-    ensures { OnOk result (out.new.items ≡ out.old.items ++ piece_texts (ends look)) }
-{
-    if look.is_plain() {
-        return Ok(());
-    }
-    out.extend_from_slice(b"</span>")
-}
 
 /// Appends the tags between text of one look and text of another.
 ///
@@ -36,10 +26,7 @@ pub fn append_turn(
     ensures { OnOk result (out.new.items ≡ out.old.items ++ piece_texts (turn markup.now true old new)) }
 {
     append_end(old, out)?;
-    if new.is_plain() {
-        return Ok(());
-    }
-    append_span(false, markup, new, out)
+    append_begin(markup, new, out)
 }
 
 /// Appends a character.

@@ -1,14 +1,14 @@
-//! What stands in the place of a control sequence, and of a control string.
+//! How text is written, and what stands in the place of a control sequence, and of a control string.
 ghost use Rattle.std.specs.Prelude.{◌≡◌, ◌++◌, ◌∷◌, [], map, OnOk};
 ghost use Rattle.csicodec_parser.specs.ActionOf.{action_of};
 ghost use Rattle.csicodec_html.specs.Look.{behind_all, sets_any};
-ghost use Rattle.csicodec_html.specs.Page.{first_set, turn};
-ghost use Rattle.csicodec_html.specs.Private.Marked.{all_marked};
+ghost use Rattle.csicodec_html.specs.Page.{first_set, piece_texts, turn};
 
 use crate::links::follow;
 use crate::look::Look;
 use crate::markup::Markup;
-use crate::tags::{append_begin, append_end, append_shut};
+use crate::pieces::{append_char, append_text, append_turn as append_tags};
+use crate::tags::{append_end, append_shut};
 use crate::turns::{InFront, Turning, Turns};
 use csicodec::CSI;
 use csicodec_base::CsiParam;
@@ -67,16 +67,15 @@ fn append_turn(
     new: Look,
     out: &mut Vec<u8>,
 ) -> Result<(), AllocError>
-    ensures { OnOk result (out.new.items ≡ out.old.items ++ all_marked (turn markup.now comes old new)) }
+    ensures { OnOk result (out.new.items ≡ out.old.items ++ piece_texts (turn markup.now comes old new)) }
 {
     if !comes {
         return Ok(());
     }
-    append_end(old, out)?;
-    append_begin(markup, new, out)
+    append_tags(markup, old, new, out)
 }
 
-/// What becomes markup, as tags that are marked.
+/// What becomes markup, as tags.
 #[derive(Clone, Copy)]
 struct Marks {
     markup: Markup,
@@ -137,11 +136,21 @@ impl SpanWriter {
 }
 
 impl Rule for SpanWriter {
-    ghost use Rattle.csicodec_html.specs.Private.Marked.{closes, turns};
+    ghost use Rattle.std.specs.Prelude.{refl};
+    ghost use Rattle.csicodec_html.specs.Private.Rule.{closes, turns};
 
     ghost gives = { turns };
 
     ghost closes = { closes };
+
+    #[inline(always)]
+    fn append_text(bytes: &[u8], len: usize, out: &mut Vec<u8>) -> Result<(), AllocError> {
+        append_text(bytes.split_at(len).0, out)
+    }
+
+    fn append_char(char: char, out: &mut Vec<u8>) -> Result<(), AllocError> {
+        append_char(char, out)
+    }
 
     fn rewrite(
         &mut self,
@@ -201,4 +210,6 @@ impl Rule for SpanWriter {
         append_end(self.look, out)?;
         append_shut(&self.to, out)
     }
+
+    ghost newline = { refl };
 }

@@ -7,8 +7,8 @@ use crate::classes::{Class, Layer, append_name};
 use crate::colors::append_parts;
 use crate::css::append_property;
 use crate::markup::Markup;
-use crate::page::append_page;
 use crate::palette::{Palette, or_own};
+use crate::pieces::append_text as append_escaped;
 use csicodec_base::{ColorSpec, SrgbaTuple};
 use csicodec_clean::strip;
 use std::alloc::{AllocError, Global};
@@ -164,7 +164,7 @@ fn title(alloc: Global, name: &[u8]) -> Result<Vec<u8>, AllocError>
 {
     let text = strip(alloc, name)?;
     let mut out = Vec::new(alloc);
-    append_page(&text, &mut out)?;
+    append_escaped(&text, &mut out)?;
     Ok(out)
 }
 

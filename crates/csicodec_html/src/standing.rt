@@ -2,17 +2,17 @@
 use csicodec_clean::{ByteClass, first_set};
 use std::simd::prelude::*;
 
-/// All bytes but those from 0 to 6, and the five characters that are written as references.
+/// All bytes but the five characters that are written as references.
 pub(crate) struct Standing;
 
 impl ByteClass for Standing {
-    ghost use Rattle.csicodec_html.specs.Private.Marked.{stands};
+    ghost use Rattle.csicodec_html.specs.Private.Rule.{stands};
 
     ghost class = { stands };
 
     #[inline(always)]
     fn has(byte: u8) -> bool {
-        byte >= 7 && byte != b'"' && byte != b'&' && byte != b'\'' && byte != b'<' && byte != b'>'
+        byte != b'"' && byte != b'&' && byte != b'\'' && byte != b'<' && byte != b'>'
     }
 
     #[inline(always)]
@@ -21,8 +21,7 @@ impl ByteClass for Standing {
         // (the two of each pair differ in one bit, and are told by one comparison)
         let brackets = lanes.simd_eq(u8x16::splat(b'<')) | lanes.simd_eq(u8x16::splat(b'>'));
         let neighbours = lanes.simd_eq(u8x16::splat(b'&')) | lanes.simd_eq(u8x16::splat(b'\''));
-        let others = lanes.simd_lt(u8x16::splat(7)) | lanes.simd_eq(u8x16::splat(b'"'));
-        let odd = brackets | neighbours | others;
+        let odd = brackets | neighbours | lanes.simd_eq(u8x16::splat(b'"'));
         first_set(odd.to_bitmask())
     }
 }

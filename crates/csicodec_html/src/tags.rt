@@ -1,31 +1,32 @@
-//! The tags, with controls in place of their markup.
+//! The tags.
 ghost use Rattle.std.specs.Prelude.{◌≡◌, ◌++◌, OnOk};
-ghost use Rattle.csicodec_html.specs.Page.{begins, ends, leads, opens, shuts};
-ghost use Rattle.csicodec_html.specs.Private.Marked.{all_marked};
+ghost use Rattle.csicodec_html.specs.Page.{begins, ends, leads, opens, piece_texts, shuts};
+ghost use Rattle.csicodec_html.specs.Private.Rule.{pieces_bytes};
 
 use crate::attributes::append_span;
 use crate::look::Look;
 use crate::markup::Markup;
+use crate::page::append_page;
 use std::alloc::AllocError;
 
 /// Appends the tag that begins a span of this look, if that has one.
 pub(crate) fn append_begin(markup: &Markup, look: Look, out: &mut Vec<u8>) -> Result<(), AllocError>
-    ensures { OnOk result (out.new.items ≡ out.old.items ++ all_marked (begins markup.now look)) }
+    ensures { OnOk result (out.new.items ≡ out.old.items ++ piece_texts (begins markup.now look)) }
 {
     if look.is_plain() {
         return Ok(());
     }
-    append_span(true, markup, look, out)
+    append_span(markup, look, out)
 }
 
 /// Appends the tag that ends a span of this look, if that has one.
 pub(crate) fn append_end(look: Look, out: &mut Vec<u8>) -> Result<(), AllocError>
-    ensures { OnOk result (out.new.items ≡ out.old.items ++ all_marked (ends look)) }
+    ensures { OnOk result (out.new.items ≡ out.old.items ++ piece_texts (ends look)) }
 {
     if look.is_plain() {
         return Ok(());
     }
-    Ok(out.push(4)?)
+    out.extend_from_slice(b"</span>")
 }
 
 /// Whether text leads there: nowhere has no bytes.
@@ -37,23 +38,23 @@ pub(crate) fn leads(to: &[u8]) -> bool
 
 /// Appends the tag that begins a link to there, if it leads anywhere.
 pub(crate) fn append_open(to: &[u8], out: &mut Vec<u8>) -> Result<(), AllocError>
-    ensures { OnOk result (out.new.items ≡ out.old.items ++ all_marked (opens to.now)) }
+    ensures { OnOk result (out.new.items ≡ out.old.items ++ pieces_bytes (opens to.now)) }
 {
     if !leads(to) {
         return Ok(());
     }
-    out.extend_from_slice(b"\x01a rel=\x03nofollow noopener noreferrer\x03 href=\x03")?;
-    out.extend_from_slice(to)?;
-    out.extend_from_slice(b"\x03\x02")?;
+    out.extend_from_slice(b"<a rel=\"nofollow noopener noreferrer\" href=\"")?;
+    append_page(to, out)?;
+    out.extend_from_slice(b"\">")?;
     Ok(())
 }
 
 /// Appends the tag that ends a link to there, if it leads anywhere.
 pub(crate) fn append_shut(to: &[u8], out: &mut Vec<u8>) -> Result<(), AllocError>
-    ensures { OnOk result (out.new.items ≡ out.old.items ++ all_marked (shuts to.now)) }
+    ensures { OnOk result (out.new.items ≡ out.old.items ++ piece_texts (shuts to.now)) }
 {
     if !leads(to) {
         return Ok(());
     }
-    out.extend_from_slice(b"\x01/a\x02")
+    out.extend_from_slice(b"</a>")
 }

@@ -5,9 +5,9 @@ use Rattle.std.specs.{Char.encode_utf8, List.AllByRecursion, Str.all_scalars}
 use lib.Utf8.{scalar}
 use Rattle.csicodec_filter.specs.Transform.{GoesOn}
 use Rattle.csicodec_filter.proofs.Sent.{goes_on}
-use Rattle.csicodec_clean.specs.{Cleaned.EndOf, Cleaned.RuleOf, Cleaned.longest, Shown.IsPlain, Shown.IsShown, Shown.shown_text, Stream.Between, Stream.GoesBy}
+use Rattle.csicodec_clean.specs.{Cleaned.EndOf, Cleaned.RuleOf, Cleaned.longest, Shown.IsPlain, Shown.IsShown, Shown.run_as, Shown.written, Stream.Between}
 use Rattle.csicodec_clean.specs.{Stream.Takes, Stream.start_of, Private.Steps.bare_at}
-use Rattle.csicodec_clean.proofs.{Chunks.takes_none, Glances.over_told, Shows.shown_none, Told.alone, Told.front_taken, Told.tells_shown}
+use Rattle.csicodec_clean.proofs.{Chunks.takes_none, Glances.over_told, Shows.shown_none, Shows.written_on, Told.alone, Told.plain_told, Twice.all_kept}
 use Rattle.csicodec_lines.specs.{declared.lines.Lines.Lines, Lines.IsWithin, Lines.ends_line, Stream.Ending, Stream.Passes}
 use Rattle.csicodec_lines.proofs.Taken.{goes_over, goes_within}
 
@@ -27,19 +27,21 @@ within : (c : ℕ) → ends_line c ≡ false → AllByRecursion IsWithin (encode
 unfolding encode_utf8
 within c other = grind (arith, nat_tests)
 
-one_char : (c : ℕ) → IsShown c → scalar c ≡ true → IsPlain (encode_utf8 c)
-one_char c shown is = (c ∷ [], and_from (scalar c) true is refl, (shown, tt), sym (append-nil (encode_utf8 c)))
-
-module _ {S P : Type 0} (Begins : P → S) (Gives : RuleOf S) (Closes : EndOf S) where
+module _ {S P : Type 0} (Begins : P → S) (Gives : RuleOf S) (Closes : EndOf S) (stays : written Gives.writing (10 ∷ []) ≡ encode_utf8_all (10 ∷ [])) where
   abbrev Step : Lines S P → List ℕ → List ℕ → Lines S P → Type 0
   Step = Passes Begins Gives Closes
 
-  -- where nothing is open, such text passes, and nothing is open behind it
-  takes_shown : (s : S) (bytes : List ℕ) → IsPlain bytes → Takes Gives (start_of s) bytes bytes (start_of s)
-  takes_shown s bytes plain =
-      let whole = sym (append-nil bytes) in
-      let (appended, out, goes, front, last) = over_told Gives longest s bytes [] [] bytes (tells_shown bytes [] [] bytes (bytes, whole, plain) (sym (front_taken bytes bytes [] whole))) in
-      record { unsure = (takes_none Gives s).unsure; goes = subst (λ (t : List ℕ). GoesBy Gives longest (bare_at s bytes) t (bare_at s [])) (sym out) goes }
+  abbrev Text : List ℕ → List ℕ
+  Text = written Gives.writing
+
+  -- where nothing is open, a character passes, and nothing is open behind it
+  takes_shown : (s : S) (c : ℕ) → IsShown c → scalar c ≡ true → Takes Gives (start_of s) (encode_utf8 c) (Text (c ∷ [])) (start_of s)
+  takes_shown s c shown is =
+      let bytes = encode_utf8 c in
+      let all = (shown, tt) in
+      let told = plain_told bytes (c ∷ [], and_from (scalar c) true is refl, all, sym (append-nil bytes)) in
+      let (appended, out, goes, front, last) = over_told Gives longest s bytes [] [] (Text (c ∷ [])) (bytes, c ∷ [], sym (append-nil bytes), told, ap Text (sym (all_kept (c ∷ []) all))) in
+      record { unsure = (takes_none Gives s).unsure; goes = rw out goes }
 
   -- a line begins, and its rule ends it without a byte
   pub record IsBlank (it : Lines S P) : Type 0 where
@@ -49,36 +51,37 @@ module _ {S P : Type 0} (Begins : P → S) (Gives : RuleOf S) (Closes : EndOf S)
 
   -- so it is where what ended the line wrote nothing
   pub is_blank : (it : Lines S P) (close before after : List ℕ) → it.line ≡ start_of (Begins it.by) → it.returned ≡ false → Closes it.line.rule close
-      → after ≡ before ++ (shown_text it.line.held ++ close)
+      → after ≡ before ++ (run_as Gives.writing it.line.held ++ close)
       → length after ≤ length before → IsBlank it
   is_blank it close before after line returned closes out few =
-      let more = shown_text it.line.held ++ close in
-      let none : close ≡ [] = nil_from_length close (omega (arith, ap length out, length-append before more, length-append (shown_text it.line.held) close, few)) in
+      let more = run_as Gives.writing it.line.held ++ close in
+      let none : close ≡ [] = nil_from_length close (omega (arith, ap length out, length-append before more, length-append (run_as Gives.writing it.line.held) close, few)) in
       record { line = line; returned = returned; closes = subst (λ (l : Between S). Closes l.rule []) line (rw none at closes) }
 
   one_shown : (old new : Lines S P) (c : ℕ) (ends : Bool) → ends_line c ≡ ends → IsShown c → scalar c ≡ true → IsBlank old → IsBlank new
-      → new.by ≡ old.by → GoesOn Step old (encode_utf8 c) (encode_utf8 c) new
+      → new.by ≡ old.by → GoesOn Step old (encode_utf8 c) (Text (c ∷ [])) new
   one_shown old new c true ends shown is old_blank new_blank by =
       let line : new.line ≡ start_of (Begins old.by) = new_blank.line ∙ ap (λ (p : P). start_of (Begins p)) by in
-      let none : Ending Closes old [] = rw old_blank.line ([], old_blank.closes, sym (append-nil _ ∙ shown_none)) in
-      rw (newline c shown ends, alone 10 (omega arith)) (goes_over Begins Gives Closes old new 10 [] (rw old_blank.returned refl) refl none by new_blank.returned line)
+      let none : Ending Gives Closes old [] = rw old_blank.line ([], old_blank.closes, sym (append-nil _ ∙ shown_none Gives.writing)) in
+      let text : Text (10 ∷ []) ≡ 10 ∷ [] = stays ∙ ap (λ (t : List ℕ). t ++ []) (alone 10 (omega arith)) in
+      rw (newline c shown ends, alone 10 (omega arith), text) (goes_over Begins Gives Closes old new 10 [] (rw old_blank.returned refl) refl none by new_blank.returned line)
   one_shown old new c false ends shown is old_blank new_blank by =
-      let own = encode_utf8 c in
       let line : new.line ≡ start_of (Begins old.by) = new_blank.line ∙ ap (λ (p : P). start_of (Begins p)) by in
-      let takes : Takes Gives old.line own own new.line = rw (old_blank.line, line) (takes_shown (Begins old.by) own (one_char c shown is)) in
-      goes_within Begins Gives Closes old new own own (some_encoded c) (within c ends) by new_blank.returned takes
+      let takes : Takes Gives old.line (encode_utf8 c) (Text (c ∷ [])) new.line = rw (old_blank.line, line) (takes_shown (Begins old.by) c shown is) in
+      goes_within Begins Gives Closes old new (encode_utf8 c) (Text (c ∷ [])) (some_encoded c) (within c ends) by new_blank.returned takes
 
   all_shown : (old new : Lines S P) (c : ℕ) (cs : List ℕ) → all_scalars (c ∷ cs) ≡ true → AllByRecursion IsShown (c ∷ cs) → IsBlank old → IsBlank new → new.by ≡ old.by
-      → GoesOn Step old (encode_utf8_all (c ∷ cs)) (encode_utf8_all (c ∷ cs)) new
+      → GoesOn Step old (encode_utf8_all (c ∷ cs)) (Text (c ∷ cs)) new
   all_shown old new c [] are shown old_blank new_blank by =
       let both = and_parts (scalar c) true are in
-      subst (λ (t : List ℕ). GoesOn Step old t t new) (sym (append-nil (encode_utf8 c))) (one_shown old new c (ends_line c) refl shown.0 both.0 old_blank new_blank by)
+      subst (λ (t : List ℕ). GoesOn Step old t (Text (c ∷ [])) new) (sym (append-nil (encode_utf8 c))) (one_shown old new c (ends_line c) refl shown.0 both.0 old_blank new_blank by)
   all_shown old new c (d ∷ cs) are shown old_blank new_blank by =
       let both = and_parts (scalar c) (all_scalars (d ∷ cs)) are in
-      let first = encode_utf8 c in
-      let others = encode_utf8_all (d ∷ cs) in
-      goes_on Step old old new first others first others (one_shown old old c (ends_line c) refl shown.0 both.0 old_blank old_blank refl) (all_shown old new d cs both.1 shown.1 old_blank new_blank by)
+      let later = d ∷ cs in
+      subst (λ (t : List ℕ). GoesOn Step old (encode_utf8_all (c ∷ later)) t new) (sym (written_on Gives.writing (c ∷ []) later))
+      (goes_on Step old old new (encode_utf8 c) (encode_utf8_all later) (Text (c ∷ [])) (Text later)
+      (one_shown old old c (ends_line c) refl shown.0 both.0 old_blank old_blank refl) (all_shown old new d cs both.1 shown.1 old_blank new_blank by))
 
-  pub goes_shown : (old new : Lines S P) (bytes : List ℕ) → 0 < length bytes → IsPlain bytes → IsBlank old → IsBlank new → new.by ≡ old.by → GoesOn Step old bytes bytes new
-  goes_shown old new bytes some ([], are, shown, e) old_blank new_blank by = absurd (omega (arith, some, ap length e))
-  goes_shown old new bytes some (c ∷ cs, are, shown, e) old_blank new_blank by = rw e (all_shown old new c cs are shown old_blank new_blank by)
+  pub goes_shown : (old new : Lines S P) (bytes : List ℕ) (p : IsPlain bytes) → 0 < length bytes → IsBlank old → IsBlank new → new.by ≡ old.by → GoesOn Step old bytes (Text p.0) new
+  goes_shown old new bytes ([], are, shown, e) some old_blank new_blank by = absurd (omega (arith, some, ap length e))
+  goes_shown old new bytes (c ∷ cs, are, shown, e) some old_blank new_blank by = rw e (all_shown old new c cs are shown old_blank new_blank by)

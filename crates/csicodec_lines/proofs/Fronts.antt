@@ -2,7 +2,7 @@
 use Rattle.std.proofs.Common.{◌≡◌, ℕ, Bool, false, Option, List, [], ◌∷◌, ◌++◌, refl, sym, ap, subst, ◌∙◌, append_assoc}
 use Rattle.std.specs.Prelude.{Result}
 use Rattle.csicodec_clean.specs.{Streams.StreamsOne, Cleaned.EndOf, Cleaned.Ends, Cleaned.RuleOf, Cleaned.longest, Stream.Between, Stream.IsFrontOf}
-use Rattle.csicodec_clean.specs.{Stream.Takes, Stream.start_of, Shown.shown_text}
+use Rattle.csicodec_clean.specs.{Stream.Takes, Stream.start_of, Shown.run_as}
 use Rattle.csicodec_clean.proofs.Streams.{Ran, Went, one_ran}
 use Rattle.csicodec_filter.specs.Transform.{Sends, Transforms}
 use Rattle.csicodec_lines.specs.{declared.lines.Lines.Lines, Lines.AreOf, Lines.ByLines, Lines.joined, Lines.lines_from, Lines.lines_of, Stream.Ending}
@@ -38,11 +38,11 @@ module _ {S P : Type 0} (Begins : P → S) (Gives : RuleOf S) (Closes : EndOf S)
 
     -- a run, where what each text is holds of the text of all lines
     pub lines_ran : ((after : S) → (close : List ℕ) × Closes after close) → (Safe : List ℕ → Type 0) → ((bytes text : List ℕ) → ByLines Out bytes text → Safe text)
-        → {A E : Type 0} (result : Result A E) (i k w y : Option (List ℕ)) → Ran (Sends Step first) (Transforms Step (Ending Closes) first) (ByLines Out) Safe result i k w y
-        → Went (Sends Step first) (Transforms Step (Ending Closes) first) (ByLines Out) Safe result i k w y → StreamsOne (ByLines Out) Safe result i k w y
+        → {A E : Type 0} (result : Result A E) (i k w y : Option (List ℕ)) → Ran (Sends Step first) (Transforms Step (Ending Gives Closes) first) (ByLines Out) Safe result i k w y
+        → Went (Sends Step first) (Transforms Step (Ending Gives Closes) first) (ByLines Out) Safe result i k w y → StreamsOne (ByLines Out) Safe result i k w y
     lines_ran always Safe safe =
         let mean = by_lines_as (Ends Gives Closes longest (Begins first.by)) Out means in
-        one_ran Step (Ending Closes) first (Transforms Step (Ending Closes) first) (ByLines Out) Safe
+        one_ran Step (Ending Gives Closes) first (Transforms Step (Ending Gives Closes) first) (ByLines Out) Safe
         (λ bytes text rest last passed ending. mean bytes (text ++ rest) (by_lines Begins Gives Closes first last bytes text rest fresh passed ending))
         (λ bytes text h. mean bytes text (transformed Begins Gives Closes first bytes text fresh h))
-        (λ last. (let (close, closes) = always last.line.rule in (shown_text last.line.held ++ close, (close, closes, refl)))) safe (one_text Out one) lines_front
+        (λ last. (let (close, closes) = always last.line.rule in (run_as Gives.writing last.line.held ++ close, (close, closes, refl)))) safe (one_text Out one) lines_front

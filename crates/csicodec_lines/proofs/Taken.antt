@@ -61,7 +61,7 @@ module _ {S P : Type 0} (Begins : P → S) (Gives : RuleOf S) (Closes : EndOf S)
   goes_joining old new b joining by returned line = goes_same old new (b ∷ []) (λ own more. rw returned (one_joins old.returned b own more joining)) by line
 
   -- one that ends a line
-  pub goes_over : (old new : Lines S P) (b : ℕ) (rest : List ℕ) → joins old.returned b ≡ false → ends_line b ≡ true → Ending Closes old rest → new.by ≡ old.by → new.returned ≡ (b == 13)
+  pub goes_over : (old new : Lines S P) (b : ℕ) (rest : List ℕ) → joins old.returned b ≡ false → ends_line b ≡ true → Ending Gives Closes old rest → new.by ≡ old.by → new.returned ≡ (b == 13)
       → new.line ≡ start_of (Begins old.by) → GoesOn Step old (b ∷ []) (rest ++ 10 ∷ []) new
   goes_over old new b rest joining ends (close, closes, shown) by returned line first read text p =
       let own = p.own ++ rest in
@@ -80,7 +80,7 @@ module _ {S P : Type 0} (Begins : P → S) (Gives : RuleOf S) (Closes : EndOf S)
       }
 
   -- the end
-  pub by_lines : (first last : Lines S P) (bytes text rest : List ℕ) → first.returned ≡ false → Step first bytes text last → Ending Closes last rest
+  pub by_lines : (first last : Lines S P) (bytes text rest : List ℕ) → first.returned ≡ false → Step first bytes text last → Ending Gives Closes last rest
       → ByLines (Ends Gives Closes longest (Begins first.by)) bytes (text ++ rest)
   by_lines first last bytes text rest fresh p (close, closes, shown) =
       let Out = Ends Gives Closes longest (Begins first.by) in
@@ -94,11 +94,11 @@ module _ {S P : Type 0} (Begins : P → S) (Gives : RuleOf S) (Closes : EndOf S)
         all = rw (p.all, joined_on p.texts own) (append_assoc (ended p.texts) p.own rest);
       }
 
-  pub transformed : (first : Lines S P) (bytes text : List ℕ) → first.returned ≡ false → Transforms Step (Ending Closes) first bytes text
+  pub transformed : (first : Lines S P) (bytes text : List ℕ) → first.returned ≡ false → Transforms Step (Ending Gives Closes) first bytes text
       → ByLines (Ends Gives Closes longest (Begins first.by)) bytes text
   transformed first bytes text fresh (last, sure, rest, passed, ending, split) = rw split (by_lines first last bytes sure rest fresh passed ending)
 
-  pub any_chunks : (by : P) (chunks : List (List ℕ)) (text rest : List ℕ) (last : Lines S P) → AreTaken (GoesOn Step) (begun Begins by) chunks text last → Ending Closes last rest
+  pub any_chunks : (by : P) (chunks : List (List ℕ)) (text rest : List ℕ) (last : Lines S P) → AreTaken (GoesOn Step) (begun Begins by) chunks text last → Ending Gives Closes last rest
       → ByLines (Ends Gives Closes longest (Begins by)) (concat chunks) (text ++ rest)
   any_chunks by chunks text rest last taken ending =
       let first = begun Begins by in

@@ -29,12 +29,12 @@ pub record Passes {S P : Type 0} (Begins : P → S) (Gives : RuleOf S) (Closes :
   pub all : text ≡ ended texts ++ own
 
 -- at the end, what ends the line
-abbrev pub Ending : {S P : Type 0} → EndOf S → EndsOf (Lines S P)
-Ending Closes last text = Closing Closes last.line text
+abbrev pub Ending : {S P : Type 0} → RuleOf S → EndOf S → EndsOf (Lines S P)
+Ending Gives Closes last text = Closing Gives Closes last.line text
 
 -- it doesn't matter how a log is cut into chunks: what they append, and the end, is the text of all of it
 abbrev pub AnyChunks : {S P : Type 0} → (P → S) → RuleOf S → EndOf S → Type 0
 AnyChunks {S} {P} Begins Gives Closes = (by : P) (chunks : List (List ℕ)) (text rest : List ℕ)
     (last : Lines S P) → AreTaken (GoesOn (Passes Begins Gives Closes)) (begun Begins by) chunks text last
-    → Ending Closes last rest
+    → Ending Gives Closes last rest
     → ByLines (Ends Gives Closes longest (Begins by)) (concat chunks) (text ++ rest)

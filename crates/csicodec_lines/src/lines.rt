@@ -127,8 +127,8 @@ impl<R: Rule + Anew<P> + Drop, P: Copy> Lines<R, P> {
         Ok(true)
     }
 
-    /// Takes the text in front that is shown as it is, of however many lines, where a line begins that its rule ends without a byte, and
-    /// answers what is behind it.
+    /// Takes the characters in front that are shown, of however many lines, where a line begins that its rule ends without a byte, and
+    /// answers what is behind them.
     fn take_shown<'a>(&mut self, bytes: &'a [u8], out: &mut Vec<u8>) -> Result<&'a [u8], AllocError>
         requires { self.old.line ≡ start_of (R.begins self.old.by) }
         ensures { IfOk result (λ rest. AddsFront (Passes R.begins R.gives R.closes)
@@ -145,7 +145,7 @@ impl<R: Rule + Anew<P> + Drop, P: Copy> Lines<R, P> {
             out.truncate(before);
             return Ok(bytes);
         }
-        out.extend_from_slice(front)?;
+        R::append_text(front, front.len(), out)?;
         Ok(rest)
     }
 
@@ -179,7 +179,7 @@ impl<R: Rule + Anew<P> + Drop, P: Copy> Transform for Lines<R, P> {
 
     ghost rests = { λ _. ⊤ };
 
-    ghost ends = { Ending R.closes };
+    ghost ends = { Ending R.gives R.closes };
 
     fn take(&mut self, bytes: &[u8], out: &mut Vec<u8>) -> Result<(), AllocError> {
         let mut rest = bytes;

@@ -3,7 +3,7 @@ use Rattle.std.specs.Prelude.{ℕ, ◌≡◌, ◌≢◌, ◌==◌, ◌≤◌, Bo
 use Rattle.std.specs.List.{AllByRecursion}
 use Rattle.bstr.specs.Utf8.{decoded_by, good}
 use Rattle.csicodec_spans.specs.{declared.table.Kind.Kind, declared.table.Mode.Mode}
-use Rattle.csicodec_clean.specs.{Shown.IsRead, Shown.shown_chars, Cleaned.RuleOf, Cleaned.IsStep, Stream.Between, Stream.GoesBy}
+use Rattle.csicodec_clean.specs.{Shown.IsRead, Shown.Writing, Shown.chars_as, Cleaned.RuleOf, Cleaned.IsStep, Stream.Between, Stream.GoesBy}
 use Rattle.csicodec_spans.specs.declared.table.Kind.TheVariants as kind
 use Rattle.csicodec_spans.specs.declared.table.Mode.TheVariants as mode
 
@@ -30,10 +30,10 @@ abbrev pub IsTold : List ℕ → List ℕ → Type 0
 IsTold text chars = AllByRecursion IsOther text × IsRead text chars []
 
 -- the text before the rest is told, and what is shown of it is appended
-abbrev pub Tells : List ℕ → List ℕ → List ℕ → List ℕ → Type 0
-Tells bytes rest old new =
+abbrev pub Tells : Writing → List ℕ → List ℕ → List ℕ → List ℕ → Type 0
+Tells w bytes rest old new =
     (text : List ℕ) × (chars : List ℕ) × (bytes ≡ text ++ rest) × IsTold text chars
-    × (new ≡ old ++ shown_chars chars)
+    × (new ≡ old ++ chars_as w chars)
 
 -- ---- spans
 
@@ -41,7 +41,7 @@ Tells bytes rest old new =
 abbrev pub IsAppended : {S : Type 0} → RuleOf S → Kind → S → List ℕ → List ℕ → List ℕ → S → List ℕ
     → Type 0
 IsAppended Gives kind.Text s held bytes text after left = (chars : List ℕ)
-    × ReadsTo (held ++ bytes) chars left × (text ≡ shown_chars chars) × (after ≡ s)
+    × ReadsTo (held ++ bytes) chars left × (text ≡ chars_as Gives.writing chars) × (after ≡ s)
 IsAppended Gives k s held bytes text after left = IsStep Gives k s held bytes text after left
 
 -- ESC, an intermediate byte and a final byte stand in front

@@ -1,11 +1,11 @@
--- What a table of control sequences that came before holds of marked text. No promise rests on this file.
+-- What a table of control sequences that came before holds of tags. No promise rests on this file.
 use Rattle.std.specs.Prelude.{ℕ, ◌≡◌, List}
 use Rattle.csicodec_actions.specs.Actions.{Action}
 use Rattle.csicodec_terminal.specs.Terminal.{IsTakenFor}
-use Rattle.csicodec_html.specs.{declared.look.Look.Look, declared.markup.Markup.Markup, Look.behind_all, Look.sets_any, Page.turn, Private.Marked.all_marked}
+use Rattle.csicodec_html.specs.{declared.look.Look.Look, declared.markup.Markup.Markup, Look.behind_all, Look.sets_any, Page.piece_texts, Page.turn}
 
 -- the bytes are one control sequence, from one look to another, and these are the tags between
 abbrev pub IsTurned : Markup → List ℕ → Look → Look → List ℕ → Type 0
 IsTurned m bytes old new tags = (actions : List Action) × IsTakenFor bytes actions
     × (new ≡ behind_all old actions)
-    × (tags ≡ all_marked (turn m (sets_any actions) old (behind_all old actions)))
+    × (tags ≡ piece_texts (turn m (sets_any actions) old (behind_all old actions)))

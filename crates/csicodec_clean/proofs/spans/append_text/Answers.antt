@@ -4,13 +4,13 @@ use Rattle.csicodec_clean.proofs.Told.{none_held}
 use Rattle.csicodec_clean.proofs.spans.append_text.Goals as goal
 
 pub returns-then-is_empty-clause-chars : goal.returns-then-is_empty-clause-chars
-returns-then-is_empty-clause-chars c =
+returns-then-is_empty-clause-chars g c =
     let (chars, reads, out) = c.in_ok-rest.ensures.chars in
     let none : length c.args.held.now.items ≡ 0 = search rules in
     (chars, none_held c.args.held.now.items c.args.bytes.now chars c.in_ok-rest.rest.now c.extend_from_slice.new.self.items none reads c.in_ok-extend_from_slice.ensures.items, out)
 
 pub returns-clause-chars : goal.returns-clause-chars
-returns-clause-chars c =
+returns-clause-chars g c =
     let (chars, reads, out) = c.in_ok-sure.ensures.chars in
     let rest = c.in_ok-sure.field-0.now in
     let behind = rest_is c.deref.result.now reads.1 rest reads.2 in

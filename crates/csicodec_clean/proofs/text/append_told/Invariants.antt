@@ -4,7 +4,7 @@ use Rattle.csicodec_clean.proofs.text.append_told.Given as goal
 
 -- some text was told
 abbrev pub invariant-loop-behind : goal.invariant-loop-behind
-invariant-loop-behind l = record { tells : Tells l.bytes l.rest l.initial.out.items l.out.items }
+invariant-loop-behind g l = record { tells : Tells g.T.Rule.gives.writing l.bytes l.rest l.initial.out.items l.out.items }
 
 abbrev pub decreases-loop-behind : goal.decreases-loop-behind
-decreases-loop-behind l = length l.rest
+decreases-loop-behind g l = length l.rest

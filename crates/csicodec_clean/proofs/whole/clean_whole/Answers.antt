@@ -1,5 +1,5 @@
 use Rattle.std.proofs.Common.{◌++◌, ap, ◌∙◌}
-use Rattle.csicodec_clean.specs.{Shown.shown_text, Cleaned.longest}
+use Rattle.csicodec_clean.specs.{Shown.run_as, Cleaned.longest}
 use Rattle.csicodec_clean.proofs.Chunks.{cleans}
 use Rattle.csicodec_clean.proofs.whole.clean_whole.Goals as goal
 
@@ -7,10 +7,10 @@ pub returns : goal.returns
 returns g c =
     let (appended, out, goes, front, last) = rw c.new-held.ensures.items at c.in_ok-_rest.ensures.goes in
     let same =
-    c.in_ok-append_shown.ensures ∙ ap (λ t. t ++ shown_text c.deref.result.now) (out ∙ ap (λ t. t ++ appended) c.new-out.ensures.items) ∙ ap (λ t. appended ++ shown_text t) c.deref.ensures.value in
+    c.in_ok-append_shown.ensures ∙ ap (λ t. t ++ run_as g.T.Rule.gives.writing c.deref.result.now) (out ∙ ap (λ t. t ++ appended) c.new-out.ensures.items) ∙ ap (λ t. appended ++ run_as g.T.Rule.gives.writing t) c.deref.ensures.value in
     let (close, closes, longer) = c.in_ok-close.ensures in
     record {
-      before = appended ++ shown_text c.append_clean.new.held.items;
+      before = appended ++ run_as g.T.Rule.gives.writing c.append_clean.new.held.items;
       after = c.append_clean.new.rule;
       close = close;
       cleans = cleans g.T.Rule.gives longest c.args.rule.now c.args.bytes.now appended _ goes c.in_ok-_rest.ensures.unsure;

@@ -4,7 +4,7 @@ use Rattle.csicodec_html.proofs.classes.append_classes.Given as goal
 
 -- what is appended, and what the other places are appended as, is what all of them are
 abbrev pub invariant-loop-slot : goal.invariant-loop-slot
-invariant-loop-slot l = l.out.items ++ names l.quote l.came l.rest ≡ l.initial.out.items ++ names l.quote false l.slots
+invariant-loop-slot l = l.out.items ++ names l.came l.rest ≡ l.initial.out.items ++ names false l.slots
 
 abbrev pub decreases-loop-slot : goal.decreases-loop-slot
 decreases-loop-slot l = length l.rest

@@ -1,5 +1,5 @@
 use Rattle.std.proofs.{Common.◌++◌, Common.◌∙◌, Common.List, Common.ℕ, Common.ap, lemmas.Result.on_ok_weaker}
-use Rattle.csicodec_html.specs.Private.Marked.{page_bytes}
+use Rattle.csicodec_html.specs.Private.Rule.{page_bytes}
 use Rattle.csicodec_html.proofs.Marks.{chars}
 use Rattle.csicodec_html.proofs.pieces.append_text.Goals as goal
 

@@ -1,21 +1,14 @@
-use Rattle.std.proofs.Common.{[], refl}
-use Rattle.csicodec_filter.specs.Transform.{Sends, Transforms}
-use Rattle.csicodec_clean.specs.Stream.{start_of}
-use Rattle.csicodec_clean.proofs.{Chunks.takes_none, Streams.Texts, Streams.streams}
-use Rattle.csicodec_html.specs.{Page.IsPageWith, Page.PageWith, Page.first_set, Private.Marked.Finishes, Private.Marked.Passes, Private.Marked.turns}
-use Rattle.csicodec_html.proofs.{Left.begun, Left.transformed, Paired.is_page}
+use Rattle.std.proofs.Common.{refl}
+use Rattle.csicodec_clean.specs.{Cleaned.Ends, Cleaned.longest, Stream.Closing, Stream.Takes, Stream.start_of}
+use Rattle.csicodec_clean.proofs.{Chunks.ends, Streams.ran}
+use Rattle.csicodec_html.specs.{Page.IsPageWith, Page.PageWith, Page.first_set, Private.Rule.closes, Private.Rule.turns}
+use Rattle.csicodec_html.proofs.{Left.page_of, Paired.is_page}
 use Rattle.csicodec_html.proofs.run.html_all_with.Goals as goal
-
-pub transform_all-requires-clause-begun : goal.transform_all-requires-clause-begun
-transform_all-requires-clause-begun g c = rw c.new.ensures ([], takes_none turns (first_set c.args.markup), refl)
 
 pub returns : goal.returns
 returns g c =
     let m = c.args.markup in
-    let texts : Texts (Sends Passes (start_of (first_set m))) (Transforms Passes Finishes (start_of (first_set m))) (PageWith m) (IsPageWith m) = record {
-      whole = transformed m;
-      begins = begun m;
-      safe = is_page m;
-    } in
-    streams _ _ (PageWith m) (IsPageWith m) c.transform_all.result _ _ _ _ texts
-    (rw c.new.ensures at c.transform_all.ensures.ok) (rw c.new.ensures at c.transform_all.ensures.front)
+    let s = first_set m in
+    ran (Takes turns) (Closing turns closes) (start_of s) (Ends turns closes longest s) (PageWith m) (IsPageWith m)
+    (λ bytes page rest last takes (close, closing, shown). rw shown (page_of m s bytes _ refl (ends turns closes s bytes page close last takes closing))) (λ bytes page h. page_of m s bytes page refl h)
+    (λ last. (_, (_, refl, refl))) (is_page m) c.clean_run.result _ _ _ _ (rw c.new.ensures at c.clean_run.ensures.ok) (rw c.new.ensures at c.clean_run.ensures.front)

@@ -1,7 +1,7 @@
 use Rattle.std.proofs.Common.{◌++◌, ◌∙◌, List, ℕ, ap, subst}
+use Rattle.std.specs.List.{flat_map}
 use Rattle.csicodec_clean.specs.Cleaned.{Strips, longest}
-use Rattle.csicodec_html.specs.Private.Marked.{page_bytes}
-use Rattle.csicodec_html.proofs.Marks.{chars}
+use Rattle.csicodec_html.specs.Page.{escaped}
 use Rattle.csicodec_html.proofs.sheet.title.Goals as goal
 
 pub returns : goal.returns
@@ -10,5 +10,5 @@ returns c =
       cs,
       subst (Strips longest c.args.name.now) e c.in_ok-text.ensures.exact,
       shown,
-      c.in_ok-append_page.ensures ∙ ap (λ (t : List ℕ). t ++ page_bytes c.deref.result.now) c.new-out.ensures.items ∙ ap page_bytes (c.deref.ensures.value ∙ e) ∙ chars cs shown,
+      c.in_ok-append_text.ensures cs shown (c.deref.ensures.value ∙ e) ∙ ap (λ (t : List ℕ). t ++ flat_map escaped cs) c.new-out.ensures.items,
     )

@@ -6,4 +6,4 @@ use Rattle.csicodec_html.proofs.tags.append_open.Goals as goal
 pub returns : goal.returns
 returns c =
     let somewhere : leads c.args.to.now ≡ true = sym c.leads.ensures ∙ c.if-not-leads.false in
-    rw (c.in_ok-extend_from_slice-3.ensures.items, c.in_ok-extend_from_slice-2.ensures.items, c.in_ok-extend_from_slice.ensures.items, opened c.args.to.now somewhere) (simp append_assoc)
+    rw (c.in_ok-extend_from_slice-2.ensures.items, c.in_ok-append_page.ensures, c.in_ok-extend_from_slice.ensures.items, opened c.args.to.now somewhere) (simp append_assoc)

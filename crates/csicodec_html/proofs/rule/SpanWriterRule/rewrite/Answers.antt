@@ -1,7 +1,7 @@
 use Rattle.std.proofs.Common.{◌∙◌, drop, map, ap, arith, subst}
 use Rattle.csicodec_parser.specs.ActionOf.{action_of}
 use Rattle.csicodec_clean.specs.Links.{begun}
-use Rattle.csicodec_html.specs.{Look.behind_all, Look.sets_any, Page.Setting, Page.setting, Page.turn, Private.Marked.all_marked, Private.Marked.turns}
+use Rattle.csicodec_html.specs.{Look.behind_all, Look.sets_any, Page.Setting, Page.setting, Page.turn, Page.piece_texts, Private.Rule.turns}
 use Rattle.csicodec_html.proofs.Recalled.{appended, given, read}
 use Rattle.csicodec_html.proofs.rule.SpanWriterRule.rewrite.Goals as goal
 
@@ -27,7 +27,7 @@ returns c =
     let first = setting inside.markup inside.look inside.to.items come in
     let new = c.behind_each-new.result in
     let after = setting inside.markup new inside.to.items come in
-    let text = all_marked (turn inside.markup c.sets_any-comes.result inside.look new) in
+    let text = piece_texts (turn inside.markup c.sets_any-comes.result inside.look new) in
     let is = read inside.markup bytes c.args.params.now c.args.control inside.look new c.sets_any-comes.result actions c.requires c.in_ok-terminal_actions_into.ensures
     (c.behind_each-new.ensures ∙ ap (λ l. behind_all inside.look (map action_of l)) c.deref.ensures.value)
     (c.sets_any-comes.ensures ∙ ap (λ l. sets_any (map action_of l)) c.deref-2.ensures.value) in

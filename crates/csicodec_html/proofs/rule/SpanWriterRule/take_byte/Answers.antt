@@ -1,7 +1,7 @@
 use Rattle.std.proofs.{Common.◌≡◌, Common.◌∙◌, Common.[], Common.ap, Common.append-nil, Common.sym, Common.subst, lemmas.Result.on_ok_weaker}
 use Rattle.std.specs.Prelude.{if◌then◌else◌}
 use Rattle.csicodec_clean.specs.{Addresses.led, Links.begun, Links.ends_at}
-use Rattle.csicodec_html.specs.{Page.Setting, Page.setting, Page.switch, Private.Marked.all_marked, Private.Marked.turns}
+use Rattle.csicodec_html.specs.{Page.Setting, Page.setting, Page.switch, Private.Rule.pieces_bytes, Private.Rule.turns}
 use Rattle.csicodec_html.proofs.Leads.{byte_gives, gives_none}
 use Rattle.csicodec_html.proofs.rule.SpanWriterRule.take_byte.Goals as goal
 
@@ -17,7 +17,7 @@ returns c =
     let to = inside.to.items in
     let b = begun inside.next.place inside.next.params.items inside.next.url.items in
     let byte = c.args.byte in
-    let text = all_marked (if ends_at b.place byte then switch m inside.look to (led b.address.url) else []) in
+    let text = pieces_bytes (if ends_at b.place byte then switch m inside.look to (led b.address.url) else []) in
     let new = begun c.take.new.self.place c.take.new.self.params.items c.take.new.self.url.items in
     let leads = rw (c.deref.ensures.value, c.ends_link-over.ensures) at c.in_ok-follow.ensures.to in
     on_ok_weaker c.take.result

@@ -1,6 +1,6 @@
 use Rattle.std.proofs.{Common.◌++◌, Common.◌∙◌, Common.[], Common.◌∷◌, Common.refl, Common.sym, Common.ap, Common.append_assoc, Common.append-nil}
 use Rattle.std.proofs.{lemmas.Bool.true≢false}
-use Rattle.csicodec_clean.specs.Shown.{shown_text}
+use Rattle.csicodec_clean.specs.Shown.{run_as}
 use Rattle.csicodec_lines.proofs.Taken.{goes_joining, goes_over}
 use Rattle.csicodec_lines.proofs.lines.Lines.take_end.Goals as goal
 
@@ -13,7 +13,7 @@ returns-then-joins g c = record {
 pub returns : goal.returns
 returns g c =
     let (close, closes, out) = c.in_ok-finish.ensures in
-    let rest = shown_text c.args.self.now.line.held ++ close in
+    let rest = run_as g.R.Rule.gives.writing c.args.self.now.line.held ++ close in
     record {
       taken = (
         rest ++ 10 ∷ [],

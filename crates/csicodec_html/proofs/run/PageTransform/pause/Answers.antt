@@ -1,7 +1,0 @@
-use Rattle.std.proofs.Common.{[], sym, append-nil}
-use Rattle.csicodec_filter.proofs.Sent.{goes_none}
-use Rattle.csicodec_html.specs.Private.Marked.{Passes}
-use Rattle.csicodec_html.proofs.run.PageTransform.pause.Goals as goal
-
-pub returns-clause-passes : goal.returns-clause-passes
-returns-clause-passes c = ([], goes_none Passes c.args.self.now, sym (append-nil c.args._out.now.items))

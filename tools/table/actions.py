@@ -7,8 +7,7 @@ from dataclasses import dataclass
 import core
 from declared import Type, Variant, declaration
 from checks import check_columns, check_once, refuse
-from layout import numbered
-from read import first_line, rows_of
+from read import rows_of
 from values import types as value_types
 
 TABLE = "actions.toml"
@@ -143,15 +142,6 @@ def check(rows):
                 refuse(TABLE, key, "it has no in_line")
 
 
-SENT = "//! What terminals send by the same sequences as actions, in words.\n\n"
-
-
-def sent():
-    """src/sent_rows.rt of csicodec_words."""
-    rows = {ord(action.row["final"]): action.row["sent"] for subject in subjects() for action in subject.actions if "sent" in action.row}
-    return first_line(TABLE) + SENT + numbered("What a terminal sends by a list without numbers, by its final byte.", "SENT", [(hex(final), f" (or {words})") for final, words in sorted(rows.items())])
-
-
 def files(rows):
     check(rows)
     for key, said in core.faults(subjects()):
@@ -162,4 +152,4 @@ def files(rows):
             found[f"crates/{kind.file}"].append(declaration(kind))
     for path, of in core.parts(subjects()).items():
         found.setdefault(path, []).extend(of)
-    return found | {"crates/csicodec_words/src/sent_rows.rt": sent()}
+    return found

@@ -2,7 +2,7 @@
 words."""
 from declared import Type, Variant
 from checks import check_columns, check_once, refuse
-from layout import code, numbered, packed, page_line, page_table, string
+from layout import code, keyed, packed, page_line, page_table, string
 from read import first_line, rows_of
 
 TABLE = "escapes.toml"
@@ -83,28 +83,19 @@ def said(rows, key):
     return rows["code"][key]["words"]
 
 
-def words(rows):
-    """Those that have a code."""
-    about = "Those that the codec has a code for, by their numbers: that of the last character, and 256 times that of the one before it."
-    return numbered(about, "CODES", [(number(key), said(rows, key)) for key in named(rows)])
-
-
-def parts(rows):
-    """Rows, each its bytes and its words with a tab between."""
-    return [string(key)[:-1] + r"\t" + string(row["words"])[1:] for key, row in rows.items()]
-
-
 def sequences(rows):
-    """src/escape_rows.rt of csicodec_words: those with a code, those without one, and the sets."""
+    """src/escape_rows.rt of csicodec_words: those with words of their own, and the sets."""
     arrays = (
-        ("NAMES", "Those without a code: their bytes behind ESC, a tab and the words, as all that follow.", {key: row for key, row in rows["code"].items() if "name" not in row}),
+        ("NAMES", "Those with a name: their bytes behind ESC, a tab and the words, as all that follow.", {key: row for key, row in rows["code"].items() if "words" in row}),
         ("OTHERS", "What any other sequence is that has these intermediate bytes.", rows["other"]),
         ("SETS", "Sets of 94 characters, by what stands behind the byte that says what they become.", rows["sets_94"]),
         ("SETS_OF_96", "Sets of 96 characters.", rows["sets_96"]),
         ("SETS_OF_SEVERAL", "Sets of which each character has several bytes.", rows["sets_several"]),
     )
-    text = ["//! Escape sequences and character sets in words.\n", words(rows)]
-    return "\n".join([*text, *(packed(about, name, "&str", parts(of)) for name, about, of in arrays)])
+    controls = "The set C0, by its bytes: the name of each, and what it does; ESC stands in no text."
+    tables = [packed(controls, "CONTROLS", "&str", [string(rows["control"].get(f"{byte:02x}", {"words": "control"})["words"]) for byte in range(32)])]
+    tables += (keyed(about, name, [(key, row["words"]) for key, row in of.items()]) for name, about, of in arrays)
+    return "\n".join(["//! Escape sequences and character sets in words.\n", *tables])
 
 
 PAGE = """\
@@ -158,6 +149,7 @@ def check(rows):
             refuse(TABLE, key, "its doc begins with another sequence")
     for name in ("other", "sets_94", "sets_96", "sets_several"):
         check_columns(TABLE, rows[name], ("words", "source", "says"), ())
+    check_columns(TABLE, rows["control"], ("words",), ())
     check_once(TABLE, rows["code"], "name")
 
 

@@ -41,9 +41,10 @@ def low(name, between="_"):
     return re.sub(r"([A-Z])([A-Z][a-z])", rf"\1{between}\2", name).lower()
 
 
-def numbered(said, name, rows):
-    """An array of words by their numbers."""
-    return packed(said, name, "(i64, &str)", [f"({number}, {string(words)})" for number, words in rows])
+def keyed(said, name, rows, front=None):
+    """An array of words, each behind what it is found by and a tab, in the order of their bytes, or of so many in front."""
+    rows = sorted(rows, key=lambda row: f"{row[0]}\t".encode()[:front])
+    return packed(said, name, "&str", [string(f"{key}\t{words}").replace("\t", "\\t") for key, words in rows])
 
 
 def packed(said, name, kind, parts, macro="pieces"):
@@ -61,13 +62,6 @@ def array(said, name, kind, rows, public="pub(crate)"):
     ahead = f"{public} static {name}: [{kind}; {len(rows)}] = ["
     whole = [f"{ahead}{lines[0].strip(' ,')}];"] if len(lines) == 1 else [ahead, *lines, "];"]
     return "\n".join([*comment(said), *whole]) + "\n"
-
-
-def arm(pattern, function, *arguments):
-    """An arm that answers what a function makes of these arguments."""
-    call = f"{function}({', '.join(arguments)})"
-    line = f"        {pattern} => {call},"
-    return [line] if len(line) <= 100 else [f"        {pattern} =>", f"            whole! {{ {call} }},"]
 
 
 def page_line(table):

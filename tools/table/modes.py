@@ -1,7 +1,7 @@
 """table/modes.toml: what modes are called. Their names become two enumerations with their numbers, their words two arrays."""
 from declared import Type, Variant, in_turn
 from checks import check_columns, check_once
-from layout import numbered, page_line, page_table
+from layout import keyed, page_line, page_table
 from read import first_line, rows_of
 
 TABLE = "modes.toml"
@@ -106,7 +106,7 @@ def specs(private, terminal):
 
 
 def words(said, name, rows, column):
-    return "\n" + numbered(said, name, [(number, row[column]) for number, row in rows.items() if column in row])
+    return "\n" + keyed(said, name, [(number, row[column]) for number, row in rows.items() if column in row])
 
 
 PAGE = """\
@@ -149,7 +149,7 @@ def files(rows):
     check(rows)
     private, terminal = rows["private"], rows["terminal"]
     names = first_line(TABLE) + RUST + "".join(map(kind, types(), ("dec_mode_number", "terminal_mode_number")))
-    said = first_line(TABLE) + "//! What modes are called, by their numbers.\n"
+    said = first_line(TABLE) + "//! What modes are called: their numbers, a tab and the words.\n"
     said += words("Private modes, of DEC and of other terminals.", "PRIVATE", private, "words")
     said += words("What is set of private modes, where that isn't `on`.", "SET", private, "set")
     said += words("What is reset of them, where that isn't `off`.", "RESET", private, "reset")

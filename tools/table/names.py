@@ -16,7 +16,7 @@ def named():
             refuse("sequences.toml", key, "it has no name")
     rows = [row for part in parts for row in part.values()]
     rows += [action.row for subject in subjects() for action in subject.actions if "name" in action.row]
-    words = [row["words"] for kind in ("code", "other") for row in escapes[kind].values() if "words" in row]
+    words = [row["words"] for kind in ("code", "other", "control") for row in escapes[kind].values() if "words" in row]
     return {row["name"] for row in rows} | {text.split("  ")[0] for text in words}
 
 

@@ -6,7 +6,7 @@ import actions
 from attributes import Attributes, all_attributes, parts as line_parts
 from checks import check_columns, check_once, refuse
 from declared import Variant
-from layout import arm, array, comment, numbered, packed, page_line, page_table, string
+from layout import array, comment, keyed, packed, page_line, page_table, string
 from read import first_line
 
 TABLE = "sgr.toml"
@@ -98,13 +98,13 @@ macro_rules! rows {
 WORDS = """\
 //! What attributes of text are called.
 
-use crate::values::Said;
-use csicodec_base::{TYPES};
+use csicodec_base::{ColorSpec, Sgr};
 
-/// What an attribute is called.
-pub(crate) fn words_of_attribute(attribute: &Sgr) -> Said<'_> {
+/// What stands ahead of the colour that an attribute has.
+pub(crate) fn color_of(attribute: &Sgr) -> Option<(&'static str, &ColorSpec)> {
     match attribute {
 ARMS
+        _ => None,
     }
 }
 
@@ -249,24 +249,27 @@ def alone(table):
     return ALONE + packed(f"What each number from 0 to {table.places[-1]} sets, where no `:` is behind it.", "STYLES", "StyleRow", rows, "rows")
 
 
-def arms(table):
-    """An arm for each attribute, and for each value of one that has words of its own."""
-    said = {}
-    for key, attribute in (*table.sets.items(), *table.further.items()):
-        row = table.code.get(key) or table.rows["further"][key]
-        if attribute.ahead and attribute.holds == "ColorSpec":
-            said[f"Sgr::{attribute.variant}(color)"] = "Said::Color", string(f"SGR  {attribute.ahead} "), "color"
-        elif attribute.ahead:
-            said[f"Sgr::{attribute.variant}(Font::{attribute.value}(number))"] = "Said::Number", string(f"SGR  {attribute.ahead} "), "*number"
-        elif not row.get("also"):
-            said[attribute.rust()] = "Said::Alone", string(f"SGR  {row['words']}")
-    return [line for pattern, words in said.items() for line in arm(pattern, *words)]
+def color_arms(table):
+    """An arm for each attribute that is a colour."""
+    said = {it.variant: it.ahead for it in (*table.sets.values(), *table.further.values()) if it.ahead and it.holds == "ColorSpec"}
+    return [f'        Sgr::{variant}(color) => Some(({string(f"SGR  {ahead} ")}, color)),' for variant, ahead in said.items()]
+
+
+def attribute_words(table):
+    """The words of attributes by the text that sets each, and of numbers that no action reads."""
+    for key, row in (*table.code.items(), *table.rows["further"].items()):
+        attribute = table.sets.get(key) or table.further.get(key)
+        if row.get("words"):
+            yield key, f"SGR  {row['words']}"
+        elif attribute and attribute.holds == "Font" and attribute.ahead:
+            yield key, f"SGR  {attribute.ahead} {attribute.number}"
 
 
 def words(table):
-    used = sorted(types((*table.sets.values(), *table.further.values())) - {"ColorSpec"} | {"Font", "Sgr"})
     said = "The first 16 of the palette: the names of ECMA-48 for the first 8, and `bright` ahead for the next."
-    return WORDS.replace("TYPES", ", ".join(used)).replace("ARMS", "\n".join(arms(table))) + packed(said, "COLORS", "&str", [string(color) for color in table.rows["colors"]]) + "\n" + unread(table)
+    attributes = "Attributes without a colour: the text that sets each, a tab and the words. Some are set by no action."
+    arrays = packed(said, "COLORS", "&str", [string(color) for color in table.rows["colors"]]) + "\n" + keyed(attributes, "ATTRIBUTES", attribute_words(table))
+    return WORDS.replace("ARMS", "\n".join(color_arms(table))) + arrays
 
 
 PAGE = """\
@@ -303,11 +306,6 @@ def said(table, number):
 def page(table):
     rows = [[str(number), row.get("name", ""), sets(table, number), said(table, number), row["source"]] for number, row in table.code.items()]
     return PAGE.replace("NUMBERS", page_table(["number", "name", "sets", "words", "source"], rows))
-
-
-def unread(table):
-    rows = [(number, f"SGR  {row['words']}") for number, row in table.code.items() if "name" not in row]
-    return numbered("Attributes that no action sets, each alone.", "UNREAD", rows)
 
 
 def files(rows):

@@ -1,8 +1,6 @@
 """Words with holes, as a row of table/sequences.toml writes them, for the program: with places in the place of names, so that it looks up nothing."""
 import re
 
-from layout import string
-
 # What code tells: csicodec_words has a function for each.
 CODE = ("mode", "mode_on", "mode_off", "private_mode", "private_on", "private_off", "extensions", "mouse", "button", "released", "lines", "columns", "f3", "values")
 HOLE = re.compile(r"(\w+)(?:=(\d+))?(\.\.)?(?:([#:@~&])(.*))?$")
@@ -41,27 +39,6 @@ def hole_of(text, form, lists):
 def template_of(words, form, lists):
     """The words with the holes as the program fills them."""
     return re.sub(r"\{([^}]*)\}", lambda hole: hole_of(hole[1], form, lists), words)
-
-
-def piece_of(hole):
-    """A hole as code has it: the commonest ones as they are filled, so that nothing is looked for in a text."""
-    place, kind, rest = re.match(r"([0-9a-f])([#?@]?)(.*)$", hole).groups()
-    entries = [entry.partition("=") for entry in rest.split("|")]
-    if not kind and not rest:
-        return f"Number({int(place, 16)})"
-    if kind == "#":
-        return f"Counted({int(place, 16)}, {string(rest)})"
-    if kind == "?" and all(number and not words.endswith("#") for number, _, words in entries):
-        return f"OneOf({int(place, 16)}, &[{', '.join(f'({number}, {string(words)})' for number, _, words in entries)}])"
-    if kind == "@":
-        return f"Code({int(place, 16)}, {string(rest)})"
-    return f"Hole({string(hole)})"
-
-
-def pieces(template):
-    """A template as code has it, in parts, on one line."""
-    parts = [f"Piece::{piece_of(part) if at % 2 else f'Text({string(part)})'}" for at, part in enumerate(re.split(r"[{}]", template)) if part]
-    return f"&pieces! {{ {', '.join(parts)} }}"
 
 
 def place_of(form):

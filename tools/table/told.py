@@ -2,27 +2,38 @@
 action's."""
 from checks import check_columns, refuse
 from forms import LARGEST, form_of
-from layout import array, byte, string
+from layout import keyed
 from read import first_line
 from templates import place_of, told_of
 
 TABLE = "sequences.toml"
 ANY = (0, 2**63 - 1)
-# How many rows an array has at most.
-MOST = 60
+
+# How many rows an array has at most, so that the checker computes it at once.
+MOST = 100
 
 TEXT = """\
 //! Control sequences without an action, in words.
 
-use crate::sequences::{ANY, WordsRow};
+use crate::rows::Rows;
 
-macro_rules! row {
-    ($kind:literal, $marker:expr, $between:expr, $control:literal, $first:expr, $second:expr, $fields:expr, $words:literal) => {
-        WordsRow { kind: $kind, marker: $marker, between: $between, control: $control, first: $first, second: $second, fields: $fields, words: $words }
-    };
+/// The words of sequences without an action, in their order.
+pub(crate) fn parts() -> [Rows; COUNT] {
+    [CALLS]
 }
 
 """
+
+
+def row_key(final, marker, between, parts):
+    """What a list is found by, as `ListKey` of csicodec_words reads it."""
+    return f"{final}{marker or '_'}{between or '_'}{','.join(parts).rstrip(',')}"
+
+
+def shown(span):
+    """The numbers that one may be, as a row has them."""
+    first, last = span
+    return "" if span == ANY else str(first) if first == last else f"{first}-{'' if last == ANY[1] else last}"
 
 
 def span(slot):
@@ -54,11 +65,9 @@ class Told:
         self.first, self.second = spans
         self.fields = fields_of(row.get("fields"))
 
-    def text(self):
-        form = self.form
-        spans = ["ANY" if one == ANY else str(one) for one in (self.first, self.second, self.fields)]
-        spans = [one.replace(str(ANY[1]), "i64::MAX") for one in spans]
-        return f"    row! {{ {self.kind}, {byte(form.marker)}, {byte(form.between)}, {byte(form.final)[1:]}, {', '.join(spans)}, {string(self.words)} }},"
+    def key(self):
+        form, kind = self.form, [str(self.kind)] if self.kind else []
+        return row_key(form.final, form.marker, form.between, [shown(self.first), shown(self.second), shown(self.fields), *kind])
 
 
 def of_rows(table):
@@ -89,21 +98,12 @@ def of_section(table, name):
             refuse(TABLE, f"[{name}] {text}", error)
 
 
-def parts(rows):
-    """The rows in arrays that the checker computes at once, and all of these."""
-    pieces = [rows[at:at + MOST] for at in range(0, len(rows), MOST)]
-    text = "\n".join(array(f"Those from place {at * MOST} on.", f"PART_{at}", "WordsRow", [[row.text()] for row in piece]) for at, piece in enumerate(pieces))
-    calls = ", ".join(f"PART_{at}.as_slice()" for at in range(len(pieces)))
-    return f"""/// What sequences without an action are, those that no row reads by the first that has their bytes and numbers.
-pub(crate) fn parts() -> [&'static [WordsRow]; {len(pieces)}] {{
-    pieces! {{ {calls} }}
-}}
-
-""" + text
-
-
 def rows_rt(table):
-    """src/sequence_rows.rt of csicodec_words. Words of one first number stand ahead of those of any."""
-    told = sorted([*of_section(table, "beyond"), *of_rows(table)], key=lambda told: told.first == ANY)
-    instead = list(of_section(table, "instead"))
-    return first_line(TABLE) + TEXT + parts(told) + "\n" + array("What is said in the place of an action.", "INSTEAD", "WordsRow", [[row.text()] for row in instead])
+    """src/sequence_rows.rt of csicodec_words, in the order of the first three bytes. Words of one first number stand ahead of those of any."""
+    told = sorted([*of_section(table, "beyond"), *of_rows(table)], key=lambda told: (told.key()[:3], told.first == ANY))
+    parts = [told[at:at + MOST] for at in range(0, len(told), MOST)]
+    arrays = [(f"What sequences without an action are, part {at + 1}: what a list is found by, a tab and the words.", f"PART_{at}", part) for at, part in enumerate(parts)]
+    arrays.append(("What is said in the place of an action.", "INSTEAD", of_section(table, "instead")))
+    calls = ", ".join(f"PART_{at}.as_slice()" for at in range(len(parts)))
+    text = TEXT.replace("CALLS", calls).replace("COUNT", str(len(parts)))
+    return first_line(TABLE) + text + "\n".join(keyed(said, name, [(row.key(), row.words) for row in rows], 3) for said, name, rows in arrays)

@@ -1,15 +1,16 @@
 //! How much of a stream is what, and how often each name was told, of how many bytes.
 
-use crate::line::{Sort, append_blanks, append_number};
+use crate::line::Sort;
 use csicodec_spans::Kind;
 use std::alloc::{AllocError, Global};
 use std::collections::BTreeMap;
+use std::fmt::Write;
 
 /// So many names are counted, each by itself: those that came first.
 const MOST: usize = 1000;
 
 /// The heading of the table of names.
-const HEADING: &[u8; 57] = b"name                         times        bytes    share\n";
+const HEADING: &str = "name                         times        bytes    share\n";
 
 /// How often something was told, and of how many bytes; both stop at `u64::MAX`.
 #[derive(Clone, Copy, Default)]
@@ -131,59 +132,36 @@ impl Names {
     }
 }
 
-/// What stands ahead of a number, and the number.
-fn append_count(out: &mut Vec<u8>, ahead: &[u8], number: u64) -> Result<(), AllocError> {
-    out.extend_from_slice(ahead)?;
-    append_number(out, number, 0)
-}
-
-/// The name of a member.
-fn append_key(out: &mut Vec<u8>, name: &str) -> Result<(), AllocError> {
-    out.extend_from_slice(b",\"")?;
-    out.extend_from_slice(name.as_bytes())?;
-    out.extend_from_slice(b"\":")
-}
-
-/// What stands in the first so many columns of a row, and how often it was told.
-fn append_row(out: &mut Vec<u8>, columns: usize, name: &str, times: u64) -> Result<(), AllocError> {
-    out.extend_from_slice(name.as_bytes())?;
-    append_blanks(out, columns.saturating_sub(name.chars().count()))?;
-    append_number(out, times, 10)
-}
-
-/// A row of a name, with its end.
-fn append_name(out: &mut Vec<u8>, name: &str, times: u64) -> Result<(), AllocError> {
-    out.extend_from_slice(b"  ")?;
-    append_row(out, 16, name, times)?;
-    Ok(out.push(b'\n')?)
+/// A row of a name.
+fn append_name(out: &mut String, name: &str, times: u64) -> Result<(), AllocError> {
+    Ok(write!(out, "  {name:<16}{times:>10}\n")?)
 }
 
 /// All that is counted, with how often each name was told, as an object of JSON. A name has no character that would stand behind a
 /// backslash there.
-pub fn append_object(out: &mut Vec<u8>, totals: &Totals, names: &Names) -> Result<(), AllocError> {
-    out.extend_from_slice(b"{\"kind\":\"totals\"")?;
+pub fn append_object(out: &mut String, totals: &Totals, names: &Names) -> Result<(), AllocError> {
+    out.push_str("{\"kind\":\"totals\"")?;
     for (name, _, sum) in &totals.kinds() {
-        append_key(out, name)?;
-        append_count(out, b"{\"spans\":", sum.times)?;
-        append_count(out, b",\"bytes\":", sum.bytes)?;
-        out.push(b'}')?;
+        let (times, bytes) = (sum.times, sum.bytes);
+        write!(out, ",\"{name}\":{{\"spans\":{times},\"bytes\":{bytes}}}")?;
     }
-    append_count(out, b",\"actions\":", totals.actions)?;
-    append_count(out, b",\"names\":{\"other names\":", names.others.times)?;
+    let (actions, others) = (totals.actions, names.others.times);
+    write!(
+        out,
+        ",\"actions\":{actions},\"names\":{{\"other names\":{others}"
+    )?;
     for (name, sum) in &names.sums {
-        append_key(out, name.as_str())?;
-        append_number(out, sum.times, 0)?;
+        let times = sum.times;
+        write!(out, ",\"{name}\":{times}")?;
     }
-    out.extend_from_slice(b"}}\n")
+    out.push_str("}}\n")
 }
 
 /// The same as a line for each; the names in the order of their characters.
-pub fn append_lines(out: &mut Vec<u8>, totals: &Totals, names: &Names) -> Result<(), AllocError> {
+pub fn append_lines(out: &mut String, totals: &Totals, names: &Names) -> Result<(), AllocError> {
     for (_, title, sum) in &totals.kinds() {
-        append_row(out, 18, title, sum.times)?;
-        out.push(b' ')?;
-        append_number(out, sum.bytes, 12)?;
-        out.extend_from_slice(b" bytes\n")?;
+        let (times, bytes) = (sum.times, sum.bytes);
+        write!(out, "{title:<18}{times:>10} {bytes:>12} bytes\n")?;
         if *title == "control sequences" {
             append_name(out, "actions", totals.actions)?;
         }
@@ -211,38 +189,36 @@ fn thousandths(bytes: u64, all: u64) -> u64 {
 
 /// A name with its sum and its share: an object of JSON, or a row of the table.
 fn append_share(
-    out: &mut Vec<u8>,
+    out: &mut String,
     name: &str,
     sum: Sum,
     share: u64,
     json: bool,
 ) -> Result<(), AllocError> {
+    let (times, bytes, whole, tenth) = (sum.times, sum.bytes, share / 10, share % 10);
     if json {
-        out.extend_from_slice(b"{\"kind\":\"stats\",\"name\":\"")?;
-        out.extend_from_slice(name.as_bytes())?;
-        append_count(out, b"\",\"times\":", sum.times)?;
-        append_count(out, b",\"bytes\":", sum.bytes)?;
-        append_count(out, b",\"share\":", share / 10)?;
+        write!(
+            out,
+            "{{\"kind\":\"stats\",\"name\":\"{name}\",\"times\":{times}"
+        )?;
+        Ok(write!(out, ",\"bytes\":{bytes},\"share\":{whole}.{tenth}}}\n")?)
     } else {
-        append_row(out, 24, name, sum.times)?;
-        append_number(out, sum.bytes, 13)?;
-        append_number(out, share / 10, 6)?;
+        write!(out, "{name:<24}{times:>10}")?;
+        Ok(write!(out, "{bytes:>13}{whole:>6}.{tenth}%\n")?)
     }
-    append_count(out, b".", share % 10)?;
-    out.extend_from_slice(if json { b"}\n" } else { b"%\n" })
 }
 
 /// A table of the names that were told, those of more bytes first: how often each was, the bytes of its spans, and their share of all
 /// bytes; in JSON an object for each name. A sequence of several actions counts with its bytes for the first of them. The shares down
 /// to each row are together that part of all bytes, rounded: of a whole stream they are 100 per cent.
 pub fn append_stats(
-    out: &mut Vec<u8>,
+    out: &mut String,
     names: &Names,
     all: u64,
     json: bool,
 ) -> Result<(), AllocError> {
     if !json {
-        out.extend_from_slice(HEADING)?;
+        out.push_str(HEADING)?;
     }
     let mut rows = Vec::new(names.alloc);
     for (name, sum) in &names.sums {

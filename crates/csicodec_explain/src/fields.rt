@@ -13,32 +13,12 @@ use crate::json::append_plain;
 use memchr::memchr;
 use std::alloc::{AllocError, Global};
 
-/// What closes something.
-#[derive(Clone, Copy)]
-enum Closer {
-    Nothing,
-    Brace,
-    Bracket,
-    Both,
-}
-
-impl Closer {
-    fn append_to(self, out: &mut Vec<u8>) -> Result<(), AllocError> {
-        match self {
-            Closer::Nothing => Ok(()),
-            Closer::Brace => Ok(out.push(b'}')?),
-            Closer::Bracket => Ok(out.push(b']')?),
-            Closer::Both => out.extend_from_slice(b"]}"),
-        }
-    }
-}
-
 /// A `Debug` text that is written as JSON, word by word.
 #[derive(Drop)]
 pub struct JsonFields {
     out: Vec<u8>,
     /// What closes all that is open, the innermost last.
-    closers: Vec<Closer>,
+    closers: Vec<&'static str>,
     /// Whether the name of the next field is left out.
     bare: bool,
 }
@@ -157,11 +137,11 @@ impl JsonFields {
         self.out.push(b'"')?;
         if let Some(items) = rest.strip_prefix(b"(".as_slice()) {
             self.out.extend_from_slice(b",\"value\":")?;
-            self.open(has_comma(items), b'[', Closer::Bracket)?;
+            self.open(has_comma(items), b'[', "]")?;
             return self.write_all(items);
         }
         if let Some(members) = rest.strip_prefix(b" { ".as_slice()) {
-            self.open(true, b',', Closer::Nothing)?;
+            self.open(true, b',', "")?;
             self.write_all(members)?;
         }
         Ok(())
@@ -180,14 +160,11 @@ impl JsonFields {
     }
 
     /// Opens a list or an object, and remembers what closes it; if it isn't wanted, neither is written.
-    fn open(&mut self, wanted: bool, opener: u8, closer: Closer) -> Result<(), AllocError> {
+    fn open(&mut self, wanted: bool, opener: u8, closer: &'static str) -> Result<(), AllocError> {
         if wanted {
             self.out.push(opener)?;
         }
-        Ok(
-            self.closers
-                .push(if wanted { closer } else { Closer::Nothing })?,
-        )
+        Ok(self.closers.push(if wanted { closer } else { "" })?)
     }
 
     /// A word, the byte that ends it, and what is behind that.
@@ -196,9 +173,9 @@ impl JsonFields {
             b'(' => self.open_tuple(word, has_comma(behind)),
             b'{' => {
                 self.bare = !has_comma(behind);
-                self.open(!self.bare, b'{', Closer::Brace)
+                self.open(!self.bare, b'{', "}")
             }
-            b'[' => self.open(true, b'[', Closer::Bracket),
+            b'[' => self.open(true, b'[', "]"),
             b':' if self.bare => {
                 self.bare = false;
                 Ok(())
@@ -209,8 +186,8 @@ impl JsonFields {
             }
             _ => {
                 append_word(&mut self.out, word)?;
-                let closer = self.closers.pop().unwrap_or(Closer::Nothing);
-                closer.append_to(&mut self.out)
+                let closer = self.closers.pop().unwrap_or("");
+                self.out.extend_from_slice(closer.as_bytes())
             }
         }
     }
@@ -218,15 +195,15 @@ impl JsonFields {
     /// A variant with values: an object of its name, unless it is `Some`.
     fn open_tuple(&mut self, word: &[u8], several: bool) -> Result<(), AllocError> {
         if word == b"Some".as_slice() {
-            return self.open(false, b'(', Closer::Nothing);
+            return self.open(false, b'(', "");
         }
         self.out.push(b'{')?;
         append_word(&mut self.out, word)?;
         self.out.push(b':')?;
         if several {
-            self.open(true, b'[', Closer::Both)
+            self.open(true, b'[', "]}")
         } else {
-            Ok(self.closers.push(Closer::Brace)?)
+            Ok(self.closers.push("}")?)
         }
     }
 }

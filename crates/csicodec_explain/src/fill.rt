@@ -2,13 +2,13 @@
 
 use crate::line::append_number;
 use crate::patterns::CODES;
+use csicodec_words::find;
 use serde_json::Value;
 use std::alloc::AllocError;
 
 /// The number that a name stands for.
 fn code_of(name: &str) -> Option<u64> {
-    let (_, number) = CODES.iter().find(|(known, _)| *known == name)?;
-    Some(u64::from(*number))
+    find(&CODES, name.as_bytes())?.parse().ok()
 }
 
 /// A byte by its number, or nothing where it is `null`; whether it is one of them.

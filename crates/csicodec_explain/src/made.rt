@@ -124,12 +124,12 @@ impl Maker {
 
     /// Appends a text that has the action; whether there is one.
     fn append_action(&mut self, action: &Value, out: &mut Vec<u8>) -> Result<bool, AllocError> {
-        let Some(name) = action.get("action").and_then(Value::as_str) else {
+        let name = action.get("action").and_then(Value::as_str).unwrap_or("");
+        let Some(patterns) = csicodec_words::find(&PATTERNS, name.as_bytes()) else {
             return Ok(false);
         };
-        for row in &PATTERNS {
-            let (known, pattern) = row.split_once(' ').unwrap_or((row, ""));
-            if known == name && self.finds(pattern, name, action)? {
+        for pattern in patterns.split('\t') {
+            if self.finds(pattern, name, action)? {
                 out.extend_from_slice(&self.text)?;
                 return Ok(true);
             }

@@ -1,7 +1,7 @@
 //! The spans of a stream, each told when it is over.
 ghost use Rattle.std.specs.Prelude.{◌≤◌, IfOk, length};
 
-use crate::controls::{is_control, text_front, words_of};
+use crate::controls::{is_control, text_front};
 use crate::counts::Totals;
 use crate::keyed::{Keyed, sequence_front};
 use crate::line::{Sort, ToldSpan, whole_characters};
@@ -11,9 +11,9 @@ use csicodec_base::{CsiParam, Esc, ReadError, read_csi_into};
 use csicodec_osc::{ControlString, FRONT};
 use csicodec_spans::{Kind, LIMIT, Mode};
 use csicodec_streams::keep_from;
-use csicodec_words::{Described, Did, EscReading, LongEscReading};
+use csicodec_words::{Did, EscReading, words_of_control};
 use std::alloc::{AllocError, Global};
-use std::fmt::{self, Display};
+use std::fmt::Display;
 
 /// A span of which more may come: text, a string, or what went wrong.
 #[derive(Drop)]
@@ -98,29 +98,6 @@ fn escape_of(bytes: &[u8]) -> Esc {
     }
 }
 
-/// The words of what went wrong: how many bytes it has.
-#[derive(Clone, Copy)]
-struct Malformed(u64);
-
-impl fmt::Display for Malformed {
-    fn fmt<W: fmt::Write>(&self, f: &mut fmt::Formatter<W>) -> fmt::Result {
-        let len = self.0;
-        let unit = if len == 1 { "byte" } else { "bytes" };
-        write!(f, "malformed  {len} {unit}")
-    }
-}
-
-/// An escape sequence by the names of its types: `Esc(Code(DecSaveCursorPosition))`.
-#[derive(Clone, Copy)]
-struct Named(Esc);
-
-impl fmt::Debug for Named {
-    fn fmt<W: fmt::Write>(&self, f: &mut fmt::Formatter<W>) -> fmt::Result {
-        let esc = self.0;
-        write!(f, "Esc({esc:?})")
-    }
-}
-
 /// What a span is told as of which more could have come.
 fn sort_of(kind: Kind) -> Sort {
     match kind {
@@ -148,13 +125,13 @@ fn tell_wrong(
     totals: &mut Totals,
     span: &ToldSpan<'_>,
 ) -> Result<(), AllocError> {
-    match LongEscReading::of(span.bytes) {
+    match EscReading::long(span.bytes) {
         Some(reading) if span.bytes.len() as u64 == span.len => {
             totals.add_long_escape(span.len);
             let sort = Sort::Escape;
-            sheet.tell(&ToldSpan { sort, ..*span }, &Described(&reading))
+            sheet.tell(&ToldSpan { sort, ..*span }, &reading)
         }
-        _ => sheet.tell(span, &Malformed(span.len)),
+        _ => sheet.tell_malformed(span),
     }
 }
 
@@ -375,9 +352,7 @@ impl<'a> Listing<'a> {
     #[inline(never)]
     fn tell_escape(&mut self, escape: Keyed<'_>) -> Result<(), AllocError> {
         let span = self.span_here(Sort::Escape, escape.bytes);
-        let esc = escape_of(escape.bytes);
-        self.sheet
-            .tell_action(&span, &Described(&EscReading(esc)), &Named(esc))?;
+        self.sheet.tell_escape(&span, escape_of(escape.bytes))?;
         self.sheet.keep(escape, 0)
     }
 
@@ -411,7 +386,7 @@ impl<'a> Listing<'a> {
         let sent = self.sheet.style.dialect.and(bytes.first());
         match sent.and_then(|byte| Did::of_control(*byte)) {
             Some(did) => self.sheet.tell(&span, &did)?,
-            None => self.sheet.tell(&span, &words_of(bytes))?,
+            None => self.sheet.tell(&span, &words_of_control(bytes))?,
         }
         self.sheet.keep(control, 0)
     }

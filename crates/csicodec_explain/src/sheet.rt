@@ -15,20 +15,21 @@ use crate::line::{
 };
 use crate::search::Search;
 use crate::style::{Style, name_of};
-use crate::taken::words_with_taken;
-use csicodec_base::CsiParam;
+use crate::taken::append_taken;
+use csicodec_base::{CsiParam, Esc};
 use csicodec_osc::{ControlString, Shown};
 use csicodec_parser::CSI;
-use csicodec_words::{Described, Reading};
+use csicodec_words::{ActionList, EscReading, Reading};
 use std::alloc::{AllocError, Global};
 use std::fmt::{Debug, Display, Write};
 
 /// So many bytes of a span an object of JSON has at most: 64 KiB.
 const PIECE: usize = 65_536;
 
-/// The words of a value. A text that another crate writes into itself has all words in the program once more.
-pub fn text_of<T: Display>(alloc: Global, value: &T) -> Result<String, AllocError> {
-    format!(in alloc; "{value}")
+/// An escape sequence, whose `Debug` text has the names of its types: `Esc(Code(DecSaveCursorPosition))`.
+#[derive(Clone, Copy, Debug)]
+enum NamedEsc {
+    Esc(Esc),
 }
 
 /// The lines of the spans that came, in a buffer that is kept.
@@ -44,6 +45,8 @@ pub struct Sheet<'a> {
     buffer: String,
     /// The fields of one action, in JSON.
     fields: JsonFields,
+    /// The list that an action prints.
+    list: ActionList,
     /// The member of an object that says of which file, where that is told.
     file: Vec<u8>,
     /// Whether a file's name stands ahead of lines.
@@ -72,6 +75,7 @@ impl<'a> Sheet<'a> {
             words: String::new(alloc),
             buffer: String::new(alloc),
             fields: JsonFields::new(alloc),
+            list: ActionList::new(alloc),
             file: Vec::new(alloc),
             headed: false,
             begin: 0,
@@ -253,9 +257,7 @@ impl<'a> Sheet<'a> {
     /// Counts a text where it is one that is asked for; whether it is then told. In JSON it has no actions.
     fn counts_text(&mut self, span: &ToldSpan<'_>) -> Result<bool, AllocError> {
         let len = span.len;
-        self.words.clear();
-        let unit = if len == 1 { "byte" } else { "bytes" };
-        write!(self.words, "text  {len} {unit}")?;
+        self.count_bytes("text", len)?;
         if !self.is_wanted(span)? {
             return Ok(false);
         }
@@ -290,21 +292,14 @@ impl<'a> Sheet<'a> {
         self.add_words(span)
     }
 
-    /// The words of an action of the span, which has fields.
-    fn add_action<T: Display, A: Debug>(
-        &mut self,
-        span: &ToldSpan<'_>,
-        value: &T,
-        action: &A,
-    ) -> Result<(), AllocError> {
-        if self.style.json && !self.style.is_silent() {
-            self.buffer.clear();
-            write!(self.buffer, "{action:?}")?;
-            self.fields.write(self.buffer.as_bytes())?;
+    /// The fields of an action, where they are told: those of its `Debug` text.
+    fn take_fields<A: Debug>(&mut self, action: &A) -> Result<(), AllocError> {
+        if !self.style.json || self.style.is_silent() {
+            return Ok(());
         }
-        self.words.clear();
-        write!(self.words, "{value}")?;
-        self.add_words(span)
+        self.buffer.clear();
+        write!(self.buffer, "{action:?}")?;
+        self.fields.write(self.buffer.as_bytes())
     }
 
     /// What stands in the span, decoded: a line of its own, or a member of its first action.
@@ -384,16 +379,31 @@ impl<'a> Sheet<'a> {
         self.end(span)
     }
 
-    /// A span of one action, with these words.
-    pub fn tell_action<T: Display, A: Debug>(
-        &mut self,
-        span: &ToldSpan<'_>,
-        words: &T,
-        action: &A,
-    ) -> Result<(), AllocError> {
+    /// An escape sequence.
+    pub fn tell_escape(&mut self, span: &ToldSpan<'_>, escape: Esc) -> Result<(), AllocError> {
+        let words = EscReading(span.bytes.get(1..).unwrap_or(&[]));
         self.begin(span)?;
-        self.add_action(span, words, action)?;
+        self.words.clear();
+        write!(self.words, "{words}")?;
+        self.take_fields(&NamedEsc::Esc(escape))?;
+        self.add_words(span)?;
         self.end(span)
+    }
+
+    /// What went wrong, of which more could have come.
+    pub fn tell_malformed(&mut self, span: &ToldSpan<'_>) -> Result<(), AllocError> {
+        self.begin(span)?;
+        self.fields.clear();
+        self.count_bytes("malformed", span.len)?;
+        self.add_words(span)?;
+        self.end(span)
+    }
+
+    /// The words of bytes that are only counted.
+    fn count_bytes(&mut self, name: &str, len: u64) -> Result<(), AllocError> {
+        let unit = if len == 1 { "byte" } else { "bytes" };
+        self.words.clear();
+        Ok(write!(self.words, "{name}  {len} {unit}")?)
     }
 
     /// A string, and what it puts into the clipboard, where that is asked for.
@@ -424,18 +434,21 @@ impl<'a> Sheet<'a> {
         let mut count = 0u64;
         for action in CSI::parse(alloc, params, false, control) {
             let action = action?;
+            self.list.read(&action)?;
             let reading = Reading {
                 action: &action,
+                list: &self.list,
                 params,
                 control,
                 sent,
             };
-            if let CSI::Unspecified(_) = &action {
-                let words = words_with_taken(alloc, reading, count as usize)?;
-                self.add_action(span, &words, &action)?;
-            } else {
-                self.add_action(span, &Described(&reading), &action)?;
+            self.words.clear();
+            write!(self.words, "{reading}")?;
+            if matches!(&action, CSI::Unspecified(_)) && !sent {
+                append_taken(&mut self.words, &mut self.list, (params, control), count)?;
             }
+            self.take_fields(&action)?;
+            self.add_words(span)?;
             count = count.saturating_add(1);
         }
         self.end(span)?;
@@ -450,14 +463,15 @@ impl<'a> Sheet<'a> {
             self.totals
         };
         let json = self.style.json;
+        self.buffer.clear();
         if self.style.count && json {
-            append_totals(&mut self.text, &told, &self.names)?;
+            append_totals(&mut self.buffer, &told, &self.names)?;
         } else if self.style.count {
-            append_lines(&mut self.text, &told, &self.names)?;
+            append_lines(&mut self.buffer, &told, &self.names)?;
         }
         if self.style.stats {
-            append_stats(&mut self.text, &self.names, came.bytes(), json)?;
+            append_stats(&mut self.buffer, &self.names, came.bytes(), json)?;
         }
-        Ok(())
+        self.text.extend_from_slice(self.buffer.as_bytes())
     }
 }

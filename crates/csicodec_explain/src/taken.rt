@@ -1,34 +1,41 @@
 //! What terminals take a list for that the table of actions doesn't read.
 
-use crate::sheet::text_of;
 use crate::style::name_of;
+use csicodec_base::CsiParam;
 use csicodec_parser::CSI;
 use csicodec_terminal::terminal_actions;
-use csicodec_words::{Described, Reading};
+use csicodec_words::{ActionList, ActionWords};
 use std::alloc::{AllocError, Global};
 
-/// The words of an action behind so many others: where it is unknown, with what terminals take the rest of its list for, without what is
-/// unknown to them too.
+/// The words of an action, whose list this is. A text that another crate writes into itself has all words in the program once more.
+fn text_of<'a>(alloc: Global, action: &'a CSI, list: &'a ActionList) -> Result<String, AllocError> {
+    let words = ActionWords { action, list };
+    format!(in alloc; "{words}")
+}
+
+/// Appends to the words of an action behind so many others, where it is unknown, what terminals take the rest of its list for, without what
+/// is unknown to them too.
 #[inline(never)]
-pub fn words_with_taken(
-    alloc: Global,
-    reading: Reading<'_>,
-    read: usize,
-) -> Result<String, AllocError> {
-    let mut words = text_of(alloc, &Described(&reading))?;
-    if reading.sent || !words.starts_with("unknown") {
-        return Ok(words);
+pub fn append_taken(
+    words: &mut String,
+    list: &mut ActionList,
+    (params, control): (&[CsiParam], char),
+    read: u64,
+) -> Result<(), AllocError> {
+    if !words.starts_with("unknown") {
+        return Ok(());
     }
+    let alloc = *words.allocator();
     let mut ahead = " (terminals: ";
-    let actions = terminal_actions(alloc, reading.params, false, reading.control)?;
-    for action in actions.get(read..).unwrap_or(&[]) {
+    let actions = terminal_actions(alloc, params, false, control)?;
+    for action in actions.get(read as usize..).unwrap_or(&[]) {
         if let CSI::Unspecified(_) = action {
             continue;
         }
+        list.read(action)?;
         words.push_str(ahead)?;
-        words.push_str(name_of(&text_of(alloc, &Described(action))?).1)?;
+        words.push_str(name_of(&text_of(alloc, action, list)?).1)?;
         ahead = ", ";
     }
-    words.push_str(if ahead == ", " { ")" } else { "" })?;
-    Ok(words)
+    words.push_str(if ahead == ", " { ")" } else { "" })
 }

@@ -1,52 +1,28 @@
-//! Escape sequences in words: those that the codec has a code for, those that designate a character set, and others with a name.
+//! Control characters in words, and escape sequences: those that the codec has a code for, those that designate a character set, and others with a name.
 
-use crate::describe::Describe;
-use crate::escape_rows::{CODES, NAMES, OTHERS, SETS, SETS_OF_96, SETS_OF_SEVERAL};
-use crate::numbered::words_of;
-use csicodec_base::Esc;
+use crate::escape_rows::{CONTROLS, NAMES, OTHERS, SETS, SETS_OF_96, SETS_OF_SEVERAL};
+use crate::rows::find;
 use std::fmt;
 
-/// What an escape sequence is that has no code.
+/// What an escape sequence is.
 #[derive(Clone, Copy)]
-pub enum Escape {
+enum Escape {
     /// One whose name and deed stand in a table.
     Named(&'static str),
     /// One that designates a set: which of G0 to G3 it becomes, and the set.
     Set(&'static str, &'static str),
 }
 
-impl fmt::Display for Escape {
-    fn fmt<W: fmt::Write>(&self, f: &mut fmt::Formatter<W>) -> fmt::Result {
-        match self {
-            Escape::Named(words) => f.write_str(words),
-            Escape::Set(place, set) => write!(f, "SCS  {place}: {set}"),
-        }
-    }
-}
-
-/// The words of these bytes, where the table has them. In each row a tab stands behind the bytes.
-fn find(table: &'static [&'static str], bytes: &[u8]) -> Option<&'static str> {
-    for row in table {
-        let is_as_long = row.as_bytes().get(bytes.len()).copied() == Some(b'\t');
-        if is_as_long && row.as_bytes().starts_with(bytes) {
-            return Some(row.split_once('\t')?.1);
-        }
-    }
-    None
-}
-
 /// Which of G0 to G3 an intermediate byte means, and whether the set has 96 characters (ECMA-35, 14.3.2).
 fn place_of(byte: u8) -> Option<(&'static str, bool)> {
-    Some(match byte {
-        b'(' => ("G0", false),
-        b')' => ("G1", false),
-        b'*' => ("G2", false),
-        b'+' => ("G3", false),
-        b'-' => ("G1", true),
-        b'.' => ("G2", true),
-        b'/' => ("G3", true),
+    let place = match byte {
+        b'(' => "G0",
+        b')' | b'-' => "G1",
+        b'*' | b'.' => "G2",
+        b'+' | b'/' => "G3",
         _ => return None,
-    })
+    };
+    Some((place, byte >= b'-'))
 }
 
 /// A set of several bytes a character, by what stands behind `$`; it becomes G0 where no intermediate byte stands there.
@@ -59,8 +35,8 @@ fn designated_of_several(bytes: &[u8]) -> Option<Escape> {
     Some(Escape::Set(place, set))
 }
 
-/// What an escape sequence is that has no code, by its bytes behind ESC.
-pub fn escape_of(bytes: &[u8]) -> Option<Escape> {
+/// What an escape sequence is, by its bytes behind ESC.
+fn escape_of(bytes: &[u8]) -> Option<Escape> {
     let (first, behind) = bytes.split_first()?;
     let (_, between) = bytes.split_last()?;
     if *first == b'$' {
@@ -76,28 +52,59 @@ pub fn escape_of(bytes: &[u8]) -> Option<Escape> {
     })
 }
 
-impl Describe for Esc {
-    fn describe<W: fmt::Write>(&self, f: &mut fmt::Formatter<W>) -> fmt::Result {
-        match self {
-            Esc::Code(code) => {
-                let words = words_of(&CODES, i64::from(code.to_u16()));
-                f.write_str(words.unwrap_or("unnamed"))
-            }
-            Esc::Unspecified {
-                intermediate,
-                control,
-            } => {
-                f.write_str("unknown  ESC ")?;
-                match intermediate {
-                    Some(b' ') => f.write_str("SP ")?,
-                    Some(intermediate) => {
-                        let between = char::from(*intermediate);
-                        write!(f, "{between} ")?;
-                    }
-                    None => {}
-                }
-                f.write_char(char::from(*control))
+/// An escape sequence by its bytes behind ESC, as a terminal reads it. It prints as its words: a name, two blanks, and what it does.
+#[derive(Clone, Copy)]
+pub struct EscReading<'a>(pub &'a [u8]);
+
+impl<'a> EscReading<'a> {
+    /// That of these bytes with more than one intermediate byte, for which the codec has no code; none where they aren't such a sequence,
+    /// whole (ECMA-35, 13.2.1).
+    pub fn long(bytes: &'a [u8]) -> Option<EscReading<'a>> {
+        let behind = bytes.strip_prefix(b"\x1b".as_slice())?;
+        let (last, between) = behind.split_last()?;
+        let is_whole = between.len() > 1
+            && (0x30..=0x7e).contains(last)
+            && between.iter().all(|byte| (0x20..=0x2f).contains(byte));
+        is_whole.then_some(EscReading(behind))
+    }
+}
+
+impl<'a> fmt::Display for EscReading<'a> {
+    fn fmt<W: fmt::Write>(&self, f: &mut fmt::Formatter<W>) -> fmt::Result {
+        match escape_of(self.0) {
+            Some(Escape::Named(words)) => f.write_str(words),
+            Some(Escape::Set(place, set)) => write!(f, "SCS  {place}: {set}"),
+            None => tell_unknown(f, self.0),
+        }
+    }
+}
+
+/// One without a name is told by its bytes, with SP for a blank.
+fn tell_unknown<W: fmt::Write>(f: &mut fmt::Formatter<W>, bytes: &[u8]) -> fmt::Result {
+    if bytes.len() > 2 {
+        return f.write_str("unknown  escape sequence");
+    }
+    f.write_str("unknown  ESC")?;
+    for byte in bytes {
+        match *byte {
+            b' ' => f.write_str(" SP")?,
+            byte => {
+                f.write_str(" ")?;
+                f.write_char(char::from(byte))?;
             }
         }
+    }
+    Ok(())
+}
+
+/// The name of a control character, or of a carriage return with a line feed behind it, and what it does.
+pub fn words_of_control(bytes: &[u8]) -> &'static str {
+    match bytes {
+        [0x7f] => "DEL  nothing",
+        [byte] => CONTROLS
+            .get(usize::from(*byte))
+            .copied()
+            .unwrap_or("control"),
+        _ => "CR LF  cursor to column 1, down 1 line, scrolling",
     }
 }

@@ -7,13 +7,8 @@ macro_rules! pieces {
     ($($piece:tt)*) => { [$($piece)*] };
 }
 
-/// An expression on one line.
-macro_rules! whole {
-    ($($part:tt)*) => { $($part)* };
-}
-
 mod action_words;
-mod describe;
+mod actions;
 mod device;
 mod escape_rows;
 mod escapes;
@@ -21,44 +16,19 @@ mod input;
 mod key_words;
 mod keys;
 mod list;
-mod mode;
 mod mode_words;
 mod mouse;
-mod numbered;
 mod reading;
-mod sent_rows;
+mod rows;
 mod sequence_rows;
 mod sequences;
 mod sgr;
 mod sgr_words;
 mod template;
 mod told;
-mod values;
 
-use crate::action_words::words_of_action;
-use csicodec_base::CsiParam;
-use csicodec_parser::{CSI, Unspecified};
-pub use describe::{Describe, Described};
+pub use actions::{ActionList, ActionWords};
+pub use escapes::{EscReading, words_of_control};
 pub use input::Did;
-pub use reading::{EscReading, LongEscReading, Reading};
-use std::fmt;
-
-impl Describe for CSI {
-    fn describe<W: fmt::Write>(&self, f: &mut fmt::Formatter<W>) -> fmt::Result {
-        words_of_action(self).tell(f)
-    }
-}
-
-/// What no table has a name for is told by its tokens, with SP for a blank, as the standards write it.
-impl Describe for Unspecified {
-    fn describe<W: fmt::Write>(&self, f: &mut fmt::Formatter<W>) -> fmt::Result {
-        f.write_str("unknown  CSI ")?;
-        for token in &self.params {
-            match token {
-                CsiParam::P(b' ') => f.write_str(" SP ")?,
-                _ => write!(f, "{token}")?,
-            }
-        }
-        f.write_char(self.control)
-    }
-}
+pub use reading::Reading;
+pub use rows::find;

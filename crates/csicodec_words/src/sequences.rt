@@ -1,108 +1,128 @@
-//! The words of control sequences that table/sequences.toml has, of those that a row of csicodec_sequences reads and of others.
+//! The words of control sequences by their lists: those that a row of csicodec_sequences reads, and others.
 
-use crate::list::{count_fields, intermediate, marker};
+use crate::list::count_fields;
+use crate::rows::{Rows, number};
 use crate::sequence_rows::{INSTEAD, parts};
-use crate::values::Values;
 use csicodec_base::CsiParam;
-use csicodec_sequences::KnownSequence;
+use csicodec_sequences::{KnownSequence, Parts};
 
-/// From a number to another one.
-pub type Range = (i64, i64);
-
-/// Any number.
-pub const ANY: Range = (0, i64::MAX);
-
-/// Words, and the lists that they are of.
+/// What the words of a list are found by. A row begins with the final character, the marker and the intermediate byte, `_` where there is
+/// none. Behind these stand, with commas between them, its first and its second number, how many numbers it has (the list that an action
+/// prints, how many tokens), and the row of csicodec_sequences that reads it; and then a tab and the words.
 #[derive(Clone, Copy)]
-pub struct WordsRow {
-    /// The row of csicodec_sequences that reads such a list; 0 where none does.
-    pub kind: u32,
-    /// One of `< = > ?`, and 0 where the list has none.
-    pub marker: u8,
-    /// The byte ahead of the final character, and 0 where the list has none.
-    pub between: u8,
-    /// The final character.
-    pub control: char,
-    /// The first number, 0 where it is left out.
-    pub first: Range,
-    /// The second number.
-    pub second: Range,
-    /// How many numbers a list has that no row reads, those counted too that are left out; a list with a colon has too many.
-    pub fields: Range,
-    /// The words, with holes for numbers.
-    pub words: &'static str,
+pub(crate) struct ListKey {
+    front: [u8; 3],
+    first: i64,
+    second: i64,
+    fields: i64,
+    /// The row that reads the list, where that is known; then it doesn't matter how many numbers there are.
+    kind: Option<u32>,
 }
 
-impl WordsRow {
-    /// Whether it is of a list by its bytes, its first two numbers and how many it has.
-    #[inline(never)]
-    fn is_of(&self, params: &[CsiParam]) -> bool {
-        let number = |place: u32| Values::List(params).number(place).unwrap_or(0);
-        self.marker == marker(params)
-            && self.between == intermediate(params)
-            && is_within(count_fields(params), self.fields)
-            && self.has(number(0), number(1))
-    }
-
-    /// Whether these can be its first two numbers.
-    fn has(&self, first: i64, second: i64) -> bool {
-        is_within(first, self.first) && is_within(second, self.second)
-    }
+/// Whether a number is among those of a row: one alone, one and those up to another or all above it, or any.
+fn is_within(number: i64, span: &str) -> bool {
+    let (first, last) = span.split_once('-').unwrap_or((span, span));
+    number >= first.parse().unwrap_or(0) && number <= last.parse().unwrap_or(i64::MAX)
 }
 
-fn is_within(number: i64, span: Range) -> bool {
-    span.0 <= number && number <= span.1
-}
-
-/// The words of a row of csicodec_sequences, by its first two numbers.
-fn of_kind(rows: &'static [WordsRow], kind: u32, first: i64, second: i64) -> Option<&'static str> {
-    for row in rows {
-        if row.kind == kind && row.has(first, second) {
-            return Some(row.words);
+impl ListKey {
+    /// Of a list before this final character.
+    pub(crate) fn new(params: &[CsiParam], control: char) -> ListKey {
+        let parts = Parts::of(params);
+        let shown = |byte: u8| if byte == 0 { b'_' } else { byte };
+        ListKey {
+            front: [
+                u8::try_from(u32::from(control)).unwrap_or(0),
+                shown(parts.marker),
+                shown(parts.intermediate),
+            ],
+            first: number(params, 0).unwrap_or(0),
+            second: number(params, 1).unwrap_or(0),
+            fields: count_fields(params),
+            kind: None,
         }
     }
-    None
+
+    /// Of the list that an action prints: it goes by how many tokens there are.
+    pub(crate) fn of_action(params: &[CsiParam], control: char) -> ListKey {
+        ListKey {
+            fields: params.len() as i64,
+            ..ListKey::new(params, control)
+        }
+    }
+
+    /// Any bytes before the final character, and no intermediate one.
+    pub(crate) fn without_intermediate(self) -> ListKey {
+        let [control, marker, _] = self.front;
+        ListKey {
+            front: [control, marker, b'_'],
+            ..self
+        }
+    }
+
+    /// The same of a row that reads the list.
+    fn read_by(self, known: &KnownSequence) -> ListKey {
+        let value = |index: usize| i64::from(known.value(index).unwrap_or(0));
+        ListKey {
+            first: value(0),
+            second: value(1),
+            kind: Some(known.form().kind),
+            ..self
+        }
+    }
+
+    /// Whether a row has the numbers.
+    fn is_of(&self, numbers: &str) -> bool {
+        let mut parts = numbers.split(',');
+        let (first, second) = (parts.next().unwrap_or(""), parts.next().unwrap_or(""));
+        let (fields, kind) = (parts.next().unwrap_or(""), parts.next().unwrap_or(""));
+        is_within(self.first, first)
+            && is_within(self.second, second)
+            && match self.kind {
+                Some(number) => kind.parse::<u32>().ok() == Some(number),
+                None => is_within(self.fields, fields),
+            }
+    }
+
+    /// The words of the first row that is of the list, in a table in the order of its rows' first three bytes.
+    pub(crate) fn words(&self, rows: Rows) -> Option<&'static str> {
+        let front = self.front.as_slice();
+        let begin = rows.partition_point(|row| row.as_bytes() < front);
+        for row in rows.get(begin..)? {
+            let (form, words) = row.split_once('\t')?;
+            if !form.as_bytes().starts_with(front) {
+                return None;
+            }
+            if self.is_of(form.split_at_checked(3)?.1) {
+                return Some(words);
+            }
+        }
+        None
+    }
 }
 
-/// The words of a list that a row of csicodec_sequences reads; none of a key.
-fn of_row(params: &[CsiParam], control: char) -> Option<&'static str> {
-    let known = KnownSequence::read(params, control)?;
-    let kind = known.form().kind;
-    let first = i64::from(known.value(0).unwrap_or(0));
-    let second = i64::from(known.value(1).unwrap_or(0));
+/// The words of the first row of all parts that is of a list.
+fn words_in_parts(key: &ListKey) -> Option<&'static str> {
     for rows in parts() {
-        if let Some(words) = of_kind(rows, kind, first, second) {
+        if let Some(words) = key.words(rows) {
             return Some(words);
         }
     }
     None
 }
 
-/// The words of the first of these rows that is of a list.
-#[inline(always)]
-fn of_bytes(rows: &'static [WordsRow], params: &[CsiParam], control: char) -> Option<&'static str> {
-    for row in rows {
-        if row.control == control && row.is_of(params) {
-            return Some(row.words);
-        }
-    }
-    None
-}
-
-/// The words of a list without an action.
-pub fn words(params: &[CsiParam], control: char) -> Option<&'static str> {
-    if let Some(words) = of_row(params, control) {
-        return Some(words);
-    }
-    for rows in parts() {
-        if let Some(words) = of_bytes(rows, params, control) {
+/// The words of a list without an action; none of a key.
+pub(crate) fn words(params: &[CsiParam], control: char) -> Option<&'static str> {
+    let key = ListKey::new(params, control);
+    if let Some(known) = KnownSequence::read(params, control) {
+        if let Some(words) = words_in_parts(&key.read_by(&known)) {
             return Some(words);
         }
     }
-    None
+    words_in_parts(&key)
 }
 
 /// The words in the place of an action's, where terminals read its list otherwise.
-pub fn words_instead(params: &[CsiParam], control: char) -> Option<&'static str> {
-    of_bytes(&INSTEAD, params, control)
+pub(crate) fn words_instead(params: &[CsiParam], control: char) -> Option<&'static str> {
+    ListKey::new(params, control).words(&INSTEAD)
 }

@@ -1,7 +1,7 @@
 //! Colours, in words.
 
+use crate::rows::tell_number;
 use crate::sgr_words::COLORS;
-use crate::values::tell_number;
 use csicodec_base::ColorSpec;
 use std::fmt;
 

@@ -1,44 +1,15 @@
 // Written by tools/table from table/sgr.toml: change that, and run python3 tools/table.
 //! What attributes of text are called.
 
-use crate::values::Said;
-use csicodec_base::{Blink, Font, Intensity, Sgr, Underline, VerticalAlign};
+use csicodec_base::{ColorSpec, Sgr};
 
-/// What an attribute is called.
-pub(crate) fn words_of_attribute(attribute: &Sgr) -> Said<'_> {
+/// What stands ahead of the colour that an attribute has.
+pub(crate) fn color_of(attribute: &Sgr) -> Option<(&'static str, &ColorSpec)> {
     match attribute {
-        Sgr::Reset => Said::Alone("SGR  all attributes off"),
-        Sgr::Intensity(Intensity::Bold) => Said::Alone("SGR  bold on"),
-        Sgr::Intensity(Intensity::Half) => Said::Alone("SGR  faint on"),
-        Sgr::Italic(true) => Said::Alone("SGR  italic on"),
-        Sgr::Underline(Underline::Single) => Said::Alone("SGR  underline on"),
-        Sgr::Blink(Blink::Slow) => Said::Alone("SGR  slow blink on"),
-        Sgr::Blink(Blink::Rapid) => Said::Alone("SGR  rapid blink on"),
-        Sgr::Inverse(true) => Said::Alone("SGR  inverse on"),
-        Sgr::Invisible(true) => Said::Alone("SGR  concealed on"),
-        Sgr::StrikeThrough(true) => Said::Alone("SGR  crossed out on"),
-        Sgr::Font(Font::Default) => Said::Alone("SGR  primary font"),
-        Sgr::Font(Font::Alternate(number)) => Said::Number("SGR  alternative font ", *number),
-        Sgr::Underline(Underline::Double) => Said::Alone("SGR  double underline on"),
-        Sgr::Intensity(Intensity::Normal) => Said::Alone("SGR  bold and faint off"),
-        Sgr::Italic(false) => Said::Alone("SGR  italic off"),
-        Sgr::Underline(Underline::None) => Said::Alone("SGR  underline off"),
-        Sgr::Blink(Blink::None) => Said::Alone("SGR  blink off"),
-        Sgr::Inverse(false) => Said::Alone("SGR  inverse off"),
-        Sgr::Invisible(false) => Said::Alone("SGR  concealed off"),
-        Sgr::StrikeThrough(false) => Said::Alone("SGR  crossed out off"),
-        Sgr::Foreground(color) => Said::Color("SGR  foreground ", color),
-        Sgr::Background(color) => Said::Color("SGR  background ", color),
-        Sgr::Overline(true) => Said::Alone("SGR  overline on"),
-        Sgr::Overline(false) => Said::Alone("SGR  overline off"),
-        Sgr::UnderlineColor(color) => Said::Color("SGR  underline colour ", color),
-        Sgr::VerticalAlign(VerticalAlign::SuperScript) => Said::Alone("SGR  superscript on"),
-        Sgr::VerticalAlign(VerticalAlign::SubScript) => Said::Alone("SGR  subscript on"),
-        Sgr::VerticalAlign(VerticalAlign::BaseLine) =>
-            whole! { Said::Alone("SGR  superscript and subscript off") },
-        Sgr::Underline(Underline::Curly) => Said::Alone("SGR  curly underline on"),
-        Sgr::Underline(Underline::Dotted) => Said::Alone("SGR  dotted underline on"),
-        Sgr::Underline(Underline::Dashed) => Said::Alone("SGR  dashed underline on"),
+        Sgr::Foreground(color) => Some(("SGR  foreground ", color)),
+        Sgr::Background(color) => Some(("SGR  background ", color)),
+        Sgr::UnderlineColor(color) => Some(("SGR  underline colour ", color)),
+        _ => None,
     }
 }
 
@@ -48,13 +19,22 @@ pub(crate) static COLORS: [&str; 16] = pieces! {
     "bright green", "bright yellow", "bright blue", "bright magenta", "bright cyan", "bright white",
 };
 
-/// Attributes that no action sets, each alone.
-pub(crate) static UNREAD: [(i64, &str); 12] = pieces! {
-    (20, "SGR  Fraktur on"), (26, "SGR  proportional spacing on"), (50, "SGR  proportional spacing off"),
-    (51, "SGR  framed on"), (52, "SGR  encircled on"), (54, "SGR  framed and encircled off"),
-    (60, "SGR  ideogram underline or right side line on"),
-    (61, "SGR  ideogram double underline or double right side line on"),
-    (62, "SGR  ideogram overline or left side line on"),
-    (63, "SGR  ideogram double overline or double left side line on"), (64, "SGR  ideogram stress marking on"),
-    (65, "SGR  ideogram lines off"),
+/// Attributes without a colour: the text that sets each, a tab and the words. Some are set by no action.
+pub(crate) static ATTRIBUTES: [&str; 48] = pieces! {
+    "0\tSGR  all attributes off", "1\tSGR  bold on", "10\tSGR  primary font", "11\tSGR  alternative font 1",
+    "12\tSGR  alternative font 2", "13\tSGR  alternative font 3", "14\tSGR  alternative font 4",
+    "15\tSGR  alternative font 5", "16\tSGR  alternative font 6", "17\tSGR  alternative font 7",
+    "18\tSGR  alternative font 8", "19\tSGR  alternative font 9", "2\tSGR  faint on", "20\tSGR  Fraktur on",
+    "21\tSGR  double underline on", "22\tSGR  bold and faint off", "23\tSGR  italic off",
+    "24\tSGR  underline off", "25\tSGR  blink off", "26\tSGR  proportional spacing on", "27\tSGR  inverse off",
+    "28\tSGR  concealed off", "29\tSGR  crossed out off", "3\tSGR  italic on", "4\tSGR  underline on",
+    "4:3\tSGR  curly underline on", "4:4\tSGR  dotted underline on", "4:5\tSGR  dashed underline on",
+    "5\tSGR  slow blink on", "50\tSGR  proportional spacing off", "51\tSGR  framed on", "52\tSGR  encircled on",
+    "53\tSGR  overline on", "54\tSGR  framed and encircled off", "55\tSGR  overline off",
+    "6\tSGR  rapid blink on", "60\tSGR  ideogram underline or right side line on",
+    "61\tSGR  ideogram double underline or double right side line on",
+    "62\tSGR  ideogram overline or left side line on",
+    "63\tSGR  ideogram double overline or double left side line on", "64\tSGR  ideogram stress marking on",
+    "65\tSGR  ideogram lines off", "7\tSGR  inverse on", "73\tSGR  superscript on", "74\tSGR  subscript on",
+    "75\tSGR  superscript and subscript off", "8\tSGR  concealed on", "9\tSGR  crossed out on",
 };

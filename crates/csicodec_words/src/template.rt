@@ -1,7 +1,8 @@
 //! Words with holes for numbers.
 
+use crate::rows::{number, tell_number};
 use crate::told::tell_by_code;
-use crate::values::{Values, tell_number};
+use csicodec_base::CsiParam;
 use std::fmt;
 
 /// Writes words. `{2}` stands for the third number, 0 where it is left out; `{2=5}` for it, 5 where it is left out; `{2:text}` for it, and
@@ -11,12 +12,12 @@ use std::fmt;
 pub fn fill<W: fmt::Write>(
     f: &mut fmt::Formatter<W>,
     words: &str,
-    values: &Values<'_>,
+    params: &[CsiParam],
 ) -> fmt::Result {
     for piece in words.split('{') {
         match piece.split_once('}') {
             Some((hole, text)) => {
-                fill_hole(f, hole, values)?;
+                fill_hole(f, hole, params)?;
                 f.write_str(text)?;
             }
             None => f.write_str(piece)?,
@@ -26,23 +27,23 @@ pub fn fill<W: fmt::Write>(
 }
 
 /// A hole is a place, a digit of base 16, and what is told of the number there.
-pub(crate) fn fill_hole<W: fmt::Write>(
+fn fill_hole<W: fmt::Write>(
     f: &mut fmt::Formatter<W>,
     hole: &str,
-    values: &Values<'_>,
+    params: &[CsiParam],
 ) -> fmt::Result {
     let mut rest = hole.chars();
     let place = rest
         .next()
         .and_then(|digit| digit.to_digit(16))
         .unwrap_or(0);
-    let value = values.number(place);
+    let value = number(params, place);
     match rest.as_str().strip_prefix('=') {
         Some(rest) => {
             let (otherwise, kind) = front_number(rest);
-            fill_kind(f, kind, place, value.or(otherwise), values)
+            fill_kind(f, kind, place, value.or(otherwise), params)
         }
-        None => fill_kind(f, rest.as_str(), place, value, values),
+        None => fill_kind(f, rest.as_str(), place, value, params),
     }
 }
 
@@ -61,28 +62,24 @@ fn fill_kind<W: fmt::Write>(
     kind: &str,
     place: u32,
     value: Option<i64>,
-    values: &Values<'_>,
+    params: &[CsiParam],
 ) -> fmt::Result {
     let mut rest = kind.chars();
     let first = rest.next();
-    let (rest, number) = (rest.as_str(), value.unwrap_or(0));
+    let (rest, given) = (rest.as_str(), value.unwrap_or(0));
     match first {
-        None => tell_number(f, number),
-        Some('@') => tell_by_code(f, rest, number, values),
-        Some('?') => told(f, rest, number),
-        Some('&') => bits_told(f, rest, number),
-        Some('#') => counted(f, rest, number),
-        Some('.') => each_told(f, rest, place, value, values),
+        None => tell_number(f, given),
+        Some('@') => tell_by_code(f, rest, given, params),
+        Some('?') => told(f, rest, given),
+        Some('&') => bits_told(f, rest, given),
+        Some('#') => counted(f, rest, given),
+        Some('.') => each_told(f, rest, place, value, params),
         _ => fill_number(f, kind, value),
     }
 }
 
 /// A number and what it counts.
-pub(crate) fn counted<W: fmt::Write>(
-    f: &mut fmt::Formatter<W>,
-    unit: &str,
-    number: i64,
-) -> fmt::Result {
+fn counted<W: fmt::Write>(f: &mut fmt::Formatter<W>, unit: &str, number: i64) -> fmt::Result {
     tell_number(f, number)?;
     f.write_str(" ")?;
     f.write_str(unit)?;
@@ -140,7 +137,7 @@ fn each_told<W: fmt::Write>(
     list: &str,
     from: u32,
     first: Option<i64>,
-    values: &Values<'_>,
+    params: &[CsiParam],
 ) -> fmt::Result {
     let list = list.strip_prefix(".?").unwrap_or(list);
     let mut ahead = ": ";
@@ -152,7 +149,7 @@ fn each_told<W: fmt::Write>(
         f.write_str(ahead)?;
         told(f, list, value)?;
         ahead = ", ";
-        next = values.number(place.saturating_add(1));
+        next = number(params, place.saturating_add(1));
     }
     Ok(())
 }

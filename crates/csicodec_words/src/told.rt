@@ -1,9 +1,9 @@
 //! What is told of a number by code.
 
 use crate::device::{extensions, graphics_values};
-use crate::mode::{mode_name, private_mode_name, tell_turned};
-use crate::mode_words::{RESET, SET, TERMINAL_RESET, TERMINAL_SET};
-use crate::values::{Values, tell_number};
+use crate::mode_words::{PRIVATE, RESET, SET, TERMINAL, TERMINAL_RESET, TERMINAL_SET};
+use crate::rows::{Rows, number, tell_number, words_of};
+use csicodec_base::CsiParam;
 use std::fmt;
 
 /// Tells of a number what a hole's code says.
@@ -11,7 +11,7 @@ pub(crate) fn tell_by_code<W: fmt::Write>(
     f: &mut fmt::Formatter<W>,
     code: &str,
     value: i64,
-    values: &Values<'_>,
+    params: &[CsiParam],
 ) -> fmt::Result {
     match code {
         "mode" => f.write_str(mode_name(value)),
@@ -20,15 +20,46 @@ pub(crate) fn tell_by_code<W: fmt::Write>(
         "private_mode" => f.write_str(private_mode_name(value)),
         "private_on" => tell_turned(f, value, &SET, private_mode_name(value), " on"),
         "private_off" => tell_turned(f, value, &RESET, private_mode_name(value), " off"),
-        "extensions" => extensions(f, values),
+        "extensions" => extensions(f, params),
         "mouse" => mouse_event(f, value.saturating_sub(32), false),
         "button" => mouse_event(f, value, false),
         "released" => mouse_event(f, value, true),
         "place" => coordinate(f, value),
-        "lines" => margins(f, "line", values.number(0), value),
-        "columns" => margins(f, "column", values.number(0), value),
-        "f3" => f3(f, values.number(0), value),
-        _ => graphics_values(f, values),
+        "lines" => margins(f, "line", number(params, 0), value),
+        "columns" => margins(f, "column", number(params, 0), value),
+        "f3" => f3(f, number(params, 0), value),
+        _ => graphics_values(f, params),
+    }
+}
+
+/// What a mode is called.
+fn mode_name(number: i64) -> &'static str {
+    words_of(&TERMINAL, number).unwrap_or("unnamed mode")
+}
+
+/// What a private mode is called. One above 65535 is none.
+fn private_mode_name(number: i64) -> &'static str {
+    match words_of(&PRIVATE, number) {
+        Some(words) => words,
+        None if number > 65535 => "unnamed mode",
+        None => "unnamed private mode",
+    }
+}
+
+/// Tells that a mode is set or reset: by words of its own, or by its name and these behind it.
+fn tell_turned<W: fmt::Write>(
+    f: &mut fmt::Formatter<W>,
+    number: i64,
+    own: Rows,
+    name: &'static str,
+    behind: &'static str,
+) -> fmt::Result {
+    match words_of(own, number) {
+        Some(words) => f.write_str(words),
+        None => {
+            f.write_str(name)?;
+            f.write_str(behind)
+        }
     }
 }
 
@@ -36,14 +67,20 @@ pub(crate) fn tell_by_code<W: fmt::Write>(
 /// from 8 on (xterm's ctlseqs, Mouse Tracking).
 fn mouse_event<W: fmt::Write>(f: &mut fmt::Formatter<W>, code: i64, released: bool) -> fmt::Result {
     let moved = code & 32 != 0;
-    match (code & 192, code & 3, moved) {
-        (64, 0, _) => f.write_str("wheel turned up at"),
-        (64, 1, _) => f.write_str("wheel turned down at"),
-        (64, 2, _) => f.write_str("wheel turned left at"),
-        (64, _, _) => f.write_str("wheel turned right at"),
-        (0 | 192, 3, true) => f.write_str("moved to"),
-        (0 | 192, 3, false) => f.write_str("button released at"),
-        (kind, low, _) => {
+    match (code & 192, code & 3) {
+        (64, low) => {
+            let (ahead, behind) = if released {
+                ("", " released at")
+            } else {
+                ("turned ", " at")
+            };
+            let way = ["up", "down", "left", "right"];
+            let way = way.get(low as usize).copied().unwrap_or("");
+            write!(f, "wheel {ahead}{way}{behind}")
+        }
+        (0 | 192, 3) if moved => f.write_str("moved to"),
+        (0 | 192, 3) => f.write_str("button released at"),
+        (kind, low) => {
             let button = low.saturating_add(if kind == 128 { 8 } else { 1 });
             let done = if released {
                 "released at"
@@ -65,7 +102,7 @@ fn coordinate<W: fmt::Write>(f: &mut fmt::Formatter<W>, number: i64) -> fmt::Res
     tell_number(f, number.saturating_sub(32))
 }
 
-/// The lines or columns from one to another, both counted, of which 4294967295 is the screen's last.
+/// The lines or columns from one to another, both counted, of which 4294967295 is the screen's last. Without numbers they are all.
 fn margins<W: fmt::Write>(
     f: &mut fmt::Formatter<W>,
     unit: &'static str,
@@ -74,7 +111,7 @@ fn margins<W: fmt::Write>(
 ) -> fmt::Result {
     let first = first.unwrap_or(1);
     match (first, last) {
-        (1, 0xffff_ffff) => f.write_str(" the whole screen"),
+        (1, 0 | 0xffff_ffff) => f.write_str(" the whole screen"),
         (_, 0xffff_ffff) => write!(f, " {unit} {first} to the last"),
         _ => write!(f, " {unit}s {first} to {last}"),
     }

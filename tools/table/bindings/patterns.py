@@ -3,17 +3,17 @@ import re
 import sys
 
 from bindings.library import BY_NUMBER, ESCAPES, NAMED, SUBJECTS, acting, declared, numbers_of
-from layout import string
+from layout import keyed
 
 # The enumerations whose names stand for numbers in a text.
 CODED = ("DecPrivateModeCode", "TerminalModeCode", "DeviceAttributeCodes")
 # What isn't in the table, or of which another text is there than the one that is read: its name, and its patterns.
-OTHERS = [
-    ("Device::RequestTerminalParameters", ["[{/value}x"]),
-    ("SelectCharacterPath", ["[{};{/value/1} k"]),
-    ("Unspecified", ["[{/params}{/control}"]),
-    ("Esc::Unspecified", ["{/intermediate'}{/control'}"]),
-]
+OTHERS = {
+    "Device::RequestTerminalParameters": ["[{/value}x"],
+    "SelectCharacterPath": ["[{};{/value/1} k"],
+    "Unspecified": ["[{/params}{/control}"],
+    "Esc::Unspecified": ["{/intermediate'}{/control'}"],
+}
 
 
 def member(name):
@@ -63,16 +63,16 @@ def texts_of(form, names, text, variant):
 
 
 def rows():
-    """Each action's name with a pattern, in the order in which they are tried."""
+    """Each action's name with its patterns, in the order in which they are tried."""
+    found = {}
     for group in BY_NUMBER:
         for action in SUBJECTS[group].actions:
             name, *part = action.variant
             if action.row.get("read", True):
-                yield from ((f"{group}::{name}", "[" + pattern) for pattern in texts_of(action.form, list(action.names), action.text(), part and part[0]))
-    for name, patterns in OTHERS:
-        yield from ((name, pattern) for pattern in patterns)
-    for kind in declared(ESCAPES):
-        yield from (("Esc::Code", number.to_bytes(2, "big").decode().lstrip("\0")) for _, number, _ in numbers_of(kind))
+                texts = texts_of(action.form, list(action.names), action.text(), part and part[0])
+                found.setdefault(f"{group}::{name}", []).extend("[" + pattern for pattern in texts)
+    codes = [number.to_bytes(2, "big").decode().lstrip("\0") for kind in declared(ESCAPES) for _, number, _ in numbers_of(kind)]
+    return {**found, **OTHERS, "Esc::Code": codes}
 
 
 def codes():
@@ -83,19 +83,22 @@ def codes():
             for variant, number, _ in numbers_of(kind):
                 if found.setdefault(variant, number) != number:
                     sys.exit(f"table: two numbers of {variant}: csicodec_explain knows names by themselves")
-    return sorted(found.items())
+    return found.items()
+
+
+SAID = """Names of actions, each with the texts that may stand behind ESC, a tab ahead of each. What is between braces stands for something else: the
+place of a member (RFC 6901) for what that says, one with `'` behind it for a byte, and one with `|;` for the items of a list with `;` between
+them; nothing for a number of which only an enumeration says the name."""
 
 
 def patterns():
-    table, names = list(rows()), codes()
+    texts = ((name, "\t".join(texts)) for name, texts in rows().items())
     return f"""//! The texts of actions, and the numbers of names. Written by tools/table.
 
-/// Names of actions, each with a blank and what may stand behind ESC. What is between braces stands for something else: the place of a member (RFC
-/// 6901) for what that says, one with `'` behind it for a byte, and one with `|;` for the items of a list with `;` between them; nothing
-/// for a number of which only an enumeration says the name.
-pub(crate) static PATTERNS: [&str; {len(table)}] = [
-""" + "".join(f"    {string(f'{name} {text}')},\n" for name, text in table) + f"""];
+/// Rows on a line.
+macro_rules! pieces {{
+    ($($piece:tt)*) => {{ [$($piece)*] }};
+}}
 
-/// Names that stand for a number.
-pub(crate) static CODES: [(&str, u16); {len(names)}] = [
-""" + "".join(f"    ({string(name)}, {number}),\n" for name, number in names) + "];\n"
+{keyed(SAID, "PATTERNS", texts)}
+{keyed("Names that stand for a number, a tab, and the number.", "CODES", codes())}"""

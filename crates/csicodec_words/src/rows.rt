@@ -1,0 +1,44 @@
+//! Words in tables, behind what they are found by.
+
+use csicodec_base::CsiParam;
+use itoa::Buffer;
+use std::fmt;
+
+/// Rows, each a key, a tab and words, in the order of their bytes.
+pub type Rows = &'static [&'static str];
+
+/// The words behind a key, where the table has it.
+pub fn find(table: Rows, key: &[u8]) -> Option<&'static str> {
+    let at = table.partition_point(|row| row.as_bytes() < key);
+    let (known, words) = table.get(at)?.split_once('\t')?;
+    (known.as_bytes() == key).then_some(words)
+}
+
+/// The words behind a number in decimal digits.
+pub(crate) fn words_of(table: Rows, number: i64) -> Option<&'static str> {
+    find(table, Buffer::new().format(number).as_bytes())
+}
+
+/// Writes a number in decimal digits.
+pub(crate) fn tell_number<W: fmt::Write>(f: &mut fmt::Formatter<W>, number: i64) -> fmt::Result {
+    f.write_str(Buffer::new().format(number))
+}
+
+/// The number at a place of a list, counted from 0 by the semicolons ahead of it; behind a colon stand others, of the same place. None where
+/// it is left out.
+pub(crate) fn number(params: &[CsiParam], place: u32) -> Option<i64> {
+    let mut at = 0u32;
+    let mut is_behind = false;
+    for token in params {
+        match token {
+            CsiParam::P(b';') => {
+                at = at.saturating_add(1);
+                is_behind = false;
+            }
+            CsiParam::P(b':') => is_behind = true,
+            CsiParam::Integer(number) if at == place && !is_behind => return Some(*number),
+            _ => {}
+        }
+    }
+    None
+}

@@ -46,6 +46,6 @@ pub use Rattle.csicodec_parser.specs.Next
 pub use Rattle.csicodec_parser.specs.Segments
 pub use Rattle.csicodec_streams.specs.Decoding
 pub use Rattle.csicodec_streams.specs.Refusals
-pub use Rattle.csicodec_streams.specs.Words
+pub use Rattle.csicodec_transform.specs.Words
 pub use Rattle.csicodec_filter.specs.Faithful
 pub use Rattle.csicodec_filter.specs.Filter

@@ -23,7 +23,7 @@ pub use csicodec_parser::{
     ActionRef, CSI, CSIParser, Look, ParseGraphics, Run, Tokens, Unspecified,
 };
 pub use csicodec_streams::{
-    DecodeError, RunError, decode_all, encode, encode_all, normal_form, normalise, parse_all,
-    parse_all_over,
+    decode_all, encode, encode_all, normal_form, normalise, parse_all, parse_all_over,
 };
 pub use csicodec_tokens::Count;
+pub use csicodec_transform::{DecodeError, RunError};

@@ -1,11 +1,8 @@
 //! Moving the cursor, tab stops and margins.
 ghost use Rattle.std.specs.Prelude.{◌≡◌, ◌↔◌, ◌==◌, ◌&&◌, ◌≤◌, ◌<◌, ◌++◌, [], ◌∷◌, Some, if◌then◌else◌, length, IsTrue};
 ghost use Rattle.csicodec_tokens.specs.OneBased.{most};
-ghost use Rattle.csicodec_actions.specs.Actions.{Cursor as Moves};
-ghost use Rattle.csicodec_actions.specs.Kinds.{Count};
-ghost use Rattle.csicodec_actions.specs.Special.{IsSpecial};
-ghost use Rattle.csicodec_actions.specs.Table.Cursor.{written_cursor};
-ghost use Rattle.csicodec_actions.specs.Written.{AllGood, shown, two, written_text};
+ghost use Rattle.csicodec_actions.specs.{Actions.Cursor as Moves, Kinds.Count, Special.IsSpecial, Table.Cursor.written_cursor, Written.AllGood, Written.shown};
+ghost use Rattle.csicodec_actions.specs.{Written.two, Written.written_text};
 
 use crate::canonical::{is_count, is_one_based};
 use crate::encode::{write_choice, write_count, write_pair};

@@ -1,7 +1,6 @@
 //! Inserting, deleting, erasing and scrolling.
 ghost use Rattle.std.specs.Prelude.{◌≡◌, ◌↔◌, ◌≤◌, ◌++◌, Some, length, IsTrue};
-ghost use Rattle.csicodec_actions.specs.Table.Edit.{written_edit};
-ghost use Rattle.csicodec_actions.specs.Written.{AllGood, written_text};
+ghost use Rattle.csicodec_actions.specs.{Table.Edit.written_edit, Written.AllGood, Written.written_text};
 
 use crate::canonical::is_count;
 use crate::encode::{write_choice, write_count};

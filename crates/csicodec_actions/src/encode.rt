@@ -1,8 +1,7 @@
 //! How one parameter is written, and two.
-ghost use Rattle.std.specs.Prelude.{◌≡◌, ◌==◌, ◌<◌, ◌≤◌, ◌++◌, [], ◌∷◌, if◌then◌else◌, length};
-ghost use Rattle.std.specs.Fmt.{decimal};
-ghost use Rattle.csicodec_actions.specs.Kinds.{Count};
-ghost use Rattle.csicodec_actions.specs.Written.{Unless, shown, two};
+ghost use Rattle.std.specs.{Prelude.◌≡◌, Prelude.◌==◌, Prelude.◌<◌, Prelude.◌≤◌, Prelude.◌++◌, Prelude.[], Prelude.◌∷◌, Prelude.if◌then◌else◌, Prelude.length};
+ghost use Rattle.std.specs.{Fmt.decimal};
+ghost use Rattle.csicodec_actions.specs.{Kinds.Count, Written.Unless, Written.shown, Written.two};
 
 use csicodec_base::{OneBased, Text};
 

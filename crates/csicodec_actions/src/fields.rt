@@ -1,12 +1,8 @@
 //! Lists that are read by their fields, where they stand: it takes no memory.
-ghost use Rattle.std.specs.Prelude.{◌≡◌, IfOk, Some};
-ghost use Rattle.std.specs.List.{list_all};
-ghost use Rattle.std.specs.Option.{option_map};
-ghost use Rattle.csicodec_tokens.specs.Fields.{fields_of};
-ghost use Rattle.csicodec_actions.specs.FieldRows.{ahead_of_byte, behind, first, is_there, numbers, value_or};
-ghost use Rattle.csicodec_actions.specs.Kinds.{Count};
-ghost use Rattle.csicodec_actions.specs.Lent.{integers};
-ghost use Rattle.csicodec_tokens.specs.Private.FieldsBy.{is_field_token};
+ghost use Rattle.std.specs.{Prelude.◌≡◌, Prelude.IfOk, Prelude.Some, List.list_all, Option.option_map};
+ghost use Rattle.csicodec_tokens.specs.{Fields.fields_of, Private.FieldsBy.is_field_token};
+ghost use Rattle.csicodec_actions.specs.{FieldRows.ahead_of_byte, FieldRows.behind, FieldRows.first, FieldRows.is_there, FieldRows.numbers, FieldRows.value_or};
+ghost use Rattle.csicodec_actions.specs.{Kinds.Count, Lent.integers};
 
 use csicodec_base::{CsiParam, OneBased};
 use std::alloc::{AllocError, Global};

@@ -1,9 +1,8 @@
 //! The keyboard, and paths of characters.
 ghost use Rattle.std.specs.Prelude.{◌≤◌, ◌++◌, [], ◌∷◌, length, ◌≡◌, ◌↔◌, ◌<◌, Some, pos, IsTrue};
 ghost use Rattle.csicodec_actions.specs.Kinds.{Good, Flags as FlagsKind, Path, Way, read, kitty_mode_number, path_number};
-ghost use Rattle.csicodec_actions.specs.Table.Keyboard.{written_keyboard};
-ghost use Rattle.csicodec_actions.specs.Written.{AllGood, Byte, The, shown, written_text};
-ghost use Rattle.csicodec_actions.specs.declared.keyboard.KittyKeyboardMode.{KittyKeyboardMode};
+ghost use Rattle.csicodec_actions.specs.{Table.Keyboard.written_keyboard, Written.AllGood, Written.Byte, Written.The, Written.shown, Written.written_text};
+ghost use Rattle.csicodec_actions.specs.{declared.keyboard.KittyKeyboardMode.KittyKeyboardMode};
 
 use bitflags::Flags;
 use csicodec_base::{KittyKeyboardFlags, Text};

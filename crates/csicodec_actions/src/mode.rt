@@ -1,10 +1,8 @@
 //! Modes: what is set, reset, saved, restored or asked for.
 ghost use Rattle.std.specs.Prelude.{◌≤◌, ◌++◌, [], ◌∷◌, IsAscii, length, ◌≡◌, ◌↔◌, ◌<◌, Some, pos, IsTrue};
-ghost use Rattle.csicodec_actions.specs.Table.Mode.{written_mode};
-ghost use Rattle.csicodec_actions.specs.Written.{AllGood, Byte, The, shown, written_text};
-ghost use Rattle.csicodec_actions.specs.Modes.{changed, dec_number, resource_number, switched, terminal_number};
-ghost use Rattle.csicodec_actions.specs.Kinds.{Good, Dec, Resource, Terminal, read};
-ghost use Rattle.csicodec_actions.specs.declared.mode.XtermKeyModifierResource.{XtermKeyModifierResource};
+ghost use Rattle.csicodec_actions.specs.{Table.Mode.written_mode, Written.AllGood, Written.Byte, Written.The, Written.shown, Written.written_text, Modes.changed};
+ghost use Rattle.csicodec_actions.specs.{Modes.dec_number, Modes.resource_number, Modes.switched, Modes.terminal_number, Kinds.Good, Kinds.Dec, Kinds.Resource};
+ghost use Rattle.csicodec_actions.specs.{Kinds.Terminal, Kinds.read, declared.mode.XtermKeyModifierResource.XtermKeyModifierResource};
 
 use crate::canonical::is_said;
 use csicodec_base::{DecPrivateModeCode, TerminalModeCode, Text};

@@ -1,12 +1,8 @@
 //! Reports of the mouse.
 ghost use Rattle.std.specs.Prelude.{◌≡◌, ◌↔◌, ◌<◌, ◌≤◌, ◌++◌, Some, length, IsTrue};
-ghost use Rattle.csicodec_actions.specs.Actions.{Mouse as Reports};
-ghost use Rattle.csicodec_actions.specs.Kinds.{AreHeld};
-ghost use Rattle.csicodec_actions.specs.Special.{IsNeverRead};
-ghost use Rattle.csicodec_actions.specs.Mouse.{button_code, held_buttons, is_release, modifiers_code};
+ghost use Rattle.csicodec_actions.specs.{Actions.Mouse as Reports, Kinds.AreHeld, Special.IsNeverRead, Mouse.button_code, Mouse.held_buttons, Mouse.is_release};
+ghost use Rattle.csicodec_actions.specs.{Mouse.modifiers_code, Table.Mouse.written_mouse, Written.AllGood, Written.written_text};
 ghost use Rattle.csicodec_names.specs.FlagBits.{button_bits};
-ghost use Rattle.csicodec_actions.specs.Table.Mouse.{written_mouse};
-ghost use Rattle.csicodec_actions.specs.Written.{AllGood, written_text};
 
 use bitflags::Flags;
 use csicodec_base::{Modifiers, MouseButtons, Text};

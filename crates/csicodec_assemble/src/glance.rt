@@ -1,12 +1,11 @@
 //! A line in the form that `explain --json` gives it, of which the text is read and nothing else kept.
 ghost use Rattle.std.specs.Prelude.{◌≡◌, ◌<◌, ◌++◌, [], ◌∷◌, ℕ, List, length, IfOk, IfSome, IsFalse, IsSome, IsTrue, IsUtf8, OnErr, OnOk, Ok, Some, option_map};
-ghost use Rattle.json.specs.Print.{IsNumber};
+ghost use Rattle.json.specs.{Print.IsNumber, Json.items, Json.members, Json.value};
+ghost use Rattle.serde_json.specs.{Data.Data, Data.Items, Data.Members, Data.no_members, Data.put, Read.converted, Read.number_of, Read.of_items, Read.of_json};
+ghost use Rattle.serde_json.specs.{Read.of_members};
+ghost use Rattle.csicodec_assemble.specs.{Object.of_line, Object.of_object, Private.Glance.Follow, Private.Glance.IsPlaced, Private.Glance.Says};
+ghost use Rattle.csicodec_assemble.specs.{Private.Glance.Stands};
 ghost use Rattle.json.specs.Token as token;
-ghost use Rattle.json.specs.Json.{items, members, value};
-ghost use Rattle.serde_json.specs.Data.{Data, Items, Members, no_members, put};
-ghost use Rattle.serde_json.specs.Read.{converted, number_of, of_items, of_json, of_members};
-ghost use Rattle.csicodec_assemble.specs.Object.{of_line, of_object};
-ghost use Rattle.csicodec_assemble.specs.Private.Glance.{Follow, IsPlaced, Says, Stands};
 
 use crate::rests::Rests;
 use fast_float::Numeral;

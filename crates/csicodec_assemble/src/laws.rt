@@ -1,12 +1,11 @@
 //! Laws of lines and of what they show. Each is the contract of a function that does nothing.
-ghost use Rattle.std.specs.Prelude.{◌≡◌, ◌-◌, ◌^◌, ◌++◌, [], ℕ, List, Ok, length, min};
-ghost use Rattle.std.specs.List.{concat};
+ghost use Rattle.std.specs.{Prelude.◌≡◌, Prelude.◌-◌, Prelude.◌^◌, Prelude.◌++◌, Prelude.[], Prelude.ℕ, Prelude.List, Prelude.Ok, Prelude.length, Prelude.min};
+ghost use Rattle.std.specs.{List.concat};
 ghost use Rattle.hex.specs.Hex.{IsBytes};
 ghost use Rattle.serde_json.specs.Data.{Data};
-ghost use Rattle.csicodec_assemble.specs.declared.object.Fault.{Fault};
-ghost use Rattle.csicodec_assemble.specs.declared.object.Refusal.TheVariants as refusal;
 ghost use Rattle.csicodec_assemble.specs.Lines.{AreKept, AreShown, Assembles, GiveAll, IsRefused, Passes, Refuses, assembled, counted, ended, last_line, of_lines, one_more};
-ghost use Rattle.csicodec_assemble.specs.Object.{Shows, of_object};
+ghost use Rattle.csicodec_assemble.specs.{declared.object.Fault.Fault, Object.Shows, Object.of_object};
+ghost use Rattle.csicodec_assemble.specs.declared.object.Refusal.TheVariants as refusal;
 
 /// An object that shows bytes as `explain --json` does stands for them.
 #[tactic(auto, using(crate::proofs::Shown::read_back))]

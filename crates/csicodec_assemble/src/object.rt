@@ -1,12 +1,9 @@
 //! One object, and the line that it stands in.
 ghost use Rattle.std.specs.Prelude.{◌≡◌, ◌++◌, ℕ, List, Err, IfErr, IfOk, Ok, OnErr, OnOk, Some};
-ghost use Rattle.csicodec_assemble.specs.declared.object.Fault.TheVariants.{NoSequence};
+ghost use Rattle.csicodec_assemble.specs.{declared.object.Fault.TheVariants.NoSequence, Lines.Gives, Object.IsTold, Object.fault_text, Object.of_hex, Object.of_line};
+ghost use Rattle.csicodec_assemble.specs.{Object.of_object, Object.of_text, declared.object.Refusal.TheVariants.Memory};
 ghost use Rattle.hex.specs.Hex.{IsBytes};
-ghost use Rattle.serde_json.specs.Find.{as_str};
-ghost use Rattle.serde_json.specs.View.{view};
-ghost use Rattle.csicodec_assemble.specs.Lines.{Gives};
-ghost use Rattle.csicodec_assemble.specs.Object.{IsTold, fault_text, of_hex, of_line, of_object, of_text};
-ghost use Rattle.csicodec_assemble.specs.declared.object.Refusal.TheVariants.{Memory};
+ghost use Rattle.serde_json.specs.{Find.as_str, View.view};
 
 use crate::glance::Glance;
 use hex::FromHexError;

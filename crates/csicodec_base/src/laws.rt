@@ -1,9 +1,7 @@
 //! Laws of the definitions. Each is the contract of a function that does nothing.
 ghost use Rattle.std.specs.Prelude.{◌≡◌, ◌↔◌, ℕ, List, ◌++◌, Some, drop, take};
 ghost use Rattle.csicodec_tokens.specs.declared.param.CsiParam.{CsiParam};
-ghost use Rattle.csicodec_base.specs.declared.sgr.Sgr.{Sgr};
-ghost use Rattle.csicodec_base.specs.FrontBy.{piece};
-ghost use Rattle.csicodec_base.specs.Pieces.{NoColon, Piece};
+ghost use Rattle.csicodec_base.specs.{declared.sgr.Sgr.Sgr, FrontBy.piece, Pieces.NoColon, Pieces.Piece};
 
 pub use csicodec_names::laws::{kitty_flags, modifiers, mouse_buttons};
 pub use csicodec_tokens::laws::{

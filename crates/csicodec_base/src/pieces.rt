@@ -1,12 +1,9 @@
 //! The longest spelling of an attribute at the front of a list before `m`.
 ghost use Rattle.std.specs.Prelude.{◌≡◌, ◌∷◌, ◌<◌, ◌≤◌, List, IfSome, None, Some, pos, take, length};
 ghost use Rattle.csicodec_names.specs.Numbers.{number_of};
-ghost use Rattle.csicodec_base.specs.Attributes.{action_of as attribute_of};
-ghost use Rattle.csicodec_base.specs.FrontBy.{captured, color_by, front_by, piece};
-ghost use Rattle.csicodec_base.specs.Pieces.{IsFront};
 ghost use Rattle.csicodec_base.specs.Shapes.{byte_of, color_of_tokens, color_shapes, four_shape, palette_shapes, rgb_shapes, rgba_shapes, semicolon_shapes, three_shape, underline_rows};
-ghost use Rattle.csicodec_tokens.specs.declared.param.CsiParam.{CsiParam};
-ghost use Rattle.csicodec_tokens.specs.declared.param.CsiParam.TheVariants.{Integer};
+ghost use Rattle.csicodec_base.specs.{Attributes.action_of as attribute_of, FrontBy.captured, FrontBy.color_by, FrontBy.front_by, FrontBy.piece, Pieces.IsFront};
+ghost use Rattle.csicodec_tokens.specs.{declared.param.CsiParam.CsiParam, declared.param.CsiParam.TheVariants.Integer};
 
 use crate::ready::attribute_alone;
 use crate::sgr::Sgr;

@@ -1,6 +1,5 @@
 //! Attributes of text (SGR), and the texts that set them.
-ghost use Rattle.std.specs.Prelude.{◌≡◌, ◌+◌, ◌≤◌, ◌++◌, Some, length, codes};
-ghost use Rattle.std.specs.Fmt.{decimal};
+ghost use Rattle.std.specs.{Prelude.◌≡◌, Prelude.◌+◌, Prelude.◌≤◌, Prelude.◌++◌, Prelude.Some, Prelude.length, Prelude.codes, Fmt.decimal};
 ghost use Rattle.csicodec_base.specs.SgrText.{font_text, palette_text, sgr_text, true_color_text};
 
 use csicodec_names::{Blink, ColorSpec, Intensity, SrgbaTuple, Underline, VerticalAlign};

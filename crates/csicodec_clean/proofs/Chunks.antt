@@ -4,7 +4,7 @@ use Rattle.std.specs.List.{AllByRecursion, concat, flat_map}
 use Rattle.csicodec_spans.specs.{declared.table.Kind.Kind, declared.table.Mode.Mode, Parts.Part, Parts.part, Parts.bytes_of, Parts.IsSpan, Parts.Cuts}
 use Rattle.csicodec_spans.specs.{Parts.IsUnsure, Parts.left_over}
 use Rattle.csicodec_spans.proofs.{OneSpan.none_unsure, Kept.parts_join, Kept.parts_more, Kept.parts_on, Kept.unsure_short}
-use Rattle.csicodec_filter.specs.Transform.{PassesOf, Transforms}
+use Rattle.csicodec_transform.specs.Transform.{PassesOf, Transforms}
 use Rattle.csicodec_clean.specs.{Shown.chars_as, Shown.run_as, Shown.IsRead, Titles.title_behind, Titles.title_open, Titles.read_as, Titles.with_titles}
 use Rattle.csicodec_clean.specs.{Cleaned.RuleOf, Cleaned.EndOf, Cleaned.Ends, Cleaned.longest, Cleaned.AreGiven, Cleaned.IsStep, Cleaned.AreSteps}
 use Rattle.csicodec_clean.specs.{Cleaned.Cleans, Private.Steps.IsAppended, Stream.Between, Stream.GoesBy, Stream.Takes, Stream.AreTaken, Stream.Closing}

@@ -2,8 +2,8 @@
 use Rattle.std.proofs.Common.{ℕ, ◌≡◌, Option, IfSome, List, [], ◌++◌, ◌∙◌, append_assoc, append-nil, inl, inr, subst, sym}
 use Rattle.std.proofs.lemmas.Result.{on_err_weaker, on_ok_weaker}
 use Rattle.std.specs.{Prelude.Result, Prelude.OnOk, Prelude.OnErr, Io.KnownBytes.Appends, Io.KnownBytes.Consumes, Io.KnownBytes.IsAtEnd}
-use Rattle.csicodec_filter.specs.Transform.{Begins, EndsOf, PassesOf, Sends}
-use Rattle.csicodec_filter.proofs.Sent.{whole_front}
+use Rattle.csicodec_transform.specs.Transform.{Begins, EndsOf, PassesOf, Sends}
+use Rattle.csicodec_transform.proofs.Sent.{whole_front}
 use Rattle.csicodec_clean.specs.{Stream.IsFrontOf, Streams.Streams, Streams.StreamsOne}
 
 module _ (Sure Whole Out : List ℕ → List ℕ → Type 0) (Safe : List ℕ → Type 0) where

@@ -7,11 +7,11 @@ use lib.Utf8.{scalar, low_scalar}
 use Rattle.bstr.specs.Utf8.{Decoded, decoded, good, or_replacement, lossy_chars, continues, second, code_of_2, code_of_3, code_of_4}
 use Rattle.bstr.proofs.lemmas.PieceLemmas.{lossy_chars-step, piece-bounds, value-1, value-6, value-9, value-12}
 use Rattle.bstr.proofs.{lemmas.EncodeLemmas.decoded-encode, lemmas.SoundLemmas.SpellsChar-decoded}
-use Rattle.csicodec_clean.specs.{Shown.shown, Shown.Writing, Shown.chars_as, Shown.written, Shown.IsBehind, Shown.IsPlain, Shown.IsRead, Shown.IsTextOf, Shown.IsWritten, Bytes.IsPlainByte, Bytes.behind}
-use Rattle.csicodec_clean.specs.{Bytes.plain_byte, Private.Steps.IsOther, Private.Steps.IsTold, Private.Steps.ReadsTo, Private.Steps.Tells}
-use Rattle.csicodec_clean.specs.{Private.Steps.dropped_byte, Private.Steps.IsWide}
-use Rattle.csicodec_clean.proofs.{Bytes.front_in, Plain.text_on, PlainBytes.all_both, PlainBytes.all_weaker, PlainBytes.plain_bytes, Shows.shown_on, Shows.written_none}
-use Rattle.csicodec_clean.proofs.{Sure.read_more, Sure.read_none, Sure.read_on, Twice.all_kept}
+use Rattle.csicodec_clean.specs.Shown.{shown, Writing, chars_as, written, IsBehind, IsPlain, IsRead, IsTextOf, IsWritten}
+use Rattle.csicodec_clean.specs.{Bytes.IsPlainByte, Bytes.behind, Bytes.plain_byte, Private.Steps.IsOther, Private.Steps.IsTold, Private.Steps.ReadsTo}
+use Rattle.csicodec_clean.specs.{Private.Steps.Tells, Private.Steps.dropped_byte, Private.Steps.IsWide}
+use Rattle.csicodec_clean.proofs.{Bytes.front_in, Plain.text_on, PlainBytes.all_both, PlainBytes.all_weaker, PlainBytes.plain_bytes, Shows.shown_on}
+use Rattle.csicodec_clean.proofs.{Shows.written_none, Sure.read_more, Sure.read_none, Sure.read_on, Twice.all_kept}
 
 -- ---- plain bytes
 

@@ -1,7 +1,7 @@
 -- A stream that is cleaned as it comes, chunk by chunk.
 use Rattle.std.specs.{Prelude.ℕ, Prelude.◌≡◌, Prelude.Bool, Prelude.false, Prelude.List, Prelude.[], Prelude.◌∷◌, Prelude.◌++◌, List.concat}
 use Rattle.csicodec_spans.specs.{declared.table.Mode.Mode, Parts.Part, Parts.AreFirstParts, Parts.IsUnsure}
-use Rattle.csicodec_filter.specs.Transform.{Begins as BeginsWith, EndsOf, PassesOf, Sends}
+use Rattle.csicodec_transform.specs.Transform.{Begins as BeginsWith, EndsOf, PassesOf, Sends}
 use Rattle.csicodec_clean.specs.{Shown.IsRead, Shown.chars_as, Shown.run_as, Titles.title_open, Titles.with_titles, Cleaned.RuleOf, Cleaned.EndOf}
 use Rattle.csicodec_clean.specs.{Cleaned.AreSteps, Cleaned.Ends, Cleaned.longest}
 use Rattle.csicodec_spans.specs.declared.table.Mode.TheVariants as mode

@@ -2,13 +2,12 @@
 ghost use Rattle.std.specs.Prelude.{◌≡◌, ◌⊎◌, ◌<◌, ◌≤◌, ◌++◌, ℕ, Bool, List, [], length, take, true, false, OnOk, IfOk, IfErr};
 ghost use Rattle.std.specs.Io.KnownBytes.{Consumes, IsAtEnd};
 ghost use Rattle.bstr.specs.Utf8.{decoded};
-ghost use Rattle.csicodec_clean.specs.Check.{IsFault, IsOutside, IsSure, Stands, line_ends};
-ghost use Rattle.csicodec_clean.specs.Shown.{IsBehind, IsTextOf};
+ghost use Rattle.csicodec_clean.specs.{Check.IsFault, Check.IsOutside, Check.IsSure, Check.Stands, Check.line_ends, Shown.IsBehind, Shown.IsTextOf};
 
 use crate::text::{first_sure, is_shown};
 use crate::wide::behind_shown;
 use bstr::decode_utf8;
-use csicodec_streams::{CHUNK, RunError, keep_from, receive};
+use csicodec_transform::{CHUNK, RunError, keep_from, receive};
 use std::alloc::{AllocError, Global};
 use std::io::Read;
 

@@ -1,6 +1,5 @@
 //! Bytes of a class in front of others, sixteen at once.
-ghost use Rattle.std.specs.Prelude.{◌≡◌, ◌≤◌, Bool, ℕ, length, take};
-ghost use Rattle.std.specs.List.{prefix_len};
+ghost use Rattle.std.specs.{Prelude.◌≡◌, Prelude.◌≤◌, Prelude.Bool, Prelude.ℕ, Prelude.length, Prelude.take, List.prefix_len};
 ghost use Rattle.csicodec_clean.specs.Bytes.{behind, first_set};
 
 use std::simd::prelude::*;

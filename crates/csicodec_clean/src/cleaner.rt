@@ -1,8 +1,6 @@
 //! A stream that is cleaned as it comes.
 ghost use Rattle.std.specs.Prelude.{◌≡◌, ◌<◌, ◌≤◌, ◌++◌, ℕ, List, [], length, OnOk};
-ghost use Rattle.csicodec_clean.specs.Shown.{run_as};
-ghost use Rattle.csicodec_clean.specs.Cleaned.{longest};
-ghost use Rattle.csicodec_clean.specs.Stream.{Takes, start_of};
+ghost use Rattle.csicodec_clean.specs.{Shown.run_as, Cleaned.longest, Stream.Takes, Stream.start_of};
 
 use crate::rule::{Anew, Rule};
 use crate::spans::append_clean;

@@ -1,26 +1,16 @@
 //! Laws of the definitions. Each is the contract of a function that does nothing.
-ghost use Rattle.std.specs.Prelude.{◌≡◌, ◌≢◌, ◌∷◌, ◌++◌, [], ℕ, List, codes, false, length, slice_get, true};
-ghost use Rattle.std.specs.List.{AllByRecursion, Contains, concat};
-ghost use Rattle.csicodec_clean.specs.Addresses.{ends_host, is_web, led};
+ghost use Rattle.std.specs.{Prelude.◌≡◌, Prelude.◌≢◌, Prelude.◌∷◌, Prelude.◌++◌, Prelude.[], Prelude.ℕ, Prelude.List, Prelude.codes, Prelude.false, Prelude.length};
+ghost use Rattle.std.specs.{Prelude.slice_get, Prelude.true, List.AllByRecursion, List.Contains, List.concat};
 ghost use Rattle.csicodec_clean.specs.Links.{Address, IsAdmitted, IsLink, IsWithin, Stood, StoodIn, admitted, begun, link_body, links_in, start};
-ghost use Rattle.csicodec_clean.specs.declared.links.LinkState.TheVariants.{Outside};
-ghost use Rattle.csicodec_names.specs.declared.color.SrgbaTuple.{SrgbaTuple};
-ghost use Rattle.csicodec_clean.specs.Cleaned.{Ends, Strips, drops, ends_bare, longest};
-ghost use Rattle.csicodec_clean.specs.Palette.{IsNearest, nearest_of_16, nearest_of_256};
-ghost use Rattle.csicodec_clean.specs.declared.colors.Depth.{Depth};
-ghost use Rattle.csicodec_clean.specs.declared.step.Pause.{Pause};
-ghost use Rattle.csicodec_clean.specs.declared.styles.Passing.{Passing};
-ghost use Rattle.csicodec_clean.specs.declared.whole.Dropped.{Dropped};
-ghost use Rattle.csicodec_clean.specs.Check.{IsFault};
-ghost use Rattle.csicodec_clean.specs.Marked.{IsMarked};
-ghost use Rattle.csicodec_clean.specs.Shown.{IsPlain, shown};
-ghost use Rattle.csicodec_clean.specs.Titles.{InTitle, IsText, with_titles};
-ghost use Rattle.csicodec_spans.specs.Parts.{IsWhole, Part, part};
-ghost use Rattle.csicodec_spans.specs.declared.table.Kind.TheVariants.{Other};
-ghost use Rattle.csicodec_spans.specs.declared.table.Mode.TheVariants.{Text};
-ghost use Rattle.csicodec_clean.specs.Stream.{AnyChunks, AreTaken, Between, IsFrontOf, Takes, start_of};
-ghost use Rattle.csicodec_clean.specs.Steps.{AreStepped, bare, beginning, ending};
 ghost use Rattle.csicodec_clean.specs.Styled.{IsStyledIn, Keeping, StylesIn, first_kept, links_of, resets, resumed, keeps, without_links};
+ghost use Rattle.csicodec_clean.specs.{Addresses.ends_host, Addresses.is_web, Addresses.led, declared.links.LinkState.TheVariants.Outside, Cleaned.Ends};
+ghost use Rattle.csicodec_clean.specs.{Cleaned.Strips, Cleaned.drops, Cleaned.ends_bare, Cleaned.longest, Palette.IsNearest, Palette.nearest_of_16};
+ghost use Rattle.csicodec_clean.specs.{Palette.nearest_of_256, declared.colors.Depth.Depth, declared.step.Pause.Pause, declared.styles.Passing.Passing};
+ghost use Rattle.csicodec_clean.specs.{declared.whole.Dropped.Dropped, Check.IsFault, Marked.IsMarked, Shown.IsPlain, Shown.shown, Titles.InTitle, Titles.IsText};
+ghost use Rattle.csicodec_clean.specs.{Titles.with_titles, Stream.AnyChunks, Stream.AreTaken, Stream.Between, Stream.IsFrontOf, Stream.Takes, Stream.start_of};
+ghost use Rattle.csicodec_clean.specs.{Steps.AreStepped, Steps.bare, Steps.beginning, Steps.ending};
+ghost use Rattle.csicodec_names.specs.declared.color.SrgbaTuple.{SrgbaTuple};
+ghost use Rattle.csicodec_spans.specs.{Parts.IsWhole, Parts.Part, Parts.part, declared.table.Kind.TheVariants.Other, declared.table.Mode.TheVariants.Text};
 
 use crate::rule::Rule;
 

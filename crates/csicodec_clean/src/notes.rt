@@ -1,14 +1,12 @@
 //! What is noted of control sequences that came before: what stays of each, and whether a style is open behind it.
 ghost use Rattle.std.specs.Prelude.{◌≡◌, ◌<◌, ◌≤◌, ◌++◌, ◌∷◌, ℕ, Bool, List, map, true, false, if◌then◌else◌, length, slice_index, take, IfOk, IfNone, IfSome, OnOk};
 ghost use Rattle.std.specs.Option.{unwrap_or};
-ghost use Rattle.csicodec_actions.specs.Actions.{Action, Sgr as SgrAction};
-ghost use Rattle.csicodec_actions.specs.Table.{texts};
+ghost use Rattle.csicodec_actions.specs.{Actions.Action, Actions.Sgr as SgrAction, Table.texts};
 ghost use Rattle.csicodec_parser.specs.ActionOf.{action_of};
-ghost use Rattle.csicodec_streams.specs.Known.{AreKnown};
-ghost use Rattle.csicodec_clean.specs.declared.colors.Depth.TheVariants.{Full as AllColors};
+ghost use Rattle.csicodec_transform.specs.Known.{AreKnown};
+ghost use Rattle.csicodec_clean.specs.{declared.colors.Depth.TheVariants.Full as AllColors, Styled.is_open, Styled.kept, Private.Notes.IsLeft, Private.Notes.IsNoted};
+ghost use Rattle.csicodec_clean.specs.{Private.Notes.depth_byte, Private.Notes.open_byte};
 ghost use Rattle.csicodec_terminal.specs.Terminal.{IsTakenFor};
-ghost use Rattle.csicodec_clean.specs.Styled.{is_open, kept};
-ghost use Rattle.csicodec_clean.specs.Private.Notes.{IsLeft, IsNoted, depth_byte, open_byte};
 
 use crate::class::LANES;
 use crate::colors::Depth;
@@ -18,8 +16,9 @@ use crate::whole::near;
 use csicodec::CSI;
 use csicodec_base::{CsiParam, ReadError, read_csi_into};
 use csicodec_filter::Known;
-use csicodec_streams::{Note, color_text, position_len, read_color};
+use csicodec_streams::{color_text, position_len, read_color};
 use csicodec_terminal::terminal_actions_into;
+use csicodec_transform::Note;
 use std::alloc::{AllocError, Global};
 
 /// The note that is what stays of a sequence.

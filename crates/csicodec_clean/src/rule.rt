@@ -2,8 +2,7 @@
 ghost use Rattle.std.specs.Prelude.{◌≡◌, ◌<◌, ◌≤◌, ◌++◌, ◌∷◌, [], ℕ, List, OnOk, IfOk, false, encode_utf8_all, length, take};
 ghost use Rattle.csicodec_tokens.specs.Sequence.{Seq};
 ghost use Rattle.csicodec_spans.specs.Parts.{IsSequence};
-ghost use Rattle.csicodec_clean.specs.Cleaned.{RuleOf};
-ghost use Rattle.csicodec_clean.specs.Shown.{IsWritten, written};
+ghost use Rattle.csicodec_clean.specs.{Cleaned.RuleOf, Shown.IsWritten, Shown.written};
 
 use csicodec_base::CsiParam;
 use std::alloc::AllocError;

@@ -1,19 +1,15 @@
 //! Runs from a reader to a writer.
-ghost use Rattle.std.specs.Prelude.{◌≡◌, ◌++◌, [], ℕ, List, OnErr, OnOk, IfErr};
-ghost use Rattle.std.specs.Io.KnownBytes.{Appends, Consumes, IsAtEnd};
-ghost use Rattle.csicodec_clean.specs.Shown.{IsPlain};
-ghost use Rattle.csicodec_clean.specs.Cleaned.{Ends, Strips, longest};
-ghost use Rattle.csicodec_clean.specs.Stream.{Begins, Between, Takes, start_of};
-ghost use Rattle.csicodec_clean.specs.Streams.{StreamsOne};
-ghost use Rattle.csicodec_clean.specs.Styled.{IsStyled, IsStyledIn, Styles, StylesIn, without_links};
+ghost use Rattle.std.specs.{Prelude.◌≡◌, Prelude.◌++◌, Prelude.[], Prelude.ℕ, Prelude.List, Prelude.OnErr, Prelude.OnOk, Prelude.IfErr, Io.KnownBytes.Appends};
+ghost use Rattle.std.specs.{Io.KnownBytes.Consumes, Io.KnownBytes.IsAtEnd};
+ghost use Rattle.csicodec_clean.specs.{Shown.IsPlain, Cleaned.Ends, Cleaned.Strips, Cleaned.longest, Stream.Begins, Stream.Between, Stream.Takes, Stream.start_of};
+ghost use Rattle.csicodec_clean.specs.{Streams.StreamsOne, Styled.IsStyled, Styled.IsStyledIn, Styled.Styles, Styled.StylesIn, Styled.without_links};
 
 use crate::cleaner::Cleaner;
 use crate::colors::Depth;
 use crate::rule::Rule;
 use crate::styles::{Kept, Passing};
 use crate::whole::Dropped;
-use csicodec_filter::{Transform, transform_all};
-use csicodec_streams::RunError;
+use csicodec_transform::{RunError, Transform, transform_all};
 use std::alloc::{AllocError, Global};
 use std::io::{Read, Write};
 

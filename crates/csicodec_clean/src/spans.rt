@@ -1,11 +1,9 @@
 //! The spans of a stream, and what is left of them.
 ghost use Rattle.std.specs.Prelude.{◌≡◌, ◌≢◌, ◌<◌, ◌≤◌, ◌++◌, ℕ, List, [], length, MatchOption, OnOk, IfOk};
 ghost use Rattle.csicodec_tokens.specs.Sequence.{Seq};
-ghost use Rattle.csicodec_spans.specs.declared.table.Kind.TheVariants.{Csi as Sequence};
-ghost use Rattle.csicodec_spans.specs.Parts.{IsUnsure};
-ghost use Rattle.csicodec_clean.specs.Cleaned.{AreGiven};
-ghost use Rattle.csicodec_clean.specs.Shown.{chars_as};
-ghost use Rattle.csicodec_clean.specs.Private.Steps.{GoesTo, IsAppended, ReadsTo, state_of};
+ghost use Rattle.csicodec_spans.specs.{declared.table.Kind.TheVariants.Csi as Sequence, Parts.IsUnsure};
+ghost use Rattle.csicodec_clean.specs.{Cleaned.AreGiven, Shown.chars_as, Private.Steps.GoesTo, Private.Steps.IsAppended, Private.Steps.ReadsTo};
+ghost use Rattle.csicodec_clean.specs.{Private.Steps.state_of};
 
 use crate::glance::append_front;
 use crate::rule::Rule;
@@ -13,8 +11,8 @@ use crate::text::{append_shown, append_sure};
 use crate::title::{read_as, title_behind};
 use csicodec_base::CsiParam;
 use csicodec_spans::{Cutter, Kind, Mode};
-use csicodec_streams::keep_from;
 use csicodec_tokens::Count;
+use csicodec_transform::keep_from;
 use std::alloc::AllocError;
 
 /// Appends what is shown of the text, as far as it is sure; `held` are the bytes before it that aren't, and then those at its

@@ -1,8 +1,6 @@
 //! A stream that is cleaned as it comes, whose state the caller keeps.
 ghost use Rattle.std.specs.Prelude.{◌≡◌, ◌≤◌, ◌++◌, ℕ, List, length, drop, OnOk, IfOk};
-ghost use Rattle.csicodec_clean.specs.Cleaned.{drops};
-ghost use Rattle.csicodec_clean.specs.Steps.{Steps, bare, beginning, ending};
-ghost use Rattle.csicodec_clean.specs.Styled.{Keeping, resumed, keeps};
+ghost use Rattle.csicodec_clean.specs.{Cleaned.drops, Steps.Steps, Steps.bare, Steps.beginning, Steps.ending, Styled.Keeping, Styled.resumed, Styled.keeps};
 
 use crate::colors::Depth;
 use crate::rule::Rule;

@@ -1,12 +1,10 @@
 //! Bytes that are all there, with the styles of their text, and its links.
-ghost use Rattle.std.specs.Prelude.{◌≡◌, ◌++◌, ◌∷◌, [], ℕ, List, Bool, map, drop, OnOk, IfOk, false};
-ghost use Rattle.std.specs.Option.{unwrap_or};
-ghost use Rattle.csicodec_actions.specs.Actions.{Sgr as SgrAction};
-ghost use Rattle.csicodec_actions.specs.Table.{texts};
+ghost use Rattle.std.specs.{Prelude.◌≡◌, Prelude.◌++◌, Prelude.◌∷◌, Prelude.[], Prelude.ℕ, Prelude.List, Prelude.Bool, Prelude.map, Prelude.drop, Prelude.OnOk};
+ghost use Rattle.std.specs.{Prelude.IfOk, Prelude.false, Option.unwrap_or};
+ghost use Rattle.csicodec_actions.specs.{Actions.Sgr as SgrAction, Table.texts};
 ghost use Rattle.csicodec_parser.specs.ActionOf.{action_of};
-ghost use Rattle.csicodec_clean.specs.declared.colors.Depth.TheVariants.{Full as AllColors};
-ghost use Rattle.csicodec_clean.specs.Marked.{IsMarked};
 ghost use Rattle.csicodec_clean.specs.Styled.{Styles, StylesIn, IsStyled, IsStyledIn, Keeping, first_kept, hides, is_open, is_reset, keeping, kept, resumed, without_links};
+ghost use Rattle.csicodec_clean.specs.{declared.colors.Depth.TheVariants.Full as AllColors, Marked.IsMarked};
 
 use crate::class::LANES;
 use crate::colors::{Depth, reduced};
@@ -110,7 +108,7 @@ impl Model for Kept {
     ghost Value = { Keeping };
 
     ghost use Rattle.csicodec_clean.specs.Private.Notes.{IsNoted};
-    ghost use Rattle.csicodec_streams.specs.Known.{AreKnown};
+    ghost use Rattle.csicodec_transform.specs.Known.{AreKnown};
 
     ghost view = { λ k. keeping k.passing k.styled k.linked (come k.link) };
 

@@ -1,8 +1,8 @@
 //! The characters of a run of text that are shown.
 ghost use Rattle.std.specs.Prelude.{◌≡◌, ◌<◌, ◌≤◌, ◌-◌, ◌++◌, ◌∷◌, [], ℕ, List, length, take, drop, OnOk, IfOk, IfSome, IfNone};
 ghost use Rattle.bstr.specs.Utf8.{decoded};
-ghost use Rattle.csicodec_clean.specs.Shown.{chars_as, run_as, shown, IsCut, IsRead};
-ghost use Rattle.csicodec_clean.specs.Private.Steps.{ReadsTo, Tells, dropped_byte};
+ghost use Rattle.csicodec_clean.specs.{Shown.chars_as, Shown.run_as, Shown.shown, Shown.IsCut, Shown.IsRead, Private.Steps.ReadsTo, Private.Steps.Tells};
+ghost use Rattle.csicodec_clean.specs.{Private.Steps.dropped_byte};
 
 use crate::rule::Rule;
 use crate::wide::behind_shown;

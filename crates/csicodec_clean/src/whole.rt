@@ -1,8 +1,7 @@
 //! Bytes that are all there, cleaned.
 ghost use Rattle.std.specs.Prelude.{◌≡◌, ◌≢◌, ◌<◌, ◌≤◌, ◌++◌, ℕ, List, [], All, IfOk, length, take};
 ghost use Rattle.csicodec_spans.specs.Parts.{IsSequence};
-ghost use Rattle.csicodec_clean.specs.Shown.{IsPlain};
-ghost use Rattle.csicodec_clean.specs.Cleaned.{Ends, Strips, longest};
+ghost use Rattle.csicodec_clean.specs.{Shown.IsPlain, Cleaned.Ends, Cleaned.Strips, Cleaned.longest};
 
 use crate::class::LANES;
 use crate::rule::{Anew, Rule};

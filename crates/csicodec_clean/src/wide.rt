@@ -1,8 +1,7 @@
 //! Characters from U+00A0 on, told by their bytes.
 ghost use Rattle.std.specs.Prelude.{◌≡◌, ◌≤◌, ◌<◌, ◌++◌, length, take, true};
 ghost use Rattle.bstr.specs.Utf8.{continues, second};
-ghost use Rattle.csicodec_clean.specs.Shown.{IsBehind, IsPlain, shown};
-ghost use Rattle.csicodec_clean.specs.Private.Steps.{IsWide};
+ghost use Rattle.csicodec_clean.specs.{Shown.IsBehind, Shown.IsPlain, Shown.shown, Private.Steps.IsWide};
 
 use crate::class::{PlainAscii, behind};
 

@@ -7,7 +7,7 @@ use Rattle.std.specs.{declared.io.buffered.BufReader.BufReader, Io.Buffered.read
 use Rattle.std.specs.{Io.Buffered.reader_remaining, Result.IsErrAnd}
 use Rattle.csicodec_command.specs.Runs.{At, Closes, Ends, HasTurn, IsReadBy, IsRun, IsTold, IsUnread, MayBeRecording, Next, Recording, StepsOf, Stream, Through, ends_run, first_of}
 use Rattle.csicodec_command.specs.declared.failure.Failure.{Failure}
-use Rattle.csicodec_streams.specs.declared.error.RunError.TheVariants as error
+use Rattle.csicodec_transform.specs.declared.error.RunError.TheVariants as error
 use Rattle.csicodec_command.specs.declared.failure.Failure.TheVariants as failure
 
 abbrev pub named : List (Bor (List ℕ)) → List (List ℕ)

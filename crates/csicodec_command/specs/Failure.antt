@@ -2,7 +2,7 @@
 use Rattle.std.specs.{Prelude.ℕ, Prelude.◌-◌, Prelude.◌^◌, Prelude.true, Prelude.false, Prelude.List, Prelude.[], Prelude.◌++◌, Prelude.codes, Fmt.decimal}
 use Rattle.std.specs.{Fmt.digits, Fmt.format_spec, Fmt.padded_integral}
 use Rattle.csicodec_assemble.specs.Object.{fault_text}
-use Rattle.csicodec_streams.specs.Words.{run_error_text, run_status}
+use Rattle.csicodec_transform.specs.Words.{run_error_text, run_status}
 use Rattle.csicodec_command.specs.{declared.failure.Failure.Failure, declared.failure.Found.Found}
 use Rattle.csicodec_command.specs.declared.failure.Failure.TheVariants as failure
 use Rattle.csicodec_command.specs.declared.failure.Found.TheVariants as found

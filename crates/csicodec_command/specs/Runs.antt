@@ -2,7 +2,7 @@
 use Rattle.std.specs.Prelude.{ℕ, Bool, true, false, ◌≡◌, ◌⊎◌, List, [], ◌∷◌, map, eqb, codes, Option, None, Some, Result, Ok, Err, IfSome, OnOk, OnErr, MatchResult}
 use Rattle.std.specs.{List.ends_with, Io.KnownBytes.Keeps, Borrow.Bor}
 use Rattle.csicodec_command.specs.{declared.failure.Failure.Failure, Failure.status}
-use Rattle.csicodec_streams.specs.declared.error.RunError.TheVariants as error
+use Rattle.csicodec_transform.specs.declared.error.RunError.TheVariants as error
 use Rattle.csicodec_command.specs.declared.failure.Failure.TheVariants as failure
 
 -- What is asked of what works on inputs. The input of a name comes next; it is to be written, whose bytes these are where they are

@@ -1,11 +1,9 @@
 //! What a program tells of a run that failed: its message, and the status.
 ghost use Rattle.std.specs.Prelude.{◌≡◌, Some};
-ghost use Rattle.csicodec_command.specs.Failure.{found_text, line, status};
-ghost use Rattle.csicodec_command.specs.Runs.{ends_run};
-ghost use Rattle.csicodec_command.specs.declared.failure.Failure.TheVariants.{Run as Ran};
+ghost use Rattle.csicodec_command.specs.{Failure.found_text, Failure.line, Failure.status, Runs.ends_run, declared.failure.Failure.TheVariants.Run as Ran};
 
 use csicodec_assemble::Fault;
-use csicodec_streams::RunError;
+use csicodec_transform::RunError;
 use std::fmt;
 
 /// The status where the reader of the output went away: the one that a shell tells of a program that SIGPIPE ended (128 + 13), as

@@ -2,14 +2,13 @@
 //! "data"]` for what a program wrote. Times are seconds: in version 2 from the begin, in version 3 from the event before.
 ghost use Rattle.std.specs.Prelude.{◌≡◌, ◌≢◌, ◌∷◌, ℕ, List, None, Some, true, IfErr, IfOk, IsUtf8, OnErr, OnOk, OnSome, option_map, string_bytes};
 ghost use Rattle.std.specs.Str.{trim};
-ghost use Rattle.serde_json.specs.Read.{read};
-ghost use Rattle.serde_json.specs.View.{view};
-ghost use Rattle.csicodec_streams.specs.declared.error.RunError.{RunError};
-ghost use Rattle.csicodec_command.specs.declared.failure.Failure.TheVariants.{Recording as Refused, Run as Ran};
+ghost use Rattle.serde_json.specs.{Read.read, View.view};
+ghost use Rattle.csicodec_transform.specs.declared.error.RunError.{RunError};
 ghost use Rattle.csicodec_command.specs.Recorded.{data_or_none, event_of, is_passed, line_says, says, texts_of, version_behind, version_in, written};
+ghost use Rattle.csicodec_command.specs.declared.failure.Failure.TheVariants.{Recording as Refused, Run as Ran};
 
 use crate::failure::Failure;
-use csicodec_streams::RunError;
+use csicodec_transform::RunError;
 use serde_json::Value;
 use std::alloc::{AllocError, Global};
 use std::io::BufRead;

@@ -1,18 +1,16 @@
 //! A run of a program: its words, its inputs one after the other, and what it tells of what failed.
 ghost use Rattle.std.specs.Prelude.{◌≡◌, ◌⊎◌, ◌∷◌, [], ℕ, List, Option, None, Some, true, map, eqb, codes, IfErr, IfOk};
-ghost use Rattle.std.specs.List.{ends_with};
-ghost use Rattle.std.specs.Io.KnownBytes.{Consumes};
-ghost use Rattle.csicodec_streams.specs.declared.error.RunError.{RunError};
-ghost use Rattle.csicodec_command.specs.Failure.{status};
-ghost use Rattle.csicodec_command.specs.declared.failure.Failure.TheVariants.{Run as Ran};
+ghost use Rattle.std.specs.{List.ends_with, Io.KnownBytes.Consumes};
+ghost use Rattle.csicodec_transform.specs.declared.error.RunError.{RunError};
 ghost use Rattle.csicodec_command.specs.Runs.{Asked, Closes, GoesOf, HasTurn, IsReadBy, IsRun, IsTold, MayBeRecording, StepsOf, Through, failure_of, first_of, names_of};
+ghost use Rattle.csicodec_command.specs.{Failure.status, declared.failure.Failure.TheVariants.Run as Ran};
 
 use crate::command::{Invocation, Request, UNREADABLE, Wrong, command_of};
 use crate::failure::{Failure, GONE};
 use crate::note::advice_of;
 use crate::options::WAITS;
 use crate::recording::is_recording;
-use csicodec_streams::{CHUNK, RunError, receive};
+use csicodec_transform::{CHUNK, RunError, receive};
 use std::alloc::{AllocError, Global};
 use std::env::{Env, FillError};
 use std::fs::File;

@@ -14,7 +14,7 @@ use Rattle.csicodec_streams.proofs.OneReading.{decodes-append, one_decoding, one
 use Rattle.csicodec_spans.specs.Parts.{Part, part, bytes_of, left_over, AreAll, IsPlainFront, IsSpan, IsUnsure}
 use Rattle.csicodec_spans.specs.{declared.table.Kind.Kind, declared.table.Mode.Mode}
 use Rattle.csicodec_filter.specs.{Faithful.stays, Filter.Held, Meaning.singles, Written.Adds, Written.Appends, Written.Leaves, Written.Since, Written.open_at}
-use Rattle.csicodec_filter.specs.{Transform.Begins as BeginsWith, Transform.Sends, Transform.Transforms}
+use Rattle.csicodec_transform.specs.Transform.{Begins as BeginsWith, Sends, Transforms}
 use Rattle.csicodec_filter.proofs.Written.{appends, made, makes, one_first}
 use Rattle.csicodec_compact.specs.Runs.{IsStaying, NoneStays, Shortens, AreRuns, IsShortened, PassesShort, CompactsAll, most_joined}
 use Rattle.csicodec_compact.specs.Private.Steps.{Holds, Begins, form_of, closing, joint, behind, is_joined, may_join, opened, list_of, IsTail, IsListed, IsOwn, IsNotedList, IsNoted, IsNote, HasFew, LeavesRoom, GoesOnFrom, IsEnd, IsHeld, Extends, GoesOnBy}

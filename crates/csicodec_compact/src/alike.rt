@@ -1,9 +1,7 @@
 //! Whether two sequences have the same actions.
-ghost use Rattle.std.specs.Prelude.{◌≡◌, ◌==◌, ◌&&◌, ℕ, List, true, not, IfOk};
-ghost use Rattle.std.specs.List.{list_any};
+ghost use Rattle.std.specs.{Prelude.◌≡◌, Prelude.◌==◌, Prelude.◌&&◌, Prelude.ℕ, Prelude.List, Prelude.true, Prelude.not, Prelude.IfOk, List.list_any};
 ghost use Rattle.csicodec_tokens.specs.Sequence.{Seq};
-ghost use Rattle.csicodec_compact.specs.Compacts.{ReadsAlike};
-ghost use Rattle.csicodec_compact.specs.Private.Steps.{IsOneNormalised};
+ghost use Rattle.csicodec_compact.specs.{Compacts.ReadsAlike, Private.Steps.IsOneNormalised};
 
 use csicodec_base::{CsiParam, ReadError, read_csi_into};
 use csicodec_parser::Texts;

@@ -1,15 +1,14 @@
 //! A run of a compactor, from a reader to a writer.
-ghost use Rattle.std.specs.Prelude.{◌≡◌, ◌<◌, ◌++◌, ℕ, List, OnOk, OnErr, IfErr};
-ghost use Rattle.std.specs.Io.KnownBytes.{Appends, Consumes, IsAtEnd};
-ghost use Rattle.csicodec_spans.specs.declared.table.Mode.{Mode};
-ghost use Rattle.csicodec_spans.specs.declared.table.Mode.TheVariants.{Text as Plain};
+ghost use Rattle.std.specs.{Prelude.◌≡◌, Prelude.◌<◌, Prelude.◌++◌, Prelude.ℕ, Prelude.List, Prelude.OnOk, Prelude.OnErr, Prelude.IfErr, Io.KnownBytes.Appends};
+ghost use Rattle.std.specs.{Io.KnownBytes.Consumes, Io.KnownBytes.IsAtEnd};
+ghost use Rattle.csicodec_spans.specs.{declared.table.Mode.Mode, declared.table.Mode.TheVariants.Text as Plain};
 ghost use Rattle.csicodec_compact.specs.Runs.{CompactsAll, PassesShort};
 
 use crate::compact::Compact;
 use crate::notes::Short;
 use crate::shortener::Shortener;
-use csicodec_filter::{Spanwise, transform_all};
-use csicodec_streams::RunError;
+use csicodec_filter::Spanwise;
+use csicodec_transform::{RunError, transform_all};
 use std::alloc::Global;
 use std::io::{Read, Write};
 

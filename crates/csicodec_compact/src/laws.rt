@@ -1,8 +1,7 @@
 //! Laws of the definitions. Each is the contract of a function that does nothing.
 ghost use Rattle.std.specs.Prelude.{◌<◌, ◌≤◌, ℕ, List, length};
 ghost use Rattle.csicodec_spans.specs.declared.table.Mode.{Mode};
-ghost use Rattle.csicodec_compact.specs.Meaning.{HasAgain};
-ghost use Rattle.csicodec_compact.specs.Runs.{CompactsAll, most_joined};
+ghost use Rattle.csicodec_compact.specs.{Meaning.HasAgain, Runs.CompactsAll, Runs.most_joined};
 
 /// What [`compact_bytes`](crate::compact_bytes) and [`compact_all`](crate::compact_all) write of a stream is no longer than the stream. Cut as a
 /// stream once more it has the same parts, in order: each that is no control sequence as it came, and for control sequences side by side

@@ -1,6 +1,5 @@
 //! Which texts are lists of attributes that may be joined.
-ghost use Rattle.std.specs.Prelude.{◌≡◌, ◌≤◌, List, true, false, length, map, IfOk};
-ghost use Rattle.std.specs.List.{list_any};
+ghost use Rattle.std.specs.{Prelude.◌≡◌, Prelude.◌≤◌, Prelude.List, Prelude.true, Prelude.false, Prelude.length, Prelude.map, Prelude.IfOk, List.list_any};
 ghost use Rattle.csicodec_tokens.specs.Sequence.{Seq};
 ghost use Rattle.csicodec_base.specs.declared.sgr.Sgr.{Sgr};
 ghost use Rattle.csicodec_actions.specs.Actions.{Sgr as Style};

@@ -8,7 +8,7 @@ use crate::form::TextEnding;
 use crate::lists::{Lists, numbers};
 use csicodec_base::{CsiParam, TextBuffer};
 use csicodec_filter::Rewrite;
-use csicodec_streams::Note;
+use csicodec_transform::Note;
 use std::alloc::{AllocError, Global};
 
 /// The note of a sequence: the number of its form, how many numbers it has, and its text. Of a list that is `;`, and the list; what is

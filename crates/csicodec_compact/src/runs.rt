@@ -1,9 +1,8 @@
 //! Runs of control sequences side by side.
 ghost use Rattle.std.specs.Prelude.{◌≡◌, ◌≤◌, ◌++◌, ℕ, List, [], ◌∷◌, true, drop, length, slice_get, take, OnOk};
-ghost use Rattle.csicodec_spans.specs.declared.table.Kind.TheVariants.{Csi as Sequence};
-ghost use Rattle.csicodec_spans.specs.Parts.{Part, part};
-ghost use Rattle.csicodec_compact.specs.Runs.{IsShortened};
+ghost use Rattle.csicodec_spans.specs.{declared.table.Kind.TheVariants.Csi as Sequence, Parts.Part, Parts.part};
 ghost use Rattle.csicodec_compact.specs.Private.Steps.{Begins, GoesOnBy, IsNote, behind, closing, is_semicolon, joint, may_join, opened};
+ghost use Rattle.csicodec_compact.specs.Runs.{IsShortened};
 
 use crate::encode::NUMBERS;
 use crate::form::TextEnding;

@@ -12,7 +12,8 @@ use crate::runs::Written;
 use csicodec_base::TextBuffer;
 use csicodec_filter::{Room, WriteSpans};
 use csicodec_spans::plain_len;
-use csicodec_streams::{WIDE, position_len, read_color};
+use csicodec_streams::{position_len, read_color};
+use csicodec_transform::WIDE;
 use std::alloc::{AllocError, Global};
 
 /// What writes a stream shorter: what finds the texts of sequences, and how what was written ends.

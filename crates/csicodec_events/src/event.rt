@@ -1,11 +1,9 @@
 //! The event in front of some bytes.
 ghost use Rattle.std.specs.Prelude.{◌≡◌, ◌<◌, ◌↔◌, ◌++◌, List, ℕ, IsTrue, IfSome, IfOk, MatchOption, OnErr, OnOk};
 ghost use Rattle.csicodec_tokens.specs.declared.param.CsiParam.{CsiParam};
+ghost use Rattle.csicodec_spans.specs.{declared.table.Mode.TheVariants.Text as Plain, Parts.Cuts, Parts.IsMaximal};
+ghost use Rattle.csicodec_events.specs.{Events.BeginsCsi, Events.IsMet, Events.Tells, Events.Waits, Events.left, Private.Steps.HasFound, Private.Steps.HasWaited};
 ghost use Rattle.csicodec_spans.specs.declared.table.Kind.TheVariants as kinds;
-ghost use Rattle.csicodec_spans.specs.declared.table.Mode.TheVariants.{Text as Plain};
-ghost use Rattle.csicodec_spans.specs.Parts.{Cuts, IsMaximal};
-ghost use Rattle.csicodec_events.specs.Events.{BeginsCsi, IsMet, Tells, Waits, left};
-ghost use Rattle.csicodec_events.specs.Private.Steps.{HasFound, HasWaited};
 
 use crate::front::Front;
 use crate::input::behind;

@@ -2,9 +2,8 @@
 ghost use Rattle.std.specs.Prelude.{◌≡◌, ◌<◌, ◌++◌, ◌+◌, ◌^◌, [], List, ℕ, length, IfNone, IfSome, IfOk, MatchOption, OnErr, OnOk, true, take, drop};
 ghost use Rattle.csicodec_tokens.specs.declared.param.CsiParam.{CsiParam};
 ghost use Rattle.csicodec_spans.specs.declared.table.Mode.TheVariants.{Text as Plain};
-ghost use Rattle.csicodec_events.specs.declared.input.Form.TheVariants.{Unsure};
-ghost use Rattle.csicodec_events.specs.Events.{IsMet, left, onward};
 ghost use Rattle.csicodec_events.specs.Input.{Awaits, IsSent, IsSentBy, ahead, behind_escape, characters, csi, escape, escape_in_string, in_input, is_digit, is_opener, is_printable, is_wide, linux, mouse, paused, rxvt, ss3, string, two_digits};
+ghost use Rattle.csicodec_events.specs.{declared.input.Form.TheVariants.Unsure, Events.IsMet, Events.left, Events.onward};
 
 use crate::event::{Event, Events};
 use crate::sequence::near;

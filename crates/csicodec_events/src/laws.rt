@@ -1,15 +1,11 @@
 //! Laws of the definitions. Each is the contract of a function that does nothing.
-ghost use Rattle.std.specs.Prelude.{◌≡◌, ◌≤◌, ◌*◌, ◌++◌, ℕ, List, [], length};
-ghost use Rattle.std.specs.List.{concat, flat_map};
+ghost use Rattle.std.specs.{Prelude.◌≡◌, Prelude.◌≤◌, Prelude.◌*◌, Prelude.◌++◌, Prelude.ℕ, Prelude.List, Prelude.[], Prelude.length, List.concat, List.flat_map};
 ghost use Rattle.csicodec_tokens.specs.declared.param.CsiParam.{CsiParam};
-ghost use Rattle.csicodec_events.specs.declared.event.Event.TheVariants as event;
-ghost use Rattle.csicodec_events.specs.declared.event.Events.{Events};
-ghost use Rattle.csicodec_events.specs.declared.event.Told.{Told};
-ghost use Rattle.csicodec_spans.specs.declared.table.Mode.{Mode};
-ghost use Rattle.csicodec_events.specs.declared.input.Dialect.{Dialect};
-ghost use Rattle.csicodec_events.specs.declared.input.Sent.{Sent};
-ghost use Rattle.csicodec_events.specs.Input.{InputChunks, IsSure, ahead, bytes_of as sent_bytes};
 ghost use Rattle.csicodec_events.specs.Events.{AreAlike, BeginsCsi, InChunks, IsMet, IsTold, Tells, Waits, bytes_of, looks_in, stop};
+ghost use Rattle.csicodec_events.specs.{declared.event.Events.Events, declared.event.Told.Told, declared.input.Dialect.Dialect, declared.input.Sent.Sent};
+ghost use Rattle.csicodec_events.specs.{Input.InputChunks, Input.IsSure, Input.ahead, Input.bytes_of as sent_bytes};
+ghost use Rattle.csicodec_spans.specs.declared.table.Mode.{Mode};
+ghost use Rattle.csicodec_events.specs.declared.event.Event.TheVariants as event;
 
 /// In whatever chunks a stream comes, the bytes of its events joined, and then what waits, are its bytes: nothing is lost, added or
 /// moved.

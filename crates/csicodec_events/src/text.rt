@@ -1,7 +1,6 @@
 //! The beginning of a character at the end of text.
 ghost use Rattle.std.specs.Prelude.{◌≡◌, ◌<◌, ◌≤◌, ◌-◌, true, false, length, drop, take};
-ghost use Rattle.csicodec_events.specs.Characters.{EndsWhole, follows, is_from, is_unfinished, leads};
-ghost use Rattle.csicodec_events.specs.Events.{IsHeld};
+ghost use Rattle.csicodec_events.specs.{Characters.EndsWhole, Characters.follows, Characters.is_from, Characters.is_unfinished, Characters.leads, Events.IsHeld};
 
 /// Whether the byte is one from the low to the high one.
 pub(crate) fn is_from(low: u8, high: u8, byte: u8) -> bool

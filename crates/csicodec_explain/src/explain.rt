@@ -5,7 +5,7 @@ use crate::input::Sending;
 use crate::page::Listing;
 use crate::style::Style;
 use csicodec_spans::{Kind, LIMIT, Mode, next_span};
-use csicodec_streams::{CHUNK, RunError, keep_from, receive, send};
+use csicodec_transform::{CHUNK, RunError, keep_from, receive, send};
 use std::alloc::{AllocError, Global};
 use std::fmt::Display;
 use std::io::{Read, Write};

@@ -11,7 +11,7 @@ use crate::patterns::PATTERNS;
 use crate::style::Style;
 use csicodec_assemble::Finds;
 use csicodec_spans::LIMIT;
-use csicodec_streams::RunError;
+use csicodec_transform::RunError;
 use memchr::memmem::find;
 use serde_json::Value;
 use std::alloc::{AllocError, Global};

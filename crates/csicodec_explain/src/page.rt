@@ -10,7 +10,7 @@ use crate::style::Style;
 use csicodec_base::{CsiParam, Esc, ReadError, read_csi_into};
 use csicodec_osc::{ControlString, FRONT};
 use csicodec_spans::{Kind, LIMIT, Mode};
-use csicodec_streams::keep_from;
+use csicodec_transform::keep_from;
 use csicodec_words::{Did, EscReading, words_of_control};
 use std::alloc::{AllocError, Global};
 use std::fmt::Display;

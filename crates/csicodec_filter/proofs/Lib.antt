@@ -1,4 +1,3 @@
-pub mod Sent
 pub mod Shorter
 pub mod Written
 pub mod Meaning

@@ -8,9 +8,9 @@ use Rattle.csicodec_spans.proofs.{Agrees.opens, Kept.parts_join, Kept.parts_more
 use Rattle.csicodec_spans.proofs.{Spanned.rest_is}
 use Rattle.csicodec_streams.specs.Known.{IsOne}
 use Rattle.csicodec_filter.specs.Filter.{AreWritten, Filters, Held, IsFrontOf, IsWritten, MakesBy, Passes, PassesBy, WritesOne}
-use Rattle.csicodec_filter.specs.{Written.Adds, Written.Appends, Written.ByRule, Written.Leaves, Written.Since, Written.WrittenOf, Written.open_at}
-use Rattle.csicodec_filter.specs.{Written.with_more, Transform.Begins, Transform.Sends, Transform.Transforms}
-use Rattle.csicodec_filter.proofs.Sent.{goes_none, goes_on, whole_front}
+use Rattle.csicodec_filter.specs.Written.{Adds, Appends, ByRule, Leaves, Since, WrittenOf, open_at, with_more}
+use Rattle.csicodec_transform.specs.Transform.{Begins, Sends, Transforms}
+use Rattle.csicodec_transform.proofs.Sent.{goes_none, goes_on, whole_front}
 use Rattle.csicodec_spans.specs.declared.table.Kind.TheVariants as kind
 use Rattle.csicodec_spans.specs.declared.table.Mode.TheVariants as mode
 

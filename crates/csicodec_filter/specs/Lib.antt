@@ -1,5 +1,4 @@
 pub mod Faithful
 pub mod Filter
 pub mod Meaning
-pub mod Transform
 pub mod Written

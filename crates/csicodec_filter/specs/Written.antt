@@ -1,7 +1,8 @@
 -- What is written for the spans of a stream, as it comes.
 use Rattle.std.specs.Prelude.{ℕ, ◌≡◌, List, [], ◌++◌}
 use Rattle.csicodec_spans.specs.{Parts.Part, Parts.AreFirstParts, Parts.IsUnsure, declared.table.Mode.Mode}
-use Rattle.csicodec_filter.specs.{Filter.Held, Filter.AreWritten, Transform.EndsOf, Transform.GoesOn}
+use Rattle.csicodec_filter.specs.Filter.{Held, AreWritten}
+use Rattle.csicodec_transform.specs.Transform.{EndsOf, GoesOn}
 use Rattle.csicodec_spans.specs.declared.table.Mode.TheVariants as mode
 
 -- since the first of two states: for these parts this text was written, and then it was in the last one

@@ -1,6 +1,5 @@
 //! Normal forms, but for what terminals are known to read otherwise.
-ghost use Rattle.std.specs.Prelude.{◌≡◌};
-ghost use Rattle.std.specs.List.{list_any};
+ghost use Rattle.std.specs.{Prelude.◌≡◌, List.list_any};
 ghost use Rattle.csicodec_filter.specs.Faithful.{has_spelling, is_kept, is_spelled, stays};
 
 use crate::rewrite::{NormalForm, Rewrite};

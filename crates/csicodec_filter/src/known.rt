@@ -1,9 +1,9 @@
 //! What is looked up in a stream: control sequences that came before, and what was noted of them.
 ghost use Rattle.std.specs.Prelude.{◌≡◌, ◌++◌, ◌<◌, ◌≤◌, ℕ, List, length, take};
-ghost use Rattle.csicodec_streams.specs.Known.{AreKnown};
+ghost use Rattle.csicodec_transform.specs.Known.{AreKnown};
 
 use csicodec_base::TextBuffer;
-use csicodec_streams::{Memo, Note, Noted, WIDE};
+use csicodec_transform::{Memo, Note, Noted, WIDE};
 use std::alloc::Global;
 
 /// A table of control sequences that came before, and what is noted of the one that was found last.

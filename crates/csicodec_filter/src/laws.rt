@@ -1,9 +1,7 @@
 //! Laws of the definitions. Each is the contract of a function that does nothing.
 ghost use Rattle.std.specs.Prelude.{◌<◌, ℕ, List};
-ghost use Rattle.csicodec_spans.specs.declared.table.Mode.{Mode};
-ghost use Rattle.csicodec_spans.specs.Parts.{Part, IsWhole};
-ghost use Rattle.csicodec_filter.specs.Filter.{AreWritten};
-ghost use Rattle.csicodec_filter.specs.Meaning.{KeepsMeaning, StandInPlace, Within, singles};
+ghost use Rattle.csicodec_spans.specs.{declared.table.Mode.Mode, Parts.Part, Parts.IsWhole};
+ghost use Rattle.csicodec_filter.specs.{Filter.AreWritten, Meaning.KeepsMeaning, Meaning.StandInPlace, Meaning.Within, Meaning.singles};
 
 use crate::rewrite::Rewrite;
 

@@ -8,7 +8,6 @@ pub mod laws;
 mod rewrite;
 mod run;
 mod spanwise;
-mod transform;
 
 pub use faithful::{Faithful, stays};
 pub use filter::{Filter, append_spans};
@@ -16,4 +15,3 @@ pub use known::Known;
 pub use rewrite::{NormalForm, Rewrite};
 pub use run::filter_all;
 pub use spanwise::{Room, Spanwise, WriteSpans};
-pub use transform::{Transform, transform_all};

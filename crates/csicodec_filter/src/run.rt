@@ -1,14 +1,13 @@
 //! A run of a filter, from a reader to a writer.
-ghost use Rattle.std.specs.Prelude.{◌≡◌, ◌<◌, ℕ, List, OnOk, OnErr, IfErr, IfSome};
-ghost use Rattle.std.specs.Io.KnownBytes.{Appends, Consumes, IsAtEnd};
-ghost use Rattle.csicodec_spans.specs.declared.table.Mode.{Mode};
-ghost use Rattle.csicodec_spans.specs.declared.table.Mode.TheVariants.{Text as Plain};
+ghost use Rattle.std.specs.{Prelude.◌≡◌, Prelude.◌<◌, Prelude.ℕ, Prelude.List, Prelude.OnOk, Prelude.OnErr, Prelude.IfErr, Prelude.IfSome, Io.KnownBytes.Appends};
+ghost use Rattle.std.specs.{Io.KnownBytes.Consumes, Io.KnownBytes.IsAtEnd};
+ghost use Rattle.csicodec_spans.specs.{declared.table.Mode.Mode, declared.table.Mode.TheVariants.Text as Plain};
 ghost use Rattle.csicodec_filter.specs.Filter.{Filters, IsFrontOf, Passes};
 
 use crate::rewrite::Rewrite;
 use crate::spanwise::Spanwise;
-use crate::transform::transform_all;
-use csicodec_streams::{Normal, RunError};
+use csicodec_streams::Normal;
+use csicodec_transform::{RunError, transform_all};
 use std::alloc::Global;
 use std::io::{Read, Write};
 

@@ -1,18 +1,15 @@
 //! A stream that is written anew as it comes, span by span.
 ghost use Rattle.std.specs.Prelude.{◌≡◌, ◌≢◌, ◌<◌, ◌≤◌, ◌++◌, ◌∷◌, [], ℕ, List, take, drop, length, OnOk, IfOk};
 ghost use Rattle.csicodec_tokens.specs.Sequence.{Seq};
-ghost use Rattle.csicodec_spans.specs.declared.table.Kind.{Kind};
-ghost use Rattle.csicodec_spans.specs.declared.table.Kind.TheVariants.{Csi};
-ghost use Rattle.csicodec_spans.specs.declared.table.Mode.TheVariants.{Text as Plain};
-ghost use Rattle.csicodec_spans.specs.Parts.{IsSpan, IsUnsure, Part, part};
+ghost use Rattle.csicodec_spans.specs.{declared.table.Kind.Kind, declared.table.Kind.TheVariants.Csi, declared.table.Mode.TheVariants.Text as Plain, Parts.IsSpan};
+ghost use Rattle.csicodec_spans.specs.{Parts.IsUnsure, Parts.Part, Parts.part};
 ghost use Rattle.csicodec_filter.specs.Written.{Adds, Appends, WrittenOf, open_at, with_more};
 
 use crate::known::Known;
-use crate::transform::Transform;
 use csicodec_base::{CsiParam, TextBuffer};
 use csicodec_spans::{Cutter, Mode, Waiting};
-use csicodec_streams::Note;
 use csicodec_tokens::Count;
+use csicodec_transform::{Note, Transform};
 use std::alloc::{AllocError, Global};
 use std::marker::Model;
 use std::mem;
@@ -30,7 +27,7 @@ pub struct Room<N: Note> {
 impl<N: Note> Model for Room<N> {
     ghost use Rattle.std.specs.Prelude.{List};
     ghost use Rattle.csicodec_tokens.specs.declared.param.CsiParam.{CsiParam};
-    ghost use Rattle.csicodec_streams.specs.Known.{AreKnown};
+    ghost use Rattle.csicodec_transform.specs.Known.{AreKnown};
 
     ghost Value = { List CsiParam };
 

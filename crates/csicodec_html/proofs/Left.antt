@@ -5,14 +5,12 @@ use Rattle.std.specs.{Prelude.filter, Prelude.◌||◌, Prelude.if◌then◌else
 use lib.Utf8.{scalar}
 use Rattle.bstr.specs.Utf8.{lossy_chars}
 use Rattle.csicodec_spans.specs.{declared.table.Kind.Kind, Parts.Part}
-use Rattle.csicodec_clean.specs.{Shown.run_as, Shown.shown, Shown.IsShown, Titles.with_titles, Cleaned.IsStep, Cleaned.AreSteps, Cleaned.Ends}
-use Rattle.csicodec_clean.specs.{Cleaned.longest, Addresses.is_web, Links.Address, Links.Begun, Links.IsLink}
-use Rattle.csicodec_clean.specs.{Links.IsWithin, Links.links_in, Links.start}
-use Rattle.csicodec_clean.proofs.{Linked.fine_behind, Linked.fine_links, Linked.links_none, Plain.kept_shown, Plain.scalars_lossy}
-use Rattle.csicodec_clean.proofs.{PlainBytes.all_both}
+use Rattle.csicodec_clean.specs.{Shown.run_as, Shown.shown, Shown.IsShown, Titles.with_titles, Cleaned.IsStep, Cleaned.AreSteps, Cleaned.Ends, Cleaned.longest}
+use Rattle.csicodec_clean.specs.{Addresses.is_web, Links.Address, Links.Begun, Links.IsLink, Links.IsWithin, Links.links_in, Links.start}
+use Rattle.csicodec_clean.proofs.{Linked.fine_behind, Linked.fine_links, Linked.links_none, Plain.kept_shown, Plain.scalars_lossy, PlainBytes.all_both}
 use Rattle.csicodec_html.specs.Page.{AreLeft, Char, IsSafe, Leaves, Open, PageWith, Piece, Setting, begins, behind_actions, behind_string, closing, ends, escaped, first_set, leads, piece_text, piece_texts, opens, pieces_behind, run_behind, shown_pieces, shuts, switch, switches, turn}
-use Rattle.csicodec_html.specs.Private.Rule.{closes, pieces_bytes, turns}
-use Rattle.csicodec_html.specs.{declared.look.Look.Look, declared.markup.Markup.Markup, Look.behind_all, Look.sets_any}
+use Rattle.csicodec_html.specs.{Private.Rule.closes, Private.Rule.pieces_bytes, Private.Rule.turns, declared.look.Look.Look, declared.markup.Markup.Markup}
+use Rattle.csicodec_html.specs.{Look.behind_all, Look.sets_any}
 use Rattle.csicodec_html.proofs.{Leads.given, Marks.pieces}
 use Rattle.csicodec_spans.specs.declared.table.Kind.TheVariants as kind
 

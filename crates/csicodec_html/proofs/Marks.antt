@@ -4,7 +4,8 @@ use Rattle.std.proofs.{lemmas.Bool.cases_lt, lemmas.Bool.ne_eqb, lemmas.Bool.Dec
 use Rattle.std.specs.{Prelude.encode_utf8_all, Prelude.◌==◌, Char.encode_utf8, List.AllByRecursion, List.flat_map}
 use Rattle.csicodec_clean.specs.Shown.{IsShown}
 use Rattle.csicodec_html.specs.Page.{IsHarmless, IsSafe, Piece, Char, Begin, End, Open, Shut, escaped, piece_text, piece_texts}
-use Rattle.csicodec_html.specs.{Private.Rule.page_byte, Private.Rule.page_bytes, Private.Rule.piece_bytes, Private.Rule.pieces_bytes, declared.markup.Markup.Markup}
+use Rattle.csicodec_html.specs.{Private.Rule.page_byte, Private.Rule.page_bytes, Private.Rule.piece_bytes, Private.Rule.pieces_bytes}
+use Rattle.csicodec_html.specs.{declared.markup.Markup.Markup}
 use Rattle.csicodec_html.proofs.{Declarations.Fine, Addresses.IsVisible, Addresses.ascii, Addresses.below, Stood.one}
 
 one_fine : (b : ℕ) → IsHarmless b → page_byte b ≡ b ∷ []

@@ -1,9 +1,9 @@
 -- The tags of looks and links.
-use Rattle.std.proofs.Common.{◌≡◌, ℕ, true, List, [], ◌∷◌, ◌++◌, append_assoc, append-nil, arith}
-use Rattle.std.proofs.lemmas.Grind.{flat_map-append}
+use Rattle.std.proofs.{Common.◌≡◌, Common.ℕ, Common.true, Common.List, Common.[], Common.◌∷◌, Common.◌++◌, Common.append_assoc, Common.append-nil, Common.arith}
+use Rattle.std.proofs.{lemmas.Grind.flat_map-append}
 use Rattle.std.specs.Prelude.{codes, ◌||◌}
-use Rattle.csicodec_html.specs.{declared.look.Look.Look, declared.markup.Markup.Markup, Page.Open, Page.begins, Page.ends, Page.leads, Page.opens, Page.piece_texts}
-use Rattle.csicodec_html.specs.{Page.shuts, Page.switch, Private.Rule.piece_bytes, Private.Rule.pieces_bytes}
+use Rattle.csicodec_html.specs.{declared.look.Look.Look, declared.markup.Markup.Markup, Page.Open, Page.begins, Page.ends, Page.leads, Page.opens}
+use Rattle.csicodec_html.specs.{Page.piece_texts, Page.shuts, Page.switch, Private.Rule.piece_bytes, Private.Rule.pieces_bytes}
 
 -- between two looks
 pub turned : (m : Markup) (old new : Look) (before mid after : List ℕ) → mid ≡ before ++ piece_texts (ends old)

@@ -1,8 +1,7 @@
 //! The tag that begins a span.
 ghost use Rattle.std.specs.Prelude.{◌≡◌, ◌++◌, false, OnOk};
 ghost use Rattle.csicodec_html.specs.Classes.{attributes, classes_of, has_true, is_true, names, rest_attribute, style_attribute, true_color, true_colors};
-ghost use Rattle.csicodec_html.specs.Look.{css, is_exact, legible_look, settled, settled_color};
-ghost use Rattle.csicodec_html.specs.Page.{Begin, piece_text};
+ghost use Rattle.csicodec_html.specs.{Look.css, Look.is_exact, Look.legible_look, Look.settled, Look.settled_color, Page.Begin, Page.piece_text};
 
 use crate::classes::{Layer, append_classes};
 use crate::colors::{append_parts, append_property_of};

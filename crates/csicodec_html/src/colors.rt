@@ -1,7 +1,6 @@
 //! Colours as CSS has them.
 ghost use Rattle.std.specs.Prelude.{◌≡◌, ◌<◌, ◌++◌, OnOk};
-ghost use Rattle.csicodec_html.specs.Look.{color_text, hex_color, hex_digit, own_name, place_text, property_of};
-ghost use Rattle.csicodec_html.specs.Palette.{color_at};
+ghost use Rattle.csicodec_html.specs.{Look.color_text, Look.hex_color, Look.hex_digit, Look.own_name, Look.place_text, Look.property_of, Palette.color_at};
 
 use crate::classes::Layer;
 use crate::light_dark::append_pair;

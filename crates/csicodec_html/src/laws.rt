@@ -1,27 +1,16 @@
 //! Laws of the definitions. Each is the contract of a function that does nothing.
-ghost use Rattle.std.specs.Prelude.{◌≡◌, ◌<◌, ◌++◌, ℕ, Bool, List, None, Some, codes, encode_utf8_all, false, true};
-ghost use Rattle.std.specs.List.{AllByRecursion, flat_map};
-ghost use Rattle.csicodec_clean.specs.Cleaned.{Strips, longest};
-ghost use Rattle.csicodec_clean.specs.Links.{is_visible};
-ghost use Rattle.csicodec_clean.specs.Palette.{palette, rgb};
-ghost use Rattle.csicodec_names.specs.declared.color.Intensity.{Intensity};
-ghost use Rattle.csicodec_names.specs.declared.color.SrgbaTuple.{SrgbaTuple};
-ghost use Rattle.csicodec_names.specs.declared.color.Underline.{Underline};
+ghost use Rattle.std.specs.{Prelude.◌≡◌, Prelude.◌<◌, Prelude.◌++◌, Prelude.ℕ, Prelude.Bool, Prelude.List, Prelude.None, Prelude.Some, Prelude.codes};
+ghost use Rattle.std.specs.{Prelude.encode_utf8_all, Prelude.false, Prelude.true, List.AllByRecursion, List.flat_map};
+ghost use Rattle.csicodec_clean.specs.{Cleaned.Strips, Cleaned.longest, Links.is_visible, Palette.palette, Palette.rgb};
+ghost use Rattle.csicodec_names.specs.{declared.color.Intensity.Intensity, declared.color.SrgbaTuple.SrgbaTuple, declared.color.Underline.Underline};
 ghost use Rattle.csicodec_html.specs.Classes.{IsClass, class_if, class_name, ground_color, ground_part, lines_class, lines_color, text_color, text_part, true_colors, weight_class};
-ghost use Rattle.csicodec_html.specs.Contrast.{dark, is_near, known, white};
-ghost use Rattle.csicodec_html.specs.Given.{given_color};
-ghost use Rattle.csicodec_html.specs.Look.{colors, css, has_line, hex_color, settled, slant, weight};
-ghost use Rattle.csicodec_html.specs.MarkupBytes.{IsMarkup};
-ghost use Rattle.csicodec_html.specs.Page.{IsHarmless, IsPageWith, IsQuoted, PageWith, chars_of, escaped};
-ghost use Rattle.csicodec_html.specs.Palette.{color_at, has_pairs, xterm};
 ghost use Rattle.csicodec_html.specs.Sheet.{IsIn, class_rule, class_rules, color_of_lines, declares, in_pre, kind_of_lines, line_rule, said};
-ghost use Rattle.csicodec_html.specs.declared.classes.Class.{Class};
+ghost use Rattle.csicodec_html.specs.{Contrast.dark, Contrast.is_near, Contrast.known, Contrast.white, Given.given_color, Look.colors, Look.css, Look.has_line};
+ghost use Rattle.csicodec_html.specs.{Look.hex_color, Look.settled, Look.slant, Look.weight, MarkupBytes.IsMarkup, Page.IsHarmless, Page.IsPageWith, Page.IsQuoted};
+ghost use Rattle.csicodec_html.specs.{Page.PageWith, Page.chars_of, Page.escaped, Palette.color_at, Palette.has_pairs, Palette.xterm, declared.classes.Class.Class};
+ghost use Rattle.csicodec_html.specs.{declared.look.Look.Look, declared.markup.Markup.Markup, declared.palette.Palette.Palette, declared.sheet.TheConstants.BODY};
 ghost use Rattle.csicodec_html.specs.declared.classes.Class.TheVariants as class;
 ghost use Rattle.csicodec_html.specs.declared.classes.Layer.TheVariants as part;
-ghost use Rattle.csicodec_html.specs.declared.look.Look.{Look};
-ghost use Rattle.csicodec_html.specs.declared.markup.Markup.{Markup};
-ghost use Rattle.csicodec_html.specs.declared.palette.Palette.{Palette};
-ghost use Rattle.csicodec_html.specs.declared.sheet.TheConstants.{BODY};
 
 /// The characters of a page are those that the bytes are stripped to: none is lost, and none is added.
 pub fn text_stays()

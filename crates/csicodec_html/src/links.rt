@@ -1,8 +1,7 @@
 //! Where text leads: the tags of links.
 ghost use Rattle.std.specs.Prelude.{◌≡◌, ◌++◌, ◌||◌, [], OnOk, if◌then◌else◌};
 ghost use Rattle.csicodec_clean.specs.Addresses.{led};
-ghost use Rattle.csicodec_html.specs.Page.{leads, switch};
-ghost use Rattle.csicodec_html.specs.Private.Rule.{pieces_bytes};
+ghost use Rattle.csicodec_html.specs.{Page.leads, Page.switch, Private.Rule.pieces_bytes};
 
 use crate::look::Look;
 use crate::markup::Markup;

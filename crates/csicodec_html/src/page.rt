@@ -1,10 +1,9 @@
 //! Bytes that are all there, as a piece of a page.
-ghost use Rattle.std.specs.Prelude.{◌≡◌, ◌++◌, ◌∷◌, [], ℕ, List, take, OnOk, IfOk, false};
-ghost use Rattle.std.specs.List.{prefix_len};
+ghost use Rattle.std.specs.{Prelude.◌≡◌, Prelude.◌++◌, Prelude.◌∷◌, Prelude.[], Prelude.ℕ, Prelude.List, Prelude.take, Prelude.OnOk, Prelude.IfOk, Prelude.false};
+ghost use Rattle.std.specs.{List.prefix_len};
 ghost use Rattle.csicodec_clean.specs.Bytes.{behind};
-ghost use Rattle.csicodec_html.specs.MarkupBytes.{IsMarkup};
-ghost use Rattle.csicodec_html.specs.Page.{IsPage, IsPageWith, PageOf, PageWith};
-ghost use Rattle.csicodec_html.specs.Private.Rule.{page_byte, page_bytes, stands};
+ghost use Rattle.csicodec_html.specs.{MarkupBytes.IsMarkup, Page.IsPage, Page.IsPageWith, Page.PageOf, Page.PageWith, Private.Rule.page_byte, Private.Rule.page_bytes};
+ghost use Rattle.csicodec_html.specs.{Private.Rule.stands};
 
 use crate::markup::Markup;
 use crate::rule::SpanWriter;

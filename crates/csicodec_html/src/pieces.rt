@@ -1,6 +1,6 @@
 //! Pieces of a page for one that knows how text looks, as they stand there.
-ghost use Rattle.std.specs.Prelude.{◌≡◌, ◌++◌, List, ℕ, OnOk, encode_utf8_all, true};
-ghost use Rattle.std.specs.List.{AllByRecursion, flat_map};
+ghost use Rattle.std.specs.{Prelude.◌≡◌, Prelude.◌++◌, Prelude.List, Prelude.ℕ, Prelude.OnOk, Prelude.encode_utf8_all, Prelude.true, List.AllByRecursion};
+ghost use Rattle.std.specs.{List.flat_map};
 ghost use Rattle.csicodec_clean.specs.Shown.{IsShown};
 ghost use Rattle.csicodec_html.specs.Page.{escaped, piece_texts, turn};
 

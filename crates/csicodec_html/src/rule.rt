@@ -1,8 +1,7 @@
 //! How text is written, and what stands in the place of a control sequence, and of a control string.
 ghost use Rattle.std.specs.Prelude.{◌≡◌, ◌++◌, ◌∷◌, [], map, OnOk};
 ghost use Rattle.csicodec_parser.specs.ActionOf.{action_of};
-ghost use Rattle.csicodec_html.specs.Look.{behind_all, sets_any};
-ghost use Rattle.csicodec_html.specs.Page.{first_set, piece_texts, turn};
+ghost use Rattle.csicodec_html.specs.{Look.behind_all, Look.sets_any, Page.first_set, Page.piece_texts, Page.turn};
 
 use crate::links::follow;
 use crate::look::Look;

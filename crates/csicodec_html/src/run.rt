@@ -5,7 +5,7 @@ ghost use Rattle.csicodec_clean.specs.Streams.{Streams};
 use crate::markup::Markup;
 use crate::rule::SpanWriter;
 use csicodec_clean::clean_run;
-use csicodec_streams::RunError;
+use csicodec_transform::RunError;
 use std::alloc::Global;
 use std::io::{Read, Write};
 

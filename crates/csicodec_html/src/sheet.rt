@@ -1,7 +1,7 @@
 //! A page of its own: what stands ahead of its pieces, with its style sheet, and behind them.
 ghost use Rattle.std.specs.Prelude.{◌≡◌, ◌<◌, ◌++◌, [], ℕ, IfOk, List, OnOk};
-ghost use Rattle.csicodec_html.specs.Look.{property};
 ghost use Rattle.csicodec_html.specs.Sheet.{IsTitle, class_rules, color_rules, own_color, own_colors, rule_of, sheet};
+ghost use Rattle.csicodec_html.specs.Look.{property};
 
 use crate::classes::{Class, Layer, append_name};
 use crate::colors::append_parts;

@@ -1,7 +1,6 @@
 //! The tags.
 ghost use Rattle.std.specs.Prelude.{◌≡◌, ◌++◌, OnOk};
-ghost use Rattle.csicodec_html.specs.Page.{begins, ends, leads, opens, piece_texts, shuts};
-ghost use Rattle.csicodec_html.specs.Private.Rule.{pieces_bytes};
+ghost use Rattle.csicodec_html.specs.{Page.begins, Page.ends, Page.leads, Page.opens, Page.piece_texts, Page.shuts, Private.Rule.pieces_bytes};
 
 use crate::attributes::append_span;
 use crate::look::Look;

@@ -6,7 +6,7 @@ use Rattle.std.specs.{Result.IsErrAnd}
 use Rattle.csicodec_assemble.specs.Lines.{Assembles, GiveAll, IsFirst, IsRefused, Passes, counted, last_line, lines_from, one_more}
 use Rattle.csicodec_assemble.specs.declared.object.Refusal.{Refusal}
 use Rattle.csicodec_assemble.proofs.Joined.{counted_then, passes_then, refuses_at, whole}
-use Rattle.csicodec_streams.specs.declared.error.RunError.{RunError}
+use Rattle.csicodec_transform.specs.declared.error.RunError.{RunError}
 use Rattle.csicodec_command.specs.declared.failure.Failure.{Failure}
 use Rattle.csicodec_inspect.specs.{Assembled.Became, Assembled.IsSent, Assembled.answer_of, Alone.AssemblesLines, Sent.FrontsOf, Sent.IsAppended}
 use Rattle.csicodec_inspect.specs.{declared.assemble.Assembly.Assembly}

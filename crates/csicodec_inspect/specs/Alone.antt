@@ -1,14 +1,15 @@
 -- What the program does with each input by itself: the normal form of sequences, where a stream may be cut, and the bytes that lines of JSON
 -- stand for.
 use Rattle.std.specs.Prelude.{ℕ, ◌≡◌, ◌≢◌, IfErr, IfSome, OnOk}
-use Rattle.csicodec_streams.specs.{declared.error.RunError.RunError, Decoding.NormalisesTo, Refusals.RefusesRun}
+use Rattle.csicodec_streams.specs.{Decoding.NormalisesTo, Refusals.RefusesRun}
+use Rattle.csicodec_transform.specs.declared.error.RunError.{RunError}
 use Rattle.csicodec_assemble.specs.{Lines.Assembles, Lines.Refuses, declared.object.Fault.Fault}
 use Rattle.csicodec_clean.specs.Stream.{IsFrontOf}
 use Rattle.csicodec_lines.specs.Cuts.{Tells}
 use Rattle.csicodec_command.specs.Runs.{GoesOf}
 use Rattle.csicodec_inspect.specs.{declared.assemble.Assembly.Assembly, declared.cuts.Cuts.Cuts, declared.normal.Normaliser.Normaliser, Sent.FrontsOf}
 use Rattle.csicodec_inspect.specs.{Sent.IsAppended, Sent.IsWrittenBy}
-use Rattle.csicodec_streams.specs.declared.error.RunError.TheVariants as error
+use Rattle.csicodec_transform.specs.declared.error.RunError.TheVariants as error
 use Rattle.csicodec_command.specs.declared.failure.Failure.TheVariants as failure
 
 -- The normal form of all sequences is written. What refuses them is told, and nothing is written then, nor where a read fails.

@@ -1,13 +1,11 @@
 //! What lines of JSON stand for, as they come.
-ghost use Rattle.std.specs.Prelude.{◌≡◌, ℕ, List};
-ghost use Rattle.std.specs.Io.KnownBytes.{Appends};
-ghost use Rattle.csicodec_inspect.specs.Alone.{AssemblesLines};
-ghost use Rattle.csicodec_inspect.specs.Assembled.{IsSent, answer_of};
+ghost use Rattle.std.specs.{Prelude.◌≡◌, Prelude.ℕ, Prelude.List, Io.KnownBytes.Appends};
+ghost use Rattle.csicodec_inspect.specs.{Alone.AssemblesLines, Assembled.IsSent, Assembled.answer_of};
 
 use csicodec_assemble::{Assembler, Refusal};
 use csicodec_command::{Alone, Failure};
 use csicodec_explain::Maker;
-use csicodec_streams::{CHUNK, RunError, receive, send};
+use csicodec_transform::{CHUNK, RunError, receive, send};
 use std::alloc::Global;
 use std::io::{Read, Write};
 

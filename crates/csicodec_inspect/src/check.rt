@@ -1,18 +1,17 @@
 //! Where a stream is plain text no more, or plain text that is all seen.
-ghost use Rattle.std.specs.Prelude.{◌≡◌, ◌⊎◌, ◌<◌, ◌++◌, ℕ, List, [], length, IfOk, IfErr};
-ghost use Rattle.std.specs.Io.KnownBytes.{Consumes, IsAtEnd};
+ghost use Rattle.std.specs.{Prelude.◌≡◌, Prelude.◌⊎◌, Prelude.◌<◌, Prelude.◌++◌, Prelude.ℕ, Prelude.List, Prelude.[], Prelude.length, Prelude.IfOk, Prelude.IfErr};
+ghost use Rattle.std.specs.{Io.KnownBytes.Consumes, Io.KnownBytes.IsAtEnd};
 ghost use Rattle.csicodec_clean.specs.Shown.{IsTextOf};
-ghost use Rattle.csicodec_command.specs.declared.failure.Failure.TheVariants.{NotPlain, Run as Ran};
-ghost use Rattle.csicodec_command.specs.declared.failure.Found.{Found as FoundOf};
-ghost use Rattle.csicodec_streams.specs.declared.error.RunError.{RunError as RunErrorOf};
-ghost use Rattle.csicodec_inspect.specs.Found.{IsFound, by_char, found_at};
-ghost use Rattle.csicodec_inspect.specs.Visible.{class_of};
+ghost use Rattle.csicodec_command.specs.{declared.failure.Failure.TheVariants.NotPlain, declared.failure.Failure.TheVariants.Run as Ran};
+ghost use Rattle.csicodec_command.specs.{declared.failure.Found.Found as FoundOf};
+ghost use Rattle.csicodec_transform.specs.declared.error.RunError.{RunError as RunErrorOf};
+ghost use Rattle.csicodec_inspect.specs.{Found.IsFound, Found.by_char, Found.found_at, Visible.class_of};
 
 use crate::visible::{VisibleText, is_tag, turns};
 use bstr::decode_utf8;
 use csicodec_clean::{CharClass, Checked, PlainText, check_all, is_shown};
 use csicodec_command::{Failure, Found, Recording};
-use csicodec_streams::RunError;
+use csicodec_transform::RunError;
 use std::alloc::{AllocError, Global};
 use std::io::{BufRead, Read};
 

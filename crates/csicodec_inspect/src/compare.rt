@@ -7,7 +7,7 @@ use crate::explain::explainer_of;
 use crate::explained_cast::explain_cast;
 use csicodec_command::{Failure, Worker, work_through};
 use csicodec_explain::{Explainer, Style};
-use csicodec_streams::{RunError, send};
+use csicodec_transform::{RunError, send};
 use std::alloc::{AllocError, Global};
 use std::io::{BufRead, Read, Write};
 

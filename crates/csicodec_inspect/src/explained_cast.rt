@@ -3,7 +3,7 @@
 use csicodec_command::{Failure, Recording};
 use csicodec_explain::Explainer;
 use csicodec_osc::Quoted;
-use csicodec_streams::RunError;
+use csicodec_transform::RunError;
 use std::alloc::Global;
 use std::fmt;
 use std::io::{BufRead, Write};

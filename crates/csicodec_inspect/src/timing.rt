@@ -3,7 +3,7 @@
 
 use csicodec_command::{Failure, line_front, micros};
 use csicodec_explain::Explainer;
-use csicodec_streams::{CHUNK, RunError, receive};
+use csicodec_transform::{CHUNK, RunError, receive};
 use std::alloc::Global;
 use std::io::{Read, Write};
 

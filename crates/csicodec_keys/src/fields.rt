@@ -1,6 +1,5 @@
 //! The list of a key before its final character, read and written.
-ghost use Rattle.std.specs.Prelude.{◌≡◌};
-ghost use Rattle.std.specs.Option.{option_map};
+ghost use Rattle.std.specs.{Prelude.◌≡◌, Option.option_map};
 ghost use Rattle.csicodec_keys.specs.Fields.{behind_held, char_of, characters, event_field, event_of, from_separator, held_field, held_front, held_of, number_front, number_of, read_list, says_of, text_front, with_char};
 
 use crate::key::{KeyEvent, Typed};

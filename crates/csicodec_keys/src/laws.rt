@@ -1,12 +1,9 @@
 //! Laws of the encodings. Each is the contract of a function that does nothing.
 ghost use Rattle.std.specs.Prelude.{◌≡◌, Some, true};
-ghost use Rattle.csicodec_keys.specs.declared.key.Encoding.TheVariants as encoding;
-ghost use Rattle.csicodec_keys.specs.declared.key.Encoding.{Encoding};
-ghost use Rattle.csicodec_keys.specs.declared.writing.KeySpelling.{KeySpelling};
-ghost use Rattle.csicodec_keys.specs.Forms.{are_written, are_written_with, form_bytes, form_of, read_form, said};
-ghost use Rattle.csicodec_keys.specs.Keys.{Stroke, is_stroke};
-ghost use Rattle.csicodec_keys.specs.Sent.{IsToldAs};
 ghost use Rattle.csicodec_keys.specs.Tables.{controls, csi_keys, kitty_keys, linux_keys, other_keys, rxvt_keys, rxvt_ss3, ss3_keys, win32_keys};
+ghost use Rattle.csicodec_keys.specs.{declared.key.Encoding.Encoding, declared.writing.KeySpelling.KeySpelling, Forms.are_written, Forms.are_written_with};
+ghost use Rattle.csicodec_keys.specs.{Forms.form_bytes, Forms.form_of, Forms.read_form, Forms.said, Keys.Stroke, Keys.is_stroke, Sent.IsToldAs};
+ghost use Rattle.csicodec_keys.specs.declared.key.Encoding.TheVariants as encoding;
 
 /// What is written of a key in an encoding is read as what that encoding can say of it.
 pub fn round_trip()

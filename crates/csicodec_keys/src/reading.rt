@@ -1,11 +1,7 @@
 //! The key of an event of input.
-ghost use Rattle.std.specs.Prelude.{◌≡◌};
-ghost use Rattle.std.specs.Option.{option_map};
-ghost use Rattle.csicodec_keys.specs.Characters.{is_typed};
-ghost use Rattle.csicodec_keys.specs.Fields.{is_empty, read_list, says_of};
+ghost use Rattle.std.specs.{Prelude.◌≡◌, Option.option_map};
 ghost use Rattle.csicodec_keys.specs.Forms.{by, char_key, csi_row, held_by, is_rxvt, numbered, other_key, pressed, pressed_row, read_alt, read_char, read_csi, read_event, read_listed, read_ss3, row_key, said_key, ss3_by, told_by, typing, with_alt};
-ghost use Rattle.csicodec_keys.specs.Keys.{stroke_of};
-ghost use Rattle.csicodec_keys.specs.Win32.{read_win32};
+ghost use Rattle.csicodec_keys.specs.{Characters.is_typed, Fields.is_empty, Fields.read_list, Fields.says_of, Keys.stroke_of, Win32.read_win32};
 
 use crate::code::KeyCode;
 use crate::fields::{KeyReport, read_list};

@@ -1,12 +1,10 @@
 //! The form of a key in an encoding, and its bytes.
-ghost use Rattle.std.specs.Prelude.{◌≡◌, ◌++◌, ◌∷◌, [], true, false, IfOk, MatchOption, encode_utf8};
-ghost use Rattle.std.specs.Option.{option_map};
+ghost use Rattle.std.specs.{Prelude.◌≡◌, Prelude.◌++◌, Prelude.◌∷◌, Prelude.[], Prelude.true, Prelude.false, Prelude.IfOk, Prelude.MatchOption, Prelude.encode_utf8};
+ghost use Rattle.std.specs.{Option.option_map};
 ghost use Rattle.csicodec_tokens.specs.Param.{spells, token_text};
-ghost use Rattle.csicodec_keys.specs.Characters.{is_alt};
 ghost use Rattle.csicodec_keys.specs.Fields.{colon_list, held_list, is_empty, is_plain, number_list, text_list, written_list};
 ghost use Rattle.csicodec_keys.specs.Forms.{alt_control, but_release, char_form, char_number, control_form, csi_form, form_bytes, form_of, kitty_char, kitty_row, legacy_form, linux_form, other_form, other_number, rxvt_form, rxvt_row, ss3_form, text_form, text_of, xterm_held};
-ghost use Rattle.csicodec_keys.specs.Keys.{stroke_of};
-ghost use Rattle.csicodec_keys.specs.Win32.{record_list};
+ghost use Rattle.csicodec_keys.specs.{Characters.is_alt, Keys.stroke_of, Win32.record_list};
 
 use crate::code::KeyCode;
 use crate::key::{Encoding, Key, KeyEvent};

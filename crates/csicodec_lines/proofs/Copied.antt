@@ -3,8 +3,8 @@ use Rattle.std.proofs.Common.{◌≡◌, ◌<◌, ◌≤◌, ℕ, Bool, true, fa
 use Rattle.std.proofs.{lemmas.Bool.and_from, lemmas.Bool.and_parts, lemmas.Bool.Decides.nat_tests, lemmas.List.nil_from_length}
 use Rattle.std.specs.{Char.encode_utf8, List.AllByRecursion, Str.all_scalars}
 use lib.Utf8.{scalar}
-use Rattle.csicodec_filter.specs.Transform.{GoesOn}
-use Rattle.csicodec_filter.proofs.Sent.{goes_on}
+use Rattle.csicodec_transform.specs.Transform.{GoesOn}
+use Rattle.csicodec_transform.proofs.Sent.{goes_on}
 use Rattle.csicodec_clean.specs.{Cleaned.EndOf, Cleaned.RuleOf, Cleaned.longest, Shown.IsPlain, Shown.IsShown, Shown.run_as, Shown.written, Stream.Between}
 use Rattle.csicodec_clean.specs.{Stream.Takes, Stream.start_of, Private.Steps.bare_at}
 use Rattle.csicodec_clean.proofs.{Chunks.takes_none, Glances.over_told, Shows.shown_none, Shows.written_on, Told.alone, Told.plain_told, Twice.all_kept}

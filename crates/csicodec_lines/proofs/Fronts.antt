@@ -4,7 +4,7 @@ use Rattle.std.specs.Prelude.{Result}
 use Rattle.csicodec_clean.specs.{Streams.StreamsOne, Cleaned.EndOf, Cleaned.Ends, Cleaned.RuleOf, Cleaned.longest, Stream.Between, Stream.IsFrontOf}
 use Rattle.csicodec_clean.specs.{Stream.Takes, Stream.start_of, Shown.run_as}
 use Rattle.csicodec_clean.proofs.Streams.{Ran, Went, one_ran}
-use Rattle.csicodec_filter.specs.Transform.{Sends, Transforms}
+use Rattle.csicodec_transform.specs.Transform.{Sends, Transforms}
 use Rattle.csicodec_lines.specs.{declared.lines.Lines.Lines, Lines.AreOf, Lines.ByLines, Lines.joined, Lines.lines_from, Lines.lines_of, Stream.Ending}
 use Rattle.csicodec_lines.specs.{Stream.Passes, Stream.ended}
 use Rattle.csicodec_lines.proofs.{Ends.goes_on, Texts.by_lines_as, Texts.joined_front, Texts.of_as, Texts.one_text, Texts.parted, Texts.same_texts}

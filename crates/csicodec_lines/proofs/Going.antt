@@ -2,8 +2,8 @@
 use Rattle.std.proofs.Common.{◌≡◌, ℕ, Bool, false, List, [], ◌∷◌, ◌++◌, refl, sym, ap, subst, ◌∙◌, append_assoc, append-nil}
 use Rattle.csicodec_spans.specs.{declared.table.Kind.Kind, Parts.Part, Parts.part, Parts.left_over, Parts.IsSpan, Parts.IsUnsure}
 use Rattle.csicodec_spans.proofs.{Kept.parts_more, Once.parts_front, Once.whole_once}
-use Rattle.csicodec_filter.specs.{Filter.Held, Transform.EndsOf, Transform.GoesOn, Transform.Transforms, Written.Appends, Written.Since, Written.open_at}
-use Rattle.csicodec_filter.specs.{Written.with_more}
+use Rattle.csicodec_filter.specs.{Filter.Held, Written.Appends, Written.Since, Written.open_at, Written.with_more}
+use Rattle.csicodec_transform.specs.Transform.{EndsOf, GoesOn, Transforms}
 use Rattle.csicodec_filter.proofs.Written.{since_none, since_on}
 use Rattle.csicodec_clean.specs.{Cleaned.longest, Stream.IsFrontOf, Titles.read_as, Titles.title_behind, Titles.title_open, Titles.with_titles}
 use Rattle.csicodec_clean.proofs.Titles.{open_on, titled, titles_on}

@@ -1,7 +1,7 @@
 -- A log as it comes.
 use Rattle.std.proofs.Common.{◌≡◌, ◌<◌, ℕ, true, false, List, [], ◌∷◌, ◌++◌, length, ◌==◌, refl, sym, ◌∙◌, append_assoc, append-nil}
 use Rattle.std.specs.List.{AllByRecursion, concat}
-use Rattle.csicodec_filter.specs.Transform.{GoesOn, Transforms}
+use Rattle.csicodec_transform.specs.Transform.{GoesOn, Transforms}
 use Rattle.csicodec_clean.specs.{Cleaned.EndOf, Cleaned.Ends, Cleaned.RuleOf, Cleaned.longest, Stream.AreTaken, Stream.Takes, Stream.start_of}
 use Rattle.csicodec_clean.proofs.Chunks.{ends as at_end, taken_on, takes_none, takes_on}
 use Rattle.csicodec_lines.specs.{declared.lines.Lines.Lines, Lines.ByLines, Lines.IsWithin, Lines.ends_line, Lines.joins, Lines.lines_from, Lines.lines_of}

@@ -1,6 +1,6 @@
 -- A log as it comes, chunk by chunk.
 use Rattle.std.specs.{Prelude.ℕ, Prelude.◌≡◌, Prelude.false, Prelude.List, Prelude.[], Prelude.◌∷◌, Prelude.◌++◌, List.concat}
-use Rattle.csicodec_filter.specs.Transform.{EndsOf, GoesOn}
+use Rattle.csicodec_transform.specs.Transform.{EndsOf, GoesOn}
 use Rattle.csicodec_clean.specs.{Cleaned.RuleOf, Cleaned.EndOf, Cleaned.Ends, Cleaned.longest, Stream.AreTaken, Stream.Closing, Stream.Takes, Stream.start_of}
 use Rattle.csicodec_lines.specs.{declared.lines.Lines.Lines, Lines.AreOf, Lines.ByLines, Lines.lines_from}
 

@@ -1,12 +1,11 @@
 //! From a reader to a writer.
-ghost use Rattle.std.specs.Prelude.{◌≡◌, ◌⊎◌, ℕ, List, OnOk, OnErr, IfErr, IfSome};
-ghost use Rattle.std.specs.Io.KnownBytes.{Appends, Consumes, IsAtEnd};
+ghost use Rattle.std.specs.{Prelude.◌≡◌, Prelude.◌⊎◌, Prelude.ℕ, Prelude.List, Prelude.OnOk, Prelude.OnErr, Prelude.IfErr, Prelude.IfSome, Io.KnownBytes.Appends};
+ghost use Rattle.std.specs.{Io.KnownBytes.Consumes, Io.KnownBytes.IsAtEnd};
 ghost use Rattle.csicodec_clean.specs.Stream.{IsFrontOf};
 ghost use Rattle.csicodec_lines.specs.Cuts.{Tells};
 
 use crate::finder::Finder;
-use csicodec_filter::transform_all;
-use csicodec_streams::RunError;
+use csicodec_transform::{RunError, transform_all};
 use std::alloc::Global;
 use std::io::{Read, Write};
 

@@ -7,8 +7,8 @@ ghost use Rattle.csicodec_lines.specs.Private.Finder.{Finds, IsBegun};
 
 use crate::search::CutSearch;
 use csicodec_clean::{read_as, title_behind};
-use csicodec_filter::Transform;
 use csicodec_spans::{LIMIT, Mode, Waiting, next_span};
+use csicodec_transform::Transform;
 use std::alloc::{AllocError, Global};
 
 /// Appends the places in all spans of the bytes that are sure, and answers the bytes that aren't, and the mode there.

@@ -1,14 +1,8 @@
 //! Laws of the definitions. Each is the contract of a function that does nothing.
-ghost use Rattle.std.specs.Prelude.{◌≡◌, ◌++◌, ℕ, List, drop, take};
-ghost use Rattle.std.specs.List.{AllByRecursion};
-ghost use Rattle.csicodec_spans.specs.declared.table.Mode.TheVariants.{Text};
-ghost use Rattle.csicodec_spans.specs.Parts.{Part, IsWhole};
-ghost use Rattle.csicodec_clean.specs.Cleaned.{Strips, longest};
-ghost use Rattle.csicodec_clean.specs.Styled.{IsStyledIn, StylesIn};
-ghost use Rattle.csicodec_clean.specs.declared.styles.Passing.{Passing};
-ghost use Rattle.csicodec_lines.specs.Cuts.{AreCuts, IsPlace};
-ghost use Rattle.csicodec_lines.specs.Lines.{AreOf, ByLines, lines_of};
-ghost use Rattle.csicodec_lines.specs.Stream.{AnyChunks};
+ghost use Rattle.std.specs.{Prelude.◌≡◌, Prelude.◌++◌, Prelude.ℕ, Prelude.List, Prelude.drop, Prelude.take, List.AllByRecursion};
+ghost use Rattle.csicodec_spans.specs.{declared.table.Mode.TheVariants.Text, Parts.Part, Parts.IsWhole};
+ghost use Rattle.csicodec_clean.specs.{Cleaned.Strips, Cleaned.longest, Styled.IsStyledIn, Styled.StylesIn, declared.styles.Passing.Passing};
+ghost use Rattle.csicodec_lines.specs.{Cuts.AreCuts, Cuts.IsPlace, Lines.AreOf, Lines.ByLines, Lines.lines_of, Stream.AnyChunks};
 
 use csicodec_clean::{Anew, Rule};
 

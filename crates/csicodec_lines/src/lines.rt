@@ -1,18 +1,15 @@
 //! A stream of lines, each of which is cleaned by itself, as it comes.
-ghost use Rattle.std.specs.Prelude.{◌≡◌, ◌<◌, ◌++◌, ◌∷◌, [], ℕ, List, OnOk, IfOk, true, length, ⊤};
-ghost use Rattle.std.specs.List.{AllByRecursion};
-ghost use Rattle.csicodec_lines.specs.Lines.{IsWithin, ends_line, joins};
-ghost use Rattle.csicodec_lines.specs.Private.Cut.{Adds, AddsFront, BeginsWithEnd};
-ghost use Rattle.csicodec_lines.specs.Stream.{Passes, begun};
-ghost use Rattle.csicodec_clean.specs.Steps.{bare};
-ghost use Rattle.csicodec_clean.specs.Stream.{start_of};
-ghost use Rattle.csicodec_clean.specs.Styled.{first_kept};
+ghost use Rattle.std.specs.{Prelude.◌≡◌, Prelude.◌<◌, Prelude.◌++◌, Prelude.◌∷◌, Prelude.[], Prelude.ℕ, Prelude.List, Prelude.OnOk, Prelude.IfOk, Prelude.true};
+ghost use Rattle.std.specs.{Prelude.length, Prelude.⊤, List.AllByRecursion};
+ghost use Rattle.csicodec_lines.specs.{Lines.IsWithin, Lines.ends_line, Lines.joins, Private.Cut.Adds, Private.Cut.AddsFront, Private.Cut.BeginsWithEnd};
+ghost use Rattle.csicodec_lines.specs.{Stream.Passes, Stream.begun};
+ghost use Rattle.csicodec_clean.specs.{Steps.bare, Stream.start_of, Styled.first_kept};
 
 use csicodec_clean::{
     Anew, ByteClass, Cleaner, Dropped, Kept, LANES, Passing, Rule, first_set, split_front,
     split_shown,
 };
-use csicodec_filter::Transform;
+use csicodec_transform::Transform;
 use std::alloc::{AllocError, Global};
 use std::simd::prelude::*;
 

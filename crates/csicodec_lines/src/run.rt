@@ -1,14 +1,10 @@
 //! Logs from a reader to a writer.
-ghost use Rattle.csicodec_clean.specs.Shown.{IsPlain};
-ghost use Rattle.csicodec_clean.specs.Cleaned.{Strips, longest};
-ghost use Rattle.csicodec_clean.specs.Streams.{StreamsOne};
-ghost use Rattle.csicodec_clean.specs.Styled.{IsStyledIn, StylesIn};
+ghost use Rattle.csicodec_clean.specs.{Shown.IsPlain, Cleaned.Strips, Cleaned.longest, Streams.StreamsOne, Styled.IsStyledIn, Styled.StylesIn};
 ghost use Rattle.csicodec_lines.specs.Lines.{ByLines};
 
 use crate::lines::Lines;
 use csicodec_clean::Passing;
-use csicodec_filter::transform_all;
-use csicodec_streams::RunError;
+use csicodec_transform::{RunError, transform_all};
 use std::alloc::Global;
 use std::io::{Read, Write};
 

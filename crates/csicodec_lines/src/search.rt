@@ -1,8 +1,8 @@
 //! A search for places within the text of a stream.
 ghost use Rattle.std.specs.Prelude.{◌≡◌, ◌++◌, ℕ, List, OnOk};
 ghost use Rattle.csicodec_spans.specs.Parts.{part};
-ghost use Rattle.csicodec_lines.specs.Cuts.{Found, behind_byte, first, is_cut, is_shown, line_of, passed};
-ghost use Rattle.csicodec_lines.specs.Private.Search.{FindsAt, FindsIn, IsAt};
+ghost use Rattle.csicodec_lines.specs.{Cuts.Found, Cuts.behind_byte, Cuts.first, Cuts.is_cut, Cuts.is_shown, Cuts.line_of, Cuts.passed, Private.Search.FindsAt};
+ghost use Rattle.csicodec_lines.specs.{Private.Search.FindsIn, Private.Search.IsAt};
 
 use csicodec_spans::Kind;
 use itoa::write_digits;

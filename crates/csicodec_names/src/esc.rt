@@ -1,7 +1,6 @@
 //! Escape sequences (ESC): one or two characters after the character ESC.
 ghost use Rattle.std.specs.Prelude.{◌≡◌, ◌↔◌, Some};
-ghost use Rattle.csicodec_names.specs.Esc.{EscOf, esc_number, esc_text, in_turn};
-ghost use Rattle.csicodec_names.specs.EscCodes.{characters_of};
+ghost use Rattle.csicodec_names.specs.{Esc.EscOf, Esc.esc_number, Esc.esc_text, Esc.in_turn, EscCodes.characters_of};
 
 use crate::esc_codes::{EscCode, of_one_character, of_two_characters};
 use std::fmt;

@@ -1,6 +1,6 @@
 //! Bytes, shown in ASCII.
-ghost use Rattle.std.specs.Prelude.{◌≡◌, ◌++◌, ◌∷◌, ◌≤◌, ◌<◌, [], true, OnOk, drop, length, take};
-ghost use Rattle.std.specs.List.{flat_map};
+ghost use Rattle.std.specs.{Prelude.◌≡◌, Prelude.◌++◌, Prelude.◌∷◌, Prelude.◌≤◌, Prelude.◌<◌, Prelude.[], Prelude.true, Prelude.OnOk, Prelude.drop, Prelude.length};
+ghost use Rattle.std.specs.{Prelude.take, List.flat_map};
 ghost use Rattle.csicodec_osc.specs.Escaped.{escaped, hex_digit};
 
 use std::alloc::AllocError;

@@ -1,7 +1,6 @@
 //! Fields: what stands between semicolons.
 ghost use Rattle.std.specs.Prelude.{◌≡◌, ◌==◌, ◌++◌, ◌∷◌, true, IfNone, IfSome, option_map, option_and_then, position};
-ghost use Rattle.csicodec_osc.specs.Osc.{IsNext, is_field, list_text, percent_of};
-ghost use Rattle.csicodec_osc.specs.Private.Reading.{halves};
+ghost use Rattle.csicodec_osc.specs.{Osc.IsNext, Osc.is_field, Osc.list_text, Osc.percent_of, Private.Reading.halves};
 
 /// Fields, each behind a `;`.
 ///

@@ -1,8 +1,7 @@
 //! What an OSC says.
 ghost use Rattle.std.specs.Prelude.{◌≡◌, ◌++◌, [], ◌∷◌, OnOk, Some, option_map};
-ghost use Rattle.csicodec_osc.specs.Commands.{form, number};
-ghost use Rattle.csicodec_osc.specs.Osc.{Known, Says, is_message, said, tail_text, written};
-ghost use Rattle.csicodec_osc.specs.Private.Reading.{behind, read_body, read_by};
+ghost use Rattle.csicodec_osc.specs.{Commands.form, Commands.number, Osc.Known, Osc.Says, Osc.is_message, Osc.said, Osc.tail_text, Osc.written};
+ghost use Rattle.csicodec_osc.specs.{Private.Reading.behind, Private.Reading.read_body, Private.Reading.read_by};
 
 use crate::asked::Asked;
 use crate::command::{

@@ -1,7 +1,7 @@
 -- What steps write, one behind the other, and what comes of a stream.
 use Rattle.std.proofs.Common.{◌≡◌, ℕ, List, [], ◌∷◌, ◌++◌, refl, sym, ap, subst, ◌∙◌, ⊎_elim, append_assoc, append-nil}
 use Rattle.std.specs.List.{concat}
-use Rattle.csicodec_filter.specs.Transform.{Begins, GoesOn, Sends, Transforms}
+use Rattle.csicodec_transform.specs.Transform.{Begins, GoesOn, Sends, Transforms}
 use Rattle.csicodec_clean.specs.Stream.{AreTaken}
 use Rattle.csicodec_clean.proofs.Chunks.{taken_on}
 use Rattle.csicodec_overwrite.specs.Line.{before, blank, cells_of, do_all, does, fresh, pen_behind, pen_behind_all}

@@ -1,7 +1,7 @@
 -- A stream as it comes, chunk by chunk.
 use Rattle.std.specs.{Prelude.ℕ, Prelude.◌≡◌, Prelude.Bool, Prelude.false, Prelude.List, Prelude.[], Prelude.◌∷◌, Prelude.◌++◌, List.concat}
 use Rattle.csicodec_spans.specs.{declared.table.Mode.Mode, Parts.Part, Parts.AreFirstParts, Parts.IsUnsure}
-use Rattle.csicodec_filter.specs.Transform.{GoesOn}
+use Rattle.csicodec_transform.specs.Transform.{GoesOn}
 use Rattle.csicodec_clean.specs.{Cleaned.longest, Shown.IsRead, Stream.AreTaken, Titles.title_open, Titles.with_titles}
 use Rattle.csicodec_overwrite.specs.{declared.line.Line.Line, Line.blank, Line.do_all, Line.fresh, Line.pen_behind_all, declared.marking.Marking.Marking}
 use Rattle.csicodec_overwrite.specs.{declared.marking.Marking.TheVariants.Plain, declared.pen.Pen.Pen, declared.step.Step.Step, Steps.of_chars, Steps.of_run}

@@ -1,6 +1,5 @@
 //! Text of ASCII, which takes no reading.
-ghost use Rattle.std.specs.Prelude.{◌≡◌, ◌++◌, ◌≤◌, length, min, IfSome};
-ghost use Rattle.std.specs.List.{AllByRecursion};
+ghost use Rattle.std.specs.{Prelude.◌≡◌, Prelude.◌++◌, Prelude.◌≤◌, Prelude.length, Prelude.min, Prelude.IfSome, List.AllByRecursion};
 ghost use Rattle.csicodec_overwrite.specs.Private.Plain.{AreLines, IsUntabbed, end_of};
 
 use csicodec_clean::{ByteClass, PlainAscii, first_set, split_front};

@@ -2,8 +2,8 @@
 ghost use Rattle.std.specs.Prelude.{◌≡◌, ◌≤◌, ◌*◌, ◌+◌, ◌-◌, ◌++◌, ◌∷◌, [], drop, false, OnOk, MatchOption, length, replicate, reverse, take, vec_capacity, vec_len};
 ghost use Rattle.std.specs.List.{list_all};
 ghost use Rattle.csicodec_overwrite.specs.Cells.{begins_behind, belongs, columns, emptied, erased, gone, is_blank, is_empty, of_tab, onto, outside, shifted, takes, trimmed, untabbed, without};
-ghost use Rattle.csicodec_overwrite.specs.{Line.line, Line.over, declared.cells.Cell.TheVariants.Empty};
-ghost use Rattle.csicodec_overwrite.specs.Private.{Plain.glyphs, Sides.passed, Sides.put_many};
+ghost use Rattle.csicodec_overwrite.specs.{Line.line, Line.over, declared.cells.Cell.TheVariants.Empty, Private.Plain.glyphs, Private.Sides.passed};
+ghost use Rattle.csicodec_overwrite.specs.{Private.Sides.put_many};
 
 use csicodec_html::Look;
 use std::alloc::{AllocError, Global};

@@ -1,10 +1,9 @@
 //! The front of a line that is written as it comes: text of ASCII, and sequences that do no more than to set how it looks.
-ghost use Rattle.std.specs.Prelude.{◌≡◌, ◌<◌, ◌≤◌, ◌++◌, ℕ, List, false, true, length, IfOk, OnOk};
-ghost use Rattle.std.specs.List.{AllByRecursion};
+ghost use Rattle.std.specs.{Prelude.◌≡◌, Prelude.◌<◌, Prelude.◌≤◌, Prelude.◌++◌, Prelude.ℕ, Prelude.List, Prelude.false, Prelude.true, Prelude.length, Prelude.IfOk};
+ghost use Rattle.std.specs.{Prelude.OnOk, List.AllByRecursion};
 ghost use Rattle.csicodec_html.specs.Turns.{AreTurns};
-ghost use Rattle.csicodec_overwrite.specs.{Paint.turn, Turned.AreLooks, Turned.IsLook, Turned.Sets, Turned.Turned};
-ghost use Rattle.csicodec_overwrite.specs.Private.Front.{IsStyled, IsTurned, IsWritten, last_of_run, run_text};
-ghost use Rattle.csicodec_overwrite.specs.{Private.Plain.IsLineByte, Stream.none_held};
+ghost use Rattle.csicodec_overwrite.specs.{Paint.turn, Turned.AreLooks, Turned.IsLook, Turned.Sets, Turned.Turned, Private.Front.IsStyled, Private.Front.IsTurned};
+ghost use Rattle.csicodec_overwrite.specs.{Private.Front.IsWritten, Private.Front.last_of_run, Private.Front.run_text, Private.Plain.IsLineByte, Stream.none_held};
 
 use crate::ascii::{InLine, style_len};
 use crate::marking::Marking;

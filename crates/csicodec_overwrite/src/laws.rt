@@ -3,12 +3,10 @@ ghost use Rattle.std.specs.Prelude.{◌≡◌, ◌≤◌, ℕ, List};
 ghost use Rattle.csicodec_actions.specs.Actions.{Action};
 ghost use Rattle.csicodec_terminal.specs.Terminal.{IsTakenFor};
 ghost use Rattle.csicodec_clean.specs.{Cleaned.Strips, Cleaned.longest, Shown.IsPlain, Styled.IsOf};
-ghost use Rattle.csicodec_html.specs.{declared.look.Look.Look, declared.markup.Markup.Markup, Look.behind_all};
-ghost use Rattle.csicodec_html.specs.Page.{PageWith};
-ghost use Rattle.csicodec_overwrite.specs.{declared.marking.Marking.Marking, Lost.NothingLost, Lost.NothingMade};
-ghost use Rattle.csicodec_overwrite.specs.{declared.pen.Pen.Pen, Paint.IsInRange, Paint.look_text, Stream.AnyChunks};
-ghost use Rattle.csicodec_overwrite.specs.{declared.step.Step.Step, Line.HasRoom, Line.blank, Line.do_all, Line.size};
-ghost use Rattle.csicodec_overwrite.specs.Reading.{Overwrites, Pages, Paints, Shows, most};
+ghost use Rattle.csicodec_html.specs.{declared.look.Look.Look, declared.markup.Markup.Markup, Look.behind_all, Page.PageWith};
+ghost use Rattle.csicodec_overwrite.specs.{declared.marking.Marking.Marking, Lost.NothingLost, Lost.NothingMade, declared.pen.Pen.Pen, Paint.IsInRange};
+ghost use Rattle.csicodec_overwrite.specs.{Paint.look_text, Stream.AnyChunks, declared.step.Step.Step, Line.HasRoom, Line.blank, Line.do_all, Line.size};
+ghost use Rattle.csicodec_overwrite.specs.{Reading.Overwrites, Reading.Pages, Reading.Paints, Reading.Shows, Reading.most};
 
 /// What is written has no control but newlines and tabs, as what `strip` writes.
 pub fn plain()

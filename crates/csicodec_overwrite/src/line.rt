@@ -1,10 +1,9 @@
 //! A line and its cursor.
-ghost use Rattle.std.specs.Prelude.{◌≡◌, ◌<◌, ◌≤◌, ◌*◌, ◌-◌, ◌++◌, ◌+◌, [], false, length, nat_lt, true, IfOk, OnOk};
-ghost use Rattle.std.specs.List.{AllByRecursion};
-ghost use Rattle.csicodec_overwrite.specs.{Cells.columns, Cells.glyph, Cells.onto};
+ghost use Rattle.std.specs.{Prelude.◌≡◌, Prelude.◌<◌, Prelude.◌≤◌, Prelude.◌*◌, Prelude.◌-◌, Prelude.◌++◌, Prelude.◌+◌, Prelude.[], Prelude.false, Prelude.length};
+ghost use Rattle.std.specs.{Prelude.nat_lt, Prelude.true, Prelude.IfOk, Prelude.OnOk, List.AllByRecursion};
 ghost use Rattle.csicodec_overwrite.specs.Line.{alters, behind_columns, blank, cells_of, delete, does_here, entered, erase, fits, forward, insert, lines_of, parted, placed, put, repeated, size, widest};
-ghost use Rattle.csicodec_overwrite.specs.{Paint.ended, Paint.text_of, Paint.texts_of, Reading.most};
-ghost use Rattle.csicodec_overwrite.specs.Private.{Plain.IsLineByte, Plain.PutsRun, Row.Does, Row.IsHere, Row.settled, Sides.placed_many};
+ghost use Rattle.csicodec_overwrite.specs.{Cells.columns, Cells.glyph, Cells.onto, Paint.ended, Paint.text_of, Paint.texts_of, Reading.most, Private.Plain.IsLineByte};
+ghost use Rattle.csicodec_overwrite.specs.{Private.Plain.PutsRun, Private.Row.Does, Private.Row.IsHere, Private.Row.settled, Private.Sides.placed_many};
 
 use crate::ascii::split_run;
 use crate::cells::{Cell, Glyph, Side};

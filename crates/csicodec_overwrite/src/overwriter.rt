@@ -1,8 +1,8 @@
 //! A stream of which each line is overwritten, as it comes.
 ghost use Rattle.std.specs.Prelude.{◌≡◌, ◌≤◌, ◌<◌, ◌++◌, ℕ, List, OnOk, IfNone, IfOk, IfSome, false, length, true};
-ghost use Rattle.csicodec_overwrite.specs.{Line.blank, Paint.shows_looks, declared.marking.Marking.TheVariants.Styled};
-ghost use Rattle.csicodec_overwrite.specs.Private.{Front.IsWritten, Plain.PutsPlain, Plain.end_of, Seen.PassesFront};
-ghost use Rattle.csicodec_overwrite.specs.Stream.{Ending, Passes, begun, begun_as, none_held};
+ghost use Rattle.csicodec_overwrite.specs.{Line.blank, Paint.shows_looks, declared.marking.Marking.TheVariants.Styled, Private.Front.IsWritten};
+ghost use Rattle.csicodec_overwrite.specs.{Private.Plain.PutsPlain, Private.Plain.end_of, Private.Seen.PassesFront, Stream.Ending, Stream.Passes, Stream.begun};
+ghost use Rattle.csicodec_overwrite.specs.{Stream.begun_as, Stream.none_held};
 
 use crate::ascii::{InLine, begins_sequence, behind_end, odd_len, split_lines};
 use crate::front::{LineFront, append_front};
@@ -13,9 +13,9 @@ use crate::reader::Reader;
 use crate::row::Row;
 use crate::step::Step;
 use csicodec_clean::split_front;
-use csicodec_filter::Transform;
 use csicodec_html::{Look, Turns};
 use csicodec_spans::LIMIT;
+use csicodec_transform::Transform;
 use std::alloc::{AllocError, Global};
 use std::marker::Model;
 

@@ -3,9 +3,8 @@ ghost use Rattle.std.specs.Prelude.{◌≡◌, ◌≤◌, ◌-◌, ◌∷◌, �
 ghost use Rattle.std.specs.List.{AllByRecursion, flat_map};
 ghost use Rattle.csicodec_clean.specs.Bytes.{IsPlainByte};
 ghost use Rattle.csicodec_html.specs.{Look.is_default, Look.is_none, Look.is_normal, Look.plain, Page.escaped};
-ghost use Rattle.csicodec_overwrite.specs.{Cells.chars_of, Cells.glyph};
-ghost use Rattle.csicodec_overwrite.specs.declared.cells.Cell.TheVariants.{Char, Empty};
 ghost use Rattle.csicodec_overwrite.specs.Paint.{further, given, look_of, look_text, paint, same, text_of, turn, written};
+ghost use Rattle.csicodec_overwrite.specs.{Cells.chars_of, Cells.glyph, declared.cells.Cell.TheVariants.Char, declared.cells.Cell.TheVariants.Empty};
 
 use crate::cells::Cell;
 use crate::marking::Marking;

@@ -1,8 +1,7 @@
 //! How characters are put, and what is saved.
 ghost use Rattle.std.specs.Prelude.{◌≡◌, true};
 ghost use Rattle.csicodec_html.specs.Look.{behind};
-ghost use Rattle.csicodec_overwrite.specs.Line.{fresh, is_row, last_behind, pen_behind};
-ghost use Rattle.csicodec_overwrite.specs.Private.Plain.{PutsPlain};
+ghost use Rattle.csicodec_overwrite.specs.{Line.fresh, Line.is_row, Line.last_behind, Line.pen_behind, Private.Plain.PutsPlain};
 
 use crate::step::{Step, WIDEST};
 use crate::width::width;

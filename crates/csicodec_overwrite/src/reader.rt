@@ -1,12 +1,10 @@
 //! The steps of a stream, as it comes.
 ghost use Rattle.std.specs.Prelude.{◌≡◌, ◌≢◌, ◌≤◌, ◌++◌, ℕ, List, false, true, length, MatchOption, OnOk, IfOk, IfSome};
 ghost use Rattle.csicodec_tokens.specs.Sequence.{Seq};
-ghost use Rattle.csicodec_spans.specs.Parts.{IsUnsure};
+ghost use Rattle.csicodec_spans.specs.{Parts.IsUnsure, declared.table.Kind.TheVariants.Csi as Sequence};
 ghost use Rattle.csicodec_terminal.specs.Terminal.{Terminal};
 ghost use Rattle.csicodec_clean.specs.{Cleaned.longest, Titles.read_as, Titles.title_behind};
-ghost use Rattle.csicodec_overwrite.specs.{Private.Spans.GoesTo, Private.Spans.IsGiven, Stream.Reads, Stream.none_held};
-ghost use Rattle.csicodec_overwrite.specs.Steps.{of_run, of_sequence};
-ghost use Rattle.csicodec_spans.specs.declared.table.Kind.TheVariants.{Csi as Sequence};
+ghost use Rattle.csicodec_overwrite.specs.{Private.Spans.GoesTo, Private.Spans.IsGiven, Stream.Reads, Stream.none_held, Steps.of_run, Steps.of_sequence};
 
 use crate::seen::Seen;
 use crate::step::Step;

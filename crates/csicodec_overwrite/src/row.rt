@@ -1,9 +1,8 @@
 //! A line whose cursor goes to a column only where something is done there, so that going to and fro costs nothing.
 ghost use Rattle.std.specs.{Prelude.◌≡◌, Prelude.◌++◌, Prelude.true, Prelude.IfOk, Prelude.OnOk, List.AllByRecursion};
-ghost use Rattle.csicodec_overwrite.specs.{Cells.columns, Reading.most, Steps.of_chars};
 ghost use Rattle.csicodec_overwrite.specs.Line.{backward, behind_columns, blank, cells_of, done, does, forward, from_stop, in_row, lines_of, pen_behind, restored, rightward, target, to_stop};
-ghost use Rattle.csicodec_overwrite.specs.{Paint.ended, Paint.text_of, declared.step.Step.TheVariants.Tab};
-ghost use Rattle.csicodec_overwrite.specs.Private.{Plain.IsLineByte, Plain.PutsRun, Row.Does, Row.DoesAll, Row.IsHere};
+ghost use Rattle.csicodec_overwrite.specs.{Cells.columns, Reading.most, Steps.of_chars, Paint.ended, Paint.text_of, declared.step.Step.TheVariants.Tab};
+ghost use Rattle.csicodec_overwrite.specs.{Private.Plain.IsLineByte, Private.Plain.PutsRun, Private.Row.Does, Private.Row.DoesAll, Private.Row.IsHere};
 
 use crate::line::Line;
 use crate::marking::Marking;

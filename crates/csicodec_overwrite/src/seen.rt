@@ -1,7 +1,6 @@
 //! Slices that came before, and their steps: one that comes again is looked up, and not read again.
 ghost use Rattle.std.specs.Prelude.{IfSome};
-ghost use Rattle.csicodec_overwrite.specs.Private.Seen.{AreSlices, IsSlice};
-ghost use Rattle.csicodec_overwrite.specs.Stream.{Reads, none_held};
+ghost use Rattle.csicodec_overwrite.specs.{Private.Seen.AreSlices, Private.Seen.IsSlice, Stream.Reads, Stream.none_held};
 
 use crate::step::Step;
 use std::alloc::{AllocError, Global};

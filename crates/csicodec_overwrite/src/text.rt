@@ -1,11 +1,11 @@
 //! The steps of text, of escape sequences and of actions.
-ghost use Rattle.std.specs.Prelude.{◌≡◌, ◌≤◌, ◌++◌, ◌∷◌, [], ℕ, List, length, map, OnOk, IfOk};
-ghost use Rattle.std.specs.List.{flat_map, list_any};
+ghost use Rattle.std.specs.{Prelude.◌≡◌, Prelude.◌≤◌, Prelude.◌++◌, Prelude.◌∷◌, Prelude.[], Prelude.ℕ, Prelude.List, Prelude.length, Prelude.map, Prelude.OnOk};
+ghost use Rattle.std.specs.{Prelude.IfOk, List.flat_map, List.list_any};
 ghost use Rattle.csicodec_actions.specs.Devices.{device_of};
 ghost use Rattle.csicodec_parser.specs.ActionOf.{action_of};
 ghost use Rattle.csicodec_clean.specs.Shown.{IsCut, IsRead};
-ghost use Rattle.csicodec_overwrite.specs.Private.Spans.{if_some};
 ghost use Rattle.csicodec_overwrite.specs.Steps.{as_far, by_code, by_escape, is_mark, may_move, of_action, of_actions, of_char, of_chars, of_code, of_control, of_cursor, of_device, of_edit, of_escape, of_final, of_mode, of_reset, of_run, of_set, of_terminal_mode, of_unread, stops};
+ghost use Rattle.csicodec_overwrite.specs.Private.Spans.{if_some};
 
 use crate::step::{Step, WIDEST};
 use csicodec::{
@@ -15,7 +15,7 @@ use csicodec::{
 use csicodec_base::CsiParam;
 use csicodec_clean::first_sure;
 use csicodec_parser::Unspecified;
-use csicodec_streams::keep_from;
+use csicodec_transform::keep_from;
 use std::alloc::AllocError;
 
 /// A count or a column, as far as it goes.

@@ -1,14 +1,10 @@
 //! The actions that a control sequence stands for, and what each of them does: how it is copied and printed, whether it is
 //! read back, and which list that is read whole it is. What has an arm for each of them stands here.
-ghost use Rattle.std.specs.Prelude.{◌≡◌, ◌⊎◌, ◌↔◌, ◌++◌, ◌<◌, IfOk, IsOk, IsSome, IsTrue, OnErr, OnOk, Some, length};
-ghost use Rattle.std.specs.Io.{StartsWith};
-ghost use Rattle.std.specs.Option.{option_map};
+ghost use Rattle.std.specs.{Prelude.◌≡◌, Prelude.◌⊎◌, Prelude.◌↔◌, Prelude.◌++◌, Prelude.◌<◌, Prelude.IfOk, Prelude.IsOk, Prelude.IsSome, Prelude.IsTrue};
+ghost use Rattle.std.specs.{Prelude.OnErr, Prelude.OnOk, Prelude.Some, Prelude.length, Io.StartsWith, Option.option_map};
+ghost use Rattle.csicodec_actions.specs.{Actions.TakesMemory, Devices.device_of, Table.boxed, Table.unboxed, Table.text};
+ghost use Rattle.csicodec_parser.specs.{ActionOf.action_of, ActionOf.unspecified_of, ActionOf.unspecified_text, Canonical.Canonical, Canonical.IsUnspecified};
 ghost use Rattle.csicodec_actions.specs.Actions as action;
-ghost use Rattle.csicodec_actions.specs.Actions.{TakesMemory};
-ghost use Rattle.csicodec_actions.specs.Devices.{device_of};
-ghost use Rattle.csicodec_actions.specs.Table.{boxed, unboxed, text};
-ghost use Rattle.csicodec_parser.specs.ActionOf.{action_of, unspecified_of, unspecified_text};
-ghost use Rattle.csicodec_parser.specs.Canonical.{Canonical, IsUnspecified};
 
 use crate::canonical::{is_canonical_sgr, is_canonical_unknown};
 use crate::sink::{append_displayed, append_list};

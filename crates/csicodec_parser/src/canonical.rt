@@ -1,9 +1,8 @@
 //! Which attributes, and which unknown actions, are read back from their own texts.
 ghost use Rattle.std.specs.Prelude.{◌≡◌, ◌↔◌, IfOk, IsTrue};
 ghost use Rattle.csicodec_tokens.specs.Sequence.{Apart, IsFinal, IsSpellable, Spellable};
-ghost use Rattle.csicodec_parser.specs.Canonical.{IsCanonicalSgr, IsCanonicalUnknown, IsUncut, IsUnknownIn};
-ghost use Rattle.csicodec_parser.specs.Groups.{group as group_of_list};
-ghost use Rattle.csicodec_parser.specs.Segments.{IsUnread};
+ghost use Rattle.csicodec_parser.specs.{Canonical.IsCanonicalSgr, Canonical.IsCanonicalUnknown, Canonical.IsUncut, Canonical.IsUnknownIn};
+ghost use Rattle.csicodec_parser.specs.{Groups.group as group_of_list, Segments.IsUnread};
 
 use crate::actions::{Unspecified, boxed_action, unboxed_action};
 use crate::group::{Group, front};

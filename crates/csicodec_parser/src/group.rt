@@ -1,12 +1,10 @@
 //! Which rules a list falls under, and the pieces at its front.
 ghost use Rattle.std.specs.Prelude.{◌≡◌, ◌<◌, ◌≤◌, ◌++◌, List, IfOk, length, take, option_and_then, IfNone, IfSome};
 ghost use Rattle.csicodec_tokens.specs.declared.param.CsiParam.{CsiParam};
-ghost use Rattle.csicodec_parser.specs.ActionOf.{action_of};
-ghost use Rattle.csicodec_parser.specs.Cut.{IsStuck};
-ghost use Rattle.csicodec_parser.specs.Groups.{Piece, group_by, marked, start};
+ghost use Rattle.csicodec_parser.specs.{ActionOf.action_of, Cut.IsStuck, Groups.Piece, Groups.group_by, Groups.marked, Groups.start, Private.Steps.found};
+ghost use Rattle.csicodec_parser.specs.{Private.Steps.front, Private.Steps.is_odd_at, Private.Steps.number_at, Private.Steps.styled};
+ghost use Rattle.csicodec_parser.specs.{declared.group.Group.TheVariants.Styles};
 ghost use Rattle.csicodec_actions.specs.Kinds.{read, Dec, Terminal};
-ghost use Rattle.csicodec_parser.specs.Private.Steps.{found, front, is_odd_at, number_at, styled};
-ghost use Rattle.csicodec_parser.specs.declared.group.Group.TheVariants.{Styles};
 
 use crate::actions::CSI;
 use csicodec_actions::{Change, DecPrivateMode, Switch, TerminalMode};

@@ -1,10 +1,8 @@
 //! All actions of one parameter list, into a sink. They are those of the parser, without an iterator between.
 ghost use Rattle.std.specs.Prelude.{◌≡◌, ◌<◌, ◌≤◌, ◌+◌, ◌*◌, ◌∷◌, [], ◌++◌, List, length, drop, None, Some, IfOk, IfSome, OnOk};
 ghost use Rattle.csicodec_actions.specs.Actions.{Action, Unspecified as Unknown};
-ghost use Rattle.csicodec_parser.specs.Groups.{group as group_of_list, marked};
-ghost use Rattle.csicodec_parser.specs.Segments.{Actions};
-ghost use Rattle.csicodec_parser.specs.declared.group.Group.TheVariants.{Whole};
-ghost use Rattle.csicodec_parser.specs.Private.Steps.{actions, front, rest_action};
+ghost use Rattle.csicodec_parser.specs.{Groups.group as group_of_list, Groups.marked, Segments.Actions, declared.group.Group.TheVariants.Whole, Private.Steps.actions};
+ghost use Rattle.csicodec_parser.specs.{Private.Steps.front, Private.Steps.rest_action};
 
 use crate::actions::{CSI, boxed_action};
 use crate::group::Group;

@@ -2,12 +2,8 @@
 ghost use Rattle.std.specs.Prelude.{◌≡◌, ◌<◌, ◌≤◌, Bool, List, [], ◌∷◌, ◌++◌, None, Some, true, false, length, map, pos, ℕ, IsAscii, IfOk, IfSome, OnOk, encode_utf8};
 ghost use Rattle.std.specs.Fmt.{decimal};
 ghost use Rattle.csicodec_tokens.specs.Param.{spells, token_text};
-ghost use Rattle.csicodec_actions.specs.Actions.{Action, Sgr as Styled, Unspecified as Unknown};
-ghost use Rattle.csicodec_parser.specs.ActionOf.{action_of};
-ghost use Rattle.csicodec_parser.specs.Cut.{IsStuck};
-ghost use Rattle.csicodec_parser.specs.Groups.{Piece, marked};
-ghost use Rattle.csicodec_parser.specs.declared.group.Group.TheVariants.{Styles};
-ghost use Rattle.csicodec_actions.specs.Table.{text, texts};
+ghost use Rattle.csicodec_actions.specs.{Actions.Action, Actions.Sgr as Styled, Actions.Unspecified as Unknown, Table.text, Table.texts};
+ghost use Rattle.csicodec_parser.specs.{ActionOf.action_of, Cut.IsStuck, Groups.Piece, Groups.marked, declared.group.Group.TheVariants.Styles};
 
 use crate::actions::{CSI, Unspecified, append_text};
 use crate::group::{self, Group, style_front};

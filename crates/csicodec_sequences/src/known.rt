@@ -1,9 +1,7 @@
 //! A control sequence that a row of the table reads.
-ghost use Rattle.std.specs.Prelude.{◌≡◌, ◌<◌, ◌≤◌, IfSome, Some, length, slice_get};
-ghost use Rattle.std.specs.Fmt.{WritesOnOk};
-ghost use Rattle.std.specs.Option.{option_map};
-ghost use Rattle.csicodec_sequences.specs.Known.{first_reading, reading, reading_of, rows_of};
-ghost use Rattle.csicodec_sequences.specs.Rows.{behind_text, byte_text, form_text, numbers_text};
+ghost use Rattle.std.specs.{Prelude.◌≡◌, Prelude.◌<◌, Prelude.◌≤◌, Prelude.IfSome, Prelude.Some, Prelude.length, Prelude.slice_get, Fmt.WritesOnOk, Option.option_map};
+ghost use Rattle.csicodec_sequences.specs.{Known.first_reading, Known.reading, Known.reading_of, Known.rows_of, Rows.behind_text, Rows.byte_text, Rows.form_text};
+ghost use Rattle.csicodec_sequences.specs.{Rows.numbers_text};
 
 use crate::row::{MOST, NumberSlot, SequenceForm, SlotValues};
 use crate::rows::dec::{DEC_FORMS, DEC_MEANINGS, DEC_NAMES, DEC_NUMBERS, DEC_SLOTS, DEC_SOURCES};

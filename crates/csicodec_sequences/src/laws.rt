@@ -1,12 +1,9 @@
 //! Laws of rows, and of the table. Each is the contract of a function that does nothing.
 ghost use Rattle.std.specs.Prelude.{◌≡◌, ◌↔◌, ◌<◌, ◌≤◌, ◌++◌, ℕ, List, length, Some, None, true, slice_get, encode_utf8};
-ghost use Rattle.csicodec_tokens.specs.declared.param.CsiParam.{CsiParam};
-ghost use Rattle.csicodec_tokens.specs.Param.{spells};
-ghost use Rattle.csicodec_tokens.specs.Sequence.{IsFinal, Spellable};
+ghost use Rattle.csicodec_tokens.specs.{declared.param.CsiParam.CsiParam, Param.spells, Sequence.IsFinal, Sequence.Spellable};
 ghost use Rattle.csicodec_actions.specs.Table.{whole};
-ghost use Rattle.csicodec_sequences.specs.Known.{are_rows, reading, table};
-ghost use Rattle.csicodec_sequences.specs.declared.row.SequenceForm.{SequenceForm};
-ghost use Rattle.csicodec_sequences.specs.Rows.{Row, fit, is_row, read_row, row_list, form_text};
+ghost use Rattle.csicodec_sequences.specs.{Known.are_rows, Known.reading, Known.table, declared.row.SequenceForm.SequenceForm, Rows.Row, Rows.fit, Rows.is_row};
+ghost use Rattle.csicodec_sequences.specs.{Rows.read_row, Rows.row_list, Rows.form_text};
 
 /// Of any row: the values that it reads back of the list that it writes of them are those that fit its slots, and no others.
 #[tactic(auto, using(crate::proofs::Values::fits_read, crate::proofs::Values::read_fits))]

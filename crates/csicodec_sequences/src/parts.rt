@@ -1,6 +1,5 @@
 //! The parts of a parameter list: the byte at its front that makes it private, its fields, and its intermediate byte.
-ghost use Rattle.std.specs.Prelude.{◌≡◌};
-ghost use Rattle.std.specs.Option.{option_map};
+ghost use Rattle.std.specs.{Prelude.◌≡◌, Option.option_map};
 ghost use Rattle.csicodec_sequences.specs.Parts.{behind_separator, is_intermediate, parts_of, split_field, without_intermediate, without_marker};
 
 use csicodec_base::CsiParam;

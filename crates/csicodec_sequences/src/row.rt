@@ -1,6 +1,5 @@
 //! A row of the table: the form of a control sequence, with the numbers that it has, and what is said of it.
-ghost use Rattle.std.specs.Prelude.{◌≡◌, ◌≤◌, length};
-ghost use Rattle.std.specs.Option.{option_map};
+ghost use Rattle.std.specs.{Prelude.◌≡◌, Prelude.◌≤◌, Prelude.length, Option.option_map};
 ghost use Rattle.csicodec_sequences.specs.Rows.{counted, read_row, slot_value, slot_values, stops};
 
 use crate::parts::{Parts, next_field};

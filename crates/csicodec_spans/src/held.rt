@@ -1,9 +1,7 @@
 //! The bytes that wait, and what each look at one costs.
 ghost use Rattle.std.specs.Prelude.{◌≡◌, ◌≤◌, ◌+◌, ◌++◌, ℕ, List, [], length, drop, vec_len, MatchOption, OnErr, OnOk, true};
-ghost use Rattle.csicodec_spans.specs.declared.table.Mode.{Mode};
-ghost use Rattle.csicodec_spans.specs.Parts.{IsUnsure};
+ghost use Rattle.csicodec_spans.specs.{declared.table.Mode.Mode, Parts.IsUnsure, Private.Begun.IsBegun};
 ghost use Rattle.csicodec_tokens.specs.Body.{Adds, Stops};
-ghost use Rattle.csicodec_spans.specs.Private.Begun.{IsBegun};
 
 use csicodec_tokens::{Count, walk_body};
 use std::alloc::{AllocError, Global};

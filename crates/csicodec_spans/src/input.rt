@@ -1,10 +1,7 @@
 //! The bytes that are cut, and what each look at one costs.
 ghost use Rattle.std.specs.Prelude.{◌≡◌, ◌<◌, ◌≤◌, ◌+◌, ℕ, List, IfErr, IfOk, MatchResult, drop, length, slice_index, take, true, vec_capacity};
-ghost use Rattle.csicodec_tokens.specs.declared.param.CsiParam.{CsiParam};
-ghost use Rattle.csicodec_tokens.specs.Fault.{FaultOf, Refuses};
-ghost use Rattle.csicodec_tokens.specs.Sequence.{Reads};
-ghost use Rattle.csicodec_spans.specs.Private.TableBy.{look, stays};
-ghost use Rattle.csicodec_spans.specs.Private.Looked.{looks_met};
+ghost use Rattle.csicodec_tokens.specs.{declared.param.CsiParam.CsiParam, Fault.FaultOf, Fault.Refuses, Sequence.Reads};
+ghost use Rattle.csicodec_spans.specs.{Private.TableBy.look, Private.TableBy.stays, Private.Looked.looks_met};
 
 use crate::staying::staying;
 use crate::table::{Ahead, Mode, look};

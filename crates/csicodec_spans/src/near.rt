@@ -1,8 +1,6 @@
 //! What passes at a glance where nothing is open: text, and escape sequences.
 ghost use Rattle.std.specs.Prelude.{◌≡◌, ◌<◌, ◌≤◌, ℕ, length, slice_index, true};
-ghost use Rattle.csicodec_spans.specs.Private.TableBy.{stays};
-ghost use Rattle.csicodec_spans.specs.Parts.{IsPlain, IsPlainFront};
-ghost use Rattle.csicodec_spans.specs.Table.{ahead};
+ghost use Rattle.csicodec_spans.specs.{Private.TableBy.stays, Parts.IsPlain, Parts.IsPlainFront, Table.ahead};
 
 use crate::staying::staying;
 use crate::table::{Ahead, Mode, look};

@@ -1,11 +1,8 @@
 //! The bytes of a stream that wait for more.
 ghost use Rattle.std.specs.Prelude.{◌≡◌, ◌<◌, ◌≤◌, ◌+◌, ◌*◌, ◌-◌, ◌++◌, ◌∷◌, ℕ, List, [], None, IfSome, length, drop, vec_len, MatchOption, OnOk, IfOk, true};
-ghost use Rattle.csicodec_spans.specs.declared.table.Mode.{Mode};
-ghost use Rattle.csicodec_spans.specs.declared.table.Mode.TheVariants.{Text};
-ghost use Rattle.csicodec_spans.specs.Parts.{IsUnsure};
-ghost use Rattle.csicodec_spans.specs.Waits.{IsOnce};
+ghost use Rattle.csicodec_spans.specs.{declared.table.Mode.Mode, declared.table.Mode.TheVariants.Text, Parts.IsUnsure, Waits.IsOnce, Private.Begun.IsBegun};
+ghost use Rattle.csicodec_spans.specs.{Private.Begun.Tells};
 ghost use Rattle.csicodec_tokens.specs.Body.{Adds, Stops};
-ghost use Rattle.csicodec_spans.specs.Private.Begun.{IsBegun, Tells};
 
 use crate::held::{Held, with_bytes};
 use crate::table::Mode;

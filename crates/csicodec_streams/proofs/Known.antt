@@ -20,26 +20,6 @@ texts_joined (x ∷ xs) ys = ap (λ (l : List ℕ). text x ++ l) (texts_joined x
 pub split_known : (bytes rest : List ℕ) (len : ℕ) (xs ys : List Action) → DecodesFront bytes false rest xs → Decodes (take len rest) false ys → DecodesFront bytes false (drop len rest) (xs ++ ys)
 split_known bytes rest len xs ys s d = front_on bytes rest false (drop len rest) xs ys s (take len rest, sym (take-append-drop len rest), d)
 
--- so many bytes are the same, where as many and more are in parts of them
-pub same_in_front : (xs ys : List ℕ) (w n len : ℕ) → len ≤ n → len ≤ w → take n (take w xs) ≡ take n (take w ys) → take len xs ≡ take len ys
-same_in_front xs ys w n len within short same =
-    sym (take-take len w xs short) ∙ sym (take-take len n (take w xs) within) ∙ ap (λ (l : List ℕ). take len l) same ∙ take-take len n (take w ys) within ∙ take-take len w ys short
-
-take_parts : (xs : List ℕ) (k n : ℕ) → k ≤ length xs → take (k + n) xs ≡ take k xs ++ take n (drop k xs)
-take_parts xs k n within =
-    let long : length (take k xs) ≡ k = omega (arith, length-take k xs, within) in
-    ap (λ (l : List ℕ). take (k + n) l) (sym (take-append-drop k xs)) ∙ ap (λ (i : ℕ). take (i + n) (take k xs ++ drop k xs)) (sym long) ∙ take-append-add (take k xs) (drop k xs) n
-
--- the same where some stand in front of those parts
-pub same_behind : (xs ys : List ℕ) (k w n len : ℕ) → k ≤ length xs → k ≤ length ys → k ≤ len → len ≤ k + n → len ≤ k + w → take k xs ≡ take k ys
-    → take n (take w (drop k xs)) ≡ take n (take w (drop k ys)) → take len xs ≡ take len ys
-same_behind xs ys k w n len long short front within part same more =
-    let left : ℕ = len - k in
-    let all : len ≡ k + left = omega (arith, front) in
-    let behind : take left (drop k xs) ≡ take left (drop k ys) = same_in_front (drop k xs) (drop k ys) w n left (omega (arith, within)) (omega (arith, part)) more in
-    ap (λ (i : ℕ). take i xs) all ∙ take_parts xs k left long ∙ ap (λ (l : List ℕ). l ++ take left (drop k xs)) same ∙ ap (λ (l : List ℕ). take k ys ++ l) behind
-    ∙ sym (take_parts ys k left short) ∙ ap (λ (i : ℕ). take i ys) (sym all)
-
 read_front : (rest behind : List ℕ) (list : List CsiParam) (final : ℕ) (len : ℕ) (r : Reads rest list final behind) → len ≡ length rest - length behind → take len rest ≡ r.0
 read_front rest behind list final len r is =
     let long : len ≡ length r.0 = omega (arith, is, ap length r.2, length-append r.0 behind) in
@@ -61,59 +41,6 @@ texts_behind xs ys old new len o n is =
     ap (λ (l : List ℕ). drop len l) (n ∙ texts_joined xs ys ∙ ap (λ (l : List ℕ). l ++ texts ys) (sym o)) ∙ ap (λ (k : ℕ). drop k (old ++ texts ys)) is ∙ drop-append_seam old (texts ys)
 
 -- ---- lanes that are the same
-
--- whether two lanes differ
-abbrev differ : ℕ → ℕ → Bool
-differ a b = not (eqb a b)
-
--- as many lanes are the same as come before the first that differs
-same_before : (xs ys : List ℕ) → length xs ≡ length ys → take (prefix_len not (zip2 differ xs ys)) xs ≡ take (prefix_len not (zip2 differ xs ys)) ys
-same_before [] [] long = refl
-same_before [] (y ∷ ys) long = absurd (omega (arith, long))
-same_before (x ∷ xs) [] long = absurd (omega (arith, long))
-same_before (x ∷ xs) (y ∷ ys) long = go (prefix_len not (zip2 differ xs ys)) (eqb x y) refl (same_before xs ys (omega (arith, long)))
-  where
-    one : (n : ℕ) → 1 + n ≡ suc n
-    one n = omega arith
-
-    go : (n : ℕ) (b : Bool) → eqb x y ≡ b → take n xs ≡ take n ys → take (cond (not (not (eqb x y))) (1 + n) 0) (x ∷ xs) ≡ take (cond (not (not (eqb x y))) (1 + n) 0) (y ∷ ys)
-    go n true is same = rw (is, one n) (ap (λ (a : ℕ). a ∷ take n xs) (eqb-true x y is) ∙ ap (λ (l : List ℕ). y ∷ l) same)
-    go n false is same = rw is refl
-
-pub same_lanes : (xs ys : List ℕ) (w : ℕ) → w < 64 → length xs ≡ w → length ys ≡ w → (k : ℕ) → k ≡ count_trailing_zeros 64 (mask_l (zip2 differ xs ys)) → take k xs ≡ take k ys
-same_lanes xs ys w few long short k is = go (eqb (mask_l ms) 0) first
-  where
-    ms : List Bool
-    ms = zip2 differ xs ys
-
-    first : cond (eqb (mask_l ms) 0) w k ≡ prefix_len not ms
-    first = ap (λ (n : ℕ). cond (eqb (mask_l ms) 0) w n) is
-        ∙ ap (λ (l : List Bool). cond (eqb (mask_l l) 0) w (count_trailing_zeros 64 (mask_l l))) (sym (map-id ms))
-        ∙ first_set_mask_l (λ (b : Bool). b) ms w (length-zip2 differ xs ys (long ∙ sym short) ∙ long) (omega (arith, few))
-
-    before : take (prefix_len not ms) xs ≡ take (prefix_len not ms) ys
-    before = same_before xs ys (long ∙ sym short)
-
-    go : (none : Bool) → cond none w k ≡ prefix_len not ms → take k xs ≡ take k ys
-    go false some = subst (λ (n : ℕ). take n xs ≡ take n ys) (sym some) before
-    go true all =
-        let whole : take w xs ≡ take w ys = subst (λ (n : ℕ). take n xs ≡ take n ys) (sym all) before in
-        ap (λ (l : List ℕ). take k l) (sym (take_all w xs (omega (arith, long))) ∙ whole ∙ take_all w ys (omega (arith, short)))
-
--- a comparison's mask, of lanes of bytes
-pub differing_mask : (xs ys : List ℕ) (w : ℕ) → w < 64 → length xs ≡ w → length ys ≡ w
-    → count_trailing_zeros 64 (mask_l (map (top 7) (zip2 (λ a b. cond (differ a b) 255 0) xs ys)) % 2 ^ 64) ≡ count_trailing_zeros 64 (mask_l (zip2 differ xs ys))
-differing_mask xs ys w few long short =
-    ap (λ (ms : List Bool). count_trailing_zeros 64 (mask_l ms % 2 ^ 64)) (tops_compared w8 differ xs ys)
-    ∙ ap (count_trailing_zeros 64) (mask_l-mod (zip2 differ xs ys) 64 (omega (arith, length-zip2 differ xs ys (long ∙ sym short), long, few)))
-
--- what is kept of a sequence and its note
-pub slot_known : (Notes : List ℕ → List ℕ → Type 0) (bytes front text copied zs : List ℕ) (len : ℕ) → front ≡ take 48 bytes → copied ≡ text → len ≤ 48 → length text ≤ 48 → Notes (take len bytes) text
-    → (len ≤ 48) × (length text ≤ 48) × (0 < len → Notes (take len front) (take (length text) (copied ++ zs)))
-slot_known Notes bytes front text copied zs len is same short small k =
-    let begin : take len front ≡ take len bytes = ap (λ (l : List ℕ). take len l) is ∙ take-take len 48 bytes short in
-    let all : take (length text) (copied ++ zs) ≡ text = ap (λ (l : List ℕ). take (length text) (l ++ zs)) same ∙ take-append_seam text zs in
-    (short, small, λ some. subst (λ (l : List ℕ). Notes l (take (length text) (copied ++ zs))) (sym begin) (subst (λ (l : List ℕ). Notes (take len bytes) l) (sym all) k))
 
 -- texts that are known, behind those of the actions before
 pub texts_more : (before told ys : List Action) (old new text : List ℕ) → old ≡ texts (before ++ told) → new ≡ old ++ text → text ≡ texts ys → new ≡ texts (before ++ (told ++ ys))

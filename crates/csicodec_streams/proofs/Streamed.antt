@@ -5,12 +5,13 @@ use Rattle.std.specs.{Prelude.IfSome, Prelude.Result, Prelude.Ok, Prelude.Err, P
 use Rattle.csicodec_actions.specs.{Table.texts, Actions.Action}
 use Rattle.csicodec_tokens.specs.{declared.reader.ReadError.ReadError, Fault.Refuses, Fault.FaultOf, declared.param.CsiParam.CsiParam, Sequence.Reads}
 use Rattle.csicodec_tokens.proofs.Longer.{fault_more}
-use Rattle.csicodec_streams.specs.{Decoding.Decodes, Decoding.Joins, Decoding.FaultAt, declared.error.DecodeError.DecodeError, Private.Steps.DecodesFront}
-use Rattle.csicodec_streams.specs.{Private.Steps.stays, Refusals.RefusesDecode, Refusals.RefusesRun, Refusals.refusal_of, Refusals.run_refusal}
+use Rattle.csicodec_streams.specs.{Decoding.Decodes, Decoding.Joins, Decoding.FaultAt, Private.Steps.DecodesFront, Private.Steps.stays, Refusals.RefusesDecode}
+use Rattle.csicodec_streams.specs.{Refusals.RefusesRun, Refusals.refusal_of}
+use Rattle.csicodec_transform.specs.{declared.error.DecodeError.DecodeError, Words.run_refusal}
 use Rattle.csicodec_streams.proofs.OneReading.{decodes-append, decodes-one, fault_apart}
 use Rattle.csicodec_parser.specs.Segments.{Actions}
 use Rattle.csicodec_tokens.specs.declared.reader.ReadError.TheVariants as errors
-use Rattle.csicodec_streams.specs.declared.error.DecodeError.TheVariants as decode_errors
+use Rattle.csicodec_transform.specs.declared.error.DecodeError.TheVariants as decode_errors
 
 -- what was held decodes further
 pub front_on : (bytes held : List ℕ) (flag : Bool) (rest : List ℕ) (xs ys : List Action) → DecodesFront bytes flag held xs → DecodesFront held flag rest ys → DecodesFront bytes flag rest (xs ++ ys)
@@ -135,8 +136,3 @@ pub whole_given : (given now : Option (List ℕ)) (all : List ℕ) (xs : List Ac
 whole_given None now all xs out c end d e = tt
 whole_given (Some g) now all xs out c end d e =
     let same : all ≡ g = given_all (Some g) now all c end in (xs, subst (λ (l : List ℕ). Decodes l false xs) same d, e)
-
--- of some bytes that are in front of the rest, more are
-pub moves_front : (all sent rest : List ℕ) (n : ℕ) → all ≡ sent ++ rest → all ≡ (sent ++ take n rest) ++ take (length rest - n) (drop n rest)
-moves_front all sent rest n e =
-    e ∙ ap (λ l. sent ++ l) (sym (take-append-drop n rest)) ∙ sym (append_assoc sent (take n rest) (drop n rest)) ∙ ap (λ l. (sent ++ take n rest) ++ l) (sym (take_rest rest n))

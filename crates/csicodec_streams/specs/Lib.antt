@@ -1,6 +1,5 @@
 pub mod Decoding
 pub mod Refusals
-pub mod Words
 pub mod Known
 pub mod Colors
 pub mod Private

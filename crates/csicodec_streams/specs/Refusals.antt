@@ -1,11 +1,12 @@
 -- What a decoding and a run over a stream answer.
 use Rattle.std.specs.Prelude.{ℕ, Bool, false, List, Option, IfSome}
 use Rattle.csicodec_tokens.specs.{declared.param.CsiParam.CsiParam, declared.reader.ReadError.ReadError, Sequence.Reads}
-use Rattle.csicodec_streams.specs.{declared.error.DecodeError.DecodeError, declared.error.RunError.RunError, Decoding.Decodes, Decoding.FaultAt}
+use Rattle.csicodec_streams.specs.Decoding.{Decodes, FaultAt}
+use Rattle.csicodec_transform.specs.{declared.error.DecodeError.DecodeError, declared.error.RunError.RunError}
 use Rattle.csicodec_actions.specs.Actions.{Action}
 use Rattle.csicodec_tokens.specs.declared.reader.ReadError.TheVariants as read_errors
-use Rattle.csicodec_streams.specs.declared.error.DecodeError.TheVariants as decode_errors
-use Rattle.csicodec_streams.specs.declared.error.RunError.TheVariants as run_errors
+use Rattle.csicodec_transform.specs.declared.error.DecodeError.TheVariants as decode_errors
+use Rattle.csicodec_transform.specs.declared.error.RunError.TheVariants as run_errors
 
 -- why these bytes may be refused so: their own fault, at which they have no actions; memory only behind a sequence
 abbrev pub RefusesDecode : List ℕ → Bool → DecodeError → Type 0
@@ -29,8 +30,3 @@ RefusesRun input run_errors.Memory = Unit {0}
 abbrev pub refusal_of : ℕ → ReadError → DecodeError
 refusal_of start read_errors.Memory = decode_errors.Memory
 refusal_of start error = decode_errors.Read start error
-
--- what a run says of a refused decoding
-abbrev pub run_refusal : DecodeError → RunError
-run_refusal (decode_errors.Read start error) = run_errors.Decode (decode_errors.Read start error)
-run_refusal decode_errors.Memory = run_errors.Memory

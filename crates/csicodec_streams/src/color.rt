@@ -1,19 +1,17 @@
 //! Colours: the sequence of one is read at the front, and its normal form written, without a list of its tokens.
 ghost use Rattle.std.specs.Prelude.{◌≡◌, ◌+◌, ◌-◌, ◌<◌, ◌≤◌, ◌∷◌, [], ◌++◌, ℕ, Bool, List, false, length, take, IfSome, OnErr, OnOk};
-ghost use Rattle.csicodec_tokens.specs.declared.param.CsiParam.{CsiParam};
-ghost use Rattle.csicodec_tokens.specs.Sequence.{Reads};
+ghost use Rattle.csicodec_tokens.specs.{declared.param.CsiParam.CsiParam, Sequence.Reads};
 ghost use Rattle.csicodec_actions.specs.Actions.{Sgr as Styled};
-ghost use Rattle.csicodec_base.specs.Shapes.{Plane, painted};
-ghost use Rattle.csicodec_base.specs.SgrText.{sgr_text};
-ghost use Rattle.csicodec_base.specs.declared.sgr.Sgr.{Sgr as Attribute};
+ghost use Rattle.csicodec_base.specs.{Shapes.Plane, Shapes.painted, SgrText.sgr_text, declared.sgr.Sgr.Sgr as Attribute};
 ghost use Rattle.csicodec_parser.specs.Segments.{Actions};
-ghost use Rattle.csicodec_streams.specs.Colors.{IsColored, plane_byte};
-ghost use Rattle.csicodec_streams.specs.Known.{AreKnown, IsNormal};
-ghost use Rattle.csicodec_streams.specs.Private.Steps.{IsColor, IsPainted, IsPart, styles};
+ghost use Rattle.csicodec_streams.specs.{Colors.IsColored, Colors.plane_byte, Known.IsNormal, Private.Steps.IsColor, Private.Steps.IsPainted, Private.Steps.IsPart};
+ghost use Rattle.csicodec_streams.specs.{Private.Steps.styles};
+ghost use Rattle.csicodec_transform.specs.Known.{AreKnown};
 
-use crate::memo::{Memo, Normal};
+use crate::normal::Normal;
 use crate::position::take_position;
 use csicodec_base::{ColorSpec, Sgr, SrgbaTuple, Text, TextBuffer};
+use csicodec_transform::Memo;
 use std::alloc::AllocError;
 use std::simd::prelude::*;
 

@@ -1,18 +1,15 @@
 //! Bytes to actions.
 ghost use Rattle.std.specs.Prelude.{◌≡◌, ◌++◌, ◌+◌, ◌*◌, ◌≤◌, List, Option, [], map, false, length, OnErr, OnOk, IfOk, IfErr};
-ghost use Rattle.csicodec_streams.specs.declared.error.DecodeError.TheVariants.{Memory};
-ghost use Rattle.csicodec_actions.specs.Actions.{Action};
-ghost use Rattle.csicodec_parser.specs.ActionOf.{action_of};
-ghost use Rattle.csicodec_streams.specs.Decoding.{Decodes, NormalisesTo};
-ghost use Rattle.csicodec_parser.specs.Segments.{Actions};
-ghost use Rattle.csicodec_streams.specs.Private.Steps.{DecodesFront, StopsAt, styles};
-ghost use Rattle.csicodec_streams.specs.Refusals.{RefusesDecode, refusal_of};
-ghost use Rattle.csicodec_actions.specs.Table.{texts};
+ghost use Rattle.csicodec_transform.specs.declared.error.DecodeError.TheVariants.{Memory};
+ghost use Rattle.csicodec_actions.specs.{Actions.Action, Table.texts};
+ghost use Rattle.csicodec_parser.specs.{ActionOf.action_of, Segments.Actions};
+ghost use Rattle.csicodec_streams.specs.{Decoding.Decodes, Decoding.NormalisesTo, Private.Steps.DecodesFront, Private.Steps.StopsAt, Private.Steps.styles};
+ghost use Rattle.csicodec_streams.specs.{Refusals.RefusesDecode, Refusals.refusal_of};
 
 use crate::color::read_colors;
-use crate::error::DecodeError;
 use csicodec_base::{CsiParam, ReadError, Sgr, read_csi_into, read_csi_within};
 use csicodec_parser::{CSI, Look, Sink, Texts, Tokens, list_into};
+use csicodec_transform::DecodeError;
 use std::alloc::{AllocError, Global};
 
 /// Lists of at most so many tokens are read onto the stack, and longer ones into memory.

@@ -4,18 +4,14 @@
 
 mod color;
 mod decode;
-mod error;
-mod io;
-mod memo;
+mod normal;
 mod position;
 mod stream;
 mod texts;
 
 pub use color::{color_text, read_color, take_simple};
 pub use decode::{decode_all, normal_form, parse_all, parse_all_over, parse_into};
-pub use error::{DecodeError, RunError};
-pub use io::{CHUNK, keep_from, receive, send};
-pub use memo::{Memo, Normal, Note, Noted, WIDE};
+pub use normal::Normal;
 pub use position::{append_front, position_len};
 pub use stream::normalise;
 pub use texts::{encode, encode_all};

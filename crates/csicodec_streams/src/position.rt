@@ -1,11 +1,10 @@
 //! What passes as it came: positions of the cursor that are their own normal form.
 ghost use Rattle.std.specs.Prelude.{◌≡◌, ◌<◌, ◌≤◌, ◌++◌, ℕ, true, length, take, OnErr, OnOk};
 ghost use Rattle.csicodec_tokens.specs.Digits.{AreDigits, IsDigit};
-ghost use Rattle.csicodec_streams.specs.Known.{IsNormal, IsPosition};
-ghost use Rattle.csicodec_streams.specs.Private.Steps.{IsNumber};
+ghost use Rattle.csicodec_streams.specs.{Known.IsNormal, Known.IsPosition, Private.Steps.IsNumber};
 
-use crate::memo::WIDE;
 use csicodec_base::TextBuffer;
+use csicodec_transform::WIDE;
 use std::alloc::AllocError;
 
 fn is_digit(byte: u8) -> bool

@@ -1,21 +1,19 @@
 //! Bytes to bytes: sequences one after the other to their normal form, from a reader to a writer.
 ghost use Rattle.std.specs.Prelude.{◌≡◌, ◌≢◌, ◌++◌, ◌<◌, ◌≤◌, ℕ, List, Option, [], false, length, take, OnErr, OnOk, IfOk, IfErr, IfSome};
 ghost use Rattle.std.specs.Io.KnownBytes.{Appends, Consumes, IsAtEnd};
-ghost use Rattle.csicodec_streams.specs.declared.error.DecodeError.TheVariants.{Memory};
-ghost use Rattle.csicodec_actions.specs.Actions.{Action};
-ghost use Rattle.csicodec_streams.specs.Decoding.{Decodes};
-ghost use Rattle.csicodec_streams.specs.Known.{AreKnown, IsNormal};
-ghost use Rattle.csicodec_streams.specs.Private.Steps.{DecodesFront, StopsAt, stays};
-ghost use Rattle.csicodec_streams.specs.Refusals.{RefusesDecode, RefusesRun};
-ghost use Rattle.csicodec_actions.specs.Table.{text, texts};
+ghost use Rattle.csicodec_transform.specs.{declared.error.DecodeError.TheVariants.Memory, Known.AreKnown};
+ghost use Rattle.csicodec_actions.specs.{Actions.Action, Table.text, Table.texts};
+ghost use Rattle.csicodec_streams.specs.{Decoding.Decodes, Known.IsNormal, Private.Steps.DecodesFront, Private.Steps.StopsAt, Private.Steps.stays};
+ghost use Rattle.csicodec_streams.specs.{Refusals.RefusesDecode, Refusals.RefusesRun};
 
 use crate::color::take_simple;
 use crate::decode::{Behind, refusal_at};
-use crate::error::{DecodeError, RunError};
-use crate::io::{CHUNK, MOST, keep_from, read_out, read_some, write_out};
-use crate::memo::{Memo, Normal};
+use crate::normal::Normal;
 use csicodec_base::{CsiParam, ReadError, TextBuffer, read_csi_into};
 use csicodec_parser::{Texts, Tokens, list_into};
+use csicodec_transform::{
+    CHUNK, DecodeError, MOST, Memo, RunError, keep_from, read_out, read_some, write_out,
+};
 use std::alloc::{AllocError, Global};
 use std::io::{Read, Write};
 

@@ -1,9 +1,10 @@
 -- What the call that normalises answers a C program.
 use Rattle.std.specs.Prelude.{ℕ, ◌≡◌, false, List, length}
-use Rattle.csicodec_streams.specs.{declared.error.DecodeError.DecodeError, Decoding.NormalisesTo, Refusals.RefusesDecode}
+use Rattle.csicodec_streams.specs.{Decoding.NormalisesTo, Refusals.RefusesDecode}
+use Rattle.csicodec_transform.specs.declared.error.DecodeError.{DecodeError}
 use Rattle.csicodec_structs.specs.{declared.normalise.Normalised.Normalised, Room.Fills, Status.fault_of, Status.status_number, declared.status.Status.Status}
 use Rattle.csicodec_tokens.specs.declared.reader.ReadError.TheVariants as reading
-use Rattle.csicodec_streams.specs.declared.error.DecodeError.TheVariants as decoding
+use Rattle.csicodec_transform.specs.declared.error.DecodeError.TheVariants as decoding
 use Rattle.csicodec_structs.specs.declared.status.Status.TheVariants as status
 
 abbrev pub normalised : ℕ → Normalised

@@ -1,11 +1,8 @@
 //! A list that is cut, piece by piece: an unknown one is told alone, and the next goes on.
-ghost use Rattle.std.specs.Prelude.{◌≡◌, ◌<◌, ◌≤◌, [], ◌∷◌, IfOk, length, map};
-ghost use Rattle.std.specs.List.{list_any};
-ghost use Rattle.csicodec_parser.specs.ActionOf.{action_of};
+ghost use Rattle.std.specs.{Prelude.◌≡◌, Prelude.◌<◌, Prelude.◌≤◌, Prelude.[], Prelude.◌∷◌, Prelude.IfOk, Prelude.length, Prelude.map, List.list_any};
+ghost use Rattle.csicodec_parser.specs.{ActionOf.action_of, Groups.marked, Groups.start, declared.group.Group.TheVariants.Whole};
 ghost use Rattle.csicodec_actions.specs.Actions.{Unspecified as Unknown};
-ghost use Rattle.csicodec_parser.specs.Groups.{marked, start};
 ghost use Rattle.csicodec_terminal.specs.Terminal.{CutAnew, Step, Steps, behind, belonging, is_foreign, up_to};
-ghost use Rattle.csicodec_parser.specs.declared.group.Group.TheVariants.{Whole};
 
 use crate::regular::{filled_list, is_semicolon};
 use csicodec_base::CsiParam;

@@ -1,8 +1,7 @@
 //! Laws of the reading as terminals take lists. Each is the contract of a function that does nothing.
 ghost use Rattle.std.specs.Prelude.{◌≡◌, List, false};
 ghost use Rattle.csicodec_actions.specs.Actions.{Action};
-ghost use Rattle.csicodec_parser.specs.Groups.{group};
-ghost use Rattle.csicodec_parser.specs.Segments.{Actions};
+ghost use Rattle.csicodec_parser.specs.{Groups.group, Segments.Actions};
 ghost use Rattle.csicodec_terminal.specs.Terminal.{Terminal, has_unknown, is_open};
 
 use csicodec_base::CsiParam;

@@ -1,9 +1,6 @@
 //! The actions of a list as terminals take it.
 ghost use Rattle.std.specs.Prelude.{◌≡◌, IfOk, OnOk, map};
-ghost use Rattle.csicodec_parser.specs.ActionOf.{action_of};
-ghost use Rattle.csicodec_parser.specs.Groups.{group as group_of_list};
-ghost use Rattle.csicodec_parser.specs.Segments.{Actions};
-ghost use Rattle.csicodec_parser.specs.declared.group.Group.TheVariants.{Whole};
+ghost use Rattle.csicodec_parser.specs.{ActionOf.action_of, Groups.group as group_of_list, Segments.Actions, declared.group.Group.TheVariants.Whole};
 ghost use Rattle.csicodec_terminal.specs.Terminal.{Anew, Terminal, has_unknown, is_open, is_unknown};
 
 use crate::cut::{End, cut_anew, one_unknown};

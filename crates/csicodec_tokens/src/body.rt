@@ -1,9 +1,8 @@
 //! A walk over the body of a control sequence, which is all between `ESC [` and the final byte.
 ghost use Rattle.std.specs.Prelude.{◌≡◌, ◌-◌, ◌<◌, ◌≤◌, [], ◌∷◌, length, take, slice_index, IfOk, MatchOption, MatchResult};
 ghost use Rattle.std.specs.List.{prefix_len};
-ghost use Rattle.csicodec_tokens.specs.Digits.{IsDigit};
-ghost use Rattle.csicodec_tokens.specs.Body.{Adds, IsStopped, Stops};
-ghost use Rattle.csicodec_tokens.specs.Private.Walking.{IsWalked, body_byte, first_set};
+ghost use Rattle.csicodec_tokens.specs.{Digits.IsDigit, Body.Adds, Body.IsStopped, Body.Stops, Private.Walking.IsWalked, Private.Walking.body_byte};
+ghost use Rattle.csicodec_tokens.specs.{Private.Walking.first_set};
 
 use crate::reader::with_digit;
 use std::simd::prelude::*;

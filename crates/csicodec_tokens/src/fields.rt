@@ -1,11 +1,9 @@
 //! The fields of a parameter list.
 ghost use Rattle.std.specs.Prelude.{◌≡◌, ◌<◌, ℤ, List, [], true, length, map, Option, None, Some, option_map, option_copied, slice_index_or, IfOk, IfErr, OnErr, MatchOption, MatchResult};
-ghost use Rattle.std.specs.Option.{ok_or};
-ghost use Rattle.std.specs.List.{list_all, AllByRecursion};
-ghost use Rattle.csicodec_tokens.specs.declared.param.CsiParam.TheVariants.{Integer};
-ghost use Rattle.csicodec_tokens.specs.declared.refusal.ParseRefusal.TheVariants.{Memory};
-ghost use Rattle.csicodec_tokens.specs.Fields.{Fields, RefusesFields, fields_of};
-ghost use Rattle.csicodec_tokens.specs.Private.FieldsBy.{is_field_token, number_in, IsField, IsFirstField};
+ghost use Rattle.std.specs.{Option.ok_or, List.list_all, List.AllByRecursion};
+ghost use Rattle.csicodec_tokens.specs.{declared.param.CsiParam.TheVariants.Integer, declared.refusal.ParseRefusal.TheVariants.Memory, Fields.Fields};
+ghost use Rattle.csicodec_tokens.specs.{Fields.RefusesFields, Fields.fields_of, Private.FieldsBy.is_field_token, Private.FieldsBy.number_in, Private.FieldsBy.IsField};
+ghost use Rattle.csicodec_tokens.specs.{Private.FieldsBy.IsFirstField};
 
 use crate::param::CsiParam;
 use crate::refusal::{NotSpelled, ParseRefusal};

@@ -1,11 +1,7 @@
 //! Laws of the definitions. Each is the contract of a function that does nothing.
 ghost use Rattle.std.specs.Prelude.{◌≡◌, ◌↔◌, ℕ, ℤ, List, ◌∷◌, ◌++◌, Option, Some};
-ghost use Rattle.csicodec_tokens.specs.declared.param.CsiParam.{CsiParam};
-ghost use Rattle.csicodec_tokens.specs.declared.reader.ReadError.{ReadError};
-ghost use Rattle.csicodec_tokens.specs.Fault.{Begins, Fault};
-ghost use Rattle.csicodec_tokens.specs.Fields.{Fields, fields_of};
-ghost use Rattle.csicodec_tokens.specs.Param.{spells};
-ghost use Rattle.csicodec_tokens.specs.Sequence.{Seq, Spellable, Spells};
+ghost use Rattle.csicodec_tokens.specs.{declared.param.CsiParam.CsiParam, declared.reader.ReadError.ReadError, Fault.Begins, Fault.Fault, Fields.Fields};
+ghost use Rattle.csicodec_tokens.specs.{Fields.fields_of, Param.spells, Sequence.Seq, Sequence.Spellable, Sequence.Spells};
 
 /// No sequence begins another, and one text is one sequence.
 pub fn one_sequence()

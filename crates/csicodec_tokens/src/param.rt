@@ -1,9 +1,6 @@
 //! The tokens of a parameter list, and how they print.
-ghost use Rattle.std.specs.Prelude.{◌≡◌, ◌+◌, ◌<◌, Some, Ok, IsNone, IfSome, OkIff};
-ghost use Rattle.std.specs.Fmt.{decimal};
-ghost use Rattle.std.specs.Option.{ok_or};
-ghost use Rattle.csicodec_tokens.specs.OneBased.{most, number_or};
-ghost use Rattle.csicodec_tokens.specs.Param.{number_of, token_text};
+ghost use Rattle.std.specs.{Prelude.◌≡◌, Prelude.◌+◌, Prelude.◌<◌, Prelude.Some, Prelude.Ok, Prelude.IsNone, Prelude.IfSome, Prelude.OkIff, Fmt.decimal, Option.ok_or};
+ghost use Rattle.csicodec_tokens.specs.{OneBased.most, OneBased.number_or, Param.number_of, Param.token_text};
 
 use crate::refusal::{NotOneBased, NotSpelled};
 use std::fmt;

@@ -1,13 +1,8 @@
 //! Reading one control sequence (ECMA-48, 5.4) at the front of some bytes.
 ghost use Rattle.std.specs.Prelude.{◌≡◌, ℕ, ◌+◌, ◌-◌, ◌*◌, ◌^◌, ◌<◌, ◌≤◌, List, [], ◌∷◌, ◌++◌, length, take, pos, IfOk, IfErr, IfSome, MatchOption, MatchResult, vec_capacity};
-ghost use Rattle.csicodec_tokens.specs.declared.param.CsiParam.{CsiParam};
-ghost use Rattle.csicodec_tokens.specs.declared.param.CsiParam.TheVariants.{P};
-ghost use Rattle.csicodec_tokens.specs.declared.reader.ReadError.{ReadError};
-ghost use Rattle.csicodec_tokens.specs.declared.reader.ReadError.TheVariants.{Memory};
-ghost use Rattle.csicodec_tokens.specs.Digits.{IsDigit, largest};
-ghost use Rattle.csicodec_tokens.specs.Sequence.{Reads};
-ghost use Rattle.csicodec_tokens.specs.Fault.{FaultOf, Refuses};
 ghost use Rattle.csicodec_tokens.specs.Private.Reading.{IsNumber, IsTooLarge, IsFirstToken, IsPart, HasRead, HasCounted};
+ghost use Rattle.csicodec_tokens.specs.{declared.param.CsiParam.CsiParam, declared.param.CsiParam.TheVariants.P, declared.reader.ReadError.ReadError};
+ghost use Rattle.csicodec_tokens.specs.{declared.reader.ReadError.TheVariants.Memory, Digits.IsDigit, Digits.largest, Sequence.Reads, Fault.FaultOf, Fault.Refuses};
 
 use crate::body::walk_body;
 use crate::param::CsiParam;

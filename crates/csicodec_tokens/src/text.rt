@@ -1,9 +1,7 @@
 //! A short text, built in place and appended at once.
 ghost use Rattle.std.specs.Prelude.{◌≡◌, ◌+◌, ◌<◌, ◌≤◌, List, [], ◌∷◌, ◌++◌, ℕ, length, take, IsAscii, IsOk, OnOk, OnErr, nat_eq, vec_len, vec_capacity};
-ghost use Rattle.std.specs.Cmp.{partial_equiv_from_equiv};
-ghost use Rattle.std.specs.Cmp.Lexicographic.{nat_list_eq_equiv, pointwise};
-ghost use Rattle.std.specs.Fmt.{decimal, signed_decimal};
-ghost use Rattle.std.specs.Vec.{VecUnchanged};
+ghost use Rattle.std.specs.{Cmp.partial_equiv_from_equiv, Cmp.Lexicographic.nat_list_eq_equiv, Cmp.Lexicographic.pointwise, Fmt.decimal, Fmt.signed_decimal};
+ghost use Rattle.std.specs.{Vec.VecUnchanged};
 
 use std::alloc::{AllocError, Global};
 use std::fmt;

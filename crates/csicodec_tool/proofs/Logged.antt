@@ -2,7 +2,7 @@
 use Rattle.std.proofs.Common.{Bool, true, false, ◌≡◌, ◌==◌, not, ℕ, List, [], ◌∷◌, ◌++◌, Option, None, Some, inl, inr, refl, sym, ap, subst, ◌∙◌, append_assoc, append-nil}
 use Rattle.std.proofs.lemmas.List.Folds.{list_all-append}
 use Rattle.std.specs.Prelude.{IfSome}
-use Rattle.csicodec_filter.specs.Transform.{Begins, GoesOn, Sends, Transforms}
+use Rattle.csicodec_transform.specs.Transform.{Begins, GoesOn, Sends, Transforms}
 use Rattle.csicodec_clean.specs.{Shown.shown_text, Stream.Between, Stream.start_of, Styled.Keeping, Styled.StylesIn, Styled.first_kept, Styled.keeps}
 use Rattle.csicodec_clean.specs.{Styled.resets, declared.styles.Passing.Passing}
 use Rattle.csicodec_clean.proofs.{Chunks.ends as at_end, Chunks.takes_none, Chunks.takes_on, PlainBytes.all_both, Styled.styles as styled_as}

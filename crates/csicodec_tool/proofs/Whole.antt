@@ -2,7 +2,7 @@
 use Rattle.std.proofs.Common.{Bool, true, false, inl, inr, ◌≡◌, ◌∷◌, ◌++◌, ℕ, List, [], Option, None, Some, Result, Ok, Err, refl, sym, ap, subst, ◌∙◌, append_assoc}
 use Rattle.std.proofs.{lemmas.Bool.true≢false, KnownBytes.Appends-nil, KnownBytes.Appends-trans}
 use Rattle.std.specs.{Prelude.◌⊎◌, Prelude.IsErr, Prelude.MatchResult, Prelude.OnErr, Prelude.OnOk, List.concat, Io.KnownBytes.Appends, Io.KnownBytes.Keeps}
-use Rattle.csicodec_streams.specs.declared.error.RunError.{RunError}
+use Rattle.csicodec_transform.specs.declared.error.RunError.{RunError}
 use Rattle.csicodec_lines.specs.Lines.{AreOf}
 use Rattle.csicodec_command.specs.Runs.{At, Closes, End, Ends, HasTurn, IsTold, IsUnread, MayBeRecording, Recording, Stream, Through, ends_run, first_of}
 use Rattle.csicodec_command.specs.{declared.failure.Failure.Failure, Recorded.recorded}

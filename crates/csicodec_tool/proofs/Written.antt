@@ -2,9 +2,8 @@
 use Rattle.std.proofs.Common.{Bool, true, false, Bor, inr, ◌≡◌, ◌++◌, ℕ, List, [], Option, None, Some, Result, Ok, Err, refl, ◌∙◌, subst, append_assoc}
 use Rattle.std.proofs.{KnownBytes.Appends-nil, lemmas.Option.IfSome_then, lemmas.Result.IfOk-from_err, lemmas.Result.on_err_weaker, lemmas.Result.on_ok_weaker}
 use Rattle.std.specs.{Prelude.IfSome, Prelude.IsErr, Prelude.OnErr, Prelude.OnOk, Io.KnownBytes.Appends, Io.KnownBytes.Consumes, Io.KnownBytes.IsAtEnd}
-use Rattle.csicodec_streams.specs.declared.error.RunError.{RunError}
+use Rattle.csicodec_transform.specs.{declared.error.RunError.RunError, Transform.Begins, Transform.Sends, Transform.Transforms}
 use Rattle.csicodec_clean.specs.{Streams.Streams, declared.styles.Passing.Passing}
-use Rattle.csicodec_filter.specs.Transform.{Begins, Sends, Transforms}
 use Rattle.csicodec_overwrite.specs.Reading.{Paints}
 use Rattle.csicodec_html.specs.{Page.IsPageWith, Page.PageWith, declared.markup.Markup.Markup}
 use Rattle.csicodec_inspect.specs.Sent.{FrontsOf, IsAppended, IsWrittenBy}

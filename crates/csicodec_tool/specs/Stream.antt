@@ -1,6 +1,6 @@
 -- A log as it comes, chunk by chunk.
 use Rattle.std.specs.Prelude.{ℕ, ◌≡◌, Bool, true, false, List, ◌++◌, Option, None, Some, IfSome}
-use Rattle.csicodec_filter.specs.Transform.{EndsOf, PassesOf}
+use Rattle.csicodec_transform.specs.Transform.{EndsOf, PassesOf}
 use Rattle.csicodec_clean.specs.{Shown.shown_text, Stream.Between, Stream.Takes, Stream.start_of, Styled.Keeping, Styled.first_kept, Styled.keeps}
 use Rattle.csicodec_clean.specs.{Styled.resets, declared.styles.Passing.Passing}
 use Rattle.csicodec_overwrite.specs.{declared.marking.Marking.TheVariants.Plain, declared.marking.Marking.TheVariants.Styled, Stream.Ending, Stream.Now}

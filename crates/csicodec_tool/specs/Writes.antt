@@ -2,7 +2,8 @@
 use Rattle.std.specs.Prelude.{ℕ, ◌≡◌, ◌⊎◌, Bool, true, false, ◌||◌, List, [], ◌++◌, Option, Result, Ok, OnOk, OnErr, IfSome, IsErr, option_map}
 use Rattle.std.specs.Io.KnownBytes.{Appends}
 use Rattle.csicodec_spans.specs.declared.table.Mode.TheVariants.{Text as Plain}
-use Rattle.csicodec_streams.specs.{declared.error.RunError.RunError, Decoding.NormalisesTo}
+use Rattle.csicodec_streams.specs.Decoding.{NormalisesTo}
+use Rattle.csicodec_transform.specs.declared.error.RunError.{RunError}
 use Rattle.csicodec_filter.specs.{Faithful.IsFaithful, Filter.Filters, Filter.IsFrontOf}
 use Rattle.csicodec_compact.specs.Runs.{CompactsAll}
 use Rattle.csicodec_clean.specs.{Cleaned.Strips, Cleaned.longest, Styled.StylesIn}

@@ -1,13 +1,12 @@
 //! Streams whose lines are written as they stand when they end, as plain text or with their styles: as a log each by itself, or as one.
 ghost use Rattle.std.specs.Prelude.{◌≡◌, ◌==◌, ◌++◌, ◌∷◌, [], ℕ, List, OnOk, not, true};
-ghost use Rattle.csicodec_filter.specs.Transform.{GoesOn};
-ghost use Rattle.csicodec_tool.specs.Log.{IsLine};
-ghost use Rattle.csicodec_tool.specs.Stream.{EndsLog, GoesIn, IsBegun, PassesLog};
+ghost use Rattle.csicodec_transform.specs.Transform.{GoesOn};
+ghost use Rattle.csicodec_tool.specs.{Log.IsLine, Stream.EndsLog, Stream.GoesIn, Stream.IsBegun, Stream.PassesLog};
 
 use csicodec_assemble::split_line;
 use csicodec_clean::{Anew, Cleaner, Depth, Kept, Passing};
-use csicodec_filter::Transform;
 use csicodec_overwrite::Overwriter;
+use csicodec_transform::Transform;
 use std::alloc::{AllocError, Global};
 
 /// A log of which some has come.

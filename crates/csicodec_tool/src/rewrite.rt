@@ -11,13 +11,13 @@ use crate::rewritten_cast::{Rewriter, rewrite_cast};
 use csicodec_clean::{Cleaner, Depth, Dropped, Kept, Passing, clean_all_with, strip_all};
 use csicodec_command::{Colors, Failure, Recorded, Request, Worker, Wrong};
 use csicodec_compact::{Compact, Compactor, compact_all};
-use csicodec_filter::{Faithful, Filter, NormalForm, filter_all, transform_all};
+use csicodec_filter::{Faithful, Filter, NormalForm, filter_all};
 use csicodec_html::{BEHIND, Markup, Palette, UNNAMED, front, html_all_with};
 use csicodec_inspect::{check_cast, check_stream, no_memory};
 use csicodec_lines::{Lines, clean_lines_all, strip_lines_all};
 use csicodec_overwrite::html_overwritten_all;
 use csicodec_spans::LIMIT;
-use csicodec_streams::{RunError, send};
+use csicodec_transform::{RunError, send, transform_all};
 use std::alloc::{AllocError, Global};
 use std::io::{BufRead, Read, Write};
 

@@ -1,8 +1,6 @@
 //! A renderer, which builds its actions by hand: the status line of an editor.
-ghost use Rattle.std.specs.Prelude.{false, map, IfOk};
-ghost use Rattle.std.specs.List.{All};
-ghost use Rattle.csicodec_parser.specs.ActionOf.{action_of};
-ghost use Rattle.csicodec_parser.specs.Canonical.{Canonical};
+ghost use Rattle.std.specs.{Prelude.false, Prelude.map, Prelude.IfOk, List.All};
+ghost use Rattle.csicodec_parser.specs.{ActionOf.action_of, Canonical.Canonical};
 
 use csicodec::{
     AnsiColor, CSI, ColorSpec, Cursor, DecPrivateMode, DecPrivateModeCode, Edit, EraseInLine,

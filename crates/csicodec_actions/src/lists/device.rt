@@ -1,10 +1,7 @@
 //! The rows of devices.
-ghost use Rattle.std.specs.Prelude.{◌≡◌, IfOk, IsSome, OnErr};
-ghost use Rattle.std.specs.Option.{option_map};
-ghost use Rattle.csicodec_actions.specs.Actions.{Device as Devices};
-ghost use Rattle.csicodec_actions.specs.Devices.{device_of, listed_attributes};
-ghost use Rattle.csicodec_actions.specs.Rows.{given};
-ghost use Rattle.csicodec_actions.specs.Table.Device.{as_device, classes, requests, terminals};
+ghost use Rattle.std.specs.{Prelude.◌≡◌, Prelude.IfOk, Prelude.IsSome, Prelude.OnErr, Option.option_map};
+ghost use Rattle.csicodec_actions.specs.{Actions.Device as Devices, Devices.device_of, Devices.listed_attributes, Rows.given, Table.Device.as_device};
+ghost use Rattle.csicodec_actions.specs.{Table.Device.classes, Table.Device.requests, Table.Device.terminals};
 
 use crate::{Device, DeviceAttribute, DeviceAttributeFlags, DeviceAttributes};
 use csicodec_base::CsiParam::{self, Integer, P};

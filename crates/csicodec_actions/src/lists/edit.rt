@@ -1,8 +1,6 @@
 //! The rows that edit.
-ghost use Rattle.std.specs.Prelude.{◌≡◌};
-ghost use Rattle.std.specs.Option.{option_map};
-ghost use Rattle.csicodec_actions.specs.Actions.{Edit as Edits};
-ghost use Rattle.csicodec_actions.specs.Table.Edit.{as_edit};
+ghost use Rattle.std.specs.{Prelude.◌≡◌, Option.option_map};
+ghost use Rattle.csicodec_actions.specs.{Actions.Edit as Edits, Table.Edit.as_edit};
 
 use crate::Edit;
 use crate::lists::params::{choice, count};

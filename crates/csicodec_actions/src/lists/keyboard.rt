@@ -1,10 +1,6 @@
 //! The rows of the keyboard.
-ghost use Rattle.std.specs.Prelude.{◌≡◌};
-ghost use Rattle.std.specs.Int.RustNames.{bit_and};
-ghost use Rattle.std.specs.Option.{option_map};
-ghost use Rattle.csicodec_actions.specs.Actions.{Keyboard as Keys};
-ghost use Rattle.csicodec_actions.specs.Kinds.{Flags as FlagsKind, Pops, read};
-ghost use Rattle.csicodec_actions.specs.Table.Keyboard.{as_keyboard};
+ghost use Rattle.std.specs.{Prelude.◌≡◌, Int.RustNames.bit_and, Option.option_map};
+ghost use Rattle.csicodec_actions.specs.{Actions.Keyboard as Keys, Kinds.Flags as FlagsKind, Kinds.Pops, Kinds.read, Table.Keyboard.as_keyboard};
 
 use crate::{Keyboard, KittyKeyboardMode};
 use bitflags::Flags;

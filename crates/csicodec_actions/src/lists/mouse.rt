@@ -1,12 +1,8 @@
 //! The rows of the mouse.
-ghost use Rattle.std.specs.Prelude.{◌≡◌, ◌/◌, pos};
-ghost use Rattle.std.specs.Int.RustNames.{bit_and};
-ghost use Rattle.std.specs.Option.{option_map};
-ghost use Rattle.csicodec_actions.specs.Actions.{Mouse as Reports};
-ghost use Rattle.csicodec_actions.specs.Kinds.{Pressed, Released, Word, read};
-ghost use Rattle.csicodec_actions.specs.Mouse.{button_bits, button_code, pressed, released};
+ghost use Rattle.std.specs.{Prelude.◌≡◌, Prelude.◌/◌, Prelude.pos, Int.RustNames.bit_and, Option.option_map};
+ghost use Rattle.csicodec_actions.specs.{Actions.Mouse as Reports, Kinds.Pressed, Kinds.Released, Kinds.Word, Kinds.read, Mouse.button_bits, Mouse.button_code};
+ghost use Rattle.csicodec_actions.specs.{Mouse.pressed, Mouse.released, Table.Mouse.as_mouse};
 ghost use Rattle.csicodec_names.specs.Numbered.{with_number};
-ghost use Rattle.csicodec_actions.specs.Table.Mouse.{as_mouse};
 
 use crate::{MouseButton, MouseReport};
 use bitflags::Flags;

@@ -1,8 +1,6 @@
 //! The rows of paths of characters.
-ghost use Rattle.std.specs.Prelude.{◌≡◌};
-ghost use Rattle.std.specs.Option.{option_map};
-ghost use Rattle.csicodec_actions.specs.Actions.{SelectCharacterPath};
-ghost use Rattle.csicodec_actions.specs.Table.Path.{as_path};
+ghost use Rattle.std.specs.{Prelude.◌≡◌, Option.option_map};
+ghost use Rattle.csicodec_actions.specs.{Actions.SelectCharacterPath, Table.Path.as_path};
 
 use crate::CharacterPath;
 use csicodec_base::CsiParam::{self, Integer, P};

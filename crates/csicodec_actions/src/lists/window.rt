@@ -1,9 +1,7 @@
 //! The rows of windows and areas.
-ghost use Rattle.std.specs.Prelude.{◌≡◌};
-ghost use Rattle.std.specs.Option.{option_map};
-ghost use Rattle.csicodec_actions.specs.Actions.{Window as Windows};
-ghost use Rattle.csicodec_actions.specs.FieldRows.{given};
-ghost use Rattle.csicodec_actions.specs.Table.Window.{alone_rows, areas, as_window, two_rows, which_rows, windows};
+ghost use Rattle.std.specs.{Prelude.◌≡◌, Option.option_map};
+ghost use Rattle.csicodec_actions.specs.{Actions.Window as Windows, FieldRows.given, Table.Window.alone_rows, Table.Window.areas, Table.Window.as_window};
+ghost use Rattle.csicodec_actions.specs.{Table.Window.two_rows, Table.Window.which_rows, Table.Window.windows};
 
 use crate::Window;
 use crate::fields::{Fields, ahead_of, fields_in};

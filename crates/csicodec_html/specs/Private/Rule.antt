@@ -5,7 +5,7 @@ use Rattle.csicodec_actions.specs.Actions.{Action}
 use Rattle.csicodec_terminal.specs.Terminal.{IsTakenFor}
 use Rattle.csicodec_clean.specs.{Cleaned.RuleOf, Cleaned.EndOf, Links.links_at, Links.next}
 use Rattle.csicodec_html.specs.Page.{Open, Piece, Setting, behind_actions, closing, escaped, led_by, piece_text, piece_texts, relation, setting, switches, turn}
-use Rattle.csicodec_html.specs.{Look.behind_all, Look.sets_any}
+use Rattle.csicodec_html.specs.Look.{behind_all, sets_any}
 
 -- a byte of the text
 abbrev pub page_byte : ℕ → List ℕ

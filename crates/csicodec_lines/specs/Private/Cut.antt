@@ -1,6 +1,6 @@
 -- Where a line is cut, and what its pieces append.
 use Rattle.std.specs.Prelude.{ℕ, ◌≡◌, Bool, true, not, List, [], ◌∷◌, ◌++◌}
-use Rattle.csicodec_filter.specs.Transform.{GoesOn, PassesOf}
+use Rattle.csicodec_transform.specs.Transform.{GoesOn, PassesOf}
 use Rattle.csicodec_lines.specs.Lines.{ends_line}
 
 -- the byte ends no line

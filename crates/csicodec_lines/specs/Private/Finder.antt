@@ -1,6 +1,7 @@
 -- A search as it goes.
 use Rattle.std.specs.Prelude.{ℕ, ◌≡◌, Bool, false, []}
-use Rattle.csicodec_filter.specs.{Filter.Held, Transform.PassesOf, Written.Since, Written.WrittenOf, Written.open_at}
+use Rattle.csicodec_filter.specs.{Filter.Held, Written.Since, Written.WrittenOf, Written.open_at}
+use Rattle.csicodec_transform.specs.Transform.{PassesOf}
 use Rattle.csicodec_clean.specs.{Cleaned.longest, Titles.title_open, Titles.with_titles}
 use Rattle.csicodec_lines.specs.{declared.finder.Finder.Finder, declared.search.CutSearch.CutSearch, Cuts.Found, Cuts.behind, Cuts.cuts, Cuts.first, Cuts.told}
 use Rattle.csicodec_lines.specs.{Private.Search.IsAt}

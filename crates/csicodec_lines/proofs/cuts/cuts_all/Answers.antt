@@ -1,6 +1,7 @@
 use Rattle.std.proofs.{Common.[], Common.ap, Common.append-nil, Common.refl, lemmas.Result.on_ok_weaker}
 use Rattle.std.specs.Prelude.{⊤}
-use Rattle.csicodec_filter.specs.{Filter.Held, Transform.Transforms}
+use Rattle.csicodec_filter.specs.Filter.{Held}
+use Rattle.csicodec_transform.specs.Transform.{Transforms}
 use Rattle.csicodec_clean.proofs.Streams.{one_ran}
 use Rattle.csicodec_lines.specs.{Cuts.Tells, Private.Finder.Passes}
 use Rattle.csicodec_lines.proofs.Going.{Quiet, begun, front, of_all, one_text, tells}

@@ -1,5 +1,5 @@
 use Rattle.std.proofs.Common.{refl}
-use Rattle.csicodec_filter.specs.Transform.{Sends, Transforms}
+use Rattle.csicodec_transform.specs.Transform.{Sends, Transforms}
 use Rattle.csicodec_clean.specs.Shown.{IsPlain}
 use Rattle.csicodec_clean.proofs.Streams.{Texts, streams_one}
 use Rattle.csicodec_overwrite.specs.{declared.marking.Marking.TheVariants.Plain, Reading.Overwrites, Stream.Ending, Stream.Passes, Stream.begun_as}

@@ -1,6 +1,6 @@
 use Rattle.std.proofs.{Common.◌++◌, KnownBytes.Consumes-trans}
 use Rattle.csicodec_streams.proofs.Streamed.{refused_end}
-use Rattle.csicodec_streams.specs.declared.error.DecodeError.TheVariants as decode_errors
+use Rattle.csicodec_transform.specs.declared.error.DecodeError.TheVariants as decode_errors
 use Rattle.csicodec_streams.proofs.stream.refused.Goals as goal
 
 pub returns-in-Ok-clause-refused : goal.returns-in-Ok-clause-refused

@@ -1,7 +1,8 @@
 use Rattle.std.proofs.Common.{◌≡◌, false, ℕ, List, ◌++◌, ◌+◌, ◌-◌, ◌^◌, length}
 use Rattle.std.specs.Io.KnownBytes.{Consumes}
 use Rattle.csicodec_actions.specs.{Actions.Action, Table.texts}
-use Rattle.csicodec_streams.specs.{Known.AreKnown, Known.IsNormal, Private.Steps.DecodesFront}
+use Rattle.csicodec_streams.specs.{Known.IsNormal, Private.Steps.DecodesFront}
+use Rattle.csicodec_transform.specs.Known.{AreKnown}
 use Rattle.csicodec_streams.proofs.stream.stream_into.Given as goal
 
 -- what was read decodes up to what is held, and the texts of its actions are out; what is kept is known

@@ -1,6 +1,7 @@
 use Rattle.std.proofs.Common.{◌≡◌, false, List, ◌++◌, length}
 use Rattle.csicodec_actions.specs.{Actions.Action, Table.texts}
-use Rattle.csicodec_streams.specs.{Known.AreKnown, Known.IsNormal, Private.Steps.DecodesFront}
+use Rattle.csicodec_streams.specs.{Known.IsNormal, Private.Steps.DecodesFront}
+use Rattle.csicodec_transform.specs.Known.{AreKnown}
 use Rattle.csicodec_streams.proofs.stream.texts_into.Given as goal
 
 -- the bytes up to here are sequences, and the texts of their actions are out; what is kept is known

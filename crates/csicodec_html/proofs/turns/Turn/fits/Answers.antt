@@ -1,5 +1,5 @@
 use Rattle.std.proofs.Common.{arith}
-use Rattle.csicodec_streams.proofs.Known.{same_in_front}
+use Rattle.csicodec_transform.proofs.Known.{same_in_front}
 use Rattle.csicodec_html.proofs.Recalled.{same_look}
 use Rattle.csicodec_html.proofs.turns.Turn.fits.Goals as goal
 

@@ -1,8 +1,8 @@
 use Rattle.std.proofs.{Common.◌++◌, Common.[], Common.Err, Common.take, Common.refl, Common.arith, KnownBytes.Appends-nil, KnownBytes.Appends-trans}
 use Rattle.std.proofs.{KnownBytes.Consumes-nil, KnownBytes.Consumes-trans}
-use Rattle.csicodec_filter.proofs.Sent.{none_more}
+use Rattle.csicodec_transform.proofs.Sent.{none_more}
 use Rattle.csicodec_inspect.proofs.Assembled.{ended_run, ends, goes_on, stopped, stopped_behind, takes}
-use Rattle.csicodec_streams.specs.declared.error.RunError.TheVariants as error
+use Rattle.csicodec_transform.specs.declared.error.RunError.TheVariants as error
 use Rattle.csicodec_command.specs.declared.failure.Failure.TheVariants as failure
 use Rattle.csicodec_inspect.proofs.assemble.AssemblyAlone.work.Goals as goal
 

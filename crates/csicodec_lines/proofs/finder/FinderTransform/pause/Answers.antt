@@ -1,5 +1,5 @@
 use Rattle.std.proofs.Common.{[], sym, append-nil}
-use Rattle.csicodec_filter.proofs.Sent.{goes_none}
+use Rattle.csicodec_transform.proofs.Sent.{goes_none}
 use Rattle.csicodec_lines.specs.Private.Finder.{Passes}
 use Rattle.csicodec_lines.proofs.finder.FinderTransform.pause.Goals as goal
 

@@ -1,5 +1,5 @@
 use Rattle.std.proofs.Common.{[], ◌∷◌}
-use Rattle.csicodec_filter.proofs.Sent.{adds_on}
+use Rattle.csicodec_transform.proofs.Sent.{adds_on}
 use Rattle.csicodec_lines.specs.Stream.{Passes}
 use Rattle.csicodec_lines.proofs.lines.Lines.take_line.Goals as goal
 

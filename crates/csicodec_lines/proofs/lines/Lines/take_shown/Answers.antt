@@ -1,6 +1,6 @@
-use Rattle.std.proofs.{Common.◌≡◌, Common.◌<◌, Common.◌≤◌, Common.◌++◌, Common.◌∙◌, Common.ℕ, Common.[], Common.encode_utf8_all, Common.length, Common.take, Common.refl, Common.rules}
-use Rattle.std.proofs.{Common.sym, Common.ap, Common.append-nil, Math.Seq.take-append_seam, Math.Seq.take-length}
-use Rattle.csicodec_filter.proofs.Sent.{adds_none}
+use Rattle.std.proofs.Common.{◌≡◌, ◌<◌, ◌≤◌, ◌++◌, ◌∙◌, ℕ, [], encode_utf8_all, length, take, refl, rules, sym, ap, append-nil}
+use Rattle.std.proofs.Math.Seq.{take-append_seam, take-length}
+use Rattle.csicodec_transform.proofs.Sent.{adds_none}
 use Rattle.csicodec_clean.specs.Shown.{run_as, written}
 use Rattle.csicodec_lines.specs.Stream.{Passes}
 use Rattle.csicodec_lines.proofs.{Copied.goes_shown, Copied.is_blank, Copied.unchanged, Taken.goes_same}

@@ -1,5 +1,5 @@
 use Rattle.std.proofs.Common.{rules, subst}
-use Rattle.csicodec_filter.proofs.Sent.{none_left}
+use Rattle.csicodec_transform.proofs.Sent.{none_left}
 use Rattle.csicodec_overwrite.specs.Stream.{Passes}
 use Rattle.csicodec_overwrite.proofs.Written.{front_on}
 use Rattle.csicodec_overwrite.proofs.overwriter.Overwriter.push.Goals as goal

@@ -1,5 +1,5 @@
 use Rattle.std.proofs.Common.{◌≡◌, true, length}
-use Rattle.csicodec_filter.proofs.Sent.{AddsFront}
+use Rattle.csicodec_transform.proofs.Sent.{AddsFront}
 use Rattle.csicodec_tool.specs.Stream.{PassesLog}
 use Rattle.csicodec_tool.proofs.log.LogTransform.take.Given as goal
 

@@ -1,0 +1,3 @@
+pub mod Transform
+pub mod Words
+pub mod Known

@@ -1,0 +1,12 @@
+//! What a stream becomes, from a reader to a writer, and how that ends. Nothing of this knows what a sequence means.
+#![tactic(auto)]
+
+mod error;
+mod io;
+mod memo;
+mod transform;
+
+pub use error::{DecodeError, RunError};
+pub use io::{CHUNK, MOST, keep_from, read_out, read_some, receive, send, write_out};
+pub use memo::{Memo, Note, Noted, WIDE};
+pub use transform::{Transform, transform_all};

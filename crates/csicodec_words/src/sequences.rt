@@ -27,7 +27,16 @@ fn is_within(number: i64, span: &str) -> bool {
 
 impl ListKey {
     /// Of a list before this final character.
-    pub(crate) fn new(params: &[CsiParam], control: char) -> ListKey {
+    fn new(params: &[CsiParam], control: char) -> ListKey {
+        ListKey::with_fields(params, control, count_fields(params))
+    }
+
+    /// Of the list that an action prints: it goes by how many tokens there are.
+    pub(crate) fn of_action(params: &[CsiParam], control: char) -> ListKey {
+        ListKey::with_fields(params, control, params.len() as i64)
+    }
+
+    fn with_fields(params: &[CsiParam], control: char, fields: i64) -> ListKey {
         let parts = Parts::of(params);
         let shown = |byte: u8| if byte == 0 { b'_' } else { byte };
         ListKey {
@@ -38,16 +47,8 @@ impl ListKey {
             ],
             first: number(params, 0).unwrap_or(0),
             second: number(params, 1).unwrap_or(0),
-            fields: count_fields(params),
+            fields,
             kind: None,
-        }
-    }
-
-    /// Of the list that an action prints: it goes by how many tokens there are.
-    pub(crate) fn of_action(params: &[CsiParam], control: char) -> ListKey {
-        ListKey {
-            fields: params.len() as i64,
-            ..ListKey::new(params, control)
         }
     }
 
@@ -124,5 +125,9 @@ pub(crate) fn words(params: &[CsiParam], control: char) -> Option<&'static str> 
 
 /// The words in the place of an action's, where terminals read its list otherwise.
 pub(crate) fn words_instead(params: &[CsiParam], control: char) -> Option<&'static str> {
+    // Few final characters have any.
+    if !INSTEAD.iter().any(|row| row.starts_with(control)) {
+        return None;
+    }
     ListKey::new(params, control).words(&INSTEAD)
 }

@@ -38,7 +38,7 @@ module _ {S P : Type 0} (Begins : P → S) (Gives : RuleOf S) (Closes : EndOf S)
   takes_shown : (s : S) (c : ℕ) → IsShown c → scalar c ≡ true → Takes Gives (start_of s) (encode_utf8 c) (Text (c ∷ [])) (start_of s)
   takes_shown s c shown is =
       let bytes = encode_utf8 c in
-      let all = (shown, tt) in
+      let all : AllByRecursion IsShown (c ∷ []) = (shown, tt) in
       let told = plain_told bytes (c ∷ [], and_from (scalar c) true is refl, all, sym (append-nil bytes)) in
       let (appended, out, goes, front, last) = over_told Gives longest s bytes [] [] (Text (c ∷ [])) (bytes, c ∷ [], sym (append-nil bytes), told, ap Text (sym (all_kept (c ∷ []) all))) in
       record { unsure = (takes_none Gives s).unsure; goes = rw out goes }

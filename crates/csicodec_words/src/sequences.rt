@@ -74,6 +74,9 @@ impl ListKey {
 
     /// Whether a row has the numbers.
     fn is_of(&self, numbers: &str) -> bool {
+        if numbers.is_empty() {
+            return self.kind.is_none();
+        }
         let mut parts = numbers.split(',');
         let (first, second) = (parts.next().unwrap_or(""), parts.next().unwrap_or(""));
         let (fields, kind) = (parts.next().unwrap_or(""), parts.next().unwrap_or(""));
@@ -90,11 +93,11 @@ impl ListKey {
         let front = self.front.as_slice();
         let begin = rows.partition_point(|row| row.as_bytes() < front);
         for row in rows.get(begin..)? {
-            let (form, words) = row.split_once('\t')?;
-            if !form.as_bytes().starts_with(front) {
+            if !row.as_bytes().starts_with(front) {
                 return None;
             }
-            if self.is_of(form.split_at_checked(3)?.1) {
+            let (numbers, words) = row.split_at_checked(3)?.1.split_once('\t')?;
+            if self.is_of(numbers) {
                 return Some(words);
             }
         }

@@ -128,6 +128,10 @@ pub(crate) fn words(params: &[CsiParam], control: char) -> Option<&'static str> 
 
 /// The words in the place of an action's, where terminals read its list otherwise.
 pub(crate) fn words_instead(params: &[CsiParam], control: char) -> Option<&'static str> {
+    // A list of attributes has no marker, and isn't gone through again for each of them.
+    if control == 'm' && Parts::of(params).marker == 0 {
+        return None;
+    }
     // Few final characters have any.
     if !INSTEAD.iter().any(|row| row.starts_with(control)) {
         return None;

@@ -25,6 +25,17 @@ fn is_within(number: i64, span: &str) -> bool {
     number >= first.parse().unwrap_or(0) && number <= last.parse().unwrap_or(i64::MAX)
 }
 
+/// What a row of a list begins with: the final character, the marker and the intermediate byte.
+fn front_of(params: &[CsiParam], control: char) -> [u8; 3] {
+    let parts = Parts::of(params);
+    let shown = |byte: u8| if byte == 0 { b'_' } else { byte };
+    [
+        u8::try_from(u32::from(control)).unwrap_or(0),
+        shown(parts.marker),
+        shown(parts.intermediate),
+    ]
+}
+
 impl ListKey {
     /// Of a list before this final character.
     fn new(params: &[CsiParam], control: char) -> ListKey {
@@ -37,14 +48,8 @@ impl ListKey {
     }
 
     fn with_fields(params: &[CsiParam], control: char, fields: i64) -> ListKey {
-        let parts = Parts::of(params);
-        let shown = |byte: u8| if byte == 0 { b'_' } else { byte };
         ListKey {
-            front: [
-                u8::try_from(u32::from(control)).unwrap_or(0),
-                shown(parts.marker),
-                shown(parts.intermediate),
-            ],
+            front: front_of(params, control),
             first: number(params, 0).unwrap_or(0),
             second: number(params, 1).unwrap_or(0),
             fields,
@@ -128,12 +133,9 @@ pub(crate) fn words(params: &[CsiParam], control: char) -> Option<&'static str> 
 
 /// The words in the place of an action's, where terminals read its list otherwise.
 pub(crate) fn words_instead(params: &[CsiParam], control: char) -> Option<&'static str> {
-    // A list of attributes has no marker, and isn't gone through again for each of them.
-    if control == 'm' && Parts::of(params).marker == 0 {
-        return None;
-    }
-    // Few final characters have any.
-    if !INSTEAD.iter().any(|row| row.starts_with(control)) {
+    let front = front_of(params, control);
+    // Few lists have any, and a list of many attributes isn't gone through for each of them.
+    if !INSTEAD.iter().any(|row| row.as_bytes().starts_with(&front)) {
         return None;
     }
     ListKey::new(params, control).words(&INSTEAD)

@@ -2,6 +2,7 @@
 import itertools
 import re
 import sys
+import textwrap
 
 from checks import refuse
 from layout import folded, packed, string
@@ -98,27 +99,54 @@ def code_rt(named):
     return "\n".join([*lines, *(f"            KeyCode::{name} => {tag}," for tag, name in enumerate(named, 2)), "        }", "    }", "}"]) + "\n"
 
 
+MACROS = """/// Keys by their number: those of one final character together, with what is held down.
+macro_rules! by_number {
+    ($($control:literal, $held:literal: $($name:ident$(($of:literal))? $number:literal),*;)*) => {
+        [$($(Row { code: KeyCode::$name$(($of))?, held: $held, number: $number, control: $control },)*)*]
+    };
+}
+
+/// Keys by their character: those of one number together, with what is held down.
+macro_rules! by_character {
+    ($($number:literal, $held:literal: $($name:ident$(($of:literal))? $control:literal),*;)*) => {
+        [$($(Row { code: KeyCode::$name$(($of))?, held: $held, number: $number, control: $control },)*)*]
+    };
+}
+
+/// Keys whose number has a final character for each of several modifiers: what is held down, and the character.
+macro_rules! finals {
+    ($($code:expr, $number:literal: $($held:literal $control:literal),*;)*) => {
+        [$($(Row { code: $code, held: $held, number: $number, control: $control },)*)*]
+    };
+}
+"""
+# How the rows of a table stand together: the macro, what the rows of a line share, and what each has.
+BY_NUMBER = ("by_number", lambda name, form: f"{literal(form.control)}, {form.held}", lambda name, form: f"{name} {form.number}")
+BY_CHARACTER = ("by_character", lambda name, form: f"{form.number}, {form.held}", lambda name, form: f"{name} {literal(form.control)}")
+FINALS = ("finals", lambda name, form: f"KeyCode::{name}, {form.number}", lambda name, form: f"{form.held} {literal(form.control)}")
+
+
+def table_rt(column, forms):
+    """A table's rows, those that share the most in one line or several."""
+    final = COLUMNS[column][1]
+    macro, shared, own = BY_NUMBER if final or column == "csi" else BY_CHARACTER if final is None else FINALS
+    lines = []
+    for ahead, several in itertools.groupby(forms, lambda row: shared(*row)):
+        said = f"{ahead}: {', '.join(own(*row) for row in several)};".replace(", ", ",\0").replace(" ", "\1").replace("\0", " ")
+        wrapped = textwrap.wrap(said, 110, initial_indent="    ", subsequent_indent="        ", break_long_words=False, break_on_hyphens=False)
+        lines += [line.replace("\1", " ") for line in wrapped]
+    name, _, doc = COLUMNS[column]
+    return [f"/// {doc}", f"static {name.upper()}: [Row; {len(forms)}] = {macro}! {{", *lines, "};", "", f"#[tactic(auto, unfolding(crate::specs::Tables::{name}))]",
+            f"pub(crate) fn {name}<'a>() -> &'a [Row]", f"    ensures {{ result.now ≡ {name} }}", "{", f"    &{name.upper()}", "}", ""]
+
+
 def rows_rt(keys):
     """src/rows.rt of csicodec_keys."""
     names = sorted(name for name, _, _ in COLUMNS.values())
-    lines = ["//! The tables: which number and which final character stand for a key, a row each.", "ghost use Rattle.std.specs.Prelude.{◌≡◌};",
-             f"ghost use Rattle.csicodec_keys.specs.Tables.{{{', '.join(names)}}};", "", "use crate::code::KeyCode;", "use crate::tables::Row;", "",
-             "macro_rules! row {", "    ($code:expr, $held:expr, $number:expr, $control:expr) => {",
-             "        Row { code: $code, held: $held, number: $number, control: $control }", "    };", "}", "",
-             "/// Keys whose number has a final character for each of several modifiers: what is held down, and the character.", "macro_rules! finals {",
-             "    ($($code:expr, $number:expr, [$($held:expr => $control:expr),*];)*) => {",
-             "        [$($(row!($code, $held, $number, $control),)*)*]", "    };", "}", ""]
-    for column, (name, _, doc) in COLUMNS.items():
-        forms = [(key.code, form) for key in keys for form in key.forms.get(column, [])]
-        if column == "rxvt":
-            rows = [f"    {code}, {number}, [{', '.join(f'{form.held} => {literal(form.control)}' for _, form in several)}];"
-                    for (code, number), several in itertools.groupby(forms, lambda row: (row[0], row[1].number))]
-            ahead, end = "finals! {", "};"
-        else:
-            rows = [f"    row!({code}, {form.held}, {form.number}, {literal(form.control)})," for code, form in forms]
-            ahead, end = "[", "];"
-        lines += [f"/// {doc}", f"static {name.upper()}: [Row; {len(forms)}] = {ahead}", *rows, end, "", f"#[tactic(auto, unfolding(crate::specs::Tables::{name}))]",
-                  f"pub(crate) fn {name}<'a>() -> &'a [Row]", f"    ensures {{ result.now ≡ {name} }}", "{", f"    &{name.upper()}", "}", ""]
+    lines = ["//! The tables: which number and which final character stand for a key.", "ghost use Rattle.std.specs.Prelude.{◌≡◌};",
+             f"ghost use Rattle.csicodec_keys.specs.Tables.{{{', '.join(names)}}};", "", "use crate::code::KeyCode;", "use crate::tables::Row;", "", *MACROS.split("\n")]
+    for column in COLUMNS:
+        lines += table_rt(column, [(key.code.removeprefix("KeyCode::"), form) for key in keys for form in key.forms.get(column, [])])
     return "\n".join(lines)
 
 

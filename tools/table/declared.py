@@ -9,8 +9,13 @@ LONGEST = 128
 
 
 def in_turn(names, is_inline=False):
-    """A list of the specs, on a line or with a line for each."""
-    return [" ∷ ".join([*names, "[]"])] if is_inline else [f"    {names[0]}", *(f"    ∷ {name}" for name in names[1:]), "    ∷ []"]
+    """A list of the specs, on a line or in lines of some 100 columns."""
+    if is_inline:
+        return [" ∷ ".join([*names, "[]"])]
+    lines = [f"    {names[0]}"]
+    for name in (*names[1:], "[]"):
+        lines = [*lines[:-1], f"{lines[-1]} ∷ {name}"] if len(lines[-1]) + len(name) < 100 else [*lines, f"    ∷ {name}"]
+    return lines
 
 
 def comment_lines(text, indent=""):

@@ -91,12 +91,15 @@ def code_rt(named):
              "    /// only what is typed, it is that: `'A'`.", "    Char(char),", "    /// A function key, from 1 on.", "    F(u8),"]
     for name, row in named.items():
         lines += [f"    /// {row['doc']}", f"    {name},"]
-    lines += ["}", "", "impl KeyCode {", "    /// Whether both are one key.", "    pub(crate) fn same(self, other: KeyCode) -> bool", "        ensures { result ≡ same_code self other }", "    {",
+    lines += ["}", "", "/// The number of each key with a name.", "macro_rules! tags {", "    ($key:expr, $($name:ident $tag:literal),*) => {", "        match $key {",
+              "            KeyCode::Char(_) => 0,", "            KeyCode::F(_) => 1,", "            $(KeyCode::$name => $tag,)*", "        }", "    };", "}", "", "impl KeyCode {", "    /// Whether both are one key.", "    pub(crate) fn same(self, other: KeyCode) -> bool", "        ensures { result ≡ same_code self other }", "    {",
               "        self.tag() == other.tag() && self.value() == other.value()", "    }", "", "    /// The character of a key that types one, the number of a function key, and 0 of any other.", "    pub fn value(self) -> u32",
               "        ensures { result ≡ code_value self }", "    {", "        match self {", "            KeyCode::Char(character) => character as u32,",
               "            KeyCode::F(number) => u32::from(number),", "            _ => 0,", "        }", "    }", "", "    /// Which key it is, whatever its value: 0 for a character, 1 for a function key, and a number of its own for each other.", "    pub fn tag(self) -> u8",
-              "        ensures { result ≡ code_tag self }", "    {", "        match self {", "            KeyCode::Char(_) => 0,", "            KeyCode::F(_) => 1,"]
-    return "\n".join([*lines, *(f"            KeyCode::{name} => {tag}," for tag, name in enumerate(named, 2)), "        }", "    }", "}"]) + "\n"
+              "        ensures { result ≡ code_tag self }", "    {", "        tags! {"]
+    arms = ", ".join(f"{name}\0{tag}" for tag, name in enumerate(named, 2))
+    rows = textwrap.wrap(f"self, {arms}", 110, initial_indent="            ", subsequent_indent="            ", break_on_hyphens=False)
+    return "\n".join([*lines, *(row.replace("\0", " ") for row in rows), "        }", "    }", "}"]) + "\n"
 
 
 MACROS = """/// Keys by their number: those of one final character together, with what is held down.

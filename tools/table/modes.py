@@ -54,7 +54,7 @@ use Rattle.csicodec_names.specs.declared.modes.TerminalModeCode.TheVariants as t
 abbrev pub dec_mode_number : DecPrivateModeCode → ℕ
 DEC_NUMBERS
 
--- all private modes with a name: the list must be complete, a line for each variant
+-- all private modes with a name: the list must be complete
 abbrev pub dec_codes : List DecPrivateModeCode
 dec_codes =
 DEC_CODES
@@ -63,7 +63,7 @@ DEC_CODES
 abbrev pub terminal_mode_number : TerminalModeCode → ℕ
 TERMINAL_NUMBERS
 
--- all modes with a name that are not private: the list must be complete, a line for each variant
+-- all modes with a name that are not private: the list must be complete
 abbrev pub terminal_codes : List TerminalModeCode
 terminal_codes =
 TERMINAL_CODES

@@ -5,7 +5,7 @@ import re
 import actions
 from attributes import Attributes, all_attributes, parts as line_parts
 from checks import check_columns, check_once, refuse
-from declared import Variant
+from declared import Variant, in_turn
 from layout import array, comment, keyed, packed, page_line, page_table, string
 from read import first_line
 
@@ -20,6 +20,10 @@ pub enum SgrCode {
 VARIANTS
 }
 
+macro_rules! pieces {
+    ($($piece:tt)*) => { [$($piece)*] };
+}
+
 """
 
 NUMBERS = """\
@@ -32,11 +36,10 @@ use Rattle.csicodec_names.specs.declared.codes.SgrCode.TheVariants as code
 abbrev pub number_of : SgrCode → ℕ
 ROWS
 
--- all codes: the list must be complete, a line for each variant
+-- all codes: the list must be complete
 abbrev pub all_codes : List SgrCode
 all_codes =
 LIST
-    []
 """
 
 ENTRIES = """\
@@ -206,13 +209,13 @@ def codes(table):
     said += "Those whose comment names no other document are from ECMA-48, 8.3.117."
     enumeration = CODES.replace("SAID", "\n".join(comment(said)))
     enumeration = enumeration.replace("VARIANTS", "\n".join(line for number, row in table.named.items() for line in Variant(row["name"], row.get("doc", ""), number, str(number)).lines(True)))
-    places = [[f"    Some(SgrCode::{table.named[place]['name']})," if place in table.named else "    None,"] for place in table.places]
-    return enumeration + array(f"The code of each number from 0 to {table.places[-1]}, a place for each, so that finding it is one look.", "CODES", "Option<SgrCode>", places)
+    places = [f"Some(SgrCode::{table.named[place]['name']})" if place in table.named else "None" for place in table.places]
+    return enumeration + packed(f"The code of each number from 0 to {table.places[-1]}, a place for each, so that finding it is one look.", "CODES", "Option<SgrCode>", places)
 
 
 def numbers(table):
     rows = "\n".join(f"number_of code.{row['name']} = {number}" for number, row in table.named.items())
-    return NUMBERS.replace("ROWS", rows).replace("LIST", "\n".join(f"    code.{row['name']} ∷" for row in table.named.values()))
+    return NUMBERS.replace("ROWS", rows).replace("LIST", "\n".join(in_turn([f"code.{row['name']}" for row in table.named.values()])))
 
 
 def text(table, number):

@@ -171,6 +171,17 @@ pub enum KeyCode {
     Text,
 }
 
+/// The number of each key with a name.
+macro_rules! tags {
+    ($key:expr, $($name:ident $tag:literal),*) => {
+        match $key {
+            KeyCode::Char(_) => 0,
+            KeyCode::F(_) => 1,
+            $(KeyCode::$name => $tag,)*
+        }
+    };
+}
+
 impl KeyCode {
     /// Whether both are one key.
     pub(crate) fn same(self, other: KeyCode) -> bool
@@ -194,88 +205,20 @@ impl KeyCode {
     pub fn tag(self) -> u8
         ensures { result ≡ code_tag self }
     {
-        match self {
-            KeyCode::Char(_) => 0,
-            KeyCode::F(_) => 1,
-            KeyCode::Enter => 2,
-            KeyCode::Escape => 3,
-            KeyCode::Tab => 4,
-            KeyCode::Backspace => 5,
-            KeyCode::Insert => 6,
-            KeyCode::Delete => 7,
-            KeyCode::Left => 8,
-            KeyCode::Right => 9,
-            KeyCode::Up => 10,
-            KeyCode::Down => 11,
-            KeyCode::PageUp => 12,
-            KeyCode::PageDown => 13,
-            KeyCode::Home => 14,
-            KeyCode::End => 15,
-            KeyCode::CapsLock => 16,
-            KeyCode::ScrollLock => 17,
-            KeyCode::NumLock => 18,
-            KeyCode::PrintScreen => 19,
-            KeyCode::Pause => 20,
-            KeyCode::Menu => 21,
-            KeyCode::Keypad0 => 22,
-            KeyCode::Keypad1 => 23,
-            KeyCode::Keypad2 => 24,
-            KeyCode::Keypad3 => 25,
-            KeyCode::Keypad4 => 26,
-            KeyCode::Keypad5 => 27,
-            KeyCode::Keypad6 => 28,
-            KeyCode::Keypad7 => 29,
-            KeyCode::Keypad8 => 30,
-            KeyCode::Keypad9 => 31,
-            KeyCode::KeypadDecimal => 32,
-            KeyCode::KeypadDivide => 33,
-            KeyCode::KeypadMultiply => 34,
-            KeyCode::KeypadSubtract => 35,
-            KeyCode::KeypadAdd => 36,
-            KeyCode::KeypadEnter => 37,
-            KeyCode::KeypadEqual => 38,
-            KeyCode::KeypadSeparator => 39,
-            KeyCode::KeypadLeft => 40,
-            KeyCode::KeypadRight => 41,
-            KeyCode::KeypadUp => 42,
-            KeyCode::KeypadDown => 43,
-            KeyCode::KeypadPageUp => 44,
-            KeyCode::KeypadPageDown => 45,
-            KeyCode::KeypadHome => 46,
-            KeyCode::KeypadEnd => 47,
-            KeyCode::KeypadInsert => 48,
-            KeyCode::KeypadDelete => 49,
-            KeyCode::KeypadBegin => 50,
-            KeyCode::MediaPlay => 51,
-            KeyCode::MediaPause => 52,
-            KeyCode::MediaPlayPause => 53,
-            KeyCode::MediaReverse => 54,
-            KeyCode::MediaStop => 55,
-            KeyCode::MediaFastForward => 56,
-            KeyCode::MediaRewind => 57,
-            KeyCode::MediaNext => 58,
-            KeyCode::MediaPrevious => 59,
-            KeyCode::MediaRecord => 60,
-            KeyCode::LowerVolume => 61,
-            KeyCode::RaiseVolume => 62,
-            KeyCode::MuteVolume => 63,
-            KeyCode::LeftShift => 64,
-            KeyCode::LeftCtrl => 65,
-            KeyCode::LeftAlt => 66,
-            KeyCode::LeftSuper => 67,
-            KeyCode::LeftHyper => 68,
-            KeyCode::LeftMeta => 69,
-            KeyCode::RightShift => 70,
-            KeyCode::RightCtrl => 71,
-            KeyCode::RightAlt => 72,
-            KeyCode::RightSuper => 73,
-            KeyCode::RightHyper => 74,
-            KeyCode::RightMeta => 75,
-            KeyCode::IsoLevel3Shift => 76,
-            KeyCode::IsoLevel5Shift => 77,
-            KeyCode::KeypadTab => 78,
-            KeyCode::KeypadSpace => 79,
-            KeyCode::Text => 80,
+        tags! {
+            self, Enter 2, Escape 3, Tab 4, Backspace 5, Insert 6, Delete 7, Left 8, Right 9, Up 10, Down 11,
+            PageUp 12, PageDown 13, Home 14, End 15, CapsLock 16, ScrollLock 17, NumLock 18, PrintScreen 19,
+            Pause 20, Menu 21, Keypad0 22, Keypad1 23, Keypad2 24, Keypad3 25, Keypad4 26, Keypad5 27,
+            Keypad6 28, Keypad7 29, Keypad8 30, Keypad9 31, KeypadDecimal 32, KeypadDivide 33,
+            KeypadMultiply 34, KeypadSubtract 35, KeypadAdd 36, KeypadEnter 37, KeypadEqual 38,
+            KeypadSeparator 39, KeypadLeft 40, KeypadRight 41, KeypadUp 42, KeypadDown 43, KeypadPageUp 44,
+            KeypadPageDown 45, KeypadHome 46, KeypadEnd 47, KeypadInsert 48, KeypadDelete 49, KeypadBegin 50,
+            MediaPlay 51, MediaPause 52, MediaPlayPause 53, MediaReverse 54, MediaStop 55,
+            MediaFastForward 56, MediaRewind 57, MediaNext 58, MediaPrevious 59, MediaRecord 60,
+            LowerVolume 61, RaiseVolume 62, MuteVolume 63, LeftShift 64, LeftCtrl 65, LeftAlt 66,
+            LeftSuper 67, LeftHyper 68, LeftMeta 69, RightShift 70, RightCtrl 71, RightAlt 72, RightSuper 73,
+            RightHyper 74, RightMeta 75, IsoLevel3Shift 76, IsoLevel5Shift 77, KeypadTab 78, KeypadSpace 79,
+            Text 80
         }
     }
 }

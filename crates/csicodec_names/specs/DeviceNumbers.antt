@@ -20,16 +20,6 @@ device_attribute_number code.AnsiTextLocator = 29
 -- all extensions: the list must be complete, a line for each variant
 abbrev pub device_attribute_codes : List DeviceAttributeCodes
 device_attribute_codes =
-    code.Columns132
-    ∷ code.Printer
-    ∷ code.RegisGraphics
-    ∷ code.SixelGraphics
-    ∷ code.SelectiveErase
-    ∷ code.UserDefinedKeys
-    ∷ code.NationalReplacementCharsets
-    ∷ code.TechnicalCharacters
-    ∷ code.UserWindows
-    ∷ code.HorizontalScrolling
-    ∷ code.AnsiColor
-    ∷ code.AnsiTextLocator
-    ∷ []
+    code.Columns132 ∷ code.Printer ∷ code.RegisGraphics ∷ code.SixelGraphics ∷ code.SelectiveErase
+    ∷ code.UserDefinedKeys ∷ code.NationalReplacementCharsets ∷ code.TechnicalCharacters
+    ∷ code.UserWindows ∷ code.HorizontalScrolling ∷ code.AnsiColor ∷ code.AnsiTextLocator ∷ []

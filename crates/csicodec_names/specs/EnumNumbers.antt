@@ -21,14 +21,8 @@ cursor_style_number style.SteadyBar = 6
 -- all styles of the cursor: the list must be complete, a line for each variant
 abbrev pub cursor_styles : List CursorStyle
 cursor_styles =
-    style.Default
-    ∷ style.BlinkingBlock
-    ∷ style.SteadyBlock
-    ∷ style.BlinkingUnderline
-    ∷ style.SteadyUnderline
-    ∷ style.BlinkingBar
-    ∷ style.SteadyBar
-    ∷ []
+    style.Default ∷ style.BlinkingBlock ∷ style.SteadyBlock ∷ style.BlinkingUnderline
+    ∷ style.SteadyUnderline ∷ style.BlinkingBar ∷ style.SteadyBar ∷ []
 
 abbrev pub tabulation_control_number : CursorTabulationControl → ℕ
 tabulation_control_number control.SetCharacterTabStopAtActivePosition = 0
@@ -42,14 +36,10 @@ tabulation_control_number control.ClearAllLineTabStops = 6
 -- all controls of tab stops: the list must be complete, a line for each variant
 abbrev pub tabulation_controls : List CursorTabulationControl
 tabulation_controls =
-    control.SetCharacterTabStopAtActivePosition
-    ∷ control.SetLineTabStopAtActiveLine
-    ∷ control.ClearCharacterTabStopAtActivePosition
-    ∷ control.ClearLineTabstopAtActiveLine
-    ∷ control.ClearAllCharacterTabStopsAtActiveLine
-    ∷ control.ClearAllCharacterTabStops
-    ∷ control.ClearAllLineTabStops
-    ∷ []
+    control.SetCharacterTabStopAtActivePosition ∷ control.SetLineTabStopAtActiveLine
+    ∷ control.ClearCharacterTabStopAtActivePosition ∷ control.ClearLineTabstopAtActiveLine
+    ∷ control.ClearAllCharacterTabStopsAtActiveLine ∷ control.ClearAllCharacterTabStops
+    ∷ control.ClearAllLineTabStops ∷ []
 
 abbrev pub tabulation_clear_number : TabulationClear → ℕ
 tabulation_clear_number clear.ClearCharacterTabStopAtActivePosition = 0
@@ -62,13 +52,9 @@ tabulation_clear_number clear.ClearAllTabStops = 5
 -- all ways to clear tab stops: the list must be complete, a line for each variant
 abbrev pub tabulation_clears : List TabulationClear
 tabulation_clears =
-    clear.ClearCharacterTabStopAtActivePosition
-    ∷ clear.ClearLineTabStopAtActiveLine
-    ∷ clear.ClearCharacterTabStopsAtActiveLine
-    ∷ clear.ClearAllCharacterTabStops
-    ∷ clear.ClearAllLineTabStops
-    ∷ clear.ClearAllTabStops
-    ∷ []
+    clear.ClearCharacterTabStopAtActivePosition ∷ clear.ClearLineTabStopAtActiveLine
+    ∷ clear.ClearCharacterTabStopsAtActiveLine ∷ clear.ClearAllCharacterTabStops
+    ∷ clear.ClearAllLineTabStops ∷ clear.ClearAllTabStops ∷ []
 
 abbrev pub erase_in_line_number : EraseInLine → ℕ
 erase_in_line_number line.EraseToEndOfLine = 0
@@ -78,10 +64,7 @@ erase_in_line_number line.EraseLine = 2
 -- all parts of a line: the list must be complete, a line for each variant
 abbrev pub erases_in_line : List EraseInLine
 erases_in_line =
-    line.EraseToEndOfLine
-    ∷ line.EraseToStartOfLine
-    ∷ line.EraseLine
-    ∷ []
+    line.EraseToEndOfLine ∷ line.EraseToStartOfLine ∷ line.EraseLine ∷ []
 
 abbrev pub erase_in_display_number : EraseInDisplay → ℕ
 erase_in_display_number display.EraseToEndOfDisplay = 0
@@ -92,8 +75,5 @@ erase_in_display_number display.EraseScrollback = 3
 -- all parts of a page: the list must be complete, a line for each variant
 abbrev pub erases_in_display : List EraseInDisplay
 erases_in_display =
-    display.EraseToEndOfDisplay
-    ∷ display.EraseToStartOfDisplay
-    ∷ display.EraseDisplay
-    ∷ display.EraseScrollback
-    ∷ []
+    display.EraseToEndOfDisplay ∷ display.EraseToStartOfDisplay ∷ display.EraseDisplay
+    ∷ display.EraseScrollback ∷ []

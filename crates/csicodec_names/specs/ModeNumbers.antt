@@ -43,44 +43,18 @@ dec_mode_number dec.MinTTYApplicationEscapeKeyMode = 7727
 dec_mode_number dec.SixelScrollsRight = 8452
 dec_mode_number dec.Win32InputMode = 9001
 
--- all private modes with a name: the list must be complete, a line for each variant
+-- all private modes with a name: the list must be complete
 abbrev pub dec_codes : List DecPrivateModeCode
 dec_codes =
-    dec.ApplicationCursorKeys
-    ∷ dec.DecAnsiMode
-    ∷ dec.Select132Columns
-    ∷ dec.SmoothScroll
-    ∷ dec.ReverseVideo
-    ∷ dec.OriginMode
-    ∷ dec.AutoWrap
-    ∷ dec.AutoRepeat
-    ∷ dec.StartBlinkingCursor
-    ∷ dec.ShowCursor
-    ∷ dec.ReverseWraparound
-    ∷ dec.EnableAlternateScreen
-    ∷ dec.LeftRightMarginMode
-    ∷ dec.SixelDisplayMode
-    ∷ dec.MouseTracking
-    ∷ dec.HighlightMouseTracking
-    ∷ dec.ButtonEventMouse
-    ∷ dec.AnyEventMouse
-    ∷ dec.FocusTracking
-    ∷ dec.Utf8Mouse
-    ∷ dec.SGRMouse
-    ∷ dec.SGRPixelsMouse
-    ∷ dec.XTermMetaSendsEscape
-    ∷ dec.XTermAltSendsEscape
-    ∷ dec.OptEnableAlternateScreen
-    ∷ dec.SaveCursor
-    ∷ dec.ClearAndEnableAlternateScreen
-    ∷ dec.UsePrivateColorRegistersForEachGraphic
-    ∷ dec.BracketedPaste
-    ∷ dec.SynchronizedOutput
-    ∷ dec.GraphemeClustering
-    ∷ dec.MinTTYApplicationEscapeKeyMode
-    ∷ dec.SixelScrollsRight
-    ∷ dec.Win32InputMode
-    ∷ []
+    dec.ApplicationCursorKeys ∷ dec.DecAnsiMode ∷ dec.Select132Columns ∷ dec.SmoothScroll
+    ∷ dec.ReverseVideo ∷ dec.OriginMode ∷ dec.AutoWrap ∷ dec.AutoRepeat ∷ dec.StartBlinkingCursor
+    ∷ dec.ShowCursor ∷ dec.ReverseWraparound ∷ dec.EnableAlternateScreen ∷ dec.LeftRightMarginMode
+    ∷ dec.SixelDisplayMode ∷ dec.MouseTracking ∷ dec.HighlightMouseTracking ∷ dec.ButtonEventMouse
+    ∷ dec.AnyEventMouse ∷ dec.FocusTracking ∷ dec.Utf8Mouse ∷ dec.SGRMouse ∷ dec.SGRPixelsMouse
+    ∷ dec.XTermMetaSendsEscape ∷ dec.XTermAltSendsEscape ∷ dec.OptEnableAlternateScreen
+    ∷ dec.SaveCursor ∷ dec.ClearAndEnableAlternateScreen ∷ dec.UsePrivateColorRegistersForEachGraphic
+    ∷ dec.BracketedPaste ∷ dec.SynchronizedOutput ∷ dec.GraphemeClustering
+    ∷ dec.MinTTYApplicationEscapeKeyMode ∷ dec.SixelScrollsRight ∷ dec.Win32InputMode ∷ []
 
 -- modes of the standard (ECMA-48, 7.2), and two of terminals, a line for each variant
 abbrev pub terminal_mode_number : TerminalModeCode → ℕ
@@ -91,13 +65,8 @@ terminal_mode_number terminal.SendReceive = 12
 terminal_mode_number terminal.AutomaticNewline = 20
 terminal_mode_number terminal.ShowCursor = 25
 
--- all modes with a name that are not private: the list must be complete, a line for each variant
+-- all modes with a name that are not private: the list must be complete
 abbrev pub terminal_codes : List TerminalModeCode
 terminal_codes =
-    terminal.KeyboardAction
-    ∷ terminal.Insert
-    ∷ terminal.BiDirectionalSupportMode
-    ∷ terminal.SendReceive
-    ∷ terminal.AutomaticNewline
-    ∷ terminal.ShowCursor
-    ∷ []
+    terminal.KeyboardAction ∷ terminal.Insert ∷ terminal.BiDirectionalSupportMode
+    ∷ terminal.SendReceive ∷ terminal.AutomaticNewline ∷ terminal.ShowCursor ∷ []

@@ -78,78 +78,24 @@ number_of code.BackgroundBrightMagenta = 105
 number_of code.BackgroundBrightCyan = 106
 number_of code.BackgroundBrightWhite = 107
 
--- all codes: the list must be complete, a line for each variant
+-- all codes: the list must be complete
 abbrev pub all_codes : List SgrCode
 all_codes =
-    code.Reset ∷
-    code.IntensityBold ∷
-    code.IntensityDim ∷
-    code.ItalicOn ∷
-    code.UnderlineOn ∷
-    code.BlinkOn ∷
-    code.RapidBlinkOn ∷
-    code.InverseOn ∷
-    code.InvisibleOn ∷
-    code.StrikeThroughOn ∷
-    code.DefaultFont ∷
-    code.AltFont1 ∷
-    code.AltFont2 ∷
-    code.AltFont3 ∷
-    code.AltFont4 ∷
-    code.AltFont5 ∷
-    code.AltFont6 ∷
-    code.AltFont7 ∷
-    code.AltFont8 ∷
-    code.AltFont9 ∷
-    code.UnderlineDouble ∷
-    code.NormalIntensity ∷
-    code.ItalicOff ∷
-    code.UnderlineOff ∷
-    code.BlinkOff ∷
-    code.InverseOff ∷
-    code.InvisibleOff ∷
-    code.StrikeThroughOff ∷
-    code.ForegroundBlack ∷
-    code.ForegroundRed ∷
-    code.ForegroundGreen ∷
-    code.ForegroundYellow ∷
-    code.ForegroundBlue ∷
-    code.ForegroundMagenta ∷
-    code.ForegroundCyan ∷
-    code.ForegroundWhite ∷
-    code.ForegroundColor ∷
-    code.ForegroundDefault ∷
-    code.BackgroundBlack ∷
-    code.BackgroundRed ∷
-    code.BackgroundGreen ∷
-    code.BackgroundYellow ∷
-    code.BackgroundBlue ∷
-    code.BackgroundMagenta ∷
-    code.BackgroundCyan ∷
-    code.BackgroundWhite ∷
-    code.BackgroundColor ∷
-    code.BackgroundDefault ∷
-    code.OverlineOn ∷
-    code.OverlineOff ∷
-    code.UnderlineColor ∷
-    code.ResetUnderlineColor ∷
-    code.VerticalAlignSuperScript ∷
-    code.VerticalAlignSubScript ∷
-    code.VerticalAlignBaseLine ∷
-    code.ForegroundBrightBlack ∷
-    code.ForegroundBrightRed ∷
-    code.ForegroundBrightGreen ∷
-    code.ForegroundBrightYellow ∷
-    code.ForegroundBrightBlue ∷
-    code.ForegroundBrightMagenta ∷
-    code.ForegroundBrightCyan ∷
-    code.ForegroundBrightWhite ∷
-    code.BackgroundBrightBlack ∷
-    code.BackgroundBrightRed ∷
-    code.BackgroundBrightGreen ∷
-    code.BackgroundBrightYellow ∷
-    code.BackgroundBrightBlue ∷
-    code.BackgroundBrightMagenta ∷
-    code.BackgroundBrightCyan ∷
-    code.BackgroundBrightWhite ∷
-    []
+    code.Reset ∷ code.IntensityBold ∷ code.IntensityDim ∷ code.ItalicOn ∷ code.UnderlineOn
+    ∷ code.BlinkOn ∷ code.RapidBlinkOn ∷ code.InverseOn ∷ code.InvisibleOn ∷ code.StrikeThroughOn
+    ∷ code.DefaultFont ∷ code.AltFont1 ∷ code.AltFont2 ∷ code.AltFont3 ∷ code.AltFont4 ∷ code.AltFont5
+    ∷ code.AltFont6 ∷ code.AltFont7 ∷ code.AltFont8 ∷ code.AltFont9 ∷ code.UnderlineDouble
+    ∷ code.NormalIntensity ∷ code.ItalicOff ∷ code.UnderlineOff ∷ code.BlinkOff ∷ code.InverseOff
+    ∷ code.InvisibleOff ∷ code.StrikeThroughOff ∷ code.ForegroundBlack ∷ code.ForegroundRed
+    ∷ code.ForegroundGreen ∷ code.ForegroundYellow ∷ code.ForegroundBlue ∷ code.ForegroundMagenta
+    ∷ code.ForegroundCyan ∷ code.ForegroundWhite ∷ code.ForegroundColor ∷ code.ForegroundDefault
+    ∷ code.BackgroundBlack ∷ code.BackgroundRed ∷ code.BackgroundGreen ∷ code.BackgroundYellow
+    ∷ code.BackgroundBlue ∷ code.BackgroundMagenta ∷ code.BackgroundCyan ∷ code.BackgroundWhite
+    ∷ code.BackgroundColor ∷ code.BackgroundDefault ∷ code.OverlineOn ∷ code.OverlineOff
+    ∷ code.UnderlineColor ∷ code.ResetUnderlineColor ∷ code.VerticalAlignSuperScript
+    ∷ code.VerticalAlignSubScript ∷ code.VerticalAlignBaseLine ∷ code.ForegroundBrightBlack
+    ∷ code.ForegroundBrightRed ∷ code.ForegroundBrightGreen ∷ code.ForegroundBrightYellow
+    ∷ code.ForegroundBrightBlue ∷ code.ForegroundBrightMagenta ∷ code.ForegroundBrightCyan
+    ∷ code.ForegroundBrightWhite ∷ code.BackgroundBrightBlack ∷ code.BackgroundBrightRed
+    ∷ code.BackgroundBrightGreen ∷ code.BackgroundBrightYellow ∷ code.BackgroundBrightBlue
+    ∷ code.BackgroundBrightMagenta ∷ code.BackgroundBrightCyan ∷ code.BackgroundBrightWhite ∷ []

@@ -9,19 +9,21 @@ from layout import folded, packed, string
 from read import first_line
 
 TABLE = "keys.toml"
-# The columns: the table of csicodec_keys, the final that each of its rows has, and what it is.
+# The columns: the final that each row of the table of csicodec_keys has, and what the table is.
 COLUMNS = {
-    "control": ("controls", None, "C0 controls and DEL (xterm, as a keyboard of ASCII sends them; ctrl takes 64 off)."),
-    "ss3": ("ss3_keys", None, "Behind SS3: F1 to F4, and the keypad in its application mode (xterm ctlseqs, PC-Style and VT220-Style Function Keys)."),
-    "ss3_cursor": ("ss3_cursor", None, "Behind SS3: the cursor keys in their application mode (xterm ctlseqs, Cursor Keys), which are written as control sequences."),
-    "csi": ("csi_keys", "", "Control sequences that xterm and kitty share (xterm ctlseqs, PC-Style Function Keys; kitty, Legacy functional keys)."),
-    "kitty": ("kitty_keys", "u", "Numbers before `u` (kitty, Functional key definitions)."),
-    "other": ("other_keys", "~", "Numbers behind `27 ;` and the modifiers, before `~` (xterm ctlseqs, Alt and Meta Keys)."),
-    "rxvt": ("rxvt_keys", "", "rxvt's own, before `~`, `$` with shift, `^` with ctrl and `@` with both, and its arrows with shift (rxvt, Key codes)."),
-    "rxvt_ss3": ("rxvt_ss3", None, "rxvt's arrows with ctrl, behind SS3 (rxvt, Key codes)."),
-    "linux": ("linux_keys", None, "Behind `CSI [`: F1 to F5 of Linux' console (console_codes(4))."),
-    "win32": ("win32_keys", "_", "Virtual keys before `_` in Win32-input-mode (Microsoft, Virtual-Key Codes), 256 more for an enhanced key (KEY_EVENT_RECORD)."),
+    "control": (None, "C0 controls and DEL (xterm, as a keyboard of ASCII sends them; ctrl takes 64 off)."),
+    "ss3": (None, "Behind SS3: F1 to F4, and the keypad in its application mode (xterm ctlseqs, PC-Style and VT220-Style Function Keys)."),
+    "ss3_cursor": (None, "Behind SS3: the cursor keys in their application mode (xterm ctlseqs, Cursor Keys), which are written as control sequences."),
+    "csi": ("", "Control sequences that xterm and kitty share (xterm ctlseqs, PC-Style Function Keys; kitty, Legacy functional keys)."),
+    "kitty": ("u", "Numbers before `u` (kitty, Functional key definitions)."),
+    "other": ("~", "Numbers behind `27 ;` and the modifiers, before `~` (xterm ctlseqs, Alt and Meta Keys)."),
+    "rxvt": ("", "rxvt's own, before `~`, `$` with shift, `^` with ctrl and `@` with both, and its arrows with shift (rxvt, Key codes)."),
+    "rxvt_ss3": (None, "rxvt's arrows with ctrl, behind SS3 (rxvt, Key codes)."),
+    "linux": (None, "Behind `CSI [`: F1 to F5 of Linux' console (console_codes(4))."),
+    "win32": ("_", "Virtual keys before `_` in Win32-input-mode (Microsoft, Virtual-Key Codes), 256 more for an enhanced key (KEY_EVENT_RECORD)."),
 }
+# The variant of Table for each.
+VARIANTS = {column: "".join(word.capitalize() for word in column.split("_")) for column in COLUMNS}
 HELD = {"shift": 1, "alt": 2, "ctrl": 4}
 ESCAPES = {"\0": "\\0", "\t": "\\t", "\n": "\\n", "\r": "\\r", "\\": "\\\\", "'": "\\'"}
 
@@ -37,7 +39,7 @@ class Form:
     """A way of sending a key: its number, its final or its character alone, and what that says is held down."""
 
     def __init__(self, column, said):
-        final = COLUMNS[column][1]
+        final = COLUMNS[column][0]
         if final:
             self.number, self.control, held = said, final, []
         elif final is None:
@@ -131,36 +133,38 @@ FINALS = ("finals", lambda name, form: f"KeyCode::{name}, {form.number}", lambda
 
 def table_rt(column, forms):
     """A table's rows, those that share the most in one line or several."""
-    final = COLUMNS[column][1]
+    final = COLUMNS[column][0]
     macro, shared, own = BY_NUMBER if final or column == "csi" else BY_CHARACTER if final is None else FINALS
     lines = []
     for ahead, several in itertools.groupby(forms, lambda row: shared(*row)):
         said = f"{ahead}: {', '.join(own(*row) for row in several)};".replace(", ", ",\0").replace(" ", "\1").replace("\0", " ")
         wrapped = textwrap.wrap(said, 110, initial_indent="    ", subsequent_indent="        ", break_long_words=False, break_on_hyphens=False)
         lines += [line.replace("\1", " ") for line in wrapped]
-    name, _, doc = COLUMNS[column]
-    return [f"/// {doc}", f"static {name.upper()}: [Row; {len(forms)}] = {macro}! {{", *lines, "};", "", f"#[tactic(auto, unfolding(crate::specs::Tables::{name}))]",
-            f"pub(crate) fn {name}<'a>() -> &'a [Row]", f"    ensures {{ result.now ≡ {name} }}", "{", f"    &{name.upper()}", "}", ""]
+    return [f"static {column.upper()}: [Row; {len(forms)}] = {macro}! {{", *lines, "};", ""]
 
 
 def rows_rt(keys):
     """src/rows.rt of csicodec_keys."""
-    names = sorted(name for name, _, _ in COLUMNS.values())
     lines = ["//! The tables: which number and which final character stand for a key.", "ghost use Rattle.std.specs.Prelude.{◌≡◌};",
-             f"ghost use Rattle.csicodec_keys.specs.Tables.{{{', '.join(names)}}};", "", "use crate::code::KeyCode;", "use crate::tables::Row;", "", *MACROS.split("\n")]
+             "ghost use Rattle.csicodec_keys.specs.Tables.{rows};", "", "use crate::code::KeyCode;", "use crate::tables::Row;", "",
+             "/// A table of keys.", "#[derive(Clone, Copy)]", "pub(crate) enum Table {"]
+    for column, (_, doc) in COLUMNS.items():
+        lines += [f"    /// {doc}", f"    {VARIANTS[column]},"]
+    lines += ["}", "", *MACROS.split("\n")]
     for column in COLUMNS:
         lines += table_rt(column, [(key.code.removeprefix("KeyCode::"), form) for key in keys for form in key.forms.get(column, [])])
-    return "\n".join(lines)
+    lines += ["impl Table {", "    #[tactic(auto, unfolding(crate::specs::Tables::rows))]", "    pub(crate) fn rows(self) -> &'static [Row]", "        ensures { result.now ≡ rows self }",
+              "    {", "        match self {"]
+    return "\n".join([*lines, *(f"            Table::{variant} => &{column.upper()}," for column, variant in VARIANTS.items()), "        }", "    }", "}"]) + "\n"
 
 
 def tables_antt():
     """specs/Tables.antt of csicodec_keys."""
-    names = [name for name, _, _ in COLUMNS.values()]
-    lines = ["-- The tables of keys by their names; their rows stand in src/rows.rt, each table with its source.", "use Rattle.std.specs.Prelude.{List}",
-             "use Rattle.csicodec_keys.specs.declared.tables.Row.{Row}", f"use Rattle.csicodec_keys.specs.declared.rows.TheConstants.{{{', '.join(sorted(name.upper() for name in names))}}}"]
-    for name in names:
-        lines += ["", f"unfoldable pub {name} : List Row", f"{name} = {name.upper()}"]
-    return "\n".join(lines) + "\n"
+    lines = ["-- The rows of each table of keys, which stand in src/rows.rt, each table with its source.", "use Rattle.std.specs.Prelude.{List}",
+             "use Rattle.csicodec_keys.specs.{declared.rows.Table.Table, declared.tables.Row.Row}",
+             f"use Rattle.csicodec_keys.specs.declared.rows.TheConstants.{{{', '.join(sorted(column.upper() for column in COLUMNS))}}}",
+             "use Rattle.csicodec_keys.specs.declared.rows.Table.TheVariants as table", "", "unfoldable pub rows : Table → List Row"]
+    return "\n".join([*lines, *(f"rows table.{variant} = {column.upper()}" for column, variant in VARIANTS.items())]) + "\n"
 
 
 def same_keys_antt(named):
@@ -195,7 +199,7 @@ def files(tables):
     rust, antt = first_line(TABLE), first_line(TABLE, "--")
     return {
         "crates/csicodec_keys/src/code.rt": rust + code_rt(named),
-        "crates/csicodec_keys/src/rows.rt": rust + rows_rt(keys).rstrip("\n") + "\n",
+        "crates/csicodec_keys/src/rows.rt": rust + rows_rt(keys),
         "crates/csicodec_keys/specs/Tables.antt": antt + tables_antt(),
         "crates/csicodec_keys/specs/SameKeys.antt": antt + same_keys_antt(named),
         "crates/csicodec_keys/proofs/Named.antt": antt + named_antt(named),

@@ -2,7 +2,7 @@
 use Rattle.std.proofs.{Common.◌≡◌, Common.ℕ, Common.List, Common.[], Common.◌∷◌, Common.Option, Common.None, Common.Some, Common.refl, Common.subst, Common.inl}
 use Rattle.std.proofs.{Common.inr, lemmas.Bool.and_parts, lemmas.Bool.cases_Bool, lemmas.Bool.eqb-true, lemmas.Option.same_Some}
 use Rattle.std.specs.{Prelude.Bool, Prelude.true, Prelude.false, Prelude.find, Prelude.◌==◌, Prelude.◌&&◌, List.list_all, Option.option_map}
-use Rattle.csicodec_keys.specs.{declared.code.KeyCode.KeyCode, declared.tables.Row.Row, SameKeys.same_code, Rows.row_of}
+use Rattle.csicodec_keys.specs.{declared.code.KeyCode.KeyCode, declared.rows.Table.Table, declared.tables.Row.Row, SameKeys.same_code, Rows.row_of, Tables.rows}
 use Rattle.csicodec_keys.proofs.{SameKeys.same-code, Options.made}
 
 -- what holds of all rows holds of the one that is found, and it passes the test
@@ -16,11 +16,11 @@ found-all test p (q ∷ rows) r h e =
     ]
 
 -- what is made of a row that is found by its key, where all rows pass a test, and what is made of such a row has the property
-pub of-rows : {B : Type 0} (test : Row → Bool) (P : KeyCode → ℕ → B → Type 0) (g : Row → B) (rows : List Row) (code : KeyCode) (held : ℕ) (b : B)
-    → list_all test rows ≡ true → ((r : Row) → test r ≡ true → P r.code r.held (g r)) → option_map g (row_of rows code held) ≡ Some b → P code held b
+pub of-rows : {B : Type 0} (test : Row → Bool) (P : KeyCode → ℕ → B → Type 0) (g : Row → B) (t : Table) (code : KeyCode) (held : ℕ) (b : B)
+    → list_all test (rows t) ≡ true → ((r : Row) → test r ≡ true → P r.code r.held (g r)) → option_map g (row_of (rows t) code held) ≡ Some b → P code held b
 unfolding row_of
-of-rows test P g rows code held b all each e = made (P code held) g (row_of rows code held) b e (λ r is.
-    let f = found-all (λ (x : Row). same_code x.code code && (x.held == held)) test rows r all is in
+of-rows test P g t code held b all each e = made (P code held) g (row_of (rows t) code held) b e (λ r is.
+    let f = found-all (λ (x : Row). same_code x.code code && (x.held == held)) test (rows t) r all is in
     let p = and_parts (same_code r.code code) (r.held == held) f.0 in
     subst (λ (k : KeyCode). P k held (g r)) (same-code r.code code p.0) (subst (λ (n : ℕ). P r.code n (g r)) (eqb-true r.held held p.1) (each r f.1)))
 

@@ -6,13 +6,14 @@ use Rattle.std.specs.{Option.option_or}
 use lib.Utf8.{scalar_fits, scalars}
 use Rattle.csicodec_keys.specs.Forms.{by, csi_row, form_of, key_alone, kitty_char, kitty_row, other_key, read_listed, said_key, told_by}
 use Rattle.csicodec_keys.specs.{declared.code.KeyCode.KeyCode, declared.key.Encoding.Encoding, declared.tables.Row.Row}
-use Rattle.csicodec_keys.specs.{declared.writing.KeySpelling.KeySpelling, Tables.csi_keys, Tables.kitty_keys, Characters.is_typed, Fields.Says}
-use Rattle.csicodec_keys.specs.{Fields.written_list, Keys.Stroke, Keys.is_code, Keys.is_stroke, Rows.row_of, Win32.read_win32}
+use Rattle.csicodec_keys.specs.{declared.writing.KeySpelling.KeySpelling, Characters.is_typed, Fields.Says, Fields.written_list, Keys.Stroke, Keys.is_code}
+use Rattle.csicodec_keys.specs.{Keys.is_stroke, Rows.row_of, Tables.rows, Win32.read_win32}
 use Rattle.csicodec_keys.proofs.{AnyTable.is_same, AnyTable.of-rows, AnyTable.same-row, Options.allowed, Options.either, Options.none-is, Options.three}
 use Rattle.csicodec_keys.proofs.{Sound.Fine, Sound.typed-scalar, Lists.list-read, Fronts.is_end, EachTable.csi-read, EachTable.is_char, EachTable.is_csi}
 use Rattle.csicodec_keys.proofs.{EachTable.is_read, EachTable.kitty-read}
 use Rattle.csicodec_keys.specs.declared.code.KeyCode.TheVariants as code
 use Rattle.csicodec_keys.specs.declared.key.Encoding.TheVariants as encoding
+use Rattle.csicodec_keys.specs.declared.rows.Table.TheVariants as table
 use Rattle.csicodec_keys.specs.declared.writing.KeySpelling.TheVariants as form
 
 -- the ranges of a key
@@ -73,7 +74,7 @@ pub kitty-fine : (s : Stroke) (f : KeySpelling) → InRange s → form_of encodi
 kitty-fine s f i e =
     let P = λ (k : KeyCode) (n : ℕ) (x : KeySpelling). n ≡ 0 → Fine s.text (said_as s k) x in
     let shared_fine = λ (r : Row) (h : is_csi r ≡ true). row-with r s i (and_parts (not (is_char r.code)) (is_read r) h).1 in
-    either (Fine s.text s f) (option_map (kitty_row s) (row_of kitty_keys s.code 0)) _ f e
-    (λ own. of-rows is_read P (kitty_row s) kitty_keys s.code 0 f kitty-read (λ r h. row-with r s i h) own refl)
-    (λ more. either (Fine s.text s f) (option_map (kitty_row s) (row_of csi_keys s.code 0)) (kitty_char s s.code) f more
-    (λ shared. of-rows is_csi P (kitty_row s) csi_keys s.code 0 f csi-read shared_fine shared refl) (char-fine s s.code f i))
+    either (Fine s.text s f) (option_map (kitty_row s) (row_of (rows table.Kitty) s.code 0)) _ f e
+    (λ own. of-rows is_read P (kitty_row s) table.Kitty s.code 0 f kitty-read (λ r h. row-with r s i h) own refl)
+    (λ more. either (Fine s.text s f) (option_map (kitty_row s) (row_of (rows table.Csi) s.code 0)) (kitty_char s s.code) f more
+    (λ shared. of-rows is_csi P (kitty_row s) table.Csi s.code 0 f csi-read shared_fine shared refl) (char-fine s s.code f i))

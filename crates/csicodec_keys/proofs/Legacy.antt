@@ -4,12 +4,11 @@ use Rattle.std.proofs.lemmas.Bool.{and_parts, cases_Bool, eqb-true, ltb-false, n
 use Rattle.std.proofs.lemmas.Option.{same_Some}
 use Rattle.std.specs.{Prelude.true, Prelude.false, Prelude.not, Prelude.◌==◌, Prelude.◌&&◌, Prelude.nat_lt, Prelude.is_none, Prelude.option_and_then}
 use Rattle.std.specs.{List.list_all, Option.option_map, Option.option_or}
-use Rattle.csicodec_keys.specs.Tables.{controls, csi_keys, kitty_keys, ss3_keys, linux_keys, other_keys, rxvt_keys, rxvt_ss3}
-use Rattle.csicodec_keys.specs.Forms.{alt_control, char_form, control_form, legacy_form, legacy_said, pressed, ss3_form, text_form, text_of, typed_or, typing, with_alt, by, char_number, key_alone, linux_form, numbered, read_form, other_form, other_key, other_number, read_listed, rxvt_form, rxvt_row, said_key, told_by}
+use Rattle.csicodec_keys.specs.Forms.{alt_control, as_form, char_form, legacy_form, legacy_said, pressed, row_form, text_form, text_of, typed_or, typing, with_alt, by, char_number, key_alone, numbered, read_form, other_form, other_key, other_number, read_listed, rxvt_form, said_key, told_by}
 use Rattle.csicodec_keys.specs.{declared.code.KeyCode.KeyCode, declared.key.KeyEvent.KeyEvent, Fields.is_plain, Fields.Says, Fields.written_list}
-use Rattle.csicodec_keys.specs.{declared.tables.Row.Row, declared.writing.KeySpelling.KeySpelling, Characters.is_alt, Characters.is_typed, Keys.Stroke}
-use Rattle.csicodec_keys.specs.{Rows.row_at, Rows.row_of, SameKeys.same_code, Win32.read_win32}
-use Rattle.csicodec_keys.proofs.EachTable.{alt_back, as_csi, as_linux, as_ss3, as_text, comes_back, controls-alt, controls-back, csi-back, csi-read, is_char, is_csi, is_key, is_no_text, is_other, is_pressed, is_read, is_short, linux-back, other-read, rxvt-back, rxvt-ss3-back, ss3-back}
+use Rattle.csicodec_keys.specs.{declared.rows.Table.Table, Tables.rows, declared.tables.Row.Row, declared.writing.KeySpelling.KeySpelling, Characters.is_alt}
+use Rattle.csicodec_keys.specs.{Characters.is_typed, Keys.Stroke, Rows.row_at, Rows.row_of, SameKeys.same_code, Win32.read_win32}
+use Rattle.csicodec_keys.proofs.EachTable.{all-back, alt_back, comes_back, controls-alt, csi-read, is_alone, is_char, is_csi, is_key, is_no_text, is_other, is_pressed, is_read, is_short, other-read}
 use Rattle.csicodec_keys.proofs.{AnyTable.is_same, AnyTable.of-rows, AnyTable.same-row, Options.allowed, Options.either, Options.made, Options.none-is}
 use Rattle.csicodec_keys.proofs.{Options.three, Options.unless, Sound.Fine, Sound.alt-free, Sound.alt-typed, Sound.is_sound, Sound.typed-text}
 use Rattle.csicodec_keys.proofs.{Sound.typed-scalar, Lists.list-read, Lists.plain-parts, Kitty.first-read, Kitty.row-with, SameKeys.same-code}
@@ -17,6 +16,7 @@ use lib.Utf8.{scalar}
 use Rattle.csicodec_keys.specs.declared.code.KeyCode.TheVariants as code
 use Rattle.csicodec_keys.specs.declared.key.Encoding.TheVariants as encoding
 use Rattle.csicodec_keys.specs.declared.key.KeyEvent.TheVariants as event
+use Rattle.csicodec_keys.specs.declared.rows.Table.TheVariants as table
 use Rattle.csicodec_keys.specs.declared.writing.KeySpelling.TheVariants as form
 
 -- ---- rows of a key alone
@@ -43,12 +43,15 @@ form-fine f k held text h =
     record { read = short-read f text p.1 ∙ press-is k held (read_form f []) p.2; sound = p.0 }
 
 -- what is said of the key of a row is a press of it
-row-fine : (g : Row → KeySpelling) (rows : List Row) (k : KeyCode) (held : ℕ) (text : List ℕ) (s : Stroke) (f : KeySpelling) → list_all (comes_back g) rows ≡ true
-    → ((is_char k && nat_lt held 2) ≡ false → s ≡ pressed k held) → option_map g (row_of rows k held) ≡ Some f → Fine text s f
-row-fine g rows k held text s f all said e =
-    of-rows (comes_back g) (λ c n x. ((is_char c && nat_lt n 2) ≡ false → s ≡ pressed c n) → Fine text s x) g rows k held f all (λ r h said.
-    let p = and_parts (is_no_text r) (is_key r.code r.held (g r)) h in
-    rw (said (not-true (is_char r.code && nat_lt r.held 2) p.0)) (form-fine (g r) r.code r.held text p.1)) e said
+pub row-fine : (t : Table) (k : KeyCode) (held : ℕ) (text : List ℕ) (s : Stroke) (f : KeySpelling)
+    → is_alone t ≡ true → ((is_char k && nat_lt held 2) ≡ false → s ≡ pressed k held)
+    → row_form t k held ≡ Some f → Fine text s f
+row-fine t k held text s f alone said e =
+    of-rows (comes_back t) (λ c n x. ((is_char c && nat_lt n 2) ≡ false → s ≡ pressed c n) → Fine text s x)
+    (as_form t) t k held f (all-back t alone) (λ r h said.
+    let p = and_parts (is_no_text r) (is_key r.code r.held (as_form t r)) h in
+    rw (said (not-true (is_char r.code && nat_lt r.held 2) p.0))
+    (form-fine (as_form t r) r.code r.held text p.1)) e said
 
 -- ---- xterm
 
@@ -65,9 +68,9 @@ two-held c held text h = said-pressed c held text (let high : nat_lt held 2 ≡ 
 
 alt-fine : (c : KeyCode) (held : ℕ) (text : List ℕ) (f : KeySpelling) → held < 8 → alt_control c held ≡ Some f → Fine text (legacy_said c held text) f
 alt-fine c held text f high e =
-    let u = unless (nat_lt held 2) (option_map (λ (r : Row). form.Alt r.control) (row_of controls c (held - 2))) f e in
+    let u = unless (nat_lt held 2) (option_map (λ (r : Row). form.Alt r.control) (row_of (rows table.Control) c (held - 2))) f e in
     let low : 2 ≤ held = ltb-false held 2 u.0 in
-    of-rows alt_back (λ k n x. n ≡ held - 2 → Fine text (legacy_said k held text) x) (λ (r : Row). form.Alt r.control) controls c (held - 2) f controls-alt (λ r h n.
+    of-rows alt_back (λ k n x. n ≡ held - 2 → Fine text (legacy_said k held text) x) (λ (r : Row). form.Alt r.control) table.Control c (held - 2) f controls-alt (λ r h n.
     rw (two-held r.code held text low) (subst (λ m. Fine text (pressed r.code m) (form.Alt r.control)) (with-alt held r.held low high n) (form-fine (form.Alt r.control) r.code (with_alt r.held) text h))) u.1 refl
 
 -- text is what a key types
@@ -93,9 +96,9 @@ char-fine code.Escape held text f e =
 char-fine _ held text f e = cc
 
 -- a row whose modifiers are in its list
-listed-fine : (c : KeyCode) (held : ℕ) (text : List ℕ) (f : KeySpelling) → held < 8 → option_map (λ (r : Row). form.Csi r.number held r.control) (row_of csi_keys c 0) ≡ Some f
+listed-fine : (c : KeyCode) (held : ℕ) (text : List ℕ) (f : KeySpelling) → held < 8 → option_map (λ (r : Row). form.Csi r.number held r.control) (row_of (rows table.Csi) c 0) ≡ Some f
     → Fine text (legacy_said c held text) f
-listed-fine c held text f low e = of-rows is_csi (λ k n x. n ≡ 0 → Fine text (legacy_said k held text) x) (λ (r : Row). form.Csi r.number held r.control) csi_keys c 0 f csi-read (λ r h none.
+listed-fine c held text f low e = of-rows is_csi (λ k n x. n ≡ 0 → Fine text (legacy_said k held text) x) (λ (r : Row). form.Csi r.number held r.control) table.Csi c 0 f csi-read (λ r h none.
     let p = and_parts (not (is_char r.code)) (is_read r) h in
     let w = row-with r (pressed r.code held) (record { held = omega (arith, low); text = refl; short = omega arith }) p.1 none in
     rw (said-pressed r.code held text (and_left (is_char r.code) (nat_lt held 2) (not-true (is_char r.code) p.0))) (record { read = w.read; sound = w.sound })) e refl
@@ -105,23 +108,26 @@ legacy-fine s held f h e =
     let c = s.code in
     let said = legacy_said c held s.text in
     let P = Fine s.text said f in
-    either P (control_form c held) _ f e (row-fine as_text controls c held s.text said f controls-back (said-pressed c held s.text))
+    let row = λ (t : Table) (alone : is_alone t ≡ true).
+    row-fine t c held s.text said f alone (said-pressed c held s.text) in
+    either P (row_form table.Control c held) _ f e (row table.Control refl)
     (λ e. either P (alt_control c held) _ f e (alt-fine c held s.text f h)
-    (λ e. either P (ss3_form c held) _ f e (row-fine as_ss3 ss3_keys c held s.text said f ss3-back (said-pressed c held s.text))
+    (λ e. either P (row_form table.Ss3 c held) _ f e (row table.Ss3 refl)
     (λ e. either P (char_form c held s.text) _ f e (char-fine c held s.text f)
-    (λ e. either P (option_map as_csi (row_of csi_keys c held)) _ f e (row-fine as_csi csi_keys c held s.text said f csi-back (said-pressed c held s.text))
+    (λ e. either P (row_form table.Csi c held) _ f e (row table.Csi refl)
     (listed-fine c held s.text f h)))))
 
 -- ---- rxvt and Linux' console
 
-pub linux-fine : (k : KeyCode) (held : ℕ) (text : List ℕ) (f : KeySpelling) → linux_form k held ≡ Some f → Fine text (pressed k held) f
-linux-fine k held text f e = row-fine as_linux linux_keys k held text (pressed k held) f linux-back (λ _. refl) e
+pub linux-fine : (k : KeyCode) (held : ℕ) (text : List ℕ) (f : KeySpelling)
+    → row_form table.Linux k held ≡ Some f → Fine text (pressed k held) f
+linux-fine k held text f = row-fine table.Linux k held text (pressed k held) f refl (λ _. refl)
 
 pub rxvt-fine : (k : KeyCode) (held : ℕ) (text : List ℕ) (f : KeySpelling) → rxvt_form k held ≡ Some f → Fine text (pressed k held) f
 rxvt-fine k held text f e =
     let s = pressed k held in
-    either (Fine text s f) (option_map rxvt_row (row_of rxvt_keys k held)) _ f e (row-fine rxvt_row rxvt_keys k held text s f rxvt-back (λ _. refl))
-    (row-fine as_ss3 rxvt_ss3 k held text s f rxvt-ss3-back (λ _. refl))
+    either (Fine text s f) (row_form table.Rxvt k held) _ f e (row-fine table.Rxvt k held text s f refl (λ _. refl))
+    (row-fine table.RxvtSs3 k held text s f refl (λ _. refl))
 
 -- ---- modifyOtherKeys
 
@@ -130,21 +136,21 @@ record Numbered (k : KeyCode) (n : ℕ) : Type 0 where
   character : scalar n ≡ true
 
 char-numbered : (k : KeyCode) (n : ℕ) → char_number k ≡ Some n → Numbered k n
-char-numbered (code.Char c) n e = allowed (Numbered (code.Char c)) (is_typed c && is_none (row_at other_keys c 126)) c n e (λ h.
-    let p = and_parts (is_typed c) (is_none (row_at other_keys c 126)) h in
-    record { is = rw (none-is (row_at other_keys c 126) p.1, p.0) refl; character = typed-scalar c p.0 })
+char-numbered (code.Char c) n e = allowed (Numbered (code.Char c)) (is_typed c && is_none (row_at (rows table.Other) c 126)) c n e (λ h.
+    let p = and_parts (is_typed c) (is_none (row_at (rows table.Other) c 126)) h in
+    record { is = rw (none-is (row_at (rows table.Other) c 126) p.1, p.0) refl; character = typed-scalar c p.0 })
 char-numbered _ n e = cc
 
 other-numbered : (k : KeyCode) (n : ℕ) → other_number k ≡ Some n → Numbered k n
-other-numbered k n e = either (Numbered k n) (option_map (λ (r : Row). r.number) (row_of other_keys k 0)) (char_number k) n e
-    (of-rows is_other (λ c _. Numbered c) (λ (r : Row). r.number) other_keys k 0 n other-read (λ r h.
-    let p = and_parts (scalar r.number) (is_same (row_at other_keys r.number 126) r) h in
-    let (q, at, code, held) = same-row (row_at other_keys r.number 126) r p.1 in
+other-numbered k n e = either (Numbered k n) (option_map (λ (r : Row). r.number) (row_of (rows table.Other) k 0)) (char_number k) n e
+    (of-rows is_other (λ c _. Numbered c) (λ (r : Row). r.number) table.Other k 0 n other-read (λ r h.
+    let p = and_parts (scalar r.number) (is_same (row_at (rows table.Other) r.number 126) r) h in
+    let (q, at, code, held) = same-row (row_at (rows table.Other) r.number 126) r p.1 in
     record { is = rw at (ap Some code); character = p.0 })) (char-numbered k n)
 
 -- no row has 27 before `~`
 none-said : (held : ℕ) (text : List ℕ) → said_key (record { number = 27; held = held; event = event.Press; text = text }) 126 ≡ None
-unfolding row_at kitty_keys csi_keys rxvt_keys
+unfolding row_at rows
 none-said held text = refl
 
 pub other-fine : (k : KeyCode) (held : ℕ) (text : List ℕ) (f : KeySpelling) → held < 8 → other_form k held ≡ Some f → Fine text (pressed k held) f

@@ -7,16 +7,17 @@ use Rattle.std.specs.{Option.option_map, Option.option_or}
 use Rattle.csicodec_keys.specs.Win32.{char_record, control_unit, ctrl_unit, down_of, held_in, is_enhanced, key_record, read_record, read_win32, record_list, record_of, row_record, state_of, typed_key, typed_unit, unit_of, unit_text, win32_code, win32_key, win32_row}
 use Rattle.csicodec_keys.specs.{declared.code.KeyCode.KeyCode, declared.key.Encoding.Encoding, declared.key.KeyEvent.KeyEvent, declared.tables.Row.Row}
 use Rattle.csicodec_keys.specs.{declared.win32.Record.Record, Characters.is_typed, Fields.Says, Fields.read_list, Forms.by, Forms.key_alone, Forms.other_key}
-use Rattle.csicodec_keys.specs.{Forms.read_csi, Forms.said, Forms.said_key, Forms.told_by, Keys.Stroke, Rows.row_at, Rows.row_of, Tables.win32_keys}
+use Rattle.csicodec_keys.specs.{Forms.read_csi, Forms.said, Forms.said_key, Forms.told_by, Keys.Stroke, Rows.row_at, Rows.row_of, Tables.rows}
 use Rattle.csicodec_keys.proofs.{AnyTable.of-rows, AnyTable.same-row, EachTable.is_win32, EachTable.win32-read, Sound.Fine, Sound.is_small, Options.allowed}
 use Rattle.csicodec_keys.proofs.{Options.four, Options.guarded, Options.made}
 use Rattle.csicodec_keys.specs.declared.code.KeyCode.TheVariants as code
 use Rattle.csicodec_keys.specs.declared.key.Encoding.TheVariants as encoding
+use Rattle.csicodec_keys.specs.declared.rows.Table.TheVariants as table
 use Rattle.csicodec_keys.specs.declared.writing.KeySpelling.TheVariants as form
 
 -- no row has virtual key 0
 no-row : (b : Bool) → win32_row 0 b ≡ None
-unfolding row_at win32_keys
+unfolding row_at rows
 no-row true = refl
 no-row false = refl
 
@@ -90,9 +91,9 @@ state-low held = omega arith
 
 -- ---- the key of a row
 
-row-coded : (k : KeyCode) (r : Row) (c : Option ℕ) → row_of win32_keys k 0 ≡ Some r → win32_code (win32_row (r.number % 256) (r.number / 256 % 2 == 1)) c ≡ Some k
+row-coded : (k : KeyCode) (r : Row) (c : Option ℕ) → row_of (rows table.Win32) k 0 ≡ Some r → win32_code (win32_row (r.number % 256) (r.number / 256 % 2 == 1)) c ≡ Some k
 row-coded k r c is =
-    of-rows is_win32 (λ j _ x. win32_code (win32_row (x.number % 256) (x.number / 256 % 2 == 1)) c ≡ Some j) (λ (x : Row). x) win32_keys k 0 r win32-read (λ q h.
+    of-rows is_win32 (λ j _ x. win32_code (win32_row (x.number % 256) (x.number / 256 % 2 == 1)) c ≡ Some j) (λ (x : Row). x) table.Win32 k 0 r win32-read (λ q h.
     let (p, at, code, held) = same-row (win32_row (q.number % 256) (q.number / 256 % 2 == 1)) q h in rw at (ap Some code)) (ap (option_map (λ (x : Row). x)) is)
 
 said-same : (s : Stroke) (cs : ℕ) (c : Option ℕ) → held_in cs ≡ s.held → unit_text c ≡ s.text → typed_key cs (down_of s.event) c s.code ≡ said encoding.Win32 s
@@ -117,7 +118,7 @@ told-fine s vk uc enhanced low none key unit two coded text =
       sound = small;
     }
 
-row-fine : (s : Stroke) (r : Row) (uc : ℕ) → s.held < 256 → s.held / 8 % 8 ≡ 0 → row_of win32_keys s.code 0 ≡ Some r → unit_of s.code s.held s.text ≡ Some uc
+row-fine : (s : Stroke) (r : Row) (uc : ℕ) → s.held < 256 → s.held / 8 % 8 ≡ 0 → row_of (rows table.Win32) s.code 0 ≡ Some r → unit_of s.code s.held s.text ≡ Some uc
     → Fine s.text (said encoding.Win32 s) (form.Win32 (row_record r.number (down_of s.event) (state_of s.held) uc))
 row-fine s r uc low none is unit =
     let types = unit-types s.code s.held uc s.text unit in
@@ -146,10 +147,10 @@ char-fine s _ text r low none same is e = cc
 
 pub record-fine : (s : Stroke) (r : Record) → s.held < 256 → record_of s ≡ Some r → Fine s.text (said encoding.Win32 s) (form.Win32 r)
 record-fine s r low e =
-    let g = guarded (s.held / 8 % 8 == 0) (key_record (row_of win32_keys s.code 0) s (down_of s.event)) r e in
-    by_row (eqb-true (s.held / 8 % 8) 0 g.0) (row_of win32_keys s.code 0) refl g.1
+    let g = guarded (s.held / 8 % 8 == 0) (key_record (row_of (rows table.Win32) s.code 0) s (down_of s.event)) r e in
+    by_row (eqb-true (s.held / 8 % 8) 0 g.0) (row_of (rows table.Win32) s.code 0) refl g.1
   where
-    by_row : s.held / 8 % 8 ≡ 0 → (o : Option Row) → row_of win32_keys s.code 0 ≡ o → key_record o s (down_of s.event) ≡ Some r → Fine s.text (said encoding.Win32 s) (form.Win32 r)
+    by_row : s.held / 8 % 8 ≡ 0 → (o : Option Row) → row_of (rows table.Win32) s.code 0 ≡ o → key_record o s (down_of s.event) ≡ Some r → Fine s.text (said encoding.Win32 s) (form.Win32 r)
     by_row none (Some row) at made_of =
         made (λ x. Fine s.text (said encoding.Win32 s) (form.Win32 x)) (row_record row.number (down_of s.event) (state_of s.held)) (unit_of s.code s.held s.text) r made_of
         (λ uc is. row-fine s row uc low none at is)

@@ -2,7 +2,7 @@
 use Rattle.std.proofs.Common.{◌≡◌, ℕ, ◌%◌, ◌<◌, Option, None, Some, inl, inr, arith, List, [], ◌∷◌, ◌++◌, refl, sym, subst}
 use Rattle.std.proofs.{lemmas.Bool.cases_Bool, lemmas.Bool.and_from, lemmas.Bool.and_parts, lemmas.Bool.ltb-true, lemmas.Str.encode_ascii}
 use Rattle.std.specs.{Prelude.true, Prelude.nat_lt, Prelude.encode_utf8, Prelude.option_and_then, Fmt.decimal}
-use Rattle.csicodec_keys.specs.Forms.{but_release, form_of, legacy_form, linux_form, other_form, rxvt_form, said, xterm_form, xterm_held, form_bytes}
+use Rattle.csicodec_keys.specs.Forms.{but_release, form_of, legacy_form, other_form, row_form, rxvt_form, said, xterm_form, xterm_held, form_bytes}
 use Rattle.csicodec_keys.specs.{declared.key.Encoding.Encoding, declared.key.KeyEvent.KeyEvent, declared.writing.KeySpelling.KeySpelling, Keys.Stroke}
 use Rattle.csicodec_keys.specs.{Keys.is_stroke, Win32.record_of, Win32.record_list, Fields.written_list, Sent.IsFront, Sent.IsToldAs}
 use Rattle.csicodec_keys.proofs.{Kitty.in-range, Kitty.kitty-fine, Legacy.legacy-fine, Legacy.linux-fine, Legacy.other-fine, Legacy.rxvt-fine, Options.made}
@@ -13,6 +13,7 @@ use lib.Utf8.{scalar, scalars}
 use Rattle.csicodec_tokens.specs.Param.{spells}
 use Rattle.csicodec_keys.specs.declared.key.Encoding.TheVariants as encoding
 use Rattle.csicodec_keys.specs.declared.key.KeyEvent.TheVariants as event
+use Rattle.csicodec_keys.specs.declared.rows.Table.TheVariants as table
 use Rattle.csicodec_keys.specs.declared.writing.KeySpelling.TheVariants as form
 use Rattle.csicodec_events.specs.declared.input.InputEvent.TheVariants as sent
 use Rattle.csicodec_events.specs.declared.event.Event.TheVariants as output
@@ -39,7 +40,7 @@ trip encoding.ModifyOtherKeys s f h e = eight s f (other_form s.code) (Fine s.te
 trip encoding.Kitty s f h e = kitty-fine s f (in-range s h) e
 trip encoding.Win32 s f h e = made (Fine s.text (said encoding.Win32 s)) (λ r. form.Win32 r) (record_of s) f e (λ r is. record-fine s r (in-range s h).held is)
 trip encoding.Rxvt s f h e = eight s f (rxvt_form s.code) (Fine s.text (said encoding.Rxvt s) f) (λ low made. rxvt-fine s.code (s.held % 8) s.text f made) e
-trip encoding.Linux s f h e = eight s f (linux_form s.code) (Fine s.text (said encoding.Linux s) f) (λ low made. linux-fine s.code (s.held % 8) s.text f made) e
+trip encoding.Linux s f h e = eight s f (row_form table.Linux s.code) (Fine s.text (said encoding.Linux s) f) (λ low made. linux-fine s.code (s.held % 8) s.text f made) e
 
 -- ---- told
 

@@ -4,16 +4,16 @@ use Rattle.std.specs.{List.list_all, Option.is_some, Option.option_map, Option.o
 use Rattle.csicodec_tokens.specs.{declared.param.CsiParam.CsiParam, declared.param.CsiParam.TheVariants.Integer, declared.param.CsiParam.TheVariants.P}
 use Rattle.csicodec_tokens.specs.{Param.spells}
 use Rattle.csicodec_events.specs.declared.input.InputEvent.{InputEvent}
-use Rattle.csicodec_keys.specs.Tables.{controls, csi_keys, kitty_keys, linux_keys, other_keys, rxvt_keys, rxvt_ss3, ss3_cursor, ss3_keys}
 use Rattle.csicodec_keys.specs.{declared.code.KeyCode.KeyCode, declared.key.Encoding.Encoding, declared.key.KeyEvent.KeyEvent, declared.tables.Row.Row}
 use Rattle.csicodec_keys.specs.{Win32.down_of, Win32.read_win32, Win32.record_list, Win32.record_of, Win32.went, declared.writing.KeySpelling.KeySpelling}
 use Rattle.csicodec_keys.specs.{Characters.is_alt, Characters.is_typed, Fields.Says, Fields.is_empty, Fields.read_list, Fields.written_list, Keys.Stroke}
-use Rattle.csicodec_keys.specs.{Keys.is_press, Keys.is_release, Rows.row_at, Rows.row_of}
+use Rattle.csicodec_keys.specs.{Keys.is_press, Keys.is_release, Rows.row_at, Rows.row_of, declared.rows.Table.Table, Tables.rows}
 use Rattle.csicodec_events.specs.declared.event.Event.TheVariants as told
 use Rattle.csicodec_events.specs.declared.input.InputEvent.TheVariants as sent
 use Rattle.csicodec_keys.specs.declared.code.KeyCode.TheVariants as code
 use Rattle.csicodec_keys.specs.declared.key.Encoding.TheVariants as encoding
 use Rattle.csicodec_keys.specs.declared.key.KeyEvent.TheVariants as event
+use Rattle.csicodec_keys.specs.declared.rows.Table.TheVariants as table
 use Rattle.csicodec_keys.specs.declared.writing.KeySpelling.TheVariants as form
 
 -- a press of a key that types nothing
@@ -35,25 +35,25 @@ with_alt held = if nat_lt held 128 then held + 2 else held
 
 -- a character of text, or a control
 abbrev pub read_char : ℕ → Option Stroke
-read_char c = if is_typed c then Some (typing c) else option_map pressed_row (row_at controls 0 c)
+read_char c = if is_typed c then Some (typing c) else option_map pressed_row (row_at (rows table.Control) 0 c)
 
 -- a character behind ESC
 abbrev pub read_alt : ℕ → Option Stroke
 read_alt c =
     if is_typed c then Some (pressed (code.Char c) 2)
-    else option_map (λ (r : Row). pressed r.code (with_alt r.held)) (row_at controls 0 c)
+    else option_map (λ (r : Row). pressed r.code (with_alt r.held)) (row_at (rows table.Control) 0 c)
 
 -- a character behind SS3
 abbrev pub read_ss3 : ℕ → Option Stroke
 read_ss3 c =
     option_map pressed_row
-    (option_or (row_at ss3_keys 0 c) (option_or (row_at ss3_cursor 0 c) (row_at rxvt_ss3 0 c)))
+    (option_or (row_at (rows table.Ss3) 0 c) (option_or (row_at (rows table.Ss3Cursor) 0 c) (row_at (rows table.RxvtSs3) 0 c)))
 
 -- the row of a number and a final character
 abbrev pub csi_row : ℕ → ℕ → Option Row
 csi_row number control =
-    option_or (row_at kitty_keys number control)
-    (option_or (row_at csi_keys number control) (row_at rxvt_keys number control))
+    option_or (row_at (rows table.Kitty) number control)
+    (option_or (row_at (rows table.Csi) number control) (row_at (rows table.Rxvt) number control))
 
 -- modifiers stand in the form or in the list
 abbrev pub held_by : ℕ → ℕ → Option ℕ
@@ -83,7 +83,7 @@ said_key says control = key_by says control (csi_row says.number control)
 -- the key of a number
 abbrev pub numbered : ℕ → Option KeyCode
 numbered n =
-    option_or (option_map (λ (r : Row). r.code) (row_at other_keys n 126))
+    option_or (option_map (λ (r : Row). r.code) (row_at (rows table.Other) n 126))
     (if is_typed n then Some (code.Char n) else None)
 
 -- 27 before `~`, and the number of a character in the place of a text (modifyOtherKeys)
@@ -132,26 +132,31 @@ read_event (sent.Output told.Esc) list = None
 read_event (sent.Output told.Str) list = None
 read_event (sent.Output told.Other) list = None
 read_event (sent.Ss3 b) list = by (ss3_by b) (read_ss3 b)
-read_event (sent.Linux b) list = by encoding.Linux (option_map pressed_row (row_at linux_keys 0 b))
-read_event (sent.Rxvt n) list = by encoding.Rxvt (option_map pressed_row (row_at rxvt_keys n 36))
+read_event (sent.Linux b) list = by encoding.Linux (option_map pressed_row (row_at (rows table.Linux) 0 b))
+read_event (sent.Rxvt n) list = by encoding.Rxvt (option_map pressed_row (row_at (rows table.Rxvt) n 36))
 read_event sent.Mouse list = None
 read_event (sent.Alt b) list = by encoding.Legacy (read_alt b)
 read_event sent.Escape list = by encoding.Legacy (Some (pressed code.Escape 0))
 
 -- ---- what is written
 
--- the control of a key with what is held down
-abbrev pub control_form : KeyCode → ℕ → Option KeySpelling
-control_form k held = option_map (λ (r : Row). form.Text r.control) (row_of controls k held)
+-- how a row of a table stands in a stream, with nothing said beside it; rxvt's `$` is no final character
+abbrev pub as_form : Table → Row → KeySpelling
+as_form table.Control r = form.Text r.control
+as_form table.Linux r = form.Linux r.control
+as_form table.Rxvt r = if r.control == 36 then form.Rxvt r.number else form.Csi r.number 0 r.control
+as_form table.Csi r = form.Csi r.number 0 r.control
+as_form _ r = form.Ss3 r.control
 
--- the same behind ESC, where alt is held down too
+-- the form of a key that has a row there, with what is held down
+abbrev pub row_form : Table → KeyCode → ℕ → Option KeySpelling
+row_form t k held = option_map (as_form t) (row_of (rows t) k held)
+
+-- a control behind ESC, where alt is held down too
 abbrev pub alt_control : KeyCode → ℕ → Option KeySpelling
 alt_control k held =
     if nat_lt held 2 then None
-    else option_map (λ (r : Row). form.Alt r.control) (row_of controls k (held - 2))
-
-abbrev pub ss3_form : KeyCode → ℕ → Option KeySpelling
-ss3_form k held = option_map (λ (r : Row). form.Ss3 r.control) (row_of ss3_keys k held)
+    else option_map (λ (r : Row). form.Alt r.control) (row_of (rows table.Control) k (held - 2))
 
 -- what a key of a character types: what it says, if that is one character, or the character itself where shift isn't held down
 abbrev pub text_of : ℕ → ℕ → List ℕ → Option ℕ
@@ -172,15 +177,14 @@ char_form _ held text = None
 
 -- a row whose modifiers are its own, or one with modifiers in its list
 abbrev pub csi_form : KeyCode → ℕ → Option KeySpelling
-csi_form k held = option_or
-    (option_map (λ (r : Row). form.Csi r.number 0 r.control) (row_of csi_keys k held))
-    (option_map (λ (r : Row). form.Csi r.number held r.control) (row_of csi_keys k 0))
+csi_form k held = option_or (row_form table.Csi k held)
+    (option_map (λ (r : Row). form.Csi r.number held r.control) (row_of (rows table.Csi) k 0))
 
 abbrev pub legacy_form : Stroke → ℕ → Option KeySpelling
 legacy_form s held =
-    option_or (control_form s.code held)
+    option_or (row_form table.Control s.code held)
     (option_or (alt_control s.code held)
-    (option_or (ss3_form s.code held)
+    (option_or (row_form table.Ss3 s.code held)
     (option_or (char_form s.code held s.text) (csi_form s.code held))))
 
 -- shift, alt and ctrl, of which xterm's encoding knows; the locks aren't said, and a key with others held down has no form
@@ -198,29 +202,20 @@ kitty_row s r = form.Typed r.number s.held s.event r.control
 
 -- a character that no row has
 abbrev pub char_number : KeyCode → Option ℕ
-char_number (code.Char c) = if is_typed c && is_none (row_at other_keys c 126) then Some c else None
+char_number (code.Char c) = if is_typed c && is_none (row_at (rows table.Other) c 126) then Some c else None
 char_number _ = None
 
 -- the number of a key, or of its character
 abbrev pub other_number : KeyCode → Option ℕ
 other_number k =
-    option_or (option_map (λ (r : Row). r.number) (row_of other_keys k 0)) (char_number k)
+    option_or (option_map (λ (r : Row). r.number) (row_of (rows table.Other) k 0)) (char_number k)
 
 abbrev pub other_form : KeyCode → ℕ → Option KeySpelling
 other_form k held =
     if held == 0 then None else option_map (λ n. form.Other n held) (other_number k)
 
--- rxvt's `$` is no final character
-abbrev pub rxvt_row : Row → KeySpelling
-rxvt_row r = if r.control == 36 then form.Rxvt r.number else form.Csi r.number 0 r.control
-
 abbrev pub rxvt_form : KeyCode → ℕ → Option KeySpelling
-rxvt_form k held =
-    option_or (option_map rxvt_row (row_of rxvt_keys k held))
-    (option_map (λ (r : Row). form.Ss3 r.control) (row_of rxvt_ss3 k held))
-
-abbrev pub linux_form : KeyCode → ℕ → Option KeySpelling
-linux_form k held = option_map (λ (r : Row). form.Linux r.control) (row_of linux_keys k held)
+rxvt_form k held = option_or (row_form table.Rxvt k held) (row_form table.RxvtSs3 k held)
 
 -- what is said of a press and of a repeat alone
 abbrev pub but_release : KeyEvent → Option KeySpelling → Option KeySpelling
@@ -235,18 +230,18 @@ abbrev pub form_of : Encoding → Stroke → Option KeySpelling
 form_of encoding.Legacy s = xterm_form s (legacy_form s)
 form_of encoding.ModifyOtherKeys s = xterm_form s (other_form s.code)
 form_of encoding.Kitty s =
-    option_or (option_map (kitty_row s) (row_of kitty_keys s.code 0))
-    (option_or (option_map (kitty_row s) (row_of csi_keys s.code 0)) (kitty_char s s.code))
+    option_or (option_map (kitty_row s) (row_of (rows table.Kitty) s.code 0))
+    (option_or (option_map (kitty_row s) (row_of (rows table.Csi) s.code 0)) (kitty_char s s.code))
 form_of encoding.Win32 s = option_map (λ r. form.Win32 r) (record_of s)
 form_of encoding.Rxvt s = xterm_form s (rxvt_form s.code)
-form_of encoding.Linux s = xterm_form s (linux_form s.code)
+form_of encoding.Linux s = xterm_form s (row_form table.Linux s.code)
 
--- each key of these rows has a form in the encoding, with what its row says is held down, or with this held down
-abbrev pub are_written : Encoding → List Row → Bool
-are_written e rows = list_all (λ (r : Row). is_some (form_of e (pressed_row r))) rows
+-- each key of a table has a form in the encoding, with what its row says is held down, or with this held down
+abbrev pub are_written : Encoding → Table → Bool
+are_written e t = list_all (λ (r : Row). is_some (form_of e (pressed_row r))) (rows t)
 
-abbrev pub are_written_with : Encoding → ℕ → List Row → Bool
-are_written_with e held rows = list_all (λ (r : Row). is_some (form_of e (pressed r.code held))) rows
+abbrev pub are_written_with : Encoding → ℕ → Table → Bool
+are_written_with e held t = list_all (λ (r : Row). is_some (form_of e (pressed r.code held))) (rows t)
 
 -- ---- a form as an event and as bytes; `text` is what the key types
 

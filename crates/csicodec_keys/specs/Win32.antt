@@ -8,9 +8,10 @@ use Rattle.std.specs.Prelude.{ℕ, pos, ◌+◌, ◌-◌, ◌*◌, ◌/◌, ◌%
 use Rattle.std.specs.Option.{option_map, option_or}
 use Rattle.csicodec_tokens.specs.{declared.param.CsiParam.CsiParam, declared.param.CsiParam.TheVariants.Integer, declared.param.CsiParam.TheVariants.P}
 use Rattle.csicodec_keys.specs.{declared.code.KeyCode.KeyCode, declared.key.KeyEvent.KeyEvent, declared.tables.Row.Row, declared.win32.Record.Record}
-use Rattle.csicodec_keys.specs.{Characters.is_typed, Fields.number_of, Keys.Stroke, Keys.is_release, Rows.row_at, Rows.row_of, Tables.win32_keys}
+use Rattle.csicodec_keys.specs.{Characters.is_typed, Fields.number_of, Keys.Stroke, Keys.is_release, Rows.row_at, Rows.row_of, Tables.rows}
 use Rattle.csicodec_keys.specs.declared.code.KeyCode.TheVariants as code
 use Rattle.csicodec_keys.specs.declared.key.KeyEvent.TheVariants as event
+use Rattle.csicodec_keys.specs.declared.rows.Table.TheVariants as table
 
 -- ---- reading
 
@@ -64,7 +65,7 @@ unit_text (Some c) = c ∷ []
 abbrev pub win32_row : ℕ → Bool → Option Row
 win32_row vk enhanced =
     if nat_lt vk 256 then
-    option_or (if enhanced then row_at win32_keys (vk + 256) 95 else None) (row_at win32_keys vk 95)
+    option_or (if enhanced then row_at (rows table.Win32) (vk + 256) 95 else None) (row_at (rows table.Win32) vk 95)
     else None
 
 -- a key that has no row is the one of its character
@@ -145,7 +146,7 @@ down_of e = if is_release e then 0 else 1
 abbrev pub record_of : Stroke → Option Record
 record_of s =
     if s.held / 8 % 8 == 0 then
-    key_record (row_of win32_keys s.code 0) s (down_of s.event)
+    key_record (row_of (rows table.Win32) s.code 0) s (down_of s.event)
     else None
 
 abbrev pub record_list : Record → List CsiParam

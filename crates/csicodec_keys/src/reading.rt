@@ -7,10 +7,7 @@ use crate::code::KeyCode;
 use crate::fields::{KeyReport, read_list};
 use crate::key::{Encoding, Key, KeyEvent, Typed};
 use crate::modifiers::KeyModifiers;
-use crate::rows::{
-    controls, csi_keys, kitty_keys, linux_keys, other_keys, rxvt_keys, rxvt_ss3, ss3_cursor,
-    ss3_keys,
-};
+use crate::rows::Table;
 use crate::tables::{Row, row_at};
 use crate::win32::read_win32;
 use csicodec_events::{Event, InputEvent};
@@ -68,7 +65,7 @@ pub fn read_char(character: char) -> Option<Key>
     if is_typed(character) {
         return Some(typing(character));
     }
-    alone(row_at(controls(), 0, character))
+    alone(row_at(Table::Control.rows(), 0, character))
 }
 
 /// The key of a character behind ESC.
@@ -78,7 +75,7 @@ fn read_alt(character: char) -> Option<Key>
     if is_typed(character) {
         return Some(pressed(KeyCode::Char(character), 2));
     }
-    let row = row_at(controls(), 0, character)?;
+    let row = row_at(Table::Control.rows(), 0, character)?;
     Some(pressed(row.code, with_alt(row.held)))
 }
 
@@ -87,9 +84,9 @@ fn read_ss3(character: char) -> Option<Key>
     ensures { option_map stroke_of result ≡ read_ss3 character }
 {
     alone(
-        row_at(ss3_keys(), 0, character)
-            .or(row_at(ss3_cursor(), 0, character))
-            .or(row_at(rxvt_ss3(), 0, character)),
+        row_at(Table::Ss3.rows(), 0, character)
+            .or(row_at(Table::Ss3Cursor.rows(), 0, character))
+            .or(row_at(Table::RxvtSs3.rows(), 0, character)),
     )
 }
 
@@ -97,9 +94,9 @@ fn read_ss3(character: char) -> Option<Key>
 pub(crate) fn csi_row(number: u32, control: char) -> Option<Row>
     ensures { result ≡ csi_row number control }
 {
-    row_at(kitty_keys(), number, control)
-        .or(row_at(csi_keys(), number, control))
-        .or(row_at(rxvt_keys(), number, control))
+    row_at(Table::Kitty.rows(), number, control)
+        .or(row_at(Table::Csi.rows(), number, control))
+        .or(row_at(Table::Rxvt.rows(), number, control))
 }
 
 /// What is held down, by the form or by the list.
@@ -187,7 +184,7 @@ fn told_by(fields: &KeyReport, control: char) -> Encoding
 fn numbered(character: char) -> Option<KeyCode>
     ensures { result ≡ numbered character }
 {
-    if let Some(row) = row_at(other_keys(), character as u32, '~') {
+    if let Some(row) = row_at(Table::Other.rows(), character as u32, '~') {
         return Some(row.code);
     }
     is_typed(character).then_some(KeyCode::Char(character))
@@ -269,13 +266,13 @@ pub fn read(event: InputEvent, params: &[CsiParam]) -> Option<(Encoding, Key)>
         InputEvent::Linux(byte) => {
             by(
                 Encoding::Linux,
-                alone(row_at(linux_keys(), 0, char::from(byte))),
+                alone(row_at(Table::Linux.rows(), 0, char::from(byte))),
             )
         }
         InputEvent::Rxvt(number) => {
             by(
                 Encoding::Rxvt,
-                alone(row_at(rxvt_keys(), u32::from(number), '$')),
+                alone(row_at(Table::Rxvt.rows(), u32::from(number), '$')),
             )
         }
         InputEvent::Mouse => None,

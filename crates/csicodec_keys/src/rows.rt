@@ -1,10 +1,35 @@
 // Written by tools/table from table/keys.toml: change that, and run python3 tools/table.
 //! The tables: which number and which final character stand for a key.
 ghost use Rattle.std.specs.Prelude.{◌≡◌};
-ghost use Rattle.csicodec_keys.specs.Tables.{controls, csi_keys, kitty_keys, linux_keys, other_keys, rxvt_keys, rxvt_ss3, ss3_cursor, ss3_keys, win32_keys};
+ghost use Rattle.csicodec_keys.specs.Tables.{rows};
 
 use crate::code::KeyCode;
 use crate::tables::Row;
+
+/// A table of keys.
+#[derive(Clone, Copy)]
+pub(crate) enum Table {
+    /// C0 controls and DEL (xterm, as a keyboard of ASCII sends them; ctrl takes 64 off).
+    Control,
+    /// Behind SS3: F1 to F4, and the keypad in its application mode (xterm ctlseqs, PC-Style and VT220-Style Function Keys).
+    Ss3,
+    /// Behind SS3: the cursor keys in their application mode (xterm ctlseqs, Cursor Keys), which are written as control sequences.
+    Ss3Cursor,
+    /// Control sequences that xterm and kitty share (xterm ctlseqs, PC-Style Function Keys; kitty, Legacy functional keys).
+    Csi,
+    /// Numbers before `u` (kitty, Functional key definitions).
+    Kitty,
+    /// Numbers behind `27 ;` and the modifiers, before `~` (xterm ctlseqs, Alt and Meta Keys).
+    Other,
+    /// rxvt's own, before `~`, `$` with shift, `^` with ctrl and `@` with both, and its arrows with shift (rxvt, Key codes).
+    Rxvt,
+    /// rxvt's arrows with ctrl, behind SS3 (rxvt, Key codes).
+    RxvtSs3,
+    /// Behind `CSI [`: F1 to F5 of Linux' console (console_codes(4)).
+    Linux,
+    /// Virtual keys before `_` in Win32-input-mode (Microsoft, Virtual-Key Codes), 256 more for an enhanced key (KEY_EVENT_RECORD).
+    Win32,
+}
 
 /// Keys by their number: those of one final character together, with what is held down.
 macro_rules! by_number {
@@ -27,8 +52,7 @@ macro_rules! finals {
     };
 }
 
-/// C0 controls and DEL (xterm, as a keyboard of ASCII sends them; ctrl takes 64 off).
-static CONTROLS: [Row; 32] = by_character! {
+static CONTROL: [Row; 32] = by_character! {
     0, 0: Enter '\r', Tab '\t', Backspace '\x7f';
     0, 4: Char(' ') '\0', Char('a') '\x01', Char('b') '\x02', Char('c') '\x03', Char('d') '\x04',
         Char('e') '\x05', Char('f') '\x06', Char('g') '\x07', Char('h') '\x08', Char('j') '\n',
@@ -38,42 +62,18 @@ static CONTROLS: [Row; 32] = by_character! {
         Char('\\') '\x1c', Char(']') '\x1d', Char('^') '\x1e', Char('_') '\x1f';
 };
 
-#[tactic(auto, unfolding(crate::specs::Tables::controls))]
-pub(crate) fn controls<'a>() -> &'a [Row]
-    ensures { result.now ≡ controls }
-{
-    &CONTROLS
-}
-
-/// Behind SS3: F1 to F4, and the keypad in its application mode (xterm ctlseqs, PC-Style and VT220-Style Function Keys).
-static SS3_KEYS: [Row; 24] = by_character! {
+static SS3: [Row; 24] = by_character! {
     0, 0: Keypad0 'p', Keypad1 'q', Keypad2 'r', Keypad3 's', Keypad4 't', Keypad5 'u', Keypad6 'v',
         Keypad7 'w', Keypad8 'x', Keypad9 'y', KeypadDecimal 'n', KeypadDivide 'o', KeypadMultiply 'j',
         KeypadSubtract 'm', KeypadAdd 'k', KeypadEnter 'M', KeypadEqual 'X', KeypadSeparator 'l',
         KeypadTab 'I', KeypadSpace ' ', F(1) 'P', F(2) 'Q', F(3) 'R', F(4) 'S';
 };
 
-#[tactic(auto, unfolding(crate::specs::Tables::ss3_keys))]
-pub(crate) fn ss3_keys<'a>() -> &'a [Row]
-    ensures { result.now ≡ ss3_keys }
-{
-    &SS3_KEYS
-}
-
-/// Behind SS3: the cursor keys in their application mode (xterm ctlseqs, Cursor Keys), which are written as control sequences.
 static SS3_CURSOR: [Row; 7] = by_character! {
     0, 0: Left 'D', Right 'C', Up 'A', Down 'B', Home 'H', End 'F', KeypadBegin 'E';
 };
 
-#[tactic(auto, unfolding(crate::specs::Tables::ss3_cursor))]
-pub(crate) fn ss3_cursor<'a>() -> &'a [Row]
-    ensures { result.now ≡ ss3_cursor }
-{
-    &SS3_CURSOR
-}
-
-/// Control sequences that xterm and kitty share (xterm ctlseqs, PC-Style Function Keys; kitty, Legacy functional keys).
-static CSI_KEYS: [Row; 42] = by_number! {
+static CSI: [Row; 42] = by_number! {
     'Z', 1: Tab 1;
     '~', 0: Insert 2, Delete 3;
     'D', 0: Left 1;
@@ -98,15 +98,7 @@ static CSI_KEYS: [Row; 42] = by_number! {
         F(14) 26, F(15) 28, F(16) 29, F(17) 31, F(18) 32, F(19) 33, F(20) 34;
 };
 
-#[tactic(auto, unfolding(crate::specs::Tables::csi_keys))]
-pub(crate) fn csi_keys<'a>() -> &'a [Row]
-    ensures { result.now ≡ csi_keys }
-{
-    &CSI_KEYS
-}
-
-/// Numbers before `u` (kitty, Functional key definitions).
-static KITTY_KEYS: [Row; 89] = by_number! {
+static KITTY: [Row; 89] = by_number! {
     'u', 0: Enter 13, Escape 27, Tab 9, Backspace 127, CapsLock 57358, ScrollLock 57359, NumLock 57360,
         PrintScreen 57361, Pause 57362, Menu 57363, Keypad0 57399, Keypad1 57400, Keypad2 57401,
         Keypad3 57402, Keypad4 57403, Keypad5 57404, Keypad6 57405, Keypad7 57406, Keypad8 57407,
@@ -125,27 +117,11 @@ static KITTY_KEYS: [Row; 89] = by_number! {
         F(35) 57398;
 };
 
-#[tactic(auto, unfolding(crate::specs::Tables::kitty_keys))]
-pub(crate) fn kitty_keys<'a>() -> &'a [Row]
-    ensures { result.now ≡ kitty_keys }
-{
-    &KITTY_KEYS
-}
-
-/// Numbers behind `27 ;` and the modifiers, before `~` (xterm ctlseqs, Alt and Meta Keys).
-static OTHER_KEYS: [Row; 4] = by_number! {
+static OTHER: [Row; 4] = by_number! {
     '~', 0: Enter 13, Escape 27, Tab 9, Backspace 127;
 };
 
-#[tactic(auto, unfolding(crate::specs::Tables::other_keys))]
-pub(crate) fn other_keys<'a>() -> &'a [Row]
-    ensures { result.now ≡ other_keys }
-{
-    &OTHER_KEYS
-}
-
-/// rxvt's own, before `~`, `$` with shift, `^` with ctrl and `@` with both, and its arrows with shift (rxvt, Key codes).
-static RXVT_KEYS: [Row; 94] = finals! {
+static RXVT: [Row; 94] = finals! {
     KeyCode::Insert, 2: 0 '~', 1 '$', 4 '^', 5 '@';
     KeyCode::Delete, 3: 0 '~', 1 '$', 4 '^', 5 '@';
     KeyCode::Left, 1: 1 'd';
@@ -180,39 +156,15 @@ static RXVT_KEYS: [Row; 94] = finals! {
     KeyCode::F(20), 34: 0 '~', 1 '$', 4 '^', 5 '@';
 };
 
-#[tactic(auto, unfolding(crate::specs::Tables::rxvt_keys))]
-pub(crate) fn rxvt_keys<'a>() -> &'a [Row]
-    ensures { result.now ≡ rxvt_keys }
-{
-    &RXVT_KEYS
-}
-
-/// rxvt's arrows with ctrl, behind SS3 (rxvt, Key codes).
 static RXVT_SS3: [Row; 4] = by_character! {
     0, 4: Left 'd', Right 'c', Up 'a', Down 'b';
 };
 
-#[tactic(auto, unfolding(crate::specs::Tables::rxvt_ss3))]
-pub(crate) fn rxvt_ss3<'a>() -> &'a [Row]
-    ensures { result.now ≡ rxvt_ss3 }
-{
-    &RXVT_SS3
-}
-
-/// Behind `CSI [`: F1 to F5 of Linux' console (console_codes(4)).
-static LINUX_KEYS: [Row; 5] = by_character! {
+static LINUX: [Row; 5] = by_character! {
     0, 0: F(1) 'A', F(2) 'B', F(3) 'C', F(4) 'D', F(5) 'E';
 };
 
-#[tactic(auto, unfolding(crate::specs::Tables::linux_keys))]
-pub(crate) fn linux_keys<'a>() -> &'a [Row]
-    ensures { result.now ≡ linux_keys }
-{
-    &LINUX_KEYS
-}
-
-/// Virtual keys before `_` in Win32-input-mode (Microsoft, Virtual-Key Codes), 256 more for an enhanced key (KEY_EVENT_RECORD).
-static WIN32_KEYS: [Row; 129] = by_number! {
+static WIN32: [Row; 129] = by_number! {
     '_', 0: Enter 13, Escape 27, Tab 9, Backspace 8, Insert 301, Delete 302, Left 293, Right 295, Up 294,
         Down 296, PageUp 289, PageDown 290, Home 292, End 291, CapsLock 20, ScrollLock 145, NumLock 144,
         PrintScreen 44, Pause 19, Menu 93, Keypad0 96, Keypad1 97, Keypad2 98, Keypad3 99, Keypad4 100,
@@ -233,9 +185,22 @@ static WIN32_KEYS: [Row; 129] = by_number! {
         Char('7') 55, Char('8') 56, Char('9') 57, Char('i') 73, Char('m') 77;
 };
 
-#[tactic(auto, unfolding(crate::specs::Tables::win32_keys))]
-pub(crate) fn win32_keys<'a>() -> &'a [Row]
-    ensures { result.now ≡ win32_keys }
-{
-    &WIN32_KEYS
+impl Table {
+    #[tactic(auto, unfolding(crate::specs::Tables::rows))]
+    pub(crate) fn rows(self) -> &'static [Row]
+        ensures { result.now ≡ rows self }
+    {
+        match self {
+            Table::Control => &CONTROL,
+            Table::Ss3 => &SS3,
+            Table::Ss3Cursor => &SS3_CURSOR,
+            Table::Csi => &CSI,
+            Table::Kitty => &KITTY,
+            Table::Other => &OTHER,
+            Table::Rxvt => &RXVT,
+            Table::RxvtSs3 => &RXVT_SS3,
+            Table::Linux => &LINUX,
+            Table::Win32 => &WIN32,
+        }
+    }
 }

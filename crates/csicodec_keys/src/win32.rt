@@ -8,7 +8,7 @@ use crate::fields::number_of;
 use crate::key::{Key, KeyEvent, Typed};
 use crate::modifiers::KeyModifiers;
 use crate::reading::is_typed;
-use crate::rows::win32_keys;
+use crate::rows::Table;
 use crate::tables::{Row, row_at, row_of};
 use csicodec_tokens::CsiParam;
 
@@ -105,9 +105,9 @@ fn win32_row(vk: u32, enhanced: bool) -> Option<Row>
     if vk >= 256 {
         return None;
     }
-    let row = row_at(win32_keys(), vk, '_');
+    let row = row_at(Table::Win32.rows(), vk, '_');
     if enhanced {
-        row_at(win32_keys(), vk + 256, '_').or(row)
+        row_at(Table::Win32.rows(), vk + 256, '_').or(row)
     } else {
         row
     }
@@ -263,7 +263,11 @@ pub(crate) fn record_of(key: &Key) -> Option<Record>
     ensures { result ≡ record_of (stroke_of key.now) }
 {
     if key.modifiers.bits / 8 % 8 == 0 {
-        key_record(row_of(win32_keys(), key.code, 0), key, down_of(key.event))
+        key_record(
+            row_of(Table::Win32.rows(), key.code, 0),
+            key,
+            down_of(key.event),
+        )
     } else {
         None
     }

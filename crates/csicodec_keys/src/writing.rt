@@ -3,15 +3,13 @@ ghost use Rattle.std.specs.{Prelude.◌≡◌, Prelude.◌++◌, Prelude.◌∷�
 ghost use Rattle.std.specs.{Option.option_map};
 ghost use Rattle.csicodec_tokens.specs.Param.{spells, token_text};
 ghost use Rattle.csicodec_keys.specs.Fields.{colon_list, held_list, is_empty, is_plain, number_list, text_list, written_list};
-ghost use Rattle.csicodec_keys.specs.Forms.{alt_control, but_release, char_form, char_number, control_form, csi_form, form_bytes, form_of, kitty_char, kitty_row, legacy_form, linux_form, other_form, other_number, rxvt_form, rxvt_row, ss3_form, text_form, text_of, xterm_held};
+ghost use Rattle.csicodec_keys.specs.Forms.{alt_control, as_form, but_release, char_form, char_number, csi_form, form_bytes, form_of, kitty_char, kitty_row, legacy_form, other_form, other_number, row_form, rxvt_form, text_form, text_of, xterm_held};
 ghost use Rattle.csicodec_keys.specs.{Characters.is_alt, Keys.stroke_of, Win32.record_list};
 
 use crate::code::KeyCode;
 use crate::key::{Encoding, Key, KeyEvent};
 use crate::reading::{csi_row, is_typed};
-use crate::rows::{
-    controls, csi_keys, kitty_keys, linux_keys, other_keys, rxvt_keys, rxvt_ss3, ss3_keys,
-};
+use crate::rows::Table;
 use crate::tables::{Row, row_at, row_of};
 use crate::win32::{Record, record_of};
 use csicodec_tokens::CsiParam::{Integer, P};
@@ -50,11 +48,24 @@ fn is_alt(character: char) -> bool
     matches!(character, ' '..='N' | 'Q'..='W' | 'Y' | 'Z' | '\\' | '`'..='~')
 }
 
-fn control_form(code: KeyCode, held: u8) -> Option<KeySpelling>
-    ensures { result ≡ control_form code held }
+/// How a row of a table stands in a stream, with nothing said beside it.
+fn as_form(table: Table, row: Row) -> KeySpelling
+    ensures { result ≡ as_form table row }
 {
-    let row = row_of(controls(), code, held)?;
-    Some(KeySpelling::Text(row.control))
+    match table {
+        Table::Control => KeySpelling::Text(row.control),
+        Table::Linux => KeySpelling::Linux(row.control),
+        Table::Rxvt if row.control == '$' => KeySpelling::Rxvt(row.number),
+        Table::Rxvt | Table::Csi => KeySpelling::Csi(row.number, 0, row.control),
+        _ => KeySpelling::Ss3(row.control),
+    }
+}
+
+/// The form of a key that has a row in this table, with what is held down.
+fn row_form(table: Table, code: KeyCode, held: u8) -> Option<KeySpelling>
+    ensures { result ≡ row_form table code held }
+{
+    Some(as_form(table, row_of(table.rows(), code, held)?))
 }
 
 /// A control behind ESC, where alt is held down too.
@@ -64,15 +75,8 @@ fn alt_control(code: KeyCode, held: u8) -> Option<KeySpelling>
     if held < 2 {
         return None;
     }
-    let row = row_of(controls(), code, held - 2)?;
+    let row = row_of(Table::Control.rows(), code, held - 2)?;
     Some(KeySpelling::Alt(row.control))
-}
-
-fn ss3_form(code: KeyCode, held: u8) -> Option<KeySpelling>
-    ensures { result ≡ ss3_form code held }
-{
-    let row = row_of(ss3_keys(), code, held)?;
-    Some(KeySpelling::Ss3(row.control))
 }
 
 /// What a key of a character types.
@@ -113,10 +117,10 @@ fn char_form(code: KeyCode, held: u8, text: &[char]) -> Option<KeySpelling>
 fn csi_form(code: KeyCode, held: u8) -> Option<KeySpelling>
     ensures { result ≡ csi_form code held }
 {
-    if let Some(row) = row_of(csi_keys(), code, held) {
-        return Some(KeySpelling::Csi(row.number, 0, row.control));
+    if let Some(form) = row_form(Table::Csi, code, held) {
+        return Some(form);
     }
-    let row = row_of(csi_keys(), code, 0)?;
+    let row = row_of(Table::Csi.rows(), code, 0)?;
     Some(KeySpelling::Csi(row.number, held, row.control))
 }
 
@@ -124,9 +128,9 @@ fn legacy_form(key: &Key, held: u8) -> Option<KeySpelling>
     ensures { result ≡ legacy_form (stroke_of key.now) held }
 {
     let text = key.text.as_slice();
-    control_form(key.code, held)
+    row_form(Table::Control, key.code, held)
         .or(alt_control(key.code, held))
-        .or(ss3_form(key.code, held))
+        .or(row_form(Table::Ss3, key.code, held))
         .or(char_form(key.code, held, text))
         .or(csi_form(key.code, held))
 }
@@ -156,10 +160,10 @@ fn kitty_form(key: &Key) -> Option<KeySpelling>
     ensures { result ≡ form_of Encoding.Kitty (stroke_of key.now) }
 {
     let held = key.modifiers.bits;
-    if let Some(row) = row_of(kitty_keys(), key.code, 0) {
+    if let Some(row) = row_of(Table::Kitty.rows(), key.code, 0) {
         return Some(KeySpelling::Typed(row.number, held, key.event, row.control));
     }
-    if let Some(row) = row_of(csi_keys(), key.code, 0) {
+    if let Some(row) = row_of(Table::Csi.rows(), key.code, 0) {
         return Some(KeySpelling::Typed(row.number, held, key.event, row.control));
     }
     kitty_char(key)
@@ -171,7 +175,7 @@ fn char_number(code: KeyCode) -> Option<u32>
     match code {
         KeyCode::Char(character) => {
             let number = character as u32;
-            let is_free = is_typed(character) && row_at(other_keys(), number, '~').is_none();
+            let is_free = is_typed(character) && row_at(Table::Other.rows(), number, '~').is_none();
             is_free.then_some(number)
         }
         _ => None,
@@ -182,7 +186,7 @@ fn char_number(code: KeyCode) -> Option<u32>
 fn other_number(code: KeyCode) -> Option<u32>
     ensures { result ≡ other_number code }
 {
-    match row_of(other_keys(), code, 0) {
+    match row_of(Table::Other.rows(), code, 0) {
         Some(row) => Some(row.number),
         None => char_number(code),
     }
@@ -197,31 +201,10 @@ fn other_form(code: KeyCode, held: u8) -> Option<KeySpelling>
     Some(KeySpelling::Other(other_number(code)?, held))
 }
 
-fn rxvt_row(row: Row) -> KeySpelling
-    ensures { result ≡ rxvt_row row }
-{
-    if row.control == '$' {
-        KeySpelling::Rxvt(row.number)
-    } else {
-        KeySpelling::Csi(row.number, 0, row.control)
-    }
-}
-
 fn rxvt_form(code: KeyCode, held: u8) -> Option<KeySpelling>
     ensures { result ≡ rxvt_form code held }
 {
-    if let Some(row) = row_of(rxvt_keys(), code, held) {
-        return Some(rxvt_row(row));
-    }
-    let row = row_of(rxvt_ss3(), code, held)?;
-    Some(KeySpelling::Ss3(row.control))
-}
-
-fn linux_form(code: KeyCode, held: u8) -> Option<KeySpelling>
-    ensures { result ≡ linux_form code held }
-{
-    let row = row_of(linux_keys(), code, held)?;
-    Some(KeySpelling::Linux(row.control))
+    row_form(Table::Rxvt, code, held).or(row_form(Table::RxvtSs3, code, held))
 }
 
 /// Only kitty's encoding says that a key is released.
@@ -243,7 +226,7 @@ fn form_of(encoding: Encoding, key: &Key) -> Option<KeySpelling>
         Encoding::Kitty => kitty_form(key),
         Encoding::Win32 => Some(KeySpelling::Win32(record_of(key)?)),
         Encoding::Rxvt => but_release(event, rxvt_form(code, held?)),
-        Encoding::Linux => but_release(event, linux_form(code, held?)),
+        Encoding::Linux => but_release(event, row_form(Table::Linux, code, held?)),
     }
 }
 

@@ -5,7 +5,7 @@ use Rattle.std.proofs.{lemmas.List.take-append-drop}
 use Rattle.std.specs.{List.concat, List.flat_map, Prelude.nat_lt}
 use Rattle.csicodec_tokens.specs.declared.param.CsiParam.{CsiParam}
 use Rattle.csicodec_spans.specs.declared.table.Mode.{Mode}
-use Rattle.csicodec_events.specs.Input.{AreSent, InputChunks, IsSent, IsSentBy, IsSure, ahead, behind_escape, bytes_of, characters, csi, escape, escape_in_string, in_input, is_digit, is_opener, is_printable, is_wide, linux, rxvt, ss3, string, two_digits}
+use Rattle.csicodec_events.specs.Input.{AreSent, InputChunks, IsSent, IsSentBy, IsSure, ahead, bytes_of, characters, csi, escape, goes_on, in_input, is_digit, is_opener, is_printable, is_wide, linux, rxvt, ss3, string, two_digits}
 use Rattle.csicodec_events.specs.{declared.event.Event.Event, declared.event.Events.Events, declared.input.Dialect.Dialect, declared.input.Form.Form}
 use Rattle.csicodec_events.specs.{declared.input.InputEvent.InputEvent, declared.input.Sent.Sent, Characters.is_from, Events.IsTold}
 use Rattle.csicodec_events.proofs.Run.{joined_on, parts_of}
@@ -90,30 +90,20 @@ string_good : (bytes more : List ℕ) → Good (string bytes) (string (bytes ++ 
 string_good [] more = unsure
 string_good (b ∷ bytes) more = output
 
-escape_good : (d : Dialect) (bytes more : List ℕ) → Good (escape d bytes) (escape d (bytes ++ more))
-escape_good d [] more = unsure
-escape_good d (b ∷ bytes) more =
-    either (b == 79) (ss3_good bytes more)
+escape_good : (d : Dialect) (m : Mode) (bytes more : List ℕ)
+    → Good (escape d m bytes) (escape d m (bytes ++ more))
+escape_good d m [] more = unsure
+escape_good d m (b ∷ bytes) more =
+    either (goes_on m b) output
+    (either (b == 79) (ss3_good bytes more)
     (either (b == 91) (csi_good d bytes more)
     (either (is_opener b) (string_good bytes more)
-    (either (b == 27 || nat_le 128 b) (whole refl) (whole refl))))
-
-in_string_good : (d : Dialect) (bytes more : List ℕ)
-    → Good (escape_in_string d bytes) (escape_in_string d (bytes ++ more))
-in_string_good d [] more = unsure
-in_string_good d (b ∷ bytes) more = either (b == 92 || b == 27) output (escape_good d (b ∷ bytes) more)
-
-behind_good : (d : Dialect) (m : Mode) (bytes more : List ℕ)
-    → Good (behind_escape d m bytes) (behind_escape d m (bytes ++ more))
-behind_good d mode.Osc bytes more = in_string_good d bytes more
-behind_good d mode.Dcs bytes more = in_string_good d bytes more
-behind_good d mode.Str bytes more = in_string_good d bytes more
-behind_good d _ bytes more = escape_good d bytes more
+    (either (b == 27 || nat_le 128 b) (whole refl) (whole refl)))))
 
 input_good : (d : Dialect) (m : Mode) (bytes more : List ℕ)
     → Good (in_input d m bytes) (in_input d m (bytes ++ more))
 input_good d m [] more = unsure
-input_good d m (b ∷ bytes) more = either (b == 27) (behind_good d m bytes more) output
+input_good d m (b ∷ bytes) more = either (b == 27) (escape_good d m bytes more) output
 
 -- ---- what stands in front
 

@@ -1,13 +1,13 @@
 -- What was looked at of a control sequence: bytes that are passed over, and controls.
 use Rattle.std.proofs.Common.{◌≡◌, ℕ, zero, suc, ◌+◌, ◌≤◌, ◌⊎◌, Bool, true, false, filter, max, List, [], ◌∷◌, ◌++◌, length, take, drop, refl, sym, ap, subst, ◌∙◌, inl, inr, arith}
 use Rattle.std.proofs.lemmas.List.{length-append, drop-append-le, length-drop, length-take, nil_from_length, take-append-le}
-use Rattle.std.proofs.{Math.Seq.take-add, lemmas.Bool.cases_Bool, lemmas.Bool.cases_lt, lemmas.Bool.or_left, lemmas.Bool.or_right}
-use Rattle.std.proofs.{lemmas.Bool.Decides.nat_tests}
+use Rattle.std.proofs.{lemmas.Bool.false_from_ne_true, lemmas.Bool.cases_Bool, lemmas.Bool.cases_lt, lemmas.Bool.or_left, lemmas.Bool.or_right}
+use Rattle.std.proofs.{Math.Seq.take-add, lemmas.Bool.Decides.nat_tests}
 use Rattle.std.specs.{Prelude.◌||◌, List.AllByRecursion, List.prefix_len}
 use Rattle.csicodec_tokens.specs.{declared.param.CsiParam.CsiParam, Sequence.IsFinal, Sequence.Seq}
 use Rattle.csicodec_events.specs.Events.{BeginsCsi, IsControl, IsCsi, IsMet, before_stop, from_stop, is_control, is_passed, is_read, stop, without_controls}
 use Rattle.csicodec_events.specs.declared.event.Events.{Events}
-use Rattle.csicodec_events.proofs.{Kept.begins_more, Steps.next_place, Unfinished.refuted}
+use Rattle.csicodec_events.proofs.{Kept.begins_more, Steps.next_place}
 
 -- a byte that a sequence goes on over
 abbrev pub is_inside : ℕ → Bool
@@ -126,6 +126,6 @@ no_control e after bytes text rest more list final b begins l c stands =
     let both : c.last ∷ rest ≡ b ∷ more = sym c.stands ∙ stands in
     let last : c.last ≡ b = cc in
     let whole : text ≡ 27 ∷ 91 ∷ (drop 2 over ++ b ∷ []) = c.whole ∙ ap (λ (x : ℕ). over ++ x ∷ []) last ∙ ap (λ (x : List ℕ). x ++ b ∷ []) (over_shape e bytes begins) in
-    refuted (is_control b) (λ yes. no_sequence (drop 2 over ++ b ∷ []) list final
+    false_from_ne_true (is_control b) (λ yes. no_sequence (drop 2 over ++ b ∷ []) list final
     (both_inside (drop 2 over) (b ∷ []) (over_inside e bytes begins l) (or_right (is_passed b) (is_control b) yes, tt))
     (subst (λ (x : List ℕ). Seq (without_controls x) list final) whole c.seq))

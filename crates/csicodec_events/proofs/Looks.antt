@@ -1,14 +1,14 @@
 -- How often the bytes of control sequences are looked at: no byte again to find where one stops.
 use Rattle.std.proofs.Common.{◌≡◌, ℕ, ◌+◌, ◌-◌, ◌*◌, ◌<◌, ◌≤◌, max, List, [], ◌∷◌, ◌++◌, length, take, drop, refl, sym, ap, ◌∙◌, inl, inr, append-nil, take_all, arith}
-use Rattle.std.proofs.{lemmas.Bool.and_parts, lemmas.Bool.cases_lt, lemmas.Bool.eqb-true, lemmas.Grind.flat_map-append, lemmas.List.drop_at}
-use Rattle.std.proofs.{lemmas.List.length-append, lemmas.List.length-drop, lemmas.List.length-take, lemmas.List.take-append-drop}
+use Rattle.std.proofs.{lemmas.Bool.false_from_ne_true, lemmas.Bool.and_parts, lemmas.Bool.cases_lt, lemmas.Bool.eqb-true, lemmas.Grind.flat_map-append}
+use Rattle.std.proofs.{lemmas.List.drop_at, lemmas.List.length-append, lemmas.List.length-drop, lemmas.List.length-take, lemmas.List.take-append-drop}
 use Rattle.std.specs.{List.concat, List.flat_map, List.prefix_len, Prelude.◌==◌, Prelude.◌&&◌, Prelude.Bool, Prelude.true, Prelude.false, Prelude.if◌then◌else◌}
 use Rattle.csicodec_tokens.specs.declared.param.CsiParam.{CsiParam}
 use Rattle.csicodec_spans.specs.declared.table.Mode.{Mode}
 use Rattle.csicodec_events.specs.Events.{AreTold, BeginsCsi, GoesWrong, InChunks, IsOpen, IsTold, Waits, before_stop, bytes_of, from_stop, is_passed, is_csi, looks, looks_in, looks_told, reach, stop}
 use Rattle.csicodec_events.specs.{declared.event.Event.Event, declared.event.Events.Events, declared.event.Told.Told}
 use Rattle.csicodec_events.proofs.{Divided.span_other, Divided.told_goes, Looked.IsLooked, Looked.looked_met, Looked.looked_more, Looked.over_inside}
-use Rattle.csicodec_events.proofs.{Run.chunks_joined, Run.met_within, Steps.next_place, Unfinished.refuted}
+use Rattle.csicodec_events.proofs.{Run.chunks_joined, Run.met_within, Steps.next_place}
 use Rattle.csicodec_spans.specs.declared.table.Kind.TheVariants as kind
 use Rattle.csicodec_events.specs.declared.event.Event.TheVariants as event
 
@@ -26,7 +26,7 @@ stops_behind looked front other bytes two a b =
 csi_false : (bytes : List ℕ) → (BeginsCsi bytes → ⊥) → is_csi bytes ≡ false
 csi_false [] other = refl
 csi_false (a ∷ []) other = refl
-csi_false (a ∷ b ∷ bytes) other = refuted (a == 27 && b == 91) (λ e.
+csi_false (a ∷ b ∷ bytes) other = false_from_ne_true (a == 27 && b == 91) (λ e.
     let h = and_parts (a == 27) (b == 91) e in
     let esc = eqb-true a 27 h.0 in
     let bracket = eqb-true b 91 h.1 in

@@ -1,8 +1,8 @@
 -- Events in the smallest steps: each tells one piece, or a few that are never cut apart. Where no step follows the stream waits; in
 -- any state at most one follows; and it stays, whatever bytes come later.
 use Rattle.std.proofs.Common.{◌≡◌, ◌⊎◌, ℕ, ◌+◌, ◌<◌, ◌≤◌, Bool, true, false, max, List, [], ◌∷◌, ◌++◌, length, drop, refl, sym, ap, subst, ◌∙◌, inl, inr, append_assoc, append-nil, arith}
-use Rattle.std.proofs.{lemmas.List.Folds.prefix_len-append, lemmas.Bool.both_ways, lemmas.List.length-append, lemmas.List.length-take}
-use Rattle.std.proofs.{lemmas.List.drop-append-le}
+use Rattle.std.proofs.{lemmas.Bool.false_from_ne_true, lemmas.Bool.both_ways, lemmas.List.Folds.prefix_len-append, lemmas.List.length-append}
+use Rattle.std.proofs.{lemmas.List.length-take, lemmas.List.drop-append-le}
 use Rattle.std.specs.List.{prefix_len}
 use Rattle.csicodec_tokens.specs.{declared.param.CsiParam.CsiParam, Sequence.Seq}
 use Rattle.csicodec_tokens.proofs.Unique.{one_seq}
@@ -10,8 +10,7 @@ use Rattle.csicodec_spans.specs.{declared.table.Kind.Kind, declared.table.Mode.M
 use Rattle.csicodec_spans.proofs.{Fronts.IsFit, Fronts.in_string, Kept.parts_more, Missed.fit, Once.part_once}
 use Rattle.csicodec_events.specs.Events.{BeginsCsi, IsWrongAt, Piece, before_stop, from_stop, is_control, is_passed, onward, piece, pieces_of, stop, without_controls}
 use Rattle.csicodec_events.specs.{declared.event.Events.Events, Characters.is_unfinished}
-use Rattle.csicodec_events.proofs.{Fronts.event_of, Fronts.none_sure, Kept.begins_more, Kept.same_stop, Stops.too_long, Unfinished.refuted}
-use Rattle.csicodec_events.proofs.{Unfinished.unfinished_front}
+use Rattle.csicodec_events.proofs.{Fronts.event_of, Fronts.none_sure, Kept.begins_more, Kept.same_stop, Stops.too_long, Unfinished.unfinished_front}
 use Rattle.csicodec_spans.specs.declared.table.Kind.TheVariants as kind
 use Rattle.csicodec_spans.specs.declared.table.Mode.TheVariants as mode
 use Rattle.csicodec_events.specs.declared.event.Event.TheVariants as event
@@ -186,7 +185,7 @@ module _ (e : Events) (bytes more : List ℕ) (ps : List Piece) (rest : List ℕ
         first = one_part e.limit e.mode g.next (bytes ++ more) (rest ++ more) g.p one;
         sure = λ text.
             let len = (text_fit e.limit e.mode g.next bytes rest g.p text g.first).1 in
-            refuted _ (λ h. both_ways (is_unfinished bytes) (g.sure text) (unfinished_front bytes more (omega (arith, len, ap length g.first.0, length-append g.p.bytes rest)) h));
+            false_from_ne_true _ (λ h. both_ways (is_unfinished bytes) (g.sure text) (unfinished_front bytes more (omega (arith, len, ap length g.first.0, length-append g.p.bytes rest)) h));
         told = g.told;
         on = g.on;
       }

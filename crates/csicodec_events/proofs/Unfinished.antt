@@ -1,6 +1,6 @@
 -- The beginning of a character: each front of it is one, and no other end of it.
 use Rattle.std.proofs.Common.{◌≡◌, ℕ, ◌<◌, List, [], ◌∷◌, ◌++◌, length, refl, ap, subst, sym, ◌∙◌, inl, inr, append-nil, arith}
-use Rattle.std.proofs.lemmas.Bool.Decides.{nat_tests}
+use Rattle.std.proofs.{lemmas.Bool.false_from_ne_true, lemmas.Bool.Decides.nat_tests}
 use Rattle.std.specs.Prelude.{Bool, true, false}
 use Rattle.csicodec_events.specs.{Characters.is_unfinished, Characters.leads, Events.IsHeld}
 
@@ -52,18 +52,14 @@ one_end x (c ∷ y) some e f =
 
 -- ---- text in front of what is held of it
 
-pub refuted : (b : Bool) → (b ≡ true → ⊥) → b ≡ false
-refuted true h = absurd (h refl)
-refuted false h = refl
-
 -- no end of the text, with what is behind it, is the beginning of a character
 pub text_sure : (text u v held behind : List ℕ) → IsHeld text held behind → text ≡ u ++ v
     → 0 < length v → ((c : ℕ) (more : List ℕ) → behind ≡ c ∷ more → c ≡ 27)
     → is_unfinished (v ++ (held ++ behind)) ≡ false
-text_sure text u v held [] (inl h) split some esc = refuted _ (λ e.
+text_sure text u v held [] (inl h) split some esc = false_from_ne_true _ (λ e.
     one_end v held some (subst (λ (x : List ℕ). is_unfinished (v ++ x) ≡ true) (append-nil held) e) h)
 text_sure text u v held [] (inr h) split some esc =
     subst (λ (x : List ℕ). is_unfinished x ≡ false) (sym (ap (λ (x : List ℕ). v ++ (x ++ [])) h.0 ∙ append-nil v)) (h.1 u v split)
-text_sure text u v held (c ∷ behind) h split some esc = refuted _ (λ e.
+text_sure text u v held (c ∷ behind) h split some esc = false_from_ne_true _ (λ e.
     let first = esc c behind refl in
     without_esc v behind (subst (λ (x : ℕ). is_unfinished (v ++ x ∷ behind) ≡ true) first (subst (λ (x : List ℕ). is_unfinished (v ++ (x ++ c ∷ behind)) ≡ true) h e)))

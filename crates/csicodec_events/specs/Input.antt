@@ -34,9 +34,8 @@ is_opener b = b == 80 || b == 88 || is_from 93 95 b
 
 -- in mode 1005 they are in UTF-8, of two bytes from 128 on; otherwise a byte each
 abbrev pub is_wide : Dialect → ℕ → Bool
-is_wide dialect.Output b = false
-is_wide dialect.Input b = false
 is_wide dialect.Utf8Input b = nat_le 128 b
+is_wide _ b = false
 
 -- so many characters are to come behind so many bytes; where it has begun, the first of two bytes of one has come
 abbrev pub characters : Dialect → ℕ → Bool → ℕ → List ℕ → Form
@@ -48,9 +47,6 @@ characters d left begun n (a ∷ bytes) =
     if is_wide d a then
     (if is_from 194 223 a then characters d left true (n + 1) bytes else form.AsOutput) else
     characters d (left - 1) false (n + 1) bytes
-
-abbrev pub mouse : Dialect → List ℕ → Form
-mouse d bytes = characters d 3 false 3 bytes
 
 -- ---- the other forms
 
@@ -78,7 +74,7 @@ abbrev pub csi : Dialect → List ℕ → Form
 csi d [] = form.Unsure
 csi d (b ∷ bytes) =
     if b == 91 then linux bytes else
-    if b == 77 then mouse d bytes else
+    if b == 77 then characters d 3 false 3 bytes else
     if is_digit b then rxvt b bytes else
     form.AsOutput
 
@@ -86,42 +82,34 @@ abbrev pub string : List ℕ → Form
 string [] = form.Unsure
 string (b ∷ bytes) = form.AsOutput
 
+-- where a string is open `\` closes it, and ESC goes on as output has it; all else begins anew
+abbrev pub goes_on : Mode → ℕ → Bool
+goes_on mode.Osc b = b == 92 || b == 27
+goes_on mode.Dcs b = b == 92 || b == 27
+goes_on mode.Str b = b == 92 || b == 27
+goes_on _ b = false
+
 -- behind ESC
-abbrev pub escape : Dialect → List ℕ → Form
-escape d [] = form.Unsure
-escape d (b ∷ bytes) =
+abbrev pub escape : Dialect → Mode → List ℕ → Form
+escape d m [] = form.Unsure
+escape d m (b ∷ bytes) =
+    if goes_on m b then form.AsOutput else
     if b == 79 then ss3 bytes else
     if b == 91 then csi d bytes else
     if is_opener b then string bytes else
     if b == 27 || nat_le 128 b then form.Whole input.Escape 1 else
     form.Whole (input.Alt b) 2
 
--- Behind ESC where a string is open: `\` closes it, and ESC goes on as output has it; all else begins anew.
-abbrev pub escape_in_string : Dialect → List ℕ → Form
-escape_in_string d [] = form.Unsure
-escape_in_string d (b ∷ bytes) = if b == 92 || b == 27 then form.AsOutput else escape d (b ∷ bytes)
-
-abbrev pub behind_escape : Dialect → Mode → List ℕ → Form
-behind_escape d mode.Text bytes = escape d bytes
-behind_escape d mode.Osc bytes = escape_in_string d bytes
-behind_escape d mode.Dcs bytes = escape_in_string d bytes
-behind_escape d mode.Str bytes = escape_in_string d bytes
-behind_escape d mode.BadCsi bytes = escape d bytes
-behind_escape d mode.BadEsc bytes = escape d bytes
-
 -- ---- what stands in front
 
 abbrev pub in_input : Dialect → Mode → List ℕ → Form
 in_input d m [] = form.Unsure
-in_input d m (b ∷ bytes) = if b == 27 then behind_escape d m bytes else form.AsOutput
+in_input d m (b ∷ bytes) = if b == 27 then escape d m bytes else form.AsOutput
 
 -- of a stream, of whose control sequence in front so many bytes were looked at
 abbrev pub ahead : Dialect → Mode → ℕ → List ℕ → Form
 ahead dialect.Output m looked bytes = form.AsOutput
-ahead dialect.Input m looked bytes =
-    if looked == 0 then in_input dialect.Input m bytes else form.AsOutput
-ahead dialect.Utf8Input m looked bytes =
-    if looked == 0 then in_input dialect.Utf8Input m bytes else form.AsOutput
+ahead d m looked bytes = if looked == 0 then in_input d m bytes else form.AsOutput
 
 -- Where the caller says that no more comes for now: a lone ESC, or ESC and one byte of ASCII.
 abbrev pub paused : List ℕ → Form

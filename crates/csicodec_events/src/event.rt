@@ -87,16 +87,20 @@ impl Events {
     }
 
     /// The text of a span in front, but for the beginning of a character where the bytes end.
-    fn text(&mut self, bytes: &[u8], cut: Cut<'_>) -> Option<(Event, usize)>
+    fn text(
+        &mut self,
+        bytes: &[u8],
+        cut: Cut<'_>,
+        _params: &Vec<CsiParam>,
+    ) -> Option<(Event, usize)>
         requires limit { 0 < self.old.limit }
         requires other { BeginsCsi bytes.now → ⊥ }
         requires cut { Cuts self.old.limit self.old.mode bytes.now kinds.Text cut.span.bytes.now
             cut.rest.now cut.mode }
         requires maximal { IsMaximal kinds.Text cut.mode cut.rest.now }
         requires looked { self.old.looked ≡ 0 }
-        ensures { (list : List CsiParam)
-            → MatchOption result (HasWaited self.old bytes.now self.new)
-            (λ (event, len). HasFound self.old bytes.now event len list self.new) }
+        ensures { MatchOption result (HasWaited self.old bytes.now self.new) (λ (event, len).
+            HasFound self.old bytes.now event len _params.now.items self.new) }
     {
         let len = cut.span.bytes.len() - held_len(cut.span.bytes, cut.rest);
         if len == 0 {
@@ -106,20 +110,19 @@ impl Events {
     }
 
     /// The event of a span in front, and how many bytes it has.
-    fn span(&mut self, bytes: &[u8]) -> Option<(Event, usize)>
+    fn span(&mut self, bytes: &[u8], _params: &Vec<CsiParam>) -> Option<(Event, usize)>
         requires limit { 0 < self.old.limit }
         requires other { BeginsCsi bytes.now → ⊥ }
         requires looked { self.old.looked ≡ 0 }
-        ensures { (list : List CsiParam)
-            → MatchOption result (HasWaited self.old bytes.now self.new)
-            (λ (event, len). HasFound self.old bytes.now event len list self.new) }
+        ensures { MatchOption result (HasWaited self.old bytes.now self.new) (λ (event, len).
+            HasFound self.old bytes.now event len _params.now.items self.new) }
     {
         let Some(cut) = next_span(self.limit, self.mode, bytes) else {
             return None;
         };
         let len = cut.span.bytes.len();
         match cut.span.kind {
-            Kind::Text => self.text(bytes, cut),
+            Kind::Text => self.text(bytes, cut, _params),
             Kind::Esc => Some(self.found(Event::Esc, len, cut.mode)),
             Kind::Str => Some(self.found(Event::Str, len, cut.mode)),
             Kind::Csi | Kind::Other => Some(self.found(Event::Other, len, cut.mode)),
@@ -163,7 +166,7 @@ impl Events {
         ensures memory { OnErr result (self.new ≡ self.old) }
     {
         if !begins_csi(bytes) {
-            return match self.span(bytes) {
+            return match self.span(bytes, params) {
                 Some((event, len)) => Ok(Some(Told {
                     event,
                     bytes: near(len, bytes),

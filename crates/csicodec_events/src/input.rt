@@ -2,7 +2,7 @@
 ghost use Rattle.std.specs.Prelude.{◌≡◌, ◌<◌, ◌++◌, ◌+◌, ◌^◌, [], List, ℕ, length, IfNone, IfSome, IfOk, MatchOption, OnErr, OnOk, true, take, drop};
 ghost use Rattle.csicodec_tokens.specs.declared.param.CsiParam.{CsiParam};
 ghost use Rattle.csicodec_spans.specs.declared.table.Mode.TheVariants.{Text as Plain};
-ghost use Rattle.csicodec_events.specs.Input.{Awaits, IsSent, IsSentBy, ahead, behind_escape, characters, csi, escape, escape_in_string, in_input, is_digit, is_opener, is_printable, is_wide, linux, mouse, paused, rxvt, ss3, string, two_digits};
+ghost use Rattle.csicodec_events.specs.Input.{Awaits, IsSent, IsSentBy, ahead, characters, csi, escape, goes_on, in_input, is_digit, is_opener, is_printable, is_wide, paused, rxvt, two_digits};
 ghost use Rattle.csicodec_events.specs.{declared.input.Form.TheVariants.Unsure, Events.IsMet, Events.left, Events.onward};
 
 use crate::event::{Event, Events};
@@ -133,35 +133,6 @@ fn characters(dialect: Dialect, left: usize, begun: bool, len: usize, bytes: &[u
     }
 }
 
-/// Behind `ESC [ M`.
-fn mouse(dialect: Dialect, bytes: &[u8]) -> Form
-    ensures { result ≡ mouse dialect bytes.now }
-{
-    characters(dialect, 3, false, 3, bytes)
-}
-
-/// Behind `ESC O`.
-fn ss3(bytes: &[u8]) -> Form
-    ensures { result ≡ ss3 bytes.now }
-{
-    match bytes {
-        [] => Form::Unsure,
-        [byte, ..] if is_printable(*byte) => Form::Whole(InputEvent::Ss3(*byte), 3),
-        _ => Form::Whole(InputEvent::Alt(b'O'), 2),
-    }
-}
-
-/// Behind `ESC [ [`.
-fn linux(bytes: &[u8]) -> Form
-    ensures { result ≡ linux bytes.now }
-{
-    match bytes {
-        [] => Form::Unsure,
-        [byte, ..] if is_printable(*byte) => Form::Whole(InputEvent::Linux(*byte), 4),
-        _ => Form::AsOutput,
-    }
-}
-
 /// Behind `ESC [`, a digit and another byte.
 fn two_digits(first: u8, byte: u8, bytes: &[u8]) -> Form
     requires { is_digit first ≡ true }
@@ -193,56 +164,38 @@ fn csi(dialect: Dialect, bytes: &[u8]) -> Form
     ensures { result ≡ csi dialect bytes.now }
 {
     match bytes {
-        [] => Form::Unsure,
-        [b'[', others @ ..] => linux(others),
-        [b'M', others @ ..] => mouse(dialect, others),
+        [] | [b'['] => Form::Unsure,
+        [b'[', byte, ..] if is_printable(*byte) => Form::Whole(InputEvent::Linux(*byte), 4),
+        [b'M', others @ ..] => characters(dialect, 3, false, 3, others),
         [byte, others @ ..] if is_digit(*byte) => rxvt(*byte, others),
         _ => Form::AsOutput,
     }
 }
 
-/// Behind ESC and what opens a control string.
-fn string(bytes: &[u8]) -> Form
-    ensures { result ≡ string bytes.now }
+/// Whether a byte behind ESC goes on with the string that is open, if one is.
+fn goes_on(mode: Mode, byte: u8) -> bool
+    ensures { result ≡ goes_on mode byte }
 {
-    match bytes {
-        [] => Form::Unsure,
-        [_, ..] => Form::AsOutput,
+    match mode {
+        Mode::Text | Mode::BadCsi | Mode::BadEsc => false,
+        Mode::Osc | Mode::Dcs | Mode::Str => byte == b'\\' || byte == 0x1b,
     }
 }
 
 /// Behind ESC.
-fn escape(dialect: Dialect, bytes: &[u8]) -> Form
-    ensures { result ≡ escape dialect bytes.now }
+fn escape(dialect: Dialect, mode: Mode, bytes: &[u8]) -> Form
+    ensures { result ≡ escape dialect mode bytes.now }
 {
     match bytes {
         [] => Form::Unsure,
-        [b'O', others @ ..] => ss3(others),
+        [byte, ..] if goes_on(mode, *byte) => Form::AsOutput,
+        [b'O'] => Form::Unsure,
+        [b'O', byte, ..] if is_printable(*byte) => Form::Whole(InputEvent::Ss3(*byte), 3),
         [b'[', others @ ..] => csi(dialect, others),
-        [byte, others @ ..] if is_opener(*byte) => string(others),
+        [byte] if is_opener(*byte) => Form::Unsure,
+        [byte, ..] if is_opener(*byte) => Form::AsOutput,
         [0x1b | 0x80.., ..] => Form::Whole(InputEvent::Escape, 1),
         [byte, ..] => Form::Whole(InputEvent::Alt(*byte), 2),
-    }
-}
-
-/// Behind ESC where a string is open.
-fn escape_in_string(dialect: Dialect, bytes: &[u8]) -> Form
-    ensures { result ≡ escape_in_string dialect bytes.now }
-{
-    match bytes {
-        [] => Form::Unsure,
-        [b'\\' | 0x1b, ..] => Form::AsOutput,
-        _ => escape(dialect, bytes),
-    }
-}
-
-/// Behind ESC in a mode.
-fn behind_escape(dialect: Dialect, mode: Mode, bytes: &[u8]) -> Form
-    ensures { result ≡ behind_escape dialect mode bytes.now }
-{
-    match mode {
-        Mode::Text | Mode::BadCsi | Mode::BadEsc => escape(dialect, bytes),
-        Mode::Osc | Mode::Dcs | Mode::Str => escape_in_string(dialect, bytes),
     }
 }
 
@@ -252,7 +205,7 @@ fn in_input(dialect: Dialect, mode: Mode, bytes: &[u8]) -> Form
 {
     match bytes {
         [] => Form::Unsure,
-        [0x1b, others @ ..] => behind_escape(dialect, mode, others),
+        [0x1b, others @ ..] => escape(dialect, mode, others),
         _ => Form::AsOutput,
     }
 }

@@ -134,7 +134,13 @@ impl Events {
     }
 
     /// What goes wrong up to this place, and with a final byte there.
-    fn wrong(&mut self, _front: &Front<'_>, at: usize, byte: Option<u8>) -> (Event, usize)
+    fn wrong(
+        &mut self,
+        _front: &Front<'_>,
+        at: usize,
+        byte: Option<u8>,
+        _params: &Vec<CsiParam>,
+    ) -> (Event, usize)
         requires begins { BeginsCsi _front.now.bytes }
         requires met { self.old.looked ≤ length _front.now.bytes }
         requires place { at ≡ stop self.old.looked _front.now.bytes }
@@ -143,8 +149,7 @@ impl Events {
         requires stands { StandsAt byte (drop at _front.now.bytes) }
         requires why { IsWrongAt self.old.limit (before_stop self.old _front.now.bytes)
             (from_stop self.old _front.now.bytes) }
-        ensures { (list : List CsiParam)
-            → HasFound self.old _front.now.bytes result.0 result.1 list self.new }
+        ensures { HasFound self.old _front.now.bytes result.0 result.1 _params.now.items self.new }
     {
         match byte {
             Some(byte) if is_final(byte) => self.found(Event::Other, at + 1, Mode::Text),
@@ -178,7 +183,7 @@ impl Events {
             return Ok((Event::Control(byte), 0));
         }
         if !is_final(byte) {
-            return Ok(self.wrong(front, at, Some(byte)));
+            return Ok(self.wrong(front, at, Some(byte), params));
         }
         match front.read_without(at + 1, params)? {
             Some(control) => Ok(self.found(Event::Csi(control), at + 1, Mode::Text)),
@@ -205,7 +210,7 @@ impl Events {
     {
         let (at, byte) = stop(self.looked, front);
         if self.limit <= at {
-            return Ok(Some(self.wrong(front, at, byte)));
+            return Ok(Some(self.wrong(front, at, byte, params)));
         }
         match byte {
             Some(byte) => Ok(Some(self.at_byte(byte, at, front, params)?)),

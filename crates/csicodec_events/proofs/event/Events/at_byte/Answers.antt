@@ -15,9 +15,6 @@ wrong-requires-clause-why c =
     no_sequence e bytes c.args.byte s.1.0 stands control (λ list final q. no_final (before_stop e bytes) c.args.byte control s.0 none list final
     (subst (λ (x : List ℕ). Seq (without_controls x) list final) (next_place e bytes c.args.byte s.1.0 stands).front q))
 
-pub returns-then-not-is_final-clause-told : goal.returns-then-not-is_final-clause-told
-returns-then-not-is_final-clause-told c = c.wrong.ensures c.args.params.now.items
-
 pub returns-in-Some-clause-told : goal.returns-in-Some-clause-told
 returns-in-Some-clause-told c =
     let e = c.args.self.now in

@@ -1,6 +1,6 @@
 -- Each variant is found by its number.
-use Rattle.std.proofs.Common.{◌≡◌, ℕ, ◌≤◌, List, [], ◌∷◌, Option, None, Some, refl, sym, ap, ◌∙◌, inl, inr, pos}
-use Rattle.std.proofs.{lemmas.Bool.cases_Bool, lemmas.Bool.eqb-true, lemmas.Int.to_z-of_z, lemmas.Option.same_Some}
+use Rattle.std.proofs.{Common.◌≡◌, Common.ℕ, Common.◌≤◌, Common.List, Common.[], Common.◌∷◌, Common.Option, Common.None, Common.Some, Common.refl, Common.sym}
+use Rattle.std.proofs.{Common.ap, Common.◌∙◌, Common.arith, Common.pos, lemmas.Bool.eqb-true, lemmas.Int.to_z-of_z}
 use Rattle.std.specs.Prelude.{ℤ, negsuc, ◌↔◌, true}
 use mir.{Syntax.w64, Val.SFits, Val.of_z, Val.to_z}
 use Rattle.csicodec_names.specs.EnumNumbers.{cursor_style_number, cursor_styles, erase_in_display_number, erases_in_display, erase_in_line_number, erases_in_line, tabulation_clear_number, tabulation_clears, tabulation_control_number, tabulation_controls}
@@ -22,12 +22,7 @@ is_number-pos k (negsuc n) e = cc
 -- what is found has the number
 pub listed-number : {E : Type 0} (number : E → ℕ) (xs : List E) (z : ℤ) (x : E) → with_number number xs z ≡ Some x → z ≡ pos (number x)
 listed-number number [] z c e = cc
-listed-number number (x ∷ xs) z c e = elim (cases_Bool (is_number (number x) z)) [
-  | inl here ↦
-      let same : Some x ≡ Some c = rw here at e in
-      is_number-pos (number x) z here ∙ ap (λ y. pos (number y)) (same_Some _ _ same)
-  | inr later ↦ listed-number number xs z c (rw later at e)
-]
+listed-number number (x ∷ xs) z c e = grind (arith, listed-number number xs z c, is_number-pos)
 
 -- a number that none has finds nothing
 pub none-found : {E : Type 0} (number : E → ℕ) (all : List E) (z : ℤ) → ((x : E) → z ≡ pos (number x) → ⊥) → with_number number all z ≡ None
@@ -61,10 +56,7 @@ small number all is bound below x = among all (pos (number x)) x below (is.each 
   where
     among : (xs : List _) (z : ℤ) (y : _) → AllBelow number bound xs → with_number number xs z ≡ Some y → number y ≤ bound
     among [] z y below e = cc
-    among (w ∷ ws) z y below e = elim (cases_Bool (is_number (number w) z)) [
-      | inl here ↦ (let same : w ≡ y = same_Some _ _ (rw here at e) in rw (← same) below.0)
-      | inr later ↦ among ws z y below.1 (rw later at e)
-    ]
+    among (w ∷ ws) z y below e = grind (arith, among ws z y)
 
 pub styles : Coded cursor_style_number cursor_styles
 styles = record { each = λ c. elim c as (λ x. with_number cursor_style_number cursor_styles (pos (cursor_style_number x)) ≡ Some x) [ style.Default ↦ refl | _ ↦ refl ] }

@@ -1,6 +1,5 @@
 -- The table of places against the number of each code.
 use Rattle.std.proofs.Common.{◌≡◌, ◌==◌, ◌&&◌, ℕ, zero, suc, ◌+◌, Bool, true, List, [], ◌∷◌, Option, None, Some, get_or, refl, ◌∙◌, ap, arith}
-use Rattle.std.proofs.lemmas.Bool.{and_parts}
 use Rattle.csicodec_names.specs.{declared.codes.SgrCode.SgrCode, declared.codes.TheConstants.CODES, Numbers.number_of}
 use Rattle.csicodec_names.specs.declared.codes.SgrCode.TheVariants as code
 
@@ -21,16 +20,9 @@ numbered_codes = refl
 pub numbered_at : (xs : List (Option SgrCode)) (k i : ℕ) (code : SgrCode) → numbered k xs ≡ true → get_or xs i None ≡ Some code → k + i ≡ number_of code
 numbered_at [] k i code h e = cc
 numbered_at (None ∷ xs) k zero code h e = cc
-numbered_at (None ∷ xs) k (suc i) code h e = let r = numbered_at xs (k + 1) i code h e in omega (arith, r)
-numbered_at (Some x ∷ xs) k zero code h e =
-    let parts = and_parts (number_of x == k) (numbered (k + 1) xs) h in
-    let here : (number_of x == k) ≡ true = parts.0 in
-    let same : x ≡ code = cc in
-    let at : number_of x ≡ number_of code = ap number_of same in
-    grind (arith, here, at)
-numbered_at (Some x ∷ xs) k (suc i) code h e =
-    let parts = and_parts (number_of x == k) (numbered (k + 1) xs) h in
-    let r = numbered_at xs (k + 1) i code parts.1 e in omega (arith, r)
+numbered_at (None ∷ xs) k (suc i) code h e = grind (arith, numbered_at xs (k + 1) i code)
+numbered_at (Some x ∷ xs) k zero code h e = grind arith
+numbered_at (Some x ∷ xs) k (suc i) code h e = grind (arith, numbered_at xs (k + 1) i code)
 
 pub is_row : (i : ℕ) (code : SgrCode) → get_or CODES i None ≡ Some code → i ≡ number_of code
 is_row i code e = let r = numbered_at CODES 0 i code numbered_codes e in omega (arith, r)

@@ -4,6 +4,13 @@ ghost use Rattle.csicodec_names.specs.FlagBits.{button_bits, kitty_bits, modifie
 
 use bitflags::{Flag, Flags};
 
+/// Each of these constants of a type, with its name.
+macro_rules! flags {
+    ($type:ident: $($name:ident),*) => {
+        [$(Flag { name: stringify!($name), value: $type::$name }),*]
+    };
+}
+
 /// The keys that are held down while another key or a button is pressed. The bits of shift, meta and control in a report
 /// of the mouse are 4, 8 and 16 (xterm): twice these.
 ///
@@ -30,24 +37,7 @@ impl Modifiers {
     pub const CTRL: Modifiers = Modifiers { bits: 8 };
 }
 
-static MODIFIERS: [Flag<Modifiers>; 4] = [
-    Flag {
-        name: "NONE",
-        value: Modifiers::NONE,
-    },
-    Flag {
-        name: "SHIFT",
-        value: Modifiers::SHIFT,
-    },
-    Flag {
-        name: "ALT",
-        value: Modifiers::ALT,
-    },
-    Flag {
-        name: "CTRL",
-        value: Modifiers::CTRL,
-    },
-];
+static MODIFIERS: [Flag<Modifiers>; 4] = flags!(Modifiers: NONE, SHIFT, ALT, CTRL);
 
 impl Flags for Modifiers {
     type Bits = u16;
@@ -100,36 +90,8 @@ impl MouseButtons {
     pub const WHEEL_POSITIVE: MouseButtons = MouseButtons { bits: 32 };
 }
 
-static MOUSE_BUTTONS: [Flag<MouseButtons>; 7] = [
-    Flag {
-        name: "NONE",
-        value: MouseButtons::NONE,
-    },
-    Flag {
-        name: "LEFT",
-        value: MouseButtons::LEFT,
-    },
-    Flag {
-        name: "RIGHT",
-        value: MouseButtons::RIGHT,
-    },
-    Flag {
-        name: "MIDDLE",
-        value: MouseButtons::MIDDLE,
-    },
-    Flag {
-        name: "VERT_WHEEL",
-        value: MouseButtons::VERT_WHEEL,
-    },
-    Flag {
-        name: "HORZ_WHEEL",
-        value: MouseButtons::HORZ_WHEEL,
-    },
-    Flag {
-        name: "WHEEL_POSITIVE",
-        value: MouseButtons::WHEEL_POSITIVE,
-    },
-];
+static MOUSE_BUTTONS: [Flag<MouseButtons>; 7] =
+    flags!(MouseButtons: NONE, LEFT, RIGHT, MIDDLE, VERT_WHEEL, HORZ_WHEEL, WHEEL_POSITIVE);
 
 impl Flags for MouseButtons {
     type Bits = u8;
@@ -180,32 +142,9 @@ impl KittyKeyboardFlags {
     pub const REPORT_ASSOCIATED_TEXT: KittyKeyboardFlags = KittyKeyboardFlags { bits: 16 };
 }
 
-static KITTY_KEYBOARD_FLAGS: [Flag<KittyKeyboardFlags>; 6] = [
-    Flag {
-        name: "NONE",
-        value: KittyKeyboardFlags::NONE,
-    },
-    Flag {
-        name: "DISAMBIGUATE_ESCAPE_CODES",
-        value: KittyKeyboardFlags::DISAMBIGUATE_ESCAPE_CODES,
-    },
-    Flag {
-        name: "REPORT_EVENT_TYPES",
-        value: KittyKeyboardFlags::REPORT_EVENT_TYPES,
-    },
-    Flag {
-        name: "REPORT_ALTERNATE_KEYS",
-        value: KittyKeyboardFlags::REPORT_ALTERNATE_KEYS,
-    },
-    Flag {
-        name: "REPORT_ALL_KEYS_AS_ESCAPE_CODES",
-        value: KittyKeyboardFlags::REPORT_ALL_KEYS_AS_ESCAPE_CODES,
-    },
-    Flag {
-        name: "REPORT_ASSOCIATED_TEXT",
-        value: KittyKeyboardFlags::REPORT_ASSOCIATED_TEXT,
-    },
-];
+static KITTY_KEYBOARD_FLAGS: [Flag<KittyKeyboardFlags>; 6] =
+    flags!(KittyKeyboardFlags: NONE, DISAMBIGUATE_ESCAPE_CODES, REPORT_EVENT_TYPES,
+        REPORT_ALTERNATE_KEYS, REPORT_ALL_KEYS_AS_ESCAPE_CODES, REPORT_ASSOCIATED_TEXT);
 
 impl Flags for KittyKeyboardFlags {
     type Bits = u16;

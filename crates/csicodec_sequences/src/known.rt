@@ -1,5 +1,5 @@
 //! A control sequence that a row of the table reads.
-ghost use Rattle.std.specs.{Prelude.◌≡◌, Prelude.◌<◌, Prelude.◌≤◌, Prelude.IfSome, Prelude.Some, Prelude.length, Prelude.slice_get, Fmt.WritesOnOk, Option.option_map};
+ghost use Rattle.std.specs.{Prelude.◌≡◌, Prelude.◌≤◌, Prelude.Some, Prelude.length, Prelude.slice_get, Fmt.WritesOnOk, Option.option_map};
 ghost use Rattle.csicodec_sequences.specs.{Known.first_reading, Known.reading, Known.reading_of, Known.rows_of, Rows.behind_text, Rows.byte_text, Rows.form_text};
 ghost use Rattle.csicodec_sequences.specs.{Rows.numbers_text};
 
@@ -23,30 +23,6 @@ enum Table {
     Reports,
 }
 
-/// Where a row stands: its place in its file, from 0 on.
-#[derive(Clone, Copy)]
-struct RowPlace {
-    table: Table,
-    index: usize,
-}
-
-impl RowPlace {
-    /// What stands at the same place of the texts of its file.
-    fn text(
-        self,
-        dec: &'static [&'static str],
-        others: &'static [&'static str],
-        reports: &'static [&'static str],
-    ) -> &'static str {
-        let texts = match self.table {
-            Table::Dec => dec,
-            Table::Others => others,
-            Table::Reports => reports,
-        };
-        texts.get(self.index).copied().unwrap_or("")
-    }
-}
-
 /// A control sequence that has no action, by its row of the table and its values. It prints its numbers and its final
 /// character, without `ESC [`: each number that was left out with its value, so that what it prints is read as the same
 /// values of the same row.
@@ -59,7 +35,8 @@ impl RowPlace {
 #[derive(Drop)]
 pub struct KnownSequence {
     form: SequenceForm,
-    place: RowPlace,
+    table: Table,
+    index: usize,
     values: SlotValues,
 }
 
@@ -98,6 +75,21 @@ impl KnownSequence {
         )
     }
 
+    /// What stands at the row's place of the texts of its file.
+    fn text(
+        &self,
+        dec: &'static [&'static str],
+        others: &'static [&'static str],
+        reports: &'static [&'static str],
+    ) -> &'static str {
+        let texts = match self.table {
+            Table::Dec => dec,
+            Table::Others => others,
+            Table::Reports => reports,
+        };
+        texts.get(self.index).copied().unwrap_or("")
+    }
+
     /// The form.
     pub fn form(&self) -> &SequenceForm
         ensures { result.now ≡ self.now.form }
@@ -107,26 +99,23 @@ impl KnownSequence {
 
     /// Its name: the mnemonic of its source.
     pub fn name(&self) -> &'static str {
-        self.place.text(&DEC_NAMES, &OTHER_NAMES, &REPORT_NAMES)
+        self.text(&DEC_NAMES, &OTHER_NAMES, &REPORT_NAMES)
     }
 
     /// What a terminal does, or what it says by it.
     pub fn meaning(&self) -> &'static str {
-        self.place
-            .text(&DEC_MEANINGS, &OTHER_MEANINGS, &REPORT_MEANINGS)
+        self.text(&DEC_MEANINGS, &OTHER_MEANINGS, &REPORT_MEANINGS)
     }
 
     /// Where it is from: the document, and in it the clause or the heading.
     pub fn source(&self) -> &'static str {
-        self.place
-            .text(&DEC_SOURCES, &OTHER_SOURCES, &REPORT_SOURCES)
+        self.text(&DEC_SOURCES, &OTHER_SOURCES, &REPORT_SOURCES)
     }
 
     /// The names of its numbers, in order, a `;` behind each; the last one of a row with further numbers is that of all that
     /// follow.
     pub fn numbers(&self) -> &'static str {
-        self.place
-            .text(&DEC_NUMBERS, &OTHER_NUMBERS, &REPORT_NUMBERS)
+        self.text(&DEC_NUMBERS, &OTHER_NUMBERS, &REPORT_NUMBERS)
     }
 
     /// The values, in the order of the row's slots.
@@ -154,17 +143,16 @@ fn first_known(
     control: char,
 ) -> Option<KnownSequence>
     requires { length forms.now ≡ length slots.now }
-    ensures first { option_map reading_of result
+    ensures { option_map reading_of result
         ≡ first_reading (rows_of forms.now slots.now) params.now control }
-    ensures within { IfSome result (λ known. known.place.index < length forms.now) }
 {
     for index in 0..forms.len() {
         let form = forms[index];
         if let Some(values) = form.read(&slots[index], params, control) {
-            let place = RowPlace { table, index };
             return Some(KnownSequence {
                 form,
-                place,
+                table,
+                index,
                 values,
             });
         }

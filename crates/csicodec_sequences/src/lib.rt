@@ -11,10 +11,3 @@ mod rows;
 pub use known::KnownSequence;
 pub use parts::Parts;
 pub use row::{LONGEST, MOST, NumberSlot, SequenceForm, SlotValues};
-pub use rows::dec::{DEC_FORMS, DEC_MEANINGS, DEC_NAMES, DEC_NUMBERS, DEC_SLOTS, DEC_SOURCES};
-pub use rows::others::{
-    OTHER_FORMS, OTHER_MEANINGS, OTHER_NAMES, OTHER_NUMBERS, OTHER_SLOTS, OTHER_SOURCES,
-};
-pub use rows::reports::{
-    REPORT_FORMS, REPORT_MEANINGS, REPORT_NAMES, REPORT_NUMBERS, REPORT_SLOTS, REPORT_SOURCES,
-};

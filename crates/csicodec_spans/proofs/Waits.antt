@@ -3,7 +3,7 @@ use Rattle.std.proofs.Common.{Option, Some, None, MatchOption, ◌≡◌, ℕ, �
 use Rattle.std.proofs.{Math.Seq.take-append_seam, lemmas.List.length-append, lemmas.Bool.cases_lt}
 use Rattle.std.specs.List.{concat}
 use Rattle.csicodec_tokens.specs.{Body.Adds, Body.IsStopped, Body.Stops, Fault.IsBody, Fault.Begins}
-use Rattle.csicodec_tokens.proofs.{Longer.cuts, Runs.IsBody-front, Walks.none_begun}
+use Rattle.csicodec_tokens.proofs.{Longer.cuts, Runs.IsBody-front, Runs.none_begun, Spelled.is_begun}
 use Rattle.csicodec_spans.specs.Parts.{Part, AllowsCsi, Allows, IsFirstPart, AreFirstParts, IsUnsureBy, IsUnsure}
 use Rattle.csicodec_spans.specs.{declared.cut.Span.Span, declared.table.Kind.Kind, declared.table.Mode.Mode, Table.Answer, Table.Sequence, Table.Undecided}
 use Rattle.csicodec_spans.specs.{Table.ahead, Waits.AreCut, Waits.IsCut, Waits.HandsOut, Waits.cut_looks, Waits.looks_in, Private.Begun.Tells}
@@ -14,16 +14,11 @@ use Rattle.csicodec_spans.specs.declared.table.Kind.TheVariants as kind
 
 -- ---- bytes of which nothing is sure
 
-is_body : (body : List ℕ) → Begins (27 ∷ 91 ∷ body) → IsBody body
-is_body body (inl e) = absurd cc
-is_body body (inr (inl e)) = absurd cc
-is_body body (inr (inr (x, e, b))) = let same : x ≡ body = cc in subst IsBody same b
-
 -- behind ESC and `[` stands a body, and there are fewer bytes than `limit`
 pub unsure_body : (limit : ℕ) (m : Mode) (body : List ℕ) → IsUnsure limit m (27 ∷ 91 ∷ body) → IsBody body × (length body + 2 < limit)
 unsure_body limit m body o =
     let b = subst (λ (f : Answer). IsUnsureBy f limit (27 ∷ 91 ∷ body)) (opens m body) o in
-    (is_body body b.0, omega (arith, b.1))
+    (is_begun body b.0, omega (arith, b.1))
 
 pub body_unsure : (limit : ℕ) (m : Mode) (body : List ℕ) → IsBody body → length body + 2 < limit → IsUnsure limit m (27 ∷ 91 ∷ body)
 body_unsure limit m body b lt = subst (λ (f : Answer). IsUnsureBy f limit (27 ∷ 91 ∷ body)) (sym (opens m body)) (inr (inr (body, refl, b)), omega arith)

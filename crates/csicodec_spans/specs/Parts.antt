@@ -34,9 +34,7 @@ AllowsCsi limit bytes kind.Csi text after = IsSequence text × (length text ≤ 
     × (after ≡ mode.Text)
 AllowsCsi limit bytes kind.Other text after = IsMalformed limit bytes (length text)
     × (after ≡ mode.BadCsi)
-AllowsCsi limit bytes kind.Text text after = ⊥
-AllowsCsi limit bytes kind.Esc text after = ⊥
-AllowsCsi limit bytes kind.Str text after = ⊥
+AllowsCsi limit bytes _ text after = ⊥
 
 -- by the table's answer: a text of this kind in front of the bytes, and the mode behind it
 abbrev pub Allows : Answer → ℕ → List ℕ → Kind → List ℕ → Mode → Type 0
@@ -59,10 +57,9 @@ AreFirstParts limit m bytes (p ∷ ps) rest after =
 
 -- nothing is sure of the bytes yet: more could make them a sequence of at most `limit` bytes, or something else
 abbrev pub IsUnsureBy : Answer → ℕ → List ℕ → Type 0
-IsUnsureBy (More k n a) limit bytes = ⊥
-IsUnsureBy (Anew k n a) limit bytes = ⊥
 IsUnsureBy Sequence limit bytes = Begins bytes × (length bytes < limit)
 IsUnsureBy Undecided limit bytes = Unit {0}
+IsUnsureBy _ limit bytes = ⊥
 
 abbrev pub IsUnsure : ℕ → Mode → List ℕ → Type 0
 IsUnsure limit m bytes = IsUnsureBy (ahead m bytes) limit bytes
@@ -70,9 +67,7 @@ IsUnsure limit m bytes = IsUnsureBy (ahead m bytes) limit bytes
 -- more of what is open stands in front
 abbrev pub IsMore : Answer → Type 0
 IsMore (More k n a) = Unit {0}
-IsMore (Anew k n a) = ⊥
-IsMore Sequence = ⊥
-IsMore Undecided = ⊥
+IsMore _ = ⊥
 
 abbrev pub bytes_of : Part → List ℕ
 bytes_of p = p.bytes
@@ -111,8 +106,7 @@ pub record Cuts (limit : ℕ) (m : Mode) (bytes : List ℕ) (kind : Kind) (text 
 abbrev pub IsPlain : Answer → Type 0
 IsPlain (More k n a) = Unit {0}
 IsPlain (Anew k n a) = k ≡ kind.Esc
-IsPlain Sequence = ⊥
-IsPlain Undecided = ⊥
+IsPlain _ = ⊥
 
 -- where nothing is open, the first n bytes are a span that is no control sequence, and nothing is open behind it
 abbrev pub IsPlainFront : List ℕ → ℕ → Type 0

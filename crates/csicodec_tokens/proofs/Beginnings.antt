@@ -1,5 +1,5 @@
 -- The beginnings of sequences are the bytes that go on to a sequence.
-use Rattle.std.proofs.Common.{◌≡◌, ℕ, ℤ, pos, List, [], ◌∷◌, ◌++◌, length, refl, sym, ap, subst, inl, inr, arith, ◌+◌, ◌-◌, get_or, ◌∙◌, append_assoc}
+use Rattle.std.proofs.Common.{◌≡◌, ℕ, ℤ, pos, List, [], ◌∷◌, ◌++◌, length, refl, sym, ap, subst, inl, inr, arith, ◌-◌, get_or, ◌∙◌, append_assoc}
 use Rattle.std.proofs.lemmas.List.{length-append}
 use Rattle.csicodec_tokens.specs.{declared.param.CsiParam.CsiParam, declared.param.CsiParam.TheVariants.Integer, declared.param.CsiParam.TheVariants.P}
 use Rattle.csicodec_tokens.specs.{Digits.IsDigit, Digits.value, Sequence.Spells, Sequence.Apart, Sequence.Spellable, Sequence.Seq, Sequence.IsBodyByte}
@@ -7,7 +7,7 @@ use Rattle.csicodec_tokens.specs.{Sequence.IsFinal, Sequence.Reads, Fault.IsBody
 use Rattle.csicodec_tokens.specs.{declared.reader.ReadError.TheVariants.BadByte, declared.reader.ReadError.TheVariants.NumberTooLarge}
 use Rattle.csicodec_tokens.specs.{declared.reader.ReadError.TheVariants.Truncated, Body.Adds, Body.IsStopped}
 use Rattle.csicodec_tokens.proofs.Spelled.{cut_cases, IsBody-from_spelling, StopsAt, bad_byte, large_byte, cut_short}
-use Rattle.csicodec_tokens.proofs.{Reading.IsSpellable-number, Runs.IsBody-front, Runs.IsBody-back, Runs.digit_or_other, Walks.none_begun}
+use Rattle.csicodec_tokens.proofs.{Reading.IsSpellable-number, Runs.IsBody-front, Runs.IsBody-back, Runs.digit_or_other, Runs.none_begun}
 
 -- ---- each body spells a list
 
@@ -105,11 +105,8 @@ module _ (bytes body rest : List ℕ) (e : bytes ≡ 27 ∷ 91 ∷ body) (s : Is
   stops_at : StopsAt s.done s.byte
   stops_at = record { begun = s.on [] none_begun; stop = λ is. s.stops.none [] none_begun is }
 
-  whole : bytes ≡ 27 ∷ 91 ∷ (s.done ++ s.byte ∷ s.others)
-  whole = e ∙ ap (λ (t : List ℕ). 27 ∷ 91 ∷ t) (s.parts ∙ ap (λ (t : List ℕ). s.done ++ t) s.front)
-
-  place : length bytes - length rest ≡ length s.done + 2
-  place = omega (arith, ap length whole, length-append s.done (s.byte ∷ s.others), ap length s.front)
+  whole : bytes ≡ 27 ∷ 91 ∷ (s.done ++ rest)
+  whole = e ∙ ap (λ (t : List ℕ). 27 ∷ 91 ∷ t) s.parts
 
   pub found_behind : (final : ℕ) (others : List ℕ) → rest ≡ final ∷ others → IsFinal final → (list : List CsiParam) × (last : ℕ) × Reads bytes list last others
   found_behind final others cut is =
@@ -125,7 +122,7 @@ module _ (bytes body rest : List ℕ) (e : bytes ≡ 27 ∷ 91 ∷ body) (s : Is
       )
 
   pub bad_behind : IsBad (get_or rest 0 0) → FaultOf bytes (BadByte (length bytes - length rest))
-  bad_behind bad = rw place (rw whole (bad_byte s.done s.others s.byte (s.on [] none_begun) (subst IsBad (first_of rest s.others s.byte s.front) bad)))
+  bad_behind bad = bad_byte bytes s.done rest s.others s.byte whole s.front (s.on [] none_begun) (subst IsBad (first_of rest s.others s.byte s.front) bad)
 
   pub large_behind : IsBodyByte (get_or rest 0 0) → FaultOf bytes (NumberTooLarge (length bytes - length rest))
-  large_behind p = rw place (rw whole (large_byte s.done s.others s.byte stops_at (subst IsBodyByte (first_of rest s.others s.byte s.front) p)))
+  large_behind p = large_byte bytes s.done rest s.others s.byte whole s.front stops_at (subst IsBodyByte (first_of rest s.others s.byte s.front) p)

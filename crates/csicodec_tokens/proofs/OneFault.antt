@@ -1,17 +1,8 @@
 -- Bytes have one fault.
-use Rattle.std.proofs.Common.{ℕ, ◌≡◌, zero, suc, ◌+◌, ◌<◌, List, take, sym, ap, ◌∙◌, inl, inr, arith, refl}
+use Rattle.std.proofs.Common.{ℕ, ◌≡◌, ◌+◌, ◌<◌, List, sym, ap, ◌∙◌, arith}
 use Rattle.csicodec_tokens.specs.declared.reader.ReadError.TheVariants.{NotCsi, BadByte, NumberTooLarge, Truncated, Memory}
 use Rattle.csicodec_tokens.specs.{declared.reader.ReadError.ReadError, Fault.Begins, Fault.IsLeast, Fault.Fault}
-use Rattle.csicodec_tokens.proofs.Spelled.{IsBody-take}
-
--- the fronts of a beginning are beginnings
-Begins-take : (bytes : List ℕ) (k : ℕ) → Begins bytes → Begins (take k bytes)
-Begins-take bytes zero b = inl refl
-Begins-take bytes (suc k) (inl e) = inl (ap (take (suc k)) e)
-Begins-take bytes (suc zero) (inr (inr w)) = inr (inl (ap (take 1) w.1))
-Begins-take bytes (suc zero) (inr (inl e)) = inr (inl (ap (take 1) e))
-Begins-take bytes (suc (suc k)) (inr (inl e)) = inr (inl (ap (take (suc (suc k))) e))
-Begins-take bytes (suc (suc k)) (inr (inr w)) = inr (inr (take k w.0, ap (take (suc (suc k))) w.1, IsBody-take k w.0 w.2))
+use Rattle.csicodec_tokens.proofs.Spelled.{Begins-take}
 
 not_both : (bytes : List ℕ) (k : ℕ) → Begins bytes → IsLeast bytes k → ⊥
 not_both bytes k b l = l.there (Begins-take bytes (k + 1) b)

@@ -6,8 +6,8 @@ use Rattle.csicodec_tokens.specs.Private.Reading.{IsRun, IsNumber, IsTooLarge, I
 use Rattle.csicodec_tokens.specs.{declared.param.CsiParam.CsiParam, declared.param.CsiParam.TheVariants.Integer, declared.reader.ReadError.ReadError}
 use Rattle.csicodec_tokens.specs.{Digits.IsDigit, Digits.AreDigits, Digits.value, Digits.largest, Sequence.IsFinal, Sequence.SpellsToken, Sequence.Spells}
 use Rattle.csicodec_tokens.specs.{Sequence.IsSpellable, Sequence.Spellable, Sequence.Reads, Fault.IsBody, Fault.IsBad, Fault.FaultOf, Fault.Refuses}
-use Rattle.csicodec_tokens.proofs.Spelled.{nonempty, bad_byte, large_number, cut_short, IsBody-from_spelling, Spells-push, Spellable-push, EndsWhole-push}
-use Rattle.csicodec_tokens.proofs.{Runs.value_push, Runs.AreDigits-push, Unique.one_seq}
+use Rattle.csicodec_tokens.proofs.Spelled.{nonempty, StopsAt, bad_byte, large_byte, cut_short, IsBody-from_spelling, Spells-push, Spellable-push, EndsWhole-push}
+use Rattle.csicodec_tokens.proofs.{Runs.value_push, Runs.All-push, Unique.one_seq}
 
 pub first_cut : (xs : List ℕ) → 1 ≤ length xs → xs ≡ get_or xs 0 0 ∷ take (length xs - 1) (drop 1 xs)
 first_cut [] le = absurd (omega arith)
@@ -22,7 +22,7 @@ pub one_more_digit : (first : ℕ) (text left others : List ℕ) (n d m : ℕ) �
 one_more_digit first text left others n d m r e digit next fits = record {
   run = r.run ++ d ∷ [];
   parts = r.parts ∙ ap (λ (t : List ℕ). r.run ++ t) e ∙ sym (append_assoc r.run (d ∷ []) others);
-  digits = AreDigits-push r.run d r.digits digit;
+  digits = All-push IsDigit r.run d r.digits digit;
   total = omega (arith, next, r.total, value_push 0 (first ∷ r.run) d);
   fits = fits;
 }
@@ -90,12 +90,7 @@ body_of : (bytes rest : List ℕ) (list : List CsiParam) (h : HasRead bytes list
 body_of bytes rest list h = IsBody-from_spelling h.body list h.spellable h.spelled
 
 pub fault_at_byte : (bytes rest : List ℕ) (list : List CsiParam) → HasRead bytes list rest → 1 ≤ length rest → IsBad (get_or rest 0 0) → FaultOf bytes (BadByte (length bytes - length rest))
-fault_at_byte bytes rest list h le bad =
-    let b = get_or rest 0 0 in
-    let others = take (length rest - 1) (drop 1 rest) in
-    let whole : bytes ≡ 27 ∷ 91 ∷ (h.body ++ b ∷ others) = h.parts ∙ ap (λ (t : List ℕ). 27 ∷ 91 ∷ (h.body ++ t)) (first_cut rest le) in
-    let place : length bytes - length rest ≡ length h.body + 2 = omega (arith, ap length h.parts, length-append h.body rest) in
-    rw place (subst (λ (t : List ℕ). FaultOf t (BadByte (length h.body + 2))) (sym whole) (bad_byte h.body others b (body_of bytes rest list h) bad))
+fault_at_byte bytes rest list h le bad = bad_byte bytes h.body rest _ _ h.parts (first_cut rest le) (body_of bytes rest list h) bad
 
 pub fault_at_digit : (bytes rest : List ℕ) (first : ℕ) (text left : List ℕ) (list : List CsiParam) → HasRead bytes list rest → rest ≡ first ∷ text → IsDigit first → IsTooLarge first text left
     → FaultOf bytes (NumberTooLarge (length bytes - length left))
@@ -104,13 +99,15 @@ fault_at_digit bytes rest first text left list h cut d n =
     let digits : AreDigits run = (d, n.run.digits) in
     let parts : rest ≡ run ++ left = cut ∙ ap (λ (t : List ℕ). first ∷ t) n.run.parts in
     let more = spelled_more bytes rest run left list (Integer (pos n.number)) h parts (omega arith, digits, ap pos n.run.total) (IsSpellable-number n.number n.run.fits) in
-    let body : IsBody (h.body ++ run) = IsBody-from_spelling (h.body ++ run) (list ++ Integer (pos n.number) ∷ []) more.spellable more.spelled in
-    let behind : h.body ++ rest ≡ (h.body ++ run) ++ n.digit ∷ n.others =
-    ap (λ (t : List ℕ). h.body ++ t) (parts ∙ ap (λ (t : List ℕ). run ++ t) n.begins) ∙ sym (append_assoc h.body run (n.digit ∷ n.others)) in
-    let whole : bytes ≡ 27 ∷ 91 ∷ ((h.body ++ run) ++ n.digit ∷ n.others) = h.parts ∙ ap (λ (t : List ℕ). 27 ∷ 91 ∷ t) behind in
-    let place : length bytes - length left ≡ length (h.body ++ run) + 2 = omega (arith, ap length whole, length-append (h.body ++ run) (n.digit ∷ n.others), ap length n.begins) in
-    let large : largest < value (run ++ n.digit ∷ []) = omega (arith, n.large, n.run.total, value_push 0 run n.digit) in
-    rw place (subst (λ (t : List ℕ). FaultOf t (NumberTooLarge (length (h.body ++ run) + 2))) (sym whole) (large_number h.body run n.others n.digit body digits n.next large))
+    let longer = run ++ n.digit ∷ [] in
+    let large : largest < value longer = omega (arith, n.large, n.run.total, value_push 0 run n.digit) in
+    let last : (h.body ++ run) ++ n.digit ∷ [] ≡ h.body ++ (longer ++ []) = append_assoc h.body run (n.digit ∷ []) ∙ ap (λ (t : List ℕ). h.body ++ t) (sym (append-nil longer)) in
+    let stops : StopsAt (h.body ++ run) n.digit = record {
+      begun = IsBody-from_spelling (h.body ++ run) (list ++ Integer (pos n.number) ∷ []) more.spellable more.spelled;
+      stop = λ is. omega (arith, large, is.runs h.body longer [] last (All-push IsDigit run n.digit digits n.next));
+    } in
+    let whole : h.body ++ rest ≡ (h.body ++ run) ++ left = ap (λ (t : List ℕ). h.body ++ t) parts ∙ sym (append_assoc h.body run left) in
+    large_byte bytes (h.body ++ run) left n.others n.digit (h.parts ∙ ap (λ (t : List ℕ). 27 ∷ 91 ∷ t) whole) n.begins stops (omega (arith, n.next.0), omega (arith, n.next.1))
 
 pub fault_at_end : (bytes rest : List ℕ) (list : List CsiParam) → HasRead bytes list rest → length rest < 1 → FaultOf bytes (Truncated (length bytes - length rest))
 fault_at_end bytes [] list h lt =

@@ -3,6 +3,7 @@ use Rattle.std.proofs.Common.{◌≡◌, ℕ, ◌+◌, ◌-◌, ◌*◌, ◌≤�
 use Rattle.std.proofs.{lemmas.Bool.cases_lt, lemmas.List.append-nil}
 use Rattle.std.specs.List.{AllByRecursion}
 use Rattle.csicodec_tokens.specs.{Digits.IsDigit, Digits.AreDigits, Digits.value_after, Digits.value, Digits.largest, Sequence.IsBodyByte, Fault.IsBody}
+use Rattle.csicodec_tokens.specs.{Body.EndsIn}
 
 -- a text with one more byte, cut in two: the byte is the last of either part
 pub snoc_cases : (a b c : List ℕ) (x : ℕ) → a ++ x ∷ [] ≡ b ++ c
@@ -26,14 +27,6 @@ pub value_grows : (n : ℕ) (ds : List ℕ) → n ≤ value_after n ds
 value_grows n [] = omega arith
 value_grows n (d ∷ ds) = omega (arith, value_grows (10 * n + (d - 48)) ds)
 
-pub AreDigits-push : (ds : List ℕ) (d : ℕ) → AreDigits ds → IsDigit d → AreDigits (ds ++ d ∷ [])
-AreDigits-push [] d h p = (p, tt)
-AreDigits-push (c ∷ ds) d h p = (h.0, AreDigits-push ds d h.1 p)
-
-pub AreDigits-pushed : (ds : List ℕ) (d : ℕ) → AreDigits (ds ++ d ∷ []) → AreDigits ds × IsDigit d
-AreDigits-pushed [] d h = (tt, h.0)
-AreDigits-pushed (c ∷ ds) d h = let p = AreDigits-pushed ds d h.1 in ((h.0, p.0), p.1)
-
 module _ (P : ℕ → Type 0) where
   pub All-push : (xs : List ℕ) (x : ℕ) → AllByRecursion P xs → P x → AllByRecursion P (xs ++ x ∷ [])
   All-push [] x h p = (p, tt)
@@ -46,11 +39,6 @@ module _ (P : ℕ → Type 0) where
   pub All-back : (xs ys : List ℕ) → AllByRecursion P (xs ++ ys) → AllByRecursion P ys
   All-back [] ys h = h
   All-back (x ∷ xs) ys h = All-back xs ys h.1
-
--- the body of a sequence, and no run of digits that ends where it ends has a value above n
-pub record Ends (text : List ℕ) (n : ℕ) : Type 0 where
-  pub body : IsBody text
-  pub bound : (before run : List ℕ) → text ≡ before ++ run → AreDigits run → value run ≤ n
 
 nil_value : (before run after : List ℕ) → [] ≡ before ++ (run ++ after) → value run ≡ 0
 nil_value [] [] after e = refl
@@ -73,36 +61,51 @@ IsBody-push text b body p bound = record {
   ];
 }
 
-pub Ends-none : Ends [] 0
-Ends-none = record {
-  body = record { bytes = tt; runs = λ before run after e h. omega (arith, nil_value before run after e) };
-  bound = λ before run e h. omega (arith, nil_only before run e);
+pub none_begun : EndsIn [] 0
+none_begun = record {
+  is = record { bytes = tt; runs = λ before run after e h. omega (arith, nil_value before run after e) };
+  most = λ before run e h. omega (arith, nil_only before run e);
+  before = [];
+  run = [];
+  parts = refl;
+  digits = tt;
+  total = refl;
 }
 
-digit_bound : (text : List ℕ) (n d : ℕ) → Ends text n → (before run : List ℕ) → text ++ d ∷ [] ≡ before ++ run → AreDigits run → value run ≤ 10 * n + (d - 48)
+digit_bound : (text : List ℕ) (n d : ℕ) → EndsIn text n → (before run : List ℕ) → text ++ d ∷ [] ≡ before ++ run → AreDigits run → value run ≤ 10 * n + (d - 48)
 digit_bound text n d ends before run e h =
     elim (snoc_cases text before run d e) [
       | inl c ↦ omega (arith, nil_only [] run (sym c.0))
-      | inr c ↦ omega (arith, ap value c.1, value_push 0 c.0 d, ends.bound before c.0 c.2 (AreDigits-pushed c.0 d (subst AreDigits c.1 h)).0)
+      | inr c ↦ omega (arith, ap value c.1, value_push 0 c.0 d, ends.most before c.0 c.2 (All-front IsDigit c.0 (d ∷ []) (subst AreDigits c.1 h)))
     ]
 
-pub Ends-digit : (text : List ℕ) (n d : ℕ) → Ends text n → IsDigit d → 10 * n + (d - 48) ≤ largest → Ends (text ++ d ∷ []) (10 * n + (d - 48))
-Ends-digit text n d ends p le = record {
-  body = IsBody-push text d ends.body (omega arith, omega arith) (λ before run e h. omega (arith, digit_bound text n d ends before run e h));
-  bound = digit_bound text n d ends;
+pub digit_on : (text : List ℕ) (n d : ℕ) → EndsIn text n → IsDigit d → 10 * n + (d - 48) ≤ largest → EndsIn (text ++ d ∷ []) (10 * n + (d - 48))
+digit_on text n d ends p le = record {
+  is = IsBody-push text d ends.is (omega arith, omega arith) (λ before run e h. omega (arith, digit_bound text n d ends before run e h));
+  most = digit_bound text n d ends;
+  before = ends.before;
+  run = ends.run ++ d ∷ [];
+  parts = ap (λ (t : List ℕ). t ++ d ∷ []) ends.parts ∙ append_assoc ends.before ends.run (d ∷ []);
+  digits = All-push IsDigit ends.run d ends.digits p;
+  total = omega (arith, ends.total, value_push 0 ends.run d);
 }
 
 other_bound : (text : List ℕ) (b : ℕ) → ¬ IsDigit b → (before run : List ℕ) → text ++ b ∷ [] ≡ before ++ run → AreDigits run → value run ≡ 0
 other_bound text b other before run e h =
     elim (snoc_cases text before run b e) [
       | inl c ↦ nil_only [] run (sym c.0)
-      | inr c ↦ absurd (other (AreDigits-pushed c.0 b (subst AreDigits c.1 h)).1)
+      | inr c ↦ absurd (other (All-back IsDigit c.0 (b ∷ []) (subst AreDigits c.1 h)).0)
     ]
 
-pub Ends-other : (text : List ℕ) (n b : ℕ) → Ends text n → IsBodyByte b → ¬ IsDigit b → Ends (text ++ b ∷ []) 0
-Ends-other text n b ends p other = record {
-  body = IsBody-push text b ends.body p (λ before run e h. omega (arith, other_bound text b other before run e h));
-  bound = λ before run e h. omega (arith, other_bound text b other before run e h);
+pub other_on : (text : List ℕ) (n b : ℕ) → EndsIn text n → IsBodyByte b → ¬ IsDigit b → EndsIn (text ++ b ∷ []) 0
+other_on text n b ends p other = record {
+  is = IsBody-push text b ends.is p (λ before run e h. omega (arith, other_bound text b other before run e h));
+  most = λ before run e h. omega (arith, other_bound text b other before run e h);
+  before = text ++ b ∷ [];
+  run = [];
+  parts = sym (append-nil (text ++ b ∷ []));
+  digits = tt;
+  total = refl;
 }
 
 -- ---- parts of a body

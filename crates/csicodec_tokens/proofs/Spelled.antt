@@ -1,14 +1,14 @@
 -- Lists of tokens and their spellings, which are bodies, and which fault bytes have that begin with no sequence.
 use Rattle.std.proofs.Common.{ℕ, ℤ, ◌<◌, List, [], ◌∷◌, ◌++◌, length, refl, sym, ap, subst, ◌∙◌, append_assoc, arith, ◌≡◌, pos, ◌+◌, ◌-◌, ◌*◌, ◌≤◌, ◌≤ℤ◌, zero, suc, ◌⊎◌, get_or, take, drop, inl, inr}
-use Rattle.std.proofs.{lemmas.List.append-nil, lemmas.List.length-append, lemmas.List.take-append-drop, lemmas.List.take-take, lemmas.Int.ints}
-use Rattle.std.proofs.{Math.Seq.take-append_seam, Math.Seq.take-append-add, Math.Seq.get_or-append_seam}
+use Rattle.std.proofs.{lemmas.List.append-nil, lemmas.List.length-append, lemmas.List.take-append-drop, lemmas.List.take-append-le, lemmas.Int.ints}
+use Rattle.std.proofs.{Math.Seq.take-append-add, Math.Seq.get_or-append_seam}
 use Rattle.csicodec_tokens.specs.Sequence.{SpellsToken, Spells, IsSpellable, Apart, Spellable, IsBodyByte, IsFinal, Seq}
 use Rattle.csicodec_tokens.specs.{declared.param.CsiParam.CsiParam, declared.param.CsiParam.TheVariants.Integer, declared.param.CsiParam.TheVariants.P}
-use Rattle.csicodec_tokens.specs.{Digits.AreDigits, Digits.value_after, Digits.value, Digits.largest, Digits.IsDigit, Private.Reading.BeginsWithDigit}
-use Rattle.csicodec_tokens.specs.{Private.Reading.IsWhole, Private.Reading.EndsWhole, Fault.IsBody, Fault.Begins, Fault.NoSeq, Fault.IsLeast, Fault.IsBad}
-use Rattle.csicodec_tokens.specs.{Fault.FaultOf, declared.reader.ReadError.TheVariants.BadByte, declared.reader.ReadError.TheVariants.NumberTooLarge}
+use Rattle.csicodec_tokens.specs.{Digits.AreDigits, Digits.value_after, Digits.value, Digits.largest, Private.Reading.BeginsWithDigit, Private.Reading.IsWhole}
+use Rattle.csicodec_tokens.specs.{Private.Reading.EndsWhole, Body.EndsIn, Fault.IsBody, Fault.Begins, Fault.NoSeq, Fault.IsLeast, Fault.IsBad, Fault.FaultOf}
+use Rattle.csicodec_tokens.specs.{declared.reader.ReadError.TheVariants.BadByte, declared.reader.ReadError.TheVariants.NumberTooLarge}
 use Rattle.csicodec_tokens.specs.{declared.reader.ReadError.TheVariants.Truncated}
-use Rattle.csicodec_tokens.proofs.Runs.{value_grows, Ends, Ends-none, Ends-digit, Ends-other, All-back, AreDigits-push, IsBody-front}
+use Rattle.csicodec_tokens.proofs.Runs.{value_grows, none_begun, digit_on, other_on, All-back, IsBody-front}
 
 begins_with_run : (run rest : List ℕ) → 0 < length run → AreDigits run → BeginsWithDigit (run ++ rest)
 begins_with_run [] rest lt h = absurd (omega arith)
@@ -57,12 +57,12 @@ EndsWhole-push (t ∷ u ∷ list) token rest w = EndsWhole-push (u ∷ list) tok
 pub not_above : (n : ℕ) (z : ℤ) → z ≡ pos n → z ≤ℤ pos largest → n ≤ largest
 not_above n z e h = let h' : pos n ≤ℤ pos largest = subst (λ (y : ℤ). y ≤ℤ pos largest) e h in omega (arith, ints)
 
-run_more : (ds done : List ℕ) (n : ℕ) → Ends done n → AreDigits ds → value_after n ds ≤ largest → Ends (done ++ ds) (value_after n ds)
-run_more [] done n h p le = subst (λ (t : List ℕ). Ends t n) (sym (append-nil done)) h
+run_more : (ds done : List ℕ) (n : ℕ) → EndsIn done n → AreDigits ds → value_after n ds ≤ largest → EndsIn (done ++ ds) (value_after n ds)
+run_more [] done n h p le = subst (λ (t : List ℕ). EndsIn t n) (sym (append-nil done)) h
 run_more (d ∷ ds) done n h p le =
     let fits : 10 * n + (d - 48) ≤ largest = omega (arith, value_grows (10 * n + (d - 48)) ds) in
-    let one : Ends (done ++ d ∷ []) (10 * n + (d - 48)) = Ends-digit done n d h p.0 fits in
-    subst (λ (t : List ℕ). Ends t (value_after (10 * n + (d - 48)) ds)) (append_assoc done (d ∷ []) ds) (run_more ds (done ++ d ∷ []) (10 * n + (d - 48)) one p.1 le)
+    let one : EndsIn (done ++ d ∷ []) (10 * n + (d - 48)) = digit_on done n d h p.0 fits in
+    subst (λ (t : List ℕ). EndsIn t (value_after (10 * n + (d - 48)) ds)) (append_assoc done (d ∷ []) ds) (run_more ds (done ++ d ∷ []) (10 * n + (d - 48)) one p.1 le)
 
 -- a list that may follow a run of that value
 abbrev FitsBehind : ℕ → List CsiParam → Type 0
@@ -78,35 +78,38 @@ fits_behind_none : (list : List CsiParam) → FitsBehind 0 list
 fits_behind_none (Integer y ∷ list) = refl
 fits_behind_none _ = tt
 
-list_more : (list : List CsiParam) (done text : List ℕ) (n : ℕ) → Ends done n → FitsBehind n list → Spellable list → Spells text list → IsBody (done ++ text)
-list_more [] done text n h fits can s = subst IsBody (sym (ap (λ (t : List ℕ). done ++ t) s ∙ append-nil done)) h.body
+list_more : (list : List CsiParam) (done text : List ℕ) (n : ℕ) → EndsIn done n → FitsBehind n list → Spellable list → Spells text list → IsBody (done ++ text)
+list_more [] done text n h fits can s = subst IsBody (sym (ap (λ (t : List ℕ). done ++ t) s ∙ append-nil done)) h.is
 list_more (Integer z ∷ list) done text n h fits can s =
     let run = s.0 in
-    let h0 : Ends done 0 = subst (λ (k : ℕ). Ends done k) fits h in
+    let h0 : EndsIn done 0 = subst (λ (k : ℕ). EndsIn done k) fits h in
     let le : value run ≤ largest = not_above (value run) z s.3.2 can.0.1 in
-    let one : Ends (done ++ run) (value run) = run_more run done 0 h0 s.3.1 le in
+    let one : EndsIn (done ++ run) (value run) = run_more run done 0 h0 s.3.1 le in
     let all : IsBody ((done ++ run) ++ s.1) = list_more list (done ++ run) s.1 (value run) one (fits_behind_number z list (value run) can.1) can.2 s.4 in
     subst IsBody (append_assoc done run s.1 ∙ sym (ap (λ (t : List ℕ). done ++ t) s.2)) all
 list_more (P b ∷ list) done text n h fits can s =
-    let one : Ends (done ++ b ∷ []) 0 = Ends-other done n b h can.0.0 can.0.1 in
+    let one : EndsIn (done ++ b ∷ []) 0 = other_on done n b h can.0.0 can.0.1 in
     let all : IsBody ((done ++ b ∷ []) ++ s.1) = list_more list (done ++ b ∷ []) s.1 0 one (fits_behind_none list) can.2 s.4 in
     subst IsBody (append_assoc done (b ∷ []) s.1 ∙ sym (ap (λ (t : List ℕ). done ++ t) (s.2 ∙ ap (λ (t : List ℕ). t ++ s.1) s.3))) all
 
 pub IsBody-from_spelling : (text : List ℕ) (list : List CsiParam) → Spellable list → Spells text list → IsBody text
-IsBody-from_spelling text list can s = list_more list [] text 0 Ends-none (fits_behind_none list) can s
+IsBody-from_spelling text list can s = list_more list [] text 0 none_begun (fits_behind_none list) can s
 
 pub IsBody-take : (i : ℕ) (text : List ℕ) → IsBody text → IsBody (take i text)
 IsBody-take i text h = IsBody-front (take i text) (drop i text) (subst IsBody (sym (take-append-drop i text)) h)
 
 -- ---- fronts that begin a sequence, and fronts that don't
 
-begins_front : (body : List ℕ) (i k : ℕ) → IsBody (take i body) → k ≤ i + 2 → Begins (take k (27 ∷ 91 ∷ body))
-begins_front body i zero h le = inl refl
-begins_front body i (suc zero) h le = inr (inl refl)
-begins_front body i (suc (suc k)) h le =
-    inr (inr (take k body, refl, subst IsBody (take-take k i body (omega arith)) (IsBody-take k (take i body) h)))
+-- the fronts of a beginning are beginnings
+pub Begins-take : (bytes : List ℕ) (k : ℕ) → Begins bytes → Begins (take k bytes)
+Begins-take bytes zero b = inl refl
+Begins-take bytes (suc k) (inl e) = inl (ap (take (suc k)) e)
+Begins-take bytes (suc zero) (inr (inr w)) = inr (inl (ap (take 1) w.1))
+Begins-take bytes (suc zero) (inr (inl e)) = inr (inl (ap (take 1) e))
+Begins-take bytes (suc (suc k)) (inr (inl e)) = inr (inl (ap (take (suc (suc k))) e))
+Begins-take bytes (suc (suc k)) (inr (inr w)) = inr (inr (take k w.0, ap (take (suc (suc k))) w.1, IsBody-take k w.0 w.2))
 
-is_begun : (x : List ℕ) → Begins (27 ∷ 91 ∷ x) → IsBody x
+pub is_begun : (x : List ℕ) → Begins (27 ∷ 91 ∷ x) → IsBody x
 is_begun x (inl e) = absurd cc
 is_begun x (inr (inl e)) = absurd cc
 is_begun x (inr (inr w)) = let e : w.0 ≡ x = cc in subst IsBody e w.2
@@ -119,7 +122,7 @@ pub record StopsAt (body : List ℕ) (b : ℕ) : Type 0 where
 is_least : (body others : List ℕ) (b : ℕ) → StopsAt body b → IsLeast (27 ∷ 91 ∷ (body ++ b ∷ others)) (length body + 2)
 is_least body others b h = record {
   within = omega (arith, length-append body (b ∷ others));
-  before = λ k le. begins_front (body ++ b ∷ others) (length body) k (subst IsBody (sym (take-append_seam body (b ∷ others))) h.begun) le;
+  before = λ k le. subst Begins (sym (take-append-le k (27 ∷ 91 ∷ body) (b ∷ others) (omega arith))) (Begins-take (27 ∷ 91 ∷ body) k (inr (inr (body, refl, h.begun))));
   there = λ t.
       let e : (length body + 2) + 1 ≡ suc (suc (length body + 1)) = omega arith in
       let begun : Begins (27 ∷ 91 ∷ take (length body + 1) (body ++ b ∷ others)) = subst (λ (k : ℕ). Begins (take k (27 ∷ 91 ∷ (body ++ b ∷ others)))) e t in
@@ -147,7 +150,7 @@ cut_cases (w ∷ a) (z ∷ b) c d x y e =
       | inr (inr h) ↦ inr (inr (h.0, cc))
     ]
 
-no_final_within : (a b : List ℕ) (final : ℕ) → IsBody (a ++ final ∷ b) → IsFinal final → ⊥
+pub no_final_within : (a b : List ℕ) (final : ℕ) → IsBody (a ++ final ∷ b) → IsFinal final → ⊥
 no_final_within a b final h ends = omega (arith, (All-back IsBodyByte a (final ∷ b) h.bytes).0, ends)
 
 no_seq : (body others : List ℕ) (b : ℕ) → StopsAt body b → ¬ IsFinal b → NoSeq (27 ∷ 91 ∷ (body ++ b ∷ others))
@@ -167,24 +170,22 @@ there body others b =
     let e : suc (suc (length body)) ≡ length body + 2 = omega arith in
     sym (get_or-append_seam body b others 0) ∙ ap (λ (k : ℕ). get_or (27 ∷ 91 ∷ (body ++ b ∷ others)) k 0) e
 
-pub bad_byte : (body others : List ℕ) (b : ℕ) → IsBody body → IsBad b → FaultOf (27 ∷ 91 ∷ (body ++ b ∷ others)) (BadByte (length body + 2))
-bad_byte body others b h bad =
-    let stops : StopsAt body b = record { begun = h; stop = λ more. grind (arith, bad, (All-back IsBodyByte body (b ∷ []) more.bytes).0) } in
-    (no_seq body others b stops (λ p. grind (arith, bad, p)), (is_least body others b stops, omega arith, subst IsBad (there body others b) bad))
+-- where the rest begins with a byte that no body has there
+module _ (bytes body rest others : List ℕ) (b : ℕ) (parts : bytes ≡ 27 ∷ 91 ∷ (body ++ rest)) (front : rest ≡ b ∷ others) where
+  whole : bytes ≡ 27 ∷ 91 ∷ (body ++ b ∷ others)
+  whole = parts ∙ ap (λ (t : List ℕ). 27 ∷ 91 ∷ (body ++ t)) front
 
-pub large_byte : (body others : List ℕ) (b : ℕ) → StopsAt body b → IsBodyByte b → FaultOf (27 ∷ 91 ∷ (body ++ b ∷ others)) (NumberTooLarge (length body + 2))
-large_byte body others b stops p =
-    (no_seq body others b stops (λ f. omega (arith, f.0, p.1)), (is_least body others b stops, omega arith, λ bad. grind (arith, p, subst IsBad (sym (there body others b)) bad)))
+  place : length bytes - length rest ≡ length body + 2
+  place = omega (arith, ap length parts, length-append body rest)
 
-pub large_number : (body run others : List ℕ) (d : ℕ) → IsBody (body ++ run) → AreDigits run → IsDigit d → largest < value (run ++ d ∷ [])
-    → FaultOf (27 ∷ 91 ∷ ((body ++ run) ++ d ∷ others)) (NumberTooLarge (length (body ++ run) + 2))
-large_number body run others d h digits digit large = large_byte (body ++ run) others d (record { begun = h; stop = λ more. too_large more }) (omega (arith, digit.0), omega (arith, digit.1))
-  where
-    too_large : IsBody ((body ++ run) ++ d ∷ []) → ⊥
-    too_large more =
-        let longer = run ++ d ∷ [] in
-        let parts : (body ++ run) ++ d ∷ [] ≡ body ++ (longer ++ []) = append_assoc body run (d ∷ []) ∙ ap (λ (t : List ℕ). body ++ t) (sym (append-nil longer)) in
-        omega (arith, large, more.runs body longer [] parts (AreDigits-push run d digits digit))
+  pub bad_byte : IsBody body → IsBad b → FaultOf bytes (BadByte (length bytes - length rest))
+  bad_byte h bad =
+      let stops : StopsAt body b = record { begun = h; stop = λ more. grind (arith, bad, (All-back IsBodyByte body (b ∷ []) more.bytes).0) } in
+      rw (place, whole) (no_seq body others b stops (λ p. grind (arith, bad, p)), (is_least body others b stops, omega arith, subst IsBad (there body others b) bad))
+
+  pub large_byte : StopsAt body b → IsBodyByte b → FaultOf bytes (NumberTooLarge (length bytes - length rest))
+  large_byte stops p =
+      rw (place, whole) (no_seq body others b stops (λ f. omega (arith, f.0, p.1)), (is_least body others b stops, omega arith, λ bad. grind (arith, p, subst IsBad (sym (there body others b)) bad)))
 
 pub cut_short : (body : List ℕ) → IsBody body → FaultOf (27 ∷ 91 ∷ body) (Truncated (length (27 ∷ 91 ∷ body)))
 cut_short body h = (

@@ -1,11 +1,10 @@
 -- A text spells one spellable list, and no sequence begins another.
-use Rattle.std.proofs.Common.{◌≡◌, ℕ, ℤ, pos, List, [], ◌∷◌, ◌++◌, length, refl, sym, ap, subst, ◌∙◌, append_assoc, arith}
-use Rattle.std.proofs.lemmas.List.{length-append}
-use Rattle.std.specs.List.{AllByRecursion}
+use Rattle.std.proofs.Common.{◌≡◌, ℕ, ℤ, pos, List, [], ◌∷◌, ◌++◌, length, refl, sym, ap, subst, ◌∙◌, append_assoc, arith, inl, inr}
+use Rattle.std.proofs.lemmas.List.{length-append, append_cancel_left}
 use Rattle.csicodec_tokens.specs.{declared.param.CsiParam.CsiParam, declared.param.CsiParam.TheVariants.Integer, declared.param.CsiParam.TheVariants.P}
-use Rattle.csicodec_tokens.specs.{Digits.IsDigit, Digits.AreDigits, Digits.value, Sequence.IsBodyByte, Sequence.IsFinal, Sequence.Spells, Sequence.Apart}
-use Rattle.csicodec_tokens.specs.{Sequence.Spellable, Sequence.Seq, Private.Reading.BeginsWithDigit}
-use Rattle.csicodec_tokens.proofs.Spelled.{IsBody-from_spelling, begins_with_number, nonempty}
+use Rattle.csicodec_tokens.specs.{Digits.IsDigit, Digits.AreDigits, Digits.value, Sequence.IsFinal, Sequence.Spells, Sequence.Apart, Sequence.Spellable}
+use Rattle.csicodec_tokens.specs.{Sequence.Seq, Private.Reading.BeginsWithDigit, Fault.IsBody}
+use Rattle.csicodec_tokens.proofs.Spelled.{IsBody-from_spelling, begins_with_number, nonempty, cut_cases, no_final_within}
 
 not_nil : (text : List ℕ) (t : CsiParam) (list : List CsiParam) → Spells text (t ∷ list) → text ≡ [] → ⊥
 not_nil text t list s e = omega (arith, nonempty s.0 t s.3, ap length (sym s.2 ∙ e), length-append s.0 s.1)
@@ -44,24 +43,20 @@ one_spelling (P b' ∷ l) (P c ∷ m) text a b s t =
     let others : s.1 ≡ t.1 = cc in
     let i : l ≡ m = one_spelling l m t.1 a.2 b.2 (subst (λ (x : List ℕ). Spells x l) others s.4) t.4 in cc
 
-pub record SameCut (a b x y : List ℕ) (f g : ℕ) : Type 0 where
-  pub bodies : a ≡ b
-  pub finals : f ≡ g
-  pub rests : x ≡ y
-
 -- the first final byte ends the body
-pub one_cut : (a b x y : List ℕ) (f g : ℕ) → AllByRecursion IsBodyByte a → AllByRecursion IsBodyByte b → IsFinal f → IsFinal g
-    → a ++ f ∷ x ≡ b ++ g ∷ y → SameCut a b x y f g
-one_cut [] [] x y f g h k i j e = record { bodies = refl; finals = cc; rests = cc }
-one_cut [] (c ∷ b) x y f g h k i j e = let same : f ≡ c = cc in absurd (omega (arith, i, k.0))
-one_cut (c ∷ a) [] x y f g h k i j e = let same : c ≡ g = cc in absurd (omega (arith, j, h.0))
-one_cut (c ∷ a) (d ∷ b) x y f g h k i j e =
-    let r = one_cut a b x y f g h.1 k.1 i j cc in record { bodies = let bodies = r.bodies in cc; finals = r.finals; rests = r.rests }
+one_cut : (a b x y : List ℕ) (f g : ℕ) → IsBody a → IsBody b → IsFinal f → IsFinal g → a ++ f ∷ x ≡ b ++ g ∷ y → (a ≡ b) × (f ≡ g) × (x ≡ y)
+one_cut a b x y f g h k i j e = elim (cut_cases a b x y f g e) [
+  | inl c ↦ absurd (no_final_within a c.0 f (subst IsBody c.1 k) i)
+  | inr (inl same) ↦
+      let tails : f ∷ x ≡ g ∷ y = append_cancel_left a (f ∷ x) (g ∷ y) (e ∙ ap (λ (t : List ℕ). t ++ g ∷ y) (sym same.0)) in
+      (same.0, same.1, cc)
+  | inr (inr c) ↦ absurd (no_final_within b c.0 g (subst IsBody c.1 h) j)
+]
 
 pub one_seq : (a b x y : List ℕ) (l m : List CsiParam) (f g : ℕ) → Seq a l f → Seq b m g → a ++ x ≡ b ++ y → (a ≡ b) × (l ≡ m) × (f ≡ g) × (x ≡ y)
 one_seq a b x y l m f g s t e =
     let e1 : 27 ∷ 91 ∷ ((s.body ++ f ∷ []) ++ x) ≡ 27 ∷ 91 ∷ ((t.body ++ g ∷ []) ++ y) = sym (ap (λ (z : List ℕ). z ++ x) s.whole) ∙ e ∙ ap (λ (z : List ℕ). z ++ y) t.whole in
     let e2 : s.body ++ f ∷ x ≡ t.body ++ g ∷ y = sym (append_assoc s.body (f ∷ []) x) ∙ (cc) ∙ append_assoc t.body (g ∷ []) y in
-    let cut = one_cut s.body t.body x y f g (IsBody-from_spelling s.body l s.spellable s.spelled).bytes (IsBody-from_spelling t.body m t.spellable t.spelled).bytes s.ends t.ends e2 in
-    let lists : l ≡ m = one_spelling l m t.body s.spellable t.spellable (subst (λ (z : List ℕ). Spells z l) cut.bodies s.spelled) t.spelled in
-    (s.whole ∙ rw (cut.bodies, cut.finals) (sym t.whole), lists, cut.finals, cut.rests)
+    let cut = one_cut s.body t.body x y f g (IsBody-from_spelling s.body l s.spellable s.spelled) (IsBody-from_spelling t.body m t.spellable t.spelled) s.ends t.ends e2 in
+    let lists : l ≡ m = one_spelling l m t.body s.spellable t.spellable (subst (λ (z : List ℕ). Spells z l) cut.0 s.spelled) t.spelled in
+    (s.whole ∙ rw (cut.0, cut.1) (sym t.whole), lists, cut.1, cut.2)

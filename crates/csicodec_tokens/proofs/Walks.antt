@@ -6,47 +6,23 @@ use Rattle.std.proofs.{lemmas.List.Sums.prefix_len-le-length, lemmas.List.Sums.p
 use Rattle.std.specs.List.{AllByRecursion, prefix_len}
 use Rattle.csicodec_tokens.specs.{Digits.IsDigit, Digits.largest, Sequence.IsBodyByte, Fault.IsBody, Body.EndsIn, Body.Adds, Body.Stops, Body.IsStopped}
 use Rattle.csicodec_tokens.specs.{Private.Walking.body_byte, Private.Walking.IsWalked}
-use Rattle.csicodec_tokens.proofs.Runs.{digit_or_other, value_push, AreDigits-push, All-back, All-front, Ends, Ends-none, Ends-digit, Ends-other}
-
-ends : (body : List ℕ) (n : ℕ) → EndsIn body n → Ends body n
-ends body n e = record { body = e.is; bound = e.most }
-
-pub none_begun : EndsIn [] 0
-none_begun = record { is = Ends-none.body; most = Ends-none.bound; before = []; run = []; parts = refl; digits = tt; total = refl }
+use Rattle.csicodec_tokens.proofs.Runs.{digit_or_other, value_push, All-push, All-back, All-front, digit_on, other_on}
 
 -- ---- one byte more
-
-digit_on : (body : List ℕ) (n d m : ℕ) → EndsIn body n → IsDigit d → m ≡ 10 * n + (d - 48) → m ≤ largest → EndsIn (body ++ d ∷ []) m
-digit_on body n d m e p same le =
-    let more = Ends-digit body n d (ends body n e) p (omega arith) in
-    record {
-      is = more.body;
-      most = λ before run parts digits. omega (arith, more.bound before run parts digits, same);
-      before = e.before;
-      run = e.run ++ d ∷ [];
-      parts = ap (λ (t : List ℕ). t ++ d ∷ []) e.parts ∙ append_assoc e.before e.run (d ∷ []);
-      digits = AreDigits-push e.run d e.digits p;
-      total = omega (arith, same, e.total, value_push 0 e.run d);
-    }
-
-other_on : (body : List ℕ) (n b : ℕ) → Ends body n → IsBodyByte b → ¬ IsDigit b → EndsIn (body ++ b ∷ []) 0
-other_on body n b e p other =
-    let more = Ends-other body n b e p other in
-    record { is = more.body; most = more.bound; before = body ++ b ∷ []; run = []; parts = sym (append-nil (body ++ b ∷ [])); digits = tt; total = refl }
 
 too_large : (body : List ℕ) (n d : ℕ) → EndsIn body n → IsDigit d → largest < 10 * n + (d - 48) → IsBody (body ++ d ∷ []) → ⊥
 too_large body n d e p large is =
     let longer = e.run ++ d ∷ [] in
     let parts : body ++ d ∷ [] ≡ e.before ++ (longer ++ []) =
     ap (λ (t : List ℕ). t ++ d ∷ []) e.parts ∙ append_assoc e.before e.run (d ∷ []) ∙ ap (λ (t : List ℕ). e.before ++ t) (sym (append-nil longer)) in
-    omega (arith, large, e.total, value_push 0 e.run d, is.runs e.before longer [] parts (AreDigits-push e.run d e.digits p))
+    omega (arith, large, e.total, value_push 0 e.run d, is.runs e.before longer [] parts (All-push IsDigit e.run d e.digits p))
 
 pub digit_step : (r : Option ℕ) (n d : ℕ) → IsDigit d → MatchOption r (largest < 10 * n + (d - 48)) (λ m. (m ≡ 10 * n + (d - 48)) × (m ≤ largest)) → MatchOption r (Stops n (d ∷ [])) (Adds n (d ∷ []))
 digit_step None n d p h = record { none = λ body e is. too_large body n d e p h is }
-digit_step (Some m) n d p h = record { on = λ body e. digit_on body n d m e p h.0 h.1 }
+digit_step (Some m) n d p h = record { on = λ body e. rw h.0 (digit_on body n d e p (omega (arith, h.0, h.1))) }
 
 pub other_step : (b n : ℕ) → IsBodyByte b → ¬ IsDigit b → Adds n (b ∷ []) 0
-other_step b n p other = record { on = λ body e. other_on body n b (ends body n e) p other }
+other_step b n p other = record { on = λ body e. other_on body n b e p other }
 
 pub stop_step : (b n : ℕ) → ¬ IsBodyByte b → Stops n (b ∷ [])
 stop_step b n other = record { none = λ body e is. other (All-back IsBodyByte body (b ∷ []) is.bytes).0 }
@@ -103,19 +79,19 @@ most_grows (suc j) (suc k) le =
     omega (arith, low, high, most_grows j k (omega (arith, le)))
 
 -- a body with some bytes more, of which no more than sixteen may be digits of one number
-few_on : (front body : List ℕ) (n j : ℕ) → Ends body n → n ≤ most j → j + length front ≤ 16 → AllByRecursion IsBodyByte front → (m : ℕ) × Ends (body ++ front) m
-few_on [] body n j e le few all = (n, subst (λ (t : List ℕ). Ends t n) (sym (append-nil body)) e)
+few_on : (front body : List ℕ) (n j : ℕ) → EndsIn body n → n ≤ most j → j + length front ≤ 16 → AllByRecursion IsBodyByte front → (m : ℕ) × EndsIn (body ++ front) m
+few_on [] body n j e le few all = (n, subst (λ (t : List ℕ). EndsIn t n) (sym (append-nil body)) e)
 few_on (b ∷ front) body n j e le few all =
     let whole = append_assoc body (b ∷ []) front in
-    let on : (m : ℕ) → Ends (body ++ b ∷ []) m → m ≤ most (suc j) → (k : ℕ) × Ends (body ++ b ∷ front) k =
-    λ m more fits. subst (λ (t : List ℕ). (k : ℕ) × Ends t k) whole (few_on front (body ++ b ∷ []) m (suc j) more fits (omega (arith, few)) all.1) in
+    let on : (m : ℕ) → EndsIn (body ++ b ∷ []) m → m ≤ most (suc j) → (k : ℕ) × EndsIn (body ++ b ∷ front) k =
+    λ m more fits. subst (λ (t : List ℕ). (k : ℕ) × EndsIn t k) whole (few_on front (body ++ b ∷ []) m (suc j) more fits (omega (arith, few)) all.1) in
     elim (digit_or_other b) [
-      | inr other ↦ on 0 (Ends-other body n b e all.0 other) (omega arith)
+      | inr other ↦ on 0 (other_on body n b e all.0 other) (omega arith)
       | inl digit ↦
           let next : most (suc j) ≡ 10 * most j + 9 = refl in
           let fits : 10 * n + (b - 48) ≤ most (suc j) = omega (arith, le, digit.0, digit.1, next) in
           let all : most 16 ≡ 9999999999999999 = refl in
-          on (10 * n + (b - 48)) (Ends-digit body n b e digit (omega (arith, fits, most_grows (suc j) 16 (omega (arith, few)), all))) fits
+          on (10 * n + (b - 48)) (digit_on body n b e digit (omega (arith, fits, most_grows (suc j) 16 (omega (arith, few)), all))) fits
     ]
 
 in_body : (b : ℕ) → body_byte b ≡ true → IsBodyByte b
@@ -153,7 +129,7 @@ module _ (bytes : List ℕ) (r : ℕ) (room : 16 ≤ length bytes) (found : r �
         others = drop (suc r) bytes;
         parts = sym (take-append-drop r bytes);
         front = drop-cons bytes r 0 (omega (arith, lt, room));
-        on = λ body at. (few_on front body 0 0 (ends body 0 at) (omega arith) (omega (arith, few, front_few)) (front_is r (omega arith))).1.body;
+        on = λ body at. (few_on front body 0 0 at (omega arith) (omega (arith, few, front_few)) (front_is r (omega arith))).1.is;
         stops = record { none = λ body at is. stop_is lt (All-back IsBodyByte front (b ∷ []) (All-back IsBodyByte body (front ++ b ∷ []) is.bytes)).0 };
       }
 
@@ -174,7 +150,7 @@ module _ (bytes : List ℕ) (r : ℕ) (room : 16 ≤ length bytes) (found : r �
         parts = sym (take-append-drop (suc k) bytes);
         adds = rw parts (record {
           on = λ body at.
-              let more = few_on front body 0 0 (ends body 0 at) (omega arith) (omega (arith, few, le, front_few)) (All-front IsBodyByte front (b ∷ []) all) in
+              let more = few_on front body 0 0 at (omega arith) (omega (arith, few, le, front_few)) (All-front IsBodyByte front (b ∷ []) all) in
               subst (λ (t : List ℕ). EndsIn t 0) (append_assoc body front (b ∷ []))
               (other_on (body ++ front) more.0 b more.1 (All-back IsBodyByte front (b ∷ []) all).0 no);
         });

@@ -12,31 +12,37 @@ use Rattle.csicodec_osc.specs.{Private.Reading.read_by}
 
 -- ---- the first `;`
 
-pub halves-of : (a b : List ℕ) → is_field a ≡ true → halves (a ++ 59 ∷ b) ≡ Some (a, b)
+pub halves-of : (a b : List ℕ) → is_field a ≡ true → halves 59 (a ++ 59 ∷ b) ≡ Some (a, b)
 halves-of [] b h = refl
 halves-of (x ∷ a) b h = grind (arith, nat_tests, halves-of a b)
 
-pub halves-is : (text : List ℕ) (cut : List ℕ × List ℕ) → halves text ≡ Some cut → (is_field cut.0 ≡ true) × (text ≡ cut.0 ++ 59 ∷ cut.1)
-halves-is [] cut e = cc
-halves-is (x ∷ text) cut e = grind (arith, nat_tests, halves-is text)
+pub halves_is : (text : List ℕ) (cut : List ℕ × List ℕ) → halves 59 text ≡ Some cut
+    → (is_field cut.0 ≡ true) × (text ≡ cut.0 ++ 59 ∷ cut.1)
+halves_is [] cut e = cc
+halves_is (x ∷ text) cut e = grind (arith, nat_tests, halves_is text)
 
-abbrev pub is_semicolon : ℕ → Bool
-is_semicolon b = b == 59
+pub no_halves : (text : List ℕ) → halves 59 text ≡ None → is_field text ≡ true
+no_halves [] e = refl
+no_halves (b ∷ text) e = grind (arith, nat_tests, no_halves text)
 
-pub none_cut : (text : List ℕ) → None ≡ position is_semicolon text → (halves text ≡ None) × (is_field text ≡ true)
-none_cut [] e = (refl, refl)
-none_cut (b ∷ text) e = grind (arith, nat_tests, none_cut text)
+-- by the place of the first such byte
+pub none_cut : (at : ℕ) (bytes : List ℕ) → None ≡ position (λ b. b == at) bytes
+    → None ≡ halves at bytes
+none_cut at [] e = refl
+none_cut at (b ∷ bytes) e = grind (arith, nat_tests, none_cut at bytes)
 
-reads-at : (text : List ℕ) (place : ℕ) → Some place ≡ position is_semicolon text → halves text ≡ Some (take place text, drop (place + 1) text)
-reads-at [] place e = cc
-reads-at (b ∷ text) zero e = grind (arith, nat_tests)
-reads-at (b ∷ text) (suc m) e = grind (arith, nat_tests, reads-at text m)
+cut_at : (at : ℕ) (bytes : List ℕ) (place : ℕ) → Some place ≡ position (λ b. b == at) bytes
+    → Some (take place bytes, drop (place + 1) bytes) ≡ halves at bytes
+cut_at at [] place e = cc
+cut_at at (b ∷ bytes) zero e = grind (arith, nat_tests)
+cut_at at (b ∷ bytes) (suc m) e = grind (arith, nat_tests, cut_at at bytes m)
 
--- the same, as `&text[place + 1..]` has it
-pub cut_at : (text : List ℕ) (place : ℕ) → Some place ≡ position is_semicolon text
-    → (text ≡ take place text ++ 59 ∷ take (length text - (place + 1)) (drop (place + 1) text)) × (is_field (take place text) ≡ true)
-    × (halves text ≡ Some (take place text, take (length text - (place + 1)) (drop (place + 1) text)))
-cut_at text place e = let (field, whole) = halves-is text _ (reads-at text place e) in rw take_rest (whole, field, reads-at text place e)
+-- the same, as `&bytes[place + 1..]` has it
+pub cut_rest : (at : ℕ) (bytes : List ℕ) (place : ℕ)
+    → Some place ≡ position (λ b. b == at) bytes
+    → Some (take place bytes, take (length bytes - (place + 1)) (drop (place + 1) bytes))
+    ≡ halves at bytes
+cut_rest at bytes place e = rw take_rest (cut_at at bytes place e)
 
 -- ---- a number in front
 
@@ -71,8 +77,8 @@ pub body-is : (f : Form) (o : Option (List ℕ)) (body : Body) → read_body f o
 body-is Several o body e = grind arith
 body-is OneText (Some text) body e = grind arith
 body-is Message (Some text) body e = grind arith
-body-is TwoTexts (Some text) body e = grind (arith, halves-is text)
-body-is TextAsked (Some text) body e = grind (arith, halves-is text, asked-is)
+body-is TwoTexts (Some text) body e = grind (arith, halves_is text)
+body-is TextAsked (Some text) body e = grind (arith, halves_is text, asked-is)
 body-is _ _ body e = cc
 
 -- ---- a number, and what stands behind it

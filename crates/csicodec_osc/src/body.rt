@@ -1,4 +1,6 @@
 //! The parts of a string: what stands between separators, and numbers.
+ghost use Rattle.std.specs.Prelude.{◌≡◌, ◌==◌, option_map, position};
+ghost use Rattle.csicodec_osc.specs.Private.Reading.{halves};
 
 use crate::shown::Quoted;
 use std::fmt;
@@ -65,10 +67,20 @@ pub fn tell<W: fmt::Write>(f: &mut fmt::Formatter<W>, words: &str, body: Body<'_
 }
 
 /// What is ahead of the first such byte, and what is behind it.
-pub fn split_at(bytes: &[u8], at: u8) -> Option<(&[u8], &[u8])> {
-    let place = bytes.iter().position(|byte| *byte == at)?;
-    let (front, rest) = bytes.split_at(place);
-    Some((front, rest.get(1..)?))
+pub(crate) fn split_at(bytes: &[u8], at: u8) -> Option<(&[u8], &[u8])>
+    ensures { option_map (λ cut. (cut.0.now, cut.1.now)) result ≡ halves at bytes.now }
+{
+    let Some(place) = place_of(bytes, at) else {
+        return None;
+    };
+    Some((&bytes[..place], &bytes[place + 1..]))
+}
+
+/// Where the first such byte stands.
+fn place_of(bytes: &[u8], at: u8) -> Option<usize>
+    ensures { result ≡ position (λ b. b == at) bytes.now }
+{
+    bytes.iter().position(|byte| *byte == at)
 }
 
 /// What is ahead of the first such byte, all where there is none; and what is behind it, nothing where there is none.

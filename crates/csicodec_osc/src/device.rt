@@ -37,10 +37,7 @@ fn parts(body: Body<'_>) -> Option<Control<'_>> {
         params,
         between: intermediates.last().copied().unwrap_or(0),
         last: *last,
-        data: Body {
-            bytes,
-            more: body.more,
-        },
+        data: body.with(bytes),
     })
 }
 

@@ -1,6 +1,8 @@
 //! Fields: what stands between semicolons.
-ghost use Rattle.std.specs.Prelude.{◌≡◌, ◌==◌, ◌++◌, ◌∷◌, true, IfNone, IfSome, option_map, option_and_then, position};
-ghost use Rattle.csicodec_osc.specs.{Osc.IsNext, Osc.is_field, Osc.list_text, Osc.percent_of, Private.Reading.halves};
+ghost use Rattle.std.specs.Prelude.{◌≡◌, option_map, option_and_then};
+ghost use Rattle.csicodec_osc.specs.Osc.{IsNext, list_text, percent_of};
+
+use crate::body::split_at;
 
 /// Fields, each behind a `;`.
 ///
@@ -21,7 +23,7 @@ impl<'a> OscFields<'a> {
         ensures { IsNext (list_text self.old) (option_map (λ f. f.now) result) (list_text self.new) }
     {
         let text = self.text?;
-        match halves(text) {
+        match split_at(text, b';') {
             Some((field, rest)) => {
                 self.text = Some(rest);
                 Some(field)
@@ -51,24 +53,4 @@ fn percent(text: &[u8]) -> Option<u8>
         [b'1', b'0', b'0'] => Some(100),
         _ => None,
     }
-}
-
-/// What stands ahead of the first `;`, and behind it.
-pub(crate) fn halves(text: &[u8]) -> Option<(&[u8], &[u8])>
-    ensures read { option_map (λ cut. (cut.0.now, cut.1.now)) result ≡ halves text.now }
-    ensures whole { IfSome result (λ cut. text.now ≡ cut.0.now ++ 59 ∷ cut.1.now) }
-    ensures field { IfSome result (λ cut. is_field cut.0.now ≡ true) }
-    ensures none { IfNone result (is_field text.now ≡ true) }
-{
-    let Some(place) = semicolon(text) else {
-        return None;
-    };
-    Some((&text[..place], &text[place + 1..]))
-}
-
-/// Where the first `;` stands.
-fn semicolon(text: &[u8]) -> Option<usize>
-    ensures { result ≡ position (λ b. b == 59) text.now }
-{
-    text.iter().position(|byte| *byte == b';')
 }

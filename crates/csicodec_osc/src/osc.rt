@@ -4,10 +4,11 @@ ghost use Rattle.csicodec_osc.specs.{Commands.form, Commands.number, Osc.Known, 
 ghost use Rattle.csicodec_osc.specs.{Private.Reading.behind, Private.Reading.read_body, Private.Reading.read_by};
 
 use crate::asked::Asked;
+use crate::body::split_at;
 use crate::command::{
     COMMANDS, ColorTable, Command, Dynamic, EditorMark, Folder, Mark, Progress, Title,
 };
-use crate::fields::{OscFields, halves};
+use crate::fields::OscFields;
 use std::alloc::AllocError;
 
 /// What the content of an OSC says. It borrows the texts, as they stand there: nothing is decoded, and no byte is checked but the
@@ -146,11 +147,11 @@ impl Command {
             )),
             Command::ResetColor(color) => Some(Osc::ResetColor(color, OscFields { text: tail })),
             Command::Link => {
-                let (params, address) = halves(tail?)?;
+                let (params, address) = split_at(tail?, b';')?;
                 Some(Osc::Link { params, address })
             }
             Command::Clipboard => {
-                let (selection, content) = halves(tail?)?;
+                let (selection, content) = split_at(tail?, b';')?;
                 let content = Asked::of(content);
                 Some(Osc::Clipboard { selection, content })
             }
@@ -160,11 +161,11 @@ impl Command {
             Command::Progress(progress) => Some(Osc::Progress(progress, OscFields { text: tail })),
             Command::Pointer => Some(Osc::Pointer(tail?)),
             Command::KittyNotice => {
-                let (metadata, payload) = halves(tail?)?;
+                let (metadata, payload) = split_at(tail?, b';')?;
                 Some(Osc::KittyNotice { metadata, payload })
             }
             Command::TitledNotice => {
-                let (title, text) = halves(tail?)?;
+                let (title, text) = split_at(tail?, b';')?;
                 Some(Osc::TitledNotice { title, text })
             }
             Command::Notice => {

@@ -11,11 +11,11 @@ behind [] (b ∷ bytes) = if b == 59 then Some (Some bytes) else None
 behind (n ∷ number) [] = None
 behind (n ∷ number) (b ∷ bytes) = if b == n then behind number bytes else None
 
--- what stands ahead of the first `;`, and behind it
-abbrev pub halves : List ℕ → Option (List ℕ × List ℕ)
-halves [] = None
-halves (b ∷ bytes) = if b == 59 then Some ([], bytes)
-    else option_map (λ cut. (b ∷ cut.0, cut.1)) (halves bytes)
+-- what stands ahead of the first such byte, and behind it
+abbrev pub halves : ℕ → List ℕ → Option (List ℕ × List ℕ)
+halves at [] = None
+halves at (b ∷ bytes) = if b == at then Some ([], bytes)
+    else option_map (λ cut. (b ∷ cut.0, cut.1)) (halves at bytes)
 
 -- what stands behind a number, read by a form
 abbrev pub read_body : Form → Option (List ℕ) → Option Body
@@ -25,9 +25,9 @@ read_body Message None = None
 read_body Message (Some text) = if is_message text then Some (Tail (Some text)) else None
 read_body Several o = Some (Tail o)
 read_body TwoTexts None = None
-read_body TwoTexts (Some text) = option_map (λ cut. Both cut.0 cut.1) (halves text)
+read_body TwoTexts (Some text) = option_map (λ cut. Both cut.0 cut.1) (halves 59 text)
 read_body TextAsked None = None
-read_body TextAsked (Some text) = option_map (λ cut. Ask cut.0 (asked cut.1)) (halves text)
+read_body TextAsked (Some text) = option_map (λ cut. Ask cut.0 (asked cut.1)) (halves 59 text)
 
 -- what the command reads of a content
 abbrev pub read_by : Command → List ℕ → Option Body

@@ -13,7 +13,7 @@ use Rattle.csicodec_spans.specs.declared.table.Kind.TheVariants as kind
 -- ---- where the stream waits no step follows
 
 none_wait : (e : Events) → Waits e [] e
-none_wait e = inr (inr (λ begins. let same = begins.1 in cc, none_unsure e.limit e.mode, refl))
+none_wait e = inr (λ begins. let same = begins.1 in cc, refl, inr (none_unsure e.limit e.mode))
 
 open_still : (e after : Events) (bytes : List ℕ) → BeginsCsi bytes
     → IsOpen e (before_stop e bytes) (from_stop e bytes) after → IsStill e bytes
@@ -44,21 +44,17 @@ text_first limit m a b bytes text rest x (q ∷ parts) p all s first =
 
 waits_still : (e after : Events) (bytes : List ℕ) → Waits e bytes after → IsStill e bytes
 waits_still e after bytes (inl w) = open_still e after bytes w.0 w.1
-waits_still e after bytes (inr (inl w)) = other_still e bytes w.0 (λ p rest a first sure.
-    let c = w.1.1.1 in
-    both_ways (is_unfinished bytes) (sure (text_first e.limit e.mode w.1.1.0 a bytes bytes [] rest c.parts p c.span c.first first)) w.1.0)
-waits_still e after bytes (inr (inr w)) = other_still e bytes w.0 (λ p rest a first sure. unsure_stops e.limit e.mode bytes p rest a w.1 first)
+waits_still e after bytes (inr (other, on, inl b)) = other_still e bytes other (λ p rest a first sure.
+    let c = b.1.1 in
+    both_ways (is_unfinished bytes) (sure (text_first e.limit e.mode b.1.0 a bytes bytes [] rest c.parts p c.span c.first first)) b.0)
+waits_still e after bytes (inr (other, on, inr u)) =
+    other_still e bytes other (λ p rest a first sure. unsure_stops e.limit e.mode bytes p rest a u first)
 
 waits_once : (e a b : Events) (bytes : List ℕ) → Waits e bytes a → Waits e bytes b → a ≡ b
 waits_once e a b bytes (inl w) (inl v) = w.1.looked ∙ sym v.1.looked
-waits_once e a b bytes (inl w) (inr (inl v)) = absurd (v.0 w.0)
-waits_once e a b bytes (inl w) (inr (inr v)) = absurd (v.0 w.0)
-waits_once e a b bytes (inr (inl w)) (inl v) = absurd (w.0 v.0)
-waits_once e a b bytes (inr (inr w)) (inl v) = absurd (w.0 v.0)
-waits_once e a b bytes (inr (inl w)) (inr (inl v)) = w.2 ∙ sym v.2
-waits_once e a b bytes (inr (inl w)) (inr (inr v)) = w.2 ∙ sym v.2
-waits_once e a b bytes (inr (inr w)) (inr (inl v)) = w.2 ∙ sym v.2
-waits_once e a b bytes (inr (inr w)) (inr (inr v)) = w.2 ∙ sym v.2
+waits_once e a b bytes (inl w) (inr v) = absurd (v.0 w.0)
+waits_once e a b bytes (inr w) (inl v) = absurd (w.0 v.0)
+waits_once e a b bytes (inr w) (inr v) = w.1 ∙ sym v.1
 
 -- the same bytes are told and the same wait, from before the stream waited
 back : (told : List Told) (e waiting mid after : Events) (bytes kept : List ℕ) → GoesOn e waiting bytes

@@ -1,7 +1,7 @@
 -- Of the forms of input: how far they go, that later bytes change nothing, and the bytes joined.
 use Rattle.std.proofs.Common.{◌≡◌, ℕ, ◌+◌, ◌-◌, ◌==◌, ◌<◌, ◌&&◌, ◌||◌, Bool, true, false, nat_le, if◌then◌else◌, inl, inr, List, [], ◌∷◌, ◌++◌, length, refl, sym, ap, subst, ◌∙◌, append_assoc, append-nil, lt-ltb, arith}
-use Rattle.std.proofs.{lemmas.Bool.and_parts, lemmas.Bool.eqb-true, lemmas.Bool.ltb-true, lemmas.Bool.cases_Bool, lemmas.Grind.flat_map-append}
-use Rattle.std.proofs.{lemmas.List.take-append-drop}
+use Rattle.std.proofs.{lemmas.Bool.and_parts, lemmas.Bool.ltb-true, lemmas.Bool.cases_Bool, lemmas.Grind.flat_map-append, lemmas.List.take-append-drop}
+use Rattle.std.proofs.{lemmas.Bool.Decides.nat_tests}
 use Rattle.std.specs.{List.concat, List.flat_map, Prelude.nat_lt}
 use Rattle.csicodec_tokens.specs.declared.param.CsiParam.{CsiParam}
 use Rattle.csicodec_spans.specs.declared.table.Mode.{Mode}
@@ -128,22 +128,15 @@ pub record IsFront (looked : ℕ) (bytes : List ℕ) (n : ℕ) : Type 0 where
 
 pub front : (d : Dialect) (m : Mode) (looked : ℕ) (bytes : List ℕ) (i : InputEvent) (n : ℕ)
     → ahead d m looked bytes ≡ form.Whole i n → IsFront looked bytes n
-front d m looked bytes i n is = by d bytes is
-  where
-    some : 0 < n
-    some = ltb-true 0 n (and_parts (is_own i) (nat_lt 0 n) (subst (λ (f : Form). fits f ≡ true) is (ahead_good d m looked bytes []).fit)).1
-
-    either_way : (t : Bool) (f : Form) → (looked == 0) ≡ t → (if t then f else form.AsOutput) ≡ form.Whole i n → (looked ≡ 0) × (f ≡ form.Whole i n)
-    either_way true f zero is = (eqb-true looked 0 zero, is)
-    either_way false f zero is = absurd cc
-
-    stands : (d : Dialect) (bytes : List ℕ) → (looked ≡ 0) × (in_input d m bytes ≡ form.Whole i n) → IsFront looked bytes n
-    stands d [] h = let none = h.1 in absurd cc
-    stands d (b ∷ bytes) h = record { fresh = h.0; some = some; within = omega arith }
-
-    by : (d : Dialect) (bytes : List ℕ) → ahead d m looked bytes ≡ form.Whole i n → IsFront looked bytes n
-    by dialect.Output bytes is = absurd cc
-    by d bytes is = stands d bytes (either_way (looked == 0) (in_input d m bytes) refl is)
+front dialect.Output m looked bytes i n is = absurd cc
+front d m looked [] i n is = absurd (grind (arith, nat_tests))
+front d m looked (b ∷ bytes) i n is =
+    let fit = subst (λ (f : Form). fits f ≡ true) is (ahead_good d m looked (b ∷ bytes) []).fit in
+    record {
+      fresh = grind (arith, nat_tests);
+      some = ltb-true 0 n (and_parts (is_own i) (nat_lt 0 n) fit).1;
+      within = omega arith;
+    }
 
 -- ---- what output has too is told as in output
 

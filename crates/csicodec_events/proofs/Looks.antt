@@ -116,8 +116,7 @@ wait_counted e after bytes l (inl w) =
     let o = w.1 in
     let looked : after.looked ≡ length (before_stop e bytes) = ap (λ (a : Events). a.looked) o.looked in
     begun_counted e after bytes [] w.0 l (omega (arith, looked, length-take at bytes, length-take (at + 1) bytes, length-drop at bytes, ap length o.ends)) (omega (arith, looked))
-wait_counted e after bytes l (inr (inl w)) = none_counted e after bytes [] l w.0
-wait_counted e after bytes l (inr (inr w)) = none_counted e after bytes [] l w.0
+wait_counted e after bytes l (inr w) = none_counted e after bytes [] l w.0
 
 open_looked : (e after : Events) (bytes : List ℕ) → IsLooked e bytes → BeginsCsi bytes
     → IsOpen e (before_stop e bytes) (from_stop e bytes) after → IsLooked after bytes
@@ -131,8 +130,7 @@ open_looked e after bytes l begins o =
 waits_looked : (e after : Events) (bytes : List ℕ) → IsLooked e bytes → Waits e bytes after
     → IsLooked after bytes
 waits_looked e after bytes l (inl w) = open_looked e after bytes l w.0 w.1
-waits_looked e after bytes l (inr (inl w)) = rw w.2 l
-waits_looked e after bytes l (inr (inr w)) = rw w.2 l
+waits_looked e after bytes l (inr w) = rw w.1 l
 
 -- ---- all events
 

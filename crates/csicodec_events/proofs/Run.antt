@@ -112,8 +112,7 @@ waits_back : (e : Events) (n : ℕ) (bytes : List ℕ) (after : Events) → stop
     → BeginsCsi bytes → Waits (onward e e.mode n) bytes after → Waits e bytes after
 waits_back e n bytes after same begins (inl w) = let o = w.1 in
     rw (← same) (inl (w.0, record { ends = o.ends; short = o.short; looked = o.looked }))
-waits_back e n bytes after same begins (inr (inl w)) = absurd (w.0 begins)
-waits_back e n bytes after same begins (inr (inr w)) = absurd (w.0 begins)
+waits_back e n bytes after same begins (inr w) = absurd (w.0 begins)
 
 pub met_within : (e : Events) (bytes : List ℕ) → IsMet e bytes → e.looked ≤ length bytes
 met_within e bytes (inl none) = omega (arith, none)
@@ -130,8 +129,7 @@ waits_on e waiting bytes more met (inl w) =
     let o = w.1 in
     let same = stop_on e.looked bytes more (met_within e bytes met) (omega (arith, ap length w.0.1)) o.ends in
     inr (begins_more bytes more w.0, length (before_stop e bytes), o.looked, same)
-waits_on e waiting bytes more met (inr (inl w)) = inl w.2
-waits_on e waiting bytes more met (inr (inr w)) = inl w.2
+waits_on e waiting bytes more met (inr w) = inl w.1
 
 -- what is told then, and what waits, is told and waits as if it hadn't waited
 pub told_same : (e waiting after : Events) (bytes : List ℕ) (t : Told) (list : List CsiParam)

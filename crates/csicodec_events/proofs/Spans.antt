@@ -69,7 +69,7 @@ text_waits e bytes m n span behind limit none other cuts zero holds =
     let some = cut_some e.limit e.mode bytes kind.Text span behind m limit cuts in
     let here = subst (λ (k : ℕ). IsHeld (take k span) (drop k span) behind) zero holds in
     record {
-      waits = inr (inl (other, all_held e m bytes [] span behind cuts parts some here, refl));
+      waits = inr (other, refl, inl (all_held e m bytes [] span behind cuts parts some here));
       again = λ more. inl none;
       limit = refl;
     }

@@ -1,7 +1,7 @@
 -- The beginning of a character: each front of it is one, and no other end of it.
 use Rattle.std.proofs.Common.{◌≡◌, ℕ, ◌<◌, List, [], ◌∷◌, ◌++◌, length, refl, ap, subst, sym, ◌∙◌, inl, inr, append-nil, arith}
 use Rattle.std.proofs.{lemmas.Bool.false_from_ne_true, lemmas.Bool.Decides.nat_tests}
-use Rattle.std.specs.Prelude.{Bool, true, false}
+use Rattle.std.specs.Prelude.{true, false}
 use Rattle.csicodec_events.specs.{Characters.is_unfinished, Characters.leads, Events.IsHeld}
 
 pub unfinished_front : (x y : List ℕ) → 0 < length x → is_unfinished (x ++ y) ≡ true

@@ -149,8 +149,7 @@ IsBegun e bytes = (is_unfinished bytes ≡ true)
 abbrev pub Waits : Events → List ℕ → Events → Type 0
 Waits e bytes after =
     (BeginsCsi bytes × IsOpen e (before_stop e bytes) (from_stop e bytes) after)
-    ⊎ (((BeginsCsi bytes → ⊥) × IsBegun e bytes × (after ≡ e))
-    ⊎ ((BeginsCsi bytes → ⊥) × IsUnsure e.limit e.mode bytes × (after ≡ e)))
+    ⊎ ((BeginsCsi bytes → ⊥) × (after ≡ e) × (IsBegun e bytes ⊎ IsUnsure e.limit e.mode bytes))
 
 -- ---- from call to call
 

@@ -1,5 +1,5 @@
 //! The bytes that a control sequence stands in front of, and what each look at one costs.
-ghost use Rattle.std.specs.Prelude.{◌≡◌, ◌<◌, ◌≤◌, ◌+◌, ◌*◌, ◌^◌, ◌∷◌, List, ℕ, IfOk, IfSome, IfNone, MatchOption, OnOk, drop, length, take};
+ghost use Rattle.std.specs.Prelude.{◌≡◌, ◌<◌, ◌≤◌, ◌+◌, ◌*◌, ◌^◌, ◌∷◌, List, ℕ, IfOk, IfSome, MatchOption, OnOk, drop, length, take};
 ghost use Rattle.csicodec_tokens.specs.{declared.param.CsiParam.CsiParam, Sequence.Reads, Sequence.Seq};
 ghost use Rattle.csicodec_events.specs.Events.{BeginsCsi, stop, without_controls};
 

@@ -1,5 +1,5 @@
 //! The event where a control sequence stands in front, or one that goes wrong, or isn't over.
-ghost use Rattle.std.specs.Prelude.{◌≡◌, ◌<◌, ◌≤◌, ◌+◌, ◌*◌, ◌^◌, ◌∷◌, ◌++◌, [], true, false, max, Option, Some, None, List, ℕ, length, take, drop, IfSome, IfNone, IfOk, OnErr, OnOk, MatchOption};
+ghost use Rattle.std.specs.Prelude.{◌≡◌, ◌<◌, ◌≤◌, ◌+◌, ◌*◌, ◌^◌, ◌++◌, max, Option, Some, None, List, ℕ, length, take, drop, IfSome, IfNone, IfOk, OnErr, OnOk, MatchOption};
 ghost use Rattle.csicodec_tokens.specs.{declared.param.CsiParam.CsiParam, Sequence.Seq};
 ghost use Rattle.csicodec_events.specs.Events.{BeginsCsi, IsMet, IsTold, IsWrongAt, Waits, before_stop, from_stop, is_control, is_final, is_passed, left, looks, onward, reach, stop, used, without_controls};
 ghost use Rattle.csicodec_events.specs.Private.Steps.{HasFound, HasWaited, StandsAt};

@@ -10,7 +10,7 @@ use csicodec_actions::Cursor;
 use csicodec_base::{CsiParam, OneBased, Sgr, Text, TextBuffer, read_csi_into};
 use csicodec_parser::{CSI, Unspecified, append_text};
 use std::alloc::{AllocError, Global};
-use std::fmt;
+use std::fmt::{self, Formatter, Write};
 
 /// The list that an action prints, by which its words are found.
 #[derive(Drop)]
@@ -80,17 +80,15 @@ pub struct ActionWords<'a> {
 }
 
 impl<'a> fmt::Display for ActionWords<'a> {
-    fn fmt<W: fmt::Write>(&self, f: &mut fmt::Formatter<W>) -> fmt::Result {
+    fn fmt<W: Write>(&self, f: &mut Formatter<W>) -> fmt::Result {
         match self.action {
             CSI::Sgr(attribute) => tell_attribute(f, attribute),
             CSI::Unspecified(unknown) => tell_unknown(f, unknown),
             _ => {
                 let list = self.list.params.as_slice();
-                let key = ListKey::of_action(list, self.list.control);
-                let words = match key.words(&ACTIONS) {
-                    None => key.without_intermediate().words(&ACTIONS),
-                    found => found,
-                };
+                let key = ListKey::new(list, self.list.control, list.len() as i64);
+                let words = key.words(&ACTIONS);
+                let words = words.or_else(|| key.without_intermediate().words(&ACTIONS));
                 fill(f, words.unwrap_or(""), list)
             }
         }
@@ -98,7 +96,7 @@ impl<'a> fmt::Display for ActionWords<'a> {
 }
 
 /// An attribute by its colour, or by the text that sets it.
-fn tell_attribute<W: fmt::Write>(f: &mut fmt::Formatter<W>, attribute: &Sgr) -> fmt::Result {
+fn tell_attribute<W: Write>(f: &mut Formatter<W>, attribute: &Sgr) -> fmt::Result {
     if let Some((ahead, color)) = color_of(attribute) {
         f.write_str(ahead)?;
         return tell_color(f, color);
@@ -110,10 +108,7 @@ fn tell_attribute<W: fmt::Write>(f: &mut fmt::Formatter<W>, attribute: &Sgr) -> 
 }
 
 /// What no table has a name for is told by its tokens, with SP for a blank, as the standards write it.
-pub(crate) fn tell_unknown<W: fmt::Write>(
-    f: &mut fmt::Formatter<W>,
-    unknown: &Unspecified,
-) -> fmt::Result {
+pub(crate) fn tell_unknown<W: Write>(f: &mut Formatter<W>, unknown: &Unspecified) -> fmt::Result {
     f.write_str("unknown  CSI ")?;
     for token in &unknown.params {
         match token {

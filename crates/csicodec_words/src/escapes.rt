@@ -2,7 +2,7 @@
 
 use crate::escape_rows::{CONTROLS, NAMES, OTHERS, SETS, SETS_OF_96, SETS_OF_SEVERAL};
 use crate::rows::find;
-use std::fmt;
+use std::fmt::{self, Formatter, Write};
 
 /// What an escape sequence is.
 #[derive(Clone, Copy)]
@@ -70,7 +70,7 @@ impl<'a> EscReading<'a> {
 }
 
 impl<'a> fmt::Display for EscReading<'a> {
-    fn fmt<W: fmt::Write>(&self, f: &mut fmt::Formatter<W>) -> fmt::Result {
+    fn fmt<W: Write>(&self, f: &mut Formatter<W>) -> fmt::Result {
         match escape_of(self.0) {
             Some(Escape::Named(words)) => f.write_str(words),
             Some(Escape::Set(place, set)) => write!(f, "SCS  {place}: {set}"),
@@ -80,7 +80,7 @@ impl<'a> fmt::Display for EscReading<'a> {
 }
 
 /// One without a name is told by its bytes, with SP for a blank.
-fn tell_unknown<W: fmt::Write>(f: &mut fmt::Formatter<W>, bytes: &[u8]) -> fmt::Result {
+fn tell_unknown<W: Write>(f: &mut Formatter<W>, bytes: &[u8]) -> fmt::Result {
     if bytes.len() > 2 {
         return f.write_str("unknown  escape sequence");
     }

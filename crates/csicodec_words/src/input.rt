@@ -1,11 +1,11 @@
 //! What a user did: keys, the focus, and the mouse by its reports.
 
 use crate::keys::KeyWords;
-use crate::mouse::Report;
-use csicodec_base::CsiParam;
+use crate::template::fill;
+use csicodec_base::CsiParam::{self, Integer, P};
 use csicodec_events::{Event, InputEvent};
 use csicodec_keys::read;
-use std::fmt;
+use std::fmt::{self, Formatter, Write};
 
 /// What a user did, as a terminal sends it. It prints as its words: a name, two blanks, and what it was: `key  Ctrl-c`.
 #[derive(Drop)]
@@ -14,14 +14,43 @@ pub enum Did {
     Key(KeyWords),
     /// A key, or something else that sends the same.
     Either(KeyWords, &'static str),
-    /// The mouse, by a report of three characters.
-    Mouse(Report),
+    /// The mouse, by a report of three characters: the button, the line and the column, each 32 and more than what it stands for.
+    Mouse([CsiParam; 5]),
     /// The terminal's window took the focus, or lost it.
     Focus(bool),
     /// What stands ahead of a character with which no key is known, and the character.
     Unknown(&'static str, char),
     /// A number before `$` with which no key is known.
     UnknownNumber(u8),
+}
+
+/// The words of a report of the mouse in three characters.
+const MOUSE: &str =
+    "mouse  {0@mouse} line {1@place}, column {2@place}{0&, with |4=shift|8=alt|16=control}";
+
+/// The number of the next character; 0 where there is none.
+fn next_number(text: &mut std::str::Chars<'_>) -> i64 {
+    text.next()
+        .map_or(0, |character| i64::from(u32::from(character)))
+}
+
+/// A report of the mouse: behind `ESC [ M` stand three characters, a byte each or in UTF-8 (xterm's ctlseqs, Mouse Tracking; mode 1005).
+fn report_of(bytes: &[u8]) -> [CsiParam; 5] {
+    let characters = bytes.get(3..).unwrap_or(&[]);
+    let [button, column, line] = match characters {
+        [button, column, line] => [*button, *column, *line].map(i64::from),
+        _ => {
+            let mut text = std::str::from_utf8(characters).unwrap_or("").chars();
+            [0; 3].map(|_: i64| next_number(&mut text))
+        }
+    };
+    [
+        Integer(button),
+        P(b';'),
+        Integer(line),
+        P(b';'),
+        Integer(column),
+    ]
 }
 
 /// What sends the same as the key that is read of an event. F3 with modifiers is also the cursor's place in line 1.
@@ -51,7 +80,7 @@ impl Did {
             InputEvent::Output(Event::Csi('I')) if params.is_empty() => Some(Did::Focus(true)),
             InputEvent::Output(Event::Csi('O')) if params.is_empty() => Some(Did::Focus(false)),
             InputEvent::Output(_) | InputEvent::Escape => None,
-            InputEvent::Mouse => Some(Did::Mouse(Report::of(bytes))),
+            InputEvent::Mouse => Some(Did::Mouse(report_of(bytes))),
             InputEvent::Ss3(byte) => Some(Did::Unknown("SS3 ", char::from(byte))),
             InputEvent::Linux(byte) => Some(Did::Unknown("CSI [ ", char::from(byte))),
             InputEvent::Alt(byte) => Some(Did::Unknown("ESC ", char::from(byte))),
@@ -66,11 +95,11 @@ impl Did {
 }
 
 impl fmt::Display for Did {
-    fn fmt<W: fmt::Write>(&self, f: &mut fmt::Formatter<W>) -> fmt::Result {
+    fn fmt<W: Write>(&self, f: &mut Formatter<W>) -> fmt::Result {
         match self {
             Did::Key(key) => write!(f, "{key}"),
             Did::Either(key, other) => write!(f, "{key} (or {other})"),
-            Did::Mouse(report) => write!(f, "{report}"),
+            Did::Mouse(report) => fill(f, MOUSE, report),
             Did::Focus(true) => f.write_str("focus  gained"),
             Did::Focus(false) => f.write_str("focus  lost"),
             Did::Unknown(ahead, character) => write!(f, "unknown  {ahead}{character}"),

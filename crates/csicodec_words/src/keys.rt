@@ -2,11 +2,11 @@
 
 use crate::key_words::KEYS;
 use bitflags::Flags;
-use csicodec_base::CsiParam;
+use csicodec_base::CsiParam::{self, Integer, P};
 use csicodec_events::{Event, InputEvent};
 use csicodec_keys::{Encoding, Key, KeyCode, KeyEvent, KeyModifiers, read};
 use csicodec_osc::{Shown, is_seen};
-use std::fmt;
+use std::fmt::{self, Formatter, Write};
 
 /// A key. It prints as its words: `key`, two blanks, what is held down, its name, the text that it gives, and whether it is repeated or
 /// released.
@@ -18,17 +18,8 @@ fn is_told(params: &[CsiParam], control: char) -> bool {
     matches!(control, 'u' | '~')
         || matches!(
             params,
-            [
-                CsiParam::Integer(1),
-                CsiParam::P(b';'),
-                CsiParam::Integer(_)
-            ] | [
-                CsiParam::Integer(1),
-                CsiParam::P(b';'),
-                CsiParam::Integer(_),
-                CsiParam::P(b':'),
-                CsiParam::Integer(_),
-            ]
+            [Integer(1), P(b';'), Integer(_)]
+                | [Integer(1), P(b';'), Integer(_), P(b':'), Integer(_),]
         )
 }
 
@@ -48,33 +39,16 @@ pub fn key_of(params: &[CsiParam], control: char) -> Option<KeyWords> {
 /// modifyOtherKeys). Its words have holes for numbers.
 pub fn key_by_number(control: char, params: &[CsiParam]) -> Option<&'static str> {
     Some(match (control, params) {
-        (
-            '~',
-            [
-                CsiParam::Integer(27),
-                CsiParam::P(b';'),
-                CsiParam::Integer(1..=256),
-                CsiParam::P(b';'),
-                CsiParam::Integer(_),
-            ],
-        ) => "key  of character {2}, modifiers {1} (modifyOtherKeys)",
-        ('u', [CsiParam::Integer(_)] | [CsiParam::Integer(_), CsiParam::P(b';')]) => {
-            "key  of character {0}"
-        }
-        (
-            'u',
-            [
-                CsiParam::Integer(_),
-                CsiParam::P(b';'),
-                CsiParam::Integer(1..=256),
-            ],
-        ) => "key  of character {0}, modifiers {1}",
+        ('~', [Integer(27), P(b';'), Integer(1..=256), P(b';'), Integer(_)]) =>
+            "key  of character {2}, modifiers {1} (modifyOtherKeys)",
+        ('u', [Integer(_)] | [Integer(_), P(b';')]) => { "key  of character {0}" }
+        ('u', [Integer(_), P(b';'), Integer(1..=256)]) => "key  of character {0}, modifiers {1}",
         _ => return None,
     })
 }
 
 impl fmt::Display for KeyWords {
-    fn fmt<W: fmt::Write>(&self, f: &mut fmt::Formatter<W>) -> fmt::Result {
+    fn fmt<W: Write>(&self, f: &mut Formatter<W>) -> fmt::Result {
         let key = &self.0;
         f.write_str("key  ")?;
         write_held(f, key.modifiers)?;
@@ -99,18 +73,18 @@ static HELD: [&str; 6] = ["Ctrl-", "Alt-", "Shift-", "Super-", "Hyper-", "Meta-"
 static BITS: [u8; 6] = [4, 2, 1, 8, 16, 32];
 
 /// The modifiers, each with a hyphen behind it.
-fn write_held<W: fmt::Write>(f: &mut fmt::Formatter<W>, modifiers: KeyModifiers) -> fmt::Result {
+fn write_held<W: Write>(f: &mut Formatter<W>, modifiers: KeyModifiers) -> fmt::Result {
     let held = modifiers.bits();
-    for (place, bit) in BITS.iter().enumerate() {
+    for (bit, name) in BITS.iter().zip(HELD.iter()) {
         if held & *bit != 0 {
-            f.write_str(HELD.get(place).copied().unwrap_or(""))?;
+            f.write_str(name)?;
         }
     }
     Ok(())
 }
 
 /// The name of a key, or the character that stands on it.
-fn write_code<W: fmt::Write>(f: &mut fmt::Formatter<W>, code: KeyCode) -> fmt::Result {
+fn write_code<W: Write>(f: &mut Formatter<W>, code: KeyCode) -> fmt::Result {
     match code {
         KeyCode::F(number) => write!(f, "F{number}"),
         KeyCode::Char(' ') => f.write_str("Space"),
@@ -127,7 +101,7 @@ fn write_code<W: fmt::Write>(f: &mut fmt::Formatter<W>, code: KeyCode) -> fmt::R
 }
 
 /// A text between quotation marks.
-fn write_text<W: fmt::Write>(f: &mut fmt::Formatter<W>, ahead: &str, text: &[char]) -> fmt::Result {
+fn write_text<W: Write>(f: &mut Formatter<W>, ahead: &str, text: &[char]) -> fmt::Result {
     f.write_str(ahead)?;
     f.write_char('"')?;
     for character in text {

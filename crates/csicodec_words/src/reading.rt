@@ -4,7 +4,6 @@
 use crate::action_words::SENT;
 use crate::actions::{ActionList, ActionWords, tell_unknown};
 use crate::keys::{key_by_number, key_of};
-use crate::list::is_regular;
 use crate::rows::{find, number, words_of};
 use crate::sequences::{words, words_instead};
 use crate::sgr_words::ATTRIBUTES;
@@ -12,7 +11,7 @@ use crate::template::fill;
 use csicodec_base::CsiParam;
 use csicodec_parser::{CSI, Unspecified};
 use csicodec_sequences::Parts;
-use std::fmt;
+use std::fmt::{self, Formatter, Write};
 
 /// One action of a control sequence, as a terminal reads it. It prints as its words.
 #[derive(Clone, Copy)]
@@ -30,7 +29,7 @@ pub struct Reading<'a> {
 }
 
 impl<'a> fmt::Display for Reading<'a> {
-    fn fmt<W: fmt::Write>(&self, f: &mut fmt::Formatter<W>) -> fmt::Result {
+    fn fmt<W: Write>(&self, f: &mut Formatter<W>) -> fmt::Result {
         if let CSI::Unspecified(unknown) = self.action {
             return if Parts::of(&unknown.params).marker == Parts::of(self.params).marker {
                 unread(f, unknown, self.sent)
@@ -51,6 +50,15 @@ impl<'a> fmt::Display for Reading<'a> {
     }
 }
 
+/// Whether a list is a marker, numbers with semicolons and colons between them, and an intermediate byte, of which each may be left
+/// out: the lists that terminals read (ECMA-48, 5.4.2; DEC's markers).
+fn is_regular(params: &[CsiParam]) -> bool {
+    Parts::of(params).body.iter().all(|token| matches!(
+        token,
+        CsiParam::Integer(0..) | CsiParam::P(b';' | b':')
+    ))
+}
+
 /// What terminals make of a list beside the action that the codec reads it as.
 fn read_also(params: &[CsiParam], control: char) -> Option<&'static str> {
     let parts = Parts::of(params);
@@ -69,11 +77,7 @@ fn read_also(params: &[CsiParam], control: char) -> Option<&'static str> {
 
 /// A sequence, or what is left of one, that no row of the codec's table reads: a key, or the words that a table has for its form. A list
 /// with a byte where none may stand isn't read by terminals either.
-fn unread<W: fmt::Write>(
-    f: &mut fmt::Formatter<W>,
-    unknown: &Unspecified,
-    sent: bool,
-) -> fmt::Result {
+fn unread<W: Write>(f: &mut Formatter<W>, unknown: &Unspecified, sent: bool) -> fmt::Result {
     let (params, control) = (unknown.params.as_slice(), unknown.control);
     if !is_regular(params) {
         return tell_unknown(f, unknown);

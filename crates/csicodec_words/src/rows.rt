@@ -2,7 +2,7 @@
 
 use csicodec_base::CsiParam;
 use itoa::Buffer;
-use std::fmt;
+use std::fmt::{self, Formatter, Write};
 
 /// Rows, each a key, a tab and words, in the order of their bytes.
 pub type Rows = &'static [&'static str];
@@ -10,8 +10,12 @@ pub type Rows = &'static [&'static str];
 /// The words behind a key, where the table has it.
 pub fn find(table: Rows, key: &[u8]) -> Option<&'static str> {
     let at = table.partition_point(|row| row.as_bytes() < key);
-    let (known, words) = table.get(at)?.split_once('\t')?;
-    (known.as_bytes() == key).then_some(words)
+    let (known, words) = table.get(at)?.split_at_checked(key.len())?;
+    if known.as_bytes() == key {
+        words.strip_prefix('\t')
+    } else {
+        None
+    }
 }
 
 /// The words behind a number in decimal digits.
@@ -20,7 +24,7 @@ pub(crate) fn words_of(table: Rows, number: i64) -> Option<&'static str> {
 }
 
 /// Writes a number in decimal digits.
-pub(crate) fn tell_number<W: fmt::Write>(f: &mut fmt::Formatter<W>, number: i64) -> fmt::Result {
+pub(crate) fn tell_number<W: Write>(f: &mut Formatter<W>, number: i64) -> fmt::Result {
     f.write_str(Buffer::new().format(number))
 }
 

@@ -1,6 +1,5 @@
 //! The words of control sequences by their lists: those that a row of csicodec_sequences reads, and others.
 
-use crate::list::count_fields;
 use crate::rows::{Rows, number};
 use crate::sequence_rows::{INSTEAD, parts};
 use csicodec_base::CsiParam;
@@ -36,18 +35,22 @@ fn front_of(params: &[CsiParam], control: char) -> [u8; 3] {
     ]
 }
 
+/// How many fields a list has between its semicolons, an empty list one; the most that there can be where it has a colon.
+fn count_fields(params: &[CsiParam]) -> i64 {
+    let mut count = 1i64;
+    for token in params {
+        match token {
+            CsiParam::P(b';') => count = count.saturating_add(1),
+            CsiParam::P(b':') => return i64::MAX,
+            _ => {}
+        }
+    }
+    count
+}
+
 impl ListKey {
-    /// Of a list before this final character.
-    fn new(params: &[CsiParam], control: char) -> ListKey {
-        ListKey::with_fields(params, control, count_fields(params))
-    }
-
-    /// Of the list that an action prints: it goes by how many tokens there are.
-    pub(crate) fn of_action(params: &[CsiParam], control: char) -> ListKey {
-        ListKey::with_fields(params, control, params.len() as i64)
-    }
-
-    fn with_fields(params: &[CsiParam], control: char, fields: i64) -> ListKey {
+    /// Of a list of so many fields before this final character; of one that an action prints these are its tokens.
+    pub(crate) fn new(params: &[CsiParam], control: char, fields: i64) -> ListKey {
         ListKey {
             front: front_of(params, control),
             first: number(params, 0).unwrap_or(0),
@@ -79,9 +82,6 @@ impl ListKey {
 
     /// Whether a row has the numbers.
     fn is_of(&self, numbers: &str) -> bool {
-        if numbers.is_empty() {
-            return self.kind.is_none();
-        }
         let mut parts = numbers.split(',');
         let (first, second) = (parts.next().unwrap_or(""), parts.next().unwrap_or(""));
         let (fields, kind) = (parts.next().unwrap_or(""), parts.next().unwrap_or(""));
@@ -93,16 +93,26 @@ impl ListKey {
             }
     }
 
+    /// The words of a row, by what stands behind its first three bytes, if it is of the list.
+    fn words_behind(&self, behind: &'static str) -> Option<&'static str> {
+        // Most rows have no numbers, and no tab is looked for.
+        if let Some(words) = behind.strip_prefix('\t') {
+            return self.kind.is_none().then_some(words);
+        }
+        let (numbers, words) = behind.split_once('\t')?;
+        self.is_of(numbers).then_some(words)
+    }
+
     /// The words of the first row that is of the list, in a table in the order of its rows' first three bytes.
     pub(crate) fn words(&self, rows: Rows) -> Option<&'static str> {
         let front = self.front.as_slice();
         let begin = rows.partition_point(|row| row.as_bytes() < front);
         for row in rows.get(begin..)? {
-            if !row.as_bytes().starts_with(front) {
+            let (known, behind) = row.split_at_checked(3)?;
+            if known.as_bytes() != front {
                 return None;
             }
-            let (numbers, words) = row.split_at_checked(3)?.1.split_once('\t')?;
-            if self.is_of(numbers) {
+            if let Some(words) = self.words_behind(behind) {
                 return Some(words);
             }
         }
@@ -122,13 +132,10 @@ fn words_in_parts(key: &ListKey) -> Option<&'static str> {
 
 /// The words of a list without an action; none of a key.
 pub(crate) fn words(params: &[CsiParam], control: char) -> Option<&'static str> {
-    let key = ListKey::new(params, control);
-    if let Some(known) = KnownSequence::read(params, control) {
-        if let Some(words) = words_in_parts(&key.read_by(&known)) {
-            return Some(words);
-        }
-    }
-    words_in_parts(&key)
+    let key = ListKey::new(params, control, count_fields(params));
+    let known = KnownSequence::read(params, control);
+    let read = known.and_then(|known| words_in_parts(&key.read_by(&known)));
+    read.or_else(|| words_in_parts(&key))
 }
 
 /// The words in the place of an action's, where terminals read its list otherwise.
@@ -138,5 +145,5 @@ pub(crate) fn words_instead(params: &[CsiParam], control: char) -> Option<&'stat
     if !INSTEAD.iter().any(|row| row.as_bytes().starts_with(&front)) {
         return None;
     }
-    ListKey::new(params, control).words(&INSTEAD)
+    ListKey::new(params, control, count_fields(params)).words(&INSTEAD)
 }

@@ -3,14 +3,11 @@
 use crate::rows::tell_number;
 use crate::sgr_words::COLORS;
 use csicodec_base::ColorSpec;
-use std::fmt;
+use std::fmt::{self, Formatter, Write};
 
 /// A colour: one of the first 16 of the palette by its name, another by its place from 16 to 255, and a true colour by red, green and
 /// blue, each 0 to 255.
-pub(crate) fn tell_color<W: fmt::Write>(
-    f: &mut fmt::Formatter<W>,
-    color: &ColorSpec,
-) -> fmt::Result {
+pub(crate) fn tell_color<W: Write>(f: &mut Formatter<W>, color: &ColorSpec) -> fmt::Result {
     match color {
         ColorSpec::PaletteIndex(index) => tell_place(f, *index),
         ColorSpec::TrueColor(parts) => tell_parts(f, parts.to_srgb_u8()),
@@ -18,15 +15,15 @@ pub(crate) fn tell_color<W: fmt::Write>(
     }
 }
 
-fn tell_place<W: fmt::Write>(f: &mut fmt::Formatter<W>, index: u8) -> fmt::Result {
+fn tell_place<W: Write>(f: &mut Formatter<W>, index: u8) -> fmt::Result {
     match COLORS.get(usize::from(index)) {
         Some(name) => f.write_str(name),
         None => write!(f, "palette {index}"),
     }
 }
 
-fn tell_parts<W: fmt::Write>(
-    f: &mut fmt::Formatter<W>,
+fn tell_parts<W: Write>(
+    f: &mut Formatter<W>,
     (red, green, blue, alpha): (u8, u8, u8, u8),
 ) -> fmt::Result {
     let mut ahead = "rgb ";

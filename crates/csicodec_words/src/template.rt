@@ -3,35 +3,25 @@
 use crate::rows::{number, tell_number};
 use crate::told::tell_by_code;
 use csicodec_base::CsiParam;
-use std::fmt;
+use std::fmt::{self, Formatter, Write};
 
 /// Writes words. `{2}` stands for the third number, 0 where it is left out; `{2=5}` for it, 5 where it is left out; `{2:text}` for it, and
 /// the text where it is 0; `{2~text|ahead}` for it with what stands ahead, and the text where it is left out; `{2#line}` for it and what it
 /// counts, `1 line` or `5 lines`; `{2?1=on|=off}` for the words of its value, those behind the empty one where no other is it, with
 /// the value in the place of a `#` at their end; `{2..?..}` for those of it and of all behind it; `{2&, with |1=a|2=b}` for those of its bits; and `{2@mode}` for what code tells of it.
-pub fn fill<W: fmt::Write>(
-    f: &mut fmt::Formatter<W>,
-    words: &str,
-    params: &[CsiParam],
-) -> fmt::Result {
-    for piece in words.split('{') {
-        match piece.split_once('}') {
-            Some((hole, text)) => {
-                fill_hole(f, hole, params)?;
-                f.write_str(text)?;
-            }
-            None => f.write_str(piece)?,
-        }
+pub fn fill<W: Write>(f: &mut Formatter<W>, words: &str, params: &[CsiParam]) -> fmt::Result {
+    let mut pieces = words.split('{');
+    f.write_str(pieces.next().unwrap_or(""))?;
+    for piece in pieces {
+        let (hole, text) = piece.split_once('}').unwrap_or((piece, ""));
+        fill_hole(f, hole, params)?;
+        f.write_str(text)?;
     }
     Ok(())
 }
 
 /// A hole is a place, a digit of base 16, and what is told of the number there.
-fn fill_hole<W: fmt::Write>(
-    f: &mut fmt::Formatter<W>,
-    hole: &str,
-    params: &[CsiParam],
-) -> fmt::Result {
+fn fill_hole<W: Write>(f: &mut Formatter<W>, hole: &str, params: &[CsiParam]) -> fmt::Result {
     let mut rest = hole.chars();
     let place = rest
         .next()
@@ -57,8 +47,8 @@ fn front_number(text: &str) -> (Option<i64>, &str) {
 }
 
 /// What is told of a number, by the first character behind its place.
-fn fill_kind<W: fmt::Write>(
-    f: &mut fmt::Formatter<W>,
+fn fill_kind<W: Write>(
+    f: &mut Formatter<W>,
     kind: &str,
     place: u32,
     value: Option<i64>,
@@ -79,7 +69,7 @@ fn fill_kind<W: fmt::Write>(
 }
 
 /// A number and what it counts.
-fn counted<W: fmt::Write>(f: &mut fmt::Formatter<W>, unit: &str, number: i64) -> fmt::Result {
+fn counted<W: Write>(f: &mut Formatter<W>, unit: &str, number: i64) -> fmt::Result {
     tell_number(f, number)?;
     f.write_str(" ")?;
     f.write_str(unit)?;
@@ -91,11 +81,7 @@ fn counted<W: fmt::Write>(f: &mut fmt::Formatter<W>, unit: &str, number: i64) ->
 }
 
 /// A number, or what stands in its place where it is left out or 0.
-fn fill_number<W: fmt::Write>(
-    f: &mut fmt::Formatter<W>,
-    kind: &str,
-    value: Option<i64>,
-) -> fmt::Result {
+fn fill_number<W: Write>(f: &mut Formatter<W>, kind: &str, value: Option<i64>) -> fmt::Result {
     let (kind, left_out) = kind.split_once('~').unwrap_or((kind, ""));
     if !left_out.is_empty() {
         let (otherwise, ahead) = left_out.split_once('|').unwrap_or((left_out, ""));
@@ -117,7 +103,7 @@ fn fill_number<W: fmt::Write>(
 }
 
 /// The words of a value in a list.
-fn told<W: fmt::Write>(f: &mut fmt::Formatter<W>, list: &str, value: i64) -> fmt::Result {
+fn told<W: Write>(f: &mut Formatter<W>, list: &str, value: i64) -> fmt::Result {
     for entry in list.split('|') {
         if let Some((number, words)) = entry.split_once('=') {
             if number.is_empty() || number.parse::<i64>().ok() == Some(value) {
@@ -132,8 +118,8 @@ fn told<W: fmt::Write>(f: &mut fmt::Formatter<W>, list: &str, value: i64) -> fmt
 }
 
 /// The words of a value at a place and of those behind it, up to one that is left out.
-fn each_told<W: fmt::Write>(
-    f: &mut fmt::Formatter<W>,
+fn each_told<W: Write>(
+    f: &mut Formatter<W>,
     list: &str,
     from: u32,
     first: Option<i64>,
@@ -155,7 +141,7 @@ fn each_told<W: fmt::Write>(
 }
 
 /// The words in a list of which a value has one of the bits: what the list begins with ahead of the first, and commas between them.
-fn bits_told<W: fmt::Write>(f: &mut fmt::Formatter<W>, list: &str, value: i64) -> fmt::Result {
+fn bits_told<W: Write>(f: &mut Formatter<W>, list: &str, value: i64) -> fmt::Result {
     let (ahead, entries) = list.split_once('|').unwrap_or((list, ""));
     let mut is_first = true;
     for entry in entries.split('|') {

@@ -4,11 +4,11 @@ use crate::device::{extensions, graphics_values};
 use crate::mode_words::{PRIVATE, RESET, SET, TERMINAL, TERMINAL_RESET, TERMINAL_SET};
 use crate::rows::{Rows, number, tell_number, words_of};
 use csicodec_base::CsiParam;
-use std::fmt;
+use std::fmt::{self, Formatter, Write};
 
 /// Tells of a number what a hole's code says.
-pub(crate) fn tell_by_code<W: fmt::Write>(
-    f: &mut fmt::Formatter<W>,
+pub(crate) fn tell_by_code<W: Write>(
+    f: &mut Formatter<W>,
     code: &str,
     value: i64,
     params: &[CsiParam],
@@ -47,8 +47,8 @@ fn private_mode_name(number: i64) -> &'static str {
 }
 
 /// Tells that a mode is set or reset: by words of its own, or by its name and these behind it.
-fn tell_turned<W: fmt::Write>(
-    f: &mut fmt::Formatter<W>,
+fn tell_turned<W: Write>(
+    f: &mut Formatter<W>,
     number: i64,
     own: Rows,
     name: &'static str,
@@ -65,7 +65,7 @@ fn tell_turned<W: fmt::Write>(
 
 /// What the mouse did, by the code of a report: bits 1 and 2 are the button, 32 says that it moved, 64 that it is the wheel, 128 a button
 /// from 8 on (xterm's ctlseqs, Mouse Tracking).
-fn mouse_event<W: fmt::Write>(f: &mut fmt::Formatter<W>, code: i64, released: bool) -> fmt::Result {
+fn mouse_event<W: Write>(f: &mut Formatter<W>, code: i64, released: bool) -> fmt::Result {
     let moved = code & 32 != 0;
     match (code & 192, code & 3) {
         (64, low) => {
@@ -95,7 +95,7 @@ fn mouse_event<W: fmt::Write>(f: &mut fmt::Formatter<W>, code: i64, released: bo
 }
 
 /// A line or a column by its number in a report of three characters, which is too small where the place is too far for the form.
-fn coordinate<W: fmt::Write>(f: &mut fmt::Formatter<W>, number: i64) -> fmt::Result {
+fn coordinate<W: Write>(f: &mut Formatter<W>, number: i64) -> fmt::Result {
     if number <= 32 {
         return f.write_str("out of range");
     }
@@ -103,8 +103,8 @@ fn coordinate<W: fmt::Write>(f: &mut fmt::Formatter<W>, number: i64) -> fmt::Res
 }
 
 /// The lines or columns from one to another, both counted, of which 4294967295 is the screen's last. Without numbers they are all.
-fn margins<W: fmt::Write>(
-    f: &mut fmt::Formatter<W>,
+fn margins<W: Write>(
+    f: &mut Formatter<W>,
     unit: &'static str,
     first: Option<i64>,
     last: i64,
@@ -118,7 +118,7 @@ fn margins<W: fmt::Write>(
 }
 
 /// The key F3 with modifiers sends the same as the terminal's answer for places in line 1.
-fn f3<W: fmt::Write>(f: &mut fmt::Formatter<W>, line: Option<i64>, column: i64) -> fmt::Result {
+fn f3<W: Write>(f: &mut Formatter<W>, line: Option<i64>, column: i64) -> fmt::Result {
     match (line, column) {
         (Some(1), 2..=16) => f.write_str(" (or the key F3 with modifiers)"),
         _ => Ok(()),

@@ -111,12 +111,6 @@ says_kind text s found other says = (
 pub says_object : (s : List ℕ) (found : Members) → Says (Some s) found → of_object (object found) ≡ Ok s
 says_object s found says = rw (says.2, says.0, says.1) refl
 
--- what is said of a whole object
-pub text_said : (text : Option (Bor (List ℕ))) (ts : List Token) (found : Members) → converted of_json (json.value 127 ts) ≡ Some (object found, [])
-    → Says (option_map (λ s. s.now) text) found → IfSome text (λ s. (d : Data) × (converted of_json (json.value 127 ts) ≡ Some (d, [])) × (of_object d ≡ Ok s.now))
-text_said None ts found is says = tt
-text_said (Some s) ts found is says = (object found, is, says_object s.now found says)
-
 -- what is read of a line that is UTF-8
 pub line_is : (line text : List ℕ) (d : Data) → IsUtf8 line → text ≡ line → read text ≡ Some d → of_line line ≡ of_object d
 line_is line text d utf8 same is =

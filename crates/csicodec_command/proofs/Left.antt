@@ -110,8 +110,4 @@ line_next line new None next unended read rest = tt
 line_next line new (Some all) next unended read rest =
     rw (rest, read) (whole_line line all unended ∙ heads_of (line ++ take_through 10 all) (drop_through 10 all))
 
-pub kept_first : (a : Option (List ℕ)) → Keeps a a
-kept_first a = Keeps-refl a
-
-pub kept_more : (a b c : Option (List ℕ)) → Keeps a b → Keeps b c → Keeps a c
-kept_more a b c h k = Keeps-trans a b c h k
+pub ruleset kept = (Keeps-refl, Keeps-trans)

@@ -35,19 +35,13 @@ pub read_more : (before mid after : Option (List ℕ)) (front piece all : List �
 read_more before mid after front piece all first next is =
     subst (λ (a : List ℕ). Consumes before after a) (sym is) (Consumes-trans before mid after front piece first next)
 
--- what stands behind the inputs is asked for where none failed
-pub none_failed : {S : Type 0} (Steps : StepsOf S) (names : List (List ℕ)) (start : At S) (result : Result (Unit {0}) ℕ) (end : At S)
-    → Closes Steps None start result end → Ends Steps names None None start result end
-none_failed Steps [] start result end h = h
-none_failed Steps (name ∷ []) start result end h = h
-none_failed Steps (name ∷ next ∷ names) start result end h = h
-
--- and where there were several
-pub several_failed : {S : Type 0} (Steps : StepsOf S) (names : List (List ℕ)) (n : ℕ) (start : At S) (result : Result (Unit {0}) ℕ)
-    (end : At S) → length names ≢ 1 → Closes Steps (Some n) start result end → Ends Steps names (Some n) None start result end
-several_failed Steps [] n start result end more h = h
-several_failed Steps (name ∷ []) n start result end more h = absurd (more refl)
-several_failed Steps (name ∷ next ∷ names) n start result end more h = h
+-- what stands behind the inputs is asked for, unless the only one failed
+pub closed : {S : Type 0} (Steps : StepsOf S) (names : List (List ℕ)) (first : Option ℕ) (start : At S) (result : Result (Unit {0}) ℕ)
+    (end : At S) → (length names ≡ 1 → first ≡ None) → Closes Steps first start result end → Ends Steps names first None start result end
+closed Steps [] first start result end well h = h
+closed Steps (name ∷ []) None start result end well h = h
+closed Steps (name ∷ []) (Some n) start result end well h = cc (well refl)
+closed Steps (name ∷ next ∷ names) first start result end well h = h
 
 -- but not where the only one failed
 pub only_failed : {S : Type 0} (Steps : StepsOf S) (names : List (List ℕ)) (n : ℕ) (at : At S)
@@ -144,11 +138,12 @@ run_behind Steps holds names start at end result first which (failed, is, throug
   ends = subst (λ (w : Option ℕ). Ends Steps names w None at result end) (sym same ∙ is) ends;
 }
 
-pub run_well : {S : Type 0} (Steps : StepsOf S) (holds : List ℕ → Option (List ℕ)) (names : List (List ℕ)) (start at end : At S)
-    (result : Result (Unit {0}) ℕ) (first : Option ℕ) → HadTurns Steps holds names start first at
-    → first ≡ None → Closes Steps None at result end → IsRun Steps holds names start result end
-run_well Steps holds names start at end result first had is closes =
-    run_behind Steps holds names start at end result first None had is (none_failed Steps names at result end closes)
+pub run_closed : {S : Type 0} (Steps : StepsOf S) (holds : List ℕ → Option (List ℕ)) (names : List (Bor (List ℕ))) (start at end : At S)
+    (result : Result (Unit {0}) ℕ) (first which : Option ℕ) → HadTurns Steps holds (named names) start first at → first ≡ which
+    → (length names ≡ 1 → which ≡ None) → Closes Steps which at result end → IsRun Steps holds (named names) start result end
+run_closed Steps holds names start at end result first which had is well closes =
+    run_behind Steps holds (named names) start at end result first which had is
+    (closed Steps (named names) which at result end (λ one. well (sym (length-map names (λ m. m.now)) ∙ one)) closes)
 
 pub run_only : {S : Type 0} (Steps : StepsOf S) (holds : List ℕ → Option (List ℕ)) (names : List (Bor (List ℕ))) (start at : At S)
     (first : Option ℕ) (n : ℕ) → HadTurns Steps holds (named names) start first at
@@ -156,14 +151,6 @@ pub run_only : {S : Type 0} (Steps : StepsOf S) (holds : List ℕ → Option (Li
 run_only Steps holds names start at first n had is one =
     run_behind Steps holds (named names) start at at (Err n) first (Some n) had is
     (only_failed Steps (named names) n at (length-map names (λ m. m.now) ∙ one))
-
-pub run_several : {S : Type 0} (Steps : StepsOf S) (holds : List ℕ → Option (List ℕ)) (names : List (Bor (List ℕ))) (start at end : At S)
-    (result : Result (Unit {0}) ℕ) (first : Option ℕ) (n : ℕ) → HadTurns Steps holds (named names) start first at
-    → first ≡ Some n → length names ≢ 1 → Closes Steps (Some n) at result end → IsRun Steps holds (named names) start result end
-run_several Steps holds names start at end result first n had is more closes =
-    run_behind Steps holds (named names) start at end result first (Some n) had is
-    (several_failed Steps (named names) n at result end
-    (λ one. more (sym (length-map names (λ m. m.now)) ∙ one)) closes)
 
 -- Turns up to a place: these failed so far, and what goes through the rest from here goes through all.
 pub record TurnsTo {S : Type 0} (Steps : StepsOf S) (holds : List ℕ → Option (List ℕ)) (names : List (Bor (List ℕ))) (start : At S)

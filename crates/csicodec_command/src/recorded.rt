@@ -104,7 +104,7 @@ impl<R: BufRead> Recorded<R> {
     }
 
     /// Goes on to the next data, or to the end.
-    #[tactic(auto, using(crate::proofs::Left::kept_first, crate::proofs::Left::kept_more))]
+    #[tactic(auto, using(crate::proofs::Left::kept))]
     fn fill(&mut self) -> Result<(), Failure>
         ensures same { Keeps (left R.remaining self.old) (left R.remaining self.new) }
         ensures end { OnOk result (self.new.event.items ≡ [] → self.new.over ≡ true) }

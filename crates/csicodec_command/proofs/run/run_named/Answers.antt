@@ -1,4 +1,5 @@
-use Rattle.csicodec_command.proofs.Turns.{handed_on, run_only, run_several, run_stopped, run_well}
+use Rattle.std.proofs.Common.{refl}
+use Rattle.csicodec_command.proofs.Turns.{handed_on, run_closed, run_only, run_stopped}
 use Rattle.csicodec_command.proofs.run.run_named.Goals as goal
 
 pub returns-in_err-first : goal.returns-in_err-first
@@ -8,7 +9,8 @@ returns-in_err-first g c =
 
 pub returns-in_default : goal.returns-in_default
 returns-in_default g c =
-    run_well _ _ _ _ _ _ c.close.result c.in_ok-first.first c.in_ok-first.ensures.all c.in_default.is c.close.ensures
+    run_closed _ _ c.args.names.now _ _ _ c.close.result c.in_ok-first.first _ c.in_ok-first.ensures.all c.in_default.is
+    (λ _. refl) c.close.ensures
 
 pub returns-then-names-eq1 : goal.returns-then-names-eq1
 returns-then-names-eq1 g c =
@@ -16,5 +18,5 @@ returns-then-names-eq1 g c =
 
 pub returns : goal.returns
 returns g c =
-    run_several _ _ c.args.names.now _ _ _ c.close-2.result c.in_ok-first.first c.in-Some.status c.in_ok-first.ensures.all c.in-Some.is
-    c.if-names-eq1.false c.close-2.ensures
+    run_closed _ _ c.args.names.now _ _ _ c.close-2.result c.in_ok-first.first _ c.in_ok-first.ensures.all c.in-Some.is
+    (λ one. absurd (c.if-names-eq1.false one)) c.close-2.ensures

@@ -1,34 +1,31 @@
 -- A search as it goes, part by part and chunk by chunk.
 use Rattle.std.proofs.Common.{◌≡◌, ℕ, Bool, false, List, [], ◌∷◌, ◌++◌, refl, sym, ap, subst, ◌∙◌, append_assoc, append-nil}
-use Rattle.csicodec_spans.specs.{declared.table.Kind.Kind, Parts.Part, Parts.part, Parts.left_over, Parts.IsSpan, Parts.IsUnsure}
+use Rattle.csicodec_spans.specs.{declared.table.Kind.Kind, Parts.Part, Parts.left_over, Parts.IsSpan, Parts.IsUnsure}
 use Rattle.csicodec_spans.proofs.{Kept.parts_more, Once.parts_front, Once.whole_once}
 use Rattle.csicodec_filter.specs.{Filter.Held, Written.Appends, Written.Since, Written.open_at, Written.with_more}
 use Rattle.csicodec_transform.specs.Transform.{EndsOf, GoesOn, Transforms}
 use Rattle.csicodec_filter.proofs.Written.{since_none, since_on}
-use Rattle.csicodec_clean.specs.{Cleaned.longest, Stream.IsFrontOf, Titles.read_as, Titles.title_behind, Titles.title_open, Titles.with_titles}
-use Rattle.csicodec_clean.proofs.Titles.{open_on, titled, titles_on}
+use Rattle.csicodec_clean.specs.{Cleaned.is_text, Cleaned.longest, Stream.IsFrontOf, Titles.read_as, Titles.title_behind, Titles.title_open}
+use Rattle.csicodec_clean.proofs.Titles.{open_on, titled}
 use Rattle.csicodec_lines.specs.{declared.finder.Finder.Finder, declared.search.CutSearch.CutSearch, Cuts.Found, Cuts.Tells, Cuts.behind, Cuts.cuts}
-use Rattle.csicodec_lines.specs.{Cuts.cuts_at, Cuts.first as start, Cuts.told, Private.Search.FindsAt, Private.Cut.Adds, Private.Finder.Finds}
+use Rattle.csicodec_lines.specs.{Cuts.each_byte, Cuts.each_of, Cuts.first as start, Cuts.told, Private.Search.FindsIn, Private.Cut.Adds, Private.Finder.Finds}
 use Rattle.csicodec_lines.specs.{Private.Finder.IsBegun, Private.Finder.Passes, Private.Finder.held}
-use Rattle.csicodec_lines.proofs.Parts.{behind_on, cuts_on, spanned, told_on}
+use Rattle.csicodec_lines.proofs.Parts.{behind_on, cuts_on, each_on, no_text, spanned, told_on}
 use Rattle.csicodec_spans.specs.declared.table.Mode.TheVariants as mode
 
 -- a span more
-pub finds_span : (u : Bool) (mid new : CutSearch) (k : Kind) (span more : List ℕ) (ps : List Part) → IsSpan k span ps → FindsAt mid (part (read_as k u) span) more new
-    → GoesOn Finds (mid, u) ps more (new, title_behind u k span)
+pub finds_span : (u : Bool) (mid new : CutSearch) (k : Kind) (span more : List ℕ) (ps : List Part) → IsSpan k span ps
+    → FindsIn mid (each_of (is_text (read_as k u)) span) more new → GoesOn Finds (mid, u) ps more (new, title_behind u k span)
 finds_span u mid new k span more ps is finds first before text (titles, found) =
     let t = first.1 in
-    let one = titled u k span ps is in
-    let qs = with_titles u ps in
-    let whole : with_titles t (before ++ ps) ≡ with_titles t before ++ qs = rw (titles_on t before ps, titles) refl in (
-      rw (open_on t before ps, ← titles) (sym one.behind),
+    let old = each_byte t before in
+    let own = each_of (is_text (read_as k u)) span in
+    let whole : each_byte t (before ++ ps) ≡ old ++ own = rw (each_on t before ps, ← titles, spanned u k span ps is) refl in (
+      rw (open_on t before ps, ← titles) (sym (titled u k span ps is).behind),
       λ s at.
           let (now, e) = found s at in
-          let ahead = behind s (with_titles t before) in
-          let same = spanned ahead (read_as k u) span qs one.span in
-          let (last, f) = finds ahead now in
-          rw (whole, behind_on s (with_titles t before) qs, cuts_on s (with_titles t before) qs, same.behind, same.cuts)
-          (last, rw (e, f) (sym (told_on (cuts s (with_titles t before)) (cuts_at ahead (part (read_as k u) span))))),
+          let (last, f) = finds (behind s old) now in
+          rw (whole, behind_on s old own, cuts_on s old own) (last, rw (e, f) (sym (told_on (cuts s old) (cuts (behind s old) own)))),
     )
 
 -- a chunk more
@@ -42,16 +39,17 @@ abbrev pub Quiet : EndsOf Finder
 Quiet last text = text ≡ []
 
 -- what is left at the end has no place
-no_more : (t : Bool) (s : Found) (rest : List ℕ) → cuts s (with_titles t (left_over rest)) ≡ []
+no_more : (t : Bool) (s : Found) (rest : List ℕ) → cuts s (each_byte t (left_over rest)) ≡ []
 no_more t s [] = refl
-no_more t s (b ∷ rest) = refl
+no_more t s (b ∷ rest) = ap (cuts s) (append-nil (each_of false (b ∷ rest))) ∙ (no_text s (b ∷ rest)).none
 
 pub sure_alone : (s : Found) (ps : List Part) (rest : List ℕ)
-    → cuts s (with_titles false (ps ++ left_over rest)) ≡ cuts s (with_titles false ps)
+    → cuts s (each_byte false (ps ++ left_over rest)) ≡ cuts s (each_byte false ps)
 sure_alone s ps rest =
-    let front = with_titles false ps in
+    let front = each_byte false ps in
     let now = title_open false ps in
-    rw (titles_on false ps (left_over rest), cuts_on s front (with_titles now (left_over rest)), no_more now (behind s front) rest) (append-nil (cuts s front))
+    rw (each_on false ps (left_over rest), cuts_on s front (each_byte now (left_over rest)), no_more now (behind s front) rest)
+    (append-nil (cuts s front))
 
 module _ (every : ℕ) (f : Finder) (is : IsBegun every f) where
   -- what passed, from the start
@@ -68,7 +66,7 @@ module _ (every : ℕ) (f : Finder) (is : IsBegun every f) where
       let rest = last.waiting.bytes in
       let s = start every in
       let all = g.parts ++ left_over rest in (
-        cuts s (with_titles false all),
+        cuts s (each_byte false all),
         record { parts = all; whole = record { sure = g.parts; rest = rest; after = last.waiting.mode; first = g.cut; unsure = g.unsure; whole = refl }; all = refl },
         (g.written.1 s is.0).1 ∙ ap told (sym (sure_alone s g.parts rest)),
       )
@@ -88,14 +86,15 @@ module _ (every : ℕ) (f : Finder) (is : IsBegun every f) where
       let g = since read text last p in
       let w = k.whole in
       let s = start every in
-      let ps = with_titles false g.parts in
+      let ps = each_byte false g.parts in
       let (others, same) = parts_front longest g.parts w.sure mode.Text (read ++ more)
       (last.waiting.bytes ++ more) w.rest last.waiting.mode w.after
       (parts_more longest g.parts mode.Text read more last.waiting.bytes last.waiting.mode g.cut) w.first w.unsure in
       let qs = others ++ left_over w.rest in
       let parts : k.parts ≡ g.parts ++ qs = w.whole ∙ ap (λ (x : List Part). x ++ left_over w.rest) same ∙ append_assoc g.parts others (left_over w.rest) in
-      let later = cuts (behind s ps) (with_titles (title_open false g.parts) qs) in (
+      let ends = each_byte (title_open false g.parts) qs in
+      let later = cuts (behind s ps) ends in (
         told later,
-        rw (e, k.all, parts, titles_on false g.parts qs, cuts_on s ps (with_titles (title_open false g.parts) qs))
+        rw (e, k.all, parts, each_on false g.parts qs, cuts_on s ps ends)
             (told_on (cuts s ps) later ∙ ap (λ (t : List ℕ). t ++ told later) (sym (g.written.1 s is.0).1)),
       )

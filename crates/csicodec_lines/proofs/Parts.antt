@@ -1,118 +1,103 @@
--- What is found, byte by byte and part by part.
-use Rattle.std.proofs.Common.{◌≡◌, ◌≢◌, ◌<◌, ◌≤◌, ◌+◌, ◌-◌, ℕ, true, false, List, [], ◌∷◌, ◌++◌, length, length-append, refl, sym, ap, ◌∙◌, append_assoc, arith}
-use Rattle.std.proofs.{lemmas.Bool.Decides.nat_tests, lemmas.List.Concat.flat_map-append}
+-- What is found, byte by byte.
+use Rattle.std.proofs.Common.{◌≡◌, ◌≢◌, ◌<◌, ◌≤◌, ◌+◌, ◌-◌, ℕ, Bool, true, false, List, [], ◌∷◌, ◌++◌, map, length, refl, sym, ap, ◌∙◌, append_assoc, append-nil, arith}
+use Rattle.std.proofs.{lemmas.Bool.false≢true, lemmas.Bool.Decides.nat_tests, lemmas.List.Concat.flat_map-append, lemmas.List.map-append}
 use Rattle.std.specs.{Prelude.suc, Prelude.if◌then◌else◌, List.AllByRecursion, List.flat_map}
-use Rattle.csicodec_spans.specs.{declared.table.Kind.Kind, Parts.Part, Parts.part, Parts.bytes_of, Parts.IsSpan}
-use Rattle.csicodec_clean.specs.{Check.counted, Cleaned.is_text}
-use Rattle.csicodec_lines.specs.Cuts.{Found, behind, behind_byte, behind_part, behind_text, cuts, cuts_at, cuts_in, is_cut, line_of, passed, told}
-use Rattle.csicodec_lines.specs.{declared.search.CutSearch.CutSearch, Private.Search.IsAt}
+use Rattle.csicodec_spans.specs.{declared.table.Kind.Kind, Parts.Part, Parts.bytes_of, Parts.IsSpan}
+use Rattle.csicodec_clean.specs.{Check.counted, Cleaned.is_text, Titles.read_as, Titles.title_open, Titles.with_titles}
+use Rattle.csicodec_clean.proofs.Titles.{titled, titles_on}
+use Rattle.csicodec_lines.specs.Cuts.{Found, behind, behind_byte, cuts, each_byte, each_of, is_cut, line_of, told}
+use Rattle.csicodec_lines.specs.Private.Search.{passed}
 use Rattle.csicodec_spans.specs.declared.table.Kind.TheVariants as kind
 
 pub told_on : (xs ys : List ℕ) → told (xs ++ ys) ≡ told xs ++ told ys
 told_on = flat_map-append (λ (n : ℕ). line_of (counted n))
 
--- ---- text
+-- ---- bytes
 
-pub text_on : (s : Found) (xs ys : List ℕ) → behind_text s (xs ++ ys) ≡ behind_text (behind_text s xs) ys
-text_on s [] ys = refl
-text_on s (x ∷ xs) ys = text_on (behind_byte s x) xs ys
+pub behind_on : (s : Found) (xs ys : List (Bool × ℕ)) → behind s (xs ++ ys) ≡ behind (behind s xs) ys
+behind_on s [] ys = refl
+behind_on s (x ∷ xs) ys = behind_on (behind_byte s x) xs ys
 
-pub cuts_in_on : (s : Found) (xs ys : List ℕ) → cuts_in s (xs ++ ys) ≡ cuts_in s xs ++ cuts_in (behind_text s xs) ys
-cuts_in_on s [] ys = refl
-cuts_in_on s (x ∷ xs) ys =
+pub cuts_on : (s : Found) (xs ys : List (Bool × ℕ)) → cuts s (xs ++ ys) ≡ cuts s xs ++ cuts (behind s xs) ys
+cuts_on s [] ys = refl
+cuts_on s (x ∷ xs) ys =
     let own = if is_cut s x then suc s.at ∷ [] else [] in
-    rw (cuts_in_on (behind_byte s x) xs ys) (sym (append_assoc own (cuts_in (behind_byte s x) xs) (cuts_in (behind_text s (x ∷ xs)) ys)))
+    rw (cuts_on (behind_byte s x) xs ys) (sym (append_assoc own (cuts (behind_byte s x) xs) (cuts (behind s (x ∷ xs)) ys)))
+
+pub of_both : (text : Bool) (xs ys : List ℕ) → each_of text (xs ++ ys) ≡ each_of text xs ++ each_of text ys
+of_both text xs ys = map-append (λ (b : ℕ). (text, b)) xs ys
 
 abbrev at : Found → ℕ → Found
 at s n = record { every = s.every; last = s.last; at = n }
 
-pub passed_none : (s : Found) → passed 0 s ≡ s
-passed_none s = let e : s.at + 0 ≡ s.at = omega arith in ap (at s) e
+-- where none is text, or all is too near to the last place
+near : (s : Found) (text : Bool) (b : ℕ) → (text ≡ true → suc s.at < s.last + s.every) → is_cut s (text, b) ≡ false
+near s false b h = refl
+near s true b h = let soon = h refl in grind (arith, nat_tests)
 
-pub passed_on : (s : Found) (n m : ℕ) → passed m (passed n s) ≡ passed (n + m) s
-passed_on s n m = let e : (s.at + n) + m ≡ s.at + (n + m) = omega arith in ap (at s) e
+pub record Skipped (s : Found) (text : Bool) (bytes : List ℕ) : Type 0 where
+  pub behind : behind s (each_of text bytes) ≡ passed (length bytes) s
+  pub none : cuts s (each_of text bytes) ≡ []
 
--- where all is too near to the last place
-near : (s : Found) (b : ℕ) → suc s.at < s.last + s.every → is_cut s b ≡ false
-near s b h = grind (arith, nat_tests)
-
-pub record Skipped (s : Found) (text : List ℕ) : Type 0 where
-  pub behind : behind_text s text ≡ passed (length text) s
-  pub none : cuts_in s text ≡ []
-
-pub skipped : (s : Found) (text : List ℕ) → length text ≤ (s.last + s.every) - s.at - 1 → Skipped s text
-skipped s [] h = record { behind = sym (passed_none s); none = refl }
-skipped s (b ∷ text) h =
-    let no = near s b (omega (arith, h)) in
-    let later = skipped (passed 1 s) text (omega (arith, h)) in
-    let next : behind_byte s b ≡ passed 1 s = rw no (let e : suc s.at ≡ s.at + 1 = omega arith in ap (at s) e) in
-    let one : 1 + length text ≡ suc (length text) = omega arith in
-    let own : (if is_cut s b then suc s.at ∷ [] else []) ≡ [] = rw no refl in
+pub skipped : (s : Found) (text : Bool) (bytes : List ℕ) → (text ≡ true → length bytes ≤ (s.last + s.every) - s.at - 1)
+    → Skipped s text bytes
+skipped s text [] h = record { behind = let e : s.at ≡ s.at + 0 = omega arith in ap (at s) e; none = refl }
+skipped s text (b ∷ bytes) h =
+    let no = near s text b (λ e. omega (arith, h e)) in
+    let later = skipped (passed 1 s) text bytes (λ e. omega (arith, h e)) in
+    let next : behind_byte s (text, b) ≡ passed 1 s = rw no (let e : suc s.at ≡ s.at + 1 = omega arith in ap (at s) e) in
+    let all : (s.at + 1) + length bytes ≡ s.at + suc (length bytes) = omega arith in
+    let own : (if is_cut s (text, b) then suc s.at ∷ [] else []) ≡ [] = rw no refl in
     record {
-      behind = ap (λ (t : Found). behind_text t text) next ∙ later.behind ∙ passed_on s 1 (length text) ∙ ap (λ (n : ℕ). passed n s) one;
-      none = ap (λ (l : List ℕ). l ++ cuts_in (behind_byte s b) text) own ∙ ap (λ (t : Found). cuts_in t text) next ∙ later.none;
+      behind = ap (λ (t : Found). behind t (each_of text bytes)) next ∙ later.behind ∙ ap (at s) all;
+      none = ap (λ (l : List ℕ). l ++ cuts (behind_byte s (text, b)) (each_of text bytes)) own
+          ∙ ap (λ (t : Found). cuts t (each_of text bytes)) next ∙ later.none;
     }
 
+pub no_text : (s : Found) (bytes : List ℕ) → Skipped s false bytes
+no_text s bytes = skipped s false bytes (λ e. absurd (false≢true e))
+
 -- and what comes behind it
-pub skip : (s : Found) (text front rest : List ℕ) → text ≡ front ++ rest → Skipped s front
-    → (behind_text (passed (length front) s) rest ≡ behind_text s text) × (cuts_in (passed (length front) s) rest ≡ cuts_in s text)
-skip s text front rest whole h = (
-  ap (λ (t : Found). behind_text t rest) (sym h.behind) ∙ sym (text_on s front rest) ∙ ap (behind_text s) (sym whole),
-  ap (λ (t : Found). cuts_in t rest) (sym h.behind) ∙ ap (λ (t : List ℕ). t ++ cuts_in (behind_text s front) rest) (sym h.none)
-      ∙ sym (cuts_in_on s front rest) ∙ ap (cuts_in s) (sym whole),
-)
+pub skip : (s : Found) (text front rest : List ℕ) → text ≡ front ++ rest → Skipped s true front
+    → (behind (passed (length front) s) (each_of true rest) ≡ behind s (each_of true text))
+    × (cuts (passed (length front) s) (each_of true rest) ≡ cuts s (each_of true text))
+skip s text front rest whole h =
+    let ahead = each_of true front in
+    let later = each_of true rest in
+    let all : each_of true text ≡ ahead ++ later = ap (each_of true) whole ∙ of_both true front rest in
+    (rw (all, behind_on s ahead later, h.behind) refl, rw (all, cuts_on s ahead later, h.behind, h.none) refl)
 
 -- a place, and those in the text behind it
-pub one_told : (s : Found) (b : ℕ) (text line : List ℕ) → is_cut s b ≡ true → line ≡ line_of (counted (suc s.at))
-    → line ++ told (cuts_in (behind_byte s b) text) ≡ told (cuts_in s (b ∷ text))
+pub one_told : (s : Found) (b : ℕ) (text line : List ℕ) → is_cut s (true, b) ≡ true → line ≡ line_of (counted (suc s.at))
+    → line ++ told (cuts (behind_byte s (true, b)) (each_of true text)) ≡ told (cuts s (each_of true (b ∷ text)))
 one_told s b text line cut e =
-    let later = cuts_in (behind_byte s b) text in
-    let own : (if is_cut s b then suc s.at ∷ [] else []) ≡ suc s.at ∷ [] = rw cut refl in
+    let later = cuts (behind_byte s (true, b)) (each_of true text) in
+    let own : (if is_cut s (true, b) then suc s.at ∷ [] else []) ≡ suc s.at ∷ [] = rw cut refl in
     ap (λ (l : List ℕ). l ++ told later) e ∙ sym (ap (λ (l : List ℕ). told (l ++ later)) own)
 
 -- ---- parts
 
-pub behind_on : (s : Found) (ps qs : List Part) → behind s (ps ++ qs) ≡ behind (behind s ps) qs
-behind_on s [] qs = refl
-behind_on s (p ∷ ps) qs = behind_on (behind_part s p) ps qs
+pub each_on : (t : Bool) (ps qs : List Part) → each_byte t (ps ++ qs) ≡ each_byte t ps ++ each_byte (title_open t ps) qs
+each_on t ps qs = rw (titles_on t ps qs) (flat_map-append _ (with_titles t ps) (with_titles (title_open t ps) qs))
 
-pub cuts_on : (s : Found) (ps qs : List Part) → cuts s (ps ++ qs) ≡ cuts s ps ++ cuts (behind s ps) qs
-cuts_on s [] qs = refl
-cuts_on s (p ∷ ps) qs = rw (cuts_on (behind_part s p) ps qs) (sym (append_assoc (cuts_at s p) (cuts (behind_part s p) ps) (cuts (behind s (p ∷ ps)) qs)))
+abbrev bytes_in : List Part → List (Bool × ℕ)
+bytes_in ps = flat_map (λ (p : Part). each_of (is_text p.kind) p.bytes) ps
 
--- the parts of a span are as the span
-pub record Spanned (s : Found) (k : Kind) (bytes : List ℕ) (ps : List Part) : Type 0 where
-  pub behind : behind s ps ≡ behind_part s (part k bytes)
-  pub cuts : cuts s ps ≡ cuts_at s (part k bytes)
+alike : (k : Kind) (ps : List Part) → AllByRecursion (λ (p : Part). p.kind ≡ k) ps → bytes_in ps ≡ each_of (is_text k) (flat_map bytes_of ps)
+alike k [] h = refl
+alike k (p ∷ ps) h = rw (h.0, alike k ps h.1, of_both (is_text k) p.bytes (flat_map bytes_of ps)) refl
 
-texts : (s : Found) (ps : List Part) → AllByRecursion (λ (p : Part). p.kind ≡ kind.Text) ps → Spanned s kind.Text (flat_map bytes_of ps) ps
-texts s [] h = record { behind = refl; cuts = refl }
-texts s (p ∷ ps) h =
-    let later = texts (behind_text s p.bytes) ps h.1 in
-    let rest = flat_map bytes_of ps in
-    rw h.0 (record {
-      behind = later.behind ∙ sym (text_on s p.bytes rest);
-      cuts = rw later.cuts (sym (cuts_in_on s p.bytes rest));
-    })
+-- the bytes of a span are those of its parts
+one_span : (k : Kind) (bytes : List ℕ) (ps : List Part) → IsSpan k bytes ps → bytes_in ps ≡ each_of (is_text k) bytes
+one_span kind.Text bytes ps h = rw (← h.joined) (alike kind.Text ps h.all)
+one_span kind.Str bytes ps h = rw (← h.joined) (alike kind.Str ps h.all)
+one_span kind.Other bytes ps h = rw (← h.joined) (alike kind.Other ps h.all)
+one_span k bytes ps h = rw h (append-nil (each_of (is_text k) bytes))
 
-others : (s : Found) (k : Kind) (ps : List Part) → is_text k ≡ false → AllByRecursion (λ (p : Part). p.kind ≡ k) ps
-    → (behind s ps ≡ passed (length (flat_map bytes_of ps)) s) × (cuts s ps ≡ [])
-others s k [] none h = (sym (passed_none s), refl)
-others s k (p ∷ ps) none h =
-    let rest = flat_map bytes_of ps in
-    let step : behind_part s p ≡ passed (length p.bytes) s = rw (h.0, none) refl in
-    let here : cuts_at s p ≡ [] = rw (h.0, none) refl in
-    let (later, no_more) = others (passed (length p.bytes) s) k ps none h.1 in
-    (rw step (later ∙ passed_on s (length p.bytes) (length rest) ∙ ap (λ (n : ℕ). passed n s) (sym (length-append p.bytes rest))), rw (here, step) no_more)
+pub spanned : (t : Bool) (k : Kind) (bytes : List ℕ) (ps : List Part) → IsSpan k bytes ps → each_byte t ps ≡ each_of (is_text (read_as k t)) bytes
+spanned t k bytes ps h = one_span (read_as k t) bytes (with_titles t ps) (titled t k bytes ps h).span
 
-pub spanned : (s : Found) (k : Kind) (bytes : List ℕ) (ps : List Part) → IsSpan k bytes ps → Spanned s k bytes ps
-spanned s kind.Text bytes ps h = rw (← h.joined) (texts s ps h.all)
-spanned s kind.Str bytes ps h = let (last, none) = others s kind.Str ps refl h.all in rw (← h.joined) (record { behind = last; cuts = none })
-spanned s kind.Other bytes ps h = let (last, none) = others s kind.Other ps refl h.all in rw (← h.joined) (record { behind = last; cuts = none })
-spanned s _ bytes ps h = rw h (record { behind = refl; cuts = refl })
-
--- what is no text, where the search is told apart from it
-pub other_kind : (s : Found) (k : Kind) (bytes : List ℕ) (new : CutSearch) → k ≢ kind.Text → IsAt new (passed (length bytes) s)
-    → IsAt new (behind_part s (part k bytes)) × ([] ≡ told (cuts_at s (part k bytes)))
-other_kind s kind.Text bytes new other h = absurd (other refl)
-other_kind s _ bytes new other h = (h, refl)
+-- what is no text
+pub other_kind : (k : Kind) → k ≢ kind.Text → is_text k ≡ false
+other_kind kind.Text other = absurd (other refl)
+other_kind _ other = refl

@@ -1,5 +1,5 @@
 -- Where a stream may be cut, so that each piece is as good as a stream of its own.
-use Rattle.std.specs.Prelude.{ℕ, suc, ◌≡◌, ◌==◌, ◌+◌, Bool, true, false, ◌&&◌, ◌||◌, nat_le, nat_lt, if◌then◌else◌, List, [], ◌∷◌, ◌++◌, length, take}
+use Rattle.std.specs.Prelude.{ℕ, suc, ◌≡◌, ◌==◌, ◌+◌, Bool, true, false, ◌&&◌, ◌||◌, nat_le, nat_lt, if◌then◌else◌, List, [], ◌∷◌, ◌++◌, map, take}
 use Rattle.std.specs.{Fmt.decimal, List.flat_map}
 use Rattle.csicodec_spans.specs.Parts.{Part, part, AreFirstParts, IsWhole}
 use Rattle.csicodec_clean.specs.{Check.counted, Cleaned.is_text, Cleaned.longest, Titles.title_open, Titles.with_titles}
@@ -32,50 +32,37 @@ patience = 65536
 abbrev pub is_shown : ℕ → Bool
 is_shown b = nat_le 32 b && nat_lt b 127
 
--- The next place is behind this byte of text: it is far enough from the last one, and a newline. Or it is so far that none is waited
--- for, and such a character.
-abbrev pub is_cut : Found → ℕ → Bool
-is_cut s b = nat_le (s.last + s.every) (suc s.at)
-    && (b == 10 || nat_le (s.last + s.every + patience) (suc s.at) && is_shown b)
+-- bytes, each by whether it is text, and those of parts: what stands in a title isn't
+abbrev pub each_of : Bool → List ℕ → List (Bool × ℕ)
+each_of text bytes = map (λ b. (text, b)) bytes
 
--- behind a byte of text, and behind more of it
-abbrev pub behind_byte : Found → ℕ → Found
+abbrev pub each_byte : Bool → List Part → List (Bool × ℕ)
+each_byte titled parts = flat_map (λ p. each_of (is_text p.kind) p.bytes) (with_titles titled parts)
+
+-- The next place is behind this byte: it is text, far enough from the last one, and a newline. Or it is so far that none is waited for,
+-- and such a character.
+abbrev pub is_cut : Found → Bool × ℕ → Bool
+is_cut s b = b.0 && (nat_le (s.last + s.every) (suc s.at)
+    && (b.1 == 10 || nat_le (s.last + s.every + patience) (suc s.at) && is_shown b.1))
+
+-- behind a byte, and behind more of them
+abbrev pub behind_byte : Found → Bool × ℕ → Found
 behind_byte s b = record { every = s.every; last = if is_cut s b then suc s.at else s.last; at = suc s.at }
 
-abbrev pub behind_text : Found → List ℕ → Found
-behind_text s [] = s
-behind_text s (b ∷ text) = behind_text (behind_byte s b) text
-
--- the places in a text
-abbrev pub cuts_in : Found → List ℕ → List ℕ
-cuts_in s [] = []
-cuts_in s (b ∷ text) = (if is_cut s b then suc s.at ∷ [] else []) ++ cuts_in (behind_byte s b) text
-
--- behind so many bytes that are no text
-abbrev pub passed : ℕ → Found → Found
-passed n s = record { every = s.every; last = s.last; at = s.at + n }
-
--- behind a part, and behind more of them
-abbrev pub behind_part : Found → Part → Found
-behind_part s p = if is_text p.kind then behind_text s p.bytes else passed (length p.bytes) s
-
-abbrev pub behind : Found → List Part → Found
+abbrev pub behind : Found → List (Bool × ℕ) → Found
 behind s [] = s
-behind s (p ∷ parts) = behind (behind_part s p) parts
+behind s (b ∷ bytes) = behind (behind_byte s b) bytes
 
--- the places in a part, and in more of them
-abbrev pub cuts_at : Found → Part → List ℕ
-cuts_at s p = if is_text p.kind then cuts_in s p.bytes else []
-
-abbrev pub cuts : Found → List Part → List ℕ
+-- the places in them
+abbrev pub cuts : Found → List (Bool × ℕ) → List ℕ
 cuts s [] = []
-cuts s (p ∷ parts) = cuts_at s p ++ cuts (behind_part s p) parts
+cuts s (b ∷ bytes) = (if is_cut s b then suc s.at ∷ [] else []) ++ cuts (behind_byte s b) bytes
 
 -- the places of a stream, in the text that is in no title
 pub record AreCuts (every : ℕ) (bytes places : List ℕ) : Type 0 where
   pub parts : List Part
   pub whole : IsWhole longest mode.Text bytes parts
-  pub all : places ≡ cuts (first every) (with_titles false parts)
+  pub all : places ≡ cuts (first every) (each_byte false parts)
 
 -- what is told of them: a line for each, with its decimal digits
 abbrev pub line_of : ℕ → List ℕ

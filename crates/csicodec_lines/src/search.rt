@@ -1,8 +1,8 @@
 //! A search for places within the text of a stream.
-ghost use Rattle.std.specs.Prelude.{◌≡◌, ◌++◌, ℕ, List, OnOk};
-ghost use Rattle.csicodec_spans.specs.Parts.{part};
-ghost use Rattle.csicodec_lines.specs.{Cuts.Found, Cuts.behind_byte, Cuts.first, Cuts.is_cut, Cuts.is_shown, Cuts.line_of, Cuts.passed, Private.Search.FindsAt};
-ghost use Rattle.csicodec_lines.specs.{Private.Search.FindsIn, Private.Search.IsAt};
+ghost use Rattle.std.specs.Prelude.{◌≡◌, ◌++◌, ℕ, List, OnOk, true};
+ghost use Rattle.csicodec_clean.specs.Cleaned.{is_text};
+ghost use Rattle.csicodec_lines.specs.{Cuts.Found, Cuts.behind_byte, Cuts.each_of, Cuts.first, Cuts.is_cut, Cuts.is_shown, Cuts.line_of, Private.Search.FindsIn};
+ghost use Rattle.csicodec_lines.specs.{Private.Search.IsAt, Private.Search.passed};
 
 use csicodec_spans::Kind;
 use itoa::write_digits;
@@ -67,7 +67,7 @@ impl CutSearch {
     /// Takes a byte of text. Whether the stream may be cut behind it.
     fn take_byte(&mut self, byte: u8) -> bool
         ensures { (s : Found) → IsAt self.old s
-            → IsAt self.new (behind_byte s byte) × (result ≡ is_cut s byte) }
+            → IsAt self.new (behind_byte s (true, byte)) × (result ≡ is_cut s (true, byte)) }
     {
         self.pass(1);
         let is_cut = self.near == 0 && (byte == b'\n' || self.wait == 0 && is_shown(byte));
@@ -80,7 +80,7 @@ impl CutSearch {
 
     /// Takes some text, byte by byte, and appends the places in it.
     fn take_near(&mut self, text: &[u8], out: &mut Vec<u8>) -> Result<(), AllocError>
-        ensures { OnOk result ((more : List ℕ) × FindsIn self.old text.now more self.new
+        ensures { OnOk result ((more : List ℕ) × FindsIn self.old (each_of true text.now) more self.new
             × (out.new.items ≡ out.old.items ++ more)) }
     {
         let mut rest = text;
@@ -95,7 +95,7 @@ impl CutSearch {
 
     /// The same at once, as far as no place is near enough.
     fn take_text(&mut self, text: &[u8], out: &mut Vec<u8>) -> Result<(), AllocError>
-        ensures { OnOk result ((more : List ℕ) × FindsIn self.old text.now more self.new
+        ensures { OnOk result ((more : List ℕ) × FindsIn self.old (each_of true text.now) more self.new
             × (out.new.items ≡ out.old.items ++ more)) }
     {
         let len = self.near.saturating_sub(1).min(text.len() as u64);
@@ -111,7 +111,7 @@ impl CutSearch {
         bytes: &[u8],
         out: &mut Vec<u8>,
     ) -> Result<(), AllocError>
-        ensures { OnOk result ((more : List ℕ) × FindsAt self.old (part kind bytes.now) more self.new
+        ensures { OnOk result ((more : List ℕ) × FindsIn self.old (each_of (is_text kind) bytes.now) more self.new
             × (out.new.items ≡ out.old.items ++ more)) }
     {
         if kind == Kind::Text {

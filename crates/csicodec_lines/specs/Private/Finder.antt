@@ -2,16 +2,16 @@
 use Rattle.std.specs.Prelude.{ℕ, ◌≡◌, Bool, false, []}
 use Rattle.csicodec_filter.specs.{Filter.Held, Written.Since, Written.WrittenOf, Written.open_at}
 use Rattle.csicodec_transform.specs.Transform.{PassesOf}
-use Rattle.csicodec_clean.specs.{Cleaned.longest, Titles.title_open, Titles.with_titles}
-use Rattle.csicodec_lines.specs.{declared.finder.Finder.Finder, declared.search.CutSearch.CutSearch, Cuts.Found, Cuts.behind, Cuts.cuts, Cuts.first, Cuts.told}
-use Rattle.csicodec_lines.specs.{Private.Search.IsAt}
+use Rattle.csicodec_clean.specs.{Cleaned.longest, Titles.title_open}
+use Rattle.csicodec_lines.specs.{declared.finder.Finder.Finder, declared.search.CutSearch.CutSearch, Cuts.Found, Cuts.behind, Cuts.cuts, Cuts.each_byte}
+use Rattle.csicodec_lines.specs.{Cuts.first, Cuts.told, Private.Search.IsAt}
 use Rattle.csicodec_spans.specs.declared.table.Mode.TheVariants as mode
 
 -- this was told of some parts, wherever the search was, by whether a title is open ahead of them, and whether one is behind them
 abbrev pub Finds : WrittenOf (CutSearch × Bool)
 Finds old parts text new = (new.1 ≡ title_open old.1 parts)
-    × ((s : Found) → IsAt old.0 s → IsAt new.0 (behind s (with_titles old.1 parts))
-    × (text ≡ told (cuts s (with_titles old.1 parts))))
+    × ((s : Found) → IsAt old.0 s → IsAt new.0 (behind s (each_byte old.1 parts))
+    × (text ≡ told (cuts s (each_byte old.1 parts))))
 
 -- the search, and what waits
 abbrev pub held : Finder → Held (CutSearch × Bool)

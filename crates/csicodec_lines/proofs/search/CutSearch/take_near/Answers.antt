@@ -1,5 +1,5 @@
-use Rattle.std.proofs.Common.{◌++◌, ◌∙◌, ap, sym, append_assoc}
-use Rattle.csicodec_lines.specs.Cuts.{behind_byte, behind_text, cuts_in, line_of, told}
+use Rattle.std.proofs.Common.{◌++◌, ◌∙◌, ap, sym, append_assoc, true}
+use Rattle.csicodec_lines.specs.Cuts.{behind as cut_behind, behind_byte, cuts, each_of, line_of, told}
 use Rattle.csicodec_lines.proofs.Parts.{one_told}
 use Rattle.csicodec_lines.proofs.search.CutSearch.take_near.Goals as goal
 
@@ -16,11 +16,11 @@ loop-byte-preserved-in_ok-append_line c =
           let (now, held, behind, text) = finds s is in
           let (new, cut) = c.take_byte.ensures now held in
           let is_one = sym cut ∙ c.if-take_byte.true in (
-            behind_byte now byte,
+            behind_byte now (true, byte),
             new,
-            sym (ap (behind_text now) whole) ∙ behind,
-            append_assoc more line (told (cuts_in (behind_byte now byte) rest))
+            sym (ap (λ t. cut_behind now (each_of true t)) whole) ∙ behind,
+            append_assoc more line (told (cuts (behind_byte now (true, byte)) (each_of true rest)))
                 ∙ ap (λ t. more ++ t) (one_told now byte rest line is_one (ap line_of new.at))
-                ∙ ap (λ t. more ++ told (cuts_in now t)) (sym whole) ∙ text,
+                ∙ ap (λ t. more ++ told (cuts now (each_of true t))) (sym whole) ∙ text,
           ),
     )

@@ -1,6 +1,6 @@
-use Rattle.std.proofs.{Common.◌≡◌, Common.◌++◌, Common.◌∙◌, Common.length, Common.ap, Common.sym, Common.subst, Common.arith, Common.take-append-drop}
-use Rattle.std.proofs.{lemmas.Result.on_ok_weaker}
-use Rattle.csicodec_lines.specs.{Cuts.passed, Cuts.told, Private.Search.IsAt}
+use Rattle.std.proofs.{Common.◌≡◌, Common.true, Common.◌++◌, Common.◌∙◌, Common.length, Common.ap, Common.sym, Common.subst, Common.arith}
+use Rattle.std.proofs.{Common.take-append-drop, lemmas.Result.on_ok_weaker}
+use Rattle.csicodec_lines.specs.{Cuts.told, Private.Search.IsAt, Private.Search.passed}
 use Rattle.csicodec_lines.proofs.Parts.{skip, skipped}
 use Rattle.csicodec_lines.proofs.search.CutSearch.take_text.Goals as goal
 
@@ -15,7 +15,7 @@ returns c =
     (λ (more, finds, out). (
       more,
       (λ s is.
-          let both = skip s text front rest whole (skipped s front (omega
+          let both = skip s text front rest whole (skipped s true front (λ _. omega
           (arith, is.near, c.saturating_sub.ensures, c.min-len.ensures, c.split_at.ensures.front_len))) in
           let (at, e) = finds (passed (length front) s) (c.pass.ensures s is) in
           (subst (IsAt c.take_near.new.self) both.0 at, e ∙ ap told both.1)),

@@ -92,11 +92,10 @@ def ranges(them):
     for action in them.actions:
         variant = action.variant[0]
         if action.names == ("Font",):
-            yield from ["SgrInRange (sgr.Font font.Default) = Unit {0}", "SgrInRange (sgr.Font (font.Alternate n)) = n < 256"]
+            yield "SgrInRange (sgr.Font (font.Alternate n)) = n < 256"
         elif action.form == "color":
             yield f"SgrInRange (sgr.{variant} c) = ColorInRange c"
-        else:
-            yield f"SgrInRange {f'sgr.{variant}' if action.form == 'unit' else f'(sgr.{variant} x)'} = Unit {{0}}"
+    yield "SgrInRange s = Unit {0}"
 
 
 def look_arms(them):

@@ -200,7 +200,7 @@ def of_subject(subject, said):
     actions, name_of = [action for action in subject.actions if "final" in action.row], said["name"]
     own = f"crates/csicodec_actions/src/{name_of}.rt"
     table = f"crates/csicodec_actions/specs/Table/{subject.name}.antt"
-    rest = {"cursor": "            Cursor::TabulationControl(_)", "edit": "            Edit::EraseInDisplay(_) | Edit::EraseInLine(_) => true,"}[name_of]
+    rest = {"cursor": "            _ => true,", "edit": "            Edit::EraseInDisplay(_) | Edit::EraseInLine(_) => true,"}[name_of]
     yield own, Part(list(write_arms(actions)), ("    pub fn write_to(&self, text: &mut Text)", "        match self {"), said["write"])
     yield own, Part(canonical_arms(subject.actions), ("    pub fn is_canonical(&self) -> bool", "        match self {"), rest)
     yield table, Part(list(row_lines(actions)), (f"{name_of}_rows =",), said["row"])

@@ -91,7 +91,7 @@ Has T None = Unit {0}
 Has T (Some z) = T (Integer z)
 
 -- numbers with the property T count as values with the property G
-abbrev NumbersCount : (CsiParam → Type 0) → ((k : Kind) → Value k → Type 0) → Type 0
+abbrev pub NumbersCount : (CsiParam → Type 0) → ((k : Kind) → Value k → Type 0) → Type 0
 NumbersCount T G = (k : Kind) (z : ℤ) (v : Value k) → T (Integer z) → read k z ≡ Some v → G k v
 
 first-has : (T : CsiParam → Type 0) (fs : List (Option ℤ)) → AllByRecursion (Has T) fs → Has T (first fs)

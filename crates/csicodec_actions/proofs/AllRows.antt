@@ -2,13 +2,13 @@
 use Rattle.std.proofs.{Common.◌≡◌, Common.ℕ, Common.List, Common.[], Common.◌∷◌, Common.◌++◌, Common.Some, Common.refl, Common.sym, Common.ap, Common.◌∙◌}
 use Rattle.std.proofs.{Common.inl, Common.inr, Common.append_assoc, lemmas.Bool.cases_Bool, lemmas.Bool.eqb-true, lemmas.Option.same_Some}
 use Rattle.std.proofs.{lemmas.Option.option_and_then_some}
-use Rattle.std.specs.{Prelude.ℤ, Prelude.◌==◌, Prelude.Bool, Prelude.true, Prelude.false, Prelude.if◌then◌else◌, List.AllByRecursion, Option.option_or}
+use Rattle.std.specs.{Prelude.◌==◌, Prelude.Bool, Prelude.true, Prelude.false, Prelude.if◌then◌else◌, List.AllByRecursion, Option.option_or}
 use Rattle.csicodec_tokens.specs.{declared.param.CsiParam.CsiParam, declared.param.CsiParam.TheVariants.Integer, declared.param.CsiParam.TheVariants.P}
 use Rattle.csicodec_tokens.specs.{Sequence.IsSpellable, Sequence.Spellable}
 use Rattle.csicodec_actions.specs.Rows.{Slot, Byte, Number, One, Makes, AtEnd, ended, has_shape, made, gives, Row, given, Before, rows_before, read_by}
 use Rattle.csicodec_actions.specs.{Actions.Action, FieldRows.read_fields, Kinds.Kind, Kinds.Value, Kinds.read, Table.XtSmGraphics.graphics_fields}
 use Rattle.csicodec_actions.specs.{Table.Window.window_fields, Table.all_subjects, Table.table, Table.field_table, Table.whole}
-use Rattle.csicodec_actions.proofs.AllFieldRows.{FieldRowsKeep, RowOf, fields-append, fields-keep, first-append, option_or-assoc, row-of}
+use Rattle.csicodec_actions.proofs.AllFieldRows.{FieldRowsKeep, NumbersCount, RowOf, fields-append, fields-keep, first-append, option_or-assoc, row-of}
 use Rattle.csicodec_actions.proofs.Found.{guarded, one-of}
 
 -- ---- several tables as one
@@ -71,16 +71,12 @@ Keeps T G Q tail (Byte b ∷ shape) make = Keeps T G Q tail shape make
 Keeps T G Q tail (Number n ∷ shape) make = Keeps T G Q tail shape make
 Keeps T G Q tail (One k ∷ shape) make = (v : Value k) → G k v → Keeps T G Q tail shape (make v)
 
--- the tokens have the property T, and what counts as a value then has the property G
-abbrev pub ReadsAs : (CsiParam → Type 0) → ((k : Kind) → Value k → Type 0) → Type 0
-ReadsAs T G = (k : Kind) (z : ℤ) (v : Value k) → T (Integer z) → read k z ≡ Some v → G k v
-
 end-keeps : (T : CsiParam → Type 0) (Q : Action → Type 0) (tail : Bool) (end : AtEnd tail Action) (list : List CsiParam) (a : Action) → KeepsEnd T Q tail end → AllByRecursion T list
     → ended tail end list ≡ a → Q a
 end-keeps T Q true make list a keeps all e = rw (← e) (keeps.each list all)
 end-keeps T Q false whole list a keeps all e = rw (← e) keeps
 
-made-keeps : (T : CsiParam → Type 0) (G : (k : Kind) → Value k → Type 0) (Q : Action → Type 0) → ReadsAs T G → (tail : Bool) (shape : List Slot) (make : Makes (AtEnd tail Action) shape)
+made-keeps : (T : CsiParam → Type 0) (G : (k : Kind) → Value k → Type 0) (Q : Action → Type 0) → NumbersCount T G → (tail : Bool) (shape : List Slot) (make : Makes (AtEnd tail Action) shape)
     (list : List CsiParam) (a : Action) → Keeps T G Q tail shape make → AllByRecursion T list → made tail shape make list ≡ Some a → Q a
 made-keeps T G Q reads tail [] end list a keeps all e = end-keeps T Q tail end list a keeps all (same_Some _ _ e)
 made-keeps T G Q reads tail (Byte b ∷ shape) make (t ∷ ts) a keeps all e = made-keeps T G Q reads tail shape make ts a keeps all.1 e
@@ -99,7 +95,7 @@ pub table-append : (T : CsiParam → Type 0) (G : (k : Kind) → Value k → Typ
 table-append T G Q xs ys keep more = all-append (λ (b : Before Action). AllByRecursion (λ (r : Row Action). Keeps T G Q r.tail r.shape r.make) b.rows) xs ys keep more
 
 pub table-keeps : (T : CsiParam → Type 0) (G : (k : Kind) → Value k → Type 0) (Q : Action →
-    Type 0) → ReadsAs T G → (rows : List (Before Action)) → TableKeeps T G Q rows →
+    Type 0) → NumbersCount T G → (rows : List (Before Action)) → TableKeeps T G Q rows →
     (list : List CsiParam) (final : ℕ)
     (a : Action) → AllByRecursion T list → read_by rows list final ≡ Some a → Q a
 table-keeps T G Q reads rows keep list final a all e =
@@ -107,7 +103,7 @@ table-keeps T G Q reads rows keep list final a all e =
     made-keeps T G Q reads r.row.tail r.row.shape r.row.make list a r.holds all (guarded (has_shape r.row.tail r.row.shape list) _ a r.gave).1
 
 pub whole-keeps : (T : CsiParam → Type 0) (G : (k : Kind) → Value k → Type 0) (Q : Action →
-    Type 0) → ReadsAs T G → TableKeeps T G Q table → FieldRowsKeep G Q field_table →
+    Type 0) → NumbersCount T G → TableKeeps T G Q table → FieldRowsKeep G Q field_table →
     (list : List CsiParam) (final : ℕ)
     (a : Action) → AllByRecursion T list → whole list final ≡ Some a → Q a
 whole-keeps T G Q reads keep keep-fields list final a all e = elim (one-of (read_by table list final) (read_fields field_table list final) a (sym (whole-table list final) ∙ e)) [

@@ -1,7 +1,7 @@
 -- What an action of a row is written as is read as it, subject by subject.
 use Rattle.std.proofs.Common.{◌≡◌, ℕ, List, [], ◌∷◌, true, None, Some, refl, ap, ◌∙◌, inl, inr, arith, pos, rules}
 use Rattle.std.proofs.lemmas.Bool.{cases_Bool, and_parts, eq-eqb, eqb-true, ne_eqb}
-use Rattle.std.specs.{Prelude.ℤ, Prelude.◌==◌, Prelude.◌&&◌, Prelude.Option, Prelude.map, Prelude.if◌then◌else◌, List.Contains}
+use Rattle.std.specs.{Prelude.ℤ, Prelude.◌==◌, Prelude.◌&&◌, Prelude.Option, Prelude.map, List.Contains}
 use Rattle.csicodec_names.proofs.Coded.{attributes, is_number-pos, none-found}
 use Rattle.csicodec_names.specs.{DeviceNumbers.device_attribute_codes, DeviceNumbers.device_attribute_number, Numbered.is_number}
 use Rattle.csicodec_tokens.specs.{Fields.fields_of, OneBased.most, declared.param.CsiParam.TheVariants.Integer, declared.param.CsiParam.TheVariants.P}

@@ -1,8 +1,7 @@
 -- No two rows of a final read one list: a test that is computed over all pairs.
-use Rattle.std.proofs.Common.{◌≡◌, ℕ, zero, suc, ◌⊎◌, List, [], ◌∷◌, Option, None, Some, refl, sym, ap, ◌∙◌, inl, inr, arith, pos}
-use Rattle.std.proofs.{lemmas.Bool.cases_Bool, lemmas.Bool.and_parts, lemmas.Bool.eqb-true, lemmas.Option.same_Some, lemmas.Option.slice_get_read}
-use Rattle.std.specs.{Prelude.ℤ, Prelude.◌==◌, Prelude.◌&&◌, Prelude.◌||◌, Prelude.Bool, Prelude.true, Prelude.false, Prelude.not, Prelude.slice_get}
-use Rattle.std.specs.{Option.option_or}
+use Rattle.std.proofs.Common.{◌≡◌, ℕ, zero, suc, ◌⊎◌, List, [], ◌∷◌, Option, Some, refl, sym, ap, ◌∙◌, inl, inr, arith}
+use Rattle.std.proofs.{lemmas.Bool.cases_Bool, lemmas.Bool.and_parts, lemmas.Bool.eqb-true, lemmas.Option.slice_get_read}
+use Rattle.std.specs.{Prelude.◌==◌, Prelude.◌&&◌, Prelude.◌||◌, Prelude.Bool, Prelude.true, Prelude.false, Prelude.not, Prelude.slice_get, Option.option_or}
 use Rattle.csicodec_tokens.specs.{declared.param.CsiParam.CsiParam, declared.param.CsiParam.TheVariants.Integer, declared.param.CsiParam.TheVariants.P}
 use Rattle.csicodec_actions.specs.Rows.{first_of, Slot, Byte, Number, One, Row, fits, has_shape, gives, given, Before, rows_before, read_by}
 use Rattle.csicodec_actions.specs.{Actions.Action, FieldRows.read_fields, Table.table, Table.field_table, Table.whole, Table.RowsDecide}
@@ -26,9 +25,7 @@ pub record AreApart {A R : Type 0} (apart : A → A → Bool) (fit : A → Bool)
 
 apart-one : {A R : Type 0} (apart : A → A → Bool) (fit : A → Bool) (give : A → Option R) → AreApart apart fit give → (x : A) (xs : List A) (i : ℕ) (y : A) → apart_from apart x xs ≡ true
     → slice_get xs i ≡ Some y → fit x ≡ true → fit y ≡ true → ⊥
-apart-one apart fit give are x (z ∷ zs) zero y d at f g =
-    let same : z ≡ y = same_Some z y at in
-    are.one x y (rw same at (and_parts (apart x z) (apart_from apart x zs) d).0) f g
+apart-one apart fit give are x (z ∷ zs) zero y d at f g = grind (arith, are.one x y)
 apart-one apart fit give are x (z ∷ zs) (suc i) y d at f g = apart-one apart fit give are x zs i y (and_parts (apart x z) (apart_from apart x zs) d).1 at f g
 apart-one apart fit give are x _ _ y d at f g = cc
 
@@ -37,16 +34,9 @@ pub picked : {A R : Type 0} (apart : A → A → Bool) (fit : A → Bool) (give 
     AreApart apart fit give → (xs : List A) (i : ℕ) (x : A) (r : R) → all_apart apart xs ≡ true →
     slice_get xs i ≡ Some x
     → give x ≡ Some r → first_of give xs ≡ Some r
-picked apart fit give are (y ∷ ys) zero x r d at e =
-    let same : y ≡ x = same_Some y x at in
-    rw (same, e) refl
+picked apart fit give are (y ∷ ys) zero x r d at e = grind arith
 picked apart fit give are (y ∷ ys) (suc i) x r d at e =
-    let p = and_parts (apart_from apart y ys) (all_apart apart ys) d in
-    go (give y) refl (picked apart fit give are ys i x r p.1 at e)
-  where
-    go : (o : Option _) → give y ≡ o → first_of give ys ≡ Some r → option_or o (first_of give ys) ≡ Some r
-    go None gave later = later
-    go (Some s) gave later = absurd (apart-one apart fit give are y ys i x (and_parts (apart_from apart y ys) (all_apart apart ys) d).0 at (are.gave y s gave) (are.gave x r e))
+    grind (arith, picked apart fit give are ys i x r, apart-one apart fit give are y ys i x, are.gave y, are.gave x r)
 picked apart fit give are _ _ x r d at e = cc
 
 -- ---- the rows of tokens
@@ -81,28 +71,20 @@ is-apart = refl
 
 -- ---- what the test says
 
-unequal : (m n : ℕ) → m ≡ n → not (m == n) ≡ true → ⊥
-unequal m n same e = grind arith
-
 differ-slots : (s t : Slot) (x : CsiParam) → differ s t ≡ true → fits s x ≡ true → fits t x ≡ true → ⊥
 differ-slots (Byte b) t (Integer z) d e f = cc
 differ-slots (Number n) t (P c) d e f = cc
 differ-slots (One k) t (P c) d e f = cc
 differ-slots (One k) (Byte b) (Integer z) d e f = cc
-differ-slots (Byte b) (Byte a) (P c) d e f = unequal b a (sym (eqb-true c b e) ∙ eqb-true c a f) d
-differ-slots (Number n) (Number m) (Integer z) d e f = unequal n m (numbers n m z (is_number-pos n z e) (is_number-pos m z f)) d
-  where
-    numbers : (m n : ℕ) (z : ℤ) → z ≡ pos m → z ≡ pos n → m ≡ n
-    numbers m n z e f = cc
+differ-slots (Byte b) (Byte a) (P c) d e f = grind arith
+differ-slots (Number n) (Number m) (Integer z) d e f = grind (arith, is_number-pos n z, is_number-pos m z)
 differ-slots _ _ _ d e f = cc
 
 apart-shapes : (tail : Bool) (s : List Slot) (other : Bool) (t : List Slot) (list : List CsiParam) →
     shapes_apart tail s other t ≡ true → has_shape tail s list ≡ true → has_shape other t list ≡ true → ⊥
 apart-shapes tail [] other [] list d e f = cc
 apart-shapes tail (s ∷ ss) other (t ∷ ts) (x ∷ xs) d e f =
-    let p = and_parts (has_shape tail ss xs) (fits s x) e in
-    let q = and_parts (has_shape other ts xs) (fits t x) f in
-    elim (cases_Bool (differ s t)) [ inl here ↦ differ-slots s t x here p.1 q.1 | inr later ↦ apart-shapes tail ss other ts xs (rw later at d) p.0 q.0 ]
+    grind (arith, differ-slots s t x, apart-shapes tail ss other ts xs)
 apart-shapes false [] other (t ∷ ts) (x ∷ xs) d e f = cc
 apart-shapes tail (s ∷ ss) false [] (x ∷ xs) d e f = cc
 apart-shapes _ _ _ _ _ d e f = cc
@@ -136,8 +118,4 @@ rows_lem list final r a listed e =
 pub apart-given : (p : Row Action) (rows : List (Row Action)) (list : List CsiParam) (a : Action) → apart_from are_apart p rows ≡ true → has p list ≡ true → given rows list ≡ Some a → ⊥
 apart-given p [] list a d f e = cc
 apart-given p (r ∷ rows) list a d f e =
-    let both = and_parts (are_apart p r) (apart_from are_apart p rows) d in go (gives r list) refl both.0 (apart-given p rows list a both.1 f) e
-  where
-    go : (o : Option Action) → gives r list ≡ o → are_apart p r ≡ true → (given rows list ≡ Some a → ⊥) → option_or o (given rows list) ≡ Some a → ⊥
-    go None gave here later e = later e
-    go (Some x) gave here later e = (rows-are-apart list).one p r here f (guarded (has r list) _ x gave).0
+    grind (arith, apart-given p rows list a, apart-shapes p.tail p.shape r.tail r.shape list)

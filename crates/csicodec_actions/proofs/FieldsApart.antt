@@ -1,7 +1,6 @@
 -- No two rows over fields read one list, and none reads what a row of tokens does: tests that are computed over all pairs.
-use Rattle.std.proofs.Common.{◌≡◌, ℕ, zero, suc, List, [], ◌∷◌, Option, None, Some, refl, sym, ap, ◌∙◌, inl, inr, pos, subst}
-use Rattle.std.proofs.{lemmas.Bool.cases_Bool, lemmas.Bool.and_parts, lemmas.Bool.eq-eqb, lemmas.Bool.eqb-true, lemmas.Option.same_Some}
-use Rattle.std.proofs.{lemmas.Option.slice_get_read, lemmas.Option.option_and_then_some}
+use Rattle.std.proofs.Common.{arith, ◌≡◌, ℕ, zero, suc, List, [], ◌∷◌, Option, None, Some, refl, sym, ap, ◌∙◌, pos, subst}
+use Rattle.std.proofs.{lemmas.Bool.eq-eqb, lemmas.Bool.eqb-true, lemmas.Option.same_Some, lemmas.Option.slice_get_read, lemmas.Option.option_and_then_some}
 use Rattle.std.specs.Prelude.{ℤ, ◌==◌, ◌&&◌, ◌||◌, Bool, true, false, not, slice_get, if◌then◌else◌, option_and_then}
 use Rattle.std.specs.{List.AllByRecursion, Option.option_or}
 use Rattle.csicodec_tokens.specs.{declared.param.CsiParam.CsiParam, declared.param.CsiParam.TheVariants.P, Fields.fields_of}
@@ -41,10 +40,6 @@ fits-front : (s : Slot) (f : Option ℤ) (fs : List (Option ℤ)) → fits s (f 
 fits-front (This n) f fs = refl
 fits-front _ f fs = refl
 
-not_both : (a b : Bool) → not (a && b) ≡ true → a ≡ true → b ≡ true → ⊥
-not_both true true d e f = cc
-not_both _ _ d e f = cc
-
 none-taken : (t : Slot) (z : ℤ) → takes_none t ≡ true → fits t (Some z ∷ []) ≡ true → ⊥
 none-taken (This n) z d f = cc
 none-taken _ z d f = cc
@@ -60,23 +55,16 @@ number-slots End t z d e f = cc
 number-slots _ t z d e f = none-taken t z d f
 
 differ-slots : (s t : Slot) (fs : List (Option ℤ)) → differ s t ≡ true → fits s fs ≡ true → fits t fs ≡ true → ⊥
-differ-slots s t [] d e f = not_both (fits s []) (fits t []) (and_parts (not (fits s [] && fits t [])) (not (fits s (None ∷ []) && fits t (None ∷ [])) && no_number s t) d).0 e f
-differ-slots s t (x ∷ fs) d e f =
-    let p = and_parts (not (fits s [] && fits t [])) (not (fits s (None ∷ []) && fits t (None ∷ [])) && no_number s t) d in
-    let q = and_parts (not (fits s (None ∷ []) && fits t (None ∷ []))) (no_number s t) p.1 in
-    go x (sym (fits-front s x fs) ∙ e) (sym (fits-front t x fs) ∙ f) q.0 q.1
-  where
-    go : (x : Option ℤ) → fits s (x ∷ []) ≡ true → fits t (x ∷ []) ≡ true → not (fits s (None ∷ []) && fits t (None ∷ [])) ≡ true → no_number s t ≡ true → ⊥
-    go None e f empty number = not_both (fits s (None ∷ [])) (fits t (None ∷ [])) empty e f
-    go (Some z) e f empty number = number-slots s t z number e f
+differ-slots s t [] d e f = grind arith
+differ-slots s t (None ∷ fs) d e f = grind (arith, fits-front s None fs, fits-front t None fs)
+differ-slots s t (Some z ∷ fs) d e f =
+    grind (arith, fits-front s (Some z) fs, fits-front t (Some z) fs, number-slots s t z)
 
 apart-shapes : (ss ts : List Slot) (fs : List (Option ℤ)) → are_apart ss ts ≡ true → have_shape ss fs ≡ true → have_shape ts fs ≡ true → ⊥
 apart-shapes [] ts fs d e f = cc
 apart-shapes (s ∷ ss) [] fs d e f = cc
 apart-shapes (s ∷ ss) (t ∷ ts) fs d e f =
-    let p = and_parts (fits s fs) (have_shape ss (behind fs)) e in
-    let q = and_parts (fits t fs) (have_shape ts (behind fs)) f in
-    elim (cases_Bool (differ s t)) [ inl here ↦ differ-slots s t fs here p.0 q.0 | inr later ↦ apart-shapes ss ts (behind fs) (rw later at d) p.1 q.1 ]
+    grind (arith, differ-slots s t fs, apart-shapes ss ts (behind fs))
 
 -- ---- the rows of one entry
 

@@ -1,26 +1,20 @@
 -- What the code finds in the fields of a list.
-use Rattle.std.proofs.Common.{◌≡◌, ℕ, List, [], ◌∷◌, ◌++◌, inl, inr, Option, None, Some, refl, ap, ◌∙◌, Bor, false, true}
+use Rattle.std.proofs.Common.{◌≡◌, ℕ, List, [], ◌∷◌, ◌++◌, inl, inr, Option, None, Some, refl, ap, ◌∙◌, Bor, arith}
 use Rattle.std.proofs.lemmas.Bool.{cases_Bool}
-use Rattle.std.specs.{Prelude.ℤ, Prelude.◌==◌, Prelude.◌&&◌, Prelude.Bool, Prelude.if◌then◌else◌, Bool.then_some, List.list_all, Option.option_map}
+use Rattle.std.specs.{Prelude.◌==◌, Prelude.if◌then◌else◌, Bool.then_some, List.list_all, Option.option_map}
 use Rattle.csicodec_tokens.specs.{declared.param.CsiParam.CsiParam, declared.param.CsiParam.TheVariants.Integer, declared.param.CsiParam.TheVariants.P}
-use Rattle.csicodec_tokens.specs.{Fields.fields_of, Fields.with_field, Private.FieldsBy.is_field_token}
+use Rattle.csicodec_tokens.specs.{Fields.fields_of, Private.FieldsBy.is_field_token}
 use Rattle.csicodec_actions.specs.{FieldRows.ahead_of_byte, FieldRows.numbers, Lent.integers, Private.FieldsBy.fields_there}
 
 -- ---- a list that has fields
 
-guarded-with : (s all : Bool) (x : Option ℤ) (fs : List (Option ℤ)) → (if s then with_field x (if all then Some fs else None) else None) ≡ (if s && all then Some (x ∷ fs) else None)
-guarded-with true true x fs = refl
-guarded-with true false x fs = refl
-guarded-with false all x fs = refl
-
 -- they are those that stand there, where no byte but `;` does
 pub fields-are : (list : List CsiParam) → fields_of list ≡ (if list_all is_field_token list then Some (fields_there list) else None)
 fields-are [] = refl
-fields-are (P b ∷ list) = rw (fields-are list) (guarded-with (b == 59) (list_all is_field_token list) None (fields_there list))
+fields-are (P b ∷ list) = grind (arith, fields-are list)
 fields-are (Integer z ∷ []) = refl
-fields-are (Integer z ∷ P b ∷ list) = rw (fields-are list) (guarded-with (b == 59) (list_all is_field_token list) (Some z) (fields_there list))
-fields-are (Integer z ∷ Integer y ∷ list) =
-    rw (fields-are (Integer y ∷ list)) (guarded-with true (list_all is_field_token (Integer y ∷ list)) (Some z) (fields_there (Integer y ∷ list)))
+fields-are (Integer z ∷ P b ∷ list) = grind (arith, fields-are list)
+fields-are (Integer z ∷ Integer y ∷ list) = grind (arith, fields-are (Integer y ∷ list))
 
 -- ---- the numbers of fields
 

@@ -1,6 +1,6 @@
 -- The list that an action is written as, and its text.
-use Rattle.std.proofs.Common.{◌≡◌, ℕ, ◌<◌, ◌⊎◌, List, [], ◌∷◌, ◌++◌, Some, refl, sym, inl, inr, arith, append_assoc, pos}
-use Rattle.std.proofs.{lemmas.Bool.cases_Bool, lemmas.Bool.and_parts, lemmas.Bool.ltb-true, lemmas.Str.encode_ascii}
+use Rattle.std.proofs.Common.{◌≡◌, ℕ, ◌<◌, List, [], ◌∷◌, ◌++◌, Some, refl, sym, inl, inr, arith, append_assoc, pos}
+use Rattle.std.proofs.{lemmas.Int.ints, lemmas.Bool.cases_Bool, lemmas.Bool.and_parts, lemmas.Bool.ltb-true, lemmas.Str.encode_ascii}
 use Rattle.std.specs.Prelude.{Bool, true, false, ◌&&◌, ◌||◌, nat_lt}
 use Rattle.csicodec_names.specs.{DeviceNumbers.device_attribute_number, Numbered.is_number}
 use Rattle.csicodec_tokens.specs.{declared.param.CsiParam.CsiParam, declared.param.CsiParam.TheVariants.Integer, declared.param.CsiParam.TheVariants.P}
@@ -32,33 +32,11 @@ are_sound (Attribute a ∷ items) = begins_apart items && are_sound items
 abbrev pub is_sound : Written → Bool
 is_sound w = are_sound w.items && (nat_lt 63 w.final && nat_lt w.final 127)
 
--- what the test says of a byte
-record Mark (b : ℕ) : Type 0 where
-  above : 31 < b
-  apart : (b < 48) ⊎ (57 < b)
-  below : b < 64
-
-mark : (b : ℕ) → is_mark b ≡ true → Mark b
-mark b e =
-    let p = and_parts (nat_lt 31 b) ((nat_lt b 48 || nat_lt 57 b) && nat_lt b 64) e in
-    let q = and_parts (nat_lt b 48 || nat_lt 57 b) (nat_lt b 64) p.1 in
-    record {
-      above = ltb-true 31 b p.0;
-      apart = elim (cases_Bool (nat_lt b 48)) [ inl low ↦ inl (ltb-true b 48 low) | inr high ↦ inr (ltb-true 57 b (rw high at q.0)) ];
-      below = ltb-true b 64 q.1;
-    }
-
 mark-spellable : (b : ℕ) → is_mark b ≡ true → IsSpellable (P b)
-mark-spellable b e =
-    let m = mark b e in
-    ((omega (arith, m.above), omega (arith, m.below)), λ digit. elim m.apart [ inl low ↦ omega (arith, low, digit) | inr high ↦ omega (arith, high, digit) ])
+mark-spellable b e = grind (arith, ints)
 
 apart : (t : CsiParam) (items : List Item) → begins_apart items ≡ true → Apart t (tokens items)
-apart (Integer z) (Byte b ∷ items) e = tt
-apart (Integer z) (The j u ∷ items) e = cc
-apart (Integer z) (Unless n j u ∷ items) e = cc
-apart (Integer z) (Attribute a ∷ items) e = cc
-apart _ _ e = tt
+apart t items e = grind arith
 
 value-spellable : (k : Kind) (v : Value k) → Good k v → IsSpellable (Integer (number k v))
 value-spellable k v good = let s = number-said k v good in (s.above, s.fits)
@@ -70,20 +48,16 @@ attribute-spellable (attribute.Unspecified t) good = good.0
 
 items-spellable : (items : List Item) → are_sound items ≡ true → AllGood items → Spellable (tokens items)
 items-spellable [] e good = tt
-items-spellable (Byte b ∷ items) e good = let p = and_parts (is_mark b) (are_sound items) e in (mark-spellable b p.0, tt, items-spellable items p.1 good)
+items-spellable (Byte b ∷ items) e good = grind (arith, mark-spellable b, items-spellable items)
 items-spellable (The k v ∷ items) e good =
-    let p = and_parts (begins_apart items) (are_sound items) e in (value-spellable k v good.0, apart (Integer (number k v)) items p.0, items-spellable items p.1 good.1)
+    grind (arith, value-spellable k v, apart (Integer (number k v)) items, items-spellable items)
 items-spellable (Unless n k v ∷ items) e good =
-    let p = and_parts (begins_apart items) (are_sound items) e in
-    elim (cases_Bool (is_number n (number k v))) [
-      | inl here ↦ rw here (items-spellable items p.1 good.1)
-      | inr there ↦ rw there (value-spellable k v good.0, apart (Integer (number k v)) items p.0, items-spellable items p.1 good.1)
-    ]
+    grind (arith, value-spellable k v, apart (Integer (number k v)) items, items-spellable items)
 items-spellable (Attribute a ∷ items) e good =
-    let p = and_parts (begins_apart items) (are_sound items) e in (attribute-spellable a good.0, apart (attribute_token a) items p.0, items-spellable items p.1 good.1)
+    grind (arith, attribute-spellable a, apart (attribute_token a) items, items-spellable items)
 
 mark-text : (b : ℕ) → is_mark b ≡ true → b < 128
-mark-text b e = let m = mark b e in omega (arith, m.below)
+mark-text b e = grind arith
 
 shown-spells : (items : List Item) (end : List ℕ) → are_sound items ≡ true → shown items end ≡ spells (tokens items) ++ end
 shown-spells [] end e = refl

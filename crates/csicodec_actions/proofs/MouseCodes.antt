@@ -16,12 +16,7 @@ all_below (suc k) f = f k && all_below k f
 
 below : (k : ℕ) (f : ℕ → Bool) (n : ℕ) → n < k → all_below k f ≡ true → f n ≡ true
 below zero f n h e = absurd (omega arith)
-below (suc k) f n h e =
-    let p = and_parts (f k) (all_below k f) e in
-    elim (cases_Bool (n == k)) [ inl here ↦ rw (eqb-true n k here) p.0 | inr other ↦ below k f n (less n k h other) p.1 ]
-  where
-    less : (n k : ℕ) → n < suc k → (n == k) ≡ false → n < k
-    less n k h e = grind arith
+below (suc k) f n h e = grind (arith, below k f n)
 
 -- the bits of the button and of the modifiers lie apart
 abbrev lie_apart : MouseButton → ℕ → Bool

@@ -1,7 +1,7 @@
 -- What numbers count as: by the code, and back from what is written.
 use Rattle.std.proofs.Common.{◌≡◌, ℕ, zero, suc, ◌<◌, ◌≤◌, ◌^◌, ◌%◌, List, Option, None, Some, refl, sym, ap, ◌∙◌, inl, inr, arith, rules, pos, subst}
-use Rattle.std.proofs.{lemmas.Bool.cases_Bool, lemmas.Bool.eq-eqb, lemmas.Bool.le-ltb, lemmas.Bool.lt-ltb, lemmas.Bool.ltb-true, lemmas.Int.to_z-of_z}
-use Rattle.std.proofs.{lemmas.Int.ints, lemmas.Option.same_Some, lemmas.Option.cond_some, lemmas.Nat.and_mask, lemmas.Nat.and_le_r}
+use Rattle.std.proofs.{lemmas.Bool.cases_Bool, lemmas.Bool.le-ltb, lemmas.Bool.lt-ltb, lemmas.Int.to_z-of_z, lemmas.Int.ints, lemmas.Option.same_Some}
+use Rattle.std.proofs.{lemmas.Nat.and_mask, lemmas.Nat.and_le_r}
 use Rattle.std.specs.{Prelude.ℤ, Prelude.negsuc, Prelude.◌↔◌, Prelude.Bool, Prelude.IsTrue, Prelude.not, Prelude.true, Prelude.false, Prelude.nat_abs}
 use Rattle.std.specs.{Prelude.Result, Prelude.Ok, Prelude.Err, Int.FitsUnsignedBits, Option.is_some, Result.OkIff, Result.result_ok}
 use mir.{Syntax.w64, Val.SFits, Val.of_z, Val.to_z}
@@ -176,18 +176,10 @@ read-good GraphicsItem i h = refl
 -- ---- what is read is written back
 
 number_or-fits : (default : ℕ) (z : ℤ) (n : ℕ) → IsOneBased default → number_or default (Integer z) ≡ Some n → IsOneBased n
-number_or-fits default (pos zero) n fits e = let same = same_Some _ _ e in subst IsOneBased same fits
-number_or-fits default (pos (suc m)) n fits e =
-    let p = cond_some _ (suc m) n e in
-    let low = ltb-true (suc m) (2 ^ 32) p.0 in
-    record { above = omega (arith, p.1); fits = omega (arith, p.1, low) }
-number_or-fits default (negsuc m) n fits e = cc
+number_or-fits default z n fits e = grind arith
 
 below-fits : (bound : ℕ) (z : ℤ) (n : ℕ) → below bound z ≡ Some n → (z ≡ pos n) × (n < bound)
-below-fits bound (pos m) n e =
-    let p = cond_some _ m n e in
-    let low = ltb-true m bound p.0 in (ap pos p.1, omega (arith, p.1, low))
-below-fits bound (negsuc m) n e = cc
+below-fits bound z n e = grind arith
 
 -- a mode that is read
 owned : {C M : Type 0} (number : C → ℕ) (all : List C) (coded : C → M) (own : ℕ → M) → Coded number all → (Q : M → Type 0) → ((c : C) → Q (coded c)) → ((n : ℕ) → IsOwn number n → Q (own n))
@@ -213,19 +205,8 @@ unfolding read
 terminal-read z m e = owned terminal_mode_number terminal_codes _ _ terminals GoodTerminal (λ c. tt) (λ n h. h) z m e
 
 item-read : (z : ℤ) → IsSaid z → GoodItem (item_of z)
-item-read z said = elim (cases_Bool (is_number 1 z)) [
-  | inl one ↦ rw one tt
-  | inr a ↦ elim (cases_Bool (is_number 2 z)) [
-    | inl two ↦ rw (a, two) tt
-    | inr b ↦ elim (cases_Bool (is_number 3 z)) [
-      | inl three ↦ rw (a, b, three) tt
-      | inr c ↦ rw (a, b, c) (said, (λ same. other 1 same a, λ same. other 2 same b, λ same. other 3 same c))
-    ]
-  ]
-]
-  where
-    other : (k : ℕ) → z ≡ pos k → is_number k z ≡ false → ⊥
-    other k same none = let here : is_number k (pos k) ≡ true = eq-eqb k k refl in cc (same, none, here)
+item-read (pos n) said = grind arith
+item-read (negsuc n) said = grind arith
 
 pub good-read : (k : Kind) (z : ℤ) (v : Value k) → IsSpellable (Integer z) → read k z ≡ Some v → Good k v
 unfolding read

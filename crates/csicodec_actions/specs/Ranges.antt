@@ -13,23 +13,13 @@ ColorInRange Default = Unit {0}
 ColorInRange (PaletteIndex i) = i < 256
 ColorInRange (TrueColor c) = (c.0 < 256) × (c.1 < 256) × (c.2 < 256) × (c.3 < 256)
 
--- the numbers of each attribute, a line for each variant
+-- the numbers of each attribute; no other has any
 abbrev pub SgrInRange : sgr_type.Sgr → Type 0
-SgrInRange sgr.Reset = Unit {0}
-SgrInRange (sgr.Intensity x) = Unit {0}
-SgrInRange (sgr.Underline x) = Unit {0}
 SgrInRange (sgr.UnderlineColor c) = ColorInRange c
-SgrInRange (sgr.Blink x) = Unit {0}
-SgrInRange (sgr.Italic x) = Unit {0}
-SgrInRange (sgr.Inverse x) = Unit {0}
-SgrInRange (sgr.Invisible x) = Unit {0}
-SgrInRange (sgr.StrikeThrough x) = Unit {0}
-SgrInRange (sgr.Font font.Default) = Unit {0}
 SgrInRange (sgr.Font (font.Alternate n)) = n < 256
 SgrInRange (sgr.Foreground c) = ColorInRange c
 SgrInRange (sgr.Background c) = ColorInRange c
-SgrInRange (sgr.Overline x) = Unit {0}
-SgrInRange (sgr.VerticalAlign x) = Unit {0}
+SgrInRange s = Unit {0}
 
 -- the numbers of attributes; what else is canonical is in range
 abbrev pub InRange : Action → Type 0

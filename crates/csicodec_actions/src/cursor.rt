@@ -194,12 +194,7 @@ impl Cursor {
                 left: first,
                 right: second,
             } => is_one_based(*first) && is_one_based(*second),
-            Cursor::TabulationControl(_)
-            | Cursor::TabulationClear(_)
-            | Cursor::SaveCursor
-            | Cursor::RestoreCursor
-            | Cursor::RequestActivePositionReport
-            | Cursor::CursorStyle(_) => true,
+            _ => true,
         }
     }
 

@@ -111,12 +111,10 @@ pub fn integers_in(alloc: Global, tokens: &[CsiParam]) -> Result<Vec<i64>, Alloc
     ensures { IfOk result (λ values. values.items ≡ integers tokens.now) }
 {
     let mut values = Vec::new(alloc);
-    let mut rest = tokens;
-    while let [token, others @ ..] = rest {
+    for token in tokens {
         if let CsiParam::Integer(value) = token {
             values.push(*value)?;
         }
-        rest = others;
     }
     Ok(values)
 }

@@ -12,11 +12,11 @@ use std::fmt;
 #[derive(Clone, Copy, Debug, PartialEq, Eq)]
 pub enum KittyKeyboardMode {
     /// They take the place of the old ones.
-    AssignAll,
+    AssignAll = 1,
     /// They are added.
-    SetSpecified,
+    SetSpecified = 2,
     /// They are taken away.
-    ClearSpecified,
+    ClearSpecified = 3,
 }
 
 impl KittyKeyboardMode {
@@ -40,11 +40,7 @@ impl KittyKeyboardMode {
         ensures value { result ≡ kitty_mode_number self.now }
         ensures short { result < 10 }
     {
-        match self {
-            KittyKeyboardMode::AssignAll => 1,
-            KittyKeyboardMode::SetSpecified => 2,
-            KittyKeyboardMode::ClearSpecified => 3,
-        }
+        *self as u8
     }
 }
 

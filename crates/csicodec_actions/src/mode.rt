@@ -124,13 +124,13 @@ impl From<TerminalModeCode> for TerminalMode {
 #[derive(Clone, Copy, Debug, PartialEq, Eq)]
 pub enum XtermKeyModifierResource {
     /// `modifyKeyboard`, number 0.
-    Keyboard,
+    Keyboard = 0,
     /// `modifyCursorKeys`, number 1.
-    CursorKeys,
+    CursorKeys = 1,
     /// `modifyFunctionKeys`, number 2.
-    FunctionKeys,
+    FunctionKeys = 2,
     /// `modifyOtherKeys`, number 4.
-    OtherKeys,
+    OtherKeys = 4,
 }
 
 impl XtermKeyModifierResource {
@@ -155,12 +155,7 @@ impl XtermKeyModifierResource {
         ensures value { result ≡ resource_number self.now }
         ensures short { result < 10 }
     {
-        match self {
-            XtermKeyModifierResource::Keyboard => 0,
-            XtermKeyModifierResource::CursorKeys => 1,
-            XtermKeyModifierResource::FunctionKeys => 2,
-            XtermKeyModifierResource::OtherKeys => 4,
-        }
+        *self as u8
     }
 }
 

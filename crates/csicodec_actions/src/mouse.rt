@@ -130,22 +130,9 @@ pub(crate) fn modifiers_code(modifiers: Modifiers) -> u8
     ensures value { result ≡ modifiers_code modifiers }
     ensures short { result ≤ 28 }
 {
-    let shift = if modifiers.contains(Modifiers::SHIFT) {
-        4
-    } else {
-        0
-    };
-    let alt = if modifiers.contains(Modifiers::ALT) {
-        8
-    } else {
-        0
-    };
-    let ctrl = if modifiers.contains(Modifiers::CTRL) {
-        16
-    } else {
-        0
-    };
-    shift + alt + ctrl
+    4 * u8::from(modifiers.contains(Modifiers::SHIFT))
+        + 8 * u8::from(modifiers.contains(Modifiers::ALT))
+        + 16 * u8::from(modifiers.contains(Modifiers::CTRL))
 }
 
 impl MouseReport {

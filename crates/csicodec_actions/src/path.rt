@@ -9,11 +9,11 @@ use csicodec_base::Text;
 #[derive(Clone, Copy, Debug, PartialEq, Eq)]
 pub enum CharacterPath {
     /// As the terminal has it: 0, or no number, of freedesktop's recommendation on bidirectional text; ECMA-48 has 1 and 2 alone.
-    ImplementationDefault,
+    ImplementationDefault = 0,
     /// From left to right, or from top to bottom.
-    LeftToRightOrTopToBottom,
+    LeftToRightOrTopToBottom = 1,
     /// From right to left, or from bottom to top.
-    RightToLeftOrBottomToTop,
+    RightToLeftOrBottomToTop = 2,
 }
 
 impl CharacterPath {
@@ -37,11 +37,7 @@ impl CharacterPath {
         ensures value { result ≡ path_number self.now }
         ensures short { result < 10 }
     {
-        match self {
-            CharacterPath::ImplementationDefault => 0,
-            CharacterPath::LeftToRightOrTopToBottom => 1,
-            CharacterPath::RightToLeftOrBottomToTop => 2,
-        }
+        *self as u8
     }
 }
 

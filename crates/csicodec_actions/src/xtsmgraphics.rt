@@ -67,13 +67,13 @@ impl fmt::Display for XtSmGraphicsItem {
 #[derive(Clone, Copy, Debug, PartialEq, Eq)]
 pub enum XtSmGraphicsAction {
     /// 1: it is asked for.
-    ReadAttribute,
+    ReadAttribute = 1,
     /// 2: it is set back to what it was at first.
-    ResetToDefault,
+    ResetToDefault = 2,
     /// 3: it is set to the values.
-    SetToValue,
+    SetToValue = 3,
     /// 4: the most that it can be is asked for.
-    ReadMaximumAllowedValue,
+    ReadMaximumAllowedValue = 4,
 }
 
 impl XtSmGraphicsAction {
@@ -81,12 +81,7 @@ impl XtSmGraphicsAction {
     pub fn to_i64(&self) -> i64
         ensures { result ≡ pos (action_number self.now) }
     {
-        match self {
-            XtSmGraphicsAction::ReadAttribute => 1,
-            XtSmGraphicsAction::ResetToDefault => 2,
-            XtSmGraphicsAction::SetToValue => 3,
-            XtSmGraphicsAction::ReadMaximumAllowedValue => 4,
-        }
+        *self as i64
     }
 }
 
@@ -94,13 +89,13 @@ impl XtSmGraphicsAction {
 #[derive(Clone, Copy, Debug, PartialEq, Eq)]
 pub enum XtSmGraphicsStatus {
     /// 0: it was done, and the values follow.
-    Success,
+    Success = 0,
     /// 1: the terminal has no such item.
-    InvalidItem,
+    InvalidItem = 1,
     /// 2: the terminal has no such action.
-    InvalidAction,
+    InvalidAction = 2,
     /// 3: it could not be done.
-    Failure,
+    Failure = 3,
 }
 
 impl XtSmGraphicsStatus {
@@ -108,12 +103,7 @@ impl XtSmGraphicsStatus {
     pub fn to_i64(&self) -> i64
         ensures { result ≡ pos (status_number self.now) }
     {
-        match self {
-            XtSmGraphicsStatus::Success => 0,
-            XtSmGraphicsStatus::InvalidItem => 1,
-            XtSmGraphicsStatus::InvalidAction => 2,
-            XtSmGraphicsStatus::Failure => 3,
-        }
+        *self as i64
     }
 }
 

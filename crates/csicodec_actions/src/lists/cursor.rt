@@ -124,10 +124,7 @@ fn left_and_right(params: &[CsiParam]) -> Option<Cursor>
 fn restore(params: &[CsiParam]) -> Option<Cursor>
     ensures { option_map (λ c. Moves c) result ≡ as_cursor params.now 117 }
 {
-    match params {
-        [] => Some(Cursor::RestoreCursor),
-        _ => None,
-    }
+    params.is_empty().then_some(Cursor::RestoreCursor)
 }
 
 /// The number 6 asks for the place of the cursor.
@@ -135,10 +132,7 @@ fn restore(params: &[CsiParam]) -> Option<Cursor>
 fn request(params: &[CsiParam]) -> Option<Cursor>
     ensures { option_map (λ c. Moves c) result ≡ as_cursor params.now 110 }
 {
-    match params {
-        [CsiParam::Integer(6)] => Some(Cursor::RequestActivePositionReport),
-        _ => None,
-    }
+    matches!(params, [CsiParam::Integer(6)]).then_some(Cursor::RequestActivePositionReport)
 }
 
 /// The number of a style, and a space.

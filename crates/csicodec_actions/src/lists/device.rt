@@ -62,12 +62,9 @@ fn request(params: &[CsiParam]) -> Option<Device>
     ensures { option_map (λ d. Devices (device_of d)) result ≡ given requests params.now }
 {
     match params {
-        [] => Some(Device::RequestPrimaryDeviceAttributes),
-        [Integer(0)] => Some(Device::RequestPrimaryDeviceAttributes),
-        [P(b'>')] => Some(Device::RequestSecondaryDeviceAttributes),
-        [P(b'>'), Integer(0)] => Some(Device::RequestSecondaryDeviceAttributes),
-        [P(b'=')] => Some(Device::RequestTertiaryDeviceAttributes),
-        [P(b'='), Integer(0)] => Some(Device::RequestTertiaryDeviceAttributes),
+        [] | [Integer(0)] => Some(Device::RequestPrimaryDeviceAttributes),
+        [P(b'>')] | [P(b'>'), Integer(0)] => Some(Device::RequestSecondaryDeviceAttributes),
+        [P(b'=')] | [P(b'='), Integer(0)] => Some(Device::RequestTertiaryDeviceAttributes),
         _ => None,
     }
 }
@@ -110,12 +107,10 @@ fn extensions(alloc: Global, list: &[CsiParam]) -> Result<DeviceAttributeFlags, 
     ensures { IfOk result (λ flags. flags.attributes.items ≡ listed_attributes list.now) }
 {
     let mut attributes = Vec::new(alloc);
-    let mut rest = list;
-    while let [token, others @ ..] = rest {
+    for token in list {
         if *token != P(b';') {
             attributes.push(DeviceAttribute::of(*token))?;
         }
-        rest = others;
     }
     Ok(DeviceAttributeFlags::new(attributes))
 }

@@ -3,7 +3,7 @@ use Rattle.std.proofs.Common.{◌≡◌, ℕ, ◌-◌, ◌<◌, ◌≤◌, List,
 use Rattle.std.proofs.lemmas.Bool.{and_parts, cases_Bool, eqb-true, ltb-false, not-true, and_left, and_from, and_right}
 use Rattle.std.proofs.lemmas.Option.{same_Some}
 use Rattle.std.specs.{Prelude.true, Prelude.false, Prelude.not, Prelude.◌==◌, Prelude.◌&&◌, Prelude.nat_lt, Prelude.is_none, Prelude.option_and_then}
-use Rattle.std.specs.{List.list_all, Option.option_map, Option.option_or}
+use Rattle.std.specs.{Option.option_map, Option.option_or}
 use Rattle.csicodec_keys.specs.Forms.{alt_control, as_form, char_form, legacy_form, legacy_said, pressed, row_form, text_form, text_of, typed_or, typing, with_alt, by, char_number, key_alone, numbered, read_form, other_form, other_key, other_number, read_listed, rxvt_form, said_key, told_by}
 use Rattle.csicodec_keys.specs.{declared.code.KeyCode.KeyCode, declared.key.KeyEvent.KeyEvent, Fields.is_plain, Fields.Says, Fields.written_list}
 use Rattle.csicodec_keys.specs.{declared.rows.Table.Table, Tables.rows, declared.tables.Row.Row, declared.writing.KeySpelling.KeySpelling, Characters.is_alt}

@@ -4,7 +4,7 @@ use Rattle.std.proofs.lemmas.Bool.{and_parts, cases_Bool, eqb-true, lt-ltb}
 use Rattle.std.specs.Prelude.{true, false, ◌==◌, ◌&&◌, nat_lt, option_and_then}
 use lib.Utf8.{scalar, scalars}
 use Rattle.csicodec_tokens.specs.{declared.param.CsiParam.CsiParam, declared.param.CsiParam.TheVariants.Integer}
-use Rattle.csicodec_keys.specs.Fields.{characters, colon_list, from_separator, held_front, held_list, held_of, is_empty, is_plain, read_list, text_front, text_list, with_char, written_list}
+use Rattle.csicodec_keys.specs.Fields.{characters, from_separator, held_front, held_list, held_of, is_empty, is_plain, read_list, text_front, text_list, with_char, written_list}
 use Rattle.csicodec_keys.specs.declared.key.KeyEvent.{KeyEvent}
 use Rattle.csicodec_keys.specs.declared.key.KeyEvent.TheVariants as event
 
@@ -19,24 +19,24 @@ with-char : (text : List ℕ) (c : ℕ) → scalar c ≡ true → length text < 
 unfolding with_char
 with-char text c s h = let room : (length text == 32) ≡ false = grind arith in rw (room, s) refl
 
-chars-read : (text : List ℕ) (c : ℕ) (cs : List ℕ) → scalars (c ∷ cs) ≡ true → length text + length (c ∷ cs) ≤ 32 → characters text (Integer (pos c) ∷ colon_list cs) ≡ Some (text ++ c ∷ cs)
+chars-read : (text : List ℕ) (c : ℕ) (cs : List ℕ) → scalars (c ∷ cs) ≡ true → length text + length (c ∷ cs) ≤ 32 → characters text (Integer (pos c) ∷ text_list 58 cs) ≡ Some (text ++ c ∷ cs)
 chars-read text c [] s h = ap (option_and_then (λ more. characters more [])) (with-char text c (and_parts (scalar c) true s).0 (omega (arith, h)))
 chars-read text c (d ∷ ds) s h =
     let p = and_parts (scalar c) (scalars (d ∷ ds)) s in
-    ap (option_and_then (λ more. characters more (colon_list (d ∷ ds)))) (with-char text c p.0 (omega (arith, h)))
+    ap (option_and_then (λ more. characters more (text_list 58 (d ∷ ds)))) (with-char text c p.0 (omega (arith, h)))
     ∙ (chars-read (text ++ c ∷ []) d ds p.1 (omega (arith, h, length-append text (c ∷ [])))
     ∙ ap Some (append_assoc text (c ∷ []) (d ∷ ds)))
 
-text-read : (text : List ℕ) → scalars text ≡ true → length text ≤ 32 → text_front (text_list text) ≡ Some text
+text-read : (text : List ℕ) → scalars text ≡ true → length text ≤ 32 → text_front (text_list 59 text) ≡ Some text
 text-read [] s h = refl
 text-read (c ∷ cs) s h = chars-read [] c cs s (omega (arith, h))
 
 -- behind a number
 abbrev behind : ℕ → KeyEvent → List ℕ → List CsiParam
-behind held e text = held_list held e (is_empty text) ++ text_list text
+behind held e text = held_list held e (is_empty text) ++ text_list 59 text
 
 separated : (held : ℕ) (e : KeyEvent) (text : List ℕ) → held < 256
-    → (from_separator (behind held e text) ≡ Some (behind held e text)) × (held_front (behind held e text) ≡ Some (held, e, text_list text))
+    → (from_separator (behind held e text) ≡ Some (behind held e text)) × (held_front (behind held e text) ≡ Some (held, e, text_list 59 text))
 separated held event.Press [] h = elim (cases_Bool (held == 0)) [ inl none ↦ rw (none, eqb-true held 0 none) (refl, refl) | inr some ↦ rw (some, held-of held h) (refl, refl) ]
 separated held event.Press (c ∷ cs) h = elim (cases_Bool (held == 0)) [ inl none ↦ rw (none, eqb-true held 0 none) (refl, refl) | inr some ↦ rw (some, held-of held h) (refl, refl) ]
 separated held event.Repeat text h = rw (held-of held h) (refl, refl)

@@ -5,8 +5,8 @@ use Rattle.std.specs.Prelude.{Bool, true, false, ◌==◌, ◌&&◌, ◌≤ℤ�
 use lib.Utf8.{scalar, scalar_fits, scalars}
 use Rattle.csicodec_tokens.specs.{declared.param.CsiParam.CsiParam, declared.param.CsiParam.TheVariants.Integer, declared.param.CsiParam.TheVariants.P}
 use Rattle.csicodec_tokens.specs.{Digits.AreDigits, Digits.IsDigit, Digits.largest, Sequence.Apart, Sequence.Spellable, Sequence.Spells}
-use Rattle.csicodec_keys.specs.{declared.key.KeyEvent.KeyEvent, Win32.record_list, Fields.colon_list, Fields.held_list, Fields.is_empty, Fields.is_plain}
-use Rattle.csicodec_keys.specs.{Fields.text_list, Fields.written_list}
+use Rattle.csicodec_keys.specs.{declared.key.KeyEvent.KeyEvent, Win32.record_list, Fields.held_list, Fields.is_empty, Fields.is_plain, Fields.text_list}
+use Rattle.csicodec_keys.specs.{Fields.written_list}
 use Rattle.csicodec_keys.specs.declared.key.KeyEvent.TheVariants as event
 
 -- ---- lists of numbers with separators between
@@ -72,13 +72,12 @@ lifted [] h = tt
 lifted (Integer z ∷ ts) h = absurd h.0
 lifted (P c ∷ ts) h = h
 
-good-colons : (cs : List ℕ) → scalars cs ≡ true → Good false (colon_list cs)
-good-colons [] s = tt
-good-colons (c ∷ cs) s = let p = and_parts (scalar c) (scalars cs) s in (colon, (number c (scalar_fits c p.0), good-colons cs p.1))
-
-good-text : (text : List ℕ) → scalars text ≡ true → Good false (text_list text)
-good-text [] s = tt
-good-text (c ∷ cs) s = let p = and_parts (scalar c) (scalars cs) s in (semicolon, (number c (scalar_fits c p.0), good-colons cs p.1))
+good-text : (separator : ℕ) (text : List ℕ) → (58 ≤ separator) × (separator ≤ 59)
+    → scalars text ≡ true → Good false (text_list separator text)
+good-text separator [] h s = tt
+good-text separator (c ∷ cs) h s =
+    let p = and_parts (scalar c) (scalars cs) s in
+    (h, (number c (scalar_fits c p.0), good-text 58 cs colon p.1))
 
 good-held : (held : ℕ) (e : KeyEvent) (bare : Bool) (rest : List CsiParam) → held < 256 → Good false rest → Good false (held_list held e bare ++ rest)
 good-held held event.Press true rest h g = elim (cases_Bool (held == 0)) [
@@ -94,9 +93,9 @@ good-held held event.Release bare rest h g = (semicolon, (number (held + 1) (ome
 
 pub good-list : (n held : ℕ) (e : KeyEvent) (text : List ℕ) → n < 4294967296 → held < 256 → scalars text ≡ true → Good true (written_list n held e text)
 good-list n held e text small h s =
-    let behind : Good false (held_list held e (is_empty text) ++ text_list text) = good-held held e (is_empty text) (text_list text) h (good-text text s) in
+    let behind : Good false (held_list held e (is_empty text) ++ text_list 59 text) = good-held held e (is_empty text) (text_list 59 text) h (good-text 59 text semicolon s) in
     elim (cases_Bool ((n == 1) && is_plain held e text)) [
-      | inl alone ↦ rw alone (lifted (held_list held e (is_empty text) ++ text_list text) behind)
+      | inl alone ↦ rw alone (lifted (held_list held e (is_empty text) ++ text_list 59 text) behind)
       | inr more ↦ rw more (number n small, behind)
     ]
 

@@ -127,9 +127,9 @@ output-told limit a later more text rest list after told.Other c (inr t) = absur
 
 never-waits : (limit a : ℕ) (later more : List ℕ) (after : Events) → IsCharacter (a ∷ later) → Waits (fresh limit) (a ∷ (later ++ more)) after → ⊥
 never-waits limit a later more after c (inl w) = no-begin a (later ++ more) c.0 w.0
-never-waits limit a later more after c (inr (inl w)) = let none = unfinished_front (a ∷ later) more (omega arith) w.1.0 in both_ways (is_unfinished (a ∷ later)) c.2 none
-never-waits limit a later more after c (inr (inr w)) =
-    subst (λ (f : Answer). IsUnsureBy f limit (a ∷ (later ++ more))) (text_goes_on a (later ++ more) c.0) w.1
+never-waits limit a later more after c (inr (other, on, inl w)) = let none = unfinished_front (a ∷ later) more (omega arith) w.0 in both_ways (is_unfinished (a ∷ later)) c.2 none
+never-waits limit a later more after c (inr (other, on, inr w)) =
+    subst (λ (f : Answer). IsUnsureBy f limit (a ∷ (later ++ more))) (text_goes_on a (later ++ more) c.0) w
 
 differs : (a : ℕ) → a ≢ 27 → (a == 27) ≡ false
 differs a other = grind arith

@@ -65,9 +65,8 @@ number_front (Integer z ∷ ts) =
 
 -- behind the colon behind the modifiers
 abbrev pub event_field : ℕ → List CsiParam → Option (ℕ × KeyEvent × List CsiParam)
-event_field held [] = None
-event_field held (P b ∷ ts) = None
 event_field held (Integer z ∷ ts) = option_map (λ e. (held, e, ts)) (event_of z)
+event_field held _ = None
 
 -- behind the modifiers
 abbrev pub behind_held : ℕ → List CsiParam → Option (ℕ × KeyEvent × List CsiParam)
@@ -78,9 +77,8 @@ behind_held held (P b ∷ ts) =
 
 -- behind the first `;`
 abbrev pub held_field : List CsiParam → Option (ℕ × KeyEvent × List CsiParam)
-held_field [] = Some (0, event.Press, [])
-held_field (P b ∷ ts) = Some (0, event.Press, P b ∷ ts)
 held_field (Integer z ∷ ts) = option_and_then (λ held. behind_held held ts) (held_of z)
+held_field ts = Some (0, event.Press, ts)
 
 -- the modifiers, the event, and what is behind them
 abbrev pub held_front : List CsiParam → Option (ℕ × KeyEvent × List CsiParam)
@@ -133,14 +131,11 @@ held_list held event.Press bare =
 held_list held event.Repeat bare = P 59 ∷ Integer (pos (held + 1)) ∷ P 58 ∷ Integer (pos 2) ∷ []
 held_list held event.Release bare = P 59 ∷ Integer (pos (held + 1)) ∷ P 58 ∷ Integer (pos 3) ∷ []
 
-abbrev pub colon_list : List ℕ → List CsiParam
-colon_list [] = []
-colon_list (c ∷ cs) = P 58 ∷ Integer (pos c) ∷ colon_list cs
-
-abbrev pub text_list : List ℕ → List CsiParam
-text_list [] = []
-text_list (c ∷ cs) = P 59 ∷ Integer (pos c) ∷ colon_list cs
+-- characters behind such a separator, and each further one behind a colon
+abbrev pub text_list : ℕ → List ℕ → List CsiParam
+text_list separator [] = []
+text_list separator (c ∷ cs) = P separator ∷ Integer (pos c) ∷ text_list 58 cs
 
 abbrev pub written_list : ℕ → ℕ → KeyEvent → List ℕ → List CsiParam
 written_list n held e text =
-    number_list n (is_plain held e text) ++ (held_list held e (is_empty text) ++ text_list text)
+    number_list n (is_plain held e text) ++ (held_list held e (is_empty text) ++ text_list 59 text)

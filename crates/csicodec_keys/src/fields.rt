@@ -1,6 +1,6 @@
 //! The list of a key before its final character, read and written.
 ghost use Rattle.std.specs.{Prelude.◌≡◌, Option.option_map};
-ghost use Rattle.csicodec_keys.specs.Fields.{behind_held, char_of, characters, event_field, event_of, from_separator, held_field, held_front, held_of, number_front, number_of, read_list, says_of, text_front, with_char};
+ghost use Rattle.csicodec_keys.specs.Fields.{behind_held, char_of, characters, event_of, from_separator, held_front, held_of, number_front, number_of, read_list, says_of, text_front, with_char};
 
 use crate::key::{KeyEvent, Typed};
 use csicodec_tokens::CsiParam;
@@ -78,34 +78,16 @@ fn number_front(tokens: &[CsiParam]) -> Option<(u32, &[CsiParam])>
     }
 }
 
-/// Behind the colon behind the modifiers.
-fn event_field(held: u8, tokens: &[CsiParam]) -> Option<(u8, KeyEvent, &[CsiParam])>
-    ensures { option_map (λ f. (f.0, f.1, f.2.now)) result ≡ event_field held tokens.now }
-{
-    match tokens {
-        [CsiParam::Integer(number), others @ ..] => Some((held, event_of(*number)?, others)),
-        _ => None,
-    }
-}
-
 /// Behind the modifiers.
 fn behind_held(held: u8, tokens: &[CsiParam]) -> Option<(u8, KeyEvent, &[CsiParam])>
     ensures { option_map (λ f. (f.0, f.1, f.2.now)) result ≡ behind_held held tokens.now }
 {
     match tokens {
-        [CsiParam::Integer(_), ..] => None,
-        [CsiParam::P(b':'), others @ ..] => event_field(held, others),
+        [CsiParam::P(b':'), CsiParam::Integer(number), others @ ..] => {
+            Some((held, event_of(*number)?, others))
+        }
+        [CsiParam::P(b':') | CsiParam::Integer(_), ..] => None,
         _ => Some((held, KeyEvent::Press, tokens)),
-    }
-}
-
-/// Behind the first `;`.
-fn held_field(tokens: &[CsiParam]) -> Option<(u8, KeyEvent, &[CsiParam])>
-    ensures { option_map (λ f. (f.0, f.1, f.2.now)) result ≡ held_field tokens.now }
-{
-    match tokens {
-        [CsiParam::Integer(number), others @ ..] => behind_held(held_of(*number)?, others),
-        _ => Some((0, KeyEvent::Press, tokens)),
     }
 }
 
@@ -115,7 +97,10 @@ fn held_front(tokens: &[CsiParam]) -> Option<(u8, KeyEvent, &[CsiParam])>
 {
     match tokens {
         [] => Some((0, KeyEvent::Press, tokens)),
-        [CsiParam::P(b';'), others @ ..] => held_field(others),
+        [CsiParam::P(b';'), CsiParam::Integer(held), others @ ..] => {
+            behind_held(held_of(*held)?, others)
+        }
+        [CsiParam::P(b';'), others @ ..] => Some((0, KeyEvent::Press, others)),
         _ => None,
     }
 }

@@ -22,6 +22,7 @@ pub fn told()
 
 /// Each key of a table is written in the encoding of that table, with what its row says is held down; with modifyOtherKeys, which writes
 /// nothing without a modifier, with ctrl.
+#[tactic(auto, unfolding(crate::specs::Tables::rows, crate::specs::Rows::row_of, crate::specs::Rows::row_at))]
 pub fn every_row()
     ensures legacy { (are_written encoding.Legacy table.Control ≡ true)
         × (are_written encoding.Legacy table.Ss3 ≡ true)

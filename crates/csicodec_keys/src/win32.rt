@@ -1,6 +1,6 @@
 //! Win32-input-mode: the record of a key, read and written.
 ghost use Rattle.std.specs.{Prelude.◌≡◌, Prelude.◌≤◌, Option.option_map};
-ghost use Rattle.csicodec_keys.specs.Win32.{alone_record, behind_number, bit, char_record, control_unit, ctrl_unit, down_of, held_in, is_enhanced, key_record, number_ahead, read_record, read_win32, record_of, state_of, typed_unit, unit_of, unit_text, went, win32_code, win32_key, win32_row};
+ghost use Rattle.csicodec_keys.specs.Win32.{alone_record, behind_number, bit, char_record, control_unit, ctrl_unit, down_of, held_in, key_record, number_ahead, read_record, read_win32, record_of, state_of, typed_unit, unit_of, unit_text, went, win32_code, win32_key, win32_row};
 ghost use Rattle.csicodec_keys.specs.Keys.{stroke_of};
 
 use crate::code::KeyCode;

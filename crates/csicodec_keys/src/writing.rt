@@ -1,10 +1,9 @@
 //! The form of a key in an encoding, and its bytes.
-ghost use Rattle.std.specs.{Prelude.◌≡◌, Prelude.◌++◌, Prelude.◌∷◌, Prelude.[], Prelude.true, Prelude.false, Prelude.IfOk, Prelude.MatchOption, Prelude.encode_utf8};
-ghost use Rattle.std.specs.{Option.option_map};
+ghost use Rattle.std.specs.Prelude.{◌≡◌, ◌++◌, ◌∷◌, [], true, false, IfOk, MatchOption, encode_utf8};
 ghost use Rattle.csicodec_tokens.specs.Param.{spells, token_text};
-ghost use Rattle.csicodec_keys.specs.Fields.{colon_list, held_list, is_empty, is_plain, number_list, text_list, written_list};
-ghost use Rattle.csicodec_keys.specs.Forms.{alt_control, as_form, but_release, char_form, char_number, csi_form, form_bytes, form_of, kitty_char, kitty_row, legacy_form, other_form, other_number, row_form, rxvt_form, text_form, text_of, xterm_held};
-ghost use Rattle.csicodec_keys.specs.{Characters.is_alt, Keys.stroke_of, Win32.record_list};
+ghost use Rattle.csicodec_keys.specs.Forms.{alt_control, as_form, but_release, char_form, char_number, csi_form, form_bytes, form_of, kitty_char, legacy_form, other_form, other_number, row_form, rxvt_form, text_form, text_of, xterm_held};
+ghost use Rattle.csicodec_keys.specs.{Fields.held_list, Fields.is_empty, Fields.text_list, Fields.written_list, Fields.number_list, Characters.is_alt, Keys.stroke_of};
+ghost use Rattle.csicodec_keys.specs.{Win32.record_list};
 
 use crate::code::KeyCode;
 use crate::key::{Encoding, Key, KeyEvent};
@@ -291,49 +290,21 @@ fn append_held(held: u8, event: KeyEvent, bare: bool, out: &mut Vec<u8>) -> Resu
     }
 }
 
-/// Further characters, each behind a colon.
-fn append_others(text: &[char], out: &mut Vec<u8>) -> Result<(), AllocError>
-    ensures { IfOk result (λ _. out.new.items ≡ out.old.items ++ spells (colon_list text.now)) }
-{
-    match text {
-        [] => Ok(()),
-        [first, others @ ..] => {
-            append_tokens(&[P(b':'), Integer(i64::from(*first as u32))], out)?;
-            append_others(others, out)
-        }
-    }
-}
-
-fn append_text(text: &[char], out: &mut Vec<u8>) -> Result<(), AllocError>
-    ensures { IfOk result (λ _. out.new.items ≡ out.old.items ++ spells (text_list text.now)) }
-{
-    match text {
-        [] => Ok(()),
-        [first, others @ ..] => {
-            append_tokens(&[P(b';'), Integer(i64::from(*first as u32))], out)?;
-            append_others(others, out)
-        }
-    }
-}
-
-/// The list of a key.
-fn append_list(
-    number: u32,
-    held: u8,
-    event: KeyEvent,
-    text: &[char],
-    out: &mut Vec<u8>,
-) -> Result<(), AllocError>
+/// Characters behind such a separator, and each further one behind a colon.
+fn append_text(separator: u8, text: &[char], out: &mut Vec<u8>) -> Result<(), AllocError>
     ensures { IfOk result (λ _. out.new.items
-        ≡ out.old.items ++ spells (written_list number held event text.now)) }
+        ≡ out.old.items ++ spells (text_list separator text.now)) }
 {
-    let plain = held == 0 && event.is_press() && text.is_empty();
-    append_number(number, plain, out)?;
-    append_held(held, event, text.is_empty(), out)?;
-    append_text(text, out)
+    match text {
+        [] => Ok(()),
+        [first, others @ ..] => {
+            append_tokens(&[P(separator), Integer(i64::from(*first as u32))], out)?;
+            append_text(b':', others, out)
+        }
+    }
 }
 
-/// A control sequence of this list.
+/// A control sequence of a key's list.
 fn append_csi(
     number: u32,
     held: u8,
@@ -345,8 +316,11 @@ fn append_csi(
     ensures { IfOk result (λ _. out.new.items ≡ out.old.items
         ++ 27 ∷ 91 ∷ (spells (written_list number held event text.now) ++ encode_utf8 control)) }
 {
+    let plain = held == 0 && event.is_press() && text.is_empty();
     out.extend_from_slice(b"\x1b[")?;
-    append_list(number, held, event, text, out)?;
+    append_number(number, plain, out)?;
+    append_held(held, event, text.is_empty(), out)?;
+    append_text(b';', text, out)?;
     append_char(control, out)
 }
 

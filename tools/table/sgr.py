@@ -6,7 +6,7 @@ import actions
 from attributes import Attributes, all_attributes, parts as line_parts
 from checks import check_columns, check_once, refuse
 from declared import Variant, in_turn
-from layout import array, comment, keyed, packed, page_line, page_table, string
+from layout import comment, keyed, packed, page_line, page_table, string
 from read import first_line
 
 TABLE = "sgr.toml"
@@ -20,8 +20,14 @@ pub enum SgrCode {
 VARIANTS
 }
 
-macro_rules! pieces {
-    ($($piece:tt)*) => { [$($piece)*] };
+macro_rules! code {
+    (()) => { None };
+    ($name:ident) => { Some(SgrCode::$name) };
+}
+
+/// Codes, several on a line; `()` where a number is none.
+macro_rules! codes {
+    ($($code:tt,)*) => { [$(code!($code)),*] };
 }
 
 """
@@ -58,9 +64,17 @@ pub(crate) struct Entry {
 }
 
 macro_rules! entry {
-    ($attribute:expr, $text:expr, $len:literal) => {
-        Entry { attribute: $attribute, text: $text, len: $len }
+    (()) => {
+        Entry { attribute: None, text: [0, 0, 0, 0, 0, 0, 0, 0], len: 0 }
     };
+    (($attribute:expr, $len:literal, $($byte:literal),*)) => {
+        Entry { attribute: Some($attribute), text: [0x1b, b'[', $($byte),*], len: $len }
+    };
+}
+
+/// Entries, several on a line: the attribute, how long its text is, and what of that stands behind ESC and `[`; `()` where a number sets none alone.
+macro_rules! entries {
+    ($($row:tt,)*) => { [$(entry!($row)),*] };
 }
 
 """
@@ -209,8 +223,8 @@ def codes(table):
     said += "Those whose comment names no other document are from ECMA-48, 8.3.117."
     enumeration = CODES.replace("SAID", "\n".join(comment(said)))
     enumeration = enumeration.replace("VARIANTS", "\n".join(line for number, row in table.named.items() for line in Variant(row["name"], row.get("doc", ""), number, str(number)).lines(True)))
-    places = [f"Some(SgrCode::{table.named[place]['name']})" if place in table.named else "None" for place in table.places]
-    return enumeration + packed(f"The code of each number from 0 to {table.places[-1]}, a place for each, so that finding it is one look.", "CODES", "Option<SgrCode>", places)
+    places = [table.named[place]["name"] if place in table.named else "()" for place in table.places]
+    return enumeration + packed(f"The code of each number from 0 to {table.places[-1]}, a place for each, so that finding it is one look.", "CODES", "Option<SgrCode>", places, "codes")
 
 
 def numbers(table):
@@ -218,16 +232,11 @@ def numbers(table):
     return NUMBERS.replace("ROWS", rows).replace("LIST", "\n".join(in_turn([f"code.{row['name']}" for row in table.named.values()])))
 
 
-def text(table, number):
-    """What is written, ESC and `[` ahead."""
-    return ["0x1b", "b'['", *(f"b'{digit}'" for digit in str(table.written(number))), "b'm'"] if number in table.alone else []
-
-
 def entry(table, place):
-    """In braces `rt fmt` leaves a row on its line."""
-    attribute = f"Some({table.alone[place].rust()})" if place in table.alone else "None"
-    written = text(table, place)
-    return [f"    entry! {{ {attribute}, [{', '.join(written + ['0'] * (8 - len(written)))}], {len(written)} }},"]
+    if place not in table.alone:
+        return "()"
+    written = [*(f"b'{digit}'" for digit in str(table.written(place))), "b'm'"]
+    return f"({table.alone[place].rust()}, {2 + len(written)}, {', '.join(written + ['0'] * (6 - len(written)))})"
 
 
 def types(attributes):
@@ -238,7 +247,7 @@ def types(attributes):
 def entries(table):
     rows = [entry(table, place) for place in table.places]
     head = ENTRIES.replace("TYPES", ", ".join(sorted(types(table.alone.values()))))
-    return head + array(f"Each number from 0 to {table.places[-1]}, a place for each.", "ENTRIES", "Entry", rows)
+    return head + packed(f"Each number from 0 to {table.places[-1]}, a place for each.", "ENTRIES", "Entry", rows, "entries")
 
 
 def attributes(table):

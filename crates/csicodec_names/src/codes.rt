@@ -115,37 +115,29 @@ pub enum SgrCode {
     BackgroundBrightWhite = 107,
 }
 
-macro_rules! pieces {
-    ($($piece:tt)*) => { [$($piece)*] };
+macro_rules! code {
+    (()) => { None };
+    ($name:ident) => { Some(SgrCode::$name) };
+}
+
+/// Codes, several on a line; `()` where a number is none.
+macro_rules! codes {
+    ($($code:tt,)*) => { [$(code!($code)),*] };
 }
 
 /// The code of each number from 0 to 107, a place for each, so that finding it is one look.
-pub(crate) static CODES: [Option<SgrCode>; 108] = pieces! {
-    Some(SgrCode::Reset), Some(SgrCode::IntensityBold), Some(SgrCode::IntensityDim), Some(SgrCode::ItalicOn),
-    Some(SgrCode::UnderlineOn), Some(SgrCode::BlinkOn), Some(SgrCode::RapidBlinkOn), Some(SgrCode::InverseOn),
-    Some(SgrCode::InvisibleOn), Some(SgrCode::StrikeThroughOn), Some(SgrCode::DefaultFont),
-    Some(SgrCode::AltFont1), Some(SgrCode::AltFont2), Some(SgrCode::AltFont3), Some(SgrCode::AltFont4),
-    Some(SgrCode::AltFont5), Some(SgrCode::AltFont6), Some(SgrCode::AltFont7), Some(SgrCode::AltFont8),
-    Some(SgrCode::AltFont9), None, Some(SgrCode::UnderlineDouble), Some(SgrCode::NormalIntensity),
-    Some(SgrCode::ItalicOff), Some(SgrCode::UnderlineOff), Some(SgrCode::BlinkOff), None,
-    Some(SgrCode::InverseOff), Some(SgrCode::InvisibleOff), Some(SgrCode::StrikeThroughOff),
-    Some(SgrCode::ForegroundBlack), Some(SgrCode::ForegroundRed), Some(SgrCode::ForegroundGreen),
-    Some(SgrCode::ForegroundYellow), Some(SgrCode::ForegroundBlue), Some(SgrCode::ForegroundMagenta),
-    Some(SgrCode::ForegroundCyan), Some(SgrCode::ForegroundWhite), Some(SgrCode::ForegroundColor),
-    Some(SgrCode::ForegroundDefault), Some(SgrCode::BackgroundBlack), Some(SgrCode::BackgroundRed),
-    Some(SgrCode::BackgroundGreen), Some(SgrCode::BackgroundYellow), Some(SgrCode::BackgroundBlue),
-    Some(SgrCode::BackgroundMagenta), Some(SgrCode::BackgroundCyan), Some(SgrCode::BackgroundWhite),
-    Some(SgrCode::BackgroundColor), Some(SgrCode::BackgroundDefault), None, None, None, Some(SgrCode::OverlineOn),
-    None, Some(SgrCode::OverlineOff), None, None, Some(SgrCode::UnderlineColor),
-    Some(SgrCode::ResetUnderlineColor), None, None, None, None, None, None, None, None, None, None, None, None,
-    None, Some(SgrCode::VerticalAlignSuperScript), Some(SgrCode::VerticalAlignSubScript),
-    Some(SgrCode::VerticalAlignBaseLine), None, None, None, None, None, None, None, None, None, None, None, None,
-    None, None, Some(SgrCode::ForegroundBrightBlack), Some(SgrCode::ForegroundBrightRed),
-    Some(SgrCode::ForegroundBrightGreen), Some(SgrCode::ForegroundBrightYellow),
-    Some(SgrCode::ForegroundBrightBlue), Some(SgrCode::ForegroundBrightMagenta),
-    Some(SgrCode::ForegroundBrightCyan), Some(SgrCode::ForegroundBrightWhite), None, None,
-    Some(SgrCode::BackgroundBrightBlack), Some(SgrCode::BackgroundBrightRed),
-    Some(SgrCode::BackgroundBrightGreen), Some(SgrCode::BackgroundBrightYellow),
-    Some(SgrCode::BackgroundBrightBlue), Some(SgrCode::BackgroundBrightMagenta),
-    Some(SgrCode::BackgroundBrightCyan), Some(SgrCode::BackgroundBrightWhite),
+pub(crate) static CODES: [Option<SgrCode>; 108] = codes! {
+    Reset, IntensityBold, IntensityDim, ItalicOn, UnderlineOn, BlinkOn, RapidBlinkOn, InverseOn, InvisibleOn,
+    StrikeThroughOn, DefaultFont, AltFont1, AltFont2, AltFont3, AltFont4, AltFont5, AltFont6, AltFont7, AltFont8,
+    AltFont9, (), UnderlineDouble, NormalIntensity, ItalicOff, UnderlineOff, BlinkOff, (), InverseOff,
+    InvisibleOff, StrikeThroughOff, ForegroundBlack, ForegroundRed, ForegroundGreen, ForegroundYellow,
+    ForegroundBlue, ForegroundMagenta, ForegroundCyan, ForegroundWhite, ForegroundColor, ForegroundDefault,
+    BackgroundBlack, BackgroundRed, BackgroundGreen, BackgroundYellow, BackgroundBlue, BackgroundMagenta,
+    BackgroundCyan, BackgroundWhite, BackgroundColor, BackgroundDefault, (), (), (), OverlineOn, (), OverlineOff,
+    (), (), UnderlineColor, ResetUnderlineColor, (), (), (), (), (), (), (), (), (), (), (), (), (),
+    VerticalAlignSuperScript, VerticalAlignSubScript, VerticalAlignBaseLine, (), (), (), (), (), (), (), (), (),
+    (), (), (), (), (), ForegroundBrightBlack, ForegroundBrightRed, ForegroundBrightGreen, ForegroundBrightYellow,
+    ForegroundBrightBlue, ForegroundBrightMagenta, ForegroundBrightCyan, ForegroundBrightWhite, (), (),
+    BackgroundBrightBlack, BackgroundBrightRed, BackgroundBrightGreen, BackgroundBrightYellow,
+    BackgroundBrightBlue, BackgroundBrightMagenta, BackgroundBrightCyan, BackgroundBrightWhite,
 };

@@ -1,5 +1,5 @@
 use Rattle.csicodec_base.proofs.CodePieces.{short}
-use Rattle.csicodec_base.proofs.ready.length_at.Goals as goal
+use Rattle.csicodec_base.proofs.ready.entry_at.Goals as goal
 
 pub returns-clause-short : goal.returns-clause-short
 returns-clause-short c = short c.args.place

@@ -1,6 +1,6 @@
 -- The spellings of attributes before `m` (SGR), as a table: each row is a shape of tokens, and what it gives.
 -- In the examples `#` is any number and `_` is any one token.
-use Rattle.std.specs.Prelude.{ℕ, ◌==◌, List, [], ◌∷◌, ◌++◌, map, Bool, true, false, ◌&&◌, if◌then◌else◌, Option, Some, None, option_and_then, nat_lt, pos, negsuc}
+use Rattle.std.specs.Prelude.{ℕ, ◌==◌, List, [], ◌∷◌, ◌++◌, map, Bool, true, false, ◌&&◌, if◌then◌else◌, Option, Some, None, option_and_then, nat_lt, pos}
 use Rattle.std.specs.List.{flat_map}
 use Rattle.csicodec_tokens.specs.{declared.param.CsiParam.CsiParam, declared.param.CsiParam.TheVariants.Integer, declared.param.CsiParam.TheVariants.P}
 use Rattle.csicodec_names.specs.{declared.codes.SgrCode.SgrCode, declared.color.ColorSpec.ColorSpec, Numbers.all_codes, Numbers.number_of}
@@ -26,13 +26,10 @@ pub data Slot : Type 0 where
 -- the token is one that the slot allows
 abbrev pub fits_slot : Slot → CsiParam → Bool
 fits_slot (Number n) (Integer (pos m)) = m == n
-fits_slot (Number n) (Integer (negsuc m)) = false
-fits_slot (Number n) (P c) = false
-fits_slot (Byte b) (Integer z) = false
 fits_slot (Byte b) (P c) = c == b
 fits_slot AnyNumber (Integer z) = true
-fits_slot AnyNumber (P c) = false
 fits_slot Any t = true
+fits_slot _ _ = false
 
 -- the list begins with the shape: its first tokens fit the slots, one for one
 abbrev pub begins_with : List Slot → List CsiParam → Bool
@@ -45,9 +42,7 @@ abbrev pub taken : List Slot → List CsiParam → List CsiParam
 taken [] rest = []
 taken (s ∷ ss) [] = []
 taken (Any ∷ ss) (t ∷ ts) = t ∷ taken ss ts
-taken (Number n ∷ ss) (t ∷ ts) = taken ss ts
-taken (Byte b ∷ ss) (t ∷ ts) = taken ss ts
-taken (AnyNumber ∷ ss) (t ∷ ts) = taken ss ts
+taken (s ∷ ss) (t ∷ ts) = taken ss ts
 
 -- what a colour is for: the character, the ground behind it, the line below it
 pub data Plane : Type 0 where
@@ -73,8 +68,7 @@ pub record Row : Type 0 where
 -- a part of a colour is a number from 0 to 255
 abbrev pub byte_of : CsiParam → Option ℕ
 byte_of (Integer (pos n)) = if nat_lt n 256 then Some n else None
-byte_of (Integer (negsuc n)) = None
-byte_of (P b) = None
+byte_of _ = None
 
 -- the parts of a colour; none if one token is no part
 abbrev pub bytes_of : List CsiParam → Option (List ℕ)
@@ -84,12 +78,10 @@ bytes_of (t ∷ ts) =
 
 -- one part is a place in the palette; three are red, green and blue, opaque; four have their alpha
 abbrev pub color_of : List ℕ → Option ColorSpec
-color_of [] = None
 color_of (i ∷ []) = Some (color.PaletteIndex i)
-color_of (r ∷ g ∷ []) = None
 color_of (r ∷ g ∷ b ∷ []) = Some (color.TrueColor (record { 0 = r; 1 = g; 2 = b; 3 = 255 }))
 color_of (r ∷ g ∷ b ∷ a ∷ []) = Some (color.TrueColor (record { 0 = r; 1 = g; 2 = b; 3 = a }))
-color_of (r ∷ g ∷ b ∷ a ∷ x ∷ more) = None
+color_of _ = None
 
 -- the colour that the tokens spell
 abbrev pub color_of_tokens : List CsiParam → Option ColorSpec

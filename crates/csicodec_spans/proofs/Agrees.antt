@@ -63,15 +63,13 @@ agrees_ends _ b bytes e = cc
 -- CAN or SUB, or behind what went wrong a byte that is no ASCII
 agrees_left : (m : Mode) (b : ℕ) (bytes : List ℕ) → stays m b ≡ false → ends m b ≡ false → (b == 27) ≡ false → Agrees m (b ∷ bytes) (New 1 mode.Text)
 agrees_left mode.Text b bytes e f g = absurd (grind (arith, nat_tests))
-agrees_left mode.BadCsi b bytes e f g = elim (cases_Bool (nat_lt b 128)) [
+agrees_left mode.Osc b bytes e f g = by_row 10 refl (grind (arith, nat_tests)) refl tt
+agrees_left mode.Dcs b bytes e f g = by_row 10 refl (grind (arith, nat_tests)) refl tt
+agrees_left mode.Str b bytes e f g = by_row 10 refl (grind (arith, nat_tests)) refl tt
+agrees_left m b bytes e f g = elim (cases_Bool (nat_lt b 128)) [
   | inl low ↦ by_row 10 refl (grind (arith, nat_tests)) refl tt
   | inr high ↦ by_row 9 refl (grind (arith, nat_tests)) refl tt
 ]
-agrees_left mode.BadEsc b bytes e f g = elim (cases_Bool (nat_lt b 128)) [
-  | inl low ↦ by_row 10 refl (grind (arith, nat_tests)) refl tt
-  | inr high ↦ by_row 9 refl (grind (arith, nat_tests)) refl tt
-]
-agrees_left m b bytes e f g = by_row 10 refl (grind (arith, nat_tests)) refl tt
 
 -- ---- behind ESC
 

@@ -17,9 +17,8 @@ pub record IsSpelled (body : List ℕ) : Type 0 where
   pub spellable : Spellable list
 
 apart_any : (y z : ℤ) (list : List CsiParam) → Apart (Integer y) list → Apart (Integer z) list
-apart_any y z [] h = tt
 apart_any y z (Integer m ∷ list) h = absurd h
-apart_any y z (P b ∷ list) h = tt
+apart_any y z _ h = tt
 
 -- a digit before a spelled body: the first digit of its first number, or a number of its own
 with_digit : (b : ℕ) (rest : List ℕ) (list : List CsiParam) → IsDigit b → IsBody (b ∷ rest) → Spells rest list → Spellable list → IsSpelled (b ∷ rest)

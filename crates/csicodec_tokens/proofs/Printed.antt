@@ -10,9 +10,6 @@ use Rattle.csicodec_tokens.proofs.Spelled.{not_above}
 own : IsNumeralModel AreDigits value
 own = numerals_by_fold AreDigits (search rules) value_after (search rules)
 
-one_byte : (b : ℕ) → b < 128 → encode_utf8 b ≡ b ∷ []
-one_byte b lt = encode_ascii b lt
-
 pub printed : (list : List CsiParam) → Spellable list → Spells (spells list) list
 printed [] can = refl
 printed (Integer (pos n) ∷ list) can =
@@ -21,4 +18,4 @@ printed (Integer (pos n) ∷ list) can =
     (decimal n, spells list, refl, (decimal_nonempty n small, digits_decimal own n small, ap pos (sym (digits_value-decimal own n small))), printed list can.2)
 printed (Integer (negsuc n) ∷ list) can = absurd (omega (arith, ints, can.0.0))
 printed (P b ∷ list) can =
-    (b ∷ [], spells list, ap (λ (t : List ℕ). t ++ spells list) (one_byte b (omega (arith, can.0.0))), refl, printed list can.2)
+    (b ∷ [], spells list, ap (λ (t : List ℕ). t ++ spells list) (encode_ascii b (omega (arith, can.0.0))), refl, printed list can.2)

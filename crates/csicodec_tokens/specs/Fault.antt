@@ -48,8 +48,7 @@ abbrev pub IsMetAt : ReadError → ℕ → Type 0
 IsMetAt (NotCsi place) n = n ≡ place
 IsMetAt (BadByte place) n = n ≡ place
 IsMetAt (NumberTooLarge place) n = n ≡ place
-IsMetAt (Truncated place) n = ⊥
-IsMetAt Memory n = ⊥
+IsMetAt _ n = ⊥
 
 -- why these bytes may be refused so, where there is room for a number of tokens already
 abbrev pub Refuses : List ℕ → ℕ → ReadError → Type 0

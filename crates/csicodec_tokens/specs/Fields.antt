@@ -10,9 +10,8 @@ separator = P 59
 
 -- the first field is empty
 abbrev pub BeginsEmpty : List (Option ℤ) → Type 0
-BeginsEmpty [] = ⊥
 BeginsEmpty (None ∷ f) = Unit {0}
-BeginsEmpty (Some z ∷ f) = ⊥
+BeginsEmpty _ = ⊥
 
 -- an empty field is `;`; a number has the `;` behind it, or stands alone where the next field isn't empty
 abbrev pub IsBlock : List CsiParam → Option ℤ → List (Option ℤ) → Type 0

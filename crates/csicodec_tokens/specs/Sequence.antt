@@ -30,9 +30,7 @@ IsSpellable (P b) = IsBodyByte b × ¬ IsDigit b
 -- a number doesn't stand before a list that begins with a number
 abbrev pub Apart : CsiParam → List CsiParam → Type 0
 Apart (Integer m) (Integer n ∷ list) = ⊥
-Apart (Integer m) (P b ∷ list) = Unit {0}
-Apart (Integer m) [] = Unit {0}
-Apart (P b) list = Unit {0}
+Apart _ _ = Unit {0}
 
 -- every token is spellable, and no two numbers stand side by side
 abbrev pub Spellable : List CsiParam → Type 0

@@ -36,11 +36,9 @@ is_dcs _ = false
 -- what the bytes are that belong to what is open
 abbrev pub kind_in : modes.Mode → kinds.Kind
 kind_in mode.Text = kind.Text
-kind_in mode.Osc = kind.Str
-kind_in mode.Dcs = kind.Str
-kind_in mode.Str = kind.Str
 kind_in mode.BadCsi = kind.Other
 kind_in mode.BadEsc = kind.Other
+kind_in _ = kind.Str
 
 -- the byte ends nothing: text is all but ESC, a string all but what ends it, and what went wrong goes on over control
 -- characters, DEL, and the bytes below the final ones

@@ -11,15 +11,13 @@ is_field_token (P b) = b == 59
 
 -- a field is kept as the token of its number
 abbrev pub number_in : Option CsiParam → Option ℤ
-number_in None = None
 number_in (Some (Integer z)) = Some z
-number_in (Some (P b)) = None
+number_in _ = None
 
 -- no byte is kept as a field
 abbrev pub IsField : Option CsiParam → Type 0
-IsField None = Unit {0}
-IsField (Some (Integer z)) = Unit {0}
 IsField (Some (P b)) = ⊥
+IsField _ = Unit {0}
 
 -- the field at the front of a list of numbers and `;`, and the tokens behind its block
 pub record IsFirstField (list : List CsiParam) (field : Option CsiParam)

@@ -5,11 +5,11 @@ use Rattle.std.proofs.{lemmas.Grind.common_steps, lemmas.List.Sums.sum_by-append
 use Rattle.std.specs.{List.AllByRecursion, Str.all_scalars}
 use lib.Utf8.{scalar}
 use Rattle.bstr.specs.Utf8.{Decoded, decoded, lossy_chars}
-use Rattle.bstr.proofs.{lemmas.EncodeLemmas.decoded-encode, lemmas.EncodeLemmas.lossy_chars-encode, lemmas.PieceLemmas.piece-bounds}
-use Rattle.bstr.proofs.{lemmas.SoundLemmas.SpellsChar-decoded}
+use Rattle.bstr.proofs.{lemmas.EncodeLemmas.decoded-encode, lemmas.EncodeLemmas.lossy_chars-encode, lemmas.LossyLemmas.lossy_chars-front}
+use Rattle.bstr.proofs.{lemmas.PieceLemmas.piece-bounds, lemmas.SoundLemmas.SpellsChar-decoded}
 use Rattle.csicodec_clean.specs.{Cleaned.Strips, Check.IsFault, Check.IsOutside, Check.Stands, Check.line_ends, Shown.IsBehind, Shown.IsPlain, Shown.IsShown}
 use Rattle.csicodec_clean.specs.{Shown.IsTextOf, Shown.shown}
-use Rattle.csicodec_clean.proofs.{Plain.scalars_lossy, Plain.strips_plain, Plain.text_on, Shows.encoded_on, Sure.sure_piece, Told.read_encoded}
+use Rattle.csicodec_clean.proofs.{Plain.scalars_lossy, Plain.strips_plain, Plain.text_on, Shows.encoded_on, Sure.sure_piece}
 
 -- ---- places
 
@@ -53,7 +53,7 @@ behind_all P (x ∷ xs) ys h = behind_all P xs ys h.1
 plain_behind : (front rest : List ℕ) → IsPlain front → IsPlain (front ++ rest) → IsPlain rest
 plain_behind front rest (cs, scalars, all, e) (ds, s, h, f) =
     let later = lossy_chars rest in
-    let read : lossy_chars (front ++ rest) ≡ cs ++ later = ap (λ (t : List ℕ). lossy_chars (t ++ rest)) e ∙ read_encoded cs rest scalars in
+    let read : lossy_chars (front ++ rest) ≡ cs ++ later = ap (λ (t : List ℕ). lossy_chars (t ++ rest)) e ∙ lossy_chars-front cs rest scalars in
     let same : ds ≡ cs ++ later = sym (lossy_chars-encode ds s) ∙ ap lossy_chars (sym f) ∙ read in
     let bytes : front ++ rest ≡ front ++ encode_utf8_all later = f ∙ ap encode_utf8_all same ∙ encoded_on cs later ∙ ap (λ (t : List ℕ). t ++ encode_utf8_all later) (sym e) in
     (later, scalars_lossy rest, behind_all IsShown cs later (subst (AllByRecursion IsShown) same h), append_cancel_left front rest (encode_utf8_all later) bytes)

@@ -95,10 +95,7 @@ module _ {S : Type 0} (Gives : RuleOf S) where
     read = [];
     steps = steps;
     is_read = rw none (read_none []);
-    same =
-        ap (λ t. chars_as Gives.writing chars ++ t) e ∙ sym (append_assoc (chars_as Gives.writing chars) (run_as Gives.writing held) own)
-        ∙ ap (λ t. t ++ own) (sym (shown_read Gives.writing run chars held read)) ∙ sym (append-nil (run_as Gives.writing run ++ own))
-        ∙ ap (λ t. (run_as Gives.writing run ++ own) ++ t) (sym (written_none Gives.writing));
+    same = rw (e, shown_read Gives.writing run chars held read, written_none Gives.writing) (simp (append_assoc, append-nil));
   }
 
   pub spanned : (k : Kind) (s : S) (run chars held bytes more : List ℕ) (ps : List Part) (after : S) (left : List ℕ) → IsSpan k bytes ps
@@ -146,8 +143,7 @@ module _ {S : Type 0} (Gives : RuleOf S) where
         steps = subst (λ (ps : List Part). AreSteps Gives old.rule run ps (g.text ++ k.text) new.rule k.left) (sym all)
             (steps_on (with_titles old.titled g.parts) (with_titles mid.titled k.parts) old.rule mid.rule new.rule run g.left k.left g.text k.text g.steps k.steps);
         is_read = k.is_read;
-        same = sym (append_assoc (chars_as Gives.writing chars) one two) ∙ ap (λ (x : List ℕ). x ++ two) g.same ∙ append_assoc g.text (chars_as Gives.writing g.read) two
-            ∙ ap (λ (x : List ℕ). g.text ++ x) k.same ∙ sym (append_assoc g.text k.text (chars_as Gives.writing k.read));
+        same = rw (← append_assoc, g.same, append_assoc, k.same, append_assoc) refl;
       }
 
   -- a span

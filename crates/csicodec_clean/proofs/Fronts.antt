@@ -80,8 +80,7 @@ module _ {S : Type 0} where
 
 ended_begins : (run chars rest : List ℕ) (own others : List Item) → IsRead run chars rest → GoesOnFrom (item_texts (shown_items run ++ (own ++ others))) (shown_chars chars)
 ended_begins run chars rest own others h =
-    subst (λ (t : List ℕ). GoesOnFrom t (shown_chars chars)) (sym (part_texts run own others))
-    (further (shown_text run) (shown_chars chars) (item_texts own ++ item_texts others) (run_begins run chars rest h))
+    rw part_texts (further (shown_text run) (shown_chars chars) (item_texts own ++ item_texts others) (run_begins run chars rest h))
 
 part_begins : (d : Passing) (b : Begun) (k : Kind) (run bytes chars rest : List ℕ) (own others : List Item) → Leaves d b k bytes own → IsRead run chars rest
     → ((cs r : List ℕ) → IsRead (run_behind k run bytes) cs r → GoesOnFrom (item_texts others) (shown_chars cs)) → GoesOnFrom (item_texts (items_behind k run ++ (own ++ others))) (shown_chars chars)
@@ -91,7 +90,7 @@ part_begins d b _ run bytes chars rest own others l h later = ended_begins run c
 left_begins : (d : Passing) (b : Begun) (ps : List Part) (run chars rest : List ℕ) (items : List Item) → IsRead run chars rest
     → AreLeft d b run ps items → GoesOnFrom (item_texts items) (shown_chars chars)
 left_begins d b [] run chars rest items h e =
-    subst (λ (t : List ℕ). GoesOnFrom t (shown_chars chars)) (sym (ap item_texts e ∙ texts_chars (filter shown (lossy_chars run)))) (run_begins run chars rest h)
+    rw (e, texts_chars (filter shown (lossy_chars run))) (run_begins run chars rest h)
 left_begins d b (p ∷ ps) run chars rest items h (own, others, leaves, e, left) =
     subst (λ (x : List Item). GoesOnFrom (item_texts x) (shown_chars chars)) (sym e)
     (part_begins d b p.kind run p.bytes chars rest own others leaves h (λ cs r i. left_begins d (begun_behind d b p.kind p.bytes) ps (run_behind p.kind run p.bytes) cs r others i left))

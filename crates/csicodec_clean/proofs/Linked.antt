@@ -97,10 +97,8 @@ abbrev pub Reads : Begun → List ℕ → Begun → Type 0
 Reads b bytes after = (links_in true b bytes ≡ []) × (all_behind true b bytes ≡ after)
 
 reads_on : (b mid after : Begun) (xs ys : List ℕ) → Reads b xs mid → Reads mid ys after → Reads b (xs ++ ys) after
-reads_on b mid after xs ys h k = (
-  links_on true xs ys b ∙ ap (λ (t : List Address). t ++ links_in true (all_behind true b xs) ys) h.0 ∙ ap (λ (t : Begun). links_in true t ys) h.1 ∙ k.0,
-  behind_on true xs ys b ∙ ap (λ (t : Begun). all_behind true t ys) h.1 ∙ k.1,
-)
+reads_on b mid after xs ys h k =
+    (rw (links_on true xs ys b, h.0, h.1) k.0, rw (behind_on true xs ys b, h.1) k.1)
 
 params_read : (ps params url : List ℕ) → AllByRecursion (λ b. is_param b ≡ true) ps → length params + length ps ≤ longest_params
     → Reads (begun place.Params params url) ps (begun place.Params (params ++ ps) url)

@@ -69,11 +69,8 @@ color_open plane color styled = grind arith
 pub color_left : (bytes rest own old new : List ℕ) (style : Sgr) (styled : Bool) → IsColored bytes style rest → IsTakenFor own (SgrAction style ∷ [])
     → new ≡ old ++ 27 ∷ 91 ∷ sgr_text style → IsLeft depth.Full styled own true old new
 color_left bytes rest own old new style styled (plane, color, opaque, paints, stands) is longer =
-    let text : 27 ∷ 91 ∷ sgr_text style ≡ texts (map SgrAction (kept depth.Full (SgrAction style ∷ []))) =
-    subst (λ (s : Sgr). 27 ∷ 91 ∷ sgr_text s ≡ texts (map SgrAction (kept depth.Full (SgrAction s ∷ [])))) (sym paints) (ap (drop 3) (sym (color_note plane color))) in
-    let opened : true ≡ is_open styled (kept depth.Full (SgrAction style ∷ [])) =
-    subst (λ (s : Sgr). true ≡ is_open styled (kept depth.Full (SgrAction s ∷ []))) (sym paints) (color_open plane color styled) in
-    (SgrAction style ∷ [], is, opened, longer ∙ ap (λ t. old ++ t) text)
+    let text = ap (λ l. old ++ drop 3 l) (sym (color_note plane color)) in
+    (SgrAction style ∷ [], is, rw paints (color_open plane color styled), longer ∙ rw paints text)
 
 -- ---- what the table reads of it, as terminals take it
 

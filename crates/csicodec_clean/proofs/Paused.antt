@@ -87,16 +87,11 @@ styled_steps d t u s k p q bytes made rest is same_styled low h =
 
 -- ---- steps in turn, and the end
 
-bare_end : (b : Bool) (shown : List ℕ) → b ≡ false → shown ++ [] ≡ shown ++ cond b (text (action.Sgr sgr.Reset)) []
-bare_end b shown e = ap (λ (x : Bool). shown ++ cond x (text (action.Sgr sgr.Reset)) []) (sym e)
-
 pub stripped_steps : (chunks : List (List ℕ)) (made rest : List ℕ) (last : Pause) → AreStepped {S = Dropped} drops (λ _. bare) beginning [] chunks made last rest → last.styled ≡ false
     → Strips longest (concat chunks) (made ++ ending last rest)
 stripped_steps chunks made rest last stepped none =
     let taken = stepped_taken {S = Dropped} drops (λ (b : Bool). bare) beginning last [] chunks made rest (omega arith) stepped in
-    let all =
-    strips longest bare (concat chunks) (made ++ (shown_text (take last.held rest) ++ [])) (any_chunks {S = Dropped} drops ends_bare bare chunks made [] (between bare last rest) taken refl) in
-    subst (λ (x : List ℕ). Strips longest (concat chunks) (made ++ x)) (bare_end last.styled (shown_text (take last.held rest)) none) all
+    rw none (strips longest bare (concat chunks) _ (any_chunks {S = Dropped} drops ends_bare bare chunks made [] (between bare last rest) taken refl))
 
 pub cleaned_steps : (d : Depth) (chunks : List (List ℕ)) (made rest : List ℕ) (last : Pause) → AreStepped (keeps (λ (k : Keeping). k)) (resumed d) beginning [] chunks made last rest
     → StylesIn (without_links d) (concat chunks) (made ++ ending last rest)

@@ -95,16 +95,11 @@ behind_one k c bytes = rw linked_on refl
 -- the rule that keeps, on a byte of a control string, where links pass
 pub gives_link : (k : Keeping) (c : ℕ) → k.passing.links ≡ true
     → (keeps (λ (x : Keeping). x)).byte k c (link_texts (links_at true k.begun c)) (keeping k.passing k.styled (is_linked k.linked (links_at true k.begun c)) (behind k.begun c))
-gives_link k c e =
-    subst (λ (l : Bool).
-    (keeps (λ (x : Keeping). x)).byte k c (link_texts (links_at l k.begun c)) (keeping k.passing k.styled (is_linked k.linked (links_at l k.begun c)) (next l k.begun c))) e (refl, refl)
+gives_link k c e = rw e (refl, refl)
 
 -- and where they don't
 pub gives_none : (k : Keeping) (c : ℕ) → k.passing.links ≡ false → (keeps (λ (x : Keeping). x)).byte k c [] k
-gives_none k c e = (
-  ap (λ (l : Bool). link_texts (links_at l k.begun c)) (sym e),
-  ap (λ (l : Bool). keeping k.passing k.styled (is_linked k.linked (links_at l k.begun c)) (next l k.begun c)) (sym e),
-)
+gives_none k c e = rw e (refl, refl)
 
 module _ {S : Type 0} (of : S → Keeping) where
   pub record GivenString (s : S) (bytes text : List ℕ) (after : S) : Type 0 where

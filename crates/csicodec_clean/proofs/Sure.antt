@@ -69,8 +69,7 @@ read_all run chars rest h = ap lossy_chars (sym (append-nil run)) ∙ h [] ∙ a
 pub cut_char : (bs : List ℕ) → 0 < length bs → IsCut bs → lossy_chars bs ≡ replacement ∷ []
 cut_char bs some cut =
     let h = cut some in
-    lossy_chars-step bs some ∙ ap (λ o. or_replacement o ∷ lossy_chars (drop (decoded bs).size bs)) h.0
-    ∙ ap (λ n. replacement ∷ lossy_chars (drop n bs)) h.1 ∙ ap (λ t. replacement ∷ lossy_chars t) (drop_all (length bs) bs (omega arith)) ∙ ap (λ t. replacement ∷ t) lossy_chars-nil
+    rw (lossy_chars-step bs some, h.0, h.1, drop_all (length bs) bs (omega arith), lossy_chars-nil) refl
 
 -- and short
 pub cut_short : (bs : List ℕ) → IsCut bs → length bs ≤ 3

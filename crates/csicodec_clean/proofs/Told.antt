@@ -1,12 +1,11 @@
 -- Text that is told by its bytes.
-use Rattle.std.proofs.Common.{◌≡◌, ◌-◌, ◌<◌, ◌≤◌, ℕ, Bool, true, false, None, Some, List, [], ◌∷◌, ◌++◌, length, length-append, drop, take, slice_index, encode_utf8_all, refl, sym, ap, subst, ◌∙◌, arith, lt-ltb, append_assoc, append-nil, take-append-drop, zero, suc}
-use Rattle.std.proofs.{lemmas.Bool.and_from, lemmas.Bool.and_parts, lemmas.Bool.Decides.nat_tests, lemmas.Grind.common_steps, Math.Seq.take-append_seam}
-use Rattle.std.proofs.{Math.Seq.drop-append_seam}
+use Rattle.std.proofs.Common.{◌≡◌, ◌-◌, ◌<◌, ◌≤◌, ℕ, Bool, true, false, None, Some, List, [], ◌∷◌, ◌++◌, length, drop, take, slice_index, encode_utf8_all, refl, sym, ap, subst, ◌∙◌, arith, lt-ltb, append_assoc, append-nil, take-append-drop, zero, suc}
+use Rattle.std.proofs.{lemmas.Bool.and_from, lemmas.Bool.Decides.nat_tests, lemmas.Grind.common_steps, Math.Seq.take-append_seam}
 use Rattle.std.specs.{List.AllByRecursion, List.prefix_len, Str.all_scalars, Char.encode_utf8}
 use lib.Utf8.{scalar, low_scalar}
 use Rattle.bstr.specs.Utf8.{Decoded, decoded, good, or_replacement, lossy_chars, continues, second, code_of_2, code_of_3, code_of_4}
 use Rattle.bstr.proofs.lemmas.PieceLemmas.{lossy_chars-step, piece-bounds, value-1, value-6, value-9, value-12}
-use Rattle.bstr.proofs.{lemmas.EncodeLemmas.decoded-encode, lemmas.SoundLemmas.SpellsChar-decoded}
+use Rattle.bstr.proofs.{lemmas.LossyLemmas.lossy_chars-front, lemmas.SoundLemmas.SpellsChar-decoded}
 use Rattle.csicodec_clean.specs.Shown.{shown, Writing, chars_as, written, IsBehind, IsPlain, IsRead, IsTextOf, IsWritten}
 use Rattle.csicodec_clean.specs.{Bytes.IsPlainByte, Bytes.behind, Bytes.plain_byte, Private.Steps.IsOther, Private.Steps.IsTold, Private.Steps.ReadsTo}
 use Rattle.csicodec_clean.specs.{Private.Steps.Tells, Private.Steps.dropped_byte, Private.Steps.IsWide}
@@ -63,24 +62,9 @@ behind_front class bytes n h = (take n bytes, sym (take-append-drop n bytes), h)
 
 -- ---- what is read of them
 
-some_encoded : (c : ℕ) → 0 < length (encode_utf8 c)
-unfolding encode_utf8
-some_encoded c = grind (arith, nat_tests)
-
-pub read_encoded : (cs more : List ℕ) → all_scalars cs ≡ true → lossy_chars (encode_utf8_all cs ++ more) ≡ cs ++ lossy_chars more
-read_encoded [] more all = refl
-read_encoded (c ∷ cs) more all =
-    let both : (scalar c ≡ true) × (all_scalars cs ≡ true) = and_parts (scalar c) (all_scalars cs) all in
-    let first = encode_utf8 c in
-    let behind = encode_utf8_all cs ++ more in
-    let some : 0 < length (first ++ behind) = omega (arith, some_encoded c, length-append first behind) in
-    ap lossy_chars (append_assoc first (encode_utf8_all cs) more) ∙ lossy_chars-step (first ++ behind) some
-    ∙ ap (λ (p : Decoded). or_replacement p.char ∷ lossy_chars (drop p.size (first ++ behind))) (decoded-encode c behind both.0)
-    ∙ ap (λ t. c ∷ lossy_chars t) (drop-append_seam first behind) ∙ ap (λ t. c ∷ t) (read_encoded cs more both.1)
-
 -- characters that are shown are told
 pub plain_told : (text : List ℕ) (p : IsPlain text) → IsTold text p.0
-plain_told text (cs, scalars, all, e) = (plain_bytes text (cs, scalars, all, e), λ more. ap (λ t. lossy_chars (t ++ more)) e ∙ read_encoded cs more scalars)
+plain_told text (cs, scalars, all, e) = (plain_bytes text (cs, scalars, all, e), λ more. ap (λ t. lossy_chars (t ++ more)) e ∙ lossy_chars-front cs more scalars)
 
 one_read : (b : ℕ) (bs : List ℕ) → b < 128 → lossy_chars (b ∷ bs) ≡ b ∷ lossy_chars bs
 one_read b bs a =

@@ -5,11 +5,12 @@ use Rattle.std.specs.{Prelude.◌==◌, Prelude.◌+◌, Prelude.max, Prelude.un
 use Rattle.std.specs.{List.prefix_len, Str.all_scalars}
 use Rattle.unicode_width.specs.Width.{char_width}
 use Rattle.bstr.specs.Utf8.{lossy_chars}
+use Rattle.bstr.proofs.lemmas.LossyLemmas.{lossy_chars-front}
 use Rattle.csicodec_spans.specs.Parts.{Part}
 use Rattle.csicodec_spans.proofs.OneSpan.{none_unsure, singles}
 use Rattle.csicodec_clean.specs.{Cleaned.longest, Private.Steps.IsOther, Bytes.IsPlainByte}
 use Rattle.csicodec_clean.proofs.{Bytes.front_in, PlainBytes.all_weaker, PlainBytes.plain_bytes, Sure.read_more, Titles.single_texts, Told.ascii_shown}
-use Rattle.csicodec_clean.proofs.{Told.encoded, Told.is_shown, Told.read_encoded, Told.scalars, Twice.all_text}
+use Rattle.csicodec_clean.proofs.{Told.encoded, Told.is_shown, Told.scalars, Twice.all_text}
 use Rattle.csicodec_overwrite.specs.Line.{Done, before, do_all, does, done, line, pen_behind, pen_behind_all, put}
 use Rattle.csicodec_overwrite.specs.Private.Plain.{IsLineByte, IsUntabbed, PutsRun, end_of, glyphs, last_of, line_byte}
 use Rattle.csicodec_overwrite.specs.{declared.cells.Cell.Cell, declared.line.Line.Line, declared.pen.Pen.Pen, declared.step.Step.Step}
@@ -34,7 +35,7 @@ reads_ascii text others valid own = record {
     first = all_text longest text others;
     titles = sym (not_titled text);
     are = subst (λ (ps : List Part). AreOfParts run ps [] (run ++ text)) (sym (single_texts text)) (of_singles text run);
-    is_read = read_more run [] text [] chars text read (λ more. ap (λ (t : List ℕ). lossy_chars (t ++ more)) own ∙ read_encoded text more valid);
+    is_read = read_more run [] text [] chars text read (λ more. ap (λ (t : List ℕ). lossy_chars (t ++ more)) own ∙ lossy_chars-front text more valid);
     same = sym (chars_on chars text);
   };
 }

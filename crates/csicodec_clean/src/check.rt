@@ -71,18 +71,6 @@ fn behind_text<'a, C: CharClass>(bytes: &'a [u8]) -> &'a [u8]
     }
 }
 
-/// Whether what follows could make a character of these bytes: there are none, or they begin one.
-fn is_cut(bytes: &[u8]) -> bool
-    ensures short { result ≡ true → length bytes.now ≤ 3 }
-    ensures sure { result ≡ false → (0 < length bytes.now)
-        × ((more : List ℕ) → decoded (bytes.now ++ more) ≡ decoded bytes.now) }
-{
-    match first_sure(bytes) {
-        Some(_) => false,
-        None => true,
-    }
-}
-
 /// How many lines end in the text.
 fn line_ends(text: &[u8]) -> usize
     ensures { result ≡ line_ends text.now }
@@ -131,6 +119,7 @@ impl Checked {
 
     /// Takes the next bytes. Whether more may follow: of such text, of a character that isn't over, or of an ESC alone, which tells
     /// what that begins.
+    #[tactic(auto, using(crate::proofs::Sure::cut_short))]
     pub fn push<C: CharClass>(&mut self, bytes: &[u8]) -> Result<bool, AllocError>
         ensures stands { OnOk result ((before : List ℕ)
             → Stands C.class before self.old.rest.items self.old.at self.old.line
@@ -144,7 +133,7 @@ impl Checked {
     {
         self.rest.extend_from_slice(bytes)?;
         self.pass::<C>();
-        Ok(is_cut(&self.rest) || self.rest.as_slice() == [ESC].as_slice())
+        Ok(first_sure(&self.rest).is_none() || self.rest.as_slice() == [ESC].as_slice())
     }
 }
 

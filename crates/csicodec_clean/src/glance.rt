@@ -21,14 +21,9 @@ fn begins_with_escape(bytes: &[u8]) -> bool
     first == 0x1b && b' ' <= second && second <= b'/' && b'0' <= third && third <= b'~'
 }
 
-/// Whether the second byte is the one that introduces a control sequence: the rule is asked for no other.
-#[inline(always)]
-fn is_opened(bytes: &[u8]) -> bool {
-    bytes.len() >= 2 && bytes[1] == b'['
-}
-
 /// Takes the control sequence in front that the rule takes at once, or the escape sequence of three bytes,
 /// and answers how many bytes it has; 0 where neither stands there.
+#[tactic(auto, using(crate::proofs::Glances::over_taken))]
 #[inline(always)]
 fn take_control<T: Rule>(
     rule: &mut T,
@@ -40,7 +35,8 @@ fn take_control<T: Rule>(
     ensures goes { IfOk result (λ len. GoesTo T.gives limit (bare_at rule.old bytes.now)
         (bare_at rule.new (drop len bytes.now)) out.old.items out.new.items) }
 {
-    if is_opened(bytes) {
+    // The rule is asked for none but what this byte introduces.
+    if bytes.len() >= 2 && bytes[1] == b'[' {
         let len = rule.take_at_once(limit, bytes, out)?;
         return Ok(len);
     }
@@ -94,6 +90,5 @@ pub(crate) fn append_front<'a, T: Rule>(
     if !is_bare(mode, titled, held) {
         return Ok(bytes);
     }
-    let rest = append_glance(rule, limit, bytes, out)?;
-    Ok(rest)
+    append_glance(rule, limit, bytes, out)
 }

@@ -30,6 +30,7 @@ impl<T: Rule + Drop> Transform for Cleaner<T> {
         Ok(())
     }
 
+    #[tactic(auto, using(crate::proofs::Chunks::goes_none))]
     fn pause(&mut self, _out: &mut Vec<u8>) -> Result<(), AllocError> {
         Ok(())
     }

@@ -4,7 +4,7 @@ ghost use Rattle.std.specs.{Prelude.IfOk, Prelude.false, Option.unwrap_or};
 ghost use Rattle.csicodec_actions.specs.{Actions.Sgr as SgrAction, Table.texts};
 ghost use Rattle.csicodec_parser.specs.ActionOf.{action_of};
 ghost use Rattle.csicodec_clean.specs.Styled.{Styles, StylesIn, IsStyled, IsStyledIn, Keeping, first_kept, hides, is_open, is_reset, keeping, kept, resumed, without_links};
-ghost use Rattle.csicodec_clean.specs.{declared.colors.Depth.TheVariants.Full as AllColors, Marked.IsMarked};
+ghost use Rattle.csicodec_clean.specs.Marked.{IsMarked};
 
 use crate::class::LANES;
 use crate::colors::{Depth, reduced};
@@ -116,13 +116,6 @@ impl Model for Kept {
 }
 
 impl Kept {
-    /// At the beginning of a stream, where no style is open. All colours stay, and no links.
-    pub fn new(alloc: Global) -> Kept
-        ensures { result ≡ first_kept (without_links AllColors) }
-    {
-        Kept::resumed(alloc, Depth::Full, false)
-    }
-
     /// In the middle of a stream, where no links pass.
     pub(crate) fn resumed(alloc: Global, depth: Depth, styled: bool) -> Kept
         ensures { result ≡ resumed depth styled }
@@ -141,7 +134,7 @@ impl Kept {
         self.styled
     }
 
-    /// The same with what passes.
+    /// At the beginning of a stream, where no style is open.
     pub fn letting(alloc: Global, passing: Passing) -> Kept
         ensures { result ≡ first_kept passing }
     {
@@ -220,10 +213,12 @@ impl Rule for Kept {
         }
     }
 
+    #[tactic(auto, using(crate::proofs::Styled::gives_none))]
     fn reads_strings(&self) -> bool {
         self.passing.links
     }
 
+    #[tactic(auto, using(crate::proofs::Styled::gives_none, crate::proofs::Styled::gives_link))]
     fn take_byte(&mut self, byte: u8, out: &mut Vec<u8>) -> Result<(), AllocError> {
         if self.passing.links {
             self.linked = self.link.append_byte(byte, self.linked, out)?;

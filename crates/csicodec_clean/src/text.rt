@@ -40,6 +40,7 @@ fn append_char<T: Rule>(char: char, out: &mut Vec<u8>) -> Result<(), AllocError>
 
 /// The character in front, or U+FFFD for a piece that is none, and its length; none where it depends on what follows, and of
 /// no bytes.
+#[tactic(auto, using(crate::proofs::Sure::read_bad))]
 pub fn first_sure(bytes: &[u8]) -> Option<(char, usize)>
     ensures none { IfNone result (IsCut bytes.now) }
     ensures some { IfSome result
@@ -53,13 +54,8 @@ pub fn first_sure(bytes: &[u8]) -> Option<(char, usize)>
     let (found, size) = decode_utf8(bytes);
     match found {
         Some(char) => Some((char, size)),
-        None => {
-            if size == bytes.len() {
-                None
-            } else {
-                Some(('\u{FFFD}', size))
-            }
-        }
+        None if size == bytes.len() => None,
+        None => Some(('\u{FFFD}', size)),
     }
 }
 
@@ -98,6 +94,7 @@ fn append_plain<'a, T: Rule>(bytes: &'a [u8], out: &mut Vec<u8>) -> Result<&'a [
 }
 
 /// Appends what is shown of the text in front, up to an ESC, a control of C1 or what is no UTF-8, and answers what is behind it.
+#[tactic(auto, using(crate::proofs::Told::tells_none))]
 #[inline(always)]
 pub(crate) fn append_told<'a, T: Rule>(
     bytes: &'a [u8],

@@ -47,6 +47,7 @@ pub(crate) fn near(limit: usize, bytes: &[u8]) -> &[u8]
 }
 
 /// How many bytes the control sequence in front has, at most `limit`; 0 where none stands there.
+#[tactic(auto, using(crate::proofs::Glances::sequence_read))]
 #[inline(always)]
 fn sequence_len(limit: usize, bytes: &[u8]) -> usize
     ensures within { (result ≤ limit) × (result ≤ length bytes.now) }

@@ -57,6 +57,7 @@ fn char_len(first: u8, second: u8, third: u8, fourth: u8) -> usize
 }
 
 /// How many bytes the character in front has; 0 where none from U+00A0 on stands there, or fewer than four bytes.
+#[tactic(auto, using(crate::proofs::Told::none_shown, crate::proofs::Told::wide_front))]
 #[inline(always)]
 fn front_len(bytes: &[u8]) -> usize
     ensures within { result ≤ length bytes.now }
@@ -69,6 +70,7 @@ fn front_len(bytes: &[u8]) -> usize
 }
 
 /// What is behind the characters from U+00A0 on that stand in front.
+#[tactic(auto, using(crate::proofs::Told::none_behind))]
 #[inline(always)]
 fn behind_wide<'a>(bytes: &'a [u8]) -> &'a [u8]
     ensures { IsBehind shown bytes.now result.now }
@@ -99,6 +101,7 @@ pub(crate) fn behind_shown<'a>(bytes: &'a [u8]) -> &'a [u8]
 }
 
 /// The characters in front that are shown as they are, and what is behind them.
+#[tactic(auto, using(crate::proofs::Told::front_taken))]
 #[inline(always)]
 pub fn split_shown<'a>(bytes: &'a [u8]) -> (&'a [u8], &'a [u8])
     ensures whole { bytes.now ≡ result.0.now ++ result.1.now }

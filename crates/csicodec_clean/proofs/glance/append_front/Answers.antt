@@ -8,4 +8,4 @@ returns-then-not-is_bare g c = to_none g.T.Rule.gives c.args.limit (state_of c.a
 pub returns : goal.returns
 returns g c =
     let (mode, titled, held) = c.is_bare.ensures c.if-not-is_bare.false in
-    rw (mode, titled, held) c.in_ok-rest.ensures
+    rw (mode, titled, held) c.append_glance.ensures

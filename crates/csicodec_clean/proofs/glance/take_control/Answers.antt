@@ -1,10 +1,6 @@
 use Rattle.csicodec_clean.specs.Private.Steps.{bare_at}
-use Rattle.csicodec_clean.proofs.Glances.{over_escape, over_taken, to_none}
+use Rattle.csicodec_clean.proofs.Glances.{over_escape, to_none}
 use Rattle.csicodec_clean.proofs.glance.take_control.Goals as goal
-
-pub returns-then-is_opened-clause-goes : goal.returns-then-is_opened-clause-goes
-returns-then-is_opened-clause-goes g c =
-    over_taken g.T.Rule.gives c.args.limit c.in_ok-len.len _ _ _ _ _ c.in_ok-len.ensures.within.0 c.in_ok-len.ensures.taken c.in_ok-len.ensures.none
 
 pub returns-then-begins_with_escape-clause-goes : goal.returns-then-begins_with_escape-clause-goes
 returns-then-begins_with_escape-clause-goes g c = over_escape g.T.Rule.gives c.args.limit _ _ _ (c.begins_with_escape.ensures c.if-begins_with_escape.true)

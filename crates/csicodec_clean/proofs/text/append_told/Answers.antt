@@ -1,9 +1,6 @@
 use Rattle.std.proofs.Common.{◌∙◌, sym}
-use Rattle.csicodec_clean.proofs.Told.{tells_dropped, tells_none, tells_on}
+use Rattle.csicodec_clean.proofs.Told.{tells_dropped, tells_on}
 use Rattle.csicodec_clean.proofs.text.append_told.Goals as goal
-
-pub loop-behind-init : goal.loop-behind-init
-loop-behind-init g c = record { tells = tells_none g.T.Rule.gives.writing c.args.bytes.now c.args.out.now.items }
 
 pub loop-behind-preserved : goal.loop-behind-preserved
 loop-behind-preserved g c =
@@ -23,6 +20,3 @@ returns-in_default g c = tells_on g.T.Rule.gives.writing c.args.bytes.now c.loop
 
 pub returns-then-not-is_dropped : goal.returns-then-not-is_dropped
 returns-then-not-is_dropped g c = tells_on g.T.Rule.gives.writing c.args.bytes.now c.loop-behind.rest.now _ c.args.out.now.items c.loop-behind.out.items _ c.loop-behind.invariant.tells c.in_ok-behind.ensures
-
-pub returns-then-eq : goal.returns-then-eq
-returns-then-eq g c = tells_none g.T.Rule.gives.writing c.args.bytes.now c.args.out.now.items

@@ -1,13 +1,8 @@
 use Rattle.std.proofs.Common.{◌<◌, length, sym, ◌∙◌, rules}
-use Rattle.csicodec_clean.proofs.Sure.{read_bad, read_char}
+use Rattle.csicodec_clean.proofs.Sure.{read_char}
 use Rattle.csicodec_clean.proofs.text.first_sure.Goals as goal
 
 pub returns-in-Some-clause-some : goal.returns-in-Some-clause-some
 returns-in-Some-clause-some c =
     let some : 0 < length c.args.bytes.now = search rules in
     read_char c.args.bytes.now c.in-Some.char c.decode-found.result.1 some (sym c.in-Some.is ∙ c.decode-found.ensures.char) c.decode-found.ensures.size
-
-pub returns-else-size-bytes-clause-some : goal.returns-else-size-bytes-clause-some
-returns-else-size-bytes-clause-some c =
-    let some : 0 < length c.args.bytes.now = search rules in
-    read_bad c.args.bytes.now c.decode-found.result.1 some (sym c.in-None.is ∙ c.decode-found.ensures.char) c.decode-found.ensures.size c.if-size-bytes.false

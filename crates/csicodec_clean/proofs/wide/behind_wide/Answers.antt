@@ -1,9 +1,6 @@
-use Rattle.csicodec_clean.proofs.Told.{behind_front, further, none_behind}
+use Rattle.csicodec_clean.proofs.Told.{behind_front, further}
 use Rattle.csicodec_clean.specs.Shown.{shown}
 use Rattle.csicodec_clean.proofs.wide.behind_wide.Goals as goal
-
-pub loop-rest-init : goal.loop-rest-init
-loop-rest-init c = record { shown = none_behind c.args.bytes.now }
 
 pub loop-rest-preserved : goal.loop-rest-preserved
 loop-rest-preserved c =

@@ -90,10 +90,6 @@ made-keeps T G Q reads tail _ make _ a keeps all e = cc
 abbrev pub TableKeeps : (CsiParam → Type 0) → ((k : Kind) → Value k → Type 0) → (Action → Type 0) → List (Before Action) → Type 0
 TableKeeps T G Q rows = AllRows (λ final row. Keeps T G Q row.tail row.shape row.make) rows
 
-pub table-append : (T : CsiParam → Type 0) (G : (k : Kind) → Value k → Type 0) (Q : Action → Type 0)
-    (xs ys : List (Before Action)) → TableKeeps T G Q xs → TableKeeps T G Q ys → TableKeeps T G Q (xs ++ ys)
-table-append T G Q xs ys keep more = all-append (λ (b : Before Action). AllByRecursion (λ (r : Row Action). Keeps T G Q r.tail r.shape r.make) b.rows) xs ys keep more
-
 pub table-keeps : (T : CsiParam → Type 0) (G : (k : Kind) → Value k → Type 0) (Q : Action →
     Type 0) → NumbersCount T G → (rows : List (Before Action)) → TableKeeps T G Q rows →
     (list : List CsiParam) (final : ℕ)

@@ -1,5 +1,5 @@
 -- What the rows before each final character of the cursor read, by what one parameter, or two places, stand for.
-use Rattle.std.proofs.{Common.◌≡◌, Common.ℕ, Common.List, Common.[], Common.◌∷◌, Common.None, Common.Some, Common.refl, lemmas.Bool.ne_eqb}
+use Rattle.std.proofs.{Common.◌≡◌, Common.ℕ, Common.List, Common.[], Common.◌∷◌, Common.None, Common.Some, Common.refl, Common.arith, lemmas.Bool.ne_eqb}
 use Rattle.std.specs.{Prelude.⊤, Prelude.Bool, Prelude.true, Prelude.false, Prelude.Option, Prelude.option_and_then, Prelude.if◌then◌else◌, Option.option_map}
 use Rattle.std.specs.{Option.option_or}
 use Rattle.csicodec_tokens.specs.{declared.param.CsiParam.CsiParam, declared.param.CsiParam.TheVariants.Integer, declared.param.CsiParam.TheVariants.P}
@@ -21,21 +21,12 @@ made-after : {A B : Type 0} (f : A → B) (shape : List Slot) (make : Makes A sh
 made-after f (Byte b ∷ shape) make (t ∷ ts) = made-after f shape make ts
 made-after f (Number n ∷ shape) make (t ∷ ts) = made-after f shape make ts
 made-after f (One k ∷ shape) make (P c ∷ ts) = refl
-made-after {A} {B} f (One k ∷ shape) make (Integer z ∷ ts) = go (λ v. made-after f shape (make v) ts) (read k z)
-  where
-    go : ((v : Value k) → made {R = B} false shape (after f shape (make v)) ts ≡ option_map f (made {R = A} false shape (make v) ts))
-        → (o : Option (Value k)) → option_and_then (λ v. made {R = B} false shape (after f shape (make v)) ts) o ≡ option_map f (option_and_then (λ v. made {R = A} false shape (make v) ts) o)
-    go each None = refl
-    go each (Some v) = each v
+made-after f (One k ∷ shape) make (Integer z ∷ ts) = grind (arith, made-after f shape)
 made-after f _ _ _ = refl
 
 gives-after : {A B : Type 0} (f : A → B) (shape : List Slot) (make : Makes A shape) (list : List CsiParam)
     → gives (row shape (after f shape make)) list ≡ option_map f (gives (row shape make) list)
-gives-after {A} {B} f shape make list = go (has_shape false shape list)
-  where
-    go : (b : Bool) → (if b then made {R = B} false shape (after f shape make) list else None) ≡ option_map f (if b then made {R = A} false shape make list else None)
-    go true = made-after f shape make list
-    go false = refl
+gives-after f shape make list = grind (arith, made-after f shape make list)
 
 or-map : {A B : Type 0} (f : A → B) (o p : Option A) → option_or (option_map f o) (option_map f p) ≡ option_map f (option_or o p)
 or-map f (Some a) p = refl

@@ -1,7 +1,7 @@
 -- The list that an action is written as, and its text.
 use Rattle.std.proofs.Common.{◌≡◌, ℕ, ◌<◌, List, [], ◌∷◌, ◌++◌, Some, refl, sym, inl, inr, arith, append_assoc, pos}
 use Rattle.std.proofs.{lemmas.Int.ints, lemmas.Bool.cases_Bool, lemmas.Bool.and_parts, lemmas.Bool.ltb-true, lemmas.Str.encode_ascii}
-use Rattle.std.specs.Prelude.{Bool, true, false, ◌&&◌, ◌||◌, nat_lt}
+use Rattle.std.specs.{Prelude.Bool, Prelude.true, Prelude.false, Prelude.◌&&◌, Prelude.◌||◌, Prelude.nat_lt, Fmt.signed_decimal}
 use Rattle.csicodec_names.specs.{DeviceNumbers.device_attribute_number, Numbered.is_number}
 use Rattle.csicodec_tokens.specs.{declared.param.CsiParam.CsiParam, declared.param.CsiParam.TheVariants.Integer, declared.param.CsiParam.TheVariants.P}
 use Rattle.csicodec_tokens.specs.{Param.spells, Param.token_text, Sequence.IsFinal, Sequence.IsSpellable, Sequence.Apart, Sequence.Spellable}
@@ -65,11 +65,7 @@ shown-spells (Byte b ∷ items) end e =
     let p = and_parts (is_mark b) (are_sound items) e in rw (encode_ascii b (mark-text b p.0), shown-spells items end p.1) refl
 shown-spells (The k v ∷ items) end e = let p = and_parts (begins_apart items) (are_sound items) e in rw (shown-spells items end p.1) (sym (append_assoc _ (spells (tokens items)) end))
 shown-spells (Unless n k v ∷ items) end e =
-    let p = and_parts (begins_apart items) (are_sound items) e in
-    elim (cases_Bool (is_number n (number k v))) [
-      | inl here ↦ rw here (shown-spells items end p.1)
-      | inr there ↦ rw (there, shown-spells items end p.1) (sym (append_assoc _ (spells (tokens items)) end))
-    ]
+    grind (arith, shown-spells items end, append_assoc (signed_decimal (number k v)) (spells (tokens items)) end)
 shown-spells (Attribute a ∷ items) end e =
     let p = and_parts (begins_apart items) (are_sound items) e in rw (shown-spells items end p.1) (sym (append_assoc (token_text (attribute_token a)) (spells (tokens items)) end))
 
@@ -81,11 +77,7 @@ pub record Sound (w : Written) : Type 0 where
 
 pub sound : (w : Written) → is_sound w ≡ true → AllGood w.items → Sound w
 sound w e good =
-    let p = and_parts (are_sound w.items) (nat_lt 63 w.final && nat_lt w.final 127) e in
-    let q = and_parts (nat_lt 63 w.final) (nat_lt w.final 127) p.1 in
-    let low = ltb-true 63 w.final q.0 in
-    let high = ltb-true w.final 127 q.1 in
-    record { spellable = items-spellable w.items p.0 good; ends = (omega (arith, low), omega (arith, high)); text = shown-spells w.items (w.final ∷ []) p.0 }
+    record { spellable = items-spellable w.items (grind arith) good; ends = grind arith; text = shown-spells w.items (w.final ∷ []) (grind arith) }
 
 -- the list that is written is one of a sequence, and is read as the action
 pub record IsRead (w : Written) (a : Action) : Type 0 where

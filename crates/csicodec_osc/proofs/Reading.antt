@@ -1,8 +1,7 @@
 -- What a command reads of a content is written as it, and what is written of it is read; and which commands read nothing of
 -- what others are written as.
 use Rattle.std.proofs.Common.{◌≡◌, ℕ, zero, suc, ◌+◌, ◌-◌, List, [], ◌∷◌, ◌++◌, Option, None, Some, refl, inl, inr, length, take, drop, arith}
-use Rattle.std.proofs.{lemmas.Bool.cases_Bool, lemmas.Bool.Decides.nat_tests, lemmas.List.take_rest, lemmas.Option.option_and_then_some}
-use Rattle.std.proofs.{lemmas.Slice.Eq.bytes_eq-Decides}
+use Rattle.std.proofs.{lemmas.Bool.cases_Bool, lemmas.Bool.Decides.nat_tests, lemmas.Option.option_and_then_some, lemmas.Slice.Eq.bytes_eq-Decides}
 use Rattle.std.specs.{Prelude.◌==◌, Prelude.◌&&◌, Prelude.◌||◌, Prelude.Bool, Prelude.true, Prelude.false, Prelude.not, Prelude.position}
 use Rattle.std.specs.{Cmp.Lexicographic.pointwise}
 use Rattle.csicodec_osc.specs.Osc.{Ask, Body, Both, Tail, asked, asked_text, fits, is_asked, is_field, is_message, tail_of, tail_text}
@@ -31,18 +30,11 @@ pub none_cut : (at : ℕ) (bytes : List ℕ) → None ≡ position (λ b. b == a
 none_cut at [] e = refl
 none_cut at (b ∷ bytes) e = grind (arith, nat_tests, none_cut at bytes)
 
-cut_at : (at : ℕ) (bytes : List ℕ) (place : ℕ) → Some place ≡ position (λ b. b == at) bytes
+pub cut_at : (at : ℕ) (bytes : List ℕ) (place : ℕ) → Some place ≡ position (λ b. b == at) bytes
     → Some (take place bytes, drop (place + 1) bytes) ≡ halves at bytes
 cut_at at [] place e = cc
 cut_at at (b ∷ bytes) zero e = grind (arith, nat_tests)
 cut_at at (b ∷ bytes) (suc m) e = grind (arith, nat_tests, cut_at at bytes m)
-
--- the same, as `&bytes[place + 1..]` has it
-pub cut_rest : (at : ℕ) (bytes : List ℕ) (place : ℕ)
-    → Some place ≡ position (λ b. b == at) bytes
-    → Some (take place bytes, take (length bytes - (place + 1)) (drop (place + 1) bytes))
-    ≡ halves at bytes
-cut_rest at bytes place e = rw take_rest (cut_at at bytes place e)
 
 -- ---- a number in front
 

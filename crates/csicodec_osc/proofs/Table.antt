@@ -1,7 +1,7 @@
 -- The table: each content says one thing.
 use Rattle.std.proofs.Common.{◌≡◌, ℕ, zero, suc, ◌+◌, ◌<◌, ◌≤◌, length, get_or, drop, List, [], ◌∷◌, ◌++◌, Option, None, Some, refl, sym, ap, ◌∙◌, subst}
 use Rattle.std.proofs.{lemmas.Bool.and_parts, lemmas.List.drop_all, lemmas.List.drop_more, lemmas.Option.same_Some}
-use Rattle.std.specs.{Prelude.◌&&◌, Prelude.Bool, Prelude.true, Prelude.slice_get, Prelude.option_map, Option.option_or}
+use Rattle.std.specs.{Prelude.◌&&◌, Prelude.Bool, Prelude.true, Prelude.slice_get, Prelude.option_map, List.list_all, Option.option_or}
 use Rattle.csicodec_osc.specs.Osc.{Body, IsWritable, Known, Said, Says, Unknown, fits, tail_of, tail_text, written}
 use Rattle.csicodec_osc.specs.{declared.command.Command.Command, declared.command.TheConstants.COMMANDS, Commands.form, Commands.number}
 use Rattle.csicodec_osc.specs.{Private.Reading.first_read, Private.Reading.read_by}
@@ -9,30 +9,26 @@ use Rattle.csicodec_osc.proofs.{Places.lies-at, Places.place_in, Reading.passed,
 
 -- ---- each command reads nothing of those behind it
 
-abbrev passes_all : Command → List Command → Bool
-passes_all k [] = true
-passes_all k (other ∷ commands) = passes k other && passes_all k commands
-
 abbrev all_pass : List Command → Bool
 all_pass [] = true
-all_pass (k ∷ commands) = passes_all k commands && all_pass commands
+all_pass (k ∷ commands) = list_all (passes k) commands && all_pass commands
 
 in-order : all_pass COMMANDS ≡ true
 in-order = refl
 
 -- ---- what is written is read
 
-passed-at : (k : Command) (commands : List Command) (i : ℕ) (other : Command) (body : Body) → passes_all k commands ≡ true → slice_get commands i ≡ Some other → fits (form other) body ≡ true
+passed-at : (k : Command) (commands : List Command) (i : ℕ) (other : Command) (body : Body) → list_all (passes k) commands ≡ true → slice_get commands i ≡ Some other → fits (form other) body ≡ true
     → read_by k (number other ++ tail_text (tail_of body)) ≡ None
-passed-at k (c ∷ commands) zero other body h at fit = passed k other body (rw (same_Some c other at) at (and_parts (passes k c) (passes_all k commands) h).0) fit
-passed-at k (c ∷ commands) (suc i) other body h at fit = passed-at k commands i other body (and_parts (passes k c) (passes_all k commands) h).1 at fit
+passed-at k (c ∷ commands) zero other body h at fit = passed k other body (rw (same_Some c other at) at (and_parts (passes k c) (list_all (passes k) commands) h).0) fit
+passed-at k (c ∷ commands) (suc i) other body h at fit = passed-at k commands i other body (and_parts (passes k c) (list_all (passes k) commands) h).1 at fit
 passed-at k _ _ other body h at fit = cc
 
 decides : (commands : List Command) (i : ℕ) (k : Command) (body : Body) → all_pass commands ≡ true → slice_get commands i ≡ Some k → fits (form k) body ≡ true
     → first_read commands (number k ++ tail_text (tail_of body)) ≡ Some (Known k body)
 decides (c ∷ commands) zero k body h at fit = rw (same_Some c k at, read-of k body fit) refl
 decides (c ∷ commands) (suc i) k body h at fit =
-    let p = and_parts (passes_all c commands) (all_pass commands) h in rw (passed-at c commands i k body p.0 at fit) (decides commands i k body p.1 at fit)
+    let p = and_parts (list_all (passes c) commands) (all_pass commands) h in rw (passed-at c commands i k body p.0 at fit) (decides commands i k body p.1 at fit)
 decides _ _ k body h at fit = cc
 
 pub reads-back : (k : Command) (body : Body) → fits (form k) body ≡ true → first_read COMMANDS (number k ++ tail_text (tail_of body)) ≡ Some (Known k body)

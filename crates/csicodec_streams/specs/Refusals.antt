@@ -17,14 +17,12 @@ RefusesDecode bytes flag decode_errors.Memory = (list : List CsiParam) × (final
 
 -- why a run over this input, if its bytes are known, may end so
 abbrev pub RefusesRun : Option (List ℕ) → RunError → Type 0
-RefusesRun input run_errors.Read = Unit {0}
 RefusesRun input (run_errors.Decode (decode_errors.Read start error)) =
     IfSome input
     (λ bytes. FaultAt bytes start error × ((actions : List Action)
     → Decodes bytes false actions → ⊥))
 RefusesRun input (run_errors.Decode decode_errors.Memory) = ⊥
-RefusesRun input run_errors.Write = Unit {0}
-RefusesRun input run_errors.Memory = Unit {0}
+RefusesRun input _ = Unit {0}
 
 -- the refusal of the sequence that begins here
 abbrev pub refusal_of : ℕ → ReadError → DecodeError

@@ -22,11 +22,8 @@ StopsAt rest (Some error) = (0 < length rest) × ((room : ℕ) × Refuses rest r
 
 -- an error stays, whatever follows the bytes that have it; only those that end too early can go on
 abbrev pub stays : ReadError → Bool
-stays (read_errors.NotCsi place) = true
-stays (read_errors.BadByte place) = true
-stays (read_errors.NumberTooLarge place) = true
 stays (read_errors.Truncated place) = false
-stays read_errors.Memory = true
+stays _ = true
 
 -- the text of a number from 1 to 4294967295
 abbrev pub IsNumber : List ℕ → Type 0

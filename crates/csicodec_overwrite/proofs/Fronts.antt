@@ -1,12 +1,12 @@
 -- The front of a line that is written as it comes, and its end.
-use Rattle.std.proofs.Common.{◌≡◌, ◌≤◌, ◌+◌, ◌-◌, ◌*◌, ℕ, zero, suc, Bool, true, false, cond, List, [], ◌∷◌, ◌++◌, length, length-append, replicate, encode_utf8_all, refl, sym, ap, subst, ◌∙◌, ⊎_elim, append_assoc, append-nil, arith, take, drop, ◌/◌}
+use Rattle.std.proofs.Common.{◌≡◌, ◌≤◌, ◌+◌, ◌-◌, ◌*◌, ℕ, zero, suc, Bool, true, false, cond, List, [], ◌∷◌, ◌++◌, length, length-append, replicate, refl, sym, ap, subst, ◌∙◌, ⊎_elim, append_assoc, append-nil, arith, take, drop, ◌/◌}
 use Rattle.std.proofs.{lemmas.Bool.eqb-true, lemmas.Bool.Decides.nat_tests}
-use Rattle.std.specs.{Prelude.◌==◌, Prelude.unwrap_or, List.AllByRecursion, List.flat_map, List.prefix_len}
+use Rattle.std.specs.{Prelude.◌==◌, Prelude.unwrap_or, List.AllByRecursion, List.prefix_len}
 use Rattle.unicode_width.specs.Width.{char_width}
 use Rattle.csicodec_tokens.proofs.Runs.{All-push}
 use Rattle.csicodec_clean.specs.Bytes.{IsPlainByte}
 use Rattle.csicodec_clean.proofs.Told.{is_shown}
-use Rattle.csicodec_html.specs.{declared.look.Look.Look, Look.plain, Turns.IsTold}
+use Rattle.csicodec_html.specs.{declared.look.Look.Look, Look.plain}
 use Rattle.csicodec_overwrite.specs.Line.{Done, at_column, before, blank, cells_of, do_all, does, done, line, pen_behind, pen_behind_all, put}
 use Rattle.csicodec_overwrite.specs.Private.Front.{IsFront, IsStyled, IsWritten, IsWrittenTo, drawn, last_look, last_of_run, run_text}
 use Rattle.csicodec_overwrite.specs.Private.Plain.{AreFull, AreLines, IsLineByte, PutsPlain, closed, end_of, line_byte}
@@ -15,9 +15,9 @@ use Rattle.csicodec_overwrite.specs.{declared.cells.Cell.TheVariants.Behind, dec
 use Rattle.csicodec_overwrite.specs.{declared.line.Line.Line, Stream.Now, Stream.Passes, Stream.Reads, Stream.none_held}
 use Rattle.csicodec_overwrite.specs.{declared.marking.Marking.TheVariants.Page, declared.marking.Marking.TheVariants.Plain}
 use Rattle.csicodec_overwrite.specs.{declared.marking.Marking.TheVariants.Styled, declared.pen.Pen.Pen, Turned.AreLooks, Turned.IsLook, Turned.Sets}
-use Rattle.csicodec_overwrite.specs.{Turned.Turned, declared.step.Step.Step, Steps.of_char, Steps.of_chars, Reading.most, Cells.chars_of, Cells.columns}
-use Rattle.csicodec_overwrite.specs.{Cells.glyph, Cells.narrowed, Cells.onto, Cells.to_tab_stop, Cells.width, Paint.ended, Paint.paint, Paint.shows_looks}
-use Rattle.csicodec_overwrite.specs.{Paint.text_of, Paint.texts_of, Paint.turn, Paint.written}
+use Rattle.csicodec_overwrite.specs.{declared.step.Step.Step, Steps.of_char, Steps.of_chars, Reading.most, Cells.columns, Cells.glyph, Cells.narrowed}
+use Rattle.csicodec_overwrite.specs.{Cells.onto, Cells.to_tab_stop, Cells.width, Paint.ended, Paint.paint, Paint.shows_looks, Paint.text_of, Paint.texts_of}
+use Rattle.csicodec_overwrite.specs.{Paint.turn, Paint.written}
 use Rattle.csicodec_overwrite.proofs.Straight.{few_cells, line_plain, lines_plain, narrow, reads_end, reads_plain, split_line}
 use Rattle.csicodec_overwrite.proofs.{Alike.newline_written, Alike.turn_same, Alike.written_none, Alike.written_on, Read.reads_none, Read.reads_on}
 use Rattle.csicodec_overwrite.proofs.{Rows.standing_settled, Texts.text_painted, Stays.cells, Stays.cells_full, Stays.cells_length, Stays.full_trimmed}
@@ -57,11 +57,6 @@ wide c column h = by (c == 9) refl
     by : (t : Bool) → (c == 9) ≡ t → (w : ℕ) × (width c column ≡ suc w)
     by true e = (to_tab_stop column - 1, ap (λ (t : Bool). cond t (to_tab_stop column) (narrowed (unwrap_or (char_width false c) 0))) e ∙ omega arith)
     by false e = (0, narrow c column (grind (arith, nat_tests)) (grind (arith, nat_tests)))
-
--- no text, and some
-pub last_nothing : (last now : Look) (cs : List ℕ) → (length cs == 0) ≡ true → last ≡ last_of_run last now cs
-last_nothing last now [] none = refl
-last_nothing last now (c ∷ cs) none = absurd (omega (arith, eqb-true (length (c ∷ cs)) 0 none))
 
 pub run_nothing : (marking : Marking) (last now : Look) (cs old : List ℕ) → (length cs == 0) ≡ true → old ≡ old ++ run_text marking last now cs
 run_nothing marking last now [] old none = rw (turn_same marking last, written_none marking, append-nil) refl
@@ -155,10 +150,6 @@ still limit (s ∷ steps) after pen left (mid, one, others) =
       ap (λ (d : Done). closed (pen_behind_all limit then steps d.line)) k.same ∙ later.2 ∙ k.kept after,
     )
 
-pub looks_none : (look : Look) (steps : List Step) → length steps ≡ 0 → AreLooks look steps look
-looks_none look [] none = refl
-looks_none look (s ∷ steps) none = absurd (omega (arith, none))
-
 -- ---- the front
 
 front_none : (marking : Marking) (pen : Pen) → IsFront marking pen [] [] plain pen.look
@@ -219,14 +210,6 @@ module _ (marking : Marking) (pen : Pen) (bytes text : List ℕ) (last now : Loo
       let (lines, is, pens) = still most steps after then f.cells (subst (λ (l : Look). AreLooks l steps after) (sym look_is) looks) in
       on sequence steps f.cells text last after reads lines is (pens ∙ ap (λ (p : Pen). record p { look = after }) f.pens) f.full
       (omega arith) f.looks f.drawn
-
--- what is known to turn text, of all the bytes that it may have
-pub known_turned : (marking : Marking) (old : LineFront) (len told : ℕ) (new : Look) (before after : List ℕ)
-    → IsTold (Turned marking) old.now (record { bytes = old.rest; least = len; most = len }) told new before after
-    → Sets (take len old.rest.now) old.now new × (after ≡ before ++ turn marking old.now new)
-known_turned marking old len told new before after (least, most, within, tags, (sets, same), longer) =
-    let is : told ≡ len = omega (arith, least, most) in
-    (subst (λ (n : ℕ). Sets (take n old.rest.now) old.now new) is sets, longer ∙ ap (λ (t : List ℕ). before ++ t) same)
 
 module _ (marking : Marking) (pen : Pen) (bytes before : List ℕ) where
   -- nothing yet

@@ -1,6 +1,6 @@
 -- Cells that are moved or taken, one after the other.
-use Rattle.std.proofs.Common.{◌≡◌, ℕ, zero, suc, ◌-◌, ◌+◌, ◌<◌, ◌≤◌, Bool, true, false, cond, ◌==◌, nat_le, nat_lt, List, [], ◌∷◌, ◌++◌, length, drop, get_or, min, replicate, reverse, take, take-append-drop, refl, sym, ap, ◌∙◌, arith, append_assoc, append-nil}
-use Rattle.std.proofs.lemmas.List.{length-drop, length-reverse, nil_from_length, replicate-append-replicate, drop_at, reverse-append, reverse-reverse, take_all, take_at}
+use Rattle.std.proofs.Common.{◌≡◌, ℕ, zero, suc, ◌-◌, ◌+◌, ◌<◌, ◌≤◌, Bool, true, false, cond, ◌==◌, nat_le, List, [], ◌∷◌, ◌++◌, length, drop, get_or, min, replicate, reverse, take, take-append-drop, refl, sym, ap, ◌∙◌, arith, append_assoc, append-nil}
+use Rattle.std.proofs.lemmas.List.{length-drop, length-reverse, replicate-append-replicate, drop_at, reverse-append, reverse-reverse, take_all, take_at}
 use Rattle.std.proofs.lemmas.Bool.Decides.{nat_tests}
 use Rattle.csicodec_html.specs.declared.look.Look.{Look}
 use Rattle.csicodec_overwrite.specs.{declared.cells.Cell.Cell, declared.cells.Cell.TheVariants.Empty, declared.marking.Marking.Marking}
@@ -62,9 +62,6 @@ onto_is (cell ∷ side) cells = rw (onto_is side (cell ∷ cells), reverse-appen
 
 pub farthest : (cells : List Cell) → cells ≡ onto (reverse cells) []
 farthest cells = sym (onto_is (reverse cells) [] ∙ append-nil (reverse (reverse cells)) ∙ reverse-reverse cells)
-
-pub empty_line : (l : Line) → length l.left ≡ 0 → length l.right ≡ 0 → l ≡ line [] []
-empty_line l h k = ap (λ (side : List Cell). line side l.right) (nil_from_length l.left h) ∙ ap (line []) (nil_from_length l.right k)
 
 -- ---- cells of which the farthest are empty
 

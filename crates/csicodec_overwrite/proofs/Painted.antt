@@ -1,15 +1,15 @@
 -- Cells that are painted, one after the other, and the sequence of a look, attribute by attribute.
-use Rattle.std.proofs.Common.{◌≡◌, ℕ, zero, suc, true, false, List, [], ◌∷◌, ◌++◌, ◌-◌, arith, length, encode_utf8_all, replicate, refl, sym, ap, ◌∙◌, append_assoc}
+use Rattle.std.proofs.Common.{◌≡◌, ℕ, zero, suc, true, List, [], ◌∷◌, ◌++◌, ◌-◌, replicate, refl, sym, ap, ◌∙◌, append_assoc}
 use Rattle.std.proofs.lemmas.Grind.{flat_map-append}
 use Rattle.std.specs.List.{flat_map}
 use Rattle.csicodec_base.specs.declared.sgr.Sgr.{Sgr}
 use Rattle.csicodec_html.proofs.Recalled.{same_look as look_one}
 use Rattle.csicodec_html.specs.{declared.look.Look.Look, Look.plain}
-use Rattle.csicodec_overwrite.specs.Paint.{attributes, further, look_of, look_text, paint, same, shows_looks, turn, written}
+use Rattle.csicodec_overwrite.specs.Paint.{attributes, further, look_of, look_text, paint, same, turn, written}
 use Rattle.csicodec_overwrite.specs.{declared.cells.Cell.Cell, Cells.chars_of, Cells.is_empty, declared.cells.Cell.TheVariants.Char}
 use Rattle.csicodec_overwrite.specs.{declared.cells.Cell.TheVariants.Empty, declared.cells.Glyph.Glyph, declared.marking.Marking.Marking}
 use Rattle.csicodec_overwrite.specs.{declared.marking.Marking.TheVariants.Plain}
-use Rattle.csicodec_overwrite.proofs.{Alike.turn_same, Texts.plain_paint}
+use Rattle.csicodec_overwrite.proofs.Alike.{turn_same}
 
 -- a cell, and then the others
 pub turned_on : (marking : Marking) (look : Look) (cell : Cell) (cells : List Cell) (old mid : List ℕ) → mid ≡ old ++ turn marking look (look_of look cell)
@@ -21,18 +21,6 @@ turned_on marking look cell cells old mid e = rw (e, append_assoc) refl
 empty_is : (cell : Cell) → is_empty cell ≡ true → cell ≡ Empty
 empty_is Empty e = refl
 empty_is _ e = cc
-
-pub empty_more : (n : ℕ) (cells : List Cell) → replicate n Empty ++ (Empty ∷ cells) ≡ replicate (suc n) Empty ++ cells
-empty_more zero cells = refl
-empty_more (suc n) cells = ap (λ (t : List Cell). Empty ∷ t) (empty_more n cells)
-
-pub empty_none : (cells : List Cell) → cells ≡ replicate (length cells - length cells) Empty ++ cells
-empty_none cells = let none : 0 ≡ length cells - length cells = omega arith in ap (λ (n : ℕ). replicate n Empty ++ cells) none
-
--- one more that is empty in front of the rest
-pub empty_on : (all rest behind : List Cell) (cell : Cell) (n m : ℕ) → all ≡ replicate n Empty ++ rest → rest ≡ cell ∷ behind → is_empty cell ≡ true → m ≡ suc n
-    → all ≡ replicate m Empty ++ behind
-empty_on all rest behind cell n m split first e more = rw (split, first, empty_is cell e, empty_more, more)
 
 space_written : (marking : Marking) → written marking (32 ∷ []) ≡ 32 ∷ []
 unfolding lib.Utf8.encode

@@ -15,7 +15,7 @@ use Rattle.csicodec_overwrite.specs.Line.{Done, before, do_all, does, done, line
 use Rattle.csicodec_overwrite.specs.Private.Plain.{IsLineByte, IsUntabbed, PutsRun, end_of, glyphs, last_of, line_byte}
 use Rattle.csicodec_overwrite.specs.{declared.cells.Cell.Cell, declared.line.Line.Line, declared.pen.Pen.Pen, declared.step.Step.Step}
 use Rattle.csicodec_overwrite.specs.{declared.cells.Cell.TheVariants.Char, Stream.Reads, Stream.none_held, Cells.columns, Cells.glyph, Cells.onto, Cells.width}
-use Rattle.csicodec_overwrite.specs.{Steps.of_char, Steps.of_chars, Reading.AreOfParts}
+use Rattle.csicodec_overwrite.specs.{Steps.of_chars, Reading.AreOfParts}
 use Rattle.csicodec_overwrite.proofs.{Chars.chars_on, Same.not_titled, Moved.narrow_few, Stays.cells, Stays.of_singles, Stays.put_cells, Stays.put_of}
 use Rattle.csicodec_spans.specs.declared.table.Kind.TheVariants as kind
 use Rattle.csicodec_spans.specs.declared.table.Mode.TheVariants as mode

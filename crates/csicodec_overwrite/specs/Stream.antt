@@ -1,5 +1,5 @@
 -- A stream as it comes, chunk by chunk.
-use Rattle.std.specs.{Prelude.ℕ, Prelude.◌≡◌, Prelude.Bool, Prelude.false, Prelude.List, Prelude.[], Prelude.◌∷◌, Prelude.◌++◌, List.concat}
+use Rattle.std.specs.{Prelude.ℕ, Prelude.◌≡◌, Prelude.Bool, Prelude.false, Prelude.List, Prelude.[], Prelude.◌++◌, List.concat}
 use Rattle.csicodec_spans.specs.{declared.table.Mode.Mode, Parts.Part, Parts.AreFirstParts, Parts.IsUnsure}
 use Rattle.csicodec_transform.specs.Transform.{GoesOn}
 use Rattle.csicodec_clean.specs.{Cleaned.longest, Shown.IsRead, Stream.AreTaken, Titles.title_open, Titles.with_titles}

@@ -1,10 +1,8 @@
 -- Between characters that look the same nothing is written. Of characters none are written as nothing, and some behind others.
 use Rattle.std.proofs.Common.{◌≡◌, ℕ, Bool, true, false, cond, List, [], ◌∷◌, ◌++◌, refl, sym, ap, ◌∙◌, append-nil}
-use Rattle.std.proofs.lemmas.Grind.{flat_map-append}
-use Rattle.csicodec_clean.proofs.Shows.{encoded_on}
-use Rattle.csicodec_html.specs.{declared.look.Look.Look, Page.escaped, Page.piece_texts, Page.turn as tags, contracts.look.LookEq.TheImpl.Laws.laws-law}
-use Rattle.csicodec_overwrite.specs.{declared.marking.Marking.Marking, declared.marking.Marking.TheVariants.Page, declared.marking.Marking.TheVariants.Plain}
-use Rattle.csicodec_overwrite.specs.{declared.marking.Marking.TheVariants.Styled, Paint.look_text, Paint.same, Paint.shows_looks, Paint.turn, Paint.written}
+use Rattle.csicodec_overwrite.proofs.Common.{flat_map-append, encoded_on, Look, Marking, Page, Plain, Styled}
+use Rattle.csicodec_html.specs.{Page.escaped, Page.piece_texts, Page.turn as tags, contracts.look.LookEq.TheImpl.Laws.laws-law}
+use Rattle.csicodec_overwrite.specs.Paint.{look_text, same, shows_looks, turn, written}
 
 pub turn_same : (marking : Marking) (l : Look) → turn marking l l ≡ []
 turn_same Plain l = refl

@@ -1,21 +1,16 @@
 -- What `strip` leaves of the bytes comes into lines, and the law.
-use Rattle.std.proofs.Common.{◌≡◌, ◌≢◌, ◌≤◌, ℕ, ◌+◌, Bool, true, false, cond, List, [], ◌∷◌, ◌++◌, encode_utf8_all, refl, sym, ap, ◌∙◌, append_assoc, append-nil, arith}
-use Rattle.std.proofs.{lemmas.Bool.eqb-true, lemmas.Grind.flat_map-append}
-use Rattle.std.specs.{Prelude.◌==◌, Prelude.filter, List.flat_map, Str.all_scalars}
-use Rattle.bstr.specs.Utf8.{lossy_chars}
-use Rattle.bstr.proofs.{lemmas.EncodeLemmas.lossy_chars-encode, lemmas.PieceLemmas.lossy_chars-nil}
-use Rattle.csicodec_spans.specs.{declared.table.Kind.Kind, Parts.Part, Parts.left_over}
-use Rattle.csicodec_clean.specs.{Cleaned.Strips, Cleaned.is_text, Cleaned.longest, Cleaned.stripped, Shown.shown, Shown.shown_chars, Shown.shown_text}
-use Rattle.csicodec_clean.specs.{Titles.title_open, Titles.with_titles}
-use Rattle.csicodec_clean.proofs.{Plain.kept_shown, Plain.scalars_lossy, Plain.scalars_on, Shows.encoded_on, Titles.titles_on, Twice.one_text}
-use Rattle.csicodec_clean.proofs.{Twice.plain_stays}
+use Rattle.std.proofs.Common.{◌≡◌, ◌≢◌, ◌≤◌, ℕ, ◌+◌, Bool, true, false, cond, List, [], ◌∷◌, ◌++◌, encode_utf8_all, refl, sym, ap, ◌∙◌, append_assoc, append-nil, arith, ◌==◌, filter, flat_map}
+use Rattle.csicodec_overwrite.proofs.Common.{eqb-true, flat_map-append, all_scalars, lossy_chars, lossy_chars-encode, Kind, Part, longest, shown, title_open, with_titles, encoded_on, titles_on, Line, Pen, Step, Plain}
+use Rattle.csicodec_overwrite.proofs.{Lost.balances, Lost.both, Lost.others, Lost.text_has, Plain.overwritten_plain, Plain.scalars, Plain.shown_good}
+use Rattle.csicodec_overwrite.proofs.{Same.same_text, Texts.chars_by, Texts.shown_plain}
+use Rattle.bstr.proofs.lemmas.PieceLemmas.{lossy_chars-nil}
+use Rattle.csicodec_spans.specs.Parts.{left_over}
+use Rattle.csicodec_clean.specs.{Cleaned.Strips, Cleaned.is_text, Cleaned.stripped, Shown.shown_chars, Shown.shown_text}
+use Rattle.csicodec_clean.proofs.{Plain.kept_shown, Plain.scalars_lossy, Plain.scalars_on, Twice.one_text, Twice.plain_stays}
 use Rattle.csicodec_overwrite.specs.Steps.{of_char, of_chars, of_escape, of_run, of_sequence, of_string, of_wrong}
-use Rattle.csicodec_overwrite.specs.{declared.line.Line.Line, declared.pen.Pen.Pen, declared.step.Step.Step, declared.marking.Marking.TheVariants.Plain}
 use Rattle.csicodec_overwrite.specs.{Paint.as_text, Cells.columns, Line.blank, Line.do_all, Line.does, Line.fresh, Line.pen_behind, Lost.NothingLost}
 use Rattle.csicodec_overwrite.specs.{Lost.NothingMade, Lost.all_came, Lost.came, Lost.times, Reading.AreOfParts, Reading.IsOfPart, Reading.Shows, Reading.Steps}
 use Rattle.csicodec_overwrite.specs.{Reading.most, Reading.shown_by}
-use Rattle.csicodec_overwrite.proofs.{Lost.balances, Lost.both, Lost.others, Lost.text_has, Plain.overwritten_plain, Plain.scalars, Plain.shown_good}
-use Rattle.csicodec_overwrite.proofs.{Same.same_text, Texts.chars_by, Texts.shown_plain}
 use Rattle.csicodec_spans.specs.declared.table.Kind.TheVariants as kind
 use Rattle.csicodec_overwrite.specs.declared.step.Step.TheVariants as step
 

@@ -1,12 +1,11 @@
 -- The steps of characters, of actions and of what else comes, one behind the other.
-use Rattle.std.proofs.{Common.◌≡◌, Common.ℕ, Common.List, Common.[], Common.◌∷◌, Common.◌++◌, Common.length, Common.sym, Common.ap, Common.◌∙◌}
-use Rattle.std.proofs.{Common.append_assoc, Common.append-nil, lemmas.Grind.flat_map-append, lemmas.List.nil_from_length}
-use Rattle.std.specs.List.{flat_map}
-use Rattle.bstr.specs.Utf8.{lossy_chars, replacement}
+use Rattle.std.proofs.Common.{◌≡◌, ℕ, List, [], ◌∷◌, ◌++◌, length, sym, ap, ◌∙◌, append_assoc, append-nil, flat_map}
+use Rattle.std.proofs.lemmas.List.{nil_from_length}
+use Rattle.csicodec_overwrite.proofs.Common.{flat_map-append, lossy_chars, IsRead, Step}
+use Rattle.bstr.specs.Utf8.{replacement}
 use Rattle.bstr.proofs.lemmas.PieceLemmas.{lossy_chars-nil}
-use Rattle.csicodec_clean.specs.Shown.{IsRead}
 use Rattle.csicodec_clean.proofs.Sure.{read_all}
-use Rattle.csicodec_overwrite.specs.{declared.step.Step.Step, Steps.of_char, Steps.of_chars, Steps.of_run}
+use Rattle.csicodec_overwrite.specs.Steps.{of_char, of_chars, of_run}
 
 pub chars_on : (xs ys : List ℕ) → of_chars (xs ++ ys) ≡ of_chars xs ++ of_chars ys
 chars_on xs ys = flat_map-append of_char xs ys

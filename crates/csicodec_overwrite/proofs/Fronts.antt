@@ -1,27 +1,19 @@
 -- The front of a line that is written as it comes, and its end.
-use Rattle.std.proofs.Common.{◌≡◌, ◌≤◌, ◌+◌, ◌-◌, ◌*◌, ℕ, zero, suc, Bool, true, false, cond, List, [], ◌∷◌, ◌++◌, length, length-append, replicate, refl, sym, ap, subst, ◌∙◌, ⊎_elim, append_assoc, append-nil, arith, take, drop, ◌/◌}
-use Rattle.std.proofs.{lemmas.Bool.eqb-true, lemmas.Bool.Decides.nat_tests}
-use Rattle.std.specs.{Prelude.◌==◌, Prelude.unwrap_or, List.AllByRecursion, List.prefix_len}
-use Rattle.unicode_width.specs.Width.{char_width}
-use Rattle.csicodec_tokens.proofs.Runs.{All-push}
-use Rattle.csicodec_clean.specs.Bytes.{IsPlainByte}
-use Rattle.csicodec_clean.proofs.Told.{is_shown}
-use Rattle.csicodec_html.specs.{declared.look.Look.Look, Look.plain}
-use Rattle.csicodec_overwrite.specs.Line.{Done, at_column, before, blank, cells_of, do_all, does, done, line, pen_behind, pen_behind_all, put}
-use Rattle.csicodec_overwrite.specs.Private.Front.{IsFront, IsStyled, IsWritten, IsWrittenTo, drawn, last_look, last_of_run, run_text}
-use Rattle.csicodec_overwrite.specs.Private.Plain.{AreFull, AreLines, IsLineByte, PutsPlain, closed, end_of, line_byte}
-use Rattle.csicodec_overwrite.specs.{declared.cells.Cell.Cell, declared.front.LineFront.LineFront, declared.marking.Marking.Marking}
-use Rattle.csicodec_overwrite.specs.{declared.cells.Cell.TheVariants.Behind, declared.cells.Cell.TheVariants.Char, declared.cells.Glyph.Glyph}
-use Rattle.csicodec_overwrite.specs.{declared.line.Line.Line, Stream.Now, Stream.Passes, Stream.Reads, Stream.none_held}
-use Rattle.csicodec_overwrite.specs.{declared.marking.Marking.TheVariants.Page, declared.marking.Marking.TheVariants.Plain}
-use Rattle.csicodec_overwrite.specs.{declared.marking.Marking.TheVariants.Styled, declared.pen.Pen.Pen, Turned.AreLooks, Turned.IsLook, Turned.Sets}
-use Rattle.csicodec_overwrite.specs.{declared.step.Step.Step, Steps.of_char, Steps.of_chars, Reading.most, Cells.columns, Cells.glyph, Cells.narrowed}
-use Rattle.csicodec_overwrite.specs.{Cells.onto, Cells.to_tab_stop, Cells.width, Paint.ended, Paint.paint, Paint.shows_looks, Paint.text_of, Paint.texts_of}
-use Rattle.csicodec_overwrite.specs.{Paint.turn, Paint.written}
+use Rattle.std.proofs.Common.{◌≡◌, ◌≤◌, ◌+◌, ◌-◌, ◌*◌, ℕ, zero, suc, Bool, true, false, cond, List, [], ◌∷◌, ◌++◌, length, length-append, replicate, refl, sym, ap, subst, ◌∙◌, ⊎_elim, append_assoc, append-nil, arith, take, drop, ◌/◌, ◌==◌, unwrap_or}
+use Rattle.csicodec_overwrite.proofs.Common.{eqb-true, nat_tests, AllByRecursion, prefix_len, IsPlainByte, is_shown, Look, plain, Cell, Marking, Behind, Char, Glyph, Line, Page, Plain, Styled, Pen, Step}
 use Rattle.csicodec_overwrite.proofs.Straight.{few_cells, line_plain, lines_plain, narrow, reads_end, reads_plain, split_line}
 use Rattle.csicodec_overwrite.proofs.{Alike.newline_written, Alike.turn_same, Alike.written_none, Alike.written_on, Read.reads_none, Read.reads_on}
 use Rattle.csicodec_overwrite.proofs.{Rows.standing_settled, Texts.text_painted, Stays.cells, Stays.cells_full, Stays.cells_length, Stays.full_trimmed}
 use Rattle.csicodec_overwrite.proofs.{Stays.put_cells, Stays.puts, Written.all_on, Written.passes_on, Written.pen_on}
+use Rattle.unicode_width.specs.Width.{char_width}
+use Rattle.csicodec_tokens.proofs.Runs.{All-push}
+use Rattle.csicodec_overwrite.specs.Line.{Done, at_column, before, blank, cells_of, do_all, does, done, line, pen_behind, pen_behind_all, put}
+use Rattle.csicodec_overwrite.specs.Private.Front.{IsFront, IsStyled, IsWritten, IsWrittenTo, drawn, last_look, last_of_run, run_text}
+use Rattle.csicodec_overwrite.specs.Private.Plain.{AreFull, AreLines, IsLineByte, PutsPlain, closed, end_of, line_byte}
+use Rattle.csicodec_overwrite.specs.{declared.front.LineFront.LineFront, Stream.Now, Stream.Passes, Stream.Reads, Stream.none_held, Turned.AreLooks}
+use Rattle.csicodec_overwrite.specs.{Turned.IsLook, Turned.Sets, Steps.of_char, Steps.of_chars, Reading.most, Cells.columns, Cells.glyph, Cells.narrowed}
+use Rattle.csicodec_overwrite.specs.{Cells.onto, Cells.to_tab_stop, Cells.width, Paint.ended, Paint.paint, Paint.shows_looks, Paint.text_of, Paint.texts_of}
+use Rattle.csicodec_overwrite.specs.{Paint.turn, Paint.written}
 use Rattle.csicodec_overwrite.specs.declared.step.Step.TheVariants as step
 
 -- ---- what is written of cells

@@ -1,15 +1,10 @@
 -- What holds of all characters that steps put, and of blanks, tabs and newlines, holds of all that they write; and so it is with looks.
-use Rattle.std.proofs.Common.{ℕ, ◌-◌, zero, suc, Bool, true, false, cond, min, List, [], ◌∷◌, ◌++◌, length, replicate}
-use Rattle.std.specs.{Prelude.◌==◌, Prelude.nat_lt, Prelude.Option, Prelude.Some, Prelude.None, List.AllByRecursion, List.flat_map}
-use Rattle.csicodec_base.specs.declared.sgr.Sgr.{Sgr}
+use Rattle.std.proofs.Common.{ℕ, ◌-◌, zero, suc, Bool, true, false, cond, min, List, [], ◌∷◌, ◌++◌, length, replicate, ◌==◌, nat_lt, Option, Some, None, flat_map}
+use Rattle.csicodec_overwrite.proofs.Common.{AllByRecursion, Sgr, Look, behind, plain, Cell, Glyph, Line, Step, Behind, Char, Empty, Mark, Pen}
+use Rattle.csicodec_overwrite.proofs.Texts.{cells_by, chars_by, line_cells, newline}
 use Rattle.csicodec_actions.proofs.AllRows.{all-append}
-use Rattle.csicodec_html.specs.{declared.look.Look.Look, Look.behind, Look.plain}
 use Rattle.csicodec_overwrite.specs.Cells.{begins_behind, belongs, chars_of, columns, emptied, erased, glyph, gone, is_empty, of_tab, onto, outside, shifted, takes, to_tab_stop, trimmed, untabbed, width, without}
 use Rattle.csicodec_overwrite.specs.Line.{Done, behind_columns, blank, cells_of, do_all, does, does_here, done, entered, fits, forward, fresh, from_stop, in_row, is_row, last_behind, leave, leaves_long, line, lines_of, over, padded, parted, pen_behind, placed, placed_in, put, repeat, repeated, restored, shows_nothing, size, target, to_stop, widest}
-use Rattle.csicodec_overwrite.specs.{declared.cells.Cell.Cell, declared.cells.Glyph.Glyph, declared.line.Line.Line, declared.step.Step.Step}
-use Rattle.csicodec_overwrite.specs.{declared.cells.Cell.TheVariants.Behind, declared.cells.Cell.TheVariants.Char, declared.cells.Cell.TheVariants.Empty}
-use Rattle.csicodec_overwrite.specs.{declared.cells.Cell.TheVariants.Mark, declared.pen.Pen.Pen}
-use Rattle.csicodec_overwrite.proofs.Texts.{cells_by, chars_by, line_cells, newline}
 use Rattle.csicodec_overwrite.specs.declared.step.Step.TheVariants as step
 
 -- either way of a test

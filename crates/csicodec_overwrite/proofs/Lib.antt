@@ -1,3 +1,4 @@
+pub mod Common
 pub mod Texts
 pub mod Alike
 pub mod Moved

@@ -1,9 +1,8 @@
 -- A look is what a reset and its attributes give.
-use Rattle.std.proofs.Common.{◌≡◌, Bool, true, false, List, ◌∷◌, ◌++◌, map, refl, ap, ◌∙◌}
-use Rattle.std.specs.Prelude.{not}
+use Rattle.std.proofs.Common.{◌≡◌, Bool, true, false, List, ◌∷◌, ◌++◌, map, refl, ap, ◌∙◌, not}
 use Rattle.csicodec_names.specs.{declared.color.ColorSpec.ColorSpec, declared.color.Intensity.Intensity, declared.color.Underline.Underline}
-use Rattle.csicodec_base.specs.declared.sgr.Sgr.{Sgr}
-use Rattle.csicodec_html.specs.{declared.look.Look.Look, Look.behind, Look.behind_all, Look.is_default, Look.is_none, Look.is_normal, Look.plain}
+use Rattle.csicodec_overwrite.proofs.Common.{Sgr, Look, behind, plain}
+use Rattle.csicodec_html.specs.Look.{behind_all, is_default, is_none, is_normal}
 use Rattle.csicodec_overwrite.specs.Paint.{attributes, given}
 use Rattle.csicodec_names.specs.declared.color.ColorSpec.TheVariants as color
 use Rattle.csicodec_names.specs.declared.color.Intensity.TheVariants as intensity

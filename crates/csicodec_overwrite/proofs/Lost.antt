@@ -1,14 +1,11 @@
 -- Each character that comes stands in a line, or was taken out of its own: counted step by step.
-use Rattle.std.proofs.Common.{◌≡◌, ◌≢◌, ◌≤◌, ℕ, ◌+◌, ◌-◌, zero, suc, Bool, true, false, cond, min, List, [], ◌∷◌, ◌++◌, length, replicate, refl, ap, ◌∙◌, arith}
-use Rattle.std.proofs.{lemmas.List.Sums.sum_by-append, lemmas.Bool.Decides.nat_tests}
-use Rattle.std.specs.{Prelude.◌==◌, Prelude.Option, Prelude.Some, Prelude.None, List.flat_map}
+use Rattle.std.proofs.Common.{◌≡◌, ◌≢◌, ◌≤◌, ℕ, ◌+◌, ◌-◌, zero, suc, Bool, true, false, cond, min, List, [], ◌∷◌, ◌++◌, length, replicate, refl, ap, ◌∙◌, arith, ◌==◌, Option, Some, None, flat_map}
+use Rattle.std.proofs.lemmas.List.Sums.{sum_by-append}
+use Rattle.csicodec_overwrite.proofs.Common.{nat_tests, Cell, Glyph, Line, Step, Behind, Char, Empty, Mark, Pen}
+use Rattle.csicodec_overwrite.proofs.Texts.{cells_by, chars_by, line_cells, newline}
 use Rattle.csicodec_overwrite.specs.Cells.{chars_of, columns, emptied, erased, glyph, gone, is_empty, onto, outside, shifted, takes, to_tab_stop, trimmed, width, without}
 use Rattle.csicodec_overwrite.specs.Line.{Done, behind_columns, blank, cells_of, do_all, does, does_here, done, entered, fits, forward, from_stop, in_row, leaves_long, line, lines_of, over, parted, pen_behind, placed, placed_in, put, repeat, repeated, restored, size, standing, target, to_stop, widest}
 use Rattle.csicodec_overwrite.specs.Lost.{again, all_came, all_taken, belonging, came, covered, left_out, taken, taken_again, taken_here, taken_by, taken_by_all, tabs, times, touched, under, whole, within, written}
-use Rattle.csicodec_overwrite.specs.{declared.cells.Cell.Cell, declared.cells.Glyph.Glyph, declared.line.Line.Line, declared.step.Step.Step}
-use Rattle.csicodec_overwrite.specs.{declared.cells.Cell.TheVariants.Behind, declared.cells.Cell.TheVariants.Char, declared.cells.Cell.TheVariants.Empty}
-use Rattle.csicodec_overwrite.specs.{declared.cells.Cell.TheVariants.Mark, declared.pen.Pen.Pen}
-use Rattle.csicodec_overwrite.proofs.Texts.{cells_by, chars_by, line_cells, newline}
 use Rattle.csicodec_overwrite.specs.declared.step.Step.TheVariants as step
 
 no_cells : (xs : List Cell) → length xs == 0 ≡ true → xs ≡ []

@@ -1,14 +1,11 @@
 -- Cells that are moved or taken, one after the other.
 use Rattle.std.proofs.Common.{◌≡◌, ℕ, zero, suc, ◌-◌, ◌+◌, ◌<◌, ◌≤◌, Bool, true, false, cond, ◌==◌, nat_le, List, [], ◌∷◌, ◌++◌, length, drop, get_or, min, replicate, reverse, take, take-append-drop, refl, sym, ap, ◌∙◌, arith, append_assoc, append-nil}
 use Rattle.std.proofs.lemmas.List.{length-drop, length-reverse, replicate-append-replicate, drop_at, reverse-append, reverse-reverse, take_all, take_at}
-use Rattle.std.proofs.lemmas.Bool.Decides.{nat_tests}
-use Rattle.csicodec_html.specs.declared.look.Look.{Look}
-use Rattle.csicodec_overwrite.specs.{declared.cells.Cell.Cell, declared.cells.Cell.TheVariants.Empty, declared.marking.Marking.Marking}
-use Rattle.csicodec_overwrite.specs.{declared.cells.Glyph.Glyph, Private.Sides.passed, declared.line.Line.Line, Paint.texts_of, Private.Plain.glyphs}
-use Rattle.csicodec_overwrite.specs.{Cells.columns, Cells.is_blank, Cells.narrowed, Cells.onto, Cells.takes, Cells.without, Line.before, Line.behind_columns}
-use Rattle.csicodec_overwrite.specs.{Line.forward, Line.line, Line.over, Line.padded, Line.put, Line.repeat}
+use Rattle.csicodec_overwrite.proofs.{Common.nat_tests, Common.Look, Common.Cell, Common.Empty, Common.Marking, Common.Glyph, Common.Line, Texts.texts_on}
+use Rattle.csicodec_overwrite.specs.{Private.Sides.passed, Paint.texts_of, Private.Plain.glyphs, Cells.columns, Cells.is_blank, Cells.narrowed, Cells.onto}
+use Rattle.csicodec_overwrite.specs.{Cells.takes, Cells.without, Line.before, Line.behind_columns, Line.forward, Line.line, Line.over, Line.padded, Line.put}
+use Rattle.csicodec_overwrite.specs.{Line.repeat}
 use Rattle.std.specs.List.{list_all}
-use Rattle.csicodec_overwrite.proofs.Texts.{texts_on}
 
 -- a test that fails
 pub fails : {A : Type 0} (t : Bool) (x y : A) → t ≡ false → cond t x y ≡ y

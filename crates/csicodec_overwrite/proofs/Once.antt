@@ -1,20 +1,18 @@
 -- A stream has one text, and what was written of its front begins that.
 use Rattle.std.proofs.Common.{◌≡◌, ℕ, false, Option, IfSome, List, [], ◌∷◌, ◌++◌, refl, sym, ap, subst, ◌∙◌, append_assoc, append-nil}
 use Rattle.std.specs.Io.KnownBytes.{Appends, Consumes, IsAtEnd}
-use Rattle.bstr.specs.Utf8.{lossy_chars}
+use Rattle.csicodec_overwrite.proofs.Common.{lossy_chars, Kind, Part, parts_more, longest, IsRead, title_open, with_titles, titles_on, Marking, Step, Sends, Transforms}
+use Rattle.csicodec_overwrite.proofs.{Chars.run_read, Written.shown_on, Written.transformed}
 use Rattle.csicodec_actions.specs.Actions.{Action}
 use Rattle.csicodec_terminal.proofs.Unique.{taken_once}
-use Rattle.csicodec_spans.specs.{declared.table.Kind.Kind, Parts.Part}
-use Rattle.csicodec_spans.proofs.{Kept.parts_more, Once.parts_front, Once.parts_once}
+use Rattle.csicodec_spans.proofs.Once.{parts_front, parts_once}
 use Rattle.csicodec_transform.proofs.Sent.{whole_front}
-use Rattle.csicodec_clean.specs.{Cleaned.longest, Shown.IsRead, Stream.IsFrontOf, Titles.title_open, Titles.with_titles}
-use Rattle.csicodec_clean.proofs.{Sure.read_none, Titles.titles_on}
-use Rattle.csicodec_overwrite.specs.{declared.marking.Marking.Marking, declared.step.Step.Step, Line.blank, Line.do_all, Line.fresh, Line.pen_behind_all}
-use Rattle.csicodec_overwrite.specs.{Steps.of_chars, Steps.of_escape, Steps.of_run, Steps.of_sequence, Steps.of_string, Steps.of_wrong, Reading.AreOfParts}
-use Rattle.csicodec_overwrite.specs.{Reading.IsOfPart, Reading.Shows, Reading.Steps, Reading.most, Reading.shown_by, Stream.Ending, Stream.Goes, Stream.Held}
-use Rattle.csicodec_overwrite.specs.{Stream.Now, Stream.Passes, Stream.begun_as}
-use Rattle.csicodec_overwrite.proofs.{Chars.run_read, Written.shown_on, Written.transformed}
-use Rattle.csicodec_transform.specs.Transform.{Begins as BeginsWith, Sends, Transforms}
+use Rattle.csicodec_clean.specs.Stream.{IsFrontOf}
+use Rattle.csicodec_clean.proofs.Sure.{read_none}
+use Rattle.csicodec_overwrite.specs.{Line.blank, Line.do_all, Line.fresh, Line.pen_behind_all, Steps.of_chars, Steps.of_escape, Steps.of_run, Steps.of_sequence}
+use Rattle.csicodec_overwrite.specs.{Steps.of_string, Steps.of_wrong, Reading.AreOfParts, Reading.IsOfPart, Reading.Shows, Reading.Steps, Reading.most}
+use Rattle.csicodec_overwrite.specs.{Reading.shown_by, Stream.Ending, Stream.Goes, Stream.Held, Stream.Now, Stream.Passes, Stream.begun_as}
+use Rattle.csicodec_transform.specs.Transform.{Begins as BeginsWith}
 use Rattle.csicodec_spans.specs.declared.table.Kind.TheVariants as kind
 use Rattle.csicodec_spans.specs.declared.table.Mode.TheVariants as mode
 

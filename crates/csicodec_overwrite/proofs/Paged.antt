@@ -1,21 +1,16 @@
 -- The page of lines is the page of what is painted of them: piece by piece, a character is itself, and the sequence of a look the tags between
 -- it and the look before.
-use Rattle.std.proofs.Common.{◌≡◌, ℕ, Bool, true, false, cond, List, [], ◌∷◌, ◌++◌, map, encode_utf8, encode_utf8_all, refl, sym, ap, subst, ◌∙◌, append_assoc, append-nil}
-use Rattle.std.proofs.{lemmas.Bool.cond_both, lemmas.Grind.flat_map-append}
-use Rattle.std.specs.{Prelude.filter, List.AllByRecursion, List.flat_map, Str.all_scalars}
-use Rattle.bstr.proofs.lemmas.EncodeLemmas.{lossy_chars-encode}
-use Rattle.csicodec_spans.specs.Parts.{Part}
-use Rattle.csicodec_spans.proofs.OneSpan.{singles}
-use Rattle.csicodec_clean.specs.{Links.start, Shown.IsShown, Shown.shown}
-use Rattle.csicodec_clean.proofs.{PlainBytes.all_both, Twice.all_kept}
-use Rattle.csicodec_html.proofs.Recalled.{same_look}
-use Rattle.csicodec_html.specs.Page.{AreLeft, PageWith, Setting, escaped, piece_texts, setting, shown_pieces, Piece as Mark, piece_text as mark_text}
-use Rattle.csicodec_html.specs.{declared.look.Look.Look, declared.markup.Markup.Markup, Look.plain}
-use Rattle.csicodec_overwrite.specs.{declared.cells.Cell.Cell, declared.marking.Marking.TheVariants.Page, declared.marking.Marking.TheVariants.Styled}
-use Rattle.csicodec_overwrite.specs.{Cells.chars_of, Line.blank, Line.do_all, Line.fresh, Paint.attributes, Paint.look_of, Paint.paint, Paint.same, Paint.turn}
-use Rattle.csicodec_overwrite.specs.{Reading.Pages, Reading.Paints, Reading.most, Reading.shown_by}
+use Rattle.std.proofs.Common.{◌≡◌, ℕ, Bool, true, false, cond, List, [], ◌∷◌, ◌++◌, map, encode_utf8, encode_utf8_all, refl, sym, ap, subst, ◌∙◌, append_assoc, append-nil, filter, flat_map}
+use Rattle.csicodec_overwrite.proofs.Common.{cond_both, flat_map-append, AllByRecursion, all_scalars, lossy_chars-encode, Part, singles, IsShown, shown, all_both, Look, plain, Cell, Page, Styled}
 use Rattle.csicodec_overwrite.proofs.Same.{AreSafe, One, Piece, Turn, all_painted, all_safe, more_encoded, more_scalars, of_all, of_cells, parts_of, pieces_text, turned, untitled, whole_pieces}
 use Rattle.csicodec_overwrite.proofs.{Looks.looks_back, Once.one_text, Spelled.look_taken, Texts.cells_by, Texts.shown_painted}
+use Rattle.csicodec_clean.specs.Links.{start}
+use Rattle.csicodec_clean.proofs.Twice.{all_kept}
+use Rattle.csicodec_html.proofs.Recalled.{same_look}
+use Rattle.csicodec_html.specs.Page.{AreLeft, PageWith, Setting, escaped, piece_texts, setting, shown_pieces, Piece as Mark, piece_text as mark_text}
+use Rattle.csicodec_html.specs.declared.markup.Markup.{Markup}
+use Rattle.csicodec_overwrite.specs.{Cells.chars_of, Line.blank, Line.do_all, Line.fresh, Paint.attributes, Paint.look_of, Paint.paint, Paint.same, Paint.turn}
+use Rattle.csicodec_overwrite.specs.{Reading.Pages, Reading.Paints, Reading.most, Reading.shown_by}
 use Rattle.csicodec_base.specs.declared.sgr.Sgr.TheVariants as sgr
 use Rattle.csicodec_actions.specs.Actions as action
 use Rattle.csicodec_spans.specs.declared.table.Kind.TheVariants as kind

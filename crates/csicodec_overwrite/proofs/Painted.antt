@@ -1,15 +1,10 @@
 -- Cells that are painted, one after the other, and the sequence of a look, attribute by attribute.
-use Rattle.std.proofs.Common.{◌≡◌, ℕ, zero, suc, true, List, [], ◌∷◌, ◌++◌, ◌-◌, replicate, refl, sym, ap, ◌∙◌, append_assoc}
-use Rattle.std.proofs.lemmas.Grind.{flat_map-append}
-use Rattle.std.specs.List.{flat_map}
-use Rattle.csicodec_base.specs.declared.sgr.Sgr.{Sgr}
-use Rattle.csicodec_html.proofs.Recalled.{same_look as look_one}
-use Rattle.csicodec_html.specs.{declared.look.Look.Look, Look.plain}
-use Rattle.csicodec_overwrite.specs.Paint.{attributes, further, look_of, look_text, paint, same, turn, written}
-use Rattle.csicodec_overwrite.specs.{declared.cells.Cell.Cell, Cells.chars_of, Cells.is_empty, declared.cells.Cell.TheVariants.Char}
-use Rattle.csicodec_overwrite.specs.{declared.cells.Cell.TheVariants.Empty, declared.cells.Glyph.Glyph, declared.marking.Marking.Marking}
-use Rattle.csicodec_overwrite.specs.{declared.marking.Marking.TheVariants.Plain}
+use Rattle.std.proofs.Common.{◌≡◌, ℕ, zero, suc, true, List, [], ◌∷◌, ◌++◌, ◌-◌, replicate, refl, sym, ap, ◌∙◌, append_assoc, flat_map}
+use Rattle.csicodec_overwrite.proofs.Common.{flat_map-append, Sgr, Look, plain, Cell, Char, Empty, Glyph, Marking, Plain}
 use Rattle.csicodec_overwrite.proofs.Alike.{turn_same}
+use Rattle.csicodec_html.proofs.Recalled.{same_look as look_one}
+use Rattle.csicodec_overwrite.specs.Paint.{attributes, further, look_of, look_text, paint, same, turn, written}
+use Rattle.csicodec_overwrite.specs.Cells.{chars_of, is_empty}
 
 -- a cell, and then the others
 pub turned_on : (marking : Marking) (look : Look) (cell : Cell) (cells : List Cell) (old mid : List ℕ) → mid ≡ old ++ turn marking look (look_of look cell)

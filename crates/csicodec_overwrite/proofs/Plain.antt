@@ -1,24 +1,19 @@
 -- What is written is plain: UTF-8 of characters that are shown.
-use Rattle.std.proofs.{Common.◌≡◌, Common.ℕ, Common.Bool, Common.true, Common.false, Common.cond, Common.List, Common.[], Common.◌∷◌, Common.◌++◌, Common.refl}
-use Rattle.std.proofs.{Common.◌∙◌, Common.rules, lemmas.Bool.and_from, lemmas.Bool.and_parts, lemmas.Bool.cond_both}
-use Rattle.std.specs.{Prelude.◌==◌, Prelude.None, List.AllByRecursion, List.flat_map, Str.all_scalars}
+use Rattle.std.proofs.Common.{◌≡◌, ℕ, Bool, true, false, cond, List, [], ◌∷◌, ◌++◌, refl, ◌∙◌, rules, ◌==◌, None, flat_map}
+use Rattle.std.proofs.lemmas.Bool.{and_from, and_parts}
+use Rattle.csicodec_overwrite.proofs.Common.{cond_both, AllByRecursion, all_scalars, lossy_chars, SgrInRange, Sgr, Kind, Part, IsPlain, IsShown, with_titles, all_weaker, Look, behind, plain, Step}
+use Rattle.csicodec_overwrite.proofs.{Kept.OfStep, Kept.of_shown, Texts.chars_by, Texts.shown_plain}
 use lib.Utf8.{scalar}
-use Rattle.bstr.specs.Utf8.{lossy_chars}
 use Rattle.csicodec_names.specs.{declared.enums.EraseInDisplay.EraseInDisplay, declared.modes.TerminalModeCode.TerminalModeCode}
 use Rattle.csicodec_names.specs.{declared.enums.EraseInLine.EraseInLine, declared.modes.DecPrivateModeCode.DecPrivateModeCode}
 use Rattle.csicodec_actions.specs.{declared.mode.DecPrivateMode.DecPrivateMode, declared.mode.TerminalMode.TerminalMode, declared.mode.Mode.Mode}
-use Rattle.csicodec_actions.specs.{Devices.Device, declared.cursor.Cursor.Cursor, Ranges.InRange, Ranges.SgrInRange, declared.edit.Edit.Edit, Actions.Action}
+use Rattle.csicodec_actions.specs.{Devices.Device, declared.cursor.Cursor.Cursor, Ranges.InRange, declared.edit.Edit.Edit, Actions.Action}
 use Rattle.csicodec_actions.proofs.AllRows.{all-append}
-use Rattle.csicodec_base.specs.declared.sgr.Sgr.{Sgr}
 use Rattle.csicodec_terminal.specs.Terminal.{IsTakenFor}
-use Rattle.csicodec_spans.specs.{declared.table.Kind.Kind, Parts.Part}
-use Rattle.csicodec_clean.specs.{Shown.IsPlain, Shown.IsShown, Titles.with_titles}
-use Rattle.csicodec_clean.proofs.{Plain.scalars_lossy, PlainBytes.all_weaker, Taken.taken_range}
-use Rattle.csicodec_html.specs.{declared.look.Look.Look, Look.behind, Look.plain}
+use Rattle.csicodec_clean.proofs.{Plain.scalars_lossy, Taken.taken_range}
 use Rattle.csicodec_overwrite.specs.Steps.{by_code, of_action, of_actions, of_char, of_chars, of_code, of_control, of_cursor, of_device, of_display, of_edit, of_escape, of_final, of_mode, of_part, of_reset, of_run, by_escape, of_sequence, of_set, of_string, of_terminal_code, of_terminal_mode, of_wrong}
-use Rattle.csicodec_overwrite.specs.{declared.step.Step.Step, Line.blank, Line.do_all, Line.fresh, Paint.IsInRange, Reading.AreOfParts, Reading.IsOfPart}
-use Rattle.csicodec_overwrite.specs.{Reading.Overwrites, Reading.Steps, Reading.most}
-use Rattle.csicodec_overwrite.proofs.{Kept.OfStep, Kept.of_shown, Texts.chars_by, Texts.shown_plain}
+use Rattle.csicodec_overwrite.specs.{Line.blank, Line.do_all, Line.fresh, Paint.IsInRange, Reading.AreOfParts, Reading.IsOfPart, Reading.Overwrites}
+use Rattle.csicodec_overwrite.specs.{Reading.Steps, Reading.most}
 use Rattle.csicodec_names.specs.declared.enums.EraseInDisplay.TheVariants as display
 use Rattle.csicodec_names.specs.declared.enums.EraseInLine.TheVariants as part
 use Rattle.csicodec_names.specs.declared.modes.DecPrivateModeCode.TheVariants as code

@@ -1,16 +1,14 @@
 -- The parts of a stream, span by span, and the steps that came for them.
-use Rattle.std.proofs.Common.{◌≡◌, ℕ, Bool, false, List, [], ◌∷◌, ◌++◌, refl, sym, ap, subst, ◌∙◌, append_assoc, append-nil, arith}
-use Rattle.std.proofs.lemmas.Grind.{flat_map-append}
-use Rattle.std.specs.{Prelude.None, List.AllByRecursion, List.flat_map}
-use Rattle.csicodec_spans.specs.{declared.table.Kind.Kind, declared.table.Mode.Mode, Parts.Part, Parts.part, Parts.bytes_of, Parts.AreAll, Parts.IsSpan}
-use Rattle.csicodec_spans.specs.{Parts.Cuts, Parts.IsUnsure}
-use Rattle.csicodec_spans.proofs.{Kept.parts_more, Kept.parts_on, OneSpan.none_unsure}
-use Rattle.csicodec_clean.specs.{Cleaned.longest, Shown.IsRead, Titles.title_behind, Titles.title_open, Titles.read_as, Titles.with_titles}
-use Rattle.csicodec_clean.proofs.{Sure.read_more, Sure.read_none, Titles.open_on, Titles.titled, Titles.titles_on}
-use Rattle.csicodec_overwrite.specs.Steps.{by_escape, of_chars, of_escape, of_run, of_sequence, of_string, of_wrong}
-use Rattle.csicodec_overwrite.specs.{declared.step.Step.Step, Stream.Goes, Stream.Held, Stream.Reads, Stream.none_held, Reading.AreOfParts, Reading.IsOfPart}
-use Rattle.csicodec_overwrite.specs.{Reading.Steps, Private.Spans.GoesTo, Private.Spans.IsGiven}
+use Rattle.std.proofs.Common.{◌≡◌, ℕ, Bool, false, List, [], ◌∷◌, ◌++◌, refl, sym, ap, subst, ◌∙◌, append_assoc, append-nil, arith, None, flat_map}
+use Rattle.csicodec_overwrite.proofs.Common.{flat_map-append, AllByRecursion, Kind, Part, parts_more, none_unsure, longest, IsRead, title_open, with_titles, titles_on, Step}
 use Rattle.csicodec_overwrite.proofs.Chars.{chars_on, run_none, run_read}
+use Rattle.csicodec_spans.specs.{declared.table.Mode.Mode, Parts.part, Parts.bytes_of, Parts.AreAll, Parts.IsSpan, Parts.Cuts, Parts.IsUnsure}
+use Rattle.csicodec_spans.proofs.Kept.{parts_on}
+use Rattle.csicodec_clean.specs.Titles.{title_behind, read_as}
+use Rattle.csicodec_clean.proofs.{Sure.read_more, Sure.read_none, Titles.open_on, Titles.titled}
+use Rattle.csicodec_overwrite.specs.Steps.{by_escape, of_chars, of_escape, of_run, of_sequence, of_string, of_wrong}
+use Rattle.csicodec_overwrite.specs.{Stream.Goes, Stream.Held, Stream.Reads, Stream.none_held, Reading.AreOfParts, Reading.IsOfPart, Reading.Steps}
+use Rattle.csicodec_overwrite.specs.{Private.Spans.GoesTo, Private.Spans.IsGiven}
 use Rattle.csicodec_spans.specs.declared.table.Kind.TheVariants as kind
 use Rattle.csicodec_spans.specs.declared.table.Mode.TheVariants as mode
 use Rattle.csicodec_overwrite.specs.declared.step.Step.TheVariants as step

@@ -1,13 +1,10 @@
 -- A character that comes many times at once.
-use Rattle.std.proofs.Common.{◌≡◌, ◌≤◌, ◌<◌, ℕ, zero, suc, ◌+◌, ◌-◌, ◌*◌, Bool, true, false, cond, List, [], ◌∷◌, ◌++◌, length, replicate, refl, sym, ap, ◌∙◌, arith}
-use Rattle.std.proofs.{lemmas.Bool.cond_both, lemmas.Bool.Decides.nat_tests}
-use Rattle.std.specs.Prelude.{◌==◌}
+use Rattle.std.proofs.Common.{◌≡◌, ◌≤◌, ◌<◌, ℕ, zero, suc, ◌+◌, ◌-◌, ◌*◌, Bool, true, false, cond, List, [], ◌∷◌, ◌++◌, length, replicate, refl, sym, ap, ◌∙◌, arith, ◌==◌}
+use Rattle.csicodec_overwrite.proofs.Common.{cond_both, nat_tests, Cell, Line, Behind, Char, Empty, Mark, Glyph}
+use Rattle.csicodec_overwrite.proofs.{Moved.fails, Moved.some_left, Moved.takes_few, Moved.without_zero, Room.placed_size, Shifted.shifted_stays}
 use Rattle.csicodec_overwrite.specs.Cells.{begins_behind, belongs, columns, emptied, gone, outside, shifted, takes, width, without}
 use Rattle.csicodec_overwrite.specs.Line.{Done, before, blank, cells_of, done, fits, line, parted, placed, put, repeat, size}
-use Rattle.csicodec_overwrite.specs.{declared.cells.Cell.Cell, declared.line.Line.Line, declared.cells.Cell.TheVariants.Behind}
-use Rattle.csicodec_overwrite.specs.{declared.cells.Cell.TheVariants.Char, declared.cells.Cell.TheVariants.Empty, declared.cells.Cell.TheVariants.Mark}
-use Rattle.csicodec_overwrite.specs.{declared.cells.Glyph.Glyph, Private.Sides.placed_many, Private.Sides.put_many}
-use Rattle.csicodec_overwrite.proofs.{Moved.fails, Moved.some_left, Moved.takes_few, Moved.without_zero, Room.placed_size, Shifted.shifted_stays}
+use Rattle.csicodec_overwrite.specs.Private.Sides.{placed_many, put_many}
 
 -- ---- what is gone
 

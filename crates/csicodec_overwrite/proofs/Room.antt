@@ -1,14 +1,10 @@
 -- A line never holds more cells than the limit.
-use Rattle.std.proofs.Common.{◌≡◌, ◌≤◌, ℕ, ◌+◌, ◌-◌, zero, suc, Bool, false, min, List, [], ◌∷◌, ◌++◌, length, length-append, replicate, arith}
-use Rattle.std.proofs.{lemmas.List.length-replicate, lemmas.Bool.Decides.nat_tests, lemmas.Bool.cond_both}
-use Rattle.std.specs.Prelude.{◌==◌, max, unwrap_or, Option, Some, None}
+use Rattle.std.proofs.Common.{◌≡◌, ◌≤◌, ℕ, ◌+◌, ◌-◌, zero, suc, Bool, false, min, List, [], ◌∷◌, ◌++◌, length, length-append, replicate, arith, ◌==◌, max, unwrap_or, Option, Some, None}
+use Rattle.csicodec_overwrite.proofs.Common.{length-replicate, nat_tests, cond_both, Cell, Behind, Char, Empty, Glyph, Line, Pen, Step}
+use Rattle.csicodec_overwrite.proofs.{Moved.narrow_few, Moved.takes_few, Shifted.length_shifted}
 use Rattle.unicode_width.specs.Width.{char_width}
 use Rattle.csicodec_overwrite.specs.Cells.{belongs, columns, emptied, erased, glyph, gone, onto, outside, shifted, takes, to_tab_stop, width, without}
 use Rattle.csicodec_overwrite.specs.Line.{behind_columns, blank, do_all, does, does_here, entered, forward, from_stop, in_row, line, over, padded, parted, pen_behind, placed, placed_in, put, repeat, repeated, restored, size, target, to_stop, widest}
-use Rattle.csicodec_overwrite.specs.{declared.cells.Cell.Cell, declared.cells.Cell.TheVariants.Behind, declared.cells.Cell.TheVariants.Char}
-use Rattle.csicodec_overwrite.specs.{declared.cells.Cell.TheVariants.Empty, declared.cells.Glyph.Glyph, declared.line.Line.Line, declared.pen.Pen.Pen}
-use Rattle.csicodec_overwrite.specs.{declared.step.Step.Step}
-use Rattle.csicodec_overwrite.proofs.{Moved.narrow_few, Moved.takes_few, Shifted.length_shifted}
 use Rattle.csicodec_overwrite.specs.declared.step.Step.TheVariants as step
 
 few_columns : (xs : List Cell) → columns xs ≤ length xs

@@ -1,13 +1,12 @@
 -- A line whose cursor is still to go to its column.
-use Rattle.std.proofs.Common.{◌≡◌, ◌≤◌, ℕ, zero, suc, ◌+◌, ◌-◌, Bool, true, cond, min, List, [], ◌∷◌, ◌++◌, length, replicate, refl, ap, ◌∙◌, arith}
-use Rattle.std.proofs.{lemmas.Bool.Decides.nat_tests, lemmas.List.length-append, lemmas.List.length-replicate}
-use Rattle.std.specs.Prelude.{◌&&◌, nat_lt, Option, Some, None}
-use Rattle.csicodec_overwrite.specs.Line.{alters, behind_columns, do_all, does, done, entered, forward, leave, line, over, pen_behind, size, standing, widest}
-use Rattle.csicodec_overwrite.specs.{declared.cells.Cell.Cell, Cells.columns, Cells.onto, Cells.takes, Cells.trimmed, declared.cells.Cell.TheVariants.Empty}
-use Rattle.csicodec_overwrite.specs.{Private.Row.Does, Private.Row.StillDoes, Private.Row.settled, Reading.most, declared.line.Line.Line}
-use Rattle.csicodec_overwrite.specs.{declared.marking.Marking.Marking, declared.pen.Pen.Pen, declared.step.Step.Step}
+use Rattle.std.proofs.Common.{◌≡◌, ◌≤◌, ℕ, zero, suc, ◌+◌, ◌-◌, Bool, true, cond, min, List, [], ◌∷◌, ◌++◌, length, replicate, refl, ap, ◌∙◌, arith, ◌&&◌, nat_lt, Option, Some, None}
+use Rattle.std.proofs.lemmas.List.{length-append}
+use Rattle.csicodec_overwrite.proofs.Common.{nat_tests, length-replicate, Cell, Empty, Line, Marking, Pen, Step}
 use Rattle.csicodec_overwrite.proofs.Moved.{columns_both, columns_onto, columns_same, from_there, step_text, takes_few}
 use Rattle.csicodec_overwrite.proofs.Room.{moved, over_size}
+use Rattle.csicodec_overwrite.specs.Line.{alters, behind_columns, do_all, does, done, entered, forward, leave, line, over, pen_behind, size, standing, widest}
+use Rattle.csicodec_overwrite.specs.{Cells.columns, Cells.onto, Cells.takes, Cells.trimmed, Private.Row.Does, Private.Row.StillDoes, Private.Row.settled}
+use Rattle.csicodec_overwrite.specs.{Reading.most}
 
 -- ---- steps in turn
 

@@ -1,24 +1,17 @@
 -- What is painted is, without its sequences, the plain text.
-use Rattle.std.proofs.Common.{◌≡◌, ◌≤◌, ℕ, true, false, cond, List, [], ◌∷◌, ◌++◌, map, length, encode_utf8, encode_utf8_all, refl, sym, ap, subst, ◌∙◌, append_assoc, append-nil, arith}
-use Rattle.std.proofs.lemmas.Bool.{and_from, cond_both}
-use Rattle.std.specs.{Prelude.filter, List.AllByRecursion, List.flat_map, Str.all_scalars}
-use lib.Utf8.{scalar}
-use Rattle.bstr.proofs.lemmas.EncodeLemmas.{lossy_chars-encode}
-use Rattle.csicodec_actions.specs.Ranges.{SgrInRange}
-use Rattle.csicodec_spans.specs.{Table.Answer, Parts.Allows, Parts.AreFirstParts, Parts.IsFirstPart, Parts.IsWhole, Parts.Part, Parts.part}
-use Rattle.csicodec_spans.proofs.{Agrees.opens, Kept.parts_more, Kept.parts_on, OneSpan.none_unsure, OneSpan.singles}
-use Rattle.csicodec_clean.specs.{Cleaned.Strips, Cleaned.longest, Cleaned.stripped, Shown.IsShown, Shown.shown, Shown.shown_text, Titles.title_open}
-use Rattle.csicodec_clean.specs.{Titles.with_titles}
-use Rattle.csicodec_clean.proofs.{Plain.scalars_on, Shows.encoded_on, Twice.all_kept, Twice.all_text, PlainBytes.all_both, PlainBytes.one_char}
-use Rattle.csicodec_clean.proofs.{Titles.single_texts, Titles.titles_on}
-use Rattle.csicodec_html.specs.{declared.look.Look.Look, Look.plain}
-use Rattle.csicodec_overwrite.specs.Paint.{IsInRange, attributes, further, look_of, look_text, paint, same, turn}
-use Rattle.csicodec_overwrite.specs.{declared.cells.Cell.Cell, declared.step.Step.Step, declared.cells.Cell.TheVariants.Char}
-use Rattle.csicodec_overwrite.specs.{declared.cells.Cell.TheVariants.Empty, declared.marking.Marking.TheVariants.Plain}
-use Rattle.csicodec_overwrite.specs.{declared.marking.Marking.TheVariants.Styled, Cells.chars_of, Line.Done, Line.blank, Line.do_all, Line.fresh}
-use Rattle.csicodec_overwrite.specs.{Reading.Overwrites, Reading.Paints, Reading.Steps, Reading.most, Reading.shown_by}
+use Rattle.std.proofs.Common.{◌≡◌, ◌≤◌, ℕ, true, false, cond, List, [], ◌∷◌, ◌++◌, map, length, encode_utf8, encode_utf8_all, refl, sym, ap, subst, ◌∙◌, append_assoc, append-nil, arith, filter, flat_map}
+use Rattle.std.proofs.lemmas.Bool.{and_from}
+use Rattle.csicodec_overwrite.proofs.Common.{cond_both, AllByRecursion, all_scalars, lossy_chars-encode, SgrInRange, Part, parts_more, none_unsure, singles, longest, IsShown, shown, title_open, with_titles, encoded_on, all_text, all_both, single_texts, titles_on, Look, plain, Cell, Step, Char, Empty, Plain, Styled}
 use Rattle.csicodec_overwrite.proofs.{Kept.OfCell, Kept.OfCells, Kept.of_chars, Kept.of_done, Spelled.look_of_one, Spelled.look_short, Once.one_reading}
 use Rattle.csicodec_overwrite.proofs.{Plain.IsGood, Plain.kept, Plain.plain_kept, Plain.steps_good, Texts.cells_by, Texts.shown_painted, Texts.shown_plain}
+use lib.Utf8.{scalar}
+use Rattle.csicodec_spans.specs.{Table.Answer, Parts.Allows, Parts.AreFirstParts, Parts.IsFirstPart, Parts.IsWhole, Parts.part}
+use Rattle.csicodec_spans.proofs.{Agrees.opens, Kept.parts_on}
+use Rattle.csicodec_clean.specs.{Cleaned.Strips, Cleaned.stripped, Shown.shown_text}
+use Rattle.csicodec_clean.proofs.{Plain.scalars_on, Twice.all_kept, PlainBytes.one_char}
+use Rattle.csicodec_overwrite.specs.Paint.{IsInRange, attributes, further, look_of, look_text, paint, same, turn}
+use Rattle.csicodec_overwrite.specs.{Cells.chars_of, Line.Done, Line.blank, Line.do_all, Line.fresh, Reading.Overwrites, Reading.Paints, Reading.Steps}
+use Rattle.csicodec_overwrite.specs.{Reading.most, Reading.shown_by}
 use Rattle.csicodec_spans.specs.declared.table.Kind.TheVariants as kind
 use Rattle.csicodec_spans.specs.declared.table.Mode.TheVariants as mode
 

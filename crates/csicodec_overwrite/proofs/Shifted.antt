@@ -1,7 +1,7 @@
 -- Cells that are shifted, from the nearest on.
 use Rattle.std.proofs.Common.{◌≡◌, ℕ, ◌+◌, ◌≤◌, Bool, true, false, cond, ◌==◌, List, [], ◌∷◌, ◌++◌, length, drop, reverse, take, refl, ap, ◌∙◌, arith}
-use Rattle.csicodec_overwrite.specs.{declared.cells.Cell.Cell, declared.cells.Cell.TheVariants.Char, declared.cells.Cell.TheVariants.Empty, Cells.columns}
-use Rattle.csicodec_overwrite.specs.{Cells.of_tab, Cells.shifted, Cells.takes, Cells.untabbed}
+use Rattle.csicodec_overwrite.proofs.Common.{Cell, Char, Empty}
+use Rattle.csicodec_overwrite.specs.Cells.{columns, of_tab, shifted, takes, untabbed}
 
 stays : (x : Cell) → untabbed false x ≡ x
 stays Empty = refl

@@ -1,13 +1,12 @@
 -- The sequence of a look is one control sequence, and is read as a reset and its attributes.
-use Rattle.std.proofs.Common.{◌≡◌, ◌≤◌, ◌<◌, ◌+◌, ◌*◌, ◌-◌, ℕ, Bool, true, false, List, [], ◌∷◌, ◌++◌, length, length-append, take, drop, map, ⊎_elim, refl, sym, ap, subst, ◌∙◌, append_assoc, append-nil, arith}
+use Rattle.std.proofs.Common.{◌≡◌, ◌≤◌, ◌<◌, ◌+◌, ◌*◌, ◌-◌, ℕ, Bool, true, false, List, [], ◌∷◌, ◌++◌, length, length-append, take, drop, map, ⊎_elim, refl, sym, ap, subst, ◌∙◌, append_assoc, append-nil, arith, codes, not, flat_map}
 use Rattle.std.proofs.{Math.Seq.take-append_seam, lemmas.List.map-append}
-use Rattle.std.specs.{Prelude.codes, Prelude.not, List.AllByRecursion, List.flat_map}
+use Rattle.csicodec_overwrite.proofs.Common.{AllByRecursion, Sgr, SgrInRange, Look}
 use Rattle.csicodec_tokens.specs.{declared.param.CsiParam.CsiParam, declared.param.CsiParam.TheVariants.Integer, declared.param.CsiParam.TheVariants.P}
 use Rattle.csicodec_tokens.specs.{Digits.IsDigit, Param.spells, Sequence.Seq, Sequence.Spellable, Sequence.Spells}
 use Rattle.csicodec_tokens.proofs.Printed.{printed}
 use Rattle.csicodec_names.specs.{declared.color.Intensity.Intensity, declared.color.Underline.Underline}
-use Rattle.csicodec_base.specs.{declared.sgr.Sgr.Sgr, SgrText.sgr_text}
-use Rattle.csicodec_actions.specs.Ranges.{SgrInRange}
+use Rattle.csicodec_base.specs.SgrText.{sgr_text}
 use Rattle.csicodec_parser.specs.{Canonical.IsCanonicalSgr, Segments.Actions, Cut.semicolon, Groups.group, Groups.has_odd}
 use Rattle.csicodec_parser.specs.{declared.group.Group.TheVariants.Styles}
 use Rattle.csicodec.specs.Compose.{EndsInSemicolon, IsStyleList}
@@ -16,7 +15,7 @@ use Rattle.csicodec.proofs.SgrSpelling.{sgr-spelling}
 use Rattle.csicodec_terminal.specs.Terminal.{IsTakenFor, has_unknown}
 use Rattle.csicodec_clean.specs.Styled.{IsOf, hides}
 use Rattle.csicodec_clean.proofs.Coded.{AreCodes, coded, codes_parts, none_open, same_ends, unended}
-use Rattle.csicodec_html.specs.{declared.look.Look.Look, Look.is_default, Look.is_none, Look.is_normal}
+use Rattle.csicodec_html.specs.Look.{is_default, is_none, is_normal}
 use Rattle.csicodec_overwrite.specs.Paint.{IsInRange, attributes, further, given, look_text}
 use Rattle.csicodec_base.specs.declared.sgr.Sgr.TheVariants as sgr
 use Rattle.csicodec_actions.specs.Actions as action

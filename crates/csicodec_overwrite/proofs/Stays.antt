@@ -1,20 +1,12 @@
 -- Plain text of which each line has room stays as it is.
-use Rattle.std.proofs.Common.{◌≡◌, ◌≤◌, ◌⊎◌, ℕ, ◌+◌, zero, suc, Bool, true, false, cond, List, [], ◌∷◌, ◌++◌, length, replicate, encode_utf8_all, refl, sym, ap, subst, ◌∙◌, inl, inr, ⊎_elim, append_assoc, append-nil, arith}
-use Rattle.std.proofs.{lemmas.Bool.eqb-true, lemmas.Bool.Decides.nat_tests, lemmas.List.length-append, lemmas.List.length-replicate}
-use Rattle.std.specs.{Prelude.◌==◌, Prelude.max, List.AllByRecursion, List.flat_map}
-use Rattle.bstr.specs.Utf8.{lossy_chars}
-use Rattle.bstr.proofs.lemmas.EncodeLemmas.{lossy_chars-encode}
-use Rattle.csicodec_spans.specs.Parts.{Part}
-use Rattle.csicodec_spans.proofs.OneSpan.{none_unsure, singles}
-use Rattle.csicodec_clean.specs.{Cleaned.longest, Shown.IsPlain, Shown.IsShown, Shown.shown}
-use Rattle.csicodec_clean.proofs.{PlainBytes.plain_bytes, Titles.single_texts, Twice.all_text}
-use Rattle.csicodec_overwrite.specs.Line.{Done, HasRoom, before, blank, cells_of, do_all, does, done, fresh, line, pen_behind, placed, put}
-use Rattle.csicodec_overwrite.specs.{declared.cells.Cell.Cell, declared.cells.Cell.TheVariants.Behind, declared.cells.Cell.TheVariants.Char}
-use Rattle.csicodec_overwrite.specs.{declared.cells.Cell.TheVariants.Mark, declared.cells.Glyph.Glyph, Steps.of_char, Steps.of_chars, Steps.of_run}
-use Rattle.csicodec_overwrite.specs.{declared.marking.Marking.TheVariants.Plain, declared.pen.Pen.Pen, declared.step.Step.Step, Private.Plain.AreFull}
-use Rattle.csicodec_overwrite.specs.{Private.Plain.closed, Cells.chars_of, Cells.columns, Cells.glyph, Cells.onto, Cells.trimmed, Cells.width}
-use Rattle.csicodec_overwrite.specs.{Reading.AreOfParts, Reading.Overwrites, Reading.Steps, Reading.most}
+use Rattle.std.proofs.Common.{◌≡◌, ◌≤◌, ◌⊎◌, ℕ, ◌+◌, zero, suc, Bool, true, false, cond, List, [], ◌∷◌, ◌++◌, length, replicate, encode_utf8_all, refl, sym, ap, subst, ◌∙◌, inl, inr, ⊎_elim, append_assoc, append-nil, arith, ◌==◌, max, flat_map}
+use Rattle.std.proofs.lemmas.List.{length-append}
+use Rattle.csicodec_overwrite.proofs.Common.{eqb-true, nat_tests, length-replicate, AllByRecursion, lossy_chars, lossy_chars-encode, Part, none_unsure, singles, longest, IsPlain, IsShown, shown, single_texts, all_text, Cell, Behind, Char, Mark, Glyph, Plain, Pen, Step}
 use Rattle.csicodec_overwrite.proofs.{Moved.columns_both, Moved.columns_same, Once.one_text, Texts.chars_before, Texts.chars_by, Texts.shown_plain}
+use Rattle.csicodec_clean.proofs.PlainBytes.{plain_bytes}
+use Rattle.csicodec_overwrite.specs.Line.{Done, HasRoom, before, blank, cells_of, do_all, does, done, fresh, line, pen_behind, placed, put}
+use Rattle.csicodec_overwrite.specs.{Steps.of_char, Steps.of_chars, Steps.of_run, Private.Plain.AreFull, Private.Plain.closed, Cells.chars_of, Cells.columns}
+use Rattle.csicodec_overwrite.specs.{Cells.glyph, Cells.onto, Cells.trimmed, Cells.width, Reading.AreOfParts, Reading.Overwrites, Reading.Steps, Reading.most}
 use Rattle.csicodec_spans.specs.declared.table.Kind.TheVariants as kind
 use Rattle.csicodec_spans.specs.declared.table.Mode.TheVariants as mode
 use Rattle.csicodec_overwrite.specs.declared.step.Step.TheVariants as step

@@ -1,22 +1,15 @@
 -- Text of ASCII, which takes no reading.
-use Rattle.std.proofs.Common.{drop, take, take-append-drop, ◌≡◌, ◌<◌, ◌≤◌, ℕ, Bool, true, false, cond, List, [], ◌∷◌, ◌++◌, length, encode_utf8_all, refl, sym, ap, subst, ◌∙◌, arith}
-use Rattle.std.proofs.{lemmas.Bool.cond_both, lemmas.Bool.Decides.nat_tests}
-use Rattle.std.specs.{Prelude.◌==◌, Prelude.◌+◌, Prelude.max, Prelude.unwrap_or, Prelude.Option, Prelude.Some, Char.encode_utf8, List.AllByRecursion}
-use Rattle.std.specs.{List.prefix_len, Str.all_scalars}
+use Rattle.std.proofs.Common.{drop, take, take-append-drop, ◌≡◌, ◌<◌, ◌≤◌, ℕ, Bool, true, false, cond, List, [], ◌∷◌, ◌++◌, length, encode_utf8_all, refl, sym, ap, subst, ◌∙◌, arith, ◌==◌, ◌+◌, max, unwrap_or, Option, Some}
+use Rattle.csicodec_overwrite.proofs.Common.{cond_both, nat_tests, AllByRecursion, prefix_len, all_scalars, lossy_chars, Part, none_unsure, singles, longest, IsPlainByte, front_in, all_weaker, single_texts, is_shown, all_text, Cell, Line, Pen, Step, Char}
+use Rattle.csicodec_overwrite.proofs.{Chars.chars_on, Same.not_titled, Moved.narrow_few, Stays.cells, Stays.of_singles, Stays.put_cells, Stays.put_of}
+use Rattle.std.specs.Char.{encode_utf8}
 use Rattle.unicode_width.specs.Width.{char_width}
-use Rattle.bstr.specs.Utf8.{lossy_chars}
 use Rattle.bstr.proofs.lemmas.LossyLemmas.{lossy_chars-front}
-use Rattle.csicodec_spans.specs.Parts.{Part}
-use Rattle.csicodec_spans.proofs.OneSpan.{none_unsure, singles}
-use Rattle.csicodec_clean.specs.{Cleaned.longest, Private.Steps.IsOther, Bytes.IsPlainByte}
-use Rattle.csicodec_clean.proofs.{Bytes.front_in, PlainBytes.all_weaker, PlainBytes.plain_bytes, Sure.read_more, Titles.single_texts, Told.ascii_shown}
-use Rattle.csicodec_clean.proofs.{Told.encoded, Told.is_shown, Told.scalars, Twice.all_text}
+use Rattle.csicodec_clean.specs.Private.Steps.{IsOther}
+use Rattle.csicodec_clean.proofs.{PlainBytes.plain_bytes, Sure.read_more, Told.ascii_shown, Told.encoded, Told.scalars}
 use Rattle.csicodec_overwrite.specs.Line.{Done, before, do_all, does, done, line, pen_behind, pen_behind_all, put}
 use Rattle.csicodec_overwrite.specs.Private.Plain.{IsLineByte, IsUntabbed, PutsRun, end_of, glyphs, last_of, line_byte}
-use Rattle.csicodec_overwrite.specs.{declared.cells.Cell.Cell, declared.line.Line.Line, declared.pen.Pen.Pen, declared.step.Step.Step}
-use Rattle.csicodec_overwrite.specs.{declared.cells.Cell.TheVariants.Char, Stream.Reads, Stream.none_held, Cells.columns, Cells.glyph, Cells.onto, Cells.width}
-use Rattle.csicodec_overwrite.specs.{Steps.of_chars, Reading.AreOfParts}
-use Rattle.csicodec_overwrite.proofs.{Chars.chars_on, Same.not_titled, Moved.narrow_few, Stays.cells, Stays.of_singles, Stays.put_cells, Stays.put_of}
+use Rattle.csicodec_overwrite.specs.{Stream.Reads, Stream.none_held, Cells.columns, Cells.glyph, Cells.onto, Cells.width, Steps.of_chars, Reading.AreOfParts}
 use Rattle.csicodec_spans.specs.declared.table.Kind.TheVariants as kind
 use Rattle.csicodec_spans.specs.declared.table.Mode.TheVariants as mode
 use Rattle.csicodec_overwrite.specs.declared.step.Step.TheVariants as step

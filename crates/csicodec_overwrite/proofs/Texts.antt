@@ -1,14 +1,9 @@
 -- The text of lines, and what it is as characters.
-use Rattle.std.proofs.{Common.◌≡◌, Common.List, Common.ℕ, Common.[], Common.◌∷◌, Common.◌++◌, Common.encode_utf8_all, Common.refl, Common.sym, Common.ap}
-use Rattle.std.proofs.{Common.◌∙◌, Common.append_assoc, lemmas.Grind.flat_map-append}
-use Rattle.std.specs.List.{flat_map}
-use Rattle.csicodec_clean.proofs.Shows.{encoded_on}
-use Rattle.csicodec_html.specs.{declared.look.Look.Look, Look.plain}
-use Rattle.csicodec_overwrite.specs.{declared.cells.Cell.Cell, declared.cells.Cell.TheVariants.Char, Paint.ended, Paint.look_of, Paint.paint, Paint.text_of}
-use Rattle.csicodec_overwrite.specs.{Paint.texts_of, declared.marking.Marking.Marking, declared.marking.Marking.TheVariants.Page}
-use Rattle.csicodec_overwrite.specs.{declared.marking.Marking.TheVariants.Plain, declared.marking.Marking.TheVariants.Styled, Cells.chars_of, Cells.glyph}
-use Rattle.csicodec_overwrite.specs.{Line.Done, Line.before, Line.cells_of, Reading.shown_by}
+use Rattle.std.proofs.Common.{◌≡◌, List, ℕ, [], ◌∷◌, ◌++◌, encode_utf8_all, refl, sym, ap, ◌∙◌, append_assoc, flat_map}
+use Rattle.csicodec_overwrite.proofs.Common.{flat_map-append, encoded_on, Look, plain, Cell, Char, Marking, Page, Plain, Styled}
 use Rattle.csicodec_overwrite.proofs.Alike.{newline_written}
+use Rattle.csicodec_overwrite.specs.{Paint.ended, Paint.look_of, Paint.paint, Paint.text_of, Paint.texts_of, Cells.chars_of, Cells.glyph, Line.Done}
+use Rattle.csicodec_overwrite.specs.{Line.before, Line.cells_of, Reading.shown_by}
 
 -- lines and then others
 pub texts_on : (marking : Marking) (xs ys : List (List Cell)) → texts_of marking (xs ++ ys) ≡ texts_of marking xs ++ texts_of marking ys

@@ -1,15 +1,15 @@
 -- What steps write, one behind the other, and what comes of a stream.
 use Rattle.std.proofs.Common.{◌≡◌, ℕ, List, [], ◌∷◌, ◌++◌, refl, sym, ap, subst, ◌∙◌, ⊎_elim, append_assoc, append-nil}
 use Rattle.std.specs.List.{concat}
-use Rattle.csicodec_transform.specs.Transform.{Begins, GoesOn, Sends, Transforms}
+use Rattle.csicodec_transform.specs.Transform.{Begins, GoesOn}
+use Rattle.csicodec_overwrite.proofs.{Common.Sends, Common.Transforms, Common.Line, Common.Marking, Common.Pen, Common.Step, Read.reads_none, Read.reads_on}
+use Rattle.csicodec_overwrite.proofs.{Read.whole_reads, Texts.texts_on}
 use Rattle.csicodec_clean.specs.Stream.{AreTaken}
 use Rattle.csicodec_clean.proofs.Chunks.{taken_on}
 use Rattle.csicodec_overwrite.specs.Line.{before, blank, cells_of, do_all, does, fresh, pen_behind, pen_behind_all}
-use Rattle.csicodec_overwrite.specs.{declared.line.Line.Line, Paint.text_of, Paint.texts_of, Private.Seen.PassesFront, declared.marking.Marking.Marking}
-use Rattle.csicodec_overwrite.specs.{Reading.Shows, Reading.most, Reading.shown_by, declared.pen.Pen.Pen, declared.step.Step.Step, Cells.columns, Steps.of_run}
-use Rattle.csicodec_overwrite.specs.{Stream.Ending, Stream.Held, Stream.Now, Stream.Passes, Stream.Reads, Stream.begun_as, Stream.none_held}
+use Rattle.csicodec_overwrite.specs.{Paint.text_of, Paint.texts_of, Private.Seen.PassesFront, Reading.Shows, Reading.most, Reading.shown_by, Cells.columns}
+use Rattle.csicodec_overwrite.specs.{Steps.of_run, Stream.Ending, Stream.Held, Stream.Now, Stream.Passes, Stream.Reads, Stream.begun_as, Stream.none_held}
 use Rattle.csicodec_overwrite.specs.{Private.Row.DoesAll}
-use Rattle.csicodec_overwrite.proofs.{Read.reads_none, Read.reads_on, Read.whole_reads, Texts.texts_on}
 
 -- ---- steps, and then others
 

@@ -1,9 +1,8 @@
 use Rattle.std.proofs.Common.{◌≡◌, ◌+◌, ◌++◌, ◌∷◌, [], drop, take, length, length-append, length-take-le, slice_index, sym, ap, subst, ◌∙◌, append_assoc, take-append-drop, arith}
-use Rattle.std.proofs.{lemmas.Bool.eqb-true, lemmas.List.take_at, lemmas.List.take_more}
-use Rattle.std.specs.List.{AllByRecursion, prefix_len}
+use Rattle.std.proofs.lemmas.List.{take_at, take_more}
+use Rattle.csicodec_overwrite.proofs.Common.{eqb-true, AllByRecursion, prefix_len, IsPlainByte, front_in}
 use Rattle.csicodec_tokens.proofs.Runs.{All-front}
-use Rattle.csicodec_clean.specs.Bytes.{IsPlainByte, plain_byte}
-use Rattle.csicodec_clean.proofs.Bytes.{front_in}
+use Rattle.csicodec_clean.specs.Bytes.{plain_byte}
 use Rattle.csicodec_overwrite.proofs.ascii.split_lines.Goals as goal
 
 pub returns : goal.returns

@@ -1,5 +1,4 @@
-use Rattle.std.proofs.Common.{◌≡◌, ◌≤◌, ◌+◌, ◌++◌, length}
-use Rattle.std.specs.Prelude.{vec_capacity, vec_len}
+use Rattle.std.proofs.Common.{◌≡◌, ◌≤◌, ◌+◌, ◌++◌, length, vec_capacity, vec_len}
 use Rattle.csicodec_overwrite.specs.Private.Plain.{glyphs}
 use Rattle.csicodec_overwrite.proofs.cells.append_glyphs.Given as goal
 

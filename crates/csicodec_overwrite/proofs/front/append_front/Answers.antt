@@ -1,8 +1,7 @@
 use Rattle.std.proofs.Common.{◌≡◌, ◌∙◌, true, sym, rules, subst, arith}
-use Rattle.csicodec_html.specs.{Turns.AreTurns, Look.plain}
+use Rattle.csicodec_overwrite.proofs.{Common.AreTurns, Common.plain, Fronts.front_begins, Fronts.run_written, Fronts.styled_written, Straight.split_line}
 use Rattle.csicodec_html.proofs.Recalled.{same_look}
 use Rattle.csicodec_overwrite.specs.Turned.{Turned}
-use Rattle.csicodec_overwrite.proofs.{Fronts.front_begins, Fronts.run_written, Fronts.styled_written, Straight.split_line}
 use Rattle.csicodec_overwrite.proofs.front.append_front.Goals as goal
 
 pub returns-then-behind-front-clause-written : goal.returns-then-behind-front-clause-written

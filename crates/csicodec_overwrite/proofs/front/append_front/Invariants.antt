@@ -1,5 +1,5 @@
 use Rattle.std.proofs.Common.{◌≡◌, ◌-◌, ◌/◌, true, length}
-use Rattle.csicodec_html.specs.Turns.{AreTurns}
+use Rattle.csicodec_overwrite.proofs.Common.{AreTurns}
 use Rattle.csicodec_overwrite.specs.{Private.Front.IsWritten, Turned.Turned, Reading.most, Stream.none_held}
 use Rattle.csicodec_overwrite.proofs.front.append_front.Given as goal
 

@@ -1,8 +1,7 @@
 use Rattle.std.proofs.Common.{◌≡◌, ◌++◌, ◌∙◌, ℕ, List, true, false, refl, sym, ap, subst, append_assoc, rules, arith}
-use Rattle.csicodec_html.specs.{declared.look.Look.Look, Turns.AreTurns}
+use Rattle.csicodec_overwrite.proofs.{Common.Look, Common.AreTurns, Fronts.run_some, Straight.lines_plain, Straight.split_line}
 use Rattle.csicodec_overwrite.specs.{declared.front.LineFront.LineFront, Paint.turn, Paint.written, Private.Front.last_of_run, Private.Front.run_text}
 use Rattle.csicodec_overwrite.specs.{Turned.Sets, Turned.Turned}
-use Rattle.csicodec_overwrite.proofs.{Fronts.run_some, Straight.lines_plain, Straight.split_line}
 use Rattle.csicodec_overwrite.proofs.front.append_styled.Goals as goal
 
 pub returns-then-not-is_empty-clause-styled : goal.returns-then-not-is_empty-clause-styled

@@ -1,5 +1,5 @@
 use Rattle.std.proofs.Common.{length}
-use Rattle.csicodec_html.specs.declared.look.Look.{Look}
+use Rattle.csicodec_overwrite.proofs.Common.{Look}
 use Rattle.csicodec_overwrite.specs.Turned.{AreLooks}
 use Rattle.csicodec_overwrite.proofs.front.turn_all.Given as goal
 

@@ -1,9 +1,7 @@
-use Rattle.std.proofs.{Common.◌≡◌, Common.◌++◌, Common.◌∙◌, Common.List, Common.ℕ, Common.⊎_elim, Common.ap, Common.encode_utf8_all, Common.sym}
-use Rattle.std.proofs.{lemmas.Result.on_ok_weaker}
-use Rattle.csicodec_clean.specs.{Bytes.IsPlainByte, Shown.IsShown}
-use Rattle.csicodec_clean.proofs.{PlainBytes.all_weaker, Told.encoded, Told.is_shown}
-use Rattle.csicodec_overwrite.specs.{declared.marking.Marking.Marking, declared.marking.Marking.TheVariants.Plain, declared.marking.Marking.TheVariants.Styled}
-use Rattle.csicodec_overwrite.specs.{Paint.written}
+use Rattle.std.proofs.Common.{◌≡◌, ◌++◌, ◌∙◌, List, ℕ, ⊎_elim, ap, encode_utf8_all, sym}
+use Rattle.csicodec_overwrite.proofs.Common.{on_ok_weaker, IsPlainByte, IsShown, all_weaker, is_shown, Marking, Plain, Styled}
+use Rattle.csicodec_clean.proofs.Told.{encoded}
+use Rattle.csicodec_overwrite.specs.Paint.{written}
 use Rattle.csicodec_overwrite.proofs.paint.append_ascii.Goals as goal
 
 pub returns-in-Page : goal.returns-in-Page

@@ -1,5 +1,4 @@
-use Rattle.std.proofs.Common.{◌≡◌, ◌≤◌, ◌+◌, ◌++◌, encode_utf8_all, length}
-use Rattle.std.specs.{Prelude.vec_capacity, Prelude.vec_len, List.flat_map}
+use Rattle.std.proofs.Common.{◌≡◌, ◌≤◌, ◌+◌, ◌++◌, encode_utf8_all, length, vec_capacity, vec_len, flat_map}
 use Rattle.csicodec_overwrite.specs.Cells.{chars_of}
 use Rattle.csicodec_overwrite.proofs.paint.append_ascii_front.Given as goal
 

@@ -1,8 +1,6 @@
-use Rattle.std.proofs.Common.{◌∷◌, ◌++◌, encode_utf8_all, sym, ap, ◌∙◌}
-use Rattle.std.specs.List.{flat_map}
-use Rattle.csicodec_html.specs.Look.{plain}
+use Rattle.std.proofs.Common.{◌∷◌, ◌++◌, encode_utf8_all, sym, ap, ◌∙◌, flat_map}
+use Rattle.csicodec_overwrite.proofs.{Common.plain, Texts.plain_paint}
 use Rattle.csicodec_overwrite.specs.{Cells.chars_of, Paint.look_of}
-use Rattle.csicodec_overwrite.proofs.Texts.{plain_paint}
 use Rattle.csicodec_overwrite.proofs.paint.append_plain.Goals as goal
 
 pub loop-cell-preserved : goal.loop-cell-preserved

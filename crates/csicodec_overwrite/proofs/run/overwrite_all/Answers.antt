@@ -1,9 +1,8 @@
 use Rattle.std.proofs.Common.{refl}
-use Rattle.csicodec_transform.specs.Transform.{Sends, Transforms}
-use Rattle.csicodec_clean.specs.Shown.{IsPlain}
+use Rattle.csicodec_overwrite.proofs.{Common.Sends, Common.Transforms, Common.IsPlain, Common.Plain, Once.shown_sent, Plain.overwritten_plain, Written.begins}
+use Rattle.csicodec_overwrite.proofs.{Written.passes_none, Written.transformed}
 use Rattle.csicodec_clean.proofs.Streams.{Texts, streams_one}
-use Rattle.csicodec_overwrite.specs.{declared.marking.Marking.TheVariants.Plain, Reading.Overwrites, Stream.Ending, Stream.Passes, Stream.begun_as}
-use Rattle.csicodec_overwrite.proofs.{Once.shown_sent, Plain.overwritten_plain, Written.begins, Written.passes_none, Written.transformed}
+use Rattle.csicodec_overwrite.specs.{Reading.Overwrites, Stream.Ending, Stream.Passes, Stream.begun_as}
 use Rattle.csicodec_overwrite.proofs.run.overwrite_all.Goals as goal
 
 pub transform_all-requires-clause-begun : goal.transform_all-requires-clause-begun

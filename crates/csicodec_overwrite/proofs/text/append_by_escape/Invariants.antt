@@ -1,5 +1,4 @@
-use Rattle.std.proofs.Common.{◌≡◌, ◌++◌, take}
-use Rattle.std.specs.List.{flat_map}
+use Rattle.std.proofs.Common.{◌≡◌, ◌++◌, take, flat_map}
 use Rattle.csicodec_overwrite.specs.Steps.{by_escape}
 use Rattle.csicodec_overwrite.proofs.text.append_by_escape.Given as goal
 

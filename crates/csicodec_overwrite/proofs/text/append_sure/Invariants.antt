@@ -1,5 +1,5 @@
 use Rattle.std.proofs.Common.{◌≡◌, ◌++◌, ℕ, List, length}
-use Rattle.csicodec_clean.specs.Shown.{IsRead}
+use Rattle.csicodec_overwrite.proofs.Common.{IsRead}
 use Rattle.csicodec_overwrite.specs.Steps.{of_chars}
 use Rattle.csicodec_overwrite.proofs.text.append_sure.Given as goal
 

@@ -1,7 +1,7 @@
 use Rattle.std.proofs.{Common.◌≡◌, Common.◌++◌, Common.◌+◌, Common.◌-◌, Common.◌∙◌, Common.List, Common.ap, Common.arith, Common.drop, Common.length, Common.[]}
 use Rattle.std.proofs.{Common.reverse, Common.take, lemmas.List.length-reverse}
-use Rattle.csicodec_overwrite.specs.{declared.cells.Cell.Cell, Cells.columns, Cells.onto}
-use Rattle.csicodec_overwrite.proofs.Moved.{columns_onto, columns_parts, far_is, given_are}
+use Rattle.csicodec_overwrite.proofs.{Common.Cell, Moved.columns_onto, Moved.columns_parts, Moved.far_is, Moved.given_are}
+use Rattle.csicodec_overwrite.specs.Cells.{columns, onto}
 use Rattle.csicodec_overwrite.proofs.cells.Side.give.Goals as goal
 
 pub overflow_sub-kept : goal.overflow_sub-kept

@@ -1,7 +1,6 @@
-use Rattle.std.proofs.Common.{◌≡◌, ◌-◌, ◌∙◌, ap, rules, subst}
-use Rattle.std.specs.Prelude.{OnOk}
-use Rattle.csicodec_overwrite.specs.{declared.line.Line.Line, Cells.columns, Line.forward, Line.line, Reading.most}
-use Rattle.csicodec_overwrite.proofs.Moved.{from_there}
+use Rattle.std.proofs.Common.{◌≡◌, ◌-◌, ◌∙◌, ap, rules, subst, OnOk}
+use Rattle.csicodec_overwrite.proofs.{Common.Line, Moved.from_there}
+use Rattle.csicodec_overwrite.specs.{Cells.columns, Line.forward, Line.line, Reading.most}
 use Rattle.csicodec_overwrite.proofs.line.Line.behind_columns.Goals as goal
 
 pub returns : goal.returns

@@ -1,8 +1,8 @@
-use Rattle.std.proofs.Common.{[], ◌∷◌, ◌++◌, ◌≡◌, ◌∙◌, List, ap, cond, rules, subst, sym, true}
-use Rattle.std.specs.{List.list_all, Prelude.nat_lt}
-use Rattle.csicodec_overwrite.specs.{declared.cells.Cell.Cell, Cells.is_blank, Cells.onto, Private.Row.Does, Private.Row.settled, Reading.most, Line.Done}
-use Rattle.csicodec_overwrite.specs.{Line.alters, Line.lines_of, Line.widest, Line.size, Paint.texts_of}
-use Rattle.csicodec_overwrite.proofs.Rows.{entered_long, standing_row}
+use Rattle.std.proofs.Common.{[], ◌∷◌, ◌++◌, ◌≡◌, ◌∙◌, List, ap, cond, rules, subst, sym, true, nat_lt}
+use Rattle.std.specs.List.{list_all}
+use Rattle.csicodec_overwrite.proofs.{Common.Cell, Rows.entered_long, Rows.standing_row}
+use Rattle.csicodec_overwrite.specs.{Cells.is_blank, Cells.onto, Private.Row.Does, Private.Row.settled, Reading.most, Line.Done, Line.alters, Line.lines_of}
+use Rattle.csicodec_overwrite.specs.{Line.widest, Line.size, Paint.texts_of}
 use Rattle.csicodec_overwrite.proofs.line.Line.enter.Goals as goal
 
 pub returns-then-is_long : goal.returns-then-is_long

@@ -1,7 +1,6 @@
-use Rattle.std.proofs.Common.{[], ◌∷◌, ◌∙◌, List, ℕ, ap, arith, length, length-append, subst, sym}
-use Rattle.std.specs.Prelude.{Option, Some}
-use Rattle.csicodec_overwrite.specs.{declared.cells.Cell.Cell, declared.line.Line.Line, Line.line, Private.Plain.PutsRun, Private.Plain.last_of, Reading.most}
-use Rattle.csicodec_overwrite.proofs.Straight.{last_is, run_all, run_none}
+use Rattle.std.proofs.Common.{[], ◌∷◌, ◌∙◌, List, ℕ, ap, arith, length, length-append, subst, sym, Option, Some}
+use Rattle.csicodec_overwrite.proofs.{Common.Cell, Common.Line, Straight.last_is, Straight.run_all, Straight.run_none}
+use Rattle.csicodec_overwrite.specs.{Line.line, Private.Plain.PutsRun, Private.Plain.last_of, Reading.most}
 use Rattle.csicodec_overwrite.proofs.line.Line.put_run.Goals as goal
 
 pub returns : goal.returns

@@ -1,9 +1,7 @@
-use Rattle.std.proofs.Common.{subst, ◌≡◌, ◌<◌, ◌-◌, ◌++◌, ◌==◌, [], List, ℕ, append-nil, false, ap, refl, sym, ◌∙◌, arith, rules}
-use Rattle.std.proofs.lemmas.Bool.Decides.{nat_tests}
-use Rattle.std.specs.Prelude.{Option}
-use Rattle.csicodec_overwrite.specs.{declared.line.Line.Line, declared.marking.Marking.Marking, Paint.texts_of, Cells.glyph, Reading.most, Line.Done, Line.done}
-use Rattle.csicodec_overwrite.specs.{Line.put, Line.repeat, Line.repeated, Private.Row.Does}
-use Rattle.csicodec_overwrite.proofs.{Moved.repeat_on, Moved.step_text, Repeated.repeat_some, Repeated.width_same}
+use Rattle.std.proofs.Common.{subst, ◌≡◌, ◌<◌, ◌-◌, ◌++◌, ◌==◌, [], List, ℕ, append-nil, false, ap, refl, sym, ◌∙◌, arith, rules, Option}
+use Rattle.csicodec_overwrite.proofs.{Common.nat_tests, Common.Line, Common.Marking, Moved.repeat_on, Moved.step_text, Repeated.repeat_some}
+use Rattle.csicodec_overwrite.proofs.{Repeated.width_same}
+use Rattle.csicodec_overwrite.specs.{Paint.texts_of, Cells.glyph, Reading.most, Line.Done, Line.done, Line.put, Line.repeat, Line.repeated, Private.Row.Does}
 use Rattle.csicodec_overwrite.proofs.line.Line.repeat.Goals as goal
 
 pub loop-left-preserved : goal.loop-left-preserved

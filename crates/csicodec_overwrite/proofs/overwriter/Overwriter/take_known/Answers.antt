@@ -1,7 +1,6 @@
-use Rattle.std.proofs.{Common.◌≡◌, Common.◌<◌, Common.◌∙◌, Common.arith, Common.false, Common.length, Common.sym, lemmas.Bool.Decides.nat_tests}
-use Rattle.std.specs.Prelude.{◌==◌}
+use Rattle.std.proofs.Common.{◌≡◌, ◌<◌, ◌∙◌, arith, false, length, sym, ◌==◌}
+use Rattle.csicodec_overwrite.proofs.{Common.nat_tests, Written.taken}
 use Rattle.csicodec_overwrite.specs.Stream.{Reads}
-use Rattle.csicodec_overwrite.proofs.Written.{taken}
 use Rattle.csicodec_overwrite.proofs.overwriter.Overwriter.take_known.Goals as goal
 
 pub returns-clause-passes : goal.returns-clause-passes

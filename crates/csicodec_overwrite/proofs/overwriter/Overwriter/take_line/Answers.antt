@@ -1,7 +1,6 @@
 use Rattle.std.proofs.Common.{◌++◌, ◌∷◌, [], refl, sym, ap, ◌∙◌, append_assoc}
-use Rattle.csicodec_html.specs.Look.{plain}
+use Rattle.csicodec_overwrite.proofs.{Common.plain, Fronts.line_passes}
 use Rattle.csicodec_overwrite.specs.{Paint.turn, Private.Plain.end_of}
-use Rattle.csicodec_overwrite.proofs.Fronts.{line_passes}
 use Rattle.csicodec_overwrite.proofs.overwriter.Overwriter.take_line.Goals as goal
 
 pub returns-clause-passes : goal.returns-clause-passes

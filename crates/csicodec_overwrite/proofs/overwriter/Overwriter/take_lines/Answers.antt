@@ -1,8 +1,6 @@
 use Rattle.std.proofs.Common.{[], ◌∷◌, refl}
-use Rattle.csicodec_clean.specs.Bytes.{IsPlainByte}
-use Rattle.csicodec_clean.proofs.PlainBytes.{all_both}
+use Rattle.csicodec_overwrite.proofs.{Common.IsPlainByte, Common.all_both, Fronts.lines_pass, Written.none_taken}
 use Rattle.csicodec_overwrite.specs.Paint.{written}
-use Rattle.csicodec_overwrite.proofs.{Fronts.lines_pass, Written.none_taken}
 use Rattle.csicodec_overwrite.proofs.overwriter.Overwriter.take_lines.Goals as goal
 
 pub returns-clause-passes : goal.returns-clause-passes

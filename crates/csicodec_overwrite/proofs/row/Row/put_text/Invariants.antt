@@ -1,5 +1,5 @@
 use Rattle.std.proofs.Common.{length}
-use Rattle.std.specs.List.{AllByRecursion}
+use Rattle.csicodec_overwrite.proofs.Common.{AllByRecursion}
 use Rattle.csicodec_overwrite.specs.{Private.Plain.IsLineByte, Private.Row.StillDoes, Steps.of_chars}
 use Rattle.csicodec_overwrite.proofs.row.Row.put_text.Given as goal
 

@@ -44,17 +44,16 @@ module _ (c : ℕ) where
   joined [] ys = omega arith
   joined (x ∷ xs) ys = omega (arith, joined xs ys)
 
-  empties : (n : ℕ) (xs : List Cell) → count (replicate n Empty ++ xs) ≡ count xs
-  empties zero xs = refl
-  empties (suc n) xs = omega (arith, empties n xs)
+  -- columns in which no character stands
+  columns_of : (x : Cell) → in_cell x ≡ 0 → (n : ℕ) → count (replicate n x) ≡ 0
+  columns_of x none zero = refl
+  columns_of x none (suc n) = omega (arith, none, columns_of x none n)
 
-  all_empty : (n : ℕ) → count (replicate n Empty) ≡ 0
-  all_empty zero = refl
-  all_empty (suc n) = omega (arith, all_empty n)
+  empties : (n : ℕ) (xs : List Cell) → count (replicate n Empty ++ xs) ≡ count xs
+  empties n xs = omega (arith, joined (replicate n Empty) xs, columns_of Empty refl n)
 
   behinds : (n : ℕ) (xs : List Cell) → count (replicate n Behind ++ xs) ≡ count xs
-  behinds zero xs = refl
-  behinds (suc n) xs = omega (arith, behinds n xs)
+  behinds n xs = omega (arith, joined (replicate n Behind) xs, columns_of Behind refl n)
 
   moved : (xs ys : List Cell) → count (onto xs ys) ≡ count xs + count ys
   moved [] ys = omega arith
@@ -208,8 +207,8 @@ module _ (c : ℕ) where
   of_here limit pen (step.Left n) l = omega (arith, of_behind limit (columns l.left - n) l)
   of_here limit pen (step.Column n) l = omega (arith, of_behind limit (n - 1) l)
   of_here limit pen step.EraseRight l = omega (arith, of_under l, joined (under l) (parted l).right)
-  of_here limit pen step.EraseLeft l = omega (arith, all_empty (columns l.left), of_erased 1 l.right, of_whole 1 l.right, joined l.left (whole 1 l.right))
-  of_here limit pen step.EraseAll l = omega (arith, all_empty (columns l.left), joined l.left l.right)
+  of_here limit pen step.EraseLeft l = omega (arith, columns_of Empty refl (columns l.left), of_erased 1 l.right, of_whole 1 l.right, joined l.left (whole 1 l.right))
+  of_here limit pen step.EraseAll l = omega (arith, columns_of Empty refl (columns l.left), joined l.left l.right)
   of_here limit pen (step.Erase n) l = omega (arith, of_touched n l, of_erased n (parted l).right)
   of_here limit pen (step.Delete n) l =
       let rest = gone n (parted l).right in

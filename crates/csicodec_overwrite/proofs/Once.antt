@@ -18,14 +18,10 @@ use Rattle.csicodec_spans.specs.declared.table.Mode.TheVariants as mode
 
 -- ---- one text
 
-record Same (x y : List Step) (a b : List ℕ) : Type 0 where
-  steps : x ≡ y
-  runs : a ≡ b
-
-part_once : (k : Kind) (run bytes : List ℕ) (x y : List Step) (a b : List ℕ) → IsOfPart k run bytes x a → IsOfPart k run bytes y b → Same x y a b
+part_once : (k : Kind) (run bytes : List ℕ) (x y : List Step) (a b : List ℕ) → IsOfPart k run bytes x a → IsOfPart k run bytes y b → (x ≡ y) × (a ≡ b)
 part_once kind.Csi run bytes x y a b (own, of, e, none) (other, is, f, nil) =
-    record { steps = e ∙ ap (λ (actions : List Action). of_run run ++ of_sequence actions) (taken_once bytes own other of is) ∙ sym f; runs = none ∙ sym nil }
-part_once _ run bytes x y a b h i = record { steps = h.0 ∙ sym i.0; runs = h.1 ∙ sym i.1 }
+    (e ∙ ap (λ (actions : List Action). of_run run ++ of_sequence actions) (taken_once bytes own other of is) ∙ sym f, none ∙ sym nil)
+part_once _ run bytes x y a b h i = (h.0 ∙ sym i.0, h.1 ∙ sym i.1)
 
 -- what is read of some parts, and then of others
 record Parted (x : List Step) (a : List ℕ) (qs : List Part) (y : List Step) (b : List ℕ) : Type 0 where
@@ -37,12 +33,12 @@ parted : (run : List ℕ) (ps qs : List Part) (x y : List Step) (a b : List ℕ)
 parted run [] qs x y a b h k = record { later = y; others = rw h.1 k; all = rw h.0 refl }
 parted run (p ∷ ps) qs x y a b (first, next, others, is, e, rest) (one, after, more, of, f, k) =
     let same = part_once p.kind run p.bytes first one next after is of in
-    let later = parted next ps qs others more a b rest (subst (λ (r : List ℕ). AreOfParts r (ps ++ qs) more b) (sym same.runs) k) in
+    let later = parted next ps qs others more a b rest (subst (λ (r : List ℕ). AreOfParts r (ps ++ qs) more b) (sym same.1) k) in
     record {
       later = later.later;
       others = later.others;
       all =
-          f ∙ ap (λ (t : List Step). t ++ more) (sym same.steps) ∙ ap (λ (t : List Step). first ++ t) later.all
+          f ∙ ap (λ (t : List Step). t ++ more) (sym same.0) ∙ ap (λ (t : List Step). first ++ t) later.all
           ∙ sym (append_assoc first others later.later) ∙ ap (λ (t : List Step). t ++ later.later) (sym e);
     }
 

@@ -62,7 +62,6 @@ gone_emptied (suc n) (Char g ∷ xs) = ap (gone (suc n)) (whole (Char g ∷ xs))
 gone_emptied (suc n) (Behind ∷ xs) =
     let k = columns xs - columns (outside xs) in
     let more : 1 + columns xs - columns (outside xs) ≡ suc k = omega (arith, columns_outside xs) in
-    let less : suc n - 1 ≡ n = omega arith in
     ap (λ (m : ℕ). gone (suc n) (replicate m Empty ++ outside xs)) more ∙ gone_next Empty n (replicate k Empty ++ outside xs) refl
     ∙ gone_emptied n xs ∙ sym (gone_next Behind n xs refl)
 gone_emptied (suc n) (Mark c ∷ xs) =

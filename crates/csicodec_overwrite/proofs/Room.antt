@@ -1,10 +1,10 @@
 -- A line never holds more cells than the limit.
-use Rattle.std.proofs.Common.{◌≡◌, ◌≤◌, ℕ, ◌+◌, ◌-◌, zero, suc, Bool, false, min, List, [], ◌∷◌, ◌++◌, length, length-append, replicate, arith, ◌==◌, max, unwrap_or, Option, Some, None}
+use Rattle.std.proofs.Common.{◌≡◌, ◌≤◌, ℕ, ◌+◌, ◌-◌, zero, suc, Bool, false, min, List, [], ◌∷◌, ◌++◌, length, length-append, replicate, arith, rules, ◌==◌, max, unwrap_or, Option, Some, None}
 use Rattle.csicodec_overwrite.proofs.Common.{length-replicate, nat_tests, cond_both, Cell, Behind, Char, Empty, Glyph, Line, Pen, Step}
 use Rattle.csicodec_overwrite.proofs.{Moved.narrow_few, Moved.takes_few, Shifted.length_shifted}
 use Rattle.unicode_width.specs.Width.{char_width}
 use Rattle.csicodec_overwrite.specs.Cells.{belongs, columns, emptied, erased, glyph, gone, onto, outside, shifted, takes, to_tab_stop, width, without}
-use Rattle.csicodec_overwrite.specs.Line.{behind_columns, blank, do_all, does, does_here, entered, forward, from_stop, in_row, line, over, padded, parted, pen_behind, placed, placed_in, put, repeat, repeated, restored, size, target, to_stop, widest}
+use Rattle.csicodec_overwrite.specs.Line.{behind_columns, blank, do_all, does, does_here, entered, forward, in_row, line, over, padded, parted, pen_behind, placed, placed_in, put, repeat, repeated, restored, size, target}
 use Rattle.csicodec_overwrite.specs.declared.step.Step.TheVariants as step
 
 few_columns : (xs : List Cell) → columns xs ≤ length xs
@@ -107,27 +107,19 @@ module _ (limit : ℕ) (enough : 8 ≤ limit) where
   placed_in_size : (pen : Pen) (row : ℕ) (to : Option ℕ) (l : Line) → size l ≤ limit → size (placed_in limit pen row to l).line ≤ limit
   placed_in_size pen row to l h = grind (arith, in_row_size to l h, forward_size (target to l) blank (omega arith))
 
+  ruleset sizes = (put_size, repeated_size, forward_size, behind_size, restored_size, placed_in_size)
+
   here_size : (pen : Pen) (s : Step) (l : Line) → size l ≤ limit → size (does_here limit pen s l).line ≤ limit
-  here_size pen (step.Put c) l h = put_size pen.inserts (glyph c pen.look) l
-  here_size pen (step.Repeat n) l h = repeated_size pen pen.last n l h
   here_size pen step.Tab l h = grind (arith, put_size pen.inserts (glyph 9 pen.look) l, forward_size (to_tab_stop (columns l.left)) l h)
-  here_size pen (step.Tabs n) l h = forward_size (min (to_stop n (columns l.left)) (widest - 1 - columns l.left)) l h
-  here_size pen (step.TabsBack n) l h = behind_size (columns l.left - from_stop n (columns l.left)) l h
-  here_size pen step.NewLine l h = omega arith
-  here_size pen (step.Right n) l h = forward_size (min n (widest - 1 - columns l.left)) l h
-  here_size pen (step.Left n) l h = behind_size (columns l.left - n) l h
-  here_size pen (step.Column n) l h = behind_size (n - 1) l h
-  here_size pen step.EraseRight l h = omega (arith, parted_less l)
   here_size pen step.EraseLeft l h = omega (arith, length-replicate (columns l.left) Empty, few_columns l.left, erased_less 1 l.right)
   here_size pen step.EraseAll l h = omega (arith, length-replicate (columns l.left) Empty, few_columns l.left)
   here_size pen (step.Erase n) l h = omega (arith, parted_less l, erased_less n (parted l).right)
   here_size pen (step.Delete n) l h = omega (arith, parted_less l, gone_less n (parted l).right, without_less n (parted l).right, length_shifted false (gone n (parted l).right))
   here_size pen (step.Insert n) l h =
       omega (arith, parted_less l, joined (min n (limit - size (parted l))) Empty (shifted false (parted l).right), length_shifted false (parted l).right)
-  here_size pen step.Restore l h = restored_size pen l h
-  here_size pen (step.Leave to) l h = forward_size (target to l) blank (omega arith)
-  here_size pen (step.Row row to) l h = placed_in_size pen row to l h
-  here_size pen _ l h = h
+  here_size pen step.NewLine l h = omega arith
+  here_size pen step.EraseRight l h = omega (arith, parted_less l)
+  here_size pen _ l h = search (rules, sizes)
 
   entered_size : (s : Step) (l : Line) → size l ≤ limit → size (entered limit s l).line ≤ limit
   entered_size s l h = grind (arith, forward_size (target None l) blank (omega arith))

@@ -11,7 +11,6 @@ returns-clause-passes c =
     let line = c.in_ok-front.front in
     let marking = c.self.inside.marking in
     let end = turn marking line.last plain in
-    let before = c.args.out.now.items in
     let bare = rw (← is) at c.requires.bare in
     let blank = rw (← is) at c.requires.blank in
     rw (← is) (record {
@@ -21,8 +20,5 @@ returns-clause-passes c =
       passes = line_passes (record { reader = c.self.inside.reader; pen = c.self.inside.pen; marking = marking; line = c.self.inside.line })
           (record { reader = c.self.inside.reader; pen = c.take.new.self; marking = marking; line = c.self.inside.line }) front
           text line.last line.now returned bare refl blank refl refl c.take.ensures f;
-      out = c.in_ok-push.ensures.items ∙ ap (λ t. t ++ 10 ∷ [])
-          (c.in_ok-append_turn.ensures ∙ ap (λ l. c.append_front.new.out.items ++ turn marking line.last l) c.plain.ensures
-          ∙ ap (λ t. t ++ end) out)
-          ∙ append_assoc (before ++ text) end (10 ∷ []) ∙ append_assoc before text (end ++ 10 ∷ []);
+      out = rw (c.in_ok-push.ensures.items, c.in_ok-append_turn.ensures, c.plain.ensures, out) (simp append_assoc);
     })

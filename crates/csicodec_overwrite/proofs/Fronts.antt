@@ -7,7 +7,7 @@ use Rattle.csicodec_overwrite.proofs.{Rows.standing_settled, Texts.text_painted,
 use Rattle.csicodec_overwrite.proofs.{Stays.put_cells, Stays.puts, Written.all_on, Written.passes_on, Written.pen_on}
 use Rattle.unicode_width.specs.Width.{char_width}
 use Rattle.csicodec_tokens.proofs.Runs.{All-push}
-use Rattle.csicodec_overwrite.specs.Line.{Done, at_column, before, blank, cells_of, do_all, does, done, line, pen_behind, pen_behind_all, put}
+use Rattle.csicodec_overwrite.specs.Line.{Done, before, behind_columns, blank, cells_of, do_all, does, done, line, pen_behind, pen_behind_all, put}
 use Rattle.csicodec_overwrite.specs.Private.Front.{IsFront, IsStyled, IsWritten, IsWrittenTo, drawn, last_look, last_of_run, run_text}
 use Rattle.csicodec_overwrite.specs.Private.Plain.{AreFull, AreLines, IsLineByte, PutsPlain, closed, end_of, line_byte}
 use Rattle.csicodec_overwrite.specs.{declared.front.LineFront.LineFront, Stream.Now, Stream.Passes, Stream.Reads, Stream.none_held, Turned.AreLooks}
@@ -255,7 +255,7 @@ module _ (old new : Now) (bare : old.reader ≡ none_held) (reader : new.reader 
     marking = marking;
     line = is;
     all = ap (λ (cells : List Cell). ended old.marking (onto cells [])) (sym (standing_settled most 0 old.line))
-        ∙ sym (append-nil (ended old.marking (cells_of (at_column most 1 old.line))));
+        ∙ sym (append-nil (ended old.marking (cells_of (behind_columns most 0 old.line))));
   }
 
 pub line_passes : (old new : Now) (bytes text : List ℕ) (last now : Look) (returned : Bool) → old.reader ≡ none_held → new.reader ≡ old.reader

@@ -4,7 +4,7 @@ use Rattle.csicodec_overwrite.proofs.Common.{AllByRecursion, Sgr, Look, behind, 
 use Rattle.csicodec_overwrite.proofs.Texts.{cells_by, chars_by, line_cells, newline}
 use Rattle.csicodec_actions.proofs.AllRows.{all-append}
 use Rattle.csicodec_overwrite.specs.Cells.{begins_behind, belongs, chars_of, columns, emptied, erased, glyph, gone, is_empty, of_tab, onto, outside, shifted, takes, to_tab_stop, trimmed, untabbed, width, without}
-use Rattle.csicodec_overwrite.specs.Line.{Done, behind_columns, blank, cells_of, do_all, does, does_here, done, entered, fits, forward, fresh, from_stop, in_row, is_row, last_behind, leave, leaves_long, line, lines_of, over, padded, parted, pen_behind, placed, placed_in, put, repeat, repeated, restored, shows_nothing, size, target, to_stop, widest}
+use Rattle.csicodec_overwrite.specs.Line.{Done, behind_columns, blank, cells_of, do_all, does, does_here, done, entered, fits, forward, fresh, from_stop, in_row, is_row, leave, leaves_long, line, lines_of, over, padded, parted, pen_behind, placed, placed_in, put, repeat, repeated, restored, shows_nothing, size, target, to_stop, widest}
 use Rattle.csicodec_overwrite.specs.declared.step.Step.TheVariants as step
 
 -- either way of a test
@@ -200,11 +200,8 @@ module _ (P : ℕ → Type 0) (Q : Look → Type 0) (R : Sgr → Type 0) where
         let here = of_here limit pen s e.line q p first.1 in
         (all-append OfCells e.lines (does_here limit pen s e.line).lines first.0 here.0, here.1)
 
-    last_kept : (last : Option ℕ) (c : ℕ) → OfLast last → P c → OfLast (last_behind last c)
-    last_kept last c h p = either OfLast (width c 0 == 0) last (Some c) h p
-
     pen_kept : (pen : Pen) (s : Step) (column : ℕ) → OfPen pen → OfStep s → OfPen (pen_behind pen s column)
-    pen_kept pen (step.Put c) column q p = (q.0, last_kept pen.last c q.1 p)
+    pen_kept pen (step.Put c) column q p = (q.0, either OfLast (width c 0 == 0) pen.last (Some c) q.1 p)
     pen_kept pen (step.Attribute s) column q p = (kept pen.look s q.0 p, tt)
     pen_kept pen step.Reset column q p = (plain_kept, tt)
     pen_kept pen _ column q p = (q.0, tt)

@@ -4,14 +4,13 @@ use Rattle.std.proofs.lemmas.Bool.{and_from, and_parts}
 use Rattle.csicodec_overwrite.proofs.Common.{cond_both, AllByRecursion, all_scalars, lossy_chars, SgrInRange, Sgr, Kind, Part, IsPlain, IsShown, with_titles, all_weaker, Look, behind, plain, Step}
 use Rattle.csicodec_overwrite.proofs.{Kept.OfStep, Kept.of_shown, Texts.chars_by, Texts.shown_plain}
 use lib.Utf8.{scalar}
-use Rattle.csicodec_names.specs.{declared.enums.EraseInDisplay.EraseInDisplay, declared.modes.TerminalModeCode.TerminalModeCode}
-use Rattle.csicodec_names.specs.{declared.enums.EraseInLine.EraseInLine, declared.modes.DecPrivateModeCode.DecPrivateModeCode}
+use Rattle.csicodec_names.specs.declared.modes.DecPrivateModeCode.{DecPrivateModeCode}
 use Rattle.csicodec_actions.specs.{declared.mode.DecPrivateMode.DecPrivateMode, declared.mode.TerminalMode.TerminalMode, declared.mode.Mode.Mode}
 use Rattle.csicodec_actions.specs.{Devices.Device, declared.cursor.Cursor.Cursor, Ranges.InRange, declared.edit.Edit.Edit, Actions.Action}
 use Rattle.csicodec_actions.proofs.AllRows.{all-append}
 use Rattle.csicodec_terminal.specs.Terminal.{IsTakenFor}
 use Rattle.csicodec_clean.proofs.{Plain.scalars_lossy, Taken.taken_range}
-use Rattle.csicodec_overwrite.specs.Steps.{by_code, of_action, of_actions, of_char, of_chars, of_code, of_control, of_cursor, of_device, of_display, of_edit, of_escape, of_final, of_mode, of_part, of_reset, of_run, by_escape, of_sequence, of_set, of_string, of_terminal_code, of_terminal_mode, of_wrong}
+use Rattle.csicodec_overwrite.specs.Steps.{by_code, of_action, of_actions, of_char, of_chars, of_code, of_control, of_cursor, of_device, of_edit, of_escape, of_final, of_mode, of_run, by_escape, of_sequence, of_string, of_terminal_mode, of_wrong, switched}
 use Rattle.csicodec_overwrite.specs.{Line.blank, Line.do_all, Line.fresh, Paint.IsInRange, Reading.AreOfParts, Reading.IsOfPart, Reading.Overwrites}
 use Rattle.csicodec_overwrite.specs.{Reading.Steps, Reading.most}
 use Rattle.csicodec_names.specs.declared.enums.EraseInDisplay.TheVariants as display
@@ -70,61 +69,36 @@ escapes_good s h [] = tt
 escapes_good s h (b ∷ bytes) = both (by_escape s b) (flat_map (by_escape s) bytes) (pick (b == 27) (s ∷ []) [] (λ e. h) tt) (escapes_good s h bytes)
 
 cursor_good : (c : Cursor) → AreGood (of_cursor c)
-cursor_good (cursor.ActivePositionReport line col) = tt
-cursor_good (cursor.TabulationControl c) = tt
-cursor_good (cursor.TabulationClear c) = tt
-cursor_good (cursor.SetLeftAndRightMargins left right) = tt
-cursor_good cursor.RequestActivePositionReport = tt
 cursor_good (cursor.CursorStyle s) = tt
-cursor_good _ = (tt, tt)
-
-part_good : (p : EraseInLine) → AreGood (of_part p)
-part_good part.EraseLine = (tt, tt)
-part_good _ = (tt, tt)
-
-display_good : (p : EraseInDisplay) → AreGood (of_display p)
-display_good display.EraseScrollback = tt
-display_good _ = (tt, tt)
+cursor_good _ = search rules
 
 edit_good : (e : Edit) → AreGood (of_edit e)
-edit_good (edit.EraseInLine p) = part_good p
-edit_good (edit.EraseInDisplay p) = display_good p
-edit_good other = (tt, tt)
+edit_good (edit.EraseInLine part.EraseLine) = (tt, tt)
+edit_good (edit.EraseInDisplay display.EraseScrollback) = tt
+edit_good _ = (tt, tt)
 
 code_good : (c : DecPrivateModeCode) → AreGood (of_code c)
-code_good code.Select132Columns = (tt, tt)
 code_good code.OriginMode = (tt, tt)
-code_good code.EnableAlternateScreen = (tt, tt)
-code_good code.OptEnableAlternateScreen = (tt, tt)
-code_good code.SaveCursor = (tt, tt)
-code_good code.ClearAndEnableAlternateScreen = (tt, tt)
-code_good _ = tt
+code_good _ = search rules
 
-set_good : (c : DecPrivateModeCode) → AreGood (of_set c)
-set_good code.SaveCursor = (tt, tt)
-set_good code.ClearAndEnableAlternateScreen = (tt, (tt, tt))
-set_good c = code_good c
-
-reset_good : (c : DecPrivateModeCode) → AreGood (of_reset c)
-reset_good code.SaveCursor = (tt, tt)
-reset_good code.ClearAndEnableAlternateScreen = (tt, (tt, tt))
-reset_good c = code_good c
+switched_good : (c : DecPrivateModeCode) (set : Bool) → AreGood (switched c set)
+switched_good code.SaveCursor true = (tt, tt)
+switched_good code.SaveCursor false = (tt, tt)
+switched_good code.ClearAndEnableAlternateScreen true = (tt, (tt, tt))
+switched_good code.ClearAndEnableAlternateScreen false = (tt, (tt, tt))
+switched_good c set = code_good c
 
 private_good : (steps : DecPrivateModeCode → List Step) (m : DecPrivateMode) → ((c : DecPrivateModeCode) → AreGood (steps c)) → AreGood (by_code steps m)
 private_good steps (private.Code c) h = h c
 private_good steps (private.Unspecified n) h = tt
 
-terminal_code_good : (set : Bool) (c : TerminalModeCode) → AreGood (of_terminal_code set c)
-terminal_code_good set terminal_code.Insert = (tt, tt)
-terminal_code_good set _ = tt
-
 terminal_good : (set : Bool) (m : TerminalMode) → AreGood (of_terminal_mode set m)
-terminal_good set (terminal.Code c) = terminal_code_good set c
-terminal_good set (terminal.Unspecified n) = tt
+terminal_good set (terminal.Code terminal_code.Insert) = (tt, tt)
+terminal_good set _ = tt
 
 mode_good : (m : Mode) → AreGood (of_mode m)
-mode_good (mode.SetDecPrivateMode m) = private_good of_set m set_good
-mode_good (mode.ResetDecPrivateMode m) = private_good of_reset m reset_good
+mode_good (mode.SetDecPrivateMode m) = private_good (λ c. switched c true) m (λ c. switched_good c true)
+mode_good (mode.ResetDecPrivateMode m) = private_good (λ c. switched c false) m (λ c. switched_good c false)
 mode_good (mode.RestoreDecPrivateMode m) = private_good of_code m code_good
 mode_good (mode.SetMode m) = terminal_good true m
 mode_good (mode.ResetMode m) = terminal_good false m

@@ -11,10 +11,8 @@ glyph c look = record { char = c; look = look }
 
 -- the columns of a cell
 abbrev pub takes : Cell → ℕ
-takes Empty = 1
-takes (Char g) = 1
-takes Behind = 1
 takes (Mark c) = 0
+takes cell = 1
 
 abbrev pub columns : List Cell → ℕ
 columns [] = 0
@@ -22,34 +20,24 @@ columns (cell ∷ cells) = takes cell + columns cells
 
 -- it belongs to the character before it
 abbrev pub belongs : Cell → Bool
-belongs Empty = false
-belongs (Char g) = false
 belongs Behind = true
 belongs (Mark c) = true
+belongs cell = false
 
 -- a further column of a character stands in front
-abbrev pub is_behind : Cell → Bool
-is_behind Empty = false
-is_behind (Char g) = false
-is_behind Behind = true
-is_behind (Mark c) = false
-
 abbrev pub begins_behind : List Cell → Bool
-begins_behind [] = false
-begins_behind (cell ∷ cells) = is_behind cell
+begins_behind (Behind ∷ cells) = true
+begins_behind cells = false
 
 abbrev pub is_empty : Cell → Bool
 is_empty Empty = true
-is_empty (Char g) = false
-is_empty Behind = false
-is_empty (Mark c) = false
+is_empty cell = false
 
 -- a blank, whatever it looks like: nothing, a space, or a column of a tab
 abbrev pub is_blank : Cell → Bool
-is_blank Empty = true
 is_blank (Char g) = g.char == 32 || g.char == 9
-is_blank Behind = true
 is_blank (Mark c) = false
+is_blank cell = true
 
 -- without so many columns
 abbrev pub without : ℕ → List Cell → List Cell
@@ -87,15 +75,13 @@ erased n right = replicate (min n (columns right)) Empty ++ gone n right
 abbrev pub of_tab : Bool → Cell → Bool
 of_tab behind Empty = false
 of_tab behind (Char g) = g.char == 9
-of_tab behind Behind = behind
-of_tab behind (Mark c) = behind
+of_tab behind cell = behind
 
 -- a column of a tab is empty, and a mark stays
 abbrev pub untabbed : Bool → Cell → Cell
-untabbed tab Empty = Empty
 untabbed tab (Char g) = if tab then Empty else Char g
 untabbed tab Behind = if tab then Empty else Behind
-untabbed tab (Mark c) = Mark c
+untabbed tab cell = cell
 
 -- cells that are shifted, behind a tab or not: in a terminal a tab was a movement, and the columns that it left are empty
 abbrev pub shifted : Bool → List Cell → List Cell

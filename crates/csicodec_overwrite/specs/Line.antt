@@ -50,10 +50,6 @@ behind_columns limit n l = forward limit n (line [] (onto l.left l.right))
 abbrev pub backward : ℕ → ℕ → Line → Line
 backward limit n l = behind_columns limit (columns l.left - n) l
 
--- to a column, of which the first is 1
-abbrev pub at_column : ℕ → ℕ → Line → Line
-at_column limit column l = behind_columns limit (column - 1) l
-
 -- the columns up to a tab stop on the right, one or more, of which there is one at every eighth column
 abbrev pub to_stop : ℕ → ℕ → ℕ
 to_stop n column = 8 * n - column % 8
@@ -67,15 +63,6 @@ from_stop n column = (column - 1) % 8 + (8 * n - 7)
 -- a character in whose columns the cursor stands is gone: they are empty
 abbrev pub parted : Line → Line
 parted l = if begins_behind l.right then line (emptied l.left (without 1 (outside l.left))) (emptied l.right (outside l.right)) else l
-
-abbrev pub erase_right : Line → Line
-erase_right l = line (parted l).left []
-
-abbrev pub erase_left : Line → Line
-erase_left l = line (replicate (columns l.left) Empty) (erased 1 l.right)
-
-abbrev pub erase_all : Line → Line
-erase_all l = line (replicate (columns l.left) Empty) []
 
 abbrev pub erase : ℕ → Line → Line
 erase n l = line (parted l).left (erased n (parted l).right)
@@ -157,7 +144,7 @@ is_row (Some own) row = own == row
 -- to a column of the same row, or to the same column
 abbrev pub in_row : ℕ → Option ℕ → Line → Line
 in_row limit None l = l
-in_row limit (Some column) l = at_column limit column l
+in_row limit (Some column) l = behind_columns limit (column - 1) l
 
 -- to a place in a row: where that was given last, and wasn't left since, the line goes on
 abbrev pub placed_in : ℕ → Pen → ℕ → Option ℕ → Line → Done
@@ -176,13 +163,10 @@ HasRoom limit columns cells (c ∷ chars) = MatchBool (c == 10) (HasRoom limit 0
 abbrev pub fresh : Pen
 fresh = record { look = plain; inserts = false; last = None; saved = 0; here = false; row = None }
 
--- a mark isn't repeated, but the character before it
-abbrev pub last_behind : Option ℕ → ℕ → Option ℕ
-last_behind last c = if width c 0 == 0 then last else Some c
-
--- behind a step that is done in this column: but for characters nothing is repeated, and no column is saved that no terminal's row has
+-- behind a step that is done in this column: but for characters nothing is repeated, of a mark the character before it, and no column is
+-- saved that no terminal's row has
 abbrev pub pen_behind : Pen → Step → ℕ → Pen
-pen_behind pen (step.Put c) column = record pen { last = last_behind pen.last c }
+pen_behind pen (step.Put c) column = record pen { last = if width c 0 == 0 then pen.last else Some c }
 pen_behind pen (step.Attribute s) column = record pen { look = behind pen.look s; last = None }
 pen_behind pen (step.Inserts inserts) column = record pen { inserts = inserts; last = None }
 pen_behind pen step.Save column = record pen { last = None; saved = if nat_lt column widest then column else 0; here = nat_lt column widest }
@@ -216,10 +200,10 @@ does_here limit pen (step.TabsBack n) l = done [] (backward limit (from_stop n (
 does_here limit pen step.NewLine l = done (cells_of l ∷ []) blank
 does_here limit pen (step.Right n) l = done [] (rightward limit n l)
 does_here limit pen (step.Left n) l = done [] (backward limit n l)
-does_here limit pen (step.Column n) l = done [] (at_column limit n l)
-does_here limit pen step.EraseRight l = done [] (erase_right l)
-does_here limit pen step.EraseLeft l = done [] (erase_left l)
-does_here limit pen step.EraseAll l = done [] (erase_all l)
+does_here limit pen (step.Column n) l = done [] (behind_columns limit (n - 1) l)
+does_here limit pen step.EraseRight l = done [] (line (parted l).left [])
+does_here limit pen step.EraseLeft l = done [] (line (replicate (columns l.left) Empty) (erased 1 l.right))
+does_here limit pen step.EraseAll l = done [] (line (replicate (columns l.left) Empty) [])
 does_here limit pen (step.Erase n) l = done [] (erase n l)
 does_here limit pen (step.Delete n) l = done [] (delete n l)
 does_here limit pen (step.Insert n) l = done [] (insert limit n l)

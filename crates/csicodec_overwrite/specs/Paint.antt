@@ -6,10 +6,9 @@ use Rattle.csicodec_base.specs.{declared.sgr.Sgr.Sgr, SgrText.sgr_text}
 use Rattle.csicodec_actions.specs.Ranges.{ColorInRange}
 use Rattle.csicodec_html.specs.{declared.look.Look.Look, Look.is_default, Look.is_none, Look.is_normal, Look.plain, Page.escaped, Page.piece_texts}
 use Rattle.csicodec_html.specs.{Page.turn as tags}
-use Rattle.csicodec_overwrite.specs.{declared.cells.Cell.Cell, declared.marking.Marking.Marking, Cells.chars_of, declared.cells.Cell.TheVariants.Behind}
-use Rattle.csicodec_overwrite.specs.{declared.cells.Cell.TheVariants.Char, declared.cells.Cell.TheVariants.Empty, declared.cells.Cell.TheVariants.Mark}
-use Rattle.csicodec_overwrite.specs.{declared.marking.Marking.TheVariants.Page, declared.marking.Marking.TheVariants.Plain}
-use Rattle.csicodec_overwrite.specs.{declared.marking.Marking.TheVariants.Styled}
+use Rattle.csicodec_overwrite.specs.{declared.cells.Cell.Cell, declared.marking.Marking.Marking, Cells.chars_of, declared.cells.Cell.TheVariants.Char}
+use Rattle.csicodec_overwrite.specs.{declared.cells.Cell.TheVariants.Empty, declared.marking.Marking.TheVariants.Page}
+use Rattle.csicodec_overwrite.specs.{declared.marking.Marking.TheVariants.Plain, declared.marking.Marking.TheVariants.Styled}
 use Rattle.csicodec_base.specs.declared.sgr.Sgr.TheVariants as sgr
 use Rattle.csicodec_html.specs.contracts.look.LookPartialEq.TheImpl as look_eq
 
@@ -77,8 +76,7 @@ turn (Page m) old new = if same old new then [] else piece_texts (tags m true ol
 abbrev pub look_of : Look → Cell → Look
 look_of look Empty = plain
 look_of look (Char g) = g.look
-look_of look Behind = look
-look_of look (Mark c) = look
+look_of look cell = look
 
 -- cells in turn, and at the end nothing is set
 abbrev pub paint : Marking → Look → List Cell → List ℕ

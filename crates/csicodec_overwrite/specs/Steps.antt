@@ -3,8 +3,7 @@ use Rattle.std.specs.Prelude.{ℕ, ◌==◌, ◌&&◌, ◌||◌, nat_lt, not, mi
 use Rattle.std.specs.List.{flat_map, list_any}
 use Rattle.bstr.specs.Utf8.{lossy_chars}
 use Rattle.csicodec_tokens.specs.{declared.param.CsiParam.CsiParam, declared.param.CsiParam.TheVariants.Integer, declared.param.CsiParam.TheVariants.P}
-use Rattle.csicodec_names.specs.{declared.enums.EraseInDisplay.EraseInDisplay, declared.modes.TerminalModeCode.TerminalModeCode}
-use Rattle.csicodec_names.specs.{declared.enums.EraseInLine.EraseInLine, declared.modes.DecPrivateModeCode.DecPrivateModeCode}
+use Rattle.csicodec_names.specs.declared.modes.DecPrivateModeCode.{DecPrivateModeCode}
 use Rattle.csicodec_actions.specs.{declared.cursor.Cursor.Cursor, declared.edit.Edit.Edit, Devices.Device, declared.mode.DecPrivateMode.DecPrivateMode}
 use Rattle.csicodec_actions.specs.{declared.mode.TerminalMode.TerminalMode, declared.mode.Mode.Mode, Actions.Action}
 use Rattle.csicodec_clean.specs.Shown.{shown}
@@ -96,20 +95,8 @@ of_cursor (cursor.PrecedingLine n) = step.Leave (Some 1) ∷ []
 of_cursor (cursor.SetTopAndBottomMargins top bottom) = step.Leave (Some 1) ∷ []
 of_cursor _ = []
 
--- EL (8.3.41)
-abbrev pub of_part : EraseInLine → List Step
-of_part part.EraseToEndOfLine = step.EraseRight ∷ []
-of_part part.EraseToStartOfLine = step.EraseLeft ∷ []
-of_part part.EraseLine = step.EraseAll ∷ []
-
--- ED (8.3.39): up to the end of the page, and so to that of the line; otherwise it may erase other rows
-abbrev pub of_display : EraseInDisplay → List Step
-of_display display.EraseToEndOfDisplay = step.EraseRight ∷ []
-of_display display.EraseToStartOfDisplay = step.Leave None ∷ []
-of_display display.EraseDisplay = step.Leave None ∷ []
-of_display display.EraseScrollback = []
-
--- ECH (8.3.38), DCH (8.3.26), ICH (8.3.64), REP (8.3.103), EL and ED; SU (8.3.147), SD (8.3.113), IL (8.3.67) and DL (8.3.32) move rows
+-- ECH (8.3.38), DCH (8.3.26), ICH (8.3.64), REP (8.3.103) and EL (8.3.41); ED (8.3.39) up to the end of the page, and so to that of the
+-- line; otherwise that may erase other rows. SU (8.3.147), SD (8.3.113), IL (8.3.67) and DL (8.3.32) move rows
 abbrev pub of_edit : Edit → List Step
 of_edit (edit.EraseCharacter n) = step.Erase (as_far n) ∷ []
 of_edit (edit.DeleteCharacter n) = step.Delete (as_far n) ∷ []
@@ -119,8 +106,13 @@ of_edit (edit.ScrollUp n) = step.Leave None ∷ []
 of_edit (edit.ScrollDown n) = step.Leave None ∷ []
 of_edit (edit.InsertLine n) = step.Leave (Some 1) ∷ []
 of_edit (edit.DeleteLine n) = step.Leave (Some 1) ∷ []
-of_edit (edit.EraseInLine p) = of_part p
-of_edit (edit.EraseInDisplay p) = of_display p
+of_edit (edit.EraseInLine part.EraseToEndOfLine) = step.EraseRight ∷ []
+of_edit (edit.EraseInLine part.EraseToStartOfLine) = step.EraseLeft ∷ []
+of_edit (edit.EraseInLine part.EraseLine) = step.EraseAll ∷ []
+of_edit (edit.EraseInDisplay display.EraseToEndOfDisplay) = step.EraseRight ∷ []
+of_edit (edit.EraseInDisplay display.EraseToStartOfDisplay) = step.Leave None ∷ []
+of_edit (edit.EraseInDisplay display.EraseDisplay) = step.Leave None ∷ []
+of_edit (edit.EraseInDisplay display.EraseScrollback) = []
 
 -- the modes that go to another row: DECCOLM, DECOM, and the alternate screen with the cursor that is saved
 abbrev pub of_code : DecPrivateModeCode → List Step
@@ -132,16 +124,13 @@ of_code code.SaveCursor = step.Leave None ∷ []
 of_code code.ClearAndEnableAlternateScreen = step.Leave None ∷ []
 of_code _ = []
 
--- and where they are set and reset: 1048 and 1049 save the cursor and come back to it
-abbrev pub of_set : DecPrivateModeCode → List Step
-of_set code.SaveCursor = step.Save ∷ []
-of_set code.ClearAndEnableAlternateScreen = step.Save ∷ (step.Leave None ∷ [])
-of_set c = of_code c
-
-abbrev pub of_reset : DecPrivateModeCode → List Step
-of_reset code.SaveCursor = step.Restore ∷ []
-of_reset code.ClearAndEnableAlternateScreen = step.Leave None ∷ (step.Restore ∷ [])
-of_reset c = of_code c
+-- and where they are set, or reset: 1048 and 1049 save the cursor and come back to it
+abbrev pub switched : DecPrivateModeCode → Bool → List Step
+switched code.SaveCursor true = step.Save ∷ []
+switched code.SaveCursor false = step.Restore ∷ []
+switched code.ClearAndEnableAlternateScreen true = step.Save ∷ (step.Leave None ∷ [])
+switched code.ClearAndEnableAlternateScreen false = step.Leave None ∷ (step.Restore ∷ [])
+switched c set = of_code c
 
 -- a private mode by its code
 abbrev pub by_code : (DecPrivateModeCode → List Step) → DecPrivateMode → List Step
@@ -149,18 +138,14 @@ by_code steps (private.Code c) = steps c
 by_code steps (private.Unspecified n) = []
 
 -- IRM (7.2.10)
-abbrev pub of_terminal_code : Bool → TerminalModeCode → List Step
-of_terminal_code set terminal_code.Insert = step.Inserts set ∷ []
-of_terminal_code set _ = []
-
 abbrev pub of_terminal_mode : Bool → TerminalMode → List Step
-of_terminal_mode set (terminal.Code c) = of_terminal_code set c
-of_terminal_mode set (terminal.Unspecified n) = []
+of_terminal_mode set (terminal.Code terminal_code.Insert) = step.Inserts set ∷ []
+of_terminal_mode set _ = []
 
 -- DECSET, DECRST, XTRESTORE, SM (8.3.125) and RM (8.3.106)
 abbrev pub of_mode : Mode → List Step
-of_mode (mode.SetDecPrivateMode m) = by_code of_set m
-of_mode (mode.ResetDecPrivateMode m) = by_code of_reset m
+of_mode (mode.SetDecPrivateMode m) = by_code (λ c. switched c true) m
+of_mode (mode.ResetDecPrivateMode m) = by_code (λ c. switched c false) m
 of_mode (mode.RestoreDecPrivateMode m) = by_code of_code m
 of_mode (mode.SetMode m) = of_terminal_mode true m
 of_mode (mode.ResetMode m) = of_terminal_mode false m

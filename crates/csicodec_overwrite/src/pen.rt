@@ -1,7 +1,7 @@
 //! How characters are put, and what is saved.
 ghost use Rattle.std.specs.Prelude.{◌≡◌, true};
 ghost use Rattle.csicodec_html.specs.Look.{behind};
-ghost use Rattle.csicodec_overwrite.specs.{Line.fresh, Line.is_row, Line.last_behind, Line.pen_behind, Private.Plain.PutsPlain};
+ghost use Rattle.csicodec_overwrite.specs.{Line.fresh, Line.is_row, Line.pen_behind, Private.Plain.PutsPlain};
 
 use crate::step::{Step, WIDEST};
 use crate::width::width;
@@ -9,7 +9,7 @@ use csicodec_base::Sgr;
 use csicodec_html::Look;
 
 /// How characters are put that come now, and the place that is saved.
-#[derive(Clone, Copy, PartialEq, Eq, Debug)]
+#[derive(Clone, Copy)]
 pub struct Pen {
     /// How they look.
     pub look: Look,
@@ -43,16 +43,6 @@ pub(crate) fn set_look(look: &mut Look, attribute: &Sgr)
         Sgr::Overline(overline) => look.overline = overline,
         Sgr::Blink(_) | Sgr::Invisible(_) | Sgr::Font(_) | Sgr::VerticalAlign(_) => (),
     }
-}
-
-/// What REP repeats behind one more character: a mark isn't repeated.
-fn last_behind(last: Option<char>, char: char) -> Option<char>
-    ensures { result ≡ last_behind last char }
-{
-    if width(char, 0) == 0 {
-        return last;
-    }
-    Some(char)
 }
 
 impl Pen {
@@ -101,7 +91,9 @@ impl Pen {
         let last = self.last;
         self.last = None;
         match step {
-            Step::Put(char) => self.last = last_behind(last, char),
+            // A mark isn't repeated.
+            Step::Put(char) if width(char, 0) == 0 => self.last = last,
+            Step::Put(char) => self.last = Some(char),
             Step::Attribute(attribute) => set_look(&mut self.look, &attribute),
             Step::Inserts(inserts) => self.inserts = inserts,
             Step::Save => {

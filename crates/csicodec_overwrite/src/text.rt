@@ -4,7 +4,7 @@ ghost use Rattle.std.specs.{Prelude.IfOk, List.flat_map, List.list_any};
 ghost use Rattle.csicodec_actions.specs.Devices.{device_of};
 ghost use Rattle.csicodec_parser.specs.ActionOf.{action_of};
 ghost use Rattle.csicodec_clean.specs.Shown.{IsCut, IsRead};
-ghost use Rattle.csicodec_overwrite.specs.Steps.{as_far, by_code, by_escape, is_mark, may_move, of_action, of_actions, of_char, of_chars, of_code, of_control, of_cursor, of_device, of_edit, of_escape, of_final, of_mode, of_reset, of_run, of_set, of_terminal_mode, of_unread, stops};
+ghost use Rattle.csicodec_overwrite.specs.Steps.{as_far, by_code, by_escape, is_mark, may_move, of_action, of_actions, of_char, of_chars, of_code, of_control, of_cursor, of_device, of_edit, of_escape, of_final, of_mode, of_run, of_terminal_mode, of_unread, stops, switched};
 ghost use Rattle.csicodec_overwrite.specs.Private.Spans.{if_some};
 
 use crate::step::{Step, WIDEST};
@@ -98,16 +98,6 @@ pub(crate) fn append_escape(bytes: &[u8], steps: &mut Vec<Step>) -> Result<(), A
     Ok(steps.push(Step::Other)?)
 }
 
-/// Appends the step, if this is an ESC.
-fn append_at_escape(byte: u8, step: Step, steps: &mut Vec<Step>) -> Result<(), AllocError>
-    ensures { OnOk result (steps.new.items ≡ steps.old.items ++ by_escape step byte) }
-{
-    if byte == 0x1b {
-        steps.push(step)?;
-    }
-    Ok(())
-}
-
 /// Appends the step for each ESC, of which one introduces each control string, and each sequence that went wrong.
 pub(crate) fn append_by_escape(
     bytes: &[u8],
@@ -118,7 +108,9 @@ pub(crate) fn append_by_escape(
         (steps.new.items ≡ steps.old.items ++ flat_map (by_escape step) bytes.now) }
 {
     for byte in bytes {
-        append_at_escape(*byte, step, steps)?;
+        if *byte == 0x1b {
+            steps.push(step)?;
+        }
     }
     Ok(())
 }
@@ -195,28 +187,17 @@ fn code_step(code: DecPrivateModeCode) -> Option<Step>
     }
 }
 
-/// Appends what a private mode does that is set.
-fn append_set(mode: DecPrivateMode, steps: &mut Vec<Step>) -> Result<(), AllocError>
-    ensures { OnOk result (steps.new.items ≡ steps.old.items ++ by_code of_set mode) }
+/// Appends what a private mode does that is set or reset.
+fn append_switched(set: bool, mode: DecPrivateMode, steps: &mut Vec<Step>) -> Result<(), AllocError>
+    ensures { OnOk result (steps.new.items ≡ steps.old.items ++ by_code (λ code. switched code set) mode) }
 {
     match mode {
-        DecPrivateMode::Code(DecPrivateModeCode::SaveCursor) => steps.push(Step::Save)?,
-        DecPrivateMode::Code(DecPrivateModeCode::ClearAndEnableAlternateScreen) => {
+        DecPrivateMode::Code(DecPrivateModeCode::SaveCursor) if set => steps.push(Step::Save)?,
+        DecPrivateMode::Code(DecPrivateModeCode::SaveCursor) => steps.push(Step::Restore)?,
+        DecPrivateMode::Code(DecPrivateModeCode::ClearAndEnableAlternateScreen) if set => {
             steps.push(Step::Save)?;
             steps.push(Step::Leave(None))?;
         }
-        DecPrivateMode::Code(code) => append_some(code_step(code), steps)?,
-        DecPrivateMode::Unspecified(_) => {}
-    }
-    Ok(())
-}
-
-/// Appends what a private mode does that is reset.
-fn append_reset(mode: DecPrivateMode, steps: &mut Vec<Step>) -> Result<(), AllocError>
-    ensures { OnOk result (steps.new.items ≡ steps.old.items ++ by_code of_reset mode) }
-{
-    match mode {
-        DecPrivateMode::Code(DecPrivateModeCode::SaveCursor) => steps.push(Step::Restore)?,
         DecPrivateMode::Code(DecPrivateModeCode::ClearAndEnableAlternateScreen) => {
             steps.push(Step::Leave(None))?;
             steps.push(Step::Restore)?;
@@ -242,8 +223,8 @@ fn append_mode(mode: &Mode, steps: &mut Vec<Step>) -> Result<(), AllocError>
     ensures { OnOk result (steps.new.items ≡ steps.old.items ++ of_mode mode.now) }
 {
     match mode {
-        Mode::SetDecPrivateMode(mode) => append_set(*mode, steps),
-        Mode::ResetDecPrivateMode(mode) => append_reset(*mode, steps),
+        Mode::SetDecPrivateMode(mode) => append_switched(true, *mode, steps),
+        Mode::ResetDecPrivateMode(mode) => append_switched(false, *mode, steps),
         Mode::RestoreDecPrivateMode(DecPrivateMode::Code(code)) => {
             append_some(code_step(*code), steps)
         }

@@ -1,11 +1,8 @@
 -- What the private steps of a reader say of each other. No promise rests on this file.
 use Rattle.std.specs.Prelude.{ℕ, ◌≡◌, Bool, List, [], ◌∷◌, ◌++◌, Option, Some, None}
-use Rattle.csicodec_actions.specs.Actions.{Action}
 use Rattle.csicodec_spans.specs.{declared.table.Kind.Kind, declared.table.Mode.Mode}
-use Rattle.csicodec_terminal.specs.Terminal.{IsTakenFor}
 use Rattle.csicodec_clean.specs.Shown.{IsRead}
-use Rattle.csicodec_overwrite.specs.{declared.step.Step.Step, Stream.Goes, Steps.of_chars, Steps.of_escape, Steps.of_run, Steps.of_sequence, Steps.of_string}
-use Rattle.csicodec_overwrite.specs.{Steps.of_wrong}
+use Rattle.csicodec_overwrite.specs.{declared.step.Step.Step, Reading.IsOfPart, Stream.Goes, Steps.of_chars}
 use Rattle.csicodec_spans.specs.declared.table.Kind.TheVariants as kind
 
 -- a step, if there is one
@@ -17,11 +14,7 @@ if_some (Some s) = s ∷ []
 abbrev pub IsGiven : Kind → List ℕ → List ℕ → List Step → List ℕ → Type 0
 IsGiven kind.Text held bytes steps left = (chars : List ℕ) × IsRead (held ++ bytes) chars left
     × (steps ≡ of_chars chars)
-IsGiven kind.Csi held bytes steps left = (actions : List Action) × IsTakenFor bytes actions
-    × (steps ≡ of_run held ++ of_sequence actions) × (left ≡ [])
-IsGiven kind.Esc held bytes steps left = (steps ≡ of_run held ++ of_escape bytes) × (left ≡ [])
-IsGiven kind.Str held bytes steps left = (steps ≡ of_run held ++ of_string bytes) × (left ≡ [])
-IsGiven kind.Other held bytes steps left = (steps ≡ of_run held ++ of_wrong bytes) × (left ≡ [])
+IsGiven k held bytes steps left = IsOfPart k held bytes steps left
 
 -- from what is open and held to what is then: the parts in front of the rest, and the steps that came for them
 abbrev pub GoesTo : Mode → Bool → List ℕ → List ℕ → List ℕ → Mode → Bool → List ℕ → List Step

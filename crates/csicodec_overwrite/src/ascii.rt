@@ -96,10 +96,8 @@ pub(crate) fn split_run(text: &[u8], room: usize) -> (&[u8], &[u8])
 fn range_len(bytes: &[u8], low: u8, high: u8) -> usize
     ensures { result ≤ length bytes.now }
 {
-    match bytes.iter().position(|byte| *byte < low || high < *byte) {
-        Some(len) => len,
-        None => bytes.len(),
-    }
+    let len = bytes.iter().position(|byte| *byte < low || high < *byte);
+    len.unwrap_or(bytes.len())
 }
 
 /// How many bytes in front are from 20 to 3f, as those of a list of parameters.

@@ -10,14 +10,14 @@ use std::alloc::{AllocError, Global};
 use std::marker::Model;
 
 /// A character, and how it looked when it was written.
-#[derive(Clone, Copy, PartialEq, Eq, Debug)]
+#[derive(Clone, Copy)]
 pub struct Glyph {
     pub char: char,
     pub look: Look,
 }
 
 /// What stands in a line.
-#[derive(Clone, Copy, PartialEq, Eq, Debug)]
+#[derive(Clone, Copy)]
 pub enum Cell {
     /// A column on which nothing stands: it was never written, or it is erased.
     Empty,
@@ -95,11 +95,9 @@ fn append_glyphs(cells: &mut Vec<Cell>, run: &[u8], look: Look)
     requires { vec_len cells.old + length run.now ≤ vec_capacity cells.old }
     ensures { cells.new.items ≡ cells.old.items ++ glyphs look run.now }
 {
-    let mut rest = run;
-    while let Some((byte, behind)) = rest.split_first() {
+    for byte in run {
         let char = char::from(*byte);
         cells.push_reserved(Cell::Char(Glyph { char, look }));
-        rest = behind;
     }
 }
 
@@ -321,30 +319,18 @@ impl Side {
 
     /// Gives so many columns to another side, and with `marks` what stands behind them and takes none.
     #[tactic(auto, using(crate::proofs::Moved::passed_few, crate::proofs::Moved::passed_columns))]
-    fn pass(&mut self, to: &mut Side, count: usize, marks: bool) -> Result<(), AllocError>
+    pub(crate) fn pass(
+        &mut self,
+        to: &mut Side,
+        count: usize,
+        marks: bool,
+    ) -> Result<(), AllocError>
         ensures kept { OnOk result (self.new ≡ drop (passed marks count self.old) self.old) }
         ensures given { OnOk result (to.new ≡ onto (take (passed marks count self.old) self.old) to.old) }
     {
         let cells = passed(&self.cells, count, marks);
         let wide = count.min(self.width);
         self.give(to, cells, wide)
-    }
-
-    /// Gives so many columns to the right side, of which this is the left.
-    #[tactic(auto, using(crate::proofs::Moved::given_all, crate::proofs::Moved::passed_left))]
-    pub(crate) fn give_back(&mut self, to: &mut Side, count: usize) -> Result<(), AllocError>
-        ensures same { OnOk result (onto self.new to.new ≡ onto self.old to.old) }
-        ensures left { OnOk result (columns self.new ≡ columns self.old - count) }
-    {
-        self.pass(to, count, false)
-    }
-
-    /// Gives so many columns to the left side, of which this is the right.
-    #[tactic(auto, using(crate::proofs::Moved::passed_over))]
-    pub(crate) fn give_over(&mut self, to: &mut Side, count: usize) -> Result<(), AllocError>
-        ensures { OnOk result (line to.new self.new ≡ over count to.old self.old) }
-    {
-        self.pass(to, count, true)
     }
 
     /// Puts a run of characters nearest, which look so, in turn.

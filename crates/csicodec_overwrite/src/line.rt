@@ -1,9 +1,9 @@
 //! A line and its cursor.
 ghost use Rattle.std.specs.{Prelude.◌≡◌, Prelude.◌<◌, Prelude.◌≤◌, Prelude.◌*◌, Prelude.◌-◌, Prelude.◌++◌, Prelude.◌+◌, Prelude.[], Prelude.false, Prelude.length};
 ghost use Rattle.std.specs.{Prelude.nat_lt, Prelude.true, Prelude.IfOk, Prelude.OnOk, List.AllByRecursion};
-ghost use Rattle.csicodec_overwrite.specs.Line.{alters, behind_columns, blank, cells_of, delete, does_here, entered, erase, fits, forward, insert, lines_of, parted, placed, put, repeated, size, widest};
-ghost use Rattle.csicodec_overwrite.specs.{Cells.columns, Cells.glyph, Cells.onto, Paint.ended, Paint.text_of, Paint.texts_of, Reading.most, Private.Plain.IsLineByte};
-ghost use Rattle.csicodec_overwrite.specs.{Private.Plain.PutsRun, Private.Row.Does, Private.Row.IsHere, Private.Row.settled, Private.Sides.placed_many};
+ghost use Rattle.csicodec_overwrite.specs.Line.{alters, behind_columns, blank, cells_of, delete, does_here, entered, erase, forward, insert, lines_of, parted, placed, put, repeated, size, widest};
+ghost use Rattle.csicodec_overwrite.specs.{Cells.columns, Cells.glyph, Paint.text_of, Paint.texts_of, Reading.most, Private.Plain.IsLineByte, Private.Plain.PutsRun};
+ghost use Rattle.csicodec_overwrite.specs.{Private.Row.Does, Private.Row.IsHere, Private.Row.settled, Private.Sides.placed_many};
 
 use crate::ascii::split_run;
 use crate::cells::{Cell, Glyph, Side};
@@ -50,20 +50,13 @@ impl Line {
         room.saturating_sub(self.right.len())
     }
 
-    /// Whether it has room for a character of so many columns.
-    #[tactic(auto, using(crate::proofs::Moved::fits_within))]
-    fn fits(&self, columns: usize) -> bool
-        ensures { result ≡ fits most columns self.now }
-    {
-        columns.max(1) <= self.room()
-    }
-
     /// So many columns to the right.
+    #[tactic(auto, using(crate::proofs::Moved::passed_over))]
     fn forward(&mut self, count: usize) -> Result<(), AllocError>
         ensures { OnOk result (self.new ≡ forward most count self.old) }
     {
         let missing = count.saturating_sub(self.right.columns());
-        self.right.give_over(&mut self.left, count)?;
+        self.right.pass(&mut self.left, count, true)?;
         let some = missing.min(self.room());
         self.left.push_empty(some)
     }
@@ -76,20 +69,13 @@ impl Line {
         missing.saturating_sub(self.right.columns())
     }
 
-    /// The columns left of the cursor, where it is to go behind so many.
-    #[tactic(auto, using(crate::proofs::Rows::reached))]
-    fn reached(&self, count: usize) -> usize
-        ensures { result ≡ columns (behind_columns most count self.now).left }
-    {
-        count.saturating_sub(self.missing(count).saturating_sub(self.room()))
-    }
-
     /// The columns left of the cursor, where it stands or is to go.
+    #[tactic(auto, using(crate::proofs::Rows::reached))]
     pub(crate) fn column(&self, to: Option<usize>) -> usize
         ensures { result ≡ columns (settled most to self.now).left }
     {
         match to {
-            Some(count) => self.reached(count),
+            Some(count) => count.saturating_sub(self.missing(count).saturating_sub(self.room())),
             None => self.left.columns(),
         }
     }
@@ -100,7 +86,7 @@ impl Line {
     {
         let column = self.left.columns();
         self.left
-            .give_back(&mut self.right, column.saturating_sub(count))?;
+            .pass(&mut self.right, column.saturating_sub(count), false)?;
         self.forward(count.saturating_sub(column))
     }
 
@@ -282,33 +268,8 @@ impl Line {
         Ok(())
     }
 
-    /// Ends the line.
-    #[tactic(auto, using(crate::proofs::Moved::line_ends))]
-    pub(crate) fn end(&mut self, marking: &Marking, out: &mut Vec<u8>) -> Result<(), AllocError>
-        ensures text { OnOk result
-            (out.new.items ≡ out.old.items ++ ended marking.now (cells_of self.old)) }
-        ensures none { OnOk result (self.new ≡ blank) }
-    {
-        self.take_text(marking, out)?;
-        out.push(b'\n')?;
-        Ok(())
-    }
-
-    /// Appends what stands on the left, the farthest first, and a newline.
-    #[tactic(auto, using(crate::proofs::Moved::line_ends))]
-    fn end_left(&mut self, marking: &Marking, out: &mut Vec<u8>) -> Result<(), AllocError>
-        requires { self.old.right ≡ [] }
-        ensures text { OnOk result
-            (out.new.items ≡ out.old.items ++ ended marking.now (onto self.old.left [])) }
-        ensures none { OnOk result (self.new ≡ blank) }
-    {
-        append_cells(self.left.from_farthest(), marking, out)?;
-        self.left.clear();
-        out.push(b'\n')?;
-        Ok(())
-    }
-
     /// Ends the line, if more than blanks stands in it.
+    #[tactic(auto, using(crate::proofs::Moved::line_ends))]
     pub(crate) fn end_some(
         &mut self,
         marking: &Marking,
@@ -324,10 +285,14 @@ impl Line {
             self.left.clear();
             return Ok(());
         }
-        self.end_left(marking, out)
+        append_cells(self.left.from_farthest(), marking, out)?;
+        self.left.clear();
+        out.push(b'\n')?;
+        Ok(())
     }
 
     /// Puts a character, on a line of its own where this has no room for it.
+    #[tactic(auto, using(crate::proofs::Moved::fits_within, crate::proofs::Moved::line_ends))]
     pub(crate) fn put(
         &mut self,
         pen: &Pen,
@@ -343,10 +308,11 @@ impl Line {
             look: pen.look,
         };
         let columns = width(char, self.left.columns());
-        if self.fits(columns) {
+        if columns.max(1) <= self.room() {
             return self.place(pen.inserts, glyph, columns);
         }
-        self.end(marking, out)?;
+        self.take_text(marking, out)?;
+        out.push(b'\n')?;
         self.place(pen.inserts, glyph, width(char, 0))
     }
 

@@ -128,10 +128,7 @@ impl Overwriter {
             (λ o. IfNone o ((self.new ≡ self.old) × (out.new.items ≡ out.old.items))) }
         ensures reader { OnOk result (self.new.reader ≡ none_held) }
     {
-        if bytes.is_empty() {
-            return Ok(None);
-        }
-        if behind_end(bytes).is_some() {
+        if bytes.is_empty() || behind_end(bytes).is_some() {
             return Ok(None);
         }
         let (front, rest) = bytes.split_at(odd_len(bytes, false));

@@ -1,6 +1,6 @@
 //! A line whose cursor goes to a column only where something is done there, so that going to and fro costs nothing.
 ghost use Rattle.std.specs.{Prelude.◌≡◌, Prelude.◌++◌, Prelude.true, Prelude.IfOk, Prelude.OnOk, List.AllByRecursion};
-ghost use Rattle.csicodec_overwrite.specs.Line.{backward, behind_columns, blank, cells_of, done, does, forward, from_stop, in_row, lines_of, pen_behind, restored, rightward, target, to_stop};
+ghost use Rattle.csicodec_overwrite.specs.Line.{backward, behind_columns, blank, cells_of, done, does, forward, in_row, lines_of, pen_behind, restored, rightward, target};
 ghost use Rattle.csicodec_overwrite.specs.{Cells.columns, Reading.most, Steps.of_chars, Paint.ended, Paint.text_of, declared.step.Step.TheVariants.Tab};
 ghost use Rattle.csicodec_overwrite.specs.{Private.Plain.IsLineByte, Private.Plain.PutsRun, Private.Row.Does, Private.Row.DoesAll, Private.Row.IsHere};
 
@@ -94,24 +94,6 @@ impl Row {
         self.go(column)
     }
 
-    /// So many tab stops to the right.
-    fn tabs(&mut self, count: u32) -> Result<(), AllocError>
-        ensures { OnOk result (self.new ≡ rightward most (to_stop count (columns self.old.left)) self.old) }
-    {
-        let column = self.column();
-        self.right((8 * (count as usize)).saturating_sub(column % 8))
-    }
-
-    /// So many tab stops to the left.
-    fn tabs_back(&mut self, count: u32) -> Result<(), AllocError>
-        ensures { OnOk result
-            (self.new ≡ backward most (from_stop count (columns self.old.left)) self.old) }
-    {
-        let column = self.column();
-        let stops = (8 * (count as usize)).saturating_sub(7);
-        self.back(column.saturating_sub(1) % 8 + stops)
-    }
-
     /// Ends the line, if more than blanks stands in it, and goes behind so many columns of another.
     #[tactic(auto, using(crate::proofs::Rows::standing_row))]
     fn go_on(
@@ -177,14 +159,14 @@ impl Row {
     }
 
     /// Ends the line.
-    #[tactic(auto, using(crate::proofs::Rows::standing_row))]
+    #[tactic(auto, using(crate::proofs::Moved::line_ends))]
     pub(crate) fn end(&mut self, marking: &Marking, out: &mut Vec<u8>) -> Result<(), AllocError>
         ensures text { OnOk result
             (out.new.items ≡ out.old.items ++ ended marking.now (cells_of self.old)) }
         ensures none { OnOk result (self.new ≡ blank) }
     {
-        self.line.end(marking, out)?;
-        self.to = None;
+        self.take_text(marking, out)?;
+        out.push(b'\n')?;
         Ok(())
     }
 
@@ -233,8 +215,14 @@ impl Row {
             Step::Column(column) => self.go(column.saturating_sub(1) as usize),
             Step::Right(count) => self.right(count as usize),
             Step::Left(count) => self.back(count as usize),
-            Step::Tabs(count) => self.tabs(count),
-            Step::TabsBack(count) => self.tabs_back(count),
+            Step::Tabs(count) => {
+                let behind = self.column() % 8;
+                self.right((8 * (count as usize)).saturating_sub(behind))
+            }
+            Step::TabsBack(count) => {
+                let behind = self.column().saturating_sub(1) % 8;
+                self.back(behind + (8 * (count as usize)).saturating_sub(7))
+            }
             Step::Restore => self.restore(pen, marking, out),
             Step::Row(row, to) if pen.is_in(row) => self.in_row(to),
             Step::Row(_, to) | Step::Leave(to) => {

@@ -7,7 +7,7 @@ use csicodec_base::Sgr;
 pub(crate) const WIDEST: u32 = 512;
 
 /// What a character or an action does in a line. Counts are 1 or more where they were read.
-#[derive(Clone, Copy, PartialEq, Eq, Debug)]
+#[derive(Clone, Copy)]
 pub enum Step {
     /// A character comes, in place of what stands at the cursor, or in insert mode in front of it.
     Put(char),

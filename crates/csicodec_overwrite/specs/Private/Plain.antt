@@ -1,5 +1,5 @@
 -- Text of ASCII that is put at once. No promise rests on this file.
-use Rattle.std.specs.Prelude.{ℕ, ◌≡◌, ◌≤◌, ◌==◌, ◌&&◌, ◌||◌, nat_le, nat_lt, Bool, true, false, not, List, [], ◌∷◌, ◌++◌, length, Option, Some, None}
+use Rattle.std.specs.Prelude.{ℕ, ◌≡◌, ◌≤◌, ◌==◌, ◌&&◌, ◌||◌, nat_le, nat_lt, Bool, true, false, not, List, [], ◌∷◌, ◌++◌, length, map, Option, Some, None}
 use Rattle.std.specs.List.{AllByRecursion}
 use Rattle.csicodec_clean.specs.Bytes.{IsPlainByte}
 use Rattle.csicodec_html.specs.{Look.plain, declared.look.Look.Look}
@@ -38,8 +38,7 @@ IsUntabbed b = untabbed_byte b ≡ true
 
 -- characters of one cell each, which look so
 abbrev pub glyphs : Look → List ℕ → List Cell
-glyphs look [] = []
-glyphs look (c ∷ cs) = Char (glyph c look) ∷ glyphs look cs
+glyphs look cs = map (λ c. Char (glyph c look)) cs
 
 -- the last of them, or else of what came before
 abbrev pub last_of : Option ℕ → List ℕ → Option ℕ
@@ -47,11 +46,8 @@ last_of last [] = last
 last_of last (c ∷ cs) = last_of (Some c) cs
 
 -- none of the cells is empty
-abbrev pub IsFull : Cell → Type 0
-IsFull cell = is_empty cell ≡ false
-
 abbrev pub AreFull : List Cell → Type 0
-AreFull cells = AllByRecursion IsFull cells
+AreFull cells = AllByRecursion (λ cell. is_empty cell ≡ false) cells
 
 -- behind a newline
 abbrev pub closed : Pen → Pen

@@ -1,4 +1,4 @@
-use Rattle.std.proofs.Common.{◌≡◌, ◌<◌, ◌∙◌, arith, false, length, sym, ◌==◌}
+use Rattle.std.proofs.Common.{◌≡◌, ◌<◌, arith, false, length, rules}
 use Rattle.csicodec_overwrite.proofs.{Common.nat_tests, Written.taken}
 use Rattle.csicodec_overwrite.specs.Stream.{Reads}
 use Rattle.csicodec_overwrite.proofs.overwriter.Overwriter.take_known.Goals as goal
@@ -13,7 +13,7 @@ returns-clause-passes c =
 
 pub returns-clause-fewer : goal.returns-clause-fewer
 returns-clause-fewer c =
-    let none : (length c.args.bytes.now == 0) ≡ false = sym c.is_empty.ensures ∙ c.if-is_empty.false in
+    let none : c.is_empty.result ≡ false = search rules in
     let some : 0 < length c.args.bytes.now = grind (arith, nat_tests) in
     omega (arith, some, c.odd_len.ensures.some, c.split_at.ensures.back_len)
 

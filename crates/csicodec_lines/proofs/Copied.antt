@@ -6,9 +6,9 @@ use lib.Utf8.{scalar}
 use Rattle.csicodec_transform.specs.Transform.{GoesOn}
 use Rattle.csicodec_transform.proofs.Sent.{goes_on}
 use Rattle.csicodec_clean.specs.{Cleaned.EndOf, Cleaned.RuleOf, Cleaned.longest, Shown.IsPlain, Shown.IsShown, Shown.run_as, Shown.written, Stream.Between}
-use Rattle.csicodec_clean.specs.{Stream.Takes, Stream.start_of, Private.Steps.bare_at}
+use Rattle.csicodec_clean.specs.{Stream.Takes, Stream.start_of}
 use Rattle.csicodec_clean.proofs.{Chunks.takes_none, Glances.over_told, Shows.shown_none, Shows.written_on, Told.alone, Told.plain_told, Twice.all_kept}
-use Rattle.csicodec_lines.specs.{declared.lines.Lines.Lines, Lines.IsWithin, Lines.ends_line, Stream.Ending, Stream.Passes}
+use Rattle.csicodec_lines.specs.{declared.lines.Lines.Lines, Lines.ends_line, Private.Cut.IsWithin, Stream.Ending, Stream.Passes}
 use Rattle.csicodec_lines.proofs.Taken.{goes_over, goes_within}
 
 -- what got no longer is as it was

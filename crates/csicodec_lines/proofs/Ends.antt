@@ -1,18 +1,18 @@
 -- Where lines end.
-use Rattle.std.proofs.Common.{◌≡◌, ◌+◌, ◌<◌, ℕ, Bool, true, false, not, cond, List, [], ◌∷◌, ◌++◌, length, take, drop, ◌==◌, inl, inr, refl, sym, ap, subst, ◌∙◌, append_assoc, append-nil, arith}
-use Rattle.std.proofs.{lemmas.Bool.cases_Bool, lemmas.Bool.cond_both, lemmas.Bool.not-true, lemmas.Bool.Decides.nat_tests}
+use Rattle.std.proofs.Common.{◌≡◌, ◌+◌, ◌<◌, ℕ, Bool, true, false, not, cond, List, [], ◌∷◌, ◌++◌, length, take, drop, ◌==◌, inl, inr, refl, sym, ap, subst, ◌∙◌, append_assoc, append-nil, take-append-drop, arith}
+use Rattle.std.proofs.{lemmas.Bool.cases_Bool, lemmas.Bool.cond_both, lemmas.Bool.Decides.nat_tests}
 use Rattle.std.specs.List.{AllByRecursion, prefix_len}
 use Rattle.csicodec_clean.specs.Bytes.{behind}
-use Rattle.csicodec_clean.proofs.{Bytes.behind_one, Bytes.front_in, PlainBytes.all_weaker}
-use Rattle.csicodec_lines.specs.{Lines.IsWithin, Lines.ends_line, Lines.joins, Lines.lines_from, Private.Cut.BeginsWithEnd, Private.Cut.is_within}
+use Rattle.csicodec_clean.proofs.Bytes.{behind_one}
+use Rattle.csicodec_lines.specs.{Lines.ends_line, Lines.joins, Lines.lines_from, Private.Cut.IsWithin, Private.Cut.is_within}
 
 -- ---- where a line is cut
 
--- ahead of the first end
-pub all_within : (bs : List ℕ) → AllByRecursion IsWithin (take (prefix_len is_within bs) bs)
-all_within bs = all_weaker (λ b. is_within b ≡ true) IsWithin (λ b h. not-true (ends_line b) h) (take (prefix_len is_within bs) bs) (front_in is_within bs)
+-- the end of a line stands in front, or nothing
+abbrev pub BeginsWithEnd : List ℕ → Type 0
+BeginsWithEnd [] = Unit {0}
+BeginsWithEnd (b ∷ bytes) = ends_line b ≡ true
 
--- and it
 pub begins_with_end : (bs : List ℕ) → BeginsWithEnd (behind is_within bs)
 begins_with_end [] = tt
 begins_with_end (b ∷ bs) = elim (cases_Bool (ends_line b)) [
@@ -20,9 +20,12 @@ begins_with_end (b ∷ bs) = elim (cases_Bool (ends_line b)) [
   | inr other ↦ subst BeginsWithEnd (sym (behind_one is_within b bs (ap not other))) (begins_with_end bs)
 ]
 
+pub whole : (bs front rest : List ℕ) → front ≡ take (prefix_len is_within bs) bs → rest ≡ behind is_within bs → bs ≡ front ++ rest
+whole bs front rest e f = rw (e, f) (sym (take-append-drop (prefix_len is_within bs) bs))
+
 -- ---- bytes more
 
-one_within : (returned : Bool) (b : ℕ) (line more : List ℕ) → ends_line b ≡ false → lines_from returned line (b ∷ more) ≡ lines_from false (line ++ b ∷ []) more
+one_within : (returned : Bool) (b : ℕ) (line more : List ℕ) → IsWithin b → lines_from returned line (b ∷ more) ≡ lines_from false (line ++ b ∷ []) more
 one_within returned b line more e = grind (arith, nat_tests)
 
 -- bytes that end no line go on with it

@@ -4,8 +4,8 @@ use Rattle.std.specs.List.{AllByRecursion, concat}
 use Rattle.csicodec_transform.specs.Transform.{GoesOn, Transforms}
 use Rattle.csicodec_clean.specs.{Cleaned.EndOf, Cleaned.Ends, Cleaned.RuleOf, Cleaned.longest, Stream.AreTaken, Stream.Takes, Stream.start_of}
 use Rattle.csicodec_clean.proofs.Chunks.{ends as at_end, taken_on, takes_none, takes_on}
-use Rattle.csicodec_lines.specs.{declared.lines.Lines.Lines, Lines.ByLines, Lines.IsWithin, Lines.ends_line, Lines.joins, Lines.lines_from, Lines.lines_of}
-use Rattle.csicodec_lines.specs.{Stream.Ending, Stream.Passes, Stream.begun, Stream.ended}
+use Rattle.csicodec_lines.specs.{declared.lines.Lines.Lines, Lines.ByLines, Lines.ends_line, Lines.joins, Lines.lines_from, Lines.lines_of}
+use Rattle.csicodec_lines.specs.{Private.Cut.IsWithin, Stream.Ending, Stream.Passes, Stream.begun, Stream.ended}
 use Rattle.csicodec_lines.proofs.{Ends.all_within_on, Ends.one_end, Ends.one_joins, Texts.ended_on, Texts.joined_on, Texts.of_on}
 
 module _ {S P : Type 0} (Begins : P → S) (Gives : RuleOf S) (Closes : EndOf S) where

@@ -9,9 +9,6 @@ ends_line b = b == 10 || b == 13
 abbrev pub joins : Bool → ℕ → Bool
 joins returned b = returned && b == 10
 
-abbrev pub IsWithin : ℕ → Type 0
-IsWithin b = ends_line b ≡ false
-
 -- the line that goes on with these bytes, and the lines behind it, by whether a CR has just ended one
 abbrev pub lines_from : Bool → List ℕ → List ℕ → List (List ℕ)
 lines_from returned line [] = line ∷ []

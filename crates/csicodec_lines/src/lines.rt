@@ -1,8 +1,7 @@
 //! A stream of lines, each of which is cleaned by itself, as it comes.
 ghost use Rattle.std.specs.{Prelude.◌≡◌, Prelude.◌<◌, Prelude.◌++◌, Prelude.◌∷◌, Prelude.[], Prelude.ℕ, Prelude.List, Prelude.OnOk, Prelude.IfOk, Prelude.true};
 ghost use Rattle.std.specs.{Prelude.length, Prelude.⊤, List.AllByRecursion};
-ghost use Rattle.csicodec_lines.specs.{Lines.IsWithin, Lines.ends_line, Lines.joins, Private.Cut.Adds, Private.Cut.AddsFront, Private.Cut.BeginsWithEnd};
-ghost use Rattle.csicodec_lines.specs.{Stream.Passes, Stream.begun};
+ghost use Rattle.csicodec_lines.specs.{Lines.ends_line, Lines.joins, Private.Cut.Adds, Private.Cut.AddsFront, Private.Cut.IsWithin, Stream.Passes, Stream.begun};
 ghost use Rattle.csicodec_clean.specs.{Steps.bare, Stream.start_of, Styled.first_kept};
 
 use csicodec_clean::{
@@ -39,16 +38,6 @@ impl ByteClass for Within {
         let ends = lanes.simd_eq(u8x16::splat(b'\n')) | lanes.simd_eq(u8x16::splat(b'\r'));
         first_set(ends.to_bitmask())
     }
-}
-
-/// What stands ahead of the first byte that ends a line, and what from that on.
-#[inline(always)]
-fn split_line(bytes: &[u8]) -> (&[u8], &[u8])
-    ensures whole { bytes.now ≡ result.0.now ++ result.1.now }
-    ensures front { AllByRecursion IsWithin result.0.now }
-    ensures end { BeginsWithEnd result.1.now }
-{
-    split_front::<Within>(bytes)
 }
 
 /// A stream that is cleaned by a rule, line by line, as it comes: a newline ends what is open, and stands in the output.
@@ -153,7 +142,7 @@ impl<R: Rule + Anew<P> + Drop, P: Copy> Lines<R, P> {
         ensures less { IfOk result
             (λ rest. 0 < length bytes.now → length rest.now < length bytes.now) }
     {
-        let (front, behind) = split_line(bytes);
+        let (front, behind) = split_front::<Within>(bytes);
         self.take_within(front, out)?;
         let Some((end, rest)) = behind.split_first() else {
             return Ok(behind);

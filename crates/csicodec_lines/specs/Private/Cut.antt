@@ -1,5 +1,5 @@
 -- Where a line is cut, and what its pieces append.
-use Rattle.std.specs.Prelude.{ℕ, ◌≡◌, Bool, true, not, List, [], ◌∷◌, ◌++◌}
+use Rattle.std.specs.Prelude.{ℕ, ◌≡◌, Bool, true, not, List, ◌++◌}
 use Rattle.csicodec_transform.specs.Transform.{GoesOn, PassesOf}
 use Rattle.csicodec_lines.specs.Lines.{ends_line}
 
@@ -7,10 +7,8 @@ use Rattle.csicodec_lines.specs.Lines.{ends_line}
 abbrev pub is_within : ℕ → Bool
 is_within b = not (ends_line b)
 
--- the end of a line stands in front, or nothing
-abbrev pub BeginsWithEnd : List ℕ → Type 0
-BeginsWithEnd [] = Unit {0}
-BeginsWithEnd (b ∷ bytes) = ends_line b ≡ true
+abbrev pub IsWithin : ℕ → Type 0
+IsWithin b = is_within b ≡ true
 
 -- for these bytes this was appended, and what passed goes on so
 abbrev pub Adds : {S : Type 0} → PassesOf S → S → List ℕ → List ℕ → List ℕ → S → Type 0

@@ -1,10 +1,10 @@
 -- The block at the front, and the actions that follow it.
-use Rattle.std.specs.{Prelude.IfSome, Prelude.IfNone, Prelude.slice_get, Prelude.unwrap_or, Option.option_map}
+use Rattle.std.specs.{Prelude.IfSome, Prelude.IfNone, Prelude.slice_get, Option.option_map}
 use Rattle.std.proofs.Common.{◌≡◌, ℕ, zero, suc, ◌+◌, ◌*◌, ◌-◌, ◌<◌, ◌≤◌, Bool, true, false, cond, List, [], ◌∷◌, length, drop, take, Some, None, Option, refl, sym, ap, ◌∙◌, arith, add-zero, length-drop}
 use Rattle.std.proofs.{lemmas.List.drop-drop, lemmas.List.drop_all, lemmas.List.take_all, lemmas.Option.slice_get_within}
 use Rattle.csicodec_tokens.specs.{declared.param.CsiParam.CsiParam, declared.param.CsiParam.TheVariants.Integer, declared.param.CsiParam.TheVariants.P}
-use Rattle.csicodec_actions.specs.{declared.mode.Change.Change, Actions.Action, Actions.Sgr, Actions.Unspecified, Actions.TakesMemory, Table.boxed}
-use Rattle.csicodec_actions.specs.{Table.unboxed, Table.whole}
+use Rattle.csicodec_actions.specs.{declared.mode.Change.Change, Actions.Action, Actions.Sgr, Actions.Unspecified, Actions.TakesMemory, Table.unboxed}
+use Rattle.csicodec_actions.specs.{Table.whole}
 use Rattle.csicodec_parser.specs.Private.Steps.{front, block, block_of, is_semicolon, with_semicolon, segments, segments_at, rest_action, actions, actions_after, body_actions, actions_in, fresh_cost, left_at, from_at, Acts, GoesBy, CanGo, Leaves}
 use Rattle.csicodec_parser.specs.{declared.group.Group.Group, declared.group.Group.TheVariants.Whole, declared.group.Group.TheVariants.Styles}
 use Rattle.csicodec_parser.specs.{declared.group.Group.TheVariants.DecModes, declared.actions.CSI.CSI, ActionOf.action_of, declared.parser.Stage.Stage}
@@ -16,11 +16,7 @@ use Rattle.csicodec_base.specs.declared.sgr.Sgr.TheVariants as sgr
 
 -- the action of a rest takes memory
 pub rest_takes : (g : Group) (rest : List CsiParam) (flag : Bool) (final : ℕ) → TakesMemory (rest_action g rest flag final)
-rest_takes Whole rest flag final = go (boxed rest final) refl
-  where
-    go : (o : Option Action) → boxed rest final ≡ o → TakesMemory (unwrap_or o (Unspecified rest flag final))
-    go None e = refl
-    go (Some a) e = boxed-takes rest final a e
+rest_takes Whole rest flag final = grind (arith, boxed-takes rest final)
 rest_takes _ rest flag final = refl
 
 -- the rest of a list that is cut is unknown
@@ -30,9 +26,7 @@ rest_unknown _ rest flag final cut = refl
 
 semicolon_at : (rest : List CsiParam) (len : ℕ) (o : Option CsiParam) → slice_get rest len ≡ o → len ≤ length rest → with_semicolon len o ≤ length rest
 semicolon_at rest len None e h = h
-semicolon_at rest len (Some t) e h =
-    let w : len < length rest = slice_get_within rest len t e in
-    elim (is_semicolon t) as (λ b. cond b (len + 1) len ≤ length rest) [ true ↦ omega arith | false ↦ h ]
+semicolon_at rest len (Some t) e h = grind (arith, slice_get_within rest len t)
 
 -- the `;` after a piece is in the list
 pub semicolon_within : (rest : List CsiParam) (len : ℕ) → len ≤ length rest → with_semicolon len (slice_get rest len) ≤ length rest
@@ -98,11 +92,7 @@ after_unknown g flag final tokens p e h = segments_unknown g (λ l. rest_action 
 -- a rest with tokens has an action
 pub after_some : (g : Group) (flag : Bool) (final : ℕ) (rest : List CsiParam) → 0 < length rest → 0 < length (actions_after g flag final rest)
 after_some g flag final [] h = absurd (omega arith)
-after_some g flag final (t ∷ ts) h = go (block g (t ∷ ts))
-  where
-    go : (o : Option (Action × ℕ)) → 0 < length (segments_at (λ l. rest_action g l flag final) (t ∷ ts) (segments g (λ l. rest_action g l flag final) ts) o)
-    go None = omega arith
-    go (Some b) = omega arith
+after_some g flag final (t ∷ ts) h = grind arith
 
 -- ---- the first action of a list that is cut
 

@@ -30,10 +30,7 @@ semicolon_or k (Some (P b)) = elim (cases_Bool (b == 59)) [
 -- without a `;` behind it a piece is a block
 no_semicolon : (k : ℕ) (more : List CsiParam) → NoSemicolon more → with_semicolon k (slice_get more 0) ≡ k
 no_semicolon k [] none = refl
-no_semicolon k (t ∷ more) none = elim (semicolon_or k (Some t)) [
-  | inl hit ↦ (let same : t ≡ semicolon = cc (hit.0) in absurd (none more (ap (λ (u : CsiParam). u ∷ more) same)))
-  | inr other ↦ other.1
-]
+no_semicolon k (t ∷ more) none = grind (arith, none more)
 
 -- the tokens of a block are those of its piece, with the `;`
 block_length : (tokens b more : List CsiParam) → (b ≡ tokens ++ semicolon ∷ []) ⊎ ((b ≡ tokens) × NoSemicolon more)
@@ -176,10 +173,8 @@ body_count g list (t ∷ ts) flag final n within =
 
 in_count : (g : Group) (list : List CsiParam) (flag : Bool) (final : ℕ) → IsCount (length list) (actions_in g list flag final)
 in_count Whole list flag final = (omega arith, omega arith)
-in_count g list flag final = elim (cases_Bool (has_odd g list)) [
-  | inl odd ↦ rw odd (omega arith, omega arith)
-  | inr plain ↦ rw plain (body_count g list (body g list) flag final (length list) (omega (arith, length-drop (start g) list)))
-]
+in_count g list flag final =
+    grind (arith, body_count g list (body g list) flag final (length list), length-drop (start g) list)
 
 pub actions_count : (list : List CsiParam) (flag : Bool) (final : ℕ) (xs : List Action) → Actions list flag final xs → (0 < length xs) × (length xs ≤ max 1 (length list))
 actions_count list flag final xs h = rw (actions_only list flag final xs h) (in_count (group list final) list flag final)

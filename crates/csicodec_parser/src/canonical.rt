@@ -90,16 +90,6 @@ fn is_unknown(alloc: Global, params: &[CsiParam], control: char) -> Result<bool,
     }
 }
 
-/// A sequence can have the list and the final character, and they are read with the same flag.
-fn is_written(unknown: &Unspecified, parameters_truncated: bool) -> bool
-    ensures { IsTrue result ↔ ((unknown.now.parameters_truncated ≡ parameters_truncated)
-        × Spellable unknown.now.params.items × IsFinal unknown.now.control) }
-{
-    unknown.parameters_truncated == parameters_truncated
-        && is_final(unknown.control)
-        && is_spellable(&unknown.params)
-}
-
 pub(crate) fn is_canonical_unknown(
     alloc: Global,
     unknown: &Unspecified,
@@ -108,7 +98,10 @@ pub(crate) fn is_canonical_unknown(
     ensures { IfOk result (λ yes. IsTrue yes
         ↔ IsCanonicalUnknown unknown.now.params.items unknown.now.parameters_truncated parameters_truncated unknown.now.control) }
 {
-    if !is_written(unknown, parameters_truncated) {
+    let is_written = unknown.parameters_truncated == parameters_truncated
+        && is_final(unknown.control)
+        && is_spellable(&unknown.params);
+    if !is_written {
         return Ok(false);
     }
     is_unknown(alloc, &unknown.params, unknown.control)

@@ -1,10 +1,9 @@
 //! Which rules a list falls under, and the pieces at its front.
-ghost use Rattle.std.specs.Prelude.{◌≡◌, ◌<◌, ◌≤◌, ◌++◌, List, IfOk, length, take, option_and_then, IfNone, IfSome};
+ghost use Rattle.std.specs.Prelude.{◌≡◌, ◌<◌, ◌≤◌, ◌++◌, List, IfOk, length, take, IfNone, IfSome};
 ghost use Rattle.csicodec_tokens.specs.declared.param.CsiParam.{CsiParam};
 ghost use Rattle.csicodec_parser.specs.{ActionOf.action_of, Cut.IsStuck, Groups.Piece, Groups.group_by, Groups.marked, Groups.start, Private.Steps.found};
 ghost use Rattle.csicodec_parser.specs.{Private.Steps.front, Private.Steps.is_odd_at, Private.Steps.number_at, Private.Steps.styled};
 ghost use Rattle.csicodec_parser.specs.{declared.group.Group.TheVariants.Styles};
-ghost use Rattle.csicodec_actions.specs.Kinds.{read, Dec, Terminal};
 
 use crate::actions::CSI;
 use csicodec_actions::{Change, DecPrivateMode, Switch, TerminalMode};
@@ -106,6 +105,7 @@ pub(crate) fn style_front(rest: &[CsiParam]) -> Option<(Sgr, usize)>
 
 /// The known piece at the front, and its number of tokens.
 #[inline(always)]
+#[tactic(auto, using(crate::proofs::Fronts::number_same))]
 pub(crate) fn front(group: Group, rest: &[CsiParam]) -> Option<(CSI, usize)>
     ensures answer { (list : List CsiParam) → take 13 list ≡ take 13 rest.now
         → found result ≡ front group list }
@@ -117,29 +117,24 @@ pub(crate) fn front(group: Group, rest: &[CsiParam]) -> Option<(CSI, usize)>
             let (sgr, len) = style_front(rest)?;
             Some((CSI::Sgr(sgr), len))
         }
-        Group::Modes(switch) => Some((CSI::Mode(switch.of(terminal_mode_at(rest)?)), 1)),
-        Group::DecModes(change) => Some((CSI::Mode(change.of(dec_mode_at(rest)?)), 1)),
+        Group::Modes(switch) => {
+            let mode = TerminalMode::at(number_at(rest)?)?;
+            Some((CSI::Mode(switch.of(mode)), 1))
+        }
+        Group::DecModes(change) => {
+            let mode = DecPrivateMode::at(number_at(rest)?)?;
+            Some((CSI::Mode(change.of(mode)), 1))
+        }
     }
 }
 
-/// The mode whose number stands at the front.
-fn terminal_mode_at(rest: &[CsiParam]) -> Option<TerminalMode>
-    ensures is { result ≡ option_and_then (read Terminal) (number_at rest.now) }
-    ensures some { IfSome result (λ m. 0 < length rest.now) }
+/// The number at the front.
+fn number_at(rest: &[CsiParam]) -> Option<i64>
+    ensures is { result ≡ number_at rest.now }
+    ensures some { IfSome result (λ _. 0 < length rest.now) }
 {
     match rest {
-        [CsiParam::Integer(number), ..] => TerminalMode::at(*number),
-        _ => None,
-    }
-}
-
-/// The private mode whose number stands at the front.
-fn dec_mode_at(rest: &[CsiParam]) -> Option<DecPrivateMode>
-    ensures is { result ≡ option_and_then (read Dec) (number_at rest.now) }
-    ensures some { IfSome result (λ m. 0 < length rest.now) }
-{
-    match rest {
-        [CsiParam::Integer(number), ..] => DecPrivateMode::at(*number),
+        [CsiParam::Integer(number), ..] => Some(*number),
         _ => None,
     }
 }

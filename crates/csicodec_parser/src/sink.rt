@@ -115,15 +115,6 @@ impl Texts {
             bytes: TextBuffer::new(alloc),
         }
     }
-
-    /// Takes an attribute.
-    #[inline(always)]
-    fn take_style(&mut self, sgr: &Sgr) -> Result<(), AllocError>
-        ensures { OnOk result ((before : List Action) → self.old.bytes ≡ texts before
-            → self.new.bytes ≡ texts (before ++ Styled sgr.now ∷ [])) }
-    {
-        append_style(&mut self.bytes, sgr)
-    }
 }
 
 impl Sink for Texts {
@@ -154,7 +145,7 @@ impl Sink for Texts {
             let Some((sgr, len)) = style_front(rest) else {
                 return Ok(None);
             };
-            self.take_style(&sgr)?;
+            append_style(&mut self.bytes, &sgr)?;
             return Ok(Some(len));
         }
         let Some((action, len)) = group::front(group, rest) else {

@@ -1,7 +1,7 @@
-use Rattle.std.proofs.Common.{◌∙◌, ap, refl, sym}
-use Rattle.csicodec_actions.specs.Actions.{Sgr}
+use Rattle.std.proofs.Common.{◌++◌, ◌∙◌, ap, refl, sym}
+use Rattle.csicodec_actions.specs.{Actions.Sgr, Table.text}
 use Rattle.csicodec_parser.specs.{ActionOf.action_of, Private.Steps.found, Private.Steps.styled}
-use Rattle.csicodec_parser.proofs.Fronts.{front_piece, front_stuck}
+use Rattle.csicodec_parser.proofs.{Fronts.front_piece, Fronts.front_stuck, Taken.texts_last}
 use Rattle.csicodec_parser.proofs.sink.TextsSink.take_piece.Goals as goal
 
 pub returns-in_default-style_front-clause-none : goal.returns-in_default-style_front-clause-none
@@ -13,7 +13,11 @@ returns-in_default-front-clause-none c = λ _. (front_stuck c.args.group c.args.
 
 pub returns-in-Styles-clause-some : goal.returns-in-Styles-clause-some
 returns-in-Styles-clause-some c =
-    (Sgr c.in-Some.sgr, front_piece c.args.group c.args.rest.now _ _ (rw c.in-Styles.is (sym (c.in-Some.ensures.answer c.args.rest.now refl))), c.in_ok-take_style.ensures)
+    let sgr = Sgr c.in-Some.sgr in (
+      sgr,
+      front_piece c.args.group c.args.rest.now _ _ (rw c.in-Styles.is (sym (c.in-Some.ensures.answer c.args.rest.now refl))),
+      λ before held. c.in_ok-append_style.ensures ∙ ap (λ l. l ++ text sgr) held ∙ sym (texts_last before sgr),
+    )
 
 pub returns-clause-some : goal.returns-clause-some
 returns-clause-some c = (action_of c.in-Some-front.action, front_piece c.args.group c.args.rest.now _ _ (sym (c.in-Some-front.ensures.answer c.args.rest.now refl)), c.in_ok-take.ensures)

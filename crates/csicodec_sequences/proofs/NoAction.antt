@@ -9,6 +9,7 @@ use Rattle.csicodec_actions.specs.FieldRows.{This, Empty, End, There, Must, Fiel
 use Rattle.csicodec_actions.specs.{Actions.Action, Rows.Byte, Rows.Number, Rows.One, Rows.has_shape, Rows.read_by, Rows.rows_before, Table.field_table}
 use Rattle.csicodec_actions.specs.{Table.whole, Table.Window.areas, Table.Window.windows, Table.XtSmGraphics.graphics_rows}
 use Rattle.csicodec_actions.proofs.AllRows.{whole-table}
+use Rattle.csicodec_parser.proofs.Fronts.{is_none}
 use Rattle.csicodec_sequences.specs.Parts.{behind_separator, is_marker, split_field, without_intermediate, without_marker}
 use Rattle.csicodec_sequences.specs.{declared.row.NumberSlot.NumberSlot, Known.rows_of, Known.table, Rows.Row, Rows.is_within, Rows.read_row, Rows.slot_value}
 use Rattle.csicodec_sequences.specs.{Rows.slot_values}
@@ -123,11 +124,7 @@ tokens_unread : (q : Row) (rows : List (actions.Row Action)) (list : List CsiPar
     → HasRead q list final vs → actions.given rows list ≡ None
 tokens_unread q [] list final vs h e = refl
 tokens_unread q (r ∷ rows) list final vs h e =
-    let p = and_parts (row_apart q r) (apart_from_all q rows) h in
-    go (tokens_unread q rows list final vs p.1 e) (λ shaped. marked_read q.form.marker q.form.intermediate q.slots r.tail r.shape list vs p.0 shaped e.marker e.intermediate e.values)
-  where
-    go : actions.given rows list ≡ None → (has_shape r.tail r.shape list ≡ true → ⊥) → actions.given (r ∷ rows) list ≡ None
-    go others none = grind arith
+    grind (arith, tokens_unread q rows list final vs, marked_read q.form.marker q.form.intermediate q.slots r.tail r.shape list vs)
 
 -- ---- the test of a row of actions over fields
 
@@ -202,11 +199,7 @@ fields_unread : (ss : List NumberSlot) (rows : List (FieldRow Action)) (list : L
     → fields.given rows fs ≡ None
 fields_unread ss [] list fs vs h e f = refl
 fields_unread ss (r ∷ rows) list fs vs h e f =
-    let p = and_parts (fields_apart ss r.slots) (apart_from_fields ss rows) h in
-    go (fields_unread ss rows list fs vs p.1 e f) (fields_read ss r.slots list fs vs p.0 e f)
-  where
-    go : fields.given rows fs ≡ None → (have_shape r.slots fs ≡ true → ⊥) → fields.given (r ∷ rows) fs ≡ None
-    go others none = grind arith
+    grind (arith, fields_unread ss rows list fs vs, fields_read ss r.slots list fs vs)
 
 -- ---- the bytes around fields
 
@@ -251,10 +244,6 @@ is_unread : each row_unread table ≡ true
 unfolding rows_of table
 is_unread = refl
 
-none_from : {X : Type 0} (o : Option X) → ((x : X) → o ≡ Some x → ⊥) → o ≡ None
-none_from None h = refl
-none_from (Some x) h = absurd (h x refl)
-
 nothing_then : {X Y : Type 0} (f : X → Option Y) (o : Option X) → ((x : X) → o ≡ Some x → f x ≡ None) → option_and_then f o ≡ None
 nothing_then f None h = refl
 nothing_then f (Some x) h = h x refl
@@ -269,14 +258,14 @@ windows_unread q list final vs r h = nothing_then (fields.given windows) (fields
         fields_unread q.slots windows list fs vs (grind arith) (grind arith) here
 
 areas_unread : (q : Row) (list : List CsiParam) (final : ℕ) (vs : List ℕ) → HasRead q list final vs → not (q.form.intermediate == 42) ≡ true → read_over (over no_byte (byte "*") "y" areas) list ≡ None
-areas_unread q list final vs r h = rw (none_from (ahead_of_byte (Some 42) list) go) refl
+areas_unread q list final vs r h = rw (is_none (ahead_of_byte (Some 42) list) go) refl
   where
     go : (front : List CsiParam) → ahead_of_byte (Some 42) list ≡ Some front → ⊥
     go front e = (let star : (without_intermediate (without_marker list).1).0 ≡ 42 = rw (byte_behind 42 list front e) (star_last front) in grind arith)
 
 graphics_unread : (q : Row) (list : List CsiParam) (final : ℕ) (vs : List ℕ) → HasRead q list final vs → not (q.form.marker == 63) ≡ true
     → read_over (over (byte "?") no_byte "S" graphics_rows) list ≡ None
-graphics_unread q list final vs r h = rw (none_from (behind_byte (Some 63) list) go) refl
+graphics_unread q list final vs r h = rw (is_none (behind_byte (Some 63) list) go) refl
   where
     go : (rest : List CsiParam) → behind_byte (Some 63) list ≡ Some rest → ⊥
     go rest e = (let begins = byte_ahead 63 list rest refl e in grind arith)

@@ -7,7 +7,7 @@ use Rattle.csicodec_tokens.specs.{declared.param.CsiParam.CsiParam, declared.par
 use Rattle.csicodec_tokens.specs.{Sequence.Apart, Sequence.IsFinal, Sequence.IsSpellable, Sequence.Spellable}
 use Rattle.csicodec_sequences.specs.Known.{are_rows, dec_rows, first_reading, other_rows, reading, report_rows, rows_of, table}
 use Rattle.csicodec_sequences.specs.Parts.{is_intermediate, is_marker, parts_of, split_field, without_intermediate, without_marker}
-use Rattle.csicodec_sequences.specs.Rows.{Row, are_missing_within, byte_tokens, each_behind, fit, has_its_bytes, is_final, is_row, is_within, joined, read_row, row_list, slot_value, slot_values}
+use Rattle.csicodec_sequences.specs.Rows.{Row, byte_tokens, each_behind, fit, is_row, is_within, joined, read_row, row_list, slot_value, slot_values}
 use Rattle.csicodec_sequences.specs.{declared.row.SequenceForm.SequenceForm, declared.row.NumberSlot.NumberSlot}
 use Rattle.csicodec_sequences.proofs.Values.{taken}
 
@@ -268,24 +268,14 @@ end_spellable i ok = elim (cases_Bool (i == 0)) [
 ]
 
 front_spellable : (m : ℕ) (list : List CsiParam) → (if m == 0 then true else is_marker m) ≡ true → Spellable list → Spellable (byte_tokens m ++ list)
-front_spellable m list ok spelled = elim (cases_Bool (m == 0)) [
-  | inl none ↦ rw none spelled
-  | inr some_it ↦ rw some_it (byte_spellable m (grind arith), tt, spelled)
-]
-
-final_is : (c : ℕ) → is_final c ≡ true → IsFinal c
-final_is c h = grind arith
+front_spellable m list ok spelled = grind (arith, byte_spellable m)
 
 pub sequence : (i : ℕ) (q : Row) (vs : List ℕ) → slice_get table i ≡ Some q → fit q.slots vs ≡ true → Spellable (row_list q vs) × IsFinal q.form.control
 sequence i q vs at f =
-    let h = and_parts (nat_lt 10000 q.form.kind) _ (row_at good table i q are_good at) in
-    let small = and_parts (are_small q.slots) (is_row q) (and_parts (nat_lt (length q.slots) 13) _ h.1).1 in
-    let p = and_parts (has_its_bytes q) (is_final q.form.control && are_missing_within q.slots) small.1 in
-    let b = and_parts (if q.form.marker == 0 then true else is_marker q.form.marker) (if q.form.intermediate == 0 then true else is_intermediate q.form.intermediate) p.0 in
-    let end = end_spellable q.form.intermediate b.1 in (
-      front_spellable q.form.marker (joined vs ++ byte_tokens q.form.intermediate) b.0 (joined_spellable q.slots vs (byte_tokens q.form.intermediate) small.0 f end.0 end.1),
-      final_is q.form.control (and_parts (is_final q.form.control) (are_missing_within q.slots) p.1).0,
-    )
+    let test : good q ≡ true = row_at good table i q are_good at in
+    let end = end_spellable q.form.intermediate (grind arith) in
+    let values = joined_spellable q.slots vs (byte_tokens q.form.intermediate) (grind arith) f end.0 end.1 in
+    (front_spellable q.form.marker (joined vs ++ byte_tokens q.form.intermediate) (grind arith) values, grind arith)
 
 -- ---- the first of several that is something
 

@@ -8,7 +8,7 @@ use csicodec_tokens::Text as Short;
 use std::alloc::AllocError;
 
 /// What a colour is of.
-#[derive(Clone, Copy, PartialEq, Eq, Debug)]
+#[derive(Clone, Copy)]
 pub enum Layer {
     Text,
     Ground,
@@ -21,7 +21,7 @@ pub enum Layer {
 }
 
 /// A class that a span may have.
-#[derive(Clone, Copy, PartialEq, Eq, Debug)]
+#[derive(Clone, Copy)]
 pub enum Class {
     Bold,
     Faint,

@@ -11,7 +11,7 @@ use std::alloc::Global;
 
 /// What comes next in a stream.
 #[repr(C)]
-#[derive(Clone, Copy, Debug, PartialEq, Eq)]
+#[derive(Clone, Copy)]
 pub struct Evented {
     /// The number of a `Status`: `Done` where there is an event, `Truncated` where the bytes wait, `Memory`, or `BadState` where the
     /// mode is none, the limit is 0, or more bytes were looked at than stand there.

@@ -10,7 +10,7 @@ use std::alloc::Global;
 
 /// How a step of a filter ended.
 #[repr(C)]
-#[derive(Clone, Copy, Debug, PartialEq, Eq)]
+#[derive(Clone, Copy)]
 pub struct Filtered {
     /// The number of a `Status`: `Done`, `Memory`, or `BadState` where the mode is none, or the limit is 0.
     pub status: u32,

@@ -16,7 +16,7 @@ use std::alloc::{AllocError, Global};
 
 /// What a page is asked to be: each number is 1 or 0, and zeros ask for what the program writes without options.
 #[repr(C)]
-#[derive(Clone, Copy, Debug, PartialEq, Eq)]
+#[derive(Clone, Copy)]
 pub struct Choices {
     /// 1: links (OSC 8) become links. The text is then kept as with `no_overwrite`.
     pub links: u32,
@@ -29,7 +29,7 @@ pub struct Choices {
 }
 
 /// The same with its meaning.
-#[derive(Clone, Copy, Debug, PartialEq, Eq)]
+#[derive(Clone, Copy)]
 pub struct PageSettings {
     /// What becomes markup.
     pub markup: Markup,

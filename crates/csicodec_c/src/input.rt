@@ -12,7 +12,7 @@ use std::alloc::Global;
 
 /// What comes next in what a terminal sends.
 #[repr(C)]
-#[derive(Clone, Copy, Debug, PartialEq, Eq)]
+#[derive(Clone, Copy)]
 pub struct Received {
     /// The number of a `Status`, as in `Evented`; `BadState` also where the dialect is none.
     pub status: u32,

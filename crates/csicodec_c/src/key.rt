@@ -17,7 +17,7 @@ use std::alloc::{AllocError, Global};
 
 /// The key in front of bytes.
 #[repr(C)]
-#[derive(Clone, Copy, Debug, PartialEq, Eq)]
+#[derive(Clone, Copy)]
 pub struct FrontKey {
     /// The number of a `Status`: `Done`, `NoAction` where it is no key, `Truncated` where that depends on later bytes, or `Memory`.
     pub status: u32,

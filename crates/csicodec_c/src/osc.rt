@@ -12,7 +12,7 @@ use csicodec_osc::{Osc, OscFields};
 
 /// What an OSC says, and where its texts stand.
 #[repr(C)]
-#[derive(Clone, Copy, Debug, PartialEq, Eq)]
+#[derive(Clone, Copy)]
 pub struct Commanded {
     /// Which command; 0 for one that isn't known.
     pub kind: u32,

@@ -9,7 +9,7 @@ use csicodec_structs::Status;
 
 /// What stands at the front of a stream.
 #[repr(C)]
-#[derive(Clone, Copy, Debug, PartialEq, Eq)]
+#[derive(Clone, Copy)]
 pub struct Spanned {
     /// The number of a `Status`: `Done` where it is known, `Truncated` where it depends on what follows, `BadState` where the mode
     /// is none, or the limit is 0.

@@ -12,7 +12,7 @@ use std::alloc::Global;
 
 /// What a stream leaves open between two steps. At its beginning each number is 0.
 #[repr(C)]
-#[derive(Clone, Copy, Debug, PartialEq, Eq)]
+#[derive(Clone, Copy)]
 pub struct Cleaning {
     /// What is open: the mode of a filter.
     pub mode: u32,
@@ -26,7 +26,7 @@ pub struct Cleaning {
 
 /// How a step ended.
 #[repr(C)]
-#[derive(Clone, Copy, Debug, PartialEq, Eq)]
+#[derive(Clone, Copy)]
 pub struct Cleaned {
     /// The number of a `Status`: `Done`, `Memory`, or `BadState` where the state is none, or the depth.
     pub status: u32,

@@ -11,7 +11,7 @@ use std::alloc::Global;
 
 /// How much is left of a text.
 #[repr(C)]
-#[derive(Clone, Copy, Debug, PartialEq, Eq)]
+#[derive(Clone, Copy)]
 pub struct Stripped {
     /// The number of a `Status`: `Done`, `Memory`, or `BadState` where a number stands for nothing.
     pub status: u32,

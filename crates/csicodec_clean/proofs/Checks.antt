@@ -1,15 +1,14 @@
 -- Where text of a class of characters ends.
-use Rattle.std.proofs.Common.{◌≡◌, ◌≢◌, ◌<◌, ◌≤◌, ◌-◌, ◌+◌, ◌^◌, ◌==◌, ℕ, Bool, true, false, None, Some, cond, min, nat_eq, List, [], ◌∷◌, ◌++◌, length, length-append, take, drop, encode_utf8, encode_utf8_all, refl, sym, ap, subst, ◌∙◌, arith, append_assoc, append-nil}
-use Rattle.std.proofs.{lemmas.Bool.and_from, lemmas.Bool.and_parts, lemmas.Bool.false≢true, lemmas.List.append_cancel_left, lemmas.Bool.Decides.nat_tests}
-use Rattle.std.proofs.{lemmas.Grind.common_steps, lemmas.List.Sums.sum_by-append, Math.Seq.take-append_seam}
+use Rattle.std.proofs.Common.{◌≡◌, ◌≢◌, ◌<◌, ◌-◌, ◌+◌, ◌^◌, ◌==◌, ℕ, Bool, true, false, cond, min, List, [], ◌∷◌, ◌++◌, length, length-append, take, drop, encode_utf8_all, sym, ap, subst, ◌∙◌, arith, append_assoc}
+use Rattle.std.proofs.{lemmas.Bool.and_parts, lemmas.Bool.false≢true, lemmas.List.append_cancel_left, lemmas.Grind.common_steps, lemmas.List.Sums.sum_by-append}
+use Rattle.std.proofs.{Math.Seq.take-append_seam}
 use Rattle.std.specs.{List.AllByRecursion, Str.all_scalars}
 use lib.Utf8.{scalar}
 use Rattle.bstr.specs.Utf8.{Decoded, decoded, lossy_chars}
 use Rattle.bstr.proofs.{lemmas.EncodeLemmas.decoded-encode, lemmas.EncodeLemmas.lossy_chars-encode, lemmas.LossyLemmas.lossy_chars-front}
-use Rattle.bstr.proofs.{lemmas.PieceLemmas.piece-bounds, lemmas.SoundLemmas.SpellsChar-decoded}
 use Rattle.csicodec_clean.specs.{Cleaned.Strips, Check.IsFault, Check.IsOutside, Check.Stands, Check.line_ends, Shown.IsBehind, Shown.IsPlain, Shown.IsShown}
-use Rattle.csicodec_clean.specs.{Shown.IsTextOf, Shown.shown}
-use Rattle.csicodec_clean.proofs.{Plain.scalars_lossy, Plain.strips_plain, Plain.text_on, Shows.encoded_on, Sure.sure_piece}
+use Rattle.csicodec_clean.specs.{Shown.shown}
+use Rattle.csicodec_clean.proofs.{Plain.scalars_lossy, Plain.strips_plain, Plain.text_on, Shows.encoded_on}
 
 -- ---- places
 

@@ -12,8 +12,8 @@ use Rattle.csicodec_clean.specs.{declared.styles.Passing.Passing, Links.Begun, L
 use Rattle.csicodec_clean.specs.{Shown.shown_chars, Shown.shown_text, Shown.IsRead, Titles.title_open, Titles.with_titles, Stream.Between, Stream.Closing}
 use Rattle.csicodec_clean.specs.{Stream.Goes, Stream.IsFrontOf, Stream.Takes, Stream.start_of, Stream.with_more, Streams.StreamsOne}
 use Rattle.csicodec_clean.proofs.{Again.leaves_once, Plain.steps_stripped, Shows.shown_read, Shows.written_none, Chunks.ends, Streams.Ran, Streams.Went}
-use Rattle.csicodec_clean.proofs.{Streams.one_ran, Styled.part_texts, Styled.step, Styled.styles, Styled.texts_both, Styled.texts_chars, Sure.read_more}
-use Rattle.csicodec_clean.proofs.{Sure.read_none, Titles.titles_on}
+use Rattle.csicodec_clean.proofs.{Streams.one_ran, Styled.part_texts, Styled.step, Styled.texts_both, Styled.texts_chars, Sure.read_more, Sure.read_none}
+use Rattle.csicodec_clean.proofs.{Titles.titles_on}
 use Rattle.csicodec_spans.specs.declared.table.Kind.TheVariants as kind
 use Rattle.csicodec_spans.specs.declared.table.Mode.TheVariants as mode
 
@@ -62,11 +62,8 @@ behind Gives s read more text last all g w =
 goes_front : {S : Type 0} (Gives : RuleOf S) (s : S) (read text : List ℕ) (last : Between S) (rest whole : List ℕ)
     (g : Goes Gives longest [] [] (with_more (start_of s) read) text last)
     → whole ≡ g.text ++ rest → GoesOnFrom rest (chars_as Gives.writing g.read) → GoesOnFrom whole text
-goes_front Gives s read text last rest whole g e (more, f) = (
-  more,
-  e ∙ ap (λ (t : List ℕ). g.text ++ t) f ∙ sym (append_assoc g.text (chars_as Gives.writing g.read) more) ∙ ap (λ (t : List ℕ). t ++ more) (sym g.same)
-      ∙ ap (λ (t : List ℕ). (t ++ text) ++ more) (written_none Gives.writing),
-)
+goes_front Gives s read text last rest whole g e (more, f) =
+    (more, rw (e, f, ← append_assoc, ← g.same, written_none Gives.writing) refl)
 
 module _ {S : Type 0} where
   pub strip_front : (s : S) (read more text : List ℕ) (last : Between S) → Takes drops (start_of s) read text last → IsFrontOf (Strips longest) (read ++ more) text

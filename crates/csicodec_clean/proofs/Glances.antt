@@ -26,10 +26,9 @@ all_stay (b ∷ text) rest h (suc k) within = all_stay text rest h.1 k (omega (a
 
 told_cut : (limit : ℕ) (text rest : List ℕ) → 0 < length text → AllByRecursion IsOther text → Cuts limit mode.Text (text ++ rest) kind.Text text rest mode.Text
 told_cut limit text rest some other =
-    let all = text ++ rest in
-    let cut = run_cut limit (length text) mode.Text all (all_stay text rest other) (omega (arith, length-append text rest)) some in
-    subst (λ (x : List ℕ). Cuts limit mode.Text all kind.Text x rest mode.Text) (take-append_seam text rest)
-    (subst (λ (x : List ℕ). Cuts limit mode.Text all kind.Text (take (length text) all) x mode.Text) (drop-append_seam text rest) cut)
+    let within = length-append text rest in
+    rw (take-append_seam text rest, drop-append_seam text rest)
+    at (run_cut limit (length text) mode.Text (text ++ rest) (all_stay text rest other) (omega arith) some)
 
 escape_ahead : (b c : ℕ) (more : List ℕ) → 32 ≤ b → b ≤ 47 → 48 ≤ c → c ≤ 126 → ahead mode.Text (27 ∷ b ∷ c ∷ more) ≡ Anew kind.Esc 3 mode.Text
 escape_ahead b c more from to low high = said 18 _ mode.Text (27 ∷ b ∷ c ∷ more) refl (grind (arith, nat_tests))

@@ -1,8 +1,8 @@
 -- Links, byte by byte, and where they lead.
 use Rattle.std.proofs.Common.{◌≡◌, ◌≤◌, ◌<◌, ◌+◌, ℕ, Bool, true, false, List, [], ◌∷◌, ◌++◌, length, length-append, refl, sym, ap, ◌∙◌, append_assoc, append-nil, arith}
-use Rattle.std.proofs.{lemmas.Grind.flat_map-append, lemmas.Bool.and_right, lemmas.Bool.cond_both, lemmas.Bool.Decides.nat_tests}
+use Rattle.std.proofs.{lemmas.Bool.and_right, lemmas.Bool.cond_both, lemmas.Bool.Decides.nat_tests}
 use Rattle.std.specs.{Prelude.◌==◌, Prelude.◌&&◌, Prelude.codes, Prelude.not, List.AllByRecursion}
-use Rattle.csicodec_clean.specs.Links.{Address, Begun, IsLink, IsWithin, admitted, all_behind, begun, behind, behind_at, ends_at, is_linked, is_param, is_visible, link_body, link_texts, links_at, links_in, longest_params, longest_url, next}
+use Rattle.csicodec_clean.specs.Links.{Address, Begun, IsLink, IsWithin, admitted, all_behind, begun, behind_at, ends_at, is_linked, is_param, is_visible, link_body, links_at, links_in, longest_params, longest_url, next}
 use Rattle.csicodec_clean.specs.{declared.links.LinkState.LinkState, Addresses.ends_host, Addresses.has_host, Addresses.is_host_byte, Addresses.is_host_on}
 use Rattle.csicodec_clean.specs.{Addresses.is_web, Addresses.led}
 use Rattle.csicodec_clean.proofs.PlainBytes.{all_both}

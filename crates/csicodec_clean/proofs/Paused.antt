@@ -6,10 +6,10 @@ use Rattle.csicodec_actions.specs.Table.{text}
 use Rattle.csicodec_spans.specs.{declared.table.Kind.Kind, Parts.Part, Parts.IsUnsure}
 use Rattle.csicodec_spans.proofs.Spanned.{rest_is}
 use Rattle.csicodec_clean.specs.Cleaned.{RuleOf, AreGiven, AreSteps, IsStep, Strips, drops, ends_bare, longest}
-use Rattle.csicodec_clean.specs.{declared.colors.Depth.Depth, declared.step.Pause.Pause, declared.whole.Dropped.Dropped, Shown.shown_text, Titles.with_titles}
-use Rattle.csicodec_clean.specs.{Stream.AreTaken, Stream.GoesBy, Stream.Takes, Private.Steps.state_of, Styled.Keeping, Styled.StylesIn, Styled.resets}
-use Rattle.csicodec_clean.specs.{Styled.resumed, Styled.keeps, Styled.without_links, Steps.AreStepped, Steps.Resumes, Steps.Steps, Steps.bare, Steps.beginning}
-use Rattle.csicodec_clean.specs.{Steps.between, Steps.ending}
+use Rattle.csicodec_clean.specs.{declared.colors.Depth.Depth, declared.step.Pause.Pause, declared.whole.Dropped.Dropped, Titles.with_titles, Stream.AreTaken}
+use Rattle.csicodec_clean.specs.{Stream.GoesBy, Stream.Takes, Private.Steps.state_of, Styled.Keeping, Styled.StylesIn, Styled.resets, Styled.resumed}
+use Rattle.csicodec_clean.specs.{Styled.keeps, Styled.without_links, Steps.AreStepped, Steps.Resumes, Steps.Steps, Steps.bare, Steps.beginning, Steps.between}
+use Rattle.csicodec_clean.specs.{Steps.ending}
 use Rattle.csicodec_clean.proofs.{Chunks.any_chunks, Chunks.unsure_few, Plain.strips, Styled.styles, Sure.read_none}
 use Rattle.csicodec_actions.specs.Actions as action
 use Rattle.csicodec_base.specs.declared.sgr.Sgr.TheVariants as sgr

@@ -117,8 +117,7 @@ anew_at : (p : LinkState) (params url : List ℕ) (c : ℕ) → IsAtRest p → a
 anew_at p params url c rest = grind arith
 
 rest_behind : (m : Mode) (b : Begun) (bytes : List ℕ) → IsPiece m bytes → IsAtRest b.place → IsAtRest (all_behind true b bytes).place
-rest_behind m b bytes (inl (c, e, other, string)) rest =
-    subst (λ (t : List ℕ). IsAtRest (all_behind true b t).place) (sym e) (on_at b.place b.address.params b.address.url c rest other).0
+rest_behind m b bytes (inl (c, e, other, string)) rest = rw e (on_at b.place b.address.params b.address.url c rest other).0
 rest_behind m b bytes (inr (c, e, other)) rest =
     let same = anew_at b.place b.address.params b.address.url c rest in
     subst (λ (t : List ℕ). IsAtRest (all_behind true b t).place) (sym e) (subst (λ (x : Begun). IsAtRest x.place) (sym same) (opened_rest b.address.params b.address.url c).0)

@@ -6,9 +6,8 @@ use Rattle.std.proofs.{lemmas.Int.ints, lemmas.Bool.cond_both}
 use Rattle.csicodec_tokens.specs.{declared.param.CsiParam.CsiParam, declared.param.CsiParam.TheVariants.Integer, declared.param.CsiParam.TheVariants.P}
 use Rattle.csicodec_tokens.specs.{Fields.fields_of, Fields.with_field, OneBased.most, Sequence.IsFinal, Sequence.IsSpellable, Sequence.Spellable}
 use Rattle.csicodec_actions.specs.{Actions.Action, Actions.Sgr, Actions.Unspecified, Ranges.InRange, Ranges.SgrInRange}
-use Rattle.csicodec_parser.specs.{Canonical.IsCanonicalSgr, declared.group.Group.Group, declared.group.Group.TheVariants.DecModes}
-use Rattle.csicodec_parser.specs.{declared.group.Group.TheVariants.Modes, declared.group.Group.TheVariants.Styles, declared.group.Group.TheVariants.Whole}
-use Rattle.csicodec_parser.specs.{Cut.semicolon, Groups.Piece, Groups.group, Segments.Actions}
+use Rattle.csicodec_parser.specs.{Canonical.IsCanonicalSgr, declared.group.Group.Group, declared.group.Group.TheVariants.Styles}
+use Rattle.csicodec_parser.specs.{declared.group.Group.TheVariants.Whole, Cut.semicolon, Groups.Piece, Groups.group, Segments.Actions}
 use Rattle.csicodec_terminal.specs.{Regular.by_fields, Regular.first, Regular.has_one, Regular.has_two, Regular.regular, Regular.said, Terminal.Anew}
 use Rattle.csicodec_terminal.specs.{Terminal.IsTakenFor, Terminal.Steps, Terminal.behind, Terminal.has_unknown, Terminal.is_open}
 use Rattle.csicodec.specs.Exact.{ReadsAlone}

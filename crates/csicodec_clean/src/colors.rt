@@ -88,6 +88,7 @@ fn distance(one: SrgbaTuple, other: SrgbaTuple) -> u32
 }
 
 /// The nearest of a place and those behind it, up to another: the first, where several are as near.
+#[tactic(auto, using(crate::proofs::Reduced::none_more))]
 fn nearest(color: SrgbaTuple, first: u8, last: u8) -> u8
     requires { first < last }
     ensures { result ≡ nearest_among color first (first + 1) (last - first) }

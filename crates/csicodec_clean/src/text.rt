@@ -120,6 +120,7 @@ pub(crate) fn append_told<'a, T: Rule>(
 }
 
 /// Appends what is shown of the characters that are sure, whatever follows, and answers the others: three bytes at most.
+#[tactic(auto, using(crate::proofs::Sure::cut_short))]
 pub(crate) fn append_sure<'a, T: Rule>(
     bytes: &'a [u8],
     out: &mut Vec<u8>,

@@ -132,6 +132,7 @@ impl Anew<()> for Dropped {
 /// strip(alloc, b"a\x1b[31mb\x1b]0;title\x07\r\n")?      // "ab\n"
 /// strip(alloc, b"\xc2\x1b[m\x9b")?                      // "\u{FFFD}\u{FFFD}"
 /// ```
+#[tactic(auto, using(crate::proofs::Plain::strips, crate::proofs::Plain::strips_plain, crate::proofs::PlainBytes::no_escape))]
 pub fn strip(alloc: Global, bytes: &[u8]) -> Result<Vec<u8>, AllocError>
     // Run by run, it is what is shown of the text, and nothing else.
     ensures exact { IfOk result (λ out. Strips longest bytes.now out.items) }

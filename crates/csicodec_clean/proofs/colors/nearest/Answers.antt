@@ -1,6 +1,6 @@
-use Rattle.std.proofs.Common.{◌≡◌, ◌+◌, ◌-◌, ◌∙◌, ap, suc, sym, refl, inl, inr, arith}
+use Rattle.std.proofs.Common.{◌≡◌, ◌+◌, ◌-◌, ◌∙◌, ap, suc, refl, inl, inr, arith}
 use Rattle.csicodec_clean.specs.Palette.{distance}
-use Rattle.csicodec_clean.proofs.Reduced.{none_more, step_on}
+use Rattle.csicodec_clean.proofs.Reduced.{step_on}
 use Rattle.csicodec_clean.proofs.colors.nearest.Goals as goal
 
 pub loop-place-preserved-then-here-least : goal.loop-place-preserved-then-here-least
@@ -24,8 +24,3 @@ loop-place-preserved c =
       least = l.invariant.least;
       same = step_on c.args.color l.best (l.place + 1) _ _ _ l.least c.distance-here.result _ l.invariant.least here (inr (c.if-here-least.false, refl)) left (omega arith) ∙ l.invariant.same;
     }
-
-pub returns : goal.returns
-returns c =
-    let l = c.loop-place in
-    sym (none_more c.args.color l.best (l.place + 1) (c.args.last - l.place) (omega (arith, c.loop-place-test.false))) ∙ l.invariant.same

@@ -1,6 +1,6 @@
 use Rattle.std.proofs.Common.{◌++◌, ◌∷◌, [], take, drop, sym, ap, ◌∙◌, append_assoc, take-append-drop}
 use Rattle.csicodec_clean.specs.{Shown.chars_as, Private.Steps.ReadsTo}
-use Rattle.csicodec_clean.proofs.{Sure.cut_short, Shows.shown_on, Told.reads_on, Told.tells_more, Told.tells_read}
+use Rattle.csicodec_clean.proofs.{Shows.shown_on, Told.reads_on, Told.tells_more, Told.tells_read}
 use Rattle.csicodec_clean.proofs.text.append_sure.Goals as goal
 
 pub loop-char-init : goal.loop-char-init
@@ -19,6 +19,3 @@ loop-char-preserved g c =
     let shown = c.in_ok-append_char.ensures ∙ ap (λ t. t ++ chars_as w one) out ∙ append_assoc c.args.out.now.items (chars_as w chars) (chars_as w one) in
     tells_more w bytes behind c.split_at.result.1.now _ (chars ++ one) c.args.out.now.items _ _ here c.split_at.ensures.back
     (shown ∙ ap (λ t. c.args.out.now.items ++ t) (sym (shown_on w chars one))) c.in_ok-rest.ensures
-
-pub returns-clause-short : goal.returns-clause-short
-returns-clause-short g c = cut_short _ c.in_default.ensures.none

@@ -1,4 +1,4 @@
-use Rattle.std.proofs.Common.{◌++◌, ap, ◌∙◌}
+use Rattle.std.proofs.Common.{◌++◌, refl}
 use Rattle.csicodec_clean.specs.{Shown.run_as, Cleaned.longest}
 use Rattle.csicodec_clean.proofs.Chunks.{cleans}
 use Rattle.csicodec_clean.proofs.whole.clean_whole.Goals as goal
@@ -6,8 +6,6 @@ use Rattle.csicodec_clean.proofs.whole.clean_whole.Goals as goal
 pub returns : goal.returns
 returns g c =
     let (appended, out, goes, front, last) = rw c.new-held.ensures.items at c.in_ok-_rest.ensures.goes in
-    let same =
-    c.in_ok-append_shown.ensures ∙ ap (λ t. t ++ run_as g.T.Rule.gives.writing c.deref.result.now) (out ∙ ap (λ t. t ++ appended) c.new-out.ensures.items) ∙ ap (λ t. appended ++ run_as g.T.Rule.gives.writing t) c.deref.ensures.value in
     let (close, closes, longer) = c.in_ok-close.ensures in
     record {
       before = appended ++ run_as g.T.Rule.gives.writing c.append_clean.new.held.items;
@@ -15,5 +13,5 @@ returns g c =
       close = close;
       cleans = cleans g.T.Rule.gives longest c.args.rule.now c.args.bytes.now appended _ goes c.in_ok-_rest.ensures.unsure;
       closes = closes;
-      all = longer ∙ ap (λ t. t ++ close) same;
+      all = rw (longer, c.in_ok-append_shown.ensures, out, c.new-out.ensures.items, c.deref.ensures.value) refl;
     }

@@ -106,12 +106,15 @@ def look_arms(them):
 
 
 def looks(them):
-    """A line for each attribute: what is behind it."""
+    """A line for each attribute that is shown: what is behind it; behind any other it looks as before."""
     for action in them.actions:
         variant = action.variant[0]
         look = them.looks.get(variant)
-        shown = "plain" if action.form == "unit" else f"record l {{ {look} = x }}" if look else "l"
-        yield f"behind l {f'sgr.{variant}' if action.form == 'unit' else f'(sgr.{variant} x)'} = {shown}"
+        if action.form == "unit":
+            yield f"behind l sgr.{variant} = plain"
+        elif look:
+            yield f"behind l (sgr.{variant} x) = record l {{ {look} = x }}"
+    yield "behind l s = l"
 
 
 def pen(them):

@@ -1,12 +1,12 @@
 -- No byte of a declaration, or of a class's name, ends the attribute that it stands in.
-use Rattle.std.proofs.Common.{◌≡◌, ◌/◌, ◌%◌, ℕ, Bool, true, false, zero, suc, Some, None, get_or, List, [], ◌∷◌, ◌++◌, refl, arith}
-use Rattle.std.proofs.{lemmas.Bool.and_parts, lemmas.Bool.cond_both, lemmas.Bool.Decides.nat_tests}
+use Rattle.std.proofs.Common.{◌≡◌, ◌/◌, ◌%◌, ℕ, Bool, true, false, zero, suc, Some, None, get_or, List, [], ◌∷◌, ◌++◌, ⊎_elim, refl, arith}
+use Rattle.std.proofs.{lemmas.Bool.and_parts, lemmas.Bool.cases_Bool, lemmas.Bool.cond_both, lemmas.Bool.Decides.nat_tests}
 use Rattle.std.specs.{Prelude.Option, Prelude.codes, Prelude.◌&&◌, Prelude.◌==◌, Prelude.if◌then◌else◌, Fmt.decimal, Fmt.digit_glyph, Fmt.digits}
 use Rattle.std.specs.{Fmt.digits_onto, List.AllByRecursion}
 use Rattle.csicodec_clean.proofs.PlainBytes.{all_both}
 use Rattle.csicodec_names.specs.{declared.color.ColorSpec.ColorSpec, declared.color.Intensity.Intensity, declared.color.SrgbaTuple.SrgbaTuple}
 use Rattle.csicodec_names.specs.{declared.color.Underline.Underline}
-use Rattle.csicodec_html.specs.Look.{color_text, colored, colors, css, has_line, hex_color, hex_digit, inverse_colors, line_color, line_kind, line_places, line_style, lines, own_name, place_text, property, property_of, some_lines, straight_colors, weight}
+use Rattle.csicodec_html.specs.Look.{color_text, colored, colors, css, has_line, hex_color, hex_digit, line_color, line_kind, line_places, lines, own_name, place_text, property, property_of, weight}
 use Rattle.csicodec_html.specs.{declared.classes.Class.Class, declared.classes.Layer.Layer, declared.look.Look.Look, declared.palette.Palette.Palette}
 use Rattle.csicodec_html.specs.{Palette.color_at, Palette.pair_of, Palette.pairs, Classes.class_name, Classes.part_name, Classes.true_color}
 use Rattle.csicodec_html.specs.{Classes.true_colors, Page.IsHarmless, Page.is_harmless}
@@ -93,17 +93,12 @@ line p color.Default = tt
 line p (color.PaletteIndex i) = (refl, at_place part.Line i (color_at p i))
 line p (color.TrueColor c) = (refl, hex c)
 
-style : (p : Palette) (l : Look) → Fine (line_style p l)
-unfolding line_style
-style p l = search (all_both, kind, line)
-
-some : (p : Palette) (l : Look) → Fine (some_lines p l)
-unfolding some_lines
-some p l = all_both IsHarmless (codes "text-decoration:") (line_places l ++ (line_style p l ++ 59 ∷ [])) (checked (codes "text-decoration:") refl) (search (all_both, places, style))
-
 all_lines : (p : Palette) (l : Look) → Fine (lines p l)
 unfolding lines
-all_lines p l = when (has_line l) (some_lines p l) (some p l)
+all_lines p l =
+    let what = codes "text-decoration:" in
+    let some = line_places l ++ (line_kind l.underline ++ (line_color p l.line ++ 59 ∷ [])) in
+    when (has_line l) (what ++ some) (all_both IsHarmless what some (checked what refl) (search (all_both, places, kind, line)))
 
 of_one : (p : Palette) (of : Layer) (c : ColorSpec) → Fine (property p of c)
 unfolding property
@@ -115,8 +110,11 @@ one p of color.Default = tt
 one p of c = of_one p of c
 
 all_colors : (p : Palette) (l : Look) → Fine (colors p l)
-unfolding colors inverse_colors straight_colors
-all_colors p l = cond_both l.inverse (inverse_colors p l) (straight_colors p l) Fine (λ _. search (all_both, of_one)) (λ _. search (all_both, one))
+unfolding colors
+all_colors p l = ⊎_elim
+    (λ (e : l.inverse ≡ true). rw e (search (all_both, of_one)))
+    (λ (e : l.inverse ≡ false). rw e (search (all_both, one)))
+    (cases_Bool l.inverse)
 
 pub css_fine : (p : Palette) (l : Look) → Fine (css p l)
 css_fine p l = search (all_both, strokes, when, checked, all_lines, all_colors)

@@ -9,8 +9,7 @@ use Rattle.csicodec_clean.specs.{Shown.run_as, Shown.shown, Shown.IsShown, Title
 use Rattle.csicodec_clean.specs.{Addresses.is_web, Links.Address, Links.Begun, Links.IsLink, Links.IsWithin, Links.links_in, Links.start}
 use Rattle.csicodec_clean.proofs.{Linked.fine_behind, Linked.fine_links, Linked.links_none, Plain.kept_shown, Plain.scalars_lossy, PlainBytes.all_both}
 use Rattle.csicodec_html.specs.Page.{AreLeft, Char, IsSafe, Leaves, Open, PageWith, Piece, Setting, begins, behind_actions, behind_string, closing, ends, escaped, first_set, leads, piece_text, piece_texts, opens, pieces_behind, run_behind, shown_pieces, shuts, switch, switches, turn}
-use Rattle.csicodec_html.specs.{Private.Rule.closes, Private.Rule.pieces_bytes, Private.Rule.turns, declared.look.Look.Look, declared.markup.Markup.Markup}
-use Rattle.csicodec_html.specs.{Look.behind_all, Look.sets_any}
+use Rattle.csicodec_html.specs.{Private.Rule.closes, Private.Rule.turns, declared.look.Look.Look, declared.markup.Markup.Markup, Look.behind_all, Look.sets_any}
 use Rattle.csicodec_html.proofs.{Leads.given, Marks.pieces}
 use Rattle.csicodec_spans.specs.declared.table.Kind.TheVariants as kind
 

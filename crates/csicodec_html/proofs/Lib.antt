@@ -1,4 +1,3 @@
-pub mod Addresses
 pub mod Apart
 pub mod Back
 pub mod Declarations
@@ -8,9 +7,6 @@ pub mod Marks
 pub mod MarkupBytes
 pub mod Paired
 pub mod Recalled
-pub mod Ruled
 pub mod Said
 pub mod Settled
-pub mod Tagged
 pub mod Turned
-pub mod Stood

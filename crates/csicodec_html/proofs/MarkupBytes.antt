@@ -8,8 +8,8 @@ use Rattle.csicodec_html.specs.Classes.{class_name, classes_of, has_true, names,
 use Rattle.csicodec_html.specs.Page.{IsHarmless, IsQuoted, IsPageWith, IsSafe, PageWith, Piece, Char, Begin, End, Open, Shut, are_paired, escaped, piece_text, piece_texts}
 use Rattle.csicodec_html.specs.MarkupBytes.{Spot, Inside, Tag, begun, is_value_byte, is_markup, no_value, spot_behind, IsMarkup}
 use Rattle.csicodec_html.specs.{declared.classes.Class.Class, declared.look.Look.Look, declared.markup.Markup.Markup, Look.css, Look.settled}
-use Rattle.csicodec_html.proofs.{Addresses.all_quoted, Addresses.escaped_by, Declarations.Fine, Declarations.css_fine, Declarations.name_fine}
-use Rattle.csicodec_html.proofs.{Declarations.true_fine, Paired.is_page}
+use Rattle.csicodec_html.proofs.{Marks.all_quoted, Marks.escaped_by, Declarations.Fine, Declarations.css_fine, Declarations.name_fine, Declarations.true_fine}
+use Rattle.csicodec_html.proofs.{Paired.is_page}
 
 -- ---- characters
 

@@ -8,8 +8,8 @@ use Rattle.csicodec_actions.specs.Actions.{Action}
 use Rattle.csicodec_terminal.specs.Terminal.{Terminal}
 use Rattle.csicodec_spans.specs.Parts.{IsSequence}
 use Rattle.csicodec_html.specs.{declared.look.Look.Look, declared.markup.Markup.Markup, declared.turns.InFront.InFront, declared.turns.Turn.Turn}
-use Rattle.csicodec_html.specs.{Look.behind_all, Look.sets_any, Page.Setting, Page.piece_texts, Page.setting, Page.turn, Private.Rule.turns}
-use Rattle.csicodec_html.specs.{Private.Turns.IsTurned, Turns.Fits, Turns.IsTold, Turns.IsTurn}
+use Rattle.csicodec_html.specs.{Look.behind_all, Look.sets_any, Page.Setting, Page.piece_texts, Page.setting, Page.turn, Private.Rule.turns, Turns.Fits}
+use Rattle.csicodec_html.specs.{Turns.IsTold, Turns.IsTurn, Turns.IsTurned}
 use Rattle.csicodec_names.specs.contracts.color.ColorSpecPartialEq.TheImpl as color_eq
 use Rattle.csicodec_names.specs.contracts.color.IntensityPartialEq.TheImpl as intensity_eq
 use Rattle.csicodec_names.specs.contracts.color.UnderlinePartialEq.TheImpl as underline_eq

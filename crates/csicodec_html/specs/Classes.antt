@@ -53,12 +53,11 @@ weight_class intensity.Half = Some kind.Faint
 
 -- the kind of the lines, where it isn't a single one
 abbrev pub lines_class : Underline → Option Class
-lines_class underline.None = None
-lines_class underline.Single = None
 lines_class underline.Double = Some kind.Double
 lines_class underline.Curly = Some kind.Curly
 lines_class underline.Dotted = Some kind.Dotted
 lines_class underline.Dashed = Some kind.Dashed
+lines_class u = None
 
 -- a colour by its number, and the class for the page's own, if there is one; a colour by its parts has none
 abbrev pub color_class : Layer → Option Class → ColorSpec → Option Class
@@ -112,15 +111,13 @@ names came [] = if came then 34 ∷ [] else []
 names came (slot ∷ slots) = slot_text came slot ++ names (behind_slot came slot) slots
 
 abbrev pub is_true : ColorSpec → Bool
-is_true color.Default = false
-is_true (color.PaletteIndex i) = false
 is_true (color.TrueColor c) = true
+is_true c = false
 
 -- a colour by its parts
 abbrev pub true_color : Layer → ColorSpec → List ℕ
-true_color p color.Default = []
-true_color p (color.PaletteIndex i) = []
 true_color p (color.TrueColor c) = property_of p ++ (hex_color c ++ 59 ∷ [])
+true_color p c = []
 
 unfoldable pub true_colors : Look → List ℕ
 true_colors l =

@@ -15,14 +15,11 @@ digit_of c = if is_between 48 57 c then Some (c - 48)
 
 abbrev pub part_of : Option ℕ → Option ℕ → Option ℕ
 part_of (Some high) (Some low) = Some (high * 16 + low)
-part_of (Some high) None = None
-part_of None low = None
+part_of high low = None
 
 abbrev pub of_parts : Option ℕ → Option ℕ → Option ℕ → Option SrgbaTuple
 of_parts (Some red) (Some green) (Some blue) = Some (rgb red green blue)
-of_parts (Some red) (Some green) None = None
-of_parts (Some red) None blue = None
-of_parts None green blue = None
+of_parts red green blue = None
 
 -- six digits
 abbrev pub digits_color : List ℕ → Option SrgbaTuple

@@ -34,16 +34,13 @@ behind l sgr.Reset = plain
 behind l (sgr.Intensity x) = record l { intensity = x }
 behind l (sgr.Underline x) = record l { underline = x }
 behind l (sgr.UnderlineColor x) = record l { line = x }
-behind l (sgr.Blink x) = l
 behind l (sgr.Italic x) = record l { italic = x }
 behind l (sgr.Inverse x) = record l { inverse = x }
-behind l (sgr.Invisible x) = l
 behind l (sgr.StrikeThrough x) = record l { strike = x }
-behind l (sgr.Font x) = l
 behind l (sgr.Foreground x) = record l { foreground = x }
 behind l (sgr.Background x) = record l { background = x }
 behind l (sgr.Overline x) = record l { overline = x }
-behind l (sgr.VerticalAlign x) = l
+behind l s = l
 
 -- behind the actions of a sequence
 abbrev pub behind_all : Look → List Action → Look
@@ -59,21 +56,15 @@ sets_any (a ∷ actions) = sets_any actions
 
 abbrev pub is_normal : Intensity → Bool
 is_normal intensity.Normal = true
-is_normal intensity.Bold = false
-is_normal intensity.Half = false
+is_normal i = false
 
 abbrev pub is_none : Underline → Bool
 is_none underline.None = true
-is_none underline.Single = false
-is_none underline.Double = false
-is_none underline.Curly = false
-is_none underline.Dotted = false
-is_none underline.Dashed = false
+is_none u = false
 
 abbrev pub is_default : ColorSpec → Bool
 is_default color.Default = true
-is_default (color.PaletteIndex i) = false
-is_default (color.TrueColor c) = false
+is_default c = false
 
 -- a line below, above or through it
 abbrev pub has_line : Look → Bool
@@ -92,10 +83,9 @@ abbrev pub is_exact : ColorSpec → Bool
 is_exact c = is_some (known c)
 
 abbrev pub settled_color : ColorSpec → ColorSpec
-settled_color color.Default = color.Default
 settled_color (color.PaletteIndex i) =
     if nat_lt i 16 then color.TrueColor (palette i) else color.PaletteIndex i
-settled_color (color.TrueColor c) = color.TrueColor c
+settled_color c = c
 
 -- text or background has one, and pairs could stand beside it
 abbrev pub is_mixed : Palette → Look → Bool
@@ -132,19 +122,16 @@ hex_color c = 35 ∷ (two_digits c.0 ++ (two_digits c.1 ++ two_digits c.2))
 
 -- what a colour is of
 abbrev pub property_of : Layer → List ℕ
-property_of part.Text = codes "color:"
-property_of part.Ground = codes "background-color:"
 property_of part.Line = codes "text-decoration-color:"
-property_of part.TextAsGround = codes "color:"
+property_of part.Ground = codes "background-color:"
 property_of part.GroundAsText = codes "background-color:"
+property_of of = codes "color:"
 
 -- the page's own colour that a part has where text and background change places
 abbrev pub own_name : Layer → List ℕ
-own_name part.Text = []
-own_name part.Ground = []
-own_name part.Line = []
 own_name part.TextAsGround = codes "Canvas"
 own_name part.GroundAsText = codes "CanvasText"
+own_name of = []
 
 -- the colour of a place, or its pair where it has none
 abbrev pub place_text : Layer → ℕ → Option SrgbaTuple → List ℕ
@@ -167,12 +154,11 @@ slant italic = if italic then codes "font-style:italic;" else []
 
 -- the kind of the lines, where it isn't a single one
 unfoldable pub line_kind : Underline → List ℕ
-line_kind underline.None = []
-line_kind underline.Single = []
 line_kind underline.Double = codes " double"
 line_kind underline.Curly = codes " wavy"
 line_kind underline.Dotted = codes " dotted"
 line_kind underline.Dashed = codes " dashed"
+line_kind u = []
 
 -- a colour of the lines that isn't the text's
 unfoldable pub line_color : Palette → ColorSpec → List ℕ
@@ -184,14 +170,11 @@ line_places l =
     ++ ((if l.overline then codes " overline" else [])
     ++ (if l.strike then codes " line-through" else []))
 
-unfoldable pub line_style : Palette → Look → List ℕ
-line_style p l = line_kind l.underline ++ line_color p l.line
-
-unfoldable pub some_lines : Palette → Look → List ℕ
-some_lines p l = codes "text-decoration:" ++ (line_places l ++ (line_style p l ++ 59 ∷ []))
-
 unfoldable pub lines : Palette → Look → List ℕ
-lines p l = if has_line l then some_lines p l else []
+lines p l =
+    if has_line l then codes "text-decoration:"
+    ++ (line_places l ++ (line_kind l.underline ++ (line_color p l.line ++ 59 ∷ [])))
+    else []
 
 -- what a colour is of, and the colour
 unfoldable pub property : Palette → Layer → ColorSpec → List ℕ
@@ -201,18 +184,12 @@ property p of c = property_of of ++ (color_text p of c ++ 59 ∷ [])
 unfoldable pub colored : Palette → Layer → ColorSpec → List ℕ
 colored p of c = if is_default c then [] else property p of c
 
--- text and background where they change places: the page's own colours that aren't given have names then
-unfoldable pub inverse_colors : Palette → Look → List ℕ
-inverse_colors p l =
-    property p part.TextAsGround (or_own p.background l.background)
-    ++ property p part.GroundAsText (or_own p.foreground l.foreground)
-
-unfoldable pub straight_colors : Palette → Look → List ℕ
-straight_colors p l =
-    colored p part.Text l.foreground ++ colored p part.Ground l.background
-
+-- text and background: where they change places the page's own colours that aren't given have names
 unfoldable pub colors : Palette → Look → List ℕ
-colors p l = if l.inverse then inverse_colors p l else straight_colors p l
+colors p l =
+    if l.inverse then property p part.TextAsGround (or_own p.background l.background)
+    ++ property p part.GroundAsText (or_own p.foreground l.foreground)
+    else colored p part.Text l.foreground ++ colored p part.Ground l.background
 
 -- the declarations of a look
 abbrev pub css : Palette → Look → List ℕ

@@ -12,15 +12,19 @@ use Rattle.csicodec_html.specs.{Look.sets_any, Palette.readable}
 use Rattle.csicodec_spans.specs.declared.table.Kind.TheVariants as kind
 use Rattle.csicodec_spans.specs.declared.table.Mode.TheVariants as mode
 
--- a character on the page: one that HTML could take for markup by its name or number, any other one as UTF-8
-abbrev pub escaped : ℕ → List ℕ
-escaped c =
+-- a character that HTML could take for markup, by its name or number, and any other one as it is
+abbrev pub reference_or : List ℕ → ℕ → List ℕ
+reference_or itself c =
     if c == 38 then codes "&amp;"
     else if c == 60 then codes "&lt;"
     else if c == 62 then codes "&gt;"
     else if c == 34 then codes "&quot;"
     else if c == 39 then codes "&#39;"
-    else encode_utf8 c
+    else itself
+
+-- a character on the page
+abbrev pub escaped : ℕ → List ℕ
+escaped c = reference_or (encode_utf8 c) c
 
 -- what the tag of a link says of where it leads: it is no word of the page's author, and who follows it brings no address of the page
 -- there, nor a way back into it (HTML, 4.6.6)
@@ -50,10 +54,7 @@ piece_texts pieces = flat_map piece_text pieces
 abbrev pub chars_of : List Piece → List ℕ
 chars_of [] = []
 chars_of (Char c ∷ pieces) = c ∷ chars_of pieces
-chars_of (Begin m l ∷ pieces) = chars_of pieces
-chars_of (End ∷ pieces) = chars_of pieces
-chars_of (Open url ∷ pieces) = chars_of pieces
-chars_of (Shut ∷ pieces) = chars_of pieces
+chars_of (p ∷ pieces) = chars_of pieces
 
 -- a span stands around what looks otherwise than plain text
 abbrev pub begins : Markup → Look → List Piece
@@ -129,9 +130,7 @@ Leaves s kind.Csi bytes own after = (actions : List Action) × IsTakenFor bytes 
 Leaves s kind.Str bytes own after =
     (own ≡ switches s.markup s.look s.to (links_in s.markup.links s.begun bytes))
     × (after ≡ behind_string s bytes)
-Leaves s kind.Text bytes own after = (own ≡ []) × (after ≡ s)
-Leaves s kind.Esc bytes own after = (own ≡ []) × (after ≡ s)
-Leaves s kind.Other bytes own after = (own ≡ []) × (after ≡ s)
+Leaves s k bytes own after = (own ≡ []) × (after ≡ s)
 
 abbrev pub run_behind : Kind → List ℕ → List ℕ → List ℕ
 run_behind kind.Text run bytes = run ++ bytes
@@ -176,9 +175,8 @@ pub record IsLed (url : List ℕ) : Type 0 where
 abbrev pub IsSafe : Markup → Piece → Type 0
 IsSafe m (Char c) = IsShown c × IsScalar c
 IsSafe m (Begin n l) = (n ≡ m) × (is_plain l ≡ false)
-IsSafe m End = ⊤
 IsSafe m (Open url) = (m.links ≡ true) × IsLed url
-IsSafe m Shut = ⊤
+IsSafe m p = ⊤
 
 -- The tags are in pairs, in a link or not, in a span or not: a span has nothing in it but text, a link text and spans, and each is
 -- ended.

@@ -56,8 +56,6 @@ pairs =
     ∷ (codes "light-dark(#24292f,#ffffff)", codes "light-dark(#ffffff,#3a4148)") ∷ []
 
 abbrev pub pair_of : Layer → ℕ → List ℕ
-pair_of part.Text i = (get_or pairs i ([], [])).0
 pair_of part.Ground i = (get_or pairs i ([], [])).1
-pair_of part.Line i = (get_or pairs i ([], [])).0
 pair_of part.TextAsGround i = (get_or pairs i ([], [])).1
-pair_of part.GroundAsText i = (get_or pairs i ([], [])).0
+pair_of of i = (get_or pairs i ([], [])).0

@@ -1,6 +1,15 @@
 -- What a table of control sequences that came before holds: how each turns text, and what is written for it.
 use Rattle.std.specs.{Prelude.ℕ, Prelude.◌≡◌, Prelude.◌≤◌, Prelude.List, Prelude.◌++◌, Prelude.length, Prelude.take, List.All}
-use Rattle.csicodec_html.specs.{declared.look.Look.Look, declared.turns.InFront.InFront, declared.turns.Turn.Turn}
+use Rattle.csicodec_actions.specs.Actions.{Action}
+use Rattle.csicodec_terminal.specs.Terminal.{IsTakenFor}
+use Rattle.csicodec_html.specs.{declared.look.Look.Look, declared.markup.Markup.Markup, declared.turns.InFront.InFront, declared.turns.Turn.Turn}
+use Rattle.csicodec_html.specs.{Look.behind_all, Look.sets_any, Page.piece_texts, Page.turn}
+
+-- the bytes are one control sequence, from one look to another, and these are the tags between
+abbrev pub IsTurned : Markup → List ℕ → Look → Look → List ℕ → Type 0
+IsTurned m bytes old new tags = (actions : List Action) × IsTakenFor bytes actions
+    × (new ≡ behind_all old actions)
+    × (tags ≡ piece_texts (turn m (sets_any actions) old (behind_all old actions)))
 
 -- it turns text of one look into text of another, and that is written for it
 abbrev pub IsTurn : (List ℕ → Look → Look → List ℕ → Type 0) → Turn → Type 0

@@ -25,7 +25,8 @@ fn is_true(color: ColorSpec) -> bool
 fn has_true(look: Look) -> bool
     ensures { result ≡ has_true look }
 {
-    is_true(look.text_color()) || is_true(look.ground_color()) || is_true(look.lines_color())
+    let (text, ground) = look.colors();
+    is_true(text) || is_true(ground) || is_true(look.lines_color())
 }
 
 /// Appends the declaration of a colour by its parts.
@@ -45,8 +46,9 @@ fn append_true(part: Layer, color: ColorSpec, out: &mut Vec<u8>) -> Result<(), A
 fn append_true_colors(look: Look, out: &mut Vec<u8>) -> Result<(), AllocError>
     ensures { OnOk result (out.new.items ≡ out.old.items ++ true_colors look) }
 {
-    append_true(Layer::Text, look.text_color(), out)?;
-    append_true(Layer::Ground, look.ground_color(), out)?;
+    let (text, ground) = look.colors();
+    append_true(Layer::Text, text, out)?;
+    append_true(Layer::Ground, ground, out)?;
     append_true(Layer::Line, look.lines_color(), out)
 }
 

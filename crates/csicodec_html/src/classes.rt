@@ -85,47 +85,27 @@ fn color_class(part: Layer, own: Option<Class>, color: ColorSpec) -> Option<Clas
 }
 
 impl Look {
-    /// What the colour of its text is of.
-    pub(crate) fn text_part(self) -> Layer
-        ensures { result ≡ text_part self }
+    /// What the colour of its text is of, and that behind it.
+    fn parts(self) -> (Layer, Layer)
+        ensures text { result.0 ≡ text_part self }
+        ensures ground { result.1 ≡ ground_part self }
     {
         if self.inverse {
-            Layer::TextAsGround
+            (Layer::TextAsGround, Layer::GroundAsText)
         } else {
-            Layer::Text
+            (Layer::Text, Layer::Ground)
         }
     }
 
-    /// What the colour behind it is of.
-    pub(crate) fn ground_part(self) -> Layer
-        ensures { result ≡ ground_part self }
+    /// The colour that text has, and that behind it.
+    pub(crate) fn colors(self) -> (ColorSpec, ColorSpec)
+        ensures text { result.0 ≡ text_color self }
+        ensures ground { result.1 ≡ ground_color self }
     {
         if self.inverse {
-            Layer::GroundAsText
+            (self.background, self.foreground)
         } else {
-            Layer::Ground
-        }
-    }
-
-    /// The colour that text has.
-    pub(crate) fn text_color(self) -> ColorSpec
-        ensures { result ≡ text_color self }
-    {
-        if self.inverse {
-            self.background
-        } else {
-            self.foreground
-        }
-    }
-
-    /// The colour behind it.
-    pub(crate) fn ground_color(self) -> ColorSpec
-        ensures { result ≡ ground_color self }
-    {
-        if self.inverse {
-            self.foreground
-        } else {
-            self.background
+            (self.foreground, self.background)
         }
     }
 
@@ -144,8 +124,10 @@ impl Look {
     pub(crate) fn classes(self) -> [Option<Class>; 9]
         ensures { result ≡ classes_of self }
     {
-        let text = class_if(self.inverse, Class::TextAsGround);
-        let ground = class_if(self.inverse, Class::GroundAsText);
+        let (text_part, ground_part) = self.parts();
+        let (text, ground) = self.colors();
+        let text_own = class_if(self.inverse, Class::TextAsGround);
+        let ground_own = class_if(self.inverse, Class::GroundAsText);
         [
             weight_class(self.intensity),
             class_if(self.italic, Class::Italic),
@@ -153,8 +135,8 @@ impl Look {
             lines_class(self.underline),
             class_if(self.overline, Class::Overline),
             class_if(self.strike, Class::Strike),
-            color_class(self.text_part(), text, self.text_color()),
-            color_class(self.ground_part(), ground, self.ground_color()),
+            color_class(text_part, text_own, text),
+            color_class(ground_part, ground_own, ground),
             color_class(Layer::Line, None, self.lines_color()),
         ]
     }

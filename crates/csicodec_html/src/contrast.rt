@@ -1,6 +1,6 @@
 //! Text that can be read on its ground.
 ghost use Rattle.std.specs.Prelude.{◌≡◌, ◌<◌, ◌≤◌, ◌+◌, ◌*◌, ℕ};
-ghost use Rattle.csicodec_html.specs.Contrast.{are_near, black_or_white, is_near, is_there, known, legible, light, luminance, on_ground, on_page, place_like};
+ghost use Rattle.csicodec_html.specs.Contrast.{black_or_white, is_near, is_there, known, legible, light, luminance, on_ground, on_page, place_like};
 
 use csicodec_base::{ColorSpec, SrgbaTuple};
 use csicodec_clean::palette;
@@ -30,23 +30,14 @@ fn luminance(color: SrgbaTuple) -> u64
     2126 * light(color.0) + 7152 * light(color.1) + 722 * light(color.2)
 }
 
-/// Whether colours of such luminance can't be told from each other.
-#[tactic(auto, unfolding(crate::specs::Contrast::are_near))]
-fn are_near(one: u64, other: u64) -> bool
-    requires one { one ≤ 165813750000000 }
-    requires other { other ≤ 165813750000000 }
-    ensures { result ≡ are_near one other }
-{
-    let one = one + 8290687500000;
-    let other = other + 8290687500000;
-    20 * one < 31 * other && 20 * other < 31 * one
-}
-
 /// Whether two colours can't be told from each other.
+#[tactic(auto, unfolding(crate::specs::Contrast::are_near))]
 fn is_near(one: SrgbaTuple, other: SrgbaTuple) -> bool
     ensures { result ≡ is_near one other }
 {
-    are_near(luminance(one), luminance(other))
+    let one = luminance(one) + 8290687500000;
+    let other = luminance(other) + 8290687500000;
+    20 * one < 31 * other && 20 * other < 31 * one
 }
 
 /// The colour, if it is the same on a light and on a dark page.

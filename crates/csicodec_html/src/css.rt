@@ -110,7 +110,7 @@ fn append_colored(
 }
 
 /// Appends the colours of text and background, which may have changed places.
-#[tactic(auto, unfolding(crate::specs::Look::colors, crate::specs::Look::inverse_colors, crate::specs::Look::straight_colors))]
+#[tactic(auto, unfolding(crate::specs::Look::colors))]
 fn append_colors(palette: &Palette, look: Look, out: &mut Vec<u8>) -> Result<(), AllocError>
     ensures { OnOk result (out.new.items ≡ out.old.items ++ colors palette.now look) }
 {

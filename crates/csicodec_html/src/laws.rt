@@ -19,7 +19,7 @@ pub fn text_stays()
 {}
 
 /// No byte of an attribute ends it, or begins a tag; a reference is one of the five by which characters are escaped, in an address.
-#[tactic(auto, using(crate::proofs::Declarations::css_fine, crate::proofs::Addresses::all_quoted, crate::proofs::Declarations::name_fine, crate::proofs::Declarations::true_fine))]
+#[tactic(auto, using(crate::proofs::Declarations::css_fine, crate::proofs::Marks::all_quoted, crate::proofs::Declarations::name_fine, crate::proofs::Declarations::true_fine))]
 pub fn attributes_end()
     ensures styles { (p : Palette) (l : Look) → AllByRecursion IsHarmless (css p l) }
     ensures addresses { (url : List ℕ) → AllByRecursion (λ b. is_visible b ≡ true) url
@@ -57,7 +57,7 @@ pub fn same_styles()
 {}
 
 /// Each class has its rule in the sheet, and so have lines by all their classes together, which says where they are.
-#[tactic(auto, using(crate::proofs::Ruled::ruled, crate::proofs::Ruled::lines_ruled))]
+#[tactic(auto, using(crate::proofs::Said::ruled, crate::proofs::Said::lines_ruled))]
 pub fn each_rule()
     ensures classes { (p : Palette) (c : Class) → IsClass c → IsIn (class_rule p c) (class_rules p) }
     ensures lines { (p : Palette) (l : Look) → has_line l ≡ true → IsIn (line_rule l) (class_rules p) }

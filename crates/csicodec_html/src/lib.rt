@@ -8,8 +8,6 @@ mod contrast;
 mod css;
 mod given;
 pub mod laws;
-mod light_dark;
-mod links;
 mod look;
 mod markup;
 mod page;
@@ -18,7 +16,6 @@ mod pieces;
 mod rule;
 mod run;
 mod sheet;
-mod standing;
 mod tags;
 mod turns;
 

@@ -7,9 +7,33 @@ ghost use Rattle.csicodec_html.specs.{Private.Rule.stands};
 
 use crate::markup::Markup;
 use crate::rule::SpanWriter;
-use crate::standing::Standing;
-use csicodec_clean::{LANES, clean_whole, split_front};
+use csicodec_clean::{ByteClass, LANES, clean_whole, first_set, split_front};
 use std::alloc::{AllocError, Global};
+use std::simd::prelude::*;
+
+/// All bytes but the five characters that are written as references.
+struct Standing;
+
+impl ByteClass for Standing {
+    ghost use Rattle.csicodec_html.specs.Private.Rule.{stands};
+
+    ghost class = { stands };
+
+    #[inline(always)]
+    fn has(byte: u8) -> bool {
+        byte != b'"' && byte != b'&' && byte != b'\'' && byte != b'<' && byte != b'>'
+    }
+
+    #[inline(always)]
+    fn lanes(bytes: &[u8]) -> usize {
+        let lanes = u8x16::from_slice(bytes);
+        // (the two of each pair differ in one bit, and are told by one comparison)
+        let brackets = lanes.simd_eq(u8x16::splat(b'<')) | lanes.simd_eq(u8x16::splat(b'>'));
+        let neighbours = lanes.simd_eq(u8x16::splat(b'&')) | lanes.simd_eq(u8x16::splat(b'\''));
+        let odd = brackets | neighbours | lanes.simd_eq(u8x16::splat(b'"'));
+        first_set(odd.to_bitmask())
+    }
+}
 
 /// Appends a byte as it stands on the page.
 fn append_byte(byte: u8, out: &mut Vec<u8>) -> Result<(), AllocError>

@@ -1,6 +1,6 @@
 //! The colours of a page by number, and the page's own.
 ghost use Rattle.std.specs.Prelude.{◌<◌, ◌≡◌};
-ghost use Rattle.csicodec_html.specs.Palette.{color_at, first_color, or_own, readable, xterm};
+ghost use Rattle.csicodec_html.specs.Palette.{color_at, first_color, or_own, xterm};
 
 use csicodec_base::{ColorSpec, SrgbaTuple};
 use csicodec_clean::palette;
@@ -10,7 +10,7 @@ use csicodec_clean::palette;
 /// ```text
 /// Palette::xterm().color(1)           // Some(SrgbaTuple(205, 0, 0, 255))
 /// ```
-#[derive(Clone, Copy, PartialEq, Eq, Debug)]
+#[derive(Clone, Copy, PartialEq, Eq, Debug, Default)]
 pub struct Palette {
     /// Those of the places 0 to 15, on a light page and on a dark one. Without them each place has a colour for either that can be read
     /// there, and others behind text. Their alpha isn't looked at, nor that of the others.
@@ -19,19 +19,6 @@ pub struct Palette {
     pub foreground: Option<SrgbaTuple>,
     /// The colour of the page behind text.
     pub background: Option<SrgbaTuple>,
-}
-
-/// Where nobody chose.
-impl Default for Palette {
-    ghost is_default = { λ p. p ≡ readable };
-
-    fn default() -> Palette {
-        Palette {
-            first: None,
-            foreground: None,
-            background: None,
-        }
-    }
 }
 
 /// The colour, or in place of the page's own one that is given for it.

@@ -17,6 +17,7 @@ use std::alloc::AllocError;
 /// append_turn(&Markup::default(), Look::plain(), bold, &mut page)?;      // appends "<span style=\"font-weight:bold;\">"
 /// ```
 #[inline(never)]
+#[tactic(auto, using(std::proofs::Common::append_assoc, std::proofs::lemmas::Grind::common_steps))]
 pub fn append_turn(
     markup: &Markup,
     old: Look,
@@ -53,6 +54,7 @@ pub fn append_char(char: char, out: &mut Vec<u8>) -> Result<(), AllocError>
 /// ```text
 /// append_text(b"a < b", &mut page)?;      // appends "a &lt; b"
 /// ```
+#[tactic(auto, using(crate::proofs::Marks::chars))]
 pub fn append_text(text: &[u8], out: &mut Vec<u8>) -> Result<(), AllocError>
     ensures { OnOk result ((chars : List ℕ) → AllByRecursion IsShown chars → text.now ≡ encode_utf8_all chars
         → out.new.items ≡ out.old.items ++ flat_map escaped chars) }

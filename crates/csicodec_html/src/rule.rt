@@ -3,11 +3,10 @@ ghost use Rattle.std.specs.Prelude.{◌≡◌, ◌++◌, ◌∷◌, [], map, OnO
 ghost use Rattle.csicodec_parser.specs.ActionOf.{action_of};
 ghost use Rattle.csicodec_html.specs.{Look.behind_all, Look.sets_any, Page.first_set, Page.piece_texts, Page.turn};
 
-use crate::links::follow;
 use crate::look::Look;
 use crate::markup::Markup;
 use crate::pieces::{append_char, append_text, append_turn as append_tags};
-use crate::tags::{append_end, append_shut};
+use crate::tags::{append_end, append_shut, follow};
 use crate::turns::{InFront, Turning, Turns};
 use csicodec::CSI;
 use csicodec_base::CsiParam;
@@ -74,16 +73,10 @@ fn append_turn(
     append_tags(markup, old, new, out)
 }
 
-/// What becomes markup, as tags.
-#[derive(Clone, Copy)]
-struct Marks {
-    markup: Markup,
-}
+impl Turning for Markup {
+    ghost use Rattle.csicodec_html.specs.Turns.{IsTurned};
 
-impl Turning for Marks {
-    ghost use Rattle.csicodec_html.specs.Private.Turns.{IsTurned};
-
-    ghost turns = { λ marks. IsTurned marks.markup };
+    ghost turns = { IsTurned };
 }
 
 /// The rule that turns attributes into spans, and links, where they pass, into links of the page.
@@ -108,8 +101,7 @@ impl Model for SpanWriter {
 
     ghost Value = { Setting };
 
-    ghost use Rattle.csicodec_html.specs.Private.Turns.{IsTurned};
-    ghost use Rattle.csicodec_html.specs.Turns.{AreTurns};
+    ghost use Rattle.csicodec_html.specs.Turns.{AreTurns, IsTurned};
 
     ghost view = { λ s. setting s.markup s.look s.to.items
         (begun s.next.place s.next.params.items s.next.url.items) };
@@ -129,7 +121,7 @@ impl SpanWriter {
             to: Vec::new(alloc),
             next: LinkReader::new(alloc),
             actions: Vec::new(alloc),
-            turns: Turns::new(alloc, &Marks { markup }),
+            turns: Turns::new(alloc, &markup),
         }
     }
 }
@@ -164,10 +156,7 @@ impl Rule for SpanWriter {
         let comes = sets_any(&self.actions);
         append_turn(&self.markup, comes, self.look, new, out)?;
         let tags = out.split_at(before).1;
-        let marks = Marks {
-            markup: self.markup,
-        };
-        self.turns.keep(&marks, bytes, self.look, new, tags)?;
+        self.turns.keep(&self.markup, bytes, self.look, new, tags)?;
         self.look = new;
         Ok(())
     }
@@ -184,10 +173,7 @@ impl Rule for SpanWriter {
             least: 1,
             most: limit,
         };
-        let marks = Marks {
-            markup: self.markup,
-        };
-        let len = self.turns.recall(&marks, &mut self.look, front, out)?;
+        let len = self.turns.recall(&self.markup, &mut self.look, front, out)?;
         Ok(len)
     }
 

@@ -84,6 +84,7 @@ fn append_own(what: &[u8], given: Option<SrgbaTuple>, out: &mut Vec<u8>) -> Resu
 }
 
 /// Appends the page's own colours, and the end of the rule that they stand in.
+#[tactic(auto, using(std::proofs::Common::append_assoc), unfolding(crate::specs::Sheet::own_colors))]
 fn append_own_colors(palette: &Palette, out: &mut Vec<u8>) -> Result<(), AllocError>
     ensures { OnOk result (out.new.items ≡ out.old.items ++ own_colors palette.now) }
 {
@@ -94,6 +95,7 @@ fn append_own_colors(palette: &Palette, out: &mut Vec<u8>) -> Result<(), AllocEr
 }
 
 /// Appends what a class means that is a colour's.
+#[tactic(auto, using(std::proofs::Common::append_assoc))]
 fn append_rule(
     palette: &Palette,
     class: Class,
@@ -147,7 +149,7 @@ fn append_class_rules(palette: &Palette, out: &mut Vec<u8>) -> Result<(), AllocE
 }
 
 /// Appends what the style sheet of a page has of the markup: the page's own colours, and classes.
-#[tactic(auto, unfolding(crate::specs::Sheet::sheet))]
+#[tactic(auto, using(std::proofs::Common::append_assoc), unfolding(crate::specs::Sheet::sheet))]
 fn append_sheet(markup: &Markup, out: &mut Vec<u8>) -> Result<(), AllocError>
     ensures { OnOk result (out.new.items ≡ out.old.items ++ sheet markup.now) }
 {

@@ -1,11 +1,13 @@
-//! The tags.
-ghost use Rattle.std.specs.Prelude.{◌≡◌, ◌++◌, OnOk};
-ghost use Rattle.csicodec_html.specs.{Page.begins, Page.ends, Page.leads, Page.opens, Page.piece_texts, Page.shuts, Private.Rule.pieces_bytes};
+//! The tags, and those between text that leads to one place and text that leads to another.
+ghost use Rattle.std.specs.Prelude.{◌≡◌, ◌++◌, ◌||◌, [], OnOk, if◌then◌else◌};
+ghost use Rattle.csicodec_clean.specs.Addresses.{led};
+ghost use Rattle.csicodec_html.specs.{Page.begins, Page.ends, Page.leads, Page.opens, Page.piece_texts, Page.shuts, Page.switch, Private.Rule.pieces_bytes};
 
 use crate::attributes::append_span;
 use crate::look::Look;
 use crate::markup::Markup;
 use crate::page::append_page;
+use csicodec_clean::led;
 use std::alloc::AllocError;
 
 /// Appends the tag that begins a span of this look, if that has one.
@@ -29,14 +31,14 @@ pub(crate) fn append_end(look: Look, out: &mut Vec<u8>) -> Result<(), AllocError
 }
 
 /// Whether text leads there: nowhere has no bytes.
-pub(crate) fn leads(to: &[u8]) -> bool
+fn leads(to: &[u8]) -> bool
     ensures { result ≡ leads to.now }
 {
     !to.is_empty()
 }
 
 /// Appends the tag that begins a link to there, if it leads anywhere.
-pub(crate) fn append_open(to: &[u8], out: &mut Vec<u8>) -> Result<(), AllocError>
+fn append_open(to: &[u8], out: &mut Vec<u8>) -> Result<(), AllocError>
     ensures { OnOk result (out.new.items ≡ out.old.items ++ pieces_bytes (opens to.now)) }
 {
     if !leads(to) {
@@ -56,4 +58,57 @@ pub(crate) fn append_shut(to: &[u8], out: &mut Vec<u8>) -> Result<(), AllocError
         return Ok(());
     }
     out.extend_from_slice(b"</a>")
+}
+
+/// Whether one of two links leads anywhere.
+fn leads_any(old: &[u8], new: &[u8]) -> bool
+    ensures { result ≡ (leads old.now || leads new.now) }
+{
+    leads(old) || leads(new)
+}
+
+/// Appends the tags between text that leads to one place and text that leads to another.
+#[tactic(auto, using(std::proofs::Common::append_assoc, std::proofs::lemmas::Grind::common_steps, crate::proofs::Turned::ends_bytes, crate::proofs::Turned::shuts_bytes, crate::proofs::Turned::begins_bytes))]
+fn append_switch(
+    markup: &Markup,
+    look: Look,
+    old: &[u8],
+    new: &[u8],
+    out: &mut Vec<u8>,
+) -> Result<(), AllocError>
+    ensures { OnOk result
+        (out.new.items ≡ out.old.items ++ pieces_bytes (switch markup.now look old.now new.now)) }
+{
+    let comes = leads_any(old, new);
+    if !comes {
+        return Ok(());
+    }
+    append_end(look, out)?;
+    append_shut(old, out)?;
+    append_open(new, out)?;
+    append_begin(markup, look, out)
+}
+
+/// Appends them for a link that is over, and sets where it leads.
+pub(crate) fn follow(
+    over: bool,
+    url: &[u8],
+    markup: &Markup,
+    look: Look,
+    to: &mut Vec<u8>,
+    out: &mut Vec<u8>,
+) -> Result<(), AllocError>
+    ensures text { OnOk result
+        (out.new.items
+        ≡ out.old.items
+        ++ pieces_bytes (if over then switch markup.now look to.old.items (led url.now) else [])) }
+    ensures to { OnOk result (to.new.items ≡ (if over then led url.now else to.old.items)) }
+{
+    if !over {
+        return Ok(());
+    }
+    let new = led(url);
+    append_switch(markup, look, to, new, out)?;
+    to.clear();
+    to.extend_from_slice(new)
 }

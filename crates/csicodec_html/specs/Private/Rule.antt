@@ -1,21 +1,15 @@
 -- The rule by which a page is made, and text as it stands there, byte by byte. No promise rests on this file.
-use Rattle.std.specs.Prelude.{ℕ, ◌≡◌, ◌==◌, Bool, true, not, Some, ◌&&◌, if◌then◌else◌, List, [], ◌∷◌, ◌++◌, codes}
-use Rattle.std.specs.List.{flat_map}
+use Rattle.std.specs.{Prelude.ℕ, Prelude.◌≡◌, Prelude.◌==◌, Prelude.Bool, Prelude.true, Prelude.not, Prelude.Some, Prelude.◌&&◌, Prelude.List, Prelude.[]}
+use Rattle.std.specs.{Prelude.◌∷◌, Prelude.◌++◌, Prelude.codes, List.flat_map}
 use Rattle.csicodec_actions.specs.Actions.{Action}
 use Rattle.csicodec_terminal.specs.Terminal.{IsTakenFor}
 use Rattle.csicodec_clean.specs.{Cleaned.RuleOf, Cleaned.EndOf, Links.links_at, Links.next}
-use Rattle.csicodec_html.specs.Page.{Open, Piece, Setting, behind_actions, closing, escaped, led_by, piece_text, piece_texts, relation, setting, switches, turn}
+use Rattle.csicodec_html.specs.Page.{Open, Piece, Setting, behind_actions, closing, escaped, led_by, piece_text, piece_texts, reference_or, relation, setting, switches, turn}
 use Rattle.csicodec_html.specs.Look.{behind_all, sets_any}
 
 -- a byte of the text
 abbrev pub page_byte : ℕ → List ℕ
-page_byte b =
-    if b == 38 then codes "&amp;"
-    else if b == 60 then codes "&lt;"
-    else if b == 62 then codes "&gt;"
-    else if b == 34 then codes "&quot;"
-    else if b == 39 then codes "&#39;"
-    else b ∷ []
+page_byte b = reference_or (b ∷ []) b
 
 abbrev pub page_bytes : List ℕ → List ℕ
 page_bytes bytes = flat_map page_byte bytes

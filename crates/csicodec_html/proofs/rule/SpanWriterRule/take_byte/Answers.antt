@@ -1,4 +1,4 @@
-use Rattle.std.proofs.{Common.◌≡◌, Common.◌∙◌, Common.[], Common.ap, Common.append-nil, Common.sym, Common.subst, lemmas.Result.on_ok_weaker}
+use Rattle.std.proofs.{Common.◌∙◌, Common.[], Common.ap, Common.append-nil, Common.sym, Common.subst, lemmas.Result.on_ok_weaker}
 use Rattle.std.specs.Prelude.{if◌then◌else◌}
 use Rattle.csicodec_clean.specs.{Addresses.led, Links.begun, Links.ends_at}
 use Rattle.csicodec_html.specs.{Page.Setting, Page.setting, Page.switch, Private.Rule.pieces_bytes, Private.Rule.turns}

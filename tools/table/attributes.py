@@ -100,9 +100,9 @@ def ranges(them):
 
 def look_arms(them):
     shown = [(action.variant[0], them.looks.get(action.variant[0])) for action in them.actions if action.form != "unit"]
-    yield "            Sgr::Reset => Look::plain(),"
-    yield from (f"            Sgr::{variant}({look}) => Look {{ {look}, ..self }}," for variant, look in shown if look)
-    yield from either([f"Sgr::{variant}(_)" for variant, look in shown if not look], "self")
+    yield "            Sgr::Reset => *self = Look::plain(),"
+    yield from (f"            Sgr::{variant}({look}) => self.{look} = {look}," for variant, look in shown if look)
+    yield from either([f"Sgr::{variant}(_)" for variant, look in shown if not look], "()")
 
 
 def looks(them):
@@ -128,7 +128,7 @@ def pen(them):
 
 def parts(them):
     """All of them, by path."""
-    behind, spelling = "    pub fn behind(self, attribute: &Sgr) -> Look", "pub sgr-spelling : (flag : Bool) (s : sgr_type.Sgr) → SgrInRange s → IsCanonicalSgr s → Spelling flag (Sgr s)"
+    behind, spelling = "    pub fn set(&mut self, attribute: &Sgr)", "pub sgr-spelling : (flag : Bool) (s : sgr_type.Sgr) → SgrInRange s → IsCanonicalSgr s → Spelling flag (Sgr s)"
     return {
         "crates/csicodec_base/src/sgr.rt": [Part(list(them.each(WRITE)), ("    pub fn write_to(&self, text: &mut Text)", "        match self {"), "        }")],
         "crates/csicodec_base/specs/SgrText.antt": [Part(list(them.each(TEXTS)), ("abbrev pub sgr_text : Sgr → List ℕ",))],

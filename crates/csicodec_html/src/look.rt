@@ -78,22 +78,23 @@ impl Look {
             && is_default(self.background)
     }
 
-    /// How text looks behind one more attribute. What is concealed is shown; blinking, fonts and raised text aren't.
-    pub fn behind(self, attribute: &Sgr) -> Look
-        ensures { result ≡ behind self attribute.now }
+    /// Text looks so behind one more attribute. What is concealed is shown; blinking, fonts and raised text aren't.
+    #[inline(always)]
+    pub fn set(&mut self, attribute: &Sgr)
+        ensures { self.new ≡ behind self.old attribute.now }
     {
         match *attribute {
-            Sgr::Reset => Look::plain(),
-            Sgr::Intensity(intensity) => Look { intensity, ..self },
-            Sgr::Underline(underline) => Look { underline, ..self },
-            Sgr::UnderlineColor(line) => Look { line, ..self },
-            Sgr::Italic(italic) => Look { italic, ..self },
-            Sgr::Inverse(inverse) => Look { inverse, ..self },
-            Sgr::StrikeThrough(strike) => Look { strike, ..self },
-            Sgr::Foreground(foreground) => Look { foreground, ..self },
-            Sgr::Background(background) => Look { background, ..self },
-            Sgr::Overline(overline) => Look { overline, ..self },
-            Sgr::Blink(_) | Sgr::Invisible(_) | Sgr::Font(_) | Sgr::VerticalAlign(_) => self,
+            Sgr::Reset => *self = Look::plain(),
+            Sgr::Intensity(intensity) => self.intensity = intensity,
+            Sgr::Underline(underline) => self.underline = underline,
+            Sgr::UnderlineColor(line) => self.line = line,
+            Sgr::Italic(italic) => self.italic = italic,
+            Sgr::Inverse(inverse) => self.inverse = inverse,
+            Sgr::StrikeThrough(strike) => self.strike = strike,
+            Sgr::Foreground(foreground) => self.foreground = foreground,
+            Sgr::Background(background) => self.background = background,
+            Sgr::Overline(overline) => self.overline = overline,
+            Sgr::Blink(_) | Sgr::Invisible(_) | Sgr::Font(_) | Sgr::VerticalAlign(_) => (),
         }
     }
 }

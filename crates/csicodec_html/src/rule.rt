@@ -19,10 +19,11 @@ use std::marker::Model;
 fn behind(look: Look, action: &CSI) -> Look
     ensures { result ≡ behind_all look (action_of action.now ∷ []) }
 {
-    match action {
-        CSI::Sgr(attribute) => look.behind(attribute),
-        _ => look,
+    let mut now = look;
+    if let CSI::Sgr(attribute) = action {
+        now.set(attribute);
     }
+    now
 }
 
 /// How it looks behind each of the actions in turn.

@@ -8,7 +8,7 @@ ghost use Rattle.csicodec_overwrite.specs.{Private.Front.IsWritten, Private.Fron
 use crate::ascii::{InLine, style_len};
 use crate::marking::Marking;
 use crate::paint::{append_ascii, append_turn};
-use crate::pen::{Pen, set_look};
+use crate::pen::Pen;
 use crate::reader::Reader;
 use crate::step::Step;
 use csicodec_clean::split_front;
@@ -23,7 +23,7 @@ fn turn_look(look: &mut Look, step: &Step) -> bool
 {
     match *step {
         Step::Attribute(attribute) => {
-            set_look(look, &attribute);
+            look.set(&attribute);
             true
         }
         Step::EraseRight | Step::Other => true,

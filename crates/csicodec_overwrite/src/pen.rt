@@ -1,11 +1,9 @@
 //! How characters are put, and what is saved.
 ghost use Rattle.std.specs.Prelude.{◌≡◌, true};
-ghost use Rattle.csicodec_html.specs.Look.{behind};
 ghost use Rattle.csicodec_overwrite.specs.{Line.fresh, Line.is_row, Line.pen_behind, Private.Plain.PutsPlain};
 
 use crate::step::{Step, WIDEST};
 use crate::width::width;
-use csicodec_base::Sgr;
 use csicodec_html::Look;
 
 /// How characters are put that come now, and the place that is saved.
@@ -23,26 +21,6 @@ pub struct Pen {
     pub here: bool,
     /// The row that was given last (CUP, HVP, VPA), if it wasn't left since.
     pub row: Option<u32>,
-}
-
-/// Characters look so behind one more attribute.
-#[inline(always)]
-pub(crate) fn set_look(look: &mut Look, attribute: &Sgr)
-    ensures { look.new ≡ behind look.old attribute.now }
-{
-    match *attribute {
-        Sgr::Reset => *look = Look::plain(),
-        Sgr::Intensity(intensity) => look.intensity = intensity,
-        Sgr::Underline(underline) => look.underline = underline,
-        Sgr::UnderlineColor(line) => look.line = line,
-        Sgr::Italic(italic) => look.italic = italic,
-        Sgr::Inverse(inverse) => look.inverse = inverse,
-        Sgr::StrikeThrough(strike) => look.strike = strike,
-        Sgr::Foreground(foreground) => look.foreground = foreground,
-        Sgr::Background(background) => look.background = background,
-        Sgr::Overline(overline) => look.overline = overline,
-        Sgr::Blink(_) | Sgr::Invisible(_) | Sgr::Font(_) | Sgr::VerticalAlign(_) => (),
-    }
 }
 
 impl Pen {
@@ -94,7 +72,7 @@ impl Pen {
             // A mark isn't repeated.
             Step::Put(char) if width(char, 0) == 0 => self.last = last,
             Step::Put(char) => self.last = Some(char),
-            Step::Attribute(attribute) => set_look(&mut self.look, &attribute),
+            Step::Attribute(attribute) => self.look.set(&attribute),
             Step::Inserts(inserts) => self.inserts = inserts,
             Step::Save => {
                 self.here = column < WIDEST as usize;

@@ -6,7 +6,7 @@ ghost use Rattle.csicodec_overwrite.specs.{Private.Plain.IsLineByte, Private.Pla
 
 use crate::line::Line;
 use crate::marking::Marking;
-use crate::pen::{Pen, set_look};
+use crate::pen::Pen;
 use crate::step::{Step, WIDEST};
 use crate::text::char_step;
 use crate::width::width;
@@ -253,7 +253,7 @@ impl Row {
             Step::Other => pen.last = None,
             Step::Attribute(attribute) => {
                 pen.last = None;
-                set_look(&mut pen.look, &attribute);
+                pen.look.set(&attribute);
             }
             _ => {
                 let column = self.column();

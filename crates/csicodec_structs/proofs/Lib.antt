@@ -1,4 +1,3 @@
-mod Alone
 pub mod Fronts
 mod Kept
 pub mod Laid
@@ -8,7 +7,6 @@ pub mod OneAction
 mod OneValue
 mod Running
 mod ShortLaid
-mod Sole
 mod Stand
 mod Styled
 pub mod Tokens

@@ -15,7 +15,8 @@ use Rattle.csicodec.proofs.RowGroups.{whole-group}
 use Rattle.csicodec_structs.specs.Rows.{cursor_struct, edit_struct, mode_struct, params_of, sgr_struct, struct_of}
 use Rattle.csicodec_structs.specs.Private.Short.{AreStyles, HasLaid, HasOne, IsRow, ReadsOn, change_final, style_struct}
 use Rattle.csicodec_structs.specs.{Next.IsDone, Next.IsRefused, Next.Lays, Next.all_params, Next.structs, Private.Fronts.PutsBehind, Private.Fronts.done}
-use Rattle.csicodec_structs.specs.{Room.laid, declared.structs.Param.Param, declared.structs.Struct.Struct, declared.attributes.AttributeParts.AttributeParts}
+use Rattle.csicodec_structs.specs.{Room.laid, declared.next.NextSequence.NextSequence, declared.structs.Param.Param, declared.structs.Struct.Struct}
+use Rattle.csicodec_structs.specs.{declared.attributes.AttributeParts.AttributeParts}
 use Rattle.csicodec_structs.proofs.{Fronts.front_answer, Laid.laid_none, Laid.lays_more, Laid.lays_none, Styled.one_token, Styled.read_whole}
 use Rattle.csicodec_actions.specs.declared.mode.Change.TheVariants as change
 use Rattle.csicodec_actions.specs.declared.mode.DecPrivateMode.TheVariants as dec
@@ -123,15 +124,7 @@ styles_laid body after ao an styles count s long puts = record {
 
 -- ---- the answer
 
-pub short_answer : (bytes body : List ℕ) (ao an : List Struct) (params : List Param) (count : ℕ) (after : List ℕ) → bytes ≡ 27 ∷ 91 ∷ body → HasLaid body ao an count after
-    → IsDone bytes ao an params params (done (length bytes - length after) (record { actions = count; params = 0 }))
-    ⊎ IsRefused bytes ao an params params (done (length bytes - length after) (record { actions = count; params = 0 }))
-short_answer bytes body ao an params count after e g =
-    rw e (front_answer (27 ∷ 91 ∷ body) after g.list g.final ao an params params _ g.reads (inl (record {
-      all = g.all;
-      are = g.are;
-      ok = refl;
-      no_fault = refl;
-      used_all = refl;
-      lays = g.lays params;
-    })))
+pub short_answer : (bytes body : List ℕ) (ao an : List Struct) (params : List Param) (count : ℕ) (after : List ℕ) (answer : NextSequence) → bytes ≡ 27 ∷ 91 ∷ body
+    → HasLaid body ao an count after → answer ≡ done (length bytes - length after) count 0 → IsDone bytes ao an params params answer ⊎ IsRefused bytes ao an params params answer
+short_answer bytes body ao an params count after answer e g is =
+    front_answer bytes after g.list g.final ao an params params (Some (record { actions = count; params = 0 })) answer (rw e g.reads) (g.all, g.are, g.lays params) is

@@ -1,20 +1,21 @@
--- The tokens of attributes, and the actions of their list.
-use Rattle.std.specs.Prelude.{map, pos}
-use Rattle.std.proofs.Common.{◌≡◌, ◌<◌, ◌+◌, ℕ, false, List, [], ◌∷◌, ◌++◌, length, Some, refl, sym, ap, subst, ◌∙◌, inl, inr, arith, append-nil, append_assoc, length-append}
-use Rattle.std.proofs.{lemmas.Bool.lt-ltb, lemmas.List.map-append, lemmas.Option.some_pair_parts}
+-- The tokens of attributes, and the actions of their list; and what numbers set alone.
+use Rattle.std.specs.{Prelude.map, Prelude.pos, Prelude.if◌then◌else◌, Option.option_map}
+use Rattle.std.proofs.Common.{◌≡◌, ◌<◌, ◌+◌, ℕ, false, List, [], ◌∷◌, ◌++◌, length, Some, refl, sym, ap, subst, ◌∙◌, inl, inr, arith, append-nil, append_assoc, length-append, ◌≢◌, ◌==◌, zero, suc, Option, None, get_or}
+use Rattle.std.proofs.{lemmas.Bool.lt-ltb, lemmas.Bool.ne_eqb, lemmas.List.map-append, lemmas.Option.some_pair_parts}
 use Rattle.csicodec_tokens.specs.{declared.param.CsiParam.CsiParam, declared.param.CsiParam.TheVariants.Integer, declared.param.CsiParam.TheVariants.P}
 use Rattle.csicodec_tokens.specs.{Digits.IsDigit, Sequence.IsBodyByte, Sequence.IsFinal, Sequence.Reads, Private.Reading.HasRead, Private.Reading.IsFirstToken}
 use Rattle.csicodec_tokens.proofs.Reading.{read_all, read_more, read_none}
 use Rattle.csicodec_names.specs.declared.color.ColorSpec.{ColorSpec}
 use Rattle.csicodec_base.specs.{declared.sgr.Sgr.Sgr, FrontBy.color_by, FrontBy.piece, Shapes.Plane, Shapes.color_shapes, Shapes.painted}
 use Rattle.csicodec_base.proofs.{CodePieces.paint, Table.is_piece}
-use Rattle.csicodec_actions.specs.Actions.{Sgr as Styled}
 use Rattle.csicodec_parser.specs.{Cut.semicolon, Groups.has_odd, Segments.Actions, declared.group.Group.TheVariants.Styles}
 use Rattle.csicodec_parser.proofs.{Fronts.front_empty, Fronts.front_stuck, GroupOf.style-list}
 use Rattle.csicodec.specs.Compose.{EndsInSemicolon}
 use Rattle.csicodec.proofs.Compose.{ends-joined, ends-part, plain-joint, sgr_compose_lem}
-use Rattle.csicodec_structs.specs.Private.Short.{AreStyles, HasStyles, IsMark, IsOne, IsPainted, IsRow, ReadsOn, SetsAlone, style_struct}
-use Rattle.csicodec_structs.specs.{Rows.sgr_struct, Structs.color_row, declared.attributes.AttributeParts.AttributeParts}
+use Rattle.csicodec_structs.specs.Private.Short.{AreStyles, HasStyles, IsMark, IsOne, IsPainted, IsRow, ReadsOn, SetsAlone, style_struct, nothing, plain}
+use Rattle.csicodec_structs.specs.{Rows.sgr_struct, Structs.color_row, declared.attributes.AttributeParts.AttributeParts, declared.structs.Struct.Struct}
+use Rattle.csicodec_structs.specs.{declared.by_number.StyleRow.StyleRow, declared.by_number.TheConstants.STYLES}
+use Rattle.csicodec_actions.specs.Actions.{Sgr as Styled}
 use Rattle.csicodec_names.specs.declared.color.ColorSpec.TheVariants as color
 use Rattle.csicodec_base.specs.declared.sgr.Sgr.TheVariants as sgr
 
@@ -133,7 +134,7 @@ alone_style text behind n style first (s, gives, same) = one_style text behind n
 pub alone_row : (n : ℕ) (style : AttributeParts) (list : List CsiParam) → SetsAlone n style → IsOne n list → IsRow list 109 (style_struct style)
 unfolding piece
 alone_row n style list (s, gives, same) (inl one) = rw one (Styled s, one_cut (Integer (pos n) ∷ []) s refl (omega arith) gives, same, refl)
-alone_row n style list (s, gives, same) (inr (zero, none)) = rw none (Styled sgr.Reset, refl, same ∙ ap sgr_struct (sym (some_pair_parts _ _ _ _ (rw zero at gives)).0), refl)
+alone_row n style list (s, gives, same) (inr (is, none)) = rw none (Styled sgr.Reset, refl, same ∙ ap sgr_struct (sym (some_pair_parts _ _ _ _ (rw is at gives)).0), refl)
 
 -- ---- attributes in turn
 
@@ -161,3 +162,45 @@ two_styles body behind a b one two (mid, first, (text, mark, (rest, second, last
     let e : mid ≡ 59 ∷ text = mark.parts ∙ rw mark.spelled refl in
     styles_more body text behind (one ∷ []) (two ∷ []) (subst (λ (t : List ℕ). AreStyles body (one ∷ []) t) e (alone_style body mid a one first sets))
     (alone_style text behind b two (rw last at second) also)
+
+-- ---- the table of what numbers set alone, against what each number alone is read as
+
+-- the struct of a row that sets something, of one token
+abbrev own : StyleRow → Option (Struct × ℕ)
+own r = if r.0 == 0 then None else Some (style_struct (plain r.0 r.1 r.2), 1)
+
+-- the struct of what a number alone is read as, and of how many tokens
+abbrev said : ℕ → Option (Struct × ℕ)
+said n = option_map (λ (p : Sgr × ℕ). (sgr_struct p.0, p.1)) (piece (Integer (pos n) ∷ []))
+
+-- of so many numbers, from one on
+abbrev all_said : ℕ → ℕ → List (Option (Struct × ℕ))
+all_said n zero = []
+all_said n (suc k) = said n ∷ all_said (n + 1) k
+
+all_own : map own STYLES ≡ all_said 0 (length STYLES)
+unfolding piece
+all_own = refl
+
+own_at : (rows : List StyleRow) (n k : ℕ) → map own rows ≡ all_said n (length rows) → (get_or rows k nothing).0 ≢ 0 → own (get_or rows k nothing) ≡ said (n + k)
+own_at [] n k e some = absurd (some refl)
+own_at (r ∷ rows) n zero e some =
+    let same : n + 0 ≡ n = omega arith in
+    rw same cc
+own_at (r ∷ rows) n (suc k) e some =
+    let same : n + suc k ≡ n + 1 + k = omega arith in
+    rw same (own_at rows (n + 1) k (cc) some)
+
+reads_one : (n : ℕ) (r : StyleRow) (o : Option (Sgr × ℕ)) → piece (Integer (pos n) ∷ []) ≡ o → r.0 ≢ 0
+    → own r ≡ option_map (λ (p : Sgr × ℕ). (sgr_struct p.0, p.1)) o → SetsAlone n (plain r.0 r.1 r.2)
+reads_one n r None e some same = let none = rw (ne_eqb r.0 0 some) at same in cc
+reads_one n r (Some p) e some same =
+    let both = some_pair_parts _ _ _ _ (rw (ne_eqb r.0 0 some) at same) in
+    (p.0, e ∙ ap (λ (k : ℕ). Some (p.0, k)) (sym both.1), both.0)
+
+pub sets_alone : (n : ℕ) → (get_or STYLES n nothing).0 ≢ 0 → (style : AttributeParts)
+    → style ≡ plain (get_or STYLES n nothing).0 (get_or STYLES n nothing).1 (get_or STYLES n nothing).2
+    → SetsAlone n style
+sets_alone n some style is =
+    let same : 0 + n ≡ n = omega arith in
+    rw is (reads_one n (get_or STYLES n nothing) (piece (Integer (pos n) ∷ [])) refl some (rw same at (own_at STYLES 0 n all_own some)))

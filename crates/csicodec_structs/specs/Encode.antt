@@ -3,9 +3,9 @@ use Rattle.std.specs.{Prelude.ℕ, Prelude.◌≡◌, Prelude.◌⊎◌, Prelude
 use Rattle.std.specs.{Prelude.drop, Prelude.take, Prelude.length, List.slice_get}
 use Rattle.csicodec_actions.specs.{Actions.Action, Table.texts}
 use Rattle.csicodec_parser.specs.Canonical.{Canonical}
-use Rattle.csicodec_structs.specs.{declared.canonical.Judged.Judged, declared.encode.Encoded.Encoded, declared.structs.Param.Param}
-use Rattle.csicodec_structs.specs.{declared.structs.Struct.Struct, Named.IsNamed, Ranges.InRange, Room.Fills, Rows.params_of, Rows.struct_of}
-use Rattle.csicodec_structs.specs.{Status.status_number, declared.status.Status.Status}
+use Rattle.csicodec_structs.specs.{declared.encode.Judged.Judged, declared.encode.Encoded.Encoded, declared.structs.Param.Param, declared.structs.Struct.Struct}
+use Rattle.csicodec_structs.specs.{Named.IsNamed, Ranges.InRange, Room.Fills, Rows.params_of, Rows.struct_of, Status.status_number}
+use Rattle.csicodec_structs.specs.{declared.status.Status.Status}
 use Rattle.csicodec_structs.specs.declared.status.Status.TheVariants as status
 
 abbrev pub refused : Status → ℕ → Encoded

@@ -1,9 +1,12 @@
 //! Structs as actions, and their texts.
-ghost use Rattle.std.specs.Prelude.{◌≡◌, ◌⊎◌, ◌↔◌, ◌<◌, List, [], ◌∷◌, drop, take, map, length, true, IfOk, IfErr, IfSome, MatchOption};
+ghost use Rattle.std.specs.Prelude.{◌≡◌, ◌⊎◌, ◌↔◌, ◌<◌, List, [], ◌∷◌, drop, take, map, length, true, IfOk, IfErr, IfSome, MatchOption, ◌≤◌, ℕ, false};
+ghost use Rattle.std.specs.List.{All};
 ghost use Rattle.csicodec_parser.specs.ActionOf.{action_of};
-ghost use Rattle.csicodec_structs.specs.Encode.{AllStand, HasNone, IsDone, IsPut, IsRefused, Stands, StandsForNone, refused};
+ghost use Rattle.csicodec_structs.specs.Encode.{AllStand, HasNone, IsDone, IsPut, IsRefused, Stands, StandsForNone, refused, IsJudged, IsUnjudged, judgement};
 ghost use Rattle.csicodec_structs.specs.{Private.Candidates.AreTexts, Private.Candidates.IsExtended, Private.Candidates.IsGraphics, Private.Candidates.IsMade};
-ghost use Rattle.csicodec_structs.specs.{Private.Candidates.IsUnknown, Ranges.InRange, declared.structs.Param.Param};
+ghost use Rattle.csicodec_structs.specs.{Private.Candidates.IsUnknown, Ranges.InRange, declared.structs.Param.Param, Structs.param_of, Values.TokenInRange};
+ghost use Rattle.csicodec_actions.specs.{Table.text, Actions.Unspecified as Unknown};
+ghost use Rattle.csicodec_tokens.specs.declared.param.CsiParam.{CsiParam};
 
 use crate::candidates::{
     UNSPECIFIED, VT220, VT320, VT420, XT_SM_GRAPHICS, candidate, small_candidate,
@@ -11,13 +14,13 @@ use crate::candidates::{
 use crate::numbers::item;
 use crate::room::fill;
 use crate::rows::struct_of;
-use crate::short::short_text;
 use crate::status::Status;
-use crate::structs::{Param, Struct};
-use crate::token::tokens;
+use crate::structs::{Param, Struct, unknown_row};
+use crate::token::{Token, tokens};
 use csicodec::{
-    CSI, Device, DeviceAttributeFlags, DeviceAttributes, Text, Unspecified, XtSmGraphics,
+    CSI, CsiParam, Device, DeviceAttributeFlags, DeviceAttributes, Text, Unspecified, XtSmGraphics,
 };
+use csicodec_actions::write_path;
 use csicodec_base::TextBuffer;
 use csicodec_parser::append_text;
 use std::alloc::{AllocError, Global};
@@ -221,12 +224,11 @@ fn short_of(given: &Struct) -> Option<Text>
         return None;
     }
     let csi = small_candidate(given)?;
-    if is_same(&struct_of(given.place, &csi), given) {
-        let text = short_text(&csi)?;
-        Some(text)
-    } else {
-        None
+    if !is_same(&struct_of(given.place, &csi), given) {
+        return None;
     }
+    let text = short_text(&csi)?;
+    Some(text)
 }
 
 /// Puts the texts of the actions that the structs stand for, where they fit.
@@ -246,4 +248,100 @@ pub fn put_texts(alloc: Global, actions: &[Struct], params: &[Param], out: &mut 
         Ok(Err(at)) => refused(Status::NoAction, at),
         Err(_) => refused(Status::Memory, 0),
     }
+}
+
+/// Whether an action is read back from its text.
+#[repr(C)]
+#[derive(Clone, Copy)]
+pub struct Judged {
+    /// `Done` where it is known, `Memory`, or `NoAction` for a struct that stands for none.
+    pub status: u32,
+    /// Of `Done`, 1 where it is, and 0 where it isn't.
+    pub canonical: u32,
+}
+
+fn judgement(why: Status, canonical: u32) -> Judged
+    ensures { result ≡ judgement why canonical }
+{
+    Judged {
+        status: why.number(),
+        canonical,
+    }
+}
+
+/// Whether the text of the action that the struct stands for is read as this one action.
+pub fn judge(alloc: Global, given: &Struct, params: &[Param]) -> Judged
+    ensures { IsJudged given.now params.now result ⊎ IsUnjudged given.now params.now result }
+{
+    let csi = match action(alloc, params, given) {
+        Ok(Some(csi)) => csi,
+        Ok(None) => return judgement(Status::NoAction, 0),
+        Err(_) => return judgement(Status::Memory, 0),
+    };
+    match csi.is_canonical(alloc, false) {
+        Ok(true) => judgement(Status::Done, 1),
+        Ok(false) => judgement(Status::Done, 0),
+        Err(_) => judgement(Status::Memory, 0),
+    }
+}
+
+/// The text of an action, unless the action takes memory.
+#[inline(always)]
+pub(crate) fn short_text(action: &CSI) -> Option<Text>
+    ensures { IfSome result (λ short. short ≡ text (action_of action.now)) }
+{
+    let mut text = Text::new();
+    text.push_str("\x1b[");
+    match action {
+        CSI::Sgr(sgr) => sgr.write_to(&mut text),
+        CSI::Cursor(cursor) => cursor.write_to(&mut text),
+        CSI::Edit(edit) => edit.write_to(&mut text),
+        CSI::Mode(mode) => mode.write_to(&mut text),
+        CSI::Mouse(mouse) => mouse.write_to(&mut text),
+        CSI::Keyboard(keyboard) => keyboard.write_to(&mut text),
+        CSI::SelectCharacterPath(path, effect) => write_path(&mut text, path, *effect),
+        CSI::Device(_) | CSI::Window(_) | CSI::Unspecified(_) => return None,
+    }
+    Some(text)
+}
+
+/// Puts the tokens that structs stand for, unless one stands for none.
+#[tactic(auto, using(crate::proofs::Tokens::one_more))]
+fn put_tokens(params: &[Param], room: &mut [CsiParam]) -> Option<()>
+    requires { length params.now ≤ length room.old }
+    ensures { MatchOption result
+        ((all : List CsiParam) → All TokenInRange all → map param_of all ≡ params.now → ⊥) (λ _.
+        All TokenInRange (take (length params.now) room.new)
+        × (map param_of (take (length params.now) room.new) ≡ params.now)) }
+{
+    let mut place = 0;
+    for param in params {
+        let Some(token) = CsiParam::of_param(*param) else {
+            return None;
+        };
+        room[place] = token;
+        place += 1;
+    }
+    Some(())
+}
+
+/// Puts the list of the unknown action that a struct stands for, and answers its final character; none where it stands for none, or
+/// where there is no room for the list.
+pub fn put_unknown(given: &Struct, params: &[Param], room: &mut [CsiParam]) -> Option<char>
+    ensures { MatchOption result
+        ((list : List CsiParam) (final : ℕ)
+        → Stands given.now params.now (Unknown list false final) → length room.old < length list) (λ final.
+        (given.now.len ≤ length room.new)
+        × Stands given.now params.now (Unknown (take given.now.len room.new) false final)) }
+{
+    let control = char::from_u32(given.final_char)?;
+    if !is_same(&unknown_row(control, given.place, given.len), given) {
+        return None;
+    }
+    let items = part(params, given.place, given.len)?;
+    if items.len() > room.len() {
+        return None;
+    }
+    put_tokens(items, room)?;
+    Some(control)
 }

@@ -3,16 +3,13 @@ ghost use Rattle.std.specs.Prelude.{◌≡◌, ◌⊎◌, IfNone, IfSome, pos};
 ghost use Rattle.csicodec_tokens.specs.{declared.param.CsiParam.TheVariants.Integer, Private.Reading.IsFirstToken};
 ghost use Rattle.csicodec_structs.specs.{Next.IsDone, Next.IsRefused, Private.Short.HasLaid, Private.Short.HasOne};
 
-use crate::attributes::{behind_mark, style_alone, style_struct};
+use crate::attributes::{behind_mark, lay_styles, lay_two_styles, style_alone, style_struct};
 use crate::digits::number_front;
-use crate::lay::Counts;
-use crate::mode::lay_mode;
-use crate::movement::{lay_row, lay_two};
-use crate::next::{NextSequence, done, lay_by_tokens, refused};
+use crate::movement::{lay_mode, lay_row, lay_two};
+use crate::next::{NextSequence, done, lay_within, next_long, refused};
 use crate::room::put;
 use crate::status::Status;
 use crate::structs::{Param, Struct};
-use crate::styles::{lay_styles, lay_two_styles};
 use std::alloc::Global;
 
 /// Puts what a number that was read and the next one, with a `;` between them, do before a final.
@@ -90,7 +87,12 @@ fn lay_long(
     ensures { IsDone bytes.now actions.old actions.new params.old params.new answer.new
         ⊎ IsRefused bytes.now actions.old actions.new params.old params.new answer.new }
 {
-    *answer = lay_by_tokens(alloc, bytes, actions, params);
+    // What is no sequence is refused before the room is cleared.
+    if !matches!(bytes, [0x1b, b'[', ..]) {
+        *answer = next_long(alloc, bytes, actions, params);
+        return;
+    }
+    *answer = lay_within(alloc, bytes, actions, params);
 }
 
 /// Puts the actions of the sequence at the front, and their tokens, as many as there is room for. Up to 31 tokens take no memory.
@@ -107,11 +109,7 @@ pub fn lay_front(
     if let [0x1b, b'[', body @ ..] = bytes
         && let Some((count, after)) = lay_short(body, actions)
     {
-        let laid = Counts {
-            actions: count,
-            params: 0,
-        };
-        return done(bytes.len() - after.len(), laid);
+        return done(bytes.len() - after.len(), count, 0);
     }
     let mut answer = refused(Status::Memory, 0);
     lay_long(alloc, bytes, actions, params, &mut answer);

@@ -2,8 +2,8 @@
 ghost use Rattle.std.specs.Prelude.{◌≡◌, false, List, [], ◌++◌, ◌∷◌, length, unwrap_or, Some, IfSome};
 ghost use Rattle.csicodec_actions.specs.{Actions.Action, Actions.Unspecified as Unknown, Devices.device_of, Table.boxed};
 ghost use Rattle.csicodec_parser.specs.{ActionOf.action_of, Segments.Actions};
-ghost use Rattle.csicodec_structs.specs.{Next.Lays, Private.Fronts.LaysOne, Private.Fronts.PutsBehind, Private.Fronts.headed, Private.Fronts.lent, Rows.device_params};
-ghost use Rattle.csicodec_structs.specs.{Rows.params_of, Rows.struct_of, declared.structs.Param.Param};
+ghost use Rattle.csicodec_structs.specs.{Private.Fronts.LaysBy, Private.Fronts.LaysOne, Private.Fronts.PutsBehind, Private.Fronts.headed, Private.Fronts.lent};
+ghost use Rattle.csicodec_structs.specs.{Rows.device_params, Rows.params_of, Rows.struct_of, declared.structs.Param.Param};
 ghost use Rattle.csicodec_tokens.specs.declared.param.CsiParam.{CsiParam};
 
 use crate::candidates::{VT220, VT320, VT420, XT_SM_GRAPHICS};
@@ -250,7 +250,7 @@ fn lay_ref(
 }
 
 /// Puts the actions of a list and their tokens.
-#[inline(always)]
+#[inline(never)]
 pub(crate) fn lay_list(
     alloc: Global,
     list: &[CsiParam],
@@ -258,9 +258,7 @@ pub(crate) fn lay_list(
     actions: &mut [Struct],
     params: &mut [Param],
 ) -> Option<Counts>
-    ensures { IfSome result (λ count.
-        (all : List Action) × Actions list.now false control all
-        × Lays actions.old actions.new params.old params.new count all) }
+    ensures { IfSome result (LaysBy Actions list.now control actions.old actions.new params.old params.new) }
 {
     segmentation(list, false, control);
     let mut count = Counts {

@@ -1,14 +1,14 @@
-//! What moves the cursor or edits by two numbers, by one, or by none: a number that is left out reads as 0.
+//! What moves the cursor or edits by two numbers, by one, or by none: a number that is left out reads as 0. And what changes a private mode.
 ghost use Rattle.std.specs.Prelude.{◌≡◌, ◌∷◌, [], List, IfNone, IfSome, None, Some, pos};
 ghost use Rattle.csicodec_tokens.specs.{declared.param.CsiParam.CsiParam, declared.param.CsiParam.TheVariants.Integer, declared.param.CsiParam.TheVariants.P};
-ghost use Rattle.csicodec_actions.specs.{Actions.Cursor as Moves, Actions.Edit as Edits, Table.Cursor.as_cursor, Table.Edit.as_edit};
-ghost use Rattle.csicodec_structs.specs.Private.Short.{HasLaid, HasOne, IsOne, IsRow, IsTwo, ReadsOn};
+ghost use Rattle.csicodec_actions.specs.{Table.Cursor.as_cursor, Table.Edit.as_edit, Actions.Cursor as Moves, Actions.Edit as Edits};
+ghost use Rattle.csicodec_structs.specs.Private.Short.{HasLaid, HasOne, IsOne, IsRow, IsTwo, ReadsOn, change_final};
 
-use crate::digits::or_default;
+use crate::digits::{number_front, or_default};
 use crate::room::put;
-use crate::rows::{cursor_struct, edit_struct};
+use crate::rows::{cursor_struct, edit_struct, mode_struct};
 use crate::structs::Struct;
-use csicodec_actions::{Cursor, Edit};
+use csicodec_actions::{Change, Cursor, DecPrivateMode, Edit};
 use csicodec_base::{EraseInDisplay, EraseInLine, OneBased};
 
 /// What moves the cursor by a count before this final.
@@ -139,5 +139,42 @@ pub(crate) fn lay_two<'a>(
     };
     let cursor = moved_to(first, second, *control)?;
     put(actions, 0, cursor_struct(&cursor));
+    Some((1, after))
+}
+
+/// A `?` and the number of a mode in front, of 16 bits, and what is behind them.
+#[inline(always)]
+fn mode_front(text: &[u8]) -> Option<(u16, &[u8])>
+    ensures { IfSome result (λ x. ReadsOn text.now (P 63 ∷ Integer (pos x.0) ∷ []) x.1.now) }
+{
+    let [b'?', digits @ ..] = text else {
+        return None;
+    };
+    let (number, behind) = number_front(digits)?;
+    Some((u16::try_from(number).ok()?, behind))
+}
+
+/// What a final byte in front does to private modes, `h` or `l`, and what is behind it.
+#[inline(always)]
+fn change_front(text: &[u8]) -> Option<(Change, &[u8])>
+    ensures { IfSome result (λ x. text.now ≡ change_final x.0 ∷ x.1.now) }
+{
+    match text {
+        [b'h', after @ ..] => Some((Change::Set, after)),
+        [b'l', after @ ..] => Some((Change::Reset, after)),
+        _ => None,
+    }
+}
+
+/// Puts the change of one private mode: that it is one, and what is behind it. The struct has the mode's number, so its name isn't looked up.
+#[inline(always)]
+pub(crate) fn lay_mode<'a>(body: &'a [u8], actions: &mut [Struct]) -> Option<(usize, &'a [u8])>
+    ensures some { IfSome result (λ x. HasLaid body.now actions.old actions.new x.0 x.1.now) }
+    ensures none { IfNone result (actions.new ≡ actions.old) }
+{
+    let (number, behind) = mode_front(body)?;
+    let (change, after) = change_front(behind)?;
+    let mode = change.of(DecPrivateMode::Unspecified(number));
+    put(actions, 0, mode_struct(&mode));
     Some((1, after))
 }

@@ -1,12 +1,15 @@
 //! The sequence at the front of some bytes.
-ghost use Rattle.std.specs.Prelude.{◌≡◌, ◌⊎◌};
-ghost use Rattle.csicodec_parser.specs.Segments.{Actions};
-ghost use Rattle.csicodec_structs.specs.{Private.Fronts.IsAnswer, Private.Fronts.done, Next.IsDone, Next.IsRefused, Next.refusal, Next.refused};
+ghost use Rattle.std.specs.Prelude.{◌≡◌, ◌⊎◌, IfSome, map};
+ghost use Rattle.csicodec_parser.specs.ActionOf.{action_of};
+ghost use Rattle.csicodec_structs.specs.{Private.Fronts.LaysBy, Private.Fronts.answered, Private.Fronts.done, Next.IsDone, Next.IsRefused, Next.IsTaken, Next.Lays};
+ghost use Rattle.csicodec_structs.specs.{Next.refusal, Next.refused};
+ghost use Rattle.csicodec_terminal.specs.Terminal.{Terminal};
 
-use crate::lay::{Counts, lay_list};
+use crate::lay::{Counts, lay_list, lay_one};
 use crate::status::{Status, fault_of};
 use crate::structs::{Param, Struct};
-use csicodec::{CsiParam, ReadError, read_csi, read_csi_within};
+use csicodec::{CSI, CsiParam, ReadError, read_csi, read_csi_within};
+use csicodec_terminal::terminal_actions;
 use std::alloc::Global;
 
 /// What stands at the front of some bytes, or why no sequence does.
@@ -45,34 +48,27 @@ pub(crate) fn refusal(error: ReadError) -> NextSequence
     refused(why, at)
 }
 
-/// Of a sequence of so many bytes, whose actions were put.
+/// Of a sequence of so many bytes, with so many actions and tokens.
 #[inline(always)]
-pub(crate) fn done(used: usize, count: Counts) -> NextSequence
-    ensures { result ≡ done used count }
+pub(crate) fn done(used: usize, actions: usize, params: usize) -> NextSequence
+    ensures { result ≡ done used actions params }
 {
     NextSequence {
         status: Status::Done.number(),
         at: 0,
         used,
-        actions: count.actions,
-        params: count.params,
+        actions,
+        params,
     }
 }
 
-/// Puts the actions of this list and their tokens, as many as there is room for: of a sequence of so many bytes.
-#[inline(never)]
-fn answer(
-    alloc: Global,
-    list: &[CsiParam],
-    control: char,
-    used: usize,
-    actions: &mut [Struct],
-    params: &mut [Param],
-) -> NextSequence
-    ensures { IsAnswer Actions list.now control used actions.old actions.new params.old params.new result }
+/// Of a sequence of so many bytes, whose actions were put, unless memory ran out.
+#[inline(always)]
+fn answered(used: usize, laid: Option<Counts>) -> NextSequence
+    ensures { result ≡ answered used laid }
 {
-    match lay_list(alloc, list, control, actions, params) {
-        Some(count) => done(used, count),
+    match laid {
+        Some(count) => done(used, count.actions, count.params),
         None => refused(Status::Memory, 0),
     }
 }
@@ -81,7 +77,7 @@ fn answer(
 #[cold]
 #[inline(never)]
 #[tactic(auto, using(crate::proofs::Fronts::front_answer))]
-fn next_long(
+pub(crate) fn next_long(
     alloc: Global,
     bytes: &[u8],
     actions: &mut [Struct],
@@ -93,7 +89,8 @@ fn next_long(
     match read_csi(alloc, bytes) {
         Ok(read) => {
             let used = bytes.len() - read.rest.len();
-            answer(alloc, &read.params, read.control, used, actions, params)
+            let laid = lay_list(alloc, &read.params, read.control, actions, params);
+            answered(used, laid)
         }
         Err(error) => refusal(error),
     }
@@ -102,7 +99,7 @@ fn next_long(
 /// Puts the actions of the sequence at the front, whose tokens are read into a room of 32, or into memory.
 #[inline(never)]
 #[tactic(auto, using(crate::proofs::Fronts::front_answer))]
-fn lay_within(
+pub(crate) fn lay_within(
     alloc: Global,
     bytes: &[u8],
     actions: &mut [Struct],
@@ -118,30 +115,57 @@ fn lay_within(
         Err(error) => return refusal(error),
     };
     let used = bytes.len() - read.rest.len();
-    answer(
-        alloc,
-        &room[..read.count],
-        read.control,
-        used,
-        actions,
-        params,
-    )
+    let list = &room[..read.count];
+    answered(used, lay_list(alloc, list, read.control, actions, params))
 }
 
-/// Puts the actions of the sequence at the front, and their tokens, as many as there is room for. Up to 31 tokens take no memory.
-#[inline(never)]
-pub fn lay_by_tokens(
+/// Puts these actions and their tokens.
+fn lay_all(all: &[CSI], actions: &mut [Struct], params: &mut [Param]) -> Option<Counts>
+    ensures { IfSome result (λ count.
+        Lays actions.old actions.new params.old params.new count (map action_of all.now)) }
+{
+    let mut count = Counts {
+        actions: 0,
+        params: 0,
+    };
+    for action in all {
+        count = lay_one(action, count, actions, params)?;
+    }
+    Some(count)
+}
+
+/// Puts the actions that terminals take this list for, and their tokens.
+fn lay_taken(
+    alloc: Global,
+    list: &[CsiParam],
+    control: char,
+    actions: &mut [Struct],
+    params: &mut [Param],
+) -> Option<Counts>
+    ensures { IfSome result (LaysBy Terminal list.now control actions.old actions.new params.old params.new) }
+{
+    let all = terminal_actions(alloc, list, false, control).ok()?;
+    let count = lay_all(&all, actions, params)?;
+    Some(count)
+}
+
+/// Puts the actions that terminals take the sequence at the front for, and their tokens, as many as there is room for.
+#[tactic(auto, using(crate::proofs::Fronts::front_taken))]
+pub fn lay_as_terminals(
     alloc: Global,
     bytes: &[u8],
     actions: &mut [Struct],
     params: &mut [Param],
 ) -> NextSequence
-    ensures { IsDone bytes.now actions.old actions.new params.old params.new result
+    ensures { IsTaken Terminal bytes.now actions.old actions.new params.old params.new result
         ⊎ IsRefused bytes.now actions.old actions.new params.old params.new result }
 {
-    // What is no sequence is refused before the room is cleared.
-    if !matches!(bytes, [0x1b, b'[', ..]) {
-        return next_long(alloc, bytes, actions, params);
+    match read_csi(alloc, bytes) {
+        Ok(read) => {
+            let used = bytes.len() - read.rest.len();
+            let laid = lay_taken(alloc, &read.params, read.control, actions, params);
+            answered(used, laid)
+        }
+        Err(error) => refusal(error),
     }
-    lay_within(alloc, bytes, actions, params)
 }

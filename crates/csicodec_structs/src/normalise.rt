@@ -4,8 +4,8 @@ ghost use Rattle.csicodec_parser.specs.{ActionOf.action_of, declared.parser.Acti
 ghost use Rattle.csicodec_streams.specs.Decoding.{NormalisesTo};
 ghost use Rattle.csicodec_structs.specs.Normalise.{IsDone, IsRefused, normalised, refusal, refused};
 
+use crate::encode::short_text;
 use crate::room::fill;
-use crate::short::short_text;
 use crate::status::{Status, fault_of};
 use csicodec::laws::segmentation;
 use csicodec::{CSI, CsiParam, DecodeError, ReadError, Text, normal_form, read_csi_within};

@@ -1,5 +1,5 @@
 -- What is laid of an action, and what is answered of a list that was read.
-use Rattle.std.specs.Prelude.{ℕ, ◌≡◌, ◌⊎◌, ◌+◌, ◌++◌, false, List, [], ◌∷◌, length, unwrap_or}
+use Rattle.std.specs.Prelude.{ℕ, ◌≡◌, ◌+◌, ◌++◌, false, List, [], ◌∷◌, length, Option, None, Some, unwrap_or}
 use Rattle.csicodec_tokens.specs.{declared.param.CsiParam.CsiParam, declared.param.CsiParam.TheVariants.P}
 use Rattle.csicodec_actions.specs.{Actions.Action, Devices.listed_attributes, Lent.integers, Table.boxed}
 use Rattle.csicodec_parser.specs.{ActionOf.action_of, declared.parser.ActionRef.ActionRef}
@@ -46,23 +46,19 @@ lent (refs.Whole list) final =
 lent (refs.Unknown list) final = action.Unspecified list.now false final
 lent (refs.UnknownMode list) final = action.Unspecified (P 63 ∷ list.now) false final
 
--- the answer of a sequence of so many bytes and actions
-abbrev pub done : ℕ → Counts → NextSequence
-done used count = record { status = status_number status.Done; at = 0; used = used; actions = count.actions; params = count.params }
+-- the actions of a list by a reading are put
+abbrev pub LaysBy : Reading → List CsiParam → ℕ → List Struct → List Struct → List Param → List Param
+    → Counts → Type 0
+LaysBy reading list final actions_old actions_new params_old params_new count =
+    (all : List Action) × reading list false final all
+    × Lays actions_old actions_new params_old params_new count all
 
--- its actions are put
-pub record IsLaid (reading : Reading) (list : List CsiParam) (final used : ℕ) (actions_old actions_new : List Struct)
-    (params_old params_new : List Param) (answer : NextSequence) : Type 0 where
-  pub all : List Action
-  pub are : reading list false final all
-  pub ok : answer.status ≡ status_number status.Done
-  pub no_fault : answer.at ≡ 0
-  pub used_all : answer.used ≡ used
-  pub lays : Lays actions_old actions_new params_old params_new (record { actions = answer.actions; params = answer.params }) all
+-- the answer of a sequence of so many bytes, actions and tokens
+abbrev pub done : ℕ → ℕ → ℕ → NextSequence
+done used actions params =
+    record { status = status_number status.Done; at = 0; used = used; actions = actions; params = params }
 
--- so, or out of memory
-abbrev pub IsAnswer : Reading → List CsiParam → ℕ → ℕ → List Struct → List Struct → List Param
-    → List Param → NextSequence → Type 0
-IsAnswer reading list final used actions_old actions_new params_old params_new answer =
-    IsLaid reading list final used actions_old actions_new params_old params_new answer
-    ⊎ (answer ≡ refused status.Memory 0)
+-- so, unless memory ran out
+abbrev pub answered : ℕ → Option Counts → NextSequence
+answered used (Some count) = done used count.actions count.params
+answered used None = refused status.Memory 0

@@ -1,6 +1,6 @@
 use Rattle.std.proofs.Common.{arith}
 use Rattle.csicodec_parser.specs.ActionOf.{action_of}
-use Rattle.csicodec_structs.proofs.Sole.{short_normal}
+use Rattle.csicodec_structs.proofs.Running.{short_normal}
 use Rattle.csicodec_structs.proofs.normalise.short_form.Goals as goal
 
 pub returns : goal.returns

@@ -1,6 +1,6 @@
 use Rattle.std.specs.Prelude.{IsNone}
 use Rattle.std.proofs.Common.{Some, ap, refl, ◌∙◌}
-use Rattle.csicodec_structs.proofs.Sole.{sole}
+use Rattle.csicodec_structs.proofs.Running.{sole}
 use Rattle.csicodec_structs.proofs.normalise.sole_action.Goals as goal
 
 pub returns-in-None : goal.returns-in-None

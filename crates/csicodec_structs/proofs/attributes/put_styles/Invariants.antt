@@ -1,7 +1,7 @@
 use Rattle.std.specs.Prelude.{map}
 use Rattle.std.proofs.Common.{◌≡◌, take}
 use Rattle.csicodec_structs.specs.{Room.laid, Private.Short.style_struct}
-use Rattle.csicodec_structs.proofs.styles.put_styles.Given as goal
+use Rattle.csicodec_structs.proofs.attributes.put_styles.Given as goal
 
 -- the attributes up to here are put
 abbrev pub invariant-loop-style : goal.invariant-loop-style

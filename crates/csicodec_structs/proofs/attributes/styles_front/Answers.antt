@@ -2,7 +2,7 @@ use Rattle.std.proofs.{Common.take, Common.refl, Common.inl, Common.inr, Common.
 use Rattle.csicodec_streams.proofs.Positions.{byte_cut}
 use Rattle.csicodec_structs.specs.Private.Short.{AreStyles}
 use Rattle.csicodec_structs.proofs.Styled.{styles_next}
-use Rattle.csicodec_structs.proofs.styles.styles_front.Goals as goal
+use Rattle.csicodec_structs.proofs.attributes.styles_front.Goals as goal
 
 pub loop-count-init : goal.loop-count-init
 loop-count-init c = record { within = omega arith; read = inl (refl, refl); next = c.requires }

@@ -1,6 +1,6 @@
 use Rattle.std.proofs.{Common.take, Common.sym, lemmas.List.length-take-le}
 use Rattle.csicodec_structs.proofs.ShortLaid.{styles_laid}
-use Rattle.csicodec_structs.proofs.styles.lay_styles.Goals as goal
+use Rattle.csicodec_structs.proofs.attributes.lay_styles.Goals as goal
 
 pub returns-clause-some : goal.returns-clause-some
 returns-clause-some c =

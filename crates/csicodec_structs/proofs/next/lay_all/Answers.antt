@@ -2,7 +2,7 @@ use Rattle.std.proofs.{Common.◌≡◌, Common.◌+◌, Common.◌++◌, Common
 use Rattle.std.proofs.{lemmas.List.take_more}
 use Rattle.csicodec_parser.specs.ActionOf.{action_of}
 use Rattle.csicodec_structs.proofs.Laid.{lays_none}
-use Rattle.csicodec_structs.proofs.terminal.lay_all.Goals as goal
+use Rattle.csicodec_structs.proofs.next.lay_all.Goals as goal
 
 pub loop-action-init : goal.loop-action-init
 loop-action-init c = lays_none c.args.actions.now c.args.params.now

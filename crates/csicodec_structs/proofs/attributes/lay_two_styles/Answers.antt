@@ -2,7 +2,7 @@ use Rattle.std.proofs.Common.{◌∷◌, [], refl, subst, arith}
 use Rattle.csicodec_streams.proofs.Positions.{byte_cut}
 use Rattle.csicodec_structs.specs.Private.Short.{AreStyles}
 use Rattle.csicodec_structs.proofs.{ShortLaid.styles_laid, Styled.two_styles}
-use Rattle.csicodec_structs.proofs.styles.lay_two_styles.Goals as goal
+use Rattle.csicodec_structs.proofs.attributes.lay_two_styles.Goals as goal
 
 pub returns-clause-some : goal.returns-clause-some
 returns-clause-some c =

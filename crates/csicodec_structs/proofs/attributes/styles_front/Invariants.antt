@@ -2,7 +2,7 @@ use Rattle.std.specs.Prelude.{pos}
 use Rattle.std.proofs.Common.{◌≤◌, ◌-◌, length, take}
 use Rattle.csicodec_tokens.specs.{declared.param.CsiParam.TheVariants.Integer, Private.Reading.IsFirstToken}
 use Rattle.csicodec_structs.specs.Private.Short.{HasStyles}
-use Rattle.csicodec_structs.proofs.styles.styles_front.Given as goal
+use Rattle.csicodec_structs.proofs.attributes.styles_front.Given as goal
 
 -- the attributes up to here were read, and the number behind them
 abbrev pub invariant-loop-count : goal.invariant-loop-count

@@ -1,7 +1,7 @@
 use Rattle.std.proofs.Common.{◌≡◌, refl, arith, rules}
 use Rattle.csicodec_streams.proofs.Positions.{byte_cut}
 use Rattle.csicodec_structs.proofs.Styled.{byte_token}
-use Rattle.csicodec_structs.proofs.mode.mode_front.Goals as goal
+use Rattle.csicodec_structs.proofs.movement.mode_front.Goals as goal
 
 pub returns : goal.returns
 returns c =

@@ -3,7 +3,7 @@ use Rattle.std.proofs.Common.{◌<◌, ◌∷◌, [], rules, ap, ◌∙◌}
 use Rattle.csicodec_tokens.specs.declared.param.CsiParam.TheVariants.{Integer, P}
 use Rattle.csicodec_structs.specs.{Rows.mode_struct, Private.Short.change_final}
 use Rattle.csicodec_structs.proofs.ShortLaid.{change_ends, mode_row, row_laid}
-use Rattle.csicodec_structs.proofs.mode.lay_mode.Goals as goal
+use Rattle.csicodec_structs.proofs.movement.lay_mode.Goals as goal
 
 pub returns-clause-some : goal.returns-clause-some
 returns-clause-some c =

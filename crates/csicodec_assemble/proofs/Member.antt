@@ -1,5 +1,5 @@
 -- Members and items that are passed, and what is known of them.
-use Rattle.std.proofs.Common.{◌≡◌, ℕ, ◌-◌, ◌<◌, ◌≤◌, ◌^◌, List, [], false, length, Option, Some, None, Ok, IsSome, refl, sym, ap, ◌∙◌, lt-ltb, get_or, subst, Bor, IfSome}
+use Rattle.std.proofs.Common.{◌≡◌, ℕ, ◌-◌, ◌<◌, ◌≤◌, ◌^◌, List, [], false, length, Option, Some, None, Ok, IsSome, refl, sym, ap, ◌∙◌, lt-ltb, get_or, subst}
 use Rattle.std.proofs.{lemmas.Slice.Eq.bytes_eq-Decides, lemmas.Str.is_utf8-from_IsUtf8}
 use Rattle.std.specs.{Prelude.codes, Prelude.◌==◌, Prelude.option_and_then, Prelude.option_map, Prelude.IsUtf8, Str.bytes_eq}
 use Rattle.fast_float.specs.Text.{IsInteger, digits_of, scan}

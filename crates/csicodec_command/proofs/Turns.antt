@@ -1,5 +1,5 @@
 -- Turns one after the other, and what an input has behind its first bytes.
-use Rattle.std.proofs.Common.{Bor, true, false, if◌then◌else◌, ◌==◌, inl, inr, ◌⊎◌, ◌≡◌, ◌∷◌, ◌++◌, ℕ, List, [], Option, None, Some, Result, Ok, Err, ap, drop, length, get_or, arith, refl, sym, subst, append_assoc, append-nil, ◌≤◌, ◌+◌, ◌<◌, ◌≢◌, ◌∙◌}
+use Rattle.std.proofs.Common.{Bor, true, false, if◌then◌else◌, ◌==◌, inl, inr, ◌⊎◌, ◌≡◌, ◌∷◌, ◌++◌, ℕ, List, [], Option, None, Some, Result, Ok, Err, ap, drop, length, get_or, arith, refl, sym, subst, append_assoc, append-nil, ◌≤◌, ◌+◌, ◌<◌, ◌∙◌}
 use Rattle.std.proofs.{lemmas.List.at_drop_more, lemmas.List.length-map, Math.ListN.drop_of_length-le, KnownBytes.Consumes-nil, KnownBytes.Consumes-trans}
 use Rattle.std.proofs.{KnownBytes.Keeps-refl}
 use Rattle.std.specs.{Prelude.map, Fmt.option_append, Option.option_or, Io.KnownBytes.Consumes, Io.KnownBytes.Keeps, Io.KnownBytes.prepend_known}

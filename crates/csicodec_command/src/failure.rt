@@ -1,9 +1,11 @@
 //! What a program tells of a run that failed: its message, and the status.
 ghost use Rattle.std.specs.Prelude.{◌≡◌, Some};
+ghost use Rattle.csicodec_transform.specs.declared.error.RunError.{RunError};
 ghost use Rattle.csicodec_command.specs.{Failure.found_text, Failure.line, Failure.status, Runs.ends_run, declared.failure.Failure.TheVariants.Run as Ran};
 
 use csicodec_assemble::Fault;
 use csicodec_transform::RunError;
+use std::alloc::AllocError;
 use std::fmt;
 
 /// The status where the reader of the output went away: the one that a shell tells of a program that SIGPIPE ended (128 + 13), as
@@ -84,6 +86,14 @@ impl From<RunError> for Failure {
 
     fn from(error: RunError) -> Failure {
         Failure::Run(error)
+    }
+}
+
+impl From<AllocError> for Failure {
+    ghost from_gives = { λ _ failure. failure ≡ Ran RunError.Memory };
+
+    fn from(_: AllocError) -> Failure {
+        Failure::Run(RunError::Memory)
     }
 }
 

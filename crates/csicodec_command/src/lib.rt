@@ -10,7 +10,7 @@ mod recorded;
 mod recording;
 mod run;
 
-pub use command::{ColorWhen, Colors, Request, Task, Wrong, nearest};
+pub use command::{Request, Task, Wrong, nearest};
 pub use failure::{Failure, Found};
 pub use recorded::Recorded;
 pub use recording::{Recording, line_front, micros, time_of};

@@ -10,7 +10,7 @@ ghost use Rattle.csicodec_command.specs.declared.failure.Failure.TheVariants.{Re
 use crate::failure::Failure;
 use csicodec_transform::RunError;
 use serde_json::Value;
-use std::alloc::{AllocError, Global};
+use std::alloc::Global;
 use std::io::BufRead;
 
 /// A recording of which some lines were read.
@@ -45,13 +45,6 @@ pub fn micros(text: &str) -> u64 {
 pub fn time_of(line: &str) -> &str {
     let (front, _behind) = line.split_once(',').unwrap_or((line, ""));
     front.trim_start_matches('[').trim()
-}
-
-/// What went wrong where memory ran out.
-fn no_memory(_: AllocError) -> Failure
-    ensures { result ≡ Ran RunError.Memory }
-{
-    Failure::Run(RunError::Memory)
 }
 
 /// The first line with its end, and what is behind it.
@@ -247,8 +240,8 @@ impl Recording {
         } else {
             self.time.saturating_add(time)
         };
-        let code = String::from_str(self.alloc, code).map_err(no_memory)?;
-        let data = String::from_str(self.alloc, data).map_err(no_memory)?;
+        let code = String::from_str(self.alloc, code)?;
+        let data = String::from_str(self.alloc, data)?;
         Ok((code, data))
     }
 }

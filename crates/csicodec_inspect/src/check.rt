@@ -11,16 +11,10 @@ use crate::visible::{VisibleText, is_tag, turns};
 use bstr::decode_utf8;
 use csicodec_clean::{CharClass, Checked, PlainText, check_all, is_shown};
 use csicodec_command::{Failure, Found, Recording};
-use csicodec_transform::RunError;
 use std::alloc::{AllocError, Global};
 use std::io::{BufRead, Read};
 
 const ESC: u8 = 0x1b;
-
-/// What went wrong where memory ran out.
-pub fn no_memory(_: AllocError) -> Failure {
-    Failure::Run(RunError::Memory)
-}
 
 /// What the character in front is told as, if there is one.
 fn by_char(front: Option<char>) -> Found
@@ -127,9 +121,7 @@ fn written_of<R: BufRead>(alloc: Global, input: &mut R) -> Result<Vec<u8>, Failu
             break;
         };
         if let Some(data) = reading.take(text.as_bytes())? {
-            written
-                .extend_from_slice(data.as_bytes())
-                .map_err(no_memory)?;
+            written.extend_from_slice(data.as_bytes())?;
         }
     }
     reading.end()?;
@@ -141,7 +133,7 @@ pub fn check_cast<R: BufRead>(alloc: Global, visible: bool, input: &mut R) -> Re
     let written = written_of(alloc, input)?;
     let mut checked = Checked::new(alloc);
     for line in written.split_inclusive(|byte| *byte == b'\n') {
-        if !push_line(&mut checked, visible, line).map_err(no_memory)? {
+        if !push_line(&mut checked, visible, line)? {
             break;
         }
     }

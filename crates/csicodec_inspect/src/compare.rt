@@ -1,7 +1,6 @@
 //! What differs between two streams in words.
 ghost use Rattle.std.specs.Prelude.{⊤};
 
-use crate::check::no_memory;
 use crate::diff::{DiffLine, Origin, lines_of};
 use crate::explain::explainer_of;
 use crate::explained_cast::explain_cast;
@@ -34,25 +33,11 @@ fn split(alloc: Global, text: &[u8]) -> Result<Vec<&[u8]>, AllocError> {
     Ok(lines)
 }
 
-/// Marks a place and those near it.
-fn mark_near(near: &mut [bool], place: usize) {
-    let behind = place.saturating_add(NEAR).saturating_add(1);
-    for at in place.saturating_sub(NEAR)..behind {
-        if let Some(it) = near.get_mut(at) {
-            *it = true;
-        }
-    }
-}
-
-/// Whether each line stands near one that differs.
-fn shown(alloc: Global, lines: &[DiffLine<'_>]) -> Result<Vec<bool>, AllocError> {
-    let mut near = vec![in alloc; false; lines.len()]?;
-    for (place, line) in lines.iter().enumerate() {
-        if line.side != Origin::Both {
-            mark_near(&mut near, place);
-        }
-    }
-    Ok(near)
+/// Whether the line at a place differs, or stands near one that does.
+fn is_near(lines: &[DiffLine<'_>], place: usize) -> bool {
+    let behind = place.saturating_add(NEAR + 1).min(lines.len());
+    let near = lines.get(place.saturating_sub(NEAR)..behind).unwrap_or(&[]);
+    near.iter().any(|line| line.side != Origin::Both)
 }
 
 /// A line behind the mark of where it is.
@@ -66,11 +51,11 @@ fn append_marked(out: &mut Vec<u8>, line: DiffLine<'_>) -> Result<(), AllocError
 }
 
 /// The lines that are shown, with `@@` ahead of each run of them.
-fn runs(alloc: Global, lines: &[DiffLine<'_>], shown: &[bool]) -> Result<Vec<u8>, AllocError> {
+fn runs(alloc: Global, lines: &[DiffLine<'_>]) -> Result<Vec<u8>, AllocError> {
     let mut out = Vec::new(alloc);
     let mut before = false;
     for (place, line) in lines.iter().enumerate() {
-        let is_shown = shown.get(place).copied().unwrap_or(false);
+        let is_shown = is_near(lines, place);
         if is_shown && !before {
             out.extend_from_slice(b"@@\n")?;
         }
@@ -85,8 +70,7 @@ fn runs(alloc: Global, lines: &[DiffLine<'_>], shown: &[bool]) -> Result<Vec<u8>
 /// The lines that differ and those near them, as `diff -u` marks them, with `@@` ahead of each run of them; nothing where none does.
 fn told<'b>(alloc: Global, first: &'b [u8], second: &'b [u8]) -> Result<Vec<u8>, AllocError> {
     let (first, second) = (split(alloc, first)?, split(alloc, second)?);
-    let lines = lines_of(alloc, &first, &second)?;
-    runs(alloc, &lines, &shown(alloc, &lines)?)
+    runs(alloc, &lines_of(alloc, &first, &second)?)
 }
 
 impl<'a> Compared<'a> {
@@ -113,7 +97,7 @@ impl<'a> Worker for Compared<'a> {
         input: &mut R,
         _output: &mut W,
     ) -> Result<(), Failure> {
-        let mut explainer = explainer_of(alloc, self.style).map_err(no_memory)?;
+        let mut explainer = explainer_of(alloc, self.style)?;
         let mut text = Vec::new(alloc);
         explainer.read(input, &mut text)?;
         self.keep(&mut explainer, text)
@@ -125,7 +109,7 @@ impl<'a> Worker for Compared<'a> {
         input: &mut R,
         _output: &mut W,
     ) -> Result<(), Failure> {
-        let mut explainer = explainer_of(alloc, self.style).map_err(no_memory)?;
+        let mut explainer = explainer_of(alloc, self.style)?;
         let mut text = Vec::new(alloc);
         explain_cast(alloc, &mut explainer, input, &mut text)?;
         self.keep(&mut explainer, text)
@@ -135,7 +119,7 @@ impl<'a> Worker for Compared<'a> {
         let (Some(first), Some(second)) = (self.texts.first(), self.texts.get(1)) else {
             return Ok(());
         };
-        let told = told(self.alloc, first, second).map_err(no_memory)?;
+        let told = told(self.alloc, first, second)?;
         self.differs = !told.is_empty();
         Ok(send(output, &told)?)
     }

@@ -6,8 +6,7 @@ use crate::explained_cast::explain_cast;
 use crate::names::are_known;
 use crate::timing::Timing;
 use csicodec_command::{
-    ColorWhen, Failure, Recordings, Request, Worker, Wrong, failed, is_cast, refused, text_of,
-    work_through,
+    Failure, Recordings, Request, Worker, Wrong, failed, is_cast, refused, text_of, work_through,
 };
 use csicodec_events::Dialect;
 use csicodec_explain::{Explainer, Style};
@@ -128,11 +127,11 @@ fn dialect_of(run: &Request<'_>) -> Option<Dialect> {
 
 /// Whether lines are told in colours: if that is asked for, or where a terminal shows them to someone who didn't say by NO_COLOR that
 /// they aren't wanted.
-fn is_colored(rt: &HostRuntime, color: ColorWhen, live: bool) -> bool {
-    match color {
-        ColorWhen::Always => true,
-        ColorWhen::Never => false,
-        ColorWhen::Auto => live && env::var(rt, "NO_COLOR").is_err(),
+fn is_colored(rt: &HostRuntime, asked: Option<&str>, live: bool) -> bool {
+    match asked {
+        Some("always") => true,
+        Some("never") => false,
+        _ => live && env::var(rt, "NO_COLOR").is_err(),
     }
 }
 
@@ -146,12 +145,12 @@ fn style_of<'a>(rt: &HostRuntime, run: &'a Request<'a>) -> Style<'a> {
         stats: run.has("--stats"),
         unknown: run.has("--unknown"),
         decode: run.has("--decode"),
-        color: !json && is_colored(rt, run.color, live),
+        color: !json && is_colored(rt, run.value("--color"), live),
         timed: false,
         live,
-        only: run.only,
+        only: run.value("--only"),
         at: &run.at,
-        grep: run.grep,
+        grep: run.value("--grep"),
         ignore_case: run.has("--ignore-case"),
         dialect: dialect_of(run),
     }
@@ -177,7 +176,7 @@ fn explained_of<'a>(
     run: &Request<'a>,
     style: Style<'a>,
 ) -> Result<Explained<'a>, u8> {
-    let timing = match run.timing {
+    let timing = match run.value("--timing") {
         Some(name) => Some(times_of(rt, name, style.dialect.is_some())?),
         None => None,
     };
@@ -201,7 +200,7 @@ fn explain(rt: &HostRuntime, run: &Request<'_>) -> Result<(), u8> {
     }
     let mut work = explained_of(rt, run, style)?;
     work_through(rt, &mut work, &run.files)?;
-    let asks = run.has("--quiet") || run.has("--unknown") || run.grep.is_some();
+    let asks = run.has("--quiet") || run.has("--unknown") || run.has("--grep");
     if asks && !work.answer.any {
         Err(1)
     } else {
@@ -211,7 +210,7 @@ fn explain(rt: &HostRuntime, run: &Request<'_>) -> Result<(), u8> {
 
 /// Explains what the words of the command line ask for, if they do so in names that there are; the status, if that failed.
 pub fn explain_inputs(rt: &HostRuntime, run: &Request<'_>) -> Result<(), u8> {
-    if let Some(names) = run.only {
+    if let Some(names) = run.value("--only") {
         are_known(rt.alloc(), names).map_err(|wrong| refused(rt, wrong))?;
     }
     explain(rt, run)

@@ -16,7 +16,7 @@ mod timing;
 mod visible;
 
 pub use assemble::Assembly;
-pub use check::{check_cast, check_stream, no_memory};
+pub use check::{check_cast, check_stream};
 pub use cuts::Cuts;
 pub use explain::explain_inputs;
 pub use normal::Normaliser;

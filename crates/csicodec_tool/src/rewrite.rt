@@ -9,11 +9,11 @@ use crate::log::Log;
 use crate::palette::palette_of;
 use crate::rewritten_cast::{Rewriter, rewrite_cast};
 use csicodec_clean::{Cleaner, Depth, Dropped, Kept, Passing, clean_all_with, strip_all};
-use csicodec_command::{Colors, Failure, Recorded, Request, Worker, Wrong};
+use csicodec_command::{Failure, Recorded, Request, Worker, Wrong};
 use csicodec_compact::{Compact, Compactor, compact_all};
 use csicodec_filter::{Faithful, Filter, NormalForm, filter_all};
 use csicodec_html::{BEHIND, Markup, Palette, UNNAMED, front, html_all_with};
-use csicodec_inspect::{check_cast, check_stream, no_memory};
+use csicodec_inspect::{check_cast, check_stream};
 use csicodec_lines::{Lines, clean_lines_all, strip_lines_all};
 use csicodec_overwrite::html_overwritten_all;
 use csicodec_spans::LIMIT;
@@ -69,17 +69,17 @@ fn compact(alloc: Global, semicolons: bool) -> Compact {
 }
 
 /// The colours that `clean` keeps.
-fn depth_of(asked: Colors) -> Depth {
-    match asked {
-        Colors::Full => Depth::Full,
-        Colors::Palette => Depth::Palette,
-        Colors::Ansi => Depth::Ansi,
+fn depth_of(run: &Request<'_>) -> Depth {
+    match run.value("--colors") {
+        Some("256") => Depth::Palette,
+        Some("16") => Depth::Ansi,
+        _ => Depth::Full,
     }
 }
 
 /// What of a stream becomes markup.
 fn markup_of<'a>(alloc: Global, run: &Request<'a>) -> Result<Markup, Wrong<'a>> {
-    let palette = match run.palette {
+    let palette = match run.value("--palette") {
         Some(text) => palette_of(alloc, text)?,
         None => Palette::default(),
     };
@@ -103,7 +103,7 @@ impl<'a> Work<'a> {
     pub fn strip(run: &Request<'a>) -> Work<'a> {
         if run.has("--check") {
             Work::Check {
-                visible: run.visible,
+                visible: run.value("--check").is_some(),
             }
         } else if run.overwrites() {
             Work::Overwrite { styles: None }
@@ -118,7 +118,7 @@ impl<'a> Work<'a> {
 
     /// The same with its styles, as those of `clean` do.
     pub fn clean(run: &Request<'a>) -> Work<'a> {
-        let (depth, links) = (depth_of(run.depth), run.links);
+        let (depth, links) = (depth_of(run), run.links);
         let passing = Passing { depth, links };
         let styles = Some(passing);
         if run.overwrites() {
@@ -313,7 +313,7 @@ impl<'a> Worker for Job<'a> {
         if self.text {
             return self.work.write_cast(alloc, input, output);
         }
-        match self.work.stage(alloc).map_err(no_memory)? {
+        match self.work.stage(alloc)? {
             Some(mut stage) => rewrite_cast(alloc, &mut stage, input, output),
             None => self.work.write_cast(alloc, input, output),
         }

@@ -5,7 +5,6 @@ use csicodec_clean::{Cleaner, Dropped, Kept, Passing, strip};
 use csicodec_command::{Failure, Recording, time_of};
 use csicodec_compact::Compactor;
 use csicodec_filter::{Faithful, Filter, NormalForm};
-use csicodec_inspect::no_memory;
 use csicodec_lines::Lines;
 use csicodec_transform::{RunError, Transform, send};
 use serde_json::Value;
@@ -107,8 +106,8 @@ fn send_line<W: Write>(
     if !stage.is_safe() {
         return Ok(send(output, line.as_bytes())?);
     }
-    let mut text = strip(alloc, line.trim_end().as_bytes()).map_err(no_memory)?;
-    text.extend_from_slice(b"\n").map_err(no_memory)?;
+    let mut text = strip(alloc, line.trim_end().as_bytes())?;
+    text.extend_from_slice(b"\n")?;
     Ok(send(output, &text)?)
 }
 
@@ -120,9 +119,9 @@ fn send_event<W: Write>(
     data: &[u8],
     output: &mut W,
 ) -> Result<(), Failure> {
-    let data = String::from_utf8_lossy(alloc, data).map_err(no_memory)?;
-    let data = Value::String(data).to_string(alloc).map_err(no_memory)?;
-    let line = format!(in alloc; "[{time}, \"o\", {data}]\n").map_err(no_memory)?;
+    let data = String::from_utf8_lossy(alloc, data)?;
+    let data = Value::String(data).to_string(alloc)?;
+    let line = format!(in alloc; "[{time}, \"o\", {data}]\n")?;
     send_line(alloc, stage, &line, output)
 }
 
@@ -136,7 +135,7 @@ pub fn rewrite_cast<R: BufRead, W: Write>(
 ) -> Result<(), Failure> {
     let mut reading = Recording::new(alloc);
     let mut line = Vec::new(alloc);
-    let mut last = String::from_str(alloc, "0").map_err(no_memory)?;
+    let mut last = String::from_str(alloc, "0")?;
     let mut out = Vec::new(alloc);
     for _ in 0..u64::MAX {
         let Some(text) = reading.next_line(input, &mut line)? else {
@@ -148,17 +147,15 @@ pub fn rewrite_cast<R: BufRead, W: Write>(
         };
         let time = time_of(text.trim());
         out.clear();
-        stage
-            .push_recorded(data.as_bytes(), &mut out)
-            .map_err(no_memory)?;
+        stage.push_recorded(data.as_bytes(), &mut out)?;
         send_event(alloc, stage, time, &out, output)?;
         if reading.counts_from_begin() {
             last.clear();
-            last.push_str(time).map_err(no_memory)?;
+            last.push_str(time)?;
         }
     }
     out.clear();
-    stage.finish(&mut out).map_err(no_memory)?;
+    stage.finish(&mut out)?;
     if !out.is_empty() {
         send_event(alloc, stage, &last, &out, output)?;
     }

@@ -2,19 +2,19 @@
 
 use crate::line::{Offset, Sort, append_time};
 use crate::style::{Style, name_of};
-use csicodec_osc::{are_plain, is_seen};
+use csicodec_osc::{are_plain, is_seen, plain_len};
 use std::alloc::AllocError;
 
-/// The name of what a span is told as.
-fn name_of_sort(sort: Sort) -> &'static [u8] {
+/// The member that names what a span is told as.
+fn kind_of(sort: Sort) -> &'static [u8] {
     match sort {
-        Sort::Text => b"text",
-        Sort::Control => b"control",
-        Sort::Sequence => b"csi",
-        Sort::Escape => b"escape",
-        Sort::String => b"string",
-        Sort::Malformed => b"malformed",
-        Sort::Event => b"event",
+        Sort::Text => b",\"kind\":\"text\"",
+        Sort::Control => b",\"kind\":\"control\"",
+        Sort::Sequence => b",\"kind\":\"csi\"",
+        Sort::Escape => b",\"kind\":\"escape\"",
+        Sort::String => b",\"kind\":\"string\"",
+        Sort::Malformed => b",\"kind\":\"malformed\"",
+        Sort::Event => b",\"kind\":\"event\"",
     }
 }
 
@@ -53,12 +53,18 @@ pub(crate) fn append_plain(out: &mut Vec<u8>, bytes: &[u8]) -> Result<(), AllocE
 
 /// A text between quotation marks.
 pub fn append_string(out: &mut Vec<u8>, text: &str) -> Result<(), AllocError> {
-    if are_plain(text.as_bytes()) {
-        return append_plain(out, text.as_bytes());
-    }
+    let mut rest = text;
     out.push(b'"')?;
-    for character in text.chars() {
+    for _ in 0..text.len() {
+        let len = plain_len(rest.as_bytes());
+        let (run, behind) = rest.split_at_checked(len).unwrap_or((rest, ""));
+        out.extend_from_slice(run.as_bytes())?;
+        let mut characters = behind.chars();
+        let Some(character) = characters.next() else {
+            break;
+        };
         append_character(out, character)?;
+        rest = characters.as_str();
     }
     Ok(out.push(b'"')?)
 }
@@ -112,9 +118,8 @@ fn append_member(
 
 /// What a span is, and its bytes.
 pub fn append_object(text: &mut Vec<u8>, sort: Sort, bytes: &[u8]) -> Result<(), AllocError> {
-    text.extend_from_slice(b",\"kind\":\"")?;
-    text.extend_from_slice(name_of_sort(sort))?;
-    append_member(text, bytes, b"\",\"text\":", b"\",\"hex\":")
+    text.extend_from_slice(kind_of(sort))?;
+    append_member(text, bytes, b",\"text\":", b",\"hex\":")
 }
 
 /// An action of an object: its name, its words, and its fields.

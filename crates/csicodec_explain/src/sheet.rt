@@ -185,7 +185,8 @@ impl<'a> Sheet<'a> {
     /// The begin of a span's object: ahead of it stands one for each piece of a long span, but for the last.
     fn begin_object(&mut self, span: &ToldSpan<'_>) -> Result<(), AllocError> {
         let mut rest = *span;
-        for _ in 0..span.bytes.len() {
+        // A piece may lack a character that isn't whole, of at most four bytes.
+        for _ in 0..span.bytes.len() / (PIECE - 4) {
             let told = self.tell_piece(&rest)?;
             if told == 0 {
                 break;

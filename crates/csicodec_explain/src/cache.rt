@@ -1,7 +1,8 @@
 //! What was told of sequences that came before: real streams have the same few hundred over and over.
 
+use crate::Result;
 use crate::keyed::{Keyed, SPREAD};
-use std::alloc::{AllocError, Global};
+use std::alloc::Global;
 
 /// So many sequences are kept at most. Then all are forgotten.
 const MOST: usize = 4096;
@@ -109,7 +110,7 @@ impl Remembered {
     }
 
     /// Keeps what was told of a sequence that `recall` didn't find.
-    pub fn keep(&mut self, span: Keyed<'_>, told: &[u8], actions: u64) -> Result<(), AllocError> {
+    pub fn keep(&mut self, span: Keyed<'_>, told: &[u8], actions: u64) -> Result<()> {
         let is_passed = self.passes_over();
         self.new = self.new.saturating_add(1);
         if is_passed || span.bytes.len().saturating_add(told.len()) > LONGEST {

@@ -1,5 +1,6 @@
 //! What `--decode` shows: what a program puts into the clipboard (OSC 52), decoded from base64 (RFC 4648).
 
+use crate::Result;
 use base64::DecodeAllocError;
 use base64::engine::general_purpose::STANDARD;
 use csicodec_osc::{Quoted, Shown};
@@ -17,7 +18,7 @@ fn clipboard_text(string: &[u8]) -> Option<&[u8]> {
 }
 
 /// The bytes that a string puts into the clipboard; none where it isn't an OSC 52 that does.
-pub fn clipboard_bytes(alloc: Global, string: &[u8]) -> Result<Option<Vec<u8>>, AllocError> {
+pub fn clipboard_bytes(alloc: Global, string: &[u8]) -> Result<Option<Vec<u8>>> {
     match clipboard_text(string) {
         Some(text) if !text.is_empty() => match STANDARD.decode(alloc, text) {
             Ok(bytes) => Ok(Some(bytes)),

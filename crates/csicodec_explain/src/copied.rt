@@ -1,8 +1,8 @@
 //! Words with the digits of a sequence, which are copied, where others are read and printed. Of a stream's sequences most places and true
 //! colours are new, and others are the same few over and over.
 
+use crate::Result;
 use crate::digits::{words_of_color, words_of_place};
-use std::alloc::AllocError;
 
 /// The words of an action, with digits of its sequence: a line and a column, or the parts of a true colour.
 #[derive(Clone, Copy)]
@@ -26,7 +26,7 @@ impl<'a> Copied<'a> {
     }
 
     /// Appends the words.
-    pub fn append_to(self, out: &mut Vec<u8>) -> Result<(), AllocError> {
+    pub fn append_to(self, out: &mut Vec<u8>) -> Result<()> {
         out.extend_from_slice(self.ahead.as_bytes())?;
         out.extend_from_slice(self.first)?;
         out.extend_from_slice(self.between.as_bytes())?;

@@ -1,8 +1,9 @@
 //! How much of a stream is what, and how often each name was told, of how many bytes.
 
+use crate::Result;
 use crate::line::Sort;
 use csicodec_spans::Kind;
-use std::alloc::{AllocError, Global};
+use std::alloc::Global;
 use std::collections::BTreeMap;
 use std::fmt::Write;
 
@@ -119,7 +120,7 @@ impl Names {
     }
 
     /// This name once more, of so many bytes.
-    pub fn add(&mut self, name: &str, bytes: u64) -> Result<(), AllocError> {
+    pub fn add(&mut self, name: &str, bytes: u64) -> Result<()> {
         if let Some(sum) = self.sums.get_mut(name) {
             sum.add(1, bytes);
         } else if self.sums.len() >= MOST {
@@ -133,13 +134,13 @@ impl Names {
 }
 
 /// A row of a name.
-fn append_name(out: &mut String, name: &str, times: u64) -> Result<(), AllocError> {
+fn append_name(out: &mut String, name: &str, times: u64) -> Result<()> {
     Ok(write!(out, "  {name:<16}{times:>10}\n")?)
 }
 
 /// All that is counted, with how often each name was told, as an object of JSON. A name has no character that would stand behind a
 /// backslash there.
-pub fn append_object(out: &mut String, totals: &Totals, names: &Names) -> Result<(), AllocError> {
+pub fn append_object(out: &mut String, totals: &Totals, names: &Names) -> Result<()> {
     out.push_str("{\"kind\":\"totals\"")?;
     for (name, _, sum) in &totals.kinds() {
         let (times, bytes) = (sum.times, sum.bytes);
@@ -158,7 +159,7 @@ pub fn append_object(out: &mut String, totals: &Totals, names: &Names) -> Result
 }
 
 /// The same as a line for each; the names in the order of their characters.
-pub fn append_lines(out: &mut String, totals: &Totals, names: &Names) -> Result<(), AllocError> {
+pub fn append_lines(out: &mut String, totals: &Totals, names: &Names) -> Result<()> {
     for (_, title, sum) in &totals.kinds() {
         let (times, bytes) = (sum.times, sum.bytes);
         write!(out, "{title:<18}{times:>10} {bytes:>12} bytes\n")?;
@@ -188,13 +189,7 @@ fn thousandths(bytes: u64, all: u64) -> u64 {
 }
 
 /// A name with its sum and its share: an object of JSON, or a row of the table.
-fn append_share(
-    out: &mut String,
-    name: &str,
-    sum: Sum,
-    share: u64,
-    json: bool,
-) -> Result<(), AllocError> {
+fn append_share(out: &mut String, name: &str, sum: Sum, share: u64, json: bool) -> Result<()> {
     let (times, bytes, whole, tenth) = (sum.times, sum.bytes, share / 10, share % 10);
     if json {
         write!(
@@ -211,12 +206,7 @@ fn append_share(
 /// A table of the names that were told, those of more bytes first: how often each was, the bytes of its spans, and their share of all
 /// bytes; in JSON an object for each name. A sequence of several actions counts with its bytes for the first of them. The shares down
 /// to each row are together that part of all bytes, rounded: of a whole stream they are 100 per cent.
-pub fn append_stats(
-    out: &mut String,
-    names: &Names,
-    all: u64,
-    json: bool,
-) -> Result<(), AllocError> {
+pub fn append_stats(out: &mut String, names: &Names, all: u64, json: bool) -> Result<()> {
     if !json {
         out.push_str(HEADING)?;
     }

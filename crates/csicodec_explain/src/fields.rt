@@ -9,9 +9,10 @@
 //!
 //! A struct of one field stands as that field's value, `Some(x)` as `x`, `None` as `null`, a name alone and a character as a text.
 
+use crate::Result;
 use crate::json::append_plain;
 use memchr::memchr;
-use std::alloc::{AllocError, Global};
+use std::alloc::Global;
 
 /// A `Debug` text that is written as JSON, word by word.
 #[derive(Drop)]
@@ -50,7 +51,7 @@ fn word_front(text: &[u8]) -> Option<(&[u8], u8, &[u8])> {
 }
 
 /// A word as a value; nothing where it is empty.
-fn append_word(out: &mut Vec<u8>, word: &[u8]) -> Result<(), AllocError> {
+fn append_word(out: &mut Vec<u8>, word: &[u8]) -> Result<()> {
     let is_truth = word == b"true".as_slice() || word == b"false".as_slice();
     match word {
         [] => Ok(()),
@@ -125,7 +126,7 @@ impl JsonFields {
     }
 
     /// Writes the members of the action that has this `Debug` text.
-    pub fn write(&mut self, text: &[u8]) -> Result<(), AllocError> {
+    pub fn write(&mut self, text: &[u8]) -> Result<()> {
         self.clear();
         let (first, second, rest) = names_front(text);
         self.out.extend_from_slice(b",\"action\":\"")?;
@@ -147,7 +148,7 @@ impl JsonFields {
         Ok(())
     }
 
-    fn write_all(&mut self, text: &[u8]) -> Result<(), AllocError> {
+    fn write_all(&mut self, text: &[u8]) -> Result<()> {
         let mut rest = text;
         for _ in 0..text.len() {
             let Some((word, byte, behind)) = word_front(rest) else {
@@ -160,7 +161,7 @@ impl JsonFields {
     }
 
     /// Opens a list or an object, and remembers what closes it; if it isn't wanted, neither is written.
-    fn open(&mut self, wanted: bool, opener: u8, closer: &'static str) -> Result<(), AllocError> {
+    fn open(&mut self, wanted: bool, opener: u8, closer: &'static str) -> Result<()> {
         if wanted {
             self.out.push(opener)?;
         }
@@ -168,7 +169,7 @@ impl JsonFields {
     }
 
     /// A word, the byte that ends it, and what is behind that.
-    fn step(&mut self, word: &[u8], byte: u8, behind: &[u8]) -> Result<(), AllocError> {
+    fn step(&mut self, word: &[u8], byte: u8, behind: &[u8]) -> Result<()> {
         match byte {
             b'(' => self.open_tuple(word, has_comma(behind)),
             b'{' => {
@@ -193,7 +194,7 @@ impl JsonFields {
     }
 
     /// A variant with values: an object of its name, unless it is `Some`.
-    fn open_tuple(&mut self, word: &[u8], several: bool) -> Result<(), AllocError> {
+    fn open_tuple(&mut self, word: &[u8], several: bool) -> Result<()> {
         if word == b"Some".as_slice() {
             return self.open(false, b'(', "");
         }

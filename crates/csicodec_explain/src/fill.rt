@@ -1,10 +1,10 @@
 //! What stands for an action in a pattern.
 
+use crate::Result;
 use crate::line::append_number;
 use crate::patterns::CODES;
 use csicodec_words::find;
 use serde_json::Value;
-use std::alloc::AllocError;
 
 /// The number that a name stands for.
 fn code_of(name: &str) -> Option<u64> {
@@ -12,7 +12,7 @@ fn code_of(name: &str) -> Option<u64> {
 }
 
 /// A byte by its number, or nothing where it is `null`; whether it is one of them.
-fn append_byte(text: &mut Vec<u8>, value: &Value) -> Result<bool, AllocError> {
+fn append_byte(text: &mut Vec<u8>, value: &Value) -> Result<bool> {
     let byte = value.as_u64().and_then(|number| u8::try_from(number).ok());
     if let Some(byte) = byte {
         text.push(byte)?;
@@ -22,7 +22,7 @@ fn append_byte(text: &mut Vec<u8>, value: &Value) -> Result<bool, AllocError> {
 
 /// What one value says, by itself or within `Unspecified`: a number, a name or the number of that, a token, or nothing; whether it says
 /// that.
-fn append_one(text: &mut Vec<u8>, value: &Value) -> Result<bool, AllocError> {
+fn append_one(text: &mut Vec<u8>, value: &Value) -> Result<bool> {
     let value = value.get("Unspecified").unwrap_or(value);
     if let Some(byte) = value.get("P") {
         return append_byte(text, byte);
@@ -38,7 +38,7 @@ fn append_one(text: &mut Vec<u8>, value: &Value) -> Result<bool, AllocError> {
 }
 
 /// What a value says, or each item of a list, with this between them; whether each says something that a text can have.
-fn append_value(text: &mut Vec<u8>, value: &Value, between: &str) -> Result<bool, AllocError> {
+fn append_value(text: &mut Vec<u8>, value: &Value, between: &str) -> Result<bool> {
     let Some(items) = value.as_array() else {
         return append_one(text, value);
     };
@@ -54,12 +54,7 @@ fn append_value(text: &mut Vec<u8>, value: &Value, between: &str) -> Result<bool
 }
 
 /// What stands for the name of a place in a pattern; whether the action has it.
-fn append_place(
-    text: &mut Vec<u8>,
-    place: &str,
-    action: &Value,
-    number: u8,
-) -> Result<bool, AllocError> {
+fn append_place(text: &mut Vec<u8>, place: &str, action: &Value, number: u8) -> Result<bool> {
     if place.is_empty() {
         append_number(text, u64::from(number), 0)?;
         return Ok(true);
@@ -79,7 +74,7 @@ pub(crate) fn append_filled(
     pattern: &str,
     action: &Value,
     number: u8,
-) -> Result<bool, AllocError> {
+) -> Result<bool> {
     text.push(0x1b)?;
     for piece in pattern.split('{') {
         let behind = match piece.split_once('}') {

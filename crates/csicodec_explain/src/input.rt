@@ -2,13 +2,14 @@
 ghost use Rattle.std.specs.Prelude.{◌≡◌, ◌<◌, ◌≤◌, IfOk, length};
 ghost use Rattle.csicodec_events.specs.Events.{IsMet};
 
+use crate::Result;
 use crate::line::Sort;
 use crate::page::Listing;
 use csicodec_base::CsiParam;
 use csicodec_events::{Dialect, Event, Events, InputEvent, Sent};
 use csicodec_spans::{Kind, LIMIT, Mode};
 use csicodec_words::Did;
-use std::alloc::{AllocError, Global};
+use std::alloc::Global;
 
 /// What comes so many microseconds behind an ESC, or later, doesn't belong to it.
 const PAUSE: u64 = 50_000;
@@ -47,7 +48,7 @@ fn tell_output(
     event: Event,
     sent: Sent<'_>,
     params: &[CsiParam],
-) -> Result<(), AllocError> {
+) -> Result<()> {
     let kind = match event {
         Event::Text => Kind::Text,
         Event::Esc => Kind::Esc,
@@ -66,7 +67,7 @@ fn tell(
     modes: (Mode, Mode),
     sent: Sent<'_>,
     params: &[CsiParam],
-) -> Result<(), AllocError> {
+) -> Result<()> {
     let Some(did) = Did::of(sent.event, sent.bytes, params) else {
         let event = match sent.event {
             InputEvent::Output(event) => event,
@@ -91,7 +92,7 @@ fn tell_all(
     events: &mut Events,
     params: &mut Vec<CsiParam>,
     bytes: &[u8],
-) -> Result<usize, AllocError>
+) -> Result<usize>
     requires limit { 0 < events.old.limit }
     requires met { IsMet events.old bytes.now }
     ensures { IfOk result (λ used. used ≤ length bytes.now) }
@@ -125,7 +126,7 @@ impl Sending {
         dialect: Dialect,
         mode: Mode,
         bytes: &[u8],
-    ) -> Result<(usize, Mode), AllocError>
+    ) -> Result<(usize, Mode)>
         ensures { IfOk result (λ (used, after). used ≤ length bytes.now) }
     {
         let mut events = resumed(mode, self.looked, bytes);
@@ -142,12 +143,7 @@ impl Sending {
     }
 
     /// Tells bytes that wait, in this mode, where nothing came in time, and they are ESC alone or with one character; whether they are.
-    pub fn pause(
-        &mut self,
-        page: &mut Listing<'_>,
-        mode: Mode,
-        bytes: &[u8],
-    ) -> Result<bool, AllocError> {
+    pub fn pause(&mut self, page: &mut Listing<'_>, mode: Mode, bytes: &[u8]) -> Result<bool> {
         let mut events = resumed(mode, self.looked, bytes);
         let Some(sent) = events.pause(bytes) else {
             return Ok(false);
@@ -158,12 +154,7 @@ impl Sending {
     }
 
     /// Tells bytes that wait, in this mode, where nothing comes any more: text of which a character isn't whole, or what is malformed.
-    pub fn end(
-        &mut self,
-        page: &mut Listing<'_>,
-        mode: Mode,
-        bytes: &[u8],
-    ) -> Result<(), AllocError> {
+    pub fn end(&mut self, page: &mut Listing<'_>, mode: Mode, bytes: &[u8]) -> Result<()> {
         self.time = 0;
         if bytes.is_empty() || self.pause(page, mode, bytes)? {
             return Ok(());

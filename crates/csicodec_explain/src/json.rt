@@ -1,9 +1,9 @@
 //! Spans as objects of JSON (RFC 8259), a line each.
 
+use crate::Result;
 use crate::line::{Offset, Sort, append_time};
 use crate::style::{Style, name_of};
 use csicodec_osc::{are_plain, is_seen, plain_len};
-use std::alloc::AllocError;
 
 /// The member that names what a span is told as.
 fn kind_of(sort: Sort) -> &'static [u8] {
@@ -19,7 +19,7 @@ fn kind_of(sort: Sort) -> &'static [u8] {
 }
 
 /// A character that can't stand in a string of JSON, or can't be seen: by its number, in two halves where it is above FFFF.
-fn append_by_number(text: &mut Vec<u8>, character: char) -> Result<(), AllocError> {
+fn append_by_number(text: &mut Vec<u8>, character: char) -> Result<()> {
     for unit in character.encode_utf16(&mut [0u16; 2]).iter() {
         text.extend_from_slice(b"\\u")?;
         let digits = hex::encode(*text.allocator(), &unit.to_be_bytes())?;
@@ -29,7 +29,7 @@ fn append_by_number(text: &mut Vec<u8>, character: char) -> Result<(), AllocErro
 }
 
 /// A character of a string.
-fn append_character(text: &mut Vec<u8>, character: char) -> Result<(), AllocError> {
+fn append_character(text: &mut Vec<u8>, character: char) -> Result<()> {
     match character {
         '"' => text.extend_from_slice(b"\\\""),
         '\\' => text.extend_from_slice(b"\\\\"),
@@ -45,14 +45,14 @@ fn append_character(text: &mut Vec<u8>, character: char) -> Result<(), AllocErro
 }
 
 /// Bytes that stand for themselves, between quotation marks.
-pub(crate) fn append_plain(out: &mut Vec<u8>, bytes: &[u8]) -> Result<(), AllocError> {
+pub(crate) fn append_plain(out: &mut Vec<u8>, bytes: &[u8]) -> Result<()> {
     out.push(b'"')?;
     out.extend_from_slice(bytes)?;
     Ok(out.push(b'"')?)
 }
 
 /// A text between quotation marks.
-pub fn append_string(out: &mut Vec<u8>, text: &str) -> Result<(), AllocError> {
+pub fn append_string(out: &mut Vec<u8>, text: &str) -> Result<()> {
     let mut rest = text;
     out.push(b'"')?;
     for _ in 0..text.len() {
@@ -78,7 +78,7 @@ pub fn append_begin_object(
     file: &[u8],
     time: u64,
     place: &Offset,
-) -> Result<(), AllocError> {
+) -> Result<()> {
     text.extend_from_slice(b"{\"at\":")?;
     text.extend_from_slice(place.digits())?;
     if style.timed {
@@ -93,12 +93,7 @@ pub fn append_begin_object(
 }
 
 /// Bytes, as text where they are UTF-8; the names of both members.
-fn append_member(
-    out: &mut Vec<u8>,
-    bytes: &[u8],
-    text: &[u8],
-    hex: &[u8],
-) -> Result<(), AllocError> {
+fn append_member(out: &mut Vec<u8>, bytes: &[u8], text: &[u8], hex: &[u8]) -> Result<()> {
     if are_plain(bytes) {
         out.extend_from_slice(text)?;
         return append_plain(out, bytes);
@@ -117,24 +112,20 @@ fn append_member(
 }
 
 /// What a span is, and its bytes.
-pub fn append_object(text: &mut Vec<u8>, sort: Sort, bytes: &[u8]) -> Result<(), AllocError> {
+pub fn append_object(text: &mut Vec<u8>, sort: Sort, bytes: &[u8]) -> Result<()> {
     text.extend_from_slice(kind_of(sort))?;
     append_member(text, bytes, b",\"text\":", b",\"hex\":")
 }
 
 /// An action of an object: its name, its words, and its fields.
-pub fn append_action(
-    text: &mut Vec<u8>,
-    words: &str,
-    fields: &[u8],
-    first: bool,
-) -> Result<(), AllocError> {
+pub fn append_action(text: &mut Vec<u8>, words: &str, fields: &[u8], first: bool) -> Result<()> {
     let (name, words) = name_of(words);
-    text.extend_from_slice(if first {
-        b",\"actions\":[{\"name\":".as_slice()
+    let begin: &[u8] = if first {
+        b",\"actions\":[{\"name\":"
     } else {
-        b",{\"name\":".as_slice()
-    })?;
+        b",{\"name\":"
+    };
+    text.extend_from_slice(begin)?;
     append_string(text, name)?;
     text.extend_from_slice(b",\"words\":")?;
     append_string(text, words)?;
@@ -143,17 +134,14 @@ pub fn append_action(
 }
 
 /// What stands in the only action of a span, decoded: a member of that action.
-pub fn append_decoded(text: &mut Vec<u8>, bytes: &[u8]) -> Result<(), AllocError> {
+pub fn append_decoded(text: &mut Vec<u8>, bytes: &[u8]) -> Result<()> {
     text.truncate(text.len().saturating_sub(1));
     append_member(text, bytes, b",\"decoded\":", b",\"decoded_hex\":")?;
     Ok(text.push(b'}')?)
 }
 
 /// The end of an object.
-pub fn append_end(text: &mut Vec<u8>, with_actions: bool) -> Result<(), AllocError> {
-    text.extend_from_slice(if with_actions {
-        b"]}\n".as_slice()
-    } else {
-        b"}\n".as_slice()
-    })
+pub fn append_end(text: &mut Vec<u8>, with_actions: bool) -> Result<()> {
+    let end: &[u8] = if with_actions { b"]}\n" } else { b"}\n" };
+    text.extend_from_slice(end)
 }

@@ -25,4 +25,8 @@ mod taken;
 
 pub use explain::Explainer;
 pub use made::Maker;
+use std::alloc::AllocError;
 pub use style::{Style, is_among};
+
+/// Of what fails only where memory runs out.
+pub(crate) type Result<T> = std::result::Result<T, AllocError>;

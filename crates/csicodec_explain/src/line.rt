@@ -1,10 +1,10 @@
 //! The begin of a line: when and where a span came, and its bytes.
 
+use crate::Result;
 use crate::style::Style;
 use bstr::decode_utf8;
 use csicodec_osc::{append_escaped, are_plain, is_seen, plain_len};
 use itoa::write_digits;
-use std::alloc::AllocError;
 
 /// How many columns the bytes have, behind those of the time and the place.
 const BYTES: usize = 26;
@@ -68,13 +68,13 @@ pub struct ToldSpan<'a> {
 }
 
 /// So many blanks, 50 at most.
-pub fn append_blanks(text: &mut Vec<u8>, count: usize) -> Result<(), AllocError> {
+pub fn append_blanks(text: &mut Vec<u8>, count: usize) -> Result<()> {
     text.extend_from_slice(BLANKS.get(..count).unwrap_or(BLANKS))
 }
 
 /// Begins a colour, where lines have colours.
 #[inline(always)]
-pub fn paint(text: &mut Vec<u8>, style: &Style<'_>, color: &[u8]) -> Result<(), AllocError> {
+pub fn paint(text: &mut Vec<u8>, style: &Style<'_>, color: &[u8]) -> Result<()> {
     if style.color {
         text.extend_from_slice(color)
     } else {
@@ -140,13 +140,13 @@ impl Offset {
 
     /// Appends more than eight digits, and two blanks behind them.
     #[inline(never)]
-    fn append_far(&self, text: &mut Vec<u8>) -> Result<(), AllocError> {
+    fn append_far(&self, text: &mut Vec<u8>) -> Result<()> {
         text.extend_from_slice(self.text.get(self.begin..).unwrap_or(&[]))
     }
 
     /// Appends the digits, with blanks ahead of eight at most, and two behind them.
     #[inline(always)]
-    fn append_columns(&self, text: &mut Vec<u8>) -> Result<(), AllocError> {
+    fn append_columns(&self, text: &mut Vec<u8>) -> Result<()> {
         match self.text.last_chunk::<PLACE>() {
             Some(columns) if self.begin > 11 => text.extend_from_slice(columns),
             _ => self.append_far(text),
@@ -156,7 +156,7 @@ impl Offset {
 
 /// A number in decimal digits, with blanks ahead where it has fewer columns than these.
 #[tactic(auto, using(crate::proofs::Decimal::twenty_digits))]
-pub fn append_number(text: &mut Vec<u8>, number: u64, columns: usize) -> Result<(), AllocError> {
+pub fn append_number(text: &mut Vec<u8>, number: u64, columns: usize) -> Result<()> {
     let mut digits = [0u8; 20];
     let begin = write_digits(number, &mut digits, 20);
     append_blanks(text, columns.saturating_add(begin).saturating_sub(20))?;
@@ -164,7 +164,7 @@ pub fn append_number(text: &mut Vec<u8>, number: u64, columns: usize) -> Result<
 }
 
 /// A time in seconds, to the microsecond, with blanks ahead where it has fewer columns than these.
-pub fn append_time(text: &mut Vec<u8>, time: u64, columns: usize) -> Result<(), AllocError> {
+pub fn append_time(text: &mut Vec<u8>, time: u64, columns: usize) -> Result<()> {
     let (seconds, fraction) = (time / 1_000_000, time % 1_000_000);
     append_number(text, seconds, columns.saturating_sub(7))?;
     text.push(b'.')?;
@@ -182,7 +182,7 @@ pub fn append_begin(
     style: &Style<'_>,
     time: u64,
     place: &Offset,
-) -> Result<(), AllocError> {
+) -> Result<()> {
     if style.color || style.timed {
         append_painted_begin(text, style, time, place)
     } else {
@@ -197,7 +197,7 @@ fn append_painted_begin(
     style: &Style<'_>,
     time: u64,
     place: &Offset,
-) -> Result<(), AllocError> {
+) -> Result<()> {
     paint(text, style, GREY)?;
     if style.timed {
         append_time(text, time, TIME.saturating_sub(2))?;
@@ -240,7 +240,7 @@ fn append_character(
     character: Option<char>,
     bytes: &[u8],
     quoted: bool,
-) -> Result<usize, AllocError> {
+) -> Result<usize> {
     match character {
         Some('"') if quoted => text.extend_from_slice(b"\\\"")?,
         Some(character) if quoted && !character.is_ascii() => {
@@ -298,7 +298,7 @@ fn append_front(
     bytes: &[u8],
     quoted: bool,
     columns: usize,
-) -> Result<(usize, usize, usize), AllocError> {
+) -> Result<(usize, usize, usize)> {
     let (mut rest, mut room, mut hidden) = (bytes, columns, 0usize);
     for _ in 0..bytes.len() {
         let (len, taken) = seen_front(rest, quoted, room);
@@ -326,11 +326,7 @@ fn append_front(
 
 /// Appends the bytes of a span that are shown in so many columns: all, or the first of them, with room for their count. How many they are,
 /// and how many bytes of what was appended take no column.
-fn append_most(
-    text: &mut Vec<u8>,
-    span: &ToldSpan<'_>,
-    columns: usize,
-) -> Result<(usize, usize), AllocError> {
+fn append_most(text: &mut Vec<u8>, span: &ToldSpan<'_>, columns: usize) -> Result<(usize, usize)> {
     let quoted = matches!(span.sort, Sort::Text);
     // The count has a digit at least, and twelve columns with that.
     let digits = span.len.checked_ilog10().unwrap_or(0) as usize;
@@ -351,11 +347,7 @@ fn append_most(
 }
 
 /// The bytes of a span as a line shows them in so many columns, the first of them where not all have room; how many columns they take.
-pub fn append_shown(
-    text: &mut Vec<u8>,
-    span: &ToldSpan<'_>,
-    columns: usize,
-) -> Result<usize, AllocError> {
+pub fn append_shown(text: &mut Vec<u8>, span: &ToldSpan<'_>, columns: usize) -> Result<usize> {
     let (begin, bytes) = (text.len(), span.bytes);
     let marks = span.end.len().saturating_add(1).saturating_mul(2);
     let room = columns.saturating_sub(marks);
@@ -390,7 +382,7 @@ pub fn append_shown(
 }
 
 /// The blanks ahead of the words of a line that begins with no span.
-pub fn append_margin(text: &mut Vec<u8>, style: &Style<'_>) -> Result<(), AllocError> {
+pub fn append_margin(text: &mut Vec<u8>, style: &Style<'_>) -> Result<()> {
     let time = if style.timed { TIME } else { 0 };
     append_blanks(text, time + PLACE + BYTES)
 }
@@ -422,11 +414,7 @@ fn short_columns(span: &ToldSpan<'_>) -> Option<[u8; BYTES]> {
 
 /// The bytes of a span, up to the words: with `..` where more follow and how many there are. Where they leave no room for two
 /// blanks, the words have a line of their own.
-pub fn append_bytes(
-    text: &mut Vec<u8>,
-    style: &Style<'_>,
-    span: &ToldSpan<'_>,
-) -> Result<(), AllocError> {
+pub fn append_bytes(text: &mut Vec<u8>, style: &Style<'_>, span: &ToldSpan<'_>) -> Result<()> {
     if !style.color && span.len == span.bytes.len() as u64 {
         if let Some(columns) = short_columns(span) {
             return text.extend_from_slice(&columns);
@@ -443,7 +431,7 @@ pub fn append_bytes(
 }
 
 /// A name, in its colour, and two blanks.
-pub fn append_name(text: &mut Vec<u8>, style: &Style<'_>, name: &str) -> Result<(), AllocError> {
+pub fn append_name(text: &mut Vec<u8>, style: &Style<'_>, name: &str) -> Result<()> {
     paint(text, style, CYAN)?;
     text.extend_from_slice(name.as_bytes())?;
     paint(text, style, PLAIN)?;
@@ -451,11 +439,7 @@ pub fn append_name(text: &mut Vec<u8>, style: &Style<'_>, name: &str) -> Result<
 }
 
 /// The words of a text, and the line's end.
-pub fn append_text_words(
-    text: &mut Vec<u8>,
-    style: &Style<'_>,
-    span: &ToldSpan<'_>,
-) -> Result<(), AllocError> {
+pub fn append_text_words(text: &mut Vec<u8>, style: &Style<'_>, span: &ToldSpan<'_>) -> Result<()> {
     if style.color {
         append_name(text, style, "text")?;
     } else {

@@ -1,6 +1,7 @@
 //! The spans of a stream, each told when it is over.
 ghost use Rattle.std.specs.Prelude.{◌≤◌, IfOk, length};
 
+use crate::Result;
 use crate::controls::{is_control, text_front};
 use crate::counts::Totals;
 use crate::keyed::{Keyed, sequence_front};
@@ -58,7 +59,7 @@ impl Open {
     }
 
     /// So many bytes more are told.
-    fn pass(&mut self, len: usize) -> Result<(), AllocError> {
+    fn pass(&mut self, len: usize) -> Result<()> {
         if self.told == 0 {
             self.begin.clear();
             let first = self.front.get(..FRONT).unwrap_or(&self.front);
@@ -120,11 +121,7 @@ fn whole_span(sort: Sort, place: u64, time: u64, bytes: &[u8]) -> ToldSpan<'_> {
 }
 
 /// What went wrong, which may be an escape sequence with more than one intermediate byte, of which nothing was left out.
-fn tell_wrong(
-    sheet: &mut Sheet<'_>,
-    totals: &mut Totals,
-    span: &ToldSpan<'_>,
-) -> Result<(), AllocError> {
+fn tell_wrong(sheet: &mut Sheet<'_>, totals: &mut Totals, span: &ToldSpan<'_>) -> Result<()> {
     match EscReading::long(span.bytes) {
         Some(reading) if span.bytes.len() as u64 == span.len => {
             totals.add_long_escape(span.len);
@@ -162,13 +159,13 @@ impl<'a> Listing<'a> {
     }
 
     /// The sums that are asked for.
-    pub fn add_sums(&mut self) -> Result<(), AllocError> {
+    pub fn add_sums(&mut self) -> Result<()> {
         self.sheet.add_sums(&self.totals)
     }
 
     /// Another stream begins, of which times are told or not, behind a heading with its name if there is one. What is open must be
     /// told before.
-    pub fn begin(&mut self, name: Option<&str>, timed: bool) -> Result<(), AllocError> {
+    pub fn begin(&mut self, name: Option<&str>, timed: bool) -> Result<()> {
         self.place = 0;
         self.time = 0;
         self.now = 0;
@@ -191,7 +188,7 @@ impl<'a> Listing<'a> {
 
     /// Tells what could have gone on, if anything is: there is no more of it.
     #[inline(always)]
-    pub fn close(&mut self) -> Result<(), AllocError> {
+    pub fn close(&mut self) -> Result<()> {
         if self.open.len > 0 || self.held.is_some() {
             self.close_both()
         } else {
@@ -201,7 +198,7 @@ impl<'a> Listing<'a> {
 
     /// Tells the span of which more could have come, and the carriage return that is held.
     #[inline(never)]
-    fn close_both(&mut self) -> Result<(), AllocError> {
+    fn close_both(&mut self) -> Result<()> {
         if self.open.len > 0 {
             self.close_open(&[])?;
         }
@@ -212,7 +209,7 @@ impl<'a> Listing<'a> {
     }
 
     /// Tells text that may go on, if a character isn't cut there: nothing more is there at once.
-    pub fn pause(&mut self) -> Result<(), AllocError> {
+    pub fn pause(&mut self) -> Result<()> {
         let front = self.open.front.as_slice();
         let whole = self.held.is_some() || whole_characters(front).len() == front.len();
         if self.open.len == 0 || (self.open.kind == Kind::Text && whole) {
@@ -223,7 +220,7 @@ impl<'a> Listing<'a> {
     }
 
     /// Tells the span of which more could have come, a text with this end of its line.
-    fn close_open(&mut self, end: &[u8]) -> Result<(), AllocError> {
+    fn close_open(&mut self, end: &[u8]) -> Result<()> {
         let (kind, len) = (self.open.kind, self.open.len);
         let (closed, bell) = (self.open.closed, self.open.bell);
         let span = ToldSpan {
@@ -261,7 +258,7 @@ impl<'a> Listing<'a> {
 
     /// A line for each action of a control sequence, of its tokens; how many they are, none where it isn't one.
     #[inline(never)]
-    fn tell_tokens(&mut self, span: &ToldSpan<'_>) -> Result<Option<u64>, AllocError> {
+    fn tell_tokens(&mut self, span: &ToldSpan<'_>) -> Result<Option<u64>> {
         let tail = match read_csi_into(&mut self.params, span.bytes) {
             Ok(tail) => tail,
             Err(ReadError::Memory) => return Err(AllocError),
@@ -273,7 +270,7 @@ impl<'a> Listing<'a> {
 
     /// A line for each action of a control sequence; how many they are, none where it isn't one.
     #[inline(never)]
-    fn tell_sequence(&mut self, front: Keyed<'_>) -> Result<Option<u64>, AllocError> {
+    fn tell_sequence(&mut self, front: Keyed<'_>) -> Result<Option<u64>> {
         let span = self.span_here(Sort::Sequence, front.bytes);
         let mut told = self.sheet.tell_copied(&span)?;
         if told.is_none() {
@@ -286,12 +283,7 @@ impl<'a> Listing<'a> {
     }
 
     /// A control sequence of these tokens, which may have controls in it.
-    pub fn add_read(
-        &mut self,
-        bytes: &[u8],
-        params: &[CsiParam],
-        control: char,
-    ) -> Result<(), AllocError> {
+    pub fn add_read(&mut self, bytes: &[u8], params: &[CsiParam], control: char) -> Result<()> {
         self.close()?;
         let span = self.span_here(Sort::Sequence, bytes);
         let actions = self.sheet.tell_actions(&span, params, control)?;
@@ -300,13 +292,7 @@ impl<'a> Listing<'a> {
     }
 
     /// What a user did, and the bytes that say so.
-    pub fn add_did(
-        &mut self,
-        kind: Kind,
-        sort: Sort,
-        bytes: &[u8],
-        did: &Did,
-    ) -> Result<(), AllocError> {
+    pub fn add_did(&mut self, kind: Kind, sort: Sort, bytes: &[u8], did: &Did) -> Result<()> {
         self.close()?;
         let span = self.span_here(sort, bytes);
         self.sheet.tell(&span, did)?;
@@ -325,7 +311,7 @@ impl<'a> Listing<'a> {
 
     /// The control sequence in front, where that is at a glance one, and nothing is open. How many bytes it has, 0 where there is none.
     #[inline(always)]
-    pub fn add_front(&mut self, mode: Mode, bytes: &[u8]) -> Result<usize, AllocError>
+    pub fn add_front(&mut self, mode: Mode, bytes: &[u8]) -> Result<usize>
         ensures { IfOk result (λ used. used ≤ length bytes.now) }
     {
         if mode != Mode::Text {
@@ -350,14 +336,14 @@ impl<'a> Listing<'a> {
     }
 
     #[inline(never)]
-    fn tell_escape(&mut self, escape: Keyed<'_>) -> Result<(), AllocError> {
+    fn tell_escape(&mut self, escape: Keyed<'_>) -> Result<()> {
         let span = self.span_here(Sort::Escape, escape.bytes);
         self.sheet.tell_escape(&span, escape_of(escape.bytes))?;
         self.sheet.keep(escape, 0)
     }
 
     /// An escape sequence.
-    fn add_escape(&mut self, bytes: &[u8]) -> Result<(), AllocError> {
+    fn add_escape(&mut self, bytes: &[u8]) -> Result<()> {
         self.close()?;
         let escape = Keyed::new(bytes);
         let known = self.sheet.recall(self.time, self.place, escape)?;
@@ -370,14 +356,14 @@ impl<'a> Listing<'a> {
     }
 
     /// What a recording has beside bytes.
-    pub fn add_event<T: Display>(&mut self, time: u64, words: &T) -> Result<(), AllocError> {
+    pub fn add_event<T: Display>(&mut self, time: u64, words: &T) -> Result<()> {
         self.close()?;
         let span = whole_span(Sort::Event, self.place, time, &[]);
         self.sheet.tell(&span, words)
     }
 
     /// A control character that stands in text, or a carriage return with a line feed.
-    fn tell_control(&mut self, place: u64, time: u64, bytes: &[u8]) -> Result<(), AllocError> {
+    fn tell_control(&mut self, place: u64, time: u64, bytes: &[u8]) -> Result<()> {
         let control = Keyed::new(bytes);
         if self.sheet.recall(time, place, control)?.is_some() {
             return Ok(());
@@ -397,7 +383,7 @@ impl<'a> Listing<'a> {
     }
 
     /// The end of a line: in the row of the text ahead of it, where that came at the same time, and else in a row of its own.
-    fn tell_line_end(&mut self, place: u64, time: u64, end: &[u8]) -> Result<(), AllocError> {
+    fn tell_line_end(&mut self, place: u64, time: u64, end: &[u8]) -> Result<()> {
         if self.is_in_text() && self.open.time == time && self.sheet.style.ends_rows() {
             return self.close_open(end);
         }
@@ -406,7 +392,7 @@ impl<'a> Listing<'a> {
     }
 
     /// A carriage return waits for a line feed, and so does the text ahead of it.
-    fn hold_return(&mut self) -> Result<(), AllocError> {
+    fn hold_return(&mut self) -> Result<()> {
         if self.held.is_some() || !self.is_in_text() {
             self.close()?;
         }
@@ -415,7 +401,7 @@ impl<'a> Listing<'a> {
     }
 
     /// A control character.
-    fn add_control(&mut self, byte: u8) -> Result<(), AllocError> {
+    fn add_control(&mut self, byte: u8) -> Result<()> {
         match (byte, self.held) {
             (b'\n', Some((place, time))) => {
                 self.held = None;
@@ -431,7 +417,7 @@ impl<'a> Listing<'a> {
     }
 
     /// Bytes of a span of which more may come; it goes on with them, or begins.
-    fn add_open(&mut self, kind: Kind, same: bool, bytes: &[u8]) -> Result<(), AllocError> {
+    fn add_open(&mut self, kind: Kind, same: bool, bytes: &[u8]) -> Result<()> {
         if !same {
             self.close()?;
             self.open.kind = kind;
@@ -459,7 +445,7 @@ impl<'a> Listing<'a> {
 
     /// Tells pieces of what is open, where there is more than one object has.
     #[inline(never)]
-    fn tell_pieces(&mut self) -> Result<(), AllocError> {
+    fn tell_pieces(&mut self) -> Result<()> {
         for _ in 0..self.open.front.len() {
             let told = self.sheet.tell_piece(&self.open.rest())?;
             if told == 0 {
@@ -471,7 +457,7 @@ impl<'a> Listing<'a> {
     }
 
     /// Text that is whole.
-    fn add_whole_text(&mut self, bytes: &[u8]) -> Result<(), AllocError> {
+    fn add_whole_text(&mut self, bytes: &[u8]) -> Result<()> {
         self.close()?;
         let span = self.span_here(Sort::Text, bytes);
         self.sheet.tell_text(&span)
@@ -479,7 +465,7 @@ impl<'a> Listing<'a> {
 
     /// Text with at most one control character, its last; whether it is over there else.
     #[inline(always)]
-    fn add_text_part(&mut self, part: &[u8], over: bool) -> Result<(), AllocError> {
+    fn add_text_part(&mut self, part: &[u8], over: bool) -> Result<()> {
         let (run, control) = match part.split_last() {
             Some((last, run)) if is_control(*last) => (run, Some(*last)),
             _ => (part, None),
@@ -505,7 +491,7 @@ impl<'a> Listing<'a> {
     }
 
     /// Text: each control character stands alone; whether something else follows.
-    fn add_text(&mut self, bytes: &[u8], over: bool) -> Result<(), AllocError> {
+    fn add_text(&mut self, bytes: &[u8], over: bool) -> Result<()> {
         let spans = if self.text { 0 } else { 1 };
         self.text = true;
         self.totals.add(Kind::Text, spans, 0);
@@ -522,12 +508,7 @@ impl<'a> Listing<'a> {
     }
 
     /// Bytes of a string, or of what went wrong, between these modes.
-    fn add_part(
-        &mut self,
-        (before, after): (Mode, Mode),
-        kind: Kind,
-        bytes: &[u8],
-    ) -> Result<(), AllocError> {
+    fn add_part(&mut self, (before, after): (Mode, Mode), kind: Kind, bytes: &[u8]) -> Result<()> {
         let same = self.open.len > 0 && self.open.kind == kind && before.goes_on(bytes);
         self.add_open(kind, same, bytes)?;
         let over = after == Mode::Text;
@@ -540,13 +521,7 @@ impl<'a> Listing<'a> {
 
     /// Bytes of one kind, at least one, between these modes, and whether more bytes are there: a span is told when it is known where it
     /// ends.
-    pub fn add(
-        &mut self,
-        modes: (Mode, Mode),
-        kind: Kind,
-        bytes: &[u8],
-        more: bool,
-    ) -> Result<(), AllocError> {
+    pub fn add(&mut self, modes: (Mode, Mode), kind: Kind, bytes: &[u8], more: bool) -> Result<()> {
         match kind {
             Kind::Csi => self.add_front(Mode::Text, bytes).map(|_| ()),
             Kind::Esc => self.add_escape(bytes),

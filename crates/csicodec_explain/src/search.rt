@@ -1,10 +1,11 @@
 //! A text that is looked for: in the bytes of a span, in these as a line shows them, and in the words.
 
+use crate::Result;
 use crate::line::{ToldSpan, append_shown};
 use crate::style::Style;
 use bstr::ByteSlice;
 use memchr::memmem::find;
-use std::alloc::{AllocError, Global};
+use std::alloc::Global;
 
 /// Room for what is searched.
 #[derive(Drop)]
@@ -16,12 +17,7 @@ pub struct Search {
 }
 
 /// Whether a text that is looked for stands in these bytes.
-fn is_in(
-    letters: &mut Vec<u8>,
-    style: &Style<'_>,
-    text: &str,
-    bytes: &[u8],
-) -> Result<bool, AllocError> {
+fn is_in(letters: &mut Vec<u8>, style: &Style<'_>, text: &str, bytes: &[u8]) -> Result<bool> {
     if !style.ignore_case {
         return Ok(find(bytes, text.as_bytes()).is_some());
     }
@@ -44,12 +40,7 @@ impl Search {
 
     /// Whether what is looked for, if anything is, stands in a span or in its words.
     #[inline(never)]
-    pub fn finds(
-        &mut self,
-        style: &Style<'_>,
-        span: &ToldSpan<'_>,
-        words: &str,
-    ) -> Result<bool, AllocError> {
+    pub fn finds(&mut self, style: &Style<'_>, span: &ToldSpan<'_>, words: &str) -> Result<bool> {
         let Some(text) = style.grep else {
             return Ok(true);
         };

@@ -1,5 +1,6 @@
 //! The lines of spans: each with its place and its bytes, and a line for each of its actions; or an object of JSON.
 
+use crate::Result;
 use crate::cache::Remembered;
 use crate::clipboard::{Clipboard, clipboard_bytes};
 use crate::copied::Copied;
@@ -20,7 +21,7 @@ use csicodec_base::{CsiParam, Esc};
 use csicodec_osc::{ControlString, Shown};
 use csicodec_parser::CSI;
 use csicodec_words::{ActionList, EscReading, Reading};
-use std::alloc::{AllocError, Global};
+use std::alloc::Global;
 use std::fmt::{Debug, Display, Write};
 
 /// So many bytes of a span an object of JSON has at most: 64 KiB.
@@ -103,7 +104,7 @@ impl<'a> Sheet<'a> {
     }
 
     /// A file of this name begins: a heading, or a member of each object, unless only sums are told.
-    pub fn begin_file(&mut self, name: &str) -> Result<(), AllocError> {
+    pub fn begin_file(&mut self, name: &str) -> Result<()> {
         if self.style.is_silent() {
             return Ok(());
         }
@@ -124,12 +125,7 @@ impl<'a> Sheet<'a> {
 
     /// Tells what was told of the same bytes before, if anything was; how many actions they have.
     #[inline(always)]
-    pub fn recall(
-        &mut self,
-        time: u64,
-        place: u64,
-        span: Keyed<'_>,
-    ) -> Result<Option<u64>, AllocError> {
+    pub fn recall(&mut self, time: u64, place: u64, span: Keyed<'_>) -> Result<Option<u64>> {
         if !self.style.recalls() {
             return Ok(None);
         }
@@ -144,7 +140,7 @@ impl<'a> Sheet<'a> {
     }
 
     /// Keeps what was told of bytes of so many actions.
-    pub fn keep(&mut self, span: Keyed<'_>, actions: u64) -> Result<(), AllocError> {
+    pub fn keep(&mut self, span: Keyed<'_>, actions: u64) -> Result<()> {
         if !self.style.recalls() {
             return Ok(());
         }
@@ -156,7 +152,7 @@ impl<'a> Sheet<'a> {
 
     /// When and where a span begins.
     #[inline(always)]
-    fn begin_at(&mut self, time: u64, place: u64) -> Result<(), AllocError> {
+    fn begin_at(&mut self, time: u64, place: u64) -> Result<()> {
         self.place.go_to(place);
         if self.style.json {
             append_begin_object(&mut self.text, &self.style, &self.file, time, &self.place)
@@ -165,25 +161,20 @@ impl<'a> Sheet<'a> {
         }
     }
 
-    /// The same of a span that is there.
-    fn begin_span(&mut self, span: &ToldSpan<'_>) -> Result<(), AllocError> {
-        self.begin_at(span.time, span.place)
-    }
-
     /// Tells the first piece of a span that is too long for one object; how many bytes it has, 0 where the span isn't.
-    pub fn tell_piece(&mut self, span: &ToldSpan<'_>) -> Result<usize, AllocError> {
+    pub fn tell_piece(&mut self, span: &ToldSpan<'_>) -> Result<usize> {
         if span.bytes.len() <= PIECE {
             return Ok(0);
         }
         let bytes = whole_characters(span.bytes.get(..PIECE).unwrap_or(span.bytes));
-        self.begin_span(span)?;
+        self.begin_at(span.time, span.place)?;
         append_object(&mut self.text, span.sort, bytes)?;
         self.text.extend_from_slice(b",\"more\":true}\n")?;
         Ok(bytes.len())
     }
 
     /// The begin of a span's object: ahead of it stands one for each piece of a long span, but for the last.
-    fn begin_object(&mut self, span: &ToldSpan<'_>) -> Result<(), AllocError> {
+    fn begin_object(&mut self, span: &ToldSpan<'_>) -> Result<()> {
         let mut rest = *span;
         // A piece may lack a character that isn't whole, of at most four bytes.
         for _ in 0..span.bytes.len() / (PIECE - 4) {
@@ -194,14 +185,14 @@ impl<'a> Sheet<'a> {
             rest.place = rest.place.saturating_add(told as u64);
             rest.bytes = rest.bytes.get(told..).unwrap_or(&[]);
         }
-        self.begin_span(&rest)?;
+        self.begin_at(rest.time, rest.place)?;
         self.behind = self.text.len();
         append_object(&mut self.text, rest.sort, rest.bytes)
     }
 
     /// The lines of a control sequence whose words have its own digits, where that is all that a line has; how many, none where others
     /// are to be told.
-    pub fn tell_copied(&mut self, span: &ToldSpan<'_>) -> Result<Option<u64>, AllocError> {
+    pub fn tell_copied(&mut self, span: &ToldSpan<'_>) -> Result<Option<u64>> {
         let [0x1b, b'[', list @ .., control] = span.bytes else {
             return Ok(None);
         };
@@ -214,7 +205,7 @@ impl<'a> Sheet<'a> {
                 break;
             };
             if count == 0 {
-                self.begin_span(span)?;
+                self.begin_at(span.time, span.place)?;
                 self.behind = self.text.len();
                 append_bytes(&mut self.text, &self.style, span)?;
             } else {
@@ -232,7 +223,7 @@ impl<'a> Sheet<'a> {
     }
 
     /// A text.
-    pub fn tell_text(&mut self, span: &ToldSpan<'_>) -> Result<(), AllocError> {
+    pub fn tell_text(&mut self, span: &ToldSpan<'_>) -> Result<()> {
         if !self.style.is_plain() && !self.counts_text(span)? {
             return Ok(());
         }
@@ -240,14 +231,14 @@ impl<'a> Sheet<'a> {
             self.begin_object(span)?;
             return append_end(&mut self.text, false);
         }
-        self.begin_span(span)?;
+        self.begin_at(span.time, span.place)?;
         append_bytes(&mut self.text, &self.style, span)?;
         append_text_words(&mut self.text, &self.style, span)
     }
 
     /// Whether the words that are there are told of the span.
     #[inline(always)]
-    fn is_wanted(&mut self, span: &ToldSpan<'_>) -> Result<bool, AllocError> {
+    fn is_wanted(&mut self, span: &ToldSpan<'_>) -> Result<bool> {
         let (style, words) = (&self.style, &self.words);
         if style.tells_all() {
             return Ok(true);
@@ -256,7 +247,7 @@ impl<'a> Sheet<'a> {
     }
 
     /// Counts a text where it is one that is asked for; whether it is then told. In JSON it has no actions.
-    fn counts_text(&mut self, span: &ToldSpan<'_>) -> Result<bool, AllocError> {
+    fn counts_text(&mut self, span: &ToldSpan<'_>) -> Result<bool> {
         let len = span.len;
         self.count_bytes("text", len)?;
         if !self.is_wanted(span)? {
@@ -271,7 +262,7 @@ impl<'a> Sheet<'a> {
     }
 
     /// A span begins.
-    fn begin(&mut self, span: &ToldSpan<'_>) -> Result<(), AllocError> {
+    fn begin(&mut self, span: &ToldSpan<'_>) -> Result<()> {
         self.begin = self.text.len();
         self.actions = 0;
         if self.style.is_silent() {
@@ -280,13 +271,13 @@ impl<'a> Sheet<'a> {
         if self.style.json {
             return self.begin_object(span);
         }
-        self.begin_span(span)?;
+        self.begin_at(span.time, span.place)?;
         self.behind = self.text.len();
         Ok(())
     }
 
     /// The words of the span.
-    fn add<T: Display>(&mut self, span: &ToldSpan<'_>, value: &T) -> Result<(), AllocError> {
+    fn add<T: Display>(&mut self, span: &ToldSpan<'_>, value: &T) -> Result<()> {
         self.fields.clear();
         self.words.clear();
         write!(self.words, "{value}")?;
@@ -294,7 +285,7 @@ impl<'a> Sheet<'a> {
     }
 
     /// The fields of an action, where they are told: those of its `Debug` text.
-    fn take_fields<A: Debug>(&mut self, action: &A) -> Result<(), AllocError> {
+    fn take_fields<A: Debug>(&mut self, action: &A) -> Result<()> {
         if !self.style.json || self.style.is_silent() {
             return Ok(());
         }
@@ -304,7 +295,7 @@ impl<'a> Sheet<'a> {
     }
 
     /// What stands in the span, decoded: a line of its own, or a member of its first action.
-    fn add_decoded(&mut self, span: &ToldSpan<'_>, bytes: &[u8]) -> Result<(), AllocError> {
+    fn add_decoded(&mut self, span: &ToldSpan<'_>, bytes: &[u8]) -> Result<()> {
         if self.style.is_silent() {
             return Ok(());
         }
@@ -319,7 +310,7 @@ impl<'a> Sheet<'a> {
     }
 
     /// The words that are there, of the span.
-    fn add_words(&mut self, span: &ToldSpan<'_>) -> Result<(), AllocError> {
+    fn add_words(&mut self, span: &ToldSpan<'_>) -> Result<()> {
         if !self.is_wanted(span)? {
             return Ok(());
         }
@@ -345,7 +336,7 @@ impl<'a> Sheet<'a> {
     }
 
     /// The words that are there, and the line's end.
-    fn add_line(&mut self) -> Result<(), AllocError> {
+    fn add_line(&mut self) -> Result<()> {
         if self.style.color {
             let (name, words) = name_of(&self.words);
             append_name(&mut self.text, &self.style, name)?;
@@ -357,7 +348,7 @@ impl<'a> Sheet<'a> {
     }
 
     /// The span is over. One of which nothing was wanted is taken back.
-    fn end(&mut self, span: &ToldSpan<'_>) -> Result<(), AllocError> {
+    fn end(&mut self, span: &ToldSpan<'_>) -> Result<()> {
         let (some, tells_all) = (self.actions > 0, self.style.tells_all());
         if some && !tells_all {
             self.totals.add_told(span.sort, span.len, self.actions);
@@ -374,14 +365,14 @@ impl<'a> Sheet<'a> {
     }
 
     /// A span of these words.
-    pub fn tell<T: Display>(&mut self, span: &ToldSpan<'_>, words: &T) -> Result<(), AllocError> {
+    pub fn tell<T: Display>(&mut self, span: &ToldSpan<'_>, words: &T) -> Result<()> {
         self.begin(span)?;
         self.add(span, words)?;
         self.end(span)
     }
 
     /// An escape sequence.
-    pub fn tell_escape(&mut self, span: &ToldSpan<'_>, escape: Esc) -> Result<(), AllocError> {
+    pub fn tell_escape(&mut self, span: &ToldSpan<'_>, escape: Esc) -> Result<()> {
         let words = EscReading(span.bytes.get(1..).unwrap_or(&[]));
         self.begin(span)?;
         self.words.clear();
@@ -392,7 +383,7 @@ impl<'a> Sheet<'a> {
     }
 
     /// What went wrong, of which more could have come.
-    pub fn tell_malformed(&mut self, span: &ToldSpan<'_>) -> Result<(), AllocError> {
+    pub fn tell_malformed(&mut self, span: &ToldSpan<'_>) -> Result<()> {
         self.begin(span)?;
         self.fields.clear();
         self.count_bytes("malformed", span.len)?;
@@ -401,18 +392,14 @@ impl<'a> Sheet<'a> {
     }
 
     /// The words of bytes that are only counted.
-    fn count_bytes(&mut self, name: &str, len: u64) -> Result<(), AllocError> {
+    fn count_bytes(&mut self, name: &str, len: u64) -> Result<()> {
         let unit = if len == 1 { "byte" } else { "bytes" };
         self.words.clear();
         Ok(write!(self.words, "{name}  {len} {unit}")?)
     }
 
     /// A string, and what it puts into the clipboard, where that is asked for.
-    pub fn tell_string(
-        &mut self,
-        span: &ToldSpan<'_>,
-        string: ControlString<'_>,
-    ) -> Result<(), AllocError> {
+    pub fn tell_string(&mut self, span: &ToldSpan<'_>, string: ControlString<'_>) -> Result<()> {
         self.begin(span)?;
         self.add(span, &string)?;
         if self.style.decode {
@@ -429,7 +416,7 @@ impl<'a> Sheet<'a> {
         span: &ToldSpan<'_>,
         params: &[CsiParam],
         control: char,
-    ) -> Result<u64, AllocError> {
+    ) -> Result<u64> {
         self.begin(span)?;
         let (alloc, sent) = (self.alloc(), self.style.dialect.is_some());
         let mut count = 0u64;
@@ -457,7 +444,7 @@ impl<'a> Sheet<'a> {
     }
 
     /// The sums that are asked for, of a stream of which so much came: of all that came, or where only some is told, of what was.
-    pub fn add_sums(&mut self, came: &Totals) -> Result<(), AllocError> {
+    pub fn add_sums(&mut self, came: &Totals) -> Result<()> {
         let told = if self.style.tells_all() {
             *came
         } else {

@@ -1,14 +1,15 @@
 //! What terminals take a list for that the table of actions doesn't read.
 
+use crate::Result;
 use crate::style::name_of;
 use csicodec_base::CsiParam;
 use csicodec_parser::CSI;
 use csicodec_terminal::terminal_actions;
 use csicodec_words::{ActionList, ActionWords};
-use std::alloc::{AllocError, Global};
+use std::alloc::Global;
 
 /// The words of an action, whose list this is. A text that another crate writes into itself has all words in the program once more.
-fn text_of<'a>(alloc: Global, action: &'a CSI, list: &'a ActionList) -> Result<String, AllocError> {
+fn text_of<'a>(alloc: Global, action: &'a CSI, list: &'a ActionList) -> Result<String> {
     let words = ActionWords { action, list };
     format!(in alloc; "{words}")
 }
@@ -21,7 +22,7 @@ pub fn append_taken(
     list: &mut ActionList,
     (params, control): (&[CsiParam], char),
     read: u64,
-) -> Result<(), AllocError> {
+) -> Result<()> {
     if !words.starts_with("unknown") {
         return Ok(());
     }

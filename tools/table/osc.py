@@ -175,23 +175,6 @@ def kind_function(group, function):
     return f"{group.snake}_{function.replace('number', 'kind')}"
 
 
-def kinds_rt(groups, single):
-    """src/osc_kinds.rt of csicodec_c."""
-    numbers = {(command, variant): number for _, command, variant, _, number in numbered(groups, single)}
-    functions = sorted(kind_function(group, function) for group in groups for _, _, function in group.commands())
-    lines = ["//! The numbers of the commands of OSC.", "ghost use Rattle.std.specs.Prelude.{◌≡◌};",
-             f"ghost use Rattle.csicodec_c.specs.OscKinds.{{{', '.join(functions)}}};", "",
-             f"use csicodec_osc::{{{', '.join(sorted(group.name for group in groups))}}};"]
-    for group in groups:
-        for command, column, function in group.commands():
-            name, again = kind_function(group, function), " that sets it back" if column == "resets" else ""
-            lines += ["", f"/// The number of a command{again}.", f"pub(crate) fn {name}({group.snake}: {group.name}) -> u32",
-                      f"    ensures {{ result ≡ {name} {group.snake} }}", "{",
-                      f"    {numbers[command, next(iter(group.rows))]} + {group.snake} as u32", "}"]
-    lines += [line for name in single for line in ("", f"pub(crate) const {low(name).upper()}: u32 = {numbers[name, '']};")]
-    return "\n".join(lines) + "\n"
-
-
 def kinds_antt(groups, single):
     """specs/OscKinds.antt of csicodec_c."""
     numbers = {(command, variant): number for _, command, variant, _, number in numbered(groups, single)}
@@ -222,7 +205,6 @@ def files(tables):
         "crates/csicodec_osc/src/command.rt": rust + command_rt(groups, single),
         "crates/csicodec_osc/specs/Commands.antt": antt + commands_antt(groups, single),
         "crates/csicodec_osc/proofs/Places.antt": antt + places_antt(groups),
-        "crates/csicodec_c/src/osc_kinds.rt": rust + kinds_rt(groups, single),
         "crates/csicodec_c/specs/OscKinds.antt": antt + kinds_antt(groups, single),
         "crates/csicodec_osc/src/osc_words.rt": rust + words_rt(groups, single, alone),
     }

@@ -9,7 +9,7 @@ use Rattle.csicodec_events.specs.{declared.event.Events.Events, Events.BeginsCsi
 use Rattle.csicodec_events.proofs.Sequences.{at_once}
 use Rattle.csicodec_structs.specs.{declared.next.NextSequence.NextSequence, declared.structs.Param.Param, declared.structs.Struct.Struct, Next.IsDone as IsLaid}
 use Rattle.csicodec_structs.specs.{Next.IsRefused as IsUnlaid, Next.refusal}
-use Rattle.csicodec_c.specs.{declared.event.Evented.Evented, declared.input.Received.Received, Event.AnswersOutput, Event.HasPut, Event.read_at_once}
+use Rattle.csicodec_c.specs.{declared.input.Evented.Evented, declared.input.Received.Received, Event.AnswersOutput, Event.HasPut, Event.read_at_once}
 use Rattle.csicodec_c.specs.{Event.stream, Filter.mode_number}
 use Rattle.csicodec_tokens.specs.declared.reader.ReadError.TheVariants as reading
 use Rattle.csicodec_spans.specs.declared.table.Mode.TheVariants as modes

@@ -8,7 +8,7 @@ use Rattle.csicodec_events.specs.{declared.event.Events.Events, declared.input.D
 use Rattle.csicodec_events.specs.{Input.Awaits, Input.IsSent, Input.IsSentBy, Input.paused}
 use Rattle.csicodec_structs.specs.{declared.next.NextSequence.NextSequence, declared.structs.Param.Param, declared.structs.Struct.Struct, Next.Lays}
 use Rattle.csicodec_structs.specs.{Status.status_number, declared.status.Status.Status}
-use Rattle.csicodec_c.specs.{declared.event.Evented.Evented, declared.input.Received.Received, Filter.mode_number}
+use Rattle.csicodec_c.specs.{declared.input.Evented.Evented, declared.input.Received.Received, Filter.mode_number}
 use Rattle.csicodec_events.specs.declared.event.Event.TheVariants as event
 use Rattle.csicodec_events.specs.declared.input.Dialect.TheVariants as dialects
 use Rattle.csicodec_events.specs.declared.input.InputEvent.TheVariants as input

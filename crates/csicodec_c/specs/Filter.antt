@@ -1,10 +1,13 @@
--- What a step of a filter answers a C program.
+-- What a step of a filter, and the calls for fewer bytes, answer a C program.
 use Rattle.std.specs.Prelude.{ℕ, ◌≡◌, ◌⊎◌, ◌≤◌, List, drop, length}
 use Rattle.csicodec_spans.specs.declared.table.Mode.{Mode}
 use Rattle.csicodec_filter.specs.Filter.{Passes}
 use Rattle.csicodec_streams.specs.Decoding.{NormalisesTo}
 use Rattle.csicodec_c.specs.declared.filter.Filtered.{Filtered}
-use Rattle.csicodec_structs.specs.{Room.Fills, Status.status_number, declared.status.Status.Status}
+use Rattle.csicodec_structs.specs.{Room.Fills, Status.status_number, declared.status.Status.Status, declared.encode.Encoded.Encoded}
+use Rattle.csicodec_structs.specs.{declared.structs.Param.Param, declared.structs.Struct.Struct, Encode.AllStand, Encode.IsPut}
+use Rattle.csicodec_actions.specs.Actions.{Action}
+use Rattle.csicodec_compact.specs.Compacts.{Compacts, Encodes}
 use Rattle.csicodec_spans.specs.declared.table.Mode.TheVariants as modes
 use Rattle.csicodec_structs.specs.declared.status.Status.TheVariants as status
 
@@ -40,3 +43,16 @@ IsDone number limit bytes old new answer = IsStep NormalisesTo number limit byte
 -- why a state is none
 abbrev pub IsBadState : ℕ → ℕ → Type 0
 IsBadState number limit = (limit ≡ 0) ⊎ ((mode : Mode) → number ≡ mode_number mode → ⊥)
+
+-- a step of a filter that writes spellings that are read alike, and no longer
+abbrev pub IsCompacted : ℕ → ℕ → List ℕ → List ℕ → List ℕ → Filtered → Type 0
+IsCompacted number limit bytes old new answer = IsStep Compacts number limit bytes old new answer
+
+-- a text of these actions is put
+pub record IsCompact (structs : List Struct) (params : List Param) (old new : List ℕ)
+    (answer : Encoded) : Type 0 where
+  pub actions : List Action
+  pub stand : AllStand structs params actions
+  pub text : List ℕ
+  pub encodes : Encodes actions text
+  pub put : IsPut old new text answer

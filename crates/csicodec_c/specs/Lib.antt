@@ -8,5 +8,4 @@ pub mod Key
 pub mod Osc
 pub mod OscKinds
 pub mod Step
-pub mod Compact
 pub mod Version

@@ -4,7 +4,7 @@ use Rattle.csicodec_tokens.specs.declared.param.CsiParam.{CsiParam}
 use Rattle.csicodec_actions.specs.Actions.{Unspecified}
 use Rattle.csicodec_sequences.specs.{declared.row.SequenceForm.SequenceForm, Known.reading}
 use Rattle.csicodec_structs.specs.{declared.structs.Param.Param, declared.structs.Struct.Struct, Encode.Stands}
-use Rattle.csicodec_c.specs.declared.recognise.Recognised.{Recognised}
+use Rattle.csicodec_c.specs.declared.sequences.Recognised.{Recognised}
 
 -- a kind and values, with zeros behind them up to 12
 abbrev pub recognised : ℕ → List ℕ → Recognised

@@ -1,11 +1,19 @@
-//! A step of a filter whose state the caller keeps.
+//! A step of a filter whose state the caller keeps, and streams and actions in fewer bytes.
 ghost use Rattle.std.specs.Prelude.{◌≡◌, ◌⊎◌, ◌↔◌, Some};
 ghost use Rattle.csicodec_spans.specs.declared.table.Mode.{Mode};
-ghost use Rattle.csicodec_c.specs.{Filter.IsBadState, Filter.IsDone, Filter.IsStep, Filter.mode_number, Filter.refused, Strip.IsRefused};
+ghost use Rattle.csicodec_c.specs.{Filter.IsBadState, Filter.IsDone, Filter.IsStep, Filter.mode_number, Filter.refused, Filter.IsCompact, Filter.IsCompacted};
+ghost use Rattle.csicodec_c.specs.{Strip.IsRefused, Strip.AnswersBy, Strip.bit};
+ghost use Rattle.csicodec_compact.specs.Runs.{CompactsAll};
+ghost use Rattle.csicodec_structs.specs.Encode.{IsRefused as RefusesActions};
+ghost use Rattle.csicodec_spans.specs.declared.table.Mode.TheVariants as mode;
 
+use crate::strip::{Stripped, bit_at, put, refused as nothing};
 use csicodec::{NormalForm, Rewrite, append_spans};
-use csicodec_spans::Mode;
-use csicodec_structs::{Status, fill};
+use csicodec_compact::{Compact, compact_bytes, encode_compact};
+use csicodec_spans::{LIMIT, Mode};
+use csicodec_structs::{
+    Encoded, Param, Status, Struct, actions_of, fill, put_text, refused as unencoded,
+};
 use std::alloc::Global;
 
 /// How a step of a filter ended.
@@ -55,7 +63,7 @@ pub(crate) fn number_of(mode: Mode) -> u32
 }
 
 /// Puts what the spans of the bytes that are sure become, where it fits.
-pub(crate) fn step<T: Rewrite + Drop>(
+fn step<T: Rewrite + Drop>(
     alloc: Global,
     rewrite: T,
     mode: u32,
@@ -103,4 +111,82 @@ pub extern "C" fn csicodec_filter(
         ⊎ IsRefused refused (IsBadState mode limit) out.old out.new result }
 {
     step(alloc, NormalForm::new(alloc), mode, limit, bytes, out)
+}
+
+/// Puts what the spans of the bytes that are sure become, where it fits: each control sequence in the shortest of its spellings that
+/// is found, and every other byte as it is.
+#[unsafe(no_mangle)]
+pub extern "C" fn csicodec_compact(
+    alloc: Global,
+    mode: u32,
+    limit: usize,
+    bytes: &[u8],
+    out: &mut [u8],
+) -> Filtered
+    ensures { IsCompacted mode limit bytes.now out.old out.new result
+        ⊎ IsRefused refused (IsBadState mode limit) out.old out.new result }
+{
+    step(alloc, Compact::new(alloc), mode, limit, bytes, out)
+}
+
+/// As [`csicodec_compact`], with semicolons in the colours of the character and the ground, also where that is no shorter.
+#[unsafe(no_mangle)]
+pub extern "C" fn csicodec_compact_semicolons(
+    alloc: Global,
+    mode: u32,
+    limit: usize,
+    bytes: &[u8],
+    out: &mut [u8],
+) -> Filtered
+    ensures { IsCompacted mode limit bytes.now out.old out.new result
+        ⊎ IsRefused refused (IsBadState mode limit) out.old out.new result }
+{
+    let rule = Compact::with_semicolons(alloc);
+    step(alloc, rule, mode, limit, bytes, out)
+}
+
+/// Puts a stream that is no longer in the place of one that is all there, where it fits: control sequences side by side may go into one.
+#[unsafe(no_mangle)]
+pub extern "C" fn csicodec_compact_whole(
+    alloc: Global,
+    semicolons: u32,
+    bytes: &[u8],
+    out: &mut [u8],
+) -> Stripped
+    ensures { AnswersBy (λ asked. semicolons ≡ bit asked)
+        (λ _. CompactsAll LIMIT mode.Text bytes.now) out.old out.new result }
+{
+    let Some(semicolons) = bit_at(semicolons) else {
+        return nothing(Status::BadState);
+    };
+    let rule = if semicolons {
+        Compact::with_semicolons(alloc)
+    } else {
+        Compact::new(alloc)
+    };
+    let Ok(text) = compact_bytes(alloc, LIMIT, rule, bytes) else {
+        return nothing(Status::Memory);
+    };
+    put(text.as_slice(), out)
+}
+
+/// Puts a text of the actions that the structs stand for, where it fits: no longer than that of [`csicodec_encode`](crate::csicodec_encode).
+#[unsafe(no_mangle)]
+pub extern "C" fn csicodec_encode_compact(
+    alloc: Global,
+    actions: &[Struct],
+    params: &[Param],
+    out: &mut [u8],
+) -> Encoded
+    ensures { IsCompact actions.now params.now out.old out.new result
+        ⊎ RefusesActions actions.now params.now out.old out.new result }
+{
+    match actions_of(alloc, actions, params) {
+        Ok(Ok(actions)) => match encode_compact(alloc, actions.as_slice()) {
+            Ok(text) => put_text(text.as_slice(), out),
+            Err(_) => unencoded(Status::Memory, 0),
+        },
+        Ok(Err(at)) => unencoded(Status::NoAction, at),
+        Err(_) => unencoded(Status::Memory, 0),
+    }
 }

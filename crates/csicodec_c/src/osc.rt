@@ -3,11 +3,6 @@ ghost use Rattle.std.specs.Prelude.{◌≡◌};
 ghost use Rattle.csicodec_osc.specs.Osc.{list_text};
 ghost use Rattle.csicodec_c.specs.Osc.{IsCommanded, one, told, two, with_fields};
 
-use crate::osc_kinds::{
-    CLIPBOARD, KITTY_NOTICE, LINK, NOTICE, POINTER, TITLED_NOTICE, color_table_kind,
-    color_table_reset_kind, dynamic_kind, dynamic_reset_kind, editor_mark_kind, folder_kind,
-    mark_kind, progress_kind, title_kind,
-};
 use csicodec_osc::{Osc, OscFields};
 
 /// What an OSC says, and where its texts stand.
@@ -64,26 +59,26 @@ fn with_fields(len: usize, kind: u32, list: OscFields<'_>) -> Commanded
     }
 }
 
-/// What is told of a content of so many bytes.
+/// What is told of a content of so many bytes. The numbers are those of `specs/OscKinds`, which `tools/table` writes.
 fn told(len: usize, osc: Osc<'_>) -> Commanded
     ensures { result ≡ told len osc.entry }
 {
     match osc {
-        Osc::Title(title, text) => one(len, title_kind(title), text),
-        Osc::Colors(palette, list) => with_fields(len, color_table_kind(palette), list),
-        Osc::Color(color, list) => with_fields(len, dynamic_kind(color), list),
-        Osc::ResetColors(palette, list) => with_fields(len, color_table_reset_kind(palette), list),
-        Osc::ResetColor(color, list) => with_fields(len, dynamic_reset_kind(color), list),
-        Osc::Link { params, address } => two(len, LINK, params, address),
-        Osc::Clipboard { selection, content } => two(len, CLIPBOARD, selection, content.as_bytes()),
-        Osc::Folder(folder, text) => one(len, folder_kind(folder), text),
-        Osc::Prompt(mark, list) => with_fields(len, mark_kind(mark), list),
-        Osc::Editor(mark, list) => with_fields(len, editor_mark_kind(mark), list),
-        Osc::Progress(progress, list) => with_fields(len, progress_kind(progress), list),
-        Osc::Pointer(text) => one(len, POINTER, text),
-        Osc::KittyNotice { metadata, payload } => two(len, KITTY_NOTICE, metadata, payload),
-        Osc::TitledNotice { title, text } => two(len, TITLED_NOTICE, title, text),
-        Osc::Notice(text) => one(len, NOTICE, text),
+        Osc::Title(title, text) => one(len, 16 + title as u32, text),
+        Osc::Colors(palette, list) => with_fields(len, 32 + palette as u32, list),
+        Osc::Color(color, list) => with_fields(len, 64 + color as u32, list),
+        Osc::ResetColors(palette, list) => with_fields(len, 48 + palette as u32, list),
+        Osc::ResetColor(color, list) => with_fields(len, 80 + color as u32, list),
+        Osc::Link { params, address } => two(len, 160, params, address),
+        Osc::Clipboard { selection, content } => two(len, 161, selection, content.as_bytes()),
+        Osc::Folder(folder, text) => one(len, 96 + folder as u32, text),
+        Osc::Prompt(mark, list) => with_fields(len, 112 + mark as u32, list),
+        Osc::Editor(mark, list) => with_fields(len, 128 + mark as u32, list),
+        Osc::Progress(progress, list) => with_fields(len, 144 + progress as u32, list),
+        Osc::Pointer(text) => one(len, 162, text),
+        Osc::KittyNotice { metadata, payload } => two(len, 163, metadata, payload),
+        Osc::TitledNotice { title, text } => two(len, 164, title, text),
+        Osc::Notice(text) => one(len, 165, text),
         Osc::Unknown(bytes) => one(len, 0, bytes),
     }
 }

@@ -1,16 +1,19 @@
-//! Sequences and their actions, which are structs.
-ghost use Rattle.std.specs.Prelude.{◌≡◌, ◌⊎◌};
+//! Sequences and their actions, which are structs, and the row that reads the list of an unknown one.
+ghost use Rattle.std.specs.Prelude.{◌≡◌, ◌⊎◌, ◌≤◌, length};
 ghost use Rattle.csicodec_events.specs.Events.{without_controls};
-ghost use Rattle.csicodec_structs.specs.Encode.{IsDone as IsEncoded, IsJudged, IsRefused as RefusesToEncode, IsUnjudged};
-ghost use Rattle.csicodec_structs.specs.{Normalise.IsDone as IsNormalised, Normalise.IsRefused as RefusesToNormalise, Next.IsDone as IsLaid};
-ghost use Rattle.csicodec_structs.specs.{Next.IsRefused as RefusesToLay, Next.IsTaken, Next.refused};
+ghost use Rattle.csicodec_structs.specs.Encode.{IsJudged, IsUnjudged, IsDone as IsEncoded, IsRefused as RefusesToEncode};
+ghost use Rattle.csicodec_structs.specs.{Next.IsTaken, Next.refused, Next.IsDone as IsLaid, Next.IsRefused as RefusesToLay, Normalise.IsDone as IsNormalised};
+ghost use Rattle.csicodec_structs.specs.{Normalise.IsRefused as RefusesToNormalise};
 ghost use Rattle.csicodec_terminal.specs.Terminal.{Terminal};
+ghost use Rattle.csicodec_c.specs.Recognised.{IsKnown, IsUnknown, recognised};
 ghost use Rattle.csicodec_structs.specs.declared.status.Status.TheVariants as status;
 
+use csicodec_base::CsiParam;
 use csicodec_events::append_read;
+use csicodec_sequences::{KnownSequence, LONGEST, MOST};
 use csicodec_structs::{
-    Encoded, Judged, NextSequence, Normalised, Param, Status, Struct, judge, lay_as_terminals,
-    lay_front, put_normal_form, put_texts, unlaid,
+    Encoded, Judged, NextSequence, Normalised, Param, Status, Struct, fill, judge,
+    lay_as_terminals, lay_front, put_normal_form, put_texts, put_unknown, unlaid,
 };
 use std::alloc::Global;
 
@@ -77,4 +80,46 @@ pub extern "C" fn csicodec_is_canonical(alloc: Global, given: &Struct, params: &
     ensures { IsJudged given.now params.now result ⊎ IsUnjudged given.now params.now result }
 {
     judge(alloc, given, params)
+}
+
+/// Which row of the table reads a list, and the values. It has 56 bytes, and no gaps.
+#[repr(C)]
+#[derive(Clone, Copy)]
+pub struct Recognised {
+    /// The kind of the row, above 10000; 0 where no row reads the list.
+    pub kind: u32,
+    /// How many values there are.
+    pub count: u32,
+    /// The values, and 0 behind them.
+    pub values: [u32; MOST],
+}
+
+/// A row's kind and its values.
+#[tactic(auto, using(crate::proofs::Unknown::padded))]
+fn answer(kind: u32, numbers: &[u32]) -> Recognised
+    requires { length numbers.now ≤ 12 }
+    ensures { result ≡ recognised kind numbers.now }
+{
+    let mut values = [0; MOST];
+    fill(&mut values, numbers);
+    Recognised {
+        kind,
+        count: numbers.len() as u32,
+        values,
+    }
+}
+
+/// Which row of the table reads the list of the unknown action that a struct stands for, and the values. It takes no memory.
+#[unsafe(no_mangle)]
+pub extern "C" fn csicodec_known(given: &Struct, params: &[Param]) -> Recognised
+    ensures { IsKnown given.now params.now result ⊎ IsUnknown given.now params.now result }
+{
+    let mut room = [CsiParam::P(0); LONGEST];
+    let Some(control) = put_unknown(given, params, &mut room) else {
+        return answer(0, &[]);
+    };
+    match KnownSequence::read(&room[..given.len], control) {
+        Some(known) => answer(known.form().kind, known.values()),
+        None => answer(0, &[]),
+    }
 }

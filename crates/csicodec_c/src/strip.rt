@@ -5,7 +5,7 @@ ghost use Rattle.csicodec_clean.specs.{declared.colors.Depth.Depth, declared.sty
 ghost use Rattle.csicodec_c.specs.Strip.{Answers, AnswersBy, IsCleaned, IsPassing, IsStripped, bit, depth_number, refused, stripped};
 ghost use Rattle.csicodec_clean.specs.declared.colors.Depth.TheVariants as depths;
 
-use csicodec_clean::{Depth, Passing, clean_with, strip};
+use csicodec_clean::{Depth, Passing, clean_in, clean_with, strip};
 use csicodec_structs::{Status, fill};
 use std::alloc::Global;
 
@@ -79,11 +79,7 @@ pub extern "C" fn csicodec_strip(alloc: Global, bytes: &[u8], out: &mut [u8]) ->
 pub extern "C" fn csicodec_clean(alloc: Global, bytes: &[u8], out: &mut [u8]) -> Stripped
     ensures { Answers (IsCleaned bytes.now (without_links depths.Full)) ⊥ out.old out.new result }
 {
-    let passing = Passing {
-        depth: Depth::Full,
-        links: false,
-    };
-    let Ok(text) = clean_with(alloc, passing, bytes) else {
+    let Ok(text) = clean_in(alloc, Depth::Full, bytes) else {
         return refused(Status::Memory);
     };
     put(text.as_slice(), out)

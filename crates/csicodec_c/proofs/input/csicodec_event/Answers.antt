@@ -1,8 +1,8 @@
 use Rattle.std.proofs.Common.{◌≡◌, refl, sym, ◌∙◌}
 use Rattle.csicodec_c.specs.Filter.{mode_number}
-use Rattle.csicodec_c.proofs.event.csicodec_event.Goals.{then-looked-eq0+then-begins_csi+else-front-number+else-front-number-2, else-looked-eq0}
+use Rattle.csicodec_c.proofs.input.csicodec_event.Goals.{then-looked-eq0+then-begins_csi+else-front-number+else-front-number-2, else-looked-eq0}
 use Rattle.csicodec_c.proofs.Told.{laid, read_done, same_room, unlaid}
-use Rattle.csicodec_c.proofs.event.csicodec_event.Goals as goal
+use Rattle.csicodec_c.proofs.input.csicodec_event.Goals as goal
 
 pub returns-then-front-number : goal.returns-then-front-number
 returns-then-front-number c =

@@ -1,6 +1,6 @@
 use Rattle.std.proofs.Common.{◌∙◌, inr, sym}
 use Rattle.csicodec_c.proofs.Unknown.{one-reading, too-long}
-use Rattle.csicodec_c.proofs.recognise.csicodec_known.Goals as goal
+use Rattle.csicodec_c.proofs.sequences.csicodec_known.Goals as goal
 
 pub returns-in_default : goal.returns-in_default
 returns-in_default c = inr (c.answer.ensures, λ list final s. too-long list final (c.in_default.ensures list final s))

@@ -22,11 +22,6 @@ unset l (_ ∷ actions) h = unset l actions h
 
 -- ---- tags
 
--- between two looks
-pub turned : (m : Markup) (old new : Look) (before mid after : List ℕ) → mid ≡ before ++ piece_texts (ends old)
-    → after ≡ mid ++ piece_texts (begins m new) → after ≡ before ++ piece_texts (ends old ++ begins m new)
-turned m old new before mid after h k = simp (k, h, append_assoc, flat_map-append)
-
 -- the tag of a link that leads somewhere
 pub opened : (to : List ℕ) → leads to ≡ true → pieces_bytes (opens to) ≡ piece_bytes (Open to)
 opened to h = rw h (append-nil _)

@@ -28,11 +28,6 @@ in-range s h =
     let p = and_parts (is_code s.code && nat_lt s.held 256) (scalars s.text) a.0 in
     record { held = ltb-true s.held 256 (and_parts (is_code s.code) (nat_lt s.held 256) p.0).1; text = p.1; short = leb-true (length s.text) 32 a.1 }
 
--- what is told of a list beside its encoding
-pub key-alone : (e : Encoding) (o : Option Stroke) → key_alone (option_map (λ k. (e, k)) o) ≡ o
-key-alone e None = refl
-key-alone e (Some k) = refl
-
 -- what is read first is read
 pub first-read : (o p : Option (Encoding × Stroke)) (k : Stroke) → key_alone o ≡ Some k → key_alone (option_or o p) ≡ Some k
 first-read None p k e = cc

@@ -18,8 +18,8 @@
 #include "csicodec_names.h"
 
 /* The version of this header. csicodec_version() returns the library's, which must be the same number. */
-#define CSICODEC_VERSION "1.20.0"
-#define CSICODEC_VERSION_NUMBER 12000
+#define CSICODEC_VERSION "1.21.0"
+#define CSICODEC_VERSION_NUMBER 12100
 
 #ifdef __cplusplus
 extern "C" {

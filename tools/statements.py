@@ -102,13 +102,26 @@ def files():
     return found
 
 
+# A part of the name of a module that Rattle makes.
+GENERATED = re.compile(r"\.(declared|contracts)\.")
+
+
 def lost():
     """The imports of definitions that lead nowhere."""
     crates = {module.split(".")[1] for module in files()}
     for file in files().values():
-        for module, name in file.uses.names.values():
-            if module.split(".")[1] in crates and ".declared." not in module and defined(module, name) is None:
+        for module, name in (handed(*it) for it in file.uses.names.values()):
+            if module.split(".")[1] in crates and not GENERATED.search(module) and defined(module, name) is None:
                 yield f"{file.module} imports {module}.{name}, which isn't there"
+
+
+def handed(module, name):
+    """Where a name comes from that a file passes on."""
+    file = files().get(module)
+    while file and name not in file.own and name not in file.made and name in file.uses.names:
+        module, name = file.uses.names[name]
+        file = files().get(module)
+    return module, name
 
 
 def defined(module, name):
@@ -138,6 +151,7 @@ def resolved(word, uses, own=None):
         return resolved(first, uses, own)
     else:
         return None
+    module, name = handed(module, name)
     if ".declared." in module:
         return module.removesuffix(".TheVariants")
     return defined(module, name)

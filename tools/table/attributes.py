@@ -40,7 +40,8 @@ class Attributes:
         return [(f"{variant}({kind}::{value})", f"(sgr.{variant} {ahead}{value})", self.text(f"{variant}({value})")) for value in named]
 
     def each(self, forms):
-        """A line for each value by these forms: `value` of those set by a number, `palette`, `line` and `true` of a colour, and `font`."""
+        """A line for each value by these forms: `value` of those set by a number, `palette`, `line` and `true` of a colour, and `font`. Where there is `flag`, what is on
+        or off has one line."""
         for action in self.actions:
             variant = action.variant[0]
             if action.form == "unit":
@@ -52,6 +53,8 @@ class Attributes:
                 yield from (forms[form].format(**own) for form in ("palette" if first else "line", "true"))
             elif action.names == ("Font",):
                 yield from [self.line(forms, "Font(Font::Default)", "(sgr.Font font.Default)", self.text("Font(Default)")), forms["font"]]
+            elif action.form == "flag" and "flag" in forms:
+                yield forms["flag"].format(variant=variant, on=self.text(f"{variant}(true)"), off=self.text(f"{variant}(false)"))
             else:
                 yield from (self.line(forms, *value) for value in self.values(action))
 
@@ -71,6 +74,7 @@ WRITE = {
     "line": "            Sgr::{variant}(ColorSpec::PaletteIndex(index)) => write_line_palette(text, *index),",
     "true": "            Sgr::{variant}(ColorSpec::TrueColor(color)) => write_true_color(text, {code}, *color),",
     "font": "            Sgr::Font(Font::Alternate(number)) => write_font(text, *number),",
+    "flag": '            Sgr::{variant}(on) => text.push_str(if *on {{ "{on}m" }} else {{ "{off}m" }}),',
 }
 TEXTS = {
     "value": 'sgr_text {spec} = codes "{text}m"',
@@ -78,6 +82,7 @@ TEXTS = {
     "line": 'sgr_text (sgr.{variant} (color.PaletteIndex i)) = codes "{code}:5:" ++ (decimal i ++ codes "m")',
     "true": "sgr_text (sgr.{variant} (color.TrueColor c)) = true_color_text {code} c",
     "font": "sgr_text (sgr.Font (font.Alternate n)) = font_text n",
+    "flag": 'sgr_text (sgr.{variant} on) = if on then codes "{on}m" else codes "{off}m"',
 }
 SPELLINGS = {
     "value": "sgr-spelling flag {spec} fits ok = {how} flag _ {number} refl (omega arith) refl",

@@ -214,7 +214,7 @@ def of_cursor(actions):
     one, two = single(actions)
     front, rows = "crates/csicodec_structs/src/movement.rt", "crates/csicodec_structs/proofs/Moved.antt"
     yield front, Part(list(front_arms(one)), ("fn moved_by(number: u32, control: u8) -> Option<Cursor>", "    match control {"), "        _ => None,")
-    yield front, Part(list(front_arms(two)), ("fn moved_to(first: u32, second: u32, control: u8) -> Option<Cursor>", "    match control {"), "        b'r' => Some(Cursor::SetTopAndBottomMargins {")
+    yield front, Part(list(front_arms(two)), ("pub(crate) fn moved_to(first: u32, second: u32, control: u8) -> Option<Cursor>", "    match control {"), "        b'r' => Some(Cursor::SetTopAndBottomMargins {")
     lists = "TwoCounts final make = (list : List CsiParam) → as_cursor list final ≡ option_map (λ (p : ℕ × ℕ). Cursor (make p.0 p.1)) (given (paired (λ a b. (a, b))) list)"
     counts = list(together("finals", ("Counts", "TwoCounts"), ("one-count", "two-counts"), one + two))[:-1]
     yield "crates/csicodec_actions/proofs/Finals.antt", Part(counts, (lists, ""), None)
@@ -232,7 +232,7 @@ def of_edit(actions):
 
 
 # Where csicodec_overwrite says what acts within a line, and by which name.
-OVERWRITE = {"src/text.rt": rust, "specs/Steps.antt": value}
+OVERWRITE = {"src/text.rt": rust, "specs/Steps.antt": lambda action: f"{action.subject}.{action.variant[0]}"}
 
 
 def faults(subjects):

@@ -2,14 +2,14 @@
 words."""
 from declared import Type, Variant
 from checks import check_columns, check_once, refuse
-from layout import code, keyed, packed, page_line, page_table, string
+from layout import code, keyed, packed, page_line, page_table, rows_of_parts, string
 from read import first_line, rows_of
 
 TABLE = "escapes.toml"
 
 CODES = """\
 //! The codes of escape sequences.
-ghost use Rattle.std.specs.Prelude.{◌≡◌, ◌↔◌, ◌<◌, ◌≤◌, Some};
+ghost use Rattle.std.specs.Prelude.{◌≡◌, ◌↔◌, Some};
 ghost use Rattle.csicodec_names.specs.Esc.{esc_number};
 
 DECLARATION
@@ -18,14 +18,18 @@ DECLARATION
 DOC = "The codes of escape sequences. A code's number is that of its last character, and 256 times that of the one before it, if any."
 
 FIND = """
-/// The code of that number, where it is written by COUNT.
-pub(crate) fn NAME(number: u16) -> Option<EscCode>
-    requires { RANGE }
-    ensures { (code : EscCode) → (result ≡ Some code) ↔ (number ≡ esc_number code) }
-{
-    match number {
+impl EscCode {
+    /// The code of that number, or none where no code has it.
+    ///
+    /// ```text
+    /// EscCode::from_u16(0x4f53)           // Some(F4Press), "\\x1bOS"
+    /// ```
+    pub fn from_u16(number: u16) -> Option<Self>
+        ensures { (code : EscCode) → (result ≡ Some code) ↔ (number ≡ esc_number code) }
+    {
+        numbered! { number, EscCode:
 ARMS
-        _ => None,
+        }
     }
 }
 """
@@ -60,16 +64,9 @@ def named(rows):
     return {key: row for key, row in rows["code"].items() if "name" in row}
 
 
-def find(count, name, within, codes):
-    arms = [f"        {number(key)} => Some(EscCode::{row['name']})," for key, row in codes.items()]
-    return FIND.replace("COUNT", count).replace("NAME", name).replace("RANGE", within).replace("ARMS", "\n".join(arms))
-
-
 def codes(rows):
-    all_of = named(rows)
-    enumeration = CODES.replace("DECLARATION", "\n".join(next(types()).lines()))
-    one = find("one character", "of_one_character", "number < 256", {key: row for key, row in all_of.items() if len(key) == 1})
-    return enumeration + one + find("two characters", "of_two_characters", "256 ≤ number", {key: row for key, row in all_of.items() if len(key) == 2})
+    arms = rows_of_parts([f"{number(key)} {row['name']}" for key, row in named(rows).items()], " " * 12)
+    return CODES.replace("DECLARATION", "\n".join(next(types()).lines())) + FIND.replace("ARMS", "\n".join(arms))
 
 
 def characters(rows):

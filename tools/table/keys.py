@@ -167,17 +167,6 @@ def tables_antt():
     return "\n".join([*lines, *(f"rows table.{variant} = {column.upper()}" for column, variant in VARIANTS.items())]) + "\n"
 
 
-def same_keys_antt(named):
-    """specs/SameKeys.antt of csicodec_keys."""
-    lines = ["-- Which keys are the same.", "use Rattle.std.specs.Prelude.{ℕ, ◌==◌, ◌&&◌, Bool}", "use Rattle.csicodec_keys.specs.declared.code.KeyCode.{KeyCode}",
-             "use Rattle.csicodec_keys.specs.declared.code.KeyCode.TheVariants as code", "", "-- a number for each kind of key", "abbrev pub code_tag : KeyCode → ℕ",
-             "code_tag (code.Char c) = 0", "code_tag (code.F n) = 1", *(f"code_tag code.{name} = {tag}" for tag, name in enumerate(named, 2)), "",
-             "-- the character of a key that types one, the number of a function key, and 0", "abbrev pub code_value : KeyCode → ℕ", "code_value (code.Char c) = c", "code_value (code.F n) = n",
-             "code_value _ = 0", "", "-- the kind and the value are the same; then it is one key (`same-code` of the proofs)", "abbrev pub same_code : KeyCode → KeyCode → Bool",
-             "same_code a b = (code_tag a == code_tag b) && (code_value a == code_value b)"]
-    return "\n".join(lines) + "\n"
-
-
 def named_antt(named):
     """proofs/Named.antt of csicodec_keys."""
     lines = ["-- All keys with a name alone, in the order of their tags.", "use Rattle.std.proofs.Common.{List, [], ◌∷◌}", "use Rattle.csicodec_keys.specs.declared.code.KeyCode.{KeyCode}",
@@ -201,7 +190,6 @@ def files(tables):
         "crates/csicodec_keys/src/code.rt": rust + code_rt(named),
         "crates/csicodec_keys/src/rows.rt": rust + rows_rt(keys),
         "crates/csicodec_keys/specs/Tables.antt": antt + tables_antt(),
-        "crates/csicodec_keys/specs/SameKeys.antt": antt + same_keys_antt(named),
         "crates/csicodec_keys/proofs/Named.antt": antt + named_antt(named),
         "crates/csicodec_words/src/key_words.rt": rust + words_rt(named),
     }

@@ -47,10 +47,15 @@ def keyed(said, name, rows, front=None):
     return packed(said, name, "&str", [string(f"{key}\t{words}").replace("\t", "\\t") for key, words in rows])
 
 
-def packed(said, name, kind, parts, macro="pieces"):
-    """An array of what is short, in lines of some 110 columns, made by a macro, which `rt fmt` leaves as it is."""
+def rows_of_parts(parts, indent="    "):
+    """What is short behind each other, in lines of some 110 columns, for a macro, which `rt fmt` leaves as it is."""
     rows = textwrap.wrap(" ".join(part.replace(" ", "\0") + "," for part in parts), 110, break_long_words=False, break_on_hyphens=False)
-    rows = ["    " + row.replace("\0", " ") for row in rows]
+    return [indent + row.replace("\0", " ") for row in rows]
+
+
+def packed(said, name, kind, parts, macro="pieces"):
+    """An array of what is short, made by a macro."""
+    rows = rows_of_parts(parts)
     ahead = f"pub(crate) static {name}: [{kind}; {len(parts)}] = "
     whole = [f"{ahead}[{parts[0]}];"] if len(parts) == 1 else [f"{ahead}{macro}! {{", *rows, "};"]
     return "\n".join([*comment(said), *whole]) + "\n"

@@ -1,7 +1,7 @@
 """table/modes.toml: what modes are called. Their names become two enumerations with their numbers, their words two arrays."""
 from declared import Type, Variant, in_turn
 from checks import check_columns, check_once
-from layout import keyed, page_line, page_table
+from layout import keyed, page_line, page_table, rows_of_parts
 from read import first_line, rows_of
 
 TABLE = "modes.toml"
@@ -9,7 +9,8 @@ TABLE = "modes.toml"
 RUST = """\
 //! The numbers of modes that have a name.
 ghost use Rattle.std.specs.Prelude.{◌≡◌, ◌↔◌, Some, pos};
-ghost use Rattle.csicodec_names.specs.ModeNumbers.{dec_mode_number, terminal_mode_number};
+ghost use Rattle.csicodec_names.specs.{ModeNumbers.dec_codes, ModeNumbers.dec_mode_number, ModeNumbers.terminal_codes, ModeNumbers.terminal_mode_number};
+ghost use Rattle.csicodec_names.specs.{Numbered.with_number};
 """
 
 # The comments of both types.
@@ -31,12 +32,12 @@ impl KIND {
 
     /// The mode that has this number, and none where no mode has it.
     pub fn from_i64(number: i64) -> Option<Self>
-        ensures { (mode : KIND) → (result ≡ Some mode)
+        ensures each { (mode : KIND) → (result ≡ Some mode)
             ↔ (number ≡ pos (NUMBER mode)) }
+        ensures listed { result ≡ with_number NUMBER CODES number }
     {
-        match number {
+        numbered! { number, KIND:
 ARMS
-            _ => None,
         }
     }
 }
@@ -86,8 +87,8 @@ def types():
 
 def kind(declared, number):
     """An enumeration, and both ways between it and its numbers."""
-    arms = [f"            {mode.number} => Some({declared.name}::{mode.name})," for mode in declared.variants]
-    return KIND.replace("KIND", declared.name).replace("NUMBER", number).replace("DECLARATION", "\n".join(declared.lines())).replace("ARMS", "\n".join(arms))
+    arms = rows_of_parts([f"{mode.number} {mode.name}" for mode in declared.variants], " " * 12)
+    return KIND.replace("KIND", declared.name).replace("NUMBER", number).replace("CODES", number.replace("mode_number", "codes")).replace("DECLARATION", "\n".join(declared.lines())).replace("ARMS", "\n".join(arms))
 
 
 def numbers(function, module, rows):

@@ -2,7 +2,7 @@
 import sys
 
 from examples import all_examples
-from layout import low, packed, string
+from layout import comment, low, packed, rows_of_parts, string
 from read import first_line
 
 TABLE = "osc.toml"
@@ -16,6 +16,25 @@ ALONE = {"Bare": ".", "OneText": ";", "Several": "?", "Value": "=", "Rest": "*",
 
 FRONTS = """What a content begins with that has words alone, and a byte for what stands behind that: `.` for nothing, `;` for `;` and a text, `?` for
 either, `=` for nothing or `=` and a text, `*` for a text at once, and `#` for one that is all that is behind the number. The first that fits is told."""
+
+
+# The macros that are told all commands.
+BEGINS_RT = """\
+macro_rules! begins {
+    ($command:expr; $($over:ident($kind:ident) { $($variant:ident $begins:literal,)* })*; $($single:ident $front:literal,)*) => {
+        match $command {
+            $($(Command::$over($kind::$variant) => $begins,)*)*
+            $(Command::$single => $front,)*
+        }
+    };
+}
+
+macro_rules! all {
+    (; $($over:ident($kind:ident) { $($variant:ident $begins:literal,)* })*; $($single:ident $front:literal,)*) => {
+        [$($(Command::$over($kind::$variant),)*)* $(Command::$single,)*]
+    };
+}
+"""
 
 
 class Group:
@@ -92,15 +111,22 @@ def command_rt(groups, single):
     lines += ["/// A command, without what stands behind its number.", "#[derive(Clone, Copy)]", "pub(crate) enum Command {"]
     lines += [f"    {command}({group.name})," for group in groups for command, _, _ in group.commands()]
     lines += [f"    {name}," for name in single]
-    lines += ["}", "", "impl Command {", "    /// What it begins with.", "    pub(crate) fn number(self) -> &'static [u8]",
-              "        ensures { result.now ≡ number self }", "    {", "        match self {"]
-    lines += [f'            Command::{command}({group.name}::{variant}) => b"{row[column]}",' for group in groups for command, column, _ in group.commands() for variant, row in group.rows.items()]
-    lines += [f'            Command::{name} => b"{row["begins"]}",' for name, row in single.items()]
-    all_of = [f"Command::{command}({group.name}::{variant})" for group in groups for command, _, _ in group.commands() for variant in group.rows]
-    all_of += [f"Command::{name}" for name in single]
-    lines += ["        }", "    }", "}", ""]
-    said = "All of them. The last one has the number that others go on with, and so is tried when none of them is meant."
-    return "\n".join(lines) + "\n" + packed(said, "COMMANDS", "Command", all_of)
+    lines += ["}", ""]
+    lines += comment("Tells a macro all commands: with each constructor over an enumeration what those of its variants begin with, and behind them the single ones. The last one has the "
+                     "number that others go on with, and so is tried when none of them is meant.")
+    lines += ["macro_rules! commands {", "    ($macro:ident $($command:expr)?) => {", "        $macro! { $($command)?;"]
+    for group in groups:
+        for command, column, _ in group.commands():
+            rows = rows_of_parts([f'{variant} b"{row[column]}"' for variant, row in group.rows.items()], " " * 16)
+            one = f"            {command}({group.name}) {{ {rows[0].strip()} }}"
+            lines += [one] if len(rows) == 1 and len(one) < 120 else [f"            {command}({group.name}) {{", *rows, "            }"]
+    lines[-1] += ";"
+    lines += [*rows_of_parts([f'{name} b"{row["begins"]}"' for name, row in single.items()], " " * 12), "        }", "    };", "}", "", *BEGINS_RT.split("\n")]
+    lines += ["impl Command {", "    /// What it begins with.", "    pub(crate) fn number(self) -> &'static [u8]",
+              "        ensures { result.now ≡ number self }", "    {", "        commands!(begins self)", "    }", "}", ""]
+    count = sum(len(group.rows) for group in groups for _ in group.commands()) + len(single)
+    lines += ["/// All of them.", f"pub(crate) static COMMANDS: [Command; {count}] = commands!(all);"]
+    return "\n".join(lines) + "\n"
 
 
 def commands_antt(groups, single):
@@ -115,8 +141,9 @@ def commands_antt(groups, single):
               for group in groups for command, column, _ in group.commands() for variant, row in group.rows.items()]
     lines += [f'number command.{name} = codes "{row["begins"]}"  -- {row["source"]}' for name, row in single.items()]
     lines += ["", "-- The form of what stands behind it.", "abbrev pub form : Command → Form"]
-    lines += [f"form (command.{command} v) = {group.form}" for group in groups for command, _, _ in group.commands()]
-    lines += [f"form command.{name} = {row['form']}" for name, row in single.items()]
+    lines += [f"form (command.{command} v) = {group.form}" for group in groups for command, _, _ in group.commands() if group.form != "Several"]
+    lines += [f"form command.{name} = {row['form']}" for name, row in single.items() if row["form"] != "Several"]
+    lines += ["form _ = Several"]
     return "\n".join(lines) + "\n"
 
 

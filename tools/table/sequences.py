@@ -7,7 +7,7 @@ from actions import subjects
 from examples import all_examples
 from checks import refuse
 from forms import Form, form_of
-from layout import byte, string
+from layout import byte, comment, string
 from parts import Part
 from read import first_line
 from templates import by_number
@@ -69,10 +69,7 @@ SECTIONS = {
 ARRAYS = (
     ("FORMS", "SequenceForm", "form", "The form of each row."),
     ("SLOTS", "[NumberSlot; MOST]", "numbers", "The slots of each row, at the same place."),
-    ("NAMES", "&str", "name", "The name of each row, at the same place."),
-    ("MEANINGS", "&str", "meaning", "What each row means, at the same place."),
-    ("SOURCES", "&str", "source", "The source of each row, at the same place."),
-    ("NUMBERS", "&str", "names", "The names of the numbers of each row, at the same place, a `;` behind each."),
+    ("TEXTS", "[&str; 4]", "texts", "What is said of each: its name, its meaning, its source, and the names of its numbers, a `;` behind each."),
 )
 
 
@@ -93,7 +90,7 @@ def row_text(row):
     form = row.form
     pieces = [f"{row.kind},", f"{string(row.name)},", f"{byte(form.marker)},", *slot_pieces(form.slots), f"{byte(form.between)},", f"{byte(form.final)[1:]},", f"{string(row.means)},", f"{string(row.source)}"]
     section = f"\n            // {SECTIONS[row.kind]}\n" if row.kind in SECTIONS else ""
-    return f"{section}            $row! {{ {' '.join(pieces)} }},\n"
+    return f"{section}            row! {{ $part {' '.join(pieces)} }},\n"
 
 
 def rows_text(rows, start, about):
@@ -104,10 +101,10 @@ use crate::rows::END;
 
 /// The rows, of each of which a macro makes its part.
 macro_rules! rows {{
-    ($row:ident) => {{
+    ($part:ident) => {{
         [
 """
-    arrays = "".join(f"\n/// {said}\npub static {start}_{name}: [{kind}; {len(rows)}] = rows!({part});\n" for name, kind, part, said in ARRAYS)
+    arrays = "".join("\n" + "\n".join(comment(said)) + f"\npub static {start}_{name}: [{kind}; {len(rows)}] = rows!({part});\n" for name, kind, part, said in ARRAYS)
     return head + "".join(map(row_text, rows)).removeprefix("\n") + "        ]\n    };\n}\n" + arrays
 
 

@@ -64,15 +64,14 @@ pub(crate) struct Entry {
 }
 
 macro_rules! entry {
-    (()) => {
-        Entry { attribute: None, text: [0, 0, 0, 0, 0, 0, 0, 0], len: 0 }
-    };
-    (($attribute:expr, $len:literal, $($byte:literal),*)) => {
-        Entry { attribute: Some($attribute), text: [0x1b, b'[', $($byte),*], len: $len }
-    };
+    (()) => { Entry { attribute: None, text: [0, 0, 0, 0, 0, 0, 0, 0], len: 0 } };
+    (($len:literal $($byte:literal)*: $attribute:expr)) => { Entry { attribute: Some($attribute), text: [0x1b, b'[', $($byte),*], len: $len } };
+    (($a:literal, $b:literal, $c:literal $($set:tt)*)) => { entry!((6 $a $b $c b'm' 0 0: Sgr::$($set)*)) };
+    (($a:literal, $b:literal $($set:tt)*)) => { entry!((5 $a $b b'm' 0 0 0: Sgr::$($set)*)) };
+    (($a:literal $($set:tt)*)) => { entry!((4 $a b'm' 0 0 0 0: Sgr::$($set)*)) };
 }
 
-/// Entries, several on a line: the attribute, how long its text is, and what of that stands behind ESC and `[`; `()` where a number sets none alone.
+/// Entries, several on a line: the digits of what stands in the text ahead of `m`, and the attribute; `()` where a number sets none alone.
 macro_rules! entries {
     ($($row:tt,)*) => { [$(entry!($row)),*] };
 }
@@ -81,7 +80,8 @@ macro_rules! entries {
 
 ATTRIBUTES = """\
 -- The attributes that codes set (SGR; ECMA-48, 8.3.117).
-use Rattle.std.specs.Prelude.{Option, Some, None, true, false}
+use Rattle.std.specs.Prelude.{ℕ, ◌-◌, nat_lt, if◌then◌else◌, Option, Some, None, true, false}
+use Rattle.csicodec_names.specs.Numbers.{number_of}
 use Rattle.csicodec_names.specs.declared.codes.SgrCode.{SgrCode}
 use Rattle.csicodec_names.specs.declared.codes.SgrCode.TheVariants as code
 use Rattle.csicodec_base.specs.declared.sgr.Sgr.{Sgr}
@@ -93,9 +93,20 @@ use Rattle.csicodec_names.specs.declared.color.VerticalAlign.TheVariants as alig
 use Rattle.csicodec_base.specs.declared.sgr.Font.TheVariants as font
 use Rattle.csicodec_names.specs.declared.color.ColorSpec.TheVariants as color
 
--- the attribute that each code sets alone, a line for each variant; none for FURTHER, which can have further tokens or need them
+-- the attribute of a number that counts what it sets: 11 to 19 a font; 30 to 37 a colour of the character and 40 to 47 one of the ground, of the
+-- first 8 of the palette; and 90 to 97 and 100 to 107 one of the 8 bright ones behind them
+abbrev pub counted : ℕ → Sgr
+counted n =
+    if nat_lt n 20 then sgr.Font (font.Alternate (n - 10))
+    else if nat_lt n 38 then sgr.Foreground (color.PaletteIndex (n - 30))
+    else if nat_lt n 48 then sgr.Background (color.PaletteIndex (n - 40))
+    else if nat_lt n 98 then sgr.Foreground (color.PaletteIndex (n - 82))
+    else sgr.Background (color.PaletteIndex (n - 92))
+
+-- the attribute that each code sets alone, by its number where that counts; none for FURTHER, which can have further tokens or need them
 abbrev pub action_of : SgrCode → Option Sgr
 ROWS
+action_of code = Some (counted (number_of code))
 """
 
 ALONE = """\
@@ -235,8 +246,8 @@ def numbers(table):
 def entry(table, place):
     if place not in table.alone:
         return "()"
-    written = [*(f"b'{digit}'" for digit in str(table.written(place))), "b'm'"]
-    return f"({table.alone[place].rust()}, {2 + len(written)}, {', '.join(written + ['0'] * (6 - len(written)))})"
+    written = ", ".join(f"b'{digit}'" for digit in str(table.written(place)))
+    return f"({written} {table.alone[place].rust().removeprefix('Sgr::')})"
 
 
 def types(attributes):
@@ -250,8 +261,19 @@ def entries(table):
     return head + packed(f"Each number from 0 to {table.places[-1]}, a place for each.", "ENTRIES", "Entry", rows, "entries")
 
 
+# The numbers that count what they set: the first of some, the last, the variant, and what the first one sets.
+COUNTED = ((11, 19, "Font", "Alternate", 1), (30, 37, "Foreground", "PaletteIndex", 0), (40, 47, "Background", "PaletteIndex", 0), (90, 97, "Foreground", "PaletteIndex", 8),
+           (100, 107, "Background", "PaletteIndex", 8))
+
+
+def counted(table, number):
+    """Whether a number is among those that count what they set."""
+    it = table.alone.get(number)
+    return any(first <= number <= last and it and (it.variant, it.value, it.number) == (variant, value, number - first + of) for first, last, variant, value, of in COUNTED)
+
+
 def attributes(table):
-    rows = [f"action_of code.{row['name']} = " + (f"Some {table.alone[number].antt()}" if number in table.alone else "None") for number, row in table.named.items()]
+    rows = [f"action_of code.{row['name']} = " + (f"Some {table.alone[number].antt()}" if number in table.alone else "None") for number, row in table.named.items() if not counted(table, number)]
     *first, last = [str(number) for number in table.named if number not in table.alone]
     return ATTRIBUTES.replace("ROWS", "\n".join(rows)).replace("FURTHER", f"{', '.join(first)} and {last}")
 

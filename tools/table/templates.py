@@ -2,7 +2,7 @@
 import re
 
 # What code tells: csicodec_words has a function for each.
-CODE = ("mode", "mode_on", "mode_off", "private_mode", "private_on", "private_off", "extensions", "mouse", "button", "released", "lines", "columns", "f3", "values")
+CODE = ("mode", "mode_on", "mode_off", "private_mode", "private_on", "private_off", "extensions", "mouse", "button", "released", "lines", "columns", "values")
 HOLE = re.compile(r"(\w+)(?:=(\d+))?(\.\.)?(?:([#:@~&])(.*))?$")
 
 

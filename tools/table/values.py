@@ -1,6 +1,7 @@
 """table/values.toml: enumerations that actions have. The core declares them, and C and the packages have their numbers."""
 from declared import Type, Variant, declaration, in_turn
 from checks import check_columns, refuse
+from layout import rows_of_parts
 from parts import Part
 from read import rows_of
 
@@ -49,7 +50,10 @@ def numbers(kind, specs):
 def functions(kind, reads):
     """The parts of its functions: the variant of a number, and the other way where the declaration hasn't got it."""
     ahead = f"impl {kind.name} {{"
-    yield Part([f"            {variant.number} => Some({kind.name}::{variant.name})," for variant in kind.variants], (ahead, f"        match {reads} {{"), "            _ => None,")
+    if kind.file.startswith("csicodec_names/"):
+        yield Part(rows_of_parts([f"{variant.number} {variant.name}" for variant in kind.variants], " " * 12), (ahead, f"        numbered! {{ {reads}, {kind.name}:"), "        }")
+    else:
+        yield Part([f"            {variant.number} => Some({kind.name}::{variant.name})," for variant in kind.variants], (ahead, f"        match {reads} {{"), "            _ => None,")
     if not kind.variants[0].shown:
         yield Part([f"            {kind.name}::{variant.name} => {variant.number}," for variant in kind.variants], (ahead, "        match self {"), "        }")
 

@@ -1,50 +1,58 @@
 -- The group of what the rows read, which are lists that are read whole; and by which rules a list is read.
-use Rattle.std.proofs.{Common.◌≡◌, Common.ℕ, Common.List, Common.[], Common.◌∷◌, Common.None, Common.Some, Common.sym, Common.◌∙◌, Common.inl, Common.inr}
-use Rattle.std.proofs.{Common.rules, Common.Option, Common.refl, lemmas.Bool.cases_Bool, lemmas.Bool.and_parts, lemmas.Bool.eqb-true}
-use Rattle.std.proofs.{lemmas.Option.option_and_then_some}
-use Rattle.std.specs.{Prelude.ℤ, Prelude.◌==◌, Prelude.Bool, Prelude.false, Prelude.true, Prelude.slice_get, Prelude.◌||◌, Prelude.if◌then◌else◌}
-use Rattle.std.specs.{Prelude.option_and_then, Option.option_or}
-use Rattle.csicodec_tokens.specs.{Fields.fields_of, declared.param.CsiParam.CsiParam, declared.param.CsiParam.TheVariants.Integer}
-use Rattle.csicodec_tokens.specs.{declared.param.CsiParam.TheVariants.P}
+use Rattle.std.proofs.Common.{◌≡◌, ℕ, List, [], ◌∷◌, None, Some, sym, ◌∙◌, inl, inr, eqb-true, rules, Option, refl, ℤ, ◌==◌, Bool, false, true, slice_get, ◌||◌, if◌then◌else◌, option_and_then}
+use Rattle.std.proofs.{lemmas.Bool.and_parts, lemmas.Option.option_and_then_some}
+use Rattle.std.specs.Option.{option_or}
+use Rattle.csicodec_tokens.specs.{Fields.fields_of, declared.param.CsiParam.TheVariants.Integer}
 use Rattle.csicodec_names.specs.Numbered.{is_number}
 use Rattle.csicodec_actions.specs.FieldRows.{read_fields, over, no_byte, byte, ahead_of_byte, behind_byte, fields_over, given, read_over}
-use Rattle.csicodec_actions.specs.{Actions.Action, Rows.Slot, Rows.Byte, Rows.Number, Rows.One, Rows.fits, Rows.has_shape, Rows.read_by, Rows.Before}
-use Rattle.csicodec_actions.specs.{Table.table, Table.field_table, Table.whole, Table.all_subjects, Table.Cursor.cursor_rows, Table.Cursor.as_cursor}
-use Rattle.csicodec_actions.specs.{Table.Device.device_rows, Table.Device.as_device, Table.Edit.edit_rows, Table.Edit.as_edit, Table.Keyboard.keyboard_rows}
-use Rattle.csicodec_actions.specs.{Table.Keyboard.as_keyboard, Table.Mode.mode_rows, Table.Mode.as_mode, Table.Mouse.mouse_rows, Table.Mouse.as_mouse}
-use Rattle.csicodec_actions.specs.{Table.Path.path_rows, Table.Path.as_path, Table.Window.areas, Table.Window.windows, Table.Window.window_fields}
-use Rattle.csicodec_actions.specs.{Table.Window.as_window, Table.XtSmGraphics.graphics_fields, Table.XtSmGraphics.graphics_rows, Table.XtSmGraphics.as_graphics}
-use Rattle.csicodec_actions.proofs.{AllFieldRows.over-in, AllFieldRows.option_or-assoc, AllRows.AllRows, AllRows.row-in, AllRows.whole-table, Found.guarded}
-use Rattle.csicodec_actions.proofs.{Found.one-of}
-use Rattle.csicodec_parser.specs.Groups.{group_by, group, is_byte, dec_group, plain_group}
+use Rattle.csicodec_actions.specs.{Rows.Slot, Rows.Byte, Rows.Number, Rows.One, Rows.has_shape, Rows.read_by, Rows.Before, Table.table, Table.field_table}
+use Rattle.csicodec_actions.specs.{Table.whole, Table.all_subjects, Table.Cursor.cursor_rows, Table.Cursor.as_cursor, Table.Device.device_rows}
+use Rattle.csicodec_actions.specs.{Table.Device.as_device, Table.Edit.edit_rows, Table.Edit.as_edit, Table.Keyboard.keyboard_rows, Table.Keyboard.as_keyboard}
+use Rattle.csicodec_actions.specs.{Table.Mode.mode_rows, Table.Mode.as_mode, Table.Mouse.mouse_rows, Table.Mouse.as_mouse, Table.Path.path_rows}
+use Rattle.csicodec_actions.specs.{Table.Path.as_path, Table.Window.areas, Table.Window.windows, Table.Window.window_fields, Table.Window.as_window}
+use Rattle.csicodec_actions.specs.{Table.XtSmGraphics.graphics_fields, Table.XtSmGraphics.graphics_rows, Table.XtSmGraphics.as_graphics}
+use Rattle.csicodec_actions.proofs.{AllFieldRows.over-in, AllFieldRows.option_or-assoc, AllRows.AllRows, AllRows.whole-table, Found.guarded, Found.one-of}
+use Rattle.csicodec_parser.specs.{Groups.group_by, Groups.is_byte, Groups.dec_group, Groups.plain_group, declared.group.Group.Group}
 use Rattle.csicodec.specs.WhichRules.{Rules, WhichRules, group_by_rules, last_token, read_by_rules, rules_of}
-use Rattle.csicodec_parser.specs.declared.group.Group.TheVariants as groups
+use Rattle.csicodec.proofs.Common.{cases_Bool, CsiParam, P, Action, row-in, group}
 use Rattle.csicodec.specs.WhichRules as rule
 
--- lists of this shape, before this final, are read whole; a row with a tail has a slot
-abbrev ReadWhole : ℕ → Bool → List Slot → Type 0
-ReadWhole final true [] = ⊥
-ReadWhole final false [] = group_by None final ≡ groups.Whole
-ReadWhole final tail (Byte b ∷ shape) = group_by (Some (P b)) final ≡ groups.Whole
-ReadWhole final tail (Number n ∷ shape) = (z : ℤ) → group_by (Some (Integer z)) final ≡ groups.Whole
-ReadWhole final tail (One k ∷ shape) = (z : ℤ) → group_by (Some (Integer z)) final ≡ groups.Whole
+-- ---- rows over tokens
 
-shape-group : (final : ℕ) (tail : Bool) (shape : List Slot) (list : List CsiParam) → ReadWhole final tail shape → has_shape tail shape list ≡ true → group list final ≡ groups.Whole
-shape-group final true [] list w e = absurd w
-shape-group final false [] [] w e = w
-shape-group final false [] (t ∷ ts) w e = cc
-shape-group final tail (s ∷ shape) [] w e = cc
-shape-group final tail (s ∷ shape) (t ∷ ts) w e = slot-group final s t ts w (and_parts (has_shape tail shape ts) (fits s t) e).1
-  where
-    slot-group : (final : ℕ) (s : Slot) (t : CsiParam) (ts : List CsiParam) → ReadWhole final tail (s ∷ shape) → fits s t ≡ true → group (t ∷ ts) final ≡ groups.Whole
-    slot-group final (Byte b) (Integer z) ts w e = cc
-    slot-group final (Byte b) (P c) ts w e = let same : c ≡ b = eqb-true c b e in rw same w
-    slot-group final (Number n) (Integer z) ts w e = w z
-    slot-group final (Number n) (P c) ts w e = cc
-    slot-group final (One k) (Integer z) ts w e = w z
-    slot-group final (One k) (P c) ts w e = cc
+-- this holds of every list of the shape
+abbrev OfShape : Bool → List Slot → (List CsiParam → Type 0) → Type 0
+OfShape true [] K = (rest : List CsiParam) → K rest
+OfShape false [] K = K []
+OfShape tail (Byte b ∷ shape) K = OfShape tail shape (λ ts. K (P b ∷ ts))
+OfShape tail (Number n ∷ shape) K = (z : ℤ) → OfShape tail shape (λ ts. K (Integer z ∷ ts))
+OfShape tail (One k ∷ shape) K = (z : ℤ) → OfShape tail shape (λ ts. K (Integer z ∷ ts))
 
-rows-whole : AllRows (λ final row. ReadWhole final row.tail row.shape) table
+of-shape : (tail : Bool) (shape : List Slot) (K : List CsiParam → Type 0) (list : List CsiParam) → OfShape tail shape K → has_shape tail shape list ≡ true → K list
+of-shape true [] K list all e = all list
+of-shape false [] K [] all e = all
+of-shape false [] K (t ∷ ts) all e = cc
+of-shape tail (s ∷ shape) K [] all e = cc
+of-shape tail (Byte b ∷ shape) K (P c ∷ ts) all e =
+    let both = and_parts (has_shape tail shape ts) (c == b) e in
+    let same : c ≡ b = eqb-true c b both.1 in
+    rw same (of-shape tail shape (λ ts. K (P b ∷ ts)) ts all both.0)
+of-shape tail (Number n ∷ shape) K (Integer z ∷ ts) all e =
+    let both = and_parts (has_shape tail shape ts) (is_number n z) e in of-shape tail shape (λ ts. K (Integer z ∷ ts)) ts (all z) both.0
+of-shape tail (One k ∷ shape) K (Integer z ∷ ts) all e =
+    let both = and_parts (has_shape tail shape ts) true e in of-shape tail shape (λ ts. K (Integer z ∷ ts)) ts (all z) both.0
+of-shape tail (_ ∷ shape) K (_ ∷ ts) all e = let no : false ≡ true = (and_parts (has_shape tail shape ts) false e).1 in absurd cc
+
+-- so it holds of a list that one of the rows reads, if it does of every list of each row's shape
+shaped : (K : ℕ → List CsiParam → Type 0) (rows : List (Before Action)) (list : List CsiParam) (final : ℕ)
+    → AllRows (λ final row. OfShape row.tail row.shape (K final)) rows → (a : Action) → read_by rows list final ≡ Some a → K final list
+shaped K rows list final all a e =
+    let r = row-in (λ final row. OfShape row.tail row.shape (K final)) rows list final a all e in
+    of-shape r.row.tail r.row.shape (K final) list r.holds (guarded (has_shape r.row.tail r.row.shape list) _ a r.gave).0
+
+abbrev IsWhole : ℕ → List CsiParam → Type 0
+IsWhole final list = group list final ≡ Group.Whole
+
+rows-whole : AllRows (λ final row. OfShape row.tail row.shape (IsWhole final)) table
 rows-whole = search rules depth 60
 
 -- ---- over fields
@@ -52,13 +60,13 @@ rows-whole = search rules depth 60
 -- whatever stands first, lists before this final are read whole
 pub record IsWholeFinal (final : ℕ) : Type 0 where
   pub other : (final == 109) ≡ false
-  pub dec : dec_group final ≡ groups.Whole
-  pub plain : plain_group final ≡ groups.Whole
+  pub dec : dec_group final ≡ Group.Whole
+  pub plain : plain_group final ≡ Group.Whole
 
-pub any-whole : (final : ℕ) (first : Option CsiParam) → IsWholeFinal final → group_by first final ≡ groups.Whole
+pub any-whole : (final : ℕ) (first : Option CsiParam) → IsWholeFinal final → group_by first final ≡ Group.Whole
 any-whole final first is = elim (cases_Bool (is_byte 63 first)) [ inl here ↦ rw (is.other, here) is.dec | inr none ↦ rw (is.other, none) is.plain ]
 
-fields-whole : (list : List CsiParam) (final : ℕ) (a : Action) → read_fields field_table list final ≡ Some a → group list final ≡ groups.Whole
+fields-whole : (list : List CsiParam) (final : ℕ) (a : Action) → read_fields field_table list final ≡ Some a → group list final ≡ Group.Whole
 fields-whole list final a e = let o =
     over-in (λ o row. IsWholeFinal o.final) field_table list final a (search rules depth 60) e in rw
     o.here (any-whole o.entry.final (slice_get list 0) (o.found.holds))
@@ -66,11 +74,9 @@ fields-whole list final a e = let o =
 -- ---- all rows
 
 -- what a row reads is no list of pieces
-pub whole-group : (list : List CsiParam) (final : ℕ) (a : Action) → whole list final ≡ Some a → group list final ≡ groups.Whole
+pub whole-group : (list : List CsiParam) (final : ℕ) (a : Action) → whole list final ≡ Some a → group list final ≡ Group.Whole
 whole-group list final a e = elim (one-of (read_by table list final) (read_fields field_table list final) a (sym (whole-table list final) ∙ e)) [
-  | inl row ↦
-      let r = row-in (λ final row. ReadWhole final row.tail row.shape) table list final a rows-whole row in
-      shape-group final r.row.tail r.row.shape list r.holds (guarded (has_shape r.row.tail r.row.shape list) _ a r.gave).0
+  | inl row ↦ shaped IsWhole table list final rows-whole a row
   | inr fields ↦ fields-whole list final a fields
 ]
 
@@ -78,7 +84,7 @@ whole-group list final a e = elim (one-of (read_by table list final) (read_field
 
 -- ---- the group
 
-at-m : (less greater : Bool) → (if greater || less then groups.Whole else groups.Styles) ≡ group_by_rules (if less then rule.MouseReport else if greater then rule.KeyModes else rule.Plain) 109
+at-m : (less greater : Bool) → (if greater || less then Group.Whole else Group.Styles) ≡ group_by_rules (if less then rule.MouseReport else if greater then rule.KeyModes else rule.Plain) 109
 at-m true true = refl
 at-m true false = refl
 at-m false true = refl
@@ -89,7 +95,7 @@ at-mode : (mark : Bool) (final : ℕ) → (final == 109) ≡ false →
 at-mode true final other = refl
 at-mode false final other = rw other refl
 
-all-whole : (r : Rules) (final : ℕ) → IsWholeFinal final → group_by_rules r final ≡ groups.Whole
+all-whole : (r : Rules) (final : ℕ) → IsWholeFinal final → group_by_rules r final ≡ Group.Whole
 all-whole rule.PrivateModes final is = is.dec
 all-whole rule.Plain final is = rw is.other is.plain
 all-whole _ final is = refl
@@ -142,42 +148,9 @@ owns rule.Plain Device = true
 owns rule.Plain Window = true
 owns _ _ = false
 
--- ---- rows over tokens
-
--- this holds of every list of the shape
-abbrev OfShape : Bool → List Slot → (List CsiParam → Type 0) → Type 0
-OfShape true [] K = (rest : List CsiParam) → K rest
-OfShape false [] K = K []
-OfShape tail (Byte b ∷ shape) K = OfShape tail shape (λ ts. K (P b ∷ ts))
-OfShape tail (Number n ∷ shape) K = (z : ℤ) → OfShape tail shape (λ ts. K (Integer z ∷ ts))
-OfShape tail (One k ∷ shape) K = (z : ℤ) → OfShape tail shape (λ ts. K (Integer z ∷ ts))
-
-of-shape : (tail : Bool) (shape : List Slot) (K : List CsiParam → Type 0) (list : List CsiParam) → OfShape tail shape K → has_shape tail shape list ≡ true → K list
-of-shape true [] K list all e = all list
-of-shape false [] K [] all e = all
-of-shape false [] K (t ∷ ts) all e = cc
-of-shape tail (s ∷ shape) K [] all e = cc
-of-shape tail (Byte b ∷ shape) K (Integer z ∷ ts) all e = let no : false ≡ true = (and_parts (has_shape tail shape ts) false e).1 in absurd cc
-of-shape tail (Byte b ∷ shape) K (P c ∷ ts) all e =
-    let both = and_parts (has_shape tail shape ts) (c == b) e in
-    let same : c ≡ b = eqb-true c b both.1 in
-    rw same (of-shape tail shape (λ ts. K (P b ∷ ts)) ts all both.0)
-of-shape tail (Number n ∷ shape) K (Integer z ∷ ts) all e =
-    let both = and_parts (has_shape tail shape ts) (is_number n z) e in of-shape tail shape (λ ts. K (Integer z ∷ ts)) ts (all z) both.0
-of-shape tail (Number n ∷ shape) K (P c ∷ ts) all e = let no : false ≡ true = (and_parts (has_shape tail shape ts) false e).1 in absurd cc
-of-shape tail (One k ∷ shape) K (Integer z ∷ ts) all e =
-    let both = and_parts (has_shape tail shape ts) true e in of-shape tail shape (λ ts. K (Integer z ∷ ts)) ts (all z) both.0
-of-shape tail (One k ∷ shape) K (P c ∷ ts) all e = let no : false ≡ true = (and_parts (has_shape tail shape ts) false e).1 in absurd cc
-
--- the rules of a list that one of the rows reads are of this subject
-abbrev AllChoose : Subject → List (Before Action) → Type 0
-AllChoose subject rows = AllRows (λ final row. OfShape row.tail row.shape (λ list. owns (rules_of list final) subject ≡ true)) rows
-
-chosen : (subject : Subject) (rows : List (Before Action)) (list : List CsiParam) (final : ℕ) →
-    AllChoose subject rows → (a : Action) → read_by rows list final ≡ Some a → owns (rules_of list final) subject ≡ true
-chosen subject rows list final all a e =
-    let r = row-in (λ final row. OfShape row.tail row.shape (λ list. owns (rules_of list final) subject ≡ true)) rows list final a all e in
-    of-shape r.row.tail r.row.shape (λ list. owns (rules_of list final) subject ≡ true) list r.holds (guarded (has_shape r.row.tail r.row.shape list) _ a r.gave).0
+-- the rules of a list are of this subject
+abbrev Owned : Subject → ℕ → List CsiParam → Type 0
+Owned subject final list = owns (rules_of list final) subject ≡ true
 
 -- ---- rows over fields
 
@@ -263,10 +236,10 @@ agree r list final c e m o k p d w g =
 rows-agree : (list : List CsiParam) (final : ℕ) → whole list final ≡ read_by_rules (rules_of list final) list final
 unfolding all_subjects
 rows-agree list final = agree (rules_of list final) list final
-    (chosen Cursor cursor_rows list final (search rules depth 60)) (chosen Edit edit_rows list final (search rules depth 60))
-    (chosen Mode mode_rows list final (search rules depth 60)) (chosen Mouse mouse_rows list final (search rules depth 60))
-    (chosen Keyboard keyboard_rows list final (search rules depth 60)) (chosen Path path_rows list final (search rules depth 60))
-    (chosen Device device_rows list final (search rules depth 60)) (window-chosen list final) (graphics-chosen list final)
+    (shaped (Owned Cursor) cursor_rows list final (search rules depth 60)) (shaped (Owned Edit) edit_rows list final (search rules depth 60))
+    (shaped (Owned Mode) mode_rows list final (search rules depth 60)) (shaped (Owned Mouse) mouse_rows list final (search rules depth 60))
+    (shaped (Owned Keyboard) keyboard_rows list final (search rules depth 60)) (shaped (Owned Path) path_rows list final (search rules depth 60))
+    (shaped (Owned Device) device_rows list final (search rules depth 60)) (window-chosen list final) (graphics-chosen list final)
 
 pub which_rules_lem : (list : List CsiParam) (final : ℕ) → WhichRules list final
 which_rules_lem list final = record { same_group = groups-agree list final; same_action = rows-agree list final }

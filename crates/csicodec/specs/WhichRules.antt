@@ -8,7 +8,6 @@ use Rattle.csicodec_parser.specs.{declared.group.Group.Group, Groups.dec_group, 
 use Rattle.csicodec_actions.specs.{Actions.Action, Rows.Row, Rows.has_shape, Rows.mark, Table.whole, Table.Cursor.as_cursor, Table.Device.as_device}
 use Rattle.csicodec_actions.specs.{Table.Edit.as_edit, Table.Keyboard.as_keyboard, Table.Keyboard.keyboards, Table.Mode.as_mode, Table.Mode.queries}
 use Rattle.csicodec_actions.specs.{Table.Mouse.as_mouse, Table.Path.as_path, Table.Window.as_window, Table.XtSmGraphics.as_graphics}
-use Rattle.csicodec_parser.specs.declared.group.Group.TheVariants as groups
 
 pub data Rules : Type 0 where
   CharacterPath : Rules
@@ -70,8 +69,8 @@ rules_of list final =
 -- the group of a list with these rules
 abbrev pub group_by_rules : Rules → ℕ → Group
 group_by_rules PrivateModes final = dec_group final
-group_by_rules Plain final = if is_final "m" final then groups.Styles else plain_group final
-group_by_rules other final = groups.Whole
+group_by_rules Plain final = if is_final "m" final then Group.Styles else plain_group final
+group_by_rules other final = Group.Whole
 
 -- What they read of a list: the rows of one subject do. Plain rows are those of four subjects.
 abbrev pub read_by_rules : Rules → List CsiParam → ℕ → Option Action

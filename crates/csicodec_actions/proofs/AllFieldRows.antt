@@ -1,11 +1,7 @@
 -- What holds of all that the rows over fields give: said for each row, and proved of any list.
-use Rattle.std.proofs.{Common.◌≡◌, Common.ℕ, Common.List, Common.[], Common.◌∷◌, Common.◌++◌, Common.Option, Common.None, Common.Some, Common.refl, Common.sym}
-use Rattle.std.proofs.{Common.ap, Common.◌∙◌, Common.subst, lemmas.Bool.eqb-true, lemmas.Option.same_Some, lemmas.Option.option_and_then_some}
-use Rattle.std.specs.{Prelude.ℤ, Prelude.◌==◌, Prelude.if◌then◌else◌, Prelude.option_and_then, List.AllByRecursion, Option.option_or}
-use Rattle.csicodec_tokens.specs.{declared.param.CsiParam.CsiParam, declared.param.CsiParam.TheVariants.Integer, declared.param.CsiParam.TheVariants.P}
-use Rattle.csicodec_tokens.specs.{Fields.fields_of, Fields.with_field}
-use Rattle.csicodec_actions.specs.FieldRows.{Slot, This, Empty, End, Maybe, There, Must, Or, Rest, Makes, first, behind, numbers, value_or, have_shape, made, FieldRow, gives, given, Over, ahead_of_byte, behind_byte, fields_over, read_over, read_fields}
-use Rattle.csicodec_actions.specs.{Actions.Action, Kinds.Kind, Kinds.Any, Kinds.Value, Kinds.read, Rows.first_of}
+use Rattle.csicodec_tokens.specs.Fields.{with_field}
+use Rattle.csicodec_actions.specs.FieldRows.{Slot, Maybe, There, Must, Or, Rest, Makes, first, behind, value_or, have_shape, made, gives, given, Over, ahead_of_byte, behind_byte, fields_over, read_over}
+use Rattle.csicodec_actions.proofs.Common.{fields_of, CsiParam, Integer, P, numbers, FieldRow, read_fields, Action, Kind, Any, Value, read, first_of, ◌≡◌, ℕ, List, [], ◌∷◌, ◌++◌, Option, None, Some, refl, sym, ap, ◌∙◌, subst, eqb-true, same_Some, option_and_then_some, ℤ, ◌==◌, if◌then◌else◌, option_and_then, AllByRecursion, option_or}
 use Rattle.csicodec_actions.proofs.{Found.guarded, Found.map-some, Values.read_any}
 
 -- ---- several tables as one
@@ -49,12 +45,6 @@ pub record OverOf (Q : Over Action → FieldRow Action → Type 0) (list : List 
   pub are : fields_over entry list ≡ Some fields
   pub found : RowOf (Q entry) (λ (r : FieldRow Action). gives r fields) a
 
-over-row : (Q : Over Action → FieldRow Action → Type 0) (o : Over Action) (list : List CsiParam) (final : ℕ) (a : Action) → AllByRecursion (Q o) o.rows → final ≡ o.final → read_over o list ≡ Some a
-    → OverOf Q list final a
-over-row Q o list final a all here e =
-    option_and_then_some (given o.rows) (fields_over o list) a e
-    (λ fs are is. record { entry = o; here = here; fields = fs; are = are; found = row-of (Q o) _ o.rows a all is })
-
 pub over-in : (Q : Over Action → FieldRow Action → Type 0) (entries : List (Over Action))
     (list : List CsiParam) (final : ℕ) (a : Action) → AllFieldRows Q entries →
     read_fields entries list final ≡ Some a
@@ -62,7 +52,8 @@ pub over-in : (Q : Over Action → FieldRow Action → Type 0) (entries : List (
 over-in Q entries list final a all e =
     let o = row-of (λ (o : Over Action). AllByRecursion (Q o) o.rows) (λ o. if final == o.final then read_over o list else None) entries a all e in
     let g = guarded (final == o.row.final) _ a o.gave in
-    over-row Q o.row list final a o.holds (eqb-true final o.row.final g.0) g.1
+    option_and_then_some (given o.row.rows) (fields_over o.row list) a g.1
+    (λ fs are is. record { entry = o.row; here = eqb-true final o.row.final g.0; fields = fs; are = are; found = row-of (Q o.row) _ o.row.rows a o.holds is })
 
 -- ---- what the rows make
 
@@ -73,14 +64,12 @@ pub record KeepsRest (G : (k : Kind) → Value k → Type 0) (Kept : List ℤ �
 -- Each action that the row makes has the property Q, where each value has the property G.
 abbrev pub FieldsKeep : ((k : Kind) → Value k → Type 0) → (Action → Type 0) → (slots : List Slot) → Makes Action slots → Type 0
 FieldsKeep G Q [] made = Q made
-FieldsKeep G Q (This n ∷ row) make = FieldsKeep G Q row make
-FieldsKeep G Q (Empty ∷ row) make = FieldsKeep G Q row make
-FieldsKeep G Q (End ∷ row) make = FieldsKeep G Q row make
 FieldsKeep G Q (Maybe ∷ row) make = FieldsKeep G Q row (make None) × ((z : ℤ) → G Any z → FieldsKeep G Q row (make (Some z)))
 FieldsKeep G Q (There ∷ row) make = FieldsKeep G Q row (make None) × ((z : ℤ) → G Any z → FieldsKeep G Q row (make (Some z)))
 FieldsKeep G Q (Must k ∷ row) make = (v : Value k) → G k v → FieldsKeep G Q row (make v)
 FieldsKeep G Q (Or k missing ∷ row) make = G k missing × ((v : Value k) → G k v → FieldsKeep G Q row (make v))
 FieldsKeep G Q (Rest ∷ row) make = KeepsRest G (λ all. FieldsKeep G Q row (make all))
+FieldsKeep G Q (s ∷ row) make = FieldsKeep G Q row make
 
 abbrev pub FieldRowsKeep : ((k : Kind) → Value k → Type 0) → (Action → Type 0) → List (Over Action) → Type 0
 FieldRowsKeep G Q entries = AllFieldRows (λ o row. FieldsKeep G Q row.slots row.make) entries
@@ -125,9 +114,6 @@ numbers-count T G counts (Some z ∷ fs) has = (counts Any z z has.0 (read_any z
 made-keeps : (T : CsiParam → Type 0) (G : (k : Kind) → Value k → Type 0) (Q : Action → Type 0) → NumbersCount T G → (slots : List Slot) (make : Makes Action slots) (fs : List (Option ℤ)) (a : Action)
     → FieldsKeep G Q slots make → AllByRecursion (Has T) fs → made slots make fs ≡ Some a → Q a
 made-keeps T G Q counts [] made fs a keeps all e = rw (← same_Some _ _ e) keeps
-made-keeps T G Q counts (This n ∷ row) make fs a keeps all e = made-keeps T G Q counts row make (behind fs) a keeps (behind-has T fs all) e
-made-keeps T G Q counts (Empty ∷ row) make fs a keeps all e = made-keeps T G Q counts row make (behind fs) a keeps (behind-has T fs all) e
-made-keeps T G Q counts (End ∷ row) make fs a keeps all e = made-keeps T G Q counts row make (behind fs) a keeps (behind-has T fs all) e
 made-keeps T G Q counts (Maybe ∷ row) make fs a keeps all e =
     made-keeps T G Q counts row (make (first fs)) (behind fs) a (maybe-keep T G Q counts row make (first fs) keeps (first-has T fs all)) (behind-has T fs all) e
 made-keeps T G Q counts (There ∷ row) make fs a keeps all e =
@@ -140,6 +126,7 @@ made-keeps T G Q counts (Or k missing ∷ row) make fs a keeps all e =
     (λ v found is. made-keeps T G Q counts row (make v) (behind fs) a (keeps.1 v (value-counts T G counts k missing v (first fs) keeps.0 (first-has T fs all) found)) (behind-has T fs all) is)
 made-keeps T G Q counts (Rest ∷ row) make fs a keeps all e =
     made-keeps T G Q counts row (make (numbers fs)) (behind fs) a (keeps.each (numbers fs) (numbers-count T G counts fs all)) (behind-has T fs all) e
+made-keeps T G Q counts (s ∷ row) make fs a keeps all e = made-keeps T G Q counts row make (behind fs) a keeps (behind-has T fs all) e
 
 -- ---- the tokens of the fields
 

@@ -1,34 +1,20 @@
--- What holds of all that the rows of whole lists give: said for each row, and proved of any list.
-use Rattle.std.proofs.{Common.◌≡◌, Common.ℕ, Common.List, Common.[], Common.◌∷◌, Common.◌++◌, Common.Some, Common.refl, Common.sym, Common.ap, Common.◌∙◌}
-use Rattle.std.proofs.{Common.inl, Common.inr, Common.append_assoc, lemmas.Bool.cases_Bool, lemmas.Bool.eqb-true, lemmas.Option.same_Some}
-use Rattle.std.proofs.{lemmas.Option.option_and_then_some}
-use Rattle.std.specs.{Prelude.◌==◌, Prelude.Bool, Prelude.true, Prelude.false, Prelude.if◌then◌else◌, List.AllByRecursion, Option.option_or}
-use Rattle.csicodec_tokens.specs.{declared.param.CsiParam.CsiParam, declared.param.CsiParam.TheVariants.Integer, declared.param.CsiParam.TheVariants.P}
-use Rattle.csicodec_tokens.specs.{Sequence.IsSpellable, Sequence.Spellable}
-use Rattle.csicodec_actions.specs.Rows.{Slot, Byte, Number, One, Makes, AtEnd, ended, has_shape, made, gives, Row, given, Before, rows_before, read_by}
-use Rattle.csicodec_actions.specs.{Actions.Action, FieldRows.read_fields, Kinds.Kind, Kinds.Value, Kinds.read, Table.XtSmGraphics.graphics_fields}
-use Rattle.csicodec_actions.specs.{Table.Window.window_fields, Table.all_subjects, Table.table, Table.field_table, Table.whole}
+-- What holds of all that the rows of whole lists give: said for each row, and proved of any list; and no two of them read one list.
+use Rattle.std.proofs.{lemmas.Grind.flat_map-append, lemmas.Bool.cases_Bool, lemmas.Bool.and_parts}
+use Rattle.csicodec_actions.specs.{Rows.Makes, Rows.AtEnd, Rows.ended, Rows.has_shape, Rows.Before, Rows.Byte, Rows.fits, Table.all_subjects, Table.whole}
+use Rattle.csicodec_actions.specs.{Table.unboxed, Table.boxed, Table.RowsDecide, Actions.TakesMemory, Table.Device.device_rows, Table.Device.as_device}
+use Rattle.csicodec_actions.specs.{Table.XtSmGraphics.graphics_fields, Table.XtSmGraphics.as_graphics, Table.Window.window_fields, Table.Window.as_window}
 use Rattle.csicodec_actions.proofs.AllFieldRows.{FieldRowsKeep, NumbersCount, RowOf, fields-append, fields-keep, first-append, option_or-assoc, row-of}
+use Rattle.csicodec_actions.proofs.Common.{◌≡◌, ℕ, List, [], ◌∷◌, ◌++◌, Some, refl, sym, ap, ◌∙◌, inl, inr, None, rules, zero, suc, ◌⊎◌, Option, arith, eqb-true, same_Some, option_and_then_some, slice_get_read, made, Slot, One, gives, Row, given, rows_before, read_by, first_of, Number, table, field_table, Action, read_fields, Kind, Value, read, ◌==◌, Bool, true, false, ◌&&◌, ◌||◌, not, slice_get, AllByRecursion, option_or, CsiParam, Integer, P, IsSpellable, Spellable, is_number-pos}
 use Rattle.csicodec_actions.proofs.Found.{guarded, one-of}
 
 -- ---- several tables as one
 
-before-append : {R : Type 0} (xs ys : List (Before R)) (final : ℕ) → rows_before (xs ++ ys) final ≡ rows_before xs final ++ rows_before ys final
-before-append [] ys final = refl
-before-append (b ∷ others) ys final =
-    ap (λ rows. (if final == b.final then b.rows else []) ++ rows) (before-append others ys final)
-    ∙ sym (append_assoc (if final == b.final then b.rows else []) (rows_before others final)
-    (rows_before ys final))
-
 read-append : {R : Type 0} (xs ys : List (Before R)) (list : List CsiParam) (final : ℕ) → read_by (xs ++ ys) list final ≡ option_or (read_by xs list final) (read_by ys list final)
-read-append {R} xs ys list final = ap (λ rows. given rows list) (before-append xs ys final) ∙ first-append (λ (r : Row R). gives r list) (rows_before xs final) (rows_before ys final)
-
-whole-parts : (list : List CsiParam) (final : ℕ) → whole list final ≡ option_or (read_by table list final) (option_or (read_fields window_fields list final) (read_fields graphics_fields list final))
-unfolding all_subjects
-whole-parts list final = simp (option_or-assoc, read-append) refl
+read-append {R} xs ys list final = ap (λ rows. given rows list) (flat_map-append _ xs ys) ∙ first-append (λ (r : Row R). gives r list) (rows_before xs final) (rows_before ys final)
 
 pub whole-table : (list : List CsiParam) (final : ℕ) → whole list final ≡ option_or (read_by table list final) (read_fields field_table list final)
-whole-table list final = whole-parts list final ∙ ap (option_or (read_by table list final)) (sym (fields-append window_fields graphics_fields list final))
+unfolding all_subjects
+whole-table list final = simp (option_or-assoc, read-append, fields-append) refl
 
 -- ---- the row that gave an action
 
@@ -67,9 +53,8 @@ KeepsEnd T Q false whole = Q whole
 -- Each action that the row makes has the property Q, where each value has the property G, and each token of a tail the property T.
 abbrev pub Keeps : (CsiParam → Type 0) → ((k : Kind) → Value k → Type 0) → (Action → Type 0) → (tail : Bool) (shape : List Slot) → Makes (AtEnd tail Action) shape → Type 0
 Keeps T G Q tail [] end = KeepsEnd T Q tail end
-Keeps T G Q tail (Byte b ∷ shape) make = Keeps T G Q tail shape make
-Keeps T G Q tail (Number n ∷ shape) make = Keeps T G Q tail shape make
 Keeps T G Q tail (One k ∷ shape) make = (v : Value k) → G k v → Keeps T G Q tail shape (make v)
+Keeps T G Q tail (s ∷ shape) make = Keeps T G Q tail shape make
 
 end-keeps : (T : CsiParam → Type 0) (Q : Action → Type 0) (tail : Bool) (end : AtEnd tail Action) (list : List CsiParam) (a : Action) → KeepsEnd T Q tail end → AllByRecursion T list
     → ended tail end list ≡ a → Q a
@@ -79,12 +64,11 @@ end-keeps T Q false whole list a keeps all e = rw (← e) keeps
 made-keeps : (T : CsiParam → Type 0) (G : (k : Kind) → Value k → Type 0) (Q : Action → Type 0) → NumbersCount T G → (tail : Bool) (shape : List Slot) (make : Makes (AtEnd tail Action) shape)
     (list : List CsiParam) (a : Action) → Keeps T G Q tail shape make → AllByRecursion T list → made tail shape make list ≡ Some a → Q a
 made-keeps T G Q reads tail [] end list a keeps all e = end-keeps T Q tail end list a keeps all (same_Some _ _ e)
-made-keeps T G Q reads tail (Byte b ∷ shape) make (t ∷ ts) a keeps all e = made-keeps T G Q reads tail shape make ts a keeps all.1 e
-made-keeps T G Q reads tail (Number n ∷ shape) make (t ∷ ts) a keeps all e = made-keeps T G Q reads tail shape make ts a keeps all.1 e
 made-keeps T G Q reads tail (One k ∷ shape) make (Integer z ∷ ts) a keeps all e =
     option_and_then_some (λ v. made tail shape (make v) ts) (read k z) a e
     (λ v found is. made-keeps T G Q reads tail shape (make v) ts a (keeps v (reads k z v all.0 found)) all.1 is)
 made-keeps T G Q reads tail (One k ∷ shape) make (P c ∷ ts) a keeps all e = cc
+made-keeps T G Q reads tail (s ∷ shape) make (t ∷ ts) a keeps all e = made-keeps T G Q reads tail shape make ts a keeps all.1 e
 made-keeps T G Q reads tail _ make _ a keeps all e = cc
 
 abbrev pub TableKeeps : (CsiParam → Type 0) → ((k : Kind) → Value k → Type 0) → (Action → Type 0) → List (Before Action) → Type 0
@@ -115,3 +99,132 @@ no-tokens (t ∷ ts) = (tt, no-tokens ts)
 pub spellable-tokens : (list : List CsiParam) → Spellable list → AllByRecursion IsSpellable list
 spellable-tokens [] ok = tt
 spellable-tokens (t ∷ ts) ok = (ok.0, spellable-tokens ts ok.2)
+
+-- ---- Actions of lists that are read whole, made with memory and without.
+
+pub unboxed_whole : (list : List CsiParam) (final : ℕ) (a : Action) → unboxed list final ≡ Some a → whole list final ≡ Some a
+unfolding whole
+unboxed_whole list final a e = rw e refl
+
+pub boxed_whole : (list : List CsiParam) (final : ℕ) → unboxed list final ≡ None → boxed list final ≡ whole list final
+unfolding whole
+boxed_whole list final e = rw e refl
+
+pub boxed-takes : (list : List CsiParam) (final : ℕ) (a : Action) → boxed list final ≡ Some a → TakesMemory a
+unfolding boxed as_device as_window as_graphics
+boxed-takes list final a e = elim (one-of (read_by device_rows list final) (read_fields field_table list final) a
+    (ap (option_or (read_by device_rows list final)) (fields-append window_fields graphics_fields list final) ∙ e)) [
+      | inl row ↦ table-keeps (λ t. Unit {0}) (λ k v. Unit {0}) TakesMemory (λ k z v h f. tt) device_rows (search rules depth 60) list final a (no-tokens list) row
+      | inr fields ↦ fields-keep (λ t. Unit {0}) (λ k v. Unit {0}) TakesMemory (λ k z v h f. tt) field_table (search rules depth 60) list final a (no-tokens list) fields
+    ]
+
+-- ---- No two rows of a final read one list: a test that is computed over all pairs.
+
+-- ---- the first of several that gives something
+
+abbrev pub apart_from : {A : Type 0} → (A → A → Bool) → A → List A → Bool
+apart_from apart x [] = true
+apart_from apart x (y ∷ ys) = apart x y && apart_from apart x ys
+
+abbrev pub all_apart : {A : Type 0} → (A → A → Bool) → List A → Bool
+all_apart apart [] = true
+all_apart apart (x ∷ xs) = apart_from apart x xs && all_apart apart xs
+
+-- what gives something is fit to, and of two that are apart one isn't
+pub record AreApart {A R : Type 0} (apart : A → A → Bool) (fit : A → Bool) (give : A → Option R) : Type 0 where
+  pub gave : (x : A) (r : R) → give x ≡ Some r → fit x ≡ true
+  pub one : (x y : A) → apart x y ≡ true → fit x ≡ true → fit y ≡ true → ⊥
+
+apart-one : {A R : Type 0} (apart : A → A → Bool) (fit : A → Bool) (give : A → Option R) → AreApart apart fit give → (x : A) (xs : List A) (i : ℕ) (y : A) → apart_from apart x xs ≡ true
+    → slice_get xs i ≡ Some y → fit x ≡ true → fit y ≡ true → ⊥
+apart-one apart fit give are x (z ∷ zs) zero y d at f g = grind (arith, are.one x y)
+apart-one apart fit give are x (z ∷ zs) (suc i) y d at f g = apart-one apart fit give are x zs i y (and_parts (apart x z) (apart_from apart x zs) d).1 at f g
+apart-one apart fit give are x _ _ y d at f g = cc
+
+-- what gives something is picked, wherever it stands
+pub picked : {A R : Type 0} (apart : A → A → Bool) (fit : A → Bool) (give : A → Option R) →
+    AreApart apart fit give → (xs : List A) (i : ℕ) (x : A) (r : R) → all_apart apart xs ≡ true →
+    slice_get xs i ≡ Some x
+    → give x ≡ Some r → first_of give xs ≡ Some r
+picked apart fit give are (y ∷ ys) zero x r d at e = grind arith
+picked apart fit give are (y ∷ ys) (suc i) x r d at e =
+    grind (arith, picked apart fit give are ys i x r, apart-one apart fit give are y ys i x, are.gave y, are.gave x r)
+picked apart fit give are _ _ x r d at e = cc
+
+-- ---- the rows of tokens
+
+-- no token fits both slots
+abbrev differ : Slot → Slot → Bool
+differ (Byte b) (Byte c) = not (b == c)
+differ (Byte b) (Number n) = true
+differ (Number n) (Number m) = not (n == m)
+differ (Number n) (One k) = false
+differ (One k) (Number n) = false
+differ (One k) (One j) = false
+differ _ _ = true
+
+-- no list has both shapes, each with a tail or without
+abbrev shapes_apart : Bool → List Slot → Bool → List Slot → Bool
+shapes_apart tail [] other [] = false
+shapes_apart tail [] other (t ∷ ts) = not tail
+shapes_apart tail (s ∷ ss) other [] = not other
+shapes_apart tail (s ∷ ss) other (t ∷ ts) = differ s t || shapes_apart tail ss other ts
+
+abbrev pub are_apart : Row Action → Row Action → Bool
+are_apart q r = shapes_apart q.tail q.shape r.tail r.shape
+
+-- of each final of these
+abbrev finals_apart : List (Before Action) → List (Before Action) → Bool
+finals_apart all [] = true
+finals_apart all (b ∷ others) = all_apart are_apart (rows_before all b.final) && finals_apart all others
+
+-- ---- what the test says
+
+differ-slots : (s t : Slot) (x : CsiParam) → differ s t ≡ true → fits s x ≡ true → fits t x ≡ true → ⊥
+differ-slots (Byte b) t (Integer z) d e f = cc
+differ-slots (Number n) t (P c) d e f = cc
+differ-slots (One k) t (P c) d e f = cc
+differ-slots (One k) (Byte b) (Integer z) d e f = cc
+differ-slots (Byte b) (Byte a) (P c) d e f = grind arith
+differ-slots (Number n) (Number m) (Integer z) d e f = grind (arith, is_number-pos n z, is_number-pos m z)
+differ-slots _ _ _ d e f = cc
+
+apart-shapes : (tail : Bool) (s : List Slot) (other : Bool) (t : List Slot) (list : List CsiParam) →
+    shapes_apart tail s other t ≡ true → has_shape tail s list ≡ true → has_shape other t list ≡ true → ⊥
+apart-shapes tail [] other [] list d e f = cc
+apart-shapes tail (s ∷ ss) other (t ∷ ts) (x ∷ xs) d e f =
+    grind (arith, differ-slots s t x, apart-shapes tail ss other ts xs)
+apart-shapes false [] other (t ∷ ts) (x ∷ xs) d e f = cc
+apart-shapes tail (s ∷ ss) false [] (x ∷ xs) d e f = cc
+apart-shapes _ _ _ _ _ d e f = cc
+
+-- the list has the shape of the row
+abbrev pub has : Row Action → List CsiParam → Bool
+has r list = has_shape r.tail r.shape list
+
+rows-are-apart : (list : List CsiParam) → AreApart are_apart (λ (r : Row Action). has r list) (λ (r : Row Action). gives r list)
+rows-are-apart list = record { gave = λ r a e. (guarded (has r list) _ a e).0; one = λ q r d e f. apart-shapes q.tail q.shape r.tail r.shape list d e f }
+
+rows-apart : (all others : List (Before Action)) (final : ℕ) → finals_apart all others ≡ true → (rows_before others final ≡ []) ⊎ (all_apart are_apart (rows_before all final) ≡ true)
+rows-apart all [] final d = inl refl
+rows-apart all (b ∷ others) final d =
+    let p = and_parts (all_apart are_apart (rows_before all b.final)) (finals_apart all others) d in
+    elim (cases_Bool (final == b.final)) [ inl here ↦ inr (rw (eqb-true final b.final here) p.0) | inr later ↦ rw later (rows-apart all others final p.1) ]
+
+table-apart : (final : ℕ) → all_apart are_apart (rows_before table final) ≡ true
+table-apart final = elim (rows-apart table table final refl) [ inl none ↦ rw none refl | inr apart ↦ apart ]
+
+pub row-whole : (list : List CsiParam) (final : ℕ) (a : Action) → read_by table list final ≡ Some a → whole list final ≡ Some a
+row-whole list final a e = whole-table list final ∙ ap (λ o. option_or o (read_fields field_table list final)) e
+
+pub rows_lem : (list : List CsiParam) (final : ℕ) → RowsDecide list final
+rows_lem list final r a listed e =
+    row-whole list final a
+    (picked are_apart _ _ (rows-are-apart list) (rows_before table final) listed.0 r a (table-apart final)
+    (slice_get_read (rows_before table final) _ listed.0 r refl listed.1 (sym listed.2)) e)
+
+-- the row that gave something fits, so no row apart from it does
+pub apart-given : (p : Row Action) (rows : List (Row Action)) (list : List CsiParam) (a : Action) → apart_from are_apart p rows ≡ true → has p list ≡ true → given rows list ≡ Some a → ⊥
+apart-given p [] list a d f e = cc
+apart-given p (r ∷ rows) list a d f e =
+    grind (arith, apart-given p rows list a, apart-shapes p.tail p.shape r.tail r.shape list)

@@ -1,34 +1,101 @@
--- What an action of a row is written as is read as it, subject by subject.
-use Rattle.std.proofs.Common.{◌≡◌, ℕ, List, [], ◌∷◌, true, None, Some, refl, ap, ◌∙◌, inl, inr, arith, pos, rules}
-use Rattle.std.proofs.lemmas.Bool.{cases_Bool, and_parts, eq-eqb, eqb-true, ne_eqb}
-use Rattle.std.specs.{Prelude.ℤ, Prelude.◌==◌, Prelude.◌&&◌, Prelude.Option, Prelude.map, List.Contains}
-use Rattle.csicodec_names.proofs.Coded.{attributes, is_number-pos, none-found}
-use Rattle.csicodec_names.specs.{DeviceNumbers.device_attribute_codes, DeviceNumbers.device_attribute_number, Numbered.is_number}
-use Rattle.csicodec_tokens.specs.{Fields.fields_of, OneBased.most, declared.param.CsiParam.TheVariants.Integer, declared.param.CsiParam.TheVariants.P}
-use Rattle.csicodec_actions.specs.Actions.{Action, Cursor, Edit, Mode, Mouse, Device, Window, Keyboard, SelectCharacterPath}
-use Rattle.csicodec_actions.specs.Written.{AllGood, GoodAttribute, Item, Byte, The, Unless, Attribute, Written, any_number, listed, tokens, two}
-use Rattle.csicodec_actions.specs.Kinds.{Kind, Any, Clear, Control, Count, GraphicsItem, InDisplay, InLine, Last, Path, Pressed, Released, Value, number, read}
-use Rattle.csicodec_actions.specs.{declared.device.DeviceAttribute.DeviceAttribute, declared.path.CharacterPath.CharacterPath, Devices.attribute_at}
-use Rattle.csicodec_actions.specs.{Devices.attribute_token, Devices.listed_attributes, FieldRows.numbers, FieldRows.read_fields, Mouse.is_release, Rows.Number}
-use Rattle.csicodec_actions.specs.{Rows.mark, Rows.open_row, Rows.read_by, Rows.rows_before, Special.IsNeverRead, Special.IsSpecial}
-use Rattle.csicodec_actions.specs.{Table.Cursor.written_cursor, Table.Device.answer, Table.Device.written_attributes, Table.Device.written_class}
+-- The list that an action is written as, its text, and that it is read as the action: subject by subject.
+use Rattle.std.proofs.{Common.append_assoc, lemmas.Int.ints, lemmas.Str.encode_ascii, lemmas.Bool.and_parts, lemmas.Bool.cases_Bool}
+use Rattle.std.specs.{Prelude.nat_lt, Prelude.Option, Prelude.map, Fmt.signed_decimal, List.Contains}
+use Rattle.csicodec_tokens.specs.{Param.spells, Param.token_text, Sequence.IsFinal, Sequence.Apart, OneBased.most}
+use Rattle.csicodec_actions.specs.Actions.{Cursor, Edit, Mode, Mouse, Device, Window, Keyboard, SelectCharacterPath}
+use Rattle.csicodec_actions.specs.{Written.Byte, Written.The, Written.Unless, Written.Written, Written.tokens, Written.GoodAttribute, Written.two, Kinds.Clear}
+use Rattle.csicodec_actions.specs.{Kinds.read, Devices.attribute_token, Devices.attribute_at, Table.written, declared.path.CharacterPath.CharacterPath}
+use Rattle.csicodec_actions.specs.{Special.IsNeverRead, Special.IsSpecial, Table.Cursor.written_cursor, Table.Device.answer, Table.Device.written_attributes}
 use Rattle.csicodec_actions.specs.{Table.Device.written_device, Table.Edit.written_edit, Table.XtSmGraphics.written_graphics, Table.Keyboard.written_keyboard}
 use Rattle.csicodec_actions.specs.{Table.Mode.written_mode, Table.Mouse.report, Table.Mouse.written_mouse, Table.Path.written_path, Table.Window.written_window}
-use Rattle.csicodec_actions.specs.{Table.written, Table.table, Table.field_table}
-use Rattle.csicodec_actions.proofs.{Values.read-good, Values.read_any, Disjoint.row-whole, Disjoint.rows_lem, FieldsApart.field-whole, Items.are_sound}
-use Rattle.csicodec_actions.proofs.{Items.begins_apart, Items.is_sound, Items.IsRead}
+use Rattle.csicodec_actions.specs.{declared.mouse.MouseReport.MouseReport}
+use Rattle.csicodec_actions.proofs.Common.{◌≡◌, ℕ, ◌<◌, List, [], ◌∷◌, ◌++◌, Some, refl, sym, arith, pos, None, ap, ◌∙◌, inl, inr, rules, eq-eqb, eqb-true, ne_eqb, Bool, true, false, ◌&&◌, ◌||◌, ℤ, ◌==◌, IsSpellable, Spellable, CsiParam, Integer, P, fields_of, device_attribute_number, device_attribute_codes, is_number, Item, Attribute, shown, written_text, AllGood, any_number, listed, Action, Kind, Value, number, Good, IsSaid, Control, Count, GraphicsItem, InDisplay, InLine, Last, Path, Pressed, Released, Any, DeviceAttribute, listed_attributes, whole, table, field_table, written_class, numbers, read_fields, is_release, Number, mark, open_row, read_by, rows_before, attributes, is_number-pos, none-found}
+use Rattle.csicodec_actions.proofs.{Values.number-said, Values.attribute-said, Values.read-good, Values.read_any, AllRows.row-whole, AllRows.rows_lem}
+use Rattle.csicodec_actions.proofs.{FieldsApart.field-whole}
 use Rattle.csicodec_names.specs.declared.enums as enums
 use Rattle.csicodec_actions.specs.declared.cursor.Cursor.TheVariants as cursor
-use Rattle.csicodec_actions.specs.declared.device.DeviceAttribute.TheVariants as attribute
 use Rattle.csicodec_actions.specs.declared.edit.Edit.TheVariants as edit
-use Rattle.csicodec_actions.specs.declared.path.CharacterPath.TheVariants as path
 use Rattle.csicodec_actions.specs.declared.keyboard.Keyboard.TheVariants as keyboard
 use Rattle.csicodec_actions.specs.declared.mode.Mode.TheVariants as mode
-use Rattle.csicodec_actions.specs.declared.mouse.MouseReport.TheVariants as mouse
 use Rattle.csicodec_actions.specs.declared.window.Window.TheVariants as window
 use Rattle.csicodec_actions.specs.declared as types
 use Rattle.csicodec_actions.specs.Actions as actions
 use Rattle.csicodec_actions.specs.Devices as devices
+
+-- ---- a test that is computed for each action: its bytes can stand in a sequence, no two numbers side by side, and its final can end one
+
+abbrev pub is_mark : ℕ → Bool
+is_mark b = nat_lt 31 b && ((nat_lt b 48 || nat_lt 57 b) && nat_lt b 64)
+
+abbrev pub begins_apart : List Item → Bool
+begins_apart [] = true
+begins_apart (Byte b ∷ items) = true
+begins_apart (The k v ∷ items) = false
+begins_apart _ = false
+
+abbrev pub are_sound : List Item → Bool
+are_sound [] = true
+are_sound (Byte b ∷ items) = is_mark b && are_sound items
+are_sound (The k v ∷ items) = begins_apart items && are_sound items
+are_sound (Unless n k v ∷ items) = begins_apart items && are_sound items
+are_sound (Attribute a ∷ items) = begins_apart items && are_sound items
+
+abbrev pub is_sound : Written → Bool
+is_sound w = are_sound w.items && (nat_lt 63 w.final && nat_lt w.final 127)
+
+mark-spellable : (b : ℕ) → is_mark b ≡ true → IsSpellable (P b)
+mark-spellable b e = grind (arith, ints)
+
+apart : (t : CsiParam) (items : List Item) → begins_apart items ≡ true → Apart t (tokens items)
+apart t items e = grind arith
+
+value-spellable : (k : Kind) (v : Value k) → Good k v → IsSpellable (Integer (number k v))
+value-spellable k v good = let s = number-said k v good in (s.above, s.fits)
+
+attribute-spellable : (a : DeviceAttribute) → GoodAttribute a → IsSpellable (attribute_token a)
+attribute-spellable (DeviceAttribute.Code c) good =
+    let small : IsSaid (pos (device_attribute_number c)) = attribute-said c in (small.above, small.fits)
+attribute-spellable (DeviceAttribute.Unspecified t) good = good.0
+
+items-spellable : (items : List Item) → are_sound items ≡ true → AllGood items → Spellable (tokens items)
+items-spellable [] e good = tt
+items-spellable (Byte b ∷ items) e good = grind (arith, mark-spellable b, items-spellable items)
+items-spellable (The k v ∷ items) e good =
+    grind (arith, value-spellable k v, apart (Integer (number k v)) items, items-spellable items)
+items-spellable (Unless n k v ∷ items) e good =
+    grind (arith, value-spellable k v, apart (Integer (number k v)) items, items-spellable items)
+items-spellable (Attribute a ∷ items) e good =
+    grind (arith, attribute-spellable a, apart (attribute_token a) items, items-spellable items)
+
+mark-text : (b : ℕ) → is_mark b ≡ true → b < 128
+mark-text b e = grind arith
+
+shown-spells : (items : List Item) (end : List ℕ) → are_sound items ≡ true → shown items end ≡ spells (tokens items) ++ end
+shown-spells [] end e = refl
+shown-spells (Byte b ∷ items) end e =
+    let p = and_parts (is_mark b) (are_sound items) e in rw (encode_ascii b (mark-text b p.0), shown-spells items end p.1) refl
+shown-spells (The k v ∷ items) end e = let p = and_parts (begins_apart items) (are_sound items) e in rw (shown-spells items end p.1) (sym (append_assoc _ (spells (tokens items)) end))
+shown-spells (Unless n k v ∷ items) end e =
+    grind (arith, shown-spells items end, append_assoc (signed_decimal (number k v)) (spells (tokens items)) end)
+shown-spells (Attribute a ∷ items) end e =
+    let p = and_parts (begins_apart items) (are_sound items) e in rw (shown-spells items end p.1) (sym (append_assoc (token_text (attribute_token a)) (spells (tokens items)) end))
+
+-- the list that is written, before a final, whose text is that of the action
+pub record Sound (w : Written) : Type 0 where
+  pub spellable : Spellable (tokens w.items)
+  pub ends : IsFinal w.final
+  pub text : written_text w ≡ spells (tokens w.items) ++ w.final ∷ []
+
+pub sound : (w : Written) → is_sound w ≡ true → AllGood w.items → Sound w
+sound w e good =
+    record { spellable = items-spellable w.items (grind arith) good; ends = grind arith; text = shown-spells w.items (w.final ∷ []) (grind arith) }
+
+-- the list that is written is one of a sequence, and is read as the action
+pub record IsRead (w : Written) (a : Action) : Type 0 where
+  pub sound : is_sound w ≡ true
+  pub read : whole (tokens w.items) w.final ≡ Some a
+
+-- ---- What an action of a row is written as is read as it, subject by subject.
 
 -- a row of tokens reads what is written
 abbrev Returns : Written → Action → Type 0
@@ -64,26 +131,19 @@ missing = (refl, refl, refl, refl, refl)
 all-around : (a b : ℕ) → (a == 1 && b == most) ≡ true → (a ≡ 1) × (b ≡ most)
 all-around a b e = let p = and_parts (a == 1) (b == most) e in (eqb-true a 1 p.0, eqb-true b most p.1)
 
-rows-back : (a b : ℕ) → AllGood (written_cursor (cursor.SetTopAndBottomMargins a b)).items → Returns (written_cursor (cursor.SetTopAndBottomMargins a b)) (Cursor (cursor.SetTopAndBottomMargins a b))
-rows-back a b good = elim (cases_Bool (a == 1 && b == most)) [
-  | inl all ↦ (let same = all-around a b all in rw (same.0, same.1) (refl {a = Some (Cursor (cursor.SetTopAndBottomMargins 1 most))}))
-  | inr less ↦ (let both : AllGood (two Last a b) = rw less at good in rw less (search (rules, read-good)))
-]
-
-columns-back : (a b : ℕ) → AllGood (written_cursor (cursor.SetLeftAndRightMargins a b)).items → ¬ IsSpecial (Cursor (cursor.SetLeftAndRightMargins a b))
-    → Returns (written_cursor (cursor.SetLeftAndRightMargins a b)) (Cursor (cursor.SetLeftAndRightMargins a b))
-columns-back a b good ok = elim (cases_Bool (a == 1 && b == most)) [
-  | inl all ↦ (let same = all-around a b all in absurd (ok same))
-  | inr less ↦ (let both : AllGood (two Count a b) = rw less at good in rw less (search (rules, read-good)))
-]
-
 -- a line for each variant that isn't written as one count
 cursor-back : (c : types.cursor.Cursor.Cursor) → AllGood (written_cursor c).items → ¬ IsSpecial (Cursor c) → Returns (written_cursor c) (Cursor c)
 cursor-back (cursor.Position a b) good ok = search (rules, read-good)
 cursor-back (cursor.ActivePositionReport a b) good ok = search (rules, read-good)
 cursor-back (cursor.CharacterAndLinePosition a b) good ok = search (rules, read-good)
-cursor-back (cursor.SetTopAndBottomMargins a b) good ok = rows-back a b good
-cursor-back (cursor.SetLeftAndRightMargins a b) good ok = columns-back a b good ok
+cursor-back (cursor.SetTopAndBottomMargins a b) good ok = elim (cases_Bool (a == 1 && b == most)) [
+  | inl all ↦ (let same = all-around a b all in rw (same.0, same.1) (refl {a = Some (Cursor (cursor.SetTopAndBottomMargins 1 most))}))
+  | inr less ↦ (let both : AllGood (two Last a b) = rw less at good in rw less (search (rules, read-good)))
+]
+cursor-back (cursor.SetLeftAndRightMargins a b) good ok = elim (cases_Bool (a == 1 && b == most)) [
+  | inl all ↦ absurd (ok (all-around a b all))
+  | inr less ↦ (let both : AllGood (two Count a b) = rw less at good in rw less (search (rules, read-good)))
+]
 cursor-back cursor.SaveCursor good ok = refl
 cursor-back cursor.RestoreCursor good ok = refl
 cursor-back cursor.RequestActivePositionReport good ok = refl
@@ -114,8 +174,8 @@ edit-sound e = elim e as (λ x. is_sound (written_edit x) ≡ true) [ edit.Repea
 -- ---- the mouse, by what its button does
 
 mouse-read : (m : types.mouse.MouseReport.MouseReport) → AllGood (written_mouse m).items → ¬ IsNeverRead (Mouse m) → IsRead (written_mouse m) (Mouse m)
-mouse-read (mouse.SGR1016 x y b m) good ok = absurd (ok tt)
-mouse-read (mouse.SGR1006 x y b m) good ok = elim (cases_Bool (is_release b)) [
+mouse-read (MouseReport.SGR1016 x y b m) good ok = absurd (ok tt)
+mouse-read (MouseReport.SGR1006 x y b m) good ok = elim (cases_Bool (is_release b)) [
   | inl up ↦
       let all : AllGood (report Released (b, m) x y) = rw up at good in
       rw up (by-row _ _ refl (search (rules, read-good)))
@@ -157,7 +217,7 @@ path-read p z good = elim (cases_Bool (is_number 0 z)) [
 ]
   where
     plain : (p : CharacterPath) → IsRead (written_path p (pos 0)) (SelectCharacterPath p (pos 0))
-    plain path.ImplementationDefault = by-row _ _ refl refl
+    plain CharacterPath.ImplementationDefault = by-row _ _ refl refl
     plain p = by-row (written_path p (pos 0)) (SelectCharacterPath p (pos 0)) refl (search (rules, read-good))
 
 -- ---- windows and areas: a line for each variant that has numbers
@@ -186,9 +246,9 @@ window-sound w = refl
 -- ---- extensions of a terminal
 
 attribute-back : (a : DeviceAttribute) → GoodAttribute a → attribute_at (attribute_token a) ≡ a ∷ []
-attribute-back (attribute.Code c) good = rw (attributes.each c) refl
-attribute-back (attribute.Unspecified (Integer z)) good = rw (none-found device_attribute_number device_attribute_codes z good.1) refl
-attribute-back (attribute.Unspecified (P b)) good = rw (ne_eqb b 59 good.1) refl
+attribute-back (DeviceAttribute.Code c) good = rw (attributes.each c) refl
+attribute-back (DeviceAttribute.Unspecified (Integer z)) good = rw (none-found device_attribute_number device_attribute_codes z good.1) refl
+attribute-back (DeviceAttribute.Unspecified (P b)) good = rw (ne_eqb b 59 good.1) refl
 
 attributes-back : (all : List DeviceAttribute) → AllGood (listed Attribute all) → listed_attributes (tokens (listed Attribute all)) ≡ all
 attributes-back [] good = refl

@@ -1,15 +1,9 @@
 -- No two rows over fields read one list, and none reads what a row of tokens does: tests that are computed over all pairs.
-use Rattle.std.proofs.Common.{arith, ◌≡◌, ℕ, zero, suc, List, [], ◌∷◌, Option, None, Some, refl, sym, ap, ◌∙◌, pos, subst}
-use Rattle.std.proofs.{lemmas.Bool.eq-eqb, lemmas.Bool.eqb-true, lemmas.Option.same_Some, lemmas.Option.slice_get_read, lemmas.Option.option_and_then_some}
-use Rattle.std.specs.Prelude.{ℤ, ◌==◌, ◌&&◌, ◌||◌, Bool, true, false, not, slice_get, if◌then◌else◌, option_and_then}
-use Rattle.std.specs.{List.AllByRecursion, Option.option_or}
-use Rattle.csicodec_tokens.specs.{declared.param.CsiParam.CsiParam, declared.param.CsiParam.TheVariants.P, Fields.fields_of}
-use Rattle.csicodec_names.proofs.Coded.{is_number-pos}
-use Rattle.csicodec_actions.specs.FieldRows.{Slot, This, Empty, End, behind, ahead_of_byte, behind_byte, fits, have_shape, FieldRow, gives, given, Over, over, no_byte, byte, fields_over, read_over, read_fields}
-use Rattle.csicodec_actions.specs.{Actions.Action, Rows.Row, Rows.Byte, Rows.open_row, Rows.rows_before, Rows.read_by, Table.XtSmGraphics.graphics_rows}
-use Rattle.csicodec_actions.specs.{Table.Window.areas, Table.Window.windows, Table.table, Table.field_table, Table.whole, Table.FieldRowsDecide}
-use Rattle.csicodec_actions.proofs.Disjoint.{AreApart, all_apart, apart-given, apart_from, are_apart as token_rows_apart, has, picked}
-use Rattle.csicodec_actions.proofs.{AllFieldRows.AllFieldRows, AllFieldRows.over-in, AllRows.whole-table, Found.guarded}
+use Rattle.csicodec_actions.specs.FieldRows.{Slot, This, Empty, End, behind, ahead_of_byte, behind_byte, fits, have_shape, gives, given, Over, over, no_byte, byte, fields_over, read_over}
+use Rattle.csicodec_actions.specs.{Rows.Byte, Table.XtSmGraphics.graphics_rows, Table.Window.areas, Table.Window.windows, Table.FieldRowsDecide}
+use Rattle.csicodec_actions.proofs.AllRows.{AreApart, all_apart, apart-given, apart_from, are_apart as token_rows_apart, has, picked, whole-table}
+use Rattle.csicodec_actions.proofs.Common.{arith, ◌≡◌, ℕ, zero, suc, List, [], ◌∷◌, Option, None, Some, refl, sym, ap, ◌∙◌, pos, subst, eq-eqb, eqb-true, same_Some, slice_get_read, option_and_then_some, ℤ, ◌==◌, ◌&&◌, ◌||◌, Bool, true, false, not, slice_get, if◌then◌else◌, option_and_then, AllByRecursion, option_or, CsiParam, P, fields_of, is_number-pos, FieldRow, read_fields, Action, Row, open_row, rows_before, read_by, table, field_table, whole}
+use Rattle.csicodec_actions.proofs.{AllFieldRows.AllFieldRows, AllFieldRows.over-in, Found.guarded}
 
 -- ---- slots
 

@@ -1,10 +1,23 @@
--- What the code finds in the fields of a list.
-use Rattle.std.proofs.Common.{◌≡◌, ℕ, List, [], ◌∷◌, ◌++◌, inl, inr, Option, None, Some, refl, ap, ◌∙◌, Bor, arith}
-use Rattle.std.proofs.lemmas.Bool.{cases_Bool}
-use Rattle.std.specs.{Prelude.◌==◌, Prelude.if◌then◌else◌, Bool.then_some, List.list_all, Option.option_map}
-use Rattle.csicodec_tokens.specs.{declared.param.CsiParam.CsiParam, declared.param.CsiParam.TheVariants.Integer, declared.param.CsiParam.TheVariants.P}
-use Rattle.csicodec_tokens.specs.{Fields.fields_of, Private.FieldsBy.is_field_token}
-use Rattle.csicodec_actions.specs.{FieldRows.ahead_of_byte, FieldRows.numbers, Lent.integers, Private.FieldsBy.fields_there}
+-- What the code finds in the fields of a list, and the text of a device whose tokens stand in one.
+use Rattle.std.proofs.{Common.append_assoc, Common.Bor, lemmas.Bool.cases_Bool}
+use Rattle.std.specs.{Fmt.decimal, Bool.then_some, List.list_all}
+use Rattle.csicodec_tokens.specs.{Param.token_text, Private.FieldsBy.is_field_token}
+use Rattle.csicodec_actions.specs.{Devices.attribute_token, FieldRows.ahead_of_byte, Private.FieldsBy.fields_there}
+use Rattle.csicodec_actions.proofs.Common.{◌≡◌, ℕ, List, [], ◌∷◌, ◌++◌, refl, sym, ap, inl, inr, Option, None, Some, ◌∙◌, arith, ℤ, ◌==◌, if◌then◌else◌, option_map, CsiParam, Integer, P, fields_of, DeviceAttribute, listed_text, written_class, Item, Attribute, any_number, listed, shown, written_text, numbers, integers}
+
+-- items that are written as tokens, a `;` before each
+shown-listed : {A : Type 0} (item : A → Item) (token : A → CsiParam) → ((a : A) (items : List Item) (end : List ℕ) → shown (item a ∷ items) end ≡ token_text (token a) ++ shown items end)
+    → (all : List A) (end : List ℕ) → shown (listed item all) end ≡ listed_text token all ++ end
+shown-listed item token same [] end = refl
+shown-listed item token same (a ∷ others) end =
+    rw (same a (listed item others) end, shown-listed item token same others end)
+    (sym (ap (λ (l : List ℕ). 59 ∷ l) (append_assoc (token_text (token a)) (listed_text token others) end)))
+
+pub class_text : (n : ℕ) (all : List DeviceAttribute) → (63 ∷ decimal n) ++ (listed_text attribute_token all ++ 99 ∷ []) ≡ written_text (written_class n all)
+class_text n all = rw (shown-listed Attribute attribute_token (λ a items more. refl) all (99 ∷ [])) refl
+
+pub values_text : (all : List ℤ) → listed_text Integer all ++ 83 ∷ [] ≡ shown (listed any_number all) (83 ∷ [])
+values_text all = sym (shown-listed any_number Integer (λ a items more. refl) all (83 ∷ []))
 
 -- ---- a list that has fields
 

@@ -1,10 +1,7 @@
 -- What the rows before each final character of the cursor read, by what one parameter, or two places, stand for.
-use Rattle.std.proofs.{Common.◌≡◌, Common.ℕ, Common.List, Common.[], Common.◌∷◌, Common.None, Common.Some, Common.refl, Common.arith, lemmas.Bool.ne_eqb}
-use Rattle.std.specs.{Prelude.⊤, Prelude.Bool, Prelude.true, Prelude.false, Prelude.Option, Prelude.option_and_then, Prelude.if◌then◌else◌, Option.option_map}
-use Rattle.std.specs.{Option.option_or}
-use Rattle.csicodec_tokens.specs.{declared.param.CsiParam.CsiParam, declared.param.CsiParam.TheVariants.Integer, declared.param.CsiParam.TheVariants.P}
-use Rattle.csicodec_actions.specs.Rows.{Slot, Byte, Number, One, Makes, mark, has_shape, made, Row, row, gives, given, Before, read_by, counted, paired}
-use Rattle.csicodec_actions.specs.{Actions.Cursor, Kinds.Count, Kinds.Value, Kinds.read, Table.Cursor.as_cursor}
+use Rattle.std.specs.Prelude.{⊤, Option}
+use Rattle.csicodec_actions.specs.{Rows.Makes, Rows.row, Rows.Before, Rows.counted, Rows.paired, Actions.Cursor, Table.Cursor.as_cursor}
+use Rattle.csicodec_actions.proofs.Common.{false, option_map, option_or, made, Slot, One, mark, Row, gives, given, read_by, Count, ◌≡◌, ℕ, List, [], ◌∷◌, None, Some, refl, arith, ne_eqb, CsiParam, Integer, P}
 use Rattle.csicodec_actions.specs.declared.cursor.Cursor as cursor_type
 use Rattle.csicodec_actions.specs.declared.cursor.Cursor.TheVariants as cursor
 
@@ -12,16 +9,14 @@ use Rattle.csicodec_actions.specs.declared.cursor.Cursor.TheVariants as cursor
 
 abbrev after : {A B : Type 0} (f : A → B) (shape : List Slot) → Makes A shape → Makes B shape
 after f [] whole = f whole
-after f (Byte b ∷ shape) make = after f shape make
-after f (Number n ∷ shape) make = after f shape make
 after f (One k ∷ shape) make = λ v. after f shape (make v)
+after f (s ∷ shape) make = after f shape make
 
 made-after : {A B : Type 0} (f : A → B) (shape : List Slot) (make : Makes A shape) (list : List CsiParam)
     → made false shape (after f shape make) list ≡ option_map f (made false shape make list)
-made-after f (Byte b ∷ shape) make (t ∷ ts) = made-after f shape make ts
-made-after f (Number n ∷ shape) make (t ∷ ts) = made-after f shape make ts
 made-after f (One k ∷ shape) make (P c ∷ ts) = refl
 made-after f (One k ∷ shape) make (Integer z ∷ ts) = grind (arith, made-after f shape)
+made-after f (s ∷ shape) make (t ∷ ts) = made-after f shape make ts
 made-after f _ _ _ = refl
 
 gives-after : {A B : Type 0} (f : A → B) (shape : List Slot) (make : Makes A shape) (list : List CsiParam)

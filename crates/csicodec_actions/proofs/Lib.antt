@@ -1,13 +1,9 @@
+pub mod Common
 pub mod Found
-pub mod MouseCodes
 pub mod Values
-pub mod DeviceTexts
 pub mod FieldsAt
 pub mod AllFieldRows
 pub mod AllRows
-pub mod Boxed
-pub mod Disjoint
 pub mod FieldsApart
 pub mod Finals
-pub mod Items
 pub mod Back

@@ -1,26 +1,19 @@
 -- What an action says, without where it lies in memory: contracts compare these.
-use Rattle.std.specs.Prelude.{ℕ, ℤ, List, Bool, true, false, IsTrue}
-use Rattle.csicodec_tokens.specs.declared.param.CsiParam.{CsiParam}
-use Rattle.csicodec_actions.specs.declared.path.CharacterPath.{CharacterPath}
+use Rattle.csicodec_actions.specs.Common.{ℕ, ℤ, List, Bool, true, false, IsTrue, CsiParam, CharacterPath}
 use Rattle.csicodec_base.specs.declared.sgr.Sgr as sgr_type
-use Rattle.csicodec_actions.specs.declared.cursor.Cursor as cursor_type
-use Rattle.csicodec_actions.specs.declared.edit.Edit as edit_type
-use Rattle.csicodec_actions.specs.declared.keyboard.Keyboard as keyboard_type
-use Rattle.csicodec_actions.specs.declared.mode.Mode as mode_type
-use Rattle.csicodec_actions.specs.declared.mouse.MouseReport as mouse_type
-use Rattle.csicodec_actions.specs.declared.window.Window as window_type
+use Rattle.csicodec_actions.specs.declared as types
 use Rattle.csicodec_actions.specs.Devices as device_type
 
 -- one constructor for each variant of `CSI`, with lists in place of vectors
 pub data Action : Type 0 where
   Sgr : sgr_type.Sgr → Action
-  Cursor : cursor_type.Cursor → Action
-  Edit : edit_type.Edit → Action
-  Mode : mode_type.Mode → Action
-  Mouse : mouse_type.MouseReport → Action
+  Cursor : types.cursor.Cursor.Cursor → Action
+  Edit : types.edit.Edit.Edit → Action
+  Mode : types.mode.Mode.Mode → Action
+  Mouse : types.mouse.MouseReport.MouseReport → Action
   Device : device_type.Device → Action
-  Window : window_type.Window → Action
-  Keyboard : keyboard_type.Keyboard → Action
+  Window : types.window.Window.Window → Action
+  Keyboard : types.keyboard.Keyboard.Keyboard → Action
   SelectCharacterPath : CharacterPath → ℤ → Action
   Unspecified : (params : List CsiParam) (parameters_truncated : Bool) (final : ℕ) → Action
 

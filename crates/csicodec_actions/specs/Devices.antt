@@ -1,16 +1,10 @@
 -- What a device says or is asked, without where it lies in memory; and the extensions that a terminal names, as tokens.
-use Rattle.std.specs.{Prelude.ℤ, Prelude.◌<◌, Prelude.◌==◌, Prelude.List, Prelude.[], Prelude.◌∷◌, Prelude.length, Prelude.Option, Prelude.None, Prelude.Some}
-use Rattle.std.specs.{Prelude.if◌then◌else◌, Prelude.pos, List.flat_map}
-use Rattle.csicodec_names.specs.{DeviceNumbers.device_attribute_codes, DeviceNumbers.device_attribute_number, Numbered.with_number}
-use Rattle.csicodec_names.specs.{declared.device.DeviceAttributeCodes.DeviceAttributeCodes}
-use Rattle.csicodec_tokens.specs.{declared.param.CsiParam.CsiParam, declared.param.CsiParam.TheVariants.Integer, declared.param.CsiParam.TheVariants.P}
-use Rattle.csicodec_actions.specs.{declared.device.DeviceAttribute.DeviceAttribute, declared.device.DeviceAttribute.TheVariants.Code}
-use Rattle.csicodec_actions.specs.{declared.device.DeviceAttribute.TheVariants.Unspecified, declared.xtsmgraphics.XtSmGraphicsItem.XtSmGraphicsItem}
-use Rattle.csicodec_actions.specs.declared.device.Device as device_type
-use Rattle.csicodec_actions.specs.declared.device.Device.TheVariants as device
-use Rattle.csicodec_actions.specs.declared.device.DeviceAttributes as attributes_type
-use Rattle.csicodec_actions.specs.declared.device.DeviceAttributes.TheVariants as attributes
-use Rattle.csicodec_actions.specs.declared.xtsmgraphics.XtSmGraphics as graphics_type
+use Rattle.csicodec_names.specs.DeviceNumbers.{device_attribute_codes}
+use Rattle.csicodec_actions.specs.Common.{ℤ, List, [], length, Option, None, Some, pos, flat_map, device_attribute_number, with_number, DeviceAttributeCodes, CsiParam, Integer, P, DeviceAttribute, XtSmGraphicsItem}
+use Rattle.csicodec_actions.specs.{declared.xtsmgraphics.XtSmGraphics.XtSmGraphics as GraphicsType}
+use Rattle.csicodec_actions.specs.{declared.device.DeviceAttributes.DeviceAttributes as AttributesType, declared.device.Device.Device as DeviceType}
+use Rattle.csicodec_actions.specs.{declared.device.DeviceAttribute.TheVariants.Code, declared.device.DeviceAttribute.TheVariants.Unspecified}
+use Rattle.std.specs.Prelude.{◌<◌, ◌==◌, ◌∷◌, if◌then◌else◌}
 
 -- ---- one constructor for each variant, with lists in place of vectors
 
@@ -33,27 +27,27 @@ pub data Device : Type 0 where
   StatusReport : Device
   XtSmGraphics : (item : XtSmGraphicsItem) (action_or_status : ℤ) (value : List ℤ) → Device
 
-abbrev pub attributes_of : attributes_type.DeviceAttributes → Attributes
-attributes_of attributes.Vt100WithAdvancedVideoOption = Vt100WithAdvancedVideoOption
-attributes_of attributes.Vt101WithNoOptions = Vt101WithNoOptions
-attributes_of attributes.Vt102 = Vt102
-attributes_of (attributes.Vt220 flags) = Vt220 flags.attributes.items
-attributes_of (attributes.Vt320 flags) = Vt320 flags.attributes.items
-attributes_of (attributes.Vt420 flags) = Vt420 flags.attributes.items
+abbrev pub attributes_of : AttributesType → Attributes
+attributes_of AttributesType.Vt100WithAdvancedVideoOption = Vt100WithAdvancedVideoOption
+attributes_of AttributesType.Vt101WithNoOptions = Vt101WithNoOptions
+attributes_of AttributesType.Vt102 = Vt102
+attributes_of (AttributesType.Vt220 flags) = Vt220 flags.attributes.items
+attributes_of (AttributesType.Vt320 flags) = Vt320 flags.attributes.items
+attributes_of (AttributesType.Vt420 flags) = Vt420 flags.attributes.items
 
-abbrev pub graphics_of : graphics_type.XtSmGraphics → Device
+abbrev pub graphics_of : GraphicsType → Device
 graphics_of g = XtSmGraphics g.item g.action_or_status g.value.items
 
-abbrev pub device_of : device_type.Device → Device
-device_of (device.DeviceAttributes a) = DeviceAttributes (attributes_of a)
-device_of device.SoftReset = SoftReset
-device_of device.RequestPrimaryDeviceAttributes = RequestPrimaryDeviceAttributes
-device_of device.RequestSecondaryDeviceAttributes = RequestSecondaryDeviceAttributes
-device_of device.RequestTertiaryDeviceAttributes = RequestTertiaryDeviceAttributes
-device_of device.RequestTerminalNameAndVersion = RequestTerminalNameAndVersion
-device_of (device.RequestTerminalParameters n) = RequestTerminalParameters n
-device_of device.StatusReport = StatusReport
-device_of (device.XtSmGraphics g) = graphics_of g
+abbrev pub device_of : DeviceType → Device
+device_of (DeviceType.DeviceAttributes a) = DeviceAttributes (attributes_of a)
+device_of DeviceType.SoftReset = SoftReset
+device_of DeviceType.RequestPrimaryDeviceAttributes = RequestPrimaryDeviceAttributes
+device_of DeviceType.RequestSecondaryDeviceAttributes = RequestSecondaryDeviceAttributes
+device_of DeviceType.RequestTertiaryDeviceAttributes = RequestTertiaryDeviceAttributes
+device_of DeviceType.RequestTerminalNameAndVersion = RequestTerminalNameAndVersion
+device_of (DeviceType.RequestTerminalParameters n) = RequestTerminalParameters n
+device_of DeviceType.StatusReport = StatusReport
+device_of (DeviceType.XtSmGraphics g) = graphics_of g
 
 -- ---- memory
 

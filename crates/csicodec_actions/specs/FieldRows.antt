@@ -1,10 +1,7 @@
 -- Rows over the fields of a list: a row is a field for each slot, and what is made of their numbers. Fields behind the row are ignored.
 use Prim.Native.Char.{Char, code}
-use Rattle.std.specs.Prelude.{ℕ, ℤ, ◌==◌, ◌&&◌, Bool, true, false, not, List, [], ◌∷◌, Option, Some, None, option_and_then, option_map, if◌then◌else◌}
-use Rattle.std.specs.Option.{is_some}
-use Rattle.csicodec_names.specs.Numbered.{is_number}
-use Rattle.csicodec_tokens.specs.{declared.param.CsiParam.CsiParam, declared.param.CsiParam.TheVariants.Integer, declared.param.CsiParam.TheVariants.P}
-use Rattle.csicodec_tokens.specs.{Fields.fields_of}
+use Rattle.std.specs.{Prelude.not, Prelude.option_map, Prelude.◌==◌, Prelude.◌&&◌, Prelude.◌∷◌, Prelude.if◌then◌else◌, Option.is_some}
+use Rattle.csicodec_actions.specs.Common.{ℕ, ℤ, Bool, true, false, List, [], Option, Some, None, option_and_then, is_number, CsiParam, Integer, P, fields_of}
 use Rattle.csicodec_actions.specs.{Kinds.Kind, Kinds.Value, Kinds.read, Rows.first_of}
 
 -- ---- fields
@@ -46,14 +43,12 @@ pub data Slot : Type 0 where
 -- what is made of the numbers, one after the other
 abbrev pub Makes : Type 0 → List Slot → Type 0
 Makes R [] = R
-Makes R (This n ∷ row) = Makes R row
-Makes R (Empty ∷ row) = Makes R row
-Makes R (End ∷ row) = Makes R row
 Makes R (Maybe ∷ row) = Option ℤ → Makes R row
 Makes R (There ∷ row) = Option ℤ → Makes R row
 Makes R (Must k ∷ row) = Value k → Makes R row
 Makes R (Or k missing ∷ row) = Value k → Makes R row
 Makes R (Rest ∷ row) = List ℤ → Makes R row
+Makes R (s ∷ row) = Makes R row
 
 -- the field is this number
 abbrev pub is_this : ℕ → Option ℤ → Bool
@@ -65,11 +60,9 @@ abbrev pub fits : Slot → List (Option ℤ) → Bool
 fits (This n) fs = is_this n (first fs)
 fits Empty fs = not (is_some (first fs))
 fits End fs = not (is_there fs)
-fits Maybe fs = true
 fits There fs = is_there fs
 fits (Must k) fs = is_some (first fs)
-fits (Or k missing) fs = true
-fits Rest fs = true
+fits _ fs = true
 
 -- the fields have this shape: one for each slot
 abbrev pub have_shape : List Slot → List (Option ℤ) → Bool
@@ -84,9 +77,6 @@ value_or k missing (Some z) = read k z
 -- what is made of fields of this shape; nothing where a number counts as no value of its kind
 abbrev pub made : {R : Type 0} → (row : List Slot) → Makes R row → List (Option ℤ) → Option R
 made [] all fs = Some all
-made (This n ∷ row) make fs = made row make (behind fs)
-made (Empty ∷ row) make fs = made row make (behind fs)
-made (End ∷ row) make fs = made row make (behind fs)
 made (Maybe ∷ row) make fs = made row (make (first fs)) (behind fs)
 made (There ∷ row) make fs = made row (make (first fs)) (behind fs)
 made (Must k ∷ row) make fs =
@@ -94,6 +84,7 @@ made (Must k ∷ row) make fs =
 made (Or k missing ∷ row) make fs =
     option_and_then (λ v. made row (make v) (behind fs)) (value_or k missing (first fs))
 made (Rest ∷ row) make fs = made row (make (numbers fs)) (behind fs)
+made (s ∷ row) make fs = made row make (behind fs)
 
 -- ---- rows
 

@@ -1,19 +1,13 @@
 -- What a number in a list counts as: kinds of values, each with the numbers that it is read from, the one that it is written as, and the values that are read back.
-use Rattle.std.specs.Prelude.{ℕ, ℤ, Option, Some, None, if◌then◌else◌, nat_lt, pos, negsuc, ◌^◌, ◌≡◌, ◌<◌, ◌≤ℤ◌, List, [], ◌∷◌}
-use Rattle.std.specs.{Int.RustNames.bit_and, Option.option_map}
+use Rattle.std.specs.Prelude.{nat_lt, negsuc, ◌^◌, ◌≤ℤ◌, if◌then◌else◌, ◌≡◌, ◌<◌, ◌∷◌}
 use Rattle.csicodec_names.specs.EnumNumbers.{cursor_style_number, erase_in_display_number, erase_in_line_number, tabulation_clear_number, tabulation_control_number, cursor_styles, tabulation_controls, tabulation_clears, erases_in_display, erases_in_line}
 use Rattle.csicodec_names.specs.{declared.enums.CursorStyle.CursorStyle, declared.enums.CursorTabulationControl.CursorTabulationControl}
 use Rattle.csicodec_names.specs.{declared.enums.EraseInDisplay.EraseInDisplay, declared.enums.EraseInLine.EraseInLine}
-use Rattle.csicodec_names.specs.{declared.enums.TabulationClear.TabulationClear, ModeNumbers.dec_mode_number, ModeNumbers.terminal_mode_number}
-use Rattle.csicodec_names.specs.{ModeNumbers.dec_codes, ModeNumbers.terminal_codes, declared.flags.KittyKeyboardFlags.KittyKeyboardFlags, FlagBits.kitty_bits}
-use Rattle.csicodec_names.specs.{FlagBits.modifier_bits, declared.flags.Modifiers.Modifiers, Numbered.with_number}
-use Rattle.csicodec_tokens.specs.{declared.param.CsiParam.TheVariants.Integer, OneBased.most, OneBased.number_or, Digits.largest}
-use Rattle.csicodec_actions.specs.{declared.mode.DecPrivateMode.DecPrivateMode, declared.mode.TerminalMode.TerminalMode}
-use Rattle.csicodec_actions.specs.{declared.mode.XtermKeyModifierResource.XtermKeyModifierResource, declared.path.CharacterPath.CharacterPath}
-use Rattle.csicodec_actions.specs.{declared.keyboard.KittyKeyboardMode.KittyKeyboardMode, declared.xtsmgraphics.XtSmGraphicsItem.XtSmGraphicsItem}
+use Rattle.csicodec_names.specs.{declared.enums.TabulationClear.TabulationClear, ModeNumbers.dec_codes, ModeNumbers.terminal_codes, FlagBits.kitty_bits}
+use Rattle.csicodec_tokens.specs.{OneBased.number_or, Digits.largest}
+use Rattle.csicodec_actions.specs.Common.{ℕ, ℤ, Option, Some, None, pos, List, [], bit_and, option_map, dec_mode_number, terminal_mode_number, KittyKeyboardFlags, modifier_bits, Modifiers, with_number, Integer, most, DecPrivateMode, TerminalMode, XtermKeyModifierResource, CharacterPath, KittyKeyboardMode, XtSmGraphicsItem, MouseButton}
 use Rattle.csicodec_actions.specs.{XtSmGraphics.item_number, XtSmGraphics.item_of, XtSmGraphics.IsUnnamedItem, Modes.dec_number, Modes.terminal_number}
 use Rattle.csicodec_actions.specs.{Modes.resource_number, Modes.resources, Mouse.pressed, Mouse.released, Mouse.reported, Mouse.report_code, Mouse.button_code}
-use Rattle.csicodec_actions.specs.{declared.mouse.MouseButton.MouseButton}
 use Rattle.csicodec_actions.specs.declared.mode.DecPrivateMode.TheVariants as dec
 use Rattle.csicodec_actions.specs.declared.mode.TerminalMode.TheVariants as terminal
 use Rattle.csicodec_actions.specs.declared.path.CharacterPath.TheVariants as path
@@ -66,8 +60,6 @@ pub data Kind : Type 0 where
   GraphicsItem : Kind
 
 abbrev pub Value : Kind → Type 0
-Value Count = ℕ
-Value Last = ℕ
 Value Any = ℤ
 Value Style = CursorStyle
 Value Control = CursorTabulationControl
@@ -80,11 +72,10 @@ Value Resource = XtermKeyModifierResource
 Value Flags = KittyKeyboardFlags
 Value Way = KittyKeyboardMode
 Value Path = CharacterPath
-Value Pops = ℕ
-Value Word = ℕ
 Value Pressed = MouseButton × Modifiers
 Value Released = MouseButton × Modifiers
 Value GraphicsItem = XtSmGraphicsItem
+Value _ = ℕ
 
 -- ---- reading
 
@@ -188,24 +179,17 @@ abbrev pub GoodItem : XtSmGraphicsItem → Type 0
 GoodItem (item.Unspecified z) = IsSaid z × IsUnnamedItem z
 GoodItem i = Unit {0}
 
--- the number of the value counts as this value
+-- the number of the value counts as this value, as that of an enumeration always does
 abbrev pub Good : (k : Kind) → Value k → Type 0
 Good Count n = IsOneBased n
 Good Last n = IsOneBased n
 Good Any z = IsSaid z
-Good Style c = Unit {0}
-Good Control c = Unit {0}
-Good Clear c = Unit {0}
-Good InDisplay c = Unit {0}
-Good InLine c = Unit {0}
 Good Dec m = GoodDec m
 Good Terminal m = GoodTerminal m
-Good Resource r = Unit {0}
 Good Flags f = kitty_bits f < 32
-Good Way m = Unit {0}
-Good Path p = Unit {0}
 Good Pops n = n < 2 ^ 32
 Good Word n = n < 65536
 Good Pressed v = IsReport pressed v
 Good Released v = IsReport released v
 Good GraphicsItem i = GoodItem i
+Good _ c = Unit {0}

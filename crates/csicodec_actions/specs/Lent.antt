@@ -1,7 +1,7 @@
 -- Numbers that are lent as the tokens that they are read from, and graphics whose values are.
-use Rattle.std.specs.{Prelude.ℤ, Prelude.List, Prelude.[], Prelude.◌∷◌, List.flat_map}
-use Rattle.csicodec_tokens.specs.{declared.param.CsiParam.CsiParam, declared.param.CsiParam.TheVariants.Integer, declared.param.CsiParam.TheVariants.P}
-use Rattle.csicodec_actions.specs.{declared.xtsmgraphics.GraphicsRef.GraphicsRef, Actions.Action, Actions.Device, Devices.XtSmGraphics}
+use Rattle.csicodec_actions.specs.{declared.xtsmgraphics.GraphicsRef.GraphicsRef, Actions.Action, Actions.Device, Devices.XtSmGraphics, Common.ℤ, Common.List}
+use Rattle.csicodec_actions.specs.{Common.[], Common.flat_map, Common.CsiParam, Common.Integer, Common.P}
+use Rattle.std.specs.Prelude.{◌∷◌}
 
 -- the numbers among tokens
 abbrev pub integer_at : CsiParam → List ℤ

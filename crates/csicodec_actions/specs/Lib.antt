@@ -1,3 +1,4 @@
+pub mod Common
 pub mod Actions
 pub mod Kinds
 pub mod Modes

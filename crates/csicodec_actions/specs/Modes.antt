@@ -1,9 +1,7 @@
 -- Modes: which one a number stands for, what is done to it, and how that is written.
-use Rattle.std.specs.Prelude.{ℕ, List, [], ◌∷◌}
-use Rattle.csicodec_names.specs.ModeNumbers.{dec_mode_number, terminal_mode_number}
-use Rattle.csicodec_actions.specs.{declared.mode.Change.Change, declared.mode.DecPrivateMode.DecPrivateMode, declared.mode.Mode.Mode}
-use Rattle.csicodec_actions.specs.{declared.mode.Switch.Switch, declared.mode.TerminalMode.TerminalMode}
-use Rattle.csicodec_actions.specs.{declared.mode.XtermKeyModifierResource.XtermKeyModifierResource}
+use Rattle.csicodec_actions.specs.Common.{ℕ, List, [], dec_mode_number, terminal_mode_number, DecPrivateMode, TerminalMode, XtermKeyModifierResource}
+use Rattle.csicodec_actions.specs.{declared.mode.Change.Change, declared.mode.Mode.Mode, declared.mode.Switch.Switch}
+use Rattle.std.specs.Prelude.{◌∷◌}
 use Rattle.csicodec_actions.specs.declared.mode.Change.TheVariants as change
 use Rattle.csicodec_actions.specs.declared.mode.DecPrivateMode.TheVariants as dec
 use Rattle.csicodec_actions.specs.declared.mode.Mode.TheVariants as mode

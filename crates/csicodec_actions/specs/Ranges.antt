@@ -1,8 +1,8 @@
 -- The numbers that the types let stand.
-use Rattle.std.specs.Prelude.{◌<◌}
 use Rattle.csicodec_names.specs.{declared.color.ColorSpec.ColorSpec, declared.color.ColorSpec.TheVariants.Default}
 use Rattle.csicodec_names.specs.{declared.color.ColorSpec.TheVariants.PaletteIndex, declared.color.ColorSpec.TheVariants.TrueColor}
 use Rattle.csicodec_actions.specs.Actions.{Action, Sgr}
+use Rattle.std.specs.Prelude.{◌<◌}
 use Rattle.csicodec_base.specs.declared.sgr.Sgr as sgr_type
 use Rattle.csicodec_base.specs.declared.sgr.Sgr.TheVariants as sgr
 use Rattle.csicodec_base.specs.declared.sgr.Font.TheVariants as font

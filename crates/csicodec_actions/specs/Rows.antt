@@ -1,10 +1,8 @@
 -- Rows of lists that are read whole: a row is the shape of a list, and what is made of the values in it.
 use Prim.Native.Char.{Char, code}
-use Rattle.std.specs.Prelude.{ℕ, ◌==◌, ◌&&◌, Bool, true, false, List, [], ◌∷◌, ◌++◌, Option, Some, None, option_and_then, if◌then◌else◌}
-use Rattle.std.specs.Option.{option_or}
-use Rattle.csicodec_tokens.specs.{declared.param.CsiParam.CsiParam, declared.param.CsiParam.TheVariants.Integer, declared.param.CsiParam.TheVariants.P}
+use Rattle.csicodec_actions.specs.Common.{ℕ, Bool, true, false, List, [], Option, Some, None, option_and_then, flat_map, option_or, CsiParam, Integer, P, is_number}
 use Rattle.csicodec_actions.specs.Kinds.{Kind, Count, Value, read}
-use Rattle.csicodec_names.specs.Numbered.{is_number}
+use Rattle.std.specs.Prelude.{◌==◌, ◌&&◌, ◌∷◌, if◌then◌else◌}
 
 -- what the first of these gives that gives something
 abbrev pub first_of : {A R : Type 0} → (A → Option R) → List A → Option R
@@ -23,18 +21,15 @@ mark c = Byte (code c)
 -- what is made of the values of a shape, one after the other
 abbrev pub Makes : Type 0 → List Slot → Type 0
 Makes R [] = R
-Makes R (Byte b ∷ shape) = Makes R shape
-Makes R (Number n ∷ shape) = Makes R shape
 Makes R (One k ∷ shape) = Value k → Makes R shape
+Makes R (s ∷ shape) = Makes R shape
 
 -- the token is one that the slot allows
 abbrev pub fits : Slot → CsiParam → Bool
-fits (Byte b) (Integer z) = false
 fits (Byte b) (P c) = c == b
 fits (Number n) (Integer z) = is_number n z
-fits (Number n) (P c) = false
 fits (One k) (Integer z) = true
-fits (One k) (P c) = false
+fits _ _ = false
 
 -- behind the slots of a row with a tail any tokens can stand, and behind those of another none
 abbrev pub can_end : Bool → List CsiParam → Bool
@@ -62,11 +57,10 @@ abbrev pub made : {R : Type 0} → (tail : Bool) (shape : List Slot) → Makes (
     → List CsiParam → Option R
 made tail [] end list = Some (ended tail end list)
 made tail (s ∷ shape) make [] = None
-made tail (Byte b ∷ shape) make (t ∷ ts) = made tail shape make ts
-made tail (Number n ∷ shape) make (t ∷ ts) = made tail shape make ts
 made tail (One k ∷ shape) make (Integer z ∷ ts) =
     option_and_then (λ v. made tail shape (make v) ts) (read k z)
 made tail (One k ∷ shape) make (P c ∷ ts) = None
+made tail (s ∷ shape) make (t ∷ ts) = made tail shape make ts
 
 pub record Row (R : Type 0) : Type 0 where
   pub tail : Bool
@@ -122,9 +116,7 @@ before final rows = record { final = code final; rows = rows }
 
 -- those of all entries with this final
 abbrev pub rows_before : {R : Type 0} → List (Before R) → ℕ → List (Row R)
-rows_before [] final = []
-rows_before (b ∷ others) final =
-    (if final == b.final then b.rows else []) ++ rows_before others final
+rows_before entries final = flat_map (λ b. if final == b.final then b.rows else []) entries
 
 -- what is read by these rows
 abbrev pub read_by : {R : Type 0} → List (Before R) → List CsiParam → ℕ → Option R

@@ -1,9 +1,8 @@
 -- The actions that parsing makes and whose text is read as another one, and all those whose text is never read as them.
-use Rattle.std.specs.{Prelude.◌≡◌, Prelude.List, List.All}
-use Rattle.csicodec_tokens.specs.OneBased.{most}
-use Rattle.csicodec_actions.specs.{Actions.Action, Actions.Cursor, Actions.Device, Actions.Mouse, Devices.RequestTerminalParameters}
+use Rattle.std.specs.{List.All, Prelude.◌≡◌}
+use Rattle.csicodec_actions.specs.{Actions.Action, Actions.Cursor, Actions.Device, Actions.Mouse, Devices.RequestTerminalParameters, Common.List, Common.most}
+use Rattle.csicodec_actions.specs.{declared.mouse.MouseReport.MouseReport}
 use Rattle.csicodec_actions.specs.declared.cursor.Cursor.TheVariants as cursor
-use Rattle.csicodec_actions.specs.declared.mouse.MouseReport.TheVariants as mouse
 
 -- left and right margins all around are written as `s`, which saves the cursor; a request for the terminal's parameters is written as the report
 abbrev pub IsSpecial : Action → Type 0
@@ -16,5 +15,5 @@ NoneSpecial actions = All (λ action. ¬ IsSpecial action) actions
 
 -- a report in pixels is written as one in cells is
 abbrev pub IsNeverRead : Action → Type 0
-IsNeverRead (Mouse (mouse.SGR1016 x_pixels y_pixels button modifiers)) = Unit {0}
+IsNeverRead (Mouse (MouseReport.SGR1016 x_pixels y_pixels button modifiers)) = Unit {0}
 IsNeverRead action = IsSpecial action

@@ -8,17 +8,17 @@ pub mod Mode
 pub mod Mouse
 pub mod Path
 pub mod Window
-use Rattle.std.specs.{Prelude.⊤, Prelude.◌≡◌, Prelude.ℕ, Prelude.ℤ, Prelude.List, Prelude.◌++◌, Prelude.Option, Prelude.Some, Prelude.[], Prelude.◌∷◌}
-use Rattle.std.specs.{Prelude.None, Prelude.encode_utf8, List.Contains, List.flat_map, Option.option_or}
-use Rattle.csicodec_tokens.specs.{declared.param.CsiParam.CsiParam, Param.spells}
-use Rattle.csicodec_actions.specs.{FieldRows.FieldRow, FieldRows.Over, FieldRows.fields_over, FieldRows.gives as given_by, Rows.Row, Rows.gives, Rows.Before}
-use Rattle.csicodec_actions.specs.{Rows.rows_before, Table.Cursor.cursor_rows, Table.Cursor.as_cursor, Table.Cursor.written_cursor, Table.Device.device_rows}
-use Rattle.csicodec_actions.specs.{Table.Device.as_device, Table.Device.written_device, Table.Edit.edit_rows, Table.Edit.as_edit, Table.Edit.written_edit}
-use Rattle.csicodec_actions.specs.{Table.XtSmGraphics.graphics_fields, Table.XtSmGraphics.as_graphics, Table.Keyboard.keyboard_rows, Table.Keyboard.as_keyboard}
-use Rattle.csicodec_actions.specs.{Table.Keyboard.written_keyboard, Table.Mode.mode_rows, Table.Mode.as_mode, Table.Mode.written_mode, Table.Mouse.mouse_rows}
-use Rattle.csicodec_actions.specs.{Table.Mouse.as_mouse, Table.Mouse.written_mouse, Table.Path.path_rows, Table.Path.as_path, Table.Path.written_path}
-use Rattle.csicodec_actions.specs.{Table.Window.window_fields, Table.Window.as_window, Table.Window.written_window, Written.Written, Written.written_text}
-use Rattle.csicodec_actions.specs.{Actions.Action}
+use Rattle.std.specs.{Prelude.⊤, Prelude.encode_utf8, Prelude.◌≡◌, Prelude.◌++◌, Prelude.◌∷◌, List.Contains}
+use Rattle.csicodec_tokens.specs.Param.{spells}
+use Rattle.csicodec_actions.specs.{Common.ℕ, Common.ℤ, Common.List, Common.Option, Common.Some, Common.[], Common.None, Common.flat_map, Common.option_or}
+use Rattle.csicodec_actions.specs.{Common.CsiParam, FieldRows.FieldRow, FieldRows.Over, FieldRows.fields_over, FieldRows.gives as given_by, Rows.Row}
+use Rattle.csicodec_actions.specs.{Rows.gives, Rows.Before, Rows.rows_before, Table.Cursor.cursor_rows, Table.Cursor.as_cursor, Table.Cursor.written_cursor}
+use Rattle.csicodec_actions.specs.{Table.Device.device_rows, Table.Device.as_device, Table.Device.written_device, Table.Edit.edit_rows, Table.Edit.as_edit}
+use Rattle.csicodec_actions.specs.{Table.Edit.written_edit, Table.XtSmGraphics.graphics_fields, Table.XtSmGraphics.as_graphics, Table.Keyboard.keyboard_rows}
+use Rattle.csicodec_actions.specs.{Table.Keyboard.as_keyboard, Table.Keyboard.written_keyboard, Table.Mode.mode_rows, Table.Mode.as_mode}
+use Rattle.csicodec_actions.specs.{Table.Mode.written_mode, Table.Mouse.mouse_rows, Table.Mouse.as_mouse, Table.Mouse.written_mouse, Table.Path.path_rows}
+use Rattle.csicodec_actions.specs.{Table.Path.as_path, Table.Path.written_path, Table.Window.window_fields, Table.Window.as_window, Table.Window.written_window}
+use Rattle.csicodec_actions.specs.{Written.Written, Written.written_text, Actions.Action}
 use Rattle.csicodec_base.specs.SgrText.{sgr_text}
 use Rattle.csicodec_actions.specs.Actions as action
 

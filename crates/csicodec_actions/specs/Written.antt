@@ -1,13 +1,8 @@
 -- What an action of a list is written as: bytes and values, and then the final character.
 use Prim.Native.Char.{Char, code}
-use Rattle.std.specs.{Prelude.ℕ, Prelude.ℤ, Prelude.List, Prelude.[], Prelude.◌∷◌, Prelude.◌++◌, Prelude.if◌then◌else◌, Prelude.pos, Prelude.◌≡◌}
-use Rattle.std.specs.{Fmt.signed_decimal}
-use Rattle.csicodec_tokens.specs.{declared.param.CsiParam.CsiParam, declared.param.CsiParam.TheVariants.Integer, declared.param.CsiParam.TheVariants.P}
-use Rattle.csicodec_tokens.specs.{Param.token_text, Sequence.IsSpellable}
-use Rattle.csicodec_actions.specs.{declared.device.DeviceAttribute.DeviceAttribute, Devices.attribute_token, Kinds.Kind, Kinds.Count, Kinds.Any, Kinds.Value}
-use Rattle.csicodec_actions.specs.{Kinds.number, Kinds.Good}
-use Rattle.csicodec_names.specs.{Numbered.is_number, DeviceNumbers.device_attribute_number, declared.device.DeviceAttributeCodes.DeviceAttributeCodes}
-use Rattle.csicodec_actions.specs.declared.device.DeviceAttribute.TheVariants as attribute
+use Rattle.csicodec_actions.specs.Common.{ℕ, ℤ, List, [], pos, signed_decimal, CsiParam, Integer, P, token_text, IsSpellable, DeviceAttribute, is_number, device_attribute_number, DeviceAttributeCodes}
+use Rattle.csicodec_actions.specs.{Devices.attribute_token, Kinds.Kind, Kinds.Count, Kinds.Any, Kinds.Value, Kinds.number, Kinds.Good}
+use Rattle.std.specs.Prelude.{◌∷◌, ◌++◌, if◌then◌else◌, ◌≡◌}
 
 -- a byte; a value of a kind, as its number; a value that is left out where its number is this one; an extension of a terminal, as its token
 pub data Item : Type 0 where
@@ -83,8 +78,8 @@ IsUnnamed (P b) = b ≡ 59 → ⊥
 
 -- an extension that has a name, or any other token that a sequence can have
 abbrev pub GoodAttribute : DeviceAttribute → Type 0
-GoodAttribute (attribute.Code c) = Unit {0}
-GoodAttribute (attribute.Unspecified t) = IsSpellable t × IsUnnamed t
+GoodAttribute (DeviceAttribute.Code c) = Unit {0}
+GoodAttribute (DeviceAttribute.Unspecified t) = IsSpellable t × IsUnnamed t
 
 -- each value is written as a number that counts as it, and each extension as its token
 abbrev pub AllGood : List Item → Type 0

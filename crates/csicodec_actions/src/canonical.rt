@@ -1,7 +1,6 @@
 //! What several subjects ask of a value: whether it is read back from its own text.
-ghost use Rattle.std.specs.Prelude.{◌↔◌, IsTrue};
-ghost use Rattle.csicodec_tokens.specs.Sequence.{IsSpellable};
-ghost use Rattle.csicodec_actions.specs.Kinds.{Good, Any, Count};
+ghost use Rattle.csicodec_actions.specs.{Kinds.Good, Kinds.Any, Kinds.Count, Common.IsTrue, Common.IsSpellable};
+ghost use Rattle.std.specs.Prelude.{◌↔◌};
 
 use csicodec_base::{CsiParam, OneBased};
 

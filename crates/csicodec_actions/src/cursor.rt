@@ -1,8 +1,7 @@
 //! Moving the cursor, tab stops and margins.
-ghost use Rattle.std.specs.Prelude.{◌≡◌, ◌↔◌, ◌==◌, ◌&&◌, ◌≤◌, ◌<◌, ◌++◌, [], ◌∷◌, Some, if◌then◌else◌, length, IsTrue};
-ghost use Rattle.csicodec_tokens.specs.OneBased.{most};
-ghost use Rattle.csicodec_actions.specs.{Actions.Cursor as Moves, Kinds.Count, Special.IsSpecial, Table.Cursor.written_cursor, Written.AllGood, Written.shown};
-ghost use Rattle.csicodec_actions.specs.{Written.two, Written.written_text};
+ghost use Rattle.csicodec_actions.specs.{Common.[], Common.Some, Common.length, Common.IsTrue, Common.most, Actions.Cursor as Moves, Kinds.Count, Special.IsSpecial};
+ghost use Rattle.csicodec_actions.specs.{Table.Cursor.written_cursor, Written.AllGood, Written.shown, Written.two, Written.written_text};
+ghost use Rattle.std.specs.Prelude.{◌≡◌, ◌↔◌, ◌==◌, ◌&&◌, ◌≤◌, ◌<◌, ◌++◌, ◌∷◌, if◌then◌else◌};
 
 use crate::canonical::{is_count, is_one_based};
 use crate::encode::{write_choice, write_count, write_pair};

@@ -1,6 +1,6 @@
 //! Inserting, deleting, erasing and scrolling.
-ghost use Rattle.std.specs.Prelude.{◌≡◌, ◌↔◌, ◌≤◌, ◌++◌, Some, length, IsTrue};
-ghost use Rattle.csicodec_actions.specs.{Table.Edit.written_edit, Written.AllGood, Written.written_text};
+ghost use Rattle.csicodec_actions.specs.{Table.Edit.written_edit, Written.AllGood, Written.written_text, Common.Some, Common.length, Common.IsTrue};
+ghost use Rattle.std.specs.Prelude.{◌≡◌, ◌↔◌, ◌≤◌, ◌++◌};
 
 use crate::canonical::is_count;
 use crate::encode::{write_choice, write_count};

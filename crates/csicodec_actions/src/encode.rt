@@ -1,7 +1,6 @@
 //! How one parameter is written, and two.
-ghost use Rattle.std.specs.{Prelude.◌≡◌, Prelude.◌==◌, Prelude.◌<◌, Prelude.◌≤◌, Prelude.◌++◌, Prelude.[], Prelude.◌∷◌, Prelude.if◌then◌else◌, Prelude.length};
-ghost use Rattle.std.specs.{Fmt.decimal};
-ghost use Rattle.csicodec_actions.specs.{Kinds.Count, Written.Unless, Written.shown, Written.two};
+ghost use Rattle.std.specs.{Fmt.decimal, Prelude.◌≡◌, Prelude.◌==◌, Prelude.◌<◌, Prelude.◌≤◌, Prelude.◌++◌, Prelude.◌∷◌, Prelude.if◌then◌else◌};
+ghost use Rattle.csicodec_actions.specs.{Kinds.Count, Written.Unless, Written.shown, Written.two, Common.[], Common.length};
 
 use csicodec_base::{OneBased, Text};
 

@@ -1,8 +1,8 @@
 //! Lists that are read by their fields, where they stand: it takes no memory.
-ghost use Rattle.std.specs.{Prelude.◌≡◌, Prelude.IfOk, Prelude.Some, List.list_all, Option.option_map};
-ghost use Rattle.csicodec_tokens.specs.{Fields.fields_of, Private.FieldsBy.is_field_token};
+ghost use Rattle.std.specs.{List.list_all, Prelude.◌≡◌};
+ghost use Rattle.csicodec_tokens.specs.Private.FieldsBy.{is_field_token};
 ghost use Rattle.csicodec_actions.specs.{FieldRows.ahead_of_byte, FieldRows.behind, FieldRows.first, FieldRows.is_there, FieldRows.numbers, FieldRows.value_or};
-ghost use Rattle.csicodec_actions.specs.{Kinds.Count, Lent.integers};
+ghost use Rattle.csicodec_actions.specs.{Kinds.Count, Lent.integers, Common.IfOk, Common.Some, Common.option_map, Common.fields_of};
 
 use csicodec_base::{CsiParam, OneBased};
 use std::alloc::{AllocError, Global};

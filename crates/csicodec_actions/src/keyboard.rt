@@ -1,8 +1,8 @@
 //! The keyboard, and paths of characters.
-ghost use Rattle.std.specs.Prelude.{◌≤◌, ◌++◌, [], ◌∷◌, length, ◌≡◌, ◌↔◌, ◌<◌, Some, pos, IsTrue};
-ghost use Rattle.csicodec_actions.specs.Kinds.{Good, Flags as FlagsKind, Path, Way, read, kitty_mode_number, path_number};
-ghost use Rattle.csicodec_actions.specs.{Table.Keyboard.written_keyboard, Written.AllGood, Written.Byte, Written.The, Written.shown, Written.written_text};
-ghost use Rattle.csicodec_actions.specs.{declared.keyboard.KittyKeyboardMode.KittyKeyboardMode};
+ghost use Rattle.csicodec_actions.specs.{Common.[], Common.length, Common.Some, Common.pos, Common.IsTrue, Common.KittyKeyboardMode, Kinds.Good};
+ghost use Rattle.csicodec_actions.specs.{Kinds.Flags as FlagsKind, Kinds.Way, Kinds.read, Kinds.kitty_mode_number, Table.Keyboard.written_keyboard, Written.AllGood};
+ghost use Rattle.csicodec_actions.specs.{Written.Byte, Written.The, Written.shown, Written.written_text};
+ghost use Rattle.std.specs.Prelude.{◌≤◌, ◌++◌, ◌∷◌, ◌≡◌, ◌↔◌, ◌<◌};
 
 use bitflags::Flags;
 use csicodec_base::{KittyKeyboardFlags, Text};

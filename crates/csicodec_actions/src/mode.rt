@@ -1,8 +1,9 @@
 //! Modes: what is set, reset, saved, restored or asked for.
-ghost use Rattle.std.specs.Prelude.{◌≤◌, ◌++◌, [], ◌∷◌, IsAscii, length, ◌≡◌, ◌↔◌, ◌<◌, Some, pos, IsTrue};
-ghost use Rattle.csicodec_actions.specs.{Table.Mode.written_mode, Written.AllGood, Written.Byte, Written.The, Written.shown, Written.written_text, Modes.changed};
-ghost use Rattle.csicodec_actions.specs.{Modes.dec_number, Modes.resource_number, Modes.switched, Modes.terminal_number, Kinds.Good, Kinds.Dec, Kinds.Resource};
-ghost use Rattle.csicodec_actions.specs.{Kinds.Terminal, Kinds.read, declared.mode.XtermKeyModifierResource.XtermKeyModifierResource};
+ghost use Rattle.std.specs.Prelude.{IsAscii, ◌≤◌, ◌++◌, ◌∷◌, ◌≡◌, ◌↔◌, ◌<◌};
+ghost use Rattle.csicodec_actions.specs.{Common.[], Common.length, Common.Some, Common.pos, Common.IsTrue, Common.XtermKeyModifierResource, Table.Mode.written_mode};
+ghost use Rattle.csicodec_actions.specs.{Written.AllGood, Written.Byte, Written.The, Written.shown, Written.written_text, Modes.changed, Modes.dec_number};
+ghost use Rattle.csicodec_actions.specs.{Modes.resource_number, Modes.switched, Modes.terminal_number, Kinds.Good, Kinds.Dec, Kinds.Resource, Kinds.Terminal};
+ghost use Rattle.csicodec_actions.specs.{Kinds.read};
 
 use crate::canonical::is_said;
 use csicodec_base::{DecPrivateModeCode, TerminalModeCode, Text};
@@ -25,10 +26,14 @@ pub enum DecPrivateMode {
 
 impl DecPrivateMode {
     /// The mode of a number from 0 to 65535, and none for another one.
+    #[tactic(auto, unfolding(crate::specs::Kinds::read))]
     pub fn at(number: i64) -> Option<DecPrivateMode>
         ensures { result ≡ read Dec number }
     {
-        Some(DecPrivateMode::from(u16::try_from(number).ok()?))
+        match DecPrivateModeCode::from_i64(number) {
+            Some(code) => Some(DecPrivateMode::Code(code)),
+            None => Some(DecPrivateMode::Unspecified(u16::try_from(number).ok()?)),
+        }
     }
 
     /// The number of this mode.
@@ -46,6 +51,7 @@ impl DecPrivateMode {
 impl From<u16> for DecPrivateMode {
     ghost from_gives = { λ number mode. Some mode ≡ read Dec (pos number) };
 
+    #[tactic(auto, unfolding(crate::specs::Kinds::read))]
     fn from(number: u16) -> DecPrivateMode {
         match DecPrivateModeCode::from_i64(i64::from(number)) {
             Some(code) => DecPrivateMode::Code(code),
@@ -81,10 +87,14 @@ pub enum TerminalMode {
 
 impl TerminalMode {
     /// The mode of a number from 0 to 65535, and none for another one.
+    #[tactic(auto, unfolding(crate::specs::Kinds::read))]
     pub fn at(number: i64) -> Option<TerminalMode>
         ensures { result ≡ read Terminal number }
     {
-        Some(TerminalMode::from(u16::try_from(number).ok()?))
+        match TerminalModeCode::from_i64(number) {
+            Some(code) => Some(TerminalMode::Code(code)),
+            None => Some(TerminalMode::Unspecified(u16::try_from(number).ok()?)),
+        }
     }
 
     /// The number of this mode.
@@ -102,6 +112,7 @@ impl TerminalMode {
 impl From<u16> for TerminalMode {
     ghost from_gives = { λ number mode. Some mode ≡ read Terminal (pos number) };
 
+    #[tactic(auto, unfolding(crate::specs::Kinds::read))]
     fn from(number: u16) -> TerminalMode {
         match TerminalModeCode::from_i64(i64::from(number)) {
             Some(code) => TerminalMode::Code(code),

@@ -1,7 +1,8 @@
 //! Reports of the mouse.
-ghost use Rattle.std.specs.Prelude.{◌≡◌, ◌↔◌, ◌<◌, ◌≤◌, ◌++◌, Some, length, IsTrue};
 ghost use Rattle.csicodec_actions.specs.{Actions.Mouse as Reports, Kinds.AreHeld, Special.IsNeverRead, Mouse.button_code, Mouse.held_buttons, Mouse.is_release};
-ghost use Rattle.csicodec_actions.specs.{Mouse.modifiers_code, Table.Mouse.written_mouse, Written.AllGood, Written.written_text};
+ghost use Rattle.csicodec_actions.specs.{Mouse.modifiers_code, Table.Mouse.written_mouse, Written.AllGood, Written.written_text, Common.Some, Common.length};
+ghost use Rattle.csicodec_actions.specs.{Common.IsTrue};
+ghost use Rattle.std.specs.Prelude.{◌≡◌, ◌↔◌, ◌<◌, ◌≤◌, ◌++◌};
 ghost use Rattle.csicodec_names.specs.FlagBits.{button_bits};
 
 use bitflags::Flags;

@@ -1,7 +1,7 @@
 //! The path of characters.
-ghost use Rattle.std.specs.Prelude.{◌≡◌, ◌≤◌, ◌++◌, Some, length, ◌<◌, ◌↔◌, pos};
-ghost use Rattle.csicodec_actions.specs.{Table.Path.written_path, Written.written_text, Kinds.Path, Kinds.read, Kinds.path_number};
-ghost use Rattle.csicodec_actions.specs.{declared.path.CharacterPath.CharacterPath};
+ghost use Rattle.csicodec_actions.specs.{Table.Path.written_path, Written.written_text, Kinds.Path, Kinds.read, Kinds.path_number, Common.Some, Common.length};
+ghost use Rattle.csicodec_actions.specs.{Common.pos, Common.CharacterPath};
+ghost use Rattle.std.specs.Prelude.{◌≡◌, ◌≤◌, ◌++◌, ◌<◌, ◌↔◌};
 
 use csicodec_base::Text;
 

@@ -1,7 +1,7 @@
 //! Operations on the terminal's window and its title, and the checksum of an area of the page.
-ghost use Rattle.std.specs.Prelude.{◌≡◌, ◌↔◌, [], Some, IsTrue};
 ghost use Rattle.csicodec_actions.specs.{Table.Window.maybe, Table.Window.written_window, Private.WindowTexts.written_numbers, Written.AllGood, Written.shown};
-ghost use Rattle.csicodec_actions.specs.{Written.written_text};
+ghost use Rattle.csicodec_actions.specs.{Written.written_text, Common.[], Common.Some, Common.IsTrue};
+ghost use Rattle.std.specs.Prelude.{◌≡◌, ◌↔◌};
 
 use crate::canonical::{is_one_based, is_said};
 use csicodec_base::OneBased;

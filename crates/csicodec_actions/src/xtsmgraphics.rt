@@ -1,11 +1,10 @@
 //! Graphics of a terminal, asked for and answered, and their row.
-ghost use Rattle.std.specs.{Prelude.◌≡◌, Prelude.◌↔◌, Prelude.IfOk, Prelude.IsSome, Prelude.IsTrue, Prelude.Some, Prelude.pos, Prelude.IfErr, Prelude.OnErr};
-ghost use Rattle.std.specs.{Fmt.signed_decimal, Option.option_map};
+ghost use Rattle.std.specs.Prelude.{IfErr, ◌≡◌, ◌↔◌};
 ghost use Rattle.csicodec_actions.specs.Table.XtSmGraphics.{RefusesGraphics, as_graphics, graphics_behind, graphics_rows, written_graphics};
+ghost use Rattle.csicodec_actions.specs.Common.{IfOk, IsSome, IsTrue, Some, pos, OnErr, signed_decimal, option_map, XtSmGraphicsAction, XtSmGraphicsStatus};
 ghost use Rattle.csicodec_actions.specs.{Devices.HoldsMemory, Devices.graphics_of, XtSmGraphics.action_number, XtSmGraphics.item_number, XtSmGraphics.item_of};
-ghost use Rattle.csicodec_actions.specs.{XtSmGraphics.status_number, declared.xtsmgraphics.XtSmGraphicsAction.XtSmGraphicsAction};
-ghost use Rattle.csicodec_actions.specs.{declared.xtsmgraphics.XtSmGraphicsStatus.XtSmGraphicsStatus, Actions.Device as Devices, Kinds.Good, Kinds.GraphicsItem};
-ghost use Rattle.csicodec_actions.specs.{Written.AllGood, Written.any_number, Written.listed, FieldRows.given, Lent.lent_graphics};
+ghost use Rattle.csicodec_actions.specs.{XtSmGraphics.status_number, Actions.Device as Devices, Kinds.Good, Kinds.GraphicsItem, Written.AllGood, Written.any_number};
+ghost use Rattle.csicodec_actions.specs.{Written.listed, FieldRows.given, Lent.lent_graphics};
 
 use crate::canonical::is_said;
 use crate::fields::{Fields, fields_in, integers_in};

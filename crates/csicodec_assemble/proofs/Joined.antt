@@ -1,15 +1,9 @@
 -- Lines one after the other, and what they stand for.
-use Rattle.std.proofs.Common.{◌≡◌, inl, inr, ℕ, ◌+◌, ◌-◌, ◌^◌, ◌<◌, ◌≤◌, ◌==◌, zero, suc, min, Bool, true, false, not, List, [], ◌∷◌, ◌++◌, take, length, Result, Ok, Err, cond, refl, sym, ap, subst, ◌∙◌, append_assoc, append-nil, length-append, arith}
-use Rattle.std.proofs.{lemmas.Bool.and_parts, lemmas.Bool.false_from_ne_true, lemmas.Bool.le-ltb, lemmas.Bool.lt-ltb, lemmas.Bool.not-true}
-use Rattle.std.proofs.{lemmas.List.take_all}
-use Rattle.std.specs.List.{concat, list_all}
+use Rattle.csicodec_assemble.proofs.Common.{◌≡◌, inl, inr, ℕ, ◌+◌, ◌-◌, ◌^◌, ◌<◌, ◌≤◌, ◌==◌, zero, suc, min, Bool, true, false, not, List, [], ◌∷◌, ◌++◌, take, length, Result, Ok, Err, cond, refl, sym, ap, subst, ◌∙◌, append_assoc, append-nil, length-append, arith, and_parts, false_from_ne_true, le-ltb, lt-ltb, not-true, take_all, concat, list_all, Fault, TooLong, Refusal, IsTold, of_line}
+use Rattle.csicodec_assemble.proofs.Shown.{read_back}
 use Rattle.memchr.specs.Find.{Nowhere, is_byte}
 use Rattle.csicodec_assemble.specs.Lines.{AreKept, AreShown, Assembles, GiveAll, Gives, IsFirst, IsLineOf, IsRefused, Passes, Refuses, assembled, before, counted, ended, last_line, lines_from, most, of_bounded, of_lines, one_more}
-use Rattle.csicodec_assemble.specs.{declared.object.Fault.Fault, declared.object.Fault.TheVariants.TooLong, declared.object.Refusal.Refusal, Object.IsTold}
-use Rattle.csicodec_assemble.specs.{Object.of_line}
-use Rattle.csicodec_assemble.proofs.Shown.{read_back}
 use Rattle.memchr.specs.Find as find
-use Rattle.csicodec_assemble.specs.declared.object.Refusal.TheVariants as refusal
 
 abbrev Answer : Type 0
 Answer = Result (List ℕ) Fault
@@ -50,9 +44,9 @@ last_gives [] text some short gives = cc some
 last_gives (l ∷ line) text some short gives = (text, [], sym (append-nil text), short, gives, refl)
 
 pub last_refused : (e : Refusal) (line : List ℕ) → (length line == 0) ≡ false → length line ≤ most → IsTold e (of_line line) → IsFirst e (last_line line)
-last_refused refusal.Memory line some short told = tt
-last_refused (refusal.Line f) [] some short told = cc some
-last_refused (refusal.Line f) (l ∷ line) some short told = (l ∷ line, [], refl, bounded (l ∷ line) short ∙ told)
+last_refused Refusal.Memory line some short told = tt
+last_refused (Refusal.Line f) [] some short told = cc some
+last_refused (Refusal.Line f) (l ∷ line) some short told = (l ∷ line, [], refl, bounded (l ∷ line) short ∙ told)
 
 -- the first of the lines that go on with a line is no shorter
 begins_at : (t : Bool) (line bytes : List ℕ) (own : List (List ℕ))
@@ -88,7 +82,7 @@ run_on (b ∷ run) line more h =
 pub passes_run : (line run : List ℕ) → Runs run → Passes line run [] [] (line ++ run)
 passes_run line run h = record { lines = λ more. run_on run line more h; all = refl }
 
-pub refused_long : (line run : List ℕ) → Runs run → most < length line + length run → IsRefused (refusal.Line TooLong) line run
+pub refused_long : (line run : List ℕ) → Runs run → most < length line + length run → IsRefused (Refusal.Line TooLong) line run
 refused_long line run h long = λ more.
     let (next, rest, e, le) = begins more (line ++ run) (omega (arith, length-append line run, long)) in
     (next, rest, run_on run line more h ∙ e, too_long next (omega (arith, length-append line run, le, long)))
@@ -99,8 +93,8 @@ refused_then e line bytes more rest split refuses = λ behind. rw (split, append
 
 -- the end of a line that is refused
 pub refused_by : (e : Refusal) (line : List ℕ) → length line ≤ most → IsTold e (of_line line) → IsRefused e line (10 ∷ [])
-refused_by (refusal.Line f) line short told = λ more. (line, lines_from [] more, refl, bounded line short ∙ told)
-refused_by refusal.Memory line short told = λ more. tt
+refused_by (Refusal.Line f) line short told = λ more. (line, lines_from [] more, refl, bounded line short ∙ told)
+refused_by Refusal.Memory line short told = λ more. tt
 
 -- no byte ahead of the first LF is one
 pub none_before : (n : ℕ) (bytes : List ℕ) → Nowhere (find.Passes (is_byte 10) bytes) 0 n → Runs (take n bytes)
@@ -194,7 +188,7 @@ one_line_more n = omega arith
 
 -- what is left of a text goes on with a line that is refused
 pub refuses_at : (f : Fault) (front rest text line : List ℕ) (over : List (List ℕ)) → Passes [] front over text line
-    → IsFirst (refusal.Line f) (lines_from line rest) → Refuses (one_more (counted 0 over)) f (front ++ rest) text
+    → IsFirst (Refusal.Line f) (lines_from line rest) → Refuses (one_more (counted 0 over)) f (front ++ rest) text
 refuses_at f front rest text line over p (whole, others, e, told) = record {
   ahead = over;
   line = whole;
@@ -206,7 +200,7 @@ refuses_at f front rest text line over p (whole, others, e, told) = record {
 }
 
 pub refused : (f : Fault) (front rest text line more : List ℕ) (over : List (List ℕ)) → Passes [] front over text line
-    → IsRefused (refusal.Line f) line rest → Refuses (one_more (counted 0 over)) f (front ++ rest ++ more) text
+    → IsRefused (Refusal.Line f) line rest → Refuses (one_more (counted 0 over)) f (front ++ rest ++ more) text
 refused f front rest text line more over p refuses =
     subst (λ (all : List ℕ). Refuses (one_more (counted 0 over)) f all text) (sym (append_assoc front rest more))
     (refuses_at f front (rest ++ more) text line over p (refuses more))

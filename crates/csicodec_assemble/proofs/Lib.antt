@@ -1,3 +1,4 @@
+pub mod Common
 pub mod Shown
 pub mod Joined
 pub mod Member

@@ -1,14 +1,7 @@
 -- Members and items that are passed, and what is known of them.
-use Rattle.std.proofs.Common.{◌≡◌, ℕ, ◌-◌, ◌<◌, ◌≤◌, ◌^◌, List, [], false, length, Option, Some, None, Ok, IsSome, refl, sym, ap, ◌∙◌, lt-ltb, get_or, subst}
-use Rattle.std.proofs.{lemmas.Slice.Eq.bytes_eq-Decides, lemmas.Str.is_utf8-from_IsUtf8}
-use Rattle.std.specs.{Prelude.codes, Prelude.◌==◌, Prelude.option_and_then, Prelude.option_map, Prelude.IsUtf8, Str.bytes_eq}
-use Rattle.fast_float.specs.Text.{IsInteger, digits_of, scan}
-use Rattle.json.specs.{Token.Token, Json.parse_map, Json.after_end_array, Json.read_key, Json.items, Json.members}
-use Rattle.json.proofs.Grammar.{items_end, items_more, members_end, members_more}
-use Rattle.serde_json.specs.Data.{Data, Items, Members, no_items, item, no_members, put, string, array, object}
-use Rattle.serde_json.specs.Read.{read, converted, number_of, of_items, of_json, of_members}
+use Rattle.csicodec_assemble.proofs.Common.{◌≡◌, ℕ, ◌-◌, ◌<◌, ◌≤◌, ◌^◌, List, [], false, length, Option, Some, None, Ok, IsSome, refl, sym, ap, ◌∙◌, lt-ltb, get_or, subst, bytes_eq-Decides, is_utf8-from_IsUtf8, codes, ◌==◌, option_and_then, option_map, IsUtf8, bytes_eq, IsInteger, digits_of, scan, Token, parse_map, after_end_array, read_key, items, members, items_end, items_more, members_end, members_more, Data, Items, Members, no_items, item, no_members, put, string, array, object, read, converted, of_items, of_json, of_members, is_totals, of_line, of_object, Says}
+use Rattle.serde_json.specs.Read.{number_of}
 use Rattle.serde_json.proofs.Views.{get_member-put, get_member-put_other}
-use Rattle.csicodec_assemble.specs.{Object.is_totals, Object.of_line, Object.of_object, Private.Glance.Says}
 use Rattle.json.specs.Json as json
 
 -- digits alone below 2^64 are a number

@@ -1,65 +1,37 @@
 -- A line whose object begins with a place: what follows that place says what the line stands for.
-use Rattle.std.proofs.Common.{◌≡◌, ℕ, ◌-◌, Bool, true, false, List, [], ◌∷◌, ◌++◌, length, Option, Some, None, Ok, IsSome, refl, sym, ap, ◌∙◌, subst, arith, rules, Bor, IfSome}
-use Rattle.std.proofs.lemmas.Str.{IsUtf8-append, IsUtf8-from_ascii}
-use Rattle.std.specs.Prelude.{IsUtf8, codes, option_map}
-use Rattle.json.specs.Lex.{Lexeme, token, comma, colon, string_token, Place, fresh, after_comma, place_token, punctuate, between, in_string, lex, tokens, begins_colon}
-use Rattle.json.specs.{Token.Token, Token.begin_object, Token.key, Token.number, Text.content, Text.plain, Json.members, Json.parse_map, Json.value}
-use Rattle.json.specs.{Print.IsNumber}
-use Rattle.json.proofs.{Grammar.value-begin_object, Grammar.value_is, Printed.Numbers.lex-number}
-use Rattle.serde_json.specs.{Data.Data, Data.Members, Data.Num, Data.no_members, Data.put, Data.object, Read.converted, Read.number_of, Read.of_json, Read.read}
-use Rattle.csicodec_assemble.specs.{Object.of_line, Private.Glance.Follow, Private.Glance.Says, Private.Glance.Stands}
+use Rattle.csicodec_assemble.proofs.Common.{◌≡◌, ℕ, ◌-◌, Bool, true, false, List, [], ◌∷◌, ◌++◌, length, Option, Some, None, Ok, IsSome, refl, sym, ap, ◌∙◌, subst, arith, rules, Bor, IfSome, IsUtf8-append, IsUtf8-from_ascii, IsUtf8, codes, option_map, Lexeme, token, comma, colon, string_token, Place, fresh, after_comma, place_token, between, in_string, tokens, begins_colon, Token, begin_object, key, members, parse_map, value, value-begin_object, value_is, Members, Num, no_members, put, object, converted, number_of, of_json, read, of_line, Follow, Says, Stands}
 use Rattle.csicodec_assemble.proofs.Member.{differs, converted-object, is_there, line_is, member_read, says_object, says_other, whole_read}
+use Rattle.json.specs.{Lex.punctuate, Lex.lex, Token.number, Text.content, Text.plain, Print.IsNumber}
+use Rattle.json.proofs.Printed.Numbers.{lex-number}
 use Rattle.serde_json.specs.Data as values
 
 -- ---- the lexemes
-
-opened : (xs : List ℕ) → lex between (123 ∷ 34 ∷ 97 ∷ 116 ∷ 34 ∷ 58 ∷ xs) ≡ token begin_object ∷ token (Token.string (97 ∷ 116 ∷ [])) ∷ colon ∷ lex between xs
-unfolding lex content
-opened xs = refl
-
-at_comma : (xs : List ℕ) → lex between (44 ∷ xs) ≡ comma ∷ lex between xs
-unfolding lex
-at_comma xs = refl
-
-at_quote : (xs : List ℕ) → lex between (34 ∷ xs) ≡ token (string_token (content plain xs)) ∷ lex in_string xs
-unfolding lex
-at_quote xs = refl
 
 abbrev line_of : List ℕ → List ℕ → List ℕ
 line_of ds more = 123 ∷ 34 ∷ 97 ∷ 116 ∷ 34 ∷ 58 ∷ (ds ++ 44 ∷ 34 ∷ more)
 
 lexemes : (ds more : List ℕ) → IsNumber ds
     → lex between (line_of ds more) ≡ token begin_object ∷ token (Token.string (97 ∷ 116 ∷ [])) ∷ colon ∷ token (number ds) ∷ comma ∷ lex between (34 ∷ more)
+unfolding lex content
 lexemes ds more is =
-    opened (ds ++ 44 ∷ 34 ∷ more)
-    ∙ ap (λ (ls : List Lexeme). token begin_object ∷ token (Token.string (97 ∷ 116 ∷ [])) ∷ colon ∷ ls)
-    (lex-number ds (44 ∷ 34 ∷ more) is refl ∙ ap (λ (ls : List Lexeme). token (number ds) ∷ ls) (at_comma (34 ∷ more)))
+    ap (λ (ls : List Lexeme). token begin_object ∷ token (Token.string (97 ∷ 116 ∷ [])) ∷ colon ∷ ls) (lex-number ds (44 ∷ 34 ∷ more) is refl)
 
 -- ---- the tokens
-
-begun : (ds : List ℕ) (ls : List Lexeme) → punctuate fresh (token begin_object ∷ token (Token.string (97 ∷ 116 ∷ [])) ∷ colon ∷ token (number ds) ∷ comma ∷ ls)
-    ≡ begin_object ∷ key (97 ∷ 116 ∷ []) ∷ number ds ∷ punctuate after_comma ls
-unfolding punctuate
-begun ds ls = refl
 
 same_place : (o : Option (List ℕ)) (b : Bool) (k : Place → List Token) → place_token after_comma (string_token o) b k ≡ place_token fresh (string_token o) b k
 same_place None b k = refl
 same_place (Some s) true k = refl
 same_place (Some s) false k = refl
 
-same_string : (o : Option (List ℕ)) (ls : List Lexeme) → punctuate after_comma (token (string_token o) ∷ ls) ≡ punctuate fresh (token (string_token o) ∷ ls)
-unfolding punctuate
-same_string o ls = same_place o (begins_colon ls) (λ next. punctuate next ls)
-
 -- a string stands behind a comma as it does at the front
 same_quote : (more : List ℕ) → punctuate after_comma (lex between (34 ∷ more)) ≡ tokens (34 ∷ more)
-same_quote more =
-    ap (punctuate after_comma) (at_quote more) ∙ same_string (content plain more) (lex in_string more) ∙ ap (punctuate fresh) (sym (at_quote more))
+unfolding lex punctuate
+same_quote more = same_place (content plain more) (begins_colon (lex in_string more)) (λ next. punctuate next (lex in_string more))
 
 tokens_of : (ds more : List ℕ) → IsNumber ds → tokens (line_of ds more) ≡ begin_object ∷ key (97 ∷ 116 ∷ []) ∷ number ds ∷ tokens (34 ∷ more)
+unfolding punctuate
 tokens_of ds more is =
-    ap (punctuate fresh) (lexemes ds more is) ∙ begun ds (lex between (34 ∷ more))
-    ∙ ap (λ (ts : List Token). begin_object ∷ key (97 ∷ 116 ∷ []) ∷ number ds ∷ ts) (same_quote more)
+    ap (punctuate fresh) (lexemes ds more is) ∙ ap (λ (ts : List Token). begin_object ∷ key (97 ∷ 116 ∷ []) ∷ number ds ∷ ts) (same_quote more)
 
 -- ---- what they are
 

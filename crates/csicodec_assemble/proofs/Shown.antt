@@ -1,10 +1,8 @@
 -- What an object shows is what it stands for.
-use Rattle.std.proofs.Common.{◌≡◌, ℕ, List, Bool, true, false, Option, Some, None, Ok, cond, refl}
-use Rattle.std.specs.Str.{is_utf8}
+use Rattle.csicodec_assemble.proofs.Common.{◌≡◌, ℕ, List, Bool, true, false, Option, Some, None, Ok, cond, refl, is_utf8, Data, string, Shows, of_object}
 use Rattle.hex.specs.Hex.{IsBytes, encode_lower}
 use Rattle.hex.proofs.HexLemmas.{decode_of-encode_lower}
-use Rattle.serde_json.specs.Data.{Data, string}
-use Rattle.csicodec_assemble.specs.Object.{Shows, of_members, of_object}
+use Rattle.csicodec_assemble.specs.Object.{of_members}
 
 -- the members, whether the bytes are UTF-8 or not
 members : (u : Bool) (bytes : List ℕ) (text digits actions : Option Data) → IsBytes bytes

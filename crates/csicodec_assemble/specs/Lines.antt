@@ -4,8 +4,6 @@ use Rattle.std.specs.{List.list_all, Str.is_utf8}
 use Rattle.hex.specs.Hex.{IsBytes}
 use Rattle.serde_json.specs.{Data.Data, Read.read}
 use Rattle.csicodec_assemble.specs.{declared.object.Fault.Fault, declared.object.Refusal.Refusal, Object.Shows, Object.of_line}
-use Rattle.csicodec_assemble.specs.declared.object.Fault.TheVariants as fault
-use Rattle.csicodec_assemble.specs.declared.object.Refusal.TheVariants as refusal
 
 -- the most bytes of a line: 16 MiB
 abbrev pub most : ℕ
@@ -23,7 +21,7 @@ lines_from line (b ∷ bytes) = if b == 10 then line ∷ lines_from [] bytes els
 
 -- the bytes that a line stands for, if it isn't too long
 abbrev pub of_bounded : List ℕ → Result (List ℕ) Fault
-of_bounded line = if nat_lt most (length line) then Err fault.TooLong else of_line line
+of_bounded line = if nat_lt most (length line) then Err Fault.TooLong else of_line line
 
 -- bytes, and what follows
 abbrev pub before : Result (List ℕ) Fault → Result (List ℕ) Fault → Result (List ℕ) Fault
@@ -47,7 +45,7 @@ most_found = 8388608
 -- A line gives the bytes that it stands for. One that isn't too long, and is refused for its actions, gives any that are found.
 abbrev pub Gives : List ℕ → List ℕ → Type 0
 Gives line bytes = (of_line line ≡ Ok bytes)
-    ⊎ ((length line ≤ most_found) × (of_line line ≡ Err fault.NoSequence) × IsBytes bytes)
+    ⊎ ((length line ≤ most_found) × (of_line line ≡ Err Fault.NoSequence) × IsBytes bytes)
 
 -- lines give this, one after the other
 abbrev pub GiveAll : List (List ℕ) → List ℕ → Type 0
@@ -62,7 +60,7 @@ Assembles text bytes = GiveAll (lines_from [] text) bytes
 -- none of the lines is refused for its actions
 abbrev pub AreKept : List (List ℕ) → Type 0
 AreKept [] = Unit {0}
-AreKept (line ∷ lines) = (of_line line ≢ Err fault.NoSequence) × AreKept lines
+AreKept (line ∷ lines) = (of_line line ≢ Err Fault.NoSequence) × AreKept lines
 
 -- Where a line had begun, and bytes came: the lines that are over, what they give, and the line that has begun then.
 -- Whatever comes behind the bytes goes on with that line.
@@ -72,8 +70,8 @@ pub record Passes (first bytes : List ℕ) (over : List (List ℕ)) (text last :
 
 -- the first of some lines is refused, or memory ran out
 abbrev pub IsFirst : Refusal → List (List ℕ) → Type 0
-IsFirst (refusal.Line f) lines = (line : List ℕ) × (others : List (List ℕ)) × (lines ≡ line ∷ others) × (of_bounded line ≡ Err f)
-IsFirst refusal.Memory lines = Unit {0}
+IsFirst (Refusal.Line f) lines = (line : List ℕ) × (others : List (List ℕ)) × (lines ≡ line ∷ others) × (of_bounded line ≡ Err f)
+IsFirst Refusal.Memory lines = Unit {0}
 
 -- so is the line with which bytes go on, whatever comes behind them
 abbrev pub IsRefused : Refusal → List ℕ → List ℕ → Type 0

@@ -97,22 +97,18 @@ fn take_member<'a>(
         → Says (option_map (λ s. s.now) now) (put name.now d found))) }
     ensures shorter { OnOk result (length reader.new < length reader.old) }
 {
-    if name == "text" {
-        return Ok(Some(take_string(reader)?));
-    }
-    if name == "kind" {
-        let kind = take_string(reader)?;
-        return if kind == "totals" {
-            Err(Invalid)
-        } else {
+    match name {
+        "text" => Ok(Some(take_string(reader)?)),
+        "kind" => match take_string(reader)? {
+            "totals" => Err(Invalid),
+            _ => Ok(text),
+        },
+        "hex" => Err(Invalid),
+        _ => {
+            pass(reader, DEPTH)?;
             Ok(text)
-        };
+        }
     }
-    if name == "hex" {
-        return Err(Invalid);
-    }
-    pass(reader, DEPTH)?;
-    Ok(text)
 }
 
 /// Passes the members of an object that follow others, which have no text: the text, if these have one. They have no `hex`, and aren't of
@@ -202,42 +198,6 @@ impl Glance {
         }
     }
 
-    /// Appends the text of what follows a line's place, and holds it; whether it has that form.
-    fn append_read(&mut self, rest: &[u8], out: &mut Vec<u8>) -> Result<bool, AllocError>
-        ensures bytes { IfOk result (λ told. IsTrue told → (text : List ℕ)
-            × Stands rest.now text × (out.new.items ≡ out.old.items ++ text)) }
-        ensures none { IfOk result (λ told. IsFalse told → out.new.items ≡ out.old.items) }
-        ensures kept { OnErr result (out.new.items ≡ out.old.items) }
-    {
-        let Ok(line) = std::str::from_utf8(rest) else {
-            return Ok(false);
-        };
-        let mut reader = Reader::new(line, &mut self.scratch)?;
-        let Some(text) = text_at_end(&mut reader) else {
-            return Ok(false);
-        };
-        let bytes = text.as_bytes();
-        self.rests.hold(rest, bytes)?;
-        out.extend_from_slice(bytes)?;
-        Ok(true)
-    }
-
-    /// Appends the text of what follows a line's place; whether it has that form.
-    fn append_rest(&mut self, rest: &[u8], out: &mut Vec<u8>) -> Result<bool, AllocError>
-        ensures bytes { IfOk result (λ told. IsTrue told → (text : List ℕ)
-            × Stands rest.now text × (out.new.items ≡ out.old.items ++ text)) }
-        ensures none { IfOk result (λ told. IsFalse told → out.new.items ≡ out.old.items) }
-        ensures kept { OnErr result (out.new.items ≡ out.old.items) }
-    {
-        match self.rests.text_of(rest) {
-            Some(text) => {
-                out.extend_from_slice(text)?;
-                Ok(true)
-            }
-            None => self.append_read(rest, out),
-        }
-    }
-
     /// Appends the text of an object that doesn't begin with a place; whether it has that form.
     fn append_whole(&mut self, line: &[u8], out: &mut Vec<u8>) -> Result<bool, AllocError>
         ensures bytes { IfOk result (λ told. IsTrue told → (text : List ℕ)
@@ -256,16 +216,30 @@ impl Glance {
         Ok(true)
     }
 
-    /// Appends the text of a line's object, where it has that form; whether it does.
+    /// Appends the text of a line's object, where it has that form; whether it does. What follows its place is held with that.
     pub(crate) fn append_text(&mut self, line: &[u8], out: &mut Vec<u8>) -> Result<bool, AllocError>
         ensures bytes { IfOk result (λ told. IsTrue told → (text : List ℕ)
             × (of_line line.now ≡ Ok text) × (out.new.items ≡ out.old.items ++ text)) }
         ensures none { IfOk result (λ told. IsFalse told → out.new.items ≡ out.old.items) }
         ensures kept { OnErr result (out.new.items ≡ out.old.items) }
     {
-        match behind_place(line) {
-            Some(rest) => self.append_rest(rest, out),
-            None => self.append_whole(line, out),
+        let Some(rest) = behind_place(line) else {
+            return self.append_whole(line, out);
+        };
+        if let Some(text) = self.rests.text_of(rest) {
+            out.extend_from_slice(text)?;
+            return Ok(true);
         }
+        let Ok(line) = std::str::from_utf8(rest) else {
+            return Ok(false);
+        };
+        let mut reader = Reader::new(line, &mut self.scratch)?;
+        let Some(text) = text_at_end(&mut reader) else {
+            return Ok(false);
+        };
+        let bytes = text.as_bytes();
+        self.rests.hold(rest, bytes)?;
+        out.extend_from_slice(bytes)?;
+        Ok(true)
     }
 }

@@ -31,11 +31,13 @@ pub fn goes_on()
 {}
 
 /// The lines that are over are counted, as far as 64 bits go.
+#[tactic(auto, using(crate::proofs::Joined::numbered))]
 pub fn numbered()
     ensures { (over : List (List ℕ)) → counted 0 over ≡ min (length over) (2 ^ 64 - 1) }
 {}
 
 /// What passed of a whole text, and what the line at its end gives, are what it gives.
+#[tactic(auto, using(crate::proofs::Joined::whole))]
 pub fn whole()
     ensures { (bytes text rest line : List ℕ) (over : List (List ℕ)) → Passes [] bytes over text line
         → GiveAll (last_line line) rest → Assembles bytes (text ++ rest) }

@@ -1,14 +1,17 @@
--- The first row that fits is the longest, where no two rows of one length fit the same tokens.
-use Rattle.std.proofs.Common.{ℕ, zero, suc, ◌≡◌, ◌<◌, ◌≤◌, ◌+◌, List, [], ◌∷◌, Bool, true, false, refl, sym, ap, ◌∙◌, arith, length, Some, None, inl, inr, subst, ◌⊎◌, take, get_or}
+-- The table of attributes: the first row that fits is the longest, and what the pieces are that a first token begins.
+use Rattle.std.proofs.Common.{ℕ, zero, suc, ◌≡◌, ◌<◌, ◌≤◌, ◌+◌, List, [], ◌∷◌, Bool, true, false, refl, sym, ap, ◌∙◌, arith, length, Some, None, inl, inr, subst, ◌⊎◌, take, get_or, drop, ◌≢◌, leb}
 use Rattle.std.proofs.{lemmas.Option.option_and_then_some, lemmas.Option.some_pair_parts, lemmas.Bool.cases_Bool, lemmas.Bool.or_cases, lemmas.Bool.eqb-true}
-use Rattle.std.proofs.{lemmas.Bool.and_parts, lemmas.List.Elements.All-contains, lemmas.List.Elements.Contains-append_right}
+use Rattle.std.proofs.{lemmas.Bool.and_parts, lemmas.Bool.leb-true, lemmas.List.Elements.All-contains, lemmas.List.Elements.Contains-append_right}
 use Rattle.std.proofs.{lemmas.List.Sums.AllPass-from_list_all}
-use Rattle.std.specs.{Prelude.Option, Prelude.◌==◌, Prelude.◌&&◌, Prelude.◌||◌, Prelude.not, Prelude.nat_lt, Prelude.pos, Prelude.option_and_then}
-use Rattle.std.specs.{List.Contains, List.list_all, Option.IfSome}
+use Rattle.std.specs.Prelude.{Option, ◌==◌, ◌&&◌, ◌||◌, not, nat_lt, pos, option_and_then, ℤ, map, negsuc, if◌then◌else◌, is_some}
+use Rattle.std.specs.{List.Contains, List.list_all, Option.IfSome, Fmt.digits}
 use borrow.Author.Tests.{ltb-true}
 use Rattle.csicodec_tokens.specs.{declared.param.CsiParam.CsiParam, declared.param.CsiParam.TheVariants.Integer, declared.param.CsiParam.TheVariants.P}
-use Rattle.csicodec_base.specs.Shapes.{Slot, Number, Byte, AnyNumber, Any, Row, sgr_rows, fits_slot, begins_with, taken, given}
-use Rattle.csicodec_base.specs.{declared.sgr.Sgr.Sgr, Pieces.Longest, Pieces.Piece, Pieces.IsFront, FrontBy.front_by, FrontBy.piece}
+use Rattle.csicodec_base.specs.Shapes.{Slot, Number, Byte, AnyNumber, Any, Row, sgr_rows, fits_slot, begins_with, taken, given, Color, Plane, Front, Back, Line, painted, color_shapes, underline_rows, color_of_tokens}
+use Rattle.csicodec_base.specs.{declared.sgr.Sgr.Sgr, Pieces.Longest, Pieces.Piece, Pieces.IsFront, FrontBy.front_by, FrontBy.piece, FrontBy.color_by}
+use Rattle.csicodec_base.specs.{Attributes.action_of, Entries.blank, declared.entries.Entry.Entry, declared.entries.TheConstants.ENTRIES, SgrText.sgr_text}
+use Rattle.csicodec_names.specs.{declared.codes.SgrCode.SgrCode, declared.color.ColorSpec.ColorSpec, Numbers.all_codes, Numbers.number_of, Numbered.with_number}
+use Rattle.csicodec_names.proofs.Coded.{listed-number}
 
 -- some token fits both
 abbrev pub meets : Slot → Slot → Bool
@@ -55,15 +58,9 @@ apart-not (s ∷ ss) (u ∷ us) (t ∷ ts) a e f =
     apart-not ss us ts (rw (meets-fits s u t x.0 y.0) at a) x.1 y.1
 apart-not _ _ _ a e f = cc
 
-here-or : (r : Row) (rs : List Row) (x : Row) (k : ℕ) → k < suc (length rs) → get_or (r ∷ rs) k x ≡ x → (r ≡ x) ⊎ Contains rs x
-here-or r rs x zero l e = inl e
-here-or r rs x (suc k) l e = inr (k, omega arith, e)
-
 contains_split : (r : Row) (rs : List Row) (x : Row) → Contains (r ∷ rs) x → (r ≡ x) ⊎ Contains rs x
-contains_split r rs x h = here-or r rs x h.0 h.1 h.2
-
-contains_here : (r : Row) (rs : List Row) → Contains (r ∷ rs) r
-contains_here r rs = (0, omega arith, refl)
+contains_split r rs x (zero, l, e) = inl e
+contains_split r rs x (suc k, l, e) = inr (k, omega arith, e)
 
 pub all-contains : (q : Row → Bool) (rows : List Row) (x : Row) → list_all q rows ≡ true → Contains rows x → q x ≡ true
 all-contains q rows x e h = All-contains (λ y. q y ≡ true) rows x (AllPass-from_list_all q rows e) h
@@ -82,7 +79,7 @@ gives_by list before row = option_and_then (λ s. Some (s, length row.shape + be
 
 first-longest : (r : Row) (rs : List Row) (list : List CsiParam) → list_all (λ (other : Row). comes_before r.shape other.shape) rs ≡ true → begins_with r.shape list ≡ true → Longest (r ∷ rs) list r
 first-longest r rs list all fit = record {
-  listed = contains_here r rs;
+  listed = (0, omega arith, refl);
   fits = fit;
   no_longer = λ x h f. elim (contains_split r rs x h) [
     | inl same ↦ subst (λ (y : Row). length y.shape ≤ length r.shape) same (omega arith)
@@ -108,7 +105,7 @@ longest-gives (r ∷ rs) list x o long =
     elim (contains_split r rs x long.listed) [
       | inl same ↦ rw same (rw long.fits refl)
       | inr later ↦ elim (cases_Bool (begins_with r.shape list)) [
-        | inl fit ↦ absurd (omega (arith, later-shorter r rs x list p.0 later fit long.fits, long.no_longer r (contains_here r rs) fit))
+        | inl fit ↦ absurd (omega (arith, later-shorter r rs x list p.0 later fit long.fits, long.no_longer r (0, omega arith, refl) fit))
         | inr unfit ↦ rw unfit (longest-gives rs list x p.1
             (record { listed = later; fits = long.fits; no_longer = λ z h f. long.no_longer z (Contains-append_right (r ∷ []) rs z h) f }))
       ]
@@ -192,3 +189,166 @@ first_tokens list k s = (λ p. is_piece (take 13 list) k s (piece_take list ∙ 
 
 pub piece_by_row : (list : List CsiParam) (k : ℕ) (s : Sgr) → (Piece list k s → piece list ≡ Some (s, k)) × (piece list ≡ Some (s, k) → Piece list k s)
 piece_by_row list k s = (piece_is list k s, is_piece list k s)
+
+-- ---- The pieces by their first token, the shapes of colours, and the texts made ready for the codes that stand alone.
+
+abbrev pub paint : Plane → Option (ColorSpec × ℕ) → Option (Sgr × ℕ)
+paint plane None = None
+paint plane (Some f) = Some (painted plane f.0, f.1)
+
+paint-given : (plane : Plane) (n : ℕ) (c : Option ColorSpec)
+    → option_and_then (λ (s : Sgr). Some (s, n)) (option_and_then (λ c'. Some (painted plane c')) c) ≡ paint plane (option_and_then (λ c'. Some (c', n)) c)
+paint-given plane n None = refl
+paint-given plane n (Some c) = refl
+
+paint-if : (plane : Plane) (b : Bool) (x y : Option (Sgr × ℕ)) (u v : Option (ColorSpec × ℕ)) → x ≡ paint plane u → y ≡ paint plane v
+    → (if b then x else y) ≡ paint plane (if b then u else v)
+paint-if plane true x y u v e f = e
+paint-if plane false x y u v e f = f
+
+color-front : (plane : Plane) (before : ℕ) (shapes : List (List Slot)) (after : List CsiParam)
+    → front_by before (map (λ (s : List Slot). record { shape = s; gives = Color plane }) shapes) after ≡ paint plane (color_by before shapes after)
+color-front plane before [] after = refl
+color-front plane before (s ∷ ss) after =
+    paint-if plane (begins_with s after) _ _ _ _ (paint-given plane (length s + before) (color_of_tokens (taken s after))) (color-front plane before ss after)
+
+pub front_38 : (after : List CsiParam) → piece (Integer (pos 38) ∷ after) ≡ paint Front (color_by 1 color_shapes after)
+unfolding piece
+front_38 after = color-front Front 1 color_shapes after
+
+pub front_48 : (after : List CsiParam) → piece (Integer (pos 48) ∷ after) ≡ paint Back (color_by 1 color_shapes after)
+unfolding piece
+front_48 after = color-front Back 1 color_shapes after
+
+pub front_58 : (after : List CsiParam) → piece (Integer (pos 58) ∷ after) ≡ paint Line (color_by 1 color_shapes after)
+unfolding piece
+front_58 after = color-front Line 1 color_shapes after
+
+abbrev Begins : SgrCode → List CsiParam → Option (Sgr × ℕ) → Type 0
+Begins c after answer = piece (Integer (pos (number_of c)) ∷ after) ≡ answer
+
+pub color_front : (c known : SgrCode) (plane : Plane) (after : List CsiParam) (answer : Option (ColorSpec × ℕ)) → c ≡ known → Begins known after (paint plane (color_by 1 color_shapes after))
+    → answer ≡ color_by 1 color_shapes after → Begins c after (paint plane answer)
+color_front c known plane after answer e h a = rw (e, a) h
+
+pub underline_front : (c : SgrCode) (after : List CsiParam) → c ≡ SgrCode.UnderlineOn → Begins c after (front_by 1 underline_rows after)
+unfolding piece
+underline_front c after e = rw e refl
+
+-- a code that has no further tokens
+abbrev OneToken : SgrCode → List CsiParam → Option Sgr → Type 0
+OneToken c after None = Unit {0}
+OneToken c after (Some s) = piece (Integer (pos (number_of c)) ∷ after) ≡ Some (s, 1)
+
+-- each code; those that further tokens follow first
+one_token_by : (c : SgrCode) (after : List CsiParam) → OneToken c after (action_of c)
+unfolding piece
+one_token_by SgrCode.UnderlineOn after = tt
+one_token_by SgrCode.ForegroundColor after = tt
+one_token_by SgrCode.BackgroundColor after = tt
+one_token_by SgrCode.UnderlineColor after = tt
+one_token_by _ after = refl
+
+pub one_token_front : (c : SgrCode) (after : List CsiParam) (s : Sgr) → action_of c ≡ Some s → piece (Integer (pos (number_of c)) ∷ after) ≡ Some (s, 1)
+one_token_front c after s e = subst (OneToken c after) e (one_token_by c after)
+
+-- each row that begins with a number begins with that of a code
+abbrev codes_head : List Slot → Bool
+codes_head (Number n ∷ ss) = is_some (with_number number_of all_codes (pos n))
+codes_head (Byte b ∷ ss) = b == 59
+codes_head _ = false
+
+all-heads : list_all (λ (r : Row). codes_head r.shape) sgr_rows ≡ true
+all-heads = refl
+
+coded-number : (z : ℤ) (o : Option SgrCode) → with_number number_of all_codes z ≡ o → is_some o ≡ true → ((c : SgrCode) → z ≢ pos (number_of c)) → ⊥
+coded-number z None e h no_code = cc
+coded-number z (Some c) e h no_code = no_code c (listed-number number_of all_codes z c e)
+
+unknown-row : (shape : List Slot) (z : ℤ) (after : List CsiParam) → codes_head shape ≡ true → ((c : SgrCode) → z ≢ pos (number_of c)) → begins_with shape (Integer z ∷ after) ≡ false
+unknown-row (Number n ∷ ss) (negsuc m) after h no_code = refl
+unknown-row (Number n ∷ ss) (pos m) after h no_code = elim (cases_Bool (m == n)) [
+  | inl same ↦ (let e : m ≡ n = eqb-true _ _ same in absurd (coded-number (pos n) (with_number number_of all_codes (pos n)) refl h (λ c f. no_code c (ap pos e ∙ f))))
+  | inr other ↦ rw other refl
+]
+unknown-row (Byte b ∷ ss) z after h no_code = refl
+unknown-row _ z after h no_code = cc
+
+-- a token with which no shape begins that has such a head
+no-row : (rows : List Row) (t : CsiParam) (after : List CsiParam) → ((shape : List Slot) → codes_head shape ≡ true → begins_with shape (t ∷ after) ≡ false)
+    → list_all (λ (r : Row). codes_head r.shape) rows ≡ true → front_by 0 rows (t ∷ after) ≡ None
+no-row [] t after unfit h = refl
+no-row (r ∷ rs) t after unfit h =
+    let p = and_parts (codes_head r.shape) (list_all (λ (x : Row). codes_head x.shape) rs) h in rw (unfit r.shape p.0) (no-row rs t after unfit p.1)
+
+pub unknown_number : (z : ℤ) (after : List CsiParam) → ((c : SgrCode) → z ≢ pos (number_of c)) → piece (Integer z ∷ after) ≡ None
+unfolding piece
+unknown_number z after no_code = no-row sgr_rows (Integer z) after (λ shape h. unknown-row shape z after h no_code) all-heads
+
+other-byte-row : (shape : List Slot) (b : ℕ) (after : List CsiParam) → codes_head shape ≡ true → (b == 59) ≡ false → begins_with shape (P b ∷ after) ≡ false
+other-byte-row (Number n ∷ ss) b after h o = refl
+other-byte-row (Byte d ∷ ss) b after h o = let e : d ≡ 59 = eqb-true _ _ h in rw (e, o) refl
+other-byte-row _ b after h o = cc
+
+pub other_byte : (b : ℕ) (after : List CsiParam) → (b == 59) ≡ false → piece (P b ∷ after) ≡ None
+unfolding piece
+other_byte b after o = no-row sgr_rows (P b) after (λ shape h. other-byte-row shape b after h o) all-heads
+
+pub semicolon_front : (after : List CsiParam) → piece (P 59 ∷ after) ≡ Some (Sgr.Reset, 1)
+unfolding piece
+semicolon_front after = refl
+
+pub at_end : (rest : List CsiParam) → length rest < 1 → piece rest ≡ None
+unfolding piece
+at_end [] l = refl
+at_end (t ∷ ts) l = absurd (omega arith)
+
+-- where the first token is known by its place
+pub at_first : (rest : List CsiParam) (d t : CsiParam) (answer : Option (Sgr × ℕ)) → 1 ≤ length rest → get_or rest 0 d ≡ t → piece (t ∷ drop 1 rest) ≡ answer → piece rest ≡ answer
+at_first [] d t answer l e h = absurd (omega arith)
+at_first (u ∷ us) d t answer l e h = rw e h
+
+-- where the first three are known by their places: a colon, a kind and a colon
+pub behind_kind : (kind : ℕ) (shapes : List (List Slot)) (after parts : List CsiParam) (d : CsiParam) → parts ≡ drop 3 after → 3 ≤ length after
+    → get_or after 0 d ≡ P 58 → get_or after 1 d ≡ Integer (pos kind) → get_or after 2 d ≡ P 58
+    → color_by 1 color_shapes (P 58 ∷ Integer (pos kind) ∷ P 58 ∷ parts) ≡ color_by 4 shapes parts → color_by 1 color_shapes after ≡ color_by 4 shapes parts
+behind_kind kind shapes (x ∷ y ∷ z ∷ rest) parts d p l a b c e = rw (a, b, c, ← p) e
+behind_kind kind shapes _ parts d p l a b c e = absurd (omega arith)
+
+-- the text at the place of a code, and none for one that doesn't stand alone
+abbrev Ready : SgrCode → Option Sgr → Type 0
+Ready c None = (get_or ENTRIES (number_of c) blank).len ≡ 0
+Ready c (Some s) = take ((get_or ENTRIES (number_of c) blank).len) ((get_or ENTRIES (number_of c) blank).text) ≡ 27 ∷ 91 ∷ sgr_text s
+
+-- each code
+ready : (c : SgrCode) → Ready c (action_of c)
+unfolding digits
+ready SgrCode.Reset = refl
+ready _ = refl
+
+-- what is ready at the place of a code
+abbrev pub IsReady : ℤ → List ℕ → Type 0
+IsReady number text = (s : Sgr) × ((after : List CsiParam) → IsFront (Integer number ∷ after) (Some (s, 1))) × (text ≡ 27 ∷ 91 ∷ sgr_text s)
+
+pub is_ready : (c : SgrCode) (number : ℤ) (place len : ℕ) (text : List ℕ) →
+    number ≡ pos (number_of c) → place ≡ number_of c → len ≡ (get_or ENTRIES place blank).len →
+    text ≡ (get_or ENTRIES place blank).text → 0 < len
+    → IsReady number (take len text)
+is_ready c number place len text same at l t some = go (action_of c) refl
+  where
+    go : (o : Option Sgr) → action_of c ≡ o → IsReady number (take len text)
+    go None e =
+        let none : (get_or ENTRIES (number_of c) blank).len ≡ 0 = (rw e at (ready c)) in
+        absurd (omega (arith, some, l, ap (λ (n : ℕ). (get_or ENTRIES n blank).len) at, none))
+    go (Some s) e =
+        let is : take ((get_or ENTRIES (number_of c) blank).len) ((get_or ENTRIES (number_of c) blank).text) ≡ 27 ∷ 91 ∷ sgr_text s = (rw e at (ready c)) in
+        (s, λ after. rw same (is_front (Integer (pos (number_of c)) ∷ after) (Some (s, 1)) (sym (one_token_front c after s e))), rw (l, t, at) is)
+
+short_within : (rows : List Entry) → list_all (λ (r : Entry). leb r.len 8) rows ≡ true → (place : ℕ) → (get_or rows place blank).len ≤ 8
+short_within [] e place = omega arith
+short_within (r ∷ rs) e zero = leb-true r.len 8 (and_parts (leb r.len 8) (list_all (λ (x : Entry). leb x.len 8) rs) e).0
+short_within (r ∷ rs) e (suc place) = short_within rs (and_parts (leb r.len 8) (list_all (λ (x : Entry). leb x.len 8) rs) e).1 place
+
+-- a text that is ready has a place of 8 bytes
+pub short : (place : ℕ) → (get_or ENTRIES place blank).len ≤ 8
+short place = short_within ENTRIES refl place

@@ -1,6 +1,6 @@
 -- The texts that set attributes (SGR): what stands behind `ESC [`, the final byte `m` with it.
-use Rattle.std.specs.Prelude.{ℕ, ◌+◌, ◌==◌, List, [], ◌++◌, true, false, if◌then◌else◌, nat_lt, nat_le, ◌&&◌, codes}
-use Rattle.std.specs.Fmt.{decimal}
+use Rattle.std.specs.{Prelude.ℕ, Prelude.◌+◌, Prelude.◌==◌, Prelude.List, Prelude.[], Prelude.◌++◌, Prelude.if◌then◌else◌, Prelude.nat_lt, Prelude.nat_le}
+use Rattle.std.specs.{Prelude.◌&&◌, Prelude.codes, Fmt.decimal}
 use Rattle.csicodec_base.specs.declared.sgr.Sgr.{Sgr}
 use Rattle.csicodec_names.specs.{declared.color.Intensity.TheVariants.Normal, declared.color.Intensity.TheVariants.Bold}
 use Rattle.csicodec_names.specs.{declared.color.Intensity.TheVariants.Half, declared.color.SrgbaTuple.SrgbaTuple}
@@ -50,14 +50,10 @@ sgr_text (sgr.UnderlineColor (color.TrueColor c)) = true_color_text 58 c
 sgr_text (sgr.Blink blink.None) = codes "25m"
 sgr_text (sgr.Blink blink.Slow) = codes "5m"
 sgr_text (sgr.Blink blink.Rapid) = codes "6m"
-sgr_text (sgr.Italic true) = codes "3m"
-sgr_text (sgr.Italic false) = codes "23m"
-sgr_text (sgr.Inverse true) = codes "7m"
-sgr_text (sgr.Inverse false) = codes "27m"
-sgr_text (sgr.Invisible true) = codes "8m"
-sgr_text (sgr.Invisible false) = codes "28m"
-sgr_text (sgr.StrikeThrough true) = codes "9m"
-sgr_text (sgr.StrikeThrough false) = codes "29m"
+sgr_text (sgr.Italic on) = if on then codes "3m" else codes "23m"
+sgr_text (sgr.Inverse on) = if on then codes "7m" else codes "27m"
+sgr_text (sgr.Invisible on) = if on then codes "8m" else codes "28m"
+sgr_text (sgr.StrikeThrough on) = if on then codes "9m" else codes "29m"
 sgr_text (sgr.Font font.Default) = codes "10m"
 sgr_text (sgr.Font (font.Alternate n)) = font_text n
 sgr_text (sgr.Foreground color.Default) = codes "39m"
@@ -66,8 +62,7 @@ sgr_text (sgr.Foreground (color.TrueColor c)) = true_color_text 38 c
 sgr_text (sgr.Background color.Default) = codes "49m"
 sgr_text (sgr.Background (color.PaletteIndex i)) = palette_text 40 i
 sgr_text (sgr.Background (color.TrueColor c)) = true_color_text 48 c
-sgr_text (sgr.Overline true) = codes "53m"
-sgr_text (sgr.Overline false) = codes "55m"
+sgr_text (sgr.Overline on) = if on then codes "53m" else codes "55m"
 sgr_text (sgr.VerticalAlign align.BaseLine) = codes "75m"
 sgr_text (sgr.VerticalAlign align.SuperScript) = codes "73m"
 sgr_text (sgr.VerticalAlign align.SubScript) = codes "74m"

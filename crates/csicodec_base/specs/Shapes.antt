@@ -4,10 +4,8 @@ use Rattle.std.specs.Prelude.{ℕ, ◌==◌, List, [], ◌∷◌, ◌++◌, map,
 use Rattle.std.specs.List.{flat_map}
 use Rattle.csicodec_tokens.specs.{declared.param.CsiParam.CsiParam, declared.param.CsiParam.TheVariants.Integer, declared.param.CsiParam.TheVariants.P}
 use Rattle.csicodec_names.specs.{declared.codes.SgrCode.SgrCode, declared.color.ColorSpec.ColorSpec, Numbers.all_codes, Numbers.number_of}
+use Rattle.csicodec_names.specs.{declared.color.Underline.Underline}
 use Rattle.csicodec_base.specs.{declared.sgr.Sgr.Sgr, Attributes.action_of}
-use Rattle.csicodec_base.specs.declared.sgr.Sgr.TheVariants as sgr
-use Rattle.csicodec_names.specs.declared.color.Underline.TheVariants as underline
-use Rattle.csicodec_names.specs.declared.color.ColorSpec.TheVariants as color
 
 -- the separators of ECMA-48: 03/10 within a parameter, 03/11 between parameters
 abbrev pub colon : ℕ
@@ -52,9 +50,9 @@ pub data Plane : Type 0 where
 
 -- the attribute that gives the plane a colour
 abbrev pub painted : Plane → ColorSpec → Sgr
-painted Front c = sgr.Foreground c
-painted Back c = sgr.Background c
-painted Line c = sgr.UnderlineColor c
+painted Front c = Sgr.Foreground c
+painted Back c = Sgr.Background c
+painted Line c = Sgr.UnderlineColor c
 
 -- what a row gives: always one attribute, or the colour that its `_` spell
 pub data Gives : Type 0 where
@@ -78,9 +76,9 @@ bytes_of (t ∷ ts) =
 
 -- one part is a place in the palette; three are red, green and blue, opaque; four have their alpha
 abbrev pub color_of : List ℕ → Option ColorSpec
-color_of (i ∷ []) = Some (color.PaletteIndex i)
-color_of (r ∷ g ∷ b ∷ []) = Some (color.TrueColor (record { 0 = r; 1 = g; 2 = b; 3 = 255 }))
-color_of (r ∷ g ∷ b ∷ a ∷ []) = Some (color.TrueColor (record { 0 = r; 1 = g; 2 = b; 3 = a }))
+color_of (i ∷ []) = Some (ColorSpec.PaletteIndex i)
+color_of (r ∷ g ∷ b ∷ []) = Some (ColorSpec.TrueColor (record { 0 = r; 1 = g; 2 = b; 3 = 255 }))
+color_of (r ∷ g ∷ b ∷ a ∷ []) = Some (ColorSpec.TrueColor (record { 0 = r; 1 = g; 2 = b; 3 = a }))
 color_of _ = None
 
 -- the colour that the tokens spell
@@ -146,13 +144,13 @@ line kind s = record { shape = Byte colon ∷ Number kind ∷ []; gives = Always
 -- the underlines, behind the code 4: `4:0` to `4:5`, and `4` alone
 abbrev pub underline_rows : List Row
 underline_rows =
-    line 0 (sgr.Underline underline.None)
-    ∷ line 1 (sgr.Underline underline.Single)
-    ∷ line 2 (sgr.Underline underline.Double)
-    ∷ line 3 (sgr.Underline underline.Curly)
-    ∷ line 4 (sgr.Underline underline.Dotted)
-    ∷ line 5 (sgr.Underline underline.Dashed)
-    ∷ record { shape = []; gives = Always (sgr.Underline underline.Single) }
+    line 0 (Sgr.Underline Underline.None)
+    ∷ line 1 (Sgr.Underline Underline.Single)
+    ∷ line 2 (Sgr.Underline Underline.Double)
+    ∷ line 3 (Sgr.Underline Underline.Curly)
+    ∷ line 4 (Sgr.Underline Underline.Dotted)
+    ∷ line 5 (Sgr.Underline Underline.Dashed)
+    ∷ record { shape = []; gives = Always (Sgr.Underline Underline.Single) }
     ∷ []
 
 -- the rows with their code ahead
@@ -172,4 +170,4 @@ sgr_rows =
     ++ (coded 58 (color_rows Line)
     ++ (coded 4 underline_rows
     ++ (flat_map (λ (c : SgrCode). row_of (number_of c) (action_of c)) all_codes
-    ++ record { shape = Byte semicolon ∷ []; gives = Always sgr.Reset } ∷ []))))
+    ++ record { shape = Byte semicolon ∷ []; gives = Always Sgr.Reset } ∷ []))))

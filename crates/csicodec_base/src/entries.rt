@@ -14,80 +14,53 @@ pub(crate) struct Entry {
 }
 
 macro_rules! entry {
-    (()) => {
-        Entry { attribute: None, text: [0, 0, 0, 0, 0, 0, 0, 0], len: 0 }
-    };
-    (($attribute:expr, $len:literal, $($byte:literal),*)) => {
-        Entry { attribute: Some($attribute), text: [0x1b, b'[', $($byte),*], len: $len }
-    };
+    (()) => { Entry { attribute: None, text: [0, 0, 0, 0, 0, 0, 0, 0], len: 0 } };
+    (($len:literal $($byte:literal)*: $attribute:expr)) => { Entry { attribute: Some($attribute), text: [0x1b, b'[', $($byte),*], len: $len } };
+    (($a:literal, $b:literal, $c:literal $($set:tt)*)) => { entry!((6 $a $b $c b'm' 0 0: Sgr::$($set)*)) };
+    (($a:literal, $b:literal $($set:tt)*)) => { entry!((5 $a $b b'm' 0 0 0: Sgr::$($set)*)) };
+    (($a:literal $($set:tt)*)) => { entry!((4 $a b'm' 0 0 0 0: Sgr::$($set)*)) };
 }
 
-/// Entries, several on a line: the attribute, how long its text is, and what of that stands behind ESC and `[`; `()` where a number sets none alone.
+/// Entries, several on a line: the digits of what stands in the text ahead of `m`, and the attribute; `()` where a number sets none alone.
 macro_rules! entries {
     ($($row:tt,)*) => { [$(entry!($row)),*] };
 }
 
 /// Each number from 0 to 107, a place for each.
 pub(crate) static ENTRIES: [Entry; 108] = entries! {
-    (Sgr::Reset, 4, b'0', b'm', 0, 0, 0, 0), (Sgr::Intensity(Intensity::Bold), 4, b'1', b'm', 0, 0, 0, 0),
-    (Sgr::Intensity(Intensity::Half), 4, b'2', b'm', 0, 0, 0, 0), (Sgr::Italic(true), 4, b'3', b'm', 0, 0, 0, 0),
-    (), (Sgr::Blink(Blink::Slow), 4, b'5', b'm', 0, 0, 0, 0),
-    (Sgr::Blink(Blink::Rapid), 4, b'6', b'm', 0, 0, 0, 0), (Sgr::Inverse(true), 4, b'7', b'm', 0, 0, 0, 0),
-    (Sgr::Invisible(true), 4, b'8', b'm', 0, 0, 0, 0), (Sgr::StrikeThrough(true), 4, b'9', b'm', 0, 0, 0, 0),
-    (Sgr::Font(Font::Default), 5, b'1', b'0', b'm', 0, 0, 0),
-    (Sgr::Font(Font::Alternate(1)), 5, b'1', b'1', b'm', 0, 0, 0),
-    (Sgr::Font(Font::Alternate(2)), 5, b'1', b'2', b'm', 0, 0, 0),
-    (Sgr::Font(Font::Alternate(3)), 5, b'1', b'3', b'm', 0, 0, 0),
-    (Sgr::Font(Font::Alternate(4)), 5, b'1', b'4', b'm', 0, 0, 0),
-    (Sgr::Font(Font::Alternate(5)), 5, b'1', b'5', b'm', 0, 0, 0),
-    (Sgr::Font(Font::Alternate(6)), 5, b'1', b'6', b'm', 0, 0, 0),
-    (Sgr::Font(Font::Alternate(7)), 5, b'1', b'7', b'm', 0, 0, 0),
-    (Sgr::Font(Font::Alternate(8)), 5, b'1', b'8', b'm', 0, 0, 0),
-    (Sgr::Font(Font::Alternate(9)), 5, b'1', b'9', b'm', 0, 0, 0), (),
-    (Sgr::Underline(Underline::Double), 5, b'2', b'1', b'm', 0, 0, 0),
-    (Sgr::Intensity(Intensity::Normal), 5, b'2', b'2', b'm', 0, 0, 0),
-    (Sgr::Italic(false), 5, b'2', b'3', b'm', 0, 0, 0),
-    (Sgr::Underline(Underline::None), 5, b'2', b'4', b'm', 0, 0, 0),
-    (Sgr::Blink(Blink::None), 5, b'2', b'5', b'm', 0, 0, 0), (),
-    (Sgr::Inverse(false), 5, b'2', b'7', b'm', 0, 0, 0), (Sgr::Invisible(false), 5, b'2', b'8', b'm', 0, 0, 0),
-    (Sgr::StrikeThrough(false), 5, b'2', b'9', b'm', 0, 0, 0),
-    (Sgr::Foreground(ColorSpec::PaletteIndex(0)), 5, b'3', b'0', b'm', 0, 0, 0),
-    (Sgr::Foreground(ColorSpec::PaletteIndex(1)), 5, b'3', b'1', b'm', 0, 0, 0),
-    (Sgr::Foreground(ColorSpec::PaletteIndex(2)), 5, b'3', b'2', b'm', 0, 0, 0),
-    (Sgr::Foreground(ColorSpec::PaletteIndex(3)), 5, b'3', b'3', b'm', 0, 0, 0),
-    (Sgr::Foreground(ColorSpec::PaletteIndex(4)), 5, b'3', b'4', b'm', 0, 0, 0),
-    (Sgr::Foreground(ColorSpec::PaletteIndex(5)), 5, b'3', b'5', b'm', 0, 0, 0),
-    (Sgr::Foreground(ColorSpec::PaletteIndex(6)), 5, b'3', b'6', b'm', 0, 0, 0),
-    (Sgr::Foreground(ColorSpec::PaletteIndex(7)), 5, b'3', b'7', b'm', 0, 0, 0), (),
-    (Sgr::Foreground(ColorSpec::Default), 5, b'3', b'9', b'm', 0, 0, 0),
-    (Sgr::Background(ColorSpec::PaletteIndex(0)), 5, b'4', b'0', b'm', 0, 0, 0),
-    (Sgr::Background(ColorSpec::PaletteIndex(1)), 5, b'4', b'1', b'm', 0, 0, 0),
-    (Sgr::Background(ColorSpec::PaletteIndex(2)), 5, b'4', b'2', b'm', 0, 0, 0),
-    (Sgr::Background(ColorSpec::PaletteIndex(3)), 5, b'4', b'3', b'm', 0, 0, 0),
-    (Sgr::Background(ColorSpec::PaletteIndex(4)), 5, b'4', b'4', b'm', 0, 0, 0),
-    (Sgr::Background(ColorSpec::PaletteIndex(5)), 5, b'4', b'5', b'm', 0, 0, 0),
-    (Sgr::Background(ColorSpec::PaletteIndex(6)), 5, b'4', b'6', b'm', 0, 0, 0),
-    (Sgr::Background(ColorSpec::PaletteIndex(7)), 5, b'4', b'7', b'm', 0, 0, 0), (),
-    (Sgr::Background(ColorSpec::Default), 5, b'4', b'9', b'm', 0, 0, 0), (), (), (),
-    (Sgr::Overline(true), 5, b'5', b'3', b'm', 0, 0, 0), (), (Sgr::Overline(false), 5, b'5', b'5', b'm', 0, 0, 0),
-    (), (), (), (Sgr::UnderlineColor(ColorSpec::Default), 5, b'5', b'9', b'm', 0, 0, 0), (), (), (), (), (), (),
-    (), (), (), (), (), (), (), (Sgr::VerticalAlign(VerticalAlign::SuperScript), 5, b'7', b'3', b'm', 0, 0, 0),
-    (Sgr::VerticalAlign(VerticalAlign::SubScript), 5, b'7', b'4', b'm', 0, 0, 0),
-    (Sgr::VerticalAlign(VerticalAlign::BaseLine), 5, b'7', b'5', b'm', 0, 0, 0), (), (), (), (), (), (), (), (),
-    (), (), (), (), (), (), (Sgr::Foreground(ColorSpec::PaletteIndex(8)), 5, b'9', b'0', b'm', 0, 0, 0),
-    (Sgr::Foreground(ColorSpec::PaletteIndex(9)), 5, b'9', b'1', b'm', 0, 0, 0),
-    (Sgr::Foreground(ColorSpec::PaletteIndex(10)), 5, b'9', b'2', b'm', 0, 0, 0),
-    (Sgr::Foreground(ColorSpec::PaletteIndex(11)), 5, b'9', b'3', b'm', 0, 0, 0),
-    (Sgr::Foreground(ColorSpec::PaletteIndex(12)), 5, b'9', b'4', b'm', 0, 0, 0),
-    (Sgr::Foreground(ColorSpec::PaletteIndex(13)), 5, b'9', b'5', b'm', 0, 0, 0),
-    (Sgr::Foreground(ColorSpec::PaletteIndex(14)), 5, b'9', b'6', b'm', 0, 0, 0),
-    (Sgr::Foreground(ColorSpec::PaletteIndex(15)), 5, b'9', b'7', b'm', 0, 0, 0), (), (),
-    (Sgr::Background(ColorSpec::PaletteIndex(8)), 6, b'1', b'0', b'0', b'm', 0, 0),
-    (Sgr::Background(ColorSpec::PaletteIndex(9)), 6, b'1', b'0', b'1', b'm', 0, 0),
-    (Sgr::Background(ColorSpec::PaletteIndex(10)), 6, b'1', b'0', b'2', b'm', 0, 0),
-    (Sgr::Background(ColorSpec::PaletteIndex(11)), 6, b'1', b'0', b'3', b'm', 0, 0),
-    (Sgr::Background(ColorSpec::PaletteIndex(12)), 6, b'1', b'0', b'4', b'm', 0, 0),
-    (Sgr::Background(ColorSpec::PaletteIndex(13)), 6, b'1', b'0', b'5', b'm', 0, 0),
-    (Sgr::Background(ColorSpec::PaletteIndex(14)), 6, b'1', b'0', b'6', b'm', 0, 0),
-    (Sgr::Background(ColorSpec::PaletteIndex(15)), 6, b'1', b'0', b'7', b'm', 0, 0),
+    (b'0' Reset), (b'1' Intensity(Intensity::Bold)), (b'2' Intensity(Intensity::Half)), (b'3' Italic(true)), (),
+    (b'5' Blink(Blink::Slow)), (b'6' Blink(Blink::Rapid)), (b'7' Inverse(true)), (b'8' Invisible(true)),
+    (b'9' StrikeThrough(true)), (b'1', b'0' Font(Font::Default)), (b'1', b'1' Font(Font::Alternate(1))),
+    (b'1', b'2' Font(Font::Alternate(2))), (b'1', b'3' Font(Font::Alternate(3))),
+    (b'1', b'4' Font(Font::Alternate(4))), (b'1', b'5' Font(Font::Alternate(5))),
+    (b'1', b'6' Font(Font::Alternate(6))), (b'1', b'7' Font(Font::Alternate(7))),
+    (b'1', b'8' Font(Font::Alternate(8))), (b'1', b'9' Font(Font::Alternate(9))), (),
+    (b'2', b'1' Underline(Underline::Double)), (b'2', b'2' Intensity(Intensity::Normal)),
+    (b'2', b'3' Italic(false)), (b'2', b'4' Underline(Underline::None)), (b'2', b'5' Blink(Blink::None)), (),
+    (b'2', b'7' Inverse(false)), (b'2', b'8' Invisible(false)), (b'2', b'9' StrikeThrough(false)),
+    (b'3', b'0' Foreground(ColorSpec::PaletteIndex(0))), (b'3', b'1' Foreground(ColorSpec::PaletteIndex(1))),
+    (b'3', b'2' Foreground(ColorSpec::PaletteIndex(2))), (b'3', b'3' Foreground(ColorSpec::PaletteIndex(3))),
+    (b'3', b'4' Foreground(ColorSpec::PaletteIndex(4))), (b'3', b'5' Foreground(ColorSpec::PaletteIndex(5))),
+    (b'3', b'6' Foreground(ColorSpec::PaletteIndex(6))), (b'3', b'7' Foreground(ColorSpec::PaletteIndex(7))), (),
+    (b'3', b'9' Foreground(ColorSpec::Default)), (b'4', b'0' Background(ColorSpec::PaletteIndex(0))),
+    (b'4', b'1' Background(ColorSpec::PaletteIndex(1))), (b'4', b'2' Background(ColorSpec::PaletteIndex(2))),
+    (b'4', b'3' Background(ColorSpec::PaletteIndex(3))), (b'4', b'4' Background(ColorSpec::PaletteIndex(4))),
+    (b'4', b'5' Background(ColorSpec::PaletteIndex(5))), (b'4', b'6' Background(ColorSpec::PaletteIndex(6))),
+    (b'4', b'7' Background(ColorSpec::PaletteIndex(7))), (), (b'4', b'9' Background(ColorSpec::Default)), (), (),
+    (), (b'5', b'3' Overline(true)), (), (b'5', b'5' Overline(false)), (), (), (),
+    (b'5', b'9' UnderlineColor(ColorSpec::Default)), (), (), (), (), (), (), (), (), (), (), (), (), (),
+    (b'7', b'3' VerticalAlign(VerticalAlign::SuperScript)), (b'7', b'4' VerticalAlign(VerticalAlign::SubScript)),
+    (b'7', b'5' VerticalAlign(VerticalAlign::BaseLine)), (), (), (), (), (), (), (), (), (), (), (), (), (), (),
+    (b'9', b'0' Foreground(ColorSpec::PaletteIndex(8))), (b'9', b'1' Foreground(ColorSpec::PaletteIndex(9))),
+    (b'9', b'2' Foreground(ColorSpec::PaletteIndex(10))), (b'9', b'3' Foreground(ColorSpec::PaletteIndex(11))),
+    (b'9', b'4' Foreground(ColorSpec::PaletteIndex(12))), (b'9', b'5' Foreground(ColorSpec::PaletteIndex(13))),
+    (b'9', b'6' Foreground(ColorSpec::PaletteIndex(14))), (b'9', b'7' Foreground(ColorSpec::PaletteIndex(15))),
+    (), (), (b'1', b'0', b'0' Background(ColorSpec::PaletteIndex(8))),
+    (b'1', b'0', b'1' Background(ColorSpec::PaletteIndex(9))),
+    (b'1', b'0', b'2' Background(ColorSpec::PaletteIndex(10))),
+    (b'1', b'0', b'3' Background(ColorSpec::PaletteIndex(11))),
+    (b'1', b'0', b'4' Background(ColorSpec::PaletteIndex(12))),
+    (b'1', b'0', b'5' Background(ColorSpec::PaletteIndex(13))),
+    (b'1', b'0', b'6' Background(ColorSpec::PaletteIndex(14))),
+    (b'1', b'0', b'7' Background(ColorSpec::PaletteIndex(15))),
 };

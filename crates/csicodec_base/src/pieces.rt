@@ -46,7 +46,7 @@ pub fn sgr_front(rest: &[CsiParam]) -> Option<(Sgr, usize)>
 }
 
 /// The piece that begins with a code that sets no attribute alone, by the tokens behind it.
-#[tactic(auto, using(crate::proofs::CodePieces::front_38, crate::proofs::CodePieces::front_48, crate::proofs::CodePieces::front_58, crate::proofs::CodePieces::color_front, crate::proofs::CodePieces::underline_front))]
+#[tactic(auto, using(crate::proofs::Table::front_38, crate::proofs::Table::front_48, crate::proofs::Table::front_58, crate::proofs::Table::color_front, crate::proofs::Table::underline_front))]
 fn code_front(code: SgrCode, after: &[CsiParam]) -> Option<(Sgr, usize)>
     requires { attribute_of code ≡ None }
     ensures { result ≡ piece (Integer (pos (number_of code)) ∷ after.now) }

@@ -4,23 +4,21 @@ use Rattle.std.proofs.Math.Seq.{take-append_seam}
 use Rattle.std.specs.{Prelude.◌==◌, List.concat}
 use Rattle.csicodec_spans.specs.declared.table.Mode.{Mode}
 use Rattle.csicodec_clean.specs.{declared.colors.Depth.Depth, declared.step.Pause.Pause, Cleaned.RuleOf, Cleaned.Strips, Cleaned.drops, Cleaned.longest}
-use Rattle.csicodec_clean.specs.{Steps.AreStepped, Steps.Steps, Steps.bare, Steps.beginning, Steps.ending, Styled.Keeping, Styled.StylesIn, Styled.resumed}
-use Rattle.csicodec_clean.specs.{Styled.keeps, Styled.without_links}
-use Rattle.csicodec_clean.proofs.Paused.{cleaned_steps, stripped_steps}
+use Rattle.csicodec_clean.specs.{Steps.AreStepped, Steps.Steps, Steps.bare, Steps.beginning, Steps.ending, Styled.StylesIn, Styled.resumed, Styled.keeps}
+use Rattle.csicodec_clean.specs.{Styled.without_links}
+use Rattle.csicodec_clean.proofs.Streams.{cleaned_steps, stripped_steps}
 use Rattle.csicodec_c.specs.{declared.step.Cleaned.Cleaned, declared.step.Cleaning.Cleaning, declared.strip.Stripped.Stripped, Filter.mode_number}
 use Rattle.csicodec_c.specs.{Step.AreCalls, Step.IsCleanStep, Step.IsEnd, Step.IsStep, Step.IsStripStep, Step.numbers, Step.zeros, Strip.bit}
 use Rattle.csicodec_c.specs.{Strip.depth_number}
 use Rattle.csicodec_structs.specs.Room.{Fills}
-use Rattle.csicodec_spans.specs.declared.table.Mode.TheVariants as modes
-use Rattle.csicodec_clean.specs.declared.colors.Depth.TheVariants as depths
 
 -- ---- numbers are of one state
 
 abbrev mode_of : ℕ → Mode
-mode_of n = cond (n == 0) modes.Text (cond (n == 1) modes.Osc (cond (n == 2) modes.Dcs (cond (n == 3) modes.Str (cond (n == 4) modes.BadCsi modes.BadEsc))))
+mode_of n = cond (n == 0) Mode.Text (cond (n == 1) Mode.Osc (cond (n == 2) Mode.Dcs (cond (n == 3) Mode.Str (cond (n == 4) Mode.BadCsi Mode.BadEsc))))
 
 mode_back : (m : Mode) → mode_of (mode_number m) ≡ m
-mode_back modes.Text = refl
+mode_back Mode.Text = refl
 mode_back other = refl
 
 bit_back : (b : Bool) → (bit b == 1) ≡ b
@@ -28,12 +26,12 @@ bit_back true = refl
 bit_back false = refl
 
 abbrev depth_of : ℕ → Depth
-depth_of n = cond (n == 0) depths.Full (cond (n == 1) depths.Palette depths.Ansi)
+depth_of n = cond (n == 0) Depth.Full (cond (n == 1) Depth.Palette Depth.Ansi)
 
 depth_back : (d : Depth) → depth_of (depth_number d) ≡ d
-depth_back depths.Full = refl
-depth_back depths.Palette = refl
-depth_back depths.Ansi = refl
+depth_back Depth.Full = refl
+depth_back Depth.Palette = refl
+depth_back Depth.Ansi = refl
 
 abbrev pause_of : Cleaning → Pause
 pause_of c = record { mode = mode_of c.mode; titled = c.titled == 1; styled = c.styled == 1; held = c.held }
@@ -87,14 +85,14 @@ stripped_calls chunks all left old new last answer calls end room =
     let none : q.styled ≡ false = sym (bit_back q.styled) ∙ ap (λ (n : ℕ). n == 1) (sym (ap (λ (s : Cleaning). s.styled) is) ∙ none_styled chunks zeros [] all last left calls) in
     subst (λ (t : List ℕ). Strips longest (concat chunks) (all ++ t)) (sym (ended last left old new answer q is end room)) (stripped_steps chunks all left q stepped none)
 
-in_depth : (d : Depth) (s : Cleaning) (b o n : List ℕ) (a : Cleaned) → IsCleanStep (depth_number d) s b o n a → IsStep (keeps (λ (k : Keeping). k)) (resumed d) s b o n a
+in_depth : (d : Depth) (s : Cleaning) (b o n : List ℕ) (a : Cleaned) → IsCleanStep (depth_number d) s b o n a → IsStep keeps (resumed d) s b o n a
 in_depth d s b o n a (other, same, step) =
     let one : other ≡ d = sym (depth_back other) ∙ ap depth_of (sym same) ∙ depth_back d in
-    subst (λ (x : Depth). IsStep (keeps (λ (k : Keeping). k)) (resumed x) s b o n a) one step
+    subst (λ (x : Depth). IsStep keeps (resumed x) s b o n a) one step
 
 pub cleaned_calls : (d : Depth) (chunks : List (List ℕ)) (all left old new : List ℕ) (last : Cleaning) (answer : Stripped)
     → AreCalls (IsCleanStep (depth_number d)) zeros [] chunks all last left → IsEnd last left old new answer
     → answer.needed ≤ length old → StylesIn (without_links d) (concat chunks) (all ++ take answer.needed new)
 cleaned_calls d chunks all left old new last answer calls end room =
-    let (q, is, stepped) = calls_stepped (keeps (λ (k : Keeping). k)) (resumed d) (IsCleanStep (depth_number d)) (in_depth d) chunks zeros beginning [] all last left refl calls in
+    let (q, is, stepped) = calls_stepped keeps (resumed d) (IsCleanStep (depth_number d)) (in_depth d) chunks zeros beginning [] all last left refl calls in
     subst (λ (t : List ℕ). StylesIn (without_links d) (concat chunks) (all ++ t)) (sym (ended last left old new answer q is end room)) (cleaned_steps d chunks all left q stepped)

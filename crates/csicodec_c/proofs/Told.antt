@@ -2,25 +2,21 @@
 use Rattle.std.proofs.Common.{◌≡◌, ◌⊎◌, ℕ, ◌-◌, List, [], length, take, drop, refl, sym, ap, subst, ◌∙◌, inl, inr, append-nil, arith}
 use Rattle.std.proofs.lemmas.List.{length-take, take-append-drop}
 use Rattle.csicodec_tokens.specs.{declared.param.CsiParam.CsiParam, declared.reader.ReadError.ReadError, Sequence.Seq}
-use Rattle.csicodec_tokens.proofs.Unique.{one_seq}
+use Rattle.csicodec_tokens.proofs.Reading.{one_seq}
 use Rattle.csicodec_spans.specs.declared.table.Mode.{Mode}
-use Rattle.csicodec_spans.proofs.Sequences.{short, whole}
-use Rattle.csicodec_events.specs.{declared.event.Events.Events, Events.BeginsCsi, Events.onward, Events.without_controls}
-use Rattle.csicodec_events.proofs.Sequences.{at_once}
+use Rattle.csicodec_spans.proofs.OneSpan.{short, whole}
+use Rattle.csicodec_events.specs.{declared.event.Events.Events, Events.BeginsCsi, Events.onward, Events.without_controls, declared.event.Event.Event}
+use Rattle.csicodec_events.specs.{declared.input.Dialect.Dialect, declared.input.InputEvent.InputEvent}
+use Rattle.csicodec_events.proofs.Stops.{at_once}
 use Rattle.csicodec_structs.specs.{declared.next.NextSequence.NextSequence, declared.structs.Param.Param, declared.structs.Struct.Struct, Next.IsDone as IsLaid}
-use Rattle.csicodec_structs.specs.{Next.IsRefused as IsUnlaid, Next.refusal}
-use Rattle.csicodec_c.specs.{declared.input.Evented.Evented, declared.input.Received.Received, Event.AnswersOutput, Event.HasPut, Event.read_at_once}
-use Rattle.csicodec_c.specs.{Event.stream, Filter.mode_number}
-use Rattle.csicodec_tokens.specs.declared.reader.ReadError.TheVariants as reading
-use Rattle.csicodec_spans.specs.declared.table.Mode.TheVariants as modes
-use Rattle.csicodec_events.specs.declared.event.Event.TheVariants as event
-use Rattle.csicodec_events.specs.declared.input.Dialect.TheVariants as dialects
-use Rattle.csicodec_events.specs.declared.input.InputEvent.TheVariants as input
+use Rattle.csicodec_structs.specs.{Next.IsRefused as IsUnlaid, Next.refusal, declared.status.Status.Status}
+use Rattle.csicodec_c.specs.{declared.input.Evented.Evented, declared.input.Received.Received, Event.AnswersOutput, Event.HasPut, Event.answered}
+use Rattle.csicodec_c.specs.{Event.without_value, Event.stream, Filter.mode_number}
 
 -- ---- what was laid
 
 no_done : (error : ReadError) → (refusal error).status ≡ 0 → ⊥
-no_done (reading.NotCsi at) e = omega (arith, e)
+no_done (ReadError.NotCsi at) e = omega (arith, e)
 no_done other e = omega (arith, e)
 
 -- it was laid where the status says so
@@ -34,7 +30,7 @@ pub unlaid : (bytes : List ℕ) (a b : List Struct) (p q : List Param) (front : 
     → (b ≡ a) × (q ≡ p)
 unlaid bytes a b p q front (inl d) done memory = absurd (done d.taken.ok)
 unlaid bytes a b p q front (inr r) done memory =
-    let other : r.error ≡ reading.Memory → ⊥ = λ m. memory (ap (λ (f : NextSequence). f.status) r.tells ∙ ap (λ (x : ReadError). (refusal x).status) m) in
+    let other : r.error ≡ ReadError.Memory → ⊥ = λ m. memory (ap (λ (f : NextSequence). f.status) r.tells ∙ ap (λ (x : ReadError). (refusal x).status) m) in
     (r.actions_stay other, r.params_stay other)
 
 -- ---- a sequence whose controls were left out
@@ -51,36 +47,34 @@ put_read read bytes list final a b p q front is s d =
 
 -- ---- a sequence that is read at once
 
-pub read_done : (number limit looked : ℕ) (bytes near : List ℕ) (m : Mode) (a b : List Struct) (p q : List Param) (front : NextSequence) (answer : Evented)
-    → number ≡ mode_number m → looked ≡ 0 → BeginsCsi bytes
-    → near ≡ take limit bytes → IsLaid near a b p q front → answer ≡ read_at_once front → AnswersOutput number limit looked bytes a b p q answer
-read_done number limit looked bytes near m a b p q front answer began none begins is laid e =
+pub read_done : (number limit looked : ℕ) (bytes near : List ℕ) (m : Mode) (a b : List Struct) (p q : List Param) (front : NextSequence) (told : Received)
+    → number ≡ mode_number m → looked ≡ 0 → BeginsCsi bytes → near ≡ take limit bytes → IsLaid near a b p q front
+    → told ≡ answered Status.Done 2 0 (stream 1 Mode.Text 0) front.used
+    → AnswersOutput number limit looked bytes a b p q (without_value (record told { actions = front.actions; params = front.params }))
+read_done number limit looked bytes near m a b p q front told began none begins is laid e =
     let f = (subst (λ (x : List ℕ). IsLaid x a b p q front) is laid).taken in
     let s : Events = stream limit m looked in
     let n = length (take limit bytes) - length f.rest in
     let seq = whole limit bytes f.rest f.list f.final f.reads in
     let csi = at_once s bytes (take n bytes) (drop n bytes) f.list f.final none seq (sym (take-append-drop n bytes)) (short limit bytes f.rest) in
-    let full : Received = record { status = 0; kind = 2; mode = 0; value = 0; looked = 0; used = front.used; actions = front.actions; params = front.params } in (
+    let full : Received = record told { actions = front.actions; params = front.params } in (
       full,
-      e,
+      refl,
       inl (record {
-        who = dialects.Output;
+        who = Dialect.Output;
         before = m;
-        after = onward s modes.Text 0;
-        sent = input.Output (event.Csi f.final);
+        after = onward s Mode.Text 0;
+        sent = InputEvent.Output (Event.Csi f.final);
         list = f.list;
         text = take n bytes;
         rest = drop n bytes;
         wrote = refl;
         began = began;
-        sends = (event.Csi f.final, refl, (begins, csi));
+        sends = (Event.Csi f.final, refl, (begins, csi));
         parts = sym (take-append-drop n bytes);
-        ok = refl;
-        is = refl;
-        mode = refl;
-        value = refl;
-        looks = refl;
-        used = omega (arith, f.used, length-take limit bytes, length-take n bytes);
+        tells =
+            let used : front.used ≡ length (take n bytes) = omega (arith, f.used, length-take limit bytes, length-take n bytes) in
+            rw (e, used) refl;
         puts = (f.actions, f.are, f.lays);
       }),
     )

@@ -5,43 +5,38 @@ use Rattle.csicodec_spans.specs.declared.table.Mode.{Mode}
 use Rattle.csicodec_actions.specs.Actions.{Action}
 use Rattle.csicodec_parser.specs.Segments.{Actions}
 use Rattle.csicodec_events.specs.{declared.event.Events.Events, declared.input.Dialect.Dialect, declared.input.InputEvent.InputEvent, Events.IsMet}
-use Rattle.csicodec_events.specs.{Input.Awaits, Input.IsSent, Input.IsSentBy, Input.paused}
-use Rattle.csicodec_structs.specs.{declared.next.NextSequence.NextSequence, declared.structs.Param.Param, declared.structs.Struct.Struct, Next.Lays}
-use Rattle.csicodec_structs.specs.{Status.status_number, declared.status.Status.Status}
+use Rattle.csicodec_events.specs.{Input.Awaits, Input.IsSent, Input.IsSentBy, Input.paused, declared.event.Event.Event}
+use Rattle.csicodec_structs.specs.{declared.structs.Param.Param, declared.structs.Struct.Struct, Next.Lays, Status.status_number, declared.status.Status.Status}
 use Rattle.csicodec_c.specs.{declared.input.Evented.Evented, declared.input.Received.Received, Filter.mode_number}
-use Rattle.csicodec_events.specs.declared.event.Event.TheVariants as event
-use Rattle.csicodec_events.specs.declared.input.Dialect.TheVariants as dialects
-use Rattle.csicodec_events.specs.declared.input.InputEvent.TheVariants as input
-use Rattle.csicodec_structs.specs.declared.status.Status.TheVariants as status
 
 -- the numbers of `enum csicodec_dialect`
 abbrev pub dialect_number : Dialect → ℕ
-dialect_number dialects.Output = 0
-dialect_number dialects.Input = 1
-dialect_number dialects.Utf8Input = 2
+dialect_number Dialect.Output = 0
+dialect_number Dialect.Input = 1
+dialect_number Dialect.Utf8Input = 2
 
 -- the numbers of `enum csicodec_event_kind`: those of output, and behind them those of input
 abbrev pub event_number : InputEvent → ℕ
-event_number (input.Output event.Text) = 1
-event_number (input.Output (event.Csi final)) = 2
-event_number (input.Output event.Esc) = 3
-event_number (input.Output event.Str) = 4
-event_number (input.Output event.Other) = 5
-event_number (input.Output (event.Control b)) = 6
-event_number (input.Ss3 b) = 7
-event_number (input.Linux b) = 8
-event_number (input.Rxvt n) = 9
-event_number input.Mouse = 10
-event_number (input.Alt b) = 11
-event_number input.Escape = 12
+event_number (InputEvent.Output Event.Text) = 1
+event_number (InputEvent.Output (Event.Csi final)) = 2
+event_number (InputEvent.Output Event.Esc) = 3
+event_number (InputEvent.Output Event.Str) = 4
+event_number (InputEvent.Output Event.Other) = 5
+event_number (InputEvent.Output (Event.Control b)) = 6
+event_number (InputEvent.Ss3 b) = 7
+event_number (InputEvent.Linux b) = 8
+event_number (InputEvent.Rxvt n) = 9
+event_number InputEvent.Mouse = 10
+event_number (InputEvent.Alt b) = 11
+event_number InputEvent.Escape = 12
 
 -- the control within a control sequence, the character of a key, or its number
 abbrev pub value_of : InputEvent → ℕ
-value_of (input.Output (event.Control b)) = b
-value_of (input.Ss3 b) = b
-value_of (input.Linux b) = b
-value_of (input.Rxvt n) = n
-value_of (input.Alt b) = b
+value_of (InputEvent.Output (Event.Control b)) = b
+value_of (InputEvent.Ss3 b) = b
+value_of (InputEvent.Linux b) = b
+value_of (InputEvent.Rxvt n) = n
+value_of (InputEvent.Alt b) = b
 value_of _ = 0
 
 abbrev pub stream : ℕ → Mode → ℕ → Events
@@ -62,7 +57,7 @@ HasPut list final actions_old actions_new params_old params_new actions params =
 
 -- of a control sequence its actions, as many as there is room for; of any other event none
 abbrev pub Puts : InputEvent → List CsiParam → List Struct → List Struct → List Param → List Param → ℕ → ℕ → Type 0
-Puts (input.Output (event.Csi final)) list actions_old actions_new params_old params_new actions params =
+Puts (InputEvent.Output (Event.Csi final)) list actions_old actions_new params_old params_new actions params =
     HasPut list final actions_old actions_new params_old params_new actions params
 Puts _ list actions_old actions_new params_old params_new actions params =
     (actions ≡ 0) × (params ≡ 0) × (actions_new ≡ actions_old) × (params_new ≡ params_old)
@@ -80,12 +75,7 @@ pub record IsDone (dialect number limit looked : ℕ) (bytes : List ℕ) (action
   pub began : number ≡ mode_number before
   pub sends : IsSent who (stream limit before looked) bytes sent text rest list after
   pub parts : bytes ≡ text ++ rest
-  pub ok : answer.status ≡ status_number status.Done
-  pub is : answer.kind ≡ event_number sent
-  pub mode : answer.mode ≡ mode_number after.mode
-  pub value : answer.value ≡ value_of sent
-  pub looks : answer.looked ≡ after.looked
-  pub used : answer.used ≡ length text
+  pub tells : answer ≡ record (answered Status.Done (event_number sent) (value_of sent) after (length text)) { actions = answer.actions; params = answer.params }
   pub puts : Puts sent list actions_old actions_new params_old params_new answer.actions answer.params
 
 -- or nothing is told before more bytes come
@@ -96,7 +86,7 @@ pub record IsWaiting (dialect number limit looked : ℕ) (bytes : List ℕ) (act
   pub wrote : dialect ≡ dialect_number who
   pub began : number ≡ mode_number before
   pub awaits : Awaits who (stream limit before looked) bytes after
-  pub tells : answer ≡ answered status.Truncated 0 0 after 0
+  pub tells : answer ≡ answered Status.Truncated 0 0 after 0
   pub actions : actions_new ≡ actions_old
   pub params : params_new ≡ params_old
 
@@ -109,7 +99,7 @@ IsBadState dialect number limit looked bytes =
 -- or it is refused
 abbrev pub IsRefused : ℕ → ℕ → ℕ → ℕ → List ℕ → Received → Type 0
 IsRefused dialect number limit looked bytes answer =
-    (answer ≡ refused status.Memory) ⊎ ((answer ≡ refused status.BadState) × IsBadState dialect number limit looked bytes)
+    (answer ≡ refused Status.Memory) ⊎ ((answer ≡ refused Status.BadState) × IsBadState dialect number limit looked bytes)
 
 -- one of these
 abbrev pub Answers : ℕ → ℕ → ℕ → ℕ → List ℕ → List Struct → List Struct → List Param → List Param → Received → Type 0
@@ -124,16 +114,11 @@ abbrev pub without_value : Received → Evented
 without_value r =
     record { status = r.status; kind = r.kind; mode = r.mode; looked = r.looked; used = r.used; actions = r.actions; params = r.params }
 
--- a sequence behind which nothing is open
-abbrev pub read_at_once : NextSequence → Evented
-read_at_once front =
-    record { status = status_number status.Done; kind = 2; mode = 0; looked = 0; used = front.used; actions = front.actions; params = front.params }
-
 -- what is answered of output, without its value, which is the control there
 abbrev pub AnswersOutput : ℕ → ℕ → ℕ → List ℕ → List Struct → List Struct → List Param → List Param → Evented → Type 0
 AnswersOutput number limit looked bytes actions_old actions_new params_old params_new answer =
     (whole : Received) × (answer ≡ without_value whole)
-    × Answers (dialect_number dialects.Output) number limit looked bytes actions_old actions_new params_old params_new whole
+    × Answers (dialect_number Dialect.Output) number limit looked bytes actions_old actions_new params_old params_new whole
 
 -- ---- where no more bytes come
 
@@ -145,9 +130,9 @@ pub record IsPaused (bytes : List ℕ) (answer : Received) : Type 0 where
   pub text : List ℕ
   pub rest : List ℕ
   pub sends : IsSentBy (paused bytes) before bytes sent text rest [] after
-  pub tells : answer ≡ answered status.Done (event_number sent) (value_of sent) after (length text)
+  pub tells : answer ≡ answered Status.Done (event_number sent) (value_of sent) after (length text)
 
 -- or they are none, and go on waiting
 pub record IsStill (bytes : List ℕ) (answer : Received) : Type 0 where
   pub none : (before after : Events) (sent : InputEvent) (text rest : List ℕ) → IsSentBy (paused bytes) before bytes sent text rest [] after → ⊥
-  pub tells : answer ≡ refused status.Truncated
+  pub tells : answer ≡ refused Status.Truncated

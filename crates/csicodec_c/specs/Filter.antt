@@ -2,22 +2,19 @@
 use Rattle.std.specs.Prelude.{ℕ, ◌≡◌, ◌⊎◌, ◌≤◌, List, drop, length}
 use Rattle.csicodec_spans.specs.declared.table.Mode.{Mode}
 use Rattle.csicodec_filter.specs.Filter.{Passes}
-use Rattle.csicodec_streams.specs.Decoding.{NormalisesTo}
-use Rattle.csicodec_c.specs.declared.filter.Filtered.{Filtered}
+use Rattle.csicodec_c.specs.{declared.filter.Filtered.Filtered, Strip.IsRefused}
 use Rattle.csicodec_structs.specs.{Room.Fills, Status.status_number, declared.status.Status.Status, declared.encode.Encoded.Encoded}
 use Rattle.csicodec_structs.specs.{declared.structs.Param.Param, declared.structs.Struct.Struct, Encode.AllStand, Encode.IsPut}
 use Rattle.csicodec_actions.specs.Actions.{Action}
-use Rattle.csicodec_compact.specs.Compacts.{Compacts, Encodes}
-use Rattle.csicodec_spans.specs.declared.table.Mode.TheVariants as modes
-use Rattle.csicodec_structs.specs.declared.status.Status.TheVariants as status
+use Rattle.csicodec_compact.specs.Compacts.{Encodes}
 
 abbrev pub mode_number : Mode → ℕ
-mode_number modes.Text = 0
-mode_number modes.Osc = 1
-mode_number modes.Dcs = 2
-mode_number modes.Str = 3
-mode_number modes.BadCsi = 4
-mode_number modes.BadEsc = 5
+mode_number Mode.Text = 0
+mode_number Mode.Osc = 1
+mode_number Mode.Dcs = 2
+mode_number Mode.Str = 3
+mode_number Mode.BadCsi = 4
+mode_number Mode.BadEsc = 5
 
 abbrev pub refused : Status → Filtered
 refused why = record { status = status_number why; mode = 0; used = 0; needed = 0 }
@@ -29,24 +26,19 @@ pub record IsStep (Writes : List ℕ → List ℕ → Type 0) (number limit : �
   pub after : Mode
   pub text : List ℕ
   pub began : number ≡ mode_number before
-  pub ok : answer.status ≡ status_number status.Done
-  pub mode : answer.mode ≡ mode_number after
   pub within : answer.used ≤ length bytes
   pub passes : Passes Writes limit before bytes text (drop answer.used bytes) after
-  pub needed : answer.needed ≡ length text
+  pub tells : answer ≡ record { status = status_number Status.Done; mode = mode_number after; used = answer.used; needed = length text }
   pub fills : Fills old new text
-
--- a step of a filter that writes normal forms
-abbrev pub IsDone : ℕ → ℕ → List ℕ → List ℕ → List ℕ → Filtered → Type 0
-IsDone number limit bytes old new answer = IsStep NormalisesTo number limit bytes old new answer
 
 -- why a state is none
 abbrev pub IsBadState : ℕ → ℕ → Type 0
 IsBadState number limit = (limit ≡ 0) ⊎ ((mode : Mode) → number ≡ mode_number mode → ⊥)
 
--- a step of a filter that writes spellings that are read alike, and no longer
-abbrev pub IsCompacted : ℕ → ℕ → List ℕ → List ℕ → List ℕ → Filtered → Type 0
-IsCompacted number limit bytes old new answer = IsStep Compacts number limit bytes old new answer
+-- such a step, or a refusal
+abbrev pub Steps : (List ℕ → List ℕ → Type 0) → ℕ → ℕ → List ℕ → List ℕ → List ℕ → Filtered → Type 0
+Steps Writes number limit bytes old new answer =
+    IsStep Writes number limit bytes old new answer ⊎ IsRefused refused (IsBadState number limit) old new answer
 
 -- a text of these actions is put
 pub record IsCompact (structs : List Struct) (params : List Param) (old new : List ℕ)

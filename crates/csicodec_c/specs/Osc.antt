@@ -3,7 +3,6 @@ use Rattle.std.specs.Prelude.{ℕ, ◌≡◌, ◌-◌, List, length, Option, Non
 use Rattle.csicodec_osc.specs.{declared.osc.Osc.Osc, Osc.Says, Osc.asked_text, Osc.list_text, Osc.said, Osc.value_of}
 use Rattle.csicodec_c.specs.OscKinds.{clipboard_kind, dynamic_kind, dynamic_reset_kind, editor_mark_kind, folder_kind, kitty_notice_kind, link_kind, mark_kind, notice_kind, color_table_kind, color_table_reset_kind, pointer_kind, progress_kind, title_kind, titled_notice_kind}
 use Rattle.csicodec_c.specs.declared.osc.Commanded.{Commanded}
-use Rattle.csicodec_osc.specs.declared.osc.Osc.TheVariants as osc
 
 -- a command with a text that ends the content, which has so many bytes
 abbrev pub one : ℕ → ℕ → List ℕ → Commanded
@@ -19,22 +18,22 @@ with_fields len kind (Some text) = one len kind text
 with_fields len kind None = record { kind = kind; texts = 0; first = len; second = len }
 
 abbrev pub told : ℕ → Osc → Commanded
-told len (osc.Title t text) = one len (title_kind t) text.now
-told len (osc.Colors p list) = with_fields len (color_table_kind p) (list_text list)
-told len (osc.Color d list) = with_fields len (dynamic_kind d) (list_text list)
-told len (osc.ResetColors p list) = with_fields len (color_table_reset_kind p) (list_text list)
-told len (osc.ResetColor d list) = with_fields len (dynamic_reset_kind d) (list_text list)
-told len (osc.Link params address) = two len link_kind params.now address.now
-told len (osc.Clipboard selection content) = two len clipboard_kind selection.now (asked_text (value_of content))
-told len (osc.Folder f text) = one len (folder_kind f) text.now
-told len (osc.Prompt m list) = with_fields len (mark_kind m) (list_text list)
-told len (osc.Editor m list) = with_fields len (editor_mark_kind m) (list_text list)
-told len (osc.Progress p list) = with_fields len (progress_kind p) (list_text list)
-told len (osc.Pointer text) = one len pointer_kind text.now
-told len (osc.KittyNotice metadata payload) = two len kitty_notice_kind metadata.now payload.now
-told len (osc.TitledNotice title text) = two len titled_notice_kind title.now text.now
-told len (osc.Notice text) = one len notice_kind text.now
-told len (osc.Unknown bytes) = one len 0 bytes.now
+told len (Osc.Title t text) = one len (title_kind t) text.now
+told len (Osc.Colors p list) = with_fields len (color_table_kind p) (list_text list)
+told len (Osc.Color d list) = with_fields len (dynamic_kind d) (list_text list)
+told len (Osc.ResetColors p list) = with_fields len (color_table_reset_kind p) (list_text list)
+told len (Osc.ResetColor d list) = with_fields len (dynamic_reset_kind d) (list_text list)
+told len (Osc.Link params address) = two len link_kind params.now address.now
+told len (Osc.Clipboard selection content) = two len clipboard_kind selection.now (asked_text (value_of content))
+told len (Osc.Folder f text) = one len (folder_kind f) text.now
+told len (Osc.Prompt m list) = with_fields len (mark_kind m) (list_text list)
+told len (Osc.Editor m list) = with_fields len (editor_mark_kind m) (list_text list)
+told len (Osc.Progress p list) = with_fields len (progress_kind p) (list_text list)
+told len (Osc.Pointer text) = one len pointer_kind text.now
+told len (Osc.KittyNotice metadata payload) = two len kitty_notice_kind metadata.now payload.now
+told len (Osc.TitledNotice title text) = two len titled_notice_kind title.now text.now
+told len (Osc.Notice text) = one len notice_kind text.now
+told len (Osc.Unknown bytes) = one len 0 bytes.now
 
 -- the content says this
 abbrev pub IsCommanded : List ℕ → Commanded → Type 0

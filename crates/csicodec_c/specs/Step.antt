@@ -1,11 +1,10 @@
 -- What the calls that clean untrusted text step by step answer a C program.
 use Rattle.std.specs.Prelude.{ℕ, ◌≡◌, ◌≤◌, Bool, List, [], ◌∷◌, ◌++◌, length, take, drop}
 use Rattle.csicodec_clean.specs.{declared.colors.Depth.Depth, declared.step.Pause.Pause, Cleaned.RuleOf, Cleaned.drops, Steps.Steps, Steps.bare, Steps.ending}
-use Rattle.csicodec_clean.specs.{Styled.Keeping, Styled.resumed, Styled.keeps}
+use Rattle.csicodec_clean.specs.{Styled.resumed, Styled.keeps}
 use Rattle.csicodec_c.specs.{declared.step.Cleaned.Cleaned, declared.step.Cleaning.Cleaning, declared.strip.Stripped.Stripped, Filter.mode_number, Strip.Puts}
 use Rattle.csicodec_c.specs.{Strip.bit, Strip.depth_number}
 use Rattle.csicodec_structs.specs.{Room.Fills, Status.status_number, declared.status.Status.Status}
-use Rattle.csicodec_structs.specs.declared.status.Status.TheVariants as status
 
 -- the numbers of a state
 abbrev pub numbers : Pause → Cleaning
@@ -29,7 +28,7 @@ zeros = record { mode = 0; titled = 0; styled = 0; held = 0 }
 
 abbrev pub cleaned : Pause → ℕ → ℕ → Cleaned
 cleaned p used needed =
-    record { status = status_number status.Done; state = numbers p; used = used; needed = needed }
+    record { status = status_number Status.Done; state = numbers p; used = used; needed = needed }
 
 abbrev pub refused : Status → Cleaned
 refused why = record { status = status_number why; state = zeros; used = 0; needed = 0 }
@@ -58,7 +57,7 @@ IsStripStep state bytes old new answer =
 abbrev pub IsCleanStep : ℕ → Cleaning → List ℕ → List ℕ → List ℕ → Cleaned → Type 0
 IsCleanStep number state bytes old new answer =
     (d : Depth) × (number ≡ depth_number d)
-    × IsStep (keeps (λ (k : Keeping). k)) (resumed d) state bytes old new answer
+    × IsStep keeps (resumed d) state bytes old new answer
 
 -- what ends a stream behind its steps
 abbrev pub IsEnd : Cleaning → List ℕ → List ℕ → List ℕ → Stripped → Type 0

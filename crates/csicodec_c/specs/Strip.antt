@@ -4,20 +4,18 @@ use Rattle.csicodec_clean.specs.{declared.colors.Depth.Depth, declared.styles.Pa
 use Rattle.csicodec_clean.specs.{Styled.IsStyledIn, Styled.StylesIn}
 use Rattle.csicodec_c.specs.declared.strip.Stripped.{Stripped}
 use Rattle.csicodec_structs.specs.{Room.Fills, Status.status_number, declared.status.Status.Status}
-use Rattle.csicodec_clean.specs.declared.colors.Depth.TheVariants as depths
-use Rattle.csicodec_structs.specs.declared.status.Status.TheVariants as status
 
 abbrev pub stripped : ℕ → Stripped
-stripped needed = record { status = status_number status.Done; needed = needed }
+stripped needed = record { status = status_number Status.Done; needed = needed }
 
 abbrev pub bit : Bool → ℕ
 bit false = 0
 bit true = 1
 
 abbrev pub depth_number : Depth → ℕ
-depth_number depths.Full = 0
-depth_number depths.Palette = 1
-depth_number depths.Ansi = 2
+depth_number Depth.Full = 0
+depth_number Depth.Palette = 1
+depth_number Depth.Ansi = 2
 
 abbrev pub refused : Status → Stripped
 refused why = record { status = status_number why; needed = 0 }
@@ -32,8 +30,8 @@ pub record Puts (IsText : List ℕ → Type 0) (old new : List ℕ) (answer : St
 -- or memory ran out, or the numbers stand for nothing, and then nothing is put
 pub record IsRefused {A : Type 0} (refusal : Status → A) (StandForNothing : Type 0)
     (old new : List ℕ) (answer : A) : Type 0 where
-  pub why : (answer ≡ refusal status.Memory)
-      ⊎ ((answer ≡ refusal status.BadState) × StandForNothing)
+  pub why : (answer ≡ refusal Status.Memory)
+      ⊎ ((answer ≡ refusal Status.BadState) × StandForNothing)
   pub same : new ≡ old
 
 abbrev pub Answers : (List ℕ → Type 0) → Type 0 → List ℕ → List ℕ → Stripped → Type 0

@@ -1,9 +1,9 @@
 //! A step of a filter whose state the caller keeps, and streams and actions in fewer bytes.
 ghost use Rattle.std.specs.Prelude.{◌≡◌, ◌⊎◌, ◌↔◌, Some};
 ghost use Rattle.csicodec_spans.specs.declared.table.Mode.{Mode};
-ghost use Rattle.csicodec_c.specs.{Filter.IsBadState, Filter.IsDone, Filter.IsStep, Filter.mode_number, Filter.refused, Filter.IsCompact, Filter.IsCompacted};
-ghost use Rattle.csicodec_c.specs.{Strip.IsRefused, Strip.AnswersBy, Strip.bit};
-ghost use Rattle.csicodec_compact.specs.Runs.{CompactsAll};
+ghost use Rattle.csicodec_c.specs.{Filter.IsCompact, Filter.Steps, Filter.mode_number, Filter.refused, Strip.AnswersBy, Strip.bit};
+ghost use Rattle.csicodec_compact.specs.{Compacts.Compacts, Runs.CompactsAll};
+ghost use Rattle.csicodec_streams.specs.Decoding.{NormalisesTo};
 ghost use Rattle.csicodec_structs.specs.Encode.{IsRefused as RefusesActions};
 ghost use Rattle.csicodec_spans.specs.declared.table.Mode.TheVariants as mode;
 
@@ -71,8 +71,7 @@ fn step<T: Rewrite + Drop>(
     bytes: &[u8],
     out: &mut [u8],
 ) -> Filtered
-    ensures { IsStep (T.writes rewrite) mode limit bytes.now out.old out.new result
-        ⊎ IsRefused refused (IsBadState mode limit) out.old out.new result }
+    ensures { Steps (T.writes rewrite) mode limit bytes.now out.old out.new result }
 {
     let Some(mode) = mode_at(mode) else {
         return refused(Status::BadState);
@@ -107,8 +106,7 @@ pub extern "C" fn csicodec_filter(
     bytes: &[u8],
     out: &mut [u8],
 ) -> Filtered
-    ensures { IsDone mode limit bytes.now out.old out.new result
-        ⊎ IsRefused refused (IsBadState mode limit) out.old out.new result }
+    ensures { Steps NormalisesTo mode limit bytes.now out.old out.new result }
 {
     step(alloc, NormalForm::new(alloc), mode, limit, bytes, out)
 }
@@ -123,8 +121,7 @@ pub extern "C" fn csicodec_compact(
     bytes: &[u8],
     out: &mut [u8],
 ) -> Filtered
-    ensures { IsCompacted mode limit bytes.now out.old out.new result
-        ⊎ IsRefused refused (IsBadState mode limit) out.old out.new result }
+    ensures { Steps Compacts mode limit bytes.now out.old out.new result }
 {
     step(alloc, Compact::new(alloc), mode, limit, bytes, out)
 }
@@ -138,8 +135,7 @@ pub extern "C" fn csicodec_compact_semicolons(
     bytes: &[u8],
     out: &mut [u8],
 ) -> Filtered
-    ensures { IsCompacted mode limit bytes.now out.old out.new result
-        ⊎ IsRefused refused (IsBadState mode limit) out.old out.new result }
+    ensures { Steps Compacts mode limit bytes.now out.old out.new result }
 {
     let rule = Compact::with_semicolons(alloc);
     step(alloc, rule, mode, limit, bytes, out)

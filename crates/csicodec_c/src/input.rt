@@ -2,12 +2,12 @@
 ghost use Rattle.std.specs.Prelude.{◌≡◌, ◌⊎◌, ◌<◌, ◌↔◌, ℕ, List, Some, IfSome, take};
 ghost use Rattle.csicodec_tokens.specs.{declared.param.CsiParam.CsiParam, Sequence.Seq};
 ghost use Rattle.csicodec_events.specs.{declared.input.Dialect.Dialect, declared.event.Events.Events, Events.IsMet, Events.without_controls, Input.IsSent};
-ghost use Rattle.csicodec_c.specs.Event.{Answers, HasPut, IsPaused, IsStill, Puts, answered, dialect_number, event_number, refused, value_of, AnswersOutput, read_at_once, without_value};
+ghost use Rattle.csicodec_c.specs.Event.{Answers, HasPut, IsPaused, IsStill, Puts, answered, dialect_number, event_number, refused, value_of, AnswersOutput, without_value};
 ghost use Rattle.csicodec_c.specs.Filter.{mode_number};
 
 use crate::filter::{mode_at, number_of};
 use csicodec_events::{Dialect, Event, Events, InputEvent, append_read, begins_csi};
-use csicodec_structs::{NextSequence, Param, Status, Struct, lay_front};
+use csicodec_structs::{Param, Status, Struct, lay_front};
 use std::alloc::Global;
 
 /// What comes next in what a terminal sends.
@@ -264,21 +264,6 @@ fn without_value(answer: Received) -> Evented
     }
 }
 
-/// A sequence that was read at once.
-fn sequence(front: NextSequence) -> Evented
-    ensures { result ≡ read_at_once front }
-{
-    Evented {
-        status: Status::Done.number(),
-        kind: 2,
-        mode: 0,
-        looked: 0,
-        used: front.used,
-        actions: front.actions,
-        params: front.params,
-    }
-}
-
 /// As many of the first bytes as a sequence may have.
 fn near(limit: usize, bytes: &[u8]) -> &[u8]
     ensures { result.now ≡ take limit bytes.now }
@@ -334,7 +319,11 @@ pub extern "C" fn csicodec_event(
     if looked == 0 && begins_csi(bytes) {
         let front = lay_front(alloc, near(limit, bytes), actions, params);
         if front.status == Status::Done.number() {
-            return sequence(front);
+            return without_value(Received {
+                actions: front.actions,
+                params: front.params,
+                ..answer(Status::Done, 2, 0, Events::new(1), front.used)
+            });
         }
         if front.status == Status::Memory.number() {
             return without_value(refused(Status::Memory));

@@ -2,14 +2,14 @@
 ghost use Rattle.std.specs.Prelude.{◌≡◌, ◌⊎◌, List, IfOk, option_map, option_and_then};
 ghost use Rattle.bstr.specs.Utf8.{decoded};
 ghost use Rattle.csicodec_keys.specs.{Forms.by, Forms.read_char, Keys.stroke_of};
-ghost use Rattle.csicodec_c.specs.Key.{Answers, IsKey, IsNoKey, encoding_number, happens, key_of, told, used_by, without};
+ghost use Rattle.csicodec_c.specs.Key.{Answers, IsKey, IsNoKey, key_of, told, used_by, without};
 ghost use Rattle.csicodec_keys.specs.declared.key.Encoding.TheVariants as encoding;
 ghost use Rattle.csicodec_structs.specs.declared.status.Status.TheVariants as status;
 
 use bitflags::Flags;
 use bstr::decode_utf8;
 use csicodec_events::{Dialect, Event, Events, InputEvent, Sent};
-use csicodec_keys::{Encoding, Key, KeyEvent, read, read_char};
+use csicodec_keys::{Encoding, Key, read, read_char};
 use csicodec_spans::LIMIT;
 use csicodec_structs::{Status, fill};
 use csicodec_tokens::CsiParam;
@@ -52,18 +52,6 @@ fn without(why: Status, used: usize) -> FrontKey
     }
 }
 
-fn happens(event: KeyEvent) -> u32
-    ensures { result ≡ happens event }
-{
-    event as u32
-}
-
-fn encoding_number(encoding: Encoding) -> u32
-    ensures { result ≡ encoding_number encoding }
-{
-    encoding as u32
-}
-
 fn told(encoding: Encoding, key: &Key, used: usize) -> FrontKey
     ensures { result ≡ told encoding (stroke_of key.now) used }
 {
@@ -72,8 +60,8 @@ fn told(encoding: Encoding, key: &Key, used: usize) -> FrontKey
         code: u32::from(key.code.tag()),
         value: key.code.value(),
         modifiers: u32::from(key.modifiers.bits()),
-        event: happens(key.event),
-        encoding: encoding_number(encoding),
+        event: key.event as u32,
+        encoding: encoding as u32,
         typed: key.text.len(),
         used,
     }
@@ -95,8 +83,7 @@ fn typed(bytes: &[u8]) -> Option<(Encoding, Key)>
     ensures { option_map (λ r. (r.0, stroke_of r.1)) result
         ≡ by encoding.Legacy (option_and_then read_char (decoded bytes.now).char) }
 {
-    let character = decode_utf8(bytes).0?;
-    let key = read_char(character)?;
+    let key = read_char(decode_utf8(bytes).0?)?;
     Some((Encoding::Legacy, key))
 }
 

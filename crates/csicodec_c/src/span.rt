@@ -1,10 +1,10 @@
 //! The span at the front of a stream whose state the caller keeps, and the code of an escape sequence.
 ghost use Rattle.std.specs.Prelude.{◌≡◌, ◌⊎◌, Some};
-ghost use Rattle.csicodec_c.specs.Span.{IsCode, IsDone, IsRefused, IsWaiting, kind_number, refused};
+ghost use Rattle.csicodec_c.specs.Span.{IsCode, IsDone, IsRefused, IsWaiting, refused};
 
 use crate::filter::{mode_at, number_of};
 use csicodec::Esc;
-use csicodec_spans::{Kind, next_span};
+use csicodec_spans::next_span;
 use csicodec_structs::Status;
 
 /// What stands at the front of a stream.
@@ -33,12 +33,6 @@ fn refused(why: Status) -> Spanned
     }
 }
 
-fn kind_number(kind: Kind) -> u32
-    ensures { result ≡ kind_number kind }
-{
-    kind as u32
-}
-
 /// The span at the front of bytes that stand in a mode.
 #[unsafe(no_mangle)]
 pub extern "C" fn csicodec_span(mode: u32, limit: usize, bytes: &[u8]) -> Spanned
@@ -54,7 +48,7 @@ pub extern "C" fn csicodec_span(mode: u32, limit: usize, bytes: &[u8]) -> Spanne
     match next_span(limit, mode, bytes) {
         Some(cut) => Spanned {
             status: Status::Done.number(),
-            kind: kind_number(cut.span.kind),
+            kind: cut.span.kind as u32,
             mode: number_of(cut.mode),
             used: cut.span.bytes.len(),
         },

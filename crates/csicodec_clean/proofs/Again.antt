@@ -1,98 +1,85 @@
--- What `clean` left has one reading, and is left as it is.
-use Rattle.std.proofs.Common.{◌≡◌, ℕ, Bool, true, false, cond, List, [], ◌∷◌, ◌++◌, map, encode_utf8, encode_utf8_all, refl, sym, ap, subst, ◌∙◌, append_assoc, append-nil, arith}
-use Rattle.std.proofs.{lemmas.Bool.and_from, lemmas.Bool.and_parts, lemmas.Bool.Decides.nat_tests, lemmas.Grind.flat_map-append, lemmas.List.map-append}
-use Rattle.std.specs.{Prelude.filter, Prelude.◌==◌, Prelude.not, List.AllByRecursion, List.flat_map, Str.all_scalars, Char.IsScalar}
-use lib.Utf8.{scalar}
-use Rattle.bstr.specs.Utf8.{lossy_chars}
-use Rattle.bstr.proofs.{lemmas.EncodeLemmas.lossy_chars-encode, lemmas.PieceLemmas.lossy_chars-nil}
-use Rattle.csicodec_clean.specs.Links.{Address, Begun, IsLink, admitted, all_behind, begun, is_param, is_visible, link_body, link_text, links_at, links_in, next, start}
-use Rattle.csicodec_clean.specs.Styled.{kept, Item, Shown, Style, Link, item_texts, shown_items, hides, Leaves, begun_behind, run_behind, items_behind, AreLeft, closed, StylesIn, IsSafe, IsStyledIn}
-use Rattle.csicodec_clean.specs.{declared.colors.Depth.Depth, Shown.shown, Shown.shown_text, Shown.IsShown, Titles.with_titles, declared.styles.Passing.Passing}
-use Rattle.csicodec_clean.specs.{Palette.reduced, Cleaned.Strips, Cleaned.stripped, Cleaned.is_text, Cleaned.longest}
-use Rattle.csicodec_base.specs.{declared.sgr.Sgr.Sgr, SgrText.sgr_text}
-use Rattle.csicodec_actions.specs.{Actions.Action, Table.text}
-use Rattle.csicodec.specs.Exact.{ReadsAlone}
+-- What `clean` left has one reading and is left as it is, and what went out is a front of it.
+use Rattle.std.proofs.Common.{◌≡◌, ℕ, Bool, true, false, cond, List, [], ◌∷◌, ◌++◌, map, encode_utf8, encode_utf8_all, refl, sym, ap, subst, ◌∙◌, append_assoc, append-nil, arith, filter, ◌==◌, not, flat_map, Option, None, Result}
+use Rattle.csicodec_clean.proofs.Common.{and_from, and_parts, nat_tests, flat_map-append, map-append, AllByRecursion, all_scalars, IsScalar, scalar, lossy_chars, lossy_chars-encode, lossy_chars-nil, Address, Begun, IsLink, admitted, all_behind, begun, is_param, is_visible, link_body, link_text, links_at, links_in, next, start, Item, Shown, Style, Link, item_texts, shown_items, hides, Leaves, begun_behind, run_behind, items_behind, AreLeft, StylesIn, IsSafe, IsStyledIn, Depth, shown, shown_text, IsShown, with_titles, Passing, reduced, Strips, stripped, is_text, longest, sgr_text, Action, text, ReadsAlone, Kind, Mode, Answer, Part, part, Allows, AreFirstParts, IsFirstPart, IsWhole, singles, opens, parts_more, parts_on, whole_once, cond_both, left_over, Sends, EndOf, RuleOf, AreSteps, Ends, drops, styles_of, links_of, ends_of, Keeping, first_kept, keeps, is_linked, chars_as, run_as, shown_chars, IsRead, title_open, Between, Closing, IsFrontOf, Takes, start_of, with_more, StreamsOne}
+use Rattle.csicodec_clean.proofs.Plain.{encoded_on, scalars_on, all_both, all_weaker, one_char, steps_stripped, shown_read, written_none, read_more, read_none}
+use Rattle.csicodec_clean.proofs.Styled.{each_in, none_in, safe_closed, styled, part_texts, step, texts_both, texts_chars}
+use Rattle.csicodec_clean.proofs.{Linked.body_read, Linked.itself, Coded.piece, Coded.style_taken, Told.all_kept, Told.all_text, Told.whole_all, Chunks.ends}
+use Rattle.csicodec_clean.proofs.{Streams.Ran, Streams.Went, Streams.one_ran, Titles.titles_on}
+use Rattle.csicodec_clean.specs.{Styled.kept, Styled.closed, Styled.is_open, Stream.Goes, declared.links.LinkState.LinkState}
+use Rattle.csicodec_base.specs.declared.sgr.Sgr.{Sgr}
 use Rattle.csicodec_terminal.proofs.Unique.{taken_once}
-use Rattle.csicodec_spans.specs.{declared.table.Kind.Kind, declared.table.Mode.Mode, Table.Answer, Parts.Part, Parts.part, Parts.Allows, Parts.AreFirstParts}
-use Rattle.csicodec_spans.specs.{Parts.IsFirstPart, Parts.IsWhole}
-use Rattle.csicodec_spans.proofs.{OneSpan.singles, Apart.said, Agrees.opens, Kept.parts_more, Kept.parts_on, Once.whole_once}
-use Rattle.csicodec_clean.proofs.{Shows.encoded_on, Linked.body_read, Linked.itself, Coded.piece, Coded.style_taken, Plain.scalars_on, PlainBytes.all_both}
-use Rattle.csicodec_clean.proofs.{PlainBytes.all_weaker, PlainBytes.one_char, Styled.each_in, Styled.none_in, Styled.safe_closed, Styled.styled, Twice.all_kept}
-use Rattle.csicodec_clean.proofs.{Twice.all_text, Twice.whole_all}
+use Rattle.csicodec_spans.proofs.{Apart.said, Once.parts_front}
 use Rattle.csicodec_actions.specs.Actions as action
-use Rattle.csicodec_spans.specs.declared.table.Kind.TheVariants as kind
-use Rattle.csicodec_spans.specs.declared.table.Mode.TheVariants as mode
-use Rattle.csicodec_clean.specs.declared.links.LinkState.TheVariants as place
 
 -- ---- the parts of such a text
 
 -- each byte of a character by itself, each style, and the beginning, each byte and the end of each link
 abbrev parts_of : List Item → List Part
 parts_of [] = []
-parts_of (Shown c ∷ items) = singles kind.Text (encode_utf8 c) ++ parts_of items
-parts_of (Style s ∷ items) = part kind.Csi (text (action.Sgr s)) ∷ parts_of items
-parts_of (Link a ∷ items) = part kind.Str (27 ∷ 93 ∷ []) ∷ (singles kind.Str (link_body a) ++ part kind.Str (27 ∷ 92 ∷ []) ∷ parts_of items)
+parts_of (Shown c ∷ items) = singles Kind.Text (encode_utf8 c) ++ parts_of items
+parts_of (Style s ∷ items) = part Kind.Csi (text (action.Sgr s)) ∷ parts_of items
+parts_of (Link a ∷ items) = part Kind.Str (27 ∷ 93 ∷ []) ∷ (singles Kind.Str (link_body a) ++ part Kind.Str (27 ∷ 92 ∷ []) ∷ parts_of items)
 
 style_first : (s : Sgr) (more : List ℕ) → ReadsAlone (action.Sgr s) false → hides s ≡ false
-    → IsFirstPart longest mode.Text (text (action.Sgr s) ++ more) (part kind.Csi (text (action.Sgr s))) more mode.Text
+    → IsFirstPart longest Mode.Text (text (action.Sgr s) ++ more) (part Kind.Csi (text (action.Sgr s))) more Mode.Text
 style_first s more r shown =
     let t = text (action.Sgr s) in
     let p = piece s r shown in
-    (refl, subst (λ (f : Answer). Allows f longest (t ++ more) kind.Csi t mode.Text) (sym (opens mode.Text (sgr_text s ++ more))) (p.one, p.short, refl))
+    (refl, subst (λ (f : Answer). Allows f longest (t ++ more) Kind.Csi t Mode.Text) (sym (opens Mode.Text (sgr_text s ++ more))) (p.0, p.1, refl))
 
 -- a link opens an OSC, its bytes stay in it, and ST closes it
-link_opens : (more : List ℕ) → IsFirstPart longest mode.Text (27 ∷ 93 ∷ more) (part kind.Str (27 ∷ 93 ∷ [])) more mode.Osc
-link_opens more = (refl, subst (λ (f : Answer). Allows f longest (27 ∷ 93 ∷ more) kind.Str (27 ∷ 93 ∷ []) mode.Osc) (sym (said 12 _ mode.Text (27 ∷ 93 ∷ more) refl refl)) (refl, refl, refl))
+link_opens : (more : List ℕ) → IsFirstPart longest Mode.Text (27 ∷ 93 ∷ more) (part Kind.Str (27 ∷ 93 ∷ [])) more Mode.Osc
+link_opens more = (refl, subst (λ (f : Answer). Allows f longest (27 ∷ 93 ∷ more) Kind.Str (27 ∷ 93 ∷ []) Mode.Osc) (sym (said 12 _ Mode.Text (27 ∷ 93 ∷ more) refl refl)) (refl, refl, refl))
 
-link_closes : (more : List ℕ) → IsFirstPart longest mode.Osc (27 ∷ 92 ∷ more) (part kind.Str (27 ∷ 92 ∷ [])) more mode.Text
-link_closes more = (refl, subst (λ (f : Answer). Allows f longest (27 ∷ 92 ∷ more) kind.Str (27 ∷ 92 ∷ []) mode.Text) (sym (said 15 _ mode.Osc (27 ∷ 92 ∷ more) refl refl)) (refl, refl, refl))
+link_closes : (more : List ℕ) → IsFirstPart longest Mode.Osc (27 ∷ 92 ∷ more) (part Kind.Str (27 ∷ 92 ∷ [])) more Mode.Text
+link_closes more = (refl, subst (λ (f : Answer). Allows f longest (27 ∷ 92 ∷ more) Kind.Str (27 ∷ 92 ∷ []) Mode.Text) (sym (said 15 _ Mode.Osc (27 ∷ 92 ∷ more) refl refl)) (refl, refl, refl))
 
 abbrev IsVisible : ℕ → Type 0
 IsVisible b = is_visible b ≡ true
 
-link_byte : (b : ℕ) (more : List ℕ) → IsVisible b → IsFirstPart longest mode.Osc (b ∷ more) (part kind.Str (b ∷ [])) more mode.Osc
-link_byte b more h = (refl, subst (λ (f : Answer). Allows f longest (b ∷ more) kind.Str (b ∷ []) mode.Osc) (sym (said 2 _ mode.Osc (b ∷ more) refl (grind (arith, nat_tests)))) (refl, refl, refl))
+link_byte : (b : ℕ) (more : List ℕ) → IsVisible b → IsFirstPart longest Mode.Osc (b ∷ more) (part Kind.Str (b ∷ [])) more Mode.Osc
+link_byte b more h = (refl, subst (λ (f : Answer). Allows f longest (b ∷ more) Kind.Str (b ∷ []) Mode.Osc) (sym (said 2 _ Mode.Osc (b ∷ more) refl (grind (arith, nat_tests)))) (refl, refl, refl))
 
-link_bytes : (bs more : List ℕ) → AllByRecursion IsVisible bs → AreFirstParts longest mode.Osc (bs ++ more) (singles kind.Str bs) more mode.Osc
+link_bytes : (bs more : List ℕ) → AllByRecursion IsVisible bs → AreFirstParts longest Mode.Osc (bs ++ more) (singles Kind.Str bs) more Mode.Osc
 link_bytes [] more h = (refl, refl)
-link_bytes (b ∷ bs) more h = (bs ++ more, mode.Osc, link_byte b (bs ++ more) h.0, link_bytes bs more h.1)
+link_bytes (b ∷ bs) more h = (bs ++ more, Mode.Osc, link_byte b (bs ++ more) h.0, link_bytes bs more h.1)
 
 body_visible : (a : Address) → IsLink a → AllByRecursion IsVisible (link_body a)
 body_visible a h = (refl, (refl, all_both IsVisible a.params (59 ∷ a.url) (all_weaker (λ b. is_param b ≡ true) IsVisible (λ b p. (and_parts (is_visible b) (not (b == 59)) p).0) a.params h.within.params) (refl, h.within.url)))
 
-link_first : (a : Address) (more rest : List ℕ) (ps : List Part) (after : Mode) → IsLink a → AreFirstParts longest mode.Text more ps rest after
-    → AreFirstParts longest mode.Text (link_text a ++ more) (part kind.Str (27 ∷ 93 ∷ []) ∷ (singles kind.Str (link_body a) ++ part kind.Str (27 ∷ 92 ∷ []) ∷ ps)) rest after
+link_first : (a : Address) (more rest : List ℕ) (ps : List Part) (after : Mode) → IsLink a → AreFirstParts longest Mode.Text more ps rest after
+    → AreFirstParts longest Mode.Text (link_text a ++ more) (part Kind.Str (27 ∷ 93 ∷ []) ∷ (singles Kind.Str (link_body a) ++ part Kind.Str (27 ∷ 92 ∷ []) ∷ ps)) rest after
 link_first a more rest ps after h later =
     let body = link_body a in
     let end = 27 ∷ 92 ∷ more in
-    let closes : AreFirstParts longest mode.Osc end (part kind.Str (27 ∷ 92 ∷ []) ∷ ps) rest after = (more, mode.Text, link_closes more, later) in
-    let inside = parts_on longest (singles kind.Str body) (part kind.Str (27 ∷ 92 ∷ []) ∷ ps) mode.Osc (body ++ end) end rest mode.Osc after (link_bytes body end (body_visible a h)) closes in
-    subst (λ (t : List ℕ). AreFirstParts longest mode.Text (27 ∷ 93 ∷ t) (part kind.Str (27 ∷ 93 ∷ []) ∷ (singles kind.Str body ++ part kind.Str (27 ∷ 92 ∷ []) ∷ ps)) rest after)
-    (sym (append_assoc body (27 ∷ 92 ∷ []) more)) (body ++ end, mode.Osc, link_opens (body ++ end), inside)
+    let closes : AreFirstParts longest Mode.Osc end (part Kind.Str (27 ∷ 92 ∷ []) ∷ ps) rest after = (more, Mode.Text, link_closes more, later) in
+    let inside = parts_on longest (singles Kind.Str body) (part Kind.Str (27 ∷ 92 ∷ []) ∷ ps) Mode.Osc (body ++ end) end rest Mode.Osc after (link_bytes body end (body_visible a h)) closes in
+    subst (λ (t : List ℕ). AreFirstParts longest Mode.Text (27 ∷ 93 ∷ t) (part Kind.Str (27 ∷ 93 ∷ []) ∷ (singles Kind.Str body ++ part Kind.Str (27 ∷ 92 ∷ []) ∷ ps)) rest after)
+    (sym (append_assoc body (27 ∷ 92 ∷ []) more)) (body ++ end, Mode.Osc, link_opens (body ++ end), inside)
 
-first_parts : (d : Passing) (items : List Item) → AllByRecursion (IsSafe d) items → AreFirstParts longest mode.Text (item_texts items) (parts_of items) [] mode.Text
+first_parts : (d : Passing) (items : List Item) → AllByRecursion (IsSafe d) items → AreFirstParts longest Mode.Text (item_texts items) (parts_of items) [] Mode.Text
 first_parts d [] h = (refl, refl)
 first_parts d (Shown c ∷ items) h =
     let bs = encode_utf8 c in
     let more = item_texts items in
-    parts_on longest (singles kind.Text bs) (parts_of items) mode.Text (bs ++ more) more [] mode.Text mode.Text
-    (parts_more longest (singles kind.Text bs) mode.Text bs more [] mode.Text (all_text longest bs (one_char c h.0.0))) (first_parts d items h.1)
-first_parts d (Style s ∷ items) h = (item_texts items, mode.Text, style_first s (item_texts items) h.0.1 h.0.0, first_parts d items h.1)
-first_parts d (Link a ∷ items) h = link_first a (item_texts items) [] (parts_of items) mode.Text h.0.1 (first_parts d items h.1)
+    parts_on longest (singles Kind.Text bs) (parts_of items) Mode.Text (bs ++ more) more [] Mode.Text Mode.Text
+    (parts_more longest (singles Kind.Text bs) Mode.Text bs more [] Mode.Text (all_text longest bs (one_char c h.0.0))) (first_parts d items h.1)
+first_parts d (Style s ∷ items) h = (item_texts items, Mode.Text, style_first s (item_texts items) h.0.1 h.0.0, first_parts d items h.1)
+first_parts d (Link a ∷ items) h = link_first a (item_texts items) [] (parts_of items) Mode.Text h.0.1 (first_parts d items h.1)
 
-whole_items : (d : Passing) (items : List Item) → AllByRecursion (IsSafe d) items → IsWhole longest mode.Text (item_texts items) (parts_of items)
+whole_items : (d : Passing) (items : List Item) → AllByRecursion (IsSafe d) items → IsWhole longest Mode.Text (item_texts items) (parts_of items)
 whole_items d items h = whole_all longest (item_texts items) (parts_of items) (first_parts d items h)
 
 untitled_singles : (k : Kind) (bs : List ℕ) (ps : List Part) → with_titles false (singles k bs ++ ps) ≡ singles k bs ++ with_titles false ps
 untitled_singles k [] ps = refl
-untitled_singles kind.Text (b ∷ bs) ps = ap (λ (x : List Part). part kind.Text (b ∷ []) ∷ x) (untitled_singles kind.Text bs ps)
+untitled_singles Kind.Text (b ∷ bs) ps = ap (λ (x : List Part). part Kind.Text (b ∷ []) ∷ x) (untitled_singles Kind.Text bs ps)
 untitled_singles k (b ∷ bs) ps = ap (λ (x : List Part). part k (b ∷ []) ∷ x) (untitled_singles k bs ps)
 
 untitled : (items : List Item) → with_titles false (parts_of items) ≡ parts_of items
 untitled [] = refl
-untitled (Shown c ∷ items) = rw (untitled_singles kind.Text (encode_utf8 c) (parts_of items), untitled items) refl
+untitled (Shown c ∷ items) = rw (untitled_singles Kind.Text (encode_utf8 c) (parts_of items), untitled items) refl
 untitled (Style s ∷ items) = rw (untitled items) refl
-untitled (Link a ∷ items) = rw (untitled_singles kind.Str (link_body a) (part kind.Str (27 ∷ 92 ∷ []) ∷ parts_of items), untitled items) refl
+untitled (Link a ∷ items) = rw (untitled_singles Kind.Str (link_body a) (part Kind.Str (27 ∷ 92 ∷ []) ∷ parts_of items), untitled items) refl
 
 -- ---- characters that are shown
 
@@ -118,8 +105,8 @@ chars_both xs ys = flat_map-append char_in xs ys
 
 -- what a part leaves has no characters
 leaves_chars : (d : Passing) (b : Begun) (k : Kind) (bytes : List ℕ) (own : List Item) → Leaves d b k bytes own → chars_of own ≡ []
-leaves_chars d b kind.Csi bytes own (actions, one, e) = ap chars_of e ∙ none_in char_in Style (λ s. refl) (kept d.depth actions)
-leaves_chars d b kind.Str bytes own e = ap chars_of e ∙ none_in char_in Link (λ a. refl) (links_in d.links b bytes)
+leaves_chars d b Kind.Csi bytes own (actions, one, e) = ap chars_of e ∙ none_in char_in Style (λ s. refl) (kept d.depth actions)
+leaves_chars d b Kind.Str bytes own e = ap chars_of e ∙ none_in char_in Link (λ a. refl) (links_in d.links b bytes)
 leaves_chars d b _ bytes own e = ap chars_of e
 
 chars_part : (run : List ℕ) (own others : List Item) → chars_of own ≡ [] → chars_of (shown_items run ++ (own ++ others)) ≡ filter shown (lossy_chars run) ++ chars_of others
@@ -128,46 +115,40 @@ chars_part run own others none = simp (chars_both, each_in char_in Shown (λ c. 
 chars_closed : (items : List Item) → chars_of (closed items) ≡ chars_of items
 chars_closed items = grind (arith, chars_both, append-nil {A = ℕ})
 
--- a part that ends the run
-ended_stripped : (run : List ℕ) (own others : List Item) (ps : List Part) → chars_of own ≡ [] → encode_utf8_all (chars_of others) ≡ stripped [] ps
-    → encode_utf8_all (chars_of (shown_items run ++ (own ++ others))) ≡ shown_text run ++ stripped [] ps
-ended_stripped run own others ps none rest =
-    ap encode_utf8_all (chars_part run own others none) ∙ encoded_on (filter shown (lossy_chars run)) (chars_of others) ∙ ap (λ (t : List ℕ). shown_text run ++ t) rest
-
 stripped_part : (k : Kind) (run bytes : List ℕ) (own others : List Item) (ps : List Part) → chars_of own ≡ [] → encode_utf8_all (chars_of others) ≡ stripped (run_behind k run bytes) ps
     → encode_utf8_all (chars_of (items_behind k run ++ (own ++ others))) ≡ cond (is_text k) (stripped (run ++ bytes) ps) (shown_text run ++ stripped [] ps)
-stripped_part kind.Text run bytes own others ps none rest = ap encode_utf8_all (chars_both own others ∙ ap (λ (t : List ℕ). t ++ chars_of others) none) ∙ rest
-stripped_part _ run bytes own others ps none rest = ended_stripped run own others ps none rest
+stripped_part Kind.Text run bytes own others ps none rest = simp (chars_both, none) rest
+stripped_part _ run bytes own others ps none rest = simp (chars_part run own others none, encoded_on, rest)
 
 -- the characters that are left of parts are what is shown of them
 left_stripped : (d : Passing) (b : Begun) (ps : List Part) (run : List ℕ) (items : List Item) → AreLeft d b run ps items → encode_utf8_all (chars_of items) ≡ stripped run ps
 left_stripped d b [] run items e = ap (λ (xs : List Item). encode_utf8_all (chars_of xs)) e ∙ ap encode_utf8_all (each_in char_in Shown (λ c. refl) (filter shown (lossy_chars run)))
 left_stripped d b (p ∷ ps) run items (own, others, leaves, e, rest) =
-    ap (λ (xs : List Item). encode_utf8_all (chars_of xs)) e
-    ∙ stripped_part p.kind run p.bytes own others ps (leaves_chars d b p.kind p.bytes own leaves) (left_stripped d (begun_behind d b p.kind p.bytes) ps (run_behind p.kind run p.bytes) others rest)
+    rw e (stripped_part p.kind run p.bytes own others ps (leaves_chars d b p.kind p.bytes own leaves)
+    (left_stripped d (begun_behind d b p.kind p.bytes) ps (run_behind p.kind run p.bytes) others rest))
 
 -- ---- cleaned
 
 pub leaves_once : (d : Passing) (b : Begun) (k : Kind) (bytes : List ℕ) (xs ys : List Item) → Leaves d b k bytes xs → Leaves d b k bytes ys → xs ≡ ys
-leaves_once d b kind.Csi bytes xs ys (own, one, e) (others, two, f) = e ∙ ap (λ (x : List Action). map Style (kept d.depth x)) (taken_once bytes own others one two) ∙ sym f
+leaves_once d b Kind.Csi bytes xs ys (own, one, e) (others, two, f) = e ∙ ap (λ (x : List Action). map Style (kept d.depth x)) (taken_once bytes own others one two) ∙ sym f
 leaves_once d b _ bytes xs ys e f = e ∙ sym f
 
 left_once : (d : Passing) (b : Begun) (ps : List Part) (run : List ℕ) (xs ys : List Item) → AreLeft d b run ps xs → AreLeft d b run ps ys → xs ≡ ys
 left_once d b [] run xs ys e f = e ∙ sym f
 left_once d b (p ∷ ps) run xs ys (own, others, l, e, h) (same, more, m, f, k) =
-    e ∙ ap (λ (x : List Item). items_behind p.kind run ++ (x ++ others)) (leaves_once d b p.kind p.bytes own same l m)
-    ∙ ap (λ (x : List Item). items_behind p.kind run ++ (same ++ x)) (left_once d (begun_behind d b p.kind p.bytes) ps (run_behind p.kind run p.bytes) others more h k) ∙ sym f
+    let one = leaves_once d b p.kind p.bytes own same l m in
+    rw (e, f, one, left_once d (begun_behind d b p.kind p.bytes) ps (run_behind p.kind run p.bytes) others more h k) refl
 
 pub one_styled : (d : Passing) (bytes text other : List ℕ) → StylesIn d bytes text → StylesIn d bytes other → text ≡ other
 one_styled d bytes text other s t =
-    let same = whole_once longest mode.Text bytes s.parts t.parts s.whole t.whole in
+    let same = whole_once longest Mode.Text bytes s.parts t.parts s.whole t.whole in
     let left : AreLeft d start [] (with_titles false t.parts) s.items = subst (λ (ps : List Part). AreLeft d start [] (with_titles false ps) s.items) same s.left in
     s.all ∙ ap (λ (x : List Item). item_texts (closed x)) (left_once d start (with_titles false t.parts) [] s.items t.items left t.left) ∙ sym t.all
 
 -- ---- such items are left of their texts
 
 -- bytes of text by themselves
-text_left : (d : Passing) (b : Begun) (bs run : List ℕ) (ps : List Part) (out : List Item) → AreLeft d b (run ++ bs) ps out → AreLeft d b run (singles kind.Text bs ++ ps) out
+text_left : (d : Passing) (b : Begun) (bs run : List ℕ) (ps : List Part) (out : List Item) → AreLeft d b (run ++ bs) ps out → AreLeft d b run (singles Kind.Text bs ++ ps) out
 text_left d b [] run ps out h = subst (λ (r : List ℕ). AreLeft d b r ps out) (append-nil run) h
 text_left d b (c ∷ bs) run ps out h =
     ([], out, refl, refl, text_left d b bs (run ++ c ∷ []) ps out (subst (λ (r : List ℕ). AreLeft d b r ps out) (sym (append_assoc run (c ∷ []) bs)) h))
@@ -177,13 +158,13 @@ none_items = ap (λ (cs : List ℕ). map Shown (filter shown cs)) lossy_chars-ni
 
 -- and those of a string
 string_left : (d : Passing) (b : Begun) (bs : List ℕ) (ps : List Part) (out : List Item) → AreLeft d (all_behind d.links b bs) [] ps out
-    → AreLeft d b [] (singles kind.Str bs ++ ps) (map Link (links_in d.links b bs) ++ out)
+    → AreLeft d b [] (singles Kind.Str bs ++ ps) (map Link (links_in d.links b bs) ++ out)
 string_left d b [] ps out h = h
 string_left d b (c ∷ bs) ps out h =
     let here = links_at d.links b c in
     let later = links_in d.links (next d.links b c) bs in
-    let split : map Link (here ++ later) ++ out ≡ map Link (here ++ []) ++ (map Link later ++ out) = simp (map-append, append-nil, append_assoc) in
-    (map Link (here ++ []), map Link later ++ out, refl, split ∙ ap (λ (x : List Item). x ++ (map Link (here ++ []) ++ (map Link later ++ out))) (sym none_items), string_left d (next d.links b c) bs ps out h)
+    let rest = string_left d (next d.links b c) bs ps out h in
+    (map Link (here ++ []), map Link later ++ out, refl, rw none_items (simp (map-append, append-nil, append_assoc)), rest)
 
 abbrev letting : Depth → Bool → Passing
 letting d links = record { depth = d; links = links }
@@ -192,31 +173,26 @@ abbrev with_links : Depth → Passing
 with_links d = letting d true
 
 -- behind a link the same link is open, and no string
-link_left : (d : Depth) (a : Address) (params url run : List ℕ) (ps : List Part) (out : List Item) → IsLink a → AreLeft (with_links d) (begun place.Outside a.params a.url) [] ps out
-    → AreLeft (with_links d) (begun place.Outside params url) run (part kind.Str (27 ∷ 93 ∷ []) ∷ (singles kind.Str (link_body a) ++ part kind.Str (27 ∷ 92 ∷ []) ∷ ps)) (shown_items run ++ Link a ∷ out)
+link_left : (d : Depth) (a : Address) (params url run : List ℕ) (ps : List Part) (out : List Item) → IsLink a → AreLeft (with_links d) (begun LinkState.Outside a.params a.url) [] ps out
+    → AreLeft (with_links d) (begun LinkState.Outside params url) run (part Kind.Str (27 ∷ 93 ∷ []) ∷ (singles Kind.Str (link_body a) ++ part Kind.Str (27 ∷ 92 ∷ []) ∷ ps)) (shown_items run ++ Link a ∷ out)
 link_left d a params url run ps out fine h =
     let p = with_links d in
-    let opened = begun place.Opened params url in
-    let end = part kind.Str (27 ∷ 92 ∷ []) ∷ ps in
-    let body = singles kind.Str (link_body a) ++ end in
+    let opened = begun LinkState.Opened params url in
+    let end = part Kind.Str (27 ∷ 92 ∷ []) ∷ ps in
     let (none, behind) = body_read a params url fine.within in
-    let same : Link a ∷ out ≡ items_behind kind.Str [] ++ Link (admitted a) ∷ out =
-    ap (λ (x : Address). Link x ∷ out) (sym (itself a fine)) ∙ ap (λ (x : List Item). x ++ Link (admitted a) ∷ out) (sym none_items) in
-    let last : AreLeft p (begun place.Url a.params a.url) [] end (Link a ∷ out) = (Link (admitted a) ∷ [], out, refl, same, h) in
-    let inside = string_left p opened (link_body a) end (Link a ∷ out) (subst (λ (b : Begun). AreLeft p b [] end (Link a ∷ out)) (sym behind) last) in
-    ([], Link a ∷ out, refl, refl, subst (λ (x : List Address). AreLeft p opened [] body (map Link x ++ Link a ∷ out)) none inside)
+    let last : AreLeft p (begun LinkState.Url a.params a.url) [] end (Link a ∷ out) = (Link (admitted a) ∷ [], out, refl, rw (none_items, itself a fine) refl, h) in
+    ([], Link a ∷ out, refl, refl, rw none at (string_left p opened (link_body a) end (Link a ∷ out) (rw behind last)))
 
 items_left : (d : Passing) (items : List Item) (params url cs : List ℕ) → all_scalars cs ≡ true → AllByRecursion IsShown cs → AllByRecursion (IsSafe d) items
-    → AreLeft d (begun place.Outside params url) (encode_utf8_all cs) (parts_of items) (map Shown cs ++ items)
+    → AreLeft d (begun LinkState.Outside params url) (encode_utf8_all cs) (parts_of items) (map Shown cs ++ items)
 items_left d [] params url cs a h safe = append-nil (map Shown cs) ∙ ap (map Shown) (sym (read_back cs a h))
 items_left d (Shown c ∷ items) params url cs a h safe =
     let (here, one) = safe.0 in
-    let b = begun place.Outside params url in
+    let b = begun LinkState.Outside params url in
     let later = items_left d items params url (cs ++ c ∷ []) (more_scalars cs c a one) (all_both IsShown cs (c ∷ []) h (here, tt)) safe.1 in
     let same : map Shown (cs ++ c ∷ []) ++ items ≡ map Shown cs ++ Shown c ∷ items = simp (map-append, append_assoc) in
     text_left d b (encode_utf8 c) (encode_utf8_all cs) (parts_of items) (map Shown cs ++ Shown c ∷ items)
-    (subst (λ (r : List ℕ). AreLeft d b r (parts_of items) (map Shown cs ++ Shown c ∷ items)) (more_encoded cs c)
-    (subst (AreLeft d b (encode_utf8_all (cs ++ c ∷ [])) (parts_of items)) same later))
+    (rw (more_encoded cs c, same) at later)
 items_left d (Style s ∷ items) params url cs a h safe =
     let (stays, alone, same) = safe.0 in
     let one : map Style (kept d.depth (action.Sgr s ∷ [])) ≡ Style s ∷ [] = ap (λ (b : Bool). map Style (cond b [] (reduced d.depth s ∷ []))) stays ∙ ap (λ (x : Sgr). Style x ∷ []) same in
@@ -225,9 +201,9 @@ items_left d (Style s ∷ items) params url cs a h safe =
 items_left d (Link x ∷ items) params url cs a h safe =
     let (passes, fine) = safe.0 in
     let same : d ≡ with_links d.depth = ap (letting d.depth) passes in
-    let b = begun place.Outside params url in
+    let b = begun LinkState.Outside params url in
     let run = encode_utf8_all cs in
-    let rest = subst (λ (p : Passing). AreLeft p (begun place.Outside x.params x.url) [] (parts_of items) items) same (items_left d items x.params x.url [] refl tt safe.1) in
+    let rest = subst (λ (p : Passing). AreLeft p (begun LinkState.Outside x.params x.url) [] (parts_of items) items) same (items_left d items x.params x.url [] refl tt safe.1) in
     let all = link_left d.depth x params url run (parts_of items) items fine rest in
     subst (λ (p : Passing). AreLeft p b run (parts_of (Link x ∷ items)) (map Shown cs ++ Link x ∷ items)) (sym same)
     (subst (λ (t : List ℕ). AreLeft (with_links d.depth) b run (parts_of (Link x ∷ items)) (map Shown t ++ Link x ∷ items)) (read_back cs a h) all)
@@ -238,7 +214,7 @@ whole_left d items safe = rw (untitled items) (items_left d items [] [] [] refl 
 pub styled_stays : (d : Passing) (text other : List ℕ) → IsStyledIn d text → StylesIn d text other → other ≡ text
 styled_stays d text other i s = one_styled d text other text s (record {
   parts = parts_of i.items;
-  whole = subst (λ (t : List ℕ). IsWhole longest mode.Text t (parts_of i.items)) (sym i.texts) (whole_items d i.items i.safe);
+  whole = subst (λ (t : List ℕ). IsWhole longest Mode.Text t (parts_of i.items)) (sym i.texts) (whole_items d i.items i.safe);
   items = i.items;
   left = whole_left d i.items i.safe;
   all = rw (i.none_linked, i.none_open, append-nil i.items) i.texts;
@@ -252,8 +228,116 @@ strip_cleaned d bytes styles plain other s p t =
     let items = closed s.items in
     let safe = safe_closed d bytes styles s in
     let again : t.parts ≡ parts_of items =
-    whole_once longest mode.Text styles t.parts (parts_of items) t.whole (subst (λ (x : List ℕ). IsWhole longest mode.Text x (parts_of items)) (sym s.all) (whole_items d items safe)) in
-    let same : p.parts ≡ s.parts = whole_once longest mode.Text bytes p.parts s.parts p.whole s.whole in
+    whole_once longest Mode.Text styles t.parts (parts_of items) t.whole (subst (λ (x : List ℕ). IsWhole longest Mode.Text x (parts_of items)) (sym s.all) (whole_items d items safe)) in
+    let same : p.parts ≡ s.parts = whole_once longest Mode.Text bytes p.parts s.parts p.whole s.whole in
     t.left ∙ ap (λ (ps : List Part). stripped [] (with_titles false ps)) again ∙ sym (left_stripped d start (with_titles false (parts_of items)) [] items (whole_left d items safe))
     ∙ ap encode_utf8_all (chars_closed s.items) ∙ left_stripped d start (with_titles false s.parts) [] s.items s.left
     ∙ ap (λ (ps : List Part). stripped [] (with_titles false ps)) (sym same) ∙ sym p.left
+
+-- ---- What went out is a front of the text of the whole stream, whatever comes behind.
+
+-- the text begins with another
+abbrev pub GoesOnFrom : List ℕ → List ℕ → Type 0
+GoesOnFrom text front = (more : List ℕ) × (text ≡ front ++ more)
+
+further : (text front other : List ℕ) → GoesOnFrom text front → GoesOnFrom (text ++ other) front
+further text front other (more, e) = (more ++ other, ap (λ (t : List ℕ). t ++ other) e ∙ append_assoc front more other)
+
+-- bytes more in the run, and nothing more read of it
+read_longer : (run chars rest bytes : List ℕ) → IsRead run chars rest → IsRead (run ++ bytes) chars (rest ++ bytes)
+read_longer run chars rest bytes h =
+    subst (λ (cs : List ℕ). IsRead (run ++ bytes) cs (rest ++ bytes)) (append-nil chars) (read_more run rest bytes (rest ++ bytes) chars [] h (read_none (rest ++ bytes)))
+
+run_begins : (run chars rest : List ℕ) → IsRead run chars rest → GoesOnFrom (shown_text run) (shown_chars chars)
+run_begins run chars rest h = (shown_text rest, shown_read None run chars rest h)
+
+-- ---- stripped
+
+stripped_begins : (ps : List Part) (run chars rest : List ℕ) → IsRead run chars rest → GoesOnFrom (stripped run ps) (shown_chars chars)
+stripped_begins [] run chars rest h = run_begins run chars rest h
+stripped_begins (p ∷ ps) run chars rest h =
+    cond_both (is_text p.kind) (stripped (run ++ p.bytes) ps) (shown_text run ++ stripped [] ps) (λ (t : List ℕ). GoesOnFrom t (shown_chars chars))
+    (λ _. stripped_begins ps (run ++ p.bytes) chars (rest ++ p.bytes) (read_longer run chars rest p.bytes h))
+    (λ _. further (shown_text run) (shown_chars chars) (stripped [] ps) (run_begins run chars rest h))
+
+-- ---- the parts that come behind those that were taken
+
+behind : {S : Type 0} (Gives : RuleOf S) (s : S) (read more text : List ℕ) (last : Between S) (all : List Part)
+    (g : Goes Gives longest [] [] (with_more (start_of s) read) text last)
+    → IsWhole longest Mode.Text (read ++ more) all → (later : List Part) × (with_titles false all ≡ with_titles false g.parts ++ later)
+behind Gives s read more text last all g w =
+    let (others, e) =
+    parts_front longest g.parts w.sure Mode.Text (read ++ more) (last.bytes ++ more) w.rest last.mode w.after
+    (parts_more longest g.parts Mode.Text read more last.bytes last.mode g.first) w.first w.unsure in
+    let qs = others ++ left_over w.rest in
+    let parts : all ≡ g.parts ++ qs = w.whole ∙ ap (λ (x : List Part). x ++ left_over w.rest) e ∙ append_assoc g.parts others (left_over w.rest) in
+    (with_titles (title_open false g.parts) qs, ap (with_titles false) parts ∙ titles_on false g.parts qs)
+
+-- what was appended, and the characters of the run that were read, are those of the parts
+goes_front : {S : Type 0} (Gives : RuleOf S) (s : S) (read text : List ℕ) (last : Between S) (rest whole : List ℕ)
+    (g : Goes Gives longest [] [] (with_more (start_of s) read) text last)
+    → whole ≡ g.text ++ rest → GoesOnFrom rest (chars_as Gives.writing g.read) → GoesOnFrom whole text
+goes_front Gives s read text last rest whole g e (more, f) =
+    (more, rw (e, f, ← append_assoc, ← g.same, written_none Gives.writing) refl)
+
+module _ {S : Type 0} where
+  pub strip_front : (s : S) (read more text : List ℕ) (last : Between S) → Takes drops (start_of s) read text last → IsFrontOf (Strips longest) (read ++ more) text
+  strip_front s read more text last h whole k =
+      let g = h.goes [] [] (read_none []) in
+      let (later, split) = behind drops s read more text last k.parts g k.whole in
+      let parts : whole ≡ g.text ++ stripped g.left later =
+      k.left ∙ ap (stripped []) split ∙ steps_stripped (with_titles false g.parts) later s last.rule [] g.text g.left g.steps in
+      goes_front drops s read text last (stripped g.left later) whole g parts (stripped_begins later g.left g.read last.held g.is_read)
+
+-- ---- with styles
+
+part_begins : (d : Passing) (b : Begun) (k : Kind) (run bytes chars rest : List ℕ) (own others : List Item) → Leaves d b k bytes own → IsRead run chars rest
+    → ((cs r : List ℕ) → IsRead (run_behind k run bytes) cs r → GoesOnFrom (item_texts others) (shown_chars cs)) → GoesOnFrom (item_texts (items_behind k run ++ (own ++ others))) (shown_chars chars)
+part_begins d b Kind.Text run bytes chars rest own others none h later = rw none (later chars (rest ++ bytes) (read_longer run chars rest bytes h))
+part_begins d b _ run bytes chars rest own others l h later =
+    rw part_texts (further (shown_text run) (shown_chars chars) (item_texts own ++ item_texts others) (run_begins run chars rest h))
+
+left_begins : (d : Passing) (b : Begun) (ps : List Part) (run chars rest : List ℕ) (items : List Item) → IsRead run chars rest
+    → AreLeft d b run ps items → GoesOnFrom (item_texts items) (shown_chars chars)
+left_begins d b [] run chars rest items h e =
+    rw (e, texts_chars (filter shown (lossy_chars run))) (run_begins run chars rest h)
+left_begins d b (p ∷ ps) run chars rest items h (own, others, leaves, e, left) =
+    subst (λ (x : List Item). GoesOnFrom (item_texts x) (shown_chars chars)) (sym e)
+    (part_begins d b p.kind run p.bytes chars rest own others leaves h (λ cs r i. left_begins d (begun_behind d b p.kind p.bytes) ps (run_behind p.kind run p.bytes) cs r others i left))
+
+steps_left : (ps qs : List Part) (k after : Keeping) (run text last : List ℕ) (items : List Item) → AreSteps keeps k run ps text after last
+    → AreLeft k.passing k.begun run (ps ++ qs) items
+    → (others : List Item) × (begun : Begun) × AreLeft k.passing begun last qs others × (item_texts items ≡ text ++ item_texts others)
+steps_left [] qs k after run text last items (none, same, e) l = (items, k.begun, rw e l, rw none refl)
+steps_left (p ∷ ps) qs k after run text last items (first, mid, next, more, is, e, rest) (own, others, leaves, f, l) =
+    let h = step p.kind k mid run p.bytes first next is in
+    let same = leaves_once k.passing k.begun p.kind p.bytes own h.own leaves h.leaves in
+    let (later, begun, left, all) = steps_left ps qs mid after next more last others rest (rw (h.state, h.next_run) l) in
+    let stays = subst (λ (d : Passing). AreLeft d begun last qs later) (ap (λ (x : Keeping). x.passing) h.state) left in
+    (later, begun, stays, rw (f, same, h.text others, all, e) (simp append_assoc))
+
+pub clean_front : (d : Passing) (read more text : List ℕ) (last : Between Keeping) → Takes keeps (start_of (first_kept d)) read text last
+    → IsFrontOf (StylesIn d) (read ++ more) text
+clean_front d read more text last h whole k =
+    let g = h.goes [] [] (read_none []) in
+    let (later, split) = behind keeps (first_kept d) read more text last k.parts g k.whole in
+    let (others, begun, left, all) =
+    steps_left (with_titles false g.parts) later (first_kept d) last.rule [] g.text g.left k.items g.steps (rw split at k.left) in
+    let end = item_texts (ends_of (is_linked false (links_of k.items)) (is_open false (styles_of k.items))) in
+    goes_front keeps (first_kept d) read text last (item_texts others ++ end) whole g
+    (rw (k.all, texts_both k.items _, all) (append_assoc g.text (item_texts others) end))
+    (further (item_texts others) (shown_chars g.read) end (left_begins d begun later g.left g.read last.held others g.is_read left))
+
+-- ---- from a reader to a writer
+
+-- a run of a cleaner, by a rule whose text is one and is that of each stream, and that what it appends begins
+pub rule_ran : {S : Type 0} (Gives : RuleOf S) (Closes : EndOf S) (s : S) (Out : List ℕ → List ℕ → Type 0) (Safe : List ℕ → Type 0)
+    → ((bytes text : List ℕ) → Ends Gives Closes longest s bytes text → Out bytes text) → ((after : S) → (close : List ℕ) × Closes after close)
+    → ((bytes text : List ℕ) → Out bytes text → Safe text) → ((bytes text other : List ℕ) → Out bytes text → Out bytes other → text ≡ other)
+    → ((read more text : List ℕ) (last : Between S) → Takes Gives (start_of s) read text last → IsFrontOf Out (read ++ more) text)
+    → {A E : Type 0} (result : Result A E) (i k w y : Option (List ℕ)) → Ran (Sends (Takes Gives) (start_of s)) (Ends Gives Closes longest s) Out Safe result i k w y
+    → Went (Sends (Takes Gives) (start_of s)) (Ends Gives Closes longest s) Out Safe result i k w y → StreamsOne Out Safe result i k w y
+rule_ran Gives Closes s Out Safe means always safe =
+    one_ran (Takes Gives) (Closing Gives Closes) (start_of s) (Ends Gives Closes longest s) Out Safe
+    (λ bytes text rest last takes (close, closes, shown). rw shown (means bytes _ (ends Gives Closes s bytes text close last takes closes))) means
+    (λ last. (let (close, closes) = always last.rule in (run_as Gives.writing last.held ++ close, (close, closes, refl)))) safe

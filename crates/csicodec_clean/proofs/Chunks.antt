@@ -1,18 +1,12 @@
--- The parts of a stream, span by span and chunk by chunk, and what was appended for them.
-use Rattle.std.proofs.Common.{◌≡◌, ◌<◌, ℕ, Bool, false, List, [], ◌∷◌, ◌++◌, length, refl, sym, ap, subst, ◌∙◌, ⊎_elim, append_assoc, append-nil, arith}
-use Rattle.std.specs.List.{AllByRecursion, concat, flat_map}
-use Rattle.csicodec_spans.specs.{declared.table.Kind.Kind, declared.table.Mode.Mode, Parts.Part, Parts.part, Parts.bytes_of, Parts.IsSpan, Parts.Cuts}
-use Rattle.csicodec_spans.specs.{Parts.IsUnsure, Parts.left_over}
-use Rattle.csicodec_spans.proofs.{OneSpan.none_unsure, Kept.parts_join, Kept.parts_more, Kept.parts_on, Kept.unsure_short}
-use Rattle.csicodec_transform.specs.Transform.{PassesOf, Transforms}
-use Rattle.csicodec_clean.specs.{Shown.chars_as, Shown.run_as, Shown.IsRead, Titles.title_behind, Titles.title_open, Titles.read_as, Titles.with_titles}
-use Rattle.csicodec_clean.specs.{Cleaned.RuleOf, Cleaned.EndOf, Cleaned.Ends, Cleaned.longest, Cleaned.AreGiven, Cleaned.IsStep, Cleaned.AreSteps}
-use Rattle.csicodec_clean.specs.{Cleaned.Cleans, Private.Steps.IsAppended, Stream.Between, Stream.GoesBy, Stream.Takes, Stream.AreTaken, Stream.Closing}
-use Rattle.csicodec_clean.specs.{Stream.start_of, Stream.with_more}
-use Rattle.csicodec_clean.proofs.{Sure.read_more, Sure.read_none, Titles.open_on, Titles.titled, Titles.titles_on, Shows.shown_none, Shows.shown_on}
-use Rattle.csicodec_clean.proofs.{Shows.shown_read, Shows.written_none}
-use Rattle.csicodec_spans.specs.declared.table.Kind.TheVariants as kind
-use Rattle.csicodec_spans.specs.declared.table.Mode.TheVariants as mode
+-- The parts of a stream, span by span, chunk by chunk and at a glance, and what was appended for them.
+use Rattle.std.proofs.Common.{◌≡◌, ◌<◌, ℕ, Bool, false, List, [], ◌∷◌, ◌++◌, length, refl, sym, ap, subst, ◌∙◌, ⊎_elim, append_assoc, append-nil, arith, flat_map, ◌-◌, ◌≤◌, zero, suc, true, length-append, length-take, take, drop, get_or, take-append-drop, take-take}
+use Rattle.csicodec_clean.proofs.Common.{AllByRecursion, concat, Kind, Mode, Part, part, bytes_of, IsSpan, IsUnsure, left_over, none_unsure, parts_more, parts_on, PassesOf, chars_as, run_as, IsRead, title_behind, title_open, read_as, with_titles, RuleOf, EndOf, Ends, longest, AreGiven, IsStep, AreSteps, Between, GoesBy, Takes, AreTaken, Closing, start_of, with_more, take-append_seam, drop-append_seam, nat_tests, lossy_chars-nil, CsiParam, Reads, Seq, Answer, Allows, IsSequence, opens, GoesTo, IsOther, Tells, bare_at}
+use Rattle.csicodec_clean.proofs.{Plain.read_more, Plain.read_none, Plain.shown_none, Plain.shown_on, Plain.shown_read, Plain.written_none, Titles.open_on}
+use Rattle.csicodec_clean.proofs.{Titles.titled, Titles.titles_on}
+use Rattle.csicodec_spans.specs.{Parts.Cuts, Table.Anew, Table.Sequence, Table.ahead, Private.TableBy.stays}
+use Rattle.csicodec_spans.proofs.{Once.parts_join, Once.unsure_short, Once.one_alone, Apart.said, OneSpan.run_cut, Missed.cut_parts}
+use Rattle.csicodec_transform.specs.Transform.{Transforms}
+use Rattle.csicodec_clean.specs.Private.Steps.{IsAppended, BeginsWithEscape}
 
 pub unsure_few : (m : Mode) (bytes : List ℕ) → IsUnsure longest m bytes → length bytes < longest
 unsure_few m bytes unsure = ⊎_elim (λ few. few) (λ few. omega (arith, few)) (unsure_short longest m bytes unsure)
@@ -33,7 +27,7 @@ module _ {S : Type 0} (Gives : RuleOf S) where
   steps_on (p ∷ ps) qs s mid after run between left t u h k =
       (h.0, h.1, h.2, h.3 ++ u, h.4, ap (λ (x : List ℕ). x ++ u) h.5 ∙ append_assoc h.0 h.3 u, steps_on ps qs h.1 mid after h.2 between left h.3 u h.6 k)
 
-  texts : (ps : List Part) (s : S) (run : List ℕ) → AllByRecursion (λ (p : Part). p.kind ≡ kind.Text) ps → AreSteps Gives s run ps [] s (run ++ flat_map bytes_of ps)
+  texts : (ps : List Part) (s : S) (run : List ℕ) → AllByRecursion (λ (p : Part). p.kind ≡ Kind.Text) ps → AreSteps Gives s run ps [] s (run ++ flat_map bytes_of ps)
   texts [] s run h = (refl, refl, append-nil run)
   texts (p ∷ ps) s run h =
       let step : IsStep Gives p.kind s run p.bytes [] s (run ++ p.bytes) = rw h.0 (refl, refl, refl) in
@@ -75,7 +69,7 @@ module _ {S : Type 0} (Gives : RuleOf S) where
       let (first, mid, others, one, two, e) = divides p.bytes (flat_map bytes_of (q ∷ ps)) s after own given in
       let later = parts_end k G divides step (q ∷ ps) mid after [] others (omega arith) all.1 two in
       let whole : run_as Gives.writing run ++ own ≡ (run_as Gives.writing run ++ first) ++ (run_as Gives.writing [] ++ others) =
-      ap (λ (t : List ℕ). run_as Gives.writing run ++ t) e ∙ sym (append_assoc (run_as Gives.writing run) first others) ∙ ap (λ (t : List ℕ). (run_as Gives.writing run ++ first) ++ (t ++ others)) (sym (shown_none Gives.writing)) in
+      ap (λ (t : List ℕ). run_as Gives.writing run ++ t) e ∙ (rw (shown_none Gives.writing) (simp append_assoc)) in
       (run_as Gives.writing run ++ first, mid, [], run_as Gives.writing [] ++ others, rw all.0 (step s mid run p.bytes first one), whole, later)
 
   pub record Spanned (s : S) (run chars : List ℕ) (ps : List Part) (more : List ℕ) (after : S) (held : List ℕ) : Type 0 where
@@ -101,7 +95,7 @@ module _ {S : Type 0} (Gives : RuleOf S) where
   pub spanned : (k : Kind) (s : S) (run chars held bytes more : List ℕ) (ps : List Part) (after : S) (left : List ℕ) → IsSpan k bytes ps
       → IsRead run chars held → IsAppended Gives k s held bytes more after left
       → Spanned s run chars ps more after left
-  spanned kind.Text s run chars held bytes more ps after left span read (now, later, e, same) = record {
+  spanned Kind.Text s run chars held bytes more ps after left span read (now, later, e, same) = record {
     text = [];
     left = run ++ bytes;
     read = chars ++ now;
@@ -109,16 +103,16 @@ module _ {S : Type 0} (Gives : RuleOf S) where
     is_read = read_more run held bytes left chars now read later.0;
     same = ap (λ t. chars_as Gives.writing chars ++ t) e ∙ sym (shown_on Gives.writing chars now);
   }
-  spanned kind.Csi s run chars held bytes more ps after left span read (own, gives, e, none) =
-      ended s run chars held ps own more after left read e none (only kind.Csi bytes (run_as Gives.writing run ++ own) ps s after run span (own, gives, refl, refl))
-  spanned kind.Esc s run chars held bytes more ps after left span read (e, same, none) =
-      ended s run chars held ps [] more after left read (e ∙ sym (append-nil (run_as Gives.writing held))) none (only kind.Esc bytes (run_as Gives.writing run ++ []) ps s after run span (append-nil (run_as Gives.writing run), same, refl))
-  spanned kind.Str s run chars held bytes more ps after left span read (own, given, e, none) =
+  spanned Kind.Csi s run chars held bytes more ps after left span read (own, gives, e, none) =
+      ended s run chars held ps own more after left read e none (only Kind.Csi bytes (run_as Gives.writing run ++ own) ps s after run span (own, gives, refl, refl))
+  spanned Kind.Esc s run chars held bytes more ps after left span read (e, same, none) =
+      ended s run chars held ps [] more after left read (e ∙ sym (append-nil (run_as Gives.writing held))) none (only Kind.Esc bytes (run_as Gives.writing run ++ []) ps s after run span (append-nil (run_as Gives.writing run), same, refl))
+  spanned Kind.Str s run chars held bytes more ps after left span read (own, given, e, none) =
       ended s run chars held ps own more after left read e none
-      (parts_end kind.Str (AreGiven Gives) given_on (λ s mid run bytes own g. (own, g, refl, refl)) ps s after run own span.some span.all (rw span.joined given))
-  spanned kind.Other s run chars held bytes more ps after left span read (e, same, none) =
+      (parts_end Kind.Str (AreGiven Gives) given_on (λ s mid run bytes own g. (own, g, refl, refl)) ps s after run own span.some span.all (rw span.joined given))
+  spanned Kind.Other s run chars held bytes more ps after left span read (e, same, none) =
       ended s run chars held ps [] more after left read (e ∙ sym (append-nil (run_as Gives.writing held))) none
-      (parts_end kind.Other (λ s bytes own after. (own ≡ []) × (after ≡ s)) (λ xs ys s after text h. ([], s, text, (refl, refl), h, refl))
+      (parts_end Kind.Other (λ s bytes own after. (own ≡ []) × (after ≡ s)) (λ xs ys s after text h. ([], s, text, (refl, refl), h, refl))
       (λ s mid run bytes own h. (rw h.0 (append-nil (run_as Gives.writing run)), h.1, refl)) ps s after run [] span.some span.all (refl, same))
 
   -- nothing yet
@@ -165,21 +159,26 @@ module _ {S : Type 0} (Gives : RuleOf S) where
       let none = append-nil (run_as Gives.writing run) in
       (run_as Gives.writing run, [], (run_as Gives.writing run, s, [], [], (refl, refl, refl), sym none, (refl, refl, refl)), sym none ∙ ap (λ t. run_as Gives.writing run ++ t) (sym (shown_none Gives.writing)))
 
-  -- the whole stream
-  pub cleans : (limit : ℕ) (s : S) (bytes appended : List ℕ) (last : Between S) → GoesBy Gives limit (record (start_of s) { bytes = bytes }) appended last → IsUnsure limit last.mode last.bytes
-      → Cleans Gives limit s bytes (appended ++ run_as Gives.writing last.held) last.rule
-  cleans limit s bytes appended last goes unsure =
+  -- the whole stream, and its end
+  pub ends_by : (Closes : EndOf S) (limit : ℕ) (s : S) (bytes appended close : List ℕ) (last : Between S)
+      → GoesBy Gives limit (record (start_of s) { bytes = bytes }) appended last
+      → IsUnsure limit last.mode last.bytes → Closes last.rule close → Ends Gives Closes limit s bytes (appended ++ (run_as Gives.writing last.held ++ close))
+  ends_by Closes limit s bytes appended close last goes unsure k =
       let g = goes [] [] (read_none []) in
       let end = left_over last.bytes in
       let (text, left, steps, shown) = over last.bytes last.titled last.rule g.left in
+      let front : appended ≡ g.text ++ chars_as Gives.writing g.read = rw (written_none Gives.writing) at g.same in
+      let same = sym (shown_read Gives.writing g.left g.read last.held g.is_read) ∙ shown in
       record {
         parts = g.parts ++ end;
         whole = record { sure = g.parts; rest = last.bytes; after = last.mode; first = g.first; unsure = unsure; whole = refl };
         before = g.text ++ text;
         run = left;
+        after = last.rule;
+        close = close;
+        closes = k;
         steps = rw (titles_on false g.parts end, ← g.titles) (steps_on (with_titles false g.parts) (with_titles last.titled end) s last.rule last.rule [] g.left left g.text text g.steps steps);
-        all = ap (λ t. (t ++ appended) ++ run_as Gives.writing last.held) (sym (written_none Gives.writing)) ∙ ap (λ t. t ++ run_as Gives.writing last.held) g.same ∙ append_assoc g.text (chars_as Gives.writing g.read) (run_as Gives.writing last.held)
-            ∙ ap (λ t. g.text ++ t) (sym (shown_read Gives.writing g.left g.read last.held g.is_read) ∙ shown) ∙ sym (append_assoc g.text text (run_as Gives.writing left));
+        all = rw (front, append_assoc, ← append_assoc (chars_as Gives.writing g.read) _ close, same) (simp append_assoc);
       }
 
   -- with other bytes behind
@@ -191,7 +190,7 @@ module _ {S : Type 0} (Gives : RuleOf S) where
 
   -- nothing came yet
   pub takes_none : (s : S) → Takes Gives (start_of s) [] [] (start_of s)
-  takes_none s = record { unsure = none_unsure longest mode.Text; goes = goes_none longest (start_of s) }
+  takes_none s = record { unsure = none_unsure longest Mode.Text; goes = goes_none longest (start_of s) }
 
   -- a chunk more
   pub takes_on : (old mid new : Between S) (first second one two : List ℕ) → Takes Gives old first one mid → Takes Gives mid second two new → Takes Gives old (first ++ second) (one ++ two) new
@@ -199,17 +198,9 @@ module _ {S : Type 0} (Gives : RuleOf S) where
       let all = goes_then longest (with_more (with_more old first) second) (with_more mid second) new one two (goes_more longest (with_more old first) mid one second h.goes) k.goes in
       record { unsure = k.unsure; goes = rw append_assoc at all }
 
-  -- the end
   pub ends : (Closes : EndOf S) (s : S) (bytes text close : List ℕ) (last : Between S) → Takes Gives (start_of s) bytes text last → Closes last.rule close
       → Ends Gives Closes longest s bytes (text ++ (run_as Gives.writing last.held ++ close))
-  ends Closes s bytes text close last h k = record {
-    before = text ++ run_as Gives.writing last.held;
-    after = last.rule;
-    close = close;
-    cleans = cleans longest s bytes text last h.goes h.unsure;
-    closes = k;
-    all = sym (append_assoc text (run_as Gives.writing last.held) close);
-  }
+  ends Closes s bytes text close last h k = ends_by Closes longest s bytes text close last h.goes h.unsure k
 
   pub closed : (Closes : EndOf S) (s : S) (bytes text : List ℕ) → Transforms (Takes Gives) (Closing Gives Closes) (start_of s) bytes text → Ends Gives Closes longest s bytes text
   closed Closes s bytes text (last, sure, rest, takes, (close, closes, shown), split) = rw (split, shown) (ends Closes s bytes sure close last takes closes)
@@ -222,3 +213,127 @@ module _ {S : Type 0} (Gives : RuleOf S) where
   pub any_chunks : (Closes : EndOf S) (s : S) (chunks : List (List ℕ)) (text close : List ℕ) (last : Between S) → AreTaken (Takes Gives) (start_of s) chunks text last → Closes last.rule close
       → Ends Gives Closes longest s (concat chunks) (text ++ (run_as Gives.writing last.held ++ close))
   any_chunks Closes s chunks text close last h k = ends Closes s (concat chunks) text close last (taken s chunks text last h) k
+
+-- ---- What is taken at a glance, step by step.
+
+-- ---- the spans
+
+no_escape : (b : ℕ) → IsOther b → stays Mode.Text b ≡ true
+no_escape b other = grind (arith, nat_tests)
+
+all_stay : (text rest : List ℕ) → AllByRecursion IsOther text → (k : ℕ) → k < length text → stays Mode.Text (get_or (text ++ rest) k 0) ≡ true
+all_stay [] rest h k within = absurd (omega (arith, within))
+all_stay (b ∷ text) rest h zero within = no_escape b h.0
+all_stay (b ∷ text) rest h (suc k) within = all_stay text rest h.1 k (omega (arith, within))
+
+told_cut : (limit : ℕ) (text rest : List ℕ) → 0 < length text → AllByRecursion IsOther text → Cuts limit Mode.Text (text ++ rest) Kind.Text text rest Mode.Text
+told_cut limit text rest some other =
+    let within = length-append text rest in
+    rw (take-append_seam text rest, drop-append_seam text rest)
+    at (run_cut limit (length text) Mode.Text (text ++ rest) (all_stay text rest other) (omega arith) some)
+
+-- a sequence is a span by itself
+one_cut : (limit : ℕ) (bytes own rest : List ℕ) (k : Kind) (f : Answer) → IsSpan k own (part k own ∷ []) → ahead Mode.Text bytes ≡ f → bytes ≡ own ++ rest
+    → Allows f limit bytes k own Mode.Text
+    → Cuts limit Mode.Text bytes k own rest Mode.Text
+one_cut limit bytes own rest k f span e split h = record {
+  parts = part k own ∷ [];
+  span = span;
+  one = one_alone limit Mode.Text bytes [] (part k own);
+  first = (rest, Mode.Text, (split, subst (λ (x : Answer). Allows x limit bytes k own Mode.Text) (sym e) h), (refl, refl));
+}
+
+escape_cut : (limit b c : ℕ) (more : List ℕ) → 32 ≤ b → b ≤ 47 → 48 ≤ c → c ≤ 126 → Cuts limit Mode.Text (27 ∷ b ∷ c ∷ more) Kind.Esc (27 ∷ b ∷ c ∷ []) more Mode.Text
+escape_cut limit b c more from to low high =
+    let ahead_is : ahead Mode.Text (27 ∷ b ∷ c ∷ more) ≡ Anew Kind.Esc 3 Mode.Text = said 18 _ Mode.Text (27 ∷ b ∷ c ∷ more) refl (grind (arith, nat_tests)) in
+    one_cut limit (27 ∷ b ∷ c ∷ more) (27 ∷ b ∷ c ∷ []) more Kind.Esc (Anew Kind.Esc 3 Mode.Text) refl ahead_is refl (refl, refl, refl)
+
+sequence_cut : (limit len : ℕ) (bytes : List ℕ) → IsSequence (take len bytes) → len ≤ limit → Cuts limit Mode.Text bytes Kind.Csi (take len bytes) (drop len bytes) Mode.Text
+sequence_cut limit len bytes one short =
+    let own = take len bytes in
+    let long : length own ≤ limit = omega (arith, length-take len bytes, short) in
+    let whole : bytes ≡ 27 ∷ 91 ∷ ((one.2.body ++ one.1 ∷ []) ++ drop len bytes) = sym (take-append-drop len bytes) ∙ ap (λ (t : List ℕ). t ++ drop len bytes) one.2.whole in
+    let csi : ahead Mode.Text bytes ≡ Sequence = ap (ahead Mode.Text) whole ∙ opens Mode.Text ((one.2.body ++ one.1 ∷ []) ++ drop len bytes) in
+    one_cut limit bytes own (drop len bytes) Kind.Csi Sequence refl csi (sym (take-append-drop len bytes)) (one, long, refl)
+
+-- ---- from the bytes behind a sequence to its length
+
+pub front_read : (limit len : ℕ) (bytes behind : List ℕ) (list : List CsiParam) (final : ℕ) → Reads (take limit bytes) list final behind → len ≡ length (take limit bytes) - length behind
+    → ((len ≤ limit) × (len ≤ length bytes)) × Seq (take len bytes) list final
+front_read limit len bytes behind list final (front, seq, split) is =
+    let size : len ≡ length front = omega (arith, is, ap length split, length-append front behind) in
+    let within : len ≤ limit = omega (arith, is, length-take limit bytes) in
+    let text : take len bytes ≡ front =
+    sym (take-take len limit bytes within) ∙ ap (take len) split ∙ ap (λ (n : ℕ). take n (front ++ behind)) size ∙ take-append_seam front behind in
+    ((within, omega (arith, is, length-take limit bytes)), subst (λ (t : List ℕ). Seq t list final) (sym text) seq)
+
+pub sequence_read : (limit len : ℕ) (bytes behind : List ℕ) → ((list : List CsiParam) × (final : ℕ) × Reads (take limit bytes) list final behind) → len ≡ length (take limit bytes) - length behind
+    → ((len ≤ limit) × (len ≤ length bytes)) × IsSequence (take len bytes)
+sequence_read limit len bytes behind (list, final, read) is =
+    let found = front_read limit len bytes behind list final read is in
+    (found.0, (list, final, found.1))
+
+-- ---- the steps
+
+-- some bytes, and others behind them
+pub behind_both : (bytes front behind text rest : List ℕ) → bytes ≡ front ++ behind → behind ≡ text ++ rest → (before : List ℕ) × (bytes ≡ before ++ rest)
+behind_both bytes front behind text rest e f = (front ++ text, e ∙ ap (λ t. front ++ t) f ∙ sym (append_assoc front text rest))
+
+no_chars : (chars : List ℕ) → IsRead [] chars [] → chars ≡ []
+no_chars chars read = sym (append-nil chars) ∙ ap (λ t. chars ++ t) (sym lossy_chars-nil) ∙ sym (read []) ∙ lossy_chars-nil
+
+module _ {S : Type 0} (Gives : RuleOf S) (limit : ℕ) where
+  pub to_none : (it : Between S) (out : List ℕ) → GoesTo Gives limit it it out out
+  to_none it out = ([], sym (append-nil out), goes_none Gives limit it, [], refl)
+
+  pub to_on : (old mid new : Between S) (before now after : List ℕ) → GoesTo Gives limit old mid before now → GoesTo Gives limit mid new now after → GoesTo Gives limit old new before after
+  to_on old mid new before now after (one, out, goes, xs, e) (two, longer, further, ys, f) =
+      let (front, both) = behind_both (old.held ++ old.bytes) xs (mid.held ++ mid.bytes) ys (new.held ++ new.bytes) e f in
+      (one ++ two, longer ∙ ap (λ l. l ++ two) out ∙ append_assoc before one two, goes_then Gives limit old mid new one two goes further, front, both)
+
+  -- a span that is no text is held no more
+  ends_in : (k : Kind) (s : S) (held span text : List ℕ) (after : S) (left : List ℕ) → IsAppended Gives k s held span text after left → (front : List ℕ) × (held ++ span ≡ front ++ left)
+  ends_in Kind.Text s held span text after left (chars, reads, e, same) = (reads.1, reads.2)
+  ends_in Kind.Csi s held span text after left (own, gives, e, none) = (held ++ span, rw none (sym (append-nil (held ++ span))))
+  ends_in Kind.Str s held span text after left (own, gives, e, none) = (held ++ span, rw none (sym (append-nil (held ++ span))))
+  ends_in _ s held span text after left h = (held ++ span, rw h.2 (sym (append-nil (held ++ span))))
+
+  pub to_span : (old new : Between S) (k : Kind) (span more before after : List ℕ) → Cuts limit old.mode old.bytes k span new.bytes new.mode
+      → IsAppended Gives (read_as k old.titled) old.rule old.held span more new.rule new.held → new.titled ≡ title_behind old.titled k span → after ≡ before ++ more → GoesTo Gives limit old new before after
+  to_span old new k span more before after cut h titles longer =
+      let (front, e) = ends_in (read_as k old.titled) old.rule old.held span more new.rule new.held h in
+      let split = cut_parts limit old.mode old.bytes k span new.bytes new.mode cut in (
+        more,
+        longer,
+        goes_span Gives limit old new k span more cut h titles,
+        front,
+        ap (λ t. old.held ++ t) split ∙ sym (append_assoc old.held span new.bytes) ∙ ap (λ t. t ++ new.bytes) e ∙ append_assoc front new.held new.bytes,
+      )
+
+  -- the bytes behind are the last of them
+  pub to_split : (old new : Between S) (before after : List ℕ) → GoesTo Gives limit old new before after → (front : List ℕ) × (old.bytes ≡ front ++ new.bytes)
+  to_split old new before after (more, longer, goes, front, e) = goes_split Gives limit old new more goes
+
+  pub over_told : (s : S) (bytes rest old new : List ℕ) → Tells Gives.writing bytes rest old new → GoesTo Gives limit (bare_at s bytes) (bare_at s rest) old new
+  over_told s bytes rest old new ([], chars, parts, (other, read), longer) = rw (longer, parts, no_chars chars read, written_none Gives.writing, append-nil old) (to_none (bare_at s rest) old)
+  over_told s bytes rest old new (b ∷ text, chars, parts, (other, read), longer) =
+      to_span (bare_at s bytes) (bare_at s rest) Kind.Text (b ∷ text) (chars_as Gives.writing chars) old new (rw parts (told_cut limit (b ∷ text) rest (omega arith) other))
+      (chars, (read, b ∷ text, sym (append-nil (b ∷ text))), refl, refl) refl longer
+
+  pub over_escape : (s : S) (bytes old : List ℕ) → BeginsWithEscape bytes → GoesTo Gives limit (bare_at s bytes) (bare_at s (drop 3 bytes)) old old
+  over_escape s [] old h = absurd (omega (arith, h.0))
+  over_escape s (a ∷ []) old h = absurd (omega (arith, h.0))
+  over_escape s (a ∷ b ∷ []) old h = absurd (omega (arith, h.0))
+  over_escape s (a ∷ b ∷ c ∷ more) old (long, first, from, to, low, high) =
+      to_span (bare_at s (a ∷ b ∷ c ∷ more)) (bare_at s more) Kind.Esc (27 ∷ b ∷ c ∷ []) [] old old (rw first (escape_cut limit b c more from to low high)) (sym (shown_none Gives.writing), refl, refl) refl
+      (sym (append-nil old))
+
+  -- a sequence that a rule took at once, or none
+  pub over_taken : (len : ℕ) (s after : S) (bytes old new : List ℕ) → len ≤ limit
+      → (0 < len → (text : List ℕ) × IsSequence (take len bytes) × Gives.sequence s (take len bytes) text after × (new ≡ old ++ text))
+      → (len ≡ 0 → (after ≡ s) × (new ≡ old)) → GoesTo Gives limit (bare_at s bytes) (bare_at after (drop len bytes)) old new
+  over_taken zero s after bytes old new short taken none = let h = none refl in rw (h.0, h.1) (to_none (bare_at s bytes) old)
+  over_taken (suc n) s after bytes old new short taken none =
+      let (text, one, gives, longer) = taken (omega arith) in
+      to_span (bare_at s bytes) (bare_at after (drop (suc n) bytes)) Kind.Csi (take (suc n) bytes) text old new (sequence_cut limit (suc n) bytes one short)
+      (text, gives, ap (λ t. t ++ text) (sym (shown_none Gives.writing)), refl) refl longer

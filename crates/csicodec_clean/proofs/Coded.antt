@@ -1,24 +1,22 @@
--- The text of a style is digits and `:`, 60 at most, in front of `m`: one control sequence, which is taken for that style.
-use Rattle.std.proofs.Common.{◌≡◌, ◌≤◌, ◌<◌, ◌+◌, ◌-◌, ◌^◌, ◌⊎◌, ℕ, suc, Bool, true, false, cond, List, [], ◌∷◌, ◌++◌, length, length-append, drop, inl, inr, refl, sym, ap, subst, ◌∙◌, append_assoc, append-nil, take, arith, rules}
-use Rattle.std.proofs.{lemmas.Bool.and_parts, lemmas.Bool.cases_Bool, lemmas.Bool.cond_both, lemmas.Bool.eqb-true, lemmas.List.append_cancel_right}
-use Rattle.std.proofs.{lemmas.Bool.Decides.nat_tests, lemmas.Fmt.digits_decimal, lemmas.Fmt.decimal_nonempty, lemmas.Str.Parse.IsNumeralModel}
-use Rattle.std.proofs.{lemmas.Str.Parse.numerals_by_fold}
-use Rattle.std.specs.{Prelude.◌==◌, Prelude.◌&&◌, Prelude.codes, Prelude.nat_le, Prelude.nat_lt, Prelude.slice_get, Fmt.decimal, List.AllByRecursion}
-use Rattle.csicodec_tokens.specs.{declared.param.CsiParam.CsiParam, declared.param.CsiParam.TheVariants.Integer, declared.param.CsiParam.TheVariants.P}
-use Rattle.csicodec_tokens.specs.{Digits.AreDigits, Digits.IsDigit, Digits.value, Digits.value_after, Sequence.Reads, Sequence.Seq, Sequence.Spells}
-use Rattle.csicodec_tokens.specs.{Sequence.SpellsToken}
-use Rattle.csicodec_tokens.proofs.Decimal.{length-decimal_u16}
-use Rattle.csicodec_names.specs.{declared.color.Intensity.TheVariants.Normal, declared.color.ColorSpec.ColorSpec, declared.color.SrgbaTuple.SrgbaTuple}
-use Rattle.csicodec_base.specs.{declared.sgr.Sgr.Sgr, SgrText.palette_text, SgrText.sgr_text, SgrText.true_color_text}
-use Rattle.csicodec_actions.specs.{Ranges.ColorInRange, Ranges.SgrInRange, Table.text}
-use Rattle.csicodec_parser.specs.{Cut.semicolon, Groups.group, Groups.is_byte, declared.group.Group.Group, declared.group.Group.TheVariants.Styles}
+-- What is noted of a control sequence, and the text of a style: digits and `:` in front of `m`, one sequence, which is taken for that style.
+use Rattle.std.proofs.Common.{◌≡◌, ◌+◌, ◌-◌, ◌∙◌, ℕ, suc, Bool, true, false, cond, List, [], ◌∷◌, ◌++◌, map, length, get_or, take, drop, refl, sym, ap, subst, append-nil, arith, ◌==◌, MatchBool, ◌≤◌, ◌<◌, ◌^◌, ◌⊎◌, length-append, inl, inr, append_assoc, rules, eqb-true, ◌&&◌, codes, nat_le, nat_lt, slice_get, decimal}
+use Rattle.std.proofs.{lemmas.Bool.cases_Bool, lemmas.List.append_cancel_right, lemmas.Fmt.digits_decimal, lemmas.Fmt.decimal_nonempty}
+use Rattle.std.proofs.{lemmas.Str.Parse.IsNumeralModel, lemmas.Str.Parse.numerals_by_fold}
+use Rattle.csicodec_clean.proofs.Common.{take-append_seam, ColorSpec, sgr_text, CsiParam, Seq, Action, Unspecified, texts, IsSequence, Depth, Keeping, keeping, keeps, IsLeft, IsNoted, Group, Styles, group, Actions, IsTakenFor, has_unknown, and_parts, cond_both, nat_tests, AllByRecursion, Integer, P, Reads, SrgbaTuple, ColorInRange, SgrInRange, text, semicolon, ReadsAlone, parsed-kept, longest, hides}
+use Rattle.csicodec_clean.proofs.Plain.{all_both, all_parts, all_weaker}
+use Rattle.csicodec_base.specs.{Shapes.Plane, Shapes.painted, declared.sgr.Sgr.Sgr, SgrText.palette_text, SgrText.true_color_text}
+use Rattle.csicodec_actions.specs.{declared.cursor.Cursor.Cursor, Actions.Cursor as Move, Actions.Sgr as SgrAction}
 use Rattle.csicodec_streams.specs.Colors.{IsColored, IsOpaque, color_list, plane_byte}
-use Rattle.csicodec.specs.{Compose.EndsInSemicolon, Exact.ReadsAlone}
-use Rattle.csicodec.proofs.{Exactly.one-sequence, Parsed.parsed-kept}
-use Rattle.csicodec_spans.specs.Parts.{IsSequence}
-use Rattle.csicodec_terminal.specs.Terminal.{IsTakenFor, is_open}
-use Rattle.csicodec_clean.specs.{Cleaned.longest, Styled.hides}
-use Rattle.csicodec_clean.proofs.{Noted.closed_taken, PlainBytes.all_both, PlainBytes.all_weaker}
+use Rattle.csicodec_clean.specs.{Styled.is_open, Styled.kept, Private.Notes.depth_byte, Private.Notes.note_of, Private.Notes.open_byte}
+use Rattle.csicodec_parser.specs.{Cut.Cut, Cut.body, Groups.has_odd, Groups.is_byte, Segments.ActionsIn, Segments.BodyActions, Segments.remainder}
+use Rattle.csicodec_terminal.specs.Terminal.{is_open as leaves_out}
+use Rattle.std.specs.Fmt.{digits}
+use Rattle.csicodec_tokens.specs.{Digits.AreDigits, Digits.IsDigit, Digits.value, Digits.value_after, Sequence.Spells, Sequence.SpellsToken}
+use Rattle.csicodec_tokens.proofs.Decimal.{length-decimal_u16}
+use Rattle.csicodec_names.specs.declared.color.Intensity.TheVariants.{Normal}
+use Rattle.csicodec.specs.Compose.{EndsInSemicolon}
+use Rattle.csicodec.proofs.Exactly.{one-sequence}
+use Rattle.csicodec_clean.specs.declared.colors.Depth.TheVariants as depth
 use Rattle.csicodec_names.specs.declared.color.Underline.TheVariants as underline
 use Rattle.csicodec_names.specs.declared.color.Blink.TheVariants as blink
 use Rattle.csicodec_names.specs.declared.color.VerticalAlign.TheVariants as align
@@ -26,6 +24,88 @@ use Rattle.csicodec_names.specs.declared.color.ColorSpec.TheVariants as color
 use Rattle.csicodec_base.specs.declared.sgr.Font.TheVariants as font
 use Rattle.csicodec_base.specs.declared.sgr.Sgr.TheVariants as sgr
 use Rattle.csicodec_actions.specs.Actions as action
+
+same_depth : (d e : Depth) → depth_byte d ≡ depth_byte e → d ≡ e
+same_depth d e h = grind arith
+
+flag_is : (styled : Bool) (styles : List Sgr) (now : ℕ) → now ≡ cond styled (open_byte (is_open true styles)) (open_byte (is_open false styles)) → (now == 1) ≡ is_open styled styles
+flag_is styled styles now e = grind arith
+
+-- from the note, and what was appended of it
+pub recalled : (d : Depth) (styled : Bool) (bytes note wide more old new : List ℕ) (now : ℕ) → IsNoted bytes note → get_or note 0 0 ≡ depth_byte d
+    → now ≡ cond styled (get_or note 2 0) (get_or note 1 0) → wide ≡ note ++ more
+    → new ≡ old ++ take (length note - 3) (drop 3 wide) → IsLeft d styled bytes (now == 1) old new
+recalled d styled bytes note wide more old new now (e, actions, is, noted) byte opened w longer =
+    let same : e ≡ d = same_depth e d (sym (ap (λ l. get_or l 0 0) noted) ∙ byte) in
+    let text = texts (map SgrAction (kept e actions)) in
+    let size : length note - 3 ≡ length text = omega (arith, ap length noted) in
+    let behind : drop 3 wide ≡ text ++ more = ap (drop 3) (w ∙ ap (λ l. l ++ more) noted) in
+    let front : take (length note - 3) (drop 3 wide) ≡ text = ap (λ n. take n (drop 3 wide)) size ∙ ap (take (length text)) behind ∙ take-append_seam text more in
+    let flag : (now == 1) ≡ is_open styled (kept e actions) = flag_is styled (kept e actions) now (opened ∙ ap (λ l. cond styled (get_or l 2 0) (get_or l 1 0)) noted) in
+    subst (λ (x : Depth). IsLeft x styled bytes (now == 1) old new) same (actions, is, flag, longer ∙ ap (λ t. old ++ t) front)
+
+-- what the rule gives for it
+pub left_given : (k : Keeping) (bytes : List ℕ) (after : Bool) (old new : List ℕ) → IsLeft k.passing.depth k.styled bytes after old new
+    → (text : List ℕ) × IsSequence bytes × keeps.sequence k bytes text (keeping k.passing after k.linked k.begun) × (new ≡ old ++ text)
+left_given k bytes after old new (actions, is, now, longer) = (
+  texts (map SgrAction (kept k.passing.depth actions)),
+  (is.0, is.1, is.2),
+  (actions, is, refl, ap (λ (b : Bool). keeping k.passing b k.linked k.begun) now),
+  longer,
+)
+
+-- ---- a colour, where all stay
+
+color_note : (plane : Plane) (color : ColorSpec) → note_of depth.Full (SgrAction (painted plane color) ∷ []) ≡ 0 ∷ 1 ∷ 1 ∷ 27 ∷ 91 ∷ sgr_text (painted plane color)
+color_note plane color = grind (arith, append-nil {A = ℕ})
+
+-- what is noted of it, by what begins with its text
+pub color_noted : (bytes rest own text note : List ℕ) (style : Sgr) (len : ℕ) → IsColored bytes style rest → IsTakenFor own (SgrAction style ∷ [])
+    → take (len + 1) text ≡ 27 ∷ 91 ∷ sgr_text style → note ≡ take (len + 4) (0 ∷ 1 ∷ 1 ∷ text)
+    → IsNoted own note
+color_noted bytes rest own text note style len (plane, color, opaque, paints, stands) is told noted =
+    let longer : len + 4 ≡ suc (suc (suc (len + 1))) = omega arith in
+    let all : note ≡ 0 ∷ 1 ∷ 1 ∷ 27 ∷ 91 ∷ sgr_text style = noted ∙ ap (λ n. take n (0 ∷ 1 ∷ 1 ∷ text)) longer ∙ ap (λ l. 0 ∷ 1 ∷ 1 ∷ l) told in
+    (depth.Full, SgrAction style ∷ [], is, all ∙ subst (λ (s : Sgr). 0 ∷ 1 ∷ 1 ∷ 27 ∷ 91 ∷ sgr_text s ≡ note_of depth.Full (SgrAction s ∷ [])) (sym paints) (sym (color_note plane color)))
+
+color_open : (plane : Plane) (color : ColorSpec) (styled : Bool) → true ≡ is_open styled (kept depth.Full (SgrAction (painted plane color) ∷ []))
+color_open plane color styled = grind arith
+
+-- and what is left of it
+pub color_left : (bytes rest own old new : List ℕ) (style : Sgr) (styled : Bool) → IsColored bytes style rest → IsTakenFor own (SgrAction style ∷ [])
+    → new ≡ old ++ 27 ∷ 91 ∷ sgr_text style → IsLeft depth.Full styled own true old new
+color_left bytes rest own old new style styled (plane, color, opaque, paints, stands) is longer =
+    let text = ap (λ l. old ++ drop 3 l) (sym (color_note plane color)) in
+    (SgrAction style ∷ [], is, rw paints (color_open plane color styled), longer ∙ rw paints text)
+
+-- ---- what the table reads of it, as terminals take it
+
+pub closed_taken : (bytes : List ℕ) (list : List CsiParam) (final : ℕ) (actions : List Action) → Seq bytes list final
+    → Actions list false final actions → has_unknown actions ≡ false → leaves_out (group list final) list ≡ false → IsTakenFor bytes actions
+closed_taken bytes list final actions seq are known closed = (list, final, seq, (actions, are, rw (known, closed) refl))
+
+no_style : (pieces : List Action) (body rest : List CsiParam) (final : ℕ) (to : Cursor) → Cut Styles body pieces rest → Move to ∷ [] ≡ pieces ++ remainder Styles rest false final → ⊥
+no_style [] body [] final to cut e = absurd cc
+no_style [] body (t ∷ ts) final to cut e = absurd cc
+no_style (a ∷ pieces) body rest final to (block, more, is, one, others) e =
+    let (s, p, same) = one.piece in
+    let moves : Move to ≡ a = cc in
+    absurd (cc (moves, same))
+
+no_styles : (odd : Bool) (list body : List CsiParam) (final : ℕ) (to : Cursor)
+    → MatchBool odd (Move to ∷ [] ≡ Unspecified list false final ∷ []) (BodyActions Styles list body false final (Move to ∷ [])) → ⊥
+no_styles true list body final to e = absurd cc
+no_styles false list [] final to e = absurd cc
+no_styles false list (t ∷ ts) final to s = no_style s.pieces (t ∷ ts) s.rest final to s.cut s.all
+
+move_closed : (g : Group) (list : List CsiParam) (final : ℕ) (to : Cursor) → ActionsIn g list false final (Move to ∷ []) → leaves_out g list ≡ false
+move_closed Styles list final to h = absurd (no_styles (has_odd Styles list) list (body Styles list) final to h)
+move_closed _ list final to h = refl
+
+pub move_taken : (bytes : List ℕ) (list : List CsiParam) (final : ℕ) (to : Cursor) → Seq bytes list final → Actions list false final (Move to ∷ []) → IsTakenFor bytes (Move to ∷ [])
+move_taken bytes list final to seq are = closed_taken bytes list final (Move to ∷ []) seq are refl (move_closed (group list final) list final to are)
+
+-- ---- The text of a style is digits and `:`, 60 at most, in front of `m`: one control sequence, which is taken for that style.
 
 -- ---- bytes that are digits or `:`
 
@@ -36,8 +116,7 @@ abbrev pub AreCodes : List ℕ → Type 0
 AreCodes bs = AllByRecursion IsCode bs
 
 pub codes_parts : (xs ys : List ℕ) → AreCodes (xs ++ ys) → AreCodes xs × AreCodes ys
-codes_parts [] ys h = (tt, h)
-codes_parts (x ∷ xs) ys h = let more = codes_parts xs ys h.1 in ((h.0, more.0), more.1)
+codes_parts = all_parts IsCode
 
 own : IsNumeralModel AreDigits value
 own = numerals_by_fold AreDigits (search rules) value_after (search rules)
@@ -127,13 +206,9 @@ fixed t is are some few = (front t, is, tested (front t) are, some, few)
 -- ---- all of them
 
 line_coded : (i : ℕ) → i < 256 → IsCoded 60 (codes "58:5:" ++ (decimal i ++ codes "m"))
-line_coded i h = (
-  codes "58:5:" ++ decimal i,
-  sym (append_assoc (codes "58:5:") (decimal i) (109 ∷ [])),
-  all_both IsCode (codes "58:5:") (decimal i) (inl (omega arith, omega arith), (inl (omega arith, omega arith), five)) (number_codes i (omega (arith, h))),
-  omega (arith, length-append (codes "58:5:") (decimal i)),
-  omega (arith, length-append (codes "58:5:") (decimal i), few_digits i (omega (arith, h))),
-)
+unfolding digits
+line_coded i h = wider 13 60 (codes "58:5:" ++ (decimal i ++ codes "m")) (omega arith)
+    (then_coded 58 5 (codes ":5:") (decimal i ++ codes "m") (omega arith) five (number_coded i (omega (arith, h))))
 
 pub coded : (s : Sgr) → SgrInRange s → hides s ≡ false → IsCoded 60 (sgr_text s)
 coded (sgr.UnderlineColor (color.PaletteIndex i)) h k = line_coded i h
@@ -175,7 +250,7 @@ last_ends (t ∷ u ∷ us) e =
     let more = last_ends (u ∷ us) (rw next at e) in
     (t ∷ more.0, ap (λ (l : List CsiParam). t ∷ l) more.1)
 
-pub none_open : (g : Group) (list : List CsiParam) → ¬ EndsInSemicolon list → is_open g list ≡ false
+pub none_open : (g : Group) (list : List CsiParam) → ¬ EndsInSemicolon list → leaves_out g list ≡ false
 none_open Styles list unended = elim (cases_Bool (is_byte 59 (slice_get list (length list - 1)))) [
   | inl last ↦ absurd (unended (last_ends list last))
   | inr other ↦ other
@@ -211,7 +286,8 @@ unended body list s are ends =
 
 -- ---- the list of a style, and that of a colour, leaves none out at its end
 
-pub style_closed : (s : Sgr) (list : List CsiParam) (final : ℕ) → SgrInRange s → hides s ≡ false → Seq (27 ∷ 91 ∷ sgr_text s) list final → is_open (group list final) list ≡ false
+pub style_closed : (s : Sgr) (list : List CsiParam) (final : ℕ) → SgrInRange s → hides s ≡ false → Seq (27 ∷ 91 ∷ sgr_text s) list final
+    → leaves_out (group list final) list ≡ false
 style_closed s list final h k seq =
     let (body, is, are, some, few) = coded s h k in
     let ends = same_ends body seq.body 109 final (sym is ∙ ap (drop 2) seq.whole) in
@@ -229,7 +305,8 @@ ends_color xs front (color.TrueColor c) (r, g, b, a) e =
     append_assoc (decimal c.0) (59 ∷ (decimal c.1 ++ 59 ∷ [])) (decimal c.2) ∙ ap (λ (l : List ℕ). decimal c.0 ++ 59 ∷ l) (append_assoc (decimal c.1) (59 ∷ []) (decimal c.2)) in
     ends_number (xs ++ 50 ∷ 59 ∷ parts) front c.2 b (append_assoc xs (50 ∷ 59 ∷ parts) (decimal c.2) ∙ ap (λ (l : List ℕ). xs ++ 50 ∷ 59 ∷ l) behind ∙ e)
 
-pub color_closed : (bytes rest : List ℕ) (style : Sgr) (list : List CsiParam) → IsColored bytes style rest → Reads bytes list 109 rest → is_open (group list 109) list ≡ false
+pub color_closed : (bytes rest : List ℕ) (style : Sgr) (list : List CsiParam) → IsColored bytes style rest → Reads bytes list 109 rest
+    → leaves_out (group list 109) list ≡ false
 color_closed bytes rest style list (plane, color, opaque, paints, stands) (front, seq, whole) =
     let head = plane_byte plane ∷ 56 ∷ 59 ∷ [] in
     let both : front ++ rest ≡ (27 ∷ 91 ∷ (head ++ (color_list color ++ 109 ∷ []))) ++ rest =
@@ -241,20 +318,16 @@ color_closed bytes rest style list (plane, color, opaque, paints, stands) (front
 
 -- ---- one control sequence
 
-pub record IsPiece (s : Sgr) : Type 0 where
-  pub one : IsSequence (text (action.Sgr s))
-  pub short : length (text (action.Sgr s)) ≤ longest
-
 pub style_range : (s : Sgr) → ReadsAlone (action.Sgr s) false → SgrInRange s
 style_range s r =
     let o = one-sequence (text (action.Sgr s)) false (action.Sgr s) r.back in
     (parsed-kept o.list false o.final (action.Sgr s ∷ []) o.is.spellable o.is.ends o.read).0.range
 
-pub piece : (s : Sgr) → ReadsAlone (action.Sgr s) false → hides s ≡ false → IsPiece s
+pub piece : (s : Sgr) → ReadsAlone (action.Sgr s) false → hides s ≡ false → IsSequence (text (action.Sgr s)) × (length (text (action.Sgr s)) ≤ longest)
 piece s r shown =
     let o = one-sequence (text (action.Sgr s)) false (action.Sgr s) r.back in
     let (body, is, are, some, few) = coded s (style_range s r) shown in
-    record { one = (o.list, o.final, o.is); short = omega (arith, ap length is, length-append body (109 ∷ []), few) }
+    ((o.list, o.final, o.is), omega (arith, ap length is, length-append body (109 ∷ []), few))
 
 -- and it is taken for the style
 pub style_taken : (s : Sgr) → ReadsAlone (action.Sgr s) false → hides s ≡ false → IsTakenFor (text (action.Sgr s)) (action.Sgr s ∷ [])

@@ -1,12 +1,10 @@
 -- Links, byte by byte, and where they lead.
-use Rattle.std.proofs.Common.{◌≡◌, ◌≤◌, ◌<◌, ◌+◌, ℕ, Bool, true, false, List, [], ◌∷◌, ◌++◌, length, length-append, refl, sym, ap, ◌∙◌, append_assoc, append-nil, arith}
-use Rattle.std.proofs.{lemmas.Bool.and_right, lemmas.Bool.cond_both, lemmas.Bool.Decides.nat_tests}
-use Rattle.std.specs.{Prelude.◌==◌, Prelude.◌&&◌, Prelude.codes, Prelude.not, List.AllByRecursion}
-use Rattle.csicodec_clean.specs.Links.{Address, Begun, IsLink, IsWithin, admitted, all_behind, begun, behind_at, ends_at, is_linked, is_param, is_visible, link_body, links_at, links_in, longest_params, longest_url, next}
-use Rattle.csicodec_clean.specs.{declared.links.LinkState.LinkState, Addresses.ends_host, Addresses.has_host, Addresses.is_host_byte, Addresses.is_host_on}
-use Rattle.csicodec_clean.specs.{Addresses.is_web, Addresses.led}
-use Rattle.csicodec_clean.proofs.PlainBytes.{all_both}
-use Rattle.csicodec_clean.specs.declared.links.LinkState.TheVariants as place
+use Rattle.std.proofs.Common.{◌≡◌, ◌≤◌, ◌<◌, ◌+◌, ℕ, Bool, true, false, List, [], ◌∷◌, ◌++◌, length, length-append, refl, sym, ap, ◌∙◌, append_assoc, append-nil, arith, ◌==◌, ◌&&◌, codes, not}
+use Rattle.std.proofs.lemmas.Bool.{and_right}
+use Rattle.csicodec_clean.proofs.Common.{cond_both, nat_tests, AllByRecursion, Address, Begun, IsLink, IsWithin, admitted, all_behind, begun, behind_at, ends_at, is_linked, is_param, is_visible, link_body, links_at, links_in, next, LinkState, is_host_on}
+use Rattle.csicodec_clean.proofs.Plain.{all_both}
+use Rattle.csicodec_clean.specs.{Links.longest_params, Links.longest_url, Addresses.ends_host, Addresses.has_host, Addresses.is_host_byte, Addresses.is_web}
+use Rattle.csicodec_clean.specs.{Addresses.led}
 
 -- ---- addresses that lead nowhere
 
@@ -27,13 +25,6 @@ no_web user rest h = rw (no_host user rest h) refl
 -- what leads there is no other address
 pub led_twice : (url : List ℕ) → led (led url) ≡ led url
 led_twice url = cond_both (is_web url) url [] (λ t. led t ≡ t) (λ e. rw e refl) (λ e. refl)
-
--- of what leads there each byte is of the address, and there are no more
-pub led_all : (P : ℕ → Type 0) (url : List ℕ) → AllByRecursion P url → AllByRecursion P (led url)
-led_all P url h = cond_both (is_web url) url [] (AllByRecursion P) (λ e. h) (λ e. tt)
-
-pub led_few : (url : List ℕ) (n : ℕ) → length url ≤ n → length (led url) ≤ n
-led_few url n h = cond_both (is_web url) url [] (λ t. length t ≤ n) (λ e. h) (λ e. omega arith)
 
 -- ---- bytes behind bytes
 
@@ -70,10 +61,10 @@ fine_behind passing [] b h = h
 fine_behind passing (c ∷ bytes) b h = fine_behind passing bytes (next passing b c) (fine_next passing b c h)
 
 fine_admitted : (a : Address) → IsWithin a → IsLink (admitted a)
-fine_admitted a h = record {
-  within = record { params = h.params; few = h.few; url = led_all (λ b. is_visible b ≡ true) a.url h.url; short = led_few a.url longest_url h.short };
-  leads = led_twice a.url;
-}
+fine_admitted a h =
+    let Short = λ (url : List ℕ). AllByRecursion (λ b. is_visible b ≡ true) url × (length url ≤ longest_url) in
+    let (url, short) = cond_both (is_web a.url) a.url [] Short (λ e. (h.url, h.short)) (λ e. (tt, omega arith)) in
+    record { within = record { params = h.params; few = h.few; url = url; short = short }; leads = led_twice a.url }
 
 pub fine_links : (passing : Bool) (bytes : List ℕ) (b : Begun) → IsWithin b.address → AllByRecursion IsLink (links_in passing b bytes)
 fine_links passing [] b h = tt
@@ -86,10 +77,10 @@ fine_links passing (c ∷ bytes) b h =
 no_bell : (c : ℕ) → is_visible c ≡ true → (c == 7) ≡ false
 no_bell c h = grind (arith, nat_tests)
 
-one_param : (params url : List ℕ) (c : ℕ) → is_param c ≡ true → length params < longest_params → behind_at place.Params params url c ≡ begun place.Params (params ++ c ∷ []) url
+one_param : (params url : List ℕ) (c : ℕ) → is_param c ≡ true → length params < longest_params → behind_at LinkState.Params params url c ≡ begun LinkState.Params (params ++ c ∷ []) url
 one_param params url c h room = grind (arith, nat_tests)
 
-one_url : (params url : List ℕ) (c : ℕ) → is_visible c ≡ true → length url < longest_url → behind_at place.Url params url c ≡ begun place.Url params (url ++ c ∷ [])
+one_url : (params url : List ℕ) (c : ℕ) → is_visible c ≡ true → length url < longest_url → behind_at LinkState.Url params url c ≡ begun LinkState.Url params (url ++ c ∷ [])
 one_url params url c h room = grind (arith, nat_tests)
 
 -- from here over the bytes no link is over, and this has come then
@@ -101,38 +92,38 @@ reads_on b mid after xs ys h k =
     (rw (links_on true xs ys b, h.0, h.1) k.0, rw (behind_on true xs ys b, h.1) k.1)
 
 params_read : (ps params url : List ℕ) → AllByRecursion (λ b. is_param b ≡ true) ps → length params + length ps ≤ longest_params
-    → Reads (begun place.Params params url) ps (begun place.Params (params ++ ps) url)
-params_read [] params url h room = (refl, ap (λ (t : List ℕ). begun place.Params t url) (sym (append-nil params)))
+    → Reads (begun LinkState.Params params url) ps (begun LinkState.Params (params ++ ps) url)
+params_read [] params url h room = (refl, ap (λ (t : List ℕ). begun LinkState.Params t url) (sym (append-nil params)))
 params_read (c ∷ ps) params url h room =
     let later = params_read ps (params ++ c ∷ []) url h.1 (omega (arith, room, length-append params (c ∷ []))) in
-    rw (one_param params url c h.0 (omega (arith, room))) (later.0, later.1 ∙ ap (λ (t : List ℕ). begun place.Params t url) (append_assoc params (c ∷ []) ps))
+    rw (one_param params url c h.0 (omega (arith, room))) (later.0, later.1 ∙ ap (λ (t : List ℕ). begun LinkState.Params t url) (append_assoc params (c ∷ []) ps))
 
-url_read : (us params url : List ℕ) → AllByRecursion (λ b. is_visible b ≡ true) us → length url + length us ≤ longest_url → Reads (begun place.Url params url) us (begun place.Url params (url ++ us))
-url_read [] params url h room = (refl, ap (λ (t : List ℕ). begun place.Url params t) (sym (append-nil url)))
+url_read : (us params url : List ℕ) → AllByRecursion (λ b. is_visible b ≡ true) us → length url + length us ≤ longest_url → Reads (begun LinkState.Url params url) us (begun LinkState.Url params (url ++ us))
+url_read [] params url h room = (refl, ap (λ (t : List ℕ). begun LinkState.Url params t) (sym (append-nil url)))
 url_read (c ∷ us) params url h room =
     let later = url_read us params (url ++ c ∷ []) h.1 (omega (arith, room, length-append url (c ∷ []))) in
-    rw (no_bell c h.0, one_url params url c h.0 (omega (arith, room))) (later.0, later.1 ∙ ap (λ (t : List ℕ). begun place.Url params t) (append_assoc url (c ∷ []) us))
+    rw (no_bell c h.0, one_url params url c h.0 (omega (arith, room))) (later.0, later.1 ∙ ap (λ (t : List ℕ). begun LinkState.Url params t) (append_assoc url (c ∷ []) us))
 
 -- behind `ESC ]`
-pub body_read : (a : Address) (params url : List ℕ) → IsWithin a → Reads (begun place.Opened params url) (link_body a) (begun place.Url a.params a.url)
+pub body_read : (a : Address) (params url : List ℕ) → IsWithin a → Reads (begun LinkState.Opened params url) (link_body a) (begun LinkState.Url a.params a.url)
 body_read a params url h =
-    let first : Reads (begun place.Opened params url) (56 ∷ 59 ∷ []) (begun place.Params [] url) = (refl, refl) in
+    let first : Reads (begun LinkState.Opened params url) (56 ∷ 59 ∷ []) (begun LinkState.Params [] url) = (refl, refl) in
     let named = params_read a.params [] url h.params (omega (arith, h.few)) in
-    let mid : Reads (begun place.Params a.params url) (59 ∷ []) (begun place.Url a.params []) = (refl, refl) in
+    let mid : Reads (begun LinkState.Params a.params url) (59 ∷ []) (begun LinkState.Url a.params []) = (refl, refl) in
     let all = url_read a.url a.params [] h.url (omega (arith, h.short)) in
-    let end = begun place.Url a.params a.url in
-    let later = reads_on (begun place.Params a.params url) (begun place.Url a.params []) end (59 ∷ []) a.url mid all in
-    reads_on (begun place.Opened params url) (begun place.Params [] url) end (56 ∷ 59 ∷ []) (a.params ++ 59 ∷ a.url) first
-    (reads_on (begun place.Params [] url) (begun place.Params a.params url) end a.params (59 ∷ a.url) named later)
+    let end = begun LinkState.Url a.params a.url in
+    let later = reads_on (begun LinkState.Params a.params url) (begun LinkState.Url a.params []) end (59 ∷ []) a.url mid all in
+    reads_on (begun LinkState.Opened params url) (begun LinkState.Params [] url) end (56 ∷ 59 ∷ []) (a.params ++ 59 ∷ a.url) first
+    (reads_on (begun LinkState.Params [] url) (begun LinkState.Params a.params url) end a.params (59 ∷ a.url) named later)
 
 -- what passes of a link does, whatever link came before
-pub passes : (a : Address) (params url end : List ℕ) → IsWithin a → links_in true (begun place.Url a.params a.url) end ≡ admitted a ∷ []
-    → links_in true (begun place.Outside params url) (27 ∷ 93 ∷ (link_body a ++ end)) ≡ admitted a ∷ []
+pub passes : (a : Address) (params url end : List ℕ) → IsWithin a → links_in true (begun LinkState.Url a.params a.url) end ≡ admitted a ∷ []
+    → links_in true (begun LinkState.Outside params url) (27 ∷ 93 ∷ (link_body a ++ end)) ≡ admitted a ∷ []
 passes a params url end h over =
     let body = body_read a params url h in
-    links_on true (link_body a) end (begun place.Opened params url) ∙ ap (λ (t : List Address). t ++ links_in true (all_behind true (begun place.Opened params url) (link_body a)) end) body.0
+    links_on true (link_body a) end (begun LinkState.Opened params url) ∙ ap (λ (t : List Address). t ++ links_in true (all_behind true (begun LinkState.Opened params url) (link_body a)) end) body.0
     ∙ ap (λ (t : Begun). links_in true t end) body.1 ∙ over
 
 -- one that may pass is that itself
 pub itself : (a : Address) → IsLink a → admitted a ≡ a
-itself a h = ap (λ (t : List ℕ). (begun place.Outside a.params t).address) h.leads
+itself a h = ap (λ (t : List ℕ). (begun LinkState.Outside a.params t).address) h.leads

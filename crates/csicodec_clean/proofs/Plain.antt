@@ -1,16 +1,145 @@
--- What is shown is plain.
-use Rattle.std.proofs.Common.{◌≡◌, ◌≤◌, ℕ, zero, suc, Bool, true, false, cond, Option, None, Some, List, [], ◌∷◌, ◌++◌, length, length-drop, drop, encode_utf8_all, refl, sym, ap, subst, ◌∙◌, append_assoc, append-nil, arith}
-use Rattle.std.proofs.lemmas.Bool.{and_from, and_parts, cond_both}
-use Rattle.std.specs.{Prelude.filter, List.AllByRecursion, Str.all_scalars, Char.IsScalar}
-use lib.Utf8.{scalar}
-use Rattle.bstr.specs.Utf8.{decoded, or_replacement, lossy_chars}
-use Rattle.bstr.proofs.{lemmas.PieceLemmas.piece-bounds, lemmas.PieceLemmas.lossy_chars-step, lemmas.PieceLemmas.lossy_chars-nil}
-use Rattle.bstr.proofs.{lemmas.SoundLemmas.SpellsChar-decoded}
-use Rattle.csicodec_spans.specs.{declared.table.Kind.Kind, Parts.Part}
-use Rattle.csicodec_clean.specs.Cleaned.{AreGiven, IsStep, AreSteps, Ends, Strips, stripped, drops, ends_bare, is_text}
-use Rattle.csicodec_clean.specs.{Shown.shown, Shown.shown_text, Shown.IsShown, Shown.IsPlain, Shown.IsTextOf, Titles.with_titles}
-use Rattle.csicodec_clean.proofs.{PlainBytes.all_both, Shows.encoded_on}
-use Rattle.csicodec_spans.specs.declared.table.Kind.TheVariants as kind
+-- What is read of text whatever follows, what is shown of it, and that this is plain.
+pub use Rattle.std.proofs.lemmas.Str.{encodes-append as encoded_on}
+use Rattle.std.proofs.Common.{◌≡◌, ◌≢◌, ℕ, ◌<◌, ◌≤◌, List, [], ◌∷◌, ◌++◌, Option, None, Some, drop, length, length-append, slice_index, refl, sym, ap, subst, ◌∙◌, arith, append_assoc, append-nil, filter, encode_utf8_all, All, zero, suc, Bool, true, false, cond, length-drop}
+use Rattle.std.proofs.{lemmas.List.get_or_append_left, lemmas.List.drop_all, lemmas.List.Elements.filter-append, lemmas.List.Elements.All-from_recursion}
+use Rattle.csicodec_clean.proofs.Common.{nat_tests, drop-append-le, decoded, lossy_chars, piece-bounds, lossy_chars-nil, value-6, value-9, value-12, IsRead, flat_map-append, Writing, chars_as, run_as, shown, written, AllByRecursion, IsShown, IsPlain, IsOther, and_from, and_parts, cond_both, all_scalars, IsScalar, scalar, SpellsChar-decoded, Kind, Part, AreGiven, IsStep, AreSteps, Ends, Strips, stripped, drops, ends_bare, is_text, shown_text, IsTextOf, with_titles}
+use Rattle.bstr.specs.Utf8.{bad, decoded_by, or_replacement, replacement}
+use Rattle.bstr.proofs.lemmas.PieceLemmas.{by-shape, lossy_chars-step, value-1, value-2, value-3, value-5, value-8, value-11}
+use Rattle.csicodec_clean.specs.Shown.{IsCut}
+use Rattle.std.specs.Char.{encode_utf8}
+
+longer_by : (n m b c d e c' d' e' : ℕ) → n ≤ m → ((decoded_by n b c d e).char ≡ None → (decoded_by n b c d e).size < n) → 0 < n
+    → (1 < n → c' ≡ c) → (2 < n → d' ≡ d) → (3 < n → e' ≡ e) → decoded_by m b c' d' e' ≡ decoded_by n b c d e
+longer_by n m b c d e c' d' e' le sure some second_c third_d fourth_e = by-shape n b c d e
+    (λ h. absurd (omega (arith, h.0)))
+    (λ h. value-1 m b c' d' e' (omega arith, h.1) ∙ sym h.2)
+    (λ h. value-2 m b c' d' e' (omega arith, h.1, h.2) ∙ sym h.3)
+    (λ h. value-3 m b c' d' e' (omega arith, h.1) ∙ sym h.2)
+    (λ h. absurd (cut 1 (omega arith) h.4))
+    (λ h. rw (second_c (omega arith)) (value-5 m b c d' e' (omega arith, h.1, h.2, h.3) ∙ sym h.4))
+    (λ h. rw (second_c (omega arith)) (value-6 m b c d' e' (omega arith, h.1, h.2, h.3) ∙ sym h.4))
+    (λ h. absurd (cut 2 (omega arith) h.5))
+    (λ h. rw (second_c (omega arith), third_d (omega arith)) (value-8 m b c d e' (omega arith, h.1, h.2, h.3, h.4) ∙ sym h.5))
+    (λ h. rw (second_c (omega arith), third_d (omega arith)) (value-9 m b c d e' (omega arith, h.1, h.2, h.3, h.4) ∙ sym h.5))
+    (λ h. absurd (cut 3 (omega arith) h.6))
+    (λ h. rw (second_c (omega arith), third_d (omega arith), fourth_e (omega arith)) (value-11 m b c d e (omega arith, h.1, h.2, h.3, h.4, h.5) ∙ sym h.6))
+    (λ h. rw (second_c (omega arith), third_d (omega arith), fourth_e (omega arith)) (value-12 m b c d e (omega arith, h.1, h.2, h.3, h.4, h.5) ∙ sym h.6))
+  where
+    cut : (k : ℕ) → n ≤ k → decoded_by n b c d e ≡ bad k → ⊥
+    cut k all is = omega (arith, sure (ap (λ p. p.char) is), ap (λ p. p.size) is)
+
+-- what decodes to a character, or to a piece with bytes behind it, decodes so whatever follows
+pub sure_piece : (bs more : List ℕ) → 0 < length bs → ((decoded bs).char ≡ None → (decoded bs).size < length bs) → decoded (bs ++ more) ≡ decoded bs
+sure_piece bs more some sure =
+    let all = bs ++ more in
+    let long = length-append bs more in
+    let at : (k : ℕ) → k < length bs → slice_index all k ≡ slice_index bs k = λ k l. get_or_append_left bs more 0 k l in
+    subst (λ v. decoded_by (length all) v (slice_index all 1) (slice_index all 2) (slice_index all 3) ≡ decoded bs) (sym (at 0 some))
+    (longer_by (length bs) (length all) (slice_index bs 0) (slice_index bs 1) (slice_index bs 2) (slice_index bs 3)
+    (slice_index all 1) (slice_index all 2) (slice_index all 3) (omega arith) sure some (at 1) (at 2) (at 3))
+
+-- nothing read yet
+pub read_none : (run : List ℕ) → IsRead run [] run
+read_none run more = refl
+
+-- one after the other
+pub read_on : (run mid rest first later : List ℕ) → IsRead run first mid → IsRead mid later rest → IsRead run (first ++ later) rest
+read_on run mid rest first later h k = λ more. h more ∙ ap (λ t. first ++ t) (k more) ∙ sym (append_assoc first later (lossy_chars (rest ++ more)))
+
+-- more bytes came
+pub read_more : (run held bytes rest first later : List ℕ) → IsRead run first held → IsRead (held ++ bytes) later rest → IsRead (run ++ bytes) (first ++ later) rest
+read_more run held bytes rest first later h k =
+    λ more. rw (append_assoc run bytes more, h (bytes ++ more), ← append_assoc held bytes more, k more) (simp append_assoc)
+
+-- the piece in front
+pub read_piece : (bs : List ℕ) → 0 < length bs → ((decoded bs).char ≡ None → (decoded bs).size < length bs) → IsRead bs (or_replacement (decoded bs).char ∷ []) (drop (decoded bs).size bs)
+read_piece bs some sure = λ more.
+    let within = (piece-bounds bs some).2 in
+    let step = lossy_chars-step (bs ++ more) (omega (arith, length-append bs more)) in
+    rw (step, sure_piece bs more some sure, drop-append-le (decoded bs).size bs more within) refl
+
+-- nothing follows
+pub read_all : (run chars rest : List ℕ) → IsRead run chars rest → lossy_chars run ≡ chars ++ lossy_chars rest
+read_all run chars rest h = ap lossy_chars (sym (append-nil run)) ∙ h [] ∙ ap (λ t. chars ++ lossy_chars t) (append-nil rest)
+
+-- what is cut is one U+FFFD
+pub cut_char : (bs : List ℕ) → 0 < length bs → IsCut bs → lossy_chars bs ≡ replacement ∷ []
+cut_char bs some cut =
+    let h = cut some in
+    rw (lossy_chars-step bs some, h.0, h.1, drop_all (length bs) bs (omega arith), lossy_chars-nil) refl
+
+-- and short
+pub cut_short : (bs : List ℕ) → IsCut bs → length bs ≤ 3
+cut_short bs cut = grind (arith, nat_tests)
+
+-- the piece in front, of so many bytes, whatever follows
+abbrev IsFront : List ℕ → ℕ → ℕ → Type 0
+IsFront bs c size = IsRead bs (c ∷ []) (drop size bs) × (0 < size) × (size ≤ length bs) × ((more : List ℕ) → decoded (bs ++ more) ≡ decoded bs)
+
+read_front : (bs : List ℕ) (o : Option ℕ) (size : ℕ) → 0 < length bs → o ≡ (decoded bs).char → size ≡ (decoded bs).size
+    → ((decoded bs).char ≡ None → (decoded bs).size < length bs) → IsFront bs (or_replacement o) size
+read_front bs o size some char same sure = let bounds = piece-bounds bs some in rw (char, same) (read_piece bs some sure, bounds.0, bounds.2, λ more. sure_piece bs more some sure)
+
+-- a character
+pub read_char : (bs : List ℕ) (c size : ℕ) → 0 < length bs → Some c ≡ (decoded bs).char → size ≡ (decoded bs).size → IsFront bs c size
+read_char bs c size some char same = read_front bs (Some c) size some char same (λ none. absurd (let e = char ∙ none in cc))
+
+-- and one that is none, with bytes behind it
+pub read_bad : (bs : List ℕ) (size : ℕ) → 0 < length bs → None ≡ (decoded bs).char → size ≡ (decoded bs).size → size ≢ length bs → IsFront bs replacement size
+read_bad bs size some char same other = read_front bs None size some char same (λ none. omega (arith, (piece-bounds bs some).2, same, other))
+
+-- ---- What is shown of characters, one run behind the other.
+
+pub written_none : (w : Writing) → written w [] ≡ []
+written_none w = grind arith
+
+pub written_on : (w : Writing) (xs ys : List ℕ) → written w (xs ++ ys) ≡ written w xs ++ written w ys
+written_on None xs ys = encoded_on xs ys
+written_on (Some char) xs ys = flat_map-append char xs ys
+
+pub shown_on : (w : Writing) (xs ys : List ℕ) → chars_as w (xs ++ ys) ≡ chars_as w xs ++ chars_as w ys
+shown_on w xs ys = ap (written w) (filter-append shown xs ys) ∙ written_on w (filter shown xs) (filter shown ys)
+
+pub shown_none : (w : Writing) → run_as w [] ≡ []
+shown_none w = ap (chars_as w) lossy_chars-nil ∙ written_none w
+
+-- what is shown of a run, of which some was read
+pub shown_read : (w : Writing) (run chars rest : List ℕ) → IsRead run chars rest → run_as w run ≡ chars_as w chars ++ run_as w rest
+shown_read w run chars rest h = ap (chars_as w) (read_all run chars rest h) ∙ shown_on w chars (lossy_chars rest)
+
+pub shown_empty : (w : Writing) (run : List ℕ) → length run ≡ 0 → run_as w run ≡ []
+shown_empty w [] none = shown_none w
+shown_empty w (b ∷ run) none = absurd (omega (arith, none))
+
+-- ---- The bytes of plain text.
+
+pub one_char : (c : ℕ) → IsShown c → AllByRecursion IsOther (encode_utf8 c)
+unfolding encode_utf8
+one_char c h = grind (arith, nat_tests)
+
+pub all_both : {T : Type 0} (P : T → Type 0) (xs ys : List T) → AllByRecursion P xs → AllByRecursion P ys → AllByRecursion P (xs ++ ys)
+all_both P [] ys h k = k
+all_both P (x ∷ xs) ys h k = (h.0, all_both P xs ys h.1 k)
+
+pub all_parts : {T : Type 0} (P : T → Type 0) (xs ys : List T) → AllByRecursion P (xs ++ ys) → AllByRecursion P xs × AllByRecursion P ys
+all_parts P [] ys h = (tt, h)
+all_parts P (x ∷ xs) ys h = let more = all_parts P xs ys h.1 in ((h.0, more.0), more.1)
+
+pub all_weaker : {T : Type 0} (P Q : T → Type 0) → ((t : T) → P t → Q t) → (xs : List T) → AllByRecursion P xs → AllByRecursion Q xs
+all_weaker P Q f [] h = tt
+all_weaker P Q f (x ∷ xs) h = (f x h.0, all_weaker P Q f xs h.1)
+
+chars : (cs : List ℕ) → AllByRecursion IsShown cs → AllByRecursion IsOther (encode_utf8_all cs)
+chars [] h = tt
+chars (c ∷ cs) h = all_both IsOther (encode_utf8 c) (encode_utf8_all cs) (one_char c h.0) (chars cs h.1)
+
+pub plain_bytes : (text : List ℕ) → IsPlain text → AllByRecursion IsOther text
+plain_bytes text (cs, scalars, all, e) = subst (AllByRecursion IsOther) (sym e) (chars cs all)
+
+pub no_escape : (text : List ℕ) → IsPlain text → All IsOther text
+no_escape text p = All-from_recursion IsOther text (plain_bytes text p)
+
+-- ---- What is shown is plain.
 
 char_scalar : (o : Option ℕ) → ((c : ℕ) → o ≡ Some c → IsScalar c) → all_scalars (or_replacement o ∷ []) ≡ true
 char_scalar None h = refl
@@ -72,20 +201,17 @@ module _ {S : Type 0} where
     where
       by : (k : Kind) → IsStep {S = S} drops k s run p.bytes first mid next
           → cond (is_text k) (stripped (run ++ p.bytes) (ps ++ qs)) (shown_text run ++ stripped [] (ps ++ qs)) ≡ first ++ stripped next (ps ++ qs)
-      by kind.Text (a, b, c) = rw (a, c) refl
-      by kind.Csi (own, none, a, b) = rw (a, b, none, append-nil (shown_text run)) refl
-      by kind.Esc (a, b, c) = rw (a, c) refl
-      by kind.Str (own, given, a, b) = rw (a, b, none_given p.bytes s mid own given, append-nil (shown_text run)) refl
-      by kind.Other (a, b, c) = rw (a, c) refl
+      by Kind.Csi (own, none, a, b) = rw (a, b, none, append-nil (shown_text run)) refl
+      by Kind.Str (own, given, a, b) = rw (a, b, none_given p.bytes s mid own given, append-nil (shown_text run)) refl
+      by _ h = rw (h.0, h.2) refl
 
   left_stripped : (ps : List Part) (s after : S) (run text last : List ℕ) → AreSteps {S = S} drops s run ps text after last → text ++ shown_text last ≡ stripped run ps
   left_stripped ps s after run text last h = sym (steps_stripped ps [] s after run text last h) ∙ ap (stripped run) (append-nil ps)
 
   pub strips : (limit : ℕ) (s : S) (bytes text : List ℕ) → Ends {S = S} drops ends_bare limit s bytes text → Strips limit bytes text
   strips limit s bytes text e =
-      let c = e.cleans in
-      let bare : text ≡ e.before = e.all ∙ ap (λ t. e.before ++ t) e.closes ∙ append-nil e.before in
-      record { parts = c.parts; whole = c.whole; left = bare ∙ c.all ∙ left_stripped (with_titles false c.parts) s e.after [] c.before c.run c.steps }
+      let bare : text ≡ e.before ++ shown_text e.run = e.all ∙ (rw (e.closes, append-nil (shown_text e.run)) refl) in
+      record { parts = e.parts; whole = e.whole; left = bare ∙ left_stripped (with_titles false e.parts) s e.after [] e.before e.run e.steps }
 
 pub strips_plain : (limit : ℕ) (bytes text : List ℕ) → Strips limit bytes text → IsPlain text
 strips_plain limit bytes text s = subst IsPlain (sym s.left) (plain_stripped (with_titles false s.parts) [])

@@ -1,15 +1,9 @@
 -- The place of the palette that is found stays among the places.
-use Rattle.std.proofs.{Common.◌≡◌, Common.◌<◌, Common.◌≤◌, Common.◌+◌, Common.◌⊎◌, Common.ℕ, Common.zero, Common.suc, Common.false, Common.refl, Common.subst}
-use Rattle.std.proofs.{Common.arith, lemmas.Bool.cond_both, lemmas.Bool.Decides.nat_tests}
-use Rattle.csicodec_names.specs.{declared.color.ColorSpec.ColorSpec, declared.color.SrgbaTuple.SrgbaTuple}
-use Rattle.csicodec_base.specs.declared.sgr.Sgr.{Sgr}
-use Rattle.csicodec_actions.specs.Ranges.{ColorInRange}
-use Rattle.csicodec.specs.Exact.{ReadsAlone}
-use Rattle.csicodec.proofs.{Alone.canonical-alone, RoundTrip.alone-only}
-use Rattle.csicodec_clean.specs.Palette.{IsNearest, distance, nearer, nearest_among, nearest_of_16, nearest_of_256, palette, reduced, reduced_color}
-use Rattle.csicodec_clean.specs.{declared.colors.Depth.Depth, Styled.hides}
+use Rattle.std.proofs.Common.{◌≡◌, ◌<◌, ◌≤◌, ◌+◌, ◌-◌, ◌⊎◌, ℕ, zero, suc, false, refl, subst, arith}
+use Rattle.csicodec_clean.proofs.Common.{cond_both, nat_tests, ColorSpec, SrgbaTuple, ColorInRange, ReadsAlone, canonical-alone, alone-only, distance, palette, reduced, Depth, hides}
 use Rattle.csicodec_clean.proofs.Coded.{style_range}
-use Rattle.csicodec_base.specs.declared.sgr.Sgr.TheVariants as sgr
+use Rattle.csicodec_base.specs.declared.sgr.Sgr.{Sgr}
+use Rattle.csicodec_clean.specs.Palette.{IsNearest, nearer, nearest_among, nearest_of_16, nearest_of_256, reduced_color}
 use Rattle.csicodec_actions.specs.Actions as action
 
 -- ---- a place more
@@ -23,9 +17,13 @@ unfolding nearest_among
 one_on c i j n = refl
 
 -- the same where the next place is nearer, and where it isn't
-pub step_on : (c : SrgbaTuple) (i j k n m least here best : ℕ) → least ≡ distance c (palette i) → here ≡ distance c (palette j)
-    → ((here < least) × (best ≡ j)) ⊎ ((least ≤ here) × (best ≡ i)) → n ≡ suc m → k ≡ suc j → nearest_among c best k m ≡ nearest_among c i j n
-step_on c i j k n m least here best e f h a b = grind (arith, nat_tests, one_on)
+pub step_on : (c : SrgbaTuple) (i place last least here best : ℕ) → place < last → least ≡ distance c (palette i) → here ≡ distance c (palette (place + 1))
+    → ((here < least) × (best ≡ place + 1)) ⊎ ((least ≤ here) × (best ≡ i))
+    → nearest_among c best (place + 1 + 1) (last - (place + 1)) ≡ nearest_among c i (place + 1) (last - place)
+step_on c i place last least here best below e f h =
+    let left : last - place ≡ suc (last - (place + 1)) = omega arith in
+    let next : place + 1 + 1 ≡ suc (place + 1) = omega arith in
+    rw (left, next) (grind (arith, nat_tests, one_on))
 
 pub none_more : (c : SrgbaTuple) (i j n : ℕ) → n ≡ 0 → nearest_among c i j n ≡ i
 none_more c i j n e = rw e (none_left c i j)
@@ -81,7 +79,7 @@ pub reduced_hides : (d : Depth) (s : Sgr) → hides (reduced d s) ≡ hides s
 reduced_hides d s = grind arith
 
 pub reduced_alone : (d : Depth) (s : Sgr) → ReadsAlone (action.Sgr s) false → ReadsAlone (action.Sgr (reduced d s)) false
-reduced_alone d (sgr.Foreground c) h = alone-only false _ (canonical-alone (action.Sgr (sgr.Foreground (reduced_color d c))) false (in_range d c (style_range (sgr.Foreground c) h)) tt)
-reduced_alone d (sgr.Background c) h = alone-only false _ (canonical-alone (action.Sgr (sgr.Background (reduced_color d c))) false (in_range d c (style_range (sgr.Background c) h)) tt)
-reduced_alone d (sgr.UnderlineColor c) h = alone-only false _ (canonical-alone (action.Sgr (sgr.UnderlineColor (reduced_color d c))) false (in_range d c (style_range (sgr.UnderlineColor c) h)) tt)
+reduced_alone d (Sgr.Foreground c) h = alone-only false _ (canonical-alone (action.Sgr (Sgr.Foreground (reduced_color d c))) false (in_range d c (style_range (Sgr.Foreground c) h)) tt)
+reduced_alone d (Sgr.Background c) h = alone-only false _ (canonical-alone (action.Sgr (Sgr.Background (reduced_color d c))) false (in_range d c (style_range (Sgr.Background c) h)) tt)
+reduced_alone d (Sgr.UnderlineColor c) h = alone-only false _ (canonical-alone (action.Sgr (Sgr.UnderlineColor (reduced_color d c))) false (in_range d c (style_range (Sgr.UnderlineColor c) h)) tt)
 reduced_alone d s h = h

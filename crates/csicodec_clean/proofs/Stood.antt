@@ -1,31 +1,22 @@
 -- Each link that passes stood in the stream.
-use Rattle.std.proofs.Common.{◌≡◌, ◌⊎◌, ℕ, Bool, true, false, List, [], ◌∷◌, ◌++◌, length-append, refl, sym, ap, subst, ◌∙◌, inl, inr, append_assoc, append-nil, arith}
-use Rattle.std.proofs.{lemmas.Bool.both_ways, lemmas.Bool.Decides.nat_tests, lemmas.Grind.flat_map-append, lemmas.List.Elements.Contains-append_right}
-use Rattle.std.specs.{Prelude.◌==◌, Prelude.filter, Prelude.if◌then◌else◌, List.AllByRecursion, List.Contains, List.flat_map}
-use Rattle.bstr.specs.Utf8.{lossy_chars}
-use Rattle.csicodec_spans.specs.{declared.table.Kind.Kind, declared.table.Mode.Mode, Parts.Part, Parts.part, Parts.bytes_of, Parts.AreFirstParts}
-use Rattle.csicodec_spans.specs.{Parts.IsFirstPart, Parts.left_over}
-use Rattle.csicodec_spans.proofs.{Fronts.IsPiece, Fronts.in_string, Fronts.is_str, Missed.fit}
-use Rattle.csicodec_clean.specs.Links.{Address, Begun, IsAdmitted, IsWithin, Spells, Stood, StoodIn, admitted, all_behind, begun, behind, behind_at, ends_at, link_body, links_in, opened, start}
-use Rattle.csicodec_clean.specs.Styled.{Item, Link, Shown, Style, Leaves, begun_behind, run_behind, items_behind, AreLeft, link_in, links_of, StylesIn}
-use Rattle.csicodec_clean.specs.{declared.links.LinkState.LinkState, declared.styles.Passing.Passing, Cleaned.longest, Shown.shown, Titles.read_as}
-use Rattle.csicodec_clean.specs.{Titles.title_behind, Titles.with_titles}
-use Rattle.csicodec_clean.proofs.{Linked.behind_on, Linked.links_none, Linked.links_on, Linked.passes, PlainBytes.all_both, Styled.each_in, Styled.none_in}
+use Rattle.std.proofs.Common.{◌≡◌, ◌⊎◌, ℕ, Bool, true, false, List, [], ◌∷◌, ◌++◌, length-append, refl, sym, ap, subst, ◌∙◌, inl, inr, append_assoc, append-nil, arith, ◌==◌, filter, if◌then◌else◌, Contains, flat_map}
+use Rattle.std.proofs.{lemmas.Bool.both_ways, lemmas.List.Elements.Contains-append_right}
+use Rattle.csicodec_clean.proofs.Common.{nat_tests, flat_map-append, AllByRecursion, lossy_chars, Kind, Mode, Part, part, bytes_of, AreFirstParts, IsFirstPart, left_over, fit, Address, Begun, IsWithin, admitted, all_behind, begun, behind_at, ends_at, link_body, links_in, start, Item, Link, Shown, Style, Leaves, begun_behind, run_behind, items_behind, AreLeft, link_in, links_of, StylesIn, LinkState, Passing, longest, shown, read_as, title_behind, with_titles}
+use Rattle.csicodec_clean.proofs.{Linked.behind_on, Linked.links_none, Linked.links_on, Linked.passes, Plain.all_both, Styled.each_in, Styled.none_in}
 use Rattle.csicodec_clean.proofs.{Styled.part_links, Titles.whole_each}
-use Rattle.csicodec_spans.specs.declared.table.Kind.TheVariants as kind
-use Rattle.csicodec_spans.specs.declared.table.Mode.TheVariants as mode
-use Rattle.csicodec_clean.specs.declared.links.LinkState.TheVariants as place
+use Rattle.csicodec_spans.proofs.Agrees.{IsPiece, in_string, is_str}
+use Rattle.csicodec_clean.specs.Links.{IsAdmitted, Spells, Stood, StoodIn, behind, opened}
 
 -- ---- what of a link has been read
 
 abbrev read_of : LinkState → List ℕ → List ℕ → List ℕ
-read_of place.Outside params url = []
-read_of place.Escape params url = 27 ∷ []
-read_of place.Opened params url = 27 ∷ 93 ∷ []
-read_of place.Eight params url = 27 ∷ 93 ∷ 56 ∷ []
-read_of place.Params params url = 27 ∷ 93 ∷ 56 ∷ 59 ∷ params
-read_of place.Url params url = 27 ∷ 93 ∷ 56 ∷ 59 ∷ (params ++ 59 ∷ url)
-read_of place.Ending params url = 27 ∷ 93 ∷ 56 ∷ 59 ∷ ((params ++ 59 ∷ url) ++ 27 ∷ [])
+read_of LinkState.Outside params url = []
+read_of LinkState.Escape params url = 27 ∷ []
+read_of LinkState.Opened params url = 27 ∷ 93 ∷ []
+read_of LinkState.Eight params url = 27 ∷ 93 ∷ 56 ∷ []
+read_of LinkState.Params params url = 27 ∷ 93 ∷ 56 ∷ 59 ∷ params
+read_of LinkState.Url params url = 27 ∷ 93 ∷ 56 ∷ 59 ∷ (params ++ 59 ∷ url)
+read_of LinkState.Ending params url = 27 ∷ 93 ∷ 56 ∷ 59 ∷ ((params ++ 59 ∷ url) ++ 27 ∷ [])
 
 abbrev read : Begun → List ℕ
 read b = read_of b.place b.address.params b.address.url
@@ -41,8 +32,8 @@ over_at p params url c e = grind (arith, nat_tests, append_assoc {A = ℕ})
 
 -- behind whole pieces it doesn't end in ESC
 abbrev IsAtRest : LinkState → Type 0
-IsAtRest place.Escape = ⊥
-IsAtRest place.Ending = ⊥
+IsAtRest LinkState.Escape = ⊥
+IsAtRest LinkState.Ending = ⊥
 IsAtRest _ = Unit {0}
 
 -- one byte more, or nothing any more
@@ -75,8 +66,8 @@ escape_at : (params url : List ℕ) (c : ℕ) → EndsWith (27 ∷ c ∷ []) (be
 escape_at params url c = ends_by (27 ∷ []) c (begun (opened c) params url) (grind (arith, nat_tests))
 
 byte_at : (p : LinkState) (params url : List ℕ) (c : ℕ) → EndsWith (read_of p params url ++ c ∷ []) (behind_at p params url c)
-byte_at place.Escape params url c = escape_at params url c
-byte_at place.Ending params url c =
+byte_at LinkState.Escape params url c = escape_at params url c
+byte_at LinkState.Ending params url c =
     let front = 27 ∷ 93 ∷ 56 ∷ 59 ∷ (params ++ 59 ∷ url) in
     let (before, e) = escape_at params url c in
     (front ++ before, append_assoc front (27 ∷ []) (c ∷ []) ∙ ap (λ (t : List ℕ). front ++ t) e ∙ sym (append_assoc front before (read (begun (opened c) params url))))
@@ -130,7 +121,7 @@ over_two P p params url c rest f = grind (arith, nat_tests)
 -- ---- part by part
 
 abbrev IsStr : Part → Type 0
-IsStr p = p.kind ≡ kind.Str
+IsStr p = p.kind ≡ Kind.Str
 
 -- what has been read of a link are the bytes of the last parts
 record Open (done : List Part) (b : Begun) : Type 0 where
@@ -140,33 +131,32 @@ record Open (done : List Part) (b : Begun) : Type 0 where
   all : AllByRecursion IsStr own
   joined : flat_map bytes_of own ≡ read b
 
-joined_more : (own : List Part) (bytes old : List ℕ) → flat_map bytes_of own ≡ old → flat_map bytes_of (own ++ part kind.Str bytes ∷ []) ≡ old ++ bytes
+joined_more : (own : List Part) (bytes old : List ℕ) → flat_map bytes_of own ≡ old → flat_map bytes_of (own ++ part Kind.Str bytes ∷ []) ≡ old ++ bytes
 joined_more own bytes old e =
-    flat_map-append bytes_of own (part kind.Str bytes ∷ []) ∙ ap (λ (t : List ℕ). flat_map bytes_of own ++ t) (append-nil bytes) ∙ ap (λ (t : List ℕ). t ++ bytes) e
+    flat_map-append bytes_of own (part Kind.Str bytes ∷ []) ∙ ap (λ (t : List ℕ). flat_map bytes_of own ++ t) (append-nil bytes) ∙ ap (λ (t : List ℕ). t ++ bytes) e
 
 open_none : (done : List Part) (b : Begun) → read b ≡ [] → Open done b
 open_none done b e = record { before = done; own = []; whole = sym (append-nil done); all = tt; joined = sym e }
 
-open_on : (done : List Part) (b after : Begun) (bytes : List ℕ) → Open done b → (read after ≡ read b ++ bytes) ⊎ (read after ≡ []) → Open (done ++ part kind.Str bytes ∷ []) after
+open_on : (done : List Part) (b after : Begun) (bytes : List ℕ) → Open done b → (read after ≡ read b ++ bytes) ⊎ (read after ≡ []) → Open (done ++ part Kind.Str bytes ∷ []) after
 open_on done b after bytes o (inl e) = record {
   before = o.before;
-  own = o.own ++ part kind.Str bytes ∷ [];
-  whole = ap (λ (t : List Part). t ++ part kind.Str bytes ∷ []) o.whole ∙ append_assoc o.before o.own (part kind.Str bytes ∷ []);
-  all = all_both IsStr o.own (part kind.Str bytes ∷ []) o.all (refl, tt);
+  own = o.own ++ part Kind.Str bytes ∷ [];
+  whole = ap (λ (t : List Part). t ++ part Kind.Str bytes ∷ []) o.whole ∙ append_assoc o.before o.own (part Kind.Str bytes ∷ []);
+  all = all_both IsStr o.own (part Kind.Str bytes ∷ []) o.all (refl, tt);
   joined = joined_more o.own bytes (read b) o.joined ∙ sym e;
 }
-open_on done b after bytes o (inr e) = open_none (done ++ part kind.Str bytes ∷ []) after e
+open_on done b after bytes o (inr e) = open_none (done ++ part Kind.Str bytes ∷ []) after e
 
 -- with the part that ends it, it is a control string
-stood_part : (done later whole : List Part) (b : Begun) (bytes : List ℕ) → whole ≡ done ++ (part kind.Str bytes ∷ later) → Open done b → Spells (read b ++ bytes) b.address → StoodIn whole b.address
+stood_part : (done later whole : List Part) (b : Begun) (bytes : List ℕ) → whole ≡ done ++ (part Kind.Str bytes ∷ later) → Open done b → Spells (read b ++ bytes) b.address → StoodIn whole b.address
 stood_part done later whole b bytes split o h = record {
   before = o.before;
-  own = o.own ++ part kind.Str bytes ∷ [];
+  own = o.own ++ part Kind.Str bytes ∷ [];
   rest = later;
-  whole = split ∙ ap (λ (t : List Part). t ++ part kind.Str bytes ∷ later) o.whole ∙ append_assoc o.before o.own (part kind.Str bytes ∷ later)
-      ∙ ap (λ (t : List Part). o.before ++ t) (sym (append_assoc o.own (part kind.Str bytes ∷ []) later));
+  whole = rw (split, o.whole) (simp append_assoc);
   text = read b ++ bytes;
-  string = record { some = omega (arith, length-append o.own (part kind.Str bytes ∷ [])); all = all_both IsStr o.own (part kind.Str bytes ∷ []) o.all (refl, tt); joined = joined_more o.own bytes (read b) o.joined };
+  string = record { some = omega (arith, length-append o.own (part Kind.Str bytes ∷ [])); all = all_both IsStr o.own (part Kind.Str bytes ∷ []) o.all (refl, tt); joined = joined_more o.own bytes (read b) o.joined };
   link = h;
 }
 
@@ -177,9 +167,9 @@ record Held (m : Mode) (done : List Part) (b : Begun) : Type 0 where
 
 record After (whole done : List Part) (b : Begun) (bytes : List ℕ) : Type 0 where
   links : AllByRecursion (IsAdmitted (StoodIn whole)) (links_in true b bytes)
-  opens : Open (done ++ part kind.Str bytes ∷ []) (all_behind true b bytes)
+  opens : Open (done ++ part Kind.Str bytes ∷ []) (all_behind true b bytes)
 
-after_one : (whole done later : List Part) (b : Begun) (c : ℕ) → whole ≡ done ++ (part kind.Str (c ∷ []) ∷ later) → IsAtRest b.place → Open done b → (c == 27) ≡ false → After whole done b (c ∷ [])
+after_one : (whole done later : List Part) (b : Begun) (c : ℕ) → whole ≡ done ++ (part Kind.Str (c ∷ []) ∷ later) → IsAtRest b.place → Open done b → (c == 27) ≡ false → After whole done b (c ∷ [])
 after_one whole done later b c split rest o other =
     let on = on_at b.place b.address.params b.address.url c rest other in
     record {
@@ -187,29 +177,29 @@ after_one whole done later b c split rest o other =
       opens = open_on done b (behind b c) (c ∷ []) o on.1;
     }
 
-after_two : (whole done later : List Part) (m : Mode) (b : Begun) (c : ℕ) → whole ≡ done ++ (part kind.Str (27 ∷ c ∷ []) ∷ later) → Held m done b
+after_two : (whole done later : List Part) (m : Mode) (b : Begun) (c : ℕ) → whole ≡ done ++ (part Kind.Str (27 ∷ c ∷ []) ∷ later) → Held m done b
     → (in_string m ≡ false → (c == 92) ≡ false) → After whole done b (27 ∷ c ∷ [])
 after_two whole done later m b c split h other =
     let new = opened_rest b.address.params b.address.url c in
     let same = anew_at b.place b.address.params b.address.url c h.at_rest in
     record {
       links = over_two (StoodIn whole) b.place b.address.params b.address.url c h.at_rest (over h.open_or_shut);
-      opens = subst (Open (done ++ part kind.Str (27 ∷ c ∷ []) ∷ [])) (sym same) (open_on done start (begun (opened c) b.address.params b.address.url) (27 ∷ c ∷ []) (open_none done start refl) new.1);
+      opens = subst (Open (done ++ part Kind.Str (27 ∷ c ∷ []) ∷ [])) (sym same) (open_on done start (begun (opened c) b.address.params b.address.url) (27 ∷ c ∷ []) (open_none done start refl) new.1);
     }
   where
     over : Open done b ⊎ (in_string m ≡ false) → (c == 92) ≡ true → Spells (read b ++ 27 ∷ c ∷ []) b.address → StoodIn whole b.address
     over (inl o) e s = stood_part done later whole b (27 ∷ c ∷ []) split o s
     over (inr none) e s = absurd (both_ways (c == 92) (other none) e)
 
-after_piece : (whole done later : List Part) (m : Mode) (b : Begun) (bytes : List ℕ) → whole ≡ done ++ (part kind.Str bytes ∷ later) → Held m done b → IsPiece m bytes → After whole done b bytes
+after_piece : (whole done later : List Part) (m : Mode) (b : Begun) (bytes : List ℕ) → whole ≡ done ++ (part Kind.Str bytes ∷ later) → Held m done b → IsPiece m bytes → After whole done b bytes
 after_piece whole done later m b bytes split h (inl (c, e, other, string)) =
-    subst (After whole done b) (sym e) (after_one whole done later b c (split ∙ ap (λ (t : List ℕ). done ++ (part kind.Str t ∷ later)) e) h.at_rest (is_open_there h.open_or_shut) other)
+    subst (After whole done b) (sym e) (after_one whole done later b c (split ∙ ap (λ (t : List ℕ). done ++ (part Kind.Str t ∷ later)) e) h.at_rest (is_open_there h.open_or_shut) other)
   where
     is_open_there : Open done b ⊎ (in_string m ≡ false) → Open done b
     is_open_there (inl o) = o
     is_open_there (inr none) = absurd (both_ways (in_string m) none string)
 after_piece whole done later m b bytes split h (inr (c, e, other)) =
-    subst (After whole done b) (sym e) (after_two whole done later m b c (split ∙ ap (λ (t : List ℕ). done ++ (part kind.Str t ∷ later)) e) h other)
+    subst (After whole done b) (sym e) (after_two whole done later m b c (split ∙ ap (λ (t : List ℕ). done ++ (part Kind.Str t ∷ later)) e) h other)
 
 -- ---- the whole stream
 
@@ -224,10 +214,10 @@ strings ps = flat_map string_of ps
 one_left : (d : Passing) (b : Begun) (k : Kind) (t : Bool) (run bytes rest : List ℕ) (own others : List Item) → Leaves d b (read_as k t) bytes own
     → links_of others ≡ links_in d.links (begun_behind d b (read_as k t) bytes) rest
     → links_of (items_behind (read_as k t) run ++ (own ++ others)) ≡ links_in d.links b (string_of (part k bytes) ++ rest)
-one_left d b kind.Text true run bytes rest own others l e = rw (part_links kind.Other run own others, l, e) refl
-one_left d b kind.Text false run bytes rest own others l e = rw (l, e) refl
-one_left d b kind.Csi t run bytes rest own others (actions, is, l) e = rw (part_links kind.Csi run own others, l, none_in link_in Style (λ s. refl) _, e) refl
-one_left d b kind.Str t run bytes rest own others l e = rw (part_links kind.Str run own others, l, each_in link_in Link (λ a. refl) _, e) (sym (links_on d.links bytes rest b))
+one_left d b Kind.Text true run bytes rest own others l e = rw (part_links Kind.Other run own others, l, e) refl
+one_left d b Kind.Text false run bytes rest own others l e = rw (l, e) refl
+one_left d b Kind.Csi t run bytes rest own others (actions, is, l) e = rw (part_links Kind.Csi run own others, l, none_in link_in Style (λ s. refl) _, e) refl
+one_left d b Kind.Str t run bytes rest own others l e = rw (part_links Kind.Str run own others, l, each_in link_in Link (λ a. refl) _, e) (sym (links_on d.links bytes rest b))
 one_left d b k t run bytes rest own others l e = rw (part_links k run own others, l, e) refl
 
 links_left : (d : Passing) (b : Begun) (t : Bool) (run : List ℕ) (ps : List Part) (items : List Item) → AreLeft d b run (with_titles t ps) items → links_of items ≡ links_in d.links b (strings ps)
@@ -241,13 +231,13 @@ one_part : (whole done later : List Part) (k : Kind) (text more : List ℕ) (m a
     → Held m done b → whole ≡ done ++ part k text ∷ later
     → (Held a (done ++ part k text ∷ []) (all_behind true b (string_of (part k text))) → AllByRecursion (IsAdmitted (StoodIn whole)) (links_in true (all_behind true b (string_of (part k text))) more))
     → AllByRecursion (IsAdmitted (StoodIn whole)) (links_in true b (string_of (part k text) ++ more))
-one_part whole done later kind.Str text more m a bytes rest b first h split f =
-    let fits = fit longest m bytes kind.Str text rest a first in
+one_part whole done later Kind.Str text more m a bytes rest b first h split f =
+    let fits = fit longest m bytes Kind.Str text rest a first in
     let now = after_piece whole done later m b text split h fits in
     rw (links_on true text more b)
     (all_both (IsAdmitted (StoodIn whole)) (links_in true b text) (links_in true (all_behind true b text) more) now.links (f record { at_rest = rest_behind m b text fits h.at_rest; open_or_shut = inl now.opens }))
-one_part whole done later kind.Text text more m a bytes rest b first h split f = f record { at_rest = h.at_rest; open_or_shut = inr (fit longest m bytes kind.Text text rest a first).0 }
-one_part whole done later kind.Esc text more m a bytes rest b first h split f = f record { at_rest = h.at_rest; open_or_shut = inr (fit longest m bytes kind.Esc text rest a first).0 }
+one_part whole done later Kind.Text text more m a bytes rest b first h split f = f record { at_rest = h.at_rest; open_or_shut = inr (fit longest m bytes Kind.Text text rest a first).0 }
+one_part whole done later Kind.Esc text more m a bytes rest b first h split f = f record { at_rest = h.at_rest; open_or_shut = inr (fit longest m bytes Kind.Esc text rest a first).0 }
 one_part whole done later k text more m a bytes rest b first h split f = f record { at_rest = h.at_rest; open_or_shut = inr (fit longest m bytes k text rest a first) }
 
 all_parts : (whole done sure : List Part) (m a : Mode) (bytes rest : List ℕ) (b : Begun) → AreFirstParts longest m bytes sure rest a → Held m done b
@@ -267,18 +257,18 @@ in_stream d bytes text s = rw (links_left d start false [] s.parts s.items s.lef
     by true =
         let w = s.whole in
         subst (λ (ps : List Part). AllByRecursion (IsAdmitted (StoodIn s.parts)) (links_in true start (strings ps))) (sym w.whole)
-        (all_parts s.parts [] w.sure mode.Text w.after bytes w.rest start w.first (record { at_rest = tt; open_or_shut = inr refl }) w.whole)
+        (all_parts s.parts [] w.sure Mode.Text w.after bytes w.rest start w.first (record { at_rest = tt; open_or_shut = inr refl }) w.whole)
 
 -- ---- and each that stood there and may pass does
 
 abbrev IsString : Part → Type 0
-IsString p = p.kind ≡ kind.Str → (m : Mode) × IsPiece m p.bytes
+IsString p = p.kind ≡ Kind.Str → (m : Mode) × IsPiece m p.bytes
 
 string_first : (m : Mode) (bytes rest : List ℕ) (a : Mode) (p : Part) → IsFirstPart longest m bytes p rest a → IsString p
-string_first m bytes rest a p h e = (m, fit longest m bytes kind.Str p.bytes rest a (subst (λ (k : Kind). IsFirstPart longest m bytes (part k p.bytes) rest a) e h))
+string_first m bytes rest a p h e = (m, fit longest m bytes Kind.Str p.bytes rest a (subst (λ (k : Kind). IsFirstPart longest m bytes (part k p.bytes) rest a) e h))
 
 part_rests : (b : Begun) (k : Kind) (bytes : List ℕ) → IsString (part k bytes) → IsAtRest b.place → IsAtRest (all_behind true b (string_of (part k bytes))).place
-part_rests b kind.Str bytes f rest = let (m, fits) = f refl in rest_behind m b bytes fits rest
+part_rests b Kind.Str bytes f rest = let (m, fits) = f refl in rest_behind m b bytes fits rest
 part_rests b _ bytes f rest = rest
 
 parts_rest : (b : Begun) (ps more : List Part) → AllByRecursion IsString (ps ++ more) → IsAtRest b.place → IsAtRest (all_behind true b (strings ps)).place
@@ -291,11 +281,11 @@ strings_own [] h = refl
 strings_own (p ∷ ps) h = rw (h.0, strings_own ps h.1) refl
 
 -- `ESC ]` begins anew, whatever was read
-opens_any : (p : LinkState) (params url bytes : List ℕ) → IsAtRest p → links_in true (begun p params url) (27 ∷ 93 ∷ bytes) ≡ links_in true (begun place.Opened params url) bytes
+opens_any : (p : LinkState) (params url bytes : List ℕ) → IsAtRest p → links_in true (begun p params url) (27 ∷ 93 ∷ bytes) ≡ links_in true (begun LinkState.Opened params url) bytes
 opens_any p params url bytes rest = grind arith
 
 passes_any : (b : Begun) (a : Address) (end : List ℕ) → IsAtRest b.place → IsWithin a
-    → links_in true (begun place.Url a.params a.url) end ≡ admitted a ∷ [] → links_in true b (27 ∷ 93 ∷ (link_body a ++ end)) ≡ admitted a ∷ []
+    → links_in true (begun LinkState.Url a.params a.url) end ≡ admitted a ∷ [] → links_in true b (27 ∷ 93 ∷ (link_body a ++ end)) ≡ admitted a ∷ []
 passes_any b a end rest h over =
     opens_any b.place b.address.params b.address.url (link_body a ++ end) rest ∙ passes a b.address.params b.address.url end h over
 

@@ -1,10 +1,15 @@
--- A run of a transform, by what its text is.
-use Rattle.std.proofs.Common.{ℕ, ◌≡◌, Option, IfSome, List, [], ◌++◌, ◌∙◌, append_assoc, append-nil, inl, inr, subst, sym}
-use Rattle.std.proofs.lemmas.Result.{on_err_weaker, on_ok_weaker}
-use Rattle.std.specs.{Prelude.Result, Prelude.OnOk, Prelude.OnErr, Io.KnownBytes.Appends, Io.KnownBytes.Consumes, Io.KnownBytes.IsAtEnd}
-use Rattle.csicodec_transform.specs.Transform.{Begins, EndsOf, PassesOf, Sends}
+-- A run of a transform, by what its text is, and a stream whose state the caller keeps, step by step.
+use Rattle.std.proofs.Common.{ℕ, ◌≡◌, Option, IfSome, List, [], ◌++◌, ◌∙◌, append_assoc, append-nil, inl, inr, subst, sym, Result, OnOk, OnErr, ◌≤◌, Bool, false, cond, ◌∷◌, length, length-append, take, drop, ◌+◌, ◌-◌, refl, ap, take-append-drop, arith, length-take-le}
+use Rattle.std.proofs.lemmas.List.{take-append-le}
+use Rattle.csicodec_clean.proofs.Common.{on_err_weaker, on_ok_weaker, Consumes, PassesOf, Sends, IsFrontOf, StreamsOne, drop-append-le, take-append_seam, drop-append_seam, concat, text, Kind, Part, IsUnsure, rest_is, RuleOf, AreGiven, AreSteps, IsStep, Strips, drops, ends_bare, longest, Depth, with_titles, AreTaken, GoesBy, Takes, state_of, Keeping, StylesIn, resets, keeps}
+use Rattle.csicodec_clean.proofs.{Chunks.any_chunks, Chunks.unsure_few, Plain.strips, Plain.read_none, Styled.styles}
+use Rattle.std.specs.Io.KnownBytes.{Appends, IsAtEnd}
+use Rattle.csicodec_transform.specs.Transform.{Begins, EndsOf}
 use Rattle.csicodec_transform.proofs.Sent.{whole_front}
-use Rattle.csicodec_clean.specs.{Stream.IsFrontOf, Streams.Streams, Streams.StreamsOne}
+use Rattle.csicodec_clean.specs.{Streams.Streams, declared.step.Pause.Pause, declared.whole.Dropped.Dropped, Styled.resumed, Styled.without_links}
+use Rattle.csicodec_clean.specs.{Steps.AreStepped, Steps.Resumes, Steps.Steps, Steps.bare, Steps.beginning, Steps.between, Steps.ending}
+use Rattle.csicodec_base.specs.declared.sgr.Sgr.{Sgr}
+use Rattle.csicodec_actions.specs.Actions as action
 
 module _ (Sure Whole Out : List ℕ → List ℕ → Type 0) (Safe : List ℕ → Type 0) where
   abbrev pub Ran : {A E : Type 0} → Result A E → Option (List ℕ) → Option (List ℕ) → Option (List ℕ) → Option (List ℕ) → Type 0
@@ -73,3 +78,91 @@ module _ {S : Type 0} (P : PassesOf S) (E : EndsOf S) (s : S) (Whole Out : List 
     one_ran one front result i k w y = streams_one (Sends P s) Whole Out Safe result i k w y texts
         (whole_front (Sends P s) Whole (IsFrontOf Out) (λ bytes sent unsent h all o. (let (more, e) = h all o in (unsent ++ more, e ∙ append_assoc sent unsent more)))
         (λ read more text (last, passed). front read more text last passed) (λ bytes text h all o. ([], one bytes all text o (whole bytes text h) ∙ sym (append-nil text))))
+
+-- ---- A stream whose state the caller keeps, step by step.
+
+module _ {S : Type 0} (Gives : RuleOf S) where
+  -- a step, by what goes behind the bytes that are held
+  resumes : (s t : S) (p q : Pause) (bytes text left rest : List ℕ) → q.held ≡ length left → IsUnsure longest q.mode rest
+      → GoesBy Gives longest (between s p bytes) text (state_of t q.mode q.titled rest left) → Resumes Gives s p bytes text t q (left ++ rest)
+  resumes s t p q bytes text left rest n unsure goes again more e low =
+      let now : take q.held (left ++ rest) ≡ left = rw n (take-append_seam left rest) in
+      let later : drop q.held (left ++ rest) ≡ rest = rw n (drop-append_seam left rest) in
+      record { unsure = rw later unsure; goes = rw (now, later) (rw (e, take-append-le p.held again more low, drop-append-le p.held again more low) at goes) }
+
+  pub stepped : (s t : S) (p q : Pause) (bytes text before left rest : List ℕ) (used : ℕ) → take p.held bytes ++ drop p.held bytes ≡ before ++ (left ++ rest)
+      → p.held ≤ length bytes → q.held ≡ length left → used ≡ length bytes - (length left + length rest) → (length (take p.held bytes) ≤ 3 → length left ≤ 3) → IsUnsure longest q.mode rest
+      → GoesBy Gives longest (between s p bytes) text (state_of t q.mode q.titled rest left) → Steps Gives s p bytes text t q (drop used bytes)
+  stepped s t p q bytes text before left rest used split fits n u few unsure goes =
+      let size : length (left ++ rest) ≡ length left + length rest = length-append left rest in
+      let whole : bytes ≡ before ++ (left ++ rest) = sym (take-append-drop p.held bytes) ∙ split in
+      let same : drop used bytes ≡ left ++ rest = ap (λ (i : ℕ). drop i bytes) (u ∙ ap (λ (i : ℕ). length bytes - i) (sym size)) ∙ rest_is bytes before (left ++ rest) whole in
+      let low = unsure_few q.mode rest unsure in
+      let first : length (take p.held bytes) ≡ p.held = length-take-le p.held bytes fits in
+      subst (λ (x : List ℕ). Steps Gives s p bytes text t q x) (sym same) (record {
+        takes = resumes s t p q bytes text left rest n unsure goes;
+        held = omega (arith, n, size);
+        few = λ three. omega (arith, n, few (omega (arith, three, first)));
+        short = omega (arith, low, n, size);
+      })
+
+  -- steps in turn are chunks in turn
+  pub stepped_taken : (rule : Bool → S) (p q : Pause) (again : List ℕ) (chunks : List (List ℕ)) (text rest : List ℕ) → p.held ≤ length again → AreStepped Gives rule p again chunks text q rest
+      → AreTaken (Takes Gives) (between (rule p.styled) p again) chunks text (between (rule q.styled) q rest)
+  stepped_taken rule p q again [] text rest low (none, same, e) = (none, ap (λ (x : Pause). between (rule x.styled) x rest) same ∙ ap (λ (x : List ℕ). between (rule p.styled) p x) e)
+  stepped_taken rule p q again (chunk ∷ chunks) text rest low (mid, left, first, others, step, e, more) =
+      (between (rule mid.styled) mid left, first, others, step.takes again chunk refl low, e, stepped_taken rule mid q left chunks others rest step.held more)
+
+-- ---- the styles that stay, without links
+
+-- nothing comes of a link
+same_behind : (bytes : List ℕ) (d : Depth) (t : Bool) (text : List ℕ) (after : Keeping) → AreGiven keeps (resumed d t) bytes text after → after ≡ resumed d t
+same_behind [] d t text after h = h.1
+same_behind (b ∷ bytes) d t text after (first, mid, others, byte, e, rest) =
+    same_behind bytes d t others after (subst (λ (k : Keeping). AreGiven keeps k bytes others after) byte.1 rest)
+
+resumed_step : (k : Kind) (d : Depth) (t : Bool) (run bytes text : List ℕ) (after : Keeping) (left : List ℕ)
+    → IsStep keeps k (resumed d t) run bytes text after left → (u : Bool) × (after ≡ resumed d u)
+resumed_step Kind.Csi d t run bytes text after left (own, (actions, is, out, same), e, none) = (_, same)
+resumed_step Kind.Str d t run bytes text after left (own, given, e, none) = (t, same_behind bytes d t own after given)
+resumed_step _ d t run bytes text after left h = (t, h.1)
+
+resumed_steps : (ps : List Part) (d : Depth) (t : Bool) (run text : List ℕ) (after : Keeping) (left : List ℕ)
+    → AreSteps keeps (resumed d t) run ps text after left → (u : Bool) × (after ≡ resumed d u)
+resumed_steps [] d t run text after left h = (t, h.1)
+resumed_steps (p ∷ ps) d t run text after left (first, mid, next, others, step, e, rest) =
+    let (u, same) = resumed_step p.kind d t run p.bytes first mid next step in
+    resumed_steps ps d u next others after left (subst (λ (k : Keeping). AreSteps keeps k next ps others after left) same rest)
+
+-- so the state behind a step is plain data, too
+pub styled_steps : (d : Depth) (t u : Bool) (s k : Keeping) (p q : Pause) (bytes made rest : List ℕ) → s ≡ resumed d t → u ≡ k.styled
+    → p.held ≤ length bytes → Steps keeps s p bytes made k q rest
+    → Steps keeps (resumed d t) p bytes made (resumed d u) (record { mode = q.mode; titled = q.titled; styled = u; held = q.held }) rest
+styled_steps d t u s k p q bytes made rest is same_styled low h =
+    let began : Steps keeps (resumed d t) p bytes made k q rest = subst (λ (x : Keeping). Steps keeps x p bytes made k q rest) is h in
+    let held = take p.held bytes in
+    let g = (began.takes bytes [] (sym (append-nil bytes)) low).goes held [] (read_none held) in
+    let (v, same) = resumed_steps (with_titles p.titled g.parts) d t held g.text k g.left g.steps in
+    let last : k ≡ resumed d u = same ∙ ap (λ (b : Bool). resumed d b) (sym (ap (λ (x : Keeping). x.styled) same) ∙ sym same_styled) in
+    record {
+      takes = subst (λ (x : Keeping). Resumes keeps (resumed d t) p bytes made x q rest) last began.takes;
+      held = h.held;
+      few = h.few;
+      short = h.short;
+    }
+
+-- ---- steps in turn, and the end
+
+pub stripped_steps : (chunks : List (List ℕ)) (made rest : List ℕ) (last : Pause) → AreStepped {S = Dropped} drops (λ _. bare) beginning [] chunks made last rest → last.styled ≡ false
+    → Strips longest (concat chunks) (made ++ ending last rest)
+stripped_steps chunks made rest last stepped none =
+    let taken = stepped_taken {S = Dropped} drops (λ (b : Bool). bare) beginning last [] chunks made rest (omega arith) stepped in
+    rw none (strips longest bare (concat chunks) _ (any_chunks {S = Dropped} drops ends_bare bare chunks made [] (between bare last rest) taken refl))
+
+pub cleaned_steps : (d : Depth) (chunks : List (List ℕ)) (made rest : List ℕ) (last : Pause) → AreStepped keeps (resumed d) beginning [] chunks made last rest
+    → StylesIn (without_links d) (concat chunks) (made ++ ending last rest)
+cleaned_steps d chunks made rest last stepped =
+    let taken = stepped_taken keeps (resumed d) beginning last [] chunks made rest (omega arith) stepped in
+    let close = cond last.styled (text (action.Sgr Sgr.Reset)) [] in
+    let ends = any_chunks keeps resets (resumed d false) chunks made close (between (resumed d last.styled) last rest) taken refl in
+    styles (without_links d) (resumed d false) (concat chunks) (made ++ ending last rest) refl ends

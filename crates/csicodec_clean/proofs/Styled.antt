@@ -1,24 +1,17 @@
--- Styles and links that stay between the runs of text.
-use Rattle.std.proofs.Common.{◌≡◌, ℕ, Bool, true, false, List, [], ◌∷◌, ◌++◌, map, encode_utf8, encode_utf8_all, length, refl, sym, ap, subst, ◌∙◌, append_assoc, append-nil, arith}
-use Rattle.std.proofs.{lemmas.Bool.and_parts, lemmas.Bool.cond_both, lemmas.Grind.flat_map-append, lemmas.List.map-append}
-use Rattle.std.specs.{Prelude.filter, Prelude.not, Prelude.◌==◌, Prelude.Option, Prelude.None, Prelude.Some, Prelude.if◌then◌else◌, Option.option_or}
-use Rattle.std.specs.{Option.unwrap_or, List.AllByRecursion, List.flat_map, Str.all_scalars}
-use lib.Utf8.{scalar}
-use Rattle.bstr.specs.Utf8.{lossy_chars}
-use Rattle.csicodec_base.specs.declared.sgr.Sgr.{Sgr}
-use Rattle.csicodec_actions.specs.{Actions.Action, Table.text, Table.texts}
-use Rattle.csicodec.specs.Exact.{ReadsAlone}
-use Rattle.csicodec.proofs.RoundTrip.{round_trip_lem}
-use Rattle.csicodec_spans.specs.{declared.table.Kind.Kind, Parts.Part}
-use Rattle.csicodec_clean.specs.Links.{Address, Begun, IsLink, IsWithin, all_behind, behind, is_linked, link_text, link_texts, links_at, links_in, next, no_address, start}
-use Rattle.csicodec_clean.specs.Styled.{hides, is_reset, kept, Item, Shown, Style, Link, item_text, item_texts, shown_items, Leaves, begun_behind, run_behind, items_behind, AreLeft, is_open, style_in, styles_of, link_in, links_of, ends_of, closed, StylesIn, IsSafe, IsStyledIn, Keeping, keeping, first_kept, behind_byte, keeps, resets}
-use Rattle.csicodec_clean.specs.{Shown.shown, Shown.shown_text, Shown.IsShown, Titles.with_titles, Cleaned.AreGiven, Cleaned.IsStep, Cleaned.AreSteps}
-use Rattle.csicodec_clean.specs.{Cleaned.Ends, Cleaned.longest, declared.colors.Depth.Depth, Palette.reduced, declared.styles.Passing.Passing}
+-- Styles and links that stay between the runs of text, and that what stays is safe by its bytes alone.
+use Rattle.std.proofs.Common.{◌≡◌, ℕ, Bool, true, false, List, [], ◌∷◌, ◌++◌, map, encode_utf8_all, length, refl, sym, ap, subst, ◌∙◌, append_assoc, append-nil, arith, filter, not, ◌==◌, Option, None, Some, if◌then◌else◌, unwrap_or, flat_map, ◌<◌, ◌≤◌, ◌+◌, ◌/◌, ◌%◌, ◌⊎◌, inl, inr, ne_eqb, ◌&&◌}
+use Rattle.std.proofs.lemmas.List.Folds.{flat_map-map}
+use Rattle.csicodec_clean.proofs.Common.{and_parts, flat_map-append, map-append, AllByRecursion, all_scalars, scalar, lossy_chars, Action, text, texts, ReadsAlone, Kind, Part, Address, Begun, IsLink, IsWithin, all_behind, is_linked, link_text, links_at, links_in, next, start, Item, Shown, Style, Link, item_texts, shown_items, Leaves, begun_behind, run_behind, items_behind, AreLeft, styles_of, link_in, links_of, ends_of, StylesIn, IsSafe, IsStyledIn, Keeping, keeping, first_kept, keeps, resets, shown, shown_text, IsShown, with_titles, AreGiven, IsStep, AreSteps, Ends, longest, Depth, reduced, Passing, nat_tests, SgrInRange, hides, is_param, is_visible}
 use Rattle.csicodec_clean.proofs.{Linked.fine_behind, Linked.fine_links, Linked.linked_on, Linked.links_none, Reduced.reduced_alone, Reduced.reduced_hides}
-use Rattle.csicodec_clean.proofs.{Reduced.reduced_twice, Plain.kept_shown, Plain.scalars_lossy, PlainBytes.all_both, Taken.StyleAlone, Taken.taken_alone}
-use Rattle.csicodec_base.specs.declared.sgr.Sgr.TheVariants as sgr
+use Rattle.csicodec_clean.proofs.{Reduced.reduced_twice, Plain.kept_shown, Plain.scalars_lossy, Plain.all_both, Taken.StyleAlone, Taken.taken_alone}
+use Rattle.csicodec_clean.proofs.{Coded.AreCodes, Coded.IsCode, Coded.coded, Coded.style_range}
+use Rattle.std.specs.{Option.option_or, Char.encode_utf8}
+use Rattle.csicodec_base.specs.declared.sgr.Sgr.{Sgr}
+use Rattle.csicodec.proofs.Exactly.{round_trip_lem}
+use Rattle.csicodec_clean.specs.{Links.behind, Links.link_texts, Links.no_address, Styled.is_reset, Styled.kept, Styled.item_text, Styled.is_open}
+use Rattle.csicodec_clean.specs.{Styled.style_in, Styled.closed, Marked.Stand, Marked.Text, Marked.Numbers, Marked.Params, Marked.Url, Marked.stand_behind}
+use Rattle.csicodec_clean.specs.{Marked.is_marked, Marked.IsMarked}
 use Rattle.csicodec_actions.specs.Actions as action
-use Rattle.csicodec_spans.specs.declared.table.Kind.TheVariants as kind
 
 -- ---- one action behind the other
 
@@ -26,9 +19,6 @@ pub kept_on : (d : Depth) (xs ys : List Action) → kept d (xs ++ ys) ≡ kept d
 kept_on d [] ys = refl
 kept_on d (action.Sgr s ∷ xs) ys = rw (kept_on d xs ys) (grind arith)
 kept_on d (_ ∷ xs) ys = kept_on d xs ys
-
-pub texts_on : (xs ys : List Sgr) → texts (map action.Sgr (xs ++ ys)) ≡ texts (map action.Sgr xs) ++ texts (map action.Sgr ys)
-texts_on xs ys = simp (map-append, flat_map-append)
 
 pub open_on : (b : Bool) (xs ys : List Sgr) → is_open b (xs ++ ys) ≡ is_open (is_open b xs) ys
 open_on b [] ys = refl
@@ -58,29 +48,21 @@ pub texts_chars : (cs : List ℕ) → item_texts (map Shown cs) ≡ encode_utf8_
 texts_chars [] = refl
 texts_chars (c ∷ cs) = ap (λ t. encode_utf8 c ++ t) (texts_chars cs)
 
-pub texts_styles : (ss : List Sgr) → item_texts (map Style ss) ≡ texts (map action.Sgr ss)
-texts_styles [] = refl
-texts_styles (s ∷ ss) = ap (λ t. text (action.Sgr s) ++ t) (texts_styles ss)
-
-pub texts_links : (links : List Address) → item_texts (map Link links) ≡ link_texts links
-texts_links [] = refl
-texts_links (a ∷ links) = ap (λ (t : List ℕ). link_text a ++ t) (texts_links links)
-
 -- what a part leaves, and then the others
 pub part_texts : (run : List ℕ) (own others : List Item) → item_texts (shown_items run ++ (own ++ others)) ≡ shown_text run ++ (item_texts own ++ item_texts others)
 part_texts run own others = simp (texts_both, texts_chars)
 
 part_styles : (k : Kind) (run : List ℕ) (own others : List Item) → styles_of (items_behind k run ++ (own ++ others)) ≡ styles_of own ++ styles_of others
-part_styles kind.Text run own others = styles_both own others
+part_styles Kind.Text run own others = styles_both own others
 part_styles _ run own others = simp (styles_both, none_in style_in Shown (λ c. refl))
 
 pub part_links : (k : Kind) (run : List ℕ) (own others : List Item) → links_of (items_behind k run ++ (own ++ others)) ≡ links_of own ++ links_of others
-part_links kind.Text run own others = links_both own others
+part_links Kind.Text run own others = links_both own others
 part_links _ run own others = simp (links_both, none_in link_in Shown (λ c. refl))
 
 -- what ends a link and a style
 abbrev pub end_text : Bool → Bool → List ℕ
-end_text linked styled = (if linked then link_text no_address else []) ++ (if styled then text (action.Sgr sgr.Reset) else [])
+end_text linked styled = (if linked then link_text no_address else []) ++ (if styled then text (action.Sgr Sgr.Reset) else [])
 
 end_texts : (linked styled : Bool) → end_text linked styled ≡ item_texts (ends_of linked styled)
 end_texts linked styled = grind (arith, append-nil {A = ℕ})
@@ -89,117 +71,108 @@ end_texts linked styled = grind (arith, append-nil {A = ℕ})
 abbrev pub behind_string : Keeping → List ℕ → Keeping
 behind_string k bytes = keeping k.passing k.styled (is_linked k.linked (links_in k.passing.links k.begun bytes)) (all_behind k.passing.links k.begun bytes)
 
-behind_one : (k : Keeping) (c : ℕ) (bytes : List ℕ) → behind_string (behind_byte k c) bytes ≡ behind_string k (c ∷ bytes)
-behind_one k c bytes = rw linked_on refl
-
 -- the rule that keeps, on a byte of a control string, where links pass
 pub gives_link : (k : Keeping) (c : ℕ) → k.passing.links ≡ true
-    → (keeps (λ (x : Keeping). x)).byte k c (link_texts (links_at true k.begun c)) (keeping k.passing k.styled (is_linked k.linked (links_at true k.begun c)) (behind k.begun c))
+    → keeps.byte k c (link_texts (links_at true k.begun c)) (keeping k.passing k.styled (is_linked k.linked (links_at true k.begun c)) (behind k.begun c))
 gives_link k c e = rw e (refl, refl)
 
 -- and where they don't
-pub gives_none : (k : Keeping) (c : ℕ) → k.passing.links ≡ false → (keeps (λ (x : Keeping). x)).byte k c [] k
+pub gives_none : (k : Keeping) (c : ℕ) → k.passing.links ≡ false → keeps.byte k c [] k
 gives_none k c e = rw e (refl, refl)
 
-module _ {S : Type 0} (of : S → Keeping) where
-  pub record GivenString (s : S) (bytes text : List ℕ) (after : S) : Type 0 where
-    pub told : text ≡ link_texts (links_in (of s).passing.links (of s).begun bytes)
-    pub state : of after ≡ behind_string (of s) bytes
+given_string : (bytes : List ℕ) (k after : Keeping) (text : List ℕ) → AreGiven keeps k bytes text after
+    → (text ≡ link_texts (links_in k.passing.links k.begun bytes)) × (after ≡ behind_string k bytes)
+given_string [] k after text h = h
+given_string (c ∷ bytes) k after text (first, mid, others, here, e, rest) =
+    let r = given_string bytes mid after others rest in
+    (rw (e, here.0, r.0, here.1) (simp flat_map-append), rw (r.1, here.1, linked_on) refl)
 
-  pub given_string : (bytes : List ℕ) (s after : S) (text : List ℕ) → AreGiven (keeps of) s bytes text after → GivenString s bytes text after
-  given_string [] s after text h = record { told = h.0; state = ap of h.1 }
-  given_string (c ∷ bytes) s after text (first, mid, others, here, e, rest) =
-      let r = given_string bytes mid after others rest in
-      let k = of s in
-      record {
-        told = rw (e, here.0, r.told, here.1) (sym (flat_map-append link_text (links_at k.passing.links k.begun c) (links_in k.passing.links (next k.passing.links k.begun c) bytes)));
-        state = rw (r.state, here.1) (behind_one k c bytes);
-      }
+record Left (parts : List Part) (k : Keeping) (run text : List ℕ) (after : Keeping) (last : List ℕ) : Type 0 where
+  items : List Item
+  left : AreLeft k.passing k.begun run parts items
+  all : text ++ shown_text last ≡ item_texts items
+  styled : after.styled ≡ is_open k.styled (styles_of items)
+  linked : after.linked ≡ is_linked k.linked (links_of items)
 
-  pub record Left (parts : List Part) (s : S) (run text : List ℕ) (after : S) (last : List ℕ) : Type 0 where
-    pub items : List Item
-    pub left : AreLeft (of s).passing (of s).begun run parts items
-    pub all : text ++ shown_text last ≡ item_texts items
-    pub styled : (of after).styled ≡ is_open (of s).styled (styles_of items)
-    pub linked : (of after).linked ≡ is_linked (of s).linked (links_of items)
+-- what a step of the rule gives is the text of what its part leaves
+pub record Step (kind : Kind) (k mid : Keeping) (run bytes first next : List ℕ) : Type 0 where
+  pub own : List Item
+  pub leaves : Leaves k.passing k.begun kind bytes own
+  pub text : (others : List Item) → item_texts (items_behind kind run ++ (own ++ others)) ≡ first ++ item_texts others
+  pub next_run : next ≡ run_behind kind run bytes
+  pub state : mid ≡ keeping k.passing (is_open k.styled (styles_of own)) (is_linked k.linked (links_of own)) (begun_behind k.passing k.begun kind bytes)
 
-  -- behind what a part leaves
-  abbrev pub behind_part : S → Kind → List ℕ → List Item → Keeping
-  behind_part s k bytes own = keeping (of s).passing (is_open (of s).styled (styles_of own)) (is_linked (of s).linked (links_of own)) (begun_behind (of s).passing (of s).begun k bytes)
+-- where it ends the run
+ended : (run first given : List ℕ) (own others : List Item) → first ≡ shown_text run ++ given → item_texts own ≡ given
+    → item_texts (shown_items run ++ (own ++ others)) ≡ first ++ item_texts others
+ended run first given own others e same = rw (part_texts run own others, e, same) (simp append_assoc)
 
-  -- what a step of the rule gives is the text of what its part leaves
-  pub record Step (k : Kind) (s mid : S) (run bytes first next : List ℕ) : Type 0 where
-    pub own : List Item
-    pub leaves : Leaves (of s).passing (of s).begun k bytes own
-    pub text : (others : List Item) → item_texts (items_behind k run ++ (own ++ others)) ≡ first ++ item_texts others
-    pub next_run : next ≡ run_behind k run bytes
-    pub state : of mid ≡ behind_part s k bytes own
+pub step : (kind : Kind) (k mid : Keeping) (run bytes first next : List ℕ) → IsStep keeps kind k run bytes first mid next → Step kind k mid run bytes first next
+step Kind.Text k mid run bytes first next (none, same, on) = record { own = []; leaves = refl; text = λ others. rw none refl; next_run = on; state = same }
+step Kind.Csi k mid run bytes first next (given, (actions, is, same, state), e, none) =
+    let ss = kept k.passing.depth actions in
+    record {
+      own = map Style ss;
+      leaves = (actions, is, refl);
+      text = λ others. ended run first given (map Style ss) others e ((simp flat_map-map) ∙ sym same);
+      next_run = none;
+      state = rw (state, each_in style_in Style (λ s. refl) ss, none_in link_in Style (λ s. refl) ss) refl;
+    }
+step Kind.Str k mid run bytes first next (given, steps, e, none) =
+    let g = given_string bytes k mid given steps in
+    let links = links_in k.passing.links k.begun bytes in
+    record {
+      own = map Link links;
+      leaves = refl;
+      text = λ others. ended run first given (map Link links) others e (flat_map-map item_text Link links ∙ sym g.0);
+      next_run = none;
+      state = rw (g.1, each_in link_in Link (λ a. refl) links, none_in style_in Link (λ a. refl) links) refl;
+    }
+step _ k mid run bytes first next h =
+    let e = h.0 ∙ sym (append-nil (shown_text run)) in
+    record { own = []; leaves = refl; text = λ others. ended run first [] [] others e refl; next_run = h.2; state = h.1 }
 
-  -- where it ends the run
-  ended : (run first given : List ℕ) (own others : List Item) → first ≡ shown_text run ++ given → item_texts own ≡ given → item_texts (shown_items run ++ (own ++ others)) ≡ first ++ item_texts others
-  ended run first given own others e same = rw (part_texts run own others, e, same) (simp append_assoc)
+left_of : (parts : List Part) (k after : Keeping) (run text last : List ℕ) → AreSteps keeps k run parts text after last → Left parts k run text after last
+left_of [] k after run text last (none, same, e) =
+    let chars = filter shown (lossy_chars run) in
+    record {
+      items = shown_items run;
+      left = refl;
+      all = rw (none, e) (sym (texts_chars chars));
+      styled = rw (same, none_in style_in Shown (λ c. refl) chars) refl;
+      linked = rw (same, none_in link_in Shown (λ c. refl) chars) refl;
+    }
+left_of (p ∷ parts) k after run text last (first, mid, next, others, is, e, rest) =
+    let h = step p.kind k mid run p.bytes first next is in
+    let r = left_of parts mid after next others last rest in
+    let left = subst (λ (x : Keeping). AreLeft x.passing x.begun (run_behind p.kind run p.bytes) parts r.items) h.state
+    (subst (λ (y : List ℕ). AreLeft mid.passing mid.begun y parts r.items) h.next_run r.left) in
+    record {
+      items = items_behind p.kind run ++ (h.own ++ r.items);
+      left = (h.own, r.items, h.leaves, refl, left);
+      all = rw (e, h.text r.items, ← r.all) (append_assoc first others (shown_text last));
+      styled = r.styled ∙ ap (λ (x : Keeping). is_open x.styled (styles_of r.items)) h.state ∙ (rw (part_styles p.kind run h.own r.items, open_on) refl);
+      linked = r.linked ∙ ap (λ (x : Keeping). is_linked x.linked (links_of r.items)) h.state ∙ (rw (part_links p.kind run h.own r.items, linked_on) refl);
+    }
 
-  pub step : (k : Kind) (s mid : S) (run bytes first next : List ℕ) → IsStep (keeps of) k s run bytes first mid next → Step k s mid run bytes first next
-  step kind.Text s mid run bytes first next (none, same, on) = record { own = []; leaves = refl; text = λ others. rw none refl; next_run = on; state = ap of same }
-  step kind.Csi s mid run bytes first next (given, (actions, is, same, state), e, none) =
-      let ss = kept (of s).passing.depth actions in
-      record {
-        own = map Style ss;
-        leaves = (actions, is, refl);
-        text = λ others. ended run first given (map Style ss) others e (texts_styles ss ∙ sym same);
-        next_run = none;
-        state = rw (state, each_in style_in Style (λ s. refl) ss, none_in link_in Style (λ s. refl) ss) refl;
-      }
-  step kind.Str s mid run bytes first next (given, steps, e, none) =
-      let g = given_string bytes s mid given steps in
-      let links = links_in (of s).passing.links (of s).begun bytes in
-      record {
-        own = map Link links;
-        leaves = refl;
-        text = λ others. ended run first given (map Link links) others e (texts_links links ∙ sym g.told);
-        next_run = none;
-        state = rw (g.state, each_in link_in Link (λ a. refl) links, none_in style_in Link (λ a. refl) links) refl;
-      }
-  step _ s mid run bytes first next h =
-      record { own = []; leaves = refl; text = λ others. ended run first [] [] others (h.0 ∙ sym (append-nil (shown_text run))) refl; next_run = h.2; state = ap of h.1 }
-
-  left_of : (parts : List Part) (s after : S) (run text last : List ℕ) → AreSteps (keeps of) s run parts text after last → Left parts s run text after last
-  left_of [] s after run text last (none, same, e) =
-      let chars = filter shown (lossy_chars run) in
-      record {
-        items = shown_items run;
-        left = refl;
-        all = rw (none, e) (sym (texts_chars chars));
-        styled = rw (same, none_in style_in Shown (λ c. refl) chars) refl;
-        linked = rw (same, none_in link_in Shown (λ c. refl) chars) refl;
-      }
-  left_of (p ∷ parts) s after run text last (first, mid, next, others, is, e, rest) =
-      let h = step p.kind s mid run p.bytes first next is in
-      let r = left_of parts mid after next others last rest in
-      let left : AreLeft (of s).passing (begun_behind (of s).passing (of s).begun p.kind p.bytes) (run_behind p.kind run p.bytes) parts r.items =
-      subst (λ (x : Keeping). AreLeft x.passing x.begun (run_behind p.kind run p.bytes) parts r.items) h.state (subst (λ (y : List ℕ). AreLeft (of mid).passing (of mid).begun y parts r.items) h.next_run r.left) in
-      record {
-        items = items_behind p.kind run ++ (h.own ++ r.items);
-        left = (h.own, r.items, h.leaves, refl, left);
-        all = rw (e, h.text r.items, ← r.all) (append_assoc first others (shown_text last));
-        styled = rw (r.styled, h.state, part_styles p.kind run h.own r.items, open_on) refl;
-        linked = rw (r.linked, h.state, part_links p.kind run h.own r.items, linked_on) refl;
-      }
-
-  -- what the rule that keeps styles and links leaves, and what ends them where they are open
-  pub styles : (d : Passing) (s : S) (bytes out : List ℕ) → of s ≡ first_kept d → Ends (keeps of) (resets of) longest s bytes out → StylesIn d bytes out
-  styles d s bytes out begins e =
-      let c = e.cleans in
-      let l = left_of (with_titles false c.parts) s e.after [] c.before c.run c.steps in
-      let styled : (of e.after).styled ≡ is_open false (styles_of l.items) = l.styled ∙ ap (λ (x : Keeping). is_open x.styled (styles_of l.items)) begins in
-      let linked : (of e.after).linked ≡ is_linked false (links_of l.items) = l.linked ∙ ap (λ (x : Keeping). is_linked x.linked (links_of l.items)) begins in
-      record {
-        parts = c.parts;
-        whole = c.whole;
-        items = l.items;
-        left = subst (λ (x : Keeping). AreLeft x.passing x.begun [] (with_titles false c.parts) l.items) begins l.left;
-        all = rw (e.all, e.closes, linked, styled, c.all, l.all, end_texts) (sym (texts_both l.items (ends_of (is_linked false (links_of l.items)) (is_open false (styles_of l.items)))));
-      }
+-- what the rule that keeps styles and links leaves, and what ends them where they are open
+pub styles : (d : Passing) (k : Keeping) (bytes out : List ℕ) → k ≡ first_kept d → Ends keeps resets longest k bytes out → StylesIn d bytes out
+styles d k bytes out begins ends =
+    let e : Ends keeps resets longest (first_kept d) bytes out = rw begins at ends in
+    let l = left_of (with_titles false e.parts) (first_kept d) e.after [] e.before e.run e.steps in
+    let linked = is_linked false (links_of l.items) in
+    let styled = is_open false (styles_of l.items) in
+    let close : e.close ≡ item_texts (ends_of linked styled) =
+    e.closes ∙ ap (λ (b : Bool). end_text b e.after.styled) l.linked ∙ ap (end_text linked) l.styled ∙ end_texts linked styled in
+    record {
+      parts = e.parts;
+      whole = e.whole;
+      items = l.items;
+      left = l.left;
+      all = e.all ∙ ap (λ (x : List ℕ). e.before ++ (shown_text e.run ++ x)) close ∙ sym
+          (append_assoc e.before (shown_text e.run) (item_texts (ends_of linked styled)))
+          ∙ ap (λ (x : List ℕ). x ++ item_texts (ends_of linked styled)) l.all ∙ sym (texts_both l.items (ends_of linked styled));
+    }
 
 -- ---- safe
 
@@ -213,8 +186,7 @@ safe_run d run = let k = kept_shown (lossy_chars run) (scalars_lossy run) in saf
 safe_kept : (d : Passing) (actions : List Action) → AllByRecursion StyleAlone actions → AllByRecursion (IsSafe d) (map Style (kept d.depth actions))
 safe_kept d [] all = tt
 safe_kept d (action.Sgr s ∷ xs) all =
-    cond_both (hides s) (kept d.depth xs) (reduced d.depth s ∷ kept d.depth xs) (λ t. AllByRecursion (IsSafe d) (map Style t)) (λ _. safe_kept d xs all.1)
-    (λ e. ((reduced_hides d.depth s ∙ e, reduced_alone d.depth s all.0, reduced_twice d.depth s), safe_kept d xs all.1))
+    grind (arith, safe_kept d xs all.1, reduced_hides d.depth s, reduced_alone d.depth s all.0, reduced_twice d.depth s)
 safe_kept d (x ∷ xs) all = safe_kept d xs all.1
 
 safe_links : (d : Passing) (bytes : List ℕ) (b : Begun) → IsWithin b.address → AllByRecursion (IsSafe d) (map Link (links_in d.links b bytes))
@@ -229,16 +201,16 @@ safe_links d bytes b h = by d.links refl
     by false e = rw (links_none bytes b) tt
 
 safe_part : (d : Passing) (b : Begun) (k : Kind) (bytes : List ℕ) (own : List Item) → IsWithin b.address → Leaves d b k bytes own → AllByRecursion (IsSafe d) own
-safe_part d b kind.Csi bytes own h (actions, is, e) = rw e (safe_kept d actions (taken_alone bytes actions is))
-safe_part d b kind.Str bytes own h e = rw e (safe_links d bytes b h)
+safe_part d b Kind.Csi bytes own h (actions, is, e) = rw e (safe_kept d actions (taken_alone bytes actions is))
+safe_part d b Kind.Str bytes own h e = rw e (safe_links d bytes b h)
 safe_part d b _ bytes own h e = rw e tt
 
 safe_behind : (d : Passing) (k : Kind) (run : List ℕ) → AllByRecursion (IsSafe d) (items_behind k run)
-safe_behind d kind.Text run = tt
+safe_behind d Kind.Text run = tt
 safe_behind d _ run = safe_run d run
 
 fine_part : (d : Passing) (b : Begun) (k : Kind) (bytes : List ℕ) → IsWithin b.address → IsWithin (begun_behind d b k bytes).address
-fine_part d b kind.Str bytes h = fine_behind d.links bytes b h
+fine_part d b Kind.Str bytes h = fine_behind d.links bytes b h
 fine_part d b _ bytes h = h
 
 safe_left : (d : Passing) (b : Begun) (parts : List Part) (run : List ℕ) (items : List Item) → IsWithin b.address → AreLeft d b run parts items → AllByRecursion (IsSafe d) items
@@ -247,8 +219,8 @@ safe_left d b (p ∷ parts) run items h (own, others, leaves, e, rest) =
     let later = safe_left d (begun_behind d b p.kind p.bytes) parts (run_behind p.kind run p.bytes) others (fine_part d b p.kind p.bytes h) rest in
     rw e (all_both (IsSafe d) (items_behind p.kind run) (own ++ others) (safe_behind d p.kind run) (all_both (IsSafe d) own others (safe_part d b p.kind p.bytes own h leaves) later))
 
-reset_alone : ReadsAlone (action.Sgr sgr.Reset) false
-reset_alone = (round_trip_lem [] false 109 tt (omega arith, omega arith) (action.Sgr sgr.Reset ∷ []) refl).attributes sgr.Reset (0, omega arith, refl)
+reset_alone : ReadsAlone (action.Sgr Sgr.Reset) false
+reset_alone = (round_trip_lem [] false 109 tt (omega arith, omega arith) (action.Sgr Sgr.Reset ∷ []) refl).attributes Sgr.Reset (0, omega arith, refl)
 
 none_within : IsWithin no_address
 none_within = record { params = tt; few = omega arith; url = tt; short = omega arith }
@@ -271,7 +243,7 @@ links_shut items linked styled e = grind (arith, links_both, linked_on)
 
 safe_ends : (d : Passing) (linked styled : Bool) → (linked ≡ true → d.links ≡ true) → AllByRecursion (IsSafe d) (ends_of linked styled)
 safe_ends d linked styled f =
-    let reset : IsSafe d (Style sgr.Reset) = (refl, reset_alone, refl) in
+    let reset : IsSafe d (Style Sgr.Reset) = (refl, reset_alone, refl) in
     let none = none_fine in
     grind arith
 
@@ -298,7 +270,7 @@ styled d bytes text s =
 
 pub more_text : (d : Depth) (xs : List Action) (x : Action) (old out new : List ℕ) → out ≡ old ++ texts (map action.Sgr (kept d xs))
     → new ≡ out ++ texts (map action.Sgr (kept d (x ∷ []))) → new ≡ old ++ texts (map action.Sgr (kept d (xs ++ x ∷ [])))
-more_text d xs x old out new e f = rw (f, e, kept_on, texts_on) (simp append_assoc)
+more_text d xs x old out new e f = rw (f, e, kept_on) (simp (map-append, flat_map-append, append_assoc))
 
 pub more_styles : (d : Depth) (xs : List Action) (x : Action) (last one : Option Bool) (b : Bool) → is_open b (kept d xs) ≡ unwrap_or last b
     → ((c : Bool) → is_open c (kept d (x ∷ [])) ≡ unwrap_or one c) → is_open b (kept d (xs ++ x ∷ [])) ≡ unwrap_or (option_or one last) b
@@ -307,5 +279,111 @@ more_styles d xs x last (Some c) b e f = rw (kept_on, open_on, f (is_open b (kep
 
 -- a colour that becomes another is no reset
 pub reset_reduced : (d : Depth) (s : Sgr) → is_reset (reduced d s) ≡ is_reset s
-reset_reduced d (sgr.Foreground c) = refl
+reset_reduced d (Sgr.Foreground c) = refl
 reset_reduced d _ = refl
+
+-- ---- What `clean` leaves is safe by its bytes alone.
+
+-- ---- characters
+
+-- behind them text goes on
+abbrev Passes : List ℕ → Type 0
+Passes bytes = (links styled linked : Bool) (more : List ℕ) → is_marked links Text styled linked (bytes ++ more) ≡ is_marked links Text styled linked more
+
+one : (c : ℕ) → c < 128 → IsShown c → Passes (c ∷ [])
+one c k h links styled linked more = grind (arith, nat_tests)
+
+two : (c : ℕ) → 160 ≤ c → c < 2048 → Passes ((192 + c / 64) ∷ (128 + c % 64) ∷ [])
+two c h k links styled linked more = grind (arith, nat_tests)
+
+three : (c : ℕ) → 2048 ≤ c → c < 65536 → scalar c ≡ true → Passes ((224 + c / 4096) ∷ (128 + (c / 64) % 64) ∷ (128 + c % 64) ∷ [])
+three c h k s links styled linked more = grind (arith, nat_tests)
+
+four : (c : ℕ) → 65536 ≤ c → scalar c ≡ true → Passes ((240 + c / 262144) ∷ (128 + (c / 4096) % 64) ∷ (128 + (c / 64) % 64) ∷ (128 + c % 64) ∷ [])
+four c h s links styled linked more = grind (arith, nat_tests)
+
+char_marked : (c : ℕ) → IsShown c → scalar c ≡ true → Passes (encode_utf8 c)
+unfolding encode_utf8
+char_marked c h s = grind (arith, nat_tests, one, two, three, four)
+
+-- ---- styles
+
+-- behind such, a style may be open
+abbrev Behind : Bool → Stand → Bool → Bool → List ℕ → List ℕ → Type 0
+Behind links s styled linked t more = (opened : Bool) × (is_marked links s styled linked (t ++ more) ≡ is_marked links Text opened linked more)
+
+on_number : (links zeros styled linked : Bool) (b : ℕ) (more : List ℕ) → IsCode b
+    → is_marked links (Numbers zeros) styled linked (b ∷ more) ≡ is_marked links (Numbers (zeros && b == 48)) styled linked more
+on_number links zeros styled linked b more h = grind (arith, nat_tests)
+
+numbers_marked : (links zeros styled linked : Bool) (body more : List ℕ) → AreCodes body → Behind links (Numbers zeros) styled linked (body ++ 109 ∷ []) more
+numbers_marked links zeros styled linked [] more h = (not zeros, refl)
+numbers_marked links zeros styled linked (b ∷ body) more h =
+    let later = numbers_marked links (zeros && b == 48) styled linked body more h.1 in
+    (later.0, on_number links zeros styled linked b ((body ++ 109 ∷ []) ++ more) h.0 ∙ later.1)
+
+only_reset : (s : Sgr) → (s ≡ Sgr.Reset) ⊎ (is_reset s ≡ false)
+only_reset s = grind arith
+
+style_marked : (links styled linked : Bool) (s : Sgr) (more : List ℕ) → SgrInRange s → hides s ≡ false
+    → (opened : Bool) × (not (is_reset s) ≡ false → opened ≡ false) ×
+    (is_marked links Text styled linked (text (action.Sgr s) ++ more) ≡ is_marked links Text opened linked more)
+style_marked links styled linked s more h k = elim (only_reset s) [
+  | inl e ↦ (false, λ c. refl, rw e refl)
+  | inr e ↦
+      let (body, is, are, some, few) = coded s h k in
+      let r = subst (λ (t : List ℕ). Behind links (Numbers true) styled linked t more) (sym is) (numbers_marked links true styled linked body more are) in
+      (r.0, λ c. (let clash : true ≡ false = sym (ap not e) ∙ c in absurd cc), r.1)
+]
+
+-- ---- links
+
+param_stays : (b : ℕ) → is_param b ≡ true → stand_behind true Params b ≡ Params
+param_stays b h = grind (arith, nat_tests)
+
+params_marked : (styled linked : Bool) (ps more : List ℕ) → AllByRecursion (λ b. is_param b ≡ true) ps → is_marked true Params styled linked (ps ++ more) ≡ is_marked true Params styled linked more
+params_marked styled linked [] more h = refl
+params_marked styled linked (b ∷ ps) more h = ap (λ (s : Stand). is_marked true s styled linked (ps ++ more)) (param_stays b h.0) ∙ params_marked styled linked ps more h.1
+
+url_stays : (some : Bool) (b : ℕ) → is_visible b ≡ true → stand_behind true (Url some) b ≡ Url true
+url_stays some b h = grind (arith, nat_tests)
+
+url_marked : (styled linked : Bool) (us more : List ℕ) → AllByRecursion (λ b. is_visible b ≡ true) us
+    → is_marked true (Url true) styled linked (us ++ 27 ∷ 92 ∷ more) ≡ is_marked true Text styled true more
+url_marked styled linked [] more h = refl
+url_marked styled linked (b ∷ us) more h = ap (λ (s : Stand). is_marked true s styled linked (us ++ 27 ∷ 92 ∷ more)) (url_stays true b h.0) ∙ url_marked styled linked us more h.1
+
+address_marked : (styled linked : Bool) (us more : List ℕ) → AllByRecursion (λ b. is_visible b ≡ true) us
+    → is_marked true (Url false) styled linked (us ++ 27 ∷ 92 ∷ more) ≡ is_marked true Text styled (not (length us == 0)) more
+address_marked styled linked [] more h = refl
+address_marked styled linked (b ∷ us) more h =
+    ap (λ (s : Stand). is_marked true s styled linked (us ++ 27 ∷ 92 ∷ more)) (url_stays false b h.0) ∙ url_marked styled linked us more h.1
+    ∙ ap (λ (some : Bool). is_marked true Text styled (not some) more) (sym (ne_eqb (length (b ∷ us)) 0 (λ e. absurd (omega (arith, e)))))
+
+link_marked : (styled linked : Bool) (a : Address) (more : List ℕ) → IsLink a → is_marked true Text styled linked (link_text a ++ more) ≡ is_marked true Text styled (not (length a.url == 0)) more
+link_marked styled linked a more h =
+    let parts : ((a.params ++ 59 ∷ a.url) ++ 27 ∷ 92 ∷ []) ++ more ≡ a.params ++ 59 ∷ (a.url ++ 27 ∷ 92 ∷ more) =
+    append_assoc (a.params ++ 59 ∷ a.url) (27 ∷ 92 ∷ []) more ∙ append_assoc a.params (59 ∷ a.url) (27 ∷ 92 ∷ more) in
+    ap (λ (t : List ℕ). is_marked true Params styled linked t) parts ∙ params_marked styled linked a.params (59 ∷ (a.url ++ 27 ∷ 92 ∷ more)) h.within.params
+    ∙ address_marked styled linked a.url more h.within.url
+
+-- ---- all of it
+
+items_marked : (d : Passing) (styled opened linked : Bool) (items : List Item) → AllByRecursion (IsSafe d) items → (opened ≡ false → styled ≡ false)
+    → is_open opened (styles_of items) ≡ false → is_linked linked (links_of items) ≡ false
+    → is_marked d.links Text styled linked (item_texts items) ≡ true
+items_marked d styled opened linked [] h f o k = rw (f o, k) refl
+items_marked d styled opened linked (Shown c ∷ items) h f o k = char_marked c h.0.0 h.0.1 d.links styled linked (item_texts items) ∙ items_marked d styled opened linked items h.1 f o k
+items_marked d styled opened linked (Style s ∷ items) h f o k =
+    let (now, closed, on) = style_marked d.links styled linked s (item_texts items) (style_range s h.0.1) h.0.0 in
+    on ∙ items_marked d now (not (is_reset s)) linked items h.1 closed o k
+items_marked d styled opened linked (Link a ∷ items) h f o k =
+    let more = item_texts items in
+    subst (λ (links : Bool). is_marked links Text styled linked (link_text a ++ more) ≡ is_marked links Text styled (not (length a.url == 0)) more) (sym h.0.0) (link_marked styled linked a more h.0.1)
+    ∙ items_marked d styled opened (not (length a.url == 0)) items h.1 f o k
+
+pub styled_marked : (d : Passing) (text : List ℕ) → IsStyledIn d text → IsMarked d.links text
+styled_marked d text i = rw i.texts (items_marked d false false false i.items i.safe (λ e. e) i.none_open i.none_linked)
+
+pub cleaned_marked : (d : Passing) (bytes text : List ℕ) → StylesIn d bytes text → IsMarked d.links text
+cleaned_marked d bytes text s = styled_marked d text (styled d bytes text s)

@@ -1,18 +1,14 @@
 -- What holds of each action that terminals take a control sequence for: it is in range, and a style is read alone from its text.
-use Rattle.std.specs.Prelude.{MatchBool, ℤ, pos, negsuc, ◌==◌, ◌&&◌, ◌^◌, ◌≤ℤ◌, nat_lt, slice_index_or, if◌then◌else◌}
-use Rattle.std.specs.List.{AllByRecursion}
-use Rattle.std.proofs.Common.{◌≡◌, ℕ, zero, suc, ◌||◌, Bool, true, false, List, [], ◌∷◌, length, Option, None, Some, refl, inl, inr, arith}
-use Rattle.std.proofs.{lemmas.Int.ints, lemmas.Bool.cond_both}
-use Rattle.csicodec_tokens.specs.{declared.param.CsiParam.CsiParam, declared.param.CsiParam.TheVariants.Integer, declared.param.CsiParam.TheVariants.P}
+use Rattle.std.proofs.Common.{◌≡◌, ℕ, zero, suc, ◌||◌, Bool, true, false, List, [], ◌∷◌, length, Option, None, Some, refl, inl, inr, arith, MatchBool, ℤ, pos, negsuc, ◌==◌, ◌&&◌, ◌^◌, ◌≤ℤ◌, nat_lt, slice_index_or, if◌then◌else◌}
+use Rattle.std.proofs.lemmas.Int.{ints}
+use Rattle.csicodec_clean.proofs.Common.{AllByRecursion, cond_both, CsiParam, Integer, P, Action, Unspecified, SgrInRange, Group, Styles, semicolon, group, Actions, IsTakenFor, has_unknown, ReadsAlone, canonical-alone, parsed-kept, alone-only}
+use Rattle.csicodec_clean.proofs.Plain.{all_weaker}
 use Rattle.csicodec_tokens.specs.{Fields.fields_of, Fields.with_field, OneBased.most, Sequence.IsFinal, Sequence.IsSpellable, Sequence.Spellable}
-use Rattle.csicodec_actions.specs.{Actions.Action, Actions.Sgr, Actions.Unspecified, Ranges.InRange, Ranges.SgrInRange}
-use Rattle.csicodec_parser.specs.{Canonical.IsCanonicalSgr, declared.group.Group.Group, declared.group.Group.TheVariants.Styles}
-use Rattle.csicodec_parser.specs.{declared.group.Group.TheVariants.Whole, Cut.semicolon, Groups.Piece, Groups.group, Segments.Actions}
+use Rattle.csicodec_actions.specs.{Actions.Sgr, Ranges.InRange}
+use Rattle.csicodec_parser.specs.{Canonical.IsCanonicalSgr, declared.group.Group.TheVariants.Whole, Groups.Piece}
 use Rattle.csicodec_terminal.specs.{Regular.by_fields, Regular.first, Regular.has_one, Regular.has_two, Regular.regular, Regular.said, Terminal.Anew}
-use Rattle.csicodec_terminal.specs.{Terminal.IsTakenFor, Terminal.Steps, Terminal.behind, Terminal.has_unknown, Terminal.is_open}
-use Rattle.csicodec.specs.Exact.{ReadsAlone}
-use Rattle.csicodec.proofs.{Alone.canonical-alone, Kept.Kept, Parsed.parsed-kept, RoundTrip.alone-only, SgrKept.sgr-kept, Twins.parsed-special, Twins.sgr-plain}
-use Rattle.csicodec_clean.proofs.PlainBytes.{all_weaker}
+use Rattle.csicodec_terminal.specs.{Terminal.Steps, Terminal.behind, Terminal.is_open}
+use Rattle.csicodec.proofs.{Kept.Kept, Kept.parsed-special, Kept.sgr-plain, SgrSpelling.sgr-kept}
 use Rattle.csicodec_base.specs.declared.sgr.Sgr as sgr_type
 
 -- ---- a regular list is one of a sequence

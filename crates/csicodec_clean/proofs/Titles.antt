@@ -1,13 +1,8 @@
 -- Titles, part by part and span by span.
-use Rattle.std.proofs.Common.{◌≡◌, ◌⊎◌, ℕ, suc, Bool, true, false, List, [], ◌∷◌, ◌++◌, Some, length, refl, sym, ap, subst, ◌∙◌, inl, inr, arith}
-use Rattle.std.proofs.lemmas.Bool.{and_parts, eqb-true}
-use Rattle.std.specs.{Prelude.◌==◌, Prelude.slice_get, List.AllByRecursion, List.flat_map}
-use Rattle.csicodec_spans.specs.Parts.{Part, part, bytes_of, AreAll, AreFirstParts, IsFirstPart, IsSpan, IsWhole, left_over}
-use Rattle.csicodec_spans.specs.{declared.table.Kind.Kind, declared.table.Mode.Mode}
-use Rattle.csicodec_spans.proofs.{Missed.fit, OneSpan.singles}
-use Rattle.csicodec_clean.specs.{Cleaned.longest, Titles.InTitle, Titles.IsText, Titles.title_behind, Titles.title_open, Titles.read_as, Titles.with_titles}
-use Rattle.csicodec_spans.specs.declared.table.Kind.TheVariants as kind
-use Rattle.csicodec_spans.specs.declared.table.Mode.TheVariants as mode
+use Rattle.std.proofs.Common.{◌≡◌, ◌⊎◌, ℕ, suc, Bool, true, false, List, [], ◌∷◌, ◌++◌, Some, length, refl, sym, ap, subst, ◌∙◌, inl, inr, arith, eqb-true, ◌==◌, slice_get, flat_map}
+use Rattle.csicodec_clean.proofs.Common.{and_parts, AllByRecursion, Part, part, bytes_of, AreFirstParts, IsFirstPart, IsSpan, IsWhole, left_over, Kind, Mode, fit, singles, longest, title_behind, title_open, read_as, with_titles}
+use Rattle.csicodec_spans.specs.Parts.{AreAll}
+use Rattle.csicodec_clean.specs.Titles.{InTitle, IsText}
 
 pub titles_on : (t : Bool) (ps qs : List Part) → with_titles t (ps ++ qs) ≡ with_titles t ps ++ with_titles (title_open t ps) qs
 titles_on t [] qs = refl
@@ -46,31 +41,31 @@ pub record Titled (t : Bool) (k : Kind) (bytes : List ℕ) (ps : List Part) : Ty
   pub behind : title_open t ps ≡ title_behind t k bytes
 
 pub titled : (t : Bool) (k : Kind) (bytes : List ℕ) (ps : List Part) → IsSpan k bytes ps → Titled t k bytes ps
-titled true kind.Text bytes ps h = let e = all_read kind.Text kind.Other true true (λ b. refl) (λ b. refl) refl refl bytes ps h in record { span = e.0; behind = e.1 }
-titled false kind.Text bytes ps h = let e = all_read kind.Text kind.Text false false (λ b. refl) (λ b. refl) refl refl bytes ps h in record { span = e.0; behind = e.1 }
-titled t kind.Str bytes ps h = let e = all_read kind.Str kind.Str t false (λ b. refl) (λ b. refl) refl refl bytes ps h in record { span = e.0; behind = e.1 }
-titled t kind.Other bytes ps h = let e = all_read kind.Other kind.Other t false (λ b. refl) (λ b. refl) refl refl bytes ps h in record { span = e.0; behind = e.1 }
+titled true Kind.Text bytes ps h = let e = all_read Kind.Text Kind.Other true true (λ b. refl) (λ b. refl) refl refl bytes ps h in record { span = e.0; behind = e.1 }
+titled false Kind.Text bytes ps h = let e = all_read Kind.Text Kind.Text false false (λ b. refl) (λ b. refl) refl refl bytes ps h in record { span = e.0; behind = e.1 }
+titled t Kind.Str bytes ps h = let e = all_read Kind.Str Kind.Str t false (λ b. refl) (λ b. refl) refl refl bytes ps h in record { span = e.0; behind = e.1 }
+titled t Kind.Other bytes ps h = let e = all_read Kind.Other Kind.Other t false (λ b. refl) (λ b. refl) refl refl bytes ps h in record { span = e.0; behind = e.1 }
 titled t _ bytes ps h = rw h record { span = refl; behind = refl }
 
 -- text alone
-pub single_texts : (bs : List ℕ) → with_titles false (singles kind.Text bs) ≡ singles kind.Text bs
+pub single_texts : (bs : List ℕ) → with_titles false (singles Kind.Text bs) ≡ singles Kind.Text bs
 single_texts [] = refl
-single_texts (b ∷ bs) = ap (λ (x : List Part). part kind.Text (b ∷ []) ∷ x) (single_texts bs)
+single_texts (b ∷ bs) = ap (λ (x : List Part). part Kind.Text (b ∷ []) ∷ x) (single_texts bs)
 
 -- ---- which parts are dropped
 
 -- an escape sequence begins with ESC, as `ESC k` does
 abbrev EscIsFirst : Part → Type 0
-EscIsFirst p = (c : ℕ) → p ≡ part kind.Esc (c ∷ 107 ∷ []) → c ≡ 27
+EscIsFirst p = (c : ℕ) → p ≡ part Kind.Esc (c ∷ 107 ∷ []) → c ≡ 27
 
 esc_first : (limit : ℕ) (m : Mode) (bytes rest : List ℕ) (a : Mode) (p : Part) → IsFirstPart limit m bytes p rest a → EscIsFirst p
 esc_first limit m bytes rest a p h c e =
-    let (shut, (more, begins)) = fit limit m bytes kind.Esc (c ∷ 107 ∷ []) rest a (subst (λ (q : Part). IsFirstPart limit m bytes q rest a) e h) in
+    let (shut, (more, begins)) = fit limit m bytes Kind.Esc (c ∷ 107 ∷ []) rest a (subst (λ (q : Part). IsFirstPart limit m bytes q rest a) e h) in
     cc
 
 -- what is so of each part that stands in front, and of what is left over, is so of all parts
 module _ (P : Part → Type 0) (limit : ℕ) (first : (m : Mode) (bytes rest : List ℕ) (a : Mode) (p : Part) → IsFirstPart limit m bytes p rest a → P p)
-    (over : (bytes : List ℕ) → P (part kind.Other bytes)) where
+    (over : (bytes : List ℕ) → P (part Kind.Other bytes)) where
   left_each : (rest : List ℕ) → AllByRecursion P (left_over rest)
   left_each [] = tt
   left_each (b ∷ rest) = (over (b ∷ rest), tt)
@@ -79,17 +74,17 @@ module _ (P : Part → Type 0) (limit : ℕ) (first : (m : Mode) (bytes rest : L
   all_each [] m a bytes rest end h = left_each end
   all_each (p ∷ ps) m a bytes rest end (behind, mid, one, later) = (first m bytes behind mid p one, all_each ps mid a behind rest end later)
 
-  pub whole_each : (bytes : List ℕ) (ps : List Part) → IsWhole limit mode.Text bytes ps → AllByRecursion P ps
-  whole_each bytes ps w = subst (AllByRecursion P) (sym w.whole) (all_each w.sure mode.Text w.after bytes w.rest w.rest w.first)
+  pub whole_each : (bytes : List ℕ) (ps : List Part) → IsWhole limit Mode.Text bytes ps → AllByRecursion P ps
+  whole_each bytes ps w = subst (AllByRecursion P) (sym w.whole) (all_each w.sure Mode.Text w.after bytes w.rest w.rest w.first)
 
-whole_first : (limit : ℕ) (bytes : List ℕ) (ps : List Part) → IsWhole limit mode.Text bytes ps → AllByRecursion EscIsFirst ps
-whole_first limit = whole_each EscIsFirst limit (esc_first limit) (λ bytes c e. let k : kind.Other ≡ kind.Esc = ap (λ (p : Part). p.kind) e in absurd cc)
+whole_first : (limit : ℕ) (bytes : List ℕ) (ps : List Part) → IsWhole limit Mode.Text bytes ps → AllByRecursion EscIsFirst ps
+whole_first limit = whole_each EscIsFirst limit (esc_first limit) (λ bytes c e. let k : Kind.Other ≡ Kind.Esc = ap (λ (p : Part). p.kind) e in absurd cc)
 
 -- where a title is open, it was before, with text alone since then, or `ESC k` opened it
 abbrev Opened : Bool → List Part → Type 0
 Opened t ps = ((t ≡ true) × AllByRecursion IsText ps) ⊎ InTitle ps
 
-two_bytes : (bytes : List ℕ) → title_behind true kind.Esc bytes ≡ true → (c : ℕ) × (bytes ≡ c ∷ 107 ∷ [])
+two_bytes : (bytes : List ℕ) → title_behind true Kind.Esc bytes ≡ true → (c : ℕ) × (bytes ≡ c ∷ 107 ∷ [])
 two_bytes [] e = absurd cc
 two_bytes (b ∷ []) e = absurd cc
 two_bytes (b ∷ c ∷ []) e = (b, ap (λ (x : ℕ). b ∷ x ∷ []) (eqb-true c 107 e))
@@ -97,11 +92,11 @@ two_bytes (b ∷ c ∷ d ∷ bytes) e = absurd (omega (arith, eqb-true (length (
 
 opened_on : (t : Bool) (k : Kind) (bytes : List ℕ) (ps : List Part) → EscIsFirst (part k bytes) → Opened (title_behind t k bytes) ps → Opened t (part k bytes ∷ ps)
 opened_on t k bytes ps f (inr (earlier, title, e, texts)) = inr (part k bytes ∷ earlier, title, ap (λ (x : List Part). part k bytes ∷ x) e, texts)
-opened_on t kind.Text bytes ps f (inl (is, texts)) = inl (is, (refl, texts))
-opened_on t kind.Esc bytes ps f (inl (is, texts)) =
+opened_on t Kind.Text bytes ps f (inl (is, texts)) = inl (is, (refl, texts))
+opened_on t Kind.Esc bytes ps f (inl (is, texts)) =
     let two = two_bytes bytes is in
-    let same : bytes ≡ 27 ∷ 107 ∷ [] = two.1 ∙ ap (λ (x : ℕ). x ∷ 107 ∷ []) (f two.0 (ap (part kind.Esc) two.1)) in
-    inr ([], ps, ap (λ (x : List ℕ). part kind.Esc x ∷ ps) same, texts)
+    let same : bytes ≡ 27 ∷ 107 ∷ [] = two.1 ∙ ap (λ (x : ℕ). x ∷ 107 ∷ []) (f two.0 (ap (part Kind.Esc) two.1)) in
+    inr ([], ps, ap (λ (x : List ℕ). part Kind.Esc x ∷ ps) same, texts)
 opened_on t _ bytes ps f (inl (is, texts)) = absurd cc
 
 opened : (t : Bool) (ps more : List Part) → AllByRecursion EscIsFirst (ps ++ more) → title_open t ps ≡ true → Opened t ps
@@ -109,7 +104,7 @@ opened t [] more h e = inl (e, tt)
 opened t (p ∷ ps) more h e = opened_on t p.kind p.bytes ps h.0 (opened (title_behind t p.kind p.bytes) ps more h.1 e)
 
 in_title : (before : List Part) → InTitle before → title_open false before ≡ true
-in_title before (earlier, title, e, texts) = ap (title_open false) e ∙ open_on false earlier (part kind.Esc (27 ∷ 107 ∷ []) ∷ title) ∙ (same_open kind.Text kind.Other true (λ b. refl) refl title texts).1
+in_title before (earlier, title, e, texts) = ap (title_open false) e ∙ open_on false earlier (part Kind.Esc (27 ∷ 107 ∷ []) ∷ title) ∙ (same_open Kind.Text Kind.Other true (λ b. refl) refl title texts).1
 
 pub same_places : (t : Bool) (ps : List Part) → length (with_titles t ps) ≡ length ps
 same_places t [] = refl
@@ -119,17 +114,17 @@ at_place : (t : Bool) (before behind : List Part) (p : Part) → slice_get (with
 at_place t [] behind p = refl
 at_place t (q ∷ before) behind p = at_place (title_behind t q.kind q.bytes) before behind p
 
-pub dropped : (before behind : List Part) (p : Part) → InTitle before → IsText p → slice_get (with_titles false (before ++ p ∷ behind)) (length before) ≡ Some (part kind.Other p.bytes)
+pub dropped : (before behind : List Part) (p : Part) → InTitle before → IsText p → slice_get (with_titles false (before ++ p ∷ behind)) (length before) ≡ Some (part Kind.Other p.bytes)
 dropped before behind p h text = at_place false before behind p ∙ ap (λ (k : Kind). Some (part k p.bytes)) (ap (read_as p.kind) (in_title before h) ∙ ap (λ (k : Kind). read_as k true) text)
 
 -- a part that is no text of a title is read as what it is
-as_is : (k : Kind) (t : Bool) → (k ≡ kind.Text → t ≡ true → ⊥) → read_as k t ≡ k
+as_is : (k : Kind) (t : Bool) → (k ≡ Kind.Text → t ≡ true → ⊥) → read_as k t ≡ k
 as_is k t f = grind arith
 
 shut_before : (ps : List Part) → Opened false ps → InTitle ps
 shut_before ps h = grind arith
 
-pub kept : (bytes : List ℕ) (before behind : List Part) (p : Part) → IsWhole longest mode.Text bytes (before ++ p ∷ behind) → (IsText p → ¬ InTitle before)
+pub kept : (bytes : List ℕ) (before behind : List Part) (p : Part) → IsWhole longest Mode.Text bytes (before ++ p ∷ behind) → (IsText p → ¬ InTitle before)
     → slice_get (with_titles false (before ++ p ∷ behind)) (length before) ≡ Some p
 kept bytes before behind p w f =
     let first = whole_first longest bytes (before ++ p ∷ behind) w in

@@ -1,13 +1,11 @@
 -- What is left of the parts of a stream: the shown characters of its runs of text, each read by itself, and what a rule
 -- gives for its control sequences.
 use Rattle.std.specs.Prelude.{ℕ, ◌≡◌, None, Bool, true, false, if◌then◌else◌, List, [], ◌∷◌, ◌++◌}
-use Rattle.csicodec_spans.specs.{declared.table.Kind.Kind, Parts.Part, Parts.IsWhole}
+use Rattle.csicodec_spans.specs.{declared.table.Kind.Kind, Parts.Part, Parts.IsWhole, declared.table.Mode.Mode}
 use Rattle.csicodec_clean.specs.{Shown.Writing, Shown.run_as, Shown.shown_text, Titles.with_titles}
-use Rattle.csicodec_spans.specs.declared.table.Kind.TheVariants as kind
-use Rattle.csicodec_spans.specs.declared.table.Mode.TheVariants as mode
 
 abbrev pub is_text : Kind → Bool
-is_text kind.Text = true
+is_text Kind.Text = true
 is_text k = false
 
 -- what is shown of the parts, behind a run of text: text goes on with the run, and any other part ends it, and is dropped
@@ -19,7 +17,7 @@ stripped run (p ∷ parts) = if is_text p.kind then stripped (run ++ p.bytes) pa
 -- the bytes, stripped
 pub record Strips (limit : ℕ) (bytes text : List ℕ) : Type 0 where
   pub parts : List Part
-  pub whole : IsWhole limit mode.Text bytes parts
+  pub whole : IsWhole limit Mode.Text bytes parts
   pub left : text ≡ stripped [] (with_titles false parts)
 
 -- a control sequence of more bytes is none
@@ -43,11 +41,11 @@ AreGiven {S} Gives s (b ∷ bytes) text after =
 -- one part behind a run of text: text goes on with the run, and any other part ends it
 abbrev pub IsStep : {S : Type 0} → RuleOf S → Kind → S → List ℕ → List ℕ → List ℕ → S → List ℕ
     → Type 0
-IsStep Gives kind.Text s run bytes text after left = (text ≡ []) × (after ≡ s)
+IsStep Gives Kind.Text s run bytes text after left = (text ≡ []) × (after ≡ s)
     × (left ≡ run ++ bytes)
-IsStep Gives kind.Csi s run bytes text after left = (own : List ℕ)
+IsStep Gives Kind.Csi s run bytes text after left = (own : List ℕ)
     × Gives.sequence s bytes own after × (text ≡ run_as Gives.writing run ++ own) × (left ≡ [])
-IsStep Gives kind.Str s run bytes text after left = (own : List ℕ)
+IsStep Gives Kind.Str s run bytes text after left = (own : List ℕ)
     × AreGiven Gives s bytes own after × (text ≡ run_as Gives.writing run ++ own) × (left ≡ [])
 IsStep Gives k s run bytes text after left = (text ≡ run_as Gives.writing run) × (after ≡ s)
     × (left ≡ [])
@@ -61,29 +59,23 @@ AreSteps {S} Gives s run (p ∷ parts) text after left =
     × IsStep Gives p.kind s run p.bytes first mid next
     × (text ≡ first ++ others) × AreSteps Gives mid next parts others after left
 
--- the bytes of a whole stream, cleaned by a rule: all but the run of text that they end in, and what is shown of that
-pub record Cleans {S : Type 0} (Gives : RuleOf S) (limit : ℕ) (s : S) (bytes text : List ℕ)
-    (after : S) : Type 0 where
-  pub parts : List Part
-  pub whole : IsWhole limit mode.Text bytes parts
-  pub before : List ℕ
-  pub run : List ℕ
-  pub steps : AreSteps Gives s [] (with_titles false parts) before after run
-  pub all : text ≡ before ++ run_as Gives.writing run
-
 -- what a rule writes at the end of a stream, by its state there
 abbrev pub EndOf : Type 0 → Type 1
 EndOf S = S → List ℕ → Type 0
 
--- the bytes of a whole stream, cleaned by a rule, and what it writes at the end
+-- the bytes of a whole stream, cleaned by a rule: all but the run of text that they end in, what is shown of that, and what the rule
+-- writes at the end
 pub record Ends {S : Type 0} (Gives : RuleOf S) (Closes : EndOf S) (limit : ℕ) (s : S)
     (bytes text : List ℕ) : Type 0 where
+  pub parts : List Part
+  pub whole : IsWhole limit Mode.Text bytes parts
   pub before : List ℕ
+  pub run : List ℕ
   pub after : S
+  pub steps : AreSteps Gives s [] (with_titles false parts) before after run
   pub close : List ℕ
-  pub cleans : Cleans Gives limit s bytes before after
   pub closes : Closes after close
-  pub all : text ≡ before ++ close
+  pub all : text ≡ before ++ (run_as Gives.writing run ++ close)
 
 -- the rule that drops every control sequence and every control string
 abbrev pub drops : {S : Type 0} → RuleOf S

@@ -2,10 +2,8 @@
 -- is printed behind one leads to the URL, up to the next one, and one without a URL ends it.
 use Rattle.std.specs.Prelude.{ℕ, ◌≡◌, ◌≤◌, ◌⊎◌, ◌==◌, Bool, true, false, not, ◌&&◌, nat_le, nat_lt, List, [], ◌∷◌, ◌++◌, length, if◌then◌else◌}
 use Rattle.std.specs.List.{AllByRecursion, flat_map}
-use Rattle.csicodec_spans.specs.Parts.{Part, IsSpan}
+use Rattle.csicodec_spans.specs.{Parts.Part, Parts.IsSpan, declared.table.Kind.Kind}
 use Rattle.csicodec_clean.specs.{Addresses.led, declared.links.LinkReader.LinkReader, declared.links.LinkState.LinkState}
-use Rattle.csicodec_spans.specs.declared.table.Kind.TheVariants as kind
-use Rattle.csicodec_clean.specs.declared.links.LinkState.TheVariants as place
 
 -- what a link says: its parameters, as `id=1`, by which lines of one link are joined, and where it leads
 pub record Address : Type 0 where
@@ -70,7 +68,7 @@ pub record StoodIn (parts : List Part) (a : Address) : Type 0 where
   pub rest : List Part
   pub whole : parts ≡ before ++ (own ++ rest)
   pub text : List ℕ
-  pub string : IsSpan kind.Str text own
+  pub string : IsSpan Kind.Str text own
   pub link : Spells text a
 
 -- its normal form, which ST ends
@@ -105,39 +103,39 @@ come r = begun r.place r.params.items r.url.items
 
 -- where no control string is open
 abbrev pub start : Begun
-start = begun place.Outside [] []
+start = begun LinkState.Outside [] []
 
 -- ESC begins anew
 abbrev pub anew : ℕ → LinkState
-anew c = if c == 27 then place.Escape else place.Outside
+anew c = if c == 27 then LinkState.Escape else LinkState.Outside
 
 -- behind ESC: `]` opens an OSC, and any other byte something else, a second ESC too, which stands for a byte of a DCS
 abbrev pub opened : ℕ → LinkState
-opened c = if c == 93 then place.Opened else place.Outside
+opened c = if c == 93 then LinkState.Opened else LinkState.Outside
 
 -- a byte more of a control string, from the ESC on that opens it
 abbrev pub behind_at : LinkState → List ℕ → List ℕ → ℕ → Begun
-behind_at place.Outside params url c = begun (anew c) params url
-behind_at place.Escape params url c = begun (opened c) params url
-behind_at place.Opened params url c = begun (if c == 56 then place.Eight else anew c) params url
-behind_at place.Eight params url c = if c == 59 then begun place.Params [] url
+behind_at LinkState.Outside params url c = begun (anew c) params url
+behind_at LinkState.Escape params url c = begun (opened c) params url
+behind_at LinkState.Opened params url c = begun (if c == 56 then LinkState.Eight else anew c) params url
+behind_at LinkState.Eight params url c = if c == 59 then begun LinkState.Params [] url
     else begun (anew c) params url
-behind_at place.Params params url c =
-    if c == 59 then begun place.Url params [] else
-    if is_param c && nat_lt (length params) longest_params then begun place.Params (params ++ c ∷ []) url else
+behind_at LinkState.Params params url c =
+    if c == 59 then begun LinkState.Url params [] else
+    if is_param c && nat_lt (length params) longest_params then begun LinkState.Params (params ++ c ∷ []) url else
     begun (anew c) params url
-behind_at place.Url params url c =
-    if is_visible c && nat_lt (length url) longest_url then begun place.Url params (url ++ c ∷ []) else
-    begun (if c == 27 then place.Ending else place.Outside) params url
-behind_at place.Ending params url c = begun (opened c) params url
+behind_at LinkState.Url params url c =
+    if is_visible c && nat_lt (length url) longest_url then begun LinkState.Url params (url ++ c ∷ []) else
+    begun (if c == 27 then LinkState.Ending else LinkState.Outside) params url
+behind_at LinkState.Ending params url c = begun (opened c) params url
 
 abbrev pub behind : Begun → ℕ → Begun
 behind b c = behind_at b.place b.address.params b.address.url c
 
 -- BEL, or the `\` of ST, ends a link
 abbrev pub ends_at : LinkState → ℕ → Bool
-ends_at place.Url c = c == 7
-ends_at place.Ending c = c == 92
+ends_at LinkState.Url c = c == 7
+ends_at LinkState.Ending c = c == 92
 ends_at p c = false
 
 -- what passes of the link that is over with the byte, where links pass

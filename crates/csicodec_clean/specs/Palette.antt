@@ -5,8 +5,6 @@ use Rattle.csicodec_names.specs.{declared.color.ColorSpec.TheVariants.PaletteInd
 use Rattle.csicodec_names.specs.{declared.color.SrgbaTuple.SrgbaTuple}
 use Rattle.csicodec_base.specs.declared.sgr.Sgr.{Sgr}
 use Rattle.csicodec_clean.specs.declared.colors.Depth.{Depth}
-use Rattle.csicodec_base.specs.declared.sgr.Sgr.TheVariants as sgr
-use Rattle.csicodec_clean.specs.declared.colors.Depth.TheVariants as depth
 
 abbrev pub rgb : ℕ → ℕ → ℕ → SrgbaTuple
 rgb red green blue = record { 0 = red; 1 = green; 2 = blue; 3 = 255 }
@@ -71,17 +69,17 @@ pub record IsNearest (c : SrgbaTuple) (first end place : ℕ) : Type 0 where
 
 -- a colour by its parts becomes a place of the palette, and where 16 are left, a place from 16 on becomes one of them
 abbrev pub reduced_color : Depth → ColorSpec → ColorSpec
-reduced_color depth.Full c = c
-reduced_color depth.Palette Default = Default
-reduced_color depth.Palette (PaletteIndex i) = PaletteIndex i
-reduced_color depth.Palette (TrueColor c) = PaletteIndex (nearest_of_256 c)
-reduced_color depth.Ansi Default = Default
-reduced_color depth.Ansi (PaletteIndex i) =
+reduced_color Depth.Full c = c
+reduced_color Depth.Palette Default = Default
+reduced_color Depth.Palette (PaletteIndex i) = PaletteIndex i
+reduced_color Depth.Palette (TrueColor c) = PaletteIndex (nearest_of_256 c)
+reduced_color Depth.Ansi Default = Default
+reduced_color Depth.Ansi (PaletteIndex i) =
     PaletteIndex (if nat_lt i 16 then i else nearest_of_16 (palette i))
-reduced_color depth.Ansi (TrueColor c) = PaletteIndex (nearest_of_16 c)
+reduced_color Depth.Ansi (TrueColor c) = PaletteIndex (nearest_of_16 c)
 
 abbrev pub reduced : Depth → Sgr → Sgr
-reduced d (sgr.Foreground c) = sgr.Foreground (reduced_color d c)
-reduced d (sgr.Background c) = sgr.Background (reduced_color d c)
-reduced d (sgr.UnderlineColor c) = sgr.UnderlineColor (reduced_color d c)
+reduced d (Sgr.Foreground c) = Sgr.Foreground (reduced_color d c)
+reduced d (Sgr.Background c) = Sgr.Background (reduced_color d c)
+reduced d (Sgr.UnderlineColor c) = Sgr.UnderlineColor (reduced_color d c)
 reduced d s = s

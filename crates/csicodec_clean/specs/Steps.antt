@@ -3,13 +3,13 @@ use Rattle.std.specs.Prelude.{ℕ, ◌≡◌, ◌≤◌, ◌<◌, ◌+◌, Bool,
 use Rattle.csicodec_actions.specs.Table.{text}
 use Rattle.csicodec_clean.specs.{declared.step.Pause.Pause, declared.whole.Dropped.Dropped, Shown.shown_text, Cleaned.RuleOf, Cleaned.longest, Stream.Between}
 use Rattle.csicodec_clean.specs.{Stream.Takes}
+use Rattle.csicodec_base.specs.declared.sgr.Sgr.{Sgr}
+use Rattle.csicodec_spans.specs.declared.table.Mode.{Mode}
 use Rattle.csicodec_actions.specs.Actions as action
-use Rattle.csicodec_base.specs.declared.sgr.Sgr.TheVariants as sgr
-use Rattle.csicodec_spans.specs.declared.table.Mode.TheVariants as mode
 
 -- where nothing has come
 abbrev pub beginning : Pause
-beginning = record { mode = mode.Text; titled = false; styled = false; held = 0 }
+beginning = record { mode = Mode.Text; titled = false; styled = false; held = 0 }
 
 -- the rule that drops has no state
 abbrev pub bare : Dropped
@@ -46,4 +46,4 @@ AreStepped Gives rule p again (chunk ∷ chunks) all q rest =
 -- what ends the output: what is shown of the text that is held, and a reset where a style is open
 abbrev pub ending : Pause → List ℕ → List ℕ
 ending p again =
-    shown_text (take p.held again) ++ (if p.styled then text (action.Sgr sgr.Reset) else [])
+    shown_text (take p.held again) ++ (if p.styled then text (action.Sgr Sgr.Reset) else [])

@@ -4,7 +4,6 @@ use Rattle.csicodec_spans.specs.{declared.table.Mode.Mode, Parts.Part, Parts.Are
 use Rattle.csicodec_transform.specs.Transform.{Begins as BeginsWith, EndsOf, PassesOf, Sends}
 use Rattle.csicodec_clean.specs.{Shown.IsRead, Shown.chars_as, Shown.run_as, Titles.title_open, Titles.with_titles, Cleaned.RuleOf, Cleaned.EndOf}
 use Rattle.csicodec_clean.specs.{Cleaned.AreSteps, Cleaned.Ends, Cleaned.longest}
-use Rattle.csicodec_spans.specs.declared.table.Mode.TheVariants as mode
 
 -- between two pushes: the rule, what is open and whether that is a title, the bytes of which nothing is sure yet, and those of a character before them
 pub record Between (S : Type 0) : Type 0 where
@@ -15,7 +14,7 @@ pub record Between (S : Type 0) : Type 0 where
   pub held : List ℕ
 
 abbrev pub start_of : {S : Type 0} → S → Between S
-start_of s = record { rule = s; mode = mode.Text; titled = false; bytes = []; held = [] }
+start_of s = record { rule = s; mode = Mode.Text; titled = false; bytes = []; held = [] }
 
 -- more bytes have come
 abbrev pub with_more : {S : Type 0} → Between S → List ℕ → Between S

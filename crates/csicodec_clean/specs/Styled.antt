@@ -3,31 +3,26 @@ use Rattle.std.specs.Prelude.{ℕ, ◌≡◌, None, Bool, true, false, not, List
 use Rattle.std.specs.{List.AllByRecursion, List.flat_map, Char.IsScalar}
 use Rattle.bstr.specs.Utf8.{lossy_chars}
 use Rattle.csicodec_tokens.specs.{declared.param.CsiParam.CsiParam, Sequence.Seq}
-use Rattle.csicodec_base.specs.declared.sgr.Sgr.{Sgr}
+use Rattle.csicodec_base.specs.{declared.sgr.Sgr.Sgr, declared.sgr.Font.Font}
 use Rattle.csicodec_actions.specs.{Actions.Action, Table.text, Table.texts}
 use Rattle.csicodec_parser.specs.Segments.{Actions}
 use Rattle.csicodec.specs.Exact.{ReadsAlone}
 use Rattle.csicodec_terminal.specs.Terminal.{IsTakenFor}
-use Rattle.csicodec_spans.specs.{declared.table.Kind.Kind, Parts.Part, Parts.IsWhole}
+use Rattle.csicodec_spans.specs.{declared.table.Kind.Kind, Parts.Part, Parts.IsWhole, declared.table.Mode.Mode}
 use Rattle.csicodec_clean.specs.Links.{Address, Begun, IsLink, all_behind, is_linked, link_text, link_texts, links_at, links_in, next, no_address, start}
 use Rattle.csicodec_clean.specs.{Shown.shown, Shown.IsShown, Titles.with_titles, declared.colors.Depth.Depth, Palette.reduced, declared.styles.Passing.Passing}
 use Rattle.csicodec_clean.specs.{Cleaned.RuleOf, Cleaned.EndOf, Cleaned.longest}
-use Rattle.csicodec_base.specs.declared.sgr.Font.TheVariants as font
-use Rattle.csicodec_base.specs.declared.sgr.Sgr.TheVariants as sgr
 use Rattle.csicodec_actions.specs.Actions as action
-use Rattle.csicodec_spans.specs.declared.table.Kind.TheVariants as kind
-use Rattle.csicodec_spans.specs.declared.table.Mode.TheVariants as mode
-use Rattle.csicodec_clean.specs.declared.colors.Depth.TheVariants as depth
 
 -- the style hides what follows, or shows it in another font: on Linux' console two of the fonts change how each later byte is shown, and
 -- a reset leaves that (console_codes(4))
 abbrev pub hides : Sgr → Bool
-hides (sgr.Invisible on) = on
-hides (sgr.Font (font.Alternate n)) = true
+hides (Sgr.Invisible on) = on
+hides (Sgr.Font (Font.Alternate n)) = true
 hides s = false
 
 abbrev pub is_reset : Sgr → Bool
-is_reset sgr.Reset = true
+is_reset Sgr.Reset = true
 is_reset s = false
 
 -- the known styles among the actions but concealed text and fonts, with the colours that stay
@@ -62,21 +57,21 @@ shown_items run = map Shown (filter shown (lossy_chars run))
 -- what a part leaves: a control sequence the styles that stay of what terminals take it for, a control string, where links pass, the link that is over with it,
 -- and any other nothing
 abbrev pub Leaves : Passing → Begun → Kind → List ℕ → List Item → Type 0
-Leaves d b kind.Csi bytes own = (actions : List Action) × IsTakenFor bytes actions
+Leaves d b Kind.Csi bytes own = (actions : List Action) × IsTakenFor bytes actions
     × (own ≡ map Style (kept d.depth actions))
-Leaves d b kind.Str bytes own = own ≡ map Link (links_in d.links b bytes)
+Leaves d b Kind.Str bytes own = own ≡ map Link (links_in d.links b bytes)
 Leaves d b k bytes own = own ≡ []
 
 abbrev pub begun_behind : Passing → Begun → Kind → List ℕ → Begun
-begun_behind d b kind.Str bytes = all_behind d.links b bytes
+begun_behind d b Kind.Str bytes = all_behind d.links b bytes
 begun_behind d b k bytes = b
 
 abbrev pub run_behind : Kind → List ℕ → List ℕ → List ℕ
-run_behind kind.Text run bytes = run ++ bytes
+run_behind Kind.Text run bytes = run ++ bytes
 run_behind k run bytes = []
 
 abbrev pub items_behind : Kind → List ℕ → List Item
-items_behind kind.Text run = []
+items_behind Kind.Text run = []
 items_behind k run = shown_items run
 
 -- what is left of the parts, behind a run of text: text goes on with the run, and any other part ends it
@@ -109,7 +104,7 @@ links_of items = flat_map link_in items
 -- what ends a link and a style, where they are left open
 abbrev pub ends_of : Bool → Bool → List Item
 ends_of linked styled =
-    (if linked then Link no_address ∷ [] else []) ++ (if styled then Style sgr.Reset ∷ [] else [])
+    (if linked then Link no_address ∷ [] else []) ++ (if styled then Style Sgr.Reset ∷ [] else [])
 
 abbrev pub closed : List Item → List Item
 closed items = items ++ ends_of (is_linked false (links_of items)) (is_open false (styles_of items))
@@ -117,7 +112,7 @@ closed items = items ++ ends_of (is_linked false (links_of items)) (is_open fals
 -- what is left of the bytes where this passes
 pub record StylesIn (d : Passing) (bytes text : List ℕ) : Type 0 where
   pub parts : List Part
-  pub whole : IsWhole longest mode.Text bytes parts
+  pub whole : IsWhole longest Mode.Text bytes parts
   pub items : List Item
   pub left : AreLeft d start [] (with_titles false parts) items
   pub all : text ≡ item_texts (closed items)
@@ -128,7 +123,7 @@ without_links d = record { depth = d; links = false }
 
 -- what is left of the bytes where all colours stay
 abbrev pub Styles : List ℕ → List ℕ → Type 0
-Styles bytes text = StylesIn (without_links depth.Full) bytes text
+Styles bytes text = StylesIn (without_links Depth.Full) bytes text
 
 -- a character that is shown, a style that hides nothing, has a colour that stays, and whose text is read as it alone, or, where links
 -- pass, one that may
@@ -146,7 +141,7 @@ pub record IsStyledIn (d : Passing) (text : List ℕ) : Type 0 where
   pub none_linked : is_linked false (links_of items) ≡ false
 
 abbrev pub IsStyled : List ℕ → Type 0
-IsStyled text = IsStyledIn (without_links depth.Full) text
+IsStyled text = IsStyledIn (without_links Depth.Full) text
 
 -- what the rule that keeps those goes by: what passes, whether a style is open, whether a link is, and what has come of one
 pub record Keeping : Type 0 where
@@ -173,20 +168,20 @@ abbrev pub behind_byte : Keeping → ℕ → Keeping
 behind_byte k c = keeping k.passing k.styled
     (is_linked k.linked (links_at k.passing.links k.begun c)) (next k.passing.links k.begun c)
 
--- the rule, over a state of which that is a part
-abbrev pub keeps : {S : Type 0} → (S → Keeping) → RuleOf S
-keeps of = record {
+-- the rule
+abbrev pub keeps : RuleOf Keeping
+keeps = record {
   writing = None;
-  sequence = λ s bytes out after.
+  sequence = λ k bytes out after.
       (actions : List Action) × IsTakenFor bytes actions
-      × (out ≡ texts (map action.Sgr (kept (of s).passing.depth actions)))
-      × (of after ≡ behind_styles (of s) (kept (of s).passing.depth actions));
-  byte = λ s c out after. (out ≡ link_texts (links_at (of s).passing.links (of s).begun c))
-      × (of after ≡ behind_byte (of s) c);
+      × (out ≡ texts (map action.Sgr (kept k.passing.depth actions)))
+      × (after ≡ behind_styles k (kept k.passing.depth actions));
+  byte = λ k c out after. (out ≡ link_texts (links_at k.passing.links k.begun c))
+      × (after ≡ behind_byte k c);
 }
 
 -- at the end it ends the link that is open, and sets all back where a style is
-abbrev pub resets : {S : Type 0} → (S → Keeping) → EndOf S
-resets of s close = close
-    ≡ (if (of s).linked then link_text no_address else [])
-    ++ (if (of s).styled then text (action.Sgr sgr.Reset) else [])
+abbrev pub resets : EndOf Keeping
+resets k close = close
+    ≡ (if k.linked then link_text no_address else [])
+    ++ (if k.styled then text (action.Sgr Sgr.Reset) else [])

@@ -119,7 +119,7 @@ impl Checked {
 
     /// Takes the next bytes. Whether more may follow: of such text, of a character that isn't over, or of an ESC alone, which tells
     /// what that begins.
-    #[tactic(auto, using(crate::proofs::Sure::cut_short))]
+    #[tactic(auto, using(crate::proofs::Plain::cut_short))]
     pub fn push<C: CharClass>(&mut self, bytes: &[u8]) -> Result<bool, AllocError>
         ensures stands { OnOk result ((before : List ℕ)
             → Stands C.class before self.old.rest.items self.old.at self.old.line

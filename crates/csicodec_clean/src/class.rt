@@ -58,7 +58,7 @@ pub fn first_set(mask: u64) -> usize
 }
 
 /// What is behind the bytes of the class in front, byte by byte.
-#[tactic(auto, using(crate::proofs::Bytes::behind_one))]
+#[tactic(auto, using(crate::proofs::Told::behind_one))]
 fn behind_few<'a, C: ByteClass>(bytes: &'a [u8]) -> &'a [u8]
     ensures { result.now ≡ behind C.class bytes.now }
 {
@@ -73,7 +73,7 @@ fn behind_few<'a, C: ByteClass>(bytes: &'a [u8]) -> &'a [u8]
 }
 
 /// What is behind the bytes of the class in front.
-#[tactic(auto, using(crate::proofs::Bytes::front_within, crate::proofs::Bytes::behind_drop, crate::proofs::Bytes::front_ends))]
+#[tactic(auto, using(crate::proofs::Told::front_within, crate::proofs::Told::behind_drop, crate::proofs::Told::front_ends))]
 #[inline(always)]
 pub(crate) fn behind<'a, C: ByteClass>(bytes: &'a [u8]) -> &'a [u8]
     ensures { result.now ≡ behind C.class bytes.now }

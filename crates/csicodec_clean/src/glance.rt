@@ -23,7 +23,7 @@ fn begins_with_escape(bytes: &[u8]) -> bool
 
 /// Takes the control sequence in front that the rule takes at once, or the escape sequence of three bytes,
 /// and answers how many bytes it has; 0 where neither stands there.
-#[tactic(auto, using(crate::proofs::Glances::over_taken))]
+#[tactic(auto, using(crate::proofs::Chunks::over_taken))]
 #[inline(always)]
 fn take_control<T: Rule>(
     rule: &mut T,

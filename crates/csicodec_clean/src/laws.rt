@@ -22,13 +22,13 @@ pub fn any_chunks<R: Rule>()
 
 /// Nor how it is cut into the steps of a caller that keeps what is open: what these append, and the end, is what `strip` makes of all of
 /// it, or `clean_in`.
-#[tactic(auto, using(crate::proofs::Paused::stripped_steps, crate::proofs::Paused::cleaned_steps))]
+#[tactic(auto, using(crate::proofs::Streams::stripped_steps, crate::proofs::Streams::cleaned_steps))]
 pub fn any_steps()
     ensures strip { (chunks : List (List ℕ)) (text rest : List ℕ) (last : Pause)
         → AreStepped drops (λ _. bare) beginning [] chunks text last rest → last.styled ≡ false
         → Strips longest (concat chunks) (text ++ ending last rest) }
     ensures clean { (d : Depth) (chunks : List (List ℕ)) (text rest : List ℕ) (last : Pause)
-        → AreStepped (keeps (λ (k : Keeping). k)) (resumed d) beginning [] chunks text last rest
+        → AreStepped keeps (resumed d) beginning [] chunks text last rest
         → StylesIn (without_links d) (concat chunks) (text ++ ending last rest) }
 {}
 
@@ -150,8 +150,7 @@ pub fn rules()
     ensures dropped { (s : Dropped) (bytes text : List ℕ)
         → Ends drops ends_bare longest s bytes text → Strips longest bytes text }
     ensures kept { (d : Passing) (bytes text : List ℕ)
-        → Ends (keeps (λ (k : Keeping). k)) (resets (λ (k : Keeping). k)) longest
-        (first_kept d) bytes text → StylesIn d bytes text }
+        → Ends keeps resets longest (first_kept d) bytes text → StylesIn d bytes text }
 {}
 
 /// What a cleaner by these rules appended for the chunks that came is a front of what it writes of the whole stream, whatever comes
@@ -162,6 +161,6 @@ pub fn fronts()
         → IsFrontOf (Strips longest) (concat chunks ++ more) text }
     ensures kept { (d : Passing) (chunks : List (List ℕ)) (more text : List ℕ)
         (last : Between Keeping)
-        → AreTaken (Takes (keeps (λ (k : Keeping). k))) (start_of (first_kept d)) chunks text last
+        → AreTaken (Takes keeps) (start_of (first_kept d)) chunks text last
         → IsFrontOf (StylesIn d) (concat chunks ++ more) text }
 {}

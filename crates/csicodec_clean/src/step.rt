@@ -1,6 +1,6 @@
 //! A stream that is cleaned as it comes, whose state the caller keeps.
 ghost use Rattle.std.specs.Prelude.{◌≡◌, ◌≤◌, ◌++◌, ℕ, List, length, drop, OnOk, IfOk};
-ghost use Rattle.csicodec_clean.specs.{Cleaned.drops, Steps.Steps, Steps.bare, Steps.beginning, Steps.ending, Styled.Keeping, Styled.resumed, Styled.keeps};
+ghost use Rattle.csicodec_clean.specs.{Cleaned.drops, Steps.Steps, Steps.bare, Steps.beginning, Steps.ending, Styled.resumed, Styled.keeps};
 
 use crate::colors::Depth;
 use crate::rule::Rule;
@@ -129,7 +129,7 @@ pub fn clean_step(
     requires { pause.held ≤ length bytes.now }
     ensures within { IfOk result (λ (used, after). used ≤ length bytes.now) }
     ensures steps { IfOk result (λ (used, after). (text : List ℕ)
-        × Steps (keeps (λ (k : Keeping). k)) (resumed depth pause.styled) pause bytes.now text
+        × Steps keeps (resumed depth pause.styled) pause bytes.now text
         (resumed depth after.styled) after (drop used bytes.now)
         × (out.new.items ≡ out.old.items ++ text)) }
 {

@@ -3,7 +3,7 @@ ghost use Rattle.std.specs.{Prelude.◌≡◌, Prelude.◌++◌, Prelude.◌∷�
 ghost use Rattle.std.specs.{Prelude.IfOk, Prelude.false, Option.unwrap_or};
 ghost use Rattle.csicodec_actions.specs.{Actions.Sgr as SgrAction, Table.texts};
 ghost use Rattle.csicodec_parser.specs.ActionOf.{action_of};
-ghost use Rattle.csicodec_clean.specs.Styled.{Styles, StylesIn, IsStyled, IsStyledIn, Keeping, first_kept, hides, is_open, is_reset, keeping, kept, resumed, without_links};
+ghost use Rattle.csicodec_clean.specs.Styled.{Styles, StylesIn, IsStyled, IsStyledIn, Keeping, first_kept, is_open, keeping, kept, resumed, without_links};
 ghost use Rattle.csicodec_clean.specs.Marked.{IsMarked};
 
 use crate::class::LANES;
@@ -21,20 +21,6 @@ use csicodec_terminal::terminal_actions_into;
 use std::alloc::{AllocError, Global};
 use std::marker::Model;
 
-/// Whether the style hides what follows, or shows it in another font.
-fn is_hiding(style: &Sgr) -> bool
-    ensures { result ≡ hides style.now }
-{
-    matches!(style, Sgr::Invisible(true) | Sgr::Font(Font::Alternate(_)))
-}
-
-/// Whether the style sets all back.
-fn is_reset(style: &Sgr) -> bool
-    ensures { result ≡ is_reset style.now }
-{
-    matches!(style, Sgr::Reset)
-}
-
 /// Appends the text of the action, if it is a style that stays, and answers then whether a style is open behind it.
 #[tactic(auto, using(crate::proofs::Styled::reset_reduced))]
 fn append_style(depth: Depth, action: &CSI, out: &mut Vec<u8>) -> Result<Option<bool>, AllocError>
@@ -46,11 +32,11 @@ fn append_style(depth: Depth, action: &CSI, out: &mut Vec<u8>) -> Result<Option<
 {
     match action {
         CSI::Sgr(style) => {
-            if is_hiding(style) {
+            if matches!(style, Sgr::Invisible(true) | Sgr::Font(Font::Alternate(_))) {
                 return Ok(None);
             }
             encode(&CSI::Sgr(reduced(depth, *style)), out)?;
-            Ok(Some(!is_reset(style)))
+            Ok(Some(!matches!(style, Sgr::Reset)))
         }
         _ => Ok(None),
     }
@@ -154,9 +140,9 @@ impl Rule for Kept {
     ghost use Rattle.std.specs.Prelude.{refl};
     ghost use Rattle.csicodec_clean.specs.Styled.{resets, keeps};
 
-    ghost gives = { keeps (λ k. k) };
+    ghost gives = { keeps };
 
-    ghost closes = { resets (λ k. k) };
+    ghost closes = { resets };
 
     #[inline(always)]
     fn append_text(bytes: &[u8], len: usize, out: &mut Vec<u8>) -> Result<(), AllocError> {

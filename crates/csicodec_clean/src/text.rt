@@ -40,7 +40,7 @@ fn append_char<T: Rule>(char: char, out: &mut Vec<u8>) -> Result<(), AllocError>
 
 /// The character in front, or U+FFFD for a piece that is none, and its length; none where it depends on what follows, and of
 /// no bytes.
-#[tactic(auto, using(crate::proofs::Sure::read_bad))]
+#[tactic(auto, using(crate::proofs::Plain::read_bad))]
 pub fn first_sure(bytes: &[u8]) -> Option<(char, usize)>
     ensures none { IfNone result (IsCut bytes.now) }
     ensures some { IfSome result
@@ -120,7 +120,7 @@ pub(crate) fn append_told<'a, T: Rule>(
 }
 
 /// Appends what is shown of the characters that are sure, whatever follows, and answers the others: three bytes at most.
-#[tactic(auto, using(crate::proofs::Sure::cut_short))]
+#[tactic(auto, using(crate::proofs::Plain::cut_short))]
 pub(crate) fn append_sure<'a, T: Rule>(
     bytes: &'a [u8],
     out: &mut Vec<u8>,

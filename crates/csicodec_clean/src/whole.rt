@@ -47,7 +47,7 @@ pub(crate) fn near(limit: usize, bytes: &[u8]) -> &[u8]
 }
 
 /// How many bytes the control sequence in front has, at most `limit`; 0 where none stands there.
-#[tactic(auto, using(crate::proofs::Glances::sequence_read))]
+#[tactic(auto, using(crate::proofs::Chunks::sequence_read))]
 #[inline(always)]
 fn sequence_len(limit: usize, bytes: &[u8]) -> usize
     ensures within { (result ≤ limit) × (result ≤ length bytes.now) }
@@ -132,7 +132,7 @@ impl Anew<()> for Dropped {
 /// strip(alloc, b"a\x1b[31mb\x1b]0;title\x07\r\n")?      // "ab\n"
 /// strip(alloc, b"\xc2\x1b[m\x9b")?                      // "\u{FFFD}\u{FFFD}"
 /// ```
-#[tactic(auto, using(crate::proofs::Plain::strips, crate::proofs::Plain::strips_plain, crate::proofs::PlainBytes::no_escape))]
+#[tactic(auto, using(crate::proofs::Plain::strips, crate::proofs::Plain::strips_plain, crate::proofs::Plain::no_escape))]
 pub fn strip(alloc: Global, bytes: &[u8]) -> Result<Vec<u8>, AllocError>
     // Run by run, it is what is shown of the text, and nothing else.
     ensures exact { IfOk result (λ out. Strips longest bytes.now out.items) }

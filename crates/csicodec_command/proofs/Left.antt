@@ -1,12 +1,7 @@
 -- What is left of a recording while its lines are read.
-use Rattle.std.proofs.Common.{◌≡◌, ◌≢◌, ◌==◌, ◌-◌, ◌++◌, suc, ◌∷◌, ◌∙◌, ℕ, Bool, true, false, cond, List, [], Option, None, Some, length, take, not, refl, sym, ap, subst, append_assoc, append-nil, arith}
-use Rattle.std.proofs.{lemmas.Str.IsUtf8-from_is_utf8, lemmas.Str.is_utf8-from_IsUtf8, lemmas.Bool.eqb-true, lemmas.Bool.ne_eqb, Math.Dec.eqb-suc-zero}
-use Rattle.std.proofs.{lemmas.List.take-append-drop, lemmas.List.Elements.All-head, lemmas.List.Elements.All-tail, KnownBytes.Keeps-refl}
-use Rattle.std.proofs.{KnownBytes.Keeps-trans}
-use Rattle.std.specs.{Prelude.IfSome, Prelude.IsUtf8, Prelude.option_map, Str.is_utf8, Str.trim, List.All, Io.StartsWith, Io.StopsAt, Io.appended_bytes}
-use Rattle.std.specs.{Io.KnownBytes.Consumes, Io.KnownBytes.Keeps, Io.BufRead.drop_through, Io.BufRead.take_through}
+use Rattle.csicodec_command.proofs.Common.{◌≡◌, ◌≢◌, ◌==◌, ◌-◌, ◌++◌, suc, ◌∷◌, ◌∙◌, ℕ, Bool, true, false, cond, List, [], Option, None, Some, length, take, not, refl, sym, ap, subst, append_assoc, append-nil, arith, IsUtf8-from_is_utf8, is_utf8-from_IsUtf8, eqb-true, ne_eqb, eqb-suc-zero, take-append-drop, All-head, All-tail, Keeps-refl, Keeps-trans, IfSome, IsUtf8, option_map, Consumes, Keeps, Event, data_from, is_over, line_says, lines_from, lines_left, says, written}
+use Rattle.std.specs.{Str.is_utf8, Str.trim, List.All, Io.StartsWith, Io.StopsAt, Io.appended_bytes, Io.BufRead.drop_through, Io.BufRead.take_through}
 use Rattle.csicodec_assemble.specs.Lines.{last_line}
-use Rattle.csicodec_command.specs.Recorded.{Event, data_from, is_over, line_says, lines_from, lines_left, says, written}
 
 -- a byte behind a line ends it if it is LF
 pub over_behind : (line : List ℕ) (b : ℕ) → is_over (line ++ b ∷ []) ≡ (b == 10)

@@ -1,14 +1,10 @@
 -- Turns one after the other, and what an input has behind its first bytes.
-use Rattle.std.proofs.Common.{Bor, true, false, if◌then◌else◌, ◌==◌, inl, inr, ◌⊎◌, ◌≡◌, ◌∷◌, ◌++◌, ℕ, List, [], Option, None, Some, Result, Ok, Err, ap, drop, length, get_or, arith, refl, sym, subst, append_assoc, append-nil, ◌≤◌, ◌+◌, ◌<◌, ◌∙◌}
-use Rattle.std.proofs.{lemmas.List.at_drop_more, lemmas.List.length-map, Math.ListN.drop_of_length-le, KnownBytes.Consumes-nil, KnownBytes.Consumes-trans}
-use Rattle.std.proofs.{KnownBytes.Keeps-refl}
-use Rattle.std.specs.{Prelude.map, Fmt.option_append, Option.option_or, Io.KnownBytes.Consumes, Io.KnownBytes.Keeps, Io.KnownBytes.prepend_known}
-use Rattle.std.specs.{declared.io.buffered.BufReader.BufReader, Io.Buffered.reader_buffer, Io.Buffered.reader_capacity, Io.Buffered.reader_inner}
-use Rattle.std.specs.{Io.Buffered.reader_remaining, Result.IsErrAnd}
+use Rattle.csicodec_command.proofs.Common.{Bor, true, false, if◌then◌else◌, ◌==◌, inl, inr, ◌⊎◌, ◌≡◌, ◌∷◌, ◌++◌, ℕ, List, [], Option, None, Some, Result, Ok, Err, ap, drop, length, get_or, arith, refl, sym, subst, append_assoc, append-nil, ◌≤◌, ◌+◌, ◌<◌, ◌∙◌, at_drop_more, length-map, drop_of_length-le, Consumes-nil, Consumes-trans, Keeps-refl, map, Consumes, Keeps, prepend_known}
+use Rattle.std.specs.{Fmt.option_append, Option.option_or, declared.io.buffered.BufReader.BufReader, Io.Buffered.reader_buffer, Io.Buffered.reader_capacity}
+use Rattle.std.specs.{Io.Buffered.reader_inner, Io.Buffered.reader_remaining, Result.IsErrAnd}
 use Rattle.csicodec_command.specs.Runs.{At, Closes, Ends, HasTurn, IsReadBy, IsRun, IsTold, IsUnread, MayBeRecording, Next, Recording, StepsOf, Stream, Through, ends_run, first_of}
 use Rattle.csicodec_command.specs.declared.failure.Failure.{Failure}
-use Rattle.csicodec_transform.specs.declared.error.RunError.TheVariants as error
-use Rattle.csicodec_command.specs.declared.failure.Failure.TheVariants as failure
+use Rattle.csicodec_transform.specs.declared.error.RunError.{RunError}
 
 abbrev pub named : List (Bor (List ℕ)) → List (List ℕ)
 named names = map (λ n. n.now) names
@@ -85,16 +81,14 @@ handed_on (Ok x) e h = absurd h
 handed_on (Err y) e h = ap Err h
 
 pub unread : (result : Result (Unit {0}) Failure) (e : Failure) → result ≡ Err e
-    → (e ≡ failure.Run error.Read) ⊎ (e ≡ failure.Run error.Memory) → IsUnread result
+    → (e ≡ Failure.Run RunError.Read) ⊎ (e ≡ Failure.Run RunError.Memory) → IsUnread result
 unread result e is (inl read) = inl (is ∙ ap Err read)
 unread result e is (inr memory) = inr (is ∙ ap Err memory)
 
 -- the front and the rest in one
 pub chained : (before after whole : Option (List ℕ)) (front piece : List ℕ) → Consumes before after front → piece ≡ front
     → whole ≡ option_append (Some piece) after → Keeps before whole
-chained before after whole front piece seen same is =
-    subst (λ (w : Option (List ℕ)). Keeps before w) (sym is)
-    (subst (λ (p : List ℕ). Keeps before (option_append (Some p) after)) (sym same) (whole_kept before after front seen))
+chained before after whole front piece seen same is = rw (is, same) (whole_kept before after front seen)
 
 pub nothing_ahead : (known rest : Option (List ℕ)) → Keeps known rest → Keeps known (prepend_known [] rest)
 nothing_ahead None rest h = tt

@@ -1,3 +1,4 @@
+pub mod Common
 pub mod Failure
 pub mod Overwrites
 pub mod Recorded

@@ -1,9 +1,7 @@
 -- What a recording of asciinema hands on: the data that its programs wrote, one behind the other.
-use Rattle.std.specs.Prelude.{ℕ, ◌==◌, Bool, true, false, List, [], ◌∷◌, ◌++◌, codes, String, string_bytes, Option, None, Some, option_map, option_and_then, unwrap_or, if◌then◌else◌}
-use Rattle.std.specs.{Str.bytes_eq, Str.is_utf8, Str.trim, declared.alloc.Global.Global}
-use Rattle.serde_json.specs.{Data.Data, Find.as_number, Find.as_str, Find.as_u64, Find.at, Find.get, Read.read}
-use Rattle.csicodec_assemble.specs.Lines.{last_line}
+use Rattle.csicodec_command.specs.Common.{ℕ, Bool, true, false, List, [], codes, String, string_bytes, Option, None, Some, option_map, option_and_then, unwrap_or, bytes_eq, is_utf8, trim, Global, Data, as_number, as_str, as_u64, at, get, read, last_line}
 use Rattle.csicodec_command.specs.declared.recorded.Recorded.{Recorded}
+use Rattle.std.specs.Prelude.{◌==◌, ◌∷◌, ◌++◌, if◌then◌else◌}
 
 -- an event: its code, and its data
 abbrev pub Event : Type 0

@@ -1,9 +1,8 @@
 -- A run over inputs, one after the other: what is asked of what works on them, which turn each had, and the status at the end.
-use Rattle.std.specs.Prelude.{ℕ, Bool, true, false, ◌≡◌, ◌⊎◌, List, [], ◌∷◌, map, eqb, codes, Option, None, Some, Result, Ok, Err, IfSome, OnOk, OnErr, MatchResult}
-use Rattle.std.specs.{List.ends_with, Io.KnownBytes.Keeps, Borrow.Bor}
+use Rattle.csicodec_command.specs.Common.{ℕ, Bool, true, false, List, [], map, eqb, codes, Option, None, Some, Result, Ok, Err, IfSome, OnOk, OnErr, MatchResult, ends_with, Keeps, Bor}
 use Rattle.csicodec_command.specs.{declared.failure.Failure.Failure, Failure.status}
-use Rattle.csicodec_transform.specs.declared.error.RunError.TheVariants as error
-use Rattle.csicodec_command.specs.declared.failure.Failure.TheVariants as failure
+use Rattle.std.specs.Prelude.{◌≡◌, ◌⊎◌, ◌∷◌}
+use Rattle.csicodec_transform.specs.declared.error.RunError.{RunError}
 
 -- What is asked of what works on inputs. The input of a name comes next; it is to be written, whose bytes these are where they are
 -- known; it is, as a recording; there are no more.
@@ -27,10 +26,9 @@ GoesOf S = Option (List ℕ) → At S → Result (Unit {0}) Failure → At S →
 
 -- each input by itself: a recording goes as any other, and nothing is done ahead of an input or behind the last
 abbrev pub AloneSteps : {S : Type 0} → GoesOf S → StepsOf S
-AloneSteps Goes (Next name) start result end = (result ≡ Ok tt) × (end ≡ start)
 AloneSteps Goes (Stream known) start result end = Goes known start result end
 AloneSteps Goes (Recording known) start result end = Goes known start result end
-AloneSteps Goes End start result end = (result ≡ Ok tt) × (end ≡ start)
+AloneSteps Goes other start result end = (result ≡ Ok tt) × (end ≡ start)
 
 -- Which inputs may be recordings: those whose names say so, and standard input that begins with `{`.
 abbrev pub MayBeRecording : List ℕ → Option (List ℕ) → Type 0
@@ -39,7 +37,7 @@ MayBeRecording name known = (ends_with eqb name (codes ".cast") ≡ true)
 
 -- its first bytes couldn't be read, or there was no memory for them
 abbrev pub IsUnread : Result (Unit {0}) Failure → Type 0
-IsUnread result = (result ≡ Err (failure.Run error.Read)) ⊎ (result ≡ Err (failure.Run error.Memory))
+IsUnread result = (result ≡ Err (Failure.Run RunError.Read)) ⊎ (result ≡ Err (Failure.Run RunError.Memory))
 
 -- An input of this name was worked on, whose bytes these are where they are known: it came next, and then it was written, as a
 -- recording only where it may be one, unless its first bytes couldn't be read.
@@ -57,17 +55,17 @@ pub record IsReadBy {S : Type 0} (Steps : StepsOf S) (name : List ℕ) (known : 
 -- The input of this name had its turn: it couldn't be opened, which leaves all as it was, or it was worked on.
 abbrev pub HasTurn : {S : Type 0} → StepsOf S → (List ℕ → Option (List ℕ)) → List ℕ → At S
     → Result (Unit {0}) Failure → At S → Type 0
-HasTurn Steps holds name start result end = ((result ≡ Err failure.Open) × (end ≡ start))
+HasTurn Steps holds name start result end = ((result ≡ Err Failure.Open) × (end ≡ start))
     ⊎ IsReadBy Steps name (holds name) start result end
 
 -- The status that is told of a failure: its own, or of a write that failed, where the reader of the output went away, 141.
 abbrev pub IsTold : Failure → ℕ → Type 0
-IsTold f n = (n ≡ status f) ⊎ ((f ≡ failure.Run error.Write) × (n ≡ 141))
+IsTold f n = (n ≡ status f) ⊎ ((f ≡ Failure.Run RunError.Write) × (n ≡ 141))
 
 -- a failure behind which no input can be worked on: a write failed, or memory ran out
 abbrev pub ends_run : Failure → Bool
-ends_run (failure.Run error.Write) = true
-ends_run (failure.Run error.Memory) = true
+ends_run (Failure.Run RunError.Write) = true
+ends_run (Failure.Run RunError.Memory) = true
 ends_run f = false
 
 -- The inputs of these names had their turns, one after the other, and each began where the one before ended. There are the statuses of

@@ -1,7 +1,7 @@
 //! What a program tells of a run that failed: its message, and the status.
-ghost use Rattle.std.specs.Prelude.{◌≡◌, Some};
-ghost use Rattle.csicodec_transform.specs.declared.error.RunError.{RunError};
-ghost use Rattle.csicodec_command.specs.{Failure.found_text, Failure.line, Failure.status, Runs.ends_run, declared.failure.Failure.TheVariants.Run as Ran};
+ghost use Rattle.csicodec_command.specs.{Common.Some, Common.RunError, Failure.found_text, Failure.line, Failure.status, Runs.ends_run};
+ghost use Rattle.csicodec_command.specs.{declared.failure.Failure.TheVariants.Run as Ran};
+ghost use Rattle.std.specs.Prelude.{◌≡◌};
 
 use csicodec_assemble::Fault;
 use csicodec_transform::RunError;
@@ -104,19 +104,13 @@ impl Failure {
         ensures { result ≡ status self.now }
     {
         match self {
-            Failure::Usage
-            | Failure::NotText
-            | Failure::UnknownOption
-            | Failure::Misplaced
-            | Failure::Apart
-            | Failure::NoValue
-            | Failure::NotValue => 64,
             Failure::Open => 2,
             Failure::Recording(_)
             | Failure::Times(_)
             | Failure::Object(_, _)
             | Failure::NotPlain(_, _, _) => 1,
             Failure::Run(error) => error.status(),
+            _ => 64,
         }
     }
 

@@ -290,4 +290,4 @@ read like any other FILE.
   -h, --help     Show this text.";
 
 /// The program's name and version.
-pub const VERSION: &str = "csicodec 1.20.0";
+pub const VERSION: &str = "csicodec 1.21.0";

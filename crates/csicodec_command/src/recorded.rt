@@ -1,9 +1,8 @@
 //! What the programs of a recording wrote, as a stream.
-ghost use Rattle.std.specs.Prelude.{◌≡◌, ◌≢◌, ◌∷◌, [], false, true, Err, IfErr, IfOk, IfSome, IsErr, OnErr, OnOk, if◌then◌else◌, option_map, unwrap_or};
-ghost use Rattle.std.specs.Io.KnownBytes.{Keeps};
-ghost use Rattle.csicodec_transform.specs.declared.error.RunError.{RunError};
+ghost use Rattle.csicodec_command.specs.Common.{[], false, true, Err, IfErr, IfOk, IfSome, IsErr, OnErr, OnOk, option_map, unwrap_or, Keeps, RunError};
 ghost use Rattle.csicodec_command.specs.{declared.failure.Failure.TheVariants.Run as Ran, Recorded.is_over, Recorded.left, Recorded.lines_from, Recorded.lines_left};
 ghost use Rattle.csicodec_command.specs.{Recorded.recorded, Recorded.to_come};
+ghost use Rattle.std.specs.Prelude.{◌≡◌, ◌≢◌, ◌∷◌, if◌then◌else◌};
 
 use crate::failure::Failure;
 use crate::recording::Recording;

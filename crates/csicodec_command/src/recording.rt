@@ -1,11 +1,9 @@
 //! Recordings of asciinema (asciicast, versions 2 and 3): a line of JSON with the version, and one for each event, `[time, "o",
 //! "data"]` for what a program wrote. Times are seconds: in version 2 from the begin, in version 3 from the event before.
-ghost use Rattle.std.specs.Prelude.{◌≡◌, ◌≢◌, ◌∷◌, ℕ, List, None, Some, true, IfErr, IfOk, IsUtf8, OnErr, OnOk, OnSome, option_map, string_bytes};
-ghost use Rattle.std.specs.Str.{trim};
-ghost use Rattle.serde_json.specs.{Read.read, View.view};
-ghost use Rattle.csicodec_transform.specs.declared.error.RunError.{RunError};
+ghost use Rattle.csicodec_command.specs.Common.{ℕ, List, None, Some, true, IfErr, IfOk, IsUtf8, OnErr, OnOk, OnSome, option_map, string_bytes, trim, read, view, RunError};
 ghost use Rattle.csicodec_command.specs.Recorded.{data_or_none, event_of, is_passed, line_says, says, texts_of, version_behind, version_in, written};
 ghost use Rattle.csicodec_command.specs.declared.failure.Failure.TheVariants.{Recording as Refused, Run as Ran};
+ghost use Rattle.std.specs.Prelude.{◌≡◌, ◌≢◌, ◌∷◌};
 
 use crate::failure::Failure;
 use csicodec_transform::RunError;
@@ -71,8 +69,7 @@ fn version_of(object: &Value) -> Option<u64>
     ensures { result ≡ version_in (view object.now) }
 {
     match object.get("version").and_then(Value::as_u64) {
-        Some(2) => Some(2),
-        Some(3) => Some(3),
+        version @ Some(2 | 3) => version,
         _ => None,
     }
 }
@@ -104,11 +101,7 @@ fn data_of(event: Option<(String, String)>) -> Option<String>
     ensures { data_or_none result ≡ written (option_map texts_of event) }
 {
     let (code, text) = event?;
-    if code.as_str() == "o" {
-        Some(text)
-    } else {
-        None
-    }
+    (code.as_str() == "o").then_some(text)
 }
 
 impl Recording {
@@ -234,12 +227,8 @@ impl Recording {
         let (Some(code), Some(data)) = (code, data) else {
             return Err(self.refusal());
         };
-        let time = micros(time_of(line));
-        self.time = if self.version == 2 {
-            time
-        } else {
-            self.time.saturating_add(time)
-        };
+        let before = if self.version == 2 { 0 } else { self.time };
+        self.time = before.saturating_add(micros(time_of(line)));
         let code = String::from_str(self.alloc, code)?;
         let data = String::from_str(self.alloc, data)?;
         Ok((code, data))

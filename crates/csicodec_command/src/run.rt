@@ -1,9 +1,8 @@
 //! A run of a program: its words, its inputs one after the other, and what it tells of what failed.
-ghost use Rattle.std.specs.Prelude.{◌≡◌, ◌⊎◌, ◌∷◌, [], ℕ, List, Option, None, Some, true, map, eqb, codes, IfErr, IfOk};
-ghost use Rattle.std.specs.{List.ends_with, Io.KnownBytes.Consumes};
-ghost use Rattle.csicodec_transform.specs.declared.error.RunError.{RunError};
+ghost use Rattle.csicodec_command.specs.Common.{[], ℕ, List, Option, None, Some, true, map, eqb, codes, IfErr, IfOk, ends_with, Consumes, RunError};
 ghost use Rattle.csicodec_command.specs.Runs.{Asked, Closes, GoesOf, HasTurn, IsReadBy, IsRun, IsTold, MayBeRecording, StepsOf, Through, failure_of, first_of, names_of};
 ghost use Rattle.csicodec_command.specs.{Failure.status, declared.failure.Failure.TheVariants.Run as Ran};
+ghost use Rattle.std.specs.Prelude.{◌≡◌, ◌⊎◌, ◌∷◌};
 
 use crate::command::{Invocation, Request, UNREADABLE, Wrong, command_of};
 use crate::failure::{Failure, GONE};
@@ -289,23 +288,16 @@ fn opened(rt: &HostRuntime, name: &str) -> Result<File, u8>
     if let Some(name) = name.strip_prefix(UNREADABLE) {
         return Err(failed(rt, Failure::Open, name, None));
     }
-    match File::open(rt, name) {
-        Ok(file) => Ok(file),
-        Err(error) => Err(failed(rt, Failure::Open, name, Some(error))),
-    }
+    File::open(rt, name).map_err(|error| failed(rt, Failure::Open, name, Some(error)))
 }
 
 /// The text of a file; the status, if it can't be read.
 pub fn text_of(rt: &HostRuntime, name: &str) -> Result<String, u8> {
     let mut text = String::new(rt.alloc());
     let mut file = opened(rt, name)?;
-    match file.read_to_string(&mut text) {
-        Ok(_) => Ok(text),
-        Err(error) => {
-            let failure = Failure::Run(RunError::Read);
-            Err(failed(rt, failure, name, Some(error)))
-        }
-    }
+    let read = file.read_to_string(&mut text);
+    read.map_err(|error| failed(rt, Failure::Run(RunError::Read), name, Some(error)))?;
+    Ok(text)
 }
 
 /// Reads the first bytes of an input: at least its first line, if that may be an object of JSON and isn't longer than a chunk.
@@ -391,10 +383,7 @@ fn work_on<T: Worker, I: Inputs, W: Write>(
         (failure_of result) (work.new, W.contents output.new.out) }
     ensures told { IfErr result (λ e. IsTold e.0 e.1) }
 {
-    let from = match inputs.open(name) {
-        Ok(from) => from,
-        Err(status) => return Err((Failure::Open, status)),
-    };
+    let from = inputs.open(name).map_err(|status| (Failure::Open, status))?;
     let mut input = Input { from, fault: None };
     match read_through(rt.alloc(), work, name, &mut input, output) {
         Ok(()) => Ok(()),
@@ -523,16 +512,11 @@ pub fn work_through<T: Worker>(rt: &HostRuntime, work: &mut T, files: &[&str]) -
     run_through(rt, rt, work, files, &mut Output::new(rt.stdout()))
 }
 
-/// Whether a word is the path of a file that can be read.
-fn is_file(rt: &HostRuntime, word: &str) -> bool {
-    File::open(rt, word).is_ok()
-}
-
 /// Says what is wrong with the command line, and how the program is used; the status that it ends with.
 pub fn refused(rt: &HostRuntime, wrong: Wrong<'_>) -> u8 {
     let failure = wrong.failure();
     let wrong = match wrong {
-        Wrong::NoCommand(word, _) if is_file(rt, word) => Wrong::File(word),
+        Wrong::NoCommand(path, _) if File::open(rt, path).is_ok() => Wrong::File(path),
         _ => wrong,
     };
     let _told = match advice_of(wrong) {
@@ -599,10 +583,7 @@ pub fn words_of(rt: &HostRuntime) -> Result<Vec<String>, u8> {
 pub fn asked<'a>(rt: &HostRuntime, words: &'a [String]) -> Result<Option<Request<'a>>, u8> {
     match command_of(rt.alloc(), words) {
         Ok(Invocation::Run(run)) => Ok(Some(run)),
-        Ok(Invocation::Tell(text)) => {
-            say(rt, text)?;
-            Ok(None)
-        }
+        Ok(Invocation::Tell(text)) => say(rt, text).map(|()| None),
         Err(wrong) => Err(refused(rt, wrong)),
     }
 }

@@ -1,28 +1,19 @@
 -- Runs of parts, one after the other.
-use Rattle.std.proofs.Common.{◌≡◌, ◌≢◌, ◌≤◌, ◌+◌, ◌-◌, ℕ, true, false, List, [], ◌∷◌, ◌++◌, inl, inr, ⊎_elim, length, take, drop, refl, sym, ap, subst, ◌∙◌, append_assoc, append-nil, arith}
-use Rattle.std.proofs.{lemmas.Bool.cases_Bool, lemmas.Bool.true≢false, lemmas.Grind.flat_map-append, Math.Seq.take-append_seam, lemmas.List.drop-append-le}
-use Rattle.std.proofs.{lemmas.List.length-append, lemmas.List.length-drop, lemmas.List.length-take-le, lemmas.List.take-take}
-use Rattle.csicodec_actions.proofs.AllRows.{all-append}
-use Rattle.std.specs.List.{AllByRecursion, flat_map}
-use Rattle.csicodec_tokens.specs.{declared.param.CsiParam.CsiParam, Sequence.Seq}
-use Rattle.csicodec_tokens.proofs.Unique.{one_seq}
-use Rattle.csicodec_parser.specs.Private.Steps.{actions}
+use Rattle.std.proofs.Common.{◌≡◌, ◌≢◌, ◌≤◌, ◌+◌, ◌-◌, ℕ, true, false, List, [], ◌∷◌, ◌++◌, inl, inr, ⊎_elim, length, take, drop, refl, sym, ap, subst, ◌∙◌, append_assoc, append-nil, arith, true≢false, length-append, length-drop, length-take-le, take-take, flat_map}
+use Rattle.std.proofs.{lemmas.Bool.cases_Bool, Math.Seq.take-append_seam, lemmas.List.drop-append-le}
+use Rattle.csicodec_tokens.proofs.Reading.{one_seq}
 use Rattle.csicodec_parser.proofs.Cuts.{actions_are}
 use Rattle.csicodec_streams.specs.{Decoding.Decodes, Known.IsOne}
-use Rattle.csicodec_actions.specs.Actions.{Action}
-use Rattle.csicodec_streams.proofs.OneReading.{decodes-append, one_decoding, one_sequence}
-use Rattle.csicodec_spans.specs.Parts.{Part, part, bytes_of, left_over, AreAll, IsPlainFront, IsSpan, IsUnsure}
-use Rattle.csicodec_spans.specs.{declared.table.Kind.Kind, declared.table.Mode.Mode}
-use Rattle.csicodec_filter.specs.{Faithful.stays, Filter.Held, Meaning.singles, Written.Adds, Written.Appends, Written.Leaves, Written.Since, Written.open_at}
-use Rattle.csicodec_transform.specs.Transform.{Begins as BeginsWith, Sends, Transforms}
-use Rattle.csicodec_filter.proofs.Written.{appends, made, makes, one_first}
-use Rattle.csicodec_compact.specs.Runs.{IsStaying, NoneStays, Shortens, AreRuns, IsShortened, PassesShort, CompactsAll, most_joined}
-use Rattle.csicodec_compact.specs.Private.Steps.{Holds, Begins, form_of, closing, joint, behind, is_joined, may_join, opened, list_of, IsTail, IsListed, IsOwn, IsNotedList, IsNoted, IsNote, HasFew, LeavesRoom, GoesOnFrom, IsEnd, IsHeld, Extends, GoesOnBy}
-use Rattle.csicodec_compact.specs.{Compacts.Compacts, Compacts.ReadsAlike, declared.form.TextEnding.TextEnding, declared.shortener.Shortener.Shortener}
+use Rattle.csicodec_streams.proofs.OneReading.{decodes-append, decodes-one, one_decoding}
+use Rattle.csicodec_spans.specs.{Parts.Part, Parts.part, Parts.bytes_of, Parts.IsSpan, Parts.IsUnsure, declared.table.Kind.Kind, declared.table.Mode.Mode}
+use Rattle.csicodec_filter.specs.{Faithful.stays, Filter.Held, Written.Appends, Written.Leaves, Written.Since}
+use Rattle.csicodec_transform.specs.Transform.{Adds, Begins as BeginsWith, Sends, Transforms}
+use Rattle.csicodec_filter.proofs.Written.{made, makes, spanned}
+use Rattle.csicodec_compact.specs.Runs.{IsStaying, NoneStays, Shortens, AreRuns, PassesShort, CompactsAll, most_joined}
+use Rattle.csicodec_compact.specs.Private.Steps.{Begins, joint, behind, is_joined, may_join, list_of, IsTail, IsNotedList, IsNoted, IsNote, HasFew, LeavesRoom, GoesOnFrom, IsEnd, IsHeld, Extends, GoesOnBy}
+use Rattle.csicodec_compact.specs.{declared.form.TextEnding.TextEnding, declared.shortener.Shortener.Shortener}
+use Rattle.csicodec_compact.proofs.Common.{flat_map-append, all-append, CsiParam, Seq, actions, Action, IsShortened, Holds, form_of, closing, opened, IsListed, IsOwn, Compacts, ReadsAlike}
 use Rattle.csicodec_compact.proofs.JoinedLists.{tail_joined, tail_decodes, joint_short}
-use Rattle.csicodec_spans.specs.declared.table.Kind.TheVariants as kind
-use Rattle.csicodec_spans.specs.declared.table.Mode.TheVariants as mode
-use Rattle.csicodec_compact.specs.declared.form.TextEnding.TheVariants as forms
 
 -- ---- bytes in front of others
 
@@ -47,31 +38,17 @@ runs_on (r ∷ rs) qs ps more s t (rest, first, others, is, text, run, runs) k =
 pub shortened_on : (ps more : List Part) (s t : List ℕ) → IsShortened ps s → IsShortened more t → IsShortened (ps ++ more) (s ++ t)
 shortened_on ps more s t h k = (h.0 ++ k.0, runs_on h.0 k.0 ps more s t h.1 k.1)
 
-pub shortened_none : IsShortened [] []
+shortened_none : IsShortened [] []
 shortened_none = ([], (refl, refl))
 
 pub shortened_run : (run : List Part) (text : List ℕ) → Shortens run text → IsShortened run text
 shortened_run run text h = (run ∷ [], ([], text, [], sym (append-nil run), sym (append-nil text), inl h, (refl, refl)))
 
-plain_runs : (k : Kind) (ps : List Part) → k ≢ kind.Csi → AllByRecursion (λ (p : Part). p.kind ≡ k) ps → AreRuns (singles ps) ps (flat_map bytes_of ps)
-plain_runs k [] ne all = (refl, refl)
-plain_runs k (p ∷ ps) ne all =
-    (ps, p.bytes, flat_map bytes_of ps, refl, refl, inr (p, refl, (λ e. ne (sym all.0 ∙ e)), refl), plain_runs k ps ne all.1)
+shortened_plain : (k : Kind) (bytes : List ℕ) → k ≢ Kind.Csi → IsShortened (part k bytes ∷ []) bytes
+shortened_plain k bytes ne = ((part k bytes ∷ []) ∷ [], ([], bytes, [], refl, sym (append-nil bytes), inr (part k bytes, refl, ne, refl), (refl, refl)))
 
-all_plain : (k : Kind) (bytes : List ℕ) (ps : List Part) → k ≢ kind.Csi → AreAll k bytes ps → IsShortened ps bytes
-all_plain k bytes ps ne s = rw (← s.joined) (singles ps, plain_runs k ps ne s.all)
-
-one_plain : (k : Kind) (bytes : List ℕ) (ps : List Part) → k ≢ kind.Csi → ps ≡ part k bytes ∷ [] → IsShortened ps bytes
-one_plain k bytes ps ne e = rw e ((part k bytes ∷ []) ∷ [], ([], bytes, [], refl, sym (append-nil bytes), inr (part k bytes, refl, ne, refl), (refl, refl)))
-
-pub shortened_span : (k : Kind) (bytes : List ℕ) (ps : List Part) → k ≢ kind.Csi → IsSpan k bytes ps → IsShortened ps bytes
-shortened_span kind.Csi bytes ps ne s = absurd (ne refl)
-shortened_span kind.Esc bytes ps ne s = one_plain kind.Esc bytes ps ne s
-shortened_span k bytes ps ne s = all_plain k bytes ps ne s
-
-pub shortened_left : (rest : List ℕ) → IsShortened (left_over rest) rest
-shortened_left [] = shortened_none
-shortened_left (b ∷ rest) = one_plain kind.Other (b ∷ rest) (left_over (b ∷ rest)) (λ e. cc) refl
+pub shortened_span : (k : Kind) (bytes : List ℕ) (ps : List Part) → k ≢ Kind.Csi → IsSpan k bytes ps → IsShortened ps bytes
+shortened_span = spanned IsShortened shortened_none shortened_plain shortened_on
 
 -- ---- one sequence, and two runs joined
 
@@ -81,19 +58,19 @@ free_by bytes list final s free = λ staying.
     let same = one_seq bytes bytes [] [] list other final last s t refl in
     true≢false (sym (rw (← same.1, ← same.2) at stay) ∙ free)
 
-one_short : (bytes own : List ℕ) → IsOne bytes → Compacts bytes own → Shortens (part kind.Csi bytes ∷ []) own
+one_short : (bytes own : List ℕ) → IsOne bytes → Compacts bytes own → Shortens (part Kind.Csi bytes ∷ []) own
 one_short bytes own (list, final, s) h =
     let xs = actions list false final in
-    let came : Decodes bytes false xs = one_sequence bytes list final xs s (actions_are list false final) in
+    let came : Decodes bytes false xs = decodes-one bytes list false final xs s (actions_are list false final) in
     record {
       all = (refl, tt);
       actions = xs;
       came = rw (append-nil bytes) came;
       written = h.alike xs came;
       short = rw (append-nil bytes) h.short;
-      within = inr (part kind.Csi bytes, refl);
+      within = inr (part Kind.Csi bytes, refl);
       kept = elim (cases_Bool (stays list final)) [
-        | inl stay ↦ inr (part kind.Csi bytes, refl, h.kept list final s stay)
+        | inl stay ↦ inr (part Kind.Csi bytes, refl, h.kept list final s stay)
         | inr free ↦ inl (free_by bytes list final s free, tt)
       ];
     }
@@ -104,7 +81,7 @@ pub joined_short : (run more : List Part) (held own joined : List ℕ) → Short
 joined_short run more held own joined h k free others short alike within =
     let bytes = flat_map-append bytes_of run more in
     record {
-      all = all-append (λ (p : Part). p.kind ≡ kind.Csi) run more h.all k.all;
+      all = all-append (λ (p : Part). p.kind ≡ Kind.Csi) run more h.all k.all;
       actions = h.actions ++ k.actions;
       came = rw bytes (decodes-append (flat_map bytes_of run) (flat_map bytes_of more) false h.actions k.actions h.came k.came);
       written = alike (h.actions ++ k.actions) (decodes-append held own false h.actions k.actions h.written k.written);
@@ -116,15 +93,15 @@ joined_short run more held own joined h k free others short alike within =
 -- ---- what is held
 
 -- nothing
-pub none_held : (room : ℕ) → IsHeld [] [] forms.Whole room
+pub none_held : (room : ℕ) → IsHeld [] [] TextEnding.Whole room
 none_held room = record { front = []; left = []; text = []; tail = []; parts = refl; whole = refl; written = shortened_none; end = (refl, refl) }
 
 -- nothing goes on
-held_whole : (run : List Part) (held : List ℕ) (room : ℕ) → IsShortened run held → IsHeld run held forms.Whole room
+held_whole : (run : List Part) (held : List ℕ) (room : ℕ) → IsShortened run held → IsHeld run held TextEnding.Whole room
 held_whole run held room h = record { front = run; left = []; text = held; tail = []; parts = sym (append-nil run); whole = sym (append-nil held); written = h; end = (refl, refl) }
 
 module _ (run front left : List Part) (held text list : List ℕ) (xs : List Action) (room : ℕ) (parts : run ≡ front ++ left) (whole : held ≡ text ++ 27 ∷ 91 ∷ list) (written : IsShortened front text) (few : LeavesRoom room list) where
-  held_last : Shortens left (27 ∷ 91 ∷ (list ++ [])) → IsHeld run held forms.Last room
+  held_last : Shortens left (27 ∷ 91 ∷ (list ++ [])) → IsHeld run held TextEnding.Last room
   held_last short = record {
     front = run;
     left = [];
@@ -138,8 +115,8 @@ module _ (run front left : List Part) (held text list : List ℕ) (xs : List Act
 
   -- a list that is held behind others
   held_list : (form : TextEnding) → IsTail form list xs → Shortens left (27 ∷ 91 ∷ (list ++ closing form)) → NoneStays left → IsHeld run held form room
-  held_list forms.Whole tail short free = absurd tail
-  held_list forms.Last tail short free = held_last short
+  held_list TextEnding.Whole tail short free = absurd tail
+  held_list TextEnding.Last tail short free = held_last short
   held_list form tail short free = record {
     front = front;
     left = left;
@@ -156,8 +133,8 @@ pub closed : (run : List Part) (held : List ℕ) (form : TextEnding) (room : ℕ
 closed run held form room h = go form h.end
   where
     go : (form : TextEnding) → IsEnd form room h.left h.tail → IsShortened run (held ++ closing form)
-    go forms.Whole none = rw (append-nil held, h.parts, h.whole, none.0, none.1, append-nil h.front, append-nil h.text) h.written
-    go forms.Last none = rw (append-nil held, h.parts, h.whole, none.0, none.1, append-nil h.front, append-nil h.text) h.written
+    go TextEnding.Whole none = rw (append-nil held, h.parts, h.whole, none.0, none.1, append-nil h.front, append-nil h.text) h.written
+    go TextEnding.Last none = rw (append-nil held, h.parts, h.whole, none.0, none.1, append-nil h.front, append-nil h.text) h.written
     go form g =
         let shut = 27 ∷ 91 ∷ (g.list ++ closing form) in
         rw (h.parts, h.whole, g.whole, append_assoc) (shortened_on h.front h.left h.text shut h.written (shortened_run h.left shut g.shorter))
@@ -167,22 +144,22 @@ joint_few : (st form : TextEnding) (text : List ℕ) → length text ≤ 255 →
 joint_few st form text few = grind arith
 
 closing_few : (form : TextEnding) → length (closing form) ≤ 2
-closing_few forms.Whole = omega arith
+closing_few TextEnding.Whole = omega arith
 closing_few _ = omega arith
 
 module _ (run : List Part) (bytes held text : List ℕ) (st : TextEnding) (room left : ℕ) (h : IsHeld run held st room) (one : IsOne bytes) where
   -- a list begins behind it
-  begun_list : (form : TextEnding) → (n : IsNotedList form bytes text) → (left ≤ 15) × (length text ≤ 255) → IsHeld (run ++ part kind.Csi bytes ∷ []) ((held ++ closing st) ++ 27 ∷ 91 ∷ drop 1 text) form left
+  begun_list : (form : TextEnding) → (n : IsNotedList form bytes text) → (left ≤ 15) × (length text ≤ 255) → IsHeld (run ++ part Kind.Csi bytes ∷ []) ((held ++ closing st) ++ 27 ∷ 91 ∷ drop 1 text) form left
   begun_list form n few =
       let same : 27 ∷ 91 ∷ drop 1 text ≡ 27 ∷ 91 ∷ n.list = ap (λ (l : List ℕ). 27 ∷ 91 ∷ drop 1 l) n.whole in
-      held_list (run ++ part kind.Csi bytes ∷ []) run (part kind.Csi bytes ∷ []) ((held ++ closing st) ++ 27 ∷ 91 ∷ drop 1 text) (held ++ closing st) n.list n.actions left refl
+      held_list (run ++ part Kind.Csi bytes ∷ []) run (part Kind.Csi bytes ∷ []) ((held ++ closing st) ++ 27 ∷ 91 ∷ drop 1 text) (held ++ closing st) n.list n.actions left refl
       (ap (λ (l : List ℕ). (held ++ closing st) ++ l) same) (closed run held st room h) (omega (arith, few.0, few.1, ap length n.whole)) form n.tail (one_short bytes (27 ∷ 91 ∷ (n.list ++ closing form)) one n.compacts) (n.free, tt)
 
   -- a list in the same sequence
   list_joined : (form : TextEnding) → (n : IsNotedList form bytes text) → GoesOnFrom st room h.left h.tail → may_join st form text ≡ true → (left + 1 ≤ room) × (length text ≤ 255)
-      → IsHeld (run ++ part kind.Csi bytes ∷ []) (held ++ joint st form text) (behind st form) left
+      → IsHeld (run ++ part Kind.Csi bytes ∷ []) (held ++ joint st form text) (behind st form) left
   list_joined form n g may few =
-      let p = part kind.Csi bytes ∷ [] in
+      let p = part Kind.Csi bytes ∷ [] in
       let may' : may_join st form (59 ∷ n.list) ≡ true = subst (λ (l : List ℕ). may_join st form l ≡ true) n.whole may in
       let list = g.list ++ joint st form (59 ∷ n.list) in
       let first = 27 ∷ 91 ∷ (g.list ++ closing st) in
@@ -229,14 +206,14 @@ list_short form text long few =
 
 -- a text that is a list is long enough
 pub own_long : (form : TextEnding) (text : List ℕ) → IsOwn form text → is_joined form ≡ true → 2 + length (closing form) ≤ length text
-own_long forms.Whole text own is = absurd (true≢false (sym is))
+own_long TextEnding.Whole text own is = absurd (true≢false (sym is))
 own_long form text own is = listed_long form text own
 
 pub note_of : (bytes text note : List ℕ) (form : TextEnding) → IsOne bytes → Compacts bytes text → IsOwn form text → (is_joined form ≡ true → ¬ IsStaying bytes)
     → (is_joined form ≡ true → length text ≤ 256)
     → (is_joined form ≡ false → (mark : ℕ) × (count : ℕ) × (form_of mark ≡ form) × (note ≡ mark ∷ count ∷ text))
     → (is_joined form ≡ true → (mark : ℕ) × (count : ℕ) × (form_of mark ≡ form) × (1 ≤ count) × (note ≡ mark ∷ count ∷ 59 ∷ list_of form text)) → IsNote bytes note
-note_of bytes text note forms.Whole one made own free few whole list =
+note_of bytes text note TextEnding.Whole one made own free few whole list =
     let (mark, count, is, e) = whole refl in (mark, count, text, e, one, rw is made, λ joined. absurd (true≢false (sym joined ∙ ap is_joined is)))
 note_of bytes text note form one made own free few whole list =
     let (mark, count, is, some, e) = list refl in
@@ -249,11 +226,11 @@ note_long bytes note n = omega (arith, ap length n.3)
 
 -- a text that stands by itself
 pub extends_one : (st form : TextEnding) (room left count : ℕ) (bytes text : List ℕ) → IsOne bytes → IsNoted form bytes text → HasFew form count text → left ≤ 16 - count
-    → Extends st room (part kind.Csi bytes ∷ []) (closing st ++ opened form text) form left
-extends_one st forms.Whole room left count bytes text one n few leaves run before h =
+    → Extends st room (part Kind.Csi bytes ∷ []) (closing st ++ opened form text) form left
+extends_one st TextEnding.Whole room left count bytes text one n few leaves run before h =
     rw (← append_assoc before (closing st) text)
-    (held_whole (run ++ part kind.Csi bytes ∷ []) ((before ++ closing st) ++ text) left
-    (shortened_on run (part kind.Csi bytes ∷ []) (before ++ closing st) text (closed run before st room h) (shortened_run (part kind.Csi bytes ∷ []) text (one_short bytes text one n))))
+    (held_whole (run ++ part Kind.Csi bytes ∷ []) ((before ++ closing st) ++ text) left
+    (shortened_on run (part Kind.Csi bytes ∷ []) (before ++ closing st) text (closed run before st room h) (shortened_run (part Kind.Csi bytes ∷ []) text (one_short bytes text one n))))
 extends_one st form room left count bytes text one n few leaves run before h =
     rw (← append_assoc before (closing st) (opened form text)) (begun_list run bytes before text st room left h one form n (omega (arith, (few refl).0, leaves), (few refl).1))
 
@@ -261,26 +238,26 @@ extends_one st form room left count bytes text one n few leaves run before h =
 pub as_it_came : (bytes : List ℕ) → Compacts bytes bytes
 as_it_came bytes = record { alike = λ actions d. d; short = omega arith; kept = λ list final s stay. refl }
 
-pub shortened_one : (bytes : List ℕ) → IsOne bytes → IsShortened (part kind.Csi bytes ∷ []) bytes
-shortened_one bytes one = shortened_run (part kind.Csi bytes ∷ []) bytes (one_short bytes bytes one (as_it_came bytes))
+pub shortened_one : (bytes : List ℕ) → IsOne bytes → IsShortened (part Kind.Csi bytes ∷ []) bytes
+shortened_one bytes one = shortened_run (part Kind.Csi bytes ∷ []) bytes (one_short bytes bytes one (as_it_came bytes))
 
 -- one in the same list
 pub extends_joined : (st form : TextEnding) (room left count : ℕ) (bytes text : List ℕ) → IsOne bytes → IsNoted form bytes text → may_join st form text ≡ true → HasFew form count text
-    → left + count ≤ room → Extends st room (part kind.Csi bytes ∷ []) (joint st form text) (behind st form) left
-extends_joined forms.Whole form room left count bytes text one n may few leaves run before h = cc
-extends_joined forms.Last form room left count bytes text one n may few leaves run before h = cc
-extends_joined st forms.Whole room left count bytes text one n may few leaves run before h = cc
+    → left + count ≤ room → Extends st room (part Kind.Csi bytes ∷ []) (joint st form text) (behind st form) left
+extends_joined TextEnding.Whole form room left count bytes text one n may few leaves run before h = cc
+extends_joined TextEnding.Last form room left count bytes text one n may few leaves run before h = cc
+extends_joined st TextEnding.Whole room left count bytes text one n may few leaves run before h = cc
 extends_joined st form room left count bytes text one n may few leaves run before h =
     list_joined run bytes before text st room left h one form n h.end may (omega (arith, (few refl).0, leaves), (few refl).1)
 
 -- what stands as it came
-pub extends_own : (st : TextEnding) (room left : ℕ) (bytes : List ℕ) (parts : List Part) → IsShortened parts bytes → Extends st room parts (closing st ++ bytes) forms.Whole left
+pub extends_own : (st : TextEnding) (room left : ℕ) (bytes : List ℕ) (parts : List Part) → IsShortened parts bytes → Extends st room parts (closing st ++ bytes) TextEnding.Whole left
 extends_own st room left bytes parts short run before h =
     rw (← append_assoc before (closing st) bytes)
     (held_whole (run ++ parts) ((before ++ closing st) ++ bytes) left (shortened_on run parts (before ++ closing st) bytes (closed run before st room h) short))
 
 -- no more parts, where the list is closed
-pub extends_close : (st : TextEnding) (room left : ℕ) → Extends st room [] (closing st) forms.Whole left
+pub extends_close : (st : TextEnding) (room left : ℕ) → Extends st room [] (closing st) TextEnding.Whole left
 extends_close st room left run before h = rw (append-nil run) (held_whole run (before ++ closing st) left (closed run before st room h))
 
 -- ---- the front of a piece
@@ -289,32 +266,15 @@ extends_close st room left run before h = rw (append-nil run) (held_whole run (b
 pub adds : (old new : Shortener) (parts : List Part) (before after : List ℕ) → GoesOnBy old.written.form old.written.room parts before after new.written.form new.written.room → Adds Holds old parts before after new
 adds old new parts before after (text, is, goes) = (text, (λ first run held h. goes run held h), is)
 
--- text, or an escape sequence
-pub front_plain : (limit n : ℕ) (bytes : List ℕ) (old new : Shortener) (before after : List ℕ) → IsPlainFront bytes n
-    → ((parts : List Part) → IsShortened parts (take n bytes) → GoesOnBy old.written.form old.written.room parts before after new.written.form new.written.room)
-    → Appends Holds (open_at old limit mode.Text bytes) before after (open_at new limit mode.Text (drop n bytes))
-front_plain limit n bytes old new before after (k, other, cuts) goes =
-    let found = cuts limit in
-    appends Holds limit old new mode.Text mode.Text bytes (drop n bytes) before after found.parts found.first
-    (adds old new found.parts before after (goes found.parts (shortened_span k (take n bytes) found.parts other found.span)))
-
--- a sequence that is known
-pub front_known : (limit len : ℕ) (bytes : List ℕ) (old new : Shortener) (before after : List ℕ) → IsOne (take len bytes) → len ≤ limit → len ≤ length bytes
-    → GoesOnBy old.written.form old.written.room (part kind.Csi (take len bytes) ∷ []) before after new.written.form new.written.room
-    → Appends Holds (open_at old limit mode.Text bytes) before after (open_at new limit mode.Text (drop len bytes))
-front_known limit len bytes old new before after one short within goes =
-    let p = part kind.Csi (take len bytes) ∷ [] in
-    appends Holds limit old new mode.Text mode.Text bytes (drop len bytes) before after p (one_first limit mode.Text bytes len one short within) (adds old new p before after goes)
-
 -- ---- a stream
 
 -- what is held, where nothing goes on
-over : (run : List Part) (held : List ℕ) (form : TextEnding) (room : ℕ) → IsHeld run held form room → form ≡ forms.Whole → IsShortened run held
-over run held form room h whole = rw (append-nil held) at (closed run held forms.Whole room (rw whole at h))
+over : (run : List Part) (held : List ℕ) (form : TextEnding) (room : ℕ) → IsHeld run held form room → form ≡ TextEnding.Whole → IsShortened run held
+over run held form room h whole = rw (append-nil held) at (closed run held TextEnding.Whole room (rw whole at h))
 
 -- what has passed at the end of a push, where the list is over
-pub passes_over : (old mid : Held Shortener) (new : Shortener) (before between after : List ℕ) → old.rewrite.written.form ≡ forms.Whole → Appends Holds old before between mid
-    → IsUnsure old.limit mid.mode mid.bytes → Adds Holds mid.rewrite [] between after new → new.written.form ≡ forms.Whole
+pub passes_over : (old mid : Held Shortener) (new : Shortener) (before between after : List ℕ) → old.rewrite.written.form ≡ TextEnding.Whole → Appends Holds old before between mid
+    → IsUnsure old.limit mid.mode mid.bytes → Adds Holds mid.rewrite [] between after new → new.written.form ≡ TextEnding.Whole
     → (text : List ℕ) × PassesShort old.limit old.mode old.bytes text mid.bytes mid.mode × (after ≡ before ++ text)
 passes_over old mid new before between after whole (text, x, is) unsure (more, goes, end) rests =
     let held : IsHeld x.parts text mid.rewrite.written.form mid.rewrite.written.room = x.goes old.rewrite [] [] (rw whole (none_held old.rewrite.written.room)) in
@@ -326,32 +286,34 @@ passes_over old mid new before between after whole (text, x, is) unsure (more, g
 
 -- the end
 pub compacts_all : (limit : ℕ) (m a : Mode) (bytes text rest : List ℕ) → PassesShort limit m bytes text rest a → CompactsAll limit m bytes (text ++ rest)
-compacts_all = makes IsShortened shortened_on shortened_left
+compacts_all = makes IsShortened shortened_none shortened_plain shortened_on
 
 abbrev pub Rested : Shortener → Type 0
-Rested s = s.written.form ≡ forms.Whole
+Rested s = s.written.form ≡ TextEnding.Whole
 
 module _ (first : Held Shortener) where
   -- what passed, where nothing goes on
-  pub since_rests : (last : Held Shortener) (bytes text : List ℕ) → Since Holds first bytes text last → Rested last.rewrite → PassesShort first.limit mode.Text bytes text last.bytes last.mode
+  pub since_rests : (last : Held Shortener) (bytes text : List ℕ) → Since Holds first bytes text last → Rested last.rewrite → PassesShort first.limit Mode.Text bytes text last.bytes last.mode
   since_rests last bytes text since rests =
       record { parts = since.parts; first = since.cut; unsure = since.unsure; written = over since.parts text last.rewrite.written.form last.rewrite.written.room since.written rests }
 
   -- all bytes, and what was held
-  pub compacted : (bytes text : List ℕ) → Transforms (Since Holds) (Leaves Holds Rested) first bytes text → CompactsAll first.limit mode.Text bytes text
-  compacted bytes text = made IsShortened shortened_on shortened_left Holds Rested first bytes text (λ parts own last h rests. over parts own last.written.form last.written.room h rests)
+  pub compacted : (bytes text : List ℕ) → Transforms (Since Holds) (Leaves Holds Rested) first bytes text → CompactsAll first.limit Mode.Text bytes text
+  compacted bytes text =
+      made IsShortened shortened_none shortened_plain shortened_on Holds Rested first bytes text
+      (λ parts own last h rests. over parts own last.written.form last.written.room h rests)
 
   -- what went out is a front of what is made of the bytes
   pub begun_compacts : (AreAll : Type 0) (bytes sent : List ℕ) → BeginsWith (Sends (Since Holds) first) (Transforms (Since Holds) (Leaves Holds Rested) first) AreAll bytes sent
-      → (unsent : List ℕ) × CompactsAll first.limit mode.Text bytes (sent ++ unsent)
+      → (unsent : List ℕ) × CompactsAll first.limit Mode.Text bytes (sent ++ unsent)
   begun_compacts AreAll bytes sent (unsent, h) = ⊎_elim
       (λ (k : Sends (Since Holds) first bytes (sent ++ unsent)).
       let (last, since) = k in
       let close = closing last.rewrite.written.form in
-      let passed : PassesShort first.limit mode.Text bytes ((sent ++ unsent) ++ close) last.bytes last.mode =
+      let passed : PassesShort first.limit Mode.Text bytes ((sent ++ unsent) ++ close) last.bytes last.mode =
       record { parts = since.parts; first = since.cut; unsure = since.unsure; written = closed since.parts (sent ++ unsent) last.rewrite.written.form last.rewrite.written.room since.written } in
       let same : ((sent ++ unsent) ++ close) ++ last.bytes ≡ sent ++ (unsent ++ (close ++ last.bytes)) =
       append_assoc (sent ++ unsent) close last.bytes ∙ append_assoc sent unsent (close ++ last.bytes) in
-      (unsent ++ (close ++ last.bytes), rw same at (compacts_all first.limit mode.Text last.mode bytes ((sent ++ unsent) ++ close) last.bytes passed)))
+      (unsent ++ (close ++ last.bytes), rw same at (compacts_all first.limit Mode.Text last.mode bytes ((sent ++ unsent) ++ close) last.bytes passed)))
       (λ (k : AreAll × Transforms (Since Holds) (Leaves Holds Rested) first bytes (sent ++ unsent)). (unsent, compacted bytes (sent ++ unsent) k.1))
       h

@@ -1,26 +1,56 @@
--- Lists of attributes that are joined at a `;`.
-use Rattle.std.proofs.Common.{◌≡◌, ◌≤◌, ℕ, ℤ, pos, true, false, not, Some, List, [], ◌∷◌, ◌++◌, length, map, inr, refl, sym, ap, subst, ◌∙◌, append_assoc, append-nil, arith}
-use Rattle.std.proofs.{lemmas.Bool.and_parts, lemmas.Bool.eqb-true, lemmas.Bool.not-false, lemmas.Bool.or_parts, lemmas.Bool.true≢false}
-use Rattle.std.proofs.{lemmas.List.append_cancel_right, lemmas.List.length-append, lemmas.List.map-append}
-use Rattle.std.specs.{Prelude.◌==◌, Prelude.slice_get, List.list_any}
-use Rattle.csicodec_tokens.specs.{declared.param.CsiParam.CsiParam, declared.param.CsiParam.TheVariants.Integer, declared.param.CsiParam.TheVariants.P}
-use Rattle.csicodec_tokens.specs.{Sequence.Seq, Sequence.Spellable, Sequence.Spells}
+-- Texts of actions, one after the other, and lists of attributes that are joined at a `;`.
+use Rattle.std.proofs.Common.{ℕ, ◌≡◌, ◌≤◌, List, [], ◌∷◌, ◌++◌, false, length, arith, ap, length-append, if◌then◌else◌, OnOk, ℤ, pos, true, not, Some, map, inr, refl, sym, subst, ◌∙◌, append_assoc, append-nil, eqb-true, true≢false, ◌==◌, slice_get}
+use Rattle.std.proofs.{lemmas.Bool.and_parts, lemmas.Bool.not-false, lemmas.Bool.or_parts, lemmas.List.append_cancel_right}
+use Rattle.std.specs.{Result.is_ok, declared.result.Result.Result, declared.result.Result.TheVariants.Ok, declared.result.Result.TheVariants.Err}
+use Rattle.csicodec_actions.specs.Table.{text, texts}
+use Rattle.csicodec_streams.proofs.{OneReading.Alone, OneReading.decodes-append, OneReading.decodes-each, OneReading.decodes-one, OneReading.seq_of}
+use Rattle.csicodec_streams.proofs.{Colors.spellable-joined, Colors.spells-joined}
+use Rattle.csicodec.specs.{Exact.ReadsAlone, Compose.EndsInSemicolon, Compose.IsStyleList}
+use Rattle.csicodec_compact.specs.Private.Steps.{is_mark, is_semicolon, is_bare, is_joined, may_join, joint, behind, IsList, IsOpenList, IsTail}
+use Rattle.csicodec_compact.specs.declared.form.TextEnding.{TextEnding}
+use Rattle.csicodec_tokens.specs.{declared.param.CsiParam.TheVariants.Integer, declared.param.CsiParam.TheVariants.P, Sequence.Spellable, Sequence.Spells}
 use Rattle.csicodec_base.specs.FrontBy.{piece}
 use Rattle.csicodec_base.proofs.Table.{is_piece, piece_within}
-use Rattle.csicodec_parser.specs.{ActionOf.action_of, Cut.semicolon, Cut.NoSemicolon, declared.actions.CSI.CSI, declared.group.Group.TheVariants.Styles}
-use Rattle.csicodec_parser.specs.{Groups.has_odd, Private.Steps.actions, Segments.Segmented, Segments.Actions}
-use Rattle.csicodec_parser.proofs.{Cuts.actions_are, GroupOf.style-list}
-use Rattle.csicodec_actions.specs.Actions.{Action, Sgr}
+use Rattle.csicodec_parser.specs.{Cut.semicolon, Cut.NoSemicolon, declared.group.Group.TheVariants.Styles, Groups.has_odd, Segments.Segmented}
+use Rattle.csicodec_parser.proofs.{Cuts.actions_are, Fronts.style-list}
 use Rattle.csicodec_streams.specs.Decoding.{Decodes}
-use Rattle.csicodec_streams.proofs.OneReading.{one_sequence}
-use Rattle.csicodec.specs.Compose.{EndsInSemicolon, IsStyleList}
-use Rattle.csicodec.proofs.Compose.{ends-joined, ends-part, plain-joint, sgr_compose_lem, spellable-joined, spells-joined}
-use Rattle.csicodec_compact.specs.Private.Steps.{is_mark, is_other, is_semicolon, is_bare, is_joined, closing, may_join, joint, behind, IsList, IsOpenList, IsTail, IsListed}
-use Rattle.csicodec_compact.specs.declared.form.TextEnding.{TextEnding}
+use Rattle.csicodec.proofs.Compose.{ends-joined, ends-part, plain-joint, sgr_compose_lem}
+use Rattle.csicodec_compact.proofs.Common.{flat_map-append, map-append, AllByRecursion, list_any, Action, Sgr, is_other, closing, IsListed, Encodes, ReadsAlike, CsiParam, Seq, action_of, CSI, actions, Actions}
 use Rattle.csicodec_base.specs.declared.sgr.Sgr as sgr_type
 use Rattle.csicodec_base.specs.declared.sgr.Sgr.TheVariants as sgr
-use Rattle.csicodec_parser.specs.declared.actions.CSI.TheVariants as csi
-use Rattle.csicodec_compact.specs.declared.form.TextEnding.TheVariants as forms
+
+abbrev AreAlone : List Action → Type 0
+AreAlone xs = AllByRecursion (λ (a : Action). ReadsAlone a false) xs
+
+each-alone : (xs : List Action) → AreAlone xs → AllByRecursion (Alone false) xs
+each-alone [] alone = tt
+each-alone (a ∷ xs) alone = (alone.0.back, each-alone xs alone.1)
+
+pub all_parts : {T : Type 0} (Q : T → Type 0) (xs ys : List T) → AllByRecursion Q (xs ++ ys) → AllByRecursion Q xs × AllByRecursion Q ys
+all_parts Q [] ys all = (tt, all)
+all_parts Q (x ∷ xs) ys all = let others = all_parts Q xs ys all.1 in ((all.0, others.0), others.1)
+
+pub encodes-each : (xs : List Action) (all : List ℕ) → all ≡ texts xs → Encodes xs all
+encodes-each xs all is = rw is (record { back = λ alone. decodes-each false xs (each-alone xs alone); short = omega arith })
+
+pub encodes-shorter : (xs : List Action) (all short : List ℕ) → all ≡ texts xs → length short ≤ length all → ReadsAlike all short → Encodes xs short
+encodes-shorter xs all short is less alike = record {
+  back = λ alone. alike xs (rw is (decodes-each false xs (each-alone xs alone)));
+  short = rw is at less;
+}
+
+pub encodes-append : (xs ys : List Action) (t u : List ℕ) → Encodes xs t → Encodes ys u → Encodes (xs ++ ys) (t ++ u)
+encodes-append xs ys t u x y = record {
+  back = λ alone. (let parts = all_parts (λ (a : Action). ReadsAlone a false) xs ys alone in decodes-append t u false xs ys (x.back parts.0) (y.back parts.1));
+  short = omega (arith, x.short, y.short, length-append t u, length-append (texts xs) (texts ys), ap length (flat_map-append text xs ys));
+}
+
+-- what was appended, unless memory was refused
+pub extended : {A E : Type 0} (r : Result A E) (now long old : List ℕ) → now ≡ (if is_ok r then long else old) → OnOk r (now ≡ long)
+extended (Ok x) now long old e = e
+extended (Err x) now long old e = tt
+
+-- ---- Lists of attributes that are joined at a `;`.
 
 -- ---- texts and tokens
 
@@ -142,10 +172,10 @@ record Goes (Fits : List CsiParam → Type 0) (bytes : List ℕ) (xs : List Acti
 abbrev Any : List CsiParam → Type 0
 Any list = Unit {0}
 
-goes_open : (bytes : List ℕ) (xs : List Action) → IsTail forms.Open bytes xs → Goes Any bytes xs
+goes_open : (bytes : List ℕ) (xs : List Action) → IsTail TextEnding.Open bytes xs → Goes Any bytes xs
 goes_open bytes xs (styles, are, o) = record { styles = styles; are = are; on = λ b m ys fits k. behind_list bytes b o.list m styles ys o.is o.unclosed k }
 
-goes_blank : (bytes : List ℕ) (xs : List Action) → IsTail forms.Blank bytes xs → Goes NoSemicolon bytes xs
+goes_blank : (bytes : List ℕ) (xs : List Action) → IsTail TextEnding.Blank bytes xs → Goes NoSemicolon bytes xs
 goes_blank bytes xs (styles, front, is, are, o) = record {
   styles = styles ++ sgr.Reset ∷ [];
   are = are;
@@ -155,7 +185,7 @@ goes_blank bytes xs (styles, front, is, are, o) = record {
       rw (is, append_assoc, map-append Sgr styles (sgr.Reset ∷ []), append_assoc) (record { list = both.list; is = both.is; ends = λ e. r.ends (both.ends e) });
 }
 
-goes_bare : (bytes : List ℕ) (xs : List Action) → IsTail forms.Bare bytes xs → Goes NoSemicolon bytes xs
+goes_bare : (bytes : List ℕ) (xs : List Action) → IsTail TextEnding.Bare bytes xs → Goes NoSemicolon bytes xs
 goes_bare bytes xs (is, are) = record { styles = sgr.Reset ∷ []; are = are; on = λ b m ys fits k. rw is (behind_reset b m ys fits k) }
 
 -- ---- the tail that comes of two
@@ -182,14 +212,14 @@ module _ (Fits : List CsiParam → Type 0) (bytes : List ℕ) (xs : List Action)
   -- a list that isn't empty
   tail_on : (form : TextEnding) (b : List ℕ) (ys : List Action) → is_bare form ≡ false → IsTail form b ys
       → ((front : List ℕ) (list : List CsiParam) (more : List ℕ) → b ≡ front ++ more → Spells front list → Fits list) → IsTail form (bytes ++ 59 ∷ b) (xs ++ ys)
-  tail_on forms.Whole b ys other k fits = absurd k
-  tail_on forms.Bare b ys other k fits = cc
-  tail_on forms.Last b ys other (front, list, is, k) fits =
+  tail_on TextEnding.Whole b ys other k fits = absurd k
+  tail_on TextEnding.Bare b ys other k fits = cc
+  tail_on TextEnding.Last b ys other (front, list, is, k) fits =
       let h = g.on front list ys (fits front list (109 ∷ []) is k.spelled) k in
       (bytes ++ 59 ∷ front, h.list, rw (is, append_assoc) refl, rw g.are h.is)
-  tail_on forms.Open b ys other (styles, are, o) fits =
+  tail_on TextEnding.Open b ys other (styles, are, o) fits =
       (g.styles ++ styles, all_styles ys styles are, open_behind b styles o (fits b o.list [] (sym (append-nil b)) o.is.spelled))
-  tail_on forms.Blank b ys other (styles, front, is, are, o) fits = (
+  tail_on TextEnding.Blank b ys other (styles, front, is, are, o) fits = (
     g.styles ++ styles,
     bytes ++ 59 ∷ front,
     rw (is, append_assoc) refl,
@@ -198,47 +228,47 @@ module _ (Fits : List CsiParam → Type 0) (bytes : List ℕ) (xs : List Action)
   )
 
 -- behind one that ends in `;` or is empty, an empty list is written as 0
-tail_behind : (form : TextEnding) (bytes b : List ℕ) (xs ys : List Action) → Goes NoSemicolon bytes xs → IsTail form b ys → may_join forms.Blank form (59 ∷ b) ≡ true
-    → IsTail (behind forms.Blank form) (bytes ++ joint forms.Blank form (59 ∷ b)) (xs ++ ys)
-tail_behind forms.Bare bytes b xs ys g k may =
+tail_behind : (form : TextEnding) (bytes b : List ℕ) (xs ys : List Action) → Goes NoSemicolon bytes xs → IsTail form b ys → may_join TextEnding.Blank form (59 ∷ b) ≡ true
+    → IsTail (behind TextEnding.Blank form) (bytes ++ joint TextEnding.Blank form (59 ∷ b)) (xs ++ ys)
+tail_behind TextEnding.Bare bytes b xs ys g k may =
     (g.styles ++ sgr.Reset ∷ [], all_styles NoSemicolon bytes xs g ys (sgr.Reset ∷ []) k.1, open_behind NoSemicolon bytes xs g (48 ∷ []) (sgr.Reset ∷ []) zero-list zero-fits)
 tail_behind form bytes b xs ys g k may = tail_on NoSemicolon bytes xs g form b ys refl k (λ front list more is s. fits_by b front list more is s (and_parts (is_joined form) (not (is_semicolon (slice_get (59 ∷ b) 1))) may).1)
 
 -- an empty list behind one that ends in a number
-tail_reset : (bytes b : List ℕ) (xs ys : List Action) → IsTail forms.Open bytes xs → IsTail forms.Bare b ys → IsTail forms.Blank (bytes ++ 59 ∷ b) (xs ++ ys)
+tail_reset : (bytes b : List ℕ) (xs ys : List Action) → IsTail TextEnding.Open bytes xs → IsTail TextEnding.Bare b ys → IsTail TextEnding.Blank (bytes ++ 59 ∷ b) (xs ++ ys)
 tail_reset bytes b xs ys (styles, are, o) (none, reset) = (styles, bytes, rw none refl, rw (are, reset, map-append Sgr styles (sgr.Reset ∷ [])) refl, o)
 
 -- the tail that is held then
 pub tail_joined : (st form : TextEnding) (bytes b : List ℕ) (xs ys : List Action) → IsTail st bytes xs → IsTail form b ys → may_join st form (59 ∷ b) ≡ true
     → IsTail (behind st form) (bytes ++ joint st form (59 ∷ b)) (xs ++ ys)
-tail_joined forms.Whole form bytes b xs ys h k may = absurd h
-tail_joined forms.Last form bytes b xs ys h k may = cc
-tail_joined forms.Open forms.Bare bytes b xs ys h k may = tail_reset bytes b xs ys h k
-tail_joined forms.Open form bytes b xs ys h k may = tail_on Any bytes xs (goes_open bytes xs h) form b ys refl k (λ front list more is s. tt)
-tail_joined forms.Blank form bytes b xs ys h k may = tail_behind form bytes b xs ys (goes_blank bytes xs h) k may
-tail_joined forms.Bare form bytes b xs ys h k may = tail_behind form bytes b xs ys (goes_bare bytes xs h) k may
+tail_joined TextEnding.Whole form bytes b xs ys h k may = absurd h
+tail_joined TextEnding.Last form bytes b xs ys h k may = cc
+tail_joined TextEnding.Open TextEnding.Bare bytes b xs ys h k may = tail_reset bytes b xs ys h k
+tail_joined TextEnding.Open form bytes b xs ys h k may = tail_on Any bytes xs (goes_open bytes xs h) form b ys refl k (λ front list more is s. tt)
+tail_joined TextEnding.Blank form bytes b xs ys h k may = tail_behind form bytes b xs ys (goes_blank bytes xs h) k may
+tail_joined TextEnding.Bare form bytes b xs ys h k may = tail_behind form bytes b xs ys (goes_bare bytes xs h) k may
 
 -- ---- closed, it is read so
 
 list_decodes : (body : List ℕ) (list : List CsiParam) (ys : List Action) → Spellable list → Spells body list → Actions list false 109 ys → Decodes (27 ∷ 91 ∷ (body ++ 109 ∷ [])) false ys
 list_decodes body list ys ok spelled means =
-    one_sequence _ list 109 ys (record { spellable = ok; ends = (omega arith, omega arith); body = body; spelled = spelled; whole = refl }) means
+    decodes-one _ list false 109 ys (seq_of list 109 body ok (omega arith, omega arith) spelled) means
 
 pub tail_decodes : (form : TextEnding) (bytes : List ℕ) (ys : List Action) → IsTail form bytes ys → Decodes (27 ∷ 91 ∷ (bytes ++ closing form)) false ys
-tail_decodes forms.Whole bytes ys h = absurd h
-tail_decodes forms.Last bytes ys (front, list, is, k) = rw (is, append-nil) (list_decodes front list ys k.spellable k.spelled k.means)
-tail_decodes forms.Open bytes ys (styles, are, o) = rw are (list_decodes bytes o.list (map Sgr styles) o.is.spellable o.is.spelled o.is.means)
-tail_decodes forms.Blank bytes ys (styles, front, is, are, o) =
+tail_decodes TextEnding.Whole bytes ys h = absurd h
+tail_decodes TextEnding.Last bytes ys (front, list, is, k) = rw (is, append-nil) (list_decodes front list ys k.spellable k.spelled k.means)
+tail_decodes TextEnding.Open bytes ys (styles, are, o) = rw are (list_decodes bytes o.list (map Sgr styles) o.is.spellable o.is.spelled o.is.means)
+tail_decodes TextEnding.Blank bytes ys (styles, front, is, are, o) =
     let h = behind_list front (48 ∷ []) o.list zero-list.list styles (Sgr sgr.Reset ∷ []) o.is o.unclosed zero-list.is in
     rw (is, are, map-append Sgr styles (sgr.Reset ∷ []), append_assoc) (rw append_assoc at (list_decodes (front ++ 59 ∷ 48 ∷ []) h.list _ h.is.spellable h.is.spelled h.is.means))
-tail_decodes forms.Bare bytes ys (is, are) = rw (is, are) (list_decodes [] [] (Sgr sgr.Reset ∷ []) tt refl refl)
+tail_decodes TextEnding.Bare bytes ys (is, are) = rw (is, are) (list_decodes [] [] (Sgr sgr.Reset ∷ []) tt refl refl)
 
 -- and is no longer than both
 pub joint_short : (st form : TextEnding) (bytes b : List ℕ) → may_join st form (59 ∷ b) ≡ true
     → length (27 ∷ 91 ∷ ((bytes ++ joint st form (59 ∷ b)) ++ closing (behind st form))) ≤ length ((27 ∷ 91 ∷ (bytes ++ closing st)) ++ 27 ∷ 91 ∷ (b ++ closing form))
-joint_short forms.Whole form bytes b may = cc
-joint_short forms.Last form bytes b may = cc
-joint_short st forms.Whole bytes b may = cc
+joint_short TextEnding.Whole form bytes b may = cc
+joint_short TextEnding.Last form bytes b may = cc
+joint_short st TextEnding.Whole bytes b may = cc
 joint_short st form bytes b may =
     omega (
       arith,
@@ -260,11 +290,11 @@ plain_by (P b ∷ ts) e = let h = or_parts (is_mark (P b)) (list_any is_mark ts)
 -- actions of which none is another are attributes
 pub styles_by : (actions : List CSI) → list_any is_other actions ≡ false → (styles : List sgr_type.Sgr) × (map action_of actions ≡ map Sgr styles)
 styles_by [] e = ([], refl)
-styles_by (csi.Sgr s ∷ more) e = let h = styles_by more e in (s ∷ h.0, ap (λ (l : List Action). Sgr s ∷ l) h.1)
+styles_by (CSI.Sgr s ∷ more) e = let h = styles_by more e in (s ∷ h.0, ap (λ (l : List Action). Sgr s ∷ l) h.1)
 styles_by (_ ∷ more) e = absurd (true≢false e)
 
 pub open_listed : (text : List ℕ) (list : List CsiParam) (styles : List sgr_type.Sgr) → Seq text list 109 → IsStyleList list → ¬ EndsInSemicolon list
-    → Actions list false 109 (map Sgr styles) → IsListed forms.Open text
+    → Actions list false 109 (map Sgr styles) → IsListed TextEnding.Open text
 open_listed text list styles s plain unclosed means = record {
   bytes = s.body;
   actions = map Sgr styles;
@@ -272,7 +302,7 @@ open_listed text list styles s plain unclosed means = record {
   tail = (styles, refl, record { list = list; is = record { spellable = s.spellable; spelled = s.spelled; plain = plain; means = means }; unclosed = unclosed });
 }
 
-pub last_listed : (text : List ℕ) (list : List CsiParam) → Seq text list 109 → IsStyleList list → IsListed forms.Last text
+pub last_listed : (text : List ℕ) (list : List CsiParam) → Seq text list 109 → IsStyleList list → IsListed TextEnding.Last text
 last_listed text list s plain = record {
   bytes = s.body ++ 109 ∷ [];
   actions = actions list false 109;
@@ -280,7 +310,7 @@ last_listed text list s plain = record {
   tail = (s.body, list, refl, record { spellable = s.spellable; spelled = s.spelled; plain = plain; means = actions_are list false 109 });
 }
 
-pub blank_listed : (text front other : List ℕ) → text ≡ front ++ 59 ∷ 48 ∷ 109 ∷ [] → other ≡ front ++ 109 ∷ [] → IsListed forms.Open other → IsListed forms.Blank text
+pub blank_listed : (text front other : List ℕ) → text ≡ front ++ 59 ∷ 48 ∷ 109 ∷ [] → other ≡ front ++ 109 ∷ [] → IsListed TextEnding.Open other → IsListed TextEnding.Blank text
 blank_listed text front other is made h =
     let begin : front ≡ 27 ∷ 91 ∷ h.bytes = append_cancel_right front (27 ∷ 91 ∷ h.bytes) (109 ∷ []) (sym made ∙ h.whole) in
     record {

@@ -1,6 +1,4 @@
-pub mod Told
-pub mod Joined
+pub mod Common
 pub mod JoinedLists
 pub mod Beside
-pub mod Meaning
-pub mod Colors
+pub mod Told

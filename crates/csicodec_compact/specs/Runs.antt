@@ -4,9 +4,8 @@ use Rattle.std.specs.{Prelude.false, Prelude.length, List.AllByRecursion, List.f
 use Rattle.csicodec_tokens.specs.{declared.param.CsiParam.CsiParam, Sequence.Seq}
 use Rattle.csicodec_actions.specs.Actions.{Action}
 use Rattle.csicodec_streams.specs.Decoding.{Decodes}
-use Rattle.csicodec_spans.specs.{declared.table.Mode.Mode, Parts.Part, Parts.bytes_of}
+use Rattle.csicodec_spans.specs.{declared.table.Mode.Mode, Parts.Part, Parts.bytes_of, declared.table.Kind.Kind}
 use Rattle.csicodec_filter.specs.{Faithful.stays, Filter.MakesBy, Filter.PassesBy}
-use Rattle.csicodec_spans.specs.declared.table.Kind.TheVariants as kind
 
 -- a control sequence that stays as it came
 abbrev pub IsStaying : List ℕ → Type 0
@@ -23,7 +22,7 @@ most_joined = 4096
 -- Control sequences side by side, and a text in their place: it is read as exactly their actions, in order, and is no longer. One that stays
 -- stands alone, as it came.
 pub record Shortens (run : List Part) (text : List ℕ) : Type 0 where
-  pub all : AllByRecursion (λ (p : Part). p.kind ≡ kind.Csi) run
+  pub all : AllByRecursion (λ (p : Part). p.kind ≡ Kind.Csi) run
   pub actions : List Action
   pub came : Decodes (flat_map bytes_of run) false actions
   pub written : Decodes text false actions
@@ -34,7 +33,7 @@ pub record Shortens (run : List Part) (text : List ℕ) : Type 0 where
 -- such a run, or one part that is no control sequence, as it came
 abbrev pub IsRun : List Part → List ℕ → Type 0
 IsRun run text = Shortens run text
-    ⊎ ((p : Part) × (run ≡ p ∷ []) × (p.kind ≢ kind.Csi) × (text ≡ p.bytes))
+    ⊎ ((p : Part) × (run ≡ p ∷ []) × (p.kind ≢ Kind.Csi) × (text ≡ p.bytes))
 
 -- the parts are these runs in turn, and the text is theirs
 abbrev pub AreRuns : List (List Part) → List Part → List ℕ → Type 0

@@ -1,7 +1,7 @@
 //! Runs of control sequences side by side.
-ghost use Rattle.std.specs.Prelude.{◌≡◌, ◌≤◌, ◌++◌, ℕ, List, [], ◌∷◌, true, drop, length, slice_get, take, OnOk};
+ghost use Rattle.std.specs.Prelude.{◌≡◌, ◌≤◌, ◌++◌, ℕ, List, [], ◌∷◌, true, drop, length, take, OnOk};
 ghost use Rattle.csicodec_spans.specs.{declared.table.Kind.TheVariants.Csi as Sequence, Parts.Part, Parts.part};
-ghost use Rattle.csicodec_compact.specs.Private.Steps.{Begins, GoesOnBy, IsNote, behind, closing, is_semicolon, joint, may_join, opened};
+ghost use Rattle.csicodec_compact.specs.Private.Steps.{Begins, GoesOnBy, IsNote, behind, closing, joint, may_join, opened};
 ghost use Rattle.csicodec_compact.specs.Runs.{IsShortened};
 
 use crate::encode::NUMBERS;
@@ -10,23 +10,12 @@ use csicodec_base::TextBuffer;
 use csicodec_streams::append_front;
 use std::alloc::AllocError;
 
-/// Whether a list begins with `;`, which stands ahead of it too.
-#[inline(always)]
-fn begins_blank(text: &[u8]) -> bool
-    ensures { result ≡ is_semicolon (slice_get text.now 1) }
-{
-    matches!(text.get(1), Some(b';'))
-}
-
 /// A list without the `;` in front.
 #[inline(always)]
 fn behind_mark(text: &[u8]) -> &[u8]
     ensures { result.now ≡ drop 1 text.now }
 {
-    match text.split_first() {
-        Some((_, list)) => list,
-        None => text,
-    }
+    text.get(1..).unwrap_or(text)
 }
 
 /// Whether a text of this form may be joined to what is held. Behind a list that ends in `;` a further one ahead of a `;` would be no
@@ -38,7 +27,8 @@ fn may_join(held: TextEnding, form: TextEnding, text: &[u8]) -> bool
     match held {
         TextEnding::Whole | TextEnding::Last => false,
         TextEnding::Open => form.is_joined(),
-        TextEnding::Blank | TextEnding::Bare => form.is_joined() && !begins_blank(text),
+        TextEnding::Blank | TextEnding::Bare => form.is_joined()
+            && !matches!(text.get(1), Some(b';')),
     }
 }
 
@@ -80,8 +70,7 @@ impl Written {
         ensures form { self.new.form ≡ TextEnding.Whole }
     {
         let form = self.form;
-        self.form = TextEnding::Whole;
-        self.room = 0;
+        *self = Written::new();
         match form {
             TextEnding::Whole | TextEnding::Last => Ok(()),
             TextEnding::Open | TextEnding::Bare => out.push_front(b"m", 1),
@@ -95,8 +84,7 @@ impl Written {
         ensures form { self.new.form ≡ TextEnding.Whole }
     {
         let form = self.form;
-        self.form = TextEnding::Whole;
-        self.room = 0;
+        *self = Written::new();
         out.extend_from_slice(form.closing())
     }
 

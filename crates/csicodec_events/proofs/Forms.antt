@@ -1,46 +1,41 @@
 -- Of the forms of input: how far they go, that later bytes change nothing, and the bytes joined.
-use Rattle.std.proofs.Common.{◌≡◌, ℕ, ◌+◌, ◌-◌, ◌==◌, ◌<◌, ◌&&◌, ◌||◌, Bool, true, false, nat_le, if◌then◌else◌, inl, inr, List, [], ◌∷◌, ◌++◌, length, refl, sym, ap, subst, ◌∙◌, append_assoc, append-nil, lt-ltb, arith}
-use Rattle.std.proofs.{lemmas.Bool.and_parts, lemmas.Bool.ltb-true, lemmas.Bool.cases_Bool, lemmas.Grind.flat_map-append, lemmas.List.take-append-drop}
-use Rattle.std.proofs.{lemmas.Bool.Decides.nat_tests}
-use Rattle.std.specs.{List.concat, List.flat_map, Prelude.nat_lt}
+use Rattle.std.proofs.Common.{◌≡◌, ℕ, ◌+◌, ◌-◌, ◌==◌, ◌<◌, ◌&&◌, ◌||◌, Bool, true, false, nat_le, if◌then◌else◌, inl, inr, List, [], ◌∷◌, ◌++◌, length, refl, sym, ap, subst, ◌∙◌, append_assoc, append-nil, lt-ltb, arith, ltb-true, take-append-drop, flat_map, nat_lt}
+use Rattle.std.proofs.{lemmas.Bool.and_parts, lemmas.Bool.cases_Bool, lemmas.Grind.flat_map-append, lemmas.Bool.Decides.nat_tests}
+use Rattle.std.specs.List.{concat}
 use Rattle.csicodec_tokens.specs.declared.param.CsiParam.{CsiParam}
 use Rattle.csicodec_spans.specs.declared.table.Mode.{Mode}
 use Rattle.csicodec_events.specs.Input.{AreSent, InputChunks, IsSent, IsSentBy, IsSure, ahead, bytes_of, characters, csi, escape, goes_on, in_input, is_digit, is_opener, is_printable, is_wide, linux, rxvt, ss3, string, two_digits}
 use Rattle.csicodec_events.specs.{declared.event.Event.Event, declared.event.Events.Events, declared.input.Dialect.Dialect, declared.input.Form.Form}
 use Rattle.csicodec_events.specs.{declared.input.InputEvent.InputEvent, declared.input.Sent.Sent, Characters.is_from, Events.IsTold}
 use Rattle.csicodec_events.proofs.Run.{joined_on, parts_of}
-use Rattle.csicodec_spans.specs.declared.table.Mode.TheVariants as mode
-use Rattle.csicodec_events.specs.declared.input.Dialect.TheVariants as dialect
-use Rattle.csicodec_events.specs.declared.input.Form.TheVariants as form
-use Rattle.csicodec_events.specs.declared.input.InputEvent.TheVariants as input
 
 -- ---- two answers for bytes, and for the same and more: the form is none of output and has bytes, and it stays
 
 -- output has no such event
 abbrev is_own : InputEvent → Bool
-is_own (input.Output told) = false
+is_own (InputEvent.Output told) = false
 is_own _ = true
 
 abbrev fits : Form → Bool
-fits (form.Whole i n) = is_own i && nat_lt 0 n
+fits (Form.Whole i n) = is_own i && nat_lt 0 n
 fits _ = true
 
 abbrev Stays : Form → Form → Type 0
-Stays (form.Whole i n) g = g ≡ form.Whole i n
-Stays form.AsOutput g = g ≡ form.AsOutput
-Stays form.Unsure g = Unit {0}
+Stays (Form.Whole i n) g = g ≡ Form.Whole i n
+Stays Form.AsOutput g = g ≡ Form.AsOutput
+Stays Form.Unsure g = Unit {0}
 
 record Good (f g : Form) : Type 0 where
   fit : fits f ≡ true
   stays : Stays f g
 
-whole : {i : InputEvent} {n : ℕ} → fits (form.Whole i n) ≡ true → Good (form.Whole i n) (form.Whole i n)
+whole : {i : InputEvent} {n : ℕ} → fits (Form.Whole i n) ≡ true → Good (Form.Whole i n) (Form.Whole i n)
 whole h = record { fit = h; stays = refl }
 
-output : Good form.AsOutput form.AsOutput
+output : Good Form.AsOutput Form.AsOutput
 output = record { fit = refl; stays = refl }
 
-unsure : {g : Form} → Good form.Unsure g
+unsure : {g : Form} → Good Form.Unsure g
 unsure = record { fit = refl; stays = tt }
 
 either : {x y x' y' : Form} (t : Bool) → Good x x' → Good y y'
@@ -109,7 +104,7 @@ input_good d m (b ∷ bytes) more = either (b == 27) (escape_good d m bytes more
 
 ahead_good : (d : Dialect) (m : Mode) (looked : ℕ) (bytes more : List ℕ)
     → Good (ahead d m looked bytes) (ahead d m looked (bytes ++ more))
-ahead_good dialect.Output m looked bytes more = output
+ahead_good Dialect.Output m looked bytes more = output
 ahead_good d m looked bytes more = either (looked == 0) (input_good d m bytes more) output
 
 pub ahead_stays : (d : Dialect) (m : Mode) (looked : ℕ) (bytes more : List ℕ)
@@ -117,7 +112,7 @@ pub ahead_stays : (d : Dialect) (m : Mode) (looked : ℕ) (bytes more : List ℕ
 ahead_stays d m looked bytes more sure = same (ahead d m looked bytes) sure (ahead_good d m looked bytes more).stays
   where
     same : {g : Form} (f : Form) → IsSure f → Stays f g → g ≡ f
-    same form.Unsure sure stays = absurd sure
+    same Form.Unsure sure stays = absurd sure
     same _ sure stays = stays
 
 -- a form stands in front of some bytes, of which none were looked at
@@ -127,8 +122,8 @@ pub record IsFront (looked : ℕ) (bytes : List ℕ) (n : ℕ) : Type 0 where
   pub within : 0 < length bytes
 
 pub front : (d : Dialect) (m : Mode) (looked : ℕ) (bytes : List ℕ) (i : InputEvent) (n : ℕ)
-    → ahead d m looked bytes ≡ form.Whole i n → IsFront looked bytes n
-front dialect.Output m looked bytes i n is = absurd cc
+    → ahead d m looked bytes ≡ Form.Whole i n → IsFront looked bytes n
+front Dialect.Output m looked bytes i n is = absurd cc
 front d m looked [] i n is = absurd (grind (arith, nat_tests))
 front d m looked (b ∷ bytes) i n is =
     let fit = subst (λ (f : Form). fits f ≡ true) is (ahead_good d m looked (b ∷ bytes) []).fit in
@@ -142,17 +137,17 @@ front d m looked (b ∷ bytes) i n is =
 
 by_output : (f : Form) (e : Events) (bytes : List ℕ) (told : Event) (text rest : List ℕ)
     (list : List CsiParam) (after : Events) → fits f ≡ true
-    → IsSentBy f e bytes (input.Output told) text rest list after
+    → IsSentBy f e bytes (InputEvent.Output told) text rest list after
     → IsTold told e bytes text rest list after
-by_output (form.Whole i n) e bytes told text rest list after fit s =
+by_output (Form.Whole i n) e bytes told text rest list after fit s =
     let own = subst (λ (j : InputEvent). (is_own j && nat_lt 0 n) ≡ true) (sym s.0) fit in absurd cc
-by_output form.AsOutput e bytes told text rest list after fit s =
-    let is : input.Output told ≡ input.Output s.0 = s.1 in
+by_output Form.AsOutput e bytes told text rest list after fit s =
+    let is : InputEvent.Output told ≡ InputEvent.Output s.0 = s.1 in
     let same : s.0 ≡ told = cc in
     subst (λ (x : Event). IsTold x e bytes text rest list after) same s.2
-by_output form.Unsure e bytes told text rest list after fit s = absurd s
+by_output Form.Unsure e bytes told text rest list after fit s = absurd s
 
-pub as_output : (d : Dialect) (e : Events) (bytes : List ℕ) (told : Event) (text rest : List ℕ) (list : List CsiParam) (after : Events) → IsSent d e bytes (input.Output told) text rest list after
+pub as_output : (d : Dialect) (e : Events) (bytes : List ℕ) (told : Event) (text rest : List ℕ) (list : List CsiParam) (after : Events) → IsSent d e bytes (InputEvent.Output told) text rest list after
     → IsTold told e bytes text rest list after
 as_output d e bytes told text rest list after s = by_output (ahead d e.mode e.looked bytes) e bytes told text rest list after (ahead_good d e.mode e.looked bytes []).fit s
 
@@ -161,9 +156,9 @@ as_output d e bytes told text rest list after s = by_output (ahead d e.mode e.lo
 by_parts : (f : Form) (e : Events) (bytes : List ℕ) (x : InputEvent) (text rest : List ℕ)
     (list : List CsiParam) (after : Events) → IsSentBy f e bytes x text rest list after
     → bytes ≡ text ++ rest
-by_parts (form.Whole i n) e bytes x text rest list after s = rw (s.1, s.2) (sym (take-append-drop n bytes))
-by_parts form.AsOutput e bytes x text rest list after s = parts_of s.0 e bytes text rest list after s.2
-by_parts form.Unsure e bytes x text rest list after s = absurd s
+by_parts (Form.Whole i n) e bytes x text rest list after s = rw (s.1, s.2) (sym (take-append-drop n bytes))
+by_parts Form.AsOutput e bytes x text rest list after s = parts_of s.0 e bytes text rest list after s.2
+by_parts Form.Unsure e bytes x text rest list after s = absurd s
 
 all_joined : (d : Dialect) (sent : List Sent) (e : Events) (bytes rest : List ℕ) (after : Events)
     → AreSent d e bytes sent rest after → bytes ≡ flat_map bytes_of sent ++ rest

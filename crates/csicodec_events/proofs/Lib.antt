@@ -1,15 +1,7 @@
-pub mod Sequences
-pub mod Steps
-pub mod Stops
-pub mod Spans
-pub mod Run
-pub mod Kept
 pub mod Forms
 pub mod Fronts
-pub mod Unfinished
 pub mod Moves
 pub mod Divided
-pub mod Looked
-pub mod Chunks
+pub mod Run
 pub mod Looks
-pub mod Costs
+pub mod Stops

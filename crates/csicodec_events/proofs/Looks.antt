@@ -1,16 +1,15 @@
--- How often the bytes of control sequences are looked at: no byte again to find where one stops.
-use Rattle.std.proofs.Common.{◌≡◌, ℕ, ◌+◌, ◌-◌, ◌*◌, ◌<◌, ◌≤◌, max, List, [], ◌∷◌, ◌++◌, length, take, drop, refl, sym, ap, ◌∙◌, inl, inr, append-nil, take_all, arith}
-use Rattle.std.proofs.{lemmas.Bool.false_from_ne_true, lemmas.Bool.and_parts, lemmas.Bool.cases_lt, lemmas.Bool.eqb-true, lemmas.Grind.flat_map-append}
-use Rattle.std.proofs.{lemmas.List.drop_at, lemmas.List.length-append, lemmas.List.length-drop, lemmas.List.length-take, lemmas.List.take-append-drop}
-use Rattle.std.specs.{List.concat, List.flat_map, List.prefix_len, Prelude.◌==◌, Prelude.◌&&◌, Prelude.Bool, Prelude.true, Prelude.false, Prelude.if◌then◌else◌}
+-- The events of a stream don't depend on the chunks that it came in, nor does how often its bytes are looked at grow with them.
+use Rattle.std.proofs.Common.{◌≡◌, ℕ, ◌+◌, ◌-◌, ◌*◌, ◌<◌, ◌≤◌, max, List, [], ◌∷◌, ◌++◌, length, take, drop, refl, sym, ap, ◌∙◌, inl, inr, append-nil, take_all, arith, eqb-true, drop_at, length-append, length-drop, length-take, take-append-drop, flat_map, ◌==◌, ◌&&◌, Bool, true, false, if◌then◌else◌, subst, append_assoc}
+use Rattle.std.proofs.{lemmas.Bool.false_from_ne_true, lemmas.Bool.and_parts, lemmas.Bool.cases_lt, lemmas.Bool.both_ways, lemmas.Grind.flat_map-append}
+use Rattle.std.specs.List.{concat, prefix_len}
 use Rattle.csicodec_tokens.specs.declared.param.CsiParam.{CsiParam}
-use Rattle.csicodec_spans.specs.declared.table.Mode.{Mode}
-use Rattle.csicodec_events.specs.Events.{AreTold, BeginsCsi, GoesWrong, InChunks, IsOpen, IsTold, Waits, before_stop, bytes_of, from_stop, is_passed, is_csi, looks, looks_in, looks_told, reach, stop}
-use Rattle.csicodec_events.specs.{declared.event.Event.Event, declared.event.Events.Events, declared.event.Told.Told}
-use Rattle.csicodec_events.proofs.{Divided.span_other, Divided.told_goes, Looked.IsLooked, Looked.looked_met, Looked.looked_more, Looked.over_inside}
-use Rattle.csicodec_events.proofs.{Run.chunks_joined, Run.met_within, Steps.next_place}
-use Rattle.csicodec_spans.specs.declared.table.Kind.TheVariants as kind
-use Rattle.csicodec_events.specs.declared.event.Event.TheVariants as event
+use Rattle.csicodec_spans.specs.{declared.table.Mode.Mode, Parts.Part, Parts.AreAll, Parts.AreFirstParts, Parts.IsFirstPart, declared.table.Kind.Kind}
+use Rattle.csicodec_events.specs.Events.{AreTold, BeginsCsi, GoesWrong, InChunks, IsOpen, IsTold, Waits, before_stop, bytes_of, from_stop, is_passed, is_csi, looks, looks_in, looks_told, reach, stop, AreAlike, IsWrongAt, Piece, pieces, pieces_of}
+use Rattle.csicodec_events.specs.{declared.event.Event.Event, declared.event.Events.Events, declared.event.Told.Told, Characters.is_unfinished}
+use Rattle.csicodec_events.proofs.Run.{IsLooked, looked_met, looked_more, over_inside, chunks_joined, met_within, GoesOn, told_same, waits_on, waits_same}
+use Rattle.csicodec_events.proofs.{Divided.span_other, Divided.told_goes, Divided.all_go, Stops.next_place, Moves.Divides, Moves.Done, Moves.IsStill}
+use Rattle.csicodec_events.proofs.{Moves.divides_more, Moves.divides_on, Moves.divides_once}
+use Rattle.csicodec_spans.proofs.{Once.part_once, Once.unsure_stops, OneSpan.none_unsure}
 
 pub stops_behind : (looked : ℕ) (front other bytes : List ℕ) → 2 ≤ looked → length front ≡ looked
     → length other ≡ looked → stop looked (front ++ bytes) ≡ stop looked (other ++ bytes)
@@ -88,21 +87,21 @@ goes_longer over (b ∷ more) text rest m (inr g) = omega (arith, ap length g.1)
 told_counted : (x : Event) (e : Events) (bytes text rest : List ℕ) (list : List CsiParam)
     (after : Events) → IsLooked e bytes → IsTold x e bytes text rest list after
     → IsCounted e bytes text after
-told_counted event.Text e bytes text rest list after l h = none_counted e after bytes text l (span_other e kind.Text bytes (text ++ h.held) h.behind after (λ is. cc) (λ is. cc) h.span)
-told_counted (event.Control b) e bytes text rest list after l h =
+told_counted Event.Text e bytes text rest list after l h = none_counted e after bytes text l (span_other e Kind.Text bytes (text ++ h.held) h.behind after (λ is. cc) (λ is. cc) h.span)
+told_counted (Event.Control b) e bytes text rest list after l h =
     let c = h.1 in
     let len = (next_place e bytes b c.more c.stands).len in
     let looked : after.looked ≡ length (before_stop e bytes) + 1 = ap (λ (a : Events). a.looked) c.looked in
     begun_counted e after bytes text h.0 l (omega (arith, looked, len, length-take (stop e.looked bytes + 1) bytes)) (omega (arith, looked))
-told_counted (event.Csi final) e bytes text rest list after l h =
+told_counted (Event.Csi final) e bytes text rest list after l h =
     let c = h.1 in
     let len = (next_place e bytes c.last rest c.stands).len in
     let long : length text ≡ length (before_stop e bytes) + 1 = ap length c.whole ∙ length-append (before_stop e bytes) (c.last ∷ []) in
     begun_counted e after bytes text h.0 l (omega (arith, len, long, length-take (stop e.looked bytes + 1) bytes)) (omega (arith, long))
-told_counted event.Esc e bytes text rest list after l h = none_counted e after bytes text l (span_other e kind.Esc bytes text rest after (λ is. cc) (λ is. cc) h)
-told_counted event.Str e bytes text rest list after l h = none_counted e after bytes text l (span_other e kind.Str bytes text rest after (λ is. cc) (λ is. cc) h)
-told_counted event.Other e bytes text rest list after l (inl h) = none_counted e after bytes text l h.0
-told_counted event.Other e bytes text rest list after l (inr h) =
+told_counted Event.Esc e bytes text rest list after l h = none_counted e after bytes text l (span_other e Kind.Esc bytes text rest after (λ is. cc) (λ is. cc) h)
+told_counted Event.Str e bytes text rest list after l h = none_counted e after bytes text l (span_other e Kind.Str bytes text rest after (λ is. cc) (λ is. cc) h)
+told_counted Event.Other e bytes text rest list after l (inl h) = none_counted e after bytes text l h.0
+told_counted Event.Other e bytes text rest list after l (inr h) =
     let at = stop e.looked bytes in
     let long = goes_longer (before_stop e bytes) (from_stop e bytes) text rest h.1.next h.1.goes in
     begun_counted e after bytes text h.0 l (omega (arith, long, length-take at bytes, length-take (at + 1) bytes)) (omega (arith, long))
@@ -119,7 +118,7 @@ wait_counted e after bytes l (inl w) =
 wait_counted e after bytes l (inr w) = none_counted e after bytes [] l w.0
 
 open_looked : (e after : Events) (bytes : List ℕ) → IsLooked e bytes → BeginsCsi bytes
-    → IsOpen e (before_stop e bytes) (from_stop e bytes) after → IsLooked after bytes
+    → IsOpen e.limit e.mode (before_stop e bytes) (from_stop e bytes) after → IsLooked after bytes
 open_looked e after bytes l begins o =
     let over = before_stop e bytes in
     let looked : after.looked ≡ length over = ap (λ (a : Events). a.looked) o.looked in
@@ -174,3 +173,94 @@ looks_once e after chunks told rest none c =
     let all = ap length (chunks_joined e after [] rest chunks told c) in
     let count = r.count in
     omega (arith, count, within, all, none, length-append (flat_map bytes_of told) rest)
+
+-- ---- The events of a stream don't depend on the chunks that it came in: they are the smallest steps of all of its bytes.
+
+-- ---- where the stream waits no step follows
+
+none_wait : (e : Events) → Waits e [] e
+none_wait e = inr (λ begins. let same = begins.1 in cc, refl, inr (none_unsure e.limit e.mode))
+
+open_still : (e after : Events) (bytes : List ℕ) → BeginsCsi bytes
+    → IsOpen e.limit e.mode (before_stop e bytes) (from_stop e bytes) after → IsStill e bytes
+open_still e after bytes begins o ps rest next (inl g) = g.other begins
+open_still e after bytes begins o ps rest next (inr (inl g)) =
+    let ends = o.ends in
+    let stands = g.stands in
+    cc
+open_still e after bytes begins o ps rest next (inr (inr g)) =
+    let long : e.limit ≤ length (before_stop e bytes) = subst (IsWrongAt e.limit (before_stop e bytes)) o.ends g.why in
+    let short = o.short in
+    omega (arith, long, short)
+
+other_still : (e : Events) (bytes : List ℕ) → (BeginsCsi bytes → ⊥)
+    → ((p : Part) (rest : List ℕ) (a : Mode) → IsFirstPart e.limit e.mode bytes p rest a
+    → (p.kind ≡ Kind.Text → is_unfinished bytes ≡ false) → ⊥)
+    → IsStill e bytes
+other_still e bytes other none ps rest next (inl g) = none g.p rest g.next g.first g.sure
+other_still e bytes other none ps rest next (inr (inl g)) = other g.begins
+other_still e bytes other none ps rest next (inr (inr g)) = other (rest, g.stands)
+
+text_first : (limit : ℕ) (m a b : Mode) (bytes text rest x : List ℕ) (parts : List Part) (p : Part)
+    → AreAll Kind.Text text parts → AreFirstParts limit m bytes parts rest a
+    → IsFirstPart limit m bytes p x b → p.kind ≡ Kind.Text
+text_first limit m a b bytes text rest x [] p all s first = absurd (omega (arith, all.some))
+text_first limit m a b bytes text rest x (q ∷ parts) p all s first =
+    ap (λ (y : Part). y.kind) (part_once limit m bytes p q x s.0 b s.1 first s.2).parts ∙ all.all.0
+
+waits_still : (e after : Events) (bytes : List ℕ) → Waits e bytes after → IsStill e bytes
+waits_still e after bytes (inl w) = open_still e after bytes w.0 w.1
+waits_still e after bytes (inr (other, on, inl b)) = other_still e bytes other (λ p rest a first sure.
+    let c = b.1.1 in
+    both_ways (is_unfinished bytes) (sure (text_first e.limit e.mode b.1.0 a bytes bytes [] rest c.parts p c.span c.first first)) b.0)
+waits_still e after bytes (inr (other, on, inr u)) =
+    other_still e bytes other (λ p rest a first sure. unsure_stops e.limit e.mode bytes p rest a u first)
+
+waits_once : (e a b : Events) (bytes : List ℕ) → Waits e bytes a → Waits e bytes b → a ≡ b
+waits_once e a b bytes (inl w) (inl v) = w.1.looked ∙ sym v.1.looked
+waits_once e a b bytes (inl w) (inr v) = absurd (v.0 w.0)
+waits_once e a b bytes (inr w) (inl v) = absurd (w.0 v.0)
+waits_once e a b bytes (inr w) (inr v) = w.1 ∙ sym v.1
+
+-- the same bytes are told and the same wait, from before the stream waited
+back : (told : List Told) (e waiting mid after : Events) (bytes kept : List ℕ) → GoesOn e waiting bytes
+    → AreTold waiting bytes told kept mid → Waits mid kept after
+    → (m : Events) × AreTold e bytes told kept m × Waits m kept after
+back [] e waiting mid after bytes kept g s w =
+    (e, (s.0, refl), rw s.0 (waits_same e waiting after bytes g (rw (s.0, s.1) at w)))
+back (t ∷ told) e waiting mid after bytes kept g s w =
+    (mid, (s.0, s.1, told_same e waiting s.1 bytes t s.0 g s.2, s.3), w)
+
+-- ---- all chunks
+
+-- the steps of all of the bytes, up to where the stream waits
+record AtOnce (e : Events) (bytes : List ℕ) (ps : List Piece) (rest : List ℕ) (after : Events) : Type 0
+  where
+    mid : Events
+    divides : Divides e bytes ps rest mid
+    waits : Waits mid rest after
+
+at_once : (chunks : List (List ℕ)) (e waiting after : Events) (held rest : List ℕ) (told : List Told)
+    → IsLooked e held → Waits e held waiting → InChunks waiting held chunks told rest after
+    → AtOnce e (held ++ concat chunks) (pieces told) rest after
+at_once [] e waiting after held rest told l w (none, same, on) =
+    rw (none, same, on, append-nil held) (record { mid = e; divides = Done; waits = w })
+at_once (chunk ∷ chunks) e waiting after held rest told l w (now, later, kept, mid, waits, whole, first, paused, others) =
+    let more = concat chunks in
+    let (m, first', paused') = back now e waiting mid waits (held ++ chunk) kept (waits_on e waiting held chunk (looked_met e held l) w) first paused in
+    let g = all_go now e m (held ++ chunk) kept (looked_more e held chunk l) first' in
+    let r = at_once chunks m waits after kept rest later g.looked paused' others in
+    let bytes : held ++ (chunk ++ more) ≡ (held ++ chunk) ++ more = sym (append_assoc held chunk more) in
+    let told_all : pieces told ≡ pieces now ++ pieces later = ap pieces whole ∙ flat_map-append (λ (t : Told). pieces_of t.event t.bytes.now) now later in
+    rw (bytes, told_all) (record { mid = r.mid; divides = divides_on (divides_more more g.divides) r.divides; waits = r.waits })
+
+pub alike : (e after after' : Events) (chunks others : List (List ℕ)) (told told' : List Told)
+    (rest rest' : List ℕ) → e.looked ≡ 0 → concat chunks ≡ concat others
+    → InChunks e [] chunks told rest after → InChunks e [] others told' rest' after'
+    → AreAlike told told' rest rest' after after'
+alike e after after' chunks others told told' rest rest' none same a b =
+    let x = at_once chunks e e after [] rest told (inl none) (none_wait e) a in
+    let y = at_once others e e after' [] rest' told' (inl none) (none_wait e) b in
+    let s = divides_once x.divides (waits_still x.mid after rest x.waits) (subst (λ (bytes : List ℕ). Divides e bytes (pieces told') rest' y.mid) (sym same) y.divides) (waits_still y.mid after' rest' y.waits) in
+    let waits : Waits x.mid rest after' = subst (λ (z : List ℕ). Waits x.mid z after') (sym s.rests) (subst (λ (z : Events). Waits z rest' after') (sym s.on) y.waits) in
+    record { same = s.told; waits = s.rests; on = waits_once x.mid after after' rest x.waits waits }

@@ -1,19 +1,15 @@
 -- Events in the smallest steps: each tells one piece, or a few that are never cut apart. Where no step follows the stream waits; in
 -- any state at most one follows; and it stays, whatever bytes come later.
-use Rattle.std.proofs.Common.{◌≡◌, ◌⊎◌, ℕ, ◌+◌, ◌<◌, ◌≤◌, Bool, true, false, max, List, [], ◌∷◌, ◌++◌, length, drop, refl, sym, ap, subst, ◌∙◌, inl, inr, append_assoc, append-nil, arith}
-use Rattle.std.proofs.{lemmas.Bool.false_from_ne_true, lemmas.Bool.both_ways, lemmas.List.Folds.prefix_len-append, lemmas.List.length-append}
-use Rattle.std.proofs.{lemmas.List.length-take, lemmas.List.drop-append-le}
+use Rattle.std.proofs.Common.{◌≡◌, ◌⊎◌, ℕ, ◌+◌, ◌<◌, ◌≤◌, Bool, true, false, max, List, [], ◌∷◌, ◌++◌, length, drop, refl, sym, ap, subst, ◌∙◌, inl, inr, append_assoc, append-nil, arith, length-append, length-take}
+use Rattle.std.proofs.{lemmas.Bool.false_from_ne_true, lemmas.Bool.both_ways, lemmas.List.Folds.prefix_len-append, lemmas.List.drop-append-le}
 use Rattle.std.specs.List.{prefix_len}
 use Rattle.csicodec_tokens.specs.{declared.param.CsiParam.CsiParam, Sequence.Seq}
-use Rattle.csicodec_tokens.proofs.Unique.{one_seq}
+use Rattle.csicodec_tokens.proofs.Reading.{one_seq}
 use Rattle.csicodec_spans.specs.{declared.table.Kind.Kind, declared.table.Mode.Mode, Parts.Part, Parts.AreFirstParts, Parts.IsFirstPart}
-use Rattle.csicodec_spans.proofs.{Fronts.IsFit, Fronts.in_string, Kept.parts_more, Missed.fit, Once.part_once}
+use Rattle.csicodec_spans.proofs.{Agrees.IsFit, Agrees.in_string, Once.parts_more, Once.part_once, Missed.fit}
 use Rattle.csicodec_events.specs.Events.{BeginsCsi, IsWrongAt, Piece, before_stop, from_stop, is_control, is_passed, onward, piece, pieces_of, stop, without_controls}
-use Rattle.csicodec_events.specs.{declared.event.Events.Events, Characters.is_unfinished}
-use Rattle.csicodec_events.proofs.{Fronts.event_of, Fronts.none_sure, Kept.begins_more, Kept.same_stop, Stops.too_long, Unfinished.unfinished_front}
-use Rattle.csicodec_spans.specs.declared.table.Kind.TheVariants as kind
-use Rattle.csicodec_spans.specs.declared.table.Mode.TheVariants as mode
-use Rattle.csicodec_events.specs.declared.event.Event.TheVariants as event
+use Rattle.csicodec_events.specs.{declared.event.Events.Events, Characters.is_unfinished, declared.event.Event.Event}
+use Rattle.csicodec_events.proofs.{Fronts.event_of, Fronts.none_sure, Fronts.unfinished_front, Run.begins_more, Run.same_stop, Stops.too_long}
 
 -- ---- the steps
 
@@ -24,18 +20,18 @@ pub record IsPart (e : Events) (bytes : List ℕ) (ps : List Piece) (rest : List
   pub p : Part
   pub next : Mode
   pub first : IsFirstPart e.limit e.mode bytes p rest next
-  pub sure : p.kind ≡ kind.Text → is_unfinished bytes ≡ false
+  pub sure : p.kind ≡ Kind.Text → is_unfinished bytes ≡ false
   pub told : ps ≡ pieces_of (event_of p.kind) p.bytes
   pub on : after ≡ onward e next 0
 
 -- by whether the byte where a sequence stops is a control: that control, or the whole sequence
 abbrev pub IsBy : Bool → Events → List ℕ → ℕ → List ℕ → List Piece → List ℕ → Events → Type 0
-IsBy true e bytes b more ps rest after = (ps ≡ piece (event.Control b) [] ∷ []) × (rest ≡ bytes)
+IsBy true e bytes b more ps rest after = (ps ≡ piece (Event.Control b) [] ∷ []) × (rest ≡ bytes)
     × (after ≡ onward e e.mode (length (before_stop e bytes) + 1))
 IsBy false e bytes b more ps rest after = (list : List CsiParam) × (final : ℕ)
     × Seq (without_controls (before_stop e bytes ++ b ∷ [])) list final
-    × (ps ≡ piece (event.Csi final) (before_stop e bytes ++ b ∷ []) ∷ []) × (rest ≡ more)
-    × (after ≡ onward e mode.Text 0)
+    × (ps ≡ piece (Event.Csi final) (before_stop e bytes ++ b ∷ []) ∷ []) × (rest ≡ more)
+    × (after ≡ onward e Mode.Text 0)
 
 -- what is told where a sequence stops
 pub record IsStop (e : Events) (bytes : List ℕ) (ps : List Piece) (rest : List ℕ)
@@ -53,8 +49,8 @@ pub record IsBad (e : Events) (bytes : List ℕ) (ps : List Piece) (rest : List 
   pub stands : bytes ≡ 27 ∷ 91 ∷ rest
   pub within : e.looked ≤ length bytes
   pub why : IsWrongAt e.limit (before_stop e bytes) (from_stop e bytes)
-  pub told : ps ≡ pieces_of event.Other (27 ∷ 91 ∷ [])
-  pub on : after ≡ onward e mode.BadCsi 0
+  pub told : ps ≡ pieces_of Event.Other (27 ∷ 91 ∷ [])
+  pub on : after ≡ onward e Mode.BadCsi 0
 
 abbrev pub IsMove : Events → List ℕ → List Piece → List ℕ → Events → Type 0
 IsMove e bytes ps rest after =
@@ -74,7 +70,7 @@ same_by true e bytes b more g h = record { told = g.0 ∙ sym h.0; rests = g.1 �
 same_by false e bytes b more g h =
     let text = before_stop e bytes ++ b ∷ [] in
     let final : g.1 ≡ h.1 = (one_seq (without_controls text) (without_controls text) [] [] g.0 h.0 g.1 h.1 g.2 h.2 refl).2 in
-    record { told = g.3 ∙ ap (λ (f : ℕ). piece (event.Csi f) text ∷ []) final ∙ sym h.3; rests = g.4 ∙ sym h.4; on = g.5 ∙ sym h.5 }
+    record { told = g.3 ∙ ap (λ (f : ℕ). piece (Event.Csi f) text ∷ []) final ∙ sym h.3; rests = g.4 ∙ sym h.4; on = g.5 ∙ sym h.5 }
 
 module _ (e : Events) (bytes : List ℕ) (ps qs : List Piece) (rest rest' : List ℕ) (after after' : Events) where
   same_part : IsPart e bytes ps rest after → IsPart e bytes qs rest' after' → SameMove ps qs rest rest' after after'
@@ -138,7 +134,7 @@ other_more limit m a (c ∷ d ∷ bytes) more rest p other first b =
     other (bytes, cc)
 
 -- a part of text is one byte
-pub text_fit : (limit : ℕ) (m a : Mode) (bytes rest : List ℕ) (p : Part) → p.kind ≡ kind.Text
+pub text_fit : (limit : ℕ) (m a : Mode) (bytes rest : List ℕ) (p : Part) → p.kind ≡ Kind.Text
     → IsFirstPart limit m bytes p rest a → (in_string a ≡ false) × (length p.bytes ≡ 1)
 text_fit limit m a bytes rest p text first = subst (λ (k : Kind). IsFit m k p.bytes a) text (fit limit m bytes p.kind p.bytes rest a first)
 

@@ -9,9 +9,6 @@ use Rattle.csicodec_spans.specs.{declared.table.Kind.Kind, declared.table.Mode.M
 use Rattle.csicodec_spans.specs.{Table.openers, Table.parameters, Table.within, Parts.Cuts, Parts.IsMaximal, Parts.IsUnsure}
 use Rattle.csicodec_events.specs.{declared.event.Event.Event, declared.event.Events.Events, declared.event.Told.Told, Characters.EndsWhole}
 use Rattle.csicodec_events.specs.{Characters.is_unfinished}
-use Rattle.csicodec_spans.specs.declared.table.Kind.TheVariants as kind
-use Rattle.csicodec_spans.specs.declared.table.Mode.TheVariants as mode
-use Rattle.csicodec_events.specs.declared.event.Event.TheVariants as event
 
 -- the stream goes on in this mode, with so many bytes looked at
 abbrev pub onward : Events → Mode → ℕ → Events
@@ -52,31 +49,31 @@ abbrev pub from_stop : Events → List ℕ → List ℕ
 from_stop e bytes = drop (stop e.looked bytes) bytes
 
 -- The sequence waits: the bytes end, and there are fewer than it may have.
-pub record IsOpen (e : Events) (over behind : List ℕ) (after : Events) : Type 0 where
+pub record IsOpen (limit : ℕ) (m : Mode) (over behind : List ℕ) (after : Events) : Type 0 where
   pub ends : behind ≡ []
-  pub short : length over < e.limit
-  pub looked : after ≡ onward e e.mode (length over)
+  pub short : length over < limit
+  pub looked : after ≡ record { limit = limit; mode = m; looked = length over }
 
 -- A control stands there: it is told, no byte is used, and all up to it have been looked at.
-pub record IsControl (e : Events) (over behind : List ℕ) (b : ℕ) (bytes text rest : List ℕ)
-    (after : Events) : Type 0 where
+pub record IsControl (limit : ℕ) (m : Mode) (over behind : List ℕ) (b : ℕ)
+    (bytes text rest : List ℕ) (after : Events) : Type 0 where
   pub more : List ℕ
   pub stands : behind ≡ b ∷ more
   pub control : is_control b ≡ true
-  pub short : length over < e.limit
+  pub short : length over < limit
   pub none : text ≡ []
   pub stays : rest ≡ bytes
-  pub looked : after ≡ onward e e.mode (length over + 1)
+  pub looked : after ≡ record { limit = limit; mode = m; looked = length over + 1 }
 
 -- Without its controls what stands up to there is a sequence of this list and this final byte.
-pub record IsCsi (e : Events) (over behind : List ℕ) (list : List CsiParam) (final : ℕ)
+pub record IsCsi (limit : ℕ) (over behind : List ℕ) (list : List CsiParam) (final : ℕ)
     (text rest : List ℕ) (after : Events) : Type 0 where
   pub last : ℕ
   pub stands : behind ≡ last ∷ rest
   pub whole : text ≡ over ++ last ∷ []
-  pub short : length over < e.limit
+  pub short : length over < limit
   pub seq : Seq (without_controls text) list final
-  pub closed : after ≡ onward e mode.Text 0
+  pub closed : after ≡ record { limit = limit; mode = Mode.Text; looked = 0 }
 
 -- Why it goes wrong: it is too long, or the byte there is no control, and ends no sequence.
 abbrev pub IsWrongAt : ℕ → List ℕ → List ℕ → Type 0
@@ -87,25 +84,26 @@ IsWrongAt limit over (b ∷ more) = length over < limit
 
 -- How far what goes wrong goes: up to a final byte there, and with it; else up to there, and it may go on.
 abbrev pub GoesWrong : List ℕ → List ℕ → List ℕ → List ℕ → Mode → Type 0
-GoesWrong over [] text rest m = (text ≡ over) × (rest ≡ []) × (m ≡ mode.BadCsi)
+GoesWrong over [] text rest m = (text ≡ over) × (rest ≡ []) × (m ≡ Mode.BadCsi)
 GoesWrong over (b ∷ more) text rest m =
-    ((is_final b ≡ true) × (text ≡ over ++ b ∷ []) × (rest ≡ more) × (m ≡ mode.Text))
-    ⊎ ((is_final b ≡ false) × (text ≡ over) × (rest ≡ b ∷ more) × (m ≡ mode.BadCsi))
+    ((is_final b ≡ true) × (text ≡ over ++ b ∷ []) × (rest ≡ more) × (m ≡ Mode.Text))
+    ⊎ ((is_final b ≡ false) × (text ≡ over) × (rest ≡ b ∷ more) × (m ≡ Mode.BadCsi))
 
-pub record IsWrong (e : Events) (over behind text rest : List ℕ) (after : Events) : Type 0 where
+pub record IsWrong (limit : ℕ) (over behind text rest : List ℕ) (after : Events) : Type 0 where
   pub next : Mode
-  pub why : IsWrongAt e.limit over behind
+  pub why : IsWrongAt limit over behind
   pub goes : GoesWrong over behind text rest next
-  pub on : after ≡ onward e next 0
+  pub on : after ≡ record { limit = limit; mode = next; looked = 0 }
 
 -- ---- all else
 
 -- A span of this kind, as long as it can be.
-pub record IsSpan (e : Events) (k : Kind) (bytes text rest : List ℕ) (after : Events) : Type 0 where
+pub record IsSpan (limit : ℕ) (m : Mode) (k : Kind) (bytes text rest : List ℕ)
+    (after : Events) : Type 0 where
   pub next : Mode
-  pub cuts : Cuts e.limit e.mode bytes k text rest next
+  pub cuts : Cuts limit m bytes k text rest next
   pub maximal : IsMaximal k next rest
-  pub on : after ≡ onward e next 0
+  pub on : after ≡ record { limit = limit; mode = next; looked = 0 }
 
 -- Where text goes up to the end of the bytes, the beginning of a character at its end is held; else nothing is.
 abbrev pub IsHeld : List ℕ → List ℕ → List ℕ → Type 0
@@ -113,11 +111,12 @@ IsHeld text held [] = (is_unfinished held ≡ true) ⊎ ((held ≡ []) × EndsWh
 IsHeld text held (b ∷ behind) = held ≡ []
 
 -- A span of text, without what is held of it: some bytes, at least.
-pub record IsText (e : Events) (bytes text rest : List ℕ) (after : Events) : Type 0 where
+pub record IsText (limit : ℕ) (m : Mode) (bytes text rest : List ℕ)
+    (after : Events) : Type 0 where
   pub some : 0 < length text
   pub held : List ℕ
   pub behind : List ℕ
-  pub span : IsSpan e kind.Text bytes (text ++ held) behind after
+  pub span : IsSpan limit m Kind.Text bytes (text ++ held) behind after
   pub holds : IsHeld text held behind
   pub goes_on : rest ≡ held ++ behind
 
@@ -125,16 +124,16 @@ pub record IsText (e : Events) (bytes text rest : List ℕ) (after : Events) : T
 
 -- The event of these bytes, with the tokens of a sequence; the bytes behind it; and how it goes on.
 abbrev pub IsTold : Event → Events → List ℕ → List ℕ → List ℕ → List CsiParam → Events → Type 0
-IsTold event.Text e bytes text rest list after = IsText e bytes text rest after
-IsTold (event.Control b) e bytes text rest list after = BeginsCsi bytes
-    × IsControl e (before_stop e bytes) (from_stop e bytes) b bytes text rest after
-IsTold (event.Csi final) e bytes text rest list after = BeginsCsi bytes
-    × IsCsi e (before_stop e bytes) (from_stop e bytes) list final text rest after
-IsTold event.Esc e bytes text rest list after = IsSpan e kind.Esc bytes text rest after
-IsTold event.Str e bytes text rest list after = IsSpan e kind.Str bytes text rest after
-IsTold event.Other e bytes text rest list after =
-    ((BeginsCsi bytes → ⊥) × IsSpan e kind.Other bytes text rest after)
-    ⊎ (BeginsCsi bytes × IsWrong e (before_stop e bytes) (from_stop e bytes) text rest after)
+IsTold Event.Text e bytes text rest list after = IsText e.limit e.mode bytes text rest after
+IsTold (Event.Control b) e bytes text rest list after = BeginsCsi bytes
+    × IsControl e.limit e.mode (before_stop e bytes) (from_stop e bytes) b bytes text rest after
+IsTold (Event.Csi final) e bytes text rest list after = BeginsCsi bytes
+    × IsCsi e.limit (before_stop e bytes) (from_stop e bytes) list final text rest after
+IsTold Event.Esc e bytes text rest list after = IsSpan e.limit e.mode Kind.Esc bytes text rest after
+IsTold Event.Str e bytes text rest list after = IsSpan e.limit e.mode Kind.Str bytes text rest after
+IsTold Event.Other e bytes text rest list after =
+    ((BeginsCsi bytes → ⊥) × IsSpan e.limit e.mode Kind.Other bytes text rest after)
+    ⊎ (BeginsCsi bytes × IsWrong e.limit (before_stop e bytes) (from_stop e bytes) text rest after)
 
 abbrev pub Tells : Events → List ℕ → Told → List CsiParam → Events → Type 0
 Tells e bytes told list after = IsTold told.event e bytes told.bytes.now told.rest.now list after
@@ -142,13 +141,13 @@ Tells e bytes told list after = IsTold told.event e bytes told.bytes.now told.re
 -- The bytes are text, and the beginning of a character.
 abbrev pub IsBegun : Events → List ℕ → Type 0
 IsBegun e bytes = (is_unfinished bytes ≡ true)
-    × ((next : Mode) × Cuts e.limit e.mode bytes kind.Text bytes [] next)
+    × ((next : Mode) × Cuts e.limit e.mode bytes Kind.Text bytes [] next)
 
 -- Nothing is told before more bytes come: a sequence isn't over, or the bytes are the beginning of a character, or nothing is
 -- sure of them.
 abbrev pub Waits : Events → List ℕ → Events → Type 0
 Waits e bytes after =
-    (BeginsCsi bytes × IsOpen e (before_stop e bytes) (from_stop e bytes) after)
+    (BeginsCsi bytes × IsOpen e.limit e.mode (before_stop e bytes) (from_stop e bytes) after)
     ⊎ ((BeginsCsi bytes → ⊥) × (after ≡ e) × (IsBegun e bytes ⊎ IsUnsure e.limit e.mode bytes))
 
 -- ---- from call to call
@@ -197,8 +196,8 @@ byte_by_byte x (b ∷ bytes) = piece x (b ∷ []) ∷ byte_by_byte x bytes
 
 -- a string begins with ESC and its opener, and what goes wrong with ESC; where either goes on, it doesn't
 abbrev pub begins : Event → List ℕ → Bool
-begins event.Str (a ∷ b ∷ bytes) = a == 27 && within openers b
-begins event.Other (a ∷ bytes) = a == 27
+begins Event.Str (a ∷ b ∷ bytes) = a == 27 && within openers b
+begins Event.Other (a ∷ bytes) = a == 27
 begins x bytes = false
 
 abbrev pub divided : Event → List ℕ → List Piece
@@ -206,9 +205,9 @@ divided x bytes = (if begins x bytes then piece x [] ∷ [] else []) ++ byte_by_
 
 -- An event in as many pieces as it could come in: text, strings and what goes wrong byte by byte, and all else whole.
 abbrev pub pieces_of : Event → List ℕ → List Piece
-pieces_of event.Text bytes = divided event.Text bytes
-pieces_of event.Str bytes = divided event.Str bytes
-pieces_of event.Other bytes = divided event.Other bytes
+pieces_of Event.Text bytes = divided Event.Text bytes
+pieces_of Event.Str bytes = divided Event.Str bytes
+pieces_of Event.Other bytes = divided Event.Other bytes
 pieces_of x bytes = piece x bytes ∷ []
 
 abbrev pub pieces : List Told → List Piece

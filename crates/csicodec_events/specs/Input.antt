@@ -15,10 +15,6 @@ use Rattle.csicodec_spans.specs.declared.table.Mode.{Mode}
 use Rattle.csicodec_events.specs.{declared.event.Event.Event, declared.event.Events.Events, declared.input.Dialect.Dialect, declared.input.Form.Form}
 use Rattle.csicodec_events.specs.{declared.input.InputEvent.InputEvent, declared.input.Sent.Sent, Characters.is_from, Events.IsTold, Events.Waits}
 use Rattle.csicodec_events.specs.{Events.onward}
-use Rattle.csicodec_spans.specs.declared.table.Mode.TheVariants as mode
-use Rattle.csicodec_events.specs.declared.input.Dialect.TheVariants as dialect
-use Rattle.csicodec_events.specs.declared.input.Form.TheVariants as form
-use Rattle.csicodec_events.specs.declared.input.InputEvent.TheVariants as input
 
 abbrev pub is_printable : ℕ → Bool
 is_printable b = is_from 32 126 b
@@ -34,100 +30,100 @@ is_opener b = b == 80 || b == 88 || is_from 93 95 b
 
 -- in mode 1005 they are in UTF-8, of two bytes from 128 on; otherwise a byte each
 abbrev pub is_wide : Dialect → ℕ → Bool
-is_wide dialect.Utf8Input b = nat_le 128 b
+is_wide Dialect.Utf8Input b = nat_le 128 b
 is_wide _ b = false
 
 -- so many characters are to come behind so many bytes; where it has begun, the first of two bytes of one has come
 abbrev pub characters : Dialect → ℕ → Bool → ℕ → List ℕ → Form
-characters d left begun n [] = if left == 0 then form.Whole input.Mouse n else form.Unsure
+characters d left begun n [] = if left == 0 then Form.Whole InputEvent.Mouse n else Form.Unsure
 characters d left begun n (a ∷ bytes) =
-    if left == 0 then form.Whole input.Mouse n else
+    if left == 0 then Form.Whole InputEvent.Mouse n else
     if begun then
-    (if is_from 128 191 a then characters d (left - 1) false (n + 1) bytes else form.AsOutput) else
+    (if is_from 128 191 a then characters d (left - 1) false (n + 1) bytes else Form.AsOutput) else
     if is_wide d a then
-    (if is_from 194 223 a then characters d left true (n + 1) bytes else form.AsOutput) else
+    (if is_from 194 223 a then characters d left true (n + 1) bytes else Form.AsOutput) else
     characters d (left - 1) false (n + 1) bytes
 
 -- ---- the other forms
 
 abbrev pub ss3 : List ℕ → Form
-ss3 [] = form.Unsure
-ss3 (b ∷ bytes) = if is_printable b then form.Whole (input.Ss3 b) 3 else form.Whole (input.Alt 79) 2
+ss3 [] = Form.Unsure
+ss3 (b ∷ bytes) = if is_printable b then Form.Whole (InputEvent.Ss3 b) 3 else Form.Whole (InputEvent.Alt 79) 2
 
 abbrev pub linux : List ℕ → Form
-linux [] = form.Unsure
-linux (b ∷ bytes) = if is_printable b then form.Whole (input.Linux b) 4 else form.AsOutput
+linux [] = Form.Unsure
+linux (b ∷ bytes) = if is_printable b then Form.Whole (InputEvent.Linux b) 4 else Form.AsOutput
 
 -- behind one digit and another byte
 abbrev pub two_digits : ℕ → ℕ → List ℕ → Form
-two_digits a b [] = if is_digit b then form.Unsure else form.AsOutput
+two_digits a b [] = if is_digit b then Form.Unsure else Form.AsOutput
 two_digits a b (c ∷ bytes) =
-    if is_digit b && c == 36 then form.Whole (input.Rxvt (10 * (a - 48) + (b - 48))) 5 else
-    form.AsOutput
+    if is_digit b && c == 36 then Form.Whole (InputEvent.Rxvt (10 * (a - 48) + (b - 48))) 5 else
+    Form.AsOutput
 
 abbrev pub rxvt : ℕ → List ℕ → Form
-rxvt a [] = form.Unsure
-rxvt a (b ∷ bytes) = if b == 36 then form.Whole (input.Rxvt (a - 48)) 4 else two_digits a b bytes
+rxvt a [] = Form.Unsure
+rxvt a (b ∷ bytes) = if b == 36 then Form.Whole (InputEvent.Rxvt (a - 48)) 4 else two_digits a b bytes
 
 -- behind ESC and `[`
 abbrev pub csi : Dialect → List ℕ → Form
-csi d [] = form.Unsure
+csi d [] = Form.Unsure
 csi d (b ∷ bytes) =
     if b == 91 then linux bytes else
     if b == 77 then characters d 3 false 3 bytes else
     if is_digit b then rxvt b bytes else
-    form.AsOutput
+    Form.AsOutput
 
 abbrev pub string : List ℕ → Form
-string [] = form.Unsure
-string (b ∷ bytes) = form.AsOutput
+string [] = Form.Unsure
+string (b ∷ bytes) = Form.AsOutput
 
 -- where a string is open `\` closes it, and ESC goes on as output has it; all else begins anew
 abbrev pub goes_on : Mode → ℕ → Bool
-goes_on mode.Osc b = b == 92 || b == 27
-goes_on mode.Dcs b = b == 92 || b == 27
-goes_on mode.Str b = b == 92 || b == 27
+goes_on Mode.Osc b = b == 92 || b == 27
+goes_on Mode.Dcs b = b == 92 || b == 27
+goes_on Mode.Str b = b == 92 || b == 27
 goes_on _ b = false
 
 -- behind ESC
 abbrev pub escape : Dialect → Mode → List ℕ → Form
-escape d m [] = form.Unsure
+escape d m [] = Form.Unsure
 escape d m (b ∷ bytes) =
-    if goes_on m b then form.AsOutput else
+    if goes_on m b then Form.AsOutput else
     if b == 79 then ss3 bytes else
     if b == 91 then csi d bytes else
     if is_opener b then string bytes else
-    if b == 27 || nat_le 128 b then form.Whole input.Escape 1 else
-    form.Whole (input.Alt b) 2
+    if b == 27 || nat_le 128 b then Form.Whole InputEvent.Escape 1 else
+    Form.Whole (InputEvent.Alt b) 2
 
 -- ---- what stands in front
 
 abbrev pub in_input : Dialect → Mode → List ℕ → Form
-in_input d m [] = form.Unsure
-in_input d m (b ∷ bytes) = if b == 27 then escape d m bytes else form.AsOutput
+in_input d m [] = Form.Unsure
+in_input d m (b ∷ bytes) = if b == 27 then escape d m bytes else Form.AsOutput
 
 -- of a stream, of whose control sequence in front so many bytes were looked at
 abbrev pub ahead : Dialect → Mode → ℕ → List ℕ → Form
-ahead dialect.Output m looked bytes = form.AsOutput
-ahead d m looked bytes = if looked == 0 then in_input d m bytes else form.AsOutput
+ahead Dialect.Output m looked bytes = Form.AsOutput
+ahead d m looked bytes = if looked == 0 then in_input d m bytes else Form.AsOutput
 
 -- Where the caller says that no more comes for now: a lone ESC, or ESC and one byte of ASCII.
 abbrev pub paused : List ℕ → Form
-paused [] = form.Unsure
-paused (a ∷ []) = if a == 27 then form.Whole input.Escape 1 else form.Unsure
-paused (a ∷ b ∷ []) = if a == 27 && nat_lt b 128 then form.Whole (input.Alt b) 2 else form.Unsure
-paused (a ∷ b ∷ c ∷ bytes) = form.Unsure
+paused [] = Form.Unsure
+paused (a ∷ []) = if a == 27 then Form.Whole InputEvent.Escape 1 else Form.Unsure
+paused (a ∷ b ∷ []) = if a == 27 && nat_lt b 128 then Form.Whole (InputEvent.Alt b) 2 else Form.Unsure
+paused (a ∷ b ∷ c ∷ bytes) = Form.Unsure
 
 -- ---- the events
 
 -- The event of these bytes, and the bytes behind it.
 abbrev pub IsSentBy : Form → Events → List ℕ → InputEvent → List ℕ → List ℕ → List CsiParam → Events
     → Type 0
-IsSentBy (form.Whole i n) e bytes event text rest list after =
-    (event ≡ i) × (text ≡ take n bytes) × (rest ≡ drop n bytes) × (after ≡ onward e mode.Text 0)
-IsSentBy form.AsOutput e bytes event text rest list after =
-    (told : Event) × (event ≡ input.Output told) × IsTold told e bytes text rest list after
-IsSentBy form.Unsure e bytes event text rest list after = ⊥
+IsSentBy (Form.Whole i n) e bytes event text rest list after =
+    (event ≡ i) × (text ≡ take n bytes) × (rest ≡ drop n bytes) × (after ≡ onward e Mode.Text 0)
+IsSentBy Form.AsOutput e bytes event text rest list after =
+    (told : Event) × (event ≡ InputEvent.Output told) × IsTold told e bytes text rest list after
+IsSentBy Form.Unsure e bytes event text rest list after = ⊥
 
 abbrev pub IsSent : Dialect → Events → List ℕ → InputEvent → List ℕ → List ℕ → List CsiParam
     → Events → Type 0
@@ -136,18 +132,18 @@ IsSent d e bytes event text rest list after =
 
 -- Nothing is told before more bytes come.
 abbrev pub AwaitsBy : Form → Events → List ℕ → Events → Type 0
-AwaitsBy (form.Whole i n) e bytes after = ⊥
-AwaitsBy form.AsOutput e bytes after = Waits e bytes after
-AwaitsBy form.Unsure e bytes after = after ≡ e
+AwaitsBy (Form.Whole i n) e bytes after = ⊥
+AwaitsBy Form.AsOutput e bytes after = Waits e bytes after
+AwaitsBy Form.Unsure e bytes after = after ≡ e
 
 abbrev pub Awaits : Dialect → Events → List ℕ → Events → Type 0
 Awaits d e bytes after = AwaitsBy (ahead d e.mode e.looked bytes) e bytes after
 
 -- It is told: what stands there needs no more bytes.
 abbrev pub IsSure : Form → Type 0
-IsSure (form.Whole i n) = Unit {0}
-IsSure form.AsOutput = Unit {0}
-IsSure form.Unsure = ⊥
+IsSure (Form.Whole i n) = Unit {0}
+IsSure Form.AsOutput = Unit {0}
+IsSure Form.Unsure = ⊥
 
 -- ---- a stream
 

@@ -86,30 +86,7 @@ impl Events {
         self.looked == 0 || begins_csi(bytes) && self.looked <= bytes.len()
     }
 
-    /// The text of a span in front, but for the beginning of a character where the bytes end.
-    fn text(
-        &mut self,
-        bytes: &[u8],
-        cut: Cut<'_>,
-        _params: &Vec<CsiParam>,
-    ) -> Option<(Event, usize)>
-        requires limit { 0 < self.old.limit }
-        requires other { BeginsCsi bytes.now → ⊥ }
-        requires cut { Cuts self.old.limit self.old.mode bytes.now kinds.Text cut.span.bytes.now
-            cut.rest.now cut.mode }
-        requires maximal { IsMaximal kinds.Text cut.mode cut.rest.now }
-        requires looked { self.old.looked ≡ 0 }
-        ensures { MatchOption result (HasWaited self.old bytes.now self.new) (λ (event, len).
-            HasFound self.old bytes.now event len _params.now.items self.new) }
-    {
-        let len = cut.span.bytes.len() - held_len(cut.span.bytes, cut.rest);
-        if len == 0 {
-            return None;
-        }
-        Some(self.found(Event::Text, len, cut.mode))
-    }
-
-    /// The event of a span in front, and how many bytes it has.
+    /// The event of a span in front, and how many bytes it has: of text but for the beginning of a character where the bytes end.
     fn span(&mut self, bytes: &[u8], _params: &Vec<CsiParam>) -> Option<(Event, usize)>
         requires limit { 0 < self.old.limit }
         requires other { BeginsCsi bytes.now → ⊥ }
@@ -117,12 +94,16 @@ impl Events {
         ensures { MatchOption result (HasWaited self.old bytes.now self.new) (λ (event, len).
             HasFound self.old bytes.now event len _params.now.items self.new) }
     {
-        let Some(cut) = next_span(self.limit, self.mode, bytes) else {
-            return None;
-        };
+        let cut = next_span(self.limit, self.mode, bytes)?;
         let len = cut.span.bytes.len();
         match cut.span.kind {
-            Kind::Text => self.text(bytes, cut, _params),
+            Kind::Text => {
+                let len = len - held_len(cut.span.bytes, cut.rest);
+                if len == 0 {
+                    return None;
+                }
+                Some(self.found(Event::Text, len, cut.mode))
+            }
             Kind::Esc => Some(self.found(Event::Esc, len, cut.mode)),
             Kind::Str => Some(self.found(Event::Str, len, cut.mode)),
             Kind::Csi | Kind::Other => Some(self.found(Event::Other, len, cut.mode)),

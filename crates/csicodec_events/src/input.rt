@@ -2,7 +2,7 @@
 ghost use Rattle.std.specs.Prelude.{◌≡◌, ◌<◌, ◌++◌, ◌+◌, ◌^◌, [], List, ℕ, length, IfNone, IfSome, IfOk, MatchOption, OnErr, OnOk, true, take, drop};
 ghost use Rattle.csicodec_tokens.specs.declared.param.CsiParam.{CsiParam};
 ghost use Rattle.csicodec_spans.specs.declared.table.Mode.TheVariants.{Text as Plain};
-ghost use Rattle.csicodec_events.specs.Input.{Awaits, IsSent, IsSentBy, ahead, characters, csi, escape, goes_on, in_input, is_digit, is_opener, is_printable, is_wide, paused, rxvt, two_digits};
+ghost use Rattle.csicodec_events.specs.Input.{Awaits, IsSent, IsSentBy, ahead, characters, csi, escape, goes_on, in_input, is_digit, is_opener, is_printable, is_wide, paused, rxvt};
 ghost use Rattle.csicodec_events.specs.{declared.input.Form.TheVariants.Unsure, Events.IsMet, Events.left, Events.onward};
 
 use crate::event::{Event, Events};
@@ -89,10 +89,7 @@ impl Dialect {
     fn is_wide(self, byte: u8) -> bool
         ensures { result ≡ is_wide self byte }
     {
-        match self {
-            Dialect::Output | Dialect::Input => false,
-            Dialect::Utf8Input => 0x80 <= byte,
-        }
+        matches!(self, Dialect::Utf8Input) && 0x80 <= byte
     }
 }
 
@@ -133,20 +130,6 @@ fn characters(dialect: Dialect, left: usize, begun: bool, len: usize, bytes: &[u
     }
 }
 
-/// Behind `ESC [`, a digit and another byte.
-fn two_digits(first: u8, byte: u8, bytes: &[u8]) -> Form
-    requires { is_digit first ≡ true }
-    ensures { result ≡ two_digits first byte bytes.now }
-{
-    match bytes {
-        [] if is_digit(byte) => Form::Unsure,
-        [last, ..] if is_digit(byte) && *last == b'$' => {
-            Form::Whole(InputEvent::Rxvt(10 * (first - b'0') + (byte - b'0')), 5)
-        }
-        _ => Form::AsOutput,
-    }
-}
-
 /// Behind `ESC [` and a digit.
 fn rxvt(first: u8, bytes: &[u8]) -> Form
     requires { is_digit first ≡ true }
@@ -155,7 +138,11 @@ fn rxvt(first: u8, bytes: &[u8]) -> Form
     match bytes {
         [] => Form::Unsure,
         [b'$', ..] => Form::Whole(InputEvent::Rxvt(first - b'0'), 4),
-        [byte, others @ ..] => two_digits(first, *byte, others),
+        [byte] if is_digit(*byte) => Form::Unsure,
+        [byte, b'$', ..] if is_digit(*byte) => {
+            Form::Whole(InputEvent::Rxvt(10 * (first - b'0') + (*byte - b'0')), 5)
+        }
+        _ => Form::AsOutput,
     }
 }
 
@@ -241,11 +228,8 @@ impl Events {
     {
         self.mode = Mode::Text;
         self.looked = 0;
-        Sent {
-            event,
-            bytes: near(len, bytes),
-            rest: behind(bytes, len),
-        }
+        let (bytes, rest) = (near(len, bytes), behind(bytes, len));
+        Sent { event, bytes, rest }
     }
 
     /// The event in front of bytes of this dialect, as [`next`](Events::next) tells those of output.

@@ -19,7 +19,7 @@ pub fn joined()
 /// The events of a stream don't depend on the chunks that it came in, but for where text, strings and what went wrong are cut: with
 /// these byte by byte, the lists of events are the same, each string begins at the same place, and control sequences, the controls in
 /// them and escape sequences are whole, at the same places. The same bytes wait, and the stream goes on with the same.
-#[tactic(auto, using(crate::proofs::Chunks::alike))]
+#[tactic(auto, using(crate::proofs::Looks::alike))]
 pub fn any_chunks()
     ensures { (e after after' : Events) (chunks others : List (List ℕ)) (told told' : List Told)
         (rest rest' : List ℕ) → e.looked ≡ 0 → concat chunks ≡ concat others

@@ -20,16 +20,12 @@ fn leads(byte: u8) -> bool
 fn follows(first: u8, byte: u8) -> bool
     ensures { result ≡ follows first byte }
 {
-    if first == 0xe0 {
-        is_from(0xa0, 0xbf, byte)
-    } else if first == 0xed {
-        is_from(0x80, 0x9f, byte)
-    } else if first == 0xf0 {
-        is_from(0x90, 0xbf, byte)
-    } else if first == 0xf4 {
-        is_from(0x80, 0x8f, byte)
-    } else {
-        is_from(0x80, 0xbf, byte)
+    match first {
+        0xe0 => is_from(0xa0, 0xbf, byte),
+        0xed => is_from(0x80, 0x9f, byte),
+        0xf0 => is_from(0x90, 0xbf, byte),
+        0xf4 => is_from(0x80, 0x8f, byte),
+        _ => is_from(0x80, 0xbf, byte),
     }
 }
 

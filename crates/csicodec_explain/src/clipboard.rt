@@ -40,14 +40,11 @@ pub struct Clipboard<'a> {
 
 impl<'a> fmt::Display for Clipboard<'a> {
     fn fmt<W: fmt::Write>(&self, f: &mut fmt::Formatter<W>) -> fmt::Result {
+        let (bytes, more) = (self.bytes, false);
         if self.full {
-            let shown = Shown(self.bytes);
-            return write!(f, "OSC 52  text: \"{shown}\"");
+            write!(f, "OSC 52  text: \"{}\"", Shown(bytes))
+        } else {
+            write!(f, "OSC 52  text: {}", Quoted { bytes, more })
         }
-        let quoted = Quoted {
-            bytes: self.bytes,
-            more: false,
-        };
-        write!(f, "OSC 52  text: {quoted}")
     }
 }

@@ -92,11 +92,9 @@ impl Totals {
 
     /// All bytes.
     pub fn bytes(&self) -> u64 {
-        let mut bytes = 0u64;
-        for (_, _, sum) in &self.kinds() {
-            bytes = bytes.saturating_add(sum.bytes);
-        }
-        bytes
+        let kinds = self.kinds();
+        let bytes = kinds.iter().map(|(_, _, sum)| sum.bytes);
+        bytes.fold(0, u64::saturating_add)
     }
 }
 
@@ -198,8 +196,7 @@ fn append_share(out: &mut String, name: &str, sum: Sum, share: u64, json: bool) 
         )?;
         Ok(write!(out, ",\"bytes\":{bytes},\"share\":{whole}.{tenth}}}\n")?)
     } else {
-        write!(out, "{name:<24}{times:>10}")?;
-        Ok(write!(out, "{bytes:>13}{whole:>6}.{tenth}%\n")?)
+        Ok(write!(out, "{name:<24}{times:>10}{bytes:>13}{whole:>6}.{tenth}%\n")?)
     }
 }
 
@@ -210,10 +207,8 @@ pub fn append_stats(out: &mut String, names: &Names, all: u64, json: bool) -> Re
     if !json {
         out.push_str(HEADING)?;
     }
-    let mut rows = Vec::new(names.alloc);
-    for (name, sum) in &names.sums {
-        rows.push((name.as_str(), *sum))?;
-    }
+    let named = names.sums.iter().map(|(name, sum)| (name.as_str(), *sum));
+    let mut rows = named.collect::<Vec<_>>(names.alloc)?;
     rows.sort_by_key(left)?;
     if names.others.times > 0 {
         rows.push(("other names", names.others))?;

@@ -52,13 +52,11 @@ fn word_front(text: &[u8]) -> Option<(&[u8], u8, &[u8])> {
 
 /// A word as a value; nothing where it is empty.
 fn append_word(out: &mut Vec<u8>, word: &[u8]) -> Result<()> {
-    let is_truth = word == b"true".as_slice() || word == b"false".as_slice();
     match word {
         [] => Ok(()),
-        [b'0'..=b'9' | b'-', ..] => out.extend_from_slice(word),
+        [b'0'..=b'9' | b'-', ..] | b"true" | b"false" => out.extend_from_slice(word),
         [b'\'', character @ .., b'\''] => append_plain(out, character),
-        _ if is_truth => out.extend_from_slice(word),
-        _ if word == b"None".as_slice() => out.extend_from_slice(b"null"),
+        b"None" => out.extend_from_slice(b"null"),
         _ => append_plain(out, word),
     }
 }

@@ -6,11 +6,6 @@ use crate::patterns::CODES;
 use csicodec_words::find;
 use serde_json::Value;
 
-/// The number that a name stands for.
-fn code_of(name: &str) -> Option<u64> {
-    find(&CODES, name.as_bytes())?.parse().ok()
-}
-
 /// A byte by its number, or nothing where it is `null`; whether it is one of them.
 fn append_byte(text: &mut Vec<u8>, value: &Value) -> Result<bool> {
     let byte = value.as_u64().and_then(|number| u8::try_from(number).ok());
@@ -29,7 +24,8 @@ fn append_one(text: &mut Vec<u8>, value: &Value) -> Result<bool> {
     }
     let value = value.get("Integer").or(value.get("Code")).unwrap_or(value);
     let name = value.as_str();
-    if let Some(number) = value.as_u64().or(name.and_then(code_of)) {
+    let code = name.and_then(|name| find(&CODES, name.as_bytes())?.parse().ok());
+    if let Some(number) = value.as_u64().or(code) {
         append_number(text, number, 0)?;
         return Ok(true);
     }

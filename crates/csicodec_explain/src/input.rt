@@ -41,48 +41,36 @@ fn resumed(mode: Mode, looked: usize, bytes: &[u8]) -> Events
     events
 }
 
-/// Tells what output has too: text is over where ESC follows.
-fn tell_output(
-    page: &mut Listing<'_>,
-    modes: (Mode, Mode),
-    event: Event,
-    sent: Sent<'_>,
-    params: &[CsiParam],
-) -> Result<()> {
-    let kind = match event {
-        Event::Text => Kind::Text,
-        Event::Esc => Kind::Esc,
-        Event::Str => Kind::Str,
-        Event::Other => Kind::Other,
-        Event::Control(_) => return Ok(()),
-        Event::Csi(control) => return page.add_read(sent.bytes, params, control),
-    };
-    let over = sent.rest.first().copied() == Some(0x1b);
-    page.add(modes, kind, sent.bytes, over)
-}
-
-/// Tells an event; of a control sequence these are the tokens. A control within a sequence has no bytes of its own.
+/// Tells an event; of a control sequence these are the tokens. A control within a sequence has no bytes of its own, and text is over where
+/// ESC follows.
 fn tell(
     page: &mut Listing<'_>,
     modes: (Mode, Mode),
     sent: Sent<'_>,
     params: &[CsiParam],
 ) -> Result<()> {
-    let Some(did) = Did::of(sent.event, sent.bytes, params) else {
-        let event = match sent.event {
-            InputEvent::Output(event) => event,
-            _ => Event::Other,
+    if let Some(did) = Did::of(sent.event, sent.bytes, params) {
+        let (kind, sort, bytes) = match sent.event {
+            InputEvent::Output(Event::Control(_)) => (Kind::Text, Sort::Control, [].as_slice()),
+            InputEvent::Ss3(_) | InputEvent::Alt(_) | InputEvent::Escape => {
+                (Kind::Esc, Sort::Escape, sent.bytes)
+            }
+            _ => (Kind::Csi, Sort::Sequence, sent.bytes),
         };
-        return tell_output(page, modes, event, sent, params);
-    };
-    let (kind, sort) = match sent.event {
-        InputEvent::Output(Event::Control(_)) => {
-            return page.add_did(Kind::Text, Sort::Control, &[], &did);
+        return page.add_did(kind, sort, bytes, &did);
+    }
+    let kind = match sent.event {
+        InputEvent::Output(Event::Csi(control)) => {
+            return page.add_read(sent.bytes, params, control);
         }
-        InputEvent::Ss3(_) | InputEvent::Alt(_) | InputEvent::Escape => (Kind::Esc, Sort::Escape),
-        _ => (Kind::Csi, Sort::Sequence),
+        InputEvent::Output(Event::Control(_)) => return Ok(()),
+        InputEvent::Output(Event::Text) => Kind::Text,
+        InputEvent::Output(Event::Esc) => Kind::Esc,
+        InputEvent::Output(Event::Str) => Kind::Str,
+        _ => Kind::Other,
     };
-    page.add_did(kind, sort, sent.bytes, &did)
+    let over = sent.rest.first().copied() == Some(0x1b);
+    page.add(modes, kind, sent.bytes, over)
 }
 
 /// Tells the events that are sure; how many bytes they have.

@@ -4,7 +4,6 @@
 
 mod cache;
 mod clipboard;
-mod controls;
 mod copied;
 mod counts;
 mod digits;

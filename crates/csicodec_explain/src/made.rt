@@ -96,14 +96,9 @@ impl Maker {
             return Ok(false);
         };
         let whole = told.get("text").and_then(Value::as_str).map(str::as_bytes);
-        Ok(match only_item(told.get("actions")) {
-            Some(told) => {
-                whole == Some(self.text.as_slice())
-                    && has_all(action, told)
-                    && has_all(told, action)
-            }
-            None => false,
-        })
+        let is_whole = whole == Some(self.text.as_slice());
+        let only = only_item(told.get("actions")).filter(|_| is_whole);
+        Ok(only.is_some_and(|told| has_all(action, told) && has_all(told, action)))
     }
 
     /// Whether a text of this pattern has the action of that name; it is the one that was tried last.

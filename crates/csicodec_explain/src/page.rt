@@ -2,14 +2,13 @@
 ghost use Rattle.std.specs.Prelude.{◌≤◌, IfOk, length};
 
 use crate::Result;
-use crate::controls::{is_control, text_front};
 use crate::counts::Totals;
 use crate::keyed::{Keyed, sequence_front};
 use crate::line::{Sort, ToldSpan, whole_characters};
 use crate::sheet::Sheet;
 use crate::style::Style;
 use csicodec_base::{CsiParam, Esc, ReadError, read_csi_into};
-use csicodec_osc::{ControlString, FRONT};
+use csicodec_osc::{ControlString, FRONT, text_len};
 use csicodec_spans::{Kind, LIMIT, Mode};
 use csicodec_transform::keep_from;
 use csicodec_words::{Did, EscReading, words_of_control};
@@ -89,6 +88,18 @@ pub struct Listing<'a> {
     /// Whether the last span was text.
     text: bool,
     totals: Totals,
+}
+
+/// Whether a byte is a control character of text: C0 but for ESC, which begins something else, and DEL.
+fn is_control(byte: u8) -> bool {
+    byte < b' ' || byte == 0x7f
+}
+
+/// Text up to its first control character, with that, and what is behind it.
+#[inline(always)]
+fn text_front(bytes: &[u8]) -> (&[u8], &[u8]) {
+    let front = text_len(bytes).saturating_add(1);
+    bytes.split_at_checked(front).unwrap_or((bytes, &[]))
 }
 
 /// The escape sequence that a span of that kind is.
@@ -456,13 +467,6 @@ impl<'a> Listing<'a> {
         Ok(())
     }
 
-    /// Text that is whole.
-    fn add_whole_text(&mut self, bytes: &[u8]) -> Result<()> {
-        self.close()?;
-        let span = self.span_here(Sort::Text, bytes);
-        self.sheet.tell_text(&span)
-    }
-
     /// Text with at most one control character, its last; whether it is over there else.
     #[inline(always)]
     fn add_text_part(&mut self, part: &[u8], over: bool) -> Result<()> {
@@ -477,7 +481,9 @@ impl<'a> Listing<'a> {
                 None => over,
             };
             if alone && !same {
-                self.add_whole_text(run)?;
+                self.close()?;
+                let span = self.span_here(Sort::Text, run);
+                self.sheet.tell_text(&span)?;
             } else {
                 self.add_open(Kind::Text, same, run)?;
             }

@@ -1,20 +1,16 @@
 -- What a filter writes, cut as a stream once more.
-use Rattle.std.proofs.Common.{◌≡◌, ◌≢◌, ℕ, ◌+◌, ◌<◌, ◌≤◌, ◌⊎◌, List, [], ◌∷◌, ◌++◌, false, length, refl, sym, ap, subst, ◌∙◌, inl, inr, append_assoc, append-nil, arith}
-use Rattle.std.proofs.lemmas.List.{length-append}
-use Rattle.std.specs.List.{flat_map}
+use Rattle.std.proofs.Common.{◌≡◌, ◌≢◌, ℕ, ◌+◌, ◌<◌, ◌≤◌, ◌⊎◌, List, [], ◌∷◌, ◌++◌, false, length, refl, sym, ap, subst, ◌∙◌, inl, inr, append_assoc, append-nil, arith, length-append, flat_map}
 use Rattle.csicodec_tokens.specs.declared.param.CsiParam.{CsiParam}
 use Rattle.csicodec_actions.specs.Actions.{Action}
 use Rattle.csicodec_parser.proofs.Cuts.{actions_count}
 use Rattle.csicodec_streams.specs.Decoding.{AreActions, Decodes, Joins}
 use Rattle.csicodec_spans.specs.Parts.{Part, part, bytes_of, left_over, Allows, IsFirstPart, AreFirstParts, IsUnsure, IsWhole}
 use Rattle.csicodec_spans.specs.{Table.ahead, declared.table.Kind.Kind, declared.table.Mode.Mode}
-use Rattle.csicodec_spans.proofs.{Agrees.sound, Iterated.more_whole, Iterated.none_left as whole_none, Kept.parts_more, Missed.allows_whole, Missed.part_some}
-use Rattle.csicodec_spans.proofs.{Once.whole_once, Spanned.whole_joined}
+use Rattle.csicodec_spans.proofs.{Agrees.sound, Waits.more_whole, Waits.none_left as whole_none, Once.parts_more, Once.whole_once, Missed.allows_whole}
+use Rattle.csicodec_spans.proofs.{Missed.part_some, Missed.whole_joined}
 use Rattle.csicodec_filter.specs.Meaning.{AreCsi, Means, MeanTheSame, StandInPlace, singles, KeepsMeaning, Within}
 use Rattle.csicodec_filter.specs.Filter.{AreWritten, IsWritten}
 use Rattle.csicodec_filter.proofs.{Shorter.ahead_less, Written.first_csi}
-use Rattle.csicodec_spans.specs.declared.table.Kind.TheVariants as kind
-use Rattle.csicodec_spans.specs.declared.table.Mode.TheVariants as mode
 
 -- what stands in front of more bytes stands there already with the first of them
 part_less : (limit : ℕ) (m : Mode) (p : Part) (s x : List ℕ) (a : Mode) → 0 < limit → 0 < length s → IsFirstPart limit m (p.bytes ++ (s ++ x)) p (s ++ x) a → IsFirstPart limit m (p.bytes ++ s) p s a
@@ -52,7 +48,7 @@ abbrev IsSureFirst : ℕ → Mode → List ℕ → Part → List Part → Type 0
 IsSureFirst limit m bytes p behind = (rest : List ℕ) × (n : Mode) × IsFirstPart limit m bytes p rest n × IsWhole limit n rest behind
 
 abbrev IsLeftOver : List ℕ → Part → List Part → Type 0
-IsLeftOver bytes p behind = (p.kind ≡ kind.Other) × (p.bytes ≡ bytes) × (behind ≡ [])
+IsLeftOver bytes p behind = (p.kind ≡ Kind.Other) × (p.bytes ≡ bytes) × (behind ≡ [])
 
 whole_first : (limit : ℕ) (m : Mode) (bytes : List ℕ) (p : Part) (behind : List Part) → IsWhole limit m bytes (p ∷ behind) → IsSureFirst limit m bytes p behind ⊎ IsLeftOver bytes p behind
 whole_first limit m bytes p behind w = by w.sure w.rest w.first w.whole w.unsure
@@ -62,7 +58,7 @@ whole_first limit m bytes p behind w = by w.sure w.rest w.first w.whole w.unsure
         IsSureFirst limit m bytes p behind ⊎ IsLeftOver bytes p behind
     by [] [] f e u = absurd cc
     by [] (b ∷ rest) f e u =
-        let same : p ≡ part kind.Other (b ∷ rest) = cc in
+        let same : p ≡ part Kind.Other (b ∷ rest) = cc in
         let none : behind ≡ [] = cc in
         inr (ap (λ (q : Part). q.kind) same, ap (λ (q : Part). q.bytes) same ∙ f.0, none)
     by (q ∷ sure) rest f e u =
@@ -75,9 +71,9 @@ whole_first limit m bytes p behind w = by w.sure w.rest w.first w.whole w.unsure
 -- the mode behind bytes that are such
 abbrev behind_csi : Mode → List ℕ → Mode
 behind_csi m [] = m
-behind_csi m (b ∷ bytes) = mode.Text
+behind_csi m (b ∷ bytes) = Mode.Text
 
-behind_text : (bytes : List ℕ) → behind_csi mode.Text bytes ≡ mode.Text
+behind_text : (bytes : List ℕ) → behind_csi Mode.Text bytes ≡ Mode.Text
 behind_text [] = refl
 behind_text _ = refl
 
@@ -86,7 +82,7 @@ Sequences = List (List CsiParam × ℕ)
 
 abbrev csi_parts : (ss : Sequences) (bytes : List ℕ) → Joins bytes ss → List Part
 csi_parts [] bytes j = []
-csi_parts (s ∷ ss) bytes j = part kind.Csi j.0 ∷ csi_parts ss j.1 j.4
+csi_parts (s ∷ ss) bytes j = part Kind.Csi j.0 ∷ csi_parts ss j.1 j.4
 
 are_csi : (ss : Sequences) (bytes : List ℕ) (j : Joins bytes ss) → AreCsi (csi_parts ss bytes j)
 are_csi [] bytes j = tt
@@ -106,11 +102,11 @@ first_csis limit (s ∷ ss) m bytes more j within =
     let long : length bytes ≡ length j.0 + length j.1 = ap length j.2 ∙ length-append j.0 j.1 in
     let all : j.0 ++ (j.1 ++ more) ≡ bytes ++ more = sym (append_assoc j.0 j.1 more) ∙ ap (λ (t : List ℕ). t ++ more) (sym j.2) in
     let first = first_csi limit m j.0 (j.1 ++ more) (s.0, s.1, j.3) (omega (arith, long, within)) in
-    let others = first_csis limit ss mode.Text j.1 more j.4 (omega (arith, long, within)) in (
+    let others = first_csis limit ss Mode.Text j.1 more j.4 (omega (arith, long, within)) in (
       j.1 ++ more,
-      mode.Text,
-      subst (λ (t : List ℕ). IsFirstPart limit m t (part kind.Csi j.0) (j.1 ++ more) mode.Text) all first,
-      subst (λ (n : Mode). AreFirstParts limit mode.Text (j.1 ++ more) (csi_parts ss j.1 j.4) more n)
+      Mode.Text,
+      subst (λ (t : List ℕ). IsFirstPart limit m t (part Kind.Csi j.0) (j.1 ++ more) Mode.Text) all first,
+      subst (λ (n : Mode). AreFirstParts limit Mode.Text (j.1 ++ more) (csi_parts ss j.1 j.4) more n)
           (behind_text j.1 ∙ sym (ap (behind_csi m) (join_opens s ss bytes j).1)) others,
     )
 
@@ -124,15 +120,15 @@ run_first limit m bytes (p ∷ run) behind all w =
     elim (whole_first limit m bytes p (run ++ behind) w) [
       | inl h ↦
           let (rest, n, first, others) = h in
-          let own : Allows (ahead m bytes) limit bytes kind.Csi p.bytes n = subst (λ (k : Kind). Allows (ahead m bytes) limit bytes k p.bytes n) all.0 first.1 in
+          let own : Allows (ahead m bytes) limit bytes Kind.Csi p.bytes n = subst (λ (k : Kind). Allows (ahead m bytes) limit bytes k p.bytes n) all.0 first.1 in
           let is = allows_whole (ahead m bytes) limit m bytes p.bytes n (sound m bytes) own in
-          let r = run_first limit mode.Text rest run behind all.1 (subst (λ (a : Mode). IsWhole limit a rest (run ++ behind)) is.2 others) in (
+          let r = run_first limit Mode.Text rest run behind all.1 (subst (λ (a : Mode). IsWhole limit a rest (run ++ behind)) is.2 others) in (
             r.0,
             first.0 ∙ ap (λ (t : List ℕ). p.bytes ++ t) r.1 ∙ sym (append_assoc p.bytes (flat_map bytes_of run) r.0),
             subst (λ (a : Mode). IsWhole limit a r.0 behind)
                 (behind_text (flat_map bytes_of run) ∙ sym (ap (λ (t : List ℕ). behind_csi m (t ++ flat_map bytes_of run)) is.0.2.whole)) r.2,
           )
-      | inr h ↦ let clash : kind.Other ≡ kind.Csi = sym h.0 ∙ all.0 in absurd cc
+      | inr h ↦ let clash : Kind.Other ≡ Kind.Csi = sym h.0 ∙ all.0 in absurd cc
     ]
 
 -- ---- bytes of the same actions
@@ -186,7 +182,7 @@ nothing_left limit runs m parts text a =
     (none, subst (λ (o : List Part). StandInPlace runs parts o) no_parts a.placed)
 
 -- a part that is no control sequence, and what follows
-plain_again : (limit : ℕ) (runs : List (List Part)) (m : Mode) (p : Part) (behind : List Part) (bytes later : List ℕ) → 0 < limit → p.kind ≢ kind.Csi → IsWhole limit m bytes (p ∷ behind)
+plain_again : (limit : ℕ) (runs : List (List Part)) (m : Mode) (p : Part) (behind : List Part) (bytes later : List ℕ) → 0 < limit → p.kind ≢ Kind.Csi → IsWhole limit m bytes (p ∷ behind)
     → ((n : Mode) (rest : List ℕ) → IsWhole limit n rest behind → Again limit runs n behind rest later)
     → Again limit ((p ∷ []) ∷ runs) m (p ∷ behind) bytes (p.bytes ++ later)
 plain_again limit runs m p behind bytes later l ne w next = by (whole_first limit m bytes p behind w)
@@ -242,7 +238,7 @@ run_again limit runs m run behind bytes first later s within w next =
 
 -- what is written for a run, no more than `limit` bytes for control sequences
 abbrev pub IsMeant : ℕ → List Part → List ℕ → Type 0
-IsMeant limit run text = (Means run text × (length text ≤ limit)) ⊎ ((p : Part) × (run ≡ p ∷ []) × (p.kind ≢ kind.Csi) × (text ≡ p.bytes))
+IsMeant limit run text = (Means run text × (length text ≤ limit)) ⊎ ((p : Part) × (run ≡ p ∷ []) × (p.kind ≢ Kind.Csi) × (text ≡ p.bytes))
 
 abbrev pub AreMeant : ℕ → List (List Part) → List Part → List ℕ → Type 0
 AreMeant limit [] parts text = (parts ≡ []) × (text ≡ [])
@@ -268,7 +264,7 @@ again limit (run ∷ runs) m bytes text parts l w r =
 written_meant : (limit : ℕ) (Writes : List ℕ → List ℕ → Type 0) (k : Kind) (bytes text : List ℕ) →
     KeepsMeaning Writes → IsWritten (Within limit Writes) k bytes text →
     IsMeant limit (part k bytes ∷ []) text
-written_meant limit Writes kind.Csi bytes text keeps w =
+written_meant limit Writes Kind.Csi bytes text keeps w =
     let h = keeps bytes text w.0 in
     inl (record { all = (refl, tt); actions = h.0; came = rw (append-nil bytes) h.1; written = h.2 }, w.1)
 written_meant limit Writes k bytes text keeps w = inr (part k bytes, refl, (λ e. absurd cc), w)

@@ -1,13 +1,12 @@
 -- What is cut of bytes is cut so of fewer of them too, if one stands behind it.
-use Rattle.std.proofs.Common.{◌≡◌, ◌<◌, ◌≤◌, ◌+◌, ◌⊎◌, ℕ, List, [], ◌∷◌, ◌++◌, length, refl, sym, ap, subst, ◌∙◌, inl, inr, append_assoc, arith}
-use Rattle.std.proofs.{Math.ListN.get_or-append, lemmas.List.length-append, lemmas.List.take-append-le}
+use Rattle.std.proofs.Common.{◌≡◌, ◌<◌, ◌≤◌, ◌+◌, ◌⊎◌, ℕ, List, [], ◌∷◌, ◌++◌, length, refl, sym, ap, subst, ◌∙◌, inl, inr, append_assoc, arith, length-append}
+use Rattle.std.proofs.{Math.ListN.get_or-append, lemmas.List.take-append-le}
 use Rattle.csicodec_tokens.specs.{Fault.Begins, Fault.NoSeq, Fault.IsLeast, Fault.IsBad, Fault.FaultOf, Fault.IsMetAt, declared.reader.ReadError.ReadError}
 use Rattle.csicodec_tokens.specs.{declared.reader.ReadError.TheVariants.BadByte, declared.reader.ReadError.TheVariants.NotCsi}
 use Rattle.csicodec_tokens.specs.{declared.reader.ReadError.TheVariants.NumberTooLarge}
 use Rattle.csicodec_spans.specs.{Parts.Allows, Parts.AllowsCsi, Parts.IsMalformed, Private.TableBy.look, Private.TableBy.meant, Table.Answer, Table.More}
 use Rattle.csicodec_spans.specs.{Table.Anew, Table.Sequence, Table.Undecided, Table.ahead, declared.table.Kind.Kind, declared.table.Mode.Mode}
 use Rattle.csicodec_spans.proofs.Agrees.{found}
-use Rattle.csicodec_spans.specs.declared.table.Kind.TheVariants as kind
 
 -- ---- control sequences that went wrong
 
@@ -39,8 +38,8 @@ malformed_less limit s x n within (inr h) =
     inr (subst Begins (take-append-le limit s x long) h.0, long, h.2)
 
 csi_less : (limit : ℕ) (s x : List ℕ) (k : Kind) (text : List ℕ) (a : Mode) → length text < length s → AllowsCsi limit (s ++ x) k text a → AllowsCsi limit s k text a
-csi_less limit s x kind.Csi text a within h = h
-csi_less limit s x kind.Other text a within h = (malformed_less limit s x (length text) within h.0, h.1)
+csi_less limit s x Kind.Csi text a within h = h
+csi_less limit s x Kind.Other text a within h = (malformed_less limit s x (length text) within h.0, h.1)
 csi_less limit s x _ text a within h = absurd h
 
 allows_less : (f : Answer) (limit : ℕ) (s x : List ℕ) (k : Kind) (text : List ℕ) (a : Mode) → length text < length s → Allows f limit (s ++ x) k text a → Allows f limit s k text a

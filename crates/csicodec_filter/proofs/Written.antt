@@ -1,32 +1,29 @@
 -- A stream that is written span by span, and the texts of its parts.
-use Rattle.std.proofs.Common.{◌≡◌, ◌≢◌, ◌<◌, ◌≤◌, ◌-◌, ℕ, zero, suc, Option, IfSome, List, [], ◌∷◌, ◌++◌, length, take, drop, refl, sym, ap, subst, ◌∙◌, append_assoc, append-nil, arith}
-use Rattle.std.proofs.lemmas.List.{length-append, length-take, take-append-drop}
-use Rattle.std.specs.{Io.KnownBytes.Appends as Gets, Io.KnownBytes.Consumes, Io.KnownBytes.IsAtEnd, List.AllByRecursion, List.flat_map, Prelude.⊤}
+use Rattle.std.proofs.Common.{◌≡◌, ◌≢◌, ◌<◌, ◌≤◌, ◌-◌, ℕ, zero, suc, Option, IfSome, List, [], ◌∷◌, ◌++◌, length, take, drop, refl, sym, ap, subst, ◌∙◌, append_assoc, append-nil, arith, length-append, length-take, take-append-drop, flat_map}
+use Rattle.std.specs.{Io.KnownBytes.Appends as Gets, Io.KnownBytes.Consumes, Io.KnownBytes.IsAtEnd, List.AllByRecursion, Prelude.⊤}
 use Rattle.csicodec_spans.specs.Parts.{Part, part, bytes_of, left_over, Allows, AreFirstParts, IsFirstPart, IsPlainFront, IsSpan, IsUnsure}
 use Rattle.csicodec_spans.specs.{Table.Answer, Table.Sequence, Table.ahead, declared.table.Kind.Kind, declared.table.Mode.Mode}
-use Rattle.csicodec_spans.proofs.{Agrees.opens, Kept.parts_join, Kept.parts_more, Kept.parts_on, Once.parts_front, Once.whole_once, OneSpan.none_unsure}
-use Rattle.csicodec_spans.proofs.{Spanned.rest_is}
+use Rattle.csicodec_spans.proofs.{Agrees.opens, Once.parts_join, Once.parts_more, Once.parts_on, Once.parts_front, Once.whole_once, OneSpan.none_unsure}
+use Rattle.csicodec_spans.proofs.{Missed.rest_is}
 use Rattle.csicodec_streams.specs.Known.{IsOne}
 use Rattle.csicodec_filter.specs.Filter.{AreWritten, Filters, Held, IsFrontOf, IsWritten, MakesBy, Passes, PassesBy, WritesOne}
-use Rattle.csicodec_filter.specs.Written.{Adds, Appends, ByRule, Leaves, Since, WrittenOf, open_at, with_more}
-use Rattle.csicodec_transform.specs.Transform.{Begins, Sends, Transforms}
+use Rattle.csicodec_filter.specs.Written.{Appends, ByRule, Leaves, Since, WrittenOf, open_at, with_more}
+use Rattle.csicodec_transform.specs.Transform.{Adds, Begins, Sends, Transforms}
 use Rattle.csicodec_transform.proofs.Sent.{goes_none, goes_on, whole_front}
-use Rattle.csicodec_spans.specs.declared.table.Kind.TheVariants as kind
-use Rattle.csicodec_spans.specs.declared.table.Mode.TheVariants as mode
 
 -- a sequence is a part, in any mode
-pub first_csi : (limit : ℕ) (m : Mode) (text rest : List ℕ) → IsOne text → length text ≤ limit → IsFirstPart limit m (text ++ rest) (part kind.Csi text) rest mode.Text
+pub first_csi : (limit : ℕ) (m : Mode) (text rest : List ℕ) → IsOne text → length text ≤ limit → IsFirstPart limit m (text ++ rest) (part Kind.Csi text) rest Mode.Text
 first_csi limit m text rest s short =
     let is : ahead m (text ++ rest) ≡ Sequence = ap (λ (t : List ℕ). ahead m (t ++ rest)) s.2.whole ∙ opens m ((s.2.body ++ s.1 ∷ []) ++ rest) in
-    (refl, subst (λ (f : Answer). Allows f limit (text ++ rest) kind.Csi text mode.Text) (sym is) (s, short, refl))
+    (refl, subst (λ (f : Answer). Allows f limit (text ++ rest) Kind.Csi text Mode.Text) (sym is) (s, short, refl))
 
 -- so many bytes in front, which are one
 pub one_first : (limit : ℕ) (n : Mode) (rest : List ℕ) (len : ℕ) → IsOne (take len rest) →
     len ≤ limit → len ≤ length rest →
-    AreFirstParts limit n rest (part kind.Csi (take len rest) ∷ []) (drop len rest) mode.Text
+    AreFirstParts limit n rest (part Kind.Csi (take len rest) ∷ []) (drop len rest) Mode.Text
 one_first limit n rest len one short within =
     let first = first_csi limit n (take len rest) (drop len rest) one (omega (arith, length-take len rest, short)) in
-    (drop len rest, mode.Text, subst (λ (t : List ℕ). IsFirstPart limit n t (part kind.Csi (take len rest)) (drop len rest) mode.Text) (take-append-drop len rest) first, (refl, refl))
+    (drop len rest, Mode.Text, subst (λ (t : List ℕ). IsFirstPart limit n t (part Kind.Csi (take len rest)) (drop len rest) Mode.Text) (take-append-drop len rest) first, (refl, refl))
 
 module _ {S : Type 0} (Own : WrittenOf S) where
   -- no parts
@@ -41,6 +38,21 @@ module _ {S : Type 0} (Own : WrittenOf S) where
 
   pub appends_none : (s : Held S) (out : List ℕ) → Appends Own s out out s
   appends_none s out = appends s.limit s.rewrite s.rewrite s.mode s.mode s.bytes s.bytes out out [] (refl, refl) (adds_none s.rewrite out)
+
+  -- text or an escape sequence in front, and a control sequence
+  pub front_plain : (limit n : ℕ) (bytes : List ℕ) (old new : S) (before after : List ℕ) → IsPlainFront bytes n
+      → ((k : Kind) (parts : List Part) → k ≢ Kind.Csi → IsSpan k (take n bytes) parts → Adds Own old parts before after new)
+      → Appends Own (open_at old limit Mode.Text bytes) before after (open_at new limit Mode.Text (drop n bytes))
+  front_plain limit n bytes old new before after (k, other, cuts) adds =
+      let found = cuts limit in
+      appends limit old new Mode.Text Mode.Text bytes (drop n bytes) before after found.parts found.first (adds k found.parts other found.span)
+
+  pub front_known : (limit n : ℕ) (bytes : List ℕ) (old new : S) (before after : List ℕ) → IsOne (take n bytes) → n ≤ limit → n ≤ length bytes
+      → Adds Own old (part Kind.Csi (take n bytes) ∷ []) before after new
+      → Appends Own (open_at old limit Mode.Text bytes) before after (open_at new limit Mode.Text (drop n bytes))
+  front_known limit n bytes old new before after one short within adds =
+      appends limit old new Mode.Text Mode.Text bytes (drop n bytes) before after (part Kind.Csi (take n bytes) ∷ [])
+      (one_first limit Mode.Text bytes n one short within) adds
 
   -- some, and then others
   pub appends_on : (s t u : Held S) (a b c : List ℕ) → Appends Own s a b t → Appends Own t b c u → Appends Own s a c u
@@ -67,8 +79,8 @@ module _ {S : Type 0} (Own : WrittenOf S) where
   left_is s t a b x = rest_is s.bytes (flat_map bytes_of x.1.parts) t.bytes (left_join s t a b x)
 
   -- nothing came yet
-  pub since_none : (s : S) (limit : ℕ) → Own s [] [] s → Since Own (open_at s limit mode.Text []) [] [] (open_at s limit mode.Text [])
-  since_none s limit begun = record { limit = refl; parts = []; cut = (refl, refl); unsure = none_unsure limit mode.Text; written = begun }
+  pub since_none : (s : S) (limit : ℕ) → Own s [] [] s → Since Own (open_at s limit Mode.Text []) [] [] (open_at s limit Mode.Text [])
+  since_none s limit begun = record { limit = refl; parts = []; cut = (refl, refl); unsure = none_unsure limit Mode.Text; written = begun }
 
   -- a chunk more
   pub since_on : (first last new : Held S) (read chunk text before after : List ℕ) → Since Own first read text last → IsUnsure last.limit new.mode new.bytes
@@ -79,17 +91,30 @@ module _ {S : Type 0} (Own : WrittenOf S) where
       record {
         limit = x.limit ∙ since.limit;
         parts = since.parts ++ x.parts;
-        cut = parts_on first.limit since.parts x.parts mode.Text (read ++ chunk) (last.bytes ++ chunk) new.bytes last.mode new.mode
-            (parts_more first.limit since.parts mode.Text read chunk last.bytes last.mode since.cut) later;
+        cut = parts_on first.limit since.parts x.parts Mode.Text (read ++ chunk) (last.bytes ++ chunk) new.bytes last.mode new.mode
+            (parts_more first.limit since.parts Mode.Text read chunk last.bytes last.mode since.cut) later;
         unsure = subst (λ (l : ℕ). IsUnsure l new.mode new.bytes) since.limit unsure;
         written = x.goes first.rewrite since.parts text since.written;
       }
 
--- ---- the end
+-- ---- what passes as it came, and the end
 
-module _ (Made : List Part → List ℕ → Type 0) (joins : (ps qs : List Part) (s t : List ℕ) →
-    Made ps s → Made qs t → Made (ps ++ qs) (s ++ t)) (left : (rest : List ℕ) →
-    Made (left_over rest) rest) where
+module _ (Made : List Part → List ℕ → Type 0) (none : Made [] []) (one : (k : Kind) (bytes : List ℕ) → k ≢ Kind.Csi → Made (part k bytes ∷ []) bytes)
+    (joins : (ps qs : List Part) (s t : List ℕ) → Made ps s → Made qs t → Made (ps ++ qs) (s ++ t)) where
+  plain : (k : Kind) (ps : List Part) → k ≢ Kind.Csi → AllByRecursion (λ (p : Part). p.kind ≡ k) ps → Made ps (flat_map bytes_of ps)
+  plain k [] ne all = none
+  plain k (p ∷ ps) ne all = joins (p ∷ []) ps p.bytes (flat_map bytes_of ps) (one p.kind p.bytes (λ e. ne (sym all.0 ∙ e))) (plain k ps ne all.1)
+
+  -- a span that is no control sequence
+  pub spanned : (k : Kind) (bytes : List ℕ) (ps : List Part) → k ≢ Kind.Csi → IsSpan k bytes ps → Made ps bytes
+  spanned Kind.Csi bytes ps ne s = absurd (ne refl)
+  spanned Kind.Esc bytes ps ne s = rw s (one Kind.Esc bytes ne)
+  spanned k bytes ps ne s = subst (λ (x : List ℕ). Made ps x) s.joined (plain k ps ne s.all)
+
+  left : (rest : List ℕ) → Made (left_over rest) rest
+  left [] = none
+  left (b ∷ rest) = one Kind.Other (b ∷ rest) (λ e. cc)
+
   -- what is held passes as it is
   pub makes : (limit : ℕ) (m a : Mode) (bytes text rest : List ℕ) → PassesBy Made limit m bytes text rest a → MakesBy Made limit m bytes (text ++ rest)
   makes limit m a bytes text rest h = record {
@@ -100,18 +125,18 @@ module _ (Made : List Part → List ℕ → Type 0) (joins : (ps qs : List Part)
 
   pub made : {S : Type 0} (Own : WrittenOf S) (Rests : S → Type 0) (first : Held S) (bytes text : List ℕ)
       → ((parts : List Part) (own : List ℕ) (last : S) → Own first.rewrite parts own last → Rests last → Made parts own)
-      → Transforms (Since Own) (Leaves Own Rests) first bytes text → MakesBy Made first.limit mode.Text bytes text
+      → Transforms (Since Own) (Leaves Own Rests) first bytes text → MakesBy Made first.limit Mode.Text bytes text
   made Own Rests first bytes text own (last, sure, rest, since, (more, done, goes, rests, all), split) =
       let written : Own first.rewrite since.parts (sure ++ more) done = rw (append-nil since.parts) at (goes first.rewrite since.parts sure since.written) in
-      let passed : PassesBy Made first.limit mode.Text bytes (sure ++ more) last.bytes last.mode =
+      let passed : PassesBy Made first.limit Mode.Text bytes (sure ++ more) last.bytes last.mode =
       record { parts = since.parts; first = since.cut; unsure = since.unsure; written = own since.parts (sure ++ more) done written rests } in
       let same : (sure ++ more) ++ last.bytes ≡ text = append_assoc sure more last.bytes ∙ ap (λ (t : List ℕ). sure ++ t) (sym all) ∙ sym split in
-      subst (λ (t : List ℕ). MakesBy Made first.limit mode.Text bytes t) same (makes first.limit mode.Text last.mode bytes (sure ++ more) last.bytes passed)
+      subst (λ (t : List ℕ). MakesBy Made first.limit Mode.Text bytes t) same (makes first.limit Mode.Text last.mode bytes (sure ++ more) last.bytes passed)
 
 -- ---- the texts of parts
 
 weaker_part : (V W : List ℕ → List ℕ → Type 0) (k : Kind) (b t : List ℕ) → ((b t : List ℕ) → V b t → W b t) → IsWritten V k b t → IsWritten W k b t
-weaker_part V W kind.Csi b t f h = f b t h
+weaker_part V W Kind.Csi b t f h = f b t h
 weaker_part V W _ b t f h = h
 
 weaker : (V W : List ℕ → List ℕ → Type 0) (ps : List Part) (t : List ℕ) → ((b t : List ℕ) → V b t → W b t) → AreWritten V ps t → AreWritten W ps t
@@ -126,24 +151,14 @@ module _ (Writes : List ℕ → List ℕ → Type 0) where
   written_on (p ∷ ps) qs s t h k =
       (h.0, h.1 ++ t, ap (λ (x : List ℕ). x ++ t) h.2 ∙ append_assoc h.0 h.1 t, h.3, written_on ps qs h.1 t h.4 k)
 
-  plain : (k : Kind) (qs : List Part) → ((b : List ℕ) → IsWritten Writes k b b) → AllByRecursion (λ (p : Part). p.kind ≡ k) qs → AreWritten Writes qs (flat_map bytes_of qs)
-  plain k [] f h = refl
-  plain k (q ∷ qs) f h = (q.bytes, flat_map bytes_of qs, refl, subst (λ (x : Kind). IsWritten Writes x q.bytes q.bytes) (sym h.0) (f q.bytes), plain k qs f h.1)
-
-  pub written_span : (k : Kind) (bytes : List ℕ) (qs : List Part) → k ≢ kind.Csi → IsSpan k bytes qs → AreWritten Writes qs bytes
-  written_span kind.Csi bytes qs ne s = absurd (ne refl)
-  written_span kind.Esc bytes qs ne s = rw s (bytes, [], sym (append-nil bytes), refl, refl)
-  written_span k bytes qs ne s = subst (λ (x : List ℕ). AreWritten Writes qs x) s.joined (plain k qs (λ b. refl) s.all)
-
-  -- what is left at the end passes as it is
-  written_left : (rest : List ℕ) → AreWritten Writes (left_over rest) rest
-  written_left [] = refl
-  written_left (b ∷ rest) = (b ∷ rest, [], sym (append-nil (b ∷ rest)), refl, refl)
+  one_written : (k : Kind) (bytes : List ℕ) → k ≢ Kind.Csi → AreWritten Writes (part k bytes ∷ []) bytes
+  one_written Kind.Csi bytes ne = absurd (ne refl)
+  one_written _ bytes ne = (bytes, [], sym (append-nil bytes), refl, refl)
 
   -- ---- one text
 
   one_part : WritesOne Writes → (k : Kind) (b s t : List ℕ) → IsWritten Writes k b s → IsWritten Writes k b t → s ≡ t
-  one_part unique kind.Csi b s t h k = unique b s t h k
+  one_part unique Kind.Csi b s t h k = unique b s t h k
   one_part unique _ b s t h k = h ∙ sym k
 
   -- the text of more parts goes on with that of the first
@@ -196,33 +211,32 @@ module _ {R : Type 0} (Rule : R → List ℕ → List ℕ → Type 0) where
 
   -- a sequence
   pub adds_one : (old new : R) (bytes before own after : List ℕ) → Rule old bytes own → ((bytes text : List ℕ) → Rule new bytes text → Rule old bytes text)
-      → after ≡ before ++ own → Adds (ByRule Rule) old (part kind.Csi bytes ∷ []) before after new
-  adds_one old new bytes before own after h same is = adds_by old new (part kind.Csi bytes ∷ []) before own after (own, [], sym (append-nil own), h, refl) same is
+      → after ≡ before ++ own → Adds (ByRule Rule) old (part Kind.Csi bytes ∷ []) before after new
+  adds_one old new bytes before own after h same is = adds_by old new (part Kind.Csi bytes ∷ []) before own after (own, [], sym (append-nil own), h, refl) same is
 
   -- what isn't one
-  pub adds_plain : (r : R) (k : Kind) (bytes before after : List ℕ) (parts : List Part) → k ≢ kind.Csi → IsSpan k bytes parts → after ≡ before ++ bytes → Adds (ByRule Rule) r parts before after r
-  adds_plain r k bytes before after parts ne span is = adds_by r r parts before bytes after (written_span (Rule r) k bytes parts ne span) (λ b x w. w) is
+  pub adds_plain : (r : R) (k : Kind) (bytes before after : List ℕ) (parts : List Part) → k ≢ Kind.Csi → IsSpan k bytes parts → after ≡ before ++ bytes → Adds (ByRule Rule) r parts before after r
+  adds_plain r k bytes before after parts ne span is =
+      let written = spanned (AreWritten (Rule r)) refl (one_written (Rule r)) (written_on (Rule r)) k bytes parts ne span in
+      adds_by r r parts before bytes after written (λ b x w. w) is
 
   -- text or an escape sequence in front, if there are some bytes of it
   pub plain_passes : (r : R) (limit n : ℕ) (bytes before after : List ℕ) → (0 < n → IsPlainFront bytes n) → after ≡ before ++ take n bytes
-      → Appends (ByRule Rule) (open_at r limit mode.Text bytes) before after (open_at r limit mode.Text (drop n bytes))
+      → Appends (ByRule Rule) (open_at r limit Mode.Text bytes) before after (open_at r limit Mode.Text (drop n bytes))
   plain_passes r limit zero bytes before after plain is =
-      rw is (rw (append-nil before) (appends_none (ByRule Rule) (open_at r limit mode.Text bytes) before))
+      rw is (rw (append-nil before) (appends_none (ByRule Rule) (open_at r limit Mode.Text bytes) before))
   plain_passes r limit (suc n) bytes before after plain is =
-      let (k, other, cuts) = plain (omega arith) in
-      let found = cuts limit in
-      appends (ByRule Rule) limit r r mode.Text mode.Text bytes (drop (suc n) bytes) before after found.parts found.first
-      (adds_plain r k (take (suc n) bytes) before after found.parts other found.span is)
+      front_plain (ByRule Rule) limit (suc n) bytes r r before after (plain (omega arith))
+      (λ k parts other span. adds_plain r k (take (suc n) bytes) before after parts other span is)
 
   -- a sequence in front that is known, if it has some bytes
   pub known_passes : (r : R) (limit n : ℕ) (bytes before after : List ℕ) → (n ≡ 0 → after ≡ before)
       → (0 < n → (text : List ℕ) × Rule r (take n bytes) text × IsOne (take n bytes) × (after ≡ before ++ text)) → n ≤ limit → n ≤ length bytes
-      → Appends (ByRule Rule) (open_at r limit mode.Text bytes) before after (open_at r limit mode.Text (drop n bytes))
-  known_passes r limit zero bytes before after none some short within = rw (none refl) (appends_none (ByRule Rule) (open_at r limit mode.Text bytes) before)
+      → Appends (ByRule Rule) (open_at r limit Mode.Text bytes) before after (open_at r limit Mode.Text (drop n bytes))
+  known_passes r limit zero bytes before after none some short within = rw (none refl) (appends_none (ByRule Rule) (open_at r limit Mode.Text bytes) before)
   known_passes r limit (suc n) bytes before after none some short within =
       let (text, writes, one, is) = some (omega arith) in
-      appends (ByRule Rule) limit r r mode.Text mode.Text bytes (drop (suc n) bytes) before after (part kind.Csi (take (suc n) bytes) ∷ [])
-      (one_first limit mode.Text bytes (suc n) one short within) (adds_one r r (take (suc n) bytes) before text after writes (λ b x w. w) is)
+      front_known (ByRule Rule) limit (suc n) bytes r r before after one short within (adds_one r r _ before text after writes (λ b x w. w) is)
 
   -- what has passed
   pub passes_by : (old new : Held R) (before after : List ℕ) → Appends (ByRule Rule) old before after new → IsUnsure old.limit new.mode new.bytes
@@ -236,7 +250,7 @@ module _ {R : Type 0} (Rule : R → List ℕ → List ℕ → Type 0) where
   -- ---- from a reader to a writer
 
   -- what has passed since it has begun
-  pub passed : (first last : Held R) (bytes text : List ℕ) → Since (ByRule Rule) first bytes text last → Passes (Rule first.rewrite) first.limit mode.Text bytes text last.bytes last.mode
+  pub passed : (first last : Held R) (bytes text : List ℕ) → Since (ByRule Rule) first bytes text last → Passes (Rule first.rewrite) first.limit Mode.Text bytes text last.bytes last.mode
   passed first last bytes text since = record { parts = since.parts; first = since.cut; unsure = since.unsure; written = since.written.written }
 
   module _ (first : Held R) where
@@ -244,18 +258,18 @@ module _ {R : Type 0} (Rule : R → List ℕ → List ℕ → Type 0) where
     Rested r = ⊤
 
     -- all bytes, and what was held
-    pub filtered : (bytes text : List ℕ) → Transforms (Since (ByRule Rule)) (Leaves (ByRule Rule) Rested) first bytes text → Filters (Rule first.rewrite) first.limit mode.Text bytes text
-    filtered bytes text = made (AreWritten (Rule first.rewrite)) (written_on (Rule first.rewrite))
-        (written_left (Rule first.rewrite)) (ByRule Rule) Rested first bytes text
-        (λ parts own last b rests. b.written)
+    pub filtered : (bytes text : List ℕ) → Transforms (Since (ByRule Rule)) (Leaves (ByRule Rule) Rested) first bytes text → Filters (Rule first.rewrite) first.limit Mode.Text bytes text
+    filtered bytes text =
+        let Own = Rule first.rewrite in
+        made (AreWritten Own) refl (one_written Own) (written_on Own) (ByRule Rule) Rested first bytes text (λ parts own last b rests. b.written)
 
     -- what went out is a front of what the filter makes of the whole input
     pub sent_front : (bytes more sent : List ℕ) (i k w y : Option (List ℕ)) → Consumes i k (bytes ++ more)
         → Begins (Sends (Since (ByRule Rule)) first) (Transforms (Since (ByRule Rule)) (Leaves (ByRule Rule) Rested) first) ((more ≡ []) × IsAtEnd k) bytes sent → Gets w y sent
-        → IfSome i (λ all. (front : List ℕ) × IsFrontOf (Rule first.rewrite) first.limit mode.Text all front × Gets w y front)
+        → IfSome i (λ all. (front : List ℕ) × IsFrontOf (Rule first.rewrite) first.limit Mode.Text all front × Gets w y front)
     sent_front =
         let Own = Rule first.rewrite in
         let limit = first.limit in
-        whole_front (Sends (Since (ByRule Rule)) first) (Transforms (Since (ByRule Rule)) (Leaves (ByRule Rule) Rested) first) (IsFrontOf Own limit mode.Text) (shorter_front Own limit mode.Text)
-        (λ read more text (last, since). passes_front Own limit mode.Text last.mode read more text last.bytes (passed first last read text since))
-        (λ bytes text whole. filters_front Own limit mode.Text bytes text (filtered bytes text whole))
+        whole_front (Sends (Since (ByRule Rule)) first) (Transforms (Since (ByRule Rule)) (Leaves (ByRule Rule) Rested) first) (IsFrontOf Own limit Mode.Text) (shorter_front Own limit Mode.Text)
+        (λ read more text (last, since). passes_front Own limit Mode.Text last.mode read more text last.bytes (passed first last read text since))
+        (λ bytes text whole. filters_front Own limit Mode.Text bytes text (filtered bytes text whole))

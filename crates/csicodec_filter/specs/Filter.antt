@@ -1,7 +1,6 @@
 -- What a filter makes of the parts of a stream.
 use Rattle.std.specs.Prelude.{ℕ, ◌≡◌, List, [], ◌∷◌, ◌++◌}
 use Rattle.csicodec_spans.specs.{Parts.Part, Parts.AreFirstParts, Parts.IsUnsure, Parts.IsWhole, declared.table.Kind.Kind, declared.table.Mode.Mode}
-use Rattle.csicodec_spans.specs.declared.table.Kind.TheVariants as kind
 
 -- one text is written for each sequence
 abbrev pub WritesOne : (List ℕ → List ℕ → Type 0) → Type 0
@@ -9,11 +8,8 @@ WritesOne Writes = (bytes one other : List ℕ) → Writes bytes one → Writes 
 
 -- a control sequence becomes what is written for it, and all else stays as it is
 abbrev pub IsWritten : (List ℕ → List ℕ → Type 0) → Kind → List ℕ → List ℕ → Type 0
-IsWritten Writes kind.Csi bytes text = Writes bytes text
-IsWritten Writes kind.Text bytes text = text ≡ bytes
-IsWritten Writes kind.Esc bytes text = text ≡ bytes
-IsWritten Writes kind.Str bytes text = text ≡ bytes
-IsWritten Writes kind.Other bytes text = text ≡ bytes
+IsWritten Writes Kind.Csi bytes text = Writes bytes text
+IsWritten Writes _ bytes text = text ≡ bytes
 
 -- the same of each part in turn
 abbrev pub AreWritten : (List ℕ → List ℕ → Type 0) → List Part → List ℕ → Type 0

@@ -3,11 +3,10 @@ use Rattle.std.specs.{Prelude.ℕ, Prelude.◌≡◌, Prelude.◌≢◌, Prelude
 use Rattle.std.specs.{Prelude.length, List.AllByRecursion, List.flat_map}
 use Rattle.csicodec_actions.specs.Actions.{Action}
 use Rattle.csicodec_streams.specs.Decoding.{Decodes}
-use Rattle.csicodec_spans.specs.Parts.{Part, bytes_of}
-use Rattle.csicodec_spans.specs.declared.table.Kind.TheVariants as kind
+use Rattle.csicodec_spans.specs.{Parts.Part, Parts.bytes_of, declared.table.Kind.Kind}
 
 abbrev pub AreCsi : List Part → Type 0
-AreCsi parts = AllByRecursion (λ (p : Part). p.kind ≡ kind.Csi) parts
+AreCsi parts = AllByRecursion (λ (p : Part). p.kind ≡ Kind.Csi) parts
 
 -- control sequences side by side, and a text that is read as the same actions, in order
 pub record Means (run : List Part) (text : List ℕ) : Type 0 where
@@ -24,7 +23,7 @@ pub record MeanTheSame (run others : List Part) : Type 0 where
 -- such, or one part that is no control sequence, as it came
 abbrev pub StandFor : List Part → List Part → Type 0
 StandFor others run = MeanTheSame run others
-    ⊎ ((p : Part) × (run ≡ p ∷ []) × (p.kind ≢ kind.Csi) × (others ≡ p ∷ []))
+    ⊎ ((p : Part) × (run ≡ p ∷ []) × (p.kind ≢ Kind.Csi) × (others ≡ p ∷ []))
 
 -- the parts are these runs in turn, and the others stand for them in turn
 abbrev pub StandInPlace : List (List Part) → List Part → List Part → Type 0

@@ -3,7 +3,6 @@ use Rattle.std.specs.Prelude.{ℕ, ◌≡◌, List, [], ◌++◌}
 use Rattle.csicodec_spans.specs.{Parts.Part, Parts.AreFirstParts, Parts.IsUnsure, declared.table.Mode.Mode}
 use Rattle.csicodec_filter.specs.Filter.{Held, AreWritten}
 use Rattle.csicodec_transform.specs.Transform.{EndsOf, GoesOn}
-use Rattle.csicodec_spans.specs.declared.table.Mode.TheVariants as mode
 
 -- since the first of two states: for these parts this text was written, and then it was in the last one
 abbrev pub WrittenOf : Type 0 → Type 1
@@ -11,11 +10,6 @@ WrittenOf S = S → List Part → List ℕ → S → Type 0
 
 abbrev pub open_at : {S : Type 0} → S → ℕ → Mode → List ℕ → Held S
 open_at writer limit m bytes = record { rewrite = writer; limit = limit; mode = m; bytes = bytes }
-
--- for more parts more is appended
-abbrev pub Adds : {S : Type 0} → WrittenOf S → S → List Part → List ℕ → List ℕ → S → Type 0
-Adds Own old parts before after new = (more : List ℕ) × GoesOn Own old parts more new
-    × (after ≡ before ++ more)
 
 -- some parts in front of the bytes, for which this text is written; the bytes behind them are left
 pub record Writes {S : Type 0} (Own : WrittenOf S) (old : Held S) (text : List ℕ)
@@ -39,7 +33,7 @@ pub record Since {S : Type 0} (Own : WrittenOf S) (first : Held S) (bytes text :
     (last : Held S) : Type 0 where
   pub limit : last.limit ≡ first.limit
   pub parts : List Part
-  pub cut : AreFirstParts first.limit mode.Text bytes parts last.bytes last.mode
+  pub cut : AreFirstParts first.limit Mode.Text bytes parts last.bytes last.mode
   pub unsure : IsUnsure first.limit last.mode last.bytes
   pub written : Own first.rewrite parts text last.rewrite
 

@@ -3,7 +3,8 @@ ghost use Rattle.std.specs.Prelude.{◌≡◌, ◌≢◌, ◌<◌, ◌≤◌, �
 ghost use Rattle.csicodec_tokens.specs.Sequence.{Seq};
 ghost use Rattle.csicodec_spans.specs.{declared.table.Kind.Kind, declared.table.Kind.TheVariants.Csi, declared.table.Mode.TheVariants.Text as Plain, Parts.IsSpan};
 ghost use Rattle.csicodec_spans.specs.{Parts.IsUnsure, Parts.Part, Parts.part};
-ghost use Rattle.csicodec_filter.specs.Written.{Adds, Appends, WrittenOf, open_at, with_more};
+ghost use Rattle.csicodec_transform.specs.Transform.{Adds};
+ghost use Rattle.csicodec_filter.specs.Written.{Appends, WrittenOf, open_at, with_more};
 
 use crate::known::Known;
 use csicodec_base::{CsiParam, TextBuffer};

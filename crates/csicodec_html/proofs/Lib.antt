@@ -1,12 +1,7 @@
-pub mod Apart
-pub mod Back
-pub mod Declarations
-pub mod Leads
-pub mod Left
+pub mod Common
 pub mod Marks
 pub mod MarkupBytes
-pub mod Paired
 pub mod Recalled
-pub mod Said
+pub mod Declarations
 pub mod Settled
-pub mod Turned
+pub mod Paired

@@ -1,23 +1,16 @@
 -- Text and addresses are, byte by byte, what stands on the page, and no byte of an address ends the attribute that it stands in.
-use Rattle.std.proofs.Common.{◌≡◌, ◌≢◌, ◌≤◌, ◌<◌, ℕ, true, false, List, [], ◌∷◌, ◌++◌, refl, sym, ap, ◌∙◌, ⊎_elim, append_assoc, append-nil, arith, lt-ltb}
-use Rattle.std.proofs.{lemmas.Bool.cases_lt, lemmas.Bool.cond_both, lemmas.Bool.eq-eqb, lemmas.Bool.false≢true, lemmas.Bool.ne_eqb}
-use Rattle.std.proofs.{lemmas.Bool.Decides.nat_tests, lemmas.Grind.flat_map-append}
-use Rattle.std.specs.{Prelude.codes, Prelude.encode_utf8_all, Prelude.◌==◌, Prelude.if◌then◌else◌, Char.encode_utf8, List.AllByRecursion, List.flat_map}
-use Rattle.csicodec_clean.specs.{Links.is_visible, Shown.IsShown}
-use Rattle.csicodec_clean.proofs.PlainBytes.{all_both}
-use Rattle.csicodec_html.specs.Page.{IsHarmless, IsQuoted, IsSafe, Piece, Open, escaped, piece_text, piece_texts, reference_or}
-use Rattle.csicodec_html.specs.{Private.Rule.Stands, Private.Rule.page_byte, Private.Rule.page_bytes, Private.Rule.piece_bytes, Private.Rule.pieces_bytes}
-use Rattle.csicodec_html.specs.{Private.Rule.stands, declared.markup.Markup.Markup}
+use Rattle.std.proofs.Common.{◌≡◌, ◌≢◌, ◌≤◌, ◌<◌, ℕ, true, false, List, [], ◌∷◌, ◌++◌, refl, sym, ap, ◌∙◌, ⊎_elim, append_assoc, append-nil, arith, eq-eqb, ne_eqb, codes, encode_utf8_all, ◌==◌, if◌then◌else◌, flat_map}
+use Rattle.std.proofs.lemmas.Str.{encode_ascii as ascii}
+use Rattle.csicodec_html.proofs.Common.{cases_lt, cond_both, false≢true, nat_tests, flat_map-append, AllByRecursion, IsShown, all_both, IsHarmless, IsSafe, Piece, Open, escaped, piece_text, piece_texts, page_bytes, piece_bytes, pieces_bytes, stands, Markup}
 use Rattle.csicodec_html.proofs.Declarations.{Fine}
+use Rattle.std.specs.Char.{encode_utf8}
+use Rattle.csicodec_clean.specs.Links.{is_visible}
+use Rattle.csicodec_html.specs.{Page.IsQuoted, Page.reference_or, Private.Rule.Stands, Private.Rule.page_byte}
 
 -- ---- addresses
 
 abbrev pub IsVisible : ℕ → Type 0
 IsVisible b = is_visible b ≡ true
-
-pub ascii : (c : ℕ) → c < 128 → encode_utf8 c ≡ c ∷ []
-unfolding encode_utf8
-ascii c a = rw (lt-ltb c 128 a) refl
 
 pub below : (c : ℕ) → IsVisible c → c < 128
 below c h = grind (arith, nat_tests, h)

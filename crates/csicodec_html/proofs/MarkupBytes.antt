@@ -1,15 +1,12 @@
 -- A page is markup by its bytes alone.
-use Rattle.std.proofs.Common.{◌≡◌, ◌≢◌, ◌<◌, ◌≤◌, ◌+◌, ◌/◌, ◌%◌, ℕ, Bool, true, false, List, [], ◌∷◌, ◌++◌, Option, Some, None, refl, sym, ap, subst, ◌∙◌, append_assoc, arith}
-use Rattle.std.proofs.{lemmas.Bool.cond_both, lemmas.Bool.Decides.nat_tests}
-use Rattle.std.specs.{Prelude.codes, Prelude.if◌then◌else◌, Char.encode_utf8, List.AllByRecursion, List.flat_map}
-use lib.Utf8.{scalar}
-use Rattle.csicodec_clean.specs.Shown.{IsShown}
-use Rattle.csicodec_html.specs.Classes.{class_name, classes_of, has_true, names, rest_attribute, style_attribute, true_colors}
-use Rattle.csicodec_html.specs.Page.{IsHarmless, IsQuoted, IsPageWith, IsSafe, PageWith, Piece, Char, Begin, End, Open, Shut, are_paired, escaped, piece_text, piece_texts}
-use Rattle.csicodec_html.specs.MarkupBytes.{Spot, Inside, Tag, begun, is_value_byte, is_markup, no_value, spot_behind, IsMarkup}
-use Rattle.csicodec_html.specs.{declared.classes.Class.Class, declared.look.Look.Look, declared.markup.Markup.Markup, Look.css, Look.settled}
+use Rattle.std.proofs.Common.{◌≡◌, ◌≢◌, ◌<◌, ◌≤◌, ◌+◌, ◌/◌, ◌%◌, ℕ, Bool, true, false, List, [], ◌∷◌, ◌++◌, Option, Some, None, refl, sym, ap, subst, ◌∙◌, append_assoc, arith, codes, if◌then◌else◌, flat_map}
+use Rattle.csicodec_html.proofs.Common.{cond_both, nat_tests, AllByRecursion, scalar, IsShown, class_name, names, IsHarmless, IsPageWith, IsSafe, PageWith, Piece, Char, Open, are_paired, escaped, piece_text, piece_texts, Class, Look, Markup, css, settled}
 use Rattle.csicodec_html.proofs.{Marks.all_quoted, Marks.escaped_by, Declarations.Fine, Declarations.css_fine, Declarations.name_fine, Declarations.true_fine}
 use Rattle.csicodec_html.proofs.{Paired.is_page}
+use Rattle.std.specs.Char.{encode_utf8}
+use Rattle.csicodec_html.specs.MarkupBytes.{Spot, Inside, Tag, begun, is_value_byte, is_markup, no_value, spot_behind, IsMarkup}
+use Rattle.csicodec_html.specs.{Classes.classes_of, Classes.has_true, Classes.rest_attribute, Classes.style_attribute, Classes.true_colors, Page.IsQuoted}
+use Rattle.csicodec_html.specs.{Page.Begin, Page.End, Page.Shut}
 
 -- ---- characters
 
@@ -97,8 +94,7 @@ module _ (links linked : Bool) where
 
   name_markup : (c : Class) (later more : List ℕ) → is_markup links (named_at true) linked false ((class_name c ++ later) ++ more) ≡ is_markup links (named_at true) linked false (later ++ more)
   name_markup c later more =
-      ap (λ (t : List ℕ). is_markup links (named_at true) linked false t) (append_assoc (class_name c) later more)
-      ∙ fine_markup links linked false (codes "span class=" ++ 34 ∷ []) (class_name c) (later ++ more) (name_fine c)
+      rw (append_assoc (class_name c) later more) (fine_markup links linked false (codes "span class=" ++ 34 ∷ []) (class_name c) (later ++ more) (name_fine c))
 
   names_markup : (came : Bool) (slots : List (Option Class)) (l : Look) (more : List ℕ)
       → is_markup links (named_at came) linked false (names came slots ++ (rest_attribute l ++ 62 ∷ more)) ≡ is_markup links Inside linked true more
@@ -119,22 +115,15 @@ begin_markup links linked m l more = by m.classes
     by : (b : Bool) → is_markup links (Tag false (codes "span")) linked false
         (((if b then names false (classes_of look) ++ rest_attribute look else style_attribute (css m.palette look)) ++ 62 ∷ []) ++ more)
         ≡ is_markup links Inside linked true more
-    by true =
-        let slots = names false (classes_of look) in
-        let rest = rest_attribute look in
-        ap (λ (t : List ℕ). is_markup links (Tag false (codes "span")) linked false t) (append_assoc (slots ++ rest) (62 ∷ []) more ∙ append_assoc slots rest (62 ∷ more))
-        ∙ names_markup links linked false (classes_of look) look more
-    by false =
-        let style = style_attribute (css m.palette look) in
-        ap (λ (t : List ℕ). is_markup links (Tag false (codes "span")) linked false t) (append_assoc style (62 ∷ []) more)
-        ∙ style_markup links linked false (css m.palette look) more (css_fine m.palette look)
+    by true = rw (append_assoc, append_assoc (names false (classes_of look)) (rest_attribute look) (62 ∷ more))
+        (names_markup links linked false (classes_of look) look more)
+    by false = rw (append_assoc (style_attribute (css m.palette look)) (62 ∷ []) more)
+        (style_markup links linked false (css m.palette look) more (css_fine m.palette look))
 
 open_markup : (url more : List ℕ) → AllByRecursion IsQuoted (flat_map escaped url) → is_markup true Inside false false (piece_text (Open url) ++ more) ≡ is_markup true Inside true false more
 open_markup url more h =
-    let own = flat_map escaped url in
-    let tag = codes "a rel=\"\" href=\"" in
-    ap (λ (t : List ℕ). is_markup true (Tag true tag) false false t) (append_assoc own (34 ∷ 62 ∷ []) more)
-    ∙ value_markup IsQuoted quoted_value true false false tag own (34 ∷ 62 ∷ more) h
+    rw (append_assoc (flat_map escaped url) (34 ∷ 62 ∷ []) more)
+    (value_markup IsQuoted quoted_value true false false (codes "a rel=\"\" href=\"") (flat_map escaped url) (34 ∷ 62 ∷ more) h)
 
 -- ---- the page
 

@@ -1,15 +1,12 @@
 -- A control sequence that came before, and comes again.
-use Rattle.std.proofs.Common.{◌≡◌, ◌≤◌, ◌∙◌, ℕ, Bool, true, false, List, ◌++◌, length, take, drop, sym, ap, subst, rules}
-use Rattle.std.proofs.{Math.Seq.drop-append_seam, Math.Seq.take-append_seam, lemmas.Bool.and_parts}
+use Rattle.std.proofs.{Common.refl, Common.◌≡◌, Common.◌≤◌, Common.ℕ, Common.Bool, Common.true, Common.false, Common.List, Common.◌++◌, Common.length}
+use Rattle.std.proofs.{Common.take, Common.drop, Common.ap, Common.rules, Math.Seq.drop-append_seam, Math.Seq.take-append_seam}
+use Rattle.csicodec_html.proofs.Common.{and_parts, ColorSpec, Intensity, Underline, Action, Look, Markup, behind_all, sets_any, Setting, piece_texts, setting, turn, turns, IsTurn}
 use mathlib.Core.Bool.{beq}
-use Rattle.csicodec_names.specs.{declared.color.ColorSpec.ColorSpec, declared.color.Intensity.Intensity, declared.color.Underline.Underline}
 use Rattle.csicodec_tokens.specs.{declared.param.CsiParam.CsiParam, Sequence.Seq}
-use Rattle.csicodec_actions.specs.Actions.{Action}
 use Rattle.csicodec_terminal.specs.Terminal.{Terminal}
 use Rattle.csicodec_spans.specs.Parts.{IsSequence}
-use Rattle.csicodec_html.specs.{declared.look.Look.Look, declared.markup.Markup.Markup, declared.turns.InFront.InFront, declared.turns.Turn.Turn}
-use Rattle.csicodec_html.specs.{Look.behind_all, Look.sets_any, Page.Setting, Page.piece_texts, Page.setting, Page.turn, Private.Rule.turns, Turns.Fits}
-use Rattle.csicodec_html.specs.{Turns.IsTold, Turns.IsTurn, Turns.IsTurned}
+use Rattle.csicodec_html.specs.{declared.turns.InFront.InFront, declared.turns.Turn.Turn, Turns.Fits, Turns.IsTold, Turns.IsTurned}
 use Rattle.csicodec_names.specs.contracts.color.ColorSpecPartialEq.TheImpl as color_eq
 use Rattle.csicodec_names.specs.contracts.color.IntensityPartialEq.TheImpl as intensity_eq
 use Rattle.csicodec_names.specs.contracts.color.UnderlinePartialEq.TheImpl as underline_eq
@@ -55,10 +52,7 @@ same_look a b h =
 pub told : (Turned : List ℕ → Look → Look → List ℕ → Type 0) (t : Turn) (look : Look) (f : InFront) (old new : List ℕ)
     → IsTurn Turned t → Fits t look f → new ≡ old ++ take t.tags_len t.tags → IsTold Turned look f t.len t.new old new
 told Turned t look f old new (short, few, is) (least, most, within, front, same) longer =
-    let tags = take t.tags_len t.tags in
-    let own = take t.len f.bytes.now in
-    let here : Turned own t.old t.new tags = subst (λ (b : List ℕ). Turned b t.old t.new tags) (sym front) is in
-    (least, most, within, tags, subst (λ (l : Look). Turned own l t.new tags) same here, longer)
+    (least, most, within, take t.tags_len t.tags, rw (front, ← same) is, longer)
 
 -- of what is kept the fronts are what was copied there
 pub kept : (Turned : List ℕ → Look → Look → List ℕ → Type 0) (bytes tags copied told behind after : List ℕ) (old new : Look)
@@ -66,13 +60,7 @@ pub kept : (Turned : List ℕ → Look → Look → List ℕ → Type 0) (bytes 
     → (length bytes ≤ 32) × (length tags ≤ 128)
     × Turned (take (length bytes) (copied ++ behind)) old new (take (length tags) (told ++ after))
 kept Turned bytes tags copied told behind after old new same one short few is =
-    let front = ap (λ (l : List ℕ). take (length bytes) (l ++ behind)) same ∙ take-append_seam bytes behind in
-    let text = ap (λ (l : List ℕ). take (length tags) (l ++ after)) one ∙ take-append_seam tags after in (
-      short,
-      few,
-      subst (λ (l : List ℕ). Turned l old new (take (length tags) (told ++ after))) (sym front)
-          (subst (Turned bytes old new) (sym text) is),
-    )
+    (short, few, rw (same, one, take-append_seam bytes behind, take-append_seam tags after) is)
 
 -- what the rule gives for it
 pub given : (s : Setting) (bytes tags : List ℕ) (new : Look) → IsTurned s.markup bytes s.look new tags
@@ -84,17 +72,10 @@ given s bytes tags new (actions, is, behind, same) =
 pub read : (m : Markup) (bytes : List ℕ) (list : List CsiParam) (final : ℕ) (old new : Look) (comes : Bool) (actions : List Action)
     → Seq bytes list final → Terminal list false final actions
     → new ≡ behind_all old actions → comes ≡ sets_any actions → IsTurned m bytes old new (piece_texts (turn m comes old new))
-read m bytes list final old new comes actions seq are behind sets = (
-  actions,
-  (list, final, seq, are),
-  behind,
-  ap (λ (b : Bool). piece_texts (turn m b old new)) sets ∙ ap (λ (l : Look). piece_texts (turn m (sets_any actions) old l)) behind,
-)
+read m bytes list final old new comes actions seq are behind sets = (actions, (list, final, seq, are), behind, rw (sets, behind) refl)
 
 -- what was appended last
 pub appended : (m : Markup) (bytes : List ℕ) (old new : Look) (text tags before after : List ℕ) (len : ℕ)
     → IsTurned m bytes old new text → after ≡ before ++ text → len ≡ length before → tags ≡ drop len after
     → IsTurned m bytes old new tags
-appended m bytes old new text tags before after len is longer size here =
-    let same = here ∙ ap (λ (n : ℕ). drop n after) size ∙ ap (drop (length before)) longer ∙ drop-append_seam before text in
-    subst (IsTurned m bytes old new) (sym same) is
+appended m bytes old new text tags before after len is longer size here = rw (here, size, longer, drop-append_seam before text) is

@@ -1,13 +1,11 @@
--- Text that is settled stands out from its ground, and is settled once.
-use Rattle.std.proofs.Common.{◌≡◌, ◌<◌, ◌≤◌, ◌+◌, ◌*◌, ℕ, Bool, true, false, Option, Some, None, refl, sym, ◌∙◌, arith, ⊎_elim, lt-ltb, le-ltb}
-use Rattle.std.proofs.{lemmas.Bool.and_right, lemmas.Bool.cases_Bool, lemmas.Bool.cases_lt, lemmas.Bool.cond_both, lemmas.Bool.false≢true, lemmas.Bool.or_parts}
-use Rattle.std.proofs.{lemmas.Bool.Decides.nat_tests}
-use Rattle.std.specs.Prelude.{if◌then◌else◌}
-use Rattle.csicodec_names.specs.{declared.color.ColorSpec.ColorSpec, declared.color.SrgbaTuple.SrgbaTuple}
+-- Text that is settled stands out from its ground and is settled once, and colours are read back.
+use Rattle.std.proofs.Common.{◌≡◌, ◌<◌, ◌≤◌, ◌+◌, ◌*◌, ℕ, Bool, true, false, Option, Some, None, refl, sym, ◌∙◌, arith, ⊎_elim, lt-ltb, le-ltb, if◌then◌else◌, ◌/◌, ◌%◌}
+use Rattle.std.proofs.lemmas.Bool.{and_right, or_parts}
+use Rattle.csicodec_html.proofs.Common.{cases_Bool, cases_lt, cond_both, false≢true, nat_tests, ColorSpec, SrgbaTuple, Look, Palette, ground_color, text_color, settled, hex_color, hex_digit, color_at}
 use Rattle.csicodec_html.specs.Contrast.{are_near, black, black_or_white, dark, is_near, known, legible, luminance, legible_on, on_ground, on_page, place_like, white}
-use Rattle.csicodec_html.specs.{declared.look.Look.Look, declared.palette.Palette.Palette, Classes.ground_color, Classes.text_color, Look.is_exact}
-use Rattle.csicodec_html.specs.{Look.is_mixed, Look.legible_look, Look.settled, Look.settled_color, Palette.has_pairs}
-use Rattle.csicodec_names.specs.declared.color.ColorSpec.TheVariants as color
+use Rattle.csicodec_html.specs.{Look.is_exact, Look.is_mixed, Look.legible_look, Look.settled_color, Palette.has_pairs, Palette.xterm, Given.digit_of}
+use Rattle.csicodec_html.specs.{Given.given_color, Given.part_of}
+use Rattle.csicodec_clean.specs.Palette.{palette, rgb}
 
 -- ---- black and white
 
@@ -37,19 +35,19 @@ record OnPage (color : SrgbaTuple) : Type 0 where
   light : is_near color white ≡ false
   darker : is_near color dark ≡ false
 
-painted : (below : SrgbaTuple) → OnGround (color.TrueColor (black_or_white below)) below
+painted : (below : SrgbaTuple) → OnGround (ColorSpec.TrueColor (black_or_white below)) below
 painted below = record { color = black_or_white below; is = refl; apart = stands below }
 
 on_grounds : (below : SrgbaTuple) (text : ColorSpec) (k : Option SrgbaTuple) → known text ≡ k → OnGround (on_ground below text k) below
 on_grounds below text None h = painted below
 on_grounds below text (Some c) h =
-    cond_both (is_near c below) (color.TrueColor (black_or_white below)) text (λ t. OnGround t below) (λ _. painted below) (λ e. record { color = c; is = h; apart = e })
+    cond_both (is_near c below) (ColorSpec.TrueColor (black_or_white below)) text (λ t. OnGround t below) (λ _. painted below) (λ e. record { color = c; is = h; apart = e })
 
 place : (least : ℕ) (c : SrgbaTuple) → place_like least c < 8
 place least c = grind (arith, nat_tests)
 
 -- one of a pair isn't known
-paired : (i : ℕ) → i < 16 → known (color.PaletteIndex i) ≡ None
+paired : (i : ℕ) → i < 16 → known (ColorSpec.PaletteIndex i) ≡ None
 paired i h = rw (lt-ltb i 16 h) refl
 
 on_pages : (text : ColorSpec) (k : Option SrgbaTuple) (c : SrgbaTuple) → known text ≡ k → known (on_page text k) ≡ Some c → OnPage c
@@ -57,7 +55,7 @@ on_pages text None c h e = absurd cc
 on_pages text (Some d) c h e = by (is_near d white) (is_near d dark) refl refl e
   where
     by : (a b : Bool) → is_near d white ≡ a → is_near d dark ≡ b
-        → known (if a then color.PaletteIndex (8 + place_like 192 d) else if b then color.PaletteIndex (place_like 64 d) else text) ≡ Some c → OnPage c
+        → known (if a then ColorSpec.PaletteIndex (8 + place_like 192 d) else if b then ColorSpec.PaletteIndex (place_like 64 d) else text) ≡ Some c → OnPage c
     by true b x y e = let pair = paired (8 + place_like 192 d) (omega (arith, place 192 d)) in absurd cc
     by false true x y e = let pair = paired (place_like 64 d) (omega (arith, place 64 d)) in absurd cc
     by false false x y e = let same : d ≡ c = cc in record { light = rw (← same) x; darker = rw (← same) y }
@@ -90,11 +88,8 @@ vague c h = grind (arith, nat_tests)
 apart : (p : Palette) (l : Look) → has_pairs p ≡ true → is_mixed p l ≡ false → (known l.foreground ≡ None) × (known l.background ≡ None)
 apart p l h e = let (x, y) = or_parts (is_exact l.foreground) (is_exact l.background) (rw h at e) in (vague l.foreground x, vague l.background y)
 
-text_unknown : (l : Look) → (known l.foreground ≡ None) × (known l.background ≡ None) → known (text_color l) ≡ None
-text_unknown l h = cond_both l.inverse l.background l.foreground (λ c. known c ≡ None) (λ _. h.1) (λ _. h.0)
-
-ground_unknown : (l : Look) → (known l.foreground ≡ None) × (known l.background ≡ None) → known (ground_color l) ≡ None
-ground_unknown l h = cond_both l.inverse l.foreground l.background (λ c. known c ≡ None) (λ _. h.0) (λ _. h.1)
+neither : (l : Look) → (known l.foreground ≡ None) × (known l.background ≡ None) → (known (text_color l) ≡ None) × (known (ground_color l) ≡ None)
+neither l (text, ground) = grind arith
 
 -- the look whose text is made legible
 abbrev prepared : Look → Look
@@ -112,7 +107,7 @@ known_apart p l below h = by (is_mixed p l) refl
     by : (b : Bool) → is_mixed p l ≡ b → known (ground_color (if b then legible_look (prepared l) else l)) ≡ Some below
         → (text : SrgbaTuple) × (known (text_color (if b then legible_look (prepared l) else l)) ≡ Some text) × (is_near text below ≡ false)
     by true e k = let on = look_ground (prepared l) below k in (on.color, on.is, on.apart)
-    by false e k = let none = ground_unknown l (apart p l h e) in absurd cc
+    by false e k = let none = neither l (apart p l h e) in absurd cc
 
 pub own_apart : (p : Palette) (l : Look) (text : SrgbaTuple) → has_pairs p ≡ true → known (ground_color (settled p l)) ≡ None → known (text_color (settled p l)) ≡ Some text
     → (is_near text white ≡ false) × (is_near text dark ≡ false)
@@ -121,7 +116,7 @@ own_apart p l text h = by (is_mixed p l) refl
     by : (b : Bool) → is_mixed p l ≡ b → known (ground_color (if b then legible_look (prepared l) else l)) ≡ None
         → known (text_color (if b then legible_look (prepared l) else l)) ≡ Some text → (is_near text white ≡ false) × (is_near text dark ≡ false)
     by true e k m = let on = look_page (prepared l) text k m in (on.light, on.darker)
-    by false e k m = let none = text_unknown l (apart p l h e) in absurd cc
+    by false e k m = let none = neither l (apart p l h e) in absurd cc
 
 -- ---- the rest of a look, and the second time
 
@@ -157,9 +152,8 @@ legible_twice g t c h = legible_stays g (legible g t) c h
     (λ e. legible_page g t c e h)
 
 -- where text or ground is exact behind the first time
-record Twice (g r : ColorSpec) : Type 0 where
-  same : settled_color r ≡ r
-  still : legible g r ≡ r
+abbrev Twice : ColorSpec → ColorSpec → Type 0
+Twice g r = (settled_color r ≡ r) × (legible g r ≡ r)
 
 twice : (g t : ColorSpec) → (is_exact (legible g t) ≡ false → is_exact g ≡ false → false ≡ true) → Twice g (legible g t)
 twice g t mixed = by (known (legible g t)) (known g) refl refl
@@ -167,7 +161,7 @@ twice g t mixed = by (known (legible g t)) (known g) refl refl
     by : (j k : Option SrgbaTuple) → known (legible g t) ≡ j → known g ≡ k → Twice g (legible g t)
     by None None e f = absurd (false≢true (mixed (unknown (legible g t) e) (unknown g f)))
     by None (Some d) e f = let is = (legible_ground g t d f).is in absurd cc
-    by (Some c) k e f = record { same = settled_known (legible g t) c e; still = legible_twice g t c e }
+    by (Some c) k e f = (settled_known (legible g t) c e, legible_twice g t c e)
 
 made_twice : (p : Palette) (l : Look) (i : Bool) → l.inverse ≡ i → settled p (made l i) ≡ made l i
 made_twice p l i e = by i (is_mixed p (made l i)) e refl
@@ -177,11 +171,11 @@ made_twice p l i e = by i (is_mixed p (made l i)) e refl
     by true true e k =
         let g = settled_color l.foreground in
         let q = twice g (settled_color l.background) (λ x y. sym (and_right (has_pairs p) _ (rw (x, y) refl)) ∙ k) in
-        rw (e, settled_twice l.foreground, q.same, q.still) refl
+        rw (e, settled_twice l.foreground, q.0, q.1) refl
     by false true e k =
         let g = settled_color l.background in
         let q = twice g (settled_color l.foreground) (λ x y. sym (and_right (has_pairs p) _ (rw (x, y) refl)) ∙ k) in
-        rw (e, settled_twice l.background, q.same, q.still) refl
+        rw (e, settled_twice l.background, q.0, q.1) refl
 
 pub once : (p : Palette) (l : Look) → settled p (settled p l) ≡ settled p l
 once p l = by (is_mixed p l) l.inverse refl refl
@@ -190,3 +184,18 @@ once p l = by (is_mixed p l) l.inverse refl refl
     by false i e h = rw e refl
     by true true e h = made_twice p l true h
     by true false e h = made_twice p l false h
+
+-- ---- A colour that is written is read back, and the palette of xterm has its colours.
+
+digit : (n : ℕ) → n < 16 → digit_of (hex_digit n) ≡ Some n
+digit n h = grind (arith, nat_tests)
+
+two : (n : ℕ) → n < 256 → part_of (digit_of (hex_digit (n / 16))) (digit_of (hex_digit (n % 16))) ≡ Some n
+two n h = grind (arith, nat_tests, digit)
+
+pub color_back : (red green blue : ℕ) → red < 256 → green < 256 → blue < 256 → given_color (hex_color (rgb red green blue)) ≡ Some (rgb red green blue)
+color_back red green blue r g b = rw (two red r, two green g, two blue b) refl
+
+pub xterm_colors : (place : ℕ) → color_at xterm place ≡ Some (palette place)
+unfolding palette
+xterm_colors place = grind arith

@@ -4,41 +4,36 @@ use Rattle.std.specs.Fmt.{decimal}
 use Rattle.csicodec_names.specs.{declared.color.ColorSpec.ColorSpec, declared.color.Intensity.Intensity, declared.color.Underline.Underline}
 use Rattle.csicodec_html.specs.{declared.classes.Class.Class, declared.classes.Layer.Layer, declared.look.Look.Look, declared.markup.Markup.Markup, Look.css}
 use Rattle.csicodec_html.specs.{Look.has_line, Look.hex_color, Look.is_none, Look.property_of, Look.settled}
-use Rattle.csicodec_names.specs.declared.color.ColorSpec.TheVariants as color
-use Rattle.csicodec_names.specs.declared.color.Intensity.TheVariants as intensity
-use Rattle.csicodec_names.specs.declared.color.Underline.TheVariants as underline
-use Rattle.csicodec_html.specs.declared.classes.Class.TheVariants as kind
-use Rattle.csicodec_html.specs.declared.classes.Layer.TheVariants as part
 
 -- ---- the names
 
 -- what a colour is of
 abbrev pub part_name : Layer → List ℕ
-part_name part.Text = codes "fg-"
-part_name part.Ground = codes "bg-"
-part_name part.Line = codes "line-"
-part_name part.TextAsGround = codes "fg-background-"
-part_name part.GroundAsText = codes "bg-foreground-"
+part_name Layer.Text = codes "fg-"
+part_name Layer.Ground = codes "bg-"
+part_name Layer.Line = codes "line-"
+part_name Layer.TextAsGround = codes "fg-background-"
+part_name Layer.GroundAsText = codes "bg-foreground-"
 
 -- the names of classes: there are no others
 abbrev pub class_name : Class → List ℕ
-class_name kind.Bold = codes "bold"
-class_name kind.Faint = codes "faint"
-class_name kind.Italic = codes "italic"
-class_name kind.Underline = codes "underline"
-class_name kind.Double = codes "underline-double"
-class_name kind.Curly = codes "underline-curly"
-class_name kind.Dotted = codes "underline-dotted"
-class_name kind.Dashed = codes "underline-dashed"
-class_name kind.Overline = codes "overline"
-class_name kind.Strike = codes "strike"
-class_name kind.TextAsGround = codes "fg-background"
-class_name kind.GroundAsText = codes "bg-foreground"
-class_name (kind.Color p i) = part_name p ++ decimal i
+class_name Class.Bold = codes "bold"
+class_name Class.Faint = codes "faint"
+class_name Class.Italic = codes "italic"
+class_name Class.Underline = codes "underline"
+class_name Class.Double = codes "underline-double"
+class_name Class.Curly = codes "underline-curly"
+class_name Class.Dotted = codes "underline-dotted"
+class_name Class.Dashed = codes "underline-dashed"
+class_name Class.Overline = codes "overline"
+class_name Class.Strike = codes "strike"
+class_name Class.TextAsGround = codes "fg-background"
+class_name Class.GroundAsText = codes "bg-foreground"
+class_name (Class.Color p i) = part_name p ++ decimal i
 
 -- a place is below 256
 abbrev pub IsClass : Class → Type 0
-IsClass (kind.Color p i) = i < 256
+IsClass (Class.Color p i) = i < 256
 IsClass c = ⊤
 
 -- ---- the classes of a look
@@ -47,30 +42,30 @@ abbrev pub class_if : Bool → Class → Option Class
 class_if is_there c = if is_there then Some c else None
 
 abbrev pub weight_class : Intensity → Option Class
-weight_class intensity.Normal = None
-weight_class intensity.Bold = Some kind.Bold
-weight_class intensity.Half = Some kind.Faint
+weight_class Intensity.Normal = None
+weight_class Intensity.Bold = Some Class.Bold
+weight_class Intensity.Half = Some Class.Faint
 
 -- the kind of the lines, where it isn't a single one
 abbrev pub lines_class : Underline → Option Class
-lines_class underline.Double = Some kind.Double
-lines_class underline.Curly = Some kind.Curly
-lines_class underline.Dotted = Some kind.Dotted
-lines_class underline.Dashed = Some kind.Dashed
+lines_class Underline.Double = Some Class.Double
+lines_class Underline.Curly = Some Class.Curly
+lines_class Underline.Dotted = Some Class.Dotted
+lines_class Underline.Dashed = Some Class.Dashed
 lines_class u = None
 
 -- a colour by its number, and the class for the page's own, if there is one; a colour by its parts has none
 abbrev pub color_class : Layer → Option Class → ColorSpec → Option Class
-color_class p own color.Default = own
-color_class p own (color.PaletteIndex i) = Some (kind.Color p i)
-color_class p own (color.TrueColor c) = None
+color_class p own ColorSpec.Default = own
+color_class p own (ColorSpec.PaletteIndex i) = Some (Class.Color p i)
+color_class p own (ColorSpec.TrueColor c) = None
 
 -- what the colours of text and background are of, which may have changed places
 abbrev pub text_part : Look → Layer
-text_part l = if l.inverse then part.TextAsGround else part.Text
+text_part l = if l.inverse then Layer.TextAsGround else Layer.Text
 
 abbrev pub ground_part : Look → Layer
-ground_part l = if l.inverse then part.GroundAsText else part.Ground
+ground_part l = if l.inverse then Layer.GroundAsText else Layer.Ground
 
 -- the colours that they have, and that of lines, where there are any
 abbrev pub text_color : Look → ColorSpec
@@ -80,16 +75,16 @@ abbrev pub ground_color : Look → ColorSpec
 ground_color l = if l.inverse then l.foreground else l.background
 
 abbrev pub lines_color : Look → ColorSpec
-lines_color l = if has_line l then l.line else color.Default
+lines_color l = if has_line l then l.line else ColorSpec.Default
 
 abbrev pub classes_of : Look → List (Option Class)
 classes_of l =
-    weight_class l.intensity ∷ class_if l.italic kind.Italic
-    ∷ class_if (not (is_none l.underline)) kind.Underline ∷ lines_class l.underline
-    ∷ class_if l.overline kind.Overline ∷ class_if l.strike kind.Strike
-    ∷ color_class (text_part l) (class_if l.inverse kind.TextAsGround) (text_color l)
-    ∷ color_class (ground_part l) (class_if l.inverse kind.GroundAsText) (ground_color l)
-    ∷ color_class part.Line None (lines_color l) ∷ []
+    weight_class l.intensity ∷ class_if l.italic Class.Italic
+    ∷ class_if (not (is_none l.underline)) Class.Underline ∷ lines_class l.underline
+    ∷ class_if l.overline Class.Overline ∷ class_if l.strike Class.Strike
+    ∷ color_class (text_part l) (class_if l.inverse Class.TextAsGround) (text_color l)
+    ∷ color_class (ground_part l) (class_if l.inverse Class.GroundAsText) (ground_color l)
+    ∷ color_class Layer.Line None (lines_color l) ∷ []
 
 -- ---- the attributes of a span
 
@@ -111,18 +106,18 @@ names came [] = if came then 34 ∷ [] else []
 names came (slot ∷ slots) = slot_text came slot ++ names (behind_slot came slot) slots
 
 abbrev pub is_true : ColorSpec → Bool
-is_true (color.TrueColor c) = true
+is_true (ColorSpec.TrueColor c) = true
 is_true c = false
 
 -- a colour by its parts
 abbrev pub true_color : Layer → ColorSpec → List ℕ
-true_color p (color.TrueColor c) = property_of p ++ (hex_color c ++ 59 ∷ [])
+true_color p (ColorSpec.TrueColor c) = property_of p ++ (hex_color c ++ 59 ∷ [])
 true_color p c = []
 
 unfoldable pub true_colors : Look → List ℕ
 true_colors l =
-    true_color part.Text (text_color l)
-    ++ (true_color part.Ground (ground_color l) ++ true_color part.Line (lines_color l))
+    true_color Layer.Text (text_color l)
+    ++ (true_color Layer.Ground (ground_color l) ++ true_color Layer.Line (lines_color l))
 
 abbrev pub has_true : Look → Bool
 has_true l = is_true (text_color l) || (is_true (ground_color l) || is_true (lines_color l))

@@ -2,7 +2,6 @@
 use Rattle.std.specs.Prelude.{ℕ, ◌+◌, ◌*◌, nat_lt, Bool, ◌&&◌, if◌then◌else◌, Option, Some, None}
 use Rattle.csicodec_names.specs.{declared.color.ColorSpec.ColorSpec, declared.color.SrgbaTuple.SrgbaTuple}
 use Rattle.csicodec_clean.specs.Palette.{palette, rgb}
-use Rattle.csicodec_names.specs.declared.color.ColorSpec.TheVariants as color
 
 -- ---- the contrast of two colours (WCAG 2.2, 1.4.3), by their relative luminance
 
@@ -39,9 +38,9 @@ dark = rgb 30 30 30
 
 -- a colour that is the same on a light and on a dark page
 abbrev pub known : ColorSpec → Option SrgbaTuple
-known color.Default = None
-known (color.PaletteIndex i) = if nat_lt i 16 then None else Some (palette i)
-known (color.TrueColor c) = Some c
+known ColorSpec.Default = None
+known (ColorSpec.PaletteIndex i) = if nat_lt i 16 then None else Some (palette i)
+known (ColorSpec.TrueColor c) = Some c
 
 -- the one of black and white that can be read on a ground: white where its luminance is below 0.18 of white's
 abbrev pub black_or_white : SrgbaTuple → SrgbaTuple
@@ -49,9 +48,9 @@ black_or_white below = if nat_lt (luminance below) 29846475000000 then white els
 
 -- text on a ground that is known: black or white where it is near to that, or has no colour of its own
 abbrev pub on_ground : SrgbaTuple → ColorSpec → Option SrgbaTuple → ColorSpec
-on_ground below text None = color.TrueColor (black_or_white below)
+on_ground below text None = ColorSpec.TrueColor (black_or_white below)
 on_ground below text (Some c) =
-    if is_near c below then color.TrueColor (black_or_white below) else text
+    if is_near c below then ColorSpec.TrueColor (black_or_white below) else text
 
 abbrev pub is_there : ℕ → ℕ → ℕ
 is_there least n = if nat_lt n least then 0 else 1
@@ -64,8 +63,8 @@ place_like least c = is_there least c.0 + 2 * is_there least c.1 + 4 * is_there 
 abbrev pub on_page : ColorSpec → Option SrgbaTuple → ColorSpec
 on_page text None = text
 on_page text (Some c) =
-    if is_near c white then color.PaletteIndex (8 + place_like 192 c)
-    else if is_near c dark then color.PaletteIndex (place_like 64 c) else text
+    if is_near c white then ColorSpec.PaletteIndex (8 + place_like 192 c)
+    else if is_near c dark then ColorSpec.PaletteIndex (place_like 64 c) else text
 
 abbrev pub legible_on : Option SrgbaTuple → ColorSpec → ColorSpec
 legible_on None text = on_page text (known text)

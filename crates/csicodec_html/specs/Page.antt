@@ -4,13 +4,11 @@ use Rattle.std.specs.{List.AllByRecursion, List.flat_map, Char.IsScalar}
 use Rattle.bstr.specs.Utf8.{lossy_chars}
 use Rattle.csicodec_actions.specs.Actions.{Action}
 use Rattle.csicodec_terminal.specs.Terminal.{IsTakenFor}
-use Rattle.csicodec_spans.specs.{declared.table.Kind.Kind, Parts.Part, Parts.IsWhole}
+use Rattle.csicodec_spans.specs.{declared.table.Kind.Kind, Parts.Part, Parts.IsWhole, declared.table.Mode.Mode}
 use Rattle.csicodec_clean.specs.{Shown.shown, Shown.IsShown, Titles.with_titles, Addresses.is_web, Links.Address, Links.Begun, Links.all_behind}
 use Rattle.csicodec_clean.specs.{Links.is_visible, Links.links_in, Links.longest_url, Links.start, Cleaned.longest}
 use Rattle.csicodec_html.specs.{declared.look.Look.Look, declared.markup.Markup.Markup, Classes.attributes, Look.behind_all, Look.is_plain, Look.plain}
 use Rattle.csicodec_html.specs.{Look.sets_any, Palette.readable}
-use Rattle.csicodec_spans.specs.declared.table.Kind.TheVariants as kind
-use Rattle.csicodec_spans.specs.declared.table.Mode.TheVariants as mode
 
 -- a character that HTML could take for markup, by its name or number, and any other one as it is
 abbrev pub reference_or : List ℕ → ℕ → List ℕ
@@ -124,20 +122,20 @@ shown_pieces run = map Char (filter shown (lossy_chars run))
 -- what a part leaves, and the setting behind it: a control sequence the turn to the look behind its actions, a control string, where
 -- links pass, those that are over with it, and any other part nothing
 abbrev pub Leaves : Setting → Kind → List ℕ → List Piece → Setting → Type 0
-Leaves s kind.Csi bytes own after = (actions : List Action) × IsTakenFor bytes actions
+Leaves s Kind.Csi bytes own after = (actions : List Action) × IsTakenFor bytes actions
     × (after ≡ behind_actions s actions)
     × (own ≡ turn s.markup (sets_any actions) s.look (behind_all s.look actions))
-Leaves s kind.Str bytes own after =
+Leaves s Kind.Str bytes own after =
     (own ≡ switches s.markup s.look s.to (links_in s.markup.links s.begun bytes))
     × (after ≡ behind_string s bytes)
 Leaves s k bytes own after = (own ≡ []) × (after ≡ s)
 
 abbrev pub run_behind : Kind → List ℕ → List ℕ → List ℕ
-run_behind kind.Text run bytes = run ++ bytes
+run_behind Kind.Text run bytes = run ++ bytes
 run_behind k run bytes = []
 
 abbrev pub pieces_behind : Kind → List ℕ → List Piece
-pieces_behind kind.Text run = []
+pieces_behind Kind.Text run = []
 pieces_behind k run = shown_pieces run
 
 -- what is left of the parts, behind a run of text: text goes on with the run, any other part ends it, and at the end what is open is
@@ -153,7 +151,7 @@ AreLeft s run (p ∷ parts) pieces =
 -- the page that the bytes are, by what becomes markup
 pub record PageWith (m : Markup) (bytes page : List ℕ) : Type 0 where
   pub parts : List Part
-  pub whole : IsWhole longest mode.Text bytes parts
+  pub whole : IsWhole longest Mode.Text bytes parts
   pub pieces : List Piece
   pub left : AreLeft (first_set m) [] (with_titles false parts) pieces
   pub all : page ≡ piece_texts pieces

@@ -3,8 +3,6 @@ use Rattle.std.specs.Prelude.{ℕ, nat_lt, get_or, Bool, List, [], ◌∷◌, co
 use Rattle.csicodec_names.specs.{declared.color.ColorSpec.ColorSpec, declared.color.SrgbaTuple.SrgbaTuple}
 use Rattle.csicodec_clean.specs.Palette.{first_places, palette, rgb}
 use Rattle.csicodec_html.specs.{declared.classes.Layer.Layer, declared.palette.Palette.Palette}
-use Rattle.csicodec_names.specs.declared.color.ColorSpec.TheVariants as color
-use Rattle.csicodec_html.specs.declared.classes.Layer.TheVariants as part
 
 -- where nobody chose: the first 16 colours are pairs, and the page's own colours are the browser's
 abbrev pub readable : Palette
@@ -28,10 +26,10 @@ color_at p i = if nat_lt i 16 then first_color p.first i else Some (palette i)
 
 -- the page's own colour is the one that is given for it, if one is
 abbrev pub or_own : Option SrgbaTuple → ColorSpec → ColorSpec
-or_own (Some own) color.Default = color.TrueColor own
-or_own None color.Default = color.Default
-or_own given (color.PaletteIndex i) = color.PaletteIndex i
-or_own given (color.TrueColor c) = color.TrueColor c
+or_own (Some own) ColorSpec.Default = ColorSpec.TrueColor own
+or_own None ColorSpec.Default = ColorSpec.Default
+or_own given (ColorSpec.PaletteIndex i) = ColorSpec.PaletteIndex i
+or_own given (ColorSpec.TrueColor c) = ColorSpec.TrueColor c
 
 -- ---- pairs: a colour on a light page, and one on a dark page (CSS Color, level 5, `light-dark`). Of text, and of what is behind it:
 -- each text has a contrast of at least 4.5 to 1 (WCAG 2.2, 1.4.3) to each ground, and to the page's own; `.ci/contrast` measures it
@@ -56,6 +54,6 @@ pairs =
     ∷ (codes "light-dark(#24292f,#ffffff)", codes "light-dark(#ffffff,#3a4148)") ∷ []
 
 abbrev pub pair_of : Layer → ℕ → List ℕ
-pair_of part.Ground i = (get_or pairs i ([], [])).1
-pair_of part.TextAsGround i = (get_or pairs i ([], [])).1
+pair_of Layer.Ground i = (get_or pairs i ([], [])).1
+pair_of Layer.TextAsGround i = (get_or pairs i ([], [])).1
 pair_of of i = (get_or pairs i ([], [])).0

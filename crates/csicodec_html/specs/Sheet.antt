@@ -2,15 +2,11 @@
 use Rattle.std.specs.Prelude.{ℕ, ◌≡◌, ◌==◌, zero, suc, Bool, true, false, not, List, [], ◌∷◌, ◌++◌, codes, encode_utf8_all, if◌then◌else◌, Option, Some, None}
 use Rattle.std.specs.List.{AllByRecursion, flat_map}
 use Rattle.csicodec_names.specs.{declared.color.ColorSpec.ColorSpec, declared.color.SrgbaTuple.SrgbaTuple, declared.color.Underline.Underline}
+use Rattle.csicodec_names.specs.{declared.color.Intensity.Intensity}
 use Rattle.csicodec_clean.specs.{Cleaned.Strips, Cleaned.longest, Shown.IsShown}
 use Rattle.csicodec_html.specs.Look.{hex_color, is_none, line_color, line_kind, line_places, plain, property, slant, weight}
 use Rattle.csicodec_html.specs.{declared.classes.Class.Class, declared.classes.Layer.Layer, declared.look.Look.Look, declared.markup.Markup.Markup}
 use Rattle.csicodec_html.specs.{declared.palette.Palette.Palette, Classes.class_name, Classes.color_class, Classes.true_color, Page.escaped, Palette.or_own}
-use Rattle.csicodec_names.specs.declared.color.ColorSpec.TheVariants as color
-use Rattle.csicodec_names.specs.declared.color.Intensity.TheVariants as intensity
-use Rattle.csicodec_names.specs.declared.color.Underline.TheVariants as underline
-use Rattle.csicodec_html.specs.declared.classes.Class.TheVariants as kind
-use Rattle.csicodec_html.specs.declared.classes.Layer.TheVariants as part
 
 -- ---- the page's own colours
 
@@ -49,21 +45,21 @@ lined below above through = record plain { underline = below; overline = above; 
 
 -- what a class declares: what the style of a look does that has nothing else
 unfoldable pub declaration : Palette → Class → List ℕ
-declaration p kind.Bold = weight intensity.Bold
-declaration p kind.Faint = weight intensity.Half
-declaration p kind.Italic = slant true
-declaration p kind.Underline = places (lined underline.Single false false)
-declaration p kind.Overline = places (lined underline.None true false)
-declaration p kind.Strike = places (lined underline.None false true)
-declaration p kind.Double = kind_of_lines underline.Double
-declaration p kind.Curly = kind_of_lines underline.Curly
-declaration p kind.Dotted = kind_of_lines underline.Dotted
-declaration p kind.Dashed = kind_of_lines underline.Dashed
-declaration p kind.TextAsGround =
-    property p part.TextAsGround (or_own p.background color.Default)
-declaration p kind.GroundAsText =
-    property p part.GroundAsText (or_own p.foreground color.Default)
-declaration p (kind.Color of i) = property p of (color.PaletteIndex i)
+declaration p Class.Bold = weight Intensity.Bold
+declaration p Class.Faint = weight Intensity.Half
+declaration p Class.Italic = slant true
+declaration p Class.Underline = places (lined Underline.Single false false)
+declaration p Class.Overline = places (lined Underline.None true false)
+declaration p Class.Strike = places (lined Underline.None false true)
+declaration p Class.Double = kind_of_lines Underline.Double
+declaration p Class.Curly = kind_of_lines Underline.Curly
+declaration p Class.Dotted = kind_of_lines Underline.Dotted
+declaration p Class.Dashed = kind_of_lines Underline.Dashed
+declaration p Class.TextAsGround =
+    property p Layer.TextAsGround (or_own p.background ColorSpec.Default)
+declaration p Class.GroundAsText =
+    property p Layer.GroundAsText (or_own p.foreground ColorSpec.Default)
+declaration p (Class.Color of i) = property p of (ColorSpec.PaletteIndex i)
 
 abbrev pub rule_of : Class → List ℕ → List ℕ
 rule_of c declared = 46 ∷ (class_name c ++ 123 ∷ (declared ++ codes "}\n"))
@@ -77,30 +73,30 @@ selector is_there c = if is_there then codes "." ++ class_name c else []
 -- lines, by all their classes: of the rules that fit a span the one of most classes counts (Selectors, level 3, 9)
 unfoldable pub line_rule : Look → List ℕ
 line_rule l =
-    selector (not (is_none l.underline)) kind.Underline
-    ++ (selector l.overline kind.Overline ++ (selector l.strike kind.Strike
+    selector (not (is_none l.underline)) Class.Underline
+    ++ (selector l.overline Class.Overline ++ (selector l.strike Class.Strike
     ++ (codes "{" ++ (places l ++ codes "}\n"))))
 
 -- the classes that have the same meaning on every page
 unfoldable pub fixed_rules : Palette → List ℕ
 fixed_rules p =
-    flat_map (class_rule p) (kind.Bold ∷ kind.Faint ∷ kind.Italic
-    ∷ kind.Underline ∷ kind.Overline ∷ kind.Strike ∷ [])
-    ++ (flat_map line_rule (lined underline.Single true false ∷ lined underline.Single false true
-    ∷ lined underline.None true true ∷ lined underline.Single true true ∷ [])
-    ++ flat_map (class_rule p) (kind.Double ∷ kind.Curly ∷ kind.Dotted ∷ kind.Dashed ∷ []))
+    flat_map (class_rule p) (Class.Bold ∷ Class.Faint ∷ Class.Italic
+    ∷ Class.Underline ∷ Class.Overline ∷ Class.Strike ∷ [])
+    ++ (flat_map line_rule (lined Underline.Single true false ∷ lined Underline.Single false true
+    ∷ lined Underline.None true true ∷ lined Underline.Single true true ∷ [])
+    ++ flat_map (class_rule p) (Class.Double ∷ Class.Curly ∷ Class.Dotted ∷ Class.Dashed ∷ []))
 
 -- the colours of so many places from 0 on
 unfoldable pub color_rules : Palette → Layer → ℕ → List ℕ
 color_rules p of zero = []
-color_rules p of (suc i) = color_rules p of i ++ class_rule p (kind.Color of i)
+color_rules p of (suc i) = color_rules p of i ++ class_rule p (Class.Color of i)
 
 -- all classes
 unfoldable pub class_rules : Palette → List ℕ
-class_rules p = fixed_rules p ++ (class_rule p kind.TextAsGround
-    ++ (class_rule p kind.GroundAsText ++ (color_rules p part.Text 256
-    ++ (color_rules p part.Ground 256 ++ (color_rules p part.Line 256
-    ++ (color_rules p part.TextAsGround 256 ++ color_rules p part.GroundAsText 256))))))
+class_rules p = fixed_rules p ++ (class_rule p Class.TextAsGround
+    ++ (class_rule p Class.GroundAsText ++ (color_rules p Layer.Text 256
+    ++ (color_rules p Layer.Ground 256 ++ (color_rules p Layer.Line 256
+    ++ (color_rules p Layer.TextAsGround 256 ++ color_rules p Layer.GroundAsText 256))))))
 
 -- what the style sheet has of the markup
 unfoldable pub sheet : Markup → List ℕ

@@ -1,7 +1,7 @@
 //! The tag that begins a span.
 ghost use Rattle.std.specs.Prelude.{◌≡◌, ◌++◌, false, OnOk};
 ghost use Rattle.csicodec_html.specs.Classes.{attributes, classes_of, has_true, is_true, names, rest_attribute, style_attribute, true_color, true_colors};
-ghost use Rattle.csicodec_html.specs.{Look.css, Look.is_exact, Look.legible_look, Look.settled, Look.settled_color, Page.Begin, Page.piece_text};
+ghost use Rattle.csicodec_html.specs.{Look.css, Look.legible_look, Look.settled, Look.settled_color, Page.Begin, Page.piece_text};
 
 use crate::classes::{Layer, append_classes};
 use crate::colors::{append_parts, append_property_of};
@@ -64,13 +64,6 @@ fn append_rest(look: Look, out: &mut Vec<u8>) -> Result<(), AllocError>
     Ok(out.push(b'"')?)
 }
 
-/// Whether a colour is the same on a light and on a dark page.
-fn is_exact(color: ColorSpec) -> bool
-    ensures { result ≡ is_exact color }
-{
-    known(color).is_some()
-}
-
 /// The colour, for which xterm's stands where each page may have its own.
 fn settled_color(color: ColorSpec) -> ColorSpec
     ensures { result ≡ settled_color color }
@@ -103,7 +96,9 @@ fn legible_look(look: Look) -> Look
 fn settled(palette: &Palette, look: Look) -> Look
     ensures { result ≡ settled palette.now look }
 {
-    if palette.first.is_none() && (is_exact(look.foreground) || is_exact(look.background)) {
+    if palette.first.is_none()
+        && (known(look.foreground).is_some() || known(look.background).is_some())
+    {
         return legible_look(Look {
             foreground: settled_color(look.foreground),
             background: settled_color(look.background),

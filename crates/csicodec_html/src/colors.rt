@@ -1,12 +1,10 @@
 //! Colours as CSS has them.
 ghost use Rattle.std.specs.Prelude.{◌≡◌, ◌<◌, ◌≤◌, ◌++◌, [], OnOk, drop, get_or, length, take};
-ghost use Rattle.csicodec_html.specs.{Look.color_text, Look.hex_color, Look.hex_digit, Look.own_name, Look.place_text, Look.property_of, Palette.color_at};
-ghost use Rattle.csicodec_html.specs.{Palette.pair_of, Palette.pairs};
+ghost use Rattle.csicodec_html.specs.{Look.color_text, Look.hex_color, Look.hex_digit, Look.own_name, Look.property_of, Palette.pair_of, Palette.pairs};
 
 use crate::classes::Layer;
 use crate::palette::Palette;
 use csicodec_base::{ColorSpec, SrgbaTuple};
-use csicodec_clean::palette as xterm_color;
 use std::alloc::AllocError;
 
 /// A digit of base sixteen.
@@ -94,24 +92,6 @@ fn append_pair(part: Layer, place: u8, out: &mut Vec<u8>) -> Result<(), AllocErr
     }
 }
 
-/// Appends the colour of a place.
-fn append_place(
-    palette: &Palette,
-    part: Layer,
-    place: u8,
-    out: &mut Vec<u8>,
-) -> Result<(), AllocError>
-    ensures { OnOk result (out.new.items ≡ out.old.items ++ place_text part place (color_at palette.now place)) }
-{
-    if place < 16 {
-        return match palette.first_color(place) {
-            Some(color) => append_parts(color, out),
-            None => append_pair(part, place, out),
-        };
-    }
-    append_parts(xterm_color(place), out)
-}
-
 /// Appends a colour, or the name of the page's own.
 pub(crate) fn append_color(
     palette: &Palette,
@@ -123,7 +103,10 @@ pub(crate) fn append_color(
 {
     match color {
         ColorSpec::Default => append_own_name(part, out),
-        ColorSpec::PaletteIndex(index) => append_place(palette, part, index, out),
+        ColorSpec::PaletteIndex(index) => match palette.color(index) {
+            Some(color) => append_parts(color, out),
+            None => append_pair(part, index, out),
+        },
         ColorSpec::TrueColor(color) => append_parts(color, out),
     }
 }

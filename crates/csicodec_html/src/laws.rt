@@ -43,7 +43,7 @@ pub fn one_page()
 {}
 
 /// The classes of a look, and the style beside them, declare what its style does, which has the three parts of `text-decoration` in one.
-#[tactic(auto, using(crate::proofs::Said::weights, crate::proofs::Said::slants, crate::proofs::Said::kinds, crate::proofs::Said::of_line, crate::proofs::Said::of_colors))]
+#[tactic(auto, using(crate::proofs::Declarations::weights, crate::proofs::Declarations::slants, crate::proofs::Declarations::kinds, crate::proofs::Declarations::of_line, crate::proofs::Declarations::of_colors))]
 pub fn same_styles()
     ensures weight { (p : Palette) (i : Intensity) → declares p (weight_class i) ≡ weight i }
     ensures slant { (p : Palette) (b : Bool) → declares p (class_if b class.Italic) ≡ slant b }
@@ -57,27 +57,27 @@ pub fn same_styles()
 {}
 
 /// Each class has its rule in the sheet, and so have lines by all their classes together, which says where they are.
-#[tactic(auto, using(crate::proofs::Said::ruled, crate::proofs::Said::lines_ruled))]
+#[tactic(auto, using(crate::proofs::Declarations::ruled, crate::proofs::Declarations::lines_ruled))]
 pub fn each_rule()
     ensures classes { (p : Palette) (c : Class) → IsClass c → IsIn (class_rule p c) (class_rules p) }
     ensures lines { (p : Palette) (l : Look) → has_line l ≡ true → IsIn (line_rule l) (class_rules p) }
 {}
 
 /// Two classes with one name are one.
-#[tactic(auto, using(crate::proofs::Apart::one_class))]
+#[tactic(auto, using(crate::proofs::Declarations::one_class))]
 pub fn one_class()
     ensures { (c d : Class) → IsClass c → IsClass d → class_name c ≡ class_name d → c ≡ d }
 {}
 
 /// A colour that is written is read back.
-#[tactic(auto, using(crate::proofs::Back::color_back))]
+#[tactic(auto, using(crate::proofs::Settled::color_back))]
 pub fn color_back()
     ensures { (red green blue : ℕ) → red < 256 → green < 256 → blue < 256
         → given_color (hex_color (rgb red green blue)) ≡ Some (rgb red green blue) }
 {}
 
 /// The palette of xterm has the colours of its places.
-#[tactic(auto, using(crate::proofs::Back::xterm_colors))]
+#[tactic(auto, using(crate::proofs::Settled::xterm_colors))]
 pub fn xterm_colors()
     ensures { (place : ℕ) → color_at xterm place ≡ Some (palette place) }
 {}

@@ -33,6 +33,7 @@ pub(crate) fn or_own(given: Option<SrgbaTuple>, color: ColorSpec) -> ColorSpec
 
 impl Palette {
     /// xterm's colours, and the browser's own.
+    #[tactic(auto, unfolding(csicodec_clean::specs::Palette::palette))]
     pub fn xterm() -> Palette
         ensures { result ≡ xterm }
     {
@@ -61,7 +62,7 @@ impl Palette {
     }
 
     /// The colour that is given for one of the first 16 places, if one is.
-    pub(crate) fn first_color(&self, index: u8) -> Option<SrgbaTuple>
+    fn first_color(&self, index: u8) -> Option<SrgbaTuple>
         requires { index < 16 }
         ensures { result ≡ first_color self.now.first index }
     {

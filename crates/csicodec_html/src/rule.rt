@@ -27,7 +27,7 @@ fn behind(look: Look, action: &CSI) -> Look
 }
 
 /// How it looks behind each of the actions in turn.
-#[tactic(auto, using(crate::proofs::Turned::behind_one))]
+#[tactic(auto, using(crate::proofs::Paired::behind_one))]
 fn behind_each(look: Look, actions: &[CSI]) -> Look
     ensures { result ≡ behind_all look (map action_of actions.now) }
 {
@@ -46,7 +46,7 @@ fn is_attribute(action: &CSI) -> bool
 }
 
 /// Whether one of the actions is.
-#[tactic(auto, using(crate::proofs::Turned::sets_one))]
+#[tactic(auto, using(crate::proofs::Paired::sets_one))]
 fn sets_any(actions: &[CSI]) -> bool
     ensures { result ≡ sets_any (map action_of actions.now) }
 {

@@ -60,15 +60,8 @@ pub(crate) fn append_shut(to: &[u8], out: &mut Vec<u8>) -> Result<(), AllocError
     out.extend_from_slice(b"</a>")
 }
 
-/// Whether one of two links leads anywhere.
-fn leads_any(old: &[u8], new: &[u8]) -> bool
-    ensures { result ≡ (leads old.now || leads new.now) }
-{
-    leads(old) || leads(new)
-}
-
 /// Appends the tags between text that leads to one place and text that leads to another.
-#[tactic(auto, using(std::proofs::Common::append_assoc, std::proofs::lemmas::Grind::common_steps, crate::proofs::Turned::ends_bytes, crate::proofs::Turned::shuts_bytes, crate::proofs::Turned::begins_bytes))]
+#[tactic(auto, using(std::proofs::Common::append_assoc, std::proofs::lemmas::Grind::common_steps, crate::proofs::Paired::ends_bytes, crate::proofs::Paired::shuts_bytes, crate::proofs::Paired::begins_bytes))]
 fn append_switch(
     markup: &Markup,
     look: Look,
@@ -79,8 +72,7 @@ fn append_switch(
     ensures { OnOk result
         (out.new.items ≡ out.old.items ++ pieces_bytes (switch markup.now look old.now new.now)) }
 {
-    let comes = leads_any(old, new);
-    if !comes {
+    if !leads(old) && !leads(new) {
         return Ok(());
     }
     append_end(look, out)?;

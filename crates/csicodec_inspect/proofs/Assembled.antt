@@ -1,17 +1,10 @@
 -- What lines give, as they come.
-use Rattle.std.proofs.Common.{◌≡◌, inl, inr, ℕ, ◌==◌, List, [], ◌∷◌, ◌++◌, Option, None, Some, Result, Ok, Err, refl, sym, ap, subst, ◌∙◌, append_assoc, append-nil}
-use Rattle.std.proofs.{KnownBytes.Appends-trans, lemmas.Bool.cases_Bool}
-use Rattle.std.specs.{Prelude.IfErr, Prelude.MatchResult, Prelude.OnErr, Prelude.OnOk, Io.KnownBytes.Appends, Io.KnownBytes.Consumes, Io.KnownBytes.IsAtEnd}
-use Rattle.std.specs.{Result.IsErrAnd}
+use Rattle.csicodec_inspect.proofs.Common.{◌≡◌, inl, inr, ℕ, ◌==◌, List, [], ◌∷◌, ◌++◌, Option, None, Some, Result, Ok, Err, refl, sym, ap, subst, ◌∙◌, append_assoc, append-nil, Appends-trans, IfErr, MatchResult, OnErr, OnOk, Appends, Consumes, IsAtEnd, IsErrAnd, Failure, Became, IsSent, answer_of, AssemblesLines, FrontsOf, IsAppended, Assembly}
+use Rattle.std.proofs.lemmas.Bool.{cases_Bool}
 use Rattle.csicodec_assemble.specs.Lines.{Assembles, GiveAll, IsFirst, IsRefused, Passes, counted, last_line, lines_from, one_more}
 use Rattle.csicodec_assemble.specs.declared.object.Refusal.{Refusal}
 use Rattle.csicodec_assemble.proofs.Joined.{counted_then, passes_then, refuses_at, whole}
 use Rattle.csicodec_transform.specs.declared.error.RunError.{RunError}
-use Rattle.csicodec_command.specs.declared.failure.Failure.{Failure}
-use Rattle.csicodec_inspect.specs.{Assembled.Became, Assembled.IsSent, Assembled.answer_of, Alone.AssemblesLines, Sent.FrontsOf, Sent.IsAppended}
-use Rattle.csicodec_inspect.specs.{declared.assemble.Assembly.Assembly}
-use Rattle.csicodec_assemble.specs.declared.object.Refusal.TheVariants as refusal
-use Rattle.csicodec_command.specs.declared.failure.Failure.TheVariants as failure
 
 abbrev Lines : Type 0
 Lines = List (List ℕ)
@@ -19,38 +12,25 @@ Lines = List (List ℕ)
 -- ---- a front of the lines
 
 -- lines in front are those of a front of the bytes
-front_lines : (bytes first line : List ℕ) (over later : Lines) → lines_from first bytes ≡ line ∷ (over ++ later)
-    → (ahead : List ℕ) × (behind : List ℕ) × (bytes ≡ ahead ++ behind) × (lines_from first ahead ≡ line ∷ over)
-front_lines [] [] line over later e = cc e
-front_lines [] (f ∷ first) line [] later e =
-    let same : f ∷ first ≡ line = cc e in
-    ([], [], refl, ap (λ (l : List ℕ). l ∷ []) same)
-front_lines [] (f ∷ first) line (o ∷ over) later e = cc e
-front_lines (b ∷ bytes) first line [] later e = elim (cases_Bool (b == 10)) [
+front_lines : (bytes first : List ℕ) (over later : Lines) → (over ≡ [] → first ≡ []) → lines_from first bytes ≡ over ++ later
+    → (ahead : List ℕ) × (behind : List ℕ) × (bytes ≡ ahead ++ behind) × (lines_from first ahead ≡ over)
+front_lines bytes first [] later none e = ([], bytes, refl, rw (none refl) refl)
+front_lines [] [] (line ∷ over) later none e = cc e
+front_lines [] (f ∷ first) (line ∷ []) later none e = ([], [], refl, cc e)
+front_lines [] (f ∷ first) (line ∷ o ∷ over) later none e = cc e
+front_lines (b ∷ bytes) first (line ∷ over) later none e = elim (cases_Bool (b == 10)) [
   | inl is ↦
-      let parts : first ∷ lines_from [] bytes ≡ line ∷ later = rw is at e in
-      let same : first ≡ line = cc parts in
-      (b ∷ [], bytes, refl, rw is (ap (λ (l : List ℕ). l ∷ []) same))
+      let parts : first ∷ lines_from [] bytes ≡ line ∷ (over ++ later) = rw is at e in
+      let (ahead, behind, f, same) = front_lines bytes [] over later (λ _. refl) (cc parts) in
+      (b ∷ ahead, behind, ap (λ (s : List ℕ). b ∷ s) f, rw is (cc (parts, same)))
   | inr other ↦
-      let (ahead, behind, f, same) = front_lines bytes (first ++ b ∷ []) line [] later (rw other at e) in
-      (b ∷ ahead, behind, ap (λ (s : List ℕ). b ∷ s) f, rw other same)
-]
-front_lines (b ∷ bytes) first line (o ∷ over) later e = elim (cases_Bool (b == 10)) [
-  | inl is ↦
-      let parts : first ∷ lines_from [] bytes ≡ line ∷ o ∷ (over ++ later) = rw is at e in
-      let same : first ≡ line = cc parts in
-      let others : lines_from [] bytes ≡ o ∷ (over ++ later) = cc parts in
-      let (ahead, behind, f, more) = front_lines bytes [] o over later others in
-      (b ∷ ahead, behind, ap (λ (s : List ℕ). b ∷ s) f, rw is (ap (λ (l : List ℕ). l ∷ lines_from [] ahead) same ∙ ap (λ (s : Lines). line ∷ s) more))
-  | inr other ↦
-      let (ahead, behind, f, same) = front_lines bytes (first ++ b ∷ []) line (o ∷ over) later (rw other at e) in
+      let (ahead, behind, f, same) = front_lines bytes (first ++ b ∷ []) (line ∷ over) later (λ no. cc no) (rw other at e) in
       (b ∷ ahead, behind, ap (λ (s : List ℕ). b ∷ s) f, rw other same)
 ]
 
 front_of : (bytes text : List ℕ) (over later : Lines) → lines_from [] bytes ≡ over ++ later → GiveAll over text → FrontsOf Assembles bytes text
-front_of bytes text [] later e give = ([], bytes, [], refl, rw (append-nil text) give)
-front_of bytes text (line ∷ over) later e give =
-    let (ahead, behind, f, same) = front_lines bytes [] line over later e in
+front_of bytes text over later e give =
+    let (ahead, behind, f, same) = front_lines bytes [] over later (λ _. refl) e in
     (ahead, behind, [], f, rw (append-nil text, same) give)
 
 -- what lines that are over give is a front, whatever comes
@@ -59,7 +39,7 @@ over_front read unread sure line over p = front_of (read ++ unread) sure over (l
 
 became_front : (r : Result (Unit {0}) Failure) (bytes text : List ℕ) → Became r bytes text → FrontsOf Assembles bytes text
 became_front (Ok u) bytes text all = (bytes, [], [], sym (append-nil bytes), rw (append-nil text) all)
-became_front (Err (failure.Object number fault)) bytes text r = front_of bytes text r.ahead (r.line ∷ r.behind) r.split r.stand
+became_front (Err (Failure.Object number fault)) bytes text r = front_of bytes text r.ahead (r.line ∷ r.behind) r.split r.stand
 became_front (Err f) bytes text front = front
 
 -- ---- bytes that come
@@ -67,8 +47,8 @@ became_front (Err f) bytes text front = front
 -- behind what passed, the lines end so
 became : (e : Refusal) (count : ℕ) (read rest sure line : List ℕ) (over : Lines) → Passes [] read over sure line → count ≡ counted 0 over
     → IsFirst e (lines_from line rest) → Became (answer_of (one_more count) (Err e)) (read ++ rest) sure
-became (refusal.Line fault) count read rest sure line over p is first = rw is (refuses_at fault read rest sure line over p first)
-became refusal.Memory count read rest sure line over p is first = over_front read rest sure line over p
+became (Refusal.Line fault) count read rest sure line over p is first = rw is (refuses_at fault read rest sure line over p first)
+became Refusal.Memory count read rest sure line over p is first = over_front read rest sure line over p
 
 -- so much was read, of which some lines are over
 abbrev pub Stands : List ℕ → List ℕ → List ℕ → ℕ → Type 0
@@ -148,7 +128,7 @@ ended_run taken result number read sure made sent known after old mid new start 
 
 -- a run failed ahead of a chunk
 pub stopped : (result : Result (Unit {0}) Failure) (error : RunError) (read sure line : List ℕ) (count : ℕ) (known after old new : Option (List ℕ)) (start end : Assembly)
-    → Consumes known after read → Stands read sure line count → Appends old new sure → IsErrAnd result (λ f. f ≡ failure.Run error) → AssemblesLines known (start, old) result (end, new)
+    → Consumes known after read → Stands read sure line count → Appends old new sure → IsErrAnd result (λ f. f ≡ Failure.Run error) → AssemblesLines known (start, old) result (end, new)
 stopped (Ok u) error read sure line count known after old new start end consumed stands appended failed = absurd failed
 stopped (Err f) error read sure line count known after old new start end consumed (over, p, is_count) appended failed =
     ran (Err f) read known after old new start end consumed (λ unread left.
@@ -181,6 +161,6 @@ stopped_behind taken went (Err g) f number count read sure made sent line known 
 pub goes_on : (taken : Result (Unit {0}) Refusal) (went : Result (Unit {0}) Failure) (number count : ℕ) (read sure made sent line : List ℕ)
     → Takes taken number read (sure ++ made) line count → IsSent (answer_of number taken) went made sent → went ≡ Ok tt → Stands read (sure ++ sent) line count
 goes_on (Ok u) went number count read sure made sent line stands (inl (all, same)) is = rw all stands
-goes_on (Err (refusal.Line fault)) went number count read sure made sent line fails (inl (all, same)) is = cc (is, same)
-goes_on (Err refusal.Memory) went number count read sure made sent line fails (inl (all, same)) is = cc (is, same)
+goes_on (Err (Refusal.Line fault)) went number count read sure made sent line fails (inl (all, same)) is = cc (is, same)
+goes_on (Err Refusal.Memory) went number count read sure made sent line fails (inl (all, same)) is = cc (is, same)
 goes_on taken went number count read sure made sent line takes (inr (error, unsent, same, split)) is = cc (is, same)

@@ -1,2 +1,3 @@
+pub mod Common
 pub mod Assembled
 pub mod Sent

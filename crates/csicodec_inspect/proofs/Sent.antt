@@ -1,8 +1,6 @@
 -- what a run that went well wrote, and what one that failed did
-use Rattle.std.proofs.{Common.ℕ, Common.List, Common.Option, Common.Result, Common.Ok, Common.Err, Common.subst, lemmas.Option.IfSome_then}
-use Rattle.std.specs.{Prelude.IfSome, Prelude.OnErr, Prelude.OnOk, Io.KnownBytes.Appends, Io.KnownBytes.Consumes, Io.KnownBytes.IsAtEnd}
-use Rattle.csicodec_streams.proofs.Streamed.{given_all}
-use Rattle.csicodec_inspect.specs.Sent.{IsAppended, IsWrittenBy}
+use Rattle.csicodec_inspect.proofs.Common.{ℕ, List, Option, Result, Ok, Err, subst, IfSome_then, IfSome, OnErr, Appends, Consumes, IsAtEnd, IsAppended}
+use Rattle.csicodec_streams.proofs.OneReading.{given_all}
 
 -- all were read, and their text was written
 pub all_written : (Out : List ℕ → List ℕ → Type 0) (before after old new : Option (List ℕ))
@@ -15,9 +13,3 @@ all_written Out before after old new (bytes, text, consumed, end, out, appended)
 pub on_err_all : {A E P : Type 0} (result : Result A E) → P → OnErr result P
 on_err_all (Ok a) p = tt
 on_err_all (Err e) p = p
-
--- all was read, and its text was written
-pub ran_well : (E : Type 0) (Out Front : List ℕ → List ℕ → Type 0) (before after old new : Option (List ℕ))
-    → (bytes : List ℕ) × (text : List ℕ) × Consumes before after bytes × IsAtEnd after × Out bytes text × Appends old new text
-    → IsWrittenBy {A = Unit {0}} {E = E} Out Front (Ok tt) before old new
-ran_well E Out Front before after old new ran = (all_written Out before after old new ran, tt)

@@ -6,16 +6,14 @@ use Rattle.csicodec_transform.specs.declared.error.RunError.{RunError}
 use Rattle.csicodec_assemble.specs.{Lines.Assembles, Lines.Refuses, declared.object.Fault.Fault}
 use Rattle.csicodec_clean.specs.Stream.{IsFrontOf}
 use Rattle.csicodec_lines.specs.Cuts.{Tells}
-use Rattle.csicodec_command.specs.Runs.{GoesOf}
+use Rattle.csicodec_command.specs.{Runs.GoesOf, declared.failure.Failure.Failure}
 use Rattle.csicodec_inspect.specs.{declared.assemble.Assembly.Assembly, declared.cuts.Cuts.Cuts, declared.normal.Normaliser.Normaliser, Sent.FrontsOf}
 use Rattle.csicodec_inspect.specs.{Sent.IsAppended, Sent.IsWrittenBy}
-use Rattle.csicodec_transform.specs.declared.error.RunError.TheVariants as error
-use Rattle.csicodec_command.specs.declared.failure.Failure.TheVariants as failure
 
 -- The normal form of all sequences is written. What refuses them is told, and nothing is written then, nor where a read fails.
 abbrev pub Normalises : GoesOf Normaliser
 Normalises known start result end = OnOk result (IfSome known (λ bytes. IsAppended (NormalisesTo bytes) start.1 end.1))
-    × IfErr result (λ f. (e : RunError) × (f ≡ failure.Run e) × RefusesRun known e × (e ≢ error.Write → end.1 ≡ start.1))
+    × IfErr result (λ f. (e : RunError) × (f ≡ Failure.Run e) × RefusesRun known e × (e ≢ RunError.Write → end.1 ≡ start.1))
 
 -- the places are told where the stream may be cut, with so many bytes between two, or a front of them
 abbrev pub TellsCuts : GoesOf Cuts
@@ -26,5 +24,5 @@ TellsCuts known start result end = (end.0 ≡ start.0)
 -- of the lines ahead of it, and its number and what is wrong with it are told.
 abbrev pub AssemblesLines : GoesOf Assembly
 AssemblesLines known start result end = IsWrittenBy Assembles (FrontsOf Assembles) result known start.1 end.1
-    × IfErr result (λ f. (number : ℕ) (fault : Fault) → f ≡ failure.Object number fault
+    × IfErr result (λ f. (number : ℕ) (fault : Fault) → f ≡ Failure.Object number fault
     → IfSome known (λ lines. IsAppended (Refuses number fault lines) start.1 end.1))

@@ -89,26 +89,17 @@ pub fn check_stream<R: Read>(alloc: Global, visible: bool, input: &mut R) -> Res
     }
 }
 
-/// Takes the next bytes.
-fn push_next(checked: &mut Checked, visible: bool, bytes: &[u8]) -> Result<bool, AllocError> {
-    if visible {
-        checked.push::<VisibleText>(bytes)
-    } else {
-        checked.push::<PlainText>(bytes)
-    }
-}
-
 /// Takes a line that a program wrote. In a recording CR LF ends one, and its CR passes as what it is for.
-fn push_line(checked: &mut Checked, visible: bool, line: &[u8]) -> Result<bool, AllocError> {
+fn push_line<C: CharClass>(checked: &mut Checked, line: &[u8]) -> Result<bool, AllocError> {
     let Some(text) = line.strip_suffix(b"\r\n".as_slice()) else {
-        return push_next(checked, visible, line);
+        return checked.push::<C>(line);
     };
-    push_next(checked, visible, text)?;
+    checked.push::<C>(text)?;
     if !checked.rest.is_empty() {
         return Ok(false);
     }
     checked.at = checked.at.saturating_add(1);
-    push_next(checked, visible, b"\n")
+    checked.push::<C>(b"\n")
 }
 
 /// What the programs of a recording wrote. All of it is held.
@@ -133,7 +124,12 @@ pub fn check_cast<R: BufRead>(alloc: Global, visible: bool, input: &mut R) -> Re
     let written = written_of(alloc, input)?;
     let mut checked = Checked::new(alloc);
     for line in written.split_inclusive(|byte| *byte == b'\n') {
-        if !push_line(&mut checked, visible, line)? {
+        let is_so = if visible {
+            push_line::<VisibleText>(&mut checked, line)?
+        } else {
+            push_line::<PlainText>(&mut checked, line)?
+        };
+        if !is_so {
             break;
         }
     }

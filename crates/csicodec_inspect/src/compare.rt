@@ -26,11 +26,7 @@ struct Compared<'a> {
 
 /// The lines of a text.
 fn split(alloc: Global, text: &[u8]) -> Result<Vec<&[u8]>, AllocError> {
-    let mut lines = Vec::new(alloc);
-    for line in text.split_inclusive(|byte| *byte == b'\n') {
-        lines.push(line)?;
-    }
-    Ok(lines)
+    text.split_inclusive(|byte| *byte == b'\n').collect(alloc)
 }
 
 /// Whether the line at a place differs, or stands near one that does.
@@ -78,9 +74,8 @@ impl<'a> Compared<'a> {
     fn keep(&mut self, explainer: &mut Explainer<'_>, text: Vec<u8>) -> Result<(), Failure> {
         let mut text = text;
         explainer.end(&mut text)?;
-        self.texts
-            .push(text)
-            .map_err(|_| Failure::Run(RunError::Memory))
+        let kept = self.texts.push(text);
+        kept.map_err(|_| Failure::Run(RunError::Memory))
     }
 }
 

@@ -114,17 +114,6 @@ impl<'a> Worker for Explained<'a> {
     }
 }
 
-/// Which input is explained; none where it is output.
-fn dialect_of(run: &Request<'_>) -> Option<Dialect> {
-    if run.has("--utf8-mouse") {
-        Some(Dialect::Utf8Input)
-    } else if run.has("--input") {
-        Some(Dialect::Input)
-    } else {
-        None
-    }
-}
-
 /// Whether lines are told in colours: if that is asked for, or where a terminal shows them to someone who didn't say by NO_COLOR that
 /// they aren't wanted.
 fn is_colored(rt: &HostRuntime, asked: Option<&str>, live: bool) -> bool {
@@ -138,6 +127,8 @@ fn is_colored(rt: &HostRuntime, asked: Option<&str>, live: bool) -> bool {
 /// How the streams of a run are explained.
 fn style_of<'a>(rt: &HostRuntime, run: &'a Request<'a>) -> Style<'a> {
     let (json, live) = (run.has("--json"), rt.stdout().is_terminal());
+    let input = run.has("--input").then_some(Dialect::Input);
+    let utf8_input = run.has("--utf8-mouse").then_some(Dialect::Utf8Input);
     Style {
         full: run.has("--full"),
         json,
@@ -152,7 +143,7 @@ fn style_of<'a>(rt: &HostRuntime, run: &'a Request<'a>) -> Style<'a> {
         at: &run.at,
         grep: run.value("--grep"),
         ignore_case: run.has("--ignore-case"),
-        dialect: dialect_of(run),
+        dialect: utf8_input.or(input),
     }
 }
 
@@ -192,8 +183,12 @@ fn explained_of<'a>(
     })
 }
 
-/// Tells what is wanted; the status, which is 1 where something is looked for and isn't there.
-fn explain(rt: &HostRuntime, run: &Request<'_>) -> Result<(), u8> {
+/// Explains what the words of the command line ask for, if they do so in names that there are; the status, which is 1 where something is looked
+/// for and isn't there.
+pub fn explain_inputs(rt: &HostRuntime, run: &Request<'_>) -> Result<(), u8> {
+    if let Some(names) = run.value("--only") {
+        are_known(rt.alloc(), names).map_err(|wrong| refused(rt, wrong))?;
+    }
     let style = style_of(rt, run);
     if run.has("--diff") {
         return explain_diff(rt, style, &run.files);
@@ -206,12 +201,4 @@ fn explain(rt: &HostRuntime, run: &Request<'_>) -> Result<(), u8> {
     } else {
         Ok(())
     }
-}
-
-/// Explains what the words of the command line ask for, if they do so in names that there are; the status, if that failed.
-pub fn explain_inputs(rt: &HostRuntime, run: &Request<'_>) -> Result<(), u8> {
-    if let Some(names) = run.value("--only") {
-        are_known(rt.alloc(), names).map_err(|wrong| refused(rt, wrong))?;
-    }
-    explain(rt, run)
 }

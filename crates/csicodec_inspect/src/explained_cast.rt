@@ -29,29 +29,19 @@ fn shown(data: &str) -> Quoted<'_> {
     }
 }
 
-/// A size that the terminal was given.
-fn write_resize<W: fmt::Write>(f: &mut fmt::Formatter<W>, data: &str) -> fmt::Result {
-    match size_of_screen(data) {
-        Some((columns, lines)) => write!(f, "resize  {columns} columns, {lines} lines"),
-        None => write!(f, "resize  {}", shown(data)),
-    }
-}
-
-/// The status of the program at its end.
-fn write_exit<W: fmt::Write>(f: &mut fmt::Formatter<W>, data: &str) -> fmt::Result {
-    match data.parse::<u32>() {
-        Ok(status) => write!(f, "exit  status {status}"),
-        Err(_) => write!(f, "exit  status {}", shown(data)),
-    }
-}
-
-/// A name, two blanks, and the words.
+/// A name, two blanks, and the words: of a size that the terminal was given, a marker, or the status of the program at its end.
 impl<'a> fmt::Display for CastEvent<'a> {
     fn fmt<W: fmt::Write>(&self, f: &mut fmt::Formatter<W>) -> fmt::Result {
         match self.code {
-            "r" => write_resize(f, self.data),
+            "r" => match size_of_screen(self.data) {
+                Some((columns, lines)) => write!(f, "resize  {columns} columns, {lines} lines"),
+                None => write!(f, "resize  {}", shown(self.data)),
+            },
             "m" => write!(f, "marker  {}", shown(self.data)),
-            _ => write_exit(f, self.data),
+            _ => match self.data.parse::<u32>() {
+                Ok(status) => write!(f, "exit  status {status}"),
+                Err(_) => write!(f, "exit  status {}", shown(self.data)),
+            },
         }
     }
 }
@@ -64,13 +54,11 @@ fn explain_event<W: Write>(
     output: &mut W,
 ) -> Result<(), RunError> {
     let wanted = if explainer.is_of_input() { "i" } else { "o" };
-    if event.code == wanted {
-        return explainer.take(time, event.data.as_bytes(), output);
+    match event.code {
+        code if code == wanted => explainer.take(time, event.data.as_bytes(), output),
+        "r" | "m" | "x" => explainer.take_event(time, &event, output),
+        _ => Ok(()),
     }
-    if matches!(event.code, "r" | "m" | "x") {
-        return explainer.take_event(time, &event, output);
-    }
-    Ok(())
 }
 
 /// Explains what the programs of a recording wrote, or what was typed, each event with its time; and its sizes, its markers and its end.

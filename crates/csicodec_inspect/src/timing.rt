@@ -31,33 +31,15 @@ fn is_seconds(text: &str) -> bool {
     !whole.is_empty() && are_digits(whole) && are_digits(part)
 }
 
-/// The letter ahead of the seconds, in the newer form.
-fn letter_of(word: &str) -> Option<u8> {
-    match word.as_bytes().first().copied() {
-        Some(letter) if word.len() == 1 && letter.is_ascii_uppercase() => Some(letter),
-        _ => None,
-    }
-}
-
-/// How many bytes came, of what has the letter that is wanted or none.
-fn count_of(letter: Option<u8>, wanted: u8, count: &str) -> Option<usize> {
-    let count = count.parse::<usize>().ok()?;
-    match letter {
-        Some(letter) if letter != wanted => Some(0),
-        _ => Some(count),
-    }
-}
-
 /// The seconds since the line before, and how many bytes came then of what has this letter: none where the line is another's, as of a
 /// signal. Nothing of a line that `script` doesn't write.
 fn line_of(line: &str, wanted: u8) -> Option<(u64, usize)> {
     let mut words = line.split_whitespace();
     let first = words.next()?;
-    let letter = letter_of(first);
-    let seconds = if letter.is_some() {
-        words.next()?
-    } else {
-        first
+    // In the newer form a letter stands ahead of the seconds.
+    let (letter, seconds) = match first.as_bytes() {
+        [letter @ b'A'..=b'Z'] => (Some(*letter), words.next()?),
+        _ => (None, first),
     };
     if !is_seconds(seconds) {
         return None;
@@ -65,11 +47,12 @@ fn line_of(line: &str, wanted: u8) -> Option<(u64, usize)> {
     if !matches!(letter, None | Some(b'O' | b'I')) {
         return Some((micros(seconds), 0));
     }
-    let count = count_of(letter, wanted, words.next()?)?;
+    let count = words.next()?.parse::<usize>().ok()?;
     if words.next().is_some() {
         return None;
     }
-    Some((micros(seconds), count))
+    let is_other = letter.is_some_and(|letter| letter != wanted);
+    Some((micros(seconds), if is_other { 0 } else { count }))
 }
 
 impl Timing {
@@ -123,15 +106,6 @@ impl Timing {
         (left, time)
     }
 
-    /// How many of these bytes came at once, and when.
-    fn next(&mut self, bytes: &[u8]) -> (usize, u64) {
-        let ahead = self.ahead(bytes);
-        if ahead > 0 {
-            return (ahead, 0);
-        }
-        self.piece(bytes.len())
-    }
-
     /// Explains bytes, each piece with its time.
     fn explain<W: Write>(
         &mut self,
@@ -144,7 +118,10 @@ impl Timing {
             if rest.is_empty() {
                 break;
             }
-            let (count, time) = self.next(rest);
+            let (count, time) = match self.ahead(rest) {
+                0 => self.piece(rest.len()),
+                ahead => (ahead, 0),
+            };
             let piece = rest.get(..count).unwrap_or(rest);
             explainer.take(time, piece, output)?;
             rest = rest.get(count..).unwrap_or(&[]);

@@ -1,14 +1,8 @@
 pub mod Named
 pub mod SameKeys
-pub mod Options
 pub mod AnyTable
 pub mod Lists
-pub mod Spelled
-pub mod Fronts
 pub mod EachTable
-pub mod Sound
 pub mod Legacy
-pub mod Kitty
-pub mod Records
 pub mod Trip
-pub mod Typed
+pub mod Fronts

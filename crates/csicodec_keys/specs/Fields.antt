@@ -9,7 +9,6 @@ use Rattle.std.specs.Option.{option_map}
 use Rattle.csicodec_tokens.specs.{declared.param.CsiParam.CsiParam, declared.param.CsiParam.TheVariants.Integer, declared.param.CsiParam.TheVariants.P}
 use Rattle.csicodec_keys.specs.{declared.fields.KeyReport.KeyReport, declared.key.KeyEvent.KeyEvent, Keys.is_press}
 use lib.Utf8.{scalar}
-use Rattle.csicodec_keys.specs.declared.key.KeyEvent.TheVariants as event
 
 -- what a list says
 pub record Says : Type 0 where
@@ -35,9 +34,9 @@ held_of (negsuc n) = None
 
 abbrev pub event_of : ℤ → Option KeyEvent
 event_of (pos n) =
-    if n == 1 then Some event.Press else
-    if n == 2 then Some event.Repeat else
-    if n == 3 then Some event.Release else
+    if n == 1 then Some KeyEvent.Press else
+    if n == 2 then Some KeyEvent.Repeat else
+    if n == 3 then Some KeyEvent.Release else
     None
 event_of (negsuc n) = None
 
@@ -70,19 +69,19 @@ event_field held _ = None
 
 -- behind the modifiers
 abbrev pub behind_held : ℕ → List CsiParam → Option (ℕ × KeyEvent × List CsiParam)
-behind_held held [] = Some (held, event.Press, [])
+behind_held held [] = Some (held, KeyEvent.Press, [])
 behind_held held (Integer z ∷ ts) = None
 behind_held held (P b ∷ ts) =
-    if b == 58 then event_field held ts else Some (held, event.Press, P b ∷ ts)
+    if b == 58 then event_field held ts else Some (held, KeyEvent.Press, P b ∷ ts)
 
 -- behind the first `;`
 abbrev pub held_field : List CsiParam → Option (ℕ × KeyEvent × List CsiParam)
 held_field (Integer z ∷ ts) = option_and_then (λ held. behind_held held ts) (held_of z)
-held_field ts = Some (0, event.Press, ts)
+held_field ts = Some (0, KeyEvent.Press, ts)
 
 -- the modifiers, the event, and what is behind them
 abbrev pub held_front : List CsiParam → Option (ℕ × KeyEvent × List CsiParam)
-held_front [] = Some (0, event.Press, [])
+held_front [] = Some (0, KeyEvent.Press, [])
 held_front (Integer z ∷ ts) = None
 held_front (P b ∷ ts) = if b == 59 then held_field ts else None
 
@@ -126,10 +125,10 @@ number_list n plain = if (n == 1) && plain then [] else Integer (pos n) ∷ []
 
 -- a press without modifiers is left out, but for its `;` ahead of a text
 abbrev pub held_list : ℕ → KeyEvent → Bool → List CsiParam
-held_list held event.Press bare =
+held_list held KeyEvent.Press bare =
     if held == 0 then (if bare then [] else P 59 ∷ []) else P 59 ∷ Integer (pos (held + 1)) ∷ []
-held_list held event.Repeat bare = P 59 ∷ Integer (pos (held + 1)) ∷ P 58 ∷ Integer (pos 2) ∷ []
-held_list held event.Release bare = P 59 ∷ Integer (pos (held + 1)) ∷ P 58 ∷ Integer (pos 3) ∷ []
+held_list held KeyEvent.Repeat bare = P 59 ∷ Integer (pos (held + 1)) ∷ P 58 ∷ Integer (pos 2) ∷ []
+held_list held KeyEvent.Release bare = P 59 ∷ Integer (pos (held + 1)) ∷ P 58 ∷ Integer (pos 3) ∷ []
 
 -- characters behind such a separator, and each further one behind a colon
 abbrev pub text_list : ℕ → List ℕ → List CsiParam

@@ -3,21 +3,17 @@ use Rattle.std.specs.Prelude.{ℕ, nat_le, nat_lt, ◌&&◌, Bool, true, false, 
 use Rattle.csicodec_keys.specs.{declared.code.KeyCode.KeyCode, declared.key.Key.Key, declared.key.KeyEvent.KeyEvent}
 use Rattle.csicodec_keys.specs.{declared.modifiers.KeyModifiers.KeyModifiers}
 use lib.Utf8.{scalar, scalars}
-use Rattle.csicodec_keys.specs.declared.code.KeyCode.TheVariants as code
-use Rattle.csicodec_keys.specs.declared.key.KeyEvent.TheVariants as event
 
 abbrev pub modifier_bits : KeyModifiers → ℕ
 modifier_bits modifiers = modifiers.bits
 
 abbrev pub is_press : KeyEvent → Bool
-is_press event.Press = true
-is_press event.Repeat = false
-is_press event.Release = false
+is_press KeyEvent.Press = true
+is_press _ = false
 
 abbrev pub is_release : KeyEvent → Bool
-is_release event.Press = false
-is_release event.Repeat = false
-is_release event.Release = true
+is_release KeyEvent.Release = true
+is_release _ = false
 
 pub record Stroke : Type 0 where
   pub code : KeyCode
@@ -31,8 +27,8 @@ stroke_of key =
 
 -- its numbers are in their ranges: those of a value of Rust are
 abbrev pub is_code : KeyCode → Bool
-is_code (code.Char c) = scalar c
-is_code (code.F n) = nat_lt n 256
+is_code (KeyCode.Char c) = scalar c
+is_code (KeyCode.F n) = nat_lt n 256
 is_code _ = true
 
 abbrev pub is_stroke : Stroke → Bool

@@ -9,9 +9,7 @@ use Rattle.std.specs.Option.{option_map, option_or}
 use Rattle.csicodec_tokens.specs.{declared.param.CsiParam.CsiParam, declared.param.CsiParam.TheVariants.Integer, declared.param.CsiParam.TheVariants.P}
 use Rattle.csicodec_keys.specs.{declared.code.KeyCode.KeyCode, declared.key.KeyEvent.KeyEvent, declared.tables.Row.Row, declared.win32.Record.Record}
 use Rattle.csicodec_keys.specs.{Characters.is_typed, Fields.number_of, Keys.Stroke, Keys.is_release, Rows.row_at, Rows.row_of, Tables.rows}
-use Rattle.csicodec_keys.specs.declared.code.KeyCode.TheVariants as code
-use Rattle.csicodec_keys.specs.declared.key.KeyEvent.TheVariants as event
-use Rattle.csicodec_keys.specs.declared.rows.Table.TheVariants as table
+use Rattle.csicodec_keys.specs.{declared.rows.Table.Table}
 
 -- ---- reading
 
@@ -65,16 +63,16 @@ unit_text (Some c) = c ∷ []
 abbrev pub win32_row : ℕ → Bool → Option Row
 win32_row vk enhanced =
     if nat_lt vk 256 then
-    option_or (if enhanced then row_at (rows table.Win32) (vk + 256) 95 else None) (row_at (rows table.Win32) vk 95)
+    option_or (if enhanced then row_at (rows Table.Win32) (vk + 256) 95 else None) (row_at (rows Table.Win32) vk 95)
     else None
 
 -- a key that has no row is the one of its character
 abbrev pub win32_code : Option Row → Option ℕ → Option KeyCode
 win32_code (Some r) c = Some r.code
-win32_code None c = option_map (λ x. code.Char x) c
+win32_code None c = option_map (λ x. KeyCode.Char x) c
 
 abbrev pub went : ℕ → KeyEvent
-went kd = if kd == 0 then event.Release else event.Press
+went kd = if kd == 0 then KeyEvent.Release else KeyEvent.Press
 
 abbrev pub typed_key : ℕ → ℕ → Option ℕ → KeyCode → Stroke
 typed_key cs kd c k = record { code = k; held = held_in cs; event = went kd; text = unit_text c }
@@ -102,12 +100,12 @@ ctrl_unit c held = if (held / 4 % 2 == 1) && nat_le 97 c && nat_le c 122 then c 
 
 -- the control that a key types
 abbrev pub control_unit : KeyCode → ℕ → ℕ
-control_unit code.Enter held = 13
-control_unit code.KeypadEnter held = 13
-control_unit code.Escape held = 27
-control_unit code.Tab held = 9
-control_unit code.Backspace held = 8
-control_unit (code.Char c) held = ctrl_unit c held
+control_unit KeyCode.Enter held = 13
+control_unit KeyCode.KeypadEnter held = 13
+control_unit KeyCode.Escape held = 27
+control_unit KeyCode.Tab held = 9
+control_unit KeyCode.Backspace held = 8
+control_unit (KeyCode.Char c) held = ctrl_unit c held
 control_unit _ held = 0
 
 -- what a key types, if it is at most one unit
@@ -117,17 +115,12 @@ unit_of k held (c ∷ []) = if is_typed c && nat_lt c 65536 then Some c else Non
 unit_of k held (c ∷ d ∷ cs) = None
 
 -- a character that has no row is virtual key 0, where the key types it and nothing else
-abbrev pub alone_record : ℕ → ℕ → ℕ → List ℕ → Option Record
-alone_record c kd cs [] = None
-alone_record c kd cs (d ∷ []) =
+abbrev pub char_record : KeyCode → ℕ → ℕ → List ℕ → Option Record
+char_record (KeyCode.Char c) kd cs (d ∷ []) =
     if (c == d) && is_typed c && nat_lt c 65536 then
     Some (record { vk = 0; uc = c; kd = kd; cs = cs })
     else None
-alone_record c kd cs (d ∷ e ∷ ds) = None
-
-abbrev pub char_record : KeyCode → ℕ → ℕ → List ℕ → Option Record
-char_record (code.Char c) kd cs text = alone_record c kd cs text
-char_record _ kd cs text = None
+char_record k kd cs text = None
 
 -- the record of a row: an enhanced key has 256 more in the table
 abbrev pub row_record : ℕ → ℕ → ℕ → ℕ → Record
@@ -146,7 +139,7 @@ down_of e = if is_release e then 0 else 1
 abbrev pub record_of : Stroke → Option Record
 record_of s =
     if s.held / 8 % 8 == 0 then
-    key_record (row_of (rows table.Win32) s.code 0) s (down_of s.event)
+    key_record (row_of (rows Table.Win32) s.code 0) s (down_of s.event)
     else None
 
 abbrev pub record_list : Record → List CsiParam

@@ -1,6 +1,6 @@
 //! A key that was pressed, whichever encoding it came in.
 ghost use Rattle.std.specs.Prelude.{◌≡◌};
-ghost use Rattle.csicodec_keys.specs.Keys.{is_press, is_release};
+ghost use Rattle.csicodec_keys.specs.Keys.{is_press, is_release, stroke_of};
 
 use crate::code::KeyCode;
 use crate::modifiers::KeyModifiers;
@@ -65,4 +65,18 @@ pub struct Key {
     pub event: KeyEvent,
     /// The characters that it types; none where it types nothing, or the encoding doesn't say.
     pub text: Typed,
+}
+
+impl Key {
+    /// The key, by the bits of the modifiers.
+    pub(crate) fn of(code: KeyCode, held: u8, event: KeyEvent, text: Typed) -> Key
+        ensures { stroke_of result ≡ record { code = code; held = held; event = event; text = text.items } }
+    {
+        Key {
+            code,
+            modifiers: KeyModifiers { bits: held },
+            event,
+            text,
+        }
+    }
 }

@@ -6,7 +6,6 @@ ghost use Rattle.csicodec_keys.specs.{Characters.is_typed, Fields.is_empty, Fiel
 use crate::code::KeyCode;
 use crate::fields::{KeyReport, read_list};
 use crate::key::{Encoding, Key, KeyEvent, Typed};
-use crate::modifiers::KeyModifiers;
 use crate::rows::Table;
 use crate::tables::{Row, row_at};
 use crate::win32::read_win32;
@@ -24,12 +23,7 @@ pub(crate) fn is_typed(character: char) -> bool
 fn pressed(code: KeyCode, held: u8) -> Key
     ensures { stroke_of result ≡ pressed code held }
 {
-    Key {
-        code,
-        modifiers: KeyModifiers { bits: held },
-        event: KeyEvent::Press,
-        text: Typed::new(),
-    }
+    Key::of(code, held, KeyEvent::Press, Typed::new())
 }
 
 /// A press of a key that types this character.
@@ -38,12 +32,7 @@ fn typing(character: char) -> Key
 {
     let mut text = Typed::new();
     text.push(character);
-    Key {
-        code: KeyCode::Char(character),
-        modifiers: KeyModifiers { bits: 0 },
-        event: KeyEvent::Press,
-        text,
-    }
+    Key::of(KeyCode::Char(character), 0, KeyEvent::Press, text)
 }
 
 fn with_alt(held: u8) -> u8
@@ -83,11 +72,10 @@ fn read_alt(character: char) -> Option<Key>
 fn read_ss3(character: char) -> Option<Key>
     ensures { option_map stroke_of result ≡ read_ss3 character }
 {
-    alone(
-        row_at(Table::Ss3.rows(), 0, character)
-            .or(row_at(Table::Ss3Cursor.rows(), 0, character))
-            .or(row_at(Table::RxvtSs3.rows(), 0, character)),
-    )
+    let row = row_at(Table::Ss3.rows(), 0, character)
+        .or(row_at(Table::Ss3Cursor.rows(), 0, character))
+        .or(row_at(Table::RxvtSs3.rows(), 0, character));
+    alone(row)
 }
 
 /// The row of a number and a final character.
@@ -115,12 +103,7 @@ fn row_key(fields: KeyReport, row: Row) -> Option<Key>
     ensures { option_map stroke_of result ≡ row_key (says_of fields) row }
 {
     let held = held_by(row.held, fields.held)?;
-    Some(Key {
-        code: row.code,
-        modifiers: KeyModifiers { bits: held },
-        event: fields.event,
-        text: fields.text,
-    })
+    Some(Key::of(row.code, held, fields.event, fields.text))
 }
 
 /// A number that no row has is a character, before `u`.
@@ -131,12 +114,8 @@ fn char_key(fields: KeyReport, control: char) -> Option<Key>
     if control != 'u' || !is_typed(character) {
         return None;
     }
-    Some(Key {
-        code: KeyCode::Char(character),
-        modifiers: KeyModifiers { bits: fields.held },
-        event: fields.event,
-        text: fields.text,
-    })
+    let code = KeyCode::Char(character);
+    Some(Key::of(code, fields.held, fields.event, fields.text))
 }
 
 /// The key of a list and its final character.
@@ -201,12 +180,8 @@ fn other_key(fields: &KeyReport, control: char) -> Option<Key>
     if control != '~' || fields.number != 27 {
         return None;
     }
-    Some(Key {
-        code: numbered(*character)?,
-        modifiers: KeyModifiers { bits: fields.held },
-        event: fields.event,
-        text: Typed::new(),
-    })
+    let code = numbered(*character)?;
+    Some(Key::of(code, fields.held, fields.event, Typed::new()))
 }
 
 /// The key of a list that begins with a number and modifiers.
@@ -264,16 +239,12 @@ pub fn read(event: InputEvent, params: &[CsiParam]) -> Option<(Encoding, Key)>
         },
         InputEvent::Ss3(byte) => by(ss3_by(char::from(byte)), read_ss3(char::from(byte))),
         InputEvent::Linux(byte) => {
-            by(
-                Encoding::Linux,
-                alone(row_at(Table::Linux.rows(), 0, char::from(byte))),
-            )
+            let row = row_at(Table::Linux.rows(), 0, char::from(byte));
+            by(Encoding::Linux, alone(row))
         }
         InputEvent::Rxvt(number) => {
-            by(
-                Encoding::Rxvt,
-                alone(row_at(Table::Rxvt.rows(), u32::from(number), '$')),
-            )
+            let row = row_at(Table::Rxvt.rows(), u32::from(number), '$');
+            by(Encoding::Rxvt, alone(row))
         }
         InputEvent::Mouse => None,
         InputEvent::Alt(byte) => by(Encoding::Legacy, read_alt(char::from(byte))),

@@ -1,12 +1,11 @@
 //! Win32-input-mode: the record of a key, read and written.
 ghost use Rattle.std.specs.{Prelude.◌≡◌, Prelude.◌≤◌, Option.option_map};
-ghost use Rattle.csicodec_keys.specs.Win32.{alone_record, behind_number, bit, char_record, control_unit, ctrl_unit, down_of, held_in, key_record, number_ahead, read_record, read_win32, record_of, state_of, typed_unit, unit_of, unit_text, went, win32_code, win32_key, win32_row};
+ghost use Rattle.csicodec_keys.specs.Win32.{behind_number, bit, char_record, control_unit, ctrl_unit, down_of, held_in, key_record, number_ahead, read_record, read_win32, record_of, state_of, typed_unit, unit_of, unit_text, went, win32_code, win32_key, win32_row};
 ghost use Rattle.csicodec_keys.specs.Keys.{stroke_of};
 
 use crate::code::KeyCode;
 use crate::fields::number_of;
 use crate::key::{Key, KeyEvent, Typed};
-use crate::modifiers::KeyModifiers;
 use crate::reading::is_typed;
 use crate::rows::Table;
 use crate::tables::{Row, row_at, row_of};
@@ -138,14 +137,8 @@ fn win32_key(told: Record) -> Option<Key>
 {
     let character = typed_unit(told.uc);
     let code = win32_code(win32_row(told.vk, told.cs / 256 % 2 == 1), character)?;
-    Some(Key {
-        code,
-        modifiers: KeyModifiers {
-            bits: held_in(told.cs),
-        },
-        event: went(told.kd),
-        text: unit_text(character),
-    })
+    let (held, event) = (held_in(told.cs), went(told.kd));
+    Some(Key::of(code, held, event, unit_text(character)))
 }
 
 /// The key of a control sequence of Win32-input-mode.
@@ -210,24 +203,18 @@ fn unit_of(code: KeyCode, held: u8, text: &[char]) -> Option<u32>
 }
 
 /// A character that has no row is virtual key 0, where the key types it and nothing else.
-fn alone_record(character: char, kd: u32, cs: u32, text: &[char]) -> Option<Record>
-    ensures { result ≡ alone_record character kd cs text.now }
-{
-    match text {
-        [only] => {
-            let uc = character as u32;
-            let is_one = character == *only && is_typed(character) && uc < 0x1_0000;
-            is_one.then_some(Record { vk: 0, uc, kd, cs })
-        }
-        _ => None,
-    }
-}
-
 fn char_record(code: KeyCode, kd: u32, cs: u32, text: &[char]) -> Option<Record>
     ensures { result ≡ char_record code kd cs text.now }
 {
     match code {
-        KeyCode::Char(character) => alone_record(character, kd, cs, text),
+        KeyCode::Char(character) => match text {
+            [only] => {
+                let uc = character as u32;
+                let is_one = character == *only && is_typed(character) && uc < 0x1_0000;
+                is_one.then_some(Record { vk: 0, uc, kd, cs })
+            }
+            _ => None,
+        },
         _ => None,
     }
 }
@@ -241,12 +228,8 @@ fn key_record(row: Option<Row>, key: &Key, kd: u32) -> Option<Record>
         Some(row) => {
             let uc = unit_of(key.code, held, text)?;
             let cs = state_of(held) + 256 * (row.number / 256 % 2);
-            Some(Record {
-                vk: row.number % 256,
-                uc,
-                kd,
-                cs,
-            })
+            let vk = row.number % 256;
+            Some(Record { vk, uc, kd, cs })
         }
         None => char_record(key.code, kd, state_of(held), text),
     }
@@ -263,11 +246,8 @@ pub(crate) fn record_of(key: &Key) -> Option<Record>
     ensures { result ≡ record_of (stroke_of key.now) }
 {
     if key.modifiers.bits / 8 % 8 == 0 {
-        key_record(
-            row_of(Table::Win32.rows(), key.code, 0),
-            key,
-            down_of(key.event),
-        )
+        let row = row_of(Table::Win32.rows(), key.code, 0);
+        key_record(row, key, down_of(key.event))
     } else {
         None
     }

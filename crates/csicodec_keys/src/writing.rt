@@ -92,10 +92,8 @@ fn text_of(character: char, held: u8, text: &[char]) -> Option<char>
 fn text_form(character: Option<char>) -> Option<KeySpelling>
     ensures { result ≡ text_form character }
 {
-    match character {
-        None => None,
-        Some(character) => is_typed(character).then_some(KeySpelling::Text(character)),
-    }
+    let character = character?;
+    is_typed(character).then_some(KeySpelling::Text(character))
 }
 
 /// The form of a key of a character, and of Escape.

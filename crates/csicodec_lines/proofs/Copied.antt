@@ -1,15 +1,15 @@
 -- Text that any line leaves as it is.
 use Rattle.std.proofs.Common.{◌≡◌, ◌<◌, ◌≤◌, ℕ, Bool, true, false, List, [], ◌∷◌, ◌++◌, length, length-append, encode_utf8_all, refl, sym, ap, subst, ◌∙◌, append-nil, arith}
-use Rattle.std.proofs.{lemmas.Bool.and_from, lemmas.Bool.and_parts, lemmas.Bool.Decides.nat_tests, lemmas.List.nil_from_length}
-use Rattle.std.specs.{Char.encode_utf8, List.AllByRecursion, Str.all_scalars}
+use Rattle.std.proofs.{lemmas.Bool.and_from, lemmas.Bool.and_parts, lemmas.List.nil_from_length}
+use Rattle.std.specs.{Char.encode_utf8, Str.all_scalars}
 use lib.Utf8.{scalar}
-use Rattle.csicodec_transform.specs.Transform.{GoesOn}
 use Rattle.csicodec_transform.proofs.Sent.{goes_on}
-use Rattle.csicodec_clean.specs.{Cleaned.EndOf, Cleaned.RuleOf, Cleaned.longest, Shown.IsPlain, Shown.IsShown, Shown.run_as, Shown.written, Stream.Between}
-use Rattle.csicodec_clean.specs.{Stream.Takes, Stream.start_of}
-use Rattle.csicodec_clean.proofs.{Chunks.takes_none, Glances.over_told, Shows.shown_none, Shows.written_on, Told.alone, Told.plain_told, Twice.all_kept}
-use Rattle.csicodec_lines.specs.{declared.lines.Lines.Lines, Lines.ends_line, Private.Cut.IsWithin, Stream.Ending, Stream.Passes}
-use Rattle.csicodec_lines.proofs.Taken.{goes_over, goes_within}
+use Rattle.csicodec_clean.specs.{Shown.IsShown, Shown.written, Stream.Between, Stream.Takes}
+use Rattle.csicodec_clean.proofs.{Chunks.takes_none, Chunks.over_told, Plain.shown_none, Plain.written_none, Plain.written_on, Told.alone, Told.plain_told}
+use Rattle.csicodec_clean.proofs.{Told.all_kept}
+use Rattle.csicodec_lines.specs.{Lines.ends_line, Private.Steps.IsWithin, Stream.Passes}
+use Rattle.csicodec_lines.proofs.Common.{nat_tests, AllByRecursion, GoesOn, EndOf, RuleOf, longest, IsPlain, run_as, start_of, Lines, Ending}
+use Rattle.csicodec_lines.proofs.Taken.{goes_over, goes_same, goes_within}
 
 -- what got no longer is as it was
 pub unchanged : (before more after : List ℕ) → after ≡ before ++ more → length after ≤ length before → after ≡ before
@@ -58,30 +58,28 @@ module _ {S P : Type 0} (Begins : P → S) (Gives : RuleOf S) (Closes : EndOf S)
       let none : close ≡ [] = nil_from_length close (omega (arith, ap length out, length-append before more, length-append (run_as Gives.writing it.line.held) close, few)) in
       record { line = line; returned = returned; closes = subst (λ (l : Between S). Closes l.rule []) line (rw none at closes) }
 
-  one_shown : (old new : Lines S P) (c : ℕ) (ends : Bool) → ends_line c ≡ ends → IsShown c → scalar c ≡ true → IsBlank old → IsBlank new
-      → new.by ≡ old.by → GoesOn Step old (encode_utf8 c) (Text (c ∷ [])) new
-  one_shown old new c true ends shown is old_blank new_blank by =
-      let line : new.line ≡ start_of (Begins old.by) = new_blank.line ∙ ap (λ (p : P). start_of (Begins p)) by in
-      let none : Ending Gives Closes old [] = rw old_blank.line ([], old_blank.closes, sym (append-nil _ ∙ shown_none Gives.writing)) in
+  one_shown : (it : Lines S P) (c : ℕ) (ends : Bool) → ends_line c ≡ ends → IsShown c → scalar c ≡ true → IsBlank it
+      → GoesOn Step it (encode_utf8 c) (Text (c ∷ [])) it
+  one_shown it c true ends shown is blank =
+      let none : Ending Gives Closes it [] = rw blank.line ([], blank.closes, sym (append-nil _ ∙ shown_none Gives.writing)) in
       let text : Text (10 ∷ []) ≡ 10 ∷ [] = stays ∙ ap (λ (t : List ℕ). t ++ []) (alone 10 (omega arith)) in
-      rw (newline c shown ends, alone 10 (omega arith), text) (goes_over Begins Gives Closes old new 10 [] (rw old_blank.returned refl) refl none by new_blank.returned line)
-  one_shown old new c false ends shown is old_blank new_blank by =
-      let line : new.line ≡ start_of (Begins old.by) = new_blank.line ∙ ap (λ (p : P). start_of (Begins p)) by in
-      let takes : Takes Gives old.line (encode_utf8 c) (Text (c ∷ [])) new.line = rw (old_blank.line, line) (takes_shown (Begins old.by) c shown is) in
-      goes_within Begins Gives Closes old new (encode_utf8 c) (Text (c ∷ [])) (some_encoded c) (within c ends) by new_blank.returned takes
+      rw (newline c shown ends, alone 10 (omega arith), text)
+      (goes_over Begins Gives Closes it it 10 [] (rw blank.returned refl) refl none refl blank.returned blank.line)
+  one_shown it c false ends shown is blank =
+      let takes : Takes Gives it.line (encode_utf8 c) (Text (c ∷ [])) it.line = rw blank.line (takes_shown (Begins it.by) c shown is) in
+      goes_within Begins Gives Closes it it (encode_utf8 c) (Text (c ∷ [])) (some_encoded c) (within c ends) refl blank.returned takes
 
-  all_shown : (old new : Lines S P) (c : ℕ) (cs : List ℕ) → all_scalars (c ∷ cs) ≡ true → AllByRecursion IsShown (c ∷ cs) → IsBlank old → IsBlank new → new.by ≡ old.by
-      → GoesOn Step old (encode_utf8_all (c ∷ cs)) (Text (c ∷ cs)) new
-  all_shown old new c [] are shown old_blank new_blank by =
-      let both = and_parts (scalar c) true are in
-      subst (λ (t : List ℕ). GoesOn Step old t (Text (c ∷ [])) new) (sym (append-nil (encode_utf8 c))) (one_shown old new c (ends_line c) refl shown.0 both.0 old_blank new_blank by)
-  all_shown old new c (d ∷ cs) are shown old_blank new_blank by =
-      let both = and_parts (scalar c) (all_scalars (d ∷ cs)) are in
-      let later = d ∷ cs in
-      subst (λ (t : List ℕ). GoesOn Step old (encode_utf8_all (c ∷ later)) t new) (sym (written_on Gives.writing (c ∷ []) later))
-      (goes_on Step old old new (encode_utf8 c) (encode_utf8_all later) (Text (c ∷ [])) (Text later)
-      (one_shown old old c (ends_line c) refl shown.0 both.0 old_blank old_blank refl) (all_shown old new d cs both.1 shown.1 old_blank new_blank by))
+  all_shown : (old new : Lines S P) (cs : List ℕ) → all_scalars cs ≡ true → AllByRecursion IsShown cs → IsBlank old → IsBlank new → new.by ≡ old.by
+      → GoesOn Step old (encode_utf8_all cs) (Text cs) new
+  all_shown old new [] are shown old_blank new_blank by =
+      let line : new.line ≡ old.line = new_blank.line ∙ ap (λ (p : P). start_of (Begins p)) by ∙ sym old_blank.line in
+      subst (λ (t : List ℕ). GoesOn Step old [] t new) (sym (written_none Gives.writing))
+      (goes_same Begins Gives Closes old new [] (λ own more. rw (old_blank.returned, new_blank.returned) refl) by line)
+  all_shown old new (c ∷ cs) are shown old_blank new_blank by =
+      let both = and_parts (scalar c) (all_scalars cs) are in
+      subst (λ (t : List ℕ). GoesOn Step old (encode_utf8_all (c ∷ cs)) t new) (sym (written_on Gives.writing (c ∷ []) cs))
+      (goes_on Step old old new (encode_utf8 c) (encode_utf8_all cs) (Text (c ∷ [])) (Text cs)
+      (one_shown old c (ends_line c) refl shown.0 both.0 old_blank) (all_shown old new cs both.1 shown.1 old_blank new_blank by))
 
-  pub goes_shown : (old new : Lines S P) (bytes : List ℕ) (p : IsPlain bytes) → 0 < length bytes → IsBlank old → IsBlank new → new.by ≡ old.by → GoesOn Step old bytes (Text p.0) new
-  goes_shown old new bytes ([], are, shown, e) some old_blank new_blank by = absurd (omega (arith, some, ap length e))
-  goes_shown old new bytes (c ∷ cs, are, shown, e) some old_blank new_blank by = rw e (all_shown old new c cs are shown old_blank new_blank by)
+  pub goes_shown : (old new : Lines S P) (bytes : List ℕ) (p : IsPlain bytes) → IsBlank old → IsBlank new → new.by ≡ old.by → GoesOn Step old bytes (Text p.0) new
+  goes_shown old new bytes (cs, are, shown, e) old_blank new_blank by = rw e (all_shown old new cs are shown old_blank new_blank by)

@@ -1,14 +1,12 @@
 -- What went out is a front of the text of the whole log.
-use Rattle.std.proofs.Common.{◌≡◌, ℕ, Bool, false, Option, List, [], ◌∷◌, ◌++◌, refl, sym, ap, subst, ◌∙◌, append_assoc}
-use Rattle.std.specs.Prelude.{Result}
-use Rattle.csicodec_clean.specs.{Streams.StreamsOne, Cleaned.EndOf, Cleaned.Ends, Cleaned.RuleOf, Cleaned.longest, Stream.Between, Stream.IsFrontOf}
-use Rattle.csicodec_clean.specs.{Stream.Takes, Stream.start_of, Shown.run_as}
+use Rattle.std.proofs.Common.{◌≡◌, ℕ, Bool, false, Option, List, [], ◌∷◌, ◌++◌, refl, sym, ap, subst, ◌∙◌, append_assoc, Result}
+use Rattle.csicodec_clean.specs.{Streams.StreamsOne, Cleaned.Ends, Stream.Between, Stream.IsFrontOf, Stream.Takes}
 use Rattle.csicodec_clean.proofs.Streams.{Ran, Went, one_ran}
-use Rattle.csicodec_transform.specs.Transform.{Sends, Transforms}
-use Rattle.csicodec_lines.specs.{declared.lines.Lines.Lines, Lines.AreOf, Lines.ByLines, Lines.joined, Lines.lines_from, Lines.lines_of, Stream.Ending}
-use Rattle.csicodec_lines.specs.{Stream.Passes, Stream.ended}
-use Rattle.csicodec_lines.proofs.{Ends.goes_on, Texts.by_lines_as, Texts.joined_front, Texts.of_as, Texts.one_text, Texts.parted, Texts.same_texts}
-use Rattle.csicodec_lines.proofs.{Taken.by_lines, Taken.transformed}
+use Rattle.csicodec_transform.specs.Transform.{Sends}
+use Rattle.csicodec_lines.specs.{Lines.AreOf, Lines.joined, Lines.lines_from, Lines.lines_of, Stream.Passes}
+use Rattle.csicodec_lines.proofs.Common.{EndOf, RuleOf, longest, start_of, run_as, Transforms, Lines, ByLines, Ending, ended}
+use Rattle.csicodec_lines.proofs.{Taken.line_on, Taken.by_lines, Taken.transformed, Texts.by_lines_as, Texts.joined_front, Texts.of_as, Texts.one_text}
+use Rattle.csicodec_lines.proofs.{Texts.parted, Texts.same_texts}
 
 -- where the rule's text of a line is one text, and what comes of a line is a front of that, however it goes on
 module _ {S P : Type 0} (Begins : P → S) (Gives : RuleOf S) (Closes : EndOf S) (first : Lines S P) (fresh : first.returned ≡ false) (Out : List ℕ → List ℕ → Type 0)
@@ -21,7 +19,7 @@ module _ {S P : Type 0} (Begins : P → S) (Gives : RuleOf S) (Closes : EndOf S)
 
     lines_front : (read more text : List ℕ) (last : Lines S P) → Step first read text last → IsFrontOf (ByLines Out) (read ++ more) text
     lines_front read more text last p whole k =
-        let next = goes_on last.returned p.line more in
+        let next = line_on last.returned p.line more in
         let lines : lines_of (read ++ more) ≡ p.over ++ (p.line ++ next.more) ∷ next.others =
         ap (λ (r : Bool). lines_from r [] (read ++ more)) (sym fresh) ∙ p.lines more ∙ ap (λ (ls : List (List ℕ)). p.over ++ ls) next.all in
         let each = subst (λ (ls : List (List ℕ)). AreOf Out ls k.texts) lines k.each in

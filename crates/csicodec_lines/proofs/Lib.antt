@@ -1,9 +1,6 @@
-pub mod Ends
+pub mod Common
 pub mod Texts
 pub mod Taken
 pub mod Fronts
 pub mod Copied
-pub mod Parts
-pub mod Going
-pub mod Shorter
 pub mod Places

@@ -1,12 +1,67 @@
--- A log as it comes.
-use Rattle.std.proofs.Common.{◌≡◌, ◌<◌, ℕ, true, false, List, [], ◌∷◌, ◌++◌, length, ◌==◌, refl, sym, ◌∙◌, append_assoc, append-nil}
-use Rattle.std.specs.List.{AllByRecursion, concat}
-use Rattle.csicodec_transform.specs.Transform.{GoesOn, Transforms}
-use Rattle.csicodec_clean.specs.{Cleaned.EndOf, Cleaned.Ends, Cleaned.RuleOf, Cleaned.longest, Stream.AreTaken, Stream.Takes, Stream.start_of}
-use Rattle.csicodec_clean.proofs.Chunks.{ends as at_end, taken_on, takes_none, takes_on}
-use Rattle.csicodec_lines.specs.{declared.lines.Lines.Lines, Lines.ByLines, Lines.ends_line, Lines.joins, Lines.lines_from, Lines.lines_of}
-use Rattle.csicodec_lines.specs.{Private.Cut.IsWithin, Stream.Ending, Stream.Passes, Stream.begun, Stream.ended}
-use Rattle.csicodec_lines.proofs.{Ends.all_within_on, Ends.one_end, Ends.one_joins, Texts.ended_on, Texts.joined_on, Texts.of_on}
+-- Where lines end, and a log as it comes.
+use Rattle.std.proofs.Common.{◌≡◌, ◌+◌, ◌<◌, ℕ, Bool, true, false, not, cond, List, [], ◌∷◌, ◌++◌, length, take, drop, ◌==◌, inl, inr, refl, sym, ap, subst, ◌∙◌, append_assoc, append-nil, take-append-drop, arith}
+use Rattle.std.proofs.lemmas.Bool.{cases_Bool, cond_both}
+use Rattle.std.specs.List.{prefix_len, concat}
+use Rattle.csicodec_clean.specs.{Bytes.behind, Cleaned.Ends, Stream.AreTaken, Stream.Takes}
+use Rattle.csicodec_clean.proofs.{Told.behind_one, Chunks.ends as at_end, Chunks.taken_on, Chunks.takes_none, Chunks.takes_on}
+use Rattle.csicodec_lines.specs.{Lines.ends_line, Lines.joins, Lines.lines_from, Lines.lines_of, Private.Steps.IsWithin, Stream.Passes}
+use Rattle.csicodec_lines.proofs.Common.{nat_tests, AllByRecursion, EndOf, RuleOf, longest, start_of, ByLines, is_within, Lines, Ending, begun, ended, GoesOn, Transforms}
+use Rattle.csicodec_lines.proofs.Texts.{ended_on, joined_on, of_on}
+
+-- ---- where a line is cut
+
+-- the end of a line stands in front, or nothing
+abbrev pub BeginsWithEnd : List ℕ → Type 0
+BeginsWithEnd [] = Unit {0}
+BeginsWithEnd (b ∷ bytes) = ends_line b ≡ true
+
+pub begins_with_end : (bs : List ℕ) → BeginsWithEnd (behind is_within bs)
+begins_with_end [] = tt
+begins_with_end (b ∷ bs) = elim (cases_Bool (ends_line b)) [
+  | inl is ↦ subst BeginsWithEnd (ap (λ (ends : Bool). drop (cond (not ends) (1 + prefix_len is_within bs) 0) (b ∷ bs)) (sym is)) is
+  | inr other ↦ subst BeginsWithEnd (sym (behind_one is_within b bs (ap not other))) (begins_with_end bs)
+]
+
+pub whole : (bs front rest : List ℕ) → front ≡ take (prefix_len is_within bs) bs → rest ≡ behind is_within bs → bs ≡ front ++ rest
+whole bs front rest e f = rw (e, f) (sym (take-append-drop (prefix_len is_within bs) bs))
+
+-- ---- bytes more
+
+one_within : (returned : Bool) (b : ℕ) (line more : List ℕ) → IsWithin b → lines_from returned line (b ∷ more) ≡ lines_from false (line ++ b ∷ []) more
+one_within returned b line more e = grind (arith, nat_tests)
+
+-- bytes that end no line go on with it
+pub all_within_on : (returned : Bool) (bs line more : List ℕ) → 0 < length bs → AllByRecursion IsWithin bs → lines_from returned line (bs ++ more) ≡ lines_from false (line ++ bs) more
+all_within_on returned [] line more some h = absurd (omega (arith, some))
+all_within_on returned (b ∷ []) line more some h = one_within returned b line more h.0
+all_within_on returned (b ∷ c ∷ bs) line more some h =
+    one_within returned b line (c ∷ (bs ++ more)) h.0 ∙ rw (append_assoc line (b ∷ []) (c ∷ bs)) at (all_within_on false (c ∷ bs) (line ++ b ∷ []) more (omega arith) h.1)
+
+-- one that ends it
+pub one_end : (returned : Bool) (b : ℕ) (line more : List ℕ) → joins returned b ≡ false → ends_line b ≡ true → lines_from returned line (b ∷ more) ≡ line ∷ lines_from (b == 13) [] more
+one_end returned b line more j e = grind (arith, nat_tests)
+
+-- one that joins the end before it
+pub one_joins : (returned : Bool) (b : ℕ) (line more : List ℕ) → joins returned b ≡ true → lines_from returned line (b ∷ more) ≡ lines_from false line more
+one_joins returned b line more j = grind (arith, nat_tests)
+
+-- whatever comes, the line goes on, and others may follow
+pub record Behind (line : List ℕ) (lines : List (List ℕ)) : Type 0 where
+  pub more : List ℕ
+  pub others : List (List ℕ)
+  pub all : lines ≡ (line ++ more) ∷ others
+
+pub line_on : (returned : Bool) (line bs : List ℕ) → Behind line (lines_from returned line bs)
+line_on returned line [] = record { more = []; others = []; all = rw append-nil refl }
+line_on returned line (b ∷ bs) =
+    let within = line_on false (line ++ b ∷ []) bs in
+    let ended = line ∷ lines_from (b == 13) [] bs in
+    let on = lines_from false (line ++ b ∷ []) bs in
+    cond_both (joins returned b) (lines_from false line bs) (cond (ends_line b) ended on) (Behind line) (λ _. line_on false line bs)
+    (λ _. cond_both (ends_line b) ended on (Behind line) (λ _. record { more = []; others = lines_from (b == 13) [] bs; all = rw append-nil refl })
+    (λ _. record { more = b ∷ within.more; others = within.others; all = rw (within.all, append_assoc) refl }))
+
+-- ---- A log as it comes.
 
 module _ {S P : Type 0} (Begins : P → S) (Gives : RuleOf S) (Closes : EndOf S) where
   abbrev Step : Lines S P → List ℕ → List ℕ → Lines S P → Type 0

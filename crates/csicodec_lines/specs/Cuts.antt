@@ -1,17 +1,15 @@
 -- Where a stream may be cut, so that each piece is as good as a stream of its own.
 use Rattle.std.specs.Prelude.{ℕ, suc, ◌≡◌, ◌==◌, ◌+◌, Bool, true, false, ◌&&◌, ◌||◌, nat_le, nat_lt, if◌then◌else◌, List, [], ◌∷◌, ◌++◌, map, take}
 use Rattle.std.specs.{Fmt.decimal, List.flat_map}
-use Rattle.csicodec_spans.specs.Parts.{Part, part, AreFirstParts, IsWhole}
+use Rattle.csicodec_spans.specs.{Parts.Part, Parts.part, Parts.AreFirstParts, Parts.IsWhole, declared.table.Kind.Kind, declared.table.Mode.Mode}
 use Rattle.csicodec_clean.specs.{Check.counted, Cleaned.is_text, Cleaned.longest, Titles.title_open, Titles.with_titles}
-use Rattle.csicodec_spans.specs.declared.table.Kind.TheVariants as kind
-use Rattle.csicodec_spans.specs.declared.table.Mode.TheVariants as mode
 
 -- So far from the start the stream may be cut: the bytes up to there are whole parts, of which the last is a byte of text, in no title,
 -- and of ASCII, behind which no character goes on.
 pub record IsPlace (bytes : List ℕ) (at : ℕ) : Type 0 where
   pub before : List Part
   pub byte : ℕ
-  pub parts : AreFirstParts longest mode.Text (take at bytes) (before ++ part kind.Text (byte ∷ []) ∷ []) [] mode.Text
+  pub parts : AreFirstParts longest Mode.Text (take at bytes) (before ++ part Kind.Text (byte ∷ []) ∷ []) [] Mode.Text
   pub untitled : title_open false before ≡ false
   pub ascii : nat_lt byte 128 ≡ true
 
@@ -61,7 +59,7 @@ cuts s (b ∷ bytes) = (if is_cut s b then suc s.at ∷ [] else []) ++ cuts (beh
 -- the places of a stream, in the text that is in no title
 pub record AreCuts (every : ℕ) (bytes places : List ℕ) : Type 0 where
   pub parts : List Part
-  pub whole : IsWhole longest mode.Text bytes parts
+  pub whole : IsWhole longest Mode.Text bytes parts
   pub all : places ≡ cuts (first every) (each_byte false parts)
 
 -- what is told of them: a line for each, with its decimal digits

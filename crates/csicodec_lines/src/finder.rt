@@ -3,7 +3,7 @@ ghost use Rattle.std.specs.Prelude.{IfOk};
 ghost use Rattle.csicodec_spans.specs.Parts.{IsUnsure};
 ghost use Rattle.csicodec_filter.specs.Written.{Appends, open_at};
 ghost use Rattle.csicodec_clean.specs.Cleaned.{longest};
-ghost use Rattle.csicodec_lines.specs.Private.Finder.{Finds, IsBegun};
+ghost use Rattle.csicodec_lines.specs.Private.Steps.{Finds, IsBegun};
 
 use crate::search::CutSearch;
 use csicodec_clean::{read_as, title_behind};
@@ -59,7 +59,7 @@ impl Finder {
 impl Transform for Finder {
     ghost use Rattle.std.specs.Prelude.{⊤, ◌≡◌, []};
     ghost use Rattle.csicodec_clean.specs.Cleaned.{longest};
-    ghost use Rattle.csicodec_lines.specs.Private.Finder.{Passes};
+    ghost use Rattle.csicodec_lines.specs.Private.Steps.{Passes};
 
     ghost stands = { λ now. now.waiting.limit ≡ longest };
 

@@ -1,7 +1,8 @@
 //! A stream of lines, each of which is cleaned by itself, as it comes.
 ghost use Rattle.std.specs.{Prelude.◌≡◌, Prelude.◌<◌, Prelude.◌++◌, Prelude.◌∷◌, Prelude.[], Prelude.ℕ, Prelude.List, Prelude.OnOk, Prelude.IfOk, Prelude.true};
 ghost use Rattle.std.specs.{Prelude.length, Prelude.⊤, List.AllByRecursion};
-ghost use Rattle.csicodec_lines.specs.{Lines.ends_line, Lines.joins, Private.Cut.Adds, Private.Cut.AddsFront, Private.Cut.IsWithin, Stream.Passes, Stream.begun};
+ghost use Rattle.csicodec_lines.specs.{Lines.ends_line, Lines.joins, Private.Steps.IsWithin, Stream.Passes, Stream.begun};
+ghost use Rattle.csicodec_transform.specs.Transform.{Adds, AddsFront};
 ghost use Rattle.csicodec_clean.specs.{Steps.bare, Stream.start_of, Styled.first_kept};
 
 use csicodec_clean::{
@@ -23,7 +24,7 @@ fn joins(returned: bool, byte: u8) -> bool
 struct Within;
 
 impl ByteClass for Within {
-    ghost use Rattle.csicodec_lines.specs.Private.Cut.{is_within};
+    ghost use Rattle.csicodec_lines.specs.Private.Steps.{is_within};
 
     ghost class = { is_within };
 

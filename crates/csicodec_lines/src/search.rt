@@ -1,8 +1,8 @@
 //! A search for places within the text of a stream.
 ghost use Rattle.std.specs.Prelude.{◌≡◌, ◌++◌, ℕ, List, OnOk, true};
 ghost use Rattle.csicodec_clean.specs.Cleaned.{is_text};
-ghost use Rattle.csicodec_lines.specs.{Cuts.Found, Cuts.behind_byte, Cuts.each_of, Cuts.first, Cuts.is_cut, Cuts.is_shown, Cuts.line_of, Private.Search.FindsIn};
-ghost use Rattle.csicodec_lines.specs.{Private.Search.IsAt, Private.Search.passed};
+ghost use Rattle.csicodec_lines.specs.{Cuts.Found, Cuts.behind_byte, Cuts.each_of, Cuts.first, Cuts.is_cut, Cuts.is_shown, Cuts.line_of, Private.Steps.FindsIn};
+ghost use Rattle.csicodec_lines.specs.{Private.Steps.IsAt, Private.Steps.passed};
 
 use csicodec_spans::Kind;
 use itoa::write_digits;

@@ -6,14 +6,10 @@ use mir.{Syntax.w64, Val.SFits, Val.of_z, Val.to_z}
 use Rattle.csicodec_names.specs.EnumNumbers.{cursor_style_number, cursor_styles, erase_in_display_number, erases_in_display, erase_in_line_number, erases_in_line, tabulation_clear_number, tabulation_clears, tabulation_control_number, tabulation_controls}
 use Rattle.csicodec_names.specs.{DeviceNumbers.device_attribute_codes, DeviceNumbers.device_attribute_number, ModeNumbers.dec_mode_number}
 use Rattle.csicodec_names.specs.{ModeNumbers.dec_codes, ModeNumbers.terminal_mode_number, ModeNumbers.terminal_codes, Numbered.is_number, Numbered.with_number}
-use Rattle.csicodec_names.specs.declared.device.DeviceAttributeCodes.TheVariants as device
-use Rattle.csicodec_names.specs.declared.enums.CursorStyle.TheVariants as style
-use Rattle.csicodec_names.specs.declared.enums.CursorTabulationControl.TheVariants as control
-use Rattle.csicodec_names.specs.declared.enums.EraseInDisplay.TheVariants as display
-use Rattle.csicodec_names.specs.declared.enums.EraseInLine.TheVariants as line
-use Rattle.csicodec_names.specs.declared.enums.TabulationClear.TheVariants as clear
-use Rattle.csicodec_names.specs.declared.modes.DecPrivateModeCode.TheVariants as dec
-use Rattle.csicodec_names.specs.declared.modes.TerminalModeCode.TheVariants as terminal
+use Rattle.csicodec_names.specs.{declared.device.DeviceAttributeCodes.DeviceAttributeCodes, declared.enums.CursorStyle.CursorStyle}
+use Rattle.csicodec_names.specs.{declared.enums.CursorTabulationControl.CursorTabulationControl, declared.enums.EraseInDisplay.EraseInDisplay}
+use Rattle.csicodec_names.specs.{declared.enums.EraseInLine.EraseInLine, declared.enums.TabulationClear.TabulationClear}
+use Rattle.csicodec_names.specs.{declared.modes.DecPrivateModeCode.DecPrivateModeCode, declared.modes.TerminalModeCode.TerminalModeCode}
 
 pub is_number-pos : (k : ℕ) (z : ℤ) → is_number k z ≡ true → z ≡ pos k
 is_number-pos k (pos n) e = ap pos (eqb-true n k e)
@@ -59,27 +55,27 @@ small number all is bound below x = among all (pos (number x)) x below (is.each 
     among (w ∷ ws) z y below e = grind (arith, among ws z y)
 
 pub styles : Coded cursor_style_number cursor_styles
-styles = record { each = λ c. elim c as (λ x. with_number cursor_style_number cursor_styles (pos (cursor_style_number x)) ≡ Some x) [ style.Default ↦ refl | _ ↦ refl ] }
+styles = record { each = λ c. elim c as (λ x. with_number cursor_style_number cursor_styles (pos (cursor_style_number x)) ≡ Some x) [ CursorStyle.Default ↦ refl | _ ↦ refl ] }
 
 pub controls : Coded tabulation_control_number tabulation_controls
 controls = record {
-  each = λ c. elim c as (λ x. with_number tabulation_control_number tabulation_controls (pos (tabulation_control_number x)) ≡ Some x) [ control.ClearAllLineTabStops ↦ refl | _ ↦ refl ];
+  each = λ c. elim c as (λ x. with_number tabulation_control_number tabulation_controls (pos (tabulation_control_number x)) ≡ Some x) [ CursorTabulationControl.ClearAllLineTabStops ↦ refl | _ ↦ refl ];
 }
 
 pub clears : Coded tabulation_clear_number tabulation_clears
-clears = record { each = λ c. elim c as (λ x. with_number tabulation_clear_number tabulation_clears (pos (tabulation_clear_number x)) ≡ Some x) [ clear.ClearAllTabStops ↦ refl | _ ↦ refl ] }
+clears = record { each = λ c. elim c as (λ x. with_number tabulation_clear_number tabulation_clears (pos (tabulation_clear_number x)) ≡ Some x) [ TabulationClear.ClearAllTabStops ↦ refl | _ ↦ refl ] }
 
 pub lines : Coded erase_in_line_number erases_in_line
-lines = record { each = λ c. elim c as (λ x. with_number erase_in_line_number erases_in_line (pos (erase_in_line_number x)) ≡ Some x) [ line.EraseLine ↦ refl | _ ↦ refl ] }
+lines = record { each = λ c. elim c as (λ x. with_number erase_in_line_number erases_in_line (pos (erase_in_line_number x)) ≡ Some x) [ EraseInLine.EraseLine ↦ refl | _ ↦ refl ] }
 
 pub displays : Coded erase_in_display_number erases_in_display
-displays = record { each = λ c. elim c as (λ x. with_number erase_in_display_number erases_in_display (pos (erase_in_display_number x)) ≡ Some x) [ display.EraseDisplay ↦ refl | _ ↦ refl ] }
+displays = record { each = λ c. elim c as (λ x. with_number erase_in_display_number erases_in_display (pos (erase_in_display_number x)) ≡ Some x) [ EraseInDisplay.EraseDisplay ↦ refl | _ ↦ refl ] }
 
 pub decs : Coded dec_mode_number dec_codes
-decs = record { each = λ c. elim c as (λ x. with_number dec_mode_number dec_codes (pos (dec_mode_number x)) ≡ Some x) [ dec.AutoWrap ↦ refl | _ ↦ refl ] }
+decs = record { each = λ c. elim c as (λ x. with_number dec_mode_number dec_codes (pos (dec_mode_number x)) ≡ Some x) [ DecPrivateModeCode.AutoWrap ↦ refl | _ ↦ refl ] }
 
 pub terminals : Coded terminal_mode_number terminal_codes
-terminals = record { each = λ c. elim c as (λ x. with_number terminal_mode_number terminal_codes (pos (terminal_mode_number x)) ≡ Some x) [ terminal.Insert ↦ refl | _ ↦ refl ] }
+terminals = record { each = λ c. elim c as (λ x. with_number terminal_mode_number terminal_codes (pos (terminal_mode_number x)) ≡ Some x) [ TerminalModeCode.Insert ↦ refl | _ ↦ refl ] }
 
 pub attributes : Coded device_attribute_number device_attribute_codes
-attributes = record { each = λ c. elim c as (λ x. with_number device_attribute_number device_attribute_codes (pos (device_attribute_number x)) ≡ Some x) [ device.Printer ↦ refl | _ ↦ refl ] }
+attributes = record { each = λ c. elim c as (λ x. with_number device_attribute_number device_attribute_codes (pos (device_attribute_number x)) ≡ Some x) [ DeviceAttributeCodes.Printer ↦ refl | _ ↦ refl ] }

@@ -1,11 +1,10 @@
 -- The table of places against the number of each code.
 use Rattle.std.proofs.Common.{◌≡◌, ◌==◌, ◌&&◌, ℕ, zero, suc, ◌+◌, Bool, true, List, [], ◌∷◌, Option, None, Some, get_or, refl, ◌∙◌, ap, arith}
 use Rattle.csicodec_names.specs.{declared.codes.SgrCode.SgrCode, declared.codes.TheConstants.CODES, Numbers.number_of}
-use Rattle.csicodec_names.specs.declared.codes.SgrCode.TheVariants as code
 
 -- each code lies at its number
 pub lies_at : (code : SgrCode) → get_or CODES (number_of code) None ≡ Some code
-lies_at code.Reset = refl
+lies_at SgrCode.Reset = refl
 lies_at _ = refl
 
 -- whether each code of a list lies at its number, counted from k on

@@ -52,24 +52,9 @@ impl AnsiColor {
     pub fn from_u8(place: u8) -> Option<Self>
         ensures { (color : AnsiColor) → (result ≡ Some color) ↔ (place ≡ place_of color) }
     {
-        match place {
-            0 => Some(AnsiColor::Black),
-            1 => Some(AnsiColor::Maroon),
-            2 => Some(AnsiColor::Green),
-            3 => Some(AnsiColor::Olive),
-            4 => Some(AnsiColor::Navy),
-            5 => Some(AnsiColor::Purple),
-            6 => Some(AnsiColor::Teal),
-            7 => Some(AnsiColor::Silver),
-            8 => Some(AnsiColor::Grey),
-            9 => Some(AnsiColor::Red),
-            10 => Some(AnsiColor::Lime),
-            11 => Some(AnsiColor::Yellow),
-            12 => Some(AnsiColor::Blue),
-            13 => Some(AnsiColor::Fuchsia),
-            14 => Some(AnsiColor::Aqua),
-            15 => Some(AnsiColor::White),
-            _ => None,
+        numbered! { place, AnsiColor:
+            0 Black, 1 Maroon, 2 Green, 3 Olive, 4 Navy, 5 Purple, 6 Teal, 7 Silver, 8 Grey, 9 Red, 10 Lime, 11 Yellow,
+            12 Blue, 13 Fuchsia, 14 Aqua, 15 White,
         }
     }
 }

@@ -1,6 +1,6 @@
 //! The numbers by which a terminal says what it can do.
 ghost use Rattle.std.specs.Prelude.{◌≡◌, ◌↔◌, Some, pos};
-ghost use Rattle.csicodec_names.specs.DeviceNumbers.{device_attribute_number};
+ghost use Rattle.csicodec_names.specs.{DeviceNumbers.device_attribute_codes, DeviceNumbers.device_attribute_number, Numbered.with_number};
 
 /// An extension that a terminal names behind its service class, in its answer to the primary device attributes (DA1,
 /// `CSI ? 62 ; .. c`; DEC VT220 and its successors).
@@ -46,23 +46,14 @@ impl DeviceAttributeCodes {
     /// DeviceAttributeCodes::from_i64(4)        // Some(SixelGraphics)
     /// ```
     pub fn from_i64(number: i64) -> Option<Self>
-        ensures { (code : DeviceAttributeCodes) → (result ≡ Some code)
+        ensures each { (code : DeviceAttributeCodes) → (result ≡ Some code)
             ↔ (number ≡ pos (device_attribute_number code)) }
+        ensures listed { result ≡ with_number device_attribute_number device_attribute_codes number }
     {
-        match number {
-            1 => Some(DeviceAttributeCodes::Columns132),
-            2 => Some(DeviceAttributeCodes::Printer),
-            3 => Some(DeviceAttributeCodes::RegisGraphics),
-            4 => Some(DeviceAttributeCodes::SixelGraphics),
-            6 => Some(DeviceAttributeCodes::SelectiveErase),
-            8 => Some(DeviceAttributeCodes::UserDefinedKeys),
-            9 => Some(DeviceAttributeCodes::NationalReplacementCharsets),
-            15 => Some(DeviceAttributeCodes::TechnicalCharacters),
-            18 => Some(DeviceAttributeCodes::UserWindows),
-            21 => Some(DeviceAttributeCodes::HorizontalScrolling),
-            22 => Some(DeviceAttributeCodes::AnsiColor),
-            29 => Some(DeviceAttributeCodes::AnsiTextLocator),
-            _ => None,
+        numbered! { number, DeviceAttributeCodes:
+            1 Columns132, 2 Printer, 3 RegisGraphics, 4 SixelGraphics, 6 SelectiveErase, 8 UserDefinedKeys,
+            9 NationalReplacementCharsets, 15 TechnicalCharacters, 18 UserWindows, 21 HorizontalScrolling, 22 AnsiColor,
+            29 AnsiTextLocator,
         }
     }
 }

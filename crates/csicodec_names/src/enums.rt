@@ -37,15 +37,8 @@ impl CursorStyle {
             ↔ (number ≡ pos (cursor_style_number style)) }
         ensures listed { result ≡ with_number cursor_style_number cursor_styles number }
     {
-        match number {
-            0 => Some(CursorStyle::Default),
-            1 => Some(CursorStyle::BlinkingBlock),
-            2 => Some(CursorStyle::SteadyBlock),
-            3 => Some(CursorStyle::BlinkingUnderline),
-            4 => Some(CursorStyle::SteadyUnderline),
-            5 => Some(CursorStyle::BlinkingBar),
-            6 => Some(CursorStyle::SteadyBar),
-            _ => None,
+        numbered! { number, CursorStyle:
+            0 Default, 1 BlinkingBlock, 2 SteadyBlock, 3 BlinkingUnderline, 4 SteadyUnderline, 5 BlinkingBar, 6 SteadyBar,
         }
     }
 }
@@ -93,15 +86,10 @@ impl CursorTabulationControl {
             ↔ (number ≡ pos (tabulation_control_number control)) }
         ensures listed { result ≡ with_number tabulation_control_number tabulation_controls number }
     {
-        match number {
-            0 => Some(CursorTabulationControl::SetCharacterTabStopAtActivePosition),
-            1 => Some(CursorTabulationControl::SetLineTabStopAtActiveLine),
-            2 => Some(CursorTabulationControl::ClearCharacterTabStopAtActivePosition),
-            3 => Some(CursorTabulationControl::ClearLineTabstopAtActiveLine),
-            4 => Some(CursorTabulationControl::ClearAllCharacterTabStopsAtActiveLine),
-            5 => Some(CursorTabulationControl::ClearAllCharacterTabStops),
-            6 => Some(CursorTabulationControl::ClearAllLineTabStops),
-            _ => None,
+        numbered! { number, CursorTabulationControl:
+            0 SetCharacterTabStopAtActivePosition, 1 SetLineTabStopAtActiveLine, 2 ClearCharacterTabStopAtActivePosition,
+            3 ClearLineTabstopAtActiveLine, 4 ClearAllCharacterTabStopsAtActiveLine, 5 ClearAllCharacterTabStops,
+            6 ClearAllLineTabStops,
         }
     }
 }
@@ -137,14 +125,9 @@ impl TabulationClear {
             ↔ (number ≡ pos (tabulation_clear_number clear)) }
         ensures listed { result ≡ with_number tabulation_clear_number tabulation_clears number }
     {
-        match number {
-            0 => Some(TabulationClear::ClearCharacterTabStopAtActivePosition),
-            1 => Some(TabulationClear::ClearLineTabStopAtActiveLine),
-            2 => Some(TabulationClear::ClearCharacterTabStopsAtActiveLine),
-            3 => Some(TabulationClear::ClearAllCharacterTabStops),
-            4 => Some(TabulationClear::ClearAllLineTabStops),
-            5 => Some(TabulationClear::ClearAllTabStops),
-            _ => None,
+        numbered! { number, TabulationClear:
+            0 ClearCharacterTabStopAtActivePosition, 1 ClearLineTabStopAtActiveLine, 2 ClearCharacterTabStopsAtActiveLine,
+            3 ClearAllCharacterTabStops, 4 ClearAllLineTabStops, 5 ClearAllTabStops,
         }
     }
 }
@@ -174,11 +157,8 @@ impl EraseInLine {
             ↔ (number ≡ pos (erase_in_line_number part)) }
         ensures listed { result ≡ with_number erase_in_line_number erases_in_line number }
     {
-        match number {
-            0 => Some(EraseInLine::EraseToEndOfLine),
-            1 => Some(EraseInLine::EraseToStartOfLine),
-            2 => Some(EraseInLine::EraseLine),
-            _ => None,
+        numbered! { number, EraseInLine:
+            0 EraseToEndOfLine, 1 EraseToStartOfLine, 2 EraseLine,
         }
     }
 }
@@ -210,12 +190,8 @@ impl EraseInDisplay {
             ↔ (number ≡ pos (erase_in_display_number part)) }
         ensures listed { result ≡ with_number erase_in_display_number erases_in_display number }
     {
-        match number {
-            0 => Some(EraseInDisplay::EraseToEndOfDisplay),
-            1 => Some(EraseInDisplay::EraseToStartOfDisplay),
-            2 => Some(EraseInDisplay::EraseDisplay),
-            3 => Some(EraseInDisplay::EraseScrollback),
-            _ => None,
+        numbered! { number, EraseInDisplay:
+            0 EraseToEndOfDisplay, 1 EraseToStartOfDisplay, 2 EraseDisplay, 3 EraseScrollback,
         }
     }
 }

@@ -1,8 +1,8 @@
 //! Escape sequences (ESC): one or two characters after the character ESC.
-ghost use Rattle.std.specs.Prelude.{◌≡◌, ◌↔◌, Some};
+ghost use Rattle.std.specs.Prelude.{◌≡◌, Some};
 ghost use Rattle.csicodec_names.specs.{Esc.EscOf, Esc.esc_number, Esc.esc_text, Esc.in_turn, EscCodes.characters_of};
 
-use crate::esc_codes::{EscCode, of_one_character, of_two_characters};
+use crate::esc_codes::EscCode;
 use std::fmt;
 
 /// An escape sequence without its ESC, as ECMA-48 and ECMA-35 know them.
@@ -72,21 +72,6 @@ impl EscCode {
         ensures { result ≡ esc_number self.now }
     {
         *self as u16
-    }
-
-    /// The code of that number, or none where no code has it.
-    ///
-    /// ```text
-    /// EscCode::from_u16(0x4f53)           // Some(F4Press), "\x1bOS"
-    /// ```
-    pub fn from_u16(number: u16) -> Option<Self>
-        ensures { (code : EscCode) → (result ≡ Some code) ↔ (number ≡ esc_number code) }
-    {
-        if number < 256 {
-            of_one_character(number)
-        } else {
-            of_two_characters(number)
-        }
     }
 
     /// The halves of its number, where a high half of 0 is none.

@@ -1,6 +1,6 @@
 // Written by tools/table from table/escapes.toml: change that, and run python3 tools/table.
 //! The codes of escape sequences.
-ghost use Rattle.std.specs.Prelude.{◌≡◌, ◌↔◌, ◌<◌, ◌≤◌, Some};
+ghost use Rattle.std.specs.Prelude.{◌≡◌, ◌↔◌, Some};
 ghost use Rattle.csicodec_names.specs.Esc.{esc_number};
 
 /// The codes of escape sequences. A code's number is that of its last character, and 256 times that of the one before it, if any.
@@ -98,64 +98,27 @@ pub enum EscCode {
     F4Press = 0x4f53,
 }
 
-/// The code of that number, where it is written by one character.
-pub(crate) fn of_one_character(number: u16) -> Option<EscCode>
-    requires { number < 256 }
-    ensures { (code : EscCode) → (result ≡ Some code) ↔ (number ≡ esc_number code) }
-{
-    match number {
-        0x63 => Some(EscCode::FullReset),
-        0x44 => Some(EscCode::Index),
-        0x45 => Some(EscCode::NextLine),
-        0x46 => Some(EscCode::CursorPositionLowerLeft),
-        0x48 => Some(EscCode::HorizontalTabSet),
-        0x4d => Some(EscCode::ReverseIndex),
-        0x4e => Some(EscCode::SingleShiftG2),
-        0x4f => Some(EscCode::SingleShiftG3),
-        0x56 => Some(EscCode::StartOfGuardedArea),
-        0x57 => Some(EscCode::EndOfGuardedArea),
-        0x58 => Some(EscCode::StartOfString),
-        0x5a => Some(EscCode::ReturnTerminalId),
-        0x5c => Some(EscCode::StringTerminator),
-        0x5e => Some(EscCode::PrivacyMessage),
-        0x5f => Some(EscCode::ApplicationProgramCommand),
-        0x6b => Some(EscCode::TmuxTitle),
-        0x36 => Some(EscCode::DecBackIndex),
-        0x37 => Some(EscCode::DecSaveCursorPosition),
-        0x38 => Some(EscCode::DecRestoreCursorPosition),
-        0x3d => Some(EscCode::DecApplicationKeyPad),
-        0x3e => Some(EscCode::DecNormalKeyPad),
-        _ => None,
-    }
-}
-
-/// The code of that number, where it is written by two characters.
-pub(crate) fn of_two_characters(number: u16) -> Option<EscCode>
-    requires { 256 ≤ number }
-    ensures { (code : EscCode) → (result ≡ Some code) ↔ (number ≡ esc_number code) }
-{
-    match number {
-        0x2830 => Some(EscCode::DecLineDrawingG0),
-        0x2841 => Some(EscCode::UkCharacterSetG0),
-        0x2842 => Some(EscCode::AsciiCharacterSetG0),
-        0x2930 => Some(EscCode::DecLineDrawingG1),
-        0x2941 => Some(EscCode::UkCharacterSetG1),
-        0x2942 => Some(EscCode::AsciiCharacterSetG1),
-        0x2338 => Some(EscCode::DecScreenAlignmentDisplay),
-        0x2333 => Some(EscCode::DecDoubleHeightTopHalfLine),
-        0x2334 => Some(EscCode::DecDoubleHeightBottomHalfLine),
-        0x2335 => Some(EscCode::DecSingleWidthLine),
-        0x2336 => Some(EscCode::DecDoubleWidthLine),
-        0x4f41 => Some(EscCode::ApplicationModeArrowUpPress),
-        0x4f42 => Some(EscCode::ApplicationModeArrowDownPress),
-        0x4f43 => Some(EscCode::ApplicationModeArrowRightPress),
-        0x4f44 => Some(EscCode::ApplicationModeArrowLeftPress),
-        0x4f48 => Some(EscCode::ApplicationModeHomePress),
-        0x4f46 => Some(EscCode::ApplicationModeEndPress),
-        0x4f50 => Some(EscCode::F1Press),
-        0x4f51 => Some(EscCode::F2Press),
-        0x4f52 => Some(EscCode::F3Press),
-        0x4f53 => Some(EscCode::F4Press),
-        _ => None,
+impl EscCode {
+    /// The code of that number, or none where no code has it.
+    ///
+    /// ```text
+    /// EscCode::from_u16(0x4f53)           // Some(F4Press), "\x1bOS"
+    /// ```
+    pub fn from_u16(number: u16) -> Option<Self>
+        ensures { (code : EscCode) → (result ≡ Some code) ↔ (number ≡ esc_number code) }
+    {
+        numbered! { number, EscCode:
+            0x63 FullReset, 0x44 Index, 0x45 NextLine, 0x46 CursorPositionLowerLeft, 0x48 HorizontalTabSet,
+            0x4d ReverseIndex, 0x4e SingleShiftG2, 0x4f SingleShiftG3, 0x56 StartOfGuardedArea, 0x57 EndOfGuardedArea,
+            0x58 StartOfString, 0x5a ReturnTerminalId, 0x5c StringTerminator, 0x5e PrivacyMessage,
+            0x5f ApplicationProgramCommand, 0x6b TmuxTitle, 0x36 DecBackIndex, 0x37 DecSaveCursorPosition,
+            0x38 DecRestoreCursorPosition, 0x3d DecApplicationKeyPad, 0x3e DecNormalKeyPad, 0x2830 DecLineDrawingG0,
+            0x2841 UkCharacterSetG0, 0x2842 AsciiCharacterSetG0, 0x2930 DecLineDrawingG1, 0x2941 UkCharacterSetG1,
+            0x2942 AsciiCharacterSetG1, 0x2338 DecScreenAlignmentDisplay, 0x2333 DecDoubleHeightTopHalfLine,
+            0x2334 DecDoubleHeightBottomHalfLine, 0x2335 DecSingleWidthLine, 0x2336 DecDoubleWidthLine,
+            0x4f41 ApplicationModeArrowUpPress, 0x4f42 ApplicationModeArrowDownPress,
+            0x4f43 ApplicationModeArrowRightPress, 0x4f44 ApplicationModeArrowLeftPress, 0x4f48 ApplicationModeHomePress,
+            0x4f46 ApplicationModeEndPress, 0x4f50 F1Press, 0x4f51 F2Press, 0x4f52 F3Press, 0x4f53 F4Press,
+        }
     }
 }

@@ -1,6 +1,16 @@
 //! The names of what control and escape sequences say by a number.
 #![tactic(auto)]
 
+/// The variant of a number, and none of another one: each behind its number, several on a line.
+macro_rules! numbered {
+    ($number:ident, $type:ident: $($value:literal $name:ident,)*) => {
+        match $number {
+            $($value => Some($type::$name),)*
+            _ => None,
+        }
+    };
+}
+
 mod codes;
 mod color;
 mod device;

@@ -1,7 +1,8 @@
 // Written by tools/table from table/modes.toml: change that, and run python3 tools/table.
 //! The numbers of modes that have a name.
 ghost use Rattle.std.specs.Prelude.{◌≡◌, ◌↔◌, Some, pos};
-ghost use Rattle.csicodec_names.specs.ModeNumbers.{dec_mode_number, terminal_mode_number};
+ghost use Rattle.csicodec_names.specs.{ModeNumbers.dec_codes, ModeNumbers.dec_mode_number, ModeNumbers.terminal_codes, ModeNumbers.terminal_mode_number};
+ghost use Rattle.csicodec_names.specs.{Numbered.with_number};
 
 /// A private mode: one that `CSI ? .. h` sets and `CSI ? .. l` resets. Those of DEC (VT510, VT382) begin with the name that DEC gave
 /// them; where the others are from is said at each.
@@ -87,45 +88,19 @@ impl DecPrivateModeCode {
 
     /// The mode that has this number, and none where no mode has it.
     pub fn from_i64(number: i64) -> Option<Self>
-        ensures { (mode : DecPrivateModeCode) → (result ≡ Some mode)
+        ensures each { (mode : DecPrivateModeCode) → (result ≡ Some mode)
             ↔ (number ≡ pos (dec_mode_number mode)) }
+        ensures listed { result ≡ with_number dec_mode_number dec_codes number }
     {
-        match number {
-            1 => Some(DecPrivateModeCode::ApplicationCursorKeys),
-            2 => Some(DecPrivateModeCode::DecAnsiMode),
-            3 => Some(DecPrivateModeCode::Select132Columns),
-            4 => Some(DecPrivateModeCode::SmoothScroll),
-            5 => Some(DecPrivateModeCode::ReverseVideo),
-            6 => Some(DecPrivateModeCode::OriginMode),
-            7 => Some(DecPrivateModeCode::AutoWrap),
-            8 => Some(DecPrivateModeCode::AutoRepeat),
-            12 => Some(DecPrivateModeCode::StartBlinkingCursor),
-            25 => Some(DecPrivateModeCode::ShowCursor),
-            45 => Some(DecPrivateModeCode::ReverseWraparound),
-            47 => Some(DecPrivateModeCode::EnableAlternateScreen),
-            69 => Some(DecPrivateModeCode::LeftRightMarginMode),
-            80 => Some(DecPrivateModeCode::SixelDisplayMode),
-            1000 => Some(DecPrivateModeCode::MouseTracking),
-            1001 => Some(DecPrivateModeCode::HighlightMouseTracking),
-            1002 => Some(DecPrivateModeCode::ButtonEventMouse),
-            1003 => Some(DecPrivateModeCode::AnyEventMouse),
-            1004 => Some(DecPrivateModeCode::FocusTracking),
-            1005 => Some(DecPrivateModeCode::Utf8Mouse),
-            1006 => Some(DecPrivateModeCode::SGRMouse),
-            1016 => Some(DecPrivateModeCode::SGRPixelsMouse),
-            1036 => Some(DecPrivateModeCode::XTermMetaSendsEscape),
-            1039 => Some(DecPrivateModeCode::XTermAltSendsEscape),
-            1047 => Some(DecPrivateModeCode::OptEnableAlternateScreen),
-            1048 => Some(DecPrivateModeCode::SaveCursor),
-            1049 => Some(DecPrivateModeCode::ClearAndEnableAlternateScreen),
-            1070 => Some(DecPrivateModeCode::UsePrivateColorRegistersForEachGraphic),
-            2004 => Some(DecPrivateModeCode::BracketedPaste),
-            2026 => Some(DecPrivateModeCode::SynchronizedOutput),
-            2027 => Some(DecPrivateModeCode::GraphemeClustering),
-            7727 => Some(DecPrivateModeCode::MinTTYApplicationEscapeKeyMode),
-            8452 => Some(DecPrivateModeCode::SixelScrollsRight),
-            9001 => Some(DecPrivateModeCode::Win32InputMode),
-            _ => None,
+        numbered! { number, DecPrivateModeCode:
+            1 ApplicationCursorKeys, 2 DecAnsiMode, 3 Select132Columns, 4 SmoothScroll, 5 ReverseVideo, 6 OriginMode,
+            7 AutoWrap, 8 AutoRepeat, 12 StartBlinkingCursor, 25 ShowCursor, 45 ReverseWraparound,
+            47 EnableAlternateScreen, 69 LeftRightMarginMode, 80 SixelDisplayMode, 1000 MouseTracking,
+            1001 HighlightMouseTracking, 1002 ButtonEventMouse, 1003 AnyEventMouse, 1004 FocusTracking, 1005 Utf8Mouse,
+            1006 SGRMouse, 1016 SGRPixelsMouse, 1036 XTermMetaSendsEscape, 1039 XTermAltSendsEscape,
+            1047 OptEnableAlternateScreen, 1048 SaveCursor, 1049 ClearAndEnableAlternateScreen,
+            1070 UsePrivateColorRegistersForEachGraphic, 2004 BracketedPaste, 2026 SynchronizedOutput,
+            2027 GraphemeClustering, 7727 MinTTYApplicationEscapeKeyMode, 8452 SixelScrollsRight, 9001 Win32InputMode,
         }
     }
 }
@@ -157,17 +132,12 @@ impl TerminalModeCode {
 
     /// The mode that has this number, and none where no mode has it.
     pub fn from_i64(number: i64) -> Option<Self>
-        ensures { (mode : TerminalModeCode) → (result ≡ Some mode)
+        ensures each { (mode : TerminalModeCode) → (result ≡ Some mode)
             ↔ (number ≡ pos (terminal_mode_number mode)) }
+        ensures listed { result ≡ with_number terminal_mode_number terminal_codes number }
     {
-        match number {
-            2 => Some(TerminalModeCode::KeyboardAction),
-            4 => Some(TerminalModeCode::Insert),
-            8 => Some(TerminalModeCode::BiDirectionalSupportMode),
-            12 => Some(TerminalModeCode::SendReceive),
-            20 => Some(TerminalModeCode::AutomaticNewline),
-            25 => Some(TerminalModeCode::ShowCursor),
-            _ => None,
+        numbered! { number, TerminalModeCode:
+            2 KeyboardAction, 4 Insert, 8 BiDirectionalSupportMode, 12 SendReceive, 20 AutomaticNewline, 25 ShowCursor,
         }
     }
 }

@@ -1,4 +1,2 @@
-pub mod Reading
 pub mod Places
-pub mod Table
-pub mod Plain
+pub mod Reading

@@ -1,13 +1,14 @@
--- What a command reads of a content is written as it, and what is written of it is read; and which commands read nothing of
--- what others are written as.
-use Rattle.std.proofs.Common.{◌≡◌, ℕ, zero, suc, ◌+◌, ◌-◌, List, [], ◌∷◌, ◌++◌, Option, None, Some, refl, inl, inr, length, take, drop, arith}
-use Rattle.std.proofs.{lemmas.Bool.cases_Bool, lemmas.Bool.Decides.nat_tests, lemmas.Option.option_and_then_some, lemmas.Slice.Eq.bytes_eq-Decides}
-use Rattle.std.specs.{Prelude.◌==◌, Prelude.◌&&◌, Prelude.◌||◌, Prelude.Bool, Prelude.true, Prelude.false, Prelude.not, Prelude.position}
-use Rattle.std.specs.{Cmp.Lexicographic.pointwise}
-use Rattle.csicodec_osc.specs.Osc.{Ask, Body, Both, Tail, asked, asked_text, fits, is_asked, is_field, is_message, tail_of, tail_text}
+-- What a command reads of a content is written as it, and what is written of it is read; and the table, by which each content says one thing.
+use Rattle.std.proofs.Common.{◌≡◌, ℕ, zero, suc, ◌+◌, ◌-◌, List, [], ◌∷◌, ◌++◌, Option, None, Some, refl, inl, inr, length, take, drop, arith, ◌<◌, ◌≤◌, get_or, sym, ap, ◌∙◌, subst, append_assoc}
+use Rattle.std.proofs.{lemmas.Bool.cases_Bool, lemmas.Bool.and_parts, lemmas.Bool.Decides.nat_tests, lemmas.Option.option_and_then_some}
+use Rattle.std.proofs.{lemmas.Option.same_Some, lemmas.Slice.Eq.bytes_eq-Decides, lemmas.List.drop_all, lemmas.List.drop_more, lemmas.List.take_more}
+use Rattle.std.specs.{Prelude.◌==◌, Prelude.◌&&◌, Prelude.◌||◌, Prelude.Bool, Prelude.true, Prelude.false, Prelude.not, Prelude.position, Prelude.slice_get}
+use Rattle.std.specs.{Prelude.option_map, Cmp.Lexicographic.pointwise, List.list_all, List.flat_map, Option.option_or}
+use Rattle.csicodec_osc.specs.Osc.{Ask, Body, Both, Tail, asked, asked_text, fits, is_asked, is_field, is_message, tail_of, tail_text, IsWritable, Known, Said, Says, Unknown, written}
 use Rattle.csicodec_osc.specs.{declared.command.Command.Command, Commands.form, Commands.number, Forms.Form, Forms.OneText, Forms.Message, Forms.Several}
 use Rattle.csicodec_osc.specs.{Forms.TwoTexts, Forms.TextAsked, Private.Reading.behind, Private.Reading.halves, Private.Reading.read_body}
-use Rattle.csicodec_osc.specs.{Private.Reading.read_by}
+use Rattle.csicodec_osc.specs.{Private.Reading.read_by, Private.Reading.first_read, declared.command.TheConstants.COMMANDS, Escaped.escaped}
+use Rattle.csicodec_osc.proofs.Places.{lies-at, place_in}
 
 -- ---- the first `;`
 
@@ -150,3 +151,89 @@ passed k other body h fit = elim (cases_Bool (could_begin (number k) (number oth
   | inl could ↦ by-form (form other) k (number other) body (behind (number other) (number k)) refl (rw could at h) fit
   | inr never ↦ rw (apart (number k) (number other) (tail_of body) never) refl
 ]
+
+-- ---- The table: each content says one thing.
+
+-- ---- each command reads nothing of those behind it
+
+abbrev all_pass : List Command → Bool
+all_pass [] = true
+all_pass (k ∷ commands) = list_all (passes k) commands && all_pass commands
+
+in-order : all_pass COMMANDS ≡ true
+in-order = refl
+
+-- ---- what is written is read
+
+passed-at : (k : Command) (commands : List Command) (i : ℕ) (other : Command) (body : Body) → list_all (passes k) commands ≡ true → slice_get commands i ≡ Some other → fits (form other) body ≡ true
+    → read_by k (number other ++ tail_text (tail_of body)) ≡ None
+passed-at k (c ∷ commands) zero other body h at fit = passed k other body (rw (same_Some c other at) at (and_parts (passes k c) (list_all (passes k) commands) h).0) fit
+passed-at k (c ∷ commands) (suc i) other body h at fit = passed-at k commands i other body (and_parts (passes k c) (list_all (passes k) commands) h).1 at fit
+passed-at k _ _ other body h at fit = cc
+
+decides : (commands : List Command) (i : ℕ) (k : Command) (body : Body) → all_pass commands ≡ true → slice_get commands i ≡ Some k → fits (form k) body ≡ true
+    → first_read commands (number k ++ tail_text (tail_of body)) ≡ Some (Known k body)
+decides (c ∷ commands) zero k body h at fit = rw (same_Some c k at, read-of k body fit) refl
+decides (c ∷ commands) (suc i) k body h at fit =
+    let p = and_parts (list_all (passes c) commands) (all_pass commands) h in rw (passed-at c commands i k body p.0 at fit) (decides commands i k body p.1 at fit)
+decides _ _ k body h at fit = cc
+
+pub reads-back : (k : Command) (body : Body) → fits (form k) body ≡ true → first_read COMMANDS (number k ++ tail_text (tail_of body)) ≡ Some (Known k body)
+reads-back k body fit = decides COMMANDS (place_in COMMANDS (number k)) k body in-order (lies-at k) fit
+
+-- ---- what is read is written
+
+pub says : (k : Command) (content : List ℕ) (s : Said) → Some s ≡ option_map (Known k) (read_by k content) → Says content s
+says k content s e = go (read_by k content) refl e
+  where
+    go : (o : Option Body) → read_by k content ≡ o → Some s ≡ option_map (Known k) o → Says content s
+    go None read f = cc
+    go (Some body) read f =
+        let r = read-is k content body read in
+        subst (λ x. Says content x) (sym (same_Some s (Known k body) f)) (record { written_as = r.text; writable = r.has_form })
+
+pub none-says : (content : List ℕ) → first_read COMMANDS content ≡ None → Says content (Unknown content)
+none-says content none = record {
+  written_as = refl;
+  writable = λ k body fit text. (let read = reads-back k body fit in let wrong : None ≡ Some (Known k body) = sym none ∙ rw text at read in cc);
+}
+
+-- the loop's step: the command at a place doesn't read the content
+pub next-read : (commands : List Command) (i : ℕ) (d : Command) (content : List ℕ) → i < length commands → None ≡ option_map (Known (get_or commands i d)) (read_by (get_or commands i d) content)
+    → first_read (drop i commands) content ≡ first_read (drop (i + 1) commands) content
+next-read commands i d content low none = rw (drop_more commands i d low, ← none) refl
+
+-- and its end
+pub none-left : (i : ℕ) (content : List ℕ) → length COMMANDS ≤ i → first_read (drop i COMMANDS) content ≡ None
+none-left i content all = rw (drop_all i COMMANDS all) refl
+
+-- ---- the laws
+
+first-says : (commands : List Command) (content : List ℕ) (s : Said) → first_read commands content ≡ Some s → Says content s
+first-says [] content s e = cc
+first-says (k ∷ commands) content s e = go (read_by k content) (λ t f. says k content t f) (λ f. first-says commands content s f) e
+  where
+    go : (o : Option Body) → ((t : Said) → Some t ≡ option_map (Known k) o → Says content t)
+        → (first_read commands content ≡ Some s → Says content s) → option_or (option_map (Known k) o) (first_read commands content) ≡ Some s → Says content s
+    go None here later f = later f
+    go (Some body) here later f = here s (sym f)
+
+pub each_says : (content : List ℕ) → (s : Said) × Says content s
+each_says content = go (first_read COMMANDS content) refl
+  where
+    go : (o : Option Said) → first_read COMMANDS content ≡ o → (s : Said) × Says content s
+    go None e = (Unknown content, none-says content e)
+    go (Some s) e = (s, first-says COMMANDS content s e)
+
+pub one : (s t : Said) → IsWritable s → Says (written s) t → t ≡ s
+one (Known j other) (Known k body) h says = same_Some (Known k body) (Known j other) (rw (← reads-back k body says.writable, says.written_as) (reads-back j other h))
+one (Unknown bytes) (Known k body) h says = absurd (h k body says.writable says.written_as)
+one (Known k body) (Unknown bytes) h says = absurd (says.writable k body h (sym says.written_as))
+one (Unknown others) (Unknown bytes) h says = ap Unknown says.written_as
+
+-- ---- Bytes that are shown as themselves.
+
+-- one byte more in front
+pub plain_more : (xs : List ℕ) (i : ℕ) → i < length xs → escaped (get_or xs i 0) ≡ get_or xs i 0 ∷ []
+    → flat_map escaped xs ≡ take i xs ++ flat_map escaped (drop i xs) → flat_map escaped xs ≡ take (i + 1) xs ++ flat_map escaped (drop (i + 1) xs)
+plain_more xs i less plain before = rw (before, drop_more xs i 0 less, take_more xs i 0 less, plain) (simp append_assoc)

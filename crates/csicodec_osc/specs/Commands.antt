@@ -76,17 +76,11 @@ number command.Notice = codes "9"  -- iTerm2, Proprietary Escape Codes
 -- The form of what stands behind it.
 abbrev pub form : Command → Form
 form (command.Title v) = OneText
-form (command.Colors v) = Several
-form (command.ResetColors v) = Several
-form (command.Color v) = Several
-form (command.ResetColor v) = Several
 form (command.Folder v) = OneText
-form (command.Prompt v) = Several
-form (command.Editor v) = Several
-form (command.Progress v) = Several
 form command.Link = TwoTexts
 form command.Clipboard = TextAsked
 form command.Pointer = OneText
 form command.KittyNotice = TwoTexts
 form command.TitledNotice = TwoTexts
 form command.Notice = Message
+form _ = Several

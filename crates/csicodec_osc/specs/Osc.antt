@@ -4,9 +4,6 @@ use Rattle.std.specs.Str.{bytes_eq}
 use Rattle.csicodec_osc.specs.{declared.asked.Asked.Asked, declared.command.Command.Command, declared.fields.OscFields.OscFields as FieldsType}
 use Rattle.csicodec_osc.specs.{declared.osc.Osc.Osc, Commands.form, Commands.number, Forms.Form, Forms.OneText, Forms.Message, Forms.Several, Forms.TwoTexts}
 use Rattle.csicodec_osc.specs.{Forms.TextAsked}
-use Rattle.csicodec_osc.specs.declared.asked.Asked.TheVariants as ask
-use Rattle.csicodec_osc.specs.declared.command.Command.TheVariants as command
-use Rattle.csicodec_osc.specs.declared.osc.Osc.TheVariants as osc
 
 -- ---- what stands behind a number
 
@@ -104,26 +101,26 @@ list_text fields = option_map (λ text. text.now) fields.text
 
 -- a value, and none where it is asked for
 abbrev pub value_of : Asked → Option (List ℕ)
-value_of ask.Query = None
-value_of (ask.Value text) = Some text.now
+value_of Asked.Query = None
+value_of (Asked.Value text) = Some text.now
 
 abbrev pub said : Osc → Said
-said (osc.Title t text) = Known (command.Title t) (Tail (Some text.now))
-said (osc.Colors p list) = Known (command.Colors p) (Tail (list_text list))
-said (osc.Color d list) = Known (command.Color d) (Tail (list_text list))
-said (osc.ResetColors p list) = Known (command.ResetColors p) (Tail (list_text list))
-said (osc.ResetColor d list) = Known (command.ResetColor d) (Tail (list_text list))
-said (osc.Link params address) = Known command.Link (Both params.now address.now)
-said (osc.Clipboard selection content) = Known command.Clipboard (Ask selection.now (value_of content))
-said (osc.Folder f text) = Known (command.Folder f) (Tail (Some text.now))
-said (osc.Prompt m list) = Known (command.Prompt m) (Tail (list_text list))
-said (osc.Editor m list) = Known (command.Editor m) (Tail (list_text list))
-said (osc.Progress p list) = Known (command.Progress p) (Tail (list_text list))
-said (osc.Pointer text) = Known command.Pointer (Tail (Some text.now))
-said (osc.KittyNotice metadata payload) = Known command.KittyNotice (Both metadata.now payload.now)
-said (osc.TitledNotice title text) = Known command.TitledNotice (Both title.now text.now)
-said (osc.Notice text) = Known command.Notice (Tail (Some text.now))
-said (osc.Unknown bytes) = Unknown bytes.now
+said (Osc.Title t text) = Known (Command.Title t) (Tail (Some text.now))
+said (Osc.Colors p list) = Known (Command.Colors p) (Tail (list_text list))
+said (Osc.Color d list) = Known (Command.Color d) (Tail (list_text list))
+said (Osc.ResetColors p list) = Known (Command.ResetColors p) (Tail (list_text list))
+said (Osc.ResetColor d list) = Known (Command.ResetColor d) (Tail (list_text list))
+said (Osc.Link params address) = Known Command.Link (Both params.now address.now)
+said (Osc.Clipboard selection content) = Known Command.Clipboard (Ask selection.now (value_of content))
+said (Osc.Folder f text) = Known (Command.Folder f) (Tail (Some text.now))
+said (Osc.Prompt m list) = Known (Command.Prompt m) (Tail (list_text list))
+said (Osc.Editor m list) = Known (Command.Editor m) (Tail (list_text list))
+said (Osc.Progress p list) = Known (Command.Progress p) (Tail (list_text list))
+said (Osc.Pointer text) = Known Command.Pointer (Tail (Some text.now))
+said (Osc.KittyNotice metadata payload) = Known Command.KittyNotice (Both metadata.now payload.now)
+said (Osc.TitledNotice title text) = Known Command.TitledNotice (Both title.now text.now)
+said (Osc.Notice text) = Known Command.Notice (Tail (Some text.now))
+said (Osc.Unknown bytes) = Unknown bytes.now
 
 -- ---- fields
 

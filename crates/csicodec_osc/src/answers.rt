@@ -8,13 +8,10 @@ use std::fmt;
 
 /// The setting that ends in these bytes.
 fn setting(text: &[u8]) -> Option<&'static str> {
-    for row in &SETTINGS {
+    SETTINGS.iter().find_map(|row| {
         let (finals, words) = row.split_once('=')?;
-        if text.ends_with(finals.as_bytes()) {
-            return Some(words);
-        }
-    }
-    None
+        text.ends_with(finals.as_bytes()).then_some(words)
+    })
 }
 
 /// The setting that DECRQSS asks for.

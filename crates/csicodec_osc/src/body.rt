@@ -53,10 +53,8 @@ impl<'a> Body<'a> {
 
     /// What is ahead of the first such byte, and what is behind it; nothing is, where there is none.
     pub fn cut(self, at: u8) -> (&'a [u8], Body<'a>) {
-        match split_at(self.bytes, at) {
-            Some((front, bytes)) => (front, self.with(bytes)),
-            None => (self.bytes, self.with(&[])),
-        }
+        let (front, bytes) = halves(self.bytes, at);
+        (front, self.with(bytes))
     }
 }
 
@@ -70,9 +68,7 @@ pub fn tell<W: fmt::Write>(f: &mut fmt::Formatter<W>, words: &str, body: Body<'_
 pub(crate) fn split_at(bytes: &[u8], at: u8) -> Option<(&[u8], &[u8])>
     ensures { option_map (λ cut. (cut.0.now, cut.1.now)) result ≡ halves at bytes.now }
 {
-    let Some(place) = place_of(bytes, at) else {
-        return None;
-    };
+    let place = place_of(bytes, at)?;
     Some((&bytes[..place], &bytes[place + 1..]))
 }
 
@@ -90,8 +86,5 @@ pub fn halves(bytes: &[u8], at: u8) -> (&[u8], &[u8]) {
 
 /// The number that decimal digits are.
 pub fn number(digits: &[u8]) -> Option<u32> {
-    match std::str::from_utf8(digits) {
-        Ok(text) => text.parse::<u32>().ok(),
-        Err(_) => None,
-    }
+    std::str::from_utf8(digits).ok()?.parse::<u32>().ok()
 }

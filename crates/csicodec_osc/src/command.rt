@@ -138,98 +138,63 @@ pub(crate) enum Command {
     Notice,
 }
 
+/// Tells a macro all commands: with each constructor over an enumeration what those of its variants begin with, and
+/// behind them the single ones. The last one has the number that others go on with, and so is tried when none of them
+/// is meant.
+macro_rules! commands {
+    ($macro:ident $($command:expr)?) => {
+        $macro! { $($command)?;
+            Title(Title) { Both b"0", Icon b"1", Window b"2", }
+            Colors(ColorTable) { Indexed b"4", Special b"5", }
+            ResetColors(ColorTable) { Indexed b"104", Special b"105", }
+            Color(Dynamic) {
+                Foreground b"10", Background b"11", Cursor b"12", PointerForeground b"13", PointerBackground b"14",
+                TektronixForeground b"15", TektronixBackground b"16", HighlightBackground b"17", TektronixCursor b"18",
+                HighlightForeground b"19",
+            }
+            ResetColor(Dynamic) {
+                Foreground b"110", Background b"111", Cursor b"112", PointerForeground b"113", PointerBackground b"114",
+                TektronixForeground b"115", TektronixBackground b"116", HighlightBackground b"117", TektronixCursor b"118",
+                HighlightForeground b"119",
+            }
+            Folder(Folder) { Address b"7", Path b"9;9", }
+            Prompt(Mark) {
+                Prompt b"133;A", Command b"133;B", Output b"133;C", End b"133;D", CommandLine b"133;I", FreshLine b"133;L",
+                NextPrompt b"133;N", PromptPart b"133;P",
+            }
+            Editor(EditorMark) {
+                Prompt b"633;A", Command b"633;B", Output b"633;C", End b"633;D", CommandText b"633;E", Continuation b"633;F",
+                ContinuationEnd b"633;G", RightPrompt b"633;H", RightPromptEnd b"633;I", Property b"633;P",
+            }
+            Progress(Progress) { Off b"9;4;0", Shown b"9;4;1", Failed b"9;4;2", Busy b"9;4;3", Paused b"9;4;4", };
+            Link b"8", Clipboard b"52", Pointer b"22", KittyNotice b"99", TitledNotice b"777;notify", Notice b"9",
+        }
+    };
+}
+
+macro_rules! begins {
+    ($command:expr; $($over:ident($kind:ident) { $($variant:ident $begins:literal,)* })*; $($single:ident $front:literal,)*) => {
+        match $command {
+            $($(Command::$over($kind::$variant) => $begins,)*)*
+            $(Command::$single => $front,)*
+        }
+    };
+}
+
+macro_rules! all {
+    (; $($over:ident($kind:ident) { $($variant:ident $begins:literal,)* })*; $($single:ident $front:literal,)*) => {
+        [$($(Command::$over($kind::$variant),)*)* $(Command::$single,)*]
+    };
+}
+
 impl Command {
     /// What it begins with.
     pub(crate) fn number(self) -> &'static [u8]
         ensures { result.now ≡ number self }
     {
-        match self {
-            Command::Title(Title::Both) => b"0",
-            Command::Title(Title::Icon) => b"1",
-            Command::Title(Title::Window) => b"2",
-            Command::Colors(ColorTable::Indexed) => b"4",
-            Command::Colors(ColorTable::Special) => b"5",
-            Command::ResetColors(ColorTable::Indexed) => b"104",
-            Command::ResetColors(ColorTable::Special) => b"105",
-            Command::Color(Dynamic::Foreground) => b"10",
-            Command::Color(Dynamic::Background) => b"11",
-            Command::Color(Dynamic::Cursor) => b"12",
-            Command::Color(Dynamic::PointerForeground) => b"13",
-            Command::Color(Dynamic::PointerBackground) => b"14",
-            Command::Color(Dynamic::TektronixForeground) => b"15",
-            Command::Color(Dynamic::TektronixBackground) => b"16",
-            Command::Color(Dynamic::HighlightBackground) => b"17",
-            Command::Color(Dynamic::TektronixCursor) => b"18",
-            Command::Color(Dynamic::HighlightForeground) => b"19",
-            Command::ResetColor(Dynamic::Foreground) => b"110",
-            Command::ResetColor(Dynamic::Background) => b"111",
-            Command::ResetColor(Dynamic::Cursor) => b"112",
-            Command::ResetColor(Dynamic::PointerForeground) => b"113",
-            Command::ResetColor(Dynamic::PointerBackground) => b"114",
-            Command::ResetColor(Dynamic::TektronixForeground) => b"115",
-            Command::ResetColor(Dynamic::TektronixBackground) => b"116",
-            Command::ResetColor(Dynamic::HighlightBackground) => b"117",
-            Command::ResetColor(Dynamic::TektronixCursor) => b"118",
-            Command::ResetColor(Dynamic::HighlightForeground) => b"119",
-            Command::Folder(Folder::Address) => b"7",
-            Command::Folder(Folder::Path) => b"9;9",
-            Command::Prompt(Mark::Prompt) => b"133;A",
-            Command::Prompt(Mark::Command) => b"133;B",
-            Command::Prompt(Mark::Output) => b"133;C",
-            Command::Prompt(Mark::End) => b"133;D",
-            Command::Prompt(Mark::CommandLine) => b"133;I",
-            Command::Prompt(Mark::FreshLine) => b"133;L",
-            Command::Prompt(Mark::NextPrompt) => b"133;N",
-            Command::Prompt(Mark::PromptPart) => b"133;P",
-            Command::Editor(EditorMark::Prompt) => b"633;A",
-            Command::Editor(EditorMark::Command) => b"633;B",
-            Command::Editor(EditorMark::Output) => b"633;C",
-            Command::Editor(EditorMark::End) => b"633;D",
-            Command::Editor(EditorMark::CommandText) => b"633;E",
-            Command::Editor(EditorMark::Continuation) => b"633;F",
-            Command::Editor(EditorMark::ContinuationEnd) => b"633;G",
-            Command::Editor(EditorMark::RightPrompt) => b"633;H",
-            Command::Editor(EditorMark::RightPromptEnd) => b"633;I",
-            Command::Editor(EditorMark::Property) => b"633;P",
-            Command::Progress(Progress::Off) => b"9;4;0",
-            Command::Progress(Progress::Shown) => b"9;4;1",
-            Command::Progress(Progress::Failed) => b"9;4;2",
-            Command::Progress(Progress::Busy) => b"9;4;3",
-            Command::Progress(Progress::Paused) => b"9;4;4",
-            Command::Link => b"8",
-            Command::Clipboard => b"52",
-            Command::Pointer => b"22",
-            Command::KittyNotice => b"99",
-            Command::TitledNotice => b"777;notify",
-            Command::Notice => b"9",
-        }
+        commands!(begins self)
     }
 }
 
-/// All of them. The last one has the number that others go on with, and so is tried when none of them is meant.
-pub(crate) static COMMANDS: [Command; 58] = pieces! {
-    Command::Title(Title::Both), Command::Title(Title::Icon), Command::Title(Title::Window),
-    Command::Colors(ColorTable::Indexed), Command::Colors(ColorTable::Special),
-    Command::ResetColors(ColorTable::Indexed), Command::ResetColors(ColorTable::Special),
-    Command::Color(Dynamic::Foreground), Command::Color(Dynamic::Background), Command::Color(Dynamic::Cursor),
-    Command::Color(Dynamic::PointerForeground), Command::Color(Dynamic::PointerBackground),
-    Command::Color(Dynamic::TektronixForeground), Command::Color(Dynamic::TektronixBackground),
-    Command::Color(Dynamic::HighlightBackground), Command::Color(Dynamic::TektronixCursor),
-    Command::Color(Dynamic::HighlightForeground), Command::ResetColor(Dynamic::Foreground),
-    Command::ResetColor(Dynamic::Background), Command::ResetColor(Dynamic::Cursor),
-    Command::ResetColor(Dynamic::PointerForeground), Command::ResetColor(Dynamic::PointerBackground),
-    Command::ResetColor(Dynamic::TektronixForeground), Command::ResetColor(Dynamic::TektronixBackground),
-    Command::ResetColor(Dynamic::HighlightBackground), Command::ResetColor(Dynamic::TektronixCursor),
-    Command::ResetColor(Dynamic::HighlightForeground), Command::Folder(Folder::Address),
-    Command::Folder(Folder::Path), Command::Prompt(Mark::Prompt), Command::Prompt(Mark::Command),
-    Command::Prompt(Mark::Output), Command::Prompt(Mark::End), Command::Prompt(Mark::CommandLine),
-    Command::Prompt(Mark::FreshLine), Command::Prompt(Mark::NextPrompt), Command::Prompt(Mark::PromptPart),
-    Command::Editor(EditorMark::Prompt), Command::Editor(EditorMark::Command),
-    Command::Editor(EditorMark::Output), Command::Editor(EditorMark::End),
-    Command::Editor(EditorMark::CommandText), Command::Editor(EditorMark::Continuation),
-    Command::Editor(EditorMark::ContinuationEnd), Command::Editor(EditorMark::RightPrompt),
-    Command::Editor(EditorMark::RightPromptEnd), Command::Editor(EditorMark::Property),
-    Command::Progress(Progress::Off), Command::Progress(Progress::Shown), Command::Progress(Progress::Failed),
-    Command::Progress(Progress::Busy), Command::Progress(Progress::Paused), Command::Link, Command::Clipboard,
-    Command::Pointer, Command::KittyNotice, Command::TitledNotice, Command::Notice,
-};
+/// All of them.
+pub(crate) static COMMANDS: [Command; 58] = commands!(all);

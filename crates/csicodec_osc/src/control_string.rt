@@ -33,46 +33,31 @@ impl<'a> ControlString<'a> {
         let front = self.front;
         let more = self.len.saturating_sub(front.len() as u64);
         let bytes = front.get(2..).unwrap_or(front);
-        if !self.closed {
-            return Body { bytes, more };
-        }
-        let ends: &[u8] = if self.bell { b"\x07" } else { b"\x1b\\" };
-        if more == 0 {
-            let bytes = bytes.strip_suffix(ends).unwrap_or(bytes);
-            return Body { bytes, more };
-        }
+        let ends: &[u8] = match (self.closed, self.bell) {
+            (false, _) => b"",
+            (true, true) => b"\x07",
+            (true, false) => b"\x1b\\",
+        };
+        let bytes = match more {
+            0 => bytes.strip_suffix(ends).unwrap_or(bytes),
+            _ => bytes,
+        };
         let more = more.saturating_sub(ends.len() as u64);
         Body { bytes, more }
-    }
-
-    /// The character behind the ESC that opens it.
-    fn opener(&self) -> u8 {
-        self.front.get(1).copied().unwrap_or(0)
     }
 }
 
 impl<'a> fmt::Display for ControlString<'a> {
     fn fmt<W: fmt::Write>(&self, f: &mut fmt::Formatter<W>) -> fmt::Result {
         let body = self.body();
-        match self.opener() {
-            b']' => command(f, body)?,
-            b'P' => device_control(f, body)?,
-            b'_' => program_command(f, body)?,
-            b'^' => tell(f, "PM  privacy message", body)?,
+        match (self.front.get(1).copied(), body.behind(b"G")) {
+            (Some(b']'), _) => command(f, body)?,
+            (Some(b'P'), _) => device_control(f, body)?,
+            (Some(b'_'), Some(keys)) => graphics(f, keys)?,
+            (Some(b'_'), None) => tell(f, "APC  command to a program", body)?,
+            (Some(b'^'), _) => tell(f, "PM  privacy message", body)?,
             _ => tell(f, "SOS  string", body)?,
         }
-        if self.closed {
-            Ok(())
-        } else {
-            f.write_str(" (not closed)")
-        }
-    }
-}
-
-/// APC: kitty's graphics, or the command of some other program.
-fn program_command<W: fmt::Write>(f: &mut fmt::Formatter<W>, body: Body<'_>) -> fmt::Result {
-    match body.behind(b"G") {
-        Some(keys) => graphics(f, keys),
-        None => tell(f, "APC  command to a program", body),
+        f.write_str(if self.closed { "" } else { " (not closed)" })
     }
 }

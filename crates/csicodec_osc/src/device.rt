@@ -92,9 +92,8 @@ pub fn device_control<W: fmt::Write>(f: &mut fmt::Formatter<W>, body: Body<'_>) 
         return f.write_str("DCS  empty");
     }
     if let Some(control) = parts(body) {
-        for (place, row) in CONTROLS.iter().enumerate() {
+        for (row, words) in CONTROLS.iter().zip(&CONTROL_WORDS) {
             if let Some(tells) = told_by(row.as_bytes(), control) {
-                let words = CONTROL_WORDS.get(place).copied().unwrap_or("");
                 return tell_control(f, words, tells, control);
             }
         }
@@ -102,18 +101,11 @@ pub fn device_control<W: fmt::Write>(f: &mut fmt::Formatter<W>, body: Body<'_>) 
     tell(f, "DCS  unknown", body)
 }
 
-/// The raster attributes that these bytes begin with.
-fn raster_attributes(bytes: &[u8]) -> &[u8] {
-    let digits = bytes
-        .iter()
-        .position(|byte| !byte.is_ascii_digit() && *byte != b';')
-        .unwrap_or(bytes.len());
-    bytes.split_at(digits).0
-}
-
-/// The size that raster attributes tell, behind two numbers for the form of a pixel.
-fn write_size<W: fmt::Write>(f: &mut fmt::Formatter<W>, attributes: &[u8]) -> fmt::Result {
-    let (_numerator, rest) = halves(attributes, b';');
+/// The size that raster attributes in front tell, behind two numbers for the form of a pixel.
+fn write_size<W: fmt::Write>(f: &mut fmt::Formatter<W>, bytes: &[u8]) -> fmt::Result {
+    let is_behind = |byte: &u8| !byte.is_ascii_digit() && *byte != b';';
+    let len = bytes.iter().position(is_behind).unwrap_or(bytes.len());
+    let (_numerator, rest) = halves(bytes.split_at(len).0, b';');
     let (_denominator, rest) = halves(rest, b';');
     let (width, height) = halves(rest, b';');
     match (number(width), number(height)) {
@@ -126,7 +118,7 @@ fn write_size<W: fmt::Write>(f: &mut fmt::Formatter<W>, attributes: &[u8]) -> fm
 fn sixel<W: fmt::Write>(f: &mut fmt::Formatter<W>, data: Body<'_>) -> fmt::Result {
     let len = data.len();
     if let Some(raster) = data.behind(b"\"") {
-        write_size(f, raster_attributes(raster.bytes))?;
+        write_size(f, raster.bytes)?;
     }
     write!(f, ", {len} bytes")
 }
@@ -135,30 +127,14 @@ fn sixel<W: fmt::Write>(f: &mut fmt::Formatter<W>, data: Body<'_>) -> fmt::Resul
 fn passed_on<W: fmt::Write>(f: &mut fmt::Formatter<W>, inner: Body<'_>) -> fmt::Result {
     f.write_str("tmux  pass on \"")?;
     let shown = inner.bytes.get(..120).unwrap_or(inner.bytes);
-    for (place, piece) in shown.split(is_escape).enumerate() {
-        write_piece(f, piece, place > 0 && place % 2 == 0)?;
+    for (place, piece) in shown.split(|byte| *byte == 0x1b).enumerate() {
+        let ahead = if place > 0 && place % 2 == 0 {
+            "\\e"
+        } else {
+            ""
+        };
+        let piece = Shown(piece);
+        write!(f, "{ahead}{piece}")?;
     }
-    f.write_str("\"")?;
-    if inner.len() > 120 {
-        f.write_str("..")
-    } else {
-        Ok(())
-    }
-}
-
-fn is_escape(byte: &u8) -> bool {
-    *byte == 0x1b
-}
-
-/// A piece of what tmux passes on, with an ESC ahead of it or with none.
-fn write_piece<W: fmt::Write>(
-    f: &mut fmt::Formatter<W>,
-    piece: &[u8],
-    is_escaped: bool,
-) -> fmt::Result {
-    if is_escaped {
-        f.write_str("\\e")?;
-    }
-    let piece = Shown(piece);
-    write!(f, "{piece}")
+    f.write_str(if inner.len() > 120 { "\".." } else { "\"" })
 }

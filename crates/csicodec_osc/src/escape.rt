@@ -37,7 +37,7 @@ fn is_plain(byte: u8) -> bool
 }
 
 /// How many bytes in front are shown as themselves.
-#[tactic(auto, using(crate::proofs::Plain::plain_more))]
+#[tactic(auto, using(crate::proofs::Reading::plain_more))]
 fn plain_len(bytes: &[u8]) -> usize
     ensures within { result ≤ length bytes.now }
     ensures shown { flat_map escaped bytes.now ≡ take result bytes.now ++ flat_map escaped (drop result bytes.now) }

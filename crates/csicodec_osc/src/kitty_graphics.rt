@@ -7,16 +7,13 @@ use std::fmt;
 
 /// What a key, or a key with a value, says behind this action.
 fn said_of(action: u8, key: &[u8]) -> Option<&'static str> {
-    for row in &GRAPHICS {
-        if let Some((of, known)) = row.as_bytes().split_first() {
-            let is_of = *of == b'-' || *of == action;
-            let is_as_long = known.get(key.len()).copied() == Some(b'|');
-            if is_of && is_as_long && known.starts_with(key) {
-                return Some(row.split_once('|')?.1);
-            }
-        }
-    }
-    None
+    GRAPHICS.iter().find_map(|row| {
+        let (of, known) = row.as_bytes().split_first()?;
+        let is_of = *of == b'-' || *of == action;
+        let is_as_long = known.get(key.len()).copied() == Some(b'|');
+        let is_so = is_of && is_as_long && known.starts_with(key);
+        is_so.then_some(row.get(key.len().saturating_add(2)..)?)
+    })
 }
 
 /// A key with its value: what they say, or themselves.

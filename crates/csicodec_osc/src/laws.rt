@@ -3,7 +3,7 @@ ghost use Rattle.std.specs.Prelude.{◌≡◌, ℕ, List};
 ghost use Rattle.csicodec_osc.specs.Osc.{IsWritable, Said, Says, written};
 
 /// Each content says something, and is written of that byte for byte.
-#[tactic(auto, using(crate::proofs::Table::each_says))]
+#[tactic(auto, using(crate::proofs::Reading::each_says))]
 pub fn round_trip()
     ensures { (content : List ℕ) → (s : Said) × Says content s }
 {}

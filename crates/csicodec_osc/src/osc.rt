@@ -137,15 +137,13 @@ impl Command {
         ensures { option_map said result
             ≡ option_map (Known self) (read_body (form self) (option_map (λ t. t.now) tail.entry)) }
     {
+        let list = OscFields { text: tail };
         match self {
             Command::Title(title) => Some(Osc::Title(title, tail?)),
-            Command::Colors(palette) => Some(Osc::Colors(palette, OscFields { text: tail })),
-            Command::Color(color) => Some(Osc::Color(color, OscFields { text: tail })),
-            Command::ResetColors(palette) => Some(Osc::ResetColors(
-                palette,
-                OscFields { text: tail },
-            )),
-            Command::ResetColor(color) => Some(Osc::ResetColor(color, OscFields { text: tail })),
+            Command::Colors(palette) => Some(Osc::Colors(palette, list)),
+            Command::Color(color) => Some(Osc::Color(color, list)),
+            Command::ResetColors(palette) => Some(Osc::ResetColors(palette, list)),
+            Command::ResetColor(color) => Some(Osc::ResetColor(color, list)),
             Command::Link => {
                 let (params, address) = split_at(tail?, b';')?;
                 Some(Osc::Link { params, address })
@@ -156,9 +154,9 @@ impl Command {
                 Some(Osc::Clipboard { selection, content })
             }
             Command::Folder(folder) => Some(Osc::Folder(folder, tail?)),
-            Command::Prompt(mark) => Some(Osc::Prompt(mark, OscFields { text: tail })),
-            Command::Editor(mark) => Some(Osc::Editor(mark, OscFields { text: tail })),
-            Command::Progress(progress) => Some(Osc::Progress(progress, OscFields { text: tail })),
+            Command::Prompt(mark) => Some(Osc::Prompt(mark, list)),
+            Command::Editor(mark) => Some(Osc::Editor(mark, list)),
+            Command::Progress(progress) => Some(Osc::Progress(progress, list)),
             Command::Pointer => Some(Osc::Pointer(tail?)),
             Command::KittyNotice => {
                 let (metadata, payload) = split_at(tail?, b';')?;
@@ -181,10 +179,7 @@ impl Command {
 fn behind<'a>(number: &[u8], content: &'a [u8]) -> Option<Option<&'a [u8]>>
     ensures { option_map (λ o. option_map (λ t. t.now) o) result ≡ behind number.now content.now }
 {
-    let Some(rest) = content.strip_prefix(number) else {
-        return None;
-    };
-    tail(rest)
+    tail(content.strip_prefix(number)?)
 }
 
 /// Nothing, or a `;` and a text.

@@ -100,12 +100,8 @@ fn behind<'a>(body: Body<'a>, rest: Body<'a>, front: &[u8]) -> Option<Body<'a>> 
 
 /// The words and the text of what has words alone.
 fn alone<'a>(body: Body<'a>, rest: Body<'a>) -> Option<(&'static str, Body<'a>)> {
-    for (place, front) in FRONTS.iter().enumerate() {
-        if let Some(text) = behind(body, rest, front.as_bytes()) {
-            return Some((ALONE.get(place).copied()?, text));
-        }
-    }
-    None
+    let mut rows = FRONTS.iter().zip(&ALONE);
+    rows.find_map(|(front, words)| Some((*words, behind(body, rest, front.as_bytes())?)))
 }
 
 /// A mark of a shell: behind the command's end stands its status.
@@ -165,12 +161,9 @@ fn done<W: fmt::Write>(
     }
 }
 
-/// A notification with a title.
-fn noticed<W: fmt::Write>(f: &mut fmt::Formatter<W>, title: &[u8], text: Body<'_>) -> fmt::Result {
-    let title = Quoted {
-        bytes: title,
-        more: false,
-    };
+/// A notification with a title of these bytes.
+fn noticed<W: fmt::Write>(f: &mut fmt::Formatter<W>, bytes: &[u8], text: Body<'_>) -> fmt::Result {
+    let title = Quoted { bytes, more: false };
     let text = text.quoted();
     write!(f, "notification: {title}, {text}")
 }
@@ -193,15 +186,12 @@ fn link<W: fmt::Write>(f: &mut fmt::Formatter<W>, params: &[u8], address: Body<'
 
 /// A picture or another file of iTerm2's: what is said of it, and how long it is.
 fn picture<W: fmt::Write>(f: &mut fmt::Formatter<W>, file: Body<'_>) -> fmt::Result {
-    let Some((said, bytes)) = split_at(file.bytes, b':') else {
+    let Some((bytes, content)) = split_at(file.bytes, b':') else {
         let quoted = file.quoted();
         return write!(f, "file {quoted}");
     };
-    let len = file.with(bytes).len();
-    let said = Quoted {
-        bytes: said,
-        more: false,
-    };
+    let len = file.with(content).len();
+    let said = Quoted { bytes, more: false };
     write!(f, "file {said}, {len} bytes in base64")
 }
 

@@ -1,20 +1,10 @@
 -- The front of a line that is written as it comes, and its end.
-use Rattle.std.proofs.Common.{◌≡◌, ◌≤◌, ◌+◌, ◌-◌, ◌*◌, ℕ, zero, suc, Bool, true, false, cond, List, [], ◌∷◌, ◌++◌, length, length-append, replicate, refl, sym, ap, subst, ◌∙◌, ⊎_elim, append_assoc, append-nil, arith, take, drop, ◌/◌, ◌==◌, unwrap_or}
-use Rattle.csicodec_overwrite.proofs.Common.{eqb-true, nat_tests, AllByRecursion, prefix_len, IsPlainByte, is_shown, Look, plain, Cell, Marking, Behind, Char, Glyph, Line, Page, Plain, Styled, Pen, Step}
-use Rattle.csicodec_overwrite.proofs.Straight.{few_cells, line_plain, lines_plain, narrow, reads_end, reads_plain, split_line}
-use Rattle.csicodec_overwrite.proofs.{Alike.newline_written, Alike.turn_same, Alike.written_none, Alike.written_on, Read.reads_none, Read.reads_on}
-use Rattle.csicodec_overwrite.proofs.{Rows.standing_settled, Texts.text_painted, Stays.cells, Stays.cells_full, Stays.cells_length, Stays.full_trimmed}
-use Rattle.csicodec_overwrite.proofs.{Stays.put_cells, Stays.puts, Written.all_on, Written.passes_on, Written.pen_on}
+use Rattle.csicodec_overwrite.proofs.Common.{◌≡◌, ◌≤◌, ◌+◌, ◌-◌, ◌*◌, ℕ, zero, suc, Bool, true, false, cond, List, [], ◌∷◌, ◌++◌, length, length-append, replicate, refl, sym, ap, subst, ◌∙◌, append_assoc, append-nil, arith, ◌/◌, ◌==◌, unwrap_or, eqb-true, nat_tests, AllByRecursion, IsPlainByte, is_shown, Look, plain, Cell, Marking, Behind, Char, Glyph, Line, Page, Plain, Styled, Pen, Step, Done, before, behind_columns, blank, cells_of, do_all, does, done, line, pen_behind, pen_behind_all, put, IsFront, IsStyled, IsWritten, IsWrittenTo, drawn, last_look, last_of_run, run_text, AreFull, AreLines, IsLineByte, PutsPlain, closed, end_of, LineFront, Now, Passes, Reads, none_held, AreLooks, IsLook, Sets, of_chars, most, columns, glyph, narrowed, onto, to_tab_stop, width, ended, paint, shows_looks, text_of, texts_of, turn, written}
+use Rattle.csicodec_overwrite.proofs.Stays.{few_cells, line_plain, lines_plain, narrow, reads_end, reads_plain, cells, cells_full, cells_length, full_trimmed, put_cells, puts}
+use Rattle.csicodec_overwrite.proofs.{Texts.blank_written, Texts.turn_same, Texts.written_none, Texts.written_on, Texts.text_painted, Read.reads_none}
+use Rattle.csicodec_overwrite.proofs.{Read.reads_on, Rows.standing_settled, Written.all_on, Written.passes_on, Written.pen_on}
 use Rattle.unicode_width.specs.Width.{char_width}
-use Rattle.csicodec_tokens.proofs.Runs.{All-push}
-use Rattle.csicodec_overwrite.specs.Line.{Done, before, behind_columns, blank, cells_of, do_all, does, done, line, pen_behind, pen_behind_all, put}
-use Rattle.csicodec_overwrite.specs.Private.Front.{IsFront, IsStyled, IsWritten, IsWrittenTo, drawn, last_look, last_of_run, run_text}
-use Rattle.csicodec_overwrite.specs.Private.Plain.{AreFull, AreLines, IsLineByte, PutsPlain, closed, end_of, line_byte}
-use Rattle.csicodec_overwrite.specs.{declared.front.LineFront.LineFront, Stream.Now, Stream.Passes, Stream.Reads, Stream.none_held, Turned.AreLooks}
-use Rattle.csicodec_overwrite.specs.{Turned.IsLook, Turned.Sets, Steps.of_char, Steps.of_chars, Reading.most, Cells.columns, Cells.glyph, Cells.narrowed}
-use Rattle.csicodec_overwrite.specs.{Cells.onto, Cells.to_tab_stop, Cells.width, Paint.ended, Paint.paint, Paint.shows_looks, Paint.text_of, Paint.texts_of}
-use Rattle.csicodec_overwrite.specs.{Paint.turn, Paint.written}
-use Rattle.csicodec_overwrite.specs.declared.step.Step.TheVariants as step
+use Rattle.csicodec_tokens.proofs.Walks.{All-push}
 
 -- ---- what is written of cells
 
@@ -39,9 +29,6 @@ module _ (marking : Marking) (g : Glyph) (left : List Cell) where
   char_drawn (suc w) = rw (turn_same marking (last_look (replicate w Behind ++ Char g ∷ left)), written_none marking, append-nil) (char_drawn w)
 
 -- ---- text of ASCII
-
-no_newline : (b : ℕ) → IsLineByte b → (b == 10) ≡ true → ⊥
-no_newline b h e = let g : line_byte 10 ≡ true = subst IsLineByte (eqb-true b 10 e) h in cc
 
 wide : (c column : ℕ) → IsLineByte c → (w : ℕ) × (width c column ≡ suc w)
 wide c column h = by (c == 9) refl
@@ -88,11 +75,9 @@ runs limit marking pen [] left over h full few = record {
   look = refl;
   text = rw (turn_same marking (last_look left), written_none marking, append-nil) refl;
 }
-runs limit marking pen (c ∷ cs) left over h full few = ⊎_elim
-    (λ (k : (c == 10 ≡ true) × (of_char c ≡ step.NewLine ∷ [])). absurd (no_newline c h.0 k.0))
-    (λ (k : (c == 10 ≡ false) × ((s : Step) × (of_char c ≡ s ∷ []) × ((column : ℕ) → closed (pen_behind pen s column) ≡ closed pen)
-    × ((limit : ℕ) (left : List Cell) → does limit pen s (line left []) ≡ put limit pen.inserts (glyph c pen.look) (line left [])))).
-    let (s, of, kept, puts) = k.1 in
+runs limit marking pen (c ∷ cs) left over h full few =
+    let byte : IsLineByte c = h.0 in
+    let (s, of, kept, is_put) = puts pen c (is_shown c (line_plain c byte)) (grind (arith, nat_tests)) in
     let (w, is) = wide c (columns left) h.0 in
     let g = glyph c pen.look in
     let next = cells g (suc w) left in
@@ -100,7 +85,7 @@ runs limit marking pen (c ∷ cs) left over h full few = ⊎_elim
     let look : then.look ≡ pen.look = ap (λ (p : Pen). p.look) (kept (columns left)) in
     let longer : length next ≤ length left + 8 = omega (arith, cells_length g (suc w) left, few_cells c (columns left), is) in
     let one : does limit pen s (line left []) ≡ done [] (line next []) =
-    puts limit left ∙ ap (λ (b : Bool). put limit b g (line left [])) over
+    is_put limit left ∙ ap (λ (b : Bool). put limit b g (line left [])) over
     ∙ put_cells limit g left (omega (arith, few_cells c (columns left), few)) ∙ ap (λ (n : ℕ). done [] (line (cells g n left) [])) is in
     let r = runs limit marking then cs next (ap (λ (p : Pen). p.inserts) (kept (columns left)) ∙ over) h.1 (cells_full g (suc w) left full)
     (omega (arith, longer, few)) in
@@ -113,8 +98,7 @@ runs limit marking pen (c ∷ cs) left over h full few = ⊎_elim
       pens = rw of (ap (λ (d : Done). closed (pen_behind_all limit then (of_chars cs) d.line)) one ∙ r.pens ∙ kept (columns left));
       look = r.look ∙ rw (char_look marking g left w, look) (run_look pen.look cs);
       text = r.text ∙ rw (char_look marking g left w, look, run_same marking pen.look cs, char_drawn marking g left w, written_on marking (c ∷ []) cs) (simp append_assoc);
-    })
-    (puts pen c (is_shown c (line_plain c h.0)))
+    }
 
 -- ---- sequences that set how it looks
 
@@ -124,9 +108,9 @@ record Still (limit : ℕ) (pen : Pen) (s : Step) (left : List Cell) (mid : Look
   kept : (l : Look) → closed (record (pen_behind pen s (columns left)) { look = l }) ≡ closed (record pen { look = l })
 
 still_one : (limit : ℕ) (pen : Pen) (s : Step) (left : List Cell) (mid : Look) → IsLook pen.look s mid → Still limit pen s left mid
-still_one limit pen (step.Attribute a) left mid h = record { same = refl; look = sym h; kept = λ l. refl }
-still_one limit pen step.EraseRight left mid h = record { same = refl; look = sym h; kept = λ l. refl }
-still_one limit pen step.Other left mid h = record { same = refl; look = sym h; kept = λ l. refl }
+still_one limit pen (Step.Attribute a) left mid h = record { same = refl; look = sym h; kept = λ l. refl }
+still_one limit pen Step.EraseRight left mid h = record { same = refl; look = sym h; kept = λ l. refl }
+still_one limit pen Step.Other left mid h = record { same = refl; look = sym h; kept = λ l. refl }
 still_one limit pen _ left mid h = absurd h
 
 still : (limit : ℕ) (steps : List Step) (after : Look) (pen : Pen) (left : List Cell) → AreLooks pen.look steps after
@@ -190,12 +174,7 @@ module _ (marking : Marking) (pen : Pen) (bytes text : List ℕ) (last now : Loo
       let r = runs most marking then run f.cells (ap (λ (p : Pen). p.inserts) f.pens ∙ over) h f.full
       (omega (arith, few, f.few, length-append bytes run)) in
       on run (of_chars run) r.more (text ++ run_text marking last now run) (last_of_run last now run) now (reads_plain run plains) r.lines
-      r.line (r.pens ∙ f.pens) r.full r.few
-      (ap (λ (l : Look). last_of_run l now run) f.looks ∙ ap (λ (l : Look). last_of_run (last_look f.cells) l run) (sym look_is)
-      ∙ sym r.look)
-      (ap (λ (t : List ℕ). t ++ run_text marking last now run) f.drawn
-      ∙ ap (λ (l : Look). drawn marking f.cells ++ run_text marking l now run) f.looks
-      ∙ ap (λ (l : Look). drawn marking f.cells ++ run_text marking (last_look f.cells) l run) (sym look_is) ∙ sym r.text)
+      r.line (r.pens ∙ f.pens) r.full r.few (rw (f.looks, r.look, look_is) refl) (rw (f.drawn, f.looks, r.text, look_is) refl)
 
   sets_on : (sequence : List ℕ) (after : Look) → Sets sequence now after → IsFront marking pen (bytes ++ sequence) text last after
   sets_on sequence after (steps, reads, looks) =
@@ -210,10 +189,9 @@ module _ (marking : Marking) (pen : Pen) (bytes before : List ℕ) where
 
   -- the text in front of the rest
   pub run_written : (rest run behind mid after : List ℕ) (last now next : Look) → pen.inserts ≡ false → IsWrittenTo marking pen bytes before rest last now mid
-      → run ≡ take (prefix_len line_byte rest) rest → behind ≡ drop (prefix_len line_byte rest) rest → length bytes - length behind ≤ most / 8
+      → rest ≡ run ++ behind → AllByRecursion IsLineByte run → length bytes - length behind ≤ most / 8
       → next ≡ last_of_run last now run → after ≡ mid ++ run_text marking last now run → IsWrittenTo marking pen bytes before behind next now after
-  run_written rest run behind mid after last now next over (front, text, split, f, out) e g few look longer =
-      let (parts, plain) = split_line rest run behind e g in
+  run_written rest run behind mid after last now next over (front, text, split, f, out) parts plain few look longer =
       let told = run_text marking last now run in
       let whole : bytes ≡ (front ++ run) ++ behind = split ∙ ap (λ (t : List ℕ). front ++ t) parts ∙ sym (append_assoc front run behind) in (
         front ++ run,
@@ -224,97 +202,85 @@ module _ (marking : Marking) (pen : Pen) (bytes before : List ℕ) where
       )
 
   -- a sequence in front of it, and the text behind that
-  pub styled_written : (mid after text : List ℕ) (old new : LineFront) → pen.inserts ≡ false → new.least ≡ length bytes - most / 8
-      → IsWritten marking pen bytes before old mid → IsStyled marking old text new → after ≡ mid ++ text → IsWritten marking pen bytes before new after
-  styled_written mid after text old new over least (front, told, split, f, out) s longer =
-      run_written s.others (take (prefix_len line_byte s.others) s.others) new.rest.now mid after old.last new.now new.last over (
+  pub styled_written : (mid after : List ℕ) (old new : LineFront) → pen.inserts ≡ false → new.least ≡ length bytes - most / 8
+      → IsWritten marking pen bytes before old mid → IsStyled marking old mid new after → IsWritten marking pen bytes before new after
+  styled_written mid after old new over least (front, told, split, f, out) s =
+      run_written (s.run ++ new.rest.now) s.run new.rest.now mid after old.last new.now new.last over (
         front ++ s.sequence,
         told,
-        split ∙ ap (λ (t : List ℕ). front ++ t) s.parts ∙ sym (append_assoc front s.sequence s.others),
+        split ∙ ap (λ (t : List ℕ). front ++ t) s.parts ∙ sym (append_assoc front s.sequence (s.run ++ new.rest.now)),
         sets_on marking pen front told old.last old.now f s.sequence new.now s.sets,
         out,
-      ) refl s.rest (omega (arith, least, s.room)) s.looks (longer ∙ ap (λ (t : List ℕ). mid ++ t) s.text)
+      ) refl s.plain (omega (arith, least, s.room)) s.looks s.text
 
 -- ---- the end of the line
 
--- behind a return or none
-module _ (old new : Now) (bare : old.reader ≡ none_held) (reader : new.reader ≡ old.reader) (marking : new.marking ≡ old.marking) (is : new.line ≡ blank) (pen : new.pen ≡ closed old.pen) where
-  pub end_passes : (returned : Bool) → Passes old (end_of returned) (ended old.marking (cells_of old.line)) new
-  end_passes false = record {
-    steps = of_chars (end_of false);
-    reads = rw (reader, bare) (reads_end false);
-    pen = pen;
-    marking = marking;
-    line = is;
-    all = sym (append-nil (ended old.marking (cells_of old.line)));
-  }
-  end_passes true = record {
-    steps = of_chars (end_of true);
-    reads = rw (reader, bare) (reads_end true);
-    pen = pen;
-    marking = marking;
-    line = is;
-    all = ap (λ (cells : List Cell). ended old.marking (onto cells [])) (sym (standing_settled most 0 old.line))
-        ∙ sym (append-nil (ended old.marking (cells_of (behind_columns most 0 old.line))));
-  }
+-- where nothing is open, held or written
+abbrev pub ready : Marking → Pen → Line → Now
+ready marking pen l = record { reader = none_held; pen = pen; marking = marking; line = l }
 
-pub line_passes : (old new : Now) (bytes text : List ℕ) (last now : Look) (returned : Bool) → old.reader ≡ none_held → new.reader ≡ old.reader
-    → old.line ≡ blank → new.line ≡ old.line → new.marking ≡ old.marking → new.pen ≡ closed (record old.pen { look = now })
-    → IsFront old.marking old.pen bytes text last now
-    → Passes old (bytes ++ end_of returned) (text ++ (turn old.marking last plain ++ 10 ∷ [])) new
-line_passes old new bytes text last now returned bare reader is same marking pen f =
-    let left = f.cells in
-    let mid : Now = record {
-      reader = none_held;
-      pen = pen_behind_all most old.pen f.steps blank;
-      marking = old.marking;
-      line = line left [];
-    } in
-    let front : Passes old bytes [] mid = record {
+-- behind a return or none
+pub end_passes : (marking : Marking) (pen : Pen) (l : Line) (returned : Bool)
+    → Passes (ready marking pen l) (end_of returned) (ended marking (cells_of l)) (ready marking (closed pen) blank)
+end_passes marking pen l false = record {
+  steps = of_chars (end_of false);
+  reads = reads_end false;
+  pen = refl;
+  marking = refl;
+  line = refl;
+  all = sym (append-nil (ended marking (cells_of l)));
+}
+end_passes marking pen l true = record {
+  steps = of_chars (end_of true);
+  reads = reads_end true;
+  pen = refl;
+  marking = refl;
+  line = refl;
+  all = rw (← standing_settled most 0 l) (sym (append-nil (ended marking (cells_of (behind_columns most 0 l)))));
+}
+
+pub line_passes : (marking : Marking) (pen : Pen) (bytes text : List ℕ) (last now : Look) (returned : Bool) → IsFront marking pen bytes text last now
+    → Passes (ready marking pen blank) (bytes ++ end_of returned) (text ++ (turn marking last plain ++ 10 ∷ [])) (ready marking (closed
+    (record pen { look = now })) blank)
+line_passes marking pen bytes text last now returned f =
+    let then = pen_behind_all most pen f.steps blank in
+    let mid = ready marking then (line f.cells []) in
+    let new = ready marking (closed (record pen { look = now })) blank in
+    let front : Passes (ready marking pen blank) bytes [] mid = record {
       steps = f.steps;
-      reads = rw bare f.reads;
-      pen = ap (pen_behind_all most old.pen f.steps) (sym is);
+      reads = f.reads;
+      pen = refl;
       marking = refl;
-      line = sym f.line ∙ ap (λ (l : Line). (do_all most old.pen f.steps l).line) (sym is);
-      all = ap (texts_of old.marking) (sym f.lines) ∙ ap (λ (l : Line). texts_of old.marking (do_all most old.pen f.steps l).lines) (sym is);
+      line = sym f.line;
+      all = ap (texts_of marking) (sym f.lines);
     } in
-    let whole : ended old.marking (cells_of (line left [])) ≡ text ++ (turn old.marking last plain ++ 10 ∷ []) =
-    ap (λ (cells : List Cell). ended old.marking (onto cells [])) (full_trimmed left f.full)
-    ∙ ap (λ (t : List ℕ). t ++ 10 ∷ []) (all_drawn old.marking left)
-    ∙ append_assoc (drawn old.marking left) (turn old.marking (last_look left) plain) (10 ∷ [])
-    ∙ ap (λ (l : Look). drawn old.marking left ++ (turn old.marking l plain ++ 10 ∷ [])) (sym f.looks)
-    ∙ ap (λ (t : List ℕ). t ++ (turn old.marking last plain ++ 10 ∷ [])) (sym f.drawn) in
-    subst (λ (t : List ℕ). Passes old (bytes ++ end_of returned) t new) whole
-    (passes_on old mid new bytes (end_of returned) [] (ended old.marking (cells_of (line left []))) front
-    (end_passes mid new refl (reader ∙ bare) marking (same ∙ is) (pen ∙ sym f.pens) returned))
+    let whole : ended marking (cells_of (line f.cells [])) ≡ text ++ (turn marking last plain ++ 10 ∷ []) =
+    rw (full_trimmed f.cells f.full, f.looks, f.drawn, all_drawn marking f.cells) (append_assoc (drawn marking f.cells) (turn marking
+    (last_look f.cells) plain) (10 ∷ [])) in
+    rw (← whole) (passes_on (ready marking pen blank) mid new bytes (end_of returned) [] (ended marking (cells_of (line f.cells []))) front
+    (rw (← f.pens) (end_passes marking then (line f.cells []) returned)))
 
 -- ---- lines of text alone
 
-plain_text : (marking : Marking) (look : Look) (run : List ℕ) → (shows_looks marking ≡ true → look ≡ plain)
-    → run_text marking plain look run ++ (turn marking (last_of_run plain look run) plain ++ 10 ∷ []) ≡ written marking (run ++ 10 ∷ [])
-plain_text marking look run is = rw (written_on marking run (10 ∷ []), newline_written marking) (ahead marking is)
-  where
-    one : (m : Marking) → look ≡ plain → run_text m plain look run ++ (turn m (last_of_run plain look run) plain ++ 10 ∷ []) ≡ written m run ++ 10 ∷ []
-    one m e = rw (e, run_same m plain run, run_look plain run, turn_same m plain) refl
+plain_same : (m : Marking) (look : Look) (run : List ℕ) → look ≡ plain
+    → run_text m plain look run ++ (turn m (last_of_run plain look run) plain ++ 10 ∷ []) ≡ written m (run ++ 10 ∷ [])
+plain_same m look run e = rw (written_on m run (10 ∷ []), (blank_written m).0, e, run_same m plain run, run_look plain run, turn_same m plain) refl
 
-    ahead : (m : Marking) → (shows_looks m ≡ true → look ≡ plain)
-        → run_text m plain look run ++ (turn m (last_of_run plain look run) plain ++ 10 ∷ []) ≡ written m run ++ 10 ∷ []
-    ahead Plain h = refl
-    ahead Styled h = one Styled (h refl)
-    ahead (Page n) h = one (Page n) (h refl)
+plain_text : (m : Marking) (look : Look) (run : List ℕ) → (shows_looks m ≡ true → look ≡ plain)
+    → run_text m plain look run ++ (turn m (last_of_run plain look run) plain ++ 10 ∷ []) ≡ written m (run ++ 10 ∷ [])
+plain_text Plain look run h = rw (written_on Plain run (10 ∷ []), (blank_written Plain).0) refl
+plain_text Styled look run h = plain_same Styled look run (h refl)
+plain_text (Page n) look run h = plain_same (Page n) look run (h refl)
 
-abbrev ready : Marking → Pen → Now
-ready marking pen = record { reader = none_held; pen = pen; marking = marking; line = blank }
-
-abbrev Stand : Marking → Pen → List ℕ → Type 0
-Stand marking pen text = Passes (ready marking pen) text (written marking text) (ready marking (closed pen))
+abbrev pub Stand : Marking → Pen → List ℕ → Type 0
+Stand marking pen text = Passes (ready marking pen blank) text (written marking text) (ready marking (closed pen) blank)
 
 stands : (marking : Marking) (pen : Pen) (run : List ℕ) → PutsPlain (shows_looks marking) pen → AllByRecursion IsLineByte run → 8 * length run ≤ most
     → Stand marking pen (run ++ 10 ∷ [])
 stands marking pen run (over, look) h few =
-    subst (λ (t : List ℕ). Passes (ready marking pen) (run ++ 10 ∷ []) t (ready marking (closed pen))) (plain_text marking pen.look run look)
-    (line_passes (ready marking pen) (ready marking (closed pen)) run (run_text marking plain pen.look run) (last_of_run plain pen.look run) pen.look
-    false refl refl refl refl refl refl (run_on marking pen [] [] plain pen.look (front_none marking pen) run over h few))
+    subst (λ (t : List ℕ). Passes (ready marking pen blank) (run ++ 10 ∷ []) t (ready marking (closed pen) blank)) (plain_text marking pen.look run look)
+    (line_passes marking pen run (run_text marking plain pen.look run) (last_of_run plain pen.look run) pen.look
+    false (run_on marking pen [] [] plain pen.look (front_none marking pen) run over h few))
 
 stand : (marking : Marking) (pen : Pen) (run front : List ℕ) → PutsPlain (shows_looks marking) pen → AllByRecursion IsLineByte run → AllByRecursion IsPlainByte front
     → 8 * length (run ++ front) ≤ most → Stand marking pen (run ++ (front ++ 10 ∷ []))
@@ -329,24 +295,13 @@ stand marking pen run (c ∷ cs) puts h plains few =
     by true e later same =
         let line = run ++ 10 ∷ [] in
         let rest = cs ++ 10 ∷ [] in
-        let now = ready marking (closed pen) in
-        subst (Stand marking pen) (append_assoc run (10 ∷ []) rest ∙ ap (λ (n : ℕ). run ++ n ∷ rest) (sym (eqb-true c 10 e)))
-        (subst (λ (t : List ℕ). Passes (ready marking pen) (line ++ rest) t now) (sym (written_on marking line rest))
-        (passes_on (ready marking pen) now now line rest (written marking line) (written marking rest)
-        (stands marking pen run puts h (omega (arith, few, length-append run (c ∷ cs)))) later))
+        let now = ready marking (closed pen) blank in
+        rw (eqb-true c 10 e, ← append_assoc run (10 ∷ []) rest, written_on marking line rest)
+        (passes_on (ready marking pen blank) now now line rest (written marking line) (written marking rest)
+        (stands marking pen run puts h (omega (arith, few, length-append run (c ∷ cs)))) later)
     by false e later same = subst (Stand marking pen) (append_assoc run (c ∷ []) (cs ++ 10 ∷ [])) (same (rw e at plains.0))
 
-pub lines_pass : (old new : Now) (bytes lines rest : List ℕ) → old.reader ≡ none_held → new.reader ≡ old.reader → old.line ≡ blank → new.line ≡ old.line
-    → new.marking ≡ old.marking → new.pen ≡ closed old.pen → PutsPlain (shows_looks old.marking) old.pen → AreLines (most / 8) bytes lines rest
-    → Passes old lines (written old.marking lines) new
-lines_pass old new bytes lines rest bare reader is same marking pen puts (front, ends, split, plains, few) =
-    let p = subst (Stand old.marking old.pen) (sym ends)
-    (stand old.marking old.pen [] front puts tt plains (omega (arith, few, ap length ends, length-append front (10 ∷ [])))) in
-    record {
-      steps = p.steps;
-      reads = rw (reader, bare) p.reads;
-      pen = pen ∙ p.pen ∙ ap (pen_behind_all most old.pen p.steps) (sym is);
-      marking = marking;
-      line = same ∙ is ∙ p.line ∙ ap (λ (l : Line). (do_all most old.pen p.steps l).line) (sym is);
-      all = p.all ∙ ap (λ (l : Line). texts_of old.marking (do_all most old.pen p.steps l).lines) (sym is);
-    }
+pub lines_pass : (marking : Marking) (pen : Pen) (bytes lines rest : List ℕ) → PutsPlain (shows_looks marking) pen → AreLines (most / 8) bytes lines rest
+    → Stand marking pen lines
+lines_pass marking pen bytes lines rest puts (front, ends, split, plains, few) =
+    rw ends (stand marking pen [] front puts tt plains (omega (arith, few, ap length ends, length-append front (10 ∷ []))))

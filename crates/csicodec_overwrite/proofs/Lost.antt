@@ -1,16 +1,11 @@
 -- Each character that comes stands in a line, or was taken out of its own: counted step by step.
-use Rattle.std.proofs.Common.{◌≡◌, ◌≢◌, ◌≤◌, ℕ, ◌+◌, ◌-◌, zero, suc, Bool, true, false, cond, min, List, [], ◌∷◌, ◌++◌, length, replicate, refl, ap, ◌∙◌, arith, ◌==◌, Option, Some, None, flat_map}
-use Rattle.std.proofs.lemmas.List.Sums.{sum_by-append}
-use Rattle.csicodec_overwrite.proofs.Common.{nat_tests, Cell, Glyph, Line, Step, Behind, Char, Empty, Mark, Pen}
-use Rattle.csicodec_overwrite.proofs.Texts.{cells_by, chars_by, line_cells, newline}
-use Rattle.csicodec_overwrite.specs.Cells.{chars_of, columns, emptied, erased, glyph, gone, is_empty, onto, outside, shifted, takes, to_tab_stop, trimmed, width, without}
-use Rattle.csicodec_overwrite.specs.Line.{Done, behind_columns, blank, cells_of, do_all, does, does_here, done, entered, fits, forward, from_stop, in_row, leaves_long, line, lines_of, over, parted, pen_behind, placed, placed_in, put, repeat, repeated, restored, size, standing, target, to_stop, widest}
-use Rattle.csicodec_overwrite.specs.Lost.{again, all_came, all_taken, belonging, came, covered, left_out, taken, taken_again, taken_here, taken_by, taken_by_all, tabs, times, touched, under, whole, within, written}
-use Rattle.csicodec_overwrite.specs.declared.step.Step.TheVariants as step
-
-no_cells : (xs : List Cell) → length xs == 0 ≡ true → xs ≡ []
-no_cells [] e = refl
-no_cells (x ∷ xs) e = absurd (grind (arith, nat_tests))
+use Rattle.csicodec_overwrite.proofs.Common.{◌≡◌, ◌≢◌, ◌≤◌, ℕ, ◌+◌, ◌-◌, zero, suc, Bool, true, false, cond, min, List, [], ◌∷◌, ◌++◌, length, replicate, refl, ap, ◌∙◌, arith, ◌==◌, Option, Some, None, flat_map, encode_utf8_all, sym, append_assoc, append-nil, filter, sum_by-append, nil_from_length, eqb-true, nat_tests, Cell, Glyph, Line, Step, Behind, Char, Empty, Mark, Pen, flat_map-append, all_scalars, lossy_chars, lossy_chars-encode, Kind, Part, longest, shown, title_open, with_titles, encoded_on, titles_on, Plain, chars_of, columns, emptied, erased, glyph, gone, onto, outside, shifted, takes, to_tab_stop, trimmed, width, without, Done, behind_columns, blank, cells_of, do_all, does, does_here, done, entered, fits, forward, from_stop, in_row, leaves_long, line, lines_of, over, parted, pen_behind, placed, put, repeat, repeated, size, standing, target, to_stop, widest, fresh, again, all_came, all_taken, belonging, came, covered, left_out, taken, taken_again, taken_here, taken_by, taken_by_all, tabs, times, touched, under, whole, within, NothingLost, NothingMade, of_char, of_chars, of_run, of_sequence, as_text, AreOfParts, IsOfPart, Shows, Steps, most, shown_by, lossy_chars-nil, Strips, stripped, shown_text, scalars_lossy, scalars_on}
+use Rattle.csicodec_overwrite.proofs.{Texts.cells_by, Texts.chars_by, Texts.line_cells, Texts.shown_plain, Kept.overwritten_plain, Kept.scalars}
+use Rattle.csicodec_overwrite.proofs.{Kept.shown_good, Same.same_text}
+use Rattle.csicodec_overwrite.specs.Lost.{written}
+use Rattle.csicodec_spans.specs.Parts.{left_over}
+use Rattle.csicodec_clean.specs.{Cleaned.is_text, Shown.shown_chars}
+use Rattle.csicodec_clean.proofs.{Plain.kept_shown, Told.one_text, Told.plain_stays}
 
 module _ (c : ℕ) where
   -- how often the character stands in a cell
@@ -52,9 +47,6 @@ module _ (c : ℕ) where
   empties : (n : ℕ) (xs : List Cell) → count (replicate n Empty ++ xs) ≡ count xs
   empties n xs = omega (arith, joined (replicate n Empty) xs, columns_of Empty refl n)
 
-  behinds : (n : ℕ) (xs : List Cell) → count (replicate n Behind ++ xs) ≡ count xs
-  behinds n xs = omega (arith, joined (replicate n Behind) xs, columns_of Behind refl n)
-
   moved : (xs ys : List Cell) → count (onto xs ys) ≡ count xs + count ys
   moved [] ys = omega arith
   moved (x ∷ xs) ys = omega (arith, moved xs (x ∷ ys))
@@ -67,21 +59,16 @@ module _ (c : ℕ) where
   of_belonging [] = refl
   of_belonging (x ∷ xs) = grind (arith, of_belonging xs)
 
-  none_in : (x : Cell) → is_empty x ≡ true → in_cell x ≡ 0
-  none_in Empty e = refl
-  none_in _ e = cc
-
   of_trimmed : (xs : List Cell) → count (trimmed xs) ≡ count xs
   of_trimmed [] = refl
-  of_trimmed (x ∷ xs) = grind (arith, none_in x, of_trimmed xs)
+  of_trimmed (Empty ∷ xs) = omega (arith, of_trimmed xs)
+  of_trimmed _ = refl
 
   of_emptied : (xs rest : List Cell) → count (emptied xs rest) ≡ count rest
   of_emptied xs rest = empties (columns xs - columns rest) rest
 
   of_whole : (n : ℕ) (xs : List Cell) → count (whole n xs) + count (gone n xs) ≡ count xs
-  of_whole n xs =
-      let rest = without n xs in
-      omega (arith, joined (within n xs) (belonging rest), of_emptied rest (outside rest), of_belonging rest, of_within n xs)
+  of_whole n xs = omega (arith, joined, of_emptied, of_belonging, of_within)
 
   of_shifted : (t : Bool) (xs : List Cell) → count (shifted t xs) + count (tabs xs) ≡ count xs
   of_shifted t [] = refl
@@ -109,18 +96,7 @@ module _ (c : ℕ) where
 
   of_under : (l : Line) → count (under l) + in_line (parted l) ≡ in_line l
   of_under l =
-      let left = without 1 (outside l.left) in
-      let right = outside l.right in
-      grind (
-        arith,
-        joined (belonging l.left) (within 1 (outside l.left) ++ belonging l.right),
-        joined (within 1 (outside l.left)) (belonging l.right),
-        of_belonging l.left,
-        of_belonging l.right,
-        of_within 1 (outside l.left),
-        of_emptied l.left left,
-        of_emptied l.right right,
-      )
+      grind (arith, joined, of_belonging, of_within, of_emptied)
 
   of_touched : (n : ℕ) (l : Line) → count (touched n l) + (count (parted l).left + count (gone n (parted l).right)) ≡ in_line l
   of_touched n l = omega (arith, joined (under l) (whole n (parted l).right), of_whole n (parted l).right, of_under l)
@@ -140,7 +116,16 @@ module _ (c : ℕ) where
   of_placed : (inserts : Bool) (g : Glyph) (n : ℕ) (l : Line) → in_line (placed inserts g n l) + count (covered inserts n l) ≡ in_line l + times c (g.char ∷ [])
   of_placed inserts g n l =
       let p = parted l in
-      grind (arith, behinds (n - 1) (Char g ∷ p.left), of_under l, of_shifted false p.right, joined (under l) (tabs p.right), of_touched n l)
+      grind (
+        arith,
+        joined (replicate (n - 1) Behind) (Char g ∷ p.left),
+        columns_of Behind refl (n - 1),
+        of_under l,
+        of_shifted false p.right,
+        joined
+            (under l) (tabs p.right),
+        of_touched n l,
+      )
 
   -- where nothing stands on the right, nothing is taken
   none_covered : (inserts : Bool) (n : ℕ) (left : List Cell) → count (covered inserts n (line left [])) ≡ 0
@@ -156,21 +141,17 @@ module _ (c : ℕ) where
       ways : (t : Bool) (d e : Done) (a : List Cell) (n : ℕ) → in_all d + count a ≡ n → in_all e ≡ n → in_all (cond t d e) + count (cond t a []) ≡ n
       ways t d e a n h k = grind arith
 
-  again_suc : (n d : ℕ) → times c (replicate (suc n) d) ≡ times c (d ∷ []) + times c (replicate n d)
-  again_suc n d = both (d ∷ []) (replicate n d)
-
   of_repeat : (limit : ℕ) (inserts : Bool) (g : Glyph) (n : ℕ) (l : Line) → in_all (repeat limit inserts g n l) + count (taken_by_all limit inserts g n l) ≡ in_line l + times c (replicate n g.char)
   of_repeat limit inserts g zero l = omega arith
   of_repeat limit inserts g (suc n) l =
-      let d = put limit inserts g l in
-      let others = taken_by_all limit inserts g n d.line in
       omega (
         arith,
         of_put limit inserts g l,
-        of_repeat limit inserts g n d.line,
-        lines_joined d.lines (repeat limit inserts g n d.line).lines,
-        joined (taken_by limit inserts g l) others,
-        again_suc n g.char,
+        of_repeat limit inserts g n (put limit inserts g l).line,
+        lines_joined,
+        joined,
+        both (g.char ∷ [])
+            (replicate n g.char),
       )
 
   of_repeated : (limit : ℕ) (pen : Pen) (last : Option ℕ) (n : ℕ) (l : Line) → in_all (repeated limit pen last n l) + count (taken_again limit pen last n l) ≡ in_line l + times c (again last n)
@@ -178,47 +159,41 @@ module _ (c : ℕ) where
   of_repeated limit pen (Some d) n l = of_repeat limit pen.inserts (glyph d pen.look) n l
 
   -- a tab takes nothing: nothing stands on its right
-  of_tab : (limit : ℕ) (pen : Pen) (l : Line) → in_all (does_here limit pen step.Tab l) ≡ in_line l + times c (came pen step.Tab l)
+  of_tab : (limit : ℕ) (pen : Pen) (l : Line) → in_all (does_here limit pen Step.Tab l) ≡ in_line l + times c (came pen Step.Tab l)
   of_tab limit pen l = grind (arith, of_put limit pen.inserts (glyph 9 pen.look) l, none_taken, of_forward limit (to_tab_stop (columns l.left)) l)
     where
       none_taken : length l.right == 0 ≡ true → count (taken_by limit pen.inserts (glyph 9 pen.look) l) ≡ 0
-      none_taken e = rw (no_cells l.right e) (grind (arith, none_covered pen.inserts (width 9 (columns l.left)) l.left))
+      none_taken e = rw (nil_from_length l.right (eqb-true (length l.right) 0 e)) (grind (arith, none_covered pen.inserts (width 9 (columns l.left)) l.left))
 
   -- ---- steps
-
-  of_restored : (limit : ℕ) (pen : Pen) (l : Line) → in_all (restored limit pen l) + count (taken_here limit pen step.Restore l) ≡ in_line l
-  of_restored limit pen l = grind (arith, of_behind limit pen.saved l, of_lines l, of_forward limit pen.saved blank)
 
   of_in_row : (limit : ℕ) (to : Option ℕ) (l : Line) → in_line (in_row limit to l) ≡ in_line l
   of_in_row limit None l = refl
   of_in_row limit (Some n) l = of_behind limit (n - 1) l
 
-  of_placed_in : (limit : ℕ) (pen : Pen) (row : ℕ) (to : Option ℕ) (l : Line) → in_all (placed_in limit pen row to l) + count (taken_here limit pen (step.Row row to) l) ≡ in_line l
-  of_placed_in limit pen row to l = grind (arith, of_in_row limit to l, of_lines l, of_forward limit (target to l) blank)
-
   of_here : (limit : ℕ) (pen : Pen) (s : Step) (l : Line) → in_all (does_here limit pen s l) + count (taken_here limit pen s l) ≡ in_line l + times c (came pen s l)
-  of_here limit pen (step.Put d) l = of_put limit pen.inserts (glyph d pen.look) l
-  of_here limit pen (step.Repeat n) l = of_repeated limit pen pen.last n l
-  of_here limit pen step.Tab l = omega (arith, of_tab limit pen l)
-  of_here limit pen (step.Tabs n) l = omega (arith, of_forward limit (min (to_stop n (columns l.left)) (widest - 1 - columns l.left)) l)
-  of_here limit pen (step.TabsBack n) l = omega (arith, of_behind limit (columns l.left - from_stop n (columns l.left)) l)
-  of_here limit pen step.NewLine l = omega (arith, of_cells l)
-  of_here limit pen (step.Right n) l = omega (arith, of_forward limit (min n (widest - 1 - columns l.left)) l)
-  of_here limit pen (step.Left n) l = omega (arith, of_behind limit (columns l.left - n) l)
-  of_here limit pen (step.Column n) l = omega (arith, of_behind limit (n - 1) l)
-  of_here limit pen step.EraseRight l = omega (arith, of_under l, joined (under l) (parted l).right)
-  of_here limit pen step.EraseLeft l = omega (arith, columns_of Empty refl (columns l.left), of_erased 1 l.right, of_whole 1 l.right, joined l.left (whole 1 l.right))
-  of_here limit pen step.EraseAll l = omega (arith, columns_of Empty refl (columns l.left), joined l.left l.right)
-  of_here limit pen (step.Erase n) l = omega (arith, of_touched n l, of_erased n (parted l).right)
-  of_here limit pen (step.Delete n) l =
+  of_here limit pen (Step.Put d) l = of_put limit pen.inserts (glyph d pen.look) l
+  of_here limit pen (Step.Repeat n) l = of_repeated limit pen pen.last n l
+  of_here limit pen Step.Tab l = omega (arith, of_tab limit pen l)
+  of_here limit pen (Step.Tabs n) l = omega (arith, of_forward limit (min (to_stop n (columns l.left)) (widest - 1 - columns l.left)) l)
+  of_here limit pen (Step.TabsBack n) l = omega (arith, of_behind limit (columns l.left - from_stop n (columns l.left)) l)
+  of_here limit pen Step.NewLine l = omega (arith, of_cells l)
+  of_here limit pen (Step.Right n) l = omega (arith, of_forward limit (min n (widest - 1 - columns l.left)) l)
+  of_here limit pen (Step.Left n) l = omega (arith, of_behind limit (columns l.left - n) l)
+  of_here limit pen (Step.Column n) l = omega (arith, of_behind limit (n - 1) l)
+  of_here limit pen Step.EraseRight l = omega (arith, of_under l, joined (under l) (parted l).right)
+  of_here limit pen Step.EraseLeft l = omega (arith, columns_of Empty refl (columns l.left), of_erased 1 l.right, of_whole 1 l.right, joined l.left (whole 1 l.right))
+  of_here limit pen Step.EraseAll l = omega (arith, columns_of Empty refl (columns l.left), joined l.left l.right)
+  of_here limit pen (Step.Erase n) l = omega (arith, of_touched n l, of_erased n (parted l).right)
+  of_here limit pen (Step.Delete n) l =
       let rest = gone n (parted l).right in
       omega (arith, of_touched n l, of_shifted false rest, joined (touched n l) (tabs rest))
-  of_here limit pen (step.Insert n) l =
+  of_here limit pen (Step.Insert n) l =
       let right = (parted l).right in
       omega (arith, of_under l, empties (min n (limit - size (parted l))) (shifted false right), of_shifted false right, joined (under l) (tabs right))
-  of_here limit pen step.Restore l = omega (arith, of_restored limit pen l)
-  of_here limit pen (step.Leave to) l = omega (arith, of_lines l, of_forward limit (target to l) blank)
-  of_here limit pen (step.Row row to) l = omega (arith, of_placed_in limit pen row to l)
+  of_here limit pen Step.Restore l = grind (arith, of_behind limit pen.saved l, of_lines l, of_forward limit pen.saved blank)
+  of_here limit pen (Step.Leave to) l = omega (arith, of_lines l, of_forward limit (target to l) blank)
+  of_here limit pen (Step.Row row to) l = grind (arith, of_in_row limit to l, of_lines l, of_forward limit (target to l) blank)
   of_here limit pen _ l = omega arith
 
   of_entered : (limit : ℕ) (s : Step) (l : Line) → in_all (entered limit s l) + count (cond (leaves_long s l) (left_out l) []) ≡ in_line l
@@ -226,36 +201,17 @@ module _ (c : ℕ) where
 
   -- what comes is the same in the line that is entered
   came_there : (limit : ℕ) (pen : Pen) (s : Step) (l : Line) → came pen s (entered limit s l).line ≡ came pen s l
-  came_there limit pen step.Tab l = refl
+  came_there limit pen Step.Tab l = refl
   came_there limit pen _ l = refl
 
   of_does : (limit : ℕ) (pen : Pen) (s : Step) (l : Line) → in_all (does limit pen s l) + count (taken limit pen s l) ≡ in_line l + times c (came pen s l)
   of_does limit pen s l =
-      let e = entered limit s l in
-      let d = does_here limit pen s e.line in
-      omega (
-        arith,
-        of_entered limit s l,
-        of_here limit pen s e.line,
-        ap (times c) (came_there limit pen s l),
-        lines_joined e.lines d.lines,
-        joined (cond (leaves_long s l) (left_out l) []) (taken_here limit pen s e.line),
-      )
+      omega (arith, of_entered limit s l, of_here limit pen s (entered limit s l).line, ap (times c) (came_there limit pen s l), lines_joined, joined)
 
   of_all : (limit : ℕ) (pen : Pen) (steps : List Step) (l : Line) → in_all (do_all limit pen steps l) + times c (all_taken limit pen steps l) ≡ in_line l + times c (all_came limit pen steps l)
   of_all limit pen [] l = omega arith
   of_all limit pen (s ∷ steps) l =
-      let d = does limit pen s l in
-      let next = pen_behind pen s (columns l.left) in
-      omega (
-        arith,
-        of_does limit pen s l,
-        of_all limit next steps d.line,
-        lines_joined d.lines (do_all limit next steps d.line).lines,
-        both (flat_map written (taken limit pen s l)) (all_taken limit next steps d.line),
-        counted (taken limit pen s l),
-        both (came pen s l) (all_came limit next steps d.line),
-      )
+      omega (arith, of_does limit pen s l, of_all limit (pen_behind pen s (columns l.left)) steps (does limit pen s l).line, lines_joined, both, counted)
 
   pub balances : (limit : ℕ) (pen : Pen) (steps : List Step) → let d = do_all limit pen steps blank in
       in_lines d.lines + count (cells_of d.line) + times c (all_taken limit pen steps blank) ≡ times c (all_came limit pen steps blank)
@@ -282,8 +238,7 @@ module _ (c : ℕ) where
     lines_have : (lines : List (List Cell)) (last : List Cell) → in_lines lines + count last ≡ count (flat_map line_cells lines ++ last)
     lines_have [] last = omega arith
     lines_have (x ∷ xs) last =
-        let rest = flat_map line_cells xs in
-        omega (arith, lines_have xs last, joined (line_cells x ++ rest) last, joined (line_cells x) rest, joined rest last, joined x (newline ∷ []), others 10 no_newline)
+        omega (arith, lines_have xs last, joined, others 10 no_newline)
 
     pub text_has : (d : Done) → let all = in_lines d.lines + count (cells_of d.line) in
         (all ≤ times c (chars_by d)) × (c ≢ 32 → all ≡ times c (chars_by d))
@@ -291,3 +246,133 @@ module _ (c : ℕ) where
         let has = cells_have (cells_by d) in
         let same = lines_have d.lines (cells_of d.line) in
         (omega (arith, has.0, same), λ no_blank. same ∙ has.1 no_blank)
+
+-- ---- What `strip` leaves of the bytes comes into lines, and the law.
+
+-- ---- the characters that steps put by themselves
+
+abbrev put_by : Step → List ℕ
+put_by (Step.Put d) = d ∷ []
+put_by s = []
+
+abbrev puts : List Step → List ℕ
+puts steps = flat_map put_by steps
+
+module _ (c : ℕ) where
+  puts_on : (xs ys : List Step) → times c (puts (xs ++ ys)) ≡ times c (puts xs) + times c (puts ys)
+  puts_on xs ys = ap (times c) (flat_map-append put_by xs ys) ∙ both c (puts xs) (puts ys)
+
+  -- ---- they come
+
+  one_came : (pen : Pen) (s : Step) (l : Line) → times c (put_by s) ≤ times c (came pen s l)
+  one_came pen (Step.Put d) l = omega arith
+  one_came pen _ l = omega arith
+
+  all_puts : (limit : ℕ) (pen : Pen) (steps : List Step) (l : Line) → times c (puts steps) ≤ times c (all_came limit pen steps l)
+  all_puts limit pen [] l = omega arith
+  all_puts limit pen (s ∷ steps) l =
+      let next = pen_behind pen s (columns l.left) in
+      let after = (does limit pen s l).line in
+      omega (arith, one_came pen s l, all_puts limit next steps after, both c (put_by s) (puts steps), both c (came pen s l) (all_came limit next steps after))
+
+  -- ---- what is shown is put
+
+  module _ (no_tab : c ≢ 9) (no_newline : c ≢ 10) where
+    char_put : (d : ℕ) → times c (cond (shown d) (d ∷ []) []) ≤ times c (puts (of_char d))
+    char_put d = grind (arith, none_shown 10 no_newline, none_shown 9 no_tab, not_shown 13 refl, not_shown 8 refl)
+      where
+        none_shown : (k : ℕ) → c ≢ k → (d == k) ≡ true → times c (cond (shown d) (d ∷ []) []) ≡ 0
+        none_shown k h e = let none = others c d (λ f. h (f ∙ eqb-true d k e)) in grind (arith, none)
+
+        not_shown : (k : ℕ) → shown k ≡ false → (d == k) ≡ true → times c (cond (shown d) (d ∷ []) []) ≡ 0
+        not_shown k f e = ap (λ (t : Bool). times c (cond t (d ∷ []) [])) (ap shown (eqb-true d k e) ∙ f)
+
+    chars_put : (cs : List ℕ) → times c (filter shown cs) ≤ times c (puts (of_chars cs))
+    chars_put [] = omega arith
+    chars_put (d ∷ cs) = grind (arith, char_put d, chars_put cs, puts_on (of_char d) (of_chars cs), both c (d ∷ []) (filter shown cs))
+
+    -- these characters are shown, and then what is shown of the last run, and these steps put them
+    abbrev Keeps : List Step → (List Part → List ℕ) → List ℕ → Type 0
+    Keeps steps all left = (chars : List ℕ) × (all_scalars chars ≡ true) × ((qs : List Part) → all qs ≡ encode_utf8_all chars ++ stripped left qs) × (times c chars ≤ times c (puts steps))
+
+    module _ (ps : List Part) (run next left : List ℕ) (first later steps : List Step) (e : steps ≡ first ++ later) (others : Keeps later (λ qs. stripped next (ps ++ qs)) left) where
+      -- a part that ends the run, in front of these
+      ended : (own : List Step) → first ≡ of_run run ++ own → next ≡ [] → Keeps steps (λ qs. shown_text run ++ stripped [] (ps ++ qs)) left
+      ended own f none =
+          let (chars, scalars, same, put) = others in
+          let here = filter shown (lossy_chars run) in (
+            here ++ chars,
+            scalars_on here chars (kept_shown (lossy_chars run) (scalars_lossy run)).0 scalars,
+            λ qs. rw (rw none at (same qs), encoded_on here chars, append_assoc) refl,
+            rw (e, f) (omega (arith, both c, chars_put (lossy_chars run), puts_on)),
+          )
+
+      one_part : (k : Kind) (bytes : List ℕ) → IsOfPart k run bytes first next
+          → Keeps steps (λ qs. cond (is_text k) (stripped (run ++ bytes) (ps ++ qs)) (shown_text run ++ stripped [] (ps ++ qs))) left
+      one_part Kind.Text bytes (none, on) =
+          let (chars, scalars, same, put) = others in (
+            chars,
+            scalars,
+            λ qs. ap (λ (r : List ℕ). stripped r (ps ++ qs)) (sym on) ∙ same qs,
+            omega (arith, put, puts_on first later, ap (λ (x : List Step). times c (puts x)) e),
+          )
+      one_part Kind.Csi bytes (actions, of, f, none) = ended (of_sequence actions) f none
+      one_part _ bytes h = ended _ h.0 h.1
+
+    parts_put : (ps : List Part) (run : List ℕ) (steps : List Step) (left : List ℕ) → AreOfParts run ps steps left → Keeps steps (λ qs. stripped run (ps ++ qs)) left
+    parts_put [] run steps left h = ([], refl, λ qs. ap (λ (r : List ℕ). stripped r qs) (sym h.1), omega arith)
+    parts_put (p ∷ ps) run steps left (first, next, later, is, e, rest) = one_part ps run next left first later steps e (parts_put ps next later left rest) p.kind p.bytes is
+
+    -- what isn't over at the end shows nothing
+    none_over : (t : Bool) (run bytes : List ℕ) → stripped run (with_titles t (left_over bytes)) ≡ shown_text run
+    none_over t run [] = refl
+    none_over t run (b ∷ bytes) = ap (λ (cs : List ℕ). shown_text run ++ shown_chars cs) lossy_chars-nil ∙ append-nil (shown_text run)
+
+    pub kept_put : (bytes kept : List ℕ) (steps : List Step) → Steps bytes steps → Strips longest bytes kept → times c (lossy_chars kept) ≤ times c (puts steps)
+    kept_put bytes kept steps s k =
+        let parts = s.parts ++ left_over s.rest in
+        let t = title_open false s.parts in
+        let last = filter shown (lossy_chars s.run) in
+        let (chars, scalars, same, put) = parts_put (with_titles false s.parts) [] s.before s.run s.read in
+        let own : Strips longest bytes (stripped [] (with_titles false parts)) = record {
+          parts = parts;
+          whole = record { sure = s.parts; rest = s.rest; after = s.after; first = s.first; unsure = s.unsure; whole = refl };
+          left = refl;
+        } in
+        let text : kept ≡ encode_utf8_all (chars ++ last) =
+        one_text longest bytes kept (stripped [] (with_titles false parts)) k own ∙ ap (stripped []) (titles_on false s.parts (left_over s.rest)) ∙ same (with_titles t (left_over s.rest))
+        ∙ ap (λ (x : List ℕ). encode_utf8_all chars ++ x) (none_over t s.run s.rest) ∙ sym (encoded_on chars last) in
+        let read : lossy_chars kept ≡ chars ++ last =
+        ap lossy_chars text ∙ lossy_chars-encode (chars ++ last) (scalars_on chars last scalars (kept_shown (lossy_chars s.run) (scalars_lossy s.run)).0) in
+        omega (arith, ap (times c) read, both c chars last, put, chars_put (lossy_chars s.run), puts_on s.before (of_run s.run), ap (λ (x : List Step). times c (puts x)) s.all)
+
+-- ---- what is written
+
+-- painted or not, what `strip` leaves of it is the plain text
+left_plain : (painted : Bool) (bytes out text : List ℕ) (s : Shows (as_text painted) bytes out) → Strips longest out text → text ≡ shown_by Plain (do_all most fresh s.steps blank)
+left_plain true bytes out text s k =
+    let plain = shown_by Plain (do_all most fresh s.steps blank) in
+    one_text longest out text plain k (same_text bytes out plain s (record { steps = s.steps; read = s.read; all = refl }))
+left_plain false bytes out text s k = plain_stays longest out text (overwritten_plain bytes out s) k ∙ s.all
+
+left_chars : (painted : Bool) (bytes out text : List ℕ) (s : Shows (as_text painted) bytes out) → Strips longest out text → lossy_chars text ≡ chars_by (do_all most fresh s.steps blank)
+left_chars painted bytes out text s k =
+    let d = do_all most fresh s.steps blank in
+    ap lossy_chars (left_plain painted bytes out text s k ∙ shown_plain d) ∙ lossy_chars-encode (chars_by d) (scalars (chars_by d) (shown_good bytes s.steps s.read))
+
+-- ---- the laws
+
+pub nothing_lost : NothingLost
+nothing_lost painted bytes kept out text s c k l no_tab no_newline =
+    omega (
+      arith,
+      kept_put c no_tab no_newline bytes kept s.steps s.read k,
+      all_puts c most fresh s.steps blank,
+      balances c most fresh s.steps,
+      (text_has c no_newline (do_all most fresh s.steps blank)).0,
+      ap (times c) (left_chars painted bytes out text s l),
+    )
+
+pub nothing_made : NothingMade
+nothing_made painted bytes out text s c l no_blank no_newline =
+    omega (arith, balances c most fresh s.steps, (text_has c no_newline (do_all most fresh s.steps blank)).1 no_blank, ap (times c) (left_chars painted bytes out text s l))

@@ -1,15 +1,6 @@
 -- Cells that are moved or taken, one after the other.
-use Rattle.std.proofs.Common.{◌≡◌, ℕ, zero, suc, ◌-◌, ◌+◌, ◌<◌, ◌≤◌, Bool, true, false, cond, ◌==◌, nat_le, List, [], ◌∷◌, ◌++◌, length, drop, get_or, min, replicate, reverse, take, take-append-drop, refl, sym, ap, ◌∙◌, arith, append_assoc, append-nil}
-use Rattle.std.proofs.lemmas.List.{length-drop, length-reverse, replicate-append-replicate, drop_at, reverse-append, reverse-reverse, take_all, take_at}
-use Rattle.csicodec_overwrite.proofs.{Common.nat_tests, Common.Look, Common.Cell, Common.Empty, Common.Marking, Common.Glyph, Common.Line, Texts.texts_on}
-use Rattle.csicodec_overwrite.specs.{Private.Sides.passed, Paint.texts_of, Private.Plain.glyphs, Cells.columns, Cells.is_blank, Cells.narrowed, Cells.onto}
-use Rattle.csicodec_overwrite.specs.{Cells.takes, Cells.without, Line.before, Line.behind_columns, Line.forward, Line.line, Line.over, Line.padded, Line.put}
-use Rattle.csicodec_overwrite.specs.{Line.repeat}
-use Rattle.std.specs.List.{list_all}
-
--- a test that fails
-pub fails : {A : Type 0} (t : Bool) (x y : A) → t ≡ false → cond t x y ≡ y
-fails t x y e = rw e refl
+use Rattle.csicodec_overwrite.proofs.Common.{◌≡◌, ℕ, zero, suc, ◌-◌, ◌+◌, ◌<◌, ◌≤◌, Bool, true, false, ◌==◌, nat_le, List, [], ◌∷◌, ◌++◌, length, drop, get_or, min, replicate, reverse, take, take-append-drop, refl, sym, ap, ◌∙◌, arith, append_assoc, append-nil, length-drop, length-reverse, replicate-append-replicate, drop_at, reverse-append, reverse-reverse, take_all, take_at, nat_tests, Look, Cell, Empty, Marking, Glyph, Line, passed, texts_of, glyphs, columns, is_blank, narrowed, onto, takes, without, before, behind_columns, forward, line, over, put, repeat, list_all}
+use Rattle.csicodec_overwrite.proofs.Texts.{texts_on}
 
 pub some_left : (n : ℕ) → 0 < n → (n == 0) ≡ false
 some_left n h = grind (arith, nat_tests)
@@ -46,10 +37,7 @@ from_there limit n old l same there =
     let all = onto l.left l.right in
     let more : n - columns old.left ≡ n - columns l.left = omega (arith, there) in
     let far : n - columns l.left - columns l.right ≡ n - columns all = omega (arith, columns_onto l.left l.right) in
-    ap (λ (m : ℕ). forward limit m l) more
-    ∙ ap (λ (m : ℕ). padded limit m (over (n - columns l.left) l.left l.right)) far
-    ∙ ap (padded limit (n - columns all)) (sym (over_onto n l.left l.right (omega (arith, there))))
-    ∙ ap (λ (cells : List Cell). forward limit n (line [] cells)) same
+    rw (more, far, ← over_onto n l.left l.right (omega (arith, there)), same) refl
 
 -- ---- all of them, the farthest first
 
@@ -77,12 +65,9 @@ reverse_same x (suc n) =
     rw (reverse-append (x ∷ []) (replicate n x), reverse_same x n) (replicate-append-replicate n 1 x ∙ ap (λ (m : ℕ). replicate m x) more)
 
 -- so many of one kind behind others
-pub longer : {A : Type 0} (x : A) (n m k : ℕ) (xs new : List A) → new ≡ take m xs ++ replicate k x → length xs ≤ m → k ≡ n → new ≡ xs ++ replicate n x
-longer x n m k xs new e few some = rw (e, take_all m xs few, some) refl
-
 module _ (x : Cell) (n m k : ℕ) (cells new : List Cell) (e : new ≡ take m cells ++ replicate k x) (few : length cells ≤ m) (some : k ≡ n) where
   pub reverse_more : reverse new ≡ replicate n x ++ reverse cells
-  reverse_more = ap reverse (longer x n m k cells new e few some) ∙ reverse-append cells (replicate n x) ∙ ap (λ (t : List Cell). t ++ reverse cells) (reverse_same x n)
+  reverse_more = rw (e, take_all m cells few, some, reverse-append cells (replicate n x), reverse_same x n) refl
 
   pub columns_more : takes x ≡ 1 → columns (reverse new) ≡ columns (reverse cells) + n
   columns_more one = ap columns reverse_more ∙ columns_both (replicate n x) (reverse cells) ∙ omega (arith, columns_same x one n)
@@ -177,11 +162,9 @@ step_text marking now new first later whole e f = rw (e, append_assoc, ← texts
 
 -- ---- so many times
 
-pub repeat_on : (limit : ℕ) (inserts : Bool) (g : Glyph) (n : ℕ) (l : Line) → 0 < n
-    → repeat limit inserts g n l ≡ before (put limit inserts g l).lines (repeat limit inserts g (n - 1) (put limit inserts g l).line)
-repeat_on limit inserts g zero l h = absurd (omega (arith, h))
-repeat_on limit inserts g (suc n) l h =
-    let less : suc n - 1 ≡ n = omega arith in ap (λ (k : ℕ). before (put limit inserts g l).lines (repeat limit inserts g k (put limit inserts g l).line)) (sym less)
+pub repeat_on : (limit : ℕ) (inserts : Bool) (g : Glyph) (n k : ℕ) (l : Line) → n ≡ suc k
+    → repeat limit inserts g n l ≡ before (put limit inserts g l).lines (repeat limit inserts g k (put limit inserts g l).line)
+repeat_on limit inserts g n k l e = rw e refl
 
 -- what stands nearest is no blank
 not_blank : (xs right : List Cell) → list_all is_blank right ≡ false → list_all is_blank (onto xs right) ≡ false

@@ -1,17 +1,39 @@
--- The parts of a stream, span by span, and the steps that came for them.
-use Rattle.std.proofs.Common.{◌≡◌, ℕ, Bool, false, List, [], ◌∷◌, ◌++◌, refl, sym, ap, subst, ◌∙◌, append_assoc, append-nil, arith, None, flat_map}
-use Rattle.csicodec_overwrite.proofs.Common.{flat_map-append, AllByRecursion, Kind, Part, parts_more, none_unsure, longest, IsRead, title_open, with_titles, titles_on, Step}
-use Rattle.csicodec_overwrite.proofs.Chars.{chars_on, run_none, run_read}
-use Rattle.csicodec_spans.specs.{declared.table.Mode.Mode, Parts.part, Parts.bytes_of, Parts.AreAll, Parts.IsSpan, Parts.Cuts, Parts.IsUnsure}
-use Rattle.csicodec_spans.proofs.Kept.{parts_on}
+-- The steps of characters, of actions and of what else comes, one behind the other.
+use Rattle.csicodec_overwrite.proofs.Common.{◌≡◌, ℕ, List, [], ◌∷◌, ◌++◌, length, ap, ◌∙◌, append_assoc, append-nil, flat_map, Bool, refl, sym, subst, arith, None, nil_from_length, flat_map-append, lossy_chars, IsRead, Step, AllByRecursion, Kind, Part, parts_more, none_unsure, longest, title_open, with_titles, titles_on, lossy_chars-nil, read_more, read_none, of_char, of_chars, of_run, by_escape, of_escape, of_sequence, of_string, of_wrong, Goes, Held, Reads, none_held, AreOfParts, IsOfPart, Steps, GoesTo, IsGiven, part, AreFirstParts, parts_on}
+use Rattle.bstr.specs.Utf8.{replacement}
+use Rattle.csicodec_clean.proofs.{Plain.read_all, Titles.open_on, Titles.titled}
+use Rattle.csicodec_spans.specs.{declared.table.Mode.Mode, Parts.bytes_of, Parts.AreAll, Parts.IsSpan, Parts.Cuts, Parts.IsUnsure}
 use Rattle.csicodec_clean.specs.Titles.{title_behind, read_as}
-use Rattle.csicodec_clean.proofs.{Sure.read_more, Sure.read_none, Titles.open_on, Titles.titled}
-use Rattle.csicodec_overwrite.specs.Steps.{by_escape, of_chars, of_escape, of_run, of_sequence, of_string, of_wrong}
-use Rattle.csicodec_overwrite.specs.{Stream.Goes, Stream.Held, Stream.Reads, Stream.none_held, Reading.AreOfParts, Reading.IsOfPart, Reading.Steps}
-use Rattle.csicodec_overwrite.specs.{Private.Spans.GoesTo, Private.Spans.IsGiven}
-use Rattle.csicodec_spans.specs.declared.table.Kind.TheVariants as kind
-use Rattle.csicodec_spans.specs.declared.table.Mode.TheVariants as mode
-use Rattle.csicodec_overwrite.specs.declared.step.Step.TheVariants as step
+
+pub chars_on : (xs ys : List ℕ) → of_chars (xs ++ ys) ≡ of_chars xs ++ of_chars ys
+chars_on xs ys = flat_map-append of_char xs ys
+
+pub run_none : of_run [] ≡ []
+run_none = ap of_chars lossy_chars-nil
+
+-- a run, of which some was read
+pub run_read : (run chars rest : List ℕ) → IsRead run chars rest → of_run run ≡ of_chars chars ++ of_run rest
+run_read run chars rest h = ap of_chars (read_all run chars rest h) ∙ chars_on chars (lossy_chars rest)
+
+-- ---- appended
+
+-- what one more does, behind what those before it do
+pub one_on : {A : Type 0} (does : A → List Step) (x : A) (front : List A) (old now new : List Step) → now ≡ old ++ flat_map does front → new ≡ now ++ does x
+    → new ≡ old ++ flat_map does (front ++ x ∷ [])
+one_on does x front old now new e f = rw (f, e, append_assoc, flat_map-append does front (x ∷ []), append-nil (does x))
+
+-- a run that is over, of which all was read
+pub run_all : (run chars rest : List ℕ) (old new : List Step) → IsRead run chars rest → length rest ≡ 0 → new ≡ old ++ of_chars chars → new ≡ old ++ of_run run
+run_all run chars rest old new h none e = rw (e, run_read run chars rest h, nil_from_length rest none, run_none, append-nil (of_chars chars))
+
+-- or all but a piece that is no character
+pub run_cut : (run chars rest : List ℕ) (old now new : List Step) → IsRead run chars rest → lossy_chars rest ≡ replacement ∷ []
+    → now ≡ old ++ of_chars chars → new ≡ now ++ of_char replacement → new ≡ old ++ of_run run
+run_cut run chars rest old now new h cut e f =
+    rw (run_read run chars rest h, cut) (one_on of_char replacement chars old now new e f
+    ∙ ap (λ (t : List Step). old ++ t) (chars_on chars (replacement ∷ [])))
+
+-- ---- The parts of a stream, span by span, and the steps that came for them.
 
 -- ---- parts
 
@@ -20,12 +42,10 @@ parts_then [] qs run between left t u h k = rw (h.0, ← h.1) k
 parts_then (p ∷ ps) qs run between left t u h k =
     (h.0, h.1, h.2 ++ u, h.3, ap (λ (x : List Step). x ++ u) h.4 ∙ append_assoc h.0 h.2 u, parts_then ps qs h.1 between left h.2 u h.5 k)
 
-texts : (ps : List Part) (run : List ℕ) → AllByRecursion (λ (p : Part). p.kind ≡ kind.Text) ps → AreOfParts run ps [] (run ++ flat_map bytes_of ps)
+texts : (ps : List Part) (run : List ℕ) → AllByRecursion (λ (p : Part). p.kind ≡ Kind.Text) ps → AreOfParts run ps [] (run ++ flat_map bytes_of ps)
 texts [] run h = (refl, append-nil run)
 texts (p ∷ ps) run h =
-    let step : IsOfPart p.kind run p.bytes [] (run ++ p.bytes) = rw h.0 (refl, refl) in
-    let others = subst (λ (x : List ℕ). AreOfParts (run ++ p.bytes) ps [] x) (append_assoc run p.bytes (flat_map bytes_of ps)) (texts ps (run ++ p.bytes) h.1) in
-    ([], run ++ p.bytes, [], step, refl, others)
+    ([], run ++ p.bytes, [], rw h.0 (refl, refl), refl, rw (← append_assoc run p.bytes (flat_map bytes_of ps)) (texts ps (run ++ p.bytes) h.1))
 
 -- parts of a kind of which each byte does something by itself
 module _ (k : Kind) (of_byte : ℕ → List Step) (ends : (run bytes : List ℕ) → IsOfPart k run bytes (of_run run ++ flat_map of_byte bytes) []) where
@@ -34,8 +54,7 @@ module _ (k : Kind) (of_byte : ℕ → List Step) (ends : (run bytes : List ℕ)
   others_by (p ∷ ps) h =
       let own = flat_map of_byte p.bytes in
       let others = flat_map bytes_of ps in
-      let first : IsOfPart k [] p.bytes own [] = subst (λ (t : List Step). IsOfPart k [] p.bytes t []) (ap (λ (t : List Step). t ++ own) run_none) (ends [] p.bytes) in
-      let step : IsOfPart p.kind [] p.bytes own [] = rw h.0 first in
+      let step : IsOfPart p.kind [] p.bytes own [] = rw h.0 (rw run_none at (ends [] p.bytes)) in
       (own, [], flat_map of_byte others, step, flat_map-append of_byte p.bytes others, others_by ps h.1)
 
   by_bytes : (bytes : List ℕ) (ps : List Part) (run : List ℕ) → AreAll k bytes ps → AreOfParts run ps (of_run run ++ flat_map of_byte bytes) []
@@ -75,7 +94,7 @@ ended run chars held ps own more left read e none are = record {
 
 spanned : (k : Kind) (run chars held bytes : List ℕ) (more : List Step) (ps : List Part) (left : List ℕ) → IsSpan k bytes ps → IsRead run chars held
     → IsGiven k held bytes more left → Spanned run chars ps more left
-spanned kind.Text run chars held bytes more ps left span read (now, later, e) = record {
+spanned Kind.Text run chars held bytes more ps left span read (now, later, e) = record {
   before = [];
   left = run ++ bytes;
   read = chars ++ now;
@@ -83,14 +102,14 @@ spanned kind.Text run chars held bytes more ps left span read (now, later, e) = 
   is_read = read_more run held bytes left chars now read later;
   same = ap (λ (t : List Step). of_chars chars ++ t) e ∙ sym (chars_on chars now);
 }
-spanned kind.Csi run chars held bytes more ps left span read (actions, of, e, none) =
-    ended run chars held ps (of_sequence actions) more left read e none (only kind.Csi bytes (of_run run ++ of_sequence actions) ps run span (actions, of, refl, refl))
-spanned kind.Esc run chars held bytes more ps left span read h =
-    ended run chars held ps (of_escape bytes) more left read h.0 h.1 (only kind.Esc bytes (of_run run ++ of_escape bytes) ps run span (refl, refl))
-spanned kind.Str run chars held bytes more ps left span read h =
-    ended run chars held ps (of_string bytes) more left read h.0 h.1 (by_bytes kind.Str (by_escape step.Other) (λ r b. (refl, refl)) bytes ps run span)
-spanned kind.Other run chars held bytes more ps left span read h =
-    ended run chars held ps (of_wrong bytes) more left read h.0 h.1 (by_bytes kind.Other (by_escape (step.Leave None)) (λ r b. (refl, refl)) bytes ps run span)
+spanned Kind.Csi run chars held bytes more ps left span read (actions, of, e, none) =
+    ended run chars held ps (of_sequence actions) more left read e none (only Kind.Csi bytes (of_run run ++ of_sequence actions) ps run span (actions, of, refl, refl))
+spanned Kind.Esc run chars held bytes more ps left span read h =
+    ended run chars held ps (of_escape bytes) more left read h.0 h.1 (only Kind.Esc bytes (of_run run ++ of_escape bytes) ps run span (refl, refl))
+spanned Kind.Str run chars held bytes more ps left span read h =
+    ended run chars held ps (of_string bytes) more left read h.0 h.1 (by_bytes Kind.Str (by_escape Step.Other) (λ r b. (refl, refl)) bytes ps run span)
+spanned Kind.Other run chars held bytes more ps left span read h =
+    ended run chars held ps (of_wrong bytes) more left read h.0 h.1 (by_bytes Kind.Other (by_escape (Step.Leave None)) (λ r b. (refl, refl)) bytes ps run span)
 
 -- ---- one behind the other
 
@@ -99,10 +118,12 @@ pub goes_none : (m : Mode) (t : Bool) (run chars bytes held : List ℕ) → IsRe
 goes_none m t run chars bytes held read =
     record { parts = []; before = []; left = run; read = chars; first = (refl, refl); titles = refl; are = (refl, refl); is_read = read; same = append-nil (of_chars chars) }
 
--- and then more
-pub goes_then : (m n a : Mode) (t u v : Bool) (run chars bytes behind held rest last : List ℕ) (one two : List Step) → (g : Goes m t run chars bytes one behind n u held)
-    → Goes n u g.left g.read behind two rest a v last → Goes m t run chars bytes (one ++ two) rest a v last
-goes_then m n a t u v run chars bytes behind held rest last one two g k =
+-- and then more, of these bytes or with others behind
+goes_then : (m n a : Mode) (t u v : Bool) (run chars bytes behind whole next held rest last : List ℕ) (one two : List Step)
+    → (g : Goes m t run chars bytes one behind n u held)
+    → (k : Goes n u g.left g.read next two rest a v last) → AreFirstParts longest m whole (g.parts ++ k.parts) rest a
+    → Goes m t run chars whole (one ++ two) rest a v last
+goes_then m n a t u v run chars bytes behind whole next held rest last one two g k first =
     let all : with_titles t (g.parts ++ k.parts) ≡ with_titles t g.parts ++ with_titles u k.parts =
     titles_on t g.parts k.parts ∙ ap (λ (b : Bool). with_titles t g.parts ++ with_titles b k.parts) (sym g.titles) in
     record {
@@ -110,7 +131,7 @@ goes_then m n a t u v run chars bytes behind held rest last one two g k =
       before = g.before ++ k.before;
       left = k.left;
       read = k.read;
-      first = parts_on longest g.parts k.parts m bytes behind rest n a g.first k.first;
+      first = first;
       titles = k.titles ∙ ap (λ (b : Bool). title_open b k.parts) g.titles ∙ sym (open_on t g.parts k.parts);
       are = subst (λ (ps : List Part). AreOfParts run ps (g.before ++ k.before) k.left) (sym all)
           (parts_then (with_titles t g.parts) (with_titles u k.parts) run g.left k.left g.before k.before g.are k.are);
@@ -138,23 +159,10 @@ to_span m n a t u k held between left bytes behind span rest old now new more (s
   longer ∙ ap (λ (x : List Step). x ++ more) out ∙ append_assoc old steps more,
   λ run chars read.
       let g = goes run chars read in
-      goes_then m n a t u (title_behind u k span) run chars bytes behind between rest left steps more g (goes_span n a u k g.left g.read behind between span rest left more g.is_read cut given),
+      let s = goes_span n a u k g.left g.read behind between span rest left more g.is_read cut given in
+      goes_then m n a t u (title_behind u k span) run chars bytes behind bytes behind between rest left steps more g s
+      (parts_on longest g.parts s.parts m bytes behind rest n a g.first s.first),
 )
-
--- with other bytes behind
-goes_more : (m n : Mode) (t u : Bool) (run chars first left held second : List ℕ) (one : List Step) → Goes m t run chars first one left n u held
-    → Goes m t run chars (first ++ second) one (left ++ second) n u held
-goes_more m n t u run chars first left held second one g = record {
-  parts = g.parts;
-  before = g.before;
-  left = g.left;
-  read = g.read;
-  first = parts_more longest g.parts m first second left n g.first;
-  titles = g.titles;
-  are = g.are;
-  is_read = g.is_read;
-  same = g.same;
-}
 
 -- nothing is sure yet
 pub reads_nothing : (old : Held) (bytes : List ℕ) → IsUnsure longest old.mode (old.bytes ++ bytes) → Reads old bytes [] (record old { bytes = old.bytes ++ bytes })
@@ -162,18 +170,21 @@ reads_nothing old bytes o = record { unsure = o; goes = λ run chars h. goes_non
 
 -- nothing came yet
 pub reads_none : Reads none_held [] [] none_held
-reads_none = reads_nothing none_held [] (none_unsure longest mode.Text)
+reads_none = reads_nothing none_held [] (none_unsure longest Mode.Text)
 
 -- a chunk more
 pub reads_on : (old mid new : Held) (first second : List ℕ) (one two : List Step) → Reads old first one mid → Reads mid second two new → Reads old (first ++ second) (one ++ two) new
-unfolding goes_more
 reads_on old mid new first second one two h k = record {
   unsure = k.unsure;
   goes = λ run chars read.
       let g = h.goes run chars read in
-      let all = goes_then old.mode mid.mode new.mode old.titled mid.titled new.titled run chars ((old.bytes ++ first) ++ second) (mid.bytes ++ second) mid.held new.bytes new.held one two
-      (goes_more old.mode mid.mode old.titled mid.titled run chars (old.bytes ++ first) mid.bytes mid.held second one g) (k.goes g.left g.read g.is_read) in
-      subst (λ (bs : List ℕ). Goes old.mode old.titled run chars bs (one ++ two) new.bytes new.mode new.titled new.held) (append_assoc old.bytes first second) all;
+      let n = k.goes g.left g.read g.is_read in
+      goes_then old.mode mid.mode new.mode old.titled mid.titled new.titled run chars (old.bytes ++ first) mid.bytes (old.bytes ++ (first ++ second))
+      (mid.bytes ++ second)
+      mid.held new.bytes new.held one two g n
+      (subst (λ (bs : List ℕ). AreFirstParts longest old.mode bs (g.parts ++ n.parts) new.bytes new.mode) (append_assoc old.bytes first second)
+      (parts_on longest g.parts n.parts old.mode ((old.bytes ++ first) ++ second) (mid.bytes ++ second) new.bytes mid.mode new.mode
+      (parts_more longest g.parts old.mode (old.bytes ++ first) second mid.bytes mid.mode g.first) n.first));
 }
 
 -- the bytes of a push behind those that were held
@@ -181,29 +192,24 @@ pub reads_from : (old new : Held) (bytes all rest : List ℕ) (before after : Li
     → GoesTo old.mode old.titled old.held all rest new.mode new.titled new.held before after → (more : List Step) × Reads old bytes more new × (after ≡ before ++ more)
 reads_from old new bytes all rest before after e f unsure (steps, out, goes) = (
   steps,
-  record {
-    unsure = subst (λ (x : List ℕ). IsUnsure longest new.mode x) (sym f) unsure;
-    goes = λ run chars read.
-        let g = subst (λ (x : List ℕ). Goes old.mode old.titled run chars all steps x new.mode new.titled new.held) (sym f) (goes run chars read) in
-        subst (λ (x : List ℕ). Goes old.mode old.titled run chars x steps new.bytes new.mode new.titled new.held) e g;
-  },
+  record { unsure = rw f unsure; goes = λ run chars read. rw (← e, f) (goes run chars read) },
   out,
 )
 
 -- ---- the whole stream
 
-whole_goes : (a : Mode) (u : Bool) (bytes rest held : List ℕ) (steps : List Step) → Goes mode.Text false [] [] bytes steps rest a u held → IsUnsure longest a rest → Steps bytes (steps ++ of_run held)
-whole_goes a u bytes rest held steps g unsure = record {
-  parts = g.parts;
-  rest = rest;
-  after = a;
-  first = g.first;
-  unsure = unsure;
-  before = g.before;
-  run = g.left;
-  read = g.are;
-  all = ap (λ (t : List Step). t ++ of_run held) g.same ∙ append_assoc g.before (of_chars g.read) (of_run held) ∙ ap (λ (t : List Step). g.before ++ t) (sym (run_read g.left g.read held g.is_read));
-}
-
 pub whole_reads : (bytes : List ℕ) (steps : List Step) (last : Held) → Reads none_held bytes steps last → Steps bytes (steps ++ of_run last.held)
-whole_reads bytes steps last h = whole_goes last.mode last.titled bytes last.bytes last.held steps (h.goes [] [] (read_none [])) h.unsure
+whole_reads bytes steps last h =
+    let g = h.goes [] [] (read_none []) in
+    record {
+      parts = g.parts;
+      rest = last.bytes;
+      after = last.mode;
+      first = g.first;
+      unsure = h.unsure;
+      before = g.before;
+      run = g.left;
+      read = g.are;
+      all = ap (λ (t : List Step). t ++ of_run last.held) g.same ∙ append_assoc g.before (of_chars g.read) (of_run last.held)
+          ∙ ap (λ (t : List Step). g.before ++ t) (sym (run_read g.left g.read last.held g.is_read));
+    }

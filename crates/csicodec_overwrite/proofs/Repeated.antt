@@ -1,10 +1,6 @@
 -- A character that comes many times at once.
-use Rattle.std.proofs.Common.{◌≡◌, ◌≤◌, ◌<◌, ℕ, zero, suc, ◌+◌, ◌-◌, ◌*◌, Bool, true, false, cond, List, [], ◌∷◌, ◌++◌, length, replicate, refl, sym, ap, ◌∙◌, arith, ◌==◌}
-use Rattle.csicodec_overwrite.proofs.Common.{cond_both, nat_tests, Cell, Line, Behind, Char, Empty, Mark, Glyph}
-use Rattle.csicodec_overwrite.proofs.{Moved.fails, Moved.some_left, Moved.takes_few, Moved.without_zero, Room.placed_size, Shifted.shifted_stays}
-use Rattle.csicodec_overwrite.specs.Cells.{begins_behind, belongs, columns, emptied, gone, outside, shifted, takes, width, without}
-use Rattle.csicodec_overwrite.specs.Line.{Done, before, blank, cells_of, done, fits, line, parted, placed, put, repeat, size}
-use Rattle.csicodec_overwrite.specs.Private.Sides.{placed_many, put_many}
+use Rattle.csicodec_overwrite.proofs.Common.{◌≡◌, ◌≤◌, ◌<◌, ℕ, zero, suc, ◌+◌, ◌-◌, ◌*◌, Bool, true, false, cond, List, [], ◌∷◌, ◌++◌, length, replicate, refl, sym, ap, ◌∙◌, arith, ◌==◌, cond_both, nat_tests, Cell, Line, Behind, Char, Empty, Mark, Glyph, begins_behind, belongs, columns, emptied, gone, outside, shifted, takes, width, without, Done, before, blank, cells_of, done, fits, line, parted, placed, put, repeat, size, placed_many, put_many}
+use Rattle.csicodec_overwrite.proofs.{Moved.some_left, Moved.takes_few, Moved.without_zero, Rows.part_outside, Rows.placed_size, Rows.shifted_stays}
 
 -- ---- what is gone
 
@@ -16,13 +12,9 @@ without_on : (n m : ℕ) (xs : List Cell) → without m (without n xs) ≡ witho
 without_on n m [] = refl
 without_on n m (x ∷ xs) = grind (arith, nat_tests, few x n m, without_on (n - takes x) m xs)
 
-columns_outside : (xs : List Cell) → columns (outside xs) ≤ columns xs
-columns_outside [] = omega arith
-columns_outside (x ∷ xs) = grind (arith, nat_tests, columns_outside xs)
-
 outside_twice : (xs : List Cell) → outside (outside xs) ≡ outside xs
 outside_twice [] = refl
-outside_twice (x ∷ xs) = cond_both (belongs x) (outside xs) (x ∷ xs) (λ (ys : List Cell). outside ys ≡ ys) (λ e. outside_twice xs) (fails (belongs x) (outside xs) (x ∷ xs))
+outside_twice (x ∷ xs) = cond_both (belongs x) (outside xs) (x ∷ xs) (λ (ys : List Cell). outside ys ≡ ys) (λ e. outside_twice xs) (λ e. rw e refl)
 
 -- nothing belongs to a character before the cells
 abbrev Apart : List Cell → Type 0
@@ -36,49 +28,37 @@ whole : (xs : List Cell) → emptied xs xs ≡ xs
 whole xs =
     let none : columns xs - columns xs ≡ 0 = omega arith in ap (λ (k : ℕ). replicate k Empty ++ xs) none
 
--- what is gone with a column in front
-gone_next : (x : Cell) (n : ℕ) (xs : List Cell) → takes x ≡ 1 → gone (suc n) (x ∷ xs) ≡ gone n xs
-gone_next x n xs one =
-    let less : suc n - takes x ≡ n = omega (arith, one) in
-    ap (λ (ys : List Cell). emptied ys (outside ys))
-    (fails (suc n == 0) (x ∷ xs) (without (suc n - takes x) xs) (some_left (suc n) (omega arith)) ∙ ap (λ (m : ℕ). without m xs) less)
-
-gone_mark : (c n : ℕ) (xs : List Cell) → 0 < n → gone n (Mark c ∷ xs) ≡ gone n xs
-gone_mark c n xs some =
-    let same : n - takes (Mark c) ≡ n = omega arith in
-    ap (λ (ys : List Cell). emptied ys (outside ys))
-    (fails (n == 0) (Mark c ∷ xs) (without (n - takes (Mark c)) xs) (some_left n some) ∙ ap (λ (m : ℕ). without m xs) same)
+-- what is gone with a cell in front
+gone_next : (x : Cell) (n m : ℕ) (xs : List Cell) → 0 < n → n - takes x ≡ m → gone n (x ∷ xs) ≡ gone m xs
+gone_next x n m xs some less = rw (some_left n some, less) refl
 
 -- what is gone from cells of which the front is emptied
 gone_emptied : (n : ℕ) (xs : List Cell) → gone n (emptied xs (outside xs)) ≡ gone n xs
 gone_emptied zero xs =
     let e = emptied xs (outside xs) in
-    ap (λ (ys : List Cell). emptied ys (outside ys)) (without_zero 0 e refl)
-    ∙ ap (emptied e) (emptied_apart (columns xs - columns (outside xs)) (outside xs) (outside_twice xs)) ∙ whole e
-    ∙ sym (ap (λ (ys : List Cell). emptied ys (outside ys)) (without_zero 0 xs refl))
+    rw (without_zero 0 e refl, without_zero 0 xs refl) (ap (emptied e) (emptied_apart (columns xs - columns (outside xs)) (outside xs) (outside_twice xs))
+    ∙ whole e)
 gone_emptied (suc n) [] = refl
 gone_emptied (suc n) (Empty ∷ xs) = ap (gone (suc n)) (whole (Empty ∷ xs))
 gone_emptied (suc n) (Char g ∷ xs) = ap (gone (suc n)) (whole (Char g ∷ xs))
 gone_emptied (suc n) (Behind ∷ xs) =
     let k = columns xs - columns (outside xs) in
-    let more : 1 + columns xs - columns (outside xs) ≡ suc k = omega (arith, columns_outside xs) in
-    ap (λ (m : ℕ). gone (suc n) (replicate m Empty ++ outside xs)) more ∙ gone_next Empty n (replicate k Empty ++ outside xs) refl
-    ∙ gone_emptied n xs ∙ sym (gone_next Behind n xs refl)
+    let more : 1 + columns xs - columns (outside xs) ≡ suc k = omega (arith, (part_outside xs).2) in
+    ap (λ (m : ℕ). gone (suc n) (replicate m Empty ++ outside xs)) more
+    ∙ gone_next Empty (suc n) n (replicate k Empty ++ outside xs) (omega arith) (omega arith)
+    ∙ gone_emptied n xs ∙ sym (gone_next Behind (suc n) n xs (omega arith) (omega arith))
 gone_emptied (suc n) (Mark c ∷ xs) =
     let same : columns (Mark c ∷ xs) ≡ columns xs = omega arith in
-    ap (λ (m : ℕ). gone (suc n) (replicate (m - columns (outside xs)) Empty ++ outside xs)) same ∙ gone_emptied (suc n) xs ∙ sym (gone_mark c (suc n) xs (omega arith))
+    ap (λ (m : ℕ). gone (suc n) (replicate (m - columns (outside xs)) Empty ++ outside xs)) same ∙ gone_emptied (suc n) xs
+    ∙ sym (gone_next (Mark c) (suc n) (suc n) xs (omega arith) (omega arith))
 
 gone_on : (n m : ℕ) (xs : List Cell) → gone m (gone n xs) ≡ gone (n + m) xs
 gone_on n m xs = gone_emptied m (without n xs) ∙ ap (λ (ys : List Cell). emptied ys (outside ys)) (without_on n m xs)
 
 -- ---- no character goes on behind the cursor
 
-shorter : (xs : List Cell) → length (outside xs) ≤ length xs
-shorter [] = omega arith
-shorter (x ∷ xs) = grind (arith, nat_tests, shorter xs)
-
 apart_begins : (xs : List Cell) → Apart xs → begins_behind xs ≡ false
-apart_begins (Behind ∷ xs) h = absurd (omega (arith, ap length h, shorter xs))
+apart_begins (Behind ∷ xs) h = absurd (omega (arith, ap length h, (part_outside xs).1))
 apart_begins _ h = refl
 
 gone_begins : (n : ℕ) (xs : List Cell) → begins_behind (gone n xs) ≡ false
@@ -95,9 +75,6 @@ parted_begins : (l : Line) → begins_behind (parted l).right ≡ false
 parted_begins l = cond_both (begins_behind l.right) (line (emptied l.left (without 1 (outside l.left))) (emptied l.right (outside l.right))) l
     (λ (k : Line). begins_behind k.right ≡ false)
     (λ e. apart_begins (emptied l.right (outside l.right)) (emptied_apart (columns l.right - columns (outside l.right)) (outside l.right) (outside_twice l.right))) (λ e. e)
-
-parted_same : (l : Line) → begins_behind l.right ≡ false → parted l ≡ l
-parted_same l e = fails (begins_behind l.right) (line (emptied l.left (without 1 (outside l.left))) (emptied l.right (outside l.right))) l e
 
 -- ---- one and then others
 
@@ -120,10 +97,8 @@ module _ (inserts : Bool) (g : Glyph) (w : ℕ) (some : 0 < w) where
 
   pub placed_once : (l : Line) → placed inserts g w l ≡ placed_many inserts g w 1 l
   placed_once l =
-      let one : w ≡ 1 * w = omega arith in
-      fails (w == 0) (line (Mark g.char ∷ l.left) l.right)
-      (line (replicate (w - 1) Behind ++ (Char g ∷ (parted l).left)) (cond inserts (shifted false (parted l).right) (gone w (parted l).right))) (some_left w some)
-      ∙ ap (λ (n : ℕ). line (replicate (w - 1) Behind ++ (Char g ∷ (parted l).left)) (cond inserts (shifted false (parted l).right) (gone n (parted l).right))) one
+      let one : 1 * w ≡ w = omega arith in
+      rw (some_left w some, one) refl
 
   then_begins : (l : Line) → begins_behind (then 1 (parted l).right) ≡ false
   then_begins l = cond_both inserts (shifted false (parted l).right) (gone (1 * w) (parted l).right) (λ (xs : List Cell). begins_behind xs ≡ false)
@@ -144,7 +119,7 @@ module _ (inserts : Bool) (g : Glyph) (w : ℕ) (some : 0 < w) where
   many_placed n l =
       let p = parted l in
       let m = placed_many inserts g w 1 l in
-      ap (λ (k : Line). line (put_many g w n k.left) (then n k.right)) (parted_same m (then_begins l))
+      ap (λ (k : Line). line (put_many g w n k.left) (then n k.right)) (let same : parted m ≡ m = rw (then_begins l) refl in same)
       ∙ ap (λ (xs : List Cell). line xs (then n (then 1 p.right))) (many_on g w n p.left) ∙ ap (line (put_many g w (suc n) p.left)) (then_on n p.right)
 
   -- in a line that has room for all

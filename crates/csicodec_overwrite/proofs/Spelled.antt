@@ -1,11 +1,9 @@
 -- The sequence of a look is one control sequence, and is read as a reset and its attributes.
-use Rattle.std.proofs.Common.{◌≡◌, ◌≤◌, ◌<◌, ◌+◌, ◌*◌, ◌-◌, ℕ, Bool, true, false, List, [], ◌∷◌, ◌++◌, length, length-append, take, drop, map, ⊎_elim, refl, sym, ap, subst, ◌∙◌, append_assoc, append-nil, arith, codes, not, flat_map}
-use Rattle.std.proofs.{Math.Seq.take-append_seam, lemmas.List.map-append}
-use Rattle.csicodec_overwrite.proofs.Common.{AllByRecursion, Sgr, SgrInRange, Look}
+use Rattle.csicodec_overwrite.proofs.Common.{◌≡◌, ◌≤◌, ◌<◌, ◌+◌, ◌*◌, ◌-◌, ℕ, Bool, true, false, List, [], ◌∷◌, ◌++◌, length, length-append, take, drop, map, ⊎_elim, refl, sym, ap, subst, ◌∙◌, append_assoc, append-nil, arith, codes, not, flat_map, take-append_seam, map-append, AllByRecursion, Sgr, SgrInRange, Look, behind, plain, IsInRange, attributes, further, given}
 use Rattle.csicodec_tokens.specs.{declared.param.CsiParam.CsiParam, declared.param.CsiParam.TheVariants.Integer, declared.param.CsiParam.TheVariants.P}
 use Rattle.csicodec_tokens.specs.{Digits.IsDigit, Param.spells, Sequence.Seq, Sequence.Spellable, Sequence.Spells}
 use Rattle.csicodec_tokens.proofs.Printed.{printed}
-use Rattle.csicodec_names.specs.{declared.color.Intensity.Intensity, declared.color.Underline.Underline}
+use Rattle.csicodec_names.specs.{declared.color.Intensity.Intensity, declared.color.Underline.Underline, declared.color.ColorSpec.ColorSpec}
 use Rattle.csicodec_base.specs.SgrText.{sgr_text}
 use Rattle.csicodec_parser.specs.{Canonical.IsCanonicalSgr, Segments.Actions, Cut.semicolon, Groups.group, Groups.has_odd}
 use Rattle.csicodec_parser.specs.{declared.group.Group.TheVariants.Styles}
@@ -15,9 +13,8 @@ use Rattle.csicodec.proofs.SgrSpelling.{sgr-spelling}
 use Rattle.csicodec_terminal.specs.Terminal.{IsTakenFor, has_unknown}
 use Rattle.csicodec_clean.specs.Styled.{IsOf, hides}
 use Rattle.csicodec_clean.proofs.Coded.{AreCodes, coded, codes_parts, none_open, same_ends, unended}
-use Rattle.csicodec_html.specs.Look.{is_default, is_none, is_normal}
-use Rattle.csicodec_overwrite.specs.Paint.{IsInRange, attributes, further, given, look_text}
-use Rattle.csicodec_base.specs.declared.sgr.Sgr.TheVariants as sgr
+use Rattle.csicodec_html.specs.Look.{is_default, is_none, is_normal, behind_all}
+use Rattle.csicodec_overwrite.specs.Paint.{look_text}
 use Rattle.csicodec_actions.specs.Actions as action
 
 -- an attribute that stands in a sequence
@@ -32,21 +29,17 @@ given_spelled : (n : ℕ) (t : Bool) (s : Sgr) (rest : List Sgr) → IsSpelled s
 given_spelled n true s rest h k = ((h, k.0), omega (arith, k.1))
 given_spelled n false s rest h k = (k.0, omega (arith, k.1))
 
-last_spelled : (t : Bool) (s : Sgr) → IsSpelled s → AreSpelled 1 (given t s)
-last_spelled true s h = ((h, tt), omega arith)
-last_spelled false s h = (tt, omega arith)
-
 all_spelled : (l : Look) → IsInRange l → AreSpelled 9 (attributes l)
 all_spelled l (line, text, ground) =
-    given_spelled 8 (not (is_normal l.intensity)) (sgr.Intensity l.intensity) _ (tt, tt, refl)
-    (given_spelled 7 l.italic (sgr.Italic true) _ (tt, tt, refl)
-    (given_spelled 6 (not (is_none l.underline)) (sgr.Underline l.underline) _ (tt, tt, refl)
-    (given_spelled 5 (not (is_default l.line)) (sgr.UnderlineColor l.line) _ (line, tt, refl)
-    (given_spelled 4 l.overline (sgr.Overline true) _ (tt, tt, refl)
-    (given_spelled 3 l.strike (sgr.StrikeThrough true) _ (tt, tt, refl)
-    (given_spelled 2 l.inverse (sgr.Inverse true) _ (tt, tt, refl)
-    (given_spelled 1 (not (is_default l.foreground)) (sgr.Foreground l.foreground) _ (text, tt, refl)
-    (last_spelled (not (is_default l.background)) (sgr.Background l.background) (ground, tt, refl)))))))))
+    given_spelled 8 (not (is_normal l.intensity)) (Sgr.Intensity l.intensity) _ (tt, tt, refl)
+    (given_spelled 7 l.italic (Sgr.Italic true) _ (tt, tt, refl)
+    (given_spelled 6 (not (is_none l.underline)) (Sgr.Underline l.underline) _ (tt, tt, refl)
+    (given_spelled 5 (not (is_default l.line)) (Sgr.UnderlineColor l.line) _ (line, tt, refl)
+    (given_spelled 4 l.overline (Sgr.Overline true) _ (tt, tt, refl)
+    (given_spelled 3 l.strike (Sgr.StrikeThrough true) _ (tt, tt, refl)
+    (given_spelled 2 l.inverse (Sgr.Inverse true) _ (tt, tt, refl)
+    (given_spelled 1 (not (is_default l.foreground)) (Sgr.Foreground l.foreground) _ (text, tt, refl)
+    (given_spelled 0 (not (is_default l.background)) (Sgr.Background l.background) [] (ground, tt, refl) (tt, omega arith)))))))))
 
 -- ---- its list: numbers and `:`
 
@@ -130,8 +123,8 @@ all_open (s ∷ styles) bytes done o h =
     let whole = bytes ++ (further s ++ flat_map further styles) in
     subst (Open whole) (append_assoc done (s ∷ []) styles) (subst (λ (t : List ℕ). Open t ((done ++ s ∷ []) ++ styles)) (append_assoc bytes (further s) (flat_map further styles)) all)
 
-look_open : (l : Look) → IsInRange l → Open (48 ∷ flat_map further (attributes l)) (sgr.Reset ∷ attributes l)
-look_open l h = all_open (attributes l) (48 ∷ []) (sgr.Reset ∷ []) (one_open sgr.Reset (tt, tt, refl)) (all_spelled l h).0
+look_open : (l : Look) → IsInRange l → Open (48 ∷ flat_map further (attributes l)) (Sgr.Reset ∷ attributes l)
+look_open l h = all_open (attributes l) (48 ∷ []) (Sgr.Reset ∷ []) (one_open Sgr.Reset (tt, tt, refl)) (all_spelled l h).0
 
 look_seq : (l : Look) (h : IsInRange l) → Seq (look_text l) (look_open l h).list 109
 unfolding look_text
@@ -139,7 +132,7 @@ look_seq l h =
     let o = look_open l h in
     record { spellable = o.spellable; ends = (omega arith, omega arith); body = 48 ∷ flat_map further (attributes l); spelled = o.spelled; whole = refl }
 
-pub look_of_one : (l : Look) → IsInRange l → IsOf (look_text l) (map action.Sgr (sgr.Reset ∷ attributes l))
+pub look_of_one : (l : Look) → IsInRange l → IsOf (look_text l) (map action.Sgr (Sgr.Reset ∷ attributes l))
 look_of_one l h = ((look_open l h).list, 109, look_seq l h, (look_open l h).means)
 
 -- ---- also as terminals take it
@@ -148,10 +141,10 @@ none_unknown : (styles : List Sgr) → has_unknown (map action.Sgr styles) ≡ f
 none_unknown [] = refl
 none_unknown (s ∷ styles) = none_unknown styles
 
-pub look_taken : (l : Look) → IsInRange l → IsTakenFor (look_text l) (map action.Sgr (sgr.Reset ∷ attributes l))
+pub look_taken : (l : Look) → IsInRange l → IsTakenFor (look_text l) (map action.Sgr (Sgr.Reset ∷ attributes l))
 look_taken l h =
     let o = look_open l h in
-    (o.list, 109, look_seq l h, (map action.Sgr (sgr.Reset ∷ attributes l), o.means, rw (none_unknown (sgr.Reset ∷ attributes l), none_open (group o.list 109) o.list o.unended) refl))
+    (o.list, 109, look_seq l h, (map action.Sgr (Sgr.Reset ∷ attributes l), o.means, rw (none_unknown (Sgr.Reset ∷ attributes l), none_open (group o.list 109) o.list o.unended) refl))
 
 -- ---- and short
 
@@ -168,3 +161,46 @@ all_short (s ∷ styles) h = omega (arith, length-append (further s) (flat_map f
 pub look_short : (l : Look) → IsInRange l → length (look_text l) ≤ 1000
 unfolding look_text
 look_short l h = omega (arith, length-append (flat_map further (attributes l)) (109 ∷ []), all_short (attributes l) (all_spelled l h).0, (all_spelled l h).1)
+
+-- ---- A look is what a reset and its attributes give.
+
+abbrev after : Look → List Sgr → Look
+after l styles = behind_all l (map action.Sgr styles)
+
+-- an attribute that isn't set yet, where it is to be
+given_back : (m n : Look) (t : Bool) (s : Sgr) (rest : List Sgr) → (t ≡ false → m ≡ n) → (t ≡ true → behind m s ≡ n)
+    → after m (given t s ++ rest) ≡ after n rest
+given_back m n true s rest h k = ap (λ (l : Look). after l rest) (k refl)
+given_back m n false s rest h k = ap (λ (l : Look). after l rest) (h refl)
+
+normal : (x : Intensity) → not (is_normal x) ≡ false → Intensity.Normal ≡ x
+normal Intensity.Normal e = refl
+normal _ e = cc
+
+none : (x : Underline) → not (is_none x) ≡ false → Underline.None ≡ x
+none Underline.None e = refl
+none _ e = cc
+
+default : (x : ColorSpec) → not (is_default x) ≡ false → ColorSpec.Default ≡ x
+default ColorSpec.Default e = refl
+default _ e = cc
+
+pub looks_back : (old look : Look) → behind_all old (map action.Sgr (Sgr.Reset ∷ attributes look)) ≡ look
+looks_back old l =
+    let one = record plain { intensity = l.intensity } in
+    let two = record one { italic = l.italic } in
+    let three = record two { underline = l.underline } in
+    let four = record three { line = l.line } in
+    let five = record four { overline = l.overline } in
+    let six = record five { strike = l.strike } in
+    let seven = record six { inverse = l.inverse } in
+    let eight = record seven { foreground = l.foreground } in
+    given_back plain one _ _ _ (λ e. ap (λ (x : Intensity). record plain { intensity = x }) (normal l.intensity e)) (λ e. refl)
+    ∙ given_back one two l.italic _ _ (λ e. rw e refl) (λ e. rw e refl)
+    ∙ given_back two three _ _ _ (λ e. ap (λ (x : Underline). record two { underline = x }) (none l.underline e)) (λ e. refl)
+    ∙ given_back three four _ _ _ (λ e. ap (λ (x : ColorSpec). record three { line = x }) (default l.line e)) (λ e. refl)
+    ∙ given_back four five l.overline _ _ (λ e. rw e refl) (λ e. rw e refl)
+    ∙ given_back five six l.strike _ _ (λ e. rw e refl) (λ e. rw e refl)
+    ∙ given_back six seven l.inverse _ _ (λ e. rw e refl) (λ e. rw e refl)
+    ∙ given_back seven eight _ _ _ (λ e. ap (λ (x : ColorSpec). record seven { foreground = x }) (default l.foreground e)) (λ e. refl)
+    ∙ given_back eight l _ _ [] (λ e. ap (λ (x : ColorSpec). record eight { background = x }) (default l.background e)) (λ e. refl)

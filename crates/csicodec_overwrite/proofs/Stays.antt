@@ -1,15 +1,14 @@
 -- Plain text of which each line has room stays as it is.
-use Rattle.std.proofs.Common.{◌≡◌, ◌≤◌, ◌⊎◌, ℕ, ◌+◌, zero, suc, Bool, true, false, cond, List, [], ◌∷◌, ◌++◌, length, replicate, encode_utf8_all, refl, sym, ap, subst, ◌∙◌, inl, inr, ⊎_elim, append_assoc, append-nil, arith, ◌==◌, max, flat_map}
+use Rattle.csicodec_overwrite.proofs.Common.{◌≡◌, ◌≤◌, ℕ, ◌+◌, zero, suc, Bool, true, false, cond, List, [], ◌∷◌, ◌++◌, length, replicate, refl, sym, ap, subst, ◌∙◌, append_assoc, append-nil, arith, ◌==◌, max, flat_map, drop, take, take-append-drop, ◌<◌, encode_utf8_all, unwrap_or, Option, Some, eqb-true, nat_tests, length-replicate, AllByRecursion, singles, IsShown, shown, Cell, Behind, Char, Mark, Glyph, Pen, Step, cond_both, prefix_len, all_scalars, lossy_chars, Part, none_unsure, longest, IsPlain, IsPlainByte, front_in, all_weaker, single_texts, is_shown, all_text, Line, Plain, Done, HasRoom, before, blank, cells_of, do_all, does, done, line, pen_behind, placed, put, fresh, pen_behind_all, AreFull, closed, IsLineByte, IsUntabbed, PutsRun, end_of, glyphs, last_of, line_byte, of_char, of_chars, of_run, chars_of, columns, glyph, onto, trimmed, width, AreOfParts, Overwrites, most, Reads, none_held, read_more, encoded}
+use Rattle.csicodec_overwrite.proofs.{Moved.columns_both, Moved.columns_same, Moved.narrow_few, Texts.chars_before, Texts.chars_by, Texts.shown_plain}
+use Rattle.csicodec_overwrite.proofs.{Read.chars_on, Read.run_none, Read.whole_reads, Written.one_text, Same.not_titled}
 use Rattle.std.proofs.lemmas.List.{length-append}
-use Rattle.csicodec_overwrite.proofs.Common.{eqb-true, nat_tests, length-replicate, AllByRecursion, lossy_chars, lossy_chars-encode, Part, none_unsure, singles, longest, IsPlain, IsShown, shown, single_texts, all_text, Cell, Behind, Char, Mark, Glyph, Plain, Pen, Step}
-use Rattle.csicodec_overwrite.proofs.{Moved.columns_both, Moved.columns_same, Once.one_text, Texts.chars_before, Texts.chars_by, Texts.shown_plain}
-use Rattle.csicodec_clean.proofs.PlainBytes.{plain_bytes}
-use Rattle.csicodec_overwrite.specs.Line.{Done, HasRoom, before, blank, cells_of, do_all, does, done, fresh, line, pen_behind, placed, put}
-use Rattle.csicodec_overwrite.specs.{Steps.of_char, Steps.of_chars, Steps.of_run, Private.Plain.AreFull, Private.Plain.closed, Cells.chars_of, Cells.columns}
-use Rattle.csicodec_overwrite.specs.{Cells.glyph, Cells.onto, Cells.trimmed, Cells.width, Reading.AreOfParts, Reading.Overwrites, Reading.Steps, Reading.most}
-use Rattle.csicodec_spans.specs.declared.table.Kind.TheVariants as kind
-use Rattle.csicodec_spans.specs.declared.table.Mode.TheVariants as mode
-use Rattle.csicodec_overwrite.specs.declared.step.Step.TheVariants as step
+use Rattle.std.specs.Char.{encode_utf8}
+use Rattle.unicode_width.specs.Width.{char_width}
+use Rattle.bstr.proofs.lemmas.LossyLemmas.{lossy_chars-front}
+use Rattle.csicodec_clean.specs.Private.Steps.{IsOther}
+use Rattle.csicodec_clean.proofs.{Plain.plain_bytes, Told.ascii_shown, Told.scalars}
+use Rattle.csicodec_spans.specs.{declared.table.Kind.Kind, declared.table.Mode.Mode}
 
 -- ---- cells of which none is empty
 
@@ -71,88 +70,158 @@ put_cells limit g left h = grind (arith, nat_tests, placed_cells g (width g.char
 
 -- ---- the steps of plain text
 
--- a character that is shown ends the line, or stands in it
+-- a character that is shown, but for a newline, stands in the line
 abbrev pub Puts : Pen → ℕ → Type 0
-Puts pen c = ((c == 10 ≡ true) × (of_char c ≡ step.NewLine ∷ []))
-    ⊎ ((c == 10 ≡ false) × ((s : Step) × (of_char c ≡ s ∷ []) × ((column : ℕ) → closed (pen_behind pen s column) ≡ closed pen)
-    × ((limit : ℕ) (left : List Cell) → does limit pen s (line left []) ≡ put limit pen.inserts (glyph c pen.look) (line left []))))
+Puts pen c = (s : Step) × (of_char c ≡ s ∷ []) × ((column : ℕ) → closed (pen_behind pen s column) ≡ closed pen)
+    × ((limit : ℕ) (left : List Cell) → does limit pen s (line left []) ≡ put limit pen.inserts (glyph c pen.look) (line left []))
 
 pub not_shown : (c d : ℕ) → c ≡ d → shown d ≡ false → IsShown c → ⊥
 not_shown c d e f h = let g : shown d ≡ true = subst (λ (x : ℕ). shown x ≡ true) e h in cc
 
-pub put_of : (c : ℕ) → (c == 10) ≡ false → (c == 13) ≡ false → (c == 8) ≡ false → (c == 9) ≡ false → shown c ≡ true → of_char c ≡ step.Put c ∷ []
+pub put_of : (c : ℕ) → (c == 10) ≡ false → (c == 13) ≡ false → (c == 8) ≡ false → (c == 9) ≡ false → shown c ≡ true → of_char c ≡ Step.Put c ∷ []
 put_of c e f g i k = grind arith
 
-pub puts : (pen : Pen) (c : ℕ) → IsShown c → Puts pen c
-puts pen c h = by (c == 10) (c == 13) (c == 8) (c == 9) (shown c) refl refl refl refl refl
+pub puts : (pen : Pen) (c : ℕ) → IsShown c → (c == 10) ≡ false → Puts pen c
+puts pen c h e = by (c == 13) (c == 8) (c == 9) refl refl refl
   where
-    by : (line return back tab shows : Bool) → (c == 10) ≡ line → (c == 13) ≡ return → (c == 8) ≡ back → (c == 9) ≡ tab → shown c ≡ shows → Puts pen c
-    by true return back tab shows e f g i k = inl (e, rw e refl)
-    by false true back tab shows e f g i k = absurd (not_shown c 13 (eqb-true c 13 f) refl h)
-    by false false true tab shows e f g i k = absurd (not_shown c 8 (eqb-true c 8 g) refl h)
-    by false false false true shows e f g i k =
-        inr (e, (step.Tab, rw (e, f, g, i) refl, λ column. refl, λ limit left. ap (λ (d : ℕ). put limit pen.inserts (glyph d pen.look) (line left [])) (sym (eqb-true c 9 i))))
-    by false false false false true e f g i k = inr (e, (step.Put c, put_of c e f g i k, λ column. refl, λ limit left. refl))
-    by false false false false false e f g i k = absurd (let j : shown c ≡ true = h in cc)
+    by : (return back tab : Bool) → (c == 13) ≡ return → (c == 8) ≡ back → (c == 9) ≡ tab → Puts pen c
+    by true back tab f g i = absurd (not_shown c 13 (eqb-true c 13 f) refl h)
+    by false true tab f g i = absurd (not_shown c 8 (eqb-true c 8 g) refl h)
+    by false false true f g i = (
+      Step.Tab,
+      rw (e, f, g, i) refl,
+      λ column. refl,
+      λ limit left. ap (λ (d : ℕ). put limit pen.inserts (glyph d pen.look) (line left [])) (sym
+          (eqb-true c 9 i)),
+    )
+    by false false false f g i = (Step.Put c, put_of c e f g i h, λ column. refl, λ limit left. refl)
 
 pub stays : (limit : ℕ) (pen : Pen) (cs : List ℕ) (left : List Cell) → pen.inserts ≡ false → AreFull left → AllByRecursion IsShown cs → HasRoom limit (columns left) (length left) cs
     → chars_by (do_all limit pen (of_chars cs) (line left [])) ≡ chars left ++ cs
 stays limit pen [] left over full all room = full_text left full ∙ sym (append-nil (chars left))
-stays limit pen (c ∷ cs) left over full all room = ⊎_elim
-    (λ (k : (c == 10 ≡ true) × (of_char c ≡ step.NewLine ∷ [])).
-    let next = pen_behind pen step.NewLine (columns left) in
-    let rest = do_all limit next (of_chars cs) blank in
-    ap (λ (s : List Step). chars_by (do_all limit pen (s ++ of_chars cs) (line left []))) k.1
-    ∙ chars_before (cells_of (line left [])) rest
-    ∙ ap (λ (t : List ℕ). (t ++ 10 ∷ []) ++ chars_by rest) (full_text left full)
-    ∙ ap (λ (t : List ℕ). (chars left ++ 10 ∷ []) ++ t) (stays limit next cs [] over tt all.1 (rw k.0 at room))
-    ∙ append_assoc (chars left) (10 ∷ []) cs
-    ∙ ap (λ (d : ℕ). chars left ++ d ∷ cs) (sym (eqb-true c 10 k.0)))
-    (λ (k : (c == 10 ≡ false) × ((s : Step) × (of_char c ≡ s ∷ []) × ((column : ℕ) → closed (pen_behind pen s column) ≡ closed pen)
-    × ((limit : ℕ) (left : List Cell) → does limit pen s (line left []) ≡ put limit pen.inserts (glyph c pen.look) (line left [])))).
-    let (s, of, same, puts) = k.1 in
-    let w = width c (columns left) in
-    let g = glyph c pen.look in
-    let more = rw k.0 at room in
-    let next = cells g w left in
-    let room_next : HasRoom limit (columns next) (length next) cs =
-    subst (λ (n : ℕ). HasRoom limit n (length next) cs) (sym (cells_columns g w left)) (subst (λ (m : ℕ). HasRoom limit (columns left + w) m cs) (sym (cells_length g w left)) more.1) in
-    ap (λ (x : List Step). chars_by (do_all limit pen (x ++ of_chars cs) (line left []))) of
-    ∙ ap (λ (d : Done). chars_by (before d.lines (do_all limit (pen_behind pen s (columns left)) (of_chars cs) d.line)))
-    (puts limit left ∙ ap (λ (b : Bool). put limit b g (line left [])) over ∙ put_cells limit g left more.0)
-    ∙ stays limit (pen_behind pen s (columns left)) cs next (ap (λ (p : Pen). p.inserts) (same (columns left)) ∙ over) (cells_full g w left full) all.1 room_next
-    ∙ ap (λ (t : List ℕ). t ++ cs) (cells_chars g w left)
-    ∙ append_assoc (chars left) (c ∷ []) cs)
-    (puts pen c all.0)
+stays limit pen (c ∷ cs) left over full all room = by (c == 10) refl (λ p next. stays limit p cs next)
+  where
+    by : (t : Bool) → (c == 10) ≡ t
+        → ((p : Pen) (next : List Cell) → p.inserts ≡ false → AreFull next → AllByRecursion IsShown cs → HasRoom limit (columns next) (length next) cs
+        → chars_by (do_all limit p (of_chars cs) (line next [])) ≡ chars next ++ cs)
+        → chars_by (do_all limit pen (of_char c ++ of_chars cs) (line left [])) ≡ chars left ++ c ∷ cs
+    by true e others =
+        let later = others (pen_behind pen Step.NewLine (columns left)) [] over tt all.1 (rw e at room) in
+        rw (eqb-true c 10 e) (chars_before (cells_of (line left [])) (do_all limit (pen_behind pen Step.NewLine (columns left)) (of_chars cs) blank)
+        ∙ rw (full_text left full, later) (append_assoc (chars left) (10 ∷ []) cs))
+    by false e others =
+        let (s, of, same, is) = puts pen c all.0 e in
+        let w = width c (columns left) in
+        let g = glyph c pen.look in
+        let more = rw e at room in
+        let next = cells g w left in
+        ap (λ (x : List Step). chars_by (do_all limit pen (x ++ of_chars cs) (line left []))) of
+        ∙ ap (λ (d : Done). chars_by (before d.lines (do_all limit (pen_behind pen s (columns left)) (of_chars cs) d.line)))
+        (is limit left ∙ ap (λ (b : Bool). put limit b g (line left [])) over ∙ put_cells limit g left more.0)
+        ∙ others (pen_behind pen s (columns left)) next (ap (λ (p : Pen). p.inserts) (same (columns left)) ∙ over) (cells_full g w left full) all.1
+        (rw (cells_columns g w left, cells_length g w left) more.1)
+        ∙ ap (λ (t : List ℕ). t ++ cs) (cells_chars g w left)
+        ∙ append_assoc (chars left) (c ∷ []) cs
 
 -- ---- the text
 
-pub of_singles : (bs run : List ℕ) → AreOfParts run (singles kind.Text bs) [] (run ++ bs)
+pub of_singles : (bs run : List ℕ) → AreOfParts run (singles Kind.Text bs) [] (run ++ bs)
 of_singles [] run = (refl, append-nil run)
 of_singles (b ∷ bs) run =
-    ([], run ++ b ∷ [], [], (refl, refl), refl, subst (λ (r : List ℕ). AreOfParts (run ++ b ∷ []) (singles kind.Text bs) [] r) (append_assoc run (b ∷ []) bs) (of_singles bs (run ++ b ∷ [])))
+    ([], run ++ b ∷ [], [], (refl, refl), refl, subst (λ (r : List ℕ). AreOfParts (run ++ b ∷ []) (singles Kind.Text bs) [] r) (append_assoc run (b ∷ []) bs) (of_singles bs (run ++ b ∷ [])))
 
-plain_steps : (text : List ℕ) → IsPlain text → Steps text (of_run text)
-plain_steps text p = record {
-  parts = singles kind.Text text;
-  rest = [];
-  after = mode.Text;
-  first = all_text longest text (plain_bytes text p);
-  unsure = none_unsure longest mode.Text;
-  before = [];
-  run = text;
-  read = subst (λ (ps : List Part). AreOfParts [] ps [] text) (sym (single_texts text)) (of_singles text []);
-  all = refl;
+-- ---- Text of ASCII, which takes no reading.
+
+-- ---- it is read as it stands
+
+-- text that introduces no sequence
+reads_text : (text cs : List ℕ) → AllByRecursion IsOther text → all_scalars cs ≡ true → text ≡ encode_utf8_all cs → Reads none_held text (of_chars cs) none_held
+reads_text text cs others valid own = record {
+  unsure = none_unsure longest Mode.Text;
+  goes = λ run chars read. record {
+    parts = singles Kind.Text text;
+    before = [];
+    left = run ++ text;
+    read = chars ++ cs;
+    first = all_text longest text others;
+    titles = sym (not_titled text);
+    are = subst (λ (ps : List Part). AreOfParts run ps [] (run ++ text)) (sym (single_texts text)) (of_singles text run);
+    is_read = read_more run [] text [] chars cs read (λ more. ap (λ (t : List ℕ). lossy_chars (t ++ more)) own ∙ lossy_chars-front cs more valid);
+    same = sym (chars_on chars cs);
+  };
 }
 
-plain_overwritten : (text : List ℕ) (p : IsPlain text) → HasRoom most 0 0 p.0 → Overwrites text text
-plain_overwritten text (cs, scalars, all, e) room = record {
-  steps = of_run text;
-  read = plain_steps text (cs, scalars, all, e);
-  all =
-      e ∙ ap encode_utf8_all (sym (ap (λ (xs : List ℕ). chars_by (do_all most fresh (of_chars xs) blank)) (ap lossy_chars e ∙ lossy_chars-encode cs scalars) ∙ stays most fresh cs [] refl tt all room))
-      ∙ sym (shown_plain (do_all most fresh (of_run text) blank));
-}
+pub reads_plain : (text : List ℕ) → AllByRecursion IsPlainByte text → Reads none_held text (of_chars text) none_held
+reads_plain text h = reads_text text text (plain_bytes text (ascii_shown text h)) (scalars text h) (encoded text h)
 
+pub reads_end : (returned : Bool) → Reads none_held (end_of returned) (of_chars (end_of returned)) none_held
+unfolding encode_utf8
+reads_end false = reads_plain (10 ∷ []) (refl, tt)
+reads_end true = reads_text (13 ∷ 10 ∷ []) (13 ∷ 10 ∷ []) (omega arith, (omega arith, tt)) refl refl
+
+-- plain text of which each line has room stays as it is
 pub plain_stays : (text other : List ℕ) (p : IsPlain text) → HasRoom most 0 0 p.0 → Overwrites text other → other ≡ text
-plain_stays text other p room o = one_text Plain text other text o (plain_overwritten text p room)
+plain_stays text other (cs, valid, all, e) room o = one_text Plain text other text o (record {
+  steps = of_chars cs ++ of_run [];
+  read = whole_reads text (of_chars cs) none_held (reads_text text cs (plain_bytes text (cs, valid, all, e)) valid e);
+  all = rw (run_none, append-nil (of_chars cs))
+      (e ∙ ap encode_utf8_all (sym (stays most fresh cs [] refl tt all room)) ∙ sym (shown_plain (do_all most fresh (of_chars cs) blank)));
+})
+
+-- ---- what its characters do
+
+pub line_plain : (b : ℕ) → IsLineByte b → IsPlainByte b
+line_plain b h = grind (arith, nat_tests)
+
+pub lines_plain : (bs : List ℕ) → AllByRecursion IsLineByte bs → AllByRecursion IsPlainByte bs
+lines_plain = all_weaker IsLineByte IsPlainByte line_plain
+
+-- such text in front, and what is behind it
+pub split_line : (bytes text rest : List ℕ) → text ≡ take (prefix_len line_byte bytes) bytes → rest ≡ drop (prefix_len line_byte bytes) bytes → (bytes ≡ text ++ rest) × AllByRecursion IsLineByte text
+split_line bytes text rest e f = rw (e, f) (sym (take-append-drop (prefix_len line_byte bytes) bytes), front_in line_byte bytes)
+
+pub few_cells : (c column : ℕ) → max (width c column) 1 ≤ 8
+few_cells c column = cond_both (c == 9) _ _ (λ (n : ℕ). max n 1 ≤ 8) (λ e. omega arith) (λ e. omega (arith, narrow_few (unwrap_or (char_width false c) 0)))
+
+-- ---- a run of characters behind all others
+
+pub narrow : (c column : ℕ) → 32 ≤ c → c < 127 → width c column ≡ 1
+unfolding char_width
+narrow c column low high = grind (arith, nat_tests)
+
+pub none_run : (limit : ℕ) (pen : Pen) (l : Line) (text : List ℕ) → AllByRecursion IsLineByte text → PutsRun limit pen l text text pen l
+none_run limit pen l text h = record { plain = h; fewer = omega arith; same = refl; pens = refl }
+
+-- each that takes one cell is put where the line has room for it, and the rest comes
+module _ (limit : ℕ) (first : Pen) (start : Line) (text rest : List ℕ) where
+  pub run_all : (cs : List ℕ) (pen : Pen) (left : List Cell) → PutsRun limit first start text (cs ++ rest) pen (line left []) → AllByRecursion IsUntabbed cs
+      → pen.inserts ≡ false → length left + length cs ≤ limit
+      → PutsRun limit first start text rest (record pen { last = last_of pen.last cs }) (line (onto (glyphs pen.look cs) left) [])
+  run_all [] pen left run h over few = run
+  run_all (c ∷ cs) pen left run h over few =
+      let is : IsLineByte c = run.plain.0 in
+      let other : (c == 9) ≡ false = grind (arith, nat_tests, h.0) in
+      let low : 32 ≤ c = grind (arith, nat_tests) in
+      let high : c < 127 = grind (arith, nat_tests) in
+      let g = glyph c pen.look in
+      let next = pen_behind pen (Step.Put c) (columns left) in
+      let later = of_chars (cs ++ rest) in
+      let single = narrow c (columns left) low high in
+      let of = put_of c (grind (arith, nat_tests)) (grind (arith, nat_tests)) (grind (arith, nat_tests)) other (is_shown c (line_plain c is)) in
+      let one : does limit pen (Step.Put c) (line left []) ≡ done [] (line (Char g ∷ left) []) =
+      ap (λ (b : Bool). put limit b g (line left [])) over ∙ put_cells limit g left (omega (arith, few, single))
+      ∙ ap (λ (n : ℕ). done [] (line (cells g n left) [])) single in
+      let pens : next ≡ record pen { last = Some c } = ap (λ (n : ℕ). record pen { last = cond (n == 0) pen.last (Some c) }) (narrow c 0 low high) in
+      run_all cs (record pen { last = Some c }) (Char g ∷ left) (record {
+        plain = run.plain.1;
+        fewer = omega (arith, run.fewer);
+        same = run.same ∙ ap (λ (s : List Step). do_all limit pen (s ++ later) (line left [])) of
+            ∙ ap (λ (d : Done). before d.lines (do_all limit next later d.line)) one ∙ ap (λ (p : Pen). do_all limit p later (line (Char g ∷ left) [])) pens;
+        pens = run.pens ∙ ap (λ (s : List Step). pen_behind_all limit pen (s ++ later) (line left [])) of
+            ∙ ap (λ (d : Done). pen_behind_all limit next later d.line) one ∙ ap (λ (p : Pen). pen_behind_all limit p later (line (Char g ∷ left) [])) pens;
+      }) h.1 over (omega (arith, few))
+
+-- the last of some characters
+pub last_is : (last : Option ℕ) (cs : List ℕ) (c : ℕ) → last_of last (cs ++ c ∷ []) ≡ Some c
+last_is last [] c = refl
+last_is last (d ∷ cs) c = last_is (Some d) cs c

@@ -6,7 +6,6 @@ use Rattle.csicodec_overwrite.specs.Cells.{begins_behind, columns, emptied, eras
 use Rattle.csicodec_overwrite.specs.{declared.cells.Cell.Cell, declared.cells.Glyph.Glyph, declared.line.Line.Line, declared.step.Step.Step}
 use Rattle.csicodec_overwrite.specs.{declared.cells.Cell.TheVariants.Behind, declared.cells.Cell.TheVariants.Char, declared.cells.Cell.TheVariants.Empty}
 use Rattle.csicodec_overwrite.specs.{declared.cells.Cell.TheVariants.Mark, declared.pen.Pen.Pen}
-use Rattle.csicodec_overwrite.specs.declared.step.Step.TheVariants as step
 
 -- the cells left of the cursor and those right of it, on either side the nearest first
 abbrev pub line : List Cell → List Cell → Line
@@ -166,15 +165,15 @@ fresh = record { look = plain; inserts = false; last = None; saved = 0; here = f
 -- behind a step that is done in this column: but for characters nothing is repeated, of a mark the character before it, and no column is
 -- saved that no terminal's row has
 abbrev pub pen_behind : Pen → Step → ℕ → Pen
-pen_behind pen (step.Put c) column = record pen { last = if width c 0 == 0 then pen.last else Some c }
-pen_behind pen (step.Attribute s) column = record pen { look = behind pen.look s; last = None }
-pen_behind pen (step.Inserts inserts) column = record pen { inserts = inserts; last = None }
-pen_behind pen step.Save column = record pen { last = None; saved = if nat_lt column widest then column else 0; here = nat_lt column widest }
-pen_behind pen step.Restore column = record pen { last = None; here = true; row = None }
-pen_behind pen step.NewLine column = record pen { last = None; here = false; row = None }
-pen_behind pen (step.Leave to) column = record pen { last = None; here = false; row = None }
-pen_behind pen (step.Row row to) column = record pen { last = None; here = is_row pen.row row && pen.here; row = Some row }
-pen_behind pen step.Reset column = fresh
+pen_behind pen (Step.Put c) column = record pen { last = if width c 0 == 0 then pen.last else Some c }
+pen_behind pen (Step.Attribute s) column = record pen { look = behind pen.look s; last = None }
+pen_behind pen (Step.Inserts inserts) column = record pen { inserts = inserts; last = None }
+pen_behind pen Step.Save column = record pen { last = None; saved = if nat_lt column widest then column else 0; here = nat_lt column widest }
+pen_behind pen Step.Restore column = record pen { last = None; here = true; row = None }
+pen_behind pen Step.NewLine column = record pen { last = None; here = false; row = None }
+pen_behind pen (Step.Leave to) column = record pen { last = None; here = false; row = None }
+pen_behind pen (Step.Row row to) column = record pen { last = None; here = is_row pen.row row && pen.here; row = Some row }
+pen_behind pen Step.Reset column = fresh
 pen_behind pen s column = record pen { last = None }
 
 -- ---- the steps
@@ -191,37 +190,37 @@ restored limit pen l = if pen.here then done [] (behind_columns limit pen.saved 
 
 -- in this line
 abbrev pub does_here : ℕ → Pen → Step → Line → Done
-does_here limit pen (step.Put c) l = put limit pen.inserts (glyph c pen.look) l
-does_here limit pen (step.Repeat n) l = repeated limit pen pen.last n l
-does_here limit pen step.Tab l = if length l.right == 0 then put limit pen.inserts (glyph 9 pen.look) l
+does_here limit pen (Step.Put c) l = put limit pen.inserts (glyph c pen.look) l
+does_here limit pen (Step.Repeat n) l = repeated limit pen pen.last n l
+does_here limit pen Step.Tab l = if length l.right == 0 then put limit pen.inserts (glyph 9 pen.look) l
     else done [] (forward limit (to_tab_stop (columns l.left)) l)
-does_here limit pen (step.Tabs n) l = done [] (rightward limit (to_stop n (columns l.left)) l)
-does_here limit pen (step.TabsBack n) l = done [] (backward limit (from_stop n (columns l.left)) l)
-does_here limit pen step.NewLine l = done (cells_of l ∷ []) blank
-does_here limit pen (step.Right n) l = done [] (rightward limit n l)
-does_here limit pen (step.Left n) l = done [] (backward limit n l)
-does_here limit pen (step.Column n) l = done [] (behind_columns limit (n - 1) l)
-does_here limit pen step.EraseRight l = done [] (line (parted l).left [])
-does_here limit pen step.EraseLeft l = done [] (line (replicate (columns l.left) Empty) (erased 1 l.right))
-does_here limit pen step.EraseAll l = done [] (line (replicate (columns l.left) Empty) [])
-does_here limit pen (step.Erase n) l = done [] (erase n l)
-does_here limit pen (step.Delete n) l = done [] (delete n l)
-does_here limit pen (step.Insert n) l = done [] (insert limit n l)
-does_here limit pen step.Restore l = restored limit pen l
-does_here limit pen (step.Leave to) l = leave limit to l
-does_here limit pen (step.Row row to) l = placed_in limit pen row to l
+does_here limit pen (Step.Tabs n) l = done [] (rightward limit (to_stop n (columns l.left)) l)
+does_here limit pen (Step.TabsBack n) l = done [] (backward limit (from_stop n (columns l.left)) l)
+does_here limit pen Step.NewLine l = done (cells_of l ∷ []) blank
+does_here limit pen (Step.Right n) l = done [] (rightward limit n l)
+does_here limit pen (Step.Left n) l = done [] (backward limit n l)
+does_here limit pen (Step.Column n) l = done [] (behind_columns limit (n - 1) l)
+does_here limit pen Step.EraseRight l = done [] (line (parted l).left [])
+does_here limit pen Step.EraseLeft l = done [] (line (replicate (columns l.left) Empty) (erased 1 l.right))
+does_here limit pen Step.EraseAll l = done [] (line (replicate (columns l.left) Empty) [])
+does_here limit pen (Step.Erase n) l = done [] (erase n l)
+does_here limit pen (Step.Delete n) l = done [] (delete n l)
+does_here limit pen (Step.Insert n) l = done [] (insert limit n l)
+does_here limit pen Step.Restore l = restored limit pen l
+does_here limit pen (Step.Leave to) l = leave limit to l
+does_here limit pen (Step.Row row to) l = placed_in limit pen row to l
 does_here limit pen s l = done [] l
 
 -- what stands in the line is overwritten, erased or shifted with the step
 abbrev pub alters : Step → Line → Bool
-alters (step.Put c) l = nat_lt 0 (length l.right)
-alters (step.Repeat n) l = nat_lt 0 (length l.right)
-alters step.EraseRight l = nat_lt 0 (length l.right)
-alters step.EraseLeft l = true
-alters step.EraseAll l = true
-alters (step.Erase n) l = nat_lt 0 (length l.right)
-alters (step.Delete n) l = nat_lt 0 (length l.right)
-alters (step.Insert n) l = nat_lt 0 (length l.right)
+alters (Step.Put c) l = nat_lt 0 (length l.right)
+alters (Step.Repeat n) l = nat_lt 0 (length l.right)
+alters Step.EraseRight l = nat_lt 0 (length l.right)
+alters Step.EraseLeft l = true
+alters Step.EraseAll l = true
+alters (Step.Erase n) l = nat_lt 0 (length l.right)
+alters (Step.Delete n) l = nat_lt 0 (length l.right)
+alters (Step.Insert n) l = nat_lt 0 (length l.right)
 alters s l = false
 
 -- in a line of more cells, marks among them, the cursor isn't in the row of all that stands there

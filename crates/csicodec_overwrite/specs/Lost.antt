@@ -8,7 +8,6 @@ use Rattle.csicodec_overwrite.specs.Cells.{begins_behind, belongs, chars_of, col
 use Rattle.csicodec_overwrite.specs.Line.{blank, cells_of, does, entered, fits, fresh, is_row, leaves_long, parted, pen_behind, put, shows_nothing}
 use Rattle.csicodec_overwrite.specs.{declared.cells.Cell.Cell, declared.cells.Glyph.Glyph, Reading.Shows, Reading.most, declared.line.Line.Line}
 use Rattle.csicodec_overwrite.specs.{declared.pen.Pen.Pen, declared.step.Step.Step, Paint.as_text}
-use Rattle.csicodec_overwrite.specs.declared.step.Step.TheVariants as step
 
 -- ---- parts of a line
 
@@ -68,17 +67,17 @@ left_out l = if shows_nothing l then cells_of l else []
 
 -- in this line what is overwritten, erased, deleted, parted or left out, and each tab that is shifted: no other step takes anything
 abbrev pub taken_here : ℕ → Pen → Step → Line → List Cell
-taken_here limit pen (step.Put c) l = taken_by limit pen.inserts (glyph c pen.look) l
-taken_here limit pen (step.Repeat n) l = taken_again limit pen pen.last n l
-taken_here limit pen step.EraseRight l = under l ++ (parted l).right
-taken_here limit pen step.EraseLeft l = l.left ++ whole 1 l.right
-taken_here limit pen step.EraseAll l = l.left ++ l.right
-taken_here limit pen (step.Erase n) l = touched n l
-taken_here limit pen (step.Delete n) l = touched n l ++ tabs (gone n (parted l).right)
-taken_here limit pen (step.Insert n) l = under l ++ tabs (parted l).right
-taken_here limit pen step.Restore l = if pen.here then [] else left_out l
-taken_here limit pen (step.Leave to) l = left_out l
-taken_here limit pen (step.Row row to) l = if is_row pen.row row then [] else left_out l
+taken_here limit pen (Step.Put c) l = taken_by limit pen.inserts (glyph c pen.look) l
+taken_here limit pen (Step.Repeat n) l = taken_again limit pen pen.last n l
+taken_here limit pen Step.EraseRight l = under l ++ (parted l).right
+taken_here limit pen Step.EraseLeft l = l.left ++ whole 1 l.right
+taken_here limit pen Step.EraseAll l = l.left ++ l.right
+taken_here limit pen (Step.Erase n) l = touched n l
+taken_here limit pen (Step.Delete n) l = touched n l ++ tabs (gone n (parted l).right)
+taken_here limit pen (Step.Insert n) l = under l ++ tabs (parted l).right
+taken_here limit pen Step.Restore l = if pen.here then [] else left_out l
+taken_here limit pen (Step.Leave to) l = left_out l
+taken_here limit pen (Step.Row row to) l = if is_row pen.row row then [] else left_out l
 taken_here limit pen s l = []
 
 -- and the blanks of a line that is longer than a row, where nothing else stands in it
@@ -93,9 +92,9 @@ again (Some c) n = replicate n c
 
 -- a tab comes where nothing stands on its right
 abbrev pub came : Pen → Step → Line → List ℕ
-came pen (step.Put c) l = c ∷ []
-came pen (step.Repeat n) l = again pen.last n
-came pen step.Tab l = if length l.right == 0 then 9 ∷ [] else []
+came pen (Step.Put c) l = c ∷ []
+came pen (Step.Repeat n) l = again pen.last n
+came pen Step.Tab l = if length l.right == 0 then 9 ∷ [] else []
 came pen s l = []
 
 -- ---- one step after the other

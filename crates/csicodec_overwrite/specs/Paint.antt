@@ -9,7 +9,6 @@ use Rattle.csicodec_html.specs.{Page.turn as tags}
 use Rattle.csicodec_overwrite.specs.{declared.cells.Cell.Cell, declared.marking.Marking.Marking, Cells.chars_of, declared.cells.Cell.TheVariants.Char}
 use Rattle.csicodec_overwrite.specs.{declared.cells.Cell.TheVariants.Empty, declared.marking.Marking.TheVariants.Page}
 use Rattle.csicodec_overwrite.specs.{declared.marking.Marking.TheVariants.Plain, declared.marking.Marking.TheVariants.Styled}
-use Rattle.csicodec_base.specs.declared.sgr.Sgr.TheVariants as sgr
 use Rattle.csicodec_html.specs.contracts.look.LookPartialEq.TheImpl as look_eq
 
 -- what `==` says of two looks
@@ -25,15 +24,15 @@ given set s = if set then s ∷ [] else []
 -- those that a look sets
 abbrev pub attributes : Look → List Sgr
 attributes l =
-    given (not (is_normal l.intensity)) (sgr.Intensity l.intensity)
-    ++ (given l.italic (sgr.Italic true)
-    ++ (given (not (is_none l.underline)) (sgr.Underline l.underline)
-    ++ (given (not (is_default l.line)) (sgr.UnderlineColor l.line)
-    ++ (given l.overline (sgr.Overline true)
-    ++ (given l.strike (sgr.StrikeThrough true)
-    ++ (given l.inverse (sgr.Inverse true)
-    ++ (given (not (is_default l.foreground)) (sgr.Foreground l.foreground)
-    ++ given (not (is_default l.background)) (sgr.Background l.background))))))))
+    given (not (is_normal l.intensity)) (Sgr.Intensity l.intensity)
+    ++ (given l.italic (Sgr.Italic true)
+    ++ (given (not (is_none l.underline)) (Sgr.Underline l.underline)
+    ++ (given (not (is_default l.line)) (Sgr.UnderlineColor l.line)
+    ++ (given l.overline (Sgr.Overline true)
+    ++ (given l.strike (Sgr.StrikeThrough true)
+    ++ (given l.inverse (Sgr.Inverse true)
+    ++ (given (not (is_default l.foreground)) (Sgr.Foreground l.foreground)
+    ++ (given (not (is_default l.background)) (Sgr.Background l.background) ++ []))))))))
 
 -- an attribute's own text without the final `m`, behind `;`
 abbrev pub further : Sgr → List ℕ

@@ -10,17 +10,15 @@ use Rattle.csicodec_overwrite.specs.{declared.marking.Marking.Marking, Paint.tex
 use Rattle.csicodec_overwrite.specs.{declared.marking.Marking.TheVariants.Plain, declared.marking.Marking.TheVariants.Styled, declared.step.Step.Step}
 use Rattle.csicodec_overwrite.specs.{Line.Done, Line.blank, Line.cells_of, Line.do_all, Line.fresh, Steps.of_escape, Steps.of_run, Steps.of_sequence}
 use Rattle.csicodec_overwrite.specs.{Steps.of_string, Steps.of_wrong}
-use Rattle.csicodec_spans.specs.declared.table.Kind.TheVariants as kind
-use Rattle.csicodec_spans.specs.declared.table.Mode.TheVariants as mode
 
 -- one part behind a run of text: text goes on with the run, and any other part ends it
 abbrev pub IsOfPart : Kind → List ℕ → List ℕ → List Step → List ℕ → Type 0
-IsOfPart kind.Text run bytes steps left = (steps ≡ []) × (left ≡ run ++ bytes)
-IsOfPart kind.Csi run bytes steps left = (actions : List Action) × IsTakenFor bytes actions
+IsOfPart Kind.Text run bytes steps left = (steps ≡ []) × (left ≡ run ++ bytes)
+IsOfPart Kind.Csi run bytes steps left = (actions : List Action) × IsTakenFor bytes actions
     × (steps ≡ of_run run ++ of_sequence actions) × (left ≡ [])
-IsOfPart kind.Esc run bytes steps left = (steps ≡ of_run run ++ of_escape bytes) × (left ≡ [])
-IsOfPart kind.Str run bytes steps left = (steps ≡ of_run run ++ of_string bytes) × (left ≡ [])
-IsOfPart kind.Other run bytes steps left = (steps ≡ of_run run ++ of_wrong bytes) × (left ≡ [])
+IsOfPart Kind.Esc run bytes steps left = (steps ≡ of_run run ++ of_escape bytes) × (left ≡ [])
+IsOfPart Kind.Str run bytes steps left = (steps ≡ of_run run ++ of_string bytes) × (left ≡ [])
+IsOfPart Kind.Other run bytes steps left = (steps ≡ of_run run ++ of_wrong bytes) × (left ≡ [])
 
 -- the parts in turn, behind a run of text: their steps, and the run that they end in
 abbrev pub AreOfParts : List ℕ → List Part → List Step → List ℕ → Type 0
@@ -35,7 +33,7 @@ pub record Steps (bytes : List ℕ) (steps : List Step) : Type 0 where
   pub parts : List Part
   pub rest : List ℕ
   pub after : Mode
-  pub first : AreFirstParts longest mode.Text bytes parts rest after
+  pub first : AreFirstParts longest Mode.Text bytes parts rest after
   pub unsure : IsUnsure longest after rest
   pub before : List Step
   pub run : List ℕ

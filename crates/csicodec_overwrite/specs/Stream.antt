@@ -6,7 +6,6 @@ use Rattle.csicodec_clean.specs.{Cleaned.longest, Shown.IsRead, Stream.AreTaken,
 use Rattle.csicodec_overwrite.specs.{declared.line.Line.Line, Line.blank, Line.do_all, Line.fresh, Line.pen_behind_all, declared.marking.Marking.Marking}
 use Rattle.csicodec_overwrite.specs.{declared.marking.Marking.TheVariants.Plain, declared.pen.Pen.Pen, declared.step.Step.Step, Steps.of_chars, Steps.of_run}
 use Rattle.csicodec_overwrite.specs.{Paint.texts_of, Reading.AreOfParts, Reading.Shows, Reading.most, Reading.shown_by}
-use Rattle.csicodec_spans.specs.declared.table.Mode.TheVariants as mode
 
 -- between two pushes: what is open and whether that is a title, the bytes of which nothing is sure yet, and those of a character before them
 pub record Held : Type 0 where
@@ -16,7 +15,7 @@ pub record Held : Type 0 where
   pub held : List ℕ
 
 abbrev pub none_held : Held
-none_held = record { mode = mode.Text; titled = false; bytes = []; held = [] }
+none_held = record { mode = Mode.Text; titled = false; bytes = []; held = [] }
 
 -- Behind a run of text that reads as the characters and then the bytes that were held, of which the characters have given their
 -- steps: the parts in front of the bytes, and the steps that came for them.

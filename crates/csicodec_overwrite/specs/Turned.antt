@@ -2,13 +2,12 @@
 use Rattle.std.specs.Prelude.{ℕ, ◌≡◌, List, [], ◌∷◌}
 use Rattle.csicodec_html.specs.{declared.look.Look.Look, Look.behind}
 use Rattle.csicodec_overwrite.specs.{declared.marking.Marking.Marking, Paint.turn, Stream.Reads, Stream.none_held, declared.step.Step.Step}
-use Rattle.csicodec_overwrite.specs.declared.step.Step.TheVariants as step
 
 -- a step that does no more than to set how characters look, where nothing stands right of the cursor
 abbrev pub IsLook : Look → Step → Look → Type 0
-IsLook look (step.Attribute s) after = after ≡ behind look s
-IsLook look step.EraseRight after = after ≡ look
-IsLook look step.Other after = after ≡ look
+IsLook look (Step.Attribute s) after = after ≡ behind look s
+IsLook look Step.EraseRight after = after ≡ look
+IsLook look Step.Other after = after ≡ look
 IsLook look s after = ⊥
 
 abbrev pub AreLooks : Look → List Step → Look → Type 0

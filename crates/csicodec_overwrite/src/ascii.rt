@@ -74,12 +74,6 @@ pub(crate) fn behind_end(bytes: &[u8]) -> Option<&[u8]>
     }
 }
 
-/// Whether a control sequence or an escape sequence is introduced in front.
-#[inline(always)]
-pub(crate) fn begins_sequence(bytes: &[u8]) -> bool {
-    matches!(bytes, [0x1b, ..])
-}
-
 /// The bytes in front that are no tabs, so many at most, and what is behind them.
 #[inline(always)]
 pub(crate) fn split_run(text: &[u8], room: usize) -> (&[u8], &[u8])

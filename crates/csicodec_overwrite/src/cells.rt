@@ -421,7 +421,7 @@ impl Side {
     }
 
     /// Empties the columns of tabs, since the cells move without the cursor.
-    #[tactic(auto, using(crate::proofs::Shifted::columns_shifted))]
+    #[tactic(auto, using(crate::proofs::Rows::columns_shifted))]
     pub(crate) fn shift(&mut self)
         ensures { self.new ≡ shifted false self.old }
     {

@@ -1,8 +1,8 @@
 //! The front of a line that is written as it comes: text of ASCII, and sequences that do no more than to set how it looks.
-ghost use Rattle.std.specs.{Prelude.◌≡◌, Prelude.◌<◌, Prelude.◌≤◌, Prelude.◌++◌, Prelude.ℕ, Prelude.List, Prelude.false, Prelude.true, Prelude.length, Prelude.IfOk};
-ghost use Rattle.std.specs.{Prelude.OnOk, List.AllByRecursion};
+ghost use Rattle.std.specs.{Prelude.◌≡◌, Prelude.◌<◌, Prelude.◌≤◌, Prelude.◌++◌, Prelude.false, Prelude.true, Prelude.length, Prelude.IfOk, Prelude.OnOk};
+ghost use Rattle.std.specs.{List.AllByRecursion};
 ghost use Rattle.csicodec_html.specs.Turns.{AreTurns};
-ghost use Rattle.csicodec_overwrite.specs.{Paint.turn, Turned.AreLooks, Turned.IsLook, Turned.Sets, Turned.Turned, Private.Front.IsStyled, Private.Front.IsTurned};
+ghost use Rattle.csicodec_overwrite.specs.{Paint.turn, Turned.AreLooks, Turned.Sets, Turned.Turned, Private.Front.IsStyled, Private.Front.IsTurned};
 ghost use Rattle.csicodec_overwrite.specs.{Private.Front.IsWritten, Private.Front.last_of_run, Private.Front.run_text, Private.Plain.IsLineByte, Stream.none_held};
 
 use crate::ascii::{InLine, style_len};
@@ -16,22 +16,8 @@ use csicodec_html::{InFront, Look, Turns};
 use csicodec_spans::LIMIT;
 use std::alloc::AllocError;
 
-/// Whether a step does no more than to set how characters look, where nothing stands right of the cursor; they look so then.
-#[inline(always)]
-fn turn_look(look: &mut Look, step: &Step) -> bool
-    ensures { result ≡ true → IsLook look.old step.now look.new }
-{
-    match *step {
-        Step::Attribute(attribute) => {
-            look.set(&attribute);
-            true
-        }
-        Step::EraseRight | Step::Other => true,
-        _ => false,
-    }
-}
-
-/// The same of steps in turn. Where one does more, characters look as before.
+/// Whether steps do no more than to set how characters look, where nothing stands right of the cursor; they look so then. Where one does
+/// more, characters look as before.
 #[inline(never)]
 fn turn_all(look: &mut Look, steps: &[Step]) -> bool
     ensures looks { result ≡ true → AreLooks look.old steps.now look.new }
@@ -40,9 +26,13 @@ fn turn_all(look: &mut Look, steps: &[Step]) -> bool
     let before = *look;
     let mut rest = steps;
     while let Some((step, behind)) = rest.split_first() {
-        if !turn_look(look, step) {
-            *look = before;
-            return false;
+        match *step {
+            Step::Attribute(attribute) => look.set(&attribute),
+            Step::EraseRight | Step::Other => (),
+            _ => {
+                *look = before;
+                return false;
+            }
         }
         rest = behind;
     }
@@ -170,8 +160,7 @@ fn append_styled<'a>(
     requires bare { reader.old ≡ none_held }
     requires known { AreTurns (Turned marking.now) turns.old.kept.items }
     requires even { front.old.even ≡ true → front.old.last ≡ front.old.now }
-    ensures styled { IfOk result (λ is. is ≡ true → (text : List ℕ) × IsStyled marking.now front.old text front.new
-        × (out.new.items ≡ out.old.items ++ text)) }
+    ensures styled { IfOk result (λ is. is ≡ true → IsStyled marking.now front.old out.old.items front.new out.new.items) }
     ensures fewer { IfOk result (λ is. is ≡ true → length front.new.rest.now < length front.old.rest.now) }
     ensures none { IfOk result (λ is. is ≡ false → (front.new ≡ front.old) × (out.new.items ≡ out.old.items)) }
     ensures bare { OnOk result (reader.new ≡ none_held) }

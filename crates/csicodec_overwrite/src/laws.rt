@@ -51,7 +51,7 @@ pub fn looks_back()
 {}
 
 /// The line that isn't over never holds more than 65,536 cells, whatever comes.
-#[tactic(auto, using(crate::proofs::Room::all_size))]
+#[tactic(auto, using(crate::proofs::Rows::all_size))]
 pub fn bounded()
     ensures { (pen : Pen) (steps : List Step) → size (do_all most pen steps blank).line ≤ most }
 {}

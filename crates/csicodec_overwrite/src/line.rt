@@ -1,7 +1,7 @@
 //! A line and its cursor.
 ghost use Rattle.std.specs.{Prelude.◌≡◌, Prelude.◌<◌, Prelude.◌≤◌, Prelude.◌*◌, Prelude.◌-◌, Prelude.◌++◌, Prelude.◌+◌, Prelude.[], Prelude.false, Prelude.length};
 ghost use Rattle.std.specs.{Prelude.nat_lt, Prelude.true, Prelude.IfOk, Prelude.OnOk, List.AllByRecursion};
-ghost use Rattle.csicodec_overwrite.specs.Line.{alters, behind_columns, blank, cells_of, delete, does_here, entered, erase, forward, insert, lines_of, parted, placed, put, repeated, size, widest};
+ghost use Rattle.csicodec_overwrite.specs.Line.{alters, behind_columns, blank, cells_of, does_here, entered, forward, lines_of, parted, placed, put, repeated, size, widest};
 ghost use Rattle.csicodec_overwrite.specs.{Cells.columns, Cells.glyph, Paint.text_of, Paint.texts_of, Reading.most, Private.Plain.IsLineByte, Private.Plain.PutsRun};
 ghost use Rattle.csicodec_overwrite.specs.{Private.Row.Does, Private.Row.IsHere, Private.Row.settled, Private.Sides.placed_many};
 
@@ -188,34 +188,6 @@ impl Line {
         Ok(())
     }
 
-    /// Erases so many columns from the cursor on.
-    fn erase(&mut self, count: u32) -> Result<(), AllocError>
-        ensures { OnOk result (self.new ≡ erase count self.old) }
-    {
-        self.part()?;
-        self.right.erase_columns(count as usize)
-    }
-
-    /// Takes out so many columns from the cursor on.
-    fn delete(&mut self, count: u32) -> Result<(), AllocError>
-        ensures { OnOk result (self.new ≡ delete count self.old) }
-    {
-        self.part()?;
-        self.right.delete_columns(count as usize)?;
-        self.right.shift();
-        Ok(())
-    }
-
-    /// Inserts so many empty columns.
-    fn insert(&mut self, count: u32) -> Result<(), AllocError>
-        ensures { OnOk result (self.new ≡ insert most count self.old) }
-    {
-        self.part()?;
-        let some = (count as usize).min(self.room());
-        self.right.shift();
-        self.right.push_empty(some)
-    }
-
     /// Puts a character of so many columns at the cursor, in place of what stands there or in front of it.
     fn place(&mut self, inserts: bool, glyph: Glyph, columns: usize) -> Result<(), AllocError>
         ensures { OnOk result (self.new ≡ placed inserts glyph columns self.old) }
@@ -349,10 +321,8 @@ impl Line {
             self.place_many(pen.inserts, glyph, columns, count as usize)?;
             return Ok(());
         }
-        let mut left = count;
-        while left > 0 {
+        for _i in 0..count {
             self.put(pen, char, marking, out)?;
-            left -= 1;
         }
         Ok(())
     }
@@ -385,16 +355,29 @@ impl Line {
                 self.right.clear();
                 self.left.empty()
             }
-            Step::Erase(count) => self.erase(count),
-            Step::Delete(count) => self.delete(count),
-            Step::Insert(count) => self.insert(count),
+            Step::Erase(count) => {
+                self.part()?;
+                self.right.erase_columns(count as usize)
+            }
+            Step::Delete(count) => {
+                self.part()?;
+                self.right.delete_columns(count as usize)?;
+                self.right.shift();
+                Ok(())
+            }
+            Step::Insert(count) => {
+                self.part()?;
+                let some = (count as usize).min(self.room());
+                self.right.shift();
+                self.right.push_empty(some)
+            }
             _ => Ok(()),
         }
     }
 
     /// Puts the characters in front that take one cell each, where nothing stands right of the cursor, and answers the others.
     #[inline(always)]
-    #[tactic(auto, using(crate::proofs::Straight::run_none))]
+    #[tactic(auto, using(crate::proofs::Stays::none_run))]
     pub(crate) fn put_run<'a>(
         &mut self,
         pen: &mut Pen,

@@ -1,11 +1,10 @@
 //! A stream of which each line is overwritten, as it comes.
 ghost use Rattle.std.specs.Prelude.{◌≡◌, ◌≤◌, ◌<◌, ◌++◌, ℕ, List, OnOk, IfNone, IfOk, IfSome, false, length, true};
-ghost use Rattle.csicodec_overwrite.specs.{Line.blank, Paint.shows_looks, declared.marking.Marking.TheVariants.Styled, Private.Front.IsWritten};
-ghost use Rattle.csicodec_overwrite.specs.{Private.Plain.PutsPlain, Private.Plain.end_of, Private.Seen.PassesFront, Stream.Ending, Stream.Passes, Stream.begun};
-ghost use Rattle.csicodec_overwrite.specs.{Stream.begun_as, Stream.none_held};
+ghost use Rattle.csicodec_overwrite.specs.{Line.blank, declared.marking.Marking.TheVariants.Styled, Private.Seen.PassesFront, Stream.Ending, Stream.Passes};
+ghost use Rattle.csicodec_overwrite.specs.{Stream.begun, Stream.begun_as, Stream.none_held};
 
-use crate::ascii::{InLine, begins_sequence, behind_end, odd_len, split_lines};
-use crate::front::{LineFront, append_front};
+use crate::ascii::{InLine, behind_end, odd_len, split_lines};
+use crate::front::append_front;
 use crate::marking::Marking;
 use crate::paint::{append_ascii, append_turn};
 use crate::pen::Pen;
@@ -89,13 +88,6 @@ impl Overwriter {
         }
     }
 
-    /// Before the next bytes, no line is known that can't be written as it comes.
-    fn begin(&mut self)
-        ensures { self.new ≡ self.old }
-    {
-        self.crooked = usize::MAX;
-    }
-
     /// Takes the text of ASCII in front, and answers what is behind it.
     #[inline(always)]
     fn take_text<'a>(&mut self, bytes: &'a [u8], out: &mut Vec<u8>) -> Result<&'a [u8], AllocError>
@@ -105,7 +97,7 @@ impl Overwriter {
         ensures reader { OnOk result (self.new.reader ≡ none_held) }
     {
         // No text stands in front of a sequence.
-        if begins_sequence(bytes) {
+        if matches!(bytes, [0x1b, ..]) {
             return Ok(bytes);
         }
         let (text, rest) = split_front::<InLine>(bytes);
@@ -189,34 +181,6 @@ impl Overwriter {
         bytes.len() <= self.crooked && is_tried && self.line.is_blank() && !self.pen.inserts
     }
 
-    /// Ends the line.
-    fn take_end(&mut self, out: &mut Vec<u8>) -> Result<(), AllocError>
-        requires { self.old.reader ≡ none_held }
-        ensures passes { OnOk result ((text : List ℕ)
-            × ((returned : _) → Passes self.old (end_of returned) text self.new)
-            × (out.new.items ≡ out.old.items ++ text)) }
-        ensures reader { OnOk result (self.new.reader ≡ none_held) }
-    {
-        self.line.end(&self.marking, out)?;
-        self.pen.take(Step::NewLine, 0);
-        Ok(())
-    }
-
-    /// Appends the front of the line in front that is written as it comes.
-    fn append_front<'a>(
-        &mut self,
-        bytes: &'a [u8],
-        out: &mut Vec<u8>,
-    ) -> Result<LineFront<'a>, AllocError>
-        requires bare { self.old.reader ≡ none_held }
-        requires over { self.old.pen.inserts ≡ false }
-        ensures written { IfOk result (λ f. IsWritten self.old.marking self.old.pen bytes.now out.old.items f out.new.items) }
-        ensures same { OnOk result (self.new ≡ self.old) }
-    {
-        let (reader, steps, turns) = (&mut self.reader, &mut self.steps, &mut self.turns);
-        append_front(reader, steps, turns, self.pen, &self.marking, bytes, out)
-    }
-
     /// Takes the line in front, written as it comes, and answers what is behind it. Where it can't be, it takes nothing.
     fn take_line<'a>(
         &mut self,
@@ -233,7 +197,8 @@ impl Overwriter {
         ensures reader { OnOk result (self.new.reader ≡ none_held) }
     {
         let before = out.len();
-        let front = self.append_front(bytes, out)?;
+        let (reader, steps, turns) = (&mut self.reader, &mut self.steps, &mut self.turns);
+        let front = append_front(reader, steps, turns, self.pen, &self.marking, bytes, out)?;
         let Some(rest) = behind_end(front.rest) else {
             out.truncate(before);
             self.crooked = front.rest.len();
@@ -246,14 +211,6 @@ impl Overwriter {
         self.pen.look = front.now;
         self.pen.take(Step::NewLine, 0);
         Ok(Some(rest))
-    }
-
-    /// Whether lines of text alone may begin here that are written as they are.
-    fn is_straight(&self) -> bool
-        ensures { result ≡ true
-            → (self.now.line ≡ blank) × PutsPlain (shows_looks self.now.marking) self.now.pen }
-    {
-        self.line.is_blank() && self.pen.puts_plain(self.marking.shows_looks())
     }
 
     /// Takes lines of text alone in front that are written as they are, if they are likely, and answers what is behind them.
@@ -269,7 +226,8 @@ impl Overwriter {
         ensures reader { OnOk result (self.new.reader ≡ none_held) }
     {
         if is_likely
-            && self.is_straight()
+            && self.line.is_blank()
+            && self.pen.puts_plain(self.marking.shows_looks())
             && let Some((lines, rest)) = split_lines(bytes, LIMIT / 8)
         {
             append_ascii(&self.marking, lines, out)?;
@@ -287,7 +245,8 @@ impl Overwriter {
         ensures held { OnOk result (length self.new.reader.held ≤ 3) }
     {
         if let Some(rest) = behind_end(bytes) {
-            self.take_end(out)?;
+            self.line.end(&self.marking, out)?;
+            self.pen.take(Step::NewLine, 0);
             return Ok(rest);
         }
         let before = out.len();
@@ -333,7 +292,7 @@ impl Overwriter {
         ensures held { OnOk result
             (length self.old.reader.held ≤ 3 → length self.new.reader.held ≤ 3) }
     {
-        self.begin();
+        self.crooked = usize::MAX;
         let mut rest = self.take_front(bytes, out)?;
         while !rest.is_empty() {
             rest = self.take_front(rest, out)?;

@@ -1,5 +1,5 @@
 //! A line as it is written: its characters alone, or with what says how they look.
-ghost use Rattle.std.specs.Prelude.{◌≡◌, ◌≤◌, ◌-◌, ◌∷◌, ◌++◌, [], IfOk, IfSome, OnOk, encode_utf8, encode_utf8_all, false, length, not, replicate};
+ghost use Rattle.std.specs.Prelude.{◌≡◌, ◌≤◌, ◌-◌, ◌∷◌, ◌++◌, [], IfOk, OnOk, encode_utf8_all, length, not, replicate};
 ghost use Rattle.std.specs.List.{AllByRecursion, flat_map};
 ghost use Rattle.csicodec_clean.specs.Bytes.{IsPlainByte};
 ghost use Rattle.csicodec_html.specs.{Look.is_default, Look.is_none, Look.is_normal, Look.plain, Page.escaped};
@@ -98,7 +98,7 @@ fn append_look(look: &Look, out: &mut Vec<u8>) -> Result<(), AllocError>
 
 /// Appends what is written between two looks, where they aren't one.
 #[inline(always)]
-#[tactic(auto, using(crate::proofs::Alike::unturned, crate::proofs::Alike::turned_alike))]
+#[tactic(auto, using(crate::proofs::Texts::unturned, crate::proofs::Texts::turned_alike))]
 pub(crate) fn append_turn(
     marking: &Marking,
     old: &Look,
@@ -179,20 +179,12 @@ fn append_char(char: char, out: &mut Vec<u8>) -> Result<(), AllocError>
     append_beyond(char, out)
 }
 
-/// Whether it stands on a page as a reference.
-#[inline(always)]
-fn is_marked(char: char) -> bool
-    ensures { result ≡ false → escaped char ≡ encode_utf8 char }
-{
-    matches!(char, '&' | '<' | '>' | '"' | '\'')
-}
-
 /// Appends a character as it stands on a page.
 #[inline(always)]
 fn append_reference(char: char, out: &mut Vec<u8>) -> Result<(), AllocError>
     ensures { OnOk result (out.new.items ≡ out.old.items ++ flat_map escaped (char ∷ [])) }
 {
-    if is_marked(char) {
+    if matches!(char, '&' | '<' | '>' | '"' | '\'') {
         return csicodec_html::append_char(char, out);
     }
     append_char(char, out)
@@ -210,7 +202,7 @@ fn append_written(marking: &Marking, char: char, out: &mut Vec<u8>) -> Result<()
 }
 
 /// Appends the characters of a cell.
-#[tactic(auto, using(crate::proofs::Alike::nothing_written))]
+#[tactic(auto, using(crate::proofs::Texts::nothing_written))]
 #[inline(always)]
 fn append_cell(marking: &Marking, cell: Cell, out: &mut Vec<u8>) -> Result<(), AllocError>
     ensures { OnOk result (out.new.items ≡ out.old.items ++ written marking.now (chars_of cell)) }
@@ -270,17 +262,6 @@ fn append_alike<'a>(
     Ok(behind)
 }
 
-/// The byte of a cell, if a character of ASCII stands there.
-#[inline(always)]
-fn ascii_of(cell: &Cell) -> Option<u8>
-    ensures { IfSome result (λ byte. encode_utf8_all (chars_of cell.now) ≡ byte ∷ []) }
-{
-    match cell {
-        Cell::Char(glyph) if glyph.char < '\u{80}' => Some(glyph.char as u8),
-        _ => None,
-    }
-}
-
 /// Appends the characters of ASCII in front, and answers the cells behind them.
 fn append_ascii_front<'a>(cells: &'a [Cell], out: &mut Vec<u8>) -> Result<&'a [Cell], AllocError>
     ensures text { IfOk result (λ rest. out.new.items ++ encode_utf8_all (flat_map chars_of rest.now)
@@ -290,12 +271,11 @@ fn append_ascii_front<'a>(cells: &'a [Cell], out: &mut Vec<u8>) -> Result<&'a [C
     out.reserve(cells.len())?;
     let mut rest = cells;
     while let Some((cell, behind)) = rest.split_first() {
-        // What stands behind a wide character is passed.
-        if !matches!(cell, Cell::Behind) {
-            let Some(byte) = ascii_of(cell) else {
-                return Ok(rest);
-            };
-            out.push_reserved(byte);
+        match cell {
+            Cell::Char(glyph) if glyph.char < '\u{80}' => out.push_reserved(glyph.char as u8),
+            // What stands behind a wide character is passed.
+            Cell::Behind => {}
+            _ => return Ok(rest),
         }
         rest = behind;
     }

@@ -52,13 +52,7 @@ impl Pen {
     pub(crate) fn puts_plain(&self, painted: bool) -> bool
         ensures { result ≡ true → PutsPlain painted self.now }
     {
-        if self.inserts {
-            return false;
-        }
-        if painted {
-            return self.look == Look::plain();
-        }
-        true
+        !self.inserts && (!painted || self.look == Look::plain())
     }
 
     /// Takes a step that is done where so many columns are left of the cursor.

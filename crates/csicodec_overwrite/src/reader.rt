@@ -2,9 +2,8 @@
 ghost use Rattle.std.specs.Prelude.{◌≡◌, ◌≢◌, ◌≤◌, ◌++◌, ℕ, List, false, true, length, MatchOption, OnOk, IfOk, IfSome};
 ghost use Rattle.csicodec_tokens.specs.Sequence.{Seq};
 ghost use Rattle.csicodec_spans.specs.{Parts.IsUnsure, declared.table.Kind.TheVariants.Csi as Sequence};
-ghost use Rattle.csicodec_terminal.specs.Terminal.{Terminal};
 ghost use Rattle.csicodec_clean.specs.{Cleaned.longest, Titles.read_as, Titles.title_behind};
-ghost use Rattle.csicodec_overwrite.specs.{Private.Spans.GoesTo, Private.Spans.IsGiven, Stream.Reads, Stream.none_held, Steps.of_run, Steps.of_sequence};
+ghost use Rattle.csicodec_overwrite.specs.{Private.Spans.GoesTo, Private.Spans.IsGiven, Stream.Reads, Stream.none_held, Steps.of_run};
 
 use crate::seen::Seen;
 use crate::step::Step;
@@ -18,23 +17,8 @@ use csicodec_tokens::Count;
 use std::alloc::{AllocError, Global};
 use std::marker::Model;
 
-/// Appends the steps of a control sequence, as terminals take it. `actions` is a place that is kept for its actions.
-fn append_sequence(
-    alloc: Global,
-    actions: &mut Vec<CSI>,
-    params: &[CsiParam],
-    control: char,
-    steps: &mut Vec<Step>,
-) -> Result<(), AllocError>
-    ensures { OnOk result ((all : _) × Terminal params.now false control all
-        × (steps.new.items ≡ steps.old.items ++ of_sequence all)) }
-{
-    terminal_actions_into(alloc, params, false, control, actions)?;
-    append_actions(actions, steps)?;
-    Ok(steps.push(Step::Other)?)
-}
-
-/// Appends the steps of a span. A span that is no text ends the run of text before it.
+/// Appends the steps of a span. A span that is no text ends the run of text before it. `actions` is a place that is kept for the actions of
+/// a control sequence, which are as terminals take it.
 fn append_span(
     alloc: Global,
     actions: &mut Vec<CSI>,
@@ -58,7 +42,9 @@ fn append_span(
     append_run(held, steps)?;
     held.clear();
     if let Some(control) = control {
-        return append_sequence(alloc, actions, params, control, steps);
+        terminal_actions_into(alloc, params, false, control, actions)?;
+        append_actions(actions, steps)?;
+        return Ok(steps.push(Step::Other)?);
     }
     match kind {
         Kind::Esc => append_escape(bytes, steps),

@@ -1,8 +1,8 @@
 //! A line whose cursor goes to a column only where something is done there, so that going to and fro costs nothing.
 ghost use Rattle.std.specs.{Prelude.◌≡◌, Prelude.◌++◌, Prelude.true, Prelude.IfOk, Prelude.OnOk, List.AllByRecursion};
-ghost use Rattle.csicodec_overwrite.specs.Line.{backward, behind_columns, blank, cells_of, done, does, forward, in_row, lines_of, pen_behind, restored, rightward, target};
-ghost use Rattle.csicodec_overwrite.specs.{Cells.columns, Reading.most, Steps.of_chars, Paint.ended, Paint.text_of, declared.step.Step.TheVariants.Tab};
-ghost use Rattle.csicodec_overwrite.specs.{Private.Plain.IsLineByte, Private.Plain.PutsRun, Private.Row.Does, Private.Row.DoesAll, Private.Row.IsHere};
+ghost use Rattle.csicodec_overwrite.specs.Line.{backward, behind_columns, blank, cells_of, done, does, forward, lines_of, pen_behind, rightward, target};
+ghost use Rattle.csicodec_overwrite.specs.{Cells.columns, Reading.most, Steps.of_chars, Paint.ended, Paint.text_of, Private.Plain.IsLineByte, Private.Plain.PutsRun};
+ghost use Rattle.csicodec_overwrite.specs.{Private.Row.Does, Private.Row.DoesAll};
 
 use crate::line::Line;
 use crate::marking::Marking;
@@ -121,27 +121,6 @@ impl Row {
         column.min(WIDEST as usize - 1)
     }
 
-    /// To this column of the same row, or to the same column.
-    fn in_row(&mut self, to: Option<u32>) -> Result<(), AllocError>
-        ensures { OnOk result (self.new ≡ in_row most to self.old) }
-    {
-        match to {
-            Some(column) => self.go(column.saturating_sub(1) as usize),
-            None => Ok(()),
-        }
-    }
-
-    /// To the saved place, or to another row.
-    fn restore(&mut self, pen: &Pen, marking: &Marking, out: &mut Vec<u8>) -> Result<(), AllocError>
-        ensures { OnOk result (Does marking.now (restored most pen.now self.old)
-            self.new out.old.items out.new.items) }
-    {
-        if pen.here {
-            return self.go(pen.saved);
-        }
-        self.go_on(pen.saved, marking, out)
-    }
-
     /// Takes all that stands there, and appends its text.
     #[tactic(auto, using(crate::proofs::Rows::standing_row))]
     pub(crate) fn take_text(
@@ -170,36 +149,6 @@ impl Row {
         Ok(())
     }
 
-    /// Does a step where the cursor is, and appends the lines that are over with it.
-    fn act_here(
-        &mut self,
-        pen: &Pen,
-        step: &Step,
-        marking: &Marking,
-        out: &mut Vec<u8>,
-    ) -> Result<(), AllocError>
-        requires { IsHere step.now }
-        ensures { OnOk result (Does marking.now (does most pen.now step.now self.old)
-            self.new out.old.items out.new.items) }
-    {
-        self.line.enter(self.to, step, marking, out)?;
-        self.to = None;
-        self.line.act(pen, step, marking, out)
-    }
-
-    /// On to the next tab stop.
-    fn tab(&mut self, pen: &Pen, marking: &Marking, out: &mut Vec<u8>) -> Result<(), AllocError>
-        ensures { OnOk result (Does marking.now (does most pen.now Tab self.old)
-            self.new out.old.items out.new.items) }
-    {
-        if self.line.has_right(self.to) {
-            return self.forward(width('\t', self.column()));
-        }
-        self.line.settle(self.to)?;
-        self.to = None;
-        self.line.put(pen, '\t', marking, out)
-    }
-
     /// Does a step where characters are put so, and appends the lines that are over with it.
     fn act(
         &mut self,
@@ -223,16 +172,31 @@ impl Row {
                 let behind = self.column().saturating_sub(1) % 8;
                 self.back(behind + (8 * (count as usize)).saturating_sub(7))
             }
-            Step::Restore => self.restore(pen, marking, out),
-            Step::Row(row, to) if pen.is_in(row) => self.in_row(to),
+            Step::Restore if pen.here => self.go(pen.saved),
+            Step::Restore => self.go_on(pen.saved, marking, out),
+            Step::Row(row, None) if pen.is_in(row) => Ok(()),
+            Step::Row(row, Some(column)) if pen.is_in(row) => {
+                self.go(column.saturating_sub(1) as usize)
+            }
             Step::Row(_, to) | Step::Leave(to) => {
                 let column = self.target(to);
                 self.go_on(column, marking, out)
             }
             Step::NewLine => self.end(marking, out),
-            Step::Tab => self.tab(pen, marking, out),
+            Step::Tab if self.line.has_right(self.to) => {
+                self.forward(width('\t', self.column()))
+            }
+            Step::Tab => {
+                self.line.settle(self.to)?;
+                self.to = None;
+                self.line.put(pen, '\t', marking, out)
+            }
             Step::Save | Step::Inserts(_) | Step::Reset => Ok(()),
-            _ => self.act_here(pen, step, marking, out),
+            _ => {
+                self.line.enter(self.to, step, marking, out)?;
+                self.to = None;
+                self.line.act(pen, step, marking, out)
+            }
         }
     }
 
@@ -286,7 +250,7 @@ impl Row {
 
     /// Puts the characters in front at once that take one cell each and come behind all that stands there, and answers the others.
     #[inline(always)]
-    #[tactic(auto, using(crate::proofs::Straight::run_none, std::proofs::lemmas::List::nil_from_length))]
+    #[tactic(auto, using(crate::proofs::Stays::none_run, std::proofs::lemmas::List::nil_from_length))]
     fn put_run<'a>(&mut self, pen: &mut Pen, text: &'a [u8]) -> Result<&'a [u8], AllocError>
         requires { AllByRecursion IsLineByte text.now }
         ensures { IfOk result

@@ -1,10 +1,10 @@
 //! The steps of text, of escape sequences and of actions.
 ghost use Rattle.std.specs.{Prelude.◌≡◌, Prelude.◌≤◌, Prelude.◌++◌, Prelude.◌∷◌, Prelude.[], Prelude.ℕ, Prelude.List, Prelude.length, Prelude.map, Prelude.OnOk};
 ghost use Rattle.std.specs.{Prelude.IfOk, List.flat_map, List.list_any};
-ghost use Rattle.csicodec_actions.specs.Devices.{device_of};
+ghost use Rattle.csicodec_actions.specs.{Actions.Device as OfDevice, Devices.device_of};
 ghost use Rattle.csicodec_parser.specs.ActionOf.{action_of};
 ghost use Rattle.csicodec_clean.specs.Shown.{IsCut, IsRead};
-ghost use Rattle.csicodec_overwrite.specs.Steps.{as_far, by_code, by_escape, is_mark, may_move, of_action, of_actions, of_char, of_chars, of_code, of_control, of_cursor, of_device, of_edit, of_escape, of_final, of_mode, of_run, of_terminal_mode, of_unread, stops, switched};
+ghost use Rattle.csicodec_overwrite.specs.Steps.{as_far, by_code, by_escape, is_mark, may_move, of_action, of_actions, of_char, of_chars, of_code, of_cursor, of_edit, of_escape, of_final, of_mode, of_run, stops, switched};
 ghost use Rattle.csicodec_overwrite.specs.Private.Spans.{if_some};
 
 use crate::step::{Step, WIDEST};
@@ -14,7 +14,6 @@ use csicodec::{
 };
 use csicodec_base::CsiParam;
 use csicodec_clean::first_sure;
-use csicodec_parser::Unspecified;
 use csicodec_transform::keep_from;
 use std::alloc::AllocError;
 
@@ -42,17 +41,6 @@ fn append_some(step: Option<Step>, steps: &mut Vec<Step>) -> Result<(), AllocErr
     Ok(())
 }
 
-/// What a control does that isn't shown.
-fn control_step(char: char) -> Step
-    ensures { of_control char ≡ result ∷ [] }
-{
-    match char {
-        '\u{b}' | '\u{c}' | '\u{84}' | '\u{8d}' | '\u{9b}' => Step::Leave(None),
-        '\u{85}' => Step::Leave(Some(1)),
-        _ => Step::Other,
-    }
-}
-
 /// What a character does.
 pub(crate) fn char_step(char: char) -> Step
     ensures { of_char char ≡ result ∷ [] }
@@ -62,7 +50,9 @@ pub(crate) fn char_step(char: char) -> Step
         '\r' => Step::Column(1),
         '\u{8}' => Step::Left(1),
         '\t' => Step::Tab,
-        '\0'..='\u{1f}' | '\u{7f}'..='\u{9f}' => control_step(char),
+        '\u{b}' | '\u{c}' | '\u{84}' | '\u{8d}' | '\u{9b}' => Step::Leave(None),
+        '\u{85}' => Step::Leave(Some(1)),
+        '\0'..='\u{1f}' | '\u{7f}'..='\u{9f}' => Step::Other,
         _ => Step::Put(char),
     }
 }
@@ -208,16 +198,6 @@ fn append_switched(set: bool, mode: DecPrivateMode, steps: &mut Vec<Step>) -> Re
     Ok(())
 }
 
-/// What a mode does that isn't private, and is set or reset.
-fn terminal_step(set: bool, mode: TerminalMode) -> Option<Step>
-    ensures { of_terminal_mode set mode ≡ if_some result }
-{
-    match mode {
-        TerminalMode::Code(TerminalModeCode::Insert) => Some(Step::Inserts(set)),
-        _ => None,
-    }
-}
-
 /// Appends what a mode does.
 fn append_mode(mode: &Mode, steps: &mut Vec<Step>) -> Result<(), AllocError>
     ensures { OnOk result (steps.new.items ≡ steps.old.items ++ of_mode mode.now) }
@@ -228,15 +208,19 @@ fn append_mode(mode: &Mode, steps: &mut Vec<Step>) -> Result<(), AllocError>
         Mode::RestoreDecPrivateMode(DecPrivateMode::Code(code)) => {
             append_some(code_step(*code), steps)
         }
-        Mode::SetMode(mode) => append_some(terminal_step(true, *mode), steps),
-        Mode::ResetMode(mode) => append_some(terminal_step(false, *mode), steps),
+        Mode::SetMode(TerminalMode::Code(TerminalModeCode::Insert)) => {
+            Ok(steps.push(Step::Inserts(true))?)
+        }
+        Mode::ResetMode(TerminalMode::Code(TerminalModeCode::Insert)) => {
+            Ok(steps.push(Step::Inserts(false))?)
+        }
         _ => Ok(()),
     }
 }
 
 /// What a device does.
 fn device_step(device: &Device) -> Option<Step>
-    ensures { of_device (device_of device.now) ≡ if_some result }
+    ensures { of_action (OfDevice (device_of device.now)) ≡ if_some result }
 {
     match device {
         Device::SoftReset => Some(Step::Reset),
@@ -272,16 +256,6 @@ fn may_move(params: &[CsiParam], control: char) -> bool
     }
 }
 
-/// What a list does of which no action is read.
-fn unread_step(unread: &Unspecified) -> Option<Step>
-    ensures { of_unread unread.now.params.items unread.now.control ≡ if_some result }
-{
-    if may_move(&unread.params, unread.control) {
-        return Some(Step::Leave(None));
-    }
-    None
-}
-
 /// Appends what an action does.
 fn append_action(action: &CSI, steps: &mut Vec<Step>) -> Result<(), AllocError>
     ensures { OnOk result
@@ -293,8 +267,10 @@ fn append_action(action: &CSI, steps: &mut Vec<Step>) -> Result<(), AllocError>
         CSI::Sgr(attribute) => Ok(steps.push(Step::Attribute(*attribute))?),
         CSI::Mode(mode) => append_mode(mode, steps),
         CSI::Device(device) => append_some(device_step(device), steps),
-        CSI::Unspecified(unread) => append_some(unread_step(unread), steps),
-        CSI::Keyboard(_) | CSI::SelectCharacterPath(..) | CSI::Mouse(_) | CSI::Window(_) => Ok(()),
+        CSI::Unspecified(unread) if may_move(&unread.params, unread.control) => {
+            Ok(steps.push(Step::Leave(None))?)
+        }
+        _ => Ok(()),
     }
 }
 

@@ -1,17 +1,10 @@
 -- The block at the front, and the actions that follow it.
-use Rattle.std.specs.{Prelude.IfSome, Prelude.IfNone, Prelude.slice_get, Option.option_map}
-use Rattle.std.proofs.Common.{◌≡◌, ℕ, zero, suc, ◌+◌, ◌*◌, ◌-◌, ◌<◌, ◌≤◌, Bool, true, false, cond, List, [], ◌∷◌, length, drop, take, Some, None, Option, refl, sym, ap, ◌∙◌, arith, add-zero, length-drop}
-use Rattle.std.proofs.{lemmas.List.drop-drop, lemmas.List.drop_all, lemmas.List.take_all, lemmas.Option.slice_get_within}
-use Rattle.csicodec_tokens.specs.{declared.param.CsiParam.CsiParam, declared.param.CsiParam.TheVariants.Integer, declared.param.CsiParam.TheVariants.P}
-use Rattle.csicodec_actions.specs.{declared.mode.Change.Change, Actions.Action, Actions.Sgr, Actions.Unspecified, Actions.TakesMemory, Table.unboxed}
-use Rattle.csicodec_actions.specs.{Table.whole}
-use Rattle.csicodec_parser.specs.Private.Steps.{front, block, block_of, is_semicolon, with_semicolon, segments, segments_at, rest_action, actions, actions_after, body_actions, actions_in, fresh_cost, left_at, from_at, Acts, GoesBy, CanGo, Leaves}
-use Rattle.csicodec_parser.specs.{declared.group.Group.Group, declared.group.Group.TheVariants.Whole, declared.group.Group.TheVariants.Styles}
-use Rattle.csicodec_parser.specs.{declared.group.Group.TheVariants.DecModes, declared.actions.CSI.CSI, ActionOf.action_of, declared.parser.Stage.Stage}
-use Rattle.csicodec_parser.specs.{declared.parser.Stage.TheVariants.Fresh, declared.parser.Stage.TheVariants.Going, declared.parser.Stage.TheVariants.Failed}
-use Rattle.csicodec_parser.specs.{Groups.group, Groups.marked, Groups.start, Groups.has_odd, Cut.body, Segments.empty_action}
-use Rattle.csicodec_parser.proofs.{Fronts.front_empty, Fronts.front_fits, GroupOf.marked-body}
-use Rattle.csicodec_actions.proofs.Boxed.{unboxed_whole, boxed_whole, boxed-takes}
+use Rattle.std.proofs.{Common.cond, Common.add-zero, lemmas.List.drop_all, lemmas.List.take_all, lemmas.Option.slice_get_within}
+use Rattle.csicodec_actions.specs.{Actions.TakesMemory, Table.unboxed, Table.whole, declared.mode.Change.Change}
+use Rattle.csicodec_parser.specs.{Private.Steps.block, Private.Steps.is_semicolon, Private.Steps.Acts, Private.Steps.Leaves, Segments.empty_action, Cut.body}
+use Rattle.csicodec_parser.proofs.Common.{zero, suc, ◌≡◌, ℕ, ◌+◌, ◌*◌, ◌-◌, ◌<◌, ◌≤◌, Bool, true, false, List, [], ◌∷◌, length, drop, take, Some, None, Option, refl, sym, ap, ◌∙◌, arith, length-drop, drop-drop, Action, Sgr, Unspecified, front, block_of, with_semicolon, segments, segments_at, rest_action, actions, actions_after, body_actions, actions_in, fresh_cost, left_at, from_at, GoesBy, CanGo, Group, Whole, Styles, DecModes, CSI, action_of, Stage, Fresh, Going, Failed, group, marked, start, has_odd, IfSome, IfNone, slice_get, option_map, CsiParam, Integer, P, unboxed_whole, boxed_whole}
+use Rattle.csicodec_parser.proofs.Fronts.{front_empty, front_fits, marked-body}
+use Rattle.csicodec_actions.proofs.AllRows.{boxed-takes}
 use Rattle.csicodec_base.specs.declared.sgr.Sgr.TheVariants as sgr
 
 -- the action of a rest takes memory
@@ -50,12 +43,9 @@ segments_skip g u [] (suc k) = refl
 segments_skip g u (t ∷ ts) zero = refl
 segments_skip g u (t ∷ ts) (suc k) = segments_skip g u ts k
 
-block_empty : (g : Group) → block g [] ≡ None
-block_empty g = ap (block_of []) (front_empty g)
-
 -- a block at the front
 pub segments_block : (g : Group) (u : List CsiParam → Action) (rest : List CsiParam) (x : Action) (k : ℕ) → block g rest ≡ Some (x, k) → 0 < k → segments g u rest 0 ≡ x ∷ segments g u (drop k rest) 0
-segments_block g u [] x k e h = cc (block_empty g, e)
+segments_block g u [] x k e h = cc (ap (block_of []) (front_empty g), e)
 segments_block g u (t ∷ ts) x zero e h = absurd (omega arith)
 segments_block g u (t ∷ ts) x (suc k) e h = ap (segments_at u (t ∷ ts) (segments g u ts)) e ∙ ap (λ xs. x ∷ xs) (segments_skip g u ts k)
 
@@ -107,15 +97,11 @@ odd_unknown Whole list flag final cut odd = absurd (cut refl)
 odd_unknown (DecModes c) list flag final cut odd = cc (private_plain c list, odd)
 odd_unknown _ list flag final cut odd = rw odd refl
 
-first_body : (g : Group) (list : List CsiParam) (flag : Bool) (final : ℕ) → (g ≡ Whole → ⊥) → has_odd g list ≡ false
-    → actions_in g list flag final ≡ body_actions g list flag final (body g list)
-first_body Whole list flag final cut e = absurd (cut refl)
-first_body _ list flag final cut e = rw e refl
-
 -- without an odd byte a list is cut
 pub first_cut : (g : Group) (list : List CsiParam) (flag : Bool) (final : ℕ) → (g ≡ Whole → ⊥) → g ≡ group list final → has_odd g list ≡ false
     → actions list flag final ≡ body_actions g list flag final (body g list)
-first_cut g list flag final cut same plain = ap (λ (k : Group). actions_in k list flag final) (sym same) ∙ first_body g list flag final cut plain
+first_cut Whole list flag final cut same plain = absurd (cut refl)
+first_cut _ list flag final cut same plain = ap (λ (k : Group). actions_in k list flag final) (sym same) ∙ rw plain refl
 
 pub body_some : (g : Group) (list : List CsiParam) (flag : Bool) (final : ℕ) (rest : List CsiParam) → 0 < length rest → body_actions g list flag final rest ≡ actions_after g flag final rest
 body_some g list flag final [] h = absurd (omega arith)

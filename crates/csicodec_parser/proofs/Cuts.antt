@@ -1,16 +1,18 @@
--- Every list has one cut that can't be continued, and the computed actions are those of that cut.
-use Rattle.std.specs.Prelude.{slice_get, unwrap_or, max}
-use Rattle.std.proofs.Common.{◌≡◌, ◌⊎◌, ℕ, zero, suc, pred, ◌-◌, ◌==◌, ◌<◌, ◌≤◌, Bool, List, [], ◌∷◌, ◌++◌, length, take, drop, Option, Some, None, refl, sym, ap, subst, ◌∙◌, inl, inr, arith, add-one, length-append, length-drop, append_assoc}
-use Rattle.std.proofs.{Math.Seq.drop-append_seam, lemmas.Bool.cases_Bool, lemmas.Bool.eqb-true, lemmas.List.take-append-drop, lemmas.List.length-take-le}
-use Rattle.std.proofs.{lemmas.List.drop-drop, lemmas.Option.some_pair_parts}
-use Rattle.csicodec_tokens.specs.{declared.param.CsiParam.CsiParam, declared.param.CsiParam.TheVariants.Integer, declared.param.CsiParam.TheVariants.P}
+-- Every list has one cut that can't be continued, and the computed actions are those of that cut; as such they go into a sink.
+pub use Rattle.std.proofs.lemmas.Result.{on_ok_weaker as on_ok}
+use Rattle.std.specs.{Prelude.unwrap_or, Prelude.max, Prelude.Result, Prelude.OnOk, Prelude.pos, Fmt.decimal}
+use Rattle.std.proofs.{Common.◌⊎◌, Common.pred, Common.add-one, Common.length-append, Common.append-nil, Math.Seq.drop-append_seam, lemmas.Bool.cases_Bool}
+use Rattle.std.proofs.{lemmas.Bool.eqb-true, lemmas.List.take-append-drop, lemmas.List.length-take-le, lemmas.Option.same_Some, lemmas.Grind.flat_map-append}
 use Rattle.csicodec_parser.specs.Segments.{remainder, Segmented, BodyActions, CutActions, WholeActions, ActionsIn, Actions}
-use Rattle.csicodec_parser.specs.Private.Steps.{front, block, block_of, with_semicolon, segments, segments_at, rest_action, actions_after, body_actions, cut_actions, actions_in, actions, CutsOn}
-use Rattle.csicodec_parser.specs.{declared.group.Group.Group, declared.group.Group.TheVariants.Whole, Groups.group, Groups.start, Groups.has_odd, Cut.semicolon}
-use Rattle.csicodec_parser.specs.{Cut.NoSemicolon, Cut.IsBlock, Cut.body, Cut.Cut, Cut.IsStuck, Cut.IsRestAfter}
-use Rattle.csicodec_actions.specs.{Actions.Action, Actions.Unspecified, Table.whole}
-use Rattle.csicodec_parser.proofs.Blocks.{segments_block, segments_unknown, semicolon_from, after_some, rest_unknown}
-use Rattle.csicodec_parser.proofs.Fronts.{piece_front, front_piece, stuck_front, front_stuck, front_fits}
+use Rattle.csicodec_parser.specs.{Private.Steps.block, Private.Steps.cut_actions, declared.group.Group.TheVariants.Modes, Cut.semicolon, Cut.NoSemicolon}
+use Rattle.csicodec_parser.specs.{Cut.IsBlock, Cut.body, Cut.Cut, Cut.IsStuck, Cut.IsRestAfter}
+use Rattle.csicodec_actions.specs.{Actions.Mode, Table.whole, Table.texts, declared.mode.DecPrivateMode.DecPrivateMode, declared.mode.Switch.Switch}
+use Rattle.csicodec_actions.specs.{declared.mode.TerminalMode.TerminalMode, Modes.changed, Modes.dec_number, Modes.switched, Modes.terminal_number}
+use Rattle.csicodec_actions.specs.{Table.Mode.written_mode, declared.mode.Change.Change}
+use Rattle.csicodec_parser.proofs.Blocks.{segments_block, segments_unknown, semicolon_from, after_some, rest_unknown, after_unknown, first_cut, odd_unknown, body_some}
+use Rattle.csicodec_parser.proofs.Fronts.{piece_front, front_piece, stuck_front, front_stuck, front_fits, front_empty}
+use Rattle.csicodec_parser.proofs.Common.{slice_get, ◌≡◌, ℕ, zero, suc, ◌-◌, ◌==◌, ◌<◌, ◌≤◌, Bool, List, [], ◌∷◌, ◌++◌, length, take, drop, Option, Some, None, refl, sym, ap, subst, ◌∙◌, inl, inr, arith, length-drop, append_assoc, true, false, drop-drop, some_pair_parts, on_ok_weaker, CsiParam, Integer, P, front, block_of, with_semicolon, segments, segments_at, rest_action, actions_after, body_actions, actions_in, actions, CutsOn, one_token, Group, Whole, DecModes, group, start, has_odd, marked, Action, Unspecified, text}
+use Rattle.csicodec_actions.proofs.Values.{dec-numbered, terminal-numbered}
 
 -- ---- a block by the relation, and by the function
 
@@ -207,3 +209,86 @@ more_rest g list final p q (suc i) same low r on =
     let c : Cut g (body g list) r.0 (drop p list) = rw same r.1 in
     let len : length (r.0 ++ on.0 ∷ []) ≡ suc (suc i) = omega (arith, length-append r.0 (on.0 ∷ []), r.2) in
     rw (← same) (r.0 ++ on.0 ∷ [], cut_on g list r.0 p q on.0 c on.1 on.2, len)
+
+-- ---- Actions that go into a sink, over plain variables.
+
+-- what has gone in, and then the others, are all
+pub taken_all : (before told xs all : List Action) → told ++ xs ≡ all → (before ++ told) ++ xs ≡ before ++ all
+taken_all before told xs all e = append_assoc before told xs ∙ ap (λ (l : List Action). before ++ l) e
+
+pub none_taken : {S : Type 0} (holds : S → List Action → Type 0) (s : S) (before : List Action) → holds s before → holds s (before ++ [])
+none_taken holds s before h = subst (holds s) (sym (append-nil before)) h
+
+-- what is computed are the actions of the list
+pub all_taken : {S T E : Type 0} (holds : S → List Action → Type 0) (old new : S) (r : Result T E) (list : List CsiParam) (flag : Bool) (final : ℕ)
+    → OnOk r ((before : List Action) → holds old before → holds new (before ++ actions list flag final))
+    → OnOk r ((all : List Action) × Actions list flag final all × ((before : List Action) → holds old before → holds new (before ++ all)))
+all_taken holds old new r list flag final h = on_ok_weaker r (λ put. (actions list flag final, actions_are list flag final, put)) h
+
+-- ---- the actions of a list that is cut
+
+pub actions_odd : (g : Group) (list : List CsiParam) (flag : Bool) (final : ℕ) →
+    g ≡ group list final → (g ≡ Whole → ⊥) → has_odd g list ≡ true →
+    Unspecified (marked g list) flag final ∷ [] ≡ actions list flag final
+actions_odd g list flag final same cut odd = sym (ap (λ (k : Group). actions_in k list flag final) (sym same) ∙ odd_unknown g list flag final cut odd)
+
+pub actions_begin : (g : Group) (list rest : List CsiParam) (flag : Bool) (final : ℕ) → g ≡ group list final → (g ≡ Whole → ⊥) → has_odd g list ≡ false → rest ≡ body g list → 0 < length rest
+    → actions_after g flag final rest ≡ actions list flag final
+actions_begin g list rest flag final same cut plain is w =
+    sym (first_cut g list flag final cut same plain ∙ ap (body_actions g list flag final) (sym is) ∙ body_some g list flag final rest w)
+
+pub actions_front : (g : Group) (flag : Bool) (final : ℕ) (rest behind : List CsiParam) (told all : List Action) (a : Action) (len : ℕ) → front g rest ≡ Some (a, len) → 0 < len
+    → behind ≡ drop (with_semicolon len (slice_get rest len)) rest → told ++ actions_after g flag final rest ≡ all → (told ++ a ∷ []) ++ actions_after g flag final behind ≡ all
+actions_front g flag final rest behind told all a len e w is parts =
+    let passed = semicolon_from len (slice_get rest len) in
+    let next = segments_block g (λ l. rest_action g l flag final) rest a (with_semicolon len (slice_get rest len)) (ap (block_of rest) e) (omega (arith, passed, w)) in
+    append_assoc told (a ∷ []) (actions_after g flag final behind) ∙ ap (λ (l : List CsiParam). told ++ a ∷ actions_after g flag final l) is ∙ ap (λ (l : List Action). told ++ l) (sym next) ∙ parts
+
+pub actions_stuck : (g : Group) (flag : Bool) (final : ℕ) (rest : List CsiParam) (told all : List Action) → (g ≡ Whole → ⊥) → front g rest ≡ None → 0 < length rest
+    → told ++ actions_after g flag final rest ≡ all → told ++ Unspecified (marked g rest) flag final ∷ [] ≡ all
+actions_stuck g flag final rest told all cut e w parts =
+    ap (λ (a : Action). told ++ a ∷ []) (sym (rest_unknown g rest flag final cut)) ∙ ap (λ (l : List Action). told ++ l) (sym (after_unknown g flag final rest 0 (ap (block_of rest) e) w)) ∙ parts
+
+pub front_none : (g : Group) (rest : List CsiParam) → slice_get rest 0 ≡ None → front g rest ≡ None
+front_none g [] e = front_empty g
+front_none g (t ∷ ts) e = cc
+
+-- a piece that the first token is by itself
+pub front_first : (g : Group) (rest : List CsiParam) (t : CsiParam) (a : Action) → slice_get rest 0 ≡ Some t → ((others : List CsiParam) → front g (t ∷ others) ≡ Some (a, 1))
+    → front g rest ≡ Some (a, 1)
+front_first g [] t a e all = cc
+front_first g (x ∷ rest) t a e all = rw (same_Some _ _ e) (all rest)
+
+pub texts_last : (xs : List Action) (a : Action) → texts (xs ++ a ∷ []) ≡ texts xs ++ text a
+texts_last xs a = flat_map-append text xs (a ∷ []) ∙ ap (λ (l : List ℕ). texts xs ++ l) (append-nil (text a))
+
+-- an action that a token is by itself, and its text
+pub record First (g : Group) (t : CsiParam) (said : List ℕ) : Type 0 where
+  pub action : Action
+  pub fronts : (others : List CsiParam) → front g (t ∷ others) ≡ Some (action, 1)
+  pub says : text action ≡ 27 ∷ 91 ∷ said
+
+dec_text : (c : Change) (m : DecPrivateMode) (end : ℕ) → (written_mode (changed c m)).final ≡ end → text (Mode (changed c m)) ≡ 27 ∷ 91 ∷ 63 ∷ (decimal (dec_number m) ++ end ∷ [])
+dec_text Change.Set m end e = rw (← e) refl
+dec_text _ m end e = rw (← e) refl
+
+terminal_text : (s : Switch) (m : TerminalMode) (end : ℕ) → (written_mode (switched s m)).final ≡ end → text (Mode (switched s m)) ≡ 27 ∷ 91 ∷ (decimal (terminal_number m) ++ end ∷ [])
+terminal_text Switch.Set m end e = rw (← e) refl
+terminal_text Switch.Reset m end e = rw (← e) refl
+
+-- the mode of a number is written as the number
+pub dec_first : (c : Change) (n end : ℕ) → n < 65536 → ((m : DecPrivateMode) → (written_mode (changed c m)).final ≡ end) → First (DecModes c) (Integer (pos n)) (63 ∷ (decimal n ++ end ∷ []))
+dec_first c n end fits ends =
+    let (m, found, is) = dec-numbered n fits in
+    record { action = Mode (changed c m); fronts = λ others. ap (one_token (λ x. Mode (changed c x))) found; says = dec_text c m end (ends m) ∙ ap (λ k. 27 ∷ 91 ∷ 63 ∷ (decimal k ++ end ∷ [])) is }
+
+pub terminal_first : (s : Switch) (n end : ℕ) → n < 65536 → ((m : TerminalMode) → (written_mode (switched s m)).final ≡ end) → First (Modes s) (Integer (pos n)) (decimal n ++ end ∷ [])
+terminal_first s n end fits ends =
+    let (m, found, is) = terminal-numbered n fits in
+    record { action = Mode (switched s m); fronts = λ others. ap (one_token (λ x. Mode (switched s x))) found; says = terminal_text s m end (ends m) ∙ ap (λ k. 27 ∷ 91 ∷ (decimal k ++ end ∷ [])) is }
+
+-- such a token has gone in where its text is appended
+pub first_taken : (g : Group) (t : CsiParam) (said old new : List ℕ) (f : First g t said) →
+    new ≡ old ++ 27 ∷ 91 ∷ said → (before : List Action) → old ≡ texts before →
+    new ≡ texts (before ++ f.action ∷ [])
+first_taken g t said old new f appended before held = appended ∙ ap (λ (l : List ℕ). l ++ 27 ∷ 91 ∷ said) held ∙ ap (λ (l : List ℕ). texts before ++ l) (sym f.says) ∙ sym (texts_last before f.action)

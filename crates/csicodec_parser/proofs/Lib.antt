@@ -1,7 +1,5 @@
-pub mod GroupOf
-pub mod Fronts
+pub mod Common
 pub mod Blocks
-pub mod Cuts
 pub mod NextLemmas
-pub mod Taken
-pub mod Unread
+pub mod Cuts
+pub mod Fronts

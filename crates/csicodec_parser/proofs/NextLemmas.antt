@@ -1,19 +1,11 @@
 -- One call of `next`, over plain variables.
-use Rattle.std.specs.{Prelude.Ok, Prelude.Err, Prelude.slice_get, declared.alloc.AllocError.AllocError}
-use Rattle.std.proofs.Common.{◌≡◌, ℕ, ◌+◌, ◌*◌, ◌<◌, ◌≤◌, ◌==◌, Bool, true, false, List, [], ◌∷◌, length, drop, Some, None, refl, sym, ap, ◌∙◌, arith, inl, inr, length-drop, add-one, subst}
-use Rattle.std.proofs.{lemmas.Bool.ne_eqb, lemmas.List.drop-drop, lemmas.List.drop_all}
-use Rattle.csicodec_tokens.specs.declared.param.CsiParam.{CsiParam}
-use Rattle.csicodec_parser.specs.Private.Steps.{rest_action, actions_after, left_at, fresh_cost, from_at, GoesBy, CanGo, CutsOn, all_of, has_failed, Sound}
-use Rattle.csicodec_parser.specs.{declared.actions.CSI.CSI, declared.parser.ActionRef.ActionRef, declared.parser.Stage.Stage}
-use Rattle.csicodec_parser.specs.{declared.parser.Stage.TheVariants.Fresh, declared.parser.Stage.TheVariants.Going, declared.parser.Stage.TheVariants.Failed}
-use Rattle.csicodec_parser.specs.{declared.group.Group.Group, ActionOf.action_of, Groups.group, Cut.IsRestAfter, Progress.Progress, Progress.ActionsOf}
-use Rattle.csicodec_parser.specs.{Progress.HasEnded, Progress.most_left, Next.Answers, Next.AnswersRef, Next.IsRef, Next.Nexts, Next.NextsRef}
-use Rattle.csicodec_actions.specs.Actions.{Action}
+use Rattle.std.specs.{Prelude.Ok, Prelude.Err, declared.alloc.AllocError.AllocError}
+use Rattle.std.proofs.{Common.add-one, lemmas.Bool.ne_eqb, lemmas.List.drop_all}
+use Rattle.csicodec_parser.specs.{Private.Steps.all_of, Private.Steps.Sound, declared.parser.ActionRef.ActionRef, Cut.IsRestAfter, Progress.Progress}
+use Rattle.csicodec_parser.specs.{Progress.ActionsOf, Progress.HasEnded, Progress.most_left, Next.Answers, Next.AnswersRef, Next.Nexts, Next.NextsRef}
 use Rattle.csicodec_parser.proofs.Cuts.{at_drop, actions_are, actions_only, actions_count, first_rest, more_rest}
+use Rattle.csicodec_parser.proofs.Common.{slice_get, ◌≡◌, ℕ, ◌+◌, ◌*◌, ◌<◌, ◌≤◌, ◌==◌, Bool, true, false, List, [], ◌∷◌, length, drop, Some, None, refl, sym, ap, ◌∙◌, arith, inl, inr, length-drop, subst, drop-drop, CsiParam, rest_action, actions_after, left_at, fresh_cost, from_at, GoesBy, CanGo, CutsOn, has_failed, CSI, Stage, Fresh, Going, Failed, Group, action_of, group, IsRef, Action}
 use Rattle.csicodec_parser.proofs.Blocks.{after_some, rest_takes}
-
-drop_one : {A : Type 0} (xs : List A) (i : ℕ) (a : A) (bs : List A) → drop i xs ≡ a ∷ bs → drop (i + 1) xs ≡ bs
-drop_one xs i a bs e = sym (drop-drop 1 i xs) ∙ ap (drop 1) e
 
 end_of : {A : Type 0} (xs : List A) (i : ℕ) → drop i xs ≡ [] → length xs ≤ i
 end_of xs i e = let h : length (drop i xs) ≡ 0 = ap length e in omega (arith, length-drop i xs)
@@ -79,7 +71,7 @@ gives s g p q a f h st =
     let n : p.failed ≡ false = not_failed s p _ _ f st.told in
     let all = left_now s p f h n ∙ st.told in
     let w : q.passed ≤ length p.list = rw (sym st.same.list) st.within in
-    record { failed = n; first = at_drop (all_of p) p.given _ _ all; others = drop_one (all_of p) p.given _ _ all; within = w; pays = budget s p q.passed q.looks h w st.pays n f }
+    record { failed = n; first = at_drop (all_of p) p.given _ _ all; others = sym (drop-drop 1 p.given (all_of p)) ∙ ap (drop 1) all; within = w; pays = budget s p q.passed q.looks h w st.pays n f }
 
 pub sound_ok : (s : Stage) (g : Group) (p q : Progress) (a : Action) → p.failed ≡ has_failed s → Sound s p → Steps s g p q a
     → (q.passed < length q.list → CutsOn g p.list (from_at s g p.passed) q.passed) → Sound (Going g) q

@@ -1,18 +1,18 @@
 -- Which values are read back from their own texts, said by their fields.
-use Rattle.std.specs.Prelude.{ℕ, ◌≡◌, ◌⊎◌, ◌<◌, List, Bool, true, length, Option, None, Some}
-use Rattle.csicodec_tokens.specs.{declared.param.CsiParam.CsiParam, Sequence.IsFinal, Sequence.Spellable}
-use Rattle.csicodec_parser.specs.{declared.group.Group.Group, Cut.body, Cut.IsStuck, Groups.group, Groups.has_odd, Segments.IsUnread}
-use Rattle.csicodec_actions.specs.{Actions.Action, Actions.Sgr, Actions.Unspecified, Written.AllGood, Written.Written, Special.IsNeverRead, Table.written}
+use Rattle.csicodec_tokens.specs.Sequence.{IsFinal, Spellable}
+use Rattle.csicodec_parser.specs.Common.{ℕ, List, Bool, true, length, Option, None, Some, CsiParam, Group, Action, Sgr, Unspecified}
+use Rattle.csicodec_parser.specs.{Cut.body, Cut.IsStuck, Groups.group, Groups.has_odd, Segments.IsUnread}
+use Rattle.std.specs.Prelude.{◌≡◌, ◌⊎◌, ◌<◌}
+use Rattle.csicodec_actions.specs.{Written.AllGood, Written.Written, Special.IsNeverRead, Table.written}
+use Rattle.csicodec_base.specs.declared.sgr.Font.{Font}
 use Rattle.csicodec_base.specs.declared.sgr.Sgr as sgr_type
 use Rattle.csicodec_base.specs.declared.sgr.Sgr.TheVariants as sgr
-use Rattle.csicodec_base.specs.declared.sgr.Font.TheVariants as font
-use Rattle.csicodec_parser.specs.declared.group.Group.TheVariants as groups
 
 -- ---- attributes
 
 -- all, but of the alternative fonts only the nine that have a code
 abbrev pub IsCanonicalSgr : sgr_type.Sgr → Type 0
-IsCanonicalSgr (sgr.Font (font.Alternate n)) = (0 < n) × (n < 10)
+IsCanonicalSgr (sgr.Font (Font.Alternate n)) = (0 < n) × (n < 10)
 IsCanonicalSgr s = Unit {0}
 
 -- ---- what is unknown
@@ -23,10 +23,9 @@ IsUncut g list = (has_odd g list ≡ true) ⊎ IsStuck g (body g list)
 
 -- none of the rules of the group reads even the front of the list
 abbrev pub IsUnknownIn : Group → List CsiParam → ℕ → Type 0
-IsUnknownIn groups.Whole list final = IsUnread list final
-IsUnknownIn groups.Styles list final = IsUncut groups.Styles list × (0 < length list)
-IsUnknownIn (groups.Modes s) list final = IsUncut (groups.Modes s) list
-IsUnknownIn (groups.DecModes c) list final = IsUncut (groups.DecModes c) list
+IsUnknownIn Group.Whole list final = IsUnread list final
+IsUnknownIn Group.Styles list final = IsUncut Group.Styles list × (0 < length list)
+IsUnknownIn g list final = IsUncut g list
 
 -- the flag is the same, a sequence can have the list and the final, and none of the rules reads it
 pub record IsCanonicalUnknown (params : List CsiParam) (own flag : Bool) (final : ℕ) : Type 0 where

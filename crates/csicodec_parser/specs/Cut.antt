@@ -1,8 +1,7 @@
 -- A list cut into blocks, said from the blocks to the list.
-use Rattle.std.specs.Prelude.{◌≡◌, ◌⊎◌, ℕ, suc, zero, List, [], ◌∷◌, ◌++◌, length, drop}
-use Rattle.csicodec_tokens.specs.{declared.param.CsiParam.CsiParam, declared.param.CsiParam.TheVariants.P}
-use Rattle.csicodec_parser.specs.{declared.group.Group.Group, Groups.group, Groups.start, Groups.Piece}
-use Rattle.csicodec_actions.specs.Actions.{Action}
+use Rattle.csicodec_parser.specs.{Common.ℕ, Common.suc, Common.zero, Common.List, Common.[], Common.length, Common.drop, Common.CsiParam, Common.P}
+use Rattle.csicodec_parser.specs.{Common.Group, Common.Action, Groups.group, Groups.start, Groups.Piece}
+use Rattle.std.specs.Prelude.{◌≡◌, ◌⊎◌, ◌∷◌, ◌++◌}
 
 -- `;`
 abbrev pub semicolon : CsiParam

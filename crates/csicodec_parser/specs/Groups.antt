@@ -1,37 +1,31 @@
 -- Which rules a list and its final fall under.
-use Rattle.std.specs.Prelude.{ℕ, ◌≡◌, ◌==◌, Bool, false, not, ◌||◌, List, ◌∷◌, Option, Some, None, if◌then◌else◌, pos, slice_get}
-use Rattle.std.specs.List.{list_any}
-use Rattle.csicodec_tokens.specs.{declared.param.CsiParam.CsiParam, declared.param.CsiParam.TheVariants.Integer, declared.param.CsiParam.TheVariants.P}
-use Rattle.csicodec_actions.specs.{declared.mode.DecPrivateMode.DecPrivateMode, declared.mode.TerminalMode.TerminalMode, Actions.Action, Actions.Sgr}
-use Rattle.csicodec_actions.specs.{Actions.Mode, Kinds.read, Kinds.Dec, Kinds.Terminal, Modes.changed, Modes.switched}
-use Rattle.csicodec_parser.specs.{declared.group.Group.Group, declared.group.Group.TheVariants.Whole, declared.group.Group.TheVariants.Styles}
-use Rattle.csicodec_parser.specs.{declared.group.Group.TheVariants.Modes, declared.group.Group.TheVariants.DecModes}
+use Rattle.std.specs.{Prelude.not, Prelude.◌||◌, Prelude.pos, Prelude.slice_get, Prelude.◌≡◌, Prelude.◌==◌, Prelude.◌∷◌, Prelude.if◌then◌else◌, List.list_any}
+use Rattle.csicodec_actions.specs.{declared.mode.DecPrivateMode.DecPrivateMode, declared.mode.TerminalMode.TerminalMode, Kinds.read, Kinds.Dec, Kinds.Terminal}
+use Rattle.csicodec_actions.specs.{declared.mode.Change.Change, declared.mode.Switch.Switch}
+use Rattle.csicodec_parser.specs.Common.{ℕ, Bool, false, List, Option, Some, CsiParam, Integer, P, Action, Sgr, Mode, changed, switched, Group, Whole, Styles, Modes, DecModes}
 use Rattle.csicodec_base.specs.declared.sgr.Sgr as sgr_type
 use Rattle.csicodec_base.specs.Pieces as sgr_pieces
-use Rattle.csicodec_actions.specs.declared.mode.Change.TheVariants as change
-use Rattle.csicodec_actions.specs.declared.mode.Switch.TheVariants as switch
 
 -- ---- the group of a list
 
 -- the token is this byte
 abbrev pub is_byte : ℕ → Option CsiParam → Bool
-is_byte b None = false
-is_byte b (Some (Integer n)) = false
 is_byte b (Some (P c)) = c == b
+is_byte b _ = false
 
 -- behind a `?` stand private modes, before h, l, s and r
 abbrev pub dec_group : ℕ → Group
 dec_group final =
-    if final == 104 then DecModes change.Set
-    else if final == 108 then DecModes change.Reset
-    else if final == 115 then DecModes change.Save
-    else if final == 114 then DecModes change.Restore
+    if final == 104 then DecModes Change.Set
+    else if final == 108 then DecModes Change.Reset
+    else if final == 115 then DecModes Change.Save
+    else if final == 114 then DecModes Change.Restore
     else Whole
 
 -- without one modes, before h and l
 abbrev pub plain_group : ℕ → Group
 plain_group final =
-    if final == 104 then Modes switch.Set else if final == 108 then Modes switch.Reset else Whole
+    if final == 104 then Modes Switch.Set else if final == 108 then Modes Switch.Reset else Whole
 
 -- before m stand styles, unless the list begins with `>` or `<`
 abbrev pub style_group : Option CsiParam → Group
@@ -51,17 +45,13 @@ group list final = group_by (slice_get list 0) final
 
 -- how many tokens: the `?` before private modes
 abbrev pub start : Group → ℕ
-start Whole = 0
-start Styles = 0
-start (Modes s) = 0
 start (DecModes c) = 1
+start _ = 0
 
 -- a rest with these before it
 abbrev pub marked : Group → List CsiParam → List CsiParam
-marked Whole rest = rest
-marked Styles rest = rest
-marked (Modes s) rest = rest
 marked (DecModes c) rest = P 63 ∷ rest
+marked _ rest = rest
 
 -- ---- the pieces
 
@@ -82,10 +72,9 @@ Piece (DecModes c) rest k action = (n : ℕ) × (m : DecPrivateMode) × BeginsWi
 
 -- before styles a byte other than `;`, `:` and `?`, and before modes a `?`
 abbrev pub is_odd_byte : Group → ℕ → Bool
-is_odd_byte Whole b = false
 is_odd_byte Styles b = not (b == 59 || (b == 58 || b == 63))
 is_odd_byte (Modes s) b = b == 63
-is_odd_byte (DecModes c) b = false
+is_odd_byte _ b = false
 
 abbrev pub is_odd : Group → CsiParam → Bool
 is_odd g (Integer n) = false

@@ -1,3 +1,4 @@
+pub mod Common
 pub mod ActionOf
 pub mod Canonical
 pub mod Cut

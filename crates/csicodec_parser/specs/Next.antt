@@ -1,11 +1,8 @@
 -- One call of `next`, and of `next_ref`.
-use Rattle.std.specs.Prelude.{ℕ, Bool, ◌≡◌, ◌+◌, ◌*◌, ◌≤◌, true, false, List, ◌∷◌, length, slice_get, unwrap_or, Option, Some, None, Ok, Err, Result}
-use Rattle.std.specs.declared.alloc.AllocError.{AllocError}
-use Rattle.csicodec_tokens.specs.declared.param.CsiParam.TheVariants.{P}
-use Rattle.csicodec_parser.specs.{declared.actions.CSI.CSI, declared.parser.ActionRef.ActionRef, ActionOf.action_of, Progress.Progress, Progress.ActionsOf}
-use Rattle.csicodec_parser.specs.{Progress.HasEnded}
-use Rattle.csicodec_actions.specs.{Actions.Action, Actions.TakesMemory, Actions.Unspecified, Table.boxed}
-use Rattle.csicodec_parser.specs.declared.parser.ActionRef.TheVariants as refs
+use Rattle.std.specs.{Prelude.slice_get, Prelude.unwrap_or, Prelude.Ok, Prelude.Err, Prelude.Result, Prelude.◌≡◌, Prelude.◌+◌, Prelude.◌*◌, Prelude.◌≤◌}
+use Rattle.std.specs.{Prelude.◌∷◌, declared.alloc.AllocError.AllocError}
+use Rattle.csicodec_parser.specs.Common.{ℕ, Bool, true, false, List, length, Option, Some, None, P, CSI, Action, TakesMemory, Unspecified, boxed}
+use Rattle.csicodec_parser.specs.{declared.parser.ActionRef.ActionRef, ActionOf.action_of, Progress.Progress, Progress.ActionsOf, Progress.HasEnded}
 
 -- What `next` answers, all actions of the list being these.
 abbrev pub Answers : List Action → Progress → Option (Result CSI AllocError) → Progress → Type 0
@@ -32,11 +29,11 @@ pub record Nexts (old : Progress) (answer : Option (Result CSI AllocError))
 
 -- the action that lends its tokens so, with the flag and the final character of the list
 abbrev pub IsRef : ActionRef → Bool → ℕ → Action → Type 0
-IsRef (refs.Small csi) flag final action = action ≡ action_of csi
-IsRef (refs.Whole list) flag final action =
+IsRef (ActionRef.Small csi) flag final action = action ≡ action_of csi
+IsRef (ActionRef.Whole list) flag final action =
     action ≡ unwrap_or (boxed list.now final) (Unspecified list.now flag final)
-IsRef (refs.Unknown list) flag final action = action ≡ Unspecified list.now flag final
-IsRef (refs.UnknownMode list) flag final action = action ≡ Unspecified (P 63 ∷ list.now) flag final
+IsRef (ActionRef.Unknown list) flag final action = action ≡ Unspecified list.now flag final
+IsRef (ActionRef.UnknownMode list) flag final action = action ≡ Unspecified (P 63 ∷ list.now) flag final
 
 -- What `next_ref` answers, all actions of the list being these.
 abbrev pub AnswersRef : List Action → Progress → Option ActionRef → Progress → Type 0

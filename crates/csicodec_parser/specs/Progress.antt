@@ -1,8 +1,7 @@
 -- How far a run has come.
-use Rattle.std.specs.Prelude.{◌≡◌, ◌≤◌, ◌⊎◌, ℕ, ◌+◌, ◌-◌, ◌==◌, Bool, true, false, List, length, if◌then◌else◌}
-use Rattle.csicodec_tokens.specs.declared.param.CsiParam.{CsiParam}
-use Rattle.csicodec_actions.specs.Actions.{Action}
-use Rattle.csicodec_parser.specs.Segments.{Actions}
+use Rattle.csicodec_parser.specs.{Common.ℕ, Common.Bool, Common.true, Common.false, Common.List, Common.length, Common.CsiParam, Common.Action}
+use Rattle.csicodec_parser.specs.{Segments.Actions}
+use Rattle.std.specs.Prelude.{◌≡◌, ◌≤◌, ◌⊎◌, ◌+◌, ◌-◌, ◌==◌, if◌then◌else◌}
 
 -- what a run was made of, how many actions were given, whether memory was refused, how many tokens are passed, and how many looks were taken
 pub record Progress : Type 0 where

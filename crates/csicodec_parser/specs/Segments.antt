@@ -1,10 +1,9 @@
 -- The segmentation: the actions of a list before its final character.
-use Rattle.std.specs.Prelude.{◌≡◌, ◌⊎◌, ℕ, Bool, List, [], ◌∷◌, ◌++◌, MatchBool}
-use Rattle.csicodec_tokens.specs.declared.param.CsiParam.{CsiParam}
-use Rattle.csicodec_parser.specs.{declared.group.Group.Group, Groups.group, Groups.marked, Groups.has_odd, Cut.body, Cut.Cut, Cut.IsStuck}
-use Rattle.csicodec_actions.specs.{Actions.Action, Actions.Sgr, Actions.Unspecified, Table.Whole}
+use Rattle.std.specs.Prelude.{MatchBool, ◌≡◌, ◌⊎◌, ◌∷◌, ◌++◌}
+use Rattle.csicodec_parser.specs.{Common.ℕ, Common.Bool, Common.List, Common.[], Common.CsiParam, Common.Group, Common.Action, Common.Sgr, Common.Unspecified}
+use Rattle.csicodec_parser.specs.{Groups.group, Groups.marked, Groups.has_odd, Cut.body, Cut.Cut, Cut.IsStuck}
+use Rattle.csicodec_actions.specs.Table.{Whole}
 use Rattle.csicodec_base.specs.declared.sgr.Sgr.TheVariants as sgr
-use Rattle.csicodec_parser.specs.declared.group.Group.TheVariants as groups
 
 -- what is left after the last piece is one unknown action, unless nothing is left; among private modes it keeps its `?`
 abbrev pub remainder : Group → List CsiParam → Bool → ℕ → List Action
@@ -22,10 +21,8 @@ pub record Segmented (g : Group) (list : List CsiParam) (flag : Bool) (final : �
 
 -- a list with nothing to cut: before plain m it resets, and else it is unknown
 abbrev pub empty_action : Group → List CsiParam → Bool → ℕ → Action
-empty_action groups.Whole list flag final = Unspecified list flag final
-empty_action groups.Styles list flag final = Sgr sgr.Reset
-empty_action (groups.Modes s) list flag final = Unspecified list flag final
-empty_action (groups.DecModes c) list flag final = Unspecified list flag final
+empty_action Group.Styles list flag final = Sgr sgr.Reset
+empty_action _ list flag final = Unspecified list flag final
 
 -- the actions of a list of which this is to be cut
 abbrev pub BodyActions : Group → List CsiParam → List CsiParam → Bool → ℕ → List Action → Type 0
@@ -49,12 +46,8 @@ WholeActions list flag final actions =
     ⊎ (IsUnread list final × (actions ≡ Unspecified list flag final ∷ []))
 
 abbrev pub ActionsIn : Group → List CsiParam → Bool → ℕ → List Action → Type 0
-ActionsIn groups.Whole list flag final actions = WholeActions list flag final actions
-ActionsIn groups.Styles list flag final actions = CutActions groups.Styles list flag final actions
-ActionsIn (groups.Modes s) list flag final actions =
-    CutActions (groups.Modes s) list flag final actions
-ActionsIn (groups.DecModes c) list flag final actions =
-    CutActions (groups.DecModes c) list flag final actions
+ActionsIn Group.Whole list flag final actions = WholeActions list flag final actions
+ActionsIn g list flag final actions = CutActions g list flag final actions
 
 -- these are the actions of the list before the final character
 abbrev pub Actions : List CsiParam → Bool → ℕ → List Action → Type 0

@@ -1,8 +1,8 @@
 //! The actions that a control sequence stands for, and what each of them does: how it is copied and printed, whether it is
 //! read back, and which list that is read whole it is. What has an arm for each of them stands here.
-ghost use Rattle.std.specs.{Prelude.◌≡◌, Prelude.◌⊎◌, Prelude.◌↔◌, Prelude.◌++◌, Prelude.◌<◌, Prelude.IfOk, Prelude.IsOk, Prelude.IsSome, Prelude.IsTrue};
-ghost use Rattle.std.specs.{Prelude.OnErr, Prelude.OnOk, Prelude.Some, Prelude.length, Io.StartsWith, Option.option_map};
-ghost use Rattle.csicodec_actions.specs.{Actions.TakesMemory, Devices.device_of, Table.boxed, Table.unboxed, Table.text};
+ghost use Rattle.std.specs.{Prelude.IsOk, Prelude.IsSome, Prelude.OnErr, Prelude.◌≡◌, Prelude.◌⊎◌, Prelude.◌↔◌, Prelude.◌++◌, Prelude.◌<◌, Io.StartsWith};
+ghost use Rattle.std.specs.{Option.option_map};
+ghost use Rattle.csicodec_parser.specs.Common.{IfOk, IsTrue, OnOk, Some, length, TakesMemory, device_of, boxed, unboxed, text};
 ghost use Rattle.csicodec_parser.specs.{ActionOf.action_of, ActionOf.unspecified_of, ActionOf.unspecified_text, Canonical.Canonical, Canonical.IsUnspecified};
 ghost use Rattle.csicodec_actions.specs.Actions as action;
 

@@ -1,12 +1,11 @@
 //! Which attributes, and which unknown actions, are read back from their own texts.
-ghost use Rattle.std.specs.Prelude.{◌≡◌, ◌↔◌, IfOk, IsTrue};
 ghost use Rattle.csicodec_tokens.specs.Sequence.{Apart, IsFinal, IsSpellable, Spellable};
 ghost use Rattle.csicodec_parser.specs.{Canonical.IsCanonicalSgr, Canonical.IsCanonicalUnknown, Canonical.IsUncut, Canonical.IsUnknownIn};
-ghost use Rattle.csicodec_parser.specs.{Groups.group as group_of_list, Segments.IsUnread};
+ghost use Rattle.csicodec_parser.specs.{Groups.group as group_of_list, Segments.IsUnread, Common.IfOk, Common.IsTrue};
+ghost use Rattle.std.specs.Prelude.{◌≡◌, ◌↔◌};
 
 use crate::actions::{Unspecified, boxed_action, unboxed_action};
 use crate::group::{Group, front};
-use crate::list::group_of;
 use crate::parser::has_odd;
 use crate::tokens::Tokens;
 use csicodec_actions::is_spellable_token;
@@ -83,7 +82,7 @@ fn is_unknown(alloc: Global, params: &[CsiParam], control: char) -> Result<bool,
     ensures { IfOk result (λ yes. IsTrue yes
         ↔ IsUnknownIn (group_of_list params.now control) params.now control) }
 {
-    match group_of(params, control) {
+    match Group::of(params.first().copied(), control) {
         Group::Whole => is_unread(alloc, params, control),
         Group::Styles => Ok(!params.is_empty() && is_uncut(Group::Styles, params, control)),
         group => Ok(is_uncut(group, params, control)),

@@ -1,9 +1,8 @@
 //! Which rules a list falls under, and the pieces at its front.
-ghost use Rattle.std.specs.Prelude.{◌≡◌, ◌<◌, ◌≤◌, ◌++◌, List, IfOk, length, take, IfNone, IfSome};
-ghost use Rattle.csicodec_tokens.specs.declared.param.CsiParam.{CsiParam};
+ghost use Rattle.csicodec_parser.specs.{Common.List, Common.IfOk, Common.length, Common.take, Common.IfNone, Common.IfSome, Common.CsiParam, Common.Styles};
 ghost use Rattle.csicodec_parser.specs.{ActionOf.action_of, Cut.IsStuck, Groups.Piece, Groups.group_by, Groups.marked, Groups.start, Private.Steps.found};
 ghost use Rattle.csicodec_parser.specs.{Private.Steps.front, Private.Steps.is_odd_at, Private.Steps.number_at, Private.Steps.styled};
-ghost use Rattle.csicodec_parser.specs.{declared.group.Group.TheVariants.Styles};
+ghost use Rattle.std.specs.Prelude.{◌≡◌, ◌<◌, ◌≤◌, ◌++◌};
 
 use crate::actions::CSI;
 use csicodec_actions::{Change, DecPrivateMode, Switch, TerminalMode};

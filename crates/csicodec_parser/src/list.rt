@@ -1,13 +1,13 @@
 //! All actions of one parameter list, into a sink. They are those of the parser, without an iterator between.
-ghost use Rattle.std.specs.Prelude.{◌≡◌, ◌<◌, ◌≤◌, ◌+◌, ◌*◌, ◌∷◌, [], ◌++◌, List, length, drop, None, Some, IfOk, IfSome, OnOk};
-ghost use Rattle.csicodec_actions.specs.Actions.{Action, Unspecified as Unknown};
-ghost use Rattle.csicodec_parser.specs.{Groups.group as group_of_list, Groups.marked, Segments.Actions, declared.group.Group.TheVariants.Whole, Private.Steps.actions};
-ghost use Rattle.csicodec_parser.specs.{Private.Steps.front, Private.Steps.rest_action};
+ghost use Rattle.csicodec_parser.specs.Common.{[], List, length, drop, None, Some, IfOk, IfSome, OnOk, Action, Unknown, Whole};
+ghost use Rattle.csicodec_parser.specs.{Groups.group as group_of_list, Groups.marked, Segments.Actions, Private.Steps.actions, Private.Steps.front};
+ghost use Rattle.csicodec_parser.specs.{Private.Steps.rest_action};
+ghost use Rattle.std.specs.Prelude.{◌≡◌, ◌<◌, ◌≤◌, ◌+◌, ◌*◌, ◌∷◌, ◌++◌};
 
 use crate::actions::{CSI, boxed_action};
 use crate::group::Group;
 use crate::look::Look;
-use crate::parser::{End, LONGEST, group_of as first_group, has_odd, pass_piece, whole_list};
+use crate::parser::{End, LONGEST, group_of, has_odd, pass_piece, whole_list};
 use crate::sink::Sink;
 use csicodec_base::{CsiParam, Sgr};
 use std::alloc::{AllocError, Global};
@@ -34,7 +34,7 @@ pub fn list_into<L: Look, S: Sink>(
         truncated,
         control,
     };
-    match first_group(look, control) {
+    match group_of(look, control) {
         Group::Whole => match whole_list(look, control) {
             Some(action) => sink.take(action),
             None => rest_into(look, end, sink),
@@ -148,12 +148,4 @@ fn piece_into<L: Look, S: Sink>(
     }
     let width = look.len().min(LONGEST);
     sink.take_piece(group, look.lend(0, width))
-}
-
-/// The group of the list.
-#[inline(always)]
-pub(crate) fn group_of(params: &[CsiParam], control: char) -> Group
-    ensures { result ≡ group_of_list params.now control }
-{
-    Group::of(params.first().copied(), control)
 }

@@ -1,8 +1,6 @@
 //! Where the parser gets its tokens from, and what each look at one costs.
-ghost use Rattle.std.specs.{Prelude.◌≡◌, Prelude.ℕ, Prelude.◌+◌, Prelude.◌*◌, Prelude.◌≤◌, Prelude.◌++◌, Prelude.List, Prelude.length, Prelude.drop, Prelude.take};
-ghost use Rattle.std.specs.{Prelude.slice_get, Prelude.OnOk, Prelude.OnErr, Borrow.sem, Io.BufRead.Rests};
-ghost use Rattle.csicodec_tokens.specs.declared.param.CsiParam.{CsiParam};
-ghost use Rattle.csicodec_parser.specs.Look.{Lent};
+ghost use Rattle.std.specs.{Prelude.slice_get, Prelude.OnErr, Prelude.◌≡◌, Prelude.◌+◌, Prelude.◌*◌, Prelude.◌≤◌, Prelude.◌++◌, Borrow.sem, Io.BufRead.Rests};
+ghost use Rattle.csicodec_parser.specs.{Common.ℕ, Common.List, Common.length, Common.drop, Common.take, Common.OnOk, Common.CsiParam, Look.Lent};
 
 use csicodec_base::CsiParam;
 use std::alloc::AllocError;

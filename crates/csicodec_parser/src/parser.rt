@@ -1,8 +1,7 @@
 //! The parser: an iterator over the actions of one parameter list, for any `Look`.
-ghost use Rattle.std.specs.Prelude.{true, false, slice_get, ◌≡◌, ◌↔◌, ℕ, ◌+◌, ◌-◌, ◌*◌, ◌<◌, ◌≤◌, Bool, List, [], ◌∷◌, Some, None, length, drop, map, IfOk, OnErr, OnOk, IfSome, IfNone, IsNone};
-ghost use Rattle.csicodec_tokens.specs.declared.param.CsiParam.{CsiParam};
-ghost use Rattle.csicodec_actions.specs.{Actions.Unspecified as Unknown, Table.unboxed, Table.whole};
+ghost use Rattle.std.specs.Prelude.{slice_get, map, OnErr, IsNone, ◌≡◌, ◌↔◌, ◌+◌, ◌-◌, ◌*◌, ◌<◌, ◌≤◌, ◌∷◌};
 ghost use Rattle.csicodec_parser.specs.Private.Steps.{with_semicolon, block, rest_action, left_at, fresh_cost, from_at, held, Acts, CanGo, GoesBy, Leaves};
+ghost use Rattle.csicodec_parser.specs.Common.{true, false, ℕ, Bool, List, [], Some, None, length, drop, IfOk, OnOk, IfSome, IfNone, CsiParam, Unknown, unboxed, whole};
 ghost use Rattle.csicodec_parser.specs.{ActionOf.action_of, Groups.group as group_of_list, Groups.has_odd, Groups.marked, Groups.start, Next.IsRef, Segments.Actions};
 
 use crate::actions::{CSI, Unspecified, boxed_action, unboxed_action};

@@ -1,9 +1,9 @@
 //! Where actions go, one after the other: into a list of them, or into their joined texts.
-ghost use Rattle.std.specs.Prelude.{◌≡◌, ◌<◌, ◌≤◌, Bool, List, [], ◌∷◌, ◌++◌, None, Some, true, false, length, map, pos, ℕ, IsAscii, IfOk, IfSome, OnOk, encode_utf8};
-ghost use Rattle.std.specs.Fmt.{decimal};
+ghost use Rattle.std.specs.{Prelude.map, Prelude.pos, Prelude.IsAscii, Prelude.◌≡◌, Prelude.◌<◌, Prelude.◌≤◌, Prelude.◌∷◌, Prelude.◌++◌, Fmt.decimal};
 ghost use Rattle.csicodec_tokens.specs.Param.{spells, token_text};
-ghost use Rattle.csicodec_actions.specs.{Actions.Action, Actions.Sgr as Styled, Actions.Unspecified as Unknown, Table.text, Table.texts};
-ghost use Rattle.csicodec_parser.specs.{ActionOf.action_of, Cut.IsStuck, Groups.Piece, Groups.marked, declared.group.Group.TheVariants.Styles};
+ghost use Rattle.csicodec_actions.specs.{Actions.Sgr as Styled, Table.texts};
+ghost use Rattle.csicodec_parser.specs.Common.{Bool, List, [], None, Some, true, false, length, ℕ, IfOk, IfSome, OnOk, encode_utf8, Action, Unknown, text, Styles};
+ghost use Rattle.csicodec_parser.specs.{ActionOf.action_of, Cut.IsStuck, Groups.Piece, Groups.marked};
 
 use crate::actions::{CSI, Unspecified, append_text};
 use crate::group::{self, Group, style_front};
@@ -165,7 +165,11 @@ impl Sink for Texts {
         _truncated: bool,
         control: char,
     ) -> Result<(), AllocError> {
-        append_unknown(&mut self.bytes, group, rest, control)
+        self.bytes.push_slice(b"\x1b[")?;
+        if let Group::DecModes(_) = group {
+            self.bytes.push_slice(b"?")?;
+        }
+        append_list(&mut self.bytes, rest, control)
     }
 }
 
@@ -218,23 +222,6 @@ fn append_style(out: &mut TextBuffer, sgr: &Sgr) -> Result<(), AllocError>
     text.push_str("\x1b[");
     sgr.write_to(&mut text);
     out.push_text(&text)
-}
-
-/// Appends the text of an unknown action, of the tokens with what stands before the pieces of the group ahead of them.
-fn append_unknown(
-    out: &mut TextBuffer,
-    group: Group,
-    rest: &[CsiParam],
-    control: char,
-) -> Result<(), AllocError>
-    ensures { OnOk result ((flag : Bool)
-        → out.new ≡ out.old ++ text (Unknown (marked group rest.now) flag control)) }
-{
-    out.push_slice(b"\x1b[")?;
-    if let Group::DecModes(_) = group {
-        out.push_slice(b"?")?;
-    }
-    append_list(out, rest, control)
 }
 
 /// Appends the tokens' texts, and then the final character.

@@ -1,5 +1,6 @@
 //! The tokens of a slice.
-ghost use Rattle.std.specs.Prelude.{◌≡◌, ℕ, ◌+◌, ◌*◌, ◌≤◌, ◌++◌, length, drop};
+ghost use Rattle.csicodec_parser.specs.Common.{ℕ, length, drop};
+ghost use Rattle.std.specs.Prelude.{◌≡◌, ◌+◌, ◌*◌, ◌≤◌, ◌++◌};
 
 use crate::look::Look;
 use csicodec_base::CsiParam;

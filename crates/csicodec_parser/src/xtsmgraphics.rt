@@ -1,7 +1,7 @@
 //! `XtSmGraphics::parse`, which answers a `CSI`, and so stands beside it.
-ghost use Rattle.std.specs.Prelude.{◌≡◌, Some, IfOk, IfErr};
+ghost use Rattle.std.specs.Prelude.{IfErr, ◌≡◌};
 ghost use Rattle.csicodec_actions.specs.Table.XtSmGraphics.{RefusesGraphics, graphics_behind};
-ghost use Rattle.csicodec_parser.specs.ActionOf.{action_of};
+ghost use Rattle.csicodec_parser.specs.{ActionOf.action_of, Common.Some, Common.IfOk};
 
 use crate::actions::CSI;
 use csicodec_actions::{Device, XtSmGraphics};

@@ -2,7 +2,7 @@
 use Rattle.std.proofs.Common.{◌≡◌, ℕ, List, [], ◌∷◌, ◌++◌, Option, None, Some, ◌⊎◌, refl, sym, ap, ◌∙◌, inl, inr, subst, arith}
 use Rattle.std.proofs.{lemmas.Bool.and_parts, lemmas.Bool.cases_Bool, lemmas.Bool.eqb-true, lemmas.Option.same_Some}
 use Rattle.std.specs.Prelude.{ℤ, ◌==◌, ◌&&◌, ◌||◌, Bool, true, false, not, is_some, if◌then◌else◌, option_and_then, slice_get}
-use Rattle.std.specs.Option.{option_or}
+use Rattle.std.specs.{List.list_all, Option.option_or}
 use Rattle.csicodec_tokens.specs.{declared.param.CsiParam.CsiParam, declared.param.CsiParam.TheVariants.Integer, declared.param.CsiParam.TheVariants.P}
 use Rattle.csicodec_tokens.specs.{Fields.fields_of, Fields.with_field}
 use Rattle.csicodec_actions.specs.FieldRows.{This, Empty, End, There, Must, FieldRow, ahead_of_byte, behind, behind_byte, byte, first, fits, have_shape, no_byte, over, read_fields, read_over}
@@ -13,8 +13,7 @@ use Rattle.csicodec_parser.proofs.Fronts.{is_none}
 use Rattle.csicodec_sequences.specs.Parts.{behind_separator, is_marker, split_field, without_intermediate, without_marker}
 use Rattle.csicodec_sequences.specs.{declared.row.NumberSlot.NumberSlot, Known.rows_of, Known.table, Rows.Row, Rows.is_within, Rows.read_row, Rows.slot_value}
 use Rattle.csicodec_sequences.specs.{Rows.slot_values}
-use Rattle.csicodec_sequences.proofs.{Table.HasRead, Table.each, Table.has_read, Table.must, Table.row_at, Table.slots-apart, Table.slots_apart, Values.cut_end}
-use Rattle.csicodec_sequences.proofs.{Values.stays, Values.taken}
+use Rattle.csicodec_sequences.proofs.Table.{HasRead, has_read, must, row_at, slots-apart, slots_apart, cut_end, stays, taken}
 use Rattle.csicodec_actions.specs.FieldRows as fields
 use Rattle.csicodec_actions.specs.Rows as actions
 use Rattle.csicodec_actions.specs.Table as all_actions
@@ -46,10 +45,6 @@ marked_apart m i ss tail (s ∷ shape) = not (m == 0) || walk false i ss tail (s
 
 abbrev row_apart : Row → actions.Row Action → Bool
 row_apart q r = marked_apart q.form.marker q.form.intermediate q.slots r.tail r.shape
-
-abbrev apart_from_all : Row → List (actions.Row Action) → Bool
-apart_from_all q [] = true
-apart_from_all q (r ∷ rows) = row_apart q r && apart_from_all q rows
 
 -- ---- what it says
 
@@ -120,11 +115,12 @@ marked_read m i ss tail (Byte b ∷ shape) (P c ∷ ts) vs h shaped begins ends 
 marked_read m i ss tail (s ∷ shape) (t ∷ ts) vs h shaped begins ends e = (let no_it = (and_parts (has_shape tail shape ts) (actions.fits s t) shaped).1 in cc)
 
 -- what a row reads is read by no row of actions that it is apart from
-tokens_unread : (q : Row) (rows : List (actions.Row Action)) (list : List CsiParam) (final : ℕ) (vs : List ℕ) → apart_from_all q rows ≡ true
+tokens_unread : (q : Row) (rows : List (actions.Row Action)) (list : List CsiParam) (final : ℕ) (vs : List ℕ) → list_all (row_apart q) rows ≡ true
     → HasRead q list final vs → actions.given rows list ≡ None
 tokens_unread q [] list final vs h e = refl
 tokens_unread q (r ∷ rows) list final vs h e =
-    grind (arith, tokens_unread q rows list final vs, marked_read q.form.marker q.form.intermediate q.slots r.tail r.shape list vs)
+    let p = and_parts (row_apart q r) (list_all (row_apart q) rows) h in
+    grind (arith, tokens_unread q rows list final vs p.1 e, marked_read q.form.marker q.form.intermediate q.slots r.tail r.shape list vs p.0)
 
 -- ---- the test of a row of actions over fields
 
@@ -148,8 +144,7 @@ fields_apart [] (t ∷ row) = wants t || fields_apart [] row
 fields_apart (s ∷ ss) (t ∷ row) = field_differs s t || (not s.optional && fields_apart ss row)
 
 abbrev apart_from_fields : List NumberSlot → List (FieldRow Action) → Bool
-apart_from_fields ss [] = true
-apart_from_fields ss (r ∷ rows) = fields_apart ss r.slots && apart_from_fields ss rows
+apart_from_fields ss rows = list_all (λ (r : FieldRow Action). fields_apart ss r.slots) rows
 
 -- ---- what it says
 
@@ -199,7 +194,7 @@ fields_unread : (ss : List NumberSlot) (rows : List (FieldRow Action)) (list : L
     → fields.given rows fs ≡ None
 fields_unread ss [] list fs vs h e f = refl
 fields_unread ss (r ∷ rows) list fs vs h e f =
-    grind (arith, fields_unread ss rows list fs vs, fields_read ss r.slots list fs vs)
+    let p = and_parts (fields_apart ss r.slots) (apart_from_fields ss rows) h in grind (arith, fields_unread ss rows list fs vs p.1 e f, fields_read ss r.slots list fs vs p.0 e f)
 
 -- ---- the bytes around fields
 
@@ -238,9 +233,9 @@ apart_from_table q =
     (not (q.form.control == 116) || window_apart q) && ((not (q.form.control == 121) || not (q.form.intermediate == 42)) && (not (q.form.control == 83) || not (q.form.marker == 63)))
 
 abbrev row_unread : Row → Bool
-row_unread q = apart_from_all q (rows_before all_actions.table q.form.control) && apart_from_table q
+row_unread q = list_all (row_apart q) (rows_before all_actions.table q.form.control) && apart_from_table q
 
-is_unread : each row_unread table ≡ true
+is_unread : list_all row_unread table ≡ true
 unfolding rows_of table
 is_unread = refl
 
@@ -288,7 +283,7 @@ fields_none q list final vs h r =
 
 pub no_action : (i : ℕ) (q : Row) (list : List CsiParam) (final : ℕ) (vs : List ℕ) → slice_get table i ≡ Some q → read_row q list final ≡ Some vs → whole list final ≡ None
 no_action i q list final vs at e =
-    let p = and_parts (apart_from_all q (rows_before all_actions.table q.form.control)) (apart_from_table q) (row_at row_unread table i q is_unread at) in
+    let p = and_parts (list_all (row_apart q) (rows_before all_actions.table q.form.control)) (apart_from_table q) (row_at row_unread table i q is_unread at) in
     let r = has_read q list final vs e in
     let tokens : read_by all_actions.table list final ≡ None =
     ap (read_by all_actions.table list) r.control ∙ tokens_unread q (rows_before all_actions.table q.form.control) list final vs p.0 r

@@ -1,15 +1,114 @@
--- The rows of the table: tests of each row and of each two, which are computed, and what they say.
-use Rattle.std.proofs.Common.{◌≡◌, ◌<◌, ◌≤◌, ◌+◌, ◌*◌, ℕ, zero, suc, List, [], ◌∷◌, ◌++◌, Option, None, Some, length, drop, get_or, refl, sym, ap, ◌∙◌, inl, inr, pos, subst, arith, add-one, drop-cons}
+-- The table: values as they are written and read, tests of each row and of each two, which are computed, and what they say.
+use Rattle.std.proofs.Common.{◌≡◌, ℕ, List, [], ◌∷◌, ◌++◌, Option, Some, refl, ap, arith, append-nil, append_assoc, ◌<◌, ◌≤◌, ◌+◌, ◌*◌, zero, suc, None, length, drop, get_or, sym, ◌∙◌, inl, inr, pos, subst, add-one, drop-cons}
 use Rattle.std.proofs.{lemmas.Bool.and_parts, lemmas.Bool.cases_Bool, lemmas.Int.ints, lemmas.List.drop_all, lemmas.Option.same_Some}
-use Rattle.std.specs.Prelude.{ℤ, nat_lt, ◌==◌, ◌&&◌, ◌||◌, Bool, true, false, not, is_some, if◌then◌else◌, slice_get}
-use Rattle.std.specs.Option.{option_map, option_or}
+use Rattle.std.specs.Prelude.{ℤ, true, false, ◌==◌, if◌then◌else◌, encode_utf8, nat_lt, ◌&&◌, ◌||◌, Bool, not, is_some, slice_get}
+use Rattle.std.specs.{List.list_all, Option.option_map, Option.option_or}
 use Rattle.csicodec_tokens.specs.{declared.param.CsiParam.CsiParam, declared.param.CsiParam.TheVariants.Integer, declared.param.CsiParam.TheVariants.P}
-use Rattle.csicodec_tokens.specs.{Sequence.Apart, Sequence.IsFinal, Sequence.IsSpellable, Sequence.Spellable}
-use Rattle.csicodec_sequences.specs.Known.{are_rows, dec_rows, first_reading, other_rows, reading, report_rows, rows_of, table}
-use Rattle.csicodec_sequences.specs.Parts.{is_intermediate, is_marker, parts_of, split_field, without_intermediate, without_marker}
-use Rattle.csicodec_sequences.specs.Rows.{Row, byte_tokens, each_behind, fit, is_row, is_within, joined, read_row, row_list, slot_value, slot_values}
-use Rattle.csicodec_sequences.specs.{declared.row.SequenceForm.SequenceForm, declared.row.NumberSlot.NumberSlot}
-use Rattle.csicodec_sequences.proofs.Values.{taken}
+use Rattle.csicodec_tokens.specs.{Param.spells, Sequence.Apart, Sequence.IsFinal, Sequence.IsSpellable, Sequence.Spellable}
+use Rattle.csicodec_sequences.specs.Parts.{is_intermediate, is_marker, parts_of, split_field, with_front, without_intermediate, without_marker}
+use Rattle.csicodec_sequences.specs.Rows.{Row, are_missing_within, behind_text, byte_text, byte_tokens, each_behind, fit, form_text, has_its_bytes, is_row, joined, numbers_text, read_row, row_list, slot_value, slot_values, stops, is_within}
+use Rattle.csicodec_sequences.specs.Known.{dec_rows, first_reading, other_rows, reading, report_rows, rows_of, table}
+use Rattle.csicodec_sequences.specs.{declared.row.NumberSlot.NumberSlot, declared.row.SequenceForm.SequenceForm}
+
+-- ---- slots
+
+-- a first value, of what is read of a slot and those behind it
+pub record Taken (s : NumberSlot) (ss : List NumberSlot) (list : List CsiParam) (vs : List ℕ) : Type 0 where
+  pub number : Option ℤ
+  pub rest : List CsiParam
+  pub front : split_field list ≡ Some (number, rest)
+  pub first : ℕ
+  pub others : List ℕ
+  pub value : slot_value s number ≡ Some first
+  pub later : slot_values ss rest ≡ Some others
+  pub all : first ∷ others ≡ vs
+
+-- where the list doesn't end ahead of the slot
+pub taken : (s : NumberSlot) (ss : List NumberSlot) (list : List CsiParam) (vs : List ℕ) → stops s list ≡ false → slot_values (s ∷ ss) list ≡ Some vs → Taken s ss list vs
+taken s ss list vs on e = grind arith
+
+-- what fits is read back
+fit_read : (ss : List NumberSlot) (vs : List ℕ) → fit ss vs ≡ true → slot_values ss (joined vs) ≡ Some vs
+fit_read [] vs h = grind arith
+fit_read (s ∷ ss) [] h = grind arith
+fit_read (s ∷ ss) (v ∷ vs) h = grind (arith, fit_read ss vs)
+
+-- what is read fits
+read_fit : (ss : List NumberSlot) (list : List CsiParam) (vs : List ℕ) → slot_values ss list ≡ Some vs → are_missing_within ss ≡ true → fit ss vs ≡ true
+read_fit [] list vs e h = grind arith
+read_fit (s ∷ ss) list vs e h = grind (arith, read_fit ss)
+
+-- ---- the bytes around them
+
+pub cut_end : (front : List CsiParam) (t : CsiParam) → without_intermediate (front ++ t ∷ []) ≡ ((without_intermediate (t ∷ [])).0, front ++ (without_intermediate (t ∷ [])).1)
+cut_end [] t = refl
+cut_end (x ∷ []) t = ap (with_front x) (cut_end [] t)
+cut_end (x ∷ y ∷ front) t = ap (with_front x) (cut_end (y ∷ front) t)
+
+-- a token that is no intermediate byte stays
+pub stays : (t : CsiParam) (list : List CsiParam) → without_intermediate (t ∷ []) ≡ (0, t ∷ []) → without_intermediate (t ∷ list) ≡ with_front t (without_intermediate list)
+stays t list alone = grind arith
+
+-- numbers have no intermediate byte behind them
+joined_ends : (vs : List ℕ) → without_intermediate (joined vs) ≡ (0, joined vs)
+joined_ends [] = refl
+joined_ends (v ∷ vs) = grind (arith, joined_ends vs)
+
+begins : (m i : ℕ) (vs : List ℕ) → (if m == 0 then true else is_marker m) ≡ true → (if i == 0 then true else is_intermediate i) ≡ true
+    → without_marker (byte_tokens m ++ (joined vs ++ byte_tokens i)) ≡ (m, joined vs ++ byte_tokens i)
+begins m i vs marker intermediate = grind arith
+
+ends : (i : ℕ) (vs : List ℕ) → (if i == 0 then true else is_intermediate i) ≡ true → without_intermediate (joined vs ++ byte_tokens i) ≡ (i, joined vs)
+ends i vs ok = grind (arith, append-nil (joined vs), joined_ends vs, cut_end (joined vs) (P i))
+
+-- the parts of the list that a row writes are those of the row
+parts_are : (row : Row) (vs : List ℕ) → has_its_bytes row ≡ true → parts_of (row_list row vs) ≡ record { marker = row.form.marker; body = joined vs; intermediate = row.form.intermediate }
+parts_are row vs h = grind (arith, begins row.form.marker row.form.intermediate vs, ends row.form.intermediate vs)
+
+-- what the code cuts off
+pub cut-byte : (list front : List CsiParam) (t : CsiParam) (b : ℕ) → list ≡ front ++ t ∷ [] → t ≡ P b → is_intermediate b ≡ true → (b, front) ≡ without_intermediate list
+cut-byte list front t b parts is between = rw (parts, is, cut_end front (P b)) (rw between (rw append-nil refl))
+
+pub kept-byte : (list front : List CsiParam) (t : CsiParam) (b : ℕ) → list ≡ front ++ t ∷ [] → t ≡ P b → is_intermediate b ≡ false → (0, list) ≡ without_intermediate list
+kept-byte list front t b parts is other = rw (parts, is, cut_end front (P b)) (rw other refl)
+
+pub kept-number : (list front : List CsiParam) (t : CsiParam) (z : ℤ) → list ≡ front ++ t ∷ [] → t ≡ Integer z → (0, list) ≡ without_intermediate list
+kept-number list front t z parts is = rw (parts, is, cut_end front (Integer z)) refl
+
+-- ---- rows
+
+pub read_fits : (row : Row) (list : List CsiParam) (final : ℕ) (values : List ℕ) → is_row row ≡ true → read_row row list final ≡ Some values → fit row.slots values ≡ true
+read_fits row list final values h e = grind (arith, read_fit row.slots (parts_of list).body values)
+
+pub fits_read : (row : Row) (values : List ℕ) → is_row row ≡ true → fit row.slots values ≡ true → read_row row (row_list row values) row.form.control ≡ Some values
+fits_read row values h f = of_parts (row_list row values) (grind (arith, parts_are row values)) (fit_read row.slots values f)
+  where
+    of_parts : (list : List CsiParam) → parts_of list ≡ record { marker = row.form.marker; body = joined values; intermediate = row.form.intermediate }
+        → slot_values row.slots (joined values) ≡ Some values → read_row row list row.form.control ≡ Some values
+    of_parts list p e = grind arith
+
+-- ---- the text
+
+spells_append : (xs ys : List CsiParam) → spells (xs ++ ys) ≡ spells xs ++ spells ys
+spells_append [] ys = refl
+spells_append (x ∷ xs) ys = simp (spells_append xs ys, append_assoc)
+
+behind_spelled : (vs : List ℕ) → behind_text vs ≡ spells (each_behind vs)
+unfolding lib.Utf8.encode
+behind_spelled [] = refl
+behind_spelled (v ∷ vs) = rw (behind_spelled vs)
+
+numbers_spelled : (vs : List ℕ) → numbers_text vs ≡ spells (joined vs)
+numbers_spelled [] = refl
+numbers_spelled (v ∷ vs) = rw (behind_spelled vs)
+
+byte_spelled : (b : ℕ) → byte_text b ≡ spells (byte_tokens b)
+byte_spelled b = grind (arith, append-nil (encode_utf8 b))
+
+pub text_lem : (row : Row) (values : List ℕ) → form_text row.form values ≡ spells (row_list row values) ++ encode_utf8 row.form.control
+text_lem row values = simp (byte_spelled, numbers_spelled, spells_append, append_assoc)
+
+-- ---- The rows of the table: tests of each row and of each two, which are computed, and what they say.
 
 -- ---- slots that no list is read by
 
@@ -82,18 +181,14 @@ apart_rows q r list final vs ws a b h = grind (arith, slots-apart q.slots r.slot
 
 -- ---- tests of each row, and of each two
 
-abbrev pub each : (Row → Bool) → List Row → Bool
-each f [] = true
-each f (r ∷ rows) = f r && each f rows
-
 abbrev two : (Row → Row → Bool) → List Row → Bool
 two f [] = true
-two f (r ∷ rows) = each (f r) rows && two f rows
+two f (r ∷ rows) = list_all (f r) rows && two f rows
 
-pub row_at : (f : Row → Bool) (rows : List Row) (i : ℕ) (q : Row) → each f rows ≡ true → slice_get rows i ≡ Some q → f q ≡ true
+pub row_at : (f : Row → Bool) (rows : List Row) (i : ℕ) (q : Row) → list_all f rows ≡ true → slice_get rows i ≡ Some q → f q ≡ true
 row_at f [] i q h at = cc
-row_at f (r ∷ rows) zero q h at = grind arith
-row_at f (r ∷ rows) (suc i) q h at = row_at f rows i q (and_parts (f r) (each f rows) h).1 at
+row_at f (r ∷ rows) zero q h at = rw (same_Some r q at) at (and_parts (f r) (list_all f rows) h).0
+row_at f (r ∷ rows) (suc i) q h at = row_at f rows i q (and_parts (f r) (list_all f rows) h).1 at
 
 -- rows of which the test doesn't hold stand at one place
 one_place : (f : Row → Row → Bool) (rows : List Row) (i j : ℕ) (q r : Row) → two f rows ≡ true → slice_get rows i ≡ Some q → slice_get rows j ≡ Some r
@@ -102,22 +197,21 @@ one_place f [] i j q r h at to n m = cc
 one_place f (p ∷ rows) zero zero q r h at to n m = refl
 one_place f (p ∷ rows) zero (suc j) q r h at to n m = grind (arith, row_at (f p) rows j r)
 one_place f (p ∷ rows) (suc i) zero q r h at to n m = grind (arith, row_at (f p) rows i q)
-one_place f (p ∷ rows) (suc i) (suc j) q r h at to n m = ap suc (one_place f rows i j q r (and_parts (each (f p) rows) (two f rows) h).1 at to n m)
+one_place f (p ∷ rows) (suc i) (suc j) q r h at to n m = ap suc (one_place f rows i j q r (and_parts (list_all (f p) rows) (two f rows) h).1 at to n m)
 
 -- each is a row
-pub are_all : are_rows table ≡ true
+pub are_all : list_all is_row table ≡ true
 unfolding rows_of table
 are_all = refl
 
 -- no slot has a larger number
 abbrev are_small : List NumberSlot → Bool
-are_small [] = true
-are_small (s ∷ ss) = nat_lt s.last 4294967296 && are_small ss
+are_small slots = list_all (λ (s : NumberSlot). nat_lt s.last 4294967296) slots
 
 abbrev good : Row → Bool
 good q = nat_lt 10000 q.form.kind && (nat_lt (length q.slots) 13 && (are_small q.slots && is_row q))
 
-are_good : each good table ≡ true
+are_good : list_all good table ≡ true
 unfolding rows_of table
 are_good = refl
 
@@ -190,7 +284,7 @@ decides : (rows : List Row) (i : ℕ) (r : Row) (params : List CsiParam) (contro
 decides [] i r params control vs h at e = cc
 decides (q ∷ rows) zero r params control vs h at e = rw (same_Some q r at, e) refl
 decides (q ∷ rows) (suc i) r params control vs h at e =
-    let p = and_parts (each (rows_apart q) rows) (two rows_apart rows) h in
+    let p = and_parts (list_all (rows_apart q) rows) (two rows_apart rows) h in
     passed q rows params control (r.form, vs)
     (λ us f. apart_rows q r params control us vs (has_read q params control us f) (has_read r params control vs e) (row_at (rows_apart q) rows i r p.0 at))
     (decides rows i r params control vs p.1 at e)
@@ -222,10 +316,10 @@ row_length r list final vs h e =
     let few : length r.slots < 13 = grind arith in
     omega (arith, slots_length r.slots (parts_of list).body vs e.values, marker_length list, intermediate_length (without_marker list).1, few)
 
-first_length : (rows : List Row) (list : List CsiParam) (final : ℕ) (known : SequenceForm × List ℕ) → each good rows ≡ true → first_reading rows list final ≡ Some known → length list ≤ 26
+first_length : (rows : List Row) (list : List CsiParam) (final : ℕ) (known : SequenceForm × List ℕ) → list_all good rows ≡ true → first_reading rows list final ≡ Some known → length list ≤ 26
 first_length [] list final known h e = cc
 first_length (r ∷ rows) list final known h e =
-    let p = and_parts (good r) (each good rows) h in
+    let p = and_parts (good r) (list_all good rows) h in
     go (first_length rows list final known p.1) (λ vs f. row_length r list final vs p.0 (has_read r list final vs f)) e
   where
     go : (first_reading rows list final ≡ Some known → length list ≤ 26) → ((vs : List ℕ) → read_row r list final ≡ Some vs → length list ≤ 26)
@@ -276,11 +370,3 @@ sequence i q vs at f =
     let end = end_spellable q.form.intermediate (grind arith) in
     let values = joined_spellable q.slots vs (byte_tokens q.form.intermediate) (grind arith) f end.0 end.1 in
     (front_spellable q.form.marker (joined vs ++ byte_tokens q.form.intermediate) (grind arith) values, grind arith)
-
--- ---- the first of several that is something
-
-pub or-first : {X : Type 0} (a rest : Option X) (x : X) → Some x ≡ a → Some x ≡ option_or a rest
-or-first a rest x e = ap (λ o. option_or o rest) e
-
-pub or-later : {X : Type 0} (a rest y : Option X) → None ≡ a → y ≡ rest → y ≡ option_or a rest
-or-later a rest y e f = f ∙ ap (λ o. option_or o rest) e

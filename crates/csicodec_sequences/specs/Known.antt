@@ -1,11 +1,10 @@
 -- The table, and which of its rows reads a list.
-use Rattle.std.specs.{Prelude.◌&&◌, Prelude.◌++◌, Prelude.ℕ, Prelude.Bool, Prelude.true, Prelude.List, Prelude.[], Prelude.◌∷◌, Prelude.Option, Prelude.None}
-use Rattle.std.specs.{Option.option_map, Option.option_or}
+use Rattle.std.specs.{Prelude.◌++◌, Prelude.ℕ, Prelude.List, Prelude.[], Prelude.◌∷◌, Prelude.Option, Prelude.None, Option.option_map, Option.option_or}
 use Rattle.csicodec_tokens.specs.declared.param.CsiParam.{CsiParam}
 use Rattle.csicodec_sequences.specs.{declared.row.SequenceForm.SequenceForm, declared.row.NumberSlot.NumberSlot, declared.rows.dec.TheConstants.DEC_FORMS}
 use Rattle.csicodec_sequences.specs.{declared.rows.dec.TheConstants.DEC_SLOTS, declared.rows.others.TheConstants.OTHER_FORMS}
 use Rattle.csicodec_sequences.specs.{declared.rows.others.TheConstants.OTHER_SLOTS, declared.rows.reports.TheConstants.REPORT_FORMS}
-use Rattle.csicodec_sequences.specs.{declared.rows.reports.TheConstants.REPORT_SLOTS, Rows.Row, Rows.is_row, Rows.read_row}
+use Rattle.csicodec_sequences.specs.{declared.rows.reports.TheConstants.REPORT_SLOTS, Rows.Row, Rows.read_row}
 use Rattle.csicodec_sequences.specs.declared.known.KnownSequence as known_type
 
 -- a row of each form and its slots
@@ -27,10 +26,6 @@ report_rows = rows_of REPORT_FORMS REPORT_SLOTS
 -- all rows
 unfoldable pub table : List Row
 table = dec_rows ++ (other_rows ++ report_rows)
-
-abbrev pub are_rows : List Row → Bool
-are_rows [] = true
-are_rows (r ∷ rows) = is_row r && are_rows rows
 
 -- the form and the values of the first row that reads the list
 abbrev pub first_reading : List Row → List CsiParam → ℕ → Option (SequenceForm × List ℕ)

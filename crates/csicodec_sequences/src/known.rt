@@ -4,13 +4,9 @@ ghost use Rattle.csicodec_sequences.specs.{Known.first_reading, Known.reading, K
 ghost use Rattle.csicodec_sequences.specs.{Rows.numbers_text};
 
 use crate::row::{MOST, NumberSlot, SequenceForm, SlotValues};
-use crate::rows::dec::{DEC_FORMS, DEC_MEANINGS, DEC_NAMES, DEC_NUMBERS, DEC_SLOTS, DEC_SOURCES};
-use crate::rows::others::{
-    OTHER_FORMS, OTHER_MEANINGS, OTHER_NAMES, OTHER_NUMBERS, OTHER_SLOTS, OTHER_SOURCES,
-};
-use crate::rows::reports::{
-    REPORT_FORMS, REPORT_MEANINGS, REPORT_NAMES, REPORT_NUMBERS, REPORT_SLOTS, REPORT_SOURCES,
-};
+use crate::rows::dec::{DEC_FORMS, DEC_SLOTS, DEC_TEXTS};
+use crate::rows::others::{OTHER_FORMS, OTHER_SLOTS, OTHER_TEXTS};
+use crate::rows::reports::{REPORT_FORMS, REPORT_SLOTS, REPORT_TEXTS};
 use csicodec_base::CsiParam;
 use csicodec_parser::Unspecified;
 use std::fmt;
@@ -75,19 +71,14 @@ impl KnownSequence {
         )
     }
 
-    /// What stands at the row's place of the texts of its file.
-    fn text(
-        &self,
-        dec: &'static [&'static str],
-        others: &'static [&'static str],
-        reports: &'static [&'static str],
-    ) -> &'static str {
-        let texts = match self.table {
-            Table::Dec => dec,
-            Table::Others => others,
-            Table::Reports => reports,
+    /// What is said of the row: its name, its meaning, its source, and the names of its numbers.
+    fn texts(&self) -> [&'static str; 4] {
+        let texts: &[[&str; 4]] = match self.table {
+            Table::Dec => &DEC_TEXTS,
+            Table::Others => &OTHER_TEXTS,
+            Table::Reports => &REPORT_TEXTS,
         };
-        texts.get(self.index).copied().unwrap_or("")
+        texts.get(self.index).copied().unwrap_or([""; 4])
     }
 
     /// The form.
@@ -99,23 +90,23 @@ impl KnownSequence {
 
     /// Its name: the mnemonic of its source.
     pub fn name(&self) -> &'static str {
-        self.text(&DEC_NAMES, &OTHER_NAMES, &REPORT_NAMES)
+        self.texts()[0]
     }
 
     /// What a terminal does, or what it says by it.
     pub fn meaning(&self) -> &'static str {
-        self.text(&DEC_MEANINGS, &OTHER_MEANINGS, &REPORT_MEANINGS)
+        self.texts()[1]
     }
 
     /// Where it is from: the document, and in it the clause or the heading.
     pub fn source(&self) -> &'static str {
-        self.text(&DEC_SOURCES, &OTHER_SOURCES, &REPORT_SOURCES)
+        self.texts()[2]
     }
 
     /// The names of its numbers, in order, a `;` behind each; the last one of a row with further numbers is that of all that
     /// follow.
     pub fn numbers(&self) -> &'static str {
-        self.text(&DEC_NUMBERS, &OTHER_NUMBERS, &REPORT_NUMBERS)
+        self.texts()[3]
     }
 
     /// The values, in the order of the row's slots.

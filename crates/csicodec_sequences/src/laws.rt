@@ -1,12 +1,13 @@
 //! Laws of rows, and of the table. Each is the contract of a function that does nothing.
 ghost use Rattle.std.specs.Prelude.{◌≡◌, ◌↔◌, ◌<◌, ◌≤◌, ◌++◌, ℕ, List, length, Some, None, true, slice_get, encode_utf8};
+ghost use Rattle.std.specs.List.{list_all};
 ghost use Rattle.csicodec_tokens.specs.{declared.param.CsiParam.CsiParam, Param.spells, Sequence.IsFinal, Sequence.Spellable};
 ghost use Rattle.csicodec_actions.specs.Table.{whole};
-ghost use Rattle.csicodec_sequences.specs.{Known.are_rows, Known.reading, Known.table, declared.row.SequenceForm.SequenceForm, Rows.Row, Rows.fit, Rows.is_row};
-ghost use Rattle.csicodec_sequences.specs.{Rows.read_row, Rows.row_list, Rows.form_text};
+ghost use Rattle.csicodec_sequences.specs.{Known.reading, Known.table, declared.row.SequenceForm.SequenceForm, Rows.Row, Rows.fit, Rows.is_row, Rows.read_row};
+ghost use Rattle.csicodec_sequences.specs.{Rows.row_list, Rows.form_text};
 
 /// Of any row: the values that it reads back of the list that it writes of them are those that fit its slots, and no others.
-#[tactic(auto, using(crate::proofs::Values::fits_read, crate::proofs::Values::read_fits))]
+#[tactic(auto, using(crate::proofs::Table::fits_read, crate::proofs::Table::read_fits))]
 pub fn exact()
     ensures { (row : Row) (values : List ℕ) → is_row row ≡ true →
         (read_row row (row_list row values) row.form.control ≡ Some values)
@@ -14,14 +15,14 @@ pub fn exact()
 {}
 
 /// Of any row: what it reads fits its slots, so that it is read back from what is written of it.
-#[tactic(auto, using(crate::proofs::Values::read_fits))]
+#[tactic(auto, using(crate::proofs::Table::read_fits))]
 pub fn what_is_read_fits()
     ensures { (row : Row) (list : List CsiParam) (final : ℕ) (values : List ℕ) → is_row row ≡ true →
         read_row row list final ≡ Some values → fit row.slots values ≡ true }
 {}
 
 /// Of any row: the text of values is that of their list, and the final character behind it.
-#[tactic(auto, using(crate::proofs::Values::text_lem))]
+#[tactic(auto, using(crate::proofs::Table::text_lem))]
 pub fn text()
     ensures { (row : Row) (values : List ℕ)
         → form_text row.form values ≡ spells (row_list row values) ++ encode_utf8 row.form.control }
@@ -30,7 +31,7 @@ pub fn text()
 /// Each row of the table is a row: its bytes are such bytes, and what is left out is in its range.
 #[tactic(auto, using(crate::proofs::Table::are_all))]
 pub fn rows()
-    ensures { are_rows table ≡ true }
+    ensures { list_all is_row table ≡ true }
 {}
 
 /// No two rows of the table read one list.

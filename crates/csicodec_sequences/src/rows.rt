@@ -8,14 +8,6 @@
 
 use crate::row::NumberSlot;
 
-/// No number: a list ends ahead of it.
-pub(crate) const END: NumberSlot = NumberSlot {
-    first: 1,
-    last: 0,
-    missing: None,
-    optional: true,
-};
-
 macro_rules! needed {
     ($name:literal, $first:literal, $last:literal) => {
         NumberSlot { first: $first, last: $last, missing: None, optional: false }
@@ -34,72 +26,35 @@ macro_rules! further {
     };
 }
 
-/// 12 slots.
+/// No number: a list ends ahead of it.
+pub(crate) const END: NumberSlot = further!("", 1, 0);
+
+/// 12 slots: these, and behind a `;` the one that all further ones are.
 macro_rules! slots {
-    () => { [END, END, END, END, END, END, END, END, END, END, END, END] };
-    ($s0:expr) => { [$s0, END, END, END, END, END, END, END, END, END, END, END] };
-    ($s0:expr, $s1:expr) => { [$s0, $s1, END, END, END, END, END, END, END, END, END, END] };
-    ($s0:expr, $s1:expr, $s2:expr) => { [$s0, $s1, $s2, END, END, END, END, END, END, END, END, END] };
-    ($s0:expr, $s1:expr, $s2:expr, $s3:expr) => { [$s0, $s1, $s2, $s3, END, END, END, END, END, END, END, END] };
-    ($s0:expr, $s1:expr, $s2:expr, $s3:expr, $s4:expr) => { [$s0, $s1, $s2, $s3, $s4, END, END, END, END, END, END, END] };
-    ($s0:expr, $s1:expr, $s2:expr, $s3:expr, $s4:expr, $s5:expr) => { [$s0, $s1, $s2, $s3, $s4, $s5, END, END, END, END, END, END] };
-    ($s0:expr, $s1:expr, $s2:expr, $s3:expr, $s4:expr, $s5:expr, $s6:expr) => { [$s0, $s1, $s2, $s3, $s4, $s5, $s6, END, END, END, END, END] };
-    ($s0:expr, $s1:expr, $s2:expr, $s3:expr, $s4:expr, $s5:expr, $s6:expr, $s7:expr) => { [$s0, $s1, $s2, $s3, $s4, $s5, $s6, $s7, END, END, END, END] };
-    (; $f:expr) => { [$f, $f, $f, $f, $f, $f, $f, $f, $f, $f, $f, $f] };
-    ($s0:expr; $f:expr) => { [$s0, $f, $f, $f, $f, $f, $f, $f, $f, $f, $f, $f] };
-    ($s0:expr, $s1:expr; $f:expr) => { [$s0, $s1, $f, $f, $f, $f, $f, $f, $f, $f, $f, $f] };
-    ($s0:expr, $s1:expr, $s2:expr; $f:expr) => { [$s0, $s1, $s2, $f, $f, $f, $f, $f, $f, $f, $f, $f] };
-    ($s0:expr, $s1:expr, $s2:expr, $s3:expr; $f:expr) => { [$s0, $s1, $s2, $s3, $f, $f, $f, $f, $f, $f, $f, $f] };
-    ($s0:expr, $s1:expr, $s2:expr, $s3:expr, $s4:expr; $f:expr) => { [$s0, $s1, $s2, $s3, $s4, $f, $f, $f, $f, $f, $f, $f] };
-    ($s0:expr, $s1:expr, $s2:expr, $s3:expr, $s4:expr, $s5:expr; $f:expr) => { [$s0, $s1, $s2, $s3, $s4, $s5, $f, $f, $f, $f, $f, $f] };
-    ($s0:expr, $s1:expr, $s2:expr, $s3:expr, $s4:expr, $s5:expr, $s6:expr; $f:expr) => { [$s0, $s1, $s2, $s3, $s4, $s5, $s6, $f, $f, $f, $f, $f] };
+    ($($slot:expr),*) => { slots!($($slot),*; END) };
+    ($($slot:expr),*; $more:expr) => { first_12!($($slot,)* $more, $more, $more, $more, $more, $more, $more, $more, $more, $more, $more, $more,) };
 }
 
-/// The form of a row.
-macro_rules! form {
-    ($kind:literal, $name:literal, $marker:expr, [$($slots:tt)*], $intermediate:expr, $control:literal, $meaning:literal, $source:literal) => {
-        SequenceForm { kind: $kind, marker: $marker, intermediate: $intermediate, control: $control }
-    };
-}
-
-/// The slots of a row.
-macro_rules! numbers {
-    ($kind:literal, $name:literal, $marker:expr, [$($slots:tt)*], $intermediate:expr, $control:literal, $meaning:literal, $source:literal) => {
-        slots!($($slots)*)
-    };
-}
-
-/// The name of a row.
-macro_rules! name {
-    ($kind:literal, $name:literal, $marker:expr, [$($slots:tt)*], $intermediate:expr, $control:literal, $meaning:literal, $source:literal) => {
-        $name
-    };
-}
-
-/// What a row means.
-macro_rules! meaning {
-    ($kind:literal, $name:literal, $marker:expr, [$($slots:tt)*], $intermediate:expr, $control:literal, $meaning:literal, $source:literal) => {
-        $meaning
-    };
-}
-
-/// The source of a row.
-macro_rules! source {
-    ($kind:literal, $name:literal, $marker:expr, [$($slots:tt)*], $intermediate:expr, $control:literal, $meaning:literal, $source:literal) => {
-        $source
+macro_rules! first_12 {
+    ($a:expr, $b:expr, $c:expr, $d:expr, $e:expr, $f:expr, $g:expr, $h:expr, $i:expr, $j:expr, $k:expr, $l:expr, $($over:expr,)*) => {
+        [$a, $b, $c, $d, $e, $f, $g, $h, $i, $j, $k, $l]
     };
 }
 
 /// The names of slots, a `;` behind each.
-macro_rules! joined {
+macro_rules! names {
     ($($kind:ident!($name:literal $($numbers:tt)*)),*) => { concat!($($name, ";"),*) };
     ($($kind:ident!($name:literal $($numbers:tt)*)),*; further!($last:literal $($more:tt)*)) => { concat!($($name, ";",)* $last, ";") };
 }
 
-/// The names of a row's numbers.
-macro_rules! names {
-    ($kind:literal, $name:literal, $marker:expr, [$($slots:tt)*], $intermediate:expr, $control:literal, $meaning:literal, $source:literal) => {
-        joined!($($slots)*)
+/// A part of a row: its form, its slots, or what is said of it.
+macro_rules! row {
+    (form $kind:tt, $name:tt, $marker:tt, $slots:tt, $intermediate:tt, $control:tt, $meaning:tt, $source:tt) => {
+        SequenceForm { kind: $kind, marker: $marker, intermediate: $intermediate, control: $control }
+    };
+    (numbers $kind:tt, $name:tt, $marker:tt, [$($slots:tt)*], $($more:tt)*) => { slots!($($slots)*) };
+    (texts $kind:tt, $name:tt, $marker:tt, [$($slots:tt)*], $intermediate:tt, $control:tt, $meaning:tt, $source:tt) => {
+        [$name, $meaning, $source, names!($($slots)*)]
     };
 }
 

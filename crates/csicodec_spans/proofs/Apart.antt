@@ -1,11 +1,9 @@
 -- No two rows of the table of modes fit the same bytes: a test that is computed in each mode, over all pairs of rows and all bytes.
-use Rattle.std.proofs.Common.{◌≡◌, ◌∙◌, ◌<◌, ◌≤◌, ℕ, zero, suc, List, [], ◌∷◌, Some, refl, sym, ap, inl, inr, arith}
+use Rattle.std.proofs.Common.{◌≡◌, ◌∙◌, ◌<◌, ◌≤◌, ℕ, zero, suc, List, [], ◌∷◌, Some, refl, sym, ap, inl, inr, arith, ◌&&◌, ◌||◌, Bool, true, false, not, nat_lt, nat_le, slice_get}
 use Rattle.std.proofs.lemmas.Bool.{agree_below, agree_below_at, cases_Bool, cases_lt, and_parts, or_cases, false_from_ne_true}
 use Rattle.std.proofs.{lemmas.Bool.Decides.nat_tests, lemmas.Option.same_Some}
-use Rattle.std.specs.Prelude.{◌&&◌, ◌||◌, Bool, true, false, not, nat_lt, nat_le, slice_get}
 use Rattle.csicodec_spans.specs.Table.{Range, Spot, OneOf, NoneOf, End, ModeRow, mode_table, within, holds_in, takes, is_end, begin_with, fits_front, fitting, answer_of, ahead, HasOneRow}
 use Rattle.csicodec_spans.specs.declared.table.Mode.{Mode}
-use Rattle.csicodec_spans.specs.declared.table.Mode.TheVariants as mode
 
 -- the ranges end below 128, so that all bytes from there on are alike
 abbrev are_low : List Range → Bool
@@ -39,7 +37,7 @@ all_apart m [] = true
 all_apart m (r ∷ rows) = apart_from m r rows && all_apart m rows
 
 is_apart : (m : Mode) → all_apart m mode_table ≡ true
-is_apart mode.Text = refl
+is_apart Mode.Text = refl
 is_apart _ = refl
 
 -- ---- what the tests say
@@ -61,16 +59,13 @@ takes_low End b low high = refl
 none_below : (n b : ℕ) (p q : Spot) → agree_below (λ x. takes p x && takes q x) (λ _. false) n ≡ true → b < n → takes p b ≡ true → takes q b ≡ true → ⊥
 none_below n b p q all few e f = let none = rw (e, f) at (agree_below_at (λ x. takes p x && takes q x) (λ _. false) n b all few) in cc
 
-last : 128 < 129
-last = omega arith
-
 differ_places : (p q : Spot) (b : ℕ) → differ p q ≡ true → takes p b ≡ true → takes q b ≡ true → ⊥
 differ_places p q b d e f =
     let (low, others) = and_parts (is_low p) _ (and_parts (not (is_end p && is_end q)) _ d).1 in
     let (low2, all) = and_parts (is_low q) _ others in
     elim (cases_lt b 129) [
       | inl few ↦ none_below 129 b p q all few e f
-      | inr high ↦ none_below 129 128 p q all last (sym (takes_low p b low high) ∙ e) (sym (takes_low q b low2 high) ∙ f)
+      | inr high ↦ none_below 129 128 p q all (omega arith) (sym (takes_low p b low high) ∙ e) (sym (takes_low q b low2 high) ∙ f)
     ]
 
 apart_places : (ps qs : List Spot) (bytes : List ℕ) → are_apart ps qs ≡ true → begin_with ps bytes ≡ true → begin_with qs bytes ≡ true → ⊥

@@ -1,19 +1,19 @@
 -- Single parts, and runs of bytes that stay, as spans, which grow as far as what is open behind them goes on.
-use Rattle.std.proofs.Common.{◌≡◌, ◌≢◌, ◌⊎◌, ◌<◌, ◌≤◌, ◌+◌, ◌-◌, ◌%◌, ◌^◌, ◌∙◌, ℕ, zero, suc, Bool, true, false, not, ◌||◌, cond, eqb, Fits, w8, map, List, [], ◌∷◌, ◌++◌, length, take, drop, get_or, inl, inr, refl, sym, ap, subst, append_assoc, arith}
-use Rattle.std.proofs.{lemmas.List.length-take-le, lemmas.List.take-append-drop, lemmas.List.get_or-drop, lemmas.List.get_or-take, lemmas.List.length-map}
-use Rattle.std.proofs.{lemmas.Simd.Each1-get_or, lemmas.Simd.first_set_mask_l, lemmas.Simd.map-map, lemmas.Simd.mask_l-mod, lemmas.Bool.agree_below}
-use Rattle.std.proofs.{lemmas.Bool.agree_below_at, lemmas.Bool.cases_lt, lemmas.List.Sums.prefix_len_passes}
-use Rattle.csicodec_tokens.specs.Fault.{Begins}
-use Rattle.csicodec_spans.specs.Parts.{Part, part, Allows, AllowsCsi, IsUnsure, IsUnsureBy, IsMore, IsMaximal, Cuts, IsPlain, IsPlainFront}
+use Rattle.std.proofs.Common.{◌≡◌, ◌≢◌, ◌⊎◌, ◌<◌, ◌≤◌, ◌+◌, ◌-◌, ◌%◌, ◌^◌, ◌∙◌, ℕ, zero, suc, Bool, true, false, not, ◌||◌, eqb, Fits, w8, map, List, [], ◌∷◌, ◌++◌, length, take, drop, get_or, inl, inr, refl, sym, ap, subst, append_assoc, arith, length-take-le, take-append-drop, get_or-drop, get_or-take, length-append, length-take}
+use Rattle.std.proofs.{lemmas.List.length-map, lemmas.Simd.Each1-get_or, lemmas.Simd.first_set_mask_l, lemmas.Simd.map-map, lemmas.Simd.mask_l-mod}
+use Rattle.std.proofs.{lemmas.Bool.agree_below, lemmas.Bool.agree_below_at, lemmas.Bool.cases_lt, lemmas.Bool.cond_both, lemmas.List.Sums.prefix_len_passes}
+use Rattle.std.proofs.{Math.Seq.take-append_seam}
+use Rattle.csicodec_tokens.specs.{Fault.Begins, Fault.FaultOf, Fault.IsMetAt, Fault.Refuses, declared.param.CsiParam.CsiParam}
+use Rattle.csicodec_tokens.specs.{declared.reader.ReadError.ReadError, declared.reader.ReadError.TheVariants.Memory, Sequence.Reads, Sequence.Seq}
+use Rattle.csicodec_spans.specs.Parts.{Part, part, Allows, AllowsCsi, IsUnsure, IsUnsureBy, IsMore, IsMaximal, Cuts, IsPlain, IsPlainFront, IsMalformed}
 use Rattle.csicodec_spans.specs.{declared.table.Kind.Kind, declared.table.Mode.Mode, declared.table.Ahead.Ahead, declared.table.Ahead.TheVariants.GoesOn}
 use Rattle.csicodec_spans.specs.{declared.table.Ahead.TheVariants.Ends, declared.table.Ahead.TheVariants.New, declared.table.Ahead.TheVariants.Esc}
 use Rattle.csicodec_spans.specs.{declared.table.Ahead.TheVariants.Csi, declared.table.Ahead.TheVariants.Unsure, Table.Answer, Table.More, Table.Anew}
 use Rattle.csicodec_spans.specs.{Table.ahead, Private.TableBy.kind_in, Private.TableBy.stays, Private.TableBy.look, Private.TableBy.meant}
-use Rattle.csicodec_spans.proofs.{Fronts.Sound, Agrees.found, Agrees.sound, Agrees.Agrees, Agrees.agrees, AsOne.one_alone, Spanned.join_cuts, Spanned.one_span}
+use Rattle.csicodec_spans.proofs.{Agrees.Sound, Agrees.found, Agrees.sound, Agrees.Agrees, Agrees.agrees, Once.one_alone, Missed.join_cuts, Missed.one_span}
 use Rattle.std.specs.Simd.Lanes.{Each1, mask_l, top}
 use lib.Count.{count_trailing_zeros}
-use Rattle.csicodec_spans.specs.declared.table.Mode.TheVariants as mode
-use Rattle.csicodec_spans.specs.declared.table.Kind.TheVariants as kind
+use Rattle.csicodec_tokens.proofs.Beginnings.{fault_more, fault_within}
 
 -- each byte by itself
 abbrev pub singles : Kind → List ℕ → List Part
@@ -129,10 +129,6 @@ some_more m bytes f is (inr h) = subst IsMore (sym (found m bytes (Ends h.0) (is
 
 -- ---- bytes before the first ESC, found many at once
 
-below : (b : Bool) (k x y : ℕ) → k < x → k < y → k < cond b x y
-below true k x y h i = h
-below false k x y h i = i
-
 other_one : (a b : Bool) → not a ≡ true → (a || b) ≡ true → b ≡ true
 other_one true b off h = cc
 other_one false b off h = h
@@ -147,7 +143,7 @@ lanes_before m w xs z f few long fits lanes all k before within =
     let mask : mask_l (map (top 7) z) % 2 ^ 64 ≡ mask_l (map met xs) =
     ap (λ l. mask_l l % 2 ^ 64) (ap (map (top 7)) lanes ∙ map-map (top 7) f xs)
     ∙ mask_l-mod (map met xs) 64 (omega (arith, length-map xs met, long, few)) in
-    let first = below (eqb (mask_l (map met xs)) 0) k w _ within (rw mask at before) in
+    let first = cond_both (eqb (mask_l (map met xs)) 0) w _ (λ n. k < n) (λ _. within) (λ _. rw mask at before) in
     let passed = subst (λ n. k < n) (first_set_mask_l met xs w long (omega (arith, few))) first in
     let byte = (Each1-get_or (Fits w8) xs k 0 (omega (arith, long, within)) fits).fits in
     other_one (met (get_or xs k 0)) (stays m (get_or xs k 0)) (prefix_len_passes (λ x. not (met x)) xs k 0 passed)
@@ -179,32 +175,60 @@ lanes_stay m bytes w at near n few fit front lanes = stays_on m bytes at n front
 
 -- and in front
 pub near_stays : (bytes : List ℕ) (near n : ℕ) → n ≤ near → n ≤ 16
-    → ((k : ℕ) → k < near → k < 16 → stays mode.Text (get_or (take 16 bytes) k 0) ≡ true)
-    → (k : ℕ) → k < n → stays mode.Text (get_or bytes k 0) ≡ true
+    → ((k : ℕ) → k < near → k < 16 → stays Mode.Text (get_or (take 16 bytes) k 0) ≡ true)
+    → (k : ℕ) → k < n → stays Mode.Text (get_or bytes k 0) ≡ true
 near_stays bytes near n few fit lanes k within =
-    lanes_stay mode.Text bytes 16 0 near n few fit (λ i low. absurd (omega (arith, low))) lanes k (omega (arith, within))
+    lanes_stay Mode.Text bytes 16 0 near n few fit (λ i low. absurd (omega (arith, low))) lanes k (omega (arith, within))
 
 -- text in front
-pub text_front : (bytes : List ℕ) (n : ℕ) → ((k : ℕ) → k < n → stays mode.Text (get_or bytes k 0) ≡ true) → n ≤ length bytes → 0 < n → IsPlainFront bytes n
-text_front bytes n stay within some = (kind.Text, (λ e. absurd cc), λ limit. run_cut limit n mode.Text bytes stay within some)
+pub text_front : (bytes : List ℕ) (n : ℕ) → ((k : ℕ) → k < n → stays Mode.Text (get_or bytes k 0) ≡ true) → n ≤ length bytes → 0 < n → IsPlainFront bytes n
+text_front bytes n stay within some = (Kind.Text, (λ e. absurd cc), λ limit. run_cut limit n Mode.Text bytes stay within some)
 
 -- what is found where nothing is open, and is no control sequence
-pub plain_found : (bytes : List ℕ) (f : Ahead) (k : Kind) (n : ℕ) → look mode.Text bytes ≡ f → k ≢ kind.Csi →
-    IsTaken (meant mode.Text f) k n mode.Text → (0 < n) × (n ≤ length bytes) × IsPlainFront bytes n
+pub plain_found : (bytes : List ℕ) (f : Ahead) (k : Kind) (n : ℕ) → look Mode.Text bytes ≡ f → k ≢ Kind.Csi →
+    IsTaken (meant Mode.Text f) k n Mode.Text → (0 < n) × (n ≤ length bytes) × IsPlainFront bytes n
 plain_found bytes f k n is other e =
-    let (some, within) = taken_within mode.Text bytes f k n mode.Text is e in
-    (some, within, (k, other, λ limit. taken_cut limit mode.Text bytes f k n mode.Text is e))
+    let (some, within) = taken_within Mode.Text bytes f k n Mode.Text is e in
+    (some, within, (k, other, λ limit. taken_cut limit Mode.Text bytes f k n Mode.Text is e))
 
 -- neither
 abbrev pub IsNeither : Ahead → Type 0
 IsNeither f = ((n : ℕ) × (f ≡ Ends n)) ⊎ (((n : ℕ) × (a : Mode) × (f ≡ New n a)) ⊎ ((f ≡ Csi) ⊎ (f ≡ Unsure)))
 
-no_escape : (a : Mode) → kind_in a ≡ kind.Esc → ⊥
-no_escape mode.Text e = absurd cc
+no_escape : (a : Mode) → kind_in a ≡ Kind.Esc → ⊥
+no_escape Mode.Text e = absurd cc
 no_escape _ e = absurd cc
 
-pub none_plain : (bytes : List ℕ) (f : Ahead) → look mode.Text bytes ≡ f → IsNeither f → IsPlain (ahead mode.Text bytes) → ⊥
-none_plain bytes f is (inl (n, e)) plain = (subst (Agrees mode.Text bytes) (is ∙ e) (agrees mode.Text bytes)).ends refl
-none_plain bytes f is (inr (inl (n, a, e))) plain = no_escape a (subst IsPlain (found mode.Text bytes (New n a) (is ∙ e)) plain)
-none_plain bytes f is (inr (inr (inl e))) plain = subst IsPlain (found mode.Text bytes Csi (is ∙ e)) plain
-none_plain bytes f is (inr (inr (inr e))) plain = subst IsPlain (found mode.Text bytes Unsure (is ∙ e)) plain
+pub none_plain : (bytes : List ℕ) (f : Ahead) → look Mode.Text bytes ≡ f → IsNeither f → IsPlain (ahead Mode.Text bytes) → ⊥
+none_plain bytes f is (inl (n, e)) plain = (subst (Agrees Mode.Text bytes) (is ∙ e) (agrees Mode.Text bytes)).ends refl
+none_plain bytes f is (inr (inl (n, a, e))) plain = no_escape a (subst IsPlain (found Mode.Text bytes (New n a) (is ∙ e)) plain)
+none_plain bytes f is (inr (inr (inl e))) plain = subst IsPlain (found Mode.Text bytes Csi (is ∙ e)) plain
+none_plain bytes f is (inr (inr (inr e))) plain = subst IsPlain (found Mode.Text bytes Unsure (is ∙ e)) plain
+
+-- ---- From what the first bytes behind ESC and `[` are to what stands in front.
+
+-- the front of the bytes before the tail of some front
+front_is : (bytes front tail : List ℕ) (n : ℕ) → take n bytes ≡ front ++ tail → take (length (take n bytes) - length tail) bytes ≡ front
+front_is bytes front tail n e =
+    let whole : bytes ≡ front ++ (tail ++ drop n bytes) = sym (take-append-drop n bytes) ∙ ap (λ (t : List ℕ). t ++ drop n bytes) e ∙ append_assoc front tail (drop n bytes) in
+    let len : length (take n bytes) - length tail ≡ length front = omega (arith, ap length e, length-append front tail) in
+    ap (λ (k : ℕ). take k bytes) len ∙ ap (λ (t : List ℕ). take (length front) t) whole ∙ take-append_seam front (tail ++ drop n bytes)
+
+pub whole : (limit : ℕ) (bytes tail : List ℕ) (list : List CsiParam) (final : ℕ) → Reads (take limit bytes) list final tail → Seq (take (length (take limit bytes) - length tail) bytes) list final
+whole limit bytes tail list final r = rw (front_is bytes r.0 tail limit r.2) r.1
+
+pub short : (limit : ℕ) (bytes tail : List ℕ) → length (take (length (take limit bytes) - length tail) bytes) ≤ limit
+short limit bytes tail = omega (arith, length-take limit bytes, length-take (length (take limit bytes) - length tail) bytes)
+
+pub malformed : (limit at : ℕ) (bytes : List ℕ) (e : ReadError) → IsMetAt e at → FaultOf (take limit bytes) e
+    → (at ≤ length bytes) × IsMalformed limit bytes (length (take at bytes))
+malformed limit at bytes e is f =
+    let within = fault_within (take limit bytes) e at is f in
+    let low : at < limit = omega (arith, within, length-take limit bytes) in
+    let fits : at ≤ length bytes = omega (arith, within, length-take limit bytes) in
+    (fits, rw (length-take-le at bytes fits) (inl (e, subst (λ (t : List ℕ). FaultOf t e) (take-append-drop limit bytes) (fault_more (take limit bytes) (drop limit bytes) e at is f), is, low)))
+
+-- any refusal but out of memory is the fault of the bytes
+pub refused : (bytes : List ℕ) (room : ℕ) (e : ReadError) → e ≢ Memory → Refuses bytes room e → FaultOf bytes e
+refused bytes room Memory other r = absurd (other refl)
+refused bytes room _ other r = r

@@ -5,8 +5,6 @@ use Rattle.csicodec_tokens.specs.{declared.param.CsiParam.CsiParam, declared.rea
 use Rattle.csicodec_tokens.specs.{Fault.IsMetAt}
 use Rattle.csicodec_spans.specs.{declared.table.Kind.Kind, declared.table.Mode.Mode, Table.Answer, Table.More, Table.Anew, Table.Sequence, Table.Undecided}
 use Rattle.csicodec_spans.specs.{Table.ahead}
-use Rattle.csicodec_spans.specs.declared.table.Kind.TheVariants as kind
-use Rattle.csicodec_spans.specs.declared.table.Mode.TheVariants as mode
 
 -- some bytes and what they are: a whole control sequence or escape sequence, or a few bytes of text, of a string or of
 -- what went wrong
@@ -30,10 +28,10 @@ IsMalformed limit bytes n =
 
 -- where ESC and `[` stand in front: a whole sequence of at most `limit` bytes, or the beginning of one that goes wrong
 abbrev pub AllowsCsi : ℕ → List ℕ → Kind → List ℕ → Mode → Type 0
-AllowsCsi limit bytes kind.Csi text after = IsSequence text × (length text ≤ limit)
-    × (after ≡ mode.Text)
-AllowsCsi limit bytes kind.Other text after = IsMalformed limit bytes (length text)
-    × (after ≡ mode.BadCsi)
+AllowsCsi limit bytes Kind.Csi text after = IsSequence text × (length text ≤ limit)
+    × (after ≡ Mode.Text)
+AllowsCsi limit bytes Kind.Other text after = IsMalformed limit bytes (length text)
+    × (after ≡ Mode.BadCsi)
 AllowsCsi limit bytes _ text after = ⊥
 
 -- by the table's answer: a text of this kind in front of the bytes, and the mode behind it
@@ -80,11 +78,11 @@ pub record AreAll (kind : Kind) (text : List ℕ) (parts : List Part) : Type 0 w
 
 -- what a span is made of: one whole sequence, or parts of text, of a string or of what went wrong
 abbrev pub IsSpan : Kind → List ℕ → List Part → Type 0
-IsSpan kind.Csi text parts = parts ≡ part kind.Csi text ∷ []
-IsSpan kind.Esc text parts = parts ≡ part kind.Esc text ∷ []
-IsSpan kind.Text text parts = AreAll kind.Text text parts
-IsSpan kind.Str text parts = AreAll kind.Str text parts
-IsSpan kind.Other text parts = AreAll kind.Other text parts
+IsSpan Kind.Csi text parts = parts ≡ part Kind.Csi text ∷ []
+IsSpan Kind.Esc text parts = parts ≡ part Kind.Esc text ∷ []
+IsSpan Kind.Text text parts = AreAll Kind.Text text parts
+IsSpan Kind.Str text parts = AreAll Kind.Str text parts
+IsSpan Kind.Other text parts = AreAll Kind.Other text parts
 
 -- behind the parts before them, these are parts of one text, of one control string, or of one control that went wrong:
 -- wherever they are divided, more of what is open stands there
@@ -105,13 +103,13 @@ pub record Cuts (limit : ℕ) (m : Mode) (bytes : List ℕ) (kind : Kind) (text 
 -- where nothing is open: text, or a whole escape sequence
 abbrev pub IsPlain : Answer → Type 0
 IsPlain (More k n a) = Unit {0}
-IsPlain (Anew k n a) = k ≡ kind.Esc
+IsPlain (Anew k n a) = k ≡ Kind.Esc
 IsPlain _ = ⊥
 
 -- where nothing is open, the first n bytes are a span that is no control sequence, and nothing is open behind it
 abbrev pub IsPlainFront : List ℕ → ℕ → Type 0
-IsPlainFront bytes n = (k : Kind) × (k ≢ kind.Csi)
-    × ((limit : ℕ) → Cuts limit mode.Text bytes k (take n bytes) (drop n bytes) mode.Text)
+IsPlainFront bytes n = (k : Kind) × (k ≢ Kind.Csi)
+    × ((limit : ℕ) → Cuts limit Mode.Text bytes k (take n bytes) (drop n bytes) Mode.Text)
 
 -- behind these bytes, the text is a part of this kind
 pub record IsPartAt (parts : List Part) (before : List ℕ) (kind : Kind)
@@ -125,16 +123,16 @@ pub record IsPartAt (parts : List Part) (before : List ℕ) (kind : Kind)
 pub record EndsInQuote (parts : List Part) (before : List ℕ) : Type 0 where
   pub outside : List ℕ
   pub ends : before ≡ outside ++ 27 ∷ []
-  pub quote : IsPartAt parts outside kind.Str (27 ∷ 27 ∷ [])
+  pub quote : IsPartAt parts outside Kind.Str (27 ∷ 27 ∷ [])
 
 -- a span of this kind is as long as it can be: neither text nor what is open behind it goes on there
 abbrev pub IsMaximal : Kind → Mode → List ℕ → Type 0
-IsMaximal k after rest = (k ≡ kind.Text) ⊎ (after ≢ mode.Text) → ¬ IsMore (ahead after rest)
+IsMaximal k after rest = (k ≡ Kind.Text) ⊎ (after ≢ Mode.Text) → ¬ IsMore (ahead after rest)
 
 -- what is left where nothing follows
 abbrev pub left_over : List ℕ → List Part
 left_over [] = []
-left_over (b ∷ bytes) = part kind.Other (b ∷ bytes) ∷ []
+left_over (b ∷ bytes) = part Kind.Other (b ∷ bytes) ∷ []
 
 -- the bytes are parts, and then bytes of which nothing is sure, which have gone wrong by the end
 pub record IsWhole (limit : ℕ) (m : Mode) (bytes : List ℕ) (parts : List Part) : Type 0 where

@@ -53,8 +53,7 @@ pub(crate) fn staying(mode: Mode, bytes: &[u8]) -> usize
     match mode {
         Mode::Text => memchr(0x1b, bytes).unwrap_or(bytes.len()),
         Mode::Osc => staying_in_osc(bytes),
-        Mode::Dcs => memchr3(0x18, 0x1a, 0x1b, bytes).unwrap_or(bytes.len()),
-        Mode::Str => memchr3(0x18, 0x1a, 0x1b, bytes).unwrap_or(bytes.len()),
+        Mode::Dcs | Mode::Str => memchr3(0x18, 0x1a, 0x1b, bytes).unwrap_or(bytes.len()),
         Mode::BadCsi | Mode::BadEsc => staying_one_by_one(mode, bytes),
     }
 }

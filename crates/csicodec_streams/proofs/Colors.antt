@@ -1,9 +1,8 @@
 -- Colours with semicolons are read as the attributes that their normal forms are.
-use Rattle.std.proofs.Common.{◌≡◌, ℕ, zero, suc, ◌≤◌, ◌<◌, ◌+◌, ◌*◌, ◌-◌, ◌/◌, ◌%◌, pos, Bool, cond, w8, List, [], ◌∷◌, ◌++◌, false, Some, eqb, get_or, length, map, take, drop, refl, sym, ap, subst, ◌∙◌, append_assoc, append-nil, length-append, arith}
+use Rattle.std.proofs.Common.{◌≡◌, ℕ, zero, suc, ◌≤◌, ◌<◌, ◌+◌, ◌*◌, ◌-◌, ◌/◌, ◌%◌, pos, Bool, cond, w8, List, [], ◌∷◌, ◌++◌, false, Some, eqb, get_or, length, map, take, drop, refl, sym, ap, subst, ◌∙◌, append_assoc, append-nil, length-append, arith, rules, lt-ltb, ne_eqb, take-take, take_all, Option, None, replicate}
 use Rattle.std.proofs.{lemmas.Fmt.decimal_digit, lemmas.Fmt.digits_decimal, lemmas.Fmt.length-decimal-le, Math.Seq.take-append-add, Math.Seq.take-append_seam}
-use Rattle.std.proofs.{lemmas.Bool.lt-ltb, lemmas.Bool.ne_eqb, lemmas.Int.ints, lemmas.Simd.tops_compared, lemmas.List.map-append, lemmas.List.take-map}
-use Rattle.std.proofs.{lemmas.List.take-take, lemmas.List.take_all}
-use Rattle.std.specs.{Fmt.decimal, Prelude.Option, Prelude.None, Prelude.replicate, Simd.Lanes.sel_l, Simd.Lanes.top, Simd.Lanes.zip2}
+use Rattle.std.proofs.{lemmas.Int.ints, lemmas.Simd.tops_compared, lemmas.List.map-append, lemmas.List.take-map}
+use Rattle.std.specs.{Fmt.decimal, Simd.Lanes.sel_l, Simd.Lanes.top, Simd.Lanes.zip2}
 use Rattle.csicodec_tokens.specs.{declared.param.CsiParam.CsiParam, declared.param.CsiParam.TheVariants.Integer, declared.param.CsiParam.TheVariants.P}
 use Rattle.csicodec_tokens.specs.{Digits.AreDigits, Sequence.IsSpellable, Sequence.Reads, Sequence.Spellable, Sequence.Spells, Param.spells}
 use Rattle.csicodec_tokens.proofs.{Decimal.three_digits, Decimal.two_digits, Printed.printed}
@@ -14,7 +13,7 @@ use Rattle.csicodec_base.specs.{FrontBy.piece, Shapes.Back, Shapes.Front, Shapes
 use Rattle.csicodec_actions.specs.Actions.{Action, Sgr}
 use Rattle.csicodec_parser.proofs.Cuts.{actions_are}
 use Rattle.csicodec_parser.specs.{Private.Steps.actions, Segments.Actions}
-use Rattle.csicodec_streams.proofs.{Known.read_known, Known.read_one, Known.slice_from, Positions.own}
+use Rattle.csicodec_streams.proofs.OneReading.{seq_of, read_known, read_one, slice_from, own}
 use Rattle.csicodec_streams.specs.{Colors.IsColored, Colors.IsOpaque, Colors.color_list, Colors.plane_byte, Known.IsNormal, Private.Steps.IsColor}
 use Rattle.csicodec_streams.specs.{Private.Steps.IsPainted, Private.Steps.IsPart, Private.Steps.color_tokens, Private.Steps.styles, Private.Steps.with_colon}
 use Rattle.csicodec_base.specs.declared.sgr.Sgr as sgr_type
@@ -24,17 +23,14 @@ use Rattle.csicodec_base.specs.declared.sgr.Sgr as sgr_type
 pub part_one : (bytes rest : List ℕ) (a : ℕ) → a < 10 → bytes ≡ (48 + a) ∷ rest → IsPart bytes a rest
 part_one bytes rest a fa e = (e ∙ ap (λ (l : List ℕ). l ++ rest) (sym (decimal_digit a fa)), omega (arith, fa))
 
-pub part_two : (bytes mid rest : List ℕ) (a b : ℕ) → 0 < a → a < 10 → b < 10 → bytes ≡ (48 + a) ∷ mid → mid ≡ (48 + b) ∷ rest
-    → IsPart bytes (10 * a + b) rest
-part_two bytes mid rest a b some fa fb e f = go (10 * a + b) refl
-  where
-    go : (n : ℕ) → n ≡ 10 * a + b → IsPart bytes n rest
-    go n is =
-        let tens : a ≡ n / 10 = omega (arith, is, fa, fb) in
-        let ones : b ≡ n % 10 = omega (arith, is, fa, fb) in
-        let same : (48 + a) ∷ (48 + b) ∷ [] ≡ decimal n =
-        rw (tens, ones) (sym (two_digits n (omega (arith, is, some)) (omega (arith, is, fa, fb)))) in
-        (e ∙ ap (λ (l : List ℕ). (48 + a) ∷ l) f ∙ ap (λ (l : List ℕ). l ++ rest) same, omega (arith, is, fa, fb))
+pub part_two : (bytes mid rest : List ℕ) (a b n : ℕ) → 0 < a → a < 10 → b < 10 → bytes ≡ (48 + a) ∷ mid → mid ≡ (48 + b) ∷ rest
+    → n ≡ 10 * a + b → IsPart bytes n rest
+part_two bytes mid rest a b n some fa fb e f is =
+    let tens : a ≡ n / 10 = omega (arith, is, fa, fb) in
+    let ones : b ≡ n % 10 = omega (arith, is, fa, fb) in
+    let same : (48 + a) ∷ (48 + b) ∷ [] ≡ decimal n =
+    rw (tens, ones) (sym (two_digits n (omega (arith, is, some)) (omega (arith, is, fa, fb)))) in
+    (e ∙ ap (λ (l : List ℕ). (48 + a) ∷ l) f ∙ ap (λ (l : List ℕ). l ++ rest) same, omega (arith, is, fa, fb))
 
 pub part_three : (bytes mid last rest : List ℕ) (a b c n : ℕ) → 0 < a → a < 10 → b < 10 → c < 10 → bytes ≡ (48 + a) ∷ mid
     → mid ≡ (48 + b) ∷ last → last ≡ (48 + c) ∷ rest
@@ -90,30 +86,23 @@ mark_spellable : IsSpellable (P 59)
 mark_spellable = ((omega arith, omega arith), λ digit. omega (arith, digit))
 
 code_spellable : (plane : Plane) → IsSpellable (Integer (pos (code_of plane)))
-code_spellable Front = number_spellable 38 (omega arith)
-code_spellable Back = number_spellable 48 (omega arith)
-code_spellable Line = number_spellable 58 (omega arith)
-
-color_spellable : (color : ColorSpec) → IsOpaque color → Spellable (color_tokens color)
-color_spellable Default o = tt
-color_spellable (PaletteIndex i) fits = (number_spellable 5 (omega arith), tt, (mark_spellable, tt, (number_spellable i fits, tt, tt)))
-color_spellable (TrueColor c) (red, green, blue, opaque) = (
-  number_spellable 2 (omega arith),
-  tt,
-  (mark_spellable, tt, (number_spellable c.0 red, tt, (mark_spellable, tt, (number_spellable c.1 green, tt, (mark_spellable, tt, (number_spellable c.2 blue, tt, tt)))))),
-)
-
--- it is one piece
-color_piece : (plane : Plane) (color : ColorSpec) → IsOpaque color → piece (listed plane color) ≡ Some (painted plane color, 2 + length (color_tokens color))
-unfolding piece
-color_piece plane Default o = absurd o
-color_piece Front (PaletteIndex i) fits = rw (lt-ltb i 256 fits) refl
-color_piece _ (PaletteIndex i) fits = rw (lt-ltb i 256 fits) refl
-color_piece Front (TrueColor c) (red, green, blue, opaque) = rw (lt-ltb c.0 256 red, lt-ltb c.1 256 green, lt-ltb c.2 256 blue) (rw (← opaque) refl)
-color_piece _ (TrueColor c) (red, green, blue, opaque) = rw (lt-ltb c.0 256 red, lt-ltb c.1 256 green, lt-ltb c.2 256 blue) (rw (← opaque) refl)
+code_spellable plane = number_spellable (code_of plane) (elim plane as (λ p. code_of p < 256) [ Front ↦ omega arith | _ ↦ omega arith ])
 
 pub listed_spellable : (plane : Plane) (color : ColorSpec) → IsOpaque color → Spellable (listed plane color)
-listed_spellable plane color o = (code_spellable plane, tt, (mark_spellable, tt, color_spellable color o))
+listed_spellable plane Default o = absurd o
+listed_spellable plane (PaletteIndex i) fits = search (rules, code_spellable, number_spellable, mark_spellable)
+listed_spellable plane (TrueColor c) (red, green, blue, opaque) = search (rules, code_spellable, number_spellable, mark_spellable)
+
+-- it is one piece, whatever follows behind a `;`
+color_piece : (plane : Plane) (color : ColorSpec) (more : List CsiParam) → IsOpaque color
+    → let one : Option (sgr_type.Sgr × ℕ) = Some (painted plane color, 2 + length (color_tokens color)) in
+    (piece (listed plane color) ≡ one) × (piece (listed plane color ++ P 59 ∷ more) ≡ one)
+unfolding piece
+color_piece plane Default more o = absurd o
+color_piece Front (PaletteIndex i) more fits = rw (lt-ltb i 256 fits) (refl, refl)
+color_piece _ (PaletteIndex i) more fits = rw (lt-ltb i 256 fits) (refl, refl)
+color_piece Front (TrueColor c) more (red, green, blue, opaque) = rw (lt-ltb c.0 256 red, lt-ltb c.1 256 green, lt-ltb c.2 256 blue) (rw (← opaque) (refl, refl))
+color_piece _ (TrueColor c) more (red, green, blue, opaque) = rw (lt-ltb c.0 256 red, lt-ltb c.1 256 green, lt-ltb c.2 256 blue) (rw (← opaque) (refl, refl))
 
 code_text : (plane : Plane) → decimal (code_of plane) ≡ plane_byte plane ∷ 56 ∷ []
 code_text Front = two_digits 38 (omega arith) (omega arith)
@@ -138,17 +127,13 @@ listed_spelled plane color o = subst (λ (t : List ℕ). Spells t (listed plane 
 
 color_actions : (plane : Plane) (color : ColorSpec) (flag : Bool) → IsOpaque color → actions (listed plane color) flag 109 ≡ Sgr (painted plane color) ∷ []
 color_actions plane Default flag o = absurd o
-color_actions plane (PaletteIndex i) flag o = rw (color_piece plane (PaletteIndex i) o) refl
-color_actions plane (TrueColor c) flag o = rw (color_piece plane (TrueColor c) o) refl
+color_actions plane (PaletteIndex i) flag o = rw (color_piece plane (PaletteIndex i) [] o).0 refl
+color_actions plane (TrueColor c) flag o = rw (color_piece plane (TrueColor c) [] o).0 refl
 
-colors_mean : (plane : Plane) (color : ColorSpec) (flag : Bool) → IsOpaque color
+pub colors_mean : (plane : Plane) (color : ColorSpec) (flag : Bool) → IsOpaque color
     → Actions (listed plane color) flag 109 (Sgr (painted plane color) ∷ [])
 colors_mean plane color flag o = subst (λ (xs : List Action). Actions (listed plane color) flag 109 xs) (color_actions plane color flag o)
     (actions_are (listed plane color) flag 109)
-
-pub color_means : (plane : Plane) (color : ColorSpec) → IsOpaque color
-    → Actions (listed plane color) false 109 (Sgr (painted plane color) ∷ [])
-color_means plane color o = colors_mean plane color false o
 
 abbrev pub GivesStyles : List ℕ → List ℕ → sgr_type.Sgr → Option sgr_type.Sgr → Type 0
 GivesStyles bytes rest first second = (list : List CsiParam) × Reads bytes list 109 rest × ((flag : Bool) → Actions list flag 109 (styles first second))
@@ -159,50 +144,35 @@ color_read bytes rest sgr (plane, color, o, is, e) =
       listed plane color,
       (
         27 ∷ 91 ∷ (body ++ 109 ∷ []),
-        record {
-          spellable = listed_spellable plane color o;
-          ends = (omega arith, omega arith);
-          body = body;
-          spelled = listed_spelled plane color o;
-          whole = refl;
-        },
+        seq_of (listed plane color) 109 body (listed_spellable plane color o) (omega arith, omega arith) (listed_spelled plane color o),
         e ∙ ap (λ (l : List ℕ). 27 ∷ 91 ∷ plane_byte plane ∷ 56 ∷ 59 ∷ l) (sym (append_assoc (color_list color) (109 ∷ []) rest)),
       ),
       λ flag. subst (λ (s : sgr_type.Sgr). Actions (listed plane color) flag 109 (Sgr s ∷ [])) (sym is) (colors_mean plane color flag o),
     )
 
--- ---- two colours
+-- ---- two lists, and two colours
 
-spells_more : (list more : List CsiParam) (x y : List ℕ) → Spells x list → Spells y more → Spells (x ++ y) (list ++ more)
-spells_more [] more x y e h = rw e h
-spells_more (t ∷ ts) more x y (front, rest, e, s, o) h = (front, rest ++ y, ap (λ (l : List ℕ). l ++ y) e ∙ append_assoc front rest y, s, spells_more ts more rest y o h)
+pub spells-joined : (x y : List ℕ) (a b : List CsiParam) → Spells x a → Spells y b → Spells (x ++ 59 ∷ y) (a ++ P 59 ∷ b)
+spells-joined x y [] b h k = (59 ∷ [], y, ap (λ (l : List ℕ). l ++ 59 ∷ y) h, refl, k)
+spells-joined x y (t ∷ a) b h k =
+    (h.0, h.1 ++ 59 ∷ y, ap (λ (l : List ℕ). l ++ 59 ∷ y) h.2 ∙ append_assoc h.0 h.1 (59 ∷ y), h.3, spells-joined h.1 y a b h.4 k)
 
-spellable_more : (list more : List CsiParam) → Spellable list → Spellable more → Spellable (list ++ P 59 ∷ more)
-spellable_more [] more h g = (mark_spellable, tt, g)
-spellable_more (P b ∷ ts) more (s, a, h) g = (s, tt, spellable_more ts more h g)
-spellable_more (Integer z ∷ []) more (s, a, h) g = (s, tt, spellable_more [] more h g)
-spellable_more (Integer z ∷ P b ∷ ts) more (s, a, h) g = (s, tt, spellable_more (P b ∷ ts) more h g)
-spellable_more (Integer z ∷ Integer y ∷ ts) more (s, a, h) g = absurd a
-
--- whatever follows it
-first_piece : (plane : Plane) (color : ColorSpec) (more : List CsiParam) → IsOpaque color
-    → piece (listed plane color ++ P 59 ∷ more) ≡ Some (painted plane color, 2 + length (color_tokens color))
-unfolding piece
-first_piece plane Default more o = absurd o
-first_piece Front (PaletteIndex i) more fits = rw (lt-ltb i 256 fits) refl
-first_piece _ (PaletteIndex i) more fits = rw (lt-ltb i 256 fits) refl
-first_piece Front (TrueColor c) more (red, green, blue, opaque) = rw (lt-ltb c.0 256 red, lt-ltb c.1 256 green, lt-ltb c.2 256 blue) (rw (← opaque) refl)
-first_piece _ (TrueColor c) more (red, green, blue, opaque) = rw (lt-ltb c.0 256 red, lt-ltb c.1 256 green, lt-ltb c.2 256 blue) (rw (← opaque) refl)
+pub spellable-joined : (a b : List CsiParam) → Spellable a → Spellable b → Spellable (a ++ P 59 ∷ b)
+spellable-joined [] b h k = (mark_spellable, tt, k)
+spellable-joined (P c ∷ a) b h k = (h.0, tt, spellable-joined a b h.2 k)
+spellable-joined (Integer z ∷ []) b h k = (h.0, tt, spellable-joined [] b h.2 k)
+spellable-joined (Integer z ∷ P c ∷ a) b h k = (h.0, tt, spellable-joined (P c ∷ a) b h.2 k)
+spellable-joined (Integer z ∷ Integer y ∷ a) b h k = absurd h.1
 
 two_actions : (p q : Plane) (c d : ColorSpec) (flag : Bool) → IsOpaque c → IsOpaque d
     → actions (listed p c ++ P 59 ∷ listed q d) flag 109 ≡ Sgr (painted p c) ∷ Sgr (painted q d) ∷ []
 two_actions p q Default d flag o more = absurd o
 two_actions p q (PaletteIndex i) Default flag o more = absurd more
 two_actions p q (TrueColor c) Default flag o more = absurd more
-two_actions p q (PaletteIndex i) (PaletteIndex j) flag o more = rw (first_piece p (PaletteIndex i) (listed q (PaletteIndex j)) o, color_piece q (PaletteIndex j) more) refl
-two_actions p q (PaletteIndex i) (TrueColor d) flag o more = rw (first_piece p (PaletteIndex i) (listed q (TrueColor d)) o, color_piece q (TrueColor d) more) refl
-two_actions p q (TrueColor c) (PaletteIndex j) flag o more = rw (first_piece p (TrueColor c) (listed q (PaletteIndex j)) o, color_piece q (PaletteIndex j) more) refl
-two_actions p q (TrueColor c) (TrueColor d) flag o more = rw (first_piece p (TrueColor c) (listed q (TrueColor d)) o, color_piece q (TrueColor d) more) refl
+two_actions p q (PaletteIndex i) (PaletteIndex j) flag o more = rw ((color_piece p (PaletteIndex i) (listed q (PaletteIndex j)) o).1, (color_piece q (PaletteIndex j) [] more).0) refl
+two_actions p q (PaletteIndex i) (TrueColor d) flag o more = rw ((color_piece p (PaletteIndex i) (listed q (TrueColor d)) o).1, (color_piece q (TrueColor d) [] more).0) refl
+two_actions p q (TrueColor c) (PaletteIndex j) flag o more = rw ((color_piece p (TrueColor c) (listed q (PaletteIndex j)) o).1, (color_piece q (PaletteIndex j) [] more).0) refl
+two_actions p q (TrueColor c) (TrueColor d) flag o more = rw ((color_piece p (TrueColor c) (listed q (TrueColor d)) o).1, (color_piece q (TrueColor d) [] more).0) refl
 
 pub colors_read : (bytes behind mid more last rest : List ℕ) (first second : sgr_type.Sgr) →
     bytes ≡ 27 ∷ 91 ∷ behind → IsPainted behind first mid → mid ≡ 59 ∷ more →
@@ -219,13 +189,8 @@ colors_read bytes behind mid more last rest first second begins (p, c, o, is, e)
       list,
       (
         27 ∷ 91 ∷ (body ++ 109 ∷ []),
-        record {
-          spellable = spellable_more (listed p c) (listed q d) (listed_spellable p c o) (listed_spellable q d u);
-          ends = (omega arith, omega arith);
-          body = body;
-          spelled = spells_more (listed p c) (P 59 ∷ listed q d) x (59 ∷ y) (listed_spelled p c o) (59 ∷ [], y, refl, refl, listed_spelled q d u);
-          whole = refl;
-        },
+        seq_of list 109 body (spellable-joined (listed p c) (listed q d) (listed_spellable p c o) (listed_spellable q d u)) (omega arith, omega arith)
+            (spells-joined x y (listed p c) (listed q d) (listed_spelled p c o) (listed_spelled q d u)),
         begins ∙ ap (λ (l : List ℕ). 27 ∷ 91 ∷ l) all,
       ),
       λ flag. rw (is, same) (subst (λ (xs : List Action). Actions list flag 109 xs) (two_actions p q c d flag o u) (actions_are list flag 109)),

@@ -1,5 +1,2 @@
 pub mod OneReading
-pub mod Streamed
-pub mod Known
-pub mod Positions
 pub mod Colors

@@ -1,11 +1,9 @@
 -- What a table of sequences that came before holds.
-use Rattle.std.specs.{Prelude.ℕ, Prelude.◌≡◌, Prelude.◌<◌, Prelude.◌≤◌, Prelude.false, Prelude.List, Prelude.[], Prelude.◌∷◌, Prelude.Some, Prelude.length}
-use Rattle.std.specs.{Prelude.slice_get, Prelude.take, List.All}
+use Rattle.std.specs.Prelude.{ℕ, ◌≡◌, false, List, [], ◌∷◌}
 use Rattle.csicodec_tokens.specs.{declared.param.CsiParam.CsiParam, Sequence.Seq}
 use Rattle.csicodec_actions.specs.{Table.text, declared.cursor.Cursor.Cursor}
 use Rattle.csicodec_parser.specs.Segments.{Actions}
 use Rattle.csicodec_streams.specs.Decoding.{NormalisesTo}
-use Rattle.csicodec_transform.specs.declared.memo.Slot.{Slot}
 use Rattle.csicodec_actions.specs.Actions as action
 
 -- the bytes are one control sequence

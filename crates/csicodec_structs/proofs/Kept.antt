@@ -9,25 +9,16 @@ use Rattle.csicodec_actions.specs.{Actions.Action, declared.device.DeviceAttribu
 use Rattle.csicodec_actions.specs.{declared.mode.DecPrivateMode.DecPrivateMode, declared.mode.TerminalMode.TerminalMode, declared.mouse.MouseButton.MouseButton}
 use Rattle.csicodec_actions.specs.{Written.AllGood, Written.GoodAttribute, Written.Attribute, Written.listed, Kinds.GoodDec, Kinds.GoodItem, Kinds.GoodTerminal}
 use Rattle.csicodec_actions.specs.{Kinds.IsOneBased, Kinds.Count, Kinds.Kind, Kinds.Last, Modes.dec_number, Modes.terminal_number, Mouse.is_release}
-use Rattle.csicodec_actions.specs.{Table.Mouse.written_report}
+use Rattle.csicodec_actions.specs.{Table.Mouse.written_report, declared.cursor.Cursor.Cursor, declared.keyboard.Keyboard.Keyboard, declared.mode.Mode.Mode}
+use Rattle.csicodec_actions.specs.{declared.window.Window.Window, declared.mouse.MouseReport.MouseReport}
 use Rattle.csicodec_names.specs.declared.flags.Modifiers.{Modifiers}
 use Rattle.csicodec_parser.specs.{Canonical.Canonical, Segments.Actions}
-use Rattle.csicodec.proofs.{Kept.Kept, Parsed.parsed-kept, Twins.IsParsedSpecial}
+use Rattle.csicodec.proofs.{Kept.Kept, Kept.IsParsedSpecial, Parsed.parsed-kept}
 use Rattle.csicodec_structs.proofs.ModeNumbers.{dec-fits, terminal-fits}
-use Rattle.csicodec_structs.specs.Values.{AttributeInRange, IsNamedAttribute, IsNamedDec, IsNamedItem, IsNamedTerminal, TokenInRange}
-use Rattle.csicodec_structs.specs.{Ranges.InRange, Named.IsNamed}
-use Rattle.csicodec_base.specs.declared.sgr.Font.TheVariants as font
-use Rattle.csicodec_base.specs.declared.sgr.Sgr.TheVariants as sgr
-use Rattle.csicodec_actions.specs.declared.cursor.Cursor.TheVariants as cursor
-use Rattle.csicodec_actions.specs.declared.keyboard.Keyboard.TheVariants as keyboard
-use Rattle.csicodec_actions.specs.declared.mode.Mode.TheVariants as mode
-use Rattle.csicodec_actions.specs.declared.window.Window.TheVariants as window
+use Rattle.csicodec_structs.specs.Structs.{AttributeInRange, IsNamedAttribute, IsNamedDec, IsNamedItem, IsNamedTerminal, TokenInRange}
+use Rattle.csicodec_structs.specs.Rows.{InRange, IsNamed}
+use Rattle.csicodec_base.specs.{declared.sgr.Font.Font, declared.sgr.Sgr.Sgr}
 use Rattle.csicodec_actions.specs.Actions as action
-use Rattle.csicodec_actions.specs.declared.device.DeviceAttribute.TheVariants as attribute
-use Rattle.csicodec_actions.specs.declared.xtsmgraphics.XtSmGraphicsItem.TheVariants as item
-use Rattle.csicodec_actions.specs.declared.mode.DecPrivateMode.TheVariants as dec
-use Rattle.csicodec_actions.specs.declared.mode.TerminalMode.TheVariants as terminal
-use Rattle.csicodec_actions.specs.declared.mouse.MouseReport.TheVariants as mouse
 use Rattle.csicodec_actions.specs.Devices as device
 use Rattle.csicodec_actions.specs.Ranges as actions_ranges
 
@@ -42,12 +33,12 @@ margins k a b true e h =
 margins k a b false e h = h refl
 
 dec-kept : (m : DecPrivateMode) → GoodDec m → (dec_number m < 65536) × IsNamedDec m
-dec-kept (dec.Code c) h = (dec-fits c, tt)
-dec-kept (dec.Unspecified n) h = (h.fits, h.own)
+dec-kept (DecPrivateMode.Code c) h = (dec-fits c, tt)
+dec-kept (DecPrivateMode.Unspecified n) h = (h.fits, h.own)
 
 terminal-kept : (m : TerminalMode) → GoodTerminal m → (terminal_number m < 65536) × IsNamedTerminal m
-terminal-kept (terminal.Code c) h = (terminal-fits c, tt)
-terminal-kept (terminal.Unspecified n) h = (h.fits, h.own)
+terminal-kept (TerminalMode.Code c) h = (terminal-fits c, tt)
+terminal-kept (TerminalMode.Unspecified n) h = (h.fits, h.own)
 
 words : (b : MouseButton) (m : Modifiers) (x y : ℕ) → AllGood (written_report b m x y).items → (x < 65536) × (y < 65536)
 words b m x y h = elim (cases_Bool (is_release b)) [
@@ -64,9 +55,9 @@ tokens-range [] h = tt
 tokens-range (t ∷ list) h = (token-range t h.0, tokens-range list h.2)
 
 attribute-kept : (a : DeviceAttribute) → GoodAttribute a → AttributeInRange a × IsNamedAttribute a
-attribute-kept (attribute.Code c) h = (tt, tt)
-attribute-kept (attribute.Unspecified (Integer z)) h = (tt, h.1)
-attribute-kept (attribute.Unspecified (P b)) h = (token-range (P b) h.0, tt)
+attribute-kept (DeviceAttribute.Code c) h = (tt, tt)
+attribute-kept (DeviceAttribute.Unspecified (Integer z)) h = (tt, h.1)
+attribute-kept (DeviceAttribute.Unspecified (P b)) h = (token-range (P b) h.0, tt)
 
 attributes-good : (list : List DeviceAttribute) → AllGood (listed Attribute list) → AllByRecursion GoodAttribute list
 attributes-good [] h = tt
@@ -78,31 +69,31 @@ attributes-kept list h =
     (All-weaker GoodAttribute AttributeInRange (λ a g. (attribute-kept a g).0) list good, All-weaker GoodAttribute IsNamedAttribute (λ a g. (attribute-kept a g).1) list good)
 
 item-kept : (i : XtSmGraphicsItem) → GoodItem i → IsNamedItem i
-item-kept (item.Unspecified z) h = h.1
+item-kept (XtSmGraphicsItem.Unspecified z) h = h.1
 item-kept other h = tt
 
 canonical-kept : (a : Action) → actions_ranges.InRange a → Canonical a false → InRange a × IsNamed a
-canonical-kept (action.Sgr (sgr.Font font.Default)) range h = (tt, tt)
-canonical-kept (action.Sgr (sgr.Font (font.Alternate n))) range h = (h, tt)
+canonical-kept (action.Sgr (Sgr.Font Font.Default)) range h = (tt, tt)
+canonical-kept (action.Sgr (Sgr.Font (Font.Alternate n))) range h = (h, tt)
 canonical-kept (action.Sgr s) range h = (range, tt)
-canonical-kept (action.Cursor (cursor.SetTopAndBottomMargins a b)) range h = (margins Last a b (a == 1 && b == most) refl (λ e. let g = rw e at h.0 in (g.0, g.1.0)), tt)
-canonical-kept (action.Cursor (cursor.SetLeftAndRightMargins a b)) range h = (margins Count a b (a == 1 && b == most) refl (λ e. let g = rw e at h.0 in (g.0, g.1.0)), tt)
-canonical-kept (action.Cursor (cursor.Up n)) range h = (h.0.0.fits, tt)
+canonical-kept (action.Cursor (Cursor.SetTopAndBottomMargins a b)) range h = (margins Last a b (a == 1 && b == most) refl (λ e. let g = rw e at h.0 in (g.0, g.1.0)), tt)
+canonical-kept (action.Cursor (Cursor.SetLeftAndRightMargins a b)) range h = (margins Count a b (a == 1 && b == most) refl (λ e. let g = rw e at h.0 in (g.0, g.1.0)), tt)
+canonical-kept (action.Cursor (Cursor.Up n)) range h = (h.0.0.fits, tt)
 canonical-kept (action.Cursor c) range h = (search rules, tt)
 canonical-kept (action.Edit e) range h = (search rules, tt)
-canonical-kept (action.Mode (mode.SetDecPrivateMode m)) range h = dec-kept m h.0.0
+canonical-kept (action.Mode (Mode.SetDecPrivateMode m)) range h = dec-kept m h.0.0
 canonical-kept (action.Mode m) range h = search (rules, dec-kept, terminal-kept)
-canonical-kept (action.Mouse (mouse.SGR1006 x y b m)) range h = (words b m x y h.0, tt)
-canonical-kept (action.Mouse (mouse.SGR1016 x y b m)) range h = (words b m x y h.0, tt)
+canonical-kept (action.Mouse (MouseReport.SGR1006 x y b m)) range h = (words b m x y h.0, tt)
+canonical-kept (action.Mouse (MouseReport.SGR1016 x y b m)) range h = (words b m x y h.0, tt)
 canonical-kept (action.Device (device.DeviceAttributes (device.Vt220 list))) range h = attributes-kept list h.0.1
 canonical-kept (action.Device (device.DeviceAttributes (device.Vt320 list))) range h = attributes-kept list h.0.1
 canonical-kept (action.Device (device.DeviceAttributes (device.Vt420 list))) range h = attributes-kept list h.0.1
 canonical-kept (action.Device (device.XtSmGraphics item action_or_status value)) range h = (tt, item-kept item h.0.0)
-canonical-kept (action.Window (window.ChecksumRectangularArea request page top left bottom right)) range h = (
+canonical-kept (action.Window (Window.ChecksumRectangularArea request page top left bottom right)) range h = (
   (h.0.1.1.0, h.0.1.1.1.0, h.0.1.1.1.1.0, h.0.1.1.1.1.1.0),
   tt,
 )
-canonical-kept (action.Keyboard (keyboard.SetKittyState flags way)) range h = (omega (arith, h.0.0), tt)
+canonical-kept (action.Keyboard (Keyboard.SetKittyState flags way)) range h = (omega (arith, h.0.0), tt)
 canonical-kept (action.Keyboard k) range h = (search (rules, arith), tt)
 canonical-kept (action.Unspecified params flag final) range h = ((All-from_recursion TokenInRange params (tokens-range params h.spellable), low_scalar final (omega (arith, h.ends.1))), h.same_flag)
 canonical-kept other range h = (tt, tt)

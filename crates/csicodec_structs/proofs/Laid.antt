@@ -4,7 +4,7 @@ use Rattle.std.proofs.{lemmas.List.flat_map_more, lemmas.List.take_more, lemmas.
 use Rattle.std.specs.List.{slice_get}
 use Rattle.csicodec_actions.specs.Actions.{Action}
 use Rattle.csicodec_structs.specs.{declared.lay.Counts.Counts, declared.structs.Param.Param, declared.structs.Struct.Struct, Next.Lays, Next.all_params}
-use Rattle.csicodec_structs.specs.{Next.structs, Private.Fronts.PutsBehind, Room.laid, Rows.params_of, Rows.struct_of}
+use Rattle.csicodec_structs.specs.{Next.structs, Private.Steps.PutsBehind, Room.laid, Rows.params_of, Rows.struct_of}
 
 -- ---- items
 

@@ -8,11 +8,9 @@ use Rattle.csicodec_names.specs.{ModeNumbers.dec_mode_number, ModeNumbers.dec_co
 use Rattle.csicodec_names.specs.{Numbered.with_number, declared.modes.DecPrivateModeCode.DecPrivateModeCode, declared.modes.TerminalModeCode.TerminalModeCode}
 use Rattle.csicodec_actions.specs.{declared.mode.DecPrivateMode.DecPrivateMode, declared.mode.TerminalMode.TerminalMode, Kinds.Dec, Kinds.Terminal}
 use Rattle.csicodec_actions.specs.{Kinds.code_or, Kinds.read, Kinds.short, Modes.dec_number, Modes.terminal_number}
-use Rattle.csicodec_structs.specs.{Private.Candidates.Reads, Private.Candidates.ReadsNamed, Values.IsNamedDec, Values.IsNamedTerminal}
+use Rattle.csicodec_structs.specs.{Private.Steps.Reads, Private.Steps.ReadsNamed, Structs.IsNamedDec, Structs.IsNamedTerminal}
 use Rattle.csicodec_actions.proofs.Values.{dec-numbered, read-good, terminal-numbered}
 use Rattle.csicodec_structs.proofs.OneValue.{none-has}
-use Rattle.csicodec_actions.specs.declared.mode.DecPrivateMode.TheVariants as dec
-use Rattle.csicodec_actions.specs.declared.mode.TerminalMode.TheVariants as terminal
 
 -- a number of 16 bits is itself
 short-reads : (z : ℤ) → Reads (λ n. n) (FitsUnsignedBits 16) z (short z)
@@ -43,12 +41,12 @@ terminal-fits c = omega (arith, small terminal_mode_number terminal_codes termin
 
 dec-reads : (z : ℤ) → ReadsNamed dec_number IsNamedDec (FitsUnsignedBits 16) z (read Dec z)
 unfolding read
-dec-reads z = code-reads dec_mode_number dec_codes decs (λ c. dec.Code c) (λ n. dec.Unspecified n) dec_number IsNamedDec z (λ c. refl) (λ n. refl) dec-fits (λ c. tt) (λ n h. h)
+dec-reads z = code-reads dec_mode_number dec_codes decs (λ c. DecPrivateMode.Code c) (λ n. DecPrivateMode.Unspecified n) dec_number IsNamedDec z (λ c. refl) (λ n. refl) dec-fits (λ c. tt) (λ n h. h)
 
 terminal-reads : (z : ℤ) → ReadsNamed terminal_number IsNamedTerminal (FitsUnsignedBits 16) z (read Terminal z)
 unfolding read
 terminal-reads z =
-    code-reads terminal_mode_number terminal_codes terminals (λ c. terminal.Code c) (λ n. terminal.Unspecified n) terminal_number IsNamedTerminal z
+    code-reads terminal_mode_number terminal_codes terminals (λ c. TerminalMode.Code c) (λ n. TerminalMode.Unspecified n) terminal_number IsNamedTerminal z
     (λ c. refl) (λ n. refl) terminal-fits (λ c. tt) (λ n h. h)
 
 -- so of a number as it is passed
@@ -60,12 +58,12 @@ terminal_reads z o fits is = rw (is, to_z-of_z w64 z fits) (terminal-reads z)
 
 -- a mode by its name is read back from its number
 pub dec-back : (m : DecPrivateMode) → IsNamedDec m → dec_number m < 65536 → read Dec (pos (dec_number m)) ≡ Some m
-dec-back (dec.Code c) h low = read-good Dec (dec.Code c) tt
-dec-back (dec.Unspecified n) h low = read-good Dec (dec.Unspecified n) (record { fits = low; own = h })
+dec-back (DecPrivateMode.Code c) h low = read-good Dec (DecPrivateMode.Code c) tt
+dec-back (DecPrivateMode.Unspecified n) h low = read-good Dec (DecPrivateMode.Unspecified n) (record { fits = low; own = h })
 
 pub terminal-back : (m : TerminalMode) → IsNamedTerminal m → terminal_number m < 65536 → read Terminal (pos (terminal_number m)) ≡ Some m
-terminal-back (terminal.Code c) h low = read-good Terminal (terminal.Code c) tt
-terminal-back (terminal.Unspecified n) h low = read-good Terminal (terminal.Unspecified n) (record { fits = low; own = h })
+terminal-back (TerminalMode.Code c) h low = read-good Terminal (TerminalMode.Code c) tt
+terminal-back (TerminalMode.Unspecified n) h low = read-good Terminal (TerminalMode.Unspecified n) (record { fits = low; own = h })
 
 -- any mode has its like by its name
 pub dec-named : (m : DecPrivateMode) → dec_number m < 65536 → (one : DecPrivateMode) × IsNamedDec one × (dec_number one ≡ dec_number m)

@@ -2,8 +2,7 @@
 use Rattle.std.proofs.Common.{◌≡◌, ℕ, suc, List, [], ◌∷◌, Option, None, Some, length, map, refl, sym, ap, ◌∙◌, pos, inl, inr, arith}
 use Rattle.std.proofs.{lemmas.Bool.cases_Bool, lemmas.Bool.eq-eqb, lemmas.Bool.false≢true, lemmas.List.Elements.All-cons, lemmas.List.Elements.All-nil}
 use Rattle.std.proofs.{lemmas.List.Elements.recursion_from_All}
-use Rattle.std.specs.{Prelude.ℤ, Prelude.Bool, Prelude.true, Prelude.false, Prelude.nat_abs, Prelude.◌==◌, Prelude.◌||◌, Prelude.if◌then◌else◌, List.All}
-use Rattle.std.specs.{List.AllByRecursion}
+use Rattle.std.specs.{Prelude.ℤ, Prelude.false, Prelude.nat_abs, Prelude.◌==◌, Prelude.◌||◌, Prelude.if◌then◌else◌, List.All, List.AllByRecursion}
 use Rattle.csicodec_tokens.specs.{declared.param.CsiParam.CsiParam, declared.param.CsiParam.TheVariants.Integer, declared.param.CsiParam.TheVariants.P}
 use Rattle.csicodec_names.proofs.Coded.{Coded, attributes, is_number-pos, listed-number, none-found}
 use Rattle.csicodec_names.specs.{DeviceNumbers.device_attribute_codes, DeviceNumbers.device_attribute_number, Numbered.is_number, Numbered.with_number}
@@ -11,9 +10,9 @@ use Rattle.csicodec_names.specs.{declared.color.ColorSpec.ColorSpec, declared.de
 use Rattle.csicodec_base.specs.declared.sgr.Font.{Font}
 use Rattle.csicodec_actions.specs.{Devices.attribute_of, Devices.attribute_token, Devices.code_or_token, XtSmGraphics.item_number, XtSmGraphics.item_of}
 use Rattle.csicodec_actions.specs.{declared.device.DeviceAttribute.DeviceAttribute, declared.xtsmgraphics.XtSmGraphicsItem.XtSmGraphicsItem, Actions.Action}
-use Rattle.csicodec_structs.specs.{Values.AttributeInRange, Values.HasText, Values.IsNamedAttribute, Values.IsNamedItem, declared.structs.Param.Param}
-use Rattle.csicodec_structs.specs.{declared.structs.Struct.Struct, Named.IsNamed, Structs.attribute_param, Structs.flag_number, Structs.font_number}
-use Rattle.csicodec_structs.specs.{Structs.param_of, Structs.value_param, Private.Candidates.unless, Ranges.InRange, Rows.params_of, Rows.struct_of}
+use Rattle.csicodec_structs.specs.Structs.{AttributeInRange, HasText, IsNamedAttribute, IsNamedItem, attribute_param, font_number, param_of, value_param}
+use Rattle.csicodec_structs.specs.{declared.structs.Param.Param, declared.structs.Struct.Struct, Rows.IsNamed, Rows.InRange, Rows.params_of, Rows.struct_of}
+use Rattle.csicodec_structs.specs.{Private.Steps.unless}
 use Rattle.csicodec_names.specs.declared.color.ColorSpec.TheVariants as color
 use Rattle.csicodec_base.specs.declared.sgr.Font.TheVariants as font
 use Rattle.csicodec_actions.specs.declared.device.DeviceAttribute.TheVariants as attribute
@@ -23,13 +22,6 @@ not-number : (k : ℕ) (z : ℤ) → (z ≡ pos k → ⊥) → is_number k z ≡
 not-number k z other = elim (cases_Bool (is_number k z)) [ inl here ↦ absurd (other (is_number-pos k z here)) | inr none ↦ none ]
 
 -- ---- numbers
-
-abbrev pub flag_at : ℤ → Bool
-flag_at z = is_number 1 z
-
-pub flag-back : (v : Bool) → flag_at (pos (flag_number v)) ≡ v
-flag-back true = refl
-flag-back false = refl
 
 abbrev pub first_at : Struct → Option ℤ
 first_at given = unless (given.absent == 1 || given.absent == 3) given.first

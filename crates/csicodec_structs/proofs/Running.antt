@@ -5,12 +5,11 @@ use Rattle.csicodec_actions.specs.{Actions.Action, Table.text}
 use Rattle.csicodec_parser.specs.{declared.parser.ActionRef.ActionRef, Progress.ActionsOf, Progress.HasEnded, Progress.Progress, Progress.begun}
 use Rattle.csicodec_parser.specs.{Next.AnswersRef, Next.IsRef, Next.NextsRef, declared.actions.CSI.CSI, declared.parser.ActionRef.TheVariants.Small}
 use Rattle.csicodec_parser.specs.{ActionOf.action_of, Segments.Actions}
-use Rattle.csicodec_structs.specs.Private.Fronts.{lent}
+use Rattle.csicodec_structs.specs.Private.Steps.{lent}
 use Rattle.csicodec_structs.proofs.Laid.{take_got}
 use Rattle.std.specs.Prelude.{slice_get}
 use Rattle.csicodec_tokens.specs.{declared.param.CsiParam.CsiParam, Sequence.Reads}
 use Rattle.csicodec_streams.specs.Decoding.{NormalisesTo}
-use Rattle.csicodec_parser.specs.declared.parser.ActionRef.TheVariants as refs
 
 pub same_list : (old new : Progress) (all : List Action) → new.list ≡ old.list → new.flag ≡ old.flag → new.final ≡ old.final → ActionsOf new all → ActionsOf old all
 same_list old new all l f c h = rw (← l, ← f, ← c) h
@@ -40,7 +39,7 @@ given_all old new answer P some nexts is going of held =
 
 -- the one that lends its tokens so
 pub lent_is : (r : ActionRef) (final : ℕ) (a : Action) → IsRef r false final a → a ≡ lent r final
-lent_is (refs.Small csi) final a is = is
+lent_is (ActionRef.Small csi) final a is = is
 lent_is other final a is = is
 
 -- ---- the one action of a list, and its text

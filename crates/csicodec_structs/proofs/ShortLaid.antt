@@ -14,12 +14,10 @@ use Rattle.csicodec_parser.proofs.Fronts.{front_empty, front_stuck}
 use Rattle.csicodec.proofs.RowGroups.{whole-group}
 use Rattle.csicodec_structs.specs.Rows.{cursor_struct, edit_struct, mode_struct, params_of, sgr_struct, struct_of}
 use Rattle.csicodec_structs.specs.Private.Short.{AreStyles, HasLaid, HasOne, IsRow, ReadsOn, change_final, style_struct}
-use Rattle.csicodec_structs.specs.{Next.IsDone, Next.IsRefused, Next.Lays, Next.all_params, Next.structs, Private.Fronts.PutsBehind, Private.Fronts.done}
+use Rattle.csicodec_structs.specs.{Next.IsDone, Next.IsRefused, Next.Lays, Next.all_params, Next.structs, Private.Steps.PutsBehind, Private.Steps.done}
 use Rattle.csicodec_structs.specs.{Room.laid, declared.next.NextSequence.NextSequence, declared.structs.Param.Param, declared.structs.Struct.Struct}
 use Rattle.csicodec_structs.specs.{declared.attributes.AttributeParts.AttributeParts}
 use Rattle.csicodec_structs.proofs.{Fronts.front_answer, Laid.laid_none, Laid.lays_more, Laid.lays_none, Styled.one_token, Styled.read_whole}
-use Rattle.csicodec_actions.specs.declared.mode.Change.TheVariants as change
-use Rattle.csicodec_actions.specs.declared.mode.DecPrivateMode.TheVariants as dec
 use Rattle.csicodec_actions.specs.Actions as action
 
 -- ---- rows
@@ -37,15 +35,15 @@ unfolding whole unboxed
 edit_row list final d given none edits made = whole_row list final (action.Edit d) given (rw (none, edits) refl) made refl
 
 changes : (c : Change) (z : ℤ) → (group (P 63 ∷ Integer z ∷ []) (change_final c) ≡ DecModes c) × IsFinal (change_final c)
-changes change.Set z = (refl, (omega arith, omega arith))
+changes Change.Set z = (refl, (omega arith, omega arith))
 changes other z = (refl, (omega arith, omega arith))
 
 -- a mode's struct has its number, by whatever name
-same_struct : (c : Change) (m : DecPrivateMode) (n : ℕ) → dec_number m ≡ n → mode_struct (changed c (dec.Unspecified n)) ≡ mode_struct (changed c m)
-same_struct change.Set m n is = rw is refl
+same_struct : (c : Change) (m : DecPrivateMode) (n : ℕ) → dec_number m ≡ n → mode_struct (changed c (DecPrivateMode.Unspecified n)) ≡ mode_struct (changed c m)
+same_struct Change.Set m n is = rw is refl
 same_struct other m n is = rw is refl
 
-pub mode_row : (n : ℕ) (c : Change) (given : Struct) → n < 65536 → given ≡ mode_struct (changed c (dec.Unspecified n)) → IsRow (P 63 ∷ Integer (pos n) ∷ []) (change_final c) given
+pub mode_row : (n : ℕ) (c : Change) (given : Struct) → n < 65536 → given ≡ mode_struct (changed c (DecPrivateMode.Unspecified n)) → IsRow (P 63 ∷ Integer (pos n) ∷ []) (change_final c) given
 mode_row n c given low made =
     let (m, found, is) = dec-numbered n low in
     let number = Integer (pos n) ∷ [] in (
@@ -71,6 +69,10 @@ none_read body = ([], inr (refl, refl), refl)
 
 pub one_read : (body behind : List ℕ) (n : ℕ) → IsFirstToken body (Integer (pos n)) behind → HasOne body n behind
 one_read body behind n first = (Integer (pos n) ∷ [], inl refl, one_token body behind (Integer (pos n)) first)
+
+pub pair_read : (body mid text rest : List ℕ) (a b : ℕ) → IsFirstToken body (Integer (pos a)) mid → IsFirstToken mid (P 59) text → IsFirstToken text (Integer (pos b)) rest
+    → ReadsOn body (Integer (pos a) ∷ P 59 ∷ Integer (pos b) ∷ []) rest
+pair_read body mid text rest a b first mark second = (mid, first, (text, mark, (rest, second, refl)))
 
 -- ---- what is put
 

@@ -4,7 +4,7 @@ use Rattle.std.proofs.lemmas.List.{flat_map_more, map-append, take_more}
 use Rattle.csicodec_parser.specs.{declared.actions.CSI.CSI, ActionOf.action_of}
 use Rattle.csicodec_actions.specs.{Actions.Action, Table.text}
 use Rattle.csicodec_structs.specs.{declared.encode.Encoded.Encoded, declared.structs.Param.Param, declared.structs.Struct.Struct, Encode.AllStand}
-use Rattle.csicodec_structs.specs.{Encode.IsDone, Encode.IsPut, Encode.OneAction, Encode.Stands, Private.Candidates.AreTexts, Named.IsNamed, Ranges.InRange}
+use Rattle.csicodec_structs.specs.{Encode.IsDone, Encode.IsPut, Encode.OneAction, Encode.Stands, Private.Steps.AreTexts, Rows.IsNamed, Rows.InRange}
 use Rattle.csicodec_structs.specs.{Rows.params_of, Rows.struct_of}
 use Rattle.csicodec_structs.proofs.OneAction.{action-named, same-action}
 

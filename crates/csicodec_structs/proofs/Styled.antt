@@ -7,17 +7,15 @@ use Rattle.csicodec_tokens.specs.{Digits.IsDigit, Sequence.IsBodyByte, Sequence.
 use Rattle.csicodec_tokens.proofs.Reading.{read_all, read_more, read_none}
 use Rattle.csicodec_names.specs.declared.color.ColorSpec.{ColorSpec}
 use Rattle.csicodec_base.specs.{declared.sgr.Sgr.Sgr, FrontBy.color_by, FrontBy.piece, Shapes.Plane, Shapes.color_shapes, Shapes.painted}
-use Rattle.csicodec_base.proofs.{CodePieces.paint, Table.is_piece}
+use Rattle.csicodec_base.proofs.Table.{paint, is_piece}
 use Rattle.csicodec_parser.specs.{Cut.semicolon, Groups.has_odd, Segments.Actions, declared.group.Group.TheVariants.Styles}
-use Rattle.csicodec_parser.proofs.{Fronts.front_empty, Fronts.front_stuck, GroupOf.style-list}
+use Rattle.csicodec_parser.proofs.Fronts.{front_empty, front_stuck, style-list}
 use Rattle.csicodec.specs.Compose.{EndsInSemicolon}
 use Rattle.csicodec.proofs.Compose.{ends-joined, ends-part, plain-joint, sgr_compose_lem}
 use Rattle.csicodec_structs.specs.Private.Short.{AreStyles, HasStyles, IsMark, IsOne, IsPainted, IsRow, ReadsOn, SetsAlone, style_struct, nothing, plain}
 use Rattle.csicodec_structs.specs.{Rows.sgr_struct, Structs.color_row, declared.attributes.AttributeParts.AttributeParts, declared.structs.Struct.Struct}
 use Rattle.csicodec_structs.specs.{declared.by_number.StyleRow.StyleRow, declared.by_number.TheConstants.STYLES}
 use Rattle.csicodec_actions.specs.Actions.{Sgr as Styled}
-use Rattle.csicodec_names.specs.declared.color.ColorSpec.TheVariants as color
-use Rattle.csicodec_base.specs.declared.sgr.Sgr.TheVariants as sgr
 
 -- ---- tokens in turn
 
@@ -59,9 +57,9 @@ number_ends list n ends = alone (ends-part list [] ends.0 (Integer (pos n)) ends
 -- ---- colours
 
 pub palette : (kind mark : ℕ) (text parts behind : List ℕ) (way index : ℕ) (style : AttributeParts) → IsMark mark → way ≡ 5 → index < 256 → ReadsOn text (P mark ∷ Integer (pos way) ∷ []) parts
-    → ReadsOn parts (P mark ∷ Integer (pos index) ∷ []) behind → style_struct style ≡ color_row kind (color.PaletteIndex index) → IsPainted kind text style behind
+    → ReadsOn parts (P mark ∷ Integer (pos index) ∷ []) behind → style_struct style ≡ color_row kind (ColorSpec.PaletteIndex index) → IsPainted kind text style behind
 palette kind mark text parts behind way index style is five low k i same = record {
-  color = color.PaletteIndex index;
+  color = ColorSpec.PaletteIndex index;
   tokens = P mark ∷ Integer (pos 5) ∷ P mark ∷ Integer (pos index) ∷ [];
   reads = reads_then text parts behind (P mark ∷ Integer (pos 5) ∷ []) (P mark ∷ Integer (pos index) ∷ []) (rw five at k) i;
   gives = elim is [ inl colon ↦ rw (colon, lt-ltb index 256 low) refl | inr other ↦ rw (other, lt-ltb index 256 low) refl ];
@@ -73,12 +71,12 @@ palette kind mark text parts behind way index style is five low k i same = recor
 pub true_color : (kind mark : ℕ) (text parts one two behind : List ℕ) (way red green blue : ℕ) (style : AttributeParts) → IsMark mark → way ≡ 2 → red < 256 → green < 256 → blue < 256
     → ReadsOn text (P mark ∷ Integer (pos way) ∷ []) parts → ReadsOn parts (P mark ∷ Integer (pos red) ∷ []) one
     → ReadsOn one (P mark ∷ Integer (pos green) ∷ []) two → ReadsOn two (P mark ∷ Integer (pos blue) ∷ []) behind
-    → style_struct style ≡ color_row kind (color.TrueColor (record { 0 = red; 1 = green; 2 = blue; 3 = 255 })) → IsPainted kind text style behind
+    → style_struct style ≡ color_row kind (ColorSpec.TrueColor (record { 0 = red; 1 = green; 2 = blue; 3 = 255 })) → IsPainted kind text style behind
 true_color kind mark text parts one two behind way red green blue style is two_parts r g b k rs gs bs same =
     let last = P mark ∷ Integer (pos blue) ∷ [] in
     let more = P mark ∷ Integer (pos green) ∷ last in
     record {
-      color = color.TrueColor (record { 0 = red; 1 = green; 2 = blue; 3 = 255 });
+      color = ColorSpec.TrueColor (record { 0 = red; 1 = green; 2 = blue; 3 = 255 });
       tokens = P mark ∷ Integer (pos 2) ∷ P mark ∷ Integer (pos red) ∷ more;
       reads =
           reads_then text parts behind (P mark ∷ Integer (pos 2) ∷ []) (P mark ∷ Integer (pos red) ∷ more) (rw two_parts at k)
@@ -134,7 +132,7 @@ alone_style text behind n style first (s, gives, same) = one_style text behind n
 pub alone_row : (n : ℕ) (style : AttributeParts) (list : List CsiParam) → SetsAlone n style → IsOne n list → IsRow list 109 (style_struct style)
 unfolding piece
 alone_row n style list (s, gives, same) (inl one) = rw one (Styled s, one_cut (Integer (pos n) ∷ []) s refl (omega arith) gives, same, refl)
-alone_row n style list (s, gives, same) (inr (is, none)) = rw none (Styled sgr.Reset, refl, same ∙ ap sgr_struct (sym (some_pair_parts _ _ _ _ (rw is at gives)).0), refl)
+alone_row n style list (s, gives, same) (inr (is, none)) = rw none (Styled Sgr.Reset, refl, same ∙ ap sgr_struct (sym (some_pair_parts _ _ _ _ (rw is at gives)).0), refl)
 
 -- ---- attributes in turn
 

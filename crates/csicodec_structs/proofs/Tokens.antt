@@ -4,7 +4,7 @@ use Rattle.std.proofs.{lemmas.List.get_or-map, lemmas.List.length-map, lemmas.Li
 use Rattle.std.proofs.{lemmas.List.Elements.All-get_or, lemmas.List.Elements.All-push}
 use Rattle.std.specs.List.{All}
 use Rattle.csicodec_tokens.specs.declared.param.CsiParam.{CsiParam}
-use Rattle.csicodec_structs.specs.{declared.structs.Param.Param, Structs.param_of, Values.TokenInRange}
+use Rattle.csicodec_structs.specs.{declared.structs.Param.Param, Structs.param_of, Structs.TokenInRange}
 
 pub none_crosses : {A : Type 0} (crosses : A → Param) (InRange : A → Type 0) (params : List Param) (i : ℕ) (d : Param) → i < length params
     → ((a : A) → InRange a → crosses a ≡ slice_index_or params i d → ⊥) → (all : List A) → All InRange all → map crosses all ≡ params → ⊥

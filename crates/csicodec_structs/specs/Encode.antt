@@ -4,16 +4,14 @@ use Rattle.std.specs.{Prelude.drop, Prelude.take, Prelude.length, List.slice_get
 use Rattle.csicodec_actions.specs.{Actions.Action, Table.texts}
 use Rattle.csicodec_parser.specs.Canonical.{Canonical}
 use Rattle.csicodec_structs.specs.{declared.encode.Judged.Judged, declared.encode.Encoded.Encoded, declared.structs.Param.Param, declared.structs.Struct.Struct}
-use Rattle.csicodec_structs.specs.{Named.IsNamed, Ranges.InRange, Room.Fills, Rows.params_of, Rows.struct_of, Status.status_number}
-use Rattle.csicodec_structs.specs.{declared.status.Status.Status}
-use Rattle.csicodec_structs.specs.declared.status.Status.TheVariants as status
+use Rattle.csicodec_structs.specs.{Rows.IsNamed, Rows.InRange, Rows.params_of, Rows.struct_of, Room.Fills, Status.status_number, declared.status.Status.Status}
 
 abbrev pub refused : Status → ℕ → Encoded
 refused why at = record { status = status_number why; at = at; needed = 0 }
 
 -- the length of a text, which is put where it fits
 pub record IsPut (old new text : List ℕ) (answer : Encoded) : Type 0 where
-  pub ok : answer.status ≡ status_number status.Done
+  pub ok : answer.status ≡ status_number Status.Done
   pub needed : answer.needed ≡ length text
   pub fills : Fills old new text
 
@@ -61,8 +59,8 @@ pub record HasNone (structs : List Struct) (params : List Param) (at : ℕ) : Ty
 -- or a refusal, of memory or of a struct that stands for no action, and then nothing is put
 pub record IsRefused (structs : List Struct) (params : List Param) (old new : List ℕ)
     (answer : Encoded) : Type 0 where
-  pub status : (answer.status ≡ status_number status.Memory)
-      ⊎ ((answer.status ≡ status_number status.NoAction) × HasNone structs params answer.at)
+  pub status : (answer.status ≡ status_number Status.Memory)
+      ⊎ ((answer.status ≡ status_number Status.NoAction) × HasNone structs params answer.at)
   pub same : new ≡ old
 
 abbrev pub judgement : Status → ℕ → Judged
@@ -71,11 +69,11 @@ judgement why canonical = record { status = status_number why; canonical = canon
 -- whether the action that the struct stands for is read back from its text
 abbrev pub IsJudged : Struct → List Param → Judged → Type 0
 IsJudged given params answer = (a : Action) × Stands given params a
-    × (answer.status ≡ status_number status.Done) × (answer.canonical ≡ 1 ↔ Canonical a false)
+    × (answer.status ≡ status_number Status.Done) × (answer.canonical ≡ 1 ↔ Canonical a false)
     × (answer.canonical < 2)
 
 -- or why that isn't known: memory ran out, or the struct stands for no action
 abbrev pub IsUnjudged : Struct → List Param → Judged → Type 0
 IsUnjudged given params answer =
-    (answer ≡ judgement status.Memory 0)
-    ⊎ ((answer ≡ judgement status.NoAction 0) × StandsForNone given params)
+    (answer ≡ judgement Status.Memory 0)
+    ⊎ ((answer ≡ judgement Status.NoAction 0) × StandsForNone given params)

@@ -2,10 +2,7 @@ pub mod Status
 pub mod Normalise
 pub mod Room
 pub mod Structs
-pub mod Values
 pub mod Rows
 pub mod Next
 pub mod Encode
-pub mod Ranges
-pub mod Named
 pub mod Private

@@ -5,10 +5,8 @@ use Rattle.csicodec_tokens.specs.{declared.param.CsiParam.CsiParam, declared.rea
 use Rattle.csicodec_actions.specs.Actions.{Action}
 use Rattle.csicodec_parser.specs.Segments.{Actions}
 use Rattle.csicodec_structs.specs.{declared.lay.Counts.Counts, declared.next.NextSequence.NextSequence, declared.structs.Param.Param}
-use Rattle.csicodec_structs.specs.{declared.structs.Struct.Struct, Named.IsNamed, Ranges.InRange, Room.laid, Rows.params_of, Rows.struct_of, Status.fault_of}
+use Rattle.csicodec_structs.specs.{declared.structs.Struct.Struct, Rows.IsNamed, Rows.InRange, Rows.params_of, Rows.struct_of, Room.laid, Status.fault_of}
 use Rattle.csicodec_structs.specs.{Status.status_number, declared.status.Status.Status}
-use Rattle.csicodec_tokens.specs.declared.reader.ReadError.TheVariants as reading
-use Rattle.csicodec_structs.specs.declared.status.Status.TheVariants as status
 
 abbrev pub refused : Status → ℕ → NextSequence
 refused why at = record { status = status_number why; at = at; used = 0; actions = 0; params = 0 }
@@ -19,7 +17,7 @@ refusal error = refused (fault_of error).0 (fault_of error).1
 
 -- why bytes may be refused so: their own fault; out of memory only for a sequence
 abbrev pub IsWhy : List ℕ → ReadError → Type 0
-IsWhy bytes reading.Memory =
+IsWhy bytes ReadError.Memory =
     (list : List CsiParam) × (final : ℕ) × (rest : List ℕ) × Reads bytes list final rest
 IsWhy bytes error = FaultOf bytes error
 
@@ -53,7 +51,7 @@ pub record IsTaken (reading : Reading) (bytes : List ℕ) (actions_old actions_n
   pub actions : List Action
   pub reads : Reads bytes list final rest
   pub are : reading list false final actions
-  pub ok : answer.status ≡ status_number status.Done
+  pub ok : answer.status ≡ status_number Status.Done
   pub no_fault : answer.at ≡ 0
   pub used : answer.used + length rest ≡ length bytes
   pub lays : Lays actions_old actions_new params_old params_new (record { actions = answer.actions; params = answer.params }) actions
@@ -71,5 +69,5 @@ pub record IsRefused (bytes : List ℕ) (actions_old actions_new : List Struct)
   pub error : ReadError
   pub why : IsWhy bytes error
   pub tells : answer ≡ refusal error
-  pub actions_stay : error ≢ reading.Memory → actions_new ≡ actions_old
-  pub params_stay : error ≢ reading.Memory → params_new ≡ params_old
+  pub actions_stay : error ≢ ReadError.Memory → actions_new ≡ actions_old
+  pub params_stay : error ≢ ReadError.Memory → params_new ≡ params_old

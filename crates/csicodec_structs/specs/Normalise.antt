@@ -3,22 +3,20 @@ use Rattle.std.specs.Prelude.{ℕ, ◌≡◌, false, List, length}
 use Rattle.csicodec_streams.specs.{Decoding.NormalisesTo, Refusals.RefusesDecode}
 use Rattle.csicodec_transform.specs.declared.error.DecodeError.{DecodeError}
 use Rattle.csicodec_structs.specs.{declared.normalise.Normalised.Normalised, Room.Fills, Status.fault_of, Status.status_number, declared.status.Status.Status}
-use Rattle.csicodec_tokens.specs.declared.reader.ReadError.TheVariants as reading
-use Rattle.csicodec_transform.specs.declared.error.DecodeError.TheVariants as decoding
-use Rattle.csicodec_structs.specs.declared.status.Status.TheVariants as status
+use Rattle.csicodec_tokens.specs.declared.reader.ReadError.{ReadError}
 
 abbrev pub normalised : ℕ → Normalised
 normalised needed =
-    record { status = status_number status.Done; start = 0; at = 0; needed = needed }
+    record { status = status_number Status.Done; start = 0; at = 0; needed = needed }
 
 abbrev pub refused : Status → ℕ → ℕ → Normalised
 refused why start at = record { status = status_number why; start = start; at = at; needed = 0 }
 
 -- the answer of each refusal
 abbrev pub refusal : DecodeError → Normalised
-refusal (decoding.Read start reading.Memory) = refused status.Memory 0 0
-refusal (decoding.Read start error) = refused (fault_of error).0 start (fault_of error).1
-refusal decoding.Memory = refused status.Memory 0 0
+refusal (DecodeError.Read start ReadError.Memory) = refused Status.Memory 0 0
+refusal (DecodeError.Read start error) = refused (fault_of error).0 start (fault_of error).1
+refusal DecodeError.Memory = refused Status.Memory 0 0
 
 -- the length of the normal form, which is put where it fits
 pub record IsDone (bytes old new : List ℕ) (answer : Normalised) : Type 0 where

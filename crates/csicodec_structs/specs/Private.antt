@@ -1,4 +1,3 @@
 -- What private steps say of each other. No promise rests on these files.
-pub mod Candidates
-pub mod Fronts
 pub mod Short
+pub mod Steps

@@ -1,12 +1,14 @@
--- The struct of each action: a row for each kind. Written by tools/table.
-use Rattle.std.specs.Prelude.{ℕ, List, [], map, length, pos, Some}
+-- The struct of each action, and of an action that has a struct which one is in range and which one is meant. Written by tools/table.
+use Rattle.std.specs.{Prelude.ℕ, Prelude.◌≡◌, Prelude.◌<◌, Prelude.◌^◌, Prelude.List, Prelude.[], Prelude.map, Prelude.length, Prelude.false, Prelude.pos}
+use Rattle.std.specs.{Prelude.Some, Char.IsScalar, List.All}
 use Rattle.csicodec_names.specs.EnumNumbers.{cursor_style_number, erase_in_display_number, erase_in_line_number, tabulation_clear_number, tabulation_control_number}
 use Rattle.csicodec_names.specs.FlagBits.{kitty_bits}
 use Rattle.csicodec_base.specs.declared.sgr.Sgr.{Sgr}
 use Rattle.csicodec_actions.specs.{declared.cursor.Cursor.Cursor, declared.edit.Edit.Edit, declared.mode.Mode.Mode, declared.mouse.MouseReport.MouseReport}
 use Rattle.csicodec_actions.specs.{Devices.Device, declared.window.Window.Window, declared.keyboard.Keyboard.Keyboard, Actions.Action, XtSmGraphics.item_number}
-use Rattle.csicodec_actions.specs.{Kinds.kitty_mode_number, Kinds.path_number, Modes.dec_number, Modes.resource_number, Modes.terminal_number}
-use Rattle.csicodec_structs.specs.Structs.{align_number, area_row, attribute_param, blink_number, color_row, flag_number, font_number, intensity_number, list_row, param_of, report_row, row, sized_row, underline_number, unknown_row, value_param}
+use Rattle.csicodec_actions.specs.{Kinds.IsOneBased, Kinds.kitty_mode_number, Kinds.number, Kinds.path_number, Modes.dec_number, Modes.resource_number}
+use Rattle.csicodec_actions.specs.{Modes.terminal_number}
+use Rattle.csicodec_structs.specs.Structs.{AttributeInRange, HasText, IsNamedAttribute, IsNamedDec, IsNamedItem, IsNamedTerminal, TokenInRange, align_number, area_row, attribute_param, blink_number, color_row, flag_number, font_number, intensity_number, list_row, param_of, report_row, row, sized_row, underline_number, unknown_row, value_param}
 use Rattle.csicodec_structs.specs.{declared.structs.Param.Param, declared.structs.Struct.Struct}
 use Rattle.csicodec_base.specs.declared.sgr.Sgr.TheVariants as sgr
 use Rattle.csicodec_actions.specs.declared.cursor.Cursor.TheVariants as cursor
@@ -17,6 +19,9 @@ use Rattle.csicodec_actions.specs.Devices as device
 use Rattle.csicodec_actions.specs.declared.window.Window.TheVariants as window
 use Rattle.csicodec_actions.specs.declared.keyboard.Keyboard.TheVariants as keyboard
 use Rattle.csicodec_actions.specs.Actions as action
+use Rattle.csicodec_actions.specs.Ranges as typed
+
+-- ---- the struct of each action: a row for each kind
 
 abbrev pub sgr_struct : Sgr → Struct
 sgr_struct sgr.Reset = row 1 (pos 0) (pos 0)
@@ -182,3 +187,115 @@ struct_of place (action.Window w) = window_struct w
 struct_of place (action.Keyboard k) = keyboard_struct k
 struct_of place (action.SelectCharacterPath path effect) = row 801 (pos (path_number path)) effect
 struct_of place (action.Unspecified params flag final) = unknown_row final place (length params)
+
+-- ---- the actions that a struct can stand for: each number is one that its type lets stand, and a font has a text. What isn't listed is in range
+
+abbrev pub SgrInRange : Sgr → Type 0
+SgrInRange (sgr.Font v) = HasText v
+SgrInRange other = typed.SgrInRange other
+
+abbrev pub CursorInRange : Cursor → Type 0
+CursorInRange (cursor.Up n) = n < 2 ^ 32
+CursorInRange (cursor.Down n) = n < 2 ^ 32
+CursorInRange (cursor.Right n) = n < 2 ^ 32
+CursorInRange (cursor.Left n) = n < 2 ^ 32
+CursorInRange (cursor.NextLine n) = n < 2 ^ 32
+CursorInRange (cursor.PrecedingLine n) = n < 2 ^ 32
+CursorInRange (cursor.CharacterAbsolute n) = IsOneBased n
+CursorInRange (cursor.CharacterPositionAbsolute n) = IsOneBased n
+CursorInRange (cursor.Position line col) = IsOneBased line × IsOneBased col
+CursorInRange (cursor.ActivePositionReport line col) = IsOneBased line × IsOneBased col
+CursorInRange (cursor.CharacterAndLinePosition line col) = IsOneBased line × IsOneBased col
+CursorInRange (cursor.ForwardTabulation n) = n < 2 ^ 32
+CursorInRange (cursor.BackwardTabulation n) = n < 2 ^ 32
+CursorInRange (cursor.LineTabulation n) = n < 2 ^ 32
+CursorInRange (cursor.CharacterPositionForward n) = n < 2 ^ 32
+CursorInRange (cursor.CharacterPositionBackward n) = n < 2 ^ 32
+CursorInRange (cursor.LinePositionAbsolute n) = n < 2 ^ 32
+CursorInRange (cursor.LinePositionForward n) = n < 2 ^ 32
+CursorInRange (cursor.LinePositionBackward n) = n < 2 ^ 32
+CursorInRange (cursor.SetTopAndBottomMargins top bottom) = IsOneBased top × IsOneBased bottom
+CursorInRange (cursor.SetLeftAndRightMargins left right) = IsOneBased left × IsOneBased right
+CursorInRange other = Unit {0}
+
+abbrev pub EditInRange : Edit → Type 0
+EditInRange (edit.InsertCharacter n) = n < 2 ^ 32
+EditInRange (edit.InsertLine n) = n < 2 ^ 32
+EditInRange (edit.DeleteCharacter n) = n < 2 ^ 32
+EditInRange (edit.DeleteLine n) = n < 2 ^ 32
+EditInRange (edit.EraseCharacter n) = n < 2 ^ 32
+EditInRange (edit.ScrollUp n) = n < 2 ^ 32
+EditInRange (edit.ScrollDown n) = n < 2 ^ 32
+EditInRange (edit.Repeat n) = n < 2 ^ 32
+EditInRange other = Unit {0}
+
+abbrev pub ModeInRange : Mode → Type 0
+ModeInRange (mode.SetDecPrivateMode v) = dec_number v < 65536
+ModeInRange (mode.ResetDecPrivateMode v) = dec_number v < 65536
+ModeInRange (mode.SaveDecPrivateMode v) = dec_number v < 65536
+ModeInRange (mode.RestoreDecPrivateMode v) = dec_number v < 65536
+ModeInRange (mode.QueryDecPrivateMode v) = dec_number v < 65536
+ModeInRange (mode.SetMode v) = terminal_number v < 65536
+ModeInRange (mode.ResetMode v) = terminal_number v < 65536
+ModeInRange (mode.QueryMode v) = terminal_number v < 65536
+ModeInRange other = Unit {0}
+
+abbrev pub DeviceInRange : Device → Type 0
+DeviceInRange (device.DeviceAttributes (device.Vt220 list)) = All AttributeInRange list
+DeviceInRange (device.DeviceAttributes (device.Vt320 list)) = All AttributeInRange list
+DeviceInRange (device.DeviceAttributes (device.Vt420 list)) = All AttributeInRange list
+DeviceInRange other = Unit {0}
+
+abbrev pub MouseInRange : MouseReport → Type 0
+MouseInRange (mouse.SGR1006 x y button modifiers) = (x < 65536) × (y < 65536)
+MouseInRange (mouse.SGR1016 x_pixels y_pixels button modifiers) = (x_pixels < 65536) × (y_pixels < 65536)
+
+abbrev pub WindowInRange : Window → Type 0
+WindowInRange (window.ChecksumRectangularArea request_id page_number top left bottom right) = IsOneBased top × IsOneBased left × IsOneBased bottom × IsOneBased right
+WindowInRange other = Unit {0}
+
+abbrev pub KeyboardInRange : Keyboard → Type 0
+KeyboardInRange (keyboard.SetKittyState flags mode) = kitty_bits flags < 65536
+KeyboardInRange (keyboard.PushKittyState flags mode) = kitty_bits flags < 65536
+KeyboardInRange (keyboard.PopKittyState n) = n < 2 ^ 32
+KeyboardInRange (keyboard.ReportKittyState flags) = kitty_bits flags < 65536
+KeyboardInRange other = Unit {0}
+
+abbrev pub InRange : Action → Type 0
+InRange (action.Sgr a) = SgrInRange a
+InRange (action.Cursor a) = CursorInRange a
+InRange (action.Edit a) = EditInRange a
+InRange (action.Mode a) = ModeInRange a
+InRange (action.Device a) = DeviceInRange a
+InRange (action.Mouse a) = MouseInRange a
+InRange (action.Window a) = WindowInRange a
+InRange (action.Keyboard a) = KeyboardInRange a
+InRange (action.SelectCharacterPath path effect) = Unit {0}
+InRange (action.Unspecified params flag final) = All TokenInRange params × IsScalar final
+
+-- ---- which action is meant, of those that have one struct: a mode, an extension of a terminal and an item of graphics are by their
+-- names where they have one, and the flag of an unknown action isn't set. Any other action has no like
+
+abbrev pub IsNamedMode : Mode → Type 0
+IsNamedMode (mode.SetDecPrivateMode v) = IsNamedDec v
+IsNamedMode (mode.ResetDecPrivateMode v) = IsNamedDec v
+IsNamedMode (mode.SaveDecPrivateMode v) = IsNamedDec v
+IsNamedMode (mode.RestoreDecPrivateMode v) = IsNamedDec v
+IsNamedMode (mode.QueryDecPrivateMode v) = IsNamedDec v
+IsNamedMode (mode.SetMode v) = IsNamedTerminal v
+IsNamedMode (mode.ResetMode v) = IsNamedTerminal v
+IsNamedMode (mode.QueryMode v) = IsNamedTerminal v
+IsNamedMode other = Unit {0}
+
+abbrev pub IsNamedDevice : Device → Type 0
+IsNamedDevice (device.DeviceAttributes (device.Vt220 list)) = All IsNamedAttribute list
+IsNamedDevice (device.DeviceAttributes (device.Vt320 list)) = All IsNamedAttribute list
+IsNamedDevice (device.DeviceAttributes (device.Vt420 list)) = All IsNamedAttribute list
+IsNamedDevice (device.XtSmGraphics item action_or_status value) = IsNamedItem item
+IsNamedDevice other = Unit {0}
+
+abbrev pub IsNamed : Action → Type 0
+IsNamed (action.Mode a) = IsNamedMode a
+IsNamed (action.Device a) = IsNamedDevice a
+IsNamed (action.Unspecified params flag final) = flag ≡ false
+IsNamed other = Unit {0}

@@ -6,7 +6,7 @@ ghost use Rattle.csicodec_structs.specs.Room.{laid};
 
 use crate::by_number::{STYLES, StyleRow};
 use crate::digits::number_front;
-use crate::room::put;
+use crate::room::{Laid, put};
 use crate::structs::{Struct, row};
 
 /// The kind of the struct of a colour of the text.
@@ -146,27 +146,14 @@ fn color_front(kind: u8, text: &[u8]) -> Option<(AttributeParts, &[u8])>
 /// The attribute of a number in front that was read, and what is behind it: a colour of text, ground or underline, or one that its number
 /// sets alone.
 #[inline(always)]
-pub(crate) fn style_front<'a>(
-    text: &[u8],
-    number: u32,
-    behind: &'a [u8],
-) -> Option<(AttributeParts, &'a [u8])>
+fn style_front<'a>(text: &[u8], number: u32, behind: &'a [u8]) -> Option<(AttributeParts, &'a [u8])>
     requires { IsFirstToken text.now (Integer (pos number)) behind.now }
     ensures { IfSome result (λ x. AreStyles text.now (x.0 ∷ []) x.1.now) }
 {
     match number {
-        38 => {
-            let (style, behind) = color_front(TEXT, behind)?;
-            Some((style, behind))
-        }
-        48 => {
-            let (style, behind) = color_front(GROUND, behind)?;
-            Some((style, behind))
-        }
-        58 => {
-            let (style, behind) = color_front(LINE, behind)?;
-            Some((style, behind))
-        }
+        38 => color_front(TEXT, behind),
+        48 => color_front(GROUND, behind),
+        58 => color_front(LINE, behind),
         _ => Some((style_alone(number)?, behind)),
     }
 }
@@ -179,7 +166,7 @@ fn styles_front<'a>(
     body: &'a [u8],
     first: u32,
     behind: &'a [u8],
-) -> Option<(usize, &'a [u8])>
+) -> Laid<'a>
     requires { IsFirstToken body.now (Integer (pos first)) behind.now }
     ensures within { IfSome result (λ x. x.0 ≤ length room.new) }
     ensures are { IfSome result (λ x. AreStyles body.now (take x.0 room.new) (109 ∷ x.1.now)) }
@@ -209,7 +196,7 @@ fn styles_front<'a>(
 /// Puts attributes.
 #[inline(always)]
 #[tactic(auto, using(crate::proofs::Laid::laid_none))]
-fn put_styles(styles: &[AttributeParts], actions: &mut [Struct])
+pub(crate) fn put_styles(styles: &[AttributeParts], actions: &mut [Struct])
     ensures { actions.new ≡ laid actions.old (map style_struct styles.now) }
 {
     let mut place = 0;
@@ -226,7 +213,7 @@ pub(crate) fn lay_styles<'a>(
     first: u32,
     behind: &'a [u8],
     actions: &mut [Struct],
-) -> Option<(usize, &'a [u8])>
+) -> Laid<'a>
     requires { IsFirstToken body.now (Integer (pos first)) behind.now }
     ensures some { IfSome result (λ x. HasLaid body.now actions.old actions.new x.0 x.1.now) }
     ensures none { IfNone result (actions.new ≡ actions.old) }
@@ -235,25 +222,4 @@ pub(crate) fn lay_styles<'a>(
     let (count, after) = styles_front(&mut room, body, first, behind)?;
     put_styles(&room[..count], actions);
     Some((count, after))
-}
-
-/// Puts the attributes that two numbers before `m` set, each alone.
-#[inline(always)]
-pub(crate) fn lay_two_styles<'a>(
-    body: &[u8],
-    first: u32,
-    second: u32,
-    behind: &'a [u8],
-    actions: &mut [Struct],
-) -> Option<(usize, &'a [u8])>
-    requires { ReadsOn body.now (Integer (pos first) ∷ P 59 ∷ Integer (pos second) ∷ []) behind.now }
-    ensures some { IfSome result (λ x. HasLaid body.now actions.old actions.new x.0 x.1.now) }
-    ensures none { IfNone result (actions.new ≡ actions.old) }
-{
-    let [b'm', after @ ..] = behind else {
-        return None;
-    };
-    let styles = [style_alone(first)?, style_alone(second)?];
-    put_styles(&styles, actions);
-    Some((2, after))
 }

@@ -3,17 +3,16 @@ ghost use Rattle.std.specs.Prelude.{◌≡◌, ◌⊎◌, ◌↔◌, ◌<◌, Li
 ghost use Rattle.std.specs.List.{All};
 ghost use Rattle.csicodec_parser.specs.ActionOf.{action_of};
 ghost use Rattle.csicodec_structs.specs.Encode.{AllStand, HasNone, IsDone, IsPut, IsRefused, Stands, StandsForNone, refused, IsJudged, IsUnjudged, judgement};
-ghost use Rattle.csicodec_structs.specs.{Private.Candidates.AreTexts, Private.Candidates.IsExtended, Private.Candidates.IsGraphics, Private.Candidates.IsMade};
-ghost use Rattle.csicodec_structs.specs.{Private.Candidates.IsUnknown, Ranges.InRange, declared.structs.Param.Param, Structs.param_of, Values.TokenInRange};
+ghost use Rattle.csicodec_structs.specs.{Private.Steps.AreTexts, Private.Steps.IsExtended, Private.Steps.IsGraphics, Private.Steps.IsMade, Private.Steps.IsUnknown};
+ghost use Rattle.csicodec_structs.specs.{Rows.InRange, declared.structs.Param.Param, Structs.param_of, Structs.TokenInRange};
 ghost use Rattle.csicodec_actions.specs.{Table.text, Actions.Unspecified as Unknown};
 ghost use Rattle.csicodec_tokens.specs.declared.param.CsiParam.{CsiParam};
 
-use crate::candidates::{
-    UNSPECIFIED, VT220, VT320, VT420, XT_SM_GRAPHICS, candidate, small_candidate,
-};
 use crate::numbers::item;
 use crate::room::fill;
-use crate::rows::struct_of;
+use crate::rows::{
+    UNSPECIFIED, VT220, VT320, VT420, XT_SM_GRAPHICS, candidate, small_candidate, struct_of,
+};
 use crate::status::Status;
 use crate::structs::{Param, Struct, unknown_row};
 use crate::token::{Token, tokens};
@@ -160,11 +159,7 @@ pub(crate) fn action(
     let Some(csi) = made(alloc, given, items)? else {
         return Ok(None);
     };
-    if is_same(&struct_of(given.place, &csi), given) {
-        Ok(Some(csi))
-    } else {
-        Ok(None)
-    }
+    Ok(is_same(&struct_of(given.place, &csi), given).then_some(csi))
 }
 
 /// The actions that the structs stand for, or which of these stands for none.
@@ -227,8 +222,7 @@ fn short_of(given: &Struct) -> Option<Text>
     if !is_same(&struct_of(given.place, &csi), given) {
         return None;
     }
-    let text = short_text(&csi)?;
-    Some(text)
+    short_text(&csi)
 }
 
 /// Puts the texts of the actions that the structs stand for, where they fit.

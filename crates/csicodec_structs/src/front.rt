@@ -3,42 +3,41 @@ ghost use Rattle.std.specs.Prelude.{◌≡◌, ◌⊎◌, IfNone, IfSome, pos};
 ghost use Rattle.csicodec_tokens.specs.{declared.param.CsiParam.TheVariants.Integer, Private.Reading.IsFirstToken};
 ghost use Rattle.csicodec_structs.specs.{Next.IsDone, Next.IsRefused, Private.Short.HasLaid, Private.Short.HasOne};
 
-use crate::attributes::{behind_mark, lay_styles, lay_two_styles, style_alone, style_struct};
+use crate::attributes::{behind_mark, lay_styles, put_styles, style_alone, style_struct};
 use crate::digits::number_front;
-use crate::movement::{lay_mode, lay_row, lay_two};
+use crate::movement::{lay_mode, lay_row, moved_to};
 use crate::next::{NextSequence, done, lay_within, next_long, refused};
-use crate::room::put;
+use crate::room::{Laid, put};
+use crate::rows::cursor_struct;
 use crate::status::Status;
 use crate::structs::{Param, Struct};
 use std::alloc::Global;
 
 /// Puts what a number that was read and the next one, with a `;` between them, do before a final.
 #[inline(never)]
-fn lay_pair<'a>(
-    body: &'a [u8],
-    first: u32,
-    behind: &'a [u8],
-    actions: &mut [Struct],
-) -> Option<(usize, &'a [u8])>
+fn lay_pair<'a>(body: &'a [u8], first: u32, behind: &'a [u8], actions: &mut [Struct]) -> Laid<'a>
     requires { IsFirstToken body.now (Integer (pos first)) behind.now }
     ensures some { IfSome result (λ x. HasLaid body.now actions.old actions.new x.0 x.1.now) }
     ensures none { IfNone result (actions.new ≡ actions.old) }
 {
     let (second, rest) = number_front(behind_mark(b';', behind)?)?;
     match rest {
-        [b'm', ..] => lay_two_styles(body, first, second, rest, actions),
-        _ => lay_two(body, first, second, rest, actions),
+        [b'm', after @ ..] => {
+            put_styles(&[style_alone(first)?, style_alone(second)?], actions);
+            Some((2, after))
+        }
+        [control @ b'@'..=b'~', after @ ..] => {
+            let cursor = moved_to(first, second, *control)?;
+            put(actions, 0, cursor_struct(&cursor));
+            Some((1, after))
+        }
+        _ => None,
     }
 }
 
 /// Puts what the one number that was read, or none, does before a final.
 #[inline(always)]
-fn lay_one<'a>(
-    body: &'a [u8],
-    number: u32,
-    behind: &'a [u8],
-    actions: &mut [Struct],
-) -> Option<(usize, &'a [u8])>
+fn lay_one<'a>(body: &'a [u8], number: u32, behind: &'a [u8], actions: &mut [Struct]) -> Laid<'a>
     requires { HasOne body.now number behind.now }
     ensures some { IfSome result (λ x. HasLaid body.now actions.old actions.new x.0 x.1.now) }
     ensures none { IfNone result (actions.new ≡ actions.old) }
@@ -54,7 +53,7 @@ fn lay_one<'a>(
 /// Puts the actions of a short list in front, of what is behind ESC and `[`: how many they are, and what is behind it.
 #[inline(always)]
 #[tactic(auto, using(crate::proofs::ShortLaid::none_read, crate::proofs::ShortLaid::one_read))]
-fn lay_short<'a>(body: &'a [u8], actions: &mut [Struct]) -> Option<(usize, &'a [u8])>
+fn lay_short<'a>(body: &'a [u8], actions: &mut [Struct]) -> Laid<'a>
     ensures some { IfSome result (λ x. HasLaid body.now actions.old actions.new x.0 x.1.now) }
     ensures none { IfNone result (actions.new ≡ actions.old) }
 {

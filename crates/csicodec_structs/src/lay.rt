@@ -2,14 +2,13 @@
 ghost use Rattle.std.specs.Prelude.{◌≡◌, false, List, [], ◌++◌, ◌∷◌, length, unwrap_or, Some, IfSome};
 ghost use Rattle.csicodec_actions.specs.{Actions.Action, Actions.Unspecified as Unknown, Devices.device_of, Table.boxed};
 ghost use Rattle.csicodec_parser.specs.{ActionOf.action_of, Segments.Actions};
-ghost use Rattle.csicodec_structs.specs.{Private.Fronts.LaysBy, Private.Fronts.LaysOne, Private.Fronts.PutsBehind, Private.Fronts.headed, Private.Fronts.lent};
+ghost use Rattle.csicodec_structs.specs.{Private.Steps.LaysBy, Private.Steps.LaysOne, Private.Steps.PutsBehind, Private.Steps.headed, Private.Steps.lent};
 ghost use Rattle.csicodec_structs.specs.{Rows.device_params, Rows.params_of, Rows.struct_of, declared.structs.Param.Param};
 ghost use Rattle.csicodec_tokens.specs.declared.param.CsiParam.{CsiParam};
 
-use crate::candidates::{VT220, VT320, VT420, XT_SM_GRAPHICS};
 use crate::numbers::item_number;
 use crate::room::put;
-use crate::rows::{device_struct, struct_of, window_struct};
+use crate::rows::{VT220, VT320, VT420, XT_SM_GRAPHICS, device_struct, struct_of, window_struct};
 use crate::structs::{Param, Struct, list_row, unknown_row};
 use crate::token::{put_all, put_one};
 use csicodec::CsiParam::{Integer, P};

@@ -3,7 +3,6 @@
 
 mod attributes;
 mod by_number;
-mod candidates;
 mod digits;
 mod encode;
 mod front;

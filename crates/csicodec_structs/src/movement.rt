@@ -5,7 +5,7 @@ ghost use Rattle.csicodec_actions.specs.{Table.Cursor.as_cursor, Table.Edit.as_e
 ghost use Rattle.csicodec_structs.specs.Private.Short.{HasLaid, HasOne, IsOne, IsRow, IsTwo, ReadsOn, change_final};
 
 use crate::digits::{number_front, or_default};
-use crate::room::put;
+use crate::room::{Laid, put};
 use crate::rows::{cursor_struct, edit_struct, mode_struct};
 use crate::structs::Struct;
 use csicodec_actions::{Change, Cursor, DecPrivateMode, Edit};
@@ -43,7 +43,7 @@ fn moved_by(number: u32, control: u8) -> Option<Cursor>
 /// What moves the cursor by a line and a column before this final, or sets margins.
 #[inline(always)]
 #[tactic(auto, using(crate::proofs::Moved::paired))]
-fn moved_to(first: u32, second: u32, control: u8) -> Option<Cursor>
+pub(crate) fn moved_to(first: u32, second: u32, control: u8) -> Option<Cursor>
     ensures { IfSome result (λ c. (list : List CsiParam) → IsTwo first second list
         → as_cursor list control ≡ Some (Moves c)) }
 {
@@ -108,7 +108,7 @@ pub(crate) fn lay_row<'a>(
     number: u32,
     behind: &'a [u8],
     actions: &mut [Struct],
-) -> Option<(usize, &'a [u8])>
+) -> Laid<'a>
     requires { HasOne body.now number behind.now }
     ensures some { IfSome result (λ x. HasLaid body.now actions.old actions.new x.0 x.1.now) }
     ensures none { IfNone result (actions.new ≡ actions.old) }
@@ -119,39 +119,6 @@ pub(crate) fn lay_row<'a>(
     let given = one_row(number, *control)?;
     put(actions, 0, given);
     Some((1, after))
-}
-
-/// Puts what moves the cursor by the two numbers that were read.
-#[inline(always)]
-pub(crate) fn lay_two<'a>(
-    body: &[u8],
-    first: u32,
-    second: u32,
-    behind: &'a [u8],
-    actions: &mut [Struct],
-) -> Option<(usize, &'a [u8])>
-    requires { ReadsOn body.now (Integer (pos first) ∷ P 59 ∷ Integer (pos second) ∷ []) behind.now }
-    ensures some { IfSome result (λ x. HasLaid body.now actions.old actions.new x.0 x.1.now) }
-    ensures none { IfNone result (actions.new ≡ actions.old) }
-{
-    let [control @ b'@'..=b'~', after @ ..] = behind else {
-        return None;
-    };
-    let cursor = moved_to(first, second, *control)?;
-    put(actions, 0, cursor_struct(&cursor));
-    Some((1, after))
-}
-
-/// A `?` and the number of a mode in front, of 16 bits, and what is behind them.
-#[inline(always)]
-fn mode_front(text: &[u8]) -> Option<(u16, &[u8])>
-    ensures { IfSome result (λ x. ReadsOn text.now (P 63 ∷ Integer (pos x.0) ∷ []) x.1.now) }
-{
-    let [b'?', digits @ ..] = text else {
-        return None;
-    };
-    let (number, behind) = number_front(digits)?;
-    Some((u16::try_from(number).ok()?, behind))
 }
 
 /// What a final byte in front does to private modes, `h` or `l`, and what is behind it.
@@ -168,13 +135,17 @@ fn change_front(text: &[u8]) -> Option<(Change, &[u8])>
 
 /// Puts the change of one private mode: that it is one, and what is behind it. The struct has the mode's number, so its name isn't looked up.
 #[inline(always)]
-pub(crate) fn lay_mode<'a>(body: &'a [u8], actions: &mut [Struct]) -> Option<(usize, &'a [u8])>
+pub(crate) fn lay_mode<'a>(body: &'a [u8], actions: &mut [Struct]) -> Laid<'a>
     ensures some { IfSome result (λ x. HasLaid body.now actions.old actions.new x.0 x.1.now) }
     ensures none { IfNone result (actions.new ≡ actions.old) }
 {
-    let (number, behind) = mode_front(body)?;
+    let [b'?', digits @ ..] = body else {
+        return None;
+    };
+    let (number, behind) = number_front(digits)?;
+    let code = u16::try_from(number).ok()?;
     let (change, after) = change_front(behind)?;
-    let mode = change.of(DecPrivateMode::Unspecified(number));
+    let mode = change.of(DecPrivateMode::Unspecified(code));
     put(actions, 0, mode_struct(&mode));
     Some((1, after))
 }

@@ -1,7 +1,7 @@
 //! The sequence at the front of some bytes.
 ghost use Rattle.std.specs.Prelude.{◌≡◌, ◌⊎◌, IfSome, map};
 ghost use Rattle.csicodec_parser.specs.ActionOf.{action_of};
-ghost use Rattle.csicodec_structs.specs.{Private.Fronts.LaysBy, Private.Fronts.answered, Private.Fronts.done, Next.IsDone, Next.IsRefused, Next.IsTaken, Next.Lays};
+ghost use Rattle.csicodec_structs.specs.{Private.Steps.LaysBy, Private.Steps.answered, Private.Steps.done, Next.IsDone, Next.IsRefused, Next.IsTaken, Next.Lays};
 ghost use Rattle.csicodec_structs.specs.{Next.refusal, Next.refused};
 ghost use Rattle.csicodec_terminal.specs.Terminal.{Terminal};
 
@@ -145,8 +145,7 @@ fn lay_taken(
     ensures { IfSome result (LaysBy Terminal list.now control actions.old actions.new params.old params.new) }
 {
     let all = terminal_actions(alloc, list, false, control).ok()?;
-    let count = lay_all(&all, actions, params)?;
-    Some(count)
+    lay_all(&all, actions, params)
 }
 
 /// Puts the actions that terminals take the sequence at the front for, and their tokens, as many as there is room for.

@@ -67,17 +67,6 @@ fn refusal(error: DecodeError) -> Normalised
     }
 }
 
-/// The action, where it has no tokens that are lent.
-#[inline(always)]
-fn small(action: ActionRef<'_>) -> Option<CSI>
-    ensures { IfSome result (λ csi. action.entry ≡ Small csi) }
-{
-    match action {
-        ActionRef::Small(csi) => Some(csi),
-        _ => None,
-    }
-}
-
 /// The one action of a list, where it has no other and takes no memory.
 #[inline(always)]
 fn sole_action(alloc: Global, list: &[CsiParam], control: char) -> Option<CSI>
@@ -85,10 +74,9 @@ fn sole_action(alloc: Global, list: &[CsiParam], control: char) -> Option<CSI>
 {
     segmentation(list, false, control);
     let mut run = CSI::parse(alloc, list, false, control);
-    let Some(first) = run.next_ref() else {
+    let Some(ActionRef::Small(action)) = run.next_ref() else {
         return None;
     };
-    let action = small(first)?;
     match run.rest() {
         None => Some(action),
         Some(_) => None,

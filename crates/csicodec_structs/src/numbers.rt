@@ -4,9 +4,8 @@ ghost use Rattle.csicodec_names.specs.{FlagBits.kitty_bits, declared.color.Blink
 ghost use Rattle.csicodec_names.specs.{declared.color.VerticalAlign.VerticalAlign};
 ghost use Rattle.csicodec_actions.specs.{Devices.attribute_token, Kinds.IsOneBased, XtSmGraphics.item_number, Modes.dec_number, Modes.terminal_number};
 ghost use Rattle.csicodec_actions.specs.{declared.mouse.MouseButton.MouseButton, Ranges.ColorInRange};
-ghost use Rattle.csicodec_structs.specs.Private.Candidates.{IsPlace, IsTen, Reads, ReadsNamed, color_of, itself, unless};
-ghost use Rattle.csicodec_structs.specs.Structs.{align_number, blink_number, button_number, flag_number, font_number, intensity_number, underline_number};
-ghost use Rattle.csicodec_structs.specs.Values.{HasText, IsNamedDec, IsNamedItem, IsNamedTerminal};
+ghost use Rattle.csicodec_structs.specs.Structs.{align_number, blink_number, button_number, flag_number, font_number, intensity_number, underline_number, HasText, IsNamedDec, IsNamedItem, IsNamedTerminal};
+ghost use Rattle.csicodec_structs.specs.Private.Steps.{IsPlace, IsTen, Reads, ReadsNamed, color_of, itself, unless};
 
 use crate::structs::Struct;
 use bitflags::Flags;
@@ -15,6 +14,31 @@ use csicodec::{
     KittyKeyboardFlags, MouseButton, OneBased, SrgbaTuple, TerminalMode, Underline, VerticalAlign,
     XtSmGraphicsItem,
 };
+
+/// The variant of a number.
+macro_rules! variant_of {
+    ($value:ident $type:ident $($number:literal $name:ident),*) => {
+        match $value { $($number => Some($type::$name),)* _ => None }
+    };
+}
+
+/// The number of a variant.
+macro_rules! number_of {
+    ($value:ident $type:ident $($number:literal $name:ident),*) => {
+        match $value { $($type::$name => $number,)* }
+    };
+}
+
+/// The buttons of the mouse, and their numbers.
+macro_rules! buttons {
+    ($arms:ident $value:ident) => {
+        $arms! { $value MouseButton
+            0 None, 1 Button1Press, 2 Button2Press, 3 Button3Press, 4 Button4Press, 5 Button5Press, 6 Button6Press, 7 Button7Press,
+            11 Button1Release, 12 Button2Release, 13 Button3Release, 14 Button4Release, 15 Button5Release, 16 Button6Release, 17 Button7Release,
+            21 Button1Drag, 22 Button2Drag, 23 Button3Drag
+        }
+    };
+}
 
 pub(crate) fn font_number(font: Font) -> i64
     ensures { result ≡ pos (font_number font) }
@@ -28,26 +52,7 @@ pub(crate) fn font_number(font: Font) -> i64
 pub(crate) fn button_number(button: MouseButton) -> u8
     ensures { result ≡ button_number button }
 {
-    match button {
-        MouseButton::None => 0,
-        MouseButton::Button1Press => 1,
-        MouseButton::Button2Press => 2,
-        MouseButton::Button3Press => 3,
-        MouseButton::Button4Press => 4,
-        MouseButton::Button5Press => 5,
-        MouseButton::Button6Press => 6,
-        MouseButton::Button7Press => 7,
-        MouseButton::Button1Release => 11,
-        MouseButton::Button2Release => 12,
-        MouseButton::Button3Release => 13,
-        MouseButton::Button4Release => 14,
-        MouseButton::Button5Release => 15,
-        MouseButton::Button6Release => 16,
-        MouseButton::Button7Release => 17,
-        MouseButton::Button1Drag => 21,
-        MouseButton::Button2Drag => 22,
-        MouseButton::Button3Drag => 23,
-    }
+    buttons!(number_of button)
 }
 
 pub(crate) fn item_number(item: XtSmGraphicsItem) -> i64
@@ -188,74 +193,31 @@ pub(crate) fn font(given: &Struct) -> Option<Font>
 pub(crate) fn intensity(number: i64) -> Option<Intensity>
     ensures { (v : Intensity) → (result ≡ Some v) ↔ (number ≡ pos (intensity_number v)) }
 {
-    match number {
-        0 => Some(Intensity::Normal),
-        1 => Some(Intensity::Bold),
-        2 => Some(Intensity::Half),
-        _ => None,
-    }
+    variant_of!(number Intensity 0 Normal, 1 Bold, 2 Half)
 }
 
 pub(crate) fn underline(number: i64) -> Option<Underline>
     ensures { (v : Underline) → (result ≡ Some v) ↔ (number ≡ pos (underline_number v)) }
 {
-    match number {
-        0 => Some(Underline::None),
-        1 => Some(Underline::Single),
-        2 => Some(Underline::Double),
-        3 => Some(Underline::Curly),
-        4 => Some(Underline::Dotted),
-        5 => Some(Underline::Dashed),
-        _ => None,
-    }
+    variant_of!(number Underline 0 None, 1 Single, 2 Double, 3 Curly, 4 Dotted, 5 Dashed)
 }
 
 pub(crate) fn blink(number: i64) -> Option<Blink>
     ensures { (v : Blink) → (result ≡ Some v) ↔ (number ≡ pos (blink_number v)) }
 {
-    match number {
-        0 => Some(Blink::None),
-        1 => Some(Blink::Slow),
-        2 => Some(Blink::Rapid),
-        _ => None,
-    }
+    variant_of!(number Blink 0 None, 1 Slow, 2 Rapid)
 }
 
 pub(crate) fn align(number: i64) -> Option<VerticalAlign>
     ensures { (v : VerticalAlign) → (result ≡ Some v) ↔ (number ≡ pos (align_number v)) }
 {
-    match number {
-        0 => Some(VerticalAlign::BaseLine),
-        1 => Some(VerticalAlign::SuperScript),
-        2 => Some(VerticalAlign::SubScript),
-        _ => None,
-    }
+    variant_of!(number VerticalAlign 0 BaseLine, 1 SuperScript, 2 SubScript)
 }
 
 pub(crate) fn button(number: u8) -> Option<MouseButton>
     ensures { (v : MouseButton) → (result ≡ Some v) ↔ (number ≡ button_number v) }
 {
-    match number {
-        0 => Some(MouseButton::None),
-        1 => Some(MouseButton::Button1Press),
-        2 => Some(MouseButton::Button2Press),
-        3 => Some(MouseButton::Button3Press),
-        4 => Some(MouseButton::Button4Press),
-        5 => Some(MouseButton::Button5Press),
-        6 => Some(MouseButton::Button6Press),
-        7 => Some(MouseButton::Button7Press),
-        11 => Some(MouseButton::Button1Release),
-        12 => Some(MouseButton::Button2Release),
-        13 => Some(MouseButton::Button3Release),
-        14 => Some(MouseButton::Button4Release),
-        15 => Some(MouseButton::Button5Release),
-        16 => Some(MouseButton::Button6Release),
-        17 => Some(MouseButton::Button7Release),
-        21 => Some(MouseButton::Button1Drag),
-        22 => Some(MouseButton::Button2Drag),
-        23 => Some(MouseButton::Button3Drag),
-        _ => None,
-    }
+    buttons!(variant_of number)
 }
 
 /// The first number, as that of an item of graphics, by its name where it has one.

@@ -2,6 +2,9 @@
 ghost use Rattle.std.specs.Prelude.{◌≡◌, List, ◌++◌, [], ◌∷◌, length};
 ghost use Rattle.csicodec_structs.specs.Room.{Fills, laid};
 
+/// How many actions of a short sequence were put, and what is behind it.
+pub(crate) type Laid<'a> = Option<(usize, &'a [u8])>;
+
 /// Puts the items at the front, where they fit.
 pub fn fill<T: Copy>(room: &mut [T], items: &[T])
     ensures { Fills room.old room.new items.now }

@@ -1,39 +1,179 @@
-//! The struct of each action, subject by subject. Written by tools/table.
-ghost use Rattle.std.specs.Prelude.{◌≡◌};
+//! The struct of each action, subject by subject, and what a struct without tokens may stand for: a value with this struct is found
+//! wherever there is one, by its name. Of another struct nothing is promised: the caller sees whether what is found has it. Written by
+//! tools/table.
+ghost use Rattle.std.specs.Prelude.{◌≡◌, [], IfOk, IfSome};
+ghost use Rattle.std.specs.Option.{option_map};
 ghost use Rattle.csicodec_actions.specs.Devices.{device_of};
 ghost use Rattle.csicodec_parser.specs.ActionOf.{action_of};
-ghost use Rattle.csicodec_structs.specs.Rows.{cursor_struct, device_struct, edit_struct, keyboard_struct, mode_struct, mouse_struct, sgr_struct, struct_of, window_struct};
+ghost use Rattle.csicodec_structs.specs.Private.Steps.{Finds, HasNoList, IsBare, IsSmall};
+ghost use Rattle.csicodec_structs.specs.Rows.{CursorInRange, DeviceInRange, EditInRange, InRange, IsNamed, IsNamedDevice, IsNamedMode, KeyboardInRange, ModeInRange, MouseInRange, SgrInRange, WindowInRange, cursor_struct, device_params, device_struct, edit_struct, keyboard_struct, mode_struct, mouse_struct, params_of, sgr_struct, struct_of, window_struct};
 
-use crate::numbers::{font_number, item_number};
+use crate::numbers::{
+    align, blink, button, color, count, first, flag, flags, font, font_number, intensity,
+    item_number, place, private_mode, second, side, terminal_mode, underline, word,
+};
 use crate::structs::{
     Struct, color_row, flags_row, list_row, places_row, report_row, row, sized_row, unknown_row,
 };
 use bitflags::Flags;
 use csicodec::{
-    CSI, Cursor, Device, DeviceAttributes, Edit, Keyboard, Mode, MouseReport, Sgr, Window,
+    CSI, CharacterPath, Cursor, CursorStyle, CursorTabulationControl, Device, DeviceAttributes,
+    Edit, EraseInDisplay, EraseInLine, Keyboard, KittyKeyboardMode, Mode, Modifiers, MouseReport,
+    Sgr, TabulationClear, Window, XtermKeyModifierResource,
 };
+use std::alloc::{AllocError, Global};
+
+/// What none of the rules reads.
+pub(crate) const UNSPECIFIED: u32 = 0;
+/// `Vt220`.
+pub(crate) const VT220: u32 = 404;
+/// `Vt320`.
+pub(crate) const VT320: u32 = 405;
+/// `Vt420`.
+pub(crate) const VT420: u32 = 406;
+/// `XtSmGraphics`.
+pub(crate) const XT_SM_GRAPHICS: u32 = 414;
+
+/// The struct of a kind, by its number and what it says.
+macro_rules! kind_row {
+    ($number:literal) => { row($number, 0, 0) };
+    ($number:literal place $value:ident) => { row($number, i64::from($value.as_one_based()), 0) };
+    ($number:literal number $value:ident) => { row($number, *$value, 0) };
+    ($number:literal coded $value:ident) => { row($number, $value.to_i64(), 0) };
+    ($number:literal listed $value:ident) => { row($number, *$value as i64, 0) };
+    ($number:literal font $value:ident) => { row($number, font_number(*$value), 0) };
+    ($number:literal color $value:ident) => { color_row($number, $value) };
+    ($number:literal private_mode $value:ident) => { row($number, i64::from($value.number()), 0) };
+    ($number:literal terminal_mode $value:ident) => { row($number, i64::from($value.number()), 0) };
+    ($number:literal flags $value:ident) => { row($number, i64::from($value.bits()), 0) };
+    ($number:literal $form:ident $value:ident) => { row($number, i64::from(*$value), 0) };
+    ($number:literal places $a:ident $b:ident) => { places_row($number, *$a, *$b) };
+    ($number:literal numbers $a:ident $b:ident) => { row($number, *$a, *$b) };
+    ($number:literal sizes $a:ident $b:ident) => { sized_row($number, *$a, *$b) };
+    ($number:literal keys $a:ident $b:ident) => { sized_row($number, Some(i64::from($a.number())), *$b) };
+    ($number:literal state $a:ident $b:ident) => { row($number, i64::from($a.bits()), i64::from($b.number())) };
+    ($number:literal report $x:ident $y:ident $a:ident $b:ident) => { report_row($number, *$x, *$y, *$a, *$b) };
+    ($number:literal area $a:ident $b:ident $($side:ident)*) => { Struct { $($side: $side.as_one_based(),)* ..row($number, *$a, *$b) } };
+}
+
+/// What a struct says in a field, for a value of a kind.
+macro_rules! said {
+    ($given:ident place) => { place($given.first)? };
+    ($given:ident number) => { $given.first };
+    ($given:ident coded $type:ident) => { $type::from_i64($given.first)? };
+    ($given:ident listed $by:ident) => { $by($given.first)? };
+    ($given:ident $form:ident) => { $form($given)? };
+    ($given:ident places $at:ident) => { place($given.$at)? };
+    ($given:ident numbers $at:ident) => { $given.$at };
+    ($given:ident sizes $at:ident) => { $at($given) };
+    ($given:ident keys first) => { XtermKeyModifierResource::parse($given.first)? };
+    ($given:ident keys second) => { second($given) };
+    ($given:ident state first) => { flags($given)? };
+    ($given:ident state second) => { KittyKeyboardMode::from_i64($given.second)? };
+    ($given:ident report button) => { button($given.button)? };
+    ($given:ident report modifiers) => { Modifiers::from_bits_retain($given.modifiers) };
+    ($given:ident report $at:ident) => { word($given.$at)? };
+    ($given:ident area first) => { $given.first };
+    ($given:ident area second) => { $given.second };
+    ($given:ident area $side:ident) => { side($given.$side)? };
+}
+
+/// The struct of a value, whatever its kind.
+macro_rules! struct_of_value {
+    ($value:ident $type:ident $($number:literal $name:ident $(($form:ident $($of:ident)?))? $($fields:ident { $($field:ident: $at:ident),* })?,)*) => {
+        match $value {
+            $($type::$name $(($form))? $({ $($field),* })? => kind_row!($number $($form $form)? $($fields $($field)*)?),)*
+        }
+    };
+}
+
+/// What a struct may stand for, by its kind.
+macro_rules! value_of_struct {
+    ($given:ident $type:ident $($number:literal $name:ident $(($form:ident $($of:ident)?))? $($fields:ident { $($field:ident: $at:ident),* })?,)*) => {
+        match $given.kind {
+            $($number => Some($type::$name $((said!($given $form $($of)?)))? $({ $($field: said!($given $fields $at)),* })?),)*
+            _ => None,
+        }
+    };
+}
+
+/// The kinds of each subject: their numbers, and what they say.
+macro_rules! kinds {
+    (Sgr $arms:ident $value:ident) => {
+        $arms! { $value Sgr
+            1 Reset, 2 Intensity(listed intensity), 3 Underline(listed underline), 4 UnderlineColor(color), 5 Blink(listed blink),
+            6 Italic(flag), 7 Inverse(flag), 8 Invisible(flag), 9 StrikeThrough(flag), 10 Font(font), 11 Foreground(color),
+            12 Background(color), 13 Overline(flag), 14 VerticalAlign(listed align),
+        }
+    };
+    (Cursor $arms:ident $value:ident) => {
+        $arms! { $value Cursor
+            101 Up(count), 102 Down(count), 103 Right(count), 104 Left(count), 105 NextLine(count), 106 PrecedingLine(count),
+            107 CharacterAbsolute(place), 108 CharacterPositionAbsolute(place), 109 Position places { line: first, col: second },
+            110 ActivePositionReport places { line: first, col: second }, 111 CharacterAndLinePosition places { line: first, col: second },
+            112 ForwardTabulation(count), 113 BackwardTabulation(count), 114 LineTabulation(count), 115 CharacterPositionForward(count),
+            116 CharacterPositionBackward(count), 117 LinePositionAbsolute(count), 118 LinePositionForward(count),
+            119 LinePositionBackward(count), 120 TabulationControl(coded CursorTabulationControl), 121 TabulationClear(coded TabulationClear),
+            122 SetTopAndBottomMargins places { top: first, bottom: second },
+            123 SetLeftAndRightMargins places { left: first, right: second }, 124 SaveCursor, 125 RestoreCursor,
+            126 RequestActivePositionReport, 127 CursorStyle(coded CursorStyle),
+        }
+    };
+    (Edit $arms:ident $value:ident) => {
+        $arms! { $value Edit
+            201 InsertCharacter(count), 202 InsertLine(count), 203 DeleteCharacter(count), 204 DeleteLine(count), 205 EraseCharacter(count),
+            206 ScrollUp(count), 207 ScrollDown(count), 208 Repeat(count), 209 EraseInDisplay(coded EraseInDisplay),
+            210 EraseInLine(coded EraseInLine),
+        }
+    };
+    (Mode $arms:ident $value:ident) => {
+        $arms! { $value Mode
+            301 SetDecPrivateMode(private_mode), 302 ResetDecPrivateMode(private_mode), 303 SaveDecPrivateMode(private_mode),
+            304 RestoreDecPrivateMode(private_mode), 305 QueryDecPrivateMode(private_mode), 306 SetMode(terminal_mode),
+            307 ResetMode(terminal_mode), 308 QueryMode(terminal_mode), 309 XtermKeyMode keys { resource: first, value: second },
+        }
+    };
+    (MouseReport $arms:ident $value:ident) => {
+        $arms! { $value MouseReport
+            501 SGR1006 report { x: first, y: second, button: button, modifiers: modifiers },
+            502 SGR1016 report { x_pixels: first, y_pixels: second, button: button, modifiers: modifiers },
+        }
+    };
+    (Window $arms:ident $value:ident) => {
+        $arms! { $value Window
+            601 DeIconify, 602 Iconify, 603 MoveWindow numbers { x: first, y: second },
+            604 ResizeWindowPixels sizes { width: first, height: second }, 605 RaiseWindow, 606 LowerWindow,
+            607 ReportCellSizePixelsResponse sizes { width: first, height: second }, 608 RefreshWindow,
+            609 ResizeWindowCells sizes { width: first, height: second }, 610 RestoreMaximizedWindow, 611 MaximizeWindow,
+            612 MaximizeWindowVertically, 613 MaximizeWindowHorizontally, 614 UndoFullScreenMode, 615 ChangeToFullScreenMode,
+            616 ToggleFullScreen, 617 ReportWindowState, 618 ReportWindowPosition, 619 ReportTextAreaPosition, 620 ReportTextAreaSizePixels,
+            621 ReportWindowSizePixels, 622 ReportScreenSizePixels, 623 ReportCellSizePixels, 624 ReportTextAreaSizeCells,
+            625 ReportScreenSizeCells, 626 ReportIconLabel, 627 ReportWindowTitle, 628 PushIconAndWindowTitle, 629 PushIconTitle,
+            630 PushWindowTitle, 631 PopIconAndWindowTitle, 632 PopIconTitle, 633 PopWindowTitle,
+            634 ChecksumRectangularArea area { request_id: first, page_number: second, top: top, left: left, bottom: bottom, right: right },
+        }
+    };
+    (Keyboard $arms:ident $value:ident) => {
+        $arms! { $value Keyboard
+            701 SetKittyState state { flags: first, mode: second }, 702 PushKittyState state { flags: first, mode: second },
+            703 PopKittyState(count), 704 QueryKittySupport, 705 ReportKittyState(flags),
+        }
+    };
+}
 
 /// The struct of an attribute.
 #[inline(always)]
 pub(crate) fn sgr_struct(sgr: &Sgr) -> Struct
     ensures { result ≡ sgr_struct sgr.now }
 {
-    match sgr {
-        Sgr::Reset => row(1, 0, 0),
-        Sgr::Intensity(value) => row(2, *value as i64, 0),
-        Sgr::Underline(value) => row(3, *value as i64, 0),
-        Sgr::UnderlineColor(color) => color_row(4, color),
-        Sgr::Blink(value) => row(5, *value as i64, 0),
-        Sgr::Italic(value) => row(6, i64::from(*value), 0),
-        Sgr::Inverse(value) => row(7, i64::from(*value), 0),
-        Sgr::Invisible(value) => row(8, i64::from(*value), 0),
-        Sgr::StrikeThrough(value) => row(9, i64::from(*value), 0),
-        Sgr::Font(value) => row(10, font_number(*value), 0),
-        Sgr::Foreground(color) => color_row(11, color),
-        Sgr::Background(color) => color_row(12, color),
-        Sgr::Overline(value) => row(13, i64::from(*value), 0),
-        Sgr::VerticalAlign(value) => row(14, *value as i64, 0),
-    }
+    kinds!(Sgr struct_of_value sgr)
+}
+
+fn sgr_candidate(given: &Struct) -> Option<Sgr>
+    ensures in_range { IfSome result SgrInRange }
+    ensures finds { Finds sgr_struct SgrInRange given.now result }
+{
+    kinds!(Sgr value_of_struct given)
 }
 
 /// The struct of an action of the cursor.
@@ -41,35 +181,14 @@ pub(crate) fn sgr_struct(sgr: &Sgr) -> Struct
 pub(crate) fn cursor_struct(cursor: &Cursor) -> Struct
     ensures { result ≡ cursor_struct cursor.now }
 {
-    match cursor {
-        Cursor::Up(count) => row(101, i64::from(*count), 0),
-        Cursor::Down(count) => row(102, i64::from(*count), 0),
-        Cursor::Right(count) => row(103, i64::from(*count), 0),
-        Cursor::Left(count) => row(104, i64::from(*count), 0),
-        Cursor::NextLine(count) => row(105, i64::from(*count), 0),
-        Cursor::PrecedingLine(count) => row(106, i64::from(*count), 0),
-        Cursor::CharacterAbsolute(place) => row(107, i64::from(place.as_one_based()), 0),
-        Cursor::CharacterPositionAbsolute(place) => row(108, i64::from(place.as_one_based()), 0),
-        Cursor::Position { line, col } => places_row(109, *line, *col),
-        Cursor::ActivePositionReport { line, col } => places_row(110, *line, *col),
-        Cursor::CharacterAndLinePosition { line, col } => places_row(111, *line, *col),
-        Cursor::ForwardTabulation(count) => row(112, i64::from(*count), 0),
-        Cursor::BackwardTabulation(count) => row(113, i64::from(*count), 0),
-        Cursor::LineTabulation(count) => row(114, i64::from(*count), 0),
-        Cursor::CharacterPositionForward(count) => row(115, i64::from(*count), 0),
-        Cursor::CharacterPositionBackward(count) => row(116, i64::from(*count), 0),
-        Cursor::LinePositionAbsolute(count) => row(117, i64::from(*count), 0),
-        Cursor::LinePositionForward(count) => row(118, i64::from(*count), 0),
-        Cursor::LinePositionBackward(count) => row(119, i64::from(*count), 0),
-        Cursor::TabulationControl(value) => row(120, value.to_i64(), 0),
-        Cursor::TabulationClear(value) => row(121, value.to_i64(), 0),
-        Cursor::SetTopAndBottomMargins { top, bottom } => places_row(122, *top, *bottom),
-        Cursor::SetLeftAndRightMargins { left, right } => places_row(123, *left, *right),
-        Cursor::SaveCursor => row(124, 0, 0),
-        Cursor::RestoreCursor => row(125, 0, 0),
-        Cursor::RequestActivePositionReport => row(126, 0, 0),
-        Cursor::CursorStyle(value) => row(127, value.to_i64(), 0),
-    }
+    kinds!(Cursor struct_of_value cursor)
+}
+
+fn cursor_candidate(given: &Struct) -> Option<Cursor>
+    ensures in_range { IfSome result CursorInRange }
+    ensures finds { Finds cursor_struct CursorInRange given.now result }
+{
+    kinds!(Cursor value_of_struct given)
 }
 
 /// The struct of an edit.
@@ -77,18 +196,14 @@ pub(crate) fn cursor_struct(cursor: &Cursor) -> Struct
 pub(crate) fn edit_struct(edit: &Edit) -> Struct
     ensures { result ≡ edit_struct edit.now }
 {
-    match edit {
-        Edit::InsertCharacter(count) => row(201, i64::from(*count), 0),
-        Edit::InsertLine(count) => row(202, i64::from(*count), 0),
-        Edit::DeleteCharacter(count) => row(203, i64::from(*count), 0),
-        Edit::DeleteLine(count) => row(204, i64::from(*count), 0),
-        Edit::EraseCharacter(count) => row(205, i64::from(*count), 0),
-        Edit::ScrollUp(count) => row(206, i64::from(*count), 0),
-        Edit::ScrollDown(count) => row(207, i64::from(*count), 0),
-        Edit::Repeat(count) => row(208, i64::from(*count), 0),
-        Edit::EraseInDisplay(value) => row(209, value.to_i64(), 0),
-        Edit::EraseInLine(value) => row(210, value.to_i64(), 0),
-    }
+    kinds!(Edit struct_of_value edit)
+}
+
+fn edit_candidate(given: &Struct) -> Option<Edit>
+    ensures in_range { IfSome result EditInRange }
+    ensures finds { Finds edit_struct EditInRange given.now result }
+{
+    kinds!(Edit value_of_struct given)
 }
 
 /// The struct of a change of a mode, or of a question for one.
@@ -96,21 +211,15 @@ pub(crate) fn edit_struct(edit: &Edit) -> Struct
 pub(crate) fn mode_struct(mode: &Mode) -> Struct
     ensures { result ≡ mode_struct mode.now }
 {
-    match mode {
-        Mode::SetDecPrivateMode(value) => row(301, i64::from(value.number()), 0),
-        Mode::ResetDecPrivateMode(value) => row(302, i64::from(value.number()), 0),
-        Mode::SaveDecPrivateMode(value) => row(303, i64::from(value.number()), 0),
-        Mode::RestoreDecPrivateMode(value) => row(304, i64::from(value.number()), 0),
-        Mode::QueryDecPrivateMode(value) => row(305, i64::from(value.number()), 0),
-        Mode::SetMode(value) => row(306, i64::from(value.number()), 0),
-        Mode::ResetMode(value) => row(307, i64::from(value.number()), 0),
-        Mode::QueryMode(value) => row(308, i64::from(value.number()), 0),
-        Mode::XtermKeyMode { resource, value } => sized_row(
-            309,
-            Some(i64::from(resource.number())),
-            *value,
-        ),
-    }
+    kinds!(Mode struct_of_value mode)
+}
+
+fn mode_candidate(given: &Struct) -> Option<Mode>
+    ensures in_range { IfSome result ModeInRange }
+    ensures named { IfSome result IsNamedMode }
+    ensures finds { Finds mode_struct ModeInRange given.now result }
+{
+    kinds!(Mode value_of_struct given)
 }
 
 pub(crate) fn device_struct(place: usize, device: &Device) -> Struct
@@ -140,97 +249,65 @@ pub(crate) fn device_struct(place: usize, device: &Device) -> Struct
     }
 }
 
+fn device_candidate(given: &Struct) -> Option<Device>
+    ensures in_range { IfSome result (λ device. DeviceInRange (device_of device)) }
+    ensures named { IfSome result (λ device. IsNamedDevice (device_of device)) }
+    ensures bare { IfSome result (λ device. device_params (device_of device) ≡ []) }
+    ensures finds { Finds (device_struct given.now.place) HasNoList given.now
+        (option_map device_of result) }
+{
+    match given.kind {
+        401 => Some(Device::DeviceAttributes(DeviceAttributes::Vt100WithAdvancedVideoOption)),
+        402 => Some(Device::DeviceAttributes(DeviceAttributes::Vt101WithNoOptions)),
+        403 => Some(Device::DeviceAttributes(DeviceAttributes::Vt102)),
+        407 => Some(Device::SoftReset),
+        408 => Some(Device::RequestPrimaryDeviceAttributes),
+        409 => Some(Device::RequestSecondaryDeviceAttributes),
+        410 => Some(Device::RequestTertiaryDeviceAttributes),
+        411 => Some(Device::RequestTerminalNameAndVersion),
+        412 => Some(Device::RequestTerminalParameters(given.first)),
+        413 => Some(Device::StatusReport),
+        _ => None,
+    }
+}
+
 fn mouse_struct(mouse: &MouseReport) -> Struct
     ensures { result ≡ mouse_struct mouse.now }
 {
-    match mouse {
-        MouseReport::SGR1006 {
-            x,
-            y,
-            button,
-            modifiers,
-        } => report_row(501, *x, *y, *button, *modifiers),
-        MouseReport::SGR1016 {
-            x_pixels,
-            y_pixels,
-            button,
-            modifiers,
-        } => report_row(502, *x_pixels, *y_pixels, *button, *modifiers),
-    }
+    kinds!(MouseReport struct_of_value mouse)
+}
+
+fn mouse_candidate(given: &Struct) -> Option<MouseReport>
+    ensures in_range { IfSome result MouseInRange }
+    ensures finds { Finds mouse_struct MouseInRange given.now result }
+{
+    kinds!(MouseReport value_of_struct given)
 }
 
 pub(crate) fn window_struct(window: &Window) -> Struct
     ensures { result ≡ window_struct window.now }
 {
-    match window {
-        Window::DeIconify => row(601, 0, 0),
-        Window::Iconify => row(602, 0, 0),
-        Window::MoveWindow { x, y } => row(603, *x, *y),
-        Window::ResizeWindowPixels { width, height } => sized_row(604, *width, *height),
-        Window::RaiseWindow => row(605, 0, 0),
-        Window::LowerWindow => row(606, 0, 0),
-        Window::ReportCellSizePixelsResponse { width, height } => sized_row(607, *width, *height),
-        Window::RefreshWindow => row(608, 0, 0),
-        Window::ResizeWindowCells { width, height } => sized_row(609, *width, *height),
-        Window::RestoreMaximizedWindow => row(610, 0, 0),
-        Window::MaximizeWindow => row(611, 0, 0),
-        Window::MaximizeWindowVertically => row(612, 0, 0),
-        Window::MaximizeWindowHorizontally => row(613, 0, 0),
-        Window::UndoFullScreenMode => row(614, 0, 0),
-        Window::ChangeToFullScreenMode => row(615, 0, 0),
-        Window::ToggleFullScreen => row(616, 0, 0),
-        Window::ReportWindowState => row(617, 0, 0),
-        Window::ReportWindowPosition => row(618, 0, 0),
-        Window::ReportTextAreaPosition => row(619, 0, 0),
-        Window::ReportTextAreaSizePixels => row(620, 0, 0),
-        Window::ReportWindowSizePixels => row(621, 0, 0),
-        Window::ReportScreenSizePixels => row(622, 0, 0),
-        Window::ReportCellSizePixels => row(623, 0, 0),
-        Window::ReportTextAreaSizeCells => row(624, 0, 0),
-        Window::ReportScreenSizeCells => row(625, 0, 0),
-        Window::ReportIconLabel => row(626, 0, 0),
-        Window::ReportWindowTitle => row(627, 0, 0),
-        Window::PushIconAndWindowTitle => row(628, 0, 0),
-        Window::PushIconTitle => row(629, 0, 0),
-        Window::PushWindowTitle => row(630, 0, 0),
-        Window::PopIconAndWindowTitle => row(631, 0, 0),
-        Window::PopIconTitle => row(632, 0, 0),
-        Window::PopWindowTitle => row(633, 0, 0),
-        Window::ChecksumRectangularArea {
-            request_id,
-            page_number,
-            top,
-            left,
-            bottom,
-            right,
-        } => Struct {
-            top: top.as_one_based(),
-            left: left.as_one_based(),
-            bottom: bottom.as_one_based(),
-            right: right.as_one_based(),
-            ..row(634, *request_id, *page_number)
-        },
-    }
+    kinds!(Window struct_of_value window)
+}
+
+fn window_candidate(given: &Struct) -> Option<Window>
+    ensures in_range { IfSome result WindowInRange }
+    ensures finds { Finds window_struct WindowInRange given.now result }
+{
+    kinds!(Window value_of_struct given)
 }
 
 fn keyboard_struct(keyboard: &Keyboard) -> Struct
     ensures { result ≡ keyboard_struct keyboard.now }
 {
-    match keyboard {
-        Keyboard::SetKittyState { flags, mode } => row(
-            701,
-            i64::from(flags.bits()),
-            i64::from(mode.number()),
-        ),
-        Keyboard::PushKittyState { flags, mode } => row(
-            702,
-            i64::from(flags.bits()),
-            i64::from(mode.number()),
-        ),
-        Keyboard::PopKittyState(count) => row(703, i64::from(*count), 0),
-        Keyboard::QueryKittySupport => row(704, 0, 0),
-        Keyboard::ReportKittyState(flags) => row(705, i64::from(flags.bits()), 0),
-    }
+    kinds!(Keyboard struct_of_value keyboard)
+}
+
+fn keyboard_candidate(given: &Struct) -> Option<Keyboard>
+    ensures in_range { IfSome result KeyboardInRange }
+    ensures finds { Finds keyboard_struct KeyboardInRange given.now result }
+{
+    kinds!(Keyboard value_of_struct given)
 }
 
 /// An action whose tokens, if it has any, stand from this place on.
@@ -248,5 +325,46 @@ pub(crate) fn struct_of(place: usize, action: &CSI) -> Struct
         CSI::Keyboard(keyboard) => keyboard_struct(keyboard),
         CSI::SelectCharacterPath(path, effect) => row(801, i64::from(path.number()), *effect),
         CSI::Unspecified(unknown) => unknown_row(unknown.control, place, unknown.params.len()),
+    }
+}
+
+/// Of what takes no memory.
+pub(crate) fn small_candidate(given: &Struct) -> Option<CSI>
+    ensures in_range { IfSome result (λ csi. InRange (action_of csi)) }
+    ensures named { IfSome result (λ csi. IsNamed (action_of csi)) }
+    ensures bare { IfSome result (λ csi. params_of (action_of csi) ≡ []) }
+    ensures finds { Finds (struct_of given.now.place) IsSmall given.now
+        (option_map action_of result) }
+{
+    match given.kind {
+        1..=100 => Some(CSI::Sgr(sgr_candidate(given)?)),
+        101..=200 => Some(CSI::Cursor(cursor_candidate(given)?)),
+        201..=300 => Some(CSI::Edit(edit_candidate(given)?)),
+        301..=400 => Some(CSI::Mode(mode_candidate(given)?)),
+        501..=600 => Some(CSI::Mouse(mouse_candidate(given)?)),
+        701..=800 => Some(CSI::Keyboard(keyboard_candidate(given)?)),
+        801 => Some(CSI::SelectCharacterPath(CharacterPath::from_i64(given.first)?, given.second)),
+        _ => None,
+    }
+}
+
+/// Of all that have no tokens.
+pub(crate) fn candidate(alloc: Global, given: &Struct) -> Result<Option<CSI>, AllocError>
+    ensures in_range { IfOk result (λ r. IfSome r (λ csi. InRange (action_of csi))) }
+    ensures named { IfOk result (λ r. IfSome r (λ csi. IsNamed (action_of csi))) }
+    ensures bare { IfOk result (λ r. IfSome r (λ csi. params_of (action_of csi) ≡ [])) }
+    ensures finds { IfOk result (λ r. Finds (struct_of given.now.place) IsBare given.now
+        (option_map action_of r)) }
+{
+    match given.kind {
+        401..=500 => match device_candidate(given) {
+            Some(device) => Ok(Some(CSI::Device(Box::new(alloc, device)?))),
+            None => Ok(None),
+        },
+        601..=700 => match window_candidate(given) {
+            Some(window) => Ok(Some(CSI::Window(Box::new(alloc, window)?))),
+            None => Ok(None),
+        },
+        _ => Ok(small_candidate(given)),
     }
 }

@@ -1,8 +1,7 @@
 //! Tokens of a list, extensions of a terminal and values of graphics: what crosses as a `Param`, both ways.
 ghost use Rattle.std.specs.{Prelude.◌≡◌, Prelude.[], Prelude.◌∷◌, Prelude.map, Prelude.⊤, Prelude.IfOk, Prelude.IfSome, Option.option_map};
-ghost use Rattle.csicodec_structs.specs.{Private.Candidates.FindsToken, Private.Candidates.FindsTokens, Private.Fronts.PutsBehind, Values.AttributeInRange};
-ghost use Rattle.csicodec_structs.specs.{Values.IsNamedAttribute, Values.TokenInRange, Structs.attribute_param, Structs.param_of, Structs.value_param};
-ghost use Rattle.csicodec_structs.specs.{declared.structs.Param.Param};
+ghost use Rattle.csicodec_structs.specs.Structs.{AttributeInRange, IsNamedAttribute, TokenInRange, attribute_param, param_of, value_param};
+ghost use Rattle.csicodec_structs.specs.{Private.Steps.FindsToken, Private.Steps.FindsTokens, Private.Steps.PutsBehind, declared.structs.Param.Param};
 
 use crate::numbers::attribute_token;
 use crate::room::put;
@@ -44,10 +43,7 @@ impl Token for i64 {
     }
 
     fn of_param(param: Param) -> Option<i64> {
-        match param.kind {
-            0 => Some(param.value),
-            _ => None,
-        }
+        (param.kind == 0).then_some(param.value)
     }
 }
 

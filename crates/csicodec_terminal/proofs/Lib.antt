@@ -1,2 +1,1 @@
 pub mod Unique
-mod Moves

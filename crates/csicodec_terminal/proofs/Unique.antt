@@ -1,16 +1,51 @@
--- A list has one list of actions as terminals take it, and where the table reads all it is the table's.
-use Rattle.std.specs.Prelude.{MatchBool}
-use Rattle.std.proofs.Common.{◌≡◌, ℕ, ◌||◌, Bool, true, false, List, [], ◌∷◌, take, refl, sym, ap, subst, ◌∙◌, inl, inr, arith}
-use Rattle.std.proofs.lemmas.Option.{some_pair_parts}
-use Rattle.csicodec_tokens.specs.declared.param.CsiParam.{CsiParam}
-use Rattle.csicodec_tokens.proofs.Unique.{one_seq}
-use Rattle.csicodec_parser.specs.{declared.group.Group.Group, declared.group.Group.TheVariants.Whole, declared.group.Group.TheVariants.Styles}
-use Rattle.csicodec_parser.specs.{declared.group.Group.TheVariants.Modes, declared.group.Group.TheVariants.DecModes, Groups.group, Groups.marked}
+-- What a step passes, and a list has one list of actions as terminals take it.
+use Rattle.std.proofs.Common.{ℤ, ◌↔◌, ◌≡◌, ℕ, zero, suc, ◌<◌, ◌≤◌, true, false, List, [], ◌∷◌, length, map, drop, Option, Some, None, refl, sym, subst, inl, inr, arith, length-drop, MatchBool, ◌||◌, Bool, take, ap, ◌∙◌}
+use Rattle.std.proofs.{lemmas.Bool.cases_Bool, lemmas.Option.some_pair_parts}
+use Rattle.csicodec_tokens.specs.{declared.param.CsiParam.CsiParam, Fields.Fields, Fields.fields_of}
+use Rattle.csicodec_parser.specs.{Groups.is_byte, Groups.group, Groups.marked, declared.group.Group.Group, declared.group.Group.TheVariants.Whole}
+use Rattle.csicodec_parser.specs.{declared.group.Group.TheVariants.Styles, declared.group.Group.TheVariants.Modes, declared.group.Group.TheVariants.DecModes}
 use Rattle.csicodec_parser.specs.{Segments.Actions}
+use Rattle.csicodec_terminal.specs.Terminal.{behind, has_unknown, past_semicolon, up_to, Anew, IsTakenFor, Step, Steps, Terminal, is_open, known_or}
+use Rattle.csicodec_terminal.specs.Regular.{regular}
+use Rattle.csicodec_tokens.proofs.Reading.{one_seq}
 use Rattle.csicodec_actions.specs.Actions.{Action, Unspecified}
 use Rattle.csicodec_parser.proofs.{Cuts.one_segmentation, Fronts.piece_front, Fronts.front_fits}
-use Rattle.csicodec_terminal.specs.Terminal.{Anew, IsTakenFor, Step, Steps, Terminal, behind, has_unknown, is_open, known_or}
-use Rattle.csicodec_terminal.specs.Regular.{regular}
+
+past_within : (list : List CsiParam) → length (past_semicolon list) ≤ length list
+past_within [] = omega arith
+past_within (t ∷ ts) = elim (cases_Bool (is_byte 59 (Some t))) [
+  | inl hit ↦ rw hit (omega arith)
+  | inr other ↦ rw other (omega arith)
+]
+
+pub behind_piece : (k : ℕ) (rest : List CsiParam) → 0 < k → k ≤ length rest → length (behind k rest) < length rest
+behind_piece k rest some within = omega (arith, past_within (drop k rest), length-drop k rest)
+
+pub behind_unknown : (n : ℕ) (rest : List CsiParam) → 0 < length rest → up_to n rest ≤ length rest → length (behind (up_to n rest) rest) < length rest
+behind_unknown n [] there within = absurd (omega (arith, there))
+behind_unknown n (t ∷ ts) there within = go (up_to n (t ∷ ts)) refl
+  where
+    at_semicolon : is_byte 59 (Some t) ≡ true → length (behind 0 (t ∷ ts)) < length (t ∷ ts)
+    at_semicolon hit = rw hit (omega arith)
+
+    passes : is_byte 59 (Some t) ≡ false → up_to n (t ∷ ts) ≡ suc (up_to n ts)
+    passes other = rw other refl
+
+    go : (k : ℕ) → up_to n (t ∷ ts) ≡ k → length (behind (up_to n (t ∷ ts)) (t ∷ ts)) < length (t ∷ ts)
+    go (suc k) e = behind_piece (up_to n (t ∷ ts)) (t ∷ ts) (omega (arith, e)) within
+    go zero e = elim (cases_Bool (is_byte 59 (Some t))) [
+      | inl hit ↦ subst (λ (j : ℕ). length (behind j (t ∷ ts)) < length (t ∷ ts)) (sym e) (at_semicolon hit)
+      | inr other ↦ absurd (omega (arith, e, passes other))
+    ]
+
+pub no_fields : (list : List CsiParam) → ((l : List CsiParam) (f : List (Option ℤ)) → Fields l f ↔ (fields_of l ≡ Some f)) → ((f : List (Option ℤ)) → Fields list f → ⊥) → fields_of list ≡ None
+no_fields list law none = go (fields_of list) refl
+  where
+    go : (o : Option (List (Option ℤ))) → fields_of list ≡ o → fields_of list ≡ None
+    go None e = e
+    go (Some f) e = absurd (none f ((law list f).1 e))
+
+-- ---- A list has one list of actions as terminals take it, and where the table reads all it is the table's.
 
 step_one : (g : Group) (flag : Bool) (final : ℕ) (rest : List CsiParam) (k j : ℕ) (x y : Action) → Step g flag final rest k x → Step g flag final rest j y → (k ≡ j) × (x ≡ y)
 step_one g flag final rest k j x y (inl p) (inl q) =

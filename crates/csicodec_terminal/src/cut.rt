@@ -102,7 +102,7 @@ fn behind(len: usize, rest: &[CsiParam]) -> &[CsiParam]
 }
 
 /// The action at the front, and its number of tokens.
-#[tactic(auto, using(crate::proofs::Moves::behind_piece, crate::proofs::Moves::behind_unknown))]
+#[tactic(auto, using(crate::proofs::Unique::behind_piece, crate::proofs::Unique::behind_unknown))]
 fn step(group: Group, rest: &[CsiParam], end: End) -> Result<(CSI, usize), AllocError>
     requires { 0 < length rest.now }
     ensures is { IfOk result (λ f.

@@ -70,7 +70,7 @@ fn copy(alloc: Global, params: &[CsiParam]) -> Result<Vec<CsiParam>, AllocError>
 }
 
 /// The regular list of one that is read whole.
-#[tactic(auto, using(crate::proofs::Moves::no_fields))]
+#[tactic(auto, using(crate::proofs::Unique::no_fields))]
 pub(crate) fn regular_list(
     alloc: Global,
     params: &[CsiParam],

@@ -1,13 +1,13 @@
--- The beginnings of sequences are the bytes that go on to a sequence.
-use Rattle.std.proofs.Common.{◌≡◌, ℕ, ℤ, pos, List, [], ◌∷◌, ◌++◌, length, refl, sym, ap, subst, inl, inr, arith, ◌-◌, get_or, ◌∙◌, append_assoc}
-use Rattle.std.proofs.lemmas.List.{length-append}
+-- The beginnings of sequences are the bytes that go on to a sequence, and a fault is one and stays.
+use Rattle.std.proofs.Common.{◌≡◌, ℕ, ℤ, pos, List, [], ◌∷◌, ◌++◌, length, refl, sym, ap, subst, inl, inr, arith, ◌-◌, get_or, ◌∙◌, append_assoc, ◌+◌, ◌<◌, ◌⊎◌, take, drop}
+use Rattle.std.proofs.{lemmas.List.length-append, lemmas.List.take-append-le, lemmas.List.take-append-drop, Math.ListN.get_or-append}
+use Rattle.csicodec_tokens.specs.declared.reader.ReadError.TheVariants.{BadByte, NumberTooLarge, Truncated, NotCsi, Memory}
 use Rattle.csicodec_tokens.specs.{declared.param.CsiParam.CsiParam, declared.param.CsiParam.TheVariants.Integer, declared.param.CsiParam.TheVariants.P}
 use Rattle.csicodec_tokens.specs.{Digits.IsDigit, Digits.value, Sequence.Spells, Sequence.Apart, Sequence.Spellable, Sequence.Seq, Sequence.IsBodyByte}
-use Rattle.csicodec_tokens.specs.{Sequence.IsFinal, Sequence.Reads, Fault.IsBody, Fault.Begins, Fault.IsBad, Fault.FaultOf}
-use Rattle.csicodec_tokens.specs.{declared.reader.ReadError.TheVariants.BadByte, declared.reader.ReadError.TheVariants.NumberTooLarge}
-use Rattle.csicodec_tokens.specs.{declared.reader.ReadError.TheVariants.Truncated, Body.Adds, Body.IsStopped}
-use Rattle.csicodec_tokens.proofs.Spelled.{cut_cases, IsBody-from_spelling, StopsAt, bad_byte, large_byte, cut_short}
-use Rattle.csicodec_tokens.proofs.{Reading.IsSpellable-number, Runs.IsBody-front, Runs.IsBody-back, Runs.digit_or_other, Runs.none_begun}
+use Rattle.csicodec_tokens.specs.{Sequence.IsFinal, Sequence.Reads, Fault.IsBody, Fault.Begins, Fault.IsBad, Fault.FaultOf, Fault.NoSeq, Fault.IsLeast}
+use Rattle.csicodec_tokens.specs.{Fault.IsMetAt, Fault.Fault, Body.Adds, Body.IsStopped, declared.reader.ReadError.ReadError}
+use Rattle.csicodec_tokens.proofs.Reading.{cut_cases, IsBody-from_spelling, StopsAt, bad_byte, large_byte, cut_short, IsSpellable-number, Begins-take}
+use Rattle.csicodec_tokens.proofs.Walks.{IsBody-front, IsBody-back, digit_or_other, none_begun}
 
 -- ---- each body spells a list
 
@@ -97,9 +97,6 @@ begins (a ∷ b ∷ x) g =
 pub cut_behind : (bytes body : List ℕ) (last : ℕ) → bytes ≡ 27 ∷ 91 ∷ body → Adds 0 body last → FaultOf bytes (Truncated (length bytes))
 cut_behind bytes body last e a = rw e (cut_short body (a.on [] none_begun).is)
 
-first_of : (rest others : List ℕ) (b : ℕ) → rest ≡ b ∷ others → get_or rest 0 0 ≡ b
-first_of rest others b e = ap (λ (t : List ℕ). get_or t 0 0) e
-
 module _ (bytes body rest : List ℕ) (e : bytes ≡ 27 ∷ 91 ∷ body) (s : IsStopped 0 body rest) where
   stops_at : StopsAt s.done s.byte
   stops_at = record { begun = s.on [] none_begun; stop = λ is. s.stops.none [] none_begun is }
@@ -121,7 +118,84 @@ module _ (bytes body rest : List ℕ) (e : bytes ≡ 27 ∷ 91 ∷ body) (s : Is
       )
 
   pub bad_behind : IsBad (get_or rest 0 0) → FaultOf bytes (BadByte (length bytes - length rest))
-  bad_behind bad = bad_byte bytes s.done rest s.others s.byte whole s.front (s.on [] none_begun) (subst IsBad (first_of rest s.others s.byte s.front) bad)
+  bad_behind bad = bad_byte bytes s.done rest s.others s.byte whole s.front (s.on [] none_begun) (subst IsBad (ap (λ (t : List ℕ). get_or t 0 0) s.front) bad)
 
   pub large_behind : IsBodyByte (get_or rest 0 0) → FaultOf bytes (NumberTooLarge (length bytes - length rest))
-  large_behind p = large_byte bytes s.done rest s.others s.byte whole s.front stops_at (subst IsBodyByte (first_of rest s.others s.byte s.front) p)
+  large_behind p = large_byte bytes s.done rest s.others s.byte whole s.front stops_at (subst IsBodyByte (ap (λ (t : List ℕ). get_or t 0 0) s.front) p)
+
+-- ---- A fault stays what it is, whatever follows the bytes that have it.
+
+-- one list cut twice: the first cut is the later or the same, or the second is the later
+pub cuts : {T : Type 0} (a b x y : List T) → a ++ x ≡ b ++ y → ((k : List T) × (a ≡ b ++ k)) ⊎ ((c : T) × (k : List T) × (b ≡ a ++ c ∷ k))
+cuts a [] x y e = inl (a, refl)
+cuts [] (c ∷ b) x y e = inr (c, b, refl)
+cuts (d ∷ a) (c ∷ b) x y e = elim (cuts a b x y cc) [ inl h ↦ inl (h.0, cc) | inr h ↦ inr (h.0, h.1, cc) ]
+
+-- what stands before some bytes of a sequence is the beginning of one
+pub begins_front : (x y : List ℕ) (list : List CsiParam) (final : ℕ) → 0 < length y → Seq (x ++ y) list final → Begins x
+begins_front x [] list final some s = absurd (omega arith)
+begins_front x (c ∷ y) list final some s = begins x (record { byte = c; more = y; list = list; final = final; seq = s })
+
+-- a front that begins no sequence is no front of one
+none_longer : (bytes : List ℕ) (n c : ℕ) (k front : List ℕ) (list : List CsiParam) (final : ℕ) → IsLeast bytes n → front ≡ bytes ++ c ∷ k → Seq front list final → ⊥
+none_longer bytes n c k front list final least e s =
+    let split : front ≡ take (n + 1) bytes ++ (drop (n + 1) bytes ++ c ∷ k) =
+    e ∙ ap (λ (t : List ℕ). t ++ c ∷ k) (sym (take-append-drop (n + 1) bytes)) ∙ append_assoc (take (n + 1) bytes) (drop (n + 1) bytes) (c ∷ k) in
+    let some : 0 < length (drop (n + 1) bytes ++ c ∷ k) = omega (arith, length-append (drop (n + 1) bytes) (c ∷ k)) in
+    least.there (begins_front (take (n + 1) bytes) (drop (n + 1) bytes ++ c ∷ k) list final some (subst (λ (t : List ℕ). Seq t list final) split s))
+
+none_more : (bytes more : List ℕ) (n : ℕ) → IsLeast bytes n → NoSeq bytes → NoSeq (bytes ++ more)
+none_more bytes more n least none list final rest r =
+    elim (cuts bytes r.0 more rest r.2) [
+      | inl h ↦ none list final h.0 (r.0, r.1, h.1)
+      | inr h ↦ none_longer bytes n h.0 h.1 r.0 list final least h.2 r.1
+    ]
+
+least_more : (bytes more : List ℕ) (n : ℕ) → IsLeast bytes n → IsLeast (bytes ++ more) n
+least_more bytes more n least = record {
+  within = omega (arith, least.within, length-append bytes more);
+  before = λ k le. subst Begins (sym (take-append-le k bytes more (omega (arith, le, least.within)))) (least.before k le);
+  there = λ t. least.there (subst Begins (take-append-le (n + 1) bytes more (omega (arith, least.within))) t);
+}
+
+byte_more : (bytes more : List ℕ) (n : ℕ) → IsLeast bytes n → get_or (bytes ++ more) n 0 ≡ get_or bytes n 0
+byte_more bytes more n least = get_or-append bytes more 0 n least.within
+
+-- a fault that is met stays
+pub fault_more : (bytes more : List ℕ) (e : ReadError) (n : ℕ) → IsMetAt e n → FaultOf bytes e → FaultOf (bytes ++ more) e
+fault_more bytes more (NotCsi place) n at f = (none_more bytes more place f.1.0 f.0, (least_more bytes more place f.1.0, f.1.1))
+fault_more bytes more (BadByte place) n at f =
+    (none_more bytes more place f.1.0 f.0, (least_more bytes more place f.1.0, f.1.1, subst IsBad (sym (byte_more bytes more place f.1.0)) f.1.2))
+fault_more bytes more (NumberTooLarge place) n at f =
+    (none_more bytes more place f.1.0 f.0, (least_more bytes more place f.1.0, f.1.1, λ bad. f.1.2 (subst IsBad (byte_more bytes more place f.1.0) bad)))
+fault_more bytes more _ n at f = absurd at
+
+-- its place is within the bytes
+pub fault_within : (bytes : List ℕ) (e : ReadError) (n : ℕ) → IsMetAt e n → FaultOf bytes e → n < length bytes
+fault_within bytes (Truncated place) n at f = absurd at
+fault_within bytes Memory n at f = absurd at
+fault_within bytes _ n at f = omega (arith, f.1.0.within, at)
+
+-- ---- Bytes have one fault.
+
+not_both : (bytes : List ℕ) (k : ℕ) → Begins bytes → IsLeast bytes k → ⊥
+not_both bytes k b l = l.there (Begins-take bytes (k + 1) b)
+
+not_before : (bytes : List ℕ) (j k : ℕ) → IsLeast bytes j → IsLeast bytes k → j < k → ⊥
+not_before bytes j k l m lt = l.there (m.before (j + 1) (omega arith))
+
+one_least : (bytes : List ℕ) (j k : ℕ) → IsLeast bytes j → IsLeast bytes k → j ≡ k
+one_least bytes j k l m = grind (arith, not_before bytes j k l m, not_before bytes k j m l)
+
+pub one_fault : (bytes : List ℕ) (d e : ReadError) → Fault bytes d → Fault bytes e → d ≡ e
+one_fault bytes d Memory l m = absurd m
+one_fault bytes Memory e l m = absurd l
+one_fault bytes (Truncated j) (Truncated k) l m = ap Truncated (l.1 ∙ sym m.1)
+one_fault bytes (Truncated j) _ l m = absurd (not_both bytes _ l.0 m.0)
+one_fault bytes _ (Truncated k) l m = absurd (not_both bytes _ m.0 l.0)
+one_fault bytes (NotCsi j) (NotCsi k) l m = ap NotCsi (one_least bytes j k l.0 m.0)
+one_fault bytes (BadByte j) (BadByte k) l m = ap BadByte (one_least bytes j k l.0 m.0)
+one_fault bytes (NumberTooLarge j) (NumberTooLarge k) l m = ap NumberTooLarge (one_least bytes j k l.0 m.0)
+one_fault bytes (BadByte j) (NumberTooLarge k) l m = absurd (m.2 (rw (← one_least bytes j k l.0 m.0) l.2))
+one_fault bytes (NumberTooLarge j) (BadByte k) l m = absurd (l.2 (rw (one_least bytes j k l.0 m.0) m.2))
+one_fault bytes _ _ l m = absurd (omega (arith, one_least bytes _ _ l.0 m.0, l.1, m.1))

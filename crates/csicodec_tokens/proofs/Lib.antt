@@ -1,12 +1,7 @@
-pub mod Runs
-pub mod OneFault
-pub mod Spelled
 pub mod Printed
-pub mod Unique
 pub mod Reading
-pub mod Beginnings
 pub mod Decimal
 pub mod FieldsOf
-pub mod Longer
+pub mod Beginnings
 pub mod Lanes
 pub mod Walks

@@ -5,7 +5,7 @@ use Rattle.std.proofs.{lemmas.Str.Parse.IsNumeralModel, lemmas.Str.Parse.numeral
 use Rattle.std.specs.{Fmt.decimal, Prelude.encode_utf8}
 use Rattle.csicodec_tokens.specs.{declared.param.CsiParam.CsiParam, declared.param.CsiParam.TheVariants.Integer, declared.param.CsiParam.TheVariants.P}
 use Rattle.csicodec_tokens.specs.{Digits.AreDigits, Digits.value_after, Digits.value, Digits.largest, Param.spells, Sequence.Spells, Sequence.Spellable}
-use Rattle.csicodec_tokens.proofs.Spelled.{not_above}
+use Rattle.csicodec_tokens.proofs.Reading.{not_above}
 
 own : IsNumeralModel AreDigits value
 own = numerals_by_fold AreDigits (search rules) value_after (search rules)

@@ -2,7 +2,6 @@
 use Rattle.std.specs.{Prelude.ℕ, Prelude.◌+◌, Prelude.List, Prelude.◌++◌, Prelude.Option, Prelude.None, Prelude.Some, Prelude.codes, Fmt.decimal}
 use Rattle.csicodec_tokens.specs.declared.reader.ReadError.TheVariants.{NotCsi, BadByte, NumberTooLarge, Truncated, Memory}
 use Rattle.csicodec_tokens.specs.{declared.reader.ReadError.ReadError, declared.refusal.ParseRefusal.ParseRefusal}
-use Rattle.csicodec_tokens.specs.declared.refusal.ParseRefusal.TheVariants as refusal
 
 -- where a sequence is refused, and why
 abbrev pub place : ReadError → Option ℕ
@@ -34,5 +33,5 @@ abbrev pub not_one_based_text : List ℕ
 not_one_based_text = codes "0 where counting begins at 1"
 
 abbrev pub parse_refusal_text : ParseRefusal → List ℕ
-parse_refusal_text refusal.NotSpelled = not_spelled_text
-parse_refusal_text refusal.Memory = codes "no memory"
+parse_refusal_text ParseRefusal.NotSpelled = not_spelled_text
+parse_refusal_text ParseRefusal.Memory = codes "no memory"

@@ -10,7 +10,7 @@ pub fn one_sequence()
 {}
 
 /// Bytes have at most one fault.
-#[tactic(auto, using(crate::proofs::OneFault::one_fault))]
+#[tactic(auto, using(crate::proofs::Beginnings::one_fault))]
 pub fn one_fault()
     ensures { (bytes : List ℕ) (d e : ReadError) → Fault bytes d → Fault bytes e → d ≡ e }
 {}

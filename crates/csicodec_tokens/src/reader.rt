@@ -85,8 +85,6 @@ impl<T: Drop> From<AllocFailed<T>> for ReadError {
     }
 }
 
-const LARGEST: u64 = i64::MAX as u64;
-
 /// Numbers below this one take a further digit without a test, and it is itself part of one instruction.
 const FEW: u64 = 100_000_000;
 
@@ -97,11 +95,7 @@ fn with_last_digit(number: u64, value: u64) -> Option<u64>
         × (n ≤ largest)) }
 {
     let longer = number.checked_mul(10)?.checked_add(value)?;
-    if longer <= LARGEST {
-        Some(longer)
-    } else {
-        None
-    }
+    (longer <= i64::MAX as u64).then_some(longer)
 }
 
 /// The number that the digits of `number` and one digit more write, or `None` where it is larger than `i64::MAX`. All but the last digits of a

@@ -1,3 +1,4 @@
+pub mod Common
 pub mod Logged
 pub mod Whole
 pub mod Written

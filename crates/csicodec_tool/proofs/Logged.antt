@@ -1,18 +1,9 @@
 -- A log as it comes.
-use Rattle.std.proofs.Common.{Bool, true, false, ◌≡◌, ◌==◌, not, ℕ, List, [], ◌∷◌, ◌++◌, Option, None, Some, inl, inr, refl, sym, ap, subst, ◌∙◌, append_assoc, append-nil}
-use Rattle.std.proofs.lemmas.List.Folds.{list_all-append}
-use Rattle.std.specs.Prelude.{IfSome}
-use Rattle.csicodec_transform.specs.Transform.{Begins, GoesOn, Sends, Transforms}
-use Rattle.csicodec_clean.specs.{Shown.shown_text, Stream.Between, Stream.start_of, Styled.Keeping, Styled.StylesIn, Styled.first_kept, Styled.keeps}
-use Rattle.csicodec_clean.specs.{Styled.resets, declared.styles.Passing.Passing}
-use Rattle.csicodec_clean.proofs.{Chunks.ends as at_end, Chunks.takes_none, Chunks.takes_on, PlainBytes.all_both, Styled.styles as styled_as}
-use Rattle.csicodec_lines.specs.Stream.{ended}
+use Rattle.csicodec_tool.proofs.Common.{Bool, true, false, ◌≡◌, ◌==◌, not, ℕ, List, [], ◌∷◌, ◌++◌, Option, None, Some, inl, inr, refl, sym, ap, subst, ◌∙◌, append_assoc, append-nil, list_all-append, IfSome, Begins, GoesOn, Sends, Transforms, shown_text, Between, start_of, Keeping, StylesIn, first_kept, keeps, resets, Passing, ended, Marking, Log, IsLine, IsLogged, IsLoggedFront, EndsLog, Finishes, GoesIn, IsBegun, IsIn, LogAs, PassesLog, Pushes}
+use Rattle.csicodec_clean.proofs.{Chunks.ends as at_end, Chunks.takes_none, Chunks.takes_on, Plain.all_both, Styled.styles as styled_as}
 use Rattle.csicodec_lines.proofs.Texts.{ended_on, of_on}
-use Rattle.csicodec_overwrite.specs.{declared.marking.Marking.Marking, declared.marking.Marking.TheVariants.Plain, declared.marking.Marking.TheVariants.Styled}
-use Rattle.csicodec_overwrite.specs.{Stream.Now, Stream.begun_as}
+use Rattle.csicodec_overwrite.specs.{declared.marking.Marking.TheVariants.Plain, declared.marking.Marking.TheVariants.Styled, Stream.Now, Stream.begun_as}
 use Rattle.csicodec_overwrite.proofs.Written.{passes_none, passes_on, shows}
-use Rattle.csicodec_tool.specs.{declared.log.Log.Log, Log.IsLine, Log.IsLogged, Log.IsLoggedFront, Stream.EndsLog, Stream.Finishes, Stream.GoesIn}
-use Rattle.csicodec_tool.specs.{Stream.IsBegun, Stream.IsIn, Stream.LogAs, Stream.PassesLog, Stream.Pushes}
 
 -- ---- the line that isn't over
 
@@ -30,7 +21,7 @@ pub begun_in : (styles : Option Passing) (at : Now) (c : Between Keeping) → at
     → IfSome styles (λ p. c ≡ start_of (first_kept p)) → IsIn styles at c [] []
 begun_in None at c now fresh = rw now (passes_none (begun_as Plain) refl)
 begun_in (Some p) at c now fresh =
-    ([], rw now (passes_none (begun_as Styled) refl), rw fresh (takes_none (keeps (λ (k : Keeping). k)) (first_kept p)))
+    ([], rw now (passes_none (begun_as Styled) refl), rw fresh (takes_none keeps (first_kept p)))
 
 -- it goes on
 part_in : (styles : Option Passing) (at new : Now) (c d : Between Keeping) (line own part text : List ℕ) → IsIn styles at c line own
@@ -39,7 +30,7 @@ part_in None at new c d line own part text before passes = passes_on (begun_as P
 part_in (Some p) at new c d line own part text (painted, before, taken) (more, passes, takes) = (
   painted ++ more,
   passes_on (begun_as Styled) at new line part painted more before passes,
-  takes_on (keeps (λ (k : Keeping). k)) (start_of (first_kept p)) c d painted more own text taken takes,
+  takes_on keeps (start_of (first_kept p)) c d painted more own text taken takes,
 )
 
 -- it is over
@@ -47,14 +38,13 @@ end_in : (styles : Option Passing) (at : Now) (c : Between Keeping) (line own re
     → Finishes styles at c rest → IsLogged styles line (own ++ rest)
 end_in None at c line own rest before ends = shows Plain line own rest at before ends
 end_in (Some p) at c line own rest (painted, before, taken) (more, text, close, last, ends, takes, closes, all) =
-    let Gives = keeps (λ (k : Keeping). k) in
     let left = shown_text last.held ++ close in
-    let whole = takes_on Gives (start_of (first_kept p)) c last painted more own text taken takes in (
+    let whole = takes_on keeps (start_of (first_kept p)) c last painted more own text taken takes in (
       painted ++ more,
       shows Styled line painted more at before ends,
       subst (StylesIn p (painted ++ more)) (append_assoc own text left ∙ ap (λ (t : List ℕ). own ++ t) (sym all))
-          (styled_as (λ (k : Keeping). k) p (first_kept p) (painted ++ more) ((own ++ text) ++ left) refl
-          (at_end Gives (resets (λ (k : Keeping). k)) (first_kept p) (painted ++ more) (own ++ text) close last whole closes)),
+          (styled_as p _ (painted ++ more) ((own ++ text) ++ left) refl
+          (at_end keeps resets (first_kept p) (painted ++ more) (own ++ text) close last whole closes)),
     )
 
 -- what stands in it is more than is sure of it
@@ -67,8 +57,8 @@ told_front (Some p) at c line own (painted, passes, takes) = (
     painted,
     _,
     shows Styled line painted _ at passes refl,
-    styled_as (λ (k : Keeping). k) p (first_kept p) painted _ refl
-        (at_end (keeps (λ (k : Keeping). k)) (resets (λ (k : Keeping). k)) (first_kept p) painted own _ c takes refl),
+    styled_as p _ painted _ refl
+        (at_end keeps resets (first_kept p) painted own _ c takes refl),
   ),
 )
 
@@ -78,20 +68,21 @@ whole_front (Some p) line text (painted, paints, styled) = (painted, [], rw (app
 
 -- ---- all lines
 
--- the last of them, and what they are with more of it
+-- the last of them, and what they are where it goes on
 last_of : (t : Bool) (Each Last Other : List ℕ → List ℕ → Type 0) (bytes text : List ℕ) → LogAs t Each Last bytes text
-    → (line : List ℕ) × (own : List ℕ) × Last line own × ((more : List ℕ) → Other line (own ++ more) → LogAs t Each Other bytes (text ++ more))
-last_of false Each Last Other bytes text last = (bytes, text, last, λ more other. other)
+    → (line : List ℕ) × (own : List ℕ) × Last line own × ((part more : List ℕ) → (t ≡ true → IsLine part) → Other (line ++ part) (own ++ more)
+    → LogAs t Each Other (bytes ++ part) (text ++ more))
+last_of false Each Last Other bytes text last = (bytes, text, last, λ part more is other. other)
 last_of true Each Last Other bytes text log = (
   log.rest,
   log.own,
   log.behind,
-  λ more other. record {
+  λ part more is other. record {
     lines = log.lines;
-    rest = log.rest;
+    rest = log.rest ++ part;
     are_lines = log.are_lines;
-    is_line = log.is_line;
-    split = log.split;
+    is_line = list_all-append (λ (b : ℕ). not (b == 10)) log.rest part ∙ rw (log.is_line, is refl) refl;
+    split = ap (λ (t : List ℕ). t ++ part) log.split ∙ append_assoc (ended log.lines) log.rest part;
     texts = log.texts;
     own = log.own ++ more;
     each = log.each;
@@ -111,19 +102,9 @@ log_begun log begun = ((refl, refl), by log.each)
 part_log : (t : Bool) (styles : Option Passing) (at new : Now) (c d : Between Keeping) (part more bytes text : List ℕ) → (t ≡ true → IsLine part)
     → Pushes styles at c part more new d → LogAs t (IsLogged styles) (IsIn styles at c) bytes text
     → LogAs t (IsLogged styles) (IsIn styles new d) (bytes ++ part) (text ++ more)
-part_log false styles at new c d part more bytes text is pushes last = part_in styles at new c d bytes text part more last pushes
-part_log true styles at new c d part more bytes text is pushes log = record {
-  lines = log.lines;
-  rest = log.rest ++ part;
-  are_lines = log.are_lines;
-  is_line = list_all-append (λ (b : ℕ). not (b == 10)) log.rest part ∙ rw (log.is_line, is refl) refl;
-  split = ap (λ (t : List ℕ). t ++ part) log.split ∙ append_assoc (ended log.lines) log.rest part;
-  texts = log.texts;
-  own = log.own ++ more;
-  each = log.each;
-  behind = part_in styles at new c d log.rest log.own part more log.behind pushes;
-  all = ap (λ (t : List ℕ). t ++ more) log.all ∙ append_assoc (ended log.texts) log.own more;
-}
+part_log t styles at new c d part more bytes text is pushes log =
+    let (line, own, last, put) = last_of t (IsLogged styles) (IsIn styles at c) (IsIn styles new d) bytes text log in
+    put part more is (part_in styles at new c d line own part more last pushes)
 
 -- a part of the line
 pub part_on : (old new : Log) (part more : List ℕ) → (old.each ≡ true → IsLine part) → GoesIn old part more new → GoesOn PassesLog old part more new
@@ -171,7 +152,8 @@ pub logged : (first : Log) (bytes text : List ℕ) → Transforms PassesLog Ends
 logged first bytes text (last, sure, rest, ((kept, same), log), ends, split) =
     let P = first.styles in
     let (line, own, at, put) = last_of first.each (IsLogged P) (IsIn P last.line last.cleaner) (IsLogged P) bytes sure log in
-    rw split (put rest (end_in P last.line last.cleaner line own rest at (subst (λ (p : Option Passing). Finishes p last.line last.cleaner rest) same ends)))
+    let over = end_in P last.line last.cleaner line own rest at (subst (λ (p : Option Passing). Finishes p last.line last.cleaner rest) same ends) in
+    rw split (rw append-nil at (put [] rest (λ _. refl) (rw append-nil over)))
 
 -- what went out is a front of what becomes of the lines that are over, and of the one that isn't
 pub log_begins : (first : Log) (AreAll : Type 0) (bytes sent : List ℕ) → Begins (Sends PassesLog first) (Transforms PassesLog EndsLog first) AreAll bytes sent
@@ -180,9 +162,9 @@ log_begins first AreAll bytes sent (unsent, inl (last, ((kept, same), log))) =
     let P = first.styles in
     let (line, own, at, put) = last_of first.each (IsLogged P) (IsIn P last.line last.cleaner) (IsLoggedFront P) bytes (sent ++ unsent) log in
     let (more, told) = told_front P last.line last.cleaner line own at in
-    (unsent ++ more, subst (LogAs first.each (IsLogged P) (IsLoggedFront P) bytes) (append_assoc sent unsent more) (put more told))
+    (unsent ++ more, rw append-nil at (rw append_assoc at (put [] more (λ _. refl) (rw append-nil told))))
 log_begins first AreAll bytes sent (unsent, inr (all, whole)) =
     let P = first.styles in
     let (line, own, at, put) = last_of first.each (IsLogged P) (IsLogged P) (IsLoggedFront P) bytes (sent ++ unsent) (logged first bytes (sent ++ unsent) whole) in
-    let told = whole_front P line (own ++ []) (subst (IsLogged P line) (sym (append-nil own)) at) in
-    (unsent, subst (LogAs first.each (IsLogged P) (IsLoggedFront P) bytes) (append-nil (sent ++ unsent)) (put [] told))
+    let told = whole_front P line own at in
+    (unsent, simp append-nil at (put [] [] (λ _. refl) (simp append-nil told)))

@@ -1,32 +1,25 @@
 -- What a run writes of inputs that all went well.
-use Rattle.std.proofs.Common.{Bool, true, false, inl, inr, ◌≡◌, ◌∷◌, ◌++◌, ℕ, List, [], Option, None, Some, Result, Ok, Err, refl, sym, ap, subst, ◌∙◌, append_assoc}
-use Rattle.std.proofs.{lemmas.Bool.true≢false, KnownBytes.Appends-nil, KnownBytes.Appends-trans}
-use Rattle.std.specs.{Prelude.◌⊎◌, Prelude.IsErr, Prelude.MatchResult, Prelude.OnErr, Prelude.OnOk, List.concat, Io.KnownBytes.Appends, Io.KnownBytes.Keeps}
-use Rattle.csicodec_transform.specs.declared.error.RunError.{RunError}
-use Rattle.csicodec_lines.specs.Lines.{AreOf}
+use Rattle.csicodec_tool.proofs.Common.{Bool, true, false, inl, inr, ◌≡◌, ◌∷◌, ◌++◌, ℕ, List, [], Option, None, Some, Result, Ok, Err, refl, sym, ap, subst, ◌∙◌, append_assoc, true≢false, Appends-nil, Appends-trans, ◌⊎◌, IsErr, MatchResult, OnErr, OnOk, concat, Appends, Keeps, RunError, AreOf, Failure, recorded, Heads, IsHeaded, JobSteps, Tails, Writes, begun_of, makes_none, writes_data, Work}
 use Rattle.csicodec_command.specs.Runs.{At, Closes, End, Ends, HasTurn, IsTold, IsUnread, MayBeRecording, Recording, Stream, Through, ends_run, first_of}
-use Rattle.csicodec_command.specs.{declared.failure.Failure.Failure, Recorded.recorded}
-use Rattle.csicodec_tool.specs.Writes.{Heads, IsHeaded, JobSteps, Tails, Writes, Wrote as IsWritten, begun_of, makes_none, writes_data}
-use Rattle.csicodec_tool.specs.{declared.rewrite.Job.Job, declared.rewrite.Work.Work, Whole.AreKnown, Whole.AreTaken, Whole.IsTaken, Whole.WholeRuns}
-use Rattle.csicodec_tool.specs.declared.rewrite.Work.TheVariants as work
+use Rattle.csicodec_tool.specs.{Writes.Wrote as IsWritten, declared.rewrite.Job.Job, Whole.AreKnown, Whole.AreTaken, Whole.IsTaken, Whole.WholeRuns}
 
 -- ---- a page that has begun is written as one that hasn't
 
 begun_twice : (w : Work) → begun_of (begun_of w) ≡ begun_of w
-begun_twice (work.Html name markup overwrite false begun) = refl
-begun_twice (work.Html name markup overwrite true begun) = refl
+begun_twice (Work.Html name markup overwrite false begun) = refl
+begun_twice (Work.Html name markup overwrite true begun) = refl
 begun_twice other = refl
 
 none_ahead : (w : Work) (text : List ℕ) → Heads (begun_of w) text → text ≡ []
-none_ahead (work.Html name markup overwrite false begun) text h = h
-none_ahead (work.Html name markup overwrite true false) text h = h
-none_ahead (work.Html name markup overwrite true true) text h = h
+none_ahead (Work.Html name markup overwrite false begun) text h = h
+none_ahead (Work.Html name markup overwrite true false) text h = h
+none_ahead (Work.Html name markup overwrite true true) text h = h
 none_ahead other text h = h
 
 as_begun : (w : Work) (bytes text : List ℕ) → Writes (begun_of w) bytes text → Writes w bytes text
-as_begun (work.Html name markup true false begun) bytes text h = h
-as_begun (work.Html name markup false false begun) bytes text h = h
-as_begun (work.Html name markup overwrite true begun) bytes text h = h
+as_begun (Work.Html name markup true false begun) bytes text h = h
+as_begun (Work.Html name markup false false begun) bytes text h = h
+as_begun (Work.Html name markup overwrite true begun) bytes text h = h
 as_begun other bytes text h = h
 
 -- ---- one input
@@ -113,8 +106,8 @@ turn_written holds name bytes unwraps at next is of_data may (inr r) = read r.ah
         }
 
 none_twice : (w : Work) → makes_none (begun_of w) ≡ makes_none w
-none_twice (work.Html name markup overwrite false begun) = refl
-none_twice (work.Html name markup overwrite true begun) = refl
+none_twice (Work.Html name markup overwrite false begun) = refl
+none_twice (Work.Html name markup overwrite true begun) = refl
 none_twice other = refl
 
 -- so behind it the next is taken as it was

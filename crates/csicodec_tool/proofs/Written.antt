@@ -1,18 +1,7 @@
 -- what a run from a reader to a writer promises, where the bytes of its input are known
-use Rattle.std.proofs.Common.{Bool, true, false, Bor, inr, ◌≡◌, ◌++◌, ℕ, List, [], Option, None, Some, Result, Ok, Err, refl, ◌∙◌, subst, append_assoc}
-use Rattle.std.proofs.{KnownBytes.Appends-nil, lemmas.Option.IfSome_then, lemmas.Result.IfOk-from_err, lemmas.Result.on_err_weaker, lemmas.Result.on_ok_weaker}
-use Rattle.std.specs.{Prelude.IfSome, Prelude.IsErr, Prelude.OnErr, Prelude.OnOk, Io.KnownBytes.Appends, Io.KnownBytes.Consumes, Io.KnownBytes.IsAtEnd}
-use Rattle.csicodec_transform.specs.{declared.error.RunError.RunError, Transform.Begins, Transform.Sends, Transform.Transforms}
-use Rattle.csicodec_clean.specs.{Streams.Streams, declared.styles.Passing.Passing}
-use Rattle.csicodec_overwrite.specs.Reading.{Paints}
-use Rattle.csicodec_html.specs.{Page.IsPageWith, Page.PageWith, declared.markup.Markup.Markup}
-use Rattle.csicodec_inspect.specs.Sent.{FrontsOf, IsAppended, IsWrittenBy}
-use Rattle.csicodec_inspect.proofs.Sent.{all_written, on_err_all}
-use Rattle.csicodec_tool.specs.Writes.{FrontsOfPainted, IsHeaded, IsPageFront, PaintedPage, Wrote, WroteBehind}
-use Rattle.csicodec_tool.specs.{declared.log.Log.Log, Log.IsLogged, Log.IsLoggedFront, Stream.EndsLog, Stream.LogAs, Stream.PassesLog}
-use Rattle.csicodec_tool.specs.{declared.rewrite.Work.Work}
+use Rattle.csicodec_tool.proofs.Common.{Bool, true, false, Bor, inr, ◌≡◌, ◌++◌, ℕ, List, [], Option, None, Some, Result, Ok, Err, refl, ◌∙◌, subst, append_assoc, Appends-nil, IfSome_then, IfOk-from_err, on_err_weaker, on_ok_weaker, IfSome, IsErr, OnErr, OnOk, Appends, Consumes, IsAtEnd, RunError, Begins, Sends, Transforms, Streams, Passing, Paints, IsPageWith, PageWith, Markup, FrontsOf, IsAppended, IsWrittenBy, FrontsOfPainted, IsHeaded, IsPageFront, PaintedPage, Wrote, WroteBehind, Log, IsLogged, IsLoggedFront, EndsLog, LogAs, PassesLog, Work}
 use Rattle.csicodec_tool.proofs.Logged.{log_begins, logged}
-use Rattle.csicodec_tool.specs.declared.rewrite.Work.TheVariants as work
+use Rattle.csicodec_inspect.proofs.Sent.{all_written, on_err_all}
 
 on_ok_both : {A E P Q R : Type 0} (result : Result A E) → OnOk result P → OnOk result Q → (P → Q → R) → OnOk result R
 on_ok_both (Ok a) p q f = f p q
@@ -75,13 +64,6 @@ logged_written log t styles result before after old new each same ok front = rw 
       (bytes, more, sent, unsent, consumed, some, appended)) front,
 )
 
--- what is written by one thing is written by another that is the same
-pub by_same : {A E X : Type 0} (Out Fronts : X → List ℕ → List ℕ → Type 0) (p q : X) (result : Result A E)
-    (known old new : Option (List ℕ)) → p ≡ q → IsWrittenBy (Out p) (Fronts p) result known old new
-    → IsWrittenBy (Out q) (Fronts q) result known old new
-by_same {A} {E} {X} Out Fronts p q result known old new same written =
-    subst (λ (x : X). IsWrittenBy (Out x) (Fronts x) result known old new) same written
-
 -- what writes nothing writes the empty text
 pub nothing_written : {A E : Type 0} (result : Result A E) (known out : Option (List ℕ))
     → IsWrittenBy (λ bytes text. text ≡ []) (FrontsOf (λ bytes text. text ≡ [])) result known out out
@@ -93,10 +75,10 @@ nothing_written (Err e) (Some bytes) out = (tt, ([], ([], bytes, [], refl, refl)
 -- what stands ahead of a page was written, or a front of it
 pub page_headed : {A E : Type 0} (w : Work) (name : Bor (List ℕ)) (markup : Markup)
     (overwrite fragment begun : Bool) (result : Result A E) (old new : Option (List ℕ)) (text : List ℕ)
-    → w ≡ work.Html name markup overwrite fragment begun → fragment ≡ false → begun ≡ false
+    → w ≡ Work.Html name markup overwrite fragment begun → fragment ≡ false → begun ≡ false
     → IsPageFront markup name.now text → OnOk result (Appends old new text)
     → OnErr result ((sent : List ℕ) × (unsent : List ℕ) × (text ≡ sent ++ unsent) × Appends old new sent)
-    → IsHeaded w result (work.Html name markup overwrite fragment true) old new
+    → IsHeaded w result (Work.Html name markup overwrite fragment true) old new
 page_headed w name markup overwrite fragment begun result old new text is whole first front ok failed =
     rw (is, whole, first) (
       refl,
@@ -155,7 +137,7 @@ headed_failed w new headed written error result known old ahead out heads went i
 
 -- where it is only checked what is plain text, nothing is written
 pub check_wrote : {A E : Type 0} (w : Work) (result : Result A E) (known out : Option (List ℕ)) (visible : Bool)
-    → w ≡ work.Check visible
+    → w ≡ Work.Check visible
     → WroteBehind w result w known out out
 check_wrote w result known out visible is = rw is (record {
   headed = Ok tt;

@@ -16,19 +16,19 @@ LogAs false Each Last bytes text = Last bytes text
 abbrev pub IsIn : Option Passing → Now → Between Keeping → List ℕ → List ℕ → Type 0
 IsIn None at cleaner line text = Passes (begun_as Plain) line text at
 IsIn (Some p) at cleaner line text = (painted : List ℕ) × Passes (begun_as Styled) line painted at
-    × Takes (keeps (λ (k : Keeping). k)) (start_of (first_kept p)) painted text cleaner
+    × Takes keeps (start_of (first_kept p)) painted text cleaner
 
 -- it goes on with these bytes, of which this text is sure
 abbrev pub Pushes : Option Passing → Now → Between Keeping → List ℕ → List ℕ → Now → Between Keeping → Type 0
 Pushes None old cleaner bytes text new behind = Passes old bytes text new
 Pushes (Some p) old cleaner bytes text new behind = (painted : List ℕ) × Passes old bytes painted new
-    × Takes (keeps (λ (k : Keeping). k)) cleaner painted text behind
+    × Takes keeps cleaner painted text behind
 
 -- it is over, and this text is left
 abbrev pub Finishes : Option Passing → Now → Between Keeping → List ℕ → Type 0
 Finishes None at cleaner text = Ending at text
 Finishes (Some p) at cleaner text = (painted : List ℕ) × (more : List ℕ) × (close : List ℕ) × (last : Between Keeping) × Ending at painted
-    × Takes (keeps (λ (k : Keeping). k)) cleaner painted more last × resets (λ (k : Keeping). k) last.rule close
+    × Takes keeps cleaner painted more last × resets last.rule close
     × (text ≡ more ++ (shown_text last.held ++ close))
 
 -- the same of a log

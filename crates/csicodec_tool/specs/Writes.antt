@@ -1,6 +1,5 @@
 -- What `filter`, `compact`, `strip`, `clean` and `html` write of an input.
-use Rattle.std.specs.Prelude.{ℕ, ◌≡◌, ◌⊎◌, Bool, true, false, ◌||◌, List, [], ◌++◌, Option, Result, Ok, OnOk, OnErr, IfSome, IsErr, option_map}
-use Rattle.std.specs.Io.KnownBytes.{Appends}
+use Rattle.std.specs.Prelude.{ℕ, ◌≡◌, ◌⊎◌, Bool, true, false, ◌||◌, List, [], ◌++◌, Option, Result, Ok, OnOk, OnErr, IsErr, option_map}
 use Rattle.csicodec_spans.specs.declared.table.Mode.TheVariants.{Text as Plain}
 use Rattle.csicodec_streams.specs.Decoding.{NormalisesTo}
 use Rattle.csicodec_transform.specs.declared.error.RunError.{RunError}
@@ -14,7 +13,6 @@ use Rattle.csicodec_html.specs.{declared.sheet.TheConstants.HEAD, declared.sheet
 use Rattle.csicodec_command.specs.{Recorded.recorded, Runs.StepsOf, Runs.Next, Runs.Stream, Runs.Recording, Runs.End}
 use Rattle.csicodec_inspect.specs.Sent.{FrontsOf, IsAppended, IsWrittenBy}
 use Rattle.csicodec_tool.specs.{Log.IsLogged, Log.IsLoggedFront, Log.Logs, Log.LogsSome, declared.rewrite.Job.Job, declared.rewrite.Work.Work}
-use Rattle.csicodec_tool.specs.declared.rewrite.Work.TheVariants as work
 
 -- the page of what is painted of the bytes
 abbrev pub PaintedPage : Markup → List ℕ → List ℕ → Type 0
@@ -22,18 +20,18 @@ PaintedPage markup bytes page = (painted : List ℕ) × Paints bytes painted × 
 
 -- All bytes of an input become this text. What is only checked has none.
 abbrev pub Writes : Work → List ℕ → List ℕ → Type 0
-Writes (work.Filter true) bytes text = Filters IsFaithful longest Plain bytes text
-Writes (work.Filter false) bytes text = Filters NormalisesTo longest Plain bytes text
-Writes (work.Compact semicolons) bytes text = CompactsAll longest Plain bytes text
-Writes (work.Strip true) bytes text = ByLines (Strips longest) bytes text
-Writes (work.Strip false) bytes text = Strips longest bytes text
-Writes (work.Overwrite styles) bytes text = IsLogged styles bytes text
-Writes (work.Log styles) bytes text = Logs styles bytes text
-Writes (work.Check visible) bytes text = text ≡ []
-Writes (work.Clean passing true) bytes text = ByLines (StylesIn passing) bytes text
-Writes (work.Clean passing false) bytes text = StylesIn passing bytes text
-Writes (work.Html name markup true fragment begun) bytes text = PaintedPage markup bytes text
-Writes (work.Html name markup false fragment begun) bytes text = PageWith markup bytes text
+Writes (Work.Filter true) bytes text = Filters IsFaithful longest Plain bytes text
+Writes (Work.Filter false) bytes text = Filters NormalisesTo longest Plain bytes text
+Writes (Work.Compact semicolons) bytes text = CompactsAll longest Plain bytes text
+Writes (Work.Strip true) bytes text = ByLines (Strips longest) bytes text
+Writes (Work.Strip false) bytes text = Strips longest bytes text
+Writes (Work.Overwrite styles) bytes text = IsLogged styles bytes text
+Writes (Work.Log styles) bytes text = Logs styles bytes text
+Writes (Work.Check visible) bytes text = text ≡ []
+Writes (Work.Clean passing true) bytes text = ByLines (StylesIn passing) bytes text
+Writes (Work.Clean passing false) bytes text = StylesIn passing bytes text
+Writes (Work.Html name markup true fragment begun) bytes text = PaintedPage markup bytes text
+Writes (Work.Html name markup false fragment begun) bytes text = PageWith markup bytes text
 
 -- The same of a painted page: it is of a front of what is painted of a front of the bytes.
 abbrev pub FrontsOfPainted : Markup → List ℕ → List ℕ → Type 0
@@ -42,11 +40,11 @@ FrontsOfPainted markup bytes sent = (painted : List ℕ) × (unsent : List ℕ) 
 
 -- Of an input that failed this went out: a front of the text of a front of its bytes, and of a filter's, of all of them.
 abbrev pub Sends : Work → List ℕ → List ℕ → Type 0
-Sends (work.Filter true) bytes sent = IsFrontOf IsFaithful longest Plain bytes sent
-Sends (work.Filter false) bytes sent = IsFrontOf NormalisesTo longest Plain bytes sent
-Sends (work.Html name markup true fragment begun) bytes sent = FrontsOfPainted markup bytes sent
-Sends (work.Overwrite styles) bytes sent = FrontsOf (IsLoggedFront styles) bytes sent
-Sends (work.Log styles) bytes sent = FrontsOf (LogsSome styles) bytes sent
+Sends (Work.Filter true) bytes sent = IsFrontOf IsFaithful longest Plain bytes sent
+Sends (Work.Filter false) bytes sent = IsFrontOf NormalisesTo longest Plain bytes sent
+Sends (Work.Html name markup true fragment begun) bytes sent = FrontsOfPainted markup bytes sent
+Sends (Work.Overwrite styles) bytes sent = FrontsOf (IsLoggedFront styles) bytes sent
+Sends (Work.Log styles) bytes sent = FrontsOf (LogsSome styles) bytes sent
 Sends w bytes sent = FrontsOf (Writes w) bytes sent
 
 -- an input was written as the work has it
@@ -61,17 +59,17 @@ IsPageFront markup name text = (title : List ℕ) × IsTitle name title
 
 -- what stands ahead of an input: of the first one of a page that is no fragment its front, and else nothing
 abbrev pub Heads : Work → List ℕ → Type 0
-Heads (work.Html name markup overwrite false false) text = IsPageFront markup name.now text
+Heads (Work.Html name markup overwrite false false) text = IsPageFront markup name.now text
 Heads w text = text ≡ []
 
 -- what stands behind the last input: behind a page that has begun its end, and else nothing
 abbrev pub Tails : Work → List ℕ → Type 0
-Tails (work.Html name markup overwrite fragment true) text = text ≡ BEHIND.now
+Tails (Work.Html name markup overwrite fragment true) text = text ≡ BEHIND.now
 Tails w text = text ≡ []
 
 -- the work behind what stands ahead
 abbrev pub begun_of : Work → Work
-begun_of (work.Html name markup overwrite false begun) = work.Html name markup overwrite false true
+begun_of (Work.Html name markup overwrite false begun) = Work.Html name markup overwrite false true
 begun_of w = w
 
 -- the text begins with what was sent
@@ -95,8 +93,8 @@ pub record WroteBehind {A E : Type 0} (w : Work) (result : Result A E) (new : Wo
 
 -- a page has no recordings, and where it is only checked what is plain text, none is written
 abbrev pub makes_none : Work → Bool
-makes_none (work.Check visible) = true
-makes_none (work.Html name markup overwrite fragment begun) = true
+makes_none (Work.Check visible) = true
+makes_none (Work.Html name markup overwrite fragment begun) = true
 makes_none w = false
 
 -- whether of a recording comes what becomes of its data, and no recording

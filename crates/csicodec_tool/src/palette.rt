@@ -9,12 +9,10 @@ pub fn palette_of(alloc: Global, text: &str) -> Result<Palette, Wrong<'_>> {
     if text == "xterm" {
         return Ok(Palette::xterm());
     }
-    let mut colors = Vec::new(alloc);
-    for (index, part) in text.split(',').enumerate() {
-        let Some(color) = given_color(part.as_bytes()) else {
-            return Err(Wrong::NoColor(index.saturating_add(1), part));
-        };
-        colors.push(color).map_err(|_| Wrong::Memory)?;
-    }
+    let parts = text.split(',').enumerate();
+    let colors = parts.map(|(index, part)| {
+        given_color(part.as_bytes()).ok_or(Wrong::NoColor(index.saturating_add(1), part))
+    });
+    let colors = colors.try_collect::<Vec<_>>(alloc)?;
     given_palette(&colors).ok_or(Wrong::NoPalette(colors.len()))
 }

@@ -68,28 +68,6 @@ fn compact(alloc: Global, semicolons: bool) -> Compact {
     }
 }
 
-/// The colours that `clean` keeps.
-fn depth_of(run: &Request<'_>) -> Depth {
-    match run.value("--colors") {
-        Some("256") => Depth::Palette,
-        Some("16") => Depth::Ansi,
-        _ => Depth::Full,
-    }
-}
-
-/// What of a stream becomes markup.
-fn markup_of<'a>(alloc: Global, run: &Request<'a>) -> Result<Markup, Wrong<'a>> {
-    let palette = match run.value("--palette") {
-        Some(text) => palette_of(alloc, text)?,
-        None => Palette::default(),
-    };
-    Ok(Markup {
-        links: run.links,
-        classes: run.has("--classes"),
-        palette,
-    })
-}
-
 /// The name of a page: that of its first file, without its folder, and of standard input what it is.
 fn name_of<'a>(files: &[&'a str]) -> &'a [u8] {
     match files.first() {
@@ -118,7 +96,12 @@ impl<'a> Work<'a> {
 
     /// The same with its styles, as those of `clean` do.
     pub fn clean(run: &Request<'a>) -> Work<'a> {
-        let (depth, links) = (depth_of(run), run.links);
+        let depth = match run.value("--colors") {
+            Some("256") => Depth::Palette,
+            Some("16") => Depth::Ansi,
+            _ => Depth::Full,
+        };
+        let links = run.links;
         let passing = Passing { depth, links };
         let styles = Some(passing);
         if run.overwrites() {
@@ -135,9 +118,17 @@ impl<'a> Work<'a> {
 
     /// A page, as those of `html` do; an error where its palette is none.
     pub fn html(alloc: Global, run: &Request<'a>) -> Result<Work<'a>, Wrong<'a>> {
+        let palette = match run.value("--palette") {
+            Some(text) => palette_of(alloc, text)?,
+            None => Palette::default(),
+        };
         Ok(Work::Html {
             name: name_of(&run.files),
-            markup: markup_of(alloc, run)?,
+            markup: Markup {
+                links: run.links,
+                classes: run.has("--classes"),
+                palette,
+            },
             overwrite: run.overwrites(),
             fragment: run.has("--fragment"),
             begun: false,
@@ -151,16 +142,13 @@ impl<'a> Work<'a> {
     {
         let stage = match self {
             Work::Filter { faithful: true } => {
-                let rule = Faithful::new(alloc);
-                Rewriter::Faithful(Filter::new(alloc, LIMIT, rule))
+                Rewriter::Faithful(Filter::new(alloc, LIMIT, Faithful::new(alloc)))
             }
             Work::Filter { .. } => {
-                let rule = NormalForm::new(alloc);
-                Rewriter::Normal(Filter::new(alloc, LIMIT, rule))
+                Rewriter::Normal(Filter::new(alloc, LIMIT, NormalForm::new(alloc)))
             }
             Work::Compact { semicolons } => {
-                let rule = compact(alloc, *semicolons);
-                Rewriter::Short(Compactor::new(alloc, LIMIT, rule))
+                Rewriter::Short(Compactor::new(alloc, LIMIT, compact(alloc, *semicolons)))
             }
             Work::Strip { lines: true } => Rewriter::PlainLines(Lines::stripped(alloc)),
             Work::Strip { .. } => Rewriter::Plain(Cleaner::new(alloc, Dropped)),
@@ -171,8 +159,7 @@ impl<'a> Work<'a> {
                 lines: true,
             } => Rewriter::StyledLines(Lines::cleaned(alloc, *passing)),
             Work::Clean { passing, .. } => {
-                let rule = Kept::letting(alloc, *passing);
-                Rewriter::Styled(Cleaner::new(alloc, rule))
+                Rewriter::Styled(Cleaner::new(alloc, Kept::letting(alloc, *passing)))
             }
             Work::Check { .. } | Work::Html { .. } => return Ok(None),
         };

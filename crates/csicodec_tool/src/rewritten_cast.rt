@@ -1,6 +1,7 @@
 //! Recordings of asciinema with other data.
 
 use crate::log::Log;
+use bstr::ByteSlice;
 use csicodec_clean::{Cleaner, Dropped, Kept, Passing, strip};
 use csicodec_command::{Failure, Recording, time_of};
 use csicodec_compact::Compactor;
@@ -32,21 +33,6 @@ pub enum Rewriter {
     Logged(Log),
 }
 
-/// A text, with a carriage return ahead of each newline that stays: they were dropped, and where a recording is played a newline
-/// alone leads down, and not to the begin of the line.
-fn append_returning(text: &[u8], out: &mut Vec<u8>) -> Result<(), AllocError> {
-    for line in text.split_inclusive(|byte| *byte == b'\n') {
-        match line.strip_suffix(b"\n".as_slice()) {
-            Some(line) => {
-                out.extend_from_slice(line)?;
-                out.extend_from_slice(b"\r\n")?;
-            }
-            None => out.extend_from_slice(line)?,
-        }
-    }
-    Ok(())
-}
-
 impl Rewriter {
     /// The next data; what is sure is appended.
     fn push(&mut self, bytes: &[u8], out: &mut Vec<u8>) -> Result<(), AllocError> {
@@ -62,14 +48,15 @@ impl Rewriter {
         }
     }
 
-    /// The next data, as a recording has them.
+    /// The next data, as a recording has them. Ahead of each newline that stays is a carriage return: they were dropped, and where a
+    /// recording is played a newline alone leads down, and not to the begin of the line.
     fn push_recorded(&mut self, bytes: &[u8], out: &mut Vec<u8>) -> Result<(), AllocError> {
         if !self.is_safe() {
             return self.push(bytes, out);
         }
         let mut text = Vec::new(*out.allocator());
         self.push(bytes, &mut text)?;
-        append_returning(&text, out)
+        text.as_slice().replace_into(b"\n", b"\r\n", out)
     }
 
     /// Whether the data are made safe, so that nothing else of the recording may be a control either.

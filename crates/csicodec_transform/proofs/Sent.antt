@@ -2,7 +2,8 @@
 use Rattle.std.proofs.Common.{◌≡◌, ℕ, Option, None, Some, IfSome, List, [], ◌∷◌, ◌++◌, length, take, refl, subst, sym, ap, ◌∙◌, inl, inr, ⊎_elim, append_assoc, append-nil, arith, drop, ◌-◌, take-append-drop}
 use Rattle.std.proofs.{KnownBytes.Appends-trans, KnownBytes.Consumes-kept, KnownBytes.Consumes-nil, KnownBytes.Consumes-trans, lemmas.List.take_rest}
 use Rattle.std.specs.Io.KnownBytes.{Appends, Consumes, IsAtEnd, Keeps}
-use Rattle.csicodec_transform.specs.Transform.{Begins, EndsOf, GoesOn, PassesOf, Sends, Transforms}
+pub use Rattle.csicodec_transform.specs.Transform.{AddsFront}
+use Rattle.csicodec_transform.specs.Transform.{Adds, Begins, EndsOf, GoesOn, PassesOf, Sends, Transforms}
 
 -- nothing came with the last read
 pub none_more : (read buf : List ℕ) (count : ℕ) (i j k : Option (List ℕ)) → Consumes i j read → Consumes j k (take count buf) → count ≡ 0 → Consumes i k read
@@ -27,11 +28,6 @@ goes_on P s t u chunk next more later h k first bytes text passed =
     rw (← append_assoc bytes chunk next, ← append_assoc text more later)
     (k first (bytes ++ chunk) (text ++ more) (h first bytes text passed))
 
--- for bytes in front of a rest this was appended, and what passed goes on so
-abbrev pub AddsFront : {S : Type 0} → PassesOf S → S → List ℕ → List ℕ → List ℕ → List ℕ → S → Type 0
-AddsFront P old bytes rest before after new = (front : List ℕ) × (bytes ≡ front ++ rest)
-    × ((more : List ℕ) × GoesOn P old front more new × (after ≡ before ++ more))
-
 module _ {S : Type 0} (P : PassesOf S) where
   -- nothing yet, and some bytes more
   pub adds_none : (s : S) (bytes out : List ℕ) → AddsFront P s bytes bytes out out s
@@ -45,7 +41,7 @@ module _ {S : Type 0} (P : PassesOf S) where
   )
 
   -- all of them
-  pub adds_all : (s t : S) (bytes rest a b : List ℕ) → AddsFront P s bytes rest a b t → length rest ≡ 0 → (more : List ℕ) × GoesOn P s bytes more t × (b ≡ a ++ more)
+  pub adds_all : (s t : S) (bytes rest a b : List ℕ) → AddsFront P s bytes rest a b t → length rest ≡ 0 → Adds P s bytes a b t
   adds_all s t bytes rest a b (front, whole, (more, goes, out)) none = (more, subst (λ (l : List ℕ). GoesOn P s l more t) (none_left bytes front rest whole none) goes, out)
 
 -- since a state some bytes were read, and all that is sure of them was written

@@ -15,6 +15,18 @@ abbrev pub GoesOn : {S X : Type 0} → (S → List X → List ℕ → S → Type
 GoesOn {S} {X} Passes old chunk more new = (first : S) (before : List X) (text : List ℕ)
     → Passes first before text old → Passes first (before ++ chunk) (text ++ more) new
 
+-- for these bytes or parts this was appended, and what passed goes on so
+abbrev pub Adds : {S X : Type 0} → (S → List X → List ℕ → S → Type 0) → S → List X → List ℕ
+    → List ℕ → S → Type 0
+Adds Passes old chunk before after new =
+    (more : List ℕ) × GoesOn Passes old chunk more new × (after ≡ before ++ more)
+
+-- so for bytes in front of a rest
+abbrev pub AddsFront : {S : Type 0} → PassesOf S → S → List ℕ → List ℕ → List ℕ → List ℕ → S
+    → Type 0
+AddsFront Passes old bytes rest before after new =
+    (front : List ℕ) × (bytes ≡ front ++ rest) × Adds Passes old front before after new
+
 -- so far these bytes have this text
 abbrev pub Sends : {S : Type 0} → PassesOf S → S → List ℕ → List ℕ → Type 0
 Sends {S} Passes first bytes text = (last : S) × Passes first bytes text last

@@ -1,7 +1,7 @@
 //! What a stream becomes as it comes, from a reader to a writer.
 ghost use Rattle.std.specs.{Prelude.◌≡◌, Prelude.◌++◌, Prelude.[], Prelude.ℕ, Prelude.List, Prelude.OnErr, Prelude.OnOk, Prelude.IfErr, Io.KnownBytes.Appends};
 ghost use Rattle.std.specs.{Io.KnownBytes.Consumes, Io.KnownBytes.IsAtEnd};
-ghost use Rattle.csicodec_transform.specs.Transform.{Begins, EndsOf, GoesOn, PassesOf, Sends, Transforms};
+ghost use Rattle.csicodec_transform.specs.Transform.{Adds, Begins, EndsOf, GoesOn, PassesOf, Sends, Transforms};
 
 use crate::error::RunError;
 use crate::io::{CHUNK, receive, send};
@@ -26,17 +26,13 @@ pub trait Transform {
     fn take(&mut self, bytes: &[u8], out: &mut Vec<u8>) -> Result<(), AllocError>
         requires { stands self.old }
         ensures stands { OnOk result (stands self.new) }
-        ensures passes { OnOk result
-            ((more : List ℕ) × GoesOn passes self.old bytes.now more self.new
-            × (out.new.items ≡ out.old.items ++ more)) };
+        ensures passes { OnOk result (Adds passes self.old bytes.now out.old.items out.new.items self.new) };
 
     /// Appends what was put off: nothing more is there to read at once.
     fn pause(&mut self, out: &mut Vec<u8>) -> Result<(), AllocError>
         requires { stands self.old }
         ensures stands { OnOk result (stands self.new) }
-        ensures passes { OnOk result
-            ((more : List ℕ) × GoesOn passes self.old [] more self.new
-            × (out.new.items ≡ out.old.items ++ more)) }
+        ensures passes { OnOk result (Adds passes self.old [] out.old.items out.new.items self.new) }
         ensures rests { OnOk result (rests self.new) };
 
     /// Appends what is held, and what ends the output: nothing comes any more.
@@ -57,9 +53,7 @@ fn take_read<T: Transform>(
 ) -> Result<(), AllocError>
     requires { T.stands transform.old }
     ensures stands { OnOk result (T.stands transform.new) }
-    ensures passes { OnOk result
-        ((more : List ℕ) × GoesOn T.passes transform.old bytes.now more transform.new
-        × (out.new.items ≡ out.old.items ++ more)) }
+    ensures passes { OnOk result (Adds T.passes transform.old bytes.now out.old.items out.new.items transform.new) }
 {
     let mut rest = bytes;
     while !rest.is_empty() {

@@ -13,7 +13,7 @@ pub(crate) static ACTIONS: [&str; 102] = pieces! {
     "L__\tIL  insert {0=1#blank line}",
     "M<_\tmouse  {0@button} line {2}, column {1}{0&, with |4=shift|8=alt|16=control}",
     "M__\tDL  delete {0=1#line}", "P__\tDCH  delete {0=1#character}",
-    "R__\tCPR  answer: cursor at line {0}, column {1}{1@f3}",
+    "R__\tCPR  answer: cursor at line {0}, column {1}",
     "S?_\tXTSMGRAPHICS  {1?0=answer: |1=ask for |2=set back |3=set |4=ask for the maximum of |=unknown action on }{0?1=the number of colour registers|2=the size of sixel images|3=the size of ReGIS images|=item #}{2@values}{1?1= (or answer: no such item)|2= (or answer: no such action)|=}",
     "S__\tSU  scroll up {0=1#line}", "T__\tSD  scroll down {0=1#line}",
     "W__\tCTC  {0?0=set a tab stop at the cursor|1=set a line tab stop at the cursor|2=clear the tab stop at the cursor|3=clear the line tab stop at the cursor|4=clear all tab stops in the line|5=clear all tab stops|6=clear all line tab stops}",

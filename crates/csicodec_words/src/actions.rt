@@ -47,25 +47,17 @@ impl ActionList {
     fn take_margins(&mut self, left: OneBased, right: OneBased) -> Result<(), AllocError> {
         self.control = 's';
         self.params.clear();
+        let [left, right] = [left, right].map(|side| CsiParam::Integer(side.as_one_based().into()));
         self.params
-            .push(CsiParam::Integer(i64::from(left.as_one_based())))?;
-        self.params.push(CsiParam::P(b';'))?;
-        Ok(
-            self.params
-                .push(CsiParam::Integer(i64::from(right.as_one_based())))?,
-        )
+            .extend_from_slice(&[left, CsiParam::P(b';'), right])
     }
 
     fn take_text(&mut self, action: &CSI) -> Result<(), AllocError> {
         self.text.clear();
         append_text(self.alloc, &mut self.text, action)?;
-        match read_csi_into(&mut self.params, self.text.as_slice()) {
-            Ok(tail) => {
-                self.control = tail.control;
-                Ok(())
-            }
-            Err(_) => Err(AllocError),
-        }
+        let tail = read_csi_into(&mut self.params, self.text.as_slice());
+        self.control = tail.map_err(|_| AllocError)?.control;
+        Ok(())
     }
 }
 

@@ -4,14 +4,8 @@ use crate::escape_rows::{CONTROLS, NAMES, OTHERS, SETS, SETS_OF_96, SETS_OF_SEVE
 use crate::rows::find;
 use std::fmt::{self, Formatter, Write};
 
-/// What an escape sequence is.
-#[derive(Clone, Copy)]
-enum Escape {
-    /// One whose name and deed stand in a table.
-    Named(&'static str),
-    /// One that designates a set: which of G0 to G3 it becomes, and the set.
-    Set(&'static str, &'static str),
-}
+/// What an escape sequence is: of one that designates a set, which of G0 to G3 that becomes, and the set; of another its name and deed.
+type Escape = (Option<&'static str>, &'static str);
 
 /// Which of G0 to G3 an intermediate byte means, and whether the set has 96 characters (ECMA-35, 14.3.2).
 fn place_of(byte: u8) -> Option<(&'static str, bool)> {
@@ -32,7 +26,7 @@ fn designated_of_several(bytes: &[u8]) -> Option<Escape> {
         _ => ("G0", bytes),
     };
     let set = find(&SETS_OF_SEVERAL, bytes).unwrap_or("a set of several bytes a character");
-    Some(Escape::Set(place, set))
+    Some((Some(place), set))
 }
 
 /// What an escape sequence is, by its bytes behind ESC.
@@ -43,12 +37,12 @@ fn escape_of(bytes: &[u8]) -> Option<Escape> {
         return designated_of_several(behind);
     }
     Some(match place_of(*first) {
-        Some((place, false)) => Escape::Set(place, find(&SETS, behind).unwrap_or("another set")),
-        Some((place, true)) => Escape::Set(
-            place,
+        Some((place, false)) => (Some(place), find(&SETS, behind).unwrap_or("another set")),
+        Some((place, true)) => (
+            Some(place),
             find(&SETS_OF_96, behind).unwrap_or("another set of 96"),
         ),
-        None => Escape::Named(find(&NAMES, bytes).or(find(&OTHERS, between))?),
+        None => (None, find(&NAMES, bytes).or(find(&OTHERS, between))?),
     })
 }
 
@@ -72,8 +66,8 @@ impl<'a> EscReading<'a> {
 impl<'a> fmt::Display for EscReading<'a> {
     fn fmt<W: Write>(&self, f: &mut Formatter<W>) -> fmt::Result {
         match escape_of(self.0) {
-            Some(Escape::Named(words)) => f.write_str(words),
-            Some(Escape::Set(place, set)) => write!(f, "SCS  {place}: {set}"),
+            Some((Some(place), set)) => write!(f, "SCS  {place}: {set}"),
+            Some((None, words)) => f.write_str(words),
             None => tell_unknown(f, self.0),
         }
     }
@@ -86,12 +80,9 @@ fn tell_unknown<W: Write>(f: &mut Formatter<W>, bytes: &[u8]) -> fmt::Result {
     }
     f.write_str("unknown  ESC")?;
     for byte in bytes {
-        match *byte {
-            b' ' => f.write_str(" SP")?,
-            byte => {
-                f.write_str(" ")?;
-                f.write_char(char::from(byte))?;
-            }
+        match char::from(*byte) {
+            ' ' => f.write_str(" SP")?,
+            character => write!(f, " {character}")?,
         }
     }
     Ok(())
@@ -101,10 +92,8 @@ fn tell_unknown<W: Write>(f: &mut Formatter<W>, bytes: &[u8]) -> fmt::Result {
 pub fn words_of_control(bytes: &[u8]) -> &'static str {
     match bytes {
         [0x7f] => "DEL  nothing",
-        [byte] => CONTROLS
-            .get(usize::from(*byte))
-            .copied()
-            .unwrap_or("control"),
+        [byte @ 0..=31] => CONTROLS[usize::from(*byte)],
+        [_] => "control",
         _ => "CR LF  cursor to column 1, down 1 line, scrolling",
     }
 }

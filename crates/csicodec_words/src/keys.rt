@@ -13,21 +13,14 @@ use std::fmt::{self, Formatter, Write};
 #[derive(Drop)]
 pub struct KeyWords(pub Key);
 
-/// Whether a list can be a key's in output too: before a letter only with modifiers, since it is an action without them.
-fn is_told(params: &[CsiParam], control: char) -> bool {
-    matches!(control, 'u' | '~')
-        || matches!(
-            params,
-            [Integer(1), P(b';'), Integer(_)]
-                | [Integer(1), P(b';'), Integer(_), P(b':'), Integer(_),]
-        )
-}
-
 /// The key that a list before this final character is in output too: of xterm's forms and kitty's, not of those that rxvt and Windows
 /// have of their own.
 pub fn key_of(params: &[CsiParam], control: char) -> Option<KeyWords> {
-    if !is_told(params, control) {
-        return None;
+    // Before a letter only with modifiers, since it is an action without them.
+    match (control, params) {
+        ('u' | '~', _) | (_, [Integer(1), P(b';'), Integer(_)]) => {}
+        (_, [Integer(1), P(b';'), Integer(_), P(b':'), Integer(_)]) => {}
+        _ => return None,
     }
     match read(InputEvent::Output(Event::Csi(control)), params)? {
         (Encoding::Rxvt | Encoding::Win32, _) => None,
@@ -54,9 +47,9 @@ impl fmt::Display for KeyWords {
         write_held(f, key.modifiers)?;
         write_code(f, key.code)?;
         if key.code == KeyCode::Text {
-            write_text(f, " ", key.text.as_slice())?;
+            write_text(f, " \"", key.text.as_slice())?;
         } else if !key.text.is_empty() {
-            write_text(f, ", text ", key.text.as_slice())?;
+            write_text(f, ", text \"", key.text.as_slice())?;
         }
         match key.event {
             KeyEvent::Press => Ok(()),
@@ -66,17 +59,11 @@ impl fmt::Display for KeyWords {
     }
 }
 
-/// What modifiers are called, in the order in which they are told.
-static HELD: [&str; 6] = ["Ctrl-", "Alt-", "Shift-", "Super-", "Hyper-", "Meta-"];
-
-/// The bit of each, at the same place.
-static BITS: [u8; 6] = [4, 2, 1, 8, 16, 32];
-
 /// The modifiers, each with a hyphen behind it.
 fn write_held<W: Write>(f: &mut Formatter<W>, modifiers: KeyModifiers) -> fmt::Result {
-    let held = modifiers.bits();
-    for (bit, name) in BITS.iter().zip(HELD.iter()) {
-        if held & *bit != 0 {
+    let names = ["Ctrl-", "Alt-", "Shift-", "Super-", "Hyper-", "Meta-"];
+    for (bit, name) in [4, 2, 1, 8, 16, 32].iter().zip(names.iter()) {
+        if modifiers.bits() & *bit != 0 {
             f.write_str(name)?;
         }
     }
@@ -89,10 +76,7 @@ fn write_code<W: Write>(f: &mut Formatter<W>, code: KeyCode) -> fmt::Result {
         KeyCode::F(number) => write!(f, "F{number}"),
         KeyCode::Char(' ') => f.write_str("Space"),
         KeyCode::Char(character) if is_seen(character) => f.write_char(character),
-        KeyCode::Char(character) => {
-            let number = u32::from(character);
-            write!(f, "of character {number}")
-        }
+        KeyCode::Char(character) => write!(f, "of character {}", u32::from(character)),
         _ => match KEYS.get(usize::from(code.tag()).saturating_sub(2)) {
             Some(words) => f.write_str(words),
             None => Ok(()),
@@ -100,10 +84,9 @@ fn write_code<W: Write>(f: &mut Formatter<W>, code: KeyCode) -> fmt::Result {
     }
 }
 
-/// A text between quotation marks.
+/// A text, what stands ahead of it, and a quotation mark behind it.
 fn write_text<W: Write>(f: &mut Formatter<W>, ahead: &str, text: &[char]) -> fmt::Result {
     f.write_str(ahead)?;
-    f.write_char('"')?;
     for character in text {
         let mut bytes = [0u8; 4];
         let shown = Shown(character.encode_utf8(&mut bytes).as_bytes());

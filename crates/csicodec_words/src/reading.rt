@@ -70,6 +70,10 @@ fn read_also(params: &[CsiParam], control: char) -> Option<&'static str> {
         (0, 0, 'm', [CsiParam::Integer(1..), CsiParam::P(b';')]) => Some(
             " (and then all attributes off)",
         ),
+        // The key sends the same as the terminal's answer for places in line 1.
+        (0, 0, 'R', [.., CsiParam::Integer(2..=16)]) if number(params, 0).unwrap_or(1) < 2 => {
+            Some(" (or the key F3 with modifiers)")
+        }
         (0, 0, _, []) => find(&SENT, control.encode_utf8(&mut [0u8; 4]).as_bytes()),
         _ => None,
     }

@@ -9,16 +9,12 @@ use std::fmt::{self, Formatter, Write};
 /// blue, each 0 to 255.
 pub(crate) fn tell_color<W: Write>(f: &mut Formatter<W>, color: &ColorSpec) -> fmt::Result {
     match color {
-        ColorSpec::PaletteIndex(index) => tell_place(f, *index),
+        ColorSpec::PaletteIndex(index) => match COLORS.get(usize::from(*index)) {
+            Some(name) => f.write_str(name),
+            None => write!(f, "palette {index}"),
+        },
         ColorSpec::TrueColor(parts) => tell_parts(f, parts.to_srgb_u8()),
         ColorSpec::Default => f.write_str("default"),
-    }
-}
-
-fn tell_place<W: Write>(f: &mut Formatter<W>, index: u8) -> fmt::Result {
-    match COLORS.get(usize::from(index)) {
-        Some(name) => f.write_str(name),
-        None => write!(f, "palette {index}"),
     }
 }
 

@@ -23,10 +23,8 @@ pub fn fill<W: Write>(f: &mut Formatter<W>, words: &str, params: &[CsiParam]) ->
 /// A hole is a place, a digit of base 16, and what is told of the number there.
 fn fill_hole<W: Write>(f: &mut Formatter<W>, hole: &str, params: &[CsiParam]) -> fmt::Result {
     let mut rest = hole.chars();
-    let place = rest
-        .next()
-        .and_then(|digit| digit.to_digit(16))
-        .unwrap_or(0);
+    let digit = rest.next();
+    let place = digit.and_then(|it| it.to_digit(16)).unwrap_or(0);
     let value = number(params, place);
     match rest.as_str().strip_prefix('=') {
         Some(rest) => {
@@ -71,25 +69,18 @@ fn fill_kind<W: Write>(
 /// A number and what it counts.
 fn counted<W: Write>(f: &mut Formatter<W>, unit: &str, number: i64) -> fmt::Result {
     tell_number(f, number)?;
-    f.write_str(" ")?;
-    f.write_str(unit)?;
-    if number == 1 {
-        Ok(())
-    } else {
-        f.write_str("s")
-    }
+    let plural = if number == 1 { "" } else { "s" };
+    write!(f, " {unit}{plural}")
 }
 
 /// A number, or what stands in its place where it is left out or 0.
 fn fill_number<W: Write>(f: &mut Formatter<W>, kind: &str, value: Option<i64>) -> fmt::Result {
     let (kind, left_out) = kind.split_once('~').unwrap_or((kind, ""));
-    if !left_out.is_empty() {
-        let (otherwise, ahead) = left_out.split_once('|').unwrap_or((left_out, ""));
-        f.write_str(if value.is_none() { otherwise } else { ahead })?;
-        if value.is_none() {
-            return Ok(());
-        }
+    let (otherwise, ahead) = left_out.split_once('|').unwrap_or((left_out, ""));
+    if value.is_none() && !otherwise.is_empty() {
+        return f.write_str(otherwise);
     }
+    f.write_str(ahead)?;
     let (kind, unit) = kind.split_once('#').unwrap_or((kind, ""));
     let zero = kind.strip_prefix(':').unwrap_or("");
     let number = value.unwrap_or(0);

@@ -27,7 +27,6 @@ pub(crate) fn tell_by_code<W: Write>(
         "place" => coordinate(f, value),
         "lines" => margins(f, "line", number(params, 0), value),
         "columns" => margins(f, "column", number(params, 0), value),
-        "f3" => f3(f, number(params, 0), value),
         _ => graphics_values(f, params),
     }
 }
@@ -56,10 +55,7 @@ fn tell_turned<W: Write>(
 ) -> fmt::Result {
     match words_of(own, number) {
         Some(words) => f.write_str(words),
-        None => {
-            f.write_str(name)?;
-            f.write_str(behind)
-        }
+        None => write!(f, "{name}{behind}"),
     }
 }
 
@@ -82,12 +78,10 @@ fn mouse_event<W: Write>(f: &mut Formatter<W>, code: i64, released: bool) -> fmt
         (0 | 192, 3) => f.write_str("button released at"),
         (kind, low) => {
             let button = low.saturating_add(if kind == 128 { 8 } else { 1 });
-            let done = if released {
-                "released at"
-            } else if moved {
-                "dragged to"
-            } else {
-                "pressed at"
+            let done = match (released, moved) {
+                (true, _) => "released at",
+                (false, true) => "dragged to",
+                (false, false) => "pressed at",
             };
             write!(f, "button {button} {done}")
         }
@@ -114,13 +108,5 @@ fn margins<W: Write>(
         (1, 0 | 0xffff_ffff) => f.write_str(" the whole screen"),
         (_, 0xffff_ffff) => write!(f, " {unit} {first} to the last"),
         _ => write!(f, " {unit}s {first} to {last}"),
-    }
-}
-
-/// The key F3 with modifiers sends the same as the terminal's answer for places in line 1.
-fn f3<W: Write>(f: &mut Formatter<W>, line: Option<i64>, column: i64) -> fmt::Result {
-    match (line, column) {
-        (Some(1), 2..=16) => f.write_str(" (or the key F3 with modifiers)"),
-        _ => Ok(()),
     }
 }

@@ -7,11 +7,12 @@ from read import rows_of
 
 
 def places():
-    """Each action that a line and a column say before a final byte, with words that have only these: the final byte, and what is ahead of each."""
+    """Each action that a line and a column say before a final byte, with words that have only these: the final byte, and what is ahead of each. An answer, of which
+    neither may be left out, can have more words."""
     for action in SUBJECTS["Cursor"].actions:
         row = action.row
         texts = re.split(r"\{\w+\}", f"{row.get('shown', row['name'])}  {row['words']}") if "words" in row else []
-        if action.form == "places" and "final" in row and len(texts) == 3 and not texts[2]:
+        if action.form == "places" and "final" in row and len(texts) == 3 and not texts[2] and row["left_out"] != "no":
             yield row["final"], texts[0], texts[1]
 
 

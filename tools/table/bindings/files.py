@@ -19,18 +19,15 @@ from bindings.proofs import proof
 from bindings.python import python_actions, python_enums, python_known
 from bindings.rust import rust_known, rust_rows, rust_types
 from bindings.said import rust_keys, rust_osc
-from bindings.source import candidates, rows
-from bindings.specs import named, ranges, specs
+from bindings.source import rows
+from bindings.specs import specs
 from bindings.words import words
 
 HEADER = "include/csicodec_kinds.h"
 FILES = {
     "crates/csicodec_structs/specs/Rows.antt": specs,
-    "crates/csicodec_structs/specs/Ranges.antt": ranges,
-    "crates/csicodec_structs/specs/Named.antt": named,
     "crates/csicodec_structs/proofs/OneAction.antt": proof,
     "crates/csicodec_structs/src/rows.rt": rows,
-    "crates/csicodec_structs/src/candidates.rt": candidates,
     "crates/csicodec_words/src/action_words.rt": words,
     "crates/csicodec_explain/src/patterns.rt": patterns,
     "crates/csicodec_explain/src/digits.rt": digits,

@@ -1,128 +1,147 @@
 """The proof of csicodec_structs that has lines for each kind: a struct and its tokens are those of one action by its name, and of one."""
 import re
 
-from bindings.library import BY_NUMBER, PATH, has_tokens, kinds, low, module, number_of, of, text_of, type_of, types, used
+from bindings.library import BY_NUMBER, FIRST, has_tokens, kinds, low, module, number_of, of, text_of, type_of, types, used
 from bindings.specs import can_be_named, named_row, names_in, own_use, spec_row, spec_use, type_uses, value
 from layout import folded
 
-# The enumerations of these forms, and the number that is one.
-HIDDEN = {
-    "keys": ("XtermKeyModifierResource", "given.first"),
-    "report": ("MouseButton", "(pos given.button)"),
-    "state": ("KittyKeyboardMode", "given.second"),
-    "path": ("CharacterPath", "given.first"),
-}
-# How the specs give the number of an enumeration that no row has alone.
-NUMBERS = {"MouseButton": "button_number"}
-# Of an enumeration whose numbers csicodec_actions reads, the kind of these there, and that what is read of one's number is this one.
+# Of an enumeration whose numbers csicodec_actions reads, the kind of these there.
 READ = {
-    "CursorStyle": ("Style", "read-good Style v tt"),
-    "CursorTabulationControl": ("Control", "read-good Control v tt"),
-    "EraseInDisplay": ("InDisplay", "read-good InDisplay v tt"),
-    "EraseInLine": ("InLine", "read-good InLine v tt"),
-    "TabulationClear": ("Clear", "read-good Clear v tt"),
-    "CharacterPath": ("Path", "read-good Path v tt"),
-    "KittyKeyboardMode": ("Way", "read-good Way v tt"),
-    "XtermKeyModifierResource": ("Resource", "read-good Resource v tt"),
-    "DecPrivateMode": ("Dec", "dec-back v named range"),
-    "TerminalMode": ("Terminal", "terminal-back v named range"),
+    "CursorStyle": "Style",
+    "CursorTabulationControl": "Control",
+    "EraseInDisplay": "InDisplay",
+    "EraseInLine": "InLine",
+    "TabulationClear": "Clear",
+    "DecPrivateMode": "Dec",
+    "TerminalMode": "Terminal",
 }
+# Those whose variants stand here, under these names.
+NUMBERED = {"Blink": "blink", "Intensity": "intensity", "MouseButton": "button", "Underline": "line", "VerticalAlign": "align"}
+# The forms, each with what a struct and its tokens say there.
+FORMS = """
+-- ---- forms: a value by what a struct says
+
+abbrev unit : {A : Type 0} → A → Struct → Option A
+unit a given = Some a
+
+abbrev count : {A : Type 0} → (ℕ → A) → Struct → Option A
+count make given = Some (make (nat_abs given.first))
+
+abbrev pair : (ℕ → ℕ → Cursor) → Struct → Option Cursor
+pair make given = Some (make (nat_abs given.first) (nat_abs given.second))
+
+abbrev sizes : (Option ℤ → Option ℤ → Window) → Struct → Option Window
+sizes make given = Some (make (first_at given) (second_at given))
+
+abbrev flag : (Bool → Sgr) → Struct → Option Sgr
+flag make given = Some (make (is_number 1 given.first))
+
+abbrev painted : (ColorSpec → Sgr) → Struct → Option Sgr
+painted make given = Some (make (color_at given))
+
+abbrev listed : {E : Type 0} → (E → ℕ) → List E → (E → Sgr) → Struct → Option Sgr
+listed number all make given = option_map make (with_number number all given.first)
+
+abbrev coded : {A : Type 0} (k : Kind) → (Value k → A) → Struct → Option A
+coded k make given = option_map make (read k given.first)
+
+abbrev extended : List Param → (List DeviceAttribute → Attributes) → Struct → Option Device
+extended params make given = Some (device.DeviceAttributes (make (map attribute_at params)))
+
+abbrev reported : (ℕ → ℕ → MouseButton → Modifiers → MouseReport) → Struct → Option MouseReport
+reported make given =
+    let made = λ (b : MouseButton). make (nat_abs given.first) (nat_abs given.second) b (record { bits = given.modifiers }) in
+    option_map made (with_number button_number buttons (pos given.button))
+
+abbrev state : (KittyKeyboardFlags → KittyKeyboardMode → Keyboard) → Struct → Option Keyboard
+state make given = option_map (λ v. make (record { bits = nat_abs given.first }) v) (read Way given.second)
+"""
 
 
-def coded(form, names):
-    """The enumeration in a form that is found by its number: its name, and the number."""
+def all_of(name):
+    """Each variant of an enumeration, as a list."""
+    return [*(f"{NUMBERED[name]}.{variant.name}" for variant in types()[name].variants), "[]"]
+
+
+def maker(number, group, variant, form, names):
+    """What makes the value of a struct of this kind."""
+    bare, one = value(group, variant, ""), (lambda left: f"(λ given. Some ({value(group, variant, left)}))")
+    if form == "enum" and names[0] in READ:
+        return f"coded {READ[names[0]]} {bare}"
     if form == "enum" and names[0] != "Font":
-        return names[0], "given.first"
-    return HIDDEN.get(form)
+        return f"listed {number_of(names[0])[0]} ({' ∷ '.join(all_of(names[0]))}) {bare}"
+    return {
+        "unit": f"unit ({bare})" if " " in bare else f"unit {bare}",
+        "count": f"count {bare}",
+        "place": f"count {bare}",
+        "places": f"pair {bare}",
+        "int": one(" given.first"),
+        "ints": one(" given.first given.second"),
+        "sizes": f"sizes {bare}",
+        "enum": one(" (font_at given.first)"),
+        "flag": f"flag {bare}",
+        "color": f"painted {bare}",
+        "keys": f"(λ given. option_map (λ v. {bare} v (second_at given)) (read Resource given.first))",
+        "area": one(" given.first given.second given.top given.left given.bottom given.right"),
+        "report": f"reported {bare}",
+        "state": f"state {bare}",
+        "bits": one(" (record { bits = nat_abs given.first })"),
+        "extensions": f"extended params {low(group)}.{variant[-1]}",
+        "graphics": one(" (item_of given.first) given.second (map value_at params)"),
+    }[form]
 
 
-def listed(name, place):
-    """What is found of a number, and that each variant is found by its own."""
-    if name in READ:
-        kind, back = READ[name]
-        return f"(read {kind} {place})", back
-    return f"(with_number {NUMBERS.get(name) or number_of(name)[0]} {low(name)}_all {place})", f"{low(name)}-found v"
-
-
-def enumerations():
-    """Those whose lists stand here, and how the specs give their numbers."""
-    forms = [coded(form, names) for _, _, _, form, names in kinds()]
-    return sorted({(found_[0], NUMBERS.get(found_[0]) or number_of(found_[0])[0]) for found_ in forms if found_ and found_[0] not in READ})
+def back_rows(number, group, variant, form, names):
+    """That it is found again, where it isn't by computing alone: what stands behind the name of its variant, and why."""
+    a, b = names_in(names)
+    found_ = lambda left, fact: [(left, f"rw ({fact}) refl")]
+    if form == "enum" and names[0] in ("DecPrivateMode", "TerminalMode"):
+        return []
+    if form == "enum" and names[0] in READ:
+        return found_(" v", f"read-good {READ[names[0]]} v tt")
+    if form == "enum":
+        return found_(" v", "font-back v range") if names[0] == "Font" else [(f" {all_of(names[0])[0]}", "refl")]
+    return {
+        "sizes": [(" None None", "refl"), (" (Some a) None", "refl")],
+        "flag": [(" true", "refl")],
+        "color": [(" color.Default", "refl")],
+        "keys": found_(" v None", "read-good Resource v tt") + found_(" v (Some z)", "read-good Resource v tt"),
+        "report": [(f" {a} {b} button.None modifiers", "refl")],
+        "state": found_(" flags v", "read-good Way v tt"),
+        "extensions": found_(" list", "attributes-back list named"),
+        "graphics": found_(" item action_or_status list", "item-back item named, values-back list"),
+    }.get(form, [])
 
 
 def action(group, variant, left):
     return f"action.{group} ({value(group, variant, left)})" if left or len(variant) > 1 else f"action.{group} {value(group, variant, left)}"
 
 
-def lists():
-    """Each of these enumerations as a list, and that each of its variants is found there by its number."""
-    out = ""
-    for name, number in enumerations():
-        all_ = [f"{low(name)}.{variant.name}" for variant in types()[name].variants]
-        out += f"\nabbrev {low(name)}_all : List {name}\n{folded(f'{low(name)}_all', [*all_, '[]'], '∷')}\n"
-        out += f"\n{low(name)}-found : (v : {name}) → with_number {number} {low(name)}_all (pos ({number} v)) ≡ Some v\n{low(name)}-found {all_[0]} = refl\n{low(name)}-found other = refl\n"
-    return out
-
-
-def found_row(number, group, variant, form, names):
-    """The action of a struct of this kind."""
-    first, second = "(nat_abs given.first)", "(nat_abs given.second)"
-    left = {
-        "unit": "",
-        "count": f" {first}",
-        "place": f" {first}",
-        "places": f" {first} {second}",
-        "int": " given.first",
-        "ints": " given.first given.second",
-        "sizes": " (first_at given) (second_at given)",
-        "enum": " v" if coded(form, names) else " (font_at given.first)",
-        "flag": " (flag_at given.first)",
-        "color": " (color_at given)",
-        "keys": " v (second_at given)",
-        "area": " given.first given.second given.top given.left given.bottom given.right",
-        "report": f" {first} {second} v (record {{ bits = given.modifiers }})",
-        "state": f" (record {{ bits = {first} }}) v",
-        "bits": f" (record {{ bits = {first} }})",
-        "extensions": " (map attribute_at params)",
-        "graphics": " (item_of given.first) given.second (map value_at params)",
-    }[form]
-    one = action(group, variant, left)
-    if coded(form, names):
-        found = f"option_map (λ v. {one})", listed(*coded(form, names))[0]
-        return ("\n    " if len(" ".join(found)) > 160 else " ").join(found)
-    return f"Some ({one})"
-
-
-def back_rows(number, group, variant, form, names):
-    """That it is found again, where it isn't by computing alone: what stands behind the name of its variant, and why."""
-    a, b = names_in(names)
-    some = lambda left: f"λ v. Some ({action(group, variant, left)})"
-    mapped = lambda left: (left, f"ap (option_map (λ v. {action(group, variant, left)})) ({listed(*coded(form, names))[1]})")
-    if form == "enum":
-        return [mapped(" v") if coded(form, names) else (" v", f"ap ({some(' v')}) (font-back v range)")]
-    return {
-        "sizes": [(" None None", "refl"), (" (Some a) None", "refl")],
-        "flag": [(" v", f"ap ({some(' v')}) (flag-back v)")],
-        "color": [(" color.Default", "refl")],
-        "keys": [mapped(" v None"), mapped(" v (Some z)")] if form == "keys" else [],
-        "report": [mapped(f" {a} {b} v modifiers")] if form == "report" else [],
-        "state": [mapped(" flags v")] if form == "state" else [],
-        "extensions": [(" list", f"ap ({some(' v')}) (attributes-back list named)")],
-        "graphics": [(" item action_or_status list", "rw (item-back item named, values-back list) refl")],
-    }.get(form, [])
-
-
 def found():
     """The action of any struct and its tokens, and that each action by its name is found by its own."""
-    out = "\n-- the action of a struct and its tokens\naction_at : Struct → List Param → Option Action\naction_at given params =\n"
-    out += "    if given.kind == 0 then Some (action.Unspecified (map token_at params) false given.final_char) else\n"
-    for kind in kinds():
-        out += f"    if given.kind == {kind[0]} then {found_row(*kind)} else\n"
-    out += f"    if given.kind == {PATH} then option_map (λ v. action.SelectCharacterPath v given.second) {listed('CharacterPath', 'given.first')[0]} else\n    None\n"
+    out = f"\nabbrev buttons : List MouseButton\n{folded('buttons', all_of('MouseButton'), '∷')}\n{FORMS}\n-- ---- what makes each kind, by its number\n"
+    for group in BY_NUMBER:
+        head, params = f"{low(group)}_makers", has_tokens(group)
+        out += f"\nabbrev {head} : {'List Param → ' * params}List (Struct → Option {type_of(group)})\n"
+        out += folded(head + " params" * params, [*(maker(*kind) for kind in of(group)), "[]"], "∷") + "\n"
+    out += """
+abbrev pick : {A : Type 0} → List (Struct → Option A) → ℕ → (A → Action) → Struct → Option Action
+pick makers at make given = option_map make (get_or makers at (λ _. None) given)
+
+-- the action of a struct and its tokens
+action_at : Struct → List Param → Option Action
+action_at given params =
+    if given.kind == 0 then Some (action.Unspecified (map token_at params) false given.final_char) else
+"""
+    for group in BY_NUMBER:
+        makers = f"({low(group)}_makers params)" if has_tokens(group) else f"{low(group)}_makers"
+        out += f"    if nat_lt given.kind {(FIRST[group] + 99) // 100 * 100} then pick {makers} (given.kind - {of(group)[0][0]}) action.{group} given else\n"
+    out += "    option_map (λ v. action.SelectCharacterPath v given.second) (read Path given.first)\n"
     out += "\naction-back : (place : ℕ) (a : Action) → InRange a → IsNamed a → action_at (struct_of place a) (params_of a) ≡ Some a\nunfolding action_at\n"
     for kind in kinds():
         out += "".join(f"action-back place ({action(kind[1], kind[2], left)}) range named = {right}\n" for left, right in back_rows(*kind))
-    out += f"""action-back place (action.SelectCharacterPath v effect) range named = ap (option_map (λ v. action.SelectCharacterPath v effect)) ({listed('CharacterPath', 'given.first')[1]})
+    out += """action-back place (action.Mode m) range named = simp (dec-back, terminal-back)
+action-back place (action.SelectCharacterPath v effect) range named = rw (read-good Path v tt) refl
 action-back place (action.Unspecified params flag final) range named = rw (tokens-back params, named) refl
 action-back place other range named = refl
 """
@@ -132,24 +151,31 @@ action-back place other range named = refl
 def like_row(number, group, variant, form, names):
     """What stands behind the name of its variant, and the one by its name that has the struct and the tokens of this one."""
     if form == "enum":
-        by = READ[names[0]][1].split("-")[0]
-        return " v", f"let h = {by}-named v range in like ({action(group, variant, ' h.0')}) (rw h.2 range) h.1 (rw h.2) refl"
+        return " v", f"alike {value(group, variant, '')} ({low(READ[names[0]])}-named v range) (λ m n e. (rw e range, n, rw e))"
     if form == "extensions":
-        return " list", f"let l = attributes-named list range in like ({action(group, variant, ' l.others')}) l.in_range l.named (rw l.long) l.same"
-    return " item action_or_status list", f"let h = item-named (item_number item) in\n    like ({action(group, variant, ' (item_of (item_number item)) action_or_status list')}) range h.0 (rw h.1) refl"
+        return " list", f"\n    let l = attributes-named list range in like ({action(group, variant, ' l.others')}) l.in_range l.named (rw l.long) l.same"
+    one = action(group, variant, " (item_of (item_number item)) action_or_status list")
+    return " item action_or_status list", f"\n    let h = item-named (item_number item) in\n    like ({one}) range h.0 (rw h.1) refl"
 
 
 def likes():
     """That each action has its like by its name."""
     out = """
-like : {place : ℕ} {a : Action} (one : Action) → InRange one → IsNamed one → struct_of place one ≡ struct_of place a → params_of one ≡ params_of a → ByName place a
+like : {place : ℕ} {a : Action} (one : Action) → InRange one → IsNamed one → struct_of place one ≡ struct_of place a
+    → params_of one ≡ params_of a → ByName place a
 like one in_range named given params = record { one = one; in_range = in_range; named = named; given = given; params = params }
+
+alike : {place : ℕ} {M : Type 0} {Named : M → Type 0} {number : M → ℕ} {v : M} (make : M → Mode)
+    → ((m : M) × Named m × (number m ≡ number v))
+    → ((m : M) → Named m → number m ≡ number v → ModeInRange (make m) × IsNamedMode (make m) × (mode_struct (make m) ≡ mode_struct (make v)))
+    → ByName place (action.Mode (make v))
+alike make (m, named, is) facts = (let (range, by_name, given) = facts m named is in like (action.Mode (make m)) range by_name given refl)
 
 pub action-named : (place : ℕ) (a : Action) → InRange a → ByName place a
 """
     for kind in filter(lambda kind: named_row(*kind), kinds()):
         left, right = like_row(*kind)
-        out += f"action-named place ({action(kind[1], kind[2], left)}) range =\n    {right}\n"
+        out += f"action-named place ({action(kind[1], kind[2], left)}) range = {right}\n".replace(" = \n", " =\n")
     out += """action-named place (action.Unspecified params flag final) range = like (action.Unspecified params false final) range refl refl refl
 action-named place other range = like other range tt refl refl
 """
@@ -157,32 +183,37 @@ action-named place other range = like other range tt refl refl
 
 
 def proof():
-    body = lists() + found() + """
+    body = found() + """
 -- so two by their names with one struct and its tokens are one
-pub same-action : (place : ℕ) (a b : Action) → InRange a → IsNamed a → InRange b → IsNamed b → struct_of place a ≡ struct_of place b → params_of a ≡ params_of b → a ≡ b
+pub same-action : (place : ℕ) (a b : Action) → InRange a → IsNamed a → InRange b → IsNamed b → struct_of place a ≡ struct_of place b
+    → params_of a ≡ params_of b → a ≡ b
 same-action place a b in_a named_a in_b named_b given params =
     let same = ap (λ p. action_at p (params_of a)) given ∙ ap (action_at (struct_of place b)) params in
     same_Some a b (sym (action-back place a in_a named_a) ∙ same ∙ action-back place b in_b named_b)
 """ + likes()
     uses = ""
-    for name, _ in enumerations():
-        uses += f"use {module(name)}.{{{name}}}\nuse {module(name)}.TheVariants as {low(name)}\n"
-    kinds_read = ", ".join(sorted(kind for kind, _ in READ.values()))
+    for name in sorted(types()):
+        uses += f"use {module(name)}.{{{name}}}\n" if name in ("MouseButton", "KittyKeyboardMode", "DeviceAttribute") else ""
+        uses += f"use {module(name)}.TheVariants as {NUMBERED[name]}\n" if name in NUMBERED else ""
     values = used(re.findall(r"^(?:abbrev )?pub (?:record )?([\w-]+) ", text_of("crates/csicodec_structs/proofs/OneValue.antt"), re.M), body)
     return f"""-- A struct and its tokens are those of one action by its name, whatever action has them. Written by tools/table.
-use Rattle.std.proofs.Common.{{◌≡◌, ℕ, List, [], ◌∷◌, Option, None, Some, map, refl, sym, ap, ◌∙◌, pos}}
-use Rattle.std.specs.Prelude.{{false, nat_abs, ◌==◌, if◌then◌else◌}}
+use Rattle.std.proofs.Common.{{◌≡◌, ℕ, ◌-◌, List, [], ◌∷◌, Option, None, Some, map, refl, sym, ap, ◌∙◌, pos, get_or, nat_lt}}
+use Rattle.std.specs.Prelude.{{ℤ, Bool, true, false, nat_abs, ◌==◌, if◌then◌else◌}}
 use Rattle.std.specs.Option.{{option_map}}
 use Rattle.std.proofs.lemmas.Option.{{same_Some}}
-use Rattle.csicodec_names.specs.Numbered.{{with_number}}
+use Rattle.csicodec_names.specs.Numbered.{{is_number, with_number}}
+use Rattle.csicodec_names.specs.declared.color.ColorSpec.{{ColorSpec}}
 use Rattle.csicodec_names.specs.declared.color.ColorSpec.TheVariants as color
+use Rattle.csicodec_names.specs.declared.flags.Modifiers.{{Modifiers}}
+use Rattle.csicodec_names.specs.declared.flags.KittyKeyboardFlags.{{KittyKeyboardFlags}}
 {uses}{type_uses(body)}\
+use Rattle.csicodec_actions.specs.Devices.{{Attributes}}
 use Rattle.csicodec_actions.proofs.Values.{{read-good}}
 {spec_use("csicodec_actions", "XtSmGraphics", body)}\
-use Rattle.csicodec_actions.specs.Kinds.{{{kinds_read}, read}}
+use Rattle.csicodec_actions.specs.Kinds.{{{", ".join(sorted({*READ.values(), "Path", "Resource", "Way", "Kind", "Value", "read"}))}}}
 use Rattle.csicodec_structs.specs.declared.structs.Param.{{Param}}
 use Rattle.csicodec_structs.specs.declared.structs.Struct.{{Struct}}
-{own_use("Named", body)}{spec_use("csicodec_structs", "Structs", body)}{own_use("Ranges", body)}{own_use("Rows", body)}{spec_use("csicodec_structs", "Values", body)}\
+{own_use(body)}{spec_use("csicodec_structs", "Structs", body)}\
 use Rattle.csicodec_structs.proofs.ModeNumbers.{{dec-back, dec-named, terminal-back, terminal-named}}
 use Rattle.csicodec_structs.proofs.OneValue.{{{values}}}
 """ + body

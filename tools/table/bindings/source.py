@@ -1,5 +1,6 @@
 """The source of csicodec_structs that has a line for each kind: the struct of an action, and what a struct without tokens may stand for."""
 import re
+import textwrap
 
 from bindings.library import BY_NUMBER, IN_TURN, LISTS, NAMED, PATH, acting, declared, has_tokens, is_boxed, kinds, low, number_of, of, snake, span, text_of, type_of, used
 from bindings.specs import can_be_named, names_in, own_use
@@ -7,13 +8,16 @@ from bindings.specs import can_be_named, names_in, own_use
 
 def source_use(text):
     """The `use` line of the types that the text of a source says."""
-    return f"use csicodec::{{{used([kind.name for kind in declared(NAMED + acting())] + ['Modifiers'], text)}}};\n"
+    names = [kind.name for kind in declared(NAMED + acting())] + ["Modifiers"]
+    # A variant in a table of kinds, behind its number, isn't the type of its name.
+    said = re.sub(r"(?<=[0-9] )[A-Z]\w*[(]", "", text)
+    return f"use csicodec::{{{used(names, said)}}};\n"
 
 
 def numbers_use(text):
     """The `use` line of the functions between numbers and values that it calls."""
     names = re.findall(r"^pub\(crate\) fn (\w+)", text_of("crates/csicodec_structs/src/numbers.rt"), re.M)
-    return f"use crate::numbers::{{{used([name for name in names if f'{name}(' in text], text)}}};\n"
+    return f"use crate::numbers::{{{used([name for name in names if re.search(rf'[ (]{name}[()]', text)], text)}}};\n"
 
 
 def source_name(group, variant):
@@ -70,18 +74,126 @@ SAID = {
     "Mode": "/// The struct of a change of a mode, or of a question for one.\n#[inline(always)]\n",
 }
 
+# What the arms of a `match` are, of a kind and what it says, both ways.
+ARMS = """
+/// The struct of a kind, by its number and what it says.
+macro_rules! kind_row {
+    ($number:literal) => { row($number, 0, 0) };
+    ($number:literal place $value:ident) => { row($number, i64::from($value.as_one_based()), 0) };
+    ($number:literal number $value:ident) => { row($number, *$value, 0) };
+    ($number:literal coded $value:ident) => { row($number, $value.to_i64(), 0) };
+    ($number:literal listed $value:ident) => { row($number, *$value as i64, 0) };
+    ($number:literal font $value:ident) => { row($number, font_number(*$value), 0) };
+    ($number:literal color $value:ident) => { color_row($number, $value) };
+    ($number:literal private_mode $value:ident) => { row($number, i64::from($value.number()), 0) };
+    ($number:literal terminal_mode $value:ident) => { row($number, i64::from($value.number()), 0) };
+    ($number:literal flags $value:ident) => { row($number, i64::from($value.bits()), 0) };
+    ($number:literal $form:ident $value:ident) => { row($number, i64::from(*$value), 0) };
+    ($number:literal places $a:ident $b:ident) => { places_row($number, *$a, *$b) };
+    ($number:literal numbers $a:ident $b:ident) => { row($number, *$a, *$b) };
+    ($number:literal sizes $a:ident $b:ident) => { sized_row($number, *$a, *$b) };
+    ($number:literal keys $a:ident $b:ident) => { sized_row($number, Some(i64::from($a.number())), *$b) };
+    ($number:literal state $a:ident $b:ident) => { row($number, i64::from($a.bits()), i64::from($b.number())) };
+    ($number:literal report $x:ident $y:ident $a:ident $b:ident) => { report_row($number, *$x, *$y, *$a, *$b) };
+    ($number:literal area $a:ident $b:ident $($side:ident)*) => { Struct { $($side: $side.as_one_based(),)* ..row($number, *$a, *$b) } };
+}
+
+/// What a struct says in a field, for a value of a kind.
+macro_rules! said {
+    ($given:ident place) => { place($given.first)? };
+    ($given:ident number) => { $given.first };
+    ($given:ident coded $type:ident) => { $type::from_i64($given.first)? };
+    ($given:ident listed $by:ident) => { $by($given.first)? };
+    ($given:ident $form:ident) => { $form($given)? };
+    ($given:ident places $at:ident) => { place($given.$at)? };
+    ($given:ident numbers $at:ident) => { $given.$at };
+    ($given:ident sizes $at:ident) => { $at($given) };
+    ($given:ident keys first) => { XtermKeyModifierResource::parse($given.first)? };
+    ($given:ident keys second) => { second($given) };
+    ($given:ident state first) => { flags($given)? };
+    ($given:ident state second) => { KittyKeyboardMode::from_i64($given.second)? };
+    ($given:ident report button) => { button($given.button)? };
+    ($given:ident report modifiers) => { Modifiers::from_bits_retain($given.modifiers) };
+    ($given:ident report $at:ident) => { word($given.$at)? };
+    ($given:ident area first) => { $given.first };
+    ($given:ident area second) => { $given.second };
+    ($given:ident area $side:ident) => { side($given.$side)? };
+}
+
+/// The struct of a value, whatever its kind.
+macro_rules! struct_of_value {
+    ($value:ident $type:ident $($number:literal $name:ident $(($form:ident $($of:ident)?))? $($fields:ident { $($field:ident: $at:ident),* })?,)*) => {
+        match $value {
+            $($type::$name $(($form))? $({ $($field),* })? => kind_row!($number $($form $form)? $($fields $($field)*)?),)*
+        }
+    };
+}
+
+/// What a struct may stand for, by its kind.
+macro_rules! value_of_struct {
+    ($given:ident $type:ident $($number:literal $name:ident $(($form:ident $($of:ident)?))? $($fields:ident { $($field:ident: $at:ident),* })?,)*) => {
+        match $given.kind {
+            $($number => Some($type::$name $((said!($given $form $($of)?)))? $({ $($field: said!($given $fields $at)),* })?),)*
+            _ => None,
+        }
+    };
+}
+"""
+
+
+def kind_row(number, group, variant, form, names):
+    """A kind in the table: its number, its variant, and what that says; a value's name is its form."""
+    a, b = names_in(names)
+    two = lambda what: f" {what} {{ {a}: first, {b}: second }}"
+    left = {
+        "unit": "",
+        "count": "(count)",
+        "place": "(place)",
+        "places": two("places"),
+        "int": "(number)",
+        "ints": two("numbers"),
+        "sizes": two("sizes"),
+        "flag": "(flag)",
+        "color": "(color)",
+        "keys": " keys { resource: first, value: second }",
+        "area": " area { request_id: first, page_number: second, top: top, left: left, bottom: bottom, right: right }",
+        "report": f" report {{ {a}: first, {b}: second, button: button, modifiers: modifiers }}",
+        "state": " state { flags: first, mode: second }",
+        "bits": "(flags)",
+        "enum": "",
+    }[form]
+    if form == "enum":
+        read = number_of(names[0])[2]
+        own = re.fullmatch(r"(\w+)\(given(\.first)?\)\?", read)
+        left = f"({f'listed {own[1]}' if own[2] else own[1]})" if own else f"(coded {names[0]})"
+    return f"{number} {variant[0]}{left},"
+
+
+def tables():
+    """The kinds of each subject, of which each says what a struct has in numbers alone."""
+    out = "\n/// The kinds of each subject: their numbers, and what they say.\nmacro_rules! kinds {\n"
+    for group in BY_NUMBER:
+        if has_tokens(group):
+            continue
+        rows_ = textwrap.wrap(" ".join(kind_row(*kind).replace(" ", "\0") for kind in of(group)), 130, break_long_words=False, break_on_hyphens=False)
+        out += f"    ({type_of(group)} $arms:ident $value:ident) => {{\n        $arms! {{ $value {type_of(group)}\n"
+        out += "".join(f"            {row}\n" for row in rows_).replace("\0", " ") + "        }\n    };\n"
+    return out + "}\n"
+
 
 def rows():
-    body = ""
+    body = ARMS + tables()
     for group in BY_NUMBER:
         value = f"place ({low(group)}_of {low(group)}.now)" if has_tokens(group) else f"{low(group)}.now"
         place = "place: usize, " if has_tokens(group) else ""
         # What takes memory is laid by other calls than `struct_of`, and so is a short sequence.
         public = "pub(crate) " if group in SAID or is_boxed(group) else ""
-        body += f"\n{SAID.get(group, '')}{public}fn {low(group)}_struct({place}{low(group)}: &{type_of(group)}) -> Struct\n    ensures {{ result ≡ {low(group)}_struct {value} }}\n{{\n    match {low(group)} {{\n"
-        for kind in of(group):
-            body += struct_arm(kind, OWN)
-        body += "    }\n}\n"
+        body += f"\n{SAID.get(group, '')}{public}fn {low(group)}_struct({place}{low(group)}: &{type_of(group)}) -> Struct\n    ensures {{ result ≡ {low(group)}_struct {value} }}\n{{\n"
+        if has_tokens(group):
+            body += f"    match {low(group)} {{\n" + "".join(struct_arm(kind, OWN) for kind in of(group)) + "    }\n}\n"
+        else:
+            body += f"    kinds!({type_of(group)} struct_of_value {low(group)})\n}}\n"
+        body += candidate_of(group)
     body += """
 /// An action whose tokens, if it has any, stand from this place on.
 pub(crate) fn struct_of(place: usize, action: &CSI) -> Struct
@@ -96,40 +208,37 @@ pub(crate) fn struct_of(place: usize, action: &CSI) -> Struct
     }}
 }}
 """
-    return f"""//! The struct of each action, subject by subject. Written by tools/table.
-ghost use Rattle.std.specs.Prelude.{{◌≡◌}};
+    small = "".join(f"        {span(group)} => Some(CSI::{group}({low(group)}_candidate(given)?)),\n" for group in BY_NUMBER if not is_boxed(group))
+    small += f"        {PATH} => Some(CSI::SelectCharacterPath(CharacterPath::from_i64(given.first)?, given.second)),\n"
+    boxed = "".join(f"""        {span(group)} => match {low(group)}_candidate(given) {{
+            Some({low(group)}) => Ok(Some(CSI::{group}(Box::new(alloc, {low(group)})?))),
+            None => Ok(None),
+        }},
+""" for group in BY_NUMBER if is_boxed(group))
+    body += SMALL.replace("ARMS", small) + ALL.replace("ARMS", boxed)
+    numbers = "use std::alloc::{AllocError, Global};\n\n/// What none of the rules reads.\npub(crate) const UNSPECIFIED: u32 = 0;\n"
+    numbers += "".join(f"/// `{variant[-1]}`.\npub(crate) const {snake(variant[-1])}: u32 = {number};\n" for number, _, variant, form, _ in kinds() if form in LISTS)
+    return f"""//! The struct of each action, subject by subject, and what a struct without tokens may stand for: a value with this struct is found
+//! wherever there is one, by its name. Of another struct nothing is promised: the caller sees whether what is found has it. Written by
+//! tools/table.
+ghost use Rattle.std.specs.Prelude.{{◌≡◌, [], IfOk, IfSome}};
+ghost use Rattle.std.specs.Option.{{option_map}};
 ghost use Rattle.csicodec_actions.specs.Devices.{{device_of}};
 ghost use Rattle.csicodec_parser.specs.ActionOf.{{action_of}};
-ghost use Rattle.csicodec_structs.specs.Rows.{{{", ".join(sorted([f"{low(group)}_struct" for group in IN_TURN] + ["struct_of"]))}}};
+ghost use Rattle.csicodec_structs.specs.Private.Steps.{{Finds, HasNoList, IsBare, IsSmall}};
+ghost {own_use(body).strip()};
 
 {numbers_use(body)}use crate::structs::{{
     Struct, color_row, flags_row, list_row, places_row, report_row, row, sized_row, unknown_row,
 }};
 use bitflags::Flags;
-{source_use(body)}""" + body
+{source_use(body)}""" + numbers + body
 
 
 def candidate(number, group, variant, form, names):
+    """The arm of a kind of a subject that has tokens too."""
     name, tail = source_name(group, variant)
-    a, b = names_in(names)
-    right = {
-        "unit": "",
-        "count": "(count(given)?)",
-        "place": "(place(given.first)?)",
-        "places": f" {{ {a}: place(given.first)?, {b}: place(given.second)? }}",
-        "int": "(given.first)",
-        "ints": f" {{ {a}: given.first, {b}: given.second }}",
-        "sizes": f" {{ {a}: first(given), {b}: second(given) }}",
-        "enum": f"({number_of(names[0])[2]})" if form == "enum" else "",
-        "flag": "(flag(given)?)",
-        "color": "(color(given)?)",
-        "keys": " { resource: XtermKeyModifierResource::parse(given.first)?, value: second(given) }",
-        "area": " { request_id: given.first, page_number: given.second, top: side(given.top)?, left: side(given.left)?, bottom: side(given.bottom)?, right: side(given.right)? }",
-        "report": f" {{ {a}: word(given.first)?, {b}: word(given.second)?, button: button(given.button)?, modifiers: Modifiers::from_bits_retain(given.modifiers) }}",
-        "state": " { flags: flags(given)?, mode: KittyKeyboardMode::from_i64(given.second)? }",
-        "bits": "(flags(given)?)",
-    }[form]
-    return f"{number} => Some({name}{right}{tail}),\n"
+    return f"{number} => Some({name}{dict(unit='', int='(given.first)')[form]}{tail}),\n"
 
 
 SMALL = """
@@ -175,38 +284,7 @@ def candidate_of(group):
     else:
         clauses["finds"] = f"Finds {name}_struct {group}InRange given.now result"
     ensures = "".join(f"    ensures {clause} {{ {says} }}\n" for clause, says in clauses.items())
-    body = f"\nfn {name}_candidate(given: &Struct) -> Option<{type_of(group)}>\n{ensures}{{\n    match given.kind {{\n"
-    for kind in of(group):
-        if kind[3] not in LISTS:
-            body += candidate(*kind)
-    body += "        _ => None,\n    }\n}\n"
-    return body
-
-
-def candidates():
-    body = "use std::alloc::{AllocError, Global};\n\n/// What none of the rules reads.\npub(crate) const UNSPECIFIED: u32 = 0;\n"
-    body += "".join(f"/// `{variant[-1]}`.\npub(crate) const {snake(variant[-1])}: u32 = {number};\n" for number, _, variant, form, _ in kinds() if form in LISTS)
-    body += "".join(map(candidate_of, BY_NUMBER))
-    small = "".join(f"        {span(group)} => Some(CSI::{group}({low(group)}_candidate(given)?)),\n" for group in BY_NUMBER if not is_boxed(group))
-    small += f"        {PATH} => Some(CSI::SelectCharacterPath(CharacterPath::from_i64(given.first)?, given.second)),\n"
-    boxed = "".join(f"""        {span(group)} => match {low(group)}_candidate(given) {{
-            Some({low(group)}) => Ok(Some(CSI::{group}(Box::new(alloc, {low(group)})?))),
-            None => Ok(None),
-        }},
-""" for group in BY_NUMBER if is_boxed(group))
-    body += SMALL.replace("ARMS", small) + ALL.replace("ARMS", boxed)
-    return f"""//! What a struct without tokens may stand for, subject by subject: a value with this struct is found wherever there is one.
-//! It is by its name. Of another struct nothing is promised: the caller sees whether what is found has it. Written by
-//! tools/table.
-ghost use Rattle.std.specs.Prelude.{{◌≡◌, [], IfOk, IfSome}};
-ghost use Rattle.std.specs.Option.{{option_map}};
-ghost use Rattle.csicodec_actions.specs.Devices.{{device_of}};
-ghost use Rattle.csicodec_parser.specs.ActionOf.{{action_of}};
-ghost use Rattle.csicodec_structs.specs.Private.Candidates.{{Finds, HasNoList, IsBare, IsSmall}};
-ghost {own_use("Named", body).strip()};
-ghost {own_use("Ranges", body).strip()};
-ghost {own_use("Rows", body).strip()};
-
-{numbers_use(body)}use crate::structs::Struct;
-use bitflags::Flags;
-{source_use(body)}""" + body
+    head = f"\nfn {name}_candidate(given: &Struct) -> Option<{type_of(group)}>\n{ensures}{{\n"
+    if not has_tokens(group):
+        return f"{head}    kinds!({type_of(group)} value_of_struct given)\n}}\n"
+    return f"{head}    match given.kind {{\n" + "".join(candidate(*kind) for kind in of(group) if kind[3] not in LISTS) + "        _ => None,\n    }\n}\n"

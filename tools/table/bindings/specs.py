@@ -12,14 +12,12 @@ def spec_use(crate, file, text):
     return f"use Rattle.{crate}.specs.{file}.{{{said}}}\n" if said else ""
 
 
-def own_use(file, text):
-    """The `use` line of what the text says of the definitions of a file that is written here."""
-    names = {
-        "Rows": ["struct_of", "params_of"] + [f"{low(group)}_{what}" for group in IN_TURN for what in ("struct", "params")],
-        "Ranges": ["InRange"] + [f"{group}InRange" for group in IN_TURN],
-        "Named": ["IsNamed"] + [f"IsNamed{group}" for group in IN_TURN],
-    }[file]
-    return f"use Rattle.csicodec_structs.specs.{file}.{{{used(names, text)}}}\n"
+def own_use(text):
+    """The `use` line of what the text says of the definitions that are written here."""
+    names = ["struct_of", "params_of", "InRange", "IsNamed"]
+    for group in IN_TURN:
+        names += [f"{low(group)}_struct", f"{low(group)}_params", f"{group}InRange", f"IsNamed{group}"]
+    return f"use Rattle.csicodec_structs.specs.Rows.{{{used(names, text)}}}\n"
 
 
 def type_use(group, text):
@@ -85,8 +83,8 @@ def params_row(number, group, variant, form, names):
     return right and f"{low(group)}_params ({value(group, variant, left)}) = {right}\n"
 
 
-def specs():
-    body = ""
+def structs():
+    body = "\n-- ---- the struct of each action: a row for each kind\n"
     for group in BY_NUMBER:
         place = "ℕ → " if has_tokens(group) else ""
         body += f"\nabbrev pub {low(group)}_struct : {place}{type_of(group)} → Struct\n"
@@ -113,13 +111,7 @@ abbrev pub struct_of : ℕ → Action → Struct
     body += f"""struct_of place (action.SelectCharacterPath path effect) = row {PATH} (pos (path_number path)) effect
 struct_of place (action.Unspecified params flag final) = unknown_row final place (length params)
 """
-    return f"""-- The struct of each action: a row for each kind. Written by tools/table.
-use Rattle.std.specs.Prelude.{{ℕ, List, [], map, length, pos, Some}}
-{spec_use("csicodec_names", "EnumNumbers", body)}{spec_use("csicodec_names", "FlagBits", body)}{type_uses(body)}\
-{spec_use("csicodec_actions", "XtSmGraphics", body)}{spec_use("csicodec_actions", "Kinds", body)}{spec_use("csicodec_actions", "Modes", body)}\
-use Rattle.csicodec_structs.specs.declared.structs.Param.{{Param}}
-use Rattle.csicodec_structs.specs.declared.structs.Struct.{{Struct}}
-{spec_use("csicodec_structs", "Structs", body)}""" + body
+    return body
 
 
 # ---- what is in range
@@ -143,7 +135,9 @@ def range_row(number, group, variant, form, names):
 
 
 def ranges():
-    body = ""
+    body = """
+-- ---- the actions that a struct can stand for: each number is one that its type lets stand, and a font has a text. What isn't listed is in range
+"""
     for group in BY_NUMBER:
         is_typed = f"pub {group}InRange :" in text_of("crates/csicodec_actions/specs/Ranges.antt")
         body += f"\nabbrev pub {group}InRange : {type_of(group)} → Type 0\n"
@@ -158,14 +152,7 @@ def ranges():
     body += """InRange (action.SelectCharacterPath path effect) = Unit {0}
 InRange (action.Unspecified params flag final) = All TokenInRange params × IsScalar final
 """
-    return f"""-- The actions that a struct can stand for: each number is one that its type lets stand, and a font has a text. What isn't
--- listed is in range. Written by tools/table.
-use Rattle.std.specs.Prelude.{{◌<◌, ◌^◌}}
-use Rattle.std.specs.Char.{{IsScalar}}
-use Rattle.std.specs.List.{{All}}
-{spec_use("csicodec_names", "FlagBits", body)}{type_uses(body)}{spec_use("csicodec_actions", "Kinds", body)}{spec_use("csicodec_actions", "Modes", body)}\
-use Rattle.csicodec_actions.specs.Ranges as typed
-{spec_use("csicodec_structs", "Values", body)}""" + body
+    return body
 
 
 # ---- what is by its name
@@ -186,7 +173,10 @@ def can_be_named(group):
 
 
 def named():
-    body = ""
+    body = """
+-- ---- which action is meant, of those that have one struct: a mode, an extension of a terminal and an item of graphics are by their
+-- names where they have one, and the flag of an unknown action isn't set. Any other action has no like
+"""
     for group in filter(can_be_named, BY_NUMBER):
         body += f"\nabbrev pub IsNamed{group} : {type_of(group)} → Type 0\n"
         rows_ = [named_row(*kind) for kind in of(group)]
@@ -197,8 +187,18 @@ def named():
     body += """IsNamed (action.Unspecified params flag final) = flag ≡ false
 IsNamed other = Unit {0}
 """
-    return f"""-- Which action is meant, of those that have one struct: a mode, an extension of a terminal and an item of graphics are by their names
--- where they have one, and the flag of an unknown action isn't set. Any other action has no like. Written by tools/table.
-use Rattle.std.specs.Prelude.{{◌≡◌, false}}
+    return body
+
+
+def specs():
+    body = structs() + ranges() + named()
+    return f"""-- The struct of each action, and of an action that has a struct which one is in range and which one is meant. Written by tools/table.
+use Rattle.std.specs.Prelude.{{ℕ, ◌≡◌, ◌<◌, ◌^◌, List, [], map, length, false, pos, Some}}
+use Rattle.std.specs.Char.{{IsScalar}}
 use Rattle.std.specs.List.{{All}}
-{type_uses(body)}{spec_use("csicodec_structs", "Values", body)}""" + body
+{spec_use("csicodec_names", "EnumNumbers", body)}{spec_use("csicodec_names", "FlagBits", body)}{type_uses(body)}\
+{spec_use("csicodec_actions", "XtSmGraphics", body)}{spec_use("csicodec_actions", "Kinds", body)}{spec_use("csicodec_actions", "Modes", body)}\
+use Rattle.csicodec_actions.specs.Ranges as typed
+use Rattle.csicodec_structs.specs.declared.structs.Param.{{Param}}
+use Rattle.csicodec_structs.specs.declared.structs.Struct.{{Struct}}
+{spec_use("csicodec_structs", "Structs", body)}""" + body

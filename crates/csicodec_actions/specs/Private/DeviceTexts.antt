@@ -1,6 +1,6 @@
 -- What private steps say of the text of a device. Nothing public rests on this file.
-use Rattle.std.specs.{Prelude.ℕ, Prelude.List, Prelude.◌∷◌, List.flat_map}
-use Rattle.csicodec_tokens.specs.{Param.token_text, declared.param.CsiParam.CsiParam}
+use Rattle.csicodec_actions.specs.Common.{ℕ, List, flat_map, token_text, CsiParam}
+use Rattle.std.specs.Prelude.{◌∷◌}
 
 -- the tokens of these, a `;` before each
 abbrev pub listed_text : {A : Type 0} → (A → CsiParam) → List A → List ℕ

@@ -1,6 +1,6 @@
 -- The fields that stand in a list, whatever bytes stand between them.
-use Rattle.std.specs.Prelude.{ℤ, List, [], ◌∷◌, Option, None, Some}
-use Rattle.csicodec_tokens.specs.{declared.param.CsiParam.CsiParam, declared.param.CsiParam.TheVariants.Integer, declared.param.CsiParam.TheVariants.P}
+use Rattle.csicodec_actions.specs.Common.{ℤ, List, [], Option, None, Some, CsiParam, Integer, P}
+use Rattle.std.specs.Prelude.{◌∷◌}
 
 abbrev pub fields_there : List CsiParam → List (Option ℤ)
 fields_there [] = []

@@ -1,9 +1,9 @@
 -- The cursor (ECMA-48, 8.3; DEC STD 070; DECSCUSR of the VT520): lists before a final character, and what each action is written as.
-use Rattle.std.specs.Prelude.{ℕ, ◌==◌, ◌&&◌, List, [], ◌∷◌, Option, if◌then◌else◌}
-use Rattle.csicodec_tokens.specs.{declared.param.CsiParam.CsiParam, OneBased.most}
 use Rattle.csicodec_actions.specs.Rows.{Row, row, One, Number, mark, counted, chosen, halves, paired, Before, before, read_by}
 use Rattle.csicodec_actions.specs.{Actions.Action, Actions.Cursor, Kinds.Count, Kinds.Last, Kinds.Style, Kinds.Control, Kinds.Clear, Written.Written}
-use Rattle.csicodec_actions.specs.{Written.The, Written.count, Written.choice, Written.two, Written.fixed, Written.write, Written.put}
+use Rattle.csicodec_actions.specs.{Written.The, Written.count, Written.choice, Written.two, Written.fixed, Written.write, Written.put, Common.ℕ, Common.List}
+use Rattle.csicodec_actions.specs.{Common.[], Common.Option, Common.CsiParam, Common.most}
+use Rattle.std.specs.Prelude.{◌==◌, ◌&&◌, ◌∷◌, if◌then◌else◌}
 use Rattle.csicodec_names.specs.declared.enums.CursorTabulationControl.TheVariants as control
 use Rattle.csicodec_names.specs.declared.enums.TabulationClear.TheVariants as clear
 use Rattle.csicodec_actions.specs.declared.cursor.Cursor as cursor_type

@@ -1,10 +1,10 @@
 -- What a terminal is, asked and answered (DA1 to DA3 and DECSTR of DEC's terminals, DECREQTPARM of the VT100, DSR of ECMA-48, XTVERSION of xterm): lists
 -- before a final character, and what each action is written as; graphics are in a table of their own.
-use Rattle.std.specs.Prelude.{ℕ, ℤ, ◌+ℤ◌, List, [], ◌∷◌, ◌++◌, Option, pos}
-use Rattle.csicodec_tokens.specs.declared.param.CsiParam.{CsiParam}
-use Rattle.csicodec_actions.specs.{declared.device.DeviceAttribute.DeviceAttribute, Actions.Action, Actions.Device, Rows.Row, Rows.row, Rows.open_row}
-use Rattle.csicodec_actions.specs.{Rows.Number, Rows.mark, Rows.Before, Rows.before, Rows.read_by, Table.XtSmGraphics.written_graphics, Written.Item}
-use Rattle.csicodec_actions.specs.{Written.Attribute, Written.Written, Written.any_number, Written.listed, Written.fixed, Written.write, Written.put}
+use Rattle.std.specs.Prelude.{◌+ℤ◌, ◌∷◌, ◌++◌}
+use Rattle.csicodec_actions.specs.{Actions.Action, Actions.Device, Rows.Row, Rows.row, Rows.open_row, Rows.Number, Rows.mark, Rows.Before, Rows.before}
+use Rattle.csicodec_actions.specs.{Rows.read_by, Table.XtSmGraphics.written_graphics, Written.Item, Written.Attribute, Written.Written, Written.any_number}
+use Rattle.csicodec_actions.specs.{Written.listed, Written.fixed, Written.write, Written.put, Common.ℕ, Common.ℤ, Common.List, Common.[], Common.Option}
+use Rattle.csicodec_actions.specs.{Common.pos, Common.CsiParam, Common.DeviceAttribute}
 use Rattle.csicodec_actions.specs.Devices as devices
 
 -- nothing or 0, also behind `>` and `=`

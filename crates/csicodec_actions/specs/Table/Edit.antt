@@ -1,8 +1,8 @@
 -- Editing (ECMA-48, 8.3): lists before a final character, and what each action is written as.
-use Rattle.std.specs.Prelude.{ℕ, List, [], ◌∷◌, Option}
-use Rattle.csicodec_tokens.specs.declared.param.CsiParam.{CsiParam}
 use Rattle.csicodec_actions.specs.{Actions.Action, Actions.Edit, Kinds.InDisplay, Kinds.InLine, Rows.counted, Rows.chosen, Rows.Before, Rows.before}
-use Rattle.csicodec_actions.specs.{Rows.read_by, Written.Written, Written.count, Written.choice}
+use Rattle.csicodec_actions.specs.{Rows.read_by, Written.Written, Written.count, Written.choice, Common.ℕ, Common.List, Common.[], Common.Option}
+use Rattle.csicodec_actions.specs.{Common.CsiParam}
+use Rattle.std.specs.Prelude.{◌∷◌}
 use Rattle.csicodec_names.specs.declared.enums.EraseInDisplay.TheVariants as display
 use Rattle.csicodec_names.specs.declared.enums.EraseInLine.TheVariants as line
 use Rattle.csicodec_actions.specs.declared.edit.Edit as edit_type

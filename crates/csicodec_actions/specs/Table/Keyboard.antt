@@ -1,9 +1,8 @@
 -- The keyboard (kitty, "Comprehensive keyboard handling in terminals"): lists before `u`, and what each action is written as.
-use Rattle.std.specs.Prelude.{ℕ, List, [], ◌∷◌, Option}
-use Rattle.csicodec_tokens.specs.declared.param.CsiParam.{CsiParam}
-use Rattle.csicodec_names.specs.declared.flags.KittyKeyboardFlags.{KittyKeyboardFlags}
 use Rattle.csicodec_actions.specs.{Actions.Action, Actions.Keyboard, Kinds.Flags, Kinds.Way, Kinds.Pops, Rows.Row, Rows.row, Rows.One, Rows.mark, Rows.Before}
-use Rattle.csicodec_actions.specs.{Rows.before, Rows.read_by, Written.Written, Written.The, Written.write, Written.put}
+use Rattle.csicodec_actions.specs.{Rows.before, Rows.read_by, Written.Written, Written.The, Written.write, Written.put, Common.ℕ, Common.List, Common.[]}
+use Rattle.csicodec_actions.specs.{Common.Option, Common.CsiParam, Common.KittyKeyboardFlags}
+use Rattle.std.specs.Prelude.{◌∷◌}
 use Rattle.csicodec_actions.specs.declared.keyboard.Keyboard as keyboard_type
 use Rattle.csicodec_actions.specs.declared.keyboard.Keyboard.TheVariants as keyboard
 use Rattle.csicodec_actions.specs.declared.keyboard.KittyKeyboardMode.TheVariants as way

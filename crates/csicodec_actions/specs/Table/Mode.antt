@@ -1,9 +1,9 @@
 -- Modes that are asked for (DECRQM), and modified keys (xterm, XTMODKEYS): lists before a final character, and what each action is written as.
 -- Modes that are set, reset, saved and restored are cut into pieces.
-use Rattle.std.specs.Prelude.{ℕ, List, [], ◌∷◌, Option, Some, None}
-use Rattle.csicodec_tokens.specs.declared.param.CsiParam.{CsiParam}
 use Rattle.csicodec_actions.specs.{Actions.Action, Actions.Mode, Kinds.Any, Kinds.Dec, Kinds.Terminal, Kinds.Resource, Rows.Row, Rows.row, Rows.One, Rows.mark}
-use Rattle.csicodec_actions.specs.{Rows.Before, Rows.before, Rows.read_by, Written.Written, Written.The, Written.write, Written.put}
+use Rattle.csicodec_actions.specs.{Rows.Before, Rows.before, Rows.read_by, Written.Written, Written.The, Written.write, Written.put, Common.ℕ, Common.List}
+use Rattle.csicodec_actions.specs.{Common.[], Common.Option, Common.Some, Common.None, Common.CsiParam}
+use Rattle.std.specs.Prelude.{◌∷◌}
 use Rattle.csicodec_actions.specs.declared.mode.Mode as mode_type
 use Rattle.csicodec_actions.specs.declared.mode.Mode.TheVariants as mode
 

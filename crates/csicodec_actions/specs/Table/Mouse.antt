@@ -1,10 +1,9 @@
 -- Reports of the mouse (xterm, "Extended coordinates"): lists before `M` and `m`, and what each action is written as.
-use Rattle.std.specs.Prelude.{ℕ, List, [], ◌∷◌, Option, if◌then◌else◌}
-use Rattle.csicodec_tokens.specs.declared.param.CsiParam.{CsiParam}
-use Rattle.csicodec_names.specs.declared.flags.Modifiers.{Modifiers}
-use Rattle.csicodec_actions.specs.{declared.mouse.MouseButton.MouseButton, Actions.Action, Actions.Mouse, Kinds.Kind, Kinds.Value, Kinds.Pressed}
-use Rattle.csicodec_actions.specs.{Kinds.Released, Kinds.Word, Mouse.is_release, Rows.Row, Rows.row, Rows.One, Rows.mark, Rows.Before, Rows.before}
-use Rattle.csicodec_actions.specs.{Rows.read_by, Written.Item, Written.Written, Written.The, Written.write, Written.put}
+use Rattle.csicodec_actions.specs.{Common.ℕ, Common.List, Common.[], Common.Option, Common.CsiParam, Common.Modifiers, Common.MouseButton, Actions.Action}
+use Rattle.csicodec_actions.specs.{Actions.Mouse, Kinds.Kind, Kinds.Value, Kinds.Pressed, Kinds.Released, Kinds.Word, Mouse.is_release, Rows.Row, Rows.row}
+use Rattle.csicodec_actions.specs.{Rows.One, Rows.mark, Rows.Before, Rows.before, Rows.read_by, Written.Item, Written.Written, Written.The, Written.write}
+use Rattle.csicodec_actions.specs.{Written.put}
+use Rattle.std.specs.Prelude.{◌∷◌, if◌then◌else◌}
 use Rattle.csicodec_actions.specs.declared.mouse.MouseReport as mouse_type
 use Rattle.csicodec_actions.specs.declared.mouse.MouseReport.TheVariants as mouse
 

@@ -1,10 +1,8 @@
 -- SCP, select character path (ECMA-48, 8.3.111): lists before `k`, and what the action is written as.
-use Rattle.std.specs.Prelude.{ℕ, ℤ, List, [], ◌∷◌, Option, if◌then◌else◌, pos}
-use Rattle.csicodec_tokens.specs.declared.param.CsiParam.{CsiParam}
-use Rattle.csicodec_actions.specs.{declared.path.CharacterPath.CharacterPath, Actions.Action, Actions.SelectCharacterPath, Kinds.Any, Kinds.Path, Rows.Row}
-use Rattle.csicodec_actions.specs.{Rows.row, Rows.One, Rows.mark, Rows.Before, Rows.before, Rows.read_by, Written.Written, Written.The, Written.Unless}
-use Rattle.csicodec_actions.specs.{Written.write, Written.put}
-use Rattle.csicodec_names.specs.Numbered.{is_number}
+use Rattle.csicodec_actions.specs.{Common.ℕ, Common.ℤ, Common.List, Common.[], Common.Option, Common.pos, Common.CsiParam, Common.CharacterPath}
+use Rattle.csicodec_actions.specs.{Common.is_number, Actions.Action, Actions.SelectCharacterPath, Kinds.Any, Kinds.Path, Rows.Row, Rows.row, Rows.One}
+use Rattle.csicodec_actions.specs.{Rows.mark, Rows.Before, Rows.before, Rows.read_by, Written.Written, Written.The, Written.Unless, Written.write, Written.put}
+use Rattle.std.specs.Prelude.{◌∷◌, if◌then◌else◌}
 use Rattle.csicodec_actions.specs.declared.path.CharacterPath.TheVariants as path
 
 -- ` `, `a ` and `a ; b `

@@ -1,10 +1,10 @@
 -- Operations on the window (XTWINOPS of xterm and dtterm) and the checksum of an area (DECRQCRA of DEC's VT420): lists before `t` and `y`, read
 -- by their fields, and what each action is written as.
-use Rattle.std.specs.Prelude.{ℕ, ℤ, List, [], ◌∷◌, ◌++◌, Option, Some, None, pos}
-use Rattle.csicodec_tokens.specs.declared.param.CsiParam.{CsiParam}
 use Rattle.csicodec_actions.specs.FieldRows.{FieldRow, field_row, This, Empty, End, Maybe, There, Must, Or, Over, over, no_byte, byte, read_fields}
 use Rattle.csicodec_actions.specs.{Actions.Action, Actions.Window, Kinds.Any, Kinds.Count, Written.Item, Written.Written, Written.The, Written.fixed}
-use Rattle.csicodec_actions.specs.{Written.write, Written.put}
+use Rattle.csicodec_actions.specs.{Written.write, Written.put, Common.ℕ, Common.ℤ, Common.List, Common.[], Common.Option, Common.Some, Common.None, Common.pos}
+use Rattle.csicodec_actions.specs.{Common.CsiParam}
+use Rattle.std.specs.Prelude.{◌∷◌, ◌++◌}
 use Rattle.csicodec_actions.specs.declared.window.Window as window_type
 use Rattle.csicodec_actions.specs.declared.window.Window.TheVariants as window
 

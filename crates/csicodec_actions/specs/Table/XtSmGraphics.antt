@@ -1,10 +1,11 @@
 -- What a terminal can draw, asked and answered (XTSMGRAPHICS of xterm): lists before `S`, read by their fields, and what each action is written as.
-use Rattle.std.specs.Prelude.{◌≡◌, ℕ, ℤ, List, [], ◌∷◌, drop, Option, None, IsSome, option_and_then}
-use Rattle.csicodec_tokens.specs.{declared.param.CsiParam.CsiParam, declared.refusal.ParseRefusal.ParseRefusal}
-use Rattle.csicodec_tokens.specs.{declared.refusal.ParseRefusal.TheVariants.NotSpelled, declared.refusal.ParseRefusal.TheVariants.Memory, Fields.fields_of}
+use Rattle.std.specs.Prelude.{drop, ◌≡◌, ◌∷◌}
+use Rattle.csicodec_tokens.specs.{declared.refusal.ParseRefusal.ParseRefusal, declared.refusal.ParseRefusal.TheVariants.NotSpelled}
+use Rattle.csicodec_tokens.specs.{declared.refusal.ParseRefusal.TheVariants.Memory}
 use Rattle.csicodec_actions.specs.FieldRows.{FieldRow, field_row, Must, Rest, Over, over, no_byte, byte, given, read_fields}
-use Rattle.csicodec_actions.specs.{declared.xtsmgraphics.XtSmGraphicsItem.XtSmGraphicsItem, Actions.Action, Actions.Device, Devices.XtSmGraphics, Kinds.Any}
-use Rattle.csicodec_actions.specs.{Kinds.GraphicsItem, Written.The, Written.Written, Written.any_number, Written.listed, Written.write, Written.put}
+use Rattle.csicodec_actions.specs.Common.{ℕ, ℤ, List, [], Option, None, IsSome, option_and_then, CsiParam, fields_of, XtSmGraphicsItem}
+use Rattle.csicodec_actions.specs.{Actions.Action, Actions.Device, Devices.XtSmGraphics, Kinds.Any, Kinds.GraphicsItem, Written.The, Written.Written}
+use Rattle.csicodec_actions.specs.{Written.any_number, Written.listed, Written.write, Written.put}
 
 -- `item ; action or status ; values`
 abbrev pub graphics_rows : List (FieldRow Action)

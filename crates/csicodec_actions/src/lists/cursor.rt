@@ -1,6 +1,6 @@
 //! The rows of the cursor.
-ghost use Rattle.std.specs.{Prelude.◌≡◌, Option.option_map};
-ghost use Rattle.csicodec_actions.specs.{Actions.Cursor as Moves, Table.Cursor.as_cursor};
+ghost use Rattle.csicodec_actions.specs.{Actions.Cursor as Moves, Table.Cursor.as_cursor, Common.option_map};
+ghost use Rattle.std.specs.Prelude.{◌≡◌};
 
 use crate::Cursor;
 use crate::lists::params::{choice, count, place, places};

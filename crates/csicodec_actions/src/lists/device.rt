@@ -1,7 +1,8 @@
 //! The rows of devices.
-ghost use Rattle.std.specs.{Prelude.◌≡◌, Prelude.IfOk, Prelude.IsSome, Prelude.OnErr, Option.option_map};
 ghost use Rattle.csicodec_actions.specs.{Actions.Device as Devices, Devices.device_of, Devices.listed_attributes, Rows.given, Table.Device.as_device};
-ghost use Rattle.csicodec_actions.specs.{Table.Device.classes, Table.Device.requests, Table.Device.terminals};
+ghost use Rattle.csicodec_actions.specs.{Table.Device.classes, Table.Device.requests, Table.Device.terminals, Common.IfOk, Common.IsSome, Common.OnErr};
+ghost use Rattle.csicodec_actions.specs.{Common.option_map};
+ghost use Rattle.std.specs.Prelude.{◌≡◌};
 
 use crate::{Device, DeviceAttribute, DeviceAttributeFlags, DeviceAttributes};
 use csicodec_base::CsiParam::{self, Integer, P};

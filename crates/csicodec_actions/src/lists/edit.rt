@@ -1,6 +1,6 @@
 //! The rows that edit.
-ghost use Rattle.std.specs.{Prelude.◌≡◌, Option.option_map};
-ghost use Rattle.csicodec_actions.specs.{Actions.Edit as Edits, Table.Edit.as_edit};
+ghost use Rattle.csicodec_actions.specs.{Actions.Edit as Edits, Table.Edit.as_edit, Common.option_map};
+ghost use Rattle.std.specs.Prelude.{◌≡◌};
 
 use crate::Edit;
 use crate::lists::params::{choice, count};

@@ -1,6 +1,7 @@
 //! The rows of the keyboard.
-ghost use Rattle.std.specs.{Prelude.◌≡◌, Int.RustNames.bit_and, Option.option_map};
-ghost use Rattle.csicodec_actions.specs.{Actions.Keyboard as Keys, Kinds.Flags as FlagsKind, Kinds.Pops, Kinds.read, Table.Keyboard.as_keyboard};
+ghost use Rattle.csicodec_actions.specs.{Actions.Keyboard as Keys, Kinds.Flags as FlagsKind, Kinds.Pops, Kinds.read, Table.Keyboard.as_keyboard, Common.bit_and};
+ghost use Rattle.csicodec_actions.specs.{Common.option_map};
+ghost use Rattle.std.specs.Prelude.{◌≡◌};
 
 use crate::{Keyboard, KittyKeyboardMode};
 use bitflags::Flags;

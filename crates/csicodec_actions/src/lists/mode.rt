@@ -1,6 +1,6 @@
 //! The rows of modes: those that are asked for, and modified keys.
-ghost use Rattle.std.specs.{Prelude.◌≡◌, Option.option_map};
-ghost use Rattle.csicodec_actions.specs.{Actions.Mode as Modes, Table.Mode.as_mode};
+ghost use Rattle.csicodec_actions.specs.{Actions.Mode as Modes, Table.Mode.as_mode, Common.option_map};
+ghost use Rattle.std.specs.Prelude.{◌≡◌};
 
 use crate::{DecPrivateMode, Mode, TerminalMode, XtermKeyModifierResource};
 use csicodec_base::CsiParam::{self, Integer, P};

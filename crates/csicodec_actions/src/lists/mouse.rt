@@ -1,8 +1,7 @@
 //! The rows of the mouse.
-ghost use Rattle.std.specs.{Prelude.◌≡◌, Prelude.◌/◌, Prelude.pos, Int.RustNames.bit_and, Option.option_map};
 ghost use Rattle.csicodec_actions.specs.{Actions.Mouse as Reports, Kinds.Pressed, Kinds.Released, Kinds.Word, Kinds.read, Mouse.button_bits, Mouse.button_code};
-ghost use Rattle.csicodec_actions.specs.{Mouse.pressed, Mouse.released, Table.Mouse.as_mouse};
-ghost use Rattle.csicodec_names.specs.Numbered.{with_number};
+ghost use Rattle.csicodec_actions.specs.{Mouse.pressed, Mouse.released, Table.Mouse.as_mouse, Common.pos, Common.bit_and, Common.option_map, Common.with_number};
+ghost use Rattle.std.specs.Prelude.{◌≡◌, ◌/◌};
 
 use crate::{MouseButton, MouseReport};
 use bitflags::Flags;

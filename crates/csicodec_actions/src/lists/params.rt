@@ -1,6 +1,6 @@
 //! Lists that are one parameter, or two: what they stand for.
-ghost use Rattle.std.specs.Prelude.{◌≡◌, pos};
-ghost use Rattle.csicodec_actions.specs.{Kinds.Any, Rows.chosen, Rows.counted, Rows.given, Rows.paired};
+ghost use Rattle.csicodec_actions.specs.{Kinds.Any, Rows.chosen, Rows.counted, Rows.given, Rows.paired, Common.pos};
+ghost use Rattle.std.specs.Prelude.{◌≡◌};
 
 use csicodec_base::{CsiParam, OneBased};
 

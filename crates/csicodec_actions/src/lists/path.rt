@@ -1,6 +1,6 @@
 //! The rows of paths of characters.
-ghost use Rattle.std.specs.{Prelude.◌≡◌, Option.option_map};
-ghost use Rattle.csicodec_actions.specs.{Actions.SelectCharacterPath, Table.Path.as_path};
+ghost use Rattle.csicodec_actions.specs.{Actions.SelectCharacterPath, Table.Path.as_path, Common.option_map};
+ghost use Rattle.std.specs.Prelude.{◌≡◌};
 
 use crate::CharacterPath;
 use csicodec_base::CsiParam::{self, Integer, P};

@@ -1,7 +1,7 @@
 //! The rows of windows and areas.
-ghost use Rattle.std.specs.{Prelude.◌≡◌, Option.option_map};
 ghost use Rattle.csicodec_actions.specs.{Actions.Window as Windows, FieldRows.given, Table.Window.alone_rows, Table.Window.areas, Table.Window.as_window};
-ghost use Rattle.csicodec_actions.specs.{Table.Window.two_rows, Table.Window.which_rows, Table.Window.windows};
+ghost use Rattle.csicodec_actions.specs.{Table.Window.two_rows, Table.Window.which_rows, Table.Window.windows, Common.option_map};
+ghost use Rattle.std.specs.Prelude.{◌≡◌};
 
 use crate::Window;
 use crate::fields::{Fields, ahead_of, fields_in};

@@ -3,12 +3,11 @@ use Rattle.std.specs.Prelude.{ℕ, ◌≡◌, Bool, true, false, List, ◌∷◌
 use Rattle.csicodec_actions.specs.{Actions.Action, Actions.Sgr, Table.texts}
 use Rattle.csicodec_clean.specs.{declared.colors.Depth.Depth, Styled.is_open, Styled.kept}
 use Rattle.csicodec_terminal.specs.Terminal.{IsTakenFor}
-use Rattle.csicodec_clean.specs.declared.colors.Depth.TheVariants as depth
 
 abbrev pub depth_byte : Depth → ℕ
-depth_byte depth.Full = 0
-depth_byte depth.Palette = 1
-depth_byte depth.Ansi = 2
+depth_byte Depth.Full = 0
+depth_byte Depth.Palette = 1
+depth_byte Depth.Ansi = 2
 
 abbrev pub open_byte : Bool → ℕ
 open_byte false = 0

@@ -4,8 +4,6 @@ use Rattle.std.specs.List.{AllByRecursion}
 use Rattle.bstr.specs.Utf8.{decoded_by, good}
 use Rattle.csicodec_spans.specs.{declared.table.Kind.Kind, declared.table.Mode.Mode}
 use Rattle.csicodec_clean.specs.{Shown.IsRead, Shown.Writing, Shown.chars_as, Cleaned.RuleOf, Cleaned.IsStep, Stream.Between, Stream.GoesBy}
-use Rattle.csicodec_spans.specs.declared.table.Kind.TheVariants as kind
-use Rattle.csicodec_spans.specs.declared.table.Mode.TheVariants as mode
 
 -- ---- text that is told by its bytes
 
@@ -40,7 +38,7 @@ Tells w bytes rest old new =
 -- a span behind a run of which some bytes are held: what is appended, and what is held then. One that is no text ends the run, as a part does.
 abbrev pub IsAppended : {S : Type 0} → RuleOf S → Kind → S → List ℕ → List ℕ → List ℕ → S → List ℕ
     → Type 0
-IsAppended Gives kind.Text s held bytes text after left = (chars : List ℕ)
+IsAppended Gives Kind.Text s held bytes text after left = (chars : List ℕ)
     × ReadsTo (held ++ bytes) chars left × (text ≡ chars_as Gives.writing chars) × (after ≡ s)
 IsAppended Gives k s held bytes text after left = IsStep Gives k s held bytes text after left
 
@@ -56,7 +54,7 @@ state_of s m titled bytes held = record { rule = s; mode = m; titled = titled; b
 
 -- where nothing is
 abbrev pub bare_at : {S : Type 0} → S → List ℕ → Between S
-bare_at s bytes = state_of s mode.Text false bytes []
+bare_at s bytes = state_of s Mode.Text false bytes []
 
 -- from one state to another: what is left of the parts between is appended, and what is held stands directly before the rest
 abbrev pub GoesTo : {S : Type 0} → RuleOf S → ℕ → Between S → Between S → List ℕ → List ℕ

@@ -12,8 +12,6 @@ use Rattle.csicodec_compact.specs.{declared.form.TextEnding.TextEnding, declared
 use Rattle.csicodec_compact.specs.{Runs.NoneStays, Runs.Shortens, Runs.IsShortened}
 use Rattle.csicodec_base.specs.declared.sgr.Sgr as sgr_type
 use Rattle.csicodec_base.specs.declared.sgr.Sgr.TheVariants as sgr
-use Rattle.csicodec_parser.specs.declared.actions.CSI.TheVariants as csi
-use Rattle.csicodec_compact.specs.declared.form.TextEnding.TheVariants as forms
 
 -- the bytes are one control sequence, and this is its normal form
 abbrev pub IsOneNormalised : List ℕ → List ℕ → Type 0
@@ -29,7 +27,7 @@ is_mark (P b) = not (b == 59)
 
 -- the action is no attribute
 abbrev pub is_other : CSI → Bool
-is_other (csi.Sgr s) = false
+is_other (CSI.Sgr s) = false
 is_other _ = true
 
 abbrev pub is_semicolon : Option ℕ → Bool
@@ -44,33 +42,33 @@ pub record Begins (bytes wide : List ℕ) : Type 0 where
 -- ---- forms
 
 abbrev pub form_of : ℕ → TextEnding
-form_of mark = if mark == 1 then forms.Last else if mark == 2 then forms.Open
-    else if mark == 3 then forms.Blank else if mark == 4 then forms.Bare else forms.Whole
+form_of mark = if mark == 1 then TextEnding.Last else if mark == 2 then TextEnding.Open
+    else if mark == 3 then TextEnding.Blank else if mark == 4 then TextEnding.Bare else TextEnding.Whole
 
 abbrev pub is_joined : TextEnding → Bool
-is_joined forms.Whole = false
+is_joined TextEnding.Whole = false
 is_joined _ = true
 
 abbrev pub is_bare : TextEnding → Bool
-is_bare forms.Bare = true
+is_bare TextEnding.Bare = true
 is_bare _ = false
 
 abbrev pub is_open : TextEnding → Bool
-is_open forms.Open = true
+is_open TextEnding.Open = true
 is_open _ = false
 
 -- what closes a text of the form
 abbrev pub closing : TextEnding → List ℕ
-closing forms.Open = 109 ∷ []
-closing forms.Blank = 48 ∷ 109 ∷ []
-closing forms.Bare = 109 ∷ []
+closing TextEnding.Open = 109 ∷ []
+closing TextEnding.Blank = 48 ∷ 109 ∷ []
+closing TextEnding.Bare = 109 ∷ []
 closing _ = []
 
 -- a text of this form may be joined to what is held
 abbrev pub may_join : TextEnding → TextEnding → List ℕ → Bool
-may_join forms.Whole form text = false
-may_join forms.Last form text = false
-may_join forms.Open form text = is_joined form
+may_join TextEnding.Whole form text = false
+may_join TextEnding.Last form text = false
+may_join TextEnding.Open form text = is_joined form
 may_join _ form text = is_joined form && not (is_semicolon (slice_get text 1))
 
 -- what is appended for it then
@@ -79,7 +77,7 @@ joint held form text = if is_bare form then (if is_open held then text else 59 �
 
 -- and how it ends
 abbrev pub behind : TextEnding → TextEnding → TextEnding
-behind held form = if is_bare form then (if is_open held then forms.Blank else forms.Open) else form
+behind held form = if is_bare form then (if is_open held then TextEnding.Blank else TextEnding.Open) else form
 
 -- what is appended for a text that stands by itself
 abbrev pub opened : TextEnding → List ℕ → List ℕ
@@ -106,15 +104,15 @@ pub record IsOpenList (bytes : List ℕ) (styles : List sgr_type.Sgr) : Type 0 w
 
 -- what stands behind `ESC [` in a text of this form, and its actions
 abbrev pub IsTail : TextEnding → List ℕ → List Action → Type 0
-IsTail forms.Whole bytes actions = ⊥
-IsTail forms.Last bytes actions = (front : List ℕ) × (list : List CsiParam)
+IsTail TextEnding.Whole bytes actions = ⊥
+IsTail TextEnding.Last bytes actions = (front : List ℕ) × (list : List CsiParam)
     × (bytes ≡ front ++ 109 ∷ []) × IsList front list actions
-IsTail forms.Open bytes actions = (styles : List sgr_type.Sgr) × (actions ≡ map Sgr styles)
+IsTail TextEnding.Open bytes actions = (styles : List sgr_type.Sgr) × (actions ≡ map Sgr styles)
     × IsOpenList bytes styles
-IsTail forms.Blank bytes actions =
+IsTail TextEnding.Blank bytes actions =
     (styles : List sgr_type.Sgr) × (front : List ℕ) × (bytes ≡ front ++ 59 ∷ [])
     × (actions ≡ map Sgr (styles ++ sgr.Reset ∷ [])) × IsOpenList front styles
-IsTail forms.Bare bytes actions = (bytes ≡ []) × (actions ≡ map Sgr (sgr.Reset ∷ []))
+IsTail TextEnding.Bare bytes actions = (bytes ≡ []) × (actions ≡ map Sgr (sgr.Reset ∷ []))
 
 -- a text that is such a list behind `ESC [`, and is closed
 pub record IsListed (form : TextEnding) (text : List ℕ) : Type 0 where
@@ -125,7 +123,7 @@ pub record IsListed (form : TextEnding) (text : List ℕ) : Type 0 where
 
 -- the text is of the form
 abbrev pub IsOwn : TextEnding → List ℕ → Type 0
-IsOwn forms.Whole text = Unit {0}
+IsOwn TextEnding.Whole text = Unit {0}
 IsOwn form text = IsListed form text
 
 -- ---- notes
@@ -140,7 +138,7 @@ pub record IsNotedList (form : TextEnding) (bytes text : List ℕ) : Type 0 wher
   pub free : ¬ IsStaying bytes
 
 abbrev pub IsNoted : TextEnding → List ℕ → List ℕ → Type 0
-IsNoted forms.Whole bytes text = Compacts bytes text
+IsNoted TextEnding.Whole bytes text = Compacts bytes text
 IsNoted form bytes text = IsNotedList form bytes text
 
 -- a list that may be joined has a number, and its text is short
@@ -170,8 +168,8 @@ pub record GoesOnFrom (form : TextEnding) (room : ℕ) (run : List Part) (text :
 
 -- how what is held ends
 abbrev pub IsEnd : TextEnding → ℕ → List Part → List ℕ → Type 0
-IsEnd forms.Whole room run text = (run ≡ []) × (text ≡ [])
-IsEnd forms.Last room run text = (run ≡ []) × (text ≡ [])
+IsEnd TextEnding.Whole room run text = (run ≡ []) × (text ≡ [])
+IsEnd TextEnding.Last room run text = (run ≡ []) × (text ≡ [])
 IsEnd form room run text = GoesOnFrom form room run text
 
 -- What is held of some parts: the text of those in front, and of the others a list that goes on, to which so many numbers may be joined.

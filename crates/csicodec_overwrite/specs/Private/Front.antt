@@ -1,11 +1,11 @@
 -- The front of a line that is written as it comes. No promise rests on this file.
-use Rattle.std.specs.{Prelude.ℕ, Prelude.◌≡◌, Prelude.◌≤◌, Prelude.◌*◌, Prelude.List, Prelude.[], Prelude.◌∷◌, Prelude.◌++◌, Prelude.drop, Prelude.length}
-use Rattle.std.specs.{Prelude.take, List.prefix_len}
+use Rattle.std.specs.{Prelude.ℕ, Prelude.◌≡◌, Prelude.◌≤◌, Prelude.◌*◌, Prelude.List, Prelude.[], Prelude.◌∷◌, Prelude.◌++◌, Prelude.length, Prelude.take}
+use Rattle.std.specs.{List.AllByRecursion}
 use Rattle.csicodec_html.specs.{declared.look.Look.Look, Look.plain}
 use Rattle.csicodec_overwrite.specs.{declared.cells.Cell.Cell, Line.blank, Line.do_all, Line.line, Line.pen_behind_all, declared.front.LineFront.LineFront}
 use Rattle.csicodec_overwrite.specs.{Paint.look_of, Paint.turn, Paint.written, declared.marking.Marking.Marking, Cells.chars_of, Stream.Reads, Stream.none_held}
 use Rattle.csicodec_overwrite.specs.{declared.pen.Pen.Pen, declared.step.Step.Step, Turned.Sets, Reading.most, Private.Plain.AreFull, Private.Plain.closed}
-use Rattle.csicodec_overwrite.specs.{Private.Plain.line_byte}
+use Rattle.csicodec_overwrite.specs.{Private.Plain.IsLineByte}
 
 -- how the last character looks, where text of one look comes behind a character of another
 abbrev pub last_of_run : Look → Look → List ℕ → Look
@@ -46,16 +46,16 @@ abbrev pub IsTurned : Marking → LineFront → ℕ → LineFront → Type 0
 IsTurned marking old len new = Sets (take len old.rest.now) old.now new.now × (new ≡ record old { last = new.now; now = new.now })
 
 -- a sequence in front that sets how text looks is written, and the text behind it
-pub record IsStyled (marking : Marking) (old : LineFront) (told : List ℕ) (new : LineFront) : Type 0 where
+pub record IsStyled (marking : Marking) (old : LineFront) (before : List ℕ) (new : LineFront) (after : List ℕ) : Type 0 where
   pub sequence : List ℕ
-  pub others : List ℕ
-  pub parts : old.rest.now ≡ sequence ++ others
+  pub run : List ℕ
+  pub parts : old.rest.now ≡ sequence ++ (run ++ new.rest.now)
   pub sets : Sets sequence old.now new.now
-  pub rest : new.rest.now ≡ drop (prefix_len line_byte others) others
+  pub plain : AllByRecursion IsLineByte run
   pub room : new.least ≤ length new.rest.now
   pub least : new.least ≡ old.least
-  pub looks : new.last ≡ last_of_run old.last new.now (take (prefix_len line_byte others) others)
-  pub text : told ≡ run_text marking old.last new.now (take (prefix_len line_byte others) others)
+  pub looks : new.last ≡ last_of_run old.last new.now run
+  pub text : after ≡ before ++ run_text marking old.last new.now run
 
 -- the bytes up to the rest are a front, and its text is appended
 abbrev pub IsWrittenTo : Marking → Pen → List ℕ → List ℕ → List ℕ → Look → Look → List ℕ → Type 0

@@ -2,7 +2,6 @@
 use Rattle.std.specs.Prelude.{ℕ, ◌≡◌, ◌++◌, Option, Some, None, ⊤, List}
 use Rattle.csicodec_overwrite.specs.{declared.line.Line.Line, declared.marking.Marking.Marking, declared.step.Step.Step, declared.pen.Pen.Pen, Paint.texts_of}
 use Rattle.csicodec_overwrite.specs.{Reading.most, Line.Done, Line.behind_columns, Line.do_all, Line.pen_behind_all}
-use Rattle.csicodec_overwrite.specs.declared.step.Step.TheVariants as step
 
 -- behind so many columns, or where it is
 abbrev pub settled : ℕ → Option ℕ → Line → Line
@@ -28,14 +27,14 @@ pub record StillDoes (marking : Marking) (steps rest : List Step) (first now : P
 
 -- a step that neither moves the cursor alone nor leaves the line
 abbrev pub IsHere : Step → Type 0
-IsHere (step.Column n) = ⊥
-IsHere step.Restore = ⊥
-IsHere (step.Row row to) = ⊥
-IsHere (step.Leave to) = ⊥
-IsHere step.NewLine = ⊥
-IsHere step.Tab = ⊥
-IsHere (step.Right n) = ⊥
-IsHere (step.Left n) = ⊥
-IsHere (step.Tabs n) = ⊥
-IsHere (step.TabsBack n) = ⊥
+IsHere (Step.Column n) = ⊥
+IsHere Step.Restore = ⊥
+IsHere (Step.Row row to) = ⊥
+IsHere (Step.Leave to) = ⊥
+IsHere Step.NewLine = ⊥
+IsHere Step.Tab = ⊥
+IsHere (Step.Right n) = ⊥
+IsHere (Step.Left n) = ⊥
+IsHere (Step.Tabs n) = ⊥
+IsHere (Step.TabsBack n) = ⊥
 IsHere s = ⊤

@@ -3,7 +3,6 @@ use Rattle.std.specs.Prelude.{ℕ, ◌≡◌, Bool, List, [], ◌∷◌, ◌++�
 use Rattle.csicodec_spans.specs.{declared.table.Kind.Kind, declared.table.Mode.Mode}
 use Rattle.csicodec_clean.specs.Shown.{IsRead}
 use Rattle.csicodec_overwrite.specs.{declared.step.Step.Step, Reading.IsOfPart, Stream.Goes, Steps.of_chars}
-use Rattle.csicodec_spans.specs.declared.table.Kind.TheVariants as kind
 
 -- a step, if there is one
 abbrev pub if_some : Option Step → List Step
@@ -12,7 +11,7 @@ if_some (Some s) = s ∷ []
 
 -- a span behind a run of which some bytes are held: the steps that come, and what is held then
 abbrev pub IsGiven : Kind → List ℕ → List ℕ → List Step → List ℕ → Type 0
-IsGiven kind.Text held bytes steps left = (chars : List ℕ) × IsRead (held ++ bytes) chars left
+IsGiven Kind.Text held bytes steps left = (chars : List ℕ) × IsRead (held ++ bytes) chars left
     × (steps ≡ of_chars chars)
 IsGiven k held bytes steps left = IsOfPart k held bytes steps left
 

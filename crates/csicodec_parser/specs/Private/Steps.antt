@@ -1,18 +1,14 @@
 -- What the private steps of a run say to each other: the actions by a function that computes them. Nothing public rests on this
 -- file: that it gives the actions of the segmentation is proved.
-use Rattle.std.specs.Prelude.{ℕ, ℤ, zero, suc, pred, ◌≡◌, ◌≤◌, ◌<◌, ◌+◌, ◌-◌, ◌*◌, ◌==◌, Bool, true, false, List, [], ◌∷◌, length, drop, slice_get, Option, Some, None, option_and_then, unwrap_or, if◌then◌else◌}
-use Rattle.csicodec_tokens.specs.{declared.param.CsiParam.CsiParam, declared.param.CsiParam.TheVariants.Integer, declared.param.CsiParam.TheVariants.P}
+use Rattle.std.specs.Prelude.{ℤ, pred, slice_get, option_and_then, unwrap_or, ◌≡◌, ◌≤◌, ◌<◌, ◌+◌, ◌-◌, ◌*◌, ◌==◌, ◌∷◌, if◌then◌else◌}
 use Rattle.csicodec_base.specs.FrontBy.{piece}
-use Rattle.csicodec_parser.specs.{declared.group.Group.Group, declared.group.Group.TheVariants.Whole, declared.group.Group.TheVariants.Styles}
-use Rattle.csicodec_parser.specs.{declared.group.Group.TheVariants.Modes, declared.group.Group.TheVariants.DecModes, declared.parser.Stage.Stage}
-use Rattle.csicodec_parser.specs.{declared.parser.Stage.TheVariants.Fresh, declared.parser.Stage.TheVariants.Going, declared.parser.Stage.TheVariants.Failed}
-use Rattle.csicodec_parser.specs.{declared.parser.Boxed.Boxed, declared.actions.CSI.CSI, ActionOf.action_of, ActionOf.unspecified_of, Groups.group}
-use Rattle.csicodec_parser.specs.{Groups.start, Groups.marked, Groups.is_odd, Groups.has_odd, Cut.body, Cut.IsRestAfter, Progress.Progress}
+use Rattle.csicodec_parser.specs.Common.{ℕ, zero, suc, Bool, true, false, List, [], length, drop, Option, Some, None, CsiParam, Integer, P, Group, Whole, Styles, Modes, DecModes, CSI, Action, Sgr, Mode, Unspecified, device_of, changed, switched, boxed, whole}
+use Rattle.csicodec_parser.specs.{declared.parser.Stage.Stage, declared.parser.Stage.TheVariants.Fresh, declared.parser.Stage.TheVariants.Going}
+use Rattle.csicodec_parser.specs.{declared.parser.Stage.TheVariants.Failed, declared.parser.Boxed.Boxed, ActionOf.action_of, ActionOf.unspecified_of}
+use Rattle.csicodec_parser.specs.{Groups.group, Groups.start, Groups.marked, Groups.is_odd, Groups.has_odd, Cut.body, Cut.IsRestAfter, Progress.Progress}
 use Rattle.csicodec_parser.specs.{Segments.empty_action}
-use Rattle.csicodec_actions.specs.{Actions.Action, Actions.Sgr, Actions.Mode, Actions.Device, Actions.Window, Actions.Unspecified, Devices.device_of}
-use Rattle.csicodec_actions.specs.{Modes.changed, Modes.switched, Kinds.read, Kinds.Dec, Kinds.Terminal, Table.boxed, Table.whole}
+use Rattle.csicodec_actions.specs.{Actions.Device, Actions.Window, Kinds.read, Kinds.Dec, Kinds.Terminal}
 use Rattle.csicodec_base.specs.declared.sgr.Sgr as sgr_type
-use Rattle.csicodec_parser.specs.declared.parser.Boxed.TheVariants as box
 
 abbrev pub styled : Option (sgr_type.Sgr × ℕ) → Option (Action × ℕ)
 styled None = None
@@ -79,10 +75,10 @@ rest_action g rest flag final = Unspecified (marked g rest) flag final
 
 -- the action in a box, if memory wasn't refused
 abbrev pub held : Boxed → Option Action
-held (box.Device d) = Some (Device (device_of d.value))
-held (box.Window w) = Some (Window w.value)
-held (box.Unspecified u) = Some (unspecified_of u.value)
-held box.Refused = None
+held (Boxed.Device d) = Some (Device (device_of d.value))
+held (Boxed.Window w) = Some (Window w.value)
+held (Boxed.Unspecified u) = Some (unspecified_of u.value)
+held Boxed.Refused = None
 
 -- the actions of what is left of a list that is cut
 abbrev pub actions_after : Group → Bool → ℕ → List CsiParam → List Action

@@ -8,7 +8,6 @@ use Rattle.csicodec_names.specs.{declared.color.ColorSpec.TheVariants.PaletteInd
 use Rattle.csicodec_base.specs.{Shapes.Plane, Shapes.painted, declared.sgr.Sgr.Sgr as Attribute}
 use Rattle.csicodec_actions.specs.{Actions.Action, Actions.Sgr, Kinds.IsOneBased}
 use Rattle.csicodec_streams.specs.{Colors.IsOpaque, Colors.color_list, Colors.plane_byte, Decoding.Decodes}
-use Rattle.csicodec_tokens.specs.declared.reader.ReadError.TheVariants as read_errors
 
 -- the sequences at the front of the bytes have these actions, and behind them comes the rest
 abbrev pub DecodesFront : List ℕ → Bool → List ℕ → List Action → Type 0
@@ -22,7 +21,7 @@ StopsAt rest (Some error) = (0 < length rest) × ((room : ℕ) × Refuses rest r
 
 -- an error stays, whatever follows the bytes that have it; only those that end too early can go on
 abbrev pub stays : ReadError → Bool
-stays (read_errors.Truncated place) = false
+stays (ReadError.Truncated place) = false
 stays _ = true
 
 -- the text of a number from 1 to 4294967295

@@ -9,7 +9,6 @@ use Rattle.csicodec_parser.specs.{Groups.has_odd, Segments.Actions, declared.gro
 use Rattle.csicodec.specs.Compose.{EndsInSemicolon, IsStyleList}
 use Rattle.csicodec_structs.specs.{Next.Lays, Rows.params_of, Rows.sgr_struct, Rows.struct_of, Structs.color_row, Structs.row, declared.structs.Param.Param}
 use Rattle.csicodec_structs.specs.{declared.structs.Struct.Struct, declared.by_number.StyleRow.StyleRow, declared.attributes.AttributeParts.AttributeParts}
-use Rattle.csicodec_actions.specs.declared.mode.Change.TheVariants as change
 
 -- ---- tokens in turn
 
@@ -78,10 +77,10 @@ HasStyles body styles rest = ((styles ≡ []) × (rest ≡ body)) ⊎ AreStyles 
 
 -- the final byte of what is done to private modes: DECSET, DECRST, and xterm's XTSAVE and XTRESTORE
 abbrev pub change_final : Change → ℕ
-change_final change.Set = 104
-change_final change.Reset = 108
-change_final change.Save = 115
-change_final change.Restore = 114
+change_final Change.Set = 104
+change_final Change.Reset = 108
+change_final Change.Save = 115
+change_final Change.Restore = 114
 
 -- in front stands this number, or nothing, which reads as 0
 abbrev pub HasOne : List ℕ → ℕ → List ℕ → Type 0

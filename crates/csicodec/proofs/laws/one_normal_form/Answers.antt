@@ -1,10 +1,8 @@
-use Rattle.std.proofs.{Common.List, Common.[], Common.◌≡◌, Common.ℕ, Common.false, Common.inl, Common.inr, Common.refl, Common.sym, Common.ap, Common.◌∙◌}
-use Rattle.std.proofs.{Common.arith, Common.length, lemmas.Bool.cases_Bool, lemmas.Bool.cases_lt}
-use Rattle.csicodec_tokens.proofs.Unique.{one_seq}
-use Rattle.csicodec_actions.specs.Table.{texts}
+use Rattle.std.proofs.Common.{List, [], ◌≡◌, ℕ, false, inl, inr, refl, sym, ap, ◌∙◌, arith, length}
+use Rattle.csicodec_tokens.proofs.Reading.{one_seq}
 use Rattle.csicodec_streams.specs.Decoding.{NormalisesTo}
-use Rattle.csicodec_streams.proofs.OneReading.{one_decoding}
 use Rattle.csicodec_filter.specs.Faithful.{IsShortForm, is_kept, longest}
+use Rattle.csicodec.proofs.Common.{cases_Bool, cases_lt, texts, one_decoding}
 use Rattle.csicodec.proofs.laws.one_normal_form.Goals as goal
 
 one_form : (bytes one other : List ℕ) → NormalisesTo bytes one → NormalisesTo bytes other → one ≡ other

@@ -1,6 +1,4 @@
-use Rattle.std.specs.Prelude.{◌↔◌}
-use Rattle.std.proofs.Common.{length}
-use Rattle.csicodec_actions.specs.Written.{AllGood, Attribute, listed}
+use Rattle.csicodec_actions.proofs.Common.{◌↔◌, length, AllGood, Attribute, listed}
 use Rattle.csicodec_actions.proofs.device.are_attributes.Given as goal
 
 -- what decides is left

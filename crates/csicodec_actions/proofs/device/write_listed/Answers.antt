@@ -1,4 +1,5 @@
-use Rattle.std.proofs.{Common.arith, Common.rules, lemmas.Grind.common_steps, lemmas.Grind.put_two}
+use Rattle.std.proofs.lemmas.Grind.{common_steps}
+use Rattle.csicodec_actions.proofs.Common.{arith, rules, put_two}
 use Rattle.csicodec_actions.proofs.device.write_listed.Goals as goal
 
 -- what was written, and then `;` and the text of this item

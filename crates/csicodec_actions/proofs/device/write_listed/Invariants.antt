@@ -1,6 +1,5 @@
-use Rattle.std.proofs.Common.{take}
 use Rattle.std.specs.Fmt.{HasWritten, IsPlainFormatter}
-use Rattle.csicodec_actions.specs.Private.DeviceTexts.{listed_text}
+use Rattle.csicodec_actions.proofs.Common.{take, listed_text}
 use Rattle.csicodec_actions.proofs.device.write_listed.Given as goal
 
 abbrev pub invariant-loop-item : goal.invariant-loop-item

@@ -1,5 +1,4 @@
-use Rattle.std.proofs.{Common.arith, lemmas.Grind.put_two}
-use Rattle.csicodec_actions.proofs.DeviceTexts.{values_text}
+use Rattle.csicodec_actions.proofs.{FieldsAt.values_text, Common.arith, Common.put_two}
 use Rattle.csicodec_actions.proofs.device.write_values.Goals as goal
 
 pub returns : goal.returns

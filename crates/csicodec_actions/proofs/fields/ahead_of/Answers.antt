@@ -1,5 +1,4 @@
-use Rattle.std.proofs.Common.{◌∙◌, sym}
-use Rattle.csicodec_actions.proofs.FieldsAt.{at-end, then-ends}
+use Rattle.csicodec_actions.proofs.{FieldsAt.at-end, FieldsAt.then-ends, Common.◌∙◌, Common.sym}
 use Rattle.csicodec_actions.proofs.fields.ahead_of.Goals as goal
 
 pub returns-in-P : goal.returns-in-P

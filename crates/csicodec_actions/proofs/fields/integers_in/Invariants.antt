@@ -1,5 +1,4 @@
-use Rattle.std.proofs.Common.{◌≡◌, take}
-use Rattle.csicodec_actions.specs.Lent.{integers}
+use Rattle.csicodec_actions.proofs.Common.{◌≡◌, take, integers}
 use Rattle.csicodec_actions.proofs.fields.integers_in.Given as goal
 
 abbrev pub invariant-loop-token : goal.invariant-loop-token

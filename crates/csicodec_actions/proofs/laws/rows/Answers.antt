@@ -1,4 +1,4 @@
-use Rattle.csicodec_actions.proofs.{Disjoint.rows_lem, FieldsApart.field_rows_lem}
+use Rattle.csicodec_actions.proofs.{AllRows.rows_lem, FieldsApart.field_rows_lem}
 use Rattle.csicodec_actions.proofs.laws.rows.Goals as goal
 
 pub returns-clause-tokens : goal.returns-clause-tokens

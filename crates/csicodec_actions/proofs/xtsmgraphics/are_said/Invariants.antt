@@ -1,6 +1,4 @@
-use Rattle.std.specs.Prelude.{◌↔◌}
-use Rattle.std.proofs.Common.{length}
-use Rattle.csicodec_actions.specs.Written.{AllGood, any_number, listed}
+use Rattle.csicodec_actions.proofs.Common.{◌↔◌, length, AllGood, any_number, listed}
 use Rattle.csicodec_actions.proofs.xtsmgraphics.are_said.Given as goal
 
 -- what decides is left

@@ -1,10 +1,4 @@
-use Rattle.std.proofs.{Common.◌≡◌, Common.◌-◌, Common.◌<◌, Common.◌∷◌, Common.length, Common.Option, Common.Some, Common.None, Common.refl, Common.ap}
-use Rattle.std.proofs.{Common.◌∙◌, Common.arith, lemmas.Result.on_ok_weaker}
-use Rattle.std.specs.Prelude.{option_map}
-use Rattle.json.specs.{Token.Token, Json.parse_map, Json.after_end_array, Json.read_key, Json.items, Json.members, Json.value}
-use Rattle.json.proofs.Grammar.{value_is, value-begin_array, value-begin_object, read_key-shorter}
-use Rattle.serde_json.specs.Data.{Num, null, boolean, number, string, array, object, put, no_items, item, no_members}
-use Rattle.serde_json.specs.Read.{number_of, of_json, of_items, converted}
+use Rattle.csicodec_assemble.proofs.Common.{◌≡◌, ◌-◌, ◌<◌, ◌∷◌, length, Option, Some, None, refl, ap, ◌∙◌, arith, on_ok_weaker, option_map, Token, parse_map, after_end_array, read_key, items, members, value, value_is, value-begin_array, value-begin_object, read_key-shorter, Num, null, boolean, number, string, array, object, put, no_items, item, no_members, number_of, of_json, of_items, converted}
 use Rattle.csicodec_assemble.proofs.Member.{converted-array, converted-object, is_there, item_read, items_over, member_read, members_over, none_mapped, twice_mapped}
 use Rattle.csicodec_assemble.proofs.glance.+pass.Goals as goal
 

@@ -1,6 +1,4 @@
-use Rattle.std.proofs.Common.{◌≡◌, ℕ, ◌+◌, ◌*◌, ◌≤◌, length}
-use Rattle.json.specs.Json.{items, members, value, parse_map}
-use Rattle.serde_json.specs.{Data.Items, Data.Members, Data.no_members, Read.of_items, Read.of_members, Read.converted}
+use Rattle.csicodec_assemble.proofs.Common.{◌≡◌, ℕ, ◌+◌, ◌*◌, ◌≤◌, length, items, members, value, parse_map, Items, Members, no_members, of_items, of_members, converted}
 use Rattle.csicodec_assemble.proofs.glance.+pass.Given as goal
 
 abbrev pub decreases-pass : goal.decreases-pass

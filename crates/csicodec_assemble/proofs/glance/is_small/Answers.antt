@@ -1,8 +1,4 @@
-use Rattle.std.proofs.{Common.◌≡◌, Common.◌<◌, Common.◌^◌, Common.ℕ, Common.List, Common.get_or, Common.Option, Common.Some, Common.None, Common.IsTrue}
-use Rattle.std.proofs.{Common.IsSome, Common.◌==◌, Common.false, lemmas.Bool.ne_eqb}
-use Rattle.std.specs.Prelude.{SomeIff, is_some}
-use Rattle.fast_float.specs.Text.{IsInteger, digits_of, scan}
-use Rattle.serde_json.specs.Read.{number_of}
+use Rattle.csicodec_assemble.proofs.Common.{◌≡◌, ◌<◌, ◌^◌, ℕ, List, get_or, Option, Some, None, IsTrue, IsSome, ◌==◌, false, ne_eqb, SomeIff, is_some, IsInteger, digits_of, scan, number_of}
 use Rattle.csicodec_assemble.proofs.Member.{small}
 use Rattle.csicodec_assemble.proofs.glance.is_small.Goals as goal
 

@@ -1,5 +1,4 @@
-use Rattle.std.proofs.Common.{◌≡◌, [], arith}
-use Rattle.csicodec_assemble.proofs.Place.{text_last}
+use Rattle.csicodec_assemble.proofs.{Common.◌≡◌, Common.[], Common.arith, Place.text_last}
 use Rattle.csicodec_assemble.proofs.glance.text_at_end.Goals as goal
 
 pub returns : goal.returns

@@ -1,7 +1,4 @@
-use Rattle.std.proofs.Common.{◌≡◌, ◌-◌, Some, refl, ◌∙◌, arith}
-use Rattle.json.specs.Json.{read_key, value}
-use Rattle.json.proofs.Grammar.{read_key-shorter}
-use Rattle.serde_json.specs.Data.{put}
+use Rattle.csicodec_assemble.proofs.Common.{◌≡◌, ◌-◌, Some, refl, ◌∙◌, arith, read_key, value, read_key-shorter, put}
 use Rattle.csicodec_assemble.proofs.Member.{member_read, members_over}
 use Rattle.csicodec_assemble.proofs.glance.text_member.Goals as goal
 

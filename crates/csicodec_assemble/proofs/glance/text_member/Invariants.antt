@@ -1,8 +1,4 @@
-use Rattle.std.proofs.Common.{◌≡◌, ℕ, ◌≤◌, length, None}
-use Rattle.std.specs.Prelude.{option_map}
-use Rattle.json.specs.Json.{members, value}
-use Rattle.serde_json.specs.{Data.Members, Read.of_members, Read.converted}
-use Rattle.csicodec_assemble.specs.Private.Glance.{Says}
+use Rattle.csicodec_assemble.proofs.Common.{◌≡◌, ℕ, ◌≤◌, length, None, option_map, members, value, Members, of_members, converted, Says}
 use Rattle.csicodec_assemble.proofs.glance.text_member.Given as goal
 
 -- behind members without a text, the members that are left go into those that were passed, of which the text is known

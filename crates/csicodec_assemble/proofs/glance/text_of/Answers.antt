@@ -1,7 +1,4 @@
-use Rattle.std.proofs.{Common.◌≡◌, Common.◌∷◌, Common.length, Common.refl, Common.ap, Common.◌∙◌, Common.arith, lemmas.Option.IfSome_then}
-use Rattle.json.specs.{Token.Token, Json.members, Json.parse_map, Json.value}
-use Rattle.json.proofs.Grammar.{value-begin_object}
-use Rattle.serde_json.specs.{Data.no_members, Data.object, Read.converted, Read.of_json}
+use Rattle.csicodec_assemble.proofs.Common.{◌≡◌, ◌∷◌, length, refl, ap, ◌∙◌, arith, IfSome_then, Token, members, parse_map, value, value-begin_object, no_members, object, converted, of_json}
 use Rattle.csicodec_assemble.proofs.Member.{converted-object, says_object}
 use Rattle.csicodec_assemble.proofs.glance.text_of.Goals as goal
 

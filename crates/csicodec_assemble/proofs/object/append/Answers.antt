@@ -1,4 +1,4 @@
-use Rattle.std.proofs.Common.{arith}
+use Rattle.csicodec_assemble.proofs.Common.{arith}
 use Rattle.csicodec_assemble.proofs.object.append.Goals as goal
 
 pub returns-clause-fit : goal.returns-clause-fit

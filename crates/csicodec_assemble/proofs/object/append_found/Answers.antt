@@ -1,4 +1,4 @@
-use Rattle.std.proofs.Common.{inr}
+use Rattle.csicodec_assemble.proofs.Common.{inr}
 use Rattle.csicodec_assemble.proofs.object.append_found.Goals as goal
 
 pub returns-in-Some-clause-bytes : goal.returns-in-Some-clause-bytes

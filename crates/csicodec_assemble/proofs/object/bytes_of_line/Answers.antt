@@ -1,8 +1,4 @@
-use Rattle.std.proofs.Common.{◌≡◌, ℕ, List, Bool, true, false, None, Result, Ok, Err, IfErr, IfOk, cond, refl, sym, subst}
-use Rattle.std.proofs.lemmas.Str.{IsUtf8-from_is_utf8}
-use Rattle.std.specs.{Prelude.IsUtf8, Str.is_utf8}
-use Rattle.serde_json.specs.Read.{read}
-use Rattle.csicodec_assemble.specs.{declared.object.Fault.Fault, declared.object.Fault.TheVariants.NoObject, Object.IsTold, Object.of_read}
+use Rattle.csicodec_assemble.proofs.Common.{◌≡◌, ℕ, List, Bool, true, false, None, Result, Ok, Err, IfErr, IfOk, cond, refl, sym, subst, IsUtf8-from_is_utf8, IsUtf8, is_utf8, read, Fault, NoObject, IsTold, of_read}
 use Rattle.csicodec_assemble.proofs.Member.{line_is}
 use Rattle.csicodec_assemble.proofs.object.bytes_of_line.Goals as goal
 

@@ -4,8 +4,7 @@ use Rattle.std.specs.Prelude.{pos, ◌==◌}
 use mir.{Val.SFits, Syntax.w64}
 use Rattle.csicodec_tokens.specs.declared.param.CsiParam.TheVariants.{Integer, P}
 use Rattle.csicodec_names.specs.{declared.codes.SgrCode.SgrCode, Numbers.number_of}
-use Rattle.csicodec_base.proofs.CodePieces.{at_end, at_first, semicolon_front, other_byte, unknown_number, one_token_front}
-use Rattle.csicodec_base.proofs.Table.{is_front, is_near, is_within}
+use Rattle.csicodec_base.proofs.Table.{at_end, at_first, semicolon_front, other_byte, unknown_number, one_token_front, is_front, is_near, is_within}
 use Rattle.csicodec_base.proofs.pieces.sgr_front.Goals as goal
 
 pub returns-in-P-2 : goal.returns-in-P-2

@@ -1,4 +1,4 @@
-use Rattle.std.proofs.Common.{◌++◌, ℕ, List, length, ap, inl, subst, sym, ◌∙◌}
+use Rattle.std.proofs.Common.{◌++◌, ℕ, List, length, refl, ap, inl, subst, sym, ◌∙◌}
 use Rattle.csicodec_structs.specs.Room.{Fills}
 use Rattle.csicodec_c.proofs.filter.step.Goals as goal
 
@@ -11,10 +11,8 @@ returns-in-Ok g c =
       after = c.in-Ok.mode;
       text = text;
       began = (c.mode_at.ensures c.in-Some.mode).0 c.in-Some.is;
-      ok = c.number.ensures;
-      mode = c.number_of.ensures;
       within = within;
       passes = passes;
-      needed = c.len.ensures ∙ sym c.as_slice.ensures.len ∙ ap length is;
+      tells = rw (c.number.ensures, c.number_of.ensures, c.len.ensures ∙ sym c.as_slice.ensures.len ∙ ap length is) refl;
       fills = subst (λ (t : List ℕ). Fills c.args.out.now c.fill.new.room t) is c.fill.ensures;
     })

@@ -1,6 +1,6 @@
 use Rattle.std.proofs.lemmas.Result.{IfOk-weaker}
 use Rattle.csicodec_html.proofs.Paired.{is_page}
-use Rattle.csicodec_overwrite.proofs.Paged.{painted_page}
+use Rattle.csicodec_overwrite.proofs.Same.{painted_page}
 use Rattle.csicodec_c.proofs.html.piece_of_lines.Goals as goal
 
 pub returns-clause-piece : goal.returns-clause-piece

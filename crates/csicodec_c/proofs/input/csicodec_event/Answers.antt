@@ -11,9 +11,9 @@ returns-then-front-number c =
     let done =
     laid c.near.result.now c.args.actions.now c.lay_front-front.new.actions c.args.params.now c.lay_front-front.new.params front
     c.lay_front-front.ensures (c.if-front-number.true ∙ c.number.ensures) in
-    read_done c.args.mode c.args.limit c.args.looked c.args.bytes.now c.near.result.now c.in-Some.mode c.args.actions.now
+    rw c.without_value-then-front-number.ensures (read_done c.args.mode c.args.limit c.args.looked c.args.bytes.now c.near.result.now c.in-Some.mode c.args.actions.now
     c.lay_front-front.new.actions c.args.params.now c.lay_front-front.new.params front
-    c.sequence.result began c.if-looked-eq0.true (c.begins_csi.ensures.0 c.if-begins_csi.true) c.near.ensures done c.sequence.ensures
+    c.answer.result began c.if-looked-eq0.true (c.begins_csi.ensures.0 c.if-begins_csi.true) c.near.ensures done (rw c.new.ensures at c.answer.ensures))
 
 pub returns : goal.returns
 returns c =

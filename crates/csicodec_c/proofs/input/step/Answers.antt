@@ -1,5 +1,4 @@
-use Rattle.std.proofs.Common.{refl, ap, inl, inr, ◌∙◌}
-use Rattle.csicodec_c.specs.declared.input.Received.{Received}
+use Rattle.std.proofs.Common.{refl, inl, inr}
 use Rattle.csicodec_c.proofs.input.step.Goals as goal
 
 pub returns-in-Ok-None : goal.returns-in-Ok-None
@@ -20,7 +19,6 @@ returns-in-Ok-None c =
 pub returns-in-Some : goal.returns-in-Some
 returns-in-Some c =
     let sent = c.in-Ok-Some.sent in
-    let e = c.answer-answer.ensures in
     let list = c.next_in.new.params.items in
     let sends = rw c.in-Ok-Some.field-0-is at c.in-Ok-Some.ensures.sends in
     inl (record {
@@ -35,11 +33,6 @@ returns-in-Some c =
       began = refl;
       sends = sends;
       parts = rw c.in-Ok-Some.field-0-is at c.in-Ok-Some.ensures.parts;
-      ok = ap (λ (x : Received). x.status) e;
-      is = ap (λ (x : Received). x.kind) e ∙ c.event_number.ensures;
-      mode = ap (λ (x : Received). x.mode) e;
-      value = ap (λ (x : Received). x.value) e ∙ c.value_of.ensures;
-      looks = ap (λ (x : Received). x.looked) e;
-      used = ap (λ (x : Received). x.used) e;
+      tells = rw (c.answer-answer.ensures, c.event_number.ensures, c.value_of.ensures) refl;
       puts = c.in-Some.ensures c.args.dialect c.args.events c.next_in.new.self c.args.bytes.now sent.rest.now list sends;
     })

@@ -1,5 +1,5 @@
 use Rattle.std.proofs.Common.{◌≡◌, drop}
-use Rattle.csicodec_clean.specs.Addresses.{is_host_on}
+use Rattle.csicodec_clean.proofs.Common.{is_host_on}
 use Rattle.csicodec_clean.proofs.addresses.is_host_on.Given as goal
 
 -- it is so of all bytes if it is of the others

@@ -1,6 +1,5 @@
 use Rattle.std.proofs.Common.{subst, sym}
-use Rattle.csicodec_clean.specs.Shown.{IsBehind}
-use Rattle.csicodec_clean.proofs.Told.{behind_front, further}
+use Rattle.csicodec_clean.proofs.{Common.IsBehind, Told.behind_front, Told.further}
 use Rattle.csicodec_clean.proofs.check.behind_text.Goals as goal
 
 pub loop-rest-preserved : goal.loop-rest-preserved

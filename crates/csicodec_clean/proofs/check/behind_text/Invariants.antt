@@ -1,5 +1,5 @@
 use Rattle.std.proofs.Common.{length}
-use Rattle.csicodec_clean.specs.Shown.{IsBehind}
+use Rattle.csicodec_clean.proofs.Common.{IsBehind}
 use Rattle.csicodec_clean.proofs.check.behind_text.Given as goal
 
 -- some characters were passed

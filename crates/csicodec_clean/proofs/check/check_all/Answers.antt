@@ -1,7 +1,7 @@
 use Rattle.std.proofs.{Common.◌<◌, Common.◌++◌, Common.take, Common.length, Common.inl, Common.inr, Common.length-append, Common.arith}
 use Rattle.std.proofs.{KnownBytes.Consumes-trans}
 use Rattle.csicodec_transform.proofs.Sent.{none_more}
-use Rattle.csicodec_clean.proofs.Checks.{more_came}
+use Rattle.csicodec_clean.proofs.Told.{more_came}
 use Rattle.csicodec_clean.proofs.check.check_all.Goals as goal
 
 pub returns-in-Ok-false-clause-fault : goal.returns-in-Ok-false-clause-fault

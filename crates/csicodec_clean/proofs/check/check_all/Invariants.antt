@@ -1,6 +1,5 @@
 use Rattle.std.proofs.Common.{ℕ, List}
-use Rattle.std.specs.Io.KnownBytes.{Consumes}
-use Rattle.csicodec_clean.specs.Check.{IsOutside, Stands}
+use Rattle.csicodec_clean.proofs.Common.{Consumes, IsOutside, Stands}
 use Rattle.csicodec_clean.proofs.check.check_all.Given as goal
 
 -- what was read is text of the class up to the rest, which may begin a character

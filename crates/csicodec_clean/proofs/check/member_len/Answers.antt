@@ -1,5 +1,5 @@
 use Rattle.std.proofs.Common.{sym, ◌∙◌, arith}
-use Rattle.csicodec_clean.proofs.Told.{char_within, one_text}
+use Rattle.csicodec_clean.proofs.Told.{char_within, char_text}
 use Rattle.csicodec_clean.proofs.check.member_len.Goals as goal
 
 pub returns-then-has : goal.returns-then-has
@@ -8,6 +8,6 @@ returns-then-has g c =
     let bounds = char_within c.args.bytes.now c.in-Some.char _ char c.decode-found.ensures.size in
     record {
       within = bounds.1;
-      text = one_text g.C.CharClass.class c.args.bytes.now c.in-Some.char _ char c.decode-found.ensures.size (sym c.has.ensures ∙ c.if-has.true);
+      text = char_text g.C.CharClass.class c.args.bytes.now c.in-Some.char _ char c.decode-found.ensures.size (sym c.has.ensures ∙ c.if-has.true);
       none = λ none. absurd (omega (arith, bounds.0, none));
     }

@@ -1,5 +1,4 @@
-use Rattle.csicodec_clean.specs.Private.Steps.{state_of}
-use Rattle.csicodec_clean.proofs.Glances.{to_none}
+use Rattle.csicodec_clean.proofs.{Common.state_of, Chunks.to_none}
 use Rattle.csicodec_clean.proofs.glance.append_front.Goals as goal
 
 pub returns-then-not-is_bare : goal.returns-then-not-is_bare

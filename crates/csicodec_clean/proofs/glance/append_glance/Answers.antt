@@ -1,5 +1,4 @@
-use Rattle.csicodec_clean.specs.Private.Steps.{bare_at}
-use Rattle.csicodec_clean.proofs.Glances.{over_told, to_none, to_on}
+use Rattle.csicodec_clean.proofs.{Common.bare_at, Chunks.over_told, Chunks.to_none, Chunks.to_on}
 use Rattle.csicodec_clean.proofs.glance.append_glance.Goals as goal
 
 pub loop-more-init : goal.loop-more-init

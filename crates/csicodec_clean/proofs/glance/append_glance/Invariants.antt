@@ -1,5 +1,5 @@
 use Rattle.std.proofs.Common.{◌+◌, cond, length}
-use Rattle.csicodec_clean.specs.Private.Steps.{GoesTo, bare_at}
+use Rattle.csicodec_clean.proofs.Common.{GoesTo, bare_at}
 use Rattle.csicodec_clean.proofs.glance.append_glance.Given as goal
 
 -- some text and sequences were taken

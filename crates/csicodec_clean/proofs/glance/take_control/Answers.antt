@@ -1,5 +1,4 @@
-use Rattle.csicodec_clean.specs.Private.Steps.{bare_at}
-use Rattle.csicodec_clean.proofs.Glances.{over_escape, to_none}
+use Rattle.csicodec_clean.proofs.{Common.bare_at, Chunks.over_escape, Chunks.to_none}
 use Rattle.csicodec_clean.proofs.glance.take_control.Goals as goal
 
 pub returns-then-begins_with_escape-clause-goes : goal.returns-then-begins_with_escape-clause-goes

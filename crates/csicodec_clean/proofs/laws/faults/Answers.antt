@@ -1,5 +1,4 @@
-use Rattle.csicodec_clean.specs.Cleaned.{longest}
-use Rattle.csicodec_clean.proofs.Checks.{not_left, not_plain}
+use Rattle.csicodec_clean.proofs.{Common.longest, Told.not_left, Told.not_plain}
 use Rattle.csicodec_clean.proofs.laws.faults.Goals as goal
 
 pub returns-clause-plain : goal.returns-clause-plain

@@ -1,4 +1,4 @@
-use Rattle.csicodec_clean.proofs.Marked.{cleaned_marked, styled_marked}
+use Rattle.csicodec_clean.proofs.Styled.{cleaned_marked, styled_marked}
 use Rattle.csicodec_clean.proofs.laws.marked.Goals as goal
 
 pub returns : goal.returns

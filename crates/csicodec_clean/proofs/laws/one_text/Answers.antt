@@ -1,5 +1,4 @@
-use Rattle.csicodec_clean.specs.Cleaned.{longest}
-use Rattle.csicodec_clean.proofs.Twice.{one_text}
+use Rattle.csicodec_clean.proofs.{Common.longest, Told.one_text}
 use Rattle.csicodec_clean.proofs.laws.one_text.Goals as goal
 
 pub returns : goal.returns

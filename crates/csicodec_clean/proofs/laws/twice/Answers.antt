@@ -1,5 +1,4 @@
-use Rattle.csicodec_clean.specs.Cleaned.{longest}
-use Rattle.csicodec_clean.proofs.Twice.{twice}
+use Rattle.csicodec_clean.proofs.{Common.longest, Told.twice}
 use Rattle.csicodec_clean.proofs.laws.twice.Goals as goal
 
 pub returns : goal.returns

@@ -1,6 +1,5 @@
 use Rattle.std.proofs.Common.{◌-◌, ◌++◌, ◌∙◌, length, take, sym, ap, subst}
-use Rattle.csicodec_clean.specs.Private.Notes.{IsNoted}
-use Rattle.csicodec_clean.proofs.Noted.{recalled}
+use Rattle.csicodec_clean.proofs.{Common.IsNoted, Coded.recalled}
 use Rattle.csicodec_clean.proofs.notes.append_noted.Goals as goal
 
 pub returns-clause-left : goal.returns-clause-left

@@ -1,6 +1,5 @@
 use Rattle.std.proofs.Common.{◌+◌, ◌-◌, ◌++◌, ◌∙◌, true, length, take, refl, ap, sym, subst}
-use Rattle.csicodec_clean.specs.{declared.colors.Depth.Depth, Private.Notes.IsLeft}
-use Rattle.csicodec_clean.proofs.{Glances.front_read, Coded.color_closed, Noted.closed_taken, Noted.color_left, Noted.color_noted}
+use Rattle.csicodec_clean.proofs.{Common.Depth, Common.IsLeft, Chunks.front_read, Coded.color_closed, Coded.closed_taken, Coded.color_left, Coded.color_noted}
 use Rattle.csicodec_clean.proofs.notes.take_color.Goals as goal
 
 pub keep-requires-clause-noted : goal.keep-requires-clause-noted

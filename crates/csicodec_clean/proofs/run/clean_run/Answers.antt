@@ -1,5 +1,5 @@
-use Rattle.std.proofs.{Common.inl, Common.inr, Common.⊎_elim, lemmas.Result.MatchResult-weaker, lemmas.Result.on_err_weaker, lemmas.Result.on_ok_weaker}
-use Rattle.csicodec_clean.proofs.Chunks.{closed, takes_none}
+use Rattle.std.proofs.{Common.inl, Common.inr, Common.⊎_elim, lemmas.Result.MatchResult-weaker}
+use Rattle.csicodec_clean.proofs.{Common.on_err_weaker, Common.on_ok_weaker, Chunks.closed, Chunks.takes_none}
 use Rattle.csicodec_clean.proofs.run.clean_run.Goals as goal
 
 pub transform_all-requires-clause-begun : goal.transform_all-requires-clause-begun

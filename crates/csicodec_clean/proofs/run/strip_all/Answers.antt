@@ -1,6 +1,6 @@
 use Rattle.std.proofs.Common.{[], refl}
-use Rattle.csicodec_clean.specs.{Shown.IsPlain, Cleaned.Strips, Cleaned.drops, Cleaned.ends_bare, Cleaned.longest}
-use Rattle.csicodec_clean.proofs.{Plain.strips, Plain.strips_plain, Fronts.rule_ran, Fronts.strip_front, Twice.one_text}
+use Rattle.csicodec_clean.proofs.{Common.IsPlain, Common.Strips, Common.drops, Common.ends_bare, Common.longest, Plain.strips, Plain.strips_plain}
+use Rattle.csicodec_clean.proofs.{Again.rule_ran, Again.strip_front, Told.one_text}
 use Rattle.csicodec_clean.proofs.run.strip_all.Goals as goal
 
 pub returns : goal.returns

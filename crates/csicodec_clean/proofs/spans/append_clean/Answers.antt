@@ -1,6 +1,5 @@
 use Rattle.std.proofs.Common.{refl}
-use Rattle.csicodec_clean.specs.Private.Steps.{state_of}
-use Rattle.csicodec_clean.proofs.Glances.{to_none, to_on, to_span}
+use Rattle.csicodec_clean.proofs.{Common.state_of, Chunks.to_none, Chunks.to_on, Chunks.to_span}
 use Rattle.csicodec_clean.proofs.spans.append_clean.Goals as goal
 
 pub loop-rest-init : goal.loop-rest-init

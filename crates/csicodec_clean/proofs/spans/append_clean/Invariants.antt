@@ -1,5 +1,5 @@
 use Rattle.std.proofs.Common.{◌≤◌, length}
-use Rattle.csicodec_clean.specs.Private.Steps.{GoesTo, state_of}
+use Rattle.csicodec_clean.proofs.Common.{GoesTo, state_of}
 use Rattle.csicodec_clean.proofs.spans.append_clean.Given as goal
 
 -- some parts were cut, and what is left of them appended

@@ -1,6 +1,5 @@
 use Rattle.std.proofs.Common.{◌≡◌, ◌+◌, ◌++◌, ◌∷◌, ◌∙◌, ℕ, List, [], get_or, take, ap, sym, refl, rules, append-nil, append_assoc}
-use Rattle.std.proofs.lemmas.List.{take_more}
-use Rattle.csicodec_clean.proofs.Chunks.{given_more, given_none}
+use Rattle.csicodec_clean.proofs.{Common.take_more, Chunks.given_more, Chunks.given_none}
 use Rattle.csicodec_clean.proofs.spans.append_string.Goals as goal
 
 pub returns-then-not-reads_strings : goal.returns-then-not-reads_strings

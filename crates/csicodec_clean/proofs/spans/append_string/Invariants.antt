@@ -1,5 +1,5 @@
 use Rattle.std.proofs.Common.{◌≡◌, ◌++◌, ℕ, List, take}
-use Rattle.csicodec_clean.specs.Cleaned.{AreGiven}
+use Rattle.csicodec_clean.proofs.Common.{AreGiven}
 use Rattle.csicodec_clean.proofs.spans.append_string.Given as goal
 
 -- what the bytes up to here give is appended

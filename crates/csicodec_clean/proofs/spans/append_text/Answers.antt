@@ -1,6 +1,5 @@
-use Rattle.std.proofs.{Common.◌≡◌, Common.length, Common.arith, Common.rules, lemmas.Grind.common_steps}
-use Rattle.csicodec_spans.proofs.Spanned.{rest_is}
-use Rattle.csicodec_clean.proofs.Told.{none_held}
+use Rattle.std.proofs.Common.{◌≡◌, length, arith, rules}
+use Rattle.csicodec_clean.proofs.{Common.common_steps, Common.rest_is, Told.none_held}
 use Rattle.csicodec_clean.proofs.spans.append_text.Goals as goal
 
 pub returns-then-is_empty-clause-chars : goal.returns-then-is_empty-clause-chars

@@ -1,6 +1,5 @@
-use Rattle.std.proofs.{Common.◌≡◌, Common.◌+◌, Common.◌-◌, Common.◌++◌, Common.◌∙◌, Common.ap, Common.length, Common.take, Common.arith}
-use Rattle.std.proofs.{lemmas.Grind.common_steps}
-use Rattle.csicodec_clean.proofs.Paused.{stepped}
+use Rattle.std.proofs.Common.{◌≡◌, ◌+◌, ◌-◌, ◌++◌, ◌∙◌, ap, length, take, arith}
+use Rattle.csicodec_clean.proofs.{Common.common_steps, Streams.stepped}
 use Rattle.csicodec_clean.proofs.step.append_step.Goals as goal
 
 pub returns-clause-steps : goal.returns-clause-steps

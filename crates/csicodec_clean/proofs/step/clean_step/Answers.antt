@@ -1,4 +1,4 @@
-use Rattle.csicodec_clean.proofs.Paused.{styled_steps}
+use Rattle.csicodec_clean.proofs.Streams.{styled_steps}
 use Rattle.csicodec_clean.proofs.step.clean_step.Goals as goal
 
 pub returns-clause-steps : goal.returns-clause-steps

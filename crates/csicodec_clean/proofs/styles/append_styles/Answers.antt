@@ -1,7 +1,5 @@
-use Rattle.std.proofs.{Common.◌≡◌, Common.◌+◌, Common.◌++◌, Common.◌∷◌, Common.[], Common.map, Common.take, Common.ap, Common.◌∙◌, Common.rules}
-use Rattle.std.proofs.{lemmas.List.map-append, lemmas.List.take_more}
-use Rattle.csicodec_parser.specs.ActionOf.{action_of}
-use Rattle.csicodec_clean.proofs.Styled.{more_styles, more_text}
+use Rattle.std.proofs.Common.{◌≡◌, ◌+◌, ◌++◌, ◌∷◌, [], map, take, ap, ◌∙◌, rules}
+use Rattle.csicodec_clean.proofs.{Common.map-append, Common.take_more, Common.action_of, Styled.more_styles, Styled.more_text}
 use Rattle.csicodec_clean.proofs.styles.append_styles.Goals as goal
 
 pub loop-action-preserved : goal.loop-action-preserved

@@ -1,7 +1,6 @@
-use Rattle.std.proofs.Common.{◌≡◌, ◌++◌, Bool, map, take}
-use Rattle.std.specs.Option.{unwrap_or}
-use Rattle.csicodec_actions.specs.{Actions.Sgr, Table.texts}
-use Rattle.csicodec_parser.specs.ActionOf.{action_of}
+use Rattle.std.proofs.Common.{◌≡◌, ◌++◌, Bool, map, take, unwrap_or}
+use Rattle.csicodec_clean.proofs.Common.{texts, action_of}
+use Rattle.csicodec_actions.specs.Actions.{Sgr}
 use Rattle.csicodec_clean.specs.Styled.{is_open, kept}
 use Rattle.csicodec_clean.proofs.styles.append_styles.Given as goal
 

@@ -1,5 +1,5 @@
-use Rattle.std.proofs.{Common.◌≡◌, Common.◌+◌, Common.◌++◌, Common.◌∙◌, Common.length, Common.take, Common.ap, Common.arith, Math.Seq.take-append-add}
-use Rattle.std.proofs.{lemmas.Grind.common_steps, lemmas.List.take-take}
+use Rattle.std.proofs.{Common.◌≡◌, Common.◌+◌, Common.◌++◌, Common.◌∙◌, Common.length, Common.take, Common.ap, Common.arith, Common.take-take}
+use Rattle.std.proofs.{Math.Seq.take-append-add, lemmas.Grind.common_steps}
 use Rattle.csicodec_clean.proofs.text.append_front.Goals as goal
 
 pub returns : goal.returns

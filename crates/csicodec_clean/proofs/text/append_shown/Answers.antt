@@ -1,6 +1,5 @@
 use Rattle.std.proofs.Common.{◌≡◌, ◌<◌, length, ap, append_assoc, append-nil, rules}
-use Rattle.csicodec_clean.specs.Shown.{chars_as}
-use Rattle.csicodec_clean.proofs.{Sure.cut_char, Shows.shown_empty, Shows.shown_read}
+use Rattle.csicodec_clean.proofs.{Common.chars_as, Plain.cut_char, Plain.shown_empty, Plain.shown_read}
 use Rattle.csicodec_clean.proofs.text.append_shown.Goals as goal
 
 pub returns-in_ok-append_char : goal.returns-in_ok-append_char

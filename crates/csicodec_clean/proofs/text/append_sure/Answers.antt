@@ -1,6 +1,5 @@
 use Rattle.std.proofs.Common.{◌++◌, ◌∷◌, [], take, drop, sym, ap, ◌∙◌, append_assoc, take-append-drop}
-use Rattle.csicodec_clean.specs.{Shown.chars_as, Private.Steps.ReadsTo}
-use Rattle.csicodec_clean.proofs.{Shows.shown_on, Told.reads_on, Told.tells_more, Told.tells_read}
+use Rattle.csicodec_clean.proofs.{Common.chars_as, Common.ReadsTo, Plain.shown_on, Told.reads_on, Told.tells_more, Told.tells_read}
 use Rattle.csicodec_clean.proofs.text.append_sure.Goals as goal
 
 pub loop-char-init : goal.loop-char-init

@@ -1,5 +1,5 @@
 use Rattle.std.proofs.Common.{◌≡◌, ◌++◌, ℕ, List, length}
-use Rattle.csicodec_clean.specs.{Shown.chars_as, Private.Steps.ReadsTo}
+use Rattle.csicodec_clean.proofs.Common.{chars_as, ReadsTo}
 use Rattle.csicodec_clean.proofs.text.append_sure.Given as goal
 
 -- some characters were read, and what is shown of them was appended

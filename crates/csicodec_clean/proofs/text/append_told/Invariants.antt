@@ -1,5 +1,5 @@
 use Rattle.std.proofs.Common.{length}
-use Rattle.csicodec_clean.specs.Private.Steps.{Tells}
+use Rattle.csicodec_clean.proofs.Common.{Tells}
 use Rattle.csicodec_clean.proofs.text.append_told.Given as goal
 
 -- some text was told

@@ -1,5 +1,5 @@
 use Rattle.std.proofs.Common.{◌<◌, length, sym, ◌∙◌, rules}
-use Rattle.csicodec_clean.proofs.Sure.{read_char}
+use Rattle.csicodec_clean.proofs.Plain.{read_char}
 use Rattle.csicodec_clean.proofs.text.first_sure.Goals as goal
 
 pub returns-in-Some-clause-some : goal.returns-in-Some-clause-some

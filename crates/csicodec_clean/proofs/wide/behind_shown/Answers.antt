@@ -1,5 +1,4 @@
-use Rattle.csicodec_clean.proofs.Told.{further, plain_behind}
-use Rattle.csicodec_clean.specs.Shown.{shown}
+use Rattle.csicodec_clean.proofs.{Common.shown, Told.further, Told.plain_behind}
 use Rattle.csicodec_clean.proofs.wide.behind_shown.Goals as goal
 
 pub loop-rest-init : goal.loop-rest-init

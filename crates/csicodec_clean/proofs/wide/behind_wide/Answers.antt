@@ -1,5 +1,4 @@
-use Rattle.csicodec_clean.proofs.Told.{behind_front, further}
-use Rattle.csicodec_clean.specs.Shown.{shown}
+use Rattle.csicodec_clean.proofs.{Common.shown, Told.behind_front, Told.further}
 use Rattle.csicodec_clean.proofs.wide.behind_wide.Goals as goal
 
 pub loop-rest-preserved : goal.loop-rest-preserved

@@ -1,5 +1,5 @@
 use Rattle.std.proofs.Common.{length}
-use Rattle.csicodec_clean.specs.Shown.{IsBehind, shown}
+use Rattle.csicodec_clean.proofs.Common.{IsBehind, shown}
 use Rattle.csicodec_clean.proofs.wide.behind_wide.Given as goal
 
 -- some characters were passed

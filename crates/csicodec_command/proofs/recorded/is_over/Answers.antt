@@ -1,6 +1,4 @@
-use Rattle.std.proofs.Common.{ap, sym, ◌∙◌}
-use Rattle.csicodec_command.specs.Recorded.{is_over}
-use Rattle.csicodec_command.proofs.Left.{over_behind}
+use Rattle.csicodec_command.proofs.{Common.ap, Common.sym, Common.◌∙◌, Common.is_over, Left.over_behind}
 use Rattle.csicodec_command.proofs.recorded.is_over.Goals as goal
 
 pub returns-in-Some : goal.returns-in-Some

@@ -1,4 +1,4 @@
-use Rattle.std.proofs.{Common.codes, lemmas.Str.Pattern.ends_text}
+use Rattle.csicodec_command.proofs.Common.{codes, ends_text}
 use Rattle.csicodec_command.proofs.run.is_cast.Goals as goal
 
 pub returns : goal.returns

@@ -1,6 +1,5 @@
-use Rattle.std.proofs.{Common.Some, Common.inl, Common.inr, Common.refl, Common.Err, KnownBytes.Keeps-refl}
-use Rattle.std.specs.Io.Chain.{chain_remaining}
-use Rattle.csicodec_command.proofs.Turns.{buffered, chained, handed_on, not_begun, taken, unread}
+use Rattle.csicodec_command.proofs.{Common.Some, Common.inl, Common.inr, Common.refl, Common.Err, Common.Keeps-refl, Common.chain_remaining, Turns.buffered}
+use Rattle.csicodec_command.proofs.{Turns.chained, Turns.handed_on, Turns.not_begun, Turns.taken, Turns.unread}
 use Rattle.csicodec_command.proofs.run.read_through.Goals as goal
 
 pub returns-in_err-begin : goal.returns-in_err-begin

@@ -1,4 +1,4 @@
-use Rattle.std.specs.Io.KnownBytes.{Consumes}
+use Rattle.csicodec_command.proofs.Common.{Consumes}
 use Rattle.csicodec_command.proofs.run.receive_front.Given as goal
 
 -- what is there was read, and is all that was

@@ -1,5 +1,4 @@
-use Rattle.std.proofs.Common.{refl}
-use Rattle.csicodec_command.proofs.Turns.{handed_on, run_closed, run_only, run_stopped}
+use Rattle.csicodec_command.proofs.{Common.refl, Turns.handed_on, Turns.run_closed, Turns.run_only, Turns.run_stopped}
 use Rattle.csicodec_command.proofs.run.run_named.Goals as goal
 
 pub returns-in_err-first : goal.returns-in_err-first

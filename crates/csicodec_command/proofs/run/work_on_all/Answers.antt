@@ -1,6 +1,5 @@
-use Rattle.std.proofs.Common.{[], arith, refl, sym, ◌∙◌}
-use Rattle.csicodec_command.proofs.{Turns.turn_failed, Turns.turn_stopped, Turns.turn_went, Turns.turns_end, run.work_on_all.Goals.in-Ok}
-use Rattle.csicodec_command.proofs.{run.work_on_all.Goals.in-Err+else-ends_run}
+use Rattle.csicodec_command.proofs.{Common.[], Common.arith, Common.refl, Common.sym, Common.◌∙◌, Turns.turn_failed, Turns.turn_stopped, Turns.turn_went}
+use Rattle.csicodec_command.proofs.{Turns.turns_end, run.work_on_all.Goals.in-Ok, run.work_on_all.Goals.in-Err+else-ends_run}
 use Rattle.csicodec_command.proofs.run.work_on_all.Goals as goal
 
 pub loop-name-init : goal.loop-name-init

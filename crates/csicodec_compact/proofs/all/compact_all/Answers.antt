@@ -1,7 +1,6 @@
-use Rattle.std.proofs.lemmas.Result.{MatchResult-weaker, on_err_weaker, on_ok_weaker}
+use Rattle.std.proofs.lemmas.Result.{MatchResult-weaker, on_err_weaker}
 use Rattle.csicodec_filter.proofs.Written.{since_none}
-use Rattle.csicodec_compact.specs.Private.Steps.{Holds}
-use Rattle.csicodec_compact.proofs.Beside.{begun_compacts, compacted, none_held, since_rests}
+use Rattle.csicodec_compact.proofs.{Beside.begun_compacts, Beside.compacted, Beside.none_held, Beside.since_rests, Common.on_ok_weaker, Common.Holds}
 use Rattle.csicodec_compact.proofs.all.compact_all.Goals as goal
 
 pub transform_all-requires-clause-begun : goal.transform_all-requires-clause-begun

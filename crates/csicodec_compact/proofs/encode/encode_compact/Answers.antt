@@ -1,7 +1,5 @@
-use Rattle.std.proofs.{Common.◌≡◌, Common.◌++◌, Common.map, Common.ap, Common.refl, Common.sym, Common.◌∙◌, Common.append_assoc, lemmas.List.map-append}
-use Rattle.std.proofs.{lemmas.List.take-append-drop}
-use Rattle.csicodec_parser.specs.ActionOf.{action_of}
-use Rattle.csicodec_compact.proofs.Joined.{encodes-append}
+use Rattle.std.proofs.Common.{◌≡◌, ◌++◌, map, ap, refl, sym, ◌∙◌, append_assoc, take-append-drop}
+use Rattle.csicodec_compact.proofs.{JoinedLists.encodes-append, Common.map-append, Common.action_of}
 use Rattle.csicodec_compact.proofs.encode.encode_compact.Goals as goal
 
 pub loop-rest-preserved : goal.loop-rest-preserved

@@ -1,6 +1,5 @@
 use Rattle.std.proofs.Common.{◌≡◌, List, ◌++◌, length, map}
-use Rattle.csicodec_parser.specs.{declared.actions.CSI.CSI, ActionOf.action_of}
-use Rattle.csicodec_compact.specs.Compacts.{Encodes}
+use Rattle.csicodec_compact.proofs.Common.{CSI, action_of, Encodes}
 use Rattle.csicodec_compact.proofs.encode.encode_compact.Given as goal
 
 -- the actions up to here are written

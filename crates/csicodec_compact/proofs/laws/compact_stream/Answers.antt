@@ -1,4 +1,4 @@
-use Rattle.csicodec_compact.proofs.Meaning.{again_alone, again_whole, no_longer}
+use Rattle.csicodec_compact.proofs.Told.{again_alone, again_whole, no_longer}
 use Rattle.csicodec_compact.proofs.laws.compact_stream.Goals as goal
 
 pub returns : goal.returns

@@ -1,5 +1,5 @@
-use Rattle.std.proofs.{Common.ℕ, Common.List, Common.◌++◌, Common.ap, Common.◌∙◌, lemmas.Result.on_ok_weaker}
-use Rattle.csicodec_compact.proofs.Beside.{short_front}
+use Rattle.std.proofs.Common.{ℕ, List, ◌++◌, ap, ◌∙◌}
+use Rattle.csicodec_compact.proofs.{Beside.short_front, Common.on_ok_weaker}
 use Rattle.csicodec_compact.proofs.runs.append_text.Goals as goal
 
 pub returns-in-Some : goal.returns-in-Some

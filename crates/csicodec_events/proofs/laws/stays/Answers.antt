@@ -1,4 +1,4 @@
-use Rattle.csicodec_events.proofs.Kept.{control_more, csi_more}
+use Rattle.csicodec_events.proofs.Run.{control_more, csi_more}
 use Rattle.csicodec_events.proofs.laws.stays.Goals as goal
 
 pub returns-clause-control : goal.returns-clause-control

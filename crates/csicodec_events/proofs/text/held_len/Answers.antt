@@ -1,5 +1,5 @@
 use Rattle.std.proofs.{Common.arith, lemmas.Bool.Decides.nat_tests}
-use Rattle.csicodec_events.proofs.Spans.{held_at_end}
+use Rattle.csicodec_events.proofs.Stops.{held_at_end}
 use Rattle.csicodec_events.proofs.text.held_len.Goals as goal
 
 pub returns-then-is_empty-clause-holds : goal.returns-then-is_empty-clause-holds

@@ -3,7 +3,7 @@ use Rattle.std.proofs.{lemmas.Result.on_ok_weaker}
 use Rattle.std.specs.Io.KnownBytes.{Appends}
 use Rattle.csicodec_filter.specs.{Filter.Filters, Written.ByRule}
 use Rattle.csicodec_filter.proofs.Written.{begun, filtered, passed, sent_front, since_none}
-use Rattle.csicodec_spans.specs.declared.table.Mode.TheVariants as mode
+use Rattle.csicodec_spans.specs.declared.table.Mode.{Mode}
 use Rattle.csicodec_filter.proofs.run.filter_all.Goals as goal
 
 pub transform_all-requires-clause-begun : goal.transform_all-requires-clause-begun
@@ -12,7 +12,7 @@ transform_all-requires-clause-begun g c = rw c.new-stream.ensures (since_none (B
 pub returns-clause-ok : goal.returns-clause-ok
 returns-clause-ok g c = on_ok_weaker c.transform_all.result
     (λ (bytes, text, consumed, end, whole, appended).
-    Consumes-whole _ _ bytes (λ all. (t : List ℕ) × Filters (g.T.Rewrite.writes c.args.rewrite) c.args.limit mode.Text all t × Appends _ _ t) consumed end
+    Consumes-whole _ _ bytes (λ all. (t : List ℕ) × Filters (g.T.Rewrite.writes c.args.rewrite) c.args.limit Mode.Text all t × Appends _ _ t) consumed end
     (text, filtered g.T.Rewrite.writes _ bytes text whole, appended))
     (rw c.new-stream.ensures at c.transform_all.ensures.ok)
 

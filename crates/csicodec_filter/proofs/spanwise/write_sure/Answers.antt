@@ -1,9 +1,8 @@
 use Rattle.std.proofs.{Common.◌≡◌, Common.◌<◌, Common.ℕ, Common.List, Common.◌∷◌, Common.◌++◌, Common.◌∙◌, Common.[], Common.length, Common.length-append}
 use Rattle.std.proofs.{Common.take, Common.ap, Common.arith, Math.Seq.take-append_seam}
-use Rattle.csicodec_spans.specs.Parts.{part}
+use Rattle.csicodec_spans.specs.{Parts.part, declared.table.Kind.Kind}
 use Rattle.csicodec_filter.specs.{Filter.Held, Written.Appends, Written.WrittenOf}
 use Rattle.csicodec_filter.proofs.Written.{appends, appends_none, appends_on, left_within}
-use Rattle.csicodec_spans.specs.declared.table.Kind.TheVariants as kind
 use Rattle.csicodec_filter.proofs.spanwise.write_sure.Goals as goal
 
 pub loop-to-init : goal.loop-to-init
@@ -32,11 +31,11 @@ loop-to-preserved-in_ok-sequence-in-Some-control g c =
     let behind = c.next.new.self in
     let found = rw c.in-Some.is at c.in_ok-span.ensures.cut in
     let tokens = rw (c.in-Some.is, c.in-Some-control.is) at c.in_ok-span.ensures.tokens in
-    let one : found.parts ≡ part kind.Csi bytes ∷ [] = rw tokens.0 at found.span in
+    let one : found.parts ≡ part Kind.Csi bytes ∷ [] = rw tokens.0 at found.span in
     let front : take (length bytes) to.rest.now ≡ bytes = ap (take (length bytes)) (rw c.in-Some.is at c.in_ok-span.ensures.parts) ∙ take-append_seam bytes behind.rest.now in
     appends_on Own _ _ _ _ _ _ (appends_on Own _ _ _ _ _ _ c.loop-to.invariant c.in_ok-to.ensures)
     (appends Own c.args.limit c.pass_front.new.writer c.sequence.new.self to.mode behind.mode to.rest.now behind.rest.now c.pass_front.new.out c.sequence.new.out
-    (part kind.Csi bytes ∷ []) (rw one at found.first) (rw front at c.in_ok-sequence-in-Some-control.ensures))
+    (part Kind.Csi bytes ∷ []) (rw one at found.first) (rw front at c.in_ok-sequence-in-Some-control.ensures))
 
 pub loop-to-preserved : goal.loop-to-preserved
 loop-to-preserved g c =

@@ -1,5 +1,5 @@
 use Rattle.std.proofs.Common.{◌≡◌, ◌++◌, false, length}
-use Rattle.csicodec_html.specs.Classes.{names}
+use Rattle.csicodec_html.proofs.Common.{names}
 use Rattle.csicodec_html.proofs.classes.append_classes.Given as goal
 
 -- what is appended, and what the other places are appended as, is what all of them are

@@ -1,5 +1,4 @@
-use Rattle.std.proofs.Common.{◌∷◌, refl}
-use Rattle.std.specs.Prelude.{codes}
+use Rattle.std.proofs.Common.{◌∷◌, refl, codes}
 use Rattle.csicodec_html.proofs.laws.newline_stays.Goals as goal
 
 pub returns : goal.returns

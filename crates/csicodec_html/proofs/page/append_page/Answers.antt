@@ -1,8 +1,6 @@
 use Rattle.std.proofs.Common.{◌++◌, ◌∷◌, ◌∙◌, ap, drop, sym, take, take-append-drop}
-use Rattle.std.specs.List.{prefix_len}
-use Rattle.csicodec_clean.proofs.Bytes.{front_in}
-use Rattle.csicodec_html.specs.Private.Rule.{page_bytes, stands}
-use Rattle.csicodec_html.proofs.Marks.{page_on, run_on}
+use Rattle.csicodec_html.proofs.{Common.prefix_len, Common.page_bytes, Common.stands, Marks.page_on, Marks.run_on}
+use Rattle.csicodec_clean.proofs.Told.{front_in}
 use Rattle.csicodec_html.proofs.page.append_page.Goals as goal
 
 pub loop-byte-init : goal.loop-byte-init

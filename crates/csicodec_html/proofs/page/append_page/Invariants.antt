@@ -1,5 +1,5 @@
 use Rattle.std.proofs.Common.{◌≡◌, ◌++◌, length}
-use Rattle.csicodec_html.specs.Private.Rule.{page_bytes}
+use Rattle.csicodec_html.proofs.Common.{page_bytes}
 use Rattle.csicodec_html.proofs.page.append_page.Given as goal
 
 -- what is appended, and the rest as it stands on the page, are all the bytes as they stand there

@@ -1,7 +1,6 @@
-use Rattle.std.proofs.{Common.◌≡◌, Common.◌+◌, Common.◌++◌, Common.◌≤◌, Common.◌∙◌, Common.length, Common.take, Common.ap, Common.arith}
-use Rattle.std.proofs.{Math.Seq.take-append-add, lemmas.Grind.common_steps, lemmas.List.length-take, lemmas.List.take-take, lemmas.List.take_min}
-use Rattle.std.specs.List.{prefix_len}
-use Rattle.csicodec_html.specs.Private.Rule.{stands}
+use Rattle.std.proofs.{Common.◌≡◌, Common.◌+◌, Common.◌++◌, Common.◌≤◌, Common.◌∙◌, Common.length, Common.take, Common.ap, Common.arith, Common.length-take}
+use Rattle.std.proofs.{Common.take-take, Math.Seq.take-append-add, lemmas.Grind.common_steps, lemmas.List.take_min}
+use Rattle.csicodec_html.proofs.Common.{prefix_len, stands}
 use Rattle.csicodec_html.proofs.page.append_standing.Goals as goal
 
 pub returns-clause-front : goal.returns-clause-front

@@ -1,6 +1,5 @@
 use Rattle.std.proofs.Common.{◌≡◌, map, drop}
-use Rattle.csicodec_parser.specs.ActionOf.{action_of}
-use Rattle.csicodec_html.specs.Look.{behind_all}
+use Rattle.csicodec_html.proofs.Common.{action_of, behind_all}
 use Rattle.csicodec_html.proofs.rule.behind_each.Given as goal
 
 -- behind the other actions it looks as behind all

@@ -1,6 +1,5 @@
 use Rattle.std.proofs.Common.{◌≡◌, map, drop}
-use Rattle.csicodec_parser.specs.ActionOf.{action_of}
-use Rattle.csicodec_html.specs.Look.{sets_any}
+use Rattle.csicodec_html.proofs.Common.{action_of, sets_any}
 use Rattle.csicodec_html.proofs.rule.sets_any.Given as goal
 
 -- none of the actions so far is an attribute

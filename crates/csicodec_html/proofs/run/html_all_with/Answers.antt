@@ -1,8 +1,8 @@
 use Rattle.std.proofs.Common.{refl}
-use Rattle.csicodec_clean.specs.{Cleaned.Ends, Cleaned.longest, Stream.Closing, Stream.Takes, Stream.start_of}
+use Rattle.csicodec_html.proofs.{Common.Ends, Common.longest, Common.IsPageWith, Common.PageWith, Common.first_set, Common.closes, Common.turns, Paired.page_of}
+use Rattle.csicodec_html.proofs.{Paired.is_page}
+use Rattle.csicodec_clean.specs.Stream.{Closing, Takes, start_of}
 use Rattle.csicodec_clean.proofs.{Chunks.ends, Streams.ran}
-use Rattle.csicodec_html.specs.{Page.IsPageWith, Page.PageWith, Page.first_set, Private.Rule.closes, Private.Rule.turns}
-use Rattle.csicodec_html.proofs.{Left.page_of, Paired.is_page}
 use Rattle.csicodec_html.proofs.run.html_all_with.Goals as goal
 
 pub returns : goal.returns

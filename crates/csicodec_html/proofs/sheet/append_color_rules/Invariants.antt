@@ -1,5 +1,5 @@
 use Rattle.std.proofs.Common.{◌≡◌, ◌++◌}
-use Rattle.csicodec_html.specs.Sheet.{color_rules}
+use Rattle.csicodec_html.proofs.Common.{color_rules}
 use Rattle.csicodec_html.proofs.sheet.append_color_rules.Given as goal
 
 -- the rules of the places up to here

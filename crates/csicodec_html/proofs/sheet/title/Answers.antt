@@ -1,7 +1,5 @@
-use Rattle.std.proofs.Common.{◌++◌, ◌∙◌, List, ℕ, ap, subst}
-use Rattle.std.specs.List.{flat_map}
-use Rattle.csicodec_clean.specs.Cleaned.{Strips, longest}
-use Rattle.csicodec_html.specs.Page.{escaped}
+use Rattle.std.proofs.Common.{◌++◌, ◌∙◌, List, ℕ, ap, subst, flat_map}
+use Rattle.csicodec_html.proofs.Common.{Strips, longest, escaped}
 use Rattle.csicodec_html.proofs.sheet.title.Goals as goal
 
 pub returns : goal.returns

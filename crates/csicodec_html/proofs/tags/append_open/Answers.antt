@@ -1,6 +1,5 @@
 use Rattle.std.proofs.Common.{◌≡◌, ◌∙◌, append_assoc, sym, true}
-use Rattle.csicodec_html.specs.Page.{leads}
-use Rattle.csicodec_html.proofs.Turned.{opened}
+use Rattle.csicodec_html.proofs.{Common.leads, Paired.opened}
 use Rattle.csicodec_html.proofs.tags.append_open.Goals as goal
 
 pub returns : goal.returns

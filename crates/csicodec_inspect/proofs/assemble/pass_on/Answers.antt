@@ -1,4 +1,4 @@
-use Rattle.std.proofs.{Common.Err, Common.ap, Common.inl, Common.inr, Common.refl, Common.◌∙◌, lemmas.Result.err_from_is_err_and}
+use Rattle.csicodec_inspect.proofs.Common.{Err, ap, inl, inr, refl, ◌∙◌, err_from_is_err_and}
 use Rattle.csicodec_inspect.proofs.assemble.pass_on.Goals as goal
 
 pub returns-in_err-send : goal.returns-in_err-send

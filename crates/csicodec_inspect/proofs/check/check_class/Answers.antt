@@ -1,9 +1,5 @@
-use Rattle.std.proofs.Common.{◌≡◌, ◌<◌, ◌==◌, ℕ, List, [], ◌∷◌, ◌++◌, length, refl, sym, ap, inl, inr, ⊎_elim, arith}
-use Rattle.std.proofs.{lemmas.Bool.Decides.nat_tests, lemmas.Result.IfErr-weaker}
-use Rattle.std.specs.Prelude.{if◌then◌else◌}
+use Rattle.csicodec_inspect.proofs.Common.{◌≡◌, ◌<◌, ◌==◌, ℕ, List, [], ◌∷◌, ◌++◌, length, refl, sym, ap, inl, inr, ⊎_elim, arith, nat_tests, IfErr-weaker, if◌then◌else◌, IsSure, behind_esc, by_char, found_at}
 use Rattle.bstr.specs.Utf8.{Decoded}
-use Rattle.csicodec_clean.specs.Check.{IsSure}
-use Rattle.csicodec_inspect.specs.Found.{behind_esc, by_char, found_at}
 use Rattle.csicodec_inspect.proofs.check.check_class.Goals as goal
 
 -- what is told of a front that is sure stays, whatever follows

@@ -1,10 +1,8 @@
 use Rattle.std.proofs.{Common.[], Common.ap, Common.append-nil, Common.refl, lemmas.Result.on_ok_weaker}
-use Rattle.std.specs.Prelude.{⊤}
 use Rattle.csicodec_filter.specs.Filter.{Held}
-use Rattle.csicodec_transform.specs.Transform.{Transforms}
 use Rattle.csicodec_clean.proofs.Streams.{one_ran}
-use Rattle.csicodec_lines.specs.{Cuts.Tells, Private.Finder.Passes}
-use Rattle.csicodec_lines.proofs.Going.{Quiet, begun, front, of_all, one_text, tells}
+use Rattle.csicodec_lines.specs.{Cuts.Tells, Private.Steps.Passes}
+use Rattle.csicodec_lines.proofs.{Places.Quiet, Places.begun, Places.front, Places.of_all, Places.one_text, Places.tells, Common.⊤, Common.Transforms}
 use Rattle.csicodec_lines.proofs.cuts.cuts_all.Goals as goal
 
 pub transform_all-requires-clause-stands : goal.transform_all-requires-clause-stands

@@ -1,7 +1,5 @@
 use Rattle.csicodec_filter.proofs.Written.{appends, appends_none, appends_on}
-use Rattle.csicodec_clean.specs.Cleaned.{longest}
-use Rattle.csicodec_lines.specs.Private.Finder.{Finds}
-use Rattle.csicodec_lines.proofs.Going.{finds_span}
+use Rattle.csicodec_lines.proofs.{Places.finds_span, Common.longest, Common.Finds}
 use Rattle.csicodec_lines.proofs.finder.append_places.Goals as goal
 
 pub loop-cut-init : goal.loop-cut-init

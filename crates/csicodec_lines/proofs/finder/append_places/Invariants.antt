@@ -1,7 +1,6 @@
 use Rattle.std.proofs.Common.{length}
 use Rattle.csicodec_filter.specs.Written.{Appends, open_at}
-use Rattle.csicodec_clean.specs.Cleaned.{longest}
-use Rattle.csicodec_lines.specs.Private.Finder.{Finds}
+use Rattle.csicodec_lines.proofs.Common.{longest, Finds}
 use Rattle.csicodec_lines.proofs.finder.append_places.Given as goal
 
 -- the parts in front were searched

@@ -1,6 +1,5 @@
-use Rattle.csicodec_clean.specs.{Cleaned.Strips, Cleaned.longest, Styled.StylesIn}
-use Rattle.csicodec_clean.proofs.{Again.one_styled, Twice.one_text as one_stripped}
-use Rattle.csicodec_lines.proofs.Texts.{one_text}
+use Rattle.csicodec_clean.proofs.{Again.one_styled, Told.one_text as one_stripped}
+use Rattle.csicodec_lines.proofs.{Texts.one_text, Common.Strips, Common.longest, Common.StylesIn}
 use Rattle.csicodec_lines.proofs.laws.one_text.Goals as goal
 
 pub returns-clause-stripped : goal.returns-clause-stripped

@@ -1,9 +1,7 @@
 use Rattle.std.proofs.Common.{[], refl}
-use Rattle.std.specs.Prelude.{⊤}
-use Rattle.csicodec_clean.specs.{Shown.IsPlain, Cleaned.Strips, Cleaned.drops, Cleaned.ends_bare, Cleaned.longest, Steps.bare}
-use Rattle.csicodec_clean.proofs.{Fronts.strip_front, Plain.strips, Twice.one_text}
-use Rattle.csicodec_lines.specs.Stream.{begun}
-use Rattle.csicodec_lines.proofs.{Fronts.lines_ran, Taken.passes_none, Texts.plain_lines}
+use Rattle.csicodec_clean.specs.{Cleaned.drops, Cleaned.ends_bare, Steps.bare}
+use Rattle.csicodec_clean.proofs.{Again.strip_front, Plain.strips, Told.one_text}
+use Rattle.csicodec_lines.proofs.{Fronts.lines_ran, Taken.passes_none, Texts.plain_lines, Common.⊤, Common.IsPlain, Common.Strips, Common.longest, Common.begun}
 use Rattle.csicodec_lines.proofs.run.strip_lines_all.Goals as goal
 
 pub transform_all-requires-clause-begun : goal.transform_all-requires-clause-begun

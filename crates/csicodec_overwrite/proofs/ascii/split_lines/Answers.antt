@@ -1,7 +1,5 @@
-use Rattle.std.proofs.Common.{◌≡◌, ◌+◌, ◌++◌, ◌∷◌, [], drop, take, length, length-append, length-take-le, slice_index, sym, ap, ◌∙◌, append_assoc, take-append-drop, arith}
-use Rattle.std.proofs.lemmas.List.{take-append-le, take_more}
-use Rattle.csicodec_overwrite.proofs.Common.{eqb-true, AllByRecursion, prefix_len, IsPlainByte, front_in}
-use Rattle.csicodec_tokens.proofs.Runs.{All-front}
+use Rattle.csicodec_overwrite.proofs.Common.{◌≡◌, ◌+◌, ◌++◌, ◌∷◌, [], drop, take, length, length-append, length-take-le, slice_index, sym, ap, ◌∙◌, append_assoc, take-append-drop, arith, take-append-le, take_more, eqb-true, AllByRecursion, prefix_len, IsPlainByte, front_in}
+use Rattle.csicodec_tokens.proofs.Walks.{All-front}
 use Rattle.csicodec_clean.specs.Bytes.{plain_byte}
 use Rattle.csicodec_overwrite.proofs.ascii.split_lines.Goals as goal
 
@@ -29,11 +27,9 @@ returns c =
         arith,
         ap length lines,
         length-append front (10 ∷ []),
-        length-take-le last text (omega (arith, after.high)),
-        after.high,
+        length-take-le last text (omega arith),
         ap length parts,
-        length-append text (drop len near),
-        c.split_at.ensures.front_len,
-        c.min.ensures,
+        length-append text
+            (drop len near),
       ),
     )

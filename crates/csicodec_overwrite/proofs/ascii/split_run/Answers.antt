@@ -1,5 +1,4 @@
-use Rattle.csicodec_overwrite.proofs.Common.{front_in}
-use Rattle.csicodec_overwrite.specs.Private.Plain.{untabbed_byte}
+use Rattle.csicodec_overwrite.proofs.Common.{front_in, untabbed_byte}
 use Rattle.csicodec_overwrite.proofs.ascii.split_run.Goals as goal
 
 pub returns-clause-untabbed : goal.returns-clause-untabbed

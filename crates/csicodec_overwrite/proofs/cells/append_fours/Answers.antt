@@ -1,5 +1,4 @@
-use Rattle.std.proofs.Common.{arith}
-use Rattle.csicodec_overwrite.proofs.Moved.{four_come}
+use Rattle.csicodec_overwrite.proofs.{Common.arith, Moved.four_come}
 use Rattle.csicodec_overwrite.proofs.cells.append_fours.Goals as goal
 
 pub loop-front-preserved : goal.loop-front-preserved

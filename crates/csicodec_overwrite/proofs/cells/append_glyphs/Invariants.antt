@@ -1,5 +1,4 @@
-use Rattle.std.proofs.Common.{◌≡◌, ◌≤◌, ◌+◌, ◌-◌, ◌++◌, length, take, vec_capacity, vec_len}
-use Rattle.csicodec_overwrite.specs.Private.Plain.{glyphs}
+use Rattle.csicodec_overwrite.proofs.Common.{◌≡◌, ◌≤◌, ◌+◌, ◌-◌, ◌++◌, length, take, vec_capacity, vec_len, glyphs}
 use Rattle.csicodec_overwrite.proofs.cells.append_glyphs.Given as goal
 
 -- some have come, and there is room for the others

@@ -1,5 +1,4 @@
-use Rattle.std.proofs.Common.{◌≡◌, ◌≤◌, ◌+◌, ◌-◌, ◌*◌, reverse, vec_capacity, vec_len}
-use Rattle.csicodec_overwrite.specs.Private.Sides.{put_many}
+use Rattle.csicodec_overwrite.proofs.Common.{◌≡◌, ◌≤◌, ◌+◌, ◌-◌, ◌*◌, reverse, vec_capacity, vec_len, put_many}
 use Rattle.csicodec_overwrite.proofs.cells.append_wide.Given as goal
 
 -- some have come, and there is room for the others

@@ -1,4 +1,4 @@
-use Rattle.csicodec_overwrite.proofs.Shifted.{Shifts}
+use Rattle.csicodec_overwrite.proofs.Rows.{Shifts}
 use Rattle.csicodec_overwrite.proofs.cells.empty_tabs.Given as goal
 
 -- from here on they are shifted

@@ -1,5 +1,4 @@
-use Rattle.std.proofs.Common.{◌≡◌, ◌≤◌, ◌+◌, length, reverse}
-use Rattle.csicodec_overwrite.specs.Private.Sides.{passed}
+use Rattle.csicodec_overwrite.proofs.Common.{◌≡◌, ◌≤◌, ◌+◌, length, reverse, passed}
 use Rattle.csicodec_overwrite.proofs.cells.passed.Given as goal
 
 -- some are passed

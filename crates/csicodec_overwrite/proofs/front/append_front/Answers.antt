@@ -1,7 +1,5 @@
-use Rattle.std.proofs.Common.{◌≡◌, ◌∙◌, true, sym, rules, subst, arith}
-use Rattle.csicodec_overwrite.proofs.{Common.AreTurns, Common.plain, Fronts.front_begins, Fronts.run_written, Fronts.styled_written, Straight.split_line}
-use Rattle.csicodec_html.proofs.Recalled.{same_look}
-use Rattle.csicodec_overwrite.specs.Turned.{Turned}
+use Rattle.csicodec_overwrite.proofs.Common.{◌≡◌, ◌∙◌, true, sym, rules, subst, arith, AreTurns, plain, same_look, Turned}
+use Rattle.csicodec_overwrite.proofs.{Fronts.front_begins, Fronts.run_written, Fronts.styled_written, Stays.split_line}
 use Rattle.csicodec_overwrite.proofs.front.append_front.Goals as goal
 
 pub returns-then-behind-front-clause-written : goal.returns-then-behind-front-clause-written
@@ -14,15 +12,15 @@ loop-init c =
     let out = c.args.out.now.items in
     let run = c.split_front.result.0.now in
     let behind = c.split_front.result.1.now in
-    let lines = (split_line bytes run behind c.split_front.ensures.front c.split_front.ensures.rest).1 in
+    let (parts, lines) = split_line bytes run behind c.split_front.ensures.front c.split_front.ensures.rest in
     record {
       bare = c.requires.bare;
       known = subst (AreTurns (Turned c.args.marking.now)) (sym c.stand.ensures) c.requires.known;
       even = λ is. same_look _ _ (rw c.eq.ensures at is);
       least = c.saturating_sub.ensures;
       written = run_written c.args.marking.now c.args.pen bytes out bytes run behind out c.append_run.new.out.items plain c.args.pen.look
-          c.append_run.new.last c.requires.over (front_begins c.args.marking.now c.args.pen bytes out) c.split_front.ensures.front
-          c.split_front.ensures.rest (omega (arith, c.if-behind-front.false, c.saturating_sub.ensures))
+          c.append_run.new.last c.requires.over (front_begins c.args.marking.now c.args.pen bytes out) parts lines
+          (omega (arith, c.if-behind-front.false, c.saturating_sub.ensures))
           (rw c.plain.ensures at c.in_ok-append_run.ensures.looks) (rw c.plain.ensures at c.in_ok-append_run.ensures.text lines);
     }
 
@@ -30,13 +28,12 @@ pub loop-preserved : goal.loop-preserved
 loop-preserved c =
     let kept = c.loop.invariant in
     let more : c.in_ok-append_styled.field-0 ≡ true = search rules in
-    let (text, s, longer) = c.in_ok-append_styled.ensures.styled more in
+    let s = c.in_ok-append_styled.ensures.styled more in
     record {
       bare = c.in_ok-append_styled.ensures.bare;
       known = c.in_ok-append_styled.ensures.known;
       even = c.in_ok-append_styled.ensures.even;
       least = s.least ∙ kept.least;
       written = styled_written c.args.marking.now c.args.pen c.args.bytes.now c.args.out.now.items c.loop.out.items
-          c.append_styled.new.out.items text c.loop.front c.append_styled.new.front c.requires.over (s.least ∙ kept.least)
-          kept.written s longer;
+          c.append_styled.new.out.items c.loop.front c.append_styled.new.front c.requires.over (s.least ∙ kept.least) kept.written s;
     }

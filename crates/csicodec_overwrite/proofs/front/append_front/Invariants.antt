@@ -1,6 +1,4 @@
-use Rattle.std.proofs.Common.{◌≡◌, ◌-◌, ◌/◌, true, length}
-use Rattle.csicodec_overwrite.proofs.Common.{AreTurns}
-use Rattle.csicodec_overwrite.specs.{Private.Front.IsWritten, Turned.Turned, Reading.most, Stream.none_held}
+use Rattle.csicodec_overwrite.proofs.Common.{◌≡◌, ◌-◌, ◌/◌, true, length, AreTurns, IsWritten, Turned, most, none_held}
 use Rattle.csicodec_overwrite.proofs.front.append_front.Given as goal
 
 -- a front is written

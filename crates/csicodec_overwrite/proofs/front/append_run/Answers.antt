@@ -1,6 +1,5 @@
-use Rattle.std.proofs.Common.{◌++◌, ◌∙◌, List, ℕ, ap, append_assoc, sym}
-use Rattle.csicodec_overwrite.proofs.{Common.on_ok_weaker, Common.Look, Fronts.run_nothing, Fronts.run_some, Straight.lines_plain}
-use Rattle.csicodec_overwrite.specs.Paint.{turn, written}
+use Rattle.csicodec_overwrite.proofs.Common.{◌++◌, ◌∙◌, List, ℕ, ap, append_assoc, sym, on_ok_weaker, Look, turn, written}
+use Rattle.csicodec_overwrite.proofs.{Fronts.run_nothing, Fronts.run_some, Stays.lines_plain}
 use Rattle.csicodec_overwrite.proofs.front.append_run.Goals as goal
 
 pub returns-then-is_empty-clause-text : goal.returns-then-is_empty-clause-text

@@ -1,6 +1,4 @@
-use Rattle.std.proofs.Common.{length}
-use Rattle.csicodec_overwrite.proofs.Common.{Look}
-use Rattle.csicodec_overwrite.specs.Turned.{AreLooks}
+use Rattle.csicodec_overwrite.proofs.Common.{length, Look, AreLooks}
 use Rattle.csicodec_overwrite.proofs.front.turn_all.Given as goal
 
 -- the steps up to here are told

@@ -1,4 +1,4 @@
-use Rattle.csicodec_overwrite.proofs.Came.{nothing_lost, nothing_made}
+use Rattle.csicodec_overwrite.proofs.Lost.{nothing_lost, nothing_made}
 use Rattle.csicodec_overwrite.proofs.laws.nothing_lost.Goals as goal
 
 pub returns-clause-lost : goal.returns-clause-lost

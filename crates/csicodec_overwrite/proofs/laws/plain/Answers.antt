@@ -1,4 +1,4 @@
-use Rattle.csicodec_overwrite.proofs.Plain.{overwritten_plain}
+use Rattle.csicodec_overwrite.proofs.Kept.{overwritten_plain}
 use Rattle.csicodec_overwrite.proofs.laws.plain.Goals as goal
 
 pub returns : goal.returns

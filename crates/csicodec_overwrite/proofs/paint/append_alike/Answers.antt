@@ -1,5 +1,4 @@
-use Rattle.std.proofs.Common.{◌-◌, ◌∙◌, append_assoc, arith, length, refl, sym}
-use Rattle.csicodec_overwrite.proofs.Painted.{blanks_on}
+use Rattle.csicodec_overwrite.proofs.{Common.◌-◌, Common.◌∙◌, Common.append_assoc, Common.arith, Common.length, Common.refl, Common.sym, Texts.blanks_on}
 use Rattle.csicodec_overwrite.proofs.paint.append_alike.Goals as goal
 
 pub returns-then-is_empty-clause-text : goal.returns-then-is_empty-clause-text

@@ -1,7 +1,4 @@
-use Rattle.std.proofs.Common.{◌≡◌, ◌++◌, ◌∙◌, List, ℕ, ⊎_elim, ap, encode_utf8_all, sym}
-use Rattle.csicodec_overwrite.proofs.Common.{on_ok_weaker, IsPlainByte, IsShown, all_weaker, is_shown, Marking, Plain, Styled}
-use Rattle.csicodec_clean.proofs.Told.{encoded}
-use Rattle.csicodec_overwrite.specs.Paint.{written}
+use Rattle.csicodec_overwrite.proofs.Common.{◌≡◌, ◌++◌, ◌∙◌, List, ℕ, ⊎_elim, ap, encode_utf8_all, sym, on_ok_weaker, IsPlainByte, IsShown, all_weaker, is_shown, Marking, Plain, Styled, encoded, written}
 use Rattle.csicodec_overwrite.proofs.paint.append_ascii.Goals as goal
 
 pub returns-in-Page : goal.returns-in-Page

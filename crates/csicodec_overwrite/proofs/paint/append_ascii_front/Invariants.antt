@@ -1,5 +1,4 @@
-use Rattle.std.proofs.Common.{◌≡◌, ◌≤◌, ◌+◌, ◌++◌, encode_utf8_all, length, vec_capacity, vec_len, flat_map}
-use Rattle.csicodec_overwrite.specs.Cells.{chars_of}
+use Rattle.csicodec_overwrite.proofs.Common.{◌≡◌, ◌≤◌, ◌+◌, ◌++◌, encode_utf8_all, length, vec_capacity, vec_len, flat_map, chars_of}
 use Rattle.csicodec_overwrite.proofs.paint.append_ascii_front.Given as goal
 
 -- the characters of some are appended, and there is room for the others

@@ -1,6 +1,4 @@
-use Rattle.std.proofs.Common.{◌++◌, sym, ap, ◌∙◌}
-use Rattle.csicodec_overwrite.specs.Paint.{paint}
-use Rattle.csicodec_overwrite.proofs.{Painted.turned_on, Texts.text_painted}
+use Rattle.csicodec_overwrite.proofs.{Common.◌++◌, Common.sym, Common.ap, Common.◌∙◌, Common.paint, Texts.turned_on, Texts.text_painted}
 use Rattle.csicodec_overwrite.proofs.paint.append_cells.Goals as goal
 
 pub loop-cell-init : goal.loop-cell-init

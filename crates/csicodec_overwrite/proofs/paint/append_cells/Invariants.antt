@@ -1,5 +1,4 @@
-use Rattle.std.proofs.Common.{◌≡◌, ◌++◌, length}
-use Rattle.csicodec_overwrite.specs.Paint.{paint, text_of}
+use Rattle.csicodec_overwrite.proofs.Common.{◌≡◌, ◌++◌, length, paint, text_of}
 use Rattle.csicodec_overwrite.proofs.paint.append_cells.Given as goal
 
 -- some are painted

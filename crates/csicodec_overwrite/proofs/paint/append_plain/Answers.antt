@@ -1,6 +1,5 @@
-use Rattle.std.proofs.Common.{◌∷◌, ◌++◌, encode_utf8_all, sym, ap, ◌∙◌, flat_map}
-use Rattle.csicodec_overwrite.proofs.{Common.plain, Texts.plain_paint}
-use Rattle.csicodec_overwrite.specs.{Cells.chars_of, Paint.look_of}
+use Rattle.csicodec_overwrite.proofs.Common.{◌∷◌, ◌++◌, encode_utf8_all, sym, ap, ◌∙◌, flat_map, plain, chars_of, look_of}
+use Rattle.csicodec_overwrite.proofs.Texts.{plain_paint}
 use Rattle.csicodec_overwrite.proofs.paint.append_plain.Goals as goal
 
 pub loop-cell-preserved : goal.loop-cell-preserved

@@ -1,5 +1,4 @@
-use Rattle.std.proofs.Common.{◌≡◌, ◌≤◌, ◌++◌, length}
-use Rattle.csicodec_overwrite.specs.Paint.{paint}
+use Rattle.csicodec_overwrite.proofs.Common.{◌≡◌, ◌≤◌, ◌++◌, length, paint}
 use Rattle.csicodec_overwrite.proofs.paint.append_same_look.Given as goal
 
 -- some that look so are painted

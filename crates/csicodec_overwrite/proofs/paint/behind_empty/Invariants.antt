@@ -1,5 +1,4 @@
-use Rattle.std.proofs.Common.{◌≡◌, ◌≤◌, ◌-◌, ◌++◌, length, replicate}
-use Rattle.csicodec_overwrite.proofs.Common.{Empty}
+use Rattle.csicodec_overwrite.proofs.Common.{◌≡◌, ◌≤◌, ◌-◌, ◌++◌, length, replicate, Empty}
 use Rattle.csicodec_overwrite.proofs.paint.behind_empty.Given as goal
 
 -- those up to here are empty

@@ -1,6 +1,5 @@
-use Rattle.std.proofs.Common.{[], refl}
-use Rattle.csicodec_clean.proofs.Glances.{behind_both}
-use Rattle.csicodec_overwrite.proofs.Read.{to_none, to_span}
+use Rattle.csicodec_overwrite.proofs.{Common.[], Common.refl, Read.to_none, Read.to_span}
+use Rattle.csicodec_clean.proofs.Chunks.{behind_both}
 use Rattle.csicodec_overwrite.proofs.reader.append_steps.Goals as goal
 
 pub loop-span-init : goal.loop-span-init

@@ -1,5 +1,4 @@
-use Rattle.std.proofs.Common.{◌≡◌, ◌≤◌, ℕ, List, ◌++◌, length}
-use Rattle.csicodec_overwrite.specs.Private.Spans.{GoesTo}
+use Rattle.csicodec_overwrite.proofs.Common.{◌≡◌, ◌≤◌, ℕ, List, ◌++◌, length, GoesTo}
 use Rattle.csicodec_overwrite.proofs.reader.append_steps.Given as goal
 
 -- some spans were cut, and their steps appended

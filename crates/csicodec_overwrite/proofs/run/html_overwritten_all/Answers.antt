@@ -1,7 +1,6 @@
-use Rattle.std.proofs.{Common.[], Common.◌++◌, Common.refl, Common.sym, Common.subst, Common.append-nil, lemmas.Result.on_err_weaker}
-use Rattle.csicodec_overwrite.proofs.{Common.on_ok_weaker, Common.Page, Paged.painted_page, Written.begins, Written.passes_none, Written.transformed}
+use Rattle.csicodec_overwrite.proofs.Common.{[], ◌++◌, refl, sym, subst, append-nil, on_err_weaker, on_ok_weaker, Page, Paints, begun_as}
+use Rattle.csicodec_overwrite.proofs.{Same.painted_page, Written.begins, Written.passes_none, Written.transformed}
 use Rattle.csicodec_html.proofs.Paired.{is_page}
-use Rattle.csicodec_overwrite.specs.{Reading.Paints, Stream.begun_as}
 use Rattle.csicodec_overwrite.proofs.run.html_overwritten_all.Goals as goal
 
 pub transform_all-requires-clause-begun : goal.transform_all-requires-clause-begun

@@ -1,8 +1,6 @@
-use Rattle.std.proofs.Common.{refl}
-use Rattle.csicodec_overwrite.proofs.{Common.Sends, Common.Transforms, Common.IsPlain, Common.Plain, Once.shown_sent, Plain.overwritten_plain, Written.begins}
-use Rattle.csicodec_overwrite.proofs.{Written.passes_none, Written.transformed}
+use Rattle.csicodec_overwrite.proofs.Common.{refl, Sends, Transforms, IsPlain, Plain, Overwrites, Ending, Passes, begun_as}
+use Rattle.csicodec_overwrite.proofs.{Written.shown_sent, Written.begins, Written.passes_none, Written.transformed, Kept.overwritten_plain}
 use Rattle.csicodec_clean.proofs.Streams.{Texts, streams_one}
-use Rattle.csicodec_overwrite.specs.{Reading.Overwrites, Stream.Ending, Stream.Passes, Stream.begun_as}
 use Rattle.csicodec_overwrite.proofs.run.overwrite_all.Goals as goal
 
 pub transform_all-requires-clause-begun : goal.transform_all-requires-clause-begun

@@ -1,6 +1,5 @@
-use Rattle.std.proofs.Common.{◌≡◌, ◌++◌, map, take}
+use Rattle.csicodec_overwrite.proofs.Common.{◌≡◌, ◌++◌, map, take, of_actions}
 use Rattle.csicodec_parser.specs.ActionOf.{action_of}
-use Rattle.csicodec_overwrite.specs.Steps.{of_actions}
 use Rattle.csicodec_overwrite.proofs.text.append_actions.Given as goal
 
 -- the steps of the actions up to here

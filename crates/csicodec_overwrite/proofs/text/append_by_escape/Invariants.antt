@@ -1,5 +1,4 @@
-use Rattle.std.proofs.Common.{◌≡◌, ◌++◌, take, flat_map}
-use Rattle.csicodec_overwrite.specs.Steps.{by_escape}
+use Rattle.csicodec_overwrite.proofs.Common.{◌≡◌, ◌++◌, take, flat_map, by_escape}
 use Rattle.csicodec_overwrite.proofs.text.append_by_escape.Given as goal
 
 -- the steps of the bytes up to here

@@ -1,6 +1,5 @@
-use Rattle.std.proofs.Common.{◌≡◌, ◌<◌, length, rules}
-use Rattle.csicodec_clean.proofs.Sure.{cut_char}
-use Rattle.csicodec_overwrite.proofs.Chars.{run_all, run_cut}
+use Rattle.csicodec_overwrite.proofs.{Common.◌≡◌, Common.◌<◌, Common.length, Common.rules, Read.run_all, Read.run_cut}
+use Rattle.csicodec_clean.proofs.Plain.{cut_char}
 use Rattle.csicodec_overwrite.proofs.text.append_run.Goals as goal
 
 pub returns-in_ok-push : goal.returns-in_ok-push

@@ -1,7 +1,6 @@
-use Rattle.std.proofs.Common.{◌++◌, ◌∷◌, [], take, drop, sym, ap, subst, ◌∙◌, append_assoc, take-append-drop}
-use Rattle.csicodec_overwrite.proofs.{Common.IsRead, Chars.one_on}
-use Rattle.csicodec_clean.proofs.Sure.{cut_short, read_on}
-use Rattle.csicodec_overwrite.specs.Steps.{of_char}
+use Rattle.csicodec_overwrite.proofs.Common.{◌++◌, ◌∷◌, [], take, drop, sym, ap, subst, ◌∙◌, append_assoc, take-append-drop, IsRead, of_char}
+use Rattle.csicodec_overwrite.proofs.Read.{one_on}
+use Rattle.csicodec_clean.proofs.Plain.{cut_short, read_on}
 use Rattle.csicodec_overwrite.proofs.text.append_sure.Goals as goal
 
 pub loop-char-preserved : goal.loop-char-preserved

@@ -1,6 +1,4 @@
-use Rattle.std.proofs.Common.{◌≡◌, ◌++◌, ℕ, List, length}
-use Rattle.csicodec_overwrite.proofs.Common.{IsRead}
-use Rattle.csicodec_overwrite.specs.Steps.{of_chars}
+use Rattle.csicodec_overwrite.proofs.Common.{◌≡◌, ◌++◌, ℕ, List, length, IsRead, of_chars}
 use Rattle.csicodec_overwrite.proofs.text.append_sure.Given as goal
 
 -- some characters were read, and their steps appended

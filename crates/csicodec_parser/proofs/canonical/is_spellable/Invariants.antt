@@ -1,6 +1,5 @@
-use Rattle.std.specs.Prelude.{◌↔◌}
-use Rattle.std.proofs.Common.{length}
 use Rattle.csicodec_tokens.specs.Sequence.{Spellable}
+use Rattle.csicodec_parser.proofs.Common.{◌↔◌, length}
 use Rattle.csicodec_parser.proofs.canonical.is_spellable.Given as goal
 
 -- what decides is left

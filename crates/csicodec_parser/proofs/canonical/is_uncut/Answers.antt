@@ -1,6 +1,6 @@
-use Rattle.std.proofs.{Common.◌≡◌, Common.false, Common.refl, Common.sym, Common.ap, Common.◌∙◌, Common.drop, lemmas.List.take_rest}
-use Rattle.csicodec_parser.specs.{Groups.has_odd, Private.Steps.front}
-use Rattle.csicodec_parser.proofs.Unread.{uncut-told}
+use Rattle.std.proofs.lemmas.List.{take_rest}
+use Rattle.csicodec_parser.proofs.{Fronts.uncut-told, Common.◌≡◌, Common.false, Common.refl, Common.sym, Common.ap, Common.◌∙◌, Common.drop, Common.has_odd}
+use Rattle.csicodec_parser.proofs.{Common.front}
 use Rattle.csicodec_parser.proofs.canonical.is_uncut.Goals as goal
 
 pub returns : goal.returns

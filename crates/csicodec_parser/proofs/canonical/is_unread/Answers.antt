@@ -1,5 +1,4 @@
-use Rattle.std.proofs.Common.{sym, ◌∙◌}
-use Rattle.csicodec_parser.proofs.Unread.{read-unboxed, read-boxed}
+use Rattle.csicodec_parser.proofs.{Fronts.read-unboxed, Fronts.read-boxed, Common.sym, Common.◌∙◌}
 use Rattle.csicodec_parser.proofs.canonical.is_unread.Goals as goal
 
 pub returns-then-is_some : goal.returns-then-is_some

@@ -1,6 +1,5 @@
-use Rattle.std.proofs.{Common.refl, Common.rules, lemmas.Int.to_z-of_z}
 use mir.{Syntax.w64, Val.SFits}
-use Rattle.csicodec_parser.proofs.Fronts.{number_same}
+use Rattle.csicodec_parser.proofs.{Fronts.number_same, Common.refl, Common.rules, Common.to_z-of_z}
 use Rattle.csicodec_parser.proofs.group.front.Goals as goal
 
 pub returns-in_err-sgr-in-Styles-clause-answer : goal.returns-in_err-sgr-in-Styles-clause-answer

@@ -1,6 +1,4 @@
-use Rattle.std.proofs.Common.{sym, ap}
-use Rattle.csicodec_parser.specs.Private.Steps.{styled}
-use Rattle.csicodec_parser.proofs.Fronts.{piece_of_front}
+use Rattle.csicodec_parser.proofs.{Fronts.piece_of_front, Common.sym, Common.ap, Common.styled}
 use Rattle.csicodec_parser.proofs.group.style_front.Goals as goal
 
 pub returns-clause-answer : goal.returns-clause-answer

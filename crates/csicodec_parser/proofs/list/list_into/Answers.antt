@@ -1,5 +1,4 @@
-use Rattle.std.proofs.Common.{◌∙◌, rules, sym}
-use Rattle.csicodec_parser.proofs.{Blocks.rest_actions, Taken.all_taken}
+use Rattle.csicodec_parser.proofs.{Blocks.rest_actions, Cuts.all_taken, Common.◌∙◌, Common.rules, Common.sym}
 use Rattle.csicodec_parser.proofs.list.list_into.Goals as goal
 
 pub returns-in-Some-clause-taken : goal.returns-in-Some-clause-taken

@@ -1,5 +1,6 @@
-use Rattle.std.proofs.{Common.◌∷◌, Common.arith, Common.refl, Common.sym, Common.◌∙◌, lemmas.Option.IfSome_then, lemmas.Result.IfOk-weaker}
-use Rattle.csicodec_parser.proofs.{Fronts.lent_piece, Fronts.piece_front, Fronts.stuck_front, Taken.front_first, Taken.front_none}
+use Rattle.std.proofs.{lemmas.Option.IfSome_then, lemmas.Result.IfOk-weaker}
+use Rattle.csicodec_parser.proofs.{Fronts.lent_piece, Fronts.piece_front, Fronts.stuck_front, Cuts.front_first, Cuts.front_none, Common.◌∷◌, Common.arith}
+use Rattle.csicodec_parser.proofs.{Common.refl, Common.sym, Common.◌∙◌}
 use Rattle.csicodec_parser.proofs.list.piece_into.Goals as goal
 
 pub returns-in_default-clause-none : goal.returns-in_default-clause-none

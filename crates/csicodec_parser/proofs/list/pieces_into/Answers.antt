@@ -1,9 +1,7 @@
-use Rattle.std.proofs.Common.{◌≡◌, ◌<◌, [], ◌∷◌, ◌++◌, ◌∙◌, sym, ap, refl, true, false, length, drop, arith, append_assoc, subst, length-drop}
-use Rattle.std.proofs.{lemmas.Bool.Decides.nat_tests, lemmas.List.drop-drop}
-use Rattle.std.specs.Prelude.{slice_get}
-use Rattle.csicodec_parser.specs.Groups.{has_odd, start}
-use Rattle.csicodec_parser.proofs.Taken.{on_ok, taken_all, none_taken, actions_odd, actions_begin, actions_front, actions_stuck}
+use Rattle.csicodec_parser.proofs.Cuts.{taken_all, none_taken, actions_odd, actions_begin, actions_front, actions_stuck}
+use Rattle.csicodec_parser.proofs.Common.{◌≡◌, ◌<◌, [], ◌∷◌, ◌++◌, ◌∙◌, sym, ap, refl, true, false, length, drop, arith, append_assoc, subst, length-drop, drop-drop, on_ok_weaker, slice_get, has_odd, start}
 use Rattle.csicodec_parser.proofs.{Fronts.front_fits, Blocks.block_within, Blocks.semicolon_from}
+use Rattle.std.proofs.lemmas.Bool.Decides.{nat_tests}
 use Rattle.csicodec_parser.proofs.list.pieces_into.Goals as goal
 
 pub returns-then-has_odd-clause-taken : goal.returns-then-has_odd-clause-taken
@@ -46,7 +44,7 @@ returns-in_default-2-clause-taken g c =
     let unread : 0 < c.len-in-cut.result = grind (arith, nat_tests) in
     let some : 0 < length (drop passed tokens) = omega (arith, unread, ap length i.list, c.len-in-cut.ensures, length-drop passed tokens) in
     let all = actions_stuck c.args.group c.args.end.truncated c.args.end.control (drop passed tokens) told _ c.requires.cut (rw i.list at none.0) some parts in
-    on_ok c.unread_into-in_default-2.result
+    on_ok_weaker c.unread_into-in_default-2.result
     (λ put before h. subst (g.S.Sink.holds c.unread_into-in_default-2.new.sink) (taken_all before told _ _ all) (put (before ++ told) (rw none.1 (held before h))))
     (rw (c.piece_into.ensures.passes, c.piece_into.ensures.list, i.list) at c.unread_into-in_default-2.ensures.taken)
 

@@ -1,6 +1,4 @@
-use Rattle.std.proofs.Common.{◌≡◌, ◌+◌, ◌*◌, ◌≤◌, ◌-◌, List, ◌++◌, length, drop}
-use Rattle.csicodec_actions.specs.Actions.{Action}
-use Rattle.csicodec_parser.specs.Private.Steps.{actions, actions_after}
+use Rattle.csicodec_parser.proofs.Common.{◌≡◌, ◌+◌, ◌*◌, ◌≤◌, ◌-◌, List, ◌++◌, length, drop, Action, actions, actions_after}
 use Rattle.csicodec_parser.proofs.list.pieces_into.Given as goal
 
 -- the actions up to here have gone into the sink, and those of what is unread are the others; each token that is passed paid for its looks

@@ -1,5 +1,5 @@
-use Rattle.std.proofs.Common.{◌<◌, ◌≤◌, ap, arith, length}
-use Rattle.csicodec_parser.proofs.Blocks.{cut_acts, cut_leaves, left_end, left_odd, left_reset}
+use Rattle.csicodec_parser.proofs.{Blocks.cut_acts, Blocks.cut_leaves, Blocks.left_end, Blocks.left_odd, Blocks.left_reset, Common.◌<◌, Common.◌≤◌, Common.ap}
+use Rattle.csicodec_parser.proofs.{Common.arith, Common.length}
 use Rattle.csicodec_parser.proofs.parser.cut_action.Goals as goal
 
 pub returns-then-begins_odd-clause-none : goal.returns-then-begins_odd-clause-none

@@ -1,5 +1,4 @@
-use Rattle.std.proofs.Common.{drop, arith, sym, ap, ◌∙◌, length-drop}
-use Rattle.csicodec_parser.specs.Private.Steps.{found, block_of, with_semicolon}
+use Rattle.csicodec_parser.proofs.Common.{drop, arith, sym, ap, ◌∙◌, length-drop, found, block_of, with_semicolon}
 use Rattle.csicodec_parser.proofs.{Fronts.lent_front, Fronts.front_fits, Blocks.cut_some, Blocks.at_same, Blocks.semicolon_within}
 use Rattle.csicodec_parser.proofs.parser.cut_block.Goals as goal
 

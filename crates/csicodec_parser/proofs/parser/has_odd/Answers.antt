@@ -1,8 +1,6 @@
-use Rattle.std.proofs.{Common.List, Common.Option, Common.ap, Common.arith, Common.drop, Common.length, Common.sym, Common.ℕ, Common.◌+◌, Common.◌<◌}
-use Rattle.std.proofs.{Common.◌||◌, Common.◌∙◌, Common.◌≡◌, lemmas.List.drop_more, lemmas.Option.slice_get-get_or}
-use Rattle.std.specs.Prelude.{slice_get}
-use Rattle.csicodec_tokens.specs.{declared.param.CsiParam.CsiParam, declared.param.CsiParam.TheVariants.P}
-use Rattle.csicodec_parser.specs.{declared.group.Group.Group, Groups.has_odd, Private.Steps.is_odd_at}
+use Rattle.std.proofs.{Common.◌||◌, lemmas.List.drop_more, lemmas.Option.slice_get-get_or}
+use Rattle.csicodec_parser.specs.Private.Steps.{is_odd_at}
+use Rattle.csicodec_parser.proofs.Common.{List, Option, ap, arith, drop, length, sym, ℕ, ◌+◌, ◌<◌, ◌∙◌, ◌≡◌, slice_get, CsiParam, P, Group, has_odd}
 use Rattle.csicodec_parser.proofs.Blocks.{private_plain}
 use Rattle.csicodec_parser.proofs.parser.has_odd.Goals as goal
 

@@ -1,5 +1,4 @@
-use Rattle.std.proofs.Common.{◌≡◌, ◌+◌, ◌≤◌, length, drop}
-use Rattle.csicodec_parser.specs.Groups.{has_odd}
+use Rattle.csicodec_parser.proofs.Common.{◌≡◌, ◌+◌, ◌≤◌, length, drop, has_odd}
 use Rattle.csicodec_parser.proofs.parser.has_odd.Given as goal
 
 abbrev pub invariant-loop-i : goal.invariant-loop-i

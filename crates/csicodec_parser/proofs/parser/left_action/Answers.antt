@@ -1,5 +1,4 @@
-use Rattle.std.proofs.Common.{refl}
-use Rattle.csicodec_parser.proofs.Blocks.{lent_rest}
+use Rattle.csicodec_parser.proofs.{Blocks.lent_rest, Common.refl}
 use Rattle.csicodec_parser.proofs.parser.left_action.Goals as goal
 
 pub returns-in-Some-clause-ok : goal.returns-in-Some-clause-ok

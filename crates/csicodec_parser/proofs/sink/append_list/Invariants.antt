@@ -1,5 +1,4 @@
-use Rattle.std.proofs.Common.{◌≡◌, ◌++◌, take}
-use Rattle.csicodec_tokens.specs.Param.{spells}
+use Rattle.csicodec_parser.proofs.Common.{◌≡◌, ◌++◌, take, spells}
 use Rattle.csicodec_parser.proofs.sink.append_list.Given as goal
 
 -- the texts of the tokens up to here are appended

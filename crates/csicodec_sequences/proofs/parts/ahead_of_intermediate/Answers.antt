@@ -1,5 +1,5 @@
 use Rattle.std.proofs.Common.{◌∙◌, sym}
-use Rattle.csicodec_sequences.proofs.Values.{cut-byte, kept-byte, kept-number}
+use Rattle.csicodec_sequences.proofs.Table.{cut-byte, kept-byte, kept-number}
 use Rattle.csicodec_sequences.proofs.parts.ahead_of_intermediate.Goals as goal
 
 pub returns-then-is_between : goal.returns-then-is_between

@@ -1,9 +1,7 @@
-use Rattle.std.proofs.{Common.◌<◌, Common.◌≤◌, Common.length, Common.drop, Common.take, Common.refl, Common.inl, Common.sym, Common.ap, Common.arith}
-use Rattle.std.proofs.{lemmas.List.length-append, lemmas.List.length-drop, lemmas.List.take-append-drop}
-use Rattle.csicodec_spans.specs.declared.table.Ahead.TheVariants.{GoesOn, Ends}
-use Rattle.csicodec_spans.proofs.{OneSpan.IsLonger, OneSpan.stays_longer, OneSpan.stops_maximal, OneSpan.taken_longer, OneSpan.taken_within}
-use Rattle.csicodec_spans.proofs.{Spanned.before_rest, Spanned.rest_is, cut.longest.Goals.After-look, cut.longest.Goals.In-GoesOn}
-use Rattle.csicodec_spans.specs.declared.table.Mode.TheVariants as mode
+use Rattle.std.proofs.Common.{◌<◌, ◌≤◌, length, drop, take, refl, inl, sym, ap, arith, length-append, length-drop, take-append-drop}
+use Rattle.csicodec_spans.specs.{declared.table.Ahead.TheVariants.GoesOn, declared.table.Ahead.TheVariants.Ends, declared.table.Mode.Mode}
+use Rattle.csicodec_spans.proofs.{OneSpan.IsLonger, OneSpan.stays_longer, OneSpan.stops_maximal, OneSpan.taken_longer, OneSpan.taken_within, Missed.before_rest}
+use Rattle.csicodec_spans.proofs.{Missed.rest_is, cut.longest.Goals.After-look, cut.longest.Goals.In-GoesOn}
 use Rattle.csicodec_spans.proofs.cut.longest.Goals as goal
 
 pub loop-len-init : goal.loop-len-init
@@ -52,9 +50,9 @@ loop-len-preserved c =
 
 pub returns-in-Ends-clause-cut : goal.returns-in-Ends-clause-cut
 returns-in-Ends-clause-cut c = λ limit start text cut.
-    let last = taken_longer _ _ c.behind-rest-in-loop-len.result c.args.mode mode.Text (Ends c.in-Ends.last) _ (sym c.in-Ends.ensures.is) refl (here (goal.at.returns-in-Ends-clause-cut c).After-look) in
+    let last = taken_longer _ _ c.behind-rest-in-loop-len.result c.args.mode Mode.Text (Ends c.in-Ends.last) _ (sym c.in-Ends.ensures.is) refl (here (goal.at.returns-in-Ends-clause-cut c).After-look) in
     let (longer, d) = last.cut limit start text (rw c.requires.kind at cut) in
-    rw (c.len.ensures, c.len-in-Ends.ensures, c.behind.ensures, c.requires.kind) (before_rest limit start c.args.bytes.now _ longer _ mode.Text d)
+    rw (c.len.ensures, c.len-in-Ends.ensures, c.behind.ensures, c.requires.kind) (before_rest limit start c.args.bytes.now _ longer _ Mode.Text d)
 
 pub returns-in-New : goal.returns-in-New
 returns-in-New c =

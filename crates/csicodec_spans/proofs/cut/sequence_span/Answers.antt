@@ -1,8 +1,6 @@
-use Rattle.std.proofs.{Common.◌≡◌, Common.◌-◌, Common.length, Common.take, Common.refl, Common.arith, lemmas.List.length-take}
-use Rattle.csicodec_spans.specs.Parts.{AllowsCsi}
-use Rattle.csicodec_spans.proofs.{OneSpan.csi_cut, Sequences.whole, Sequences.short}
-use Rattle.csicodec_spans.specs.declared.table.Kind.TheVariants as kind
-use Rattle.csicodec_spans.specs.declared.table.Mode.TheVariants as mode
+use Rattle.std.proofs.Common.{◌≡◌, ◌-◌, length, take, refl, arith, length-take}
+use Rattle.csicodec_spans.specs.{Parts.AllowsCsi, declared.table.Kind.Kind, declared.table.Mode.Mode}
+use Rattle.csicodec_spans.proofs.OneSpan.{csi_cut, whole, short}
 use Rattle.csicodec_spans.proofs.cut.sequence_span.Goals as goal
 
 pub returns-clause-sequence : goal.returns-clause-sequence
@@ -15,6 +13,6 @@ returns-clause-cut c = λ m is.
     let (list, final, r) = c.requires in
     let n : c.min.result - c.len-2.result ≡ length (take c.args.limit c.args.bytes.now) - length c.args.behind.now = omega (arith, c.min.ensures, c.len.ensures, c.len-2.ensures, length-take c.args.limit c.args.bytes.now) in
     let l = length (take c.args.limit c.args.bytes.now) - length c.args.behind.now in
-    let stands : AllowsCsi c.args.limit c.args.bytes.now kind.Csi (take l c.args.bytes.now) mode.Text =
+    let stands : AllowsCsi c.args.limit c.args.bytes.now Kind.Csi (take l c.args.bytes.now) Mode.Text =
     ((list, final, whole c.args.limit c.args.bytes.now c.args.behind.now list final r), short c.args.limit c.args.bytes.now c.args.behind.now, refl) in
-    rw n (csi_cut c.args.limit m mode.Text c.args.bytes.now kind.Csi l is stands)
+    rw n (csi_cut c.args.limit m Mode.Text c.args.bytes.now Kind.Csi l is stands)

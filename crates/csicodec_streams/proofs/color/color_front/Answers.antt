@@ -1,5 +1,5 @@
 use Rattle.std.proofs.Common.{arith}
-use Rattle.csicodec_streams.proofs.{Colors.palette_color, Colors.true_color, Positions.byte_cut, Positions.two_cut}
+use Rattle.csicodec_streams.proofs.{Colors.palette_color, Colors.true_color, OneReading.byte_cut, OneReading.two_cut}
 use Rattle.csicodec_streams.proofs.color.color_front.Goals as goal
 
 pub returns-then-kind-eq53 : goal.returns-then-kind-eq53

@@ -1,5 +1,4 @@
-use Rattle.std.proofs.Common.{ℕ, List, ◌∷◌, ◌+◌, ◌-◌, length, get_or, drop, ap, append-nil, refl, take, ◌∙◌, arith}
-use Rattle.std.proofs.lemmas.List.{length-take}
+use Rattle.std.proofs.Common.{ℕ, List, ◌∷◌, ◌+◌, ◌-◌, length, get_or, drop, ap, append-nil, refl, take, ◌∙◌, arith, length-take}
 use Rattle.csicodec_streams.proofs.Colors.{colons_normal, colons_selected}
 use Rattle.csicodec_streams.proofs.color.color_text.Goals as goal
 

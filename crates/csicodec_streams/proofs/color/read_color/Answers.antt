@@ -1,5 +1,5 @@
 use Rattle.std.proofs.Common.{false, arith}
-use Rattle.csicodec_streams.proofs.{Colors.color_read, Colors.color_short, Colors.color_stands, Positions.byte_cut, Positions.two_cut}
+use Rattle.csicodec_streams.proofs.{Colors.color_read, Colors.color_short, Colors.color_stands, OneReading.byte_cut, OneReading.two_cut}
 use Rattle.csicodec_streams.proofs.color.read_color.Goals as goal
 
 pub returns-clause-spelled : goal.returns-clause-spelled

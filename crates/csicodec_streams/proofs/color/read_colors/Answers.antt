@@ -1,5 +1,5 @@
 use Rattle.std.proofs.Common.{arith}
-use Rattle.csicodec_streams.proofs.{Colors.color_read, Colors.color_stands, Colors.colors_read, Positions.byte_cut, Positions.two_cut}
+use Rattle.csicodec_streams.proofs.{Colors.color_read, Colors.color_stands, Colors.colors_read, OneReading.byte_cut, OneReading.two_cut}
 use Rattle.csicodec_streams.proofs.color.read_colors.Goals as goal
 
 pub returns-in-109-clause-read : goal.returns-in-109-clause-read

@@ -1,5 +1,5 @@
 use Rattle.std.proofs.lemmas.Result.{err_from_is_err_and}
-use Rattle.csicodec_streams.proofs.Streamed.{refused_for_memory}
+use Rattle.csicodec_streams.proofs.OneReading.{refused_for_memory}
 use Rattle.csicodec_streams.proofs.decode.decode_all.Goals as goal
 
 pub returns-in_err-decode_into-clause-only : goal.returns-in_err-decode_into-clause-only

@@ -1,4 +1,4 @@
-use Rattle.csicodec_streams.proofs.Streamed.{refuses_at}
+use Rattle.csicodec_streams.proofs.OneReading.{refuses_at}
 use Rattle.csicodec_streams.proofs.decode.decode_into.Goals as goal
 
 pub returns-clause-refused : goal.returns-clause-refused

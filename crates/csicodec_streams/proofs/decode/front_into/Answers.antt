@@ -1,7 +1,7 @@
 use Rattle.std.proofs.Common.{[], ◌++◌, append_assoc}
 use Rattle.csicodec_streams.specs.Private.Steps.{styles}
-use Rattle.csicodec_streams.proofs.Streamed.{begins, errs, split_more, split_none}
-use Rattle.csicodec_parser.proofs.Taken.{none_taken}
+use Rattle.csicodec_streams.proofs.OneReading.{begins, errs, split_more, split_none}
+use Rattle.csicodec_parser.proofs.Cuts.{none_taken}
 use Rattle.csicodec_streams.proofs.decode.front_into.Goals as goal
 
 pub loop-alloc-init : goal.loop-alloc-init

@@ -1,4 +1,4 @@
-use Rattle.csicodec_parser.proofs.Taken.{on_ok}
+use Rattle.csicodec_parser.proofs.Cuts.{on_ok}
 use Rattle.csicodec_streams.proofs.decode.long_into.Goals as goal
 
 pub returns : goal.returns

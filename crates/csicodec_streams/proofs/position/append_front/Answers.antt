@@ -1,4 +1,4 @@
-use Rattle.std.proofs.{Common.ℕ, Common.List, Common.◌++◌, Common.ap, Common.take, Common.◌∙◌, lemmas.List.take-take, lemmas.Result.on_ok_weaker}
+use Rattle.std.proofs.{Common.take-take, Common.ℕ, Common.List, Common.◌++◌, Common.ap, Common.take, Common.◌∙◌, lemmas.Result.on_ok_weaker}
 use Rattle.csicodec_streams.proofs.position.append_front.Goals as goal
 
 pub returns-in-Some-clause-ok : goal.returns-in-Some-clause-ok

@@ -1,5 +1,5 @@
 use Rattle.std.proofs.Common.{arith}
-use Rattle.csicodec_streams.proofs.Positions.{number_front}
+use Rattle.csicodec_streams.proofs.OneReading.{number_front}
 use Rattle.csicodec_streams.proofs.position.number_len.Goals as goal
 
 pub returns-clause-number : goal.returns-clause-number

@@ -1,5 +1,5 @@
 use Rattle.std.proofs.Common.{◌∙◌, sym, arith}
-use Rattle.csicodec_streams.proofs.Positions.{byte_cut, cup, front_placed, hvp, two_cut}
+use Rattle.csicodec_streams.proofs.OneReading.{byte_cut, cup, front_placed, hvp, two_cut}
 use Rattle.csicodec_streams.proofs.position.placed_len.Goals as goal
 
 pub returns-in-72-clause-own : goal.returns-in-72-clause-own

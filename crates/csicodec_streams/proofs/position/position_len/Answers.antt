@@ -1,4 +1,4 @@
-use Rattle.std.proofs.{Common.ap, Common.take, Common.subst, Common.◌∙◌, Common.ℕ, Common.List, lemmas.List.take-take}
+use Rattle.std.proofs.Common.{take-take, ap, take, subst, ◌∙◌, ℕ, List}
 use Rattle.csicodec_streams.specs.Known.{IsPosition}
 use Rattle.csicodec_streams.proofs.position.position_len.Goals as goal
 

@@ -1,4 +1,4 @@
-use Rattle.csicodec_streams.proofs.Positions.{own_normal}
+use Rattle.csicodec_streams.proofs.OneReading.{own_normal}
 use Rattle.csicodec_streams.proofs.position.take_position.Goals as goal
 
 pub returns-in-Ok-clause-own : goal.returns-in-Ok-clause-own

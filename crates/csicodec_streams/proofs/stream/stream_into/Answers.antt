@@ -3,7 +3,7 @@ use Rattle.std.proofs.KnownBytes.{Consumes-nil, Consumes-trans}
 use Rattle.std.specs.Io.KnownBytes.{Consumes}
 use Rattle.csicodec_actions.specs.{Actions.Action, Table.texts}
 use Rattle.csicodec_streams.specs.Private.Steps.{DecodesFront}
-use Rattle.csicodec_streams.proofs.Streamed.{front_all, front_on, front_read, kept_behind, length_read, refused_end, refuses_at, stays_refused, whole_given}
+use Rattle.csicodec_streams.proofs.OneReading.{front_all, front_on, front_read, kept_behind, length_read, refused_end, refuses_at, stays_refused, whole_given}
 use Rattle.csicodec_streams.proofs.stream.stream_into.Goals.{In-Ok}
 use Rattle.csicodec_streams.proofs.stream.stream_into.Goals as goal
 

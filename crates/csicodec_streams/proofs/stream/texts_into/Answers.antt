@@ -1,8 +1,7 @@
 use Rattle.std.proofs.Common.{ℕ, false, [], ◌++◌, List, length, refl, sym, ap, subst, ◌∙◌, append_assoc, append-nil, arith}
 use Rattle.csicodec_actions.specs.Table.{texts}
 use Rattle.csicodec_streams.specs.Private.Steps.{DecodesFront}
-use Rattle.csicodec_streams.proofs.Known.{read_known, read_one, slice_from, split_known, texts_behind, texts_longer, texts_more}
-use Rattle.csicodec_streams.proofs.Streamed.{begins, errs, split_more, split_none}
+use Rattle.csicodec_streams.proofs.OneReading.{read_known, read_one, slice_from, split_known, texts_behind, texts_longer, texts_more, begins, errs, split_more, split_none}
 use Rattle.csicodec_streams.proofs.stream.texts_into.Goals as goal
 
 pub loop-alloc-init : goal.loop-alloc-init

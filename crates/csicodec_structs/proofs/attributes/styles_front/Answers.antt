@@ -1,5 +1,5 @@
 use Rattle.std.proofs.{Common.take, Common.refl, Common.inl, Common.inr, Common.subst, Common.arith, lemmas.List.length-set, lemmas.List.take_more_set}
-use Rattle.csicodec_streams.proofs.Positions.{byte_cut}
+use Rattle.csicodec_streams.proofs.OneReading.{byte_cut}
 use Rattle.csicodec_structs.specs.Private.Short.{AreStyles}
 use Rattle.csicodec_structs.proofs.Styled.{styles_next}
 use Rattle.csicodec_structs.proofs.attributes.styles_front.Goals as goal

@@ -1,4 +1,4 @@
-use Rattle.csicodec_structs.specs.{Structs.param_of, Values.TokenInRange}
+use Rattle.csicodec_structs.specs.Structs.{param_of, TokenInRange}
 use Rattle.csicodec_structs.proofs.Tokens.{none_crosses}
 use Rattle.csicodec_structs.proofs.encode.put_tokens.Goals as goal
 

@@ -1,6 +1,6 @@
 use Rattle.std.proofs.Common.{◌≡◌, ◌≤◌, length, map, take}
 use Rattle.std.specs.List.{All}
-use Rattle.csicodec_structs.specs.{Structs.param_of, Values.TokenInRange}
+use Rattle.csicodec_structs.specs.Structs.{param_of, TokenInRange}
 use Rattle.csicodec_structs.proofs.encode.put_tokens.Given as goal
 
 -- the tokens up to here

@@ -1,5 +1,5 @@
 use Rattle.std.proofs.Common.{◌≡◌, take}
-use Rattle.csicodec_structs.specs.Private.Candidates.{AreTexts}
+use Rattle.csicodec_structs.specs.Private.Steps.{AreTexts}
 use Rattle.csicodec_structs.proofs.encode.texts_of.Given as goal
 
 -- the texts of the actions up to here

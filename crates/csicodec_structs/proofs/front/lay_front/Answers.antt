@@ -1,5 +1,5 @@
 use Rattle.std.proofs.Common.{arith}
-use Rattle.csicodec_streams.proofs.Positions.{two_cut}
+use Rattle.csicodec_streams.proofs.OneReading.{two_cut}
 use Rattle.csicodec_structs.proofs.ShortLaid.{short_answer}
 use Rattle.csicodec_structs.proofs.front.lay_front.Goals as goal
 

@@ -1,5 +1,5 @@
 use Rattle.std.proofs.Common.{arith}
-use Rattle.csicodec_streams.proofs.Positions.{byte_cut}
+use Rattle.csicodec_streams.proofs.OneReading.{byte_cut}
 use Rattle.csicodec_structs.proofs.{ShortLaid.row_laid, Styled.alone_row}
 use Rattle.csicodec_structs.proofs.front.lay_one.Goals as goal
 

@@ -1,5 +1,5 @@
 use Rattle.std.proofs.Common.{take}
-use Rattle.csicodec_structs.specs.{Private.Fronts.PutsBehind, Private.Fronts.headed, Rows.params_of}
+use Rattle.csicodec_structs.specs.{Private.Steps.PutsBehind, Private.Steps.headed, Rows.params_of}
 use Rattle.csicodec_structs.proofs.lay.put_list.Given as goal
 
 -- what the tokens up to here say is put

@@ -1,5 +1,5 @@
 use Rattle.std.proofs.Common.{map, take}
-use Rattle.csicodec_structs.specs.Private.Fronts.{PutsBehind}
+use Rattle.csicodec_structs.specs.Private.Steps.{PutsBehind}
 use Rattle.csicodec_structs.proofs.token.put_all.Given as goal
 
 -- the tokens up to here are put

@@ -1,4 +1,4 @@
-use Rattle.csicodec_tokens.proofs.Unique.{one_seq}
+use Rattle.csicodec_tokens.proofs.Reading.{one_seq}
 use Rattle.csicodec_tokens.proofs.laws.one_sequence.Goals as goal
 
 pub returns : goal.returns

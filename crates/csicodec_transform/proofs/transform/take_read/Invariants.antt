@@ -1,5 +1,5 @@
 use Rattle.std.proofs.Common.{length}
-use Rattle.csicodec_transform.proofs.Sent.{AddsFront}
+use Rattle.csicodec_transform.specs.Transform.{AddsFront}
 use Rattle.csicodec_transform.proofs.transform.take_read.Given as goal
 
 -- the pieces in front were taken

@@ -1,6 +1,5 @@
-use Rattle.std.proofs.Common.{arith, rules, sym}
 use Rattle.csicodec_actions.specs.Table.Cursor.{cursor_rows, as_cursor}
-use Rattle.csicodec_actions.proofs.Finals.{no-rows}
+use Rattle.csicodec_actions.proofs.{Finals.no-rows, Common.arith, Common.rules, Common.sym}
 use Rattle.csicodec_actions.proofs.lists.cursor.cursor_action.Goals as goal
 
 pub returns-in_default : goal.returns-in_default

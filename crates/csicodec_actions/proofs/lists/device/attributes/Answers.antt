@@ -1,8 +1,5 @@
-use Rattle.std.proofs.Common.{◌≡◌, ◌++◌, ◌∙◌, List, ap, refl, sym}
-use Rattle.std.specs.Option.{option_or}
-use Rattle.csicodec_tokens.specs.declared.param.CsiParam.{CsiParam}
-use Rattle.csicodec_actions.specs.{Actions.Action, Rows.Row, Rows.given, Rows.gives, Table.Device.as_device, Table.Device.classes, Table.Device.requests}
-use Rattle.csicodec_actions.specs.{Table.Device.terminals}
+use Rattle.csicodec_actions.specs.Table.Device.{as_device, classes, requests, terminals}
+use Rattle.csicodec_actions.proofs.Common.{◌≡◌, ◌++◌, ◌∙◌, List, ap, refl, sym, option_or, CsiParam, Action, Row, given, gives}
 use Rattle.csicodec_actions.proofs.AllFieldRows.{first-append}
 use Rattle.csicodec_actions.proofs.lists.device.attributes.Goals as goal
 

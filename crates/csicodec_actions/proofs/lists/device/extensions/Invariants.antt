@@ -1,5 +1,4 @@
-use Rattle.std.proofs.Common.{◌≡◌, take}
-use Rattle.csicodec_actions.specs.Devices.{listed_attributes}
+use Rattle.csicodec_actions.proofs.Common.{◌≡◌, take, listed_attributes}
 use Rattle.csicodec_actions.proofs.lists.device.extensions.Given as goal
 
 abbrev pub invariant-loop-token : goal.invariant-loop-token

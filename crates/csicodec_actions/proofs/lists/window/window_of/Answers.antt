@@ -1,8 +1,5 @@
-use Rattle.std.proofs.Common.{◌++◌, sym, ap, ◌∙◌}
-use Rattle.std.specs.Option.{option_or}
-use Rattle.csicodec_actions.specs.{Actions.Action, FieldRows.FieldRow, FieldRows.given, FieldRows.gives, Table.Window.alone_rows, Table.Window.two_rows}
-use Rattle.csicodec_actions.specs.{Table.Window.which_rows}
-use Rattle.csicodec_actions.proofs.AllFieldRows.{first-append}
+use Rattle.csicodec_actions.specs.{FieldRows.given, FieldRows.gives, Table.Window.alone_rows, Table.Window.two_rows, Table.Window.which_rows}
+use Rattle.csicodec_actions.proofs.{AllFieldRows.first-append, Common.◌++◌, Common.sym, Common.ap, Common.◌∙◌, Common.option_or, Common.Action, Common.FieldRow}
 use Rattle.csicodec_actions.proofs.lists.window.window_of.Goals as goal
 
 pub returns-in-Some : goal.returns-in-Some

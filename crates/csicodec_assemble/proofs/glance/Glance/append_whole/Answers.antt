@@ -1,7 +1,5 @@
-use Rattle.std.proofs.Common.{◌++◌, ℕ, List, ap, ◌∙◌, ◌≡◌, Some}
-use Rattle.csicodec_assemble.proofs.Member.{line_is, whole_read}
-use Rattle.json.specs.{Json.value, Lex.tokens}
-use Rattle.serde_json.specs.Read.{read}
+use Rattle.csicodec_assemble.proofs.{Common.◌++◌, Common.ℕ, Common.List, Common.ap, Common.◌∙◌, Common.◌≡◌, Common.Some, Common.value, Common.tokens}
+use Rattle.csicodec_assemble.proofs.{Common.read, Member.line_is, Member.whole_read}
 use Rattle.csicodec_assemble.proofs.glance.Glance.append_whole.Goals as goal
 
 pub returns-clause-bytes : goal.returns-clause-bytes

@@ -1,5 +1,4 @@
-use Rattle.std.proofs.{Common.◌≡◌, Common.◌==◌, Common.◌∙◌, Common.ap, Common.arith, Common.false, Common.length, Common.sym, lemmas.Result.IfErr-weaker}
-use Rattle.std.proofs.{lemmas.Result.on_ok_weaker}
+use Rattle.csicodec_assemble.proofs.Common.{◌≡◌, ◌==◌, ◌∙◌, ap, arith, false, length, sym, IfErr-weaker, on_ok_weaker}
 use Rattle.csicodec_assemble.proofs.Joined.{last_gives, last_refused}
 use Rattle.csicodec_assemble.proofs.lines.Assembler.end.Goals as goal
 

@@ -1,5 +1,4 @@
-use Rattle.std.proofs.Common.{arith}
-use Rattle.csicodec_assemble.proofs.Joined.{refused_long}
+use Rattle.csicodec_assemble.proofs.{Common.arith, Joined.refused_long}
 use Rattle.csicodec_assemble.proofs.lines.Assembler.hold.Goals as goal
 
 pub returns-then-bytes-len-clause-told : goal.returns-then-bytes-len-clause-told

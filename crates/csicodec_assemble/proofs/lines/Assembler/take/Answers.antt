@@ -1,5 +1,4 @@
-use Rattle.std.proofs.{Common.◌∷◌, Common.[], Common.sym, Common.append-nil, Common.refl, Common.arith, lemmas.Result.err_from_is_err_and}
-use Rattle.std.proofs.{lemmas.Result.on_ok_weaker}
+use Rattle.csicodec_assemble.proofs.Common.{◌∷◌, [], sym, append-nil, refl, arith, err_from_is_err_and, on_ok_weaker}
 use Rattle.csicodec_assemble.proofs.Joined.{at_end, at_refusal, one_end, one_run, refused_by, refused_then}
 use Rattle.csicodec_assemble.proofs.lines.Assembler.take.Goals as goal
 

@@ -1,5 +1,4 @@
-use Rattle.std.proofs.Common.{length}
-use Rattle.csicodec_assemble.proofs.Joined.{Goes}
+use Rattle.csicodec_assemble.proofs.{Common.length, Joined.Goes}
 use Rattle.csicodec_assemble.proofs.lines.Assembler.take.Given as goal
 
 -- a front of the bytes passed, and its lines are counted

@@ -1,6 +1,5 @@
 use Rattle.std.proofs.Common.{◌≡◌, ◌-◌, length, subst, sym, ap, arith, rules}
-use Rattle.csicodec_clean.specs.{Check.IsOutside, Shown.IsBehind}
-use Rattle.csicodec_clean.proofs.Checks.{kept_rest, passed}
+use Rattle.csicodec_clean.proofs.{Common.IsOutside, Common.IsBehind, Told.kept_rest, Told.passed}
 use Rattle.csicodec_clean.proofs.check.Checked.pass.Goals as goal
 
 pub returns : goal.returns

@@ -1,6 +1,6 @@
 use Rattle.std.proofs.{Common.◌≡◌, Common.leb, Common.cond, Common.length, Common.length-take-le, Common.refl, Common.take, lemmas.Simd.zip2_of_maps}
 use Rattle.std.proofs.{lemmas.Simd.zip2_splat, lemmas.Simd.zip2_splat_left}
-use Rattle.csicodec_clean.specs.Bytes.{plain_byte}
+use Rattle.csicodec_clean.proofs.Common.{plain_byte}
 use Rattle.csicodec_tokens.proofs.Lanes.{counted}
 use Rattle.csicodec_clean.proofs.class.PlainAsciiByteClass.lanes.Goals as goal
 

@@ -1,8 +1,6 @@
 use Rattle.std.proofs.Common.{◌≡◌, ◌≤◌, [], ap, length-append, ◌-◌, refl, sym, drop, length, append-nil, arith}
-use Rattle.std.proofs.lemmas.Grind.{common_steps}
-use Rattle.csicodec_spans.proofs.Spanned.{rest_is}
-use Rattle.csicodec_clean.specs.{Cleaned.longest, Private.Steps.state_of, Stream.with_more}
-use Rattle.csicodec_clean.proofs.{Chunks.unsure_few, Chunks.goes_none, Glances.to_split}
+use Rattle.csicodec_clean.proofs.{Common.common_steps, Common.rest_is, Common.longest, Common.state_of, Common.with_more, Chunks.unsure_few, Chunks.goes_none}
+use Rattle.csicodec_clean.proofs.{Chunks.to_split}
 use Rattle.csicodec_clean.proofs.cleaner.Cleaner.push.Goals as goal
 
 pub returns-in_default : goal.returns-in_default

@@ -1,5 +1,5 @@
 use Rattle.std.proofs.Common.{length, ap, refl, ◌-◌}
-use Rattle.csicodec_clean.proofs.{Coded.color_closed, Glances.front_read, Noted.closed_taken}
+use Rattle.csicodec_clean.proofs.{Coded.color_closed, Coded.closed_taken, Chunks.front_read}
 use Rattle.csicodec_clean.proofs.notes.SequenceBuffers.read.Goals as goal
 
 pub returns-in-Some-clause-read : goal.returns-in-Some-clause-read

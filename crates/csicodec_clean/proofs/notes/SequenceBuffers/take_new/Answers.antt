@@ -1,10 +1,7 @@
-use Rattle.std.proofs.Common.{◌≤◌, ◌∙◌, ℕ, List, [], ◌∷◌, ◌++◌, length, map, take, refl, sym, ap, subst, append-nil, arith}
-use Rattle.std.proofs.lemmas.List.{length-take, take-take}
-use Rattle.csicodec_tokens.specs.Sequence.{Seq}
-use Rattle.csicodec_actions.specs.{Actions.Sgr as SgrAction, Table.texts}
-use Rattle.csicodec_parser.specs.ActionOf.{action_of}
+use Rattle.std.proofs.Common.{◌≤◌, ◌∙◌, ℕ, List, [], ◌∷◌, ◌++◌, length, map, take, refl, sym, ap, subst, append-nil, arith, length-take, take-take}
+use Rattle.csicodec_clean.proofs.{Common.Seq, Common.texts, Common.action_of, Coded.move_taken}
+use Rattle.csicodec_actions.specs.Actions.{Sgr as SgrAction}
 use Rattle.csicodec_clean.specs.Styled.{kept}
-use Rattle.csicodec_clean.proofs.Noted.{move_taken}
 use Rattle.csicodec_actions.specs.Actions as action
 use Rattle.csicodec_clean.proofs.notes.SequenceBuffers.take_new.Goals as goal
 

@@ -1,6 +1,6 @@
 use Rattle.std.proofs.Common.{take}
-use Rattle.csicodec_clean.specs.{Links.come, Styled.keeping}
-use Rattle.csicodec_clean.proofs.Noted.{left_given}
+use Rattle.csicodec_clean.proofs.{Common.keeping, Coded.left_given}
+use Rattle.csicodec_clean.specs.Links.{come}
 use Rattle.csicodec_clean.proofs.styles.KeptRule.take_at_once.Goals as goal
 
 pub returns-in-Some-clause-taken : goal.returns-in-Some-clause-taken

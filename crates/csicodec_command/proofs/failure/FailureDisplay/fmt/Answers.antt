@@ -1,4 +1,4 @@
-use Rattle.std.proofs.{Common.append_assoc, Output.has_written_of_eq}
+use Rattle.csicodec_command.proofs.Common.{append_assoc, has_written_of_eq}
 use Rattle.csicodec_command.proofs.failure.FailureDisplay.fmt.Goals as goal
 
 pub returns-in-NotPlain-clause-writes : goal.returns-in-NotPlain-clause-writes

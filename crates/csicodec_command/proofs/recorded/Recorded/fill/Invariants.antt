@@ -1,5 +1,4 @@
-use Rattle.std.specs.Io.KnownBytes.{Keeps}
-use Rattle.csicodec_command.specs.Recorded.{left}
+use Rattle.csicodec_command.proofs.Common.{Keeps, left}
 use Rattle.csicodec_command.proofs.recorded.Recorded.fill.Given as goal
 
 -- nothing was lost

@@ -1,6 +1,4 @@
-use Rattle.std.proofs.Common.{ap, sym, ◌∙◌}
-use Rattle.csicodec_command.specs.Recorded.{is_over}
-use Rattle.csicodec_command.proofs.Left.{line_next, line_read}
+use Rattle.csicodec_command.proofs.{Common.ap, Common.sym, Common.◌∙◌, Common.is_over, Left.line_next, Left.line_read}
 use Rattle.csicodec_command.proofs.recorded.Recorded.read_line.Goals as goal
 
 pub returns-in-Ok-clause-same : goal.returns-in-Ok-clause-same

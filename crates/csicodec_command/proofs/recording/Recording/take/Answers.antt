@@ -1,5 +1,4 @@
-use Rattle.std.proofs.Common.{Some, ap, refl, sym, ◌∙◌}
-use Rattle.csicodec_command.proofs.Left.{no_text, text_says}
+use Rattle.csicodec_command.proofs.{Common.Some, Common.ap, Common.refl, Common.sym, Common.◌∙◌, Left.no_text, Left.text_says}
 use Rattle.csicodec_command.proofs.recording.Recording.take.Goals as goal
 
 pub returns-in_default-clause-refused : goal.returns-in_default-clause-refused

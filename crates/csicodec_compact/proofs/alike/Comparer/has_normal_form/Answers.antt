@@ -1,6 +1,5 @@
-use Rattle.std.proofs.{Common.rules, Common.true, Common.◌≡◌, Common.sym, Common.◌∙◌, lemmas.Bool.eq-eqb, lemmas.Bool.eqb-true}
-use Rattle.std.proofs.{lemmas.Slice.Eq.slice_eq-Decides}
-use Rattle.csicodec_compact.proofs.Told.{has-normal, told_by}
+use Rattle.std.proofs.Common.{eq-eqb, eqb-true, rules, true, ◌≡◌, sym, ◌∙◌}
+use Rattle.csicodec_compact.proofs.{Told.has-normal, Told.told_by, Common.slice_eq-Decides}
 use Rattle.csicodec_compact.proofs.alike.Comparer.has_normal_form.Goals as goal
 
 pub returns-then-tells : goal.returns-then-tells

@@ -1,6 +1,5 @@
-use Rattle.std.proofs.{Common.map, Common.ap, Common.◌++◌, Common.◌∙◌, lemmas.Result.on_ok_weaker}
-use Rattle.csicodec_parser.specs.ActionOf.{action_of}
-use Rattle.csicodec_compact.proofs.Joined.{encodes-each, encodes-shorter, extended}
+use Rattle.std.proofs.Common.{map, ap, ◌++◌, ◌∙◌}
+use Rattle.csicodec_compact.proofs.{JoinedLists.encodes-each, JoinedLists.encodes-shorter, JoinedLists.extended, Common.on_ok_weaker, Common.action_of}
 use Rattle.csicodec_compact.proofs.encode.Joiner.append.Goals as goal
 
 pub returns-then-branch : goal.returns-then-branch

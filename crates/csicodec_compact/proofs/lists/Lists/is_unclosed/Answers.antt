@@ -1,9 +1,5 @@
 use Rattle.std.proofs.{Common.◌≡◌, Common.false, Common.sym, Common.subst, Common.◌∙◌, Common.[], Common.map, Common.ap, lemmas.Bool.not-true}
-use Rattle.std.specs.List.{list_any}
-use Rattle.csicodec_actions.specs.Actions.{Sgr}
-use Rattle.csicodec_parser.specs.{ActionOf.action_of, Segments.Actions}
-use Rattle.csicodec_compact.specs.Private.Steps.{is_other}
-use Rattle.csicodec_compact.proofs.JoinedLists.{styles_by}
+use Rattle.csicodec_compact.proofs.{JoinedLists.styles_by, Common.list_any, Common.Sgr, Common.action_of, Common.Actions, Common.is_other}
 use Rattle.csicodec_compact.proofs.lists.Lists.is_unclosed.Goals as goal
 
 pub returns-clause-styles : goal.returns-clause-styles

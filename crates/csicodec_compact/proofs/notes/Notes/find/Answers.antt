@@ -1,6 +1,5 @@
 use Rattle.std.proofs.Common.{◌++◌, ◌≤◌, ℕ, List, length, subst, ap, sym, ◌∙◌}
-use Rattle.csicodec_compact.specs.{Compacts.Compacts, Private.Steps.IsOwn}
-use Rattle.csicodec_compact.proofs.Beside.{free_by, note_of, own_long}
+use Rattle.csicodec_compact.proofs.{Beside.free_by, Beside.note_of, Beside.own_long, Common.Compacts, Common.IsOwn}
 use Rattle.csicodec_compact.proofs.notes.Notes.find.Goals as goal
 
 pub write_note-requires : goal.write_note-requires

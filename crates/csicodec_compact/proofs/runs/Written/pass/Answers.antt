@@ -1,6 +1,5 @@
-use Rattle.std.proofs.{Common.◌++◌, Common.ap, Common.take, Common.◌∙◌, Common.append_assoc, lemmas.Result.on_ok_weaker}
-use Rattle.csicodec_compact.specs.Private.Steps.{closing}
-use Rattle.csicodec_compact.proofs.Beside.{extends_own}
+use Rattle.std.proofs.Common.{◌++◌, ap, take, ◌∙◌, append_assoc}
+use Rattle.csicodec_compact.proofs.{Beside.extends_own, Common.on_ok_weaker, Common.closing}
 use Rattle.csicodec_compact.proofs.runs.Written.pass.Goals as goal
 
 pub returns : goal.returns

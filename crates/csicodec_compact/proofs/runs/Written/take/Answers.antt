@@ -1,6 +1,5 @@
 use Rattle.std.proofs.Common.{◌≡◌, ◌≤◌, ◌+◌, ◌++◌, ℕ, List, drop, get_or, take, ap, ◌∙◌, append_assoc, arith}
-use Rattle.csicodec_compact.specs.Private.Steps.{closing, form_of, opened}
-use Rattle.csicodec_compact.proofs.Beside.{extends_joined, extends_one}
+use Rattle.csicodec_compact.proofs.{Beside.extends_joined, Beside.extends_one, Common.closing, Common.form_of, Common.opened}
 use Rattle.csicodec_compact.proofs.runs.Written.take.Goals as goal
 
 pub returns-then-may_join : goal.returns-then-may_join

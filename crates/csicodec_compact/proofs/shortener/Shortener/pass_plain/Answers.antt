@@ -1,7 +1,6 @@
-use Rattle.std.proofs.{Common.◌-◌, Common.drop, Common.length, Common.refl, Common.sym, Common.take, Common.arith, lemmas.List.take-append-drop}
-use Rattle.csicodec_filter.proofs.Written.{appends_none}
-use Rattle.csicodec_compact.specs.Private.Steps.{Holds}
-use Rattle.csicodec_compact.proofs.{Beside.front_known, Beside.note_long, Beside.shortened_one, Colors.color_note}
+use Rattle.std.proofs.Common.{take-append-drop, ◌-◌, drop, length, refl, sym, take, arith}
+use Rattle.csicodec_filter.proofs.Written.{appends_none, front_known}
+use Rattle.csicodec_compact.proofs.{Beside.adds, Beside.note_long, Beside.shortened_one, Told.color_note, Common.Holds}
 use Rattle.csicodec_compact.proofs.shortener.Shortener.pass_plain.Goals as goal
 
 pub returns-in_default-clause-written : goal.returns-in_default-clause-written
@@ -31,13 +30,14 @@ returns-clause-written c =
     let len = length bytes - length c.in-Some.rest.now in
     let note = color_note bytes c.in-Some.rest.now c.open_note-wide.result c.in-Some.field-0-0 c.numbers.result len c.numbers.ensures c.in-Some.ensures.spelled
     refl c.open_note-wide.ensures in
-    front_known c.args.limit len bytes c.args.self.now _ c.args.out.now c.take.new.out note.4
-    (omega (arith, c.if-len-limit.false)) (omega arith) (c.in_ok-take.ensures (take len bytes) note)
+    front_known Holds c.args.limit len bytes c.args.self.now _ c.args.out.now c.take.new.out note.4 (omega (arith, c.if-len-limit.false)) (omega arith)
+    (adds c.args.self.now (record c.args.self.now { written = c.take.new.self }) _ _ _ (c.in_ok-take.ensures (take len bytes) note))
 
 pub returns-then-moved-limit-clause-written : goal.returns-then-moved-limit-clause-written
 returns-then-moved-limit-clause-written c =
     let own = c.position_len-moved.ensures in
     let (list, final, moved, seq, acts, is) = own.own (omega arith) in
     let front = take c.position_len-moved.result c.args.bytes.now in
-    front_known c.args.limit c.position_len-moved.result c.args.bytes.now c.args.self.now _ c.args.out.now c.pass.new.out (list, final, seq) (omega arith) own.within
-    (c.in_ok-pass.ensures _ (shortened_one front (list, final, seq)))
+    front_known Holds c.args.limit c.position_len-moved.result c.args.bytes.now c.args.self.now _ c.args.out.now c.pass.new.out (list, final, seq) (omega arith)
+    own.within
+    (adds c.args.self.now (record c.args.self.now { written = c.pass.new.self }) _ _ _ (c.in_ok-pass.ensures _ (shortened_one front (list, final, seq))))

@@ -1,6 +1,5 @@
-use Rattle.std.proofs.{Common.◌≡◌, Common.length, Common.take, Common.sym, Common.subst, Common.arith, lemmas.List.take_all, lemmas.Result.on_ok_weaker}
-use Rattle.csicodec_compact.specs.Runs.{IsShortened}
-use Rattle.csicodec_compact.proofs.Beside.{adds, shortened_span}
+use Rattle.std.proofs.Common.{take_all, ◌≡◌, length, take, sym, subst, arith}
+use Rattle.csicodec_compact.proofs.{Beside.adds, Beside.shortened_span, Common.on_ok_weaker, Common.IsShortened}
 use Rattle.csicodec_compact.proofs.shortener.ShortenerWriteSpansShort.other.Goals as goal
 
 pub returns : goal.returns

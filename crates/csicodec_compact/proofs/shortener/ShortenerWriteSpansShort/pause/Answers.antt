@@ -1,6 +1,5 @@
-use Rattle.std.proofs.{Common.[], lemmas.Result.on_ok_weaker}
-use Rattle.csicodec_compact.specs.Private.Steps.{closing}
-use Rattle.csicodec_compact.proofs.Beside.{adds, extends_close}
+use Rattle.std.proofs.Common.{[]}
+use Rattle.csicodec_compact.proofs.{Beside.adds, Beside.extends_close, Common.on_ok_weaker, Common.closing}
 use Rattle.csicodec_compact.proofs.shortener.ShortenerWriteSpansShort.pause.Goals as goal
 
 pub returns-clause-written : goal.returns-clause-written

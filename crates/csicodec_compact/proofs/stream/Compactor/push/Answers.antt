@@ -1,10 +1,10 @@
 use Rattle.std.proofs.Common.{◌≡◌, ◌<◌, ◌⊎◌, ◌++◌, ℕ, List, [], length, ap, sym, subst}
 use Rattle.csicodec_spans.specs.Parts.{IsUnsure}
-use Rattle.csicodec_spans.proofs.Kept.{unsure_short}
-use Rattle.csicodec_filter.specs.{Filter.Held, Written.Adds, Written.Appends, Written.with_more}
-use Rattle.csicodec_compact.specs.{Private.Steps.Holds, Runs.Open, Runs.PassesShort, declared.stream.Compactor.TheInside.Inside}
-use Rattle.csicodec_compact.specs.{declared.shortener.Shortener.Shortener}
-use Rattle.csicodec_compact.proofs.Beside.{passes_over}
+use Rattle.csicodec_spans.proofs.Once.{unsure_short}
+use Rattle.csicodec_transform.specs.Transform.{Adds}
+use Rattle.csicodec_filter.specs.{Filter.Held, Written.Appends, Written.with_more}
+use Rattle.csicodec_compact.specs.{Runs.Open, Runs.PassesShort, declared.stream.Compactor.TheInside.Inside, declared.shortener.Shortener.Shortener}
+use Rattle.csicodec_compact.proofs.{Beside.passes_over, Common.Holds}
 use Rattle.csicodec_compact.proofs.stream.Compactor.push.Goals as goal
 
 pub returns-clause-passes : goal.returns-clause-passes

@@ -1,7 +1,7 @@
 use Rattle.std.proofs.Common.{◌≡◌, ◌∷◌, ℕ, List, false, drop, sym, ap, subst, ◌∙◌}
 use Rattle.csicodec_tokens.specs.Sequence.{Seq}
 use Rattle.csicodec_events.specs.Events.{before_stop, from_stop, is_control, is_final, without_controls}
-use Rattle.csicodec_events.proofs.{Steps.next_place, Stops.csi_told, Stops.no_final, Stops.no_sequence, Stops.wrong_told}
+use Rattle.csicodec_events.proofs.Stops.{next_place, csi_told, no_final, no_sequence, wrong_told}
 use Rattle.csicodec_events.proofs.event.Events.at_byte.Goals as goal
 
 pub wrong-requires-clause-why : goal.wrong-requires-clause-why

@@ -1,4 +1,4 @@
-use Rattle.std.proofs.{Common.length, Common.ap, Common.sym, Common.◌∙◌, Common.arith, lemmas.List.length-drop}
+use Rattle.std.proofs.Common.{length, ap, sym, ◌∙◌, arith, length-drop}
 use Rattle.csicodec_events.specs.declared.event.Events.{Events}
 use Rattle.csicodec_events.proofs.Forms.{front}
 use Rattle.csicodec_events.proofs.event.Events.next_in.Goals as goal

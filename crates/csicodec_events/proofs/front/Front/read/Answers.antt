@@ -1,7 +1,7 @@
 use Rattle.std.proofs.Common.{◌≡◌, ◌≤◌, ℕ, List, ◌+◌, ◌-◌, length, length-append, take, sym, ap, subst, ◌∙◌, arith}
 use Rattle.csicodec_tokens.specs.Sequence.{Reads}
 use Rattle.csicodec_events.specs.{Events.stop, Front.Seen}
-use Rattle.csicodec_events.proofs.Costs.{fault_cost, read_cost}
+use Rattle.csicodec_events.proofs.Stops.{fault_cost, read_cost}
 use Rattle.csicodec_events.proofs.front.Front.read.Goals as goal
 
 pub returns-in-Some-clause-costs : goal.returns-in-Some-clause-costs

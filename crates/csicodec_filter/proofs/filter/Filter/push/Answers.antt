@@ -1,4 +1,4 @@
-use Rattle.csicodec_spans.proofs.Kept.{unsure_short}
+use Rattle.csicodec_spans.proofs.Once.{unsure_short}
 use Rattle.csicodec_filter.proofs.Written.{passes_by, same_by}
 use Rattle.csicodec_filter.proofs.filter.Filter.push.Goals as goal
 

@@ -1,6 +1,6 @@
 use Rattle.std.proofs.{Common.◌≡◌, Common.length, Common.length-take-le, Common.refl, Common.take, lemmas.Simd.zip2_of_maps, lemmas.Simd.zip2_splat}
+use Rattle.csicodec_html.proofs.Common.{stands}
 use Rattle.csicodec_tokens.proofs.Lanes.{counted}
-use Rattle.csicodec_html.specs.Private.Rule.{stands}
 use Rattle.csicodec_html.proofs.page.StandingByteClass.lanes.Goals as goal
 
 pub returns : goal.returns

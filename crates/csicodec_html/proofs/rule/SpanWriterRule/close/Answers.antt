@@ -1,5 +1,5 @@
-use Rattle.std.proofs.{Common.◌≡◌, Common.◌++◌, Common.append_assoc, Common.refl, lemmas.Grind.flat_map-append, lemmas.Result.on_ok_weaker}
-use Rattle.csicodec_html.specs.Page.{closing, shuts, piece_texts}
+use Rattle.std.proofs.Common.{◌≡◌, ◌++◌, append_assoc, refl}
+use Rattle.csicodec_html.proofs.Common.{flat_map-append, on_ok_weaker, closing, shuts, piece_texts}
 use Rattle.csicodec_html.proofs.rule.SpanWriterRule.close.Goals as goal
 
 pub returns : goal.returns

@@ -1,6 +1,5 @@
 use Rattle.std.proofs.Common.{◌∙◌, ap, sym}
-use Rattle.csicodec_html.specs.Page.{Setting}
-use Rattle.csicodec_html.proofs.Leads.{gives_none}
+use Rattle.csicodec_html.proofs.{Common.Setting, Paired.gives_none}
 use Rattle.csicodec_html.proofs.rule.SpanWriterRule.reads_strings.Goals as goal
 
 pub returns : goal.returns

@@ -1,8 +1,7 @@
 use Rattle.std.proofs.Common.{◌∙◌, drop, map, ap, arith, subst}
-use Rattle.csicodec_parser.specs.ActionOf.{action_of}
-use Rattle.csicodec_clean.specs.Links.{begun}
-use Rattle.csicodec_html.specs.{Look.behind_all, Look.sets_any, Page.Setting, Page.setting, Page.turn, Page.piece_texts, Private.Rule.turns}
+use Rattle.csicodec_html.proofs.Common.{action_of, behind_all, sets_any, Setting, setting, turn, piece_texts, turns}
 use Rattle.csicodec_html.proofs.Recalled.{appended, given, read}
+use Rattle.csicodec_clean.specs.Links.{begun}
 use Rattle.csicodec_html.proofs.rule.SpanWriterRule.rewrite.Goals as goal
 
 pub keep-requires-clause-turn : goal.keep-requires-clause-turn

@@ -1,7 +1,6 @@
 use Rattle.std.proofs.Common.{take, subst}
+use Rattle.csicodec_html.proofs.{Common.Setting, Common.setting, Common.turns, Recalled.given}
 use Rattle.csicodec_clean.specs.Links.{begun}
-use Rattle.csicodec_html.specs.{Page.Setting, Page.setting, Private.Rule.turns}
-use Rattle.csicodec_html.proofs.Recalled.{given}
 use Rattle.csicodec_html.proofs.rule.SpanWriterRule.take_at_once.Goals as goal
 
 pub returns-clause-taken : goal.returns-clause-taken

@@ -1,8 +1,7 @@
-use Rattle.std.proofs.{Common.◌∙◌, Common.[], Common.ap, Common.append-nil, Common.sym, Common.subst, lemmas.Result.on_ok_weaker}
-use Rattle.std.specs.Prelude.{if◌then◌else◌}
-use Rattle.csicodec_clean.specs.{Addresses.led, Links.begun, Links.ends_at}
-use Rattle.csicodec_html.specs.{Page.Setting, Page.setting, Page.switch, Private.Rule.pieces_bytes, Private.Rule.turns}
-use Rattle.csicodec_html.proofs.Leads.{byte_gives, gives_none}
+use Rattle.std.proofs.Common.{◌∙◌, [], ap, append-nil, sym, subst, if◌then◌else◌}
+use Rattle.csicodec_html.proofs.Common.{on_ok_weaker, led, ends_at, Setting, setting, switch, pieces_bytes, turns}
+use Rattle.csicodec_html.proofs.Paired.{byte_gives, gives_none}
+use Rattle.csicodec_clean.specs.Links.{begun}
 use Rattle.csicodec_html.proofs.rule.SpanWriterRule.take_byte.Goals as goal
 
 pub returns-then-not-self : goal.returns-then-not-self

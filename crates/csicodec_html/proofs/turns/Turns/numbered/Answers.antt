@@ -1,5 +1,5 @@
 use Rattle.std.proofs.{Common.◌<◌, Common.length, Common.sym, Common.subst, Common.arith, lemmas.List.Elements.All-get_or}
-use Rattle.csicodec_html.specs.Turns.{IsTurn}
+use Rattle.csicodec_html.proofs.Common.{IsTurn}
 use Rattle.csicodec_html.proofs.turns.Turns.numbered.Goals as goal
 
 pub returns-then-fits : goal.returns-then-fits

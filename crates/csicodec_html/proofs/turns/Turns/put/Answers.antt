@@ -1,5 +1,5 @@
+use Rattle.csicodec_html.proofs.Common.{IsTurn}
 use Rattle.std.proofs.lemmas.List.Elements.{All-push, All-set}
-use Rattle.csicodec_html.specs.Turns.{IsTurn}
 use Rattle.csicodec_html.proofs.turns.Turns.put.Goals as goal
 
 pub returns-then-at-len : goal.returns-then-at-len

@@ -1,9 +1,8 @@
-use Rattle.std.proofs.{Common.◌++◌, Common.[], Common.Err, Common.take, Common.refl, Common.arith, KnownBytes.Appends-nil, KnownBytes.Appends-trans}
-use Rattle.std.proofs.{KnownBytes.Consumes-nil, KnownBytes.Consumes-trans}
-use Rattle.csicodec_transform.proofs.Sent.{none_more}
+use Rattle.csicodec_inspect.proofs.Common.{◌++◌, [], Err, take, refl, arith, Appends-nil, Appends-trans, Consumes-nil, Consumes-trans}
 use Rattle.csicodec_inspect.proofs.Assembled.{ended_run, ends, goes_on, stopped, stopped_behind, takes}
-use Rattle.csicodec_transform.specs.declared.error.RunError.TheVariants as error
-use Rattle.csicodec_command.specs.declared.failure.Failure.TheVariants as failure
+use Rattle.csicodec_transform.proofs.Sent.{none_more}
+use Rattle.csicodec_transform.specs.declared.error.RunError.{RunError}
+use Rattle.csicodec_command.specs.declared.failure.Failure.{Failure}
 use Rattle.csicodec_inspect.proofs.assemble.AssemblyAlone.work.Goals as goal
 
 pub loop-init : goal.loop-init
@@ -23,7 +22,7 @@ returns-in_err-len g c =
 pub returns : goal.returns
 returns g c =
     let (read, sure, consumed, stands, appended) = c.loop.invariant in
-    stopped (Err (failure.Run error.Read)) error.Read read sure _ _ _ _ _ _ _ _ consumed stands appended refl
+    stopped (Err (Failure.Run RunError.Read)) RunError.Read read sure _ _ _ _ _ _ _ _ consumed stands appended refl
 
 pub returns-then-len-eq0 : goal.returns-then-len-eq0
 returns-then-len-eq0 g c =

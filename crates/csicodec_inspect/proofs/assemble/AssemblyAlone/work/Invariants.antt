@@ -1,6 +1,4 @@
-use Rattle.std.proofs.Common.{ℕ, List}
-use Rattle.std.specs.Io.KnownBytes.{Appends, Consumes}
-use Rattle.csicodec_inspect.proofs.Assembled.{Stands}
+use Rattle.csicodec_inspect.proofs.{Common.ℕ, Common.List, Common.Appends, Common.Consumes, Assembled.Stands}
 use Rattle.csicodec_inspect.proofs.assemble.AssemblyAlone.work.Given as goal
 
 -- what was read gives what was written, as far as its lines are over

@@ -1,7 +1,5 @@
-use Rattle.std.proofs.{Common.◌≡◌, Common.ℕ, Common.true, Common.subst, Common.sym, Common.arith, lemmas.Bool.Decides.nat_tests}
-use Rattle.csicodec_clean.specs.{Bytes.IsPlainByte, Shown.IsBehind}
+use Rattle.csicodec_inspect.proofs.Common.{◌≡◌, ℕ, true, subst, sym, arith, nat_tests, IsPlainByte, IsBehind, seen}
 use Rattle.csicodec_clean.proofs.Told.{behind_ascii}
-use Rattle.csicodec_inspect.specs.Visible.{seen}
 use Rattle.csicodec_inspect.proofs.visible.VisibleTextCharClass.behind.Goals as goal
 
 plain_seen : (b : ℕ) → IsPlainByte b → seen b ≡ true

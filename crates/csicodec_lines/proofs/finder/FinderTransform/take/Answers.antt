@@ -1,7 +1,6 @@
 use Rattle.std.proofs.{Common.◌≡◌, Common.◌-◌, Common.drop, Common.length, Common.refl, Common.arith, lemmas.Grind.common_steps}
 use Rattle.csicodec_filter.proofs.Written.{appends_none, left_is, left_within}
-use Rattle.csicodec_lines.specs.{declared.finder.Finder.Finder, Private.Finder.Finds}
-use Rattle.csicodec_lines.proofs.Going.{takes}
+use Rattle.csicodec_lines.proofs.{Places.takes, Common.Finder, Common.Finds}
 use Rattle.csicodec_lines.proofs.finder.FinderTransform.take.Goals as goal
 
 pub returns-in_default-clause-passes : goal.returns-in_default-clause-passes

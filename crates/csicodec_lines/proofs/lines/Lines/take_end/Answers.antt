@@ -1,7 +1,5 @@
-use Rattle.std.proofs.{Common.◌++◌, Common.◌∙◌, Common.[], Common.◌∷◌, Common.refl, Common.sym, Common.ap, Common.append_assoc, Common.append-nil}
-use Rattle.std.proofs.{lemmas.Bool.true≢false}
-use Rattle.csicodec_clean.specs.Shown.{run_as}
-use Rattle.csicodec_lines.proofs.Taken.{goes_joining, goes_over}
+use Rattle.std.proofs.Common.{◌++◌, ◌∙◌, [], ◌∷◌, refl, sym, ap, append_assoc, append-nil, true≢false}
+use Rattle.csicodec_lines.proofs.{Taken.goes_joining, Taken.goes_over, Common.run_as}
 use Rattle.csicodec_lines.proofs.lines.Lines.take_end.Goals as goal
 
 pub returns-then-joins : goal.returns-then-joins

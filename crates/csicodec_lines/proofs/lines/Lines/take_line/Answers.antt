@@ -1,8 +1,7 @@
 use Rattle.std.proofs.Common.{◌∙◌, [], ◌∷◌, sym, subst}
-use Rattle.csicodec_transform.proofs.Sent.{adds_on}
-use Rattle.csicodec_clean.proofs.Bytes.{front_in}
-use Rattle.csicodec_lines.specs.{Private.Cut.is_within, Stream.Passes}
-use Rattle.csicodec_lines.proofs.Ends.{BeginsWithEnd, begins_with_end, whole}
+use Rattle.csicodec_clean.proofs.Told.{front_in}
+use Rattle.csicodec_lines.specs.Stream.{Passes}
+use Rattle.csicodec_lines.proofs.{Taken.BeginsWithEnd, Taken.begins_with_end, Taken.whole, Common.adds_on, Common.is_within}
 use Rattle.csicodec_lines.proofs.lines.Lines.take_line.Goals as goal
 
 pub take_within-requires : goal.take_within-requires

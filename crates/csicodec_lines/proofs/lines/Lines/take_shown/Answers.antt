@@ -1,9 +1,8 @@
-use Rattle.std.proofs.Common.{◌≡◌, ◌<◌, ◌≤◌, ◌++◌, ◌∙◌, ℕ, [], encode_utf8_all, length, take, refl, rules, sym, ap, append-nil}
+use Rattle.std.proofs.Common.{◌≡◌, ◌≤◌, ◌++◌, ◌∙◌, ℕ, [], encode_utf8_all, length, take, refl, rules, sym, ap, append-nil}
 use Rattle.std.proofs.Math.Seq.{take-append_seam, take-length}
-use Rattle.csicodec_transform.proofs.Sent.{adds_none}
-use Rattle.csicodec_clean.specs.Shown.{run_as, written}
+use Rattle.csicodec_clean.specs.Shown.{written}
 use Rattle.csicodec_lines.specs.Stream.{Passes}
-use Rattle.csicodec_lines.proofs.{Copied.goes_shown, Copied.is_blank, Copied.unchanged, Taken.goes_same}
+use Rattle.csicodec_lines.proofs.{Copied.goes_shown, Copied.is_blank, Copied.unchanged, Taken.goes_same, Common.adds_none, Common.run_as}
 use Rattle.csicodec_lines.proofs.lines.Lines.take_shown.Goals as goal
 
 pub returns-then-front-lt-LANES : goal.returns-then-front-lt-LANES
@@ -24,7 +23,6 @@ returns g c =
     let before = c.args.out.now.items in
     let after = c.finish.new.out.items in
     let front = c.split_shown.result.0.now in
-    let some : 0 < length front = search rules in
     let shown = c.split_shown.ensures.shown in
     let text = written g.R.Rule.gives.writing shown.0 in
     let whole : take (length front) front ≡ encode_utf8_all shown.0 = take-length front ∙ shown.3 in
@@ -35,7 +33,7 @@ returns g c =
       c.split_shown.ensures.whole,
       (
         text,
-        goes_shown g.R.Anew.begins g.R.Rule.gives g.R.Rule.closes g.met.R.Rule.newline old _ front shown some blank
+        goes_shown g.R.Anew.begins g.R.Rule.gives g.R.Rule.closes g.met.R.Rule.newline old _ front shown blank
             (record { line = c.begin.ensures; returned = c.if-self.false; closes = blank.closes }) refl,
         c.in_ok-append_text.ensures shown.0 shown.2 (search rules) ∙ ap (λ t. t ++ text) same,
       ),

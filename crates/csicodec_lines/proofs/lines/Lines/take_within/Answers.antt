@@ -1,7 +1,6 @@
 use Rattle.std.proofs.Common.{◌<◌, length, refl, rules}
-use Rattle.csicodec_transform.proofs.Sent.{adds_all, adds_none}
 use Rattle.csicodec_lines.specs.Stream.{Passes}
-use Rattle.csicodec_lines.proofs.Taken.{goes_within}
+use Rattle.csicodec_lines.proofs.{Taken.goes_within, Common.adds_all, Common.adds_none}
 use Rattle.csicodec_lines.proofs.lines.Lines.take_within.Goals as goal
 
 pub returns-then-is_empty : goal.returns-then-is_empty

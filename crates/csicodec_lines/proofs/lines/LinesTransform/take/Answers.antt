@@ -1,6 +1,6 @@
 use Rattle.std.proofs.Common.{rules}
-use Rattle.csicodec_transform.proofs.Sent.{adds_all, adds_none, adds_on}
 use Rattle.csicodec_lines.specs.Stream.{Passes}
+use Rattle.csicodec_lines.proofs.Common.{adds_all, adds_none, adds_on}
 use Rattle.csicodec_lines.proofs.lines.LinesTransform.take.Goals as goal
 
 pub loop-rest-init : goal.loop-rest-init

@@ -1,5 +1,6 @@
 use Rattle.std.proofs.Common.{length}
-use Rattle.csicodec_lines.specs.{Private.Cut.AddsFront, Stream.Passes}
+use Rattle.csicodec_transform.specs.Transform.{AddsFront}
+use Rattle.csicodec_lines.specs.Stream.{Passes}
 use Rattle.csicodec_lines.proofs.lines.LinesTransform.take.Given as goal
 
 -- the lines in front were taken

@@ -1,5 +1,5 @@
 use Rattle.std.proofs.Common.{[], refl, rules, sym, append-nil}
-use Rattle.csicodec_lines.proofs.Parts.{no_text, other_kind}
+use Rattle.csicodec_lines.proofs.Places.{no_text, other_kind}
 use Rattle.csicodec_lines.proofs.search.CutSearch.take.Goals as goal
 
 pub returns : goal.returns

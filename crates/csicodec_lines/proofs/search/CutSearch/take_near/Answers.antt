@@ -1,6 +1,6 @@
 use Rattle.std.proofs.Common.{◌++◌, ◌∙◌, ap, sym, append_assoc, true}
-use Rattle.csicodec_lines.specs.Cuts.{behind as cut_behind, behind_byte, cuts, each_of, line_of, told}
-use Rattle.csicodec_lines.proofs.Parts.{one_told}
+use Rattle.csicodec_lines.specs.Cuts.{behind as cut_behind, behind_byte, line_of}
+use Rattle.csicodec_lines.proofs.{Places.one_told, Common.cuts, Common.each_of, Common.told}
 use Rattle.csicodec_lines.proofs.search.CutSearch.take_near.Goals as goal
 
 pub loop-byte-preserved-in_ok-append_line : goal.loop-byte-preserved-in_ok-append_line

@@ -1,5 +1,6 @@
 use Rattle.std.proofs.Common.{◌≡◌, ◌++◌, ℕ, List, length, true}
-use Rattle.csicodec_lines.specs.{Cuts.Found, Cuts.behind, Cuts.cuts, Cuts.each_of, Cuts.told, Private.Search.IsAt}
+use Rattle.csicodec_lines.specs.Cuts.{Found, behind}
+use Rattle.csicodec_lines.proofs.Common.{cuts, each_of, told, IsAt}
 use Rattle.csicodec_lines.proofs.search.CutSearch.take_near.Given as goal
 
 -- what was told, and what is to be told of the rest, is what is told of all

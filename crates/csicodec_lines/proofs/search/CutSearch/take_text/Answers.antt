@@ -1,7 +1,6 @@
 use Rattle.std.proofs.{Common.◌≡◌, Common.true, Common.◌++◌, Common.◌∙◌, Common.length, Common.ap, Common.sym, Common.subst, Common.arith}
 use Rattle.std.proofs.{Common.take-append-drop, lemmas.Result.on_ok_weaker}
-use Rattle.csicodec_lines.specs.{Cuts.told, Private.Search.IsAt, Private.Search.passed}
-use Rattle.csicodec_lines.proofs.Parts.{skip, skipped}
+use Rattle.csicodec_lines.proofs.{Places.skip, Places.skipped, Common.told, Common.IsAt, Common.passed}
 use Rattle.csicodec_lines.proofs.search.CutSearch.take_text.Goals as goal
 
 pub returns : goal.returns

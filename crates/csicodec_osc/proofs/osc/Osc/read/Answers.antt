@@ -1,6 +1,6 @@
 use Rattle.std.proofs.Common.{◌∙◌, arith}
 use Rattle.csicodec_osc.specs.declared.command.TheConstants.{COMMANDS}
-use Rattle.csicodec_osc.proofs.Table.{next-read, none-left, none-says, says}
+use Rattle.csicodec_osc.proofs.Reading.{next-read, none-left, none-says, says}
 use Rattle.csicodec_osc.proofs.osc.Osc.read.Goals as goal
 
 pub returns-in-Some : goal.returns-in-Some

@@ -1,7 +1,4 @@
-use Rattle.std.proofs.{Common.◌≡◌, Common.leb, Common.cond, Common.length, Common.length-take-le, Common.refl, Common.take, lemmas.Simd.zip2_of_maps}
-use Rattle.std.proofs.{lemmas.Simd.zip2_splat, lemmas.Simd.zip2_splat_left}
-use Rattle.csicodec_tokens.proofs.Lanes.{counted}
-use Rattle.csicodec_overwrite.specs.Private.Plain.{line_byte}
+use Rattle.csicodec_overwrite.proofs.Common.{◌≡◌, leb, cond, length, length-take-le, refl, take, zip2_of_maps, zip2_splat, zip2_splat_left, counted, line_byte}
 use Rattle.csicodec_overwrite.proofs.ascii.InLineByteClass.lanes.Goals as goal
 
 pub returns : goal.returns

@@ -1,6 +1,4 @@
-use Rattle.std.proofs.{Common.◌≡◌, Common.length, Common.length-take-le, Common.refl, Common.take, lemmas.Simd.zip2_splat}
-use Rattle.csicodec_tokens.proofs.Lanes.{counted}
-use Rattle.csicodec_overwrite.specs.Private.Plain.{untabbed_byte}
+use Rattle.csicodec_overwrite.proofs.Common.{◌≡◌, length, length-take-le, refl, take, zip2_splat, counted, untabbed_byte}
 use Rattle.csicodec_overwrite.proofs.ascii.UntabbedByteClass.lanes.Goals as goal
 
 pub returns : goal.returns

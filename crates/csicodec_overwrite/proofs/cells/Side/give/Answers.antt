@@ -1,7 +1,5 @@
-use Rattle.std.proofs.{Common.◌≡◌, Common.◌++◌, Common.◌+◌, Common.◌-◌, Common.◌∙◌, Common.List, Common.ap, Common.arith, Common.drop, Common.length, Common.[]}
-use Rattle.std.proofs.{Common.reverse, Common.take, lemmas.List.length-reverse}
-use Rattle.csicodec_overwrite.proofs.{Common.Cell, Moved.columns_onto, Moved.columns_parts, Moved.far_is, Moved.given_are}
-use Rattle.csicodec_overwrite.specs.Cells.{columns, onto}
+use Rattle.csicodec_overwrite.proofs.Common.{◌≡◌, ◌++◌, ◌+◌, ◌-◌, ◌∙◌, List, ap, arith, drop, length, [], reverse, take, length-reverse, Cell, columns, onto}
+use Rattle.csicodec_overwrite.proofs.Moved.{columns_onto, columns_parts, far_is, given_are}
 use Rattle.csicodec_overwrite.proofs.cells.Side.give.Goals as goal
 
 pub overflow_sub-kept : goal.overflow_sub-kept
@@ -14,14 +12,9 @@ pub invariant_of-self : goal.invariant_of-self
 invariant_of-self c =
     let n = c.args.count in
     let k : c.len.result - n ≡ length c.self.inside.cells.items - n = omega arith in
-    omega (
-      arith,
-      c.self.invariant,
-      ap columns c.self.view_is,
-      c.requires.wide,
-      columns_parts n c.args.self.now,
-      ap columns (ap reverse c.truncate.ensures.items ∙ far_is c.self.inside.cells.items c.args.self.now [] [] n (c.len.result - n) c.self.view_is c.requires.few k),
-    )
+    let left = ap reverse c.truncate.ensures.items
+    ∙ far_is c.self.inside.cells.items c.args.self.now [] [] n (c.len.result - n) c.self.view_is c.requires.few k in
+    omega (arith, ap columns c.self.view_is, columns_parts n c.args.self.now, ap columns left)
 
 pub invariant_of-to-2 : goal.invariant_of-to-2
 invariant_of-to-2 c =

@@ -1,5 +1,4 @@
-use Rattle.std.proofs.Common.{◌≡◌}
-use Rattle.csicodec_overwrite.specs.Private.Sides.{put_many}
+use Rattle.csicodec_overwrite.proofs.Common.{◌≡◌, put_many}
 use Rattle.csicodec_overwrite.proofs.cells.Side.push_glyphs.Given as goal
 
 -- so many have come

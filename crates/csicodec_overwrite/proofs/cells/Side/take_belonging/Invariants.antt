@@ -1,5 +1,4 @@
-use Rattle.std.proofs.Common.{◌≡◌, length}
-use Rattle.csicodec_overwrite.specs.Cells.{outside}
+use Rattle.csicodec_overwrite.proofs.Common.{◌≡◌, length, outside}
 use Rattle.csicodec_overwrite.proofs.cells.Side.take_belonging.Given as goal
 
 -- some that belong are taken

@@ -1,5 +1,4 @@
-use Rattle.std.proofs.Common.{◌≡◌, length}
-use Rattle.csicodec_overwrite.specs.Cells.{without}
+use Rattle.csicodec_overwrite.proofs.Common.{◌≡◌, length, without}
 use Rattle.csicodec_overwrite.proofs.cells.Side.take_columns.Given as goal
 
 -- what is left to take of the others

@@ -1,5 +1,4 @@
-use Rattle.std.proofs.Common.{◌≡◌, length}
-use Rattle.csicodec_overwrite.specs.Cells.{trimmed}
+use Rattle.csicodec_overwrite.proofs.Common.{◌≡◌, length, trimmed}
 use Rattle.csicodec_overwrite.proofs.cells.Side.trim.Given as goal
 
 -- some that are empty are taken

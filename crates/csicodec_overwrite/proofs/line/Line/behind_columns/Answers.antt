@@ -1,6 +1,5 @@
-use Rattle.std.proofs.Common.{false, ◌≡◌, ◌-◌, ◌∙◌, ap, rules, subst, OnOk}
-use Rattle.csicodec_overwrite.proofs.{Common.Line, Moved.from_there, Moved.given_all, Moved.passed_left}
-use Rattle.csicodec_overwrite.specs.{Cells.columns, Cells.onto, Line.forward, Line.line, Private.Sides.passed, Reading.most}
+use Rattle.csicodec_overwrite.proofs.Common.{false, ◌≡◌, ◌-◌, ◌∙◌, ap, rules, subst, OnOk, Line, columns, onto, forward, line, passed, most}
+use Rattle.csicodec_overwrite.proofs.Moved.{from_there, given_all, passed_left}
 use Rattle.csicodec_overwrite.proofs.line.Line.behind_columns.Goals as goal
 
 pub returns : goal.returns

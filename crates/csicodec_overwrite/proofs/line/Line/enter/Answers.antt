@@ -1,8 +1,5 @@
-use Rattle.std.proofs.Common.{[], ◌∷◌, ◌++◌, ◌≡◌, ◌∙◌, List, ap, cond, rules, subst, sym, true, nat_lt}
-use Rattle.std.specs.List.{list_all}
-use Rattle.csicodec_overwrite.proofs.{Common.Cell, Rows.entered_long, Rows.standing_row}
-use Rattle.csicodec_overwrite.specs.{Cells.is_blank, Cells.onto, Private.Row.Does, Private.Row.settled, Reading.most, Line.Done, Line.alters, Line.lines_of}
-use Rattle.csicodec_overwrite.specs.{Line.widest, Line.size, Paint.texts_of}
+use Rattle.csicodec_overwrite.proofs.Common.{[], ◌∷◌, ◌++◌, ◌≡◌, ◌∙◌, List, ap, cond, rules, subst, sym, true, nat_lt, list_all, Cell, is_blank, onto, Does, settled, most, Done, alters, lines_of, widest, size, texts_of}
+use Rattle.csicodec_overwrite.proofs.Rows.{entered_long, standing_row}
 use Rattle.csicodec_overwrite.proofs.line.Line.enter.Goals as goal
 
 pub returns-then-is_long : goal.returns-then-is_long

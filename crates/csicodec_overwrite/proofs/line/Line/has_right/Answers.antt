@@ -1,6 +1,4 @@
-use Rattle.std.proofs.Common.{arith}
-use Rattle.csicodec_overwrite.proofs.{Common.nat_tests, Rows.settled_right}
-use Rattle.csicodec_overwrite.specs.Reading.{most}
+use Rattle.csicodec_overwrite.proofs.{Common.arith, Common.nat_tests, Common.most, Rows.settled_right}
 use Rattle.csicodec_overwrite.proofs.line.Line.has_right.Goals as goal
 
 pub returns-then-count-right : goal.returns-then-count-right

@@ -1,6 +1,5 @@
-use Rattle.std.proofs.Common.{◌≤◌, ◌+◌, ◌∙◌, ap, arith, sym}
-use Rattle.csicodec_overwrite.proofs.{Common.nat_tests, Rows.settled_again}
-use Rattle.csicodec_overwrite.specs.{Cells.columns, Line.behind_columns, Private.Row.settled, Reading.most}
+use Rattle.csicodec_overwrite.proofs.Common.{◌≤◌, ◌+◌, ◌∙◌, ap, arith, sym, nat_tests, columns, behind_columns, settled, most}
+use Rattle.csicodec_overwrite.proofs.Rows.{settled_again}
 use Rattle.csicodec_overwrite.proofs.line.Line.pad.Goals as goal
 
 pub returns-then-missing-eq0 : goal.returns-then-missing-eq0

@@ -1,6 +1,5 @@
-use Rattle.std.proofs.Common.{[], ◌∷◌, ◌∙◌, List, ℕ, ap, arith, length, length-append, subst, sym, Option, Some}
-use Rattle.csicodec_overwrite.proofs.{Common.Cell, Common.Line, Straight.last_is, Straight.run_all, Straight.run_none}
-use Rattle.csicodec_overwrite.specs.{Line.line, Private.Plain.PutsRun, Private.Plain.last_of, Reading.most}
+use Rattle.csicodec_overwrite.proofs.Common.{[], ◌∷◌, ◌∙◌, List, ℕ, ap, arith, length, length-append, subst, sym, Option, Some, Cell, Line, line, PutsRun, last_of, most}
+use Rattle.csicodec_overwrite.proofs.Stays.{last_is, run_all, none_run}
 use Rattle.csicodec_overwrite.proofs.line.Line.put_run.Goals as goal
 
 pub returns : goal.returns
@@ -10,16 +9,10 @@ returns c =
     let text = c.args.text.now in
     let run = c.split_run.result.0.now in
     let rest = c.split_run.result.1.now in
-    let start = subst (λ (m : Line). PutsRun most pen l text text pen m) (ap (line l.left) c.requires.last) (run_none most pen l text c.requires.plain) in
+    let start = subst (λ (m : Line). PutsRun most pen l text text pen m) (ap (line l.left) c.requires.last) (none_run most pen l text c.requires.plain) in
     let all = run_all most pen l text rest run pen l.left (subst (λ (t : List ℕ). PutsRun most pen l text t pen (line l.left [])) c.split_run.ensures.parts start)
     c.split_run.ensures.untabbed c.requires.over
-    (omega (
-      arith,
-      c.split_run.ensures.room,
-      c.room.ensures,
-      ap length c.in-Some.ensures.cases.0,
-      length-append c.in-Some._front.now (c.in-Some.last.now ∷ []),
-    )) in
+    (omega (arith, ap length c.in-Some.ensures.cases.0, length-append c.in-Some._front.now (c.in-Some.last.now ∷ []))) in
     let last = ap (last_of pen.last) c.in-Some.ensures.cases.0 ∙ last_is pen.last c.in-Some._front.now c.in-Some.last.now ∙ ap Some (sym c.from.ensures) in
     subst (λ (t : Option ℕ). PutsRun most pen l text rest (record pen { last = t }) (line c.push_run.new.self l.right)) last
     (subst (λ (m : Line). PutsRun most pen l text rest (record pen { last = last_of pen.last run }) m)

@@ -1,25 +1,22 @@
-use Rattle.std.proofs.Common.{subst, ◌≡◌, ◌<◌, ◌-◌, ◌++◌, ◌==◌, [], List, ℕ, append-nil, false, ap, refl, sym, ◌∙◌, arith, rules, Option}
-use Rattle.csicodec_overwrite.proofs.{Common.nat_tests, Common.Line, Common.Marking, Moved.repeat_on, Moved.step_text, Repeated.repeat_some}
-use Rattle.csicodec_overwrite.proofs.{Repeated.width_same}
-use Rattle.csicodec_overwrite.specs.{Paint.texts_of, Cells.glyph, Reading.most, Line.Done, Line.done, Line.put, Line.repeat, Line.repeated, Private.Row.Does}
+use Rattle.csicodec_overwrite.proofs.Common.{subst, suc, ◌+◌, ◌≡◌, ◌<◌, ◌-◌, ◌==◌, [], List, ℕ, append-nil, false, ap, refl, sym, ◌∙◌, arith, rules, Option, nat_tests, Line, Marking, glyph, most, Done, done, put, repeat, repeated, Does}
+use Rattle.csicodec_overwrite.proofs.{Moved.repeat_on, Moved.step_text, Repeated.repeat_some, Repeated.width_same}
 use Rattle.csicodec_overwrite.proofs.line.Line.repeat.Goals as goal
 
-pub loop-left-preserved : goal.loop-left-preserved
-loop-left-preserved c =
-    let l = c.loop-left in
-    let marking = c.args.marking.now in
+pub loop-i-preserved : goal.loop-i-preserved
+loop-i-preserved c =
+    let l = c.loop-i in
+    let n = c.args.count in
     let inserts = c.args.pen.now.inserts in
     let g = glyph c.in-Some.char c.args.pen.now.look in
     let d = put most inserts g l.self in
-    let whole = c.args.out.now.items ++ texts_of marking (repeat most inserts g c.args.count c.args.self.now).lines in
-    let some : 0 < c.loop-left.left = omega arith in
-    let on = repeat_on most inserts g l.left l.self some in
-    record {
-      line = ap (λ m. (repeat most inserts g (l.left - 1) m).line) c.in_ok-put.ensures.line ∙ ap (λ (x : Done). x.line) (sym on) ∙ l.invariant.line;
-      text = ap (λ m. c.put.new.out.items ++ texts_of marking (repeat most inserts g (l.left - 1) m).lines) c.in_ok-put.ensures.line
-          ∙ step_text marking l.out.items c.put.new.out.items d.lines (repeat most inserts g (l.left - 1) d.line).lines whole c.in_ok-put.ensures.text
-          (ap (λ (x : Done). l.out.items ++ texts_of marking x.lines) (sym on) ∙ l.invariant.text);
-    }
+    let more : n - l._i ≡ suc (n - (l._i + 1)) = omega arith in
+    let on = repeat_on most inserts g (n - l._i) (n - (l._i + 1)) l.self more in
+    rw c.in_ok-put.ensures.line (record {
+      line = rw on at l.invariant.line;
+      text = step_text c.args.marking.now l.out.items c.put.new.out.items d.lines (repeat most inserts g (n - (l._i + 1)) d.line).lines _
+          c.in_ok-put.ensures.text
+          (rw on at l.invariant.text);
+    })
 
 -- all of them at once
 at_once : (c : goal.In_ok-place_many) → let pen = c.args.pen.now in

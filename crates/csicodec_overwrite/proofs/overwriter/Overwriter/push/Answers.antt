@@ -1,11 +1,9 @@
-use Rattle.std.proofs.Common.{rules, subst}
+use Rattle.csicodec_overwrite.proofs.{Common.rules, Common.subst, Common.Passes, Written.front_on}
 use Rattle.csicodec_transform.proofs.Sent.{none_left}
-use Rattle.csicodec_overwrite.specs.Stream.{Passes}
-use Rattle.csicodec_overwrite.proofs.Written.{front_on}
 use Rattle.csicodec_overwrite.proofs.overwriter.Overwriter.push.Goals as goal
 
 pub loop-rest-init : goal.loop-rest-init
-loop-rest-init c = record { passes = rw c.begin.ensures at c.in_ok-rest.ensures.passes; held = rw c.begin.ensures at c.in_ok-rest.ensures.held }
+loop-rest-init c = record { passes = rw c.self.view_is at c.in_ok-rest.ensures.passes; held = rw (← c.self.view_is) c.in_ok-rest.ensures.held }
 
 pub loop-rest-preserved : goal.loop-rest-preserved
 loop-rest-preserved c =

@@ -1,5 +1,4 @@
-use Rattle.std.proofs.Common.{◌≤◌, length}
-use Rattle.csicodec_overwrite.specs.Private.Seen.{PassesFront}
+use Rattle.csicodec_overwrite.proofs.Common.{◌≤◌, length, PassesFront}
 use Rattle.csicodec_overwrite.proofs.overwriter.Overwriter.push.Given as goal
 
 -- some bytes have passed

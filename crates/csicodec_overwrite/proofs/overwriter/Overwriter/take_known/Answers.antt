@@ -1,6 +1,5 @@
-use Rattle.std.proofs.Common.{◌≡◌, ◌<◌, arith, false, length, rules}
-use Rattle.csicodec_overwrite.proofs.{Common.nat_tests, Written.taken}
-use Rattle.csicodec_overwrite.specs.Stream.{Reads}
+use Rattle.csicodec_overwrite.proofs.{Common.◌≡◌, Common.◌<◌, Common.arith, Common.false, Common.length, Common.rules, Common.nat_tests, Common.Reads}
+use Rattle.csicodec_overwrite.proofs.{Written.taken}
 use Rattle.csicodec_overwrite.proofs.overwriter.Overwriter.take_known.Goals as goal
 
 pub returns-clause-passes : goal.returns-clause-passes

@@ -1,6 +1,5 @@
-use Rattle.std.proofs.Common.{[], ◌∷◌, refl}
-use Rattle.csicodec_overwrite.proofs.{Common.IsPlainByte, Common.all_both, Fronts.lines_pass, Written.none_taken}
-use Rattle.csicodec_overwrite.specs.Paint.{written}
+use Rattle.csicodec_overwrite.proofs.{Common.[], Common.◌∷◌, Common.refl, Common.IsPlainByte, Common.all_both, Common.written, Fronts.lines_pass}
+use Rattle.csicodec_overwrite.proofs.{Written.none_taken}
 use Rattle.csicodec_overwrite.proofs.overwriter.Overwriter.take_lines.Goals as goal
 
 pub returns-clause-passes : goal.returns-clause-passes
@@ -8,15 +7,14 @@ returns-clause-passes c =
     let now = c.self.inside in
     let lines = c.in-Some.lines.now in
     let bare = rw (← c.self.view_is) at c.requires in
-    let (blank, puts) = rw (← c.self.view_is) at (c.is_straight.ensures c.if-is_straight.true) in
+    let blank = c.is_blank.ensures c.if-is_blank.true in
+    let puts = rw c.shows_looks.ensures at (c.puts_plain.ensures c.if-puts_plain.true) in
     let (front, ends, split, plains, few) = c.in-Some.ensures in
-    rw (← c.self.view_is) (record {
+    rw (← c.self.view_is, bare, blank, c.take.ensures) (record {
       front = lines;
       text = written now.marking lines;
       split = split;
-      passes = lines_pass (record { reader = now.reader; pen = now.pen; marking = now.marking; line = now.line })
-          (record { reader = now.reader; pen = c.take.new.self; marking = now.marking; line = now.line }) c.args.bytes.now lines
-          c.in-Some.rest.now bare refl blank refl refl c.take.ensures puts c.in-Some.ensures;
+      passes = lines_pass now.marking now.pen c.args.bytes.now lines c.in-Some.rest.now puts c.in-Some.ensures;
       out = c.in_ok-append_ascii.ensures (rw ends (all_both IsPlainByte front (10 ∷ []) plains (refl, tt)));
     })
 

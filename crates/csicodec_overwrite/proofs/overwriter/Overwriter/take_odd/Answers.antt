@@ -1,5 +1,4 @@
-use Rattle.std.proofs.Common.{◌≡◌, ◌++◌, ◌∙◌, ap}
-use Rattle.csicodec_overwrite.proofs.Written.{taken}
+use Rattle.csicodec_overwrite.proofs.{Common.◌≡◌, Common.◌++◌, Common.◌∙◌, Common.ap, Written.taken}
 use Rattle.csicodec_overwrite.proofs.overwriter.Overwriter.take_odd.Goals as goal
 
 pub returns-clause-passes : goal.returns-clause-passes

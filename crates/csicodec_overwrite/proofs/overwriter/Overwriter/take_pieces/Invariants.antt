@@ -1,5 +1,4 @@
-use Rattle.std.proofs.Common.{◌≡◌, length}
-use Rattle.csicodec_overwrite.specs.{Private.Seen.PassesFront, Stream.none_held}
+use Rattle.csicodec_overwrite.proofs.Common.{◌≡◌, length, PassesFront, none_held}
 use Rattle.csicodec_overwrite.proofs.overwriter.Overwriter.take_pieces.Given as goal
 
 -- some bytes have passed

@@ -1,13 +1,12 @@
-use Rattle.csicodec_overwrite.specs.{Steps.of_chars, Stream.Reads}
-use Rattle.csicodec_overwrite.proofs.{Straight.lines_plain, Straight.reads_plain, Straight.split_line, Written.none_taken, Written.taken}
+use Rattle.csicodec_overwrite.proofs.{Common.of_chars, Common.Reads, Stays.lines_plain, Stays.reads_plain, Stays.split_line, Written.none_taken, Written.taken}
 use Rattle.csicodec_overwrite.proofs.overwriter.Overwriter.take_text.Goals as goal
 
 pub put_text-requires : goal.put_text-requires
 put_text-requires c =
     (split_line c.args.bytes.now c.split_front.result.0.now c.split_front.result.1.now c.split_front.ensures.front c.split_front.ensures.rest).1
 
-pub returns-then-begins_sequence-clause-passes : goal.returns-then-begins_sequence-clause-passes
-returns-then-begins_sequence-clause-passes c = none_taken c.args.self.now c.args.bytes.now c.args.out.now.items c.requires
+pub returns-then-matches-clause-passes : goal.returns-then-matches-clause-passes
+returns-then-matches-clause-passes c = none_taken c.args.self.now c.args.bytes.now c.args.out.now.items c.requires
 
 pub returns-clause-passes : goal.returns-clause-passes
 returns-clause-passes c =

@@ -1,6 +1,6 @@
-use Rattle.std.proofs.{Common.◌≡◌, Common.[], Common.◌∙◌, Common.sym, Common.append-nil, Common.arith, lemmas.Grind.common_steps}
-use Rattle.csicodec_spans.proofs.Spanned.{rest_is}
-use Rattle.csicodec_overwrite.proofs.Read.{reads_from, reads_nothing}
+use Rattle.csicodec_overwrite.proofs.{Common.◌≡◌, Common.[], Common.◌∙◌, Common.sym, Common.append-nil, Common.arith, Common.common_steps, Read.reads_from}
+use Rattle.csicodec_overwrite.proofs.{Read.reads_nothing}
+use Rattle.csicodec_spans.proofs.Missed.{rest_is}
 use Rattle.csicodec_overwrite.proofs.reader.Reader.read.Goals as goal
 
 pub returns-in_default-clause-reads : goal.returns-in_default-clause-reads

@@ -1,6 +1,4 @@
-use Rattle.std.proofs.Common.{◌≡◌, ◌++◌, ◌∷◌, ap, ◌∙◌}
-use Rattle.csicodec_overwrite.specs.Steps.{of_chars}
-use Rattle.csicodec_overwrite.proofs.Rows.{does_on}
+use Rattle.csicodec_overwrite.proofs.{Common.◌≡◌, Common.◌++◌, Common.◌∷◌, Common.ap, Common.◌∙◌, Common.of_chars, Rows.does_on}
 use Rattle.csicodec_overwrite.proofs.row.Row.put_text.Goals as goal
 
 pub loop-byte-preserved : goal.loop-byte-preserved

@@ -1,6 +1,4 @@
-use Rattle.std.proofs.Common.{length}
-use Rattle.csicodec_overwrite.proofs.Common.{AllByRecursion}
-use Rattle.csicodec_overwrite.specs.{Private.Plain.IsLineByte, Private.Row.StillDoes, Steps.of_chars}
+use Rattle.csicodec_overwrite.proofs.Common.{length, AllByRecursion, IsLineByte, StillDoes, of_chars}
 use Rattle.csicodec_overwrite.proofs.row.Row.put_text.Given as goal
 
 -- the characters up to here are put

@@ -1,5 +1,4 @@
-use Rattle.std.proofs.Common.{length}
-use Rattle.csicodec_overwrite.specs.Private.Row.{StillDoes}
+use Rattle.csicodec_overwrite.proofs.Common.{length, StillDoes}
 use Rattle.csicodec_overwrite.proofs.row.Row.take_all.Given as goal
 
 -- the steps up to here are done

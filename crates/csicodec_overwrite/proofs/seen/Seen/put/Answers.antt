@@ -1,5 +1,4 @@
-use Rattle.std.proofs.lemmas.List.Elements.{All-push, All-set}
-use Rattle.csicodec_overwrite.specs.Private.Seen.{IsSlice}
+use Rattle.csicodec_overwrite.proofs.Common.{All-push, All-set, IsSlice}
 use Rattle.csicodec_overwrite.proofs.seen.Seen.put.Goals as goal
 
 pub returns-then-at-len : goal.returns-then-at-len

@@ -1,5 +1,4 @@
-use Rattle.std.proofs.{Common.◌≡◌, Common.◌<◌, Common.length, Common.rules, Common.sym, Common.subst, Common.arith, lemmas.List.Elements.All-get_or}
-use Rattle.csicodec_overwrite.specs.{Stream.Reads, Stream.none_held, Private.Seen.IsSlice}
+use Rattle.csicodec_overwrite.proofs.Common.{◌≡◌, ◌<◌, length, rules, sym, subst, arith, All-get_or, Reads, none_held, IsSlice}
 use Rattle.csicodec_overwrite.proofs.seen.Seen.recall.Goals as goal
 
 pub returns : goal.returns

@@ -1,6 +1,4 @@
-use Rattle.std.proofs.lemmas.List.Elements.{All-set}
-use Rattle.csicodec_overwrite.specs.Private.Seen.{IsSlice}
-use Rattle.csicodec_overwrite.proofs.Read.{reads_none}
+use Rattle.csicodec_overwrite.proofs.{Common.All-set, Common.IsSlice, Read.reads_none}
 use Rattle.csicodec_overwrite.proofs.seen.Seen.take.Goals as goal
 
 pub returns-then-at-len : goal.returns-then-at-len

@@ -1,4 +1,5 @@
-use Rattle.std.proofs.{Common.arith, Common.rules, lemmas.Grind.common_steps, lemmas.Grind.put_two}
+use Rattle.std.proofs.lemmas.Grind.{put_two}
+use Rattle.csicodec_parser.proofs.Common.{arith, rules, common_steps}
 use Rattle.csicodec_parser.proofs.actions.UnspecifiedDisplay.fmt.Goals as goal
 
 -- what was written, and then the text of this token

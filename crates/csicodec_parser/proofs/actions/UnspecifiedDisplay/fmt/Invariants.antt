@@ -1,6 +1,5 @@
-use Rattle.std.proofs.Common.{take}
 use Rattle.std.specs.Fmt.{HasWritten, IsPlainFormatter}
-use Rattle.csicodec_tokens.specs.Param.{spells}
+use Rattle.csicodec_parser.proofs.Common.{take, spells}
 use Rattle.csicodec_parser.proofs.actions.UnspecifiedDisplay.fmt.Given as goal
 
 abbrev pub invariant-loop-param : goal.invariant-loop-param

@@ -1,5 +1,4 @@
-use Rattle.std.proofs.Common.{refl}
-use Rattle.csicodec_parser.proofs.Fronts.{found_piece, found_none}
+use Rattle.csicodec_parser.proofs.{Fronts.found_piece, Fronts.found_none, Common.refl}
 use Rattle.csicodec_parser.proofs.group.Group.piece.Goals as goal
 
 pub returns-clause-piece : goal.returns-clause-piece

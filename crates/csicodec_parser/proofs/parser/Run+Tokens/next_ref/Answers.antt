@@ -1,6 +1,4 @@
-use Rattle.std.proofs.Common.{◌≤◌, false, List, refl, sym, subst, arith, ◌∙◌, ap, length, drop}
-use Rattle.csicodec_tokens.specs.declared.param.CsiParam.{CsiParam}
-use Rattle.csicodec_parser.specs.{ActionOf.action_of, Progress.progress, Private.Steps.rest_action, Private.Steps.has_failed, Next.IsRef}
+use Rattle.csicodec_parser.proofs.Common.{◌≤◌, false, List, refl, sym, subst, arith, ◌∙◌, ap, length, drop, CsiParam, action_of, progress, rest_action, has_failed, IsRef}
 use Rattle.csicodec_parser.proofs.NextLemmas.{Steps, goes_ok, ref_none, ref_ok, rest_alone, sound_ok}
 use Rattle.csicodec_parser.proofs.parser.Run+Tokens.next_ref.Goals as goal
 

@@ -1,6 +1,5 @@
-use Rattle.std.proofs.Common.{refl, arith, inl, ap}
-use Rattle.csicodec_parser.specs.Private.Steps.{has_failed}
-use Rattle.csicodec_parser.proofs.NextLemmas.{ended_at_end, fresh_rest, fresh_goes, going_rest, going_goes}
+use Rattle.csicodec_parser.proofs.{NextLemmas.ended_at_end, NextLemmas.fresh_rest, NextLemmas.fresh_goes, NextLemmas.going_rest, NextLemmas.going_goes}
+use Rattle.csicodec_parser.proofs.{Common.refl, Common.arith, Common.inl, Common.ap, Common.has_failed}
 use Rattle.csicodec_parser.proofs.parser.Run+Tokens.rest.Goals as goal
 
 pub returns-in-Fresh-clause-cut : goal.returns-in-Fresh-clause-cut

@@ -1,6 +1,5 @@
-use Rattle.std.proofs.Common.{◌≤◌, true, false, refl, sym, rules, arith, ◌∙◌, ap, length}
-use Rattle.csicodec_parser.specs.{ActionOf.action_of, Progress.progress, Private.Steps.has_failed}
 use Rattle.csicodec_parser.proofs.NextLemmas.{Steps, sound_ok, next_ok, next_err, next_none, goes_ok, goes_err, rest_alone}
+use Rattle.csicodec_parser.proofs.Common.{◌≤◌, true, false, refl, sym, rules, arith, ◌∙◌, ap, length, action_of, progress, has_failed}
 use Rattle.csicodec_parser.proofs.parser.RunIterator.next.Given.{Over}
 use Rattle.csicodec_parser.proofs.parser.RunIterator.next.Goals as goal
 

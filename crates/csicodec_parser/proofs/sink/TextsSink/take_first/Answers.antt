@@ -1,10 +1,7 @@
-use Rattle.std.proofs.{Common.◌≡◌, Common.◌∷◌, Common.◌++◌, Common.◌∙◌, Common.Some, Common.ap, Common.sym, Common.pos, Common.rules, lemmas.Int.to_z-of_z}
-use Rattle.std.proofs.{lemmas.Result.IfOk-weaker}
+use Rattle.std.proofs.{Common.pos, lemmas.Result.IfOk-weaker}
 use mir.{Val.SFits, Syntax.w64}
-use Rattle.csicodec_tokens.specs.declared.param.CsiParam.TheVariants.{Integer}
-use Rattle.csicodec_actions.specs.{Actions.Sgr, Table.text}
-use Rattle.csicodec_parser.proofs.{Fronts.front_piece, Fronts.piece_of_front, Taken.texts_last, Taken.terminal_first, Taken.dec_first, Taken.first_taken}
-use Rattle.csicodec_parser.specs.Private.Steps.{styled}
+use Rattle.csicodec_parser.proofs.Common.{◌≡◌, ◌∷◌, ◌++◌, ◌∙◌, Some, ap, sym, rules, to_z-of_z, Integer, Sgr, text, styled}
+use Rattle.csicodec_parser.proofs.{Fronts.front_piece, Fronts.piece_of_front, Cuts.texts_last, Cuts.terminal_first, Cuts.dec_first, Cuts.first_taken}
 use Rattle.csicodec_parser.proofs.sink.TextsSink.take_first.Goals as goal
 
 pub returns-in-Styles-Integer-clause-some : goal.returns-in-Styles-Integer-clause-some

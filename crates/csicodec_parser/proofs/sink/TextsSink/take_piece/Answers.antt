@@ -1,7 +1,5 @@
-use Rattle.std.proofs.Common.{◌++◌, ◌∙◌, ap, refl, sym}
-use Rattle.csicodec_actions.specs.{Actions.Sgr, Table.text}
-use Rattle.csicodec_parser.specs.{ActionOf.action_of, Private.Steps.found, Private.Steps.styled}
-use Rattle.csicodec_parser.proofs.{Fronts.front_piece, Fronts.front_stuck, Taken.texts_last}
+use Rattle.csicodec_parser.proofs.{Fronts.front_piece, Fronts.front_stuck, Cuts.texts_last, Common.◌++◌, Common.◌∙◌, Common.ap, Common.refl, Common.sym}
+use Rattle.csicodec_parser.proofs.{Common.Sgr, Common.text, Common.action_of, Common.found, Common.styled}
 use Rattle.csicodec_parser.proofs.sink.TextsSink.take_piece.Goals as goal
 
 pub returns-in_default-style_front-clause-none : goal.returns-in_default-style_front-clause-none

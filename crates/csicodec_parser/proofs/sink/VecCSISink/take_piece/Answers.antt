@@ -1,6 +1,4 @@
-use Rattle.std.proofs.Common.{◌∙◌, ap, refl, sym}
-use Rattle.csicodec_parser.specs.{ActionOf.action_of, Private.Steps.found}
-use Rattle.csicodec_parser.proofs.Fronts.{front_piece, front_stuck}
+use Rattle.csicodec_parser.proofs.{Fronts.front_piece, Fronts.front_stuck, Common.◌∙◌, Common.ap, Common.refl, Common.sym, Common.action_of, Common.found}
 use Rattle.csicodec_parser.proofs.sink.VecCSISink.take_piece.Goals as goal
 
 pub returns-in_default-clause-none : goal.returns-in_default-clause-none

@@ -1,5 +1,5 @@
 use Rattle.std.proofs.Common.{Some, sym, subst, ◌∙◌}
-use Rattle.csicodec_spans.proofs.{Sequences.refused, Spanned.IsCut, Spanned.cut_some, cut.Cutter.next.Goals.in-Csi+in-Err+in_default-error}
+use Rattle.csicodec_spans.proofs.{OneSpan.refused, Missed.IsCut, Missed.cut_some, cut.Cutter.next.Goals.in-Csi+in-Err+in_default-error}
 use Rattle.csicodec_spans.proofs.{cut.Cutter.next.Goals.in_default}
 use Rattle.csicodec_spans.proofs.cut.Cutter.next.Goals as goal
 

@@ -1,5 +1,4 @@
-use Rattle.std.proofs.{Common.◌≡◌, Common.◌++◌, Common.◌∙◌, Common.ap, Common.append_assoc, Common.refl, lemmas.Result.on_ok_weaker}
-use Rattle.csicodec_clean.specs.Shown.{shown_text}
+use Rattle.csicodec_tool.proofs.Common.{◌≡◌, ◌++◌, ◌∙◌, ap, append_assoc, refl, on_ok_weaker, shown_text}
 use Rattle.csicodec_tool.proofs.log.Log.end_line.Goals as goal
 
 pub returns : goal.returns

@@ -1,5 +1,4 @@
-use Rattle.std.proofs.Common.{◌∙◌, rules}
-use Rattle.csicodec_tool.proofs.{Logged.begun_in, Logged.log_begun, log.Log.new.Goals.in-Some, log.Log.new.Goals.in-None}
+use Rattle.csicodec_tool.proofs.{Common.◌∙◌, Common.rules, Logged.begun_in, Logged.log_begun, log.Log.new.Goals.in-Some, log.Log.new.Goals.in-None}
 use Rattle.csicodec_tool.proofs.log.Log.new.Goals as goal
 
 pub returns-clause-begun : goal.returns-clause-begun

@@ -1,7 +1,5 @@
-use Rattle.std.proofs.Common.{◌++◌, ◌∙◌, [], ◌∷◌, ap, append_assoc}
-use Rattle.csicodec_transform.proofs.Sent.{goes_on}
-use Rattle.csicodec_tool.specs.Stream.{PassesLog}
-use Rattle.csicodec_tool.proofs.Logged.{line_over, part_on}
+use Rattle.csicodec_tool.proofs.{Common.◌++◌, Common.◌∙◌, Common.[], Common.◌∷◌, Common.ap, Common.append_assoc, Common.goes_on, Common.PassesLog}
+use Rattle.csicodec_tool.proofs.{Logged.line_over, Logged.part_on}
 use Rattle.csicodec_tool.proofs.log.Log.take_line.Goals as goal
 
 pub returns : goal.returns

@@ -1,4 +1,4 @@
-use Rattle.std.proofs.{Common.◌≡◌, Common.◌++◌, Common.◌∙◌, Common.ap, Common.refl, lemmas.Result.on_ok_weaker}
+use Rattle.csicodec_tool.proofs.Common.{◌≡◌, ◌++◌, ◌∙◌, ap, refl, on_ok_weaker}
 use Rattle.csicodec_tool.proofs.log.Log.take_part.Goals as goal
 
 pub returns : goal.returns

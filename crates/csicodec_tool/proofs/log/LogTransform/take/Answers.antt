@@ -1,7 +1,4 @@
-use Rattle.std.proofs.{Common.◌++◌, Common.◌∙◌, Common.[], Common.◌∷◌, Common.refl, Common.sym, Common.append_assoc, Common.append-nil}
-use Rattle.std.proofs.{lemmas.Result.on_ok_weaker}
-use Rattle.csicodec_transform.proofs.Sent.{adds_all, adds_none, adds_on}
-use Rattle.csicodec_tool.specs.Stream.{PassesLog}
+use Rattle.csicodec_tool.proofs.Common.{◌++◌, ◌∙◌, [], ◌∷◌, refl, sym, append_assoc, append-nil, on_ok_weaker, adds_all, adds_none, adds_on, PassesLog}
 use Rattle.csicodec_tool.proofs.Logged.{part_on}
 use Rattle.csicodec_tool.proofs.log.LogTransform.take.Goals as goal
 

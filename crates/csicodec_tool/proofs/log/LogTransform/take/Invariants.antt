@@ -1,6 +1,4 @@
-use Rattle.std.proofs.Common.{◌≡◌, true, length}
-use Rattle.csicodec_transform.proofs.Sent.{AddsFront}
-use Rattle.csicodec_tool.specs.Stream.{PassesLog}
+use Rattle.csicodec_tool.proofs.Common.{◌≡◌, true, length, AddsFront, PassesLog}
 use Rattle.csicodec_tool.proofs.log.LogTransform.take.Given as goal
 
 -- the lines in front were taken

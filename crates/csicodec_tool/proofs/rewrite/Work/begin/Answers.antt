@@ -1,5 +1,4 @@
-use Rattle.std.proofs.Common.{rules}
-use Rattle.csicodec_tool.proofs.Written.{page_headed}
+use Rattle.csicodec_tool.proofs.{Common.rules, Written.page_headed}
 use Rattle.csicodec_tool.proofs.rewrite.Work.begin.Goals as goal
 
 pub returns-then-not-begun : goal.returns-then-not-begun

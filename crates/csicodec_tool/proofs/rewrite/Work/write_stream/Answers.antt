@@ -1,12 +1,6 @@
-use Rattle.std.proofs.Common.{◌∙◌}
+use Rattle.csicodec_tool.proofs.{Common.◌∙◌, Common.longest, Written.logged_written, Written.painted_written, Written.run_written, Written.streams_written}
 use Rattle.csicodec_spans.specs.declared.table.Mode.TheVariants.{Text as Plain}
 use Rattle.csicodec_compact.specs.Runs.{CompactsAll}
-use Rattle.csicodec_clean.specs.{Cleaned.longest, Styled.StylesIn}
-use Rattle.csicodec_lines.specs.Lines.{ByLines}
-use Rattle.csicodec_html.specs.Page.{PageWith}
-use Rattle.csicodec_inspect.specs.Sent.{FrontsOf}
-use Rattle.csicodec_tool.specs.Writes.{FrontsOfPainted, PaintedPage}
-use Rattle.csicodec_tool.proofs.Written.{by_same, logged_written, painted_written, run_written, streams_written}
 use Rattle.csicodec_tool.proofs.rewrite.Work.write_stream.Goals as goal
 
 pub returns-in-Filter-true : goal.returns-in-Filter-true
@@ -56,30 +50,23 @@ pub returns-in-Clean-default-true : goal.returns-in-Clean-default-true
 returns-in-Clean-default-true g c =
     let a = c.in-Clean-default-true in
     let run = c.clean_lines_all in
-    rw (a.is, ← a.lines-is, a.lines-test)
-    (by_same (λ p. ByLines (StylesIn p)) (λ p. FrontsOf (ByLines (StylesIn p))) _ a.passing run.result _ _ _ a.passing-is
-    (streams_written _ _ run.result _ _ _ _ run.ensures.streams))
+    rw (a.is, ← a.lines-is, a.lines-test, ← a.passing-is) (streams_written _ _ run.result _ _ _ _ run.ensures.streams)
 
 pub returns-in-Clean : goal.returns-in-Clean
 returns-in-Clean g c =
     let a = c.in-Clean in
     let run = c.clean_all_with in
-    rw (a.is, ← a.lines-is, a.lines-test)
-    (by_same (λ p. StylesIn p) (λ p. FrontsOf (StylesIn p)) _ a.passing run.result _ _ _ a.passing-is
-    (streams_written _ _ run.result _ _ _ _ run.ensures.streams))
+    rw (a.is, ← a.lines-is, a.lines-test, ← a.passing-is) (streams_written _ _ run.result _ _ _ _ run.ensures.streams)
 
 pub returns-in-Html-default-default-true-default-default : goal.returns-in-Html-default-default-true-default-default
 returns-in-Html-default-default-true-default-default g c =
     let a = c.in-Html-default-default-true-default-default in
     let run = c.html_overwritten_all in
-    rw (a.is, ← a.overwrite-is, a.overwrite-test)
-    (by_same PaintedPage FrontsOfPainted _ a.markup run.result _ _ _ a.markup-is
-    (painted_written _ run.result _ _ _ _ run.ensures.ok run.ensures.end run.ensures.front))
+    rw (a.is, ← a.overwrite-is, a.overwrite-test, ← a.markup-is)
+    (painted_written _ run.result _ _ _ _ run.ensures.ok run.ensures.end run.ensures.front)
 
 pub returns-in-Html : goal.returns-in-Html
 returns-in-Html g c =
     let a = c.in-Html in
     let run = c.html_all_with in
-    rw (a.is, ← a.overwrite-is, a.overwrite-test)
-    (by_same (λ m. PageWith m) (λ m. FrontsOf (PageWith m)) _ a.markup run.result _ _ _ a.markup-is
-    (streams_written _ _ run.result _ _ _ _ run.ensures))
+    rw (a.is, ← a.overwrite-is, a.overwrite-test, ← a.markup-is) (streams_written _ _ run.result _ _ _ _ run.ensures)

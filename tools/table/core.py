@@ -14,13 +14,19 @@ CURSOR = {
     "name": "cursor",
     "write": "            Cursor::TabulationControl(control) => write_choice(text, control.to_i64() as u8, b'W'),",
     "read": "        'W' => tabulation_control(params),",
-    "row": "    ∷ before \"W\" (chosen Control control.SetCharacterTabStopAtActivePosition (λ c.",
+    "indent": 8,
+    "count": "    let count = place.as_one_based();",
+    "rows": "moves =",
+    "row": "    ∷ []",
     "written": "written_cursor (cursor.TabulationControl c) = choice Control c \"W\"",
 }
 EDIT = {
     "name": "edit",
     "write": "            Edit::EraseInDisplay(part) => write_choice(text, part.to_i64() as u8, b'J'),",
     "read": "        'J' => Some(Edit::EraseInDisplay(EraseInDisplay::from_i64(choice(params)?)?)),",
+    "indent": 16,
+    "count": "            let count = place(params)?.as_one_based();",
+    "rows": "edit_rows =",
     "row": "    ∷ before \"J\" (chosen InDisplay display.EraseToEndOfDisplay (λ c. Edit (edit.EraseInDisplay c)))",
     "written": "written_edit (edit.EraseInDisplay c) = choice InDisplay c \"J\"",
 }
@@ -93,9 +99,9 @@ def value(action):
     return f"{action.subject.lower()}.{action.variant[0]}"
 
 
-def row_lines(actions):
+def row_lines(actions, all_behind=False):
     for action in actions:
-        ahead = "    " if action is actions[0] else "    ∷ "
+        ahead = "    " if action is actions[0] and not all_behind else "    ∷ "
         reads = "paired" if action.form == "places" else "counted"
         yield f"{ahead}before {string(action.row['final'])} ({reads} (λ {numbers(action)}. {action.subject} ({value(action)} {numbers(action)})))"
 
@@ -109,20 +115,26 @@ def written_lines(actions):
 # ---- the lists of csicodec_actions, and csicodec_structs
 
 
-def read_arms(actions):
+def read_arms(actions, indent):
+    """Those of one number, which is there."""
     for action in actions:
-        if action.form == "places":
-            yield f"        {byte(action.row['final'])[1:]} => {{\n            let ({fields(action)}) = places(params)?;\n            Some({rust(action)} {{ {fields(action)} }})\n        }}"
-        else:
-            yield f"        {byte(action.row['final'])[1:]} => Some({rust(action)}({action.form}(params)?)),"
+        yield f"{indent}{byte(action.row['final'])[1:]} => Some({rust(action)}({action.form})),"
 
 
-def together(called, kinds, makes, actions):
+def pair_arms(actions):
+    for action in actions:
+        yield f"        {byte(action.row['final'])[1:]} => {{"
+        yield f"            let ({fields(action)}) = places(params)?;"
+        yield f"            Some({rust(action)} {{ {fields(action)} }})"
+        yield "        }"
+
+
+def together(called, kinds, makes, actions, opened=None):
     """One proof for all these finals: what the rows before each read. `kinds` and `makes` are those of one number and of two, which find by themselves
     what is made of numbers."""
     said = [f"{kinds[action.form == 'places']} {ord(action.row['final'])} {value(action)}" for action in actions]
     yield from folded(f"pub {called} :", said, "×").replace(": =\n   ", ":", 1).replace(": =", ":", 1).split("\n")
-    yield f"unfolding as_{actions[0].subject.lower()}"
+    yield f"unfolding as_{opened or actions[0].subject.lower()}"
     yield from (f"{called} = ({', '.join(makes[action.form == 'places'] + ' _' for action in actions)})", "")
 
 
@@ -198,15 +210,18 @@ def mirrored(subject):
 def of_subject(subject, said):
     """The parts of a subject that both have."""
     actions, name_of = [action for action in subject.actions if "final" in action.row], said["name"]
+    one, two = single(actions)
     own = f"crates/csicodec_actions/src/{name_of}.rt"
     table = f"crates/csicodec_actions/specs/Table/{subject.name}.antt"
     rest = {"cursor": "            _ => true,", "edit": "            Edit::EraseInDisplay(_) | Edit::EraseInLine(_) => true,"}[name_of]
     yield own, Part(list(write_arms(actions)), ("    pub fn write_to(&self, text: &mut Text)", "        match self {"), said["write"])
     yield own, Part(canonical_arms(subject.actions), ("    pub fn is_canonical(&self) -> bool", "        match self {"), rest)
-    yield table, Part(list(row_lines(actions)), (f"{name_of}_rows =",), said["row"])
+    yield table, Part(list(row_lines(one)), (said["rows"],), said["row"])
     yield table, Part(list(written_lines(actions)), (f"abbrev pub written_{name_of} : {name_of}_type.{subject.name} → Written",), said["written"])
     head = f"pub fn {name_of}_action(params: &[CsiParam], control: char) -> Option<{subject.name}>"
-    yield f"crates/csicodec_actions/src/lists/{name_of}.rt", Part("\n".join(read_arms(actions)).split("\n"), (head, "    match control {"), said["read"])
+    lists, indent = f"crates/csicodec_actions/src/lists/{name_of}.rt", " " * said["indent"]
+    yield lists, Part(list(pair_arms(two)), (head, "    match control {"), said["read"])
+    yield lists, Part(list(read_arms(one, indent)), (said["count"], f"{indent[4:]}match control {{"), f"{indent}_ => None,")
     yield from tests(actions, name_of)
 
 
@@ -215,9 +230,13 @@ def of_cursor(actions):
     front, rows = "crates/csicodec_structs/src/movement.rt", "crates/csicodec_structs/proofs/Moved.antt"
     yield front, Part(list(front_arms(one)), ("fn moved_by(number: u32, control: u8) -> Option<Cursor>", "    match control {"), "        _ => None,")
     yield front, Part(list(front_arms(two)), ("pub(crate) fn moved_to(first: u32, second: u32, control: u8) -> Option<Cursor>", "    match control {"), "        b'r' => Some(Cursor::SetTopAndBottomMargins {")
-    lists = "TwoCounts final make = (list : List CsiParam) → as_cursor list final ≡ option_map (λ (p : ℕ × ℕ). Cursor (make p.0 p.1)) (given (paired (λ a b. (a, b))) list)"
-    counts = list(together("finals", ("Counts", "TwoCounts"), ("one-count", "two-counts"), one + two))[:-1]
-    yield "crates/csicodec_actions/proofs/Finals.antt", Part(counts, (lists, ""), None)
+    table, lists = "crates/csicodec_actions/specs/Table/Cursor.antt", "crates/csicodec_actions/proofs/Finals.antt"
+    yield table, Part(list(row_lines(two, True)), ("cursor_rows =", "    Cursor (cursor.TabulationClear c)))"), "    ∷ before \"r\" top_and_bottom")
+    head = "Counts final make = (list : List CsiParam) → as_move list final ≡ option_map (λ n. Cursor (make n)) (given (counted (λ n. n)) list)"
+    pairs = "TwoCounts final make = (list : List CsiParam) → as_cursor list final ≡ option_map (λ (p : ℕ × ℕ). Cursor (make p.0 p.1)) (given (paired (λ a b. (a, b))) list)"
+    kinds, makes = ("Counts", "TwoCounts"), ("one-count", "two-counts")
+    yield lists, Part(list(together("moves", kinds, makes, one, "move")), (head, ""), pairs.split(" final")[0].replace("TwoCounts", "abbrev pub TwoCounts : ℕ → (ℕ → ℕ → cursor_type.Cursor) → Type 0"))
+    yield lists, Part(list(together("pairs", kinds, makes, two))[:-1], (pairs, ""), None)
     kinds, makes = ("OneMove", "TwoMoves"), ("one_count", "two_counts")
     moves = [*together("counted", kinds, makes, one), *together("twos", kinds, makes, two)]
     margins = "pub margins : (a b j k : ℕ) → j ≡ or_default 1 a → k ≡ or_default most b → a < 2 ^ 32 → b < 2 ^ 32 → (list : List CsiParam) → IsTwo a b list"

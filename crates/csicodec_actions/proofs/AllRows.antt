@@ -9,7 +9,7 @@ use Rattle.csicodec_actions.proofs.Found.{guarded, one-of}
 
 -- ---- several tables as one
 
-read-append : {R : Type 0} (xs ys : List (Before R)) (list : List CsiParam) (final : ℕ) → read_by (xs ++ ys) list final ≡ option_or (read_by xs list final) (read_by ys list final)
+pub read-append : {R : Type 0} (xs ys : List (Before R)) (list : List CsiParam) (final : ℕ) → read_by (xs ++ ys) list final ≡ option_or (read_by xs list final) (read_by ys list final)
 read-append {R} xs ys list final = ap (λ rows. given rows list) (flat_map-append _ xs ys) ∙ first-append (λ (r : Row R). gives r list) (rows_before xs final) (rows_before ys final)
 
 pub whole-table : (list : List CsiParam) (final : ℕ) → whole list final ≡ option_or (read_by table list final) (read_fields field_table list final)

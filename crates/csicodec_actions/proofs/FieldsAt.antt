@@ -1,9 +1,12 @@
 -- What the code finds in the fields of a list, and the text of a device whose tokens stand in one.
 use Rattle.std.proofs.{Common.append_assoc, Common.Bor, lemmas.Bool.cases_Bool}
-use Rattle.std.specs.{Fmt.decimal, Bool.then_some, List.list_all}
+use Rattle.std.specs.{Fmt.decimal, Fmt.digits, Fmt.signed_decimal, Prelude.codes, Prelude.pos, Prelude.◌+ℤ◌, Bool.then_some, List.list_all}
 use Rattle.csicodec_tokens.specs.{Param.token_text, Private.FieldsBy.is_field_token}
+use Rattle.csicodec_actions.specs.{Table.Device.written_attributes, Table.Device.written_device, Table.Device.written_parameters}
+use Rattle.csicodec_actions.specs.{Table.XtSmGraphics.written_graphics, XtSmGraphics.item_number, declared.xtsmgraphics.XtSmGraphicsItem.XtSmGraphicsItem}
 use Rattle.csicodec_actions.specs.{Devices.attribute_token, FieldRows.ahead_of_byte, Private.FieldsBy.fields_there}
 use Rattle.csicodec_actions.proofs.Common.{◌≡◌, ℕ, List, [], ◌∷◌, ◌++◌, refl, sym, ap, inl, inr, Option, None, Some, ◌∙◌, arith, ℤ, ◌==◌, if◌then◌else◌, option_map, CsiParam, Integer, P, fields_of, DeviceAttribute, listed_text, written_class, Item, Attribute, any_number, listed, shown, written_text, numbers, integers}
+use Rattle.csicodec_actions.specs.Devices as devices
 
 -- items that are written as tokens, a `;` before each
 shown-listed : {A : Type 0} (item : A → Item) (token : A → CsiParam) → ((a : A) (items : List Item) (end : List ℕ) → shown (item a ∷ items) end ≡ token_text (token a) ++ shown items end)
@@ -16,8 +19,18 @@ shown-listed item token same (a ∷ others) end =
 pub class_text : (n : ℕ) (all : List DeviceAttribute) → (63 ∷ decimal n) ++ (listed_text attribute_token all ++ 99 ∷ []) ≡ written_text (written_class n all)
 class_text n all = rw (shown-listed Attribute attribute_token (λ a items more. refl) all (99 ∷ [])) refl
 
-pub values_text : (all : List ℤ) → listed_text Integer all ++ 83 ∷ [] ≡ shown (listed any_number all) (83 ∷ [])
-values_text all = sym (shown-listed any_number Integer (λ a items more. refl) all (83 ∷ []))
+pub graphics_text : (item : XtSmGraphicsItem) (z : ℤ) (all : List ℤ)
+    → (63 ∷ (signed_decimal (item_number item) ++ 59 ∷ signed_decimal z)) ++ (listed_text Integer all ++ 83 ∷ []) ≡ written_text (written_graphics item z all)
+graphics_text item z all = rw (shown-listed any_number Integer (λ a items more. refl) all (83 ∷ []), append_assoc (signed_decimal (item_number item)) (59 ∷ signed_decimal z) (listed_text Integer all ++ 83 ∷ [])) refl
+
+-- the texts of a device whose numbers are known
+pub known_texts : (written_text (written_attributes devices.Vt100WithAdvancedVideoOption) ≡ codes "?1;2c")
+    × (written_text (written_attributes devices.Vt101WithNoOptions) ≡ codes "?1;0c")
+    × (written_text (written_attributes devices.Vt102) ≡ codes "?6c")
+    × (written_text (written_device devices.StatusReport) ≡ codes "5n")
+    × ((z : ℤ) → written_text (written_parameters z) ≡ signed_decimal (z +ℤ pos 2) ++ codes ";1;1;128;128;1;0x")
+unfolding digits
+known_texts = (refl, refl, refl, refl, λ z. refl)
 
 -- ---- a list that has fields
 

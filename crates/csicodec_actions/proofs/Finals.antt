@@ -1,7 +1,9 @@
 -- What the rows before each final character of the cursor read, by what one parameter, or two places, stand for.
 use Rattle.std.specs.Prelude.{⊤, Option}
-use Rattle.csicodec_actions.specs.{Rows.Makes, Rows.row, Rows.Before, Rows.counted, Rows.paired, Actions.Cursor, Table.Cursor.as_cursor}
-use Rattle.csicodec_actions.proofs.Common.{false, option_map, option_or, made, Slot, One, mark, Row, gives, given, read_by, Count, ◌≡◌, ℕ, List, [], ◌∷◌, None, Some, refl, arith, ne_eqb, CsiParam, Integer, P}
+use Rattle.std.proofs.lemmas.Bool.{cases_Bool}
+use Rattle.csicodec_actions.specs.{Rows.Makes, Rows.row, Rows.Before, Rows.counted, Rows.paired, Actions.Cursor, Table.Cursor.as_cursor, Table.Cursor.as_move}
+use Rattle.csicodec_actions.proofs.Common.{inl, inr, rows_before, ◌==◌, ◌∙◌, false, option_map, option_or, made, Slot, One, mark, Row, gives, given, read_by, Count, ◌≡◌, ℕ, List, [], ◌∷◌, None, Some, refl, arith, ne_eqb, CsiParam, Integer, P}
+use Rattle.csicodec_actions.proofs.AllFieldRows.{first-append}
 use Rattle.csicodec_actions.specs.declared.cursor.Cursor as cursor_type
 use Rattle.csicodec_actions.specs.declared.cursor.Cursor.TheVariants as cursor
 
@@ -59,19 +61,39 @@ pub no-rows : {R : Type 0} (table : List (Before R)) (list : List CsiParam) (fin
 no-rows [] list final none = refl
 no-rows (b ∷ others) list final none = rw (ne_eqb final b.final none.0) (no-rows others list final none.1)
 
+pub or-none : {A : Type 0} (o p : Option A) → p ≡ None → option_or o p ≡ o
+or-none (Some a) p none = refl
+or-none None p none = none
+
+-- where no count stands, entries that take one read nothing
+abbrev pub AllCounted : {R : Type 0} → List (Before R) → Type 0
+AllCounted [] = ⊤
+AllCounted {R} (b ∷ others) = ((make : ℕ → R) × (b.rows ≡ counted make)) × AllCounted others
+
+pub no-count : {R : Type 0} (table : List (Before R)) (list : List CsiParam) (final : ℕ) → AllCounted table → given (counted (λ n. n)) list ≡ None → read_by table list final ≡ None
+no-count [] list final counts none = refl
+no-count (b ∷ others) list final counts none = elim (cases_Bool (final == b.final)) [
+  | inl here ↦
+      rw here (first-append (λ r. gives r list) b.rows (rows_before others final) ∙ rw (counts.0.1, one-count counts.0.0 list, none) (no-count others list final counts.1 none))
+  | inr other ↦ rw other (no-count others list final counts.1 none)
+]
+
 -- ---- the cursor, a line for each final character
 
 abbrev pub Counts : ℕ → (ℕ → cursor_type.Cursor) → Type 0
-Counts final make = (list : List CsiParam) → as_cursor list final ≡ option_map (λ n. Cursor (make n)) (given (counted (λ n. n)) list)
+Counts final make = (list : List CsiParam) → as_move list final ≡ option_map (λ n. Cursor (make n)) (given (counted (λ n. n)) list)
+
+pub moves : Counts 65 cursor.Up × Counts 66 cursor.Down × Counts 67 cursor.Right × Counts 68 cursor.Left × Counts 69 cursor.NextLine
+    × Counts 70 cursor.PrecedingLine × Counts 71 cursor.CharacterAbsolute × Counts 96 cursor.CharacterPositionAbsolute
+    × Counts 73 cursor.ForwardTabulation × Counts 90 cursor.BackwardTabulation × Counts 89 cursor.LineTabulation
+    × Counts 97 cursor.CharacterPositionForward × Counts 106 cursor.CharacterPositionBackward × Counts 100 cursor.LinePositionAbsolute
+    × Counts 101 cursor.LinePositionForward × Counts 107 cursor.LinePositionBackward
+unfolding as_move
+moves = (one-count _, one-count _, one-count _, one-count _, one-count _, one-count _, one-count _, one-count _, one-count _, one-count _, one-count _, one-count _, one-count _, one-count _, one-count _, one-count _)
 
 abbrev pub TwoCounts : ℕ → (ℕ → ℕ → cursor_type.Cursor) → Type 0
 TwoCounts final make = (list : List CsiParam) → as_cursor list final ≡ option_map (λ (p : ℕ × ℕ). Cursor (make p.0 p.1)) (given (paired (λ a b. (a, b))) list)
 
-pub finals : Counts 65 cursor.Up × Counts 66 cursor.Down × Counts 67 cursor.Right × Counts 68 cursor.Left × Counts 69 cursor.NextLine
-    × Counts 70 cursor.PrecedingLine × Counts 71 cursor.CharacterAbsolute × Counts 96 cursor.CharacterPositionAbsolute
-    × Counts 73 cursor.ForwardTabulation × Counts 90 cursor.BackwardTabulation × Counts 89 cursor.LineTabulation
-    × Counts 97 cursor.CharacterPositionForward × Counts 106 cursor.CharacterPositionBackward × Counts 100 cursor.LinePositionAbsolute
-    × Counts 101 cursor.LinePositionForward × Counts 107 cursor.LinePositionBackward × TwoCounts 72 cursor.Position
-    × TwoCounts 82 cursor.ActivePositionReport × TwoCounts 102 cursor.CharacterAndLinePosition
+pub pairs : TwoCounts 72 cursor.Position × TwoCounts 82 cursor.ActivePositionReport × TwoCounts 102 cursor.CharacterAndLinePosition
 unfolding as_cursor
-finals = (one-count _, one-count _, one-count _, one-count _, one-count _, one-count _, one-count _, one-count _, one-count _, one-count _, one-count _, one-count _, one-count _, one-count _, one-count _, one-count _, two-counts _, two-counts _, two-counts _)
+pairs = (two-counts _, two-counts _, two-counts _)

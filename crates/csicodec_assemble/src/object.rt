@@ -32,16 +32,15 @@ impl fmt::Display for Fault {
     ghost output = { λ fault. Some (fault_text fault) };
 
     fn fmt<W: fmt::Write>(&self, f: &mut fmt::Formatter<W>) -> fmt::Result {
-        match self {
-            Fault::NoObject => f.write_str("no object of JSON"),
-            Fault::NoText => f.write_str("text is no string"),
-            Fault::NoHex => f.write_str("hex is no string of digits in pairs"),
-            Fault::Both => f.write_str("both text and hex"),
-            Fault::NoSequence => {
-                f.write_str("neither text nor hex, and no sequences have these actions")
-            }
-            Fault::TooLong => f.write_str("more than 16 MiB"),
-        }
+        let text = match self {
+            Fault::NoObject => "no object of JSON",
+            Fault::NoText => "text is no string",
+            Fault::NoHex => "hex is no string of digits in pairs",
+            Fault::Both => "both text and hex",
+            Fault::NoSequence => "neither text nor hex, and no sequences have these actions",
+            Fault::TooLong => "more than 16 MiB",
+        };
+        f.write_str(text)
     }
 }
 
@@ -133,29 +132,28 @@ pub trait Finds {
 /// The most bytes of a line for which some are found, 8 MiB: all actions of the longest control sequence are less.
 const MOST: usize = 8_388_608;
 
-/// Appends bytes that were found.
-fn append(bytes: &[u8], out: &mut Vec<u8>) -> Result<(), AllocError>
-    ensures fit { IsBytes bytes.now }
-    ensures appends { OnOk result (out.new.items ≡ out.old.items ++ bytes.now) }
-    ensures kept { OnErr result (out.new.items ≡ out.old.items) }
-{
-    out.extend_from_slice(bytes)
-}
+/// The numbers of bytes are those of bytes, which a contract is told here.
+fn are_bytes(bytes: &[u8])
+    ensures { IsBytes bytes.now }
+{}
 
-/// Appends the bytes that are found for a line that has actions alone.
-fn append_found<F: Finds>(finder: &mut F, line: &[u8], out: &mut Vec<u8>) -> Result<(), Refusal>
-    requires { of_line line.now ≡ Err NoSequence }
-    ensures bytes { OnOk result ((text : List ℕ) × Gives line.now text
-        × (out.new.items ≡ out.old.items ++ text)) }
+/// The bytes that a line gives: those that it stands for, or that are found where it has actions alone.
+fn bytes_given<F: Finds>(alloc: Global, finder: &mut F, line: &[u8]) -> Result<Vec<u8>, Refusal>
+    ensures bytes { IfOk result (λ v. Gives line.now v.items) }
     ensures told { IfErr result (λ e. IsTold e (of_line line.now)) }
-    ensures kept { OnErr result (out.new.items ≡ out.old.items) }
 {
-    if line.len() <= MOST {
-        if let Some(bytes) = finder.bytes_of_line(line)? {
-            return Ok(append(&bytes, out)?);
+    match bytes_of_line(alloc, line) {
+        Err(Refusal::Line(Fault::NoSequence)) if line.len() <= MOST => {
+            match finder.bytes_of_line(line)? {
+                Some(bytes) => {
+                    are_bytes(&bytes);
+                    Ok(bytes)
+                }
+                None => Err(Refusal::Line(Fault::NoSequence)),
+            }
         }
+        given => given,
     }
-    Err(Refusal::Line(Fault::NoSequence))
 }
 
 /// Appends the bytes that a line gives.
@@ -174,9 +172,6 @@ pub(crate) fn append_bytes<F: Finds>(
     if glance.append_text(line, out)? {
         return Ok(());
     }
-    match bytes_of_line(alloc, line) {
-        Ok(bytes) => Ok(out.extend_from_slice(&bytes)?),
-        Err(Refusal::Line(Fault::NoSequence)) => append_found(finder, line, out),
-        Err(refusal) => Err(refusal),
-    }
+    let bytes = bytes_given(alloc, finder, line)?;
+    Ok(out.extend_from_slice(&bytes)?)
 }

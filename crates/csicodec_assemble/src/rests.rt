@@ -22,7 +22,7 @@ struct Rest {
 #[derive(Drop)]
 pub(crate) struct Rests {
     alloc: Global,
-    rests: Vec<Option<Rest>>,
+    rests: Vec<Rest>,
 }
 
 /// Where a rest is held: a number that its length and its first 64 bytes give.
@@ -54,15 +54,16 @@ impl Rests {
         ensures { IfSome result (λ text. Stands rest.now text.now) }
     {
         match self.rests.get(place_of(rest)) {
-            Some(Some(held)) if held.rest.as_slice() == rest => Some(held.text.as_slice()),
+            Some(held) if held.rest.as_slice() == rest => Some(held.text.as_slice()),
             _ => None,
         }
     }
 
-    /// Makes the places, of which each is empty at first.
+    /// Makes the places, of which each has an empty rest at first, which is no line's.
     fn fill(&mut self) -> Result<(), AllocError> {
         for _ in self.rests.len()..PLACES {
-            self.rests.push(None)?;
+            let (rest, text) = (Vec::new(self.alloc), Vec::new(self.alloc));
+            self.rests.push(Rest { rest, text })?;
         }
         Ok(())
     }
@@ -80,7 +81,7 @@ impl Rests {
             text: Vec::from_slice(self.alloc, text)?,
         };
         if let Some(place) = self.rests.get_mut(place_of(rest)) {
-            *place = Some(held);
+            *place = held;
         }
         Ok(())
     }

@@ -127,25 +127,28 @@ impl fmt::Display for Failure {
     ghost output = { λ failure. Some (line failure) };
 
     fn fmt<W: fmt::Write>(&self, f: &mut fmt::Formatter<W>) -> fmt::Result {
-        match self {
-            Failure::Usage => f.write_str("csicodec: not a command"),
-            Failure::NotText => f.write_str("csicodec: a word isn't UTF-8"),
-            Failure::UnknownOption => f.write_str("csicodec: unknown option"),
-            Failure::Misplaced => f.write_str("csicodec: an option of another command"),
-            Failure::Apart => f.write_str("csicodec: options that don't go together"),
-            Failure::NoValue => f.write_str("csicodec: a value is missing"),
-            Failure::NotValue => f.write_str("csicodec: not a value"),
-            Failure::Open => f.write_str("csicodec: the file can't be opened"),
-            Failure::Recording(line) => write!(
-                f,
-                "csicodec: line {line}: not an asciicast of version 2 or 3"
-            ),
-            Failure::Times(line) => write!(f, "csicodec: line {line}: no time of script"),
-            Failure::Object(line, fault) => write!(f, "csicodec: line {line}: {fault}"),
-            Failure::NotPlain(at, line, found) => {
-                write!(f, "csicodec: byte {at}, line {line}: {found}")
+        let text = match self {
+            Failure::Usage => "csicodec: not a command",
+            Failure::NotText => "csicodec: a word isn't UTF-8",
+            Failure::UnknownOption => "csicodec: unknown option",
+            Failure::Misplaced => "csicodec: an option of another command",
+            Failure::Apart => "csicodec: options that don't go together",
+            Failure::NoValue => "csicodec: a value is missing",
+            Failure::NotValue => "csicodec: not a value",
+            Failure::Open => "csicodec: the file can't be opened",
+            Failure::Recording(line) => {
+                return write!(
+                    f,
+                    "csicodec: line {line}: not an asciicast of version 2 or 3"
+                );
             }
-            Failure::Run(error) => write!(f, "csicodec: {error}"),
-        }
+            Failure::Times(line) => return write!(f, "csicodec: line {line}: no time of script"),
+            Failure::Object(line, fault) => return write!(f, "csicodec: line {line}: {fault}"),
+            Failure::NotPlain(at, line, found) => {
+                return write!(f, "csicodec: byte {at}, line {line}: {found}");
+            }
+            Failure::Run(error) => return write!(f, "csicodec: {error}"),
+        };
+        f.write_str(text)
     }
 }

@@ -8,20 +8,17 @@ pub(crate) static WORDS: [&str; 8] = [
     "filter", "compact", "strip", "clean", "html", "explain", "assemble", "cuts",
 ];
 
-/// What one of these words asks for, and what `--help` behind it says.
-pub(crate) fn task_of(word: &str) -> Option<(Task, &'static str)> {
-    Some(match word {
-        "filter" => (Task::Filter, FILTER),
-        "compact" => (Task::Compact, COMPACT),
-        "strip" => (Task::Strip, STRIP),
-        "clean" => (Task::Clean, CLEAN),
-        "html" => (Task::Html, HTML),
-        "explain" => (Task::Explain, EXPLAIN),
-        "assemble" => (Task::Assemble, ASSEMBLE),
-        "cuts" => (Task::Cuts, CUTS),
-        _ => return None,
-    })
-}
+/// What each of these words asks for, and what `--help` behind it says.
+pub(crate) static TASKS: [(&str, Task, &str); 8] = [
+    ("filter", Task::Filter, FILTER),
+    ("compact", Task::Compact, COMPACT),
+    ("strip", Task::Strip, STRIP),
+    ("clean", Task::Clean, CLEAN),
+    ("html", Task::Html, HTML),
+    ("explain", Task::Explain, EXPLAIN),
+    ("assemble", Task::Assemble, ASSEMBLE),
+    ("cuts", Task::Cuts, CUTS),
+];
 
 /// The options, each as it stands in a command line. Behind a blank stand the words that have it, unless all have, and behind a
 /// colon which values it has, if it has one.
@@ -290,4 +287,4 @@ read like any other FILE.
   -h, --help     Show this text.";
 
 /// The program's name and version.
-pub const VERSION: &str = "csicodec 1.21.0";
+pub const VERSION: &str = "csicodec 1.22.0";

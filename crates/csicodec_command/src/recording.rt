@@ -2,10 +2,11 @@
 //! "data"]` for what a program wrote. Times are seconds: in version 2 from the begin, in version 3 from the event before.
 ghost use Rattle.csicodec_command.specs.Common.{ℕ, List, None, Some, true, IfErr, IfOk, IsUtf8, OnErr, OnOk, OnSome, option_map, string_bytes, trim, read, view, RunError};
 ghost use Rattle.csicodec_command.specs.Recorded.{data_or_none, event_of, is_passed, line_says, says, texts_of, version_behind, version_in, written};
-ghost use Rattle.csicodec_command.specs.declared.failure.Failure.TheVariants.{Recording as Refused, Run as Ran};
+ghost use Rattle.csicodec_command.specs.declared.failure.Failure.TheVariants.{Run as Ran};
 ghost use Rattle.std.specs.Prelude.{◌≡◌, ◌≢◌, ◌∷◌};
 
 use crate::failure::Failure;
+use csicodec_assemble::split_line;
 use csicodec_transform::RunError;
 use serde_json::Value;
 use std::alloc::Global;
@@ -47,8 +48,10 @@ pub fn time_of(line: &str) -> &str {
 
 /// The first line with its end, and what is behind it.
 pub fn line_front(bytes: &[u8]) -> (&[u8], &[u8]) {
-    let end = bytes.iter().position(|byte| *byte == b'\n');
-    let len = end.unwrap_or(bytes.len()).saturating_add(1);
+    let len = match split_line(bytes) {
+        Some((line, _behind)) => line.len().saturating_add(1),
+        None => bytes.len(),
+    };
     bytes.split_at_checked(len).unwrap_or((bytes, &[]))
 }
 
@@ -59,8 +62,7 @@ fn object_front(bytes: &[u8]) -> Option<&str>
     let [b'{', ..] = bytes else {
         return None;
     };
-    let (line, _behind) = line_front(bytes);
-    let line = line.strip_suffix(b"\n".as_slice())?;
+    let (line, _behind) = split_line(bytes)?;
     std::str::from_utf8(line).ok()
 }
 
@@ -132,17 +134,9 @@ impl Recording {
         ensures { OnOk result (self.now.version ≢ 0) }
     {
         if self.version == 0 {
-            Err(self.refusal())
-        } else {
-            Ok(())
+            return Err(Failure::Recording(self.lines));
         }
-    }
-
-    /// What refuses a line.
-    fn refusal(&self) -> Failure
-        ensures { result ≡ Refused self.now.lines }
-    {
-        Failure::Recording(self.lines)
+        Ok(())
     }
 
     /// The next line, with its end; none at the end of the input.
@@ -170,7 +164,7 @@ impl Recording {
         match Value::from_str(self.alloc, line) {
             Ok(value) => Ok(value),
             Err(error) if error.is_memory() => Err(Failure::Run(RunError::Memory)),
-            Err(_) => Err(self.refusal()),
+            Err(_) => Err(Failure::Recording(self.lines)),
         }
     }
 
@@ -186,7 +180,7 @@ impl Recording {
     {
         let Ok(text) = std::str::from_utf8(line) else {
             self.lines = self.lines.saturating_add(1);
-            return Err(self.refusal());
+            return Err(Failure::Recording(self.lines));
         };
         let event = self.take_any(text)?;
         Ok(data_of(event))
@@ -206,7 +200,7 @@ impl Recording {
         let line = line.trim();
         if self.version == 0 {
             let header = self.value_of(line)?;
-            self.version = version_of(&header).ok_or(self.refusal())?;
+            self.version = version_of(&header).ok_or(Failure::Recording(self.lines))?;
             return Ok(None);
         }
         if is_passed(line) {
@@ -225,7 +219,7 @@ impl Recording {
         let code = event.get(1usize).and_then(Value::as_str);
         let data = event.get(2usize).and_then(Value::as_str);
         let (Some(code), Some(data)) = (code, data) else {
-            return Err(self.refusal());
+            return Err(Failure::Recording(self.lines));
         };
         let before = if self.version == 2 { 0 } else { self.time };
         self.time = before.saturating_add(micros(time_of(line)));

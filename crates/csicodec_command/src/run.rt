@@ -246,36 +246,34 @@ pub fn failed(rt: &HostRuntime, failure: Failure, name: &str, reason: Option<io:
     ensures { result ≡ status failure }
 {
     let is_of_file = name != INPUT && !matches!(failure, Failure::Run(RunError::Write));
+    let (colon, name) = if is_of_file { (": ", name) } else { ("", "") };
     let name = name.escape_debug();
     // Where standard error is gone too, the status is all that can be told.
-    let _told = match (is_of_file, reason) {
-        (true, Some(reason)) => eprintln!(rt; "{failure}: {name}: {reason}"),
-        (true, None) => eprintln!(rt; "{failure}: {name}"),
-        (false, Some(reason)) => eprintln!(rt; "{failure}: {reason}"),
-        (false, None) => eprintln!(rt; "{failure}"),
+    let _told = match reason {
+        Some(reason) => eprintln!(rt; "{failure}{colon}{name}: {reason}"),
+        None => eprintln!(rt; "{failure}{colon}{name}"),
     };
     failure.status()
 }
 
-/// Why the last read and the last write failed, if they did.
-#[derive(Clone, Copy)]
-struct Faults {
-    /// Whether they are told.
-    told: bool,
-    read: Option<io::Error>,
-    written: Option<io::Error>,
-}
-
-/// Says what failed, unless the reader of the output went away: then there is nobody to tell.
+/// Says what failed, unless the reader of the output went away: then there is nobody to tell. The faults are those of the last read and of
+/// the last write, if they failed.
 #[inline(never)]
-fn stopped(rt: &HostRuntime, failure: Failure, name: &str, faults: Faults) -> u8
+fn stopped(
+    rt: &HostRuntime,
+    failure: Failure,
+    name: &str,
+    tells_reasons: bool,
+    faults: (Option<io::Error>, Option<io::Error>),
+) -> u8
     ensures { IsTold failure result }
 {
-    let reason = match (failure, faults.written) {
+    let (read, written) = faults;
+    let reason = match (failure, written) {
         (Failure::Run(RunError::Write), Some(fault)) if is_gone(fault) => return GONE,
-        _ if !faults.told => None,
-        (Failure::Run(RunError::Write), _) => faults.written,
-        (Failure::Run(RunError::Read), _) => faults.read,
+        _ if !tells_reasons => None,
+        (Failure::Run(RunError::Write), _) => written,
+        (Failure::Run(RunError::Read), _) => read,
         _ => None,
     };
     failed(rt, failure, name, reason)
@@ -288,16 +286,20 @@ fn opened(rt: &HostRuntime, name: &str) -> Result<File, u8>
     if let Some(name) = name.strip_prefix(UNREADABLE) {
         return Err(failed(rt, Failure::Open, name, None));
     }
-    File::open(rt, name).map_err(|error| failed(rt, Failure::Open, name, Some(error)))
+    match File::open(rt, name) {
+        Ok(file) => Ok(file),
+        Err(error) => Err(failed(rt, Failure::Open, name, Some(error))),
+    }
 }
 
 /// The text of a file; the status, if it can't be read.
 pub fn text_of(rt: &HostRuntime, name: &str) -> Result<String, u8> {
     let mut text = String::new(rt.alloc());
     let mut file = opened(rt, name)?;
-    let read = file.read_to_string(&mut text);
-    read.map_err(|error| failed(rt, Failure::Run(RunError::Read), name, Some(error)))?;
-    Ok(text)
+    match file.read_to_string(&mut text) {
+        Ok(_) => Ok(text),
+        Err(error) => Err(failed(rt, Failure::Run(RunError::Read), name, Some(error))),
+    }
 }
 
 /// Reads the first bytes of an input: at least its first line, if that may be an object of JSON and isn't longer than a chunk.
@@ -383,17 +385,16 @@ fn work_on<T: Worker, I: Inputs, W: Write>(
         (failure_of result) (work.new, W.contents output.new.out) }
     ensures told { IfErr result (λ e. IsTold e.0 e.1) }
 {
-    let from = inputs.open(name).map_err(|status| (Failure::Open, status))?;
-    let mut input = Input { from, fault: None };
+    let mut input = match inputs.open(name) {
+        Ok(from) => Input { from, fault: None },
+        Err(status) => return Err((Failure::Open, status)),
+    };
     match read_through(rt.alloc(), work, name, &mut input, output) {
         Ok(()) => Ok(()),
         Err(failure) => {
-            let faults = Faults {
-                told: work.tells_reasons(),
-                read: input.fault,
-                written: output.fault,
-            };
-            Err((failure, stopped(rt, failure, name, faults)))
+            let faults = (input.fault, output.fault);
+            let status = stopped(rt, failure, name, work.tells_reasons(), faults);
+            Err((failure, status))
         }
     }
 }
@@ -449,12 +450,8 @@ fn close<T: Worker, W: Write>(
 {
     match work.end(output) {
         Err(failure) => {
-            let faults = Faults {
-                told: work.tells_reasons(),
-                read: None,
-                written: output.fault,
-            };
-            Err(stopped(rt, failure, INPUT, faults))
+            let faults = (None, output.fault);
+            Err(stopped(rt, failure, INPUT, work.tells_reasons(), faults))
         }
         Ok(()) => match first {
             Some(status) => Err(status),
@@ -536,23 +533,6 @@ fn say(rt: &HostRuntime, text: &str) -> Result<(), u8> {
     }
 }
 
-/// The bytes of the word at this place, or none behind the last one.
-fn word_at(rt: &HostRuntime, place: usize) -> Result<Option<Vec<u8>>, AllocError> {
-    let (alloc, mut size) = (rt.alloc(), 256usize);
-    for _ in 0..u64::BITS {
-        let mut word = vec![in alloc; 0u8; size]?;
-        match rt.arg(place, word.as_mut_slice()) {
-            Ok(len) => {
-                word.truncate(len);
-                return Ok(Some(word));
-            }
-            Err(FillError::NotPresent) => return Ok(None),
-            Err(FillError::TooLong) => size = size.saturating_mul(2),
-        }
-    }
-    Err(AllocError)
-}
-
 /// A word as text. One that isn't UTF-8 stands behind a mark, as the name of a file that can't be opened: paths are text here.
 fn text_of_word(alloc: Global, word: &[u8]) -> Result<String, AllocError> {
     if let Ok(word) = std::str::from_utf8(word) {
@@ -562,28 +542,51 @@ fn text_of_word(alloc: Global, word: &[u8]) -> Result<String, AllocError> {
     format!(in alloc; "{UNREADABLE}{shown} (a name that is not UTF-8)")
 }
 
+/// The word at this place, or none behind the last one.
+fn word_at(rt: &HostRuntime, place: usize) -> Result<Option<String>, AllocError> {
+    let (alloc, mut size) = (rt.alloc(), 256usize);
+    for _ in 0..u64::BITS {
+        let mut word = vec![in alloc; 0u8; size]?;
+        match rt.arg(place, word.as_mut_slice()) {
+            Ok(len) => {
+                word.truncate(len);
+                return Ok(Some(text_of_word(alloc, &word)?));
+            }
+            Err(FillError::NotPresent) => return Ok(None),
+            Err(FillError::TooLong) => size = size.saturating_mul(2),
+        }
+    }
+    Err(AllocError)
+}
+
 /// The words of the command line behind the program's name.
 fn all_words(rt: &HostRuntime) -> Result<Vec<String>, AllocError> {
     let mut words = Vec::new(rt.alloc());
     for place in 1..usize::MAX {
-        let Some(word) = word_at(rt, place)? else {
-            break;
-        };
-        words.push(text_of_word(rt.alloc(), &word)?)?;
+        match word_at(rt, place)? {
+            Some(word) => words.push(word)?,
+            None => break,
+        }
     }
     Ok(words)
 }
 
 /// The words of the command line behind the program's name; the status, if memory ran out.
 pub fn words_of(rt: &HostRuntime) -> Result<Vec<String>, u8> {
-    all_words(rt).map_err(|_| refused(rt, Wrong::Memory))
+    match all_words(rt) {
+        Ok(words) => Ok(words),
+        Err(_) => Err(refused(rt, Wrong::Memory)),
+    }
 }
 
 /// The work that these words ask for, or none where what they ask was told; the status, if that failed.
 pub fn asked<'a>(rt: &HostRuntime, words: &'a [String]) -> Result<Option<Request<'a>>, u8> {
     match command_of(rt.alloc(), words) {
         Ok(Invocation::Run(run)) => Ok(Some(run)),
-        Ok(Invocation::Tell(text)) => say(rt, text).map(|()| None),
+        Ok(Invocation::Tell(text)) => {
+            say(rt, text)?;
+            Ok(None)
+        }
         Err(wrong) => Err(refused(rt, wrong)),
     }
 }

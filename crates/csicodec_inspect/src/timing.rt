@@ -20,15 +20,13 @@ pub struct Timing {
     front: bool,
 }
 
-/// Whether a text is decimal digits.
-fn are_digits(text: &str) -> bool {
-    text.as_bytes().iter().all(|digit| digit.is_ascii_digit())
-}
-
 /// Whether a text is a number of seconds: decimal digits with at most one point.
 fn is_seconds(text: &str) -> bool {
+    let digits = ['0', '1', '2', '3', '4', '5', '6', '7', '8', '9'];
     let (whole, part) = text.split_once('.').unwrap_or((text, ""));
-    !whole.is_empty() && are_digits(whole) && are_digits(part)
+    !whole.is_empty()
+        && whole.trim_start_matches(digits).is_empty()
+        && part.trim_start_matches(digits).is_empty()
 }
 
 /// The seconds since the line before, and how many bytes came then of what has this letter: none where the line is another's, as of a
@@ -51,8 +49,8 @@ fn line_of(line: &str, wanted: u8) -> Option<(u64, usize)> {
     if words.next().is_some() {
         return None;
     }
-    let is_other = letter.is_some_and(|letter| letter != wanted);
-    Some((micros(seconds), if is_other { 0 } else { count }))
+    let is_wanted = letter.unwrap_or(wanted) == wanted;
+    Some((micros(seconds), if is_wanted { count } else { 0 }))
 }
 
 impl Timing {
@@ -86,8 +84,7 @@ impl Timing {
         if !front || !bytes.starts_with(b"Script started on ".as_slice()) {
             return 0;
         }
-        let (line, _behind) = line_front(bytes);
-        line.len()
+        line_front(bytes).0.len()
     }
 
     /// How many of so many bytes came at once, and when. Behind the last piece all come when it did.

@@ -1,17 +1,20 @@
 //! Settings and capabilities that are asked for and told (DEC's DECRQSS; xterm's XTGETTCAP).
 
-use crate::body::{Body, halves, is_semicolon, tell, write_comma};
-use crate::shown::Shown;
+use crate::body::{Body, halves, is_semicolon};
+use crate::shown::write_bytes;
 use crate::string_rows::SETTINGS;
 use hex::decode_to_slice;
 use std::fmt;
 
 /// The setting that ends in these bytes.
 fn setting(text: &[u8]) -> Option<&'static str> {
-    SETTINGS.iter().find_map(|row| {
+    for row in &SETTINGS {
         let (finals, words) = row.split_once('=')?;
-        text.ends_with(finals.as_bytes()).then_some(words)
-    })
+        if text.ends_with(finals.as_bytes()) {
+            return Some(words);
+        }
+    }
+    None
 }
 
 /// The setting that DECRQSS asks for.
@@ -32,46 +35,41 @@ pub fn setting_told<W: fmt::Write>(
     if data.len() == 0 {
         return f.write_str("no such setting");
     }
-    tell(f, setting(data.bytes).unwrap_or("a setting"), data)?;
-    f.write_str(if params == b"1".as_slice() {
-        ""
-    } else {
-        ", not valid"
-    })
+    let (words, quoted) = (setting(data.bytes).unwrap_or("a setting"), data.quoted());
+    let validity = match params {
+        b"1" => "",
+        _ => ", not valid",
+    };
+    write!(f, "{words}: {quoted}{validity}")
 }
 
 /// XTGETTCAP: names, and behind `=` values, in hexadecimal digits, with semicolons between.
 pub fn capabilities<W: fmt::Write>(f: &mut fmt::Formatter<W>, data: Body<'_>) -> fmt::Result {
     for (place, field) in data.bytes.split(is_semicolon).enumerate() {
-        write_comma(f, place)?;
-        write_capability(f, field)?;
+        let ahead = if place > 0 { ", " } else { "" };
+        let (name, value) = halves(field, b'=');
+        let equals = if value.is_empty() { "" } else { " = " };
+        let (name, value) = (Decoded(name), Decoded(value));
+        write!(f, "{ahead}{name}{equals}{value}")?;
     }
     Ok(())
 }
 
-/// A name, and its value where it has one.
-fn write_capability<W: fmt::Write>(f: &mut fmt::Formatter<W>, field: &[u8]) -> fmt::Result {
-    let (name, value) = halves(field, b'=');
-    write_decoded(f, name)?;
-    if value.is_empty() {
-        return Ok(());
-    }
-    f.write_str(" = ")?;
-    write_decoded(f, value)
-}
+/// Hexadecimal digits. They print as the bytes that they stand for, each by itself; what is no such digits prints as it is.
+#[derive(Clone, Copy)]
+struct Decoded<'a>(&'a [u8]);
 
-/// A text of hexadecimal digits as what it stands for, in pieces; what is none as it is.
-fn write_decoded<W: fmt::Write>(f: &mut fmt::Formatter<W>, digits: &[u8]) -> fmt::Result {
-    if digits.len() % 2 != 0 || !digits.iter().all(u8::is_ascii_hexdigit) {
-        let shown = Shown(digits);
-        return write!(f, "{shown}");
-    }
-    for pair in digits.chunks(2) {
-        let mut byte = [0u8; 1];
-        if decode_to_slice(pair, &mut byte).is_ok() {
-            let shown = Shown(&byte);
-            write!(f, "{shown}")?;
+impl<'a> fmt::Display for Decoded<'a> {
+    fn fmt<W: fmt::Write>(&self, f: &mut fmt::Formatter<W>) -> fmt::Result {
+        if self.0.len() % 2 != 0 || !self.0.iter().all(u8::is_ascii_hexdigit) {
+            return write_bytes(f, self.0, false);
         }
+        for pair in self.0.chunks(2) {
+            let mut byte = [0u8; 1];
+            if decode_to_slice(pair, &mut byte).is_ok() {
+                write_bytes(f, &byte, false)?;
+            }
+        }
+        Ok(())
     }
-    Ok(())
 }

@@ -10,11 +10,6 @@ pub fn is_semicolon(byte: &u8) -> bool {
     *byte == b';'
 }
 
-/// Writes the comma between things in a row: ahead of each but the first, whose place is 0.
-pub fn write_comma<W: fmt::Write>(f: &mut fmt::Formatter<W>, place: usize) -> fmt::Result {
-    if place > 0 { f.write_str(", ") } else { Ok(()) }
-}
-
 /// What stands in a string, or the rest of it.
 #[derive(Clone, Copy)]
 pub struct Body<'a> {
@@ -82,6 +77,16 @@ fn place_of(bytes: &[u8], at: u8) -> Option<usize>
 /// What is ahead of the first such byte, all where there is none; and what is behind it, nothing where there is none.
 pub fn halves(bytes: &[u8], at: u8) -> (&[u8], &[u8]) {
     split_at(bytes, at).unwrap_or((bytes, &[]))
+}
+
+/// The bytes in front that are from one to another, and the rest.
+pub fn while_in(bytes: &[u8], low: u8, high: u8) -> (&[u8], &[u8]) {
+    for len in 0..bytes.len() {
+        if bytes[len] < low || bytes[len] > high {
+            return bytes.split_at(len);
+        }
+    }
+    (bytes, &[])
 }
 
 /// The number that decimal digits are.

@@ -1,7 +1,7 @@
 //! Colours that are set, asked for and reset. The answer to a question has the form in which the colour is set.
 
 use crate::asked::Asked;
-use crate::body::{is_semicolon, number, write_comma};
+use crate::body::{is_semicolon, number};
 use crate::command::ColorTable;
 use crate::fields::OscFields;
 use crate::osc_words::DYNAMIC_WORDS;
@@ -17,9 +17,15 @@ static SPECIAL: [&str; 5] = [
     "italic text",
 ];
 
-fn special_name(place: Option<u32>) -> &'static str {
-    let place = place.unwrap_or(u32::MAX) as usize;
-    SPECIAL.get(place).copied().unwrap_or("some text")
+/// A colour by its name or its index, with the words on both sides of that.
+#[derive(Clone, Copy)]
+struct Color<'a>(&'static str, &'a [u8], &'static str);
+
+fn special_name(place: u32) -> &'static [u8] {
+    match SPECIAL.get(place as usize) {
+        Some(name) => name.as_bytes(),
+        None => b"some text",
+    }
 }
 
 fn dynamic_name(place: usize) -> &'static str {
@@ -27,22 +33,34 @@ fn dynamic_name(place: usize) -> &'static str {
 }
 
 /// Which colour an index means; behind the 256 of the palette stand the special ones (xterm).
-fn write_indexed<W: fmt::Write>(
-    f: &mut fmt::Formatter<W>,
-    palette: ColorTable,
-    index: &[u8],
-) -> fmt::Result {
-    let place = number(index);
-    let (kind, name) = match (palette, place.and_then(|place| place.checked_sub(256))) {
-        (ColorTable::Special, _) => ("colour of ", special_name(place)),
-        (ColorTable::Indexed, Some(place)) => ("special colour of ", special_name(Some(place))),
-        (ColorTable::Indexed, None) => {
-            let index = Shown(index);
-            return write!(f, "colour {index} of the palette");
+fn indexed(palette: ColorTable, index: &[u8]) -> Color<'_> {
+    match (palette, number(index)) {
+        (ColorTable::Special, place) => {
+            Color("colour of ", special_name(place.unwrap_or(u32::MAX)), "")
         }
-    };
-    f.write_str(kind)?;
-    f.write_str(name)
+        (ColorTable::Indexed, Some(place @ 256..)) => {
+            Color("special colour of ", special_name(place - 256), "")
+        }
+        (ColorTable::Indexed, _) => Color("colour ", index, " of the palette"),
+    }
+}
+
+/// A colour that is set, or that these words ask for.
+fn write_color<W: fmt::Write>(
+    f: &mut fmt::Formatter<W>,
+    comma: &str,
+    ask: &str,
+    Color(ahead, name, behind): Color<'_>,
+    field: &[u8],
+) -> fmt::Result {
+    let name = Shown(name);
+    match Asked::of(field) {
+        Asked::Query => write!(f, "{comma}{ask}{ahead}{name}{behind}"),
+        Asked::Value(value) => {
+            let value = Shown(value);
+            write!(f, "{comma}{ahead}{name}{behind}: {value}")
+        }
+    }
 }
 
 /// OSC 4, and OSC 5 with special colours: pairs of an index and a colour, or a question for it.
@@ -51,27 +69,18 @@ pub fn pairs<W: fmt::Write>(
     palette: ColorTable,
     list: OscFields<'_>,
 ) -> fmt::Result {
+    let ask = match palette {
+        ColorTable::Special => "ask for the ",
+        ColorTable::Indexed => "ask for ",
+    };
     let mut index: &[u8] = &[];
     for (place, field) in list.text.unwrap_or(&[]).split(is_semicolon).enumerate() {
         if place % 2 == 0 {
             index = field;
             continue;
         }
-        write_comma(f, place / 2)?;
-        match Asked::of(field) {
-            Asked::Query => {
-                f.write_str(match palette {
-                    ColorTable::Special => "ask for the ",
-                    ColorTable::Indexed => "ask for ",
-                })?;
-                write_indexed(f, palette, index)?;
-            }
-            Asked::Value(value) => {
-                write_indexed(f, palette, index)?;
-                let value = Shown(value);
-                write!(f, ": {value}")?;
-            }
-        }
+        let comma = if place > 1 { ", " } else { "" };
+        write_color(f, comma, ask, indexed(palette, index), field)?;
     }
     Ok(())
 }
@@ -84,15 +93,9 @@ pub fn dynamic<W: fmt::Write>(
 ) -> fmt::Result {
     let first = code.saturating_sub(10) as usize;
     for (place, field) in list.text.unwrap_or(&[]).split(is_semicolon).enumerate() {
-        write_comma(f, place)?;
-        let name = dynamic_name(first.saturating_add(place));
-        match Asked::of(field) {
-            Asked::Query => write!(f, "ask for the {name}")?,
-            Asked::Value(value) => {
-                let value = Shown(value);
-                write!(f, "{name}: {value}")?;
-            }
-        }
+        let comma = if place > 0 { ", " } else { "" };
+        let name = dynamic_name(first.saturating_add(place)).as_bytes();
+        write_color(f, comma, "ask for the ", Color("", name, ""), field)?;
     }
     Ok(())
 }
@@ -103,29 +106,23 @@ pub fn resets<W: fmt::Write>(
     palette: ColorTable,
     list: OscFields<'_>,
 ) -> fmt::Result {
-    let indices = list.text.unwrap_or(&[]);
-    let (all, some) = match palette {
-        ColorTable::Indexed => ("reset the palette", "reset colour "),
-        ColorTable::Special => ("reset the special colours", "reset the colour of "),
+    let (all, some, behind) = match palette {
+        ColorTable::Indexed => ("reset the palette", "reset colour ", " of the palette"),
+        ColorTable::Special => ("reset the special colours", "reset the colour of ", ""),
     };
+    let indices = list.text.unwrap_or(&[]);
     if indices.is_empty() {
         return f.write_str(all);
     }
-    f.write_str(some)?;
     for (place, index) in indices.split(is_semicolon).enumerate() {
-        write_comma(f, place)?;
-        match palette {
-            ColorTable::Special => f.write_str(special_name(number(index)))?,
-            ColorTable::Indexed => {
-                let index = Shown(index);
-                write!(f, "{index}")?;
-            }
-        }
+        let ahead = if place > 0 { ", " } else { some };
+        let name = Shown(match palette {
+            ColorTable::Special => special_name(number(index).unwrap_or(u32::MAX)),
+            ColorTable::Indexed => index,
+        });
+        write!(f, "{ahead}{name}")?;
     }
-    match palette {
-        ColorTable::Indexed => f.write_str(" of the palette"),
-        ColorTable::Special => Ok(()),
-    }
+    f.write_str(behind)
 }
 
 /// OSC 110 to 119.

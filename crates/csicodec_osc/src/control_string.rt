@@ -50,14 +50,15 @@ impl<'a> ControlString<'a> {
 impl<'a> fmt::Display for ControlString<'a> {
     fn fmt<W: fmt::Write>(&self, f: &mut fmt::Formatter<W>) -> fmt::Result {
         let body = self.body();
-        match (self.front.get(1).copied(), body.behind(b"G")) {
-            (Some(b']'), _) => command(f, body)?,
-            (Some(b'P'), _) => device_control(f, body)?,
-            (Some(b'_'), Some(keys)) => graphics(f, keys)?,
-            (Some(b'_'), None) => tell(f, "APC  command to a program", body)?,
-            (Some(b'^'), _) => tell(f, "PM  privacy message", body)?,
-            _ => tell(f, "SOS  string", body)?,
-        }
+        let told = match (self.front.get(1).copied(), body.behind(b"G")) {
+            (Some(b']'), _) => command(f, body),
+            (Some(b'P'), _) => device_control(f, body),
+            (Some(b'_'), Some(keys)) => graphics(f, keys),
+            (Some(b'_'), None) => tell(f, "APC  command to a program", body),
+            (Some(b'^'), _) => tell(f, "PM  privacy message", body),
+            _ => tell(f, "SOS  string", body),
+        };
+        told?;
         f.write_str(if self.closed { "" } else { " (not closed)" })
     }
 }

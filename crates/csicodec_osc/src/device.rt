@@ -1,7 +1,7 @@
 //! Device control strings (DCS): parameters and intermediate bytes, a final byte, and data.
 
 use crate::answers::{capabilities, setting_asked, setting_told};
-use crate::body::{Body, halves, number, tell};
+use crate::body::{Body, halves, number, split_at, tell, while_in};
 use crate::shown::Shown;
 use crate::string_rows::{CONTROL_WORDS, CONTROLS};
 use std::fmt;
@@ -17,15 +17,6 @@ struct Control<'a> {
     last: u8,
     /// What is behind it.
     data: Body<'a>,
-}
-
-/// The first bytes that pass, and the rest.
-fn while_in(bytes: &[u8], low: u8, high: u8) -> (&[u8], &[u8]) {
-    let len = bytes
-        .iter()
-        .position(|byte| *byte < low || *byte > high)
-        .unwrap_or(bytes.len());
-    bytes.split_at(len)
 }
 
 /// The parts of a DCS, where it has a final byte.
@@ -61,7 +52,7 @@ fn told_by(row: &[u8], control: Control<'_>) -> Option<u8> {
 }
 
 /// Tells words, and what is told of the data.
-fn tell_control<W: fmt::Write>(
+fn tell_data<W: fmt::Write>(
     f: &mut fmt::Formatter<W>,
     words: &str,
     tells: u8,
@@ -80,6 +71,20 @@ fn tell_control<W: fmt::Write>(
     }
 }
 
+/// The words of a DCS with these parts.
+fn tell_control<W: fmt::Write>(
+    f: &mut fmt::Formatter<W>,
+    body: Body<'_>,
+    control: Control<'_>,
+) -> fmt::Result {
+    for (row, words) in CONTROLS.iter().zip(&CONTROL_WORDS) {
+        if let Some(tells) = told_by(row.as_bytes(), control) {
+            return tell_data(f, words, tells, control);
+        }
+    }
+    tell(f, "DCS  unknown", body)
+}
+
 /// The words of a DCS.
 pub fn device_control<W: fmt::Write>(f: &mut fmt::Formatter<W>, body: Body<'_>) -> fmt::Result {
     if let Some(inner) = body.behind(b"tmux;") {
@@ -88,50 +93,41 @@ pub fn device_control<W: fmt::Write>(f: &mut fmt::Formatter<W>, body: Body<'_>) 
     if let Some(json) = body.behind(b"@kitty-cmd") {
         return tell(f, "kitty  remote control", json);
     }
-    if body.len() == 0 {
-        return f.write_str("DCS  empty");
+    match parts(body) {
+        Some(control) => tell_control(f, body, control),
+        None if body.len() == 0 => f.write_str("DCS  empty"),
+        None => tell(f, "DCS  unknown", body),
     }
-    if let Some(control) = parts(body) {
-        for (row, words) in CONTROLS.iter().zip(&CONTROL_WORDS) {
-            if let Some(tells) = told_by(row.as_bytes(), control) {
-                return tell_control(f, words, tells, control);
-            }
-        }
-    }
-    tell(f, "DCS  unknown", body)
 }
 
-/// The size that raster attributes in front tell, behind two numbers for the form of a pixel.
-fn write_size<W: fmt::Write>(f: &mut fmt::Formatter<W>, bytes: &[u8]) -> fmt::Result {
-    let is_behind = |byte: &u8| !byte.is_ascii_digit() && *byte != b';';
-    let len = bytes.iter().position(is_behind).unwrap_or(bytes.len());
-    let (_numerator, rest) = halves(bytes.split_at(len).0, b';');
-    let (_denominator, rest) = halves(rest, b';');
-    let (width, height) = halves(rest, b';');
-    match (number(width), number(height)) {
-        (Some(width), Some(height)) => write!(f, " of {width} x {height} pixels"),
-        _ => Ok(()),
-    }
+/// The width and the height that raster attributes in front tell, behind two numbers for the form of a pixel.
+fn size(data: &[u8]) -> Option<(u32, u32)> {
+    let raster = data.strip_prefix(b"\"")?;
+    // Digits and semicolons: between these are only colons.
+    let (raster, _) = halves(while_in(raster, b'0', b';').0, b':');
+    let (_numerator, rest) = split_at(raster, b';')?;
+    let (_denominator, rest) = split_at(rest, b';')?;
+    let (width, height) = split_at(rest, b';')?;
+    Some((number(width)?, number(height)?))
 }
 
 /// How large a picture of sixels is (VT330/VT340 Programmer Reference, volume 2): its size, where its raster attributes tell it.
 fn sixel<W: fmt::Write>(f: &mut fmt::Formatter<W>, data: Body<'_>) -> fmt::Result {
     let len = data.len();
-    if let Some(raster) = data.behind(b"\"") {
-        write_size(f, raster.bytes)?;
+    match size(data.bytes) {
+        Some((width, height)) => write!(f, " of {width} x {height} pixels, {len} bytes"),
+        None => write!(f, ", {len} bytes"),
     }
-    write!(f, ", {len} bytes")
 }
 
 /// What tmux passes on: each ESC is doubled in it.
 fn passed_on<W: fmt::Write>(f: &mut fmt::Formatter<W>, inner: Body<'_>) -> fmt::Result {
-    f.write_str("tmux  pass on \"")?;
     let shown = inner.bytes.get(..120).unwrap_or(inner.bytes);
     for (place, piece) in shown.split(|byte| *byte == 0x1b).enumerate() {
-        let ahead = if place > 0 && place % 2 == 0 {
-            "\\e"
-        } else {
-            ""
+        let ahead = match (place, place % 2) {
+            (0, _) => "tmux  pass on \"",
+            (_, 0) => "\\e",
+            _ => "",
         };
         let piece = Shown(piece);
         write!(f, "{ahead}{piece}")?;

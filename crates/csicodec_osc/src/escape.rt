@@ -17,15 +17,19 @@ fn hex_digit(value: u8) -> u8
 fn append_byte(out: &mut Vec<u8>, byte: u8) -> Result<(), AllocError>
     ensures { OnOk result (out.new.items ≡ out.old.items ++ escaped byte) }
 {
-    match byte {
-        0x1b => out.extend_from_slice(b"\\e"),
-        b'\t' => out.extend_from_slice(b"\\t"),
-        b'\n' => out.extend_from_slice(b"\\n"),
-        b'\r' => out.extend_from_slice(b"\\r"),
-        b'\\' => out.extend_from_slice(b"\\\\"),
-        b' '..=b'~' => Ok(out.push(byte)?),
-        _ => out.extend_from_slice(&[b'\\', b'x', hex_digit(byte / 16), hex_digit(byte % 16)]),
-    }
+    let letter = match byte {
+        0x1b => b'e',
+        b'\t' => b't',
+        b'\n' => b'n',
+        b'\r' => b'r',
+        b'\\' => b'\\',
+        b' '..=b'~' => return Ok(out.push(byte)?),
+        _ => {
+            let digits = [b'\\', b'x', hex_digit(byte / 16), hex_digit(byte % 16)];
+            return out.extend_from_slice(&digits);
+        }
+    };
+    out.extend_from_slice(&[b'\\', letter])
 }
 
 /// Whether a byte is shown as itself.

@@ -1,35 +1,40 @@
 //! kitty's Terminal graphics protocol: keys with values, a semicolon, and data in base64.
 
-use crate::body::{Body, halves, tell, write_comma};
+use crate::body::{Body, halves, tell};
 use crate::shown::Shown;
 use crate::string_rows::GRAPHICS;
 use std::fmt;
 
 /// What a key, or a key with a value, says behind this action.
 fn said_of(action: u8, key: &[u8]) -> Option<&'static str> {
-    GRAPHICS.iter().find_map(|row| {
+    for row in &GRAPHICS {
         let (of, known) = row.as_bytes().split_first()?;
         let is_of = *of == b'-' || *of == action;
         let is_as_long = known.get(key.len()).copied() == Some(b'|');
-        let is_so = is_of && is_as_long && known.starts_with(key);
-        is_so.then_some(row.get(key.len().saturating_add(2)..)?)
-    })
+        if is_of && is_as_long && known.starts_with(key) {
+            return row.get(key.len().saturating_add(2)..);
+        }
+    }
+    None
 }
 
 /// A key with its value: what they say, or themselves.
 fn write_key<W: fmt::Write>(f: &mut fmt::Formatter<W>, action: u8, field: &[u8]) -> fmt::Result {
     let (key, value) = halves(field, b'=');
-    let Some(words) = said_of(action, field).or(said_of(action, key)) else {
-        let (key, value) = (Shown(key), Shown(value));
-        return write!(f, "{key}={value}");
+    let words = said_of(action, field).or(said_of(action, key));
+    let (key, shown) = (Shown(key), Shown(value));
+    let Some(words) = words else {
+        return write!(f, "{key}={shown}");
     };
     let Some((ahead, rest)) = words.split_once('{') else {
         return f.write_str(words);
     };
     let (unit, behind) = rest.split_once('}').unwrap_or((rest, ""));
-    let is_one = unit.is_empty() || value == b"1".as_slice();
-    let (value, ending) = (Shown(value), if is_one { "" } else { "s" });
-    write!(f, "{ahead}{value}{unit}{ending}{behind}")
+    let ending = match (unit, value) {
+        ("", _) | (_, b"1") => "",
+        _ => "s",
+    };
+    write!(f, "{ahead}{shown}{unit}{ending}{behind}")
 }
 
 /// Whether a byte is the comma that stands between keys.
@@ -42,15 +47,23 @@ fn may_answer(field: &[u8]) -> bool {
     matches!(halves(field, b'=').0, b"i" | b"I" | b"p")
 }
 
+/// The action that the keys tell.
+fn action_of(keys: &[u8]) -> u8 {
+    for field in keys.split(is_comma) {
+        match field {
+            [b'a', b'=', action] => return *action,
+            [b'a', b'=', ..] => return 0,
+            _ => {}
+        }
+    }
+    0
+}
+
 /// The keys, with commas between.
 fn write_keys<W: fmt::Write>(f: &mut fmt::Formatter<W>, keys: &[u8]) -> fmt::Result {
-    let is_action = |field: &&[u8]| field.starts_with(b"a=");
-    let action = match keys.split(is_comma).find(is_action) {
-        Some([_, _, action]) => *action,
-        _ => 0,
-    };
+    let action = action_of(keys);
     for (place, field) in keys.split(is_comma).enumerate() {
-        write_comma(f, place)?;
+        f.write_str(if place > 0 { ", " } else { "" })?;
         write_key(f, action, field)?;
     }
     Ok(())
@@ -60,16 +73,16 @@ fn write_keys<W: fmt::Write>(f: &mut fmt::Formatter<W>, keys: &[u8]) -> fmt::Res
 pub fn graphics<W: fmt::Write>(f: &mut fmt::Formatter<W>, body: Body<'_>) -> fmt::Result {
     let (keys, data) = body.cut(b';');
     let len = data.len();
-    if len > 0 && keys.split(is_comma).all(may_answer) {
-        f.write_str("kitty graphics  answer: ")?;
-        write_keys(f, keys)?;
-        return tell(f, "", data);
-    }
-    f.write_str("kitty graphics  ")?;
-    write_keys(f, keys)?;
-    if len > 0 {
-        write!(f, ", {len} bytes")
+    let is_answer = len > 0 && keys.split(is_comma).all(may_answer);
+    f.write_str(if is_answer {
+        "kitty graphics  answer: "
     } else {
-        Ok(())
+        "kitty graphics  "
+    })?;
+    write_keys(f, keys)?;
+    match len {
+        0 => Ok(()),
+        _ if is_answer => tell(f, "", data),
+        _ => write!(f, ", {len} bytes"),
     }
 }

@@ -1,5 +1,5 @@
 //! What an OSC says.
-ghost use Rattle.std.specs.Prelude.{◌≡◌, ◌++◌, [], ◌∷◌, OnOk, Some, option_map};
+ghost use Rattle.std.specs.Prelude.{◌≡◌, ◌++◌, [], OnOk, Some, option_map};
 ghost use Rattle.csicodec_osc.specs.{Commands.form, Commands.number, Osc.Known, Osc.Says, Osc.is_message, Osc.said, Osc.tail_text, Osc.written};
 ghost use Rattle.csicodec_osc.specs.{Private.Reading.behind, Private.Reading.read_body, Private.Reading.read_by};
 
@@ -86,40 +86,33 @@ impl<'a> Osc<'a> {
     pub fn write_to(&self, out: &mut Vec<u8>) -> Result<(), AllocError>
         ensures { OnOk result (out.new.items ≡ out.old.items ++ written (said self.now)) }
     {
-        match *self {
-            Osc::Title(title, text) => append(out, Command::Title(title), Some(text)),
-            Osc::Colors(palette, list) => append(out, Command::Colors(palette), list.text),
-            Osc::Color(color, list) => append(out, Command::Color(color), list.text),
-            Osc::ResetColors(palette, list) => append(
-                out,
-                Command::ResetColors(palette),
-                list.text,
-            ),
-            Osc::ResetColor(color, list) => append(out, Command::ResetColor(color), list.text),
-            Osc::Link { params, address } => append_pair(out, Command::Link, params, address),
+        let (command, first, second) = match *self {
+            Osc::Title(title, text) => (Command::Title(title), Some(text), None),
+            Osc::Colors(palette, list) => (Command::Colors(palette), list.text, None),
+            Osc::Color(color, list) => (Command::Color(color), list.text, None),
+            Osc::ResetColors(palette, list) => (Command::ResetColors(palette), list.text, None),
+            Osc::ResetColor(color, list) => (Command::ResetColor(color), list.text, None),
+            Osc::Link { params, address } => (Command::Link, Some(params), Some(address)),
             Osc::Clipboard { selection, content } => {
-                append_pair(out, Command::Clipboard, selection, content.as_bytes())
+                (
+                    Command::Clipboard,
+                    Some(selection),
+                    Some(content.as_bytes()),
+                )
             }
-            Osc::Folder(folder, text) => append(out, Command::Folder(folder), Some(text)),
-            Osc::Prompt(mark, list) => append(out, Command::Prompt(mark), list.text),
-            Osc::Editor(mark, list) => append(out, Command::Editor(mark), list.text),
-            Osc::Progress(progress, list) => append(out, Command::Progress(progress), list.text),
-            Osc::Pointer(text) => append(out, Command::Pointer, Some(text)),
-            Osc::KittyNotice { metadata, payload } => append_pair(
-                out,
-                Command::KittyNotice,
-                metadata,
-                payload,
-            ),
-            Osc::TitledNotice { title, text } => append_pair(
-                out,
-                Command::TitledNotice,
-                title,
-                text,
-            ),
-            Osc::Notice(text) => append(out, Command::Notice, Some(text)),
-            Osc::Unknown(bytes) => out.extend_from_slice(bytes),
-        }
+            Osc::Folder(folder, text) => (Command::Folder(folder), Some(text), None),
+            Osc::Prompt(mark, list) => (Command::Prompt(mark), list.text, None),
+            Osc::Editor(mark, list) => (Command::Editor(mark), list.text, None),
+            Osc::Progress(progress, list) => (Command::Progress(progress), list.text, None),
+            Osc::Pointer(text) => (Command::Pointer, Some(text), None),
+            Osc::KittyNotice { metadata, payload } => {
+                (Command::KittyNotice, Some(metadata), Some(payload))
+            }
+            Osc::TitledNotice { title, text } => (Command::TitledNotice, Some(title), Some(text)),
+            Osc::Notice(text) => (Command::Notice, Some(text), None),
+            Osc::Unknown(bytes) => return out.extend_from_slice(bytes),
+        };
+        append(out, command, first, second)
     }
 }
 
@@ -199,30 +192,28 @@ fn is_message(text: &[u8]) -> bool
     !matches!(text, [b'4' | b'9'] | [b'4' | b'9', b';', ..])
 }
 
-/// Appends the number of a command, and a text behind a `;` where there is one.
-fn append(out: &mut Vec<u8>, command: Command, text: Option<&[u8]>) -> Result<(), AllocError>
-    ensures { OnOk result (out.new.items
-        ≡ out.old.items ++ (number command ++ tail_text (option_map (λ t. t.now) text.entry))) }
+/// Appends the number of a command, and those of two texts that there are, each behind a `;`.
+fn append(
+    out: &mut Vec<u8>,
+    command: Command,
+    first: Option<&[u8]>,
+    second: Option<&[u8]>,
+) -> Result<(), AllocError>
+    ensures { OnOk result (out.new.items ≡ out.old.items ++ (number command
+        ++ (tail_text (option_map (λ t. t.now) first.entry) ++ tail_text (option_map (λ t. t.now) second.entry)))) }
 {
     out.extend_from_slice(command.number())?;
+    append_tail(out, first)?;
+    append_tail(out, second)
+}
+
+/// Appends a text behind a `;`, where there is one.
+fn append_tail(out: &mut Vec<u8>, text: Option<&[u8]>) -> Result<(), AllocError>
+    ensures { OnOk result (out.new.items ≡ out.old.items ++ tail_text (option_map (λ t. t.now) text.entry)) }
+{
     let Some(text) = text else {
         return Ok(());
     };
     out.push(b';')?;
     out.extend_from_slice(text)
-}
-
-/// Appends the number of a command, and two texts, each behind a `;`.
-fn append_pair(
-    out: &mut Vec<u8>,
-    command: Command,
-    first: &[u8],
-    second: &[u8],
-) -> Result<(), AllocError>
-    ensures { OnOk result (out.new.items
-        ≡ out.old.items ++ (number command ++ 59 ∷ (first.now ++ 59 ∷ second.now))) }
-{
-    append(out, command, Some(first))?;
-    out.push(b';')?;
-    out.extend_from_slice(second)
 }

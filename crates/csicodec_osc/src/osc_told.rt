@@ -1,6 +1,6 @@
 //! Operating system commands (OSC) in words: those that are read, and words alone for others.
 
-use crate::body::{Body, number, split_at, tell};
+use crate::body::{Body, number, split_at, tell, while_in};
 use crate::clipboard::clipboard;
 use crate::colors::{dynamic, dynamic_reset, pairs, resets};
 use crate::command::{EditorMark, Progress};
@@ -27,10 +27,10 @@ pub fn command<W: fmt::Write>(f: &mut fmt::Formatter<W>, body: Body<'_>) -> fmt:
 
 /// A number is the same with zeros ahead of it.
 fn without_zeros(bytes: &[u8]) -> &[u8] {
-    let zeros = bytes.iter().take_while(|byte| **byte == b'0').count();
-    match bytes.get(zeros..) {
-        Some(digits @ [b'0'..=b'9', ..]) => digits,
-        _ => bytes.get(zeros.saturating_sub(1)..).unwrap_or(bytes),
+    let (zeros, rest) = while_in(bytes, b'0', b'0');
+    match rest {
+        [b'0'..=b'9', ..] => rest,
+        _ => bytes.get(zeros.len().saturating_sub(1)..).unwrap_or(bytes),
     }
 }
 
@@ -41,35 +41,38 @@ fn numbered<W: fmt::Write>(
     body: Body<'_>,
     rest: Body<'_>,
 ) -> fmt::Result {
-    match Osc::read(body.bytes) {
-        Osc::Title(title, text) => tell(f, word(&TITLE_WORDS, title as usize), body.with(text)),
-        Osc::Colors(palette, list) => pairs(f, palette, list),
-        Osc::Color(_, list) => dynamic(f, code, list),
-        Osc::ResetColors(palette, list) => resets(f, palette, list),
-        Osc::ResetColor(_, _) => dynamic_reset(f, code),
-        Osc::Link { params, address } => link(f, params, body.with(address)),
-        Osc::Clipboard { selection, content } => clipboard(f, selection, content, body.more),
-        Osc::Folder(folder, text) => plain(
-            f,
-            word(&FOLDER_WORDS, folder as usize),
-            body.with(text),
-        ),
-        Osc::Prompt(mark, list) => marked(f, word(&MARK_WORDS, mark as usize), list, body.more),
-        Osc::Editor(mark, list) => edited(f, mark, list, body),
-        Osc::Progress(progress, list) => done(f, progress, list, rest),
-        Osc::Pointer(text) => plain(f, POINTER, body.with(text)),
-        Osc::KittyNotice { .. } => tell(f, KITTY_NOTICE, rest),
-        Osc::TitledNotice { title, text } => noticed(f, title, body.with(text)),
-        Osc::Notice(_) => match alone(body, rest) {
-            Some((words, text)) => plain(f, words, text),
-            None => tell(f, "notification", rest),
+    let otherwise = match Osc::read(body.bytes) {
+        Osc::Title(title, text) => {
+            return tell(f, word(&TITLE_WORDS, title as usize), body.with(text));
+        }
+        Osc::Folder(folder, text) => {
+            return plain(f, word(&FOLDER_WORDS, folder as usize), body.with(text));
+        }
+        Osc::Colors(palette, list) => return pairs(f, palette, list),
+        Osc::Color(_, list) => return dynamic(f, code, list),
+        Osc::ResetColors(palette, list) => return resets(f, palette, list),
+        Osc::ResetColor(..) => return dynamic_reset(f, code),
+        Osc::Link { params, address } => return link(f, params, body.with(address)),
+        Osc::Clipboard { selection, content } => {
+            return clipboard(f, selection, content, body.more);
+        }
+        Osc::Prompt(mark, list) => {
+            return marked(f, word(&MARK_WORDS, mark as usize), list, body.more);
+        }
+        Osc::Editor(mark, list) => return edited(f, mark, list, body),
+        Osc::Progress(progress, list) => return done(f, progress, list, rest),
+        Osc::TitledNotice { title, text } => return noticed(f, title, body.with(text)),
+        Osc::Notice([]) => return tell(f, "notification", rest),
+        Osc::Pointer(_) => POINTER,
+        Osc::KittyNotice { .. } => KITTY_NOTICE,
+        Osc::Notice(_) => "notification",
+        Osc::Unknown(_) => match body.behind(b"1337;File=") {
+            Some(file) => return picture(f, file),
+            None => "unknown",
         },
-        Osc::Unknown(_) => match (body.behind(b"1337;File="), alone(body, rest)) {
-            (Some(file), _) => picture(f, file),
-            (None, Some((words, text))) => plain(f, words, text),
-            (None, None) => plain(f, "unknown", rest),
-        },
-    }
+    };
+    let (words, text) = alone(body, rest).unwrap_or((otherwise, rest));
+    plain(f, words, text)
 }
 
 /// The words at a place.
@@ -100,8 +103,12 @@ fn behind<'a>(body: Body<'a>, rest: Body<'a>, front: &[u8]) -> Option<Body<'a>> 
 
 /// The words and the text of what has words alone.
 fn alone<'a>(body: Body<'a>, rest: Body<'a>) -> Option<(&'static str, Body<'a>)> {
-    let mut rows = FRONTS.iter().zip(&ALONE);
-    rows.find_map(|(front, words)| Some((*words, behind(body, rest, front.as_bytes())?)))
+    for (front, words) in FRONTS.iter().zip(&ALONE) {
+        if let Some(text) = behind(body, rest, front.as_bytes()) {
+            return Some((*words, text));
+        }
+    }
+    None
 }
 
 /// A mark of a shell: behind the command's end stands its status.
@@ -111,18 +118,13 @@ fn marked<W: fmt::Write>(
     list: OscFields<'_>,
     more: u64,
 ) -> fmt::Result {
-    f.write_str(words)?;
     let bytes = list.text.unwrap_or(&[]);
     let options = Body { bytes, more };
-    if options.len() == 0 {
-        return Ok(());
-    }
+    let quoted = options.quoted();
     match number(bytes) {
-        Some(status) => write!(f, ", status {status}"),
-        None => {
-            let quoted = options.quoted();
-            write!(f, ", {quoted}")
-        }
+        Some(status) => write!(f, "{words}, status {status}"),
+        None if options.len() == 0 => f.write_str(words),
+        None => write!(f, "{words}, {quoted}"),
     }
 }
 
@@ -149,15 +151,14 @@ fn done<W: fmt::Write>(
     list: OscFields<'_>,
     rest: Body<'_>,
 ) -> fmt::Result {
-    let percent = match (list.percent(), list.text) {
-        (Some(percent), _) => percent,
-        (None, None | Some([])) => 0,
-        (None, Some(_)) => return plain(f, "unknown", rest),
-    };
-    f.write_str(word(&PROGRESS_WORDS, progress as usize))?;
-    match progress {
-        Progress::Shown => write!(f, ": {percent} %"),
-        _ => Ok(()),
+    let words = word(&PROGRESS_WORDS, progress as usize);
+    match (progress, list.percent(), list.text) {
+        (_, None, Some([_, ..])) => plain(f, "unknown", rest),
+        (Progress::Shown, percent, _) => {
+            let percent = percent.unwrap_or(0);
+            write!(f, "{words}: {percent} %")
+        }
+        _ => f.write_str(words),
     }
 }
 
@@ -199,9 +200,8 @@ fn picture<W: fmt::Write>(f: &mut fmt::Formatter<W>, file: Body<'_>) -> fmt::Res
 fn lettered<W: fmt::Write>(f: &mut fmt::Formatter<W>, body: Body<'_>) -> fmt::Result {
     match (body.bytes, alone(body, body)) {
         ([letter, ..], Some((words, text))) => {
-            f.write_str("OSC ")?;
-            f.write_char(char::from(*letter))?;
-            f.write_str("  ")?;
+            let letter = char::from(*letter);
+            write!(f, "OSC {letter}  ")?;
             plain(f, words, text)
         }
         _ => tell(f, "OSC  unknown", body),

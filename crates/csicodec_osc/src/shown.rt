@@ -96,24 +96,23 @@ pub fn is_seen(character: char) -> bool {
     )
 }
 
-fn write_character<W: fmt::Write>(f: &mut fmt::Formatter<W>, character: char) -> fmt::Result {
-    match character {
-        '\u{1b}' => f.write_str("\\e"),
-        '\t' => f.write_str("\\t"),
-        '\n' => f.write_str("\\n"),
-        '\r' => f.write_str("\\r"),
-        '\\' => f.write_str("\\\\"),
-        _ => {
-            let number = u32::from(character);
-            if is_seen(character) {
-                f.write_char(character)
-            } else if number < 128 {
-                write!(f, "\\x{number:02x}")
-            } else {
-                write!(f, "\\u{{{number:x}}}")
-            }
-        }
-    }
+fn write_character<W: fmt::Write>(
+    f: &mut fmt::Formatter<W>,
+    character: char,
+    quoted: bool,
+) -> fmt::Result {
+    let number = u32::from(character);
+    f.write_str(match character {
+        '\u{1b}' => "\\e",
+        '\t' => "\\t",
+        '\n' => "\\n",
+        '\r' => "\\r",
+        '\\' => "\\\\",
+        '"' if quoted => "\\\"",
+        _ if is_seen(character) => return f.write_char(character),
+        _ if number < 128 => return write!(f, "\\x{number:02x}"),
+        _ => return write!(f, "\\u{{{number:x}}}"),
+    })
 }
 
 /// A run of text.
@@ -122,16 +121,13 @@ fn write_text<W: fmt::Write>(f: &mut fmt::Formatter<W>, text: &str, quoted: bool
         return f.write_str(text);
     }
     for character in text.chars() {
-        if quoted && character == '"' {
-            f.write_str("\\\"")?;
-        } else {
-            write_character(f, character)?;
-        }
+        write_character(f, character, quoted)?;
     }
     Ok(())
 }
 
-fn write_bytes<W: fmt::Write>(
+/// Bytes as they are shown; between quotation marks such a mark has a backslash ahead of it.
+pub(crate) fn write_bytes<W: fmt::Write>(
     f: &mut fmt::Formatter<W>,
     bytes: &[u8],
     quoted: bool,
@@ -153,11 +149,9 @@ impl<'a> fmt::Display for Shown<'a> {
 
 impl<'a> fmt::Display for Quoted<'a> {
     fn fmt<W: fmt::Write>(&self, f: &mut fmt::Formatter<W>) -> fmt::Result {
-        let front = self.bytes.get(..MOST);
+        let more = self.more || self.bytes.len() > MOST;
         f.write_char('"')?;
-        write_bytes(f, front.unwrap_or(self.bytes), true)?;
-        f.write_char('"')?;
-        let more = self.more || front.is_some_and(|front| front.len() < self.bytes.len());
-        if more { f.write_str("..") } else { Ok(()) }
+        write_bytes(f, self.bytes.get(..MOST).unwrap_or(self.bytes), true)?;
+        f.write_str(if more { "\".." } else { "\"" })
     }
 }

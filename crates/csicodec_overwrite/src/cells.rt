@@ -48,8 +48,8 @@ impl Cell {
     }
 
     /// Whether it is a blank, whatever it looks like: nothing, a space, or a column of a tab.
-    fn is_blank(self) -> bool
-        ensures { result ≡ is_blank self }
+    fn is_blank(&self) -> bool
+        ensures { result ≡ is_blank self.now }
     {
         match self {
             Cell::Empty | Cell::Behind => true,
@@ -255,7 +255,7 @@ impl Side {
         {
             return false;
         }
-        self.from_farthest().iter().all(|cell| cell.is_blank())
+        self.from_farthest().iter().all(Cell::is_blank)
     }
 
     /// Puts a cell nearest.

@@ -255,8 +255,8 @@ impl Overwriter {
         {
             // Behind a line of which all was written, and little more, others are likely that are text alone.
             let taken = bytes.len().saturating_sub(rest.len());
-            let more = out.len().saturating_sub(before).checked_sub(taken);
-            let is_likely = more.is_some_and(|more| more <= taken / 4);
+            let more = out.len().saturating_sub(before);
+            let is_likely = taken <= more && more - taken <= taken / 4;
             let far = self.take_lines(is_likely, rest, out)?;
             return Ok(far);
         }
@@ -331,8 +331,7 @@ impl Transform for Overwriter {
     ghost ends = { Ending };
 
     fn take(&mut self, bytes: &[u8], out: &mut Vec<u8>) -> Result<(), AllocError> {
-        self.push(bytes, out)?;
-        Ok(())
+        self.push(bytes, out)
     }
 
     fn pause(&mut self, _out: &mut Vec<u8>) -> Result<(), AllocError> {

@@ -31,6 +31,9 @@ fn stops(count: u32) -> u32
     count.min(WIDEST / 8)
 }
 
+/// A step, and another before it, if there are such.
+type Both = (Option<Step>, Option<Step>);
+
 /// Appends a step, if there is one.
 fn append_some(step: Option<Step>, steps: &mut Vec<Step>) -> Result<(), AllocError>
     ensures { OnOk result (steps.new.items ≡ steps.old.items ++ if_some step) }
@@ -39,6 +42,14 @@ fn append_some(step: Option<Step>, steps: &mut Vec<Step>) -> Result<(), AllocErr
         steps.push(step)?;
     }
     Ok(())
+}
+
+/// Appends a step and the one before it, if there are such.
+fn append_both(both: Both, steps: &mut Vec<Step>) -> Result<(), AllocError>
+    ensures { OnOk result (steps.new.items ≡ steps.old.items ++ (if_some both.0 ++ if_some both.1)) }
+{
+    append_some(both.0, steps)?;
+    append_some(both.1, steps)
 }
 
 /// What a character does.
@@ -57,22 +68,18 @@ pub(crate) fn char_step(char: char) -> Step
     }
 }
 
-/// Appends what an escape sequence without an intermediate byte does.
-fn append_final(byte: u8, steps: &mut Vec<Step>) -> Result<(), AllocError>
-    ensures { OnOk result (steps.new.items ≡ steps.old.items ++ of_final byte) }
+/// What an escape sequence without an intermediate byte does.
+fn final_steps(byte: u8) -> Both
+    ensures { of_final byte ≡ if_some result.0 ++ if_some result.1 }
 {
     match byte {
-        b'D' | b'M' => steps.push(Step::Leave(None))?,
-        b'E' => steps.push(Step::Leave(Some(1)))?,
-        b'7' => steps.push(Step::Save)?,
-        b'8' => steps.push(Step::Restore)?,
-        b'c' => {
-            steps.push(Step::Leave(Some(1)))?;
-            steps.push(Step::Reset)?;
-        }
-        _ => steps.push(Step::Other)?,
+        b'D' | b'M' => (None, Some(Step::Leave(None))),
+        b'E' => (None, Some(Step::Leave(Some(1)))),
+        b'7' => (None, Some(Step::Save)),
+        b'8' => (None, Some(Step::Restore)),
+        b'c' => (Some(Step::Leave(Some(1))), Some(Step::Reset)),
+        _ => (None, Some(Step::Other)),
     }
-    Ok(())
 }
 
 /// Appends what an escape sequence does.
@@ -80,7 +87,7 @@ pub(crate) fn append_escape(bytes: &[u8], steps: &mut Vec<Step>) -> Result<(), A
     ensures { OnOk result (steps.new.items ≡ steps.old.items ++ of_escape bytes.now) }
 {
     if bytes.len() == 2 {
-        return append_final(bytes[1], steps);
+        return append_both(final_steps(bytes[1]), steps);
     }
     if bytes.len() == 3 && bytes[1] == b'#' && bytes[2] == b'8' {
         return Ok(steps.push(Step::Leave(Some(1)))?);
@@ -177,44 +184,39 @@ fn code_step(code: DecPrivateModeCode) -> Option<Step>
     }
 }
 
-/// Appends what a private mode does that is set or reset.
-fn append_switched(set: bool, mode: DecPrivateMode, steps: &mut Vec<Step>) -> Result<(), AllocError>
-    ensures { OnOk result (steps.new.items ≡ steps.old.items ++ by_code (λ code. switched code set) mode) }
+/// What a private mode does that is set or reset.
+fn switched_steps(set: bool, mode: DecPrivateMode) -> Both
+    ensures { by_code (λ code. switched code set) mode ≡ if_some result.0 ++ if_some result.1 }
 {
     match mode {
-        DecPrivateMode::Code(DecPrivateModeCode::SaveCursor) if set => steps.push(Step::Save)?,
-        DecPrivateMode::Code(DecPrivateModeCode::SaveCursor) => steps.push(Step::Restore)?,
+        DecPrivateMode::Code(DecPrivateModeCode::SaveCursor) if set => (None, Some(Step::Save)),
+        DecPrivateMode::Code(DecPrivateModeCode::SaveCursor) => (None, Some(Step::Restore)),
         DecPrivateMode::Code(DecPrivateModeCode::ClearAndEnableAlternateScreen) if set => {
-            steps.push(Step::Save)?;
-            steps.push(Step::Leave(None))?;
+            (Some(Step::Save), Some(Step::Leave(None)))
         }
         DecPrivateMode::Code(DecPrivateModeCode::ClearAndEnableAlternateScreen) => {
-            steps.push(Step::Leave(None))?;
-            steps.push(Step::Restore)?;
+            (Some(Step::Leave(None)), Some(Step::Restore))
         }
-        DecPrivateMode::Code(code) => append_some(code_step(code), steps)?,
-        DecPrivateMode::Unspecified(_) => {}
+        DecPrivateMode::Code(code) => (None, code_step(code)),
+        DecPrivateMode::Unspecified(_) => (None, None),
     }
-    Ok(())
 }
 
-/// Appends what a mode does.
-fn append_mode(mode: &Mode, steps: &mut Vec<Step>) -> Result<(), AllocError>
-    ensures { OnOk result (steps.new.items ≡ steps.old.items ++ of_mode mode.now) }
+/// What a mode does.
+fn mode_steps(mode: &Mode) -> Both
+    ensures { of_mode mode.now ≡ if_some result.0 ++ if_some result.1 }
 {
     match mode {
-        Mode::SetDecPrivateMode(mode) => append_switched(true, *mode, steps),
-        Mode::ResetDecPrivateMode(mode) => append_switched(false, *mode, steps),
-        Mode::RestoreDecPrivateMode(DecPrivateMode::Code(code)) => {
-            append_some(code_step(*code), steps)
-        }
+        Mode::SetDecPrivateMode(mode) => switched_steps(true, *mode),
+        Mode::ResetDecPrivateMode(mode) => switched_steps(false, *mode),
+        Mode::RestoreDecPrivateMode(DecPrivateMode::Code(code)) => (None, code_step(*code)),
         Mode::SetMode(TerminalMode::Code(TerminalModeCode::Insert)) => {
-            Ok(steps.push(Step::Inserts(true))?)
+            (None, Some(Step::Inserts(true)))
         }
         Mode::ResetMode(TerminalMode::Code(TerminalModeCode::Insert)) => {
-            Ok(steps.push(Step::Inserts(false))?)
+            (None, Some(Step::Inserts(false)))
         }
-        _ => Ok(()),
+        _ => (None, None),
     }
 }
 
@@ -265,7 +267,7 @@ fn append_action(action: &CSI, steps: &mut Vec<Step>) -> Result<(), AllocError>
         CSI::Cursor(cursor) => append_some(cursor_step(cursor), steps),
         CSI::Edit(edit) => append_some(edit_step(edit), steps),
         CSI::Sgr(attribute) => Ok(steps.push(Step::Attribute(*attribute))?),
-        CSI::Mode(mode) => append_mode(mode, steps),
+        CSI::Mode(mode) => append_both(mode_steps(mode), steps),
         CSI::Device(device) => append_some(device_step(device), steps),
         CSI::Unspecified(unread) if may_move(&unread.params, unread.control) => {
             Ok(steps.push(Step::Leave(None))?)

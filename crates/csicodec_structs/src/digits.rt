@@ -1,7 +1,7 @@
 //! Short numbers in front of bytes, and what they count as.
 ghost use Rattle.std.specs.Prelude.{◌≡◌, ◌<◌, IfSome, pos};
 ghost use Rattle.csicodec_tokens.specs.{declared.param.CsiParam.TheVariants.Integer, Digits.IsDigit, OneBased.or_default, Private.Reading.IsFirstToken};
-ghost use Rattle.csicodec_tokens.specs.{Private.Reading.IsNumber};
+ghost use Rattle.csicodec_structs.specs.Private.Short.{IsNumber};
 
 /// The largest number that a digit more is read behind: so one has four digits at most.
 const MOST: u32 = 999;

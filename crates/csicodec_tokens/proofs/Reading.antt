@@ -1,13 +1,14 @@
 -- Lists of tokens and their spellings, which are bodies, the faults of bytes that begin with no sequence, and what the reader answers.
-use Rattle.std.proofs.Common.{ℕ, ℤ, ◌<◌, List, [], ◌∷◌, ◌++◌, length, refl, sym, ap, subst, ◌∙◌, append_assoc, arith, ◌≡◌, pos, ◌+◌, ◌-◌, ◌*◌, ◌≤◌, ◌≤ℤ◌, zero, suc, ◌⊎◌, get_or, take, drop, inl, inr}
+use Rattle.std.proofs.Common.{ℕ, ℤ, ◌<◌, List, [], ◌∷◌, ◌++◌, length, refl, sym, ap, subst, ◌∙◌, append_assoc, arith, ◌≡◌, pos, ◌+◌, ◌-◌, ◌*◌, ◌≤◌, ◌≤ℤ◌, zero, suc, ◌⊎◌, get_or, take, drop, inl, inr, true, false}
 use Rattle.std.proofs.lemmas.List.{append-nil, length-append, take-append-drop, take-append-le, append_cancel_left, take_all}
-use Rattle.std.proofs.{lemmas.Int.ints, Math.Seq.take-append-add, Math.Seq.get_or-append_seam}
+use Rattle.std.proofs.{lemmas.Int.ints, lemmas.Bool.Decides.nat_tests, Math.Seq.take-append-add, Math.Seq.get_or-append_seam}
 use Rattle.csicodec_tokens.specs.Sequence.{SpellsToken, Spells, IsSpellable, Apart, Spellable, IsBodyByte, IsFinal, Seq, Reads}
-use Rattle.csicodec_tokens.specs.Private.Reading.{BeginsWithDigit, IsWhole, EndsWhole, IsRun, IsNumber, IsTooLarge, IsFirstToken, HasRead}
+use Rattle.csicodec_tokens.specs.Private.Reading.{BeginsWithDigit, IsWhole, EndsWhole, IsRun, IsTooLarge, IsFirstToken, HasRead, IsWrong, fault_at}
 use Rattle.csicodec_tokens.specs.declared.reader.ReadError.TheVariants.{BadByte, NumberTooLarge, Truncated, Memory}
 use Rattle.csicodec_tokens.specs.{declared.param.CsiParam.CsiParam, declared.param.CsiParam.TheVariants.Integer, declared.param.CsiParam.TheVariants.P}
 use Rattle.csicodec_tokens.specs.{Digits.AreDigits, Digits.value_after, Digits.value, Digits.largest, Digits.IsDigit, Body.EndsIn, Fault.IsBody, Fault.Begins}
 use Rattle.csicodec_tokens.specs.{Fault.NoSeq, Fault.IsLeast, Fault.IsBad, Fault.FaultOf, Fault.Refuses, declared.reader.ReadError.ReadError}
+use Rattle.csicodec_tokens.specs.{Private.Walking.body_byte}
 use Rattle.csicodec_tokens.proofs.Walks.{value_grows, none_begun, digit_on, other_on, All-back, IsBody-front, value_push, All-push}
 
 begins_with_run : (run rest : List ℕ) → 0 < length run → AreDigits run → BeginsWithDigit (run ++ rest)
@@ -272,16 +273,18 @@ one_more_digit first text left others n d m r e digit next fits = record {
 pub IsSpellable-number : (n : ℕ) → n ≤ largest → IsSpellable (Integer (pos n))
 IsSpellable-number n le = (omega (arith, ints), omega (arith, ints))
 
-pub first_number : (first : ℕ) (text : List ℕ) (number : ℕ) (others : List ℕ) → IsDigit first → IsNumber first text number others → IsFirstToken (first ∷ text) (Integer (pos number)) others
-first_number first text number others d n =
-    let r = n.0 in
-    record {
-      front = first ∷ r.run;
-      parts = ap (λ (t : List ℕ). first ∷ t) r.parts;
-      spelled = (omega arith, (d, r.digits), ap pos r.total);
-      spellable = IsSpellable-number number r.fits;
-      whole = n.1;
-    }
+pub no_digit : (text : List ℕ) → (1 ≤ length text → ¬ IsDigit (get_or text 0 0)) → BeginsWithDigit text → ⊥
+no_digit [] other h = h
+no_digit (b ∷ text) other h = other (omega arith) h
+
+pub first_number : (first : ℕ) (text : List ℕ) (number : ℕ) (others : List ℕ) → IsDigit first → IsRun first text number others → (BeginsWithDigit others → ⊥) → IsFirstToken (first ∷ text) (Integer (pos number)) others
+first_number first text number others d r whole = record {
+  front = first ∷ r.run;
+  parts = ap (λ (t : List ℕ). first ∷ t) r.parts;
+  spelled = (omega arith, (d, r.digits), ap pos r.total);
+  spellable = IsSpellable-number number r.fits;
+  whole = whole;
+}
 
 -- ---- what has been read, token by token
 
@@ -313,8 +316,13 @@ read_all bytes rest others list final h ends e =
 
 -- ---- the fault behind what has been read
 
-pub fault_at_byte : (bytes rest : List ℕ) (list : List CsiParam) → HasRead bytes list rest → 1 ≤ length rest → IsBad (get_or rest 0 0) → FaultOf bytes (BadByte (length bytes - length rest))
-fault_at_byte bytes rest list h le bad = bad_byte bytes h.body rest _ _ h.parts (first_cut rest le) (IsBody-from_spelling h.body list h.spellable h.spelled) bad
+-- the bytes behind a body are no more of it, nor do they end the sequence
+module _ (at b : ℕ) (others : List ℕ) where
+  pub fault_in_body : IsBodyByte b → fault_at at (b ∷ others) ≡ NumberTooLarge at
+  fault_in_body p = let is : body_byte b ≡ true = grind (arith, nat_tests, p) in rw is refl
+
+  pub fault_off_body : IsBad b → fault_at at (b ∷ others) ≡ BadByte at
+  fault_off_body bad = let no : body_byte b ≡ false = grind (arith, nat_tests, bad) in rw no refl
 
 pub fault_at_digit : (bytes rest : List ℕ) (first : ℕ) (text left : List ℕ) (list : List CsiParam) → HasRead bytes list rest → rest ≡ first ∷ text → IsDigit first → IsTooLarge first text left
     → FaultOf bytes (NumberTooLarge (length bytes - length left))
@@ -334,12 +342,31 @@ fault_at_digit bytes rest first text left list h cut d n =
     let whole : h.body ++ rest ≡ (h.body ++ run) ++ left = ap (λ (t : List ℕ). h.body ++ t) parts ∙ sym (append_assoc h.body run left) in
     large_byte bytes (h.body ++ run) left n.others n.digit (h.parts ∙ ap (λ (t : List ℕ). 27 ∷ 91 ∷ t) whole) n.begins stops (omega (arith, n.next.0), omega (arith, n.next.1))
 
-pub fault_at_end : (bytes rest : List ℕ) (list : List CsiParam) → HasRead bytes list rest → length rest < 1 → FaultOf bytes (Truncated (length bytes - length rest))
-fault_at_end bytes [] list h lt =
-    let whole : bytes ≡ 27 ∷ 91 ∷ h.body = h.parts ∙ ap (λ (t : List ℕ). 27 ∷ 91 ∷ t) (append-nil h.body) in
-    let end : length bytes - length {A = ℕ} [] ≡ length (27 ∷ 91 ∷ h.body) = omega (arith, ap length whole) in
-    rw end (rw whole (cut_short h.body (IsBody-from_spelling h.body list h.spellable h.spelled)))
-fault_at_end bytes (b ∷ rest) list h lt = absurd (omega arith)
+pub too_large : (first : ℕ) (text left : List ℕ) → IsDigit first → IsTooLarge first text left → IsWrong (first ∷ text) left
+too_large first text left d n = record {
+  within = omega (arith, ap length n.run.parts, length-append n.run.run left);
+  fault = λ bytes list h.
+      let at = length bytes - length left in
+      subst (FaultOf bytes) (sym (ap (fault_at at) n.begins ∙ fault_in_body at n.digit n.others (omega (arith, n.next.0), omega (arith, n.next.1)))) (fault_at_digit bytes (first ∷ text) first text left list h refl d n);
+}
+
+pub wrong_at_byte : (text : List ℕ) → 1 ≤ length text → IsBad (get_or text 0 0) → IsWrong text text
+wrong_at_byte [] some bad = absurd (omega (arith, some))
+wrong_at_byte (b ∷ others) some bad = record {
+  within = omega arith;
+  fault = λ bytes list h. subst (FaultOf bytes) (sym (fault_off_body (length bytes - length (b ∷ others)) b others bad))
+      (bad_byte bytes h.body (b ∷ others) others b h.parts refl (IsBody-from_spelling h.body list h.spellable h.spelled) bad);
+}
+
+pub wrong_at_end : (text : List ℕ) → length text < 1 → IsWrong text text
+wrong_at_end [] none = record {
+  within = omega arith;
+  fault = λ bytes list h.
+      let whole : bytes ≡ 27 ∷ 91 ∷ h.body = h.parts ∙ ap (λ (t : List ℕ). 27 ∷ 91 ∷ t) (append-nil h.body) in
+      let end : length bytes - length {A = ℕ} [] ≡ length (27 ∷ 91 ∷ h.body) = omega (arith, ap length whole) in
+      rw end (rw whole (cut_short h.body (IsBody-from_spelling h.body list h.spellable h.spelled)));
+}
+wrong_at_end (b ∷ others) none = absurd (omega (arith, none))
 
 -- ---- what is answered
 

@@ -1,8 +1,8 @@
 //! Reading one control sequence (ECMA-48, 5.4) at the front of some bytes.
-ghost use Rattle.std.specs.Prelude.{◌≡◌, ℕ, ◌+◌, ◌-◌, ◌*◌, ◌^◌, ◌<◌, ◌≤◌, List, [], ◌∷◌, ◌++◌, length, take, pos, IfOk, IfErr, IfSome, MatchOption, MatchResult, vec_capacity};
-ghost use Rattle.csicodec_tokens.specs.Private.Reading.{IsNumber, IsTooLarge, IsFirstToken, IsPart, HasRead, HasCounted};
-ghost use Rattle.csicodec_tokens.specs.{declared.param.CsiParam.CsiParam, declared.param.CsiParam.TheVariants.P, declared.reader.ReadError.ReadError};
-ghost use Rattle.csicodec_tokens.specs.{declared.reader.ReadError.TheVariants.Memory, Digits.IsDigit, Digits.largest, Sequence.Reads, Fault.FaultOf, Fault.Refuses};
+ghost use Rattle.std.specs.Prelude.{◌≡◌, ℕ, ◌+◌, ◌-◌, ◌*◌, ◌<◌, ◌≤◌, List, ◌∷◌, length, take, IfOk, IfErr, MatchOption, MatchResult, vec_capacity};
+ghost use Rattle.csicodec_tokens.specs.{Private.Reading.IsPart, Private.Reading.HasRead, Private.Reading.fault_at, declared.param.CsiParam.CsiParam};
+ghost use Rattle.csicodec_tokens.specs.{declared.reader.ReadError.ReadError, declared.reader.ReadError.TheVariants.Memory, Digits.IsDigit, Digits.largest};
+ghost use Rattle.csicodec_tokens.specs.{Sequence.Reads, Fault.FaultOf, Fault.Refuses};
 
 use crate::body::walk_body;
 use crate::param::CsiParam;
@@ -114,57 +114,61 @@ pub(crate) fn with_digit(number: u64, digit: u8) -> Option<u64>
     }
 }
 
-/// The number that a digit and the digits behind it write, and what is behind them; or the bytes
-/// from the digit on that makes it too large.
-#[inline(always)]
-#[tactic(auto, using(crate::proofs::Reading::first_cut, crate::proofs::Reading::one_digit, crate::proofs::Reading::one_more_digit))]
-fn number_front(first: u8, text: &[u8]) -> Result<(u64, &[u8]), &[u8]>
-    requires { IsDigit first }
-    ensures { MatchResult result (λ x.
-        IsNumber first text.now x.0 x.1.now) (λ left. IsTooLarge first text.now left.now) }
-{
-    let mut number = u64::from(first - b'0');
-    let mut rest = text;
-    while let [digit @ b'0'..=b'9', others @ ..] = rest {
-        let Some(longer) = with_digit(number, *digit) else {
-            return Err(rest);
-        };
-        number = longer;
-        rest = others;
-    }
-    Ok((number, rest))
-}
-
 /// What stands in front of the bytes behind ESC and '['.
 #[derive(Clone, Copy)]
 enum Part<'a> {
     Token(CsiParam, &'a [u8]),
     Final(u8, &'a [u8]),
+    /// The bytes from the first one on with which they are the beginning of no sequence.
+    Wrong(&'a [u8]),
 }
 
-/// The part in front of the rest of the bytes.
+/// The number that a digit and the digits behind it write, or where it is too large.
 #[inline(always)]
-fn part_front<'a>(bytes: &[u8], rest: &'a [u8]) -> Result<Part<'a>, ReadError>
+#[tactic(auto, using(crate::proofs::Reading::first_cut, crate::proofs::Reading::one_digit, crate::proofs::Reading::one_more_digit))]
+fn number_front(first: u8, text: &[u8]) -> Part<'_>
+    requires { IsDigit first }
+    ensures { IsPart (first ∷ text.now) result }
+{
+    let mut number = u64::from(first - b'0');
+    let mut rest = text;
+    while let [digit @ b'0'..=b'9', others @ ..] = rest {
+        let Some(longer) = with_digit(number, *digit) else {
+            return Part::Wrong(rest);
+        };
+        number = longer;
+        rest = others;
+    }
+    Part::Token(CsiParam::Integer(number as i64), rest)
+}
+
+/// The part in front of the bytes.
+#[inline(always)]
+fn part_front(bytes: &[u8]) -> Part<'_>
+    ensures { IsPart bytes.now result }
+{
+    match bytes {
+        [digit @ b'0'..=b'9', others @ ..] => number_front(*digit, others),
+        [byte @ b'@'..=b'~', others @ ..] => Part::Final(*byte, others),
+        [byte @ b' '..=b'?', others @ ..] => Part::Token(CsiParam::P(*byte), others),
+        [] => Part::Wrong(bytes),
+        [0x00..=0x1f, ..] => Part::Wrong(bytes),
+        [0x7f..=0xff, ..] => Part::Wrong(bytes),
+    }
+}
+
+/// Why the bytes begin with no sequence, where that is so from the first byte of the rest on.
+#[cold]
+#[inline(never)]
+fn fault(bytes: &[u8], rest: &[u8]) -> ReadError
     requires { length rest.now ≤ length bytes.now }
-    ensures part { IfOk result (IsPart rest.now) }
-    ensures fault { IfErr result (λ e. (list : List CsiParam) → HasRead bytes.now list rest.now
-        → FaultOf bytes.now e) }
+    ensures { result ≡ fault_at (length bytes.now - length rest.now) rest.now }
 {
     let at = bytes.len() - rest.len();
-    if let [digit @ b'0'..=b'9', others @ ..] = rest {
-        return match number_front(*digit, others) {
-            Ok((number, behind)) => Ok(Part::Token(CsiParam::Integer(number as i64), behind)),
-            Err(left) => Err(ReadError::NumberTooLarge {
-                at: bytes.len() - left.len(),
-            }),
-        };
-    }
     match rest {
-        [byte @ b'@'..=b'~', others @ ..] => Ok(Part::Final(*byte, others)),
-        [byte @ b' '..=b'?', others @ ..] => Ok(Part::Token(CsiParam::P(*byte), others)),
-        [] => Err(ReadError::Truncated { at }),
-        [0x00..=0x1f, ..] => Err(ReadError::BadByte { at }),
-        [0x7f..=0xff, ..] => Err(ReadError::BadByte { at }),
+        [] => ReadError::Truncated { at },
+        [b' '..=b'?', ..] => ReadError::NumberTooLarge { at },
+        _ => ReadError::BadByte { at },
     }
 }
 
@@ -178,36 +182,6 @@ fn behind_introducer(bytes: &[u8]) -> Result<&[u8], ReadError>
         [] | [0x1b] => Err(ReadError::Truncated { at: bytes.len() }),
         [0x1b, ..] => Err(ReadError::NotCsi { at: 1 }),
         _ => Err(ReadError::NotCsi { at: 0 }),
-    }
-}
-
-/// The bytes behind a `;` in front: it is what mostly follows a number.
-#[inline(always)]
-fn behind_semicolon(rest: &[u8]) -> Option<&[u8]>
-    ensures { IfSome result (λ behind. IsFirstToken rest.now (P 59) behind.now) }
-{
-    match rest {
-        [b';', behind @ ..] => Some(behind),
-        _ => None,
-    }
-}
-
-/// How many tokens stand from a place on, before the final byte.
-fn tokens_from(bytes: &[u8], start: &[u8]) -> Result<usize, ReadError>
-    requires { length start.now ≤ length bytes.now }
-    ensures { (list : List CsiParam) → HasRead bytes.now list start.now →
-        MatchResult result (λ count. HasCounted bytes.now list count) (λ e. FaultOf bytes.now e) }
-{
-    let mut tokens = 0;
-    let mut rest = start;
-    loop {
-        match part_front(bytes, rest)? {
-            Part::Token(_, others) => {
-                tokens += 1;
-                rest = others;
-            }
-            Part::Final(..) => return Ok(tokens),
-        }
     }
 }
 
@@ -247,9 +221,13 @@ fn refusal(bytes: &[u8], rest: &[u8]) -> ReadError
     ensures { (list : List CsiParam) (room : ℕ) → HasRead bytes.now list rest.now
         → room < length list → Refuses bytes.now room result }
 {
-    match tokens_from(bytes, rest) {
-        Ok(_) => ReadError::Memory,
-        Err(fault) => fault,
+    let mut behind = rest;
+    loop {
+        match part_front(behind) {
+            Part::Token(_, others) => behind = others,
+            Part::Final(..) => return ReadError::Memory,
+            Part::Wrong(left) => return fault(bytes, left),
+        }
     }
 }
 
@@ -263,18 +241,12 @@ fn fill<'a>(params: &mut Vec<CsiParam>, bytes: &'a [u8]) -> Result<CsiTail<'a>, 
     params.clear();
     let mut rest = behind_introducer(bytes)?;
     loop {
-        match part_front(bytes, rest)? {
+        match part_front(rest) {
             Part::Token(token, others) => {
                 let Ok(()) = params.push(token) else {
                     return Err(refusal(bytes, others));
                 };
                 rest = others;
-                if let Some(behind) = behind_semicolon(others) {
-                    let Ok(()) = params.push(CsiParam::P(b';')) else {
-                        return Err(refusal(bytes, behind));
-                    };
-                    rest = behind;
-                }
             }
             Part::Final(byte, others) => {
                 return Ok(CsiTail {
@@ -282,6 +254,7 @@ fn fill<'a>(params: &mut Vec<CsiParam>, bytes: &'a [u8]) -> Result<CsiTail<'a>, 
                     rest: others,
                 });
             }
+            Part::Wrong(left) => return Err(fault(bytes, left)),
         }
     }
 }
@@ -336,52 +309,8 @@ pub fn read_csi_within<'a>(
 {
     let mut count = 0;
     let mut rest = behind_introducer(bytes)?;
-    while room.len() - count > 1 {
-        match part_front(bytes, rest)? {
-            Part::Token(token, others) => {
-                room[count] = token;
-                if let Some(behind) = behind_semicolon(others) {
-                    room[count + 1] = CsiParam::P(b';');
-                    count += 2;
-                    rest = behind;
-                } else {
-                    count += 1;
-                    rest = others;
-                }
-            }
-            Part::Final(byte, behind) => {
-                return Ok(ShortCsi {
-                    count,
-                    control: char::from(byte),
-                    rest: behind,
-                });
-            }
-        }
-    }
-    last_within(room, count, bytes, rest)
-}
-
-/// The same from the rest on, where there is room for few more tokens.
-#[cold]
-#[inline(never)]
-fn last_within<'a>(
-    room: &mut [CsiParam],
-    before: usize,
-    bytes: &[u8],
-    start: &'a [u8],
-) -> Result<ShortCsi<'a>, ReadError>
-    requires fits { before ≤ length room.old }
-    requires within { length start.now ≤ length bytes.now }
-    requires read { HasRead bytes.now (take before room.old) start.now }
-    ensures found { IfOk result (λ read.
-        Reads bytes.now (take read.count room.new) read.control read.rest.now) }
-    ensures fits { IfOk result (λ read. read.count ≤ length room.new) }
-    ensures refused { IfErr result (λ e. Refuses bytes.now (length room.new) e) }
-{
-    let mut count = before;
-    let mut rest = start;
     loop {
-        match part_front(bytes, rest)? {
+        match part_front(rest) {
             Part::Token(token, others) => {
                 if count == room.len() {
                     return Err(refusal(bytes, others));
@@ -397,27 +326,12 @@ fn last_within<'a>(
                     rest: behind,
                 });
             }
+            Part::Wrong(left) => return Err(fault(bytes, left)),
         }
     }
 }
 
-/// The same with a list of its own.
-fn read(alloc: Global, bytes: &[u8]) -> Result<ReadCsi<'_>, ReadError>
-    ensures { MatchResult result (λ read.
-        Reads bytes.now read.params.items read.control read.rest.now) (λ e. Refuses bytes.now 0 e) }
-{
-    let tokens = tokens_from(bytes, behind_introducer(bytes)?)?;
-    let mut params = Vec::with_capacity(alloc, tokens)?;
-    let tail = fill(&mut params, bytes)?;
-    Ok(ReadCsi {
-        params,
-        control: tail.control,
-        rest: tail.rest,
-    })
-}
-
-/// Reads the control sequence at the front of the bytes, its tokens into a list of its own, which
-/// grows once.
+/// Reads the control sequence at the front of the bytes, its tokens into a list of its own.
 ///
 /// ECMA-48, 5.4, in its 7-bit form: `ESC [` (1b 5b), then parameter bytes (30 to 3f), intermediate
 /// bytes (20 to 2f), and one final byte (40 to 7e). The bytes from 20 to 3f are read in any order
@@ -440,5 +354,11 @@ pub fn read_csi<'a>(alloc: Global, bytes: &'a [u8]) -> Result<ReadCsi<'a>, ReadE
     // Memory is refused only to a sequence, and any other error is the fault of bytes with none in front.
     ensures refused { IfErr result (λ e. Refuses bytes.now 0 e) }
 {
-    read(alloc, bytes)
+    let mut params = Vec::new(alloc);
+    let tail = read_csi_into(&mut params, bytes)?;
+    Ok(ReadCsi {
+        params,
+        control: tail.control,
+        rest: tail.rest,
+    })
 }

@@ -268,7 +268,10 @@ impl TextBuffer {
         ensures ok { OnOk result (self.new ≡ self.old ++ text.now) }
         ensures err { OnErr result (self.new ≡ self.old) }
     {
-        self.push_front(&text.bytes, text.len)
+        let len = self.len;
+        put(&mut self.bytes, len, &text.bytes, text.len)?;
+        self.len = len + text.len;
+        Ok(())
     }
 
     /// Appends the first `count` bytes of a text, by one copy of all. On `Err`, out of memory, the bytes stay.

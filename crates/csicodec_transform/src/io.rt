@@ -70,7 +70,7 @@ pub fn write_out<W: Write>(output: &mut W, bytes: &[u8]) -> Result<(), RunError>
             Ok(count) => rest = &rest[count..],
         }
     }
-    output.flush().map_err(|_| RunError::Write)
+    output.flush().or(Err(RunError::Write))
 }
 
 /// Keeps the bytes from a place on.
@@ -94,7 +94,7 @@ pub fn send<W: Write>(output: &mut W, bytes: &[u8]) -> Result<(), RunError>
     let mut rest = bytes;
     for _ in 0..u64::MAX {
         if rest.is_empty() {
-            return output.flush().map_err(|_| RunError::Write);
+            return output.flush().or(Err(RunError::Write));
         }
         match output.write(rest) {
             Ok(0) => return Err(RunError::Write),

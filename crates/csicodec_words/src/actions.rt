@@ -47,7 +47,8 @@ impl ActionList {
     fn take_margins(&mut self, left: OneBased, right: OneBased) -> Result<(), AllocError> {
         self.control = 's';
         self.params.clear();
-        let [left, right] = [left, right].map(|side| CsiParam::Integer(side.as_one_based().into()));
+        let left = CsiParam::Integer(left.as_one_based().into());
+        let right = CsiParam::Integer(right.as_one_based().into());
         self.params
             .extend_from_slice(&[left, CsiParam::P(b';'), right])
     }
@@ -55,8 +56,10 @@ impl ActionList {
     fn take_text(&mut self, action: &CSI) -> Result<(), AllocError> {
         self.text.clear();
         append_text(self.alloc, &mut self.text, action)?;
-        let tail = read_csi_into(&mut self.params, self.text.as_slice());
-        self.control = tail.map_err(|_| AllocError)?.control;
+        match read_csi_into(&mut self.params, self.text.as_slice()) {
+            Ok(tail) => self.control = tail.control,
+            Err(_) => return Err(AllocError),
+        }
         Ok(())
     }
 }
@@ -79,9 +82,11 @@ impl<'a> fmt::Display for ActionWords<'a> {
             _ => {
                 let list = self.list.params.as_slice();
                 let key = ListKey::new(list, self.list.control, list.len() as i64);
-                let words = key.words(&ACTIONS);
-                let words = words.or_else(|| key.without_intermediate().words(&ACTIONS));
-                fill(f, words.unwrap_or(""), list)
+                let words = match key.words(&ACTIONS) {
+                    Some(words) => words,
+                    None => key.without_intermediate().words(&ACTIONS).unwrap_or(""),
+                };
+                fill(f, words, list)
             }
         }
     }
@@ -103,10 +108,11 @@ fn tell_attribute<W: Write>(f: &mut Formatter<W>, attribute: &Sgr) -> fmt::Resul
 pub(crate) fn tell_unknown<W: Write>(f: &mut Formatter<W>, unknown: &Unspecified) -> fmt::Result {
     f.write_str("unknown  CSI ")?;
     for token in &unknown.params {
-        match token {
-            CsiParam::P(b' ') => f.write_str(" SP ")?,
-            _ => write!(f, "{token}")?,
-        }
+        let told = match token {
+            CsiParam::P(b' ') => f.write_str(" SP "),
+            _ => write!(f, "{token}"),
+        };
+        told?;
     }
     f.write_char(unknown.control)
 }

@@ -10,7 +10,8 @@ pub(crate) fn extensions<W: Write>(f: &mut Formatter<W>, params: &[CsiParam]) ->
     let is_action = matches!(number(params, 0), Some(62..=64));
     let mut ahead = ", with ";
     for token in params.get(2..).unwrap_or(&[]) {
-        if *token == CsiParam::P(b';') || (!is_action && matches!(token, CsiParam::P(_))) {
+        let is_semicolon = matches!(token, CsiParam::P(b';'));
+        if is_semicolon || (!is_action && matches!(token, CsiParam::P(_))) {
             continue;
         }
         f.write_str(ahead)?;

@@ -29,22 +29,25 @@ const MOUSE: &str =
     "mouse  {0@mouse} line {1@place}, column {2@place}{0&, with |4=shift|8=alt|16=control}";
 
 /// The number of the next character; 0 where there is none.
-fn next_number(text: &mut std::str::Chars<'_>) -> CsiParam {
-    let character = text.next();
-    Integer(character.map_or(0, |it| i64::from(u32::from(it))))
+fn next(text: &mut std::str::Chars<'_>) -> i64 {
+    i64::from(u32::from(text.next().unwrap_or('\0')))
 }
 
 /// A report of the mouse: behind `ESC [ M` stand three characters, a byte each or in UTF-8 (xterm's ctlseqs, Mouse Tracking; mode 1005).
 fn report_of(bytes: &[u8]) -> [CsiParam; 5] {
     let characters = bytes.get(3..).unwrap_or(&[]);
-    let [button, column, line] = match characters {
-        [button, column, line] => [*button, *column, *line].map(|byte| Integer(byte.into())),
-        _ => {
-            let mut text = std::str::from_utf8(characters).unwrap_or("").chars();
-            [0; 3].map(|_: i64| next_number(&mut text))
-        }
+    let mut text = std::str::from_utf8(characters).unwrap_or("").chars();
+    let (button, column, line): (i64, i64, i64) = match characters {
+        [button, column, line] => ((*button).into(), (*column).into(), (*line).into()),
+        _ => (next(&mut text), next(&mut text), next(&mut text)),
     };
-    [button, P(b';'), line, P(b';'), column]
+    [
+        Integer(button),
+        P(b';'),
+        Integer(line),
+        P(b';'),
+        Integer(column),
+    ]
 }
 
 /// What sends the same as the key that is read of an event. F3 with modifiers is also the cursor's place in line 1.

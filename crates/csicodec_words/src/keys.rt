@@ -46,23 +46,27 @@ impl fmt::Display for KeyWords {
         f.write_str("key  ")?;
         write_held(f, key.modifiers)?;
         write_code(f, key.code)?;
-        if key.code == KeyCode::Text {
+        if matches!(key.code, KeyCode::Text) {
             write_text(f, " \"", key.text.as_slice())?;
         } else if !key.text.is_empty() {
             write_text(f, ", text \"", key.text.as_slice())?;
         }
-        match key.event {
-            KeyEvent::Press => Ok(()),
-            KeyEvent::Repeat => f.write_str(", repeated"),
-            KeyEvent::Release => f.write_str(", released"),
-        }
+        f.write_str(match key.event {
+            KeyEvent::Press => "",
+            KeyEvent::Repeat => ", repeated",
+            KeyEvent::Release => ", released",
+        })
     }
 }
 
-/// The modifiers, each with a hyphen behind it.
+/// The bits of modifiers, and the name of each with a hyphen behind it.
+static BITS: [u8; 6] = [4, 2, 1, 8, 16, 32];
+
+static HELD: [&str; 6] = ["Ctrl-", "Alt-", "Shift-", "Super-", "Hyper-", "Meta-"];
+
+/// The modifiers.
 fn write_held<W: Write>(f: &mut Formatter<W>, modifiers: KeyModifiers) -> fmt::Result {
-    let names = ["Ctrl-", "Alt-", "Shift-", "Super-", "Hyper-", "Meta-"];
-    for (bit, name) in [4, 2, 1, 8, 16, 32].iter().zip(names.iter()) {
+    for (bit, name) in BITS.iter().zip(&HELD) {
         if modifiers.bits() & *bit != 0 {
             f.write_str(name)?;
         }
@@ -77,10 +81,10 @@ fn write_code<W: Write>(f: &mut Formatter<W>, code: KeyCode) -> fmt::Result {
         KeyCode::Char(' ') => f.write_str("Space"),
         KeyCode::Char(character) if is_seen(character) => f.write_char(character),
         KeyCode::Char(character) => write!(f, "of character {}", u32::from(character)),
-        _ => match KEYS.get(usize::from(code.tag()).saturating_sub(2)) {
-            Some(words) => f.write_str(words),
-            None => Ok(()),
-        },
+        _ => {
+            let words = KEYS.get(usize::from(code.tag()).saturating_sub(2));
+            f.write_str(words.copied().unwrap_or(""))
+        }
     }
 }
 

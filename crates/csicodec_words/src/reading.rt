@@ -45,18 +45,20 @@ impl<'a> fmt::Display for Reading<'a> {
             action: self.action,
             list: self.list,
         };
-        write!(f, "{words}")?;
-        f.write_str(read_also(self.params, self.control).unwrap_or(""))
+        let behind = read_also(self.params, self.control).unwrap_or("");
+        write!(f, "{words}{behind}")
     }
 }
 
 /// Whether a list is a marker, numbers with semicolons and colons between them, and an intermediate byte, of which each may be left
 /// out: the lists that terminals read (ECMA-48, 5.4.2; DEC's markers).
 fn is_regular(params: &[CsiParam]) -> bool {
-    Parts::of(params).body.iter().all(|token| matches!(
-        token,
-        CsiParam::Integer(0..) | CsiParam::P(b';' | b':')
-    ))
+    for token in Parts::of(params).body {
+        if !matches!(token, CsiParam::Integer(0..) | CsiParam::P(b';' | b':')) {
+            return false;
+        }
+    }
+    true
 }
 
 /// What terminals make of a list beside the action that the codec reads it as.
@@ -91,8 +93,10 @@ fn unread<W: Write>(f: &mut Formatter<W>, unknown: &Unspecified, sent: bool) -> 
     }
     let words = match (control, params) {
         ('m', [CsiParam::Integer(number)]) => words_of(&ATTRIBUTES, *number),
-        _ if sent => words(params, control),
-        _ => key_by_number(control, params).or_else(|| words(params, control)),
+        _ => match key_by_number(control, params) {
+            Some(words) if !sent => Some(words),
+            _ => words(params, control),
+        },
     };
     match words {
         Some(words) => fill(f, words, params),

@@ -7,14 +7,23 @@ use std::fmt::{self, Formatter, Write};
 /// Rows, each a key, a tab and words, in the order of their bytes.
 pub type Rows = &'static [&'static str];
 
+/// The rows from the first one on that isn't ahead of a key.
+pub(crate) fn rows_from(table: Rows, key: &[u8]) -> Rows {
+    let at = table.partition_point(|row| row.as_bytes() < key);
+    table.get(at..).unwrap_or(&[])
+}
+
+/// What is ahead of the first such character, all where there is none; and what is behind it, nothing where there is none.
+pub(crate) fn cut(text: &str, at: char) -> (&str, &str) {
+    text.split_once(at).unwrap_or((text, ""))
+}
+
 /// The words behind a key, where the table has it.
 pub fn find(table: Rows, key: &[u8]) -> Option<&'static str> {
-    let at = table.partition_point(|row| row.as_bytes() < key);
-    let (known, words) = table.get(at)?.split_at_checked(key.len())?;
-    if known.as_bytes() == key {
-        words.strip_prefix('\t')
-    } else {
-        None
+    let row = rows_from(table, key).first()?;
+    match row.as_bytes().strip_prefix(key) {
+        Some([b'\t', ..]) => row.get(key.len().saturating_add(1)..),
+        _ => None,
     }
 }
 

@@ -1,6 +1,6 @@
 //! The words of control sequences by their lists: those that a row of csicodec_sequences reads, and others.
 
-use crate::rows::{Rows, number};
+use crate::rows::{Rows, cut, number, rows_from};
 use crate::sequence_rows::{INSTEAD, parts};
 use csicodec_base::CsiParam;
 use csicodec_sequences::{KnownSequence, Parts};
@@ -24,10 +24,13 @@ fn is_within(number: i64, span: &str) -> bool {
     number >= first.parse().unwrap_or(0) && number <= last.parse().unwrap_or(i64::MAX)
 }
 
+fn shown(byte: u8) -> u8 {
+    if byte == 0 { b'_' } else { byte }
+}
+
 /// What a row of a list begins with: the final character, the marker and the intermediate byte.
 fn front_of(params: &[CsiParam], control: char) -> [u8; 3] {
     let parts = Parts::of(params);
-    let shown = |byte: u8| if byte == 0 { b'_' } else { byte };
     [
         u8::try_from(u32::from(control)).unwrap_or(0),
         shown(parts.marker),
@@ -71,10 +74,9 @@ impl ListKey {
 
     /// The same of a row that reads the list.
     fn read_by(self, known: &KnownSequence) -> ListKey {
-        let value = |index: usize| i64::from(known.value(index).unwrap_or(0));
         ListKey {
-            first: value(0),
-            second: value(1),
+            first: known.value(0).unwrap_or(0).into(),
+            second: known.value(1).unwrap_or(0).into(),
             kind: Some(known.form().kind),
             ..self
         }
@@ -82,9 +84,9 @@ impl ListKey {
 
     /// Whether a row has the numbers.
     fn is_of(&self, numbers: &str) -> bool {
-        let mut parts = numbers.split(',');
-        let (first, second) = (parts.next().unwrap_or(""), parts.next().unwrap_or(""));
-        let (fields, kind) = (parts.next().unwrap_or(""), parts.next().unwrap_or(""));
+        let (first, rest) = cut(numbers, ',');
+        let (second, rest) = cut(rest, ',');
+        let (fields, kind) = cut(rest, ',');
         is_within(self.first, first)
             && is_within(self.second, second)
             && match self.kind {
@@ -106,13 +108,11 @@ impl ListKey {
     /// The words of the first row that is of the list, in a table in the order of its rows' first three bytes.
     pub(crate) fn words(&self, rows: Rows) -> Option<&'static str> {
         let front = self.front.as_slice();
-        let begin = rows.partition_point(|row| row.as_bytes() < front);
-        for row in rows.get(begin..)? {
-            let (known, behind) = row.split_at_checked(3)?;
-            if known.as_bytes() != front {
+        for row in rows_from(rows, front) {
+            if !row.as_bytes().starts_with(front) {
                 return None;
             }
-            if let Some(words) = self.words_behind(behind) {
+            if let Some(words) = self.words_behind(row.get(3..)?) {
                 return Some(words);
             }
         }
@@ -133,17 +133,22 @@ fn words_in_parts(key: &ListKey) -> Option<&'static str> {
 /// The words of a list without an action; none of a key.
 pub(crate) fn words(params: &[CsiParam], control: char) -> Option<&'static str> {
     let key = ListKey::new(params, control, count_fields(params));
-    let known = KnownSequence::read(params, control);
-    let read = known.and_then(|known| words_in_parts(&key.read_by(&known)));
-    read.or_else(|| words_in_parts(&key))
+    if let Some(known) = KnownSequence::read(params, control) {
+        if let Some(words) = words_in_parts(&key.read_by(&known)) {
+            return Some(words);
+        }
+    }
+    words_in_parts(&key)
 }
 
 /// The words in the place of an action's, where terminals read its list otherwise.
 pub(crate) fn words_instead(params: &[CsiParam], control: char) -> Option<&'static str> {
     let front = front_of(params, control);
     // Few lists have any, and a list of many attributes isn't gone through for each of them.
-    if !INSTEAD.iter().any(|row| row.as_bytes().starts_with(&front)) {
-        return None;
+    for row in &INSTEAD {
+        if row.as_bytes().starts_with(&front) {
+            return ListKey::new(params, control, count_fields(params)).words(&INSTEAD);
+        }
     }
-    ListKey::new(params, control, count_fields(params)).words(&INSTEAD)
+    None
 }

@@ -1,6 +1,5 @@
 //! Colours, in words.
 
-use crate::rows::tell_number;
 use crate::sgr_words::COLORS;
 use csicodec_base::ColorSpec;
 use std::fmt::{self, Formatter, Write};
@@ -13,23 +12,10 @@ pub(crate) fn tell_color<W: Write>(f: &mut Formatter<W>, color: &ColorSpec) -> f
             Some(name) => f.write_str(name),
             None => write!(f, "palette {index}"),
         },
-        ColorSpec::TrueColor(parts) => tell_parts(f, parts.to_srgb_u8()),
+        ColorSpec::TrueColor(parts) => match parts.to_srgb_u8() {
+            (red, green, blue, 255) => write!(f, "rgb {red},{green},{blue}"),
+            (red, green, blue, alpha) => write!(f, "rgb {red},{green},{blue}, alpha {alpha}"),
+        },
         ColorSpec::Default => f.write_str("default"),
     }
-}
-
-fn tell_parts<W: Write>(
-    f: &mut Formatter<W>,
-    (red, green, blue, alpha): (u8, u8, u8, u8),
-) -> fmt::Result {
-    let mut ahead = "rgb ";
-    for part in [red, green, blue] {
-        f.write_str(ahead)?;
-        tell_number(f, i64::from(part))?;
-        ahead = ",";
-    }
-    if alpha == 255 {
-        return Ok(());
-    }
-    write!(f, ", alpha {alpha}")
 }

@@ -1,6 +1,6 @@
 //! Words with holes for numbers.
 
-use crate::rows::{number, tell_number};
+use crate::rows::{cut, number, tell_number};
 use crate::told::tell_by_code;
 use csicodec_base::CsiParam;
 use std::fmt::{self, Formatter, Write};
@@ -13,7 +13,7 @@ pub fn fill<W: Write>(f: &mut Formatter<W>, words: &str, params: &[CsiParam]) ->
     let mut pieces = words.split('{');
     f.write_str(pieces.next().unwrap_or(""))?;
     for piece in pieces {
-        let (hole, text) = piece.split_once('}').unwrap_or((piece, ""));
+        let (hole, text) = cut(piece, '}');
         fill_hole(f, hole, params)?;
         f.write_str(text)?;
     }
@@ -23,16 +23,12 @@ pub fn fill<W: Write>(f: &mut Formatter<W>, words: &str, params: &[CsiParam]) ->
 /// A hole is a place, a digit of base 16, and what is told of the number there.
 fn fill_hole<W: Write>(f: &mut Formatter<W>, hole: &str, params: &[CsiParam]) -> fmt::Result {
     let mut rest = hole.chars();
-    let digit = rest.next();
-    let place = digit.and_then(|it| it.to_digit(16)).unwrap_or(0);
-    let value = number(params, place);
-    match rest.as_str().strip_prefix('=') {
-        Some(rest) => {
-            let (otherwise, kind) = front_number(rest);
-            fill_kind(f, kind, place, value.or(otherwise), params)
-        }
-        None => fill_kind(f, rest.as_str(), place, value, params),
-    }
+    let place = rest.next().unwrap_or('0').to_digit(16).unwrap_or(0);
+    let (otherwise, kind) = match rest.as_str().strip_prefix('=') {
+        Some(rest) => front_number(rest),
+        None => (None, rest.as_str()),
+    };
+    fill_kind(f, kind, place, number(params, place).or(otherwise), params)
 }
 
 /// The number that a text begins with, and what is behind it.
@@ -66,43 +62,41 @@ fn fill_kind<W: Write>(
     }
 }
 
-/// A number and what it counts.
+/// A number, and what it counts where there is something.
 fn counted<W: Write>(f: &mut Formatter<W>, unit: &str, number: i64) -> fmt::Result {
     tell_number(f, number)?;
     let plural = if number == 1 { "" } else { "s" };
-    write!(f, " {unit}{plural}")
+    match unit {
+        "" => Ok(()),
+        _ => write!(f, " {unit}{plural}"),
+    }
 }
 
 /// A number, or what stands in its place where it is left out or 0.
 fn fill_number<W: Write>(f: &mut Formatter<W>, kind: &str, value: Option<i64>) -> fmt::Result {
-    let (kind, left_out) = kind.split_once('~').unwrap_or((kind, ""));
-    let (otherwise, ahead) = left_out.split_once('|').unwrap_or((left_out, ""));
-    if value.is_none() && !otherwise.is_empty() {
-        return f.write_str(otherwise);
-    }
-    f.write_str(ahead)?;
-    let (kind, unit) = kind.split_once('#').unwrap_or((kind, ""));
+    let (kind, left_out) = cut(kind, '~');
+    let (otherwise, ahead) = cut(left_out, '|');
+    let (kind, unit) = cut(kind, '#');
     let zero = kind.strip_prefix(':').unwrap_or("");
-    let number = value.unwrap_or(0);
-    if number == 0 && !zero.is_empty() {
-        f.write_str(zero)
-    } else if unit.is_empty() {
-        tell_number(f, number)
-    } else {
-        counted(f, unit, number)
+    match value.unwrap_or(0) {
+        _ if value.is_none() && !otherwise.is_empty() => f.write_str(otherwise),
+        0 if !zero.is_empty() => write!(f, "{ahead}{zero}"),
+        number => {
+            f.write_str(ahead)?;
+            counted(f, unit, number)
+        }
     }
 }
 
 /// The words of a value in a list.
 fn told<W: Write>(f: &mut Formatter<W>, list: &str, value: i64) -> fmt::Result {
     for entry in list.split('|') {
-        if let Some((number, words)) = entry.split_once('=') {
-            if number.is_empty() || number.parse::<i64>().ok() == Some(value) {
-                return match words.strip_suffix('#') {
-                    Some(ahead) => write!(f, "{ahead}{value}"),
-                    None => f.write_str(words),
-                };
-            }
+        let (number, words) = cut(entry, '=');
+        if number.parse::<i64>().unwrap_or(value) == value {
+            return match words.strip_suffix('#') {
+                Some(ahead) => write!(f, "{ahead}{value}"),
+                None => f.write_str(words),
+            };
         }
     }
     tell_number(f, value)
@@ -133,13 +127,13 @@ fn each_told<W: Write>(
 
 /// The words in a list of which a value has one of the bits: what the list begins with ahead of the first, and commas between them.
 fn bits_told<W: Write>(f: &mut Formatter<W>, list: &str, value: i64) -> fmt::Result {
-    let (ahead, entries) = list.split_once('|').unwrap_or((list, ""));
+    let (first, entries) = cut(list, '|');
     let mut is_first = true;
     for entry in entries.split('|') {
-        let (bits, words) = entry.split_once('=').unwrap_or(("", entry));
+        let (bits, words) = cut(entry, '=');
         if bits.parse::<i64>().unwrap_or(0) & value != 0 {
-            f.write_str(if is_first { ahead } else { ", " })?;
-            f.write_str(words)?;
+            let ahead = if is_first { first } else { ", " };
+            write!(f, "{ahead}{words}")?;
             is_first = false;
         }
     }

@@ -3,7 +3,7 @@ use Rattle.csicodec_actions.specs.Rows.{Row, row, One, Number, mark, counted, ch
 use Rattle.csicodec_actions.specs.{Actions.Action, Actions.Cursor, Kinds.Count, Kinds.Last, Kinds.Style, Kinds.Control, Kinds.Clear, Written.Written}
 use Rattle.csicodec_actions.specs.{Written.The, Written.count, Written.choice, Written.two, Written.fixed, Written.write, Written.put, Common.ℕ, Common.List}
 use Rattle.csicodec_actions.specs.{Common.[], Common.Option, Common.CsiParam, Common.most}
-use Rattle.std.specs.Prelude.{◌==◌, ◌&&◌, ◌∷◌, if◌then◌else◌}
+use Rattle.std.specs.Prelude.{◌==◌, ◌&&◌, ◌++◌, ◌∷◌, if◌then◌else◌}
 use Rattle.csicodec_names.specs.declared.enums.CursorTabulationControl.TheVariants as control
 use Rattle.csicodec_names.specs.declared.enums.TabulationClear.TheVariants as clear
 use Rattle.csicodec_actions.specs.declared.cursor.Cursor as cursor_type
@@ -19,9 +19,9 @@ abbrev pub left_and_right : List (Row Action)
 left_and_right = row [] (Cursor cursor.SaveCursor) ∷ halves Count most (λ a b.
     Cursor (cursor.SetLeftAndRightMargins a b))
 
--- a line for each final character
-abbrev pub cursor_rows : List (Before Action)
-cursor_rows =
+-- a line for each final character that a count or a place stands ahead of
+abbrev pub moves : List (Before Action)
+moves =
     before "A" (counted (λ n. Cursor (cursor.Up n)))
     ∷ before "B" (counted (λ n. Cursor (cursor.Down n)))
     ∷ before "C" (counted (λ n. Cursor (cursor.Right n)))
@@ -30,9 +30,6 @@ cursor_rows =
     ∷ before "F" (counted (λ n. Cursor (cursor.PrecedingLine n)))
     ∷ before "G" (counted (λ n. Cursor (cursor.CharacterAbsolute n)))
     ∷ before "`" (counted (λ n. Cursor (cursor.CharacterPositionAbsolute n)))
-    ∷ before "H" (paired (λ a b. Cursor (cursor.Position a b)))
-    ∷ before "R" (paired (λ a b. Cursor (cursor.ActivePositionReport a b)))
-    ∷ before "f" (paired (λ a b. Cursor (cursor.CharacterAndLinePosition a b)))
     ∷ before "I" (counted (λ n. Cursor (cursor.ForwardTabulation n)))
     ∷ before "Z" (counted (λ n. Cursor (cursor.BackwardTabulation n)))
     ∷ before "Y" (counted (λ n. Cursor (cursor.LineTabulation n)))
@@ -41,16 +38,28 @@ cursor_rows =
     ∷ before "d" (counted (λ n. Cursor (cursor.LinePositionAbsolute n)))
     ∷ before "e" (counted (λ n. Cursor (cursor.LinePositionForward n)))
     ∷ before "k" (counted (λ n. Cursor (cursor.LinePositionBackward n)))
-    ∷ before "W" (chosen Control control.SetCharacterTabStopAtActivePosition (λ c.
+    ∷ []
+
+unfoldable pub as_move : List CsiParam → ℕ → Option Action
+as_move list final = read_by moves list final
+
+-- and for each other one
+abbrev pub cursor_rows : List (Before Action)
+cursor_rows =
+    moves
+    ++ (before "W" (chosen Control control.SetCharacterTabStopAtActivePosition (λ c.
     Cursor (cursor.TabulationControl c)))
     ∷ before "g" (chosen Clear clear.ClearCharacterTabStopAtActivePosition (λ c.
     Cursor (cursor.TabulationClear c)))
+    ∷ before "H" (paired (λ a b. Cursor (cursor.Position a b)))
+    ∷ before "R" (paired (λ a b. Cursor (cursor.ActivePositionReport a b)))
+    ∷ before "f" (paired (λ a b. Cursor (cursor.CharacterAndLinePosition a b)))
     ∷ before "r" top_and_bottom
     ∷ before "s" left_and_right
     ∷ before "u" (row [] (Cursor cursor.RestoreCursor) ∷ [])
     ∷ before "n" (row (Number 6 ∷ []) (Cursor cursor.RequestActivePositionReport) ∷ [])
     ∷ before "q" (row (One Style ∷ mark " " ∷ []) (λ c. Cursor (cursor.CursorStyle c)) ∷ [])
-    ∷ []
+    ∷ [])
 
 unfoldable pub as_cursor : List CsiParam → ℕ → Option Action
 as_cursor list final = read_by cursor_rows list final

@@ -1,9 +1,9 @@
 //! The rows of the cursor.
-ghost use Rattle.csicodec_actions.specs.{Actions.Cursor as Moves, Table.Cursor.as_cursor, Common.option_map};
+ghost use Rattle.csicodec_actions.specs.{Actions.Cursor as Moves, Table.Cursor.as_cursor, Table.Cursor.as_move, Common.option_map};
 ghost use Rattle.std.specs.Prelude.{◌≡◌};
 
 use crate::Cursor;
-use crate::lists::params::{choice, count, place, places};
+use crate::lists::params::{choice, place, places};
 use csicodec_base::{CsiParam, CursorStyle, CursorTabulationControl, OneBased, TabulationClear};
 
 /// The action of the cursor before this final character, if a row reads the list.
@@ -12,19 +12,11 @@ use csicodec_base::{CsiParam, CursorStyle, CursorTabulationControl, OneBased, Ta
 /// cursor_action(&[CsiParam::Integer(2)], 'A')        // Some(Cursor::Up(2))
 /// cursor_action(&[CsiParam::Integer(2)], 'm')        // None
 /// ```
-#[tactic(auto, using(crate::proofs::Finals::finals))]
+#[tactic(auto, using(crate::proofs::Finals::pairs))]
 pub fn cursor_action(params: &[CsiParam], control: char) -> Option<Cursor>
     ensures { option_map (λ c. Moves c) result ≡ as_cursor params.now control }
 {
     match control {
-        'A' => Some(Cursor::Up(count(params)?)),
-        'B' => Some(Cursor::Down(count(params)?)),
-        'C' => Some(Cursor::Right(count(params)?)),
-        'D' => Some(Cursor::Left(count(params)?)),
-        'E' => Some(Cursor::NextLine(count(params)?)),
-        'F' => Some(Cursor::PrecedingLine(count(params)?)),
-        'G' => Some(Cursor::CharacterAbsolute(place(params)?)),
-        '`' => Some(Cursor::CharacterPositionAbsolute(place(params)?)),
         'H' => {
             let (line, col) = places(params)?;
             Some(Cursor::Position { line, col })
@@ -37,14 +29,6 @@ pub fn cursor_action(params: &[CsiParam], control: char) -> Option<Cursor>
             let (line, col) = places(params)?;
             Some(Cursor::CharacterAndLinePosition { line, col })
         }
-        'I' => Some(Cursor::ForwardTabulation(count(params)?)),
-        'Z' => Some(Cursor::BackwardTabulation(count(params)?)),
-        'Y' => Some(Cursor::LineTabulation(count(params)?)),
-        'a' => Some(Cursor::CharacterPositionForward(count(params)?)),
-        'j' => Some(Cursor::CharacterPositionBackward(count(params)?)),
-        'd' => Some(Cursor::LinePositionAbsolute(count(params)?)),
-        'e' => Some(Cursor::LinePositionForward(count(params)?)),
-        'k' => Some(Cursor::LinePositionBackward(count(params)?)),
         'W' => tabulation_control(params),
         'g' => tabulation_clear(params),
         'r' => top_and_bottom(params),
@@ -52,6 +36,35 @@ pub fn cursor_action(params: &[CsiParam], control: char) -> Option<Cursor>
         'u' => restore(params),
         'n' => request(params),
         'q' => style(params),
+        _ => moved(params, control),
+    }
+}
+
+/// What moves the cursor by a count, or to a place, before this final character.
+#[tactic(auto, using(crate::proofs::Finals::moves))]
+#[inline(always)]
+fn moved(params: &[CsiParam], control: char) -> Option<Cursor>
+    ensures { option_map (λ c. Moves c) result ≡ as_move params.now control }
+{
+    let place = place(params)?;
+    let count = place.as_one_based();
+    match control {
+        'A' => Some(Cursor::Up(count)),
+        'B' => Some(Cursor::Down(count)),
+        'C' => Some(Cursor::Right(count)),
+        'D' => Some(Cursor::Left(count)),
+        'E' => Some(Cursor::NextLine(count)),
+        'F' => Some(Cursor::PrecedingLine(count)),
+        'G' => Some(Cursor::CharacterAbsolute(place)),
+        '`' => Some(Cursor::CharacterPositionAbsolute(place)),
+        'I' => Some(Cursor::ForwardTabulation(count)),
+        'Z' => Some(Cursor::BackwardTabulation(count)),
+        'Y' => Some(Cursor::LineTabulation(count)),
+        'a' => Some(Cursor::CharacterPositionForward(count)),
+        'j' => Some(Cursor::CharacterPositionBackward(count)),
+        'd' => Some(Cursor::LinePositionAbsolute(count)),
+        'e' => Some(Cursor::LinePositionForward(count)),
+        'k' => Some(Cursor::LinePositionBackward(count)),
         _ => None,
     }
 }

@@ -1,6 +1,8 @@
 //! The rows of modes: those that are asked for, and modified keys.
-ghost use Rattle.csicodec_actions.specs.{Actions.Mode as Modes, Table.Mode.as_mode, Common.option_map};
+ghost use Rattle.csicodec_actions.specs.{Actions.Mode as Modes, Kinds.Resource, Kinds.read, Table.Mode.as_mode, Common.Some, Common.option_and_then};
+ghost use Rattle.csicodec_actions.specs.{Common.option_map};
 ghost use Rattle.std.specs.Prelude.{◌≡◌};
+ghost use Rattle.csicodec_actions.specs.declared.mode.Mode.TheVariants as mode;
 
 use crate::{DecPrivateMode, Mode, TerminalMode, XtermKeyModifierResource};
 use csicodec_base::CsiParam::{self, Integer, P};
@@ -19,16 +21,20 @@ pub fn mode_action(params: &[CsiParam], control: char) -> Option<Mode>
             _ => None,
         },
         'm' => match params {
-            [P(b'>'), Integer(number)] | [P(b'>'), Integer(number), P(b';')] => {
-                let (resource, value) = (XtermKeyModifierResource::parse(*number)?, None);
-                Some(Mode::XtermKeyMode { resource, value })
-            }
-            [P(b'>'), Integer(number), P(b';'), Integer(value)] => {
-                let (resource, value) = (XtermKeyModifierResource::parse(*number)?, Some(*value));
-                Some(Mode::XtermKeyMode { resource, value })
-            }
+            [P(b'>'), Integer(number)] => key_mode(*number, None),
+            [P(b'>'), Integer(number), P(b';')] => key_mode(*number, None),
+            [P(b'>'), Integer(number), P(b';'), Integer(value)] => key_mode(*number, Some(*value)),
             _ => None,
         },
         _ => None,
     }
+}
+
+/// The keys of a number, and their value.
+fn key_mode(number: i64, value: Option<i64>) -> Option<Mode>
+    ensures { option_map (λ m. Modes m) result
+        ≡ option_and_then (λ keys. Some (Modes (mode.XtermKeyMode keys value))) (read Resource number) }
+{
+    let resource = XtermKeyModifierResource::parse(number)?;
+    Some(Mode::XtermKeyMode { resource, value })
 }

@@ -1,7 +1,9 @@
 //! The rows of the mouse.
 ghost use Rattle.csicodec_actions.specs.{Actions.Mouse as Reports, Kinds.Pressed, Kinds.Released, Kinds.Word, Kinds.read, Mouse.button_bits, Mouse.button_code};
 ghost use Rattle.csicodec_actions.specs.{Mouse.pressed, Mouse.released, Table.Mouse.as_mouse, Common.pos, Common.bit_and, Common.option_map, Common.with_number};
+ghost use Rattle.csicodec_actions.specs.{Common.Some, Common.option_and_then};
 ghost use Rattle.std.specs.Prelude.{◌≡◌, ◌/◌};
+ghost use Rattle.csicodec_actions.specs.declared.mouse.MouseReport.TheVariants as mouse;
 
 use crate::{MouseButton, MouseReport};
 use bitflags::Flags;
@@ -21,29 +23,28 @@ pub fn mouse_action(params: &[CsiParam], control: char) -> Option<MouseReport>
             Integer(x),
             P(b';'),
             Integer(y),
-        ] => {
-            let (button, modifiers) = match control {
-                'M' => press(*code)?,
-                'm' => release(*code)?,
-                _ => return None,
-            };
-            let (x, y) = (word_at(*x)?, word_at(*y)?);
-            Some(MouseReport::SGR1006 {
-                x,
-                y,
-                button,
-                modifiers,
-            })
-        }
+        ] => match control {
+            'M' => report(press(*code)?, *x, *y),
+            'm' => report(release(*code)?, *x, *y),
+            _ => None,
+        },
         _ => None,
     }
 }
 
+/// The report of a button and of what is held, at this place.
 #[tactic(auto, unfolding(crate::specs::Kinds::read))]
-fn word_at(number: i64) -> Option<u16>
-    ensures { result ≡ read Word number }
+fn report(done: (MouseButton, Modifiers), x: i64, y: i64) -> Option<MouseReport>
+    ensures { option_map (λ m. Reports m) result
+        ≡ option_and_then (λ right. option_and_then (λ down. Some (Reports (mouse.SGR1006 right down done.0 done.1))) (read Word y)) (read Word x) }
 {
-    u16::try_from(number).ok()
+    let (button, modifiers) = done;
+    Some(MouseReport::SGR1006 {
+        x: u16::try_from(x).ok()?,
+        y: u16::try_from(y).ok()?,
+        button,
+        modifiers,
+    })
 }
 
 /// The button of a code before `M`.

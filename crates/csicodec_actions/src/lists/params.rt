@@ -4,20 +4,7 @@ ghost use Rattle.std.specs.Prelude.{◌≡◌};
 
 use csicodec_base::{CsiParam, OneBased};
 
-/// The one count of a list, and 1 for none.
-#[tactic(auto, unfolding(crate::specs::Kinds::read))]
-pub(crate) fn count(params: &[CsiParam]) -> Option<u32>
-    ensures { result ≡ given (counted (λ n. n)) params.now }
-{
-    match params {
-        [] => Some(1),
-        [CsiParam::Integer(0)] => Some(1),
-        [CsiParam::Integer(number)] => u32::try_from(*number).ok(),
-        _ => None,
-    }
-}
-
-/// The one line or column of a list, and the first for none.
+/// The one count, line or column of a list, and 1 for none.
 #[tactic(auto, unfolding(crate::specs::Kinds::read))]
 pub(crate) fn place(params: &[CsiParam]) -> Option<OneBased>
     ensures { result ≡ given (counted (λ n. n)) params.now }

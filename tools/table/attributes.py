@@ -138,9 +138,9 @@ def parts(them):
         "crates/csicodec_base/src/sgr.rt": [Part(list(them.each(WRITE)), ("    pub fn write_to(&self, text: &mut Text)", "        match self {"), "        }")],
         "crates/csicodec_base/specs/SgrText.antt": [Part(list(them.each(TEXTS)), ("abbrev pub sgr_text : Sgr → List ℕ",))],
         "crates/csicodec_actions/specs/Ranges.antt": [Part(list(ranges(them)), ("abbrev pub SgrInRange : sgr_type.Sgr → Type 0",), "")],
-        "crates/csicodec/proofs/SgrSpelling.antt": [Part(list(them.each(SPELLINGS)), (spelling, "unfolding digits piece"))],
+        "crates/csicodec_streams/proofs/SgrSpelling.antt": [Part(list(them.each(SPELLINGS)), (spelling, "unfolding digits piece"))],
         "crates/csicodec_clean/proofs/Coded.antt": [Part([f"coded {value} h k = fixed _ refl refl (omega arith) (omega arith)" for value in them.firsts()], ("coded (sgr.Font (font.Alternate n)) h k = absurd cc",), "coded s h k = fixed (sgr_text s) refl refl (omega arith) (omega arith)")],
-        "crates/csicodec_html/src/look.rt": [Part(list(look_arms(them)), (behind, "        match *attribute {"), "        }")],
-        "crates/csicodec_html/specs/Look.antt": [Part(list(looks(them)), ("abbrev pub behind : Look → Sgr → Look",), "")],
+        "crates/csicodec_looks/src/look.rt": [Part(list(look_arms(them)), (behind, "        match *attribute {"), "        }")],
+        "crates/csicodec_looks/specs/Look.antt": [Part(list(looks(them)), ("abbrev pub behind : Look → Sgr → Look",), "")],
         "rust/src/pen.rs": [Part(list(pen(them)), ("pen! {",), "}")],
     }

@@ -13,7 +13,7 @@ WIDTH = 100
 CURSOR = {
     "name": "cursor",
     "write": "            Cursor::TabulationControl(control) => write_choice(text, control.to_i64() as u8, b'W'),",
-    "read": "        'W' => tabulation_control(params),",
+    "read": "        'W' => Some(Cursor::TabulationControl(CursorTabulationControl::from_i64(choice(params)?)?)),",
     "indent": 8,
     "count": "    let count = place.as_one_based();",
     "rows": "moves =",
@@ -124,7 +124,7 @@ def read_arms(actions, indent):
 def pair_arms(actions):
     for action in actions:
         yield f"        {byte(action.row['final'])[1:]} => {{"
-        yield f"            let ({fields(action)}) = places(params)?;"
+        yield f"            let ({fields(action)}) = places(params, 1)?;"
         yield f"            Some({rust(action)} {{ {fields(action)} }})"
         yield "        }"
 
@@ -160,9 +160,8 @@ def runs(finals):
 def default_arms(actions):
     """Which number compact leaves out before which finals."""
     left = {number: [(action.row.get("final") or action.text())[-1] for action in actions if action.row.get("left_out") == number] for number in (0, 1)}
-    first, *others = runs(left[1])
     zero = " | ".join(f"'{final}'" for final in sorted(left[0]))
-    return [f"            {zero} => Defaults::Zero,", f"            {first}", *(f"            | {run}" for run in others[:-1]), f"            | {others[-1]} => {{ Defaults::One }}"]
+    return [f"        {zero} => 1,", f"        {' | '.join(runs(left[1]))} => {{", "            2", "        }"]
 
 
 # ---- tests and documents
@@ -270,7 +269,7 @@ def parts(subjects):
     every = [action for subject in subjects for action in subject.actions]
     found = [*of_subject(by_name["Cursor"], CURSOR), *of_subject(by_name["Edit"], EDIT), *of_cursor(regular["Cursor"]), *of_edit(regular["Edit"])]
     found += [*mirrored(by_name["Cursor"]), *mirrored(by_name["Window"])]
-    found += [("crates/csicodec_compact/src/spell.rt", Part(default_arms(every), ("    fn before(control: char) -> Defaults {", "        match control {"), "            _ => Defaults::Said,"))]
+    found += [("crates/csicodec_compact/src/spell.rt", Part(default_arms(every), ("fn least_said(control: char) -> i64 {", "    match control {"), "        _ => 0,"))]
     out = {}
     for path, part in [*found, *documents([*regular["Cursor"], *regular["Edit"]])]:
         out.setdefault(path, []).append(part)

@@ -1,10 +1,4 @@
-pub mod Compose
 pub mod EscTexts
-pub mod Exact
-pub mod RoundTrip
-pub mod Streams
-pub mod Suffix
-pub mod WhichRules
 pub use Rattle.csicodec_tokens.specs.Digits
 pub use Rattle.csicodec_names.specs.EnumNumbers
 pub use Rattle.csicodec_names.specs.Esc
@@ -44,8 +38,14 @@ pub use Rattle.csicodec_parser.specs.Place
 pub use Rattle.csicodec_parser.specs.Progress
 pub use Rattle.csicodec_parser.specs.Next
 pub use Rattle.csicodec_parser.specs.Segments
+pub use Rattle.csicodec_streams.specs.Compose
 pub use Rattle.csicodec_streams.specs.Decoding
+pub use Rattle.csicodec_streams.specs.Exact
+pub use Rattle.csicodec_streams.specs.Faithful
 pub use Rattle.csicodec_streams.specs.Refusals
+pub use Rattle.csicodec_streams.specs.RoundTrip
+pub use Rattle.csicodec_streams.specs.Streams
+pub use Rattle.csicodec_streams.specs.Suffix
+pub use Rattle.csicodec_streams.specs.WhichRules
 pub use Rattle.csicodec_transform.specs.Words
-pub use Rattle.csicodec_filter.specs.Faithful
 pub use Rattle.csicodec_filter.specs.Filter

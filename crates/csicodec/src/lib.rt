@@ -20,10 +20,9 @@ pub use csicodec_base::{
 };
 pub use csicodec_filter::{Faithful, Filter, NormalForm, Rewrite, append_spans, filter_all};
 pub use csicodec_parser::{
-    ActionRef, CSI, CSIParser, Look, ParseGraphics, Run, Tokens, Unspecified,
+    ActionRef, CSI, CSIParser, Look, ParseGraphics, Run, Tokens, Unspecified, parse_all,
+    parse_all_over,
 };
-pub use csicodec_streams::{
-    decode_all, encode, encode_all, normal_form, normalise, parse_all, parse_all_over,
-};
+pub use csicodec_streams::{decode_all, encode, encode_all, normal_form, normalise};
 pub use csicodec_tokens::Count;
 pub use csicodec_transform::{DecodeError, RunError};

@@ -1,11 +1,12 @@
 -- What the code finds in the fields of a list, and the text of a device whose tokens stand in one.
-use Rattle.std.proofs.{Common.append_assoc, Common.Bor, lemmas.Bool.cases_Bool}
-use Rattle.std.specs.{Fmt.decimal, Fmt.digits, Fmt.signed_decimal, Prelude.codes, Prelude.pos, Prelude.◌+ℤ◌, Bool.then_some, List.list_all}
+use Rattle.std.proofs.{Common.append_assoc, Common.append-nil, Common.add-one, Common.Bor, Common.get_or, Common.◌+◌, lemmas.Bool.cases_Bool}
+use Rattle.std.proofs.{lemmas.Grind.flat_map-append, Math.Seq.take-suc}
+use Rattle.std.specs.{List.flat_map, List.list_all, Fmt.decimal, Fmt.digits, Fmt.signed_decimal, Prelude.codes, Prelude.pos, Prelude.◌+ℤ◌, Bool.then_some}
 use Rattle.csicodec_tokens.specs.{Param.token_text, Private.FieldsBy.is_field_token}
 use Rattle.csicodec_actions.specs.{Table.Device.written_attributes, Table.Device.written_device, Table.Device.written_parameters}
 use Rattle.csicodec_actions.specs.{Table.XtSmGraphics.written_graphics, XtSmGraphics.item_number, declared.xtsmgraphics.XtSmGraphicsItem.XtSmGraphicsItem}
 use Rattle.csicodec_actions.specs.{Devices.attribute_token, FieldRows.ahead_of_byte, Private.FieldsBy.fields_there}
-use Rattle.csicodec_actions.proofs.Common.{◌≡◌, ℕ, List, [], ◌∷◌, ◌++◌, refl, sym, ap, inl, inr, Option, None, Some, ◌∙◌, arith, ℤ, ◌==◌, if◌then◌else◌, option_map, CsiParam, Integer, P, fields_of, DeviceAttribute, listed_text, written_class, Item, Attribute, any_number, listed, shown, written_text, numbers, integers}
+use Rattle.csicodec_actions.proofs.Common.{◌≡◌, ℕ, List, [], ◌∷◌, ◌++◌, refl, sym, ap, inl, inr, Option, None, Some, ◌∙◌, ◌<◌, length, take, arith, ℤ, ◌==◌, if◌then◌else◌, option_map, CsiParam, Integer, P, fields_of, DeviceAttribute, listed_text, written_class, Item, Attribute, any_number, listed, shown, written_text, numbers, integers}
 use Rattle.csicodec_actions.specs.Devices as devices
 
 -- items that are written as tokens, a `;` before each
@@ -28,9 +29,12 @@ pub known_texts : (written_text (written_attributes devices.Vt100WithAdvancedVid
     × (written_text (written_attributes devices.Vt101WithNoOptions) ≡ codes "?1;0c")
     × (written_text (written_attributes devices.Vt102) ≡ codes "?6c")
     × (written_text (written_device devices.StatusReport) ≡ codes "5n")
-    × ((z : ℤ) → written_text (written_parameters z) ≡ signed_decimal (z +ℤ pos 2) ++ codes ";1;1;128;128;1;0x")
 unfolding digits
-known_texts = (refl, refl, refl, refl, λ z. refl)
+known_texts = (refl, refl, refl, refl)
+
+pub parameters_text : (sum z : ℤ) → sum ≡ z +ℤ pos 2 → signed_decimal sum ++ codes ";1;1;128;128;1;0x" ≡ written_text (written_parameters z)
+unfolding digits
+parameters_text sum z is = rw is refl
 
 -- ---- a list that has fields
 
@@ -51,6 +55,11 @@ numbers_there (P b ∷ list) = numbers_there list
 numbers_there (Integer z ∷ []) = refl
 numbers_there (Integer z ∷ P b ∷ list) = ap (λ l. z ∷ l) (numbers_there list)
 numbers_there (Integer z ∷ Integer y ∷ list) = ap (λ l. z ∷ l) (numbers_there (Integer y ∷ list))
+
+-- one token more
+pub flat_next : {X A : Type 0} (f : X → List A) (xs : List X) (i : ℕ) (d : X) (told : List A) → i < length xs → told ≡ flat_map f (take i xs) → told ++ f (get_or xs i d) ≡ flat_map f (take (i + 1) xs)
+flat_next f xs i d told below is =
+    rw (is, add-one, take-suc xs i d below) (sym (flat_map-append f (take i xs) (get_or xs i d ∷ []) ∙ ap (λ l. flat_map f (take i xs) ++ l) (append-nil (f (get_or xs i d)))))
 
 -- ---- the byte at the end
 

@@ -1,8 +1,10 @@
 -- What the rows before each final character of the cursor read, by what one parameter, or two places, stand for.
 use Rattle.std.specs.Prelude.{⊤, Option}
 use Rattle.std.proofs.lemmas.Bool.{cases_Bool}
-use Rattle.csicodec_actions.specs.{Rows.Makes, Rows.row, Rows.Before, Rows.counted, Rows.paired, Actions.Cursor, Table.Cursor.as_cursor, Table.Cursor.as_move}
-use Rattle.csicodec_actions.proofs.Common.{inl, inr, rows_before, ◌==◌, ◌∙◌, false, option_map, option_or, made, Slot, One, mark, Row, gives, given, read_by, Count, ◌≡◌, ℕ, List, [], ◌∷◌, None, Some, refl, arith, ne_eqb, CsiParam, Integer, P}
+use Rattle.csicodec_tokens.specs.OneBased.{most}
+use Rattle.csicodec_actions.specs.{Rows.Makes, Rows.row, Rows.Before, Rows.counted, Rows.halves, Rows.paired, Actions.Cursor, Table.Cursor.as_cursor}
+use Rattle.csicodec_actions.specs.{Table.Cursor.as_move}
+use Rattle.csicodec_actions.proofs.Common.{inl, inr, rows_before, ◌==◌, ◌∙◌, false, option_map, option_or, made, length, ◌<◌, Slot, One, mark, Row, gives, given, read_by, Count, ◌≡◌, ℕ, List, [], ◌∷◌, None, Some, refl, arith, ne_eqb, CsiParam, Integer, P}
 use Rattle.csicodec_actions.proofs.AllFieldRows.{first-append}
 use Rattle.csicodec_actions.specs.declared.cursor.Cursor as cursor_type
 use Rattle.csicodec_actions.specs.declared.cursor.Cursor.TheVariants as cursor
@@ -48,9 +50,16 @@ given-after f (r ∷ rows) list = rw (gives-after f r.0 r.1 list, given-after f 
 one-count : {R : Type 0} (make : ℕ → R) (list : List CsiParam) → given (counted make) list ≡ option_map make (given (counted (λ n. n)) list)
 one-count make list = given-after make (([], 1) ∷ (One Count ∷ [], λ n. n) ∷ []) list
 
+-- two counts, of which the second is this one where it is left out
+abbrev pub two-or : {R : Type 0} → ℕ → (ℕ → ℕ → R) → List (Row R)
+two-or missing make = row [] (make 1 missing) ∷ halves Count missing make
+
+two-given : {R : Type 0} (missing : ℕ) (make : ℕ → ℕ → R) (list : List CsiParam) → given (two-or missing make) list ≡ option_map (λ (p : ℕ × ℕ). make p.0 p.1) (given (two-or missing (λ a b. (a, b))) list)
+two-given missing make list = given-after (λ (p : ℕ × ℕ). make p.0 p.1)
+    (([], (1, missing)) ∷ (One Count ∷ [], λ a. (a, missing)) ∷ (One Count ∷ mark ";" ∷ One Count ∷ [], λ a b. (a, b)) ∷ (mark ";" ∷ One Count ∷ [], λ b. (1, b)) ∷ []) list
+
 two-counts : {R : Type 0} (make : ℕ → ℕ → R) (list : List CsiParam) → given (paired make) list ≡ option_map (λ (p : ℕ × ℕ). make p.0 p.1) (given (paired (λ a b. (a, b))) list)
-two-counts make list = given-after (λ (p : ℕ × ℕ). make p.0 p.1)
-    (([], (1, 1)) ∷ (One Count ∷ [], λ a. (a, 1)) ∷ (One Count ∷ mark ";" ∷ One Count ∷ [], λ a b. (a, b)) ∷ (mark ";" ∷ One Count ∷ [], λ b. (1, b)) ∷ []) list
+two-counts make list = two-given 1 make list
 
 -- no row stands before a final that is none of the table's
 abbrev pub Lacks : {R : Type 0} → List (Before R) → ℕ → Type 0
@@ -77,6 +86,22 @@ no-count (b ∷ others) list final counts none = elim (cases_Bool (final == b.fi
       rw here (first-append (λ r. gives r list) b.rows (rows_before others final) ∙ rw (counts.0.1, one-count counts.0.0 list, none) (no-count others list final counts.1 none))
   | inr other ↦ rw other (no-count others list final counts.1 none)
 ]
+
+-- ---- left and right margins
+
+no-sides : (list : List CsiParam) → length list < 1 → as_cursor list 115 ≡ Some (Cursor cursor.SaveCursor)
+unfolding as_cursor
+no-sides [] none = refl
+no-sides (t ∷ ts) none = grind arith
+
+some-sides : (list : List CsiParam) → 0 < length list → as_cursor list 115 ≡ option_map (λ (p : ℕ × ℕ). Cursor (cursor.SetLeftAndRightMargins p.0 p.1)) (given (two-or most (λ a b. (a, b))) list)
+unfolding as_cursor
+some-sides [] some = grind arith
+some-sides (t ∷ ts) some = two-given most (λ a b. Cursor (cursor.SetLeftAndRightMargins a b)) (t ∷ ts)
+
+pub sides : ((list : List CsiParam) → length list < 1 → as_cursor list 115 ≡ Some (Cursor cursor.SaveCursor))
+    × ((list : List CsiParam) → 0 < length list → as_cursor list 115 ≡ option_map (λ (p : ℕ × ℕ). Cursor (cursor.SetLeftAndRightMargins p.0 p.1)) (given (two-or most (λ a b. (a, b))) list))
+sides = (no-sides, some-sides)
 
 -- ---- the cursor, a line for each final character
 

@@ -112,9 +112,10 @@ pub fn integers_in(alloc: Global, tokens: &[CsiParam]) -> Result<Vec<i64>, Alloc
 {
     let mut values = Vec::new(alloc);
     for token in tokens {
-        if let CsiParam::Integer(value) = token {
-            values.push(*value)?;
-        }
+        let CsiParam::Integer(value) = token else {
+            continue;
+        };
+        values.push(*value)?;
     }
     Ok(values)
 }

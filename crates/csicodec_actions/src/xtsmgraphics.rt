@@ -1,13 +1,13 @@
 //! Graphics of a terminal, asked for and answered, and their row.
 ghost use Rattle.std.specs.Prelude.{IfErr, ◌≡◌, ◌↔◌};
-ghost use Rattle.csicodec_actions.specs.Table.XtSmGraphics.{RefusesGraphics, as_graphics, graphics_behind, graphics_rows, written_graphics};
+ghost use Rattle.csicodec_actions.specs.Table.XtSmGraphics.{RefusesGraphics, as_graphics, graphics_behind, written_graphics};
 ghost use Rattle.csicodec_actions.specs.Common.{IfOk, IsSome, IsTrue, Some, pos, OnErr, signed_decimal, option_map, XtSmGraphicsAction, XtSmGraphicsStatus};
 ghost use Rattle.csicodec_actions.specs.{Devices.HoldsMemory, Devices.graphics_of, XtSmGraphics.action_number, XtSmGraphics.item_number, XtSmGraphics.item_of};
 ghost use Rattle.csicodec_actions.specs.{XtSmGraphics.status_number, Actions.Device as Devices, Kinds.Good, Kinds.GraphicsItem, Written.AllGood, Written.any_number};
-ghost use Rattle.csicodec_actions.specs.{Written.listed, FieldRows.given, Lent.lent_graphics};
+ghost use Rattle.csicodec_actions.specs.{Written.listed, Lent.lent_graphics};
 
 use crate::canonical::is_said;
-use crate::fields::{Fields, fields_in, integers_in};
+use crate::fields::{fields_in, integers_in};
 use csicodec_base::{CsiParam, ParseRefusal};
 use std::alloc::{AllocError, Global};
 use std::fmt;
@@ -198,7 +198,7 @@ fn are_said(numbers: &[i64]) -> bool
 }
 
 /// What is asked or said of graphics, its values lent from the list: the numbers among these tokens.
-#[derive(Clone, Copy, Debug)]
+#[derive(Clone, Copy)]
 pub struct GraphicsRef<'a> {
     /// What it is about.
     pub item: XtSmGraphicsItem,
@@ -228,7 +228,7 @@ pub fn graphics_ref(params: &[CsiParam], control: char) -> Option<GraphicsRef<'_
     ensures { option_map lent_graphics result ≡ as_graphics params.now control }
 {
     match (control, params) {
-        ('S', [CsiParam::P(b'?'), list @ ..]) => read(fields_in(list)?),
+        ('S', [CsiParam::P(b'?'), ..]) => behind_mark(params),
         _ => None,
     }
 }
@@ -266,19 +266,13 @@ impl XtSmGraphics {
     }
 }
 
-/// What is asked or said behind the first token of a list.
+/// What is asked or said behind the first token of a list: an item, an action or a status, and the values.
+#[tactic(auto, unfolding(crate::specs::Kinds::read))]
 fn behind_mark(params: &[CsiParam]) -> Option<GraphicsRef<'_>>
     ensures { option_map lent_graphics result ≡ graphics_behind params.now }
 {
     let (_, list) = params.split_first()?;
-    read(fields_in(list)?)
-}
-
-/// An item, an action or a status, and the values.
-#[tactic(auto, unfolding(crate::specs::Kinds::read))]
-fn read<'a>(mut fields: Fields<'a>) -> Option<GraphicsRef<'a>>
-    ensures { option_map lent_graphics result ≡ given graphics_rows fields.entry }
-{
+    let mut fields = fields_in(list)?;
     Some(GraphicsRef {
         item: XtSmGraphicsItem::of(fields.number()?),
         action_or_status: fields.number()?,

@@ -7,9 +7,10 @@ use Rattle.std.specs.Prelude.{Option, ◌==◌, ◌&&◌, ◌||◌, not, nat_lt,
 use Rattle.std.specs.{List.Contains, List.list_all, Option.IfSome, Fmt.digits}
 use borrow.Author.Tests.{ltb-true}
 use Rattle.csicodec_tokens.specs.{declared.param.CsiParam.CsiParam, declared.param.CsiParam.TheVariants.Integer, declared.param.CsiParam.TheVariants.P}
-use Rattle.csicodec_base.specs.Shapes.{Slot, Number, Byte, AnyNumber, Any, Row, sgr_rows, fits_slot, begins_with, taken, given, Color, Plane, Front, Back, Line, painted, color_shapes, underline_rows, color_of_tokens}
+use Rattle.csicodec_base.specs.Shapes.{Slot, Number, Byte, AnyNumber, Any, Row, sgr_rows, fits_slot, begins_with, taken, given, Color, Plane, Front, Back, Line, painted, color_shapes, underline_rows, color_of_tokens, with_space}
 use Rattle.csicodec_base.specs.{declared.sgr.Sgr.Sgr, Pieces.Longest, Pieces.Piece, Pieces.IsFront, FrontBy.front_by, FrontBy.piece, FrontBy.color_by}
-use Rattle.csicodec_base.specs.{Attributes.action_of, Entries.blank, declared.entries.Entry.Entry, declared.entries.TheConstants.ENTRIES, SgrText.sgr_text}
+use Rattle.csicodec_base.specs.{FrontBy.behind_space, FrontBy.spaced_by, Attributes.action_of, Entries.blank, declared.entries.Entry.Entry}
+use Rattle.csicodec_base.specs.{declared.entries.TheConstants.ENTRIES, SgrText.sgr_text}
 use Rattle.csicodec_names.specs.{declared.codes.SgrCode.SgrCode, declared.color.ColorSpec.ColorSpec, Numbers.all_codes, Numbers.number_of, Numbered.with_number}
 use Rattle.csicodec_names.proofs.Coded.{listed-number}
 
@@ -308,12 +309,26 @@ pub at_first : (rest : List CsiParam) (d t : CsiParam) (answer : Option (Sgr × 
 at_first [] d t answer l e h = absurd (omega arith)
 at_first (u ∷ us) d t answer l e h = rw e h
 
+-- a colour whose space may be left out
+pub spaced : (shape : List Slot) (before : ℕ) (parts : List CsiParam) → color_by before (with_space shape) parts ≡ spaced_by before shape parts (behind_space parts)
+spaced shape before [] = refl
+spaced shape before (P b ∷ rest) = elim (cases_Bool (b == 58)) [
+  | inl is ↦ (let size : length shape + before + 1 ≡ length (Byte 58 ∷ shape) + before = omega arith in rw (is, size) refl)
+  | inr not ↦ rw not refl
+]
+spaced shape before (Integer z ∷ []) = refl
+spaced shape before (Integer z ∷ Integer y ∷ rest) = refl
+spaced shape before (Integer z ∷ P b ∷ rest) = elim (cases_Bool (b == 58)) [
+  | inl is ↦ (let size : length shape + before + 2 ≡ length (AnyNumber ∷ Byte 58 ∷ shape) + before = omega arith in rw (is, size) refl)
+  | inr not ↦ rw not refl
+]
+
 -- where the first three are known by their places: a colon, a kind and a colon
-pub behind_kind : (kind : ℕ) (shapes : List (List Slot)) (after parts : List CsiParam) (d : CsiParam) → parts ≡ drop 3 after → 3 ≤ length after
+pub behind_kind : (kind : ℕ) (shape : List Slot) (after parts : List CsiParam) (d : CsiParam) → parts ≡ drop 3 after → 3 ≤ length after
     → get_or after 0 d ≡ P 58 → get_or after 1 d ≡ Integer (pos kind) → get_or after 2 d ≡ P 58
-    → color_by 1 color_shapes (P 58 ∷ Integer (pos kind) ∷ P 58 ∷ parts) ≡ color_by 4 shapes parts → color_by 1 color_shapes after ≡ color_by 4 shapes parts
-behind_kind kind shapes (x ∷ y ∷ z ∷ rest) parts d p l a b c e = rw (a, b, c, ← p) e
-behind_kind kind shapes _ parts d p l a b c e = absurd (omega arith)
+    → color_by 1 color_shapes (P 58 ∷ Integer (pos kind) ∷ P 58 ∷ parts) ≡ color_by 4 (with_space shape) parts → color_by 1 color_shapes after ≡ spaced_by 4 shape parts (behind_space parts)
+behind_kind kind shape (x ∷ y ∷ z ∷ rest) parts d p l a b c e = rw (a, b, c, ← p) (e ∙ spaced shape 4 parts)
+behind_kind kind shape _ parts d p l a b c e = absurd (omega arith)
 
 -- the text at the place of a code, and none for one that doesn't stand alone
 abbrev Ready : SgrCode → Option Sgr → Type 0

@@ -1,8 +1,10 @@
 //! The longest spelling of an attribute at the front of a list before `m`.
-ghost use Rattle.std.specs.Prelude.{◌≡◌, ◌∷◌, ◌<◌, ◌≤◌, List, IfSome, None, Some, pos, take, length};
+ghost use Rattle.std.specs.{Prelude.◌≡◌, Prelude.◌∷◌, Prelude.◌<◌, Prelude.◌≤◌, Prelude.List, Prelude.[], Prelude.IfSome, Prelude.None, Prelude.Some, Prelude.pos};
+ghost use Rattle.std.specs.{Prelude.take, Prelude.length, Option.option_map};
 ghost use Rattle.csicodec_names.specs.Numbers.{number_of};
-ghost use Rattle.csicodec_base.specs.Shapes.{byte_of, color_of_tokens, color_shapes, four_shape, palette_shapes, rgb_shapes, rgba_shapes, semicolon_shapes, three_shape, underline_rows};
-ghost use Rattle.csicodec_base.specs.{Attributes.action_of as attribute_of, FrontBy.captured, FrontBy.color_by, FrontBy.front_by, FrontBy.piece, Pieces.IsFront};
+ghost use Rattle.csicodec_base.specs.Shapes.{byte_of, color_of_tokens, color_shapes, four_shape, palette_shapes, three_shape, underline_rows};
+ghost use Rattle.csicodec_base.specs.{Attributes.action_of as attribute_of, FrontBy.behind_space, FrontBy.captured, FrontBy.color_by, FrontBy.front_by, FrontBy.piece};
+ghost use Rattle.csicodec_base.specs.{FrontBy.spaced_by, Pieces.IsFront};
 ghost use Rattle.csicodec_tokens.specs.{declared.param.CsiParam.CsiParam, declared.param.CsiParam.TheVariants.Integer};
 
 use crate::ready::attribute_alone;
@@ -94,51 +96,60 @@ fn color_front(after: &[CsiParam]) -> Option<(ColorSpec, usize)>
     match (*mark, *kind, *second) {
         (b':', 6, b':') => rgba_front(parts),
         (b':', 2, b':') => rgb_front(parts),
-        (b';', 2, b';') => semicolon_front(parts),
+        (b';', 2, b';') => three_front(parts, b';'),
         (b':', 5, b':') | (b';', 5, b';') => palette_front(parts),
+        _ => None,
+    }
+}
+
+/// What stands behind a colour space, or behind the colon of one that is left out, and how many tokens are ahead of it.
+fn behind_space(parts: &[CsiParam]) -> Option<(&[CsiParam], usize)>
+    ensures behind { option_map (λ f. (f.0.now, f.1)) result ≡ behind_space parts.now }
+    ensures short { IfSome result (λ f. f.1 ≤ 2) }
+{
+    match parts {
+        [Integer(_), P(b':'), rest @ ..] => Some((rest, 2)),
+        [P(b':'), rest @ ..] => Some((rest, 1)),
         _ => None,
     }
 }
 
 /// Red, green, blue and alpha behind `38:6:`, and the number of tokens with these four.
 fn rgba_front(parts: &[CsiParam]) -> Option<(ColorSpec, usize)>
-    ensures { result ≡ color_by 4 rgba_shapes parts.now }
+    ensures { result ≡ spaced_by 4 four_shape parts.now (behind_space parts.now) }
 {
-    if let [Integer(_), P(b':'), rest @ ..] = parts
+    if let Some((rest, space)) = behind_space(parts)
         && let Some(channels) = four_parts(rest)
     {
-        return Some((rgba(channels)?, 13));
+        return rgba(channels, 11 + space);
     }
-    if let [P(b':'), rest @ ..] = parts
-        && let Some(channels) = four_parts(rest)
-    {
-        return Some((rgba(channels)?, 12));
-    }
-    Some((rgba(four_parts(parts)?)?, 11))
+    four_front(parts)
+}
+
+/// The same where no colour space stands.
+fn four_front(parts: &[CsiParam]) -> Option<(ColorSpec, usize)>
+    ensures { result ≡ color_by 4 (four_shape ∷ []) parts.now }
+{
+    rgba(four_parts(parts)?, 11)
 }
 
 /// Red, green and blue behind `38:2:`, and the number of tokens with these four.
 fn rgb_front(parts: &[CsiParam]) -> Option<(ColorSpec, usize)>
-    ensures { result ≡ color_by 4 rgb_shapes parts.now }
+    ensures { result ≡ spaced_by 4 (three_shape 58) parts.now (behind_space parts.now) }
 {
-    if let [Integer(_), P(b':'), rest @ ..] = parts
+    if let Some((rest, space)) = behind_space(parts)
         && let Some(channels) = three_parts(rest, b':')
     {
-        return Some((rgb(channels)?, 11));
+        return rgb(channels, 9 + space);
     }
-    if let [P(b':'), rest @ ..] = parts
-        && let Some(channels) = three_parts(rest, b':')
-    {
-        return Some((rgb(channels)?, 10));
-    }
-    Some((rgb(three_parts(parts, b':')?)?, 9))
+    three_front(parts, b':')
 }
 
-/// The same behind `38;2;`, where no colour space can stand.
-fn semicolon_front(parts: &[CsiParam]) -> Option<(ColorSpec, usize)>
-    ensures { result ≡ color_by 4 semicolon_shapes parts.now }
+/// The same with this mark between them, where no colour space stands.
+fn three_front(parts: &[CsiParam], mark: u8) -> Option<(ColorSpec, usize)>
+    ensures { result ≡ color_by 4 (three_shape mark ∷ []) parts.now }
 {
-    Some((rgb(three_parts(parts, b';')?)?, 9))
+    rgb(three_parts(parts, mark)?, 9)
 }
 
 /// A place in the palette behind `38:5:` or `38;5;`.
@@ -173,20 +184,21 @@ fn four_parts(parts: &[CsiParam]) -> Option<[CsiParam; 4]>
     }
 }
 
-fn rgb(channels: [CsiParam; 3]) -> Option<ColorSpec>
-    ensures { result ≡ color_of_tokens channels }
+/// The colour of these channels, and this number of tokens.
+fn rgb(channels: [CsiParam; 3], tokens: usize) -> Option<(ColorSpec, usize)>
+    ensures { result ≡ option_map (λ c. (c, tokens)) (color_of_tokens channels) }
 {
     let [red, green, blue] = channels;
     let color = SrgbaTuple(byte(&red)?, byte(&green)?, byte(&blue)?, 255);
-    Some(ColorSpec::TrueColor(color))
+    Some((ColorSpec::TrueColor(color), tokens))
 }
 
-fn rgba(channels: [CsiParam; 4]) -> Option<ColorSpec>
-    ensures { result ≡ color_of_tokens channels }
+fn rgba(channels: [CsiParam; 4], tokens: usize) -> Option<(ColorSpec, usize)>
+    ensures { result ≡ option_map (λ c. (c, tokens)) (color_of_tokens channels) }
 {
     let [red, green, blue, alpha] = channels;
     let color = SrgbaTuple(byte(&red)?, byte(&green)?, byte(&blue)?, byte(&alpha)?);
-    Some(ColorSpec::TrueColor(color))
+    Some((ColorSpec::TrueColor(color), tokens))
 }
 
 /// A part of a colour.

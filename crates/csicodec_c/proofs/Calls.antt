@@ -3,9 +3,9 @@ use Rattle.std.proofs.Common.{◌≡◌, ◌≤◌, ℕ, Bool, true, false, cond
 use Rattle.std.proofs.Math.Seq.{take-append_seam}
 use Rattle.std.specs.{Prelude.◌==◌, List.concat}
 use Rattle.csicodec_spans.specs.declared.table.Mode.{Mode}
-use Rattle.csicodec_clean.specs.{declared.colors.Depth.Depth, declared.step.Pause.Pause, Cleaned.RuleOf, Cleaned.Strips, Cleaned.drops, Cleaned.longest}
-use Rattle.csicodec_clean.specs.{Steps.AreStepped, Steps.Steps, Steps.bare, Steps.beginning, Steps.ending, Styled.StylesIn, Styled.resumed, Styled.keeps}
-use Rattle.csicodec_clean.specs.{Styled.without_links}
+use Rattle.csicodec_looks.specs.declared.xterm.Depth.{Depth}
+use Rattle.csicodec_clean.specs.{declared.step.Pause.Pause, Cleaned.RuleOf, Cleaned.Strips, Cleaned.drops, Cleaned.longest, Steps.AreStepped, Steps.Steps}
+use Rattle.csicodec_clean.specs.{Steps.bare, Steps.beginning, Steps.ending, Styled.StylesIn, Styled.resumed, Styled.keeps, Styled.without_links}
 use Rattle.csicodec_clean.proofs.Streams.{cleaned_steps, stripped_steps}
 use Rattle.csicodec_c.specs.{declared.step.Cleaned.Cleaned, declared.step.Cleaning.Cleaning, declared.strip.Stripped.Stripped, Filter.mode_number}
 use Rattle.csicodec_c.specs.{Step.AreCalls, Step.IsCleanStep, Step.IsEnd, Step.IsStep, Step.IsStripStep, Step.numbers, Step.zeros, Strip.bit}

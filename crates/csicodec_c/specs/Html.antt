@@ -1,9 +1,9 @@
 -- What the calls for pages of HTML, and for lines as they stand when they end, answer a C program.
 use Rattle.std.specs.Prelude.{ℕ, ◌≡◌, ◌==◌, ◌/◌, ◌%◌, ◌||◌, Bool, true, false, Option, Some, List, ◌++◌, length, map, if◌then◌else◌}
 use Rattle.csicodec_names.specs.declared.color.SrgbaTuple.{SrgbaTuple}
-use Rattle.csicodec_clean.specs.Palette.{rgb}
-use Rattle.csicodec_html.specs.{declared.markup.Markup.Markup, declared.palette.Palette.Palette, Given.given_palette, Page.IsPageWith, Page.PageWith}
-use Rattle.csicodec_html.specs.{Page.simple, Sheet.IsTitle, Sheet.sheet}
+use Rattle.csicodec_looks.specs.{Xterm.rgb, declared.markup.Markup.Markup, declared.palette.Palette.Palette, Given.given_palette, Pieces.simple, Sheet.sheet}
+use Rattle.csicodec_clean.specs.Page.{IsPageWith, PageWith}
+use Rattle.csicodec_html.specs.Sheet.{IsTitle}
 use Rattle.csicodec_overwrite.specs.Reading.{Paints}
 use Rattle.csicodec_c.specs.{declared.html.PageSettings.PageSettings, declared.html.Choices.Choices, Strip.bit}
 

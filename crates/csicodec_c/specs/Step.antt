@@ -1,7 +1,7 @@
 -- What the calls that clean untrusted text step by step answer a C program.
 use Rattle.std.specs.Prelude.{ℕ, ◌≡◌, ◌≤◌, Bool, List, [], ◌∷◌, ◌++◌, length, take, drop}
-use Rattle.csicodec_clean.specs.{declared.colors.Depth.Depth, declared.step.Pause.Pause, Cleaned.RuleOf, Cleaned.drops, Steps.Steps, Steps.bare, Steps.ending}
-use Rattle.csicodec_clean.specs.{Styled.resumed, Styled.keeps}
+use Rattle.csicodec_looks.specs.declared.xterm.Depth.{Depth}
+use Rattle.csicodec_clean.specs.{declared.step.Pause.Pause, Cleaned.RuleOf, Cleaned.drops, Steps.Steps, Steps.bare, Steps.ending, Styled.resumed, Styled.keeps}
 use Rattle.csicodec_c.specs.{declared.step.Cleaned.Cleaned, declared.step.Cleaning.Cleaning, declared.strip.Stripped.Stripped, Filter.mode_number, Strip.Puts}
 use Rattle.csicodec_c.specs.{Strip.bit, Strip.depth_number}
 use Rattle.csicodec_structs.specs.{Room.Fills, Status.status_number, declared.status.Status.Status}

@@ -1,7 +1,7 @@
 -- What the calls that strip untrusted text answer a C program.
 use Rattle.std.specs.{Prelude.ℕ, Prelude.◌≡◌, Prelude.◌≢◌, Prelude.◌⊎◌, Prelude.Bool, Prelude.true, Prelude.false, Prelude.List, Prelude.length, List.All}
-use Rattle.csicodec_clean.specs.{declared.colors.Depth.Depth, declared.styles.Passing.Passing, Cleaned.Strips, Cleaned.longest, Shown.IsPlain}
-use Rattle.csicodec_clean.specs.{Styled.IsStyledIn, Styled.StylesIn}
+use Rattle.csicodec_looks.specs.declared.xterm.Depth.{Depth}
+use Rattle.csicodec_clean.specs.{declared.styles.Passing.Passing, Cleaned.Strips, Cleaned.longest, Shown.IsPlain, Styled.IsStyledIn, Styled.StylesIn}
 use Rattle.csicodec_c.specs.declared.strip.Stripped.{Stripped}
 use Rattle.csicodec_structs.specs.{Room.Fills, Status.status_number, declared.status.Status.Status}
 

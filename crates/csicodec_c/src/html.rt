@@ -1,7 +1,8 @@
 //! Pages of HTML, and each line as it stands when it ends.
 ghost use Rattle.std.specs.Prelude.{◌≡◌, false, IfOk, IfSome, IfNone, map};
-ghost use Rattle.csicodec_html.specs.Page.{IsPageWith};
-ghost use Rattle.csicodec_overwrite.specs.{Paint.as_text, Reading.Shows};
+ghost use Rattle.csicodec_clean.specs.Page.{IsPageWith};
+ghost use Rattle.csicodec_looks.specs.Paint.{as_text};
+ghost use Rattle.csicodec_overwrite.specs.Reading.{Shows};
 ghost use Rattle.csicodec_c.specs.Html.{IsAsked, IsAskedIn, IsPage, IsPiece, IsPieceOf, IsWhole, color_of, palette_of};
 ghost use Rattle.csicodec_c.specs.{declared.html.PageSettings.PageSettings, Strip.AnswersBy, Strip.bit};
 

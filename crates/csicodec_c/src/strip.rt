@@ -1,9 +1,10 @@
 //! What is left of untrusted text.
 ghost use Rattle.std.specs.Prelude.{◌≡◌, ◌↔◌, Bool, Some, IfSome, IfNone, length};
 ghost use Rattle.csicodec_structs.specs.Room.{Fills};
-ghost use Rattle.csicodec_clean.specs.{declared.colors.Depth.Depth, declared.styles.Passing.Passing, Styled.without_links};
+ghost use Rattle.csicodec_looks.specs.declared.xterm.Depth.{Depth};
+ghost use Rattle.csicodec_clean.specs.{declared.styles.Passing.Passing, Styled.without_links};
 ghost use Rattle.csicodec_c.specs.Strip.{Answers, AnswersBy, IsCleaned, IsPassing, IsStripped, bit, depth_number, refused, stripped};
-ghost use Rattle.csicodec_clean.specs.declared.colors.Depth.TheVariants as depths;
+ghost use Rattle.csicodec_looks.specs.declared.xterm.Depth.TheVariants as depths;
 
 use csicodec_clean::{Depth, Passing, clean_in, clean_with, strip};
 use csicodec_structs::{Status, fill};

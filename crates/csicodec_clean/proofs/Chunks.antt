@@ -258,20 +258,25 @@ sequence_cut limit len bytes one short =
 
 -- ---- from the bytes behind a sequence to its length
 
-pub front_read : (limit len : ℕ) (bytes behind : List ℕ) (list : List CsiParam) (final : ℕ) → Reads (take limit bytes) list final behind → len ≡ length (take limit bytes) - length behind
-    → ((len ≤ limit) × (len ≤ length bytes)) × Seq (take len bytes) list final
-front_read limit len bytes behind list final (front, seq, split) is =
+pub front_read : (len : ℕ) (bytes behind : List ℕ) (list : List CsiParam) (final : ℕ) → Reads bytes list final behind → len ≡ length bytes - length behind
+    → Seq (take len bytes) list final
+front_read len bytes behind list final (front, seq, split) is =
     let size : len ≡ length front = omega (arith, is, ap length split, length-append front behind) in
-    let within : len ≤ limit = omega (arith, is, length-take limit bytes) in
-    let text : take len bytes ≡ front =
-    sym (take-take len limit bytes within) ∙ ap (take len) split ∙ ap (λ (n : ℕ). take n (front ++ behind)) size ∙ take-append_seam front behind in
-    ((within, omega (arith, is, length-take limit bytes)), subst (λ (t : List ℕ). Seq t list final) (sym text) seq)
+    let text : take len bytes ≡ front = ap (take len) split ∙ ap (λ (n : ℕ). take n (front ++ behind)) size ∙ take-append_seam front behind in
+    subst (λ (t : List ℕ). Seq t list final) (sym text) seq
+
+-- what is in the first bytes is in all of them
+pub within_near : (limit len : ℕ) (bytes front : List ℕ) → front ≡ take limit bytes → len ≤ length front
+    → ((len ≤ limit) × (len ≤ length bytes)) × (take len front ≡ take len bytes)
+within_near limit len bytes front is within =
+    let few : len ≤ limit = omega (arith, within, ap length is, length-take limit bytes) in
+    ((few, omega (arith, within, ap length is, length-take limit bytes)), ap (take len) is ∙ take-take len limit bytes few)
 
 pub sequence_read : (limit len : ℕ) (bytes behind : List ℕ) → ((list : List CsiParam) × (final : ℕ) × Reads (take limit bytes) list final behind) → len ≡ length (take limit bytes) - length behind
     → ((len ≤ limit) × (len ≤ length bytes)) × IsSequence (take len bytes)
 sequence_read limit len bytes behind (list, final, read) is =
-    let found = front_read limit len bytes behind list final read is in
-    (found.0, (list, final, found.1))
+    let (fits, same) = within_near limit len bytes (take limit bytes) refl (omega (arith, is)) in
+    (fits, (list, final, subst (λ (t : List ℕ). Seq t list final) same (front_read len (take limit bytes) behind list final read is)))
 
 -- ---- the steps
 

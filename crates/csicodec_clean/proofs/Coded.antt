@@ -3,10 +3,10 @@ use Rattle.std.proofs.Common.{◌≡◌, ◌+◌, ◌-◌, ◌∙◌, ℕ, suc, 
 use Rattle.std.proofs.{lemmas.Bool.cases_Bool, lemmas.List.append_cancel_right, lemmas.Fmt.digits_decimal, lemmas.Fmt.decimal_nonempty}
 use Rattle.std.proofs.{lemmas.Str.Parse.IsNumeralModel, lemmas.Str.Parse.numerals_by_fold}
 use Rattle.csicodec_clean.proofs.Common.{take-append_seam, ColorSpec, sgr_text, CsiParam, Seq, Action, Unspecified, texts, IsSequence, Depth, Keeping, keeping, keeps, IsLeft, IsNoted, Group, Styles, group, Actions, IsTakenFor, has_unknown, and_parts, cond_both, nat_tests, AllByRecursion, Integer, P, Reads, SrgbaTuple, ColorInRange, SgrInRange, text, semicolon, ReadsAlone, parsed-kept, longest, hides}
-use Rattle.csicodec_clean.proofs.Plain.{all_both, all_parts, all_weaker}
+use Rattle.csicodec_clean.proofs.{Chunks.front_read, Plain.all_both, Plain.all_parts, Plain.all_weaker}
 use Rattle.csicodec_base.specs.{Shapes.Plane, Shapes.painted, declared.sgr.Sgr.Sgr, SgrText.palette_text, SgrText.true_color_text}
 use Rattle.csicodec_actions.specs.{declared.cursor.Cursor.Cursor, Actions.Cursor as Move, Actions.Sgr as SgrAction}
-use Rattle.csicodec_streams.specs.Colors.{IsColored, IsOpaque, color_list, plane_byte}
+use Rattle.csicodec_streams.specs.{Colors.IsColored, Colors.IsOpaque, Colors.color_list, Colors.plane_byte, Compose.EndsInSemicolon}
 use Rattle.csicodec_clean.specs.{Styled.is_open, Styled.kept, Private.Notes.depth_byte, Private.Notes.note_of, Private.Notes.open_byte}
 use Rattle.csicodec_parser.specs.{Cut.Cut, Cut.body, Groups.has_odd, Groups.is_byte, Segments.ActionsIn, Segments.BodyActions, Segments.remainder}
 use Rattle.csicodec_terminal.specs.Terminal.{is_open as leaves_out}
@@ -14,9 +14,8 @@ use Rattle.std.specs.Fmt.{digits}
 use Rattle.csicodec_tokens.specs.{Digits.AreDigits, Digits.IsDigit, Digits.value, Digits.value_after, Sequence.Spells, Sequence.SpellsToken}
 use Rattle.csicodec_tokens.proofs.Decimal.{length-decimal_u16}
 use Rattle.csicodec_names.specs.declared.color.Intensity.TheVariants.{Normal}
-use Rattle.csicodec.specs.Compose.{EndsInSemicolon}
-use Rattle.csicodec.proofs.Exactly.{one-sequence}
-use Rattle.csicodec_clean.specs.declared.colors.Depth.TheVariants as depth
+use Rattle.csicodec_streams.proofs.Exactly.{one-sequence}
+use Rattle.csicodec_looks.specs.declared.xterm.Depth.TheVariants as depth
 use Rattle.csicodec_names.specs.declared.color.Underline.TheVariants as underline
 use Rattle.csicodec_names.specs.declared.color.Blink.TheVariants as blink
 use Rattle.csicodec_names.specs.declared.color.VerticalAlign.TheVariants as align
@@ -305,7 +304,7 @@ ends_color xs front (color.TrueColor c) (r, g, b, a) e =
     append_assoc (decimal c.0) (59 ∷ (decimal c.1 ++ 59 ∷ [])) (decimal c.2) ∙ ap (λ (l : List ℕ). decimal c.0 ++ 59 ∷ l) (append_assoc (decimal c.1) (59 ∷ []) (decimal c.2)) in
     ends_number (xs ++ 50 ∷ 59 ∷ parts) front c.2 b (append_assoc xs (50 ∷ 59 ∷ parts) (decimal c.2) ∙ ap (λ (l : List ℕ). xs ++ 50 ∷ 59 ∷ l) behind ∙ e)
 
-pub color_closed : (bytes rest : List ℕ) (style : Sgr) (list : List CsiParam) → IsColored bytes style rest → Reads bytes list 109 rest
+color_closed : (bytes rest : List ℕ) (style : Sgr) (list : List CsiParam) → IsColored bytes style rest → Reads bytes list 109 rest
     → leaves_out (group list 109) list ≡ false
 color_closed bytes rest style list (plane, color, opaque, paints, stands) (front, seq, whole) =
     let head = plane_byte plane ∷ 56 ∷ 59 ∷ [] in
@@ -315,6 +314,11 @@ color_closed bytes rest style list (plane, color, opaque, paints, stands) (front
     let ends : seq.body ++ 109 ∷ [] ≡ head ++ (color_list color ++ 109 ∷ []) = ap (drop 2) (sym seq.whole ∙ own) in
     let body : seq.body ≡ head ++ color_list color = (same_ends seq.body (head ++ color_list color) 109 109 ends).0 in
     none_open (group list 109) list (λ last. (let (to, e) = ends_spelled seq.body list seq.spelled last in ends_color head to color opaque (sym body ∙ e)))
+
+pub color_taken : (len : ℕ) (bytes rest : List ℕ) (style : Sgr) (list : List CsiParam) → IsColored bytes style rest → Reads bytes list 109 rest
+    → Actions list false 109 (SgrAction style ∷ []) → len ≡ length bytes - length rest → IsTakenFor (take len bytes) (SgrAction style ∷ [])
+color_taken len bytes rest style list colored reads are is =
+    closed_taken (take len bytes) list 109 (SgrAction style ∷ []) (front_read len bytes rest list 109 reads is) are refl (color_closed bytes rest style list colored reads)
 
 -- ---- one control sequence
 

@@ -2,8 +2,6 @@
 pub use Rattle.bstr.proofs.{lemmas.EncodeLemmas.lossy_chars-encode, lemmas.PieceLemmas.lossy_chars-nil, lemmas.PieceLemmas.piece-bounds}
 pub use Rattle.bstr.proofs.{lemmas.PieceLemmas.value-12, lemmas.PieceLemmas.value-6, lemmas.PieceLemmas.value-9, lemmas.SoundLemmas.SpellsChar-decoded}
 pub use Rattle.bstr.specs.Utf8.{decoded, lossy_chars}
-pub use Rattle.csicodec.proofs.{Parsed.canonical-alone, Parsed.parsed-kept, Exactly.alone-only}
-pub use Rattle.csicodec.specs.Exact.{ReadsAlone}
 pub use Rattle.csicodec_actions.specs.{Actions.Action, Actions.Unspecified, Ranges.ColorInRange, Ranges.SgrInRange, Table.text, Table.texts}
 pub use Rattle.csicodec_base.specs.SgrText.{sgr_text}
 pub use Rattle.csicodec_clean.specs.Cleaned.{AreGiven, AreSteps, EndOf, Ends, IsStep, RuleOf, Strips, drops, ends_bare, is_text, longest, stripped}
@@ -11,18 +9,20 @@ pub use Rattle.csicodec_clean.specs.Links.{Address, Begun, IsLink, IsWithin, adm
 pub use Rattle.csicodec_clean.specs.Shown.{IsBehind, IsPlain, IsRead, IsShown, IsTextOf, Writing, chars_as, run_as, shown, shown_chars, shown_text, written}
 pub use Rattle.csicodec_clean.specs.Stream.{AreTaken, Between, Closing, GoesBy, IsFrontOf, Takes, start_of, with_more}
 pub use Rattle.csicodec_clean.specs.Styled.{AreLeft, IsSafe, IsStyledIn, Item, Keeping, Leaves, Link, Shown, Style, StylesIn, begun_behind, ends_of, first_kept, hides, item_texts, items_behind, keeping, keeps, link_in, links_of, resets, run_behind, shown_items, styles_of}
-pub use Rattle.csicodec_clean.specs.{Addresses.is_host_on, Bytes.plain_byte, Check.IsOutside, Check.Stands, Palette.distance, Palette.palette, Palette.reduced}
-pub use Rattle.csicodec_clean.specs.{Private.Notes.IsLeft, Private.Notes.IsNoted, Private.Steps.GoesTo, Private.Steps.IsOther, Private.Steps.ReadsTo}
-pub use Rattle.csicodec_clean.specs.{Private.Steps.Tells, Private.Steps.bare_at, Private.Steps.state_of, Streams.StreamsOne, Titles.read_as, Titles.title_behind}
-pub use Rattle.csicodec_clean.specs.{Titles.title_open, Titles.with_titles, declared.colors.Depth.Depth, declared.links.LinkState.LinkState}
-pub use Rattle.csicodec_clean.specs.{declared.styles.Passing.Passing}
+pub use Rattle.csicodec_clean.specs.{Addresses.is_host_on, Check.IsOutside, Check.Stands, Private.Notes.IsLeft, Private.Notes.IsNoted, Private.Steps.GoesTo}
+pub use Rattle.csicodec_clean.specs.{Private.Steps.IsOther, Private.Steps.ReadsTo, Private.Steps.Tells, Private.Steps.bare_at, Private.Steps.state_of}
+pub use Rattle.csicodec_clean.specs.{Streams.StreamsOne, Titles.read_as, Titles.title_behind, Titles.title_open, Titles.with_titles}
+pub use Rattle.csicodec_clean.specs.{declared.links.LinkState.LinkState, declared.styles.Passing.Passing}
+pub use Rattle.csicodec_looks.specs.{Bytes.plain_byte, Xterm.reduced, declared.xterm.Depth.Depth}
 pub use Rattle.csicodec_names.specs.{declared.color.ColorSpec.ColorSpec, declared.color.SrgbaTuple.SrgbaTuple}
 pub use Rattle.csicodec_parser.specs.{ActionOf.action_of, Cut.semicolon, Groups.group, Segments.Actions, declared.group.Group.Group}
 pub use Rattle.csicodec_parser.specs.{declared.group.Group.TheVariants.Styles}
-pub use Rattle.csicodec_spans.proofs.{Agrees.opens, Once.parts_more, Once.parts_on, Missed.fit, Once.whole_once, OneSpan.none_unsure, OneSpan.singles}
-pub use Rattle.csicodec_spans.proofs.{Missed.rest_is}
+pub use Rattle.csicodec_spans.proofs.{Agrees.opens, Missed.fit, Missed.rest_is, Once.parts_more, Once.parts_on, Once.whole_once, OneSpan.none_unsure}
+pub use Rattle.csicodec_spans.proofs.{OneSpan.singles}
 pub use Rattle.csicodec_spans.specs.Parts.{Allows, AreFirstParts, IsFirstPart, IsSequence, IsSpan, IsUnsure, IsWhole, Part, bytes_of, left_over, part}
 pub use Rattle.csicodec_spans.specs.{Table.Answer, declared.table.Kind.Kind, declared.table.Mode.Mode}
+pub use Rattle.csicodec_streams.proofs.{Exactly.alone-only, Parsed.canonical-alone, Parsed.parsed-kept}
+pub use Rattle.csicodec_streams.specs.Exact.{ReadsAlone}
 pub use Rattle.csicodec_terminal.specs.Terminal.{IsTakenFor, has_unknown}
 pub use Rattle.csicodec_tokens.specs.{Sequence.Reads, Sequence.Seq, declared.param.CsiParam.CsiParam, declared.param.CsiParam.TheVariants.Integer}
 pub use Rattle.csicodec_tokens.specs.{declared.param.CsiParam.TheVariants.P}

@@ -1,5 +1,6 @@
 -- What is read of text whatever follows, what is shown of it, and that this is plain.
 pub use Rattle.std.proofs.lemmas.Str.{encodes-append as encoded_on}
+pub use Rattle.csicodec_looks.proofs.Fronts.{all_both, all_weaker}
 use Rattle.std.proofs.Common.{◌≡◌, ◌≢◌, ℕ, ◌<◌, ◌≤◌, List, [], ◌∷◌, ◌++◌, Option, None, Some, drop, length, length-append, slice_index, refl, sym, ap, subst, ◌∙◌, arith, append_assoc, append-nil, filter, encode_utf8_all, All, zero, suc, Bool, true, false, cond, length-drop}
 use Rattle.std.proofs.{lemmas.List.get_or_append_left, lemmas.List.drop_all, lemmas.List.Elements.filter-append, lemmas.List.Elements.All-from_recursion}
 use Rattle.csicodec_clean.proofs.Common.{nat_tests, drop-append-le, decoded, lossy_chars, piece-bounds, lossy_chars-nil, value-6, value-9, value-12, IsRead, flat_map-append, Writing, chars_as, run_as, shown, written, AllByRecursion, IsShown, IsPlain, IsOther, and_from, and_parts, cond_both, all_scalars, IsScalar, scalar, SpellsChar-decoded, Kind, Part, AreGiven, IsStep, AreSteps, Ends, Strips, stripped, drops, ends_bare, is_text, shown_text, IsTextOf, with_titles}
@@ -117,17 +118,9 @@ pub one_char : (c : ℕ) → IsShown c → AllByRecursion IsOther (encode_utf8 c
 unfolding encode_utf8
 one_char c h = grind (arith, nat_tests)
 
-pub all_both : {T : Type 0} (P : T → Type 0) (xs ys : List T) → AllByRecursion P xs → AllByRecursion P ys → AllByRecursion P (xs ++ ys)
-all_both P [] ys h k = k
-all_both P (x ∷ xs) ys h k = (h.0, all_both P xs ys h.1 k)
-
 pub all_parts : {T : Type 0} (P : T → Type 0) (xs ys : List T) → AllByRecursion P (xs ++ ys) → AllByRecursion P xs × AllByRecursion P ys
 all_parts P [] ys h = (tt, h)
 all_parts P (x ∷ xs) ys h = let more = all_parts P xs ys h.1 in ((h.0, more.0), more.1)
-
-pub all_weaker : {T : Type 0} (P Q : T → Type 0) → ((t : T) → P t → Q t) → (xs : List T) → AllByRecursion P xs → AllByRecursion Q xs
-all_weaker P Q f [] h = tt
-all_weaker P Q f (x ∷ xs) h = (f x h.0, all_weaker P Q f xs h.1)
 
 chars : (cs : List ℕ) → AllByRecursion IsShown cs → AllByRecursion IsOther (encode_utf8_all cs)
 chars [] h = tt

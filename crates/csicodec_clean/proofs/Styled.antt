@@ -1,13 +1,13 @@
 -- Styles and links that stay between the runs of text, and that what stays is safe by its bytes alone.
-use Rattle.std.proofs.Common.{◌≡◌, ℕ, Bool, true, false, List, [], ◌∷◌, ◌++◌, map, encode_utf8_all, length, refl, sym, ap, subst, ◌∙◌, append_assoc, append-nil, arith, filter, not, ◌==◌, Option, None, Some, if◌then◌else◌, unwrap_or, flat_map, ◌<◌, ◌≤◌, ◌+◌, ◌/◌, ◌%◌, ◌⊎◌, inl, inr, ne_eqb, ◌&&◌}
+use Rattle.std.proofs.Common.{◌≡◌, ℕ, Bool, true, false, List, [], ◌∷◌, ◌++◌, map, encode_utf8_all, length, refl, sym, ap, subst, ◌∙◌, append_assoc, append-nil, arith, filter, not, ◌==◌, if◌then◌else◌, flat_map, ◌<◌, ◌≤◌, ◌+◌, ◌/◌, ◌%◌, ◌⊎◌, inl, inr, ne_eqb, ◌&&◌}
 use Rattle.std.proofs.lemmas.List.Folds.{flat_map-map}
 use Rattle.csicodec_clean.proofs.Common.{and_parts, flat_map-append, map-append, AllByRecursion, all_scalars, scalar, lossy_chars, Action, text, texts, ReadsAlone, Kind, Part, Address, Begun, IsLink, IsWithin, all_behind, is_linked, link_text, links_at, links_in, next, start, Item, Shown, Style, Link, item_texts, shown_items, Leaves, begun_behind, run_behind, items_behind, AreLeft, styles_of, link_in, links_of, ends_of, StylesIn, IsSafe, IsStyledIn, Keeping, keeping, first_kept, keeps, resets, shown, shown_text, IsShown, with_titles, AreGiven, IsStep, AreSteps, Ends, longest, Depth, reduced, Passing, nat_tests, SgrInRange, hides, is_param, is_visible}
 use Rattle.csicodec_clean.proofs.{Linked.fine_behind, Linked.fine_links, Linked.linked_on, Linked.links_none, Reduced.reduced_alone, Reduced.reduced_hides}
 use Rattle.csicodec_clean.proofs.{Reduced.reduced_twice, Plain.kept_shown, Plain.scalars_lossy, Plain.all_both, Taken.StyleAlone, Taken.taken_alone}
 use Rattle.csicodec_clean.proofs.{Coded.AreCodes, Coded.IsCode, Coded.coded, Coded.style_range}
-use Rattle.std.specs.{Option.option_or, Char.encode_utf8}
+use Rattle.std.specs.Char.{encode_utf8}
 use Rattle.csicodec_base.specs.declared.sgr.Sgr.{Sgr}
-use Rattle.csicodec.proofs.Exactly.{round_trip_lem}
+use Rattle.csicodec_streams.proofs.Exactly.{round_trip_lem}
 use Rattle.csicodec_clean.specs.{Links.behind, Links.link_texts, Links.no_address, Styled.is_reset, Styled.kept, Styled.item_text, Styled.is_open}
 use Rattle.csicodec_clean.specs.{Styled.style_in, Styled.closed, Marked.Stand, Marked.Text, Marked.Numbers, Marked.Params, Marked.Url, Marked.stand_behind}
 use Rattle.csicodec_clean.specs.{Marked.is_marked, Marked.IsMarked}
@@ -268,14 +268,13 @@ styled d bytes text s =
 
 -- ---- an action more
 
-pub more_text : (d : Depth) (xs : List Action) (x : Action) (old out new : List ℕ) → out ≡ old ++ texts (map action.Sgr (kept d xs))
-    → new ≡ out ++ texts (map action.Sgr (kept d (x ∷ []))) → new ≡ old ++ texts (map action.Sgr (kept d (xs ++ x ∷ [])))
-more_text d xs x old out new e f = rw (f, e, kept_on) (simp (map-append, flat_map-append, append_assoc))
+pub more_text : (d : Depth) (x : Action) (xs : List Action) (out new : List ℕ) → new ≡ out ++ texts (map action.Sgr (kept d (x ∷ [])))
+    → new ++ texts (map action.Sgr (kept d xs)) ≡ out ++ texts (map action.Sgr (kept d (x ∷ xs)))
+more_text d x xs out new e = rw (e, kept_on d (x ∷ []) xs) (simp (map-append, flat_map-append, append_assoc))
 
-pub more_styles : (d : Depth) (xs : List Action) (x : Action) (last one : Option Bool) (b : Bool) → is_open b (kept d xs) ≡ unwrap_or last b
-    → ((c : Bool) → is_open c (kept d (x ∷ [])) ≡ unwrap_or one c) → is_open b (kept d (xs ++ x ∷ [])) ≡ unwrap_or (option_or one last) b
-more_styles d xs x last None b e f = rw (kept_on, open_on, f (is_open b (kept d xs))) e
-more_styles d xs x last (Some c) b e f = rw (kept_on, open_on, f (is_open b (kept d xs))) refl
+pub more_open : (d : Depth) (x : Action) (xs : List Action) (b now : Bool) → is_open b (kept d (x ∷ [])) ≡ now
+    → is_open now (kept d xs) ≡ is_open b (kept d (x ∷ xs))
+more_open d x xs b now e = rw (kept_on d (x ∷ []) xs, open_on b (kept d (x ∷ [])) (kept d xs), e) refl
 
 -- a colour that becomes another is no reset
 pub reset_reduced : (d : Depth) (s : Sgr) → is_reset (reduced d s) ≡ is_reset s

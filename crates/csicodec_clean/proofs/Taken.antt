@@ -8,7 +8,7 @@ use Rattle.csicodec_actions.specs.{Actions.Sgr, Ranges.InRange}
 use Rattle.csicodec_parser.specs.{Canonical.IsCanonicalSgr, declared.group.Group.TheVariants.Whole, Groups.Piece}
 use Rattle.csicodec_terminal.specs.{Regular.by_fields, Regular.first, Regular.has_one, Regular.has_two, Regular.regular, Regular.said, Terminal.Anew}
 use Rattle.csicodec_terminal.specs.{Terminal.Steps, Terminal.behind, Terminal.is_open}
-use Rattle.csicodec.proofs.{Kept.Kept, Kept.parsed-special, Kept.sgr-plain, SgrSpelling.sgr-kept}
+use Rattle.csicodec_streams.proofs.{Kept.Kept, Kept.parsed-special, Kept.sgr-plain, SgrSpelling.sgr-kept}
 use Rattle.csicodec_base.specs.declared.sgr.Sgr as sgr_type
 
 -- ---- a regular list is one of a sequence

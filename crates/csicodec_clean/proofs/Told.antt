@@ -1,48 +1,19 @@
 -- Text that is told by its bytes: plain bytes in front, text that stays as it is, and where text of a class ends.
 pub use Rattle.std.proofs.lemmas.Str.{encode_ascii as alone}
+pub use Rattle.csicodec_looks.proofs.Fronts.{front_in, behind_one, behind_drop, front_within, front_ends, low, is_shown, scalars, encoded}
 use Rattle.std.proofs.Common.{◌≡◌, ℕ, zero, suc, ◌<◌, ◌≤◌, Bool, true, List, [], ◌∷◌, drop, take, refl, arith, ◌+◌, false, cond, ◌++◌, encode_utf8_all, sym, ap, subst, ◌∙◌, append_assoc, append-nil, filter, ◌-◌, None, Some, length, slice_index, take-append-drop, ◌≢◌, ◌^◌, ◌==◌, min, length-append}
 use Rattle.std.proofs.{lemmas.Bool.false≢true, lemmas.List.append_cancel_left, lemmas.List.Sums.sum_by-append}
 use Rattle.csicodec_clean.proofs.Common.{AllByRecursion, lossy_chars-encode, Answer, Part, Allows, AreFirstParts, IsWhole, none_unsure, singles, whole_once, shown, shown_chars, shown_text, IsShown, IsPlain, with_titles, Strips, stripped, IsOther, and_from, nat_tests, common_steps, take-append_seam, all_scalars, scalar, decoded, lossy_chars, piece-bounds, value-6, value-9, value-12, SpellsChar-decoded, Writing, chars_as, written, IsBehind, IsTextOf, plain_byte, ReadsTo, Tells, and_parts, IsOutside, Stands}
 use Rattle.csicodec_clean.proofs.Plain.{strips_plain, plain_bytes, text_on, all_both, all_weaker, shown_on, written_none, read_more, read_none, read_on, all_parts, scalars_lossy, encoded_on}
 use Rattle.csicodec_clean.proofs.Titles.{single_texts}
 use Rattle.std.specs.{List.prefix_len, Char.encode_utf8}
-use Rattle.csicodec_clean.specs.{Bytes.behind, Bytes.IsPlainByte, Shown.IsWritten, Private.Steps.IsTold, Private.Steps.dropped_byte, Private.Steps.IsWide}
-use Rattle.csicodec_clean.specs.{Check.IsFault, Check.line_ends}
+use Rattle.csicodec_looks.specs.Bytes.{behind, IsPlainByte}
+use Rattle.csicodec_clean.specs.{Shown.IsWritten, Private.Steps.IsTold, Private.Steps.dropped_byte, Private.Steps.IsWide, Check.IsFault, Check.line_ends}
 use Rattle.csicodec_spans.proofs.Agrees.{text_goes_on}
 use lib.Utf8.{low_scalar}
 use Rattle.bstr.specs.Utf8.{Decoded, continues, second, code_of_2, code_of_3, code_of_4}
 use Rattle.bstr.proofs.{lemmas.LossyLemmas.lossy_chars-front, lemmas.EncodeLemmas.decoded-encode}
 use Rattle.csicodec_spans.specs.{declared.table.Kind.Kind, declared.table.Mode.Mode}
-
-module _ (p : ℕ → Bool) where
-  -- each of them is of the class
-  pub front_in : (xs : List ℕ) → AllByRecursion (λ b. p b ≡ true) (take (prefix_len p xs) xs)
-  front_in [] = tt
-  front_in (x ∷ xs) = go (prefix_len p xs) (p x) refl (front_in xs)
-    where
-      go : (n : ℕ) (b : Bool) → p x ≡ b → AllByRecursion (λ y. p y ≡ true) (take n xs) → AllByRecursion (λ y. p y ≡ true) (take (cond b (1 + n) 0) (x ∷ xs))
-      go n true is rest = let one : 1 + n ≡ suc n = omega arith in rw one (is, rest)
-      go n false is rest = tt
-
-  pub behind_one : (x : ℕ) (xs : List ℕ) → p x ≡ true → behind p (x ∷ xs) ≡ behind p xs
-  behind_one x xs is = grind arith
-
-  -- some of them are passed
-  pub behind_drop : (r : ℕ) (xs : List ℕ) → r ≤ prefix_len p xs → behind p (drop r xs) ≡ behind p xs
-  behind_drop zero xs few = refl
-  behind_drop (suc r) [] few = refl
-  behind_drop (suc r) (x ∷ xs) few = grind (arith, behind_drop r xs, behind_one x xs)
-
-  -- of the first n they are some, and all where they end among these
-  pub front_within : (n : ℕ) (xs : List ℕ) → prefix_len p (take n xs) ≤ prefix_len p xs
-  front_within zero xs = omega arith
-  front_within (suc n) [] = omega arith
-  front_within (suc n) (x ∷ xs) = grind (arith, front_within n xs)
-
-  pub front_ends : (n : ℕ) (xs : List ℕ) → prefix_len p (take n xs) < n → prefix_len p (take n xs) ≡ prefix_len p xs
-  front_ends zero xs few = absurd (omega (arith, few))
-  front_ends (suc n) [] few = refl
-  front_ends (suc n) (x ∷ xs) few = grind (arith, front_ends n xs)
 
 -- ---- Plain text stays as it is.
 
@@ -75,23 +46,7 @@ plain_stays limit text other p s =
 pub twice : (limit : ℕ) (bytes text other : List ℕ) → Strips limit bytes text → Strips limit text other → other ≡ text
 twice limit bytes text other s t = plain_stays limit text other (strips_plain limit bytes text s) t
 
--- ---- Text that is told by its bytes.
-
 -- ---- plain bytes
-
-pub low : (b : ℕ) → IsPlainByte b → b < 128
-low b h = grind (arith, nat_tests)
-
-pub is_shown : (b : ℕ) → IsPlainByte b → shown b ≡ true
-is_shown b h = grind (arith, nat_tests)
-
-pub scalars : (bs : List ℕ) → AllByRecursion IsPlainByte bs → all_scalars bs ≡ true
-scalars [] h = refl
-scalars (b ∷ bs) h = and_from (scalar b) (all_scalars bs) (low_scalar b (omega (arith, low b h.0))) (scalars bs h.1)
-
-pub encoded : (bs : List ℕ) → AllByRecursion IsPlainByte bs → bs ≡ encode_utf8_all bs
-encoded [] h = refl
-encoded (b ∷ bs) h = rw (alone b (low b h.0)) (ap (λ t. b ∷ t) (encoded bs h.1))
 
 ascii_in : (class : ℕ → Bool) → ((b : ℕ) → IsPlainByte b → class b ≡ true) → (bs : List ℕ) → AllByRecursion IsPlainByte bs
     → IsTextOf class bs
@@ -219,8 +174,6 @@ wide_front bs (suc n) many h =
     let same : Some char ≡ (decoded bs).char = sym (ap (λ (p : Decoded). p.char) is) in
     let size : suc n ≡ (decoded bs).size = sym (ap (λ (p : Decoded). p.size) is) in
     ((char_within bs char (suc n) same size).1, char_text shown bs char (suc n) same size (grind (arith, nat_tests, from)))
-
--- ---- Where text of a class of characters ends.
 
 -- ---- places
 

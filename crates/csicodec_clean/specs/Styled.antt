@@ -6,12 +6,13 @@ use Rattle.csicodec_tokens.specs.{declared.param.CsiParam.CsiParam, Sequence.Seq
 use Rattle.csicodec_base.specs.{declared.sgr.Sgr.Sgr, declared.sgr.Font.Font}
 use Rattle.csicodec_actions.specs.{Actions.Action, Table.text, Table.texts}
 use Rattle.csicodec_parser.specs.Segments.{Actions}
-use Rattle.csicodec.specs.Exact.{ReadsAlone}
+use Rattle.csicodec_streams.specs.Exact.{ReadsAlone}
 use Rattle.csicodec_terminal.specs.Terminal.{IsTakenFor}
 use Rattle.csicodec_spans.specs.{declared.table.Kind.Kind, Parts.Part, Parts.IsWhole, declared.table.Mode.Mode}
 use Rattle.csicodec_clean.specs.Links.{Address, Begun, IsLink, all_behind, is_linked, link_text, link_texts, links_at, links_in, next, no_address, start}
-use Rattle.csicodec_clean.specs.{Shown.shown, Shown.IsShown, Titles.with_titles, declared.colors.Depth.Depth, Palette.reduced, declared.styles.Passing.Passing}
-use Rattle.csicodec_clean.specs.{Cleaned.RuleOf, Cleaned.EndOf, Cleaned.longest}
+use Rattle.csicodec_clean.specs.{Shown.shown, Shown.IsShown, Titles.with_titles, declared.styles.Passing.Passing, Cleaned.RuleOf, Cleaned.EndOf}
+use Rattle.csicodec_clean.specs.{Cleaned.longest}
+use Rattle.csicodec_looks.specs.{declared.xterm.Depth.Depth, Xterm.reduced}
 use Rattle.csicodec_actions.specs.Actions as action
 
 -- the style hides what follows, or shows it in another font: on Linux' console two of the fonts change how each later byte is shown, and

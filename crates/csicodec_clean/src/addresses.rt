@@ -1,6 +1,6 @@
 //! Where a link may lead: to a host, by http or https.
 ghost use Rattle.std.specs.Prelude.{◌≡◌};
-ghost use Rattle.csicodec_clean.specs.Addresses.{ends_host, has_host, is_host_byte, is_host_on, is_web, led, leads_by};
+ghost use Rattle.csicodec_clean.specs.Addresses.{has_host, is_host_byte, is_host_on, led, leads_by};
 
 /// A byte of a host, or of the port behind it.
 fn is_host_byte(byte: u8) -> bool
@@ -9,20 +9,13 @@ fn is_host_byte(byte: u8) -> bool
     byte.is_ascii_alphanumeric() || matches!(byte, b'-' | b'.' | b'_' | b'[' | b']' | b':')
 }
 
-/// What ends them.
-fn ends_host(byte: u8) -> bool
-    ensures { result ≡ ends_host byte }
-{
-    matches!(byte, b'/' | b'?' | b'#')
-}
-
 /// Whether only such bytes stand up to the end, or to what ends a host.
 fn is_host_on(bytes: &[u8]) -> bool
     ensures { result ≡ is_host_on bytes.now }
 {
     for byte in bytes {
         if !is_host_byte(*byte) {
-            return ends_host(*byte);
+            return matches!(byte, b'/' | b'?' | b'#');
         }
     }
     true
@@ -48,13 +41,6 @@ fn leads_by(scheme: &[u8], url: &[u8]) -> bool
     }
 }
 
-/// Whether the address is one of http or https.
-fn is_web(url: &[u8]) -> bool
-    ensures { result ≡ is_web url.now }
-{
-    leads_by(b"http://", url) || leads_by(b"https://", url)
-}
-
 /// Where a link to the address leads: there, if that is a host by http or https without a user's name, and else nowhere, which has no
 /// bytes.
 ///
@@ -65,5 +51,9 @@ fn is_web(url: &[u8]) -> bool
 pub fn led(url: &[u8]) -> &[u8]
     ensures { result.now ≡ led url.now }
 {
-    if is_web(url) { url } else { &[] }
+    if leads_by(b"http://", url) || leads_by(b"https://", url) {
+        url
+    } else {
+        &[]
+    }
 }

@@ -75,7 +75,25 @@ fn behind_text<'a, C: CharClass>(bytes: &'a [u8]) -> &'a [u8]
 fn line_ends(text: &[u8]) -> usize
     ensures { result ≡ line_ends text.now }
 {
-    text.iter().filter(|byte| **byte == b'\n').count()
+    let mut count = 0;
+    for byte in text {
+        if *byte == b'\n' {
+            count += 1;
+        }
+    }
+    count
+}
+
+/// Whether more may follow these: of a character that isn't over, or of an ESC alone, which tells what that begins.
+#[tactic(auto, using(crate::proofs::Plain::cut_short))]
+fn waits(rest: &[u8]) -> bool
+    ensures short { result ≡ true → length rest.now ≤ 3 }
+    ensures sure { result ≡ false → (0 < length rest.now) × IsSure rest.now }
+{
+    match first_sure(rest) {
+        Some(_) => matches!(rest, [ESC]),
+        None => true,
+    }
 }
 
 /// A stream as far as it is text of a class of characters.
@@ -119,7 +137,6 @@ impl Checked {
 
     /// Takes the next bytes. Whether more may follow: of such text, of a character that isn't over, or of an ESC alone, which tells
     /// what that begins.
-    #[tactic(auto, using(crate::proofs::Plain::cut_short))]
     pub fn push<C: CharClass>(&mut self, bytes: &[u8]) -> Result<bool, AllocError>
         ensures stands { OnOk result ((before : List ℕ)
             → Stands C.class before self.old.rest.items self.old.at self.old.line
@@ -133,7 +150,7 @@ impl Checked {
     {
         self.rest.extend_from_slice(bytes)?;
         self.pass::<C>();
-        Ok(first_sure(&self.rest).is_none() || self.rest.as_slice() == [ESC].as_slice())
+        Ok(waits(&self.rest))
     }
 }
 

@@ -4,11 +4,11 @@ ghost use Rattle.std.specs.{Prelude.slice_get, Prelude.true, List.AllByRecursion
 ghost use Rattle.csicodec_clean.specs.Links.{Address, IsAdmitted, IsLink, IsWithin, Stood, StoodIn, admitted, begun, link_body, links_in, start};
 ghost use Rattle.csicodec_clean.specs.Styled.{IsStyledIn, Keeping, StylesIn, first_kept, links_of, resets, resumed, keeps, without_links};
 ghost use Rattle.csicodec_clean.specs.{Addresses.ends_host, Addresses.is_web, Addresses.led, declared.links.LinkState.TheVariants.Outside, Cleaned.Ends};
-ghost use Rattle.csicodec_clean.specs.{Cleaned.Strips, Cleaned.drops, Cleaned.ends_bare, Cleaned.longest, Palette.IsNearest, Palette.nearest_of_16};
-ghost use Rattle.csicodec_clean.specs.{Palette.nearest_of_256, declared.colors.Depth.Depth, declared.step.Pause.Pause, declared.styles.Passing.Passing};
+ghost use Rattle.csicodec_clean.specs.{Cleaned.Strips, Cleaned.drops, Cleaned.ends_bare, Cleaned.longest, declared.step.Pause.Pause, declared.styles.Passing.Passing};
 ghost use Rattle.csicodec_clean.specs.{declared.whole.Dropped.Dropped, Check.IsFault, Marked.IsMarked, Shown.IsPlain, Shown.shown, Titles.InTitle, Titles.IsText};
 ghost use Rattle.csicodec_clean.specs.{Titles.with_titles, Stream.AnyChunks, Stream.AreTaken, Stream.Between, Stream.IsFrontOf, Stream.Takes, Stream.start_of};
 ghost use Rattle.csicodec_clean.specs.{Steps.AreStepped, Steps.bare, Steps.beginning, Steps.ending};
+ghost use Rattle.csicodec_looks.specs.{Xterm.IsNearest, Xterm.nearest_of_16, Xterm.nearest_of_256, declared.xterm.Depth.Depth};
 ghost use Rattle.csicodec_names.specs.declared.color.SrgbaTuple.{SrgbaTuple};
 ghost use Rattle.csicodec_spans.specs.{Parts.IsWhole, Parts.Part, Parts.part, declared.table.Kind.TheVariants.Other, declared.table.Mode.TheVariants.Text};
 
@@ -138,7 +138,7 @@ pub fn links_stood()
 {}
 
 /// The place that a colour becomes is the nearest of the palette, and of those that are as near the first.
-#[tactic(auto, using(crate::proofs::Reduced::nearest_256, crate::proofs::Reduced::nearest_16))]
+#[tactic(auto, using(csicodec_looks::proofs::Reduced::nearest_256, csicodec_looks::proofs::Reduced::nearest_16))]
 pub fn nearest()
     ensures of_256 { (color : SrgbaTuple) → IsNearest color 16 256 (nearest_of_256 color) }
     ensures of_16 { (color : SrgbaTuple) → IsNearest color 0 16 (nearest_of_16 color) }

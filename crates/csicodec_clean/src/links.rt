@@ -1,12 +1,12 @@
 //! Links, read byte by byte.
 ghost use Rattle.std.specs.Prelude.{◌≡◌, ◌++◌, ℕ, List, Bool, true, [], OnOk, IfOk};
-ghost use Rattle.csicodec_clean.specs.Links.{admitted, all_behind, anew, behind, come, ends_at, is_linked, is_param, is_visible, link_text, link_texts, links_at, links_in, no_address, opened, start};
+ghost use Rattle.csicodec_clean.specs.Links.{admitted, all_behind, behind, come, ends_at, is_linked, is_visible, link_text, link_texts, links_at, links_in, start};
 
 use crate::addresses::led;
 use std::alloc::{AllocError, Global};
 
 /// How far a control string is that of a link, `ESC ] 8 ; PARAMS ; URL` and then ST or BEL.
-#[derive(Clone, Copy, PartialEq, Eq, Debug)]
+#[derive(Clone, Copy)]
 pub enum LinkState {
     /// It is none.
     Outside,
@@ -37,35 +37,6 @@ fn is_visible(byte: u8) -> bool
     33 <= byte && byte <= 126
 }
 
-/// One that parameters may have.
-fn is_param(byte: u8) -> bool
-    ensures { result ≡ is_param byte }
-{
-    is_visible(byte) && byte != b';'
-}
-
-/// ESC begins anew.
-fn anew(byte: u8) -> LinkState
-    ensures { result ≡ anew byte }
-{
-    if byte == 0x1b {
-        LinkState::Escape
-    } else {
-        LinkState::Outside
-    }
-}
-
-/// Behind ESC.
-fn opened(byte: u8) -> LinkState
-    ensures { result ≡ opened byte }
-{
-    if byte == b']' {
-        LinkState::Opened
-    } else {
-        LinkState::Outside
-    }
-}
-
 /// Whether the byte ends a link, which is then what has come of it.
 pub fn ends_link(place: LinkState, byte: u8) -> bool
     ensures { result ≡ ends_at place byte }
@@ -74,13 +45,6 @@ pub fn ends_link(place: LinkState, byte: u8) -> bool
         (place, byte),
         (LinkState::Url, 0x07) | (LinkState::Ending, b'\\')
     )
-}
-
-/// Appends what ends a link.
-pub(crate) fn append_end(out: &mut Vec<u8>) -> Result<(), AllocError>
-    ensures { OnOk result (out.new.items ≡ out.old.items ++ link_text no_address) }
-{
-    out.extend_from_slice(b"\x1b]8;;\x1b\\")
 }
 
 /// Reads links, byte by byte, where bytes of control strings come in any cut.
@@ -120,7 +84,9 @@ impl LinkReader {
         ensures { OnOk result (come self.new ≡ behind (come self.old) byte) }
     {
         match self.place {
-            LinkState::Escape | LinkState::Ending => self.place = opened(byte),
+            LinkState::Escape | LinkState::Ending if byte == b']' => {
+                self.place = LinkState::Opened;
+            }
             LinkState::Opened if byte == b'8' => self.place = LinkState::Eight,
             LinkState::Eight if byte == b';' => {
                 self.params.clear();
@@ -130,17 +96,18 @@ impl LinkReader {
                 self.url.clear();
                 self.place = LinkState::Url;
             }
-            LinkState::Params if is_param(byte) && self.params.len() < LONGEST_PARAMS => {
+            LinkState::Params if is_visible(byte) && self.params.len() < LONGEST_PARAMS => {
                 self.params.push(byte)?;
             }
             LinkState::Url if is_visible(byte) && self.url.len() < LONGEST_URL => {
                 self.url.push(byte)?;
             }
             LinkState::Url if byte == 0x1b => self.place = LinkState::Ending,
-            LinkState::Url => self.place = LinkState::Outside,
-            LinkState::Outside | LinkState::Opened | LinkState::Eight | LinkState::Params => {
-                self.place = anew(byte);
+            LinkState::Escape | LinkState::Ending | LinkState::Url => {
+                self.place = LinkState::Outside;
             }
+            _ if byte == 0x1b => self.place = LinkState::Escape,
+            _ => self.place = LinkState::Outside,
         }
         Ok(())
     }

@@ -4,21 +4,19 @@ ghost use Rattle.std.specs.Option.{unwrap_or};
 ghost use Rattle.csicodec_actions.specs.{Actions.Action, Actions.Sgr as SgrAction, Table.texts};
 ghost use Rattle.csicodec_parser.specs.ActionOf.{action_of};
 ghost use Rattle.csicodec_transform.specs.Known.{AreKnown};
-ghost use Rattle.csicodec_clean.specs.{declared.colors.Depth.TheVariants.Full as AllColors, Styled.is_open, Styled.kept, Private.Notes.IsLeft, Private.Notes.IsNoted};
-ghost use Rattle.csicodec_clean.specs.{Private.Notes.depth_byte, Private.Notes.open_byte};
+ghost use Rattle.csicodec_looks.specs.declared.xterm.Depth.TheVariants.{Full as AllColors};
+ghost use Rattle.csicodec_clean.specs.{Styled.is_open, Styled.kept, Private.Notes.IsLeft, Private.Notes.IsNoted, Private.Notes.depth_byte, Private.Notes.open_byte};
 ghost use Rattle.csicodec_terminal.specs.Terminal.{IsTakenFor};
 
-use crate::class::LANES;
-use crate::colors::Depth;
 use crate::styles::append_styles;
 use crate::text::append_front;
-use crate::whole::near;
-use csicodec::CSI;
 use csicodec_base::{CsiParam, ReadError, read_csi_into};
-use csicodec_filter::Known;
+use csicodec_looks::LANES;
+use csicodec_looks::xterm::Depth;
+use csicodec_parser::CSI;
 use csicodec_streams::{color_text, position_len, read_color};
 use csicodec_terminal::terminal_actions_into;
-use csicodec_transform::Note;
+use csicodec_transform::{Known, Note};
 use std::alloc::{AllocError, Global};
 
 /// The note that is what stays of a sequence.
@@ -92,108 +90,108 @@ fn color_note(text: &[u8; 24]) -> [u8; 27]
     note
 }
 
-/// Appends the normal form of the true colour in front, and notes it, where all colours stay; answers how many bytes its sequence has,
-/// at most `limit`. A style is open behind it. It answers 0 where it takes none.
-#[inline(always)]
-fn take_color(
-    known: &mut Known<StyleNote>,
-    depth: Depth,
-    limit: usize,
-    bytes: &[u8],
-    out: &mut Vec<u8>,
-) -> Result<usize, AllocError>
-    requires { AreKnown IsNoted known.old.memo.slots.items }
-    ensures within { IfOk result (λ len. (len ≤ limit) × (len ≤ length bytes.now)) }
-    ensures left { IfOk result (λ len. 0 < len → (styled : Bool)
-        → IsLeft depth styled (take len bytes.now) true out.old.items out.new.items) }
-    ensures none { IfOk result (λ len. len ≡ 0 → out.new.items ≡ out.old.items) }
-    ensures known { AreKnown IsNoted known.new.memo.slots.items }
-{
-    let Depth::Full = depth else {
-        return Ok(0);
-    };
-    let front = near(limit, bytes);
-    let Some((_, rest)) = read_color(front) else {
-        return Ok(0);
-    };
-    let Some(text) = color_text(front) else {
-        return Ok(0);
-    };
-    let len = front.len() - rest.len();
-    append_front::<24>(&text, len + 1, out)?;
-    known.keep(bytes, len, color_note(&text).split_at(len + 4).0);
-    Ok(len)
-}
-
-/// Places that are kept for a sequence that is read: its actions, and its note.
+/// What is noted of sequences that came before, and places that are kept for one that is read: its tokens, its actions, and its note.
 #[derive(Drop)]
-pub(crate) struct SequenceBuffers {
+pub(crate) struct SequenceNotes {
     pub(crate) alloc: Global,
+    pub(crate) known: Known<StyleNote>,
+    params: Vec<CsiParam>,
     pub(crate) actions: Vec<CSI>,
-    pub(crate) note: Vec<u8>,
+    note: Vec<u8>,
 }
 
-impl SequenceBuffers {
-    /// With nothing in them.
-    pub(crate) fn new(alloc: Global) -> SequenceBuffers {
-        SequenceBuffers {
+impl SequenceNotes {
+    /// With nothing noted.
+    pub(crate) fn new(alloc: Global) -> SequenceNotes
+        ensures { AreKnown IsNoted result.known.memo.slots.items }
+    {
+        SequenceNotes {
             alloc,
+            known: Known::new(alloc),
+            params: Vec::new(alloc),
             actions: Vec::new(alloc),
             note: Vec::new(alloc),
         }
     }
 
+    /// Appends the normal form of the true colour in front, and notes it, where all colours stay; answers how many bytes its sequence has.
+    /// A style is open behind it. It answers 0 where it takes none.
+    #[inline(always)]
+    fn take_color(
+        &mut self,
+        depth: Depth,
+        bytes: &[u8],
+        out: &mut Vec<u8>,
+    ) -> Result<usize, AllocError>
+        requires { AreKnown IsNoted self.old.known.memo.slots.items }
+        ensures within { IfOk result (λ len. len ≤ length bytes.now) }
+        ensures left { IfOk result (λ len. 0 < len → (styled : Bool)
+            → IsLeft depth styled (take len bytes.now) true out.old.items out.new.items) }
+        ensures none { IfOk result (λ len. len ≡ 0 → out.new.items ≡ out.old.items) }
+        ensures known { AreKnown IsNoted self.new.known.memo.slots.items }
+    {
+        let Depth::Full = depth else {
+            return Ok(0);
+        };
+        let Some((_, rest)) = read_color(bytes) else {
+            return Ok(0);
+        };
+        let Some(text) = color_text(bytes) else {
+            return Ok(0);
+        };
+        let len = bytes.len() - rest.len();
+        append_front::<24>(&text, len + 1, out)?;
+        self.known
+            .keep(bytes, len, color_note(&text).split_at(len + 4).0);
+        Ok(len)
+    }
+
     /// Notes what was appended for the sequence in front, whose actions are kept, and whether the last style of it leaves one open.
     fn keep(
         &mut self,
-        known: &mut Known<StyleNote>,
         depth: Depth,
         last: Option<bool>,
         bytes: &[u8],
         len: usize,
         text: &[u8],
     ) -> Result<(), AllocError>
-        requires known { AreKnown IsNoted known.old.memo.slots.items }
+        requires known { AreKnown IsNoted self.old.known.memo.slots.items }
         requires sequence { IsTakenFor (take len bytes.now) (map action_of self.old.actions.items) }
         requires text { text.now
             ≡ texts (map SgrAction (kept depth (map action_of self.old.actions.items))) }
         requires last { (styled : Bool)
             → is_open styled (kept depth (map action_of self.old.actions.items)) ≡ unwrap_or last styled }
-        ensures known { AreKnown IsNoted known.new.memo.slots.items }
-        ensures same { self.new.actions.items ≡ self.old.actions.items }
+        ensures { AreKnown IsNoted self.new.known.memo.slots.items }
     {
         self.note.clear();
-        self.note.push(depth_byte(depth))?;
-        self.note.push(open_byte(last.unwrap_or(false)))?;
-        self.note.push(open_byte(last.unwrap_or(true)))?;
+        self.note.extend_from_slice(&[
+            depth_byte(depth),
+            open_byte(last.unwrap_or(false)),
+            open_byte(last.unwrap_or(true)),
+        ])?;
         self.note.extend_from_slice(text)?;
-        known.keep(bytes, len, &self.note);
+        self.known.keep(bytes, len, &self.note);
         Ok(())
     }
 
-    /// Keeps the actions of the sequence in front, and answers how many bytes it has, at most `limit`; 0 where none stands there.
+    /// Keeps the actions of the sequence in front, and answers how many bytes it has; 0 where none stands there.
     #[inline(always)]
-    fn read(
-        &mut self,
-        params: &mut Vec<CsiParam>,
-        limit: usize,
-        bytes: &[u8],
-    ) -> Result<usize, AllocError>
-        ensures within { IfOk result (λ len. (len ≤ limit) × (len ≤ length bytes.now)) }
+    fn read(&mut self, bytes: &[u8]) -> Result<usize, AllocError>
+        ensures within { IfOk result (λ len. len ≤ length bytes.now) }
         ensures read { IfOk result (λ len. 0 < len
             → IsTakenFor (take len bytes.now) (map action_of self.new.actions.items)) }
+        ensures known { self.new.known ≡ self.old.known }
     {
-        let front = near(limit, bytes);
         self.actions.clear();
-        if let Some((sgr, rest)) = read_color(front) {
+        if let Some((sgr, rest)) = read_color(bytes) {
             self.actions.push(CSI::Sgr(sgr))?;
-            return Ok(front.len() - rest.len());
+            return Ok(bytes.len() - rest.len());
         }
-        match read_csi_into(params, front) {
+        match read_csi_into(&mut self.params, bytes) {
             Ok(tail) => {
                 let actions = &mut self.actions;
-                terminal_actions_into(self.alloc, params, false, tail.control, actions)?;
-                Ok(front.len() - tail.rest.len())
+                terminal_actions_into(self.alloc, &self.params, false, tail.control, actions)?;
+                Ok(bytes.len() - tail.rest.len())
             }
             Err(ReadError::Memory) => Err(AllocError),
             Err(_) => Ok(0),
@@ -201,42 +199,39 @@ impl SequenceBuffers {
     }
 
     /// Appends what stays of the sequence in front, which isn't known, and notes it, unless it only moves the cursor; answers how many
-    /// bytes it has, at most `limit`, and whether a style is open behind it. It answers 0 where no sequence stands there.
+    /// bytes it has, and whether a style is open behind it. It answers 0 where no sequence stands there.
     #[inline(never)]
     pub(crate) fn take_new(
         &mut self,
-        params: &mut Vec<CsiParam>,
-        known: &mut Known<StyleNote>,
         depth: Depth,
         styled: bool,
-        limit: usize,
         bytes: &[u8],
         out: &mut Vec<u8>,
     ) -> Result<(usize, bool), AllocError>
-        requires { AreKnown IsNoted known.old.memo.slots.items }
-        ensures within { IfOk result (λ (len, after). (len ≤ limit) × (len ≤ length bytes.now)) }
+        requires { AreKnown IsNoted self.old.known.memo.slots.items }
+        ensures within { IfOk result (λ (len, after). len ≤ length bytes.now) }
         ensures left { IfOk result (λ (len, after). 0 < len
             → IsLeft depth styled (take len bytes.now) after out.old.items out.new.items) }
         ensures none { IfOk result
             (λ (len, after). len ≡ 0 → (after ≡ styled) × (out.new.items ≡ out.old.items)) }
-        ensures known { AreKnown IsNoted known.new.memo.slots.items }
+        ensures known { AreKnown IsNoted self.new.known.memo.slots.items }
     {
-        let moved = position_len(b'1', near(limit, bytes));
+        let moved = position_len(b'1', bytes);
         if moved > 0 {
             return Ok((moved, styled));
         }
-        let colored = take_color(known, depth, limit, bytes, out)?;
+        let colored = self.take_color(depth, bytes, out)?;
         if colored > 0 {
             return Ok((colored, true));
         }
-        let len = self.read(params, limit, bytes)?;
+        let len = self.read(bytes)?;
         if len == 0 {
             return Ok((0, styled));
         }
         let before = out.len();
         let last = append_styles(depth, &self.actions, out)?;
         let text = out.split_at(before).1;
-        self.keep(known, depth, last, bytes, len, text)?;
+        self.keep(depth, last, bytes, len, text)?;
         Ok((len, last.unwrap_or(styled)))
     }
 }

@@ -5,10 +5,10 @@ ghost use Rattle.csicodec_clean.specs.{Shown.IsPlain, Cleaned.Ends, Cleaned.Stri
 ghost use Rattle.csicodec_clean.specs.{Streams.StreamsOne, Styled.IsStyled, Styled.IsStyledIn, Styled.Styles, Styled.StylesIn, Styled.without_links};
 
 use crate::cleaner::Cleaner;
-use crate::colors::Depth;
 use crate::rule::Rule;
 use crate::styles::{Kept, Passing};
 use crate::whole::Dropped;
+use csicodec_looks::xterm::Depth;
 use csicodec_transform::{RunError, Transform, transform_all};
 use std::alloc::{AllocError, Global};
 use std::io::{Read, Write};

@@ -2,15 +2,16 @@
 ghost use Rattle.std.specs.Prelude.{◌≡◌, ◌≤◌, ◌++◌, ℕ, List, length, drop, OnOk, IfOk};
 ghost use Rattle.csicodec_clean.specs.{Cleaned.drops, Steps.Steps, Steps.bare, Steps.beginning, Steps.ending, Styled.resumed, Styled.keeps};
 
-use crate::colors::Depth;
 use crate::rule::Rule;
 use crate::spans::append_clean;
 use crate::styles::Kept;
 use crate::text::append_shown;
 use crate::whole::Dropped;
-use csicodec::{CSI, encode};
 use csicodec_base::Sgr;
+use csicodec_looks::xterm::Depth;
+use csicodec_parser::CSI;
 use csicodec_spans::{LIMIT, Mode};
+use csicodec_streams::encode;
 use std::alloc::{AllocError, Global};
 
 /// What a stream leaves open between two steps, of [`strip_step`] or of [`clean_step`].

@@ -6,40 +6,44 @@ ghost use Rattle.csicodec_parser.specs.ActionOf.{action_of};
 ghost use Rattle.csicodec_clean.specs.Styled.{Styles, StylesIn, IsStyled, IsStyledIn, Keeping, first_kept, is_open, keeping, kept, resumed, without_links};
 ghost use Rattle.csicodec_clean.specs.Marked.{IsMarked};
 
-use crate::class::LANES;
-use crate::colors::{Depth, reduced};
-use crate::links::{LinkReader, append_end};
-use crate::notes::{SequenceBuffers, StyleNote, append_noted};
+use crate::links::LinkReader;
+use crate::notes::{SequenceNotes, append_noted};
 use crate::rule::{Anew, Rule};
 use crate::text::append_front;
-use crate::whole::clean_whole;
+use crate::whole::{clean_whole, near};
 use bstr::ByteVec;
-use csicodec::{CSI, encode};
 use csicodec_base::{CsiParam, Font, Sgr};
-use csicodec_filter::Known;
+use csicodec_looks::LANES;
+use csicodec_looks::xterm::{Depth, reduced};
+use csicodec_parser::CSI;
+use csicodec_streams::encode;
 use csicodec_terminal::terminal_actions_into;
 use std::alloc::{AllocError, Global};
 use std::marker::Model;
 
-/// Appends the text of the action, if it is a style that stays, and answers then whether a style is open behind it.
+/// Appends the text of the action, if it is a style that stays, and answers then whether a style is open behind it, and else what was told
+/// of those before it.
 #[tactic(auto, using(crate::proofs::Styled::reset_reduced))]
-fn append_style(depth: Depth, action: &CSI, out: &mut Vec<u8>) -> Result<Option<bool>, AllocError>
+fn append_style(
+    depth: Depth,
+    action: &CSI,
+    last: Option<bool>,
+    out: &mut Vec<u8>,
+) -> Result<Option<bool>, AllocError>
     ensures text { OnOk result
         (out.new.items
         ≡ out.old.items ++ texts (map SgrAction (kept depth (action_of action.now ∷ [])))) }
-    ensures last { IfOk result (λ last. (styled : Bool)
-        → is_open styled (kept depth (action_of action.now ∷ [])) ≡ unwrap_or last styled) }
+    ensures last { IfOk result (λ now. (styled : Bool)
+        → is_open (unwrap_or last styled) (kept depth (action_of action.now ∷ [])) ≡ unwrap_or now styled) }
 {
-    match action {
-        CSI::Sgr(style) => {
-            if matches!(style, Sgr::Invisible(true) | Sgr::Font(Font::Alternate(_))) {
-                return Ok(None);
-            }
-            encode(&CSI::Sgr(reduced(depth, *style)), out)?;
-            Ok(Some(!matches!(style, Sgr::Reset)))
-        }
-        _ => Ok(None),
+    let CSI::Sgr(style) = action else {
+        return Ok(last);
+    };
+    if matches!(style, Sgr::Invisible(true) | Sgr::Font(Font::Alternate(_))) {
+        return Ok(last);
     }
+    encode(&CSI::Sgr(reduced(depth, *style)), out)?;
+    Ok(Some(!matches!(style, Sgr::Reset)))
 }
 
 /// Appends the styles of each of the actions in turn, and answers whether one is open behind them; None where none of them stays.
@@ -55,9 +59,10 @@ pub(crate) fn append_styles(
         → is_open styled (kept depth (map action_of actions.now)) ≡ unwrap_or last styled) }
 {
     let mut last = None;
-    for action in actions {
-        let one = append_style(depth, action, out)?;
-        last = one.or(last);
+    let mut rest = actions;
+    while let Some((action, others)) = rest.split_first() {
+        last = append_style(depth, action, last, out)?;
+        rest = others;
     }
     Ok(last)
 }
@@ -80,11 +85,7 @@ pub struct Kept {
     styled: bool,
     linked: bool,
     link: LinkReader,
-    /// What is noted of sequences that came before.
-    known: Known<StyleNote>,
-    room: SequenceBuffers,
-    /// A place that is kept for the tokens of a sequence.
-    params: Vec<CsiParam>,
+    notes: SequenceNotes,
 }
 
 impl Model for Kept {
@@ -98,7 +99,7 @@ impl Model for Kept {
 
     ghost view = { λ k. keeping k.passing k.styled k.linked (come k.link) };
 
-    ghost invariant = { λ k. AreKnown IsNoted k.known.memo.slots.items };
+    ghost invariant = { λ k. AreKnown IsNoted k.notes.known.memo.slots.items };
 }
 
 impl Kept {
@@ -129,9 +130,7 @@ impl Kept {
             styled: false,
             linked: false,
             link: LinkReader::new(alloc),
-            known: Known::new(alloc),
-            room: SequenceBuffers::new(alloc),
-            params: Vec::new(alloc),
+            notes: SequenceNotes::new(alloc),
         }
     }
 }
@@ -161,9 +160,9 @@ impl Rule for Kept {
         out: &mut Vec<u8>,
     ) -> Result<(), AllocError> {
         let depth = self.passing.depth;
-        let actions = &mut self.room.actions;
-        terminal_actions_into(self.room.alloc, params, false, control, actions)?;
-        let last = append_styles(depth, &self.room.actions, out)?;
+        let actions = &mut self.notes.actions;
+        terminal_actions_into(self.notes.alloc, params, false, control, actions)?;
+        let last = append_styles(depth, &self.notes.actions, out)?;
         self.styled = last.unwrap_or(self.styled);
         Ok(())
     }
@@ -176,21 +175,14 @@ impl Rule for Kept {
         out: &mut Vec<u8>,
     ) -> Result<usize, AllocError> {
         let depth = self.passing.depth;
-        let known = self.known.look(limit, bytes);
+        let known = self.notes.known.look(limit, bytes);
         if known == 0 {
-            let (len, styled) = self.room.take_new(
-                &mut self.params,
-                &mut self.known,
-                depth,
-                self.styled,
-                limit,
-                bytes,
-                out,
-            )?;
+            let front = near(limit, bytes);
+            let (len, styled) = self.notes.take_new(depth, self.styled, front, out)?;
             self.styled = styled;
             return Ok(len);
         }
-        match append_noted(&self.known, depth, self.styled, out)? {
+        match append_noted(&self.notes.known, depth, self.styled, out)? {
             Some(styled) => {
                 self.styled = styled;
                 Ok(known)
@@ -214,7 +206,7 @@ impl Rule for Kept {
 
     fn close(&self, out: &mut Vec<u8>) -> Result<(), AllocError> {
         if self.linked {
-            append_end(out)?;
+            out.extend_from_slice(b"\x1b]8;;\x1b\\")?;
         }
         if self.styled {
             encode(&CSI::Sgr(Sgr::Reset), out)?;

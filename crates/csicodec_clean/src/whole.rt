@@ -1,14 +1,13 @@
 //! Bytes that are all there, cleaned.
-ghost use Rattle.std.specs.Prelude.{◌≡◌, ◌≢◌, ◌<◌, ◌≤◌, ◌++◌, ℕ, List, [], All, IfOk, length, take};
-ghost use Rattle.csicodec_spans.specs.Parts.{IsSequence};
+ghost use Rattle.std.specs.Prelude.{◌≡◌, ◌≢◌, ◌++◌, ℕ, List, [], All, IfOk, take};
 ghost use Rattle.csicodec_clean.specs.{Shown.IsPlain, Cleaned.Ends, Cleaned.Strips, Cleaned.longest};
 
-use crate::class::LANES;
 use crate::rule::{Anew, Rule};
 use crate::spans::append_clean;
 use crate::text::{append_front, append_shown};
 use bstr::ByteVec;
 use csicodec_base::CsiParam;
+use csicodec_looks::LANES;
 use csicodec_spans::{LIMIT, Mode};
 use csicodec_tokens::behind_csi;
 use std::alloc::{AllocError, Global};
@@ -46,20 +45,6 @@ pub(crate) fn near(limit: usize, bytes: &[u8]) -> &[u8]
     bytes.get(..limit).unwrap_or(bytes)
 }
 
-/// How many bytes the control sequence in front has, at most `limit`; 0 where none stands there.
-#[tactic(auto, using(crate::proofs::Chunks::sequence_read))]
-#[inline(always)]
-fn sequence_len(limit: usize, bytes: &[u8]) -> usize
-    ensures within { (result ≤ limit) × (result ≤ length bytes.now) }
-    ensures sequence { 0 < result → IsSequence (take result bytes.now) }
-{
-    let front = near(limit, bytes);
-    match behind_csi(front) {
-        Ok(behind) => front.len() - behind.len(),
-        Err(_) => 0,
-    }
-}
-
 /// The rule that drops every control sequence and every control string.
 #[derive(Drop)]
 pub struct Dropped;
@@ -91,6 +76,7 @@ impl Rule for Dropped {
         Ok(())
     }
 
+    #[tactic(auto, using(crate::proofs::Chunks::sequence_read))]
     #[inline(always)]
     fn take_at_once(
         &mut self,
@@ -98,7 +84,11 @@ impl Rule for Dropped {
         bytes: &[u8],
         _out: &mut Vec<u8>,
     ) -> Result<usize, AllocError> {
-        Ok(sequence_len(limit, bytes))
+        let front = near(limit, bytes);
+        match behind_csi(front) {
+            Ok(behind) => Ok(front.len() - behind.len()),
+            Err(_) => Ok(0),
+        }
     }
 
     fn reads_strings(&self) -> bool {

@@ -3,7 +3,7 @@ ghost use Rattle.std.specs.Prelude.{◌≡◌, ◌≤◌, ◌<◌, ◌++◌, len
 ghost use Rattle.bstr.specs.Utf8.{continues, second};
 ghost use Rattle.csicodec_clean.specs.{Shown.IsBehind, Shown.IsPlain, Shown.shown, Private.Steps.IsWide};
 
-use crate::class::{PlainAscii, behind};
+use csicodec_looks::{PlainAscii, behind};
 
 /// Whether the byte may continue a character.
 #[inline(always)]

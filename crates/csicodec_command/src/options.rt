@@ -287,4 +287,4 @@ read like any other FILE.
   -h, --help     Show this text.";
 
 /// The program's name and version.
-pub const VERSION: &str = "csicodec 1.22.0";
+pub const VERSION: &str = "csicodec 1.23.0";

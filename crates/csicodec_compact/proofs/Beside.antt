@@ -3,10 +3,10 @@ use Rattle.std.proofs.Common.{◌≡◌, ◌≢◌, ◌≤◌, ◌+◌, ◌-◌,
 use Rattle.std.proofs.{lemmas.Bool.cases_Bool, Math.Seq.take-append_seam, lemmas.List.drop-append-le}
 use Rattle.csicodec_tokens.proofs.Reading.{one_seq}
 use Rattle.csicodec_parser.proofs.Cuts.{actions_are}
-use Rattle.csicodec_streams.specs.{Decoding.Decodes, Known.IsOne}
+use Rattle.csicodec_streams.specs.{Decoding.Decodes, Known.IsOne, Faithful.stays}
 use Rattle.csicodec_streams.proofs.OneReading.{decodes-append, decodes-one, one_decoding}
 use Rattle.csicodec_spans.specs.{Parts.Part, Parts.part, Parts.bytes_of, Parts.IsSpan, Parts.IsUnsure, declared.table.Kind.Kind, declared.table.Mode.Mode}
-use Rattle.csicodec_filter.specs.{Faithful.stays, Filter.Held, Written.Appends, Written.Leaves, Written.Since}
+use Rattle.csicodec_filter.specs.{Filter.Held, Written.Appends, Written.Leaves, Written.Since}
 use Rattle.csicodec_transform.specs.Transform.{Adds, Begins as BeginsWith, Sends, Transforms}
 use Rattle.csicodec_filter.proofs.Written.{made, makes, spanned}
 use Rattle.csicodec_compact.specs.Runs.{IsStaying, NoneStays, Shortens, AreRuns, PassesShort, CompactsAll, most_joined}

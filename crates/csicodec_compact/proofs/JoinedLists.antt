@@ -1,20 +1,19 @@
 -- Texts of actions, one after the other, and lists of attributes that are joined at a `;`.
-use Rattle.std.proofs.Common.{ℕ, ◌≡◌, ◌≤◌, List, [], ◌∷◌, ◌++◌, false, length, arith, ap, length-append, if◌then◌else◌, OnOk, ℤ, pos, true, not, Some, map, inr, refl, sym, subst, ◌∙◌, append_assoc, append-nil, eqb-true, true≢false, ◌==◌, slice_get}
-use Rattle.std.proofs.{lemmas.Bool.and_parts, lemmas.Bool.not-false, lemmas.Bool.or_parts, lemmas.List.append_cancel_right}
-use Rattle.std.specs.{Result.is_ok, declared.result.Result.Result, declared.result.Result.TheVariants.Ok, declared.result.Result.TheVariants.Err}
+use Rattle.std.proofs.Common.{ℕ, ◌≡◌, ◌≤◌, List, [], ◌∷◌, ◌++◌, false, length, arith, ap, length-append, if◌then◌else◌, IfOk, OnOk, ℤ, pos, true, not, Some, map, inr, refl, sym, subst, ◌∙◌, append_assoc, append-nil, true≢false, slice_get}
+use Rattle.std.proofs.{lemmas.Bool.and_parts, lemmas.List.append_cancel_right}
+use Rattle.std.specs.{Result.is_err, Result.is_ok, declared.result.Result.Result, declared.result.Result.TheVariants.Ok, declared.result.Result.TheVariants.Err}
 use Rattle.csicodec_actions.specs.Table.{text, texts}
 use Rattle.csicodec_streams.proofs.{OneReading.Alone, OneReading.decodes-append, OneReading.decodes-each, OneReading.decodes-one, OneReading.seq_of}
-use Rattle.csicodec_streams.proofs.{Colors.spellable-joined, Colors.spells-joined}
-use Rattle.csicodec.specs.{Exact.ReadsAlone, Compose.EndsInSemicolon, Compose.IsStyleList}
-use Rattle.csicodec_compact.specs.Private.Steps.{is_mark, is_semicolon, is_bare, is_joined, may_join, joint, behind, IsList, IsOpenList, IsTail}
+use Rattle.csicodec_streams.proofs.{Colors.spellable-joined, Colors.spells-joined, Compose.ends-joined, Compose.ends-part, Compose.plain-joint}
+use Rattle.csicodec_streams.proofs.{Compose.sgr_compose_lem}
+use Rattle.csicodec_streams.specs.{Exact.ReadsAlone, Compose.EndsInSemicolon, Compose.IsStyleList, Decoding.Decodes}
+use Rattle.csicodec_compact.specs.Private.Steps.{is_semicolon, is_bare, is_joined, may_join, joint, behind, IsList, IsOpenList, IsTail}
 use Rattle.csicodec_compact.specs.declared.form.TextEnding.{TextEnding}
-use Rattle.csicodec_tokens.specs.{declared.param.CsiParam.TheVariants.Integer, declared.param.CsiParam.TheVariants.P, Sequence.Spellable, Sequence.Spells}
+use Rattle.csicodec_tokens.specs.{declared.param.CsiParam.TheVariants.Integer, Sequence.Spellable, Sequence.Spells}
 use Rattle.csicodec_base.specs.FrontBy.{piece}
 use Rattle.csicodec_base.proofs.Table.{is_piece, piece_within}
 use Rattle.csicodec_parser.specs.{Cut.semicolon, Cut.NoSemicolon, declared.group.Group.TheVariants.Styles, Groups.has_odd, Segments.Segmented}
 use Rattle.csicodec_parser.proofs.{Cuts.actions_are, Fronts.style-list}
-use Rattle.csicodec_streams.specs.Decoding.{Decodes}
-use Rattle.csicodec.proofs.Compose.{ends-joined, ends-part, plain-joint, sgr_compose_lem}
 use Rattle.csicodec_compact.proofs.Common.{flat_map-append, map-append, AllByRecursion, list_any, Action, Sgr, is_other, closing, IsListed, Encodes, ReadsAlike, CsiParam, Seq, action_of, CSI, actions, Actions}
 use Rattle.csicodec_base.specs.declared.sgr.Sgr as sgr_type
 use Rattle.csicodec_base.specs.declared.sgr.Sgr.TheVariants as sgr
@@ -49,6 +48,16 @@ encodes-append xs ys t u x y = record {
 pub extended : {A E : Type 0} (r : Result A E) (now long old : List ℕ) → now ≡ (if is_ok r then long else old) → OnOk r (now ≡ long)
 extended (Ok x) now long old e = e
 extended (Err x) now long old e = tt
+
+-- what a call that didn't fail says
+pub said : {A E P : Type 0} (r : Result A E) → is_err r ≡ false → OnOk r P → P
+said (Ok x) e h = h
+said (Err x) e h = absurd (true≢false e)
+
+-- two of a call's facts, where it answers
+pub of_both : {A E : Type 0} (r : Result A E) (P Q R : A → Type 0) → ((x : A) → P x → Q x → R x) → IfOk r P → IfOk r Q → IfOk r R
+of_both (Ok x) P Q R f h k = f x h k
+of_both (Err x) P Q R f h k = tt
 
 -- ---- Lists of attributes that are joined at a `;`.
 
@@ -282,11 +291,6 @@ joint_short st form bytes b may =
 -- ---- what is found of a text
 
 -- numbers and `;` are no odd bytes
-pub plain_by : (list : List CsiParam) → list_any is_mark list ≡ false → has_odd Styles list ≡ false
-plain_by [] e = refl
-plain_by (Integer z ∷ ts) e = plain_by ts e
-plain_by (P b ∷ ts) e = let h = or_parts (is_mark (P b)) (list_any is_mark ts) e in rw (eqb-true b 59 (not-false (b == 59) h.0)) (plain_by ts h.1)
-
 -- actions of which none is another are attributes
 pub styles_by : (actions : List CSI) → list_any is_other actions ≡ false → (styles : List sgr_type.Sgr) × (map action_of actions ≡ map Sgr styles)
 styles_by [] e = ([], refl)

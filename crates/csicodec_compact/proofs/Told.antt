@@ -6,11 +6,10 @@ use Rattle.csicodec_tokens.specs.{Sequence.IsFinal, Sequence.Spellable, Param.to
 use Rattle.csicodec_names.specs.{declared.color.ColorSpec.ColorSpec, declared.color.ColorSpec.TheVariants.Default}
 use Rattle.csicodec_names.specs.{declared.color.ColorSpec.TheVariants.PaletteIndex, declared.color.ColorSpec.TheVariants.TrueColor, Numbered.is_number}
 use Rattle.csicodec_base.specs.{Shapes.Plane, Shapes.painted, declared.sgr.Sgr.Sgr}
-use Rattle.csicodec_streams.specs.Colors.{IsColored, IsOpaque, color_list, plane_byte}
+use Rattle.csicodec_streams.specs.{Colors.IsColored, Colors.IsOpaque, Colors.color_list, Colors.plane_byte, Faithful.stays, Compose.EndsInSemicolon}
+use Rattle.csicodec_streams.specs.{Compose.IsStyleList}
 use Rattle.csicodec_streams.proofs.{OneReading.seq_of, OneReading.decodes-one, OneReading.one_decoding, Colors.color_short, Colors.colors_mean, Colors.listed}
-use Rattle.csicodec_streams.proofs.{Colors.listed_spellable, Colors.listed_spelled}
-use Rattle.csicodec_filter.specs.Faithful.{stays}
-use Rattle.csicodec.specs.Compose.{EndsInSemicolon, IsStyleList}
+use Rattle.csicodec_streams.proofs.{Colors.listed_spellable, Colors.listed_spelled, Kept.Kept, Kept.IsParsedSpecial, Parsed.parsed-kept, Exactly.round_trip_lem}
 use Rattle.csicodec_compact.specs.{Private.Steps.IsNote, Private.Steps.list_of, Private.Steps.IsOneNormalised, Runs.AreRuns, Runs.IsRun, Runs.Shortens}
 use Rattle.csicodec_compact.specs.{Runs.CompactsAll, Runs.most_joined, Meaning.HasAgain, declared.form.TextEnding.TextEnding}
 use Rattle.csicodec_compact.proofs.Common.{flat_map-append, Seq, CsiParam, IsListed, closing, form_of, Compacts, ReadsAlike, AllByRecursion, list_any, all-append, Action, Actions}
@@ -24,7 +23,6 @@ use Rattle.csicodec_actions.specs.{Actions.Cursor, Actions.Device, Devices.Reque
 use Rattle.csicodec_actions.specs.{Special.NoneSpecial, Table.text, Table.texts, Table.Device.written_parameters, Written.Item, Written.Byte, Written.The}
 use Rattle.csicodec_actions.specs.{Written.Unless, Written.Attribute, Written.shown}
 use Rattle.csicodec_parser.specs.Canonical.{Canonical}
-use Rattle.csicodec.proofs.{Kept.Kept, Kept.IsParsedSpecial, Parsed.parsed-kept, Exactly.round_trip_lem}
 
 color_plain : (plane : Plane) (color : ColorSpec) → IsStyleList (listed plane color)
 color_plain plane Default = record { some = omega arith; plain = refl }

@@ -2,9 +2,7 @@
 use Rattle.std.specs.{Prelude.ℕ, Prelude.◌≡◌, Prelude.◌≤◌, Prelude.true, Prelude.false, Prelude.List, Prelude.length, List.AllByRecursion}
 use Rattle.csicodec_tokens.specs.{declared.param.CsiParam.CsiParam, Sequence.Seq}
 use Rattle.csicodec_actions.specs.{Actions.Action, Table.texts}
-use Rattle.csicodec_streams.specs.Decoding.{Decodes}
-use Rattle.csicodec_filter.specs.Faithful.{stays}
-use Rattle.csicodec.specs.Exact.{ReadsAlone}
+use Rattle.csicodec_streams.specs.{Decoding.Decodes, Faithful.stays, Exact.ReadsAlone}
 
 -- what the bytes are read as the text is read as too: exactly these actions, in order
 abbrev pub ReadsAlike : List ℕ → List ℕ → Type 0

@@ -3,9 +3,9 @@ use Rattle.std.specs.{Prelude.ℕ, Prelude.◌≡◌, Prelude.◌≢◌, Prelude
 use Rattle.std.specs.{Prelude.false, Prelude.length, List.AllByRecursion, List.flat_map}
 use Rattle.csicodec_tokens.specs.{declared.param.CsiParam.CsiParam, Sequence.Seq}
 use Rattle.csicodec_actions.specs.Actions.{Action}
-use Rattle.csicodec_streams.specs.Decoding.{Decodes}
+use Rattle.csicodec_streams.specs.{Decoding.Decodes, Faithful.stays}
 use Rattle.csicodec_spans.specs.{declared.table.Mode.Mode, Parts.Part, Parts.bytes_of, declared.table.Kind.Kind}
-use Rattle.csicodec_filter.specs.{Faithful.stays, Filter.MakesBy, Filter.PassesBy}
+use Rattle.csicodec_filter.specs.Filter.{MakesBy, PassesBy}
 
 -- a control sequence that stays as it came
 abbrev pub IsStaying : List ℕ → Type 0

@@ -4,8 +4,7 @@ ghost use Rattle.csicodec_tokens.specs.Sequence.{Seq};
 ghost use Rattle.csicodec_compact.specs.{Compacts.ReadsAlike, Private.Steps.IsOneNormalised};
 
 use csicodec_base::{CsiParam, ReadError, read_csi_into};
-use csicodec_parser::Texts;
-use csicodec_streams::parse_into;
+use csicodec_parser::{Texts, parse_into};
 use std::alloc::{AllocError, Global};
 
 /// Reads sequences, and compares what they are read as by their normal forms. Its buffers are kept from call to call.

@@ -4,7 +4,7 @@ ghost use Rattle.csicodec_tokens.specs.Sequence.{Seq};
 ghost use Rattle.csicodec_compact.specs.Compacts.{Compacts, ReadsAlike};
 
 use crate::alike::Comparer;
-use crate::spell::{may_be_shorter, spell, spell_plainly};
+use crate::spell::{may_be_shorter, spell};
 use csicodec_base::{CsiParam, TextBuffer};
 use csicodec_filter::{Rewrite, stays};
 use std::alloc::{AllocError, Global};
@@ -69,11 +69,11 @@ impl Compact {
         if !may_be_shorter(bytes, params, control) || stays(params, control) {
             return Ok(false);
         }
-        spell(params, control, &mut self.spelling)?;
+        spell(params, control, false, &mut self.spelling)?;
         if self.serves(len, params, control)? {
             return Ok(true);
         }
-        spell_plainly(params, control, &mut self.spelling)?;
+        spell(params, control, true, &mut self.spelling)?;
         self.serves(len, params, control)
     }
 }

@@ -94,7 +94,7 @@ impl Joiner {
         if stays(&self.params, control) {
             return Ok(false);
         }
-        spell(&self.params, control, &mut self.spelling)?;
+        spell(&self.params, control, false, &mut self.spelling)?;
         let spelling = self.spelling.as_slice();
         if spelling.len() < texts.len() {
             self.reader.has_normal_form(spelling, texts)

@@ -3,42 +3,27 @@ ghost use Rattle.std.specs.{Prelude.◌≡◌, Prelude.◌≤◌, Prelude.List, 
 ghost use Rattle.csicodec_tokens.specs.Sequence.{Seq};
 ghost use Rattle.csicodec_base.specs.declared.sgr.Sgr.{Sgr};
 ghost use Rattle.csicodec_actions.specs.Actions.{Sgr as Style};
-ghost use Rattle.csicodec_filter.specs.Faithful.{stays};
+ghost use Rattle.csicodec_streams.specs.{Faithful.stays, Compose.EndsInSemicolon, Compose.IsStyleList};
 ghost use Rattle.csicodec_parser.specs.Segments.{Actions};
-ghost use Rattle.csicodec.specs.Compose.{EndsInSemicolon, IsStyleList};
-ghost use Rattle.csicodec_compact.specs.Private.Steps.{IsListed, IsOwn, is_joined, is_mark, is_other};
+ghost use Rattle.csicodec_compact.specs.Private.Steps.{IsListed, IsOwn, is_joined, is_other};
 
 use crate::encode::NUMBERS;
 use crate::form::TextEnding;
 use csicodec_base::{CsiParam, ReadError, read_csi_into};
 use csicodec_filter::stays;
-use csicodec_parser::CSI;
-use csicodec_streams::parse_into;
+use csicodec_parser::{CSI, parse_into};
 use std::alloc::{AllocError, Global};
 
-/// Whether a token is neither a number nor `;`.
-fn is_mark(token: &CsiParam) -> bool
-    ensures { result ≡ is_mark token.now }
-{
-    match token {
-        CsiParam::Integer(_) => false,
-        CsiParam::P(byte) => *byte != b';',
-    }
-}
-
-/// Whether one of these stands in a list.
-fn has_mark(params: &[CsiParam]) -> bool
-    ensures { result ≡ list_any is_mark params.now }
-{
-    params.iter().any(is_mark)
-}
-
 /// Whether a list is of numbers and `;`, at least one of them.
-#[tactic(auto, using(crate::proofs::JoinedLists::plain_by))]
 fn is_plain(params: &[CsiParam]) -> bool
     ensures { result ≡ true → IsStyleList params.now }
 {
-    !params.is_empty() && !has_mark(params)
+    for param in params {
+        if !matches!(param, CsiParam::Integer(_) | CsiParam::P(b';')) {
+            return false;
+        }
+    }
+    !params.is_empty()
 }
 
 /// Whether a list ends in a number.
@@ -48,18 +33,18 @@ fn is_open(params: &[CsiParam]) -> bool
     matches!(params.split_last(), Some((CsiParam::Integer(_), _)))
 }
 
-/// Whether an action is no attribute.
-fn is_other(action: &CSI) -> bool
-    ensures { result ≡ is_other action.now }
-{
-    !matches!(action, CSI::Sgr(_))
-}
-
-/// Whether one of the actions is none.
+/// Whether one of the actions is no attribute.
 fn any_other(actions: &[CSI]) -> bool
     ensures { result ≡ list_any is_other actions.now }
 {
-    actions.iter().any(is_other)
+    let mut rest = actions;
+    while let [first, others @ ..] = rest {
+        if !matches!(first, CSI::Sgr(_)) {
+            return true;
+        }
+        rest = others;
+    }
+    false
 }
 
 /// The most bytes of a sequence to which others are joined.
@@ -69,8 +54,13 @@ const LONGEST: usize = 256;
 pub(crate) fn numbers(text: &[u8]) -> u8
     ensures { 1 ≤ result }
 {
-    let marks = text.iter().filter(|byte| **byte == b';').count();
-    u8::try_from(marks).unwrap_or(u8::MAX).saturating_add(1)
+    let mut marks = 0u8;
+    for byte in text {
+        if *byte == b';' {
+            marks = marks.saturating_add(1);
+        }
+    }
+    marks.saturating_add(1)
 }
 
 /// Reads texts of sequences, to see which are lists of attributes. Its buffers are kept from call to call.
@@ -154,10 +144,7 @@ impl Lists {
         if !self.is_list(&other)? {
             return Ok(false);
         }
-        if !self.is_unclosed()? {
-            return Ok(false);
-        }
-        Ok(true)
+        self.is_unclosed()
     }
 
     /// The form of a text that is written for a sequence of these bytes, which has this list and this final.

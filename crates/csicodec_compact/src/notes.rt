@@ -46,12 +46,10 @@ fn write_note(note: &mut TextBuffer, form: TextEnding, text: &[u8]) -> Result<()
     note.clear();
     if form.is_joined() {
         note.push_front(&[form.mark(), numbers(text), b';'], 3)?;
-        note.push_slice(list_of(text, form))?;
-        return Ok(());
+        return note.push_slice(list_of(text, form));
     }
     note.push_front(&[form.mark(), u8::MAX], 2)?;
-    note.push_slice(text)?;
-    Ok(())
+    note.push_slice(text)
 }
 
 /// What begins with the note of a sequence in front that is a list of attributes, is written as it came, and ends in the last of so many

@@ -107,11 +107,9 @@ impl Written {
         self.form = form;
         if form.is_joined() {
             out.push_front(b"\x1b[", 2)?;
-            append_text(behind_mark(text), behind_mark(wide), out)?;
-            return Ok(());
+            return append_text(behind_mark(text), behind_mark(wide), out);
         }
-        append_text(text, wide, out)?;
-        Ok(())
+        append_text(text, wide, out)
     }
 
     /// Goes on with a text in the same list. Behind a list that ends in `;` an empty one is written as 0.
@@ -130,17 +128,14 @@ impl Written {
     {
         if !matches!(form, TextEnding::Bare) {
             self.form = form;
-            append_text(text, wide, out)?;
-            return Ok(());
+            return append_text(text, wide, out);
         }
         if matches!(self.form, TextEnding::Open) {
             self.form = TextEnding::Blank;
-            append_text(text, wide, out)?;
-            return Ok(());
+            return append_text(text, wide, out);
         }
         self.form = TextEnding::Open;
-        out.push_front(b";0", 2)?;
-        Ok(())
+        out.push_front(b";0", 2)
     }
 
     /// Writes what is noted of one control sequence: joined to what was written, or behind it. `wide` begins with the note.

@@ -5,58 +5,32 @@ use csicodec_base::CsiParam::{Integer, P};
 use csicodec_base::{CsiParam, Text, TextBuffer};
 use std::alloc::AllocError;
 
-/// Which numbers are left out of a list.
-#[derive(Clone, Copy, PartialEq)]
-enum Defaults {
-    /// None.
-    Said,
-    /// 0.
-    Zero,
-    /// 0, and 1.
-    One,
+/// Below which number a parameter may be left out of a list before this final (ECMA-48, 8.3).
+fn least_said(control: char) -> i64 {
+    match control {
+        'J' | 'K' | 'W' | 'c' | 'g' => 1,
+        '@'..='I' | 'L' | 'M' | 'P' | 'S' | 'T' | 'X'..='Z' | '`' | 'a' | 'b' | 'd'..='f' | 'j' => {
+            2
+        }
+        _ => 0,
+    }
 }
 
-impl Defaults {
-    /// Those that a list may lack before this final (ECMA-48, 8.3).
-    fn before(control: char) -> Defaults {
-        match control {
-            'J' | 'K' | 'W' | 'c' | 'g' => Defaults::Zero,
-            '@'..='I'
-            | 'L'
-            | 'M'
-            | 'P'
-            | 'S'
-            | 'T'
-            | 'X'..='Z'
-            | '`'
-            | 'a'
-            | 'b'
-            | 'd'..='f'
-            | 'j' => { Defaults::One }
-            _ => Defaults::Said,
-        }
-    }
+/// Whether the token is a number that may be left out there.
+fn is_left_out(token: CsiParam, least: i64) -> bool {
+    matches!(token, Integer(number) if 0 <= number && number < least)
+}
 
-    /// Whether the token is left out.
-    fn leave_out(self, token: CsiParam) -> bool {
-        match self {
-            Defaults::Said => false,
-            Defaults::Zero => token == Integer(0),
-            Defaults::One => token == Integer(0) || token == Integer(1),
+/// The list without what may be left out at its end, and the `;` before that.
+fn without_end(params: &[CsiParam], least: i64) -> &[CsiParam] {
+    let mut front = params;
+    while let Some((last, others)) = front.split_last() {
+        if least == 0 || !matches!(last, P(b';')) && !is_left_out(*last, least) {
+            return front;
         }
+        front = others;
     }
-
-    /// The list without what is left out at its end, and the `;` before that.
-    fn without_end(self, params: &[CsiParam]) -> &[CsiParam] {
-        let mut front = params;
-        while let Some((last, others)) = front.split_last() {
-            if self == Defaults::Said || *last != P(b';') && !self.leave_out(*last) {
-                return front;
-            }
-            front = others;
-        }
-        front
-    }
+    front
 }
 
 /// Appends a token, and `;` for a colon where it is one of a colour.
@@ -72,20 +46,19 @@ fn append_token(token: CsiParam, colored: bool, out: &mut TextBuffer) -> Result<
     }
 }
 
+/// Appends the tokens but those that may be left out.
 fn append_tokens(
     tokens: &[CsiParam],
+    least: i64,
     colored: bool,
     out: &mut TextBuffer,
 ) -> Result<(), AllocError> {
     for token in tokens {
-        append_token(*token, colored, out)?;
+        if !is_left_out(*token, least) {
+            append_token(*token, colored, out)?;
+        }
     }
     Ok(())
-}
-
-fn append_final(control: char, out: &mut TextBuffer) -> Result<(), AllocError> {
-    let mut bytes = [0u8; 4];
-    out.push_slice(control.encode_utf8(&mut bytes).as_bytes())
 }
 
 /// How many tokens the style in front has: up to the next `;`, or up to the end of a colour with semicolons.
@@ -95,10 +68,14 @@ fn style_len(rest: &[CsiParam]) -> usize
     match rest {
         [Integer(38 | 48 | 58), P(b';'), Integer(2), ..] => rest.len().min(9),
         [Integer(38 | 48 | 58), P(b';'), Integer(5), ..] => rest.len().min(5),
-        _ => rest
-            .iter()
-            .position(|token| *token == P(b';'))
-            .unwrap_or(rest.len()),
+        _ => {
+            for (i, token) in rest.iter().enumerate() {
+                if matches!(token, P(b';')) {
+                    return i;
+                }
+            }
+            rest.len()
+        }
     }
 }
 
@@ -110,12 +87,12 @@ fn append_style(style: &[CsiParam], last: bool, out: &mut TextBuffer) -> Result<
         [Integer(0)] if !last => Ok(()),
         [Integer(4), P(b':'), Integer(0)] => out.push_slice(b"24"),
         [Integer(4), P(b':'), Integer(1)] => out.push_slice(b"4"),
-        [Integer(38 | 48), P(b':'), Integer(5), ..] => append_tokens(style, true, out),
+        [Integer(38 | 48), P(b':'), Integer(5), ..] => append_tokens(style, 0, true, out),
         [Integer(38 | 48), P(b':'), Integer(2), P(b':'), ..] if 9 <= style.len() => {
-            append_tokens(&style[..4], true, out)?;
-            append_tokens(&style[style.len() - 5..], true, out)
+            append_tokens(&style[..4], 0, true, out)?;
+            append_tokens(&style[style.len() - 5..], 0, true, out)
         }
-        _ => append_tokens(style, false, out),
+        _ => append_tokens(style, 0, false, out),
     }
 }
 
@@ -141,49 +118,37 @@ fn append_styles(params: &[CsiParam], out: &mut TextBuffer) -> Result<(), AllocE
 
 /// Whether a number begins with 0, or there is a colon.
 fn has_zero_or_colon(bytes: &[u8]) -> bool {
-    for (i, byte) in bytes.iter().enumerate().skip(2) {
-        if *byte == b':' || *byte == b'0' && !bytes[i - 1].is_ascii_digit() {
+    let mut before = 0u8;
+    for byte in bytes {
+        if *byte == b':' || *byte == b'0' && !before.is_ascii_digit() {
             return true;
         }
+        before = *byte;
     }
     false
 }
 
 /// Whether another spelling may be shorter, or have other marks.
 pub(crate) fn may_be_shorter(bytes: &[u8], params: &[CsiParam], control: char) -> bool {
-    has_zero_or_colon(bytes)
-        || Defaults::before(control) == Defaults::One && params.contains(&Integer(1))
+    has_zero_or_colon(bytes) || least_said(control) == 2 && params.contains(&Integer(1))
 }
 
-/// Writes a spelling of the list that leaves out what is a default there.
+/// Writes a spelling of the list: `plainly` as its numbers are printed, without zeros ahead of them, and else without what is a default
+/// there too.
 pub(crate) fn spell(
     params: &[CsiParam],
     control: char,
+    plainly: bool,
     out: &mut TextBuffer,
 ) -> Result<(), AllocError> {
     out.clear();
     out.push_slice(b"\x1b[")?;
-    if control == 'm' {
+    if control == 'm' && !plainly {
         append_styles(params, out)?;
     } else {
-        let defaults = Defaults::before(control);
-        for token in defaults.without_end(params) {
-            if !defaults.leave_out(*token) {
-                append_token(*token, false, out)?;
-            }
-        }
+        let least = if plainly { 0 } else { least_said(control) };
+        append_tokens(without_end(params, least), least, false, out)?;
     }
-    append_final(control, out)
-}
-
-/// Writes the list as its numbers are printed, without zeros ahead of them.
-pub(crate) fn spell_plainly(
-    params: &[CsiParam],
-    control: char,
-    out: &mut TextBuffer,
-) -> Result<(), AllocError> {
-    out.clear();
-    out.push_slice(b"\x1b[")?;
-    append_tokens(params, false, out)?;
-    append_final(control, out)
+    let mut bytes = [0u8; 4];
+    out.push_slice(control.encode_utf8(&mut bytes).as_bytes())
 }

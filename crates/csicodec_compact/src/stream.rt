@@ -89,7 +89,8 @@ pub fn compact_bytes(
 {
     let mut out = Vec::new(alloc);
     let mut compactor = Compactor::new(alloc, limit, compact);
-    compactor.push(bytes, &mut out)?;
-    compactor.finish(&mut out)?;
+    if compactor.push(bytes, &mut out).is_err() || compactor.finish(&mut out).is_err() {
+        return Err(AllocError);
+    }
     Ok(out)
 }

@@ -146,23 +146,15 @@ impl Events {
         ensures limit { OnOk result (self.new.limit ≡ self.old.limit) }
         ensures memory { OnErr result (self.new ≡ self.old) }
     {
-        if !begins_csi(bytes) {
-            return match self.span(bytes, params) {
-                Some((event, len)) => Ok(Some(Told {
-                    event,
-                    bytes: near(len, bytes),
-                    rest: behind(bytes, len),
-                })),
-                None => Ok(None),
-            };
-        }
-        match self.next_over(&mut Front::new(bytes), params)? {
-            Some((event, len)) => Ok(Some(Told {
-                event,
-                bytes: near(len, bytes),
-                rest: behind(bytes, len),
-            })),
-            None => Ok(None),
-        }
+        let found = if begins_csi(bytes) {
+            self.next_over(&mut Front::new(bytes), params)?
+        } else {
+            self.span(bytes, params)
+        };
+        let Some((event, len)) = found else {
+            return Ok(None);
+        };
+        let (bytes, rest) = (near(len, bytes), behind(bytes, len));
+        Ok(Some(Told { event, bytes, rest }))
     }
 }

@@ -6,7 +6,7 @@ use base64::engine::general_purpose::STANDARD;
 use csicodec_osc::{Quoted, Shown};
 use memchr::memchr;
 use std::alloc::{AllocError, Global};
-use std::fmt;
+use std::fmt::Write;
 
 /// The text of an OSC 52 in base64, where the string is one, whole and closed.
 fn clipboard_text(string: &[u8]) -> Option<&[u8]> {
@@ -30,21 +30,12 @@ pub fn clipboard_bytes(alloc: Global, string: &[u8]) -> Result<Option<Vec<u8>>> 
 }
 
 /// The words of such bytes: all of them, or the first 120.
-#[derive(Clone, Copy)]
-pub struct Clipboard<'a> {
-    /// The bytes.
-    pub bytes: &'a [u8],
-    /// Whether all are shown.
-    pub full: bool,
-}
-
-impl<'a> fmt::Display for Clipboard<'a> {
-    fn fmt<W: fmt::Write>(&self, f: &mut fmt::Formatter<W>) -> fmt::Result {
-        let (bytes, more) = (self.bytes, false);
-        if self.full {
-            write!(f, "OSC 52  text: \"{}\"", Shown(bytes))
-        } else {
-            write!(f, "OSC 52  text: {}", Quoted { bytes, more })
-        }
+pub fn append_words(words: &mut String, bytes: &[u8], full: bool) -> Result<()> {
+    let (shown, more) = (Shown(bytes), false);
+    if full {
+        Ok(write!(words, "OSC 52  text: \"{shown}\"")?)
+    } else {
+        let quoted = Quoted { bytes, more };
+        Ok(write!(words, "OSC 52  text: {quoted}")?)
     }
 }

@@ -2,7 +2,7 @@
 //! colours are new, and others are the same few over and over.
 
 use crate::Result;
-use crate::digits::{words_of_color, words_of_place};
+use crate::digits::words_of;
 
 /// The words of an action, with digits of its sequence: a line and a column, or the parts of a true colour.
 #[derive(Clone, Copy)]
@@ -18,11 +18,30 @@ pub struct Copied<'a> {
 impl<'a> Copied<'a> {
     /// The words of the action in front of a list, and what is left of the list for further ones; none where the digits aren't copied.
     pub fn front(list: &'a [u8], control: u8) -> Option<(Copied<'a>, &'a [u8])> {
-        if control == b'm' {
-            color_front(list)
-        } else {
-            Some((place_of(list, control)?, &[]))
-        }
+        let (ahead, between, list) = words_of(list, control)?;
+        let (first, behind) = digits_front(list)?;
+        let [b';', behind @ ..] = behind else {
+            return None;
+        };
+        let (second, behind) = digits_front(behind)?;
+        let (third, behind) = match (control, first, second, behind) {
+            (b'm', _, _, [b';', parts @ ..]) if is_part(first) && is_part(second) => {
+                blue_front(parts)?
+            }
+            // A 0 is told as 1.
+            (b'm', _, _, _) | (_, [b'0'], _, _) | (_, _, [b'0'], _) | (_, _, _, [_, ..]) => {
+                return None;
+            }
+            _ => ([].as_slice(), behind),
+        };
+        let words = Copied {
+            ahead,
+            first,
+            between,
+            second,
+            third,
+        };
+        Some((words, behind))
     }
 
     /// Appends the words.
@@ -40,38 +59,16 @@ impl<'a> Copied<'a> {
 
 /// The digits in front of a list, four at most, where their number is printed with the same, and what is behind them.
 fn digits_front(list: &[u8]) -> Option<(&[u8], &[u8])> {
-    let len = list.iter().position(|byte| !byte.is_ascii_digit());
-    let (digits, behind) = list.split_at_checked(len.unwrap_or(list.len()))?;
-    match digits {
-        [] | [b'0', _, ..] | [_, _, _, _, _, ..] => None,
-        _ => Some((digits, behind)),
+    for len in 1..=4usize {
+        if !matches!(list.get(len), Some(b'0'..=b'9')) {
+            return match list {
+                [b'1'..=b'9', ..] => list.split_at_checked(len),
+                [b'0', ..] if len == 1 => list.split_at_checked(1),
+                _ => None,
+            };
+        }
     }
-}
-
-/// The same ahead of a `;`, and what is behind that.
-fn field_front(list: &[u8]) -> Option<(&[u8], &[u8])> {
-    let (digits, behind) = digits_front(list)?;
-    match behind {
-        [b';', rest @ ..] => Some((digits, rest)),
-        _ => None,
-    }
-}
-
-/// The words of a list that is a line and a column. A 0 is told as 1.
-fn place_of(list: &[u8], control: u8) -> Option<Copied<'_>> {
-    let (ahead, between) = words_of_place(control)?;
-    let (line, behind) = field_front(list)?;
-    let (column, behind) = digits_front(behind)?;
-    match (line, column, behind) {
-        ([b'0'], _, _) | (_, [b'0'], _) | (_, _, [_, ..]) => None,
-        _ => Some(Copied {
-            ahead,
-            first: line,
-            between,
-            second: column,
-            third: &[],
-        }),
-    }
+    None
 }
 
 /// Whether a number is at most 255, by its digits.
@@ -82,26 +79,13 @@ fn is_part(digits: &[u8]) -> bool {
     }
 }
 
-/// The words of the true colour in front of a list, and what is behind it, without a `;` between.
-fn color_front(list: &[u8]) -> Option<(Copied<'_>, &[u8])> {
-    let (ahead, parts) = words_of_color(list)?;
-    let (red, behind) = field_front(parts)?;
-    let (green, behind) = field_front(behind)?;
-    let (blue, behind) = digits_front(behind)?;
-    let rest = match behind {
-        [] => behind,
-        [b';', rest @ ..] if !rest.is_empty() => rest,
-        _ => return None,
-    };
-    if !is_part(red) || !is_part(green) || !is_part(blue) {
-        return None;
+/// The blue in front of a list, and what is behind it, without a `;` between.
+fn blue_front(list: &[u8]) -> Option<(&[u8], &[u8])> {
+    let (blue, behind) = digits_front(list)?;
+    match behind {
+        _ if !is_part(blue) => None,
+        [] => Some((blue, behind)),
+        [b';', rest @ ..] if !rest.is_empty() => Some((blue, rest)),
+        _ => None,
     }
-    let words = Copied {
-        ahead,
-        first: red,
-        between: ",",
-        second: green,
-        third: blue,
-    };
-    Some((words, rest))
 }

@@ -14,7 +14,7 @@ const MOST: usize = 1000;
 const HEADING: &str = "name                         times        bytes    share\n";
 
 /// How often something was told, and of how many bytes; both stop at `u64::MAX`.
-#[derive(Clone, Copy, Default)]
+#[derive(Clone, Copy)]
 pub struct Sum {
     /// How often.
     times: u64,
@@ -31,26 +31,24 @@ impl Sum {
 }
 
 /// How much there is of each kind of span, and how many actions the control sequences stand for.
-#[derive(Clone, Copy, Default)]
+#[derive(Clone, Copy)]
 pub struct Totals {
-    text: Sum,
-    sequences: Sum,
-    escapes: Sum,
-    strings: Sum,
-    malformed: Sum,
+    kinds: [Sum; 5],
     actions: u64,
 }
 
 impl Totals {
+    /// Nothing came.
+    pub fn new() -> Totals {
+        Totals {
+            kinds: [Sum { times: 0, bytes: 0 }; 5],
+            actions: 0,
+        }
+    }
+
     /// So many spans more of this kind, and so many bytes.
     pub fn add(&mut self, kind: Kind, spans: u64, bytes: u64) {
-        match kind {
-            Kind::Text => self.text.add(spans, bytes),
-            Kind::Csi => self.sequences.add(spans, bytes),
-            Kind::Esc => self.escapes.add(spans, bytes),
-            Kind::Str => self.strings.add(spans, bytes),
-            Kind::Other => self.malformed.add(spans, bytes),
-        }
+        self.kinds[kind as usize].add(spans, bytes);
     }
 
     /// A span that is told as this, of so many bytes and actions.
@@ -69,9 +67,10 @@ impl Totals {
 
     /// A span that counts as malformed, of so many bytes, is an escape sequence.
     pub fn add_long_escape(&mut self, bytes: u64) {
-        self.malformed.times = self.malformed.times.saturating_sub(1);
-        self.malformed.bytes = self.malformed.bytes.saturating_sub(bytes);
-        self.escapes.add(1, bytes);
+        let wrong = &mut self.kinds[4];
+        wrong.times = wrong.times.saturating_sub(1);
+        wrong.bytes = wrong.bytes.saturating_sub(bytes);
+        self.add(Kind::Esc, 1, bytes);
     }
 
     /// So many actions more.
@@ -81,20 +80,23 @@ impl Totals {
 
     /// Each kind by its names in JSON and in lines, and how much there is of it.
     fn kinds(&self) -> [(&'static str, &'static str, Sum); 5] {
+        let [text, sequences, escapes, strings, malformed] = self.kinds;
         [
-            ("text", "text", self.text),
-            ("csi", "control sequences", self.sequences),
-            ("escape", "escape sequences", self.escapes),
-            ("string", "strings", self.strings),
-            ("malformed", "malformed", self.malformed),
+            ("text", "text", text),
+            ("csi", "control sequences", sequences),
+            ("escape", "escape sequences", escapes),
+            ("string", "strings", strings),
+            ("malformed", "malformed", malformed),
         ]
     }
 
     /// All bytes.
     pub fn bytes(&self) -> u64 {
-        let kinds = self.kinds();
-        let bytes = kinds.iter().map(|(_, _, sum)| sum.bytes);
-        bytes.fold(0, u64::saturating_add)
+        let mut bytes = 0u64;
+        for sum in &self.kinds {
+            bytes = bytes.saturating_add(sum.bytes);
+        }
+        bytes
     }
 }
 
@@ -113,7 +115,7 @@ impl Names {
         Names {
             alloc,
             sums: BTreeMap::new(alloc),
-            others: Sum::default(),
+            others: Sum { times: 0, bytes: 0 },
         }
     }
 
@@ -141,17 +143,20 @@ fn append_name(out: &mut String, name: &str, times: u64) -> Result<()> {
 pub fn append_object(out: &mut String, totals: &Totals, names: &Names) -> Result<()> {
     out.push_str("{\"kind\":\"totals\"")?;
     for (name, _, sum) in &totals.kinds() {
-        let (times, bytes) = (sum.times, sum.bytes);
-        write!(out, ",\"{name}\":{{\"spans\":{times},\"bytes\":{bytes}}}")?;
+        write!(
+            out,
+            ",\"{name}\":{{\"spans\":{},\"bytes\":{}}}",
+            sum.times, sum.bytes
+        )?;
     }
-    let (actions, others) = (totals.actions, names.others.times);
+    let others = names.others.times;
     write!(
         out,
-        ",\"actions\":{actions},\"names\":{{\"other names\":{others}"
+        ",\"actions\":{},\"names\":{{\"other names\":{others}",
+        totals.actions
     )?;
     for (name, sum) in &names.sums {
-        let times = sum.times;
-        write!(out, ",\"{name}\":{times}")?;
+        write!(out, ",\"{name}\":{}", sum.times)?;
     }
     out.push_str("}}\n")
 }
@@ -159,8 +164,11 @@ pub fn append_object(out: &mut String, totals: &Totals, names: &Names) -> Result
 /// The same as a line for each; the names in the order of their characters.
 pub fn append_lines(out: &mut String, totals: &Totals, names: &Names) -> Result<()> {
     for (_, title, sum) in &totals.kinds() {
-        let (times, bytes) = (sum.times, sum.bytes);
-        write!(out, "{title:<18}{times:>10} {bytes:>12} bytes\n")?;
+        write!(
+            out,
+            "{title:<18}{:>10} {:>12} bytes\n",
+            sum.times, sum.bytes
+        )?;
         if *title == "control sequences" {
             append_name(out, "actions", totals.actions)?;
         }
@@ -190,11 +198,10 @@ fn thousandths(bytes: u64, all: u64) -> u64 {
 fn append_share(out: &mut String, name: &str, sum: Sum, share: u64, json: bool) -> Result<()> {
     let (times, bytes, whole, tenth) = (sum.times, sum.bytes, share / 10, share % 10);
     if json {
-        write!(
+        Ok(write!(
             out,
-            "{{\"kind\":\"stats\",\"name\":\"{name}\",\"times\":{times}"
-        )?;
-        Ok(write!(out, ",\"bytes\":{bytes},\"share\":{whole}.{tenth}}}\n")?)
+            "{{\"kind\":\"stats\",\"name\":\"{name}\",\"times\":{times},\"bytes\":{bytes},\"share\":{whole}.{tenth}}}\n"
+        )?)
     } else {
         Ok(write!(out, "{name:<24}{times:>10}{bytes:>13}{whole:>6}.{tenth}%\n")?)
     }
@@ -207,18 +214,20 @@ pub fn append_stats(out: &mut String, names: &Names, all: u64, json: bool) -> Re
     if !json {
         out.push_str(HEADING)?;
     }
-    let named = names.sums.iter().map(|(name, sum)| (name.as_str(), *sum));
-    let mut rows = named.collect::<Vec<_>>(names.alloc)?;
+    let mut rows = Vec::new(names.alloc);
+    for (name, sum) in &names.sums {
+        rows.push((name.as_str(), *sum))?;
+    }
     rows.sort_by_key(left)?;
     if names.others.times > 0 {
         rows.push(("other names", names.others))?;
     }
-    let mut bytes = 0u64;
+    let (mut bytes, mut before) = (0u64, 0u64);
     for (name, sum) in &rows {
-        let before = thousandths(bytes, all);
         bytes = bytes.saturating_add(sum.bytes);
-        let share = thousandths(bytes, all).saturating_sub(before);
-        append_share(out, name, *sum, share, json)?;
+        let behind = thousandths(bytes, all);
+        append_share(out, name, *sum, behind.saturating_sub(before), json)?;
+        before = behind;
     }
     Ok(())
 }

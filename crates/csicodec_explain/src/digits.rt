@@ -1,20 +1,20 @@
 //! Words that have the digits of a sequence. Written by tools/table.
 
-/// What stands ahead of a line, and of a column behind it, where a list has these and ends in this byte.
-pub(crate) fn words_of_place(control: u8) -> Option<(&'static str, &'static str)> {
-    match control {
-        b'H' => Some(("CUP  cursor to line ", ", column ")),
-        b'f' => Some(("HVP  cursor to line ", ", column ")),
-        _ => None,
-    }
-}
-
-/// What stands ahead of red, green and blue, and these in front of a list.
-pub(crate) fn words_of_color(list: &[u8]) -> Option<(&'static str, &[u8])> {
-    match list {
-        [b'3', b'8', b';', b'2', b';', parts @ ..] => Some(("SGR  foreground rgb ", parts)),
-        [b'4', b'8', b';', b'2', b';', parts @ ..] => Some(("SGR  background rgb ", parts)),
-        [b'5', b'8', b';', b'2', b';', parts @ ..] => Some(("SGR  underline colour rgb ", parts)),
+/// What stands ahead of the first number and of the others, where a list that ends in this byte has a place or a true colour in front; and
+/// the list from these numbers on.
+pub(crate) fn words_of(list: &[u8], control: u8) -> Option<(&'static str, &'static str, &[u8])> {
+    match (control, list) {
+        (b'H', _) => Some(("CUP  cursor to line ", ", column ", list)),
+        (b'f', _) => Some(("HVP  cursor to line ", ", column ", list)),
+        (b'm', [first, second, b';', b'2', b';', parts @ ..]) => {
+            let words = match [*first, *second] {
+                [b'3', b'8'] => "SGR  foreground rgb ",
+                [b'4', b'8'] => "SGR  background rgb ",
+                [b'5', b'8'] => "SGR  underline colour rgb ",
+                _ => return None,
+            };
+            Some((words, ",", parts))
+        }
         _ => None,
     }
 }

@@ -10,11 +10,6 @@ use std::alloc::{AllocError, Global};
 use std::fmt::Display;
 use std::io::{Read, Write};
 
-/// What went wrong where memory ran out.
-fn no_memory(_: AllocError) -> RunError {
-    RunError::Memory
-}
-
 /// Adds the lines of all spans that are sure; how many bytes they are, and the mode behind them.
 fn add_spans(page: &mut Listing<'_>, mode: Mode, bytes: &[u8]) -> Result<(usize, Mode), AllocError>
     ensures { IfOk result (λ (used, after). used ≤ length bytes.now) }
@@ -103,8 +98,23 @@ impl<'a> Explainer<'a> {
         self.page.close()
     }
 
-    /// Writes the lines that are there.
-    fn flush<W: Write>(&mut self, output: &mut W) -> Result<(), RunError> {
+    /// What is told of bytes that are a stream by themselves.
+    pub(crate) fn tell_alone(&mut self, bytes: &[u8]) -> Result<&[u8], AllocError> {
+        self.finish()?;
+        self.page.sheet.text.clear();
+        self.push(0, bytes)?;
+        Ok(&self.page.sheet.text)
+    }
+
+    /// Writes the lines that are there, if all that was to be told is.
+    fn flush<W: Write>(
+        &mut self,
+        told: Result<(), AllocError>,
+        output: &mut W,
+    ) -> Result<(), RunError> {
+        if told.is_err() {
+            return Err(RunError::Memory);
+        }
         send(output, &self.page.sheet.text)?;
         self.page.sheet.text.clear();
         Ok(())
@@ -118,9 +128,11 @@ impl<'a> Explainer<'a> {
         timed: bool,
         output: &mut W,
     ) -> Result<(), RunError> {
-        self.finish().map_err(no_memory)?;
-        self.page.begin(name, timed).map_err(no_memory)?;
-        self.flush(output)
+        let told = match self.finish() {
+            Ok(()) => self.page.begin(name, timed),
+            failed => failed,
+        };
+        self.flush(told, output)
     }
 
     /// The next bytes, which came at this time, in microseconds from the begin. The lines of all spans that are over are written
@@ -131,8 +143,8 @@ impl<'a> Explainer<'a> {
         bytes: &[u8],
         output: &mut W,
     ) -> Result<(), RunError> {
-        self.push(time, bytes).map_err(no_memory)?;
-        self.flush(output)
+        let told = self.push(time, bytes);
+        self.flush(told, output)
     }
 
     /// What came at this time beside bytes: a name, two blanks, and words.
@@ -142,19 +154,19 @@ impl<'a> Explainer<'a> {
         words: &T,
         output: &mut W,
     ) -> Result<(), RunError> {
-        self.page.add_event(time, words).map_err(no_memory)?;
-        self.flush(output)
+        let told = self.page.add_event(time, words);
+        self.flush(told, output)
     }
 
     /// The bytes of a read of at most `CHUNK` bytes. The lines of all spans that are over are written and flushed, and where someone
     /// looks on that of a text too, if nothing more is there at once.
     pub fn take_read<W: Write>(&mut self, bytes: &[u8], output: &mut W) -> Result<(), RunError> {
-        self.push(0, bytes).map_err(no_memory)?;
-        // Fewer bytes are all that was there.
-        if self.style.live && bytes.len() < CHUNK {
-            self.page.pause().map_err(no_memory)?;
-        }
-        self.flush(output)
+        let told = match self.push(0, bytes) {
+            // Fewer bytes are all that was there.
+            Ok(()) if self.style.live && bytes.len() < CHUNK => self.page.pause(),
+            told => told,
+        };
+        self.flush(told, output)
     }
 
     /// Reads to the end of an input. After each read the lines of all spans that are over are written and flushed. A read that a
@@ -177,8 +189,10 @@ impl<'a> Explainer<'a> {
 
     /// The last lines, and the sums where they are asked for.
     pub fn end<W: Write>(&mut self, output: &mut W) -> Result<(), RunError> {
-        self.finish().map_err(no_memory)?;
-        self.page.add_sums().map_err(no_memory)?;
-        self.flush(output)
+        let told = match self.finish() {
+            Ok(()) => self.page.add_sums(),
+            failed => failed,
+        };
+        self.flush(told, output)
     }
 }

@@ -17,23 +17,24 @@ use std::alloc::Global;
 /// A `Debug` text that is written as JSON, word by word.
 #[derive(Drop)]
 pub struct JsonFields {
-    out: Vec<u8>,
+    /// Members of an object, each with a comma ahead of it.
+    pub out: Vec<u8>,
     /// What closes all that is open, the innermost last.
     closers: Vec<&'static str>,
     /// Whether the name of the next field is left out.
     bare: bool,
 }
 
-/// Whether a byte is of a name or a number.
-fn is_word(byte: u8) -> bool {
-    matches!(byte, b'0'..=b'9' | b'A'..=b'Z' | b'a'..=b'z' | b'_' | b'-')
-}
-
-/// The name in front, and what is behind it.
+/// The name or number in front, and what is behind it.
 fn name_front(text: &[u8]) -> (&[u8], &[u8]) {
-    let len = text.iter().position(|byte| !is_word(*byte));
-    text.split_at_checked(len.unwrap_or(text.len()))
-        .unwrap_or((text, &[]))
+    let mut len = 0usize;
+    for byte in text {
+        if !matches!(byte, b'0'..=b'9' | b'A'..=b'Z' | b'a'..=b'z' | b'_' | b'-') {
+            break;
+        }
+        len = len.wrapping_add(1);
+    }
+    text.split_at_checked(len).unwrap_or((text, &[]))
 }
 
 /// The word in front, which may be empty, the byte that ends it, and what is behind that. A character stands between its marks.
@@ -52,13 +53,14 @@ fn word_front(text: &[u8]) -> Option<(&[u8], u8, &[u8])> {
 
 /// A word as a value; nothing where it is empty.
 fn append_word(out: &mut Vec<u8>, word: &[u8]) -> Result<()> {
-    match word {
-        [] => Ok(()),
-        [b'0'..=b'9' | b'-', ..] | b"true" | b"false" => out.extend_from_slice(word),
-        [b'\'', character @ .., b'\''] => append_plain(out, character),
-        b"None" => out.extend_from_slice(b"null"),
-        _ => append_plain(out, word),
-    }
+    let shown = match word {
+        [] | [b'0'..=b'9' | b'-', ..] => word,
+        [b'\'', character @ .., b'\''] => return append_plain(out, character),
+        _ if word == b"None".as_slice() => b"null".as_slice(),
+        _ if word == b"true".as_slice() || word == b"false".as_slice() => word,
+        _ => return append_plain(out, word),
+    };
+    out.extend_from_slice(shown)
 }
 
 /// Whether a comma stands in what is open in front of these bytes, and not deeper.
@@ -83,22 +85,23 @@ fn has_comma(text: &[u8]) -> bool {
     false
 }
 
-/// The names of an action, the second nothing where it has one, and what stands behind them.
-fn names_front(text: &[u8]) -> (&[u8], &[u8], &[u8]) {
+/// The names of an action of a kind, or of one whose text begins with that, the second nothing where it has one, and what stands behind
+/// them.
+fn names_front<'a>(kind: &'a [u8], text: &'a [u8]) -> (&'a [u8], &'a [u8], &'a [u8]) {
     let (first, behind) = name_front(text);
-    let Some(inner) = behind.strip_prefix(b"(".as_slice()) else {
+    if !kind.is_empty() {
+        return (kind, first, behind);
+    }
+    let [b'(', inner @ ..] = behind else {
         return (first, &[], behind);
     };
-    let (second, rest) = name_front(inner);
-    if second.is_empty() || rest.first().copied() == Some(b',') {
-        return (first, &[], behind);
-    }
-    let rest = rest.strip_suffix(b")".as_slice()).unwrap_or(rest);
-    if second == first {
-        (first, &[], rest)
-    } else {
-        (first, second, rest)
-    }
+    let (second, rest) = match name_front(inner) {
+        ([], _) | (_, [b',', ..]) => return (first, &[], behind),
+        (second, [rest @ .., b')']) => (second, rest),
+        names => names,
+    };
+    let second = if second == first { &[] } else { second };
+    (first, second, rest)
 }
 
 impl JsonFields {
@@ -111,11 +114,6 @@ impl JsonFields {
         }
     }
 
-    /// What is written: members of an object, each with a comma ahead of it.
-    pub fn as_slice(&self) -> &[u8] {
-        &self.out
-    }
-
     /// Takes away what was written.
     pub fn clear(&mut self) {
         self.out.clear();
@@ -123,10 +121,10 @@ impl JsonFields {
         self.bare = false;
     }
 
-    /// Writes the members of the action that has this `Debug` text.
-    pub fn write(&mut self, text: &[u8]) -> Result<()> {
+    /// Writes the members of the action that has this `Debug` text, to which the name of its kind belongs, if it isn't empty.
+    pub fn write(&mut self, kind: &[u8], text: &[u8]) -> Result<()> {
         self.clear();
-        let (first, second, rest) = names_front(text);
+        let (first, second, rest) = names_front(kind, text);
         self.out.extend_from_slice(b",\"action\":\"")?;
         self.out.extend_from_slice(first)?;
         if !second.is_empty() {
@@ -134,18 +132,22 @@ impl JsonFields {
             self.out.extend_from_slice(second)?;
         }
         self.out.push(b'"')?;
-        if let Some(items) = rest.strip_prefix(b"(".as_slice()) {
-            self.out.extend_from_slice(b",\"value\":")?;
-            self.open(has_comma(items), b'[', "]")?;
-            return self.write_all(items);
-        }
-        if let Some(members) = rest.strip_prefix(b" { ".as_slice()) {
-            self.open(true, b',', "")?;
-            self.write_all(members)?;
-        }
-        Ok(())
+        let rest = match rest {
+            [b'(', items @ ..] => {
+                self.out.extend_from_slice(b",\"value\":")?;
+                self.open(has_comma(items), b'[', "]")?;
+                items
+            }
+            [b' ', b'{', b' ', members @ ..] => {
+                self.open(true, b',', "")?;
+                members
+            }
+            _ => return Ok(()),
+        };
+        self.write_all(rest)
     }
 
+    /// Writes what stands in brackets, up to the last of them.
     fn write_all(&mut self, text: &[u8]) -> Result<()> {
         let mut rest = text;
         for _ in 0..text.len() {

@@ -8,11 +8,13 @@ use serde_json::Value;
 
 /// A byte by its number, or nothing where it is `null`; whether it is one of them.
 fn append_byte(text: &mut Vec<u8>, value: &Value) -> Result<bool> {
-    let byte = value.as_u64().and_then(|number| u8::try_from(number).ok());
-    if let Some(byte) = byte {
-        text.push(byte)?;
+    match value.as_u64() {
+        Some(byte @ 0..=255) => {
+            text.push(byte as u8)?;
+            Ok(true)
+        }
+        _ => Ok(value.is_null()),
     }
-    Ok(byte.is_some() || value.is_null())
 }
 
 /// What one value says, by itself or within `Unspecified`: a number, a name or the number of that, a token, or nothing; whether it says
@@ -23,14 +25,16 @@ fn append_one(text: &mut Vec<u8>, value: &Value) -> Result<bool> {
         return append_byte(text, byte);
     }
     let value = value.get("Integer").or(value.get("Code")).unwrap_or(value);
-    let name = value.as_str();
-    let code = name.and_then(|name| find(&CODES, name.as_bytes())?.parse().ok());
-    if let Some(number) = value.as_u64().or(code) {
+    if let Some(number) = value.as_u64() {
         append_number(text, number, 0)?;
         return Ok(true);
     }
-    text.extend_from_slice(name.unwrap_or("").as_bytes())?;
-    Ok(name.is_some() || value.is_null())
+    let Some(name) = value.as_str() else {
+        return Ok(value.is_null());
+    };
+    let code = find(&CODES, name.as_bytes());
+    text.extend_from_slice(code.unwrap_or(name).as_bytes())?;
+    Ok(true)
 }
 
 /// What a value says, or each item of a list, with this between them; whether each says something that a text can have.
@@ -38,13 +42,13 @@ fn append_value(text: &mut Vec<u8>, value: &Value, between: &str) -> Result<bool
     let Some(items) = value.as_array() else {
         return append_one(text, value);
     };
-    for (place, item) in items.iter().enumerate() {
-        if place > 0 {
-            text.extend_from_slice(between.as_bytes())?;
-        }
+    let mut ahead = "";
+    for item in items {
+        text.extend_from_slice(ahead.as_bytes())?;
         if !append_one(text, item)? {
             return Ok(false);
         }
+        ahead = between;
     }
     Ok(true)
 }

@@ -5,19 +5,6 @@ use crate::line::{Offset, Sort, append_time};
 use crate::style::{Style, name_of};
 use csicodec_osc::{are_plain, is_seen, plain_len};
 
-/// The member that names what a span is told as.
-fn kind_of(sort: Sort) -> &'static [u8] {
-    match sort {
-        Sort::Text => b",\"kind\":\"text\"",
-        Sort::Control => b",\"kind\":\"control\"",
-        Sort::Sequence => b",\"kind\":\"csi\"",
-        Sort::Escape => b",\"kind\":\"escape\"",
-        Sort::String => b",\"kind\":\"string\"",
-        Sort::Malformed => b",\"kind\":\"malformed\"",
-        Sort::Event => b",\"kind\":\"event\"",
-    }
-}
-
 /// A character that can't stand in a string of JSON, or can't be seen: by its number, in two halves where it is above FFFF.
 fn append_by_number(text: &mut Vec<u8>, character: char) -> Result<()> {
     for unit in character.encode_utf16(&mut [0u16; 2]).iter() {
@@ -30,18 +17,19 @@ fn append_by_number(text: &mut Vec<u8>, character: char) -> Result<()> {
 
 /// A character of a string.
 fn append_character(text: &mut Vec<u8>, character: char) -> Result<()> {
-    match character {
-        '"' => text.extend_from_slice(b"\\\""),
-        '\\' => text.extend_from_slice(b"\\\\"),
-        '\n' => text.extend_from_slice(b"\\n"),
-        '\r' => text.extend_from_slice(b"\\r"),
-        '\t' => text.extend_from_slice(b"\\t"),
-        '\u{1b}' => text.extend_from_slice(b"\\u001b"),
+    let shown = match character {
+        '"' => "\\\"",
+        '\\' => "\\\\",
+        '\n' => "\\n",
+        '\r' => "\\r",
+        '\t' => "\\t",
+        '\u{1b}' => "\\u001b",
         _ if is_seen(character) => {
-            text.extend_from_slice(character.encode_utf8(&mut [0u8; 4]).as_bytes())
+            return text.extend_from_slice(character.encode_utf8(&mut [0u8; 4]).as_bytes());
         }
-        _ => append_by_number(text, character),
-    }
+        _ => return append_by_number(text, character),
+    };
+    text.extend_from_slice(shown.as_bytes())
 }
 
 /// Bytes that stand for themselves, between quotation marks.
@@ -113,7 +101,15 @@ fn append_member(out: &mut Vec<u8>, bytes: &[u8], text: &[u8], hex: &[u8]) -> Re
 
 /// What a span is, and its bytes.
 pub fn append_object(text: &mut Vec<u8>, sort: Sort, bytes: &[u8]) -> Result<()> {
-    text.extend_from_slice(kind_of(sort))?;
+    text.extend_from_slice(match sort {
+        Sort::Text => b",\"kind\":\"text\"".as_slice(),
+        Sort::Control => b",\"kind\":\"control\"",
+        Sort::Sequence => b",\"kind\":\"csi\"",
+        Sort::Escape => b",\"kind\":\"escape\"",
+        Sort::String => b",\"kind\":\"string\"",
+        Sort::Malformed => b",\"kind\":\"malformed\"",
+        Sort::Event => b",\"kind\":\"event\"",
+    })?;
     append_member(text, bytes, b",\"text\":", b",\"hex\":")
 }
 
@@ -138,10 +134,4 @@ pub fn append_decoded(text: &mut Vec<u8>, bytes: &[u8]) -> Result<()> {
     text.truncate(text.len().saturating_sub(1));
     append_member(text, bytes, b",\"decoded\":", b",\"decoded_hex\":")?;
     Ok(text.push(b'}')?)
-}
-
-/// The end of an object.
-pub fn append_end(text: &mut Vec<u8>, with_actions: bool) -> Result<()> {
-    let end: &[u8] = if with_actions { b"]}\n" } else { b"}\n" };
-    text.extend_from_slice(end)
 }

@@ -43,14 +43,17 @@ fn long_front(bytes: &[u8]) -> Option<Keyed<'_>>
     ensures within { IfSome result (λ front. length front.bytes.now ≤ length bytes.now) }
     ensures ended { IfSome result (λ front. 2 < length front.bytes.now) }
 {
-    let mut list = bytes.get(2..)?.iter();
-    let end = list.position(|byte| !(0x20..=0x3f).contains(byte))?;
-    let bytes = bytes.get(..end.saturating_add(3))?;
-    let list = bytes.get(2..)?;
-    let mut number = 0u64;
-    for byte in list.iter().rev() {
-        number = (number << 8) | u64::from(*byte);
+    let (mut number, mut shift, mut len) = (0u64, 0u32, 2usize);
+    for byte in bytes.get(2..)? {
+        number |= u64::from(*byte).wrapping_shl(shift);
+        shift = shift.wrapping_add(8);
+        len = len.saturating_add(1);
+        if !matches!(byte, 0x20..=0x3f) {
+            break;
+        }
     }
+    let bytes = bytes.get(..len)?;
+    let list = bytes.get(2..)?;
     match list.last() {
         Some(0x40..=0x7e) if list.len() > 8 => Some(Keyed::new(bytes)),
         Some(0x40..=0x7e) => Some(Keyed { bytes, number }),

@@ -5,6 +5,7 @@ use crate::style::Style;
 use bstr::decode_utf8;
 use csicodec_osc::{append_escaped, are_plain, is_seen, plain_len};
 use itoa::write_digits;
+use std::fmt::{self, Display, Formatter, Write};
 
 /// How many columns the bytes have, behind those of the time and the place.
 const BYTES: usize = 26;
@@ -65,6 +66,18 @@ pub struct ToldSpan<'a> {
     pub len: u64,
     /// The end of a line that stands behind a text, and in its row: LF, or CR and LF. Else it is empty.
     pub end: &'a [u8],
+}
+
+/// The words of bytes that are only counted: a name, and how many they are.
+#[derive(Clone, Copy)]
+pub struct Counted(pub &'static str, pub u64);
+
+impl Display for Counted {
+    fn fmt<W: Write>(&self, f: &mut Formatter<W>) -> fmt::Result {
+        let (name, len) = (self.0, self.1);
+        let unit = if len == 1 { "byte" } else { "bytes" };
+        write!(f, "{name}  {len} {unit}")
+    }
 }
 
 /// So many blanks, 50 at most.
@@ -164,15 +177,15 @@ pub fn append_number(text: &mut Vec<u8>, number: u64, columns: usize) -> Result<
 }
 
 /// A time in seconds, to the microsecond, with blanks ahead where it has fewer columns than these.
+#[tactic(auto, using(crate::proofs::Decimal::twenty_digits))]
 pub fn append_time(text: &mut Vec<u8>, time: u64, columns: usize) -> Result<()> {
     let (seconds, fraction) = (time / 1_000_000, time % 1_000_000);
     append_number(text, seconds, columns.saturating_sub(7))?;
     text.push(b'.')?;
-    for unit in [100_000u64, 10_000, 1_000, 100, 10, 1] {
-        let digit = fraction.checked_div(unit).unwrap_or(0) % 10;
-        text.push(b'0' + digit as u8)?;
-    }
-    Ok(())
+    // A 1 ahead of the six digits keeps blanks and zeros.
+    let mut digits = [0u8; 20];
+    write_digits(1_000_000 + fraction, &mut digits, 20);
+    text.extend_from_slice(&digits[14..])
 }
 
 /// When a span came, if that is told, and where it begins: `    1.500000        7  `.

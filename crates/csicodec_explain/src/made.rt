@@ -5,13 +5,13 @@
 //! {"actions":[{"action":"Cursor::Up","value":"seven"}]}      none, and csicodec_assemble refuses the line
 //! ```
 
+use crate::Result;
 use crate::explain::Explainer;
 use crate::fill::append_filled;
 use crate::patterns::PATTERNS;
 use crate::style::Style;
 use csicodec_assemble::Finds;
 use csicodec_spans::LIMIT;
-use csicodec_transform::RunError;
 use memchr::memmem::find;
 use serde_json::Value;
 use std::alloc::{AllocError, Global};
@@ -19,23 +19,18 @@ use std::alloc::{AllocError, Global};
 /// The largest number that a pattern is tried with, where a name stands for one: all buttons and modifiers of a mouse are below.
 const MOST: u8 = 255;
 
-/// Finds texts of actions, and what is read from each that it tries.
+/// Finds texts of actions.
 #[derive(Drop)]
 pub struct Maker {
     alloc: Global,
+    /// What tells of each text that is tried.
     explainer: Explainer<'static>,
-    /// The text that is tried, and what is told of it.
+    /// The text that is tried.
     text: Vec<u8>,
-    told: Vec<u8>,
-}
-
-/// What fails where memory ran out: nothing else does in what is told to memory.
-fn no_memory(_: RunError) -> AllocError {
-    AllocError
 }
 
 /// The value that a text of JSON has, if it is one.
-fn value_of(alloc: Global, line: &[u8]) -> Result<Option<Value>, AllocError> {
+fn value_of(alloc: Global, line: &[u8]) -> Result<Option<Value>> {
     let Ok(text) = std::str::from_utf8(line) else {
         return Ok(None);
     };
@@ -46,10 +41,13 @@ fn value_of(alloc: Global, line: &[u8]) -> Result<Option<Value>, AllocError> {
     }
 }
 
-/// The only item of a list.
-fn only_item(list: Option<&Value>) -> Option<&Value> {
-    match list?.as_array()?.as_slice() {
-        [item] => Some(item),
+/// The only action of an object that has this text.
+fn only_action<'a>(object: &'a Value, text: &[u8]) -> Option<&'a Value> {
+    if object.get("text")?.as_str()?.as_bytes() != text {
+        return None;
+    }
+    match object.get("actions")?.as_array()?.as_slice() {
+        [action] => Some(action),
         _ => None,
     }
 }
@@ -59,9 +57,13 @@ fn has_all(action: &Value, other: &Value) -> bool {
     let Some(members) = other.as_object() else {
         return false;
     };
-    members.iter().all(|(name, value)| {
-        matches!(name.as_str(), "name" | "words") || action.get(name.as_str()) == Some(value)
-    })
+    for (name, value) in members {
+        let name = name.as_str();
+        if !matches!(name, "name" | "words") && action.get(name) != Some(value) {
+            return false;
+        }
+    }
+    true
 }
 
 impl Maker {
@@ -75,34 +77,26 @@ impl Maker {
             alloc,
             explainer: Explainer::new(alloc, style),
             text: Vec::new(alloc),
-            told: Vec::new(alloc),
         }
-    }
-
-    /// What is told of the text, as a line of JSON for each of its spans.
-    fn tell(&mut self) -> Result<(), RunError> {
-        self.explainer.begin(None, false, &mut self.told)?;
-        self.told.clear();
-        self.explainer.take(0, &self.text, &mut self.told)
     }
 
     /// Whether the text is read as this action of that name, and as nothing else.
-    fn is_read(&mut self, name: &str, action: &Value) -> Result<bool, AllocError> {
-        self.tell().map_err(no_memory)?;
-        if find(&self.told, name.as_bytes()).is_none() {
+    fn is_read(&mut self, name: &str, action: &Value) -> Result<bool> {
+        let told = self.explainer.tell_alone(&self.text)?;
+        if find(told, name.as_bytes()).is_none() {
             return Ok(false);
         }
-        let Some(told) = value_of(self.alloc, &self.told)? else {
+        let Some(object) = value_of(self.alloc, told)? else {
             return Ok(false);
         };
-        let whole = told.get("text").and_then(Value::as_str).map(str::as_bytes);
-        let is_whole = whole == Some(self.text.as_slice());
-        let only = only_item(told.get("actions")).filter(|_| is_whole);
-        Ok(only.is_some_and(|told| has_all(action, told) && has_all(told, action)))
+        match only_action(&object, &self.text) {
+            Some(only) => Ok(has_all(action, only) && has_all(only, action)),
+            None => Ok(false),
+        }
     }
 
     /// Whether a text of this pattern has the action of that name; it is the one that was tried last.
-    fn finds(&mut self, pattern: &str, name: &str, action: &Value) -> Result<bool, AllocError> {
+    fn finds(&mut self, pattern: &str, name: &str, action: &Value) -> Result<bool> {
         let most = if pattern.contains("{}") { MOST } else { 0 };
         for number in 0..=most {
             self.text.clear();
@@ -118,7 +112,7 @@ impl Maker {
     }
 
     /// Appends a text that has the action; whether there is one.
-    fn append_action(&mut self, action: &Value, out: &mut Vec<u8>) -> Result<bool, AllocError> {
+    fn append_action(&mut self, action: &Value, out: &mut Vec<u8>) -> Result<bool> {
         let name = action.get("action").and_then(Value::as_str).unwrap_or("");
         let Some(patterns) = csicodec_words::find(&PATTERNS, name.as_bytes()) else {
             return Ok(false);
@@ -134,7 +128,7 @@ impl Maker {
 }
 
 impl Finds for Maker {
-    fn bytes_of_line(&mut self, line: &[u8]) -> Result<Option<Vec<u8>>, AllocError> {
+    fn bytes_of_line(&mut self, line: &[u8]) -> Result<Option<Vec<u8>>> {
         let Some(object) = value_of(self.alloc, line)? else {
             return Ok(None);
         };

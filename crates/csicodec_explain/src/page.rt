@@ -4,7 +4,7 @@ ghost use Rattle.std.specs.Prelude.{◌≤◌, IfOk, length};
 use crate::Result;
 use crate::counts::Totals;
 use crate::keyed::{Keyed, sequence_front};
-use crate::line::{Sort, ToldSpan, whole_characters};
+use crate::line::{Counted, Sort, ToldSpan, whole_characters};
 use crate::sheet::Sheet;
 use crate::style::Style;
 use csicodec_base::{CsiParam, Esc, ReadError, read_csi_into};
@@ -39,7 +39,11 @@ impl Open {
     /// What isn't told of it yet.
     fn rest(&self) -> ToldSpan<'_> {
         ToldSpan {
-            sort: sort_of(self.kind),
+            sort: match self.kind {
+                Kind::Text => Sort::Text,
+                Kind::Str => Sort::String,
+                Kind::Csi | Kind::Esc | Kind::Other => Sort::Malformed,
+            },
             place: self.place.saturating_add(self.told),
             time: self.time,
             bytes: &self.front,
@@ -90,35 +94,6 @@ pub struct Listing<'a> {
     totals: Totals,
 }
 
-/// Whether a byte is a control character of text: C0 but for ESC, which begins something else, and DEL.
-fn is_control(byte: u8) -> bool {
-    byte < b' ' || byte == 0x7f
-}
-
-/// Text up to its first control character, with that, and what is behind it.
-#[inline(always)]
-fn text_front(bytes: &[u8]) -> (&[u8], &[u8]) {
-    let front = text_len(bytes).saturating_add(1);
-    bytes.split_at_checked(front).unwrap_or((bytes, &[]))
-}
-
-/// The escape sequence that a span of that kind is.
-fn escape_of(bytes: &[u8]) -> Esc {
-    match bytes {
-        [_, between, .., last] => Esc::parse(Some(*between), *last),
-        _ => Esc::parse(None, bytes.last().copied().unwrap_or(0x1b)),
-    }
-}
-
-/// What a span is told as of which more could have come.
-fn sort_of(kind: Kind) -> Sort {
-    match kind {
-        Kind::Text => Sort::Text,
-        Kind::Str => Sort::String,
-        Kind::Csi | Kind::Esc | Kind::Other => Sort::Malformed,
-    }
-}
-
 /// A span of which all bytes are there.
 fn whole_span(sort: Sort, place: u64, time: u64, bytes: &[u8]) -> ToldSpan<'_> {
     ToldSpan {
@@ -132,14 +107,15 @@ fn whole_span(sort: Sort, place: u64, time: u64, bytes: &[u8]) -> ToldSpan<'_> {
 }
 
 /// What went wrong, which may be an escape sequence with more than one intermediate byte, of which nothing was left out.
+#[inline(never)]
 fn tell_wrong(sheet: &mut Sheet<'_>, totals: &mut Totals, span: &ToldSpan<'_>) -> Result<()> {
+    let (len, sort) = (span.len, Sort::Escape);
     match EscReading::long(span.bytes) {
-        Some(reading) if span.bytes.len() as u64 == span.len => {
-            totals.add_long_escape(span.len);
-            let sort = Sort::Escape;
-            sheet.tell(&ToldSpan { sort, ..*span }, &reading)
+        Some(reading) if span.bytes.len() as u64 == len => {
+            totals.add_long_escape(len);
+            sheet.tell(&ToldSpan { sort, ..*span }, &reading, None)
         }
-        _ => sheet.tell_malformed(span),
+        _ => sheet.tell(span, &Counted("malformed", len), None),
     }
 }
 
@@ -165,7 +141,7 @@ impl<'a> Listing<'a> {
             },
             held: None,
             text: false,
-            totals: Totals::default(),
+            totals: Totals::new(),
         }
     }
 
@@ -181,11 +157,7 @@ impl<'a> Listing<'a> {
         self.time = 0;
         self.now = 0;
         self.text = false;
-        self.sheet.time(timed);
-        match name {
-            Some(name) => self.sheet.begin_file(name),
-            None => Ok(()),
-        }
+        self.sheet.begin_stream(name, timed)
     }
 
     /// So many bytes came.
@@ -246,7 +218,7 @@ impl<'a> Listing<'a> {
         };
         match kind {
             Kind::Text => self.sheet.tell_text(&span),
-            Kind::Str => self.sheet.tell_string(&span, string),
+            Kind::Str => self.sheet.tell(&span, &string, None),
             _ => tell_wrong(&mut self.sheet, &mut self.totals, &span),
         }?;
         self.open.len = 0;
@@ -267,30 +239,20 @@ impl<'a> Listing<'a> {
         whole_span(sort, self.place, self.time, bytes)
     }
 
-    /// A line for each action of a control sequence, of its tokens; how many they are, none where it isn't one.
-    #[inline(never)]
-    fn tell_tokens(&mut self, span: &ToldSpan<'_>) -> Result<Option<u64>> {
-        let tail = match read_csi_into(&mut self.params, span.bytes) {
-            Ok(tail) => tail,
-            Err(ReadError::Memory) => return Err(AllocError),
-            Err(_) => return Ok(None),
-        };
-        let params = self.params.as_slice();
-        Ok(Some(self.sheet.tell_actions(span, params, tail.control)?))
-    }
-
     /// A line for each action of a control sequence; how many they are, none where it isn't one.
     #[inline(never)]
     fn tell_sequence(&mut self, front: Keyed<'_>) -> Result<Option<u64>> {
         let span = self.span_here(Sort::Sequence, front.bytes);
-        let mut told = self.sheet.tell_copied(&span)?;
-        if told.is_none() {
-            told = self.tell_tokens(&span)?;
-        }
-        if let Some(actions) = told {
-            self.sheet.keep(front, actions)?;
-        }
-        Ok(told)
+        let actions = match self.sheet.tell_copied(&span)? {
+            Some(actions) => actions,
+            None => match read_csi_into(&mut self.params, span.bytes) {
+                Ok(tail) => self.sheet.tell_actions(&span, &self.params, tail.control)?,
+                Err(ReadError::Memory) => return Err(AllocError),
+                Err(_) => return Ok(None),
+            },
+        };
+        self.sheet.keep(front, actions)?;
+        Ok(Some(actions))
     }
 
     /// A control sequence of these tokens, which may have controls in it.
@@ -306,7 +268,7 @@ impl<'a> Listing<'a> {
     pub fn add_did(&mut self, kind: Kind, sort: Sort, bytes: &[u8], did: &Did) -> Result<()> {
         self.close()?;
         let span = self.span_here(sort, bytes);
-        self.sheet.tell(&span, did)?;
+        self.sheet.tell(&span, did, None)?;
         self.text = false;
         self.advance(kind, 1, bytes.len());
         Ok(())
@@ -346,20 +308,20 @@ impl<'a> Listing<'a> {
         }
     }
 
-    #[inline(never)]
-    fn tell_escape(&mut self, escape: Keyed<'_>) -> Result<()> {
-        let span = self.span_here(Sort::Escape, escape.bytes);
-        self.sheet.tell_escape(&span, escape_of(escape.bytes))?;
-        self.sheet.keep(escape, 0)
-    }
-
     /// An escape sequence.
     fn add_escape(&mut self, bytes: &[u8]) -> Result<()> {
         self.close()?;
-        let escape = Keyed::new(bytes);
-        let known = self.sheet.recall(self.time, self.place, escape)?;
+        let keyed = Keyed::new(bytes);
+        let known = self.sheet.recall(self.time, self.place, keyed)?;
         if known.is_none() {
-            self.tell_escape(escape)?;
+            let span = self.span_here(Sort::Escape, bytes);
+            let words = EscReading(bytes.get(1..).unwrap_or(&[]));
+            let escape = match bytes {
+                [_, between, .., last] => Esc::parse(Some(*between), *last),
+                _ => Esc::parse(None, bytes.last().copied().unwrap_or(0x1b)),
+            };
+            self.sheet.tell(&span, &words, Some(escape))?;
+            self.sheet.keep(keyed, 0)?;
         }
         self.text = false;
         self.advance(Kind::Esc, 1, bytes.len());
@@ -370,21 +332,30 @@ impl<'a> Listing<'a> {
     pub fn add_event<T: Display>(&mut self, time: u64, words: &T) -> Result<()> {
         self.close()?;
         let span = whole_span(Sort::Event, self.place, time, &[]);
-        self.sheet.tell(&span, words)
+        self.sheet.tell(&span, words, None)
     }
 
     /// A control character that stands in text, or a carriage return with a line feed.
     fn tell_control(&mut self, place: u64, time: u64, bytes: &[u8]) -> Result<()> {
         let control = Keyed::new(bytes);
-        if self.sheet.recall(time, place, control)?.is_some() {
-            return Ok(());
+        match self.sheet.recall(time, place, control)? {
+            Some(_) => Ok(()),
+            None => self.tell_new_control(place, time, control),
         }
+    }
+
+    /// One that isn't remembered.
+    #[inline(never)]
+    fn tell_new_control(&mut self, place: u64, time: u64, control: Keyed<'_>) -> Result<()> {
+        let bytes = control.bytes;
         let span = whole_span(Sort::Control, place, time, bytes);
-        let sent = self.sheet.style.dialect.and(bytes.first());
-        match sent.and_then(|byte| Did::of_control(*byte)) {
-            Some(did) => self.sheet.tell(&span, &did)?,
-            None => self.sheet.tell(&span, &words_of_control(bytes))?,
+        if let (Some(_), [byte, ..]) = (self.sheet.style.dialect, bytes) {
+            if let Some(did) = Did::of_control(*byte) {
+                self.sheet.tell(&span, &did, None)?;
+                return self.sheet.keep(control, 0);
+            }
         }
+        self.sheet.tell(&span, &words_of_control(bytes), None)?;
         self.sheet.keep(control, 0)
     }
 
@@ -471,7 +442,8 @@ impl<'a> Listing<'a> {
     #[inline(always)]
     fn add_text_part(&mut self, part: &[u8], over: bool) -> Result<()> {
         let (run, control) = match part.split_last() {
-            Some((last, run)) if is_control(*last) => (run, Some(*last)),
+            // C0 but for ESC, which begins something else, and DEL.
+            Some((last, run)) if *last < b' ' || *last == 0x7f => (run, Some(*last)),
             _ => (part, None),
         };
         if !run.is_empty() {
@@ -506,7 +478,8 @@ impl<'a> Listing<'a> {
             if rest.is_empty() {
                 break;
             }
-            let (part, behind) = text_front(rest);
+            let front = text_len(rest).saturating_add(1);
+            let (part, behind) = rest.split_at_checked(front).unwrap_or((rest, &[]));
             self.add_text_part(part, over && behind.is_empty())?;
             rest = behind;
         }
@@ -529,7 +502,10 @@ impl<'a> Listing<'a> {
     /// ends.
     pub fn add(&mut self, modes: (Mode, Mode), kind: Kind, bytes: &[u8], more: bool) -> Result<()> {
         match kind {
-            Kind::Csi => self.add_front(Mode::Text, bytes).map(|_| ()),
+            Kind::Csi => {
+                self.add_front(Mode::Text, bytes)?;
+                Ok(())
+            }
             Kind::Esc => self.add_escape(bytes),
             Kind::Text => self.add_text(bytes, more),
             Kind::Str | Kind::Other => self.add_part(modes, kind, bytes),

@@ -25,8 +25,10 @@ fn is_in(letters: &mut Vec<u8>, style: &Style<'_>, text: &str, bytes: &[u8]) -> 
     text.as_bytes().to_lowercase_into(letters)?;
     let len = letters.len();
     bytes.to_lowercase_into(letters)?;
-    let halves = letters.split_at_checked(len);
-    Ok(halves.is_some_and(|(text, bytes)| find(bytes, text).is_some()))
+    match letters.split_at_checked(len) {
+        Some((text, bytes)) => Ok(find(bytes, text).is_some()),
+        None => Ok(false),
+    }
 }
 
 impl Search {

@@ -2,36 +2,30 @@
 
 use crate::Result;
 use crate::cache::Remembered;
-use crate::clipboard::{Clipboard, clipboard_bytes};
+use crate::clipboard::{append_words, clipboard_bytes};
 use crate::copied::Copied;
 use crate::counts::{Names, Totals, append_lines, append_object as append_totals, append_stats};
 use crate::fields::JsonFields;
 use crate::json::{
-    append_action, append_begin_object, append_decoded, append_end, append_object, append_string,
+    append_action, append_begin_object, append_decoded, append_object, append_string,
 };
 use crate::keyed::Keyed;
 use crate::line::{
-    Offset, Sort, ToldSpan, append_begin, append_bytes, append_margin, append_name,
+    Counted, Offset, Sort, ToldSpan, append_begin, append_bytes, append_margin, append_name,
     append_text_words, whole_characters,
 };
 use crate::search::Search;
 use crate::style::{Style, name_of};
 use crate::taken::append_taken;
 use csicodec_base::{CsiParam, Esc};
-use csicodec_osc::{ControlString, Shown};
+use csicodec_osc::Shown;
 use csicodec_parser::CSI;
-use csicodec_words::{ActionList, EscReading, Reading};
+use csicodec_words::{ActionList, Reading};
 use std::alloc::Global;
 use std::fmt::{Debug, Display, Write};
 
 /// So many bytes of a span an object of JSON has at most: 64 KiB.
 const PIECE: usize = 65_536;
-
-/// An escape sequence, whose `Debug` text has the names of its types: `Esc(Code(DecSaveCursorPosition))`.
-#[derive(Clone, Copy, Debug)]
-enum NamedEsc {
-    Esc(Esc),
-}
 
 /// The lines of the spans that came, in a buffer that is kept.
 #[derive(Drop)]
@@ -85,41 +79,31 @@ impl<'a> Sheet<'a> {
             place: Offset::new(),
             known: Remembered::new(alloc),
             names: Names::new(alloc),
-            totals: Totals::default(),
+            totals: Totals::new(),
             search: Search::new(alloc),
         }
     }
 
-    /// What allocates.
-    fn alloc(&self) -> Global {
-        *self.text.allocator()
-    }
-
-    /// Whether times are told from now on.
-    pub fn time(&mut self, timed: bool) {
+    /// A stream begins, of which times are told or not. A file's name is a heading, or a member of each object, unless only sums are
+    /// told.
+    pub fn begin_stream(&mut self, name: Option<&str>, timed: bool) -> Result<()> {
         if timed != self.style.timed {
             self.style.timed = timed;
             self.known.forget();
         }
-    }
-
-    /// A file of this name begins: a heading, or a member of each object, unless only sums are told.
-    pub fn begin_file(&mut self, name: &str) -> Result<()> {
-        if self.style.is_silent() {
-            return Ok(());
-        }
+        let name = match name {
+            Some(name) if !self.style.is_silent() => name,
+            _ => return Ok(()),
+        };
         if self.style.json {
             self.file.clear();
             self.file.extend_from_slice(b",\"file\":")?;
             return append_string(&mut self.file, name);
         }
-        if self.headed {
-            self.text.push(b'\n')?;
-        }
+        let (ahead, shown) = (if self.headed { "\n" } else { "" }, Shown(name.as_bytes()));
         self.headed = true;
-        let shown = Shown(name.as_bytes());
         self.buffer.clear();
-        write!(self.buffer, "==> {shown} <==\n")?;
+        write!(self.buffer, "{ahead}==> {shown} <==\n")?;
         self.text.extend_from_slice(self.buffer.as_bytes())
     }
 
@@ -229,7 +213,7 @@ impl<'a> Sheet<'a> {
         }
         if self.style.json {
             self.begin_object(span)?;
-            return append_end(&mut self.text, false);
+            return self.text.extend_from_slice(b"}\n");
         }
         self.begin_at(span.time, span.place)?;
         append_bytes(&mut self.text, &self.style, span)?;
@@ -247,9 +231,12 @@ impl<'a> Sheet<'a> {
     }
 
     /// Counts a text where it is one that is asked for; whether it is then told. In JSON it has no actions.
+    #[inline(never)]
     fn counts_text(&mut self, span: &ToldSpan<'_>) -> Result<bool> {
         let len = span.len;
-        self.count_bytes("text", len)?;
+        let counted = Counted("text", len);
+        self.words.clear();
+        write!(self.words, "{counted}")?;
         if !self.is_wanted(span)? {
             return Ok(false);
         }
@@ -276,35 +263,28 @@ impl<'a> Sheet<'a> {
         Ok(())
     }
 
-    /// The words of the span.
-    fn add<T: Display>(&mut self, span: &ToldSpan<'_>, value: &T) -> Result<()> {
-        self.fields.clear();
-        self.words.clear();
-        write!(self.words, "{value}")?;
-        self.add_words(span)
-    }
-
-    /// The fields of an action, where they are told: those of its `Debug` text.
-    fn take_fields<A: Debug>(&mut self, action: &A) -> Result<()> {
+    /// The fields of an action, where they are told: those of its `Debug` text, which may lack the name of its kind.
+    fn take_fields<A: Debug>(&mut self, kind: &[u8], action: &A) -> Result<()> {
         if !self.style.json || self.style.is_silent() {
             return Ok(());
         }
         self.buffer.clear();
         write!(self.buffer, "{action:?}")?;
-        self.fields.write(self.buffer.as_bytes())
+        self.fields.write(kind, self.buffer.as_bytes())
     }
 
-    /// What stands in the span, decoded: a line of its own, or a member of its first action.
-    fn add_decoded(&mut self, span: &ToldSpan<'_>, bytes: &[u8]) -> Result<()> {
-        if self.style.is_silent() {
+    /// What a string puts into the clipboard, decoded: a line of its own, or a member of its first action.
+    fn add_decoded(&mut self, span: &ToldSpan<'_>) -> Result<()> {
+        let Some(bytes) = clipboard_bytes(*self.text.allocator(), span.bytes)? else {
             return Ok(());
-        }
+        };
         if !self.style.json {
-            let full = self.style.full;
-            return self.add(span, &Clipboard { bytes, full });
+            self.words.clear();
+            append_words(&mut self.words, &bytes, self.style.full)?;
+            return self.add_words(span);
         }
         if self.actions > 0 {
-            append_decoded(&mut self.text, bytes)?;
+            append_decoded(&mut self.text, &bytes)?;
         }
         Ok(())
     }
@@ -324,8 +304,7 @@ impl<'a> Sheet<'a> {
             return Ok(());
         }
         if self.style.json {
-            let fields = self.fields.as_slice();
-            return append_action(&mut self.text, &self.words, fields, first);
+            return append_action(&mut self.text, &self.words, &self.fields.out, first);
         }
         if first {
             append_bytes(&mut self.text, &self.style, span)?;
@@ -337,13 +316,13 @@ impl<'a> Sheet<'a> {
 
     /// The words that are there, and the line's end.
     fn add_line(&mut self) -> Result<()> {
+        let mut words = self.words.as_str();
         if self.style.color {
-            let (name, words) = name_of(&self.words);
+            let (name, rest) = name_of(words);
             append_name(&mut self.text, &self.style, name)?;
-            self.text.extend_from_slice(words.as_bytes())?;
-        } else {
-            self.text.extend_from_slice(self.words.as_bytes())?;
+            words = rest;
         }
+        self.text.extend_from_slice(words.as_bytes())?;
         Ok(self.text.push(b'\n')?)
     }
 
@@ -357,55 +336,31 @@ impl<'a> Sheet<'a> {
             self.text.truncate(self.begin);
             return Ok(());
         }
-        if self.style.json && !self.style.is_silent() {
-            append_end(&mut self.text, some)
-        } else {
-            Ok(())
+        if !self.style.json || self.style.is_silent() {
+            return Ok(());
         }
+        let end: &[u8] = if some { b"]}\n" } else { b"}\n" };
+        self.text.extend_from_slice(end)
     }
 
-    /// A span of these words.
-    pub fn tell<T: Display>(&mut self, span: &ToldSpan<'_>, words: &T) -> Result<()> {
-        self.begin(span)?;
-        self.add(span, words)?;
-        self.end(span)
-    }
-
-    /// An escape sequence.
-    pub fn tell_escape(&mut self, span: &ToldSpan<'_>, escape: Esc) -> Result<()> {
-        let words = EscReading(span.bytes.get(1..).unwrap_or(&[]));
-        self.begin(span)?;
-        self.words.clear();
-        write!(self.words, "{words}")?;
-        self.take_fields(&NamedEsc::Esc(escape))?;
-        self.add_words(span)?;
-        self.end(span)
-    }
-
-    /// What went wrong, of which more could have come.
-    pub fn tell_malformed(&mut self, span: &ToldSpan<'_>) -> Result<()> {
+    /// A span of these words, and of an escape sequence its fields.
+    #[inline(never)]
+    pub fn tell<T: Display>(
+        &mut self,
+        span: &ToldSpan<'_>,
+        words: &T,
+        escape: Option<Esc>,
+    ) -> Result<()> {
         self.begin(span)?;
         self.fields.clear();
-        self.count_bytes("malformed", span.len)?;
-        self.add_words(span)?;
-        self.end(span)
-    }
-
-    /// The words of bytes that are only counted.
-    fn count_bytes(&mut self, name: &str, len: u64) -> Result<()> {
-        let unit = if len == 1 { "byte" } else { "bytes" };
         self.words.clear();
-        Ok(write!(self.words, "{name}  {len} {unit}")?)
-    }
-
-    /// A string, and what it puts into the clipboard, where that is asked for.
-    pub fn tell_string(&mut self, span: &ToldSpan<'_>, string: ControlString<'_>) -> Result<()> {
-        self.begin(span)?;
-        self.add(span, &string)?;
-        if self.style.decode {
-            if let Some(bytes) = clipboard_bytes(self.alloc(), span.bytes)? {
-                self.add_decoded(span, &bytes)?;
-            }
+        write!(self.words, "{words}")?;
+        if let Some(escape) = escape {
+            self.take_fields(b"Esc", &escape)?;
+        }
+        self.add_words(span)?;
+        if self.style.decode && matches!(span.sort, Sort::String) && !self.style.is_silent() {
+            self.add_decoded(span)?;
         }
         self.end(span)
     }
@@ -418,7 +373,7 @@ impl<'a> Sheet<'a> {
         control: char,
     ) -> Result<u64> {
         self.begin(span)?;
-        let (alloc, sent) = (self.alloc(), self.style.dialect.is_some());
+        let (alloc, sent) = (*self.text.allocator(), self.style.dialect.is_some());
         let mut count = 0u64;
         for action in CSI::parse(alloc, params, false, control) {
             let action = action?;
@@ -435,7 +390,7 @@ impl<'a> Sheet<'a> {
             if matches!(&action, CSI::Unspecified(_)) && !sent {
                 append_taken(&mut self.words, &mut self.list, (params, control), count)?;
             }
-            self.take_fields(&action)?;
+            self.take_fields(b"", &action)?;
             self.add_words(span)?;
             count = count.saturating_add(1);
         }
@@ -445,12 +400,12 @@ impl<'a> Sheet<'a> {
 
     /// The sums that are asked for, of a stream of which so much came: of all that came, or where only some is told, of what was.
     pub fn add_sums(&mut self, came: &Totals) -> Result<()> {
+        let json = self.style.json;
         let told = if self.style.tells_all() {
             *came
         } else {
             self.totals
         };
-        let json = self.style.json;
         self.buffer.clear();
         if self.style.count && json {
             append_totals(&mut self.buffer, &told, &self.names)?;

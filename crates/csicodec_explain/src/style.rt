@@ -48,7 +48,23 @@ fn says_unknown(name: &str, rest: &str) -> bool {
 
 /// Whether one of these names, with commas between them, is this, in capitals or not.
 pub fn is_among(names: &str, name: &str) -> bool {
-    names.split(',').any(|one| one.eq_ignore_ascii_case(name))
+    for one in names.split(',') {
+        if one.eq_ignore_ascii_case(name) {
+            return true;
+        }
+    }
+    false
+}
+
+/// Whether so many bytes, of which the first stands at this place, have one in one of the ranges; without any, true.
+fn is_within(ranges: &[(u64, u64)], place: u64, len: u64) -> bool {
+    let behind = place.saturating_add(len.max(1));
+    for (first, last) in ranges {
+        if place <= *last && behind > *first {
+            return true;
+        }
+    }
+    ranges.is_empty()
 }
 
 /// Whether one of the names that are asked for is this: the whole of it, or its first word; or `unknown`, of what has a name and is
@@ -113,14 +129,17 @@ impl<'a> Style<'a> {
 
     /// Whether what has these words, and so many bytes of which the first stands at this place, is told, if `Search` finds it.
     pub fn tells(&self, words: &str, place: u64, len: u64) -> bool {
-        let behind = place.saturating_add(len.max(1));
-        let is_met = |(first, last): &(u64, u64)| place <= *last && behind > *first;
-        let is_there = self.at.is_empty() || self.at.iter().any(is_met);
+        let is_there = is_within(self.at, place, len);
         if !is_there || (!self.unknown && self.only.is_none()) {
             return is_there;
         }
         let (name, rest) = name_of(words);
-        (!self.unknown || name == "malformed" || says_unknown(name, rest))
-            && self.only.is_none_or(|names| is_named(names, name, rest))
+        if self.unknown && name != "malformed" && !says_unknown(name, rest) {
+            return false;
+        }
+        match self.only {
+            Some(names) => is_named(names, name, rest),
+            None => true,
+        }
     }
 }

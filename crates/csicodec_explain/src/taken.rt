@@ -7,6 +7,7 @@ use csicodec_parser::CSI;
 use csicodec_terminal::terminal_actions;
 use csicodec_words::{ActionList, ActionWords};
 use std::alloc::Global;
+use std::fmt::Write;
 
 /// The words of an action, whose list this is. A text that another crate writes into itself has all words in the program once more.
 fn text_of<'a>(alloc: Global, action: &'a CSI, list: &'a ActionList) -> Result<String> {
@@ -34,8 +35,9 @@ pub fn append_taken(
             continue;
         }
         list.read(action)?;
-        words.push_str(ahead)?;
-        words.push_str(name_of(&text_of(alloc, action, list)?).1)?;
+        let told = text_of(alloc, action, list)?;
+        let (_name, deed) = name_of(&told);
+        write!(words, "{ahead}{deed}")?;
         ahead = ", ";
     }
     words.push_str(if ahead == ", " { ")" } else { "" })

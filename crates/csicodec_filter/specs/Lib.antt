@@ -1,4 +1,3 @@
-pub mod Faithful
 pub mod Filter
 pub mod Meaning
 pub mod Written

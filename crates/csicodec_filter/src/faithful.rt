@@ -1,6 +1,6 @@
 //! Normal forms, but for what terminals are known to read otherwise.
 ghost use Rattle.std.specs.{Prelude.◌≡◌, List.list_any};
-ghost use Rattle.csicodec_filter.specs.Faithful.{has_spelling, is_kept, is_spelled, stays};
+ghost use Rattle.csicodec_streams.specs.Faithful.{has_spelling, is_kept, is_spelled, stays};
 
 use crate::rewrite::{NormalForm, Rewrite};
 use csicodec_base::CsiParam;
@@ -71,7 +71,7 @@ impl Faithful {
 }
 
 impl Rewrite for Faithful {
-    ghost use Rattle.csicodec_filter.specs.Faithful.{IsFaithful};
+    ghost use Rattle.csicodec_streams.specs.Faithful.{IsFaithful};
 
     ghost writes = { λ _ bytes text. IsFaithful bytes text };
 

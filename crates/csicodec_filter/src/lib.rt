@@ -3,7 +3,6 @@
 
 mod faithful;
 mod filter;
-mod known;
 pub mod laws;
 mod rewrite;
 mod run;
@@ -11,7 +10,6 @@ mod spanwise;
 
 pub use faithful::{Faithful, stays};
 pub use filter::{Filter, append_spans};
-pub use known::Known;
 pub use rewrite::{NormalForm, Rewrite};
 pub use run::filter_all;
 pub use spanwise::{Room, Spanwise, WriteSpans};

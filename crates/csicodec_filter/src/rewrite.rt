@@ -4,8 +4,7 @@ ghost use Rattle.csicodec_tokens.specs.Sequence.{Seq};
 ghost use Rattle.csicodec_streams.specs.Decoding.{NormalisesTo};
 
 use csicodec_base::CsiParam;
-use csicodec_parser::Texts;
-use csicodec_streams::parse_into;
+use csicodec_parser::{Texts, parse_into};
 use std::alloc::{AllocError, Global};
 
 /// What is written in the place of a control sequence.

@@ -6,11 +6,10 @@ ghost use Rattle.csicodec_spans.specs.{Parts.IsUnsure, Parts.Part, Parts.part};
 ghost use Rattle.csicodec_transform.specs.Transform.{Adds};
 ghost use Rattle.csicodec_filter.specs.Written.{Appends, WrittenOf, open_at, with_more};
 
-use crate::known::Known;
 use csicodec_base::{CsiParam, TextBuffer};
 use csicodec_spans::{Cutter, Mode, Waiting};
 use csicodec_tokens::Count;
-use csicodec_transform::{Note, Transform};
+use csicodec_transform::{Known, Note, Transform};
 use std::alloc::{AllocError, Global};
 use std::marker::Model;
 use std::mem;

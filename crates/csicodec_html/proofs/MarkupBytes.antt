@@ -1,12 +1,14 @@
 -- A page is markup by its bytes alone.
 use Rattle.std.proofs.Common.{◌≡◌, ◌≢◌, ◌<◌, ◌≤◌, ◌+◌, ◌/◌, ◌%◌, ℕ, Bool, true, false, List, [], ◌∷◌, ◌++◌, Option, Some, None, refl, sym, ap, subst, ◌∙◌, append_assoc, arith, codes, if◌then◌else◌, flat_map}
 use Rattle.csicodec_html.proofs.Common.{cond_both, nat_tests, AllByRecursion, scalar, IsShown, class_name, names, IsHarmless, IsPageWith, IsSafe, PageWith, Piece, Char, Open, are_paired, escaped, piece_text, piece_texts, Class, Look, Markup, css, settled}
-use Rattle.csicodec_html.proofs.{Marks.all_quoted, Marks.escaped_by, Declarations.Fine, Declarations.css_fine, Declarations.name_fine, Declarations.true_fine}
-use Rattle.csicodec_html.proofs.{Paired.is_page}
+use Rattle.csicodec_html.proofs.Marks.{all_quoted}
+use Rattle.csicodec_looks.proofs.{Marks.escaped_by, Declarations.Fine, Declarations.css_fine, Declarations.name_fine, Declarations.true_fine}
+use Rattle.csicodec_clean.proofs.Paired.{is_page}
 use Rattle.std.specs.Char.{encode_utf8}
 use Rattle.csicodec_html.specs.MarkupBytes.{Spot, Inside, Tag, begun, is_value_byte, is_markup, no_value, spot_behind, IsMarkup}
-use Rattle.csicodec_html.specs.{Classes.classes_of, Classes.has_true, Classes.rest_attribute, Classes.style_attribute, Classes.true_colors, Page.IsQuoted}
-use Rattle.csicodec_html.specs.{Page.Begin, Page.End, Page.Shut}
+use Rattle.csicodec_looks.specs.{Classes.classes_of, Classes.has_true, Classes.rest_attribute, Classes.style_attribute, Classes.true_colors, Pieces.Begin}
+use Rattle.csicodec_looks.specs.{Pieces.End, Pieces.Shut}
+use Rattle.csicodec_clean.specs.Page.{IsQuoted}
 
 -- ---- characters
 

@@ -1,10 +1,4 @@
-pub mod Classes
-pub mod Contrast
-pub mod Given
-pub mod Look
 pub mod MarkupBytes
-pub mod Page
-pub mod Palette
 pub mod Private
 pub mod Sheet
 pub mod Turns

@@ -1,31 +1,12 @@
--- What a table of control sequences that came before holds: how each turns text, and what is written for it.
-use Rattle.std.specs.{Prelude.ℕ, Prelude.◌≡◌, Prelude.◌≤◌, Prelude.List, Prelude.◌++◌, Prelude.length, Prelude.take, List.All}
+-- What a control sequence turns on a page.
+use Rattle.std.specs.Prelude.{ℕ, ◌≡◌, List}
 use Rattle.csicodec_actions.specs.Actions.{Action}
 use Rattle.csicodec_terminal.specs.Terminal.{IsTakenFor}
-use Rattle.csicodec_html.specs.{declared.look.Look.Look, declared.markup.Markup.Markup, declared.turns.InFront.InFront, declared.turns.Turn.Turn}
-use Rattle.csicodec_html.specs.{Look.behind_all, Look.sets_any, Page.piece_texts, Page.turn}
+use Rattle.csicodec_looks.specs.{declared.look.Look.Look, declared.markup.Markup.Markup, Pieces.piece_texts, Pieces.turn}
+use Rattle.csicodec_clean.specs.Page.{behind_all, sets_any}
 
 -- the bytes are one control sequence, from one look to another, and these are the tags between
 abbrev pub IsTurned : Markup → List ℕ → Look → Look → List ℕ → Type 0
 IsTurned m bytes old new tags = (actions : List Action) × IsTakenFor bytes actions
     × (new ≡ behind_all old actions)
     × (tags ≡ piece_texts (turn m (sets_any actions) old (behind_all old actions)))
-
--- it turns text of one look into text of another, and that is written for it
-abbrev pub IsTurn : (List ℕ → Look → Look → List ℕ → Type 0) → Turn → Type 0
-IsTurn Turned t = (t.len ≤ 32) × (t.tags_len ≤ 128) × Turned (take t.len t.bytes) t.old t.new (take t.tags_len t.tags)
-
--- each that is kept does
-abbrev pub AreTurns : (List ℕ → Look → Look → List ℕ → Type 0) → List Turn → Type 0
-AreTurns Turned kept = All (IsTurn Turned) kept
-
--- it is of the sequence in front, and from this look
-abbrev pub Fits : Turn → Look → InFront → Type 0
-Fits t look f =
-    (f.least ≤ t.len) × (t.len ≤ f.most) × (t.len ≤ length f.bytes.now) × (take t.len f.bytes.now ≡ take t.len t.bytes) × (t.old ≡ look)
-
--- what is written for the sequence in front, of so many bytes, is appended
-abbrev pub IsTold : (List ℕ → Look → Look → List ℕ → Type 0) → Look → InFront → ℕ → Look → List ℕ → List ℕ → Type 0
-IsTold Turned look f len new old out =
-    (f.least ≤ len) × (len ≤ f.most) × (len ≤ length f.bytes.now)
-    × (tags : List ℕ) × Turned (take len f.bytes.now) look new tags × (out ≡ old ++ tags)

@@ -1,16 +1,16 @@
 //! How text is written, and what stands in the place of a control sequence, and of a control string.
-ghost use Rattle.std.specs.Prelude.{◌≡◌, ◌++◌, ◌∷◌, [], map, OnOk};
+ghost use Rattle.std.specs.Prelude.{◌≡◌, ◌++◌, ◌∷◌, [], map, OnOk, if◌then◌else◌};
 ghost use Rattle.csicodec_parser.specs.ActionOf.{action_of};
-ghost use Rattle.csicodec_html.specs.{Look.behind_all, Look.sets_any, Page.first_set, Page.piece_texts, Page.turn};
+ghost use Rattle.csicodec_clean.specs.{Addresses.led, Page.behind_all, Page.sets_any, Page.first_set};
+ghost use Rattle.csicodec_looks.specs.Pieces.{piece_texts, pieces_bytes, switch, turn};
 
-use crate::look::Look;
-use crate::markup::Markup;
-use crate::pieces::{append_char, append_text, append_turn as append_tags};
-use crate::tags::{append_end, append_shut, follow};
-use crate::turns::{InFront, Turning, Turns};
-use csicodec::CSI;
 use csicodec_base::CsiParam;
-use csicodec_clean::{LinkReader, Rule, ends_link};
+use csicodec_clean::{LinkReader, Rule, ends_link, led};
+use csicodec_looks::{
+    InFront, Look, Markup, Turning, Turns, append_char, append_end, append_shut, append_switch,
+    append_text, append_turn as append_tags,
+};
+use csicodec_parser::CSI;
 use csicodec_terminal::terminal_actions_into;
 use std::alloc::{AllocError, Global};
 use std::marker::Model;
@@ -74,10 +74,38 @@ fn append_turn(
     append_tags(markup, old, new, out)
 }
 
-impl Turning for Markup {
+/// Appends the tags between text that leads to one place and text that leads to another, for a link that is over, and sets where it leads.
+fn follow(
+    over: bool,
+    url: &[u8],
+    markup: &Markup,
+    look: Look,
+    to: &mut Vec<u8>,
+    out: &mut Vec<u8>,
+) -> Result<(), AllocError>
+    ensures text { OnOk result
+        (out.new.items
+        ≡ out.old.items
+        ++ pieces_bytes (if over then switch markup.now look to.old.items (led url.now) else [])) }
+    ensures to { OnOk result (to.new.items ≡ (if over then led url.now else to.old.items)) }
+{
+    if !over {
+        return Ok(());
+    }
+    let new = led(url);
+    append_switch(markup, look, to, new, out)?;
+    to.clear();
+    to.extend_from_slice(new)
+}
+
+/// What control sequences turn on a page.
+#[derive(Drop)]
+struct Turner<'a>(&'a Markup);
+
+impl Turning for Turner<'_> {
     ghost use Rattle.csicodec_html.specs.Turns.{IsTurned};
 
-    ghost turns = { IsTurned };
+    ghost turns = { λ by. IsTurned by.0.now };
 }
 
 /// The rule that turns attributes into spans, and links, where they pass, into links of the page.
@@ -98,11 +126,12 @@ pub(crate) struct SpanWriter {
 
 impl Model for SpanWriter {
     ghost use Rattle.csicodec_clean.specs.Links.{begun};
-    ghost use Rattle.csicodec_html.specs.Page.{Setting, setting};
+    ghost use Rattle.csicodec_clean.specs.Page.{Setting, setting};
 
     ghost Value = { Setting };
 
-    ghost use Rattle.csicodec_html.specs.Turns.{AreTurns, IsTurned};
+    ghost use Rattle.csicodec_looks.specs.Turns.{AreTurns};
+    ghost use Rattle.csicodec_html.specs.Turns.{IsTurned};
 
     ghost view = { λ s. setting s.markup s.look s.to.items
         (begun s.next.place s.next.params.items s.next.url.items) };
@@ -122,7 +151,7 @@ impl SpanWriter {
             to: Vec::new(alloc),
             next: LinkReader::new(alloc),
             actions: Vec::new(alloc),
-            turns: Turns::new(alloc, &markup),
+            turns: Turns::new(alloc, &Turner(&markup)),
         }
     }
 }
@@ -157,7 +186,8 @@ impl Rule for SpanWriter {
         let comes = sets_any(&self.actions);
         append_turn(&self.markup, comes, self.look, new, out)?;
         let tags = out.split_at(before).1;
-        self.turns.keep(&self.markup, bytes, self.look, new, tags)?;
+        self.turns
+            .keep(&Turner(&self.markup), bytes, self.look, new, tags)?;
         self.look = new;
         Ok(())
     }
@@ -174,7 +204,9 @@ impl Rule for SpanWriter {
             least: 1,
             most: limit,
         };
-        let len = self.turns.recall(&self.markup, &mut self.look, front, out)?;
+        let len = self
+            .turns
+            .recall(&Turner(&self.markup), &mut self.look, front, out)?;
         Ok(len)
     }
 

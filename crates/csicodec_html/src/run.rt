@@ -1,10 +1,9 @@
 //! A stream as a page, as it comes.
-ghost use Rattle.csicodec_html.specs.Page.{IsPage, IsPageWith, PageOf, PageWith};
-ghost use Rattle.csicodec_clean.specs.Streams.{Streams};
+ghost use Rattle.csicodec_clean.specs.{Page.IsPage, Page.IsPageWith, Page.PageOf, Page.PageWith, Streams.Streams};
 
-use crate::markup::Markup;
 use crate::rule::SpanWriter;
 use csicodec_clean::clean_run;
+use csicodec_looks::Markup;
 use csicodec_transform::RunError;
 use std::alloc::Global;
 use std::io::{Read, Write};

@@ -6,4 +6,6 @@ pub use Rattle.std.specs.{Io.KnownBytes.Appends, Io.KnownBytes.Consumes, Io.Know
 pub use Rattle.csicodec_command.specs.declared.failure.Failure.{Failure}
 pub use Rattle.csicodec_inspect.specs.{Assembled.Became, Assembled.IsSent, Assembled.answer_of, Alone.AssemblesLines, Sent.FrontsOf, Sent.IsAppended}
 pub use Rattle.csicodec_inspect.specs.{declared.assemble.Assembly.Assembly, Found.behind_esc, Found.by_char, Found.found_at, Visible.seen}
-pub use Rattle.csicodec_clean.specs.{Check.IsSure, Bytes.IsPlainByte, Shown.IsBehind}
+pub use Rattle.csicodec_clean.specs.Check.{IsSure}
+pub use Rattle.csicodec_looks.specs.Bytes.{IsPlainByte}
+pub use Rattle.csicodec_clean.specs.Shown.{IsBehind}

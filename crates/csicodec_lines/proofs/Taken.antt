@@ -2,7 +2,8 @@
 use Rattle.std.proofs.Common.{◌≡◌, ◌+◌, ◌<◌, ℕ, Bool, true, false, not, cond, List, [], ◌∷◌, ◌++◌, length, take, drop, ◌==◌, inl, inr, refl, sym, ap, subst, ◌∙◌, append_assoc, append-nil, take-append-drop, arith}
 use Rattle.std.proofs.lemmas.Bool.{cases_Bool, cond_both}
 use Rattle.std.specs.List.{prefix_len, concat}
-use Rattle.csicodec_clean.specs.{Bytes.behind, Cleaned.Ends, Stream.AreTaken, Stream.Takes}
+use Rattle.csicodec_looks.specs.Bytes.{behind}
+use Rattle.csicodec_clean.specs.{Cleaned.Ends, Stream.AreTaken, Stream.Takes}
 use Rattle.csicodec_clean.proofs.{Told.behind_one, Chunks.ends as at_end, Chunks.taken_on, Chunks.takes_none, Chunks.takes_on}
 use Rattle.csicodec_lines.specs.{Lines.ends_line, Lines.joins, Lines.lines_from, Lines.lines_of, Private.Steps.IsWithin, Stream.Passes}
 use Rattle.csicodec_lines.proofs.Common.{nat_tests, AllByRecursion, EndOf, RuleOf, longest, start_of, ByLines, is_within, Lines, Ending, begun, ended, GoesOn, Transforms}

@@ -1,7 +1,7 @@
 //! Device control strings (DCS): parameters and intermediate bytes, a final byte, and data.
 
 use crate::answers::{capabilities, setting_asked, setting_told};
-use crate::body::{Body, halves, number, split_at, tell, while_in};
+use crate::body::{Body, halves, number, tell, while_in};
 use crate::shown::Shown;
 use crate::string_rows::{CONTROL_WORDS, CONTROLS};
 use std::fmt;
@@ -105,10 +105,10 @@ fn size(data: &[u8]) -> Option<(u32, u32)> {
     let raster = data.strip_prefix(b"\"")?;
     // Digits and semicolons: between these are only colons.
     let (raster, _) = halves(while_in(raster, b'0', b';').0, b':');
-    let (_numerator, rest) = split_at(raster, b';')?;
-    let (_denominator, rest) = split_at(rest, b';')?;
-    let (width, height) = split_at(rest, b';')?;
-    Some((number(width)?, number(height)?))
+    let (_numerator, rest) = halves(raster, b';');
+    let (_denominator, rest) = halves(rest, b';');
+    let (width, height) = halves(rest, b';');
+    number(width).zip(number(height))
 }
 
 /// How large a picture of sixels is (VT330/VT340 Programmer Reference, volume 2): its size, where its raster attributes tell it.

@@ -1,8 +1,8 @@
 -- The front of a line that is written as it comes, and its end.
 use Rattle.csicodec_overwrite.proofs.Common.{◌≡◌, ◌≤◌, ◌+◌, ◌-◌, ◌*◌, ℕ, zero, suc, Bool, true, false, cond, List, [], ◌∷◌, ◌++◌, length, length-append, replicate, refl, sym, ap, subst, ◌∙◌, append_assoc, append-nil, arith, ◌/◌, ◌==◌, unwrap_or, eqb-true, nat_tests, AllByRecursion, IsPlainByte, is_shown, Look, plain, Cell, Marking, Behind, Char, Glyph, Line, Page, Plain, Styled, Pen, Step, Done, before, behind_columns, blank, cells_of, do_all, does, done, line, pen_behind, pen_behind_all, put, IsFront, IsStyled, IsWritten, IsWrittenTo, drawn, last_look, last_of_run, run_text, AreFull, AreLines, IsLineByte, PutsPlain, closed, end_of, LineFront, Now, Passes, Reads, none_held, AreLooks, IsLook, Sets, of_chars, most, columns, glyph, narrowed, onto, to_tab_stop, width, ended, paint, shows_looks, text_of, texts_of, turn, written}
-use Rattle.csicodec_overwrite.proofs.Stays.{few_cells, line_plain, lines_plain, narrow, reads_end, reads_plain, cells, cells_full, cells_length, full_trimmed, put_cells, puts}
-use Rattle.csicodec_overwrite.proofs.{Texts.blank_written, Texts.turn_same, Texts.written_none, Texts.written_on, Texts.text_painted, Read.reads_none}
-use Rattle.csicodec_overwrite.proofs.{Read.reads_on, Rows.standing_settled, Written.all_on, Written.passes_on, Written.pen_on}
+use Rattle.csicodec_overwrite.proofs.{Stays.reads_end, Stays.reads_plain, Read.reads_none, Read.reads_on, Written.all_on, Written.passes_on, Written.pen_on}
+use Rattle.csicodec_looks.proofs.Stays.{few_cells, line_plain, lines_plain, narrow, cells, cells_full, cells_length, full_trimmed, put_cells, puts}
+use Rattle.csicodec_looks.proofs.{Texts.blank_written, Texts.turn_same, Texts.written_none, Texts.written_on, Texts.text_painted, Rows.standing_settled}
 use Rattle.unicode_width.specs.Width.{char_width}
 use Rattle.csicodec_tokens.proofs.Walks.{All-push}
 

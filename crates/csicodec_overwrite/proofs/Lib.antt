@@ -1,13 +1,9 @@
 pub mod Common
-pub mod Moved
-pub mod Texts
 pub mod Spelled
 pub mod Read
 pub mod Kept
 pub mod Written
 pub mod Same
-pub mod Rows
-pub mod Repeated
 pub mod Lost
 pub mod Stays
 pub mod Fronts

@@ -1,7 +1,7 @@
 -- Each character that comes stands in a line, or was taken out of its own: counted step by step.
 use Rattle.csicodec_overwrite.proofs.Common.{◌≡◌, ◌≢◌, ◌≤◌, ℕ, ◌+◌, ◌-◌, zero, suc, Bool, true, false, cond, min, List, [], ◌∷◌, ◌++◌, length, replicate, refl, ap, ◌∙◌, arith, ◌==◌, Option, Some, None, flat_map, encode_utf8_all, sym, append_assoc, append-nil, filter, sum_by-append, nil_from_length, eqb-true, nat_tests, Cell, Glyph, Line, Step, Behind, Char, Empty, Mark, Pen, flat_map-append, all_scalars, lossy_chars, lossy_chars-encode, Kind, Part, longest, shown, title_open, with_titles, encoded_on, titles_on, Plain, chars_of, columns, emptied, erased, glyph, gone, onto, outside, shifted, takes, to_tab_stop, trimmed, width, without, Done, behind_columns, blank, cells_of, do_all, does, does_here, done, entered, fits, forward, from_stop, in_row, leaves_long, line, lines_of, over, parted, pen_behind, placed, put, repeat, repeated, size, standing, target, to_stop, widest, fresh, again, all_came, all_taken, belonging, came, covered, left_out, taken, taken_again, taken_here, taken_by, taken_by_all, tabs, times, touched, under, whole, within, NothingLost, NothingMade, of_char, of_chars, of_run, of_sequence, as_text, AreOfParts, IsOfPart, Shows, Steps, most, shown_by, lossy_chars-nil, Strips, stripped, shown_text, scalars_lossy, scalars_on}
-use Rattle.csicodec_overwrite.proofs.{Texts.cells_by, Texts.chars_by, Texts.line_cells, Texts.shown_plain, Kept.overwritten_plain, Kept.scalars}
-use Rattle.csicodec_overwrite.proofs.{Kept.shown_good, Same.same_text}
+use Rattle.csicodec_overwrite.proofs.{Kept.overwritten_plain, Kept.scalars, Kept.shown_good, Same.same_text}
+use Rattle.csicodec_looks.proofs.Texts.{cells_by, chars_by, line_cells, shown_plain}
 use Rattle.csicodec_overwrite.specs.Lost.{written}
 use Rattle.csicodec_spans.specs.Parts.{left_over}
 use Rattle.csicodec_clean.specs.{Cleaned.is_text, Shown.shown_chars}

@@ -2,19 +2,17 @@
 use Rattle.csicodec_overwrite.proofs.Common.{◌≡◌, ℕ, true, false, cond, List, [], ◌∷◌, ◌++◌, map, encode_utf8_all, refl, sym, ap, subst, ◌∙◌, append_assoc, append-nil, arith, filter, flat_map, Bool, and_from, map-append, cond_both, AllByRecursion, all_scalars, lossy_chars-encode, SgrInRange, Part, parts_more, none_unsure, singles, longest, IsShown, shown, title_open, with_titles, encoded_on, all_text, all_both, single_texts, titles_on, Look, plain, Cell, Step, Char, Empty, Plain, Styled, flat_map-append, Page, AreFirstParts, part, parts_on, Strips, stripped, shown_text, scalars_on, IsInRange, attributes, further, look_of, paint, same, turn, chars_of, Done, blank, do_all, fresh, Overwrites, Paints, Steps, most, shown_by, Pages, same_look, escaped, piece_texts}
 use Rattle.csicodec_overwrite.proofs.Kept.{OfCell, OfCells, chars_kept, of_done, IsGood, kept, plain_kept, steps_good}
 use Rattle.csicodec_overwrite.proofs.{Spelled.look_of_one, Spelled.look_short, Spelled.look_taken, Spelled.looks_back, Written.one_reading, Written.one_text}
-use Rattle.csicodec_overwrite.proofs.{Texts.cells_by, Texts.shown_painted, Texts.shown_plain}
+use Rattle.csicodec_looks.proofs.Texts.{cells_by, shown_painted, shown_plain}
 use Rattle.std.proofs.Common.{encode_utf8}
 use lib.Utf8.{scalar}
 use Rattle.csicodec_spans.specs.{Table.Answer, Parts.Allows, Parts.IsFirstPart, Parts.IsWhole, declared.table.Kind.Kind, declared.table.Mode.Mode}
 use Rattle.csicodec_spans.proofs.Agrees.{opens}
-use Rattle.csicodec_clean.specs.Links.{start}
+use Rattle.csicodec_clean.specs.{Links.start, Page.AreLeft, Page.PageWith, Page.Setting, Page.setting, Page.shown_pieces}
 use Rattle.csicodec_clean.proofs.{Told.all_kept, Plain.one_char}
-use Rattle.csicodec_overwrite.specs.Paint.{look_text}
-use Rattle.csicodec_html.specs.Page.{AreLeft, PageWith, Setting, setting, shown_pieces, Piece as Mark, piece_text as mark_text}
-use Rattle.csicodec_html.specs.declared.markup.Markup.{Markup}
+use Rattle.csicodec_looks.specs.{Paint.look_text, Pieces.Piece as Mark, Pieces.piece_text as mark_text, declared.markup.Markup.Markup}
 use Rattle.csicodec_base.specs.declared.sgr.Sgr.{Sgr}
 use Rattle.csicodec_actions.specs.Actions as action
-use Rattle.csicodec_html.specs.Page as html
+use Rattle.csicodec_looks.specs.Pieces as html
 
 -- ---- pieces
 

@@ -7,14 +7,13 @@ use Rattle.csicodec_names.specs.{declared.color.Intensity.Intensity, declared.co
 use Rattle.csicodec_base.specs.SgrText.{sgr_text}
 use Rattle.csicodec_parser.specs.{Canonical.IsCanonicalSgr, Segments.Actions, Cut.semicolon, Groups.group, Groups.has_odd}
 use Rattle.csicodec_parser.specs.{declared.group.Group.TheVariants.Styles}
-use Rattle.csicodec.specs.Compose.{EndsInSemicolon, IsStyleList}
-use Rattle.csicodec.proofs.Compose.{ends-joined, plain-joint, sgr_compose_lem, spellable-joined, spells-joined}
-use Rattle.csicodec.proofs.SgrSpelling.{sgr-spelling}
+use Rattle.csicodec_streams.specs.Compose.{EndsInSemicolon, IsStyleList}
+use Rattle.csicodec_streams.proofs.Compose.{ends-joined, plain-joint, sgr_compose_lem, spellable-joined, spells-joined}
+use Rattle.csicodec_streams.proofs.SgrSpelling.{sgr-spelling}
 use Rattle.csicodec_terminal.specs.Terminal.{IsTakenFor, has_unknown}
-use Rattle.csicodec_clean.specs.Styled.{IsOf, hides}
+use Rattle.csicodec_clean.specs.{Styled.IsOf, Styled.hides, Page.behind_all}
 use Rattle.csicodec_clean.proofs.Coded.{AreCodes, coded, codes_parts, none_open, same_ends, unended}
-use Rattle.csicodec_html.specs.Look.{is_default, is_none, is_normal, behind_all}
-use Rattle.csicodec_overwrite.specs.Paint.{look_text}
+use Rattle.csicodec_looks.specs.{Look.is_default, Look.is_none, Look.is_normal, Paint.look_text}
 use Rattle.csicodec_actions.specs.Actions as action
 
 -- an attribute that stands in a sequence

@@ -1,6 +1,7 @@
 -- What steps write, one behind the other, and what comes of a stream.
 use Rattle.csicodec_overwrite.proofs.Common.{◌≡◌, ℕ, List, [], ◌∷◌, ◌++◌, refl, sym, ap, subst, ◌∙◌, ⊎_elim, append_assoc, append-nil, false, Option, IfSome, concat, Appends, Consumes, IsAtEnd, Sends, Transforms, Line, Marking, Pen, Step, lossy_chars, Kind, Part, parts_more, longest, IsRead, title_open, with_titles, titles_on, read_none, before, blank, do_all, does, fresh, pen_behind, pen_behind_all, texts_of, PassesFront, Shows, most, shown_by, AreOfParts, IsOfPart, Steps, columns, of_run, of_chars, of_sequence, Ending, Held, Now, Passes, Reads, begun_as, none_held, Goes, DoesAll, Action}
-use Rattle.csicodec_overwrite.proofs.{Read.reads_none, Read.reads_on, Read.whole_reads, Read.run_read, Texts.texts_on}
+use Rattle.csicodec_overwrite.proofs.Read.{reads_none, reads_on, whole_reads, run_read}
+use Rattle.csicodec_looks.proofs.Texts.{texts_on}
 use Rattle.csicodec_transform.specs.Transform.{Begins, GoesOn, Begins as BeginsWith}
 use Rattle.csicodec_clean.specs.Stream.{AreTaken, IsFrontOf}
 use Rattle.csicodec_clean.proofs.Chunks.{taken_on}

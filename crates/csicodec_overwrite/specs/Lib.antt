@@ -1,6 +1,3 @@
-pub mod Cells
-pub mod Line
-pub mod Paint
 pub mod Steps
 pub mod Reading
 pub mod Stream

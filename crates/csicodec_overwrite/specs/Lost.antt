@@ -4,10 +4,11 @@ use Rattle.std.specs.Prelude.{ℕ, zero, suc, ◌≡◌, ◌≢◌, ◌≤◌, �
 use Rattle.std.specs.List.{count_by, flat_map}
 use Rattle.bstr.specs.Utf8.{lossy_chars}
 use Rattle.csicodec_clean.specs.Cleaned.{Strips, longest}
-use Rattle.csicodec_overwrite.specs.Cells.{begins_behind, belongs, chars_of, columns, glyph, gone, is_empty, of_tab, outside, takes, width, without}
-use Rattle.csicodec_overwrite.specs.Line.{blank, cells_of, does, entered, fits, fresh, is_row, leaves_long, parted, pen_behind, put, shows_nothing}
-use Rattle.csicodec_overwrite.specs.{declared.cells.Cell.Cell, declared.cells.Glyph.Glyph, Reading.Shows, Reading.most, declared.line.Line.Line}
-use Rattle.csicodec_overwrite.specs.{declared.pen.Pen.Pen, declared.step.Step.Step, Paint.as_text}
+use Rattle.csicodec_looks.specs.Cells.{begins_behind, belongs, chars_of, columns, glyph, gone, is_empty, of_tab, outside, takes, width, without}
+use Rattle.csicodec_looks.specs.Line.{blank, cells_of, does, entered, fits, fresh, is_row, leaves_long, parted, pen_behind, put, shows_nothing, most}
+use Rattle.csicodec_looks.specs.{declared.cells.Cell.Cell, declared.cells.Glyph.Glyph, declared.line.Line.Line, declared.pen.Pen.Pen, declared.step.Step.Step}
+use Rattle.csicodec_looks.specs.{Paint.as_text}
+use Rattle.csicodec_overwrite.specs.Reading.{Shows}
 
 -- ---- parts of a line
 

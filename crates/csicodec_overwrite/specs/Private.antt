@@ -1,7 +1,4 @@
 -- Parts of the private functions' contracts. No promise rests on these files.
 pub mod Spans
 pub mod Seen
-pub mod Plain
 pub mod Front
-pub mod Row
-pub mod Sides

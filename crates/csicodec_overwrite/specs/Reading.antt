@@ -5,11 +5,10 @@ use Rattle.csicodec_actions.specs.Actions.{Action}
 use Rattle.csicodec_terminal.specs.Terminal.{IsTakenFor}
 use Rattle.csicodec_spans.specs.{declared.table.Kind.Kind, Parts.Part, Parts.AreFirstParts, Parts.IsUnsure, declared.table.Mode.Mode}
 use Rattle.csicodec_clean.specs.{Cleaned.longest, Titles.with_titles}
-use Rattle.csicodec_html.specs.declared.markup.Markup.{Markup}
-use Rattle.csicodec_overwrite.specs.{declared.marking.Marking.Marking, Paint.text_of, Paint.texts_of, declared.marking.Marking.TheVariants.Page}
-use Rattle.csicodec_overwrite.specs.{declared.marking.Marking.TheVariants.Plain, declared.marking.Marking.TheVariants.Styled, declared.step.Step.Step}
-use Rattle.csicodec_overwrite.specs.{Line.Done, Line.blank, Line.cells_of, Line.do_all, Line.fresh, Steps.of_escape, Steps.of_run, Steps.of_sequence}
-use Rattle.csicodec_overwrite.specs.{Steps.of_string, Steps.of_wrong}
+use Rattle.csicodec_looks.specs.{declared.markup.Markup.Markup, declared.marking.Marking.Marking, declared.marking.Marking.TheVariants.Page}
+use Rattle.csicodec_looks.specs.{declared.marking.Marking.TheVariants.Plain, declared.marking.Marking.TheVariants.Styled, declared.step.Step.Step, Line.blank}
+use Rattle.csicodec_looks.specs.{Line.do_all, Line.fresh, Line.most, Row.shown_by}
+use Rattle.csicodec_overwrite.specs.Steps.{of_escape, of_run, of_sequence, of_string, of_wrong}
 
 -- one part behind a run of text: text goes on with the run, and any other part ends it
 abbrev pub IsOfPart : Kind → List ℕ → List ℕ → List Step → List ℕ → Type 0
@@ -39,14 +38,6 @@ pub record Steps (bytes : List ℕ) (steps : List Step) : Type 0 where
   pub run : List ℕ
   pub read : AreOfParts [] (with_titles false parts) before run
   pub all : steps ≡ before ++ of_run run
-
--- the lines that are over, and then what stands in the last
-abbrev pub shown_by : Marking → Done → List ℕ
-shown_by marking d = texts_of marking d.lines ++ text_of marking (cells_of d.line)
-
--- a line holds so many cells at most
-abbrev pub most : ℕ
-most = longest
 
 -- the lines of the stream, each as it stands when it ends, as UTF-8, as what they are written
 pub record Shows (marking : Marking) (bytes text : List ℕ) : Type 0 where

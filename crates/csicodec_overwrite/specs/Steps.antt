@@ -7,23 +7,9 @@ use Rattle.csicodec_names.specs.{declared.modes.DecPrivateModeCode.DecPrivateMod
 use Rattle.csicodec_names.specs.{declared.enums.EraseInLine.EraseInLine, declared.modes.TerminalModeCode.TerminalModeCode}
 use Rattle.csicodec_actions.specs.{declared.cursor.Cursor.Cursor, declared.edit.Edit.Edit, declared.mode.DecPrivateMode.DecPrivateMode, declared.mode.Mode.Mode}
 use Rattle.csicodec_actions.specs.{Actions.Action, declared.mode.TerminalMode.TerminalMode}
-use Rattle.csicodec_clean.specs.Shown.{shown}
-use Rattle.csicodec_overwrite.specs.{Line.widest, declared.step.Step.Step}
+use Rattle.csicodec_looks.specs.{Line.widest, declared.step.Step.Step, Steps.of_chars}
 use Rattle.csicodec_actions.specs.Devices as device
 use Rattle.csicodec_actions.specs.Actions as action
-
--- VT (ECMA-48, 8.3.161) and FF (8.3.51) go to another row, and of C1 (as UTF-8, which some terminals carry out) IND (ECMA-48:1986), NEL
--- (8.3.86) and RI (8.3.104), and maybe CSI (8.3.16)
-abbrev pub of_control : ℕ → List Step
-of_control c =
-    if c == 11 || (c == 12 || (c == 132 || (c == 141 || c == 155))) then Step.Leave None ∷ []
-    else if c == 133 then Step.Leave (Some 1) ∷ [] else Step.Other ∷ []
-
--- LF (8.3.74) as a line of a log ends with it, CR (8.3.15), BS (8.3.5), HT (8.3.60), and what strip shows
-abbrev pub of_char : ℕ → List Step
-of_char c = if c == 10 then Step.NewLine ∷ [] else if c == 13 then Step.Column 1 ∷ []
-    else if c == 8 then Step.Left 1 ∷ [] else if c == 9 then Step.Tab ∷ []
-    else if shown c then Step.Put c ∷ [] else of_control c
 
 -- IND (ECMA-48:1986) and RI (8.3.104) go to another row, in the same column; NEL (8.3.86) and RIS (8.3.105) to the first, and behind
 -- RIS nothing is set; DECSC (7) and DECRC (8) save a place and come back to it
@@ -160,9 +146,6 @@ of_action (action.Mode m) = of_mode m
 of_action (action.Device device.SoftReset) = Step.Reset ∷ []
 of_action (action.Unspecified params flag final) = if may_move params final then Step.Leave None ∷ [] else []
 of_action _ = []
-
-abbrev pub of_chars : List ℕ → List Step
-of_chars chars = flat_map of_char chars
 
 abbrev pub of_actions : List Action → List Step
 of_actions actions = flat_map of_action actions

@@ -3,9 +3,10 @@ use Rattle.std.specs.{Prelude.ℕ, Prelude.◌≡◌, Prelude.Bool, Prelude.fals
 use Rattle.csicodec_spans.specs.{declared.table.Mode.Mode, Parts.Part, Parts.AreFirstParts, Parts.IsUnsure}
 use Rattle.csicodec_transform.specs.Transform.{GoesOn}
 use Rattle.csicodec_clean.specs.{Cleaned.longest, Shown.IsRead, Stream.AreTaken, Titles.title_open, Titles.with_titles}
-use Rattle.csicodec_overwrite.specs.{declared.line.Line.Line, Line.blank, Line.do_all, Line.fresh, Line.pen_behind_all, declared.marking.Marking.Marking}
-use Rattle.csicodec_overwrite.specs.{declared.marking.Marking.TheVariants.Plain, declared.pen.Pen.Pen, declared.step.Step.Step, Steps.of_chars, Steps.of_run}
-use Rattle.csicodec_overwrite.specs.{Paint.texts_of, Reading.AreOfParts, Reading.Shows, Reading.most, Reading.shown_by}
+use Rattle.csicodec_looks.specs.{declared.line.Line.Line, Line.blank, Line.do_all, Line.fresh, Line.pen_behind_all, Line.most, declared.marking.Marking.Marking}
+use Rattle.csicodec_looks.specs.{declared.marking.Marking.TheVariants.Plain, declared.pen.Pen.Pen, declared.step.Step.Step, Steps.of_chars, Paint.texts_of}
+use Rattle.csicodec_looks.specs.{Row.shown_by}
+use Rattle.csicodec_overwrite.specs.{Steps.of_run, Reading.AreOfParts, Reading.Shows}
 
 -- between two pushes: what is open and whether that is a title, the bytes of which nothing is sure yet, and those of a character before them
 pub record Held : Type 0 where

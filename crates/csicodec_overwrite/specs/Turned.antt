@@ -1,7 +1,8 @@
 -- Control sequences that do no more than to set how characters look, and what is written for them between characters.
 use Rattle.std.specs.Prelude.{ℕ, ◌≡◌, List, [], ◌∷◌}
-use Rattle.csicodec_html.specs.{declared.look.Look.Look, Look.behind}
-use Rattle.csicodec_overwrite.specs.{declared.marking.Marking.Marking, Paint.turn, Stream.Reads, Stream.none_held, declared.step.Step.Step}
+use Rattle.csicodec_looks.specs.{declared.look.Look.Look, Look.behind, declared.marking.Marking.Marking, Paint.turn, declared.step.Step.Step}
+use Rattle.csicodec_overwrite.specs.Stream.{Reads, none_held}
+use Rattle.csicodec_actions.specs.Ranges.{ColorInRange}
 
 -- a step that does no more than to set how characters look, where nothing stands right of the cursor
 abbrev pub IsLook : Look → Step → Look → Type 0
@@ -21,3 +22,9 @@ Sets bytes look after = (steps : List Step) × Reads none_held bytes steps none_
 -- they turn text of one look into text of another, and this is written for it
 abbrev pub Turned : Marking → List ℕ → Look → Look → List ℕ → Type 0
 Turned marking bytes old new tags = Sets bytes old new × (tags ≡ turn marking old new)
+
+-- ---- the sequence of a look
+
+-- its numbers are bytes
+abbrev pub IsInRange : Look → Type 0
+IsInRange l = ColorInRange l.line × ColorInRange l.foreground × ColorInRange l.background

@@ -1,20 +1,27 @@
 //! The front of a line that is written as it comes: text of ASCII, and sequences that do no more than to set how it looks.
 ghost use Rattle.std.specs.{Prelude.◌≡◌, Prelude.◌<◌, Prelude.◌≤◌, Prelude.◌++◌, Prelude.false, Prelude.true, Prelude.length, Prelude.IfOk, Prelude.OnOk};
 ghost use Rattle.std.specs.{List.AllByRecursion};
-ghost use Rattle.csicodec_html.specs.Turns.{AreTurns};
-ghost use Rattle.csicodec_overwrite.specs.{Paint.turn, Turned.AreLooks, Turned.Sets, Turned.Turned, Private.Front.IsStyled, Private.Front.IsTurned};
-ghost use Rattle.csicodec_overwrite.specs.{Private.Front.IsWritten, Private.Front.last_of_run, Private.Front.run_text, Private.Plain.IsLineByte, Stream.none_held};
+ghost use Rattle.csicodec_looks.specs.{Turns.AreTurns, Paint.turn, Plain.IsLineByte};
+ghost use Rattle.csicodec_overwrite.specs.{Turned.AreLooks, Turned.Sets, Turned.Turned, Private.Front.IsStyled, Private.Front.IsTurned, Private.Front.IsWritten};
+ghost use Rattle.csicodec_overwrite.specs.{Private.Front.last_of_run, Private.Front.run_text, Stream.none_held};
 
-use crate::ascii::{InLine, style_len};
-use crate::marking::Marking;
-use crate::paint::{append_ascii, append_turn};
-use crate::pen::Pen;
 use crate::reader::Reader;
-use crate::step::Step;
-use csicodec_clean::split_front;
-use csicodec_html::{InFront, Look, Turns};
+use csicodec_looks::paint::{append_ascii, append_turn};
+use csicodec_looks::{
+    InFront, InLine, Look, Marking, Pen, Step, Turning, Turns, split_front, style_len,
+};
 use csicodec_spans::LIMIT;
 use std::alloc::AllocError;
+
+/// What control sequences turn where lines are written so.
+#[derive(Drop)]
+pub(crate) struct Turner<'a>(pub(crate) &'a Marking);
+
+impl Turning for Turner<'_> {
+    ghost use Rattle.csicodec_overwrite.specs.Turned.{Turned};
+
+    ghost turns = { λ by. Turned by.0.now };
+}
 
 /// Whether steps do no more than to set how characters look, where nothing stands right of the cursor; they look so then. Where one does
 /// more, characters look as before.
@@ -132,7 +139,7 @@ fn append_even(
         least: len,
         most: len,
     };
-    if turns.recall(marking, &mut front.now, known, out)? > 0 {
+    if turns.recall(&Turner(marking), &mut front.now, known, out)? > 0 {
         front.last = front.now;
         return Ok(true);
     }
@@ -142,7 +149,7 @@ fn append_even(
     }
     append_turn(marking, &front.last, &front.now, out)?;
     let tags = out.split_at(before).1;
-    turns.keep(marking, sequence, front.last, front.now, tags)?;
+    turns.keep(&Turner(marking), sequence, front.last, front.now, tags)?;
     front.last = front.now;
     Ok(true)
 }

@@ -1,12 +1,14 @@
 //! Laws of the definitions. Each is the contract of a function that does nothing.
-ghost use Rattle.std.specs.Prelude.{◌≡◌, ◌≤◌, ℕ, List};
+ghost use Rattle.std.specs.Prelude.{◌≡◌, ℕ, List};
 ghost use Rattle.csicodec_actions.specs.Actions.{Action};
 ghost use Rattle.csicodec_terminal.specs.Terminal.{IsTakenFor};
-ghost use Rattle.csicodec_clean.specs.{Cleaned.Strips, Cleaned.longest, Shown.IsPlain, Styled.IsOf};
-ghost use Rattle.csicodec_html.specs.{declared.look.Look.Look, declared.markup.Markup.Markup, Look.behind_all, Page.PageWith};
-ghost use Rattle.csicodec_overwrite.specs.{declared.marking.Marking.Marking, Lost.NothingLost, Lost.NothingMade, declared.pen.Pen.Pen, Paint.IsInRange};
-ghost use Rattle.csicodec_overwrite.specs.{Paint.look_text, Stream.AnyChunks, declared.step.Step.Step, Line.HasRoom, Line.blank, Line.do_all, Line.size};
-ghost use Rattle.csicodec_overwrite.specs.{Reading.Overwrites, Reading.Pages, Reading.Paints, Reading.Shows, Reading.most};
+ghost use Rattle.csicodec_clean.specs.{Cleaned.Strips, Cleaned.longest, Shown.IsPlain, Styled.IsOf, Page.behind_all, Page.PageWith};
+ghost use Rattle.csicodec_looks.specs.{declared.look.Look.Look, declared.markup.Markup.Markup, declared.marking.Marking.Marking, Paint.look_text, Line.HasRoom};
+ghost use Rattle.csicodec_looks.specs.{Line.blank, Line.most};
+ghost use Rattle.csicodec_overwrite.specs.{Lost.NothingLost, Lost.NothingMade, Turned.IsInRange, Stream.AnyChunks, Reading.Overwrites, Reading.Pages, Reading.Paints};
+ghost use Rattle.csicodec_overwrite.specs.{Reading.Shows};
+
+pub use csicodec_looks::laws::bounded;
 
 /// What is written has no control but newlines and tabs, as what `strip` writes.
 pub fn plain()
@@ -48,12 +50,6 @@ pub fn looks_back()
     ensures { (old look : Look) → IsInRange look
         → (actions : List Action) × IsOf (look_text look) actions
         × IsTakenFor (look_text look) actions × (behind_all old actions ≡ look) }
-{}
-
-/// The line that isn't over never holds more than 65,536 cells, whatever comes.
-#[tactic(auto, using(crate::proofs::Rows::all_size))]
-pub fn bounded()
-    ensures { (pen : Pen) (steps : List Step) → size (do_all most pen steps blank).line ≤ most }
 {}
 
 /// Nothing is lost. But for tabs and newlines, each character that `strip` leaves of the bytes is in the text, or was overwritten,

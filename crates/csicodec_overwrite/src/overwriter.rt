@@ -1,18 +1,14 @@
 //! A stream of which each line is overwritten, as it comes.
 ghost use Rattle.std.specs.Prelude.{◌≡◌, ◌≤◌, ◌<◌, ◌++◌, ℕ, List, OnOk, IfNone, IfOk, IfSome, false, length, true};
-ghost use Rattle.csicodec_overwrite.specs.{Line.blank, declared.marking.Marking.TheVariants.Styled, Private.Seen.PassesFront, Stream.Ending, Stream.Passes};
-ghost use Rattle.csicodec_overwrite.specs.{Stream.begun, Stream.begun_as, Stream.none_held};
+ghost use Rattle.csicodec_looks.specs.{Line.blank, declared.marking.Marking.TheVariants.Styled};
+ghost use Rattle.csicodec_overwrite.specs.{Private.Seen.PassesFront, Stream.Ending, Stream.Passes, Stream.begun, Stream.begun_as, Stream.none_held};
 
-use crate::ascii::{InLine, behind_end, odd_len, split_lines};
-use crate::front::append_front;
-use crate::marking::Marking;
-use crate::paint::{append_ascii, append_turn};
-use crate::pen::Pen;
+use crate::front::{Turner, append_front};
 use crate::reader::Reader;
-use crate::row::Row;
-use crate::step::Step;
-use csicodec_clean::split_front;
-use csicodec_html::{Look, Turns};
+use csicodec_looks::paint::{append_ascii, append_turn};
+use csicodec_looks::{
+    InLine, Look, Marking, Pen, Row, Step, Turns, behind_end, odd_len, split_front, split_lines,
+};
 use csicodec_spans::LIMIT;
 use csicodec_transform::Transform;
 use std::alloc::{AllocError, Global};
@@ -48,7 +44,7 @@ pub struct Overwriter {
 
 impl Model for Overwriter {
     ghost use Rattle.csicodec_overwrite.specs.{Stream.Now, Turned.Turned};
-    ghost use Rattle.csicodec_html.specs.Turns.{AreTurns};
+    ghost use Rattle.csicodec_looks.specs.Turns.{AreTurns};
 
     ghost Value = { Now };
 
@@ -84,7 +80,7 @@ impl Overwriter {
             steps: Vec::new(alloc),
             crooked: usize::MAX,
             missed: 0,
-            turns: Turns::new(alloc, &marking),
+            turns: Turns::new(alloc, &Turner(&marking)),
         }
     }
 

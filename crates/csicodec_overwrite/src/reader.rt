@@ -6,11 +6,11 @@ ghost use Rattle.csicodec_clean.specs.{Cleaned.longest, Titles.read_as, Titles.t
 ghost use Rattle.csicodec_overwrite.specs.{Private.Spans.GoesTo, Private.Spans.IsGiven, Stream.Reads, Stream.none_held, Steps.of_run};
 
 use crate::seen::Seen;
-use crate::step::Step;
 use crate::text::{append_actions, append_by_escape, append_escape, append_run, append_text};
-use csicodec::CSI;
 use csicodec_base::CsiParam;
 use csicodec_clean::{read_as, title_behind};
+use csicodec_looks::Step;
+use csicodec_parser::CSI;
 use csicodec_spans::{Cutter, Kind, LIMIT, Mode, Waiting};
 use csicodec_terminal::terminal_actions_into;
 use csicodec_tokens::Count;

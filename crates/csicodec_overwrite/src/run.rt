@@ -1,12 +1,10 @@
 //! A stream from a reader to a writer, each line as it stands when it ends, as text or as a page of HTML.
 ghost use Rattle.std.specs.{Prelude.◌++◌, Prelude.ℕ, Prelude.List, Prelude.OnErr, Prelude.OnOk, Io.KnownBytes.Appends, Io.KnownBytes.Consumes, Io.KnownBytes.IsAtEnd};
-ghost use Rattle.csicodec_clean.specs.{Shown.IsPlain, Streams.StreamsOne};
-ghost use Rattle.csicodec_html.specs.Page.{IsPageWith, PageWith};
+ghost use Rattle.csicodec_clean.specs.{Shown.IsPlain, Streams.StreamsOne, Page.IsPageWith, Page.PageWith};
 ghost use Rattle.csicodec_overwrite.specs.Reading.{Overwrites, Paints};
 
-use crate::marking::Marking;
 use crate::overwriter::Overwriter;
-use csicodec_html::Markup;
+use csicodec_looks::{Marking, Markup};
 use csicodec_transform::{RunError, transform_all};
 use std::alloc::Global;
 use std::io::{Read, Write};

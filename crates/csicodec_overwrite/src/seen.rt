@@ -2,7 +2,7 @@
 ghost use Rattle.std.specs.Prelude.{IfSome};
 ghost use Rattle.csicodec_overwrite.specs.{Private.Seen.AreSlices, Private.Seen.IsSlice, Stream.Reads, Stream.none_held};
 
-use crate::step::Step;
+use csicodec_looks::Step;
 use std::alloc::{AllocError, Global};
 use std::mem::swap;
 

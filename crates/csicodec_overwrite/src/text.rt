@@ -4,16 +4,15 @@ ghost use Rattle.std.specs.{Prelude.IfOk, List.flat_map, List.list_any};
 ghost use Rattle.csicodec_actions.specs.{Actions.Device as OfDevice, Devices.device_of};
 ghost use Rattle.csicodec_parser.specs.ActionOf.{action_of};
 ghost use Rattle.csicodec_clean.specs.Shown.{IsCut, IsRead};
-ghost use Rattle.csicodec_overwrite.specs.Steps.{as_far, by_code, by_escape, is_mark, may_move, of_action, of_actions, of_char, of_chars, of_code, of_cursor, of_edit, of_escape, of_final, of_mode, of_run, stops, switched};
+ghost use Rattle.csicodec_overwrite.specs.Steps.{as_far, by_code, by_escape, is_mark, may_move, of_action, of_actions, of_code, of_cursor, of_edit, of_escape, of_final, of_mode, of_run, stops, switched};
 ghost use Rattle.csicodec_overwrite.specs.Private.Spans.{if_some};
+ghost use Rattle.csicodec_looks.specs.Steps.{of_chars};
 
-use crate::step::{Step, WIDEST};
-use csicodec::{
-    CSI, Cursor, DecPrivateMode, DecPrivateModeCode, Device, Edit, EraseInDisplay, EraseInLine,
-    Mode, TerminalMode, TerminalModeCode,
-};
-use csicodec_base::CsiParam;
+use csicodec_actions::{Cursor, DecPrivateMode, Device, Edit, Mode, TerminalMode};
+use csicodec_base::{CsiParam, DecPrivateModeCode, EraseInDisplay, EraseInLine, TerminalModeCode};
 use csicodec_clean::first_sure;
+use csicodec_looks::{Step, WIDEST, char_step};
+use csicodec_parser::CSI;
 use csicodec_transform::keep_from;
 use std::alloc::AllocError;
 
@@ -50,22 +49,6 @@ fn append_both(both: Both, steps: &mut Vec<Step>) -> Result<(), AllocError>
 {
     append_some(both.0, steps)?;
     append_some(both.1, steps)
-}
-
-/// What a character does.
-pub(crate) fn char_step(char: char) -> Step
-    ensures { of_char char ≡ result ∷ [] }
-{
-    match char {
-        '\n' => Step::NewLine,
-        '\r' => Step::Column(1),
-        '\u{8}' => Step::Left(1),
-        '\t' => Step::Tab,
-        '\u{b}' | '\u{c}' | '\u{84}' | '\u{8d}' | '\u{9b}' => Step::Leave(None),
-        '\u{85}' => Step::Leave(Some(1)),
-        '\0'..='\u{1f}' | '\u{7f}'..='\u{9f}' => Step::Other,
-        _ => Step::Put(char),
-    }
 }
 
 /// What an escape sequence without an intermediate byte does.

@@ -124,17 +124,13 @@ impl CSI {
             CSI::Cursor(cursor) => CSI::Cursor(*cursor),
             CSI::Edit(edit) => CSI::Edit(*edit),
             CSI::Mode(mode) => CSI::Mode(*mode),
-            CSI::Device(device) => {
-                let copy = (**device).clone(alloc)?;
-                CSI::Device(Box::new(alloc, copy)?)
-            }
+            CSI::Device(device) => return CSI::from_device(alloc, (**device).clone(alloc)?),
             CSI::Mouse(mouse) => CSI::Mouse(*mouse),
-            CSI::Window(window) => CSI::Window(Box::new(alloc, **window)?),
+            CSI::Window(window) => return CSI::from_window(alloc, **window),
             CSI::Keyboard(keyboard) => CSI::Keyboard(*keyboard),
             CSI::SelectCharacterPath(path, effect) => CSI::SelectCharacterPath(*path, *effect),
             CSI::Unspecified(unspecified) => {
-                let copy = (**unspecified).clone(alloc)?;
-                CSI::Unspecified(Box::new(alloc, copy)?)
+                return CSI::from_unspecified(alloc, (**unspecified).clone(alloc)?);
             }
         })
     }

@@ -5,6 +5,7 @@
 mod actions;
 mod canonical;
 mod group;
+pub mod laws;
 mod list;
 mod look;
 mod parser;
@@ -14,7 +15,7 @@ mod xtsmgraphics;
 
 pub use actions::{CSI, Unspecified, append_text};
 pub use group::Group;
-pub use list::list_into;
+pub use list::{list_into, parse_all, parse_all_over, parse_into};
 pub use look::Look;
 pub use parser::{ActionRef, CSIParser, Run};
 pub use sink::{Sink, Texts};

@@ -1,14 +1,15 @@
-//! All actions of one parameter list, into a sink. They are those of the parser, without an iterator between.
+//! All actions of one parameter list, into a sink or a list. They are those of the parser, without an iterator between.
 ghost use Rattle.csicodec_parser.specs.Common.{[], List, length, drop, None, Some, IfOk, IfSome, OnOk, Action, Unknown, Whole};
-ghost use Rattle.csicodec_parser.specs.{Groups.group as group_of_list, Groups.marked, Segments.Actions, Private.Steps.actions, Private.Steps.front};
-ghost use Rattle.csicodec_parser.specs.{Private.Steps.rest_action};
-ghost use Rattle.std.specs.Prelude.{◌≡◌, ◌<◌, ◌≤◌, ◌+◌, ◌*◌, ◌∷◌, ◌++◌};
+ghost use Rattle.csicodec_parser.specs.{ActionOf.action_of, Groups.group as group_of_list, Groups.marked, Segments.Actions, Private.Steps.actions};
+ghost use Rattle.csicodec_parser.specs.{Private.Steps.front, Private.Steps.rest_action};
+ghost use Rattle.std.specs.Prelude.{◌≡◌, ◌<◌, ◌≤◌, ◌+◌, ◌*◌, ◌∷◌, ◌++◌, map};
 
 use crate::actions::{CSI, boxed_action};
 use crate::group::Group;
 use crate::look::Look;
 use crate::parser::{End, LONGEST, group_of, has_odd, pass_piece, whole_list};
 use crate::sink::Sink;
+use crate::tokens::Tokens;
 use csicodec_base::{CsiParam, Sgr};
 use std::alloc::{AllocError, Global};
 
@@ -43,6 +44,66 @@ pub fn list_into<L: Look, S: Sink>(
         Group::Styles => pieces_into(Group::Styles, look, end, sink),
         group => pieces_into(group, look, end, sink),
     }
+}
+
+/// The actions of one parameter list, into a sink.
+#[inline(always)]
+pub fn parse_into<S: Sink>(
+    alloc: Global,
+    params: &[CsiParam],
+    parameters_truncated: bool,
+    control: char,
+    sink: &mut S,
+) -> Result<(), AllocError>
+    ensures { OnOk result ((before : List Action) → S.holds sink.old before →
+        (all : List Action) × Actions params.now parameters_truncated control all
+        × S.holds sink.new (before ++ all)) }
+{
+    let mut tokens = Tokens::new(params);
+    list_into(alloc, &mut tokens, parameters_truncated, control, sink)
+}
+
+/// All actions of one parameter list before its final character.
+///
+/// ```text
+/// let read = read_csi(alloc, b"\x1b[1;31m")?;
+/// parse_all(alloc, &read.params, false, read.control)?     // Intensity(Bold), Foreground(PaletteIndex(1))
+/// ```
+pub fn parse_all(
+    alloc: Global,
+    params: &[CsiParam],
+    parameters_truncated: bool,
+    control: char,
+) -> Result<Vec<CSI>, AllocError>
+    ensures { IfOk result (λ all.
+        Actions params.now parameters_truncated control (map action_of all.items)) }
+{
+    parse_all_over(
+        alloc,
+        &mut Tokens::new(params),
+        parameters_truncated,
+        control,
+    )
+}
+
+/// All actions of any list of tokens of which none is passed yet, before its final character. The looks at
+/// its tokens are counted: at most 128 × (length + 1).
+pub fn parse_all_over<L: Look>(
+    alloc: Global,
+    look: &mut L,
+    parameters_truncated: bool,
+    control: char,
+) -> Result<Vec<CSI>, AllocError>
+    requires { L.passed look.old ≡ 0 }
+    ensures all { IfOk result (λ all.
+        Actions (L.tokens look.old) parameters_truncated control (map action_of all.items)) }
+    ensures list { L.tokens look.new ≡ L.tokens look.old }
+    ensures counted { L.looks look.old ≤ L.looks look.new }
+    ensures cheap { L.looks look.new ≤ L.looks look.old + 128 * (length (L.tokens look.old) + 1) }
+{
+    let mut all = Vec::new(alloc);
+    list_into(alloc, look, parameters_truncated, control, &mut all)?;
+    Ok(all)
 }
 
 /// The action of a list that is read whole, where it takes memory: that of a row, or an unknown one.

@@ -163,35 +163,37 @@ fn cut_block<L: Look>(group: Group, look: &mut L) -> Option<CSI>
     Some(action)
 }
 
-/// All unread tokens as one unknown action, with what stands before the pieces of the group ahead of them. They are
-/// passed, unless memory is refused.
-fn unspecified<L: Look>(group: Group, look: &mut L, end: End) -> Result<CSI, AllocError>
-    requires { L.passed look.old ≤ length (L.tokens look.old) }
-    ensures ok { IfOk result (λ action.
-        action_of action
-        ≡ Unknown (marked group (drop (L.passed look.old) (L.tokens look.old))) end.truncated end.control) }
-    ensures all { OnOk result (L.passed look.new ≡ length (L.tokens look.new)) }
-    ensures list { L.tokens look.new ≡ L.tokens look.old }
-    ensures within { L.passed look.new ≤ length (L.tokens look.new) }
-    ensures counted { L.looks look.old ≤ L.looks look.new }
-    ensures costs { L.looks look.new + 2 * L.passed look.old
-        ≤ L.looks look.old + 2 * length (L.tokens look.old) }
+/// The unknown action of these tokens, with what stands before the pieces of the group ahead of them.
+pub(crate) fn unknown_action(group: Group, rest: &[CsiParam], end: End) -> Result<CSI, AllocError>
+    ensures { IfOk result (λ action.
+        action_of action ≡ Unknown (marked group rest.now) end.truncated end.control) }
 {
     let mut params = group.front_tokens(end.alloc)?;
-    look.copy_to(&mut params)?;
+    params.extend_from_slice(rest)?;
     let control = end.control;
     let unspecified = Unspecified {
         params,
         parameters_truncated: end.truncated,
         control,
     };
-    let action = CSI::from_unspecified(end.alloc, unspecified)?;
-    look.pass(look.len());
-    Ok(action)
+    CSI::from_unspecified(end.alloc, unspecified)
 }
 
-/// The action of all unread tokens, where it takes memory: that of a row of lists that are read whole, or an unknown one.
-/// They are passed, unless memory is refused.
+/// The action of what is left of a list, where it takes memory: that of a row of lists that are read whole, or an unknown one.
+fn unread_action(group: Group, rest: &[CsiParam], end: End) -> Result<CSI, AllocError>
+    ensures { IfOk result (λ action.
+        action_of action ≡ rest_action group rest.now end.truncated end.control) }
+{
+    match group {
+        Group::Whole => match boxed_action(end.alloc, rest, end.control)? {
+            Some(action) => Ok(action),
+            None => unknown_action(Group::Whole, rest, end),
+        },
+        _ => unknown_action(group, rest, end),
+    }
+}
+
+/// The same of all unread tokens. They are passed, unless memory is refused.
 fn left_action<L: Look>(group: Group, look: &mut L, end: End) -> Result<CSI, AllocError>
     requires { L.passed look.old ≤ length (L.tokens look.old) }
     ensures ok { IfOk result (λ action.
@@ -204,17 +206,10 @@ fn left_action<L: Look>(group: Group, look: &mut L, end: End) -> Result<CSI, All
     ensures costs { L.looks look.new + 10 * L.passed look.old
         ≤ L.looks look.old + 10 * length (L.tokens look.old) }
 {
-    if let Group::Whole = group {
-        let len = look.len();
-        return match boxed_action(end.alloc, look.lend(0, len), end.control)? {
-            Some(action) => {
-                look.pass(len);
-                Ok(action)
-            }
-            None => unspecified(group, look, end),
-        };
-    }
-    unspecified(group, look, end)
+    let len = look.len();
+    let action = unread_action(group, look.lend(0, len), end)?;
+    look.pass(len);
+    Ok(action)
 }
 
 /// An action that takes memory, in its box. A call answers it in registers, so that a caller whose other actions take none

@@ -5,8 +5,9 @@ ghost use Rattle.csicodec_actions.specs.{Actions.Sgr as Styled, Table.texts};
 ghost use Rattle.csicodec_parser.specs.Common.{Bool, List, [], None, Some, true, false, length, ℕ, IfOk, IfSome, OnOk, encode_utf8, Action, Unknown, text, Styles};
 ghost use Rattle.csicodec_parser.specs.{ActionOf.action_of, Cut.IsStuck, Groups.Piece, Groups.marked};
 
-use crate::actions::{CSI, Unspecified, append_text};
+use crate::actions::{CSI, append_text};
 use crate::group::{self, Group, style_front};
+use crate::parser::{End, unknown_action};
 use csicodec_base::{CsiParam, Sgr, Text, TextBuffer, append_code};
 use std::alloc::{AllocError, Global};
 use std::io::Write;
@@ -88,14 +89,12 @@ impl Sink for Vec<CSI> {
         truncated: bool,
         control: char,
     ) -> Result<(), AllocError> {
-        let mut params = group.front_tokens(alloc)?;
-        params.extend_from_slice(rest)?;
-        let unspecified = Unspecified {
-            params,
-            parameters_truncated: truncated,
+        let end = End {
+            alloc,
+            truncated,
             control,
         };
-        self.take(CSI::from_unspecified(alloc, unspecified)?)
+        self.take(unknown_action(group, rest, end)?)
     }
 }
 

@@ -1,2 +1,9 @@
 pub mod OneReading
 pub mod Colors
+pub mod Common
+pub mod RowGroups
+pub mod SgrSpelling
+pub mod Parsed
+pub mod Kept
+pub mod Exactly
+pub mod Compose

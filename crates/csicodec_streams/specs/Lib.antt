@@ -2,4 +2,11 @@ pub mod Decoding
 pub mod Refusals
 pub mod Known
 pub mod Colors
+pub mod Compose
+pub mod Exact
+pub mod Faithful
+pub mod RoundTrip
+pub mod Streams
+pub mod Suffix
+pub mod WhichRules
 pub mod Private

@@ -1,5 +1,5 @@
 //! Bytes to actions.
-ghost use Rattle.std.specs.Prelude.{◌≡◌, ◌++◌, ◌+◌, ◌*◌, ◌≤◌, List, Option, [], map, false, length, OnErr, OnOk, IfOk, IfErr};
+ghost use Rattle.std.specs.Prelude.{◌≡◌, ◌++◌, ◌≤◌, List, Option, [], map, false, length, OnErr, OnOk, IfOk, IfErr};
 ghost use Rattle.csicodec_transform.specs.declared.error.DecodeError.TheVariants.{Memory};
 ghost use Rattle.csicodec_actions.specs.{Actions.Action, Table.texts};
 ghost use Rattle.csicodec_parser.specs.{ActionOf.action_of, Segments.Actions};
@@ -8,29 +8,12 @@ ghost use Rattle.csicodec_streams.specs.{Refusals.RefusesDecode, Refusals.refusa
 
 use crate::color::read_colors;
 use csicodec_base::{CsiParam, ReadError, Sgr, read_csi_into, read_csi_within};
-use csicodec_parser::{CSI, Look, Sink, Texts, Tokens, list_into};
+use csicodec_parser::{CSI, Sink, Texts, Tokens, list_into};
 use csicodec_transform::DecodeError;
 use std::alloc::{AllocError, Global};
 
 /// Lists of at most so many tokens are read onto the stack, and longer ones into memory.
 const SHORT: usize = 32;
-
-/// The actions of one parameter list, into a sink.
-#[inline(always)]
-pub fn parse_into<S: Sink>(
-    alloc: Global,
-    params: &[CsiParam],
-    parameters_truncated: bool,
-    control: char,
-    sink: &mut S,
-) -> Result<(), AllocError>
-    ensures { OnOk result ((before : List Action) → S.holds sink.old before →
-        (actions : List Action) × Actions params.now parameters_truncated control actions
-        × S.holds sink.new (before ++ actions)) }
-{
-    let mut tokens = Tokens::new(params);
-    list_into(alloc, &mut tokens, parameters_truncated, control, sink)
-}
 
 /// The refusal of the sequence that begins at `start`.
 pub(crate) fn refusal_at(start: usize, error: ReadError) -> DecodeError
@@ -147,49 +130,6 @@ fn decode_into<S: Sink>(
         None => Ok(()),
         Some(error) => Err(refusal_at(bytes.len() - behind.rest.len(), error)),
     }
-}
-
-/// All actions of one parameter list before its final character.
-///
-/// ```text
-/// let read = read_csi(alloc, b"\x1b[1;31m")?;
-/// parse_all(alloc, &read.params, false, read.control)?     // Intensity(Bold), Foreground(PaletteIndex(1))
-/// ```
-pub fn parse_all(
-    alloc: Global,
-    params: &[CsiParam],
-    parameters_truncated: bool,
-    control: char,
-) -> Result<Vec<CSI>, AllocError>
-    ensures { IfOk result (λ all.
-        Actions params.now parameters_truncated control (map action_of all.items)) }
-{
-    parse_all_over(
-        alloc,
-        &mut Tokens::new(params),
-        parameters_truncated,
-        control,
-    )
-}
-
-/// All actions of any list of tokens of which none is passed yet, before its final character. The looks at
-/// its tokens are counted: at most 128 × (length + 1).
-pub fn parse_all_over<L: Look>(
-    alloc: Global,
-    look: &mut L,
-    parameters_truncated: bool,
-    control: char,
-) -> Result<Vec<CSI>, AllocError>
-    requires { L.passed look.old ≡ 0 }
-    ensures all { IfOk result (λ all.
-        Actions (L.tokens look.old) parameters_truncated control (map action_of all.items)) }
-    ensures list { L.tokens look.new ≡ L.tokens look.old }
-    ensures counted { L.looks look.old ≤ L.looks look.new }
-    ensures cheap { L.looks look.new ≤ L.looks look.old + 128 * (length (L.tokens look.old) + 1) }
-{
-    let mut all = Vec::new(alloc);
-    list_into(alloc, look, parameters_truncated, control, &mut all)?;
-    Ok(all)
 }
 
 /// All actions of the bytes, which are sequences one after the other, in order; each is parsed with the flag.

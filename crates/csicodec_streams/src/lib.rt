@@ -10,7 +10,7 @@ mod stream;
 mod texts;
 
 pub use color::{color_text, read_color, take_simple};
-pub use decode::{decode_all, normal_form, parse_all, parse_all_over, parse_into};
+pub use decode::{decode_all, normal_form};
 pub use normal::Normal;
 pub use position::{append_front, position_len};
 pub use stream::normalise;

@@ -13,7 +13,7 @@ use Rattle.csicodec_actions.specs.{Table.Mouse.written_report, declared.cursor.C
 use Rattle.csicodec_actions.specs.{declared.window.Window.Window, declared.mouse.MouseReport.MouseReport}
 use Rattle.csicodec_names.specs.declared.flags.Modifiers.{Modifiers}
 use Rattle.csicodec_parser.specs.{Canonical.Canonical, Segments.Actions}
-use Rattle.csicodec.proofs.{Kept.Kept, Kept.IsParsedSpecial, Parsed.parsed-kept}
+use Rattle.csicodec_streams.proofs.{Kept.Kept, Kept.IsParsedSpecial, Parsed.parsed-kept}
 use Rattle.csicodec_structs.proofs.ModeNumbers.{dec-fits, terminal-fits}
 use Rattle.csicodec_structs.specs.Structs.{AttributeInRange, IsNamedAttribute, IsNamedDec, IsNamedItem, IsNamedTerminal, TokenInRange}
 use Rattle.csicodec_structs.specs.Rows.{InRange, IsNamed}

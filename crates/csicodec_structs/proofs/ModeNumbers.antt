@@ -1,21 +1,24 @@
 -- What a mode's number is read as has this number, and is by its name.
 use Rattle.std.proofs.Common.{◌≡◌, ℕ, ◌<◌, List, Option, None, Some, refl, sym, ap, ◌∙◌, inl, inr, arith, pos, nat_lt}
-use Rattle.std.proofs.{lemmas.Bool.cases_Bool, lemmas.Bool.false≢true, lemmas.Bool.lt-ltb, lemmas.Bool.ltb-true, lemmas.Int.to_z-of_z}
-use Rattle.std.specs.{Prelude.ℤ, Prelude.negsuc, Int.FitsUnsignedBits}
-use mir.{Syntax.w64, Val.SFits, Val.of_z, Val.to_z}
+use Rattle.std.proofs.lemmas.Bool.{cases_Bool, false≢true, lt-ltb, ltb-true}
+use Rattle.std.specs.{Prelude.ℤ, Prelude.⊤, Prelude.negsuc, Prelude.nat_abs, Prelude.MatchOption, Int.FitsUnsignedBits}
 use Rattle.csicodec_names.proofs.Coded.{Coded, decs, listed-number, small, terminals}
 use Rattle.csicodec_names.specs.{ModeNumbers.dec_mode_number, ModeNumbers.dec_codes, ModeNumbers.terminal_mode_number, ModeNumbers.terminal_codes}
 use Rattle.csicodec_names.specs.{Numbered.with_number, declared.modes.DecPrivateModeCode.DecPrivateModeCode, declared.modes.TerminalModeCode.TerminalModeCode}
 use Rattle.csicodec_actions.specs.{declared.mode.DecPrivateMode.DecPrivateMode, declared.mode.TerminalMode.TerminalMode, Kinds.Dec, Kinds.Terminal}
 use Rattle.csicodec_actions.specs.{Kinds.code_or, Kinds.read, Kinds.short, Modes.dec_number, Modes.terminal_number}
-use Rattle.csicodec_structs.specs.{Private.Steps.Reads, Private.Steps.ReadsNamed, Structs.IsNamedDec, Structs.IsNamedTerminal}
+use Rattle.csicodec_structs.specs.Structs.{IsNamedDec, IsNamedTerminal}
 use Rattle.csicodec_actions.proofs.Values.{dec-numbered, read-good, terminal-numbered}
 use Rattle.csicodec_structs.proofs.OneValue.{none-has}
 
+-- what has this number and is by its name, and none where there can be none
+abbrev ReadsNamed : {A : Type 0} → (A → ℕ) → (A → Type 0) → (ℤ → Type 0) → ℤ → Option A → Type 0
+ReadsNamed number Named Fits z found = MatchOption found (¬ Fits z) (λ a. (z ≡ pos (number a)) × Fits (pos (number a)) × Named a)
+
 -- a number of 16 bits is itself
-short-reads : (z : ℤ) → Reads (λ n. n) (FitsUnsignedBits 16) z (short z)
+short-reads : (z : ℤ) → ReadsNamed (λ n. n) (λ n. ⊤) (FitsUnsignedBits 16) z (short z)
 short-reads (pos n) = elim (cases_Bool (nat_lt n 65536)) [
-  | inl low ↦ rw low (refl, ltb-true n 65536 low)
+  | inl low ↦ rw low (refl, ltb-true n 65536 low, tt)
   | inr high ↦ rw high (λ fits. false≢true (sym high ∙ lt-ltb n 65536 fits))
 ]
 short-reads (negsuc n) = λ fits. fits
@@ -27,7 +30,7 @@ code-reads : {C M : Type 0} (code_number : C → ℕ) (all : List C) → Coded c
     → ReadsNamed number Named (FitsUnsignedBits 16) z (code_or coded own (with_number code_number all z) (short z))
 code-reads code_number all is coded own number Named z by_code by_self fits named_code named_own = go (with_number code_number all z) (short z) refl (short-reads z)
   where
-    go : (found : Option _) (n : Option ℕ) → with_number code_number all z ≡ found → Reads (λ n. n) (FitsUnsignedBits 16) z n
+    go : (found : Option _) (n : Option ℕ) → with_number code_number all z ≡ found → ReadsNamed (λ n. n) (λ n. ⊤) (FitsUnsignedBits 16) z n
         → ReadsNamed number Named (FitsUnsignedBits 16) z (code_or coded own found n)
     go (Some c) n found short = rw (by_code c) (listed-number code_number all z c found, fits c, named_code c)
     go None (Some n) none short = rw (by_self n) (short.0, short.1, named_own n (λ c same. none-has code_number all is z none c (short.0 ∙ ap pos same)))
@@ -49,12 +52,12 @@ terminal-reads z =
     code-reads terminal_mode_number terminal_codes terminals (λ c. TerminalMode.Code c) (λ n. TerminalMode.Unspecified n) terminal_number IsNamedTerminal z
     (λ c. refl) (λ n. refl) terminal-fits (λ c. tt) (λ n h. h)
 
--- so of a number as it is passed
-pub dec_reads : (z : ℤ) (o : Option DecPrivateMode) → SFits w64 z → o ≡ read Dec (to_z w64 (of_z w64 z)) → ReadsNamed dec_number IsNamedDec (FitsUnsignedBits 16) z o
-dec_reads z o fits is = rw (is, to_z-of_z w64 z fits) (dec-reads z)
+-- so of a number of 16 bits
+pub dec_read : (n : ℕ) (m : DecPrivateMode) → Some m ≡ read Dec (pos n) → (dec_number m ≡ n) × FitsUnsignedBits 16 (pos (dec_number m)) × IsNamedDec m
+dec_read n m is = (let reads = rw (sym is) at (dec-reads (pos n)) in (sym (ap nat_abs reads.0), reads.1, reads.2))
 
-pub terminal_reads : (z : ℤ) (o : Option TerminalMode) → SFits w64 z → o ≡ read Terminal (to_z w64 (of_z w64 z)) → ReadsNamed terminal_number IsNamedTerminal (FitsUnsignedBits 16) z o
-terminal_reads z o fits is = rw (is, to_z-of_z w64 z fits) (terminal-reads z)
+pub terminal_read : (n : ℕ) (m : TerminalMode) → Some m ≡ read Terminal (pos n) → (terminal_number m ≡ n) × FitsUnsignedBits 16 (pos (terminal_number m)) × IsNamedTerminal m
+terminal_read n m is = (let reads = rw (sym is) at (terminal-reads (pos n)) in (sym (ap nat_abs reads.0), reads.1, reads.2))
 
 -- a mode by its name is read back from its number
 pub dec-back : (m : DecPrivateMode) → IsNamedDec m → dec_number m < 65536 → read Dec (pos (dec_number m)) ≡ Some m

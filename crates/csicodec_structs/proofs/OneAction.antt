@@ -14,7 +14,7 @@ use Rattle.csicodec_actions.proofs.Values.{read-good}
 use Rattle.csicodec_structs.specs.Rows.{InRange, IsNamed, IsNamedMode, ModeInRange, mode_struct, params_of, struct_of}
 use Rattle.csicodec_structs.specs.Structs.{align_number, blink_number, button_number, intensity_number, underline_number}
 use Rattle.csicodec_structs.specs.{declared.structs.Param.Param, declared.structs.Struct.Struct}
-use Rattle.csicodec_structs.proofs.OneValue.{ByName, attribute_at, attributes-back, attributes-named, color_at, first_at, font-back, font_at, item-back, item-named, second_at, token_at, tokens-back, value_at, values-back}
+use Rattle.csicodec_structs.proofs.OneValue.{ByName, attribute_at, attributes-back, attributes-named, color_at, first_at, font-back, font_at, item-back, item_named, second_at, token_at, tokens-back, value_at, values-back}
 use Rattle.csicodec_structs.proofs.ModeNumbers.{dec-back, dec-named, terminal-back, terminal-named}
 use Rattle.csicodec_names.specs.declared.color.ColorSpec.TheVariants as color
 use Rattle.csicodec_names.specs.declared.color.Blink.TheVariants as blink
@@ -228,7 +228,7 @@ action-named place (action.Device (device.DeviceAttributes (device.Vt320 list)))
 action-named place (action.Device (device.DeviceAttributes (device.Vt420 list))) range =
     let l = attributes-named list range in like (action.Device (device.DeviceAttributes (device.Vt420 l.others))) l.in_range l.named (rw l.long) l.same
 action-named place (action.Device (device.XtSmGraphics item action_or_status list)) range =
-    let h = item-named (item_number item) in
+    let h = item_named (item_number item) in
     like (action.Device (device.XtSmGraphics (item_of (item_number item)) action_or_status list)) range h.0 (rw h.1) refl
 action-named place (action.Unspecified params flag final) range = like (action.Unspecified params false final) range refl refl refl
 action-named place other range = like other range tt refl refl

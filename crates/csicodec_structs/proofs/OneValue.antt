@@ -10,7 +10,7 @@ use Rattle.csicodec_names.specs.{declared.color.ColorSpec.ColorSpec, declared.de
 use Rattle.csicodec_base.specs.declared.sgr.Font.{Font}
 use Rattle.csicodec_actions.specs.{Devices.attribute_of, Devices.attribute_token, Devices.code_or_token, XtSmGraphics.item_number, XtSmGraphics.item_of}
 use Rattle.csicodec_actions.specs.{declared.device.DeviceAttribute.DeviceAttribute, declared.xtsmgraphics.XtSmGraphicsItem.XtSmGraphicsItem, Actions.Action}
-use Rattle.csicodec_structs.specs.Structs.{AttributeInRange, HasText, IsNamedAttribute, IsNamedItem, attribute_param, font_number, param_of, value_param}
+use Rattle.csicodec_structs.specs.Structs.{AttributeInRange, HasText, IsNamedAttribute, IsNamedItem, TokenInRange, attribute_param, font_number, param_of, value_param}
 use Rattle.csicodec_structs.specs.{declared.structs.Param.Param, declared.structs.Struct.Struct, Rows.IsNamed, Rows.InRange, Rows.params_of, Rows.struct_of}
 use Rattle.csicodec_structs.specs.{Private.Steps.unless}
 use Rattle.csicodec_names.specs.declared.color.ColorSpec.TheVariants as color
@@ -56,8 +56,8 @@ item-back item.SixelGraphicsGeometry h = refl
 item-back item.RegisGraphicsGeometry h = refl
 item-back (item.Unspecified z) h = rw (not-number 1 z h.0, not-number 2 z h.1, not-number 3 z h.2) refl
 
-pub item-named : (z : ℤ) → IsNamedItem (item_of z) × (item_number (item_of z) ≡ z)
-item-named z = elim (cases_Bool (is_number 1 z)) [
+pub item_named : (z : ℤ) → IsNamedItem (item_of z) × (item_number (item_of z) ≡ z)
+item_named z = elim (cases_Bool (is_number 1 z)) [
   | inl one ↦ rw one (tt, sym (is_number-pos 1 z one))
   | inr no1 ↦ elim (cases_Bool (is_number 2 z)) [
     | inl two ↦ rw (no1, two) (tt, sym (is_number-pos 2 z two))
@@ -117,6 +117,14 @@ attribute-named (attribute.Unspecified (Integer z)) range = go (with_number devi
     go : (o : Option DeviceAttributeCodes) → with_number device_attribute_number device_attribute_codes z ≡ o → HasName (attribute.Unspecified (Integer z)) (code_or_token (Integer z) o)
     go (Some c) found = record { in_range = tt; named = tt; same = ap (λ y. param_of (Integer y)) (sym (listed-number device_attribute_number device_attribute_codes z c found)) }
     go None none = record { in_range = tt; named = none-has device_attribute_number device_attribute_codes attributes z none; same = refl }
+
+-- so of the token that says an extension
+pub named_token : (t : CsiParam) → TokenInRange t → AttributeInRange (attribute_of t) × (attribute_param (attribute_of t) ≡ param_of t) × IsNamedAttribute (attribute_of t)
+named_token t range = (let h = attribute-named (attribute.Unspecified t) range in (h.in_range, h.same, h.named))
+
+pub said_range : (a : DeviceAttribute) → AttributeInRange a → TokenInRange (attribute_token a)
+said_range (attribute.Code c) range = tt
+said_range (attribute.Unspecified t) range = range
 
 -- extensions so
 pub record HaveNames (list : List DeviceAttribute) : Type 0 where

@@ -11,7 +11,7 @@ use Rattle.csicodec_actions.specs.{Modes.dec_number, Table.unboxed, Table.whole,
 use Rattle.csicodec_actions.proofs.Values.{dec-numbered}
 use Rattle.csicodec_parser.specs.{Groups.group, declared.group.Group.TheVariants.DecModes}
 use Rattle.csicodec_parser.proofs.Fronts.{front_empty, front_stuck}
-use Rattle.csicodec.proofs.RowGroups.{whole-group}
+use Rattle.csicodec_streams.proofs.RowGroups.{whole-group}
 use Rattle.csicodec_structs.specs.Rows.{cursor_struct, edit_struct, mode_struct, params_of, sgr_struct, struct_of}
 use Rattle.csicodec_structs.specs.Private.Short.{AreStyles, HasLaid, HasOne, IsRow, ReadsOn, change_final, style_struct}
 use Rattle.csicodec_structs.specs.{Next.IsDone, Next.IsRefused, Next.Lays, Next.all_params, Next.structs, Private.Steps.PutsBehind, Private.Steps.done}

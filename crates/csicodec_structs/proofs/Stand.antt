@@ -1,12 +1,22 @@
 -- Structs that stand for actions: one more, and for which one each.
-use Rattle.std.proofs.Common.{◌≡◌, ℕ, ◌+◌, ◌<◌, ◌≤◌, List, [], ◌∷◌, ◌++◌, length, map, take, drop, slice_index_or, subst, sym, ap, refl, ◌∙◌, arith, append-nil}
-use Rattle.std.proofs.lemmas.List.{flat_map_more, map-append, take_more}
+use Rattle.std.proofs.Common.{◌≡◌, ℕ, ◌+◌, ◌<◌, List, [], ◌∷◌, ◌++◌, length, map, take, drop, slice_index_or, subst, sym, ap, refl, ◌∙◌, arith, append-nil}
+use Rattle.std.proofs.lemmas.List.{flat_map_more, length-map, map-append, take_more}
 use Rattle.csicodec_parser.specs.{declared.actions.CSI.CSI, ActionOf.action_of}
 use Rattle.csicodec_actions.specs.{Actions.Action, Table.text}
 use Rattle.csicodec_structs.specs.{declared.encode.Encoded.Encoded, declared.structs.Param.Param, declared.structs.Struct.Struct, Encode.AllStand}
-use Rattle.csicodec_structs.specs.{Encode.IsDone, Encode.IsPut, Encode.OneAction, Encode.Stands, Private.Steps.AreTexts, Rows.IsNamed, Rows.InRange}
-use Rattle.csicodec_structs.specs.{Rows.params_of, Rows.struct_of}
+use Rattle.csicodec_structs.specs.{Encode.IsDone, Encode.IsPut, Encode.OneAction, Encode.Stands, Private.Steps.AreTexts, Private.Steps.IsOwn, Rows.params_of}
+use Rattle.csicodec_structs.specs.{Rows.struct_of, Structs.attribute_param, Structs.param_of, Structs.value_param}
 use Rattle.csicodec_structs.proofs.OneAction.{action-named, same-action}
+use Rattle.csicodec_names.specs.declared.color.ColorSpec.TheVariants as color
+use Rattle.csicodec_base.specs.declared.sgr.Sgr.TheVariants as sgr
+use Rattle.csicodec_actions.specs.declared.cursor.Cursor.TheVariants as cursor
+use Rattle.csicodec_actions.specs.declared.edit.Edit.TheVariants as edit
+use Rattle.csicodec_actions.specs.declared.mode.Mode.TheVariants as mode
+use Rattle.csicodec_actions.specs.declared.mouse.MouseReport.TheVariants as mouse
+use Rattle.csicodec_actions.specs.Devices as device
+use Rattle.csicodec_actions.specs.declared.window.Window.TheVariants as window
+use Rattle.csicodec_actions.specs.declared.keyboard.Keyboard.TheVariants as keyboard
+use Rattle.csicodec_actions.specs.Actions as action
 
 stand_snoc : (structs : List Struct) (params : List Param) (actions : List Action) (p : Struct) (a : Action) → AllStand structs params actions
     → Stands p params a → AllStand (structs ++ p ∷ []) params (actions ++ a ∷ [])
@@ -36,14 +46,32 @@ texts_more structs params before new i d csi low are one is =
       joined = is ∙ (ap (λ l. l ++ text a) are.joined ∙ flat_map_more text [] are.actions a);
     }
 
--- a struct without tokens stands for an action that has none
-pub short_stands : (given : Struct) (a : Action) (short : List ℕ) → given.len ≤ 0 → InRange a → IsNamed a → params_of a ≡ [] → struct_of given.place a ≡ given → short ≡ text a
+-- a struct says how many tokens its action has
+long : (place : ℕ) (a : Action) → (struct_of place a).len ≡ length (params_of a)
+long place (action.Sgr (sgr.UnderlineColor color.Default)) = refl
+long place (action.Sgr (sgr.Foreground color.Default)) = refl
+long place (action.Sgr (sgr.Background color.Default)) = refl
+long place (action.Cursor cursor.SaveCursor) = refl
+long place (action.Edit (edit.Repeat n)) = refl
+long place (action.Mode (mode.SetMode v)) = refl
+long place (action.Mouse (mouse.SGR1006 x y button modifiers)) = refl
+long place (action.Device (device.DeviceAttributes (device.Vt220 list))) = sym (length-map list attribute_param)
+long place (action.Device (device.DeviceAttributes (device.Vt320 list))) = sym (length-map list attribute_param)
+long place (action.Device (device.DeviceAttributes (device.Vt420 list))) = sym (length-map list attribute_param)
+long place (action.Device (device.XtSmGraphics item action_or_status value)) = sym (length-map value value_param)
+long place (action.Window window.Iconify) = refl
+long place (action.Keyboard keyboard.QueryKittySupport) = refl
+long place (action.Unspecified params flag final) = sym (length-map params param_of)
+long place other = refl
+
+-- a struct stands for an action that has no tokens
+pub short_stands : (given : Struct) (a : Action) (short : List ℕ) → IsOwn [] a → struct_of given.place a ≡ given → short ≡ text a
     → (params : List Param) → AreTexts (given ∷ []) params short
-short_stands given a short none in_range named bare same is params =
-    let zero : given.len ≡ 0 = omega arith in
+short_stands given a short (in_range, bare, named) same is params =
+    let none : given.len ≡ 0 = sym (ap (λ (p : Struct). p.len) same) ∙ (long given.place a ∙ ap length bare) in
     record {
       actions = a ∷ [];
-      stand = (((in_range, same, bare ∙ ap (λ n. take n (drop given.place params)) (sym zero)), named), tt);
+      stand = (((in_range, same, bare ∙ ap (λ n. take n (drop given.place params)) (sym none)), named), tt);
       joined = is ∙ sym (append-nil (text a));
     }
 

@@ -10,8 +10,8 @@ use Rattle.csicodec_base.specs.{declared.sgr.Sgr.Sgr, FrontBy.color_by, FrontBy.
 use Rattle.csicodec_base.proofs.Table.{paint, is_piece}
 use Rattle.csicodec_parser.specs.{Cut.semicolon, Groups.has_odd, Segments.Actions, declared.group.Group.TheVariants.Styles}
 use Rattle.csicodec_parser.proofs.Fronts.{front_empty, front_stuck, style-list}
-use Rattle.csicodec.specs.Compose.{EndsInSemicolon}
-use Rattle.csicodec.proofs.Compose.{ends-joined, ends-part, plain-joint, sgr_compose_lem}
+use Rattle.csicodec_streams.specs.Compose.{EndsInSemicolon}
+use Rattle.csicodec_streams.proofs.Compose.{ends-joined, ends-part, plain-joint, sgr_compose_lem}
 use Rattle.csicodec_structs.specs.Private.Short.{AreStyles, HasStyles, IsMark, IsOne, IsPainted, IsRow, ReadsOn, SetsAlone, style_struct, nothing, plain}
 use Rattle.csicodec_structs.specs.{Rows.sgr_struct, Structs.color_row, declared.attributes.AttributeParts.AttributeParts, declared.structs.Struct.Struct}
 use Rattle.csicodec_structs.specs.{declared.by_number.StyleRow.StyleRow, declared.by_number.TheConstants.STYLES}

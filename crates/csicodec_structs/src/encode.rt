@@ -8,7 +8,6 @@ ghost use Rattle.csicodec_structs.specs.{Rows.InRange, declared.structs.Param.Pa
 ghost use Rattle.csicodec_actions.specs.{Table.text, Actions.Unspecified as Unknown};
 ghost use Rattle.csicodec_tokens.specs.declared.param.CsiParam.{CsiParam};
 
-use crate::numbers::item;
 use crate::room::fill;
 use crate::rows::{
     UNSPECIFIED, VT220, VT320, VT420, XT_SM_GRAPHICS, candidate, small_candidate, struct_of,
@@ -16,12 +15,11 @@ use crate::rows::{
 use crate::status::Status;
 use crate::structs::{Param, Struct, unknown_row};
 use crate::token::{Token, tokens};
-use csicodec::{
-    CSI, CsiParam, Device, DeviceAttributeFlags, DeviceAttributes, Text, Unspecified, XtSmGraphics,
+use csicodec_actions::{
+    Device, DeviceAttributeFlags, DeviceAttributes, XtSmGraphics, XtSmGraphicsItem, write_path,
 };
-use csicodec_actions::write_path;
-use csicodec_base::TextBuffer;
-use csicodec_parser::append_text;
+use csicodec_base::{CsiParam, Text, TextBuffer};
+use csicodec_parser::{CSI, Unspecified, append_text};
 use std::alloc::{AllocError, Global};
 
 /// How a writing of actions ended.
@@ -115,6 +113,7 @@ fn extended(alloc: Global, given: &Struct, params: &[Param]) -> Result<Option<CS
 }
 
 /// Graphics of these values.
+#[tactic(auto, using(crate::proofs::OneValue::item_named))]
 fn graphics(alloc: Global, given: &Struct, params: &[Param]) -> Result<Option<CSI>, AllocError>
     ensures { IfOk result (IsMade IsGraphics given.now params.now) }
 {
@@ -122,7 +121,7 @@ fn graphics(alloc: Global, given: &Struct, params: &[Param]) -> Result<Option<CS
         return Ok(None);
     };
     let graphics = XtSmGraphics {
-        item: item(given),
+        item: XtSmGraphicsItem::of(given.first),
         action_or_status: given.second,
         value,
     };
@@ -215,9 +214,6 @@ fn texts_of(
 fn short_of(given: &Struct) -> Option<Text>
     ensures { IfSome result (λ t. (params : List Param) → AreTexts (given.now ∷ []) params t) }
 {
-    if given.len > 0 {
-        return None;
-    }
     let csi = small_candidate(given)?;
     if !is_same(&struct_of(given.place, &csi), given) {
         return None;
@@ -273,8 +269,7 @@ pub fn judge(alloc: Global, given: &Struct, params: &[Param]) -> Judged
         Err(_) => return judgement(Status::Memory, 0),
     };
     match csi.is_canonical(alloc, false) {
-        Ok(true) => judgement(Status::Done, 1),
-        Ok(false) => judgement(Status::Done, 0),
+        Ok(canonical) => judgement(Status::Done, u32::from(canonical)),
         Err(_) => judgement(Status::Memory, 0),
     }
 }

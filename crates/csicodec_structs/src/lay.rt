@@ -6,16 +6,17 @@ ghost use Rattle.csicodec_structs.specs.{Private.Steps.LaysBy, Private.Steps.Lay
 ghost use Rattle.csicodec_structs.specs.{Rows.device_params, Rows.params_of, Rows.struct_of, declared.structs.Param.Param};
 ghost use Rattle.csicodec_tokens.specs.declared.param.CsiParam.{CsiParam};
 
-use crate::numbers::item_number;
 use crate::room::put;
 use crate::rows::{VT220, VT320, VT420, XT_SM_GRAPHICS, device_struct, struct_of, window_struct};
 use crate::structs::{Param, Struct, list_row, unknown_row};
 use crate::token::{put_all, put_one};
-use csicodec::CsiParam::{Integer, P};
-use csicodec::laws::segmentation;
-use csicodec::{CSI, CsiParam, Device, DeviceAttributes, XtSmGraphicsItem};
-use csicodec_actions::{device_action, graphics_ref, window_action};
-use csicodec_parser::ActionRef;
+use csicodec_actions::{
+    Device, DeviceAttributes, XtSmGraphicsItem, device_action, graphics_ref, window_action,
+};
+use csicodec_base::CsiParam;
+use csicodec_base::CsiParam::{Integer, P};
+use csicodec_parser::laws::segmentation;
+use csicodec_parser::{ActionRef, CSI};
 use std::alloc::Global;
 
 /// How many actions there are, and how many tokens belong to them.
@@ -140,13 +141,7 @@ fn head_struct(head: Head, place: usize, len: usize) -> Struct
         Head::Graphics {
             item,
             action_or_status,
-        } => list_row(
-            XT_SM_GRAPHICS,
-            item_number(item),
-            action_or_status,
-            place,
-            len,
-        ),
+        } => list_row(XT_SM_GRAPHICS, item.number(), action_or_status, place, len),
     }
 }
 

@@ -143,9 +143,8 @@ pub(crate) fn lay_mode<'a>(body: &'a [u8], actions: &mut [Struct]) -> Laid<'a>
         return None;
     };
     let (number, behind) = number_front(digits)?;
-    let code = u16::try_from(number).ok()?;
     let (change, after) = change_front(behind)?;
-    let mode = change.of(DecPrivateMode::Unspecified(code));
+    let mode = change.of(DecPrivateMode::Unspecified(number as u16));
     put(actions, 0, mode_struct(&mode));
     Some((1, after))
 }

@@ -8,7 +8,8 @@ ghost use Rattle.csicodec_terminal.specs.Terminal.{Terminal};
 use crate::lay::{Counts, lay_list, lay_one};
 use crate::status::{Status, fault_of};
 use crate::structs::{Param, Struct};
-use csicodec::{CSI, CsiParam, ReadError, read_csi, read_csi_within};
+use csicodec_base::{CsiParam, ReadError, read_csi, read_csi_within};
+use csicodec_parser::CSI;
 use csicodec_terminal::terminal_actions;
 use std::alloc::Global;
 

@@ -2,14 +2,16 @@
 ghost use Rattle.std.specs.Prelude.{◌≡◌, ◌⊎◌, ◌∷◌, [], false, IfSome};
 ghost use Rattle.csicodec_parser.specs.{ActionOf.action_of, declared.parser.ActionRef.TheVariants.Small, Segments.Actions};
 ghost use Rattle.csicodec_streams.specs.Decoding.{NormalisesTo};
-ghost use Rattle.csicodec_structs.specs.Normalise.{IsDone, IsRefused, normalised, refusal, refused};
+ghost use Rattle.csicodec_structs.specs.{Normalise.IsDone, Normalise.IsRefused, Normalise.refusal, Private.Steps.ended};
 
 use crate::encode::short_text;
 use crate::room::fill;
 use crate::status::{Status, fault_of};
-use csicodec::laws::segmentation;
-use csicodec::{CSI, CsiParam, DecodeError, ReadError, Text, normal_form, read_csi_within};
-use csicodec_parser::ActionRef;
+use csicodec_base::{CsiParam, ReadError, Text, read_csi_within};
+use csicodec_parser::laws::segmentation;
+use csicodec_parser::{ActionRef, CSI};
+use csicodec_streams::normal_form;
+use csicodec_transform::DecodeError;
 use std::alloc::Global;
 
 /// Of so many bytes it is tried whether they are one sequence with one action.
@@ -29,25 +31,14 @@ pub struct Normalised {
     pub needed: usize,
 }
 
-fn done(needed: usize) -> Normalised
-    ensures { result ≡ normalised needed }
-{
-    Normalised {
-        status: Status::Done.number(),
-        start: 0,
-        at: 0,
-        needed,
-    }
-}
-
-fn refused(why: Status, start: usize, at: usize) -> Normalised
-    ensures { result ≡ refused why start at }
+fn ended(why: Status, start: usize, at: usize, needed: usize) -> Normalised
+    ensures { result ≡ ended why start at needed }
 {
     Normalised {
         status: why.number(),
         start,
         at,
-        needed: 0,
+        needed,
     }
 }
 
@@ -59,10 +50,10 @@ fn refusal(error: DecodeError) -> Normalised
             error: ReadError::Memory,
             ..
         }
-        | DecodeError::Memory => refused(Status::Memory, 0, 0),
+        | DecodeError::Memory => ended(Status::Memory, 0, 0, 0),
         DecodeError::Read { start, error } => {
             let (why, at) = fault_of(error);
-            refused(why, start, at)
+            ended(why, start, at, 0)
         }
     }
 }
@@ -108,16 +99,16 @@ pub fn put_normal_form(alloc: Global, bytes: &[u8], out: &mut [u8]) -> Normalise
     ensures { IsDone bytes.now out.old out.new result ⊎ IsRefused bytes.now out.old out.new result }
 {
     if bytes.is_empty() {
-        return done(0);
+        return ended(Status::Done, 0, 0, 0);
     }
     if let Some(text) = short_form(alloc, bytes) {
         fill(out, text.as_bytes());
-        return done(text.as_bytes().len());
+        return ended(Status::Done, 0, 0, text.as_bytes().len());
     }
     match normal_form(alloc, bytes) {
         Ok(all) => {
             fill(out, all.as_slice());
-            done(all.len())
+            ended(Status::Done, 0, 0, all.len())
         }
         Err(error) => refusal(error),
     }

@@ -1,24 +1,23 @@
 //! What stands as a number in a struct, both ways.
-ghost use Rattle.std.specs.{Prelude.◌≡◌, Prelude.◌↔◌, Prelude.◌==◌, Prelude.◌||◌, Prelude.IfSome, Prelude.MatchOption, Prelude.pos, Int.FitsUnsignedBits};
+ghost use Rattle.std.specs.{Prelude.◌≡◌, Prelude.◌==◌, Prelude.◌||◌, Prelude.pos, Int.FitsUnsignedBits};
 ghost use Rattle.csicodec_names.specs.{FlagBits.kitty_bits, declared.color.Blink.Blink, declared.color.Intensity.Intensity, declared.color.Underline.Underline};
 ghost use Rattle.csicodec_names.specs.{declared.color.VerticalAlign.VerticalAlign};
-ghost use Rattle.csicodec_actions.specs.{Devices.attribute_token, Kinds.IsOneBased, XtSmGraphics.item_number, Modes.dec_number, Modes.terminal_number};
-ghost use Rattle.csicodec_actions.specs.{declared.mouse.MouseButton.MouseButton, Ranges.ColorInRange};
-ghost use Rattle.csicodec_structs.specs.Structs.{align_number, blink_number, button_number, flag_number, font_number, intensity_number, underline_number, HasText, IsNamedDec, IsNamedItem, IsNamedTerminal};
-ghost use Rattle.csicodec_structs.specs.Private.Steps.{IsPlace, IsTen, Reads, ReadsNamed, color_of, itself, unless};
+ghost use Rattle.csicodec_actions.specs.{Modes.dec_number, Modes.terminal_number, declared.mouse.MouseButton.MouseButton, Ranges.ColorInRange};
+ghost use Rattle.csicodec_structs.specs.Structs.{align_number, blink_number, color_row, button_number, flag_number, font_number, intensity_number, underline_number, HasText, IsNamedDec, IsNamedTerminal};
+ghost use Rattle.csicodec_structs.specs.Private.Steps.{Finds, IsPlace, IsTen, Reads, itself, unless};
 
 use crate::structs::Struct;
 use bitflags::Flags;
-use csicodec::{
-    Blink, ColorSpec, CsiParam, DecPrivateMode, DeviceAttribute, Font, Intensity,
-    KittyKeyboardFlags, MouseButton, OneBased, SrgbaTuple, TerminalMode, Underline, VerticalAlign,
-    XtSmGraphicsItem,
+use csicodec_actions::{DecPrivateMode, MouseButton, TerminalMode};
+use csicodec_base::{
+    Blink, ColorSpec, Font, Intensity, KittyKeyboardFlags, OneBased, SrgbaTuple, Underline,
+    VerticalAlign,
 };
 
-/// The variant of a number.
+/// The variant of a number, and the first one where there is none.
 macro_rules! variant_of {
-    ($value:ident $type:ident $($number:literal $name:ident),*) => {
-        match $value { $($number => Some($type::$name),)* _ => None }
+    ($value:ident $type:ident $first:literal $other:ident $(, $number:literal $name:ident)*) => {
+        match $value { $($number => $type::$name,)* _ => $type::$other }
     };
 }
 
@@ -55,88 +54,66 @@ pub(crate) fn button_number(button: MouseButton) -> u8
     buttons!(number_of button)
 }
 
-pub(crate) fn item_number(item: XtSmGraphicsItem) -> i64
-    ensures { result ≡ item_number item }
-{
-    match item {
-        XtSmGraphicsItem::NumberOfColorRegisters => 1,
-        XtSmGraphicsItem::SixelGraphicsGeometry => 2,
-        XtSmGraphicsItem::RegisGraphicsGeometry => 3,
-        XtSmGraphicsItem::Unspecified(number) => number,
-    }
-}
-
-/// The token that says an extension.
-pub(crate) fn attribute_token(attribute: DeviceAttribute) -> CsiParam
-    ensures { result ≡ attribute_token attribute }
-{
-    match attribute {
-        DeviceAttribute::Code(code) => CsiParam::Integer(code.to_i64()),
-        DeviceAttribute::Unspecified(token) => token,
-    }
-}
+// What a number stands for, and something of its type where it stands for nothing.
 
 /// The first number, as a count.
-pub(crate) fn count(given: &Struct) -> Option<u32>
+pub(crate) fn count(given: &Struct) -> u32
     ensures { Reads itself (FitsUnsignedBits 32) given.now.first result }
 {
-    u32::try_from(given.first).ok()
+    (given.first.cast_unsigned() % 4294967296) as u32
 }
 
 /// A number of 16 bits.
-pub(crate) fn word(number: i64) -> Option<u16>
+pub(crate) fn word(number: i64) -> u16
     ensures { Reads itself (FitsUnsignedBits 16) number result }
 {
-    u16::try_from(number).ok()
+    (number.cast_unsigned() % 65536) as u16
 }
 
 /// A side of an area.
-pub(crate) fn side(number: u32) -> Option<OneBased>
-    ensures { MatchOption result (number ≡ 0) (λ place. (number ≡ place) × IsOneBased place) }
+pub(crate) fn side(number: u32) -> OneBased
+    ensures { Reads itself IsPlace (pos number) result }
 {
-    OneBased::try_from(number).ok()
+    OneBased::new(number.max(1))
 }
 
 /// A line or a column.
-pub(crate) fn place(number: i64) -> Option<OneBased>
+pub(crate) fn place(number: i64) -> OneBased
     ensures { Reads itself IsPlace number result }
 {
-    side(u32::try_from(number).ok()?)
+    side((number.cast_unsigned() % 4294967296) as u32)
 }
 
 /// The first number, as 1 for on and 0 for off.
-pub(crate) fn flag(given: &Struct) -> Option<bool>
+pub(crate) fn flag(given: &Struct) -> bool
     ensures { Reads flag_number (FitsUnsignedBits 1) given.now.first result }
 {
-    match given.first {
-        0 => Some(false),
-        1 => Some(true),
-        _ => None,
-    }
+    given.first == 1
 }
 
 /// The first number, as flags of the keyboard.
-pub(crate) fn flags(given: &Struct) -> Option<KittyKeyboardFlags>
+pub(crate) fn flags(given: &Struct) -> KittyKeyboardFlags
     ensures { Reads kitty_bits (FitsUnsignedBits 16) given.now.first result }
 {
-    Some(KittyKeyboardFlags::from_bits_retain(word(given.first)?))
+    KittyKeyboardFlags::from_bits_retain(word(given.first))
 }
 
 /// The first number, as that of a private mode, by its code where it has one.
-#[tactic(auto, using(crate::proofs::ModeNumbers::dec_reads))]
-pub(crate) fn private_mode(given: &Struct) -> Option<DecPrivateMode>
-    ensures { ReadsNamed dec_number IsNamedDec (FitsUnsignedBits 16) given.now.first result }
+#[tactic(auto, using(crate::proofs::ModeNumbers::dec_read))]
+pub(crate) fn private_mode(given: &Struct) -> DecPrivateMode
+    ensures number { Reads dec_number (FitsUnsignedBits 16) given.now.first result }
+    ensures named { IsNamedDec result }
 {
-    DecPrivateMode::at(given.first)
+    DecPrivateMode::from(word(given.first))
 }
 
 /// The first number, as that of a mode, by its code where it has one.
-#[tactic(auto, using(crate::proofs::ModeNumbers::terminal_reads))]
-pub(crate) fn terminal_mode(given: &Struct) -> Option<TerminalMode>
-    ensures { ReadsNamed terminal_number IsNamedTerminal
-        (FitsUnsignedBits 16) given.now.first result }
+#[tactic(auto, using(crate::proofs::ModeNumbers::terminal_read))]
+pub(crate) fn terminal_mode(given: &Struct) -> TerminalMode
+    ensures number { Reads terminal_number (FitsUnsignedBits 16) given.now.first result }
+    ensures named { IsNamedTerminal result }
 {
-    TerminalMode::at(given.first)
+    TerminalMode::from(word(given.first))
 }
 
 /// The first number, unless it is absent.
@@ -160,75 +137,55 @@ pub(crate) fn second(given: &Struct) -> Option<i64>
 }
 
 /// Its colour.
-pub(crate) fn color(given: &Struct) -> Option<ColorSpec>
-    ensures value { result ≡ color_of given.now }
-    ensures in_range { IfSome result ColorInRange }
+#[inline(always)]
+pub(crate) fn color(given: Struct) -> ColorSpec
+    ensures value { Finds (color_row given.kind) ColorInRange given result }
+    ensures in_range { ColorInRange result }
 {
     match given.first {
-        0 => Some(ColorSpec::Default),
-        1 => Some(ColorSpec::PaletteIndex(u8::try_from(given.second).ok()?)),
-        2 => {
-            let red = given.red;
-            let green = given.green;
-            let blue = given.blue;
-            let alpha = given.alpha;
-            Some(ColorSpec::TrueColor(SrgbaTuple(red, green, blue, alpha)))
-        }
-        _ => None,
+        1 => ColorSpec::PaletteIndex((given.second.cast_unsigned() % 256) as u8),
+        2 => { ColorSpec::TrueColor(SrgbaTuple(given.red, given.green, given.blue, given.alpha)) }
+        _ => ColorSpec::Default,
     }
 }
 
 /// The first number, as that of a font that has a text.
-pub(crate) fn font(given: &Struct) -> Option<Font>
+pub(crate) fn font(given: &Struct) -> Font
     ensures value { Reads font_number IsTen given.now.first result }
-    ensures text { IfSome result HasText }
+    ensures text { HasText result }
 {
     match given.first {
-        0 => Some(Font::Default),
-        1..=9 => Some(Font::Alternate(u8::try_from(given.first).ok()?)),
-        _ => None,
+        1..=9 => Font::Alternate(given.first as u8),
+        _ => Font::Default,
     }
 }
 
-pub(crate) fn intensity(number: i64) -> Option<Intensity>
-    ensures { (v : Intensity) → (result ≡ Some v) ↔ (number ≡ pos (intensity_number v)) }
+pub(crate) fn intensity(number: i64) -> Intensity
+    ensures { (v : Intensity) → number ≡ pos (intensity_number v) → result ≡ v }
 {
     variant_of!(number Intensity 0 Normal, 1 Bold, 2 Half)
 }
 
-pub(crate) fn underline(number: i64) -> Option<Underline>
-    ensures { (v : Underline) → (result ≡ Some v) ↔ (number ≡ pos (underline_number v)) }
+pub(crate) fn underline(number: i64) -> Underline
+    ensures { (v : Underline) → number ≡ pos (underline_number v) → result ≡ v }
 {
     variant_of!(number Underline 0 None, 1 Single, 2 Double, 3 Curly, 4 Dotted, 5 Dashed)
 }
 
-pub(crate) fn blink(number: i64) -> Option<Blink>
-    ensures { (v : Blink) → (result ≡ Some v) ↔ (number ≡ pos (blink_number v)) }
+pub(crate) fn blink(number: i64) -> Blink
+    ensures { (v : Blink) → number ≡ pos (blink_number v) → result ≡ v }
 {
     variant_of!(number Blink 0 None, 1 Slow, 2 Rapid)
 }
 
-pub(crate) fn align(number: i64) -> Option<VerticalAlign>
-    ensures { (v : VerticalAlign) → (result ≡ Some v) ↔ (number ≡ pos (align_number v)) }
+pub(crate) fn align(number: i64) -> VerticalAlign
+    ensures { (v : VerticalAlign) → number ≡ pos (align_number v) → result ≡ v }
 {
     variant_of!(number VerticalAlign 0 BaseLine, 1 SuperScript, 2 SubScript)
 }
 
-pub(crate) fn button(number: u8) -> Option<MouseButton>
-    ensures { (v : MouseButton) → (result ≡ Some v) ↔ (number ≡ button_number v) }
+pub(crate) fn button(number: u8) -> MouseButton
+    ensures { (v : MouseButton) → number ≡ button_number v → result ≡ v }
 {
     buttons!(variant_of number)
-}
-
-/// The first number, as that of an item of graphics, by its name where it has one.
-pub(crate) fn item(given: &Struct) -> XtSmGraphicsItem
-    ensures number { item_number result ≡ given.now.first }
-    ensures named { IsNamedItem result }
-{
-    match given.first {
-        1 => XtSmGraphicsItem::NumberOfColorRegisters,
-        2 => XtSmGraphicsItem::SixelGraphicsGeometry,
-        3 => XtSmGraphicsItem::RegisGraphicsGeometry,
-        number => XtSmGraphicsItem::Unspecified(number),
-    }
 }

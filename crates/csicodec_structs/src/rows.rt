@@ -5,22 +5,26 @@ ghost use Rattle.std.specs.Prelude.{◌≡◌, [], IfOk, IfSome};
 ghost use Rattle.std.specs.Option.{option_map};
 ghost use Rattle.csicodec_actions.specs.Devices.{device_of};
 ghost use Rattle.csicodec_parser.specs.ActionOf.{action_of};
-ghost use Rattle.csicodec_structs.specs.Private.Steps.{Finds, HasNoList, IsBare, IsSmall};
-ghost use Rattle.csicodec_structs.specs.Rows.{CursorInRange, DeviceInRange, EditInRange, InRange, IsNamed, IsNamedDevice, IsNamedMode, KeyboardInRange, ModeInRange, MouseInRange, SgrInRange, WindowInRange, cursor_struct, device_params, device_struct, edit_struct, keyboard_struct, mode_struct, mouse_struct, params_of, sgr_struct, struct_of, window_struct};
+ghost use Rattle.csicodec_structs.specs.Private.Steps.{Finds, FindsSome, HasNoList, IsBare, IsOwn, IsSmall};
+ghost use Rattle.csicodec_structs.specs.Rows.{CursorInRange, DeviceInRange, EditInRange, IsNamedDevice, IsNamedMode, KeyboardInRange, ModeInRange, MouseInRange, SgrInRange, WindowInRange, cursor_struct, device_params, device_struct, edit_struct, keyboard_struct, mode_struct, mouse_struct, sgr_struct, struct_of, window_struct};
 
 use crate::numbers::{
-    align, blink, button, color, count, first, flag, flags, font, font_number, intensity,
-    item_number, place, private_mode, second, side, terminal_mode, underline, word,
+    align, blink, button, color, count, first, flag, flags, font, font_number, intensity, place,
+    private_mode, second, side, terminal_mode, underline, word,
 };
 use crate::structs::{
     Struct, color_row, flags_row, list_row, places_row, report_row, row, sized_row, unknown_row,
 };
 use bitflags::Flags;
-use csicodec::{
-    CSI, CharacterPath, Cursor, CursorStyle, CursorTabulationControl, Device, DeviceAttributes,
-    Edit, EraseInDisplay, EraseInLine, Keyboard, KittyKeyboardMode, Mode, Modifiers, MouseReport,
-    Sgr, TabulationClear, Window, XtermKeyModifierResource,
+use csicodec_actions::{
+    CharacterPath, Cursor, Device, DeviceAttributes, Edit, Keyboard, KittyKeyboardMode, Mode,
+    MouseReport, Window, XtermKeyModifierResource,
 };
+use csicodec_base::{
+    CursorStyle, CursorTabulationControl, EraseInDisplay, EraseInLine, Modifiers, Sgr,
+    TabulationClear,
+};
+use csicodec_parser::CSI;
 use std::alloc::{AllocError, Global};
 
 /// What none of the rules reads.
@@ -58,41 +62,50 @@ macro_rules! kind_row {
 
 /// What a struct says in a field, for a value of a kind.
 macro_rules! said {
-    ($given:ident place) => { place($given.first)? };
+    ($given:ident place) => { place($given.first) };
     ($given:ident number) => { $given.first };
-    ($given:ident coded $type:ident) => { $type::from_i64($given.first)? };
-    ($given:ident listed $by:ident) => { $by($given.first)? };
-    ($given:ident $form:ident) => { $form($given)? };
-    ($given:ident places $at:ident) => { place($given.$at)? };
+    ($given:ident coded $type:ident $other:ident) => { $type::from_i64($given.first).unwrap_or($type::$other) };
+    ($given:ident listed $by:ident) => { $by($given.first) };
+    ($given:ident color) => { color(*$given) };
+    ($given:ident $form:ident) => { $form($given) };
+    ($given:ident places $at:ident) => { place($given.$at) };
     ($given:ident numbers $at:ident) => { $given.$at };
     ($given:ident sizes $at:ident) => { $at($given) };
-    ($given:ident keys first) => { XtermKeyModifierResource::parse($given.first)? };
+    ($given:ident keys first) => { XtermKeyModifierResource::parse($given.first).unwrap_or(XtermKeyModifierResource::Keyboard) };
     ($given:ident keys second) => { second($given) };
-    ($given:ident state first) => { flags($given)? };
-    ($given:ident state second) => { KittyKeyboardMode::from_i64($given.second)? };
-    ($given:ident report button) => { button($given.button)? };
+    ($given:ident state first) => { flags($given) };
+    ($given:ident state second) => { KittyKeyboardMode::from_i64($given.second).unwrap_or(KittyKeyboardMode::AssignAll) };
+    ($given:ident report button) => { button($given.button) };
     ($given:ident report modifiers) => { Modifiers::from_bits_retain($given.modifiers) };
-    ($given:ident report $at:ident) => { word($given.$at)? };
+    ($given:ident report $at:ident) => { word($given.$at) };
     ($given:ident area first) => { $given.first };
     ($given:ident area second) => { $given.second };
-    ($given:ident area $side:ident) => { side($given.$side)? };
+    ($given:ident area $side:ident) => { side($given.$side) };
 }
 
 /// The struct of a value, whatever its kind.
 macro_rules! struct_of_value {
-    ($value:ident $type:ident $($number:literal $name:ident $(($form:ident $($of:ident)?))? $($fields:ident { $($field:ident: $at:ident),* })?,)*) => {
+    ($value:ident $type:ident $($number:literal $name:ident $(($form:ident $($of:ident)*))? $($fields:ident { $($field:ident: $at:ident),* })?,)*) => {
         match $value {
             $($type::$name $(($form))? $({ $($field),* })? => kind_row!($number $($form $form)? $($fields $($field)*)?),)*
         }
     };
 }
 
-/// What a struct may stand for, by its kind.
+/// A value of a kind, with what a struct says.
+macro_rules! value_of_kind {
+    ($given:ident $type:ident $name:ident $(($form:ident $($of:ident)*))? $($fields:ident { $($field:ident: $at:ident),* })?) => {
+        $type::$name $((said!($given $form $($of)*)))? $({ $($field: said!($given $fields $at)),* })?
+    };
+}
+
+/// What a struct may stand for, by its kind; one of another kind is taken for the first.
 macro_rules! value_of_struct {
-    ($given:ident $type:ident $($number:literal $name:ident $(($form:ident $($of:ident)?))? $($fields:ident { $($field:ident: $at:ident),* })?,)*) => {
+    ($given:ident $type:ident $first:literal $other:ident $(($($of:tt)*))? $($fields:ident { $($at:tt)* })?,
+        $($number:literal $name:ident $(($($form:tt)*))? $($said:ident { $($field:tt)* })?,)*) => {
         match $given.kind {
-            $($number => Some($type::$name $((said!($given $form $($of)?)))? $({ $($field: said!($given $fields $at)),* })?),)*
-            _ => None,
+            $($number => value_of_kind!($given $type $name $(($($form)*))? $($said { $($field)* })?),)*
+            _ => value_of_kind!($given $type $other $(($($of)*))? $($fields { $($at)* })?),
         }
     };
 }
@@ -113,17 +126,18 @@ macro_rules! kinds {
             110 ActivePositionReport places { line: first, col: second }, 111 CharacterAndLinePosition places { line: first, col: second },
             112 ForwardTabulation(count), 113 BackwardTabulation(count), 114 LineTabulation(count), 115 CharacterPositionForward(count),
             116 CharacterPositionBackward(count), 117 LinePositionAbsolute(count), 118 LinePositionForward(count),
-            119 LinePositionBackward(count), 120 TabulationControl(coded CursorTabulationControl), 121 TabulationClear(coded TabulationClear),
+            119 LinePositionBackward(count), 120 TabulationControl(coded CursorTabulationControl SetCharacterTabStopAtActivePosition),
+            121 TabulationClear(coded TabulationClear ClearCharacterTabStopAtActivePosition),
             122 SetTopAndBottomMargins places { top: first, bottom: second },
             123 SetLeftAndRightMargins places { left: first, right: second }, 124 SaveCursor, 125 RestoreCursor,
-            126 RequestActivePositionReport, 127 CursorStyle(coded CursorStyle),
+            126 RequestActivePositionReport, 127 CursorStyle(coded CursorStyle Default),
         }
     };
     (Edit $arms:ident $value:ident) => {
         $arms! { $value Edit
             201 InsertCharacter(count), 202 InsertLine(count), 203 DeleteCharacter(count), 204 DeleteLine(count), 205 EraseCharacter(count),
-            206 ScrollUp(count), 207 ScrollDown(count), 208 Repeat(count), 209 EraseInDisplay(coded EraseInDisplay),
-            210 EraseInLine(coded EraseInLine),
+            206 ScrollUp(count), 207 ScrollDown(count), 208 Repeat(count), 209 EraseInDisplay(coded EraseInDisplay EraseToEndOfDisplay),
+            210 EraseInLine(coded EraseInLine EraseToEndOfLine),
         }
     };
     (Mode $arms:ident $value:ident) => {
@@ -169,8 +183,8 @@ pub(crate) fn sgr_struct(sgr: &Sgr) -> Struct
     kinds!(Sgr struct_of_value sgr)
 }
 
-fn sgr_candidate(given: &Struct) -> Option<Sgr>
-    ensures in_range { IfSome result SgrInRange }
+fn sgr_candidate(given: &Struct) -> Sgr
+    ensures in_range { SgrInRange result }
     ensures finds { Finds sgr_struct SgrInRange given.now result }
 {
     kinds!(Sgr value_of_struct given)
@@ -184,8 +198,8 @@ pub(crate) fn cursor_struct(cursor: &Cursor) -> Struct
     kinds!(Cursor struct_of_value cursor)
 }
 
-fn cursor_candidate(given: &Struct) -> Option<Cursor>
-    ensures in_range { IfSome result CursorInRange }
+fn cursor_candidate(given: &Struct) -> Cursor
+    ensures in_range { CursorInRange result }
     ensures finds { Finds cursor_struct CursorInRange given.now result }
 {
     kinds!(Cursor value_of_struct given)
@@ -199,8 +213,8 @@ pub(crate) fn edit_struct(edit: &Edit) -> Struct
     kinds!(Edit struct_of_value edit)
 }
 
-fn edit_candidate(given: &Struct) -> Option<Edit>
-    ensures in_range { IfSome result EditInRange }
+fn edit_candidate(given: &Struct) -> Edit
+    ensures in_range { EditInRange result }
     ensures finds { Finds edit_struct EditInRange given.now result }
 {
     kinds!(Edit value_of_struct given)
@@ -214,9 +228,9 @@ pub(crate) fn mode_struct(mode: &Mode) -> Struct
     kinds!(Mode struct_of_value mode)
 }
 
-fn mode_candidate(given: &Struct) -> Option<Mode>
-    ensures in_range { IfSome result ModeInRange }
-    ensures named { IfSome result IsNamedMode }
+fn mode_candidate(given: &Struct) -> Mode
+    ensures in_range { ModeInRange result }
+    ensures named { IsNamedMode result }
     ensures finds { Finds mode_struct ModeInRange given.now result }
 {
     kinds!(Mode value_of_struct given)
@@ -241,7 +255,7 @@ pub(crate) fn device_struct(place: usize, device: &Device) -> Struct
         Device::StatusReport => row(413, 0, 0),
         Device::XtSmGraphics(graphics) => list_row(
             414,
-            item_number(graphics.item),
+            graphics.item.number(),
             graphics.action_or_status,
             place,
             graphics.value.len(),
@@ -249,25 +263,23 @@ pub(crate) fn device_struct(place: usize, device: &Device) -> Struct
     }
 }
 
-fn device_candidate(given: &Struct) -> Option<Device>
-    ensures in_range { IfSome result (λ device. DeviceInRange (device_of device)) }
-    ensures named { IfSome result (λ device. IsNamedDevice (device_of device)) }
-    ensures bare { IfSome result (λ device. device_params (device_of device) ≡ []) }
-    ensures finds { Finds (device_struct given.now.place) HasNoList given.now
-        (option_map device_of result) }
+fn device_candidate(given: &Struct) -> Device
+    ensures in_range { DeviceInRange (device_of result) }
+    ensures named { IsNamedDevice (device_of result) }
+    ensures bare { device_params (device_of result) ≡ [] }
+    ensures finds { Finds (device_struct given.now.place) HasNoList given.now (device_of result) }
 {
     match given.kind {
-        401 => Some(Device::DeviceAttributes(DeviceAttributes::Vt100WithAdvancedVideoOption)),
-        402 => Some(Device::DeviceAttributes(DeviceAttributes::Vt101WithNoOptions)),
-        403 => Some(Device::DeviceAttributes(DeviceAttributes::Vt102)),
-        407 => Some(Device::SoftReset),
-        408 => Some(Device::RequestPrimaryDeviceAttributes),
-        409 => Some(Device::RequestSecondaryDeviceAttributes),
-        410 => Some(Device::RequestTertiaryDeviceAttributes),
-        411 => Some(Device::RequestTerminalNameAndVersion),
-        412 => Some(Device::RequestTerminalParameters(given.first)),
-        413 => Some(Device::StatusReport),
-        _ => None,
+        401 => Device::DeviceAttributes(DeviceAttributes::Vt100WithAdvancedVideoOption),
+        402 => Device::DeviceAttributes(DeviceAttributes::Vt101WithNoOptions),
+        403 => Device::DeviceAttributes(DeviceAttributes::Vt102),
+        407 => Device::SoftReset,
+        408 => Device::RequestPrimaryDeviceAttributes,
+        409 => Device::RequestSecondaryDeviceAttributes,
+        410 => Device::RequestTertiaryDeviceAttributes,
+        411 => Device::RequestTerminalNameAndVersion,
+        412 => Device::RequestTerminalParameters(given.first),
+        _ => Device::StatusReport,
     }
 }
 
@@ -277,8 +289,8 @@ fn mouse_struct(mouse: &MouseReport) -> Struct
     kinds!(MouseReport struct_of_value mouse)
 }
 
-fn mouse_candidate(given: &Struct) -> Option<MouseReport>
-    ensures in_range { IfSome result MouseInRange }
+fn mouse_candidate(given: &Struct) -> MouseReport
+    ensures in_range { MouseInRange result }
     ensures finds { Finds mouse_struct MouseInRange given.now result }
 {
     kinds!(MouseReport value_of_struct given)
@@ -290,8 +302,8 @@ pub(crate) fn window_struct(window: &Window) -> Struct
     kinds!(Window struct_of_value window)
 }
 
-fn window_candidate(given: &Struct) -> Option<Window>
-    ensures in_range { IfSome result WindowInRange }
+fn window_candidate(given: &Struct) -> Window
+    ensures in_range { WindowInRange result }
     ensures finds { Finds window_struct WindowInRange given.now result }
 {
     kinds!(Window value_of_struct given)
@@ -303,8 +315,8 @@ fn keyboard_struct(keyboard: &Keyboard) -> Struct
     kinds!(Keyboard struct_of_value keyboard)
 }
 
-fn keyboard_candidate(given: &Struct) -> Option<Keyboard>
-    ensures in_range { IfSome result KeyboardInRange }
+fn keyboard_candidate(given: &Struct) -> Keyboard
+    ensures in_range { KeyboardInRange result }
     ensures finds { Finds keyboard_struct KeyboardInRange given.now result }
 {
     kinds!(Keyboard value_of_struct given)
@@ -330,19 +342,17 @@ pub(crate) fn struct_of(place: usize, action: &CSI) -> Struct
 
 /// Of what takes no memory.
 pub(crate) fn small_candidate(given: &Struct) -> Option<CSI>
-    ensures in_range { IfSome result (λ csi. InRange (action_of csi)) }
-    ensures named { IfSome result (λ csi. IsNamed (action_of csi)) }
-    ensures bare { IfSome result (λ csi. params_of (action_of csi) ≡ []) }
-    ensures finds { Finds (struct_of given.now.place) IsSmall given.now
+    ensures fits { IfSome result (λ csi. IsOwn [] (action_of csi)) }
+    ensures finds { FindsSome (struct_of given.now.place) IsSmall given.now
         (option_map action_of result) }
 {
     match given.kind {
-        1..=100 => Some(CSI::Sgr(sgr_candidate(given)?)),
-        101..=200 => Some(CSI::Cursor(cursor_candidate(given)?)),
-        201..=300 => Some(CSI::Edit(edit_candidate(given)?)),
-        301..=400 => Some(CSI::Mode(mode_candidate(given)?)),
-        501..=600 => Some(CSI::Mouse(mouse_candidate(given)?)),
-        701..=800 => Some(CSI::Keyboard(keyboard_candidate(given)?)),
+        1..=100 => Some(CSI::Sgr(sgr_candidate(given))),
+        101..=200 => Some(CSI::Cursor(cursor_candidate(given))),
+        201..=300 => Some(CSI::Edit(edit_candidate(given))),
+        301..=400 => Some(CSI::Mode(mode_candidate(given))),
+        501..=600 => Some(CSI::Mouse(mouse_candidate(given))),
+        701..=800 => Some(CSI::Keyboard(keyboard_candidate(given))),
         801 => Some(CSI::SelectCharacterPath(CharacterPath::from_i64(given.first)?, given.second)),
         _ => None,
     }
@@ -350,21 +360,15 @@ pub(crate) fn small_candidate(given: &Struct) -> Option<CSI>
 
 /// Of all that have no tokens.
 pub(crate) fn candidate(alloc: Global, given: &Struct) -> Result<Option<CSI>, AllocError>
-    ensures in_range { IfOk result (λ r. IfSome r (λ csi. InRange (action_of csi))) }
-    ensures named { IfOk result (λ r. IfSome r (λ csi. IsNamed (action_of csi))) }
-    ensures bare { IfOk result (λ r. IfSome r (λ csi. params_of (action_of csi) ≡ [])) }
-    ensures finds { IfOk result (λ r. Finds (struct_of given.now.place) IsBare given.now
+    ensures fits { IfOk result (λ r. IfSome r (λ csi. IsOwn [] (action_of csi))) }
+    ensures finds { IfOk result (λ r. FindsSome (struct_of given.now.place) IsBare given.now
         (option_map action_of r)) }
 {
     match given.kind {
-        401..=500 => match device_candidate(given) {
-            Some(device) => Ok(Some(CSI::Device(Box::new(alloc, device)?))),
-            None => Ok(None),
-        },
-        601..=700 => match window_candidate(given) {
-            Some(window) => Ok(Some(CSI::Window(Box::new(alloc, window)?))),
-            None => Ok(None),
-        },
+        401..=403 | 407..=413 => {
+            Ok(Some(CSI::Device(Box::new(alloc, device_candidate(given))?)))
+        }
+        601..=634 => { Ok(Some(CSI::Window(Box::new(alloc, window_candidate(given))?))) }
         _ => Ok(small_candidate(given)),
     }
 }

@@ -2,7 +2,7 @@
 ghost use Rattle.std.specs.Prelude.{◌≡◌};
 ghost use Rattle.csicodec_structs.specs.Status.{fault_of, status_number};
 
-use csicodec::ReadError;
+use csicodec_base::ReadError;
 
 /// How a call ended, with the numbers of `enum csicodec_status`, which never change.
 #[derive(Clone, Copy)]

@@ -4,7 +4,8 @@ ghost use Rattle.csicodec_structs.specs.Structs.{color_row, list_row, report_row
 
 use crate::numbers::button_number;
 use bitflags::Flags;
-use csicodec::{ColorSpec, DeviceAttributeFlags, Modifiers, MouseButton, OneBased};
+use csicodec_actions::{DeviceAttributeFlags, MouseButton};
+use csicodec_base::{ColorSpec, Modifiers, OneBased};
 
 /// An action. A field that its kind has no use for is 0. It has 64 bytes, and no gaps.
 #[repr(C)]

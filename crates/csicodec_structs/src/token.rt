@@ -3,10 +3,10 @@ ghost use Rattle.std.specs.{Prelude.◌≡◌, Prelude.[], Prelude.◌∷◌, Pr
 ghost use Rattle.csicodec_structs.specs.Structs.{AttributeInRange, IsNamedAttribute, TokenInRange, attribute_param, param_of, value_param};
 ghost use Rattle.csicodec_structs.specs.{Private.Steps.FindsToken, Private.Steps.FindsTokens, Private.Steps.PutsBehind, declared.structs.Param.Param};
 
-use crate::numbers::attribute_token;
 use crate::room::put;
 use crate::structs::Param;
-use csicodec::{CsiParam, DeviceAttribute, DeviceAttributeCodes};
+use csicodec_actions::DeviceAttribute;
+use csicodec_base::CsiParam;
 use std::alloc::{AllocError, Global};
 
 /// What crosses as a `Param`.
@@ -81,16 +81,12 @@ impl Token for DeviceAttribute {
     ghost named = { IsNamedAttribute };
 
     fn to_param(self) -> Param {
-        attribute_token(self).to_param()
+        self.token().to_param()
     }
 
+    #[tactic(auto, using(crate::proofs::OneValue::named_token, crate::proofs::OneValue::said_range))]
     fn of_param(param: Param) -> Option<DeviceAttribute> {
-        if param.kind == 0 {
-            if let Some(code) = DeviceAttributeCodes::from_i64(param.value) {
-                return Some(DeviceAttribute::Code(code));
-            }
-        }
-        Some(DeviceAttribute::Unspecified(CsiParam::of_param(param)?))
+        Some(DeviceAttribute::of(CsiParam::of_param(param)?))
     }
 }
 

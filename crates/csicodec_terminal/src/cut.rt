@@ -149,7 +149,12 @@ fn is_foreign(group: Group, token: CsiParam) -> bool
 fn has_foreign(group: Group, list: &[CsiParam]) -> bool
     ensures { result ≡ list_any (is_foreign group) list.now }
 {
-    list.iter().any(|token| is_foreign(group, *token))
+    for token in list {
+        if is_foreign(group, *token) {
+            return true;
+        }
+    }
+    false
 }
 
 /// The actions of a second look at a list that is cut.

@@ -24,7 +24,7 @@ const ONE: [char; 27] = [
 fn has_one(control: char) -> bool
     ensures { result ≡ has_one control }
 {
-    ONE.iter().any(|one| *one == control)
+    ONE.contains(&control)
 }
 
 /// The function of this final has two parameters.

@@ -1,29 +1,21 @@
 //! The actions of a list as terminals take it.
 ghost use Rattle.std.specs.Prelude.{◌≡◌, IfOk, OnOk, map};
 ghost use Rattle.csicodec_parser.specs.{ActionOf.action_of, Groups.group as group_of_list, Segments.Actions, declared.group.Group.TheVariants.Whole};
-ghost use Rattle.csicodec_terminal.specs.Terminal.{Anew, Terminal, has_unknown, is_open, is_unknown};
+ghost use Rattle.csicodec_terminal.specs.Terminal.{Anew, Terminal, has_unknown, is_open};
 
 use crate::cut::{End, cut_anew, one_unknown};
 use crate::regular::regular_list;
 use csicodec_base::CsiParam;
-use csicodec_parser::{CSI, Group};
-use csicodec_streams::{parse_all, parse_into};
+use csicodec_parser::{CSI, Group, parse_all, parse_into};
 use std::alloc::{AllocError, Global};
 
-/// Whether it is what none of the rules reads.
-fn is_unknown(action: &CSI) -> bool
-    ensures { result ≡ is_unknown (action_of action.now) }
-{
-    matches!(action, CSI::Unspecified(_))
-}
-
-/// Whether one of them is unknown.
+/// Whether one of them is what none of the rules reads.
 fn has_unknown(actions: &[CSI]) -> bool
     ensures { result ≡ has_unknown (map action_of actions.now) }
 {
     let mut rest = actions;
     while let [first, others @ ..] = rest {
-        if is_unknown(first) {
+        if let CSI::Unspecified(_) = first {
             return true;
         }
         rest = others;

@@ -2,7 +2,8 @@
 use Rattle.csicodec_tool.proofs.Common.{Bool, true, false, ◌≡◌, ◌==◌, not, ℕ, List, [], ◌∷◌, ◌++◌, Option, None, Some, inl, inr, refl, sym, ap, subst, ◌∙◌, append_assoc, append-nil, list_all-append, IfSome, Begins, GoesOn, Sends, Transforms, shown_text, Between, start_of, Keeping, StylesIn, first_kept, keeps, resets, Passing, ended, Marking, Log, IsLine, IsLogged, IsLoggedFront, EndsLog, Finishes, GoesIn, IsBegun, IsIn, LogAs, PassesLog, Pushes}
 use Rattle.csicodec_clean.proofs.{Chunks.ends as at_end, Chunks.takes_none, Chunks.takes_on, Plain.all_both, Styled.styles as styled_as}
 use Rattle.csicodec_lines.proofs.Texts.{ended_on, of_on}
-use Rattle.csicodec_overwrite.specs.{declared.marking.Marking.TheVariants.Plain, declared.marking.Marking.TheVariants.Styled, Stream.Now, Stream.begun_as}
+use Rattle.csicodec_looks.specs.declared.marking.Marking.TheVariants.{Plain, Styled}
+use Rattle.csicodec_overwrite.specs.Stream.{Now, begun_as}
 use Rattle.csicodec_overwrite.proofs.Written.{passes_none, passes_on, shows}
 
 -- ---- the line that isn't over

@@ -3,8 +3,8 @@ use Rattle.std.specs.Prelude.{ℕ, ◌≡◌, Bool, true, false, List, ◌++◌,
 use Rattle.csicodec_transform.specs.Transform.{EndsOf, PassesOf}
 use Rattle.csicodec_clean.specs.{Shown.shown_text, Stream.Between, Stream.Takes, Stream.start_of, Styled.Keeping, Styled.first_kept, Styled.keeps}
 use Rattle.csicodec_clean.specs.{Styled.resets, declared.styles.Passing.Passing}
-use Rattle.csicodec_overwrite.specs.{declared.marking.Marking.TheVariants.Plain, declared.marking.Marking.TheVariants.Styled, Stream.Ending, Stream.Now}
-use Rattle.csicodec_overwrite.specs.{Stream.Passes, Stream.begun_as}
+use Rattle.csicodec_looks.specs.declared.marking.Marking.TheVariants.{Plain, Styled}
+use Rattle.csicodec_overwrite.specs.Stream.{Ending, Now, Passes, begun_as}
 use Rattle.csicodec_tool.specs.{declared.log.Log.Log, Log.IsLogged, Log.LogOf}
 
 -- lines with what is made of each by itself and of the last, or a stream as one line

@@ -1,15 +1,16 @@
 -- What `filter`, `compact`, `strip`, `clean` and `html` write of an input.
 use Rattle.std.specs.Prelude.{ℕ, ◌≡◌, ◌⊎◌, Bool, true, false, ◌||◌, List, [], ◌++◌, Option, Result, Ok, OnOk, OnErr, IsErr, option_map}
 use Rattle.csicodec_spans.specs.declared.table.Mode.TheVariants.{Text as Plain}
-use Rattle.csicodec_streams.specs.Decoding.{NormalisesTo}
+use Rattle.csicodec_streams.specs.{Decoding.NormalisesTo, Faithful.IsFaithful}
 use Rattle.csicodec_transform.specs.declared.error.RunError.{RunError}
-use Rattle.csicodec_filter.specs.{Faithful.IsFaithful, Filter.Filters, Filter.IsFrontOf}
+use Rattle.csicodec_filter.specs.Filter.{Filters, IsFrontOf}
 use Rattle.csicodec_compact.specs.Runs.{CompactsAll}
-use Rattle.csicodec_clean.specs.{Cleaned.Strips, Cleaned.longest, Styled.StylesIn}
+use Rattle.csicodec_clean.specs.{Cleaned.Strips, Cleaned.longest, Styled.StylesIn, Page.PageWith}
 use Rattle.csicodec_lines.specs.Lines.{ByLines}
 use Rattle.csicodec_overwrite.specs.Reading.{Paints}
-use Rattle.csicodec_html.specs.{declared.markup.Markup.Markup, declared.sheet.TheConstants.BEHIND, declared.sheet.TheConstants.BODY}
-use Rattle.csicodec_html.specs.{declared.sheet.TheConstants.HEAD, declared.sheet.TheConstants.STYLE, Page.PageWith, Sheet.IsTitle, Sheet.sheet}
+use Rattle.csicodec_looks.specs.{declared.markup.Markup.Markup, Sheet.sheet}
+use Rattle.csicodec_html.specs.{declared.sheet.TheConstants.BEHIND, declared.sheet.TheConstants.BODY, declared.sheet.TheConstants.HEAD}
+use Rattle.csicodec_html.specs.{declared.sheet.TheConstants.STYLE, Sheet.IsTitle}
 use Rattle.csicodec_command.specs.{Recorded.recorded, Runs.StepsOf, Runs.Next, Runs.Stream, Runs.Recording, Runs.End}
 use Rattle.csicodec_inspect.specs.Sent.{FrontsOf, IsAppended, IsWrittenBy}
 use Rattle.csicodec_tool.specs.{Log.IsLogged, Log.IsLoggedFront, Log.Logs, Log.LogsSome, declared.rewrite.Job.Job, declared.rewrite.Work.Work}

@@ -1,6 +1,7 @@
 //! The words of an action, found by the list that it prints.
 
 use crate::action_words::ACTIONS;
+use crate::out::Out;
 use crate::rows::find;
 use crate::sequences::ListKey;
 use crate::sgr::tell_color;
@@ -76,43 +77,49 @@ pub struct ActionWords<'a> {
 
 impl<'a> fmt::Display for ActionWords<'a> {
     fn fmt<W: Write>(&self, f: &mut Formatter<W>) -> fmt::Result {
-        match self.action {
-            CSI::Sgr(attribute) => tell_attribute(f, attribute),
-            CSI::Unspecified(unknown) => tell_unknown(f, unknown),
-            _ => {
-                let list = self.list.params.as_slice();
-                let key = ListKey::new(list, self.list.control, list.len() as i64);
-                let words = match key.words(&ACTIONS) {
-                    Some(words) => words,
-                    None => key.without_intermediate().words(&ACTIONS).unwrap_or(""),
-                };
-                fill(f, words, list)
-            }
+        let mut out = Out::new(f);
+        tell_action(&mut out, self.action, self.list);
+        out.done
+    }
+}
+
+/// An action of this list.
+pub(crate) fn tell_action<W: Write>(out: &mut Out<'_, W>, action: &CSI, list: &ActionList) {
+    match action {
+        CSI::Sgr(attribute) => tell_attribute(out, attribute),
+        CSI::Unspecified(unknown) => tell_unknown(out, unknown),
+        _ => {
+            let params = list.params.as_slice();
+            let key = ListKey::new(params, list.control, params.len() as i64);
+            let words = match key.words(&ACTIONS) {
+                Some(words) => words,
+                None => key.without_intermediate().words(&ACTIONS).unwrap_or(""),
+            };
+            fill(out, words, params);
         }
     }
 }
 
 /// An attribute by its colour, or by the text that sets it.
-fn tell_attribute<W: Write>(f: &mut Formatter<W>, attribute: &Sgr) -> fmt::Result {
+fn tell_attribute<W: Write>(out: &mut Out<'_, W>, attribute: &Sgr) {
     if let Some((ahead, color)) = color_of(attribute) {
-        f.write_str(ahead)?;
-        return tell_color(f, color);
+        out.put(ahead);
+        return tell_color(out, color);
     }
     let mut text = Text::new();
     attribute.write_to(&mut text);
     let key = text.as_str().strip_suffix('m').unwrap_or("");
-    f.write_str(find(&ATTRIBUTES, key.as_bytes()).unwrap_or(""))
+    out.put(find(&ATTRIBUTES, key.as_bytes()).unwrap_or(""));
 }
 
 /// What no table has a name for is told by its tokens, with SP for a blank, as the standards write it.
-pub(crate) fn tell_unknown<W: Write>(f: &mut Formatter<W>, unknown: &Unspecified) -> fmt::Result {
-    f.write_str("unknown  CSI ")?;
+pub(crate) fn tell_unknown<W: Write>(out: &mut Out<'_, W>, unknown: &Unspecified) {
+    out.put("unknown  CSI ");
     for token in &unknown.params {
-        let told = match token {
-            CsiParam::P(b' ') => f.write_str(" SP "),
-            _ => write!(f, "{token}"),
-        };
-        told?;
+        match token {
+            CsiParam::P(b' ') => out.put(" SP "),
+            _ => out.show(token),
+        }
     }
-    f.write_char(unknown.control)
+    out.show(&unknown.control);
 }

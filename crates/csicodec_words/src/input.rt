@@ -1,66 +1,62 @@
 //! What a user did: keys, the focus, and the mouse by its reports.
 
-use crate::keys::KeyWords;
+use crate::keys::tell_key;
+use crate::out::Out;
 use crate::template::fill;
 use csicodec_base::CsiParam::{self, Integer, P};
 use csicodec_events::{Event, InputEvent};
-use csicodec_keys::read;
+use csicodec_keys::{Key, read};
 use std::fmt::{self, Formatter, Write};
 
 /// What a user did, as a terminal sends it. It prints as its words: a name, two blanks, and what it was: `key  Ctrl-c`.
 #[derive(Drop)]
 pub enum Did {
-    /// A key.
-    Key(KeyWords),
-    /// A key, or something else that sends the same.
-    Either(KeyWords, &'static str),
-    /// The mouse, by a report of three characters: the button, the line and the column, each 32 and more than what it stands for.
-    Mouse([CsiParam; 5]),
-    /// The terminal's window took the focus, or lost it.
-    Focus(bool),
-    /// What stands ahead of a character with which no key is known, and the character.
-    Unknown(&'static str, char),
-    /// A number before `$` with which no key is known.
-    UnknownNumber(u8),
+    /// A key, and what else sends the same, which is empty where nothing does.
+    Key(Key, &'static str),
+    /// What these words say, with holes for the numbers of a list.
+    Told(&'static str, [CsiParam; 5]),
 }
 
 /// The words of a report of the mouse in three characters.
-const MOUSE: &str =
-    "mouse  {0@mouse} line {1@place}, column {2@place}{0&, with |4=shift|8=alt|16=control}";
+const MOUSE: &str = "mouse  {0@t} line {1@p}, column {2@p}{0&, with |4=shift|8=alt|16=control}";
 
 /// The number of the next character; 0 where there is none.
 fn next(text: &mut std::str::Chars<'_>) -> i64 {
     i64::from(u32::from(text.next().unwrap_or('\0')))
 }
 
-/// A report of the mouse: behind `ESC [ M` stand three characters, a byte each or in UTF-8 (xterm's ctlseqs, Mouse Tracking; mode 1005).
-fn report_of(bytes: &[u8]) -> [CsiParam; 5] {
-    let characters = bytes.get(3..).unwrap_or(&[]);
-    let mut text = std::str::from_utf8(characters).unwrap_or("").chars();
-    let (button, column, line): (i64, i64, i64) = match characters {
-        [button, column, line] => ((*button).into(), (*column).into(), (*line).into()),
-        _ => (next(&mut text), next(&mut text), next(&mut text)),
-    };
+/// A list of three numbers.
+fn list_of(first: i64, second: i64, third: i64) -> [CsiParam; 5] {
     [
-        Integer(button),
+        Integer(first),
         P(b';'),
-        Integer(line),
+        Integer(second),
         P(b';'),
-        Integer(column),
+        Integer(third),
     ]
 }
 
-/// What sends the same as the key that is read of an event. F3 with modifiers is also the cursor's place in line 1.
-fn also(event: InputEvent, params: &[CsiParam]) -> Option<&'static str> {
+/// A report of the mouse: behind `ESC [ M` stand three characters, a byte each or in UTF-8 (xterm's ctlseqs, Mouse Tracking; mode 1005). They are
+/// the button, the column and the line, each 32 and more than what it stands for.
+fn report_of(bytes: &[u8]) -> [CsiParam; 5] {
+    let characters = bytes.get(3..).unwrap_or(&[]);
+    if let [button, column, line] = characters {
+        return list_of((*button).into(), (*line).into(), (*column).into());
+    }
+    let mut text = std::str::from_utf8(characters).unwrap_or("").chars();
+    let (button, column) = (next(&mut text), next(&mut text));
+    list_of(button, next(&mut text), column)
+}
+
+/// What sends the same as the key that is read of an event, if something does. F3 with modifiers is also the cursor's place in line 1.
+fn also(event: InputEvent, params: &[CsiParam]) -> &'static str {
     match event {
-        InputEvent::Output(Event::Control(0x08)) => Some("Backspace"),
-        InputEvent::Output(Event::Control(b'\n')) => Some("Enter"),
-        InputEvent::Alt(0x08) => Some("Alt-Backspace"),
-        InputEvent::Alt(b'\n') => Some("Alt-Enter"),
-        InputEvent::Output(Event::Csi('R')) if !params.is_empty() => Some(
-            "CPR, the cursor's place",
-        ),
-        _ => None,
+        InputEvent::Output(Event::Control(0x08)) => "Backspace",
+        InputEvent::Output(Event::Control(b'\n')) => "Enter",
+        InputEvent::Alt(0x08) => "Alt-Backspace",
+        InputEvent::Alt(b'\n') => "Alt-Enter",
+        InputEvent::Output(Event::Csi('R')) if !params.is_empty() => "CPR, the cursor's place",
+        _ => "",
     }
 }
 
@@ -68,21 +64,19 @@ impl Did {
     /// What an event of these bytes is, whose tokens are `params`; none where it says what it says in output too.
     pub fn of(event: InputEvent, bytes: &[u8], params: &[CsiParam]) -> Option<Did> {
         if let Some((_, key)) = read(event, params) {
-            return Some(match also(event, params) {
-                Some(other) => Did::Either(KeyWords(key), other),
-                None => Did::Key(KeyWords(key)),
-            });
+            return Some(Did::Key(key, also(event, params)));
         }
-        match event {
-            InputEvent::Output(Event::Csi('I')) if params.is_empty() => Some(Did::Focus(true)),
-            InputEvent::Output(Event::Csi('O')) if params.is_empty() => Some(Did::Focus(false)),
-            InputEvent::Output(_) | InputEvent::Escape => None,
-            InputEvent::Mouse => Some(Did::Mouse(report_of(bytes))),
-            InputEvent::Ss3(byte) => Some(Did::Unknown("SS3 ", char::from(byte))),
-            InputEvent::Linux(byte) => Some(Did::Unknown("CSI [ ", char::from(byte))),
-            InputEvent::Alt(byte) => Some(Did::Unknown("ESC ", char::from(byte))),
-            InputEvent::Rxvt(number) => Some(Did::UnknownNumber(number)),
-        }
+        let (words, byte) = match event {
+            InputEvent::Output(Event::Csi('I')) if params.is_empty() => ("focus  gained", 0),
+            InputEvent::Output(Event::Csi('O')) if params.is_empty() => ("focus  lost", 0),
+            InputEvent::Output(_) | InputEvent::Escape => return None,
+            InputEvent::Mouse => return Some(Did::Told(MOUSE, report_of(bytes))),
+            InputEvent::Ss3(byte) => ("unknown  SS3 {0@a}", byte),
+            InputEvent::Linux(byte) => ("unknown  CSI [ {0@a}", byte),
+            InputEvent::Alt(byte) => ("unknown  ESC {0@a}", byte),
+            InputEvent::Rxvt(number) => ("unknown  CSI {0}$", number),
+        };
+        Some(Did::Told(words, list_of(byte.into(), 0, 0)))
     }
 
     /// What a control character is.
@@ -93,14 +87,18 @@ impl Did {
 
 impl fmt::Display for Did {
     fn fmt<W: Write>(&self, f: &mut Formatter<W>) -> fmt::Result {
+        let mut out = Out::new(f);
         match self {
-            Did::Key(key) => write!(f, "{key}"),
-            Did::Either(key, other) => write!(f, "{key} (or {other})"),
-            Did::Mouse(report) => fill(f, MOUSE, report),
-            Did::Focus(true) => f.write_str("focus  gained"),
-            Did::Focus(false) => f.write_str("focus  lost"),
-            Did::Unknown(ahead, character) => write!(f, "unknown  {ahead}{character}"),
-            Did::UnknownNumber(number) => write!(f, "unknown  CSI {number}$"),
+            Did::Key(key, other) => {
+                tell_key(&mut out, key);
+                if !other.is_empty() {
+                    out.put(" (or ");
+                    out.put(other);
+                    out.put(")");
+                }
+            }
+            Did::Told(words, params) => fill(&mut out, words, params),
         }
+        out.done
     }
 }

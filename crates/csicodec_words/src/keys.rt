@@ -1,21 +1,17 @@
 //! Keys in words, as csicodec_keys reads them.
 
 use crate::key_words::KEYS;
+use crate::out::Out;
 use bitflags::Flags;
 use csicodec_base::CsiParam::{self, Integer, P};
 use csicodec_events::{Event, InputEvent};
-use csicodec_keys::{Encoding, Key, KeyCode, KeyEvent, KeyModifiers, read};
+use csicodec_keys::{Encoding, Key, KeyCode, KeyEvent, read};
 use csicodec_osc::{Shown, is_seen};
-use std::fmt::{self, Formatter, Write};
-
-/// A key. It prints as its words: `key`, two blanks, what is held down, its name, the text that it gives, and whether it is repeated or
-/// released.
-#[derive(Drop)]
-pub struct KeyWords(pub Key);
+use std::fmt::Write;
 
 /// The key that a list before this final character is in output too: of xterm's forms and kitty's, not of those that rxvt and Windows
 /// have of their own.
-pub fn key_of(params: &[CsiParam], control: char) -> Option<KeyWords> {
+pub fn key_of(params: &[CsiParam], control: char) -> Option<Key> {
     // Before a letter only with modifiers, since it is an action without them.
     match (control, params) {
         ('u' | '~', _) | (_, [Integer(1), P(b';'), Integer(_)]) => {}
@@ -24,7 +20,7 @@ pub fn key_of(params: &[CsiParam], control: char) -> Option<KeyWords> {
     }
     match read(InputEvent::Output(Event::Csi(control)), params)? {
         (Encoding::Rxvt | Encoding::Win32, _) => None,
-        (_, key) => Some(KeyWords(key)),
+        (_, key) => Some(key),
     }
 }
 
@@ -40,61 +36,62 @@ pub fn key_by_number(control: char, params: &[CsiParam]) -> Option<&'static str>
     })
 }
 
-impl fmt::Display for KeyWords {
-    fn fmt<W: Write>(&self, f: &mut Formatter<W>) -> fmt::Result {
-        let key = &self.0;
-        f.write_str("key  ")?;
-        write_held(f, key.modifiers)?;
-        write_code(f, key.code)?;
-        if matches!(key.code, KeyCode::Text) {
-            write_text(f, " \"", key.text.as_slice())?;
-        } else if !key.text.is_empty() {
-            write_text(f, ", text \"", key.text.as_slice())?;
-        }
-        f.write_str(match key.event {
-            KeyEvent::Press => "",
-            KeyEvent::Repeat => ", repeated",
-            KeyEvent::Release => ", released",
-        })
-    }
-}
+/// The modifiers, each by its bit, with a hyphen behind its name.
+static HELD: [(u8, &str); 6] = [
+    (4, "Ctrl-"),
+    (2, "Alt-"),
+    (1, "Shift-"),
+    (8, "Super-"),
+    (16, "Hyper-"),
+    (32, "Meta-"),
+];
 
-/// The bits of modifiers, and the name of each with a hyphen behind it.
-static BITS: [u8; 6] = [4, 2, 1, 8, 16, 32];
-
-static HELD: [&str; 6] = ["Ctrl-", "Alt-", "Shift-", "Super-", "Hyper-", "Meta-"];
-
-/// The modifiers.
-fn write_held<W: Write>(f: &mut Formatter<W>, modifiers: KeyModifiers) -> fmt::Result {
-    for (bit, name) in BITS.iter().zip(&HELD) {
-        if modifiers.bits() & *bit != 0 {
-            f.write_str(name)?;
+/// A key: `key`, two blanks, what is held down, its name, the text that it gives, and whether it is repeated or released.
+pub(crate) fn tell_key<W: Write>(out: &mut Out<'_, W>, key: &Key) {
+    out.put("key  ");
+    for (bit, name) in &HELD {
+        if key.modifiers.bits() & *bit != 0 {
+            out.put(name);
         }
     }
-    Ok(())
+    tell_code(out, key.code);
+    tell_text(out, key);
+    out.put(match key.event {
+        KeyEvent::Press => "",
+        KeyEvent::Repeat => ", repeated",
+        KeyEvent::Release => ", released",
+    });
 }
 
 /// The name of a key, or the character that stands on it.
-fn write_code<W: Write>(f: &mut Formatter<W>, code: KeyCode) -> fmt::Result {
+fn tell_code<W: Write>(out: &mut Out<'_, W>, code: KeyCode) {
     match code {
-        KeyCode::F(number) => write!(f, "F{number}"),
-        KeyCode::Char(' ') => f.write_str("Space"),
-        KeyCode::Char(character) if is_seen(character) => f.write_char(character),
-        KeyCode::Char(character) => write!(f, "of character {}", u32::from(character)),
+        KeyCode::F(number) => {
+            out.put("F");
+            out.put_number(number.into());
+        }
+        KeyCode::Char(' ') => out.put("Space"),
+        KeyCode::Char(character) if is_seen(character) => out.show(&character),
+        KeyCode::Char(character) => {
+            out.put("of character ");
+            out.put_number(u32::from(character).into());
+        }
         _ => {
             let words = KEYS.get(usize::from(code.tag()).saturating_sub(2));
-            f.write_str(words.copied().unwrap_or(""))
+            out.put(words.copied().unwrap_or(""));
         }
     }
 }
 
-/// A text, what stands ahead of it, and a quotation mark behind it.
-fn write_text<W: Write>(f: &mut Formatter<W>, ahead: &str, text: &[char]) -> fmt::Result {
-    f.write_str(ahead)?;
-    for character in text {
-        let mut bytes = [0u8; 4];
-        let shown = Shown(character.encode_utf8(&mut bytes).as_bytes());
-        write!(f, "{shown}")?;
+/// The text that a key gives, if it gives some, in quotation marks.
+fn tell_text<W: Write>(out: &mut Out<'_, W>, key: &Key) {
+    out.put(match (key.code, key.text.as_slice()) {
+        (KeyCode::Text, _) => " \"",
+        (_, []) => return,
+        _ => ", text \"",
+    });
+    for character in key.text.as_slice() {
+        out.show(&Shown(character.encode_utf8(&mut [0u8; 4]).as_bytes()));
     }
-    f.write_char('"')
+    out.put("\"");
 }

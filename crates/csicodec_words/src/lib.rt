@@ -16,6 +16,7 @@ mod input;
 mod key_words;
 mod keys;
 mod mode_words;
+mod out;
 mod reading;
 mod rows;
 mod sequence_rows;

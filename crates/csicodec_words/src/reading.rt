@@ -2,8 +2,9 @@
 //! codec has no action for it, the words of what terminals make of it.
 
 use crate::action_words::SENT;
-use crate::actions::{ActionList, ActionWords, tell_unknown};
-use crate::keys::{key_by_number, key_of};
+use crate::actions::{ActionList, tell_action, tell_unknown};
+use crate::keys::{key_by_number, key_of, tell_key};
+use crate::out::Out;
 use crate::rows::{find, number, words_of};
 use crate::sequences::{words, words_instead};
 use crate::sgr_words::ATTRIBUTES;
@@ -30,23 +31,21 @@ pub struct Reading<'a> {
 
 impl<'a> fmt::Display for Reading<'a> {
     fn fmt<W: Write>(&self, f: &mut Formatter<W>) -> fmt::Result {
+        let mut out = Out::new(f);
         if let CSI::Unspecified(unknown) = self.action {
-            return if Parts::of(&unknown.params).marker == Parts::of(self.params).marker {
-                unread(f, unknown, self.sent)
+            if Parts::of(&unknown.params).marker == Parts::of(self.params).marker {
+                unread(&mut out, unknown, self.sent);
             } else {
-                tell_unknown(f, unknown)
-            };
+                tell_unknown(&mut out, unknown);
+            }
+        } else if let Some(words) = words_instead(self.params, self.control) {
+            // The codec's table is termwiz's.
+            fill(&mut out, words, self.params);
+        } else {
+            tell_action(&mut out, self.action, self.list);
+            out.put(read_also(self.params, self.control).unwrap_or(""));
         }
-        // The codec's table is termwiz's.
-        if let Some(words) = words_instead(self.params, self.control) {
-            return fill(f, words, self.params);
-        }
-        let words = ActionWords {
-            action: self.action,
-            list: self.list,
-        };
-        let behind = read_also(self.params, self.control).unwrap_or("");
-        write!(f, "{words}{behind}")
+        out.done
     }
 }
 
@@ -83,13 +82,13 @@ fn read_also(params: &[CsiParam], control: char) -> Option<&'static str> {
 
 /// A sequence, or what is left of one, that no row of the codec's table reads: a key, or the words that a table has for its form. A list
 /// with a byte where none may stand isn't read by terminals either.
-fn unread<W: Write>(f: &mut Formatter<W>, unknown: &Unspecified, sent: bool) -> fmt::Result {
+fn unread<W: Write>(out: &mut Out<'_, W>, unknown: &Unspecified, sent: bool) {
     let (params, control) = (unknown.params.as_slice(), unknown.control);
     if !is_regular(params) {
-        return tell_unknown(f, unknown);
+        return tell_unknown(out, unknown);
     }
     if let Some(key) = key_of(params, control) {
-        return write!(f, "{key}");
+        return tell_key(out, &key);
     }
     let words = match (control, params) {
         ('m', [CsiParam::Integer(number)]) => words_of(&ATTRIBUTES, *number),
@@ -99,7 +98,7 @@ fn unread<W: Write>(f: &mut Formatter<W>, unknown: &Unspecified, sent: bool) -> 
         },
     };
     match words {
-        Some(words) => fill(f, words, params),
-        None => tell_unknown(f, unknown),
+        Some(words) => fill(out, words, params),
+        None => tell_unknown(out, unknown),
     }
 }

@@ -2,7 +2,6 @@
 
 use csicodec_base::CsiParam;
 use itoa::Buffer;
-use std::fmt::{self, Formatter, Write};
 
 /// Rows, each a key, a tab and words, in the order of their bytes.
 pub type Rows = &'static [&'static str];
@@ -30,11 +29,6 @@ pub fn find(table: Rows, key: &[u8]) -> Option<&'static str> {
 /// The words behind a number in decimal digits.
 pub(crate) fn words_of(table: Rows, number: i64) -> Option<&'static str> {
     find(table, Buffer::new().format(number).as_bytes())
-}
-
-/// Writes a number in decimal digits.
-pub(crate) fn tell_number<W: Write>(f: &mut Formatter<W>, number: i64) -> fmt::Result {
-    f.write_str(Buffer::new().format(number))
 }
 
 /// The number at a place of a list, counted from 0 by the semicolons ahead of it; behind a colon stand others, of the same place. None where

@@ -27,17 +27,17 @@ def colors():
 def digits():
     return """//! Words that have the digits of a sequence. Written by tools/table.
 
-/// What stands ahead of a line, and of a column behind it, where a list has these and ends in this byte.
-pub(crate) fn words_of_place(control: u8) -> Option<(&'static str, &'static str)> {
-    match control {
-""" + "".join(f"        {byte(final)} => Some(({string(line)}, {string(column)})),\n" for final, line, column in places()) + """        _ => None,
-    }
-}
-
-/// What stands ahead of red, green and blue, and these in front of a list.
-pub(crate) fn words_of_color(list: &[u8]) -> Option<(&'static str, &[u8])> {
-    match list {
-""" + "".join(f"        [{', '.join(byte(character) for character in code + ';2;')}, parts @ ..] => Some(({string(words)}, parts)),\n" for code, words in colors()) + """        _ => None,
+/// What stands ahead of the first number and of the others, where a list that ends in this byte has a place or a true colour in front; and
+/// the list from these numbers on.
+pub(crate) fn words_of(list: &[u8], control: u8) -> Option<(&'static str, &'static str, &[u8])> {
+    match (control, list) {
+""" + "".join(f"        ({byte(final)}, _) => Some(({string(line)}, {string(column)}, list)),\n" for final, line, column in places()) + """        (b'm', [first, second, b';', b'2', b';', parts @ ..]) => {
+            let words = match [*first, *second] {
+""" + "".join(f"                [{', '.join(byte(character) for character in code)}] => {string(words)},\n" for code, words in colors()) + """                _ => return None,
+            };
+            Some((words, ",", parts))
+        }
+        _ => None,
     }
 }
 """

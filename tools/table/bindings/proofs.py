@@ -155,7 +155,7 @@ def like_row(number, group, variant, form, names):
     if form == "extensions":
         return " list", f"\n    let l = attributes-named list range in like ({action(group, variant, ' l.others')}) l.in_range l.named (rw l.long) l.same"
     one = action(group, variant, " (item_of (item_number item)) action_or_status list")
-    return " item action_or_status list", f"\n    let h = item-named (item_number item) in\n    like ({one}) range h.0 (rw h.1) refl"
+    return " item action_or_status list", f"\n    let h = item_named (item_number item) in\n    like ({one}) range h.0 (rw h.1) refl"
 
 
 def likes():

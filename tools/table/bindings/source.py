@@ -2,16 +2,18 @@
 import re
 import textwrap
 
-from bindings.library import BY_NUMBER, IN_TURN, LISTS, NAMED, PATH, acting, declared, has_tokens, is_boxed, kinds, low, number_of, of, snake, span, text_of, type_of, used
+from bindings.library import BY_NUMBER, IN_TURN, LISTS, NAMED, PATH, acting, declared, has_tokens, is_boxed, kinds, low, number_of, of, snake, span, text_of, type_of, types, used
 from bindings.specs import can_be_named, names_in, own_use
 
 
 def source_use(text):
-    """The `use` line of the types that the text of a source says."""
+    """The `use` lines of the types that the text of a source says, each of the crate that `csicodec` has it of."""
     names = [kind.name for kind in declared(NAMED + acting())] + ["Modifiers"]
     # A variant in a table of kinds, behind its number, isn't the type of its name.
     said = re.sub(r"(?<=[0-9] )[A-Z]\w*[(]", "", text)
-    return f"use csicodec::{{{used(names, said)}}};\n"
+    homes = re.findall(r"^pub use (\w+)::\{([^}]*)\};", text_of("crates/csicodec/src/lib.rt"), re.M)
+    ours = [(crate, used([name for name in names if name in re.findall(r"\w+", own)], said)) for crate, own in homes]
+    return "".join(f"use {crate}::{{{own}}};\n" for crate, own in ours if own)
 
 
 def numbers_use(text):
@@ -62,7 +64,7 @@ OWN = {
     "area": "Struct",
     "state": "i64::from(mode.number())",
     "extensions": "flags_row({}, place, flags)",
-    "graphics": "list_row({}, item_number(graphics.item), graphics.action_or_status, place, graphics.value.len())",
+    "graphics": "list_row({}, graphics.item.number(), graphics.action_or_status, place, graphics.value.len())",
 }
 
 
@@ -100,41 +102,50 @@ macro_rules! kind_row {
 
 /// What a struct says in a field, for a value of a kind.
 macro_rules! said {
-    ($given:ident place) => { place($given.first)? };
+    ($given:ident place) => { place($given.first) };
     ($given:ident number) => { $given.first };
-    ($given:ident coded $type:ident) => { $type::from_i64($given.first)? };
-    ($given:ident listed $by:ident) => { $by($given.first)? };
-    ($given:ident $form:ident) => { $form($given)? };
-    ($given:ident places $at:ident) => { place($given.$at)? };
+    ($given:ident coded $type:ident $other:ident) => { $type::from_i64($given.first).unwrap_or($type::$other) };
+    ($given:ident listed $by:ident) => { $by($given.first) };
+    ($given:ident color) => { color(*$given) };
+    ($given:ident $form:ident) => { $form($given) };
+    ($given:ident places $at:ident) => { place($given.$at) };
     ($given:ident numbers $at:ident) => { $given.$at };
     ($given:ident sizes $at:ident) => { $at($given) };
-    ($given:ident keys first) => { XtermKeyModifierResource::parse($given.first)? };
+    ($given:ident keys first) => { XtermKeyModifierResource::parse($given.first).unwrap_or(XtermKeyModifierResource::Keyboard) };
     ($given:ident keys second) => { second($given) };
-    ($given:ident state first) => { flags($given)? };
-    ($given:ident state second) => { KittyKeyboardMode::from_i64($given.second)? };
-    ($given:ident report button) => { button($given.button)? };
+    ($given:ident state first) => { flags($given) };
+    ($given:ident state second) => { KittyKeyboardMode::from_i64($given.second).unwrap_or(KittyKeyboardMode::AssignAll) };
+    ($given:ident report button) => { button($given.button) };
     ($given:ident report modifiers) => { Modifiers::from_bits_retain($given.modifiers) };
-    ($given:ident report $at:ident) => { word($given.$at)? };
+    ($given:ident report $at:ident) => { word($given.$at) };
     ($given:ident area first) => { $given.first };
     ($given:ident area second) => { $given.second };
-    ($given:ident area $side:ident) => { side($given.$side)? };
+    ($given:ident area $side:ident) => { side($given.$side) };
 }
 
 /// The struct of a value, whatever its kind.
 macro_rules! struct_of_value {
-    ($value:ident $type:ident $($number:literal $name:ident $(($form:ident $($of:ident)?))? $($fields:ident { $($field:ident: $at:ident),* })?,)*) => {
+    ($value:ident $type:ident $($number:literal $name:ident $(($form:ident $($of:ident)*))? $($fields:ident { $($field:ident: $at:ident),* })?,)*) => {
         match $value {
             $($type::$name $(($form))? $({ $($field),* })? => kind_row!($number $($form $form)? $($fields $($field)*)?),)*
         }
     };
 }
 
-/// What a struct may stand for, by its kind.
+/// A value of a kind, with what a struct says.
+macro_rules! value_of_kind {
+    ($given:ident $type:ident $name:ident $(($form:ident $($of:ident)*))? $($fields:ident { $($field:ident: $at:ident),* })?) => {
+        $type::$name $((said!($given $form $($of)*)))? $({ $($field: said!($given $fields $at)),* })?
+    };
+}
+
+/// What a struct may stand for, by its kind; one of another kind is taken for the first.
 macro_rules! value_of_struct {
-    ($given:ident $type:ident $($number:literal $name:ident $(($form:ident $($of:ident)?))? $($fields:ident { $($field:ident: $at:ident),* })?,)*) => {
+    ($given:ident $type:ident $first:literal $other:ident $(($($of:tt)*))? $($fields:ident { $($at:tt)* })?,
+        $($number:literal $name:ident $(($($form:tt)*))? $($said:ident { $($field:tt)* })?,)*) => {
         match $given.kind {
-            $($number => Some($type::$name $((said!($given $form $($of)?)))? $({ $($field: said!($given $fields $at)),* })?),)*
-            _ => None,
+            $($number => value_of_kind!($given $type $name $(($($form)*))? $($said { $($field)* })?),)*
+            _ => value_of_kind!($given $type $other $(($($of)*))? $($fields { $($at)* })?),
         }
     };
 }
@@ -165,8 +176,19 @@ def kind_row(number, group, variant, form, names):
     if form == "enum":
         read = number_of(names[0])[2]
         own = re.fullmatch(r"(\w+)\(given(\.first)?\)\?", read)
-        left = f"({f'listed {own[1]}' if own[2] else own[1]})" if own else f"(coded {names[0]})"
+        left = f"({f'listed {own[1]}' if own[2] else own[1]})" if own else f"(coded {names[0]} {types()[names[0]].variants[0].name})"
     return f"{number} {variant[0]}{left},"
+
+
+def spans(numbers):
+    """These numbers as a pattern."""
+    found = []
+    for number in numbers:
+        if found and found[-1][1] == number - 1:
+            found[-1][1] = number
+        else:
+            found.append([number, number])
+    return " | ".join(str(first) if first == last else f"{first}..={last}" for first, last in found)
 
 
 def tables():
@@ -177,7 +199,8 @@ def tables():
             continue
         rows_ = textwrap.wrap(" ".join(kind_row(*kind).replace(" ", "\0") for kind in of(group)), 130, break_long_words=False, break_on_hyphens=False)
         out += f"    ({type_of(group)} $arms:ident $value:ident) => {{\n        $arms! {{ $value {type_of(group)}\n"
-        out += "".join(f"            {row}\n" for row in rows_).replace("\0", " ") + "        }\n    };\n"
+        out += "".join(f"            {row}\n" for row in rows_).replace("\0", " ")
+        out += "        }\n    };\n"
     return out + "}\n"
 
 
@@ -208,12 +231,11 @@ pub(crate) fn struct_of(place: usize, action: &CSI) -> Struct
     }}
 }}
 """
-    small = "".join(f"        {span(group)} => Some(CSI::{group}({low(group)}_candidate(given)?)),\n" for group in BY_NUMBER if not is_boxed(group))
+    small = "".join(f"        {span(group)} => Some(CSI::{group}({low(group)}_candidate(given))),\n" for group in BY_NUMBER if not is_boxed(group))
     small += f"        {PATH} => Some(CSI::SelectCharacterPath(CharacterPath::from_i64(given.first)?, given.second)),\n"
-    boxed = "".join(f"""        {span(group)} => match {low(group)}_candidate(given) {{
-            Some({low(group)}) => Ok(Some(CSI::{group}(Box::new(alloc, {low(group)})?))),
-            None => Ok(None),
-        }},
+    boxed = "".join(f"""        {spans(kind[0] for kind in bare(group))} => {{
+            Ok(Some(CSI::{group}(Box::new(alloc, {low(group)}_candidate(given))?)))
+        }}
 """ for group in BY_NUMBER if is_boxed(group))
     body += SMALL.replace("ARMS", small) + ALL.replace("ARMS", boxed)
     numbers = "use std::alloc::{AllocError, Global};\n\n/// What none of the rules reads.\npub(crate) const UNSPECIFIED: u32 = 0;\n"
@@ -225,7 +247,7 @@ ghost use Rattle.std.specs.Prelude.{{◌≡◌, [], IfOk, IfSome}};
 ghost use Rattle.std.specs.Option.{{option_map}};
 ghost use Rattle.csicodec_actions.specs.Devices.{{device_of}};
 ghost use Rattle.csicodec_parser.specs.ActionOf.{{action_of}};
-ghost use Rattle.csicodec_structs.specs.Private.Steps.{{Finds, HasNoList, IsBare, IsSmall}};
+ghost use Rattle.csicodec_structs.specs.Private.Steps.{{Finds, FindsSome, HasNoList, IsBare, IsOwn, IsSmall}};
 ghost {own_use(body).strip()};
 
 {numbers_use(body)}use crate::structs::{{
@@ -238,16 +260,14 @@ use bitflags::Flags;
 def candidate(number, group, variant, form, names):
     """The arm of a kind of a subject that has tokens too."""
     name, tail = source_name(group, variant)
-    return f"{number} => Some({name}{dict(unit='', int='(given.first)')[form]}{tail}),\n"
+    return f"{number} => {name}{dict(unit='', int='(given.first)')[form]}{tail},\n"
 
 
 SMALL = """
 /// Of what takes no memory.
 pub(crate) fn small_candidate(given: &Struct) -> Option<CSI>
-    ensures in_range { IfSome result (λ csi. InRange (action_of csi)) }
-    ensures named { IfSome result (λ csi. IsNamed (action_of csi)) }
-    ensures bare { IfSome result (λ csi. params_of (action_of csi) ≡ []) }
-    ensures finds { Finds (struct_of given.now.place) IsSmall given.now
+    ensures fits { IfSome result (λ csi. IsOwn [] (action_of csi)) }
+    ensures finds { FindsSome (struct_of given.now.place) IsSmall given.now
         (option_map action_of result) }
 {
     match given.kind {
@@ -258,10 +278,8 @@ ARMS        _ => None,
 ALL = """
 /// Of all that have no tokens.
 pub(crate) fn candidate(alloc: Global, given: &Struct) -> Result<Option<CSI>, AllocError>
-    ensures in_range { IfOk result (λ r. IfSome r (λ csi. InRange (action_of csi))) }
-    ensures named { IfOk result (λ r. IfSome r (λ csi. IsNamed (action_of csi))) }
-    ensures bare { IfOk result (λ r. IfSome r (λ csi. params_of (action_of csi) ≡ [])) }
-    ensures finds { IfOk result (λ r. Finds (struct_of given.now.place) IsBare given.now
+    ensures fits { IfOk result (λ r. IfSome r (λ csi. IsOwn [] (action_of csi))) }
+    ensures finds { IfOk result (λ r. FindsSome (struct_of given.now.place) IsBare given.now
         (option_map action_of r)) }
 {
     match given.kind {
@@ -271,20 +289,26 @@ ARMS        _ => Ok(small_candidate(given)),
 """
 
 
+def bare(group):
+    """Those of a group that have no tokens."""
+    return [kind for kind in of(group) if kind[3] not in LISTS]
+
+
 def candidate_of(group):
     """What a struct of a group without tokens may stand for."""
     name = low(group)
-    holds = lambda what: f"IfSome result {what}" if not has_tokens(group) else f"IfSome result (λ {name}. {what} ({name}_of {name}))"
-    clauses = {"in_range": holds(f"{group}InRange")}
+    value = f"({name}_of result)" if has_tokens(group) else "result"
+    clauses = {"in_range": f"{group}InRange {value}"}
     if can_be_named(group):
-        clauses["named"] = holds(f"IsNamed{group}")
+        clauses["named"] = f"IsNamed{group} {value}"
     if has_tokens(group):
-        clauses["bare"] = f"IfSome result (λ {name}. {name}_params ({name}_of {name}) ≡ [])"
-        clauses["finds"] = f"Finds ({name}_struct given.now.place) HasNoList given.now\n        (option_map {name}_of result)"
+        clauses["bare"] = f"{name}_params {value} ≡ []"
+        clauses["finds"] = f"Finds ({name}_struct given.now.place) HasNoList given.now {value}"
     else:
         clauses["finds"] = f"Finds {name}_struct {group}InRange given.now result"
     ensures = "".join(f"    ensures {clause} {{ {says} }}\n" for clause, says in clauses.items())
-    head = f"\nfn {name}_candidate(given: &Struct) -> Option<{type_of(group)}>\n{ensures}{{\n"
+    head = f"\nfn {name}_candidate(given: &Struct) -> {type_of(group)}\n{ensures}{{\n"
     if not has_tokens(group):
         return f"{head}    kinds!({type_of(group)} value_of_struct given)\n}}\n"
-    return f"{head}    match given.kind {{\n" + "".join(candidate(*kind) for kind in of(group) if kind[3] not in LISTS) + "        _ => None,\n    }\n}\n"
+    *arms, other = [candidate(*kind) for kind in bare(group)]
+    return f"{head}    match given.kind {{\n" + "".join(arms) + re.sub("^[0-9]+", "_", other) + "    }\n}\n"

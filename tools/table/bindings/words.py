@@ -5,7 +5,7 @@ from bindings.library import BY_NUMBER, SUBJECTS
 from forms import LARGEST, Form, Slot
 from layout import keyed
 from read import first_line, rows_of
-from templates import template_of
+from templates import CODE, template_of
 from told import row_key
 
 # The subjects with words here; those of SGR are of table/sgr.toml.
@@ -66,7 +66,7 @@ def action_rows():
             said = filled(words, names_of(action), kinds_of(action), SUBJECTS[group].row.get("lists", {}), missing)
             yield key_of(action), said
             if action.form == "report":
-                yield key_of(action).replace("M", "m"), said.replace("@button", "@released")
+                yield key_of(action).replace("M", "m"), said.replace(f"@{CODE['button']}", f"@{CODE['released']}")
     path = rows_of("values.toml")["CSI"]["variants"]["SelectCharacterPath"]["words"]
     yield row_key("k", "", " ", []), filled(path, ["path", "effect"], {"path": "CharacterPath"}, {})
 

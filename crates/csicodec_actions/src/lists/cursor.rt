@@ -12,30 +12,37 @@ use csicodec_base::{CsiParam, CursorStyle, CursorTabulationControl, OneBased, Ta
 /// cursor_action(&[CsiParam::Integer(2)], 'A')        // Some(Cursor::Up(2))
 /// cursor_action(&[CsiParam::Integer(2)], 'm')        // None
 /// ```
-#[tactic(auto, using(crate::proofs::Finals::pairs))]
+#[tactic(auto, using(crate::proofs::Finals::pairs), unfolding(crate::specs::Kinds::read, crate::specs::Table::Cursor::as_cursor))]
 pub fn cursor_action(params: &[CsiParam], control: char) -> Option<Cursor>
     ensures { option_map (λ c. Moves c) result ≡ as_cursor params.now control }
 {
     match control {
         'H' => {
-            let (line, col) = places(params)?;
+            let (line, col) = places(params, 1)?;
             Some(Cursor::Position { line, col })
         }
         'R' => {
-            let (line, col) = places(params)?;
+            let (line, col) = places(params, 1)?;
             Some(Cursor::ActivePositionReport { line, col })
         }
         'f' => {
-            let (line, col) = places(params)?;
+            let (line, col) = places(params, 1)?;
             Some(Cursor::CharacterAndLinePosition { line, col })
         }
-        'W' => tabulation_control(params),
-        'g' => tabulation_clear(params),
+        'W' => Some(Cursor::TabulationControl(CursorTabulationControl::from_i64(choice(params)?)?)),
+        'g' => Some(Cursor::TabulationClear(TabulationClear::from_i64(choice(params)?)?)),
         'r' => top_and_bottom(params),
         's' => left_and_right(params),
-        'u' => restore(params),
-        'n' => request(params),
-        'q' => style(params),
+        'u' => params.is_empty().then_some(Cursor::RestoreCursor),
+        'n' => matches!(params, [CsiParam::Integer(6)]).then_some(
+            Cursor::RequestActivePositionReport,
+        ),
+        'q' => match params {
+            [CsiParam::Integer(number), CsiParam::P(b' ')] => {
+                Some(Cursor::CursorStyle(CursorStyle::from_i64(*number)?))
+            }
+            _ => None,
+        },
         _ => moved(params, control),
     }
 }
@@ -69,26 +76,6 @@ fn moved(params: &[CsiParam], control: char) -> Option<Cursor>
     }
 }
 
-/// A control of tabulation, by its number.
-#[tactic(auto, unfolding(crate::specs::Kinds::read, crate::specs::Table::Cursor::as_cursor))]
-#[inline(always)]
-fn tabulation_control(params: &[CsiParam]) -> Option<Cursor>
-    ensures { option_map (λ c. Moves c) result ≡ as_cursor params.now 87 }
-{
-    let control = CursorTabulationControl::from_i64(choice(params)?)?;
-    Some(Cursor::TabulationControl(control))
-}
-
-/// Which stops are cleared, by its number.
-#[tactic(auto, unfolding(crate::specs::Kinds::read, crate::specs::Table::Cursor::as_cursor))]
-#[inline(always)]
-fn tabulation_clear(params: &[CsiParam]) -> Option<Cursor>
-    ensures { option_map (λ c. Moves c) result ≡ as_cursor params.now 103 }
-{
-    let clear = TabulationClear::from_i64(choice(params)?)?;
-    Some(Cursor::TabulationClear(clear))
-}
-
 /// A top and a bottom margin. A bottom of 0, or that is left out, is 4294967295.
 #[tactic(auto, unfolding(crate::specs::Kinds::read, crate::specs::Table::Cursor::as_cursor))]
 fn top_and_bottom(params: &[CsiParam]) -> Option<Cursor>
@@ -112,51 +99,13 @@ fn top_and_bottom(params: &[CsiParam]) -> Option<Cursor>
 
 /// Without a parameter the cursor is saved; else a left and a right margin. A right that is left out is 4294967295, and
 /// one of 0 is 1.
-#[tactic(auto, unfolding(crate::specs::Kinds::read, crate::specs::Table::Cursor::as_cursor))]
+#[tactic(auto, using(crate::proofs::Finals::sides))]
 fn left_and_right(params: &[CsiParam]) -> Option<Cursor>
     ensures { option_map (λ c. Moves c) result ≡ as_cursor params.now 115 }
 {
-    let (left, right) = match params {
-        [] => return Some(Cursor::SaveCursor),
-        [left] => (
-            OneBased::from_esc_param(left).ok()?,
-            OneBased::new(u32::MAX),
-        ),
-        [left, CsiParam::P(b';'), right] => (
-            OneBased::from_esc_param(left).ok()?,
-            OneBased::from_esc_param(right).ok()?,
-        ),
-        [CsiParam::P(b';'), right] => (OneBased::new(1), OneBased::from_esc_param(right).ok()?),
-        _ => return None,
-    };
-    Some(Cursor::SetLeftAndRightMargins { left, right })
-}
-
-/// No parameter restores the cursor.
-#[tactic(auto, unfolding(crate::specs::Table::Cursor::as_cursor))]
-fn restore(params: &[CsiParam]) -> Option<Cursor>
-    ensures { option_map (λ c. Moves c) result ≡ as_cursor params.now 117 }
-{
-    params.is_empty().then_some(Cursor::RestoreCursor)
-}
-
-/// The number 6 asks for the place of the cursor.
-#[tactic(auto, unfolding(crate::specs::Table::Cursor::as_cursor))]
-fn request(params: &[CsiParam]) -> Option<Cursor>
-    ensures { option_map (λ c. Moves c) result ≡ as_cursor params.now 110 }
-{
-    matches!(params, [CsiParam::Integer(6)]).then_some(Cursor::RequestActivePositionReport)
-}
-
-/// The number of a style, and a space.
-#[tactic(auto, unfolding(crate::specs::Kinds::read, crate::specs::Table::Cursor::as_cursor))]
-fn style(params: &[CsiParam]) -> Option<Cursor>
-    ensures { option_map (λ c. Moves c) result ≡ as_cursor params.now 113 }
-{
-    match params {
-        [CsiParam::Integer(number), CsiParam::P(b' ')] => {
-            Some(Cursor::CursorStyle(CursorStyle::from_i64(*number)?))
-        }
-        _ => None,
+    if let [] = params {
+        return Some(Cursor::SaveCursor);
     }
+    let (left, right) = places(params, u32::MAX)?;
+    Some(Cursor::SetLeftAndRightMargins { left, right })
 }

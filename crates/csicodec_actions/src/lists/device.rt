@@ -2,7 +2,7 @@
 ghost use Rattle.csicodec_actions.specs.{Actions.Device as Devices, Devices.device_of, Devices.listed_attributes, Rows.given, Table.Device.as_device};
 ghost use Rattle.csicodec_actions.specs.{Table.Device.classes, Table.Device.requests, Table.Device.terminals, Common.IfOk, Common.IsSome, Common.OnErr};
 ghost use Rattle.csicodec_actions.specs.{Common.option_map};
-ghost use Rattle.std.specs.Prelude.{◌≡◌};
+ghost use Rattle.std.specs.Prelude.{◌≡◌, ◌≢◌};
 
 use crate::{Device, DeviceAttribute, DeviceAttributeFlags, DeviceAttributes};
 use csicodec_base::CsiParam::{self, Integer, P};
@@ -10,7 +10,6 @@ use std::alloc::{AllocError, Global};
 
 /// What is asked or said of a device before this final character, if a row reads the list. An `Err` comes only where one
 /// does.
-#[tactic(auto, unfolding(crate::specs::Table::Device::as_device))]
 pub fn device_action(
     alloc: Global,
     params: &[CsiParam],
@@ -20,35 +19,9 @@ pub fn device_action(
         option_map (λ d. Devices (device_of d)) device ≡ as_device params.now control) }
     ensures err { OnErr result (IsSome (as_device params.now control)) }
 {
-    match control {
-        'c' => attributes(alloc, params),
-        'p' => match params {
-            [P(b'!')] => Ok(Some(Device::SoftReset)),
-            _ => Ok(None),
-        },
-        'n' => match params {
-            [Integer(5)] => Ok(Some(Device::StatusReport)),
-            _ => Ok(None),
-        },
-        'q' => match params {
-            [P(b'>')] | [P(b'>'), Integer(0)] => Ok(Some(Device::RequestTerminalNameAndVersion)),
-            _ => Ok(None),
-        },
-        'x' => match params {
-            [] | [Integer(0)] => Ok(Some(Device::RequestTerminalParameters(0))),
-            [Integer(1)] => Ok(Some(Device::RequestTerminalParameters(1))),
-            _ => Ok(None),
-        },
-        _ => Ok(None),
+    if control != 'c' {
+        return Ok(plain(params, control));
     }
-}
-
-/// What stands before `c`.
-fn attributes(alloc: Global, params: &[CsiParam]) -> Result<Option<Device>, AllocError>
-    ensures ok { IfOk result (λ device.
-        option_map (λ d. Devices (device_of d)) device ≡ as_device params.now 99) }
-    ensures err { OnErr result (IsSome (as_device params.now 99)) }
-{
     if let Some(device) = request(params) {
         return Ok(Some(device));
     }
@@ -56,6 +29,22 @@ fn attributes(alloc: Global, params: &[CsiParam]) -> Result<Option<Device>, Allo
         return Ok(Some(device));
     }
     class(alloc, params)
+}
+
+/// What stands before any other character than `c`.
+#[tactic(auto, unfolding(crate::specs::Table::Device::as_device))]
+fn plain(params: &[CsiParam], control: char) -> Option<Device>
+    requires { control ≢ 99 }
+    ensures { option_map (λ d. Devices (device_of d)) result ≡ as_device params.now control }
+{
+    match (control, params) {
+        ('p', [P(b'!')]) => Some(Device::SoftReset),
+        ('n', [Integer(5)]) => Some(Device::StatusReport),
+        ('q', [P(b'>')] | [P(b'>'), Integer(0)]) => Some(Device::RequestTerminalNameAndVersion),
+        ('x', [] | [Integer(0)]) => Some(Device::RequestTerminalParameters(0)),
+        ('x', [Integer(1)]) => Some(Device::RequestTerminalParameters(1)),
+        _ => None,
+    }
 }
 
 /// Requests before `c`.
@@ -91,14 +80,14 @@ fn class(alloc: Global, params: &[CsiParam]) -> Result<Option<Device>, AllocErro
         option_map (λ d. Devices (device_of d)) device ≡ given classes params.now) }
     ensures err { OnErr result (IsSome (given classes params.now)) }
 {
-    let [P(b'?'), Integer(class), list @ ..] = params else {
+    let [P(b'?'), Integer(class @ (62 | 63 | 64)), list @ ..] = params else {
         return Ok(None);
     };
+    let flags = extensions(alloc, list)?;
     let attributes = match class {
-        62 => DeviceAttributes::Vt220(extensions(alloc, list)?),
-        63 => DeviceAttributes::Vt320(extensions(alloc, list)?),
-        64 => DeviceAttributes::Vt420(extensions(alloc, list)?),
-        _ => return Ok(None),
+        62 => DeviceAttributes::Vt220(flags),
+        63 => DeviceAttributes::Vt320(flags),
+        _ => DeviceAttributes::Vt420(flags),
     };
     Ok(Some(Device::DeviceAttributes(attributes)))
 }
@@ -109,9 +98,10 @@ fn extensions(alloc: Global, list: &[CsiParam]) -> Result<DeviceAttributeFlags, 
 {
     let mut attributes = Vec::new(alloc);
     for token in list {
-        if *token != P(b';') {
-            attributes.push(DeviceAttribute::of(*token))?;
+        if *token == P(b';') {
+            continue;
         }
+        attributes.push(DeviceAttribute::of(*token))?;
     }
     Ok(DeviceAttributeFlags::new(attributes))
 }

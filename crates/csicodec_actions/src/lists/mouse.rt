@@ -2,7 +2,7 @@
 ghost use Rattle.csicodec_actions.specs.{Actions.Mouse as Reports, Kinds.Pressed, Kinds.Released, Kinds.Word, Kinds.read, Mouse.button_bits, Mouse.button_code};
 ghost use Rattle.csicodec_actions.specs.{Mouse.pressed, Mouse.released, Table.Mouse.as_mouse, Common.pos, Common.bit_and, Common.option_map, Common.with_number};
 ghost use Rattle.csicodec_actions.specs.{Common.Some, Common.option_and_then};
-ghost use Rattle.std.specs.Prelude.{◌≡◌, ◌/◌};
+ghost use Rattle.std.specs.Prelude.{◌≡◌, ◌/◌, if◌then◌else◌};
 ghost use Rattle.csicodec_actions.specs.declared.mouse.MouseReport.TheVariants as mouse;
 
 use crate::{MouseButton, MouseReport};
@@ -24,8 +24,8 @@ pub fn mouse_action(params: &[CsiParam], control: char) -> Option<MouseReport>
             P(b';'),
             Integer(y),
         ] => match control {
-            'M' => report(press(*code)?, *x, *y),
-            'm' => report(release(*code)?, *x, *y),
+            'M' => report(said(*code, false)?, *x, *y),
+            'm' => report(said(*code, true)?, *x, *y),
             _ => None,
         },
         _ => None,
@@ -47,59 +47,42 @@ fn report(done: (MouseButton, Modifiers), x: i64, y: i64) -> Option<MouseReport>
     })
 }
 
-/// The button of a code before `M`.
-fn button_pressed(bits: u64) -> Option<MouseButton>
-    ensures { result ≡ with_number button_code pressed (pos (button_bits bits)) }
+/// The button of a code before `m`, or before `M`.
+#[inline(always)]
+fn button_of(bits: u64, is_released: bool) -> Option<MouseButton>
+    ensures { result ≡ with_number button_code (if is_released then released else pressed) (pos (button_bits bits)) }
 {
-    match bits {
-        0 => Some(MouseButton::Button1Press),
-        1 => Some(MouseButton::Button2Press),
-        2 => Some(MouseButton::Button3Press),
-        64 => Some(MouseButton::Button4Press),
-        65 => Some(MouseButton::Button5Press),
-        66 => Some(MouseButton::Button6Press),
-        67 => Some(MouseButton::Button7Press),
-        32 => Some(MouseButton::Button1Drag),
-        33 => Some(MouseButton::Button2Drag),
-        34 => Some(MouseButton::Button3Drag),
-        3 | 35 => Some(MouseButton::None),
+    match (bits, is_released) {
+        (0, false) => Some(MouseButton::Button1Press),
+        (1, false) => Some(MouseButton::Button2Press),
+        (2, false) => Some(MouseButton::Button3Press),
+        (64, false) => Some(MouseButton::Button4Press),
+        (65, false) => Some(MouseButton::Button5Press),
+        (66, false) => Some(MouseButton::Button6Press),
+        (67, false) => Some(MouseButton::Button7Press),
+        (32, false) => Some(MouseButton::Button1Drag),
+        (33, false) => Some(MouseButton::Button2Drag),
+        (34, false) => Some(MouseButton::Button3Drag),
+        (0, true) => Some(MouseButton::Button1Release),
+        (1, true) => Some(MouseButton::Button2Release),
+        (2, true) => Some(MouseButton::Button3Release),
+        (64, true) => Some(MouseButton::Button4Release),
+        (65, true) => Some(MouseButton::Button5Release),
+        (66, true) => Some(MouseButton::Button6Release),
+        (67, true) => Some(MouseButton::Button7Release),
+        (3 | 35, _) => Some(MouseButton::None),
         _ => None,
     }
 }
 
-/// The button of a code before `m`.
-fn button_released(bits: u64) -> Option<MouseButton>
-    ensures { result ≡ with_number button_code released (pos (button_bits bits)) }
-{
-    match bits {
-        0 => Some(MouseButton::Button1Release),
-        1 => Some(MouseButton::Button2Release),
-        2 => Some(MouseButton::Button3Release),
-        64 => Some(MouseButton::Button4Release),
-        65 => Some(MouseButton::Button5Release),
-        66 => Some(MouseButton::Button6Release),
-        67 => Some(MouseButton::Button7Release),
-        3 | 35 => Some(MouseButton::None),
-        _ => None,
-    }
-}
-
-/// What a code before `M` says.
+/// What a code before `m` says, or before `M`.
 #[tactic(auto, unfolding(crate::specs::Kinds::read))]
-fn press(code: i64) -> Option<(MouseButton, Modifiers)>
-    ensures { result ≡ read Pressed code }
+#[inline(always)]
+fn said(code: i64, is_released: bool) -> Option<(MouseButton, Modifiers)>
+    ensures { result ≡ (if is_released then read Released code else read Pressed code) }
 {
     let bits = u64::try_from(code).ok()?;
-    Some((button_pressed(bits & 99)?, held(bits)))
-}
-
-/// What a code before `m` says.
-#[tactic(auto, unfolding(crate::specs::Kinds::read))]
-fn release(code: i64) -> Option<(MouseButton, Modifiers)>
-    ensures { result ≡ read Released code }
-{
-    let bits = u64::try_from(code).ok()?;
-    Some((button_released(bits & 99)?, held(bits)))
+    Some((button_of(bits & 99, is_released)?, held(bits)))
 }
 
 /// The modifiers of a code.

@@ -1,6 +1,6 @@
 //! Lists that are one parameter, or two: what they stand for.
-ghost use Rattle.csicodec_actions.specs.{Kinds.Any, Rows.chosen, Rows.counted, Rows.given, Rows.paired, Common.pos};
-ghost use Rattle.std.specs.Prelude.{◌≡◌};
+ghost use Rattle.csicodec_actions.specs.{Kinds.Any, Kinds.Count, Rows.chosen, Rows.counted, Rows.given, Rows.halves, Rows.row, Common.[], Common.pos};
+ghost use Rattle.std.specs.Prelude.{◌≡◌, ◌∷◌, ◌<◌};
 
 use csicodec_base::{CsiParam, OneBased};
 
@@ -16,22 +16,23 @@ pub(crate) fn place(params: &[CsiParam]) -> Option<OneBased>
     }
 }
 
-/// A line and a column, each of which can be left out.
+/// Two places, each of which can be left out: the first is then 1, and the second this one.
 #[tactic(auto, unfolding(crate::specs::Kinds::read))]
 #[inline(always)]
-pub(crate) fn places(params: &[CsiParam]) -> Option<(OneBased, OneBased)>
-    ensures { result ≡ given (paired (λ a b. (a, b))) params.now }
+pub(crate) fn places(params: &[CsiParam], missing: u32) -> Option<(OneBased, OneBased)>
+    requires { 0 < missing }
+    ensures { result ≡ given (row [] (1, missing) ∷ halves Count missing (λ a b. (a, b))) params.now }
 {
+    let one = OneBased::new(1);
+    let missing = OneBased::new(missing);
     let (first, second) = match params {
-        [] => (OneBased::new(1), OneBased::new(1)),
-        [first] => (OneBased::from_esc_param(first).ok()?, OneBased::new(1)),
+        [] => (one, missing),
+        [first] => (OneBased::from_esc_param(first).ok()?, missing),
         [first, CsiParam::P(b';'), second] => (
             OneBased::from_esc_param(first).ok()?,
             OneBased::from_esc_param(second).ok()?,
         ),
-        [CsiParam::P(b';'), second] => {
-            (OneBased::new(1), OneBased::from_esc_param(second).ok()?)
-        }
+        [CsiParam::P(b';'), second] => (one, OneBased::from_esc_param(second).ok()?),
         _ => return None,
     };
     Some((first, second))

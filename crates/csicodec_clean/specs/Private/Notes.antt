@@ -1,7 +1,8 @@
 -- What is noted of a control sequence that came before. No promise rests on this file.
 use Rattle.std.specs.Prelude.{ℕ, ◌≡◌, Bool, true, false, List, ◌∷◌, ◌++◌, map}
 use Rattle.csicodec_actions.specs.{Actions.Action, Actions.Sgr, Table.texts}
-use Rattle.csicodec_clean.specs.{declared.colors.Depth.Depth, Styled.is_open, Styled.kept}
+use Rattle.csicodec_looks.specs.declared.xterm.Depth.{Depth}
+use Rattle.csicodec_clean.specs.Styled.{is_open, kept}
 use Rattle.csicodec_terminal.specs.Terminal.{IsTakenFor}
 
 abbrev pub depth_byte : Depth → ℕ

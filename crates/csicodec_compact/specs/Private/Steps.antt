@@ -1,13 +1,11 @@
 -- What the private steps say to each other.
 use Rattle.std.specs.Prelude.{ℕ, ◌≡◌, ◌≤◌, ◌==◌, ◌+◌, ◌*◌, ◌-◌, ◌&&◌, Bool, true, List, [], ◌∷◌, ◌++◌, false, not, Option, Some, None, if◌then◌else◌, length, drop, map, slice_get, take}
-use Rattle.csicodec_tokens.specs.{declared.param.CsiParam.CsiParam, declared.param.CsiParam.TheVariants.Integer, declared.param.CsiParam.TheVariants.P}
-use Rattle.csicodec_tokens.specs.{Sequence.Seq, Sequence.Spellable, Sequence.Spells}
+use Rattle.csicodec_tokens.specs.{declared.param.CsiParam.CsiParam, Sequence.Seq, Sequence.Spellable, Sequence.Spells}
 use Rattle.csicodec_actions.specs.{Actions.Action, Actions.Sgr, Table.texts}
 use Rattle.csicodec_parser.specs.{declared.actions.CSI.CSI, Segments.Actions}
 use Rattle.csicodec_spans.specs.Parts.{Part}
-use Rattle.csicodec_streams.specs.Known.{IsOne}
+use Rattle.csicodec_streams.specs.{Known.IsOne, Compose.EndsInSemicolon, Compose.IsStyleList}
 use Rattle.csicodec_filter.specs.Written.{WrittenOf}
-use Rattle.csicodec.specs.Compose.{EndsInSemicolon, IsStyleList}
 use Rattle.csicodec_compact.specs.{declared.form.TextEnding.TextEnding, declared.shortener.Shortener.Shortener, Compacts.Compacts, Runs.IsStaying}
 use Rattle.csicodec_compact.specs.{Runs.NoneStays, Runs.Shortens, Runs.IsShortened}
 use Rattle.csicodec_base.specs.declared.sgr.Sgr as sgr_type
@@ -19,11 +17,6 @@ IsOneNormalised bytes text = (list : List CsiParam) × (final : ℕ) × (actions
     × Seq bytes list final × Actions list false final actions × (text ≡ texts actions)
 
 -- ---- tests of tokens, actions and bytes
-
--- the token is neither a number nor `;`
-abbrev pub is_mark : CsiParam → Bool
-is_mark (Integer n) = false
-is_mark (P b) = not (b == 59)
 
 -- the action is no attribute
 abbrev pub is_other : CSI → Bool

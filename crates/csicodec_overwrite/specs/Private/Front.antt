@@ -1,11 +1,10 @@
 -- The front of a line that is written as it comes. No promise rests on this file.
 use Rattle.std.specs.{Prelude.ℕ, Prelude.◌≡◌, Prelude.◌≤◌, Prelude.◌*◌, Prelude.List, Prelude.[], Prelude.◌∷◌, Prelude.◌++◌, Prelude.length, Prelude.take}
 use Rattle.std.specs.{List.AllByRecursion}
-use Rattle.csicodec_html.specs.{declared.look.Look.Look, Look.plain}
-use Rattle.csicodec_overwrite.specs.{declared.cells.Cell.Cell, Line.blank, Line.do_all, Line.line, Line.pen_behind_all, declared.front.LineFront.LineFront}
-use Rattle.csicodec_overwrite.specs.{Paint.look_of, Paint.turn, Paint.written, declared.marking.Marking.Marking, Cells.chars_of, Stream.Reads, Stream.none_held}
-use Rattle.csicodec_overwrite.specs.{declared.pen.Pen.Pen, declared.step.Step.Step, Turned.Sets, Reading.most, Private.Plain.AreFull, Private.Plain.closed}
-use Rattle.csicodec_overwrite.specs.{Private.Plain.IsLineByte}
+use Rattle.csicodec_looks.specs.{declared.look.Look.Look, Look.plain, declared.cells.Cell.Cell, Line.blank, Line.do_all, Line.line, Line.pen_behind_all}
+use Rattle.csicodec_looks.specs.{Line.most, Paint.look_of, Paint.turn, Paint.written, declared.marking.Marking.Marking, Cells.chars_of, declared.pen.Pen.Pen}
+use Rattle.csicodec_looks.specs.{declared.step.Step.Step, Plain.AreFull, Plain.closed, Plain.IsLineByte}
+use Rattle.csicodec_overwrite.specs.{declared.front.LineFront.LineFront, Stream.Reads, Stream.none_held, Turned.Sets}
 
 -- how the last character looks, where text of one look comes behind a character of another
 abbrev pub last_of_run : Look → Look → List ℕ → Look

@@ -2,7 +2,8 @@
 use Rattle.std.specs.Prelude.{ℕ, ◌≡◌, Bool, List, [], ◌∷◌, ◌++◌, Option, Some, None}
 use Rattle.csicodec_spans.specs.{declared.table.Kind.Kind, declared.table.Mode.Mode}
 use Rattle.csicodec_clean.specs.Shown.{IsRead}
-use Rattle.csicodec_overwrite.specs.{declared.step.Step.Step, Reading.IsOfPart, Stream.Goes, Steps.of_chars}
+use Rattle.csicodec_looks.specs.{declared.step.Step.Step, Steps.of_chars}
+use Rattle.csicodec_overwrite.specs.{Reading.IsOfPart, Stream.Goes}
 
 -- a step, if there is one
 abbrev pub if_some : Option Step → List Step

@@ -1,20 +1,16 @@
 -- What is read of a short sequence, behind ESC and '['.
 use Rattle.std.specs.Prelude.{ℕ, ℤ, ◌≡◌, ◌⊎◌, ◌+◌, pos, false, List, [], ◌∷◌, Some, length, map}
 use Rattle.csicodec_tokens.specs.{declared.param.CsiParam.CsiParam, declared.param.CsiParam.TheVariants.Integer, declared.param.CsiParam.TheVariants.P}
-use Rattle.csicodec_tokens.specs.{Sequence.Reads, Private.Reading.BeginsWithDigit, Private.Reading.IsFirstToken, Private.Reading.IsRun}
+use Rattle.csicodec_tokens.specs.{Sequence.Reads, Private.Reading.IsFirstToken}
 use Rattle.csicodec_names.specs.declared.color.ColorSpec.{ColorSpec}
 use Rattle.csicodec_base.specs.{FrontBy.color_by, FrontBy.piece, Shapes.color_shapes, declared.sgr.Sgr.Sgr}
 use Rattle.csicodec_actions.specs.{Actions.Action, Actions.Sgr as Styled, declared.mode.Change.Change}
 use Rattle.csicodec_parser.specs.{Groups.has_odd, Segments.Actions, declared.group.Group.TheVariants.Styles}
-use Rattle.csicodec.specs.Compose.{EndsInSemicolon, IsStyleList}
+use Rattle.csicodec_streams.specs.Compose.{EndsInSemicolon, IsStyleList}
 use Rattle.csicodec_structs.specs.{Next.Lays, Rows.params_of, Rows.sgr_struct, Rows.struct_of, Structs.color_row, Structs.row, declared.structs.Param.Param}
 use Rattle.csicodec_structs.specs.{declared.structs.Struct.Struct, declared.by_number.StyleRow.StyleRow, declared.attributes.AttributeParts.AttributeParts}
 
 -- ---- tokens in turn
-
--- all digits in front write the number
-abbrev pub IsNumber : ℕ → List ℕ → ℕ → List ℕ → Type 0
-IsNumber first text number others = IsRun first text number others × (BeginsWithDigit others → ⊥)
 
 -- the text begins with these tokens in turn
 abbrev pub ReadsOn : List ℕ → List CsiParam → List ℕ → Type 0

@@ -1,13 +1,11 @@
 -- What is found of a struct, what is laid of an action, and what is answered of a list that was read.
 use Rattle.std.specs.Prelude.{ℕ, ℤ, ◌≡◌, ◌<◌, Bool, Option, Some, None, IfSome, MatchOption, pos, negsuc, if◌then◌else◌, List, map, ◌+◌, ◌++◌, false, [], ◌∷◌, length, unwrap_or}
 use Rattle.std.specs.{List.All, Option.option_map}
-use Rattle.csicodec_names.specs.{Numbered.is_number, declared.color.ColorSpec.ColorSpec}
-use Rattle.csicodec_actions.specs.{Actions.Action, Devices.Device, Devices.listed_attributes, Kinds.IsOneBased, Kinds.below, Table.texts, Table.boxed}
-use Rattle.csicodec_actions.specs.{Lent.integers}
+use Rattle.csicodec_actions.specs.{Actions.Action, Devices.Device, Devices.listed_attributes, Kinds.IsOneBased, Table.texts, Table.boxed, Lent.integers}
 use Rattle.csicodec_structs.specs.{declared.structs.Param.Param, declared.structs.Struct.Struct, Encode.AllStand, Rows.IsNamed, Rows.InRange, Rows.params_of}
 use Rattle.csicodec_structs.specs.{Rows.struct_of, Structs.AttributeInRange, Next.Lays, Next.Reading, Next.refused, declared.lay.Counts.Counts}
-use Rattle.csicodec_structs.specs.{declared.lay.Head.Head, declared.next.NextSequence.NextSequence, Room.laid, Status.status_number}
-use Rattle.csicodec_structs.specs.{declared.status.Status.Status}
+use Rattle.csicodec_structs.specs.{declared.lay.Head.Head, declared.next.NextSequence.NextSequence, declared.normalise.Normalised.Normalised, Room.laid}
+use Rattle.csicodec_structs.specs.{Status.status_number, declared.status.Status.Status}
 use Rattle.csicodec_parser.specs.{ActionOf.action_of, declared.actions.CSI.CSI, declared.parser.ActionRef.ActionRef}
 use Rattle.csicodec_tokens.specs.{declared.param.CsiParam.CsiParam, declared.param.CsiParam.TheVariants.P}
 use Rattle.csicodec_actions.specs.Actions as action
@@ -15,13 +13,9 @@ use Rattle.csicodec_actions.specs.Devices as device
 
 -- ---- what is found
 
--- what has this number, and none where there can be none
-abbrev pub Reads : {A : Type 0} → (A → ℕ) → (ℤ → Type 0) → ℤ → Option A → Type 0
-Reads number Fits z found = MatchOption found (¬ Fits z) (λ a. (z ≡ pos (number a)) × Fits (pos (number a)))
-
--- what has this number and is by its name, and none where there can be none
-abbrev pub ReadsNamed : {A : Type 0} → (A → ℕ) → (A → Type 0) → (ℤ → Type 0) → ℤ → Option A → Type 0
-ReadsNamed number Named Fits z found = MatchOption found (¬ Fits z) (λ a. (z ≡ pos (number a)) × Fits (pos (number a)) × Named a)
+-- what has this number, where anything that fits has
+abbrev pub Reads : {A : Type 0} → (A → ℕ) → (ℤ → Type 0) → ℤ → A → Type 0
+Reads number Fits z found = (Fits z → z ≡ pos (number found)) × Fits (pos (number found))
 
 abbrev pub itself : ℕ → ℕ
 itself n = n
@@ -39,17 +33,13 @@ IsTen (negsuc n) = ⊥
 abbrev pub unless : Bool → ℤ → Option ℤ
 unless absent z = if absent then None else Some z
 
--- a colour, by its kind
-abbrev pub color_of : Struct → Option ColorSpec
-color_of given =
-    if is_number 0 given.first then Some ColorSpec.Default
-    else if is_number 1 given.first then option_map (λ i. ColorSpec.PaletteIndex i) (below 256 given.second)
-    else if is_number 2 given.first then Some (ColorSpec.TrueColor (record { 0 = given.red; 1 = given.green; 2 = given.blue; 3 = given.alpha }))
-    else None
+-- what has this struct, where anything in range has
+abbrev pub Finds : {A : Type 0} → (A → Struct) → (A → Type 0) → Struct → A → Type 0
+Finds row InRange given found = (a : _) → InRange a → given ≡ row a → given ≡ row found
 
--- what has this struct, if anything in range has
-abbrev pub Finds : {A : Type 0} → (A → Struct) → (A → Type 0) → Struct → Option A → Type 0
-Finds row InRange given found = (a : _) → InRange a → given ≡ row a → MatchOption found ⊥ (λ b. given ≡ row b)
+-- so, or nothing
+abbrev pub FindsSome : {A : Type 0} → (A → Struct) → (A → Type 0) → Struct → Option A → Type 0
+FindsSome row InRange given found = (a : _) → InRange a → given ≡ row a → MatchOption found ⊥ (λ b. given ≡ row b)
 
 -- what has no tokens beside it
 abbrev pub HasNoList : Device → Type 0
@@ -85,9 +75,13 @@ FindsTokens crosses InRange Named params found =
 abbrev pub Makes : (Action → Type 0) → Struct → List Param → Option Action → Type 0
 Makes InRange given params found = (a : Action) → InRange a → given ≡ struct_of given.place a → params_of a ≡ params → MatchOption found ⊥ (λ b. given ≡ struct_of given.place b)
 
+-- in range, by its name, and with these tokens
+abbrev pub IsOwn : List Param → Action → Type 0
+IsOwn params a = InRange a × (params_of a ≡ params) × IsNamed a
+
 -- what is made of a struct and these tokens: an action in range, by its name, with the tokens, and with the struct if any that fits has both
 abbrev pub IsMade : (Action → Type 0) → Struct → List Param → Option CSI → Type 0
-IsMade Fits given params found = IfSome found (λ csi. InRange (action_of csi) × (params_of (action_of csi) ≡ params) × IsNamed (action_of csi))
+IsMade Fits given params found = IfSome found (λ csi. IsOwn params (action_of csi))
     × Makes Fits given params (option_map action_of found)
 
 abbrev pub IsUnknown : Action → Type 0
@@ -106,6 +100,11 @@ IsGraphics (action.Device (device.XtSmGraphics item action_or_status value)) = U
 IsGraphics other = ⊥
 
 -- ---- texts
+
+-- how a normalisation ended
+abbrev pub ended : Status → ℕ → ℕ → ℕ → Normalised
+ended why start at needed =
+    record { status = status_number why; start = start; at = at; needed = needed }
 
 -- the texts of the actions that these structs stand for
 pub record AreTexts (structs : List Struct) (params : List Param) (all : List ℕ) : Type 0 where

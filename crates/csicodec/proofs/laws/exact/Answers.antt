@@ -1,5 +1,5 @@
 use Rattle.csicodec_parser.specs.ActionOf.{action_of}
-use Rattle.csicodec.proofs.Exactly.{exact_lem, no-attribute}
+use Rattle.csicodec_streams.proofs.Exactly.{exact_lem, no-attribute}
 use Rattle.csicodec.proofs.laws.exact.Goals as goal
 
 pub returns-in-Sgr : goal.returns-in-Sgr

@@ -1,4 +1,4 @@
-use Rattle.csicodec.proofs.Exactly.{faithful_again, faithful_alone, faithful_means, faithful_whole}
+use Rattle.csicodec.proofs.Rewritten.{faithful_again, faithful_alone, faithful_means, faithful_whole}
 use Rattle.csicodec.proofs.laws.faithful_stream.Goals as goal
 
 pub returns : goal.returns

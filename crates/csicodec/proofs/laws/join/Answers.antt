@@ -1,4 +1,4 @@
-use Rattle.csicodec.proofs.Exactly.{join_lem}
+use Rattle.csicodec_streams.proofs.Exactly.{join_lem}
 use Rattle.csicodec.proofs.laws.join.Goals as goal
 
 pub returns : goal.returns

@@ -1,4 +1,4 @@
-use Rattle.csicodec.proofs.Exactly.{normalise_twice_lem}
+use Rattle.csicodec_streams.proofs.Exactly.{normalise_twice_lem}
 use Rattle.csicodec.proofs.laws.normalise_twice.Goals as goal
 
 pub returns : goal.returns

@@ -1,8 +1,7 @@
 use Rattle.std.proofs.Common.{List, [], ◌≡◌, ℕ, false, inl, inr, refl, sym, ap, ◌∙◌, arith, length}
 use Rattle.csicodec_tokens.proofs.Reading.{one_seq}
-use Rattle.csicodec_streams.specs.Decoding.{NormalisesTo}
-use Rattle.csicodec_filter.specs.Faithful.{IsShortForm, is_kept, longest}
-use Rattle.csicodec.proofs.Common.{cases_Bool, cases_lt, texts, one_decoding}
+use Rattle.csicodec_streams.specs.{Decoding.NormalisesTo, Faithful.IsShortForm, Faithful.is_kept, Faithful.longest}
+use Rattle.csicodec_streams.proofs.Common.{cases_Bool, cases_lt, texts, one_decoding}
 use Rattle.csicodec.proofs.laws.one_normal_form.Goals as goal
 
 one_form : (bytes one other : List ℕ) → NormalisesTo bytes one → NormalisesTo bytes other → one ≡ other

@@ -1,4 +1,4 @@
-use Rattle.csicodec.proofs.RowGroups.{which_rules_lem}
+use Rattle.csicodec_streams.proofs.RowGroups.{which_rules_lem}
 use Rattle.csicodec.proofs.laws.which_rules.Goals as goal
 
 pub returns : goal.returns

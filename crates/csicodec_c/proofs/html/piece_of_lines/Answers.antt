@@ -1,5 +1,5 @@
 use Rattle.std.proofs.lemmas.Result.{IfOk-weaker}
-use Rattle.csicodec_html.proofs.Paired.{is_page}
+use Rattle.csicodec_clean.proofs.Paired.{is_page}
 use Rattle.csicodec_overwrite.proofs.Same.{painted_page}
 use Rattle.csicodec_c.proofs.html.piece_of_lines.Goals as goal
 

@@ -1,11 +1,15 @@
-use Rattle.std.proofs.Common.{◌≡◌, ◌++◌, Bool, map, take, unwrap_or}
+use Rattle.std.proofs.Common.{◌≡◌, ◌++◌, Bool, length, map, unwrap_or}
 use Rattle.csicodec_clean.proofs.Common.{texts, action_of}
 use Rattle.csicodec_actions.specs.Actions.{Sgr}
 use Rattle.csicodec_clean.specs.Styled.{is_open, kept}
 use Rattle.csicodec_clean.proofs.styles.append_styles.Given as goal
 
--- the styles of the actions up to here
+-- with those of the rest they are the styles of all actions
 abbrev pub invariant-loop-action : goal.invariant-loop-action
 invariant-loop-action l =
-    let styles = kept l.fn.depth (map action_of (take l.action-index l.actions)) in
-    record { text : l.out.items ≡ l.initial.out.items ++ texts (map Sgr styles); last : (styled : Bool) → is_open styled styles ≡ unwrap_or l.last styled }
+    let all = kept l.fn.depth (map action_of l.actions) in
+    let rest = kept l.fn.depth (map action_of l.rest) in
+    record { text : l.out.items ++ texts (map Sgr rest) ≡ l.initial.out.items ++ texts (map Sgr all); last : (styled : Bool) → is_open (unwrap_or l.last styled) rest ≡ is_open styled all }
+
+abbrev pub decreases-loop-action : goal.decreases-loop-action
+decreases-loop-action l = length l.rest

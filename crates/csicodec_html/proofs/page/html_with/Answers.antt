@@ -1,5 +1,6 @@
 use Rattle.std.proofs.lemmas.Result.{IfOk-weaker}
-use Rattle.csicodec_html.proofs.{Paired.page_of, Paired.is_page, MarkupBytes.made_markup}
+use Rattle.csicodec_html.proofs.{Paired.page_of, MarkupBytes.made_markup}
+use Rattle.csicodec_clean.proofs.Paired.{is_page}
 use Rattle.csicodec_html.proofs.page.html_with.Goals as goal
 
 pub returns : goal.returns

@@ -1,8 +1,7 @@
 use Rattle.std.proofs.Common.{refl}
 use Rattle.csicodec_html.proofs.{Common.Ends, Common.longest, Common.IsPageWith, Common.PageWith, Common.first_set, Common.closes, Common.turns, Paired.page_of}
-use Rattle.csicodec_html.proofs.{Paired.is_page}
+use Rattle.csicodec_clean.proofs.{Paired.is_page, Chunks.ends, Streams.ran}
 use Rattle.csicodec_clean.specs.Stream.{Closing, Takes, start_of}
-use Rattle.csicodec_clean.proofs.{Chunks.ends, Streams.ran}
 use Rattle.csicodec_html.proofs.run.html_all_with.Goals as goal
 
 pub returns : goal.returns

@@ -1,5 +1,6 @@
 use Rattle.csicodec_overwrite.proofs.Common.{◌++◌, ◌∙◌, List, ℕ, ap, append_assoc, sym, on_ok_weaker, Look, turn, written}
-use Rattle.csicodec_overwrite.proofs.{Fronts.run_nothing, Fronts.run_some, Stays.lines_plain}
+use Rattle.csicodec_overwrite.proofs.Fronts.{run_nothing, run_some}
+use Rattle.csicodec_looks.proofs.Stays.{lines_plain}
 use Rattle.csicodec_overwrite.proofs.front.append_run.Goals as goal
 
 pub returns-then-is_empty-clause-text : goal.returns-then-is_empty-clause-text

@@ -1,5 +1,6 @@
 use Rattle.csicodec_overwrite.proofs.Common.{◌≡◌, ◌++◌, ◌∙◌, ℕ, List, true, false, refl, sym, ap, subst, append_assoc, rules, arith, AreTurns, LineFront, last_of_run, Turned}
-use Rattle.csicodec_overwrite.proofs.{Fronts.run_some, Stays.lines_plain, Stays.split_line}
+use Rattle.csicodec_overwrite.proofs.{Fronts.run_some, Stays.split_line}
+use Rattle.csicodec_looks.proofs.Stays.{lines_plain}
 use Rattle.csicodec_overwrite.proofs.front.append_styled.Goals as goal
 
 pub returns-then-not-is_empty-clause-styled : goal.returns-then-not-is_empty-clause-styled

@@ -1,6 +1,6 @@
 use Rattle.csicodec_overwrite.proofs.Common.{[], ◌++◌, refl, sym, subst, append-nil, on_err_weaker, on_ok_weaker, Page, Paints, begun_as}
 use Rattle.csicodec_overwrite.proofs.{Same.painted_page, Written.begins, Written.passes_none, Written.transformed}
-use Rattle.csicodec_html.proofs.Paired.{is_page}
+use Rattle.csicodec_clean.proofs.Paired.{is_page}
 use Rattle.csicodec_overwrite.proofs.run.html_overwritten_all.Goals as goal
 
 pub transform_all-requires-clause-begun : goal.transform_all-requires-clause-begun

@@ -22,5 +22,5 @@ loop-count-preserved c =
     record {
       within = omega (arith, c.loop-count-test.true, length-set at.room at.count c.in_ok-style.style);
       read = inr (rw (take_more_set at.room at.count c.in_ok-style.style c.loop-count-test.true) (subst (AreStyles _ _) (byte_cut behind 59 c.in-59.len_at_least (omega arith)) all));
-      next = c.in_ok-next-in-59.ensures;
+      next = c.in_ok-next-in-59.ensures.first;
     }

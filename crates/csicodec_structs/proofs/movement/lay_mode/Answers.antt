@@ -1,5 +1,5 @@
 use Rattle.std.specs.Prelude.{pos}
-use Rattle.std.proofs.Common.{◌≡◌, ◌<◌, ◌∷◌, [], refl, rules, arith, ap, ◌∙◌}
+use Rattle.std.proofs.Common.{◌<◌, ◌∷◌, [], refl, arith, ap, ◌∙◌}
 use Rattle.csicodec_tokens.specs.declared.param.CsiParam.TheVariants.{Integer, P}
 use Rattle.csicodec_streams.proofs.OneReading.{byte_cut}
 use Rattle.csicodec_structs.specs.{Rows.mode_struct, Private.Short.ReadsOn, Private.Short.change_final}
@@ -10,11 +10,9 @@ pub returns-clause-some : goal.returns-clause-some
 returns-clause-some c =
     let body = c.args.body.now in
     let found = c.in_ok-number in
-    let code = c.in_ok-code.code in
     let done = c.in_ok-change in
-    let same : c.in_ok-code.code ≡ c.in_ok-number.number = search rules in
-    let low : c.in_ok-code.code < 65536 = search rules in
+    let low : c.in_ok-number.number < 65536 = omega (arith, found.ensures.short) in
     let mark = byte_token 63 body _ (byte_cut body 63 c.in-63.len_at_least (omega arith)) (omega arith, omega arith) (λ d. omega (arith, d.1)) in
-    let read : ReadsOn c.args.body.now (P 63 ∷ Integer (pos c.in_ok-code.code) ∷ []) c.in_ok-number.behind.now = (_, mark, (found.behind.now, rw same found.ensures, refl)) in
-    row_laid body found.behind.now done.after.now c.args.actions.now c.put.new.room (P 63 ∷ Integer (pos code) ∷ []) (change_final done.change) c.mode_struct.result
-    read (change_ends done.change) done.ensures (mode_row code done.change c.mode_struct.result low (c.mode_struct.ensures ∙ ap mode_struct c.of-mode.ensures)) c.put.ensures
+    let read : ReadsOn c.args.body.now (P 63 ∷ Integer (pos c.in_ok-number.number) ∷ []) c.in_ok-number.behind.now = (_, mark, (found.behind.now, found.ensures.first, refl)) in
+    row_laid body found.behind.now done.after.now c.args.actions.now c.put.new.room (P 63 ∷ Integer (pos found.number) ∷ []) (change_final done.change) c.mode_struct.result
+    read (change_ends done.change) done.ensures (mode_row found.number done.change c.mode_struct.result low (c.mode_struct.ensures ∙ ap mode_struct c.of-mode.ensures)) c.put.ensures

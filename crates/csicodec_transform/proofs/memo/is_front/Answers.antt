@@ -1,5 +1,5 @@
 use Rattle.std.proofs.Common.{arith}
-use Rattle.csicodec_transform.proofs.Known.{same_in_front}
+use Rattle.csicodec_transform.proofs.Slots.{same_in_front}
 use Rattle.csicodec_transform.proofs.memo.is_front.Goals as goal
 
 pub is_front_behind-requires-clause-near : goal.is_front_behind-requires-clause-near

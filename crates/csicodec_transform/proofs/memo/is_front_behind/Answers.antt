@@ -1,5 +1,5 @@
 use Rattle.std.proofs.Common.{arith}
-use Rattle.csicodec_transform.proofs.Known.{same_behind}
+use Rattle.csicodec_transform.proofs.Slots.{same_behind}
 use Rattle.csicodec_transform.proofs.memo.is_front_behind.Goals as goal
 
 pub returns : goal.returns

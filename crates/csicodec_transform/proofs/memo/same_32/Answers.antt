@@ -1,5 +1,5 @@
 use Rattle.std.proofs.Common.{arith}
-use Rattle.csicodec_transform.proofs.Known.{same_lanes, differing_mask}
+use Rattle.csicodec_transform.proofs.Slots.{same_lanes, differing_mask}
 use Rattle.csicodec_transform.proofs.memo.same_32.Goals as goal
 
 pub returns-clause-same : goal.returns-clause-same

@@ -1,4 +1,5 @@
-use Rattle.csicodec_overwrite.proofs.{Common.of_chars, Common.Reads, Stays.lines_plain, Stays.reads_plain, Stays.split_line, Written.none_taken, Written.taken}
+use Rattle.csicodec_overwrite.proofs.{Common.of_chars, Common.Reads, Stays.reads_plain, Stays.split_line, Written.none_taken, Written.taken}
+use Rattle.csicodec_looks.proofs.Stays.{lines_plain}
 use Rattle.csicodec_overwrite.proofs.overwriter.Overwriter.take_text.Goals as goal
 
 pub put_text-requires : goal.put_text-requires

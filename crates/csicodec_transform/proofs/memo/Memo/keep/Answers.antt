@@ -1,4 +1,4 @@
-use Rattle.csicodec_transform.proofs.Known.{slot_known}
+use Rattle.csicodec_transform.proofs.Slots.{slot_known}
 use Rattle.csicodec_transform.proofs.memo.Memo.keep.Goals as goal
 
 pub put-requires-clause-own : goal.put-requires-clause-own

@@ -1,0 +1,12 @@
+pub mod Common
+pub mod Fronts
+pub mod Declarations
+pub mod Marks
+pub mod Moved
+pub mod Recalled
+pub mod Reduced
+pub mod Repeated
+pub mod Rows
+pub mod Settled
+pub mod Stays
+pub mod Texts

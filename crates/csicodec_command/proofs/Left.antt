@@ -1,7 +1,7 @@
 -- What is left of a recording while its lines are read.
 use Rattle.csicodec_command.proofs.Common.{◌≡◌, ◌≢◌, ◌==◌, ◌-◌, ◌++◌, suc, ◌∷◌, ◌∙◌, ℕ, Bool, true, false, cond, List, [], Option, None, Some, length, take, not, refl, sym, ap, subst, append_assoc, append-nil, arith, IsUtf8-from_is_utf8, is_utf8-from_IsUtf8, eqb-true, ne_eqb, eqb-suc-zero, take-append-drop, All-head, All-tail, Keeps-refl, Keeps-trans, IfSome, IsUtf8, option_map, Consumes, Keeps, Event, data_from, is_over, line_says, lines_from, lines_left, says, written}
 use Rattle.std.specs.{Str.is_utf8, Str.trim, List.All, Io.StartsWith, Io.StopsAt, Io.appended_bytes, Io.BufRead.drop_through, Io.BufRead.take_through}
-use Rattle.csicodec_assemble.specs.Lines.{last_line}
+use Rattle.csicodec_listing.specs.Lines.{last_line}
 
 -- a byte behind a line ends it if it is LF
 pub over_behind : (line : List ℕ) (b : ℕ) → is_over (line ++ b ∷ []) ≡ (b == 10)

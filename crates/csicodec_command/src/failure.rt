@@ -3,7 +3,7 @@ ghost use Rattle.csicodec_command.specs.{Common.Some, Common.RunError, Failure.f
 ghost use Rattle.csicodec_command.specs.{declared.failure.Failure.TheVariants.Run as Ran};
 ghost use Rattle.std.specs.Prelude.{◌≡◌};
 
-use csicodec_assemble::Fault;
+use csicodec_listing::Fault;
 use csicodec_transform::RunError;
 use std::alloc::AllocError;
 use std::fmt;

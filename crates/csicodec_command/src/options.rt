@@ -60,6 +60,14 @@ pub(crate) static OPTIONS: [&str; 32] = [
 /// Those that also stand without their value, so that it only stands behind `=`.
 pub(crate) static ALONE: [&str; 1] = ["--check"];
 
+/// Options, each with those that don't go with it: what asks for anything but lines of two files; and another way to take lines, a check
+/// of them, and links, of which no character of a line knows.
+pub(crate) static APART: [&str; 3] = [
+    "--diff --count --json --quiet --stats --timing",
+    "--log --check --lines --links --overwrite",
+    "--overwrite --check --lines --links --no-overwrite",
+];
+
 /// How the program is used.
 pub const USAGE: &str = "\
 usage: csicodec                                 write control sequences in their normal form, and refuse all else

@@ -6,7 +6,7 @@ ghost use Rattle.csicodec_command.specs.declared.failure.Failure.TheVariants.{Ru
 ghost use Rattle.std.specs.Prelude.{◌≡◌, ◌≢◌, ◌∷◌};
 
 use crate::failure::Failure;
-use csicodec_assemble::split_line;
+use csicodec_listing::split_line;
 use csicodec_transform::RunError;
 use serde_json::Value;
 use std::alloc::Global;

@@ -3,7 +3,7 @@ ghost use Rattle.std.specs.Prelude.{◌≤◌, IfOk, length};
 
 use crate::input::Sending;
 use crate::page::Listing;
-use crate::style::Style;
+use csicodec_listing::style::Style;
 use csicodec_spans::{Kind, LIMIT, Mode, next_span};
 use csicodec_transform::{CHUNK, RunError, keep_from, receive, send};
 use std::alloc::{AllocError, Global};

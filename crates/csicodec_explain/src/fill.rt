@@ -1,8 +1,8 @@
 //! What stands for an action in a pattern.
 
 use crate::Result;
-use crate::line::append_number;
 use crate::patterns::CODES;
+use csicodec_listing::columns::append_number;
 use csicodec_words::find;
 use serde_json::Value;
 

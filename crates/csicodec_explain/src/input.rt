@@ -3,10 +3,10 @@ ghost use Rattle.std.specs.Prelude.{◌≡◌, ◌<◌, ◌≤◌, IfOk, length}
 ghost use Rattle.csicodec_events.specs.Events.{IsMet};
 
 use crate::Result;
-use crate::line::Sort;
 use crate::page::Listing;
 use csicodec_base::CsiParam;
 use csicodec_events::{Dialect, Event, Events, InputEvent, Sent};
+use csicodec_listing::columns::Sort;
 use csicodec_spans::{Kind, LIMIT, Mode};
 use csicodec_words::Did;
 use std::alloc::Global;
@@ -41,6 +41,20 @@ fn resumed(mode: Mode, looked: usize, bytes: &[u8]) -> Events
     events
 }
 
+/// What an event is counted as and told as, where its bytes are whole; none of a control, and of what isn't input alone.
+fn sort_of(event: InputEvent) -> Option<(Kind, Sort)> {
+    match event {
+        InputEvent::Ss3(_) | InputEvent::Alt(_) | InputEvent::Escape => {
+            Some((Kind::Esc, Sort::Escape))
+        }
+        InputEvent::Output(Event::Csi(_))
+        | InputEvent::Mouse
+        | InputEvent::Linux(_)
+        | InputEvent::Rxvt(_) => Some((Kind::Csi, Sort::Sequence)),
+        InputEvent::Output(_) => None,
+    }
+}
+
 /// Tells an event; of a control sequence these are the tokens. A control within a sequence has no bytes of its own, and text is over where
 /// ESC follows.
 fn tell(
@@ -49,14 +63,15 @@ fn tell(
     sent: Sent<'_>,
     params: &[CsiParam],
 ) -> Result<()> {
+    let whole = sort_of(sent.event);
+    if let Some((kind, _)) = whole {
+        if page.add_again(kind, sent.bytes)? {
+            return Ok(());
+        }
+    }
     if let Some(did) = Did::of(sent.event, sent.bytes, params) {
-        let (kind, sort, bytes) = match sent.event {
-            InputEvent::Output(Event::Control(_)) => (Kind::Text, Sort::Control, [].as_slice()),
-            InputEvent::Ss3(_) | InputEvent::Alt(_) | InputEvent::Escape => {
-                (Kind::Esc, Sort::Escape, sent.bytes)
-            }
-            _ => (Kind::Csi, Sort::Sequence, sent.bytes),
-        };
+        let (kind, sort) = whole.unwrap_or((Kind::Text, Sort::Control));
+        let bytes = if whole.is_some() { sent.bytes } else { &[] };
         return page.add_did(kind, sort, bytes, &did);
     }
     let kind = match sent.event {

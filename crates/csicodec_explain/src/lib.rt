@@ -2,30 +2,17 @@
 //! stood. And bytes for a line of JSON that has actions and no bytes.
 #![tactic(auto)]
 
-mod cache;
-mod clipboard;
 mod copied;
-mod counts;
 mod digits;
 mod explain;
-mod fields;
 mod fill;
 mod input;
-mod json;
-mod keyed;
-mod line;
 mod made;
 mod page;
 mod patterns;
-mod search;
 mod sheet;
-mod style;
 mod taken;
 
+use csicodec_listing::Result;
 pub use explain::Explainer;
 pub use made::Maker;
-use std::alloc::AllocError;
-pub use style::{Style, is_among};
-
-/// Of what fails only where memory runs out.
-pub(crate) type Result<T> = std::result::Result<T, AllocError>;

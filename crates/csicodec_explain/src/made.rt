@@ -2,15 +2,15 @@
 //!
 //! ```text
 //! {"actions":[{"action":"Cursor::Up","value":7}]}            ESC [ 7 A
-//! {"actions":[{"action":"Cursor::Up","value":"seven"}]}      none, and csicodec_assemble refuses the line
+//! {"actions":[{"action":"Cursor::Up","value":"seven"}]}      none, and csicodec_listing refuses the line
 //! ```
 
 use crate::Result;
 use crate::explain::Explainer;
 use crate::fill::append_filled;
 use crate::patterns::PATTERNS;
-use crate::style::Style;
-use csicodec_assemble::Finds;
+use csicodec_listing::Finds;
+use csicodec_listing::style::Style;
 use csicodec_spans::LIMIT;
 use memchr::memmem::find;
 use serde_json::Value;

@@ -2,12 +2,12 @@
 ghost use Rattle.std.specs.Prelude.{◌≤◌, IfOk, length};
 
 use crate::Result;
-use crate::counts::Totals;
-use crate::keyed::{Keyed, sequence_front};
-use crate::line::{Counted, Sort, ToldSpan, whole_characters};
 use crate::sheet::Sheet;
-use crate::style::Style;
 use csicodec_base::{CsiParam, Esc, ReadError, read_csi_into};
+use csicodec_listing::columns::{Counted, Sort, ToldSpan, whole_characters};
+use csicodec_listing::counts::Totals;
+use csicodec_listing::keyed::{Keyed, sequence_front};
+use csicodec_listing::style::Style;
 use csicodec_osc::{ControlString, FRONT, text_len};
 use csicodec_spans::{Kind, LIMIT, Mode};
 use csicodec_transform::keep_from;
@@ -242,6 +242,9 @@ impl<'a> Listing<'a> {
     /// A line for each action of a control sequence; how many they are, none where it isn't one.
     #[inline(never)]
     fn tell_sequence(&mut self, front: Keyed<'_>) -> Result<Option<u64>> {
+        if let Some(actions) = self.sheet.recount(front)? {
+            return Ok(Some(actions));
+        }
         let span = self.span_here(Sort::Sequence, front.bytes);
         let actions = match self.sheet.tell_copied(&span)? {
             Some(actions) => actions,
@@ -255,31 +258,48 @@ impl<'a> Listing<'a> {
         Ok(Some(actions))
     }
 
+    /// Bytes that a terminal sends, where the same came before and what was told of them is remembered; whether it is.
+    pub fn add_again(&mut self, kind: Kind, bytes: &[u8]) -> Result<bool> {
+        self.close()?;
+        let keyed = Keyed::new(bytes);
+        let known = match self.sheet.recall(self.time, self.place, keyed)? {
+            None => self.sheet.recount(keyed)?,
+            known => known,
+        };
+        if let Some(actions) = known {
+            self.end_sequence(kind, actions, bytes.len());
+        }
+        Ok(known.is_some())
+    }
+
     /// A control sequence of these tokens, which may have controls in it.
     pub fn add_read(&mut self, bytes: &[u8], params: &[CsiParam], control: char) -> Result<()> {
         self.close()?;
         let span = self.span_here(Sort::Sequence, bytes);
         let actions = self.sheet.tell_actions(&span, params, control)?;
-        self.end_sequence(actions, bytes.len());
+        self.sheet.keep(Keyed::new(bytes), actions)?;
+        self.end_sequence(Kind::Csi, actions, bytes.len());
         Ok(())
     }
 
-    /// What a user did, and the bytes that say so.
+    /// What a user did, and the bytes that say so; a control within a sequence has none.
     pub fn add_did(&mut self, kind: Kind, sort: Sort, bytes: &[u8], did: &Did) -> Result<()> {
         self.close()?;
         let span = self.span_here(sort, bytes);
         self.sheet.tell(&span, did, None)?;
-        self.text = false;
-        self.advance(kind, 1, bytes.len());
+        if !bytes.is_empty() {
+            self.sheet.keep(Keyed::new(bytes), 0)?;
+        }
+        self.end_sequence(kind, 0, bytes.len());
         Ok(())
     }
 
-    /// A control sequence of so many actions and bytes was told.
+    /// A sequence of so many actions and bytes was told.
     #[inline(always)]
-    fn end_sequence(&mut self, actions: u64, len: usize) {
+    fn end_sequence(&mut self, kind: Kind, actions: u64, len: usize) {
         self.totals.add_actions(actions);
         self.text = false;
-        self.advance(Kind::Csi, 1, len);
+        self.advance(kind, 1, len);
     }
 
     /// The control sequence in front, where that is at a glance one, and nothing is open. How many bytes it has, 0 where there is none.
@@ -301,7 +321,7 @@ impl<'a> Listing<'a> {
         };
         match told {
             Some(actions) => {
-                self.end_sequence(actions, len);
+                self.end_sequence(Kind::Csi, actions, len);
                 Ok(len)
             }
             None => Ok(0),
@@ -313,7 +333,7 @@ impl<'a> Listing<'a> {
         self.close()?;
         let keyed = Keyed::new(bytes);
         let known = self.sheet.recall(self.time, self.place, keyed)?;
-        if known.is_none() {
+        if known.is_none() && self.sheet.recount(keyed)?.is_none() {
             let span = self.span_here(Sort::Escape, bytes);
             let words = EscReading(bytes.get(1..).unwrap_or(&[]));
             let escape = match bytes {
@@ -347,6 +367,9 @@ impl<'a> Listing<'a> {
     /// One that isn't remembered.
     #[inline(never)]
     fn tell_new_control(&mut self, place: u64, time: u64, control: Keyed<'_>) -> Result<()> {
+        if self.sheet.recount(control)?.is_some() {
+            return Ok(());
+        }
         let bytes = control.bytes;
         let span = whole_span(Sort::Control, place, time, bytes);
         if let (Some(_), [byte, ..]) = (self.sheet.style.dialect, bytes) {

@@ -1,23 +1,25 @@
 //! The lines of spans: each with its place and its bytes, and a line for each of its actions; or an object of JSON.
 
 use crate::Result;
-use crate::cache::Remembered;
-use crate::clipboard::{append_words, clipboard_bytes};
 use crate::copied::Copied;
-use crate::counts::{Names, Totals, append_lines, append_object as append_totals, append_stats};
-use crate::fields::JsonFields;
-use crate::json::{
-    append_action, append_begin_object, append_decoded, append_object, append_string,
-};
-use crate::keyed::Keyed;
-use crate::line::{
+use crate::taken::append_taken;
+use csicodec_base::{CsiParam, Esc};
+use csicodec_listing::cache::Remembered;
+use csicodec_listing::clipboard::{append_words, clipboard_bytes};
+use csicodec_listing::columns::{
     Counted, Offset, Sort, ToldSpan, append_begin, append_bytes, append_margin, append_name,
     append_text_words, whole_characters,
 };
-use crate::search::Search;
-use crate::style::{Style, name_of};
-use crate::taken::append_taken;
-use csicodec_base::{CsiParam, Esc};
+use csicodec_listing::counts::{
+    Names, Totals, append_lines, append_object as append_totals, append_stats,
+};
+use csicodec_listing::fields::JsonFields;
+use csicodec_listing::keyed::Keyed;
+use csicodec_listing::search::Search;
+use csicodec_listing::style::{Style, name_of};
+use csicodec_listing::to_json::{
+    append_action, append_begin_object, append_decoded, append_object, append_string,
+};
 use csicodec_osc::Shown;
 use csicodec_parser::CSI;
 use csicodec_words::{ActionList, Reading};
@@ -32,6 +34,10 @@ const PIECE: usize = 65_536;
 pub struct Sheet<'a> {
     /// How and what is told.
     pub style: Style<'a>,
+    /// Whether what was told of bytes once is told again.
+    recalls: bool,
+    /// Whether what was counted of bytes once is counted again, and nothing is told.
+    recounts: bool,
     /// The lines, each with its end.
     pub text: Vec<u8>,
     /// The words of one action.
@@ -51,6 +57,8 @@ pub struct Sheet<'a> {
     behind: usize,
     /// How many actions of it are told.
     actions: u64,
+    /// The names that are counted of it, each with a line feed, where nothing but sums is told.
+    counted: Vec<u8>,
     /// The place of the last span that was told.
     place: Offset,
     known: Remembered,
@@ -66,6 +74,8 @@ impl<'a> Sheet<'a> {
     pub fn new(alloc: Global, style: Style<'a>) -> Sheet<'a> {
         Sheet {
             style,
+            recalls: style.recalls() && !style.is_silent(),
+            recounts: style.recalls() && style.is_silent(),
             text: Vec::new(alloc),
             words: String::new(alloc),
             buffer: String::new(alloc),
@@ -76,6 +86,7 @@ impl<'a> Sheet<'a> {
             begin: 0,
             behind: 0,
             actions: 0,
+            counted: Vec::new(alloc),
             place: Offset::new(),
             known: Remembered::new(alloc),
             names: Names::new(alloc),
@@ -110,7 +121,7 @@ impl<'a> Sheet<'a> {
     /// Tells what was told of the same bytes before, if anything was; how many actions they have.
     #[inline(always)]
     pub fn recall(&mut self, time: u64, place: u64, span: Keyed<'_>) -> Result<Option<u64>> {
-        if !self.style.recalls() {
+        if !self.recalls {
             return Ok(None);
         }
         let Some((begin, end, actions)) = self.known.recall(span) else {
@@ -123,9 +134,30 @@ impl<'a> Sheet<'a> {
         Ok(Some(actions))
     }
 
-    /// Keeps what was told of bytes of so many actions.
+    /// Where nothing is told, counts the names that were counted of the same bytes before, if any were; how many actions they have.
+    #[inline(never)]
+    pub fn recount(&mut self, span: Keyed<'_>) -> Result<Option<u64>> {
+        if !self.recounts {
+            return Ok(None);
+        }
+        let Some((begin, end, actions)) = self.known.recall(span) else {
+            return Ok(None);
+        };
+        let mut bytes = span.bytes.len() as u64;
+        let told = std::str::from_utf8(self.known.told(begin, end)).unwrap_or("");
+        for name in told.lines() {
+            self.names.add(name, bytes)?;
+            bytes = 0;
+        }
+        Ok(Some(actions))
+    }
+
+    /// Keeps what was told of bytes of so many actions, or counted of them.
     pub fn keep(&mut self, span: Keyed<'_>, actions: u64) -> Result<()> {
-        if !self.style.recalls() {
+        if self.recounts {
+            return self.known.keep(span, &self.counted, actions);
+        }
+        if !self.recalls {
             return Ok(());
         }
         match self.text.get(self.behind..) {
@@ -233,17 +265,21 @@ impl<'a> Sheet<'a> {
     /// Counts a text where it is one that is asked for; whether it is then told. In JSON it has no actions.
     #[inline(never)]
     fn counts_text(&mut self, span: &ToldSpan<'_>) -> Result<bool> {
-        let len = span.len;
-        let counted = Counted("text", len);
-        self.words.clear();
-        write!(self.words, "{counted}")?;
-        if !self.is_wanted(span)? {
+        if !self.style.is_at(span.place, span.len) {
             return Ok(false);
         }
-        self.totals.add_told(Sort::Text, len, 0);
+        if !self.style.tells_all() {
+            let counted = Counted("text", span.len);
+            self.words.clear();
+            write!(self.words, "{counted}")?;
+            if !self.is_wanted(span)? {
+                return Ok(false);
+            }
+            self.totals.add_told(Sort::Text, span.len, 0);
+        }
         let silent = self.style.is_silent();
         if silent {
-            self.names.add("text", len)?;
+            self.names.add("text", span.len)?;
         }
         Ok(!silent)
     }
@@ -252,6 +288,7 @@ impl<'a> Sheet<'a> {
     fn begin(&mut self, span: &ToldSpan<'_>) -> Result<()> {
         self.begin = self.text.len();
         self.actions = 0;
+        self.counted.clear();
         if self.style.is_silent() {
             return Ok(());
         }
@@ -299,9 +336,10 @@ impl<'a> Sheet<'a> {
         if self.style.counts() {
             let (name, _words) = name_of(&self.words);
             self.names.add(name, if first { span.len } else { 0 })?;
-        }
-        if self.style.is_silent() {
-            return Ok(());
+            if self.style.is_silent() {
+                self.counted.extend_from_slice(name.as_bytes())?;
+                return Ok(self.counted.push(b'\n')?);
+            }
         }
         if self.style.json {
             return append_action(&mut self.text, &self.words, &self.fields.out, first);
@@ -343,7 +381,7 @@ impl<'a> Sheet<'a> {
         self.text.extend_from_slice(end)
     }
 
-    /// A span of these words, and of an escape sequence its fields.
+    /// A span of these words, and of an escape sequence its fields, where one of its bytes is asked for.
     #[inline(never)]
     pub fn tell<T: Display>(
         &mut self,
@@ -351,6 +389,9 @@ impl<'a> Sheet<'a> {
         words: &T,
         escape: Option<Esc>,
     ) -> Result<()> {
+        if !self.style.is_at(span.place, span.len) {
+            return Ok(());
+        }
         self.begin(span)?;
         self.fields.clear();
         self.words.clear();
@@ -365,13 +406,16 @@ impl<'a> Sheet<'a> {
         self.end(span)
     }
 
-    /// A line for each action of a control sequence of these tokens; how many they are.
+    /// A line for each action of a control sequence of these tokens; how many they are, 0 where none of its bytes is asked for.
     pub fn tell_actions(
         &mut self,
         span: &ToldSpan<'_>,
         params: &[CsiParam],
         control: char,
     ) -> Result<u64> {
+        if !self.style.is_at(span.place, span.len) {
+            return Ok(0);
+        }
         self.begin(span)?;
         let (alloc, sent) = (*self.text.allocator(), self.style.dialect.is_some());
         let mut count = 0u64;

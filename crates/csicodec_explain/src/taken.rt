@@ -1,8 +1,8 @@
 //! What terminals take a list for that the table of actions doesn't read.
 
 use crate::Result;
-use crate::style::name_of;
 use csicodec_base::CsiParam;
+use csicodec_listing::style::name_of;
 use csicodec_parser::CSI;
 use csicodec_terminal::terminal_actions;
 use csicodec_words::{ActionList, ActionWords};

@@ -1,9 +1,9 @@
 -- What lines give, as they come.
 use Rattle.csicodec_inspect.proofs.Common.{◌≡◌, inl, inr, ℕ, ◌==◌, List, [], ◌∷◌, ◌++◌, Option, None, Some, Result, Ok, Err, refl, sym, ap, subst, ◌∙◌, append_assoc, append-nil, Appends-trans, IfErr, MatchResult, OnErr, OnOk, Appends, Consumes, IsAtEnd, IsErrAnd, Failure, Became, IsSent, answer_of, AssemblesLines, FrontsOf, IsAppended, Assembly}
 use Rattle.std.proofs.lemmas.Bool.{cases_Bool}
-use Rattle.csicodec_assemble.specs.Lines.{Assembles, GiveAll, IsFirst, IsRefused, Passes, counted, last_line, lines_from, one_more}
-use Rattle.csicodec_assemble.specs.declared.object.Refusal.{Refusal}
-use Rattle.csicodec_assemble.proofs.Joined.{counted_then, passes_then, refuses_at, whole}
+use Rattle.csicodec_listing.specs.Lines.{Assembles, GiveAll, IsFirst, IsRefused, Passes, counted, last_line, lines_from, one_more}
+use Rattle.csicodec_listing.specs.declared.object.Refusal.{Refusal}
+use Rattle.csicodec_listing.proofs.Joined.{counted_then, passes_then, refuses_at, whole}
 use Rattle.csicodec_transform.specs.declared.error.RunError.{RunError}
 
 abbrev Lines : Type 0

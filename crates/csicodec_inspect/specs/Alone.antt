@@ -3,7 +3,7 @@
 use Rattle.std.specs.Prelude.{ℕ, ◌≡◌, ◌≢◌, IfErr, IfSome, OnOk}
 use Rattle.csicodec_streams.specs.{Decoding.NormalisesTo, Refusals.RefusesRun}
 use Rattle.csicodec_transform.specs.declared.error.RunError.{RunError}
-use Rattle.csicodec_assemble.specs.{Lines.Assembles, Lines.Refuses, declared.object.Fault.Fault}
+use Rattle.csicodec_listing.specs.{Lines.Assembles, Lines.Refuses, declared.object.Fault.Fault}
 use Rattle.csicodec_clean.specs.Stream.{IsFrontOf}
 use Rattle.csicodec_lines.specs.Cuts.{Tells}
 use Rattle.csicodec_command.specs.{Runs.GoesOf, declared.failure.Failure.Failure}

@@ -1,7 +1,7 @@
 -- What `assemble` writes, as the lines of an input come.
 use Rattle.std.specs.Prelude.{ℕ, ◌≡◌, ◌⊎◌, List, ◌++◌, Result, Ok, Err}
 use Rattle.csicodec_transform.specs.declared.error.RunError.{RunError}
-use Rattle.csicodec_assemble.specs.{Lines.Assembles, Lines.Refuses, declared.object.Refusal.Refusal}
+use Rattle.csicodec_listing.specs.{Lines.Assembles, Lines.Refuses, declared.object.Refusal.Refusal}
 use Rattle.csicodec_command.specs.declared.failure.Failure.{Failure}
 use Rattle.csicodec_inspect.specs.Sent.{FrontsOf}
 

@@ -2,9 +2,9 @@
 ghost use Rattle.std.specs.{Prelude.◌≡◌, Prelude.ℕ, Prelude.List, Io.KnownBytes.Appends};
 ghost use Rattle.csicodec_inspect.specs.{Alone.AssemblesLines, Assembled.IsSent, Assembled.answer_of};
 
-use csicodec_assemble::{Assembler, Refusal};
 use csicodec_command::{Alone, Failure};
 use csicodec_explain::Maker;
+use csicodec_listing::{Assembler, Refusal};
 use csicodec_transform::{CHUNK, RunError, receive, send};
 use std::alloc::Global;
 use std::io::{Read, Write};

@@ -9,7 +9,8 @@ use csicodec_command::{
     Failure, Recordings, Request, Worker, Wrong, failed, is_cast, refused, text_of, work_through,
 };
 use csicodec_events::Dialect;
-use csicodec_explain::{Explainer, Style};
+use csicodec_explain::Explainer;
+use csicodec_listing::style::Style;
 use std::alloc::{AllocError, Global};
 use std::env;
 use std::io::{self, BufRead, IsTerminal, Read, Write};

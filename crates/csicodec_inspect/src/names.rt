@@ -2,7 +2,7 @@
 
 use crate::all_names::{NAMES, NUMBERED};
 use csicodec_command::{Wrong, nearest};
-use csicodec_explain::is_among;
+use csicodec_listing::style::is_among;
 use std::alloc::Global;
 
 /// Whether something is told by this name.

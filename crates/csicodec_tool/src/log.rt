@@ -3,8 +3,8 @@ ghost use Rattle.std.specs.Prelude.{◌≡◌, ◌==◌, ◌++◌, ◌∷◌, []
 ghost use Rattle.csicodec_transform.specs.Transform.{GoesOn};
 ghost use Rattle.csicodec_tool.specs.{Log.IsLine, Stream.EndsLog, Stream.GoesIn, Stream.IsBegun, Stream.PassesLog};
 
-use csicodec_assemble::split_line;
 use csicodec_clean::{Anew, Cleaner, Depth, Kept, Passing};
+use csicodec_listing::split_line;
 use csicodec_overwrite::Overwriter;
 use csicodec_transform::Transform;
 use std::alloc::{AllocError, Global};

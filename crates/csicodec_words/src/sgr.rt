@@ -18,7 +18,10 @@ pub(crate) fn tell_color<W: Write>(out: &mut Out<'_, W>, color: &ColorSpec) {
         },
         ColorSpec::TrueColor(parts) => {
             let (red, green, blue, alpha) = parts.to_srgb_u8();
-            out.show(&format_args!("rgb {red},{green},{blue}"));
+            for (ahead, part) in &[("rgb ", red), (",", green), (",", blue)] {
+                out.put(ahead);
+                out.put_number((*part).into());
+            }
             if alpha != 255 {
                 out.put(", alpha ");
                 out.put_number(alpha.into());

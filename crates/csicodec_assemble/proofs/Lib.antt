@@ -1,5 +1,0 @@
-pub mod Common
-pub mod Shown
-pub mod Joined
-pub mod Member
-pub mod Place

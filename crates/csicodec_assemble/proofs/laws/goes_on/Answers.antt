@@ -1,5 +1,0 @@
-use Rattle.csicodec_assemble.proofs.Joined.{passes_then}
-use Rattle.csicodec_assemble.proofs.laws.goes_on.Goals as goal
-
-pub returns-clause-text : goal.returns-clause-text
-returns-clause-text c = passes_then

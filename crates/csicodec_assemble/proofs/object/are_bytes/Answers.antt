@@ -1,5 +1,0 @@
-use Rattle.csicodec_assemble.proofs.Common.{arith}
-use Rattle.csicodec_assemble.proofs.object.are_bytes.Goals as goal
-
-pub returns : goal.returns
-returns c = λ i. let fits = c.type_inv.bytes i in omega arith

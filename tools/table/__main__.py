@@ -1,12 +1,15 @@
 """python3 tools/table [--check]: writes the files that follow from the facts in table/.
 
 Each table/NAME.toml holds facts, and tools/table/NAME.py says in `files(rows)` which files follow from its rows, as texts by path, or as parts
-of files that are else by hand. Those of bindings/ follow from several tables. With --check nothing is written, and each file that differs is named.
+of files that are else by hand. Those of bindings/ follow from several tables. A row that .ci/witness.tsv has no line for, or says otherwise of, is
+refused, and all else is made before anything is written. With --check nothing is written, and each file that differs is named.
 """
 import importlib
 import pathlib
 import sys
 
+import witnessed
+from actions import subjects
 from bindings.files import files
 from parts import with_parts
 from read import TOP, rows_of
@@ -47,11 +50,20 @@ def settled(texts, is_check):
     return not stale or not is_check
 
 
+def unwitnessed():
+    """Stops where the witness says otherwise than the tables."""
+    tables = {path.name: rows_of(path.name) for path in pathlib.Path(TOP, "table").glob("*.toml")}
+    said = witnessed.facts(tables, [action for subject in subjects() for action in subject.actions])
+    found = witnessed.faults(witnessed.lines(), said)
+    if found:
+        sys.exit("\n".join(f"table: refused: {fault}" for fault in found))
+
+
 def main(words):
     if words not in ([], ["--check"]):
         sys.exit(__doc__)
-    tables = settled(written(), bool(words))
-    return 0 if settled(files(), bool(words)) and tables else 1
+    unwitnessed()
+    return 0 if settled(written() | files(), bool(words)) else 1
 
 
 if __name__ == "__main__":

@@ -125,6 +125,7 @@ def check(rows):
     for name, subject in rows.items():
         check_columns(TABLE, {name: subject}, ("file", "doc", "derives", "example", "actions"), ("beside", "lists"))
         check_once(TABLE, subject["actions"], "final")
+        check_once(TABLE, {variant: row for variant, row in subject["actions"].items() if row.get("read", True)}, "text")
         for variant, row in subject["actions"].items():
             key = f"{name}::{variant}"
             is_list = "final" in row

@@ -1,0 +1,177 @@
+""".ci/witness.tsv: what says that a row is right. It is typed by hand from the sources that its lines name, and nothing here writes it.
+
+`faults` says which rows of table/ it has no line for, and which it says otherwise of: the names and numbers of SGR codes, modes, escape codes and
+enumerations, and of each action the list that it stands for. So two names that are exchanged are refused before anything is written.
+"""
+import json
+import os
+import re
+from dataclasses import dataclass
+
+from read import TOP
+
+PATH = ".ci/witness.tsv"
+# A control sequence: its private marker, its numbers, its intermediate bytes and its final byte.
+LIST = re.compile(r"\\e\[([<=>?]*)([0-9:;]*)([ -/]*)([@-~])$")
+# The type of a token, which has no names of things in it.
+TOKEN = "CsiParam"
+# How the enumeration of a mode's table is called.
+MODES = {"private": "DecPrivateModeCode", "terminal": "TerminalModeCode"}
+
+
+@dataclass(frozen=True)
+class Line:
+    """A line: its place in the file, its class, and its columns."""
+    at: int
+    kind: str
+    given: str
+    name: str
+    holds: str
+    text: str
+    source: str
+
+    def place(self):
+        return f"{PATH}:{self.at} ({self.source})"
+
+
+def lines():
+    """The lines, in order; a file of fewer classes or without a source is no witness."""
+    with open(os.path.join(TOP, PATH), encoding="utf-8") as file:
+        rows = [(at, row.rstrip("\n").split("\t")) for at, row in enumerate(file, 1) if not row.startswith("#")]
+    for at, row in rows:
+        if len(row) != 6 or not row[5] or row[0] not in ("action", "written", "number", "escape", "list"):
+            raise SystemExit(f"table: refused: {PATH}:{at} has no class or no source, or not six columns")
+    return [Line(at, *row) for at, row in rows]
+
+
+def frame(text):
+    """What tells a list from those of other actions: all of it but the numbers; of XTWINOPS and of a terminal's class also the first, which says
+    which it is. A report of the mouse ends in `m` where a button goes up."""
+    marker, _, between, final = LIST.match(text).groups()
+    return (marker, first(text) if final in "tc" else None, between, "M" if (marker, final) == ("<", "m") else final)
+
+
+def first(text):
+    """The first number of a list, as it is written."""
+    return re.split("[;:]", LIST.match(text)[2])[0]
+
+
+def words_in(value):
+    """The names that a value of JSON has in it."""
+    if isinstance(value, dict):
+        return {word for key, inner in value.items() for word in {key} | words_in(inner)}
+    if isinstance(value, list):
+        return {word for inner in value for word in words_in(inner)}
+    return {value} if isinstance(value, str) else set()
+
+
+def said_of(known, kind):
+    """What the lines of a class say: for a number the enumeration, variant and number, for an escape what stands behind ESC and the variant."""
+    found = [line for line in known if line.kind == kind]
+    if kind == "number":
+        return {(line.given, line.name): (line.holds, line) for line in found}
+    return {line.given.removeprefix("\\e"): (line.name, line) for line in found}
+
+
+def of_numbers(said, enumeration, rows):
+    """Faults of an enumeration's variants, each by its name and its number."""
+    for name, number in rows:
+        if (enumeration, name) not in said:
+            yield f"{enumeration}::{name} has no line in {PATH}"
+        elif said[enumeration, name][0] != str(number):
+            yield f"{enumeration}::{name} is {number}, and {said[enumeration, name][0]} by {said[enumeration, name][1].place()}"
+
+
+def of_escapes(said, rows):
+    """Faults of the escape codes."""
+    for key, name in rows:
+        if key not in said:
+            yield f"EscCode::{name}, ESC {key}, has no line in {PATH}"
+        elif said[key][0] != name:
+            yield f"ESC {key} is EscCode::{name}, and {said[key][0]} by {said[key][1].place()}"
+
+
+def set_by(row):
+    """The action and the value that a row of table/sgr.toml sets, as a line of an action has them."""
+    name, holds, inner = row["sets"].partition("(")
+    inner = inner.removesuffix(")")
+    value = re.match(r"(\w+)\((\w+)\)$", inner)
+    if value:
+        inner = {value[1]: int(value[2])}
+    elif inner in ("true", "false"):
+        inner = inner == "true"
+    return "Sgr::" + name, {"value": inner} if holds else {}
+
+
+def of_sgr(known, rows):
+    """Faults of what a number before `m` sets."""
+    given = {line.given: line for line in known if line.kind == "action"}
+    for number, row in rows.items():
+        line = given.get(f"\\e[{number}m")
+        if "sets" not in row:
+            continue
+        if line is None:
+            yield f"table/sgr.toml: {number} has no line in {PATH}"
+        elif (line.name, json.loads(line.holds)) != set_by(row):
+            yield f"table/sgr.toml: {number} sets {row['sets']}, and {line.name} {line.holds} by {line.place()}"
+
+
+def own_lines(known, subject, variant):
+    """The lines of an action, by its subject and the parts of its variant."""
+    name, *rest = variant
+    found = [line for line in known if line.kind in ("action", "written") and line.name == f"{subject}::{name}"]
+    return [line for line in found if not rest or rest[0] in words_in(json.loads(line.holds))]
+
+
+def is_among(text, action, found):
+    """Whether an action's own lines have the list: one without numbers of its own itself, an attribute's one that begins with its number, and
+    whether it is read back as this where the row says so."""
+    if action.form == "unit" or action.subject == "Sgr":
+        return any(line.text == text or action.subject == "Sgr" and first(line.text) == first(text) for line in found)
+    return action.row.get("read", True) == any(line.given == line.text for line in found)
+
+
+def of_actions(known, actions):
+    """Faults of actions: of those that no line has, and of those of which a line says otherwise."""
+    for action in actions:
+        found, name, text = own_lines(known, action.subject, action.variant), "::".join((action.subject, *action.variant)), "\\e[" + action.text()
+        if not found:
+            yield f"{name} has no line in {PATH}"
+        elif not is_among(text, action, found):
+            yield f"{name} is {text}, and {found[0].text} by {found[0].place()}"
+        for line in found:
+            if action.subject != "Sgr" and frame(line.text) != frame(text):
+                yield f"{name} is {text}, and {line.text} by {line.place()}"
+
+
+def of_values(known, rows):
+    """Variants of enumerations that no line has: neither one of numbers nor one of actions."""
+    named = {(line.given, line.name) for line in known if line.kind == "number"}
+    held = {word for line in known if line.kind == "action" for word in words_in(json.loads(line.holds)) | set(line.name.split("::"))}
+    for enumeration, variant in rows:
+        if (enumeration, variant) not in named and variant not in held:
+            yield f"{enumeration}::{variant} has no line in {PATH}"
+
+
+def facts(tables, actions):
+    """What table/ says of what the witness says, by the check that compares it."""
+    values = {name: kind["variants"] for name, kind in tables["values.toml"].items() if "variants" in kind}
+    return {
+        "sgr": tables["sgr.toml"]["code"],
+        "numbers": {"SgrCode": [(row["name"], number) for number, row in tables["sgr.toml"]["code"].items() if "name" in row]}
+        | {kind: [(row["name"], number) for number, row in tables["modes.toml"][part].items() if "name" in row] for part, kind in MODES.items()}
+        | {kind: [(name, row["number"]) for name, row in rows.items() if "number" in row] for kind, rows in values.items()},
+        "escapes": [(key, row["name"]) for key, row in tables["escapes.toml"]["code"].items() if "name" in row],
+        "actions": actions,
+        "values": [(kind, name) for kind, rows in values.items() if kind != TOKEN for name in rows],
+    }
+
+
+def faults(known, said):
+    """Where table/ says otherwise than the witness, or of what that says nothing."""
+    numbers, witnessed = said_of(known, "number"), {line.given for line in known if line.kind == "number"}
+    found = [*of_sgr(known, said["sgr"]), *of_escapes(said_of(known, "escape"), said["escapes"]), *of_actions(known, said["actions"])]
+    for kind, rows in said["numbers"].items():
+        if kind in witnessed:
+            found += of_numbers(numbers, kind, rows)
+    return found + [*of_values(known, said["values"])]

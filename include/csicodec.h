@@ -491,10 +491,15 @@ enum csicodec_input_kind {
     /* ESC [ M and three characters, which are the last of its bytes: the button, the column and the line, each with 32 added, in bytes
      * or, of CSICODEC_DIALECT_UTF8_INPUT, in UTF-8. */
     CSICODEC_INPUT_MOUSE = 10,
-    /* ESC and a character of ASCII: a key with alt. */
+    /* ESC and a character: a key with alt. */
     CSICODEC_INPUT_ALT = 11,
     /* ESC alone. */
-    CSICODEC_INPUT_ESCAPE = 12
+    CSICODEC_INPUT_ESCAPE = 12,
+    /* A key with modifiers that xterm sends as CSI number ; modifiers final, in another form: ESC O 5 P (Konsole), ESC O 1 ; 5 P (VTE before
+     * 0.38), ESC ESC [ A, ESC ESC O A and ESC ESC [ 5 ~ (rxvt, iTerm2), the last three with alt. csicodec_key says which it is. */
+    CSICODEC_INPUT_MODIFIED = 13,
+    /* ESC [ I: the terminal got the focus (mode 1004). That it lost it is CSICODEC_KNOWN_FOCUS_LOST. */
+    CSICODEC_INPUT_FOCUS_GAINED = 14
 };
 
 struct csicodec_received {
@@ -504,8 +509,8 @@ struct csicodec_received {
     uint32_t kind;
     /* Of CSICODEC_OK, and of CSICODEC_TRUNCATED from csicodec_input, the mode and `looked` of the next call. */
     uint32_t mode;
-    /* The character of CSICODEC_INPUT_SS3, CSICODEC_INPUT_LINUX and CSICODEC_INPUT_ALT; the number of CSICODEC_INPUT_RXVT, 0 to 99;
-     * the control of CSICODEC_EVENT_CONTROL. */
+    /* The character of CSICODEC_INPUT_SS3, CSICODEC_INPUT_LINUX and CSICODEC_INPUT_ALT, of the last of these a code point; the last one of
+     * CSICODEC_INPUT_MODIFIED; the number of CSICODEC_INPUT_RXVT, 0 to 99; the control of CSICODEC_EVENT_CONTROL. */
     uint32_t value;
     size_t looked;
     /* Of CSICODEC_OK, how many bytes the event has: 0 of a control within a control sequence. */
@@ -532,9 +537,10 @@ struct csicodec_received csicodec_input(uint32_t dialect, uint32_t mode, size_t 
                                         struct csicodec_action *actions, size_t actions_room, struct csicodec_param *params,
                                         size_t params_room);
 
-/* What len bytes of input that wait are if no more came in time, which the caller decides: CSICODEC_INPUT_ESCAPE for ESC alone,
- * CSICODEC_INPUT_ALT for ESC and one character of ASCII. Otherwise the status is CSICODEC_TRUNCATED, and they go on waiting in their
- * state. */
+/* What len bytes of input that wait are if no more came in time, which the caller decides: CSICODEC_INPUT_ESCAPE for ESC alone, or ahead of
+ * another ESC or of a character that isn't whole, CSICODEC_INPUT_ALT for ESC and one character of ASCII, CSICODEC_INPUT_SS3 for ESC O and a digit.
+ * `used` bytes are that; those behind them go on waiting in mode 0. Otherwise the status is CSICODEC_TRUNCATED, and all of
+ * them go on waiting in their state. */
 struct csicodec_received csicodec_pause(const uint8_t *bytes, size_t len);
 
 /* What happens to a key. */

@@ -30,8 +30,13 @@ export type InputEvent =
     | { readonly type: 'Input.Ss3'; readonly character: string }
     /** `ESC [ [` and this character: F1 to F5 of Linux' console are 'A' to 'E'. */
     | { readonly type: 'Input.Linux'; readonly character: string }
-    /** ESC and this character of ASCII: a key with alt. */
+    /** ESC and this character: a key with alt. */
     | { readonly type: 'Input.Alt'; readonly character: string }
+    /** A key with modifiers that xterm sends as `CSI number ; modifiers character`, in another form: `ESC O 5 P` (Konsole), `ESC O 1 ; 5 P`
+     * (VTE before 0.38), `ESC ESC [ A`, `ESC ESC O A` and `ESC ESC [ 5 ~` (rxvt, iTerm2), the last three with alt. */
+    | { readonly type: 'Input.Modified'; readonly number: number; readonly modifiers: number; readonly character: string }
+    /** `ESC [ I`: the terminal got the focus (mode 1004). */
+    | { readonly type: 'Input.FocusGained' }
     /** `ESC [`, this number, of one digit or two, and `$`: a key with shift, of rxvt. */
     | { readonly type: 'Input.Rxvt'; readonly number: number }
     /** `ESC [ M` and three characters. The button has 4 for shift, 8 for alt, 16 for control, 32 for a movement and 64 for a wheel. */

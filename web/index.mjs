@@ -20,7 +20,7 @@ const LIMIT = 65536, PIECE = 65536, TRUNCATED = 4, NO_ACTION = 6;
 const KEY_EVENTS = ['press', 'repeat', 'release'], KEY_ENCODINGS = ['legacy', 'modifyOtherKeys', 'kitty', 'win32', 'rxvt', 'linux'];
 const TYPED = 32n;
 // enum csicodec_event_kind and enum csicodec_input_kind; enum csicodec_dialect; enum csicodec_span_kind.
-const TEXT = 1, ACTIONS = 2, ESC = 3, STRING = 4, OTHER = 5, CONTROL = 6, SS3 = 7, LINUX = 8, RXVT = 9, MOUSE = 10, ALT = 11;
+const TEXT = 1, ACTIONS = 2, ESC = 3, STRING = 4, OTHER = 5, CONTROL = 6, SS3 = 7, LINUX = 8, RXVT = 9, MOUSE = 10, ALT = 11, MODIFIED = 13, FOCUS_GAINED = 14;
 const DIALECTS = { output: 0, input: 1, utf8: 2 };
 const SPANS = ['text', 'csi', 'esc', 'string', 'other'];
 const STRINGS = { 0x5d: 'OSC', 0x50: 'DCS', 0x58: 'SOS', 0x5e: 'PM', 0x5f: 'APC' };
@@ -47,7 +47,13 @@ function keyOf(kind, value, bytes, dialect) {
     switch (kind) {
         case SS3: return { type: 'Input.Ss3', character: String.fromCharCode(value) };
         case LINUX: return { type: 'Input.Linux', character: String.fromCharCode(value) };
-        case ALT: return { type: 'Input.Alt', character: String.fromCharCode(value) };
+        case ALT: return { type: 'Input.Alt', character: String.fromCodePoint(value) };
+        case MODIFIED: {
+            const doubled = bytes[1] === 0x1b, digits = doubled ? textOf(bytes.subarray(3, -1)) : '';
+            const modifiers = doubled ? 3 : bytes[bytes.length - 2] - 0x30;
+            return { type: 'Input.Modified', number: Number(digits || 1), modifiers, character: String.fromCharCode(value) };
+        }
+        case FOCUS_GAINED: return { type: 'Input.FocusGained' };
         case RXVT: return { type: 'Input.Rxvt', number: value };
         case MOUSE: {
             const numbers = dialect === DIALECTS.utf8 ? [...decoder.decode(bytes.subarray(3))].map(it => it.codePointAt(0)) : [...bytes.subarray(3)];
@@ -190,18 +196,22 @@ export class InputParser extends Reader {
         super(codec, DIALECTS[dialect], limit);
     }
 
-    /** What waits, where nothing more came in time: ESC alone is a key, and so is ESC with one character. Else it goes on waiting. */
+    /** What waits, where nothing more came in time: ESC alone is a key, and so is ESC with one character, and SS3 with a digit. Else it goes on waiting. */
     pause() {
-        const { rest } = this;
-        const answer = this.codec.guarded(library => {
-            library.take(rest);
-            library.calls.csicodec_pause(library.answer, library.input.at, library.length);
-            library.look();
-            return { status: library.told(0), kind: library.told(4), value: library.told(12) };
-        });
-        if (answer.status) return [];
-        this.begin();
-        return [keyOf(answer.kind, answer.value, rest, this.dialect)];
+        const events = [];
+        for (;;) {
+            const { rest } = this;
+            const answer = this.codec.guarded(library => {
+                library.take(rest);
+                library.calls.csicodec_pause(library.answer, library.input.at, library.length);
+                library.look();
+                return { status: library.told(0), kind: library.told(4), value: library.told(12), used: library.told(20) };
+            });
+            if (answer.status) return events;
+            this.begin();
+            this.rest = rest.slice(answer.used);
+            events.push(keyOf(answer.kind, answer.value, rest.subarray(0, answer.used), this.dialect), ...this.feed(''));
+        }
     }
 
     finish() { return [...this.pause(), ...super.finish()]; }

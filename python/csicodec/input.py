@@ -13,7 +13,7 @@ from .values import Group, Value
 
 _LARGEST_16 = (1 << 16) - 1
 # enum csicodec_event_kind and enum csicodec_input_kind.
-_TEXT, _ACTIONS, _ESC, _STRING, _OTHER, _CONTROL, _SS3, _LINUX, _RXVT, _MOUSE, _ALT, _ESCAPE = range(1, 13)
+_TEXT, _ACTIONS, _ESC, _STRING, _OTHER, _CONTROL, _SS3, _LINUX, _RXVT, _MOUSE, _ALT, _ESCAPE, _MODIFIED, _FOCUS = range(1, 15)
 
 
 class Dialect(IntEnum):
@@ -52,7 +52,26 @@ class Input(InputKey, metaclass=Group):
         """`ESC [ [` and this character, from ' ' to '~': F1 to F5 of Linux' console are 'A' to 'E'."""
 
     class Alt(OfCharacter):
-        """ESC and this character of ASCII: a key with alt."""
+        """ESC and this character: a key with alt."""
+
+    class Modified(InputKey):
+        """A key with modifiers that xterm sends as `CSI number ; modifiers character`, in another form: `ESC O 5 P` (Konsole), `ESC O 1 ; 5 P`
+        (VTE before 0.38), `ESC ESC [ A`, `ESC ESC O A` and `ESC ESC [ 5 ~` (rxvt, iTerm2), the last three with alt. The modifiers are 1 and
+        more than the sum of shift (1), alt (2), ctrl (4) and super (8).
+        """
+
+        __slots__ = __match_args__ = ("number", "modifiers", "character")
+        number: int
+        modifiers: int
+        character: str
+
+        def __init__(self, number: int, modifiers: int, character: str) -> None:
+            self._set_whole("number", number, 0, 99)
+            self._set_whole("modifiers", modifiers, 2, 9)
+            self._set_of("character", character, str)
+
+    class FocusGained(InputKey):
+        """`ESC [ I`: the terminal got the focus, as mode 1004 has it."""
 
     class Rxvt(InputKey):
         """`ESC [`, this number, of one digit or two, and `$`: a key with shift, of rxvt."""
@@ -95,6 +114,11 @@ def _key(kind: int, value: int, held: bytes, dialect: Dialect) -> InputKey:
         return Input.Mouse(*[max(0, ord(character) - 32) for character in numbers])
     if kind == _ESCAPE:
         return Input.Escape()
+    if kind == _FOCUS:
+        return Input.FocusGained()
+    if kind == _MODIFIED:
+        number, modifiers = (held[3:-1], b"3") if held[1:2] == b"\x1b" else (b"", held[-2:-1])
+        return Input.Modified(int(number or b"1"), int(modifiers), chr(value))
     return {_SS3: Input.Ss3, _LINUX: Input.Linux, _ALT: Input.Alt}[kind](chr(value))
 
 
@@ -164,13 +188,16 @@ class InputParser:
         return ControlString(self._string, piece, first, last)
 
     def pause(self) -> List[InputEvent]:
-        """What waits, where nothing more came in time: ESC alone is a key, and so is ESC with one character. Else it goes on waiting."""
+        """What waits, where nothing more came in time: ESC alone is a key, and so is ESC with one character, and SS3 with a digit. Else it goes on
+        waiting."""
+        events: List[InputEvent] = []
         answer = library.pause(self._rest, len(self._rest))
-        if answer.status:
-            return []
-        held = self._rest
-        self._begin()
-        return [_key(answer.kind, answer.value, held, self._dialect)]
+        while not answer.status:
+            held, self._rest = self._rest[: answer.used], self._rest[answer.used :]
+            self._mode, self._looked = 0, 0
+            events += [_key(answer.kind, answer.value, held, self._dialect), *self.feed(b"")]
+            answer = library.pause(self._rest, len(self._rest))
+        return events
 
     def finish(self) -> List[InputEvent]:
         """What is left at the end, as a key, as text or as malformed."""

@@ -24,6 +24,16 @@ pub enum InputEvent<'a> {
     Output(Event<'a>),
     /// SS3 (`ESC O`) and this character, from `' '` to `'~'`: a key of the keypad, an arrow, or F1 to F4.
     Ss3(char),
+    /// A key with modifiers that xterm sends as `CSI number ; modifiers control`, in another form: `ESC O 5 P` (Konsole), `ESC O 1 ; 5 P`
+    /// (VTE before 0.38), `ESC ESC [ A`, `ESC ESC O A` and `ESC ESC [ 5 ~` (rxvt, iTerm2), the last three with alt.
+    Modified {
+        /// The number, 0 to 99.
+        number: u8,
+        /// 1 and more than the sum of shift (1), alt (2), ctrl (4) and super (8).
+        modifiers: u8,
+        /// The last character: `'A'` to `'F'`, `'H'`, `'P'` to `'S'`, or `'~'`.
+        control: char,
+    },
     /// `ESC [ [` and this character, from `' '` to `'~'`: F1 to F5 of Linux' console are `'A'` to `'E'`.
     Linux(char),
     /// `ESC [`, this number, of one digit or two, and `$`: a key with shift, of rxvt.
@@ -37,8 +47,10 @@ pub enum InputEvent<'a> {
         /// The line, from 1.
         line: u16,
     },
-    /// ESC and this character of ASCII: a key with alt.
+    /// ESC and this character: a key with alt.
     Alt(char),
+    /// `ESC [ I`: the terminal got the focus (mode 1004).
+    FocusGained,
     /// ESC alone.
     Escape,
 }
@@ -63,15 +75,33 @@ fn mouse<'a>(dialect: Dialect, bytes: &[u8]) -> InputEvent<'a> {
     }
 }
 
+/// The key with modifiers that these bytes are: a digit stands for them ahead of the last character, and behind a second ESC they are alt.
+fn modified<'a>(control: char, bytes: &[u8]) -> InputEvent<'a> {
+    let digits = |bytes: &[u8]| bytes.iter().fold(0, |number, byte| number * 10 + (byte - b'0'));
+    let (number, modifiers) = match bytes {
+        [0x1b, 0x1b, _, digits_of @ .., b'~'] => (digits(digits_of), 3),
+        [0x1b, 0x1b, ..] => (1, 3),
+        [.., modifiers, _] => (1, digits(&[*modifiers])),
+        _ => (1, 1),
+    };
+    InputEvent::Modified {
+        number,
+        modifiers,
+        control,
+    }
+}
+
 /// The key or the report that these bytes are.
 fn key<'a>(dialect: Dialect, received: &Received, bytes: &[u8]) -> InputEvent<'a> {
-    let value = received.value as u8;
+    let character = char::from_u32(received.value).unwrap_or(char::REPLACEMENT_CHARACTER);
     match received.kind {
-        7 => InputEvent::Ss3(char::from(value)),
-        8 => InputEvent::Linux(char::from(value)),
-        9 => InputEvent::Rxvt(value),
+        7 => InputEvent::Ss3(character),
+        8 => InputEvent::Linux(character),
+        9 => InputEvent::Rxvt(received.value as u8),
         10 => mouse(dialect, bytes),
-        11 => InputEvent::Alt(char::from(value)),
+        11 => InputEvent::Alt(character),
+        13 => modified(character, bytes),
+        14 => InputEvent::FocusGained,
         _ => InputEvent::Escape,
     }
 }
@@ -105,14 +135,15 @@ impl Reader {
         self.event(told, rest).map(InputEvent::Output)
     }
 
-    /// The key that bytes which wait are, if they are one.
-    pub(crate) fn pause<'a>(&mut self, bytes: &[u8]) -> Option<InputEvent<'a>> {
+    /// The key that bytes which wait are, if they are one, and how many bytes it has.
+    pub(crate) fn pause<'a>(&mut self, bytes: &[u8]) -> Option<(InputEvent<'a>, usize)> {
         let received = raw::pause(bytes);
         if received.status != 0 {
             return None;
         }
         (self.mode, self.looked) = (received.mode, received.looked);
-        Some(key(Dialect::Input, &received, bytes))
+        let front = &bytes[..received.used];
+        Some((key(Dialect::Input, &received, front), received.used))
     }
 }
 
@@ -151,7 +182,10 @@ impl<'a> Iterator for Inputs<'a> {
             return event;
         }
         let held = core::mem::take(&mut self.rest);
-        let key = self.reader.pause(held);
-        Some(key.unwrap_or(InputEvent::Output(Event::Other(held))))
+        let Some((key, used)) = self.reader.pause(held) else {
+            return Some(InputEvent::Output(Event::Other(held)));
+        };
+        self.rest = &held[used..];
+        Some(key)
     }
 }

@@ -73,12 +73,12 @@ impl Parser {
         self.held.drain(..used);
     }
 
-    /// Takes what is held as a key, and passes it, if it is ESC, or ESC and a character of ASCII: for a caller that waited, and no more
-    /// input came.
+    /// Takes what is held as keys, and passes them, as far as it is ESC alone, ESC and a character of ASCII, or SS3 and a digit: for a
+    /// caller that waited, and no more input came.
     pub fn pause<F: FnMut(InputEvent<'_>)>(&mut self, tell: &mut F) {
-        if let Some(event) = self.reader.pause(&self.held) {
-            self.held.clear();
+        while let Some((event, used)) = self.reader.pause(&self.held) {
             tell(event);
+            self.held.drain(..used);
         }
     }
 

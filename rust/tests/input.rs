@@ -40,6 +40,29 @@ fn each_form() {
         ]
     );
     assert_eq!(all.last(), Some(&InputEvent::Escape));
+    let modified = |number, modifiers, control| InputEvent::Modified {
+        number,
+        modifiers,
+        control,
+    };
+    let others: Vec<_> = inputs(
+        Dialect::Input,
+        b"\x1bO2P\x1bO1;5S\x1b\x1b[A\x1b\x1b[15~\x1b\xc3\xa9\x1b[I\x1b\x1b",
+    )
+    .collect();
+    assert_eq!(
+        others,
+        [
+            modified(1, 2, 'P'),
+            modified(1, 5, 'S'),
+            modified(1, 3, 'A'),
+            modified(15, 3, '~'),
+            InputEvent::Alt('é'),
+            InputEvent::FocusGained,
+            InputEvent::Escape,
+            InputEvent::Escape,
+        ]
+    );
     let wide: Vec<_> = inputs(Dialect::Utf8Input, b"\x1b[M\xc4\x80\xdf\xbf!").collect();
     assert_eq!(wide, [mouse(224, 2015, 1)]);
     let unfinished: Vec<_> = inputs(Dialect::Input, b"\x1b[M !").collect();

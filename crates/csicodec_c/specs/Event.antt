@@ -27,16 +27,19 @@ event_number (InputEvent.Ss3 b) = 7
 event_number (InputEvent.Linux b) = 8
 event_number (InputEvent.Rxvt n) = 9
 event_number InputEvent.Mouse = 10
-event_number (InputEvent.Alt b) = 11
+event_number (InputEvent.Alt c) = 11
 event_number InputEvent.Escape = 12
+event_number (InputEvent.Modified n m control) = 13
+event_number InputEvent.FocusGained = 14
 
--- the control within a control sequence, the character of a key, or its number
+-- the control within a control sequence, the character of a key, or its number; with modifiers the last character
 abbrev pub value_of : InputEvent → ℕ
 value_of (InputEvent.Output (Event.Control b)) = b
 value_of (InputEvent.Ss3 b) = b
 value_of (InputEvent.Linux b) = b
 value_of (InputEvent.Rxvt n) = n
-value_of (InputEvent.Alt b) = b
+value_of (InputEvent.Alt c) = c
+value_of (InputEvent.Modified n m control) = control
 value_of _ = 0
 
 abbrev pub stream : ℕ → Mode → ℕ → Events

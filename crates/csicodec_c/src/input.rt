@@ -20,7 +20,7 @@ pub struct Received {
     pub kind: u32,
     /// The mode to go on in.
     pub mode: u32,
-    /// The control within a control sequence, the character of SS3, Linux and alt, or the number of rxvt.
+    /// The control within a control sequence, the character of SS3, Linux and alt, the last one of a key with modifiers, or the number of rxvt.
     pub value: u32,
     /// How many bytes of the sequence in front were looked at.
     pub looked: usize,
@@ -33,14 +33,14 @@ pub struct Received {
 }
 
 /// An answer without actions: how the stream goes on behind so many bytes.
-fn answer(status: Status, kind: u32, value: u8, after: Events, used: usize) -> Received
+fn answer(status: Status, kind: u32, value: u32, after: Events, used: usize) -> Received
     ensures { result ≡ answered status kind value after used }
 {
     Received {
         status: status.number(),
         kind,
         mode: number_of(after.mode),
-        value: u32::from(value),
+        value,
         looked: after.looked,
         used,
         actions: 0,
@@ -82,16 +82,20 @@ fn event_number(sent: InputEvent) -> u32
         InputEvent::Mouse => 10,
         InputEvent::Alt(_) => 11,
         InputEvent::Escape => 12,
+        InputEvent::Modified { .. } => 13,
+        InputEvent::FocusGained => 14,
     }
 }
 
-fn value_of(sent: InputEvent) -> u8
+fn value_of(sent: InputEvent) -> u32
     ensures { result ≡ value_of sent }
 {
     match sent {
-        InputEvent::Output(Event::Control(byte)) => byte,
-        InputEvent::Ss3(byte) | InputEvent::Linux(byte) | InputEvent::Alt(byte) => byte,
-        InputEvent::Rxvt(number) => number,
+        InputEvent::Output(Event::Control(byte)) => u32::from(byte),
+        InputEvent::Ss3(byte) | InputEvent::Linux(byte) => u32::from(byte),
+        InputEvent::Rxvt(number) => u32::from(number),
+        InputEvent::Modified { control, .. } => u32::from(control),
+        InputEvent::Alt(character) => u32::from(character),
         _ => 0,
     }
 }

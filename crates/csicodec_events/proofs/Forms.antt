@@ -1,12 +1,13 @@
 -- Of the forms of input: how far they go, that later bytes change nothing, and the bytes joined.
-use Rattle.std.proofs.Common.{◌≡◌, ℕ, ◌+◌, ◌-◌, ◌==◌, ◌<◌, ◌&&◌, ◌||◌, Bool, true, false, nat_le, if◌then◌else◌, inl, inr, List, [], ◌∷◌, ◌++◌, length, refl, sym, ap, subst, ◌∙◌, append_assoc, append-nil, lt-ltb, arith, ltb-true, take-append-drop, flat_map, nat_lt}
-use Rattle.std.proofs.{lemmas.Bool.and_parts, lemmas.Bool.cases_Bool, lemmas.Grind.flat_map-append, lemmas.Bool.Decides.nat_tests}
+use Rattle.std.proofs.Common.{◌≡◌, ℕ, ◌+◌, ◌-◌, ◌==◌, ◌<◌, ◌≤◌, ◌&&◌, ◌||◌, Bool, true, false, nat_le, if◌then◌else◌, inl, inr, List, [], ◌∷◌, ◌++◌, length, length-append, take, Option, None, Some, refl, sym, ap, subst, ◌∙◌, append_assoc, append-nil, lt-ltb, arith, ltb-true, take-append-drop, flat_map, nat_lt}
+use Rattle.std.proofs.{lemmas.Bool.and_parts, lemmas.Bool.cases_Bool, lemmas.List.take-append-le, lemmas.Grind.flat_map-append, lemmas.Bool.Decides.nat_tests}
 use Rattle.std.specs.List.{concat}
 use Rattle.csicodec_tokens.specs.declared.param.CsiParam.{CsiParam}
 use Rattle.csicodec_spans.specs.declared.table.Mode.{Mode}
-use Rattle.csicodec_events.specs.Input.{AreSent, InputChunks, IsSent, IsSentBy, IsSure, ahead, bytes_of, characters, csi, escape, goes_on, in_input, is_digit, is_opener, is_printable, is_wide, linux, rxvt, ss3, string, two_digits}
+use Rattle.csicodec_events.specs.Input.{AreSent, InputChunks, IsSent, IsSentBy, IsSure, ahead, alt_char, alt_csi, alt_of, alt_one, alt_ss3, alt_two, bytes_of, characters, csi, doubled, escape, goes_on, in_input, is_digit, is_key, is_modifier, is_opener, is_printable, is_wide, linux, listed, listed_key, listed_modifier, modified, rxvt, ss3, string, two_digits}
 use Rattle.csicodec_events.specs.{declared.event.Event.Event, declared.event.Events.Events, declared.input.Dialect.Dialect, declared.input.Form.Form}
 use Rattle.csicodec_events.specs.{declared.input.InputEvent.InputEvent, declared.input.Sent.Sent, Characters.is_from, Events.IsTold}
+use Rattle.bstr.specs.Utf8.{decoded, lead_len}
 use Rattle.csicodec_events.proofs.Run.{joined_on, parts_of}
 
 -- ---- two answers for bytes, and for the same and more: the form is none of output and has bytes, and it stays
@@ -56,9 +57,61 @@ characters_good d left begun n (a ∷ bytes) more some =
     (either (is_wide d a)
     (either (is_from 194 223 a) (characters_good d left true (n + 1) bytes more (omega arith)) output) next))
 
+modified_good : (m : ℕ) (bytes more : List ℕ) → Good (modified m bytes) (modified m (bytes ++ more))
+modified_good m [] more = unsure
+modified_good m (b ∷ bytes) more = either (is_key b) (whole refl) (whole refl)
+
+listed_key_good : (m : ℕ) (bytes more : List ℕ) → Good (listed_key m bytes) (listed_key m (bytes ++ more))
+listed_key_good m [] more = unsure
+listed_key_good m (b ∷ bytes) more = either (is_key b) (whole refl) (whole refl)
+
+listed_modifier_good : (bytes more : List ℕ) → Good (listed_modifier bytes) (listed_modifier (bytes ++ more))
+listed_modifier_good [] more = unsure
+listed_modifier_good (m ∷ bytes) more = either (is_modifier m) (listed_key_good m bytes more) (whole refl)
+
+listed_good : (bytes more : List ℕ) → Good (listed bytes) (listed (bytes ++ more))
+listed_good [] more = unsure
+listed_good (b ∷ bytes) more = either (b == 59) (listed_modifier_good bytes more) (whole refl)
+
 ss3_good : (bytes more : List ℕ) → Good (ss3 bytes) (ss3 (bytes ++ more))
 ss3_good [] more = unsure
-ss3_good (b ∷ bytes) more = either (is_printable b) (whole refl) (whole refl)
+ss3_good (b ∷ bytes) more =
+    either (is_modifier b) (modified_good b bytes more)
+    (either (b == 49) (listed_good bytes more)
+    (either (is_printable b) (whole refl) (whole refl)))
+
+alt_two_good : (a b : ℕ) (bytes more : List ℕ) → Good (alt_two a b bytes) (alt_two a b (bytes ++ more))
+alt_two_good a b [] more = unsure
+alt_two_good a b (c ∷ bytes) more = either (c == 126) (whole refl) (whole refl)
+
+alt_one_good : (a : ℕ) (bytes more : List ℕ) → Good (alt_one a bytes) (alt_one a (bytes ++ more))
+alt_one_good a [] more = unsure
+alt_one_good a (b ∷ bytes) more = either (b == 126) (whole refl) (either (is_digit b) (alt_two_good a b bytes more) (whole refl))
+
+alt_ss3_good : (bytes more : List ℕ) → Good (alt_ss3 bytes) (alt_ss3 (bytes ++ more))
+alt_ss3_good [] more = unsure
+alt_ss3_good (b ∷ bytes) more = either (is_key b) (whole refl) (whole refl)
+
+alt_csi_good : (bytes more : List ℕ) → Good (alt_csi bytes) (alt_csi (bytes ++ more))
+alt_csi_good [] more = unsure
+alt_csi_good (b ∷ bytes) more = either (is_key b) (whole refl) (either (is_digit b) (alt_one_good b bytes more) (whole refl))
+
+doubled_good : (bytes more : List ℕ) → Good (doubled bytes) (doubled (bytes ++ more))
+doubled_good [] more = unsure
+doubled_good (b ∷ bytes) more = either (b == 79) (alt_ss3_good bytes more) (either (b == 91) (alt_csi_good bytes more) (whole refl))
+
+alt_good : (n : ℕ) (o : Option ℕ) → Good (alt_of n o) (alt_of n o)
+alt_good n None = whole refl
+alt_good n (Some c) = whole (lt-ltb 0 (1 + n) (omega arith))
+
+alt_char_good : (n : ℕ) (bytes more : List ℕ) → Good (alt_char n bytes) (alt_char n (bytes ++ more))
+alt_char_good n bytes more = elim (cases_Bool (nat_lt (length bytes) n)) [
+  | inl few ↦ rw few unsure
+  | inr all ↦
+      let within : n ≤ length bytes = grind (arith, nat_tests) in
+      let longer : nat_lt (length (bytes ++ more)) n ≡ false = grind (arith, nat_tests, length-append bytes more) in
+      rw (all, longer, take-append-le n bytes more within) (alt_good n (decoded (take n bytes)).char)
+]
 
 linux_good : (bytes more : List ℕ) → Good (linux bytes) (linux (bytes ++ more))
 linux_good [] more = unsure
@@ -79,7 +132,8 @@ csi_good d [] more = unsure
 csi_good d (b ∷ bytes) more =
     either (b == 91) (linux_good bytes more)
     (either (b == 77) (characters_good d 3 false 3 bytes more (omega arith))
-    (either (is_digit b) (rxvt_good b bytes more) output))
+    (either (b == 73) (whole refl)
+    (either (is_digit b) (rxvt_good b bytes more) output)))
 
 string_good : (bytes more : List ℕ) → Good (string bytes) (string (bytes ++ more))
 string_good [] more = unsure
@@ -93,7 +147,7 @@ escape_good d m (b ∷ bytes) more =
     (either (b == 79) (ss3_good bytes more)
     (either (b == 91) (csi_good d bytes more)
     (either (is_opener b) (string_good bytes more)
-    (either (b == 27 || nat_le 128 b) (whole refl) (whole refl)))))
+    (either (b == 27) (doubled_good bytes more) (alt_char_good (lead_len b) (b ∷ bytes) more)))))
 
 input_good : (d : Dialect) (m : Mode) (bytes more : List ℕ)
     → Good (in_input d m bytes) (in_input d m (bytes ++ more))

@@ -2,14 +2,21 @@
 -- nothing; all else is as output has it. Behind ESC stand, where no string is open:
 --
 --   O c          SS3 and a character (DEC: keypad and function keys)          in output an escape sequence, and text
+--   O m c        a cursor key or F1 to F4 with modifiers (Konsole)            the same
+--   O 1 ; m c    the same (VTE before 0.38)                                   the same
 --   [ [ c        a function key (Linux' console, console_codes)                in output a control sequence, and text
 --   [ M x y z    a mouse report of three characters (xterm, modes 9 and 1000)  in output DL, and text
 --   [ d $        a key with shift, by a number of one digit or two (rxvt)      in output an intermediate byte
+--   [ I          the focus came (xterm, mode 1004)                            in output CHT
 --   [            a control sequence, as in output
+--   ESC [ c      a cursor key or F1 to F4 with alt (rxvt, iTerm2)             in output a sequence behind ESC
+--   ESC O c      the same, in the application mode of these keys              the same
+--   ESC [ d ~    a key with alt, by a number of one digit or two (the same)   the same
 --   ] P X ^ _    a control string, as in output, once another byte follows
---   c            a key with alt (xterm: metaSendsEscape), c any other byte of ASCII but ESC
---   else         nothing: ESC is a key of its own, before ESC or a character beyond ASCII
-use Rattle.std.specs.Prelude.{ℕ, ◌≡◌, ◌+◌, ◌-◌, ◌*◌, ◌==◌, Bool, true, false, ◌&&◌, ◌||◌, nat_le, nat_lt, List, [], ◌∷◌, ◌++◌, take, drop, if◌then◌else◌}
+--   c            a key with alt (xterm: metaSendsEscape), c any other character but ESC
+--   else         nothing: ESC is a key of its own, before ESC or what is no character
+use Rattle.std.specs.Prelude.{ℕ, ◌≡◌, ◌+◌, ◌-◌, ◌*◌, ◌==◌, Bool, true, false, ◌&&◌, ◌||◌, nat_le, nat_lt, List, [], ◌∷◌, ◌++◌, length, take, drop, Option, Some, None, if◌then◌else◌}
+use Rattle.bstr.specs.Utf8.{decoded, lead_len}
 use Rattle.csicodec_tokens.specs.declared.param.CsiParam.{CsiParam}
 use Rattle.csicodec_spans.specs.declared.table.Mode.{Mode}
 use Rattle.csicodec_events.specs.{declared.event.Event.Event, declared.event.Events.Events, declared.input.Dialect.Dialect, declared.input.Form.Form}
@@ -46,9 +53,80 @@ characters d left begun n (a ∷ bytes) =
 
 -- ---- the other forms
 
+-- the character that ends what xterm sends for a cursor key (A to F and H) or for F1 to F4 (P to S)
+abbrev pub is_key : ℕ → Bool
+is_key b = is_from 65 70 b || (b == 72 || is_from 80 83 b)
+
+-- 1 and more than the bits of what is held down, as a digit
+abbrev pub is_modifier : ℕ → Bool
+is_modifier b = is_from 50 57 b
+
+-- behind `ESC O` and modifiers
+abbrev pub modified : ℕ → List ℕ → Form
+modified m [] = Form.Unsure
+modified m (b ∷ bytes) = if is_key b then Form.Whole (InputEvent.Modified 1 (m - 48) b) 4 else Form.Whole (InputEvent.Ss3 m) 3
+
+-- behind `ESC O 1`, behind the `;` there, and behind modifiers there
+abbrev pub listed_key : ℕ → List ℕ → Form
+listed_key m [] = Form.Unsure
+listed_key m (b ∷ bytes) = if is_key b then Form.Whole (InputEvent.Modified 1 (m - 48) b) 6 else Form.Whole (InputEvent.Ss3 49) 3
+
+abbrev pub listed_modifier : List ℕ → Form
+listed_modifier [] = Form.Unsure
+listed_modifier (m ∷ bytes) = if is_modifier m then listed_key m bytes else Form.Whole (InputEvent.Ss3 49) 3
+
+abbrev pub listed : List ℕ → Form
+listed [] = Form.Unsure
+listed (b ∷ bytes) = if b == 59 then listed_modifier bytes else Form.Whole (InputEvent.Ss3 49) 3
+
 abbrev pub ss3 : List ℕ → Form
 ss3 [] = Form.Unsure
-ss3 (b ∷ bytes) = if is_printable b then Form.Whole (InputEvent.Ss3 b) 3 else Form.Whole (InputEvent.Alt 79) 2
+ss3 (b ∷ bytes) =
+    if is_modifier b then modified b bytes else
+    if b == 49 then listed bytes else
+    if is_printable b then Form.Whole (InputEvent.Ss3 b) 3 else
+    Form.Whole (InputEvent.Alt 79) 2
+
+-- behind `ESC ESC [` and two digits, and behind one
+abbrev pub alt_two : ℕ → ℕ → List ℕ → Form
+alt_two a b [] = Form.Unsure
+alt_two a b (c ∷ bytes) =
+    if c == 126 then Form.Whole (InputEvent.Modified (10 * (a - 48) + (b - 48)) 3 126) 6 else Form.Whole InputEvent.Escape 1
+
+abbrev pub alt_one : ℕ → List ℕ → Form
+alt_one a [] = Form.Unsure
+alt_one a (b ∷ bytes) =
+    if b == 126 then Form.Whole (InputEvent.Modified (a - 48) 3 126) 5 else
+    if is_digit b then alt_two a b bytes else
+    Form.Whole InputEvent.Escape 1
+
+-- behind `ESC ESC O`, and behind `ESC ESC [`
+abbrev pub alt_ss3 : List ℕ → Form
+alt_ss3 [] = Form.Unsure
+alt_ss3 (b ∷ bytes) = if is_key b then Form.Whole (InputEvent.Modified 1 3 b) 4 else Form.Whole InputEvent.Escape 1
+
+abbrev pub alt_csi : List ℕ → Form
+alt_csi [] = Form.Unsure
+alt_csi (b ∷ bytes) =
+    if is_key b then Form.Whole (InputEvent.Modified 1 3 b) 4 else
+    if is_digit b then alt_one b bytes else
+    Form.Whole InputEvent.Escape 1
+
+-- behind `ESC ESC`
+abbrev pub doubled : List ℕ → Form
+doubled [] = Form.Unsure
+doubled (b ∷ bytes) =
+    if b == 79 then alt_ss3 bytes else
+    if b == 91 then alt_csi bytes else
+    Form.Whole InputEvent.Escape 1
+
+-- a character behind ESC, of so many bytes by the first
+abbrev pub alt_of : ℕ → Option ℕ → Form
+alt_of n None = Form.Whole InputEvent.Escape 1
+alt_of n (Some c) = Form.Whole (InputEvent.Alt c) (1 + n)
+
+abbrev pub alt_char : ℕ → List ℕ → Form
+alt_char n bytes = if nat_lt (length bytes) n then Form.Unsure else alt_of n (decoded (take n bytes)).char
 
 abbrev pub linux : List ℕ → Form
 linux [] = Form.Unsure
@@ -71,6 +149,7 @@ csi d [] = Form.Unsure
 csi d (b ∷ bytes) =
     if b == 91 then linux bytes else
     if b == 77 then characters d 3 false 3 bytes else
+    if b == 73 then Form.Whole InputEvent.FocusGained 3 else
     if is_digit b then rxvt b bytes else
     Form.AsOutput
 
@@ -93,8 +172,8 @@ escape d m (b ∷ bytes) =
     if b == 79 then ss3 bytes else
     if b == 91 then csi d bytes else
     if is_opener b then string bytes else
-    if b == 27 || nat_le 128 b then Form.Whole InputEvent.Escape 1 else
-    Form.Whole (InputEvent.Alt b) 2
+    if b == 27 then doubled bytes else
+    alt_char (lead_len b) (b ∷ bytes)
 
 -- ---- what stands in front
 
@@ -107,12 +186,19 @@ abbrev pub ahead : Dialect → Mode → ℕ → List ℕ → Form
 ahead Dialect.Output m looked bytes = Form.AsOutput
 ahead d m looked bytes = if looked == 0 then in_input d m bytes else Form.AsOutput
 
--- Where the caller says that no more comes for now: a lone ESC, or ESC and one byte of ASCII.
+-- Where the caller says that no more comes for now: behind ESC, another ESC or what begins a character leaves a lone ESC, `O` and a character are
+-- SS3 and that, and one byte of ASCII is a key with alt. All else goes on waiting.
+abbrev pub paused_behind : ℕ → List ℕ → Form
+paused_behind b [] = if b == 27 || nat_le 128 b then Form.Whole InputEvent.Escape 1 else Form.Whole (InputEvent.Alt b) 2
+paused_behind b (c ∷ bytes) =
+    if b == 27 || nat_le 128 b then Form.Whole InputEvent.Escape 1 else
+    if b == 79 && is_printable c then Form.Whole (InputEvent.Ss3 c) 3 else
+    Form.Unsure
+
 abbrev pub paused : List ℕ → Form
 paused [] = Form.Unsure
 paused (a ∷ []) = if a == 27 then Form.Whole InputEvent.Escape 1 else Form.Unsure
-paused (a ∷ b ∷ []) = if a == 27 && nat_lt b 128 then Form.Whole (InputEvent.Alt b) 2 else Form.Unsure
-paused (a ∷ b ∷ c ∷ bytes) = Form.Unsure
+paused (a ∷ b ∷ bytes) = if a == 27 then paused_behind b bytes else Form.Unsure
 
 -- ---- the events
 

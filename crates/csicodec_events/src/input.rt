@@ -2,12 +2,15 @@
 ghost use Rattle.std.specs.Prelude.{◌≡◌, ◌<◌, ◌++◌, ◌+◌, ◌^◌, [], List, ℕ, length, IfNone, IfSome, IfOk, MatchOption, OnErr, OnOk, true, take, drop};
 ghost use Rattle.csicodec_tokens.specs.declared.param.CsiParam.{CsiParam};
 ghost use Rattle.csicodec_spans.specs.declared.table.Mode.TheVariants.{Text as Plain};
-ghost use Rattle.csicodec_events.specs.Input.{Awaits, IsSent, IsSentBy, ahead, characters, csi, escape, goes_on, in_input, is_digit, is_opener, is_printable, is_wide, paused, rxvt};
-ghost use Rattle.csicodec_events.specs.{declared.input.Form.TheVariants.Unsure, Events.IsMet, Events.left, Events.onward};
+ghost use Rattle.bstr.specs.Utf8.{lead_len};
+ghost use Rattle.csicodec_events.specs.Input.{Awaits, IsSent, IsSentBy, ahead, alt_char, alt_one, characters, csi, doubled, escape, goes_on, in_input, is_digit, is_key, is_modifier, is_opener, is_printable, is_wide, paused, rxvt, ss3, string};
+ghost use Rattle.csicodec_events.specs.{declared.input.Form.TheVariants.Unsure, declared.input.Form.TheVariants.Whole, declared.input.InputEvent.TheVariants.Modified};
+ghost use Rattle.csicodec_events.specs.{Events.IsMet, Events.left, Events.onward};
 
 use crate::event::{Event, Events};
 use crate::sequence::near;
 use crate::text::is_from;
+use bstr::decode_utf8;
 use csicodec_spans::Mode;
 use csicodec_tokens::CsiParam;
 use std::alloc::AllocError;
@@ -30,6 +33,16 @@ pub enum InputEvent {
     Output(Event),
     /// SS3 (`ESC O`) and this character, from `' '` to `'~'`: a key of the keypad, an arrow or F1 to F4.
     Ss3(u8),
+    /// A key with modifiers that xterm sends as `CSI number ; modifiers control`, in another form: `ESC O 5 P` (Konsole), `ESC O 1 ; 5 P` (VTE
+    /// before 0.38), `ESC ESC [ A`, `ESC ESC O A` and `ESC ESC [ 5 ~` (rxvt, iTerm2), the last three with alt.
+    Modified {
+        /// The number, 0 to 99.
+        number: u8,
+        /// 1 and more than the sum of shift (1), alt (2), ctrl (4) and super (8): 2 to 9.
+        modifiers: u8,
+        /// The final character: `'A'` to `'F'`, `'H'`, `'P'` to `'S'`, or `'~'`.
+        control: u8,
+    },
     /// `ESC [ [` and this character: F1 to F5 of Linux' console, `'A'` to `'E'`.
     Linux(u8),
     /// `ESC [`, this number, of one digit or two, and `$`: a key with shift, of rxvt.
@@ -37,8 +50,10 @@ pub enum InputEvent {
     /// `ESC [ M` and three characters, which are the last of its bytes: each is 32 and more than the button, the column and the
     /// line, in UTF-8 in [`Utf8Input`](Dialect::Utf8Input).
     Mouse,
-    /// ESC and this character of ASCII: a key with alt.
-    Alt(u8),
+    /// ESC and this character, in UTF-8: a key with alt.
+    Alt(char),
+    /// `ESC [ I`: the terminal got the focus, where mode 1004 is set. That it lost it is a control sequence, `ESC [ O`.
+    FocusGained,
     /// ESC alone.
     Escape,
 }
@@ -154,6 +169,7 @@ fn csi(dialect: Dialect, bytes: &[u8]) -> Form
         [] | [b'['] => Form::Unsure,
         [b'[', byte, ..] if is_printable(*byte) => Form::Whole(InputEvent::Linux(*byte), 4),
         [b'M', others @ ..] => characters(dialect, 3, false, 3, others),
+        [b'I', ..] => Form::Whole(InputEvent::FocusGained, 3),
         [byte, others @ ..] if is_digit(*byte) => rxvt(*byte, others),
         _ => Form::AsOutput,
     }
@@ -169,20 +185,132 @@ fn goes_on(mode: Mode, byte: u8) -> bool
     }
 }
 
+/// Whether the byte ends what xterm sends for a cursor key, or for F1 to F4.
+fn is_key(byte: u8) -> bool
+    ensures { result ≡ is_key byte }
+{
+    is_from(b'A', b'F', byte) || byte == b'H' || is_from(b'P', b'S', byte)
+}
+
+/// Whether the byte is a digit that says what is held down.
+fn is_modifier(byte: u8) -> bool
+    ensures { result ≡ is_modifier byte }
+{
+    is_from(b'2', b'9', byte)
+}
+
+/// A form of a key of so many bytes: its number, modifiers and final character.
+fn modified(number: u8, modifiers: u8, control: u8, len: usize) -> Form
+    ensures { result ≡ Whole (Modified number modifiers control) len }
+{
+    let event = InputEvent::Modified {
+        number,
+        modifiers,
+        control,
+    };
+    Form::Whole(event, len)
+}
+
+/// Behind `ESC O`.
+fn ss3(bytes: &[u8]) -> Form
+    ensures { result ≡ ss3 bytes.now }
+{
+    match bytes {
+        [] | [b'1'] | [b'1', b';'] => Form::Unsure,
+        [b'1', b';', by] if is_modifier(*by) => Form::Unsure,
+        [b'1', b';', by, key, ..] if is_modifier(*by) && is_key(*key) => {
+            modified(1, *by - b'0', *key, 6)
+        }
+        [by] if is_modifier(*by) => Form::Unsure,
+        [by, key, ..] if is_modifier(*by) && is_key(*key) => modified(1, *by - b'0', *key, 4),
+        [byte, ..] if is_printable(*byte) => Form::Whole(InputEvent::Ss3(*byte), 3),
+        _ => Form::Whole(InputEvent::Alt('O'), 2),
+    }
+}
+
+/// Behind `ESC ESC [` and a digit.
+fn alt_numbered(first: u8, bytes: &[u8]) -> Form
+    requires { is_digit first ≡ true }
+    ensures { result ≡ alt_one first bytes.now }
+{
+    match bytes {
+        [] => Form::Unsure,
+        [b'~', ..] => modified(first - b'0', 3, b'~', 5),
+        [byte] if is_digit(*byte) => Form::Unsure,
+        [byte, b'~', ..] if is_digit(*byte) => {
+            modified(10 * (first - b'0') + (*byte - b'0'), 3, b'~', 6)
+        }
+        _ => Form::Whole(InputEvent::Escape, 1),
+    }
+}
+
+/// Behind `ESC ESC`.
+fn doubled(bytes: &[u8]) -> Form
+    ensures { result ≡ doubled bytes.now }
+{
+    match bytes {
+        [] | [b'O' | b'['] => Form::Unsure,
+        [b'O' | b'[', key, ..] if is_key(*key) => modified(1, 3, *key, 4),
+        [b'[', byte, others @ ..] if is_digit(*byte) => alt_numbered(*byte, others),
+        _ => Form::Whole(InputEvent::Escape, 1),
+    }
+}
+
+/// A character behind ESC, of so many bytes by the first.
+fn alt_char(len: usize, bytes: &[u8]) -> Form
+    requires { len < 5 }
+    ensures { result ≡ alt_char len bytes.now }
+{
+    let Some(front) = bytes.get(..len) else {
+        return Form::Unsure;
+    };
+    match decode_utf8(front).0 {
+        Some(character) => Form::Whole(InputEvent::Alt(character), 1 + len),
+        None => Form::Whole(InputEvent::Escape, 1),
+    }
+}
+
+/// How many bytes a character has that begins with this one; 0 where none does (Unicode, Table 3-7).
+fn lead_len(byte: u8) -> usize
+    ensures { result ≡ lead_len byte }
+{
+    match byte {
+        0..=0x7f => 1,
+        0x80..=0xc1 => 0,
+        0xc2..=0xdf => 2,
+        0xe0..=0xef => 3,
+        0xf0..=0xf4 => 4,
+        0xf5.. => 0,
+    }
+}
+
+/// Behind the first character of a control string.
+fn string(bytes: &[u8]) -> Form
+    ensures { result ≡ string bytes.now }
+{
+    if bytes.is_empty() {
+        Form::Unsure
+    } else {
+        Form::AsOutput
+    }
+}
+
 /// Behind ESC.
 fn escape(dialect: Dialect, mode: Mode, bytes: &[u8]) -> Form
     ensures { result ≡ escape dialect mode bytes.now }
 {
-    match bytes {
-        [] => Form::Unsure,
-        [byte, ..] if goes_on(mode, *byte) => Form::AsOutput,
-        [b'O'] => Form::Unsure,
-        [b'O', byte, ..] if is_printable(*byte) => Form::Whole(InputEvent::Ss3(*byte), 3),
-        [b'[', others @ ..] => csi(dialect, others),
-        [byte] if is_opener(*byte) => Form::Unsure,
-        [byte, ..] if is_opener(*byte) => Form::AsOutput,
-        [0x1b | 0x80.., ..] => Form::Whole(InputEvent::Escape, 1),
-        [byte, ..] => Form::Whole(InputEvent::Alt(*byte), 2),
+    let Some((byte, others)) = bytes.split_first() else {
+        return Form::Unsure;
+    };
+    if goes_on(mode, *byte) {
+        return Form::AsOutput;
+    }
+    match *byte {
+        b'O' => ss3(others),
+        b'[' => csi(dialect, others),
+        byte if is_opener(byte) => string(others),
+        0x1b => doubled(others),
+        byte => alt_char(lead_len(byte), bytes),
     }
 }
 
@@ -212,8 +340,9 @@ fn paused(bytes: &[u8]) -> Form
     ensures { result ≡ paused bytes.now }
 {
     match bytes {
-        [0x1b] => Form::Whole(InputEvent::Escape, 1),
-        [0x1b, byte] if *byte < 0x80 => Form::Whole(InputEvent::Alt(*byte), 2),
+        [0x1b] | [0x1b, 0x1b | 0x80.., ..] => Form::Whole(InputEvent::Escape, 1),
+        [0x1b, byte] => Form::Whole(InputEvent::Alt(char::from(*byte)), 2),
+        [0x1b, b'O', byte, ..] if is_printable(*byte) => { Form::Whole(InputEvent::Ss3(*byte), 3) }
         _ => Form::Unsure,
     }
 }
@@ -282,8 +411,8 @@ impl Events {
         }
     }
 
-    /// The event of bytes that wait, where no more came in time: a lone ESC, or ESC and a character. None where they are anything
-    /// else: they go on waiting.
+    /// The event of bytes that wait, where no more came in time: a lone ESC, ESC and a character, or SS3 and a digit. None where they
+    /// are anything else: they go on waiting.
     pub fn pause<'a>(&mut self, bytes: &'a [u8]) -> Option<Sent<'a>>
         requires met { IsMet self.old bytes.now }
         ensures sends { MatchOption result (paused bytes.now ≡ Unsure)

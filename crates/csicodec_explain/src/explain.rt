@@ -75,19 +75,36 @@ impl<'a> Explainer<'a> {
         Ok(())
     }
 
-    /// Nothing came in time: an ESC that waits is a key of its own.
+    /// Nothing came in time: what waits is told as far as it is keys by itself.
     fn pause(&mut self) -> Result<(), AllocError> {
-        let (page, bytes) = (&mut self.page, self.pending.as_slice());
-        if self.sending.pause(page, self.mode, bytes)? {
-            self.pending.clear();
-            self.mode = Mode::Text;
+        for _ in 0..self.pending.len() {
+            if !self.pause_front()? {
+                break;
+            }
         }
         Ok(())
+    }
+
+    /// Tells the key in front of what waits, and what is sure behind it; whether there is one.
+    fn pause_front(&mut self) -> Result<bool, AllocError> {
+        let Some(dialect) = self.style.dialect else {
+            return Ok(false);
+        };
+        let (page, bytes) = (&mut self.page, self.pending.as_slice());
+        let len = self.sending.pause(page, self.mode, bytes)?;
+        if len == 0 {
+            return Ok(false);
+        }
+        let (used, mode) = self.sending.add(page, dialect, Mode::Text, &bytes[len..])?;
+        self.mode = mode;
+        keep_from(&mut self.pending, len + used);
+        Ok(true)
     }
 
     /// Nothing comes any more: what isn't over is malformed.
     fn finish(&mut self) -> Result<(), AllocError> {
         if self.is_of_input() {
+            self.pause()?;
             self.sending.end(&mut self.page, self.mode, &self.pending)?;
         } else if !self.pending.is_empty() {
             let modes = (self.mode, self.mode);

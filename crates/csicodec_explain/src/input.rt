@@ -44,10 +44,12 @@ fn resumed(mode: Mode, looked: usize, bytes: &[u8]) -> Events
 /// What an event is counted as and told as, where its bytes are whole; none of a control, and of what isn't input alone.
 fn sort_of(event: InputEvent) -> Option<(Kind, Sort)> {
     match event {
-        InputEvent::Ss3(_) | InputEvent::Alt(_) | InputEvent::Escape => {
-            Some((Kind::Esc, Sort::Escape))
-        }
+        InputEvent::Ss3(_)
+        | InputEvent::Modified { .. }
+        | InputEvent::Alt(_)
+        | InputEvent::Escape => Some((Kind::Esc, Sort::Escape)),
         InputEvent::Output(Event::Csi(_))
+        | InputEvent::FocusGained
         | InputEvent::Mouse
         | InputEvent::Linux(_)
         | InputEvent::Rxvt(_) => Some((Kind::Csi, Sort::Sequence)),
@@ -145,24 +147,27 @@ impl Sending {
         since >= PAUSE
     }
 
-    /// Tells bytes that wait, in this mode, where nothing came in time, and they are ESC alone or with one character; whether they are.
-    pub fn pause(&mut self, page: &mut Listing<'_>, mode: Mode, bytes: &[u8]) -> Result<bool> {
+    /// Tells the key in front of bytes that wait, in this mode, where nothing came in time; how many bytes it has, 0 where they go on
+    /// waiting.
+    pub fn pause(&mut self, page: &mut Listing<'_>, mode: Mode, bytes: &[u8]) -> Result<usize>
+        ensures { IfOk result (λ used. used ≤ length bytes.now) }
+    {
         let mut events = resumed(mode, self.looked, bytes);
         let Some(sent) = events.pause(bytes) else {
-            return Ok(false);
+            return Ok(0);
         };
         tell(page, (mode, events.mode), sent, &[])?;
         self.looked = 0;
-        Ok(true)
+        Ok(bytes.len() - sent.rest.len())
     }
 
     /// Tells bytes that wait, in this mode, where nothing comes any more: text of which a character isn't whole, or what is malformed.
     pub fn end(&mut self, page: &mut Listing<'_>, mode: Mode, bytes: &[u8]) -> Result<()> {
         self.time = 0;
-        if bytes.is_empty() || self.pause(page, mode, bytes)? {
+        self.looked = 0;
+        if bytes.is_empty() {
             return Ok(());
         }
-        self.looked = 0;
         let kind = if mode == Mode::Text && bytes.first().copied() != Some(0x1b) {
             Kind::Text
         } else {

@@ -5,7 +5,7 @@ use Rattle.csicodec_events.specs.Input.{is_printable}
 use Rattle.csicodec_keys.specs.{declared.win32.Record.Record, declared.writing.KeySpelling.KeySpelling, Characters.is_alt, Characters.is_typed, Keys.Stroke}
 use Rattle.csicodec_keys.specs.{Forms.read_form, Forms.as_form, Forms.csi_row, Forms.with_alt, declared.code.KeyCode.KeyCode, declared.rows.Table.Table}
 use Rattle.csicodec_keys.specs.{Tables.rows, declared.tables.Row.Row, SameKeys.same_code, Fields.is_plain, Rows.row_at, Win32.win32_row}
-use Rattle.csicodec_keys.proofs.{Fronts.is_end, Fronts.is_free, Fronts.is_shift, AnyTable.is_same}
+use Rattle.csicodec_keys.proofs.{Fronts.is_ss3, Fronts.is_end, Fronts.is_free, Fronts.is_shift, AnyTable.is_same}
 use Rattle.std.specs.{Fmt.digits, List.list_all}
 
 -- the numbers of a record
@@ -19,7 +19,7 @@ is_listed n held control = nat_lt n 4294967296 && (nat_lt held 256 && is_end con
 abbrev pub is_sound : KeySpelling → Bool
 is_sound (KeySpelling.Text c) = scalar c && not (c == 27)
 is_sound (KeySpelling.Alt c) = is_free c
-is_sound (KeySpelling.Ss3 c) = is_printable c
+is_sound (KeySpelling.Ss3 c) = is_ss3 c
 is_sound (KeySpelling.Linux c) = is_printable c
 is_sound (KeySpelling.Rxvt n) = is_shift (decimal n) n
 is_sound KeySpelling.Escape = true

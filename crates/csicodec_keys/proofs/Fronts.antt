@@ -1,11 +1,13 @@
 -- What csicodec_events makes of the bytes of a form, where nothing is open; and of a character that is typed.
-use Rattle.std.proofs.Common.{◌≡◌, ℕ, ◌+◌, ◌-◌, ◌*◌, ◌≤◌, List, [], ◌∷◌, ◌++◌, refl, sym, ap, inl, inr, arith, subst, append_assoc, eqb-true, Bool, true, false, not, ◌==◌, ◌&&◌, ◌||◌, nat_le, ◌≢◌, ◌/◌, ◌<◌, length, ◌∙◌, ⊎_elim, lt-ltb, le-ltb}
+use Rattle.std.proofs.Common.{◌≡◌, ℕ, Some, ◌+◌, ◌-◌, ◌*◌, ◌≤◌, List, [], ◌∷◌, ◌++◌, refl, sym, ap, inl, inr, arith, subst, append_assoc, eqb-true, Bool, true, false, not, ◌==◌, ◌&&◌, ◌||◌, nat_le, nat_lt, ◌≢◌, ◌/◌, ◌<◌, length, ◌∙◌, ⊎_elim, lt-ltb, le-ltb, ltb-true}
 use Rattle.std.proofs.{lemmas.Bool.and_left, lemmas.Bool.and_parts, lemmas.Bool.and_right, lemmas.Bool.cases_Bool, lemmas.Bool.cases_lt, lemmas.Bool.both_ways}
-use Rattle.std.proofs.{lemmas.Str.encode_ascii}
+use Rattle.std.proofs.{lemmas.Bool.Decides.nat_tests, lemmas.Str.encode_ascii}
 use Rattle.std.specs.{Char.encode_utf8, List.AllByRecursion}
 use Rattle.csicodec_tokens.specs.{declared.param.CsiParam.CsiParam, Param.spells, Sequence.Seq}
 use Rattle.csicodec_tokens.proofs.Printed.{printed}
-use Rattle.csicodec_events.specs.{Input.ahead, Input.csi, Input.is_digit, Input.is_opener, Input.is_printable, Input.rxvt, Input.two_digits}
+use Rattle.bstr.specs.Utf8.{Decoded, decoded, lead_len}
+use Rattle.bstr.proofs.lemmas.PieceLemmas.{value-1}
+use Rattle.csicodec_events.specs.Input.{ahead, alt_char, alt_of, is_modifier, csi, is_digit, is_opener, is_printable, rxvt, two_digits}
 use Rattle.csicodec_events.specs.{declared.event.Event.Event, declared.event.Events.Events, Characters.is_unfinished, Events.BeginsCsi, Events.IsHeld}
 use Rattle.csicodec_events.specs.{Events.IsSpan, Events.IsText, Events.IsTold, Events.Waits, declared.input.Dialect.Dialect}
 use Rattle.csicodec_events.specs.{declared.input.InputEvent.InputEvent}
@@ -25,7 +27,11 @@ is_free c = not (c == 79) && (not (c == 91) && (not (is_opener c) && not (c == 2
 
 -- a final character that begins no other form behind `CSI`
 abbrev pub is_end : ℕ → Bool
-is_end c = nat_le 64 c && (nat_le c 126 && (not (c == 91) && not (c == 77)))
+is_end c = nat_le 64 c && (nat_le c 126 && (not (c == 91) && (not (c == 77) && not (c == 73))))
+
+-- behind SS3 it is a key, whatever follows
+abbrev pub is_ss3 : ℕ → Bool
+is_ss3 c = is_printable c && (not (is_modifier c) && not (c == 49))
 
 -- digits of a number that rxvt has before `$`
 abbrev pub is_shift : List ℕ → ℕ → Bool
@@ -36,16 +42,28 @@ is_shift (a ∷ b ∷ c ∷ bytes) n = false
 
 -- ---- one character
 
+-- a character of ASCII is one byte
+ascii : (c : ℕ) (more : List ℕ) → nat_lt c 128 ≡ true → alt_char (lead_len c) (c ∷ more) ≡ alt_of 1 (Some c)
+ascii c more h =
+    let long : nat_lt (length (c ∷ more)) 1 ≡ false = grind (arith, nat_tests) in
+    let lead : lead_len c ≡ 1 = rw h refl in
+    let read : (decoded (c ∷ [])).char ≡ Some c = ap (λ (d : Decoded). d.char) (value-1 1 c 0 0 0 (omega arith, ltb-true c 128 h)) in
+    rw (lead, long) (ap (alt_of 1) read)
+
 pub alt-front : (c : ℕ) → is_free c ≡ true → IsFront (27 ∷ encode_utf8 c) (InputEvent.Alt c) []
 alt-front c h limit more fits =
     let ss3 : (c == 79) ≡ false = grind arith in
     let csi : (c == 91) ≡ false = grind arith in
     let string : is_opener c ≡ false = grind arith in
-    let other : (c == 27 || nat_le 128 c) ≡ false = grind arith in
-    rw (encode_ascii c (grind arith), ss3, csi, string, other) (refl, refl, refl, refl)
+    let esc : (c == 27) ≡ false = grind arith in
+    rw (encode_ascii c (grind arith), ss3, csi, string, esc, ascii c more (grind arith)) (refl, refl, refl, refl)
 
-pub ss3-front : (c : ℕ) → is_printable c ≡ true → IsFront (27 ∷ 79 ∷ encode_utf8 c) (InputEvent.Ss3 c) []
-ss3-front c h limit more fits = rw (encode_ascii c (grind arith), h) (refl, refl, refl, refl)
+pub ss3-front : (c : ℕ) → is_ss3 c ≡ true → IsFront (27 ∷ 79 ∷ encode_utf8 c) (InputEvent.Ss3 c) []
+ss3-front c h limit more fits =
+    let modifier : is_modifier c ≡ false = grind arith in
+    let one : (c == 49) ≡ false = grind arith in
+    let printable : is_printable c ≡ true = grind arith in
+    rw (encode_ascii c (grind arith), modifier, one, printable) (refl, refl, refl, refl)
 
 pub linux-front : (c : ℕ) → is_printable c ≡ true → IsFront (27 ∷ 91 ∷ 91 ∷ encode_utf8 c) (InputEvent.Linux c) []
 linux-front c h limit more fits = rw (encode_ascii c (grind arith), h) (refl, refl, refl, refl)
@@ -55,10 +73,11 @@ linux-front c h limit more fits = rw (encode_ascii c (grind arith), h) (refl, re
 record Plain (b : ℕ) : Type 0 where
   bracket : (b == 91) ≡ false
   dl : (b == 77) ≡ false
+  focus : (b == 73) ≡ false
   dollar : (b == 36) ≡ false
 
 inner : (b : ℕ) → 48 ≤ b → b ≤ 59 → Plain b
-inner b low high = record { bracket = grind arith; dl = grind arith; dollar = grind arith }
+inner b low high = record { bracket = grind arith; dl = grind arith; focus = grind arith; dollar = grind arith }
 
 digit : (b : ℕ) → is_digit b ≡ true → Plain b
 digit b h = inner b (grind arith) (grind arith)
@@ -68,18 +87,18 @@ shift-front [] n h limit more fits = cc
 shift-front (a ∷ []) n h limit more fits =
     let p = and_parts (is_digit a) (a - 48 == n) h in
     let d = digit a p.0 in
-    rw (d.bracket, d.dl, p.0) (ap InputEvent.Rxvt (sym (eqb-true (a - 48) n p.1)), refl, refl, refl)
+    rw (d.bracket, d.dl, d.focus, p.0) (ap InputEvent.Rxvt (sym (eqb-true (a - 48) n p.1)), refl, refl, refl)
 shift-front (a ∷ b ∷ []) n h limit more fits =
     let p = and_parts (is_digit a) (is_digit b && (10 * (a - 48) + (b - 48) == n)) h in
     let q = and_parts (is_digit b) (10 * (a - 48) + (b - 48) == n) p.1 in
     let d = digit a p.0 in
-    rw (d.bracket, d.dl, p.0, (digit b q.0).dollar, q.0) (ap InputEvent.Rxvt (sym (eqb-true (10 * (a - 48) + (b - 48)) n q.1)), refl, refl, refl)
+    rw (d.bracket, d.dl, d.focus, p.0, (digit b q.0).dollar, q.0) (ap InputEvent.Rxvt (sym (eqb-true (10 * (a - 48) + (b - 48)) n q.1)), refl, refl, refl)
 shift-front (a ∷ b ∷ c ∷ bytes) n h limit more fits = cc
 
 -- ---- control sequences
 
 end : (c : ℕ) → is_end c ≡ true → Plain c × (is_digit c ≡ false)
-end c h = (record { bracket = grind arith; dl = grind arith; dollar = grind arith }, grind arith)
+end c h = (record { bracket = grind arith; dl = grind arith; focus = grind arith; dollar = grind arith }, grind arith)
 
 -- what stands behind `CSI` is a control sequence, as output has it
 abbrev as_output : List ℕ → Type 0
@@ -99,12 +118,12 @@ rxvt-front a (b ∷ x ∷ bytes) c more h e =
     rw ((inner b h.0.0 h.0.1).dollar, two-front a b x (bytes ++ c ∷ more) (inner x h.1.0.0 h.1.0.1).dollar) refl
 
 csi-front : (bytes : List ℕ) (c : ℕ) (more : List ℕ) → AreIn bytes → is_end c ≡ true → as_output (bytes ++ c ∷ more)
-csi-front [] c more h e = let f = end c e in rw (f.0.bracket, f.0.dl, f.1) refl
+csi-front [] c more h e = let f = end c e in rw (f.0.bracket, f.0.dl, f.0.focus, f.1) refl
 csi-front (b ∷ bytes) c more h e =
     let d = inner b h.0.0 h.0.1 in
     elim (cases_Bool (is_digit b)) [
-      | inl some ↦ rw (d.bracket, d.dl, some, rxvt-front b bytes c more h.1 e) refl
-      | inr none ↦ rw (d.bracket, d.dl, none) refl
+      | inl some ↦ rw (d.bracket, d.dl, d.focus, some, rxvt-front b bytes c more h.1 e) refl
+      | inr none ↦ rw (d.bracket, d.dl, d.focus, none) refl
     ]
 
 pub list-front : (list : List CsiParam) (c : ℕ) → Good true list → is_end c ≡ true → IsFront (27 ∷ 91 ∷ (spells list ++ encode_utf8 c)) (InputEvent.Output (Event.Csi c)) list

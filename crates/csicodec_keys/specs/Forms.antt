@@ -116,11 +116,16 @@ abbrev pub read_csi : List CsiParam → ℕ → Option (Encoding × Stroke)
 read_csi list control =
     option_or (read_listed list control) (by Encoding.Win32 (read_win32 list control))
 
+-- the key of a number, of modifiers by 1 and more than their bits, and of a final character
+abbrev pub read_modified : ℕ → ℕ → ℕ → Option Stroke
+read_modified n m control = said_key (record { number = n; held = m - 1; event = KeyEvent.Press; text = [] }) control
+
 -- the key of an event; that of text is by its characters
 abbrev pub read_event : InputEvent → List CsiParam → Option (Encoding × Stroke)
 read_event (InputEvent.Output (Event.Csi control)) list = read_csi list control
 read_event (InputEvent.Output (Event.Control b)) list = by Encoding.Legacy (read_char b)
 read_event (InputEvent.Ss3 b) list = by (ss3_by b) (read_ss3 b)
+read_event (InputEvent.Modified n m control) list = by Encoding.Legacy (read_modified n m control)
 read_event (InputEvent.Linux b) list = by Encoding.Linux (option_map pressed_row (row_at (rows Table.Linux) 0 b))
 read_event (InputEvent.Rxvt n) list = by Encoding.Rxvt (option_map pressed_row (row_at (rows Table.Rxvt) n 36))
 read_event (InputEvent.Alt b) list = by Encoding.Legacy (read_alt b)

@@ -1,6 +1,6 @@
 //! The key of an event of input.
 ghost use Rattle.std.specs.{Prelude.◌≡◌, Option.option_map};
-ghost use Rattle.csicodec_keys.specs.Forms.{by, char_key, csi_row, held_by, is_rxvt, numbered, other_key, pressed, pressed_row, read_alt, read_char, read_csi, read_event, read_listed, read_ss3, row_key, said_key, ss3_by, told_by, typing, with_alt};
+ghost use Rattle.csicodec_keys.specs.Forms.{by, char_key, csi_row, held_by, is_rxvt, numbered, other_key, pressed, pressed_row, read_alt, read_char, read_csi, read_event, read_listed, read_modified, read_ss3, row_key, said_key, ss3_by, told_by, typing, with_alt};
 ghost use Rattle.csicodec_keys.specs.{Characters.is_typed, Fields.is_empty, Fields.read_list, Fields.says_of, Keys.stroke_of, Win32.read_win32};
 
 use crate::code::KeyCode;
@@ -159,6 +159,19 @@ fn told_by(fields: &KeyReport, control: char) -> Encoding
     }
 }
 
+/// The key of a number, of modifiers by 1 and more than their bits, and of a final character.
+fn read_modified(number: u8, modifiers: u8, control: u8) -> Option<Key>
+    ensures { option_map stroke_of result ≡ read_modified number modifiers control }
+{
+    let fields = KeyReport {
+        number: u32::from(number),
+        held: modifiers.saturating_sub(1),
+        event: KeyEvent::Press,
+        text: Typed::new(),
+    };
+    said_key(fields, char::from(control))
+}
+
 /// The key of a number.
 fn numbered(character: char) -> Option<KeyCode>
     ensures { result ≡ numbered character }
@@ -226,7 +239,8 @@ fn alone(row: Option<Row>) -> Option<Key>
 /// read(Output(Csi('u')), 97 ; 1 : 3)         // Kitty, Char('a'), released
 /// read(Output(Csi('_')), 65;30;97;1;0;1)     // Win32, Char('a'), which types "a"
 /// read(Ss3(b'P'), nothing)                   // Legacy, F(1)
-/// read(Alt(b'x'), nothing)                   // Legacy, Char('x') with alt
+/// read(Modified 1, 5, b'P', nothing)         // Legacy, F(1) with ctrl
+/// read(Alt('x'), nothing)                    // Legacy, Char('x') with alt
 /// ```
 pub fn read(event: InputEvent, params: &[CsiParam]) -> Option<(Encoding, Key)>
     ensures { option_map (λ r. (r.0, stroke_of r.1)) result ≡ read_event event params.now }
@@ -238,6 +252,11 @@ pub fn read(event: InputEvent, params: &[CsiParam]) -> Option<(Encoding, Key)>
             Event::Text | Event::Esc | Event::Str | Event::Other => None,
         },
         InputEvent::Ss3(byte) => by(ss3_by(char::from(byte)), read_ss3(char::from(byte))),
+        InputEvent::Modified {
+            number,
+            modifiers,
+            control,
+        } => by(Encoding::Legacy, read_modified(number, modifiers, control)),
         InputEvent::Linux(byte) => {
             let row = row_at(Table::Linux.rows(), 0, char::from(byte));
             by(Encoding::Linux, alone(row))
@@ -246,8 +265,8 @@ pub fn read(event: InputEvent, params: &[CsiParam]) -> Option<(Encoding, Key)>
             let row = row_at(Table::Rxvt.rows(), u32::from(number), '$');
             by(Encoding::Rxvt, alone(row))
         }
-        InputEvent::Mouse => None,
-        InputEvent::Alt(byte) => by(Encoding::Legacy, read_alt(char::from(byte))),
+        InputEvent::Mouse | InputEvent::FocusGained => None,
+        InputEvent::Alt(character) => by(Encoding::Legacy, read_alt(character)),
         InputEvent::Escape => by(Encoding::Legacy, Some(pressed(KeyCode::Escape, 0))),
     }
 }

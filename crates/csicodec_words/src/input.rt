@@ -53,8 +53,8 @@ fn also(event: InputEvent, params: &[CsiParam]) -> &'static str {
     match event {
         InputEvent::Output(Event::Control(0x08)) => "Backspace",
         InputEvent::Output(Event::Control(b'\n')) => "Enter",
-        InputEvent::Alt(0x08) => "Alt-Backspace",
-        InputEvent::Alt(b'\n') => "Alt-Enter",
+        InputEvent::Alt('\x08') => "Alt-Backspace",
+        InputEvent::Alt('\n') => "Alt-Enter",
         InputEvent::Output(Event::Csi('R')) if !params.is_empty() => "CPR, the cursor's place",
         _ => "",
     }
@@ -66,17 +66,27 @@ impl Did {
         if let Some((_, key)) = read(event, params) {
             return Some(Did::Key(key, also(event, params)));
         }
-        let (words, byte) = match event {
-            InputEvent::Output(Event::Csi('I')) if params.is_empty() => ("focus  gained", 0),
+        let (words, number) = match event {
+            InputEvent::FocusGained => ("focus  gained", 0),
             InputEvent::Output(Event::Csi('O')) if params.is_empty() => ("focus  lost", 0),
             InputEvent::Output(_) | InputEvent::Escape => return None,
             InputEvent::Mouse => return Some(Did::Told(MOUSE, report_of(bytes))),
-            InputEvent::Ss3(byte) => ("unknown  SS3 {0@a}", byte),
-            InputEvent::Linux(byte) => ("unknown  CSI [ {0@a}", byte),
-            InputEvent::Alt(byte) => ("unknown  ESC {0@a}", byte),
-            InputEvent::Rxvt(number) => ("unknown  CSI {0}$", number),
+            InputEvent::Ss3(byte) => ("unknown  SS3 {0@a}", byte.into()),
+            InputEvent::Linux(byte) => ("unknown  CSI [ {0@a}", byte.into()),
+            InputEvent::Alt(character) => ("unknown  ESC {0@a}", u32::from(character).into()),
+            InputEvent::Rxvt(number) => ("unknown  CSI {0}$", number.into()),
+            InputEvent::Modified {
+                number,
+                control,
+                ..
+            } => {
+                return Some(Did::Told(
+                    "unknown  {0}{1@a} with modifiers",
+                    list_of(number.into(), control.into(), 0),
+                ));
+            }
         };
-        Some(Did::Told(words, list_of(byte.into(), 0, 0)))
+        Some(Did::Told(words, list_of(number, 0, 0)))
     }
 
     /// What a control character is.

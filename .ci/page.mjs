@@ -149,6 +149,27 @@ async function emptyAndExamples(browser) {
     }
 }
 
+async function forgotten(browser) {
+    const secret = String.raw`\e[31mthe password\e[m`.repeat(200);
+    const cast = join(top, 'examples/make.cast');
+    for (const [what, leave] of [['Clear', () => browser.click('clear')], ['an example', () => browser.click('example-log')], ['a file', () => browser.files('file', cast)]]) {
+        await browser.open(page);
+        await browser.paste('input', secret);
+        await browser.idle();
+        await browser.click('link');
+        wants((await browser.run(() => location.hash)).includes('z='), `${what}: the link carries no stream`);
+        wants(await browser.text('note') !== '', `${what}: nothing is said of the link`);
+        await leave();
+        await browser.idle();
+        await browser.pause(600);
+        const hash = await browser.run(() => location.hash);
+        wants(!/(z|text)=/.test(hash), `${what} leaves the stream in the address: ${hash.slice(0, 80)}`);
+        equals(await browser.text('note'), '', `${what}: what was said of the link`);
+        await browser.open(page, hash);
+        wants(!JSON.stringify([await rows(browser), await lines(browser)]).includes('password'), `${what}: a reload brings it back`);
+    }
+}
+
 async function recordings(browser) {
     await browser.open(page);
     const cast = join(top, 'examples/make.cast');
@@ -487,7 +508,7 @@ try {
     policy();
     for (const [name, width, height, scheme] of LOOKS) {
         await browser.look(width, height, scheme);
-        const checks = { looks, seenAndBack, pasted, emptyAndExamples, recordings, links, keysAndPlaces, search, card, markupStaysText };
+        const checks = { looks, seenAndBack, pasted, emptyAndExamples, forgotten, recordings, links, keysAndPlaces, search, card, markupStaysText };
         for (const [what, check] of Object.entries(checks)) {
             await check(browser, width).catch(error => { throw new Error(`${name}, ${what}: ${error.message}`); });
         }

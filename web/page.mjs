@@ -79,7 +79,7 @@ class Page {
             this.#seq = text;
             this.#address();
         });
-        this.#source = new Source(stream => this.#begin(stream), files => this.#open(files));
+        this.#source = new Source(stream => this.#given(stream), files => this.#open(files));
         this.#listen();
     }
 
@@ -91,6 +91,23 @@ class Page {
     }
 
     // ---- what is looked at
+
+    /** What an address carries and what was said are over: another stream is looked at, or none. */
+    #forget() {
+        this.#asked = {};
+        this.#note('');
+    }
+
+    /**
+     * A stream that was typed, pasted or cleared, or the text of an address.
+     * @param {Stream} stream
+     */
+    #given(stream) {
+        const { text = '', z } = this.#asked;
+        if (z || text !== stream.text) this.#forget();
+        this.#begin(stream);
+        this.#address();
+    }
 
     /**
      * @param {Stream} stream
@@ -152,7 +169,7 @@ class Page {
 
     /** @param {File[]} files */
     async #open(files) {
-        this.#asked = {};
+        this.#forget();
         const { name, blob, times } = await this.#work('open', () => this.#engine.askAnew('open', { task: 'open', files }));
         if (times) this.#view = 'words';
         this.#named({ name, blob }, times);
@@ -403,7 +420,7 @@ class Page {
         }
         for (const [name, { name: title, view, text }] of Object.entries(this.#examples)) {
             $(`example-${name}`).addEventListener('click', () => {
-                this.#asked = {};
+                this.#forget();
                 this.#view = /** @type {View} */ (view);
                 this.#named({ name: title, blob: new Blob([text]) });
             });

@@ -341,6 +341,12 @@ def is_of_these_sources(folder, names):
     return all(sources.get(name) == contents(name) for name in names)
 
 
+def other_sources(names):
+    """What tools/programs says where dist/ is of other sources of one of these, and whether that is a fault, and no change in work."""
+    ran = subprocess.run(["sh", "-c", 'top=$1; . "$top/tools/programs"; shift; other_sources "$@"', "release", TOP, *names], stdin=subprocess.DEVNULL, capture_output=True, text=True)
+    return ran.stdout.strip(), ran.returncode != 0
+
+
 def faults(folder):
     """What in the folder isn't as its MANIFEST says."""
     files = Manifest(folder).files

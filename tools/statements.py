@@ -1,6 +1,5 @@
 """What the contracts of the crates and the definitions behind them say, read from crates/*/src and crates/*/specs. See believe."""
 import hashlib
-import os
 import pathlib
 import re
 from functools import lru_cache

@@ -2,7 +2,7 @@
 import re
 
 from bindings.library import BY_NUMBER, FIRST, has_tokens, kinds, low, module, number_of, of, text_of, type_of, types, used
-from bindings.specs import can_be_named, named_row, names_in, own_use, spec_row, spec_use, type_uses, value
+from bindings.specs import named_row, names_in, own_use, spec_use, type_uses, value
 from layout import folded
 
 # Of an enumeration whose numbers csicodec_actions reads, the kind of these there.

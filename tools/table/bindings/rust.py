@@ -53,7 +53,7 @@ def rust_types(subject, sources):
             continue
         out += f"\nimpl {name} {{\n    /// Its number.\n    pub fn to_i64(&self) -> i64 {{\n        match self {{\n"
         out += "".join(f"            {name}::{v} => {n},\n" for v, n, _ in rows_)
-        out += f"        }}\n    }}\n\n    /// The one that has this number.\n    pub fn from_i64(number: i64) -> Option<Self> {{\n        match number {{\n"
+        out += "        }\n    }\n\n    /// The one that has this number.\n    pub fn from_i64(number: i64) -> Option<Self> {\n        match number {\n"
         out += "".join(f"            {n} => Some({name}::{v}),\n" for v, n, _ in rows_)
         out += "            _ => None,\n        }\n    }\n}\n"
     return out

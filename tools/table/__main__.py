@@ -5,14 +5,17 @@ of files that are else by hand. Those of bindings/ follow from several tables. A
 refused, and all else is made before anything is written. With --check nothing is written, and each file that differs is named.
 """
 import importlib
+import os
 import pathlib
+import re
 import sys
 
-import witnessed
-from actions import subjects
-from bindings.files import files
-from parts import with_parts
-from read import TOP, rows_of
+sys.dont_write_bytecode = True
+import witnessed  # noqa: E402
+from actions import subjects  # noqa: E402
+from bindings.files import LOOSE, files  # noqa: E402
+from parts import with_parts  # noqa: E402
+from read import TOP, rows_of  # noqa: E402
 
 
 def text_of(path):
@@ -33,10 +36,27 @@ def written():
     return texts | {path: with_parts(path, texts.get(path) or text_of(path), of) for path, of in parts.items()}
 
 
+def loose(text):
+    """A text without what laying it out changes."""
+    return re.sub(r"[\s,{}]+", "", text)
+
+
 def differs(path, text):
-    """Whether the file isn't there, or has another text."""
+    """Whether the file isn't there, or has another text, or where its layout can't be told more than another layout."""
     file = pathlib.Path(TOP, path)
-    return not file.is_file() or text_of(path) != text
+    return not file.is_file() or text_of(path) != text and (path not in LOOSE or loose(text_of(path)) != loose(text))
+
+
+def stray(known):
+    """The files that say that a table writes them, which none does any more."""
+    for folder, _, names in os.walk(TOP):
+        if {".git", "out", "target", "__pycache__"} & {*pathlib.PurePath(os.path.relpath(folder, TOP)).parts}:
+            continue
+        for path in (os.path.relpath(os.path.join(folder, name), TOP) for name in names):
+            with open(os.path.join(TOP, path), "rb") as file:
+                head = file.read(300)
+            if re.search(rb"\bWritten by\s+(//!\s+)?tools/table", head) and path not in known:
+                yield path
 
 
 def settled(texts, is_check):
@@ -63,7 +83,14 @@ def main(words):
     if words not in ([], ["--check"]):
         sys.exit(__doc__)
     unwitnessed()
-    return 0 if settled(written() | files(), bool(words)) else 1
+    is_check = bool(words)
+    texts = written() | files(is_check)
+    is_good, strays = settled(texts, is_check), list(stray(texts))
+    for path in strays:
+        print(f"table: {path} says that it is written by tools/table, and no table writes it: take it away")
+    if is_check and is_good and not strays:
+        print(f"table: {len(texts)} files are what table/ says, and no number of them changed")
+    return 0 if is_good and not strays else 1
 
 
 if __name__ == "__main__":

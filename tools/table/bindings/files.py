@@ -4,6 +4,7 @@ isn't changed."""
 import importlib.machinery
 import importlib.util
 import os
+import shutil
 import subprocess
 import sys
 import tempfile
@@ -75,7 +76,7 @@ def run(words, **more):
     try:
         return subprocess.run(words, capture_output=True, check=True, encoding="utf-8", **more).stdout
     except FileNotFoundError:
-        sys.exit(f"table: no {words[0]}: what it lays out is neither written nor compared")
+        sys.exit(f"table: refused: no {words[0]} in PATH, which lays out what is written")
     except subprocess.CalledProcessError as error:
         sys.exit(f"table: {' '.join(words)}: {error.stderr or error.stdout}")
 
@@ -86,6 +87,21 @@ def settled(text):
     module = importlib.util.module_from_spec(importlib.util.spec_from_loader("imports", loader))
     loader.exec_module(module)
     return module.settled(text)
+
+
+# What lays out the files of each kind, and those that it isn't here for, so that they are compared but for their layout.
+TOOLS = {".rt": "rt", ".rs": "rustfmt"}
+LOOSE = set()
+
+
+def left_out(texts):
+    """The texts that can be compared with their files as they stand there, or whose tool is needed."""
+    for end, tool in TOOLS.items():
+        paths = [path for path in texts if path.endswith(end)]
+        if not shutil.which(tool):
+            LOOSE.update(paths)
+            print(f"table: no {tool}: the layout of {len(paths)} written files was not compared")
+    return {path: text for path, text in texts.items() if path not in LOOSE}
 
 
 def laid_out(texts):
@@ -103,7 +119,8 @@ def laid_out(texts):
             os.makedirs(os.path.dirname(place), exist_ok=True)
             with open(place, "w", encoding="utf-8") as file:
                 file.write(texts[path])
-        run(["rt", "fmt"], cwd=os.path.join(room, "crates/kinds"))
+        if sources:
+            run(["rt", "fmt"], cwd=os.path.join(room, "crates/kinds"))
         for path, place in sources.items():
             with open(place, encoding="utf-8") as file:
                 out[path] = file.read()
@@ -113,10 +130,11 @@ def laid_out(texts):
     return out
 
 
-def files():
-    """The texts by path from the top of the repository."""
+def files(is_check=False):
+    """The texts by path from the top of the repository. To compare, none of the tools that lay them out is needed."""
     stop_at(faults())
-    texts = laid_out({path: make() for path, make in FILES.items()})
+    texts = {path: make() for path, make in FILES.items()}
+    texts |= laid_out(left_out(texts) if is_check else texts)
     numbers = {**pairs(read("include/csicodec.h")), **pairs(read("include/csicodec_stream.h")), **pairs(texts[HEADER])}
     stop_at(changes(numbers))
     return {**texts, LIST: grown(numbers)}

@@ -6,7 +6,7 @@ import { createRequire } from 'node:module';
 import { pathToFileURL } from 'node:url';
 
 const [folder, program, kinds, ...files] = process.argv.slice(2);
-const { Codec, CodecError, InputParser, KeyParser, OscReader, Parser, recorded } = await import(pathToFileURL(createRequire(`${folder}/it.js`).resolve('csicodec')));
+const { Codec, CodecError, InputParser, KeyModifiers, KeyParser, OscReader, Parser, recorded } = await import(pathToFileURL(createRequire(`${folder}/it.js`).resolve('csicodec')));
 const codec = await Codec.load();
 const native = (words, input) => {
     const { status, stdout, stderr } = spawnSync(program, words, { input, maxBuffer: 1 << 30 });
@@ -17,6 +17,14 @@ const same = (one, other) => Buffer.compare(Buffer.from(one), Buffer.from(other)
 const wrong = what => { console.error(`node: ${what}`); process.exit(1); };
 
 const PALETTE = Array.from({ length: 18 }, (_, i) => `#${String(i).padStart(2, '0')}7fff`);
+
+// The modifiers by their bits, as kitty's keyboard protocol has them, each as it comes behind a letter.
+const MODIFIERS = { SHIFT: 1, ALT: 2, CTRL: 4, SUPER: 8, HYPER: 16, META: 32, CAPS_LOCK: 64, NUM_LOCK: 128 };
+if (JSON.stringify(KeyModifiers) !== JSON.stringify(MODIFIERS)) wrong(`KeyModifiers is ${JSON.stringify(KeyModifiers)}`);
+for (const [name, bit] of Object.entries(MODIFIERS)) {
+    const [key] = new KeyParser(codec).feed(`\x1b[97;${bit + 1}u`);
+    if (key?.modifiers !== bit) wrong(`KeyModifiers.${name}: a key with it is ${JSON.stringify(key)}`);
+}
 
 /** What a TransformStream makes of some bytes, which come in pieces. Each is written over once it was taken, as where a file is read through one Buffer. */
 async function through(stream, data, size) {

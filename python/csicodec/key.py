@@ -123,7 +123,8 @@ class KeyParser:
             return 0
         is_string = span.kind == SpanKind.Str
         self._mode = span.mode if is_string else 0
-        return span.used if is_string else 0
+        used: int = span.used if is_string else 0
+        return used
 
     def _read(self, more: bool) -> List[Union[Key, bytes]]:
         found: List[Union[Key, bytes]] = []

@@ -287,6 +287,10 @@ class Codec(unittest.TestCase):
                 ("html", csicodec.html(stream)),
                 ("html --classes --fragment", csicodec.html(stream, classes=True, fragment=True)),
                 ("html --links", csicodec.html(stream, links=True)),
+                ("strip", csicodec.strip(stream)),
+                ("clean --links", csicodec.clean(stream, links=True)),
+                ("clean --colors=256", csicodec.clean(stream, colors=256)),
+                ("clean --colors=16", csicodec.clean(stream, colors=16)),
                 ("html --no-overwrite --palette=" + ",".join(PALETTE), csicodec.html(stream, overwrite=False, palette=PALETTE)),
             ]:
                 ran = subprocess.run([csicodec.program.path(), *words.split()], input=stream, stdout=subprocess.PIPE, check=True)

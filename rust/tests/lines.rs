@@ -1,6 +1,6 @@
 //! Pages and lines as they come are those of the whole.
 
-use csicodec::{Error, Lines, Markup, html, overwrite, overwrite_styled};
+use csicodec::{Error, Lines, Markup, Palette, html, overwrite, overwrite_styled};
 use std::io::Write;
 
 /// What lines are made of, and what begins and ends what is no line.
@@ -101,6 +101,49 @@ fn pages() -> Result<(), Error> {
         in_pieces(Lines::html(Markup::default()), b"", 1)?,
         html(b"")?
     );
+    Ok(())
+}
+
+/// What each option alone makes of a text, as it stands on a page.
+#[test]
+fn each_option_of_a_page() -> Result<(), Error> {
+    let fragment = Markup {
+        fragment: true,
+        ..Markup::default()
+    };
+    let made = |change: fn(&mut Markup), given: &str| {
+        let mut markup = fragment;
+        change(&mut markup);
+        markup.html(given)
+    };
+    let link = "\x1b]8;;http://a.b\x07x\x1b]8;;\x07";
+    let linked = "<a rel=\"nofollow noopener noreferrer\" href=\"http://a.b\">x</a>";
+    assert_eq!(made(|it| it.links = true, link)?, linked);
+    assert_eq!(made(|_| (), link)?, "x");
+    let bold = "<span class=\"bold\">x</span>";
+    assert_eq!(made(|it| it.classes = true, "\x1b[1mx")?, bold);
+    assert_eq!(made(|it| it.no_overwrite = true, "10%\r20%")?, "10%20%");
+    assert_eq!(made(|_| (), "10%\r20%")?, "20%");
+    let coloured = made(
+        |it| {
+            let mut first = [(0, 0, 0); 16];
+            first[1] = (0x12, 0x34, 0x56);
+            first[2] = (0x78, 0x9a, 0xbc);
+            it.palette = Some(Palette { first, own: None });
+        },
+        "\x1b[31;42mx",
+    )?;
+    let wanted = "<span style=\"color:#123456;background-color:#789abc;\">x</span>";
+    assert_eq!(coloured, wanted);
+    let whole = Markup {
+        palette: Some(Palette {
+            first: [(0, 0, 0); 16],
+            own: Some([(1, 2, 3), (4, 5, 6)]),
+        }),
+        ..Markup::default()
+    };
+    let page = whole.html("x")?;
+    assert!(page.contains("#010203") && page.contains("#040506"), "{page}");
     Ok(())
 }
 

@@ -10,7 +10,7 @@ complete -c csicodec -n __fish_use_subcommand -f -a explain -d 'say in words wha
 complete -c csicodec -n __fish_use_subcommand -f -a assemble -d 'turn what explain --json wrote back into a stream'
 complete -c csicodec -n __fish_use_subcommand -f -a cuts -d 'say where a stream may be cut into pieces'
 complete -c csicodec -n __fish_use_subcommand -f -a help -d 'show this text, or the options of a word'
-complete -c csicodec -n '__fish_seen_subcommand_from filter' -l faithful -d 'Leave colours as they are, and each sequence whose normal form terminals are known to read differently'
+complete -c csicodec -n '__fish_seen_subcommand_from filter' -l faithful -d 'Leave colours as they are, each sequence that isn'\''t known whole, and each whose normal form terminals are known to read differently'
 complete -c csicodec -n '__fish_seen_subcommand_from filter' -l text -d 'From a recording, write the filtered stream and no recording'
 complete -c csicodec -n '__fish_seen_subcommand_from filter' -l help -d 'Show this text'
 complete -c csicodec -n '__fish_seen_subcommand_from compact' -l semicolons -d 'Write colours with semicolons, such as 38;5;9, even if colons are as short'

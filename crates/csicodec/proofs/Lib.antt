@@ -1,2 +1,3 @@
 mod Escapes
 mod Rewritten
+mod Taken

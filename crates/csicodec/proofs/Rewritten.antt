@@ -1,7 +1,8 @@
 -- What the faithful filter writes is read back.
 use Rattle.std.proofs.Common.{ℕ, List, [], ◌∷◌, Bool, ap, inl, inr, ◌≡◌, ◌++◌, ◌+◌, ◌<◌, ◌≤◌, false, sym, subst, ◌∙◌, arith, length, length-append, ◌||◌, ◌-◌, slice_get}
-use Rattle.csicodec_parser.specs.{Groups.is_byte, Private.Steps.actions}
-use Rattle.csicodec_parser.proofs.{Cuts.actions_are, Fronts.or-parts}
+use Rattle.csicodec_parser.specs.Groups.{is_byte}
+use Rattle.csicodec_parser.proofs.Fronts.{or-parts}
+use Rattle.csicodec_terminal.specs.Terminal.{has_unknown}
 use Rattle.csicodec_streams.proofs.Common.{cases_Bool, cases_lt, CsiParam, Action, text, texts, Alone, one_decoding}
 use Rattle.csicodec_streams.proofs.{OneReading.decodes-each, OneReading.decodes-one, Kept.KeptAt, Kept.is_staying, Parsed.canonical-alone, Parsed.all-weaker}
 use Rattle.csicodec_streams.proofs.{Parsed.parsed-kept-at}
@@ -22,7 +23,7 @@ staying-none flag final other a kept = elim kept.canonical [
   | inr ok ↦ canonical-alone a flag kept.range ok
 ]
 
-last-false : (list : List CsiParam) (final : ℕ) → stays list final ≡ false → is_staying final ≡ false
+pub last-false : (list : List CsiParam) (final : ℕ) → stays list final ≡ false → is_staying final ≡ false
 last-false list final none =
     let end = is_byte 59 (slice_get list (length list - 1)) in
     let behind = or-parts (is_byte 60 (slice_get list 0)) (end || is_staying final) none in
@@ -37,14 +38,12 @@ short-means bytes text all came back (form, (parsed, decodes, made), short, long
 ]
 
 pub faithful_means : KeepsMeaning IsFaithful
-faithful_means bytes text (list, final, seq, kept, other) =
-    let all = actions list false final in
-    let are = actions_are list false final in
+faithful_means bytes text (list, final, all, seq, are, kept, other) =
     let came = decodes-one bytes list false final all seq are in
-    elim (cases_Bool (is_kept list final)) [
+    elim (cases_Bool (is_kept list final all)) [
       | inl here ↦ (all, came, subst (λ (t : List ℕ). Decodes t false all) (sym (kept here)) came)
       | inr none ↦
-          let finals : is_staying final ≡ false = last-false list final (or-parts (stays list final) (has_spelling list final) none).0 in
+          let finals : is_staying final ≡ false = last-false list final (or-parts (stays list final) (has_spelling list final || has_unknown all) none).0 in
           let alone = all-weaker (KeptAt false final) (Alone false) (staying-none false final finals) all (parsed-kept-at list false final all seq.spellable seq.ends are) in
           (all, came, short-means bytes text all came (decodes-each false all alone) (other none))
     ]
@@ -79,7 +78,7 @@ form-short limit bytes text most fits (form, n, short, long) = elim (cases_lt lo
 ]
 
 written-short : (limit : ℕ) (bytes text : List ℕ) → longest ≤ limit → length bytes ≤ limit → IsFaithful bytes text → length text ≤ limit
-written-short limit bytes text most fits (list, final, seq, kept, other) = elim (cases_Bool (is_kept list final)) [
+written-short limit bytes text most fits (list, final, all, seq, are, kept, other) = elim (cases_Bool (is_kept list final all)) [
   | inl here ↦ omega (arith, fits, ap length (kept here))
   | inr none ↦ form-short limit bytes text most fits (other none)
 ]

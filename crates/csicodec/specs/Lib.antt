@@ -46,6 +46,7 @@ pub use Rattle.csicodec_streams.specs.Refusals
 pub use Rattle.csicodec_streams.specs.RoundTrip
 pub use Rattle.csicodec_streams.specs.Streams
 pub use Rattle.csicodec_streams.specs.Suffix
+pub use Rattle.csicodec_streams.specs.Taken
 pub use Rattle.csicodec_streams.specs.WhichRules
 pub use Rattle.csicodec_transform.specs.Words
 pub use Rattle.csicodec_filter.specs.Filter

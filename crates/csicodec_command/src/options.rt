@@ -102,8 +102,9 @@ With no FILE, or when FILE is -, read standard input. An asciinema recording is
 written as a recording with the same times. A FILE is one if its name ends in
 .cast, and standard input if it begins like one.
 
-  --faithful     Leave colours as they are, and each sequence whose normal form
-                 terminals are known to read differently.
+  --faithful     Leave colours as they are, each sequence that isn't known
+                 whole, and each whose normal form terminals are known to read
+                 differently.
   --text         From a recording, write the filtered stream and no recording.
   -h, --help     Show this text.";
 

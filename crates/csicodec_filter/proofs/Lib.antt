@@ -1,3 +1,4 @@
 pub mod Shorter
 pub mod Written
 pub mod Meaning
+pub mod Unknown

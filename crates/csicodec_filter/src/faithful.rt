@@ -1,9 +1,10 @@
 //! Normal forms, but for what terminals are known to read otherwise.
-ghost use Rattle.std.specs.{Prelude.◌≡◌, List.list_any};
-ghost use Rattle.csicodec_streams.specs.Faithful.{has_spelling, is_kept, is_spelled, stays};
+ghost use Rattle.std.specs.{Prelude.◌≡◌, Prelude.◌||◌, List.list_any};
+ghost use Rattle.csicodec_streams.specs.Faithful.{has_spelling, is_spelled, stays};
 
-use crate::rewrite::{NormalForm, Rewrite};
+use crate::rewrite::Rewrite;
 use csicodec_base::CsiParam;
+use csicodec_parser::{CSI, Group, Sink, Texts, parse_into};
 use csicodec_spans::LIMIT;
 use std::alloc::{AllocError, Global};
 
@@ -41,16 +42,62 @@ fn has_spelling(params: &[CsiParam], control: char) -> bool
     control == 'm' && any_spelled(params)
 }
 
-/// Whether the sequence is written as it came.
+/// Whether the sequence is written as it came, whatever its actions are.
 fn is_kept(params: &[CsiParam], control: char) -> bool
-    ensures { result ≡ is_kept params.now control }
+    ensures { result ≡ stays params.now control || has_spelling params.now control }
 {
     stays(params, control) || has_spelling(params, control)
 }
 
+/// The texts of the actions that went in, and whether one of these is unknown.
+#[derive(Drop)]
+struct Told {
+    texts: Texts,
+    unknown: bool,
+}
+
+impl Sink for Told {
+    ghost use Rattle.csicodec_actions.specs.Table.{texts};
+    ghost use Rattle.csicodec_terminal.specs.Terminal.{has_unknown};
+
+    ghost holds = { λ t actions. (t.texts.bytes ≡ texts actions) × (t.unknown ≡ has_unknown actions) };
+
+    #[inline(always)]
+    fn take(&mut self, action: CSI) -> Result<(), AllocError> {
+        if let CSI::Unspecified(_) = action {
+            self.unknown = true;
+        }
+        self.texts.take(action)
+    }
+
+    #[inline(always)]
+    fn take_first(&mut self, group: Group, first: CsiParam) -> Result<bool, AllocError> {
+        self.texts.take_first(group, first)
+    }
+
+    #[inline(always)]
+    fn take_piece(&mut self, group: Group, rest: &[CsiParam]) -> Result<Option<usize>, AllocError> {
+        self.texts.take_piece(group, rest)
+    }
+
+    fn take_unknown(
+        &mut self,
+        alloc: Global,
+        group: Group,
+        rest: &[CsiParam],
+        truncated: bool,
+        control: char,
+    ) -> Result<(), AllocError> {
+        self.unknown = true;
+        self.texts
+            .take_unknown(alloc, group, rest, truncated, control)
+    }
+}
+
 /// Each control sequence in its normal form, but for those that terminals read otherwise than the codec does (docs/DIFFERENCES.md),
-/// and for styles of which a terminal may know the spelling that came alone: colours, and what has colons. These stay as they came, and so does
-/// a sequence whose normal form has more than [`LIMIT`] bytes, since that could be too long to be read as sequences again.
+/// for those of which the table of actions doesn't read all, which terminals may ignore or read more of, and for styles of which a
+/// terminal may know the spelling that came alone: colours, and what has colons. These stay as they came, and so does a sequence whose
+/// normal form has more than [`LIMIT`] bytes, since that could be too long to be read as sequences again.
 ///
 /// ```text
 /// filter_all(alloc, 65536, Faithful::new(alloc), &mut input, &mut output)?;
@@ -58,15 +105,18 @@ fn is_kept(params: &[CsiParam], control: char) -> bool
 /// ```
 #[derive(Drop)]
 pub struct Faithful {
-    normal: NormalForm,
+    alloc: Global,
+    told: Told,
 }
 
 impl Faithful {
     /// With a buffer of its own, which is kept from sequence to sequence.
     pub fn new(alloc: Global) -> Faithful {
-        Faithful {
-            normal: NormalForm::new(alloc),
-        }
+        let told = Told {
+            texts: Texts::new(alloc),
+            unknown: false,
+        };
+        Faithful { alloc, told }
     }
 }
 
@@ -85,12 +135,13 @@ impl Rewrite for Faithful {
         if is_kept(params, control) {
             return out.extend_from_slice(bytes);
         }
-        let len = out.len();
-        self.normal.rewrite(bytes, params, control, out)?;
-        if out.len() - len > LIMIT {
-            out.truncate(len);
-            out.extend_from_slice(bytes)?;
+        self.told.texts.bytes.clear();
+        self.told.unknown = false;
+        parse_into(self.alloc, params, false, control, &mut self.told)?;
+        let form = self.told.texts.bytes.as_slice();
+        if self.told.unknown || form.len() > LIMIT {
+            return out.extend_from_slice(bytes);
         }
-        Ok(())
+        out.extend_from_slice(form)
     }
 }

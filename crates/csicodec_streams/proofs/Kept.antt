@@ -1,5 +1,5 @@
 -- What reading makes is canonical or special, a special one is written as another, and the list that an action is written as.
-use Rattle.std.proofs.Common.{◌≡◌, ◌⊎◌, ℕ, List, ◌∷◌, Bool, true, None, refl, ap, inl, inr, pos, arith, rules, ℤ, ◌<◌, [], Some, drop, take, sym, ◌∙◌, eq-eqb, eqb-true, ◌==◌, ◌&&◌, Option, ◌≤◌, ◌++◌, length, subst, append-nil}
+use Rattle.std.proofs.Common.{◌≡◌, ◌⊎◌, ℕ, List, ◌∷◌, Bool, true, false, None, refl, ap, inl, inr, pos, arith, rules, ℤ, ◌<◌, [], Some, drop, take, sym, ◌∙◌, eq-eqb, eqb-true, ◌==◌, ◌&&◌, Option, ◌≤◌, ◌++◌, length, subst, append-nil}
 use Rattle.std.proofs.{lemmas.Bool.and_parts, lemmas.Int.ints}
 use Rattle.csicodec_tokens.specs.{OneBased.most, Sequence.IsSpellable, declared.param.CsiParam.TheVariants.Integer, Digits.largest, Param.spells}
 use Rattle.csicodec_actions.specs.Devices.{RequestTerminalParameters, Attributes, Vt220, Vt320, Vt420, XtSmGraphics, code_or_token, listed_attributes}
@@ -23,6 +23,7 @@ use Rattle.csicodec_names.proofs.Coded.{attributes}
 use Rattle.csicodec_names.specs.{DeviceNumbers.device_attribute_codes, DeviceNumbers.device_attribute_number, Numbered.with_number}
 use Rattle.csicodec_names.specs.{declared.device.DeviceAttributeCodes.DeviceAttributeCodes, declared.flags.Modifiers.Modifiers}
 use Rattle.csicodec_streams.specs.Faithful.{staying_finals}
+use Rattle.csicodec_terminal.specs.Terminal.{is_open, is_unknown}
 use Rattle.csicodec_tokens.proofs.Printed.{printed}
 use Rattle.csicodec_parser.proofs.Fronts.{front_stuck, front_empty}
 use Rattle.csicodec_streams.proofs.Common.{encode_ascii, cases_Bool, Spellable, IsFinal, CsiParam, P, Action, Sgr, Unspecified, InRange, text, Canonical, Cut, group, Piece, Actions, Group, all-append, row-in, AllByRecursion, Alone}
@@ -214,6 +215,8 @@ pub record Spelling (flag : Bool) (a : Action) : Type 0 where
   pub spellable : Spellable list
   pub ends : IsFinal final
   pub read : Actions list flag final (a ∷ [])
+  -- as terminals take it, too
+  pub closed : is_unknown a ≡ false → is_open (group list final) list ≡ false
 
 pub spelling-alone : (flag : Bool) (a : Action) → Spelling flag a → Alone flag a
 spelling-alone flag a s =
@@ -234,8 +237,8 @@ question-spellable = ((omega arith, omega arith), λ digit. omega (arith, digit)
 
 -- a list that is read as the action alone
 sound-spelling : (flag : Bool) (a : Action) (w : Written) → text a ≡ 27 ∷ 91 ∷ written_text w → is_sound w ≡ true → AllGood w.items
-    → Actions (tokens w.items) flag w.final (a ∷ []) → Spelling flag a
-sound-spelling flag a w shown test good read =
+    → Actions (tokens w.items) flag w.final (a ∷ []) → is_open (group (tokens w.items) w.final) (tokens w.items) ≡ false → Spelling flag a
+sound-spelling flag a w shown test good read closed =
     let s = sound w test good in
     record {
       list = tokens w.items;
@@ -244,12 +247,14 @@ sound-spelling flag a w shown test good read =
       spellable = s.spellable;
       ends = s.ends;
       read = read;
+      closed = λ known. closed;
     }
 
 -- by reading it whole
 written-spelling : (flag : Bool) (a : Action) (w : Written) → text a ≡ 27 ∷ 91 ∷ written_text w → AllGood w.items → IsRead w a → Spelling flag a
 written-spelling flag a w shown good back =
-    sound-spelling flag a w shown back.sound good (rw (whole-group (tokens w.items) w.final a back.read) (inl (a, back.read, refl)))
+    let whole = whole-group (tokens w.items) w.final a back.read in
+    sound-spelling flag a w shown back.sound good (rw whole (inl (a, back.read, refl))) (rw whole refl)
 
 -- ---- a list that is one piece, in any group
 
@@ -286,16 +291,17 @@ terminal-means flag s final m by good =
     rw by (record { pieces = Mode (switched s m) ∷ []; rest = []; cut = cut-one g (Integer (pos (terminal_number m)) ∷ []) _ piece; stuck = stuck-empty g; all = refl })
 
 piece-spelling : (flag : Bool) (m : mode_type.Mode) → is_sound (written_mode m) ≡ true → AllGood (written_mode m).items
-    → Actions (tokens (written_mode m).items) flag (written_mode m).final (Mode m ∷ []) → Spelling flag (Mode m)
-piece-spelling flag m test good read = sound-spelling flag (Mode m) (written_mode m) refl test good read
+    → Actions (tokens (written_mode m).items) flag (written_mode m).final (Mode m ∷ [])
+    → is_open (group (tokens (written_mode m).items) (written_mode m).final) (tokens (written_mode m).items) ≡ false → Spelling flag (Mode m)
+piece-spelling flag m test good read closed = sound-spelling flag (Mode m) (written_mode m) refl test good read closed
 
 pub mode-spelling : (flag : Bool) (m : mode_type.Mode) → AllGood (written_mode m).items → Spelling flag (Mode m)
-mode-spelling flag (mode.SetDecPrivateMode m) good = piece-spelling flag (mode.SetDecPrivateMode m) refl good (dec-means flag Change.Set 104 m refl good.0)
-mode-spelling flag (mode.ResetDecPrivateMode m) good = piece-spelling flag (mode.ResetDecPrivateMode m) refl good (dec-means flag Change.Reset 108 m refl good.0)
-mode-spelling flag (mode.SaveDecPrivateMode m) good = piece-spelling flag (mode.SaveDecPrivateMode m) refl good (dec-means flag Change.Save 115 m refl good.0)
-mode-spelling flag (mode.RestoreDecPrivateMode m) good = piece-spelling flag (mode.RestoreDecPrivateMode m) refl good (dec-means flag Change.Restore 114 m refl good.0)
-mode-spelling flag (mode.SetMode m) good = piece-spelling flag (mode.SetMode m) refl good (terminal-means flag Switch.Set 104 m refl good.0)
-mode-spelling flag (mode.ResetMode m) good = piece-spelling flag (mode.ResetMode m) refl good (terminal-means flag Switch.Reset 108 m refl good.0)
+mode-spelling flag (mode.SetDecPrivateMode m) good = piece-spelling flag (mode.SetDecPrivateMode m) refl good (dec-means flag Change.Set 104 m refl good.0) refl
+mode-spelling flag (mode.ResetDecPrivateMode m) good = piece-spelling flag (mode.ResetDecPrivateMode m) refl good (dec-means flag Change.Reset 108 m refl good.0) refl
+mode-spelling flag (mode.SaveDecPrivateMode m) good = piece-spelling flag (mode.SaveDecPrivateMode m) refl good (dec-means flag Change.Save 115 m refl good.0) refl
+mode-spelling flag (mode.RestoreDecPrivateMode m) good = piece-spelling flag (mode.RestoreDecPrivateMode m) refl good (dec-means flag Change.Restore 114 m refl good.0) refl
+mode-spelling flag (mode.SetMode m) good = piece-spelling flag (mode.SetMode m) refl good (terminal-means flag Switch.Set 104 m refl good.0) refl
+mode-spelling flag (mode.ResetMode m) good = piece-spelling flag (mode.ResetMode m) refl good (terminal-means flag Switch.Reset 108 m refl good.0) refl
 mode-spelling flag m good = written-spelling flag (Mode m) (written_mode m) refl good (read-back (Mode m) good (λ never. never) (λ piece. piece))
 
 -- ---- each canonical action of a row or a mode is written as a list that is read as it alone

@@ -5,7 +5,7 @@ use Rattle.csicodec_parser.specs.{Canonical.IsUncut, Canonical.IsUnknownIn, Cut.
 use Rattle.csicodec_actions.specs.{Actions.Mode, Modes.changed, Modes.switched, Table.Whole, declared.mode.Change.Change}
 use Rattle.csicodec_actions.specs.{declared.mode.DecPrivateMode.DecPrivateMode, declared.mode.Switch.Switch, declared.mode.TerminalMode.TerminalMode}
 use Rattle.csicodec_parser.proofs.Fronts.{marked-body, plain-behind, rest-group}
-use Rattle.csicodec_streams.proofs.Kept.{spelling-alone, written-back, question-spellable, stuck-empty, changed-kept, switched-kept, whole-kept, Kept, KeptAt, kept-at}
+use Rattle.csicodec_streams.proofs.Kept.{Spelling, spelling-alone, written-back, question-spellable, stuck-empty, changed-kept, switched-kept, whole-kept, Kept, KeptAt, kept-at}
 use Rattle.csicodec_streams.proofs.Common.{cases_Bool, encode_ascii, CsiParam, IsFinal, Spellable, Actions, Canonical, Cut, group, has_odd, Piece, Group, Action, Sgr, Unspecified, InRange, Alone, AllByRecursion, all-append}
 use Rattle.csicodec_streams.proofs.SgrSpelling.{sgr-spelling, sgr-kept}
 use Rattle.csicodec_actions.proofs.AllRows.{no-tokens, whole-keeps}
@@ -37,18 +37,22 @@ unknown-actions Group.Whole list flag final same unknown = inr (unknown, refl)
 unknown-actions Group.Styles list flag final same unknown = uncut-actions Group.Styles list flag final same (λ e. unknown.1) unknown.0
 unknown-actions g list flag final same unknown = uncut-actions g list flag final same (λ e. cc) unknown
 
-pub canonical-alone : (a : Action) (flag : Bool) → InRange a → Canonical a flag → Alone flag a
-canonical-alone (Sgr s) flag range ok = spelling-alone flag (Sgr s) (sgr-spelling flag s range ok)
-canonical-alone (Unspecified list own final) flag range c =
-    rw c.same_flag (spelling-alone flag (Unspecified list flag final) (record {
+pub canonical-spelling : (a : Action) (flag : Bool) → InRange a → Canonical a flag → Spelling flag a
+canonical-spelling (Sgr s) flag range ok = sgr-spelling flag s range ok
+canonical-spelling (Unspecified list own final) flag range c =
+    rw c.same_flag (record {
       list = list;
       final = final;
       written = rw (encode_ascii final (omega (arith, c.ends.1))) refl;
       spellable = c.spellable;
       ends = c.ends;
       read = unknown-actions (group list final) list flag final refl c.unknown;
-    }))
-canonical-alone a flag range ok = spelling-alone flag a (written-back flag a ok)
+      closed = λ known. cc known;
+    })
+canonical-spelling a flag range ok = written-back flag a ok
+
+pub canonical-alone : (a : Action) (flag : Bool) → InRange a → Canonical a flag → Alone flag a
+canonical-alone a flag range ok = spelling-alone flag a (canonical-spelling a flag range ok)
 
 -- ---- What parsing makes: an unknown action is the last, and holds a suffix of the list; each is in range, and canonical or special.
 

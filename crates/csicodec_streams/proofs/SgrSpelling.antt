@@ -1,5 +1,5 @@
 -- Attributes: what the pieces of a list before `m` give, and the list that each is written as.
-use Rattle.std.proofs.Common.{ℕ, ◌≡◌, ◌<◌, List, [], ◌∷◌, arith, rules, Some, subst, ltb-true, pos, negsuc, zero, suc, ◌≤◌, ◌+◌, ◌-◌, take, ◌++◌, Bool, true, false, length, refl, ◌∙◌, append_assoc, append-nil, inl, inr, lt-ltb, le-ltb, le-leb, eqb-true, ◌==◌, encode_utf8}
+use Rattle.std.proofs.Common.{ℕ, ◌≡◌, ◌<◌, List, [], ◌∷◌, arith, rules, Some, subst, ltb-true, pos, negsuc, zero, suc, ◌≤◌, ◌+◌, ◌-◌, take, ◌++◌, Bool, true, false, length, refl, ◌∙◌, append_assoc, append-nil, inl, inr, lt-ltb, le-ltb, le-leb, eqb-true, ◌==◌, encode_utf8, slice_get}
 use Rattle.std.proofs.{lemmas.List.Elements.All-from_recursion, lemmas.Option.option_and_then_some, lemmas.Option.cond_some, lemmas.Option.same_Some}
 use Rattle.std.specs.Fmt.{decimal, digits}
 use Rattle.csicodec_tokens.specs.{declared.param.CsiParam.TheVariants.Integer, Digits.largest, Param.spells}
@@ -8,7 +8,7 @@ use Rattle.csicodec_base.specs.{Pieces.Piece, FrontBy.piece, SgrText.palette_tex
 use Rattle.csicodec_names.specs.{declared.color.ColorSpec.ColorSpec, declared.color.Intensity.TheVariants.Normal, declared.color.Intensity.TheVariants.Bold}
 use Rattle.csicodec_names.specs.{declared.color.Intensity.TheVariants.Half, declared.color.ColorSpec.TheVariants.PaletteIndex}
 use Rattle.csicodec_names.specs.{declared.color.ColorSpec.TheVariants.TrueColor, declared.color.SrgbaTuple.SrgbaTuple}
-use Rattle.csicodec_parser.specs.{Canonical.IsCanonicalSgr, declared.group.Group.TheVariants.Styles}
+use Rattle.csicodec_parser.specs.{Canonical.IsCanonicalSgr, Groups.is_byte, declared.group.Group.TheVariants.Styles}
 use Rattle.csicodec_actions.specs.Ranges.{ColorInRange, SgrInRange}
 use Rattle.csicodec_base.proofs.Table.{is_piece}
 use Rattle.csicodec_parser.proofs.Fronts.{style-list}
@@ -87,8 +87,9 @@ sgr-kept rest k s p =
 -- ---- a list that is one piece
 
 style : (flag : Bool) (s : sgr_type.Sgr) (t : CsiParam) (ts : List CsiParam) → text (Sgr s) ≡ 27 ∷ 91 ∷ (spells (t ∷ ts) ++ 109 ∷ [])
-    → Spellable (t ∷ ts) → has_odd Styles (t ∷ ts) ≡ false → piece (t ∷ ts) ≡ Some (s, length (t ∷ ts)) → Spelling flag (Sgr s)
-style flag s t ts written spellable plain whole = record {
+    → Spellable (t ∷ ts) → has_odd Styles (t ∷ ts) ≡ false → piece (t ∷ ts) ≡ Some (s, length (t ∷ ts))
+    → is_byte 59 (slice_get (t ∷ ts) (length (t ∷ ts) - 1)) ≡ false → Spelling flag (Sgr s)
+style flag s t ts written spellable plain whole last = record {
   list = t ∷ ts;
   final = 109;
   written = written;
@@ -101,12 +102,13 @@ style flag s t ts written spellable plain whole = record {
     stuck = stuck-empty Styles;
     all = refl;
   });
+  closed = λ known. rw (style-list (t ∷ ts) plain) last;
 }
 
 -- a single code
 single : (flag : Bool) (s : sgr_type.Sgr) (n : ℕ) → text (Sgr s) ≡ 27 ∷ 91 ∷ (decimal n ++ 109 ∷ []) → n ≤ largest → piece (Integer (pos n) ∷ []) ≡ Some (s, 1)
     → Spelling flag (Sgr s)
-single flag s n written fits whole = style flag s (Integer (pos n)) [] (written ∙ rw append-nil refl) (number-spellable n fits, tt, tt) refl whole
+single flag s n written fits whole = style flag s (Integer (pos n)) [] (written ∙ rw append-nil refl) (number-spellable n fits, tt, tt) refl whole refl
 
 -- ---- the texts of what stands in a colour
 
@@ -125,6 +127,7 @@ lined flag s d e fits whole =
     (search (rules, number-spellable, colon-spellable))
     refl
     whole
+    refl
 
 -- ---- what holds of numbers in a row
 
@@ -176,6 +179,7 @@ palette-spelling flag p i fits e small =
     (search (rules, number-spellable, colon-spellable))
     refl
     (palette-piece p i fits)
+    refl
 
 true_color-spelling : (flag : Bool) (p : Plane) (c : SrgbaTuple) → ColorInRange (TrueColor c) → text (Sgr (painted p (TrueColor c))) ≡ 27 ∷ 91 ∷ true_color_text (code_of p) c
     → code_of p < 256 → Spelling flag (Sgr (painted p (TrueColor c)))
@@ -188,6 +192,7 @@ true_color-spelling flag p c fits e small = elim (cases_Bool (c.3 == 255)) [
       (search (rules, number-spellable, colon-spellable))
       refl
       (rgb-piece p c.0 c.1 c.2 fits.0 fits.1 fits.2 ∙ rw (← full) refl)
+      refl
   | inr clear ↦
       style flag (painted p (TrueColor c)) (Integer (pos (code_of p)))
       (P 58 ∷ Integer (pos 6) ∷ P 58 ∷ P 58 ∷ Integer (pos c.0) ∷ P 58 ∷ Integer (pos c.1) ∷ P 58 ∷ Integer (pos c.2) ∷ P 58 ∷ Integer (pos c.3) ∷ [])
@@ -195,6 +200,7 @@ true_color-spelling flag p c fits e small = elim (cases_Bool (c.3 == 255)) [
       (search (rules, number-spellable, colon-spellable))
       refl
       (rgba-piece p c.0 c.1 c.2 c.3 fits.0 fits.1 fits.2 fits.3)
+      refl
 ]
 
 -- the code alone gives the place in the palette

@@ -3,7 +3,9 @@ use Rattle.std.specs.Prelude.{ℕ, ◌≡◌, ◌<◌, ◌≤◌, ◌==◌, ◌-
 use Rattle.std.specs.List.{list_any}
 use Rattle.csicodec_tokens.specs.{Sequence.Seq, declared.param.CsiParam.CsiParam, declared.param.CsiParam.TheVariants.Integer}
 use Rattle.csicodec_tokens.specs.{declared.param.CsiParam.TheVariants.P}
-use Rattle.csicodec_parser.specs.Groups.{is_byte}
+use Rattle.csicodec_actions.specs.Actions.{Action}
+use Rattle.csicodec_parser.specs.{Groups.is_byte, Segments.Actions}
+use Rattle.csicodec_terminal.specs.Terminal.{has_unknown}
 use Rattle.csicodec_streams.specs.Decoding.{NormalisesTo}
 
 -- Finals of sequences that terminals or programs read otherwise than the table of the codec (docs/DIFFERENCES.md), or tell apart where it doesn't:
@@ -30,9 +32,11 @@ is_spelled (P b) = b == 58
 abbrev pub has_spelling : List CsiParam → ℕ → Bool
 has_spelling list final = final == 109 && list_any is_spelled list
 
--- the sequence is written as it came
-abbrev pub is_kept : List CsiParam → ℕ → Bool
-is_kept list final = stays list final || has_spelling list final
+-- The sequence of this list, of which the table has these actions, is written as it came. So is one of which the table doesn't read all, as `?1049` and a space
+-- before `h`: what it reads of it does something, and terminals may ignore the whole list, or read more of it (`Terminal` of csicodec_terminal). Where it reads
+-- all, they take the list for the same actions (the law `agreement` there).
+abbrev pub is_kept : List CsiParam → ℕ → List Action → Bool
+is_kept list final actions = stays list final || (has_spelling list final || has_unknown actions)
 
 -- how many bytes a control sequence has at most, for the program
 abbrev pub longest : ℕ
@@ -46,6 +50,7 @@ IsShortForm bytes text = (form : List ℕ) × NormalisesTo bytes form
 
 -- the text is the bytes of such a sequence, and the normal form of any other, if that isn't too long
 abbrev pub IsFaithful : List ℕ → List ℕ → Type 0
-IsFaithful bytes text = (list : List CsiParam) × (final : ℕ) × Seq bytes list final
-    × (is_kept list final ≡ true → text ≡ bytes)
-    × (is_kept list final ≡ false → IsShortForm bytes text)
+IsFaithful bytes text = (list : List CsiParam) × (final : ℕ) × (actions : List Action)
+    × Seq bytes list final × Actions list false final actions
+    × (is_kept list final actions ≡ true → text ≡ bytes)
+    × (is_kept list final actions ≡ false → IsShortForm bytes text)

@@ -8,5 +8,6 @@ pub mod Faithful
 pub mod RoundTrip
 pub mod Streams
 pub mod Suffix
+pub mod Taken
 pub mod WhichRules
 pub mod Private

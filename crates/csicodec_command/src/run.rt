@@ -9,7 +9,7 @@ use crate::failure::{Failure, GONE};
 use crate::note::advice_of;
 use crate::options::WAITS;
 use crate::recording::is_recording;
-use csicodec_transform::{CHUNK, RunError, receive};
+use csicodec_transform::{READ, RunError, receive};
 use std::alloc::{AllocError, Global};
 use std::env::{Env, FillError};
 use std::fs::File;
@@ -302,15 +302,16 @@ pub fn text_of(rt: &HostRuntime, name: &str) -> Result<String, u8> {
     }
 }
 
-/// Reads the first bytes of an input: at least its first line, if that may be an object of JSON and isn't longer than a chunk.
+/// Reads the first bytes of an input: at least its first line, if that may be an object of JSON and has no more bytes than a run asks for
+/// at once. It asks for as many, so that a run which begins with these goes on as if it had read them itself.
 #[tactic(auto, using(crate::proofs::Turns::none_read, crate::proofs::Turns::read_more))]
 fn receive_front<R: Read>(alloc: Global, input: &mut R) -> Result<Vec<u8>, RunError>
     ensures read { IfOk result (λ front. Consumes (R.remaining input.old) (R.remaining input.new) front.items) }
     ensures err { IfErr result (λ e. (e ≡ RunError.Read) ⊎ (e ≡ RunError.Memory)) }
 {
     let mut front = Vec::new(alloc);
-    let mut chunk = [0u8; CHUNK];
-    for _ in 0..CHUNK {
+    let mut chunk = [0u8; READ];
+    for _ in 0..READ {
         let Some(room) = chunk.get_mut(front.len()..) else {
             return Ok(front);
         };
@@ -319,7 +320,7 @@ fn receive_front<R: Read>(alloc: Global, input: &mut R) -> Result<Vec<u8>, RunEr
         let Ok(()) = front.extend_from_slice(piece) else {
             return Err(RunError::Memory);
         };
-        let is_whole = piece.is_empty() || piece.contains(&b'\n') || front.len() >= CHUNK;
+        let is_whole = piece.is_empty() || piece.contains(&b'\n') || front.len() >= READ;
         if is_whole || front.first().copied() != Some(b'{') {
             return Ok(front);
         }

@@ -11,4 +11,4 @@ pub use error::{DecodeError, RunError};
 pub use io::{CHUNK, MOST, keep_from, read_out, read_some, receive, send, write_out};
 pub use known::Known;
 pub use memo::{Memo, Note, Noted, WIDE};
-pub use transform::{Transform, transform_all};
+pub use transform::{READ, Transform, transform_all};

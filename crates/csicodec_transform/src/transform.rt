@@ -41,8 +41,8 @@ pub trait Transform {
             ((rest : List ℕ) × ends self.old rest × (out.new.items ≡ out.old.items ++ rest)) };
 }
 
-/// How many bytes are asked of a reader at once.
-const READ: usize = 65536;
+/// How many bytes a run asks of its reader at once.
+pub const READ: usize = 65536;
 
 /// Takes what was read, in pieces, since a longer copy costs more for each byte; if that is all that is there now, nothing is put off.
 fn take_read<T: Transform>(

@@ -272,8 +272,8 @@ or of the kind totals, nothing is written.
 
 With no FILE, or when FILE is -, read standard input. A line is refused if it
 isn't such an object, if it is over 16 MiB long, or if no sequence has its
-actions. With actions alone it is also refused if it is over 8 MiB long, and may
-be if a value in it has a key text or hex.
+actions. With actions alone it is also refused if it is over 8 MiB long or has
+more than 262144 values, and may be if a value in it has a key text or hex.
 
   -h, --help     Show this text.";
 

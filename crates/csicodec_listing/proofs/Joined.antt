@@ -1,8 +1,10 @@
 -- Lines one after the other, and what they stand for.
+use Rattle.std.proofs.Common.{◌⊎◌}
 use Rattle.csicodec_listing.proofs.Common.{◌≡◌, inl, inr, ℕ, ◌+◌, ◌-◌, ◌^◌, ◌<◌, ◌≤◌, ◌==◌, zero, suc, min, Bool, true, false, not, List, [], ◌∷◌, ◌++◌, take, length, Result, Ok, Err, cond, refl, sym, ap, subst, ◌∙◌, append_assoc, append-nil, length-append, arith, and_parts, false_from_ne_true, le-ltb, lt-ltb, not-true, take_all, concat, list_all, Fault, TooLong, Refusal, IsTold, of_line}
 use Rattle.csicodec_listing.proofs.Shown.{read_back}
-use Rattle.memchr.specs.Find.{Nowhere, is_byte}
 use Rattle.csicodec_listing.specs.Lines.{AreKept, AreShown, Assembles, GiveAll, Gives, IsFirst, IsLineOf, IsRefused, Passes, Refuses, assembled, before, counted, ended, last_line, lines_from, most, of_bounded, of_lines, one_more}
+use Rattle.csicodec_listing.specs.Object.{HasMany, IsRefusalOf}
+use Rattle.memchr.specs.Find.{Nowhere, is_byte}
 use Rattle.memchr.specs.Find as find
 
 abbrev Answer : Type 0
@@ -25,6 +27,15 @@ bounded line short = rw (le-ltb most (length line) short) refl
 pub too_long : (line : List ℕ) → most < length line → of_bounded line ≡ Err TooLong
 too_long line long = rw (lt-ltb most (length line) long) refl
 
+-- a line that isn't too long is refused as it is by itself
+pub refused_bounded : (f : Fault) (line : List ℕ) → length line ≤ most → (of_line line ≡ Err f) ⊎ HasMany f line → (of_bounded line ≡ Err f) ⊎ HasMany f line
+refused_bounded f line short (inl told) = inl (bounded line short ∙ told)
+refused_bounded f line short (inr many) = inr many
+
+pub refusal_of : (e : Refusal) (line : List ℕ) → IsTold e (of_line line) → IsRefusalOf e line
+refusal_of (Refusal.Line f) line told = inl told
+refusal_of Refusal.Memory line told = tt
+
 -- ---- bytes that come
 
 pub passes_then : (a b c x y t u : List ℕ) (k l : List (List ℕ)) → Passes a x k t b → Passes b y l u c
@@ -43,10 +54,10 @@ pub last_gives : (line text : List ℕ) → (length line == 0) ≡ false → len
 last_gives [] text some short gives = cc some
 last_gives (l ∷ line) text some short gives = (text, [], sym (append-nil text), short, gives, refl)
 
-pub last_refused : (e : Refusal) (line : List ℕ) → (length line == 0) ≡ false → length line ≤ most → IsTold e (of_line line) → IsFirst e (last_line line)
+pub last_refused : (e : Refusal) (line : List ℕ) → (length line == 0) ≡ false → length line ≤ most → IsRefusalOf e line → IsFirst e (last_line line)
 last_refused Refusal.Memory line some short told = tt
 last_refused (Refusal.Line f) [] some short told = cc some
-last_refused (Refusal.Line f) (l ∷ line) some short told = (l ∷ line, [], refl, bounded (l ∷ line) short ∙ told)
+last_refused (Refusal.Line f) (l ∷ line) some short told = (l ∷ line, [], refl, refused_bounded f (l ∷ line) short told)
 
 -- the first of the lines that go on with a line is no shorter
 begins_at : (t : Bool) (line bytes : List ℕ) (own : List (List ℕ))
@@ -85,15 +96,15 @@ passes_run line run h = record { lines = λ more. run_on run line more h; all = 
 pub refused_long : (line run : List ℕ) → Runs run → most < length line + length run → IsRefused (Refusal.Line TooLong) line run
 refused_long line run h long = λ more.
     let (next, rest, e, le) = begins more (line ++ run) (omega (arith, length-append line run, long)) in
-    (next, rest, run_on run line more h ∙ e, too_long next (omega (arith, length-append line run, le, long)))
+    (next, rest, run_on run line more h ∙ e, inl (too_long next (omega (arith, length-append line run, le, long))))
 
 -- a line that bytes refuse is refused whatever comes then
 pub refused_then : (e : Refusal) (line bytes more rest : List ℕ) → rest ≡ bytes ++ more → IsRefused e line bytes → IsRefused e line rest
 refused_then e line bytes more rest split refuses = λ behind. rw (split, append_assoc bytes more behind) (refuses (more ++ behind))
 
 -- the end of a line that is refused
-pub refused_by : (e : Refusal) (line : List ℕ) → length line ≤ most → IsTold e (of_line line) → IsRefused e line (10 ∷ [])
-refused_by (Refusal.Line f) line short told = λ more. (line, lines_from [] more, refl, bounded line short ∙ told)
+pub refused_by : (e : Refusal) (line : List ℕ) → length line ≤ most → IsRefusalOf e line → IsRefused e line (10 ∷ [])
+refused_by (Refusal.Line f) line short told = λ more. (line, lines_from [] more, refl, refused_bounded f line short told)
 refused_by Refusal.Memory line short told = λ more. tt
 
 -- no byte ahead of the first LF is one

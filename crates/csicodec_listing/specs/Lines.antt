@@ -3,7 +3,7 @@ use Rattle.std.specs.Prelude.{ℕ, ◌≡◌, ◌≢◌, ◌⊎◌, ◌≤◌, �
 use Rattle.std.specs.{List.list_all, Str.is_utf8}
 use Rattle.hex.specs.Hex.{IsBytes}
 use Rattle.serde_json.specs.{Data.Data, Read.read}
-use Rattle.csicodec_listing.specs.{declared.object.Fault.Fault, declared.object.Refusal.Refusal, Object.Shows, Object.of_line}
+use Rattle.csicodec_listing.specs.{declared.object.Fault.Fault, declared.object.Refusal.Refusal, Object.HasMany, Object.Shows, Object.of_line}
 
 -- the most bytes of a line: 16 MiB
 abbrev pub most : ℕ
@@ -70,7 +70,8 @@ pub record Passes (first bytes : List ℕ) (over : List (List ℕ)) (text last :
 
 -- the first of some lines is refused, or memory ran out
 abbrev pub IsFirst : Refusal → List (List ℕ) → Type 0
-IsFirst (Refusal.Line f) lines = (line : List ℕ) × (others : List (List ℕ)) × (lines ≡ line ∷ others) × (of_bounded line ≡ Err f)
+IsFirst (Refusal.Line f) lines = (line : List ℕ) × (others : List (List ℕ)) × (lines ≡ line ∷ others)
+    × ((of_bounded line ≡ Err f) ⊎ HasMany f line)
 IsFirst Refusal.Memory lines = Unit {0}
 
 -- so is the line with which bytes go on, whatever comes behind them
@@ -94,7 +95,7 @@ pub record Refuses (number : ℕ) (f : Fault) (text bytes : List ℕ) : Type 0 w
   pub split : lines_from [] text ≡ ahead ++ line ∷ behind
   pub stand : GiveAll ahead bytes
   pub counted : number ≡ one_more (length ahead)
-  pub refused : of_bounded line ≡ Err f
+  pub refused : (of_bounded line ≡ Err f) ⊎ HasMany f line
 
 -- A line that shows some bytes as `explain --json` does, without its end.
 pub record IsLineOf (line bytes : List ℕ) : Type 0 where

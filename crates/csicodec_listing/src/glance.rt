@@ -1,9 +1,10 @@
 //! A line in the form that `explain --json` gives it, of which the text is read and nothing else kept.
 ghost use Rattle.std.specs.Prelude.{◌≡◌, ◌<◌, ◌++◌, [], ◌∷◌, ℕ, List, length, IfOk, IfSome, IsFalse, IsSome, IsTrue, IsUtf8, OnErr, OnOk, Ok, Some, option_map};
-ghost use Rattle.json.specs.{Print.IsNumber, Json.items, Json.members, Json.value};
+ghost use Rattle.json.specs.{Lex.tokens, Print.IsNumber, Json.items, Json.members, Json.value, Reads.token_of};
 ghost use Rattle.serde_json.specs.{Data.Data, Data.Items, Data.Members, Data.no_members, Data.put, Read.converted, Read.number_of, Read.of_items, Read.of_json};
 ghost use Rattle.serde_json.specs.{Read.of_members};
-ghost use Rattle.csicodec_listing.specs.{Object.of_line, Object.of_object, Private.Glance.Follow, Private.Glance.IsPlaced, Private.Glance.Says, Private.Glance.Stands};
+ghost use Rattle.csicodec_listing.specs.{Object.is_value, Object.most_values, Object.of_line, Object.of_object, Object.values_in, Private.Glance.Follow};
+ghost use Rattle.csicodec_listing.specs.{Private.Glance.IsPlaced, Private.Glance.Says, Private.Glance.Stands};
 ghost use Rattle.json.specs.Token as token;
 
 use crate::rests::Rests;
@@ -14,6 +15,32 @@ use std::alloc::{AllocError, Global};
 
 /// How deep arrays and objects may nest in the object of a line: as deep as serde_json reads them.
 const DEPTH: usize = 126;
+
+/// The most values of a line that is read for its members.
+const MOST: usize = 262_144;
+
+/// Whether a token begins a value, or is one.
+fn is_value(token: &Token<'_>) -> bool
+    ensures { result ≡ is_value (token_of token.now) }
+{
+    !matches!(token, Token::EndObject | Token::EndArray | Token::Key(_))
+}
+
+/// Whether there are more values than that.
+fn are_many(reader: &mut Reader<'_>) -> bool
+    ensures { IsTrue result → most_values < values_in reader.old }
+{
+    let mut count = 0;
+    'tokens: while let Some(token) = reader.next() {
+        if is_value(&token) {
+            if count == MOST {
+                return true;
+            }
+            count += 1;
+        }
+    }
+    false
+}
 
 /// Whether a number has digits alone, and is less than 2^64. Any other is left to serde_json.
 fn is_small(number: &str) -> bool
@@ -213,6 +240,20 @@ impl Glance {
         };
         out.extend_from_slice(text.as_bytes())?;
         Ok(true)
+    }
+
+    /// Whether a line has more values than one that is read for its members.
+    pub(crate) fn has_many(&mut self, line: &[u8]) -> Result<bool, AllocError>
+        ensures { IfOk result (λ many. IsTrue many → most_values < values_in (tokens line.now)) }
+    {
+        if line.len() <= MOST {
+            return Ok(false);
+        }
+        let Ok(text) = std::str::from_utf8(line) else {
+            return Ok(false);
+        };
+        let mut reader = Reader::new(text, &mut self.scratch)?;
+        Ok(are_many(&mut reader))
     }
 
     /// Appends the text of a line's object, where it has that form; whether it does. What follows its place is held with that.

@@ -2,7 +2,7 @@
 ghost use Rattle.std.specs.Prelude.{◌≡◌, ◌≤◌, ◌==◌, ◌++◌, ◌∷◌, [], ℕ, List, IfErr, IfNone, IfSome, OnErr, OnOk, not, true, vec_len};
 ghost use Rattle.std.specs.List.{list_all};
 ghost use Rattle.csicodec_listing.specs.Lines.{GiveAll, Gives, IsFirst, IsRefused, Passes, counted, last_line, most, one_more};
-ghost use Rattle.csicodec_listing.specs.Object.{IsTold, of_line};
+ghost use Rattle.csicodec_listing.specs.Object.{IsRefusalOf};
 
 use crate::glance::Glance;
 use crate::object::{Fault, Finds, Refusal, append_bytes};
@@ -70,7 +70,7 @@ impl<F: Finds> Assembler<F> {
         ensures same { OnErr result (self.new.line.items ≡ self.old.line.items) }
         ensures bytes { OnOk result ((text : List ℕ) × Gives self.old.line.items text
             × (out.new.items ≡ out.old.items ++ text)) }
-        ensures told { IfErr result (λ e. IsTold e (of_line self.old.line.items)) }
+        ensures told { IfErr result (λ e. IsRefusalOf e self.old.line.items) }
         ensures kept { OnErr result (out.new.items ≡ out.old.items) }
     {
         append_bytes(

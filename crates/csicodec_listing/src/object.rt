@@ -1,7 +1,7 @@
 //! One object, and the line that it stands in.
 ghost use Rattle.std.specs.Prelude.{◌≡◌, ◌++◌, ℕ, List, Err, IfErr, IfOk, Ok, OnErr, OnOk, Some};
-ghost use Rattle.csicodec_listing.specs.{declared.object.Fault.TheVariants.NoSequence, Lines.Gives, Object.IsTold, Object.fault_text, Object.of_hex, Object.of_line};
-ghost use Rattle.csicodec_listing.specs.{Object.of_object, Object.of_text, declared.object.Refusal.TheVariants.Memory};
+ghost use Rattle.csicodec_listing.specs.Object.{IsRefusalOf, IsTold, fault_text, of_hex, of_line, of_object, of_text};
+ghost use Rattle.csicodec_listing.specs.{declared.object.Fault.TheVariants.NoSequence, Lines.Gives, declared.object.Refusal.TheVariants.Memory};
 ghost use Rattle.hex.specs.Hex.{IsBytes};
 ghost use Rattle.serde_json.specs.{Find.as_str, View.view};
 
@@ -26,6 +26,8 @@ pub enum Fault {
     NoSequence,
     /// It has more bytes than a line may have.
     TooLong,
+    /// It has more values than a line has that is read for its members.
+    TooMany,
 }
 
 impl fmt::Display for Fault {
@@ -39,6 +41,7 @@ impl fmt::Display for Fault {
             Fault::Both => "both text and hex",
             Fault::NoSequence => "neither text nor hex, and no sequences have these actions",
             Fault::TooLong => "more than 16 MiB",
+            Fault::TooMany => "more than 262144 values",
         };
         f.write_str(text)
     }
@@ -156,7 +159,8 @@ fn bytes_given<F: Finds>(alloc: Global, finder: &mut F, line: &[u8]) -> Result<V
     }
 }
 
-/// Appends the bytes that a line gives.
+/// Appends the bytes that a line gives. One of many values isn't read for its members: these would take much more memory than it does.
+#[tactic(auto, using(crate::proofs::Joined::refusal_of))]
 pub(crate) fn append_bytes<F: Finds>(
     alloc: Global,
     glance: &mut Glance,
@@ -166,11 +170,14 @@ pub(crate) fn append_bytes<F: Finds>(
 ) -> Result<(), Refusal>
     ensures bytes { OnOk result ((text : List ℕ) × Gives line.now text
         × (out.new.items ≡ out.old.items ++ text)) }
-    ensures told { IfErr result (λ e. IsTold e (of_line line.now)) }
+    ensures told { IfErr result (λ e. IsRefusalOf e line.now) }
     ensures kept { OnErr result (out.new.items ≡ out.old.items) }
 {
     if glance.append_text(line, out)? {
         return Ok(());
+    }
+    if glance.has_many(line)? {
+        return Err(Refusal::Line(Fault::TooMany));
     }
     let bytes = bytes_given(alloc, finder, line)?;
     Ok(out.extend_from_slice(&bytes)?)

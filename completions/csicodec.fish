@@ -42,7 +42,7 @@ complete -c csicodec -n '__fish_seen_subcommand_from explain' -l count -d 'Show 
 complete -c csicodec -n '__fish_seen_subcommand_from explain' -l decode -d 'Show what is put into the clipboard (OSC 52) decoded from base64'
 complete -c csicodec -n '__fish_seen_subcommand_from explain' -l diff -d 'Compare two FILEs, and show the lines that differ, whatever their offsets. Exit 1 if any differ. It can'\''t be combined with --count, --json, --quiet, --stats or --timing'
 complete -c csicodec -n '__fish_seen_subcommand_from explain' -l full -d 'Show all bytes, however many there are, and each newline on a line of its own'
-complete -c csicodec -n '__fish_seen_subcommand_from explain' -l grep -x -d 'Show only what contains TEXT, in its bytes as they are or as they are shown, or in its words. Exit 1 if nothing does'
+complete -c csicodec -n '__fish_seen_subcommand_from explain' -l grep -x -d 'Show only what contains TEXT, in its bytes as they are or as they are shown, or in its words. It looks at each span alone, so a word that a sequence splits isn'\''t found. Exit 1 if nothing does'
 complete -c csicodec -n '__fish_seen_subcommand_from explain' -l ignore-case -d 'With --grep, ignore case'
 complete -c csicodec -n '__fish_seen_subcommand_from explain' -l input -d 'Read what a terminal sends, which is keys, mouse reports and answers. From a recording, list what was typed'
 complete -c csicodec -n '__fish_seen_subcommand_from explain' -l json -d 'Write a JSON object on each line, with at, kind, text or hex, and actions. An action has name, words, action and its fields. More than 64 KiB takes several objects, and in all but the last more is true'

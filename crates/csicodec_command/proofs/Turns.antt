@@ -1,9 +1,9 @@
 -- Turns one after the other, and what an input has behind its first bytes.
-use Rattle.csicodec_command.proofs.Common.{Bor, true, false, if◌then◌else◌, ◌==◌, inl, inr, ◌⊎◌, ◌≡◌, ◌∷◌, ◌++◌, ℕ, List, [], Option, None, Some, Result, Ok, Err, ap, drop, length, get_or, arith, refl, sym, subst, append_assoc, append-nil, ◌≤◌, ◌+◌, ◌<◌, ◌∙◌, at_drop_more, length-map, drop_of_length-le, Consumes-nil, Consumes-trans, Keeps-refl, map, Consumes, Keeps, prepend_known}
+use Rattle.csicodec_command.proofs.Common.{Bor, true, false, if◌then◌else◌, ◌==◌, inl, inr, ◌⊎◌, ◌≡◌, ◌∷◌, ◌++◌, ℕ, List, [], Option, None, Some, Result, Ok, Err, ap, drop, length, get_or, arith, refl, sym, subst, append_assoc, append-nil, ◌≤◌, ◌+◌, ◌<◌, ◌∙◌, at_drop_more, length-map, IfSome, drop_of_length-le, Consumes-nil, Consumes-trans, Keeps-refl, map, Consumes, Keeps, prepend_known}
 use Rattle.std.specs.{Fmt.option_append, Option.option_or, declared.io.buffered.BufReader.BufReader, Io.Buffered.reader_buffer, Io.Buffered.reader_capacity}
 use Rattle.std.specs.{Io.Buffered.reader_inner, Io.Buffered.reader_remaining, Result.IsErrAnd}
-use Rattle.csicodec_command.specs.Runs.{At, Closes, Ends, HasTurn, IsReadBy, IsRun, IsTold, IsUnread, MayBeRecording, Next, Recording, StepsOf, Stream, Through, ends_run, first_of}
-use Rattle.csicodec_command.specs.declared.failure.Failure.{Failure}
+use Rattle.csicodec_command.specs.Runs.{At, Closes, Ends, HasTurn, IsReadBy, IsRun, IsStopped, IsTold, IsUnread, MayBeRecording, Next, Recording, StepsOf, Stream, Through, ends_run, first_of}
+use Rattle.csicodec_command.specs.{declared.failure.Failure.Failure, declared.packed.Packing.Packing, Packed.Begins, Packed.magic}
 use Rattle.csicodec_transform.specs.declared.error.RunError.{RunError}
 
 abbrev pub named : List (Bor (List ℕ)) → List (List ℕ)
@@ -63,7 +63,7 @@ not_begun Steps name known start ahead begun result f begins is same = record {
 -- it came next, and then its first bytes couldn't be read, or it was written
 pub taken : {S : Type 0} (Steps : StepsOf S) (name : List ℕ) (known bytes : Option (List ℕ)) (start ahead end : At S)
     (begun result : Result (Unit {0}) Failure) → Steps (Next name) start begun ahead → begun ≡ Ok tt → Keeps known bytes
-    → ((IsUnread result × (end ≡ ahead)) ⊎ (Steps (Stream bytes) ahead result end ⊎ (MayBeRecording name known × Steps (Recording bytes) ahead result end)))
+    → ((IsUnread known result × (end ≡ ahead)) ⊎ (Steps (Stream bytes) ahead result end ⊎ (MayBeRecording name known × Steps (Recording bytes) ahead result end)))
     → IsReadBy Steps name known start result end
 taken Steps name known bytes start ahead end begun result begins is same reads = record {
   begun = begun;
@@ -80,10 +80,23 @@ pub handed_on : {A E : Type 0} (result : Result A E) (e : E) → IsErrAnd result
 handed_on (Ok x) e h = absurd h
 handed_on (Err y) e h = ap Err h
 
-pub unread : (result : Result (Unit {0}) Failure) (e : Failure) → result ≡ Err e
-    → (e ≡ Failure.Run RunError.Read) ⊎ (e ≡ Failure.Run RunError.Memory) → IsUnread result
-unread result e is (inl read) = inl (is ∙ ap Err read)
-unread result e is (inr memory) = inr (is ∙ ap Err memory)
+-- a read of the first bytes that failed
+pub unread : (before : Option (List ℕ)) (f : Failure) → (f ≡ Failure.Run RunError.Read) ⊎ (f ≡ Failure.Run RunError.Memory) → IsStopped before f
+unread before f (inl read) = inl read
+unread before f (inr memory) = inr (inl memory)
+
+-- what the front begins with, all begins with
+pub packed_known : (before after : Option (List ℕ)) (front : List ℕ) (packing : Packing) → Consumes before after front → Begins packing front
+    → IfSome before (Begins packing)
+packed_known None after front packing h begins = tt
+packed_known (Some all) None front packing h begins = absurd h
+packed_known (Some all) (Some rest) front packing h (behind, is) =
+    (behind ++ rest, h ∙ ap (λ (l : List ℕ). l ++ rest) is ∙ append_assoc (magic packing) behind rest)
+
+-- so an input is refused for its front
+pub packed : (before after : Option (List ℕ)) (front : List ℕ) (packing : Packing) → Consumes before after front → Begins packing front
+    → IsStopped before (Failure.Packed packing)
+packed before after front packing h begins = inr (inr (packing, refl, packed_known before after front packing h begins))
 
 -- the front and the rest in one
 pub chained : (before after whole : Option (List ℕ)) (front piece : List ℕ) → Consumes before after front → piece ≡ front

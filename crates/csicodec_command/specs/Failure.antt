@@ -1,6 +1,6 @@
 -- What a program tells of a run that failed.
 use Rattle.csicodec_command.specs.Common.{ℕ, true, false, List, [], codes, decimal, digits, format_spec, padded_integral, fault_text, run_error_text, run_status}
-use Rattle.csicodec_command.specs.{declared.failure.Failure.Failure, declared.failure.Found.Found}
+use Rattle.csicodec_command.specs.{declared.failure.Failure.Failure, declared.failure.Found.Found, Packed.packing_text}
 use Rattle.std.specs.Prelude.{◌-◌, ◌^◌, ◌++◌}
 
 -- the number of a character, as Unicode writes it: in capital digits of base 16, of which there are four at least
@@ -28,6 +28,7 @@ line Failure.Apart = codes "csicodec: options that don't go together"
 line Failure.NoValue = codes "csicodec: a value is missing"
 line Failure.NotValue = codes "csicodec: not a value"
 line Failure.Open = codes "csicodec: the file can't be opened"
+line (Failure.Packed packing) = codes "csicodec: " ++ packing_text packing
 line (Failure.Recording n) = codes "csicodec: line " ++ decimal n ++ codes ": not an asciicast of version 2 or 3"
 line (Failure.Times n) = codes "csicodec: line " ++ decimal n ++ codes ": no time of script"
 line (Failure.Object n fault) = codes "csicodec: line " ++ decimal n ++ codes ": " ++ fault_text fault
@@ -38,6 +39,7 @@ line (Failure.Run error) = codes "csicodec: " ++ run_error_text error
 -- the status of each failure
 abbrev pub status : Failure → ℕ
 status Failure.Open = 2
+status (Failure.Packed _) = 1
 status (Failure.Recording _) = 1
 status (Failure.Times _) = 1
 status (Failure.Object _ _) = 1

@@ -1,6 +1,6 @@
 -- A run over inputs, one after the other: what is asked of what works on them, which turn each had, and the status at the end.
 use Rattle.csicodec_command.specs.Common.{ℕ, Bool, true, false, List, [], map, eqb, codes, Option, None, Some, Result, Ok, Err, IfSome, OnOk, OnErr, MatchResult, ends_with, Keeps, Bor}
-use Rattle.csicodec_command.specs.{declared.failure.Failure.Failure, Failure.status}
+use Rattle.csicodec_command.specs.{declared.failure.Failure.Failure, declared.packed.Packing.Packing, Failure.status, Packed.Begins}
 use Rattle.std.specs.Prelude.{◌≡◌, ◌⊎◌, ◌∷◌}
 use Rattle.csicodec_transform.specs.declared.error.RunError.{RunError}
 
@@ -35,12 +35,20 @@ abbrev pub MayBeRecording : List ℕ → Option (List ℕ) → Type 0
 MayBeRecording name known = (ends_with eqb name (codes ".cast") ≡ true)
     ⊎ ((name ≡ codes "-") × IfSome known (λ bytes. (rest : List ℕ) × (bytes ≡ 123 ∷ rest)))
 
--- its first bytes couldn't be read, or there was no memory for them
-abbrev pub IsUnread : Result (Unit {0}) Failure → Type 0
-IsUnread result = (result ≡ Err (Failure.Run RunError.Read)) ⊎ (result ≡ Err (Failure.Run RunError.Memory))
+-- It is refused for its first bytes, which no stream begins with.
+abbrev pub IsPacked : Option (List ℕ) → Failure → Type 0
+IsPacked known f = (packing : Packing) × (f ≡ Failure.Packed packing) × IfSome known (Begins packing)
+
+-- The first bytes of an input, which may be these, couldn't be read, or there was no memory for them, or it is refused for them.
+abbrev pub IsStopped : Option (List ℕ) → Failure → Type 0
+IsStopped known f = (f ≡ Failure.Run RunError.Read) ⊎ ((f ≡ Failure.Run RunError.Memory) ⊎ IsPacked known f)
+
+-- so it wasn't worked on
+abbrev pub IsUnread : Option (List ℕ) → Result (Unit {0}) Failure → Type 0
+IsUnread known result = (f : Failure) × (result ≡ Err f) × IsStopped known f
 
 -- An input of this name was worked on, whose bytes these are where they are known: it came next, and then it was written, as a
--- recording only where it may be one, unless its first bytes couldn't be read.
+-- recording only where it may be one, unless its first bytes couldn't be read, or say that it is no stream.
 pub record IsReadBy {S : Type 0} (Steps : StepsOf S) (name : List ℕ) (known : Option (List ℕ)) (start : At S)
     (result : Result (Unit {0}) Failure) (end : At S) : Type 0 where
   pub begun : Result (Unit {0}) Failure
@@ -49,7 +57,7 @@ pub record IsReadBy {S : Type 0} (Steps : StepsOf S) (name : List ℕ) (known : 
   pub failed : OnErr begun ((result ≡ begun) × (end ≡ ahead))
   pub bytes : Option (List ℕ)
   pub same : Keeps known bytes
-  pub reads : OnOk begun ((IsUnread result × (end ≡ ahead))
+  pub reads : OnOk begun ((IsUnread known result × (end ≡ ahead))
       ⊎ (Steps (Stream bytes) ahead result end ⊎ (MayBeRecording name known × Steps (Recording bytes) ahead result end)))
 
 -- The input of this name had its turn: it couldn't be opened, which leaves all as it was, or it was worked on.

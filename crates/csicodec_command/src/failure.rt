@@ -3,6 +3,7 @@ ghost use Rattle.csicodec_command.specs.{Common.Some, Common.RunError, Failure.f
 ghost use Rattle.csicodec_command.specs.{declared.failure.Failure.TheVariants.Run as Ran};
 ghost use Rattle.std.specs.Prelude.{◌≡◌};
 
+use crate::packed::Packing;
 use csicodec_listing::Fault;
 use csicodec_transform::RunError;
 use std::alloc::AllocError;
@@ -69,6 +70,8 @@ pub enum Failure {
     NotValue,
     /// The file can't be opened.
     Open,
+    /// It is no stream, but what a stream may be packed in.
+    Packed(Packing),
     /// The line of this number, counted from 1, isn't one of an asciicast; 0 where there is none.
     Recording(u64),
     /// The line of this number, counted from 1, isn't one of the times that `script` writes.
@@ -105,7 +108,8 @@ impl Failure {
     {
         match self {
             Failure::Open => 2,
-            Failure::Recording(_)
+            Failure::Packed(_)
+            | Failure::Recording(_)
             | Failure::Times(_)
             | Failure::Object(_, _)
             | Failure::NotPlain(_, _, _) => 1,
@@ -136,6 +140,7 @@ impl fmt::Display for Failure {
             Failure::NoValue => "csicodec: a value is missing",
             Failure::NotValue => "csicodec: not a value",
             Failure::Open => "csicodec: the file can't be opened",
+            Failure::Packed(packing) => return write!(f, "csicodec: {packing}"),
             Failure::Recording(line) => {
                 return write!(
                     f,

@@ -6,12 +6,14 @@ mod command;
 mod failure;
 mod note;
 mod options;
+mod packed;
 mod recorded;
 mod recording;
 mod run;
 
 pub use command::{Request, Task, Wrong, nearest};
 pub use failure::{Failure, Found};
+pub use packed::Packing;
 pub use recorded::Recorded;
 pub use recording::{Recording, line_front, micros, time_of};
 pub use run::{

@@ -226,7 +226,8 @@ before it.
 With no FILE, or when FILE is -, read standard input. With several FILEs, show
 their names. From an asciinema recording, list what the programs wrote, with the
 time in seconds as a first column. A FILE is one if its name ends in .cast, and
-standard input if it begins like one.
+standard input if it begins like one. With --full, --grep and --decode memory
+holds a text or a string until it is over, however long it is.
 
   --at PLACES     Show only what has a byte at these offsets, such as 120,
                   120-180 or 120-. Separate several with commas.
@@ -241,7 +242,9 @@ standard input if it begins like one.
   --full          Show all bytes, however many there are, and each newline on a
                   line of its own.
   --grep TEXT     Show only what contains TEXT, in its bytes as they are or as
-                  they are shown, or in its words. Exit 1 if nothing does.
+                  they are shown, or in its words. It looks at each span alone,
+                  so a word that a sequence splits isn't found. Exit 1 if
+                  nothing does.
   -i, --ignore-case  With --grep, ignore case.
   --input         Read what a terminal sends, which is keys, mouse reports and
                   answers. From a recording, list what was typed.

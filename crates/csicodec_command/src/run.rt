@@ -1,6 +1,6 @@
 //! A run of a program: its words, its inputs one after the other, and what it tells of what failed.
 ghost use Rattle.csicodec_command.specs.Common.{[], ℕ, List, Option, None, Some, true, map, eqb, codes, IfErr, IfOk, ends_with, Consumes, RunError};
-ghost use Rattle.csicodec_command.specs.Runs.{Asked, Closes, GoesOf, HasTurn, IsReadBy, IsRun, IsTold, MayBeRecording, StepsOf, Through, failure_of, first_of, names_of};
+ghost use Rattle.csicodec_command.specs.Runs.{Asked, Closes, GoesOf, HasTurn, IsReadBy, IsRun, IsStopped, IsTold, MayBeRecording, StepsOf, Through, failure_of, first_of, names_of};
 ghost use Rattle.csicodec_command.specs.{Failure.status, declared.failure.Failure.TheVariants.Run as Ran};
 ghost use Rattle.std.specs.Prelude.{◌≡◌, ◌⊎◌, ◌∷◌};
 
@@ -8,6 +8,7 @@ use crate::command::{Invocation, Request, UNREADABLE, Wrong, command_of};
 use crate::failure::{Failure, GONE};
 use crate::note::advice_of;
 use crate::options::WAITS;
+use crate::packed::packing_of;
 use crate::recording::is_recording;
 use csicodec_transform::{READ, RunError, receive};
 use std::alloc::{AllocError, Global};
@@ -21,6 +22,8 @@ const INPUT: &str = "-";
 /// Which inputs are recordings of asciinema.
 #[derive(Clone, Copy)]
 pub enum Recordings {
+    /// None, and standard input is read at once: where its first bytes are looked at, someone at a terminal has to end it twice.
+    Direct,
     /// None, whatever the input has.
     Never,
     /// A file whose name says so.
@@ -86,6 +89,11 @@ pub trait Alone {
         true
     }
 
+    /// Whether standard input is read at once, and its first bytes aren't looked at.
+    fn reads_directly(&self) -> bool {
+        true
+    }
+
     /// Works on this input, to its end.
     fn work<R: Read, W: Write>(
         &mut self,
@@ -103,7 +111,11 @@ impl<T: Alone> Worker for T {
     ghost steps = { AloneSteps T.goes };
 
     fn recordings(&self) -> Recordings {
-        Recordings::Never
+        if self.reads_directly() {
+            Recordings::Direct
+        } else {
+            Recordings::Never
+        }
     }
 
     fn tells_reasons(&self) -> bool {
@@ -328,8 +340,10 @@ fn receive_front<R: Read>(alloc: Global, input: &mut R) -> Result<Vec<u8>, RunEr
     Ok(front)
 }
 
-/// Whether the input of this name is a recording, if inputs may be, and which of its first bytes were read to know it.
+/// Whether the input of this name is a recording, if inputs may be, and which of its first bytes were read to know it. `Packed` where
+/// these say that it is no stream.
 #[inline(never)]
+#[tactic(auto, using(crate::proofs::Turns::packed, crate::proofs::Turns::unread))]
 fn look_ahead<R: Read>(
     alloc: Global,
     recordings: Recordings,
@@ -338,16 +352,21 @@ fn look_ahead<R: Read>(
 ) -> Result<(bool, Vec<u8>), Failure>
     ensures front { IfOk result (λ seen. Consumes (R.remaining input.old) (R.remaining input.new) seen.1.items) }
     ensures known { IfOk result (λ seen. seen.0 ≡ true → MayBeRecording name.now (R.remaining input.old)) }
-    ensures err { IfErr result (λ e. (e ≡ Ran RunError.Read) ⊎ (e ≡ Ran RunError.Memory)) }
+    ensures err { IfErr result (IsStopped (R.remaining input.old)) }
 {
-    match recordings {
-        Recordings::Never => Ok((false, Vec::new(alloc))),
-        Recordings::Known if name == INPUT => {
-            let front = receive_front(alloc, input)?;
-            Ok((is_recording(alloc, &front)?, front))
-        }
-        _ => Ok((is_cast(name), Vec::new(alloc))),
+    if name == INPUT && matches!(recordings, Recordings::Direct) {
+        return Ok((false, Vec::new(alloc)));
     }
+    let front = receive_front(alloc, input)?;
+    if let Some(packing) = packing_of(&front) {
+        return Err(Failure::Packed(packing));
+    }
+    let is_recording = match recordings {
+        Recordings::Direct | Recordings::Never => false,
+        Recordings::Known if name == INPUT => is_recording(alloc, &front)?,
+        _ => is_cast(name),
+    };
+    Ok((is_recording, front))
 }
 
 /// Works on the input of this name, which is read from there.

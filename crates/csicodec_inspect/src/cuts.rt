@@ -25,6 +25,10 @@ impl Cuts {
 impl Alone for Cuts {
     ghost goes = { TellsCuts };
 
+    fn reads_directly(&self) -> bool {
+        false
+    }
+
     fn work<R: Read, W: Write>(
         &mut self,
         alloc: Global,

@@ -83,10 +83,9 @@ turn_written holds name bytes unwraps at next is of_data may (inr r) = read r.ah
     no_recording ahead same own is_one (inr never) wrote = absurd (never is_one)
 
     read : (ahead : At Job) (known : Option (List ℕ)) → ahead ≡ at → Keeps (Some bytes) known
-        → (IsUnread (Ok tt) × (next ≡ ahead)) ⊎ (JobSteps (Stream known) ahead (Ok tt) next
+        → (IsUnread (holds name) (Ok tt) × (next ≡ ahead)) ⊎ (JobSteps (Stream known) ahead (Ok tt) next
         ⊎ (MayBeRecording name (holds name) × JobSteps (Recording known) ahead (Ok tt) next)) → Turned name bytes at next
-    read ahead known same keeps (inl (inl e, stays)) = cc e
-    read ahead known same keeps (inl (inr e, stays)) = cc e
+    read ahead known same keeps (inl ((f, e, why), stays)) = cc e
     read ahead None same keeps (inr step) = absurd keeps
     read ahead (Some all) same keeps (inr (inl (still, d))) = record {
       own = bytes;

@@ -1,5 +1,5 @@
 use Rattle.csicodec_command.proofs.{Common.Some, Common.inl, Common.inr, Common.refl, Common.Err, Common.Keeps-refl, Common.chain_remaining, Turns.buffered}
-use Rattle.csicodec_command.proofs.{Turns.chained, Turns.handed_on, Turns.not_begun, Turns.taken, Turns.unread}
+use Rattle.csicodec_command.proofs.{Turns.chained, Turns.handed_on, Turns.not_begun, Turns.taken}
 use Rattle.csicodec_command.proofs.run.read_through.Goals as goal
 
 pub returns-in_err-begin : goal.returns-in_err-begin
@@ -11,7 +11,7 @@ pub returns-in_err-is_recording : goal.returns-in_err-is_recording
 returns-in_err-is_recording g c =
     let r = c.from_residual-in_err-is_recording in
     taken _ _ _ _ _ _ _ c.begin.result r.result c.begin.ensures c.in_ok-begin.was (Keeps-refl _)
-    (inl (unread r.result _ (handed_on r.result _ r.ensures.1) c.in_err-is_recording.ensures.err, refl))
+    (inl ((_, handed_on r.result _ r.ensures.1, c.in_err-is_recording.ensures.err), refl))
 
 pub returns-then-not-is_recording : goal.returns-then-not-is_recording
 returns-then-not-is_recording g c =
@@ -27,4 +27,4 @@ returns-in-Ok g c =
     (inr (inr (c.in_ok-is_recording.ensures.known c.if-not-is_recording.false, c.read_cast.ensures)))
 
 pub returns : goal.returns
-returns g c = taken _ _ _ _ _ _ _ c.begin.result (Err _) c.begin.ensures c.in_ok-begin.was (Keeps-refl _) (inl (inr refl, refl))
+returns g c = taken _ _ _ _ _ _ _ c.begin.result (Err _) c.begin.ensures c.in_ok-begin.was (Keeps-refl _) (inl ((_, refl, inr (inl refl)), refl))

@@ -159,16 +159,22 @@ HasRoom limit columns cells (c ∷ chars) = MatchBool (c == 10) (HasRoom limit 0
 
 -- at the start
 abbrev pub fresh : Pen
-fresh = record { look = plain; inserts = false; last = None; saved = 0; here = false; row = None }
+fresh = record { look = plain; inserts = false; last = None; saved = 0; saved_look = plain; here = false; row = None }
 
--- behind a step that is done in this column: but for characters nothing is repeated, of a mark the character before it, and no column is
--- saved that no terminal's row has
+-- Behind a step that is done in this column: but for characters nothing is repeated, of a mark the character before it, and no column is
+-- saved that no terminal's row has. With a place the look is saved, and comes back with it (DECSC and DECRC of the VT510, and xterm's
+-- ctlseqs, also of SCOSC, SCORC, 1048 and 1049): it is plain where none was saved.
 abbrev pub pen_behind : Pen → Step → ℕ → Pen
 pen_behind pen (Step.Put c) column = record pen { last = if width c 0 == 0 then pen.last else Some c }
 pen_behind pen (Step.Attribute s) column = record pen { look = behind pen.look s; last = None }
 pen_behind pen (Step.Inserts inserts) column = record pen { inserts = inserts; last = None }
-pen_behind pen Step.Save column = record pen { last = None; saved = if nat_lt column widest then column else 0; here = nat_lt column widest }
-pen_behind pen Step.Restore column = record pen { last = None; here = true; row = None }
+pen_behind pen Step.Save column = record pen {
+  last = None;
+  saved = if nat_lt column widest then column else 0;
+  saved_look = pen.look;
+  here = nat_lt column widest;
+}
+pen_behind pen Step.Restore column = record pen { look = pen.saved_look; last = None; here = true; row = None }
 pen_behind pen Step.NewLine column = record pen { last = None; here = false; row = None }
 pen_behind pen (Step.Leave to) column = record pen { last = None; here = false; row = None }
 pen_behind pen (Step.Row row to) column = record pen { last = None; here = is_row pen.row row && pen.here; row = Some row }

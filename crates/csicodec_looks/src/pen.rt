@@ -6,7 +6,7 @@ use crate::look::Look;
 use crate::step::{Step, WIDEST};
 use crate::width::width;
 
-/// How characters are put that come now, and the place that is saved.
+/// How characters are put that come now, and the place and the look that are saved.
 #[derive(Clone, Copy)]
 pub struct Pen {
     /// How they look.
@@ -17,6 +17,8 @@ pub struct Pen {
     pub last: Option<char>,
     /// The columns left of the saved place, at most 511; 0 where none is saved.
     pub saved: usize,
+    /// How characters looked there; plain where none is saved.
+    pub saved_look: Look,
     /// Whether that place is in this row.
     pub here: bool,
     /// The row that was given last (CUP, HVP, VPA), if it wasn't left since.
@@ -33,6 +35,7 @@ impl Pen {
             inserts: false,
             last: None,
             saved: 0,
+            saved_look: Look::plain(),
             here: false,
             row: None,
         }
@@ -71,8 +74,10 @@ impl Pen {
             Step::Save => {
                 self.here = column < WIDEST as usize;
                 self.saved = if self.here { column } else { 0 };
+                self.saved_look = self.look;
             }
             Step::Restore => {
+                self.look = self.saved_look;
                 self.here = true;
                 self.row = None;
             }

@@ -45,9 +45,9 @@ pub enum Step {
     Attribute(Sgr),
     /// Characters that are put behind it move what stands at the cursor to the right, or they don't.
     Inserts(bool),
-    /// The place of the cursor is saved.
+    /// The place of the cursor is saved, and how characters look.
     Save,
-    /// To the saved place: in this row, or in another, and so a line of its own.
+    /// To the saved place, and characters look as they did there: in this row, or in another, and so a line of its own.
     Restore,
     /// Nothing is set or saved any more.
     Reset,

@@ -39,7 +39,7 @@ module _ (P : ℕ → Type 0) (Q : Look → Type 0) (R : Sgr → Type 0) where
   OfLast (Some c) = P c
 
   abbrev pub OfPen : Pen → Type 0
-  OfPen pen = Q pen.look × OfLast pen.last
+  OfPen pen = Q pen.look × Q pen.saved_look × OfLast pen.last
 
   alike : (n : ℕ) (x : Cell) → OfCell x → OfCells (replicate n x)
   alike zero x h = tt
@@ -158,7 +158,7 @@ module _ (P : ℕ → Type 0) (Q : Look → Type 0) (R : Sgr → Type 0) where
 
     of_here : (limit : ℕ) (pen : Pen) (s : Step) (l : Line) → OfPen pen → OfStep s → OfLine l → OfDone (does_here limit pen s l)
     of_here limit pen (Step.Put c) l q p h = of_put limit pen.inserts (glyph c pen.look) l (p, q.0) h
-    of_here limit pen (Step.Repeat n) l q p h = of_repeated limit pen pen.last n l q.0 q.1 h
+    of_here limit pen (Step.Repeat n) l q p h = of_repeated limit pen pen.last n l q.0 q.2 h
     of_here limit pen Step.Tab l q p h =
         either OfDone (length l.right == 0) (put limit pen.inserts (glyph 9 pen.look) l) (done [] (forward limit (to_tab_stop (columns l.left)) l))
         (of_put limit pen.inserts (glyph 9 pen.look) l (tab, q.0) h)
@@ -196,10 +196,12 @@ module _ (P : ℕ → Type 0) (Q : Look → Type 0) (R : Sgr → Type 0) where
         (all-append OfCells e.lines (does_here limit pen s e.line).lines first.0 here.0, here.1)
 
     pen_kept : (pen : Pen) (s : Step) (column : ℕ) → OfPen pen → OfStep s → OfPen (pen_behind pen s column)
-    pen_kept pen (Step.Put c) column q p = (q.0, either OfLast (width c 0 == 0) pen.last (Some c) q.1 p)
-    pen_kept pen (Step.Attribute s) column q p = (kept pen.look s q.0 p, tt)
-    pen_kept pen Step.Reset column q p = (plain_kept, tt)
-    pen_kept pen _ column q p = (q.0, tt)
+    pen_kept pen (Step.Put c) column q p = (q.0, q.1, either OfLast (width c 0 == 0) pen.last (Some c) q.2 p)
+    pen_kept pen (Step.Attribute s) column q p = (kept pen.look s q.0 p, q.1, tt)
+    pen_kept pen Step.Reset column q p = (plain_kept, plain_kept, tt)
+    pen_kept pen Step.Save column q p = (q.0, q.0, tt)
+    pen_kept pen Step.Restore column q p = (q.1, q.1, tt)
+    pen_kept pen _ column q p = (q.0, q.1, tt)
 
     pub of_all : (limit : ℕ) (pen : Pen) (steps : List Step) (l : Line) → OfPen pen → AllByRecursion OfStep steps → OfLine l → OfDone (do_all limit pen steps l)
     of_all limit pen [] l q p h = (tt, h)
@@ -218,7 +220,7 @@ module _ (P : ℕ → Type 0) (Q : Look → Type 0) (R : Sgr → Type 0) where
     pub of_done : (limit : ℕ) (steps : List Step) → AllByRecursion OfStep steps → OfCells (cells_by (do_all limit fresh steps blank))
     of_done limit steps p =
         let d = do_all limit fresh steps blank in
-        let all = of_all limit fresh steps blank (plain_kept, tt) p (tt, tt) in
+        let all = of_all limit fresh steps blank (plain_kept, plain_kept, tt) p (tt, tt) in
         all-append OfCell (flat_map line_cells d.lines) (cells_of d.line) (of_lines d.lines all.0) (of_line d.line all.1)
 
 -- ---- What is written is plain: UTF-8 of characters that are shown.

@@ -139,8 +139,8 @@ def check(rows):
                 refuse(TABLE, key, f"its form has {len(FIELDS[row['form']])} fields")
             if row["form"] not in FIELDS and row["form"].split()[0] not in (*HOLDS, "enum", "one"):
                 refuse(TABLE, key, f"there is no form {row['form']}")
-            if name in ("Cursor", "Edit") and not isinstance(row.get("in_line"), bool):
-                refuse(TABLE, key, "it has no in_line")
+            if name in core.ACTS and row.get("in_line") not in core.IN_LINE:
+                refuse(TABLE, key, f"in_line says what it does in a line that is overwritten: {', '.join(core.IN_LINE)}")
 
 
 def files(rows):

@@ -50,10 +50,10 @@ def fields(action):
     return ", ".join(action.row["fields"])
 
 
-def arm(pattern, said):
+def arm(pattern, said, indent=12):
     """An arm, in a block where its line is too long."""
-    line = f"            {pattern} => {said},"
-    return [line] if len(line) <= WIDTH else [f"            {pattern} => {{", f"                {said}", "            }"]
+    line, ahead = f"{pattern} => {said},", " " * indent
+    return [ahead + line] if len(ahead + line) <= WIDTH else [f"{ahead}{pattern} => {{", f"{ahead}    {said}", f"{ahead}}}"]
 
 
 # ---- csicodec_actions
@@ -70,12 +70,12 @@ def write_arms(actions):
             yield f"            {rust(action)}({of}) => write_count(text, {given}, {byte(action.row['final'])}),"
 
 
-def either(patterns, said):
+def either(patterns, said, indent=12):
     """An arm of several patterns, on a line where they fit."""
-    line = "            " + " | ".join(patterns)
-    if len(f"{line} => {{") <= WIDTH and "\n" not in line:
-        return arm(line.strip(), said)
-    return ("            " + "\n            | ".join(patterns) + f" => {said},").split("\n")
+    line, ahead = " | ".join(patterns), " " * indent
+    if len(f"{ahead}{line} => {{") <= WIDTH and "\n" not in line:
+        return arm(line, said, indent)
+    return (ahead + f"\n{ahead}| ".join(patterns) + f" => {said},").split("\n")
 
 
 def canonical_arms(actions):
@@ -249,17 +249,59 @@ def of_edit(actions):
     yield "crates/csicodec_structs/proofs/Moved.antt", Part(list(together("edits", ("OneEdit", ""), ("one_count", ""), actions)), (head, ""), behind)
 
 
-# Where csicodec_overwrite says what acts within a line, and by which name.
-OVERWRITE = {"src/text.rt": rust, "specs/Steps.antt": lambda action: f"{action.subject}.{action.variant[0]}"}
+# ---- csicodec_overwrite
+
+
+# What an action does in a line that is overwritten, in the source and in the definitions, by `in_line` of its row: it goes to another row, or maybe
+# so, in the same column or to the first, or it does nothing there. Of one that acts there they say by hand what.
+IN_LINE = {"leaves": ("Some(Step::Leave(None))", "Step.Leave None ∷ []"), "first": ("Some(Step::Leave(Some(1)))", "Step.Leave (Some 1) ∷ []"), "nothing": ("None", "[]"), "acts": None}
+STEPS, TEXT = (f"crates/csicodec_overwrite/{path}" for path in ("specs/Steps.antt", "src/text.rt"))
+# The last lines by hand ahead of what is written for each subject.
+ACTS = {
+    "Cursor": ("of_cursor (Cursor.LinePositionAbsolute row) = Step.Row row None ∷ []", "        Cursor::LinePositionAbsolute(row) => Some(Step::Row(*row, None)),"),
+    "Edit": ("of_edit (Edit.EraseInDisplay EraseInDisplay.EraseScrollback) = []", "        Edit::EraseInDisplay(EraseInDisplay::EraseScrollback) => None,"),
+}
+
+
+def any_of(action):
+    """It with any numbers, in the definitions and in the source."""
+    spec, source = f"{action.subject}.{action.variant[0]}", rust(action)
+    if action.form == "unit":
+        return spec, source
+    return (f"({spec} a b)", f"{source} {{ .. }}") if action.form == "places" else (f"({spec} x)", f"{source}(_)")
+
+
+def lines_of_steps(function, rows):
+    """Lines of a definition: of each pattern what it does in a line."""
+    return [f"{function} {pattern} = {IN_LINE[does][1]}" for does in IN_LINE for pattern, of in rows if of == does and IN_LINE[does]]
+
+
+def arms_of_steps(rows):
+    """Arms of the source, one for all patterns that do the same."""
+    grouped = [([pattern for pattern, of in rows if of == does], said[0]) for does, said in IN_LINE.items() if said]
+    return [line for patterns, said in grouped if patterns for line in either(patterns, said, 8)]
+
+
+def of_steps(subject):
+    """What its actions do in a line, but for those that act there."""
+    of, (spec, source) = low(subject.name), ACTS[subject.name]
+    rows = [(*any_of(action), action.row["in_line"]) for action in subject.actions]
+    yield STEPS, Part(lines_of_steps(f"of_{of}", [(row[0], row[2]) for row in rows]), (f"abbrev pub of_{of} : {subject.name} → List Step", spec), "")
+    yield TEXT, Part(arms_of_steps([row[1:] for row in rows]), (f"fn {of}_step({of}: &{subject.name}) -> Option<Step>", source), "    }")
 
 
 def faults(subjects):
-    """Where it doesn't say what a row with `in_line` does, or says so of another one."""
-    for path, name_of in OVERWRITE.items():
-        text = pathlib.Path(TOP, "crates/csicodec_overwrite", path).read_text(encoding="utf-8")
-        for action in (action for subject in subjects for action in subject.actions if "in_line" in action.row):
-            if bool(re.search(rf"\b{re.escape(name_of(action))}\b", text)) != action.row["in_line"]:
-                yield rust(action), f"in_line is {str(action.row['in_line']).lower()}, and crates/csicodec_overwrite/{path} says otherwise"
+    """Where csicodec_overwrite doesn't say by hand what a row does that acts within a line, or says so of another one."""
+    by_name, hand = {subject.name: subject for subject in subjects}, {}
+    for path, part in [it for name in ACTS for it in of_steps(by_name[name])]:
+        lines = hand.setdefault(path, pathlib.Path(TOP, path).read_text(encoding="utf-8").split("\n"))
+        start, end = part.span(lines)
+        hand[path] = lines[:start] + lines[end:]
+    for action in (action for name in ACTS for action in by_name[name].actions):
+        for path, called in ((STEPS, f"{action.subject}.{action.variant[0]}"), (TEXT, rust(action))):
+            said, acts = re.search(rf"\b{re.escape(called)}\b", "\n".join(hand[path])), action.row["in_line"] == "acts"
+            if bool(said) != acts:
+                yield rust(action), f"in_line is {action.row['in_line']}, and {path} {'has no line for it' if acts else 'has a line for it by hand'}"
 
 
 def parts(subjects):
@@ -268,7 +310,7 @@ def parts(subjects):
     regular = {name: [action for action in by_name[name].actions if "final" in action.row] for name in ("Cursor", "Edit")}
     every = [action for subject in subjects for action in subject.actions]
     found = [*of_subject(by_name["Cursor"], CURSOR), *of_subject(by_name["Edit"], EDIT), *of_cursor(regular["Cursor"]), *of_edit(regular["Edit"])]
-    found += [*mirrored(by_name["Cursor"]), *mirrored(by_name["Window"])]
+    found += [*mirrored(by_name["Cursor"]), *mirrored(by_name["Window"]), *of_steps(by_name["Cursor"]), *of_steps(by_name["Edit"])]
     found += [("crates/csicodec_compact/src/spell.rt", Part(default_arms(every), ("fn least_said(control: char) -> i64 {", "    match control {"), "        _ => 0,"))]
     out = {}
     for path, part in [*found, *documents([*regular["Cursor"], *regular["Edit"]])]:

@@ -1,7 +1,9 @@
 """table/modes.toml: what modes are called. Their names become two enumerations with their numbers, their words two arrays."""
 from declared import Type, Variant, in_turn
-from checks import check_columns, check_once
+from checks import check_columns, check_once, refuse
+from core import IN_LINE, STEPS, TEXT, arms_of_steps, lines_of_steps
 from layout import keyed, page_line, page_table, rows_of_parts
+from parts import Part
 from read import first_line, rows_of
 
 TABLE = "modes.toml"
@@ -139,11 +141,24 @@ def page(private, terminal):
     return PAGE.replace("PRIVATE\n", page_rows(private) + "\n").replace("TERMINAL", page_rows(terminal))
 
 
+def of_steps(private):
+    """What private modes do in a line that is overwritten, whatever becomes of them."""
+    rows = [(row["name"], row["in_line"]) for row in private.values() if "name" in row]
+    lines = lines_of_steps("of_code", [(f"DecPrivateModeCode.{name}", does) for name, does in rows])
+    arms = arms_of_steps([(f"DecPrivateModeCode::{name}", does) for name, does in rows])
+    yield STEPS, Part(lines, ("abbrev pub of_code : DecPrivateModeCode → List Step",), "")
+    yield TEXT, Part(arms, ("fn code_step(code: DecPrivateModeCode) -> Option<Step>", "    match code {"), "    }")
+
+
 def check(rows):
-    for kind in rows.values():
+    for name, kind in rows.items():
+        moves = ("in_line",) if name == "private" else ()
         check_once(TABLE, kind, "name")
-        check_columns(TABLE, {number: row for number, row in kind.items() if "name" in row}, ("name", "words", "source", "says", "doc"), ("set", "reset"))
+        check_columns(TABLE, {number: row for number, row in kind.items() if "name" in row}, ("name", "words", *moves, "source", "says", "doc"), ("set", "reset"))
         check_columns(TABLE, {number: row for number, row in kind.items() if "name" not in row}, ("words", "source", "says"), ("set", "reset"))
+        for number, row in kind.items():
+            if not IN_LINE.get(row.get("in_line", "nothing")):
+                refuse(TABLE, number, f"in_line says what it does in a line that is overwritten: {', '.join(does for does, said in IN_LINE.items() if said)}")
 
 
 def files(rows):
@@ -162,4 +177,5 @@ def files(rows):
         "crates/csicodec_names/specs/ModeNumbers.antt": first_line(TABLE, "--") + specs(private, terminal),
         "crates/csicodec_words/src/mode_words.rt": said,
         "docs/MODES.md": page_line(TABLE) + page(private, terminal),
+        **{path: [part] for path, part in of_steps(private)},
     }

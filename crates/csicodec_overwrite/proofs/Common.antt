@@ -20,7 +20,7 @@ pub use Rattle.csicodec_looks.specs.{declared.marking.Marking.TheVariants.Page, 
 pub use Rattle.csicodec_looks.specs.{declared.marking.Marking.TheVariants.Styled, declared.pen.Pen.Pen, declared.step.Step.Step}
 pub use Rattle.csicodec_overwrite.specs.Lost.{NothingLost, NothingMade, again, all_came, all_taken, belonging, came, covered, left_out, tabs, taken, taken_again, taken_by, taken_by_all, taken_here, times, touched, under, whole, within}
 pub use Rattle.csicodec_overwrite.specs.Private.Front.{IsFront, IsStyled, IsWritten, IsWrittenTo, drawn, last_look, last_of_run, run_text}
-pub use Rattle.csicodec_overwrite.specs.Steps.{by_code, by_escape, of_action, of_actions, of_code, of_cursor, of_edit, of_escape, of_final, of_mode, of_run, of_sequence, of_string, of_wrong, switched}
+pub use Rattle.csicodec_overwrite.specs.Steps.{by_code, by_escape, of_action, of_actions, of_code, of_cursor, of_device, of_edit, of_escape, of_final, of_mode, of_run, of_sequence, of_string, of_terminal, of_wrong, switched}
 pub use Rattle.csicodec_overwrite.specs.{Private.Seen.IsSlice, Private.Seen.PassesFront, Private.Spans.GoesTo, Private.Spans.IsGiven, Reading.AreOfParts}
 pub use Rattle.csicodec_overwrite.specs.{Reading.IsOfPart, Reading.Overwrites, Reading.Pages, Reading.Paints, Reading.Shows, Reading.Steps, Stream.Ending}
 pub use Rattle.csicodec_overwrite.specs.{Stream.Goes, Stream.Held, Stream.Now, Stream.Passes, Stream.Reads, Stream.begun_as, Stream.none_held, Turned.AreLooks}

@@ -1,5 +1,5 @@
 -- What holds of all characters that steps put, and of blanks, tabs and newlines, holds of all that they write; and so it is with looks.
-use Rattle.csicodec_overwrite.proofs.Common.{ℕ, ◌-◌, zero, suc, Bool, true, false, cond, min, List, [], ◌∷◌, ◌++◌, length, replicate, ◌==◌, nat_lt, Option, Some, None, flat_map, ◌≡◌, refl, ◌∙◌, rules, and_from, and_parts, AllByRecursion, Sgr, Look, behind, plain, Cell, Glyph, Line, Step, Behind, Char, Empty, Mark, Pen, cond_both, all_scalars, lossy_chars, SgrInRange, Kind, Part, IsPlain, IsShown, with_titles, all_weaker, begins_behind, belongs, chars_of, columns, emptied, erased, glyph, gone, is_empty, of_tab, onto, outside, shifted, takes, to_tab_stop, trimmed, untabbed, width, without, Done, behind_columns, blank, cells_of, do_all, does, does_here, done, entered, fits, forward, fresh, from_stop, in_row, is_row, leave, leaves_long, line, lines_of, over, parted, pen_behind, placed, put, repeat, repeated, shows_nothing, size, target, to_stop, widest, by_code, of_action, of_actions, of_char, of_chars, of_code, of_control, of_cursor, of_edit, of_escape, of_final, of_mode, of_run, by_escape, of_sequence, of_string, of_wrong, switched, IsInRange, AreOfParts, IsOfPart, Overwrites, Steps, most, Action, scalars_lossy}
+use Rattle.csicodec_overwrite.proofs.Common.{ℕ, ◌-◌, zero, suc, Bool, true, false, cond, min, List, [], ◌∷◌, ◌++◌, length, replicate, ◌==◌, nat_lt, Option, Some, None, flat_map, ◌≡◌, refl, ◌∙◌, rules, and_from, and_parts, AllByRecursion, Sgr, Look, behind, plain, Cell, Glyph, Line, Step, Behind, Char, Empty, Mark, Pen, cond_both, all_scalars, lossy_chars, SgrInRange, Kind, Part, IsPlain, IsShown, with_titles, all_weaker, begins_behind, belongs, chars_of, columns, emptied, erased, glyph, gone, is_empty, of_tab, onto, outside, shifted, takes, to_tab_stop, trimmed, untabbed, width, without, Done, behind_columns, blank, cells_of, do_all, does, does_here, done, entered, fits, forward, fresh, from_stop, in_row, is_row, leave, leaves_long, line, lines_of, over, parted, pen_behind, placed, put, repeat, repeated, shows_nothing, size, target, to_stop, widest, by_code, of_action, of_actions, of_char, of_chars, of_code, of_control, of_cursor, of_device, of_edit, of_escape, of_final, of_mode, of_run, of_terminal, by_escape, of_sequence, of_string, of_wrong, switched, IsInRange, AreOfParts, IsOfPart, Overwrites, Steps, most, Action, scalars_lossy}
 use Rattle.csicodec_looks.proofs.Texts.{cells_by, line_cells, newline, chars_by, shown_plain}
 use Rattle.csicodec_actions.proofs.AllRows.{all-append}
 use lib.Utf8.{scalar}
@@ -272,7 +272,7 @@ cursor_good _ = search rules
 edit_good : (e : Edit) → AreGood (of_edit e)
 edit_good (Edit.EraseInLine EraseInLine.EraseLine) = (tt, tt)
 edit_good (Edit.EraseInDisplay EraseInDisplay.EraseScrollback) = tt
-edit_good _ = (tt, tt)
+edit_good _ = search rules
 
 code_good : (c : DecPrivateModeCode) → AreGood (of_code c)
 code_good DecPrivateModeCode.OriginMode = (tt, tt)
@@ -289,20 +289,28 @@ private_good : (steps : DecPrivateModeCode → List Step) (m : DecPrivateMode) �
 private_good steps (DecPrivateMode.Code c) h = h c
 private_good steps (DecPrivateMode.Unspecified n) h = tt
 
+terminal_good : (set : Bool) (m : TerminalMode) → AreGood (of_terminal set m)
+terminal_good set (TerminalMode.Code TerminalModeCode.Insert) = (tt, tt)
+terminal_good set _ = tt
+
 mode_good : (m : Mode) → AreGood (of_mode m)
 mode_good (Mode.SetDecPrivateMode m) = private_good (λ c. switched c true) m (λ c. switched_good c true)
 mode_good (Mode.ResetDecPrivateMode m) = private_good (λ c. switched c false) m (λ c. switched_good c false)
 mode_good (Mode.RestoreDecPrivateMode m) = private_good of_code m code_good
-mode_good (Mode.SetMode (TerminalMode.Code TerminalModeCode.Insert)) = (tt, tt)
-mode_good (Mode.ResetMode (TerminalMode.Code TerminalModeCode.Insert)) = (tt, tt)
+mode_good (Mode.SetMode m) = terminal_good true m
+mode_good (Mode.ResetMode m) = terminal_good false m
 mode_good _ = tt
+
+device_good : (d : device.Device) → AreGood (of_device d)
+device_good device.SoftReset = (tt, tt)
+device_good _ = tt
 
 action_good : (a : Action) → InRange a → AreGood (of_action a)
 action_good (action.Cursor c) h = cursor_good c
 action_good (action.Edit e) h = edit_good e
 action_good (action.Sgr s) h = (h, tt)
 action_good (action.Mode m) h = mode_good m
-action_good (action.Device device.SoftReset) h = (tt, tt)
+action_good (action.Device d) h = device_good d
 action_good (action.Unspecified params flag final) h = search (rules, pick)
 action_good _ h = tt
 

@@ -6,7 +6,7 @@ use Rattle.csicodec_tokens.specs.{declared.param.CsiParam.CsiParam, declared.par
 use Rattle.csicodec_names.specs.{declared.modes.DecPrivateModeCode.DecPrivateModeCode, declared.enums.EraseInDisplay.EraseInDisplay}
 use Rattle.csicodec_names.specs.{declared.enums.EraseInLine.EraseInLine, declared.modes.TerminalModeCode.TerminalModeCode}
 use Rattle.csicodec_actions.specs.{declared.cursor.Cursor.Cursor, declared.edit.Edit.Edit, declared.mode.DecPrivateMode.DecPrivateMode, declared.mode.Mode.Mode}
-use Rattle.csicodec_actions.specs.{Actions.Action, declared.mode.TerminalMode.TerminalMode}
+use Rattle.csicodec_actions.specs.{Actions.Action, Devices.Device, declared.mode.TerminalMode.TerminalMode}
 use Rattle.csicodec_looks.specs.{Line.widest, declared.step.Step.Step, Steps.of_chars}
 use Rattle.csicodec_actions.specs.Devices as device
 use Rattle.csicodec_actions.specs.Actions as action
@@ -47,7 +47,7 @@ stops n = min n 64
 
 -- In the line are CUF (8.3.20), CUB (8.3.18), CHA (8.3.9), HPA (8.3.57), HPR (8.3.59), HPB (8.3.58), CHT (8.3.10) and CBT (8.3.7), and
 -- SCOSC and SCORC are as DECSC and DECRC. CUP (8.3.21) and HVP (8.3.63) go to a column of a row, and VPA (8.3.158) to the same column.
--- To another row, or maybe so, go CUU (8.3.22), CUD (8.3.19), VPR (8.3.160), VPB (8.3.159) and CVT (8.3.17) in the same column. CNL (8.3.12), CPL (8.3.13) and DECSTBM go to the first.
+-- What goes to another row, or maybe so, or does nothing, is so by `in_line` of its row of table/actions.toml, which has its source.
 abbrev pub of_cursor : Cursor → List Step
 of_cursor (Cursor.Right n) = Step.Right (as_far n) ∷ []
 of_cursor (Cursor.Left n) = Step.Left (as_far n) ∷ []
@@ -61,28 +61,29 @@ of_cursor Cursor.SaveCursor = Step.Save ∷ []
 of_cursor Cursor.RestoreCursor = Step.Restore ∷ []
 of_cursor (Cursor.Position row col) = Step.Row row (Some (as_far col)) ∷ []
 of_cursor (Cursor.CharacterAndLinePosition row col) = Step.Row row (Some (as_far col)) ∷ []
-of_cursor (Cursor.Up n) = Step.Leave None ∷ []
-of_cursor (Cursor.Down n) = Step.Leave None ∷ []
 of_cursor (Cursor.LinePositionAbsolute row) = Step.Row row None ∷ []
-of_cursor (Cursor.LinePositionForward n) = Step.Leave None ∷ []
-of_cursor (Cursor.LinePositionBackward n) = Step.Leave None ∷ []
-of_cursor (Cursor.LineTabulation n) = Step.Leave None ∷ []
-of_cursor (Cursor.NextLine n) = Step.Leave (Some 1) ∷ []
-of_cursor (Cursor.PrecedingLine n) = Step.Leave (Some 1) ∷ []
-of_cursor (Cursor.SetTopAndBottomMargins top bottom) = Step.Leave (Some 1) ∷ []
-of_cursor _ = []
+of_cursor (Cursor.Up x) = Step.Leave None ∷ []
+of_cursor (Cursor.Down x) = Step.Leave None ∷ []
+of_cursor (Cursor.LineTabulation x) = Step.Leave None ∷ []
+of_cursor (Cursor.LinePositionForward x) = Step.Leave None ∷ []
+of_cursor (Cursor.LinePositionBackward x) = Step.Leave None ∷ []
+of_cursor (Cursor.NextLine x) = Step.Leave (Some 1) ∷ []
+of_cursor (Cursor.PrecedingLine x) = Step.Leave (Some 1) ∷ []
+of_cursor (Cursor.SetTopAndBottomMargins a b) = Step.Leave (Some 1) ∷ []
+of_cursor (Cursor.ActivePositionReport a b) = []
+of_cursor (Cursor.TabulationControl x) = []
+of_cursor (Cursor.TabulationClear x) = []
+of_cursor (Cursor.SetLeftAndRightMargins a b) = []
+of_cursor Cursor.RequestActivePositionReport = []
+of_cursor (Cursor.CursorStyle x) = []
 
 -- ECH (8.3.38), DCH (8.3.26), ICH (8.3.64), REP (8.3.103) and EL (8.3.41); ED (8.3.39) up to the end of the page, and so to that of the
--- line; otherwise that may erase other rows. SU (8.3.147), SD (8.3.113), IL (8.3.67) and DL (8.3.32) move rows
+-- line; otherwise that may erase other rows, but for what was scrolled out. What moves rows is so by table/actions.toml.
 abbrev pub of_edit : Edit → List Step
 of_edit (Edit.EraseCharacter n) = Step.Erase (as_far n) ∷ []
 of_edit (Edit.DeleteCharacter n) = Step.Delete (as_far n) ∷ []
 of_edit (Edit.InsertCharacter n) = Step.Insert (as_far n) ∷ []
 of_edit (Edit.Repeat n) = Step.Repeat (as_far n) ∷ []
-of_edit (Edit.ScrollUp n) = Step.Leave None ∷ []
-of_edit (Edit.ScrollDown n) = Step.Leave None ∷ []
-of_edit (Edit.InsertLine n) = Step.Leave (Some 1) ∷ []
-of_edit (Edit.DeleteLine n) = Step.Leave (Some 1) ∷ []
 of_edit (Edit.EraseInLine EraseInLine.EraseToEndOfLine) = Step.EraseRight ∷ []
 of_edit (Edit.EraseInLine EraseInLine.EraseToStartOfLine) = Step.EraseLeft ∷ []
 of_edit (Edit.EraseInLine EraseInLine.EraseLine) = Step.EraseAll ∷ []
@@ -90,16 +91,47 @@ of_edit (Edit.EraseInDisplay EraseInDisplay.EraseToEndOfDisplay) = Step.EraseRig
 of_edit (Edit.EraseInDisplay EraseInDisplay.EraseToStartOfDisplay) = Step.Leave None ∷ []
 of_edit (Edit.EraseInDisplay EraseInDisplay.EraseDisplay) = Step.Leave None ∷ []
 of_edit (Edit.EraseInDisplay EraseInDisplay.EraseScrollback) = []
+of_edit (Edit.ScrollUp x) = Step.Leave None ∷ []
+of_edit (Edit.ScrollDown x) = Step.Leave None ∷ []
+of_edit (Edit.InsertLine x) = Step.Leave (Some 1) ∷ []
+of_edit (Edit.DeleteLine x) = Step.Leave (Some 1) ∷ []
 
--- the modes that go to another row: DECCOLM, DECOM, and the alternate screen with the cursor that is saved
+-- a private mode, whatever becomes of it: what goes to another row, or does nothing, is so by `in_line` of its row of table/modes.toml
 abbrev pub of_code : DecPrivateModeCode → List Step
-of_code DecPrivateModeCode.Select132Columns = Step.Leave (Some 1) ∷ []
-of_code DecPrivateModeCode.OriginMode = Step.Leave (Some 1) ∷ []
 of_code DecPrivateModeCode.EnableAlternateScreen = Step.Leave None ∷ []
 of_code DecPrivateModeCode.OptEnableAlternateScreen = Step.Leave None ∷ []
 of_code DecPrivateModeCode.SaveCursor = Step.Leave None ∷ []
 of_code DecPrivateModeCode.ClearAndEnableAlternateScreen = Step.Leave None ∷ []
-of_code _ = []
+of_code DecPrivateModeCode.Select132Columns = Step.Leave (Some 1) ∷ []
+of_code DecPrivateModeCode.OriginMode = Step.Leave (Some 1) ∷ []
+of_code DecPrivateModeCode.ApplicationCursorKeys = []
+of_code DecPrivateModeCode.DecAnsiMode = []
+of_code DecPrivateModeCode.SmoothScroll = []
+of_code DecPrivateModeCode.ReverseVideo = []
+of_code DecPrivateModeCode.AutoWrap = []
+of_code DecPrivateModeCode.AutoRepeat = []
+of_code DecPrivateModeCode.StartBlinkingCursor = []
+of_code DecPrivateModeCode.ShowCursor = []
+of_code DecPrivateModeCode.ReverseWraparound = []
+of_code DecPrivateModeCode.LeftRightMarginMode = []
+of_code DecPrivateModeCode.SixelDisplayMode = []
+of_code DecPrivateModeCode.MouseTracking = []
+of_code DecPrivateModeCode.HighlightMouseTracking = []
+of_code DecPrivateModeCode.ButtonEventMouse = []
+of_code DecPrivateModeCode.AnyEventMouse = []
+of_code DecPrivateModeCode.FocusTracking = []
+of_code DecPrivateModeCode.Utf8Mouse = []
+of_code DecPrivateModeCode.SGRMouse = []
+of_code DecPrivateModeCode.SGRPixelsMouse = []
+of_code DecPrivateModeCode.XTermMetaSendsEscape = []
+of_code DecPrivateModeCode.XTermAltSendsEscape = []
+of_code DecPrivateModeCode.UsePrivateColorRegistersForEachGraphic = []
+of_code DecPrivateModeCode.BracketedPaste = []
+of_code DecPrivateModeCode.SynchronizedOutput = []
+of_code DecPrivateModeCode.GraphemeClustering = []
+of_code DecPrivateModeCode.MinTTYApplicationEscapeKeyMode = []
+of_code DecPrivateModeCode.SixelScrollsRight = []
+of_code DecPrivateModeCode.Win32InputMode = []
 
 -- and where they are set, or reset: 1048 and 1049 save the cursor and come back to it
 abbrev pub switched : DecPrivateModeCode → Bool → List Step
@@ -114,14 +146,39 @@ abbrev pub by_code : (DecPrivateModeCode → List Step) → DecPrivateMode → L
 by_code steps (DecPrivateMode.Code c) = steps c
 by_code steps (DecPrivateMode.Unspecified n) = []
 
--- DECSET, DECRST, XTRESTORE, and IRM (7.2.10) by SM (8.3.125) and RM (8.3.106)
+-- a mode that is no private one, set or reset: IRM (ECMA-48, 7.2.10) acts in the line
+abbrev pub of_terminal : Bool → TerminalMode → List Step
+of_terminal set (TerminalMode.Code TerminalModeCode.Insert) = Step.Inserts set ∷ []
+of_terminal set (TerminalMode.Code TerminalModeCode.KeyboardAction) = []
+of_terminal set (TerminalMode.Code TerminalModeCode.BiDirectionalSupportMode) = []
+of_terminal set (TerminalMode.Code TerminalModeCode.SendReceive) = []
+of_terminal set (TerminalMode.Code TerminalModeCode.AutomaticNewline) = []
+of_terminal set (TerminalMode.Code TerminalModeCode.ShowCursor) = []
+of_terminal set (TerminalMode.Unspecified n) = []
+
+-- DECSET, DECRST, XTRESTORE, SM (8.3.125) and RM (8.3.106)
 abbrev pub of_mode : Mode → List Step
 of_mode (Mode.SetDecPrivateMode m) = by_code (λ c. switched c true) m
 of_mode (Mode.ResetDecPrivateMode m) = by_code (λ c. switched c false) m
 of_mode (Mode.RestoreDecPrivateMode m) = by_code of_code m
-of_mode (Mode.SetMode (TerminalMode.Code TerminalModeCode.Insert)) = Step.Inserts true ∷ []
-of_mode (Mode.ResetMode (TerminalMode.Code TerminalModeCode.Insert)) = Step.Inserts false ∷ []
-of_mode _ = []
+of_mode (Mode.SetMode m) = of_terminal true m
+of_mode (Mode.ResetMode m) = of_terminal false m
+of_mode (Mode.SaveDecPrivateMode m) = []
+of_mode (Mode.QueryDecPrivateMode m) = []
+of_mode (Mode.QueryMode m) = []
+of_mode (Mode.XtermKeyMode resource value) = []
+
+-- behind DECSTR nothing is set or saved any more
+abbrev pub of_device : Device → List Step
+of_device device.SoftReset = Step.Reset ∷ []
+of_device (device.DeviceAttributes a) = []
+of_device device.RequestPrimaryDeviceAttributes = []
+of_device device.RequestSecondaryDeviceAttributes = []
+of_device device.RequestTertiaryDeviceAttributes = []
+of_device device.RequestTerminalNameAndVersion = []
+of_device (device.RequestTerminalParameters n) = []
+of_device device.StatusReport = []
+of_device (device.XtSmGraphics item action_or_status value) = []
 
 -- ---- a list of which no action is read
 
@@ -137,15 +194,18 @@ may_move params final = if final == 109 || (final == 74 || final == 75) then fal
     else if final == 104 || (final == 108 || (final == 114 || final == 125)) then true
     else not (list_any is_mark params)
 
--- and SGR (8.3.117); behind DECSTR nothing is set or saved any more
+-- and SGR (8.3.117); what is said of the mouse, the window, the keyboard and paths (SCP) does nothing in a line
 abbrev pub of_action : Action → List Step
+of_action (action.Sgr s) = Step.Attribute s ∷ []
 of_action (action.Cursor c) = of_cursor c
 of_action (action.Edit e) = of_edit e
-of_action (action.Sgr s) = Step.Attribute s ∷ []
 of_action (action.Mode m) = of_mode m
-of_action (action.Device device.SoftReset) = Step.Reset ∷ []
+of_action (action.Device d) = of_device d
+of_action (action.Mouse m) = []
+of_action (action.Window w) = []
+of_action (action.Keyboard k) = []
+of_action (action.SelectCharacterPath path effect) = []
 of_action (action.Unspecified params flag final) = if may_move params final then Step.Leave None ∷ [] else []
-of_action _ = []
 
 abbrev pub of_actions : List Action → List Step
 of_actions actions = flat_map of_action actions

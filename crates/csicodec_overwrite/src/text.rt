@@ -1,10 +1,10 @@
 //! The steps of text, of escape sequences and of actions.
 ghost use Rattle.std.specs.{Prelude.◌≡◌, Prelude.◌≤◌, Prelude.◌++◌, Prelude.◌∷◌, Prelude.[], Prelude.ℕ, Prelude.List, Prelude.length, Prelude.map, Prelude.OnOk};
 ghost use Rattle.std.specs.{Prelude.IfOk, List.flat_map, List.list_any};
-ghost use Rattle.csicodec_actions.specs.{Actions.Device as OfDevice, Devices.device_of};
+ghost use Rattle.csicodec_actions.specs.Devices.{device_of};
 ghost use Rattle.csicodec_parser.specs.ActionOf.{action_of};
 ghost use Rattle.csicodec_clean.specs.Shown.{IsCut, IsRead};
-ghost use Rattle.csicodec_overwrite.specs.Steps.{as_far, by_code, by_escape, is_mark, may_move, of_action, of_actions, of_code, of_cursor, of_edit, of_escape, of_final, of_mode, of_run, stops, switched};
+ghost use Rattle.csicodec_overwrite.specs.Steps.{as_far, by_code, by_escape, is_mark, may_move, of_action, of_actions, of_code, of_cursor, of_device, of_edit, of_escape, of_final, of_mode, of_run, of_terminal, stops, switched};
 ghost use Rattle.csicodec_overwrite.specs.Private.Spans.{if_some};
 ghost use Rattle.csicodec_looks.specs.Steps.{of_chars};
 
@@ -120,12 +120,18 @@ fn cursor_step(cursor: &Cursor) -> Option<Step>
         Cursor::LinePositionAbsolute(row) => Some(Step::Row(*row, None)),
         Cursor::Up(_)
         | Cursor::Down(_)
+        | Cursor::LineTabulation(_)
         | Cursor::LinePositionForward(_)
-        | Cursor::LinePositionBackward(_)
-        | Cursor::LineTabulation(_) => Some(Step::Leave(None)),
-        Cursor::NextLine(_) | Cursor::PrecedingLine(_) | Cursor::SetTopAndBottomMargins { .. } =>
-            Some(Step::Leave(Some(1))),
-        _ => None,
+        | Cursor::LinePositionBackward(_) => Some(Step::Leave(None)),
+        Cursor::NextLine(_) | Cursor::PrecedingLine(_) | Cursor::SetTopAndBottomMargins { .. } => {
+            Some(Step::Leave(Some(1)))
+        }
+        Cursor::ActivePositionReport { .. }
+        | Cursor::TabulationControl(_)
+        | Cursor::TabulationClear(_)
+        | Cursor::SetLeftAndRightMargins { .. }
+        | Cursor::RequestActivePositionReport
+        | Cursor::CursorStyle(_) => None,
     }
 }
 
@@ -142,12 +148,11 @@ fn edit_step(edit: &Edit) -> Option<Step>
         | Edit::EraseInDisplay(EraseInDisplay::EraseToEndOfDisplay) => Some(Step::EraseRight),
         Edit::EraseInLine(EraseInLine::EraseToStartOfLine) => Some(Step::EraseLeft),
         Edit::EraseInLine(EraseInLine::EraseLine) => Some(Step::EraseAll),
-        Edit::ScrollUp(_)
-        | Edit::ScrollDown(_)
-        | Edit::EraseInDisplay(EraseInDisplay::EraseToStartOfDisplay)
+        Edit::EraseInDisplay(EraseInDisplay::EraseToStartOfDisplay)
         | Edit::EraseInDisplay(EraseInDisplay::EraseDisplay) => Some(Step::Leave(None)),
+        Edit::EraseInDisplay(EraseInDisplay::EraseScrollback) => None,
+        Edit::ScrollUp(_) | Edit::ScrollDown(_) => Some(Step::Leave(None)),
         Edit::InsertLine(_) | Edit::DeleteLine(_) => Some(Step::Leave(Some(1))),
-        _ => None,
     }
 }
 
@@ -156,14 +161,41 @@ fn code_step(code: DecPrivateModeCode) -> Option<Step>
     ensures { of_code code ≡ if_some result }
 {
     match code {
-        DecPrivateModeCode::Select132Columns | DecPrivateModeCode::OriginMode => {
-            Some(Step::Leave(Some(1)))
-        }
         DecPrivateModeCode::EnableAlternateScreen
         | DecPrivateModeCode::OptEnableAlternateScreen
         | DecPrivateModeCode::SaveCursor
         | DecPrivateModeCode::ClearAndEnableAlternateScreen => Some(Step::Leave(None)),
-        _ => None,
+        DecPrivateModeCode::Select132Columns | DecPrivateModeCode::OriginMode => {
+            Some(Step::Leave(Some(1)))
+        }
+        DecPrivateModeCode::ApplicationCursorKeys
+        | DecPrivateModeCode::DecAnsiMode
+        | DecPrivateModeCode::SmoothScroll
+        | DecPrivateModeCode::ReverseVideo
+        | DecPrivateModeCode::AutoWrap
+        | DecPrivateModeCode::AutoRepeat
+        | DecPrivateModeCode::StartBlinkingCursor
+        | DecPrivateModeCode::ShowCursor
+        | DecPrivateModeCode::ReverseWraparound
+        | DecPrivateModeCode::LeftRightMarginMode
+        | DecPrivateModeCode::SixelDisplayMode
+        | DecPrivateModeCode::MouseTracking
+        | DecPrivateModeCode::HighlightMouseTracking
+        | DecPrivateModeCode::ButtonEventMouse
+        | DecPrivateModeCode::AnyEventMouse
+        | DecPrivateModeCode::FocusTracking
+        | DecPrivateModeCode::Utf8Mouse
+        | DecPrivateModeCode::SGRMouse
+        | DecPrivateModeCode::SGRPixelsMouse
+        | DecPrivateModeCode::XTermMetaSendsEscape
+        | DecPrivateModeCode::XTermAltSendsEscape
+        | DecPrivateModeCode::UsePrivateColorRegistersForEachGraphic
+        | DecPrivateModeCode::BracketedPaste
+        | DecPrivateModeCode::SynchronizedOutput
+        | DecPrivateModeCode::GraphemeClustering
+        | DecPrivateModeCode::MinTTYApplicationEscapeKeyMode
+        | DecPrivateModeCode::SixelScrollsRight
+        | DecPrivateModeCode::Win32InputMode => None,
     }
 }
 
@@ -185,6 +217,23 @@ fn switched_steps(set: bool, mode: DecPrivateMode) -> Both
     }
 }
 
+/// What a mode does that is no private one, and is set or reset.
+fn terminal_step(set: bool, mode: TerminalMode) -> Option<Step>
+    ensures { of_terminal set mode ≡ if_some result }
+{
+    match mode {
+        TerminalMode::Code(TerminalModeCode::Insert) => Some(Step::Inserts(set)),
+        TerminalMode::Code(
+            TerminalModeCode::KeyboardAction
+            | TerminalModeCode::BiDirectionalSupportMode
+            | TerminalModeCode::SendReceive
+            | TerminalModeCode::AutomaticNewline
+            | TerminalModeCode::ShowCursor,
+        )
+        | TerminalMode::Unspecified(_) => None,
+    }
+}
+
 /// What a mode does.
 fn mode_steps(mode: &Mode) -> Both
     ensures { of_mode mode.now ≡ if_some result.0 ++ if_some result.1 }
@@ -193,23 +242,30 @@ fn mode_steps(mode: &Mode) -> Both
         Mode::SetDecPrivateMode(mode) => switched_steps(true, *mode),
         Mode::ResetDecPrivateMode(mode) => switched_steps(false, *mode),
         Mode::RestoreDecPrivateMode(DecPrivateMode::Code(code)) => (None, code_step(*code)),
-        Mode::SetMode(TerminalMode::Code(TerminalModeCode::Insert)) => {
-            (None, Some(Step::Inserts(true)))
-        }
-        Mode::ResetMode(TerminalMode::Code(TerminalModeCode::Insert)) => {
-            (None, Some(Step::Inserts(false)))
-        }
-        _ => (None, None),
+        Mode::SetMode(mode) => (None, terminal_step(true, *mode)),
+        Mode::ResetMode(mode) => (None, terminal_step(false, *mode)),
+        Mode::RestoreDecPrivateMode(DecPrivateMode::Unspecified(_))
+        | Mode::SaveDecPrivateMode(_)
+        | Mode::QueryDecPrivateMode(_)
+        | Mode::QueryMode(_)
+        | Mode::XtermKeyMode { .. } => (None, None),
     }
 }
 
 /// What a device does.
 fn device_step(device: &Device) -> Option<Step>
-    ensures { of_action (OfDevice (device_of device.now)) ≡ if_some result }
+    ensures { of_device (device_of device.now) ≡ if_some result }
 {
     match device {
         Device::SoftReset => Some(Step::Reset),
-        _ => None,
+        Device::DeviceAttributes(_)
+        | Device::RequestPrimaryDeviceAttributes
+        | Device::RequestSecondaryDeviceAttributes
+        | Device::RequestTertiaryDeviceAttributes
+        | Device::RequestTerminalNameAndVersion
+        | Device::RequestTerminalParameters(_)
+        | Device::StatusReport
+        | Device::XtSmGraphics(_) => None,
     }
 }
 
@@ -255,7 +311,11 @@ fn append_action(action: &CSI, steps: &mut Vec<Step>) -> Result<(), AllocError>
         CSI::Unspecified(unread) if may_move(&unread.params, unread.control) => {
             Ok(steps.push(Step::Leave(None))?)
         }
-        _ => Ok(()),
+        CSI::Unspecified(_)
+        | CSI::Mouse(_)
+        | CSI::Window(_)
+        | CSI::Keyboard(_)
+        | CSI::SelectCharacterPath(_, _) => Ok(()),
     }
 }
 

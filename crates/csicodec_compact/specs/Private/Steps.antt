@@ -21,7 +21,15 @@ IsOneNormalised bytes text = (list : List CsiParam) × (final : ℕ) × (actions
 -- the action is no attribute
 abbrev pub is_other : CSI → Bool
 is_other (CSI.Sgr s) = false
-is_other _ = true
+is_other (CSI.Cursor c) = true
+is_other (CSI.Edit e) = true
+is_other (CSI.Mode m) = true
+is_other (CSI.Device d) = true
+is_other (CSI.Mouse m) = true
+is_other (CSI.Window w) = true
+is_other (CSI.Keyboard k) = true
+is_other (CSI.SelectCharacterPath path effect) = true
+is_other (CSI.Unspecified u) = true
 
 abbrev pub is_semicolon : Option ℕ → Bool
 is_semicolon None = false

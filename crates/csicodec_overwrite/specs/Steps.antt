@@ -1,6 +1,6 @@
 -- What each character, escape sequence and action does in a line. All others do nothing there, but stand behind what was put last.
 use Rattle.std.specs.Prelude.{ℕ, ◌==◌, ◌&&◌, ◌||◌, nat_lt, not, min, Bool, true, false, List, [], ◌∷◌, ◌++◌, length, slice_index, Some, None, if◌then◌else◌}
-use Rattle.std.specs.List.{flat_map, list_any}
+use Rattle.std.specs.List.{flat_map, list_all}
 use Rattle.bstr.specs.Utf8.{lossy_chars}
 use Rattle.csicodec_tokens.specs.{declared.param.CsiParam.CsiParam, declared.param.CsiParam.TheVariants.Integer, declared.param.CsiParam.TheVariants.P}
 use Rattle.csicodec_names.specs.{declared.modes.DecPrivateModeCode.DecPrivateModeCode, declared.enums.EraseInDisplay.EraseInDisplay}
@@ -187,12 +187,22 @@ abbrev pub is_mark : CsiParam → Bool
 is_mark (Integer z) = false
 is_mark (P b) = nat_lt b 48 || nat_lt 59 b
 
--- SGR, ED and EL don't move. DECSASD (`$ }`) and private modes that are set, reset or restored may, and of all others those with no such
--- byte: terminals carry out none that moves with one.
+abbrev pub is_byte : ℕ → CsiParam → Bool
+is_byte c (Integer z) = false
+is_byte c (P b) = b == c
+
+-- No terminal moves the cursor by these finals: SGR, ED and EL; DA (c), MC (i), DSR (n), DECLL (q), XTWINOPS (t), DECREQTPARM (x) and DECTST (y).
+abbrev pub never_moves : ℕ → Bool
+never_moves final = final == 109 || (final == 74 || (final == 75 || (final == 99 || (final == 105 || (final == 110 ||
+    (final == 113 || (final == 116 || (final == 120 || final == 121))))))))
+
+-- with this token in front of it one may: modes with any, XTRESTORE (`? r`), DECSASD (`$ }`) and DECIC (`' }`), and others with no such byte
+abbrev pub may_move_with : ℕ → CsiParam → Bool
+may_move_with final token = not (is_mark token) || (final == 104 || (final == 108 ||
+    (final == 114 && is_byte 63 token || final == 125 && (is_byte 36 token || is_byte 39 token))))
+
 abbrev pub may_move : List CsiParam → ℕ → Bool
-may_move params final = if final == 109 || (final == 74 || final == 75) then false
-    else if final == 104 || (final == 108 || (final == 114 || final == 125)) then true
-    else not (list_any is_mark params)
+may_move params final = not (never_moves final) && list_all (may_move_with final) params
 
 -- and SGR (8.3.117); what is said of the mouse, the window, the keyboard and paths (SCP) does nothing in a line
 abbrev pub of_action : Action → List Step

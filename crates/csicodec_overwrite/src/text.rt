@@ -1,10 +1,10 @@
 //! The steps of text, of escape sequences and of actions.
 ghost use Rattle.std.specs.{Prelude.◌≡◌, Prelude.◌≤◌, Prelude.◌++◌, Prelude.◌∷◌, Prelude.[], Prelude.ℕ, Prelude.List, Prelude.length, Prelude.map, Prelude.OnOk};
-ghost use Rattle.std.specs.{Prelude.IfOk, List.flat_map, List.list_any};
+ghost use Rattle.std.specs.{Prelude.IfOk, List.flat_map, List.list_all};
 ghost use Rattle.csicodec_actions.specs.Devices.{device_of};
 ghost use Rattle.csicodec_parser.specs.ActionOf.{action_of};
 ghost use Rattle.csicodec_clean.specs.Shown.{IsCut, IsRead};
-ghost use Rattle.csicodec_overwrite.specs.Steps.{as_far, by_code, by_escape, is_mark, may_move, of_action, of_actions, of_code, of_cursor, of_device, of_edit, of_escape, of_final, of_mode, of_run, of_terminal, stops, switched};
+ghost use Rattle.csicodec_overwrite.specs.Steps.{as_far, by_code, by_escape, is_mark, may_move, may_move_with, never_moves, of_action, of_actions, of_code, of_cursor, of_device, of_edit, of_escape, of_final, of_mode, of_run, of_terminal, stops, switched};
 ghost use Rattle.csicodec_overwrite.specs.Private.Spans.{if_some};
 ghost use Rattle.csicodec_looks.specs.Steps.{of_chars};
 
@@ -279,22 +279,45 @@ fn is_mark(token: &CsiParam) -> bool
     }
 }
 
-/// Whether one of these stands in a list.
-fn has_mark(params: &[CsiParam]) -> bool
-    ensures { result ≡ list_any is_mark params.now }
+/// Whether no terminal moves the cursor by this final.
+fn never_moves(control: char) -> bool
+    ensures { result ≡ never_moves control }
 {
-    params.iter().any(is_mark)
+    matches!(
+        control,
+        'm' | 'J' | 'K' | 'c' | 'i' | 'n' | 'q' | 't' | 'x' | 'y'
+    )
+}
+
+/// Whether one may with this token in front of it.
+fn may_move_with(control: char, token: &CsiParam) -> bool
+    ensures { result ≡ may_move_with control token.now }
+{
+    match (control, token) {
+        ('h' | 'l', _) | ('r', CsiParam::P(b'?')) | ('}', CsiParam::P(b'$' | b'\'')) => true,
+        _ => !is_mark(token),
+    }
+}
+
+/// Whether one may with each of these in front of it.
+fn may_move_with_all(control: char, params: &[CsiParam]) -> bool
+    ensures { result ≡ list_all (may_move_with control) params.now }
+{
+    let mut rest = params;
+    while let [first, others @ ..] = rest {
+        if !may_move_with(control, first) {
+            return false;
+        }
+        rest = others;
+    }
+    true
 }
 
 /// Whether a list of which no action is read may move the cursor.
 fn may_move(params: &[CsiParam], control: char) -> bool
     ensures { result ≡ may_move params.now control }
 {
-    match control {
-        'm' | 'J' | 'K' => false,
-        'h' | 'l' | 'r' | '}' => true,
-        _ => !has_mark(params),
-    }
+    !never_moves(control) && may_move_with_all(control, params)
 }
 
 /// Appends what an action does.

@@ -288,7 +288,8 @@ struct csicodec_stripped {
 struct csicodec_stripped csicodec_strip(const uint8_t *bytes, size_t len, uint8_t *out, size_t room);
 
 /* As csicodec_strip, with the known attributes (SGR), except the one that conceals text (8), other fonts (11 to 20), and 26, 50 to 52, 54 and 60 to 65,
- * in their normal form; if the last of them isn't a reset, a reset ends the text. */
+ * in their normal form; if the last of them isn't a reset, a reset ends the text, and so it is where RIS or DECSTR stands. DECRC brings back no
+ * attributes that DECSC saved. */
 struct csicodec_stripped csicodec_clean(const uint8_t *bytes, size_t len, uint8_t *out, size_t room);
 
 /* Which colours stay. */

@@ -105,8 +105,8 @@ module _ {S : Type 0} (Gives : RuleOf S) where
   }
   spanned Kind.Csi s run chars held bytes more ps after left span read (own, gives, e, none) =
       ended s run chars held ps own more after left read e none (only Kind.Csi bytes (run_as Gives.writing run ++ own) ps s after run span (own, gives, refl, refl))
-  spanned Kind.Esc s run chars held bytes more ps after left span read (e, same, none) =
-      ended s run chars held ps [] more after left read (e ∙ sym (append-nil (run_as Gives.writing held))) none (only Kind.Esc bytes (run_as Gives.writing run ++ []) ps s after run span (append-nil (run_as Gives.writing run), same, refl))
+  spanned Kind.Esc s run chars held bytes more ps after left span read (own, gives, e, none) =
+      ended s run chars held ps own more after left read e none (only Kind.Esc bytes (run_as Gives.writing run ++ own) ps s after run span (own, gives, refl, refl))
   spanned Kind.Str s run chars held bytes more ps after left span read (own, given, e, none) =
       ended s run chars held ps own more after left read e none
       (parts_end Kind.Str (AreGiven Gives) given_on (λ s mid run bytes own g. (own, g, refl, refl)) ps s after run own span.some span.all (rw span.joined given))
@@ -300,6 +300,7 @@ module _ {S : Type 0} (Gives : RuleOf S) (limit : ℕ) where
   ends_in : (k : Kind) (s : S) (held span text : List ℕ) (after : S) (left : List ℕ) → IsAppended Gives k s held span text after left → (front : List ℕ) × (held ++ span ≡ front ++ left)
   ends_in Kind.Text s held span text after left (chars, reads, e, same) = (reads.1, reads.2)
   ends_in Kind.Csi s held span text after left (own, gives, e, none) = (held ++ span, rw none (sym (append-nil (held ++ span))))
+  ends_in Kind.Esc s held span text after left (own, gives, e, none) = (held ++ span, rw none (sym (append-nil (held ++ span))))
   ends_in Kind.Str s held span text after left (own, gives, e, none) = (held ++ span, rw none (sym (append-nil (held ++ span))))
   ends_in _ s held span text after left h = (held ++ span, rw h.2 (sym (append-nil (held ++ span))))
 
@@ -325,13 +326,14 @@ module _ {S : Type 0} (Gives : RuleOf S) (limit : ℕ) where
       to_span (bare_at s bytes) (bare_at s rest) Kind.Text (b ∷ text) (chars_as Gives.writing chars) old new (rw parts (told_cut limit (b ∷ text) rest (omega arith) other))
       (chars, (read, b ∷ text, sym (append-nil (b ∷ text))), refl, refl) refl longer
 
-  pub over_escape : (s : S) (bytes old : List ℕ) → BeginsWithEscape bytes → GoesTo Gives limit (bare_at s bytes) (bare_at s (drop 3 bytes)) old old
-  over_escape s [] old h = absurd (omega (arith, h.0))
-  over_escape s (a ∷ []) old h = absurd (omega (arith, h.0))
-  over_escape s (a ∷ b ∷ []) old h = absurd (omega (arith, h.0))
-  over_escape s (a ∷ b ∷ c ∷ more) old (long, first, from, to, low, high) =
-      to_span (bare_at s (a ∷ b ∷ c ∷ more)) (bare_at s more) Kind.Esc (27 ∷ b ∷ c ∷ []) [] old old (rw first (escape_cut limit b c more from to low high)) (sym (shown_none Gives.writing), refl, refl) refl
-      (sym (append-nil old))
+  pub over_escape : (s after : S) (bytes old new : List ℕ) → BeginsWithEscape bytes → (text : List ℕ) × Gives.escape s (take 3 bytes) text after × (new ≡ old ++ text)
+      → GoesTo Gives limit (bare_at s bytes) (bare_at after (drop 3 bytes)) old new
+  over_escape s after [] old new h given = absurd (omega (arith, h.0))
+  over_escape s after (a ∷ []) old new h given = absurd (omega (arith, h.0))
+  over_escape s after (a ∷ b ∷ []) old new h given = absurd (omega (arith, h.0))
+  over_escape s after (a ∷ b ∷ c ∷ more) old new (long, first, from, to, low, high) (text, gives, longer) =
+      to_span (bare_at s (a ∷ b ∷ c ∷ more)) (bare_at after more) Kind.Esc (27 ∷ b ∷ c ∷ []) text old new (rw first (escape_cut limit b c more from to low high))
+      (text, rw first at gives, ap (λ t. t ++ text) (sym (shown_none Gives.writing)), refl) refl longer
 
   -- a sequence that a rule took at once, or none
   pub over_taken : (len : ℕ) (s after : S) (bytes old new : List ℕ) → len ≤ limit

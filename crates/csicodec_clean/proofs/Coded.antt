@@ -7,7 +7,7 @@ use Rattle.csicodec_clean.proofs.{Chunks.front_read, Plain.all_both, Plain.all_p
 use Rattle.csicodec_base.specs.{Shapes.Plane, Shapes.painted, declared.sgr.Sgr.Sgr, SgrText.palette_text, SgrText.true_color_text}
 use Rattle.csicodec_actions.specs.{declared.cursor.Cursor.Cursor, Actions.Cursor as Move, Actions.Sgr as SgrAction}
 use Rattle.csicodec_streams.specs.{Colors.IsColored, Colors.IsOpaque, Colors.color_list, Colors.plane_byte, Compose.EndsInSemicolon}
-use Rattle.csicodec_clean.specs.{Styled.is_open, Styled.kept, Private.Notes.depth_byte, Private.Notes.note_of, Private.Notes.open_byte}
+use Rattle.csicodec_clean.specs.{Styled.is_decstr, Styled.is_open, Styled.kept, Private.Notes.depth_byte, Private.Notes.note_of, Private.Notes.open_byte}
 use Rattle.csicodec_parser.specs.{Cut.Cut, Cut.body, Groups.has_odd, Groups.is_byte, Segments.ActionsIn, Segments.BodyActions, Segments.remainder}
 use Rattle.csicodec_terminal.specs.Terminal.{is_open as leaves_out}
 use Rattle.std.specs.Fmt.{digits}
@@ -34,22 +34,22 @@ flag_is styled styles now e = grind arith
 pub recalled : (d : Depth) (styled : Bool) (bytes note wide more old new : List ℕ) (now : ℕ) → IsNoted bytes note → get_or note 0 0 ≡ depth_byte d
     → now ≡ cond styled (get_or note 2 0) (get_or note 1 0) → wide ≡ note ++ more
     → new ≡ old ++ take (length note - 3) (drop 3 wide) → IsLeft d styled bytes (now == 1) old new
-recalled d styled bytes note wide more old new now (e, actions, is, noted) byte opened w longer =
+recalled d styled bytes note wide more old new now (e, actions, is, other, noted) byte opened w longer =
     let same : e ≡ d = same_depth e d (sym (ap (λ l. get_or l 0 0) noted) ∙ byte) in
     let text = texts (map SgrAction (kept e actions)) in
     let size : length note - 3 ≡ length text = omega (arith, ap length noted) in
     let behind : drop 3 wide ≡ text ++ more = ap (drop 3) (w ∙ ap (λ l. l ++ more) noted) in
     let front : take (length note - 3) (drop 3 wide) ≡ text = ap (λ n. take n (drop 3 wide)) size ∙ ap (take (length text)) behind ∙ take-append_seam text more in
     let flag : (now == 1) ≡ is_open styled (kept e actions) = flag_is styled (kept e actions) now (opened ∙ ap (λ l. cond styled (get_or l 2 0) (get_or l 1 0)) noted) in
-    subst (λ (x : Depth). IsLeft x styled bytes (now == 1) old new) same (actions, is, flag, longer ∙ ap (λ t. old ++ t) front)
+    subst (λ (x : Depth). IsLeft x styled bytes (now == 1) old new) same (actions, is, other, flag, longer ∙ ap (λ t. old ++ t) front)
 
 -- what the rule gives for it
 pub left_given : (k : Keeping) (bytes : List ℕ) (after : Bool) (old new : List ℕ) → IsLeft k.passing.depth k.styled bytes after old new
     → (text : List ℕ) × IsSequence bytes × keeps.sequence k bytes text (keeping k.passing after k.linked k.begun) × (new ≡ old ++ text)
-left_given k bytes after old new (actions, is, now, longer) = (
+left_given k bytes after old new (actions, is, other, now, longer) = (
   texts (map SgrAction (kept k.passing.depth actions)),
   (is.0, is.1, is.2),
-  (actions, is, refl, ap (λ (b : Bool). keeping k.passing b k.linked k.begun) now),
+  rw other (actions, is, refl, ap (λ (b : Bool). keeping k.passing b k.linked k.begun) now),
   longer,
 )
 
@@ -61,21 +61,21 @@ color_note plane color = grind (arith, append-nil {A = ℕ})
 -- what is noted of it, by what begins with its text
 pub color_noted : (bytes rest own text note : List ℕ) (style : Sgr) (len : ℕ) → IsColored bytes style rest → IsTakenFor own (SgrAction style ∷ [])
     → take (len + 1) text ≡ 27 ∷ 91 ∷ sgr_text style → note ≡ take (len + 4) (0 ∷ 1 ∷ 1 ∷ text)
-    → IsNoted own note
-color_noted bytes rest own text note style len (plane, color, opaque, paints, stands) is told noted =
+    → is_decstr own ≡ false → IsNoted own note
+color_noted bytes rest own text note style len (plane, color, opaque, paints, stands) is told noted other =
     let longer : len + 4 ≡ suc (suc (suc (len + 1))) = omega arith in
     let all : note ≡ 0 ∷ 1 ∷ 1 ∷ 27 ∷ 91 ∷ sgr_text style = noted ∙ ap (λ n. take n (0 ∷ 1 ∷ 1 ∷ text)) longer ∙ ap (λ l. 0 ∷ 1 ∷ 1 ∷ l) told in
-    (depth.Full, SgrAction style ∷ [], is, all ∙ subst (λ (s : Sgr). 0 ∷ 1 ∷ 1 ∷ 27 ∷ 91 ∷ sgr_text s ≡ note_of depth.Full (SgrAction s ∷ [])) (sym paints) (sym (color_note plane color)))
+    (depth.Full, SgrAction style ∷ [], is, other, all ∙ subst (λ (s : Sgr). 0 ∷ 1 ∷ 1 ∷ 27 ∷ 91 ∷ sgr_text s ≡ note_of depth.Full (SgrAction s ∷ [])) (sym paints) (sym (color_note plane color)))
 
 color_open : (plane : Plane) (color : ColorSpec) (styled : Bool) → true ≡ is_open styled (kept depth.Full (SgrAction (painted plane color) ∷ []))
 color_open plane color styled = grind arith
 
 -- and what is left of it
 pub color_left : (bytes rest own old new : List ℕ) (style : Sgr) (styled : Bool) → IsColored bytes style rest → IsTakenFor own (SgrAction style ∷ [])
-    → new ≡ old ++ 27 ∷ 91 ∷ sgr_text style → IsLeft depth.Full styled own true old new
-color_left bytes rest own old new style styled (plane, color, opaque, paints, stands) is longer =
+    → new ≡ old ++ 27 ∷ 91 ∷ sgr_text style → is_decstr own ≡ false → IsLeft depth.Full styled own true old new
+color_left bytes rest own old new style styled (plane, color, opaque, paints, stands) is longer other =
     let text = ap (λ l. old ++ drop 3 l) (sym (color_note plane color)) in
-    (SgrAction style ∷ [], is, rw paints (color_open plane color styled), longer ∙ rw paints text)
+    (SgrAction style ∷ [], is, other, rw paints (color_open plane color styled), longer ∙ rw paints text)
 
 -- ---- what the table reads of it, as terminals take it
 

@@ -3,21 +3,23 @@ use Rattle.std.proofs.Common.{◌≡◌, ℕ, true, false, List, [], ◌∷◌, 
 use Rattle.std.proofs.lemmas.Bool.{false≢true, and_parts, cases_Bool, cond_both}
 use Rattle.csicodec_actions.specs.Actions.{Action}
 use Rattle.csicodec_looks.specs.{declared.look.Look.Look, declared.markup.Markup.Markup, Pieces.Open, Pieces.leads, Pieces.shuts, Pieces.Piece, Pieces.switch}
-use Rattle.csicodec_looks.specs.{Pieces.Char, Pieces.turn, Pieces.begins, Pieces.ends, Pieces.opens, Look.is_plain}
-use Rattle.csicodec_clean.specs.Page.{behind_all, sets_any, Setting, IsSafe, PageWith, closing, first_set, IsPageWith, are_paired, led_by, switches, AreLeft, Leaves, pieces_behind, run_behind, shown_pieces}
-use Rattle.csicodec_clean.specs.{Shown.IsShown, Shown.shown, Links.Address, Links.Begun, Links.behind, Links.links_in, Links.IsLink, Links.IsWithin}
-use Rattle.csicodec_clean.specs.{Links.start, Titles.with_titles, Addresses.is_web}
+use Rattle.csicodec_looks.specs.{Pieces.Char, Pieces.turn, Pieces.begins, Pieces.ends, Pieces.opens, Look.is_plain, Look.plain}
+use Rattle.csicodec_clean.specs.Page.{behind_escape, behind_all, sets_any, Setting, IsSafe, PageWith, closing, first_set, IsPageWith, are_paired, led_by, switches, AreLeft, Leaves, pieces_behind, run_behind, shown_pieces}
+use Rattle.csicodec_clean.specs.{Styled.is_ris, Shown.IsShown, Shown.shown, Links.Address, Links.Begun, Links.behind, Links.links_in, Links.IsLink}
+use Rattle.csicodec_clean.specs.{Links.IsWithin, Links.start, Titles.with_titles, Addresses.is_web}
 use Rattle.std.specs.{List.AllByRecursion, Str.all_scalars}
 use lib.Utf8.{scalar}
 use Rattle.csicodec_clean.proofs.{Plain.all_both, Plain.kept_shown, Plain.scalars_lossy, Linked.fine_behind, Linked.fine_links, Linked.links_none}
 use Rattle.bstr.specs.Utf8.{lossy_chars}
 use Rattle.csicodec_spans.specs.{declared.table.Kind.Kind, Parts.Part}
 use Rattle.csicodec_actions.specs.Actions as action
+use Rattle.csicodec_actions.specs.Devices as device
 
 -- where no attribute comes it looks the same
 pub unset : (l : Look) (actions : List Action) → sets_any actions ≡ false → behind_all l actions ≡ l
 unset l [] h = refl
 unset l (action.Sgr s ∷ actions) h = absurd (false≢true (sym h))
+unset l (action.Device device.SoftReset ∷ actions) h = absurd (false≢true (sym h))
 unset l (_ ∷ actions) h = unset l actions h
 
 -- ---- safe
@@ -66,6 +68,7 @@ safe_string m l to b bytes h = by m.links refl
 
 safe_leaves : (s after : Setting) (k : Kind) (bytes : List ℕ) (own : List Piece) → IsWithin s.begun.address → Leaves s k bytes own after → Safe s.markup own
 safe_leaves s after Kind.Csi bytes own h (actions, isof, behind, e) = subst (Safe s.markup) (sym e) (safe_turn s.markup s.look (behind_all s.look actions) (sets_any actions))
+safe_leaves s after Kind.Esc bytes own h (e, behind) = subst (Safe s.markup) (sym e) (safe_turn s.markup s.look (behind_escape s bytes).look (is_ris bytes))
 safe_leaves s after Kind.Str bytes own h (e, behind) = subst (Safe s.markup) (sym e) (safe_string s.markup s.look s.to s.begun bytes h)
 safe_leaves s after _ bytes own h l = subst (Safe s.markup) (sym l.0) tt
 
@@ -77,6 +80,7 @@ safe_behind m _ run = safe_run m run
 pub stays : (s after : Setting) (k : Kind) (bytes : List ℕ) (own : List Piece) → IsWithin s.begun.address → Leaves s k bytes own after
     → (after.markup ≡ s.markup) × IsWithin after.begun.address
 stays s after Kind.Csi bytes own h (actions, isof, behind, e) = rw behind (refl, h)
+stays s after Kind.Esc bytes own h (e, behind) = rw behind (refl, h)
 stays s after Kind.Str bytes own h (e, behind) = rw behind (refl, fine_behind s.markup.links bytes s.begun h)
 stays s after _ bytes own h l = rw l.1 (refl, h)
 
@@ -127,8 +131,18 @@ paired_switches m l to (a ∷ links) ps =
 abbrev paired_in : Setting → List Piece → Bool
 paired_in s ps = are_paired (leads s.to) (inside s.look) ps
 
+paired_escape : (s : Setting) (bytes : List ℕ) (ps : List Piece)
+    → paired_in s (turn s.markup (is_ris bytes) s.look (behind_escape s bytes).look ++ ps) ≡ paired_in (behind_escape s bytes) ps
+paired_escape s bytes ps = by (is_ris bytes)
+  where
+    by : (ris : Bool) → are_paired (leads s.to) (inside s.look) (turn s.markup ris s.look (if ris then plain else s.look) ++ ps)
+        ≡ are_paired (leads s.to) (inside (if ris then plain else s.look)) ps
+    by true = paired_ends (leads s.to) s.look plain s.markup ps
+    by false = refl
+
 paired_leaves : (s after : Setting) (k : Kind) (bytes : List ℕ) (own ps : List Piece) → Leaves s k bytes own after → paired_in s (own ++ ps) ≡ paired_in after ps
 paired_leaves s after Kind.Csi bytes own ps (actions, isof, behind, e) = rw (e, behind) (paired_turn s.markup (leads s.to) s.look actions ps)
+paired_leaves s after Kind.Esc bytes own ps (e, behind) = rw (e, behind) (paired_escape s bytes ps)
 paired_leaves s after Kind.Str bytes own ps (e, behind) = rw (e, behind) (paired_switches s.markup s.look s.to (links_in s.markup.links s.begun bytes) ps)
 paired_leaves s after _ bytes own ps h = rw (h.0, h.1) refl
 

@@ -195,6 +195,7 @@ module _ {S : Type 0} where
       by : (k : Kind) → IsStep {S = S} drops k s run p.bytes first mid next
           → cond (is_text k) (stripped (run ++ p.bytes) (ps ++ qs)) (shown_text run ++ stripped [] (ps ++ qs)) ≡ first ++ stripped next (ps ++ qs)
       by Kind.Csi (own, none, a, b) = rw (a, b, none, append-nil (shown_text run)) refl
+      by Kind.Esc (own, none, a, b) = rw (a, b, none, append-nil (shown_text run)) refl
       by Kind.Str (own, given, a, b) = rw (a, b, none_given p.bytes s mid own given, append-nil (shown_text run)) refl
       by _ h = rw (h.0, h.2) refl
 

@@ -124,6 +124,7 @@ same_behind (b ∷ bytes) d t text after (first, mid, others, byte, e, rest) =
 resumed_step : (k : Kind) (d : Depth) (t : Bool) (run bytes text : List ℕ) (after : Keeping) (left : List ℕ)
     → IsStep keeps k (resumed d t) run bytes text after left → (u : Bool) × (after ≡ resumed d u)
 resumed_step Kind.Csi d t run bytes text after left (own, (actions, is, out, same), e, none) = (_, same)
+resumed_step Kind.Esc d t run bytes text after left (own, (out, same), e, none) = (_, same)
 resumed_step Kind.Str d t run bytes text after left (own, given, e, none) = (t, same_behind bytes d t own after given)
 resumed_step _ d t run bytes text after left h = (t, h.1)
 

@@ -1,16 +1,18 @@
 -- Styles and links that stay between the runs of text, and that what stays is safe by its bytes alone.
 use Rattle.std.proofs.Common.{◌≡◌, ℕ, Bool, true, false, List, [], ◌∷◌, ◌++◌, map, encode_utf8_all, length, refl, sym, ap, subst, ◌∙◌, append_assoc, append-nil, arith, filter, not, ◌==◌, if◌then◌else◌, flat_map, ◌<◌, ◌≤◌, ◌+◌, ◌/◌, ◌%◌, ◌⊎◌, inl, inr, ne_eqb, ◌&&◌}
 use Rattle.std.proofs.lemmas.List.Folds.{flat_map-map}
-use Rattle.csicodec_clean.proofs.Common.{and_parts, flat_map-append, map-append, AllByRecursion, all_scalars, scalar, lossy_chars, Action, text, texts, ReadsAlone, Kind, Part, Address, Begun, IsLink, IsWithin, all_behind, is_linked, link_text, links_at, links_in, next, start, Item, Shown, Style, Link, item_texts, shown_items, Leaves, begun_behind, run_behind, items_behind, AreLeft, styles_of, link_in, links_of, ends_of, StylesIn, IsSafe, IsStyledIn, Keeping, keeping, first_kept, keeps, resets, shown, shown_text, IsShown, with_titles, AreGiven, IsStep, AreSteps, Ends, longest, Depth, reduced, Passing, nat_tests, SgrInRange, hides, is_param, is_visible}
+use Rattle.csicodec_clean.proofs.Common.{and_parts, cond_both, flat_map-append, map-append, AllByRecursion, all_scalars, scalar, lossy_chars, Action, text, texts, ReadsAlone, Kind, Part, Address, Begun, IsLink, IsWithin, all_behind, is_linked, link_text, links_at, links_in, next, start, Item, Shown, Style, Link, item_texts, shown_items, Leaves, begun_behind, run_behind, items_behind, AreLeft, styles_of, link_in, links_of, ends_of, StylesIn, IsSafe, IsStyledIn, Keeping, keeping, first_kept, keeps, resets, shown, shown_text, IsShown, with_titles, AreGiven, IsStep, AreSteps, Ends, longest, Depth, reduced, Passing, nat_tests, SgrInRange, hides, is_param, is_visible}
 use Rattle.csicodec_clean.proofs.{Linked.fine_behind, Linked.fine_links, Linked.linked_on, Linked.links_none, Reduced.reduced_alone, Reduced.reduced_hides}
 use Rattle.csicodec_clean.proofs.{Reduced.reduced_twice, Plain.kept_shown, Plain.scalars_lossy, Plain.all_both, Taken.StyleAlone, Taken.taken_alone}
 use Rattle.csicodec_clean.proofs.{Coded.AreCodes, Coded.IsCode, Coded.coded, Coded.style_range}
 use Rattle.std.specs.Char.{encode_utf8}
 use Rattle.csicodec_base.specs.declared.sgr.Sgr.{Sgr}
 use Rattle.csicodec_streams.proofs.Exactly.{round_trip_lem}
-use Rattle.csicodec_clean.specs.{Links.behind, Links.link_texts, Links.no_address, Styled.is_reset, Styled.kept, Styled.item_text, Styled.is_open}
-use Rattle.csicodec_clean.specs.{Styled.style_in, Styled.closed, Marked.Stand, Marked.Text, Marked.Numbers, Marked.Params, Marked.Url, Marked.stand_behind}
-use Rattle.csicodec_clean.specs.{Marked.is_marked, Marked.IsMarked}
+use Rattle.csicodec_terminal.specs.Terminal.{Terminal}
+use Rattle.csicodec_tokens.specs.{declared.param.CsiParam.CsiParam, Sequence.Seq}
+use Rattle.csicodec_clean.specs.Styled.{is_reset, kept, item_text, is_open, is_decstr, is_ris, set_back, styled_behind, styles_at, styles_in, style_in, closed}
+use Rattle.csicodec_clean.specs.{Links.behind, Links.link_texts, Links.no_address, Marked.Stand, Marked.Text, Marked.Numbers, Marked.Params, Marked.Url}
+use Rattle.csicodec_clean.specs.{Marked.stand_behind, Marked.is_marked, Marked.IsMarked}
 use Rattle.csicodec_actions.specs.Actions as action
 
 -- ---- one action behind the other
@@ -89,7 +91,7 @@ given_string (c ∷ bytes) k after text (first, mid, others, here, e, rest) =
 
 record Left (parts : List Part) (k : Keeping) (run text : List ℕ) (after : Keeping) (last : List ℕ) : Type 0 where
   items : List Item
-  left : AreLeft k.passing k.begun run parts items
+  left : AreLeft k.passing k.styled k.begun run parts items
   all : text ++ shown_text last ≡ item_texts items
   styled : after.styled ≡ is_open k.styled (styles_of items)
   linked : after.linked ≡ is_linked k.linked (links_of items)
@@ -97,10 +99,11 @@ record Left (parts : List Part) (k : Keeping) (run text : List ℕ) (after : Kee
 -- what a step of the rule gives is the text of what its part leaves
 pub record Step (kind : Kind) (k mid : Keeping) (run bytes first next : List ℕ) : Type 0 where
   pub own : List Item
-  pub leaves : Leaves k.passing k.begun kind bytes own
+  pub leaves : Leaves k.passing k.styled k.begun kind bytes own
   pub text : (others : List Item) → item_texts (items_behind kind run ++ (own ++ others)) ≡ first ++ item_texts others
   pub next_run : next ≡ run_behind kind run bytes
-  pub state : mid ≡ keeping k.passing (is_open k.styled (styles_of own)) (is_linked k.linked (links_of own)) (begun_behind k.passing k.begun kind bytes)
+  pub state : mid ≡ keeping k.passing (styled_behind k.styled kind own) (is_linked k.linked (links_of own)) (begun_behind k.passing k.begun kind bytes)
+  pub opens : styled_behind k.styled kind own ≡ is_open k.styled (styles_of own)
 
 -- where it ends the run
 ended : (run first given : List ℕ) (own others : List Item) → first ≡ shown_text run ++ given → item_texts own ≡ given
@@ -108,15 +111,26 @@ ended : (run first given : List ℕ) (own others : List Item) → first ≡ show
 ended run first given own others e same = rw (part_texts run own others, e, same) (simp append_assoc)
 
 pub step : (kind : Kind) (k mid : Keeping) (run bytes first next : List ℕ) → IsStep keeps kind k run bytes first mid next → Step kind k mid run bytes first next
-step Kind.Text k mid run bytes first next (none, same, on) = record { own = []; leaves = refl; text = λ others. rw none refl; next_run = on; state = same }
+step Kind.Text k mid run bytes first next (none, same, on) = record { own = []; leaves = refl; text = λ others. rw none refl; next_run = on; state = same; opens = refl }
 step Kind.Csi k mid run bytes first next (given, (actions, is, same, state), e, none) =
-    let ss = kept k.passing.depth actions in
+    let ss = styles_in k.passing.depth k.styled bytes actions in
     record {
       own = map Style ss;
       leaves = (actions, is, refl);
       text = λ others. ended run first given (map Style ss) others e ((simp flat_map-map) ∙ sym same);
       next_run = none;
       state = rw (state, each_in style_in Style (λ s. refl) ss, none_in link_in Style (λ s. refl) ss) refl;
+      opens = refl;
+    }
+step Kind.Esc k mid run bytes first next (given, (same, state), e, none) =
+    let ss = styles_at k.styled bytes in
+    record {
+      own = map Style ss;
+      leaves = refl;
+      text = λ others. ended run first given (map Style ss) others e ((simp flat_map-map) ∙ sym same);
+      next_run = none;
+      state = rw (state, each_in style_in Style (λ s. refl) ss, none_in link_in Style (λ s. refl) ss) refl;
+      opens = refl;
     }
 step Kind.Str k mid run bytes first next (given, steps, e, none) =
     let g = given_string bytes k mid given steps in
@@ -126,11 +140,12 @@ step Kind.Str k mid run bytes first next (given, steps, e, none) =
       leaves = refl;
       text = λ others. ended run first given (map Link links) others e (flat_map-map item_text Link links ∙ sym g.0);
       next_run = none;
-      state = rw (g.1, each_in link_in Link (λ a. refl) links, none_in style_in Link (λ a. refl) links) refl;
+      state = rw (g.1, each_in link_in Link (λ a. refl) links) refl;
+      opens = rw (none_in style_in Link (λ a. refl) links) refl;
     }
 step _ k mid run bytes first next h =
     let e = h.0 ∙ sym (append-nil (shown_text run)) in
-    record { own = []; leaves = refl; text = λ others. ended run first [] [] others e refl; next_run = h.2; state = h.1 }
+    record { own = []; leaves = refl; text = λ others. ended run first [] [] others e refl; next_run = h.2; state = h.1; opens = refl }
 
 left_of : (parts : List Part) (k after : Keeping) (run text last : List ℕ) → AreSteps keeps k run parts text after last → Left parts k run text after last
 left_of [] k after run text last (none, same, e) =
@@ -145,13 +160,13 @@ left_of [] k after run text last (none, same, e) =
 left_of (p ∷ parts) k after run text last (first, mid, next, others, is, e, rest) =
     let h = step p.kind k mid run p.bytes first next is in
     let r = left_of parts mid after next others last rest in
-    let left = subst (λ (x : Keeping). AreLeft x.passing x.begun (run_behind p.kind run p.bytes) parts r.items) h.state
-    (subst (λ (y : List ℕ). AreLeft mid.passing mid.begun y parts r.items) h.next_run r.left) in
+    let left = subst (λ (x : Keeping). AreLeft x.passing x.styled x.begun (run_behind p.kind run p.bytes) parts r.items) h.state
+    (subst (λ (y : List ℕ). AreLeft mid.passing mid.styled mid.begun y parts r.items) h.next_run r.left) in
     record {
       items = items_behind p.kind run ++ (h.own ++ r.items);
       left = (h.own, r.items, h.leaves, refl, left);
       all = rw (e, h.text r.items, ← r.all) (append_assoc first others (shown_text last));
-      styled = r.styled ∙ ap (λ (x : Keeping). is_open x.styled (styles_of r.items)) h.state ∙ (rw (part_styles p.kind run h.own r.items, open_on) refl);
+      styled = r.styled ∙ ap (λ (x : Keeping). is_open x.styled (styles_of r.items)) h.state ∙ (rw (h.opens, part_styles p.kind run h.own r.items, open_on) refl);
       linked = r.linked ∙ ap (λ (x : Keeping). is_linked x.linked (links_of r.items)) h.state ∙ (rw (part_links p.kind run h.own r.items, linked_on) refl);
     }
 
@@ -189,6 +204,48 @@ safe_kept d (action.Sgr s ∷ xs) all =
     grind (arith, safe_kept d xs all.1, reduced_hides d.depth s, reduced_alone d.depth s all.0, reduced_twice d.depth s)
 safe_kept d (x ∷ xs) all = safe_kept d xs all.1
 
+reset_alone : ReadsAlone (action.Sgr Sgr.Reset) false
+reset_alone = (round_trip_lem [] false 109 tt (omega arith, omega arith) (action.Sgr Sgr.Reset ∷ []) refl).attributes Sgr.Reset (0, omega arith, refl)
+
+-- what sets back what is open is a reset, or nothing
+reset_safe : (d : Passing) → IsSafe d (Style Sgr.Reset)
+reset_safe d = (refl, reset_alone, refl)
+
+safe_back : (d : Passing) (t : Bool) → AllByRecursion (IsSafe d) (map Style (set_back t))
+safe_back d true = (reset_safe d, tt)
+safe_back d false = tt
+
+safe_in : (d : Passing) (t : Bool) (bytes : List ℕ) (actions : List Action) → AllByRecursion StyleAlone actions → AllByRecursion (IsSafe d) (map Style (styles_in d.depth t bytes actions))
+safe_in d t bytes actions all =
+    cond_both (is_decstr bytes) (set_back t) (kept d.depth actions) (λ (ss : List Sgr). AllByRecursion (IsSafe d) (map Style ss)) (λ _. safe_back d t) (λ _. safe_kept d actions all)
+
+safe_at : (d : Passing) (t : Bool) (bytes : List ℕ) → AllByRecursion (IsSafe d) (map Style (styles_at t bytes))
+safe_at d t bytes = cond_both (is_ris bytes) (set_back t) [] (λ (ss : List Sgr). AllByRecursion (IsSafe d) (map Style ss)) (λ _. safe_back d t) (λ _. tt)
+
+-- behind it none is open
+pub back_shut : (t : Bool) → false ≡ is_open t (set_back t)
+back_shut true = refl
+back_shut false = refl
+
+-- what the rule that keeps gives for a control sequence, which is DECSTR or another
+pub sequence_back : (k : Keeping) (bytes : List ℕ) (list : List CsiParam) (final : ℕ) (actions : List Action) (t : Bool) → Seq bytes list final → Terminal list false final actions
+    → is_decstr bytes ≡ true → t ≡ is_open k.styled (set_back k.styled)
+    → keeps.sequence k bytes (texts (map action.Sgr (set_back k.styled))) (keeping k.passing t k.linked k.begun)
+sequence_back k bytes list final actions t seq are e shut = rw (e, shut) (actions, (list, final, seq, are), refl, refl)
+
+pub sequence_kept : (k : Keeping) (bytes : List ℕ) (list : List CsiParam) (final : ℕ) (actions : List Action) (t : Bool) → Seq bytes list final → Terminal list false final actions
+    → is_decstr bytes ≡ false → t ≡ is_open k.styled (kept k.passing.depth actions)
+    → keeps.sequence k bytes (texts (map action.Sgr (kept k.passing.depth actions))) (keeping k.passing t k.linked k.begun)
+sequence_kept k bytes list final actions t seq are e now = rw (e, now) (actions, (list, final, seq, are), refl, refl)
+
+-- and for an escape sequence, which is RIS or another
+pub escape_back : (k : Keeping) (bytes : List ℕ) (t : Bool) → is_ris bytes ≡ true → t ≡ is_open k.styled (set_back k.styled)
+    → keeps.escape k bytes (texts (map action.Sgr (set_back k.styled))) (keeping k.passing t k.linked k.begun)
+escape_back k bytes t e shut = rw (e, shut) (refl, refl)
+
+pub escape_none : (k : Keeping) (bytes : List ℕ) → is_ris bytes ≡ false → keeps.escape k bytes [] k
+escape_none k bytes e = rw e (refl, refl)
+
 safe_links : (d : Passing) (bytes : List ℕ) (b : Begun) → IsWithin b.address → AllByRecursion (IsSafe d) (map Link (links_in d.links b bytes))
 safe_links d bytes b h = by d.links refl
   where
@@ -200,10 +257,11 @@ safe_links d bytes b h = by d.links refl
     by true e = all (links_in true b bytes) e (fine_links true bytes b h)
     by false e = rw (links_none bytes b) tt
 
-safe_part : (d : Passing) (b : Begun) (k : Kind) (bytes : List ℕ) (own : List Item) → IsWithin b.address → Leaves d b k bytes own → AllByRecursion (IsSafe d) own
-safe_part d b Kind.Csi bytes own h (actions, is, e) = rw e (safe_kept d actions (taken_alone bytes actions is))
-safe_part d b Kind.Str bytes own h e = rw e (safe_links d bytes b h)
-safe_part d b _ bytes own h e = rw e tt
+safe_part : (d : Passing) (t : Bool) (b : Begun) (k : Kind) (bytes : List ℕ) (own : List Item) → IsWithin b.address → Leaves d t b k bytes own → AllByRecursion (IsSafe d) own
+safe_part d t b Kind.Csi bytes own h (actions, is, e) = rw e (safe_in d t bytes actions (taken_alone bytes actions is))
+safe_part d t b Kind.Esc bytes own h e = rw e (safe_at d t bytes)
+safe_part d t b Kind.Str bytes own h e = rw e (safe_links d bytes b h)
+safe_part d t b _ bytes own h e = rw e tt
 
 safe_behind : (d : Passing) (k : Kind) (run : List ℕ) → AllByRecursion (IsSafe d) (items_behind k run)
 safe_behind d Kind.Text run = tt
@@ -213,14 +271,11 @@ fine_part : (d : Passing) (b : Begun) (k : Kind) (bytes : List ℕ) → IsWithin
 fine_part d b Kind.Str bytes h = fine_behind d.links bytes b h
 fine_part d b _ bytes h = h
 
-safe_left : (d : Passing) (b : Begun) (parts : List Part) (run : List ℕ) (items : List Item) → IsWithin b.address → AreLeft d b run parts items → AllByRecursion (IsSafe d) items
-safe_left d b [] run items h e = rw e (safe_run d run)
-safe_left d b (p ∷ parts) run items h (own, others, leaves, e, rest) =
-    let later = safe_left d (begun_behind d b p.kind p.bytes) parts (run_behind p.kind run p.bytes) others (fine_part d b p.kind p.bytes h) rest in
-    rw e (all_both (IsSafe d) (items_behind p.kind run) (own ++ others) (safe_behind d p.kind run) (all_both (IsSafe d) own others (safe_part d b p.kind p.bytes own h leaves) later))
-
-reset_alone : ReadsAlone (action.Sgr Sgr.Reset) false
-reset_alone = (round_trip_lem [] false 109 tt (omega arith, omega arith) (action.Sgr Sgr.Reset ∷ []) refl).attributes Sgr.Reset (0, omega arith, refl)
+safe_left : (d : Passing) (t : Bool) (b : Begun) (parts : List Part) (run : List ℕ) (items : List Item) → IsWithin b.address → AreLeft d t b run parts items → AllByRecursion (IsSafe d) items
+safe_left d t b [] run items h e = rw e (safe_run d run)
+safe_left d t b (p ∷ parts) run items h (own, others, leaves, e, rest) =
+    let later = safe_left d (styled_behind t p.kind own) (begun_behind d b p.kind p.bytes) parts (run_behind p.kind run p.bytes) others (fine_part d b p.kind p.bytes h) rest in
+    rw e (all_both (IsSafe d) (items_behind p.kind run) (own ++ others) (safe_behind d p.kind run) (all_both (IsSafe d) own others (safe_part d t b p.kind p.bytes own h leaves) later))
 
 none_within : IsWithin no_address
 none_within = record { params = tt; few = omega arith; url = tt; short = omega arith }
@@ -243,13 +298,13 @@ links_shut items linked styled e = grind (arith, links_both, linked_on)
 
 safe_ends : (d : Passing) (linked styled : Bool) → (linked ≡ true → d.links ≡ true) → AllByRecursion (IsSafe d) (ends_of linked styled)
 safe_ends d linked styled f =
-    let reset : IsSafe d (Style Sgr.Reset) = (refl, reset_alone, refl) in
+    let reset = reset_safe d in
     let none = none_fine in
     grind arith
 
 pub safe_closed : (d : Passing) (bytes text : List ℕ) (s : StylesIn d bytes text) → AllByRecursion (IsSafe d) (closed s.items)
 safe_closed d bytes text s =
-    let safe = safe_left d start (with_titles false s.parts) [] s.items none_within s.left in
+    let safe = safe_left d false start (with_titles false s.parts) [] s.items none_within s.left in
     let linked = is_linked false (links_of s.items) in
     let styled = is_open false (styles_of s.items) in
     all_both (IsSafe d) s.items (ends_of linked styled) safe (safe_ends d linked styled (λ e. linked_passes d s.items false (λ no. absurd cc) safe e))

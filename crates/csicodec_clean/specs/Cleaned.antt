@@ -24,11 +24,12 @@ pub record Strips (limit : ℕ) (bytes text : List ℕ) : Type 0 where
 abbrev pub longest : ℕ
 longest = 65536
 
--- what a rule gives: how it writes text, and what in the place of a control sequence, and for each byte of a control string. From a
--- state, for what came, this text, and the state then.
+-- what a rule gives: how it writes text, and what in the place of a control sequence, of an escape sequence, and for each byte of a control
+-- string. From a state, for what came, this text, and the state then.
 pub record RuleOf (S : Type 0) : Type 1 where
   pub writing : Writing
   pub sequence : S → List ℕ → List ℕ → S → Type 0
+  pub escape : S → List ℕ → List ℕ → S → Type 0
   pub byte : S → ℕ → List ℕ → S → Type 0
 
 -- the bytes of a control string, or of a piece of one, in turn
@@ -45,6 +46,8 @@ IsStep Gives Kind.Text s run bytes text after left = (text ≡ []) × (after ≡
     × (left ≡ run ++ bytes)
 IsStep Gives Kind.Csi s run bytes text after left = (own : List ℕ)
     × Gives.sequence s bytes own after × (text ≡ run_as Gives.writing run ++ own) × (left ≡ [])
+IsStep Gives Kind.Esc s run bytes text after left = (own : List ℕ)
+    × Gives.escape s bytes own after × (text ≡ run_as Gives.writing run ++ own) × (left ≡ [])
 IsStep Gives Kind.Str s run bytes text after left = (own : List ℕ)
     × AreGiven Gives s bytes own after × (text ≡ run_as Gives.writing run ++ own) × (left ≡ [])
 IsStep Gives k s run bytes text after left = (text ≡ run_as Gives.writing run) × (after ≡ s)
@@ -77,11 +80,12 @@ pub record Ends {S : Type 0} (Gives : RuleOf S) (Closes : EndOf S) (limit : ℕ)
   pub closes : Closes after close
   pub all : text ≡ before ++ (run_as Gives.writing run ++ close)
 
--- the rule that drops every control sequence and every control string
+-- the rule that drops every control sequence, every escape sequence and every control string
 abbrev pub drops : {S : Type 0} → RuleOf S
 drops = record {
   writing = None;
   sequence = λ s bytes text after. text ≡ [];
+  escape = λ s bytes text after. text ≡ [];
   byte = λ s b text after. text ≡ [];
 }
 

@@ -6,22 +6,25 @@ use Rattle.csicodec_actions.specs.Actions.{Action}
 use Rattle.csicodec_terminal.specs.Terminal.{IsTakenFor}
 use Rattle.csicodec_spans.specs.{declared.table.Kind.Kind, Parts.Part, Parts.IsWhole, declared.table.Mode.Mode}
 use Rattle.csicodec_clean.specs.{Shown.shown, Shown.IsShown, Titles.with_titles, Addresses.is_web, Links.Address, Links.Begun, Links.all_behind}
-use Rattle.csicodec_clean.specs.{Links.is_visible, Links.links_in, Links.longest_url, Links.start, Cleaned.longest}
+use Rattle.csicodec_clean.specs.{Links.is_visible, Links.links_in, Links.longest_url, Links.start, Styled.is_ris, Cleaned.longest}
 use Rattle.csicodec_looks.specs.Pieces.{Piece, Char, Begin, End, Open, Shut, piece_texts, ends, turn, shuts, switch, simple}
 use Rattle.csicodec_looks.specs.{declared.look.Look.Look, declared.markup.Markup.Markup, Look.is_plain, Look.plain, Look.behind}
 use Rattle.csicodec_base.specs.declared.sgr.Sgr.{Sgr}
 use Rattle.csicodec_actions.specs.Actions as action
+use Rattle.csicodec_actions.specs.Devices as device
 
--- behind the actions of a sequence
+-- behind the actions of a sequence: DECSTR sets all attributes back
 abbrev pub behind_all : Look → List Action → Look
 behind_all l [] = l
 behind_all l (action.Sgr s ∷ actions) = behind_all (behind l s) actions
+behind_all l (action.Device device.SoftReset ∷ actions) = behind_all plain actions
 behind_all l (a ∷ actions) = behind_all l actions
 
--- whether an attribute is among them
+-- whether an attribute is among them, or what sets all back
 abbrev pub sets_any : List Action → Bool
 sets_any [] = false
 sets_any (action.Sgr s ∷ actions) = true
+sets_any (action.Device device.SoftReset ∷ actions) = true
 sets_any (a ∷ actions) = sets_any actions
 
 -- the characters among them
@@ -56,6 +59,10 @@ first_set m = setting m plain [] start
 abbrev pub behind_actions : Setting → List Action → Setting
 behind_actions s actions = setting s.markup (behind_all s.look actions) s.to s.begun
 
+-- behind an escape sequence: RIS sets all attributes back
+abbrev pub behind_escape : Setting → List ℕ → Setting
+behind_escape s bytes = setting s.markup (if is_ris bytes then plain else s.look) s.to s.begun
+
 abbrev pub behind_string : Setting → List ℕ → Setting
 behind_string s bytes =
     setting s.markup s.look (led_by s.to (links_in s.markup.links s.begun bytes))
@@ -69,12 +76,15 @@ closing s = ends s.look ++ shuts s.to
 abbrev pub shown_pieces : List ℕ → List Piece
 shown_pieces run = map Char (filter shown (lossy_chars run))
 
--- what a part leaves, and the setting behind it: a control sequence the turn to the look behind its actions, a control string, where
--- links pass, those that are over with it, and any other part nothing
+-- what a part leaves, and the setting behind it: a control sequence the turn to the look behind its actions, RIS the turn to text without attributes,
+-- a control string, where links pass, those that are over with it, and any other part nothing
 abbrev pub Leaves : Setting → Kind → List ℕ → List Piece → Setting → Type 0
 Leaves s Kind.Csi bytes own after = (actions : List Action) × IsTakenFor bytes actions
     × (after ≡ behind_actions s actions)
     × (own ≡ turn s.markup (sets_any actions) s.look (behind_all s.look actions))
+Leaves s Kind.Esc bytes own after =
+    (own ≡ turn s.markup (is_ris bytes) s.look (behind_escape s bytes).look)
+    × (after ≡ behind_escape s bytes)
 Leaves s Kind.Str bytes own after =
     (own ≡ switches s.markup s.look s.to (links_in s.markup.links s.begun bytes))
     × (after ≡ behind_string s bytes)

@@ -1,5 +1,5 @@
 -- What is left of a stream where its styles stay: characters that are shown, known styles but concealed text and fonts, and links, where they pass.
-use Rattle.std.specs.Prelude.{ℕ, ◌≡◌, None, Bool, true, false, not, List, [], ◌∷◌, ◌++◌, map, filter, if◌then◌else◌, encode_utf8}
+use Rattle.std.specs.Prelude.{ℕ, ◌≡◌, ◌==◌, ◌&&◌, None, Bool, true, false, not, List, [], ◌∷◌, ◌++◌, length, map, filter, slice_index, if◌then◌else◌, encode_utf8}
 use Rattle.std.specs.{List.AllByRecursion, List.flat_map, Char.IsScalar}
 use Rattle.bstr.specs.Utf8.{lossy_chars}
 use Rattle.csicodec_tokens.specs.{declared.param.CsiParam.CsiParam, Sequence.Seq}
@@ -32,6 +32,24 @@ kept d [] = []
 kept d (action.Sgr s ∷ actions) = if hides s then kept d actions else reduced d s ∷ kept d actions
 kept d (a ∷ actions) = kept d actions
 
+-- what sets all attributes back: RIS, `ESC c` (ECMA-48, 8.3.105; DEC VT510), and DECSTR, `ESC [ ! p` (DEC VT510, DECSTR: "SGR: normal rendition")
+abbrev pub is_ris : List ℕ → Bool
+is_ris bytes = length bytes == 2 && slice_index bytes 1 == 99
+
+abbrev pub is_decstr : List ℕ → Bool
+is_decstr bytes = length bytes == 4 && (slice_index bytes 2 == 33 && slice_index bytes 3 == 112)
+
+-- what stays of that: a reset where a style is open, and nothing where none is
+abbrev pub set_back : Bool → List Sgr
+set_back styled = if styled then Sgr.Reset ∷ [] else []
+
+-- what stays of a control sequence, behind which a style is open or not, and of an escape sequence
+abbrev pub styles_in : Depth → Bool → List ℕ → List Action → List Sgr
+styles_in d styled bytes actions = if is_decstr bytes then set_back styled else kept d actions
+
+abbrev pub styles_at : Bool → List ℕ → List Sgr
+styles_at styled bytes = if is_ris bytes then set_back styled else []
+
 -- the bytes are one control sequence, of these actions by the table
 abbrev pub IsOf : List ℕ → List Action → Type 0
 IsOf bytes actions = (list : List CsiParam) × (final : ℕ) × Seq bytes list final
@@ -55,13 +73,26 @@ item_texts items = flat_map item_text items
 abbrev pub shown_items : List ℕ → List Item
 shown_items run = map Shown (filter shown (lossy_chars run))
 
--- what a part leaves: a control sequence the styles that stay of what terminals take it for, a control string, where links pass, the link that is over with it,
--- and any other nothing
-abbrev pub Leaves : Passing → Begun → Kind → List ℕ → List Item → Type 0
-Leaves d b Kind.Csi bytes own = (actions : List Action) × IsTakenFor bytes actions
-    × (own ≡ map Style (kept d.depth actions))
-Leaves d b Kind.Str bytes own = own ≡ map Link (links_in d.links b bytes)
-Leaves d b k bytes own = own ≡ []
+-- whether the last of the styles is no reset
+abbrev pub is_open : Bool → List Sgr → Bool
+is_open styled [] = styled
+is_open styled (s ∷ styles) = is_open (not (is_reset s)) styles
+
+abbrev pub style_in : Item → List Sgr
+style_in (Style s) = s ∷ []
+style_in item = []
+
+abbrev pub styles_of : List Item → List Sgr
+styles_of items = flat_map style_in items
+
+-- what a part leaves, where a style is open or not: a control sequence the styles that stay of what terminals take it for, an escape sequence a reset where it
+-- sets back what is open, a control string, where links pass, the link that is over with it, and any other nothing
+abbrev pub Leaves : Passing → Bool → Begun → Kind → List ℕ → List Item → Type 0
+Leaves d t b Kind.Csi bytes own = (actions : List Action) × IsTakenFor bytes actions
+    × (own ≡ map Style (styles_in d.depth t bytes actions))
+Leaves d t b Kind.Esc bytes own = own ≡ map Style (styles_at t bytes)
+Leaves d t b Kind.Str bytes own = own ≡ map Link (links_in d.links b bytes)
+Leaves d t b k bytes own = own ≡ []
 
 abbrev pub begun_behind : Passing → Begun → Kind → List ℕ → Begun
 begun_behind d b Kind.Str bytes = all_behind d.links b bytes
@@ -75,25 +106,19 @@ abbrev pub items_behind : Kind → List ℕ → List Item
 items_behind Kind.Text run = []
 items_behind k run = shown_items run
 
+-- whether a style is open behind a part, by what it leaves
+abbrev pub styled_behind : Bool → Kind → List Item → Bool
+styled_behind t Kind.Str own = t
+styled_behind t k own = is_open t (styles_of own)
+
 -- what is left of the parts, behind a run of text: text goes on with the run, and any other part ends it
-abbrev pub AreLeft : Passing → Begun → List ℕ → List Part → List Item → Type 0
-AreLeft d b run [] items = items ≡ shown_items run
-AreLeft d b run (p ∷ parts) items =
-    (own : List Item) × (others : List Item) × Leaves d b p.kind p.bytes own
+abbrev pub AreLeft : Passing → Bool → Begun → List ℕ → List Part → List Item → Type 0
+AreLeft d t b run [] items = items ≡ shown_items run
+AreLeft d t b run (p ∷ parts) items =
+    (own : List Item) × (others : List Item) × Leaves d t b p.kind p.bytes own
     × (items ≡ items_behind p.kind run ++ (own ++ others))
-    × AreLeft d (begun_behind d b p.kind p.bytes) (run_behind p.kind run p.bytes) parts others
-
--- whether the last of the styles is no reset
-abbrev pub is_open : Bool → List Sgr → Bool
-is_open styled [] = styled
-is_open styled (s ∷ styles) = is_open (not (is_reset s)) styles
-
-abbrev pub style_in : Item → List Sgr
-style_in (Style s) = s ∷ []
-style_in item = []
-
-abbrev pub styles_of : List Item → List Sgr
-styles_of items = flat_map style_in items
+    × AreLeft d (styled_behind t p.kind own) (begun_behind d b p.kind p.bytes)
+    (run_behind p.kind run p.bytes) parts others
 
 abbrev pub link_in : Item → List Address
 link_in (Link a) = a ∷ []
@@ -115,7 +140,7 @@ pub record StylesIn (d : Passing) (bytes text : List ℕ) : Type 0 where
   pub parts : List Part
   pub whole : IsWhole longest Mode.Text bytes parts
   pub items : List Item
-  pub left : AreLeft d start [] (with_titles false parts) items
+  pub left : AreLeft d false start [] (with_titles false parts) items
   pub all : text ≡ item_texts (closed items)
 
 -- so many colours, and no links
@@ -175,8 +200,11 @@ keeps = record {
   writing = None;
   sequence = λ k bytes out after.
       (actions : List Action) × IsTakenFor bytes actions
-      × (out ≡ texts (map action.Sgr (kept k.passing.depth actions)))
-      × (after ≡ behind_styles k (kept k.passing.depth actions));
+      × (out ≡ texts (map action.Sgr (styles_in k.passing.depth k.styled bytes actions)))
+      × (after ≡ behind_styles k (styles_in k.passing.depth k.styled bytes actions));
+  escape = λ k bytes out after.
+      (out ≡ texts (map action.Sgr (styles_at k.styled bytes)))
+      × (after ≡ behind_styles k (styles_at k.styled bytes));
   byte = λ k c out after. (out ≡ link_texts (links_at k.passing.links k.begun c))
       × (after ≡ behind_byte k c);
 }

@@ -41,6 +41,7 @@ fn take_control<T: Rule>(
         return Ok(len);
     }
     if begins_with_escape(bytes) {
+        rule.escape(bytes.split_at(3).0, out)?;
         return Ok(3);
     }
     Ok(0)

@@ -5,7 +5,8 @@ ghost use Rattle.csicodec_actions.specs.{Actions.Action, Actions.Sgr as SgrActio
 ghost use Rattle.csicodec_parser.specs.ActionOf.{action_of};
 ghost use Rattle.csicodec_transform.specs.Known.{AreKnown};
 ghost use Rattle.csicodec_looks.specs.declared.xterm.Depth.TheVariants.{Full as AllColors};
-ghost use Rattle.csicodec_clean.specs.{Styled.is_open, Styled.kept, Private.Notes.IsLeft, Private.Notes.IsNoted, Private.Notes.depth_byte, Private.Notes.open_byte};
+ghost use Rattle.csicodec_clean.specs.{Styled.is_decstr, Styled.is_open, Styled.kept, Private.Notes.IsLeft, Private.Notes.IsNoted, Private.Notes.depth_byte};
+ghost use Rattle.csicodec_clean.specs.{Private.Notes.open_byte};
 ghost use Rattle.csicodec_terminal.specs.Terminal.{IsTakenFor};
 
 use crate::styles::append_styles;
@@ -90,6 +91,14 @@ fn color_note(text: &[u8; 24]) -> [u8; 27]
     note
 }
 
+/// Whether the sequence in front has `!` behind `ESC [`, as DECSTR has.
+#[inline(always)]
+fn begins_soft_reset(bytes: &[u8]) -> bool
+    ensures { result ≡ false → (len : ℕ) → is_decstr (take len bytes.now) ≡ false }
+{
+    bytes.len() > 2 && bytes[2] == b'!'
+}
+
 /// What is noted of sequences that came before, and places that are kept for one that is read: its tokens, its actions, and its note.
 #[derive(Drop)]
 pub(crate) struct SequenceNotes {
@@ -123,7 +132,8 @@ impl SequenceNotes {
         bytes: &[u8],
         out: &mut Vec<u8>,
     ) -> Result<usize, AllocError>
-        requires { AreKnown IsNoted self.old.known.memo.slots.items }
+        requires known { AreKnown IsNoted self.old.known.memo.slots.items }
+        requires other { (len : ℕ) → is_decstr (take len bytes.now) ≡ false }
         ensures within { IfOk result (λ len. len ≤ length bytes.now) }
         ensures left { IfOk result (λ len. 0 < len → (styled : Bool)
             → IsLeft depth styled (take len bytes.now) true out.old.items out.new.items) }
@@ -157,6 +167,7 @@ impl SequenceNotes {
     ) -> Result<(), AllocError>
         requires known { AreKnown IsNoted self.old.known.memo.slots.items }
         requires sequence { IsTakenFor (take len bytes.now) (map action_of self.old.actions.items) }
+        requires other { is_decstr (take len bytes.now) ≡ false }
         requires text { text.now
             ≡ texts (map SgrAction (kept depth (map action_of self.old.actions.items))) }
         requires last { (styled : Bool)
@@ -216,6 +227,10 @@ impl SequenceNotes {
             (λ (len, after). len ≡ 0 → (after ≡ styled) × (out.new.items ≡ out.old.items)) }
         ensures known { AreKnown IsNoted self.new.known.memo.slots.items }
     {
+        // Of DECSTR it depends on what is open.
+        if begins_soft_reset(bytes) {
+            return Ok((0, styled));
+        }
         let moved = position_len(b'1', bytes);
         if moved > 0 {
             return Ok((moved, styled));

@@ -1,4 +1,4 @@
-//! How text is written, and what for a control sequence, and for a control string.
+//! How text is written, and what for a control sequence, an escape sequence, and a control string.
 ghost use Rattle.std.specs.Prelude.{◌≡◌, ◌<◌, ◌≤◌, ◌++◌, ◌∷◌, [], ℕ, List, OnOk, IfOk, false, encode_utf8_all, length, take};
 ghost use Rattle.csicodec_tokens.specs.Sequence.{Seq};
 ghost use Rattle.csicodec_spans.specs.Parts.{IsSequence};
@@ -7,9 +7,10 @@ ghost use Rattle.csicodec_clean.specs.{Cleaned.RuleOf, Shown.IsWritten, Shown.wr
 use csicodec_base::CsiParam;
 use std::alloc::AllocError;
 
-/// How text is written, and what in the place of a control sequence and of a control string, and at the end of the stream.
+/// How text is written, and what in the place of a control sequence, of an escape sequence and of a control string, and at the end of the stream.
 pub trait Rule {
-    /// How text is written; from a state, in the place of a control sequence or of a byte of a control string, a text, and the state then.
+    /// How text is written; from a state, in the place of a control sequence, of an escape sequence or of a byte of a control string, a text, and
+    /// the state then.
     ghost gives: { RuleOf Self };
 
     /// In this state, this text ends the output.
@@ -54,6 +55,12 @@ pub trait Rule {
             × (out.new.items ≡ out.old.items ++ text)) }
         ensures none { IfOk result
             (λ len. len ≡ 0 → (self.new ≡ self.old) × (out.new.items ≡ out.old.items)) };
+
+    /// Appends what stands in the place of one escape sequence.
+    fn escape(&mut self, bytes: &[u8], out: &mut Vec<u8>) -> Result<(), AllocError>
+        ensures { OnOk result
+            ((text : List ℕ) × gives.escape self.old bytes.now text self.new
+            × (out.new.items ≡ out.old.items ++ text)) };
 
     /// Whether the bytes of control strings are read. Where they aren't, each gives nothing and changes nothing.
     fn reads_strings(&self) -> bool

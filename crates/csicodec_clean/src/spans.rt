@@ -78,6 +78,7 @@ fn append_span<T: Rule>(
     held.clear();
     match control {
         Some(control) => rule.rewrite(bytes, params, control, out),
+        None if kind == Kind::Esc => rule.escape(bytes, out),
         None if kind == Kind::Str => append_string(rule, bytes, out),
         None => Ok(()),
     }

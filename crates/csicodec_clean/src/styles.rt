@@ -3,7 +3,7 @@ ghost use Rattle.std.specs.{Prelude.◌≡◌, Prelude.◌++◌, Prelude.◌∷�
 ghost use Rattle.std.specs.{Prelude.IfOk, Prelude.false, Option.unwrap_or};
 ghost use Rattle.csicodec_actions.specs.{Actions.Sgr as SgrAction, Table.texts};
 ghost use Rattle.csicodec_parser.specs.ActionOf.{action_of};
-ghost use Rattle.csicodec_clean.specs.Styled.{Styles, StylesIn, IsStyled, IsStyledIn, Keeping, first_kept, is_open, keeping, kept, resumed, without_links};
+ghost use Rattle.csicodec_clean.specs.Styled.{Styles, StylesIn, IsStyled, IsStyledIn, Keeping, first_kept, is_decstr, is_open, is_ris, keeping, kept, resumed, set_back, without_links};
 ghost use Rattle.csicodec_clean.specs.Marked.{IsMarked};
 
 use crate::links::LinkReader;
@@ -65,6 +65,33 @@ pub(crate) fn append_styles(
         rest = others;
     }
     Ok(last)
+}
+
+/// Whether an escape sequence is RIS, `ESC c`, which sets all attributes back (ECMA-48, 8.3.105).
+#[inline(always)]
+pub fn is_ris(bytes: &[u8]) -> bool
+    ensures { result ≡ is_ris bytes.now }
+{
+    bytes.len() == 2 && bytes[1] == b'c'
+}
+
+/// Whether a control sequence is DECSTR, which sets all attributes back.
+fn is_decstr(bytes: &[u8]) -> bool
+    ensures { result ≡ is_decstr bytes.now }
+{
+    bytes.len() == 4 && bytes[2] == b'!' && bytes[3] == b'p'
+}
+
+/// Appends a reset, if a style is open, and answers whether one is then: none.
+#[tactic(auto, using(crate::proofs::Styled::back_shut))]
+fn append_back(styled: bool, out: &mut Vec<u8>) -> Result<bool, AllocError>
+    ensures text { OnOk result (out.new.items ≡ out.old.items ++ texts (map SgrAction (set_back styled))) }
+    ensures last { IfOk result (λ after. after ≡ is_open styled (set_back styled)) }
+{
+    if styled {
+        encode(&CSI::Sgr(Sgr::Reset), out)?;
+    }
+    Ok(false)
 }
 
 /// What passes beside text and styles.
@@ -152,9 +179,10 @@ impl Rule for Kept {
         out.push_char(char)
     }
 
+    #[tactic(auto, using(crate::proofs::Styled::sequence_back, crate::proofs::Styled::sequence_kept))]
     fn rewrite(
         &mut self,
-        _bytes: &[u8],
+        bytes: &[u8],
         params: &[CsiParam],
         control: char,
         out: &mut Vec<u8>,
@@ -162,6 +190,11 @@ impl Rule for Kept {
         let depth = self.passing.depth;
         let actions = &mut self.notes.actions;
         terminal_actions_into(self.notes.alloc, params, false, control, actions)?;
+        if is_decstr(bytes) {
+            let styled = append_back(self.styled, out)?;
+            self.styled = styled;
+            return Ok(());
+        }
         let last = append_styles(depth, &self.notes.actions, out)?;
         self.styled = last.unwrap_or(self.styled);
         Ok(())
@@ -189,6 +222,17 @@ impl Rule for Kept {
             }
             None => Ok(0),
         }
+    }
+
+    #[tactic(auto, using(crate::proofs::Styled::escape_back, crate::proofs::Styled::escape_none))]
+    #[inline(always)]
+    fn escape(&mut self, bytes: &[u8], out: &mut Vec<u8>) -> Result<(), AllocError> {
+        if !is_ris(bytes) {
+            return Ok(());
+        }
+        let styled = append_back(self.styled, out)?;
+        self.styled = styled;
+        Ok(())
     }
 
     #[tactic(auto, using(crate::proofs::Styled::gives_none))]

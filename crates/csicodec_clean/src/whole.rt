@@ -45,7 +45,7 @@ pub(crate) fn near(limit: usize, bytes: &[u8]) -> &[u8]
     bytes.get(..limit).unwrap_or(bytes)
 }
 
-/// The rule that drops every control sequence and every control string.
+/// The rule that drops every control sequence, every escape sequence and every control string.
 #[derive(Drop)]
 pub struct Dropped;
 
@@ -89,6 +89,11 @@ impl Rule for Dropped {
             Ok(behind) => Ok(front.len() - behind.len()),
             Err(_) => Ok(0),
         }
+    }
+
+    #[inline(always)]
+    fn escape(&mut self, _bytes: &[u8], _out: &mut Vec<u8>) -> Result<(), AllocError> {
+        Ok(())
     }
 
     fn reads_strings(&self) -> bool {

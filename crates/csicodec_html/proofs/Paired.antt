@@ -2,11 +2,12 @@
 use Rattle.std.proofs.Common.{◌≡◌, ℕ, true, false, List, [], ◌∷◌, refl, sym, append-nil, arith, if◌then◌else◌, Bool, ◌++◌, ap, ◌∙◌, append_assoc, map, subst, filter, flat_map, encode_utf8_all}
 use Rattle.csicodec_html.proofs.Common.{Action, Look, Markup, behind_all, sets_any, leads, piece_texts, pieces_bytes, flat_map-append, led, ends_at, Piece, Setting, setting, switch, turns, Ends, longest, Char, PageWith, closing, escaped, first_set, turn, closes, Strips}
 use Rattle.csicodec_html.proofs.Marks.{pieces}
-use Rattle.csicodec_clean.specs.Page.{behind_string, led_by, switches, AreLeft, Leaves, pieces_behind, run_behind, shown_pieces, chars_of}
-use Rattle.csicodec_clean.specs.{Links.Address, Links.Begun, Links.behind, Links.links_at, Links.links_in, Links.next, Links.IsWithin, Cleaned.AreGiven}
-use Rattle.csicodec_clean.specs.{Cleaned.IsStep, Cleaned.AreSteps, Cleaned.is_text, Cleaned.stripped, Shown.run_as, Shown.shown, Shown.shown_text}
-use Rattle.csicodec_clean.specs.{Titles.with_titles}
+use Rattle.csicodec_clean.specs.Page.{behind_escape, behind_string, led_by, switches, AreLeft, Leaves, pieces_behind, run_behind, shown_pieces, chars_of}
+use Rattle.csicodec_clean.specs.{Styled.is_ris, Links.Address, Links.Begun, Links.behind, Links.links_at, Links.links_in, Links.next, Links.IsWithin}
+use Rattle.csicodec_clean.specs.{Cleaned.AreGiven, Cleaned.IsStep, Cleaned.AreSteps, Cleaned.is_text, Cleaned.stripped, Shown.run_as, Shown.shown}
+use Rattle.csicodec_clean.specs.{Shown.shown_text, Titles.with_titles}
 use Rattle.csicodec_html.specs.Private.Rule.{behind_byte}
+use Rattle.csicodec_looks.specs.Look.{plain}
 use Rattle.bstr.specs.Utf8.{lossy_chars}
 use Rattle.csicodec_spans.specs.{declared.table.Kind.Kind, Parts.Part, declared.table.Mode.Mode}
 use Rattle.csicodec_clean.proofs.{Plain.encoded_on, Paired.safe_string, Paired.stays, Paired.none_begun}
@@ -66,6 +67,14 @@ given (c ∷ bytes) s after text (first, mid, others, here, e, rest) =
 pub gives_none : (s : Setting) (c : ℕ) → s.markup.links ≡ false → turns.byte s c [] s
 gives_none s c e = rw e (refl, refl)
 
+-- an escape sequence, which is RIS or another
+pub escape_turn : (s : Setting) (bytes : List ℕ) → is_ris bytes ≡ true
+    → turns.escape s bytes (piece_texts (turn s.markup true s.look plain)) (setting s.markup plain s.to s.begun)
+escape_turn s bytes e = rw e (refl, refl)
+
+pub escape_none : (s : Setting) (bytes : List ℕ) → is_ris bytes ≡ false → turns.escape s bytes [] s
+escape_none s bytes e = rw e (refl, refl)
+
 -- ---- what the rule leaves
 
 abbrev run_text : List ℕ → List ℕ
@@ -91,6 +100,9 @@ step Kind.Text s mid run bytes first next h (none, same, on) = record { own = []
 step Kind.Csi s mid run bytes first next h (given, (actions, is, behind, e), made, none) =
     let own = turn s.markup (sets_any actions) s.look (behind_all s.look actions) in
     record { own = own; leaves = (actions, is, behind, refl); text = λ others. ended run first given own others made (sym e); next_run = none }
+step Kind.Esc s mid run bytes first next h (given, (behind, e), made, none) =
+    let own = turn s.markup (is_ris bytes) s.look (behind_escape s bytes).look in
+    record { own = own; leaves = (refl, behind); text = λ others. ended run first given own others made (sym e); next_run = none }
 step Kind.Str s mid run bytes first next h (out, gives, made, none) =
     let own = switches s.markup s.look s.to (links_in s.markup.links s.begun bytes) in
     let g = given bytes s mid out gives in
@@ -152,6 +164,7 @@ bare_switches m l to (a ∷ links) = rw (chars_both (switch m l to a.url) (switc
 
 bare_leaves : (s after : Setting) (k : Kind) (bytes : List ℕ) (own : List Piece) → Leaves s k bytes own after → IsBare own
 bare_leaves s after Kind.Csi bytes own (actions, isof, behind, e) = ap chars_of e ∙ bare_turn s.markup (sets_any actions) s.look (behind_all s.look actions)
+bare_leaves s after Kind.Esc bytes own (e, behind) = ap chars_of e ∙ bare_turn s.markup (is_ris bytes) s.look (behind_escape s bytes).look
 bare_leaves s after Kind.Str bytes own (e, behind) = ap chars_of e ∙ bare_switches s.markup s.look s.to (links_in s.markup.links s.begun bytes)
 bare_leaves s after _ bytes own h = ap chars_of h.0
 

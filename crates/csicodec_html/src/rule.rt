@@ -1,11 +1,13 @@
-//! How text is written, and what stands in the place of a control sequence, and of a control string.
+//! How text is written, and what stands in the place of a control sequence, of an escape sequence, and of a control string.
 ghost use Rattle.std.specs.Prelude.{◌≡◌, ◌++◌, ◌∷◌, [], map, OnOk, if◌then◌else◌};
+ghost use Rattle.csicodec_actions.specs.{Actions.Device as OfDevice, Devices.SoftReset, Devices.device_of};
 ghost use Rattle.csicodec_parser.specs.ActionOf.{action_of};
 ghost use Rattle.csicodec_clean.specs.{Addresses.led, Page.behind_all, Page.sets_any, Page.first_set};
-ghost use Rattle.csicodec_looks.specs.Pieces.{piece_texts, pieces_bytes, switch, turn};
+ghost use Rattle.csicodec_looks.specs.{Pieces.piece_texts, Pieces.pieces_bytes, Pieces.switch, Pieces.turn, declared.look.Look.Look};
 
+use csicodec_actions::Device;
 use csicodec_base::CsiParam;
-use csicodec_clean::{LinkReader, Rule, ends_link, led};
+use csicodec_clean::{LinkReader, Rule, ends_link, is_ris, led};
 use csicodec_looks::{
     InFront, Look, Markup, Turning, Turns, append_char, append_end, append_shut, append_switch,
     append_text, append_turn as append_tags,
@@ -15,13 +17,31 @@ use csicodec_terminal::terminal_actions_into;
 use std::alloc::{AllocError, Global};
 use std::marker::Model;
 
+/// Whether it is DECSTR.
+fn is_soft_reset(device: &Device) -> bool
+    ensures on { result ≡ true → device_of device.now ≡ SoftReset }
+    ensures off { result ≡ false → (l : Look) → (behind_all l (OfDevice (device_of device.now) ∷ []) ≡ l) × (sets_any (OfDevice (device_of device.now) ∷ []) ≡ false) }
+{
+    matches!(device, Device::SoftReset)
+}
+
 /// How text looks behind an action.
 fn behind(look: Look, action: &CSI) -> Look
     ensures { result ≡ behind_all look (action_of action.now ∷ []) }
 {
     let mut now = look;
-    if let CSI::Sgr(attribute) = action {
-        now.set(attribute);
+    match action {
+        CSI::Sgr(attribute) => now.set(attribute),
+        CSI::Device(device) if is_soft_reset(device) => now = Look::plain(),
+        CSI::Cursor(_)
+        | CSI::Edit(_)
+        | CSI::Mode(_)
+        | CSI::Device(_)
+        | CSI::Mouse(_)
+        | CSI::Window(_)
+        | CSI::Keyboard(_)
+        | CSI::SelectCharacterPath(_, _)
+        | CSI::Unspecified(_) => (),
     }
     now
 }
@@ -38,11 +58,22 @@ fn behind_each(look: Look, actions: &[CSI]) -> Look
     now
 }
 
-/// Whether the action is an attribute.
+/// Whether the action is an attribute, or sets all back.
 fn is_attribute(action: &CSI) -> bool
     ensures { result ≡ sets_any (action_of action.now ∷ []) }
 {
-    matches!(action, CSI::Sgr(_))
+    match action {
+        CSI::Sgr(_) => true,
+        CSI::Device(device) => is_soft_reset(device),
+        CSI::Cursor(_)
+        | CSI::Edit(_)
+        | CSI::Mode(_)
+        | CSI::Mouse(_)
+        | CSI::Window(_)
+        | CSI::Keyboard(_)
+        | CSI::SelectCharacterPath(_, _)
+        | CSI::Unspecified(_) => false,
+    }
 }
 
 /// Whether one of the actions is.
@@ -208,6 +239,19 @@ impl Rule for SpanWriter {
             .turns
             .recall(&Turner(&self.markup), &mut self.look, front, out)?;
         Ok(len)
+    }
+
+    #[tactic(auto, using(crate::proofs::Paired::escape_turn, crate::proofs::Paired::escape_none))]
+    #[inline(always)]
+    fn escape(&mut self, bytes: &[u8], out: &mut Vec<u8>) -> Result<(), AllocError> {
+        if !is_ris(bytes) {
+            return Ok(());
+        }
+        let new = Look::plain();
+        append_turn(&self.markup, true, self.look, new, out)?;
+        self.turns.stand(&new);
+        self.look = new;
+        Ok(())
     }
 
     fn reads_strings(&self) -> bool {

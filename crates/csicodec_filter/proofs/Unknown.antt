@@ -53,9 +53,15 @@ unless false false u none here = cc (none, here)
 pub stays_faithful : (bytes : List ℕ) (list : List CsiParam) (final : ℕ) → Seq bytes list final → (stays list final || has_spelling list final) ≡ true
     → IsFaithful bytes bytes
 stays_faithful bytes list final seq here =
-    let all = actions list false final in
-    (list, final, all, seq, actions_are list false final, λ kept. refl,
-    λ none. absurd (anyway (stays list final) (has_spelling list final) (has_unknown all) none here))
+    let all = actions list false final in (
+      list,
+      final,
+      all,
+      seq,
+      actions_are list false final,
+      λ kept. refl,
+      λ none. absurd (anyway (stays list final) (has_spelling list final) (has_unknown all) none here),
+    )
 
 -- one of which an action is unknown
 pub unknown_faithful : (bytes : List ℕ) (list : List CsiParam) (final : ℕ) (all : List Action) → Seq bytes list final → Actions list false final all
@@ -66,17 +72,29 @@ unknown_faithful bytes list final all seq are unknown =
 -- one whose normal form is too long
 pub long_faithful : (bytes form : List ℕ) (list : List CsiParam) (final : ℕ) (all : List Action) → Seq bytes list final → Actions list false final all
     → form ≡ texts all → longest < length form → IsFaithful bytes bytes
-long_faithful bytes form list final all seq are made long =
-    (list, final, all, seq, are, λ kept. refl,
-    λ none. (form, (all, decodes-one bytes list false final all seq are, made), λ short. absurd (omega (arith, short, long)), λ more. refl))
+long_faithful bytes form list final all seq are made long = (
+  list,
+  final,
+  all,
+  seq,
+  are,
+  λ kept. refl,
+  λ none. (form, (all, decodes-one bytes list false final all seq are, made), λ short. absurd (omega (arith, short, long)), λ more. refl),
+)
 
 -- any other
 pub form_faithful : (bytes form : List ℕ) (list : List CsiParam) (final : ℕ) (all : List Action) → Seq bytes list final → Actions list false final all
     → form ≡ texts all → length form ≤ longest → (stays list final || has_spelling list final) ≡ false → has_unknown all ≡ false → IsFaithful bytes form
 form_faithful bytes form list final all seq are made short free known =
-    let none = neither (stays list final) (has_spelling list final) (has_unknown all) free known in
-    (list, final, all, seq, are, λ kept. absurd (cc (kept, none)),
-    λ _. (form, (all, decodes-one bytes list false final all seq are, made), λ fits. refl, λ more. absurd (omega (arith, short, more))))
+    let none = neither (stays list final) (has_spelling list final) (has_unknown all) free known in (
+      list,
+      final,
+      all,
+      seq,
+      are,
+      λ kept. absurd (cc (kept, none)),
+      λ _. (form, (all, decodes-one bytes list false final all seq are, made), λ fits. refl, λ more. absurd (omega (arith, short, more))),
+    )
 
 -- and it is appended
 pub appended : {A E : Type 0} (done : Result A E) (bytes text old new : List ℕ) → IsFaithful bytes text

@@ -9,7 +9,7 @@ keep-requires-clause-noted c =
     let colored = c.in-Some.ensures.spelled in
     let (list, reads, are) = c.in-Some.ensures.read in
     color_noted bytes rest _ c.in-Some-color_text.text _ c.in-Some.field-0-0 _ colored (color_taken _ bytes rest _ list colored reads are refl)
-    (c.in-Some-color_text.ensures c.in-Some.field-0-0 rest colored) (c.split_at.ensures.front ∙ ap (take (length bytes - length rest + 4)) c.color_note.ensures) (c.requires.other _)
+    (c.in-Some-color_text.ensures c.in-Some.field-0-0 rest colored) (c.split_at.ensures.front ∙ ap (take (length bytes - length rest + 4)) c.color_note.ensures) (c.requires.other (length bytes - length rest))
 
 pub returns-clause-left : goal.returns-clause-left
 returns-clause-left c = λ some styled.
@@ -22,4 +22,4 @@ returns-clause-left c = λ some styled.
     let own = take (length bytes - length rest) bytes in
     let text = c.in-Some-color_text.ensures c.in-Some.field-0-0 rest colored in
     subst (λ (d : Depth). IsLeft d styled own true old new) (sym c.in-Full.is)
-    (color_left bytes rest own old new c.in-Some.field-0-0 styled colored (color_taken _ bytes rest _ list colored reads are refl) (c.in_ok-append_front.ensures ∙ ap (λ l. old ++ l) text) (c.requires.other _))
+    (color_left bytes rest own old new c.in-Some.field-0-0 styled colored (color_taken _ bytes rest _ list colored reads are refl) (c.in_ok-append_front.ensures ∙ ap (λ l. old ++ l) text) (c.requires.other (length bytes - length rest)))

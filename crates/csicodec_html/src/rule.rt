@@ -1,5 +1,5 @@
 //! How text is written, and what stands in the place of a control sequence, of an escape sequence, and of a control string.
-ghost use Rattle.std.specs.Prelude.{◌≡◌, ◌++◌, ◌∷◌, [], map, OnOk, if◌then◌else◌};
+ghost use Rattle.std.specs.Prelude.{◌≡◌, ◌++◌, ◌∷◌, [], map, true, false, OnOk, if◌then◌else◌};
 ghost use Rattle.csicodec_actions.specs.{Actions.Device as OfDevice, Devices.SoftReset, Devices.device_of};
 ghost use Rattle.csicodec_parser.specs.ActionOf.{action_of};
 ghost use Rattle.csicodec_clean.specs.{Addresses.led, Page.behind_all, Page.sets_any, Page.first_set};
@@ -20,7 +20,8 @@ use std::marker::Model;
 /// Whether it is DECSTR.
 fn is_soft_reset(device: &Device) -> bool
     ensures on { result ≡ true → device_of device.now ≡ SoftReset }
-    ensures off { result ≡ false → (l : Look) → (behind_all l (OfDevice (device_of device.now) ∷ []) ≡ l) × (sets_any (OfDevice (device_of device.now) ∷ []) ≡ false) }
+    ensures off { result ≡ false → (l : Look) → behind_all l (OfDevice (device_of device.now) ∷ []) ≡ l }
+    ensures sets { result ≡ sets_any (OfDevice (device_of device.now) ∷ []) }
 {
     matches!(device, Device::SoftReset)
 }

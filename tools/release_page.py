@@ -11,7 +11,9 @@ import json
 import os
 import re
 import struct
+import subprocess
 import sys
+import tempfile
 import zlib
 
 sys.dont_write_bytecode = True
@@ -29,10 +31,12 @@ def read(path):
 
 
 def packed(held):
-    """A file of gzip (RFC 1952), with no time. The head is written here, since the one of Python's gzip differs between its versions."""
-    # With less memory than zlib takes by itself its blocks are shorter, and the program half a percent smaller.
-    deflate = zlib.compressobj(9, zlib.DEFLATED, -15, 6)
-    body = deflate.compress(held) + deflate.flush()
+    """A file of gzip (RFC 1952), with no time. The head is written here, since that of a tool differs between its versions. What is packed is by
+    zopfli, which makes it a twentieth shorter than zlib does."""
+    with tempfile.NamedTemporaryFile() as file:
+        file.write(held)
+        file.flush()
+        body = subprocess.run(["zopfli", "--deflate", "--i5", "-c", file.name], stdout=subprocess.PIPE, check=True).stdout
     return b"\x1f\x8b\x08\0\0\0\0\0\x02\x03" + body + struct.pack("<II", zlib.crc32(held), len(held) % 2**32)
 
 

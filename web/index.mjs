@@ -205,7 +205,7 @@ export class InputParser extends Reader {
                 library.take(rest);
                 library.calls.csicodec_pause(library.answer, library.input.at, library.length);
                 library.look();
-                return { status: library.told(0), kind: library.told(4), value: library.told(12), used: library.told(20) };
+                return { status: library.told(0), kind: library.told(4), value: library.told(12), used: library.told(24) };
             });
             if (answer.status) return events;
             this.begin();

@@ -93,11 +93,11 @@ def rust(dist, out, room):
     for place, target in CARGO_TARGETS.items():
         if os.path.isdir(f"{dist}/{place}"):
             copy([f"{dist}/{place}/libcsicodec.a"], f"{room}/rust/sys/lib/{target}")
-    if not portable_c.lacks():
-        os.makedirs(f"{room}/rust/sys/portable")
-        portable_c.write(library_of(dist, PORTABLE), f"{room}/rust/sys/portable/csicodec-portable.c", room)
-        copy(HEADERS, f"{room}/rust/sys/portable/include")
-    copy([f"{dist}/NOTICE"], f"{room}/rust/sys")
+    os.makedirs(f"{room}/rust/sys/portable")
+    portable_c.write(library_of(dist, PORTABLE), f"{room}/rust/sys/portable/csicodec-portable.c", room)
+    copy(HEADERS, f"{room}/rust/sys/portable/include")
+    for folder in f"{room}/rust/sys", f"{room}/rust":
+        copy([f"{dist}/NOTICE"], folder)
     run("cargo", "package", "--workspace", "--offline", "--no-verify", "--exclude-lockfile", "--quiet", "--target-dir", f"{room}/target", cwd=f"{room}/rust")
     for name in ("csicodec-sys", "csicodec"):
         made = f"{name}-{version()}.crate"
@@ -248,7 +248,7 @@ def no_cc():
 
 
 # What says why a kind can't be made here; the others take Python alone.
-LACKS = {"debian": no_dpkg, "rust": no_cargo, "windows": systems.lacks, "macos": no_cc, "portable": lambda: no_cc() or portable_c.lacks()}
+LACKS = {"debian": no_dpkg, "rust": lambda: no_cargo() or portable_c.lacks(), "windows": systems.lacks, "macos": no_cc, "portable": lambda: no_cc() or portable_c.lacks()}
 
 
 def not_built(kind):

@@ -1,0 +1,172 @@
+-- What a character does to a screen, and each control.
+use Rattle.std.specs.Prelude.{ℕ, zero, suc, ◌+◌, ◌-◌, ◌/◌, ◌==◌, nat_le, nat_lt, min, max, not, Bool, true, false, List, [], ◌∷◌, length, take, drop, set, get_or, unwrap_or, Option, Some, None, if◌then◌else◌, ◌&&◌, ◌||◌}
+use Rattle.unicode_width.specs.Width.{char_width}
+use Rattle.csicodec_looks.specs.Cells.{narrowed}
+use Rattle.csicodec_screen.specs.Cells.{Cell, Cell.Char, Cell.Wide, Cell.Behind, Glyph, cell_at, inserted, is_behind, marked, spliced}
+use Rattle.csicodec_screen.specs.Screen.{Screen, Sets, Set, Set.Ascii, Set.Graphics, Set.British, at, edge, last_column, paper, row_at}
+use Rattle.csicodec_screen.specs.Rows.{in_line, index, is_beside, scrolled_down}
+
+-- ---- sets
+
+abbrev pub set_of : Sets → ℕ → Set
+set_of sets n = if n == 0 then sets.g0 else if n == 1 then sets.g1 else if n == 2 then sets.g2 else sets.g3
+
+-- the set that the next character comes from
+abbrev pub current : Sets → Set
+current sets = set_of sets (unwrap_or sets.single sets.left)
+
+-- what `_` to `~` are in the special graphic set (DEC VT100 User Guide, table 3-9; in Unicode as xterm has them)
+abbrev pub graphics : List ℕ
+graphics = 32 ∷ 9670 ∷ 9618 ∷ 9225 ∷ 9228 ∷ 9229 ∷ 9226 ∷ 176 ∷ 177 ∷ 9252 ∷ 9227 ∷ 9496 ∷ 9488 ∷ 9484 ∷ 9492 ∷ 9532 ∷
+    9146 ∷ 9147 ∷ 9472 ∷ 9148 ∷ 9149 ∷ 9500 ∷ 9508 ∷ 9524 ∷ 9516 ∷ 9474 ∷ 8804 ∷ 8805 ∷ 960 ∷ 8800 ∷ 163 ∷ 183 ∷ []
+
+abbrev pub char_in : Set → ℕ → ℕ
+char_in Ascii c = c
+char_in Graphics c = if nat_le 95 c && nat_le c 126 then get_or graphics (c - 95) c else c
+char_in British c = if c == 35 then 163 else c
+
+-- ---- characters
+
+abbrev pub columns_of : ℕ → ℕ
+columns_of c = narrowed (unwrap_or (char_width false c) 0)
+
+abbrev pub glyph : ℕ → Screen → Glyph
+glyph c s = record { char = c; marks = []; pen = s.pen }
+
+-- the cells of a character
+abbrev pub drawn : ℕ → ℕ → Screen → List Cell
+drawn w c s = if w == 2 then Wide (glyph c s) ∷ Behind ∷ [] else Char (glyph c s) ∷ []
+
+-- to the left margin of the next row, where the text goes on
+abbrev pub wrap : Screen → Screen
+wrap s = record (index (record s { wrapped = set s.wrapped s.row true })) { column = s.margins.left; pending = false }
+
+-- a wrap that is pending is done with the next character (DECAWM, DEC VT510)
+abbrev pub entered : Screen → Screen
+entered s = if s.pending && s.modes.autowrap then wrap s else s
+
+-- and where a character doesn't fit ahead of the edge
+abbrev pub roomy : ℕ → Screen → Screen
+roomy w s = if nat_lt (edge s + 1) (s.column + w) && s.modes.autowrap then wrap s else s
+
+-- in insert mode, within left and right margins, what stands from the cursor on moves right
+abbrev pub made_room : ℕ → Screen → List Cell → List Cell
+made_room w s cells = if s.modes.inserts && is_beside s then inserted (paper s) s.column (edge s + 1) w cells else cells
+
+-- a character where there is room for it; behind the edge the cursor doesn't go, and the wrap is pending
+abbrev pub placed : ℕ → ℕ → Screen → Screen
+placed w c s = if nat_lt (edge s + 1) (s.column + w) then s
+    else record (in_line (λ cells. spliced s.column (s.column + w) (drawn w c s) (made_room w s cells)) s) {
+      column = min (s.column + w) (edge s);
+      pending = nat_lt (edge s) (s.column + w);
+      last = Some c
+    }
+
+abbrev pub put : ℕ → ℕ → Screen → Screen
+put w c s = placed w c (roomy w (entered s))
+
+-- the column of the character that a mark joins: that left of the cursor, or at it where the wrap is pending
+abbrev pub base_at : ℕ → List Cell → ℕ
+base_at c cells = if is_behind (cell_at c cells) then c - 1 else c
+
+abbrev pub joined_by : ℕ → ℕ → List Cell → List Cell
+joined_by c mark cells = set cells (base_at c cells) (marked mark (cell_at (base_at c cells) cells))
+
+abbrev pub mark : ℕ → Screen → Screen
+mark c s = if s.pending then in_line (joined_by s.column c) s
+    else if s.column == 0 then s else in_line (joined_by (s.column - 1) c) s
+
+abbrev pub show : ℕ → Screen → Screen
+show c s = if columns_of c == 0 then mark c s else put (columns_of c) c s
+
+-- a character of the current set: only one of ASCII is another in a set
+abbrev pub in_set : ℕ → Screen → ℕ
+in_set c s = if nat_lt c 128 then char_in (current s.sets) c else c
+
+-- ---- moving
+
+abbrev pub up : ℕ → Screen → Screen
+up n s = at (if nat_le s.margins.top s.row then s.margins.top + (s.row - s.margins.top - n) else s.row - n) s.column s
+
+abbrev pub down : ℕ → Screen → Screen
+down n s = at (if nat_le s.row s.margins.bottom then min (s.row + n) s.margins.bottom else min (s.row + n) (s.rows - 1)) s.column s
+
+abbrev pub left : ℕ → Screen → Screen
+left n s = at s.row (if nat_le s.margins.left s.column then s.margins.left + (s.column - s.margins.left - n) else s.column - n) s
+
+abbrev pub right : ℕ → Screen → Screen
+right n s = at s.row (min (s.column + n) (edge s)) s
+
+-- CR (ECMA-48, 8.3.15): to the left margin, or from ahead of it to column 0
+abbrev pub return : Screen → Screen
+return s = at s.row (if s.modes.origin || nat_le s.margins.left s.column then s.margins.left else 0) s
+
+-- RI (8.3.104): one row up, and at the top margin all move down
+abbrev pub reverse_index : Screen → Screen
+reverse_index s = if s.row == s.margins.top && is_beside s then record (scrolled_down 1 s) { pending = false } else up 1 s
+
+-- ---- tab stops
+
+-- the columns in front of the first stop, or all
+abbrev pub to_stop : List Bool → ℕ
+to_stop [] = 0
+to_stop (true ∷ stops) = 0
+to_stop (false ∷ stops) = suc (to_stop stops)
+
+-- to the next stop, and no further than the edge; a pending wrap stays
+abbrev pub tab : Screen → Screen
+tab s = record s { column = min (s.column + 1 + to_stop (drop (s.column + 1) s.stops)) (edge s) }
+
+-- the last stop among these, which begin at column i
+abbrev pub last_stop : ℕ → ℕ → List Bool → ℕ
+last_stop best i [] = best
+last_stop best i (b ∷ stops) = last_stop (if b then i else best) (i + 1) stops
+
+abbrev pub tab_back : Screen → Screen
+tab_back s = at s.row (last_stop 0 0 (take s.column s.stops)) s
+
+abbrev pub times : ℕ → (Screen → Screen) → Screen → Screen
+times zero f s = s
+times (suc n) f s = times n f (f s)
+
+abbrev pub stop_at : Bool → Screen → Screen
+stop_at b s = record s { stops = set s.stops s.column b }
+
+-- ---- controls
+
+-- LF, VT and FF (8.3.74, 8.3.161, 8.3.51): the next row, and with LNM its first column
+abbrev pub line_feed : Screen → Screen
+line_feed s = if s.modes.new_line then return (index s) else index s
+
+abbrev pub next_line : Screen → Screen
+next_line s = return (index s)
+
+abbrev pub shift : ℕ → Screen → Screen
+shift n s = record s { sets = record s.sets { left = n } }
+
+-- what the first row with this number does, and nothing where there is none
+abbrev pub by_number : List (ℕ × (Screen → Screen)) → ℕ → Screen → Screen
+by_number [] c s = s
+by_number (row ∷ rows) c s = if c == row.0 then row.1 s else by_number rows c s
+
+-- C0: BS, HT, LF, VT, FF, CR, SO and SI. BEL and ENQ are told, and the others do nothing (ECMA-48, 8.2.1).
+abbrev pub controls : List (ℕ × (Screen → Screen))
+controls = (8, left 1) ∷ (9, tab) ∷ (10, line_feed) ∷ (11, line_feed) ∷ (12, line_feed) ∷ (13, return) ∷ (14, shift 1) ∷ (15, shift 0) ∷ []
+
+-- C1 as characters of Unicode: IND, NEL, HTS and RI. The others do nothing.
+abbrev pub controls_1 : List (ℕ × (Screen → Screen))
+controls_1 = (132, index) ∷ (133, next_line) ∷ (136, stop_at true) ∷ (141, reverse_index) ∷ []
+
+-- a single shift is over with a character
+abbrev pub print : ℕ → Screen → Screen
+print c s = if c == 127 then s else if nat_le 128 c && nat_lt c 160 then record (by_number controls_1 c s) { last = None }
+    else show (in_set c s) (record s { sets = record s.sets { single = None } })
+
+-- REP (8.3.103): the character in front so many times more, and no further than the edge; nothing where the wrap is pending
+abbrev pub repeat : ℕ → ℕ → Screen → Screen
+repeat n c s = if s.pending then s
+    else times (min n ((edge s + 1 - s.column) / max 1 (columns_of c))) (placed (columns_of c) c) s
+
+abbrev pub repeat_last : ℕ → Option ℕ → Screen → Screen
+repeat_last n None s = s
+repeat_last n (Some c) s = repeat n c s

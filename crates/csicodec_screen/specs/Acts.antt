@@ -144,9 +144,14 @@ of_edit (Edit.EraseInLine x) s = erase_line false x s
 -- the alternate screen is shown, or the main one; the cursor stays, and each has its saved cursor
 abbrev pub shown : Bool → Screen → Screen
 shown b s = if (if b then s.alternate else not s.alternate) then s else record s {
-    grid = s.other; wrapped = s.other_wrapped; other = s.grid; other_wrapped = s.wrapped;
-    saved = s.other_saved; other_saved = s.saved; alternate = b
-  }
+  grid = s.other;
+  wrapped = s.other_wrapped;
+  other = s.grid;
+  other_wrapped = s.wrapped;
+  saved = s.other_saved;
+  other_saved = s.saved;
+  alternate = b;
+}
 
 -- the screen that is shown is empty; of the alternate one nothing is left where it is left
 abbrev pub blanked : Screen → Screen
@@ -241,9 +246,10 @@ of_mode (Mode.XtermKeyMode resource value) s = s
 -- DECSTR (DEC VT510): the cursor, LNM and the saved cursors stay
 abbrev pub soft_reset : Screen → Screen
 soft_reset s = record (whole_margins s) {
-    pen = plain_pen; sets = first_sets;
-    modes = record s.modes { autowrap = true; origin = false; columns = false; visible = true; inserts = false }
-  }
+  pen = plain_pen;
+  sets = first_sets;
+  modes = record s.modes { autowrap = true; origin = false; columns = false; visible = true; inserts = false };
+}
 
 abbrev pub of_device : Device → Screen → Screen
 of_device device.SoftReset s = soft_reset s

@@ -48,11 +48,11 @@ side n from last = if n == 0 then last else min (from + n) last
 
 abbrev pub area_at : ℕ → List (Option ℤ) → Screen → Area
 area_at i fields s = record {
-    top = first_row s + of_one (nth i fields);
-    first = first_column s + of_one (nth (i + 1) fields);
-    bottom = side (nth (i + 2) fields) (first_row s) (behind_rows s);
-    last = side (nth (i + 3) fields) (first_column s) (behind_columns s);
-  }
+  top = first_row s + of_one (nth i fields);
+  first = first_column s + of_one (nth (i + 1) fields);
+  bottom = side (nth (i + 2) fields) (first_row s) (behind_rows s);
+  last = side (nth (i + 3) fields) (first_column s) (behind_columns s);
+}
 
 abbrev pub is_area : Area → Bool
 is_area a = nat_lt a.top a.bottom && nat_lt a.first a.last
@@ -73,9 +73,9 @@ erased spares a s = on_area (λ first last cells. if spares then erased_around (
 -- DECCRA: to a place, as far as the screen goes
 abbrev pub copied_within : ℕ → ℕ → ℕ → ℕ → Area → Screen → Screen
 copied_within row column height width a s = record s {
-    grid = within row (row + height) (with_segments column (column + width)
-        (map (segment a.first (a.first + width)) (take height (drop a.top s.grid)))) s.grid
-  }
+  grid = within row (row + height) (with_segments column (column + width)
+      (map (segment a.first (a.first + width)) (take height (drop a.top s.grid)))) s.grid;
+}
 
 abbrev pub copied : ℕ → ℕ → Area → Screen → Screen
 copied row column a s = if is_area a && (nat_lt row s.rows && nat_lt column s.columns) then copied_within row column
@@ -121,11 +121,11 @@ look_set n l = if n == 0 then record (with_line false (with_blink false l)) { bo
 -- 0 turns over all of 1, 4, 5 and 7
 abbrev pub look_turned : ℕ → Look → Look
 look_turned n l = record l {
-    bold = if n == 0 || n == 1 then not l.bold else l.bold;
-    underline = if n == 0 || n == 4 then (with_line (not (has_line l)) l).underline else l.underline;
-    blink = if n == 0 || n == 5 then (with_blink (not (blinks l)) l).blink else l.blink;
-    inverse = if n == 0 || n == 7 then not l.inverse else l.inverse
-  }
+  bold = if n == 0 || n == 1 then not l.bold else l.bold;
+  underline = if n == 0 || n == 4 then (with_line (not (has_line l)) l).underline else l.underline;
+  blink = if n == 0 || n == 5 then (with_blink (not (blinks l)) l).blink else l.blink;
+  inverse = if n == 0 || n == 7 then not l.inverse else l.inverse;
+}
 
 abbrev pub by_all : (ℕ → Look → Look) → List (Option ℤ) → Look → Look
 by_all f [] l = l

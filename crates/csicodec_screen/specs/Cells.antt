@@ -28,9 +28,18 @@ pub record Look : Type 0 where
 
 abbrev pub plain : Look
 plain = record {
-  bold = false; faint = false; italic = false; underline = underline.None; blink = blinking.None;
-  inverse = false; concealed = false; struck = false; overlined = false;
-  foreground = color.Default; background = color.Default; line = color.Default;
+  bold = false;
+  faint = false;
+  italic = false;
+  underline = underline.None;
+  blink = blinking.None;
+  inverse = false;
+  concealed = false;
+  struck = false;
+  overlined = false;
+  foreground = color.Default;
+  background = color.Default;
+  line = color.Default;
 }
 
 -- bold and faint are set together or alone, and 22 sets neither

@@ -59,7 +59,7 @@ placed w c s = if nat_lt (edge s + 1) (s.column + w) then s
     else record (in_line (λ cells. spliced s.column (s.column + w) (drawn w c s) (made_room w s cells)) s) {
       column = min (s.column + w) (edge s);
       pending = nat_lt (edge s) (s.column + w);
-      last = Some c
+      last = Some c;
     }
 
 abbrev pub put : ℕ → ℕ → Screen → Screen

@@ -60,9 +60,9 @@ moved_parts upward n s rows = with_segments s.margins.left (s.margins.right + 1)
 -- rows from this one to the bottom margin move up or down by n, and blank ones come in
 abbrev pub scrolled : Bool → ℕ → ℕ → Screen → Screen
 scrolled upward n top s = record s {
-    grid = within top (s.margins.bottom + 1) (if is_wide_open s then moved_rows upward n s else moved_parts upward n s) s.grid;
-    wrapped = if is_wide_open s then within top (s.margins.bottom + 1) (moved upward n false) s.wrapped else s.wrapped
-  }
+  grid = within top (s.margins.bottom + 1) (if is_wide_open s then moved_rows upward n s else moved_parts upward n s) s.grid;
+  wrapped = if is_wide_open s then within top (s.margins.bottom + 1) (moved upward n false) s.wrapped else s.wrapped;
+}
 
 -- rows that leave the main screen at its top are kept
 abbrev pub is_kept : Screen → Bool
@@ -100,9 +100,9 @@ in_line f s = over s.row (s.row + 1) f s
 -- rows from a to b are blank and of single width
 abbrev pub cleared : ℕ → ℕ → Screen → Screen
 cleared a b s = record s {
-    grid = within a b (λ rows. replicate (length rows) (blank_row (paper s) s.columns)) s.grid;
-    wrapped = within a b (λ flags. replicate (length flags) false) s.wrapped
-  }
+  grid = within a b (λ rows. replicate (length rows) (blank_row (paper s) s.columns)) s.grid;
+  wrapped = within a b (λ flags. replicate (length flags) false) s.wrapped;
+}
 
 -- rows from a to b are empty but for what is protected (DECSED, DEC VT510)
 abbrev pub spared : ℕ → ℕ → Screen → Screen

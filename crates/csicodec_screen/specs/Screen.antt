@@ -107,8 +107,15 @@ unsaved = record { row = 0; column = 0; pen = plain_pen; origin = false; sets = 
 
 abbrev pub first_modes : Modes
 first_modes = record {
-  autowrap = true; origin = false; columns = false; visible = true; reverse = false;
-  resizes = false; inserts = false; new_line = false; rectangles = false;
+  autowrap = true;
+  origin = false;
+  columns = false;
+  visible = true;
+  reverse = false;
+  resizes = false;
+  inserts = false;
+  new_line = false;
+  rectangles = false;
 }
 
 abbrev pub whole : ℕ → ℕ → Margins
@@ -130,13 +137,28 @@ untitled = record { window = []; icon = [] }
 
 abbrev pub fresh : ℕ → ℕ → ℕ → Screen
 fresh rows columns room = record {
-  rows = rows; columns = columns;
-  grid = blank_grid color.Default rows columns; wrapped = replicate rows false;
-  other = blank_grid color.Default rows columns; other_wrapped = replicate rows false;
-  alternate = false; saved = unsaved; other_saved = unsaved;
-  row = 0; column = 0; pending = false; pen = plain_pen;
-  margins = whole rows columns; modes = first_modes; stops = eighths 0 columns; sets = first_sets;
-  titles = untitled; stack = []; last = None; back = []; room = room;
+  rows = rows;
+  columns = columns;
+  grid = blank_grid color.Default rows columns;
+  wrapped = replicate rows false;
+  other = blank_grid color.Default rows columns;
+  other_wrapped = replicate rows false;
+  alternate = false;
+  saved = unsaved;
+  other_saved = unsaved;
+  row = 0;
+  column = 0;
+  pending = false;
+  pen = plain_pen;
+  margins = whole rows columns;
+  modes = first_modes;
+  stops = eighths 0 columns;
+  sets = first_sets;
+  titles = untitled;
+  stack = [];
+  last = None;
+  back = [];
+  room = room;
 }
 
 -- ---- places

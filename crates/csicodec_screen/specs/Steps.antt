@@ -53,10 +53,12 @@ letter = Char (record { char = 69; marks = []; pen = plain_pen })
 
 abbrev pub aligned : Screen → Screen
 aligned s = record (at 0 0 s) {
-    grid = replicate s.rows (record { cells = replicate s.columns letter; size = Single });
-    wrapped = replicate s.rows false;
-    margins = whole s.rows s.columns; pen = plain_pen; modes = record s.modes { origin = false }
-  }
+  grid = replicate s.rows (record { cells = replicate s.columns letter; size = Single });
+  wrapped = replicate s.rows false;
+  margins = whole s.rows s.columns;
+  pen = plain_pen;
+  modes = record s.modes { origin = false };
+}
 
 -- the cursor's row is shown in another size
 abbrev pub sized : Size → Screen → Screen
@@ -72,12 +74,14 @@ set_named [] final = if final == 48 then Graphics else if final == 65 then Briti
 set_named (b ∷ bytes) final = Ascii
 
 abbrev pub with_set : ℕ → Set → Screen → Screen
-with_set b set s = record s { sets = record s.sets {
+with_set b set s = record s {
+  sets = record s.sets {
     g0 = if b == 40 then set else s.sets.g0;
     g1 = if b == 41 || b == 45 then set else s.sets.g1;
     g2 = if b == 42 || b == 46 then set else s.sets.g2;
-    g3 = if b == 43 || b == 47 then set else s.sets.g3
-  } }
+    g3 = if b == 43 || b == 47 then set else s.sets.g3;
+  };
+}
 
 abbrev pub of_escape : List ℕ → ℕ → Screen → Screen
 of_escape [] final s = by_number finals final s
@@ -108,9 +112,11 @@ too_many rows s = (s.row + 1) - rows
 -- n rows at the top leave, of the main screen into those that are kept
 abbrev pub left_above : ℕ → Screen → Screen
 left_above n s = record s {
-    grid = drop n s.grid; wrapped = drop n s.wrapped; row = s.row - n;
-    back = if s.alternate then s.back else take s.room (onto (take n s.grid) s.back)
-  }
+  grid = drop n s.grid;
+  wrapped = drop n s.wrapped;
+  row = s.row - n;
+  back = if s.alternate then s.back else take s.room (onto (take n s.grid) s.back);
+}
 
 -- rows that are missing come back from those that are kept, where the main screen is shown, and else are empty
 abbrev pub come_back : ℕ → Screen → ℕ
@@ -118,14 +124,17 @@ come_back rows s = if s.alternate then 0 else min (rows - length s.grid) (length
 
 abbrev pub taken_back : ℕ → Screen → Screen
 taken_back n s = record s {
-    grid = onto (take n s.back) s.grid; wrapped = replicate n false ++ s.wrapped; row = s.row + n; back = drop n s.back
-  }
+  grid = onto (take n s.back) s.grid;
+  wrapped = replicate n false ++ s.wrapped;
+  row = s.row + n;
+  back = drop n s.back;
+}
 
 abbrev pub filled_below : ℕ → Screen → Screen
 filled_below rows s = record s {
-    grid = take rows s.grid ++ replicate (rows - length s.grid) (blank_row color.Default s.columns);
-    wrapped = take rows s.wrapped ++ replicate (rows - length s.wrapped) false
-  }
+  grid = take rows s.grid ++ replicate (rows - length s.grid) (blank_row color.Default s.columns);
+  wrapped = take rows s.wrapped ++ replicate (rows - length s.wrapped) false;
+}
 
 abbrev pub fit_rows : ℕ → Screen → Screen
 fit_rows rows s = filled_below rows (taken_back (come_back rows s) (left_above (too_many rows s) s))
@@ -133,20 +142,23 @@ fit_rows rows s = filled_below rows (taken_back (come_back rows s) (left_above (
 -- the other screen: at the bottom
 abbrev pub fit_other : ℕ → Screen → Screen
 fit_other rows s = record s {
-    other = take rows s.other ++ replicate (rows - length s.other) (blank_row color.Default s.columns);
-    other_wrapped = take rows s.other_wrapped ++ replicate (rows - length s.other_wrapped) false
-  }
+  other = take rows s.other ++ replicate (rows - length s.other) (blank_row color.Default s.columns);
+  other_wrapped = take rows s.other_wrapped ++ replicate (rows - length s.other_wrapped) false;
+}
 
 abbrev pub resized : ℕ → ℕ → Screen → Screen
 resized rows columns s = record (fit_other rows (fit_rows rows s)) {
-    rows = rows; columns = columns;
-    grid = fit_columns columns (fit_rows rows s).grid;
-    other = fit_columns columns (fit_other rows s).other;
-    back = fit_columns columns (fit_rows rows s).back;
-    row = min (fit_rows rows s).row (rows - 1); column = min s.column (columns - 1); pending = false;
-    margins = whole rows columns;
-    stops = take columns s.stops ++ eighths (length s.stops) (columns - length s.stops)
-  }
+  rows = rows;
+  columns = columns;
+  grid = fit_columns columns (fit_rows rows s).grid;
+  other = fit_columns columns (fit_other rows s).other;
+  back = fit_columns columns (fit_rows rows s).back;
+  row = min (fit_rows rows s).row (rows - 1);
+  column = min s.column (columns - 1);
+  pending = false;
+  margins = whole rows columns;
+  stops = take columns s.stops ++ eighths (length s.stops) (columns - length s.stops);
+}
 
 abbrev pub or_own : ℕ → Option ℤ → ℕ
 or_own own n = if natural n == 0 then own else natural n
@@ -162,9 +174,9 @@ pushed s = record s { stack = take most_titles (s.titles ∷ s.stack) }
 abbrev pub popped : Bool → Bool → List Titles → Screen → Screen
 popped icon window [] s = s
 popped icon window (t ∷ stack) s = record s {
-    titles = record { window = if window then t.window else s.titles.window; icon = if icon then t.icon else s.titles.icon };
-    stack = stack
-  }
+  titles = record { window = if window then t.window else s.titles.window; icon = if icon then t.icon else s.titles.icon };
+  stack = stack;
+}
 
 abbrev pub of_window : Window → Screen → Screen
 of_window (Window.ResizeWindowCells width height) s = resized (or_own s.rows height) (or_own s.columns width) s

@@ -1,5 +1,5 @@
 -- What moves rows, and what is done to parts of many rows.
-use Rattle.std.specs.Prelude.{ℕ, ◌+◌, ◌-◌, ◌==◌, nat_le, nat_lt, min, Bool, true, false, List, [], ◌∷◌, ◌++◌, length, map, take, drop, replicate, set, if◌then◌else◌, ◌&&◌}
+use Rattle.std.specs.Prelude.{ℕ, ◌+◌, ◌-◌, ◌==◌, nat_le, nat_lt, min, not, Bool, true, false, List, [], ◌∷◌, ◌++◌, length, map, take, drop, replicate, set, if◌then◌else◌, ◌&&◌}
 use Rattle.csicodec_names.specs.{declared.color.ColorSpec.ColorSpec}
 use Rattle.csicodec_screen.specs.Cells.{Cell, between, blanks, cut_twice, deleted, emptied, erased_around, inserted, spliced}
 use Rattle.csicodec_screen.specs.Screen.{Row, Screen, Size.Single, at, blank_row, paper, row_at}
@@ -85,9 +85,12 @@ index s = if s.row == s.margins.bottom then (if is_beside s then scrolled_up 1 s
 
 -- ---- parts of rows
 
--- the cells of each of these rows
+-- a row whose cells are what f makes of them, and each of these rows
+abbrev pub row_with : (List Cell → List Cell) → Row → Row
+row_with f row = record row { cells = f row.cells }
+
 abbrev pub each_row : (List Cell → List Cell) → List Row → List Row
-each_row f rows = map (λ row. record row { cells = f row.cells }) rows
+each_row f rows = map (row_with f) rows
 
 -- those of the rows from a to b
 abbrev pub over : ℕ → ℕ → (List Cell → List Cell) → Screen → Screen

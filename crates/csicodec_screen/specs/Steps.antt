@@ -9,7 +9,7 @@ use Rattle.csicodec_names.specs.declared.color.ColorSpec.TheVariants as color
 use Rattle.csicodec_screen.specs.Cells.{Cell, Cell.Char, Cell.Empty, Glyph, behind, blanks, cut, nothing, plain}
 use Rattle.csicodec_screen.specs.Screen.{Row, Screen, Set, Set.Ascii, Set.Graphics, Set.British, Size, Size.Single, Size.DoubleWidth, Size.UpperHalf, Size.LowerHalf, Titles, at, blank_grid, blank_row, eighths, paper, plain_pen, row_at, settled, untitled, whole}
 use Rattle.csicodec_screen.specs.Rows.{columns_moved, index, is_beside, onto}
-use Rattle.csicodec_screen.specs.Draws.{by_number, control_1, controls, left, next_line, print, reverse_index, right, shift, stop_at}
+use Rattle.csicodec_screen.specs.Draws.{by_number, controls, left, next_line, print, reverse_index, right, shift, stop_at}
 use Rattle.csicodec_screen.specs.{Acts.of_cursor, Acts.of_device, Acts.of_edit, Acts.of_mode, Acts.reset, Acts.restore, Acts.save, Areas.of_unknown, Areas.natural}
 
 -- ---- what comes

@@ -485,16 +485,15 @@ function policy() {
     wants(said.includes("default-src 'none'") && !said.includes('unsafe-inline') && !/https?:|connect-src/.test(said), `the policy: ${said}`);
 }
 
+/** Those that README shows: a sequence in words, light and dark. */
 async function pictures(browser, folder) {
-    for (const [name, width, height, scheme] of LOOKS) {
-        const file = what => join(folder, `${['page', what, name === 'wide' ? '' : name].filter(Boolean).join('-')}.png`);
+    for (const [name, width, height, scheme] of LOOKS.filter(([name]) => !name.startsWith('narrow'))) {
         await browser.look(width, height, scheme);
         await browser.open(page);
         await browser.click('example-log');
-        await browser.picture(file(''));
         await browser.run(() => [...document.getElementById('lines').shadowRoot.querySelectorAll('span')].find(it => it.textContent === 'error:').click());
         await browser.idle();
-        await browser.picture(file('words'));
+        await browser.picture(join(folder, name === 'dark' ? 'page-words-dark.png' : 'page-words.png'));
     }
 }
 

@@ -64,7 +64,7 @@ class Kit:
 
     def __init__(self):
         if not shutil.which("rt"):
-            raise Stop("release: the Rattle toolchain is missing: no rt in PATH (README.md says which one is needed)")
+            raise Stop("release: the Rattle toolchain is missing: no rt in PATH (CONTRIBUTING.md says which one is needed)")
         self.folder = os.path.dirname(run("rt", "doc").strip())
         self.line = run("rt", "version").strip()
         self.clang = f"{self.folder}/toolchain/bin/clang"

@@ -24,7 +24,7 @@ if TYPE_CHECKING:
     from .sequences import Known, known
     from .span import Span, SpanKind, spans
     from .strings import Osc, OscReader, osc
-    from .text import Cleaner, Filter, clean, compact, filter, html, normalise, overwrite, strip
+    from .text import Cleaner, Filter, Stripper, clean, compact, filter, html, normalise, overwrite, strip
     from .values import Color, DefaultColor, KeyModifiers, KittyKeyboardFlags, Modifiers, PaletteColor, Token, TrueColor
 
 __version__ = "1.24.0"
@@ -36,7 +36,7 @@ __all__ = [
     "InputEvent", "InputKey", "InputParser", "Intensity", "Key", "KeyCode", "KeyEncoding", "KeyEvent", "KeyModifiers", "KeyParser",
     "Keyboard", "KeyboardAction", "KittyKeyboardFlags", "KittyKeyboardMode", "Known", "KnownKind", "Malformed", "Mode",
     "ModeAction", "Modifiers", "MouseButton", "MouseReport", "MouseReportAction", "Osc", "OscKind", "OscReader", "Overwriter", "PaletteColor",
-    "Parser", "SelectCharacterPath", "Sgr", "SgrAction", "Span", "SpanKind", "TabulationClear", "TerminalModeCode", "Text", "Token",
+    "Parser", "SelectCharacterPath", "Sgr", "SgrAction", "Span", "SpanKind", "Stripper", "TabulationClear", "TerminalModeCode", "Text", "Token",
     "TrueColor", "Underline", "UnknownEsc", "Unspecified", "VerticalAlign", "Window", "WindowAction", "XtSmGraphicsAction",
     "XtSmGraphicsItem", "XtSmGraphicsStatus", "XtermKeyModifierResource", "clean", "compact", "encode", "encode_compact", "events",
     "explain", "filter", "html", "inputs", "keys", "known", "normalise", "osc", "overwrite", "spans", "strip",

@@ -226,19 +226,10 @@ def compact(stream: AnyStr, *, semicolons: bool = False) -> AnyStr:
     return _like(stream, out)  # type: ignore[no-any-return]
 
 
-class Cleaner(_Steps):
-    """`strip`, or with `styles` `clean`, for a stream as it comes; together the pieces are what one call for the whole writes.
+class _Cleaning(_Steps):
+    """What is left of a stream as it comes, with its styles in one of the depths of colours, or without any."""
 
-    >>> it = Cleaner()
-    >>> it.feed(b"a\\x1b[3") + it.feed(b"1mb\\xc3") + it.feed(b"\\xa9") + it.finish()
-    b'ab\\xc3\\xa9'
-
-    Behind `finish`, and behind a `with`, it can begin anew.
-    """
-
-    def __init__(self, *, styles: bool = False, colors: Optional[int] = None) -> None:
-        self._depth = _depth(colors) if is_on("styles", styles) else None
-        self._begin()
+    _depth: Optional[int] = None
 
     def _begin(self) -> None:
         super()._begin()
@@ -258,6 +249,44 @@ class Cleaner(_Steps):
         out, _ = written(library.clean_end, 64, byref(self._state), self._rest, len(self._rest))
         self._begin()
         return out
+
+
+class Stripper(_Cleaning):
+    """`strip` for a stream as it comes; together the pieces are what one call for the whole writes.
+
+    >>> it = Stripper()
+    >>> it.feed(b"a\\x1b[3") + it.feed(b"1mb\\xc3") + it.feed(b"\\xa9") + it.finish()
+    b'ab\\xc3\\xa9'
+
+    Behind `finish`, and behind a `with`, it can begin anew.
+    """
+
+    def __init__(self) -> None:
+        self._begin()
+
+    def __enter__(self) -> Stripper:
+        return self
+
+
+class Cleaner(_Cleaning):
+    """`clean` for a stream as it comes, with `colors` as there; together the pieces are what one call for the whole writes. No links pass.
+
+    >>> it = Cleaner()
+    >>> it.feed(b"a\\x1b[3") + it.feed(b"1mb\\xc3") + it.feed(b"\\xa9") + it.finish()
+    b'a\\x1b[31mb\\xc3\\xa9\\x1b[0m'
+
+    Behind `finish`, and behind a `with`, it can begin anew. The argument `styles` is that of versions before 1.25, in which `Cleaner()` was
+    what `Stripper()` is now. It warns: `styles=True` says nothing more, and for `styles=False` take `Stripper()`.
+    """
+
+    def __init__(self, *, styles: Optional[bool] = None, colors: Optional[int] = None) -> None:
+        depth = _depth(colors)
+        if styles is not None:
+            from warnings import warn
+
+            warn("Cleaner keeps styles, so styles=True can go, and Stripper is for styles=False", DeprecationWarning, stacklevel=2)
+        self._depth = depth if styles is None or is_on("styles", styles) else None
+        self._begin()
 
     def __enter__(self) -> Cleaner:
         return self

@@ -14,7 +14,7 @@ import sys
 import unittest
 
 import csicodec
-from csicodec import Cleaner, ControlString, Cursor, CursorAction, FieldError, Filter, Input, InputParser, Malformed, PaletteColor, Parser, Sgr
+from csicodec import Cleaner, ControlString, Cursor, CursorAction, FieldError, Filter, Input, InputParser, Malformed, PaletteColor, Parser, Sgr, Stripper
 from csicodec import MouseButton, MouseReport, Text, UnknownEsc, Unspecified, library
 
 REPOSITORY = pathlib.Path(sys.argv.pop(1) if len(sys.argv) > 1 else os.path.join(os.path.dirname(os.path.abspath(__file__)), "../.."))
@@ -132,7 +132,7 @@ class Codec(unittest.TestCase):
             for wrong in [1, None, [1], {}]:
                 with self.assertRaisesRegex(TypeError, f"not {type(wrong).__name__}"):
                     make(wrong)
-        for it in [Parser(), Cleaner(), Filter(), InputParser()]:
+        for it in [Parser(), Cleaner(), Stripper(), Filter(), InputParser()]:
             with self.assertRaisesRegex(TypeError, "a str or bytes-like object is required, not int"):
                 it.feed(3)
         with self.assertRaisesRegex(TypeError, "an action of csicodec is required, not int"):
@@ -182,7 +182,7 @@ class Codec(unittest.TestCase):
         reader.take(event)
         for other in [pickle.loads(pickle.dumps(reader)), copy.deepcopy(reader)]:
             self.assertEqual([said.first for said in other.take(ControlString("OSC", b"b", first=False))], [b"ab"])
-        for it in [Parser(), InputParser(), csicodec.KeyParser(), Cleaner(styles=True), Filter(), Filter.compact(), csicodec.Overwriter(), csicodec.HtmlWriter()]:
+        for it in [Parser(), InputParser(), csicodec.KeyParser(), Cleaner(), Stripper(), Filter(), Filter.compact(), csicodec.Overwriter(), csicodec.HtmlWriter()]:
             it.feed(b"a\x1b[1m\x1b]0;t\x1b[3")
             others = [pickle.loads(pickle.dumps(it)), copy.deepcopy(it), copy.copy(it)]
             wanted = (it.feed("1mé"), it.finish())
@@ -190,7 +190,7 @@ class Codec(unittest.TestCase):
                 self.assertEqual((other.feed("1mé"), other.finish()), wanted)
 
     def test_with(self):
-        for it in [Parser(), InputParser(), csicodec.KeyParser(), Cleaner(), Filter(), csicodec.Overwriter()]:
+        for it in [Parser(), InputParser(), csicodec.KeyParser(), Cleaner(), Stripper(), Filter(), csicodec.Overwriter()]:
             with it:
                 it.feed("\x1b[1")
             self.assertFalse(it.finish())
@@ -260,12 +260,23 @@ class Codec(unittest.TestCase):
         for stream in [ODD, *(stream[:600] for stream in STREAMS)]:
             for cut in range(len(stream)):
                 for wanted, it in [
-                    (csicodec.strip(stream), Cleaner()),
-                    (csicodec.clean(stream, colors=16), Cleaner(styles=True, colors=16)),
+                    (csicodec.strip(stream), Stripper()),
+                    (csicodec.clean(stream), Cleaner()),
+                    (csicodec.clean(stream, colors=16), Cleaner(colors=16)),
                     (csicodec.filter(stream), Filter()),
                     (in_one(Filter.compact(), stream), Filter.compact()),
                 ]:
                     self.assertEqual(it.feed(stream[:cut]) + it.feed(stream[cut:]) + it.finish(), wanted, (stream, cut))
+
+    def test_the_argument_of_old(self):
+        for styles, wanted in [(False, b"red"), (True, b"\x1b[31mred\x1b[0m")]:
+            with self.assertWarnsRegex(DeprecationWarning, "Stripper is for styles=False"):
+                it = Cleaner(styles=styles, colors=16)
+            self.assertEqual(it.feed("\x1b[31mred") + it.finish(), wanted)
+        with self.assertRaisesRegex(TypeError, "styles must be bool, not int"), self.assertWarns(DeprecationWarning):
+            Cleaner(styles=1)
+        with self.assertRaisesRegex(ValueError, "colors must be None, 256 or 16, not 3"):
+            Cleaner(colors=3)
 
     def test_strings_and_bytes(self):
         self.assertEqual(csicodec.strip("é\x1b[1m€"), "é€")

@@ -74,6 +74,11 @@ pub use text::characters;
 pub use types::*;
 pub use values::*;
 
+/// The package's page, whose program is tried as it stands there.
+#[cfg(doctest)]
+#[doc = include_str!("../README.md")]
+struct Page;
+
 use alloc::{vec, vec::Vec};
 use core::fmt;
 use csicodec_sys as raw;

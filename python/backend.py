@@ -4,6 +4,7 @@ import base64
 import hashlib
 import os
 import platform
+import posixpath
 import re
 import time
 import zipfile
@@ -46,11 +47,32 @@ def about():
     return {name: value.strip() for name, _, value in pairs if value.strip()}
 
 
+def packed(page, folder, files):
+    """A page as a package has it. What it links to lies in the repository, from the folder of the page: a link has its whole address below `files`,
+    where that is known, and is else its words alone; a picture is left out there.
+
+    >>> packed("![p](b.svg) [a](../docs/A.md#b), [c](#c), [d](https://d/)", "python", "https://h/x")
+    '![p](https://h/x/python/b.svg) [a](https://h/x/docs/A.md#b), [c](#c), [d](https://d/)'
+    >>> packed("![p](b.svg) [a](../docs/A.md#b), [c](#c), [d](https://d/)", "python", "")
+    ' a, [c](#c), [d](https://d/)'
+    """
+    def linked(found):
+        before, words, to = found.groups()
+        if re.match(r"[a-z]+:|#", to):
+            return found[0]
+        if not files:
+            return "" if before else words
+        return f"{before}[{words}]({files.rstrip('/')}/{posixpath.normpath(posixpath.join(folder, to))})"
+
+    page = re.sub(r"<picture>.*?<img src=\"([^\"]*)\" alt=\"([^\"]*)\">.*?</picture>\n*", r"![\2](\1)\n\n", page, flags=re.S)
+    return re.sub(r"\n{3,}", "\n\n", re.sub(r"(!?)\[([^]]*)\]\(([^)\s]+)\)", linked, page))
+
+
 def metadata():
     """What the packages tell of themselves, with the README as their description."""
-    with open(f"{HERE}/README.md", encoding="utf-8") as file:
-        readme = file.read()
     told = about()
+    with open(f"{HERE}/README.md", encoding="utf-8") as file:
+        readme = packed(file.read(), "python", told.get("files", ""))
     fields = [
         "Metadata-Version: 2.1",
         "Name: csicodec",

@@ -22,7 +22,7 @@ from release_build import HERE, TARGETS, TOP, Stop, run, sum_of, version
 from release_web import PORTABLE, library_of, modules_of
 
 # The files of web/ that are node's package.
-NODE = ("index.mjs", "index.d.ts", "csicodec.mjs", "forms.mjs", "actions.mjs", "actions.d.ts", "package.json", "README.md")
+NODE = ("index.mjs", "index.d.ts", "csicodec.mjs", "forms.mjs", "actions.mjs", "actions.d.ts", "package.json")
 # Debian's names of the processors.
 DEBIAN = {"x86_64-linux": "amd64", "aarch64-linux": "arm64"}
 # Cargo's names of the places that have an archive for it.
@@ -41,6 +41,16 @@ def copy(names, to):
     os.makedirs(to, exist_ok=True)
     for name in names:
         shutil.copy(f"{TOP}/{name}" if not os.path.isabs(name) else name, to)
+
+
+def pages(names, to):
+    """Copies pages of the repository, whose links lead to where tools/about.txt says that its files are read, or nowhere."""
+    os.makedirs(to, exist_ok=True)
+    for name in names:
+        with open(f"{TOP}/{name}", encoding="utf-8") as file:
+            text = backend.packed(file.read(), os.path.dirname(name), about().get("files", ""))
+        with open(f"{to}/{os.path.basename(name)}", "w", encoding="utf-8") as file:
+            file.write(text)
 
 
 def examples(end):
@@ -77,7 +87,8 @@ def tarballs(dist, out, room):
             file.seek(0)
             file.write(text)
             file.truncate()
-        copy(["README.md", "CHANGELOG.md", "LICENSE", f"{dist}/NOTICE"], f"{folder}/share/doc/csicodec")
+        copy(["LICENSE", f"{dist}/NOTICE"], f"{folder}/share/doc/csicodec")
+        pages(["README.md", "CHANGELOG.md"], f"{folder}/share/doc/csicodec")
         pack(folder, name, f"{out}/{name}.tar.gz")
 
 
@@ -87,9 +98,24 @@ def debian(dist, out, room):
         run(f"{TOP}/tools/debian", out, f"--arch={arch}", f"--built={dist}/{place}")
 
 
+def tell_cargo(path):
+    """Adds to a Cargo.toml what tools/about.txt tells of the project."""
+    told = about()
+    author = " ".join(it for it in (told.get("author"), f"<{told['email']}>" if "email" in told else "") if it)
+    fields = {"homepage": told.get("homepage"), "repository": told.get("repository"), "authors": [author] if author else None}
+    lines = "".join(f"{name} = {json.dumps(value, ensure_ascii=False)}\n" for name, value in fields.items() if value)
+    with open(path, encoding="utf-8") as file:
+        text = file.read()
+    with open(path, "w", encoding="utf-8") as file:
+        file.write(text.replace('license = "MIT"\n', f'license = "MIT"\n{lines}', 1))
+
+
 def rust(dist, out, room):
     """The two packages as cargo makes them, with the archives inside."""
     shutil.copytree(f"{TOP}/rust", f"{room}/rust", ignore=shutil.ignore_patterns("target"))
+    for folder in ("rust", "rust/sys"):
+        pages([f"{folder}/README.md", "CHANGELOG.md"], f"{room}/{folder}")
+        tell_cargo(f"{room}/{folder}/Cargo.toml")
     for place, target in CARGO_TARGETS.items():
         if os.path.isdir(f"{dist}/{place}"):
             copy([f"{dist}/{place}/libcsicodec.a"], f"{room}/rust/sys/lib/{target}")
@@ -127,6 +153,7 @@ def node(dist, out, room):
     """The package for node: the modules, their types, and WebAssembly."""
     folder = f"{room}/node/package"
     copy([f"web/{name}" for name in NODE], folder)
+    pages(["web/README.md"], folder)
     copy(examples(".mjs"), f"{folder}/examples")
     tell_of_project(f"{folder}/package.json")
     copy(["LICENSE", f"{dist}/NOTICE"], folder)
@@ -146,6 +173,7 @@ def python(dist, out, room):
     with open(f"{folder}/PKG-INFO", "w", encoding="utf-8") as file:
         file.write(backend.metadata())
     copy(["LICENSE", f"{dist}/NOTICE"], folder)
+    pages(["python/README.md"], folder)
     copy(examples(".py"), f"{folder}/examples")
     copy(["tools/about.txt"], folder)
     for place in TARGETS:
@@ -156,7 +184,8 @@ def python(dist, out, room):
 def whole(folder, dist, place, tools):
     """What each folder for another system has: headers, documents, and MANIFEST."""
     copy(HEADERS, f"{folder}/include")
-    copy(["README.md", "CHANGELOG.md", "LICENSE", f"{dist}/NOTICE"], f"{folder}/share/doc/csicodec")
+    copy(["LICENSE", f"{dist}/NOTICE"], f"{folder}/share/doc/csicodec")
+    pages(["README.md", "CHANGELOG.md"], f"{folder}/share/doc/csicodec")
     build.manifest(build.Kit(), folder, tools)
 
 
@@ -294,8 +323,15 @@ def with_systems(dist, kinds, room):
     return to
 
 
+# What tools/about.txt may tell.
+ABOUT = ("homepage", "repository", "files", "issues", "author", "email")
+
+
 def write(dist, to, kinds):
     """Makes the packages of these kinds, and SHA256SUMS, in a new folder, which then takes the place of the one at `to`."""
+    lacking = [name for name in ABOUT if name not in about()]
+    if lacking:
+        print(f"release: tools/about.txt has no {', '.join(lacking)}: no package tells them", file=sys.stderr)
     with tempfile.TemporaryDirectory(prefix=".release-", dir=os.path.dirname(to)) as room:
         out, dist = f"{room}/out", with_systems(dist, kinds, room)
         os.mkdir(out)

@@ -493,6 +493,7 @@ async function pictures(browser, folder) {
         await browser.click('example-log');
         await browser.run(() => [...document.getElementById('lines').shadowRoot.querySelectorAll('span')].find(it => it.textContent === 'error:').click());
         await browser.idle();
+        await browser.run(() => document.activeElement.blur());
         await browser.picture(join(folder, name === 'dark' ? 'page-words-dark.png' : 'page-words.png'));
     }
 }

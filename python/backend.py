@@ -47,18 +47,21 @@ def about():
     return {name: value.strip() for name, _, value in pairs if value.strip()}
 
 
-def packed(page, folder, files):
+def packed(page, folder, files, there=()):
     """A page as a package has it. What it links to lies in the repository, from the folder of the page: a link has its whole address below `files`,
-    where that is known, and is else its words alone; a picture is left out there.
+    where that is known, and is else its words alone; a picture is left out there. What is at the top of the repository and `there` is in the
+    package too, at the same place.
 
     >>> packed("![p](b.svg) [a](../docs/A.md#b), [c](#c), [d](https://d/)", "python", "https://h/x")
     '![p](https://h/x/python/b.svg) [a](https://h/x/docs/A.md#b), [c](#c), [d](https://d/)'
     >>> packed("![p](b.svg) [a](../docs/A.md#b), [c](#c), [d](https://d/)", "python", "")
     ' a, [c](#c), [d](https://d/)'
+    >>> packed("[a](../docs/A.md#b), [e](../E.md)", "python", "", ["docs"])
+    '[a](../docs/A.md#b), e'
     """
     def linked(found):
         before, words, to = found.groups()
-        if re.match(r"[a-z]+:|#", to):
+        if re.match(r"[a-z]+:|#", to) or posixpath.normpath(posixpath.join(folder, to.partition("#")[0])).split("/")[0] in there:
             return found[0]
         if not files:
             return "" if before else words

@@ -18,8 +18,8 @@
 #include "csicodec_names.h"
 
 /* The version of this header. csicodec_version() returns the library's, which must be the same number. */
-#define CSICODEC_VERSION "1.24.0"
-#define CSICODEC_VERSION_NUMBER 12400
+#define CSICODEC_VERSION "1.25.0"
+#define CSICODEC_VERSION_NUMBER 12500
 
 #ifdef __cplusplus
 extern "C" {

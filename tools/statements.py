@@ -110,7 +110,9 @@ def lost():
     crates = {module.split(".")[1] for module in files()}
     for file in files().values():
         for module, name in (handed(*it) for it in file.uses.names.values()):
-            if module.split(".")[1] in crates and not GENERATED.search(module) and defined(module, name) is None:
+            # A constructor stands behind its type.
+            owner, _, last = module.rpartition(".")
+            if module.split(".")[1] in crates and not GENERATED.search(module) and defined(module, name) is None and defined(owner, last) is None:
                 yield f"{file.module} imports {module}.{name}, which isn't there"
 
 

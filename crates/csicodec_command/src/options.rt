@@ -299,4 +299,4 @@ read like any other FILE.
   -h, --help     Show this text.";
 
 /// The program's name and version.
-pub const VERSION: &str = "csicodec 1.24.0";
+pub const VERSION: &str = "csicodec 1.25.0";

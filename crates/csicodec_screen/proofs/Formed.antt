@@ -1,12 +1,10 @@
 -- A screen on which nothing was written is formed.
-use Rattle.std.proofs.Common.{◌≡◌, ℕ, zero, suc, ◌+◌, ◌<◌, true, false, length, refl, ap, arith}
-use Rattle.std.proofs.lemmas.List.{length-replicate}
-use Rattle.std.proofs.lemmas.Bool.{false≢true}
-use Rattle.std.specs.Prelude.{replicate}
-use Rattle.std.specs.List.{AllByRecursion}
+use Rattle.std.proofs.{Common.◌≡◌, Common.ℕ, Common.zero, Common.suc, Common.◌+◌, Common.◌<◌, Common.true, Common.false, Common.length, Common.refl, Common.ap}
+use Rattle.std.proofs.{Common.arith, lemmas.List.length-replicate, lemmas.Bool.false≢true}
+use Rattle.std.specs.{Prelude.replicate, List.AllByRecursion}
+use Rattle.csicodec_screen.specs.{Cells.are_whole, Cells.blanks, Screen.IsFormed, Screen.IsGrid, Screen.Row, Screen.blank_grid, Screen.blank_row}
+use Rattle.csicodec_screen.specs.{Screen.eighths, Screen.fresh}
 use Rattle.csicodec_names.specs.declared.color.ColorSpec.TheVariants as color
-use Rattle.csicodec_screen.specs.Cells.{are_whole, blanks}
-use Rattle.csicodec_screen.specs.Screen.{IsFormed, IsGrid, Row, blank_grid, blank_row, eighths, fresh}
 
 blanks_whole : (n : ℕ) → are_whole false (blanks color.Default n) ≡ true
 blanks_whole zero = refl

@@ -3,18 +3,21 @@ use Rattle.std.specs.Prelude.{ℕ, ℤ, pos, negsuc, ◌+◌, ◌-◌, ◌==◌,
 use Rattle.std.specs.List.{flat_map}
 use Rattle.csicodec_tokens.specs.{declared.param.CsiParam.CsiParam, Fields.fields_of}
 use Rattle.csicodec_names.specs.{declared.modes.DecPrivateModeCode.DecPrivateModeCode, declared.enums.EraseInDisplay.EraseInDisplay}
-use Rattle.csicodec_names.specs.{declared.enums.EraseInLine.EraseInLine, declared.modes.TerminalModeCode.TerminalModeCode, declared.enums.TabulationClear.TabulationClear}
+use Rattle.csicodec_names.specs.{declared.enums.EraseInLine.EraseInLine, declared.modes.TerminalModeCode.TerminalModeCode}
+use Rattle.csicodec_names.specs.{declared.enums.TabulationClear.TabulationClear}
 use Rattle.csicodec_actions.specs.{declared.cursor.Cursor.Cursor, declared.edit.Edit.Edit, declared.mode.DecPrivateMode.DecPrivateMode, declared.mode.Mode.Mode}
 use Rattle.csicodec_actions.specs.{Actions.Action, Devices.Device, declared.mode.TerminalMode.TerminalMode, declared.window.Window.Window}
 use Rattle.csicodec_base.specs.declared.sgr.Sgr.{Sgr}
 use Rattle.csicodec_sequences.specs.Parts.{Parts, parts_of}
+use Rattle.csicodec_screen.specs.Cells.{Cell, Look, Pen, behind, deleted, emptied, erased_around, inserted, cut_twice, between, cell_with, joined, plain, spliced}
+use Rattle.csicodec_screen.specs.Screen.{Row, Screen, Saved, Sets, Set, Size, Titles, at, blank_grid, edge, first_sets, fresh, go, last_column, paper, place, plain_pen, row_at, whole}
+use Rattle.csicodec_screen.specs.Rows.{cleared, columns_moved, each_row, in_line, index, is_inside, is_beside, over, scrolled, scrolled_down, scrolled_up, segment, spared, with_segments, within}
+use Rattle.csicodec_screen.specs.Draws.{by_number, columns_of, down, glyph, left, next_line, repeat_last, return, reverse_index, right, shift, stop_at, tab, tab_back, times, up}
+use Rattle.csicodec_screen.specs.{Cells.Cell.Char, Screen.Set.Ascii, Screen.Set.Graphics, Screen.Set.British, Screen.Size.Single, Screen.Size.DoubleWidth}
+use Rattle.csicodec_screen.specs.{Screen.Size.UpperHalf, Screen.Size.LowerHalf}
 use Rattle.csicodec_names.specs.declared.color.ColorSpec.TheVariants as color
 use Rattle.csicodec_actions.specs.Devices as device
 use Rattle.csicodec_actions.specs.Actions as action
-use Rattle.csicodec_screen.specs.Cells.{Cell, Cell.Char, Look, Pen, behind, deleted, emptied, erased_around, inserted, cut_twice, between, cell_with, joined, plain, spliced}
-use Rattle.csicodec_screen.specs.Screen.{Row, Screen, Saved, Sets, Set, Set.Ascii, Set.Graphics, Set.British, Size, Size.Single, Size.DoubleWidth, Size.UpperHalf, Size.LowerHalf, Titles, at, blank_grid, edge, first_sets, fresh, go, last_column, paper, place, plain_pen, row_at, whole}
-use Rattle.csicodec_screen.specs.Rows.{cleared, columns_moved, each_row, in_line, index, is_inside, is_beside, over, scrolled, scrolled_down, scrolled_up, segment, spared, with_segments, within}
-use Rattle.csicodec_screen.specs.Draws.{by_number, columns_of, down, glyph, left, next_line, repeat_last, return, reverse_index, right, shift, stop_at, tab, tab_back, times, up}
 
 -- ---- cursor
 

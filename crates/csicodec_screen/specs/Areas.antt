@@ -1,15 +1,15 @@
 -- What is done to rectangular areas, and by the other sequences that have no action of their own.
 use Rattle.std.specs.Prelude.{ℕ, ℤ, pos, negsuc, ◌+◌, ◌-◌, ◌==◌, nat_le, nat_lt, min, not, Bool, true, false, List, [], ◌∷◌, length, map, take, drop, replicate, slice_index_or, unwrap_or, Option, Some, None, if◌then◌else◌, ◌&&◌, ◌||◌}
 use Rattle.csicodec_tokens.specs.{declared.param.CsiParam.CsiParam, Fields.fields_of}
-use Rattle.csicodec_names.specs.{declared.enums.EraseInDisplay.EraseInDisplay, declared.enums.EraseInLine.EraseInLine, declared.color.Underline.Underline, declared.color.Blink.Blink}
+use Rattle.csicodec_names.specs.{declared.enums.EraseInDisplay.EraseInDisplay, declared.enums.EraseInLine.EraseInLine, declared.color.Underline.Underline}
+use Rattle.csicodec_names.specs.{declared.color.Blink.Blink}
 use Rattle.csicodec_sequences.specs.Parts.{Parts, parts_of}
+use Rattle.csicodec_screen.specs.Cells.{Cell, Look, between, cell_with, cut_twice, emptied, erased_around, joined, plain, spliced}
+use Rattle.csicodec_screen.specs.{Cells.Cell.Char, Screen.Row, Screen.Screen, Screen.paper, Rows.columns_moved, Rows.is_inside, Rows.over, Rows.segment}
+use Rattle.csicodec_screen.specs.{Rows.with_segments, Rows.within, Draws.columns_of, Draws.glyph, Acts.erase_display, Acts.erase_line, Acts.left_and_right}
+use Rattle.csicodec_screen.specs.{Acts.of_one}
 use Rattle.csicodec_names.specs.declared.color.Underline.TheVariants as underline
 use Rattle.csicodec_names.specs.declared.color.Blink.TheVariants as blinking
-use Rattle.csicodec_screen.specs.Cells.{Cell, Cell.Char, Look, between, cell_with, cut_twice, emptied, erased_around, joined, plain, spliced}
-use Rattle.csicodec_screen.specs.Screen.{Row, Screen, paper}
-use Rattle.csicodec_screen.specs.Rows.{columns_moved, is_inside, over, segment, with_segments, within}
-use Rattle.csicodec_screen.specs.Draws.{columns_of, glyph}
-use Rattle.csicodec_screen.specs.Acts.{erase_display, erase_line, left_and_right, of_one}
 
 -- ---- areas (DEC VT510, "Rectangular Area Operations")
 

@@ -1,6 +1,7 @@
 -- What stands in a row of a screen, cell by cell, and how a row is edited. Columns are counted from 0.
 use Rattle.std.specs.Prelude.{ℕ, ◌+◌, ◌-◌, nat_lt, min, not, Bool, true, false, List, [], ◌∷◌, ◌++◌, length, take, drop, replicate, get_or, if◌then◌else◌, ◌&&◌, ◌||◌}
-use Rattle.csicodec_names.specs.{declared.color.ColorSpec.ColorSpec, declared.color.Underline.Underline, declared.color.Blink.Blink, declared.color.Intensity.Intensity}
+use Rattle.csicodec_names.specs.{declared.color.ColorSpec.ColorSpec, declared.color.Underline.Underline, declared.color.Blink.Blink}
+use Rattle.csicodec_names.specs.{declared.color.Intensity.Intensity}
 use Rattle.csicodec_base.specs.declared.sgr.Sgr.{Sgr}
 use Rattle.csicodec_names.specs.declared.color.ColorSpec.TheVariants as color
 use Rattle.csicodec_names.specs.declared.color.Underline.TheVariants as underline

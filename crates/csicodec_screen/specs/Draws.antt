@@ -2,9 +2,10 @@
 use Rattle.std.specs.Prelude.{ℕ, zero, suc, ◌+◌, ◌-◌, ◌/◌, ◌==◌, nat_le, nat_lt, min, max, not, Bool, true, false, List, [], ◌∷◌, length, take, drop, set, get_or, unwrap_or, Option, Some, None, if◌then◌else◌, ◌&&◌, ◌||◌}
 use Rattle.unicode_width.specs.Width.{char_width}
 use Rattle.csicodec_looks.specs.Cells.{narrowed}
-use Rattle.csicodec_screen.specs.Cells.{Cell, Cell.Char, Cell.Wide, Cell.Behind, Glyph, cell_at, inserted, is_behind, marked, spliced}
-use Rattle.csicodec_screen.specs.Screen.{Screen, Sets, Set, Set.Ascii, Set.Graphics, Set.British, at, edge, last_column, paper, row_at}
-use Rattle.csicodec_screen.specs.Rows.{in_line, index, is_beside, scrolled_down}
+use Rattle.csicodec_screen.specs.{Cells.Cell, Cells.Glyph, Cells.cell_at, Cells.inserted, Cells.is_behind, Cells.marked, Cells.spliced, Cells.Cell.Char}
+use Rattle.csicodec_screen.specs.{Cells.Cell.Wide, Cells.Cell.Behind, Screen.Screen, Screen.Sets, Screen.Set, Screen.at, Screen.edge, Screen.last_column}
+use Rattle.csicodec_screen.specs.{Screen.paper, Screen.row_at, Screen.Set.Ascii, Screen.Set.Graphics, Screen.Set.British, Rows.in_line, Rows.index}
+use Rattle.csicodec_screen.specs.{Rows.is_beside, Rows.scrolled_down}
 
 -- ---- sets
 

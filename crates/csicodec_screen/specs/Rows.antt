@@ -1,8 +1,8 @@
 -- What moves rows, and what is done to parts of many rows.
 use Rattle.std.specs.Prelude.{ℕ, ◌+◌, ◌-◌, ◌==◌, nat_le, nat_lt, min, not, Bool, true, false, List, [], ◌∷◌, ◌++◌, length, map, take, drop, replicate, set, if◌then◌else◌, ◌&&◌}
-use Rattle.csicodec_names.specs.{declared.color.ColorSpec.ColorSpec}
+use Rattle.csicodec_names.specs.declared.color.ColorSpec.{ColorSpec}
 use Rattle.csicodec_screen.specs.Cells.{Cell, between, blanks, cut_twice, deleted, emptied, erased_around, inserted, spliced}
-use Rattle.csicodec_screen.specs.Screen.{Row, Screen, Size.Single, at, blank_row, paper, row_at}
+use Rattle.csicodec_screen.specs.{Screen.Row, Screen.Screen, Screen.at, Screen.blank_row, Screen.paper, Screen.row_at, Screen.Size.Single}
 
 -- ---- lists
 

@@ -1,7 +1,7 @@
 -- The state of a terminal's screen. Rows and columns are counted from 0.
 use Rattle.std.specs.Prelude.{ℕ, zero, suc, ◌≡◌, ◌≤◌, ◌<◌, ◌+◌, ◌-◌, ◌*◌, ◌/◌, ◌%◌, ◌==◌, nat_lt, min, Bool, true, false, List, [], ◌∷◌, length, replicate, get_or, Option, Some, None, if◌then◌else◌, ◌&&◌}
 use Rattle.std.specs.List.{AllByRecursion}
-use Rattle.csicodec_names.specs.{declared.color.ColorSpec.ColorSpec}
+use Rattle.csicodec_names.specs.declared.color.ColorSpec.{ColorSpec}
 use Rattle.csicodec_screen.specs.Cells.{Cell, Pen, are_whole, blanks, plain}
 use Rattle.csicodec_names.specs.declared.color.ColorSpec.TheVariants as color
 

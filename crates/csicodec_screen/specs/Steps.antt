@@ -1,16 +1,17 @@
 -- A screen, step by step: each character, control, escape sequence, control sequence and string of a stream.
 use Rattle.std.specs.Prelude.{ℕ, ℤ, pos, negsuc, ◌+◌, ◌-◌, ◌*◌, ◌/◌, ◌==◌, nat_le, nat_lt, min, max, not, Bool, true, false, List, [], ◌∷◌, ◌++◌, length, map, take, drop, replicate, set, unwrap_or, Option, Some, None, if◌then◌else◌, ◌&&◌, ◌||◌}
-use Rattle.csicodec_tokens.specs.{declared.param.CsiParam.CsiParam}
+use Rattle.csicodec_tokens.specs.declared.param.CsiParam.{CsiParam}
 use Rattle.csicodec_base.specs.declared.sgr.Sgr.{Sgr}
 use Rattle.csicodec_actions.specs.{Actions.Action, declared.window.Window.Window}
+use Rattle.csicodec_screen.specs.Screen.{Row, Screen, Set, Size, Titles, at, blank_grid, blank_row, eighths, paper, plain_pen, row_at, settled, untitled, whole}
+use Rattle.csicodec_screen.specs.Draws.{by_number, controls, left, next_line, print, reverse_index, right, shift, stop_at}
+use Rattle.csicodec_screen.specs.{Cells.Cell, Cells.Glyph, Cells.behind, Cells.blanks, Cells.cut, Cells.nothing, Cells.plain, Cells.Cell.Char, Cells.Cell.Empty}
+use Rattle.csicodec_screen.specs.{Screen.Set.Ascii, Screen.Set.Graphics, Screen.Set.British, Screen.Size.Single, Screen.Size.DoubleWidth, Screen.Size.UpperHalf}
+use Rattle.csicodec_screen.specs.{Screen.Size.LowerHalf, Rows.columns_moved, Rows.index, Rows.is_beside, Rows.onto, Acts.of_cursor, Acts.of_device}
+use Rattle.csicodec_screen.specs.{Acts.of_edit, Acts.of_mode, Acts.reset, Acts.restore, Acts.save, Areas.of_unknown, Areas.natural}
 use Rattle.csicodec_actions.specs.Actions as action
 use Rattle.csicodec_actions.specs.declared.edit.Edit.TheVariants as edit
 use Rattle.csicodec_names.specs.declared.color.ColorSpec.TheVariants as color
-use Rattle.csicodec_screen.specs.Cells.{Cell, Cell.Char, Cell.Empty, Glyph, behind, blanks, cut, nothing, plain}
-use Rattle.csicodec_screen.specs.Screen.{Row, Screen, Set, Set.Ascii, Set.Graphics, Set.British, Size, Size.Single, Size.DoubleWidth, Size.UpperHalf, Size.LowerHalf, Titles, at, blank_grid, blank_row, eighths, paper, plain_pen, row_at, settled, untitled, whole}
-use Rattle.csicodec_screen.specs.Rows.{columns_moved, index, is_beside, onto}
-use Rattle.csicodec_screen.specs.Draws.{by_number, controls, left, next_line, print, reverse_index, right, shift, stop_at}
-use Rattle.csicodec_screen.specs.{Acts.of_cursor, Acts.of_device, Acts.of_edit, Acts.of_mode, Acts.reset, Acts.restore, Acts.save, Areas.of_unknown, Areas.natural}
 
 -- ---- what comes
 

@@ -1,6 +1,7 @@
 """What is run where there is no toolchain, made of what was proved: the program csicodec and the library for each processor, the modules
 for WebAssembly, and the list of them. The kit alone makes all but the last step of the modules, which is binaryen's.
 """
+import gzip
 import hashlib
 import os
 import re
@@ -17,6 +18,8 @@ TARGETS = {HERE: ("x86_64-unknown-linux-gnu", ["--cpu", "x86-64"]), "aarch64-lin
 # Which version of C's calls the shared library asks for: the oldest that the processor has.
 GLIBC = {HERE: "2.2.5", "aarch64-linux": "2.17"}
 LOADER = {HERE: "x86_64", "aarch64-linux": "aarch64"}
+# The static library.
+ARCHIVE = "libcsicodec.a"
 MANY_EVENTS = ["csicodec_left", "csicodec_begin", "csicodec_tell"]
 C_CALLS = ("malloc", "realloc", "free", "memcpy", "memmove", "memset", "memcmp", "memchr", "bcmp")
 C_FLAGS = ["-O2", "-ffreestanding", "-ffunction-sections", "-fno-asynchronous-unwind-tables", "-Wall", "-Wextra", "-Werror"]
@@ -249,6 +252,27 @@ def join_sections(kit, path):
     kit.tool("ld.lld", "-r", "-o", path, f"{path}.parts")
 
 
+def pack_archive(archive, folder):
+    """Puts an archive into a folder of dist/, packed by gzip, which takes a third of it."""
+    with open(archive, "rb") as file, open(f"{folder}/{ARCHIVE}.gz", "wb") as packed:
+        packed.write(gzip.compress(file.read(), mtime=0))
+
+
+def unpack_archive(folder, to):
+    """The archive of a folder of dist/, in another folder."""
+    os.makedirs(to, exist_ok=True)
+    with gzip.open(f"{folder}/{ARCHIVE}.gz") as packed, open(f"{to}/{ARCHIVE}", "wb") as file:
+        shutil.copyfileobj(packed, file)
+
+
+def sum_inside(path):
+    """The sum of a file, or of what is packed in it: another version of gzip's compressor may pack the same otherwise."""
+    if not path.endswith(".gz"):
+        return sum_of(path)
+    with gzip.open(path) as file:
+        return hashlib.sha256(file.read()).hexdigest()
+
+
 def link_library(kit, place, made, folder, room):
     """The archive, one object with the calls of the heap in it, whose names are its own; and the shared library, which exports the calls of
     the header and of system/python.c, and nothing else."""
@@ -262,7 +286,8 @@ def link_library(kit, place, made, folder, room):
     kit.tool("ld.lld", "-r", "-o", f"{own}/whole.o", f"{own}/{parts[0]}", f"{own}/heap.o")
     kit.tool("llvm-objcopy", "--wildcard", "--localize-symbol=rattle_*", "--strip-unneeded", f"{own}/whole.o")
     join_sections(kit, f"{own}/whole.o")
-    kit.tool("llvm-ar", "rcsD", f"{folder}/libcsicodec.a", "whole.o", cwd=own)
+    kit.tool("llvm-ar", "rcsD", ARCHIVE, "whole.o", cwd=own)
+    pack_archive(f"{own}/{ARCHIVE}", folder)
     with open(f"{own}/calls.c", "w", encoding="utf-8") as file:
         file.writelines(f"void {name}(void) {{}}\n" for name in C_CALLS)
     newer = "GLIBC_2.14 { global: memcpy; } GLIBC_2.2.5;\n" if place == HERE else ""

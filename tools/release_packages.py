@@ -18,7 +18,7 @@ from backend import about  # noqa: E402
 import release_build as build  # noqa: E402
 import release_portable as portable_c  # noqa: E402
 import release_systems as systems  # noqa: E402
-from release_build import HERE, TARGETS, TOP, Stop, run, sum_of, version
+from release_build import ARCHIVE, HERE, TARGETS, TOP, Stop, run, sum_of, unpack_archive, version
 from release_web import PORTABLE, library_of, modules_of
 
 # The files of web/ that are node's package.
@@ -118,7 +118,7 @@ def rust(dist, out, room):
         tell_cargo(f"{room}/{folder}/Cargo.toml")
     for place, target in CARGO_TARGETS.items():
         if os.path.isdir(f"{dist}/{place}"):
-            copy([f"{dist}/{place}/libcsicodec.a"], f"{room}/rust/sys/lib/{target}")
+            unpack_archive(f"{dist}/{place}", f"{room}/rust/sys/lib/{target}")
     os.makedirs(f"{room}/rust/sys/portable")
     portable_c.write(library_of(dist, PORTABLE), f"{room}/rust/sys/portable/csicodec-portable.c", room)
     copy(HEADERS, f"{room}/rust/sys/portable/include")
@@ -210,7 +210,8 @@ def checked(folder, dist, room, library):
     copy(["c/all.c"], folder)
     streams = examples(".stream")
     copy(streams, f"{folder}/examples")
-    run("cc", "-O2", f"-I{TOP}/include", "-o", f"{room}/answers", f"{TOP}/c/all.c", f"{dist}/{HERE}/libcsicodec.a")
+    unpack_archive(f"{dist}/{HERE}", room)
+    run("cc", "-O2", f"-I{TOP}/include", "-o", f"{room}/answers", f"{TOP}/c/all.c", f"{room}/{ARCHIVE}")
     with open(f"{folder}/sums", "w", encoding="utf-8") as file:
         file.write(run(f"{room}/answers", *streams, cwd=TOP))
     with open(f"{folder}/check", "w", encoding="utf-8") as file:

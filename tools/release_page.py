@@ -8,13 +8,11 @@ policy (Content-Security-Policy) names the sums of this script and of its style 
 import base64
 import hashlib
 import json
+import lzma
 import os
 import re
 import struct
-import subprocess
 import sys
-import tempfile
-import zlib
 
 sys.dont_write_bytecode = True
 from release_build import TOP, Stop, version  # noqa: E402
@@ -23,6 +21,7 @@ sys.path.insert(0, f"{TOP}/tools/table")
 from examples import all_examples  # noqa: E402
 
 MOST = 700_000
+LZMA = [{"id": lzma.FILTER_LZMA1, "preset": 9 | lzma.PRESET_EXTREME, "lc": 3, "lp": 0, "pb": 0}]
 
 
 def read(path):
@@ -31,13 +30,8 @@ def read(path):
 
 
 def packed(held):
-    """A file of gzip (RFC 1952), with no time. The head is written here, since that of a tool differs between its versions. What is packed is by
-    zopfli, which makes it a twentieth shorter than zlib does."""
-    with tempfile.NamedTemporaryFile() as file:
-        file.write(held)
-        file.flush()
-        body = subprocess.run(["zopfli", "--deflate", "--i5", "-c", file.name], stdout=subprocess.PIPE, check=True).stdout
-    return b"\x1f\x8b\x08\0\0\0\0\0\x02\x03" + body + struct.pack("<II", zlib.crc32(held), len(held) % 2**32)
+    """The number of bytes, in four of them, and what LZMA makes of these, as web/page/packed.mjs unpacks it."""
+    return struct.pack("<I", len(held)) + lzma.compress(held, format=lzma.FORMAT_RAW, filters=LZMA)
 
 
 # Two digits of base 85 (RFC 1924) that markup has, and those in their place.
@@ -142,7 +136,8 @@ def program_of(page_file):
         found = re.search(r'id="program">([^<]+)<', file.read())
     if not found:
         raise Stop(f"release: {page_file} has no program inside")
-    return zlib.decompress(base64.b85decode(found[1].translate(str.maketrans(OTHERS, MARKUP))), 31)
+    held = base64.b85decode(found[1].translate(str.maketrans(OTHERS, MARKUP)))
+    return lzma.decompress(held[4:], format=lzma.FORMAT_RAW, filters=LZMA)
 
 
 if __name__ == "__main__":

@@ -29,8 +29,6 @@ BITS = "<" + ", ".join(f"i8 {bit}" for bit in (1, 2, 4, 8, 16, 32, 64, -128) * 2
 def need():
     if not shutil.which("wasm-opt"):
         raise Stop("release: no wasm-opt in PATH: the modules for WebAssembly can't be made (apt-get install binaryen; Debian 12's 108 was tried)")
-    if not shutil.which("zopfli"):
-        raise Stop("release: no zopfli in PATH: the page can't be made (apt-get install zopfli; Debian 12's 1.0.3 was tried)")
 
 
 def tool():

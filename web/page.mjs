@@ -1,11 +1,12 @@
 // @ts-check
 // The page: a stream is taken, its spans are counted beside, and one of four views shows it.
 import { $, $input, later, saved, seldom } from './page/dom.mjs';
-import { Engine, unpacked as unzipped } from './page/engine.mjs';
+import { Engine } from './page/engine.mjs';
 import { examples } from './page/examples.mjs';
 import { Filter } from './page/filter.mjs';
 import { Index } from './page/index.mjs';
 import { Origins } from './page/origin.mjs';
+import { unpacked as inside } from './page/packed.mjs';
 import { Player } from './page/player.mjs';
 import { Reference } from './page/reference.mjs';
 import { addressOf, carried, hashOf, unpacked } from './page/share.mjs';
@@ -22,7 +23,7 @@ const VIEWS = /** @type {View[]} */ (['seen', 'words', 'plain', 'shorter']);
 const MOST_COPIED = 5e6;
 const NOTED = 15_000;
 const data = (/** @type {string} */ id) => $(id).textContent ?? '';
-const textOf = async (/** @type {string} */ id) => new TextDecoder().decode(await unzipped(data(id)));
+const textOf = (/** @type {string} */ id) => new TextDecoder().decode(inside(data(id)));
 
 class Page {
     /** @type {Stream} */
@@ -495,8 +496,8 @@ async function copied(text, html) {
 }
 
 try {
-    const [worker, tables, vim] = await Promise.all(['worker', 'tables', 'vim'].map(textOf));
-    const engine = new Engine(worker, await WebAssembly.compile(await unzipped(data('program'))));
+    const [worker, tables, vim] = ['worker', 'tables', 'vim'].map(textOf);
+    const engine = new Engine(worker, await WebAssembly.compile(inside(data('program'))));
     await new Page(engine, JSON.parse(tables), vim).start();
 } catch (fault) {
     const { message } = /** @type {Error} */ (fault);

@@ -1,7 +1,8 @@
 //! Where the static library lies: in the folder of CSICODEC_LIB, in this package, where pkg-config finds the same version, or in dist/
-//! of the repository that this package is a part of. With the feature `portable` it is compiled here, of the file of C in this package.
+//! of the repository that this package is a part of, where gzip unpacks it. With the feature `portable` it is compiled here, of the file of C in this package.
 
 use std::env;
+use std::fs::File;
 use std::path::{Path, PathBuf};
 use std::process::Command;
 
@@ -47,6 +48,28 @@ fn installed() -> Option<PathBuf> {
         .split(" -L")
         .map(|folder| PathBuf::from(folder.trim_start_matches("-L").trim()))
         .find(|folder| has_archive(folder))
+}
+
+/// The archive of a folder of dist/, unpacked.
+fn unpacked(folder: &str) -> Option<PathBuf> {
+    let packed = PathBuf::from(env::var_os("CARGO_MANIFEST_DIR")?)
+        .join(folder)
+        .join(format!("{ARCHIVE}.gz"));
+    if !packed.is_file() {
+        return None;
+    }
+    println!("cargo:rerun-if-changed={}", packed.display());
+    let folder = PathBuf::from(env::var_os("OUT_DIR")?);
+    let file = File::create(folder.join(ARCHIVE)).ok()?;
+    match Command::new("gzip")
+        .arg("-dc")
+        .arg(&packed)
+        .stdout(file)
+        .status()
+    {
+        Ok(status) if status.success() => Some(folder),
+        failed => panic!("gzip -dc {}: {failed:?}", packed.display()),
+    }
 }
 
 fn told_of(name: &str) -> String {
@@ -127,11 +150,13 @@ fn main() {
         .or_else(|| known.as_deref().and_then(|_| installed()))
         .or_else(|| {
             let (place, _) = known.as_deref()?.split_once("-unknown-linux-gnu")?;
-            beside(&format!("../../dist/{place}-linux"))
+            unpacked(&format!("../../dist/{place}-linux"))
         });
     match found {
         Some(folder) => {
-            println!("cargo:rerun-if-changed={}", folder.join(ARCHIVE).display());
+            if Some(folder.as_os_str()) != env::var_os("OUT_DIR").as_deref() {
+                println!("cargo:rerun-if-changed={}", folder.join(ARCHIVE).display());
+            }
             println!("cargo:rustc-link-search=native={}", folder.display());
             println!("cargo:rustc-link-lib=static=csicodec");
         }

@@ -1,31 +1,6 @@
 // @ts-check
 // The workers that the page asks: one for each kind of work, so that none waits for another.
 
-// The digits of base 85 (RFC 1924), with `/` and `,` for two that markup has.
-const DIGITS = '0123456789ABCDEFGHIJKLMNOPQRSTUVWXYZabcdefghijklmnopqrstuvwxyz!#$%,()*+-;/=>?@^_`{|}~';
-const VALUES = new Uint8Array(128);
-for (let value = 0; value < 85; value++) VALUES[DIGITS.charCodeAt(value)] = value;
-
-/** @param {string} text five digits for four bytes, and fewer at the end */
-function bytesOf(text) {
-    const bytes = new Uint8Array(Math.floor(text.length * 4 / 5));
-    for (let at = 0, to = 0; at < text.length; at += 5, to += 4) {
-        let number = 0;
-        for (let i = at; i < at + 5; i++) number = number * 85 + (i < text.length ? VALUES[text.charCodeAt(i)] : 84);
-        for (let i = 0; i < 4; i++) bytes[to + i] = number / 2 ** (24 - 8 * i);
-    }
-    return bytes;
-}
-
-/** @param {string} packed a file of gzip in base 85 */
-export async function unpacked(packed) {
-    const bytes = bytesOf(packed);
-    // Not every compiler's library has this stream.
-    const { DecompressionStream } = /** @type {any} */ (globalThis);
-    const stream = new Blob([bytes]).stream().pipeThrough(new DecompressionStream('gzip'));
-    return new Response(/** @type {ReadableStream} */ (stream)).arrayBuffer();
-}
-
 /** @typedef {{ worker: Worker, waiting: Map<number, (message: any) => void> }} Lane */
 
 export class Engine {

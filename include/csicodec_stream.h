@@ -487,7 +487,7 @@ static inline void csicodec_finish(struct csicodec_parser *parser, csicodec_tell
     struct csicodec_event event;
     memset(&event, 0, sizeof event);
     if (parser->waiting) {
-        int is_text = parser->stream.mode == CSICODEC_FILTER_TEXT && parser->held[0] != 0x1b;
+        int is_text = parser->held[0] != 0x1b;
         csicodec_event_of(&parser->stream, &event, is_text ? CSICODEC_EVENT_TEXT : CSICODEC_EVENT_OTHER, parser->held, parser->waiting,
                           CSICODEC_FILTER_TEXT);
         if (!is_text) event.status = CSICODEC_TRUNCATED;

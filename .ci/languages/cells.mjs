@@ -11,7 +11,8 @@ says('events', types(codec.events('a\x1b[5;7H')) === 'Text,Cursor.Position');
 says('parser', types([...parser.feed('\x1b[5'), ...parser.feed(';7H\x1b['), ...parser.finish()]) === 'Cursor.Position,Malformed');
 says('input', types(codec.inputs('\x1bOP')) === 'Input.Ss3' && !keys.feed('\x1b').length && types(keys.pause()) === 'Input.Escape');
 const [pressed] = codec.keys('\x1b[97;5u');
-says('keys', pressed.code === 'Char' && pressed.character === 'a' && pressed.modifiers === KeyModifiers.CTRL && !presses.feed('\x1b').length && presses.pause()[0].code === 'Escape' && [...codec.keys('\x1b[\nA')].length === 2);
+says('keys', pressed.code === 'Char' && pressed.character === 'a' && pressed.modifiers === KeyModifiers.CTRL && !presses.feed('\x1b').length && presses.pause()[0].code === 'Escape' && [...codec.keys('\x1b[\nA')].length === 2
+    && [...codec.keys('\x1bPa\x1bP')].map(it => it.length).join() === '3,2');
 const [told] = [...parser.feed('\x1b]2;a ti'), ...parser.feed('tle\x07')].map(it => said.take(it)).filter(Boolean);
 says('osc', told.kind === 'TitleWindow' && decoder.decode(told.first) === 'a title' && decoder.decode(codec.osc('8;;http://a.example').second) === 'http://a.example');
 says('html', codec.html('1\r\x1b[1m<', { fragment: true }) === '<span style="font-weight:bold;">&lt;</span>' && codec.overwrite('1\r2') === '2');

@@ -1,5 +1,5 @@
 //! What the crate has, each row tried: a row's name is said behind it.
-use csicodec::{CSI, Cleaner, Cursor, Dialect, Event, Filter, InputEvent, Key, KeyCode, KeyModifiers, Known, KnownKind, Lines, Markup, Osc, OscKind, Parser, Sgr, SpanKind};
+use csicodec::{CSI, Cleaner, Cursor, Dialect, Event, Filter, InputEvent, Key, KeyCode, KeyModifiers, KeyParser, Known, KnownKind, Lines, Markup, Osc, OscKind, Parser, Sgr, SpanKind};
 use std::num::NonZeroUsize;
 
 fn says(row: &str, is_so: bool) {
@@ -18,7 +18,13 @@ fn main() -> Result<(), Box<dyn std::error::Error>> {
     says("parser", count == 2);
     says("input", csicodec::inputs(Dialect::Input, b"\x1bOP\x1b").eq([InputEvent::Ss3('P'), InputEvent::Escape]));
     let key = csicodec::keys(b"\x1b[97;5u").next().and_then(Result::ok);
-    says("keys", key.is_some_and(|it| (it.code, it.modifiers) == (KeyCode::Char('a'), KeyModifiers::CTRL)) && Key::read(b"\x1b", true).is_none() && csicodec::keys(b"\x1b[\nA").count() == 2);
+    says("keys", key.is_some_and(|it| (it.code, it.modifiers) == (KeyCode::Char('a'), KeyModifiers::CTRL)) && Key::read(b"\x1b", true).is_none() && csicodec::keys(b"\x1b[\nA").count() == 2
+        && csicodec::keys(b"\x1bPa\x1bP").eq([Err(&b"\x1bPa"[..]), Err(b"\x1bP")]));
+    let (mut presses, mut pressed) = (KeyParser::new(), Vec::new());
+    presses.advance(b"a\x1b", &mut |key| pressed.extend(key));
+    assert_eq!(pressed.len(), 1);
+    presses.pause(&mut |key| pressed.extend(key));
+    assert_eq!(pressed[1].code, KeyCode::Escape);
     let link = Osc::read(b"8;;http://a.example");
     says("osc", (link.kind, link.second) == (OscKind::Link, Some(b"http://a.example".as_slice())));
     let fragment = Markup { fragment: true, ..Markup::default() };

@@ -3,6 +3,7 @@
 use crate::event::Event;
 use crate::events::Reader;
 use crate::raw::{self, Received, Told};
+use crate::told::left;
 
 /// How a terminal reports the mouse, where it doesn't by a control sequence.
 #[derive(Clone, Copy, Debug, PartialEq, Eq, Hash)]
@@ -77,7 +78,11 @@ fn mouse<'a>(dialect: Dialect, bytes: &[u8]) -> InputEvent<'a> {
 
 /// The key with modifiers that these bytes are: a digit stands for them ahead of the last character, and behind a second ESC they are alt.
 fn modified<'a>(control: char, bytes: &[u8]) -> InputEvent<'a> {
-    let digits = |bytes: &[u8]| bytes.iter().fold(0, |number, byte| number * 10 + (byte - b'0'));
+    let digits = |bytes: &[u8]| {
+        bytes
+            .iter()
+            .fold(0, |number, byte| number * 10 + (byte - b'0'))
+    };
     let (number, modifiers) = match bytes {
         [0x1b, 0x1b, _, digits_of @ .., b'~'] => (digits(digits_of), 3),
         [0x1b, 0x1b, ..] => (1, 3),
@@ -155,7 +160,8 @@ pub struct Inputs<'a> {
     rest: &'a [u8],
 }
 
-/// The events of all that a terminal sent. An ESC at the end is a key; what else is unfinished there is `Other`. For input as it comes
+/// The events of all that a terminal sent. An ESC at the end is a key; what else is unfinished there is `Other`, and the beginning of a
+/// character is text. For input as it comes
 /// there are [`Parser::advance_input`](crate::Parser::advance_input) and [`Parser::pause`](crate::Parser::pause).
 ///
 /// ```
@@ -183,7 +189,7 @@ impl<'a> Iterator for Inputs<'a> {
         }
         let held = core::mem::take(&mut self.rest);
         let Some((key, used)) = self.reader.pause(held) else {
-            return Some(InputEvent::Output(Event::Other(held)));
+            return Some(InputEvent::Output(left(held)));
         };
         self.rest = &held[used..];
         Some(key)

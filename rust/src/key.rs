@@ -1,8 +1,10 @@
 //! Keys as one type.
 
 pub use crate::key_codes::KeyCode;
+use crate::pending::LIMIT;
 use crate::{KeyModifiers, raw};
 use alloc::string::String;
+use alloc::vec::Vec;
 
 /// How many characters a key types at most.
 const MOST: usize = 32;
@@ -96,13 +98,54 @@ impl Key {
     }
 }
 
+/// What is read of input so far: whether a control string is open, in which an ESC is no key.
+#[derive(Clone, Copy, Debug, Default)]
+struct Reading {
+    mode: u32,
+}
+
+impl Reading {
+    /// How many bytes in front go on with the string that is open, or open one: 0 if none does.
+    fn string(&mut self, bytes: &[u8]) -> usize {
+        let span = raw::span(self.mode, LIMIT, bytes);
+        if span.status != 0 {
+            return 0;
+        }
+        let is_string = span.kind == 3;
+        self.mode = if is_string { span.mode } else { 0 };
+        if is_string { span.used } else { 0 }
+    }
+
+    /// The key in front, or none where the bytes in front are none, and how many it has; `None` where that depends on what follows.
+    fn next(&mut self, bytes: &[u8], more: bool) -> Option<(Option<Key>, usize)> {
+        if self.mode != 0 {
+            let used = self.string(bytes);
+            if used > 0 {
+                return Some((None, used));
+            }
+            if self.mode != 0 {
+                return None;
+            }
+        }
+        Some(match Key::read(bytes, more)? {
+            Ok((key, used)) => (Some(key), used),
+            Err(used) => {
+                self.string(&bytes[..used]);
+                (None, used)
+            }
+        })
+    }
+}
+
 /// An iterator of keys.
 #[derive(Clone, Debug)]
 pub struct Keys<'a> {
     rest: &'a [u8],
+    reading: Reading,
 }
 
-/// The keys of all that a terminal sent; `Err` has the bytes of an event that is no key, and what is unfinished at the end.
+/// The keys of all that a terminal sent; `Err` has the bytes of an event that is no key, and what is unfinished at the end. An ESC at the
+/// end is a key, but in a control string.
 ///
 /// ```
 /// use csicodec::{KeyCode, keys};
@@ -111,7 +154,10 @@ pub struct Keys<'a> {
 /// assert_eq!(codes, [KeyCode::Char('a'), KeyCode::F(1), KeyCode::Escape]);
 /// ```
 pub fn keys(bytes: &[u8]) -> Keys<'_> {
-    Keys { rest: bytes }
+    Keys {
+        rest: bytes,
+        reading: Reading::default(),
+    }
 }
 
 impl<'a> Iterator for Keys<'a> {
@@ -121,16 +167,67 @@ impl<'a> Iterator for Keys<'a> {
         if self.rest.is_empty() {
             return None;
         }
-        let read = Key::read(self.rest, false);
-        let used = match &read {
-            Some(Ok((_, used)) | Err(used)) => *used,
-            None => self.rest.len(),
-        };
+        let (key, used) = self
+            .reading
+            .next(self.rest, false)
+            .unwrap_or((None, self.rest.len()));
         let (bytes, rest) = self.rest.split_at(used);
         self.rest = rest;
-        Some(match read {
-            Some(Ok((key, _))) => Ok(key),
-            _ => Err(bytes),
-        })
+        Some(key.ok_or(bytes))
+    }
+}
+
+/// Reads the keys of what a terminal sends, as it comes. What is no key is told as its bytes.
+///
+/// ```
+/// use csicodec::{KeyCode, KeyParser};
+///
+/// let (mut parser, mut codes) = (KeyParser::new(), Vec::new());
+/// parser.advance(b"\x1b[A\x1b", &mut |key| codes.extend(key.map(|key| key.code)));
+/// parser.pause(&mut |key| codes.extend(key.map(|key| key.code)));
+/// assert_eq!(codes, [KeyCode::Up, KeyCode::Escape]);
+/// ```
+#[derive(Clone, Debug, Default)]
+pub struct KeyParser {
+    held: Vec<u8>,
+    reading: Reading,
+}
+
+impl KeyParser {
+    /// One that has read nothing.
+    pub fn new() -> Self {
+        KeyParser::default()
+    }
+
+    /// Takes the next bytes, and tells each key that is sure now, and the bytes of what is none. An ESC at the end is held.
+    pub fn advance<F: FnMut(Result<Key, &[u8]>)>(&mut self, bytes: &[u8], tell: &mut F) {
+        self.held.extend_from_slice(bytes);
+        self.read(true, tell);
+    }
+
+    /// Tells what is held, where nothing more came in time: ESC alone is a key, and so is ESC with one character. Else it goes on waiting.
+    pub fn pause<F: FnMut(Result<Key, &[u8]>)>(&mut self, tell: &mut F) {
+        self.read(false, tell);
+    }
+
+    /// The end of the input: tells what is held as keys, and what is left as bytes.
+    pub fn finish<F: FnMut(Result<Key, &[u8]>)>(mut self, tell: &mut F) {
+        self.read(false, tell);
+        if !self.held.is_empty() {
+            tell(Err(&self.held));
+        }
+    }
+
+    fn read<F: FnMut(Result<Key, &[u8]>)>(&mut self, more: bool, tell: &mut F) {
+        let mut rest = self.held.as_slice();
+        while !rest.is_empty() {
+            let Some((key, used)) = self.reading.next(rest, more) else {
+                break;
+            };
+            tell(key.ok_or(&rest[..used]));
+            rest = &rest[used..];
+        }
+        let used = self.held.len() - rest.len();
+        self.held.drain(..used);
     }
 }

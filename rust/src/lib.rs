@@ -62,7 +62,7 @@ pub use html::{Markup, Palette, html, overwrite, overwrite_styled};
 pub use input::{Dialect, InputEvent, Inputs, inputs};
 #[cfg(feature = "std")]
 pub use io::{CleanWriter, HtmlWriter, StripWriter};
-pub use key::{Key, KeyCode, KeyEncoding, KeyEvent, Keys, keys};
+pub use key::{Key, KeyCode, KeyEncoding, KeyEvent, KeyParser, Keys, keys};
 pub use known::{Known, KnownKind};
 pub use lines::Lines;
 pub use osc::{Osc, OscKind, OscReader};

@@ -2,6 +2,7 @@
 
 use crate::pending::LIMIT;
 use crate::raw;
+use crate::told::whole_text;
 
 /// What a span is.
 #[derive(Clone, Copy, Debug, PartialEq, Eq, Hash)]
@@ -59,12 +60,13 @@ impl<'a> Iterator for Spans<'a> {
         }
         let span = raw::span(self.mode, self.limit, self.rest);
         let (kind, used) = match (span.status, span.kind) {
-            (0, 0) => (SpanKind::Text, span.used),
+            (0, 0) => (SpanKind::Text, whole_text(span.used, self.rest)),
             (0, 1) => (SpanKind::Csi, span.used),
             (0, 2) => (SpanKind::Esc, span.used),
             (0, 3) => (SpanKind::Str, span.used),
             (0, _) => (SpanKind::Other, span.used),
             // It is cut off, and nothing follows.
+            _ if self.rest[0] != 0x1b => (SpanKind::Text, self.rest.len()),
             _ => (SpanKind::Other, self.rest.len()),
         };
         let (bytes, rest) = self.rest.split_at(used);

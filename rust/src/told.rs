@@ -6,6 +6,22 @@ use crate::pending::LIMIT;
 use crate::raw::{Front, Told};
 use core::mem::take;
 
+/// What is left at the end of a stream, at least one byte: an unfinished control, or the beginning of a character, which is text.
+pub(crate) fn left(bytes: &[u8]) -> Event<'_> {
+    match bytes[0] {
+        0x1b => Event::Other(bytes),
+        _ => Event::Text(bytes),
+    }
+}
+
+/// How long text in front is where nothing follows the bytes, and so many are text that is sure: the beginning of a character at their end goes on with it.
+pub(crate) fn whole_text(used: usize, bytes: &[u8]) -> usize {
+    match bytes.get(used) {
+        Some(0x1b) | None => used,
+        Some(_) => bytes.len(),
+    }
+}
+
 impl Reader {
     /// A control sequence with several actions, or with tokens, or one that is refused: then it has no actions.
     #[inline(never)]
@@ -28,13 +44,13 @@ impl Reader {
         self.told(rest)
     }
 
-    /// The next event, as the library tells it. What is unfinished where nothing follows is malformed.
+    /// The next event, as the library tells it. Where nothing follows, what is left is told too.
     #[inline(never)]
     pub(crate) fn told<'a>(&mut self, rest: &mut &'a [u8]) -> Option<Event<'a>> {
         let told = self.room.event(self.mode, self.looked, rest);
         let event = self.event(told, rest);
         if event.is_none() && self.ends && !rest.is_empty() {
-            return Some(Event::Other(take(rest)));
+            return Some(left(take(rest)));
         }
         event
     }
@@ -49,7 +65,11 @@ impl Reader {
         if told.status != 0 {
             return None;
         }
-        let (bytes, behind) = rest.split_at(told.used);
+        let used = match told.kind {
+            1 if self.ends => whole_text(told.used, rest),
+            _ => told.used,
+        };
+        let (bytes, behind) = rest.split_at(used);
         *rest = behind;
         if told.kind == 2 {
             return self.first_of(told.actions, bytes);

@@ -143,7 +143,10 @@ fn each_option_of_a_page() -> Result<(), Error> {
         ..Markup::default()
     };
     let page = whole.html("x")?;
-    assert!(page.contains("#010203") && page.contains("#040506"), "{page}");
+    assert!(
+        page.contains("#010203") && page.contains("#040506"),
+        "{page}"
+    );
     Ok(())
 }
 

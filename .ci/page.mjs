@@ -70,7 +70,7 @@ async function markupStaysText(browser) {
 
 async function seenAndBack(browser) {
     await browser.open(page, spell({ text: String.raw`one \e[31mred\e[0m\r\n10%\r\e[1m20%\e[0m\r\n\e[38;2;10;120;200mtrue` }));
-    equals(await browser.run(() => document.querySelector('[role=tab][aria-selected=true]').textContent), 'Seen', 'the first view');
+    equals(await browser.run(() => document.querySelector('[role=tab][aria-selected=true]').textContent), 'Colours', 'the first view');
     equals((await lines(browser)).map(it => it.text).join('|'), 'one red|20%|true', 'each line at its end');
     wants((await lines(browser))[0].parts.some(([look, , text]) => /\bfg-1\b/.test(look) && text === 'red'), 'red is not red');
     const looks = await browser.run(() => [...document.getElementById('lines').shadowRoot.querySelectorAll('span')].map(it => getComputedStyle(it).color));
@@ -90,6 +90,7 @@ async function seenAndBack(browser) {
     equals((await lines(browser)).map(it => it.text).join('|'), 'one red|20%|true', 'the plain text');
     await browser.open(page, spell({ text: String.raw`\e[0;01mred`, view: 'shorter' }));
     equals((await lines(browser))[0].text, String.raw`\e[;1mred`, 'the shorter form');
+    wants((await browser.text('said')).endsWith('8 bytes in the shorter form (20 % fewer)'), `what is saved: ${await browser.text('said')}`);
     await browser.run(() => {
         const make = URL.createObjectURL;
         URL.createObjectURL = blob => { kept.push(blob.text()); return make(blob); };
@@ -448,6 +449,13 @@ async function tooMuch(browser, file) {
         await browser.idle();
         const [first, last] = await placeOf(browser);
         wants(first <= 15_000_000 && last >= 15_000_000, `byte 15,000,000 is of the row ${first} to ${last}`);
+        const begun = Date.now();
+        await browser.type('search', 'XTWINOPS');
+        await browser.idle();
+        const shown = /([\d,]+) shown/.exec(await browser.text('said'))?.[1];
+        wants(shown === '16,095', `XTWINOPS is shown ${shown} times`);
+        console.error(`page: 20 MB: a search in ${Date.now() - begun} ms`);
+        await browser.type('search', '');
         for (let i = 0; i < 20; i++) {
             await browser.run(i => { document.getElementById('list').scrollTop += i % 2 ? 300 : 90_000; }, i);
             await sleep(30);

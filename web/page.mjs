@@ -134,7 +134,7 @@ class Page {
      * @param {Index} index
      */
     async #count(index) {
-        await this.#work('index', () => this.#engine.ask('index', { task: 'index', blob: this.#stream.blob }, rows => {
+        const { isSaid } = await this.#work('index', () => this.#engine.ask('index', { task: 'index', blob: this.#stream.blob }, rows => {
             index.add(rows);
             this.#words.changed();
             this.#filter.grown();
@@ -143,6 +143,7 @@ class Page {
         }));
         if (index !== this.#index) return;
         index.isDone = true;
+        index.isSaid = isSaid;
         this.#words.changed();
         this.#filter.grown();
         this.#arrive();
@@ -239,11 +240,18 @@ class Page {
         $('said').classList.toggle('busy', isBusy);
         const spans = count(this.#index.length, 'span');
         const some = this.#filter.isOn ? `, ${this.#words.count.toLocaleString('en')} shown` : '';
-        const shown = this.#view === 'words' ? some : `, ${count(this.#lines.count, 'line')}`;
+        const shown = this.#view === 'words' ? some : `, ${count(this.#lines.count, 'line')}${this.#saved()}`;
         const isEmpty = !this.#stream.blob.size && !isBusy;
         const soFar = this.#busy.has('index') ? ' so far' : '';
         $('said').textContent = isEmpty ? '' : `${size(this.#stream.blob.size)}, ${spans}${soFar}${shown}`;
         $('nothing').hidden = this.#view !== 'words' || !this.#filter.isOn || isBusy || this.#words.count > 0;
+    }
+
+    /** How many bytes the shorter form has, once it is there. */
+    #saved() {
+        const [before, after] = [this.#stream.blob.size, this.#lines.size];
+        if (this.#view !== 'shorter' || this.#busy.has('view') || !before) return '';
+        return `, ${size(after)} in the shorter form (${Math.floor(100 - 100 * after / before)} % fewer)`;
     }
 
     /**

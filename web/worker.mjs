@@ -9,6 +9,11 @@ import { lineWith, markedCharacters, markedLines, originAt, originsOfLines } fro
 const decoder = new TextDecoder();
 /** @type {WebAssembly.Module} */
 let program;
+/**
+ * What the spans of the stream say that this worker indexed last.
+ * @type {import('./page/spans.mjs').Said}
+ */
+let said;
 
 /** @param {Blob | Uint8Array} given */
 const bytesOf = async given => given instanceof Blob ? new Uint8Array(await given.arrayBuffer()) : given;
@@ -42,8 +47,11 @@ const tasks = {
     },
     async index({ blob }, tell) {
         const bytes = await bytesOf(blob);
-        indexed((words, write) => run(program, words, bytes, write), rows => tell(rows, [rows.at.buffer, rows.set.buffer]));
-        return {};
+        said = indexed((words, write) => run(program, words, bytes, write), rows => tell(rows, [rows.at.buffer, rows.set.buffer]));
+        return { isSaid: said.isWhole };
+    },
+    async recall({ wanted }) {
+        return { at: said.with(wanted) };
     },
     async find({ blob, wanted }, tell) {
         const bytes = await bytesOf(blob);

@@ -73,5 +73,5 @@ def is_canonical(action: Action) -> bool:
     rows, _, params, count = rows_of([action])
     answer = library.is_canonical(rows, params, count)
     if answer.status:
-        raise CodecError(library.STATUS[answer.status])
+        raise CodecError(library.STATUS[answer.status], status=answer.status)
     return bool(answer.canonical)

@@ -259,7 +259,7 @@ def refusal(answer: Any) -> Exception:
         return MemoryError("csicodec: the C library gave no memory")
     start, at = getattr(answer, "start", 0), getattr(answer, "at", 0)
     place = f"byte {start + at}: " if isinstance(answer, Normalised) else f"action {at}: " if isinstance(answer, Encoded) else ""
-    return CodecError(f"{place}{STATUS[answer.status]}", start, at)
+    return CodecError(f"{place}{STATUS[answer.status]}", start, at, answer.status)
 
 
 def written(call: Callable[..., Any], size: int, *given: Any) -> Tuple[bytes, Any]:

@@ -103,7 +103,7 @@ class Codec(unittest.TestCase):
     def test_refusals(self):
         with self.assertRaises(csicodec.CodecError) as caught:
             csicodec.normalise(b"\x1b[1m\x1b[9223372036854775808m")
-        self.assertEqual((caught.exception.start, caught.exception.at), (4, 20))
+        self.assertEqual((caught.exception.start, caught.exception.at, caught.exception.status), (4, 20, 3))
         with self.assertRaises(csicodec.CodecError):
             csicodec.encode([Unspecified([], "\ud800")])
         with self.assertRaisesRegex(ValueError, "colors must be None, 256 or 16, not 8"):

@@ -92,16 +92,21 @@ export class Filter {
         if (!text) return;
         const wanted = isWritten(text) ? new TextDecoder().decode(bytesOf(text, true)) : text;
         const rows = this.#found;
-        this.#engine.ask('find', { task: 'find', blob: this.#blob, wanted }, ({ at }) => {
+        const add = (/** @type {Uint32Array} */ at) => {
             for (const place of at) {
                 const row = this.#index?.rowAt(place) ?? 0;
                 if (rows && (!rows.length || rows.all[rows.length - 1] !== row)) rows.push(row);
             }
             this.#redraw();
-        }).then(() => {
+        };
+        const ends = () => {
+            if (rows !== this.#found) return;
             this.#isBusy = false;
             this.#apply();
-        });
+        };
+        // A stream that is indexed is looked through where that was done.
+        if (this.#index?.isSaid) this.#engine.ask('index', { task: 'recall', wanted }).then(({ at }) => add(at)).then(ends);
+        else this.#engine.ask('find', { task: 'find', blob: this.#blob, wanted }, ({ at }) => add(at)).then(ends);
     }
 
     /** @param {string} name */

@@ -23,6 +23,8 @@ export class Index {
     #engine;
     #blob;
     isDone = false;
+    /** Whether the worker that made it knows what its spans say. */
+    isSaid = false;
 
     /**
      * @param {Engine} engine

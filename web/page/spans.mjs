@@ -8,9 +8,13 @@
  */
 /** @typedef {(words: string[], write: (part: Uint8Array) => void) => void} Run */
 
+import { Numbers } from './pieces.mjs';
+
 const NAME = '"name":"';
 const FIRST = 200;
 const STEP = 50_000;
+// How many characters of what spans say are kept for a search.
+const MOST_KEPT = 2 ** 25;
 
 /**
  * Calls with each line of a run.
@@ -50,17 +54,71 @@ function namesOf(line) {
     return names || line.slice(line.indexOf('"kind":"') + 8).split('"', 1)[0];
 }
 
+/** What all spans of a stream say, each text once, and which of them each span says. */
+export class Said {
+    #numbers = /** @type {Map<string, number>} */ (new Map());
+    #texts = /** @type {string[]} */ ([]);
+    #names = /** @type {number[]} */ ([]);
+    #at = new Numbers();
+    #text = new Numbers();
+    #length = 0;
+
+    /** Whether all that spans say is kept. */
+    get isWhole() { return this.#length <= MOST_KEPT; }
+
+    /**
+     * Adds a span, and answers the number of its set of names.
+     * @param {string} line
+     * @param {number} at
+     * @param {(names: string) => number} numberOf
+     */
+    add(line, at, numberOf) {
+        if (!this.isWhole) return numberOf(namesOf(line));
+        const text = line.slice(line.indexOf(','));
+        const number = this.#numbers.get(text) ?? this.#keep(text, numberOf(namesOf(line)));
+        this.#at.push(at);
+        this.#text.push(number);
+        return this.#names[number];
+    }
+
+    /**
+     * Keeps a text that is new, and answers its number.
+     * @param {string} text
+     * @param {number} names
+     */
+    #keep(text, names) {
+        this.#length += text.length;
+        // A copy, since a piece of a string keeps all of it.
+        const own = ` ${text}`.slice(1);
+        this.#numbers.set(own, this.#texts.length);
+        this.#names.push(names);
+        return this.#texts.push(own) - 1;
+    }
+
+    /**
+     * Where the spans begin that have a text in their bytes, names or words; capitals don't matter.
+     * @param {string} wanted
+     */
+    with(wanted) {
+        const test = tester(wanted);
+        const has = this.#texts.map(text => test(`{"at":0${text}`));
+        const texts = this.#text.all;
+        return this.#at.all.filter((_, i) => has[texts[i]]);
+    }
+}
+
 /**
  * @typedef {{ at: Uint32Array, set: Uint16Array, sets: string[] }} Rows Rows, the number of the set of names of
  * each, and sets that are new.
  */
 
 /**
- * Tells of all spans of a stream: where each begins, and its names. CR LF is one.
+ * Tells of all spans of a stream: where each begins, and its names. CR LF is one. It answers what they say.
  * @param {Run} run
  * @param {(rows: Rows) => void} told
  */
 export function indexed(run, told) {
+    const said = new Said();
     /** @type {Map<string, number>} */
     const numbers = new Map();
     /** @type {string[]} */
@@ -92,7 +150,7 @@ export function indexed(run, told) {
     };
     lines(run, ['explain', '--json'], line => {
         const place = placeOf(line);
-        const names = numberOf(namesOf(line));
+        const names = said.add(line, place, numberOf);
         const last = at.length - 1;
         if (names === lineFeed && set[last] === carriageReturn && at[last] === place - 1) {
             set[last] = both;
@@ -104,6 +162,7 @@ export function indexed(run, told) {
         if (at.length > (total ? STEP : FIRST)) pass(1);
     });
     pass(0);
+    return said;
 }
 
 /**
@@ -133,20 +192,29 @@ export function explained(run) {
  * @param {(at: Uint32Array) => void} told
  */
 export function found(run, wanted, told) {
-    const small = wanted.toLowerCase();
-    // As JSON has it, so that few lines are read.
-    const written = JSON.stringify(small).slice(1, -1);
+    const test = tester(wanted);
     /** @type {number[]} */
     let at = [];
     let begun = performance.now();
     lines(run, ['explain', '--json'], line => {
-        if (line.toLowerCase().includes(written) && has(JSON.parse(line), small)) at.push(placeOf(line));
+        if (test(line)) at.push(placeOf(line));
         if (performance.now() - begun < 200) return;
         told(Uint32Array.from(at));
         at = [];
         begun = performance.now();
     });
     told(Uint32Array.from(at));
+}
+
+/**
+ * Whether a line's span has a text.
+ * @param {string} wanted
+ */
+function tester(wanted) {
+    const small = wanted.toLowerCase();
+    // As JSON has it, so that few lines are read.
+    const written = JSON.stringify(small).slice(1, -1);
+    return (/** @type {string} */ line) => line.toLowerCase().includes(written) && has(JSON.parse(line), small);
 }
 
 /**

@@ -81,6 +81,9 @@ export class Lines {
         this.#root.adoptedStyleSheets = [...this.#root.adoptedStyleSheets, sheet];
     }
 
+    /** How many bytes the program wrote. */
+    get size() { return this.#written?.bytes.length ?? 0; }
+
     get count() { return Math.max(0, (this.#written?.begins.length ?? 0) - 1); }
 
     /**

@@ -1,26 +1,18 @@
 -- The pieces of a page are safe, and its tags in pairs.
 use Rattle.std.proofs.Common.{◌≡◌, ℕ, true, false, List, [], ◌∷◌, refl, sym, arith, if◌then◌else◌, Bool, ◌++◌, ap, ◌∙◌, append_assoc, map, subst, ⊎_elim, filter, ◌||◌, not}
-use Rattle.std.proofs.lemmas.Bool.{false≢true, and_parts, cases_Bool, cond_both}
-use Rattle.csicodec_actions.specs.Actions.{Action}
+use Rattle.std.proofs.lemmas.Bool.{and_parts, cases_Bool, cond_both}
 use Rattle.csicodec_looks.specs.{declared.look.Look.Look, declared.markup.Markup.Markup, Pieces.Open, Pieces.leads, Pieces.shuts, Pieces.Piece, Pieces.switch}
-use Rattle.csicodec_looks.specs.{Pieces.Char, Pieces.turn, Pieces.begins, Pieces.ends, Pieces.opens, Look.is_plain, Look.plain}
-use Rattle.csicodec_clean.specs.Page.{behind_escape, behind_all, sets_any, Setting, IsSafe, PageWith, closing, first_set, IsPageWith, are_paired, led_by, switches, AreLeft, Leaves, pieces_behind, run_behind, shown_pieces}
-use Rattle.csicodec_clean.specs.{Styled.is_ris, Shown.IsShown, Shown.shown, Links.Address, Links.Begun, Links.behind, Links.links_in, Links.IsLink}
-use Rattle.csicodec_clean.specs.{Links.IsWithin, Links.start, Titles.with_titles, Addresses.is_web}
+use Rattle.csicodec_looks.specs.{Pieces.Char, Pieces.turn, Pieces.begins, Pieces.ends, Pieces.opens, Look.is_plain, Paint.same}
+use Rattle.csicodec_looks.proofs.Recalled.{same_look}
+use Rattle.csicodec_clean.specs.Page.{turned, Setting, IsSafe, PageWith, closing, first_set, IsPageWith, are_paired, led_by, switches, AreLeft, Leaves, pieces_behind, run_behind, shown_pieces}
+use Rattle.csicodec_clean.specs.{Saving.behind_all, Saving.behind_effect, Saving.escape_effect, Saving.sets, Saving.sets_any, declared.saving.Looks.Looks}
+use Rattle.csicodec_clean.specs.{Shown.IsShown, Shown.shown, Links.Address, Links.Begun, Links.behind, Links.links_in, Links.IsLink, Links.IsWithin}
+use Rattle.csicodec_clean.specs.{Links.start, Titles.with_titles, Addresses.is_web}
 use Rattle.std.specs.{List.AllByRecursion, Str.all_scalars}
 use lib.Utf8.{scalar}
 use Rattle.csicodec_clean.proofs.{Plain.all_both, Plain.kept_shown, Plain.scalars_lossy, Linked.fine_behind, Linked.fine_links, Linked.links_none}
 use Rattle.bstr.specs.Utf8.{lossy_chars}
 use Rattle.csicodec_spans.specs.{declared.table.Kind.Kind, Parts.Part}
-use Rattle.csicodec_actions.specs.Actions as action
-use Rattle.csicodec_actions.specs.Devices as device
-
--- where no attribute comes it looks the same
-pub unset : (l : Look) (actions : List Action) → sets_any actions ≡ false → behind_all l actions ≡ l
-unset l [] h = refl
-unset l (action.Sgr s ∷ actions) h = absurd (false≢true (sym h))
-unset l (action.Device device.SoftReset ∷ actions) h = absurd (false≢true (sym h))
-unset l (_ ∷ actions) h = unset l actions h
 
 -- ---- safe
 
@@ -47,6 +39,9 @@ safe_closing m s = grind arith
 safe_turn : (m : Markup) (old new : Look) (comes : Bool) → Safe m (turn m comes old new)
 safe_turn m old new comes = grind arith
 
+safe_turned : (s : Setting) (comes : Bool) (new : Looks) → Safe s.markup (turned s comes new)
+safe_turned s comes new = safe_turn s.markup s.looks.look new.look (comes || not (same s.looks.look new.look))
+
 safe_switch : (m : Markup) → m.links ≡ true → (l : Look) (old : List ℕ) (a : Address) → IsLink a → Safe m (switch m l old a.url)
 safe_switch m pass l old a h =
     let opens_safe = safe_opens m pass a h in
@@ -67,9 +62,9 @@ safe_string m l to b bytes h = by m.links refl
     by false pass = subst (λ (links : List Address). Safe m (switches m l to links)) (sym (links_none bytes b)) tt
 
 safe_leaves : (s after : Setting) (k : Kind) (bytes : List ℕ) (own : List Piece) → IsWithin s.begun.address → Leaves s k bytes own after → Safe s.markup own
-safe_leaves s after Kind.Csi bytes own h (actions, isof, behind, e) = subst (Safe s.markup) (sym e) (safe_turn s.markup s.look (behind_all s.look actions) (sets_any actions))
-safe_leaves s after Kind.Esc bytes own h (e, behind) = subst (Safe s.markup) (sym e) (safe_turn s.markup s.look (behind_escape s bytes).look (is_ris bytes))
-safe_leaves s after Kind.Str bytes own h (e, behind) = subst (Safe s.markup) (sym e) (safe_string s.markup s.look s.to s.begun bytes h)
+safe_leaves s after Kind.Csi bytes own h (actions, isof, behind, e) = subst (Safe s.markup) (sym e) (safe_turned s (sets_any actions) (behind_all s.looks actions))
+safe_leaves s after Kind.Esc bytes own h (e, behind) = subst (Safe s.markup) (sym e) (safe_turned s (sets (escape_effect bytes)) (behind_effect s.looks (escape_effect bytes)))
+safe_leaves s after Kind.Str bytes own h (e, behind) = subst (Safe s.markup) (sym e) (safe_string s.markup s.looks.look s.to s.begun bytes h)
 safe_leaves s after _ bytes own h l = subst (Safe s.markup) (sym l.0) tt
 
 safe_behind : (m : Markup) (k : Kind) (run : List ℕ) → Safe m (pieces_behind k run)
@@ -110,13 +105,6 @@ paired_chars a b (c ∷ cs) ps = paired_chars a b cs ps
 paired_ends : (a : Bool) (old new : Look) (m : Markup) (ps : List Piece) → are_paired a (inside old) ((ends old ++ begins m new) ++ ps) ≡ are_paired a (inside new) ps
 paired_ends a old new m ps = grind arith
 
-paired_turn : (m : Markup) (a : Bool) (old : Look) (actions : List Action) (ps : List Piece)
-    → are_paired a (inside old) (turn m (sets_any actions) old (behind_all old actions) ++ ps) ≡ are_paired a (inside (behind_all old actions)) ps
-paired_turn m a old actions ps = ⊎_elim
-    (λ (e : sets_any actions ≡ true). rw e (paired_ends a old (behind_all old actions) m ps))
-    (λ (e : sets_any actions ≡ false). rw (e, unset old actions e) refl)
-    (cases_Bool (sets_any actions))
-
 paired_switch : (m : Markup) (l : Look) (old new : List ℕ) (ps : List Piece) → are_paired (leads old) (inside l) (switch m l old new ++ ps) ≡ are_paired (leads new) (inside l) ps
 paired_switch m l old new ps = grind arith
 
@@ -129,21 +117,22 @@ paired_switches m l to (a ∷ links) ps =
 
 -- in a link or not, and in a span or not
 abbrev paired_in : Setting → List Piece → Bool
-paired_in s ps = are_paired (leads s.to) (inside s.look) ps
+paired_in s ps = are_paired (leads s.to) (inside s.looks.look) ps
 
-paired_escape : (s : Setting) (bytes : List ℕ) (ps : List Piece)
-    → paired_in s (turn s.markup (is_ris bytes) s.look (behind_escape s bytes).look ++ ps) ≡ paired_in (behind_escape s bytes) ps
-paired_escape s bytes ps = by (is_ris bytes)
+-- where no turn is written it looks the same
+paired_turned : (s : Setting) (comes : Bool) (new : Looks) (ps : List Piece) → paired_in s (turned s comes new ++ ps) ≡ are_paired (leads s.to) (inside new.look) ps
+paired_turned s true new ps = paired_ends (leads s.to) s.looks.look new.look s.markup ps
+paired_turned s false new ps = by (same s.looks.look new.look) refl
   where
-    by : (ris : Bool) → are_paired (leads s.to) (inside s.look) (turn s.markup ris s.look (if ris then plain else s.look) ++ ps)
-        ≡ are_paired (leads s.to) (inside (if ris then plain else s.look)) ps
-    by true = paired_ends (leads s.to) s.look plain s.markup ps
-    by false = refl
+    by : (t : Bool) → same s.looks.look new.look ≡ t → are_paired (leads s.to) (inside s.looks.look) (turn s.markup (not t) s.looks.look new.look ++ ps)
+        ≡ are_paired (leads s.to) (inside new.look) ps
+    by true e = ap (λ (l : Look). are_paired (leads s.to) (inside l) ps) (same_look s.looks.look new.look e)
+    by false e = paired_ends (leads s.to) s.looks.look new.look s.markup ps
 
 paired_leaves : (s after : Setting) (k : Kind) (bytes : List ℕ) (own ps : List Piece) → Leaves s k bytes own after → paired_in s (own ++ ps) ≡ paired_in after ps
-paired_leaves s after Kind.Csi bytes own ps (actions, isof, behind, e) = rw (e, behind) (paired_turn s.markup (leads s.to) s.look actions ps)
-paired_leaves s after Kind.Esc bytes own ps (e, behind) = rw (e, behind) (paired_escape s bytes ps)
-paired_leaves s after Kind.Str bytes own ps (e, behind) = rw (e, behind) (paired_switches s.markup s.look s.to (links_in s.markup.links s.begun bytes) ps)
+paired_leaves s after Kind.Csi bytes own ps (actions, isof, behind, e) = rw (e, behind) (paired_turned s (sets_any actions) (behind_all s.looks actions) ps)
+paired_leaves s after Kind.Esc bytes own ps (e, behind) = rw (e, behind) (paired_turned s (sets (escape_effect bytes)) (behind_effect s.looks (escape_effect bytes)) ps)
+paired_leaves s after Kind.Str bytes own ps (e, behind) = rw (e, behind) (paired_switches s.markup s.looks.look s.to (links_in s.markup.links s.begun bytes) ps)
 paired_leaves s after _ bytes own ps h = rw (h.0, h.1) refl
 
 paired_behind : (a b : Bool) (k : Kind) (run : List ℕ) (ps : List Piece) → are_paired a b (pieces_behind k run ++ ps) ≡ are_paired a b ps
@@ -154,9 +143,9 @@ paired_closing : (s : Setting) → paired_in s (closing s) ≡ true
 paired_closing s = grind arith
 
 paired_left : (parts : List Part) (s : Setting) (run : List ℕ) (ps : List Piece) → AreLeft s run parts ps → paired_in s ps ≡ true
-paired_left [] s run ps h = rw (h, paired_chars (leads s.to) (inside s.look) (filter shown (lossy_chars run)) (closing s)) (paired_closing s)
+paired_left [] s run ps h = rw (h, paired_chars (leads s.to) (inside s.looks.look) (filter shown (lossy_chars run)) (closing s)) (paired_closing s)
 paired_left (p ∷ parts) s run ps (own, after, others, leaves, e, rest) =
-    ap (paired_in s) e ∙ paired_behind (leads s.to) (inside s.look) p.kind run (own ++ others)
+    ap (paired_in s) e ∙ paired_behind (leads s.to) (inside s.looks.look) p.kind run (own ++ others)
     ∙ paired_leaves s after p.kind p.bytes own others leaves ∙ paired_left parts after (run_behind p.kind run p.bytes) others rest
 
 pub is_page : (m : Markup) (bytes page : List ℕ) → PageWith m bytes page → IsPageWith m page

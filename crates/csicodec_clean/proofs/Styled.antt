@@ -10,9 +10,9 @@ use Rattle.csicodec_base.specs.declared.sgr.Sgr.{Sgr}
 use Rattle.csicodec_streams.proofs.Exactly.{round_trip_lem}
 use Rattle.csicodec_terminal.specs.Terminal.{Terminal}
 use Rattle.csicodec_tokens.specs.{declared.param.CsiParam.CsiParam, Sequence.Seq}
-use Rattle.csicodec_clean.specs.Styled.{is_reset, kept, item_text, is_open, is_decstr, is_ris, set_back, styled_behind, styles_at, styles_in, style_in, closed}
-use Rattle.csicodec_clean.specs.{Links.behind, Links.link_texts, Links.no_address, Marked.Stand, Marked.Text, Marked.Numbers, Marked.Params, Marked.Url}
-use Rattle.csicodec_clean.specs.{Marked.stand_behind, Marked.is_marked, Marked.IsMarked}
+use Rattle.csicodec_clean.specs.Styled.{is_reset, kept, item_text, is_open, is_decstr, set_back, styled_behind, styles_at, styles_in, style_in, closed}
+use Rattle.csicodec_clean.specs.{Saving.clears, Saving.escape_effect, Links.behind, Links.link_texts, Links.no_address, Marked.Stand, Marked.Text}
+use Rattle.csicodec_clean.specs.{Marked.Numbers, Marked.Params, Marked.Url, Marked.stand_behind, Marked.is_marked, Marked.IsMarked}
 use Rattle.csicodec_actions.specs.Actions as action
 
 -- ---- one action behind the other
@@ -220,7 +220,7 @@ safe_in d t bytes actions all =
     cond_both (is_decstr bytes) (set_back t) (kept d.depth actions) (λ (ss : List Sgr). AllByRecursion (IsSafe d) (map Style ss)) (λ _. safe_back d t) (λ _. safe_kept d actions all)
 
 safe_at : (d : Passing) (t : Bool) (bytes : List ℕ) → AllByRecursion (IsSafe d) (map Style (styles_at t bytes))
-safe_at d t bytes = cond_both (is_ris bytes) (set_back t) [] (λ (ss : List Sgr). AllByRecursion (IsSafe d) (map Style ss)) (λ _. safe_back d t) (λ _. tt)
+safe_at d t bytes = cond_both (clears (escape_effect bytes)) (set_back t) [] (λ (ss : List Sgr). AllByRecursion (IsSafe d) (map Style ss)) (λ _. safe_back d t) (λ _. tt)
 
 -- behind it none is open
 pub back_shut : (t : Bool) → false ≡ is_open t (set_back t)
@@ -239,11 +239,11 @@ pub sequence_kept : (k : Keeping) (bytes : List ℕ) (list : List CsiParam) (fin
 sequence_kept k bytes list final actions t seq are e now = rw (e, now) (actions, (list, final, seq, are), refl, refl)
 
 -- and for an escape sequence, which is RIS or another
-pub escape_back : (k : Keeping) (bytes : List ℕ) (t : Bool) → is_ris bytes ≡ true → t ≡ is_open k.styled (set_back k.styled)
+pub escape_back : (k : Keeping) (bytes : List ℕ) (t : Bool) → clears (escape_effect bytes) ≡ true → t ≡ is_open k.styled (set_back k.styled)
     → keeps.escape k bytes (texts (map action.Sgr (set_back k.styled))) (keeping k.passing t k.linked k.begun)
 escape_back k bytes t e shut = rw (e, shut) (refl, refl)
 
-pub escape_none : (k : Keeping) (bytes : List ℕ) → is_ris bytes ≡ false → keeps.escape k bytes [] k
+pub escape_none : (k : Keeping) (bytes : List ℕ) → clears (escape_effect bytes) ≡ false → keeps.escape k bytes [] k
 escape_none k bytes e = rw e (refl, refl)
 
 safe_links : (d : Passing) (bytes : List ℕ) (b : Begun) → IsWithin b.address → AllByRecursion (IsSafe d) (map Link (links_in d.links b bytes))

@@ -6,26 +6,10 @@ use Rattle.csicodec_actions.specs.Actions.{Action}
 use Rattle.csicodec_terminal.specs.Terminal.{IsTakenFor}
 use Rattle.csicodec_spans.specs.{declared.table.Kind.Kind, Parts.Part, Parts.IsWhole, declared.table.Mode.Mode}
 use Rattle.csicodec_clean.specs.{Shown.shown, Shown.IsShown, Titles.with_titles, Addresses.is_web, Links.Address, Links.Begun, Links.all_behind}
-use Rattle.csicodec_clean.specs.{Links.is_visible, Links.links_in, Links.longest_url, Links.start, Styled.is_ris, Cleaned.longest}
+use Rattle.csicodec_clean.specs.{Links.is_visible, Links.links_in, Links.longest_url, Links.start, Cleaned.longest, declared.saving.Looks.Looks}
+use Rattle.csicodec_clean.specs.{Saving.behind_all, Saving.behind_effect, Saving.escape_effect, Saving.plain_looks, Saving.sets, Saving.sets_any}
 use Rattle.csicodec_looks.specs.Pieces.{Piece, Char, Begin, End, Open, Shut, piece_texts, ends, turn, shuts, switch, simple}
-use Rattle.csicodec_looks.specs.{declared.look.Look.Look, declared.markup.Markup.Markup, Look.is_plain, Look.plain, Look.behind}
-use Rattle.csicodec_base.specs.declared.sgr.Sgr.{Sgr}
-use Rattle.csicodec_actions.specs.Actions as action
-use Rattle.csicodec_actions.specs.Devices as device
-
--- behind the actions of a sequence: DECSTR sets all attributes back
-abbrev pub behind_all : Look → List Action → Look
-behind_all l [] = l
-behind_all l (action.Sgr s ∷ actions) = behind_all (behind l s) actions
-behind_all l (action.Device device.SoftReset ∷ actions) = behind_all plain actions
-behind_all l (a ∷ actions) = behind_all l actions
-
--- whether an attribute is among them, or what sets all back
-abbrev pub sets_any : List Action → Bool
-sets_any [] = false
-sets_any (action.Sgr s ∷ actions) = true
-sets_any (action.Device device.SoftReset ∷ actions) = true
-sets_any (a ∷ actions) = sets_any actions
+use Rattle.csicodec_looks.specs.{declared.look.Look.Look, declared.markup.Markup.Markup, Look.is_plain, Paint.same}
 
 -- the characters among them
 abbrev pub chars_of : List Piece → List ℕ
@@ -42,51 +26,55 @@ abbrev pub led_by : List ℕ → List Address → List ℕ
 led_by to [] = to
 led_by to (a ∷ links) = led_by a.url links
 
--- what a page goes by: what becomes markup, how text looks, where it leads, and what has come of a link
+-- what a page goes by: what becomes markup, how text looks and where that was saved, where it leads, and what has come of a link
 pub record Setting : Type 0 where
   pub markup : Markup
-  pub look : Look
+  pub looks : Looks
   pub to : List ℕ
   pub begun : Begun
 
-abbrev pub setting : Markup → Look → List ℕ → Begun → Setting
-setting m l to b = record { markup = m; look = l; to = to; begun = b }
+abbrev pub setting : Markup → Looks → List ℕ → Begun → Setting
+setting m l to b = record { markup = m; looks = l; to = to; begun = b }
 
 abbrev pub first_set : Markup → Setting
-first_set m = setting m plain [] start
+first_set m = setting m plain_looks [] start
 
 -- behind the actions of a control sequence, and behind bytes of a control string
 abbrev pub behind_actions : Setting → List Action → Setting
-behind_actions s actions = setting s.markup (behind_all s.look actions) s.to s.begun
+behind_actions s actions = setting s.markup (behind_all s.looks actions) s.to s.begun
 
--- behind an escape sequence: RIS sets all attributes back
+-- behind an escape sequence
 abbrev pub behind_escape : Setting → List ℕ → Setting
-behind_escape s bytes = setting s.markup (if is_ris bytes then plain else s.look) s.to s.begun
+behind_escape s bytes = setting s.markup (behind_effect s.looks (escape_effect bytes)) s.to s.begun
 
 abbrev pub behind_string : Setting → List ℕ → Setting
 behind_string s bytes =
-    setting s.markup s.look (led_by s.to (links_in s.markup.links s.begun bytes))
+    setting s.markup s.looks (led_by s.to (links_in s.markup.links s.begun bytes))
     (all_behind s.markup.links s.begun bytes)
 
 -- what is open is ended
 abbrev pub closing : Setting → List Piece
-closing s = ends s.look ++ shuts s.to
+closing s = ends s.looks.look ++ shuts s.to
 
 -- the characters of a run of text that are shown
 abbrev pub shown_pieces : List ℕ → List Piece
 shown_pieces run = map Char (filter shown (lossy_chars run))
 
--- what a part leaves, and the setting behind it: a control sequence the turn to the look behind its actions, RIS the turn to text without attributes,
--- a control string, where links pass, those that are over with it, and any other part nothing
+-- the turn to text that looks so, where an attribute comes, or what sets all back, or how text looked before is brought back
+abbrev pub turned : Setting → Bool → Looks → List Piece
+turned s comes new = turn s.markup (comes || not (same s.looks.look new.look)) s.looks.look new.look
+
+-- what a part leaves, and the setting behind it: a control sequence or an escape sequence the turn to text as it looks behind it, a control
+-- string, where links pass, those that are over with it, and any other part nothing
 abbrev pub Leaves : Setting → Kind → List ℕ → List Piece → Setting → Type 0
 Leaves s Kind.Csi bytes own after = (actions : List Action) × IsTakenFor bytes actions
     × (after ≡ behind_actions s actions)
-    × (own ≡ turn s.markup (sets_any actions) s.look (behind_all s.look actions))
+    × (own ≡ turned s (sets_any actions) (behind_all s.looks actions))
 Leaves s Kind.Esc bytes own after =
-    (own ≡ turn s.markup (is_ris bytes) s.look (behind_escape s bytes).look)
+    (own ≡ turned s (sets (escape_effect bytes)) (behind_effect s.looks (escape_effect bytes)))
     × (after ≡ behind_escape s bytes)
 Leaves s Kind.Str bytes own after =
-    (own ≡ switches s.markup s.look s.to (links_in s.markup.links s.begun bytes))
+    (own ≡ switches s.markup s.looks.look s.to (links_in s.markup.links s.begun bytes))
     × (after ≡ behind_string s bytes)
 Leaves s k bytes own after = (own ≡ []) × (after ≡ s)
 

@@ -11,7 +11,7 @@ use Rattle.csicodec_terminal.specs.Terminal.{IsTakenFor}
 use Rattle.csicodec_spans.specs.{declared.table.Kind.Kind, Parts.Part, Parts.IsWhole, declared.table.Mode.Mode}
 use Rattle.csicodec_clean.specs.Links.{Address, Begun, IsLink, all_behind, is_linked, link_text, link_texts, links_at, links_in, next, no_address, start}
 use Rattle.csicodec_clean.specs.{Shown.shown, Shown.IsShown, Titles.with_titles, declared.styles.Passing.Passing, Cleaned.RuleOf, Cleaned.EndOf}
-use Rattle.csicodec_clean.specs.{Cleaned.longest}
+use Rattle.csicodec_clean.specs.{Cleaned.longest, Saving.clears, Saving.escape_effect}
 use Rattle.csicodec_looks.specs.{declared.xterm.Depth.Depth, Xterm.reduced}
 use Rattle.csicodec_actions.specs.Actions as action
 
@@ -32,14 +32,11 @@ kept d [] = []
 kept d (action.Sgr s ∷ actions) = if hides s then kept d actions else reduced d s ∷ kept d actions
 kept d (a ∷ actions) = kept d actions
 
--- what sets all attributes back: RIS, `ESC c` (ECMA-48, 8.3.105; DEC VT510), and DECSTR, `ESC [ ! p` (DEC VT510, DECSTR: "SGR: normal rendition")
-abbrev pub is_ris : List ℕ → Bool
-is_ris bytes = length bytes == 2 && slice_index bytes 1 == 99
-
+-- the sequence is DECSTR, `ESC [ ! p`, which sets all attributes back
 abbrev pub is_decstr : List ℕ → Bool
 is_decstr bytes = length bytes == 4 && (slice_index bytes 2 == 33 && slice_index bytes 3 == 112)
 
--- what stays of that: a reset where a style is open, and nothing where none is
+-- what stays of what does so: a reset where a style is open, and nothing where none is
 abbrev pub set_back : Bool → List Sgr
 set_back styled = if styled then Sgr.Reset ∷ [] else []
 
@@ -48,7 +45,7 @@ abbrev pub styles_in : Depth → Bool → List ℕ → List Action → List Sgr
 styles_in d styled bytes actions = if is_decstr bytes then set_back styled else kept d actions
 
 abbrev pub styles_at : Bool → List ℕ → List Sgr
-styles_at styled bytes = if is_ris bytes then set_back styled else []
+styles_at styled bytes = if clears (escape_effect bytes) then set_back styled else []
 
 -- the bytes are one control sequence, of these actions by the table
 abbrev pub IsOf : List ℕ → List Action → Type 0

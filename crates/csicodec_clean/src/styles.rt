@@ -3,12 +3,13 @@ ghost use Rattle.std.specs.{Prelude.◌≡◌, Prelude.◌++◌, Prelude.◌∷�
 ghost use Rattle.std.specs.{Prelude.IfOk, Prelude.false, Option.unwrap_or};
 ghost use Rattle.csicodec_actions.specs.{Actions.Sgr as SgrAction, Table.texts};
 ghost use Rattle.csicodec_parser.specs.ActionOf.{action_of};
-ghost use Rattle.csicodec_clean.specs.Styled.{Styles, StylesIn, IsStyled, IsStyledIn, Keeping, first_kept, is_decstr, is_open, is_ris, keeping, kept, resumed, set_back, without_links};
+ghost use Rattle.csicodec_clean.specs.Styled.{Styles, StylesIn, IsStyled, IsStyledIn, Keeping, first_kept, is_decstr, is_open, keeping, kept, resumed, set_back, without_links};
 ghost use Rattle.csicodec_clean.specs.Marked.{IsMarked};
 
 use crate::links::LinkReader;
 use crate::notes::{SequenceNotes, append_noted};
 use crate::rule::{Anew, Rule};
+use crate::saving::{clears, escape_effect};
 use crate::text::append_front;
 use crate::whole::{clean_whole, near};
 use bstr::ByteVec;
@@ -65,14 +66,6 @@ pub(crate) fn append_styles(
         rest = others;
     }
     Ok(last)
-}
-
-/// Whether an escape sequence is RIS, `ESC c`, which sets all attributes back (ECMA-48, 8.3.105).
-#[inline(always)]
-pub fn is_ris(bytes: &[u8]) -> bool
-    ensures { result ≡ is_ris bytes.now }
-{
-    bytes.len() == 2 && bytes[1] == b'c'
 }
 
 /// Whether a control sequence is DECSTR, which sets all attributes back.
@@ -227,7 +220,7 @@ impl Rule for Kept {
     #[tactic(auto, using(crate::proofs::Styled::escape_back, crate::proofs::Styled::escape_none))]
     #[inline(always)]
     fn escape(&mut self, bytes: &[u8], out: &mut Vec<u8>) -> Result<(), AllocError> {
-        if !is_ris(bytes) {
+        if !clears(escape_effect(bytes)) {
             return Ok(());
         }
         let styled = append_back(self.styled, out)?;

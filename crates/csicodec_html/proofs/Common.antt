@@ -1,7 +1,9 @@
 -- The names that many proofs here cite, passed on from one place. Declares nothing.
 pub use Rattle.csicodec_actions.specs.Actions.{Action}
 pub use Rattle.csicodec_clean.proofs.Plain.{all_both}
-pub use Rattle.csicodec_clean.specs.Page.{IsPageWith, IsSafe, PageWith, Setting, are_paired, behind_all, closing, first_set, sets_any, setting}
+pub use Rattle.csicodec_clean.specs.Page.{IsPageWith, IsSafe, PageWith, Setting, are_paired, closing, first_set, setting, turned}
+pub use Rattle.csicodec_clean.specs.{Saving.are_lasting, Saving.behind_all, Saving.behind_effect, Saving.effect_of, Saving.escape_effect, Saving.is_lasting, Saving.looks}
+pub use Rattle.csicodec_clean.specs.{Saving.sets, Saving.sets_any, declared.saving.Effect.Effect, declared.saving.Looks.Looks}
 pub use Rattle.csicodec_clean.specs.{Addresses.led, Cleaned.Ends, Cleaned.Strips, Cleaned.longest, Links.ends_at, Shown.IsShown}
 pub use Rattle.csicodec_html.specs.Private.Rule.{closes, turns}
 pub use Rattle.csicodec_looks.specs.Pieces.{Char, IsHarmless, Open, Piece, escaped, leads, page_bytes, piece_bytes, piece_text, piece_texts, pieces_bytes, shuts, switch, turn}

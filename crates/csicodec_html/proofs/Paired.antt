@@ -1,25 +1,19 @@
 -- Pieces of a page: from one look and one link to the next, what is left of a stream, and that it is one page.
-use Rattle.std.proofs.Common.{◌≡◌, ℕ, true, false, List, [], ◌∷◌, refl, sym, append-nil, arith, if◌then◌else◌, Bool, ◌++◌, ap, ◌∙◌, append_assoc, map, subst, filter, flat_map, encode_utf8_all}
-use Rattle.csicodec_html.proofs.Common.{Action, Look, Markup, behind_all, sets_any, leads, piece_texts, pieces_bytes, flat_map-append, led, ends_at, Piece, Setting, setting, switch, turns, Ends, longest, Char, PageWith, closing, escaped, first_set, turn, closes, Strips}
+use Rattle.std.proofs.Common.{◌≡◌, ℕ, true, false, List, [], ◌∷◌, refl, sym, append-nil, arith, if◌then◌else◌, Bool, ◌++◌, ap, ◌∙◌, append_assoc, map, subst, filter, flat_map, encode_utf8_all, ◌||◌, not, None, Some, Option, is_some}
+use Rattle.std.proofs.lemmas.Bool.{false≢true}
+use Rattle.csicodec_html.proofs.Common.{Effect, Look, Looks, Markup, behind_all, behind_effect, escape_effect, sets, sets_any, turned, leads, piece_texts, pieces_bytes, flat_map-append, led, ends_at, Piece, Setting, setting, switch, turns, Ends, longest, Char, PageWith, closing, escaped, first_set, turn, closes, Strips}
 use Rattle.csicodec_html.proofs.Marks.{pieces}
-use Rattle.csicodec_clean.specs.Page.{behind_escape, behind_string, led_by, switches, AreLeft, Leaves, pieces_behind, run_behind, shown_pieces, chars_of}
-use Rattle.csicodec_clean.specs.{Styled.is_ris, Links.Address, Links.Begun, Links.behind, Links.links_at, Links.links_in, Links.next, Links.IsWithin}
-use Rattle.csicodec_clean.specs.{Cleaned.AreGiven, Cleaned.IsStep, Cleaned.AreSteps, Cleaned.is_text, Cleaned.stripped, Shown.run_as, Shown.shown}
-use Rattle.csicodec_clean.specs.{Shown.shown_text, Titles.with_titles}
+use Rattle.csicodec_clean.specs.Page.{behind_string, led_by, switches, AreLeft, Leaves, pieces_behind, run_behind, shown_pieces, chars_of}
+use Rattle.csicodec_clean.specs.{Links.Address, Links.Begun, Links.behind, Links.links_at, Links.links_in, Links.next, Links.IsWithin, Cleaned.AreGiven}
+use Rattle.csicodec_clean.specs.{Cleaned.IsStep, Cleaned.AreSteps, Cleaned.is_text, Cleaned.stripped, Shown.run_as, Shown.shown, Shown.shown_text}
+use Rattle.csicodec_clean.specs.{Titles.with_titles}
 use Rattle.csicodec_html.specs.Private.Rule.{behind_byte}
-use Rattle.csicodec_looks.specs.Look.{plain}
+use Rattle.csicodec_looks.specs.{Paint.same, contracts.look.LookEq.TheImpl.Laws.laws-law}
 use Rattle.bstr.specs.Utf8.{lossy_chars}
 use Rattle.csicodec_spans.specs.{declared.table.Kind.Kind, Parts.Part, declared.table.Mode.Mode}
 use Rattle.csicodec_clean.proofs.{Plain.encoded_on, Paired.safe_string, Paired.stays, Paired.none_begun}
 use Rattle.csicodec_terminal.proofs.Unique.{taken_once}
 use Rattle.csicodec_spans.proofs.Once.{whole_once}
-
--- one action, and then the others
-pub behind_one : (l : Look) (a : Action) (actions : List Action) → behind_all l (a ∷ actions) ≡ behind_all (behind_all l (a ∷ [])) actions
-behind_one l a actions = grind arith
-
-pub sets_one : (a : Action) (actions : List Action) → sets_any (a ∷ actions) ≡ (if sets_any (a ∷ []) then true else sets_any actions)
-sets_one a actions = grind arith
 
 -- ---- Links, one after the other, and where text leads behind them.
 
@@ -44,11 +38,11 @@ over_to : (to : List ℕ) (b : Begun) (c : ℕ) → (if ends_at b.place c then l
 over_to to b c = grind arith
 
 -- where links pass, what becomes of it
-pub byte_gives : (m : Markup) (l : Look) (to after : List ℕ) (b new : Begun) (c : ℕ) → m.links ≡ true
+pub byte_gives : (m : Markup) (l : Looks) (to after : List ℕ) (b new : Begun) (c : ℕ) → m.links ≡ true
     → after ≡ (if ends_at b.place c then led b.address.url else to) → new ≡ behind b c
-    → turns.byte (setting m l to b) c (pieces_bytes (if ends_at b.place c then switch m l to (led b.address.url) else [])) (setting m l after new)
+    → turns.byte (setting m l to b) c (pieces_bytes (if ends_at b.place c then switch m l.look to (led b.address.url) else [])) (setting m l after new)
 byte_gives m l to after b new c pass leads here = (
-  over_text m l to b c ∙ ap (λ (p : Bool). pieces_bytes (switches m l to (links_at p b c))) (sym pass),
+  over_text m l.look to b c ∙ ap (λ (p : Bool). pieces_bytes (switches m l.look to (links_at p b c))) (sym pass),
   ap (λ (t : List ℕ). setting m l t new) (leads ∙ over_to to b c ∙ ap (λ (p : Bool). led_by to (links_at p b c)) (sym pass))
       ∙ ap (λ (n : Begun). setting m l (led_by to (links_at m.links b c)) n) (here ∙ ap (λ (p : Bool). next p b c) (sym pass)),
 )
@@ -57,23 +51,32 @@ byte_gives m l to after b new c pass leads here = (
 
 -- what the rule gives for it, byte by byte
 pub given : (bytes : List ℕ) (s after : Setting) (text : List ℕ) → AreGiven turns s bytes text after
-    → (text ≡ pieces_bytes (switches s.markup s.look s.to (links_in s.markup.links s.begun bytes))) × (after ≡ behind_string s bytes)
+    → (text ≡ pieces_bytes (switches s.markup s.looks.look s.to (links_in s.markup.links s.begun bytes))) × (after ≡ behind_string s bytes)
 given [] s after text h = h
 given (c ∷ bytes) s after text (first, mid, others, here, e, rest) =
     let r = given bytes (behind_byte s c) after others (rw here.1 at rest) in
-    (rw (e, here.0, r.0, switches_on s.markup s.look s.to (links_at s.markup.links s.begun c)) (simp flat_map-append), rw (r.1, led_on) refl)
+    (rw (e, here.0, r.0, switches_on s.markup s.looks.look s.to (links_at s.markup.links s.begun c)) (simp flat_map-append), rw (r.1, led_on) refl)
 
 -- where links don't pass, a byte gives nothing
 pub gives_none : (s : Setting) (c : ℕ) → s.markup.links ≡ false → turns.byte s c [] s
 gives_none s c e = rw e (refl, refl)
 
--- an escape sequence, which is RIS or another
-pub escape_turn : (s : Setting) (bytes : List ℕ) → is_ris bytes ≡ true
-    → turns.escape s bytes (piece_texts (turn s.markup true s.look plain)) (setting s.markup plain s.to s.begun)
-escape_turn s bytes e = rw e (refl, refl)
+-- nothing is found
+pub none_is : (o : Option Effect) (t : Bool) → is_some o ≡ not t → t ≡ true → o ≡ None
+none_is None t h e = refl
+none_is (Some x) t h e = absurd (false≢true (sym (h ∙ ap not e)))
 
-pub escape_none : (s : Setting) (bytes : List ℕ) → is_ris bytes ≡ false → turns.escape s bytes [] s
-escape_none s bytes e = rw e (refl, refl)
+-- an escape sequence that does nothing to how text looks gives nothing
+pub escape_none : (s : Setting) (bytes : List ℕ) → escape_effect bytes ≡ None → turns.escape s bytes [] s
+escape_none s bytes e =
+    let l = s.looks.look in
+    rw e (refl, ap (λ (t : Bool). piece_texts (turn s.markup (not t) l l)) (sym (laws-law.refl l)))
+
+-- and what it gives for any other
+pub escape_given : (s : Setting) (bytes : List ℕ) (new : Looks) (comes : Bool) → new ≡ behind_effect s.looks (escape_effect bytes)
+    → comes ≡ (sets (escape_effect bytes) || not (same s.looks.look new.look))
+    → turns.escape s bytes (piece_texts (turn s.markup comes s.looks.look new.look)) (setting s.markup new s.to s.begun)
+escape_given s bytes new comes behind turns = (ap (λ (l : Looks). setting s.markup l s.to s.begun) behind, rw (turns, behind) refl)
 
 -- ---- what the rule leaves
 
@@ -98,15 +101,15 @@ ended run first given own others e same = rw (e, ← same) (simp (append_assoc, 
 step : (k : Kind) (s mid : Setting) (run bytes first next : List ℕ) → IsWithin s.begun.address → IsStep turns k s run bytes first mid next → Step k s mid run bytes first next
 step Kind.Text s mid run bytes first next h (none, same, on) = record { own = []; leaves = (refl, same); text = λ others. rw none refl; next_run = on }
 step Kind.Csi s mid run bytes first next h (given, (actions, is, behind, e), made, none) =
-    let own = turn s.markup (sets_any actions) s.look (behind_all s.look actions) in
+    let own = turned s (sets_any actions) (behind_all s.looks actions) in
     record { own = own; leaves = (actions, is, behind, refl); text = λ others. ended run first given own others made (sym e); next_run = none }
 step Kind.Esc s mid run bytes first next h (given, (behind, e), made, none) =
-    let own = turn s.markup (is_ris bytes) s.look (behind_escape s bytes).look in
+    let own = turned s (sets (escape_effect bytes)) (behind_effect s.looks (escape_effect bytes)) in
     record { own = own; leaves = (refl, behind); text = λ others. ended run first given own others made (sym e); next_run = none }
 step Kind.Str s mid run bytes first next h (out, gives, made, none) =
-    let own = switches s.markup s.look s.to (links_in s.markup.links s.begun bytes) in
+    let own = switches s.markup s.looks.look s.to (links_in s.markup.links s.begun bytes) in
     let g = given bytes s mid out gives in
-    let stands = pieces s.markup own (safe_string s.markup s.look s.to s.begun bytes h) in
+    let stands = pieces s.markup own (safe_string s.markup s.looks.look s.to s.begun bytes h) in
     record { own = own; leaves = (refl, g.1); text = λ others. ended run first out own others made (sym (g.0 ∙ stands)); next_run = none }
 step _ s mid run bytes first next h i =
     record { own = []; leaves = (refl, i.1); text = λ others. ended run first [] [] others (i.0 ∙ sym (append-nil (run_text run))) refl; next_run = i.2 }
@@ -152,6 +155,9 @@ IsBare ps = chars_of ps ≡ []
 bare_turn : (m : Markup) (comes : Bool) (old new : Look) → IsBare (turn m comes old new)
 bare_turn m comes old new = grind (arith, chars_both)
 
+bare_turned : (s : Setting) (comes : Bool) (new : Looks) → IsBare (turned s comes new)
+bare_turned s comes new = bare_turn s.markup (comes || not (same s.looks.look new.look)) s.looks.look new.look
+
 bare_closing : (s : Setting) → IsBare (closing s)
 bare_closing s = grind (arith, chars_both)
 
@@ -163,9 +169,9 @@ bare_switches m l to [] = refl
 bare_switches m l to (a ∷ links) = rw (chars_both (switch m l to a.url) (switches m l a.url links), bare_switch m l to a.url) (bare_switches m l a.url links)
 
 bare_leaves : (s after : Setting) (k : Kind) (bytes : List ℕ) (own : List Piece) → Leaves s k bytes own after → IsBare own
-bare_leaves s after Kind.Csi bytes own (actions, isof, behind, e) = ap chars_of e ∙ bare_turn s.markup (sets_any actions) s.look (behind_all s.look actions)
-bare_leaves s after Kind.Esc bytes own (e, behind) = ap chars_of e ∙ bare_turn s.markup (is_ris bytes) s.look (behind_escape s bytes).look
-bare_leaves s after Kind.Str bytes own (e, behind) = ap chars_of e ∙ bare_switches s.markup s.look s.to (links_in s.markup.links s.begun bytes)
+bare_leaves s after Kind.Csi bytes own (actions, isof, behind, e) = ap chars_of e ∙ bare_turned s (sets_any actions) (behind_all s.looks actions)
+bare_leaves s after Kind.Esc bytes own (e, behind) = ap chars_of e ∙ bare_turned s (sets (escape_effect bytes)) (behind_effect s.looks (escape_effect bytes))
+bare_leaves s after Kind.Str bytes own (e, behind) = ap chars_of e ∙ bare_switches s.markup s.looks.look s.to (links_in s.markup.links s.begun bytes)
 bare_leaves s after _ bytes own h = ap chars_of h.0
 
 abbrev text_of : List Piece → List ℕ

@@ -1,13 +1,14 @@
 //! How text is written, and what stands in the place of a control sequence, of an escape sequence, and of a control string.
-ghost use Rattle.std.specs.Prelude.{◌≡◌, ◌++◌, ◌∷◌, [], map, true, false, OnOk, if◌then◌else◌};
-ghost use Rattle.csicodec_actions.specs.{Actions.Device as OfDevice, Devices.SoftReset, Devices.device_of};
+ghost use Rattle.std.specs.Prelude.{◌≡◌, ◌++◌, ◌||◌, not, [], map, true, false, OnOk, if◌then◌else◌};
 ghost use Rattle.csicodec_parser.specs.ActionOf.{action_of};
-ghost use Rattle.csicodec_clean.specs.{Addresses.led, Page.behind_all, Page.sets_any, Page.first_set};
-ghost use Rattle.csicodec_looks.specs.{Pieces.piece_texts, Pieces.pieces_bytes, Pieces.switch, Pieces.turn, declared.look.Look.Look};
+ghost use Rattle.csicodec_clean.specs.{Addresses.led, Page.first_set, Saving.are_lasting, Saving.behind_all, Saving.sets_any};
+ghost use Rattle.csicodec_html.specs.Private.Rule.{set_all, set_one};
+ghost use Rattle.csicodec_looks.specs.{Paint.same, Pieces.piece_texts, Pieces.pieces_bytes, Pieces.switch, Pieces.turn};
 
-use csicodec_actions::Device;
 use csicodec_base::CsiParam;
-use csicodec_clean::{LinkReader, Rule, ends_link, is_ris, led};
+use csicodec_clean::{
+    Effect, LinkReader, Looks, Rule, action_effect, ends_link, escape_effect, is_lasting, led, sets,
+};
 use csicodec_looks::{
     InFront, Look, Markup, Turning, Turns, append_char, append_end, append_shut, append_switch,
     append_text, append_turn as append_tags,
@@ -17,80 +18,71 @@ use csicodec_terminal::terminal_actions_into;
 use std::alloc::{AllocError, Global};
 use std::marker::Model;
 
-/// Whether it is DECSTR.
-fn is_soft_reset(device: &Device) -> bool
-    ensures on { result ≡ true → device_of device.now ≡ SoftReset }
-    ensures off { result ≡ false → (l : Look) → behind_all l (OfDevice (device_of device.now) ∷ []) ≡ l }
-    ensures sets { result ≡ sets_any (OfDevice (device_of device.now) ∷ []) }
+/// How text looks behind each of the actions in turn, and where that was saved.
+fn behind_each(looks: Looks, actions: &[CSI]) -> Looks
+    ensures { result ≡ behind_all looks (map action_of actions.now) }
 {
-    matches!(device, Device::SoftReset)
-}
-
-/// How text looks behind an action.
-fn behind(look: Look, action: &CSI) -> Look
-    ensures { result ≡ behind_all look (action_of action.now ∷ []) }
-{
-    let mut now = look;
-    match action {
-        CSI::Sgr(attribute) => now.set(attribute),
-        CSI::Device(device) if is_soft_reset(device) => now = Look::plain(),
-        CSI::Cursor(_)
-        | CSI::Edit(_)
-        | CSI::Mode(_)
-        | CSI::Device(_)
-        | CSI::Mouse(_)
-        | CSI::Window(_)
-        | CSI::Keyboard(_)
-        | CSI::SelectCharacterPath(_, _)
-        | CSI::Unspecified(_) => (),
+    let mut now = looks;
+    for action in actions {
+        now.take(action_effect(action));
     }
     now
 }
 
-/// How it looks behind each of the actions in turn.
-#[tactic(auto, using(crate::proofs::Paired::behind_one))]
-fn behind_each(look: Look, actions: &[CSI]) -> Look
-    ensures { result ≡ behind_all look (map action_of actions.now) }
+/// How text looks behind an attribute; all else leaves that.
+fn set_one(look: Look, effect: Option<Effect>) -> Look
+    ensures { result ≡ set_one look effect }
+{
+    let mut now = look;
+    if let Some(Effect::Sets(attribute)) = effect {
+        now.set(&attribute);
+    }
+    now
+}
+
+/// How text looks behind the attributes among the actions.
+fn look_behind(look: Look, actions: &[CSI]) -> Look
+    ensures { result ≡ set_all look (map action_of actions.now) }
 {
     let mut now = look;
     for action in actions {
-        now = behind(now, action);
+        now = set_one(now, action_effect(action));
     }
     now
 }
 
-/// Whether the action is an attribute, or sets all back.
-fn is_attribute(action: &CSI) -> bool
-    ensures { result ≡ sets_any (action_of action.now ∷ []) }
-{
-    match action {
-        CSI::Sgr(_) => true,
-        CSI::Device(device) => is_soft_reset(device),
-        CSI::Cursor(_)
-        | CSI::Edit(_)
-        | CSI::Mode(_)
-        | CSI::Mouse(_)
-        | CSI::Window(_)
-        | CSI::Keyboard(_)
-        | CSI::SelectCharacterPath(_, _)
-        | CSI::Unspecified(_) => false,
-    }
-}
-
-/// Whether one of the actions is.
-#[tactic(auto, using(crate::proofs::Paired::sets_one))]
+/// Whether one of the actions is an attribute, or sets all back.
 fn sets_any(actions: &[CSI]) -> bool
     ensures { result ≡ sets_any (map action_of actions.now) }
 {
     for action in actions {
-        if is_attribute(action) {
+        if sets(action_effect(action)) {
             return true;
         }
     }
     false
 }
 
-/// Appends the tags between two looks, if attributes come.
+/// Whether what is saved stays behind each of the actions, and none brings it back.
+fn are_lasting(actions: &[CSI]) -> bool
+    ensures { result ≡ are_lasting (map action_of actions.now) }
+{
+    for action in actions {
+        if !is_lasting(action_effect(action)) {
+            return false;
+        }
+    }
+    true
+}
+
+/// Whether tags come between two looks: where an attribute comes, or what sets all back, and where text looks otherwise.
+fn has_tags(comes: bool, old: Look, new: Look) -> bool
+    ensures { result ≡ (comes || not (same old new)) }
+{
+    comes || old != new
+}
+
+/// Appends the tags between two looks, if such come.
 fn append_turn(
     markup: &Markup,
     comes: bool,
@@ -145,7 +137,7 @@ impl Turning for Turner<'_> {
 pub(crate) struct SpanWriter {
     alloc: Global,
     markup: Markup,
-    look: Look,
+    looks: Looks,
     /// Where text leads; no bytes where it leads nowhere.
     to: Vec<u8>,
     /// What has come of the next link.
@@ -165,7 +157,7 @@ impl Model for SpanWriter {
     ghost use Rattle.csicodec_looks.specs.Turns.{AreTurns};
     ghost use Rattle.csicodec_html.specs.Turns.{IsTurned};
 
-    ghost view = { λ s. setting s.markup s.look s.to.items
+    ghost view = { λ s. setting s.markup s.looks s.to.items
         (begun s.next.place s.next.params.items s.next.url.items) };
 
     ghost invariant = { λ s. AreTurns (IsTurned s.markup) s.turns.kept.items };
@@ -179,7 +171,7 @@ impl SpanWriter {
         SpanWriter {
             alloc,
             markup,
-            look: Look::plain(),
+            looks: Looks::plain(),
             to: Vec::new(alloc),
             next: LinkReader::new(alloc),
             actions: Vec::new(alloc),
@@ -213,14 +205,23 @@ impl Rule for SpanWriter {
         out: &mut Vec<u8>,
     ) -> Result<(), AllocError> {
         terminal_actions_into(self.alloc, params, false, control, &mut self.actions)?;
-        let new = behind_each(self.look, &self.actions);
-        let before = out.len();
-        let comes = sets_any(&self.actions);
-        append_turn(&self.markup, comes, self.look, new, out)?;
-        let tags = out.split_at(before).1;
-        self.turns
-            .keep(&Turner(&self.markup), bytes, self.look, new, tags)?;
-        self.look = new;
+        if are_lasting(&self.actions) {
+            let new = look_behind(self.looks.look, &self.actions);
+            let before = out.len();
+            let comes = sets_any(&self.actions);
+            append_turn(&self.markup, comes, self.looks.look, new, out)?;
+            let tags = out.split_at(before).1;
+            self.turns
+                .keep(&Turner(&self.markup), bytes, self.looks.look, new, tags)?;
+            self.looks.look = new;
+            return Ok(());
+        }
+        // What such a sequence turns depends on what is saved, so it isn't kept.
+        let new = behind_each(self.looks, &self.actions);
+        let comes = has_tags(sets_any(&self.actions), self.looks.look, new.look);
+        append_turn(&self.markup, comes, self.looks.look, new.look, out)?;
+        self.turns.stand(&new.look);
+        self.looks = new;
         Ok(())
     }
 
@@ -238,20 +239,22 @@ impl Rule for SpanWriter {
         };
         let len = self
             .turns
-            .recall(&Turner(&self.markup), &mut self.look, front, out)?;
+            .recall(&Turner(&self.markup), &mut self.looks.look, front, out)?;
         Ok(len)
     }
 
-    #[tactic(auto, using(crate::proofs::Paired::escape_turn, crate::proofs::Paired::escape_none))]
     #[inline(always)]
     fn escape(&mut self, bytes: &[u8], out: &mut Vec<u8>) -> Result<(), AllocError> {
-        if !is_ris(bytes) {
+        let effect = escape_effect(bytes);
+        if effect.is_none() {
             return Ok(());
         }
-        let new = Look::plain();
-        append_turn(&self.markup, true, self.look, new, out)?;
-        self.turns.stand(&new);
-        self.look = new;
+        let (old, mut new) = (self.looks.look, self.looks);
+        new.take(effect);
+        let comes = has_tags(sets(effect), old, new.look);
+        append_turn(&self.markup, comes, old, new.look, out)?;
+        self.looks = new;
+        self.turns.stand(&new.look);
         Ok(())
     }
 
@@ -265,12 +268,19 @@ impl Rule for SpanWriter {
         }
         let over = ends_link(self.next.place, byte);
         let markup = &self.markup;
-        follow(over, &self.next.url, markup, self.look, &mut self.to, out)?;
+        follow(
+            over,
+            &self.next.url,
+            markup,
+            self.looks.look,
+            &mut self.to,
+            out,
+        )?;
         self.next.take(byte)
     }
 
     fn close(&self, out: &mut Vec<u8>) -> Result<(), AllocError> {
-        append_end(self.look, out)?;
+        append_end(self.looks.look, out)?;
         append_shut(&self.to, out)
     }
 

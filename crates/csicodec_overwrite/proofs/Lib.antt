@@ -7,3 +7,4 @@ pub mod Same
 pub mod Lost
 pub mod Stays
 pub mod Fronts
+pub mod Alike

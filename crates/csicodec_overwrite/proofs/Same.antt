@@ -7,7 +7,8 @@ use Rattle.std.proofs.Common.{encode_utf8}
 use lib.Utf8.{scalar}
 use Rattle.csicodec_spans.specs.{Table.Answer, Parts.Allows, Parts.IsFirstPart, Parts.IsWhole, declared.table.Kind.Kind, declared.table.Mode.Mode}
 use Rattle.csicodec_spans.proofs.Agrees.{opens}
-use Rattle.csicodec_clean.specs.{Links.start, Page.AreLeft, Page.PageWith, Page.Setting, Page.setting, Page.shown_pieces}
+use Rattle.csicodec_clean.specs.{Links.start, Saving.looks, declared.saving.Looks.Looks, Page.AreLeft, Page.PageWith, Page.Setting, Page.setting}
+use Rattle.csicodec_clean.specs.{Page.shown_pieces}
 use Rattle.csicodec_clean.proofs.{Told.all_kept, Plain.one_char}
 use Rattle.csicodec_looks.specs.{Paint.look_text, Pieces.Piece as Mark, Pieces.piece_text as mark_text, declared.markup.Markup.Markup}
 use Rattle.csicodec_base.specs.declared.sgr.Sgr.{Sgr}
@@ -219,7 +220,7 @@ module _ (m : Markup) where
 
   -- where text looks so, no link has come
   abbrev looking : Look → Setting
-  looking l = setting m l [] start
+  looking l = setting m (looks l plain) [] start
 
   shown_chars : (cs : List ℕ) → all_scalars cs ≡ true → AllByRecursion IsShown cs → shown_pieces (encode_utf8_all cs) ≡ map html.Char cs
   shown_chars cs a h = ap (λ (t : List ℕ). map html.Char (filter shown t)) (lossy_chars-encode cs a) ∙ ap (map html.Char) (all_kept cs h)
@@ -238,11 +239,16 @@ module _ (m : Markup) where
       (rw (more_encoded cs c, map-append html.Char cs (c ∷ []), append_assoc) at
       (left ps l (cs ++ c ∷ []) e (more_scalars cs c a one) (all_both IsShown cs (c ∷ []) h (here, tt)) safe.1))
   left (Turn new ∷ ps) l cs e a h safe =
-      let back = looks_back l new in (
+      let back = looks_back plain l new in (
         html.turn m true l new,
         looking new,
         marks new ps,
-        (map action.Sgr (Sgr.Reset ∷ attributes new), look_taken new safe.0, ap looking (sym back), ap (html.turn m true l) (sym back)),
+        (
+          map action.Sgr (Sgr.Reset ∷ attributes new),
+          look_taken new safe.0,
+          ap (λ (x : Looks). setting m x [] start) (sym back),
+          ap (λ (x : Looks). html.turn m true l x.look) (sym back),
+        ),
         ap (λ (t : List Mark). t ++ (html.turn m true l new ++ marks new ps)) (sym (shown_chars cs a h)),
         left ps new [] e refl tt safe.1,
       )

@@ -11,7 +11,7 @@ use Rattle.csicodec_streams.specs.Compose.{EndsInSemicolon, IsStyleList}
 use Rattle.csicodec_streams.proofs.Compose.{ends-joined, plain-joint, sgr_compose_lem, spellable-joined, spells-joined}
 use Rattle.csicodec_streams.proofs.SgrSpelling.{sgr-spelling}
 use Rattle.csicodec_terminal.specs.Terminal.{IsTakenFor, has_unknown}
-use Rattle.csicodec_clean.specs.{Styled.IsOf, Styled.hides, Page.behind_all}
+use Rattle.csicodec_clean.specs.{Styled.IsOf, Styled.hides, Saving.behind_all, Saving.looks, declared.saving.Looks.Looks}
 use Rattle.csicodec_clean.proofs.Coded.{AreCodes, coded, codes_parts, none_open, same_ends, unended}
 use Rattle.csicodec_looks.specs.{Look.is_default, Look.is_none, Look.is_normal, Paint.look_text}
 use Rattle.csicodec_actions.specs.Actions as action
@@ -163,15 +163,6 @@ look_short l h = omega (arith, length-append (flat_map further (attributes l)) (
 
 -- ---- A look is what a reset and its attributes give.
 
-abbrev after : Look → List Sgr → Look
-after l styles = behind_all l (map action.Sgr styles)
-
--- an attribute that isn't set yet, where it is to be
-given_back : (m n : Look) (t : Bool) (s : Sgr) (rest : List Sgr) → (t ≡ false → m ≡ n) → (t ≡ true → behind m s ≡ n)
-    → after m (given t s ++ rest) ≡ after n rest
-given_back m n true s rest h k = ap (λ (l : Look). after l rest) (k refl)
-given_back m n false s rest h k = ap (λ (l : Look). after l rest) (h refl)
-
 normal : (x : Intensity) → not (is_normal x) ≡ false → Intensity.Normal ≡ x
 normal Intensity.Normal e = refl
 normal _ e = cc
@@ -184,22 +175,33 @@ default : (x : ColorSpec) → not (is_default x) ≡ false → ColorSpec.Default
 default ColorSpec.Default e = refl
 default _ e = cc
 
-pub looks_back : (old look : Look) → behind_all old (map action.Sgr (Sgr.Reset ∷ attributes look)) ≡ look
-looks_back old l =
-    let one = record plain { intensity = l.intensity } in
-    let two = record one { italic = l.italic } in
-    let three = record two { underline = l.underline } in
-    let four = record three { line = l.line } in
-    let five = record four { overline = l.overline } in
-    let six = record five { strike = l.strike } in
-    let seven = record six { inverse = l.inverse } in
-    let eight = record seven { foreground = l.foreground } in
-    given_back plain one _ _ _ (λ e. ap (λ (x : Intensity). record plain { intensity = x }) (normal l.intensity e)) (λ e. refl)
-    ∙ given_back one two l.italic _ _ (λ e. rw e refl) (λ e. rw e refl)
-    ∙ given_back two three _ _ _ (λ e. ap (λ (x : Underline). record two { underline = x }) (none l.underline e)) (λ e. refl)
-    ∙ given_back three four _ _ _ (λ e. ap (λ (x : ColorSpec). record three { line = x }) (default l.line e)) (λ e. refl)
-    ∙ given_back four five l.overline _ _ (λ e. rw e refl) (λ e. rw e refl)
-    ∙ given_back five six l.strike _ _ (λ e. rw e refl) (λ e. rw e refl)
-    ∙ given_back six seven l.inverse _ _ (λ e. rw e refl) (λ e. rw e refl)
-    ∙ given_back seven eight _ _ _ (λ e. ap (λ (x : ColorSpec). record seven { foreground = x }) (default l.foreground e)) (λ e. refl)
-    ∙ given_back eight l _ _ [] (λ e. ap (λ (x : ColorSpec). record eight { background = x }) (default l.background e)) (λ e. refl)
+-- whatever is saved, which stays
+module _ (saved : Look) where
+  abbrev after : Look → List Sgr → Looks
+  after l styles = behind_all (looks l saved) (map action.Sgr styles)
+
+  -- an attribute that isn't set yet, where it is to be
+  given_back : (m n : Look) (t : Bool) (s : Sgr) (rest : List Sgr) → (t ≡ false → m ≡ n) → (t ≡ true → behind m s ≡ n)
+      → after m (given t s ++ rest) ≡ after n rest
+  given_back m n true s rest h k = ap (λ (l : Look). after l rest) (k refl)
+  given_back m n false s rest h k = ap (λ (l : Look). after l rest) (h refl)
+
+  pub looks_back : (old look : Look) → behind_all (looks old saved) (map action.Sgr (Sgr.Reset ∷ attributes look)) ≡ looks look saved
+  looks_back old l =
+      let one = record plain { intensity = l.intensity } in
+      let two = record one { italic = l.italic } in
+      let three = record two { underline = l.underline } in
+      let four = record three { line = l.line } in
+      let five = record four { overline = l.overline } in
+      let six = record five { strike = l.strike } in
+      let seven = record six { inverse = l.inverse } in
+      let eight = record seven { foreground = l.foreground } in
+      given_back plain one _ _ _ (λ e. ap (λ (x : Intensity). record plain { intensity = x }) (normal l.intensity e)) (λ e. refl)
+      ∙ given_back one two l.italic _ _ (λ e. rw e refl) (λ e. rw e refl)
+      ∙ given_back two three _ _ _ (λ e. ap (λ (x : Underline). record two { underline = x }) (none l.underline e)) (λ e. refl)
+      ∙ given_back three four _ _ _ (λ e. ap (λ (x : ColorSpec). record three { line = x }) (default l.line e)) (λ e. refl)
+      ∙ given_back four five l.overline _ _ (λ e. rw e refl) (λ e. rw e refl)
+      ∙ given_back five six l.strike _ _ (λ e. rw e refl) (λ e. rw e refl)
+      ∙ given_back six seven l.inverse _ _ (λ e. rw e refl) (λ e. rw e refl)
+      ∙ given_back seven eight _ _ _ (λ e. ap (λ (x : ColorSpec). record seven { foreground = x }) (default l.foreground e)) (λ e. refl)
+      ∙ given_back eight l _ _ [] (λ e. ap (λ (x : ColorSpec). record eight { background = x }) (default l.background e)) (λ e. refl)

@@ -1,7 +1,9 @@
 -- Control sequences that do no more than to set how characters look, and what is written for them between characters.
 use Rattle.std.specs.Prelude.{ℕ, ◌≡◌, List, [], ◌∷◌}
 use Rattle.csicodec_looks.specs.{declared.look.Look.Look, Look.behind, declared.marking.Marking.Marking, Paint.turn, declared.step.Step.Step}
+use Rattle.csicodec_looks.specs.{declared.pen.Pen.Pen}
 use Rattle.csicodec_overwrite.specs.Stream.{Reads, none_held}
+use Rattle.csicodec_clean.specs.{declared.saving.Looks.Looks, Saving.looks}
 use Rattle.csicodec_actions.specs.Ranges.{ColorInRange}
 
 -- a step that does no more than to set how characters look, where nothing stands right of the cursor
@@ -28,3 +30,7 @@ Turned marking bytes old new tags = Sets bytes old new × (tags ≡ turn marking
 -- its numbers are bytes
 abbrev pub IsInRange : Look → Type 0
 IsInRange l = ColorInRange l.line × ColorInRange l.foreground × ColorInRange l.background
+
+-- how characters look that come now, and how they look where that was saved
+abbrev pub looks_in : Pen → Looks
+looks_in pen = looks pen.look pen.saved_look

@@ -2,11 +2,12 @@
 ghost use Rattle.std.specs.Prelude.{◌≡◌, ℕ, List};
 ghost use Rattle.csicodec_actions.specs.Actions.{Action};
 ghost use Rattle.csicodec_terminal.specs.Terminal.{IsTakenFor};
-ghost use Rattle.csicodec_clean.specs.{Cleaned.Strips, Cleaned.longest, Shown.IsPlain, Styled.IsOf, Page.behind_all, Page.PageWith};
+ghost use Rattle.csicodec_clean.specs.{Cleaned.Strips, Cleaned.longest, Shown.IsPlain, Styled.IsOf, Saving.behind_all, Saving.behind_effect, Saving.effect_of};
+ghost use Rattle.csicodec_clean.specs.{Saving.escape_effect, Saving.looks, Page.PageWith};
 ghost use Rattle.csicodec_looks.specs.{declared.look.Look.Look, declared.markup.Markup.Markup, declared.marking.Marking.Marking, Paint.look_text, Line.HasRoom};
-ghost use Rattle.csicodec_looks.specs.{Line.blank, Line.most};
-ghost use Rattle.csicodec_overwrite.specs.{Lost.NothingLost, Lost.NothingMade, Turned.IsInRange, Stream.AnyChunks, Reading.Overwrites, Reading.Pages, Reading.Paints};
-ghost use Rattle.csicodec_overwrite.specs.{Reading.Shows};
+ghost use Rattle.csicodec_looks.specs.{Line.blank, Line.most, Line.pen_behind_all, declared.line.Line.Line, declared.pen.Pen.Pen};
+ghost use Rattle.csicodec_overwrite.specs.{Lost.NothingLost, Lost.NothingMade, Turned.IsInRange, Turned.looks_in, Stream.AnyChunks, Reading.Overwrites, Reading.Pages};
+ghost use Rattle.csicodec_overwrite.specs.{Reading.Paints, Reading.Shows, Steps.of_action, Steps.of_escape};
 
 pub use csicodec_looks::laws::bounded;
 
@@ -45,11 +46,22 @@ pub fn same_page()
         → PageWith m painted page }
 {}
 
-/// The sequence of a look is one control sequence, and what it sets, whatever was set before, is that look. Terminals take it so too.
+/// The sequence of a look is one control sequence, and what it sets, whatever was set before, is that look. What was saved stays. Terminals take it so too.
 pub fn looks_back()
-    ensures { (old look : Look) → IsInRange look
+    ensures { (old saved look : Look) → IsInRange look
         → (actions : List Action) × IsOf (look_text look) actions
-        × IsTakenFor (look_text look) actions × (behind_all old actions ≡ look) }
+        × IsTakenFor (look_text look) actions
+        × (behind_all (looks old saved) actions ≡ looks look saved) }
+{}
+
+/// An action or an escape sequence does to how characters look in a line, and to how they look where that was saved, what it does to text of
+/// which nothing is overwritten.
+#[tactic(auto, using(crate::proofs::Alike::of_action_alike, crate::proofs::Alike::of_escape_alike))]
+pub fn same_looks()
+    ensures action { (pen : Pen) (l : Line) (a : Action)
+        → looks_in (pen_behind_all most pen (of_action a) l) ≡ behind_effect (looks_in pen) (effect_of a) }
+    ensures escape { (pen : Pen) (l : Line) (bytes : List ℕ)
+        → looks_in (pen_behind_all most pen (of_escape bytes) l) ≡ behind_effect (looks_in pen) (escape_effect bytes) }
 {}
 
 /// Nothing is lost. But for tabs and newlines, each character that `strip` leaves of the bytes is in the text, or was overwritten,

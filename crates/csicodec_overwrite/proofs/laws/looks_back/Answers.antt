@@ -4,4 +4,4 @@ use Rattle.csicodec_actions.specs.Actions as action
 use Rattle.csicodec_overwrite.proofs.laws.looks_back.Goals as goal
 
 pub returns : goal.returns
-returns c = λ old look range. (map action.Sgr (Sgr.Reset ∷ attributes look), look_of_one look range, look_taken look range, looks_back old look)
+returns c = λ old saved look range. (map action.Sgr (Sgr.Reset ∷ attributes look), look_of_one look range, look_taken look range, looks_back saved old look)

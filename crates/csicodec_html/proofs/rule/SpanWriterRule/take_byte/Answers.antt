@@ -16,13 +16,13 @@ returns c =
     let to = inside.to.items in
     let b = begun inside.next.place inside.next.params.items inside.next.url.items in
     let byte = c.args.byte in
-    let text = pieces_bytes (if ends_at b.place byte then switch m inside.look to (led b.address.url) else []) in
+    let text = pieces_bytes (if ends_at b.place byte then switch m inside.looks.look to (led b.address.url) else []) in
     let new = begun c.take.new.self.place c.take.new.self.params.items c.take.new.self.url.items in
     let leads = rw (c.deref.ensures.value, c.ends_link-over.ensures) at c.in_ok-follow.ensures.to in
     on_ok_weaker c.take.result
     (λ e. (
       text,
-      subst (λ (s : Setting). turns.byte s byte text (setting m inside.look c.follow.new.to.items new)) c.self.view_is (byte_gives m inside.look to c.follow.new.to.items b new byte c.if-not-self.false leads e),
+      subst (λ (s : Setting). turns.byte s byte text (setting m inside.looks c.follow.new.to.items new)) c.self.view_is (byte_gives m inside.looks to c.follow.new.to.items b new byte c.if-not-self.false leads e),
       rw (c.deref.ensures.value, c.ends_link-over.ensures) at c.in_ok-follow.ensures.text,
     ))
     c.take.ensures

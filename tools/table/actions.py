@@ -122,10 +122,11 @@ LIST = ("left_out", "source", "says")
 
 
 def check(rows):
+    every = {f"{name}::{variant}": row for name, subject in rows.items() for variant, row in subject["actions"].items()}
+    for column in ("number", "final", "text"):
+        check_once(TABLE, {key: row for key, row in every.items() if row.get("read", True)}, column)
     for name, subject in rows.items():
         check_columns(TABLE, {name: subject}, ("file", "doc", "derives", "example", "actions"), ("beside", "lists"))
-        check_once(TABLE, subject["actions"], "final")
-        check_once(TABLE, {variant: row for variant, row in subject["actions"].items() if row.get("read", True)}, "text")
         for variant, row in subject["actions"].items():
             key = f"{name}::{variant}"
             is_list = "final" in row

@@ -1,9 +1,13 @@
 """What no row of a table may have, and what each must have."""
+import re
 import sys
+
+from read import place
 
 
 def refuse(table, key, said):
-    sys.exit(f"table: table/{table}: {key}: {said}")
+    """Stops with the line of the row. Its key is `[part] row`, `part::row`, or the row alone."""
+    sys.exit(f"table: refused: {place(table, *re.split('::|(?<=.)] ', str(key).removeprefix('[')))}: {key}: {said}")
 
 
 def check_columns(table, rows, needed, others):
@@ -22,6 +26,6 @@ def check_once(table, rows, column):
     seen = {}
     for key, row in rows.items():
         said = row.get(column)
-        if said and said in seen:
+        if said is not None and said in seen:
             refuse(table, key, f"its {column} is {said}, as that of {seen[said]} is")
         seen[said] = key

@@ -1,11 +1,14 @@
-"""Forms of control sequences, as a row of table/sequences.toml writes them: the byte at the front, the numbers, the intermediate byte and the
-final one."""
+"""Forms of control sequences: a row of table/sequences.toml looks like what stands behind CSI, with its numbers in braces."""
 import re
 from dataclasses import dataclass
+from itertools import zip_longest
 
 LARGEST = 2**32 - 1
 MOST = 12
-NUMBER = re.compile(r"(\w+)(?:=(\d+)|( \d+-\d*))?(?: \(or (\d+)( as 0)?\))?( \.\.)?$")
+# The byte at the front, the numbers, the intermediate byte and the final one.
+FORM = re.compile(r"([<=>?]?)((?:\d+|\{[^{}]*\})(?:;(?:\d+|\{[^{}]*\}))*)?([ -/]?)([@-~])$")
+# One number alone, or a name with its range, what it is where it is left out, and whether it may come again.
+NUMBER = re.compile(r"(\d+)$|\{(\w+)(?::(\d+)(-\d*)?)?(?:=(\d+)(,0)?)?(\.\.)?\}$")
 
 
 @dataclass(frozen=True)
@@ -29,6 +32,14 @@ class Slot:
             said = f"{self.name} {self.first}-{self.last}"
         return f"{said} .." if self.further else said if self.missing is None else f"{said} (or {self.missing})"
 
+    def must(self):
+        """Whether it must stand there."""
+        return self.missing is None and not self.further
+
+    def differs(self, other):
+        """Whether no field is a number of both."""
+        return (self.last < other.first or other.last < self.first) and (self.must() or other.must())
+
 
 @dataclass(frozen=True)
 class Form:
@@ -46,9 +57,7 @@ class Form:
     def values(self, text):
         """The values of a list that the form's numbers read; none where they don't. Nothing follows a `;` at the end."""
         fields, out = text.removesuffix(";").split(";") if text else [], []
-        plain = [slot for slot in self.slots if not slot.further]
-        behind = fields[len(plain):]
-        for place, slot in enumerate([*plain, *[self.slots[-1]] * len(behind)] if self.slots[len(plain):] else plain):
+        for place, slot in enumerate(self.places(len(fields))):
             field = fields[place] if place < len(fields) else ""
             value = int(field) if field else slot.missing
             if value is None or not slot.first <= value <= slot.last:
@@ -56,10 +65,27 @@ class Form:
             out.append(value)
         return None if len(out) < len(fields) or len(out) > MOST else out
 
+    def places(self, count):
+        """A slot for each number where there are so many: the last one again where it may come again, and not at all where it need not."""
+        plain = [slot for slot in self.slots if not slot.further]
+        return plain + [slot for slot in self.slots[-1:] if slot.further] * (count - len(plain))
+
     def read(self, text):
         """The values of what stands behind CSI, if the form reads it."""
         found = re.fullmatch(f"{re.escape(self.marker)}([0-9;]*){re.escape(self.between + self.final)}", text)
         return self.values(found[1]) if found else None
+
+    def is_apart(self, other):
+        """Whether no list is read by both forms: their bytes differ, or a number does, or one has a number that must stand there and the other
+        has none."""
+        if (self.marker, self.between, self.final) != (other.marker, other.between, other.final):
+            return True
+        for one, two in zip_longest(self.places(MOST), other.places(MOST)):
+            if one and two and one.differs(two) or (one and two is None and one.must()) or (two and one is None and two.must()):
+                return True
+            if one and one.further or two and two.further:
+                return False
+        return False
 
     def example(self):
         """The shortest text with the least numbers, behind CSI."""
@@ -69,21 +95,22 @@ class Form:
 def slot_of(text):
     found = NUMBER.match(text)
     if not found:
-        raise ValueError(f"no number: {text!r}")
-    name, one, span, missing, zero, further = found.groups()
-    first, last = (0, LARGEST) if not span else (int(span.split("-")[0]), int(span.split("-")[1] or LARGEST))
-    if one:
-        first = last = int(one)
-    return Slot(name.replace("_", " "), first, last, None if missing is None else int(missing), bool(zero), bool(further))
+        raise ValueError(f"no number: {text}")
+    one, name, first, last, missing, zero, further = found.groups()
+    least = int(one or first or 0)
+    most = LARGEST if last == "-" or not one and first is None else int(last[1:]) if last else least
+    if least > most or missing is not None and not least <= int(missing) <= most:
+        raise ValueError(f"a range without a number, or what is left out isn't in it: {text}")
+    return Slot((name or "which").replace("_", " "), least, most, None if missing is None else int(missing), bool(zero), bool(further))
 
 
 def form_of(text):
     """The form that a text is; a ValueError says what is wrong with it."""
-    marker = text[0] if len(text) > 1 and text[0] in "<=>?" else ""
-    front, final = text[len(marker):-1].strip(" "), text[-1]
-    between = " " if front == "SP" or front.endswith(" SP") else front[-1] if front and front[-1] in "!\"#$%&'()*+,-./" and front[-2:-1] in ("", " ") else ""
-    numbers = front[:len(front) - (2 if between == " " else len(between))].strip(" ")
-    slots = tuple(slot_of(part) for part in numbers.split("; ")) if numbers else ()
+    found = FORM.match(text)
+    if not found:
+        raise ValueError(f"no form of a control sequence: {text}")
+    marker, numbers, between, final = found.groups()
+    slots = tuple(map(slot_of, numbers.split(";"))) if numbers else ()
     if any(slot.further for slot in slots[:-1]) or len(slots) > MOST:
-        raise ValueError("only the last number may stand there again, and a row has up to 12 numbers")
+        raise ValueError(f"only the last number may come again, and a row has up to {MOST} numbers: {text}")
     return Form(marker, slots, between, final)

@@ -153,6 +153,7 @@ def of_steps(private):
 def check(rows):
     for name, kind in rows.items():
         moves = ("in_line",) if name == "private" else ()
+        kind = {f"[{name}] {number}": row for number, row in kind.items()}
         check_once(TABLE, kind, "name")
         check_columns(TABLE, {number: row for number, row in kind.items() if "name" in row}, ("name", "words", *moves, "source", "says", "doc"), ("set", "reset"))
         check_columns(TABLE, {number: row for number, row in kind.items() if "name" not in row}, ("words", "source", "says"), ("set", "reset"))

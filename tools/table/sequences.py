@@ -1,6 +1,6 @@
 """What follows from table/sequences.toml: the rows of csicodec_sequences, docs/SEQUENCES.md, and what explain says (told.py)."""
+import itertools
 import re
-import sys
 from dataclasses import dataclass
 
 from actions import subjects
@@ -44,7 +44,7 @@ def row_of(kind, row, lists):
         fields_of(row.get("fields"))
         return Row(int(kind), row["name"], form, row["means"], words, row["source"])
     except ValueError as error:
-        sys.exit(f"table: table/{TABLE}, [{kind}]: {error}")
+        refuse(TABLE, kind, error)
 
 
 def all_rows(table):
@@ -156,10 +156,13 @@ def tests(rows):
 
 
 def check(table, rows):
+    for one, other in itertools.combinations(rows, 2):
+        if not one.form.is_apart(other.form):
+            refuse(TABLE, other.kind, f"it reads a list that [{one.kind}] reads")
     for kind, row in table.items():
         if kind.isdigit() and kind not in UNSAID and "words" in row and not row.get("says"):
             refuse(TABLE, kind, "it has no example in `says`")
-    for action in (action for subject in subjects() for action in subject.actions if "final" in action.row):
+    for action in (action for subject in subjects() for action in subject.actions if action.row.get("read", True)):
         for row in rows:
             if row.form.read(action.text()) is not None:
                 refuse(TABLE, row.kind, f"{action.subject}::{action.variant[0]} has its list: the row goes, and leaves its constant and number in [gone]")

@@ -1,6 +1,6 @@
 """table/values.toml: enumerations that actions have. The core declares them, and C and the packages have their numbers."""
 from declared import Type, Variant, declaration, in_turn
-from checks import check_columns, refuse
+from checks import check_columns, check_once, refuse
 from layout import rows_of_parts
 from parts import Part
 from read import rows_of
@@ -30,9 +30,7 @@ def check(rows):
                     refuse(TABLE, f"{name}::{variant}", f"nothing is written from a column {column}")
             if "numbers" in row and "number" not in of:
                 refuse(TABLE, f"{name}::{variant}", "it has no number")
-        numbers = [of["number"] for of in row.get("variants", {}).values() if "number" in of]
-        if len(set(numbers)) < len(numbers):
-            refuse(TABLE, name, "two variants have one number")
+        check_once(TABLE, {f"{name}::{variant}": of for variant, of in row.get("variants", {}).items()}, "number")
 
 
 def numbers(kind, specs):

@@ -8,15 +8,15 @@ import os
 import re
 from dataclasses import dataclass
 
-from read import TOP
+from read import TOP, place
 
 PATH = ".ci/witness.tsv"
 # A control sequence: its private marker, its numbers, its intermediate bytes and its final byte.
 LIST = re.compile(r"\\e\[([<=>?]*)([0-9:;]*)([ -/]*)([@-~])$")
 # The type of a token, which has no names of things in it.
 TOKEN = "CsiParam"
-# How the enumeration of a mode's table is called.
-MODES = {"private": "DecPrivateModeCode", "terminal": "TerminalModeCode"}
+# Which table has the numbers of an enumeration of codes.
+CODES = {"SgrCode": ("sgr.toml", "code"), "DecPrivateModeCode": ("modes.toml", "private"), "TerminalModeCode": ("modes.toml", "terminal")}
 
 
 @dataclass(frozen=True)
@@ -74,21 +74,22 @@ def said_of(known, kind):
 
 
 def of_numbers(said, enumeration, rows):
-    """Faults of an enumeration's variants, each by its name and its number."""
-    for name, number in rows:
+    """Faults of an enumeration's variants, each by its name, its number and where its row stands."""
+    for name, number, keys in rows:
         if (enumeration, name) not in said:
-            yield f"{enumeration}::{name} has no line in {PATH}"
+            yield f"{place(*keys)}: {enumeration}::{name} has no line in {PATH}"
         elif said[enumeration, name][0] != str(number):
-            yield f"{enumeration}::{name} is {number}, and {said[enumeration, name][0]} by {said[enumeration, name][1].place()}"
+            yield f"{place(*keys)}: {enumeration}::{name} is {number}, and {said[enumeration, name][0]} by {said[enumeration, name][1].place()}"
 
 
 def of_escapes(said, rows):
     """Faults of the escape codes."""
     for key, name in rows:
+        at = place("escapes.toml", "code", key)
         if key not in said:
-            yield f"EscCode::{name}, ESC {key}, has no line in {PATH}"
+            yield f"{at}: EscCode::{name}, ESC {key}, has no line in {PATH}"
         elif said[key][0] != name:
-            yield f"ESC {key} is EscCode::{name}, and {said[key][0]} by {said[key][1].place()}"
+            yield f"{at}: ESC {key} is EscCode::{name}, and {said[key][0]} by {said[key][1].place()}"
 
 
 def set_by(row):
@@ -110,10 +111,11 @@ def of_sgr(known, rows):
         line = given.get(f"\\e[{number}m")
         if "sets" not in row:
             continue
+        at = place("sgr.toml", "code", number)
         if line is None:
-            yield f"table/sgr.toml: {number} has no line in {PATH}"
+            yield f"{at}: {number} has no line in {PATH}"
         elif (line.name, json.loads(line.holds)) != set_by(row):
-            yield f"table/sgr.toml: {number} sets {row['sets']}, and {line.name} {line.holds} by {line.place()}"
+            yield f"{at}: {number} sets {row['sets']}, and {line.name} {line.holds} by {line.place()}"
 
 
 def own_lines(known, subject, variant):
@@ -134,7 +136,8 @@ def is_among(text, action, found):
 def of_actions(known, actions):
     """Faults of actions: of those that no line has, and of those of which a line says otherwise."""
     for action in actions:
-        found, name, text = own_lines(known, action.subject, action.variant), "::".join((action.subject, *action.variant)), "\\e[" + action.text()
+        found, text = own_lines(known, action.subject, action.variant), "\\e[" + action.text()
+        name = f"{place('actions.toml', action.subject, ' '.join(action.variant))}: {'::'.join((action.subject, *action.variant))}"
         if not found:
             yield f"{name} has no line in {PATH}"
         elif not is_among(text, action, found):
@@ -150,7 +153,7 @@ def of_values(known, rows):
     held = {word for line in known if line.kind == "action" for word in words_in(json.loads(line.holds)) | set(line.name.split("::"))}
     for enumeration, variant in rows:
         if (enumeration, variant) not in named and variant not in held:
-            yield f"{enumeration}::{variant} has no line in {PATH}"
+            yield f"{place('values.toml', enumeration, 'variants', variant)}: {enumeration}::{variant} has no line in {PATH}"
 
 
 def facts(tables, actions):
@@ -158,9 +161,8 @@ def facts(tables, actions):
     values = {name: kind["variants"] for name, kind in tables["values.toml"].items() if "variants" in kind}
     return {
         "sgr": tables["sgr.toml"]["code"],
-        "numbers": {"SgrCode": [(row["name"], number) for number, row in tables["sgr.toml"]["code"].items() if "name" in row]}
-        | {kind: [(row["name"], number) for number, row in tables["modes.toml"][part].items() if "name" in row] for part, kind in MODES.items()}
-        | {kind: [(name, row["number"]) for name, row in rows.items() if "number" in row] for kind, rows in values.items()},
+        "numbers": {kind: [(row["name"], number, (table, part, number)) for number, row in tables[table][part].items() if "name" in row] for kind, (table, part) in CODES.items()}
+        | {kind: [(name, row["number"], ("values.toml", kind, "variants", name)) for name, row in rows.items() if "number" in row] for kind, rows in values.items()},
         "escapes": [(key, row["name"]) for key, row in tables["escapes.toml"]["code"].items() if "name" in row],
         "actions": actions,
         "values": [(kind, name) for kind, rows in values.items() if kind != TOKEN for name in rows],

@@ -5,6 +5,7 @@ import subprocess
 import sys
 
 from bindings.library import FIRST, IN_TURN, PATH, TOP, kinds
+from read import place
 
 LIST = "include/numbers.txt"
 HEAD = """\
@@ -46,15 +47,13 @@ def earlier():
 
 
 def table_faults():
-    """Where the numbers of the table aren't those of kinds of their own."""
-    names = {0: "Unspecified", PATH: "SelectCharacterPath"}
+    """Where the numbers of the table aren't those of their subject, or are those of what stands in none."""
     for number, group, variant, _, _ in kinds():
-        name = f"{group}::{' '.join(variant)}"
-        if number in names:
-            yield f"{name} has the number {number} of {names[number]}"
+        name = f"{place('actions.toml', group, *variant)}: {group}::{' '.join(variant)}"
+        if number in (0, PATH):
+            yield f"{name} has the number {number} of {'SelectCharacterPath' if number else 'Unspecified'}"
         if not FIRST[group] <= number < FIRST[group] + 100:
             yield f"{name} has the number {number}, which is of another hundred than the others of {group}"
-        names[number] = name
     for group in IN_TURN:
         others = [other for other in IN_TURN if other != group and FIRST[other] == FIRST[group]]
         if others:

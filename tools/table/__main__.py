@@ -16,6 +16,7 @@ from actions import subjects  # noqa: E402
 from bindings.files import LOOSE, files  # noqa: E402
 from parts import with_parts  # noqa: E402
 from read import TOP, rows_of  # noqa: E402
+from sequences import all_rows  # noqa: E402
 
 
 def text_of(path):
@@ -73,7 +74,7 @@ def settled(texts, is_check):
 def unwitnessed():
     """Stops where the witness says otherwise than the tables."""
     tables = {path.name: rows_of(path.name) for path in pathlib.Path(TOP, "table").glob("*.toml")}
-    said = witnessed.facts(tables, [action for subject in subjects() for action in subject.actions])
+    said = witnessed.facts(tables, [action for subject in subjects() for action in subject.actions], all_rows(tables["sequences.toml"]))
     found = witnessed.faults(witnessed.lines(), said)
     if found:
         sys.exit("\n".join(f"table: refused: {fault}" for fault in found))

@@ -14,11 +14,13 @@ from read import TOP, place  # noqa: E402
 
 # A table, a line of it, what stands there in its place, and what is said: each stops before anything is written.
 REFUSED = (
-    ("sequences.toml", 'form = "4n"', 'form = "3n"', r"it reads a list that \[\d+\] reads"),
+    ("sequences.toml", 'form = "4n"', 'form = "3n"', r"\\e\[3n is read by 2 rows"),
     ("sequences.toml", 'form = "4n"', 'form = "4 5n"', "no form of a control sequence: 4 5n"),
-    ("sequences.toml", 'form = "?{extent:0-2=0}K"', 'form = "{extent:0-2=0}K"', "Edit::EraseInLine has its list"),
+    ("sequences.toml", 'form = "?{extent:0-2=0}K"', 'form = "{extent:0-2=0}K"', r"no row reads \\e\[\?K, which is DECSEL by .ci/witness.tsv:"),
     ("sequences.toml", 'form = "?{extent:0-2=0}K"', 'form = "?{extent:0-2=3}K"', "what is left out isn't in it"),
     ("sequences.toml", "[10002]", "[10001]", r"Cannot declare \('10001',\) twice \(at line \d+"),
+    ("sequences.toml", 'name = "DECSED"', 'name = "DECSEE"', r"\\e\[\?1J is DECSEE \[1\] \\e\[\?1J, and DECSED \[1\]"),
+    ("sequences.toml", 'form = "?{extent:0-2=0}K"', 'form = "?{extent:0-2=1}K"', r"\\e\[\?K is DECSEL \[1\]"),
     ("values.toml", "EraseToStartOfLine = { number = 1,", "EraseToStartOfLine = { number = 2,", "its number is 2, as that of EraseInLine::EraseLine|EraseInLine::EraseToStartOfLine is 2, and 1 by .ci/witness.tsv:"),
     ("sgr.toml", '1 = { name = "IntensityBold"', '1 = { name = "IntensityFat"', "SgrCode::IntensityFat has no line in .ci/witness.tsv"),
     ("modes.toml", '25 = { name = "ShowCursor", words = "visible cursor (DECTCEM)"', '26 = { name = "ShowCursor", words = "visible cursor (DECTCEM)"', "DecPrivateModeCode::ShowCursor is 26, and 25 by .ci/witness.tsv:"),
@@ -79,10 +81,11 @@ class Refusals(unittest.TestCase):
                 ran = subprocess.run([sys.executable, os.path.join(room, "tools/table"), "--check"], capture_output=True, text=True)
                 with open(path, "w", encoding="utf-8") as file:
                     file.write(text)
-                found = re.search(rf"^table: (refused: )?table/{table}:(\d+): .*({said})|^table: table/{table}: {said}", ran.stderr, re.M)
+                found = re.findall(rf"^table: (?:refused: )?table/{table}(?::(\d+))?: .*(?:{said})", ran.stderr, re.M)
                 self.assertTrue(ran.returncode and found, (new, ran.stderr))
-                if found[2]:
-                    self.assertIn(int(found[2]), (line, *(line - back for back in range(1, 4) if new.startswith("form"))), (new, ran.stderr))
+                # A row's line is that of its number, up to three above that of its form.
+                near = range(line - 3, line + 1) if table == "sequences.toml" else (line,)
+                self.assertTrue([at for at in found if not at or int(at) in near], (new, ran.stderr))
 
 
 if __name__ == "__main__":

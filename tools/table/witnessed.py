@@ -15,6 +15,8 @@ PATH = ".ci/witness.tsv"
 LIST = re.compile(r"\\e\[([<=>?]*)([0-9:;]*)([ -/]*)([@-~])$")
 # The type of a token, which has no names of things in it.
 TOKEN = "CsiParam"
+# The row that has no line: whoever typed the others had no document of DECUS.
+UNSEEN = (10039,)
 # Which table has the numbers of an enumeration of codes.
 CODES = {"SgrCode": ("sgr.toml", "code"), "DecPrivateModeCode": ("modes.toml", "private"), "TerminalModeCode": ("modes.toml", "terminal")}
 
@@ -39,7 +41,7 @@ def lines():
     with open(os.path.join(TOP, PATH), encoding="utf-8") as file:
         rows = [(at, row.rstrip("\n").split("\t")) for at, row in enumerate(file, 1) if not row.startswith("#")]
     for at, row in rows:
-        if len(row) != 6 or not row[5] or row[0] not in ("action", "written", "number", "escape", "list"):
+        if len(row) != 6 or not row[5] or row[0] not in ("action", "written", "number", "escape", "list", "known"):
             raise SystemExit(f"table: refused: {PATH}:{at} has no class or no source, or not six columns")
     return [Line(at, *row) for at, row in rows]
 
@@ -156,7 +158,29 @@ def of_values(known, rows):
             yield f"{place('values.toml', enumeration, 'variants', variant)}: {enumeration}::{variant} has no line in {PATH}"
 
 
-def facts(tables, actions):
+def of_known(known, rows):
+    """Faults of rows of sequences without an action: of a line that another one reads, or none, or as other values, and of a row without a line."""
+    by_bytes, seen = {}, set()
+    for row in rows:
+        by_bytes.setdefault((row.form.marker, row.form.between, row.form.final), []).append(row)
+    for line in (line for line in known if line.kind == "known"):
+        marker, numbers, between, final = LIST.match(line.given).groups()
+        read = [(row, values) for row in by_bytes.get((marker, between, final), []) if (values := row.form.values(numbers)) is not None]
+        seen |= {row.kind for row, _ in read}
+        if not read:
+            yield f"table/sequences.toml: no row reads {line.given}, which is {line.name} by {line.place()}"
+        for row, values in read:
+            if len(read) > 1:
+                yield f"{place('sequences.toml', row.kind)}: {line.given} is read by {len(read)} rows"
+            text = f"\\e[{marker}{';'.join(map(str, values))}{between}{final}"
+            if (row.name, json.dumps(values), text) != (line.name, line.holds.replace(",", ", "), line.text):
+                yield f"{place('sequences.toml', row.kind)}: {line.given} is {row.name} {values} {text}, and {line.name} {line.holds} {line.text} by {line.place()}"
+    for row in rows:
+        if row.kind not in seen and row.kind not in UNSEEN:
+            yield f"{place('sequences.toml', row.kind)}: {row.name} has no line in {PATH}"
+
+
+def facts(tables, actions, rows):
     """What table/ says of what the witness says, by the check that compares it."""
     values = {name: kind["variants"] for name, kind in tables["values.toml"].items() if "variants" in kind}
     return {
@@ -165,6 +189,7 @@ def facts(tables, actions):
         | {kind: [(name, row["number"], ("values.toml", kind, "variants", name)) for name, row in rows.items() if "number" in row] for kind, rows in values.items()},
         "escapes": [(key, row["name"]) for key, row in tables["escapes.toml"]["code"].items() if "name" in row],
         "actions": actions,
+        "known": rows,
         "values": [(kind, name) for kind, rows in values.items() if kind != TOKEN for name in rows],
     }
 
@@ -176,4 +201,4 @@ def faults(known, said):
     for kind, rows in said["numbers"].items():
         if kind in witnessed:
             found += of_numbers(numbers, kind, rows)
-    return found + [*of_values(known, said["values"])]
+    return found + [*of_values(known, said["values"]), *of_known(known, said["known"])]

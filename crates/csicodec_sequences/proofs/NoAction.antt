@@ -1,18 +1,17 @@
 -- No row of the table reads a list that is read whole as an action: tests that are computed of each row and each row of actions before its final character.
 use Rattle.std.proofs.Common.{◌≡◌, ℕ, List, [], ◌∷◌, ◌++◌, Option, None, Some, ◌⊎◌, refl, sym, ap, ◌∙◌, inl, inr, subst, arith}
 use Rattle.std.proofs.{lemmas.Bool.and_parts, lemmas.Bool.cases_Bool, lemmas.Bool.eqb-true, lemmas.Option.same_Some}
-use Rattle.std.specs.Prelude.{ℤ, ◌==◌, ◌&&◌, ◌||◌, Bool, true, false, not, is_some, if◌then◌else◌, option_and_then, slice_get}
+use Rattle.csicodec_tokens.specs.{Fields.fields_of, Fields.with_field, declared.param.CsiParam.CsiParam, declared.param.CsiParam.TheVariants.Integer}
+use Rattle.csicodec_tokens.specs.{declared.param.CsiParam.TheVariants.P}
+use Rattle.std.specs.Prelude.{ℤ, pos, negsuc, ◌==◌, ◌&&◌, ◌||◌, Bool, true, false, not, is_some, if◌then◌else◌, option_and_then, slice_get}
 use Rattle.std.specs.{List.list_all, Option.option_or}
-use Rattle.csicodec_tokens.specs.{declared.param.CsiParam.CsiParam, declared.param.CsiParam.TheVariants.Integer, declared.param.CsiParam.TheVariants.P}
-use Rattle.csicodec_tokens.specs.{Fields.fields_of, Fields.with_field}
 use Rattle.csicodec_actions.specs.FieldRows.{This, Empty, End, There, Must, FieldRow, ahead_of_byte, behind, behind_byte, byte, first, fits, have_shape, no_byte, over, read_fields, read_over}
 use Rattle.csicodec_actions.specs.{Actions.Action, Rows.Byte, Rows.Number, Rows.One, Rows.has_shape, Rows.read_by, Rows.rows_before, Table.field_table}
-use Rattle.csicodec_actions.specs.{Table.whole, Table.Window.areas, Table.Window.windows, Table.XtSmGraphics.graphics_rows}
+use Rattle.csicodec_actions.specs.{Table.whole, Table.Window.areas, Table.Window.windows, Table.XtSmGraphics.graphics_rows, Common.is_number}
 use Rattle.csicodec_actions.proofs.AllRows.{whole-table}
 use Rattle.csicodec_parser.proofs.Fronts.{is_none}
-use Rattle.csicodec_sequences.specs.Parts.{behind_separator, is_marker, split_field, without_intermediate, without_marker}
-use Rattle.csicodec_sequences.specs.{declared.row.NumberSlot.NumberSlot, Known.rows_of, Known.table, Rows.Row, Rows.is_within, Rows.read_row, Rows.slot_value}
-use Rattle.csicodec_sequences.specs.{Rows.slot_values}
+use Rattle.csicodec_sequences.specs.{Parts.is_marker, Parts.without_intermediate, Parts.without_marker, declared.row.NumberSlot.NumberSlot, Known.rows_of}
+use Rattle.csicodec_sequences.specs.{Known.table, Rows.Row, Rows.is_within, Rows.read_row, Rows.slot_value, Rows.slot_values}
 use Rattle.csicodec_sequences.proofs.Table.{HasRead, has_read, must, row_at, slots-apart, slots_apart, cut_end, stays, taken}
 use Rattle.csicodec_actions.specs.FieldRows as fields
 use Rattle.csicodec_actions.specs.Rows as actions
@@ -29,7 +28,7 @@ byte_apart i ss b tail (s ∷ shape) = true
 abbrev walk : Bool → ℕ → List NumberSlot → Bool → List actions.Slot → Bool
 walk behind i ss tail [] = not tail && (not (i == 0) || slots_apart [] ss)
 walk true i ss tail (Byte b ∷ shape) = if b == 59 then walk false i ss tail shape else byte_apart i ss b tail shape
-walk true i ss tail (s ∷ shape) = true
+walk true i ss tail (s ∷ shape) = false
 walk false i [] tail (Byte b ∷ shape) = (b == 59) || byte_apart i [] b tail shape
 walk false i [] tail (s ∷ shape) = true
 walk false i (s ∷ ss) tail (Byte b ∷ shape) = if b == 59 then not (is_some s.missing) || walk false i ss tail shape else byte_apart i (s ∷ ss) b tail shape
@@ -48,10 +47,19 @@ row_apart q r = marked_apart q.form.marker q.form.intermediate q.slots r.tail r.
 
 -- ---- what it says
 
--- what is read from the beginning of a field on, or from behind a number
+-- the fields from the beginning of one on, or from behind a number
+abbrev fields_at : Bool → List CsiParam → Option (List (Option ℤ))
+fields_at true [] = Some []
+fields_at true (P b ∷ ts) = if b == 59 then fields_of ts else None
+fields_at at ts = fields_of ts
+
+number_field : (z : ℤ) (ts : List CsiParam) → fields_of (Integer z ∷ ts) ≡ with_field (Some z) (fields_at true ts)
+number_field z [] = refl
+number_field z (P b ∷ ts) = elim (cases_Bool (b == 59)) [ inl is ↦ rw is refl | inr other ↦ rw other refl ]
+number_field z (Integer y ∷ ts) = refl
+
 abbrev ReadsAt : Bool → List NumberSlot → List CsiParam → List ℕ → Type 0
-ReadsAt false ss body vs = slot_values ss body ≡ Some vs
-ReadsAt true ss body vs = option_and_then (slot_values ss) (behind_separator body) ≡ Some vs
+ReadsAt at ss body vs = option_and_then (slot_values ss) (fields_at at body) ≡ Some vs
 
 -- a byte other than `;` is read by no slot
 other_byte : (at : Bool) (ss : List NumberSlot) (b : ℕ) (body : List CsiParam) (vs : List ℕ) → (b == 59) ≡ false → ReadsAt at ss (P b ∷ body) vs → ⊥
@@ -65,27 +73,56 @@ byte_read at i ss b tail shape (u ∷ us) vs other h shaped ends e = other_byte 
 byte_read at i ss b tail (s ∷ shape) [] vs other h shaped ends e = cc
 byte_read at i ss b tail [] [] vs other h shaped ends e = grind (arith, other_byte at ss b [] vs, slots-apart [] ss [] [] vs)
 
+-- a field at the front, and what stands behind it
+field_read : (s : NumberSlot) (ss : List NumberSlot) (x : Option ℤ) (o : Option (List (Option ℤ))) (vs : List ℕ) → option_and_then (slot_values (s ∷ ss)) (with_field x o) ≡ Some vs
+    → (is_some (slot_value s x) ≡ true) × ((us : List ℕ) × (option_and_then (slot_values ss) o ≡ Some us))
+field_read s ss x None vs e = cc
+field_read s ss x (Some fs) vs e = (let a = taken s ss x fs vs e in (rw a.value refl, (a.others, a.later)))
+
+field_front : (at : Bool) (i : ℕ) (s : NumberSlot) (ss : List NumberSlot) (x : Option ℤ) (t : CsiParam) (ts : List CsiParam) (vs : List ℕ) → without_intermediate (t ∷ []) ≡ (0, t ∷ [])
+    → ((w : List CsiParam) → fields_of (t ∷ w) ≡ with_field x (fields_at at w)) → (without_intermediate (t ∷ ts)).0 ≡ i → ReadsAt false (s ∷ ss) (without_intermediate (t ∷ ts)).1 vs
+    → ((us : List ℕ) → is_some (slot_value s x) ≡ true → (without_intermediate ts).0 ≡ i → ReadsAt at ss (without_intermediate ts).1 us → ⊥) → ⊥
+field_front at i s ss x t ts vs alone is ends e later =
+    let cut = stays t ts alone in
+    let begun : option_and_then (slot_values (s ∷ ss)) (fields_of (t ∷ (without_intermediate ts).1)) ≡ Some vs = rw cut at e in
+    let r = field_read s ss x (fields_at at (without_intermediate ts).1) vs (rw (is (without_intermediate ts).1) at begun) in later r.1.0 r.0 (rw cut at ends) r.1.1
+
+-- a number that counts is none that the slot hasn't
+counts : (s : NumberSlot) (n : ℕ) (z : ℤ) (ok : Bool) → (not (is_within s n) || ok) ≡ true → is_number n z ≡ true → is_some (slot_value s (Some z)) ≡ true → ok ≡ true
+counts s n (pos m) ok h same some = grind arith
+counts s n (negsuc m) ok h same some = cc
+
 -- a byte at the front: the intermediate byte, or a `;`, behind which these slots read on
 byte_front : (at : Bool) (i : ℕ) (ss : List NumberSlot) (tail : Bool) (shape : List actions.Slot) (b : ℕ) (ts : List CsiParam) (vs : List ℕ) → walk at i ss tail (Byte b ∷ shape) ≡ true
     → has_shape tail shape ts ≡ true → (without_intermediate (P b ∷ ts)).0 ≡ i → ReadsAt at ss (without_intermediate (P b ∷ ts)).1 vs
-    → ((rest : List NumberSlot) (us : List ℕ) → walk false i rest tail shape ≡ true → (without_intermediate ts).0 ≡ i → slot_values rest (without_intermediate ts).1 ≡ Some us → ⊥) → ⊥
+    → ((rest : List NumberSlot) (us : List ℕ) → walk false i rest tail shape ≡ true → (without_intermediate ts).0 ≡ i → ReadsAt false rest (without_intermediate ts).1 us → ⊥) → ⊥
 byte_front true i ss tail shape b ts vs h shaped ends e later = grind (arith, byte_read true i ss b tail shape ts vs, later ss vs)
 byte_front false i [] tail shape b ts vs h shaped ends e later = grind (arith, byte_read false i [] b tail shape ts vs)
-byte_front false i (s ∷ ss) tail shape b ts vs h shaped ends e later = grind (arith, byte_read false i (s ∷ ss) b tail shape ts vs, later ss)
+byte_front false i (s ∷ ss) tail shape b ts vs h shaped ends e later = elim (cases_Bool (b == 59)) [
+  | inl is ↦
+      let same : b ≡ 59 = eqb-true b 59 is in
+      let here : (not (is_some s.missing) || walk false i ss tail shape) ≡ true = rw is at h in
+      field_front false i s ss None (P 59) ts vs refl (λ w. refl) (subst (λ x. (without_intermediate (P x ∷ ts)).0 ≡ i) same ends)
+      (subst (λ x. ReadsAt false (s ∷ ss) (without_intermediate (P x ∷ ts)).1 vs) same e) (λ us some. later ss us (grind arith))
+  | inr other ↦ byte_read false i (s ∷ ss) b tail shape ts vs other (rw other at h) shaped ends e
+]
 
 walk_apart : (at : Bool) (i : ℕ) (ss : List NumberSlot) (tail : Bool) (shape : List actions.Slot) (ts : List CsiParam) (vs : List ℕ) → walk at i ss tail shape ≡ true → has_shape tail shape ts ≡ true
     → (without_intermediate ts).0 ≡ i → ReadsAt at ss (without_intermediate ts).1 vs → ⊥
 walk_apart at i ss tail [] ts vs h shaped ends e = grind (arith, slots-apart [] ss [] [] vs)
 walk_apart at i ss tail (s ∷ shape) [] vs h shaped ends e = cc
-walk_apart false i (s ∷ ss) tail (Number n ∷ shape) (Integer z ∷ ts) vs h shaped ends e = grind (arith, walk_apart true i ss tail shape ts)
-walk_apart false i (s ∷ ss) tail (One k ∷ shape) (Integer z ∷ ts) vs h shaped ends e = grind (arith, walk_apart true i ss tail shape ts)
+walk_apart false i (s ∷ ss) tail (Number n ∷ shape) (Integer z ∷ ts) vs h shaped ends e =
+    let p = and_parts (has_shape tail shape ts) (is_number n z) shaped in
+    field_front true i s ss (Some z) (Integer z) ts vs refl (number_field z) ends e (λ us some closes read. walk_apart true i ss tail shape ts us (counts s n z (walk true i ss tail shape) h p.1 some) p.0 closes read)
+walk_apart false i (s ∷ ss) tail (One k ∷ shape) (Integer z ∷ ts) vs h shaped ends e =
+    let p = and_parts (has_shape tail shape ts) true shaped in field_front true i s ss (Some z) (Integer z) ts vs refl (number_field z) ends e (λ us some closes read. walk_apart true i ss tail shape ts us h p.0 closes read)
 walk_apart at i ss tail (Byte b ∷ shape) (P c ∷ ts) vs h shaped ends e =
     let p = and_parts (has_shape tail shape ts) (c == b) shaped in
     let same : c ≡ b = eqb-true c b p.1 in
     byte_front at i ss tail shape b ts vs h p.0 (subst (λ x. (without_intermediate (P x ∷ ts)).0 ≡ i) same ends) (subst (λ x. ReadsAt at ss (without_intermediate (P x ∷ ts)).1 vs) same e)
     (λ rest us apart ending_is read. walk_apart false i rest tail shape ts us apart p.0 ending_is read)
-walk_apart at i ss tail (Number n ∷ shape) (Integer z ∷ ts) vs h shaped ends e = grind (arith, stays (Integer z) ts refl)
-walk_apart at i ss tail (One k ∷ shape) (Integer z ∷ ts) vs h shaped ends e = grind (arith, stays (Integer z) ts refl)
+walk_apart false i [] tail (Number n ∷ shape) (Integer z ∷ ts) vs h shaped ends e = grind (arith, stays (Integer z) ts refl, number_field z (without_intermediate ts).1)
+walk_apart false i [] tail (One k ∷ shape) (Integer z ∷ ts) vs h shaped ends e = grind (arith, stays (Integer z) ts refl, number_field z (without_intermediate ts).1)
 walk_apart at i ss tail (s ∷ shape) (t ∷ ts) vs h shaped ends e = (let no_it = (and_parts (has_shape tail shape ts) (actions.fits s t) shaped).1 in cc)
 
 -- the same with the marker
@@ -97,7 +134,7 @@ marked : (m b c : ℕ) (ts : List CsiParam) (x y : Bool) → (if is_marker b the
 marked m b c ts x y h same begins = grind arith
 
 marked_read : (m i : ℕ) (ss : List NumberSlot) (tail : Bool) (shape : List actions.Slot) (list : List CsiParam) (vs : List ℕ) → marked_apart m i ss tail shape ≡ true → has_shape tail shape list ≡ true
-    → (without_marker list).0 ≡ m → (without_intermediate (without_marker list).1).0 ≡ i → slot_values ss (without_intermediate (without_marker list).1).1 ≡ Some vs → ⊥
+    → (without_marker list).0 ≡ m → (without_intermediate (without_marker list).1).0 ≡ i → ReadsAt false ss (without_intermediate (without_marker list).1).1 vs → ⊥
 marked_read m i ss true [] list vs h shaped begins ends e = cc
 marked_read m i ss false [] (t ∷ ts) vs h shaped begins ends e = cc
 marked_read m i ss false [] [] vs h shaped begins ends e = walk_apart false i ss false [] [] vs (unmarked m (walk false i ss false []) h begins) refl ends e
@@ -120,6 +157,7 @@ tokens_unread : (q : Row) (rows : List (actions.Row Action)) (list : List CsiPar
 tokens_unread q [] list final vs h e = refl
 tokens_unread q (r ∷ rows) list final vs h e =
     let p = and_parts (row_apart q r) (list_all (row_apart q) rows) h in
+    let reads : ReadsAt false q.slots (without_intermediate (without_marker list).1).1 vs = rw e.are e.values in
     grind (arith, tokens_unread q rows list final vs p.1 e, marked_read q.form.marker q.form.intermediate q.slots r.tail r.shape list vs p.0)
 
 -- ---- the test of a row of actions over fields
@@ -148,53 +186,22 @@ apart_from_fields ss rows = list_all (λ (r : FieldRow Action). fields_apart ss 
 
 -- ---- what it says
 
--- a field, as both read it
-with_some : (x : Option ℤ) (o : Option (List (Option ℤ))) (fs : List (Option ℤ)) → with_field x o ≡ Some fs → (first fs ≡ x) × (o ≡ Some (behind fs))
-with_some x o fs e = grind arith
-
-same_parts : (x number : Option ℤ) (ts rest : List CsiParam) (fs : List (Option ℤ)) → ◌≡◌ {A = Option (Option ℤ × List CsiParam)} (Some (x, ts)) (Some (number, rest)) → with_field x (fields_of ts) ≡ Some fs
-    → (first fs ≡ number) × (fields_of rest ≡ Some (behind fs))
-same_parts x number ts rest fs e f = subst (λ (c : Option ℤ × List CsiParam). (first fs ≡ c.0) × (fields_of c.1 ≡ Some (behind fs))) (same_Some _ _ e) (with_some x (fields_of ts) fs f)
-
-same_field : (list : List CsiParam) (number : Option ℤ) (rest : List CsiParam) (fs : List (Option ℤ)) → split_field list ≡ Some (number, rest) → fields_of list ≡ Some fs
-    → (first fs ≡ number) × (fields_of rest ≡ Some (behind fs))
-same_field [] number rest fs e f = grind arith
-same_field (P b ∷ ts) number rest fs e f = elim (cases_Bool (b == 59)) [
-  | inl is ↦ same_parts None number ts rest fs (rw is at e) (rw is at f)
-  | inr other ↦ (let none : None ≡ Some fs = rw other at f in cc)
-]
-same_field (Integer z ∷ []) number rest fs e f = grind arith
-same_field (Integer z ∷ P b ∷ ts) number rest fs e f = elim (cases_Bool (b == 59)) [
-  | inl is ↦ same_parts (Some z) number ts rest fs (rw is at e) (rw is at f)
-  | inr other ↦ (let none : None ≡ Some fs = rw other at f in cc)
-]
-same_field (Integer z ∷ Integer y ∷ ts) number rest fs e f = cc
-
 field_apart : (s : NumberSlot) (t : fields.Slot) (fs : List (Option ℤ)) (v : ℕ) → field_differs s t ≡ true → slot_value s (first fs) ≡ Some v → fits t fs ≡ true → ⊥
 field_apart s t fs v h e shaped = grind arith
 
-fields_read : (ss : List NumberSlot) (row : List fields.Slot) (list : List CsiParam) (fs : List (Option ℤ)) (vs : List ℕ)
-    → fields_apart ss row ≡ true → slot_values ss list ≡ Some vs → fields_of list ≡ Some fs → have_shape row fs ≡ true
-    → ⊥
-fields_read ss [] list fs vs h e f shaped = cc
-fields_read [] (t ∷ row) [] fs vs h e f shaped = grind (arith, fields_read [] row [] [] [])
-fields_read [] (t ∷ row) (x ∷ list) fs vs h e f shaped = cc
-fields_read (s ∷ ss) (t ∷ row) [] fs vs h e f shaped = grind (arith, fields_read ss row [] [])
-fields_read (s ∷ ss) (t ∷ row) (x ∷ list) fs vs h e f shaped =
-    let a = taken s ss (x ∷ list) vs refl e in
-    let b = same_field (x ∷ list) a.number a.rest fs a.front f in
-    go a.first (subst (λ n. slot_value s n ≡ Some a.first) (sym b.0) a.value) (λ k m. fields_read ss row a.rest (behind fs) a.others k a.later b.1 m) h shaped
-  where
-    go : (v : ℕ) → slot_value s (first fs) ≡ Some v → (fields_apart ss row ≡ true → have_shape row (behind fs) ≡ true → ⊥)
-        → fields_apart (s ∷ ss) (t ∷ row) ≡ true → have_shape (t ∷ row) fs ≡ true → ⊥
-    go v value later h shaped = grind (arith, field_apart s t fs v)
+fields_read : (ss : List NumberSlot) (row : List fields.Slot) (fs : List (Option ℤ)) (vs : List ℕ) → fields_apart ss row ≡ true → slot_values ss fs ≡ Some vs → have_shape row fs ≡ true → ⊥
+fields_read ss [] fs vs h e shaped = cc
+fields_read [] (t ∷ row) [] vs h e shaped = grind (arith, fields_read [] row [] [])
+fields_read [] (t ∷ row) (x ∷ fs) vs h e shaped = cc
+fields_read (s ∷ ss) (t ∷ row) [] vs h e shaped = grind (arith, fields_read ss row [])
+fields_read (s ∷ ss) (t ∷ row) (x ∷ fs) vs h e shaped =
+    let a = taken s ss x fs vs e in grind (arith, field_apart s t (x ∷ fs) a.one, fields_read ss row fs a.others, a.value, a.later)
 
-fields_unread : (ss : List NumberSlot) (rows : List (FieldRow Action)) (list : List CsiParam) (fs : List (Option ℤ)) (vs : List ℕ)
-    → apart_from_fields ss rows ≡ true → slot_values ss list ≡ Some vs → fields_of list ≡ Some fs
+fields_unread : (ss : List NumberSlot) (rows : List (FieldRow Action)) (fs : List (Option ℤ)) (vs : List ℕ) → apart_from_fields ss rows ≡ true → slot_values ss fs ≡ Some vs
     → fields.given rows fs ≡ None
-fields_unread ss [] list fs vs h e f = refl
-fields_unread ss (r ∷ rows) list fs vs h e f =
-    let p = and_parts (fields_apart ss r.slots) (apart_from_fields ss rows) h in grind (arith, fields_unread ss rows list fs vs p.1 e f, fields_read ss r.slots list fs vs p.0 e f)
+fields_unread ss [] fs vs h e = refl
+fields_unread ss (r ∷ rows) fs vs h e =
+    let p = and_parts (fields_apart ss r.slots) (apart_from_fields ss rows) h in grind (arith, fields_unread ss rows fs vs p.1 e, fields_read ss r.slots fs vs p.0 e)
 
 -- ---- the bytes around fields
 
@@ -250,7 +257,8 @@ windows_unread q list final vs r h = nothing_then (fields.given windows) (fields
     go fs here =
         let begins = fields_begin list fs here in
         let closes = fields_end list fs here in
-        fields_unread q.slots windows list fs vs (grind arith) (grind arith) here
+        let same : r.fields ≡ fs = same_Some _ _ (sym r.are ∙ grind (arith, begins, closes, here)) in
+        fields_unread q.slots windows fs vs (grind arith) (subst (λ g. slot_values q.slots g ≡ Some vs) same r.values)
 
 areas_unread : (q : Row) (list : List CsiParam) (final : ℕ) (vs : List ℕ) → HasRead q list final vs → not (q.form.intermediate == 42) ≡ true → read_over (over no_byte (byte "*") "y" areas) list ≡ None
 areas_unread q list final vs r h = rw (is_none (ahead_of_byte (Some 42) list) go) refl

@@ -1,42 +1,51 @@
 -- The table: values as they are written and read, tests of each row and of each two, which are computed, and what they say.
-use Rattle.std.proofs.Common.{◌≡◌, ℕ, List, [], ◌∷◌, ◌++◌, Option, Some, refl, ap, arith, append-nil, append_assoc, ◌<◌, ◌≤◌, ◌+◌, ◌*◌, zero, suc, None, length, drop, get_or, sym, ◌∙◌, inl, inr, pos, subst, add-one, drop-cons}
-use Rattle.std.proofs.{lemmas.Bool.and_parts, lemmas.Bool.cases_Bool, lemmas.Int.ints, lemmas.List.drop_all, lemmas.Option.same_Some}
-use Rattle.std.specs.Prelude.{ℤ, true, false, ◌==◌, if◌then◌else◌, encode_utf8, nat_lt, ◌&&◌, ◌||◌, Bool, not, is_some, slice_get}
+use Rattle.std.proofs.Common.{◌≡◌, ℕ, List, [], ◌∷◌, ◌++◌, Option, Some, refl, ap, arith, append-nil, append_assoc, ◌<◌, ◌≤◌, ◌+◌, ◌*◌, zero, suc, None, length, drop, get_or, sym, ◌∙◌, inl, inr, pos, add-one, drop-cons}
+use Rattle.std.proofs.{lemmas.Bool.and_parts, lemmas.Bool.cases_Bool, lemmas.Bool.eqb-true, lemmas.Int.ints, lemmas.List.drop_all, lemmas.Option.same_Some}
+use Rattle.std.proofs.{lemmas.Option.option_and_then_some}
+use Rattle.csicodec_actions.proofs.{AllFieldRows.first-append, AllRows.AreApart, AllRows.all_apart, AllRows.picked, Found.guarded}
+use Rattle.std.specs.Prelude.{ℤ, true, false, ◌==◌, if◌then◌else◌, encode_utf8, nat_lt, ◌&&◌, ◌||◌, Bool, not, is_some, slice_get, map}
 use Rattle.std.specs.{List.list_all, Option.option_map, Option.option_or}
 use Rattle.csicodec_tokens.specs.{declared.param.CsiParam.CsiParam, declared.param.CsiParam.TheVariants.Integer, declared.param.CsiParam.TheVariants.P}
-use Rattle.csicodec_tokens.specs.{Param.spells, Sequence.Apart, Sequence.IsFinal, Sequence.IsSpellable, Sequence.Spellable}
-use Rattle.csicodec_sequences.specs.Parts.{is_intermediate, is_marker, parts_of, split_field, with_front, without_intermediate, without_marker}
-use Rattle.csicodec_sequences.specs.Rows.{Row, are_missing_within, behind_text, byte_text, byte_tokens, each_behind, fit, form_text, has_its_bytes, is_row, joined, numbers_text, read_row, row_list, slot_value, slot_values, stops, is_within}
-use Rattle.csicodec_sequences.specs.Known.{dec_rows, first_reading, other_rows, reading, report_rows, rows_of, table}
+use Rattle.csicodec_tokens.specs.{Fields.fields_of, Fields.with_field, Param.spells, Sequence.Apart, Sequence.IsFinal, Sequence.IsSpellable, Sequence.Spellable}
+use Rattle.csicodec_actions.specs.FieldRows.{behind, first}
+use Rattle.csicodec_sequences.specs.Parts.{is_intermediate, is_marker, parts_of, with_front, without_intermediate, without_marker}
+use Rattle.csicodec_sequences.specs.Rows.{Row, are_missing_within, behind_text, byte_text, byte_tokens, each_behind, fit, form_text, has_bytes, has_its_bytes, is_final, is_row, joined, numbers_text, read_row, row_list, slot_value, slot_values, is_within}
+use Rattle.csicodec_sequences.specs.Known.{dec_rows, first_reading, gives, other_rows, reading, report_rows, rows_of, table}
 use Rattle.csicodec_sequences.specs.{declared.row.NumberSlot.NumberSlot, declared.row.SequenceForm.SequenceForm}
 
 -- ---- slots
 
--- a first value, of what is read of a slot and those behind it
-pub record Taken (s : NumberSlot) (ss : List NumberSlot) (list : List CsiParam) (vs : List ℕ) : Type 0 where
-  pub number : Option ℤ
-  pub rest : List CsiParam
-  pub front : split_field list ≡ Some (number, rest)
-  pub first : ℕ
+-- a first value, and those behind it
+pub record Taken (s : NumberSlot) (ss : List NumberSlot) (fs : List (Option ℤ)) (vs : List ℕ) : Type 0 where
+  pub one : ℕ
   pub others : List ℕ
-  pub value : slot_value s number ≡ Some first
-  pub later : slot_values ss rest ≡ Some others
-  pub all : first ∷ others ≡ vs
+  pub value : slot_value s (first fs) ≡ Some one
+  pub later : slot_values ss (behind fs) ≡ Some others
+  pub all : one ∷ others ≡ vs
 
--- where the list doesn't end ahead of the slot
-pub taken : (s : NumberSlot) (ss : List NumberSlot) (list : List CsiParam) (vs : List ℕ) → stops s list ≡ false → slot_values (s ∷ ss) list ≡ Some vs → Taken s ss list vs
-taken s ss list vs on e = grind arith
+-- where a field stands
+pub taken : (s : NumberSlot) (ss : List NumberSlot) (f : Option ℤ) (fs : List (Option ℤ)) (vs : List ℕ) → slot_values (s ∷ ss) (f ∷ fs) ≡ Some vs → Taken s ss (f ∷ fs) vs
+taken s ss f fs vs e = grind arith
+
+-- the fields of numbers
+abbrev number_fields : List ℕ → List (Option ℤ)
+number_fields vs = map (λ v. Some (pos v)) vs
+
+joined_fields : (vs : List ℕ) → fields_of (joined vs) ≡ Some (number_fields vs)
+joined_fields [] = refl
+joined_fields (v ∷ []) = refl
+joined_fields (v ∷ w ∷ vs) = ap (with_field (Some (pos v))) (joined_fields (w ∷ vs))
 
 -- what fits is read back
-fit_read : (ss : List NumberSlot) (vs : List ℕ) → fit ss vs ≡ true → slot_values ss (joined vs) ≡ Some vs
+fit_read : (ss : List NumberSlot) (vs : List ℕ) → fit ss vs ≡ true → slot_values ss (number_fields vs) ≡ Some vs
 fit_read [] vs h = grind arith
 fit_read (s ∷ ss) [] h = grind arith
 fit_read (s ∷ ss) (v ∷ vs) h = grind (arith, fit_read ss vs)
 
 -- what is read fits
-read_fit : (ss : List NumberSlot) (list : List CsiParam) (vs : List ℕ) → slot_values ss list ≡ Some vs → are_missing_within ss ≡ true → fit ss vs ≡ true
-read_fit [] list vs e h = grind arith
-read_fit (s ∷ ss) list vs e h = grind (arith, read_fit ss)
+read_fit : (ss : List NumberSlot) (fs : List (Option ℤ)) (vs : List ℕ) → slot_values ss fs ≡ Some vs → are_missing_within ss ≡ true → fit ss vs ≡ true
+read_fit [] fs vs e h = grind arith
+read_fit (s ∷ ss) fs vs e h = grind (arith, read_fit ss)
 
 -- ---- the bytes around them
 
@@ -77,15 +86,32 @@ kept-number list front t z parts is = rw (parts, is, cut_end front (Integer z)) 
 
 -- ---- rows
 
+-- what reads has the final, the bytes and the values
+pub record HasRead (r : Row) (list : List CsiParam) (final : ℕ) (vs : List ℕ) : Type 0 where
+  pub control : final ≡ r.form.control
+  pub marker : (parts_of list).marker ≡ r.form.marker
+  pub intermediate : (parts_of list).intermediate ≡ r.form.intermediate
+  pub fields : List (Option ℤ)
+  pub are : fields_of (parts_of list).body ≡ Some fields
+  pub values : slot_values r.slots fields ≡ Some vs
+
+pub has_read : (r : Row) (list : List CsiParam) (final : ℕ) (vs : List ℕ) → read_row r list final ≡ Some vs → HasRead r list final vs
+has_read r list final vs e =
+    let g = guarded (final == r.form.control) _ vs e in
+    let p = guarded (has_bytes r (parts_of list)) _ vs g.1 in
+    let b = and_parts ((parts_of list).marker == r.form.marker) ((parts_of list).intermediate == r.form.intermediate) p.0 in
+    option_and_then_some (slot_values r.slots) (fields_of (parts_of list).body) vs p.1
+    (λ fs are is. record { control = eqb-true _ _ g.0; marker = eqb-true _ _ b.0; intermediate = eqb-true _ _ b.1; fields = fs; are = are; values = is })
+
 pub read_fits : (row : Row) (list : List CsiParam) (final : ℕ) (values : List ℕ) → is_row row ≡ true → read_row row list final ≡ Some values → fit row.slots values ≡ true
-read_fits row list final values h e = grind (arith, read_fit row.slots (parts_of list).body values)
+read_fits row list final values h e = (let r = has_read row list final values e in read_fit row.slots r.fields values r.values (and_parts (is_final row.form.control) _ (and_parts (has_its_bytes row) _ h).1).1)
 
 pub fits_read : (row : Row) (values : List ℕ) → is_row row ≡ true → fit row.slots values ≡ true → read_row row (row_list row values) row.form.control ≡ Some values
-fits_read row values h f = of_parts (row_list row values) (grind (arith, parts_are row values)) (fit_read row.slots values f)
+fits_read row values h f = of_parts (row_list row values) (grind (arith, parts_are row values)) (joined_fields values) (fit_read row.slots values f)
   where
     of_parts : (list : List CsiParam) → parts_of list ≡ record { marker = row.form.marker; body = joined values; intermediate = row.form.intermediate }
-        → slot_values row.slots (joined values) ≡ Some values → read_row row list row.form.control ≡ Some values
-    of_parts list p e = grind arith
+        → fields_of (joined values) ≡ Some (number_fields values) → slot_values row.slots (number_fields values) ≡ Some values → read_row row list row.form.control ≡ Some values
+    of_parts list p g e = grind arith
 
 -- ---- the text
 
@@ -133,7 +159,7 @@ slots_apart (s ∷ ss) (t ∷ ts) = differ s t || (not s.optional && (not t.opti
 differ_values : (s t : NumberSlot) (o : Option ℤ) (v w : ℕ) → differ s t ≡ true → slot_value s o ≡ Some v → slot_value t o ≡ Some w → ⊥
 differ_values s t o v w h e f = grind arith
 
--- two slots and those behind them: at the end of a list, and at the same field
+-- two slots and those behind them: at the end of the fields, and at a field
 ended_apart : (s t : NumberSlot) (ss ts : List NumberSlot) (vs ws : List ℕ) → ((us xs : List ℕ) → slot_values ss [] ≡ Some us → slot_values ts [] ≡ Some xs → slots_apart ss ts ≡ true → ⊥)
     → slots_apart (s ∷ ss) (t ∷ ts) ≡ true → slot_values (s ∷ ss) [] ≡ Some vs → slot_values (t ∷ ts) [] ≡ Some ws → ⊥
 ended_apart s t ss ts vs ws later h e f = grind arith
@@ -146,38 +172,26 @@ none_apart : (t : NumberSlot) (ts : List NumberSlot) (ws : List ℕ) (other : Bo
     → slot_values (t ∷ ts) [] ≡ Some ws → ⊥
 none_apart t ts ws other later h f = grind arith
 
-pub slots-apart : (ss ts : List NumberSlot) (list : List CsiParam) (vs ws : List ℕ) → slots_apart ss ts ≡ true → slot_values ss list ≡ Some vs → slot_values ts list ≡ Some ws → ⊥
-slots-apart [] [] list vs ws h e f = cc
+pub slots-apart : (ss ts : List NumberSlot) (fs : List (Option ℤ)) (vs ws : List ℕ) → slots_apart ss ts ≡ true → slot_values ss fs ≡ Some vs → slot_values ts fs ≡ Some ws → ⊥
+slots-apart [] [] fs vs ws h e f = cc
 slots-apart [] (t ∷ ts) [] vs ws h e f = none_apart t ts ws (slots_apart [] ts) (λ us g k. slots-apart [] ts [] [] us k refl g) h f
-slots-apart [] (t ∷ ts) (x ∷ list) vs ws h e f = cc
+slots-apart [] (t ∷ ts) (x ∷ fs) vs ws h e f = cc
 slots-apart (s ∷ ss) [] [] vs ws h e f = none_apart s ss vs (slots_apart ss []) (λ us g k. slots-apart ss [] [] us [] k g refl) h e
-slots-apart (s ∷ ss) [] (x ∷ list) vs ws h e f = cc
+slots-apart (s ∷ ss) [] (x ∷ fs) vs ws h e f = cc
 slots-apart (s ∷ ss) (t ∷ ts) [] vs ws h e f = ended_apart s t ss ts vs ws (λ us xs g k m. slots-apart ss ts [] us xs m g k) h e f
-slots-apart (s ∷ ss) (t ∷ ts) (x ∷ list) vs ws h e f =
-    let a = taken s ss (x ∷ list) vs refl e in
-    let b = taken t ts (x ∷ list) ws refl f in
-    let same = sym (same_Some _ _ (sym a.front ∙ b.front)) in
-    field_apart s t ss ts a.number a.first b.first (λ k. slots-apart ss ts a.rest a.others b.others k a.later (subst (λ (g : Option ℤ × List CsiParam). slot_values ts g.1 ≡ Some b.others) same b.later)) h a.value
-    (subst (λ (g : Option ℤ × List CsiParam). slot_value t g.0 ≡ Some b.first) same b.value)
+slots-apart (s ∷ ss) (t ∷ ts) (x ∷ fs) vs ws h e f =
+    let a = taken s ss x fs vs e in
+    let b = taken t ts x fs ws f in field_apart s t ss ts x a.one b.one (λ k. slots-apart ss ts fs a.others b.others k a.later b.later) h a.value b.value
 
 -- ---- rows
-
--- what reads has the final, the bytes and the values
-pub record HasRead (r : Row) (list : List CsiParam) (final : ℕ) (vs : List ℕ) : Type 0 where
-  pub control : final ≡ r.form.control
-  pub marker : (parts_of list).marker ≡ r.form.marker
-  pub intermediate : (parts_of list).intermediate ≡ r.form.intermediate
-  pub values : slot_values r.slots (parts_of list).body ≡ Some vs
-
-pub has_read : (r : Row) (list : List CsiParam) (final : ℕ) (vs : List ℕ) → read_row r list final ≡ Some vs → HasRead r list final vs
-has_read r list final vs e = grind arith
 
 abbrev rows_apart : Row → Row → Bool
 rows_apart q r =
     not (q.form.control == r.form.control) || (not (q.form.marker == r.form.marker) || (not (q.form.intermediate == r.form.intermediate) || slots_apart q.slots r.slots))
 
 apart_rows : (q r : Row) (list : List CsiParam) (final : ℕ) (vs ws : List ℕ) → HasRead q list final vs → HasRead r list final ws → rows_apart q r ≡ true → ⊥
-apart_rows q r list final vs ws a b h = grind (arith, slots-apart q.slots r.slots (parts_of list).body vs ws)
+apart_rows q r list final vs ws a b h =
+    let same : a.fields ≡ b.fields = same_Some _ _ (sym a.are ∙ b.are) in grind (arith, slots-apart q.slots r.slots a.fields vs ws, b.values)
 
 -- ---- tests of each row, and of each two
 
@@ -222,7 +236,7 @@ own_kinds : two kinds_apart table ≡ true
 unfolding rows_of table
 own_kinds = refl
 
-are_apart : two rows_apart table ≡ true
+are_apart : all_apart rows_apart table ≡ true
 unfolding rows_of table
 are_apart = refl
 
@@ -233,13 +247,6 @@ above i q at = (let h : good q ≡ true = row_at good table i q are_good at in g
 
 pub one : (i j : ℕ) (q r : Row) → slice_get table i ≡ Some q → slice_get table j ≡ Some r → q.form.kind ≡ r.form.kind → i ≡ j
 one i j q r at to same = one_place kinds_apart table i j q r own_kinds at to (λ h. grind arith) (λ h. grind arith)
-
-pub one_row : (list : List CsiParam) (final i j : ℕ) (q r : Row) (v w : List ℕ) → slice_get table i ≡ Some q → slice_get table j ≡ Some r
-    → read_row q list final ≡ Some v → read_row r list final ≡ Some w → i ≡ j
-one_row list final i j q r v w at to e f =
-    let a = has_read q list final v e in
-    let b = has_read r list final w f in
-    one_place rows_apart table i j q r are_apart at to (apart_rows q r list final v w a b) (apart_rows r q list final w v b a)
 
 -- ---- the first row that reads
 
@@ -262,46 +269,45 @@ pub none_left : (forms : List SequenceForm) (others : List (List NumberSlot)) (k
 unfolding rows_of
 none_left forms others k params control h = rw (drop_all k forms h)
 
--- the first row of several tables
-first_append : (xs ys : List Row) (params : List CsiParam) (control : ℕ) → first_reading (xs ++ ys) params control ≡ option_or (first_reading xs params control) (first_reading ys params control)
-first_append [] ys params control = refl
-first_append (r ∷ xs) ys params control = grind (arith, first_append xs ys params control)
-
 reading_table : (params : List CsiParam) (control : ℕ) → reading params control ≡ first_reading table params control
 unfolding table
 reading_table params control =
-    sym
-    (first_append dec_rows (other_rows ++ report_rows) params control
-    ∙ ap (option_or (first_reading dec_rows params control)) (first_append other_rows report_rows params control))
+    sym (first-append (gives params control) dec_rows (other_rows ++ report_rows) ∙ ap (option_or (first_reading dec_rows params control)) (first-append (gives params control) other_rows report_rows))
 
-passed : (q : Row) (rows : List Row) (params : List CsiParam) (control : ℕ) (known : SequenceForm × List ℕ) → ((us : List ℕ) → read_row q params control ≡ Some us → ⊥)
-    → first_reading rows params control ≡ Some known → first_reading (q ∷ rows) params control ≡ Some known
-passed q rows params control known h e = grind arith
+-- no two rows that are apart read one list, so any row that reads decides
+mapped : {A B : Type 0} (f : A → B) (o : Option A) (b : B) → option_map f o ≡ Some b → is_some o ≡ true
+mapped f None b e = cc
+mapped f (Some a) b e = refl
 
--- any row that reads decides
-decides : (rows : List Row) (i : ℕ) (r : Row) (params : List CsiParam) (control : ℕ) (vs : List ℕ) → two rows_apart rows ≡ true → slice_get rows i ≡ Some r → read_row r params control ≡ Some vs
-    → first_reading rows params control ≡ Some (r.form, vs)
-decides [] i r params control vs h at e = cc
-decides (q ∷ rows) zero r params control vs h at e = rw (same_Some q r at, e) refl
-decides (q ∷ rows) (suc i) r params control vs h at e =
-    let p = and_parts (list_all (rows_apart q) rows) (two rows_apart rows) h in
-    passed q rows params control (r.form, vs)
-    (λ us f. apart_rows q r params control us vs (has_read q params control us f) (has_read r params control vs e) (row_at (rows_apart q) rows i r p.0 at))
-    (decides rows i r params control vs p.1 at e)
+one_reads : (q r : Row) (params : List CsiParam) (control : ℕ) (o p : Option (List ℕ)) → rows_apart q r ≡ true → read_row q params control ≡ o → read_row r params control ≡ p → is_some o ≡ true → is_some p ≡ true → ⊥
+one_reads q r params control (Some vs) (Some ws) h e f is also = apart_rows q r params control vs ws (has_read q params control vs e) (has_read r params control ws f) h
+one_reads q r params control _ _ h e f is also = cc
+
+rows-are-apart : (params : List CsiParam) (control : ℕ) → AreApart rows_apart (λ (r : Row). is_some (read_row r params control)) (gives params control)
+rows-are-apart params control = record { gave = λ r known e. mapped _ _ known e; one = λ q r h e f. one_reads q r params control _ _ h refl refl e f }
 
 pub any_row : (i : ℕ) (r : Row) (params : List CsiParam) (control : ℕ) (vs : List ℕ) → slice_get table i ≡ Some r → read_row r params control ≡ Some vs → reading params control ≡ Some (r.form, vs)
-any_row i r params control vs at e = reading_table params control ∙ decides table i r params control vs are_apart at e
+any_row i r params control vs at e =
+    reading_table params control ∙ picked rows_apart _ _ (rows-are-apart params control) table i r (r.form, vs) are_apart at (ap (option_map (λ values. (r.form, values))) e)
+
+pub one_row : (list : List CsiParam) (final i j : ℕ) (q r : Row) (v w : List ℕ) → slice_get table i ≡ Some q → slice_get table j ≡ Some r
+    → read_row q list final ≡ Some v → read_row r list final ≡ Some w → i ≡ j
+one_row list final i j q r v w at to e f =
+    one i j q r at to (ap (λ (k : SequenceForm × List ℕ). k.0.kind) (same_Some _ _ (sym (any_row i q list final v at e) ∙ any_row j r list final w to f)))
 
 -- ---- how long a list is
 
-field_length : (list : List CsiParam) (number : Option ℤ) (rest : List CsiParam) → split_field list ≡ Some (number, rest) → length list ≤ length rest + 2
-field_length list number rest e = grind arith
+fields_length : (list : List CsiParam) (fs : List (Option ℤ)) → fields_of list ≡ Some fs → length list ≤ 2 * length fs
+fields_length [] fs e = omega arith
+fields_length (P b ∷ ts) fs e = grind (arith, fields_length ts)
+fields_length (Integer z ∷ []) fs e = grind arith
+fields_length (Integer z ∷ P b ∷ ts) fs e = grind (arith, fields_length ts)
+fields_length (Integer z ∷ Integer y ∷ ts) fs e = grind (arith, fields_length (Integer y ∷ ts))
 
-slots_length : (ss : List NumberSlot) (list : List CsiParam) (vs : List ℕ) → slot_values ss list ≡ Some vs → length list ≤ 2 * length ss
-slots_length [] list vs e = grind arith
+slots_length : (ss : List NumberSlot) (fs : List (Option ℤ)) (vs : List ℕ) → slot_values ss fs ≡ Some vs → length fs ≤ length ss
+slots_length [] fs vs e = grind arith
 slots_length (s ∷ ss) [] vs e = omega arith
-slots_length (s ∷ ss) (t ∷ ts) vs e =
-    let x = taken s ss (t ∷ ts) vs refl e in omega (arith, field_length (t ∷ ts) x.number x.rest x.front, slots_length ss x.rest x.others x.later)
+slots_length (s ∷ ss) (f ∷ fs) vs e = (let x = taken s ss f fs vs e in omega (arith, slots_length ss fs x.others x.later))
 
 marker_length : (list : List CsiParam) → length list ≤ length (without_marker list).1 + 1
 marker_length list = grind arith
@@ -314,7 +320,7 @@ intermediate_length (t ∷ u ∷ ts) = omega (arith, intermediate_length (u ∷ 
 row_length : (r : Row) (list : List CsiParam) (final : ℕ) (vs : List ℕ) → good r ≡ true → HasRead r list final vs → length list ≤ 26
 row_length r list final vs h e =
     let few : length r.slots < 13 = grind arith in
-    omega (arith, slots_length r.slots (parts_of list).body vs e.values, marker_length list, intermediate_length (without_marker list).1, few)
+    omega (arith, slots_length r.slots e.fields vs e.values, fields_length (parts_of list).body e.fields e.are, marker_length list, intermediate_length (without_marker list).1, few)
 
 first_length : (rows : List Row) (list : List CsiParam) (final : ℕ) (known : SequenceForm × List ℕ) → list_all good rows ≡ true → first_reading rows list final ≡ Some known → length list ≤ 26
 first_length [] list final known h e = cc

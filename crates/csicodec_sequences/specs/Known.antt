@@ -1,10 +1,11 @@
 -- The table, and which of its rows reads a list.
-use Rattle.std.specs.{Prelude.◌++◌, Prelude.ℕ, Prelude.List, Prelude.[], Prelude.◌∷◌, Prelude.Option, Prelude.None, Option.option_map, Option.option_or}
+use Rattle.std.specs.{Prelude.◌++◌, Prelude.ℕ, Prelude.List, Prelude.[], Prelude.◌∷◌, Prelude.Option, Option.option_map, Option.option_or}
 use Rattle.csicodec_tokens.specs.declared.param.CsiParam.{CsiParam}
 use Rattle.csicodec_sequences.specs.{declared.row.SequenceForm.SequenceForm, declared.row.NumberSlot.NumberSlot, declared.rows.dec.TheConstants.DEC_FORMS}
 use Rattle.csicodec_sequences.specs.{declared.rows.dec.TheConstants.DEC_SLOTS, declared.rows.others.TheConstants.OTHER_FORMS}
 use Rattle.csicodec_sequences.specs.{declared.rows.others.TheConstants.OTHER_SLOTS, declared.rows.reports.TheConstants.REPORT_FORMS}
 use Rattle.csicodec_sequences.specs.{declared.rows.reports.TheConstants.REPORT_SLOTS, Rows.Row, Rows.read_row}
+use Rattle.csicodec_actions.specs.Rows.{first_of}
 use Rattle.csicodec_sequences.specs.declared.known.KnownSequence as known_type
 
 -- a row of each form and its slots
@@ -27,12 +28,13 @@ report_rows = rows_of REPORT_FORMS REPORT_SLOTS
 unfoldable pub table : List Row
 table = dec_rows ++ (other_rows ++ report_rows)
 
--- the form and the values of the first row that reads the list
+-- the form of a row and the values that it reads
+abbrev pub gives : List CsiParam → ℕ → Row → Option (SequenceForm × List ℕ)
+gives list final r = option_map (λ values. (r.form, values)) (read_row r list final)
+
+-- those of the first row that reads the list
 abbrev pub first_reading : List Row → List CsiParam → ℕ → Option (SequenceForm × List ℕ)
-first_reading [] list final = None
-first_reading (r ∷ rows) list final = option_or
-    (option_map (λ values. (r.form, values)) (read_row r list final))
-    (first_reading rows list final)
+first_reading rows list final = first_of (gives list final) rows
 
 -- the same of all rows; the order doesn't matter (law `any_row`)
 abbrev pub reading : List CsiParam → ℕ → Option (SequenceForm × List ℕ)

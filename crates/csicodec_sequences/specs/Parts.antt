@@ -1,6 +1,5 @@
 -- The parts of a parameter list: the byte at its front that makes it private, what stands between, and its intermediate byte (ECMA-48, 5.4).
-use Rattle.std.specs.Prelude.{ℕ, ℤ, nat_lt, not, ◌==◌, ◌&&◌, Bool, List, [], ◌∷◌, Option, Some, None, if◌then◌else◌}
-use Rattle.std.specs.Option.{option_map}
+use Rattle.std.specs.Prelude.{ℕ, nat_lt, not, ◌&&◌, Bool, List, [], ◌∷◌, if◌then◌else◌}
 use Rattle.csicodec_tokens.specs.{declared.param.CsiParam.CsiParam, declared.param.CsiParam.TheVariants.Integer, declared.param.CsiParam.TheVariants.P}
 
 -- one of `<` `=` `>` `?`
@@ -40,17 +39,3 @@ parts_of list =
       body = (without_intermediate (without_marker list).1).1;
       intermediate = (without_intermediate (without_marker list).1).0;
     }
-
--- ---- fields
-
--- what stands behind the `;` behind a number, and nothing at the end
-abbrev pub behind_separator : List CsiParam → Option (List CsiParam)
-behind_separator [] = Some []
-behind_separator (Integer z ∷ ts) = None
-behind_separator (P b ∷ ts) = if b == 59 then Some ts else None
-
--- the number of the field at the front, none where it is empty or missing, and what stands behind it
-abbrev pub split_field : List CsiParam → Option (Option ℤ × List CsiParam)
-split_field [] = Some (None, [])
-split_field (P b ∷ ts) = if b == 59 then Some (None, ts) else None
-split_field (Integer z ∷ ts) = option_map (λ rest. (Some z, rest)) (behind_separator ts)

@@ -2,8 +2,10 @@
 use Rattle.std.specs.Prelude.{ℕ, ℤ, pos, negsuc, nat_lt, not, ◌==◌, ◌&&◌, Bool, true, false, List, [], ◌∷◌, ◌++◌, Option, Some, None, if◌then◌else◌, option_and_then, encode_utf8}
 use Rattle.std.specs.{Fmt.decimal, List.flat_map, Option.option_map}
 use Rattle.csicodec_tokens.specs.{declared.param.CsiParam.CsiParam, declared.param.CsiParam.TheVariants.Integer, declared.param.CsiParam.TheVariants.P}
+use Rattle.csicodec_tokens.specs.{Fields.fields_of}
 use Rattle.csicodec_sequences.specs.{declared.row.SequenceForm.SequenceForm, declared.row.NumberSlot.NumberSlot, Parts.Parts, Parts.is_intermediate}
-use Rattle.csicodec_sequences.specs.{Parts.is_marker, Parts.parts_of, Parts.split_field}
+use Rattle.csicodec_sequences.specs.{Parts.is_marker, Parts.parts_of}
+use Rattle.csicodec_actions.specs.FieldRows.{behind, first, is_there}
 
 -- a row: the bytes around its numbers, and which numbers it has
 pub record Row : Type 0 where
@@ -35,24 +37,13 @@ fit (s ∷ ss) (v ∷ vs) = is_within s v && fit ss vs
 
 -- ---- reading
 
--- nothing is left
-abbrev pub ended : List CsiParam → Option (List ℕ)
-ended [] = Some []
-ended (t ∷ ts) = None
-
--- the list ends ahead of the slot, as it may
-abbrev pub stops : NumberSlot → List CsiParam → Bool
-stops s [] = s.optional
-stops s (t ∷ ts) = false
-
--- the values of fields, one for each slot, and nothing behind them
-abbrev pub slot_values : List NumberSlot → List CsiParam → Option (List ℕ)
-slot_values [] list = ended list
-slot_values (s ∷ ss) list =
-    if stops s list then Some []
-    else option_and_then
-    (λ f. option_and_then (λ v. option_map (λ vs. v ∷ vs) (slot_values ss f.1))
-    (slot_value s f.0)) (split_field list)
+-- the values of fields, one for each slot, and nothing behind them; they may end ahead of a slot that is optional
+abbrev pub slot_values : List NumberSlot → List (Option ℤ) → Option (List ℕ)
+slot_values [] fs = if is_there fs then None else Some []
+slot_values (s ∷ ss) fs =
+    if s.optional && not (is_there fs) then Some []
+    else option_and_then (λ v. option_map (λ vs. v ∷ vs) (slot_values ss (behind fs)))
+    (slot_value s (first fs))
 
 -- the parts have the bytes of the row
 abbrev pub has_bytes : Row → Parts → Bool
@@ -63,7 +54,7 @@ has_bytes row parts =
 abbrev pub read_row : Row → List CsiParam → ℕ → Option (List ℕ)
 read_row row list final =
     if final == row.form.control then
-    (if has_bytes row (parts_of list) then slot_values row.slots (parts_of list).body
+    (if has_bytes row (parts_of list) then option_and_then (slot_values row.slots) (fields_of (parts_of list).body)
     else None) else None
 
 -- ---- writing

@@ -11,14 +11,6 @@ use csicodec_base::CsiParam;
 use csicodec_parser::Unspecified;
 use std::fmt;
 
-/// The file of rows that a row stands in.
-#[derive(Clone, Copy)]
-enum Table {
-    Dec,
-    Others,
-    Reports,
-}
-
 /// A control sequence that has no action, by its row of the table and its values. It prints its numbers and its final
 /// character, without `ESC [`: each number that was left out with its value, so that what it prints is read as the same
 /// values of the same row.
@@ -31,8 +23,7 @@ enum Table {
 #[derive(Drop)]
 pub struct KnownSequence {
     form: SequenceForm,
-    table: Table,
-    index: usize,
+    texts: Option<&'static [&'static str; 4]>,
     values: SlotValues,
 }
 
@@ -50,35 +41,24 @@ impl KnownSequence {
     pub fn read(params: &[CsiParam], control: char) -> Option<KnownSequence>
         ensures { option_map reading_of result ≡ reading params.now control }
     {
-        if let Some(known) = first_known(Table::Dec, &DEC_FORMS, &DEC_SLOTS, params, control) {
+        if let Some(known) = first_known(&DEC_FORMS, &DEC_SLOTS, &DEC_TEXTS, params, control) {
             return Some(known);
         }
         if let Some(known) = first_known(
-            Table::Others,
             &OTHER_FORMS,
             &OTHER_SLOTS,
+            &OTHER_TEXTS,
             params,
             control,
         ) {
             return Some(known);
         }
-        first_known(
-            Table::Reports,
-            &REPORT_FORMS,
-            &REPORT_SLOTS,
-            params,
-            control,
-        )
+        first_known(&REPORT_FORMS, &REPORT_SLOTS, &REPORT_TEXTS, params, control)
     }
 
     /// What is said of the row: its name, its meaning, its source, and the names of its numbers.
     fn texts(&self) -> [&'static str; 4] {
-        let texts: &[[&str; 4]] = match self.table {
-            Table::Dec => &DEC_TEXTS,
-            Table::Others => &OTHER_TEXTS,
-            Table::Reports => &REPORT_TEXTS,
-        };
-        texts.get(self.index).copied().unwrap_or([""; 4])
+        self.texts.copied().unwrap_or([""; 4])
     }
 
     /// The form.
@@ -125,11 +105,11 @@ impl KnownSequence {
     }
 }
 
-/// The values of a list by the first row of a table that reads it; these are the table's forms and slots.
+/// The values of a list by the first row of a table that reads it; these are the table's forms and slots, and what is said of each.
 fn first_known(
-    table: Table,
     forms: &[SequenceForm],
     slots: &[[NumberSlot; MOST]],
+    texts: &'static [[&'static str; 4]],
     params: &[CsiParam],
     control: char,
 ) -> Option<KnownSequence>
@@ -142,8 +122,7 @@ fn first_known(
         if let Some(values) = form.read(&slots[index], params, control) {
             return Some(KnownSequence {
                 form,
-                table,
-                index,
+                texts: texts.get(index),
                 values,
             });
         }

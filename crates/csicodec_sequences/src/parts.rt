@@ -1,6 +1,6 @@
 //! The parts of a parameter list: the byte at its front that makes it private, its fields, and its intermediate byte.
-ghost use Rattle.std.specs.{Prelude.◌≡◌, Option.option_map};
-ghost use Rattle.csicodec_sequences.specs.Parts.{behind_separator, is_intermediate, parts_of, split_field, without_intermediate, without_marker};
+ghost use Rattle.std.specs.Prelude.{◌≡◌};
+ghost use Rattle.csicodec_sequences.specs.Parts.{is_intermediate, parts_of, without_intermediate, without_marker};
 
 use csicodec_base::CsiParam;
 
@@ -66,29 +66,4 @@ fn is_between(byte: u8) -> bool
     ensures { result ≡ is_intermediate byte }
 {
     matches!(byte, b' '..=b'/')
-}
-
-/// The number of the field at the front, none where it is empty, and what stands behind the field and its `;`. None where other
-/// tokens stand there.
-pub(crate) fn next_field(tokens: &[CsiParam]) -> Option<(Option<i64>, &[CsiParam])>
-    ensures { option_map (λ f. (f.0, f.1.now)) result ≡ split_field tokens.now }
-{
-    match tokens {
-        [] => Some((None, tokens)),
-        [CsiParam::P(byte), others @ ..] => (*byte == b';').then_some((None, others)),
-        [CsiParam::Integer(number), others @ ..] => {
-            Some((Some(*number), behind_number(others)?))
-        }
-    }
-}
-
-/// What stands behind the `;` behind a number, or nothing at the end. None where other tokens stand there.
-fn behind_number(tokens: &[CsiParam]) -> Option<&[CsiParam]>
-    ensures { option_map (λ rest. rest.now) result ≡ behind_separator tokens.now }
-{
-    match tokens {
-        [] => Some(tokens),
-        [CsiParam::P(byte), others @ ..] => (*byte == b';').then_some(others),
-        [CsiParam::Integer(_), ..] => None,
-    }
 }

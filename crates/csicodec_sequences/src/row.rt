@@ -1,9 +1,10 @@
 //! A row of the table: the form of a control sequence, with the numbers that it has, and what is said of it.
 ghost use Rattle.std.specs.{Prelude.◌≡◌, Prelude.◌≤◌, Prelude.length, Option.option_map};
-ghost use Rattle.csicodec_sequences.specs.Rows.{counted, read_row, slot_value, slot_values, stops};
+ghost use Rattle.csicodec_sequences.specs.Rows.{counted, read_row, slot_value, slot_values};
 
-use crate::parts::{Parts, next_field};
+use crate::parts::Parts;
 use arrayvec::ArrayVec;
+use csicodec_actions::fields::{Fields, fields_in};
 use csicodec_base::CsiParam;
 
 /// How many numbers a form has at most.
@@ -36,16 +37,6 @@ impl NumberSlot {
         match number {
             None => self.missing,
             Some(number) => self.count(number),
-        }
-    }
-
-    /// Whether the list ends ahead of the slot, as it may.
-    fn stops(&self, tokens: &[CsiParam]) -> bool
-        ensures { result ≡ stops self.now tokens.now }
-    {
-        match tokens {
-            [] => self.optional,
-            _ => false,
         }
     }
 
@@ -92,24 +83,21 @@ impl SequenceForm {
         if parts.marker != self.marker || parts.intermediate != self.intermediate {
             return None;
         }
-        read_slots(slots, parts.body)
+        read_slots(slots, fields_in(parts.body)?)
     }
 }
 
 /// The values of fields, one for each slot.
-fn read_slots(slots: &[NumberSlot], tokens: &[CsiParam]) -> Option<SlotValues>
+fn read_slots(slots: &[NumberSlot], mut fields: Fields<'_>) -> Option<SlotValues>
     requires { length slots.now ≤ 12 }
-    ensures { option_map (λ v. v.items) result ≡ slot_values slots.now tokens.now }
+    ensures { option_map (λ v. v.items) result ≡ slot_values slots.now fields.entry }
 {
     let mut values = SlotValues::new();
-    let mut rest = tokens;
     for slot in slots {
-        if slot.stops(rest) {
+        if slot.optional && !fields.is_there() {
             return Some(values);
         }
-        let (number, others) = next_field(rest)?;
-        values.push(slot.value(number)?);
-        rest = others;
+        values.push(slot.value(fields.number())?);
     }
-    rest.is_empty().then_some(values)
+    (!fields.is_there()).then_some(values)
 }

@@ -7,5 +7,5 @@ use Rattle.csicodec_sequences.proofs.row.read_slots.Given as goal
 abbrev pub invariant-loop-slot : goal.invariant-loop-slot
 invariant-loop-slot l = record {
   count : length l.values.items ≡ l.slot-index;
-  kept : slot_values l.slots l.tokens ≡ option_map (λ vs. l.values.items ++ vs) (slot_values (drop l.slot-index l.slots) l.rest);
+  kept : slot_values l.slots l.fn.fields ≡ option_map (λ vs. l.values.items ++ vs) (slot_values (drop l.slot-index l.slots) l.fields);
 }

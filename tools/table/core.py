@@ -164,19 +164,7 @@ def default_arms(actions):
     return [f"        {zero} => 1,", f"        {' | '.join(runs(left[1]))} => {{", "            2", "        }"]
 
 
-# ---- tests and documents
-
-
-def tests(actions, subject):
-    """Rows of .ci/rows and of the tests in Python: a list without a number, and a count of 0, that no text gives."""
-    counts = [action for action in actions if action.form == "count"]
-    lists = [f"\\e[{action.row['final']}" for action in counts]
-    said = [f"{text}\t{rust(action)}(1)\t{text}" for action, text in zip(counts, lists)]
-    zeros = [f"{action.subject}.{action.variant[0]}(0)\t\\e[0{action.row['final']}" for action in counts]
-    title, of_what, behind, full = {"cursor": ("# The cursor", "the cursor", "A", "Cursor::Up"), "edit": ("# Editing", "edits", "b", "Edit::Repeat")}[subject]
-    longest = f"\\e[4294967295{behind}"
-    yield ".ci/actions.tsv", Part(said, (title,), f"{longest}\t{full}(4294967295)\t{longest}")
-    yield "python/tests/values.tsv", Part(zeros, (f"# Counts of 0 of {of_what}, which are read as 1.",), "")
+# ---- documents
 
 
 def code(text):
@@ -221,7 +209,6 @@ def of_subject(subject, said):
     lists, indent = f"crates/csicodec_actions/src/lists/{name_of}.rt", " " * said["indent"]
     yield lists, Part(list(pair_arms(two)), (head, "    match control {"), said["read"])
     yield lists, Part(list(read_arms(one, indent)), (said["count"], f"{indent[4:]}match control {{"), f"{indent}_ => None,")
-    yield from tests(actions, name_of)
 
 
 def of_cursor(actions):

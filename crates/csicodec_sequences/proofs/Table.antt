@@ -159,29 +159,20 @@ slots_apart (s ∷ ss) (t ∷ ts) = differ s t || (not s.optional && (not t.opti
 differ_values : (s t : NumberSlot) (o : Option ℤ) (v w : ℕ) → differ s t ≡ true → slot_value s o ≡ Some v → slot_value t o ≡ Some w → ⊥
 differ_values s t o v w h e f = grind arith
 
--- two slots and those behind them: at the end of the fields, and at a field
+-- two slots and those behind them, at the end of the fields
 ended_apart : (s t : NumberSlot) (ss ts : List NumberSlot) (vs ws : List ℕ) → ((us xs : List ℕ) → slot_values ss [] ≡ Some us → slot_values ts [] ≡ Some xs → slots_apart ss ts ≡ true → ⊥)
     → slots_apart (s ∷ ss) (t ∷ ts) ≡ true → slot_values (s ∷ ss) [] ≡ Some vs → slot_values (t ∷ ts) [] ≡ Some ws → ⊥
 ended_apart s t ss ts vs ws later h e f = grind arith
 
-field_apart : (s t : NumberSlot) (ss ts : List NumberSlot) (o : Option ℤ) (v w : ℕ) → (slots_apart ss ts ≡ true → ⊥) → slots_apart (s ∷ ss) (t ∷ ts) ≡ true → slot_value s o ≡ Some v → slot_value t o ≡ Some w → ⊥
-field_apart s t ss ts o v w later h e f = grind (arith, differ_values s t o v w)
-
--- a slot and those behind it, against none
-none_apart : (t : NumberSlot) (ts : List NumberSlot) (ws : List ℕ) (other : Bool) → ((us : List ℕ) → slot_values ts [] ≡ Some us → other ≡ true → ⊥) → (must t || (not t.optional && other)) ≡ true
-    → slot_values (t ∷ ts) [] ≡ Some ws → ⊥
-none_apart t ts ws other later h f = grind arith
-
 pub slots-apart : (ss ts : List NumberSlot) (fs : List (Option ℤ)) (vs ws : List ℕ) → slots_apart ss ts ≡ true → slot_values ss fs ≡ Some vs → slot_values ts fs ≡ Some ws → ⊥
 slots-apart [] [] fs vs ws h e f = cc
-slots-apart [] (t ∷ ts) [] vs ws h e f = none_apart t ts ws (slots_apart [] ts) (λ us g k. slots-apart [] ts [] [] us k refl g) h f
-slots-apart [] (t ∷ ts) (x ∷ fs) vs ws h e f = cc
-slots-apart (s ∷ ss) [] [] vs ws h e f = none_apart s ss vs (slots_apart ss []) (λ us g k. slots-apart ss [] [] us [] k g refl) h e
-slots-apart (s ∷ ss) [] (x ∷ fs) vs ws h e f = cc
+slots-apart [] (t ∷ ts) [] vs ws h e f = grind (arith, slots-apart [] ts [] [])
+slots-apart (s ∷ ss) [] [] vs ws h e f =
+    let later : (us : List ℕ) → slots_apart ss [] ≡ true → slot_values ss [] ≡ Some us → ⊥ = λ us k g. slots-apart ss [] [] us [] k g refl in grind (arith, later)
 slots-apart (s ∷ ss) (t ∷ ts) [] vs ws h e f = ended_apart s t ss ts vs ws (λ us xs g k m. slots-apart ss ts [] us xs m g k) h e f
 slots-apart (s ∷ ss) (t ∷ ts) (x ∷ fs) vs ws h e f =
-    let a = taken s ss x fs vs e in
-    let b = taken t ts x fs ws f in field_apart s t ss ts x a.one b.one (λ k. slots-apart ss ts fs a.others b.others k a.later b.later) h a.value b.value
+    let a = taken s ss x fs vs e in let b = taken t ts x fs ws f in grind (arith, differ_values s t x a.one b.one, slots-apart ss ts fs a.others b.others, a.value, b.value, a.later, b.later)
+slots-apart _ _ _ vs ws h e f = cc
 
 -- ---- rows
 

@@ -7,7 +7,7 @@ from actions import subjects
 from examples import all_examples
 from checks import refuse
 from forms import Form, form_of
-from layout import byte, comment, string
+from layout import byte, comment, page_line, string
 from parts import Part
 from read import first_line
 from templates import by_number
@@ -176,4 +176,4 @@ def files(table):
     rows = all_rows(table)
     check(table, rows)
     texts = {f"crates/csicodec_sequences/src/rows/{name}.rt": rows_text(some, *PARTS[name][1:]) for name, some in parts(rows).items()}
-    return {**texts, **tests(rows), "docs/SEQUENCES.md": page(rows), "crates/csicodec_words/src/sequence_rows.rt": rows_rt(table)}
+    return {**texts, **tests(rows), "docs/SEQUENCES.md": page_line(TABLE) + page(rows), "crates/csicodec_words/src/sequence_rows.rt": rows_rt(table)}

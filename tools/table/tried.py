@@ -1,5 +1,6 @@
 #!/usr/bin/env python3
 """tools/table/tried.py: tries what tools/table reads and refuses. Each refusal is of a copy of table/ with one line changed, and names that line."""
+import importlib
 import os
 import re
 import shutil
@@ -10,7 +11,7 @@ import unittest
 
 sys.dont_write_bytecode = True
 from forms import LARGEST, form_of  # noqa: E402
-from read import TOP, place  # noqa: E402
+from read import TOP, place, rows_of  # noqa: E402
 
 # A table, a line of it, what stands there in its place, and what is said: each stops before anything is written.
 REFUSED = (
@@ -57,6 +58,15 @@ class Forms(unittest.TestCase):
             ("{a}n", "{a};{b}n", True), ("{a}n", "{a};{b=1}n", False), ("?{a}n", "{a}n", True), ("1;{a..}n", "1;2n", False), ("1;{a:0-3..}n", "1;4n", True), ("1;{a:0-3..}n", "1n", False),
         ):
             self.assertEqual((form_of(one).is_apart(form_of(other)), form_of(other).is_apart(form_of(one))), (is_apart, is_apart), (one, other))
+
+
+class Written(unittest.TestCase):
+    def test_first_lines(self):
+        """A file that a table writes whole says so at its head."""
+        for table in sorted(os.listdir(os.path.join(TOP, "table"))):
+            for path, text in importlib.import_module(table.removesuffix(".toml")).files(rows_of(table)).items():
+                if isinstance(text, str):
+                    self.assertIn(f"Written by tools/table from table/{table}: change that", text.partition("\n")[0], path)
 
 
 class Refusals(unittest.TestCase):

@@ -3,11 +3,9 @@ use Rattle.std.specs.Prelude.{ℕ, ◌≡◌, Option, Some, List, [], ◌∷◌}
 use Rattle.csicodec_actions.specs.Actions.{Action}
 use Rattle.csicodec_terminal.specs.Terminal.{IsTakenFor}
 use Rattle.csicodec_clean.specs.Page.{Setting, behind_actions, behind_escape, closing, led_by, setting, switches, turned}
-use Rattle.csicodec_clean.specs.{Saving.behind_all, Saving.behind_effect, Saving.effect_of, Saving.escape_effect, Saving.sets, Saving.sets_any, Cleaned.RuleOf, Cleaned.EndOf}
-use Rattle.csicodec_clean.specs.{Links.links_at, Links.next}
-use Rattle.csicodec_clean.specs.declared.saving.Effect.{Effect}
-use Rattle.csicodec_looks.specs.{declared.look.Look.Look, Look.behind}
-use Rattle.csicodec_looks.specs.Pieces.{escaped, piece_texts, pieces_bytes}
+use Rattle.csicodec_clean.specs.{Saving.behind_all, Saving.behind_effect, Saving.effect_of, Saving.escape_effect, Saving.sets, Saving.sets_any, Cleaned.RuleOf}
+use Rattle.csicodec_clean.specs.{Cleaned.EndOf, Links.links_at, Links.next, declared.saving.Effect.Effect}
+use Rattle.csicodec_looks.specs.{declared.look.Look.Look, Look.behind, Pieces.escaped, Pieces.piece_texts, Pieces.pieces_bytes}
 
 -- behind a byte of a control string
 abbrev pub behind_byte : Setting → ℕ → Setting

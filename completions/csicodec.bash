@@ -18,13 +18,14 @@ _csicodec() {
         --only) COMPREPLY=(); return ;;
         --palette) COMPREPLY=(); return ;;
         --timing) COMPREPLY=($(compgen -f -- "$word")); return ;;
+        --title) COMPREPLY=(); return ;;
     esac
     case $task in
         filter) of="--faithful --text --help" ;;
         compact) of="--semicolons --text --help" ;;
         strip) of="--check --check=visible --lines --log --overwrite --text --help" ;;
         clean) of="--colors --lines --links --log --overwrite --text --help" ;;
-        html) of="--classes --fragment --links --no-overwrite --overwrite --palette --help" ;;
+        html) of="--classes --fragment --links --no-overwrite --overwrite --palette --title --help" ;;
         explain) of="--at --color --count --decode --diff --full --grep --ignore-case --input --json --only --quiet --stats --timing --unknown --utf8-mouse --help" ;;
         assemble) of="--help" ;;
         cuts) of="--every --help" ;;

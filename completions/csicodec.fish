@@ -35,6 +35,7 @@ complete -c csicodec -n '__fish_seen_subcommand_from html' -l links -d 'Keep lin
 complete -c csicodec -n '__fish_seen_subcommand_from html' -l no-overwrite -d 'Keep text that a carriage return or an erase would hide. Use it for the output of full-screen programs'
 complete -c csicodec -n '__fish_seen_subcommand_from html' -l overwrite -d 'Write each line as it looks at its end, which is the default. It can'\''t be combined with --links'
 complete -c csicodec -n '__fish_seen_subcommand_from html' -l palette -x -d 'Use exactly these 16 colours, written as #rrggbb and separated by commas. A 17th and 18th set the page'\''s text and background. The word xterm gives xterm'\''s colours'
+complete -c csicodec -n '__fish_seen_subcommand_from html' -l title -x -d 'Use TEXT as the page'\''s title. It can'\''t be combined with --fragment'
 complete -c csicodec -n '__fish_seen_subcommand_from html' -l help -d 'Show this text'
 complete -c csicodec -n '__fish_seen_subcommand_from explain' -l at -x -d 'Show only what has a byte at these offsets, such as 120, 120-180 or 120-. Separate several with commas'
 complete -c csicodec -n '__fish_seen_subcommand_from explain' -l color -x -a 'always never auto' -d 'Use colours always, never or auto. The default is auto, which uses them in a terminal unless NO_COLOR is set'

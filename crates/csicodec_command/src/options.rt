@@ -22,7 +22,7 @@ pub(crate) static TASKS: [(&str, Task, &str); 8] = [
 
 /// The options, each as it stands in a command line. Behind a blank stand the words that have it, unless all have, and behind a
 /// colon which values it has, if it has one.
-pub(crate) static OPTIONS: [&str; 32] = [
+pub(crate) static OPTIONS: [&str; 33] = [
     "--at explain: offsets such as 120, 120-180 or 120-, separated by commas",
     "--check strip: visible",
     "--classes html",
@@ -52,6 +52,7 @@ pub(crate) static OPTIONS: [&str; 32] = [
     "--stats explain",
     "--text filter, compact, strip and clean",
     "--timing explain: the file of times that script wrote",
+    "--title html: the title of the page",
     "--unknown explain",
     "--utf8-mouse explain",
     "--version",
@@ -61,9 +62,10 @@ pub(crate) static OPTIONS: [&str; 32] = [
 pub(crate) static ALONE: [&str; 1] = ["--check"];
 
 /// Options, each with those that don't go with it: what asks for anything but lines of two files; and another way to take lines, a check
-/// of them, and links, of which no character of a line knows.
-pub(crate) static APART: [&str; 3] = [
+/// of them, and links, of which no character of a line knows; and what only a whole page has.
+pub(crate) static APART: [&str; 4] = [
     "--diff --count --json --quiet --stats --timing",
+    "--fragment --title",
     "--log --check --lines --links --overwrite",
     "--overwrite --check --lines --links --no-overwrite",
 ];
@@ -192,7 +194,7 @@ usage: csicodec html [OPTION ..] [FILE ..]
 Write the FILEs as one HTML page, with their colours and styles. Each line is
 shown as it looks at its end. No text of the input gets into a tag, except
 addresses with --links. The first 16 colours are readable on a light and on a
-dark page. The title is the name of the first FILE.
+dark page. The title is the name of the first FILE, unless --title is given.
 
 With no FILE, or when FILE is -, read standard input. From an asciinema
 recording, the page shows what the programs wrote. A FILE is one if its name
@@ -211,6 +213,8 @@ ends in .cast, and standard input if it begins like one.
   --palette COLOURS  Use exactly these 16 colours, written as #rrggbb and
                      separated by commas. A 17th and 18th set the page's text
                      and background. The word xterm gives xterm's colours.
+  --title TEXT       Use TEXT as the page's title. It can't be combined with
+                     --fragment.
   -h, --help         Show this text.";
 
 /// How `explain` is used.

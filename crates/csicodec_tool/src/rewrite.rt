@@ -68,9 +68,12 @@ fn compact(alloc: Global, semicolons: bool) -> Compact {
     }
 }
 
-/// The name of a page: that of its first file, without its folder, and of standard input what it is.
-fn name_of<'a>(files: &[&'a str]) -> &'a [u8] {
-    match files.first() {
+/// The name of a page: the title that is asked for, or else that of its first file, without its folder, and of standard input what it is.
+fn name_of<'a>(run: &Request<'a>) -> &'a [u8] {
+    if let Some(title) = run.value("--title") {
+        return title.as_bytes();
+    }
+    match run.files.first() {
         None | Some(&"-") => UNNAMED,
         Some(file) => file.rsplit('/').next().unwrap_or(file).as_bytes(),
     }
@@ -123,7 +126,7 @@ impl<'a> Work<'a> {
             None => Palette::default(),
         };
         Ok(Work::Html {
-            name: name_of(&run.files),
+            name: name_of(run),
             markup: Markup {
                 links: run.links,
                 classes: run.has("--classes"),

@@ -23,9 +23,9 @@ _csicodec() {
     case $task in
         filter) of="--faithful --text --help" ;;
         compact) of="--semicolons --text --help" ;;
-        strip) of="--check --check=visible --lines --log --overwrite --text --help" ;;
-        clean) of="--colors --lines --links --log --overwrite --text --help" ;;
-        html) of="--classes --fragment --links --no-overwrite --overwrite --palette --title --help" ;;
+        strip) of="--check --check=visible --lines --log --overwrite --text --visible --help" ;;
+        clean) of="--colors --lines --links --log --overwrite --text --visible --help" ;;
+        html) of="--classes --fragment --ids --links --no-overwrite --overwrite --palette --title --visible --help" ;;
         explain) of="--at --color --count --decode --diff --full --grep --ignore-case --input --json --only --quiet --stats --timing --unknown --utf8-mouse --help" ;;
         assemble) of="--help" ;;
         cuts) of="--every --help" ;;

@@ -22,7 +22,7 @@ pub(crate) static TASKS: [(&str, Task, &str); 8] = [
 
 /// The options, each as it stands in a command line. Behind a blank stand the words that have it, unless all have, and behind a
 /// colon which values it has, if it has one.
-pub(crate) static OPTIONS: [&str; 33] = [
+pub(crate) static OPTIONS: [&str; 35] = [
     "--at explain: offsets such as 120, 120-180 or 120-, separated by commas",
     "--check strip: visible",
     "--classes html",
@@ -37,6 +37,7 @@ pub(crate) static OPTIONS: [&str; 33] = [
     "--full explain",
     "--grep explain: a text",
     "--help",
+    "--ids html",
     "--ignore-case explain",
     "--input explain",
     "--json explain",
@@ -56,6 +57,7 @@ pub(crate) static OPTIONS: [&str; 33] = [
     "--unknown explain",
     "--utf8-mouse explain",
     "--version",
+    "--visible strip, clean and html",
 ];
 
 /// Those that also stand without their value, so that it only stands behind `=`.
@@ -63,11 +65,12 @@ pub(crate) static ALONE: [&str; 1] = ["--check"];
 
 /// Options, each with those that don't go with it: what asks for anything but lines of two files; and another way to take lines, a check
 /// of them, and links, of which no character of a line knows; and what only a whole page has.
-pub(crate) static APART: [&str; 4] = [
+pub(crate) static APART: [&str; 5] = [
     "--diff --count --json --quiet --stats --timing",
     "--fragment --title",
     "--log --check --lines --links --overwrite",
     "--overwrite --check --lines --links --no-overwrite",
+    "--visible --check",
 ];
 
 /// How the program is used.
@@ -154,6 +157,9 @@ written as a recording with the same times. A FILE is one if its name ends in
   --overwrite    Write each line as it looks at its end, such as a progress bar.
                  It can't be combined with --check or --lines.
   --text         From a recording, write the text and no recording.
+  --visible      Write a character that isn't seen, or that changes the order of
+                 the text, as an escape with its number. The text then passes
+                 --check=visible. It can't be combined with --check.
   -h, --help     Show this text.";
 
 /// How `clean` is used.
@@ -185,6 +191,8 @@ written as a recording with the same times. A FILE is one if its name ends in
                  with its colours and styles. It can't be combined with --lines
                  or --links.
   --text         From a recording, write the cleaned text and no recording.
+  --visible      Write a character that isn't seen, or that changes the order of
+                 the text, as an escape with its number.
   -h, --help     Show this text.";
 
 /// How `html` is used.
@@ -203,6 +211,8 @@ ends in .cast, and standard input if it begins like one.
   --classes          Use CSS classes instead of inline styles. A page contains
                      the style sheet, and a fragment doesn't.
   --fragment         Write only what goes into a <pre> of your own page.
+  --ids              Give each line an id, so that #L42 at the end of the page's
+                     address leads to line 42. It takes one FILE.
   --links            Keep links (OSC 8) to http and https addresses of at most
                      2,083 bytes of visible ASCII, without a user's name. This
                      implies --no-overwrite.
@@ -215,6 +225,8 @@ ends in .cast, and standard input if it begins like one.
                      and background. The word xterm gives xterm's colours.
   --title TEXT       Use TEXT as the page's title. It can't be combined with
                      --fragment.
+  --visible          Write a character that isn't seen, or that changes the
+                     order of the text, as an escape with its number.
   -h, --help         Show this text.";
 
 /// How `explain` is used.

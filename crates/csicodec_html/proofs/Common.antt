@@ -5,7 +5,7 @@ pub use Rattle.csicodec_clean.specs.Page.{IsPageWith, IsSafe, PageWith, Setting,
 pub use Rattle.csicodec_clean.specs.{Saving.are_lasting, Saving.behind_all, Saving.behind_effect, Saving.effect_of, Saving.escape_effect, Saving.is_lasting, Saving.looks}
 pub use Rattle.csicodec_clean.specs.{Saving.sets, Saving.sets_any, declared.saving.Effect.Effect, declared.saving.Looks.Looks}
 pub use Rattle.csicodec_clean.specs.{Addresses.led, Cleaned.Ends, Cleaned.Strips, Cleaned.longest, Links.ends_at, Shown.IsShown}
-pub use Rattle.csicodec_html.specs.Private.Rule.{closes, turns}
+pub use Rattle.csicodec_html.specs.Rule.{closes, turns}
 pub use Rattle.csicodec_looks.specs.Pieces.{Char, IsHarmless, Open, Piece, escaped, leads, page_bytes, piece_bytes, piece_text, piece_texts, pieces_bytes, shuts, switch, turn}
 pub use Rattle.csicodec_looks.specs.{Classes.class_name, Classes.names, Look.css, Look.settled, declared.classes.Class.Class, declared.look.Look.Look}
 pub use Rattle.csicodec_looks.specs.{declared.markup.Markup.Markup}

@@ -7,7 +7,7 @@ use Rattle.csicodec_clean.specs.Page.{behind_string, led_by, switches, AreLeft, 
 use Rattle.csicodec_clean.specs.{Links.Address, Links.Begun, Links.behind, Links.links_at, Links.links_in, Links.next, Links.IsWithin, Cleaned.AreGiven}
 use Rattle.csicodec_clean.specs.{Cleaned.IsStep, Cleaned.AreSteps, Cleaned.is_text, Cleaned.stripped, Shown.run_as, Shown.shown, Shown.shown_text}
 use Rattle.csicodec_clean.specs.{Titles.with_titles}
-use Rattle.csicodec_html.specs.Private.Rule.{behind_byte}
+use Rattle.csicodec_html.specs.Rule.{behind_byte}
 use Rattle.csicodec_looks.specs.{Paint.same, contracts.look.LookEq.TheImpl.Laws.laws-law}
 use Rattle.bstr.specs.Utf8.{lossy_chars}
 use Rattle.csicodec_spans.specs.{declared.table.Kind.Kind, Parts.Part, declared.table.Mode.Mode}

@@ -6,7 +6,7 @@ use Rattle.csicodec_looks.specs.{Look.behind, Paint.same, contracts.look.LookEq.
 use Rattle.csicodec_tokens.specs.{declared.param.CsiParam.CsiParam, Sequence.Seq}
 use Rattle.csicodec_terminal.specs.Terminal.{Terminal}
 use Rattle.csicodec_spans.specs.Parts.{IsSequence}
-use Rattle.csicodec_html.specs.{Private.Rule.set_all, Private.Rule.set_one, Turns.IsTurned}
+use Rattle.csicodec_html.specs.{Rule.set_all, Rule.set_one, Turns.IsTurned}
 
 -- what the rule gives for it
 pub given : (s : Setting) (bytes tags : List ℕ) (new : Look) → IsTurned s.markup bytes s.looks.look new tags

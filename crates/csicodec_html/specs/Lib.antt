@@ -1,4 +1,4 @@
 pub mod MarkupBytes
-pub mod Private
+pub mod Rule
 pub mod Sheet
 pub mod Turns

@@ -12,5 +12,6 @@ pub use csicodec_looks::{
     given_color, given_palette,
 };
 pub use page::{html, html_with};
+pub use rule::SpanWriter;
 pub use run::{html_all, html_all_with};
-pub use sheet::{BEHIND, BODY, HEAD, STYLE, UNNAMED, front};
+pub use sheet::{BEHIND, BODY, HEAD, STYLE, UNNAMED, front, title};

@@ -2,7 +2,7 @@
 ghost use Rattle.std.specs.Prelude.{◌≡◌, ◌++◌, ◌||◌, not, [], map, true, false, OnOk, if◌then◌else◌};
 ghost use Rattle.csicodec_parser.specs.ActionOf.{action_of};
 ghost use Rattle.csicodec_clean.specs.{Addresses.led, Page.first_set, Saving.are_lasting, Saving.behind_all, Saving.sets_any};
-ghost use Rattle.csicodec_html.specs.Private.Rule.{set_all, set_one};
+ghost use Rattle.csicodec_html.specs.Rule.{set_all, set_one};
 ghost use Rattle.csicodec_looks.specs.{Paint.same, Pieces.piece_texts, Pieces.pieces_bytes, Pieces.switch, Pieces.turn};
 
 use csicodec_base::CsiParam;
@@ -134,7 +134,7 @@ impl Turning for Turner<'_> {
 
 /// The rule that turns attributes into spans, and links, where they pass, into links of the page.
 #[derive(Drop)]
-pub(crate) struct SpanWriter {
+pub struct SpanWriter {
     alloc: Global,
     markup: Markup,
     looks: Looks,
@@ -165,7 +165,7 @@ impl Model for SpanWriter {
 
 impl SpanWriter {
     /// At the beginning of a stream.
-    pub(crate) fn new(alloc: Global, markup: Markup) -> SpanWriter
+    pub fn new(alloc: Global, markup: Markup) -> SpanWriter
         ensures { result ≡ first_set markup }
     {
         SpanWriter {
@@ -182,7 +182,7 @@ impl SpanWriter {
 
 impl Rule for SpanWriter {
     ghost use Rattle.std.specs.Prelude.{refl};
-    ghost use Rattle.csicodec_html.specs.Private.Rule.{closes, turns};
+    ghost use Rattle.csicodec_html.specs.Rule.{closes, turns};
 
     ghost gives = { turns };
 

@@ -42,7 +42,7 @@ pub const BEHIND: &str = "</pre>
 ";
 
 /// The title of a page by its name: what `strip` leaves of that, escaped. No tag begins in it.
-fn title(alloc: Global, name: &[u8]) -> Result<Vec<u8>, AllocError>
+pub fn title(alloc: Global, name: &[u8]) -> Result<Vec<u8>, AllocError>
     ensures { IfOk result (λ out. IsTitle name.now out.items) }
 {
     let text = strip(alloc, name)?;

@@ -20,3 +20,4 @@ pub use check::{check_cast, check_stream};
 pub use cuts::Cuts;
 pub use explain::explain_inputs;
 pub use normal::Normaliser;
+pub use visible::VisibleText;

@@ -1,4 +1,6 @@
 pub mod Common
+pub mod Anchors
 pub mod Logged
+pub mod Spelling
 pub mod Whole
 pub mod Written

@@ -1,5 +1,5 @@
 -- A log as it comes.
-use Rattle.csicodec_tool.proofs.Common.{Bool, true, false, ◌≡◌, ◌==◌, not, ℕ, List, [], ◌∷◌, ◌++◌, Option, None, Some, inl, inr, refl, sym, ap, subst, ◌∙◌, append_assoc, append-nil, list_all-append, IfSome, Begins, GoesOn, Sends, Transforms, shown_text, Between, start_of, Keeping, StylesIn, first_kept, keeps, resets, Passing, ended, Marking, Log, IsLine, IsLogged, IsLoggedFront, EndsLog, Finishes, GoesIn, IsBegun, IsIn, LogAs, PassesLog, Pushes}
+use Rattle.csicodec_tool.proofs.Common.{Bool, true, false, ◌≡◌, ◌==◌, not, ℕ, List, [], ◌∷◌, ◌++◌, Option, None, Some, refl, sym, ap, subst, ◌∙◌, append_assoc, append-nil, list_all-append, IfSome, GoesOn, Sends, Transforms, shown_text, Between, start_of, Keeping, StylesIn, first_kept, keeps, resets, Passing, ended, Marking, Log, IsLine, IsLogged, IsLoggedFront, EndsLog, Finishes, GoesIn, IsBegun, IsIn, LogAs, PassesLog, Pushes}
 use Rattle.csicodec_clean.proofs.{Chunks.ends as at_end, Chunks.takes_none, Chunks.takes_on, Plain.all_both, Styled.styles as styled_as}
 use Rattle.csicodec_lines.proofs.Texts.{ended_on, of_on}
 use Rattle.csicodec_looks.specs.declared.marking.Marking.TheVariants.{Plain, Styled}
@@ -156,16 +156,20 @@ logged first bytes text (last, sure, rest, ((kept, same), log), ends, split) =
     let over = end_in P last.line last.cleaner line own rest at (subst (λ (p : Option Passing). Finishes p last.line last.cleaner rest) same ends) in
     rw split (rw append-nil at (put [] rest (λ _. refl) (rw append-nil over)))
 
--- what went out is a front of what becomes of the lines that are over, and of the one that isn't
-pub log_begins : (first : Log) (AreAll : Type 0) (bytes sent : List ℕ) → Begins (Sends PassesLog first) (Transforms PassesLog EndsLog first) AreAll bytes sent
-    → (unsent : List ℕ) × LogAs first.each (IsLogged first.styles) (IsLoggedFront first.styles) bytes (sent ++ unsent)
-log_begins first AreAll bytes sent (unsent, inl (last, ((kept, same), log))) =
+-- what is sure of it is a front of what becomes of the lines that are over, and of the one that isn't
+pub log_sure : (first : Log) (bytes text : List ℕ) → Sends PassesLog first bytes text
+    → (unsent : List ℕ) × LogAs first.each (IsLogged first.styles) (IsLoggedFront first.styles) bytes (text ++ unsent)
+log_sure first bytes text (last, ((kept, same), log)) =
     let P = first.styles in
-    let (line, own, at, put) = last_of first.each (IsLogged P) (IsIn P last.line last.cleaner) (IsLoggedFront P) bytes (sent ++ unsent) log in
+    let (line, own, at, put) = last_of first.each (IsLogged P) (IsIn P last.line last.cleaner) (IsLoggedFront P) bytes text log in
     let (more, told) = told_front P last.line last.cleaner line own at in
-    (unsent ++ more, rw append-nil at (rw append_assoc at (put [] more (λ _. refl) (rw append-nil told))))
-log_begins first AreAll bytes sent (unsent, inr (all, whole)) =
+    (more, rw append-nil at (put [] more (λ _. refl) (rw append-nil told)))
+
+-- and so is all of it
+pub log_front : (first : Log) (bytes text : List ℕ) → Transforms PassesLog EndsLog first bytes text
+    → LogAs first.each (IsLogged first.styles) (IsLoggedFront first.styles) bytes text
+log_front first bytes text whole =
     let P = first.styles in
-    let (line, own, at, put) = last_of first.each (IsLogged P) (IsLogged P) (IsLoggedFront P) bytes (sent ++ unsent) (logged first bytes (sent ++ unsent) whole) in
+    let (line, own, at, put) = last_of first.each (IsLogged P) (IsLogged P) (IsLoggedFront P) bytes text (logged first bytes text whole) in
     let told = whole_front P line own at in
-    (unsent, simp append-nil at (put [] [] (λ _. refl) (simp append-nil told)))
+    simp append-nil at (put [] [] (λ _. refl) (simp append-nil told))

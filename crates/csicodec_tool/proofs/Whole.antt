@@ -6,20 +6,19 @@ use Rattle.csicodec_tool.specs.{Writes.Wrote as IsWritten, declared.rewrite.Job.
 -- ---- a page that has begun is written as one that hasn't
 
 begun_twice : (w : Work) → begun_of (begun_of w) ≡ begun_of w
-begun_twice (Work.Html name markup overwrite false begun) = refl
-begun_twice (Work.Html name markup overwrite true begun) = refl
+begun_twice (Work.Html name page false begun) = refl
+begun_twice (Work.Html name page true begun) = refl
 begun_twice other = refl
 
 none_ahead : (w : Work) (text : List ℕ) → Heads (begun_of w) text → text ≡ []
-none_ahead (Work.Html name markup overwrite false begun) text h = h
-none_ahead (Work.Html name markup overwrite true false) text h = h
-none_ahead (Work.Html name markup overwrite true true) text h = h
+none_ahead (Work.Html name page false begun) text h = h
+none_ahead (Work.Html name page true false) text h = h
+none_ahead (Work.Html name page true true) text h = h
 none_ahead other text h = h
 
 as_begun : (w : Work) (bytes text : List ℕ) → Writes (begun_of w) bytes text → Writes w bytes text
-as_begun (Work.Html name markup true false begun) bytes text h = h
-as_begun (Work.Html name markup false false begun) bytes text h = h
-as_begun (Work.Html name markup overwrite true begun) bytes text h = h
+as_begun (Work.Html name page false begun) bytes text h = h
+as_begun (Work.Html name page true begun) bytes text h = h
 as_begun other bytes text h = h
 
 -- ---- one input
@@ -105,8 +104,8 @@ turn_written holds name bytes unwraps at next is of_data may (inr r) = read r.ah
         }
 
 none_twice : (w : Work) → makes_none (begun_of w) ≡ makes_none w
-none_twice (Work.Html name markup overwrite false begun) = refl
-none_twice (Work.Html name markup overwrite true begun) = refl
+none_twice (Work.Html name page false begun) = refl
+none_twice (Work.Html name page true begun) = refl
 none_twice other = refl
 
 -- so behind it the next is taken as it was

@@ -1,4 +1,6 @@
 pub mod Log
+pub mod Numbered
+pub mod Spelled
 pub mod Stream
 pub mod Whole
 pub mod Writes

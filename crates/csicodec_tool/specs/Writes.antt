@@ -1,11 +1,11 @@
 -- What `filter`, `compact`, `strip`, `clean` and `html` write of an input.
-use Rattle.std.specs.Prelude.{ℕ, ◌≡◌, ◌⊎◌, Bool, true, false, ◌||◌, List, [], ◌++◌, Option, Result, Ok, OnOk, OnErr, IsErr, option_map}
+use Rattle.std.specs.Prelude.{ℕ, ◌≡◌, ◌⊎◌, Bool, true, false, ◌||◌, if◌then◌else◌, List, [], ◌++◌, Option, Result, Ok, OnOk, OnErr, IsErr, option_map}
 use Rattle.csicodec_spans.specs.declared.table.Mode.TheVariants.{Text as Plain}
 use Rattle.csicodec_streams.specs.{Decoding.NormalisesTo, Faithful.IsFaithful}
 use Rattle.csicodec_transform.specs.declared.error.RunError.{RunError}
 use Rattle.csicodec_filter.specs.Filter.{Filters, IsFrontOf}
 use Rattle.csicodec_compact.specs.Runs.{CompactsAll}
-use Rattle.csicodec_clean.specs.{Cleaned.Strips, Cleaned.longest, Styled.StylesIn, Page.PageWith}
+use Rattle.csicodec_clean.specs.{Cleaned.Strips, Cleaned.longest, Styled.StylesIn, Page.PageWith, declared.styles.Passing.Passing}
 use Rattle.csicodec_lines.specs.Lines.{ByLines}
 use Rattle.csicodec_overwrite.specs.Reading.{Paints}
 use Rattle.csicodec_looks.specs.{declared.markup.Markup.Markup, Sheet.sheet}
@@ -13,39 +13,48 @@ use Rattle.csicodec_html.specs.{declared.sheet.TheConstants.BEHIND, declared.she
 use Rattle.csicodec_html.specs.{declared.sheet.TheConstants.STYLE, Sheet.IsTitle}
 use Rattle.csicodec_command.specs.{Recorded.recorded, Runs.StepsOf, Runs.Next, Runs.Stream, Runs.Recording, Runs.End}
 use Rattle.csicodec_inspect.specs.Sent.{FrontsOf, IsAppended, IsWrittenBy}
-use Rattle.csicodec_tool.specs.{Log.IsLogged, Log.IsLoggedFront, Log.Logs, Log.LogsSome, declared.rewrite.Job.Job, declared.rewrite.Work.Work}
+use Rattle.csicodec_tool.specs.{Log.IsLogged, Log.IsLoggedFront, Log.Logs, Log.LogsSome, declared.rewrite.Job.Job, declared.rewrite.Page.Page}
+use Rattle.csicodec_tool.specs.{declared.rewrite.Work.Work, declared.front.TheConstants.TARGET, Numbered.NumberedAs, Spelled.SpelledAs}
 
 -- the page of what is painted of the bytes
 abbrev pub PaintedPage : Markup → List ℕ → List ℕ → Type 0
 PaintedPage markup bytes page = (painted : List ℕ) × Paints bytes painted × PageWith markup painted page
+
+-- plain text, and styled text, of a stream or line by line
+abbrev pub Stripped : Bool → List ℕ → List ℕ → Type 0
+Stripped false bytes text = Strips longest bytes text
+Stripped true bytes text = ByLines (Strips longest) bytes text
+
+abbrev pub Cleaned : Passing → Bool → List ℕ → List ℕ → Type 0
+Cleaned passing false bytes text = StylesIn passing bytes text
+Cleaned passing true bytes text = ByLines (StylesIn passing) bytes text
+
+-- a page of all text, or of what stands in each line when it ends
+abbrev pub Pages : Markup → Bool → List ℕ → List ℕ → Type 0
+Pages markup false bytes text = PageWith markup bytes text
+Pages markup true bytes text = PaintedPage markup bytes text
+
+abbrev pub PageText : Page → List ℕ → List ℕ → Type 0
+PageText page bytes text = SpelledAs page.visible (NumberedAs page.ids (Pages page.markup page.overwrite)) bytes text
 
 -- All bytes of an input become this text. What is only checked has none.
 abbrev pub Writes : Work → List ℕ → List ℕ → Type 0
 Writes (Work.Filter true) bytes text = Filters IsFaithful longest Plain bytes text
 Writes (Work.Filter false) bytes text = Filters NormalisesTo longest Plain bytes text
 Writes (Work.Compact semicolons) bytes text = CompactsAll longest Plain bytes text
-Writes (Work.Strip true) bytes text = ByLines (Strips longest) bytes text
-Writes (Work.Strip false) bytes text = Strips longest bytes text
-Writes (Work.Overwrite styles) bytes text = IsLogged styles bytes text
-Writes (Work.Log styles) bytes text = Logs styles bytes text
+Writes (Work.Strip lines visible) bytes text = SpelledAs visible (Stripped lines) bytes text
+Writes (Work.Overwrite styles visible) bytes text = SpelledAs visible (IsLogged styles) bytes text
+Writes (Work.Log styles visible) bytes text = SpelledAs visible (Logs styles) bytes text
 Writes (Work.Check visible) bytes text = text ≡ []
-Writes (Work.Clean passing true) bytes text = ByLines (StylesIn passing) bytes text
-Writes (Work.Clean passing false) bytes text = StylesIn passing bytes text
-Writes (Work.Html name markup true fragment begun) bytes text = PaintedPage markup bytes text
-Writes (Work.Html name markup false fragment begun) bytes text = PageWith markup bytes text
-
--- The same of a painted page: it is of a front of what is painted of a front of the bytes.
-abbrev pub FrontsOfPainted : Markup → List ℕ → List ℕ → Type 0
-FrontsOfPainted markup bytes sent = (painted : List ℕ) × (unsent : List ℕ) × FrontsOf Paints bytes painted
-    × PageWith markup painted (sent ++ unsent)
+Writes (Work.Clean passing lines visible) bytes text = SpelledAs visible (Cleaned passing lines) bytes text
+Writes (Work.Html name page fragment begun) bytes text = PageText page bytes text
 
 -- Of an input that failed this went out: a front of the text of a front of its bytes, and of a filter's, of all of them.
 abbrev pub Sends : Work → List ℕ → List ℕ → Type 0
 Sends (Work.Filter true) bytes sent = IsFrontOf IsFaithful longest Plain bytes sent
 Sends (Work.Filter false) bytes sent = IsFrontOf NormalisesTo longest Plain bytes sent
-Sends (Work.Html name markup true fragment begun) bytes sent = FrontsOfPainted markup bytes sent
-Sends (Work.Overwrite styles) bytes sent = FrontsOf (IsLoggedFront styles) bytes sent
-Sends (Work.Log styles) bytes sent = FrontsOf (LogsSome styles) bytes sent
+Sends (Work.Overwrite styles visible) bytes sent = FrontsOf (SpelledAs visible (IsLoggedFront styles)) bytes sent
+Sends (Work.Log styles visible) bytes sent = FrontsOf (SpelledAs visible (LogsSome styles)) bytes sent
 Sends w bytes sent = FrontsOf (Writes w) bytes sent
 
 -- an input was written as the work has it
@@ -54,23 +63,26 @@ abbrev pub Wrote : {A E : Type 0} → Work → Result A E → Option (List ℕ) 
 Wrote w result known old new = IsWrittenBy (Writes w) (Sends w) result known old new
 
 -- what stands ahead of a page of this name: its title and its style sheet, between the texts of every page
-abbrev pub IsPageFront : Markup → List ℕ → List ℕ → Type 0
-IsPageFront markup name text = (title : List ℕ) × IsTitle name title
-    × (text ≡ HEAD.now ++ (title ++ (STYLE.now ++ (sheet markup ++ BODY.now))))
+abbrev pub style_of : Page → List ℕ
+style_of page = STYLE.now ++ (sheet page.markup ++ (if page.ids then TARGET.now else []))
+
+abbrev pub IsPageFront : Page → List ℕ → List ℕ → Type 0
+IsPageFront page name text = (title : List ℕ) × IsTitle name title
+    × (text ≡ HEAD.now ++ (title ++ (style_of page ++ BODY.now)))
 
 -- what stands ahead of an input: of the first one of a page that is no fragment its front, and else nothing
 abbrev pub Heads : Work → List ℕ → Type 0
-Heads (Work.Html name markup overwrite false false) text = IsPageFront markup name.now text
+Heads (Work.Html name page false false) text = IsPageFront page name.now text
 Heads w text = text ≡ []
 
 -- what stands behind the last input: behind a page that has begun its end, and else nothing
 abbrev pub Tails : Work → List ℕ → Type 0
-Tails (Work.Html name markup overwrite fragment true) text = text ≡ BEHIND.now
+Tails (Work.Html name page fragment true) text = text ≡ BEHIND.now
 Tails w text = text ≡ []
 
 -- the work behind what stands ahead
 abbrev pub begun_of : Work → Work
-begun_of (Work.Html name markup overwrite false begun) = Work.Html name markup overwrite false true
+begun_of (Work.Html name page false begun) = Work.Html name page false true
 begun_of w = w
 
 -- the text begins with what was sent
@@ -95,7 +107,7 @@ pub record WroteBehind {A E : Type 0} (w : Work) (result : Result A E) (new : Wo
 -- a page has no recordings, and where it is only checked what is plain text, none is written
 abbrev pub makes_none : Work → Bool
 makes_none (Work.Check visible) = true
-makes_none (Work.Html name markup overwrite fragment begun) = true
+makes_none (Work.Html name page fragment begun) = true
 makes_none w = false
 
 -- whether of a recording comes what becomes of its data, and no recording

@@ -2,11 +2,14 @@
 //! sequences alone.
 #![tactic(auto)]
 
+mod front;
 mod laws;
 mod log;
+mod numbered;
 mod palette;
 mod rewrite;
 mod rewritten_cast;
+mod spelled;
 
 use csicodec_command::{Request, Task, asked, refused, words_of, work_through};
 use csicodec_inspect::{Assembly, Cuts, Normaliser, explain_inputs};

@@ -1,27 +1,34 @@
 //! What `csicodec filter`, `compact`, `strip`, `clean` and `html` make of a stream: with `filter` each control sequence in its normal
 //! form and all else as it came, with `compact` in a shorter spelling; with `strip` the plain text alone, with `clean` that and
 //! its styles; with `html` those as a page.
-ghost use Rattle.std.specs.Prelude.{◌≡◌, false, IfOk, IfSome, OnErr, option_map};
+ghost use Rattle.std.specs.{Prelude.◌≡◌, Prelude.◌++◌, Prelude.[], Prelude.ℕ, Prelude.List, Prelude.false, Prelude.IfOk, Prelude.IfSome, Prelude.OnErr, Prelude.OnOk};
+ghost use Rattle.std.specs.{Prelude.option_map, Io.KnownBytes.Appends, Io.KnownBytes.Consumes, Io.KnownBytes.IsAtEnd};
+ghost use Rattle.csicodec_transform.specs.Transform.{Begins, Sends, Transforms};
+ghost use Rattle.csicodec_tool.specs.{Numbered.NumberedAs, Spelled.SpelledAs, Spelled.SpelledSure, Writes.IsHeaded, Writes.JobSteps, Writes.PageText, Writes.Wrote};
+ghost use Rattle.csicodec_tool.specs.{Writes.WroteBehind, Writes.makes_none};
 ghost use Rattle.csicodec_command.specs.Recorded.{recorded};
-ghost use Rattle.csicodec_tool.specs.Writes.{IsHeaded, JobSteps, Wrote, WroteBehind, makes_none};
+ghost use Rattle.csicodec_inspect.specs.Sent.{FrontsOf, IsWrittenBy};
 
+use crate::front::page_front;
 use crate::log::Log;
+use crate::numbered::Numberer;
 use crate::palette::palette_of;
 use crate::rewritten_cast::{Rewriter, rewrite_cast};
-use csicodec_clean::{Cleaner, Depth, Dropped, Kept, Passing, clean_all_with, strip_all};
+use crate::spelled::transform_as;
+use csicodec_clean::{Cleaner, Depth, Dropped, Kept, Passing};
 use csicodec_command::{Failure, Recorded, Request, Worker, Wrong};
 use csicodec_compact::{Compact, Compactor, compact_all};
 use csicodec_filter::{Faithful, Filter, NormalForm, filter_all};
-use csicodec_html::{BEHIND, Markup, Palette, UNNAMED, front, html_all_with};
+use csicodec_html::{BEHIND, Markup, Palette, SpanWriter, UNNAMED};
 use csicodec_inspect::{check_cast, check_stream};
-use csicodec_lines::{Lines, clean_lines_all, strip_lines_all};
-use csicodec_overwrite::html_overwritten_all;
+use csicodec_lines::Lines;
+use csicodec_overwrite::{Marking, Overwriter};
 use csicodec_spans::LIMIT;
-use csicodec_transform::{RunError, send, transform_all};
+use csicodec_transform::{RunError, Transform, send};
 use std::alloc::{AllocError, Global};
 use std::io::{BufRead, Read, Write};
 
-/// What is made of one input after the other.
+/// What is made of one input after the other. Where it is to be visible, a character that isn't seen is spelled.
 #[derive(Drop)]
 pub enum Work<'a> {
     Filter {
@@ -32,14 +39,17 @@ pub enum Work<'a> {
     },
     Strip {
         lines: bool,
+        visible: bool,
     },
     /// Each line as it stands when it ends, with these of its styles.
     Overwrite {
         styles: Option<Passing>,
+        visible: bool,
     },
     /// Each line by itself, as it stands when it ends, with these of its styles.
     Log {
         styles: Option<Passing>,
+        visible: bool,
     },
     /// Nothing: it is told where an input is plain text no more, or plain text that is all seen.
     Check {
@@ -48,15 +58,25 @@ pub enum Work<'a> {
     Clean {
         passing: Passing,
         lines: bool,
+        visible: bool,
     },
     /// A page of this name, which ends behind the last input if it has begun.
     Html {
         name: &'a [u8],
-        markup: Markup,
-        overwrite: bool,
+        page: Page,
         fragment: bool,
         begun: bool,
     },
+}
+
+/// How a page is made.
+#[derive(Clone, Copy)]
+pub struct Page {
+    pub markup: Markup,
+    pub overwrite: bool,
+    pub visible: bool,
+    /// Whether each line has an anchor with its number.
+    pub ids: bool,
 }
 
 /// The rule of `compact`.
@@ -79,21 +99,70 @@ fn name_of<'a>(run: &Request<'a>) -> &'a [u8] {
     }
 }
 
+/// Writes the page of a stream that a transform makes, with anchors if lines have them.
+fn write_lines<T: Transform + Drop, R: Read, W: Write>(
+    alloc: Global,
+    page: Page,
+    transform: T,
+    input: &mut R,
+    output: &mut W,
+) -> Result<(), RunError>
+    requires stands { T.stands transform }
+    requires begun { T.passes transform [] [] transform }
+    ensures ok { OnOk result ((bytes : List ℕ) × (text : List ℕ)
+        × Consumes (R.remaining input.old) (R.remaining input.new) bytes
+        × IsAtEnd (R.remaining input.new)
+        × SpelledAs page.visible (NumberedAs page.ids (Transforms T.passes T.ends transform)) bytes text
+        × Appends (W.contents output.old) (W.contents output.new) text) }
+    ensures front { OnErr result ((bytes : List ℕ) × (more : List ℕ) × (sent : List ℕ)
+        × Consumes (R.remaining input.old) (R.remaining input.new) (bytes ++ more)
+        × Begins (SpelledSure page.visible (NumberedAs page.ids (Sends T.passes transform)))
+        (SpelledAs page.visible (NumberedAs page.ids (Transforms T.passes T.ends transform)))
+        ((more ≡ []) × IsAtEnd (R.remaining input.new)) bytes sent
+        × Appends (W.contents output.old) (W.contents output.new) sent) }
+{
+    if page.ids {
+        let numberer = Numberer::new(alloc, transform);
+        return transform_as(alloc, page.visible, numberer, input, output);
+    }
+    transform_as(alloc, page.visible, transform, input, output)
+}
+
+/// Writes the page of a stream.
+fn write_page<R: Read, W: Write>(
+    alloc: Global,
+    page: Page,
+    input: &mut R,
+    output: &mut W,
+) -> Result<(), RunError>
+    ensures { IsWrittenBy (PageText page) (FrontsOf (PageText page)) result
+        (R.remaining input.old) (W.contents output.old) (W.contents output.new) }
+{
+    if page.overwrite {
+        let lines = Overwriter::writing(alloc, Marking::Page(page.markup));
+        return write_lines(alloc, page, lines, input, output);
+    }
+    let cleaner = Cleaner::new(alloc, SpanWriter::new(alloc, page.markup));
+    write_lines(alloc, page, cleaner, input, output)
+}
+
 impl<'a> Work<'a> {
     /// Plain text, as the options of `strip` want it.
     pub fn strip(run: &Request<'a>) -> Work<'a> {
+        let visible = run.has("--visible");
         if run.has("--check") {
             Work::Check {
                 visible: run.value("--check").is_some(),
             }
         } else if run.overwrites() {
-            Work::Overwrite { styles: None }
+            let styles = None;
+            Work::Overwrite { styles, visible }
         } else if run.has("--log") {
-            Work::Log { styles: None }
+            let styles = None;
+            Work::Log { styles, visible }
         } else {
-            Work::Strip {
-                lines: run.has("--lines"),
-            }
+            let lines = run.has("--lines");
+            Work::Strip { lines, visible }
         }
     }
 
@@ -107,15 +176,17 @@ impl<'a> Work<'a> {
         let links = run.links;
         let passing = Passing { depth, links };
         let styles = Some(passing);
+        let visible = run.has("--visible");
         if run.overwrites() {
-            return Work::Overwrite { styles };
+            return Work::Overwrite { styles, visible };
         }
         if run.has("--log") {
-            return Work::Log { styles };
+            return Work::Log { styles, visible };
         }
         Work::Clean {
             passing,
             lines: run.has("--lines"),
+            visible,
         }
     }
 
@@ -127,15 +198,31 @@ impl<'a> Work<'a> {
         };
         Ok(Work::Html {
             name: name_of(run),
-            markup: Markup {
-                links: run.links,
-                classes: run.has("--classes"),
-                palette,
+            page: Page {
+                markup: Markup {
+                    links: run.links,
+                    classes: run.has("--classes"),
+                    palette,
+                },
+                overwrite: run.overwrites(),
+                visible: run.has("--visible"),
+                ids: run.has("--ids"),
             },
-            overwrite: run.overwrites(),
             fragment: run.has("--fragment"),
             begun: false,
         })
+    }
+
+    /// Whether what isn't seen is spelled.
+    fn is_visible(&self) -> bool {
+        match *self {
+            Work::Strip { visible, .. }
+            | Work::Overwrite { visible, .. }
+            | Work::Log { visible, .. }
+            | Work::Clean { visible, .. } => visible,
+            Work::Html { page, .. } => page.visible,
+            Work::Filter { .. } | Work::Compact { .. } | Work::Check { .. } => false,
+        }
     }
 
     /// What the data of a recording go through, if a recording is made of it.
@@ -153,13 +240,14 @@ impl<'a> Work<'a> {
             Work::Compact { semicolons } => {
                 Rewriter::Short(Compactor::new(alloc, LIMIT, compact(alloc, *semicolons)))
             }
-            Work::Strip { lines: true } => Rewriter::PlainLines(Lines::stripped(alloc)),
+            Work::Strip { lines: true, .. } => Rewriter::PlainLines(Lines::stripped(alloc)),
             Work::Strip { .. } => Rewriter::Plain(Cleaner::new(alloc, Dropped)),
-            Work::Overwrite { styles } => Rewriter::Logged(Log::new(alloc, *styles, false)),
-            Work::Log { styles } => Rewriter::Logged(Log::new(alloc, *styles, true)),
+            Work::Overwrite { styles, .. } => Rewriter::Logged(Log::new(alloc, *styles, false)),
+            Work::Log { styles, .. } => Rewriter::Logged(Log::new(alloc, *styles, true)),
             Work::Clean {
                 passing,
                 lines: true,
+                ..
             } => Rewriter::StyledLines(Lines::cleaned(alloc, *passing)),
             Work::Clean { passing, .. } => {
                 Rewriter::Styled(Cleaner::new(alloc, Kept::letting(alloc, *passing)))
@@ -176,15 +264,14 @@ impl<'a> Work<'a> {
     {
         if let Work::Html {
             name,
-            markup,
+            page,
             fragment: false,
             begun,
-            ..
         } = self
         {
             if !*begun {
                 *begun = true;
-                let Ok(text) = front(alloc, *markup, name) else {
+                let Ok(text) = page_front(alloc, page, name) else {
                     return Err(RunError::Memory);
                 };
                 return send(output, &text);
@@ -212,25 +299,38 @@ impl<'a> Work<'a> {
                 compact_all(alloc, LIMIT, compact(alloc, semicolons), input, output)
             }
             Work::Check { .. } => Ok(()),
-            Work::Strip { lines: true } => strip_lines_all(alloc, input, output),
-            Work::Strip { .. } => strip_all(alloc, input, output),
-            Work::Overwrite { styles } => {
-                transform_all(alloc, Log::new(alloc, styles, false), input, output)
+            Work::Strip {
+                lines: true,
+                visible,
+            } => transform_as(alloc, visible, Lines::stripped(alloc), input, output),
+            Work::Strip { visible, .. } => {
+                transform_as(alloc, visible, Cleaner::new(alloc, Dropped), input, output)
             }
-            Work::Log { styles } => {
-                transform_all(alloc, Log::new(alloc, styles, true), input, output)
+            Work::Overwrite { styles, visible } => {
+                let line = Log::new(alloc, styles, false);
+                transform_as(alloc, visible, line, input, output)
+            }
+            Work::Log { styles, visible } => {
+                let log = Log::new(alloc, styles, true);
+                transform_as(alloc, visible, log, input, output)
             }
             Work::Clean {
                 passing,
                 lines: true,
-            } => clean_lines_all(alloc, passing, input, output),
-            Work::Clean { passing, .. } => clean_all_with(alloc, passing, input, output),
-            Work::Html {
-                markup,
-                overwrite: true,
+                visible,
+            } => {
+                let lines = Lines::cleaned(alloc, passing);
+                transform_as(alloc, visible, lines, input, output)
+            }
+            Work::Clean {
+                passing,
+                visible,
                 ..
-            } => html_overwritten_all(alloc, markup, input, output),
-            Work::Html { markup, .. } => html_all_with(alloc, markup, input, output),
+            } => {
+                let cleaner = Cleaner::new(alloc, Kept::letting(alloc, passing));
+                transform_as(alloc, visible, cleaner, input, output)
+            }
+            Work::Html { page, .. } => write_page(alloc, page, input, output),
         }
     }
 
@@ -304,7 +404,10 @@ impl<'a> Worker for Job<'a> {
             return self.work.write_cast(alloc, input, output);
         }
         match self.work.stage(alloc)? {
-            Some(mut stage) => rewrite_cast(alloc, &mut stage, input, output),
+            Some(mut stage) => {
+                let visible = self.work.is_visible();
+                rewrite_cast(alloc, &mut stage, visible, input, output)
+            }
             None => self.work.write_cast(alloc, input, output),
         }
     }

@@ -1,6 +1,7 @@
 //! Recordings of asciinema with other data.
 
 use crate::log::Log;
+use crate::spelled::append_spelled;
 use bstr::ByteSlice;
 use csicodec_clean::{Cleaner, Dropped, Kept, Passing, strip};
 use csicodec_command::{Failure, Recording, time_of};
@@ -112,11 +113,23 @@ fn send_event<W: Write>(
     send_line(alloc, stage, &line, output)
 }
 
+/// Spells the characters of the data, if they are to be visible.
+fn spell(visible: bool, data: &mut Vec<u8>) -> Result<(), AllocError> {
+    if !visible {
+        return Ok(());
+    }
+    let mut text = Vec::new(*data.allocator());
+    append_spelled(data, &mut text)?;
+    data.clear();
+    data.extend_from_slice(&text)
+}
+
 /// Writes a recording whose events have what becomes of their data, at the same times; all else stays as it is, but for controls
 /// where the data are made safe. What isn't over at the last event stands in one more, at its time.
 pub fn rewrite_cast<R: BufRead, W: Write>(
     alloc: Global,
     stage: &mut Rewriter,
+    visible: bool,
     input: &mut R,
     output: &mut W,
 ) -> Result<(), Failure> {
@@ -135,6 +148,7 @@ pub fn rewrite_cast<R: BufRead, W: Write>(
         let time = time_of(text.trim());
         out.clear();
         stage.push_recorded(data.as_bytes(), &mut out)?;
+        spell(visible, &mut out)?;
         send_event(alloc, stage, time, &out, output)?;
         if reading.counts_from_begin() {
             last.clear();
@@ -143,6 +157,7 @@ pub fn rewrite_cast<R: BufRead, W: Write>(
     }
     out.clear();
     stage.finish(&mut out)?;
+    spell(visible, &mut out)?;
     if !out.is_empty() {
         send_event(alloc, stage, &last, &out, output)?;
     }

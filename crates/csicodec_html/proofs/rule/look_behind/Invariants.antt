@@ -1,6 +1,6 @@
 use Rattle.std.proofs.Common.{◌≡◌, map, drop}
 use Rattle.csicodec_html.proofs.Common.{action_of}
-use Rattle.csicodec_html.specs.Private.Rule.{set_all}
+use Rattle.csicodec_html.specs.Rule.{set_all}
 use Rattle.csicodec_html.proofs.rule.look_behind.Given as goal
 
 -- behind the other actions it looks as behind all

@@ -2,7 +2,7 @@ use Rattle.std.proofs.Common.{◌∙◌, drop, map, ap, arith, subst, sym}
 use Rattle.csicodec_html.proofs.Common.{action_of, are_lasting, looks, sets_any, Setting, setting, turn, piece_texts, turns}
 use Rattle.csicodec_html.proofs.Recalled.{appended, given, read}
 use Rattle.csicodec_clean.specs.Links.{begun}
-use Rattle.csicodec_html.specs.Private.Rule.{set_all}
+use Rattle.csicodec_html.specs.Rule.{set_all}
 use Rattle.csicodec_html.proofs.rule.SpanWriterRule.rewrite.Goals as goal
 
 pub invariant_of-self-2 : goal.invariant_of-self-2

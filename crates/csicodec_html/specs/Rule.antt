@@ -1,4 +1,4 @@
--- The rule by which a page is made, and text as it stands there, byte by byte. No promise rests on this file.
+-- The rule by which a page is made as its stream comes: text is escaped, and each sequence gives its tags.
 use Rattle.std.specs.Prelude.{ℕ, ◌≡◌, Option, Some, List, [], ◌∷◌}
 use Rattle.csicodec_actions.specs.Actions.{Action}
 use Rattle.csicodec_terminal.specs.Terminal.{IsTakenFor}

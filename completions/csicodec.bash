@@ -5,7 +5,7 @@ _csicodec() {
     [ "$word" != = ] || { word= equals=1; }
     [ "$before" != = ] || { before=${COMP_WORDS[COMP_CWORD-2]} equals=1; }
     for it in "${COMP_WORDS[@]:1:COMP_CWORD-1}"; do
-        case $it in filter|compact|strip|clean|html|explain|assemble|cuts|help) task=$it; break ;; esac
+        case $it in filter|compact|strip|clean|check|html|explain|assemble|cuts|normalise|help) task=$it; break ;; esac
     done
     COMPREPLY=()
     case $before in
@@ -23,14 +23,16 @@ _csicodec() {
     case $task in
         filter) of="--faithful --text --help" ;;
         compact) of="--semicolons --text --help" ;;
-        strip) of="--check --check=visible --lines --log --overwrite --text --visible --help" ;;
-        clean) of="--colors --lines --links --log --overwrite --text --visible --help" ;;
+        strip) of="--check --check=visible --all --lines --log --overwrite --text --visible --help" ;;
+        clean) of="--check --check=visible --colors --lines --links --log --overwrite --text --visible --help" ;;
+        check) of="--all --visible --help" ;;
         html) of="--classes --fragment --ids --links --no-overwrite --overwrite --palette --title --visible --help" ;;
         explain) of="--at --color --count --decode --diff --full --grep --ignore-case --input --json --only --quiet --stats --timing --unknown --utf8-mouse --help" ;;
         assemble) of="--help" ;;
         cuts) of="--every --help" ;;
-        help) COMPREPLY=($(compgen -W "filter compact strip clean html explain assemble cuts" -- "$word")); return ;;
-        *) of="filter compact strip clean html explain assemble cuts help --help --version" ;;
+        normalise) of="--help" ;;
+        help) COMPREPLY=($(compgen -W "filter compact strip clean check html explain assemble cuts normalise" -- "$word")); return ;;
+        *) of="filter compact strip clean check html explain assemble cuts normalise help --help --version" ;;
     esac
     if [ ! "$task" ] || [ "${word#-}" != "$word" ]; then COMPREPLY=($(compgen -W "$of" -- "$word")); fi
 }

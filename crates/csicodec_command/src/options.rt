@@ -4,27 +4,39 @@
 use crate::command::Task;
 
 /// The words that say what is to be done.
-pub(crate) static WORDS: [&str; 8] = [
-    "filter", "compact", "strip", "clean", "html", "explain", "assemble", "cuts",
+pub(crate) static WORDS: [&str; 10] = [
+    "filter",
+    "compact",
+    "strip",
+    "clean",
+    "check",
+    "html",
+    "explain",
+    "assemble",
+    "cuts",
+    "normalise",
 ];
 
 /// What each of these words asks for, and what `--help` behind it says.
-pub(crate) static TASKS: [(&str, Task, &str); 8] = [
+pub(crate) static TASKS: [(&str, Task, &str); 10] = [
     ("filter", Task::Filter, FILTER),
     ("compact", Task::Compact, COMPACT),
     ("strip", Task::Strip, STRIP),
     ("clean", Task::Clean, CLEAN),
+    ("check", Task::Check, CHECK),
     ("html", Task::Html, HTML),
     ("explain", Task::Explain, EXPLAIN),
     ("assemble", Task::Assemble, ASSEMBLE),
     ("cuts", Task::Cuts, CUTS),
+    ("normalise", Task::Normal, NORMALISE),
 ];
 
 /// The options, each as it stands in a command line. Behind a blank stand the words that have it, unless all have, and behind a
 /// colon which values it has, if it has one.
-pub(crate) static OPTIONS: [&str; 35] = [
+pub(crate) static OPTIONS: [&str; 36] = [
+    "--all check and strip",
     "--at explain: offsets such as 120, 120-180 or 120-, separated by commas",
-    "--check strip: visible",
+    "--check strip and clean: visible",
     "--classes html",
     "--color explain: always, never or auto",
     "--colors clean: 256 or 16",
@@ -57,15 +69,16 @@ pub(crate) static OPTIONS: [&str; 35] = [
     "--unknown explain",
     "--utf8-mouse explain",
     "--version",
-    "--visible strip, clean and html",
+    "--visible strip, clean, check and html",
 ];
 
 /// Those that also stand without their value, so that it only stands behind `=`.
 pub(crate) static ALONE: [&str; 1] = ["--check"];
 
-/// Options, each with those that don't go with it: what asks for anything but lines of two files; and another way to take lines, a check
-/// of them, and links, of which no character of a line knows; and what only a whole page has.
-pub(crate) static APART: [&str; 5] = [
+/// Options, each with those that don't go with it: what clean is checked without; what asks for anything but lines of two files; what only a
+/// whole page has; and another way to take lines, a check of them, and links, of which no character of a line knows.
+pub(crate) static APART: [&str; 6] = [
+    "--check --colors --links",
     "--diff --count --json --quiet --stats --timing",
     "--fragment --title",
     "--log --check --lines --links --overwrite",
@@ -75,15 +88,16 @@ pub(crate) static APART: [&str; 5] = [
 
 /// How the program is used.
 pub const USAGE: &str = "\
-usage: csicodec                                 write control sequences in their normal form, and refuse all else
-       csicodec filter [OPTION ..] [FILE ..]    write a stream with its control sequences in their normal form
+usage: csicodec filter [OPTION ..] [FILE ..]    write a stream with its control sequences in their normal form
        csicodec compact [OPTION ..] [FILE ..]   write the same stream in fewer bytes
        csicodec strip [OPTION ..] [FILE ..]     write the plain text of a stream
        csicodec clean [OPTION ..] [FILE ..]     write the text of a stream with its colours and styles
+       csicodec check [OPTION ..] [FILE ..]     say whether a stream is plain text, and where it isn't
        csicodec html [OPTION ..] [FILE ..]      write an HTML page of the text with its colours and styles
        csicodec explain [OPTION ..] [FILE ..]   say in words what is in a stream
        csicodec assemble [FILE ..]              turn what explain --json wrote back into a stream
        csicodec cuts [OPTION ..] [FILE ..]      say where a stream may be cut into pieces
+       csicodec normalise [FILE ..]             write control sequences in their normal form, and refuse all else
        csicodec help [WORD]                     show this text, or the options of a word
        csicodec --version                       show the version";
 
@@ -148,6 +162,7 @@ written as a recording with the same times. A FILE is one if its name ends in
                  and exit 1. Of a recording, check what programs wrote.
   --check=visible  Do the same, but take a character that isn't seen, or that
                  changes the order of the text, for such a place too.
+  --all          With --check, print every place, as csicodec check does.
   --lines        Strip each line by itself, as logs need it. A sequence or
                  string that a line leaves open ends with the line. A carriage
                  return also ends a line.
@@ -176,6 +191,10 @@ With no FILE, or when FILE is -, read standard input. An asciinema recording is
 written as a recording with the same times. A FILE is one if its name ends in
 .cast, and standard input if it begins like one.
 
+  --check        Write no text. Exit 0 if clean would leave every FILE as it is.
+                 Otherwise print where it would begin to change one, and exit 1.
+                 It can't be combined with --colors, --lines, --links, --log,
+                 --overwrite or --visible.
   --colors=256   Replace true colours by the nearest of the places 16 to 255.
   --colors=16    Replace all colours by the nearest of the first 16.
   --lines        Clean each line by itself, as logs need it. A sequence, string
@@ -193,6 +212,29 @@ written as a recording with the same times. A FILE is one if its name ends in
   --text         From a recording, write the cleaned text and no recording.
   --visible      Write a character that isn't seen, or that changes the order of
                  the text, as an escape with its number.
+  -h, --help     Show this text.";
+
+/// How `check` is used.
+pub const CHECK: &str = "\
+usage: csicodec check [OPTION ..] [FILE ..]
+
+Exit 0 if every FILE is plain text, as strip writes it, and write nothing.
+Otherwise write the first place of each FILE that isn't, and exit 1.
+
+  notes.txt:3:14: danger: OSC 52  clipboard: 8 bytes
+
+The numbers are the line and the character in it, counted from 1. What comes
+next is what the place may do, and what it is, in the words of explain. A danger
+may hide text, write over it, or make a terminal do more than show it. A colour
+changes only how text looks, and all else is other.
+
+With no FILE, or when FILE is -, read standard input. From an asciinema
+recording, check what the programs wrote. A FILE is one if its name ends in
+.cast, and standard input if it begins like one.
+
+  --all          Write every place, not only the first.
+  --visible      Take a character that isn't seen, or that changes the order of
+                 the text, for a danger too.
   -h, --help     Show this text.";
 
 /// How `html` is used.
@@ -312,6 +354,19 @@ read like any other FILE.
 
   --every SIZE   The least number of bytes in a piece, such as 64M. K, M and G
                  are 1,024 bytes, 1,024 K and 1,024 M.
+  -h, --help     Show this text.";
+
+/// How `normalise` is used.
+pub const NORMALISE: &str = "\
+usage: csicodec normalise [FILE ..]
+
+Write the control sequences (ESC [ ..) of each FILE in their normal form, one
+for each action. Refuse a FILE that has anything else, name the byte, and write
+nothing of that FILE.
+
+With no FILE, or when FILE is -, read standard input. Without a word csicodec
+does the same, unless standard input is a terminal.
+
   -h, --help     Show this text.";
 
 /// The program's name and version.

@@ -4,10 +4,10 @@ ghost use Rattle.csicodec_command.specs.Runs.{Asked, Closes, GoesOf, HasTurn, Is
 ghost use Rattle.csicodec_command.specs.{Failure.status, declared.failure.Failure.TheVariants.Run as Ran};
 ghost use Rattle.std.specs.Prelude.{◌≡◌, ◌⊎◌, ◌∷◌};
 
-use crate::command::{Invocation, Request, UNREADABLE, Wrong, command_of};
+use crate::command::{Invocation, Request, Task, UNREADABLE, Wrong, command_of};
 use crate::failure::{Failure, GONE};
 use crate::note::advice_of;
-use crate::options::WAITS;
+use crate::options::{USAGE, WAITS};
 use crate::packed::packing_of;
 use crate::recording::is_recording;
 use csicodec_transform::{READ, RunError, receive};
@@ -167,10 +167,11 @@ fn is_gone(error: io::Error) -> bool {
     error.kind() == ErrorKind::BrokenPipe
 }
 
-/// An output, and why its last write failed, if it did.
+/// An output, how many bytes it took, and why its last write failed, if it did.
 #[derive(Drop)]
 pub struct Output<W> {
     out: W,
+    len: u64,
     fault: Option<io::Error>,
 }
 
@@ -179,7 +180,11 @@ impl<W> Output<W> {
     pub fn new(out: W) -> Output<W>
         ensures { result.out ≡ out }
     {
-        Output { out, fault: None }
+        Output {
+            out,
+            len: 0,
+            fault: None,
+        }
     }
 }
 
@@ -188,6 +193,7 @@ impl<W: Write> Write for Output<W> {
 
     fn write(&mut self, bytes: &[u8]) -> io::Result<usize> {
         let done = self.out.write(bytes);
+        self.len = self.len.saturating_add(done.unwrap_or(0) as u64);
         self.fault = done.err();
         done
     }
@@ -521,26 +527,40 @@ pub fn run_through<T: Worker, I: Inputs, W: Write>(
     }
 }
 
-/// The same of files, standard input and standard output.
-pub fn work_through<T: Worker>(rt: &HostRuntime, work: &mut T, files: &[&str]) -> Result<(), u8> {
-    if files.is_empty() {
+/// A page of more bytes is one that a browser may be slow to show.
+const LARGE: u64 = 20_000_000;
+
+/// The same of the files of a run, standard input and standard output. Of a page that got large it is told.
+pub fn work_through<T: Worker>(
+    rt: &HostRuntime,
+    work: &mut T,
+    run: &Request<'_>,
+) -> Result<(), u8> {
+    if run.files.is_empty() {
         say_waits(rt);
     }
-    run_through(rt, rt, work, files, &mut Output::new(rt.stdout()))
+    let mut output = Output::new(rt.stdout());
+    run_through(rt, rt, work, &run.files, &mut output)?;
+    if matches!(run.task, Task::Html) && output.len > LARGE {
+        let size = output.len / 1_000_000;
+        let _told = eprintln!(rt;
+            "csicodec: the page has {size} MB, and a browser may be slow to show it"
+        );
+    }
+    Ok(())
 }
 
 /// Says what is wrong with the command line, and how the program is used; the status that it ends with.
 pub fn refused(rt: &HostRuntime, wrong: Wrong<'_>) -> u8 {
-    let failure = wrong.failure();
     let wrong = match wrong {
         Wrong::NoCommand(path, _) if File::open(rt, path).is_ok() => Wrong::File(path),
         _ => wrong,
     };
     let _told = match advice_of(wrong) {
-        Some(advice) => eprintln!(rt; "{failure}{wrong}\n{advice}"),
-        None => eprintln!(rt; "{failure}"),
+        Some(advice) => eprintln!(rt; "{wrong}\n{advice}"),
+        None => eprintln!(rt; "{wrong}"),
     };
-    failure.status()
+    wrong.failure().status()
 }
 
 /// Writes a text of its own.
@@ -599,8 +619,13 @@ pub fn words_of(rt: &HostRuntime) -> Result<Vec<String>, u8> {
     }
 }
 
-/// The work that these words ask for, or none where what they ask was told; the status, if that failed.
+/// The work that these words ask for, or none where what they ask was told; the status, if that failed. Someone at a terminal who gave
+/// none is told how the program is used.
 pub fn asked<'a>(rt: &HostRuntime, words: &'a [String]) -> Result<Option<Request<'a>>, u8> {
+    if words.is_empty() && rt.stdin().is_terminal() {
+        let _told = eprintln!(rt; "{USAGE}");
+        return Err(Failure::Usage.status());
+    }
     match command_of(rt.alloc(), words) {
         Ok(Invocation::Run(run)) => Ok(Some(run)),
         Ok(Invocation::Tell(text)) => {

@@ -30,7 +30,7 @@ fn by_char(front: Option<char>) -> Found
 }
 
 /// What stands in front, where that is no plain text, or none that is seen.
-fn found(bytes: &[u8]) -> Found
+pub(crate) fn found(bytes: &[u8]) -> Found
     ensures { result ≡ found_at bytes.now }
 {
     match bytes {
@@ -103,7 +103,7 @@ fn push_line<C: CharClass>(checked: &mut Checked, line: &[u8]) -> Result<bool, A
 }
 
 /// What the programs of a recording wrote. All of it is held.
-fn written_of<R: BufRead>(alloc: Global, input: &mut R) -> Result<Vec<u8>, Failure> {
+pub(crate) fn written_of<R: BufRead>(alloc: Global, input: &mut R) -> Result<Vec<u8>, Failure> {
     let mut reading = Recording::new(alloc);
     let mut line = Vec::new(alloc);
     let mut written = Vec::new(alloc);

@@ -4,11 +4,13 @@ ghost use Rattle.std.specs.Prelude.{⊤};
 use crate::diff::{DiffLine, Origin, lines_of};
 use crate::explain::explainer_of;
 use crate::explained_cast::explain_cast;
-use csicodec_command::{Failure, Worker, work_through};
+use csicodec_command::{Failure, Request, Worker, work_through};
 use csicodec_explain::Explainer;
 use csicodec_listing::style::Style;
+use csicodec_osc::Shown;
 use csicodec_transform::{RunError, send};
 use std::alloc::{AllocError, Global};
+use std::fmt::Write as _;
 use std::io::{BufRead, Read, Write};
 
 /// So many lines that are the same stand on each side of one that differs.
@@ -18,6 +20,8 @@ const NEAR: usize = 3;
 #[derive(Drop)]
 struct Compared<'a> {
     alloc: Global,
+    /// Their names.
+    names: &'a [&'a str],
     style: Style<'a>,
     /// What was told of those that were read to their end.
     texts: Vec<Vec<u8>>,
@@ -62,6 +66,16 @@ fn runs(alloc: Global, lines: &[DiffLine<'_>]) -> Result<Vec<u8>, AllocError> {
         before = is_shown;
     }
     Ok(out)
+}
+
+/// Which files they are, as `diff -u` has it ahead of all.
+fn head(alloc: Global, names: &[&str]) -> Result<Vec<u8>, AllocError> {
+    let mut out = String::new(alloc);
+    for (mark, name) in ["---", "+++"].iter().zip(names) {
+        let name = Shown(name.as_bytes());
+        write!(out, "{mark} {name}\n").map_err(|_| AllocError)?;
+    }
+    Ok(out.into_bytes())
 }
 
 /// The lines that differ and those near them, as `diff -u` marks them, with `@@` ahead of each run of them; nothing where none does.
@@ -117,12 +131,15 @@ impl<'a> Worker for Compared<'a> {
         };
         let told = told(self.alloc, first, second)?;
         self.differs = !told.is_empty();
+        if self.differs {
+            send(output, &head(self.alloc, self.names)?)?;
+        }
         Ok(send(output, &told)?)
     }
 }
 
 /// Writes what differs between two streams, as lines; the status, which is 1 where something does.
-pub fn explain_diff(rt: &HostRuntime, style: Style<'_>, files: &[&str]) -> Result<(), u8> {
+pub fn explain_diff(rt: &HostRuntime, style: Style<'_>, run: &Request<'_>) -> Result<(), u8> {
     let style = Style {
         json: false,
         count: false,
@@ -133,10 +150,11 @@ pub fn explain_diff(rt: &HostRuntime, style: Style<'_>, files: &[&str]) -> Resul
     };
     let mut work = Compared {
         alloc: rt.alloc(),
+        names: &run.files,
         style,
         texts: Vec::new(rt.alloc()),
         differs: false,
     };
-    work_through(rt, &mut work, files)?;
+    work_through(rt, &mut work, run)?;
     if work.differs { Err(1) } else { Ok(()) }
 }

@@ -192,10 +192,10 @@ pub fn explain_inputs(rt: &HostRuntime, run: &Request<'_>) -> Result<(), u8> {
     }
     let style = style_of(rt, run);
     if run.has("--diff") {
-        return explain_diff(rt, style, &run.files);
+        return explain_diff(rt, style, run);
     }
     let mut work = explained_of(rt, run, style)?;
-    work_through(rt, &mut work, &run.files)?;
+    work_through(rt, &mut work, run)?;
     let asks = run.has("--quiet") || run.has("--unknown") || run.has("--grep");
     if asks && !work.answer.any {
         Err(1)

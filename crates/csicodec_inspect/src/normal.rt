@@ -1,5 +1,5 @@
-//! What `csicodec` does without a word: it reads control sequences from standard input, and writes each action of theirs as a
-//! sequence of its own to standard output.
+//! What `csicodec normalise` does, and `csicodec` without a word: it reads control sequences, and writes each action of theirs as a
+//! sequence of its own.
 ghost use Rattle.csicodec_inspect.specs.Alone.{Normalises};
 
 use csicodec_command::{Alone, Failure};

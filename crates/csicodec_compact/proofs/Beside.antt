@@ -1,18 +1,20 @@
 -- Runs of parts, one after the other.
-use Rattle.std.proofs.Common.{◌≡◌, ◌≢◌, ◌≤◌, ◌+◌, ◌-◌, ℕ, true, false, List, [], ◌∷◌, ◌++◌, inl, inr, ⊎_elim, length, take, drop, refl, sym, ap, subst, ◌∙◌, append_assoc, append-nil, arith, true≢false, length-append, length-drop, length-take-le, take-take, flat_map}
+use Rattle.std.proofs.Common.{◌≡◌, ◌≢◌, ◌<◌, ◌≤◌, ◌+◌, ◌-◌, ℕ, true, false, List, [], ◌∷◌, ◌++◌, map, inl, inr, ⊎_elim, length, take, drop, refl, sym, ap, subst, ◌∙◌, append_assoc, append-nil, arith, true≢false, length-append, length-drop, length-take-le, take-take, flat_map}
 use Rattle.std.proofs.{lemmas.Bool.cases_Bool, Math.Seq.take-append_seam, lemmas.List.drop-append-le}
 use Rattle.csicodec_tokens.proofs.Reading.{one_seq}
 use Rattle.csicodec_parser.proofs.Cuts.{actions_are}
 use Rattle.csicodec_streams.specs.{Decoding.Decodes, Known.IsOne, Faithful.stays}
 use Rattle.csicodec_streams.proofs.OneReading.{decodes-append, decodes-one, one_decoding}
-use Rattle.csicodec_spans.specs.{Parts.Part, Parts.part, Parts.bytes_of, Parts.IsSpan, Parts.IsUnsure, declared.table.Kind.Kind, declared.table.Mode.Mode}
-use Rattle.csicodec_filter.specs.{Filter.Held, Written.Appends, Written.Leaves, Written.Since}
-use Rattle.csicodec_transform.specs.Transform.{Adds, Begins as BeginsWith, Sends, Transforms}
-use Rattle.csicodec_filter.proofs.Written.{made, makes, spanned}
+use Rattle.csicodec_spans.specs.Visits.{Call, Ends, Pause, PausesTo, Pushes, PushesTo, Rests, Stream, Tell, Visits, Writes, WritesCsi, parts_of, stream}
+use Rattle.csicodec_spans.specs.{Parts.Part, Parts.part, Parts.bytes_of, Parts.AreAll, Parts.IsSpan, declared.table.Kind.Kind, declared.table.Mode.Mode}
+use Rattle.csicodec_spans.specs.{Machine.Event, Machine.Open, Machine.collected, Told.mode_of, Told.part_of}
+use Rattle.csicodec_spans.proofs.{Driven.parted, Driven.parted_from, Missed.span_all}
+use Rattle.csicodec_transform.specs.Transform.{Begins as BeginsWith, Sends, Transforms}
+use Rattle.csicodec_filter.proofs.Written.{made, makes}
 use Rattle.csicodec_compact.specs.Runs.{IsStaying, NoneStays, Shortens, AreRuns, PassesShort, CompactsAll, most_joined}
 use Rattle.csicodec_compact.specs.Private.Steps.{Begins, joint, behind, is_joined, may_join, list_of, IsTail, IsNotedList, IsNoted, IsNote, HasFew, LeavesRoom, GoesOnFrom, IsEnd, IsHeld, Extends, GoesOnBy}
 use Rattle.csicodec_compact.specs.{declared.form.TextEnding.TextEnding, declared.shortener.Shortener.Shortener}
-use Rattle.csicodec_compact.proofs.Common.{flat_map-append, all-append, CsiParam, Seq, actions, Action, IsShortened, Holds, form_of, closing, opened, IsListed, IsOwn, Compacts, ReadsAlike}
+use Rattle.csicodec_compact.proofs.Common.{AllByRecursion, flat_map-append, all-append, CsiParam, Seq, actions, Action, IsShortened, Does, form_of, closing, opened, IsListed, IsOwn, Compacts, ReadsAlike}
 use Rattle.csicodec_compact.proofs.JoinedLists.{tail_joined, tail_decodes, joint_short}
 
 -- ---- bytes in front of others
@@ -46,9 +48,6 @@ shortened_run run text h = (run ∷ [], ([], text, [], sym (append-nil run), sym
 
 shortened_plain : (k : Kind) (bytes : List ℕ) → k ≢ Kind.Csi → IsShortened (part k bytes ∷ []) bytes
 shortened_plain k bytes ne = ((part k bytes ∷ []) ∷ [], ([], bytes, [], refl, sym (append-nil bytes), inr (part k bytes, refl, ne, refl), (refl, refl)))
-
-pub shortened_span : (k : Kind) (bytes : List ℕ) (ps : List Part) → k ≢ Kind.Csi → IsSpan k bytes ps → IsShortened ps bytes
-shortened_span = spanned IsShortened shortened_none shortened_plain shortened_on
 
 -- ---- one sequence, and two runs joined
 
@@ -260,11 +259,79 @@ extends_own st room left bytes parts short run before h =
 pub extends_close : (st : TextEnding) (room left : ℕ) → Extends st room [] (closing st) TextEnding.Whole left
 extends_close st room left run before h = rw (append-nil run) (held_whole run (before ++ closing st) left (closed run before st room h))
 
--- ---- the front of a piece
+-- ---- a visitor
 
--- by the states of what writes
-pub adds : (old new : Shortener) (parts : List Part) (before after : List ℕ) → GoesOnBy old.written.form old.written.room parts before after new.written.form new.written.room → Adds Holds old parts before after new
-adds old new parts before after (text, is, goes) = (text, (λ first run held h. goes run held h), is)
+-- a control sequence
+pub csi_writes : (v w : Shortener) (bytes before after : List ℕ) → GoesOnBy v.written.form v.written.room (part Kind.Csi bytes ∷ []) before after w.written.form w.written.room
+    → WritesCsi Does v bytes before after w
+csi_writes v w bytes before after (text, is, goes) = (text, (w, text, [], (goes, tt), sym (append-nil text), (refl, refl)), is)
+
+-- one that is written as it came
+pub own_writes : (v w : Shortener) (bytes before after : List ℕ) → IsOne bytes → w.written.form ≡ TextEnding.Whole → after ≡ (before ++ closing v.written.form) ++ bytes → WritesCsi Does v bytes before after w
+own_writes v w bytes before after one over out =
+    let close = closing v.written.form in
+    csi_writes v w bytes before after (
+      close ++ bytes,
+      out ∙ append_assoc before close bytes,
+      subst (λ (f : TextEnding). Extends v.written.form v.written.room (part Kind.Csi bytes ∷ []) (close ++ bytes) f w.written.room) (sym over)
+          (extends_own v.written.form v.written.room w.written.room bytes (part Kind.Csi bytes ∷ []) (shortened_one bytes one)),
+    )
+
+pub none_writes : (v : Shortener) (out : List ℕ) → Writes Does v [] out out v
+none_writes v out = ([], (refl, refl), sym (append-nil out))
+
+-- what is no control sequence: the list before it is over
+other_does : (k : Kind) (v w : Shortener) (e : Event) → w.written.form ≡ TextEnding.Whole → k ≢ Kind.Csi → (part_of e).kind ≡ k → Does v (Tell e) (closing v.written.form ++ (part_of e).bytes) w
+other_does k v w e over ne is =
+    let p = part_of e in (
+      subst (λ (f : TextEnding). Extends v.written.form v.written.room (p ∷ []) (closing v.written.form ++ p.bytes) f w.written.room) (sym over)
+          (extends_own v.written.form v.written.room w.written.room p.bytes (p ∷ []) (shortened_plain p.kind p.bytes (λ csi. ne (sym is ∙ csi)))),
+      tt,
+    )
+
+others_do : (k : Kind) (w : Shortener) (events : List Event) → w.written.form ≡ TextEnding.Whole → k ≢ Kind.Csi → AllByRecursion (λ (p : Part). p.kind ≡ k) (map part_of events)
+    → Visits Does w (map Tell events) (flat_map bytes_of (map part_of events)) w
+others_do k w [] over ne all = (refl, refl)
+others_do k w (e ∷ events) over ne (is, all) =
+    let own = (part_of e).bytes in
+    let none : closing w.written.form ++ own ≡ own = ap (λ (f : TextEnding). closing f ++ own) over in
+    (w, own, flat_map bytes_of (map part_of events), subst (λ (t : List ℕ). Does w (Tell e) t w) none (other_does k w w e over ne is), refl, others_do k w events over ne all)
+
+pub other_writes : (k : Kind) (v w : Shortener) (events : List Event) (bytes before after : List ℕ) → w.written.form ≡ TextEnding.Whole → after ≡ (before ++ closing v.written.form) ++ bytes
+    → k ≢ Kind.Csi → IsSpan k bytes (map part_of events) → Writes Does v (map Tell events) before after w
+other_writes k v w [] bytes before after over out ne span = absurd (omega (arith, (span_all k bytes [] span).some))
+other_writes k v w (e ∷ events) bytes before after over out ne span =
+    let all : AreAll k bytes (map part_of (e ∷ events)) = span_all k bytes (map part_of (e ∷ events)) span in
+    let own = (part_of e).bytes in
+    let more = flat_map bytes_of (map part_of events) in
+    let close = closing v.written.form in (
+      close ++ bytes,
+      (
+        w,
+        close ++ own,
+        more,
+        other_does k v w e over ne all.all.0,
+        ap (λ (t : List ℕ). close ++ t) (sym all.joined) ∙ sym (append_assoc close own more),
+        others_do k w events over ne all.all.1,
+      ),
+      out ∙ append_assoc before close bytes,
+    )
+
+-- a pause
+pub pause_does : (v w : Shortener) → w.written.form ≡ TextEnding.Whole → Does v Pause (closing v.written.form) w
+pause_does v w over =
+    (subst (λ (f : TextEnding). Extends v.written.form v.written.room [] (closing v.written.form) f w.written.room) (sym over) (extends_close v.written.form v.written.room w.written.room), over)
+
+-- what is written for calls in turn goes on with what was
+visits_held : (v w : Shortener) (calls : List Call) (text : List ℕ) → Visits Does v calls text w → Extends v.written.form v.written.room (parts_of calls) text w.written.form w.written.room
+visits_held v w [] text (none, same) run before h =
+    subst (λ (x : Shortener). IsHeld (run ++ []) (before ++ text) x.written.form x.written.room) (sym same) (rw (append-nil run, none, append-nil before) h)
+visits_held v w (Tell e ∷ calls) text (mid, first, others, (goes, rests), parts, rest) run before h =
+    rw (parts, ← append_assoc before first others, ← append_assoc run (part_of e ∷ []) (parts_of calls))
+    (visits_held mid w calls others rest (run ++ part_of e ∷ []) (before ++ first) (goes run before h))
+visits_held v w (Pause ∷ calls) text (mid, first, others, (goes, rests), parts, rest) run before h =
+    rw (parts, ← append_assoc before first others)
+    (visits_held mid w calls others rest run (before ++ first) (rw (append-nil run) at (goes run before h)))
 
 -- ---- a stream
 
@@ -272,48 +339,76 @@ adds old new parts before after (text, is, goes) = (text, (λ first run held h. 
 over : (run : List Part) (held : List ℕ) (form : TextEnding) (room : ℕ) → IsHeld run held form room → form ≡ TextEnding.Whole → IsShortened run held
 over run held form room h whole = rw (append-nil held) at (closed run held TextEnding.Whole room (rw whole at h))
 
+module _ (v : Shortener) (whole : v.written.form ≡ TextEnding.Whole) where
+  -- what is held for calls, where nothing went on
+  held_of : (w : Shortener) (calls : List Call) (text : List ℕ) → Visits Does v calls text w → IsHeld (parts_of calls) text w.written.form w.written.room
+  held_of w calls text h = visits_held v w calls text h [] [] (rw whole (none_held v.written.room))
+
+  -- and what is written for them, behind a pause
+  paused : (w x : Shortener) (calls : List Call) (text more : List ℕ) → Visits Does v calls text w → Does w Pause more x → IsShortened (parts_of calls) (text ++ more)
+  paused w x calls text more h (goes, rests) =
+      over (parts_of calls) (text ++ more) x.written.form x.written.room (rw (append-nil (parts_of calls)) at (goes (parts_of calls) text (held_of w calls text h))) rests
+
 -- what has passed at the end of a push, where the list is over
-pub passes_over : (old mid : Held Shortener) (new : Shortener) (before between after : List ℕ) → old.rewrite.written.form ≡ TextEnding.Whole → Appends Holds old before between mid
-    → IsUnsure old.limit mid.mode mid.bytes → Adds Holds mid.rewrite [] between after new → new.written.form ≡ TextEnding.Whole
-    → (text : List ℕ) × PassesShort old.limit old.mode old.bytes text mid.bytes mid.mode × (after ≡ before ++ text)
-passes_over old mid new before between after whole (text, x, is) unsure (more, goes, end) rests =
-    let held : IsHeld x.parts text mid.rewrite.written.form mid.rewrite.written.room = x.goes old.rewrite [] [] (rw whole (none_held old.rewrite.written.room)) in
-    let all : IsHeld x.parts (text ++ more) new.written.form new.written.room = rw (append-nil x.parts) at (goes old.rewrite x.parts text held) in (
-      text ++ more,
-      record { parts = x.parts; first = x.first; unsure = unsure; written = over x.parts (text ++ more) new.written.form new.written.room all rests },
-      end ∙ ap (λ (l : List ℕ). l ++ more) is ∙ append_assoc before text more,
+pub passes_over : (s t u : Stream Shortener) (bytes before between after : List ℕ) → s.visitor.written.form ≡ TextEnding.Whole → PushesTo Does s bytes before between t
+    → PausesTo Does t between after u
+    → (text : List ℕ) × PassesShort s.limit (mode_of s.state) (collected s.state ++ bytes) text (collected u.state) (mode_of u.state) × (after ≡ before ++ text)
+passes_over s t u bytes before between after whole h k =
+    let p = parted Does s t bytes before between h in
+    let state = ap (λ (x : Stream Shortener). x.state) k.to in (
+      h.text ++ k.text,
+      record {
+        parts = parts_of h.pushes.calls;
+        first = rw state p.first;
+        unsure = rw state p.unsure;
+        written = paused s.visitor whole t.visitor u.visitor h.pushes.calls h.text k.text h.pushes.visits k.does_so;
+      },
+      k.out ∙ ap (λ (l : List ℕ). l ++ k.text) h.out ∙ append_assoc before h.text k.text,
     )
 
 -- the end
 pub compacts_all : (limit : ℕ) (m a : Mode) (bytes text rest : List ℕ) → PassesShort limit m bytes text rest a → CompactsAll limit m bytes (text ++ rest)
 compacts_all = makes IsShortened shortened_none shortened_plain shortened_on
 
-abbrev pub Rested : Shortener → Type 0
-Rested s = s.written.form ≡ TextEnding.Whole
+module _ (limit : ℕ) (v : Shortener) (some : 0 < limit) (whole : v.written.form ≡ TextEnding.Whole) where
+  abbrev First : Stream Shortener
+  First = stream limit (Open Mode.Text) v
 
-module _ (first : Held Shortener) where
   -- what passed, where nothing goes on
-  pub since_rests : (last : Held Shortener) (bytes text : List ℕ) → Since Holds first bytes text last → Rested last.rewrite → PassesShort first.limit Mode.Text bytes text last.bytes last.mode
-  since_rests last bytes text since rests =
-      record { parts = since.parts; first = since.cut; unsure = since.unsure; written = over since.parts text last.rewrite.written.form last.rewrite.written.room since.written rests }
+  pub since_rests : (last : Stream Shortener) (bytes text : List ℕ) → Pushes Does First bytes text last → Rests Does last → PassesShort limit Mode.Text bytes text (collected last.state) (mode_of last.state)
+  since_rests last bytes text h (w, own, does) =
+      let p = parted_from Does First last bytes text some tt h in
+      record {
+        parts = parts_of h.calls;
+        first = p.first;
+        unsure = p.unsure;
+        written = over (parts_of h.calls) text last.visitor.written.form last.visitor.written.room (held_of v whole last.visitor h.calls text h.visits) does.1;
+      }
 
   -- all bytes, and what was held
-  pub compacted : (bytes text : List ℕ) → Transforms (Since Holds) (Leaves Holds Rested) first bytes text → CompactsAll first.limit Mode.Text bytes text
+  pub compacted : (bytes text : List ℕ) → Transforms (Pushes Does) (Ends Does) First bytes text → CompactsAll limit Mode.Text bytes text
   compacted bytes text =
-      made IsShortened shortened_none shortened_plain shortened_on Holds Rested first bytes text
-      (λ parts own last h rests. over parts own last.written.form last.written.room h rests)
+      made IsShortened shortened_none shortened_plain shortened_on Does limit v bytes text some
+      (λ calls own more last done visits pauses. paused v whole last done calls own more visits pauses)
 
   -- what went out is a front of what is made of the bytes
-  pub begun_compacts : (AreAll : Type 0) (bytes sent : List ℕ) → BeginsWith (Sends (Since Holds) first) (Transforms (Since Holds) (Leaves Holds Rested) first) AreAll bytes sent
-      → (unsent : List ℕ) × CompactsAll first.limit Mode.Text bytes (sent ++ unsent)
+  pub begun_compacts : (AreAll : Type 0) (bytes sent : List ℕ) → BeginsWith (Sends (Pushes Does) First) (Transforms (Pushes Does) (Ends Does) First) AreAll bytes sent
+      → (unsent : List ℕ) × CompactsAll limit Mode.Text bytes (sent ++ unsent)
   begun_compacts AreAll bytes sent (unsent, h) = ⊎_elim
-      (λ (k : Sends (Since Holds) first bytes (sent ++ unsent)).
+      (λ (k : Sends (Pushes Does) First bytes (sent ++ unsent)).
       let (last, since) = k in
-      let close = closing last.rewrite.written.form in
-      let passed : PassesShort first.limit Mode.Text bytes ((sent ++ unsent) ++ close) last.bytes last.mode =
-      record { parts = since.parts; first = since.cut; unsure = since.unsure; written = closed since.parts (sent ++ unsent) last.rewrite.written.form last.rewrite.written.room since.written } in
-      let same : ((sent ++ unsent) ++ close) ++ last.bytes ≡ sent ++ (unsent ++ (close ++ last.bytes)) =
-      append_assoc (sent ++ unsent) close last.bytes ∙ append_assoc sent unsent (close ++ last.bytes) in
-      (unsent ++ (close ++ last.bytes), rw same at (compacts_all first.limit Mode.Text last.mode bytes ((sent ++ unsent) ++ close) last.bytes passed)))
-      (λ (k : AreAll × Transforms (Since Holds) (Leaves Holds Rested) first bytes (sent ++ unsent)). (unsent, compacted bytes (sent ++ unsent) k.1))
+      let form = last.visitor.written.form in
+      let held = collected last.state in
+      let p = parted_from Does First last bytes (sent ++ unsent) some tt since in
+      let passed : PassesShort limit Mode.Text bytes ((sent ++ unsent) ++ closing form) held (mode_of last.state) =
+      record {
+        parts = parts_of since.calls;
+        first = p.first;
+        unsure = p.unsure;
+        written = closed (parts_of since.calls) (sent ++ unsent) form last.visitor.written.room (held_of v whole last.visitor since.calls (sent ++ unsent) since.visits);
+      } in
+      let same : ((sent ++ unsent) ++ closing form) ++ held ≡ sent ++ (unsent ++ (closing form ++ held)) =
+      append_assoc (sent ++ unsent) (closing form) held ∙ append_assoc sent unsent (closing form ++ held) in
+      (unsent ++ (closing form ++ held), rw same at (compacts_all limit Mode.Text (mode_of last.state) bytes ((sent ++ unsent) ++ closing form) held passed)))
+      (λ (k : AreAll × Transforms (Pushes Does) (Ends Does) First bytes (sent ++ unsent)). (unsent, compacted bytes (sent ++ unsent) k.1))
       h

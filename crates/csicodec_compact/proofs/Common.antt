@@ -1,7 +1,7 @@
 -- The names that many proofs here cite, passed on from one place. Declares nothing.
 pub use Rattle.csicodec_actions.proofs.AllRows.{all-append}
 pub use Rattle.csicodec_actions.specs.Actions.{Action, Sgr}
-pub use Rattle.csicodec_compact.specs.{Compacts.Compacts, Compacts.Encodes, Compacts.ReadsAlike, Private.Steps.Holds, Private.Steps.IsListed, Private.Steps.IsOwn}
+pub use Rattle.csicodec_compact.specs.{Compacts.Compacts, Compacts.Encodes, Compacts.ReadsAlike, Private.Steps.Does, Private.Steps.IsListed, Private.Steps.IsOwn}
 pub use Rattle.csicodec_compact.specs.{Private.Steps.closing, Private.Steps.form_of, Private.Steps.is_other, Private.Steps.opened, Runs.IsShortened}
 pub use Rattle.csicodec_parser.specs.{ActionOf.action_of, Private.Steps.actions, Segments.Actions, declared.actions.CSI.CSI}
 pub use Rattle.csicodec_tokens.specs.{Sequence.Seq, declared.param.CsiParam.CsiParam}

@@ -5,9 +5,8 @@ ghost use Rattle.csicodec_spans.specs.{declared.table.Mode.Mode, declared.table.
 ghost use Rattle.csicodec_compact.specs.Runs.{CompactsAll, PassesShort};
 
 use crate::compact::Compact;
-use crate::notes::Short;
-use crate::shortener::Shortener;
-use csicodec_filter::Spanwise;
+use crate::shortener::{Memory, Shortener};
+use csicodec_spans::Driver;
 use csicodec_transform::{RunError, transform_all};
 use std::alloc::Global;
 use std::io::{Read, Write};
@@ -51,10 +50,7 @@ pub fn compact_all<R: Read, W: Write>(
         × CompactsAll limit Plain bytes (sent ++ unsent)
         × Appends (W.contents output.old) (W.contents output.new) sent) }
 {
-    let stream: Spanwise<Shortener, Short> = Spanwise::new(
-        alloc,
-        limit,
-        Shortener::new(alloc, compact),
-    );
-    transform_all(alloc, stream, input, output)
+    let shortener = Shortener::new(alloc, compact);
+    let driver = Driver::new(alloc, limit, shortener, Memory::new(alloc));
+    transform_all(alloc, driver, input, output)
 }

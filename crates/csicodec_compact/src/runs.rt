@@ -1,8 +1,7 @@
 //! Runs of control sequences side by side.
 ghost use Rattle.std.specs.Prelude.{◌≡◌, ◌≤◌, ◌++◌, ℕ, List, [], ◌∷◌, true, drop, length, take, OnOk};
-ghost use Rattle.csicodec_spans.specs.{declared.table.Kind.TheVariants.Csi as Sequence, Parts.Part, Parts.part};
+ghost use Rattle.csicodec_spans.specs.{declared.table.Kind.TheVariants.Csi as Sequence, Parts.part};
 ghost use Rattle.csicodec_compact.specs.Private.Steps.{Begins, GoesOnBy, IsNote, behind, closing, joint, may_join, opened};
-ghost use Rattle.csicodec_compact.specs.Runs.{IsShortened};
 
 use crate::encode::NUMBERS;
 use crate::form::TextEnding;
@@ -176,9 +175,9 @@ impl Written {
         out: &mut TextBuffer,
     ) -> Result<(), AllocError>
         requires { len ≤ length bytes.now }
-        ensures { OnOk result ((parts : List Part) → IsShortened parts (take len bytes.now)
-            → GoesOnBy self.old.form self.old.room parts out.old out.new self.new.form
-            self.new.room) }
+        ensures text { OnOk result
+            (out.new ≡ (out.old ++ closing self.old.form) ++ take len bytes.now) }
+        ensures form { self.new.form ≡ TextEnding.Whole }
     {
         self.close(out)?;
         append_front(bytes, len, out)

@@ -1,8 +1,7 @@
 //! What is written for the spans of a stream that is made shorter.
-ghost use Rattle.std.specs.Prelude.{◌≡◌, ◌≤◌, ℕ, drop, length, IfOk};
-ghost use Rattle.csicodec_spans.specs.declared.table.Mode.TheVariants.{Text as Plain};
-ghost use Rattle.csicodec_filter.specs.Written.{Appends, open_at};
-ghost use Rattle.csicodec_compact.specs.Private.Steps.{Holds};
+ghost use Rattle.std.specs.Prelude.{◌≡◌, ◌<◌, ◌≤◌, ℕ, [], take, length, IfOk};
+ghost use Rattle.csicodec_spans.specs.{Parts.IsSequence, Visits.Writes, Visits.WritesCsi};
+ghost use Rattle.csicodec_compact.specs.Private.Steps.{Does};
 
 use crate::compact::Compact;
 use crate::form::TextEnding;
@@ -10,11 +9,38 @@ use crate::lists::numbers;
 use crate::notes::{Notes, Short, open_note};
 use crate::runs::Written;
 use csicodec_base::TextBuffer;
-use csicodec_filter::{Room, WriteSpans};
-use csicodec_spans::plain_len;
+use csicodec_spans::{Sequence, Visit};
 use csicodec_streams::{position_len, read_color};
-use csicodec_transform::WIDE;
+use csicodec_transform::{Known, WIDE};
 use std::alloc::{AllocError, Global};
+use std::marker::Model;
+
+/// The sequences that came before.
+#[derive(Drop)]
+pub(crate) struct Memory {
+    known: Known<Short>,
+}
+
+impl Model for Memory {
+    ghost use Rattle.std.specs.Prelude.{List};
+    ghost use Rattle.csicodec_transform.specs.declared.memo.Slot.{Slot};
+    ghost use Rattle.csicodec_transform.specs.Known.{AreKnown};
+    ghost use Rattle.csicodec_compact.specs.Private.Steps.{IsNote};
+
+    ghost Value = { List Slot };
+
+    ghost view = { λ m. m.known.memo.slots.items };
+
+    ghost invariant = { λ m. AreKnown IsNote m.known.memo.slots.items };
+}
+
+impl Memory {
+    /// With nothing known.
+    pub(crate) fn new(alloc: Global) -> Memory {
+        let known = Known::new(alloc);
+        Memory { known }
+    }
+}
 
 /// What writes a stream shorter: what finds the texts of sequences, and how what was written ends.
 #[derive(Drop)]
@@ -46,14 +72,16 @@ impl Shortener {
     #[inline(never)]
     fn pass_plain(
         &mut self,
-        room: &mut Room<Short>,
+        memory: &mut Memory,
         limit: usize,
         bytes: &[u8],
         out: &mut TextBuffer,
     ) -> Result<usize, AllocError>
         ensures within { IfOk result (λ len. len ≤ length bytes.now) }
-        ensures written { IfOk result (λ len. Appends Holds (open_at self.old limit Plain bytes.now)
-            out.old out.new (open_at self.new limit Plain (drop len bytes.now))) }
+        ensures short { IfOk result (λ len. len ≤ limit) }
+        ensures known { IfOk result (λ len. 0 < len → IsSequence (take len bytes.now)
+            × WritesCsi Does self.old (take len bytes.now) out.old out.new self.new) }
+        ensures none { IfOk result (λ len. len ≡ 0 → Writes Does self.old [] out.old out.new self.new) }
     {
         let moved = position_len(b'2', bytes);
         if moved > 0 && moved <= limit {
@@ -70,69 +98,65 @@ impl Shortener {
         let wide = open_note(numbers(bytes.split_at(len).0), bytes);
         let note = &wide[..len];
         self.written.take(note, &wide, out)?;
-        room.known.keep(bytes, len, note);
+        memory.known.keep(bytes, len, note);
         Ok(len)
     }
 }
 
-impl WriteSpans<Short> for Shortener {
-    ghost use Rattle.std.specs.Prelude.{◌≡◌};
-    ghost use Rattle.csicodec_compact.specs.declared.form.TextEnding.TheVariants as TextEnding;
-    ghost use Rattle.csicodec_compact.specs.Private.Steps.{Holds};
+impl Visit<Shortener> for Memory {
+    ghost use Rattle.csicodec_compact.specs.Private.Steps.{Does};
 
-    ghost written = { Holds };
+    ghost does = { Does };
 
-    ghost rests = { λ s. s.written.form ≡ TextEnding.Whole };
-
-    /// Text, an escape sequence, a control sequence that is known, a position and a colour pass.
+    /// A control sequence that is known, a position and a colour pass.
     #[inline(always)]
-    fn pass(
+    fn csi_at_once(
         &mut self,
-        room: &mut Room<Short>,
+        visitor: &mut Shortener,
         limit: usize,
         bytes: &[u8],
         out: &mut TextBuffer,
     ) -> Result<usize, AllocError> {
-        if matches!(bytes, [0x1b, b'[', ..]) {
-            let len = room.known.look(limit, bytes);
-            if len == 0 {
-                return self.pass_plain(room, limit, bytes, out);
-            }
-            self.written
-                .take(room.known.noted(), room.known.wide(), out)?;
-            return Ok(len);
-        }
-        let len = plain_len(bytes);
+        let len = self.known.look(limit, bytes);
         if len == 0 {
-            return Ok(0);
+            return visitor.pass_plain(self, limit, bytes, out);
         }
-        self.written.pass(bytes, len, out)?;
+        visitor
+            .written
+            .take(self.known.noted(), self.known.wide(), out)?;
         Ok(len)
     }
 
     /// What is noted of it is kept.
-    fn sequence(
+    fn csi_dispatch(
         &mut self,
-        room: &mut Room<Short>,
+        visitor: &mut Shortener,
         bytes: &[u8],
         len: usize,
-        control: char,
+        sequence: Sequence,
         out: &mut TextBuffer,
     ) -> Result<(), AllocError> {
         let (span, _) = bytes.split_at(len);
-        self.notes.find(span, &room.params, control)?;
-        self.written
-            .take(self.notes.note(), self.notes.note(), out)?;
-        room.known.keep(bytes, len, self.notes.note());
+        visitor.notes.find(span, sequence.params, sequence.control)?;
+        let note = visitor.notes.note();
+        visitor.written.take(note, note, out)?;
+        self.known.keep(bytes, len, visitor.notes.note());
         Ok(())
     }
 
     /// The list before it is over.
-    fn other(&mut self, bytes: &[u8], out: &mut TextBuffer) -> Result<(), AllocError> {
-        self.written.pass(bytes, bytes.len(), out)
+    #[inline(always)]
+    fn other(
+        &mut self,
+        visitor: &mut Shortener,
+        bytes: &[u8],
+        len: usize,
+        out: &mut TextBuffer,
+    ) -> Result<(), AllocError> {
+        visitor.written.pass(bytes, len, out)
     }
 
-    fn pause(&mut self, out: &mut Vec<u8>) -> Result<(), AllocError> {
-        self.written.close_into(out)
+    fn pause(&mut self, visitor: &mut Shortener, out: &mut Vec<u8>) -> Result<(), AllocError> {
+        visitor.written.close_into(out)
     }
 }

@@ -4,9 +4,8 @@ ghost use Rattle.csicodec_spans.specs.declared.table.Mode.TheVariants.{Text as P
 ghost use Rattle.csicodec_compact.specs.Runs.{CompactsAll, PassesShort};
 
 use crate::compact::Compact;
-use crate::notes::Short;
-use crate::shortener::Shortener;
-use csicodec_filter::{Spanwise, WriteSpans};
+use crate::shortener::{Memory, Shortener};
+use csicodec_spans::Driver;
 use std::alloc::{AllocError, Global};
 use std::marker::Model;
 
@@ -25,15 +24,16 @@ use std::marker::Model;
 /// ```
 #[derive(Drop)]
 pub struct Compactor {
-    stream: Spanwise<Shortener, Short>,
+    driver: Driver<Shortener, Memory>,
 }
 
 impl Model for Compactor {
+    ghost use Rattle.csicodec_spans.specs.{Machine.collected, Told.mode_of};
     ghost use Rattle.csicodec_compact.specs.Runs.{Open};
 
     ghost Value = { Open };
 
-    ghost view = { λ c. record { limit = c.stream.limit; mode = c.stream.mode; bytes = c.stream.bytes } };
+    ghost view = { λ c. record { limit = c.driver.limit; mode = mode_of c.driver.state; bytes = collected c.driver.state } };
 }
 
 impl Compactor {
@@ -42,8 +42,9 @@ impl Compactor {
         requires { 0 < limit }
         ensures { result ≡ record { limit = limit; mode = Plain; bytes = [] } }
     {
+        let shortener = Shortener::new(alloc, compact);
         Compactor {
-            stream: Spanwise::new(alloc, limit, Shortener::new(alloc, compact)),
+            driver: Driver::new(alloc, limit, shortener, Memory::new(alloc)),
         }
     }
 
@@ -59,9 +60,9 @@ impl Compactor {
         ensures short { OnOk result
             ((length self.new.bytes < self.new.limit) ⊎ (length self.new.bytes < 3)) }
     {
-        self.stream.writer.restart();
-        self.stream.push(bytes, out)?;
-        self.stream.writer.pause(out)?;
+        self.driver.visitor.restart();
+        self.driver.push(bytes, out)?;
+        self.driver.pause(out)?;
         Ok(())
     }
 
@@ -69,7 +70,7 @@ impl Compactor {
     pub fn finish(&mut self, out: &mut Vec<u8>) -> Result<(), AllocError>
         ensures { OnOk result (out.new.items ≡ out.old.items ++ self.old.bytes) }
     {
-        self.stream.append_held(out)
+        self.driver.append_collected(out)
     }
 }
 

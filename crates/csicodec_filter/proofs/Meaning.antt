@@ -7,10 +7,10 @@ use Rattle.csicodec_streams.specs.Decoding.{AreActions, Decodes, Joins}
 use Rattle.csicodec_spans.specs.Parts.{Part, part, bytes_of, left_over, Allows, IsFirstPart, AreFirstParts, IsUnsure, IsWhole}
 use Rattle.csicodec_spans.specs.{Table.ahead, declared.table.Kind.Kind, declared.table.Mode.Mode}
 use Rattle.csicodec_spans.proofs.{Agrees.sound, Waits.more_whole, Waits.none_left as whole_none, Once.parts_more, Once.whole_once, Missed.allows_whole}
-use Rattle.csicodec_spans.proofs.{Missed.part_some, Missed.whole_joined}
+use Rattle.csicodec_spans.proofs.{Missed.part_some, Missed.seq_part, Missed.whole_joined}
 use Rattle.csicodec_filter.specs.Meaning.{AreCsi, Means, MeanTheSame, StandInPlace, singles, KeepsMeaning, Within}
 use Rattle.csicodec_filter.specs.Filter.{AreWritten, IsWritten}
-use Rattle.csicodec_filter.proofs.{Shorter.ahead_less, Written.first_csi}
+use Rattle.csicodec_filter.proofs.Shorter.{ahead_less}
 
 -- what stands in front of more bytes stands there already with the first of them
 part_less : (limit : ℕ) (m : Mode) (p : Part) (s x : List ℕ) (a : Mode) → 0 < limit → 0 < length s → IsFirstPart limit m (p.bytes ++ (s ++ x)) p (s ++ x) a → IsFirstPart limit m (p.bytes ++ s) p s a
@@ -101,7 +101,7 @@ first_csis limit [] m bytes more j within = (sym (ap (λ (t : List ℕ). t ++ mo
 first_csis limit (s ∷ ss) m bytes more j within =
     let long : length bytes ≡ length j.0 + length j.1 = ap length j.2 ∙ length-append j.0 j.1 in
     let all : j.0 ++ (j.1 ++ more) ≡ bytes ++ more = sym (append_assoc j.0 j.1 more) ∙ ap (λ (t : List ℕ). t ++ more) (sym j.2) in
-    let first = first_csi limit m j.0 (j.1 ++ more) (s.0, s.1, j.3) (omega (arith, long, within)) in
+    let first = seq_part limit m j.0 (j.1 ++ more) (s.0, s.1, j.3) (omega (arith, long, within)) in
     let others = first_csis limit ss Mode.Text j.1 more j.4 (omega (arith, long, within)) in (
       j.1 ++ more,
       Mode.Text,

@@ -1,121 +1,23 @@
--- A stream that is written span by span, and the texts of its parts.
-use Rattle.std.proofs.Common.{◌≡◌, ◌≢◌, ◌<◌, ◌≤◌, ◌-◌, ℕ, zero, suc, Option, IfSome, List, [], ◌∷◌, ◌++◌, length, take, drop, refl, sym, ap, subst, ◌∙◌, append_assoc, append-nil, arith, length-append, length-take, take-append-drop, flat_map}
-use Rattle.std.specs.{Io.KnownBytes.Appends as Gets, Io.KnownBytes.Consumes, Io.KnownBytes.IsAtEnd, List.AllByRecursion, Prelude.⊤}
-use Rattle.csicodec_spans.specs.Parts.{Part, part, bytes_of, left_over, Allows, AreFirstParts, IsFirstPart, IsPlainFront, IsSpan, IsUnsure}
-use Rattle.csicodec_spans.specs.{Table.Answer, Table.Sequence, Table.ahead, declared.table.Kind.Kind, declared.table.Mode.Mode}
-use Rattle.csicodec_spans.proofs.{Agrees.opens, Once.parts_join, Once.parts_more, Once.parts_on, Once.parts_front, Once.whole_once, OneSpan.none_unsure}
-use Rattle.csicodec_spans.proofs.{Missed.rest_is}
-use Rattle.csicodec_streams.specs.Known.{IsOne}
-use Rattle.csicodec_filter.specs.Filter.{AreWritten, Filters, Held, IsFrontOf, IsWritten, MakesBy, Passes, PassesBy, WritesOne}
-use Rattle.csicodec_filter.specs.Written.{Appends, ByRule, Leaves, Since, WrittenOf, open_at, with_more}
-use Rattle.csicodec_transform.specs.Transform.{Adds, Begins, Sends, Transforms}
-use Rattle.csicodec_transform.proofs.Sent.{goes_none, goes_on, whole_front}
+-- What is written for the parts of a stream, and for what a visitor is told of it.
+use Rattle.std.proofs.Common.{◌≡◌, ◌≢◌, ◌<◌, ℕ, Option, IfSome, List, [], ◌∷◌, ◌++◌, map, refl, sym, ap, subst, ◌∙◌, append_assoc, append-nil, flat_map}
+use Rattle.std.specs.{Io.KnownBytes.Appends as Gets, Io.KnownBytes.Consumes, Io.KnownBytes.IsAtEnd, List.AllByRecursion}
+use Rattle.csicodec_spans.specs.Visits.{Call, DoesOf, Ends, Pause, Pushes, PushesTo, Stream, Tell, TellsTo, Visits, Writes, WritesCsi, parts_of, place, stream}
+use Rattle.csicodec_spans.specs.{Parts.Part, Parts.part, Parts.bytes_of, Parts.left_over, Parts.AreAll, Parts.IsSpan, Parts.IsUnsure, declared.table.Kind.Kind}
+use Rattle.csicodec_spans.specs.{declared.table.Mode.Mode, Machine.Event, Machine.Open, Machine.collected, Told.mode_of, Told.part_of}
+use Rattle.csicodec_spans.proofs.{Driven.parted, Driven.parted_from, Driven.parted_place, Missed.span_all, Once.parts_more, Once.parts_front, Once.whole_once}
+use Rattle.csicodec_filter.specs.Filter.{AreWritten, Filters, IsFrontOf, IsWritten, MakesBy, Passes, PassesBy, WritesOne}
+use Rattle.csicodec_filter.specs.Rewrites.{Rewrites}
+use Rattle.csicodec_transform.specs.Transform.{Begins, Sends, Transforms}
+use Rattle.csicodec_transform.proofs.Sent.{whole_front}
 
--- a sequence is a part, in any mode
-pub first_csi : (limit : ℕ) (m : Mode) (text rest : List ℕ) → IsOne text → length text ≤ limit → IsFirstPart limit m (text ++ rest) (part Kind.Csi text) rest Mode.Text
-first_csi limit m text rest s short =
-    let is : ahead m (text ++ rest) ≡ Sequence = ap (λ (t : List ℕ). ahead m (t ++ rest)) s.2.whole ∙ opens m ((s.2.body ++ s.1 ∷ []) ++ rest) in
-    (refl, subst (λ (f : Answer). Allows f limit (text ++ rest) Kind.Csi text Mode.Text) (sym is) (s, short, refl))
-
--- so many bytes in front, which are one
-pub one_first : (limit : ℕ) (n : Mode) (rest : List ℕ) (len : ℕ) → IsOne (take len rest) →
-    len ≤ limit → len ≤ length rest →
-    AreFirstParts limit n rest (part Kind.Csi (take len rest) ∷ []) (drop len rest) Mode.Text
-one_first limit n rest len one short within =
-    let first = first_csi limit n (take len rest) (drop len rest) one (omega (arith, length-take len rest, short)) in
-    (drop len rest, Mode.Text, subst (λ (t : List ℕ). IsFirstPart limit n t (part Kind.Csi (take len rest)) (drop len rest) Mode.Text) (take-append-drop len rest) first, (refl, refl))
-
-module _ {S : Type 0} (Own : WrittenOf S) where
-  -- no parts
-  pub adds_none : (s : S) (out : List ℕ) → Adds Own s [] out out s
-  adds_none s out = ([], goes_none Own s, sym (append-nil out))
-
-  -- some parts in front
-  pub appends : (limit : ℕ) (old new : S) (m a : Mode) (bytes rest before after : List ℕ) (parts : List Part) → AreFirstParts limit m bytes parts rest a → Adds Own old parts before after new
-      → Appends Own (open_at old limit m bytes) before after (open_at new limit a rest)
-  appends limit old new m a bytes rest before after parts first (text, goes, is) =
-      (text, record { limit = refl; parts = parts; first = first; goes = goes }, is)
-
-  pub appends_none : (s : Held S) (out : List ℕ) → Appends Own s out out s
-  appends_none s out = appends s.limit s.rewrite s.rewrite s.mode s.mode s.bytes s.bytes out out [] (refl, refl) (adds_none s.rewrite out)
-
-  -- text or an escape sequence in front, and a control sequence
-  pub front_plain : (limit n : ℕ) (bytes : List ℕ) (old new : S) (before after : List ℕ) → IsPlainFront bytes n
-      → ((k : Kind) (parts : List Part) → k ≢ Kind.Csi → IsSpan k (take n bytes) parts → Adds Own old parts before after new)
-      → Appends Own (open_at old limit Mode.Text bytes) before after (open_at new limit Mode.Text (drop n bytes))
-  front_plain limit n bytes old new before after (k, other, cuts) adds =
-      let found = cuts limit in
-      appends limit old new Mode.Text Mode.Text bytes (drop n bytes) before after found.parts found.first (adds k found.parts other found.span)
-
-  pub front_known : (limit n : ℕ) (bytes : List ℕ) (old new : S) (before after : List ℕ) → IsOne (take n bytes) → n ≤ limit → n ≤ length bytes
-      → Adds Own old (part Kind.Csi (take n bytes) ∷ []) before after new
-      → Appends Own (open_at old limit Mode.Text bytes) before after (open_at new limit Mode.Text (drop n bytes))
-  front_known limit n bytes old new before after one short within adds =
-      appends limit old new Mode.Text Mode.Text bytes (drop n bytes) before after (part Kind.Csi (take n bytes) ∷ [])
-      (one_first limit Mode.Text bytes n one short within) adds
-
-  -- some, and then others
-  pub appends_on : (s t u : Held S) (a b c : List ℕ) → Appends Own s a b t → Appends Own t b c u → Appends Own s a c u
-  appends_on s t u a b c (x, h, e) (y, k, f) = (
-    x ++ y,
-    record {
-      limit = k.limit ∙ h.limit;
-      parts = h.parts ++ k.parts;
-      first = parts_on s.limit h.parts k.parts s.mode s.bytes t.bytes u.bytes t.mode u.mode h.first
-          (subst (λ (l : ℕ). AreFirstParts l t.mode t.bytes k.parts u.bytes u.mode) h.limit k.first);
-      goes = goes_on Own s.rewrite t.rewrite u.rewrite h.parts k.parts x y h.goes k.goes;
-    },
-    f ∙ ap (λ (l : List ℕ). l ++ y) e ∙ append_assoc a x y,
-  )
-
-  -- what is left is the end of what was there
-  pub left_join : (s t : Held S) (a b : List ℕ) → (x : Appends Own s a b t) → s.bytes ≡ flat_map bytes_of x.1.parts ++ t.bytes
-  left_join s t a b x = parts_join s.limit x.1.parts s.mode s.bytes t.bytes t.mode x.1.first
-
-  pub left_within : (s t : Held S) (a b : List ℕ) → Appends Own s a b t → length t.bytes ≤ length s.bytes
-  left_within s t a b x = omega (arith, ap length (left_join s t a b x), length-append (flat_map bytes_of x.1.parts) t.bytes)
-
-  pub left_is : (s t : Held S) (a b : List ℕ) → Appends Own s a b t → drop (length s.bytes - length t.bytes) s.bytes ≡ t.bytes
-  left_is s t a b x = rest_is s.bytes (flat_map bytes_of x.1.parts) t.bytes (left_join s t a b x)
-
-  -- nothing came yet
-  pub since_none : (s : S) (limit : ℕ) → Own s [] [] s → Since Own (open_at s limit Mode.Text []) [] [] (open_at s limit Mode.Text [])
-  since_none s limit begun = record { limit = refl; parts = []; cut = (refl, refl); unsure = none_unsure limit Mode.Text; written = begun }
-
-  -- a chunk more
-  pub since_on : (first last new : Held S) (read chunk text before after : List ℕ) → Since Own first read text last → IsUnsure last.limit new.mode new.bytes
-      → (x : Appends Own (with_more last chunk) before after new) → Since Own first (read ++ chunk) (text ++ x.0) new
-  since_on first last new read chunk text before after since unsure (more, x, is) =
-      let later : AreFirstParts first.limit last.mode (last.bytes ++ chunk) x.parts new.bytes new.mode =
-      subst (λ (l : ℕ). AreFirstParts l last.mode (last.bytes ++ chunk) x.parts new.bytes new.mode) since.limit x.first in
-      record {
-        limit = x.limit ∙ since.limit;
-        parts = since.parts ++ x.parts;
-        cut = parts_on first.limit since.parts x.parts Mode.Text (read ++ chunk) (last.bytes ++ chunk) new.bytes last.mode new.mode
-            (parts_more first.limit since.parts Mode.Text read chunk last.bytes last.mode since.cut) later;
-        unsure = subst (λ (l : ℕ). IsUnsure l new.mode new.bytes) since.limit unsure;
-        written = x.goes first.rewrite since.parts text since.written;
-      }
-
--- ---- what passes as it came, and the end
+-- ---- what is held passes as it is, and the end
 
 module _ (Made : List Part → List ℕ → Type 0) (none : Made [] []) (one : (k : Kind) (bytes : List ℕ) → k ≢ Kind.Csi → Made (part k bytes ∷ []) bytes)
     (joins : (ps qs : List Part) (s t : List ℕ) → Made ps s → Made qs t → Made (ps ++ qs) (s ++ t)) where
-  plain : (k : Kind) (ps : List Part) → k ≢ Kind.Csi → AllByRecursion (λ (p : Part). p.kind ≡ k) ps → Made ps (flat_map bytes_of ps)
-  plain k [] ne all = none
-  plain k (p ∷ ps) ne all = joins (p ∷ []) ps p.bytes (flat_map bytes_of ps) (one p.kind p.bytes (λ e. ne (sym all.0 ∙ e))) (plain k ps ne all.1)
-
-  -- a span that is no control sequence
-  pub spanned : (k : Kind) (bytes : List ℕ) (ps : List Part) → k ≢ Kind.Csi → IsSpan k bytes ps → Made ps bytes
-  spanned Kind.Csi bytes ps ne s = absurd (ne refl)
-  spanned Kind.Esc bytes ps ne s = rw s (one Kind.Esc bytes ne)
-  spanned k bytes ps ne s = subst (λ (x : List ℕ). Made ps x) s.joined (plain k ps ne s.all)
-
   left : (rest : List ℕ) → Made (left_over rest) rest
   left [] = none
   left (b ∷ rest) = one Kind.Other (b ∷ rest) (λ e. cc)
 
-  -- what is held passes as it is
   pub makes : (limit : ℕ) (m a : Mode) (bytes text rest : List ℕ) → PassesBy Made limit m bytes text rest a → MakesBy Made limit m bytes (text ++ rest)
   makes limit m a bytes text rest h = record {
     parts = h.parts ++ left_over rest;
@@ -123,15 +25,17 @@ module _ (Made : List Part → List ℕ → Type 0) (none : Made [] []) (one : (
     written = joins h.parts (left_over rest) text rest h.written (left rest);
   }
 
-  pub made : {S : Type 0} (Own : WrittenOf S) (Rests : S → Type 0) (first : Held S) (bytes text : List ℕ)
-      → ((parts : List Part) (own : List ℕ) (last : S) → Own first.rewrite parts own last → Rests last → Made parts own)
-      → Transforms (Since Own) (Leaves Own Rests) first bytes text → MakesBy Made first.limit Mode.Text bytes text
-  made Own Rests first bytes text own (last, sure, rest, since, (more, done, goes, rests, all), split) =
-      let written : Own first.rewrite since.parts (sure ++ more) done = rw (append-nil since.parts) at (goes first.rewrite since.parts sure since.written) in
-      let passed : PassesBy Made first.limit Mode.Text bytes (sure ++ more) last.bytes last.mode =
-      record { parts = since.parts; first = since.cut; unsure = since.unsure; written = own since.parts (sure ++ more) done written rests } in
-      let same : (sure ++ more) ++ last.bytes ≡ text = append_assoc sure more last.bytes ∙ ap (λ (t : List ℕ). sure ++ t) (sym all) ∙ sym split in
-      subst (λ (t : List ℕ). MakesBy Made first.limit Mode.Text bytes t) same (makes first.limit Mode.Text last.mode bytes (sure ++ more) last.bytes passed)
+  -- a whole stream, of which a visitor was told
+  pub made : {V : Type 0} (does : DoesOf V) (limit : ℕ) (v : V) (bytes text : List ℕ) → 0 < limit
+      → ((calls : List Call) (own more : List ℕ) (last done : V) → Visits does v calls own last → does last Pause more done → Made (parts_of calls) (own ++ more))
+      → Transforms (Pushes does) (Ends does) (stream limit (Open Mode.Text) v) bytes text → MakesBy Made limit Mode.Text bytes text
+  made does limit v bytes text some own (last, sure, rest, h, (more, done, pauses, all), split) =
+      let held = collected last.state in
+      let p = parted_from does (stream limit (Open Mode.Text) v) last bytes sure some tt h in
+      let passed : PassesBy Made limit Mode.Text bytes (sure ++ more) held (mode_of last.state) =
+      record { parts = parts_of h.calls; first = p.first; unsure = p.unsure; written = own h.calls sure more last.visitor done h.visits pauses } in
+      let same : (sure ++ more) ++ held ≡ text = append_assoc sure more held ∙ ap (λ (t : List ℕ). sure ++ t) (sym all) ∙ sym split in
+      subst (λ (t : List ℕ). MakesBy Made limit Mode.Text bytes t) same (makes limit Mode.Text (mode_of last.state) bytes (sure ++ more) held passed)
 
 -- ---- the texts of parts
 
@@ -190,86 +94,99 @@ module _ (Writes : List ℕ → List ℕ → Type 0) where
       let parts : f.parts ≡ h.parts ++ [] = same ∙ sym (append-nil h.parts) in
       front_text unique h.parts [] text whole h.written (subst (λ (x : List Part). AreWritten Writes x whole) parts f.written)
 
--- ---- by a rule
+-- ---- a rule as a visitor
+
+plain_part : (Writes : List ℕ → List ℕ → Type 0) (k : Kind) (bytes : List ℕ) → k ≢ Kind.Csi → IsWritten Writes k bytes bytes
+plain_part Writes Kind.Csi bytes other = absurd (other refl)
+plain_part Writes _ bytes other = refl
 
 module _ {R : Type 0} (Rule : R → List ℕ → List ℕ → Type 0) where
-  -- at first
-  pub begun : (r : R) → ByRule Rule r [] [] r
-  begun r = record { written = refl; same = λ bytes own h. h }
+  -- what is written for calls is written for their parts, by a rule that writes no more
+  pub visits_written : (v w : R) (calls : List Call) (text : List ℕ) → Visits (Rewrites Rule) v calls text w
+      → AreWritten (Rule v) (parts_of calls) text × ((bytes own : List ℕ) → Rule w bytes own → Rule v bytes own)
+  visits_written v w [] text (none, same) = (none, λ bytes own h. subst (λ (r : R). Rule r bytes own) same h)
+  visits_written v w (Tell e ∷ calls) text (mid, first, others, is, parts, rest) =
+      let (written, same) = visits_written mid w calls others rest in
+      ((first, others, parts, is.written, weaker (Rule mid) (Rule v) (parts_of calls) others is.same written), λ bytes own h. is.same bytes own (same bytes own h))
+  visits_written v w (Pause ∷ calls) text (mid, first, others, is, parts, rest) =
+      let (written, same) = visits_written mid w calls others rest in (
+        subst (λ (t : List ℕ). AreWritten (Rule v) (parts_of calls) t) (sym (parts ∙ ap (λ (t : List ℕ). t ++ others) is.written))
+            (weaker (Rule mid) (Rule v) (parts_of calls) others is.same written),
+        λ bytes own h. is.same bytes own (same bytes own h),
+      )
 
-  -- more is written, by a rule that is still the same
-  pub adds_by : (old new : R) (parts : List Part) (before own after : List ℕ) → AreWritten (Rule old) parts own → ((bytes text : List ℕ) → Rule new bytes text → Rule old bytes text)
-      → after ≡ before ++ own → Adds (ByRule Rule) old parts before after new
-  adds_by old new parts before own after h same is = (
-    own,
-    λ first ps text made. record {
-      written = written_on (Rule first) ps parts text own made.written (weaker (Rule old) (Rule first) parts own made.same h);
-      same = λ bytes x w. made.same bytes x (same bytes x w);
-    },
-    is,
+  all_visits : (k : Kind) (v : R) (events : List Event) → k ≢ Kind.Csi → AllByRecursion (λ (p : Part). p.kind ≡ k) (map part_of events)
+      → Visits (Rewrites Rule) v (map Tell events) (flat_map bytes_of (map part_of events)) v
+  all_visits k v [] other all = (refl, refl)
+  all_visits k v (e ∷ events) other (is, all) = (
+    v,
+    (part_of e).bytes,
+    flat_map bytes_of (map part_of events),
+    record { written = plain_part (Rule v) (part_of e).kind (part_of e).bytes (λ csi. other (sym is ∙ csi)); same = λ bytes own h. h },
+    refl,
+    all_visits k v events other all,
   )
 
-  -- a sequence
-  pub adds_one : (old new : R) (bytes before own after : List ℕ) → Rule old bytes own → ((bytes text : List ℕ) → Rule new bytes text → Rule old bytes text)
-      → after ≡ before ++ own → Adds (ByRule Rule) old (part Kind.Csi bytes ∷ []) before after new
-  adds_one old new bytes before own after h same is = adds_by old new (part Kind.Csi bytes ∷ []) before own after (own, [], sym (append-nil own), h, refl) same is
+  -- a span that is no control sequence stays
+  pub span_visits : (k : Kind) (v : R) (bytes before after : List ℕ) (events : List Event) → after ≡ before ++ bytes → k ≢ Kind.Csi → IsSpan k bytes (map part_of events)
+      → Writes (Rewrites Rule) v (map Tell events) before after v
+  span_visits k v bytes before after events is other span =
+      let all : AreAll k bytes (map part_of events) = span_all k bytes (map part_of events) span in
+      (bytes, subst (λ (t : List ℕ). Visits (Rewrites Rule) v (map Tell events) t v) all.joined (all_visits k v events other all.all), is)
 
-  -- what isn't one
-  pub adds_plain : (r : R) (k : Kind) (bytes before after : List ℕ) (parts : List Part) → k ≢ Kind.Csi → IsSpan k bytes parts → after ≡ before ++ bytes → Adds (ByRule Rule) r parts before after r
-  adds_plain r k bytes before after parts ne span is =
-      let written = spanned (AreWritten (Rule r)) refl (one_written (Rule r)) (written_on (Rule r)) k bytes parts ne span in
-      adds_by r r parts before bytes after written (λ b x w. w) is
+  -- a control sequence
+  pub csi_visits : (v w : R) (bytes before own after : List ℕ) → Rule v bytes own → ((b t : List ℕ) → Rule w b t → Rule v b t) → after ≡ before ++ own
+      → WritesCsi (Rewrites Rule) v bytes before after w
+  csi_visits v w bytes before own after written same is =
+      (own, (w, own, [], record { written = written; same = same }, sym (append-nil own), (refl, refl)), is)
 
-  -- text or an escape sequence in front, if there are some bytes of it
-  pub plain_passes : (r : R) (limit n : ℕ) (bytes before after : List ℕ) → (0 < n → IsPlainFront bytes n) → after ≡ before ++ take n bytes
-      → Appends (ByRule Rule) (open_at r limit Mode.Text bytes) before after (open_at r limit Mode.Text (drop n bytes))
-  plain_passes r limit zero bytes before after plain is =
-      rw is (rw (append-nil before) (appends_none (ByRule Rule) (open_at r limit Mode.Text bytes) before))
-  plain_passes r limit (suc n) bytes before after plain is =
-      front_plain (ByRule Rule) limit (suc n) bytes r r before after (plain (omega arith))
-      (λ k parts other span. adds_plain r k (take (suc n) bytes) before after parts other span is)
+  -- nothing
+  pub none_visits : (v : R) (before after : List ℕ) → after ≡ before → Writes (Rewrites Rule) v [] before after v
+  none_visits v before after is = ([], (refl, refl), is ∙ sym (append-nil before))
 
-  -- a sequence in front that is known, if it has some bytes
-  pub known_passes : (r : R) (limit n : ℕ) (bytes before after : List ℕ) → (n ≡ 0 → after ≡ before)
-      → (0 < n → (text : List ℕ) × Rule r (take n bytes) text × IsOne (take n bytes) × (after ≡ before ++ text)) → n ≤ limit → n ≤ length bytes
-      → Appends (ByRule Rule) (open_at r limit Mode.Text bytes) before after (open_at r limit Mode.Text (drop n bytes))
-  known_passes r limit zero bytes before after none some short within = rw (none refl) (appends_none (ByRule Rule) (open_at r limit Mode.Text bytes) before)
-  known_passes r limit (suc n) bytes before after none some short within =
-      let (text, writes, one, is) = some (omega arith) in
-      front_known (ByRule Rule) limit (suc n) bytes r r before after one short within (adds_one r r _ before text after writes (λ b x w. w) is)
+  -- what was pushed has passed
+  pub pushes_passed : (s t : Stream R) (bytes before after : List ℕ) → PushesTo (Rewrites Rule) s bytes before after t
+      → ((text : List ℕ) × Passes (Rule s.visitor) s.limit (mode_of s.state) (collected s.state ++ bytes) text (collected t.state) (mode_of t.state) × (after ≡ before ++ text))
+      × ((b own : List ℕ) → Rule t.visitor b own → Rule s.visitor b own)
+  pushes_passed s t bytes before after h =
+      let p = parted (Rewrites Rule) s t bytes before after h in
+      let (written, same) = visits_written s.visitor t.visitor h.pushes.calls h.text h.pushes.visits in
+      ((h.text, record { parts = parts_of h.pushes.calls; first = p.first; unsure = p.unsure; written = written }, h.out), same)
 
-  -- what has passed
-  pub passes_by : (old new : Held R) (before after : List ℕ) → Appends (ByRule Rule) old before after new → IsUnsure old.limit new.mode new.bytes
-      → (text : List ℕ) × Passes (Rule old.rewrite) old.limit old.mode old.bytes text new.bytes new.mode × (after ≡ before ++ text)
-  passes_by old new before after (text, h, is) unsure =
-      (text, record { parts = h.parts; first = h.first; unsure = unsure; written = (h.goes old.rewrite [] [] (begun old.rewrite)).written }, is)
-
-  pub same_by : (old new : Held R) (before after : List ℕ) → Appends (ByRule Rule) old before after new → (bytes text : List ℕ) → Rule new.rewrite bytes text → Rule old.rewrite bytes text
-  same_by old new before after (text, h, is) = (h.goes old.rewrite [] [] (begun old.rewrite)).same
+  -- and what was told where nothing waited
+  pub place_passed : (limit : ℕ) (v w : R) (m a : Mode) (bytes rest before after : List ℕ) → 0 < limit → IsUnsure limit a rest
+      → TellsTo (Rewrites Rule) (place v limit m bytes) before after (place w limit a rest)
+      → ((text : List ℕ) × Passes (Rule v) limit m bytes text rest a × (after ≡ before ++ text)) × ((b own : List ℕ) → Rule w b own → Rule v b own)
+  place_passed limit v w m a bytes rest before after some unsure h =
+      let (calls, first, (text, visits, out)) = parted_place (Rewrites Rule) limit v w m a bytes rest before after some unsure h in
+      let (written, same) = visits_written v w calls text visits in
+      ((text, record { parts = parts_of calls; first = first; unsure = unsure; written = written }, out), same)
 
   -- ---- from a reader to a writer
 
-  -- what has passed since it has begun
-  pub passed : (first last : Held R) (bytes text : List ℕ) → Since (ByRule Rule) first bytes text last → Passes (Rule first.rewrite) first.limit Mode.Text bytes text last.bytes last.mode
-  passed first last bytes text since = record { parts = since.parts; first = since.cut; unsure = since.unsure; written = since.written.written }
+  module _ (limit : ℕ) (v : R) (some : 0 < limit) where
+    abbrev First : Stream R
+    First = stream limit (Open Mode.Text) v
 
-  module _ (first : Held R) where
-    abbrev Rested : R → Type 0
-    Rested r = ⊤
+    -- what has passed since it has begun
+    pub passed : (last : Stream R) (bytes text : List ℕ) → Pushes (Rewrites Rule) First bytes text last → Passes (Rule v) limit Mode.Text bytes text (collected last.state) (mode_of last.state)
+    passed last bytes text h =
+        let p = parted_from (Rewrites Rule) First last bytes text some tt h in
+        record { parts = parts_of h.calls; first = p.first; unsure = p.unsure; written = (visits_written v last.visitor h.calls text h.visits).0 }
 
     -- all bytes, and what was held
-    pub filtered : (bytes text : List ℕ) → Transforms (Since (ByRule Rule)) (Leaves (ByRule Rule) Rested) first bytes text → Filters (Rule first.rewrite) first.limit Mode.Text bytes text
+    pub filtered : (bytes text : List ℕ) → Transforms (Pushes (Rewrites Rule)) (Ends (Rewrites Rule)) First bytes text → Filters (Rule v) limit Mode.Text bytes text
     filtered bytes text =
-        let Own = Rule first.rewrite in
-        made (AreWritten Own) refl (one_written Own) (written_on Own) (ByRule Rule) Rested first bytes text (λ parts own last b rests. b.written)
+        made (AreWritten (Rule v)) refl (one_written (Rule v)) (written_on (Rule v)) (Rewrites Rule) limit v bytes text some
+        (λ calls own more last done visits pauses.
+        subst (λ (t : List ℕ). AreWritten (Rule v) (parts_of calls) t) (sym (ap (λ (t : List ℕ). own ++ t) pauses.written ∙ append-nil own)) (visits_written v last calls own visits).0)
 
     -- what went out is a front of what the filter makes of the whole input
     pub sent_front : (bytes more sent : List ℕ) (i k w y : Option (List ℕ)) → Consumes i k (bytes ++ more)
-        → Begins (Sends (Since (ByRule Rule)) first) (Transforms (Since (ByRule Rule)) (Leaves (ByRule Rule) Rested) first) ((more ≡ []) × IsAtEnd k) bytes sent → Gets w y sent
-        → IfSome i (λ all. (front : List ℕ) × IsFrontOf (Rule first.rewrite) first.limit Mode.Text all front × Gets w y front)
+        → Begins (Sends (Pushes (Rewrites Rule)) First) (Transforms (Pushes (Rewrites Rule)) (Ends (Rewrites Rule)) First) ((more ≡ []) × IsAtEnd k) bytes sent → Gets w y sent
+        → IfSome i (λ all. (front : List ℕ) × IsFrontOf (Rule v) limit Mode.Text all front × Gets w y front)
     sent_front =
-        let Own = Rule first.rewrite in
-        let limit = first.limit in
-        whole_front (Sends (Since (ByRule Rule)) first) (Transforms (Since (ByRule Rule)) (Leaves (ByRule Rule) Rested) first) (IsFrontOf Own limit Mode.Text) (shorter_front Own limit Mode.Text)
-        (λ read more text (last, since). passes_front Own limit Mode.Text last.mode read more text last.bytes (passed first last read text since))
+        let Own = Rule v in
+        whole_front (Sends (Pushes (Rewrites Rule)) First) (Transforms (Pushes (Rewrites Rule)) (Ends (Rewrites Rule)) First) (IsFrontOf Own limit Mode.Text) (shorter_front Own limit Mode.Text)
+        (λ read more text (last, since). passes_front Own limit Mode.Text (mode_of last.state) read more text (collected last.state) (passed last read text since))
         (λ bytes text whole. filters_front Own limit Mode.Text bytes text (filtered bytes text whole))

@@ -1,3 +1,3 @@
 pub mod Filter
 pub mod Meaning
-pub mod Written
+pub mod Rewrites

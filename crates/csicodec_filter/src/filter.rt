@@ -4,72 +4,100 @@ ghost use Rattle.csicodec_spans.specs.declared.table.Mode.TheVariants.{Text as P
 ghost use Rattle.csicodec_filter.specs.Filter.{Passes};
 
 use crate::rewrite::Rewrite;
-use crate::spanwise::{Room, Spanwise, WriteSpans, append_sure};
 use csicodec_base::{CsiParam, TextBuffer};
-use csicodec_spans::{Cutter, Mode, plain_len};
+use csicodec_spans::{Cutter, Driver, Mode, Room, Sequence, Visit, append_sure};
 use csicodec_streams::{Normal, append_front, take_simple};
-use csicodec_transform::WIDE;
+use csicodec_transform::{Known, WIDE};
 use std::alloc::{AllocError, Global};
 use std::marker::Model;
 use std::mem;
 
-impl<R: Rewrite> WriteSpans<Normal> for R {
-    ghost use Rattle.std.specs.Prelude.{⊤};
-    ghost use Rattle.csicodec_filter.specs.Written.{ByRule};
+/// The sequences that came before, and a place for a text.
+#[derive(Drop)]
+pub(crate) struct Memory {
+    known: Known<Normal>,
+    text: Vec<u8>,
+}
 
-    ghost written = { ByRule R.writes };
+impl Model for Memory {
+    ghost use Rattle.std.specs.Prelude.{List};
+    ghost use Rattle.csicodec_streams.specs.Known.{IsNormal};
+    ghost use Rattle.csicodec_transform.specs.declared.memo.Slot.{Slot};
+    ghost use Rattle.csicodec_transform.specs.Known.{AreKnown};
 
-    ghost rests = { λ _. ⊤ };
+    ghost Value = { List Slot };
 
-    /// Text and an escape sequence pass, and a control sequence that is known, if its normal form is what is written for it.
+    ghost view = { λ m. m.known.memo.slots.items };
+
+    ghost invariant = { λ m. AreKnown IsNormal m.known.memo.slots.items };
+}
+
+impl Memory {
+    /// With nothing known.
+    pub(crate) fn new(alloc: Global) -> Memory {
+        Memory {
+            known: Known::new(alloc),
+            text: Vec::new(alloc),
+        }
+    }
+}
+
+impl<R: Rewrite> Visit<R> for Memory {
+    ghost use Rattle.csicodec_filter.specs.Rewrites.{Rewrites};
+
+    ghost does = { Rewrites R.writes };
+
+    /// A sequence that is known passes, if its normal form is what is written for it.
     #[inline(always)]
-    fn pass(
+    fn csi_at_once(
         &mut self,
-        room: &mut Room<Normal>,
+        visitor: &mut R,
         limit: usize,
         bytes: &[u8],
         out: &mut TextBuffer,
     ) -> Result<usize, AllocError> {
-        if matches!(bytes, [0x1b, b'[', ..]) {
-            if !self.writes_normal_forms() {
-                return Ok(0);
-            }
-            let len = room.known.recall(limit, bytes, out);
-            if len == 0 && limit >= WIDE {
-                return Ok(take_simple(&mut room.known.memo, bytes, out));
-            }
-            return Ok(len);
+        if !visitor.writes_normal_forms() {
+            return Ok(0);
         }
-        let len = plain_len(bytes);
-        append_front(bytes, len, out)?;
+        let len = self.known.recall(limit, bytes, out);
+        if len == 0 && limit >= WIDE {
+            return Ok(take_simple(&mut self.known.memo, bytes, out));
+        }
         Ok(len)
     }
 
     /// Its normal form is kept, if that is what is written.
-    fn sequence(
+    fn csi_dispatch(
         &mut self,
-        room: &mut Room<Normal>,
+        visitor: &mut R,
         bytes: &[u8],
         len: usize,
-        control: char,
+        sequence: Sequence,
         out: &mut TextBuffer,
     ) -> Result<(), AllocError> {
-        let wanted = self.writes_normal_forms();
+        let wanted = visitor.writes_normal_forms();
         let (span, _) = bytes.split_at(len);
-        room.text.clear();
-        self.rewrite(span, &room.params, control, &mut room.text)?;
-        out.push_slice(&room.text)?;
+        self.text.clear();
+        visitor.rewrite(span, sequence.params, sequence.control, &mut self.text)?;
+        out.push_slice(&self.text)?;
         if wanted {
-            room.known.keep(bytes, len, &room.text);
+            self.known.keep(bytes, len, &self.text);
         }
         Ok(())
     }
 
-    fn other(&mut self, bytes: &[u8], out: &mut TextBuffer) -> Result<(), AllocError> {
-        out.push_slice(bytes)
+    #[inline(always)]
+    fn other(
+        &mut self,
+        _visitor: &mut R,
+        bytes: &[u8],
+        len: usize,
+        out: &mut TextBuffer,
+    ) -> Result<(), AllocError> {
+        append_front(bytes, len, out)
     }
 
-    fn pause(&mut self, _out: &mut Vec<u8>) -> Result<(), AllocError> {
+    fn pause(&mut self, _visitor: &mut R, _out: &mut Vec<u8>) -> Result<(), AllocError> {
         Ok(())
     }
 }
@@ -102,7 +130,10 @@ pub fn append_spans<T: Rewrite>(
         → T.writes rewrite.old bytes text) }
 {
     let alloc = *params.allocator();
-    let mut room: Room<Normal> = Room::new(alloc, mem::replace(params, Vec::new(alloc)));
+    let mut room: Room<Memory> = Room {
+        params: mem::replace(params, Vec::new(alloc)),
+        memory: Memory::new(alloc),
+    };
     let left = Cutter { mode, rest: bytes };
     let appended = append_sure(rewrite, &mut room, limit, left, out);
     *params = room.params;
@@ -124,15 +155,16 @@ pub fn append_spans<T: Rewrite>(
 /// ```
 #[derive(Drop)]
 pub struct Filter<R> {
-    stream: Spanwise<R, Normal>,
+    driver: Driver<R, Memory>,
 }
 
 impl<R> Model for Filter<R> {
     ghost use Rattle.csicodec_filter.specs.Filter.{Held};
+    ghost use Rattle.csicodec_filter.specs.Rewrites.{held};
 
     ghost Value = { Held R };
 
-    ghost view = { λ f. f.stream };
+    ghost view = { λ f. held f.driver };
 }
 
 impl<R: Rewrite + Drop> Filter<R> {
@@ -142,7 +174,7 @@ impl<R: Rewrite + Drop> Filter<R> {
         ensures { result ≡ record { rewrite = rewrite; limit = limit; mode = Plain; bytes = [] } }
     {
         Filter {
-            stream: Spanwise::new(alloc, limit, rewrite),
+            driver: Driver::new(alloc, limit, rewrite, Memory::new(alloc)),
         }
     }
 
@@ -161,7 +193,7 @@ impl<R: Rewrite + Drop> Filter<R> {
         ensures short { OnOk result
             ((length self.new.bytes < self.new.limit) ⊎ (length self.new.bytes < 3)) }
     {
-        self.stream.push(bytes, out)?;
+        self.driver.push(bytes, out)?;
         Ok(())
     }
 
@@ -169,6 +201,6 @@ impl<R: Rewrite + Drop> Filter<R> {
     pub fn finish(&mut self, out: &mut Vec<u8>) -> Result<(), AllocError>
         ensures { OnOk result (out.new.items ≡ out.old.items ++ self.old.bytes) }
     {
-        self.stream.append_held(out)
+        self.driver.append_collected(out)
     }
 }

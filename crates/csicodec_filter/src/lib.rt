@@ -6,10 +6,8 @@ mod filter;
 pub mod laws;
 mod rewrite;
 mod run;
-mod spanwise;
 
 pub use faithful::{Faithful, stays};
 pub use filter::{Filter, append_spans};
 pub use rewrite::{NormalForm, Rewrite};
 pub use run::filter_all;
-pub use spanwise::{Room, Spanwise, WriteSpans};

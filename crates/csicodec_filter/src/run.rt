@@ -4,9 +4,9 @@ ghost use Rattle.std.specs.{Io.KnownBytes.Consumes, Io.KnownBytes.IsAtEnd};
 ghost use Rattle.csicodec_spans.specs.{declared.table.Mode.Mode, declared.table.Mode.TheVariants.Text as Plain};
 ghost use Rattle.csicodec_filter.specs.Filter.{Filters, IsFrontOf, Passes};
 
+use crate::filter::Memory;
 use crate::rewrite::Rewrite;
-use crate::spanwise::Spanwise;
-use csicodec_streams::Normal;
+use csicodec_spans::Driver;
 use csicodec_transform::{RunError, transform_all};
 use std::alloc::Global;
 use std::io::{Read, Write};
@@ -46,6 +46,6 @@ pub fn filter_all<T: Rewrite + Drop, R: Read, W: Write>(
         (sent : List ℕ) × IsFrontOf (T.writes rewrite) limit Plain bytes sent
         × Appends (W.contents output.old) (W.contents output.new) sent)) }
 {
-    let stream: Spanwise<T, Normal> = Spanwise::new(alloc, limit, rewrite);
-    transform_all(alloc, stream, input, output)
+    let driver = Driver::new(alloc, limit, rewrite, Memory::new(alloc));
+    transform_all(alloc, driver, input, output)
 }

@@ -8,12 +8,14 @@ use Rattle.csicodec_clean.specs.{Check.counted, Cleaned.is_text, Titles.read_as,
 use Rattle.csicodec_clean.proofs.{Titles.titled, Titles.titles_on, Titles.open_on, Plain.all_both}
 use Rattle.csicodec_lines.specs.Cuts.{Found, behind, behind_byte, each_byte, is_cut, line_of, Tells, first as start, AreCuts, IsPlace, first}
 use Rattle.csicodec_lines.specs.{Private.Steps.FindsIn, Private.Steps.IsBegun, Private.Steps.Passes, Private.Steps.held, declared.search.CutSearch.CutSearch}
+use Rattle.csicodec_lines.specs.{Private.Written.Appends, Private.Written.Since, Private.Written.open_at, Private.Written.with_more}
 use Rattle.csicodec_spans.proofs.{Once.parts_more, Once.parts_join, Once.parts_on, Once.parts_front, Once.whole_once, Agrees.found, Agrees.sound, Agrees.Sound}
 use Rattle.csicodec_spans.proofs.{Missed.part_some, Missed.fit, OneSpan.none_unsure}
-use Rattle.csicodec_filter.specs.{Filter.Held, Written.Appends, Written.Since, Written.open_at, Written.with_more}
+use Rattle.csicodec_filter.specs.Filter.{Held}
 use Rattle.csicodec_transform.specs.Transform.{Adds, EndsOf}
-use Rattle.csicodec_filter.proofs.{Written.since_none, Written.since_on, Shorter.ahead_less}
+use Rattle.csicodec_filter.proofs.Shorter.{ahead_less}
 use Rattle.csicodec_lines.proofs.Common.{nat_tests, AllByRecursion, longest, cuts, each_of, told, passed, Finds, Finder, GoesOn, Transforms}
+use Rattle.csicodec_lines.proofs.Written.{since_none, since_on}
 
 pub told_on : (xs ys : List ℕ) → told (xs ++ ys) ≡ told xs ++ told ys
 told_on = flat_map-append (λ (n : ℕ). line_of (counted n))

@@ -1,9 +1,8 @@
 //! A stream that is searched as it comes.
 ghost use Rattle.std.specs.Prelude.{IfOk};
 ghost use Rattle.csicodec_spans.specs.Parts.{IsUnsure};
-ghost use Rattle.csicodec_filter.specs.Written.{Appends, open_at};
+ghost use Rattle.csicodec_lines.specs.{Private.Written.Appends, Private.Written.open_at, Private.Steps.Finds, Private.Steps.IsBegun};
 ghost use Rattle.csicodec_clean.specs.Cleaned.{longest};
-ghost use Rattle.csicodec_lines.specs.Private.Steps.{Finds, IsBegun};
 
 use crate::search::CutSearch;
 use csicodec_clean::{read_as, title_behind};

@@ -518,6 +518,27 @@ resumed limit s some h =
     whole.events (state_unsure limit w.to whole.state) (refl, refl) (state_unsure limit s h) in
     ap (λ (es : List Event). tell es w.to) none ∙ ap (λ (t : State). tell [] t) (state_once limit w.to s whole.state h left modes)
 
+-- bytes of which nothing is sure tell nothing
+pub held_state : (limit : ℕ) (m : Mode) (held : List ℕ) → 0 < limit → IsUnsure limit m held → walk limit (Open m) held ≡ tell [] (walk limit (Open m) held).to
+held_state limit m held some o =
+    let w = walk limit (Open m) held in
+    let whole = walk_told limit held (Open m) some tt in
+    let (none, left, modes) = told_once limit w.events [] m held (collected w.to) held (mode_of w.to) m
+    whole.events (state_unsure limit w.to whole.state) (refl, refl) o in
+    ap (λ (es : List Event). tell es w.to) none
+
+-- and what is collected of them are they, in this mode
+pub held_is : (limit : ℕ) (m : Mode) (held : List ℕ) → 0 < limit → IsUnsure limit m held → (collected (walk limit (Open m) held).to ≡ held) × (mode_of (walk limit (Open m) held).to ≡ m)
+held_is limit m held some o =
+    let w = walk limit (Open m) held in
+    let whole = walk_told limit held (Open m) some tt in
+    let (none, left, modes) = told_once limit w.events [] m held (collected w.to) held (mode_of w.to) m
+    whole.events (state_unsure limit w.to whole.state) (refl, refl) o in
+    (left, modes)
+
+pub walk_state : (limit : ℕ) (m : Mode) (held : List ℕ) → 0 < limit → IsState limit (walk limit (Open m) held).to
+walk_state limit m held some = (walk_told limit held (Open m) some tt).state
+
 front_walk : (limit : ℕ) (m a : Mode) (bytes rest : List ℕ) (events : List Event) → 0 < limit → AreTold limit m bytes events rest a → walk limit (Open m) bytes ≡ in_turn (tell events (Open a)) (walk limit (Open a) rest)
 front_walk limit m a bytes rest events some told =
     let w = walk limit (Open m) bytes in

@@ -85,7 +85,8 @@ impl Waiting {
     /// The mode of the bytes that wait, and of those that come.
     #[inline(always)]
     pub fn mode(&self) -> Mode
-        ensures { result ≡ self.now.mode }
+        ensures is { result ≡ self.now.mode }
+        ensures unsure { IsUnsure self.now.limit self.now.mode self.now.bytes }
     {
         self.mode
     }
@@ -147,10 +148,29 @@ impl Waiting {
         self.mode = mode;
     }
 
+    /// Keeps bytes where none wait, of which nothing is sure in this mode.
+    #[tactic(auto, using(crate::proofs::OneSpan::none_unsure))]
+    pub fn hold(&mut self, rest: &[u8], mode: Mode) -> Result<(), AllocError>
+        requires { IsUnsure self.old.limit mode rest.now }
+        ensures { OnOk result (self.new ≡ record {
+          limit = self.old.limit;
+          mode = mode;
+          bytes = rest.now;
+          looks = self.old.looks + 2 * length rest.now;
+        }) }
+    {
+        self.clear();
+        self.held.append(rest)?;
+        self.number = self.held.begun();
+        self.mode = mode;
+        Ok(())
+    }
+
     /// Appends the bytes that wait: nothing comes any more.
     #[tactic(auto, using(crate::proofs::OneSpan::none_unsure))]
     pub fn end(&mut self, out: &mut Vec<u8>) -> Result<(), AllocError>
         ensures appended { OnOk result (out.new.items ≡ out.old.items ++ self.old.bytes) }
+        ensures unsure { (0 < self.old.limit) × IsUnsure self.old.limit self.old.mode self.old.bytes }
         ensures limit { self.new.limit ≡ self.old.limit }
         ensures looks { self.new.looks ≡ self.old.looks + length self.old.bytes }
     {

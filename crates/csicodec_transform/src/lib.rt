@@ -1,6 +1,7 @@
 //! What a stream becomes, from a reader to a writer, and how that ends. Nothing of this knows what a sequence means.
 #![tactic(auto)]
 
+mod driven;
 mod error;
 mod io;
 mod known;

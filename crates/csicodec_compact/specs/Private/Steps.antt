@@ -3,9 +3,8 @@ use Rattle.std.specs.Prelude.{ℕ, ◌≡◌, ◌≤◌, ◌==◌, ◌+◌, ◌*
 use Rattle.csicodec_tokens.specs.{declared.param.CsiParam.CsiParam, Sequence.Seq, Sequence.Spellable, Sequence.Spells}
 use Rattle.csicodec_actions.specs.{Actions.Action, Actions.Sgr, Table.texts}
 use Rattle.csicodec_parser.specs.{declared.actions.CSI.CSI, Segments.Actions}
-use Rattle.csicodec_spans.specs.Parts.{Part}
+use Rattle.csicodec_spans.specs.{Parts.Part, Visits.Call, Visits.DoesOf, Visits.Pause, Visits.Tell, Visits.parts_of}
 use Rattle.csicodec_streams.specs.{Known.IsOne, Compose.EndsInSemicolon, Compose.IsStyleList}
-use Rattle.csicodec_filter.specs.Written.{WrittenOf}
 use Rattle.csicodec_compact.specs.{declared.form.TextEnding.TextEnding, declared.shortener.Shortener.Shortener, Compacts.Compacts, Runs.IsStaying}
 use Rattle.csicodec_compact.specs.{Runs.NoneStays, Runs.Shortens, Runs.IsShortened}
 use Rattle.csicodec_base.specs.declared.sgr.Sgr as sgr_type
@@ -194,6 +193,12 @@ abbrev pub GoesOnBy : TextEnding → ℕ → List Part → List ℕ → List ℕ
 GoesOnBy form room parts old new after left = (text : List ℕ) × (new ≡ old ++ text)
     × Extends form room parts text after left
 
--- so far this text is held for the parts, and its end is that of the last state
-abbrev pub Holds : WrittenOf Shortener
-Holds first parts held last = IsHeld parts held last.written.form last.written.room
+-- behind a pause nothing goes on
+abbrev pub RestsAt : Call → Shortener → Type 0
+RestsAt (Tell e) v = Unit {0}
+RestsAt Pause v = v.written.form ≡ TextEnding.Whole
+
+-- what a shortener writes for a call goes on with what was
+abbrev pub Does : DoesOf Shortener
+Does v call text w = Extends v.written.form v.written.room (parts_of (call ∷ [])) text w.written.form w.written.room
+    × RestsAt call w

@@ -1,9 +1,10 @@
 -- What private steps say of each other: where a line is cut, and a search as it goes.
 use Rattle.std.specs.Prelude.{ℕ, ◌≡◌, Bool, true, not, ◌+◌, ◌-◌, List, false, []}
 use Rattle.csicodec_lines.specs.{Lines.ends_line, declared.search.CutSearch.CutSearch, Cuts.Found, Cuts.behind, Cuts.cuts, Cuts.patience, Cuts.told}
-use Rattle.csicodec_lines.specs.{Cuts.each_byte, Cuts.first, declared.finder.Finder.Finder}
+use Rattle.csicodec_lines.specs.{Cuts.each_byte, Cuts.first, declared.finder.Finder.Finder, Private.Written.Since, Private.Written.WrittenOf}
+use Rattle.csicodec_lines.specs.{Private.Written.open_at}
 use Rattle.csicodec_clean.specs.{Check.counted, Cleaned.longest, Titles.title_open}
-use Rattle.csicodec_filter.specs.{Filter.Held, Written.Since, Written.WrittenOf, Written.open_at}
+use Rattle.csicodec_filter.specs.Filter.{Held}
 use Rattle.csicodec_transform.specs.Transform.{PassesOf}
 use Rattle.csicodec_spans.specs.declared.table.Mode.{Mode}
 

@@ -1,12 +1,13 @@
-use Rattle.csicodec_filter.specs.Written.{open_at}
-use Rattle.csicodec_filter.proofs.Written.{passes_by, same_by}
+use Rattle.csicodec_filter.proofs.Written.{place_passed}
 use Rattle.csicodec_filter.proofs.filter.append_spans.Goals as goal
 
 pub returns-clause-passes : goal.returns-clause-passes
 returns-clause-passes g c =
-    let old = open_at c.args.rewrite.now c.args.limit c.args.mode c.args.bytes.now in
-    let (text, passed, is) = passes_by g.T.Rewrite.writes old _ _ _ c.in_ok-used.ensures.written c.in_ok-used.ensures.unsure in
-    (c.in_ok-used.ensures.within, text, passed, is)
+    let own = c.in_ok-used.ensures in
+    let (text, passed, is) = (place_passed g.T.Rewrite.writes c.args.limit c.args.rewrite.now _ c.args.mode _ c.args.bytes.now _ _ _ c.requires own.unsure own.tells).0 in
+    (own.within, text, passed, is)
 
 pub returns-clause-same : goal.returns-clause-same
-returns-clause-same g c = same_by g.T.Rewrite.writes (open_at c.args.rewrite.now c.args.limit c.args.mode c.args.bytes.now) _ _ _ c.in_ok-used.ensures.written
+returns-clause-same g c =
+    let own = c.in_ok-used.ensures in
+    (place_passed g.T.Rewrite.writes c.args.limit c.args.rewrite.now _ c.args.mode _ c.args.bytes.now _ _ _ c.requires own.unsure own.tells).1

@@ -1,5 +1,4 @@
-use Rattle.csicodec_filter.proofs.Written.{appends, appends_none, appends_on}
-use Rattle.csicodec_lines.proofs.{Places.finds_span, Common.longest, Common.Finds}
+use Rattle.csicodec_lines.proofs.{Written.appends, Written.appends_none, Written.appends_on, Places.finds_span, Common.longest, Common.Finds}
 use Rattle.csicodec_lines.proofs.finder.append_places.Goals as goal
 
 pub loop-cut-init : goal.loop-cut-init

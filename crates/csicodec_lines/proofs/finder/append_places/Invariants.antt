@@ -1,5 +1,5 @@
 use Rattle.std.proofs.Common.{length}
-use Rattle.csicodec_filter.specs.Written.{Appends, open_at}
+use Rattle.csicodec_lines.specs.Private.Written.{Appends, open_at}
 use Rattle.csicodec_lines.proofs.Common.{longest, Finds}
 use Rattle.csicodec_lines.proofs.finder.append_places.Given as goal
 

@@ -39,7 +39,7 @@ returns g c =
     let same : c.keep.new.self.bytes ≡ rest = grind (arith, common_steps, c.keep.ensures, c.deref.ensures.value, c.len.ensures, kept) in
     let mode : c.keep.new.self.mode ≡ c.in_ok-rest.mode = rw c.keep.ensures refl in
     rw (← c.self.view_is, same, mode) (record {
-      takes = (text, record { unsure = c.in_ok-rest.ensures.unsure; goes = rw (c.mode.ensures, taken, c.deref.ensures.value, whole) at goes }, out);
+      takes = (text, record { unsure = c.in_ok-rest.ensures.unsure; goes = rw (c.mode.ensures.is, taken, c.deref.ensures.value, whole) at goes }, out);
       held = c.in_ok-rest.ensures.short;
       pending = unsure_few c.in_ok-rest.mode rest c.in_ok-rest.ensures.unsure;
     })

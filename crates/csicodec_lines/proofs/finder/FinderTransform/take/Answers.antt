@@ -1,6 +1,5 @@
 use Rattle.std.proofs.{Common.◌≡◌, Common.◌-◌, Common.drop, Common.length, Common.refl, Common.arith, lemmas.Grind.common_steps}
-use Rattle.csicodec_filter.proofs.Written.{appends_none, left_is, left_within}
-use Rattle.csicodec_lines.proofs.{Places.takes, Common.Finder, Common.Finds}
+use Rattle.csicodec_lines.proofs.{Written.appends_none, Written.left_is, Written.left_within, Places.takes, Common.Finder, Common.Finds}
 use Rattle.csicodec_lines.proofs.finder.FinderTransform.take.Goals as goal
 
 pub returns-in_default-clause-passes : goal.returns-in_default-clause-passes
@@ -33,4 +32,4 @@ returns-clause-passes c =
     let limit : c.keep.new.self.limit ≡ c.args.self.now.waiting.limit = rw (c.keep.ensures, taken) refl in
     let new : Finder = record { search = c.append_places.new.search; titled = c.append_places.new.titled; waiting = c.keep.new.self } in
     takes c.args.self.now new c.args.bytes.now _ _ (rw (same, mode, c.requires) c.in_ok-rest.ensures.unsure)
-    (rw (limit, same, mode, c.requires) (rw (c.mode.ensures, taken, c.deref.ensures.value, whole) at c.in_ok-rest.ensures.found))
+    (rw (limit, same, mode, c.requires) (rw (c.mode.ensures.is, taken, c.deref.ensures.value, whole) at c.in_ok-rest.ensures.found))

@@ -24,4 +24,4 @@ returns-clause-reads c =
     (reads_from (record { mode = now.waiting.mode; titled = now.titled; bytes = now.waiting.bytes; held = now.held.items })
     (record { mode = c.keep.new.self.mode; titled = c.append_steps.new.titled; bytes = c.keep.new.self.bytes; held = c.append_steps.new.held.items })
     c.args.bytes.now c.deref.result.now rest c.args.steps.now.items
-    c.append_steps.new.steps.items (c.deref.ensures.value ∙ all) same (rw c.keep.ensures c.in_ok-rest.ensures.unsure) (rw c.keep.ensures (rw (c.mode.ensures, taken) at c.in_ok-rest.ensures.goes)))
+    c.append_steps.new.steps.items (c.deref.ensures.value ∙ all) same (rw c.keep.ensures c.in_ok-rest.ensures.unsure) (rw c.keep.ensures (rw (c.mode.ensures.is, taken) at c.in_ok-rest.ensures.goes)))

@@ -332,7 +332,7 @@ def write(dist, to, kinds):
     """Makes the packages of these kinds, and SHA256SUMS, in a new folder, which then takes the place of the one at `to`."""
     lacking = [name for name in ABOUT if name not in about()]
     if lacking:
-        print(f"release: tools/about.txt has no {', '.join(lacking)}: no package tells them", file=sys.stderr)
+        print(f"release: note: the packages don't tell {', '.join(lacking)}, since tools/about.txt doesn't", file=sys.stderr)
     with tempfile.TemporaryDirectory(prefix=".release-", dir=os.path.dirname(to)) as room:
         out, dist = f"{room}/out", with_systems(dist, kinds, room)
         os.mkdir(out)

@@ -197,7 +197,7 @@ export class Browser {
 
     end() {
         this.#process.kill();
-        this.#process.on('exit', () => rmSync(this.#room, { recursive: true, force: true, maxRetries: 5 }));
+        this.#process.on('exit', () => rmSync(this.#room, { recursive: true, force: true, maxRetries: 20 }));
     }
 
     kill() { this.#process.kill('SIGKILL'); }

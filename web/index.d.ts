@@ -200,6 +200,8 @@ export class Codec {
     encode(actions: Iterable<Action>): Uint8Array;
     /** The same actions in a text that is no longer, if each is read back from its own text. */
     encodeCompact(actions: Iterable<Action>): Uint8Array;
+    /** Whether the text of an action is read as this one action. */
+    isCanonical(action: Action): boolean;
     /** The spans of a stream, in words. One that begins with `{`, and whose first line is that of an asciicast, is read as the recording. */
     explain(input: Input, options?: ExplainOptions): Span[];
     /** The same as lines of JSON, which `each` is called with as they come. */

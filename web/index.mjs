@@ -471,6 +471,17 @@ export class Codec extends TextCodec {
     /** The same actions in a text that is no longer, if each is read back from its own text. */
     encodeCompact(actions) { return this.#encoded('csicodec_encode_compact', actions); }
 
+    /** Whether the text of an action is read as this one action. */
+    isCanonical(action) {
+        return this.#withRows([action], (library, rows, _, params, count) => {
+            library.calls.csicodec_is_canonical(library.answer, rows, params, count);
+            library.look();
+            const status = library.told(0);
+            if (status) throw new CodecError(status === 6 ? 'no action' : `status ${status}`, { status });
+            return library.told(4) === 1;
+        });
+    }
+
     #encoded(call, actions) {
         return this.#withRows(actions, (library, rows, count, params, paramsCount) => library.written(Number(count) * 16 + 64, 16,
             (calls, answer, _input, _length, ...room) => calls[call](answer, rows, count, params, paramsCount, ...room),

@@ -9,7 +9,7 @@
 TYPE_CHECKING = False
 if TYPE_CHECKING:
     from .actions import *  # noqa: F403
-    from .encoding import encode, encode_compact
+    from .encoding import encode, encode_compact, is_canonical
     from .enums import *  # noqa: F403
     from .error import CodecError, FieldError
     from .event import ControlString, Esc, Event, Malformed, Text, UnknownEsc
@@ -39,7 +39,7 @@ __all__ = [
     "Parser", "SelectCharacterPath", "Sgr", "SgrAction", "Span", "SpanKind", "Stripper", "TabulationClear", "TerminalModeCode", "Text", "Token",
     "TrueColor", "Underline", "UnknownEsc", "Unspecified", "VerticalAlign", "Window", "WindowAction", "XtSmGraphicsAction",
     "XtSmGraphicsItem", "XtSmGraphicsStatus", "XtermKeyModifierResource", "clean", "compact", "encode", "encode_compact", "events",
-    "explain", "filter", "html", "inputs", "keys", "known", "normalise", "osc", "overwrite", "spans", "strip",
+    "explain", "filter", "html", "inputs", "is_canonical", "keys", "known", "normalise", "osc", "overwrite", "spans", "strip",
 ]
 # fmt: on
 #: The modules that have these names, those first that are loaded soonest. A name is loaded when it is first asked for, so that a program

@@ -70,6 +70,14 @@ def encode_compact(actions: Iterable[Action]) -> bytes:
 
 
 def is_canonical(action: Action) -> bool:
+    """Whether the text of an action is read as this one action.
+
+    >>> from csicodec import Cursor, is_canonical
+    >>> is_canonical(Cursor.Up(2))
+    True
+    >>> is_canonical(Cursor.SetLeftAndRightMargins(left=1, right=4294967295))
+    False
+    """
     rows, _, params, count = rows_of([action])
     answer = library.is_canonical(rows, params, count)
     if answer.status:

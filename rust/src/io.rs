@@ -1,6 +1,6 @@
 //! Readers and writers of the standard library: what takes the feature `std`.
 
-use crate::{Cleaner, Error, Event, Lines, Markup, Parser};
+use crate::{Cleaner, Error, Event, Filter, Lines, Markup, Parser};
 use std::io::{self, ErrorKind, Read, Write};
 use std::vec::Vec;
 
@@ -89,13 +89,186 @@ impl<W: Write> Sender<W> {
     }
 }
 
+mod sealed {
+    pub trait Sealed {}
+    impl Sealed for crate::Cleaner {}
+    impl Sealed for crate::Filter {}
+    impl Sealed for crate::Lines {}
+}
+
+/// What writes a stream anew as it comes: a [`Cleaner`], a [`Filter`], or [`Lines`].
+pub trait Rewriting: sealed::Sealed {
+    /// Takes the next bytes, and appends what is sure now.
+    fn take(&mut self, bytes: &[u8], out: &mut Vec<u8>) -> Result<(), Error>;
+
+    /// Appends what is left at the end.
+    fn end(self, out: &mut Vec<u8>) -> Result<(), Error>;
+}
+
+impl Rewriting for Cleaner {
+    fn take(&mut self, bytes: &[u8], out: &mut Vec<u8>) -> Result<(), Error> {
+        self.push(bytes, out)
+    }
+
+    fn end(self, out: &mut Vec<u8>) -> Result<(), Error> {
+        self.finish(out)
+    }
+}
+
+impl Rewriting for Filter {
+    fn take(&mut self, bytes: &[u8], out: &mut Vec<u8>) -> Result<(), Error> {
+        self.push(bytes, out)
+    }
+
+    fn end(self, out: &mut Vec<u8>) -> Result<(), Error> {
+        self.finish(out);
+        Ok(())
+    }
+}
+
+impl Rewriting for Lines {
+    fn take(&mut self, bytes: &[u8], out: &mut Vec<u8>) -> Result<(), Error> {
+        self.push(bytes, out)
+    }
+
+    fn end(self, out: &mut Vec<u8>) -> Result<(), Error> {
+        self.finish(out)
+    }
+}
+
+/// Writes what a [`Cleaner`], a [`Filter`] or [`Lines`] makes of the bytes that are written to it, at once. [`StreamWriter::finish`] writes the
+/// end, without which a style may stay open. An error of the writer behind it is returned by the next call, and what wasn't written then comes again.
+///
+/// ```
+/// use csicodec::{Filter, Lines};
+/// use std::io::Write;
+///
+/// let mut steps = Lines::overwritten().writer(Vec::new());
+/// write!(steps, "10%\r20%\r\x1b[Kdone\n")?;
+/// assert_eq!(steps.finish()?, b"done\n");
+///
+/// let mut short = Filter::compact(65536.try_into().unwrap()).writer(Vec::new());
+/// write!(short, "\x1b[0;01mred")?;
+/// assert_eq!(short.finish()?, b"\x1b[;1mred");
+/// # Ok::<(), std::io::Error>(())
+/// ```
+#[derive(Debug)]
+pub struct StreamWriter<S: Rewriting, W: Write> {
+    stream: S,
+    sender: Sender<W>,
+}
+
+impl<S: Rewriting, W: Write> StreamWriter<S, W> {
+    fn new(stream: S, to: W) -> Self {
+        StreamWriter {
+            stream,
+            sender: Sender::new(to),
+        }
+    }
+
+    /// The writer behind it.
+    pub fn get_ref(&self) -> &W {
+        &self.sender.to
+    }
+
+    /// Writes the end, and gives the writer behind it back, which isn't flushed.
+    pub fn finish(self) -> io::Result<W> {
+        self.sender.finish(|out| self.stream.end(out))
+    }
+}
+
+impl<S: Rewriting, W: Write> Write for StreamWriter<S, W> {
+    fn write(&mut self, bytes: &[u8]) -> io::Result<usize> {
+        let stream = &mut self.stream;
+        self.sender
+            .write(bytes, |bytes, out| stream.take(bytes, out))
+    }
+
+    fn flush(&mut self) -> io::Result<()> {
+        self.sender.flush()
+    }
+}
+
+/// Reads what a [`Cleaner`], a [`Filter`] or [`Lines`] makes of what is read from a reader, as it comes, and then the end. An `Err` is the reader's,
+/// after which it can be read on, or [`ErrorKind::OutOfMemory`].
+///
+/// ```
+/// use csicodec::Cleaner;
+/// use std::io::Read;
+///
+/// let mut text = String::new();
+/// Cleaner::strip().reader(&b"\x1b[31mfailed\x1b[0m\xc3"[..]).read_to_string(&mut text)?;
+/// assert_eq!(text, "failed\u{fffd}");
+/// # Ok::<(), std::io::Error>(())
+/// ```
+#[derive(Debug)]
+pub struct StreamReader<S: Rewriting, R: Read> {
+    /// Until the end was reached.
+    stream: Option<S>,
+    from: R,
+    out: Vec<u8>,
+    /// How many of the bytes of `out` were read.
+    given: usize,
+}
+
+impl<S: Rewriting, R: Read> StreamReader<S, R> {
+    fn new(stream: S, from: R) -> Self {
+        StreamReader {
+            stream: Some(stream),
+            from,
+            out: Vec::new(),
+            given: 0,
+        }
+    }
+
+    /// The reader behind it.
+    pub fn get_ref(&self) -> &R {
+        &self.from
+    }
+
+    /// Reads until something can be given, or the end.
+    fn fill(&mut self) -> io::Result<()> {
+        let mut piece = [0; 4096];
+        while self.given == self.out.len() {
+            let Some(stream) = &mut self.stream else {
+                return Ok(());
+            };
+            let count = self.from.read(&mut piece)?;
+            self.out.clear();
+            self.given = 0;
+            if count > 0 {
+                stream
+                    .take(&piece[..count], &mut self.out)
+                    .map_err(no_memory)?;
+            } else if let Some(stream) = self.stream.take() {
+                stream.end(&mut self.out).map_err(no_memory)?;
+            }
+        }
+        Ok(())
+    }
+}
+
+impl<S: Rewriting, R: Read> Read for StreamReader<S, R> {
+    fn read(&mut self, to: &mut [u8]) -> io::Result<usize> {
+        if to.is_empty() {
+            return Ok(0);
+        }
+        self.fill()?;
+        let count = (&self.out[self.given..]).read(to)?;
+        self.given += count;
+        Ok(count)
+    }
+}
+
 impl Cleaner {
     /// A writer that passes on what is left of the bytes that are written to it.
     pub fn writer<W: Write>(self, to: W) -> CleanWriter<W> {
-        CleanWriter {
-            cleaner: self,
-            sender: Sender::new(to),
-        }
+        StreamWriter::new(self, to)
+    }
+
+    /// A reader of what is left of what is read from another.
+    pub fn reader<R: Read>(self, from: R) -> StreamReader<Cleaner, R> {
+        StreamReader::new(self, from)
     }
 
     /// Reads to the end; writes and flushes the text as it comes, and the end. An `Err` is the reader's or the writer's, or
@@ -120,8 +293,39 @@ impl Cleaner {
     }
 }
 
-/// Writes what a [`Cleaner`] leaves of the bytes that are written to it, at once. [`CleanWriter::finish`] writes the end, so that no style
-/// stays open. An error of the writer behind it is returned by the next call, and what wasn't written then comes again.
+impl Filter {
+    /// A writer that passes on the stream in the filter's spelling.
+    pub fn writer<W: Write>(self, to: W) -> StreamWriter<Filter, W> {
+        StreamWriter::new(self, to)
+    }
+
+    /// A reader of what is read from another, in the filter's spelling.
+    pub fn reader<R: Read>(self, from: R) -> StreamReader<Filter, R> {
+        StreamReader::new(self, from)
+    }
+}
+
+impl Lines {
+    /// A writer that passes on each line as it stands when it ends, or the page of these.
+    pub fn writer<W: Write>(self, to: W) -> StreamWriter<Lines, W> {
+        StreamWriter::new(self, to)
+    }
+
+    /// A reader of the same of what is read from another.
+    pub fn reader<R: Read>(self, from: R) -> StreamReader<Lines, R> {
+        StreamReader::new(self, from)
+    }
+}
+
+impl Markup {
+    /// A writer that writes the page of all that is written to it.
+    pub fn writer<W: Write>(self, to: W) -> HtmlWriter<W> {
+        Lines::html(self).writer(to)
+    }
+}
+
+/// Writes what a [`Cleaner`] leaves of the bytes that are written to it, at once. [`StreamWriter::finish`] writes the end, so that no style
+/// stays open.
 ///
 /// ```
 /// use csicodec::Cleaner;
@@ -132,35 +336,20 @@ impl Cleaner {
 /// assert_eq!(log.finish()?, b"failed");
 /// # Ok::<(), std::io::Error>(())
 /// ```
-#[derive(Debug)]
-pub struct CleanWriter<W: Write> {
-    cleaner: Cleaner,
-    sender: Sender<W>,
-}
+pub type CleanWriter<W> = StreamWriter<Cleaner, W>;
 
-impl<W: Write> CleanWriter<W> {
-    /// The writer behind it.
-    pub fn get_ref(&self) -> &W {
-        &self.sender.to
-    }
-
-    /// Writes the end, and gives the writer behind it back, which isn't flushed.
-    pub fn finish(self) -> io::Result<W> {
-        self.sender.finish(|out| self.cleaner.finish(out))
-    }
-}
-
-impl<W: Write> Write for CleanWriter<W> {
-    fn write(&mut self, bytes: &[u8]) -> io::Result<usize> {
-        let cleaner = &mut self.cleaner;
-        self.sender
-            .write(bytes, |bytes, out| cleaner.push(bytes, out))
-    }
-
-    fn flush(&mut self) -> io::Result<()> {
-        self.sender.flush()
-    }
-}
+/// Writes the page of the bytes that are written to it, line by line as [`Lines`] does. [`StreamWriter::finish`] writes the end.
+///
+/// ```
+/// use csicodec::Markup;
+/// use std::io::Write;
+///
+/// let mut page = Markup { fragment: true, ..Markup::default() }.writer(Vec::new());
+/// write!(page, "\x1b[3m{}", "slanted")?;
+/// assert_eq!(page.finish()?, b"<span style=\"font-style:italic;\">slanted</span>");
+/// # Ok::<(), std::io::Error>(())
+/// ```
+pub type HtmlWriter<W> = StreamWriter<Lines, W>;
 
 /// Writes the plain text of the bytes that are written to it: the [`CleanWriter`] of [`Cleaner::strip`].
 ///
@@ -201,52 +390,5 @@ impl<W: Write> Write for StripWriter<W> {
 
     fn flush(&mut self) -> io::Result<()> {
         self.0.flush()
-    }
-}
-
-impl Markup {
-    /// A writer that writes the page of all that is written to it.
-    pub fn writer<W: Write>(self, to: W) -> HtmlWriter<W> {
-        HtmlWriter {
-            lines: Lines::html(self),
-            sender: Sender::new(to),
-        }
-    }
-}
-
-/// Writes the page of the bytes that are written to it, line by line as [`Lines`] does. [`HtmlWriter::finish`] writes the end. An error of the
-/// writer behind it is returned by the next call, and what wasn't written then comes again.
-///
-/// ```
-/// use csicodec::Markup;
-/// use std::io::Write;
-///
-/// let mut page = Markup { fragment: true, ..Markup::default() }.writer(Vec::new());
-/// write!(page, "\x1b[3m{}", "slanted")?;
-/// assert_eq!(page.finish()?, b"<span style=\"font-style:italic;\">slanted</span>");
-/// # Ok::<(), std::io::Error>(())
-/// ```
-#[derive(Debug)]
-pub struct HtmlWriter<W: Write> {
-    lines: Lines,
-    sender: Sender<W>,
-}
-
-impl<W: Write> HtmlWriter<W> {
-    /// Writes the end, and gives the writer behind it back, which isn't flushed.
-    pub fn finish(self) -> io::Result<W> {
-        self.sender.finish(|out| self.lines.finish(out))
-    }
-}
-
-impl<W: Write> Write for HtmlWriter<W> {
-    fn write(&mut self, bytes: &[u8]) -> io::Result<usize> {
-        let lines = &mut self.lines;
-        self.sender
-            .write(bytes, |bytes, out| lines.push(bytes, out))
-    }
-
-    fn flush(&mut self) -> io::Result<()> {
-        self.sender.flush()
     }
 }

@@ -3,9 +3,10 @@
 use crate::numbers::unknown_row;
 use crate::{Unspecified, raw};
 use alloc::vec::Vec;
+use core::fmt;
 
-/// Which sequence it is: a row of docs/SEQUENCES.md. The names are those of `enum csicodec_known_kind` in C.
-#[derive(Clone, Copy, Debug, PartialEq, Eq, Hash)]
+/// Which sequence it is: a row of docs/SEQUENCES.md. The names are those of `enum csicodec_known_kind` in C, and what `{:?}` and `{}` write.
+#[derive(Clone, Copy, PartialEq, Eq, Hash)]
 #[cfg_attr(feature = "serde", derive(serde::Serialize))]
 pub struct KnownKind(pub(crate) u32);
 
@@ -13,6 +14,18 @@ impl KnownKind {
     /// Its number in C, which stays.
     pub fn number(&self) -> u32 {
         self.0
+    }
+}
+
+impl fmt::Debug for KnownKind {
+    fn fmt(&self, f: &mut fmt::Formatter<'_>) -> fmt::Result {
+        write!(f, "KnownKind::{}", self.name())
+    }
+}
+
+impl fmt::Display for KnownKind {
+    fn fmt(&self, f: &mut fmt::Formatter<'_>) -> fmt::Result {
+        f.pad(self.name())
     }
 }
 
@@ -24,6 +37,7 @@ impl KnownKind {
 /// let Some(Ok(CSI::Unspecified(unknown))) = actions(b"\x1b[?2K").next() else { panic!() };
 /// let known = Known::of(&unknown).unwrap();
 /// assert_eq!((known.kind(), known.values()), (KnownKind::DECSEL, [2].as_slice()));
+/// assert_eq!(known.kind().to_string(), "DECSEL");
 /// ```
 #[derive(Clone, Copy, Debug, PartialEq, Eq)]
 pub struct Known {

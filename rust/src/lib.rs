@@ -61,7 +61,7 @@ pub use filter::{Filter, compact, compact_semicolons, filter};
 pub use html::{Markup, Palette, html, overwrite, overwrite_styled};
 pub use input::{Dialect, InputEvent, Inputs, inputs};
 #[cfg(feature = "std")]
-pub use io::{CleanWriter, HtmlWriter, StripWriter};
+pub use io::{CleanWriter, HtmlWriter, Rewriting, StreamReader, StreamWriter, StripWriter};
 pub use key::{Key, KeyCode, KeyEncoding, KeyEvent, KeyParser, Keys, keys};
 pub use known::{Known, KnownKind};
 pub use lines::Lines;

@@ -3,7 +3,7 @@ import re
 
 from bindings.known import GONE, GONE_MEANING, PREFIX, known
 from bindings.library import ESCAPES, NAMED, PATH, acting, declared, docs_of, kinds, low, numbers_of, snake, type_of, types
-from bindings.said import c_enumerations
+from bindings.said import c_enumerations, c_names
 
 # What the fields of a struct hold, by its form.
 FIELDS = {
@@ -92,11 +92,12 @@ def header_known():
 def header_names():
     """What gives the name of a kind."""
     names = ["CSICODEC_UNSPECIFIED"] + [c_name(group, variant) for _, group, variant, _, _ in kinds()] + ["CSICODEC_SELECT_CHARACTER_PATH"] + [PREFIX + name for name in [*(name for name, _ in known()), *GONE]]
-    out = "/* The name of a kind in this header, such as \"CSICODEC_CURSOR_UP\"; NULL for another number. */\n"
-    out += "static inline const char *csicodec_kind_name(uint32_t kind) {\n    switch (kind) {\n"
-    out += "".join(f'    case {name}: return "{name}";\n' for name in names)
-    out += "    default: return NULL;\n    }\n}\n"
-    return f"""/* The names of kinds. Written by tools/table; csicodec.h includes it. */
+    out = ""
+    for said, call, rows in [("the name of a kind in this header, such as \"CSICODEC_CURSOR_UP\"", "csicodec_kind_name", names), *c_names()]:
+        out += f"/* {said[0].upper()}{said[1:]}; NULL for another number. */\nstatic inline const char *{call}(uint32_t kind) {{\n    switch (kind) {{\n"
+        out += "".join(f'    case {name}: return "{name}";\n' for name in rows)
+        out += "    default: return NULL;\n    }\n}\n\n"
+    return f"""/* The names of kinds, of commands of OSC, and of keys. Written by tools/table; csicodec.h includes it. */
 #ifndef CSICODEC_NAMES_H
 #define CSICODEC_NAMES_H
 
@@ -105,8 +106,7 @@ def header_names():
 
 #include "csicodec_kinds.h"
 
-{out}
-#endif
+{out}#endif
 """
 
 

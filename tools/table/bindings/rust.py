@@ -174,4 +174,6 @@ def rust_known():
         out += f"    /// `` {form} ``: {said} ({source}).\n    pub const {name}: KnownKind = KnownKind({kind});\n"
     for name, kind in GONE.items():
         out += f"    /// {GONE_MEANING.capitalize()}.\n    pub const {name}: KnownKind = KnownKind({kind});\n"
-    return out + "}\n"
+    out += "\n    /// The name of its constant, such as `DECSED`.\n    pub fn name(&self) -> &'static str {\n        match self.0 {\n"
+    out += "".join(f'            {kind} => "{name}",\n' for name, kind in [*((name, kind) for name, (kind, *_) in known()), *GONE.items()])
+    return out + '            _ => "",\n        }\n    }\n}\n'

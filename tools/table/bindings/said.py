@@ -37,6 +37,14 @@ def c_enumerations(comment):
     return out
 
 
+def c_names():
+    """What gives the name of a command of OSC, and of a key, in C."""
+    of = {"OscKind": ("osc", "a command of OSC", "CSICODEC_OSC_TITLE_WINDOW"), "KeyCode": ("key", "a key", "CSICODEC_KEY_HOME")}
+    for name, _, rows in said_enumerations():
+        word, what, example = of[name]
+        yield f"the name of {what} in this header, such as \"{example}\"", f"csicodec_{word}_name", [PREFIXES[name] + snake(variant) for variant, _, _ in rows]
+
+
 def rust_osc():
     """rust/src/osc_kinds.rs."""
     _, docs, rows = next(said_enumerations())
@@ -44,7 +52,9 @@ def rust_osc():
     out += "".join(f"    /// {said}\n    {variant} = {number},\n" for variant, number, said in rows)
     out += "}\n\nimpl OscKind {\n    /// The command of a number.\n    pub(crate) fn of(number: u32) -> OscKind {\n        match number {\n"
     out += "".join(f"            {number} => OscKind::{variant},\n" for variant, number, _ in rows[1:])
-    return out + "            _ => OscKind::Unknown,\n        }\n    }\n}\n"
+    out += "            _ => OscKind::Unknown,\n        }\n    }\n\n    /// Its name, such as `TitleWindow`.\n    pub fn name(&self) -> &'static str {\n        match self {\n"
+    out += "".join(f'            OscKind::{variant} => "{variant}",\n' for variant, _, _ in rows)
+    return out + "        }\n    }\n}\n"
 
 
 def rust_keys():

@@ -1,13 +1,16 @@
 """.ci/witness.tsv: what says that a row is right. It is typed by hand from the sources that its lines name, and nothing here writes it.
 
 `faults` says which rows of table/ it has no line for, and which it says otherwise of: the names and numbers of SGR codes, modes, escape codes and
-enumerations, and of each action the list that it stands for. So two names that are exchanged are refused before anything is written.
+enumerations, of each action the list that it stands for, each form of a key, and what each command of OSC begins with. So two names that are
+exchanged are refused before anything is written.
 """
 import json
 import os
 import re
 from dataclasses import dataclass
 
+import keys
+import osc
 from read import TOP, place
 
 PATH = ".ci/witness.tsv"
@@ -41,7 +44,7 @@ def lines():
     with open(os.path.join(TOP, PATH), encoding="utf-8") as file:
         rows = [(at, row.rstrip("\n").split("\t")) for at, row in enumerate(file, 1) if not row.startswith("#")]
     for at, row in rows:
-        if len(row) != 6 or not row[5] or row[0] not in ("action", "written", "number", "escape", "list", "known"):
+        if len(row) != 6 or not row[5] or row[0] not in ("action", "written", "number", "escape", "list", "known", "key", "osc"):
             raise SystemExit(f"table: refused: {PATH}:{at} has no class or no source, or not six columns")
     return [Line(at, *row) for at, row in rows]
 
@@ -180,6 +183,50 @@ def of_known(known, rows):
             yield f"{place('sequences.toml', row.kind)}: {row.name} has no line in {PATH}"
 
 
+def bytes_of(text):
+    """The bytes of a text with escapes."""
+    return text.replace("\\e", "\\x1b").encode("latin-1").decode("unicode_escape").encode("latin-1")
+
+
+# What a form of a key sends, by its column, its number and its final or its character; with ctrl, where the document has no form without.
+SENT = {
+    "control": lambda number, control: control,
+    "ss3": lambda number, control: f"\x1bO{control}",
+    "kitty": lambda number, control: f"\x1b[{number}u" if number else "\x1b[0;;229u",
+    "other": lambda number, control: f"\x1b[27;5;{number}~",
+    "csi": lambda number, control: f"\x1b[{number if number != 1 or control in '~$^@' else ''}{control}",
+    "linux": lambda number, control: f"\x1b[[{control}",
+    "win32": lambda number, control: f"\x1b[{number % 256};0;0;1;{number // 256 * 256};1_",
+}
+SENT |= {"ss3_cursor": SENT["ss3"], "rxvt_ss3": SENT["ss3"], "rxvt": SENT["csi"]}
+
+
+def of_keys(known, tables):
+    """Faults of keys: of forms that no line has, or another key's has."""
+    said = {bytes_of(line.given): line for line in known if line.kind == "key"}
+    for key in keys.keys_of(tables):
+        name = re.sub(r"F\((\d+)\)", r"F\1", key.code.removeprefix("KeyCode::"))
+        name = re.sub(r"Char\('\\?(.)'\)", r"Char \1", name)
+        for column, forms in key.forms.items():
+            for form in forms:
+                sent = SENT[column](form.number, form.control)
+                line = said.get(sent.encode("latin-1")) or said.get(f"\x1b[{form.number};5{form.control}".encode("latin-1"))
+                if line is None:
+                    yield f"table/keys.toml: {name} by {column}, {sent!r}, has no line in {PATH}"
+                elif line.name != name:
+                    yield f"table/keys.toml: {name} by {column} is {sent!r}, and {line.name} by {line.place()}"
+
+
+def of_osc(known, commands):
+    """Faults of commands of OSC: of those that no line has, or that begin otherwise."""
+    said = {line.name: line for line in known if line.kind == "osc"}
+    for name, begins in commands:
+        if name not in said:
+            yield f"table/osc.toml: {name} has no line in {PATH}"
+        elif not re.match(re.escape(begins) + "(;|$)", said[name].given):
+            yield f"table/osc.toml: {name} begins with {begins}, and {said[name].given} by {said[name].place()}"
+
+
 def facts(tables, actions, rows):
     """What table/ says of what the witness says, by the check that compares it."""
     values = {name: kind["variants"] for name, kind in tables["values.toml"].items() if "variants" in kind}
@@ -190,6 +237,8 @@ def facts(tables, actions, rows):
         "escapes": [(key, row["name"]) for key, row in tables["escapes.toml"]["code"].items() if "name" in row],
         "actions": actions,
         "known": rows,
+        "keys": tables["keys.toml"],
+        "osc": [(name, re.match("`([^`]*)`", said)[1]) for name, _, said in osc.commands(tables["osc.toml"])],
         "values": [(kind, name) for kind, rows in values.items() if kind != TOKEN for name in rows],
     }
 
@@ -201,4 +250,5 @@ def faults(known, said):
     for kind, rows in said["numbers"].items():
         if kind in witnessed:
             found += of_numbers(numbers, kind, rows)
+    found += [*of_keys(known, said["keys"]), *of_osc(known, said["osc"])]
     return found + [*of_values(known, said["values"]), *of_known(known, said["known"])]

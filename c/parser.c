@@ -1,5 +1,5 @@
 /* A stream that is pushed in pieces of any length has the events of the whole, strings are told whole, and what a parser keeps stays in
- * its room. Parameters as they came, a sequence that is read once more, and the lists that terminals take otherwise. */
+ * its room. It is stopped, asked and reset. Parameters as they came, a sequence that is read once more, and the lists that terminals take otherwise. */
 #include "csicodec.h"
 
 #include <stdio.h>
@@ -26,7 +26,7 @@ static void tell(void *user, const struct csicodec_parser *parser, const struct 
     if (kind == 'A') {
         size += (size_t)sprintf(told + size, "A%d", (int)event->actions);
         if (details) size += (size_t)sprintf(told + size, "<%.*s>%d", (int)event->len, (const char *)event->bytes, (int)event->params);
-        for (size_t i = 0; i < event->actions && i < parser->stream.actions_room; i++)
+        for (size_t i = 0; i < event->written; i++)
             size += (size_t)sprintf(told + size, " %d %d", (int)parser->stream.actions[i].kind, (int)parser->stream.actions[i].first);
     } else if (kind == 'E') {
         size += (size_t)sprintf(told + size, "E %x", (unsigned)event->code);
@@ -335,6 +335,61 @@ static int is_refused(void) {
     return 1;
 }
 
+/* Tells an event, and ends the feed behind it; with a stream in `inner` it tries to feed that first. */
+static struct csicodec_parser *steered;
+static const char *inner;
+
+static void tell_one(void *user, const struct csicodec_parser *parser, const struct csicodec_event *event) {
+    tell(user, parser, event);
+    if (inner) torn |= csicodec_feed(steered, (const uint8_t *)inner, strlen(inner), tell_one, user) != 0;
+    else csicodec_stop(steered);
+}
+
+/* A feed that is stopped behind each event, and goes on with what it didn't take, tells what one feed tells. */
+static int goes_on_stopped(const char *text, size_t piece, const char *wanted) {
+    struct csicodec_action actions[4];
+    struct csicodec_param params[4];
+    uint8_t held[16];
+    struct csicodec_parser parser = csicodec_parser_of(held, 16, actions, 4, params, 4);
+    size_t len = strlen(text), at = 0, more, calls = 0;
+    steered = &parser, inner = NULL, size = 0, open = 0;
+    while (at < len && calls++ < 4 * len + 4) {
+        more = len - at < piece ? len - at : piece;
+        at += csicodec_feed(&parser, (const uint8_t *)text + at, more, tell_one, NULL);
+        if (parser.status != CSICODEC_OK) return 0;
+    }
+    while (parser.stopped) csicodec_feed(&parser, NULL, 0, tell_one, NULL);
+    csicodec_finish(&parser, tell, NULL);
+    told[size] = 0;
+    return at == len && !strcmp(told, wanted);
+}
+
+/* Stopped, asked, reset, and not fed by what it tells. */
+static int is_steered(void) {
+    struct csicodec_action actions[1];
+    uint8_t held[16], string[8];
+    struct csicodec_parser parser = csicodec_parser_of(held, 16, actions, 1, NULL, 0);
+    for (size_t piece = 1; piece < 20; piece++)
+        if (!goes_on_stopped("a\x1b[1;31mred\x1b(Bx\x1b]0;t\x07\xc3\xa9\x1b[1\x08;2Hz", piece, "T a|A2 2 1 11 1|T red|E 2842|T x|S] 0;t.7|T \xc3\xa9\x08|A1 109 1|T z")) return 0;
+    csicodec_collect(&parser, string, sizeof string);
+    parser.stream.as_terminals = 1;
+    if (!csicodec_is_ground(&parser)) return 0;
+    for (size_t i = 0; i < 3; i++) {
+        static const char *const begun[] = {"\x1b[1", "\x1b]0;ti", "a\xe2\x82"};
+        size = 0, open = 0;
+        csicodec_feed(&parser, (const uint8_t *)begun[i], strlen(begun[i]), tell, NULL);
+        if (csicodec_is_ground(&parser)) return 0;
+        csicodec_reset(&parser);
+        size = 0, open = 0;
+        csicodec_feed(&parser, (const uint8_t *)"x\x1b[;B\x1b]2;t\x07", 11, tell, NULL);
+        told[size] = 0;
+        if (!csicodec_is_ground(&parser) || strcmp(told, "T x|A1 102 1|S] 2;t.7")) return 0;
+    }
+    steered = &parser, inner = "\x1b[1m", torn = 0, size = 0;
+    return csicodec_feed(&parser, (const uint8_t *)"a\x1b[mb", 5, tell_one, NULL) < 5 && parser.status == CSICODEC_BAD_STATE && !torn
+        && csicodec_feed(&parser, (const uint8_t *)"b", 1, tell, NULL) == 1;
+}
+
 int main(int count, char **words) {
     unsigned rounds = count > 1 ? (unsigned)atoi(words[1]) : 2000;
     int right = is_told("a\x1b[1;31mred\x1b(B\x1b[1\x08;2H\x1b[3\x18z\xc3\xa9", 0, "T a|A2 2 1 11 1|T red|E 2842|T \x08|A1 109 1|O \x1b[3|T \x18z\xc3\xa9")
@@ -346,7 +401,7 @@ int main(int count, char **words) {
         && is_told("ab\xe2\x82", 0, "T ab\xe2\x82") && is_told("a\x1b[1", 0, "T a|O \x1b[1")
         && is_told("\x1b[1234567890123456;7m", 0, "O \x1b[1234567890123456;7m")
         && is_told("\x1b\n[31mred", 0, "O \x1b\n[|T 31mred") && is_told("\x1b(\n0x", 0, "O \x1b(\n0|T x")
-        && same_in_pieces(rounds) && are_raw() && is_refused() && is_read_again() && are_taken(rounds * 20);
+        && same_in_pieces(rounds) && is_steered() && are_raw() && is_refused() && is_read_again() && are_taken(rounds * 20);
     if (!right) return 1;
     printf("parser: the events of the whole in pieces of any length, whole strings, raw parameters, %d lists as terminals take them\n", (int)(sizeof readings / sizeof readings[0]));
     return 0;

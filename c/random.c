@@ -35,7 +35,7 @@ static void tell_event(const struct csicodec_stream *stream, const struct csicod
     size_t i;
     if (event->kind == CSICODEC_EVENT_ACTIONS) {
         tell(1, event->actions);
-        for (i = 0; i < event->actions && i < stream->actions_room; i++) tell(stream->actions[i].kind, (uint64_t)stream->actions[i].first);
+        for (i = 0; i < event->written; i++) tell(stream->actions[i].kind, (uint64_t)stream->actions[i].first);
     } else if (event->kind == CSICODEC_EVENT_ESC) {
         tell(2, (uint64_t)event->code << 16 | (uint64_t)event->intermediate << 8 | event->final_byte);
     } else {
@@ -57,7 +57,8 @@ static size_t all_told(const uint8_t *bytes, size_t len, size_t limit) {
         if (next.status != CSICODEC_OK) return len - at;
         memset(&event, 0, sizeof event);
         stream.mode = next.mode, stream.looked = next.looked;
-        event.kind = next.kind, event.bytes = bytes + at, event.len = event.used = next.used, event.actions = next.actions;
+        event.kind = next.kind, event.bytes = bytes + at, event.len = event.used = next.used;
+        csicodec_counts(&stream, &event, next.actions, next.params);
         if (next.kind > CSICODEC_EVENT_ACTIONS) csicodec_event_says(&stream, &event);
         tell_event(&stream, &event);
         at += next.used;

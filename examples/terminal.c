@@ -210,7 +210,7 @@ static void take(void *user, const struct csicodec_parser *parser, const struct 
     size_t i;
     (void)user;
     for (i = 0; event->kind == CSICODEC_EVENT_TEXT && i < event->len; i++) text(event->bytes[i]);
-    for (i = 0; event->kind == CSICODEC_EVENT_ACTIONS && i < event->actions && i < stream->actions_room; i++)
+    for (i = 0; event->kind == CSICODEC_EVENT_ACTIONS && i < event->written; i++)
         act(&stream->actions[i], stream->params, stream->params_room);
     if (event->kind == CSICODEC_EVENT_ESC) escape(event->code);
 }

@@ -77,9 +77,10 @@ struct csicodec_event {
     size_t len;
     /* Continue behind so many bytes. It is 0 for a control within a control sequence. */
     size_t used;
-    /* Of CSICODEC_EVENT_ACTIONS, the number of actions and of tokens. As many are written as there is room for. */
+    /* Of CSICODEC_EVENT_ACTIONS, the number of actions and of tokens. As many are written as there is room for: so many actions. */
     size_t actions;
     size_t params;
+    size_t written;
     /* Of CSICODEC_EVENT_ESC, enum csicodec_esc_code, or 0 if there is no code; the intermediate byte, or 0; and the final
      * byte. */
     uint32_t code;
@@ -161,13 +162,19 @@ static inline int csicodec_may_differ(const struct csicodec_stream *stream, cons
     return end[-1] == 'm' && (end[-2] == ';' || end[-2] < 0x20 || end[-2] == 0x7f);
 }
 
+/* So many actions and tokens are of the event. */
+static inline void csicodec_counts(const struct csicodec_stream *stream, struct csicodec_event *event, size_t actions, size_t params) {
+    event->actions = actions;
+    event->params = params;
+    event->written = actions < stream->actions_room ? actions : stream->actions_room;
+}
+
 /* Asks which actions terminals take the sequence of an event for. If there is no memory the stream is as it was before it. */
 CSICODEC_RARELY int csicodec_terminal_event(struct csicodec_stream *stream, uint32_t mode, size_t looked, struct csicodec_event *event) {
     struct csicodec_front front = csicodec_terminal_actions(event->bytes, event->used, stream->actions, stream->actions_room,
                                                             stream->params, stream->params_room);
     if (front.status == CSICODEC_OK) {
-        event->actions = front.actions;
-        event->params = front.params;
+        csicodec_counts(stream, event, front.actions, front.params);
         return 1;
     }
     memset(event, 0, sizeof *event);
@@ -188,8 +195,7 @@ CSICODEC_RARELY int csicodec_told_event(struct csicodec_stream *stream, const ui
         return 0;
     }
     stream->looked = told.looked;
-    event->actions = told.actions;
-    event->params = told.params;
+    csicodec_counts(stream, event, told.actions, told.params);
     csicodec_event_of(stream, event, told.kind, bytes, told.used, told.mode);
     if (told.kind > CSICODEC_EVENT_ACTIONS) csicodec_event_says(stream, event);
     if (told.kind != CSICODEC_EVENT_ACTIONS || !stream->as_terminals || !csicodec_may_differ(stream, event)) return 1;
@@ -228,8 +234,7 @@ static inline size_t csicodec_told_text(const uint8_t *bytes, size_t len) {
 static inline int csicodec_front_event(struct csicodec_stream *stream, const uint8_t *bytes, const struct csicodec_front *front,
                                        struct csicodec_event *event) {
     uint32_t mode = stream->mode;
-    event->actions = front->actions;
-    event->params = front->params;
+    csicodec_counts(stream, event, front->actions, front->params);
     csicodec_event_of(stream, event, CSICODEC_EVENT_ACTIONS, bytes, front->used, CSICODEC_FILTER_TEXT);
     return !stream->as_terminals || !csicodec_may_differ(stream, event) || csicodec_terminal_event(stream, mode, 0, event);
 }
@@ -286,9 +291,12 @@ struct csicodec_parser {
     uint8_t ended_by;
     /* CSICODEC_OK, or why csicodec_feed stopped: CSICODEC_MEMORY or CSICODEC_BAD_STATE. */
     uint32_t status;
+    /* Whether csicodec_feed is under way, and whether csicodec_stop ends it. */
+    int feeding, stopped;
 };
 
-/* Carries out an event. It is told with the parser, whose stream has the actions. */
+/* Carries out an event. It is told with the parser, whose stream has the actions. It may call csicodec_stop with the parser of the caller, and
+ * not csicodec_feed, which says CSICODEC_BAD_STATE there, and then ends where it was called first. */
 typedef void csicodec_teller(void *user, const struct csicodec_parser *parser, const struct csicodec_event *event);
 
 /* A new parser. With room for less than 4 bytes its limit is 0, and csicodec_feed says CSICODEC_BAD_STATE. */
@@ -299,6 +307,27 @@ static inline struct csicodec_parser csicodec_parser_of(uint8_t *held, size_t he
     parser.stream = csicodec_stream_of(held_room < 4 ? 0 : held_room, actions, actions_room, params, params_room);
     parser.held = held, parser.held_room = held_room;
     return parser;
+}
+
+/* Whether nothing is open and no byte waits, as at the beginning of a stream: what comes next is read by itself. */
+static inline int csicodec_is_ground(const struct csicodec_parser *parser) {
+    return !parser->waiting && !parser->collecting && parser->stream.mode == CSICODEC_FILTER_TEXT;
+}
+
+/* Forgets what is open and what waits, of which nothing is told. The rooms stay, and so do the limit, the reading of terminals and whether
+ * strings are collected. */
+static inline void csicodec_reset(struct csicodec_parser *parser) {
+    parser->waiting = parser->string_len = 0;
+    parser->begun = parser->stopped = 0;
+    parser->collecting = 0, parser->ended_by = 0;
+    parser->status = CSICODEC_OK;
+    parser->stream.looked = 0, parser->stream.mode = CSICODEC_FILTER_TEXT;
+}
+
+/* Called by what carries out events, it ends csicodec_feed behind the event that was told: that returns how many bytes it took, and the others
+ * may be fed later. */
+static inline void csicodec_stop(struct csicodec_parser *parser) {
+    parser->stopped = 1;
 }
 
 /* From now on a string is told whole, when it is over: its first bytes, as many as there is room for, and `string_len` says how many it has. */
@@ -355,7 +384,8 @@ static inline size_t csicodec_begins(struct csicodec_parser *parser, const uint8
     }
     held[0] = 0x1b, held[1] = '[';
     parser->waiting = len;
-    return parser->begun = 1;
+    parser->begun = 1;
+    return 1;
 }
 
 /* Goes on with the control sequence that has begun, up to its end or to the limit; how many bytes it took. */
@@ -429,14 +459,15 @@ CSICODEC_RARELY size_t csicodec_feed_waiting(struct csicodec_parser *parser, con
         if (more > len - at) more = len - at;
         memcpy(parser->held + parser->waiting, bytes + at, more);
         at += more, parser->waiting += more, used = 0;
-        while (parser->waiting - used > more && csicodec_tell_next(parser, parser->held + used, parser->waiting - used, &used, tell, user)) continue;
+        while (parser->waiting - used > more && !parser->stopped
+               && csicodec_tell_next(parser, parser->held + used, parser->waiting - used, &used, tell, user)) continue;
         parser->waiting -= used;
         if (parser->waiting <= more) {
             at -= parser->waiting, parser->waiting = 0;
             return at;
         }
         memmove(parser->held, parser->held + used, parser->waiting);
-    } while (at < len && parser->status == CSICODEC_OK);
+    } while (at < len && parser->status == CSICODEC_OK && !parser->stopped);
     return at;
 }
 
@@ -445,7 +476,7 @@ CSICODEC_RARELY size_t csicodec_feed_waiting(struct csicodec_parser *parser, con
 static inline size_t csicodec_feed_rest(struct csicodec_parser *parser, const uint8_t *bytes, size_t len, csicodec_teller *tell, void *user) {
     const uint8_t *front = bytes, *end = bytes + len;
     size_t used;
-    while (front < end) {
+    while (front < end && !parser->stopped && parser->status == CSICODEC_OK) {
         if (*front != 0x1b && parser->stream.mode == CSICODEC_FILTER_TEXT && parser->stream.limit) {
             used = csicodec_tell_text(parser, front, (size_t)(end - front), tell, user);
             if (!used) break;
@@ -459,16 +490,14 @@ static inline size_t csicodec_feed_rest(struct csicodec_parser *parser, const ui
         }
         front += used;
     }
-    if (parser->status != CSICODEC_OK) return (size_t)(front - bytes);
+    if (parser->status != CSICODEC_OK || parser->stopped) return (size_t)(front - bytes);
     if (front < end) memcpy(parser->held, front, parser->waiting = (size_t)(end - front));
     return len;
 }
 
-/* Tells the events that are sure now, and keeps the bytes that wait. It returns how many bytes it took: all of them, unless
- * parser->status says why it stopped. After CSICODEC_MEMORY the others may be fed again. */
-static inline size_t csicodec_feed(struct csicodec_parser *parser, const uint8_t *bytes, size_t len, csicodec_teller *tell, void *user) {
+/* Tells the events of these bytes behind those that wait; how many it took. */
+static inline size_t csicodec_fed(struct csicodec_parser *parser, const uint8_t *bytes, size_t len, csicodec_teller *tell, void *user) {
     size_t at = 0;
-    parser->status = CSICODEC_OK;
     if (parser->waiting) {
         if (parser->begun) {
             at = len ? csicodec_goes_on(parser, bytes, len) : 0;
@@ -479,6 +508,18 @@ static inline size_t csicodec_feed(struct csicodec_parser *parser, const uint8_t
         if (parser->waiting || parser->status != CSICODEC_OK) return at;
     }
     return at + csicodec_feed_rest(parser, bytes + at, len - at, tell, user);
+}
+
+/* Tells the events that are sure now, and keeps the bytes that wait. It returns how many bytes it took: all of them, unless
+ * parser->status says why it stopped, or csicodec_stop was called. After CSICODEC_MEMORY the others may be fed again. */
+static inline size_t csicodec_feed(struct csicodec_parser *parser, const uint8_t *bytes, size_t len, csicodec_teller *tell, void *user) {
+    size_t at;
+    parser->status = parser->feeding ? (uint32_t)CSICODEC_BAD_STATE : (uint32_t)CSICODEC_OK;
+    if (parser->feeding) return 0;
+    parser->feeding = 1, parser->stopped = 0;
+    at = csicodec_fed(parser, bytes, len, tell, user);
+    parser->feeding = 0;
+    return at;
 }
 
 /* The end of the stream. What waits is told: an incomplete character as text, and an unfinished control as CSICODEC_EVENT_OTHER. A string

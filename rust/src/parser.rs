@@ -1,8 +1,9 @@
 //! A stream that comes in pieces.
 
-use crate::events::Reader;
+use crate::events::{Reader, TEXT};
 use crate::{Dialect, Event, InputEvent};
 use alloc::vec::Vec;
+use core::ops::ControlFlow;
 
 /// Reads a stream that comes in pieces. How it is cut changes only where text, strings and malformed controls are cut; it never cuts
 /// a character of text. A stream is UTF-8: bytes 80 to 9f are text, never 8-bit controls, so 9b isn't CSI.
@@ -54,6 +55,60 @@ impl Parser {
             let used = run(&mut self.reader, &self.held, tell);
             self.held.drain(..used);
         }
+    }
+
+    /// Takes the next bytes until `tell` breaks, and answers how many it took: all of them, or those up to the event that `tell` broke at. The
+    /// others may be passed later, as at the next frame; the further actions of a sequence are passed first then.
+    ///
+    /// ```
+    /// use csicodec::{Event, Parser};
+    /// use std::ops::ControlFlow;
+    ///
+    /// let mut parser = Parser::new();
+    /// let used = parser.advance_until(b"one\x1b[2Atwo", &mut |event| match event {
+    ///     Event::Csi(_) => ControlFlow::Break(()),
+    ///     _ => ControlFlow::Continue(()),
+    /// });
+    /// assert_eq!(used, 7);
+    /// assert!(parser.is_ground());
+    /// ```
+    pub fn advance_until<F: FnMut(Event<'_>) -> ControlFlow<()>>(
+        &mut self,
+        bytes: &[u8],
+        tell: &mut F,
+    ) -> usize {
+        let before = self.held.len();
+        self.held.extend_from_slice(bytes);
+        let mut rest = self.held.as_slice();
+        let mut broken = false;
+        while !broken {
+            let Some(event) = self.reader.next(&mut rest) else {
+                break;
+            };
+            broken = tell(event).is_break();
+        }
+        let used = self.held.len() - rest.len();
+        let taken = if broken {
+            used.max(before)
+        } else {
+            self.held.len()
+        };
+        self.held.truncate(taken);
+        self.held.drain(..used);
+        taken - before
+    }
+
+    /// Whether nothing is open and nothing is held, as at the beginning of a stream: what comes next is read by itself.
+    pub fn is_ground(&self) -> bool {
+        self.held.is_empty() && !self.reader.open && self.reader.mode == TEXT
+    }
+
+    /// Forgets what is open and what is held, of which nothing is passed. Whether it reads as terminals do stays.
+    pub fn reset(&mut self) {
+        let as_terminals = self.reader.as_terminals;
+        self.reader = Reader::new(false);
+        self.reader.as_terminals = as_terminals;
+        self.held.clear();
     }
 
     /// Takes the next bytes that a terminal sent, and passes each event that is sure now: [`inputs`](crate::inputs) says what these are.

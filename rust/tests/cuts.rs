@@ -2,6 +2,7 @@
 
 use csicodec::{Event, Parser};
 use csicodec_sys as raw;
+use std::ops::ControlFlow;
 
 /// The next number of a linear congruential generator, from 0 to below `bound`.
 fn random(state: &mut u64, bound: usize) -> usize {
@@ -54,35 +55,66 @@ fn told(bytes: &[u8]) -> (Vec<(char, u8)>, usize) {
     }
 }
 
+/// What an event says.
+fn say(all: &mut Vec<(char, u8)>, event: Event<'_>) {
+    match event {
+        Event::Text(text) => push(all, 'T', text),
+        Event::Csi(_) => all.push(('A', 0)),
+        Event::Esc(esc) => {
+            let text = esc.to_string();
+            all.push(('E', *text.as_bytes().last().expect("a final byte")));
+        }
+        Event::Str { bytes, last, .. } => {
+            push(all, 'S', bytes);
+            if last {
+                all.push(('.', 0));
+            }
+        }
+        Event::Other(bytes) => push(all, 'O', bytes),
+        _ => unreachable!(),
+    }
+}
+
 /// The same of a parser that the bytes come to in two pieces.
 fn parsed(bytes: &[u8], cut: usize) -> (Vec<(char, u8)>, usize) {
     let mut all = Vec::new();
     let mut parser = Parser::new();
     for piece in [&bytes[..cut], &bytes[cut..]] {
-        parser.advance(piece, &mut |event| match event {
-            Event::Text(text) => push(&mut all, 'T', text),
-            Event::Csi(_) => all.push(('A', 0)),
-            Event::Esc(esc) => {
-                let text = esc.to_string();
-                all.push(('E', *text.as_bytes().last().expect("a final byte")));
-            }
-            Event::Str { bytes, last, .. } => {
-                push(&mut all, 'S', bytes);
-                if last {
-                    all.push(('.', 0));
-                }
-            }
-            Event::Other(bytes) => push(&mut all, 'O', bytes),
-            _ => unreachable!(),
-        });
+        parser.advance(piece, &mut |event| say(&mut all, event));
     }
     (all, parser.held().len())
+}
+
+/// The same of one that is stopped at each event.
+fn stopped(bytes: &[u8], cut: usize) -> (Vec<(char, u8)>, usize) {
+    let mut all = Vec::new();
+    let mut parser = Parser::new();
+    for mut piece in [&bytes[..cut], &bytes[cut..]] {
+        loop {
+            let mut events = 0;
+            let used = parser.advance_until(piece, &mut |event| {
+                events += 1;
+                say(&mut all, event);
+                ControlFlow::Break(())
+            });
+            piece = &piece[used..];
+            if events == 0 {
+                assert_eq!(piece, b"");
+                break;
+            }
+        }
+    }
+    let held = parser.held().len();
+    parser.reset();
+    assert!(parser.is_ground());
+    (all, held)
 }
 
 fn every_cut(bytes: &[u8]) {
     let wanted = told(bytes);
     for cut in 0..=bytes.len() {
         assert_eq!(parsed(bytes, cut), wanted, "{bytes:?} cut at {cut}");
+        assert_eq!(stopped(bytes, cut), wanted, "{bytes:?} cut at {cut}, stopped");
     }
 }
 

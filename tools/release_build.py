@@ -20,6 +20,7 @@ GLIBC = {HERE: "2.2.5", "aarch64-linux": "2.17"}
 LOADER = {HERE: "x86_64", "aarch64-linux": "aarch64"}
 # The static library.
 ARCHIVE = "libcsicodec.a"
+# Of system/python.c, for the package for Python alone: no header has them, and their version is of its own.
 MANY_EVENTS = ["csicodec_left", "csicodec_begin", "csicodec_tell"]
 C_CALLS = ("malloc", "realloc", "free", "memcpy", "memmove", "memset", "memcmp", "memchr", "bcmp")
 C_FLAGS = ["-O2", "-ffreestanding", "-ffunction-sections", "-fno-asynchronous-unwind-tables", "-Wall", "-Wextra", "-Werror"]
@@ -298,7 +299,7 @@ def link_library(kit, place, made, folder, room):
     kit.tool("ld.lld", "-shared", "-soname", "libc.so.6", "--version-script", f"{own}/versions", "-o", f"{own}/libc.so.6", f"{own}/calls.o")
     kit.c_object(target, "python", f"{own}/python.o", "-fPIC", f"-I{TOP}/system/headers", f"-I{TOP}/include")
     with open(f"{own}/names", "w", encoding="utf-8") as file:
-        file.write(f"CSICODEC_{major} {{ global: {'; '.join([*calls(), *MANY_EVENTS])}; local: *; }};\n")
+        file.write(f"CSICODEC_{major} {{ global: {'; '.join(calls())}; local: *; }};\nCSICODEC_PRIVATE {{ global: {'; '.join(MANY_EVENTS)}; }};\n")
     how = ["-shared", "-soname", f"libcsicodec.so.{major}", "--version-script", f"{own}/names", "-z", "relro", "-z", "now", "-z", "defs", "-z", "noexecstack"]
     how += ["--gc-sections", "--icf=safe", "--build-id=none", "--hash-style=gnu", "-s"]
     kit.tool("ld.lld", *how, "-o", f"{folder}/libcsicodec.so", f"{own}/{parts[0]}", f"{own}/heap.o", f"{own}/python.o", f"{own}/libc.so.6")

@@ -80,11 +80,11 @@ def said_of(known, kind):
 
 def of_numbers(said, enumeration, rows):
     """Faults of an enumeration's variants, each by its name, its number and where its row stands."""
-    for name, number, keys in rows:
+    for name, number, where in rows:
         if (enumeration, name) not in said:
-            yield f"{place(*keys)}: {enumeration}::{name} has no line in {PATH}"
+            yield f"{place(*where)}: {enumeration}::{name} has no line in {PATH}"
         elif said[enumeration, name][0] != str(number):
-            yield f"{place(*keys)}: {enumeration}::{name} is {number}, and {said[enumeration, name][0]} by {said[enumeration, name][1].place()}"
+            yield f"{place(*where)}: {enumeration}::{name} is {number}, and {said[enumeration, name][0]} by {said[enumeration, name][1].place()}"
 
 
 def of_escapes(said, rows):

@@ -19,7 +19,7 @@ fn push(all: &mut Vec<(char, u8)>, letter: char, bytes: &[u8]) {
 
 /// What the library tells of all the bytes, and how many wait.
 fn told(bytes: &[u8]) -> (Vec<(char, u8)>, usize) {
-    let (mut actions, mut params) = ([raw::Plain::default(); 4], [raw::Param::default(); 4]);
+    let (mut actions, mut params) = ([raw::Action::default(); 4], [raw::Param::default(); 4]);
     let (mut all, mut mode, mut looked, mut rest) = (Vec::new(), 0, 0, bytes);
     loop {
         let told = raw::event(mode, 65_536, looked, rest, &mut actions, &mut params);

@@ -12,18 +12,18 @@ fn main() -> Result<(), Box<dyn std::error::Error>> {
     says("events", events == [Event::Text(b"a"), Event::Csi(CSI::Cursor(Cursor::Up(2)))]);
     let (mut parser, mut count) = (Parser::new(), 0);
     for piece in [b"\x1b[5".as_slice(), b";7H", b"\x1b["] {
-        parser.advance(piece, &mut |_| count += 1);
+        parser.advance(piece, |_| count += 1);
     }
-    parser.finish(&mut |_| count += 1);
+    parser.finish(|_| count += 1);
     says("parser", count == 2);
     says("input", csicodec::inputs(Dialect::Input, b"\x1bOP\x1b").eq([InputEvent::Ss3('P'), InputEvent::Escape]));
     let key = csicodec::keys(b"\x1b[97;5u").next().and_then(Result::ok);
     says("keys", key.is_some_and(|it| (it.code, it.modifiers) == (KeyCode::Char('a'), KeyModifiers::CTRL)) && Key::read(b"\x1b", true).is_none() && csicodec::keys(b"\x1b[\nA").count() == 2
         && csicodec::keys(b"\x1bPa\x1bP").eq([Err(&b"\x1bPa"[..]), Err(b"\x1bP")]));
     let (mut presses, mut pressed) = (KeyParser::new(), Vec::new());
-    presses.advance(b"a\x1b", &mut |key| pressed.extend(key));
+    presses.advance(b"a\x1b", |key| pressed.extend(key));
     assert_eq!(pressed.len(), 1);
-    presses.pause(&mut |key| pressed.extend(key));
+    presses.pause(|key| pressed.extend(key));
     assert_eq!(pressed[1].code, KeyCode::Escape);
     let link = Osc::read(b"8;;http://a.example");
     says("osc", (link.kind, link.second) == (OscKind::Link, Some(b"http://a.example".as_slice())));

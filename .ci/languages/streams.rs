@@ -48,9 +48,9 @@ fn main() {
         assert_eq!(told(&whole), wanted, "{stream}");
         for cut in 0..=held.len() {
             let (mut parser, mut words) = (Parser::new(), Vec::new());
-            parser.advance(&held[..cut], &mut |event| words.push(word(&event)));
-            parser.advance(&held[cut..], &mut |event| words.push(word(&event)));
-            parser.finish(&mut |event| words.push(word(&event)));
+            parser.advance(&held[..cut], |event| words.push(word(&event)));
+            parser.advance(&held[cut..], |event| words.push(word(&event)));
+            parser.finish(|event| words.push(word(&event)));
             assert_eq!(told(&words), wanted, "{stream}, cut at {cut}");
         }
     }

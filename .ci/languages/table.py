@@ -8,17 +8,17 @@ LANGUAGES = ["C", "Rust", "Python", "JavaScript"]
 #: Each row: its name in the programs, what it is, and notes by language. What no program has is in no language.
 ROWS = [
     ("events", "events of a stream", {}),
-    ("parser", "a parser that is fed by pieces, and told the end", {}),
-    ("input", "what a terminal sends, with keys by their bytes, the mouse, answers, dialects and the pause behind an ESC", {}),
+    ("parser", "a parser for a stream that comes in pieces", {}),
+    ("input", "what a terminal sends: keys, the mouse and answers, in each dialect, and the pause behind an ESC", {}),
     ("keys", "keys as one type", {}),
-    ("known", "names and values of sequences without an action, as most keys are", {}),
-    ("osc", "what an OSC says, as title, clipboard, link, colours, folder and marks, and its whole content up to a limit", {}),
+    ("known", "names and values of sequences without an action, such as most keys", {}),
+    ("osc", "what an OSC says, such as a title, a link, colours or the clipboard, and its whole content up to a limit", {}),
     ("spans", "spans", {}),
-    ("whole", "`strip`, `clean`, `filter`, `compact` of a whole", {}),
-    ("stream", "the same as it comes", {}),
-    ("html", "`html`, overwritten lines of a whole", {}),
-    ("lines", "the same, line by line as it comes", {}),
-    ("encode", "actions built, and written", {}),
+    ("whole", "`strip`, `clean`, `filter` and `compact` of a whole stream", {}),
+    ("stream", "the same of a stream that comes in pieces", {}),
+    ("html", "`html` and overwritten lines of a whole stream", {}),
+    ("lines", "the same of lines as they come", {}),
+    ("encode", "actions that you build, written as sequences", {}),
     ("explain", "`explain`", {language: "runs the program" for language in ("C", "Rust", "Python")}),
 ]
 BEGIN, END = "| | C | Rust | Python | JavaScript |\n|---|---|---|---|---|\n", "\n\n"

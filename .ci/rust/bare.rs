@@ -52,7 +52,7 @@ extern "C" fn _Unwind_Resume() -> ! {
 extern "C" fn main() -> c_int {
     let (mut parser, mut rows) = (Parser::new(), 0);
     for piece in [b"a\x1b[".as_slice(), b"2A\x1b[3A"] {
-        parser.advance(piece, &mut |event| {
+        parser.advance(piece, |event| {
             if let Event::Csi(CSI::Cursor(Cursor::Up(count))) = event {
                 rows += count;
             }

@@ -15,7 +15,7 @@ fn main() -> Result<(), Box<dyn error::Error>> {
         "advance" => {
             let mut parser = Parser::new();
             for piece in bytes.chunks(4096) {
-                parser.advance(piece, &mut |_| count += 1);
+                parser.advance(piece, |_| count += 1);
             }
         }
         "front" => {

@@ -225,7 +225,7 @@ fn main() -> Result<(), Box<dyn error::Error>> {
         ..Terminal::default()
     };
     let parser = Parser::new().as_terminals();
-    parser.read_to_end(file, &mut |event| match event {
+    parser.read_to_end(file, |event| match event {
         Event::Text(text) => characters(text).for_each(|character| terminal.text(character)),
         Event::Csi(action) => terminal.act(action),
         Event::Esc(Esc::Code(code)) => terminal.escape(code),

@@ -7,16 +7,16 @@ use std::vec::Vec;
 impl Parser {
     /// Reads to the end, in pieces, and passes each event, at last what is held. After an `Err`, which is the reader's, what is held
     /// isn't passed.
-    pub fn read_to_end<F: FnMut(Event<'_>)>(
+    pub fn read_to_end(
         mut self,
         mut from: impl Read,
-        tell: &mut F,
+        mut tell: impl FnMut(Event<'_>),
     ) -> io::Result<()> {
         let mut piece = [0; 4096];
         loop {
             match from.read(&mut piece) {
                 Ok(0) => break,
-                Ok(count) => self.advance(&piece[..count], tell),
+                Ok(count) => self.advance(&piece[..count], &mut tell),
                 Err(error) if error.kind() == ErrorKind::Interrupted => {}
                 Err(error) => return Err(error),
             }

@@ -183,8 +183,8 @@ impl<'a> Iterator for Keys<'a> {
 /// use csicodec::{KeyCode, KeyParser};
 ///
 /// let (mut parser, mut codes) = (KeyParser::new(), Vec::new());
-/// parser.advance(b"\x1b[A\x1b", &mut |key| codes.extend(key.map(|key| key.code)));
-/// parser.pause(&mut |key| codes.extend(key.map(|key| key.code)));
+/// parser.advance(b"\x1b[A\x1b", |key| codes.extend(key.map(|key| key.code)));
+/// parser.pause(|key| codes.extend(key.map(|key| key.code)));
 /// assert_eq!(codes, [KeyCode::Up, KeyCode::Escape]);
 /// ```
 #[derive(Clone, Debug, Default)]
@@ -200,25 +200,25 @@ impl KeyParser {
     }
 
     /// Takes the next bytes, and tells each key that is sure now, and the bytes of what is none. An ESC at the end is held.
-    pub fn advance<F: FnMut(Result<Key, &[u8]>)>(&mut self, bytes: &[u8], tell: &mut F) {
+    pub fn advance(&mut self, bytes: &[u8], tell: impl FnMut(Result<Key, &[u8]>)) {
         self.held.extend_from_slice(bytes);
         self.read(true, tell);
     }
 
     /// Tells what is held, where nothing more came in time: ESC alone is a key, and so is ESC with one character. Else it goes on waiting.
-    pub fn pause<F: FnMut(Result<Key, &[u8]>)>(&mut self, tell: &mut F) {
+    pub fn pause(&mut self, tell: impl FnMut(Result<Key, &[u8]>)) {
         self.read(false, tell);
     }
 
     /// The end of the input: tells what is held as keys, and what is left as bytes.
-    pub fn finish<F: FnMut(Result<Key, &[u8]>)>(mut self, tell: &mut F) {
-        self.read(false, tell);
+    pub fn finish(mut self, mut tell: impl FnMut(Result<Key, &[u8]>)) {
+        self.read(false, &mut tell);
         if !self.held.is_empty() {
             tell(Err(&self.held));
         }
     }
 
-    fn read<F: FnMut(Result<Key, &[u8]>)>(&mut self, more: bool, tell: &mut F) {
+    fn read(&mut self, more: bool, mut tell: impl FnMut(Result<Key, &[u8]>)) {
         let mut rest = self.held.as_slice();
         while !rest.is_empty() {
             let Some((key, used)) = self.reading.next(rest, more) else {

@@ -53,7 +53,7 @@ impl<'a> Osc<'a> {
 ///
 /// let (mut parser, mut reader, mut titles) = (Parser::new(), OscReader::new(4096), Vec::new());
 /// for piece in [b"\x1b]2;a ti".as_slice(), b"tle\x07"] {
-///     parser.advance(piece, &mut |event| {
+///     parser.advance(piece, |event| {
 ///         if let Some(said) = reader.take(&event) {
 ///             titles.push((said.kind, said.first.unwrap_or_default().to_vec()));
 ///         }

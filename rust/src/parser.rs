@@ -14,7 +14,7 @@ use core::ops::ControlFlow;
 /// let mut parser = Parser::new();
 /// let mut texts = 0;
 /// for piece in [b"a\x1b[".as_slice(), b"1mb"] {
-///     parser.advance(piece, &mut |event| texts += u32::from(matches!(event, Event::Text(_))));
+///     parser.advance(piece, |event| texts += u32::from(matches!(event, Event::Text(_))));
 /// }
 /// assert_eq!(texts, 2);
 /// ```
@@ -46,13 +46,13 @@ impl Parser {
     }
 
     /// Takes the next bytes, and passes each event that is sure now. The other bytes are held: fewer than 65,536.
-    pub fn advance<F: FnMut(Event<'_>)>(&mut self, bytes: &[u8], tell: &mut F) {
+    pub fn advance(&mut self, bytes: &[u8], mut tell: impl FnMut(Event<'_>)) {
         if self.held.is_empty() {
-            let used = run(&mut self.reader, bytes, tell);
+            let used = run(&mut self.reader, bytes, &mut tell);
             self.held.extend_from_slice(&bytes[used..]);
         } else {
             self.held.extend_from_slice(bytes);
-            let used = run(&mut self.reader, &self.held, tell);
+            let used = run(&mut self.reader, &self.held, &mut tell);
             self.held.drain(..used);
         }
     }
@@ -65,7 +65,7 @@ impl Parser {
     /// use std::ops::ControlFlow;
     ///
     /// let mut parser = Parser::new();
-    /// let used = parser.advance_until(b"one\x1b[2Atwo", &mut |event| match event {
+    /// let used = parser.advance_until(b"one\x1b[2Atwo", |event| match event {
     ///     Event::Csi(_) => ControlFlow::Break(()),
     ///     _ => ControlFlow::Continue(()),
     /// });
@@ -75,7 +75,7 @@ impl Parser {
     pub fn advance_until<F: FnMut(Event<'_>) -> ControlFlow<()>>(
         &mut self,
         bytes: &[u8],
-        tell: &mut F,
+        mut tell: F,
     ) -> usize {
         let before = self.held.len();
         self.held.extend_from_slice(bytes);
@@ -113,11 +113,11 @@ impl Parser {
 
     /// Takes the next bytes that a terminal sent, and passes each event that is sure now: [`inputs`](crate::inputs) says what these are.
     /// An ESC at the end is held. A parser is for input or for output, not for both.
-    pub fn advance_input<F: FnMut(InputEvent<'_>)>(
+    pub fn advance_input(
         &mut self,
         dialect: Dialect,
         bytes: &[u8],
-        tell: &mut F,
+        mut tell: impl FnMut(InputEvent<'_>),
     ) {
         self.held.extend_from_slice(bytes);
         let mut rest = self.held.as_slice();
@@ -130,7 +130,7 @@ impl Parser {
 
     /// Takes what is held as keys, and passes them, as far as it is ESC alone, ESC and a character of ASCII, or SS3 and a digit: for a
     /// caller that waited, and no more input came.
-    pub fn pause<F: FnMut(InputEvent<'_>)>(&mut self, tell: &mut F) {
+    pub fn pause(&mut self, mut tell: impl FnMut(InputEvent<'_>)) {
         while let Some((event, used)) = self.reader.pause(&self.held) {
             tell(event);
             self.held.drain(..used);
@@ -143,9 +143,9 @@ impl Parser {
     }
 
     /// The end of the stream: passes what is held as an event.
-    pub fn finish<F: FnMut(Event<'_>)>(mut self, tell: &mut F) {
+    pub fn finish(mut self, mut tell: impl FnMut(Event<'_>)) {
         self.reader.ends = true;
-        run(&mut self.reader, &self.held, tell);
+        run(&mut self.reader, &self.held, &mut tell);
     }
 }
 

@@ -80,7 +80,7 @@ fn parsed(bytes: &[u8], cut: usize) -> (Vec<(char, u8)>, usize) {
     let mut all = Vec::new();
     let mut parser = Parser::new();
     for piece in [&bytes[..cut], &bytes[cut..]] {
-        parser.advance(piece, &mut |event| say(&mut all, event));
+        parser.advance(piece, |event| say(&mut all, event));
     }
     (all, parser.held().len())
 }
@@ -92,7 +92,7 @@ fn stopped(bytes: &[u8], cut: usize) -> (Vec<(char, u8)>, usize) {
     for mut piece in [&bytes[..cut], &bytes[cut..]] {
         loop {
             let mut events = 0;
-            let used = parser.advance_until(piece, &mut |event| {
+            let used = parser.advance_until(piece, |event| {
                 events += 1;
                 say(&mut all, event);
                 ControlFlow::Break(())

@@ -79,10 +79,10 @@ fn every_cut() {
                 let mut all = Vec::new();
                 let mut parser = Parser::new();
                 for part in [&KEYS[..i], &KEYS[i..j], &KEYS[j..]] {
-                    parser.advance_input(dialect, part, &mut |event| tell(&mut all, event));
+                    parser.advance_input(dialect, part, |event| tell(&mut all, event));
                 }
                 assert_eq!(parser.held(), b"\x1b");
-                parser.pause(&mut |event| tell(&mut all, event));
+                parser.pause(|event| tell(&mut all, event));
                 assert_eq!(
                     (all, parser.held().len()),
                     (wanted.clone(), 0),
@@ -96,10 +96,10 @@ fn every_cut() {
 #[test]
 fn what_goes_on_waiting() {
     let mut parser = Parser::new();
-    parser.advance_input(Dialect::Input, b"\x1b[1;", &mut |_| unreachable!());
-    parser.pause(&mut |_| unreachable!());
+    parser.advance_input(Dialect::Input, b"\x1b[1;", |_| unreachable!());
+    parser.pause(|_| unreachable!());
     assert_eq!(parser.held(), b"\x1b[1;");
     let mut all = Vec::new();
-    parser.advance_input(Dialect::Input, b"5A", &mut |event| tell(&mut all, event));
+    parser.advance_input(Dialect::Input, b"5A", |event| tell(&mut all, event));
     assert_eq!(all, ["\x1b[1;5A"]);
 }

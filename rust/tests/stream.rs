@@ -65,11 +65,11 @@ fn every_cut() {
             let mut all = Vec::new();
             let mut parser = Parser::new();
             for part in [&STREAM[..i], &STREAM[i..j], &STREAM[j..]] {
-                parser.advance(part, &mut |event| tell(&mut all, event));
+                parser.advance(part, |event| tell(&mut all, event));
             }
             assert_eq!(all, wanted, "cut at {i} and {j}");
             assert_eq!(parser.held(), b"\x1b!");
-            parser.finish(&mut |event| assert_eq!(event, Event::Other(b"\x1b!")));
+            parser.finish(|event| assert_eq!(event, Event::Other(b"\x1b!")));
         }
     }
 }
@@ -83,7 +83,7 @@ fn controls_at_the_limit() {
         let mut all = Vec::new();
         let mut parser = Parser::new();
         for piece in stream.chunks(size) {
-            parser.advance(piece, &mut |event| tell(&mut all, event));
+            parser.advance(piece, |event| tell(&mut all, event));
         }
         assert!(all == wanted, "in pieces of {size}");
     }
@@ -150,7 +150,7 @@ fn characters_are_never_cut() {
 #[test]
 fn a_reader_to_its_end() {
     let mut all = Vec::new();
-    let read = Parser::new().read_to_end(STREAM, &mut |event| tell(&mut all, event));
+    let read = Parser::new().read_to_end(STREAM, |event| tell(&mut all, event));
     assert!(read.is_ok());
     let mut wanted = Vec::new();
     events(STREAM).for_each(|event| tell(&mut wanted, event));
@@ -169,7 +169,7 @@ fn long_sequences_byte_by_byte() {
         let mut count = 0;
         let mut parser = Parser::new();
         for byte in &bytes {
-            parser.advance(&[*byte], &mut |_| count += 1);
+            parser.advance(&[*byte], |_| count += 1);
         }
         assert_eq!((count, parser.held().len()), (wanted, 0), "{part:?}");
         assert_eq!(events(&bytes).count(), wanted, "{part:?}");
@@ -209,7 +209,7 @@ fn as_terminals() {
             .for_each(|event| tell(&mut whole, event));
         let mut parser = Parser::new().as_terminals();
         for byte in &bytes {
-            parser.advance(&[*byte], &mut |event| tell(&mut cut, event));
+            parser.advance(&[*byte], |event| tell(&mut cut, event));
         }
         assert_eq!((whole.as_str(), cut.as_str()), (wanted, wanted));
     }

@@ -184,8 +184,8 @@ def of_known(known, rows):
 
 
 def bytes_of(text):
-    """The bytes of a text with escapes."""
-    return text.replace("\\e", "\\x1b").encode("latin-1").decode("unicode_escape").encode("latin-1")
+    """The bytes of a text in which ESC, CR, TAB and two digits of a byte are spelled; any other backslash stands for itself."""
+    return re.sub(r"\\([ert\\]|x([0-9a-f]{2}))", lambda it: chr(int(it[2], 16)) if it[2] else {"e": "\x1b", "r": "\r", "t": "\t", "\\": "\\"}[it[1]], text).encode("latin-1")
 
 
 # What a form of a key sends, by its column, its number and its final or its character; with ctrl, where the document has no form without.

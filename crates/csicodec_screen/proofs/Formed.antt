@@ -2,8 +2,8 @@
 use Rattle.std.proofs.{Common.◌≡◌, Common.ℕ, Common.zero, Common.suc, Common.◌+◌, Common.◌<◌, Common.true, Common.false, Common.length, Common.refl, Common.ap}
 use Rattle.std.proofs.{Common.arith, lemmas.List.length-replicate, lemmas.Bool.false≢true}
 use Rattle.std.specs.{Prelude.replicate, List.AllByRecursion}
-use Rattle.csicodec_screen.specs.{Cells.are_whole, Cells.blanks, Screen.IsFormed, Screen.IsGrid, Screen.Row, Screen.blank_grid, Screen.blank_row}
-use Rattle.csicodec_screen.specs.{Screen.eighths, Screen.fresh}
+use Rattle.csicodec_screen.specs.{Cells.are_whole, Cells.blanks, Screen.IsFormed, Screen.IsGrid, Screen.blank_grid, Screen.blank_row, Screen.eighths}
+use Rattle.csicodec_screen.specs.{Screen.fresh, declared.rows.Row.Row}
 use Rattle.csicodec_names.specs.declared.color.ColorSpec.TheVariants as color
 
 blanks_whole : (n : ℕ) → are_whole false (blanks color.Default n) ≡ true

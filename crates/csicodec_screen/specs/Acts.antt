@@ -1,23 +1,16 @@
 -- What each action and each escape sequence does to a screen.
-use Rattle.std.specs.Prelude.{ℕ, ℤ, pos, negsuc, ◌+◌, ◌-◌, ◌==◌, nat_le, nat_lt, min, max, not, Bool, true, false, List, [], ◌∷◌, ◌++◌, length, map, take, drop, replicate, set, slice_index_or, unwrap_or, Option, Some, None, if◌then◌else◌, ◌&&◌, ◌||◌}
-use Rattle.std.specs.List.{flat_map}
-use Rattle.csicodec_tokens.specs.{declared.param.CsiParam.CsiParam, Fields.fields_of}
-use Rattle.csicodec_names.specs.{declared.modes.DecPrivateModeCode.DecPrivateModeCode, declared.enums.EraseInDisplay.EraseInDisplay}
-use Rattle.csicodec_names.specs.{declared.enums.EraseInLine.EraseInLine, declared.modes.TerminalModeCode.TerminalModeCode}
-use Rattle.csicodec_names.specs.{declared.enums.TabulationClear.TabulationClear}
-use Rattle.csicodec_actions.specs.{declared.cursor.Cursor.Cursor, declared.edit.Edit.Edit, declared.mode.DecPrivateMode.DecPrivateMode, declared.mode.Mode.Mode}
-use Rattle.csicodec_actions.specs.{Actions.Action, Devices.Device, declared.mode.TerminalMode.TerminalMode, declared.window.Window.Window}
-use Rattle.csicodec_base.specs.declared.sgr.Sgr.{Sgr}
-use Rattle.csicodec_sequences.specs.Parts.{Parts, parts_of}
-use Rattle.csicodec_screen.specs.Cells.{Cell, Look, Pen, behind, deleted, emptied, erased_around, inserted, cut_twice, between, cell_with, joined, plain, spliced}
-use Rattle.csicodec_screen.specs.Screen.{Row, Screen, Saved, Sets, Set, Size, Titles, at, blank_grid, edge, first_sets, fresh, go, last_column, paper, place, plain_pen, row_at, whole}
-use Rattle.csicodec_screen.specs.Rows.{cleared, columns_moved, each_row, in_line, index, is_inside, is_beside, over, scrolled, scrolled_down, scrolled_up, segment, spared, with_segments, within}
-use Rattle.csicodec_screen.specs.Draws.{by_number, columns_of, down, glyph, left, next_line, repeat_last, return, reverse_index, right, shift, stop_at, tab, tab_back, times, up}
-use Rattle.csicodec_screen.specs.{Cells.Cell.Char, Screen.Set.Ascii, Screen.Set.Graphics, Screen.Set.British, Screen.Size.Single, Screen.Size.DoubleWidth}
-use Rattle.csicodec_screen.specs.{Screen.Size.UpperHalf, Screen.Size.LowerHalf}
+use Rattle.std.specs.Prelude.{ℕ, min, max, not, Bool, true, false, replicate, nat_le, nat_lt, ◌+◌, ◌-◌, ◌==◌, ◌&&◌, [], if◌then◌else◌}
+use Rattle.csicodec_actions.specs.{Devices.Device, declared.cursor.Cursor.Cursor, declared.edit.Edit.Edit, declared.mode.DecPrivateMode.DecPrivateMode}
+use Rattle.csicodec_actions.specs.{declared.mode.Mode.Mode, declared.mode.TerminalMode.TerminalMode}
+use Rattle.csicodec_names.specs.{declared.enums.EraseInDisplay.EraseInDisplay, declared.enums.EraseInLine.EraseInLine}
+use Rattle.csicodec_names.specs.{declared.enums.TabulationClear.TabulationClear, declared.modes.DecPrivateModeCode.DecPrivateModeCode}
+use Rattle.csicodec_names.specs.{declared.modes.TerminalModeCode.TerminalModeCode}
+use Rattle.csicodec_screen.specs.Draws.{down, left, repeat_last, return, right, stop_at, tab, tab_back, times, up}
+use Rattle.csicodec_screen.specs.Rows.{cleared, in_line, is_beside, is_inside, scrolled, scrolled_down, scrolled_up, spared}
+use Rattle.csicodec_screen.specs.{Cells.deleted, Cells.emptied, Cells.inserted, Cells.plain_pen, Screen.at, Screen.blank_grid, Screen.edge, Screen.first_sets}
+use Rattle.csicodec_screen.specs.{Screen.fresh, Screen.go, Screen.paper, Screen.place, Screen.whole, declared.screen.Screen.Screen}
 use Rattle.csicodec_names.specs.declared.color.ColorSpec.TheVariants as color
 use Rattle.csicodec_actions.specs.Devices as device
-use Rattle.csicodec_actions.specs.Actions as action
 
 -- ---- cursor
 
@@ -107,7 +100,7 @@ of_cursor (Cursor.CursorStyle x) s = s
 
 -- cells of the cursor's row from column c to d become empty; with `spares` but for what is protected
 abbrev pub erase : Bool → ℕ → ℕ → Screen → Screen
-erase spares c d s = in_line (λ cells. if spares then erased_around (paper s) c d cells else emptied (paper s) c d cells) s
+erase spares c d s = in_line (emptied spares (paper s) c d) s
 
 -- rows from a to b
 abbrev pub erase_rows : Bool → ℕ → ℕ → Screen → Screen
@@ -131,8 +124,8 @@ abbrev pub lines_moved : Bool → ℕ → Screen → Screen
 lines_moved upward n s = if is_inside s then at s.row s.margins.left (scrolled upward n s.row s) else s
 
 abbrev pub of_edit : Edit → Screen → Screen
-of_edit (Edit.InsertCharacter n) s = if is_beside s then in_line (inserted (paper s) s.column (edge s + 1) n) s else s
-of_edit (Edit.DeleteCharacter n) s = if is_beside s then in_line (deleted (paper s) s.column (edge s + 1) n) s else s
+of_edit (Edit.InsertCharacter n) s = if is_beside s then in_line (inserted (paper s) n s.column (edge s + 1)) s else s
+of_edit (Edit.DeleteCharacter n) s = if is_beside s then in_line (deleted (paper s) n s.column (edge s + 1)) s else s
 of_edit (Edit.InsertLine n) s = lines_moved false n s
 of_edit (Edit.DeleteLine n) s = lines_moved true n s
 of_edit (Edit.EraseCharacter n) s = erase false s.column (min (s.column + n) s.columns) s

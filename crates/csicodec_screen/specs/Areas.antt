@@ -1,15 +1,15 @@
 -- What is done to rectangular areas, and by the other sequences that have no action of their own.
-use Rattle.std.specs.Prelude.{ℕ, ℤ, pos, negsuc, ◌+◌, ◌-◌, ◌==◌, nat_le, nat_lt, min, not, Bool, true, false, List, [], ◌∷◌, length, map, take, drop, replicate, slice_index_or, unwrap_or, Option, Some, None, if◌then◌else◌, ◌&&◌, ◌||◌}
-use Rattle.csicodec_tokens.specs.{declared.param.CsiParam.CsiParam, Fields.fields_of}
-use Rattle.csicodec_names.specs.{declared.enums.EraseInDisplay.EraseInDisplay, declared.enums.EraseInLine.EraseInLine, declared.color.Underline.Underline}
-use Rattle.csicodec_names.specs.{declared.color.Blink.Blink}
+use Rattle.std.specs.Prelude.{ℕ, ℤ, pos, negsuc, min, not, Bool, true, false, List, map, take, drop, slice_index_or, Option, Some, None, nat_le, nat_lt, ◌+◌, ◌-◌, ◌==◌, ◌∷◌, ◌&&◌, ◌||◌, [], if◌then◌else◌}
+use Rattle.csicodec_names.specs.{declared.color.Blink.Blink, declared.color.Underline.Underline, declared.enums.EraseInDisplay.EraseInDisplay}
+use Rattle.csicodec_names.specs.{declared.enums.EraseInLine.EraseInLine}
+use Rattle.csicodec_screen.specs.{Acts.erase_display, Acts.erase_line, Acts.left_and_right, Acts.of_one, Cells.cell_with, Cells.emptied, Cells.flooded}
+use Rattle.csicodec_screen.specs.{Draws.columns_of, Draws.glyph, Lists.within, Rows.columns_moved, Rows.is_inside, Rows.over, Rows.segment, Rows.with_segments}
+use Rattle.csicodec_screen.specs.{Screen.paper, declared.cell.Cell.Cell, declared.cell.Cell.TheVariants.Char, declared.look.Look.Look, declared.rows.Area.Area}
+use Rattle.csicodec_screen.specs.{declared.screen.Screen.Screen}
 use Rattle.csicodec_sequences.specs.Parts.{Parts, parts_of}
-use Rattle.csicodec_screen.specs.Cells.{Cell, Look, between, cell_with, cut_twice, emptied, erased_around, joined, plain, spliced}
-use Rattle.csicodec_screen.specs.{Cells.Cell.Char, Screen.Row, Screen.Screen, Screen.paper, Rows.columns_moved, Rows.is_inside, Rows.over, Rows.segment}
-use Rattle.csicodec_screen.specs.{Rows.with_segments, Rows.within, Draws.columns_of, Draws.glyph, Acts.erase_display, Acts.erase_line, Acts.left_and_right}
-use Rattle.csicodec_screen.specs.{Acts.of_one}
-use Rattle.csicodec_names.specs.declared.color.Underline.TheVariants as underline
+use Rattle.csicodec_tokens.specs.{Fields.fields_of, declared.param.CsiParam.CsiParam}
 use Rattle.csicodec_names.specs.declared.color.Blink.TheVariants as blinking
+use Rattle.csicodec_names.specs.declared.color.Underline.TheVariants as underline
 
 -- ---- areas (DEC VT510, "Rectangular Area Operations")
 
@@ -35,13 +35,6 @@ behind_rows s = if s.modes.origin then s.margins.bottom + 1 else s.rows
 abbrev pub behind_columns : Screen → ℕ
 behind_columns s = if s.modes.origin then s.margins.right + 1 else s.columns
 
--- rows from top to bottom, columns from first to last, the last ones not among them; none where an end is ahead of its begin
-pub record Area : Type 0 where
-  pub top : ℕ
-  pub first : ℕ
-  pub bottom : ℕ
-  pub last : ℕ
-
 -- the end of a side: a number that is left out or 0 is the last place
 abbrev pub side : ℕ → ℕ → ℕ → ℕ
 side n from last = if n == 0 then last else min (from + n) last
@@ -64,11 +57,11 @@ on_area f a s = if is_area a then over a.top a.bottom (f a.first a.last) s else 
 -- DECFRA: a character that one can see fills it, drawn with the pen
 abbrev pub filled : ℕ → Area → Screen → Screen
 filled c a s = if (nat_le 32 c && nat_lt c 127 || nat_le 160 c) && columns_of c == 1
-    then on_area (λ first last cells. spliced first last (replicate (last - first) (Char (glyph c s))) cells) a s else s
+    then on_area (flooded (Char (glyph c s))) a s else s
 
 -- DECERA, and DECSERA, which spares what is protected
 abbrev pub erased : Bool → Area → Screen → Screen
-erased spares a s = on_area (λ first last cells. if spares then erased_around (paper s) first last cells else emptied (paper s) first last cells) a s
+erased spares a s = on_area (emptied spares (paper s)) a s
 
 -- DECCRA: to a place, as far as the screen goes
 abbrev pub copied_within : ℕ → ℕ → ℕ → ℕ → Area → Screen → Screen
@@ -138,7 +131,7 @@ or_zero (n ∷ fields) = n ∷ fields
 
 -- from column c to d, of what was written
 abbrev pub relooked : (Look → Look) → ℕ → ℕ → List Cell → List Cell
-relooked f c d cells = joined c d (map (cell_with f) (between c d cells)) cells
+relooked f c d cells = within c d (map (cell_with f)) cells
 
 -- as a stream of places an area goes from its first corner to its last, over whole rows between
 abbrev pub streamed : (Look → Look) → Area → Screen → Screen

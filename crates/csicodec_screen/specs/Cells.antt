@@ -1,31 +1,17 @@
 -- What stands in a row of a screen, cell by cell, and how a row is edited. Columns are counted from 0.
-use Rattle.std.specs.Prelude.{ℕ, ◌+◌, ◌-◌, nat_lt, min, not, Bool, true, false, List, [], ◌∷◌, ◌++◌, length, take, drop, replicate, get_or, if◌then◌else◌, ◌&&◌, ◌||◌}
-use Rattle.csicodec_names.specs.{declared.color.ColorSpec.ColorSpec, declared.color.Underline.Underline, declared.color.Blink.Blink}
-use Rattle.csicodec_names.specs.{declared.color.Intensity.Intensity}
+use Rattle.std.specs.Prelude.{ℕ, min, not, Bool, true, false, List, take, drop, replicate, set, get_or, nat_lt, ◌+◌, ◌-◌, ◌∷◌, ◌&&◌, ◌||◌, [], if◌then◌else◌}
 use Rattle.csicodec_base.specs.declared.sgr.Sgr.{Sgr}
-use Rattle.csicodec_names.specs.declared.color.ColorSpec.TheVariants as color
-use Rattle.csicodec_names.specs.declared.color.Underline.TheVariants as underline
+use Rattle.csicodec_names.specs.{declared.color.ColorSpec.ColorSpec, declared.color.Intensity.Intensity}
+use Rattle.csicodec_screen.specs.{Lists.down, Lists.filled, Lists.overlaid, Lists.up, Lists.within, declared.cell.Cell.Cell}
+use Rattle.csicodec_screen.specs.{declared.cell.Cell.TheVariants.Behind, declared.cell.Cell.TheVariants.Char, declared.cell.Cell.TheVariants.Empty}
+use Rattle.csicodec_screen.specs.{declared.cell.Cell.TheVariants.Wide, declared.cell.Glyph.Glyph, declared.look.Look.Look, declared.look.Pen.Pen}
 use Rattle.csicodec_names.specs.declared.color.Blink.TheVariants as blinking
+use Rattle.csicodec_names.specs.declared.color.ColorSpec.TheVariants as color
 use Rattle.csicodec_names.specs.declared.color.Intensity.TheVariants as intensity
 use Rattle.csicodec_base.specs.declared.sgr.Sgr.TheVariants as sgr
+use Rattle.csicodec_names.specs.declared.color.Underline.TheVariants as underline
 
 -- ---- how characters look
-
--- what SGR sets (ECMA-48, 8.3.117; xterm, ctlseqs, "CSI Pm m")
-pub record Look : Type 0 where
-  pub bold : Bool
-  pub faint : Bool
-  pub italic : Bool
-  pub underline : Underline
-  pub blink : Blink
-  pub inverse : Bool
-  pub concealed : Bool
-  pub struck : Bool
-  pub overlined : Bool
-  pub foreground : ColorSpec
-  pub background : ColorSpec
-  -- the colour of the underline
-  pub line : ColorSpec
 
 abbrev pub plain : Look
 plain = record {
@@ -66,26 +52,19 @@ behind l (sgr.Background x) = record l { background = x }
 behind l (sgr.Overline x) = record l { overlined = x }
 behind l (sgr.VerticalAlign x) = l
 
--- what a character is drawn with: its look, the address of its link (OSC 8; none is empty), and whether it is protected (DECSCA, DEC VT510)
-pub record Pen : Type 0 where
-  pub look : Look
-  pub link : List ℕ
-  pub protected : Bool
+-- without attributes, link and protection
+abbrev pub plain_pen : Pen
+plain_pen = record { look = plain; link = 0; protected = false }
 
 -- ---- cells
 
--- a character, and the marks that join it
-pub record Glyph : Type 0 where
-  pub char : ℕ
-  pub marks : List ℕ
-  pub pen : Pen
+-- a character has no more marks
+abbrev pub most_marks : ℕ
+most_marks = 8
 
--- nothing, on this background; a character of one column; the first column of one of two; or the second
-pub data Cell : Type 0 where
-  Empty : ColorSpec → Cell
-  Char : Glyph → Cell
-  Wide : Glyph → Cell
-  Behind : Cell
+-- a character to which no mark is joined
+abbrev pub bare : ℕ → Pen → Glyph
+bare c pen = record { char = c; marks = replicate most_marks 0; count = 0; pen = pen }
 
 abbrev pub is_behind : Cell → Bool
 is_behind Behind = true
@@ -110,37 +89,29 @@ cell_at c cells = get_or cells c nothing
 abbrev pub blanks : ColorSpec → ℕ → List Cell
 blanks paper n = replicate n (Empty paper)
 
--- a space that looks so
-abbrev pub space : Pen → Cell
-space pen = Char (record { char = 32; marks = []; pen = pen })
-
 -- both columns of a character that is cut in two are spaces of its look
-abbrev pub parted : Cell → List Cell
-parted (Wide g) = space g.pen ∷ space g.pen ∷ []
-parted x = x ∷ nothing ∷ []
+abbrev pub first_half : Cell → Cell
+first_half (Wide g) = Char (bare 32 g.pen)
+first_half x = x
+
+abbrev pub second_half : Cell → Cell
+second_half (Wide g) = Char (bare 32 g.pen)
+second_half x = nothing
+
+-- in front of column c and at it
+abbrev pub halved : ℕ → List Cell → List Cell
+halved c cells = set (set cells (c - 1) (first_half (cell_at (c - 1) cells))) c (second_half (cell_at (c - 1) cells))
 
 -- no character stands on both sides of column c
 abbrev pub cut : ℕ → List Cell → List Cell
-cut c cells = if is_behind (cell_at c cells)
-    then take (c - 1) cells ++ (parted (cell_at (c - 1) cells) ++ drop (c + 1) cells) else cells
+cut c cells = if is_behind (cell_at c cells) then halved c cells else cells
 
 abbrev pub cut_twice : ℕ → ℕ → List Cell → List Cell
 cut_twice c d cells = cut d (cut c cells)
 
--- these come in place of the cells from column c to d, or to the end
-abbrev pub joined : ℕ → ℕ → List Cell → List Cell → List Cell
-joined c d new cells = take c cells ++ (new ++ drop d cells)
-
-abbrev pub spliced : ℕ → ℕ → List Cell → List Cell → List Cell
-spliced c d new cells = joined c d new (cut_twice c d cells)
-
 -- the cells from column c to d
 abbrev pub between : ℕ → ℕ → List Cell → List Cell
 between c d cells = take (d - c) (drop c cells)
-
--- from column c to d all are empty
-abbrev pub emptied : ColorSpec → ℕ → ℕ → List Cell → List Cell
-emptied paper c d cells = spliced c d (blanks paper (min d (length cells) - c)) cells
 
 -- in a part of a row what is unprotected is empty
 abbrev pub unprotected : ColorSpec → Bool → List Cell → List Cell
@@ -148,23 +119,31 @@ unprotected paper keeps [] = []
 unprotected paper keeps (x ∷ cells) = (if is_protected x || (keeps && is_behind x) then x else Empty paper)
     ∷ unprotected paper (is_protected x) cells
 
--- from column c to d what is unprotected is empty
-abbrev pub erased_around : ColorSpec → ℕ → ℕ → List Cell → List Cell
-erased_around paper c d cells = joined c d (unprotected paper false (between c d (cut_twice c d cells))) (cut_twice c d cells)
+-- from column c to d all are empty; where it spares, but for what is protected
+abbrev pub emptied : Bool → ColorSpec → ℕ → ℕ → List Cell → List Cell
+emptied spares paper c d cells = within c d (if spares then unprotected paper false else filled (Empty paper)) (cut_twice c d cells)
 
--- n cells of an empty kind come in at column c, where so many are, and those up to column d move right; no character is left half
-abbrev pub shifted_right : ColorSpec → ℕ → ℕ → ℕ → List Cell → List Cell
-shifted_right paper c d n cells = joined c d (blanks paper n ++ between c (d - n) cells) cells
-
-abbrev pub shifted_left : ColorSpec → ℕ → ℕ → ℕ → List Cell → List Cell
-shifted_left paper c d n cells = joined c d (between (c + n) d cells ++ blanks paper n) cells
-
--- ICH (ECMA-48, 8.3.64) and DCH (8.3.26) within the columns from c to d
+-- ICH (ECMA-48, 8.3.64) and DCH (8.3.26) within the columns from c to d: n empty cells come in at column c, or at the end; no character is left half
 abbrev pub inserted : ColorSpec → ℕ → ℕ → ℕ → List Cell → List Cell
-inserted paper c d n cells = shifted_right paper c d (min n (d - c)) (cut (d - min n (d - c)) (cut_twice c d cells))
+inserted paper n c d cells = within c d (down n (Empty paper)) (cut (d - min n (d - c)) (cut_twice c d cells))
 
 abbrev pub deleted : ColorSpec → ℕ → ℕ → ℕ → List Cell → List Cell
-deleted paper c d n cells = shifted_left paper c d (min n (d - c)) (cut (c + min n (d - c)) (cut_twice c d cells))
+deleted paper n c d cells = within c d (up n (Empty paper)) (cut (c + min n (d - c)) (cut_twice c d cells))
+
+-- from column c to d each is x
+abbrev pub flooded : Cell → ℕ → ℕ → List Cell → List Cell
+flooded x c d cells = within c d (filled x) (cut_twice c d cells)
+
+-- from column c on these, and no further than to column d
+abbrev pub pasted : List Cell → ℕ → ℕ → List Cell → List Cell
+pasted new c d cells = within c d (overlaid new) (cut_twice c d cells)
+
+-- a character of one column, or of two, stands from column c to d
+abbrev pub stood : Bool → Glyph → ℕ → ℕ → List Cell → List Cell
+stood wide g c d cells = if wide then set (set cells c (Wide g)) (d - 1) Behind else set cells c (Char g)
+
+abbrev pub drawn : Bool → Glyph → ℕ → ℕ → List Cell → List Cell
+drawn wide g c d cells = stood wide g c d (cut_twice c d cells)
 
 -- ---- looks of what is written
 
@@ -178,18 +157,21 @@ cell_with f x = x
 
 -- ---- marks
 
--- a character has no more marks
-abbrev pub most_marks : ℕ
-most_marks = 8
-
 abbrev pub glyph_marked : ℕ → Glyph → Glyph
-glyph_marked c g = if nat_lt (length g.marks) most_marks then record g { marks = g.marks ++ (c ∷ []) } else g
+glyph_marked c g = if nat_lt g.count most_marks then record g { marks = set g.marks g.count c; count = g.count + 1 } else g
 
--- a mark joins the character of the cell
+-- a mark joins the character of a cell
 abbrev pub marked : ℕ → Cell → Cell
 marked c (Char g) = Char (glyph_marked c g)
 marked c (Wide g) = Wide (glyph_marked c g)
 marked c x = x
+
+-- the column of the character that stands at a column, or whose second one does
+abbrev pub base_at : ℕ → List Cell → ℕ
+base_at c cells = if is_behind (cell_at c cells) then c - 1 else c
+
+abbrev pub joined_by : ℕ → ℕ → List Cell → List Cell
+joined_by mark c cells = set cells (base_at c cells) (marked mark (cell_at (base_at c cells) cells))
 
 -- ---- a row is whole: behind the first column of a wide character stands its second, and nowhere else
 

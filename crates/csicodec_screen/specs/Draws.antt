@@ -1,16 +1,20 @@
 -- What a character does to a screen, and each control.
-use Rattle.std.specs.Prelude.{ℕ, zero, suc, ◌+◌, ◌-◌, ◌/◌, ◌==◌, nat_le, nat_lt, min, max, not, Bool, true, false, List, [], ◌∷◌, length, take, drop, set, get_or, unwrap_or, Option, Some, None, if◌then◌else◌, ◌&&◌, ◌||◌}
-use Rattle.unicode_width.specs.Width.{char_width}
+use Rattle.std.specs.Prelude.{ℕ, zero, suc, min, max, Bool, true, false, List, take, drop, set, get_or, unwrap_or, Option, Some, None, nat_le, nat_lt, ◌+◌, ◌-◌, ◌/◌, ◌==◌, ◌∷◌, ◌&&◌, [], if◌then◌else◌}
 use Rattle.csicodec_looks.specs.Cells.{narrowed}
-use Rattle.csicodec_screen.specs.{Cells.Cell, Cells.Glyph, Cells.cell_at, Cells.inserted, Cells.is_behind, Cells.marked, Cells.spliced, Cells.Cell.Char}
-use Rattle.csicodec_screen.specs.{Cells.Cell.Wide, Cells.Cell.Behind, Screen.Screen, Screen.Sets, Screen.Set, Screen.at, Screen.edge, Screen.last_column}
-use Rattle.csicodec_screen.specs.{Screen.paper, Screen.row_at, Screen.Set.Ascii, Screen.Set.Graphics, Screen.Set.British, Rows.in_line, Rows.index}
-use Rattle.csicodec_screen.specs.{Rows.is_beside, Rows.scrolled_down}
+use Rattle.csicodec_screen.specs.{Cells.bare, Cells.drawn, Cells.inserted, Cells.joined_by, Rows.in_line, Rows.index, Rows.is_beside, Rows.scrolled_down}
+use Rattle.csicodec_screen.specs.{Screen.at, Screen.edge, Screen.paper, declared.cell.Glyph.Glyph, declared.screen.Screen.Screen, declared.sets.Set.Set}
+use Rattle.csicodec_screen.specs.{declared.sets.Set.TheVariants.Ascii, declared.sets.Set.TheVariants.British, declared.sets.Set.TheVariants.Graphics}
+use Rattle.csicodec_screen.specs.{declared.sets.Sets.Sets, declared.sets.Slot.Slot}
+use Rattle.unicode_width.specs.Width.{char_width}
+use Rattle.csicodec_screen.specs.declared.sets.Slot.TheVariants as slot
 
 -- ---- sets
 
-abbrev pub set_of : Sets → ℕ → Set
-set_of sets n = if n == 0 then sets.g0 else if n == 1 then sets.g1 else if n == 2 then sets.g2 else sets.g3
+abbrev pub set_of : Sets → Slot → Set
+set_of sets slot.G0 = sets.g0
+set_of sets slot.G1 = sets.g1
+set_of sets slot.G2 = sets.g2
+set_of sets slot.G3 = sets.g3
 
 -- the set that the next character comes from
 abbrev pub current : Sets → Set
@@ -32,11 +36,7 @@ abbrev pub columns_of : ℕ → ℕ
 columns_of c = narrowed (unwrap_or (char_width false c) 0)
 
 abbrev pub glyph : ℕ → Screen → Glyph
-glyph c s = record { char = c; marks = []; pen = s.pen }
-
--- the cells of a character
-abbrev pub drawn : ℕ → ℕ → Screen → List Cell
-drawn w c s = if w == 2 then Wide (glyph c s) ∷ Behind ∷ [] else Char (glyph c s) ∷ []
+glyph c s = bare c s.pen
 
 -- to the left margin of the next row, where the text goes on
 abbrev pub wrap : Screen → Screen
@@ -46,36 +46,35 @@ wrap s = record (index (record s { wrapped = set s.wrapped s.row true })) { colu
 abbrev pub entered : Screen → Screen
 entered s = if s.pending && s.modes.autowrap then wrap s else s
 
--- and where a character doesn't fit ahead of the edge
+-- it doesn't fit ahead of the edge
+abbrev pub is_beyond : ℕ → Screen → Bool
+is_beyond w s = nat_lt (edge s + 1) (s.column + w)
+
+-- and where a character doesn't fit
 abbrev pub roomy : ℕ → Screen → Screen
-roomy w s = if nat_lt (edge s + 1) (s.column + w) && s.modes.autowrap then wrap s else s
+roomy w s = if is_beyond w s && s.modes.autowrap then wrap s else s
 
 -- in insert mode, within left and right margins, what stands from the cursor on moves right
-abbrev pub made_room : ℕ → Screen → List Cell → List Cell
-made_room w s cells = if s.modes.inserts && is_beside s then inserted (paper s) s.column (edge s + 1) w cells else cells
+abbrev pub made_room : ℕ → Screen → Screen
+made_room w s = if s.modes.inserts && is_beside s then in_line (inserted (paper s) w s.column (edge s + 1)) s else s
+
+abbrev pub put_here : ℕ → ℕ → Screen → Screen
+put_here w c s = in_line (drawn (w == 2) (glyph c s) s.column (s.column + w)) s
 
 -- a character where there is room for it; behind the edge the cursor doesn't go, and the wrap is pending
+abbrev pub passed_by : ℕ → ℕ → Screen → Screen
+passed_by w c s = record s { column = min (s.column + w) (edge s); pending = nat_lt (edge s) (s.column + w); last = Some c }
+
 abbrev pub placed : ℕ → ℕ → Screen → Screen
-placed w c s = if nat_lt (edge s + 1) (s.column + w) then s
-    else record (in_line (λ cells. spliced s.column (s.column + w) (drawn w c s) (made_room w s cells)) s) {
-      column = min (s.column + w) (edge s);
-      pending = nat_lt (edge s) (s.column + w);
-      last = Some c;
-    }
+placed w c s = if is_beyond w s then s else passed_by w c (put_here w c (made_room w s))
 
 abbrev pub put : ℕ → ℕ → Screen → Screen
 put w c s = placed w c (roomy w (entered s))
 
--- the column of the character that a mark joins: that left of the cursor, or at it where the wrap is pending
-abbrev pub base_at : ℕ → List Cell → ℕ
-base_at c cells = if is_behind (cell_at c cells) then c - 1 else c
-
-abbrev pub joined_by : ℕ → ℕ → List Cell → List Cell
-joined_by c mark cells = set cells (base_at c cells) (marked mark (cell_at (base_at c cells) cells))
-
+-- a mark joins the character left of the cursor, or at it where the wrap is pending
 abbrev pub mark : ℕ → Screen → Screen
-mark c s = if s.pending then in_line (joined_by s.column c) s
-    else if s.column == 0 then s else in_line (joined_by (s.column - 1) c) s
+mark c s = if s.pending then in_line (joined_by c s.column) s
+    else if s.column == 0 then s else in_line (joined_by c (s.column - 1)) s
 
 abbrev pub show : ℕ → Screen → Screen
 show c s = if columns_of c == 0 then mark c s else put (columns_of c) c s
@@ -86,21 +85,31 @@ in_set c s = if nat_lt c 128 then char_in (current s.sets) c else c
 
 -- ---- moving
 
+-- the first and the last row and column to which the cursor moves from where it is: a margin that it isn't beyond, or else the screen's edge
+abbrev pub highest : Screen → ℕ
+highest s = if nat_le s.margins.top s.row then s.margins.top else 0
+
+abbrev pub lowest : Screen → ℕ
+lowest s = if nat_le s.row s.margins.bottom then s.margins.bottom else s.rows - 1
+
+abbrev pub leftmost : Screen → ℕ
+leftmost s = if nat_le s.margins.left s.column then s.margins.left else 0
+
 abbrev pub up : ℕ → Screen → Screen
-up n s = at (if nat_le s.margins.top s.row then s.margins.top + (s.row - s.margins.top - n) else s.row - n) s.column s
+up n s = at (max (s.row - n) (highest s)) s.column s
 
 abbrev pub down : ℕ → Screen → Screen
-down n s = at (if nat_le s.row s.margins.bottom then min (s.row + n) s.margins.bottom else min (s.row + n) (s.rows - 1)) s.column s
+down n s = at (min (s.row + n) (lowest s)) s.column s
 
 abbrev pub left : ℕ → Screen → Screen
-left n s = at s.row (if nat_le s.margins.left s.column then s.margins.left + (s.column - s.margins.left - n) else s.column - n) s
+left n s = at s.row (max (s.column - n) (leftmost s)) s
 
 abbrev pub right : ℕ → Screen → Screen
 right n s = at s.row (min (s.column + n) (edge s)) s
 
 -- CR (ECMA-48, 8.3.15): to the left margin, or from ahead of it to column 0
 abbrev pub return : Screen → Screen
-return s = at s.row (if s.modes.origin || nat_le s.margins.left s.column then s.margins.left else 0) s
+return s = at s.row (if s.modes.origin then s.margins.left else leftmost s) s
 
 -- RI (8.3.104): one row up, and at the top margin all move down
 abbrev pub reverse_index : Screen → Screen
@@ -142,7 +151,7 @@ line_feed s = if s.modes.new_line then return (index s) else index s
 abbrev pub next_line : Screen → Screen
 next_line s = return (index s)
 
-abbrev pub shift : ℕ → Screen → Screen
+abbrev pub shift : Slot → Screen → Screen
 shift n s = record s { sets = record s.sets { left = n } }
 
 -- what the first row with this number does, and nothing where there is none
@@ -152,16 +161,18 @@ by_number (row ∷ rows) c s = if c == row.0 then row.1 s else by_number rows c 
 
 -- C0: BS, HT, LF, VT, FF, CR, SO and SI. BEL and ENQ are told, and the others do nothing (ECMA-48, 8.2.1).
 abbrev pub controls : List (ℕ × (Screen → Screen))
-controls = (8, left 1) ∷ (9, tab) ∷ (10, line_feed) ∷ (11, line_feed) ∷ (12, line_feed) ∷ (13, return) ∷ (14, shift 1) ∷ (15, shift 0) ∷ []
+controls = (8, left 1) ∷ (9, tab) ∷ (10, line_feed) ∷ (11, line_feed) ∷ (12, line_feed) ∷ (13, return) ∷ (14, shift slot.G1) ∷ (15, shift slot.G0) ∷ []
 
 -- C1 as characters of Unicode: IND, NEL, HTS and RI. The others do nothing.
 abbrev pub controls_1 : List (ℕ × (Screen → Screen))
 controls_1 = (132, index) ∷ (133, next_line) ∷ (136, stop_at true) ∷ (141, reverse_index) ∷ []
 
 -- a single shift is over with a character
+abbrev pub show_in_set : ℕ → Screen → Screen
+show_in_set c s = show (in_set c s) (record s { sets = record s.sets { single = None } })
+
 abbrev pub print : ℕ → Screen → Screen
-print c s = if c == 127 then s else if nat_le 128 c && nat_lt c 160 then record (by_number controls_1 c s) { last = None }
-    else show (in_set c s) (record s { sets = record s.sets { single = None } })
+print c s = if c == 127 then s else if nat_le 128 c && nat_lt c 160 then record (by_number controls_1 c s) { last = None } else show_in_set c s
 
 -- REP (8.3.103): the character in front so many times more, and no further than the edge; nothing where the wrap is pending
 abbrev pub repeat : ℕ → ℕ → Screen → Screen

@@ -2,6 +2,8 @@ pub mod Acts
 pub mod Areas
 pub mod Cells
 pub mod Draws
+pub mod Lists
+pub mod Private
 pub mod Rows
 pub mod Screen
 pub mod Steps

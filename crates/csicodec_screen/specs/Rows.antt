@@ -1,26 +1,8 @@
 -- What moves rows, and what is done to parts of many rows.
-use Rattle.std.specs.Prelude.{ℕ, ◌+◌, ◌-◌, ◌==◌, nat_le, nat_lt, min, not, Bool, true, false, List, [], ◌∷◌, ◌++◌, length, map, take, drop, replicate, set, if◌then◌else◌, ◌&&◌}
-use Rattle.csicodec_names.specs.declared.color.ColorSpec.{ColorSpec}
-use Rattle.csicodec_screen.specs.Cells.{Cell, between, blanks, cut_twice, deleted, emptied, erased_around, inserted, spliced}
-use Rattle.csicodec_screen.specs.{Screen.Row, Screen.Screen, Screen.at, Screen.blank_row, Screen.paper, Screen.row_at, Screen.Size.Single}
-
--- ---- lists
-
--- from place a to b, what f makes of that part
-abbrev pub within : {A : Type 0} → ℕ → ℕ → (List A → List A) → List A → List A
-within a b f list = take a list ++ (f (take (b - a) (drop a list)) ++ drop b list)
-
--- n are gone at one end, and blanks come in at the other
-abbrev pub up : {A : Type 0} → ℕ → A → List A → List A
-up n blank list = drop (min n (length list)) list ++ replicate (min n (length list)) blank
-
-abbrev pub down : {A : Type 0} → ℕ → A → List A → List A
-down n blank list = replicate (min n (length list)) blank ++ take (length list - min n (length list)) list
-
--- these ahead of the others, the last of them first
-abbrev pub onto : {A : Type 0} → List A → List A → List A
-onto [] list = list
-onto (x ∷ front) list = onto front (x ∷ list)
+use Rattle.std.specs.Prelude.{ℕ, min, not, Bool, true, false, List, map, take, nat_le, ◌+◌, ◌-◌, ◌==◌, ◌∷◌, ◌&&◌, [], if◌then◌else◌}
+use Rattle.csicodec_screen.specs.{Cells.between, Cells.blanks, Cells.cut_twice, Cells.deleted, Cells.emptied, Cells.inserted, Cells.pasted, Lists.filled}
+use Rattle.csicodec_screen.specs.{Lists.moved, Lists.onto, Lists.within, Screen.blank_row, Screen.paper, declared.cell.Cell.Cell, declared.rows.Row.Row}
+use Rattle.csicodec_screen.specs.{declared.screen.Screen.Screen}
 
 -- ---- rows that move between the margins
 
@@ -42,13 +24,9 @@ segment c d row = between c d (cut_twice c d row.cells)
 abbrev pub with_segments : ℕ → ℕ → List (List Cell) → List Row → List Row
 with_segments c d [] rows = rows
 with_segments c d (x ∷ segments) [] = []
-with_segments c d (x ∷ segments) (row ∷ rows) = record row { cells = spliced c d x row.cells } ∷ with_segments c d segments rows
+with_segments c d (x ∷ segments) (row ∷ rows) = record row { cells = pasted x c d row.cells } ∷ with_segments c d segments rows
 
--- how lists move
-abbrev pub moved : {A : Type 0} → Bool → ℕ → A → List A → List A
-moved upward n blank list = if upward then up n blank list else down n blank list
-
--- whole rows, with their size
+-- rows move with their size
 abbrev pub moved_rows : Bool → ℕ → Screen → List Row → List Row
 moved_rows upward n s rows = moved upward n (blank_row (paper s) s.columns) rows
 
@@ -103,15 +81,15 @@ in_line f s = over s.row (s.row + 1) f s
 -- rows from a to b are blank and of single width
 abbrev pub cleared : ℕ → ℕ → Screen → Screen
 cleared a b s = record s {
-  grid = within a b (λ rows. replicate (length rows) (blank_row (paper s) s.columns)) s.grid;
-  wrapped = within a b (λ flags. replicate (length flags) false) s.wrapped;
+  grid = within a b (filled (blank_row (paper s) s.columns)) s.grid;
+  wrapped = within a b (filled false) s.wrapped;
 }
 
 -- rows from a to b are empty but for what is protected (DECSED, DEC VT510)
 abbrev pub spared : ℕ → ℕ → Screen → Screen
-spared a b s = over a b (erased_around (paper s) 0 s.columns) s
+spared a b s = over a b (emptied true (paper s) 0 s.columns) s
 
 -- SL and SR (8.3.121, 8.3.135), DECIC and DECDC: the columns from c to the right margin, in the rows between the margins
 abbrev pub columns_moved : Bool → ℕ → ℕ → Screen → Screen
 columns_moved leftward n c s = over s.margins.top (s.margins.bottom + 1)
-    (λ cells. if leftward then deleted (paper s) c (s.margins.right + 1) n cells else inserted (paper s) c (s.margins.right + 1) n cells) s
+    (if leftward then deleted (paper s) n c (s.margins.right + 1) else inserted (paper s) n c (s.margins.right + 1)) s

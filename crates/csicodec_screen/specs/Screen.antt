@@ -1,106 +1,18 @@
 -- The state of a terminal's screen. Rows and columns are counted from 0.
-use Rattle.std.specs.Prelude.{ℕ, zero, suc, ◌≡◌, ◌≤◌, ◌<◌, ◌+◌, ◌-◌, ◌*◌, ◌/◌, ◌%◌, ◌==◌, nat_lt, min, Bool, true, false, List, [], ◌∷◌, length, replicate, get_or, Option, Some, None, if◌then◌else◌, ◌&&◌}
+use Rattle.std.specs.Prelude.{ℕ, zero, suc, min, Bool, true, false, List, length, replicate, get_or, None, nat_lt, ◌+◌, ◌-◌, ◌/◌, ◌%◌, ◌==◌, ◌∷◌, ◌&&◌, ◌≡◌, ◌≤◌, ◌<◌, [], if◌then◌else◌}
 use Rattle.std.specs.List.{AllByRecursion}
 use Rattle.csicodec_names.specs.declared.color.ColorSpec.{ColorSpec}
-use Rattle.csicodec_screen.specs.Cells.{Cell, Pen, are_whole, blanks, plain}
+use Rattle.csicodec_screen.specs.{Cells.are_whole, Cells.blanks, Cells.plain_pen, declared.rows.Row.Row, declared.rows.Size.Size}
+use Rattle.csicodec_screen.specs.{declared.rows.Size.TheVariants.Single, declared.screen.Screen.Screen, declared.sets.Set.TheVariants.Ascii}
+use Rattle.csicodec_screen.specs.{declared.sets.Sets.Sets, declared.state.Margins.Margins, declared.state.Modes.Modes, declared.state.Saved.Saved}
+use Rattle.csicodec_screen.specs.{declared.state.Titles.Titles}
 use Rattle.csicodec_names.specs.declared.color.ColorSpec.TheVariants as color
-
--- how large a row is shown (DEC VT100: DECSWL, DECDWL, and the upper and the lower half of DECDHL)
-pub data Size : Type 0 where
-  Single : Size
-  DoubleWidth : Size
-  UpperHalf : Size
-  LowerHalf : Size
-
-pub record Row : Type 0 where
-  pub cells : List Cell
-  pub size : Size
-
--- a graphic set (SCS, DEC VT100 and VT220); any other set is taken for ASCII
-pub data Set : Type 0 where
-  Ascii : Set
-  Graphics : Set
-  British : Set
-
--- the sets G0 to G3, which of them is in GL, and which of them the next character comes from after SS2 or SS3
-pub record Sets : Type 0 where
-  pub g0 : Set
-  pub g1 : Set
-  pub g2 : Set
-  pub g3 : Set
-  pub left : ℕ
-  pub single : Option ℕ
-
--- the first and the last row and column that scroll
-pub record Margins : Type 0 where
-  pub top : ℕ
-  pub bottom : ℕ
-  pub left : ℕ
-  pub right : ℕ
-
--- DECAWM (7), DECOM (6), DECLRMM (69), DECTCEM (25), DECSCNM (5), whether DECCOLM may (40), IRM (4), LNM (20), and whether DECSACE says rectangles
-pub record Modes : Type 0 where
-  pub autowrap : Bool
-  pub origin : Bool
-  pub columns : Bool
-  pub visible : Bool
-  pub reverse : Bool
-  pub resizes : Bool
-  pub inserts : Bool
-  pub new_line : Bool
-  pub rectangles : Bool
-
--- what DECSC keeps (DEC VT510)
-pub record Saved : Type 0 where
-  pub row : ℕ
-  pub column : ℕ
-  pub pen : Pen
-  pub origin : Bool
-  pub sets : Sets
-
--- the titles of the window and of its icon
-pub record Titles : Type 0 where
-  pub window : List ℕ
-  pub icon : List ℕ
-
-pub record Screen : Type 0 where
-  pub rows : ℕ
-  pub columns : ℕ
-  -- the rows that are shown, and those of the other screen; whether the text of each goes on in the next
-  pub grid : List Row
-  pub wrapped : List Bool
-  pub other : List Row
-  pub other_wrapped : List Bool
-  -- the alternate screen is shown
-  pub alternate : Bool
-  -- the saved cursor of the screen that is shown, and of the other
-  pub saved : Saved
-  pub other_saved : Saved
-  pub row : ℕ
-  pub column : ℕ
-  -- the last column was written, and the next character goes to the next row (DEC STD 070: the last column flag)
-  pub pending : Bool
-  pub pen : Pen
-  pub margins : Margins
-  pub modes : Modes
-  -- whether a tab stop is at a column
-  pub stops : List Bool
-  pub sets : Sets
-  pub titles : Titles
-  pub stack : List Titles
-  -- the character directly in front, which REP repeats
-  pub last : Option ℕ
-  -- rows that left the main screen at the top, the latest first, and how many of them are kept
-  pub back : List Row
-  pub room : ℕ
+use Rattle.csicodec_screen.specs.declared.sets.Slot.TheVariants as slot
 
 -- ---- where all is as at first
 
-abbrev pub plain_pen : Pen
-plain_pen = record { look = plain; link = []; protected = false }
-
 abbrev pub first_sets : Sets
-first_sets = record { g0 = Ascii; g1 = Ascii; g2 = Ascii; g3 = Ascii; left = 0; single = None }
+first_sets = record { g0 = Ascii; g1 = Ascii; g2 = Ascii; g3 = Ascii; left = slot.G0; single = None }
 
 abbrev pub unsaved : Saved
 unsaved = record { row = 0; column = 0; pen = plain_pen; origin = false; sets = first_sets }
@@ -150,6 +62,7 @@ fresh rows columns room = record {
   column = 0;
   pending = false;
   pen = plain_pen;
+  links = [];
   margins = whole rows columns;
   modes = first_modes;
   stops = eighths 0 columns;
@@ -163,8 +76,9 @@ fresh rows columns room = record {
 
 -- ---- places
 
-abbrev pub row_at : ℕ → Screen → Row
-row_at r s = get_or s.grid r (blank_row color.Default s.columns)
+-- behind the last row one without cells
+abbrev pub row_at : ℕ → List Row → Row
+row_at r grid = get_or grid r (blank_row color.Default 0)
 
 -- the background that blanks have (xterm, "bce")
 abbrev pub paper : Screen → ColorSpec
@@ -176,7 +90,7 @@ last_of columns Single = columns - 1
 last_of columns size = columns / 2 - 1
 
 abbrev pub last_column : Screen → ℕ
-last_column s = last_of s.columns (row_at s.row s).size
+last_column s = last_of s.columns (row_at s.row s.grid).size
 
 -- how far a character goes: to the right margin, or from beyond it to the last column
 abbrev pub edge : Screen → ℕ

@@ -1,17 +1,19 @@
 -- A screen, step by step: each character, control, escape sequence, control sequence and string of a stream.
-use Rattle.std.specs.Prelude.{ℕ, ℤ, pos, negsuc, ◌+◌, ◌-◌, ◌*◌, ◌/◌, ◌==◌, nat_le, nat_lt, min, max, not, Bool, true, false, List, [], ◌∷◌, ◌++◌, length, map, take, drop, replicate, set, unwrap_or, Option, Some, None, if◌then◌else◌, ◌&&◌, ◌||◌}
-use Rattle.csicodec_tokens.specs.declared.param.CsiParam.{CsiParam}
-use Rattle.csicodec_base.specs.declared.sgr.Sgr.{Sgr}
+use Rattle.std.specs.Prelude.{ℕ, ℤ, min, Bool, true, false, List, length, map, take, drop, replicate, set, Option, Some, None, nat_le, nat_lt, ◌+◌, ◌-◌, ◌==◌, ◌∷◌, ◌++◌, ◌&&◌, ◌||◌, [], if◌then◌else◌}
 use Rattle.csicodec_actions.specs.{Actions.Action, declared.window.Window.Window}
-use Rattle.csicodec_screen.specs.Screen.{Row, Screen, Set, Size, Titles, at, blank_grid, blank_row, eighths, paper, plain_pen, row_at, settled, untitled, whole}
 use Rattle.csicodec_screen.specs.Draws.{by_number, controls, left, next_line, print, reverse_index, right, shift, stop_at}
-use Rattle.csicodec_screen.specs.{Cells.Cell, Cells.Glyph, Cells.behind, Cells.blanks, Cells.cut, Cells.nothing, Cells.plain, Cells.Cell.Char, Cells.Cell.Empty}
-use Rattle.csicodec_screen.specs.{Screen.Set.Ascii, Screen.Set.Graphics, Screen.Set.British, Screen.Size.Single, Screen.Size.DoubleWidth, Screen.Size.UpperHalf}
-use Rattle.csicodec_screen.specs.{Screen.Size.LowerHalf, Rows.columns_moved, Rows.index, Rows.is_beside, Rows.onto, Acts.of_cursor, Acts.of_device}
-use Rattle.csicodec_screen.specs.{Acts.of_edit, Acts.of_mode, Acts.reset, Acts.restore, Acts.save, Areas.of_unknown, Areas.natural}
+use Rattle.csicodec_screen.specs.{Acts.of_cursor, Acts.of_device, Acts.of_edit, Acts.of_mode, Acts.reset, Acts.restore, Acts.save, Areas.natural}
+use Rattle.csicodec_screen.specs.{Areas.of_unknown, Cells.bare, Cells.behind, Cells.blanks, Cells.cut, Cells.plain_pen, Lists.onto, Rows.columns_moved}
+use Rattle.csicodec_screen.specs.{Rows.index, Screen.at, Screen.blank_row, Screen.eighths, Screen.row_at, Screen.settled, Screen.whole, declared.cell.Cell.Cell}
+use Rattle.csicodec_screen.specs.{declared.cell.Cell.TheVariants.Char, declared.cell.Cell.TheVariants.Empty, declared.rows.Row.Row, declared.rows.Size.Size}
+use Rattle.csicodec_screen.specs.{declared.rows.Size.TheVariants.DoubleWidth, declared.rows.Size.TheVariants.LowerHalf, declared.rows.Size.TheVariants.Single}
+use Rattle.csicodec_screen.specs.{declared.rows.Size.TheVariants.UpperHalf, declared.screen.Screen.Screen, declared.sets.Set.Set}
+use Rattle.csicodec_screen.specs.{declared.sets.Set.TheVariants.Ascii, declared.sets.Set.TheVariants.British, declared.sets.Set.TheVariants.Graphics}
+use Rattle.csicodec_screen.specs.{declared.sets.Slot.Slot, declared.state.Titles.Titles}
 use Rattle.csicodec_actions.specs.Actions as action
-use Rattle.csicodec_actions.specs.declared.edit.Edit.TheVariants as edit
 use Rattle.csicodec_names.specs.declared.color.ColorSpec.TheVariants as color
+use Rattle.csicodec_actions.specs.declared.edit.Edit.TheVariants as edit
+use Rattle.csicodec_screen.specs.declared.sets.Slot.TheVariants as slot
 
 -- ---- what comes
 
@@ -40,17 +42,17 @@ abbrev pub forward_index : Screen → Screen
 forward_index s = if s.column == s.margins.right && (nat_le s.margins.top s.row && nat_le s.row s.margins.bottom)
     then columns_moved true 1 s.margins.left s else right 1 s
 
-abbrev pub single_shift : ℕ → Screen → Screen
+abbrev pub single_shift : Slot → Screen → Screen
 single_shift n s = record s { sets = record s.sets { single = Some n } }
 
 -- IND D, NEL E, HTS H, RI M, SS2 N, SS3 O, DECBI 6, DECSC 7, DECRC 8, DECFI 9, RIS c, LS2 n, LS3 o (ECMA-48, 8.3; DEC VT510). The others do nothing.
 abbrev pub finals : List (ℕ × (Screen → Screen))
-finals = (68, index) ∷ (69, next_line) ∷ (72, stop_at true) ∷ (77, reverse_index) ∷ (78, single_shift 2) ∷ (79, single_shift 3) ∷
-    (54, back_index) ∷ (55, save) ∷ (56, restore) ∷ (57, forward_index) ∷ (99, reset) ∷ (110, shift 2) ∷ (111, shift 3) ∷ []
+finals = (68, index) ∷ (69, next_line) ∷ (72, stop_at true) ∷ (77, reverse_index) ∷ (78, single_shift slot.G2) ∷ (79, single_shift slot.G3) ∷
+    (54, back_index) ∷ (55, save) ∷ (56, restore) ∷ (57, forward_index) ∷ (99, reset) ∷ (110, shift slot.G2) ∷ (111, shift slot.G3) ∷ []
 
 -- DECALN (DEC STD 070): each cell an E, and the cursor at home
 abbrev pub letter : Cell
-letter = Char (record { char = 69; marks = []; pen = plain_pen })
+letter = Char (bare 69 plain_pen)
 
 abbrev pub aligned : Screen → Screen
 aligned s = record (at 0 0 s) {
@@ -63,7 +65,7 @@ aligned s = record (at 0 0 s) {
 
 -- the cursor's row is shown in another size
 abbrev pub sized : Size → Screen → Screen
-sized size s = record s { grid = set s.grid s.row (record (row_at s.row s) { size = size }) }
+sized size s = record s { grid = set s.grid s.row (record (row_at s.row s.grid) { size = size }) }
 
 -- behind `#`: DECDHL 3 and 4, DECSWL 5, DECDWL 6, DECALN 8
 abbrev pub hashes : List (ℕ × (Screen → Screen))
@@ -220,9 +222,14 @@ abbrev pub behind_semicolon : List ℕ → List ℕ
 behind_semicolon [] = []
 behind_semicolon (b ∷ bytes) = if b == 59 then bytes else behind_semicolon bytes
 
+-- an address is kept, and the pen has its number from 1 on; without one it has none
+abbrev pub linked : List ℕ → Screen → Screen
+linked [] s = record s { pen = record s.pen { link = 0 } }
+linked (b ∷ address) s = record s { links = s.links ++ ((b ∷ address) ∷ []); pen = record s.pen { link = length s.links + 1 } }
+
 -- OSC 0, 1 and 2 are titles (xterm, ctlseqs), and 8 a link
 abbrev pub of_osc : ℕ → List ℕ → Screen → Screen
-of_osc n text s = if n == 8 then record s { pen = record s.pen { link = behind_semicolon text } }
+of_osc n text s = if n == 8 then linked (behind_semicolon text) s
     else if nat_lt 2 n then s
     else record s { titles = record { window = if n == 0 || n == 2 then text else s.titles.window; icon = if n == 0 || n == 1 then text else s.titles.icon } }
 

@@ -1,0 +1,9 @@
+use Rattle.std.proofs.Common.{◌≡◌, length}
+use Rattle.csicodec_screen.specs.{Lists.within, Private.Changes.changed, Rows.each_row}
+use Rattle.csicodec_screen.proofs.rows.change_rows.Given as goal
+
+abbrev pub invariant-loop-i : goal.invariant-loop-i
+invariant-loop-i l = record {
+  is : within l.i l.end (each_row (changed l.change l.area.first l.area.last)) l.rows.items ≡ within l.start l.end (each_row (changed l.change l.area.first l.area.last)) l.fn.rows.items;
+  len : length l.rows.items ≡ length l.fn.rows.items;
+}

@@ -1,0 +1,2 @@
+-- Parts of the private functions' contracts. No promise rests on these files.
+pub mod Changes

@@ -1,0 +1,243 @@
+//! The cells of a row, and how they are edited. Columns are counted from 0.
+ghost use Rattle.std.specs.Prelude.{◌≡◌, OnOk, IfOk, false, replicate};
+ghost use Rattle.csicodec_screen.specs.Cells.{between, cell_at, cut, cut_twice, deleted, drawn, emptied, flooded, inserted, joined_by, pasted, unprotected};
+ghost use Rattle.csicodec_screen.specs.{Lists.overlaid, Lists.within, Private.Changes.changed};
+
+use crate::cell::{Cell, Glyph};
+use crate::list::{fill, move_down, move_up, part, put};
+use csicodec_base::ColorSpec;
+use std::alloc::{AllocError, Global};
+use std::marker::Model;
+
+/// What is done to the cells of a row from one column to another.
+#[derive(Clone, Copy)]
+pub(crate) enum Change {
+    /// They are empty, on this background; if the flag is set, but for what is protected.
+    Empty(bool, ColorSpec),
+    /// So many empty ones come in at the first column, and the others move right.
+    Insert(ColorSpec, usize),
+    /// So many at the first column are gone, and the others move left.
+    Delete(ColorSpec, usize),
+    /// Each is this one.
+    Flood(Cell),
+    /// A character stands there; it has two columns if the flag is set.
+    Draw(bool, Glyph),
+    /// A mark joins the character that stands at the first column.
+    Join(char),
+}
+
+/// The cells from one column to another that aren't protected are empty.
+fn empty_unprotected(cells: &mut Vec<Cell>, from: usize, to: usize, paper: ColorSpec)
+    ensures { cells.new.items ≡ within from to (unprotected paper false) cells.old.items }
+{
+    let (start, end) = part(from, to, cells.len());
+    let mut keeps = false;
+    for i in start..end {
+        let cell = cells[i];
+        cells[i] = cell.spared(keeps, paper);
+        keeps = cell.is_protected();
+    }
+}
+
+/// These are in place of the first cells from one column to another.
+fn overlay(cells: &mut Vec<Cell>, new: &[Cell], from: usize, to: usize)
+    ensures { cells.new.items ≡ within from to (overlaid new.now) cells.old.items }
+{
+    let (start, end) = part(from, to, cells.len());
+    let mut at = start;
+    for cell in new {
+        if at >= end {
+            return;
+        }
+        cells[at] = *cell;
+        at += 1;
+    }
+}
+
+/// A copy of the cells from one column to another.
+fn copy_part(alloc: Global, cells: &[Cell], from: usize, to: usize) -> Result<Vec<Cell>, AllocError>
+    ensures { IfOk result (λ copy. copy.items ≡ between from to cells.now) }
+{
+    let (start, end) = part(from, to, cells.len());
+    let mut copy = Vec::new(alloc);
+    copy.extend_from_slice(&cells[start..end])?;
+    Ok(copy)
+}
+
+/// The cells of a row.
+#[derive(Drop)]
+pub struct Cells {
+    cells: Vec<Cell>,
+}
+
+impl Model for Cells {
+    ghost use Rattle.std.specs.Prelude.{List};
+    ghost use Rattle.csicodec_screen.specs.declared.cell.Cell.{Cell as CellOf};
+
+    ghost Value = { List CellOf };
+
+    ghost view = { λ c. c.cells.items };
+}
+
+impl Cells {
+    /// So many that are all alike.
+    pub(crate) fn uniform(alloc: Global, count: usize, cell: Cell) -> Result<Cells, AllocError>
+        ensures { IfOk result (λ cells. cells ≡ replicate count cell) }
+    {
+        let mut cells = Vec::new(alloc);
+        cells.resize(count, cell)?;
+        Ok(Cells { cells })
+    }
+
+    /// There are so many, which are all alike.
+    pub(crate) fn reset(&mut self, count: usize, cell: Cell) -> Result<(), AllocError>
+        ensures { OnOk result (self.new ≡ replicate count cell) }
+    {
+        self.cells.clear();
+        self.cells.resize(count, cell)?;
+        Ok(())
+    }
+
+    /// All of them.
+    pub fn as_slice(&self) -> &[Cell]
+        ensures { result.now ≡ self.now }
+    {
+        &self.cells
+    }
+
+    /// That at a column; behind the last one nothing.
+    fn at(&self, column: usize) -> Cell
+        ensures { result ≡ cell_at column self.now }
+    {
+        match self.cells.get(column) {
+            Some(cell) => *cell,
+            None => Cell::Empty(ColorSpec::Default),
+        }
+    }
+
+    /// No character stands on both sides of this column.
+    fn cut(&mut self, column: usize)
+        ensures { self.new ≡ cut column self.old }
+    {
+        if !self.at(column).is_behind() {
+            return;
+        }
+        let before = column.saturating_sub(1);
+        let cell = self.at(before);
+        put(&mut self.cells, before, cell.first_half());
+        put(&mut self.cells, column, cell.second_half());
+    }
+
+    fn cut_twice(&mut self, from: usize, to: usize)
+        ensures { self.new ≡ cut_twice from to self.old }
+    {
+        self.cut(from);
+        self.cut(to);
+    }
+
+    fn empty(&mut self, spares: bool, paper: ColorSpec, from: usize, to: usize)
+        ensures { self.new ≡ emptied spares paper from to self.old }
+    {
+        self.cut_twice(from, to);
+        if spares {
+            empty_unprotected(&mut self.cells, from, to, paper);
+        } else {
+            fill(&mut self.cells, from, to, Cell::Empty(paper));
+        }
+    }
+
+    fn insert(&mut self, paper: ColorSpec, count: usize, from: usize, to: usize)
+        ensures { self.new ≡ inserted paper count from to self.old }
+    {
+        self.cut_twice(from, to);
+        self.cut(to.saturating_sub(count.min(to.saturating_sub(from))));
+        move_down(&mut self.cells, from, to, count, Cell::Empty(paper));
+    }
+
+    fn delete(&mut self, paper: ColorSpec, count: usize, from: usize, to: usize)
+        ensures { self.new ≡ deleted paper count from to self.old }
+    {
+        self.cut_twice(from, to);
+        self.cut(from + count.min(to.saturating_sub(from)));
+        move_up(&mut self.cells, from, to, count, Cell::Empty(paper));
+    }
+
+    fn flood(&mut self, cell: Cell, from: usize, to: usize)
+        ensures { self.new ≡ flooded cell from to self.old }
+    {
+        self.cut_twice(from, to);
+        fill(&mut self.cells, from, to, cell);
+    }
+
+    fn draw(&mut self, wide: bool, glyph: Glyph, from: usize, to: usize)
+        ensures { self.new ≡ drawn wide glyph from to self.old }
+    {
+        self.cut_twice(from, to);
+        if wide {
+            put(&mut self.cells, from, Cell::Wide(glyph));
+            put(&mut self.cells, to.saturating_sub(1), Cell::Behind);
+        } else {
+            put(&mut self.cells, from, Cell::Char(glyph));
+        }
+    }
+
+    fn join(&mut self, mark: char, column: usize)
+        ensures { self.new ≡ joined_by mark column self.old }
+    {
+        let base = if self.at(column).is_behind() {
+            column.saturating_sub(1)
+        } else {
+            column
+        };
+        let cell = self.at(base).marked(mark);
+        put(&mut self.cells, base, cell);
+    }
+
+    /// Others like these.
+    pub(crate) fn copy(&self) -> Result<Cells, AllocError>
+        ensures { IfOk result (λ cells. cells ≡ self.now) }
+    {
+        let mut cells = Vec::new(*self.cells.allocator());
+        cells.extend_from_slice(&self.cells)?;
+        Ok(Cells { cells })
+    }
+
+    /// Those from one column to another.
+    fn part(&self, from: usize, to: usize) -> Result<Cells, AllocError>
+        ensures { IfOk result (λ cells. cells ≡ between from to self.now) }
+    {
+        let cells = copy_part(*self.cells.allocator(), &self.cells, from, to)?;
+        Ok(Cells { cells })
+    }
+
+    /// Those from one column to another, of which no character stands on both sides of these.
+    pub(crate) fn segment(&self, from: usize, to: usize) -> Result<Cells, AllocError>
+        ensures { IfOk result (λ cells. cells ≡ between from to (cut_twice from to self.now)) }
+    {
+        let mut whole = self.copy()?;
+        whole.cut_twice(from, to);
+        whole.part(from, to)
+    }
+
+    /// These stand from one column on, and no further than to another.
+    pub(crate) fn paste(&mut self, new: &[Cell], from: usize, to: usize)
+        ensures { self.new ≡ pasted new.now from to self.old }
+    {
+        self.cut_twice(from, to);
+        overlay(&mut self.cells, new, from, to);
+    }
+
+    /// This is done to them from one column to another.
+    pub(crate) fn change(&mut self, change: Change, from: usize, to: usize)
+        ensures { self.new ≡ changed change from to self.old }
+    {
+        match change {
+            Change::Empty(spares, paper) => self.empty(spares, paper, from, to),
+            Change::Insert(paper, count) => self.insert(paper, count, from, to),
+            Change::Delete(paper, count) => self.delete(paper, count, from, to),
+            Change::Flood(cell) => self.flood(cell, from, to),
+            Change::Draw(wide, glyph) => self.draw(wide, glyph, from, to),
+            Change::Join(mark) => self.join(mark, from),
+        }
+    }
+}

@@ -1,5 +1,5 @@
 -- What is done to rectangular areas, and by the other sequences that have no action of their own.
-use Rattle.std.specs.Prelude.{ℕ, ℤ, pos, negsuc, min, not, Bool, true, false, List, map, take, drop, slice_index_or, Option, Some, None, nat_le, nat_lt, ◌+◌, ◌-◌, ◌==◌, ◌∷◌, ◌&&◌, ◌||◌, [], if◌then◌else◌}
+use Rattle.std.specs.Prelude.{ℕ, ℤ, pos, negsuc, min, max, not, Bool, true, false, List, map, take, drop, slice_index_or, Option, Some, None, nat_le, nat_lt, ◌+◌, ◌-◌, ◌==◌, ◌∷◌, ◌&&◌, ◌||◌, [], if◌then◌else◌}
 use Rattle.csicodec_names.specs.{declared.color.Blink.Blink, declared.color.Underline.Underline, declared.enums.EraseInDisplay.EraseInDisplay}
 use Rattle.csicodec_names.specs.{declared.enums.EraseInLine.EraseInLine}
 use Rattle.csicodec_screen.specs.{Acts.erase_display, Acts.erase_line, Acts.left_and_right, Acts.of_one, Cells.cell_with, Cells.emptied, Cells.flooded}
@@ -54,10 +54,13 @@ is_area a = nat_lt a.top a.bottom && nat_lt a.first a.last
 abbrev pub on_area : (ℕ → ℕ → List Cell → List Cell) → Area → Screen → Screen
 on_area f a s = if is_area a then over a.top a.bottom (f a.first a.last) s else s
 
--- DECFRA: a character that one can see fills it, drawn with the pen
+-- a character of Unicode that one can see
+abbrev pub is_seen : ℕ → Bool
+is_seen c = nat_le 32 c && nat_lt c 127 || nat_le 160 c && nat_lt c 55296 || nat_le 57344 c && nat_lt c 1114112
+
+-- DECFRA: one of one column fills an area, drawn with the pen
 abbrev pub filled : ℕ → Area → Screen → Screen
-filled c a s = if (nat_le 32 c && nat_lt c 127 || nat_le 160 c) && columns_of c == 1
-    then on_area (flooded (Char (glyph c s))) a s else s
+filled c a s = if is_seen c && columns_of c == 1 then on_area (flooded (Char (glyph c s))) a s else s
 
 -- DECERA, and DECSERA, which spares what is protected
 abbrev pub erased : Bool → Area → Screen → Screen
@@ -148,7 +151,7 @@ looked f a s = if s.modes.rectangles then on_area (relooked f) a s
 
 -- SL, SR (ECMA-48, 8.3.121 and 8.3.135), from the left margin; DECIC and DECDC (DEC VT510), from the cursor on: where the cursor is within all margins
 abbrev pub of_columns : Bool → ℕ → ℕ → Screen → Screen
-of_columns leftward n c s = if is_inside s then columns_moved leftward (if n == 0 then 1 else n) c s else s
+of_columns leftward n c s = if is_inside s then columns_moved leftward (max n 1) c s else s
 
 -- DECSCA: what is drawn from here on is protected, or not
 abbrev pub protect : ℕ → Screen → Screen
@@ -169,46 +172,71 @@ line_of n s = if n == 0 then erase_line true EraseInLine.EraseToEndOfLine s
     else if n == 1 then erase_line true EraseInLine.EraseToStartOfLine s
     else if n == 2 then erase_line true EraseInLine.EraseLine s else s
 
--- a marker or an intermediate byte, a final byte, and what fields do
-pub record Known : Type 0 where
-  pub byte : ℕ
-  pub final : ℕ
-  pub does : List (Option ℤ) → Screen → Screen
+-- what a list's numbers do by its final byte, and nothing where that isn't here
+abbrev pub by_final : List (ℕ × (List (Option ℤ) → Screen → Screen)) → ℕ → List (Option ℤ) → Screen → Screen
+by_final [] final fields s = s
+by_final (row ∷ rows) final fields s = if final == row.0 then row.1 fields s else by_final rows final fields s
 
-abbrev pub row : ℕ → ℕ → (List (Option ℤ) → Screen → Screen) → Known
-row byte final does = record { byte = byte; final = final; does = does }
+-- DECSLRM `s`, where the last number is left out
+abbrev pub bare_finals : List (ℕ × (List (Option ℤ) → Screen → Screen))
+bare_finals = (115, (λ f s. left_and_right (nth 0 f) (nth 1 f) s)) ∷ []
 
--- DECSLRM `s` where the last number is left out; DECSED `? J`, DECSEL `? K`; SL ` @`, SR ` A`; DECIC `' }`, DECDC `' ~`; DECSCA `" q`; DECSACE `* x`; DECFRA `$ x`, DECERA `$ z`, DECSERA `$ {`, DECCRA `$ v`, DECCARA `$ r`, DECRARA `$ t`
-abbrev pub table : List Known
-table =
-    row 0 115 (λ f s. left_and_right (nth 0 f) (nth 1 f) s) ∷
-    row 63 74 (λ f s. display_of (nth 0 f) s) ∷
-    row 63 75 (λ f s. line_of (nth 0 f) s) ∷
-    row 32 64 (λ f s. of_columns true (nth 0 f) s.margins.left s) ∷
-    row 32 65 (λ f s. of_columns false (nth 0 f) s.margins.left s) ∷
-    row 39 125 (λ f s. of_columns false (nth 0 f) s.column s) ∷
-    row 39 126 (λ f s. of_columns true (nth 0 f) s.column s) ∷
-    row 34 113 (λ f s. protect (nth 0 f) s) ∷
-    row 42 120 (λ f s. extent (nth 0 f) s) ∷
-    row 36 120 (λ f s. filled (nth 0 f) (area_at 1 f s) s) ∷
-    row 36 122 (λ f s. erased false (area_at 0 f s) s) ∷
-    row 36 123 (λ f s. erased true (area_at 0 f s) s) ∷
-    row 36 118 (λ f s. copied (first_row s + of_one (nth 5 f)) (first_column s + of_one (nth 6 f)) (area_at 0 f s) s) ∷
-    row 36 114 (λ f s. looked (by_all look_set (or_zero (drop 4 f))) (area_at 0 f s) s) ∷
-    row 36 116 (λ f s. looked (by_all look_turned (or_zero (drop 4 f))) (area_at 0 f s) s) ∷ []
+-- DECSED `? J`, DECSEL `? K`
+abbrev pub private_finals : List (ℕ × (List (Option ℤ) → Screen → Screen))
+private_finals = (74, (λ f s. display_of (nth 0 f) s)) ∷ (75, (λ f s. line_of (nth 0 f) s)) ∷ []
+
+-- SL ` @`, SR ` A`
+abbrev pub space_finals : List (ℕ × (List (Option ℤ) → Screen → Screen))
+space_finals = (64, (λ f s. of_columns true (nth 0 f) s.margins.left s)) ∷ (65, (λ f s. of_columns false (nth 0 f) s.margins.left s)) ∷ []
+
+-- DECIC `' }`, DECDC `' ~`
+abbrev pub apostrophe_finals : List (ℕ × (List (Option ℤ) → Screen → Screen))
+apostrophe_finals = (125, (λ f s. of_columns false (nth 0 f) s.column s)) ∷ (126, (λ f s. of_columns true (nth 0 f) s.column s)) ∷ []
+
+-- DECSCA `" q`
+abbrev pub quote_finals : List (ℕ × (List (Option ℤ) → Screen → Screen))
+quote_finals = (113, (λ f s. protect (nth 0 f) s)) ∷ []
+
+-- DECSACE `* x`
+abbrev pub star_finals : List (ℕ × (List (Option ℤ) → Screen → Screen))
+star_finals = (120, (λ f s. extent (nth 0 f) s)) ∷ []
+
+-- DECFRA, DECERA and DECSERA, DECCRA, DECCARA and DECRARA, by their numbers
+abbrev pub fill_by : List (Option ℤ) → Screen → Screen
+fill_by f s = filled (nth 0 f) (area_at 1 f s) s
+
+abbrev pub erase_by : Bool → List (Option ℤ) → Screen → Screen
+erase_by spares f s = erased spares (area_at 0 f s) s
+
+abbrev pub copy_by : List (Option ℤ) → Screen → Screen
+copy_by f s = copied (first_row s + of_one (nth 5 f)) (first_column s + of_one (nth 6 f)) (area_at 0 f s) s
+
+abbrev pub look_by : (ℕ → Look → Look) → List (Option ℤ) → Screen → Screen
+look_by change f s = looked (by_all change (or_zero (drop 4 f))) (area_at 0 f s) s
+
+-- DECFRA `$ x`, DECERA `$ z`, DECSERA `$ {`, DECCRA `$ v`, DECCARA `$ r`, DECRARA `$ t`
+abbrev pub dollar_finals : List (ℕ × (List (Option ℤ) → Screen → Screen))
+dollar_finals = (120, fill_by) ∷ (122, erase_by false) ∷ (123, erase_by true) ∷ (118, copy_by) ∷ (114, look_by look_set) ∷ (116, look_by look_turned) ∷ []
+
+-- by the marker, or the intermediate byte
+abbrev pub by_byte : ℕ → ℕ → List (Option ℤ) → Screen → Screen
+by_byte byte final fields s = if byte == 0 then by_final bare_finals final fields s
+    else if byte == 63 then by_final private_finals final fields s
+    else if byte == 32 then by_final space_finals final fields s
+    else if byte == 39 then by_final apostrophe_finals final fields s
+    else if byte == 34 then by_final quote_finals final fields s
+    else if byte == 42 then by_final star_finals final fields s
+    else if byte == 36 then by_final dollar_finals final fields s
+    else s
 
 -- a list has one such byte at most: the marker where there is one, else the intermediate
 abbrev pub own_byte : Parts → ℕ
 own_byte p = if p.marker == 0 then p.intermediate else if p.intermediate == 0 then p.marker else 0
 
-abbrev pub by_known : List Known → ℕ → ℕ → List (Option ℤ) → Screen → Screen
-by_known [] byte final fields s = s
-by_known (r ∷ rows) byte final fields s = if r.byte == byte && r.final == final then r.does fields s else by_known rows byte final fields s
-
 -- a list whose numbers stand apart by `;`
 abbrev pub by_fields : ℕ → ℕ → Option (List (Option ℤ)) → Screen → Screen
 by_fields byte final None s = s
-by_fields byte final (Some fields) s = by_known table byte final fields s
+by_fields byte final (Some fields) s = by_byte byte final fields s
 
 abbrev pub of_unknown : List CsiParam → ℕ → Screen → Screen
 of_unknown params final s = by_fields (own_byte (parts_of params)) final (fields_of (parts_of params).body) s

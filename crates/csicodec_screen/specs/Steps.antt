@@ -1,10 +1,10 @@
 -- A screen, step by step: each character, control, escape sequence, control sequence and string of a stream.
-use Rattle.std.specs.Prelude.{ℕ, ℤ, min, Bool, true, false, List, length, map, take, drop, replicate, set, Option, Some, None, nat_le, nat_lt, ◌+◌, ◌-◌, ◌==◌, ◌∷◌, ◌++◌, ◌&&◌, ◌||◌, [], if◌then◌else◌}
+use Rattle.std.specs.Prelude.{ℕ, min, Bool, true, false, List, length, map, take, drop, replicate, set, Some, None, nat_le, nat_lt, ◌+◌, ◌-◌, ◌==◌, ◌∷◌, ◌++◌, ◌&&◌, ◌||◌, [], if◌then◌else◌}
 use Rattle.csicodec_actions.specs.{Actions.Action, declared.window.Window.Window}
 use Rattle.csicodec_screen.specs.Draws.{by_number, controls, left, next_line, print, reverse_index, right, shift, stop_at}
-use Rattle.csicodec_screen.specs.{Acts.of_cursor, Acts.of_device, Acts.of_edit, Acts.of_mode, Acts.reset, Acts.restore, Acts.save, Areas.natural}
-use Rattle.csicodec_screen.specs.{Areas.of_unknown, Cells.bare, Cells.behind, Cells.blanks, Cells.cut, Cells.plain_pen, Lists.onto, Rows.columns_moved}
-use Rattle.csicodec_screen.specs.{Rows.index, Screen.at, Screen.blank_row, Screen.eighths, Screen.row_at, Screen.settled, Screen.whole, declared.cell.Cell.Cell}
+use Rattle.csicodec_screen.specs.{Acts.of_cursor, Acts.of_device, Acts.of_edit, Acts.of_mode, Acts.reset, Acts.restore, Acts.save, Areas.of_unknown, Cells.bare}
+use Rattle.csicodec_screen.specs.{Cells.behind, Cells.blanks, Cells.cut, Cells.plain_pen, Lists.onto, Rows.columns_moved, Rows.index, Screen.at}
+use Rattle.csicodec_screen.specs.{Screen.blank_row, Screen.eighths, Screen.row_at, Screen.settled, Screen.whole, declared.cell.Cell.Cell}
 use Rattle.csicodec_screen.specs.{declared.cell.Cell.TheVariants.Char, declared.cell.Cell.TheVariants.Empty, declared.rows.Row.Row, declared.rows.Size.Size}
 use Rattle.csicodec_screen.specs.{declared.rows.Size.TheVariants.DoubleWidth, declared.rows.Size.TheVariants.LowerHalf, declared.rows.Size.TheVariants.Single}
 use Rattle.csicodec_screen.specs.{declared.rows.Size.TheVariants.UpperHalf, declared.screen.Screen.Screen, declared.sets.Set.Set}
@@ -163,9 +163,6 @@ resized rows columns s = record (fit_other rows (fit_rows rows s)) {
   stops = take columns s.stops ++ eighths (length s.stops) (columns - length s.stops);
 }
 
-abbrev pub or_own : ℕ → Option ℤ → ℕ
-or_own own n = if natural n == 0 then own else natural n
-
 -- ---- window and titles
 
 abbrev pub most_titles : ℕ
@@ -181,8 +178,9 @@ popped icon window (t ∷ stack) s = record s {
   stack = stack;
 }
 
+-- a new size is asked of who has the screen, and comes from there as `Resize`
 abbrev pub of_window : Window → Screen → Screen
-of_window (Window.ResizeWindowCells width height) s = resized (or_own s.rows height) (or_own s.columns width) s
+of_window (Window.ResizeWindowCells width height) s = s
 of_window Window.PushIconAndWindowTitle s = pushed s
 of_window Window.PushIconTitle s = pushed s
 of_window Window.PushWindowTitle s = pushed s

@@ -4,6 +4,7 @@ ghost use Rattle.csicodec_screen.specs.Acts.{erase, erase_display, erase_line, e
 ghost use Rattle.csicodec_screen.specs.{Draws.tab, Draws.tab_back, Draws.times, Private.Changes.chars_moved};
 
 use crate::cells::Change;
+use crate::moving::at_most;
 use crate::screen::Screen;
 use crate::state::Saved;
 use csicodec_actions::{Cursor, Edit};
@@ -18,17 +19,17 @@ fn of_one(number: u32) -> usize
 }
 
 /// A row or a column from 1 on, counted from 0; one that is the last one of so many, or more, is the last.
-fn up_to_last(number: u32, count: u32) -> u32
+fn up_to_last(number: usize, count: u32) -> u32
     ensures { result ≡ up_to_last number count }
 {
-    number.saturating_sub(1).min(count.saturating_sub(1))
+    at_most(number.saturating_sub(1), count.saturating_sub(1))
 }
 
 /// A last column, which 0 and 1 can't be.
-fn or_last(number: u32, count: u32) -> u32
+fn or_last(number: usize, count: u32) -> usize
     ensures { result ≡ or_last number count }
 {
-    if number <= 1 { count } else { number }
+    if number <= 1 { count as usize } else { number }
 }
 
 impl Screen {
@@ -74,7 +75,10 @@ impl Screen {
     fn set_rows(&mut self, top: u32, bottom: u32)
         ensures { self.new ≡ top_and_bottom top bottom self.old }
     {
-        let (first, last) = (top.saturating_sub(1), up_to_last(bottom, self.rows));
+        let (first, last) = (
+            top.saturating_sub(1),
+            up_to_last(bottom as usize, self.rows),
+        );
         if first < last {
             self.margins.top = first;
             self.margins.bottom = last;
@@ -83,13 +87,13 @@ impl Screen {
     }
 
     /// DECSLRM, where DECLRMM lets it.
-    pub(crate) fn set_columns(&mut self, left: u32, right: u32)
+    pub(crate) fn set_columns(&mut self, left: usize, right: usize)
         ensures { self.new ≡ left_and_right left right self.old }
     {
         let first = left.saturating_sub(1);
         let last = up_to_last(or_last(right, self.columns), self.columns);
-        if self.modes.columns && first < last {
-            self.margins.left = first;
+        if self.modes.columns && first < last as usize {
+            self.margins.left = first as u32;
             self.margins.right = last;
             self.place(0, 0);
         }
@@ -159,7 +163,7 @@ impl Screen {
         ensures { self.new ≡ of_cursor Cursor.SaveCursor self.old }
     {
         if self.modes.columns {
-            self.set_columns(1, self.columns);
+            self.set_columns(1, self.columns as usize);
         } else {
             self.save();
         }
@@ -202,7 +206,7 @@ impl Screen {
                 self.set_rows(top.as_one_based(), bottom.as_one_based());
             }
             Cursor::SetLeftAndRightMargins { left, right } => {
-                self.set_columns(left.as_one_based(), right.as_one_based());
+                self.set_columns(left.as_one_based() as usize, right.as_one_based() as usize);
             }
             Cursor::SaveCursor => self.save_or_widen(),
             Cursor::RestoreCursor => self.restore(),

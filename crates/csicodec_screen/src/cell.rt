@@ -1,10 +1,11 @@
 //! What stands in one cell of a screen.
 ghost use Rattle.std.specs.Prelude.{◌≡◌, ◌||◌, ◌&&◌, if◌then◌else◌};
-ghost use Rattle.csicodec_screen.specs.Cells.{bare, first_half, glyph_marked, is_behind, is_protected, is_wide, marked, second_half};
-ghost use Rattle.csicodec_screen.specs.declared.cell.Cell.TheVariants.{Empty};
+ghost use Rattle.csicodec_screen.specs.Cells.{bare, cell_with, first_half, glyph_marked, glyph_with, is_behind, is_protected, is_wide, marked, second_half};
+ghost use Rattle.csicodec_screen.specs.{declared.cell.Cell.TheVariants.Empty, Private.Changes.look_behind};
 
 use crate::look::Pen;
-use csicodec_base::ColorSpec;
+use crate::relook::relook;
+use csicodec_base::{ColorSpec, Cracked};
 
 /// A character has no more marks.
 pub const MARKS: usize = 8;
@@ -41,6 +42,16 @@ impl Glyph {
             self.marks[self.count as usize] = mark;
             self.count += 1;
         }
+        self
+    }
+}
+
+impl Glyph {
+    /// How it looks is set, or turned over.
+    fn relooked(mut self, turns: bool, fields: &Cracked) -> Glyph
+        ensures { result ≡ glyph_with (look_behind turns fields.now) self }
+    {
+        self.pen.look = relook(turns, fields, self.pen.look);
         self
     }
 }
@@ -121,6 +132,17 @@ impl Cell {
         match self {
             Cell::Char(glyph) => Cell::Char(glyph.marked(mark)),
             Cell::Wide(glyph) => Cell::Wide(glyph.marked(mark)),
+            Cell::Empty(_) | Cell::Behind => self,
+        }
+    }
+
+    /// How its character looks is set, or turned over.
+    pub(crate) fn relooked(self, turns: bool, fields: &Cracked) -> Cell
+        ensures { result ≡ cell_with (look_behind turns fields.now) self }
+    {
+        match self {
+            Cell::Char(glyph) => Cell::Char(glyph.relooked(turns, fields)),
+            Cell::Wide(glyph) => Cell::Wide(glyph.relooked(turns, fields)),
             Cell::Empty(_) | Cell::Behind => self,
         }
     }

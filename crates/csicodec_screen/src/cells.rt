@@ -1,11 +1,11 @@
 //! The cells of a row, and how they are edited. Columns are counted from 0.
 ghost use Rattle.std.specs.Prelude.{◌≡◌, OnOk, IfOk, false, replicate};
 ghost use Rattle.csicodec_screen.specs.Cells.{between, cell_at, cut, cut_twice, deleted, drawn, emptied, flooded, inserted, joined_by, pasted, unprotected};
-ghost use Rattle.csicodec_screen.specs.{Lists.overlaid, Lists.within, Private.Changes.changed};
+ghost use Rattle.csicodec_screen.specs.{Lists.overlaid, Lists.within, Private.Changes.changed, Private.Changes.look_behind, Areas.relooked};
 
 use crate::cell::{Cell, Glyph};
 use crate::list::{fill, move_down, move_up, part, put};
-use csicodec_base::ColorSpec;
+use csicodec_base::{ColorSpec, Cracked};
 use std::alloc::{AllocError, Global};
 use std::marker::Model;
 
@@ -62,6 +62,17 @@ fn copy_part(alloc: Global, cells: &[Cell], from: usize, to: usize) -> Result<Ve
     let mut copy = Vec::new(alloc);
     copy.extend_from_slice(&cells[start..end])?;
     Ok(copy)
+}
+
+/// Looks of the cells from one column to another are set, or turned over.
+fn relook_cells(cells: &mut Vec<Cell>, turns: bool, fields: &Cracked, from: usize, to: usize)
+    ensures { cells.new.items ≡ relooked (look_behind turns fields.now) from to cells.old.items }
+{
+    let (start, end) = part(from, to, cells.len());
+    for i in start..end {
+        let cell = cells[i];
+        cells[i] = cell.relooked(turns, fields);
+    }
 }
 
 /// The cells of a row.
@@ -225,6 +236,13 @@ impl Cells {
     {
         self.cut_twice(from, to);
         overlay(&mut self.cells, new, from, to);
+    }
+
+    /// Looks of those from one column to another are set, or turned over.
+    pub(crate) fn relook(&mut self, turns: bool, fields: &Cracked, from: usize, to: usize)
+        ensures { self.new ≡ relooked (look_behind turns fields.now) from to self.old }
+    {
+        relook_cells(&mut self.cells, turns, fields, from, to);
     }
 
     /// This is done to them from one column to another.

@@ -1,6 +1,6 @@
 //! What a screen keeps beside what it shows: rows that left at the top, addresses of links, and titles on a stack.
-ghost use Rattle.std.specs.Prelude.{◌≡◌, OnOk, [], take};
-ghost use Rattle.csicodec_screen.specs.Lists.{onto};
+ghost use Rattle.std.specs.Prelude.{◌≡◌, ◌+◌, ◌++◌, ◌∷◌, IfOk, MatchOption, OnOk, [], length, take};
+ghost use Rattle.csicodec_screen.specs.{Steps.most_titles, Lists.onto};
 
 use crate::rows::Row;
 use crate::state::Titles;
@@ -90,6 +90,19 @@ impl Links {
             addresses: Vec::new(alloc),
         }
     }
+
+    /// One more, and its number, from 1 on. An `Err` is out of memory, or of numbers.
+    pub(crate) fn add(&mut self, address: TextBuffer) -> Result<u32, AllocError>
+        ensures kept { OnOk result (self.new ≡ self.old ++ (address ∷ [])) }
+        ensures number { IfOk result (λ number. number ≡ length self.old + 1) }
+    {
+        let count = self.addresses.len();
+        if count >= 0xffff_ffff {
+            return Err(AllocError);
+        }
+        self.addresses.push(address)?;
+        Ok(count as u32 + 1)
+    }
 }
 
 /// Titles that were put aside. Contracts see them as a list, the latest first.
@@ -115,5 +128,26 @@ impl TitleStack {
         TitleStack {
             titles: Vec::new(alloc),
         }
+    }
+
+    /// These are the latest, and no more than ten are kept.
+    pub(crate) fn push(&mut self, titles: Titles) -> Result<(), AllocError>
+        ensures { OnOk result (self.new ≡ take most_titles (titles ∷ self.old)) }
+    {
+        if self.titles.insert(0, titles).is_err() {
+            return Err(AllocError);
+        }
+        self.titles.truncate(10);
+        Ok(())
+    }
+
+    /// The latest ones, which are gone from it.
+    pub(crate) fn pop(&mut self) -> Option<Titles>
+        ensures { MatchOption result ((self.old ≡ []) × (self.new ≡ [])) (λ titles. self.old ≡ titles ∷ self.new) }
+    {
+        if self.titles.is_empty() {
+            return None;
+        }
+        Some(self.titles.remove(0))
     }
 }

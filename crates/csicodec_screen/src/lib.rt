@@ -2,6 +2,7 @@
 #![tactic(auto)]
 
 mod acts;
+mod areas;
 mod cell;
 mod cells;
 mod drawing;
@@ -13,12 +14,14 @@ mod list;
 mod look;
 mod modes;
 mod moving;
+mod relook;
 mod rows;
 mod screen;
 mod scrolling;
 mod sets;
 mod state;
 mod steps;
+mod titles;
 
 pub use cell::{Cell, Glyph, MARKS};
 pub use cells::Cells;

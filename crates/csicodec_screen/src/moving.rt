@@ -6,7 +6,7 @@ ghost use Rattle.csicodec_screen.specs.Screen.{at, go, place};
 use crate::screen::Screen;
 
 /// A place that is no further than this one.
-fn at_most(place: usize, last: u32) -> u32
+pub(crate) fn at_most(place: usize, last: u32) -> u32
     ensures { result ≡ min place last }
 {
     place.min(last as usize) as u32

@@ -1,11 +1,13 @@
 //! The rows of a screen, and how they move. Rows are counted from 0.
-ghost use Rattle.std.specs.Prelude.{◌≡◌, OnOk, IfOk, map, replicate, set};
+ghost use Rattle.std.specs.{Prelude.◌≡◌, Prelude.OnOk, Prelude.IfOk, Prelude.map, Prelude.replicate, Prelude.set, List.between};
 ghost use Rattle.csicodec_screen.specs.{Lists.down, Lists.filled, Lists.moved, Lists.up, Lists.within, Private.Changes.changed, Private.Changes.parts_moved};
-ghost use Rattle.csicodec_screen.specs.{Private.Changes.row_of, Rows.each_row, Rows.row_with, Rows.segment, Rows.with_segments, Cells.pasted, Screen.row_at};
+ghost use Rattle.csicodec_screen.specs.{Private.Changes.area_copied, Private.Changes.look_behind, Private.Changes.row_of, Areas.relooked, Rows.each_row};
+ghost use Rattle.csicodec_screen.specs.{Rows.row_with, Rows.segment, Rows.with_segments, Cells.pasted, Screen.row_at};
 
 use crate::cell::Cell;
 use crate::cells::{Cells, Change};
 use crate::list::{part, turn};
+use csicodec_base::Cracked;
 use std::alloc::{AllocError, Global};
 use std::marker::Model;
 
@@ -62,6 +64,13 @@ impl Row {
         ensures { self.new ≡ row_with (changed change from to) self.old }
     {
         self.cells.change(change, from, to);
+    }
+
+    /// Looks of its cells from one column to another are set, or turned over.
+    fn relook(&mut self, turns: bool, fields: &Cracked, from: usize, to: usize)
+        ensures { self.new ≡ row_with (relooked (look_behind turns fields.now) from to) self.old }
+    {
+        self.cells.relook(turns, fields, from, to);
     }
 
     /// These cells stand from one column on, and no further than to another.
@@ -170,6 +179,15 @@ fn copy_parts(
     Ok(parts)
 }
 
+/// Copies of the cells of an area.
+fn copy_area_parts(alloc: Global, rows: &[Row], area: Area) -> Result<Vec<Cells>, AllocError>
+    ensures { IfOk result (λ parts. parts.items ≡ map (segment area.first area.last) (between area.top area.bottom rows.now)) }
+{
+    let (start, end) = part(area.top, area.bottom, rows.len());
+    let parts = copy_parts(alloc, &rows[start..end], area.first, area.last)?;
+    Ok(parts)
+}
+
 /// The cells of parts from one to another are all alike.
 fn reset_parts(
     parts: &mut Vec<Cells>,
@@ -217,6 +235,16 @@ fn paste_parts(rows: &mut Vec<Row>, parts: &[Cells], area: Area)
         }
         rows[at].paste(part, area.first, area.last);
         at += 1;
+    }
+}
+
+/// Looks of an area are set, or turned over.
+fn relook_rows(rows: &mut Vec<Row>, turns: bool, fields: &Cracked, area: Area)
+    ensures { rows.new.items ≡ within area.top area.bottom (each_row (relooked (look_behind turns fields.now) area.first area.last)) rows.old.items }
+{
+    let (start, end) = part(area.top, area.bottom, rows.len());
+    for i in start..end {
+        rows[i].relook(turns, fields, area.first, area.last);
     }
 }
 
@@ -333,5 +361,22 @@ impl Rows {
         move_parts(&mut parts, upward, count, Uniform { columns, cell })?;
         paste_parts(&mut self.rows, &parts, area);
         Ok(())
+    }
+
+    /// Cells of an area stand in another.
+    pub(crate) fn copy_area(&mut self, to: Area, area: Area) -> Result<(), AllocError>
+        ensures { OnOk result (self.new ≡ area_copied to area self.old) }
+    {
+        let alloc = *self.rows.allocator();
+        let parts = copy_area_parts(alloc, &self.rows, area)?;
+        paste_parts(&mut self.rows, &parts, to);
+        Ok(())
+    }
+
+    /// Looks of an area are set, or turned over.
+    pub(crate) fn relook(&mut self, turns: bool, fields: &Cracked, area: Area)
+        ensures { self.new ≡ within area.top area.bottom (each_row (relooked (look_behind turns fields.now) area.first area.last)) self.old }
+    {
+        relook_rows(&mut self.rows, turns, fields, area);
     }
 }

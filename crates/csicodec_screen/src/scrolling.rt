@@ -148,7 +148,7 @@ impl Screen {
     }
 
     /// SL, SR, DECIC and DECDC: the columns from this one to the right margin move, in the rows between the margins.
-    pub(crate) fn move_columns(&mut self, leftward: bool, count: u32, column: u32)
+    pub(crate) fn move_columns(&mut self, leftward: bool, count: usize, column: u32)
         ensures { self.new ≡ columns_moved leftward count column self.old }
     {
         let area = Area {
@@ -157,7 +157,7 @@ impl Screen {
             bottom: self.margins.bottom as usize + 1,
             last: self.margins.right as usize + 1,
         };
-        let (paper, count) = (self.paper(), count as usize);
+        let paper = self.paper();
         if leftward {
             self.change(area, Change::Delete(paper, count));
         } else {

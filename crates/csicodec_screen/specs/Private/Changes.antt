@@ -1,7 +1,8 @@
 -- What the code does to the cells of rows, as one value.
-use Rattle.std.specs.Prelude.{ℕ, Bool, List, map, replicate, ◌+◌, ◌-◌, if◌then◌else◌}
-use Rattle.csicodec_screen.specs.{Cells.deleted, Cells.drawn, Cells.emptied, Cells.flooded, Cells.inserted, Cells.joined_by, Lists.moved, Rows.in_line}
-use Rattle.csicodec_screen.specs.{Rows.is_beside, Rows.segment, Rows.with_segments, Screen.edge, declared.cell.Cell.Cell, declared.cells.Change.Change}
+use Rattle.std.specs.Prelude.{ℕ, ℤ, Bool, List, map, take, drop, replicate, Option, ◌+◌, ◌-◌, if◌then◌else◌}
+use Rattle.csicodec_screen.specs.{Areas.by_all, Areas.look_set, Areas.look_turned, Areas.or_zero, Cells.deleted, Cells.drawn, Cells.emptied, Cells.flooded}
+use Rattle.csicodec_screen.specs.{Cells.inserted, Cells.joined_by, Lists.moved, Lists.within, Rows.in_line, Rows.is_beside, Rows.segment, Rows.with_segments}
+use Rattle.csicodec_screen.specs.{Screen.edge, declared.cell.Cell.Cell, declared.cells.Change.Change, declared.look.Look.Look, declared.rows.Area.Area}
 use Rattle.csicodec_screen.specs.{declared.rows.Row.Row, declared.rows.Size.TheVariants.Single, declared.rows.Uniform.Uniform, declared.screen.Screen.Screen}
 use Rattle.csicodec_screen.specs.declared.cells.Change.TheVariants as change
 
@@ -25,3 +26,18 @@ chars_moved x s = if is_beside s then in_line (changed x s.column (edge s + 1)) 
 -- the cells of rows between two columns move up or down
 abbrev pub parts_moved : Bool → ℕ → Cell → ℕ → ℕ → List Row → List Row
 parts_moved upward n x c d rows = with_segments c d (moved upward n (replicate (d - c) x) (map (segment c d) rows)) rows
+
+-- by a number, that sets how characters look or turns it over
+abbrev pub look_changed : Bool → ℕ → Look → Look
+look_changed turns n l = if turns then look_turned n l else look_set n l
+
+-- by the numbers behind an area
+abbrev pub look_behind : Bool → List (Option ℤ) → Look → Look
+look_behind turns fields l = by_all (look_changed turns) (or_zero (drop 4 fields)) l
+
+-- cells of an area stand in another
+abbrev pub area_copied : Area → Area → List Row → List Row
+area_copied to a grid = within to.top to.bottom (with_segments to.first to.last (map (segment a.first a.last) (take (a.bottom - a.top) (drop a.top grid)))) grid
+
+abbrev pub cells_copied : Area → Area → Screen → Screen
+cells_copied to a s = record s { grid = area_copied to a s.grid }

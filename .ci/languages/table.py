@@ -19,6 +19,7 @@ ROWS = [
     ("html", "`html` and overwritten lines of a whole stream", {}),
     ("lines", "the same of lines as they come", {}),
     ("encode", "actions that you build, written as sequences", {}),
+    ("logs", "`check`, `--lines`, `--log` and `--visible`, which are the program's", {}),
     ("explain", "`explain`", {language: "runs the program" for language in ("C", "Rust", "Python")}),
 ]
 BEGIN, END = "| | C | Rust | Python | JavaScript |\n|---|---|---|---|---|\n", "\n\n"

@@ -7,8 +7,8 @@ use Rattle.csicodec_names.specs.{declared.enums.TabulationClear.TabulationClear,
 use Rattle.csicodec_names.specs.{declared.modes.TerminalModeCode.TerminalModeCode}
 use Rattle.csicodec_screen.specs.Draws.{down, left, repeat_last, return, right, stop_at, tab, tab_back, times, up}
 use Rattle.csicodec_screen.specs.Rows.{cleared, in_line, is_beside, is_inside, scrolled, scrolled_down, scrolled_up, spared}
-use Rattle.csicodec_screen.specs.{Cells.deleted, Cells.emptied, Cells.inserted, Cells.plain_pen, Screen.at, Screen.blank_grid, Screen.edge, Screen.first_sets}
-use Rattle.csicodec_screen.specs.{Screen.fresh, Screen.go, Screen.paper, Screen.place, Screen.whole, declared.screen.Screen.Screen}
+use Rattle.csicodec_screen.specs.Screen.{at, blank_grid, edge, first_sets, fresh, go, background, place, whole}
+use Rattle.csicodec_screen.specs.{Cells.deleted, Cells.emptied, Cells.inserted, Cells.plain_pen, declared.screen.Screen.Screen}
 use Rattle.csicodec_names.specs.declared.color.ColorSpec.TheVariants as color
 use Rattle.csicodec_actions.specs.Devices as device
 
@@ -100,7 +100,7 @@ of_cursor (Cursor.CursorStyle x) s = s
 
 -- cells of the cursor's row from column c to d become empty; with `spares` but for what is protected
 abbrev pub erase : Bool → ℕ → ℕ → Screen → Screen
-erase spares c d s = in_line (emptied spares (paper s) c d) s
+erase spares c d s = in_line (emptied spares (background s) c d) s
 
 -- rows from a to b
 abbrev pub erase_rows : Bool → ℕ → ℕ → Screen → Screen
@@ -124,8 +124,8 @@ abbrev pub lines_moved : Bool → ℕ → Screen → Screen
 lines_moved upward n s = if is_inside s then at s.row s.margins.left (scrolled upward n s.row s) else s
 
 abbrev pub of_edit : Edit → Screen → Screen
-of_edit (Edit.InsertCharacter n) s = if is_beside s then in_line (inserted (paper s) n s.column (edge s + 1)) s else s
-of_edit (Edit.DeleteCharacter n) s = if is_beside s then in_line (deleted (paper s) n s.column (edge s + 1)) s else s
+of_edit (Edit.InsertCharacter n) s = if is_beside s then in_line (inserted (background s) n s.column (edge s + 1)) s else s
+of_edit (Edit.DeleteCharacter n) s = if is_beside s then in_line (deleted (background s) n s.column (edge s + 1)) s else s
 of_edit (Edit.InsertLine n) s = lines_moved false n s
 of_edit (Edit.DeleteLine n) s = lines_moved true n s
 of_edit (Edit.EraseCharacter n) s = erase false s.column (min (s.column + n) s.columns) s

@@ -4,8 +4,8 @@ use Rattle.csicodec_names.specs.{declared.color.Blink.Blink, declared.color.Unde
 use Rattle.csicodec_names.specs.{declared.enums.EraseInLine.EraseInLine}
 use Rattle.csicodec_screen.specs.{Acts.erase_display, Acts.erase_line, Acts.left_and_right, Acts.of_one, Cells.cell_with, Cells.emptied, Cells.flooded}
 use Rattle.csicodec_screen.specs.{Draws.columns_of, Draws.glyph, Lists.within, Rows.columns_moved, Rows.is_inside, Rows.over, Rows.segment, Rows.with_segments}
-use Rattle.csicodec_screen.specs.{Screen.paper, declared.cell.Cell.Cell, declared.cell.Cell.TheVariants.Char, declared.look.Look.Look, declared.rows.Area.Area}
-use Rattle.csicodec_screen.specs.{declared.screen.Screen.Screen}
+use Rattle.csicodec_screen.specs.{Screen.background, declared.cell.Cell.Cell, declared.cell.Cell.TheVariants.Char, declared.look.Look.Look}
+use Rattle.csicodec_screen.specs.{declared.rows.Area.Area, declared.screen.Screen.Screen}
 use Rattle.csicodec_sequences.specs.Parts.{Parts, parts_of}
 use Rattle.csicodec_tokens.specs.{Fields.fields_of, declared.param.CsiParam.CsiParam}
 use Rattle.csicodec_names.specs.declared.color.Blink.TheVariants as blinking
@@ -64,7 +64,7 @@ filled c a s = if is_seen c && columns_of c == 1 then on_area (flooded (Char (gl
 
 -- DECERA, and DECSERA, which spares what is protected
 abbrev pub erased : Bool → Area → Screen → Screen
-erased spares a s = on_area (emptied spares (paper s)) a s
+erased spares a s = on_area (emptied spares (background s)) a s
 
 -- DECCRA: to a place, as far as the screen goes
 abbrev pub copied_within : ℕ → ℕ → ℕ → ℕ → Area → Screen → Screen
@@ -133,18 +133,18 @@ or_zero [] = None ∷ []
 or_zero (n ∷ fields) = n ∷ fields
 
 -- from column c to d, of what was written
-abbrev pub relooked : (Look → Look) → ℕ → ℕ → List Cell → List Cell
-relooked f c d cells = within c d (map (cell_with f)) cells
+abbrev pub attributes_changed : (Look → Look) → ℕ → ℕ → List Cell → List Cell
+attributes_changed f c d cells = within c d (map (cell_with f)) cells
 
 -- as a stream of places an area goes from its first corner to its last, over whole rows between
 abbrev pub streamed : (Look → Look) → Area → Screen → Screen
-streamed f a s = if a.bottom == a.top + 1 then on_area (relooked f) a s
-    else over a.top (a.top + 1) (relooked f a.first (behind_columns s))
-    (over (a.top + 1) (a.bottom - 1) (relooked f (first_column s) (behind_columns s))
-    (over (a.bottom - 1) a.bottom (relooked f (first_column s) a.last) s))
+streamed f a s = if a.bottom == a.top + 1 then on_area (attributes_changed f) a s
+    else over a.top (a.top + 1) (attributes_changed f a.first (behind_columns s))
+    (over (a.top + 1) (a.bottom - 1) (attributes_changed f (first_column s) (behind_columns s))
+    (over (a.bottom - 1) a.bottom (attributes_changed f (first_column s) a.last) s))
 
 abbrev pub looked : (Look → Look) → Area → Screen → Screen
-looked f a s = if s.modes.rectangles then on_area (relooked f) a s
+looked f a s = if s.modes.rectangles then on_area (attributes_changed f) a s
     else if nat_lt a.top a.bottom then streamed f a s else s
 
 -- ---- the other sequences, by marker, intermediate and final byte

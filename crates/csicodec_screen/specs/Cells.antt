@@ -87,7 +87,7 @@ abbrev pub cell_at : ℕ → List Cell → Cell
 cell_at c cells = get_or cells c nothing
 
 abbrev pub blanks : ColorSpec → ℕ → List Cell
-blanks paper n = replicate n (Empty paper)
+blanks background n = replicate n (Empty background)
 
 -- both columns of a character that is cut in two are spaces of its look
 abbrev pub first_half : Cell → Cell
@@ -115,20 +115,20 @@ between c d cells = take (d - c) (drop c cells)
 
 -- in a part of a row what is unprotected is empty
 abbrev pub unprotected : ColorSpec → Bool → List Cell → List Cell
-unprotected paper keeps [] = []
-unprotected paper keeps (x ∷ cells) = (if is_protected x || (keeps && is_behind x) then x else Empty paper)
-    ∷ unprotected paper (is_protected x) cells
+unprotected background keeps [] = []
+unprotected background keeps (x ∷ cells) = (if is_protected x || (keeps && is_behind x) then x else Empty background)
+    ∷ unprotected background (is_protected x) cells
 
 -- from column c to d all are empty; where it spares, but for what is protected
 abbrev pub emptied : Bool → ColorSpec → ℕ → ℕ → List Cell → List Cell
-emptied spares paper c d cells = within c d (if spares then unprotected paper false else filled (Empty paper)) (cut_twice c d cells)
+emptied spares background c d cells = within c d (if spares then unprotected background false else filled (Empty background)) (cut_twice c d cells)
 
 -- ICH (ECMA-48, 8.3.64) and DCH (8.3.26) within the columns from c to d: n empty cells come in at column c, or at the end; no character is left half
 abbrev pub inserted : ColorSpec → ℕ → ℕ → ℕ → List Cell → List Cell
-inserted paper n c d cells = within c d (down n (Empty paper)) (cut (d - min n (d - c)) (cut_twice c d cells))
+inserted background n c d cells = within c d (down n (Empty background)) (cut (d - min n (d - c)) (cut_twice c d cells))
 
 abbrev pub deleted : ColorSpec → ℕ → ℕ → ℕ → List Cell → List Cell
-deleted paper n c d cells = within c d (up n (Empty paper)) (cut (c + min n (d - c)) (cut_twice c d cells))
+deleted background n c d cells = within c d (up n (Empty background)) (cut (c + min n (d - c)) (cut_twice c d cells))
 
 -- from column c to d each is x
 abbrev pub flooded : Cell → ℕ → ℕ → List Cell → List Cell

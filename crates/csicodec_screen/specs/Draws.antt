@@ -2,7 +2,7 @@
 use Rattle.std.specs.Prelude.{ℕ, zero, suc, min, max, Bool, true, false, List, take, drop, set, get_or, unwrap_or, Option, Some, None, nat_le, nat_lt, ◌+◌, ◌-◌, ◌/◌, ◌==◌, ◌∷◌, ◌&&◌, [], if◌then◌else◌}
 use Rattle.csicodec_looks.specs.Cells.{narrowed}
 use Rattle.csicodec_screen.specs.{Cells.bare, Cells.drawn, Cells.inserted, Cells.joined_by, Rows.in_line, Rows.index, Rows.is_beside, Rows.scrolled_down}
-use Rattle.csicodec_screen.specs.{Screen.at, Screen.edge, Screen.paper, declared.cell.Glyph.Glyph, declared.screen.Screen.Screen, declared.sets.Set.Set}
+use Rattle.csicodec_screen.specs.{Screen.at, Screen.edge, Screen.background, declared.cell.Glyph.Glyph, declared.screen.Screen.Screen, declared.sets.Set.Set}
 use Rattle.csicodec_screen.specs.{declared.sets.Set.TheVariants.Ascii, declared.sets.Set.TheVariants.British, declared.sets.Set.TheVariants.Graphics}
 use Rattle.csicodec_screen.specs.{declared.sets.Sets.Sets, declared.sets.Slot.Slot}
 use Rattle.unicode_width.specs.Width.{char_width}
@@ -56,7 +56,7 @@ roomy w s = if is_beyond w s && s.modes.autowrap then wrap s else s
 
 -- in insert mode, within left and right margins, what stands from the cursor on moves right
 abbrev pub made_room : ℕ → Screen → Screen
-made_room w s = if s.modes.inserts && is_beside s then in_line (inserted (paper s) w s.column (edge s + 1)) s else s
+made_room w s = if s.modes.inserts && is_beside s then in_line (inserted (background s) w s.column (edge s + 1)) s else s
 
 abbrev pub put_here : ℕ → ℕ → Screen → Screen
 put_here w c s = in_line (drawn (w == 2) (glyph c s) s.column (s.column + w)) s

@@ -1,7 +1,7 @@
 -- What moves rows, and what is done to parts of many rows.
 use Rattle.std.specs.Prelude.{ℕ, min, not, Bool, true, false, List, map, take, nat_le, ◌+◌, ◌-◌, ◌==◌, ◌∷◌, ◌&&◌, [], if◌then◌else◌}
 use Rattle.csicodec_screen.specs.{Cells.between, Cells.blanks, Cells.cut_twice, Cells.deleted, Cells.emptied, Cells.inserted, Cells.pasted, Lists.filled}
-use Rattle.csicodec_screen.specs.{Lists.moved, Lists.onto, Lists.within, Screen.blank_row, Screen.paper, declared.cell.Cell.Cell, declared.rows.Row.Row}
+use Rattle.csicodec_screen.specs.{Lists.moved, Lists.onto, Lists.within, Screen.blank_row, Screen.background, declared.cell.Cell.Cell, declared.rows.Row.Row}
 use Rattle.csicodec_screen.specs.{declared.screen.Screen.Screen}
 
 -- ---- rows that move between the margins
@@ -28,12 +28,12 @@ with_segments c d (x ∷ segments) (row ∷ rows) = record row { cells = pasted 
 
 -- rows move with their size
 abbrev pub moved_rows : Bool → ℕ → Screen → List Row → List Row
-moved_rows upward n s rows = moved upward n (blank_row (paper s) s.columns) rows
+moved_rows upward n s rows = moved upward n (blank_row (background s) s.columns) rows
 
 -- or the cells between left and right margins
 abbrev pub moved_parts : Bool → ℕ → Screen → List Row → List Row
 moved_parts upward n s rows = with_segments s.margins.left (s.margins.right + 1)
-    (moved upward n (blanks (paper s) (s.margins.right + 1 - s.margins.left)) (map (segment s.margins.left (s.margins.right + 1)) rows)) rows
+    (moved upward n (blanks (background s) (s.margins.right + 1 - s.margins.left)) (map (segment s.margins.left (s.margins.right + 1)) rows)) rows
 
 -- rows from this one to the bottom margin move up or down by n, and blank ones come in
 abbrev pub scrolled : Bool → ℕ → ℕ → Screen → Screen
@@ -81,15 +81,15 @@ in_line f s = over s.row (s.row + 1) f s
 -- rows from a to b are blank and of single width
 abbrev pub cleared : ℕ → ℕ → Screen → Screen
 cleared a b s = record s {
-  grid = within a b (filled (blank_row (paper s) s.columns)) s.grid;
+  grid = within a b (filled (blank_row (background s) s.columns)) s.grid;
   wrapped = within a b (filled false) s.wrapped;
 }
 
 -- rows from a to b are empty but for what is protected (DECSED, DEC VT510)
 abbrev pub spared : ℕ → ℕ → Screen → Screen
-spared a b s = over a b (emptied true (paper s) 0 s.columns) s
+spared a b s = over a b (emptied true (background s) 0 s.columns) s
 
 -- SL and SR (8.3.121, 8.3.135), DECIC and DECDC: the columns from c to the right margin, in the rows between the margins
 abbrev pub columns_moved : Bool → ℕ → ℕ → Screen → Screen
 columns_moved leftward n c s = over s.margins.top (s.margins.bottom + 1)
-    (if leftward then deleted (paper s) n c (s.margins.right + 1) else inserted (paper s) n c (s.margins.right + 1)) s
+    (if leftward then deleted (background s) n c (s.margins.right + 1) else inserted (background s) n c (s.margins.right + 1)) s

@@ -34,10 +34,10 @@ abbrev pub whole : ℕ → ℕ → Margins
 whole rows columns = record { top = 0; bottom = rows - 1; left = 0; right = columns - 1 }
 
 abbrev pub blank_row : ColorSpec → ℕ → Row
-blank_row paper columns = record { cells = blanks paper columns; size = Single }
+blank_row background columns = record { cells = blanks background columns; size = Single }
 
 abbrev pub blank_grid : ColorSpec → ℕ → ℕ → List Row
-blank_grid paper rows columns = replicate rows (blank_row paper columns)
+blank_grid background rows columns = replicate rows (blank_row background columns)
 
 -- at every eighth column from c on, but for column 0
 abbrev pub eighths : ℕ → ℕ → List Bool
@@ -81,8 +81,8 @@ abbrev pub row_at : ℕ → List Row → Row
 row_at r grid = get_or grid r (blank_row color.Default 0)
 
 -- the background that blanks have (xterm, "bce")
-abbrev pub paper : Screen → ColorSpec
-paper s = s.pen.look.background
+abbrev pub background : Screen → ColorSpec
+background s = s.pen.look.background
 
 -- the last column of a row: of one that is shown in double width, that of its first half
 abbrev pub last_of : ℕ → Size → ℕ

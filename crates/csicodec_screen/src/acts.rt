@@ -225,7 +225,7 @@ impl Screen {
     fn erase(&mut self, spares: bool, from: usize, to: usize)
         ensures { self.new ≡ erase spares from to self.old }
     {
-        self.change_line(Change::Empty(spares, self.paper()), from, to);
+        self.change_line(Change::Empty(spares, self.background()), from, to);
     }
 
     /// Rows from one to another are.
@@ -306,10 +306,10 @@ impl Screen {
     {
         match *edit {
             Edit::InsertCharacter(count) => {
-                self.move_chars(Change::Insert(self.paper(), count as usize));
+                self.move_chars(Change::Insert(self.background(), count as usize));
             }
             Edit::DeleteCharacter(count) => {
-                self.move_chars(Change::Delete(self.paper(), count as usize));
+                self.move_chars(Change::Delete(self.background(), count as usize));
             }
             Edit::InsertLine(count) => self.move_lines(false, count)?,
             Edit::DeleteLine(count) => self.move_lines(true, count)?,

@@ -1,13 +1,13 @@
 //! What is done to rectangular areas, and by the other sequences that have no action of their own.
 ghost use Rattle.std.specs.Prelude.{◌≡◌, ◌<◌, ◌==◌, IfOk, None, OnOk, Some, if◌then◌else◌};
-ghost use Rattle.csicodec_screen.specs.Areas.{apostrophe_finals, area_at, bare_finals, behind_columns, behind_rows, copy_by, erase_by, fill_by, look_by, look_set, look_turned, by_byte, by_final, copied, display_of, dollar_finals, erased, extent, filled, first_column, first_row, is_area, is_seen, line_of, looked, nth, of_columns, of_unknown, on_area, private_finals, protect, quote_finals, relooked, side, space_finals, star_finals, streamed};
+ghost use Rattle.csicodec_screen.specs.Areas.{apostrophe_finals, area_at, bare_finals, behind_columns, behind_rows, copy_by, erase_by, fill_by, look_by, look_set, look_turned, by_byte, by_final, copied, display_of, dollar_finals, erased, extent, filled, first_column, first_row, is_area, is_seen, line_of, looked, nth, of_columns, of_unknown, on_area, private_finals, protect, quote_finals, attributes_changed, side, space_finals, star_finals, streamed};
 ghost use Rattle.csicodec_screen.specs.{Private.Changes.cells_copied, Private.Changes.changed, Private.Changes.look_behind, Rows.over};
 ghost use Rattle.csicodec_tokens.specs.Fields.{fields_of};
 
+use crate::attributes::nth;
 use crate::cell::{Cell, Glyph};
 use crate::cells::Change;
 use crate::drawing::columns_of;
-use crate::relook::nth;
 use crate::rows::Area;
 use crate::screen::Screen;
 use csicodec_base::laws::fields_in_turn;
@@ -159,7 +159,7 @@ impl Screen {
     fn erase_area(&mut self, spares: bool, area: Area)
         ensures { self.new ≡ erased spares area self.old }
     {
-        self.change_area(area, Change::Empty(spares, self.paper()));
+        self.change_area(area, Change::Empty(spares, self.background()));
     }
 
     /// SL, SR, DECIC and DECDC: where the cursor is within all margins.
@@ -245,28 +245,28 @@ impl Screen {
     }
 
     /// Looks of an area change.
-    fn relook(&mut self, turns: bool, fields: &Cracked, area: Area)
-        ensures { self.new ≡ over area.top area.bottom (relooked (look_behind turns fields.now) area.first area.last) self.old }
+    fn change_attributes(&mut self, turns: bool, fields: &Cracked, area: Area)
+        ensures { self.new ≡ over area.top area.bottom (attributes_changed (look_behind turns fields.now) area.first area.last) self.old }
     {
-        self.grid.relook(turns, fields, area);
+        self.grid.change_attributes(turns, fields, area);
     }
 
     /// The same, if there is a place in the area.
-    fn relook_some(&mut self, turns: bool, fields: &Cracked, area: Area)
-        ensures { self.new ≡ on_area (relooked (look_behind turns fields.now)) area self.old }
+    fn change_some_attributes(&mut self, turns: bool, fields: &Cracked, area: Area)
+        ensures { self.new ≡ on_area (attributes_changed (look_behind turns fields.now)) area self.old }
     {
         if area.is_some() {
-            self.relook(turns, fields, area);
+            self.change_attributes(turns, fields, area);
         }
     }
 
     /// The same of a stream of places, from the area's first corner to its last, over whole rows between.
-    fn relook_stream(&mut self, turns: bool, fields: &Cracked, area: Area)
+    fn change_stream_attributes(&mut self, turns: bool, fields: &Cracked, area: Area)
         requires { area.top < area.bottom }
         ensures { self.new ≡ streamed (look_behind turns fields.now) area self.old }
     {
         if area.bottom == area.top + 1 {
-            self.relook_some(turns, fields, area);
+            self.change_some_attributes(turns, fields, area);
             return;
         }
         let (first, behind) = (self.first_column(), self.behind_columns());
@@ -286,19 +286,19 @@ impl Screen {
             last: behind,
             ..area
         };
-        self.relook(turns, fields, end);
-        self.relook(turns, fields, between);
-        self.relook(turns, fields, begin);
+        self.change_attributes(turns, fields, end);
+        self.change_attributes(turns, fields, between);
+        self.change_attributes(turns, fields, begin);
     }
 
     /// DECCARA and DECRARA: looks of an area are set, or turned over.
-    fn relook_area(&mut self, turns: bool, fields: &Cracked, area: Area)
+    fn change_area_attributes(&mut self, turns: bool, fields: &Cracked, area: Area)
         ensures { self.new ≡ looked (look_behind turns fields.now) area self.old }
     {
         if self.modes.rectangles {
-            self.relook_some(turns, fields, area);
+            self.change_some_attributes(turns, fields, area);
         } else if area.top < area.bottom {
-            self.relook_stream(turns, fields, area);
+            self.change_stream_attributes(turns, fields, area);
         }
     }
 
@@ -396,7 +396,7 @@ impl Screen {
         ensures { self.new ≡ look_by look_set fields.now self.old }
     {
         let area = self.area_at(0, fields);
-        self.relook_area(false, fields, area);
+        self.change_area_attributes(false, fields, area);
     }
 
     /// DECRARA by its numbers.
@@ -404,7 +404,7 @@ impl Screen {
         ensures { self.new ≡ look_by look_turned fields.now self.old }
     {
         let area = self.area_at(0, fields);
-        self.relook_area(true, fields, area);
+        self.change_area_attributes(true, fields, area);
     }
 
     /// DECFRA, DECERA, DECSERA, DECCRA, DECCARA and DECRARA.

@@ -3,8 +3,8 @@ ghost use Rattle.std.specs.Prelude.{◌≡◌, ◌||◌, ◌&&◌, if◌then◌e
 ghost use Rattle.csicodec_screen.specs.Cells.{bare, cell_with, first_half, glyph_marked, glyph_with, is_behind, is_protected, is_wide, marked, second_half};
 ghost use Rattle.csicodec_screen.specs.{declared.cell.Cell.TheVariants.Empty, Private.Changes.look_behind};
 
+use crate::attributes::change_attributes;
 use crate::look::Pen;
-use crate::relook::relook;
 use csicodec_base::{ColorSpec, Cracked};
 
 /// A character has no more marks.
@@ -44,14 +44,12 @@ impl Glyph {
         }
         self
     }
-}
 
-impl Glyph {
     /// How it looks is set, or turned over.
-    fn relooked(mut self, turns: bool, fields: &Cracked) -> Glyph
+    fn with_attributes(mut self, turns: bool, fields: &Cracked) -> Glyph
         ensures { result ≡ glyph_with (look_behind turns fields.now) self }
     {
-        self.pen.look = relook(turns, fields, self.pen.look);
+        self.pen.look = change_attributes(turns, fields, self.pen.look);
         self
     }
 }
@@ -115,13 +113,13 @@ impl Cell {
     }
 
     /// It is empty, unless it is protected, or stands behind a cell that is.
-    pub(crate) fn spared(self, keeps: bool, paper: ColorSpec) -> Cell
-        ensures { result ≡ (if is_protected self || (keeps && is_behind self) then self else Empty paper) }
+    pub(crate) fn spared(self, keeps: bool, background: ColorSpec) -> Cell
+        ensures { result ≡ (if is_protected self || (keeps && is_behind self) then self else Empty background) }
     {
         if self.is_protected() || (keeps && self.is_behind()) {
             self
         } else {
-            Cell::Empty(paper)
+            Cell::Empty(background)
         }
     }
 
@@ -137,12 +135,12 @@ impl Cell {
     }
 
     /// How its character looks is set, or turned over.
-    pub(crate) fn relooked(self, turns: bool, fields: &Cracked) -> Cell
+    pub(crate) fn with_attributes(self, turns: bool, fields: &Cracked) -> Cell
         ensures { result ≡ cell_with (look_behind turns fields.now) self }
     {
         match self {
-            Cell::Char(glyph) => Cell::Char(glyph.relooked(turns, fields)),
-            Cell::Wide(glyph) => Cell::Wide(glyph.relooked(turns, fields)),
+            Cell::Char(glyph) => Cell::Char(glyph.with_attributes(turns, fields)),
+            Cell::Wide(glyph) => Cell::Wide(glyph.with_attributes(turns, fields)),
             Cell::Empty(_) | Cell::Behind => self,
         }
     }

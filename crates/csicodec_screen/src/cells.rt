@@ -1,7 +1,7 @@
 //! The cells of a row, and how they are edited. Columns are counted from 0.
 ghost use Rattle.std.specs.Prelude.{◌≡◌, OnOk, IfOk, false, replicate};
 ghost use Rattle.csicodec_screen.specs.Cells.{between, cell_at, cut, cut_twice, deleted, drawn, emptied, flooded, inserted, joined_by, pasted, unprotected};
-ghost use Rattle.csicodec_screen.specs.{Lists.overlaid, Lists.within, Private.Changes.changed, Private.Changes.look_behind, Areas.relooked};
+ghost use Rattle.csicodec_screen.specs.{Lists.overlaid, Lists.within, Private.Changes.changed, Private.Changes.look_behind, Areas.attributes_changed};
 
 use crate::cell::{Cell, Glyph};
 use crate::list::{fill, move_down, move_up, part, put};
@@ -27,14 +27,14 @@ pub(crate) enum Change {
 }
 
 /// The cells from one column to another that aren't protected are empty.
-fn empty_unprotected(cells: &mut Vec<Cell>, from: usize, to: usize, paper: ColorSpec)
-    ensures { cells.new.items ≡ within from to (unprotected paper false) cells.old.items }
+fn empty_unprotected(cells: &mut Vec<Cell>, from: usize, to: usize, background: ColorSpec)
+    ensures { cells.new.items ≡ within from to (unprotected background false) cells.old.items }
 {
     let (start, end) = part(from, to, cells.len());
     let mut keeps = false;
     for i in start..end {
         let cell = cells[i];
-        cells[i] = cell.spared(keeps, paper);
+        cells[i] = cell.spared(keeps, background);
         keeps = cell.is_protected();
     }
 }
@@ -65,13 +65,19 @@ fn copy_part(alloc: Global, cells: &[Cell], from: usize, to: usize) -> Result<Ve
 }
 
 /// Looks of the cells from one column to another are set, or turned over.
-fn relook_cells(cells: &mut Vec<Cell>, turns: bool, fields: &Cracked, from: usize, to: usize)
-    ensures { cells.new.items ≡ relooked (look_behind turns fields.now) from to cells.old.items }
+fn change_cell_attributes(
+    cells: &mut Vec<Cell>,
+    turns: bool,
+    fields: &Cracked,
+    from: usize,
+    to: usize,
+)
+    ensures { cells.new.items ≡ attributes_changed (look_behind turns fields.now) from to cells.old.items }
 {
     let (start, end) = part(from, to, cells.len());
     for i in start..end {
         let cell = cells[i];
-        cells[i] = cell.relooked(turns, fields);
+        cells[i] = cell.with_attributes(turns, fields);
     }
 }
 
@@ -146,31 +152,31 @@ impl Cells {
         self.cut(to);
     }
 
-    fn empty(&mut self, spares: bool, paper: ColorSpec, from: usize, to: usize)
-        ensures { self.new ≡ emptied spares paper from to self.old }
+    fn empty(&mut self, spares: bool, background: ColorSpec, from: usize, to: usize)
+        ensures { self.new ≡ emptied spares background from to self.old }
     {
         self.cut_twice(from, to);
         if spares {
-            empty_unprotected(&mut self.cells, from, to, paper);
+            empty_unprotected(&mut self.cells, from, to, background);
         } else {
-            fill(&mut self.cells, from, to, Cell::Empty(paper));
+            fill(&mut self.cells, from, to, Cell::Empty(background));
         }
     }
 
-    fn insert(&mut self, paper: ColorSpec, count: usize, from: usize, to: usize)
-        ensures { self.new ≡ inserted paper count from to self.old }
+    fn insert(&mut self, background: ColorSpec, count: usize, from: usize, to: usize)
+        ensures { self.new ≡ inserted background count from to self.old }
     {
         self.cut_twice(from, to);
         self.cut(to.saturating_sub(count.min(to.saturating_sub(from))));
-        move_down(&mut self.cells, from, to, count, Cell::Empty(paper));
+        move_down(&mut self.cells, from, to, count, Cell::Empty(background));
     }
 
-    fn delete(&mut self, paper: ColorSpec, count: usize, from: usize, to: usize)
-        ensures { self.new ≡ deleted paper count from to self.old }
+    fn delete(&mut self, background: ColorSpec, count: usize, from: usize, to: usize)
+        ensures { self.new ≡ deleted background count from to self.old }
     {
         self.cut_twice(from, to);
         self.cut(from + count.min(to.saturating_sub(from)));
-        move_up(&mut self.cells, from, to, count, Cell::Empty(paper));
+        move_up(&mut self.cells, from, to, count, Cell::Empty(background));
     }
 
     fn flood(&mut self, cell: Cell, from: usize, to: usize)
@@ -239,10 +245,16 @@ impl Cells {
     }
 
     /// Looks of those from one column to another are set, or turned over.
-    pub(crate) fn relook(&mut self, turns: bool, fields: &Cracked, from: usize, to: usize)
-        ensures { self.new ≡ relooked (look_behind turns fields.now) from to self.old }
+    pub(crate) fn change_attributes(
+        &mut self,
+        turns: bool,
+        fields: &Cracked,
+        from: usize,
+        to: usize,
+    )
+        ensures { self.new ≡ attributes_changed (look_behind turns fields.now) from to self.old }
     {
-        relook_cells(&mut self.cells, turns, fields, from, to);
+        change_cell_attributes(&mut self.cells, turns, fields, from, to);
     }
 
     /// This is done to them from one column to another.
@@ -250,9 +262,9 @@ impl Cells {
         ensures { self.new ≡ changed change from to self.old }
     {
         match change {
-            Change::Empty(spares, paper) => self.empty(spares, paper, from, to),
-            Change::Insert(paper, count) => self.insert(paper, count, from, to),
-            Change::Delete(paper, count) => self.delete(paper, count, from, to),
+            Change::Empty(spares, background) => self.empty(spares, background, from, to),
+            Change::Insert(background, count) => self.insert(background, count, from, to),
+            Change::Delete(background, count) => self.delete(background, count, from, to),
             Change::Flood(cell) => self.flood(cell, from, to),
             Change::Draw(wide, glyph) => self.draw(wide, glyph, from, to),
             Change::Join(mark) => self.join(mark, from),

@@ -66,7 +66,7 @@ impl Screen {
         ensures { self.new ≡ made_room width self.old }
     {
         if self.modes.inserts && self.is_beside() {
-            let change = Change::Insert(self.paper(), width as usize);
+            let change = Change::Insert(self.background(), width as usize);
             self.change_line(change, self.column as usize, self.edge() as usize + 1);
         }
     }

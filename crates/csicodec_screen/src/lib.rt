@@ -3,6 +3,7 @@
 
 mod acts;
 mod areas;
+mod attributes;
 mod cell;
 mod cells;
 mod drawing;
@@ -14,7 +15,6 @@ mod list;
 mod look;
 mod modes;
 mod moving;
-mod relook;
 mod rows;
 mod screen;
 mod scrolling;

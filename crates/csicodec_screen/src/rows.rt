@@ -1,7 +1,7 @@
 //! The rows of a screen, and how they move. Rows are counted from 0.
 ghost use Rattle.std.specs.{Prelude.◌≡◌, Prelude.OnOk, Prelude.IfOk, Prelude.map, Prelude.replicate, Prelude.set, List.between};
 ghost use Rattle.csicodec_screen.specs.{Lists.down, Lists.filled, Lists.moved, Lists.up, Lists.within, Private.Changes.changed, Private.Changes.parts_moved};
-ghost use Rattle.csicodec_screen.specs.{Private.Changes.area_copied, Private.Changes.look_behind, Private.Changes.row_of, Areas.relooked, Rows.each_row};
+ghost use Rattle.csicodec_screen.specs.{Private.Changes.area_copied, Private.Changes.look_behind, Private.Changes.row_of, Areas.attributes_changed, Rows.each_row};
 ghost use Rattle.csicodec_screen.specs.{Rows.row_with, Rows.segment, Rows.with_segments, Cells.pasted, Screen.row_at};
 
 use crate::cell::Cell;
@@ -67,10 +67,10 @@ impl Row {
     }
 
     /// Looks of its cells from one column to another are set, or turned over.
-    fn relook(&mut self, turns: bool, fields: &Cracked, from: usize, to: usize)
-        ensures { self.new ≡ row_with (relooked (look_behind turns fields.now) from to) self.old }
+    fn change_attributes(&mut self, turns: bool, fields: &Cracked, from: usize, to: usize)
+        ensures { self.new ≡ row_with (attributes_changed (look_behind turns fields.now) from to) self.old }
     {
-        self.cells.relook(turns, fields, from, to);
+        self.cells.change_attributes(turns, fields, from, to);
     }
 
     /// These cells stand from one column on, and no further than to another.
@@ -239,12 +239,12 @@ fn paste_parts(rows: &mut Vec<Row>, parts: &[Cells], area: Area)
 }
 
 /// Looks of an area are set, or turned over.
-fn relook_rows(rows: &mut Vec<Row>, turns: bool, fields: &Cracked, area: Area)
-    ensures { rows.new.items ≡ within area.top area.bottom (each_row (relooked (look_behind turns fields.now) area.first area.last)) rows.old.items }
+fn change_row_attributes(rows: &mut Vec<Row>, turns: bool, fields: &Cracked, area: Area)
+    ensures { rows.new.items ≡ within area.top area.bottom (each_row (attributes_changed (look_behind turns fields.now) area.first area.last)) rows.old.items }
 {
     let (start, end) = part(area.top, area.bottom, rows.len());
     for i in start..end {
-        rows[i].relook(turns, fields, area.first, area.last);
+        rows[i].change_attributes(turns, fields, area.first, area.last);
     }
 }
 
@@ -374,9 +374,9 @@ impl Rows {
     }
 
     /// Looks of an area are set, or turned over.
-    pub(crate) fn relook(&mut self, turns: bool, fields: &Cracked, area: Area)
-        ensures { self.new ≡ within area.top area.bottom (each_row (relooked (look_behind turns fields.now) area.first area.last)) self.old }
+    pub(crate) fn change_attributes(&mut self, turns: bool, fields: &Cracked, area: Area)
+        ensures { self.new ≡ within area.top area.bottom (each_row (attributes_changed (look_behind turns fields.now) area.first area.last)) self.old }
     {
-        relook_rows(&mut self.rows, turns, fields, area);
+        change_row_attributes(&mut self.rows, turns, fields, area);
     }
 }

@@ -1,6 +1,6 @@
 //! The state of a terminal's screen. Rows and columns are counted from 0.
 ghost use Rattle.std.specs.Prelude.{◌≡◌, IfOk};
-ghost use Rattle.csicodec_screen.specs.{Screen.blank_row, Screen.edge, Screen.fresh, Screen.last_column, Screen.last_of, Screen.paper, Private.Changes.row_of};
+ghost use Rattle.csicodec_screen.specs.{Screen.blank_row, Screen.edge, Screen.fresh, Screen.last_column, Screen.last_of, Screen.background, Private.Changes.row_of};
 
 use crate::cell::Cell;
 use crate::flags::Flags;
@@ -96,19 +96,19 @@ impl Screen {
     }
 
     /// The background that blanks have.
-    pub(crate) fn paper(&self) -> ColorSpec
-        ensures { result ≡ paper self.now }
+    pub(crate) fn background(&self) -> ColorSpec
+        ensures { result ≡ background self.now }
     {
         self.pen.look.background
     }
 
     /// What a blank row is.
     pub(crate) fn blank(&self) -> Uniform
-        ensures { row_of result ≡ blank_row (paper self.now) self.now.columns }
+        ensures { row_of result ≡ blank_row (background self.now) self.now.columns }
     {
         Uniform {
             columns: self.columns as usize,
-            cell: Cell::Empty(self.paper()),
+            cell: Cell::Empty(self.background()),
         }
     }
 

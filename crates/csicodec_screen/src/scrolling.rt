@@ -55,7 +55,7 @@ impl Screen {
             bottom: to,
             last: self.margins.right as usize + 1,
         };
-        let empty = Cell::Empty(self.paper());
+        let empty = Cell::Empty(self.background());
         self.grid.scroll_parts(upward, count as usize, area, empty)
     }
 
@@ -144,7 +144,7 @@ impl Screen {
             bottom: to,
             last: self.columns as usize,
         };
-        self.change(area, Change::Empty(true, self.paper()));
+        self.change(area, Change::Empty(true, self.background()));
     }
 
     /// SL, SR, DECIC and DECDC: the columns from this one to the right margin move, in the rows between the margins.
@@ -157,11 +157,11 @@ impl Screen {
             bottom: self.margins.bottom as usize + 1,
             last: self.margins.right as usize + 1,
         };
-        let paper = self.paper();
+        let background = self.background();
         if leftward {
-            self.change(area, Change::Delete(paper, count));
+            self.change(area, Change::Delete(background, count));
         } else {
-            self.change(area, Change::Insert(paper, count));
+            self.change(area, Change::Insert(background, count));
         }
     }
 }

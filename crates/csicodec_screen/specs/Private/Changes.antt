@@ -8,9 +8,9 @@ use Rattle.csicodec_screen.specs.declared.cells.Change.TheVariants as change
 
 -- to those from column c to d
 abbrev pub changed : Change → ℕ → ℕ → List Cell → List Cell
-changed (change.Empty spares paper) c d cells = emptied spares paper c d cells
-changed (change.Insert paper n) c d cells = inserted paper n c d cells
-changed (change.Delete paper n) c d cells = deleted paper n c d cells
+changed (change.Empty spares background) c d cells = emptied spares background c d cells
+changed (change.Insert background n) c d cells = inserted background n c d cells
+changed (change.Delete background n) c d cells = deleted background n c d cells
 changed (change.Flood x) c d cells = flooded x c d cells
 changed (change.Draw wide g) c d cells = drawn wide g c d cells
 changed (change.Join mark) c d cells = joined_by mark c cells

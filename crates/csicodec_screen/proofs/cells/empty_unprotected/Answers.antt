@@ -12,7 +12,7 @@ loop-i-preserved c =
     let e = c.part-start.result.1 in
     let x = c.index-cell.result.now in
     let y = c.spared.result in
-    let p = c.args.paper in
+    let p = c.args.background in
     let room : e ≤ length xs = omega (arith, c.part-start.ensures.end, c.len.ensures, c.args.cells.now.ok.0, c.loop-i.invariant.len) in
     let is : x ≡ get_or xs i x = search rules in
     record {

@@ -135,7 +135,7 @@ fn look_changed(turns: bool, number: usize, look: Look) -> Look
 }
 
 /// With what the numbers behind an area set, or turn over.
-pub(crate) fn relook(turns: bool, fields: &Cracked, look: Look) -> Look
+pub(crate) fn change_attributes(turns: bool, fields: &Cracked, look: Look) -> Look
     ensures { result ≡ look_behind turns fields.now look }
 {
     let count = fields.len();

@@ -1,7 +1,7 @@
 use Rattle.std.proofs.Common.{◌≡◌, ◌∙◌, ◌<◌, ◌+◌, ◌∷◌, [], ℕ, ℤ, List, Option, None, ap, sym, refl, arith, drop, length, length-drop}
 use Rattle.std.proofs.lemmas.List.{drop_all, drop_more}
 use Rattle.csicodec_screen.specs.{Areas.by_all, Areas.or_zero, Private.Changes.look_changed, declared.look.Look.Look}
-use Rattle.csicodec_screen.proofs.relook.relook.Goals as goal
+use Rattle.csicodec_screen.proofs.attributes.change_attributes.Goals as goal
 
 some_numbers : (f : ℕ → Look → Look) (fields : List (Option ℤ)) (l : Look) → 0 < length fields → by_all f fields l ≡ by_all f (or_zero fields) l
 some_numbers f [] l h = absurd (omega (arith, h))

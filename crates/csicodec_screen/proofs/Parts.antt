@@ -1,5 +1,5 @@
 -- Parts of lists that are taken, filled and moved.
-use Rattle.std.proofs.Common.{◌≡◌, ℕ, suc, ◌+◌, ◌-◌, ◌<◌, ◌≤◌, min, max, List, [], ◌∷◌, ◌++◌, length, get_or, take, drop, sym, ap, ◌∙◌, arith, length-append, length-drop, append_assoc}
+use Rattle.std.proofs.Common.{◌≡◌, ℕ, suc, ◌+◌, ◌-◌, ◌<◌, ◌≤◌, min, max, List, [], ◌∷◌, ◌++◌, length, get_or, take, drop, sym, ap, ◌∙◌, arith, refl, append-nil, length-append, length-drop, append_assoc}
 use Rattle.std.proofs.lemmas.List.{get_or_default, drop-drop, take_min, drop_min, take_at, drop_at, take_more_set, drop-set-lt, drop_more, take-append-drop, length-take-le}
 use Rattle.std.specs.Prelude.{set, replicate}
 use Rattle.csicodec_screen.specs.Lists.{down, filled, up, within}
@@ -125,7 +125,7 @@ module _ {A : Type 0} (x : A) (xs : List A) (s e n : ℕ) (h : s ≤ e) (k : e �
       ∙ ap (λ (v : List A). take s xs ++ v) (sym (append_assoc (replicate (min n (length mid)) x) (take (length mid - min n (length mid)) mid) z))
 
 -- what the code does: by places no further than the list, and a count no larger than the part
-module _ {A : Type 0} (x : A) (xs ys zs : List A) (a b len s e n count : ℕ) (h : len ≡ length xs) (hs : s ≡ min a len) (he : e ≡ min (max a b) len) (hn : n ≡ min count (e - s)) where
+module _ {A : Type 0} (x : A) (xs ys : List A) (a b len s e n count : ℕ) (h : len ≡ length xs) (hs : s ≡ min a len) (he : e ≡ min (max a b) len) (hn : n ≡ min count (e - s)) where
   ordered : s ≤ e
   ordered = omega (arith, hs, he)
 
@@ -144,14 +144,18 @@ module _ {A : Type 0} (x : A) (xs ys zs : List A) (a b len s e n count : ℕ) (h
   placed : (f : List A → List A) → within s e f xs ≡ within a b f xs
   placed f = as_whole f xs a b len s e h hs he
 
-  pub moves_up : ys ≡ within s e (turned n) xs → zs ≡ within (e - n) e (filled x) ys → zs ≡ within a b (up count x) xs
-  moves_up turn fill =
-      fill ∙ ap (within (e - n) e (filled x)) turn ∙ moved_up x xs s e n ordered inside few
+  pub shifted_up : ys ≡ within s e (turned n) xs → within (e - n) e (filled x) ys ≡ within a b (up count x) xs
+  shifted_up turn =
+      ap (within (e - n) e (filled x)) turn ∙ moved_up x xs s e n ordered inside few
       ∙ ap (λ (m : ℕ). take s xs ++ ((drop m (take (e - s) (drop s xs)) ++ replicate m x) ++ drop (max s e) xs)) some
       ∙ placed (up count x)
 
-  pub moves_down : ys ≡ within s e (turned (e - s - n)) xs → zs ≡ within s (s + n) (filled x) ys → zs ≡ within a b (down count x) xs
-  moves_down turn fill =
-      fill ∙ ap (within s (s + n) (filled x)) turn ∙ moved_down x xs s e n ordered inside few
+  pub shifted_down : ys ≡ within s e (turned (e - s - n)) xs → within s (s + n) (filled x) ys ≡ within a b (down count x) xs
+  shifted_down turn =
+      ap (within s (s + n) (filled x)) turn ∙ moved_down x xs s e n ordered inside few
       ∙ ap (λ (m : ℕ). take s xs ++ ((replicate m x ++ take (length (take (e - s) (drop s xs)) - m) (take (e - s) (drop s xs))) ++ drop (max s e) xs)) some
       ∙ placed (down count x)
+
+-- all of a list
+pub within_all : {A : Type 0} (f : List A → List A) (xs : List A) (n : ℕ) → n ≡ length xs → within 0 n f xs ≡ f xs
+within_all f xs n h = ap (within 0 n f) (sym (append-nil xs)) ∙ within_at f [] xs [] 0 n refl (omega (arith, h)) ∙ append-nil (f xs)

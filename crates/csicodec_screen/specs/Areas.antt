@@ -137,15 +137,15 @@ abbrev pub attributes_changed : (Look → Look) → ℕ → ℕ → List Cell �
 attributes_changed f c d cells = within c d (map (cell_with f)) cells
 
 -- as a stream of places an area goes from its first corner to its last, over whole rows between
-abbrev pub streamed : (Look → Look) → Area → Screen → Screen
-streamed f a s = if a.bottom == a.top + 1 then on_area (attributes_changed f) a s
-    else over a.top (a.top + 1) (attributes_changed f a.first (behind_columns s))
-    (over (a.top + 1) (a.bottom - 1) (attributes_changed f (first_column s) (behind_columns s))
-    (over (a.bottom - 1) a.bottom (attributes_changed f (first_column s) a.last) s))
+abbrev pub streamed : (ℕ → ℕ → List Cell → List Cell) → Area → Screen → Screen
+streamed f a s = if a.bottom == a.top + 1 then on_area f a s
+    else over a.top (a.top + 1) (f a.first (behind_columns s))
+    (over (a.top + 1) (a.bottom - 1) (f (first_column s) (behind_columns s))
+    (over (a.bottom - 1) a.bottom (f (first_column s) a.last) s))
 
 abbrev pub looked : (Look → Look) → Area → Screen → Screen
 looked f a s = if s.modes.rectangles then on_area (attributes_changed f) a s
-    else if nat_lt a.top a.bottom then streamed f a s else s
+    else if nat_lt a.top a.bottom then streamed (attributes_changed f) a s else s
 
 -- ---- the other sequences, by marker, intermediate and final byte
 

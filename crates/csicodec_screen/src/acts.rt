@@ -1,7 +1,7 @@
 //! What each action of the cursor and each edit does to a screen.
 ghost use Rattle.std.specs.Prelude.{◌≡◌, OnOk};
 ghost use Rattle.csicodec_screen.specs.Acts.{erase, erase_display, erase_line, erase_rows, few, left_and_right, lines_moved, of_clear, of_cursor, of_edit, of_one, or_last, own_column, own_row, restore, save, top_and_bottom, up_to_last, within_margins};
-ghost use Rattle.csicodec_screen.specs.{Draws.tab, Draws.tab_back, Draws.times, Private.Changes.chars_moved};
+ghost use Rattle.csicodec_screen.specs.{Draws.times, Private.Changes.chars_moved, Private.Changes.tab_once};
 
 use crate::cells::Change;
 use crate::moving::at_most;
@@ -138,23 +138,24 @@ impl Screen {
         Ok(())
     }
 
-    /// CHT: so many tab stops on.
-    fn tabs(&mut self, count: u32)
-        ensures { self.new ≡ times (few count self.old) tab self.old }
+    /// To the next tab stop, or to the one in front.
+    fn tab_once(&mut self, back: bool)
+        ensures { self.new ≡ tab_once back self.old }
     {
-        let most = count.min(self.columns);
-        for _i in 0..most {
+        if back {
+            self.tab_back();
+        } else {
             self.tab();
         }
     }
 
-    /// CBT: so many tab stops back.
-    fn tabs_back(&mut self, count: u32)
-        ensures { self.new ≡ times (few count self.old) tab_back self.old }
+    /// CHT and CBT: so many tab stops on, or back.
+    fn tabs(&mut self, back: bool, count: u32)
+        ensures { self.new ≡ times (few count self.old) (tab_once back) self.old }
     {
         let most = count.min(self.columns);
         for _i in 0..most {
-            self.tab_back();
+            self.tab_once(back);
         }
     }
 
@@ -199,8 +200,8 @@ impl Screen {
             Cursor::LinePositionForward(count) => {
                 self.place(self.own_row() + *count as usize, self.own_column());
             }
-            Cursor::ForwardTabulation(count) => self.tabs(*count),
-            Cursor::BackwardTabulation(count) => self.tabs_back(*count),
+            Cursor::ForwardTabulation(count) => self.tabs(false, *count),
+            Cursor::BackwardTabulation(count) => self.tabs(true, *count),
             Cursor::TabulationClear(clear) => self.clear_stops(*clear)?,
             Cursor::SetTopAndBottomMargins { top, bottom } => {
                 self.set_rows(top.as_one_based(), bottom.as_one_based());
@@ -225,7 +226,7 @@ impl Screen {
     fn erase(&mut self, spares: bool, from: usize, to: usize)
         ensures { self.new ≡ erase spares from to self.old }
     {
-        self.change_line(Change::Empty(spares, self.background()), from, to);
+        self.change_line(&Change::Empty(spares, self.background()), from, to);
     }
 
     /// Rows from one to another are.
@@ -292,8 +293,8 @@ impl Screen {
     }
 
     /// ICH and DCH: within left and right margins.
-    fn move_chars(&mut self, change: Change)
-        ensures { self.new ≡ chars_moved change self.old }
+    fn move_chars(&mut self, change: &Change)
+        ensures { self.new ≡ chars_moved change.now self.old }
     {
         if self.is_beside() {
             self.change_line(change, self.column as usize, self.edge() as usize + 1);
@@ -306,10 +307,10 @@ impl Screen {
     {
         match *edit {
             Edit::InsertCharacter(count) => {
-                self.move_chars(Change::Insert(self.background(), count as usize));
+                self.move_chars(&Change::Insert(self.background(), count as usize));
             }
             Edit::DeleteCharacter(count) => {
-                self.move_chars(Change::Delete(self.background(), count as usize));
+                self.move_chars(&Change::Delete(self.background(), count as usize));
             }
             Edit::InsertLine(count) => self.move_lines(false, count)?,
             Edit::DeleteLine(count) => self.move_lines(true, count)?,

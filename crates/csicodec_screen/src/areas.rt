@@ -1,7 +1,7 @@
 //! What is done to rectangular areas, and by the other sequences that have no action of their own.
 ghost use Rattle.std.specs.Prelude.{◌≡◌, ◌<◌, ◌==◌, IfOk, None, OnOk, Some, if◌then◌else◌};
-ghost use Rattle.csicodec_screen.specs.Areas.{apostrophe_finals, area_at, bare_finals, behind_columns, behind_rows, copy_by, erase_by, fill_by, look_by, look_set, look_turned, by_byte, by_final, copied, display_of, dollar_finals, erased, extent, filled, first_column, first_row, is_area, is_seen, line_of, looked, nth, of_columns, of_unknown, on_area, private_finals, protect, quote_finals, attributes_changed, side, space_finals, star_finals, streamed};
-ghost use Rattle.csicodec_screen.specs.{Private.Changes.cells_copied, Private.Changes.changed, Private.Changes.look_behind, Rows.over};
+ghost use Rattle.csicodec_screen.specs.Areas.{apostrophe_finals, area_at, bare_finals, behind_columns, behind_rows, copy_by, erase_by, fill_by, look_by, look_set, look_turned, by_byte, by_final, copied, display_of, dollar_finals, erased, extent, filled, first_column, first_row, is_area, is_seen, line_of, looked, nth, of_columns, of_unknown, on_area, private_finals, protect, quote_finals, side, space_finals, star_finals, streamed};
+ghost use Rattle.csicodec_screen.specs.Private.Changes.{cells_copied, changed, look_behind};
 ghost use Rattle.csicodec_tokens.specs.Fields.{fields_of};
 
 use crate::attributes::nth;
@@ -134,8 +134,8 @@ impl Screen {
     }
 
     /// This is done to the cells of an area, if there is one.
-    fn change_area(&mut self, area: Area, change: Change)
-        ensures { self.new ≡ on_area (changed change) area self.old }
+    fn change_area(&mut self, area: Area, change: &Change)
+        ensures { self.new ≡ on_area (changed change.now) area self.old }
     {
         if area.is_some() {
             self.change(area, change);
@@ -151,7 +151,7 @@ impl Screen {
         };
         if columns_of(char) == 1 {
             let cell = Cell::Char(Glyph::bare(char, self.pen));
-            self.change_area(area, Change::Flood(cell));
+            self.change_area(area, &Change::Flood(cell));
         }
     }
 
@@ -159,7 +159,7 @@ impl Screen {
     fn erase_area(&mut self, spares: bool, area: Area)
         ensures { self.new ≡ erased spares area self.old }
     {
-        self.change_area(area, Change::Empty(spares, self.background()));
+        self.change_area(area, &Change::Empty(spares, self.background()));
     }
 
     /// SL, SR, DECIC and DECDC: where the cursor is within all margins.
@@ -244,29 +244,13 @@ impl Screen {
         self.copy_cells(to, from)
     }
 
-    /// Looks of an area change.
-    fn change_attributes(&mut self, turns: bool, fields: &Cracked, area: Area)
-        ensures { self.new ≡ over area.top area.bottom (attributes_changed (look_behind turns fields.now) area.first area.last) self.old }
-    {
-        self.grid.change_attributes(turns, fields, area);
-    }
-
-    /// The same, if there is a place in the area.
-    fn change_some_attributes(&mut self, turns: bool, fields: &Cracked, area: Area)
-        ensures { self.new ≡ on_area (attributes_changed (look_behind turns fields.now)) area self.old }
-    {
-        if area.is_some() {
-            self.change_attributes(turns, fields, area);
-        }
-    }
-
-    /// The same of a stream of places, from the area's first corner to its last, over whole rows between.
-    fn change_stream_attributes(&mut self, turns: bool, fields: &Cracked, area: Area)
+    /// Looks of a stream of places change, from the area's first corner to its last, over whole rows between.
+    fn change_stream(&mut self, area: Area, change: &Change)
         requires { area.top < area.bottom }
-        ensures { self.new ≡ streamed (look_behind turns fields.now) area self.old }
+        ensures { self.new ≡ streamed (changed change.now) area self.old }
     {
         if area.bottom == area.top + 1 {
-            self.change_some_attributes(turns, fields, area);
+            self.change_area(area, change);
             return;
         }
         let (first, behind) = (self.first_column(), self.behind_columns());
@@ -286,19 +270,20 @@ impl Screen {
             last: behind,
             ..area
         };
-        self.change_attributes(turns, fields, end);
-        self.change_attributes(turns, fields, between);
-        self.change_attributes(turns, fields, begin);
+        self.change(end, change);
+        self.change(between, change);
+        self.change(begin, change);
     }
 
     /// DECCARA and DECRARA: looks of an area are set, or turned over.
-    fn change_area_attributes(&mut self, turns: bool, fields: &Cracked, area: Area)
+    fn change_attributes(&mut self, turns: bool, fields: &Cracked, area: Area)
         ensures { self.new ≡ looked (look_behind turns fields.now) area self.old }
     {
+        let change = Change::Attributes(turns, fields);
         if self.modes.rectangles {
-            self.change_some_attributes(turns, fields, area);
+            self.change_area(area, &change);
         } else if area.top < area.bottom {
-            self.change_stream_attributes(turns, fields, area);
+            self.change_stream(area, &change);
         }
     }
 
@@ -396,7 +381,7 @@ impl Screen {
         ensures { self.new ≡ look_by look_set fields.now self.old }
     {
         let area = self.area_at(0, fields);
-        self.change_area_attributes(false, fields, area);
+        self.change_attributes(false, fields, area);
     }
 
     /// DECRARA by its numbers.
@@ -404,7 +389,7 @@ impl Screen {
         ensures { self.new ≡ look_by look_turned fields.now self.old }
     {
         let area = self.area_at(0, fields);
-        self.change_area_attributes(true, fields, area);
+        self.change_attributes(true, fields, area);
     }
 
     /// DECFRA, DECERA, DECSERA, DECCRA, DECCARA and DECRARA.

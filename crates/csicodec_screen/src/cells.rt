@@ -1,17 +1,18 @@
 //! The cells of a row, and how they are edited. Columns are counted from 0.
 ghost use Rattle.std.specs.Prelude.{◌≡◌, OnOk, IfOk, false, replicate};
 ghost use Rattle.csicodec_screen.specs.Cells.{between, cell_at, cut, cut_twice, deleted, drawn, emptied, flooded, inserted, joined_by, pasted, unprotected};
-ghost use Rattle.csicodec_screen.specs.{Lists.overlaid, Lists.within, Private.Changes.changed, Private.Changes.look_behind, Areas.attributes_changed};
+ghost use Rattle.csicodec_screen.specs.{Lists.moved, Lists.overlaid, Lists.within, declared.cell.Cell.TheVariants.Empty, Private.Changes.changed};
+ghost use Rattle.csicodec_screen.specs.{Private.Changes.look_behind, Areas.attributes_changed};
 
 use crate::cell::{Cell, Glyph};
-use crate::list::{fill, move_down, move_up, part, put};
+use crate::list::{fill, part, put, shift};
 use csicodec_base::{ColorSpec, Cracked};
 use std::alloc::{AllocError, Global};
 use std::marker::Model;
 
 /// What is done to the cells of a row from one column to another.
 #[derive(Clone, Copy)]
-pub(crate) enum Change {
+pub(crate) enum Change<'a> {
     /// They are empty, on this background; if the flag is set, but for what is protected.
     Empty(bool, ColorSpec),
     /// So many empty ones come in at the first column, and the others move right.
@@ -24,6 +25,8 @@ pub(crate) enum Change {
     Draw(bool, Glyph),
     /// A mark joins the character that stands at the first column.
     Join(char),
+    /// Looks are set by the numbers behind an area, or turned over if the flag is set.
+    Attributes(bool, &'a Cracked),
 }
 
 /// The cells from one column to another that aren't protected are empty.
@@ -163,12 +166,20 @@ impl Cells {
         }
     }
 
+    /// So many cells of a part are gone at one end, the others move there, and empty ones come in.
+    fn shift(&mut self, leftward: bool, background: ColorSpec, count: usize, from: usize, to: usize)
+        ensures { self.new ≡ within from to (moved leftward count (Empty background)) self.old }
+    {
+        let (start, end) = shift(&mut self.cells, leftward, from, to, count);
+        fill(&mut self.cells, start, end, Cell::Empty(background));
+    }
+
     fn insert(&mut self, background: ColorSpec, count: usize, from: usize, to: usize)
         ensures { self.new ≡ inserted background count from to self.old }
     {
         self.cut_twice(from, to);
         self.cut(to.saturating_sub(count.min(to.saturating_sub(from))));
-        move_down(&mut self.cells, from, to, count, Cell::Empty(background));
+        self.shift(false, background, count, from, to);
     }
 
     fn delete(&mut self, background: ColorSpec, count: usize, from: usize, to: usize)
@@ -176,7 +187,7 @@ impl Cells {
     {
         self.cut_twice(from, to);
         self.cut(from + count.min(to.saturating_sub(from)));
-        move_up(&mut self.cells, from, to, count, Cell::Empty(background));
+        self.shift(true, background, count, from, to);
     }
 
     fn flood(&mut self, cell: Cell, from: usize, to: usize)
@@ -245,29 +256,24 @@ impl Cells {
     }
 
     /// Looks of those from one column to another are set, or turned over.
-    pub(crate) fn change_attributes(
-        &mut self,
-        turns: bool,
-        fields: &Cracked,
-        from: usize,
-        to: usize,
-    )
+    fn change_attributes(&mut self, turns: bool, fields: &Cracked, from: usize, to: usize)
         ensures { self.new ≡ attributes_changed (look_behind turns fields.now) from to self.old }
     {
         change_cell_attributes(&mut self.cells, turns, fields, from, to);
     }
 
     /// This is done to them from one column to another.
-    pub(crate) fn change(&mut self, change: Change, from: usize, to: usize)
-        ensures { self.new ≡ changed change from to self.old }
+    pub(crate) fn change(&mut self, change: &Change, from: usize, to: usize)
+        ensures { self.new ≡ changed change.now from to self.old }
     {
-        match change {
+        match *change {
             Change::Empty(spares, background) => self.empty(spares, background, from, to),
             Change::Insert(background, count) => self.insert(background, count, from, to),
             Change::Delete(background, count) => self.delete(background, count, from, to),
             Change::Flood(cell) => self.flood(cell, from, to),
             Change::Draw(wide, glyph) => self.draw(wide, glyph, from, to),
             Change::Join(mark) => self.join(mark, from),
+            Change::Attributes(turns, fields) => self.change_attributes(turns, fields, from, to),
         }
     }
 }

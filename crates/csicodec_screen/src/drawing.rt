@@ -67,7 +67,7 @@ impl Screen {
     {
         if self.modes.inserts && self.is_beside() {
             let change = Change::Insert(self.background(), width as usize);
-            self.change_line(change, self.column as usize, self.edge() as usize + 1);
+            self.change_line(&change, self.column as usize, self.edge() as usize + 1);
         }
     }
 
@@ -77,7 +77,7 @@ impl Screen {
     {
         let change = Change::Draw(width == 2, Glyph::bare(char, self.pen));
         let column = self.column as usize;
-        self.change_line(change, column, column + width as usize);
+        self.change_line(&change, column, column + width as usize);
     }
 
     /// The cursor stands behind a character, or the wrap is pending at the edge.
@@ -118,9 +118,9 @@ impl Screen {
     {
         let column = self.column as usize;
         if self.pending {
-            self.change_line(Change::Join(char), column, column);
+            self.change_line(&Change::Join(char), column, column);
         } else if self.column != 0 {
-            self.change_line(Change::Join(char), column - 1, column);
+            self.change_line(&Change::Join(char), column - 1, column);
         }
     }
 

@@ -2,7 +2,7 @@
 ghost use Rattle.std.specs.Prelude.{◌≡◌, ◌≤◌, ◌&&◌, ◌==◌, ◌%◌, nat_lt, IfOk, OnOk, drop, false, length, replicate, set, take};
 ghost use Rattle.csicodec_screen.specs.{Draws.last_stop, Draws.to_stop, Lists.filled, Lists.moved, Lists.within, Screen.eighths};
 
-use crate::list::{fill, move_down, move_up, put};
+use crate::list::{fill, put, shift};
 use std::alloc::{AllocError, Global};
 use std::marker::Model;
 
@@ -110,11 +110,8 @@ impl Flags {
     pub(crate) fn scroll(&mut self, upward: bool, count: usize, from: usize, to: usize)
         ensures { self.new ≡ within from to (moved upward count false) self.old }
     {
-        if upward {
-            move_up(&mut self.flags, from, to, count, false);
-        } else {
-            move_down(&mut self.flags, from, to, count, false);
-        }
+        let (start, end) = shift(&mut self.flags, upward, from, to, count);
+        fill(&mut self.flags, start, end, false);
     }
 
     /// How many from a place on aren't set, ahead of the first one that is.

@@ -1,6 +1,6 @@
 //! Parts of lists, and how they move.
 ghost use Rattle.std.specs.Prelude.{◌≡◌, ◌≤◌, ◌-◌, ◌++◌, drop, length, max, min, set, take};
-ghost use Rattle.csicodec_screen.specs.Lists.{down, filled, up, within};
+ghost use Rattle.csicodec_screen.specs.Lists.{filled, moved, within};
 
 /// Where a part begins and ends in a list of so many elements.
 pub(crate) fn part(from: usize, to: usize, len: usize) -> (usize, usize)
@@ -38,22 +38,22 @@ pub(crate) fn turn<T>(list: &mut Vec<T>, start: usize, end: usize, count: usize)
     list[start..end].rotate_left(count);
 }
 
-/// So many elements in front of a part are gone, the others move there, and blanks come in behind them.
-pub(crate) fn move_up<T: Copy>(list: &mut Vec<T>, from: usize, to: usize, count: usize, blank: T)
-    ensures { list.new.items ≡ within from to (up count blank) list.old.items }
+/// So many elements of a part are gone at one end, and the others move there. Answers from where to where blanks are to come in.
+pub(crate) fn shift<T>(
+    list: &mut Vec<T>,
+    upward: bool,
+    from: usize,
+    to: usize,
+    count: usize,
+) -> (usize, usize)
+    ensures { (blank : T) → within result.0 result.1 (filled blank) list.new.items ≡ within from to (moved upward count blank) list.old.items }
 {
     let (start, end) = part(from, to, list.len());
-    let some = count.min(end - start);
-    turn(list, start, end, some);
-    fill(list, end - some, end, blank);
-}
-
-/// So many elements at the end of a part are gone, the others move there, and blanks come in ahead of them.
-pub(crate) fn move_down<T: Copy>(list: &mut Vec<T>, from: usize, to: usize, count: usize, blank: T)
-    ensures { list.new.items ≡ within from to (down count blank) list.old.items }
-{
-    let (start, end) = part(from, to, list.len());
-    let some = count.min(end - start);
-    turn(list, start, end, end - start - some);
-    fill(list, start, start + some, blank);
+    let free = count.min(end - start);
+    if upward {
+        turn(list, start, end, free);
+        return (end - free, end);
+    }
+    turn(list, start, end, end - start - free);
+    (start, start + free)
 }

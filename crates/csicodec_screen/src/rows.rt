@@ -1,13 +1,11 @@
 //! The rows of a screen, and how they move. Rows are counted from 0.
 ghost use Rattle.std.specs.{Prelude.◌≡◌, Prelude.OnOk, Prelude.IfOk, Prelude.map, Prelude.replicate, Prelude.set, List.between};
-ghost use Rattle.csicodec_screen.specs.{Lists.down, Lists.filled, Lists.moved, Lists.up, Lists.within, Private.Changes.changed, Private.Changes.parts_moved};
-ghost use Rattle.csicodec_screen.specs.{Private.Changes.area_copied, Private.Changes.look_behind, Private.Changes.row_of, Areas.attributes_changed, Rows.each_row};
-ghost use Rattle.csicodec_screen.specs.{Rows.row_with, Rows.segment, Rows.with_segments, Cells.pasted, Screen.row_at};
+ghost use Rattle.csicodec_screen.specs.{Lists.filled, Lists.moved, Lists.within, Private.Changes.changed, Private.Changes.parts_moved, Private.Changes.area_copied};
+ghost use Rattle.csicodec_screen.specs.{Private.Changes.row_of, Rows.each_row, Rows.row_with, Rows.segment, Rows.with_segments, Cells.pasted, Screen.row_at};
 
 use crate::cell::Cell;
 use crate::cells::{Cells, Change};
-use crate::list::{part, turn};
-use csicodec_base::Cracked;
+use crate::list::{part, shift};
 use std::alloc::{AllocError, Global};
 use std::marker::Model;
 
@@ -60,17 +58,10 @@ impl Row {
     }
 
     /// This is done to its cells from one column to another.
-    fn change(&mut self, change: Change, from: usize, to: usize)
-        ensures { self.new ≡ row_with (changed change from to) self.old }
+    fn change(&mut self, change: &Change, from: usize, to: usize)
+        ensures { self.new ≡ row_with (changed change.now from to) self.old }
     {
         self.cells.change(change, from, to);
-    }
-
-    /// Looks of its cells from one column to another are set, or turned over.
-    fn change_attributes(&mut self, turns: bool, fields: &Cracked, from: usize, to: usize)
-        ensures { self.new ≡ row_with (attributes_changed (look_behind turns fields.now) from to) self.old }
-    {
-        self.cells.change_attributes(turns, fields, from, to);
     }
 
     /// These cells stand from one column on, and no further than to another.
@@ -119,43 +110,9 @@ fn reset_rows(rows: &mut Vec<Row>, from: usize, to: usize, like: Uniform) -> Res
     Ok(())
 }
 
-/// So many rows in front of a part are gone, the others move there, and ones whose cells are all alike come in behind them.
-fn move_rows_up(
-    rows: &mut Vec<Row>,
-    from: usize,
-    to: usize,
-    count: usize,
-    like: Uniform,
-) -> Result<(), AllocError>
-    ensures { OnOk result (rows.new.items ≡ within from to (up count (row_of like)) rows.old.items) }
-{
-    let (start, end) = part(from, to, rows.len());
-    let some = count.min(end - start);
-    turn(rows, start, end, some);
-    reset_rows(rows, end - some, end, like)?;
-    Ok(())
-}
-
-/// So many rows at the end of a part are gone, the others move there, and ones whose cells are all alike come in ahead of them.
-fn move_rows_down(
-    rows: &mut Vec<Row>,
-    from: usize,
-    to: usize,
-    count: usize,
-    like: Uniform,
-) -> Result<(), AllocError>
-    ensures { OnOk result (rows.new.items ≡ within from to (down count (row_of like)) rows.old.items) }
-{
-    let (start, end) = part(from, to, rows.len());
-    let some = count.min(end - start);
-    turn(rows, start, end, end - start - some);
-    reset_rows(rows, start, start + some, like)?;
-    Ok(())
-}
-
 /// This is done to the cells of an area.
-fn change_rows(rows: &mut Vec<Row>, area: Area, change: Change)
-    ensures { rows.new.items ≡ within area.top area.bottom (each_row (changed change area.first area.last)) rows.old.items }
+fn change_rows(rows: &mut Vec<Row>, area: Area, change: &Change)
+    ensures { rows.new.items ≡ within area.top area.bottom (each_row (changed change.now area.first area.last)) rows.old.items }
 {
     let (start, end) = part(area.top, area.bottom, rows.len());
     for i in start..end {
@@ -214,13 +171,8 @@ fn move_parts(
     ensures { OnOk result (parts.new.items ≡ moved upward count (replicate like.columns like.cell) parts.old.items) }
 {
     let len = parts.len();
-    let some = count.min(len);
-    if upward {
-        turn(parts, 0, len, some);
-        return reset_parts(parts, len - some, len, like);
-    }
-    turn(parts, 0, len, len - some);
-    reset_parts(parts, 0, some, like)
+    let (start, end) = shift(parts, upward, 0, len, count);
+    reset_parts(parts, start, end, like)
 }
 
 /// Parts stand in the rows of an area, from its first column on.
@@ -235,16 +187,6 @@ fn paste_parts(rows: &mut Vec<Row>, parts: &[Cells], area: Area)
         }
         rows[at].paste(part, area.first, area.last);
         at += 1;
-    }
-}
-
-/// Looks of an area are set, or turned over.
-fn change_row_attributes(rows: &mut Vec<Row>, turns: bool, fields: &Cracked, area: Area)
-    ensures { rows.new.items ≡ within area.top area.bottom (each_row (attributes_changed (look_behind turns fields.now) area.first area.last)) rows.old.items }
-{
-    let (start, end) = part(area.top, area.bottom, rows.len());
-    for i in start..end {
-        rows[i].change_attributes(turns, fields, area.first, area.last);
     }
 }
 
@@ -313,8 +255,8 @@ impl Rows {
     }
 
     /// This is done to the cells of an area.
-    pub(crate) fn change(&mut self, area: Area, change: Change)
-        ensures { self.new ≡ within area.top area.bottom (each_row (changed change area.first area.last)) self.old }
+    pub(crate) fn change(&mut self, area: Area, change: &Change)
+        ensures { self.new ≡ within area.top area.bottom (each_row (changed change.now area.first area.last)) self.old }
     {
         change_rows(&mut self.rows, area, change);
     }
@@ -337,11 +279,8 @@ impl Rows {
     ) -> Result<(), AllocError>
         ensures { OnOk result (self.new ≡ within from to (moved upward count (row_of like)) self.old) }
     {
-        if upward {
-            move_rows_up(&mut self.rows, from, to, count, like)
-        } else {
-            move_rows_down(&mut self.rows, from, to, count, like)
-        }
+        let (start, end) = shift(&mut self.rows, upward, from, to, count);
+        reset_rows(&mut self.rows, start, end, like)
     }
 
     /// The cells of an area move up or down by so many rows, and ones that are all alike come in.
@@ -371,12 +310,5 @@ impl Rows {
         let parts = copy_area_parts(alloc, &self.rows, area)?;
         paste_parts(&mut self.rows, &parts, to);
         Ok(())
-    }
-
-    /// Looks of an area are set, or turned over.
-    pub(crate) fn change_attributes(&mut self, turns: bool, fields: &Cracked, area: Area)
-        ensures { self.new ≡ within area.top area.bottom (each_row (attributes_changed (look_behind turns fields.now) area.first area.last)) self.old }
-    {
-        change_row_attributes(&mut self.rows, turns, fields, area);
     }
 }

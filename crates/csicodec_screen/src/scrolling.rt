@@ -104,15 +104,15 @@ impl Screen {
     }
 
     /// This is done to the cells of rows from one to another.
-    pub(crate) fn change(&mut self, area: Area, change: Change)
-        ensures { self.new ≡ over area.top area.bottom (changed change area.first area.last) self.old }
+    pub(crate) fn change(&mut self, area: Area, change: &Change)
+        ensures { self.new ≡ over area.top area.bottom (changed change.now area.first area.last) self.old }
     {
         self.grid.change(area, change);
     }
 
     /// This is done to the cells of the cursor's row.
-    pub(crate) fn change_line(&mut self, change: Change, from: usize, to: usize)
-        ensures { self.new ≡ in_line (changed change from to) self.old }
+    pub(crate) fn change_line(&mut self, change: &Change, from: usize, to: usize)
+        ensures { self.new ≡ in_line (changed change.now from to) self.old }
     {
         let row = self.row as usize;
         let area = Area {
@@ -144,7 +144,7 @@ impl Screen {
             bottom: to,
             last: self.columns as usize,
         };
-        self.change(area, Change::Empty(true, self.background()));
+        self.change(area, &Change::Empty(true, self.background()));
     }
 
     /// SL, SR, DECIC and DECDC: the columns from this one to the right margin move, in the rows between the margins.
@@ -159,9 +159,9 @@ impl Screen {
         };
         let background = self.background();
         if leftward {
-            self.change(area, Change::Delete(background, count));
+            self.change(area, &Change::Delete(background, count));
         } else {
-            self.change(area, Change::Insert(background, count));
+            self.change(area, &Change::Insert(background, count));
         }
     }
 }

@@ -9,7 +9,7 @@ loop-i-preserved c =
     let i = c.loop-i.i in
     let e = c.part-start.result.1 in
     let y = c.change.new.self in
-    let f = changed c.args.change c.args.area.first c.args.area.last in
+    let f = changed c.args.change.now c.args.area.first c.args.area.last in
     let room : e ≤ length xs = omega (arith, c.part-start.ensures.end, c.len.ensures, c.args.rows.now.ok.0, c.loop-i.invariant.len) in
     record {
       is = within_step (each_row f) (each_row f) xs i e c.index_mut.result.now y c.loop-i-test.true room c.index_mut.ensures.value

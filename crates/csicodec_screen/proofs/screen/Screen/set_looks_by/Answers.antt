@@ -3,4 +3,4 @@ use Rattle.csicodec_screen.specs.{Areas.looked, Private.Changes.look_behind, dec
 use Rattle.csicodec_screen.proofs.screen.Screen.set_looks_by.Goals as goal
 
 pub returns : goal.returns
-returns c = c.change_area_attributes.ensures ∙ ap (λ (a : Area). looked (look_behind false c.args.fields.now) a c.args.self.now) c.area_at-area.ensures
+returns c = c.change_attributes.ensures ∙ ap (λ (a : Area). looked (look_behind false c.args.fields.now) a c.args.self.now) c.area_at-area.ensures

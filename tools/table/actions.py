@@ -117,7 +117,7 @@ def types():
     return out | {subject.type: subject.declaration() for subject in subjects()}
 
 
-ROW = ("number", "form", "fields", "text", "read", "final", "name", "shown", "words", "sent", "left_out", "in_line", "source", "says", "means", "doc")
+ROW = ("number", "form", "fields", "text", "read", "final", "name", "shown", "words", "left_out", "in_line", "source", "says", "means", "doc")
 LIST = ("left_out", "source", "says")
 
 

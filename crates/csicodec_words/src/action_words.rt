@@ -74,13 +74,6 @@ pub(crate) static ACTIONS: [&str; 102] = pieces! {
     "y_*\tDECRQCRA  ask for the checksum of lines {2} to {4}, columns {3} to {5} of page {1}, request {0}",
 };
 
-/// What a terminal sends by a list without numbers: its final byte, a tab and the words.
-pub(crate) static SENT: [&str; 10] = pieces! {
-    "A\t (or the key Up)", "B\t (or the key Down)", "C\t (or the key Right)", "D\t (or the key Left)",
-    "E\t (or the key Begin)", "F\t (or the key End)", "H\t (or the key Home)", "I\t (or focus gained)",
-    "M\t (or a mouse report, by the next 3 characters)", "R\t (or the key F3)",
-};
-
 /// Extensions of terminals: their numbers, a tab and the words.
 pub(crate) static EXTENSIONS: [&str; 27] = pieces! {
     "1\t132 columns", "12\tSerbo-Croatian characters", "14\t8-bit interface", "15\ttechnical characters",

@@ -1,11 +1,10 @@
 //! What a terminal makes of a control sequence: the words of its action, and where a terminal reads it otherwise than the codec, or the
 //! codec has no action for it, the words of what terminals make of it.
 
-use crate::action_words::SENT;
 use crate::actions::{ActionList, tell_action, tell_unknown};
 use crate::keys::{key_by_number, key_of, tell_key};
 use crate::out::Out;
-use crate::rows::{find, number, words_of};
+use crate::rows::{number, words_of};
 use crate::sequences::{words, words_instead};
 use crate::sgr_words::ATTRIBUTES;
 use crate::template::fill;
@@ -71,11 +70,6 @@ fn read_also(params: &[CsiParam], control: char) -> Option<&'static str> {
         (0, 0, 'm', [CsiParam::Integer(1..), CsiParam::P(b';')]) => Some(
             " (and then all attributes off)",
         ),
-        // The key sends the same as the terminal's answer for places in line 1.
-        (0, 0, 'R', [.., CsiParam::Integer(2..=16)]) if number(params, 0).unwrap_or(1) < 2 => {
-            Some(" (or the key F3 with modifiers)")
-        }
-        (0, 0, _, []) => find(&SENT, control.encode_utf8(&mut [0u8; 4]).as_bytes()),
         _ => None,
     }
 }

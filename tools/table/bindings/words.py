@@ -78,14 +78,8 @@ def extensions():
     return keyed("Extensions of terminals: their numbers, a tab and the words.", "EXTENSIONS", said.items())
 
 
-def sent():
-    """What a terminal sends by the lists of actions."""
-    rows = ((action.row["final"], f" (or {action.row['sent']})") for subject in SUBJECTS.values() for action in subject.actions if "sent" in action.row)
-    return keyed("What a terminal sends by a list without numbers: its final byte, a tab and the words.", "SENT", rows)
-
-
 def words():
     """The file."""
     rows = sorted(action_rows(), key=lambda row: len(row[0]) == 3)
     actions = keyed("The words of each action, behind what its list is found by.", "ACTIONS", rows, 3)
-    return first_line("actions.toml") + "\n".join(["//! Actions in words.\n", actions, sent(), extensions()])
+    return first_line("actions.toml") + "\n".join(["//! Actions in words.\n", actions, extensions()])

@@ -1,14 +1,13 @@
 //! What differs between two streams in words.
 ghost use Rattle.std.specs.Prelude.{⊤};
 
-use crate::diff::{DiffLine, Origin, lines_of};
+use crate::diff::{DiffLine, Origin, TextLine, lines_of};
 use crate::explain::explainer_of;
 use crate::explained_cast::explain_cast;
 use csicodec_command::{Failure, Request, Worker, work_through};
-use csicodec_explain::Explainer;
 use csicodec_listing::style::Style;
 use csicodec_osc::Shown;
-use csicodec_transform::{RunError, send};
+use csicodec_transform::{CHUNK, RunError, receive, send};
 use std::alloc::{AllocError, Global};
 use std::fmt::Write as _;
 use std::io::{BufRead, Read, Write};
@@ -16,22 +15,80 @@ use std::io::{BufRead, Read, Write};
 /// So many lines that are the same stand on each side of one that differs.
 const NEAR: usize = 3;
 
+/// What is told of a stream.
+#[derive(Drop)]
+struct Told {
+    /// With all bytes of each span.
+    whole: Vec<u8>,
+    /// As it is shown; nothing where that is the whole.
+    shown: Vec<u8>,
+}
+
 /// What is told of two streams, one after the other.
 #[derive(Drop)]
 struct Compared<'a> {
     alloc: Global,
     /// Their names.
     names: &'a [&'a str],
+    /// How their lines are shown.
     style: Style<'a>,
     /// What was told of those that were read to their end.
-    texts: Vec<Vec<u8>>,
+    texts: Vec<Told>,
     /// Whether a line differs.
     differs: bool,
 }
 
-/// The lines of a text.
-fn split(alloc: Global, text: &[u8]) -> Result<Vec<&[u8]>, AllocError> {
-    text.split_inclusive(|byte| *byte == b'\n').collect(alloc)
+/// How many lines a text has.
+fn line_count(text: &[u8]) -> usize {
+    text.iter().filter(|byte| **byte == b'\n').count()
+}
+
+/// The lines of what is told of a stream. Those that are shown are as many, or none: then the whole ones are shown.
+fn lines_told<'b>(alloc: Global, told: &'b Told) -> Result<Vec<TextLine<'b>>, AllocError> {
+    let whole = told.whole.as_slice();
+    let shown = if line_count(&told.shown) == line_count(whole) {
+        told.shown.as_slice()
+    } else {
+        whole
+    };
+    let whole = whole.split_inclusive(|byte| *byte == b'\n');
+    let shown = shown.split_inclusive(|byte| *byte == b'\n');
+    whole
+        .zip(shown)
+        .map(|(whole, shown)| TextLine { whole, shown })
+        .collect(alloc)
+}
+
+/// All bytes of an input.
+fn bytes_of<R: Read>(alloc: Global, input: &mut R) -> Result<Vec<u8>, Failure> {
+    let mut bytes = Vec::new(alloc);
+    let mut chunk = [0u8; CHUNK];
+    for _ in 0..u64::MAX {
+        let len = receive(input, &mut chunk)?;
+        if len == 0 {
+            return Ok(bytes);
+        }
+        bytes.extend_from_slice(&chunk[..len])?;
+    }
+    Err(Failure::Run(RunError::Read))
+}
+
+/// What is told of these bytes in a style, those of a recording or of a stream.
+fn text_told(
+    alloc: Global,
+    style: Style<'_>,
+    is_recording: bool,
+    bytes: &[u8],
+) -> Result<Vec<u8>, Failure> {
+    let mut explainer = explainer_of(alloc, style)?;
+    let (mut input, mut text) = (bytes, Vec::new(alloc));
+    if is_recording {
+        explain_cast(alloc, &mut explainer, &mut input, &mut text)?;
+    } else {
+        explainer.read(&mut input, &mut text)?;
+    }
+    explainer.end(&mut text)?;
+    Ok(text)
 }
 
 /// Whether the line at a place differs, or stands near one that does.
@@ -48,7 +105,7 @@ fn append_marked(out: &mut Vec<u8>, line: DiffLine<'_>) -> Result<(), AllocError
         Origin::First => b'-',
         Origin::Second => b'+',
     })?;
-    out.extend_from_slice(line.text)
+    out.extend_from_slice(line.shown)
 }
 
 /// The lines that are shown, with `@@` ahead of each run of them.
@@ -79,17 +136,26 @@ fn head(alloc: Global, names: &[&str]) -> Result<Vec<u8>, AllocError> {
 }
 
 /// The lines that differ and those near them, as `diff -u` marks them, with `@@` ahead of each run of them; nothing where none does.
-fn told<'b>(alloc: Global, first: &'b [u8], second: &'b [u8]) -> Result<Vec<u8>, AllocError> {
-    let (first, second) = (split(alloc, first)?, split(alloc, second)?);
+fn differences(alloc: Global, first: &Told, second: &Told) -> Result<Vec<u8>, AllocError> {
+    let (first, second) = (lines_told(alloc, first)?, lines_told(alloc, second)?);
     runs(alloc, &lines_of(alloc, &first, &second)?)
 }
 
 impl<'a> Compared<'a> {
-    /// What is told of a whole input.
-    fn keep(&mut self, explainer: &mut Explainer<'_>, text: Vec<u8>) -> Result<(), Failure> {
-        let mut text = text;
-        explainer.end(&mut text)?;
-        let kept = self.texts.push(text);
+    /// Keeps what is told of these bytes.
+    fn keep(&mut self, is_recording: bool, bytes: &[u8]) -> Result<(), Failure> {
+        let (alloc, style) = (self.alloc, self.style);
+        let shown = if style.full {
+            Vec::new(alloc)
+        } else {
+            text_told(alloc, style, is_recording, bytes)?
+        };
+        let style = Style {
+            full: true,
+            ..style
+        };
+        let whole = text_told(alloc, style, is_recording, bytes)?;
+        let kept = self.texts.push(Told { whole, shown });
         kept.map_err(|_| Failure::Run(RunError::Memory))
     }
 }
@@ -107,10 +173,8 @@ impl<'a> Worker for Compared<'a> {
         input: &mut R,
         _output: &mut W,
     ) -> Result<(), Failure> {
-        let mut explainer = explainer_of(alloc, self.style)?;
-        let mut text = Vec::new(alloc);
-        explainer.read(input, &mut text)?;
-        self.keep(&mut explainer, text)
+        let bytes = bytes_of(alloc, input)?;
+        self.keep(false, &bytes)
     }
 
     fn read_cast<R: BufRead, W: Write>(
@@ -119,17 +183,15 @@ impl<'a> Worker for Compared<'a> {
         input: &mut R,
         _output: &mut W,
     ) -> Result<(), Failure> {
-        let mut explainer = explainer_of(alloc, self.style)?;
-        let mut text = Vec::new(alloc);
-        explain_cast(alloc, &mut explainer, input, &mut text)?;
-        self.keep(&mut explainer, text)
+        let bytes = bytes_of(alloc, input)?;
+        self.keep(true, &bytes)
     }
 
     fn end<W: Write>(&mut self, output: &mut W) -> Result<(), Failure> {
         let (Some(first), Some(second)) = (self.texts.first(), self.texts.get(1)) else {
             return Ok(());
         };
-        let told = told(self.alloc, first, second)?;
+        let told = differences(self.alloc, first, second)?;
         self.differs = !told.is_empty();
         if self.differs {
             send(output, &head(self.alloc, self.names)?)?;

@@ -5,9 +5,10 @@ use csicodec_events::Dialect;
 /// How a stream is told, and what of it.
 #[derive(Clone, Copy, Default)]
 pub struct Style<'a> {
-    /// All bytes of each span are shown, and each end of a line has a row of its own; a span is held until it is over, however long
-    /// it is.
+    /// All bytes of each span are shown; it is held until it is over, however long it is.
     pub full: bool,
+    /// Each end of a line has a row of its own.
+    pub apart: bool,
     /// An object of JSON for each span.
     pub json: bool,
     /// Totals are told at the end, and nothing else, but for objects of JSON.
@@ -119,7 +120,7 @@ impl<'a> Style<'a> {
 
     /// Whether the end of a line stands in the row of the text ahead of it.
     pub fn ends_rows(&self) -> bool {
-        !self.full && self.joins_lines()
+        !self.apart && self.joins_lines()
     }
 
     /// Whether a long span is told in pieces as it comes.

@@ -16,21 +16,23 @@ _csicodec() {
         --every) COMPREPLY=(); return ;;
         --grep) COMPREPLY=(); return ;;
         --only) COMPREPLY=(); return ;;
+        --output) COMPREPLY=($(compgen -f -- "$word")); return ;;
         --palette) COMPREPLY=(); return ;;
+        --style) COMPREPLY=($(compgen -f -- "$word")); return ;;
         --timing) COMPREPLY=($(compgen -f -- "$word")); return ;;
         --title) COMPREPLY=(); return ;;
     esac
     case $task in
-        filter) of="--faithful --text --help" ;;
-        compact) of="--semicolons --text --help" ;;
-        strip) of="--check --check=visible --all --lines --log --overwrite --text --visible --help" ;;
-        clean) of="--check --check=visible --colors --lines --links --log --overwrite --text --visible --help" ;;
-        check) of="--all --visible --help" ;;
-        html) of="--classes --fragment --ids --links --no-overwrite --overwrite --palette --title --visible --help" ;;
-        explain) of="--at --color --count --decode --diff --full --grep --ignore-case --input --json --only --quiet --stats --timing --unknown --utf8-mouse --help" ;;
-        assemble) of="--help" ;;
-        cuts) of="--every --help" ;;
-        normalise) of="--help" ;;
+        filter) of="--faithful --output --text --help" ;;
+        compact) of="--output --semicolons --text --help" ;;
+        strip) of="--check --check=visible --all --lines --log --output --overwrite --text --visible --help" ;;
+        clean) of="--check --check=visible --colors --lines --links --log --output --overwrite --text --visible --help" ;;
+        check) of="--all --output --visible --help" ;;
+        html) of="--classes --fragment --ids --links --no-overwrite --output --overwrite --palette --style --title --visible --help" ;;
+        explain) of="--at --color --count --decode --diff --full --grep --ignore-case --input --json --only --output --quiet --stats --timing --unknown --utf8-mouse --help" ;;
+        assemble) of="--output --help" ;;
+        cuts) of="--every --output --help" ;;
+        normalise) of="--output --help" ;;
         help) COMPREPLY=($(compgen -W "filter compact strip clean check html explain assemble cuts normalise" -- "$word")); return ;;
         *) of="filter compact strip clean check html explain assemble cuts normalise help --help --version" ;;
     esac

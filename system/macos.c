@@ -4,6 +4,12 @@ typedef __SIZE_TYPE__ size_t;
 typedef __PTRDIFF_TYPE__ ptrdiff_t;
 ptrdiff_t read(int, void *, size_t), write(int, const void *, size_t);
 int open(const char *, int, ...), close(int), isatty(int), strerror_r(int, char *, size_t), *__error(void);
+int rename(const char *, const char *), unlink(const char *), chmod(const char *, int);
+#if defined(__x86_64__)
+int stat(const char *, void *) __asm("_stat$INODE64");
+#else
+int stat(const char *, void *);
+#endif
 long long lseek(int, long long, int);
 void (*signal(int, void (*)(int)))(int);
 char *getenv(const char *);
@@ -25,6 +31,19 @@ int host_open(const char *name, int flags, int mode) {
     return open(name, how, mode);
 }
 int host_close(int file) { return close(file); }
+int host_rename(const char *from, const char *to) { return rename(from, to); }
+int host_unlink(const char *name) { return unlink(name); }
+int host_chmod(const char *name, unsigned mode) { return chmod(name, (int)mode & 07777); }
+/* The mode of a file, where Linux has it; macOS' struct has 144 bytes. A file is asked for by its name alone. */
+int host_statx(int folder, const char *name, int flags, unsigned wanted, void *to) {
+    union { unsigned char bytes[256]; struct { int device; unsigned short mode; } it; } here;
+    (void)folder;
+    (void)flags;
+    (void)wanted;
+    if (stat(name, &here)) return -1;
+    ((unsigned short *)to)[14] = here.it.mode;
+    return 0;
+}
 int host_isatty(int file) { return isatty(file); }
 long long host_lseek(int file, long long at, int from) { return lseek(file, at, from); }
 int host_strerror(int number, char *to, size_t room) { return strerror_r(number, to, room); }

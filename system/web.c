@@ -95,7 +95,16 @@ static ptrdiff_t held(ptrdiff_t answer) {
 }
 ptrdiff_t read(int file, void *to, size_t n) { return held(host_read(file, to, n)); }
 ptrdiff_t write(int file, const void *from, size_t n) { return held(host_write(file, from, n)); }
-int open(const char *name, int flags, ...) { (void)flags; return (int)held(host_open(name, strlen(name))); }
+/* No file is written there (EROFS). */
+static int refused(void) { error = 30; return -1; }
+int open(const char *name, int flags, ...) { return flags & 3 ? refused() : (int)held(host_open(name, strlen(name))); }
+int rename(const char *from, const char *to) { (void)from; (void)to; return refused(); }
+int unlink(const char *name) { (void)name; return refused(); }
+int chmod(const char *name, unsigned mode) { (void)name; (void)mode; return refused(); }
+int statx(int folder, const char *name, int flags, unsigned wanted, void *to) {
+    (void)folder; (void)name; (void)flags; (void)wanted; (void)to;
+    return refused();
+}
 int close(int file) { (void)file; return 0; }
 int isatty(int file) { (void)file; error = 25; return 0; }
 ptrdiff_t lseek(int file, ptrdiff_t at, int from) { (void)file; (void)at; (void)from; error = 29; return -1; }

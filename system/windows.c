@@ -56,6 +56,38 @@ int host_open(const char *name, int flags, int mode) {
     if (kind != INVALID_FILE_ATTRIBUTES && kind & FILE_ATTRIBUTE_DIRECTORY) error = IS_DIRECTORY;
     return file;
 }
+/* A name in UTF-16. */
+static const wchar_t *wide_name(const char *name, wchar_t *room) {
+    if (!MultiByteToWideChar(CP_UTF8, 0, name, -1, room, NAME_ROOM)) room[0] = 0;
+    return room;
+}
+int host_rename(const char *from, const char *to) {
+    static wchar_t source[NAME_ROOM], target[NAME_ROOM];
+    if (MoveFileExW(wide_name(from, source), wide_name(to, target), MOVEFILE_REPLACE_EXISTING)) return 0;
+    error = GetLastError() == ERROR_ACCESS_DENIED || GetLastError() == ERROR_SHARING_VIOLATION ? EACCES : ENOENT;
+    return -1;
+}
+int host_unlink(const char *name) {
+    static wchar_t wide[NAME_ROOM];
+    return (int)held(_wunlink(wide_name(name, wide)));
+}
+/* What may read and write a file isn't in its mode. */
+int host_chmod(const char *name, unsigned mode) {
+    (void)name;
+    (void)mode;
+    return 0;
+}
+/* What a file is, where Linux has it; devices such as NUL are no files. A file is asked for by its name alone. */
+int host_statx(int folder, const char *name, int flags, unsigned wanted, void *to) {
+    static wchar_t wide[NAME_ROOM];
+    struct _stat64 here;
+    (void)folder;
+    (void)flags;
+    (void)wanted;
+    if (held(_wstat64(wide_name(name, wide), &here)) < 0) return -1;
+    ((uint16_t *)to)[14] = here.st_mode;
+    return 0;
+}
 static HANDLE handle(int file) { return (HANDLE)_get_osfhandle(file); }
 int host_isatty(int file) {
     DWORD mode;

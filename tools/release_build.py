@@ -203,7 +203,7 @@ def link_program(kit, place, made, to, room):
     """The static program, on which ASLR works, with the parts of musl that it asks for."""
     target = TARGETS[place][0]
     own = tempfile.mkdtemp(dir=room)
-    parts = ("program", "begin", "heap", "wide", *(["copy"] if place == HERE else []))
+    parts = ("program", "begin", "files", "heap", "wide", *(["copy"] if place == HERE else []))
     files = [kit.c_object(target, name, f"{own}/{name}.o", "-fPIE") for name in parts]
     files.append(f"{own}/{PROGRAM}.o")
     kit.tool("llvm-objcopy", "--redefine-sym", f"main={ENTRY}", made[place, PROGRAM], files[-1])

@@ -14,9 +14,10 @@ MINGW = "x86_64-w64-mingw32-gcc"
 WINDOWS = "x86_64-windows"
 # What macOS' C library is asked for.
 SYSTEM_CALLS = ("malloc calloc realloc free memcpy memmove memset memset_pattern16 memcmp memchr bzero __bzero bcmp read write open close isatty lseek "
-                "strerror_r __error signal getenv __stack_chk_fail").split()
+                "rename unlink chmod stat stat$INODE64 strerror_r __error signal getenv __stack_chk_fail").split()
 # The host's calls, by the names that the modules have for them, and those that system/windows.c and system/macos.c have.
 HOST = {"read": "host_read", "write": "host_write", "close": "host_close", "isatty": "host_isatty", "lseek": "host_lseek",
+        "rename": "host_rename", "unlink": "host_unlink", "chmod": "host_chmod", "statx": "host_statx",
         "__xpg_strerror_r": "host_strerror", "__sysv_signal": "host_signal"}
 # What system/program.c calls, for the same.
 NAMES = {"main": "program_main", "write": "host_write", "getenv": "host_getenv", "signal": "host_signal", "__errno_location": "host_errno"}

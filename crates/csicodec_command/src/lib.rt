@@ -9,6 +9,7 @@ mod options;
 mod packed;
 mod recorded;
 mod recording;
+mod replaced;
 mod run;
 
 pub use command::{Request, Task, Wrong, nearest};

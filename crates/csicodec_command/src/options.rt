@@ -33,7 +33,7 @@ pub(crate) static TASKS: [(&str, Task, &str); 10] = [
 
 /// The options, each as it stands in a command line. Behind a blank stand the words that have it, unless all have, and behind a
 /// colon which values it has, if it has one.
-pub(crate) static OPTIONS: [&str; 36] = [
+pub(crate) static OPTIONS: [&str; 38] = [
     "--all check and strip",
     "--at explain: offsets such as 120, 120-180 or 120-, separated by commas",
     "--check strip and clean: visible",
@@ -58,11 +58,13 @@ pub(crate) static OPTIONS: [&str; 36] = [
     "--log strip and clean",
     "--no-overwrite html",
     "--only explain: names such as SGR,CUP",
+    "--output: a file",
     "--overwrite strip, clean and html",
     "--palette html: xterm, or 16 or 18 colours as #rrggbb, separated by commas",
     "--quiet explain",
     "--semicolons compact",
     "--stats explain",
+    "--style html: a file with a style sheet, or none",
     "--text filter, compact, strip and clean",
     "--timing explain: the file of times that script wrote",
     "--title html: the title of the page",
@@ -75,12 +77,11 @@ pub(crate) static OPTIONS: [&str; 36] = [
 /// Those that also stand without their value, so that it only stands behind `=`.
 pub(crate) static ALONE: [&str; 1] = ["--check"];
 
-/// Options, each with those that don't go with it: what clean is checked without; what asks for anything but lines of two files; what only a
-/// whole page has; and another way to take lines, a check of them, and links, of which no character of a line knows.
-pub(crate) static APART: [&str; 6] = [
-    "--check --colors --links",
+/// Options, each with those that don't go with it: what asks for anything but lines of two files; what only a whole page has; and another
+/// way to take lines, a check of them, and links, of which no character of a line knows.
+pub(crate) static APART: [&str; 5] = [
     "--diff --count --json --quiet --stats --timing",
-    "--fragment --title",
+    "--fragment --style --title",
     "--log --check --lines --links --overwrite",
     "--overwrite --check --lines --links --no-overwrite",
     "--visible --check",
@@ -124,6 +125,8 @@ written as a recording with the same times. A FILE is one if its name ends in
   --faithful     Leave colours as they are, each sequence that isn't known
                  whole, and each whose normal form terminals are known to read
                  differently.
+  -o, --output OUT  Write to the file OUT. If OUT exists, it is replaced at the
+                 end, and only if nothing failed.
   --text         From a recording, write the filtered stream and no recording.
   -h, --help     Show this text.";
 
@@ -140,6 +143,8 @@ With no FILE, or when FILE is -, read standard input. An asciinema recording is
 written as a recording with the same times. A FILE is one if its name ends in
 .cast, and standard input if it begins like one.
 
+  -o, --output OUT  Write to the file OUT. If OUT exists, it is replaced at the
+                 end, and only if nothing failed.
   --semicolons   Write colours with semicolons, such as 38;5;9, even if colons
                  are as short.
   --text         From a recording, write the shorter stream and no recording.
@@ -169,6 +174,8 @@ written as a recording with the same times. A FILE is one if its name ends in
   --log          Strip each line by itself, and write it as it looks at its end.
                  This is for build logs. It can't be combined with --check,
                  --lines or --overwrite.
+  -o, --output OUT  Write to the file OUT. If OUT exists, it is replaced at the
+                 end, and only if nothing failed.
   --overwrite    Write each line as it looks at its end, such as a progress bar.
                  It can't be combined with --check or --lines.
   --text         From a recording, write the text and no recording.
@@ -191,10 +198,9 @@ With no FILE, or when FILE is -, read standard input. An asciinema recording is
 written as a recording with the same times. A FILE is one if its name ends in
 .cast, and standard input if it begins like one.
 
-  --check        Write no text. Exit 0 if clean would leave every FILE as it is.
-                 Otherwise print where it would begin to change one, and exit 1.
-                 It can't be combined with --colors, --lines, --links, --log,
-                 --overwrite or --visible.
+  --check        Write no text. Exit 0 if clean, with the other options, would
+                 leave every FILE as it is. Otherwise print where it would begin
+                 to change one, and exit 1.
   --colors=256   Replace true colours by the nearest of the places 16 to 255.
   --colors=16    Replace all colours by the nearest of the first 16.
   --lines        Clean each line by itself, as logs need it. A sequence, string
@@ -206,6 +212,8 @@ written as a recording with the same times. A FILE is one if its name ends in
   --log          Clean each line by itself, and write it as it looks at its end.
                  This is for build logs. It can't be combined with --lines,
                  --links or --overwrite.
+  -o, --output OUT  Write to the file OUT. If OUT exists, it is replaced at the
+                 end, and only if nothing failed.
   --overwrite    Write each line as it looks at its end, such as a progress bar,
                  with its colours and styles. It can't be combined with --lines
                  or --links.
@@ -233,6 +241,8 @@ recording, check what the programs wrote. A FILE is one if its name ends in
 .cast, and standard input if it begins like one.
 
   --all          Write every place, not only the first.
+  -o, --output OUT  Write to the file OUT. If OUT exists, it is replaced at the
+                 end, and only if nothing failed.
   --visible      Take a character that isn't seen, or that changes the order of
                  the text, for a danger too.
   -h, --help     Show this text.";
@@ -260,11 +270,16 @@ ends in .cast, and standard input if it begins like one.
                      implies --no-overwrite.
   --no-overwrite     Keep text that a carriage return or an erase would hide.
                      Use it for the output of full-screen programs.
+  -o, --output OUT   Write to the file OUT. If OUT exists, it is replaced at
+                     the end, and only if nothing failed.
   --overwrite        Write each line as it looks at its end, which is the
                      default. It can't be combined with --links.
   --palette COLOURS  Use exactly these 16 colours, written as #rrggbb and
                      separated by commas. A 17th and 18th set the page's text
                      and background. The word xterm gives xterm's colours.
+  --style FILE       Use the style sheet in FILE instead of the page's own, or
+                     with the word none no style sheet. It can't be combined
+                     with --fragment.
   --title TEXT       Use TEXT as the page's title. It can't be combined with
                      --fragment.
   --visible          Write a character that isn't seen, or that changes the
@@ -295,8 +310,9 @@ holds a text or a string until it is over, however long it is.
   --decode        Show what is put into the clipboard (OSC 52) decoded from
                   base64.
   --diff          Compare two FILEs, and show the lines that differ, whatever
-                  their offsets. Exit 1 if any differ. It can't be combined with
-                  --count, --json, --quiet, --stats or --timing.
+                  their offsets. A line that is cut short is compared as a whole.
+                  Exit 1 if any differ. It can't be combined with --count,
+                  --json, --quiet, --stats or --timing.
   --full          Show all bytes, however many there are, and each newline on a
                   line of its own.
   --grep TEXT     Show only what contains TEXT, in its bytes as they are or as
@@ -312,6 +328,8 @@ holds a text or a string until it is over, however long it is.
                   more is true.
   --only NAMES    Show only these names, such as SGR or DECSET 2004, separated
                   by commas.
+  -o, --output OUT  Write to the file OUT. If OUT exists, it is replaced at the
+                  end, and only if nothing failed.
   -q, --quiet     Show nothing. Exit 0 if anything would be shown, and 1 if not.
   --stats         Show only a table, at the end. It counts each name and its
                   bytes, and has their share of all bytes.
@@ -336,6 +354,8 @@ isn't such an object, if it is over 16 MiB long, or if no sequence has its
 actions. With actions alone it is also refused if it is over 8 MiB long or has
 more than 262144 values, and may be if a value in it has a key text or hex.
 
+  -o, --output OUT  Write to the file OUT. If OUT exists, it is replaced at the
+                 end, and only if nothing failed.
   -h, --help     Show this text.";
 
 /// How `cuts` is used.
@@ -354,6 +374,8 @@ read like any other FILE.
 
   --every SIZE   The least number of bytes in a piece, such as 64M. K, M and G
                  are 1,024 bytes, 1,024 K and 1,024 M.
+  -o, --output OUT  Write to the file OUT. If OUT exists, it is replaced at the
+                 end, and only if nothing failed.
   -h, --help     Show this text.";
 
 /// How `normalise` is used.
@@ -367,6 +389,8 @@ nothing of that FILE.
 With no FILE, or when FILE is -, read standard input. Without a word csicodec
 does the same, unless standard input is a terminal.
 
+  -o, --output OUT  Write to the file OUT. If OUT exists, it is replaced at the
+                 end, and only if nothing failed.
   -h, --help     Show this text.";
 
 /// The program's name and version.

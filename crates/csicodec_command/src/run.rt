@@ -10,6 +10,7 @@ use crate::note::advice_of;
 use crate::options::{USAGE, WAITS};
 use crate::packed::packing_of;
 use crate::recording::is_recording;
+use crate::replaced::{Replaced, Sink};
 use csicodec_transform::{READ, RunError, receive};
 use std::alloc::{AllocError, Global};
 use std::env::{Env, FillError};
@@ -530,16 +531,14 @@ pub fn run_through<T: Worker, I: Inputs, W: Write>(
 /// A page of more bytes is one that a browser may be slow to show.
 const LARGE: u64 = 20_000_000;
 
-/// The same of the files of a run, standard input and standard output. Of a page that got large it is told.
-pub fn work_through<T: Worker>(
+/// Works on the files of a run, or on standard input. Of a page that got large it is told.
+fn write_through<T: Worker>(
     rt: &HostRuntime,
     work: &mut T,
     run: &Request<'_>,
+    sink: Sink,
 ) -> Result<(), u8> {
-    if run.files.is_empty() {
-        say_waits(rt);
-    }
-    let mut output = Output::new(rt.stdout());
+    let mut output = Output::new(sink);
     run_through(rt, rt, work, &run.files, &mut output)?;
     if matches!(run.task, Task::Html) && output.len > LARGE {
         let size = output.len / 1_000_000;
@@ -548,6 +547,24 @@ pub fn work_through<T: Worker>(
         );
     }
     Ok(())
+}
+
+/// Works on the files of a run, or on standard input, and writes standard output, or a file that is asked for: that is replaced if the
+/// run went well.
+pub fn work_through<T: Worker>(
+    rt: &HostRuntime,
+    work: &mut T,
+    run: &Request<'_>,
+) -> Result<(), u8> {
+    if run.files.is_empty() {
+        say_waits(rt);
+    }
+    let Some(path) = run.output() else {
+        return write_through(rt, work, run, Sink::Standard(rt.stdout()));
+    };
+    let (sink, file) = Replaced::new(rt, path)?;
+    let done = write_through(rt, work, run, sink);
+    file.end(rt, done)
 }
 
 /// Says what is wrong with the command line, and how the program is used; the status that it ends with.

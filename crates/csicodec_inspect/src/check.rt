@@ -103,7 +103,7 @@ fn push_line<C: CharClass>(checked: &mut Checked, line: &[u8]) -> Result<bool, A
 }
 
 /// What the programs of a recording wrote. All of it is held.
-pub(crate) fn written_of<R: BufRead>(alloc: Global, input: &mut R) -> Result<Vec<u8>, Failure> {
+fn written_of<R: BufRead>(alloc: Global, input: &mut R) -> Result<Vec<u8>, Failure> {
     let mut reading = Recording::new(alloc);
     let mut line = Vec::new(alloc);
     let mut written = Vec::new(alloc);
@@ -117,6 +117,22 @@ pub(crate) fn written_of<R: BufRead>(alloc: Global, input: &mut R) -> Result<Vec
     }
     reading.end()?;
     Ok(written)
+}
+
+/// What they wrote, with LF in place of CR LF, which ends a line in a recording.
+pub fn lines_written<R: BufRead>(alloc: Global, input: &mut R) -> Result<Vec<u8>, Failure> {
+    let written = written_of(alloc, input)?;
+    let mut text = Vec::new(alloc);
+    for line in written.split_inclusive(|byte| *byte == b'\n') {
+        match line.strip_suffix(b"\r\n".as_slice()) {
+            Some(front) => {
+                text.extend_from_slice(front)?;
+                text.extend_from_slice(b"\n")?;
+            }
+            None => text.extend_from_slice(line)?,
+        }
+    }
+    Ok(text)
 }
 
 /// Checks what the programs of a recording wrote; the places are those in it.

@@ -127,11 +127,13 @@ fn is_colored(rt: &HostRuntime, asked: Option<&str>, live: bool) -> bool {
 
 /// How the streams of a run are explained.
 fn style_of<'a>(rt: &HostRuntime, run: &'a Request<'a>) -> Style<'a> {
-    let (json, live) = (run.has("--json"), rt.stdout().is_terminal());
+    let json = run.has("--json");
+    let live = run.output().is_none() && rt.stdout().is_terminal();
     let input = run.has("--input").then_some(Dialect::Input);
     let utf8_input = run.has("--utf8-mouse").then_some(Dialect::Utf8Input);
     Style {
         full: run.has("--full"),
+        apart: run.has("--full"),
         json,
         count: run.has("--count"),
         stats: run.has("--stats"),

@@ -19,9 +19,10 @@ mod timing;
 mod visible;
 
 pub use assemble::Assembly;
-pub use check::{check_cast, check_stream};
+pub use check::{check_cast, check_stream, lines_written};
 pub use checks::check_inputs;
 pub use cuts::Cuts;
 pub use explain::explain_inputs;
 pub use normal::Normaliser;
+pub use places::Spot;
 pub use visible::VisibleText;

@@ -18,19 +18,19 @@ const ESC: u8 = 0x1b;
 
 /// A place as editors count it: a line, and a character in that, each from 1.
 #[derive(Clone, Copy)]
-pub(crate) struct Spot {
+pub struct Spot {
     line: u64,
     column: u64,
 }
 
 impl Spot {
     /// The begin of a stream.
-    pub(crate) fn first() -> Spot {
+    pub fn first() -> Spot {
         Spot { line: 1, column: 1 }
     }
 
     /// Goes on behind bytes. A character is counted by its first byte.
-    pub(crate) fn pass(&mut self, bytes: &[u8]) {
+    pub fn pass(&mut self, bytes: &[u8]) {
         for byte in bytes {
             match *byte {
                 b'\n' => {
@@ -44,7 +44,7 @@ impl Spot {
     }
 
     /// Appends what stands ahead of a line that is told of this place.
-    pub(crate) fn append_to(&self, name: &str, text: &mut String) -> Result<(), AllocError> {
+    pub fn append_to(&self, name: &str, text: &mut String) -> Result<(), AllocError> {
         let (name, line, column) = (Shown(name.as_bytes()), self.line, self.column);
         write!(text, "{name}:{line}:{column}: ").map_err(|_| AllocError)
     }

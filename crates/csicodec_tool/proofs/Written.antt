@@ -1,10 +1,11 @@
 -- what a run from a reader to a writer promises, where the bytes of its input are known
-use Rattle.csicodec_tool.proofs.Common.{Bool, true, false, Bor, inl, inr, ◌≡◌, ◌++◌, ℕ, List, [], Option, None, Some, Result, Ok, Err, refl, sym, ◌∙◌, subst, append_assoc, append-nil, Appends-nil, IfSome_then, IfOk-from_err, on_err_weaker, on_ok_weaker, IfSome, IsErr, OnErr, OnOk, Appends, Consumes, IsAtEnd, RunError, Begins, Sends, Transforms, Passing, start_of, longest, Markup, FrontsOf, IsAppended, IsWrittenBy, IsHeaded, IsPageFront, PaintedPage, Wrote, WroteBehind, Log, IsLogged, IsLoggedFront, EndsLog, LogAs, PassesLog, Work}
+use Rattle.csicodec_tool.proofs.Common.{Bool, true, false, inl, inr, ◌≡◌, ◌++◌, ℕ, List, [], Option, None, Some, Result, Ok, Err, refl, sym, ◌∙◌, subst, append_assoc, append-nil, Appends-nil, IfSome_then, IfOk-from_err, on_err_weaker, on_ok_weaker, IfSome, IsErr, OnErr, OnOk, Appends, Consumes, IsAtEnd, RunError, Begins, Sends, Transforms, Passing, start_of, longest, Markup, FrontsOf, IsAppended, IsWrittenBy, IsHeaded, Heads, begun_of, PaintedPage, Wrote, WroteBehind, Log, IsLogged, IsLoggedFront, EndsLog, LogAs, PassesLog, Work}
 use Rattle.csicodec_tool.proofs.{Anchors.numbered_front, Anchors.numbered_weaker, Logged.log_front, Logged.log_sure, Logged.logged, Spelling.spells_front}
 use Rattle.csicodec_html.specs.Rule.{closes, turns}
 use Rattle.csicodec_html.proofs.Paired.{page_of}
 use Rattle.csicodec_clean.specs.{Page.PageWith, Page.first_set, Cleaned.EndOf, Cleaned.Ends, Cleaned.RuleOf, Shown.run_as, Stream.Closing, Stream.Takes}
-use Rattle.csicodec_tool.specs.{Numbered.NumberedAs, Spelled.SpelledAs, Spelled.SpelledSure, Spelled.spelled_text, declared.rewrite.Page.Page as Asked}
+use Rattle.csicodec_tool.specs.{Numbered.NumberedAs, Spelled.SpelledAs, Spelled.SpelledSure, Spelled.spelled_text, declared.front.Heading.Heading}
+use Rattle.csicodec_tool.specs.{declared.rewrite.Page.Page as Asked}
 use Rattle.csicodec_clean.proofs.Chunks.{closed, ends}
 use Rattle.csicodec_lines.specs.{Lines.ByLines, Stream.Ending, Stream.Passes, declared.lines.Lines.Lines}
 use Rattle.csicodec_lines.proofs.{Taken.by_lines, Taken.transformed, Texts.by_lines_as}
@@ -183,20 +184,22 @@ nothing_written (Err e) None out = (tt, tt)
 nothing_written (Ok a) (Some bytes) out = (([], refl, Appends-nil out), tt)
 nothing_written (Err e) (Some bytes) out = (tt, ([], ([], bytes, [], refl, refl), Appends-nil out))
 
--- what stands ahead of a page was written, or a front of it
-pub page_headed : {A E : Type 0} (w : Work) (name : Bor (List ℕ)) (page : Asked)
-    (fragment begun : Bool) (result : Result A E) (old new : Option (List ℕ)) (text : List ℕ)
-    → w ≡ Work.Html name page fragment begun → fragment ≡ false → begun ≡ false
-    → IsPageFront page name.now text → OnOk result (Appends old new text)
-    → OnErr result ((sent : List ℕ) × (unsent : List ℕ) × (text ≡ sent ++ unsent) × Appends old new sent)
-    → IsHeaded w result (Work.Html name page fragment true) old new
-page_headed w name page fragment begun result old new text is whole first front ok failed =
-    rw (is, whole, first) (
-      refl,
-      on_ok_weaker result (λ appended. (text, front, appended)) ok,
-      on_err_weaker result (λ (sent, unsent, same, appended).
-          (sent, inr (unsent, subst (λ (t : List ℕ). IsPageFront page name.now t) same front), appended)) failed,
-    )
+-- a page that is no fragment, and hasn't begun
+pub unbegun : (w : Work) (heading : Heading) (page : Asked) (fragment begun : Bool) → w ≡ Work.Html heading page fragment begun
+    → fragment ≡ false → begun ≡ false → w ≡ Work.Html heading page false false
+unbegun w heading page fragment begun is whole first = rw (is, whole, first) refl
+
+-- what stands ahead of an input was written, or a front of it
+pub headed : {A E : Type 0} (w new : Work) (result : Result A E) (old out : Option (List ℕ)) (text : List ℕ)
+    → new ≡ begun_of w → Heads w text → OnOk result (Appends old out text)
+    → OnErr result ((sent : List ℕ) × (unsent : List ℕ) × (text ≡ sent ++ unsent) × Appends old out sent)
+    → IsHeaded w result new old out
+headed w new result old out text is heads ok failed = (
+  is,
+  on_ok_weaker result (λ appended. (text, heads, appended)) ok,
+  on_err_weaker result (λ (sent, unsent, same, appended).
+      (sent, inr (unsent, subst (λ (t : List ℕ). Heads w t) same heads), appended)) failed,
+)
 
 -- an input failed ahead of its bytes
 pub headed_alone : {A E : Type 0} (w new : Work) (headed : Result (Unit {0}) RunError) (error : RunError) (result : Result A E)

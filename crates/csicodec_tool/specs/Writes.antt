@@ -1,5 +1,6 @@
 -- What `filter`, `compact`, `strip`, `clean` and `html` write of an input.
-use Rattle.std.specs.Prelude.{ℕ, ◌≡◌, ◌⊎◌, Bool, true, false, ◌||◌, if◌then◌else◌, List, [], ◌++◌, Option, Result, Ok, OnOk, OnErr, IsErr, option_map}
+use Rattle.std.specs.Prelude.{ℕ, ◌≡◌, ◌⊎◌, Bool, true, false, ◌||◌, if◌then◌else◌, List, [], ◌++◌, Option, None, Some, Result, Ok, OnOk, OnErr, IsErr, option_map}
+use Rattle.std.specs.Borrow.{Bor}
 use Rattle.csicodec_spans.specs.declared.table.Mode.TheVariants.{Text as Plain}
 use Rattle.csicodec_streams.specs.{Decoding.NormalisesTo, Faithful.IsFaithful}
 use Rattle.csicodec_transform.specs.declared.error.RunError.{RunError}
@@ -14,7 +15,8 @@ use Rattle.csicodec_html.specs.{declared.sheet.TheConstants.STYLE, Sheet.IsTitle
 use Rattle.csicodec_command.specs.{Recorded.recorded, Runs.StepsOf, Runs.Next, Runs.Stream, Runs.Recording, Runs.End}
 use Rattle.csicodec_inspect.specs.Sent.{FrontsOf, IsAppended, IsWrittenBy}
 use Rattle.csicodec_tool.specs.{Log.IsLogged, Log.IsLoggedFront, Log.Logs, Log.LogsSome, declared.rewrite.Job.Job, declared.rewrite.Page.Page}
-use Rattle.csicodec_tool.specs.{declared.rewrite.Work.Work, declared.front.TheConstants.TARGET, Numbered.NumberedAs, Spelled.SpelledAs}
+use Rattle.csicodec_tool.specs.{declared.rewrite.Work.Work, declared.front.TheConstants.GIVEN, declared.front.TheConstants.TARGET}
+use Rattle.csicodec_tool.specs.{declared.front.Heading.Heading, Numbered.NumberedAs, Spelled.SpelledAs}
 
 -- the page of what is painted of the bytes
 abbrev pub PaintedPage : Markup → List ℕ → List ℕ → Type 0
@@ -47,7 +49,7 @@ Writes (Work.Overwrite styles visible) bytes text = SpelledAs visible (IsLogged 
 Writes (Work.Log styles visible) bytes text = SpelledAs visible (Logs styles) bytes text
 Writes (Work.Check visible) bytes text = text ≡ []
 Writes (Work.Clean passing lines visible) bytes text = SpelledAs visible (Cleaned passing lines) bytes text
-Writes (Work.Html name page fragment begun) bytes text = PageText page bytes text
+Writes (Work.Html heading page fragment begun) bytes text = PageText page bytes text
 
 -- Of an input that failed this went out: a front of the text of a front of its bytes, and of a filter's, of all of them.
 abbrev pub Sends : Work → List ℕ → List ℕ → Type 0
@@ -62,27 +64,32 @@ abbrev pub Wrote : {A E : Type 0} → Work → Result A E → Option (List ℕ) 
     → Option (List ℕ) → Type 0
 Wrote w result known old new = IsWrittenBy (Writes w) (Sends w) result known old new
 
--- what stands ahead of a page of this name: its title and its style sheet, between the texts of every page
-abbrev pub style_of : Page → List ℕ
-style_of page = STYLE.now ++ (sheet page.markup ++ (if page.ids then TARGET.now else []))
+-- a page's own style sheet, from the end of its title on, and that or the one that is given in its place
+abbrev pub own_style : Page → List ℕ
+own_style page = STYLE.now ++ (sheet page.markup ++ (if page.ids then TARGET.now else []))
 
-abbrev pub IsPageFront : Page → List ℕ → List ℕ → Type 0
-IsPageFront page name text = (title : List ℕ) × IsTitle name title
-    × (text ≡ HEAD.now ++ (title ++ (style_of page ++ BODY.now)))
+abbrev pub style_of : Page → Option (Bor (List ℕ)) → List ℕ
+style_of page None = own_style page
+style_of page (Some given) = GIVEN.now ++ given.now
+
+-- what stands ahead of a page with this heading: its title and its style sheet, between the texts of every page
+abbrev pub IsPageFront : Page → Heading → List ℕ → Type 0
+IsPageFront page heading text = (title : List ℕ) × IsTitle heading.name.now title
+    × (text ≡ HEAD.now ++ (title ++ (style_of page heading.style ++ BODY.now)))
 
 -- what stands ahead of an input: of the first one of a page that is no fragment its front, and else nothing
 abbrev pub Heads : Work → List ℕ → Type 0
-Heads (Work.Html name page false false) text = IsPageFront page name.now text
+Heads (Work.Html heading page false false) text = IsPageFront page heading text
 Heads w text = text ≡ []
 
 -- what stands behind the last input: behind a page that has begun its end, and else nothing
 abbrev pub Tails : Work → List ℕ → Type 0
-Tails (Work.Html name page fragment true) text = text ≡ BEHIND.now
+Tails (Work.Html heading page fragment true) text = text ≡ BEHIND.now
 Tails w text = text ≡ []
 
 -- the work behind what stands ahead
 abbrev pub begun_of : Work → Work
-begun_of (Work.Html name page false begun) = Work.Html name page false true
+begun_of (Work.Html heading page false begun) = Work.Html heading page false true
 begun_of w = w
 
 -- the text begins with what was sent
@@ -107,7 +114,7 @@ pub record WroteBehind {A E : Type 0} (w : Work) (result : Result A E) (new : Wo
 -- a page has no recordings, and where it is only checked what is plain text, none is written
 abbrev pub makes_none : Work → Bool
 makes_none (Work.Check visible) = true
-makes_none (Work.Html name page fragment begun) = true
+makes_none (Work.Html heading page fragment begun) = true
 makes_none w = false
 
 -- whether of a recording comes what becomes of its data, and no recording

@@ -1,11 +1,11 @@
 //! The palette of a page as the command line gives it.
 
-use csicodec_command::Wrong;
+use csicodec_command::{Request, Wrong};
 use csicodec_html::{Palette, given_color, given_palette};
 use std::alloc::Global;
 
 /// The palette of `xterm`, or of colours with commas between them.
-pub fn palette_of(alloc: Global, text: &str) -> Result<Palette, Wrong<'_>> {
+fn palette_of(alloc: Global, text: &str) -> Result<Palette, Wrong<'_>> {
     if text == "xterm" {
         return Ok(Palette::xterm());
     }
@@ -15,4 +15,12 @@ pub fn palette_of(alloc: Global, text: &str) -> Result<Palette, Wrong<'_>> {
     });
     let colors = colors.try_collect::<Vec<_>>(alloc)?;
     given_palette(&colors).ok_or(Wrong::NoPalette(colors.len()))
+}
+
+/// The palette of the page that a run asks for; an error where it is none.
+pub fn palette_asked<'a>(alloc: Global, run: &Request<'a>) -> Result<Palette, Wrong<'a>> {
+    match run.value("--palette") {
+        Some(text) => palette_of(alloc, text),
+        None => Ok(Palette::default()),
+    }
 }

@@ -4,19 +4,18 @@
 ghost use Rattle.std.specs.{Prelude.◌≡◌, Prelude.◌++◌, Prelude.[], Prelude.ℕ, Prelude.List, Prelude.false, Prelude.IfOk, Prelude.IfSome, Prelude.OnErr, Prelude.OnOk};
 ghost use Rattle.std.specs.{Prelude.option_map, Io.KnownBytes.Appends, Io.KnownBytes.Consumes, Io.KnownBytes.IsAtEnd};
 ghost use Rattle.csicodec_transform.specs.Transform.{Begins, Sends, Transforms};
-ghost use Rattle.csicodec_tool.specs.{Numbered.NumberedAs, Spelled.SpelledAs, Spelled.SpelledSure, Writes.IsHeaded, Writes.JobSteps, Writes.PageText, Writes.Wrote};
-ghost use Rattle.csicodec_tool.specs.{Writes.WroteBehind, Writes.makes_none};
+ghost use Rattle.csicodec_tool.specs.Writes.{Heads, IsHeaded, JobSteps, PageText, Wrote, WroteBehind, begun_of, makes_none};
+ghost use Rattle.csicodec_tool.specs.{Numbered.NumberedAs, Spelled.SpelledAs, Spelled.SpelledSure};
 ghost use Rattle.csicodec_command.specs.Recorded.{recorded};
 ghost use Rattle.csicodec_inspect.specs.Sent.{FrontsOf, IsWrittenBy};
 
-use crate::front::page_front;
+use crate::front::{Heading, page_front};
 use crate::log::Log;
 use crate::numbered::Numberer;
-use crate::palette::palette_of;
 use crate::rewritten_cast::{Rewriter, rewrite_cast};
 use crate::spelled::transform_as;
 use csicodec_clean::{Cleaner, Depth, Dropped, Kept, Passing};
-use csicodec_command::{Failure, Recorded, Request, Worker, Wrong};
+use csicodec_command::{Failure, Recorded, Request, Worker};
 use csicodec_compact::{Compact, Compactor, compact_all};
 use csicodec_filter::{Faithful, Filter, NormalForm, filter_all};
 use csicodec_html::{BEHIND, Markup, Palette, SpanWriter, UNNAMED};
@@ -60,9 +59,9 @@ pub enum Work<'a> {
         lines: bool,
         visible: bool,
     },
-    /// A page of this name, which ends behind the last input if it has begun.
+    /// A page with this heading, which ends behind the last input if it has begun.
     Html {
-        name: &'a [u8],
+        heading: Heading<'a>,
         page: Page,
         fragment: bool,
         begun: bool,
@@ -79,6 +78,22 @@ pub struct Page {
     pub ids: bool,
 }
 
+impl Page {
+    /// A page with this palette, as the options of `html` want it.
+    pub fn of(run: &Request<'_>, palette: Palette) -> Page {
+        Page {
+            markup: Markup {
+                links: run.links,
+                classes: run.has("--classes"),
+                palette,
+            },
+            overwrite: run.overwrites(),
+            visible: run.has("--visible"),
+            ids: run.has("--ids"),
+        }
+    }
+}
+
 /// The rule of `compact`.
 fn compact(alloc: Global, semicolons: bool) -> Compact {
     if semicolons {
@@ -89,7 +104,7 @@ fn compact(alloc: Global, semicolons: bool) -> Compact {
 }
 
 /// The name of a page: the title that is asked for, or else that of its first file, without its folder, and of standard input what it is.
-fn name_of<'a>(run: &Request<'a>) -> &'a [u8] {
+pub fn name_of<'a>(run: &Request<'a>) -> &'a [u8] {
     if let Some(title) = run.value("--title") {
         return title.as_bytes();
     }
@@ -190,31 +205,8 @@ impl<'a> Work<'a> {
         }
     }
 
-    /// A page, as those of `html` do; an error where its palette is none.
-    pub fn html(alloc: Global, run: &Request<'a>) -> Result<Work<'a>, Wrong<'a>> {
-        let palette = match run.value("--palette") {
-            Some(text) => palette_of(alloc, text)?,
-            None => Palette::default(),
-        };
-        Ok(Work::Html {
-            name: name_of(run),
-            page: Page {
-                markup: Markup {
-                    links: run.links,
-                    classes: run.has("--classes"),
-                    palette,
-                },
-                overwrite: run.overwrites(),
-                visible: run.has("--visible"),
-                ids: run.has("--ids"),
-            },
-            fragment: run.has("--fragment"),
-            begun: false,
-        })
-    }
-
     /// Whether what isn't seen is spelled.
-    fn is_visible(&self) -> bool {
+    pub fn is_visible(&self) -> bool {
         match *self {
             Work::Strip { visible, .. }
             | Work::Overwrite { visible, .. }
@@ -226,7 +218,7 @@ impl<'a> Work<'a> {
     }
 
     /// What the data of a recording go through, if a recording is made of it.
-    fn stage(&self, alloc: Global) -> Result<Option<Box<Rewriter>>, AllocError>
+    pub fn stage(&self, alloc: Global) -> Result<Option<Box<Rewriter>>, AllocError>
         ensures staged { IfOk result (λ stage. IfSome stage (λ _. makes_none self.now ≡ false)) }
         ensures failed { OnErr result (makes_none self.now ≡ false) }
     {
@@ -257,27 +249,46 @@ impl<'a> Work<'a> {
         Ok(Some(Box::new(alloc, stage)?))
     }
 
+    /// What stands ahead of the next input: of a page that hasn't begun its front, unless it is a fragment.
+    fn front_of(&self, alloc: Global) -> Result<Vec<u8>, AllocError>
+        ensures { IfOk result (λ text. Heads self.now text.items) }
+    {
+        match *self {
+            Work::Html {
+                heading,
+                page,
+                fragment: false,
+                begun: false,
+            } => page_front(alloc, &page, &heading),
+            _ => Ok(Vec::new(alloc)),
+        }
+    }
+
+    /// A page that is no fragment has begun.
+    fn mark_begun(&mut self)
+        ensures { self.new ≡ begun_of self.old }
+    {
+        if let Work::Html {
+            fragment: false,
+            begun,
+            ..
+        } = self
+        {
+            *begun = true;
+        }
+    }
+
     /// Writes what stands ahead of the first input.
     fn begin<W: Write>(&mut self, alloc: Global, output: &mut W) -> Result<(), RunError>
         ensures { IsHeaded self.old result self.new
             (W.contents output.old) (W.contents output.new) }
     {
-        if let Work::Html {
-            name,
-            page,
-            fragment: false,
-            begun,
-        } = self
-        {
-            if !*begun {
-                *begun = true;
-                let Ok(text) = page_front(alloc, page, name) else {
-                    return Err(RunError::Memory);
-                };
-                return send(output, &text);
-            }
+        let front = self.front_of(alloc);
+        self.mark_begun();
+        match front {
+            Ok(text) => send(output, &text),
+            Err(_) => Err(RunError::Memory),
         }
-        Ok(())
     }
 
     /// Writes what becomes of a stream; nothing where it is only checked.

@@ -36,7 +36,7 @@ pub enum Rewriter {
 
 impl Rewriter {
     /// The next data; what is sure is appended.
-    fn push(&mut self, bytes: &[u8], out: &mut Vec<u8>) -> Result<(), AllocError> {
+    pub fn push(&mut self, bytes: &[u8], out: &mut Vec<u8>) -> Result<(), AllocError> {
         match self {
             Rewriter::Normal(filter) => filter.push(bytes, out),
             Rewriter::Faithful(filter) => filter.push(bytes, out),
@@ -69,7 +69,7 @@ impl Rewriter {
     }
 
     /// Nothing comes any more: what was held is appended.
-    fn finish(&mut self, out: &mut Vec<u8>) -> Result<(), AllocError> {
+    pub fn finish(&mut self, out: &mut Vec<u8>) -> Result<(), AllocError> {
         match self {
             Rewriter::Normal(filter) => filter.finish(out),
             Rewriter::Faithful(filter) => filter.finish(out),

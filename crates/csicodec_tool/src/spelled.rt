@@ -32,7 +32,7 @@ fn append_char(char: char, out: &mut Vec<u8>) -> Result<(), AllocError>
 }
 
 /// Appends what is written of the characters that are sure, whatever follows, and answers the bytes behind them.
-fn append_sure<'a>(text: &'a [u8], out: &mut Vec<u8>) -> Result<&'a [u8], AllocError>
+pub fn append_sure<'a>(text: &'a [u8], out: &mut Vec<u8>) -> Result<&'a [u8], AllocError>
     ensures spelled { IfOk result (λ rest. (more : List ℕ) × Spells text.now more rest.now
         × (out.new.items ≡ out.old.items ++ more)) }
     ensures behind { IfOk result (λ rest. (front : List ℕ) × (text.now ≡ front ++ rest.now)) }

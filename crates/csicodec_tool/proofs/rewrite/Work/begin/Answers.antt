@@ -1,9 +1,10 @@
-use Rattle.csicodec_tool.proofs.{Common.rules, Written.page_headed}
+use Rattle.csicodec_tool.proofs.{Common.Appends-nil, Common.[], Common.inl, Common.refl, Written.headed}
 use Rattle.csicodec_tool.proofs.rewrite.Work.begin.Goals as goal
 
-pub returns-then-not-begun : goal.returns-then-not-begun
-returns-then-not-begun g c =
-    let h = c.in-Html-default-default-false-default in
-    let sent = c.send.ensures in
-    page_headed _ _ _ _ h.begun c.send.result _ _ c.in-Ok.text.items h.is h.fragment-test (search rules) c.in-Ok.ensures
-    (rw c.deref.ensures.value at sent.ok) (rw c.deref.ensures.value at sent.front)
+pub returns-in-Ok : goal.returns-in-Ok
+returns-in-Ok g c =
+    headed _ _ c.send.result _ _ c.in-Ok.text.items c.mark_begun.ensures (rw c.in-Ok.is at c.front_of-front.ensures)
+    (rw c.deref.ensures.value at c.send.ensures.ok) (rw c.deref.ensures.value at c.send.ensures.front)
+
+pub returns-in-Err : goal.returns-in-Err
+returns-in-Err g c = (c.mark_begun.ensures, tt, ([], inl refl, Appends-nil _))

@@ -1,5 +1,5 @@
 use Rattle.csicodec_tool.proofs.Common.{append-nil, append_assoc}
-use Rattle.csicodec_tool.proofs.front.append_style.Goals as goal
+use Rattle.csicodec_tool.proofs.front.append_own.Goals as goal
 
 pub returns-then-page : goal.returns-then-page
 returns-then-page c =

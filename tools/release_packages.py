@@ -26,7 +26,7 @@ NODE = ("index.mjs", "index.d.ts", "csicodec.mjs", "forms.mjs", "actions.mjs", "
 # Debian's names of the processors.
 DEBIAN = {"x86_64-linux": "amd64", "aarch64-linux": "arm64"}
 # Cargo's names of the places that have an archive for it.
-CARGO_TARGETS = {**{place: target for place, (target, _) in TARGETS.items()}, systems.WINDOWS: "x86_64-pc-windows-gnu"}
+CARGO_TARGETS = {place: target for place, (target, _) in TARGETS.items()}
 # The systems of each kind of package that isn't of dist/ alone.
 OTHERS = {"windows": [systems.WINDOWS], "macos": ["aarch64-macos", "x86_64-macos"]}
 HEADERS = [f"include/{name}" for name in ("csicodec.h", "csicodec_kinds.h", "csicodec_names.h", "csicodec_stream.h", "csicodec_lines.h")]
